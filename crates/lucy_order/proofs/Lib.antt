@@ -1,0 +1,3 @@
+mod Periods
+mod OneVerdict
+mod Rows

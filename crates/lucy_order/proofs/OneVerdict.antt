@@ -1,0 +1,36 @@
+-- Of two words one verdict holds.
+use Rattle.std.proofs.Common.{ℕ, ◌<◌, ◌≡◌, ap, refl, inl, inr, arith}
+use Rattle.std.proofs.lemmas.Bool.{cases_order}
+use Rattle.lucy_word.specs.Bits.{Bits}
+use Rattle.lucy_order.specs.Adaptable.{IsAdaptable, IsSize, IsFirstLate}
+use Rattle.lucy_order.specs.Verdicts.{IsVerdict}
+use Rattle.lucy_order.specs.declared.verdict.Verdict.{Verdict}
+use Rattle.lucy_order.specs.declared.verdict.Verdict.TheVariants.{Adaptable, Rates, Late}
+
+one_size : (a b : Bits) (s t : ℕ) → IsSize a b s → IsSize a b t → s ≡ t
+one_size a b s t h k = omega (arith, h.reached.1, k.reached.1, h.passed k.reached.0, k.passed h.reached.0)
+
+not_before : (a b : Bits) (s t : ℕ) → IsFirstLate a b s → IsFirstLate a b t → s < t → ⊥
+not_before a b s t h k less = omega (arith, h.late, k.first s less)
+
+one_late : (a b : Bits) (s t : ℕ) → IsFirstLate a b s → IsFirstLate a b t → s ≡ t
+one_late a b s t h k =
+    elim (cases_order s t) [
+      | inl same ↦ same
+      | inr (inl less) ↦ absurd (not_before a b s t h k less)
+      | inr (inr more) ↦ absurd (not_before a b t s k h more)
+    ]
+
+never_late : (a b : Bits) (at : ℕ) → IsAdaptable a b → IsFirstLate a b at → ⊥
+never_late a b at h k = omega (arith, h.1 at, k.late)
+
+pub one_verdict : (a b : Bits) (v w : Verdict) → IsVerdict a b v → IsVerdict a b w → v ≡ w
+one_verdict a b (Adaptable s) (Adaptable t) h k = ap (λ n. Adaptable n) (one_size a b s t h.1 k.1)
+one_verdict a b (Adaptable s) Rates h k = absurd (k h.0.0)
+one_verdict a b (Adaptable s) (Late t) h k = absurd (never_late a b t h.0 k.1)
+one_verdict a b Rates (Adaptable t) h k = absurd (h k.0.0)
+one_verdict a b Rates Rates h k = refl
+one_verdict a b Rates (Late t) h k = absurd (h k.0)
+one_verdict a b (Late s) (Adaptable t) h k = absurd (never_late a b s k.0 h.1)
+one_verdict a b (Late s) Rates h k = absurd (k h.0)
+one_verdict a b (Late s) (Late t) h k = ap (λ n. Late n) (one_late a b s t h.1 k.1)

@@ -1,0 +1,2 @@
+pub mod Adaptable
+pub mod Verdicts

@@ -1,0 +1,29 @@
+-- The definitions on small words.
+use Rattle.std.proofs.Common.{true, false, [], ◌∷◌, ◌≡◌, map, refl, lit<}
+use Rattle.std.specs.Prelude.{codes}
+use Rattle.lucy_word.specs.Bits.{Bits, bit_at, ones_to}
+use Rattle.lucy_word.specs.Spelling.{Spells}
+
+-- 0(01)
+late : Bits
+late = record { prefix = false ∷ []; period = false ∷ true ∷ [] }
+
+-- 11(01)
+early : Bits
+early = record { prefix = true ∷ true ∷ []; period = false ∷ true ∷ [] }
+
+bits_of_late : map (bit_at late) (1 ∷ 2 ∷ 3 ∷ 4 ∷ 5 ∷ []) ≡ false ∷ false ∷ true ∷ false ∷ true ∷ []
+unfolding late bit_at
+bits_of_late = refl
+
+ones_of_late : map (ones_to late) (0 ∷ 1 ∷ 2 ∷ 3 ∷ 4 ∷ 5 ∷ []) ≡ 0 ∷ 0 ∷ 0 ∷ 1 ∷ 1 ∷ 2 ∷ []
+unfolding late ones_to bit_at
+ones_of_late = refl
+
+ones_of_early : map (ones_to early) (1 ∷ 2 ∷ 3 ∷ 4 ∷ 5 ∷ 6 ∷ []) ≡ 1 ∷ 2 ∷ 2 ∷ 3 ∷ 3 ∷ 4 ∷ []
+unfolding early ones_to bit_at
+ones_of_early = refl
+
+late_is_spelled : Spells (codes "0(01)") late
+unfolding late
+late_is_spelled = record { shape = refl; some = lit< tt }

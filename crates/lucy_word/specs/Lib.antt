@@ -1,0 +1,5 @@
+pub mod Bits
+pub mod Spelling
+pub mod Reading
+pub mod Scan
+pub mod Multiple
