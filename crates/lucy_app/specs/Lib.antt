@@ -1,0 +1,5 @@
+pub mod Words
+pub mod Refusals
+pub mod Fields
+pub mod Order
+pub mod Run

@@ -1,0 +1,30 @@
+-- What a run leaves of its source and its sinks, as far as they tell their bytes.
+use Rattle.std.specs.Prelude.{ℕ, ◌≤◌, ◌≡◌, ◌⊎◌, List, length, Option}
+use Rattle.lucy_text.specs.Outside.{followed, appended, AtEnd, WritesFront}
+use Rattle.lucy_app.specs.Refusals.{line_of, write_fault_line}
+use Rattle.lucy_app.specs.Order.{IsAnswer, IsRefused}
+use Rattle.lucy_app.specs.declared.refusal.Refusal.{Refusal}
+
+-- at most so many bytes were taken from the source
+abbrev pub TakesAtMost : ℕ → (left left' : Option (List ℕ)) → Type 0
+TakesAtMost most left left' = (taken : List ℕ) × (length taken ≤ most) × (left ≡ followed taken left')
+
+-- all bytes of the source were taken, and the line is the answer on them
+abbrev pub AnswersAll : (left left' : Option (List ℕ)) (line : List ℕ) → Type 0
+AnswersAll left left' line = (taken : List ℕ) × (left ≡ followed taken left') × AtEnd left' × (length taken ≤ 16384) × IsAnswer taken line
+
+-- the bytes that were taken are refused; unless they are too many, they are all of the source
+abbrev pub RefusesAll : (left left' : Option (List ℕ)) → Type 0
+RefusesAll left left' = (taken : List ℕ) × (left ≡ followed taken left') × IsRefused taken × (length taken ≤ 16384 → AtEnd left')
+
+-- all bytes of the source were taken, and the line of the answer on them was written
+abbrev pub WritesAnswer : (left left' written written' : Option (List ℕ)) → Type 0
+WritesAnswer left left' written written' = (line : List ℕ) × AnswersAll left left' line × (written' ≡ appended written line)
+
+-- nothing was written, or a front of that line
+abbrev pub WritesAnswerFront : (left left' written written' : Option (List ℕ)) → Type 0
+WritesAnswerFront left left' written written' = (written' ≡ written) ⊎ ((line : List ℕ) × AnswersAll left left' line × WritesFront written written' line)
+
+-- a front of a refusal's line was written or, where the output has counted a fault, of the line of a write fault
+abbrev pub TellsFront : (told told' : Option (List ℕ)) (out_rose : Type 0) → Type 0
+TellsFront told told' out_rose = ((refusal : Refusal) × WritesFront told told' (line_of refusal)) ⊎ (out_rose × WritesFront told told' write_fault_line)

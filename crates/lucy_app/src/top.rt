@@ -1,0 +1,80 @@
+ghost use Rattle.std.specs.Prelude.{◌≡◌, ◌≢◌, ◌⊎◌, ◌≤◌, ◌↔◌, List, ℕ, Some, IsTrue, map, string_bytes};
+ghost use Rattle.lucy_text.specs.Outside.{appended, Rose};
+ghost use Rattle.lucy_app.specs.Refusals.{status_of, line_of};
+ghost use Rattle.lucy_app.specs.Words.{NamesOrder};
+ghost use Rattle.lucy_app.specs.Order.{IsRefused};
+ghost use Rattle.lucy_app.specs.Run.{RefusesAll, WritesAnswer, WritesAnswerFront, TellsFront, TakesAtMost};
+ghost use Rattle.lucy_app.specs.declared.refusal.Refusal.{Refusal};
+
+use crate::order;
+use crate::output::{print, refuse};
+use crate::refusal::Refusal;
+use lucy_text::{Sink, Source};
+use std::alloc::Global;
+
+fn names_order(words: &[String]) -> bool
+    ensures { IsTrue result ↔ NamesOrder (map string_bytes words.now) }
+{
+    match words {
+        [word] => word.as_str() == "order",
+        _ => false,
+    }
+}
+
+/// All that the program does with the words after its name. The answer is the status that it ends with:
+///
+/// - 0: the answer of the command stands on `out`, and nothing on `err`.
+/// - 2: the words fit no command.
+/// - 3: the input has more than 16,384 bytes, or is not two words.
+/// - 4: a read failed.
+/// - 5: a write to `out` or to `err` failed.
+/// - 7: memory ran out.
+///
+/// With 2, 3, 4 and 7 the line that says so stands on `err`. The words are looked at first, then the input is read, to
+/// its end or to one byte past its limit, and then judged.
+pub fn lucy<I: Source, O: Sink, E: Sink>(
+    alloc: Global,
+    words: &[String],
+    input: &mut I,
+    out: &mut O,
+    err: &mut E,
+) -> u8
+    ensures statuses { (result ≡ 0) ⊎ (result ≡ 2) ⊎ (result ≡ 3) ⊎ (result ≡ 4) ⊎ (result ≡ 5) ⊎ (result ≡ 7) }
+
+    // Words that fit no command are refused, and then the source and the output are not touched.
+    ensures words { result ≡ 2 → NamesOrder (map string_bytes words.now) → ⊥ }
+    ensures other_words { (NamesOrder (map string_bytes words.now) → ⊥) → (result ≡ 2) ⊎ (result ≡ 5) }
+    ensures other_words_source { (NamesOrder (map string_bytes words.now) → ⊥) → input.new ≡ input.old }
+    ensures other_words_out { (NamesOrder (map string_bytes words.now) → ⊥) → out.new ≡ out.old }
+
+    // With 0 the line of the verdict on all bytes of the source stands on the output.
+    ensures done { result ≡ 0 → WritesAnswer (I.left input.old) (I.left input.new) (O.written out.old) (O.written out.new) }
+    ensures quiet { result ≡ 0 → err.new ≡ err.old }
+
+    // With 3 the bytes that were taken are refused. Where the source tells its bytes, it is so exactly with refused ones.
+    ensures refused { result ≡ 3 → RefusesAll (I.left input.old) (I.left input.new) }
+    ensures refused_only { (bytes : List ℕ) → I.left input.old ≡ Some bytes → result ≡ 3 → IsRefused bytes }
+    ensures refused_always { (bytes : List ℕ) → I.left input.old ≡ Some bytes → IsRefused bytes → result ≢ 0 }
+
+    ensures read_fault { result ≡ 4 → Rose (I.faults input.old) (I.faults input.new) }
+    ensures write_fault { result ≡ 5 → Rose (O.faults out.old) (O.faults out.new) ⊎ Rose (E.faults err.old) (E.faults err.new) }
+
+    // What else stands on the sinks.
+    ensures not_printed { result ≢ 0 → result ≢ 5 → out.new ≡ out.old }
+    ensures front { WritesAnswerFront (I.left input.old) (I.left input.new) (O.written out.old) (O.written out.new) }
+    ensures line { (refusal : Refusal) → result ≡ status_of refusal → E.written err.new ≡ appended (E.written err.old) (line_of refusal) }
+    ensures line_front { TellsFront (E.written err.old) (E.written err.new) (Rose (O.faults out.old) (O.faults out.new)) }
+
+    ensures took { TakesAtMost 16385 (I.left input.old) (I.left input.new) }
+    ensures source_count { I.faults input.old ≤ I.faults input.new }
+    ensures out_count { O.faults out.old ≤ O.faults out.new }
+    ensures err_count { E.faults err.old ≤ E.faults err.new }
+{
+    if !names_order(words) {
+        return refuse(err, Refusal::Words);
+    }
+    match order::answer(alloc, input) {
+        Ok(line) => print(out, err, line.as_bytes()),
+        Err(refusal) => refuse(err, refusal),
+    }
+}

@@ -1,0 +1,129 @@
+use crate::row::{Calls, Row};
+
+// Calls that never fail, of a few bytes each.
+const STEADY: Calls = Calls {
+    most: 7,
+    fails: &[],
+};
+
+const FIRST_FAILS: Calls = Calls {
+    most: 7,
+    fails: &[1],
+};
+
+const SECOND_FAILS: Calls = Calls {
+    most: 7,
+    fails: &[2],
+};
+
+// `order` over streams that never fail.
+const ORDER: Row = Row {
+    name: "",
+    words: &["order"],
+    input: &[],
+    reads: STEADY,
+    writes: STEADY,
+    room: 256,
+    tells: STEADY,
+};
+
+fn order(name: &'static str, input: &'static [(&'static str, usize)]) -> Row {
+    Row {
+        name,
+        input,
+        ..ORDER
+    }
+}
+
+fn words(name: &'static str, words: &'static [&'static str]) -> Row {
+    Row {
+        words,
+        ..order(name, &[("(10) (01)", 1)])
+    }
+}
+
+/// The rows, in the order in which they are run.
+pub fn rows() -> [Row; 37] {
+    [
+        order("each item waits one instant", &[("(10) (01)", 1)]),
+        order("two of three instants", &[("(110) (101)", 1)]),
+        order("a prefix of ones is ahead", &[("11(01) (01)", 1)]),
+        order("the second is first", &[("(01) (10)", 1)]),
+        order("one of two against two of three", &[("(10) (110)", 1)]),
+        order("two spellings of one word", &[("1(1) (1)", 1)]),
+        order("two items wait", &[("(1100) (0011)", 1)]),
+        order("a prefix is late", &[("0(1) (1)", 1)]),
+        order("late at the second instant", &[("(10) (1100)", 1)]),
+        order(
+            "the size is reached past both periods",
+            &[("(1100) (010011)", 1)],
+        ),
+        order("blanks of every kind", &[("\t(10)\r\n (01) \n", 1)]),
+        order(
+            "as many bits as a word may have",
+            &[("(", 1), ("1", 4096), (") (1)", 1)],
+        ),
+        order("one bit more", &[("(", 1), ("1", 4097), (") (1)", 1)]),
+        order(
+            "as many bytes as the input may have",
+            &[("(10) (01)", 1), (" ", 16375)],
+        ),
+        order("one byte more", &[("(10) (01)", 1), (" ", 16376)]),
+        order("five bytes past that", &[("(10) (01)", 1), (" ", 16381)]),
+        order("no one in the period", &[("(00) (1)", 1)]),
+        order("no input", &[]),
+        order("blanks alone", &[(" \n", 1)]),
+        order("one word", &[("(10)", 1)]),
+        order("three words", &[("(10) (01) (1)", 1)]),
+        order("an unclosed period", &[("(10) (0", 1)]),
+        order("a byte that is no digit", &[("(12) (01)", 1)]),
+        words("no command", &[]),
+        words("an unknown command", &["orders"]),
+        words("a word too many", &["order", "order"]),
+        words("a command that is not built yet", &["show", "p"]),
+        Row {
+            reads: Calls {
+                most: 1,
+                fails: &[],
+            },
+            ..order("a source of one byte a call", &[("(10) (01)", 1)])
+        },
+        Row {
+            reads: FIRST_FAILS,
+            ..order("the first read fails", &[("(10) (01)", 1)])
+        },
+        Row {
+            reads: SECOND_FAILS,
+            ..order("the second read fails", &[("(10) (01)", 1)])
+        },
+        Row {
+            writes: FIRST_FAILS,
+            ..order("the first write fails", &[("(10) (01)", 1)])
+        },
+        Row {
+            writes: SECOND_FAILS,
+            ..order("the second write fails", &[("(10) (01)", 1)])
+        },
+        Row {
+            room: 0,
+            ..order("an output without room", &[("(10) (01)", 1)])
+        },
+        Row {
+            room: 12,
+            ..order("an output with too little room", &[("(10) (01)", 1)])
+        },
+        Row {
+            tells: FIRST_FAILS,
+            ..order("a refusal that cannot be told", &[("(10)", 1)])
+        },
+        Row {
+            tells: SECOND_FAILS,
+            ..order("a refusal that is told in part", &[("(10)", 1)])
+        },
+        Row {
+            writes: FIRST_FAILS,
+            tells: FIRST_FAILS,
+            ..order("a write fault that cannot be told", &[("(10) (01)", 1)])
+        },
+    ]
+}

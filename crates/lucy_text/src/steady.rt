@@ -1,0 +1,70 @@
+ghost use Rattle.std.specs.Prelude.{◌≡◌, ℕ, ◌<◌, List, Some, None, ◌++◌, min, length, take, drop, nat_eq};
+ghost use Rattle.lucy_text.specs.Outside.{followed, appended, AtEnd, HasCause};
+
+use crate::unread::Unread;
+use crate::{Failed, Sink, Source};
+use std::marker::Model;
+
+/// Bytes in memory, given as many a call as the buffer holds. It never fails.
+#[derive(Drop)]
+pub struct SteadySource {
+    unread: Unread,
+}
+
+impl Model for SteadySource {
+    ghost Value = { List ℕ };
+
+    ghost view = { λ s. s.unread };
+}
+
+impl SteadySource {
+    /// A source of these bytes.
+    pub fn new(bytes: Vec<u8>) -> SteadySource
+        ensures { result ≡ bytes.items }
+    {
+        SteadySource {
+            unread: Unread::new(bytes),
+        }
+    }
+}
+
+impl Source for SteadySource {
+    ghost left = { λ s. Some s };
+
+    ghost faults = { λ _. 0 };
+
+    ghost ended = { λ s. nat_eq (length s) 0 };
+
+    fn read(&mut self, into: &mut [u8]) -> Result<usize, Failed>
+        requires { 0 < length into.old }
+        ensures count { result ≡ Ok (min (length self.old) (length into.old)) }
+        ensures copied { into.new ≡ take (length into.old) self.old ++ drop (length self.old) into.old }
+        ensures rest { self.new ≡ drop (length into.old) self.old }
+    {
+        Ok(self.unread.give(into.len(), into))
+    }
+}
+
+/// Drops what it takes, and takes all. It never fails.
+#[derive(Drop)]
+pub struct SteadySink {}
+
+impl SteadySink {
+    /// A sink. All are alike.
+    pub fn new() -> SteadySink {
+        SteadySink {}
+    }
+}
+
+impl Sink for SteadySink {
+    ghost written = { λ _. None };
+
+    ghost faults = { λ _. 0 };
+
+    fn write(&mut self, from: &[u8]) -> Result<usize, Failed>
+        requires { 0 < length from.now }
+        ensures { result ≡ Ok (length from.now) }
+    {
+        Ok(from.len())
+    }
+}

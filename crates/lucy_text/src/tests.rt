@@ -1,0 +1,110 @@
+ghost use Rattle.std.specs.Prelude.{◌<◌, ◌≤◌, length};
+
+use super::*;
+use std::collections::VecDeque;
+use std::io::{self, ErrorKind, Read, Write};
+use std::process::Abort;
+use std::test::Fail;
+
+/// Reads once for each answer, with room for 4 bytes. `None` stands for a read that fails.
+fn reads<S: Source>(rt: &impl Abort, source: &mut S, answers: &[Option<&str>]) {
+    for (i, answer) in answers.iter().enumerate() {
+        let mut into = [0; 4];
+        let got = source.read(&mut into).ok().map(|n| &into[..n]);
+        assert_eq!(rt; got, answer.map(|text| text.as_bytes()), "read {i}");
+    }
+}
+
+/// Writes `abc` once for each answer, which is the number of bytes taken. `None` stands for a write that fails.
+fn writes<K: Sink>(rt: &impl Abort, sink: &mut K, answers: &[Option<usize>]) {
+    for (i, answer) in answers.iter().enumerate() {
+        assert_eq!(rt; sink.write(b"abc").ok(), *answer, "write {i}");
+    }
+}
+
+#[test]
+fn memory_gives_and_takes_in_parts(rt: HostRuntime) -> Result<(), Fail> {
+    let alloc = rt.alloc();
+    let bytes = b"abcdefg";
+    let mut source = MemSource::new(bytes.to_vec(alloc)?, 3, [2u64].to_vec(alloc)?);
+    reads(
+        &rt,
+        &mut source,
+        &[Some("abc"), None, Some("def"), Some("g"), Some("")],
+    );
+    let mut steady = SteadySource::new(bytes.to_vec(alloc)?);
+    reads(&rt, &mut steady, &[Some("abcd"), Some("efg"), Some("")]);
+
+    let mut sink = MemSink::new(Vec::with_capacity(alloc, 5)?, 2, [2u64].to_vec(alloc)?);
+    writes(&rt, &mut sink, &[Some(2), None, Some(2), Some(1), None]);
+    assert_eq!(rt; sink.bytes(), b"ababa".as_slice());
+    writes(&rt, &mut SteadySink::new(), &[Some(3), Some(3)]);
+
+    for (fails, answer, written) in [(5u64, Ok(()), "abcdefg"), (3, Err(Failed), "abcd")] {
+        let mut sink = MemSink::new(Vec::with_capacity(alloc, 8)?, 2, [fails].to_vec(alloc)?);
+        assert_eq!(rt; write_all(&mut sink, bytes), answer);
+        assert_eq!(rt; sink.bytes(), written.as_bytes());
+    }
+    Ok(())
+}
+
+/// Gives bytes, then an error, then the end, and then bytes again.
+#[derive(Drop)]
+struct Revives {
+    calls: u8,
+}
+
+impl Read for Revives {
+    fn read(&mut self, buf: &mut [u8]) -> io::Result<usize> {
+        self.calls = self.calls.saturating_add(1);
+        match self.calls {
+            2 => Err(ErrorKind::Other.into()),
+            3 => Ok(0),
+            _ => {
+                buf.fill(b'r');
+                Ok(buf.len())
+            }
+        }
+    }
+}
+
+#[test]
+fn a_real_source_stays_at_its_end(rt: HostRuntime) -> Result<(), Fail> {
+    let mut source = RealSource::new(Revives { calls: 0 });
+    reads(&rt, &mut source, &[Some("rrrr"), None, Some(""), Some("")]);
+    Ok(())
+}
+
+/// Takes a byte, then none, then fails.
+#[derive(Drop)]
+struct Tires {
+    calls: u8,
+}
+
+impl Write for Tires {
+    fn write(&mut self, buf: &[u8]) -> io::Result<usize> {
+        self.calls = self.calls.saturating_add(1);
+        match self.calls {
+            1 => Ok(buf.len().min(1)),
+            2 => Ok(0),
+            _ => Err(ErrorKind::Other.into()),
+        }
+    }
+
+    fn flush(&mut self) -> io::Result<()> {
+        Ok(())
+    }
+}
+
+#[test]
+fn a_real_sink_fails_where_nothing_is_taken(rt: HostRuntime) -> Result<(), Fail> {
+    writes(
+        &rt,
+        &mut RealSink::new(Tires { calls: 0 }),
+        &[Some(1), None, None],
+    );
+    let mut taken = VecDeque::new(rt.alloc());
+    assert_eq!(rt; write_all(&mut RealSink::new(&mut taken), b"abc"), Ok(()));
+    assert_eq!(rt; &*taken.make_contiguous(), b"abc".as_slice());
+    Ok(())
+}
