@@ -2,7 +2,7 @@
 use Rattle.std.proofs.Common.{ℕ, ◌<◌, ◌≡◌, ap, refl, inl, inr, arith}
 use Rattle.std.proofs.lemmas.Bool.{cases_order}
 use Rattle.lucy_word.specs.Bits.{Bits}
-use Rattle.lucy_order.specs.Adaptable.{IsAdaptable, IsSize, IsFirstLate}
+use Rattle.lucy_word.specs.Adaptable.{IsAdaptable, IsSize, IsFirstLate}
 use Rattle.lucy_order.specs.Verdicts.{IsVerdict}
 use Rattle.lucy_order.specs.declared.verdict.Verdict.{Verdict}
 use Rattle.lucy_order.specs.declared.verdict.Verdict.TheVariants.{Adaptable, Rates, Late}

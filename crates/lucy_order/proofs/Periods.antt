@@ -1,11 +1,11 @@
 -- One common period decides about all instants.
-use Rattle.std.proofs.Common.{ℕ, Bool, ◌+◌, ◌-◌, ◌*◌, ◌%◌, ◌/◌, ◌<◌, ◌≤◌, ◌≡◌, max, length, ap, sym, ◌∙◌, inl, inr, arith}
-use Rattle.std.proofs.Math.Nat.{div-add-mod, mul-div_cancel, div-mul_cancel, mod-lt}
-use borrow.Author.Count.{below_more}
+use Rattle.std.proofs.Common.{below_more, ℕ, Bool, ◌+◌, ◌-◌, ◌*◌, ◌%◌, ◌/◌, ◌<◌, ◌≤◌, ◌≡◌, max, length, ap, sym, ◌∙◌, inl, inr, arith}
+use Rattle.std.proofs.Math.Nat.{div-add-mod, eq_of_mul-eq-mul_right, div-mul_cancel, mod-lt}
 use Rattle.std.proofs.lemmas.Bool.{cases_lt}
 use Rattle.lucy_word.specs.Bits.{Bits, bit_at, one_if, ones_to, ones_in}
 use Rattle.lucy_word.proofs.BitsLaws.{ones_to-turns, ones_to-none, ones_to-more}
-use Rattle.lucy_order.specs.Adaptable.{SameRate, Precedes, IsSize, IsHorizon}
+use Rattle.lucy_word.specs.Adaptable.{SameRate, Precedes, IsSize}
+use Rattle.lucy_order.specs.Horizon.{IsHorizon}
 
 -- a walk that has left i bits of the word behind
 abbrev pub Ahead : Bits → Bits → ℕ → Type 0
@@ -37,9 +37,6 @@ walked_more a b n most w h =
       passed = below_more (λ i. ones_to a i ≤ ones_to b i + max most lead) (n + 1) (λ i l. omega (arith, w.passed i l)) (omega arith);
     }
 
-cancel : (x y n : ℕ) → 0 < n → x * n ≡ y * n → x ≡ y
-cancel x y n p e = sym (mul-div_cancel x p) ∙ ap (λ t. t / n) e ∙ mul-div_cancel y p
-
 -- at every instant the counts are those at one of the first, with the same number added to both
 folded : (a b : Bits) (n : ℕ) → SameRate a b → 0 < length a.period → 0 < length b.period → IsHorizon a b n →
     (i : ℕ) → (r : ℕ) × (r < n + 1) × (k : ℕ) × (ones_to a i ≡ ones_to a r + k) × (ones_to b i ≡ ones_to b r + k)
@@ -54,8 +51,8 @@ folded a b n same some_a some_b horizon i =
     let M : ℕ = max (length a.prefix) (length b.prefix) in
     let by_a : x * La ≡ P = div-mul_cancel La horizon.1.of_left in
     let by_b : y * Lb ≡ P = div-mul_cancel Lb horizon.1.of_right in
-    let P_pos : 0 < P = horizon.1.some in
-    let rates : x * oa ≡ y * ob = cancel (x * oa) (y * ob) Lb some_b
+    let P_pos : 0 < P = horizon.1.positive in
+    let rates : x * oa ≡ y * ob = eq_of_mul-eq-mul_right Lb some_b (x * oa) (y * ob)
     (let s : x * (oa * Lb) ≡ x * (ob * La) = ap (λ t. x * t) same in
     let t : ob * (x * La) ≡ ob * P = ap (λ t. ob * t) by_a in
     let u : ob * (y * Lb) ≡ ob * P = ap (λ t. ob * t) by_b in

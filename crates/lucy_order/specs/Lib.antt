@@ -1,2 +1,2 @@
-pub mod Adaptable
+pub mod Horizon
 pub mod Verdicts

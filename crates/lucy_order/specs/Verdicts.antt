@@ -1,6 +1,6 @@
 -- What each verdict says of two words.
 use Rattle.lucy_word.specs.Bits.{Bits}
-use Rattle.lucy_order.specs.Adaptable.{SameRate, IsAdaptable, IsSize, IsFirstLate}
+use Rattle.lucy_word.specs.Adaptable.{SameRate, IsAdaptable, IsSize, IsFirstLate}
 use Rattle.lucy_order.specs.declared.verdict.Verdict.{Verdict}
 use Rattle.lucy_order.specs.declared.verdict.Verdict.TheVariants.{Adaptable, Rates, Late}
 

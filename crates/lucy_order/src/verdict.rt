@@ -1,5 +1,5 @@
-ghost use Rattle.std.specs.Prelude.{◌≡◌, ◌+◌, ◌<◌, ◌≤◌, ◌^◌};
-ghost use Rattle.lucy_order.specs.Adaptable.{IsHorizon};
+ghost use Rattle.std.specs.Prelude.{◌≡◌, ◌<◌, ◌^◌};
+ghost use Rattle.lucy_order.specs.Horizon.{IsHorizon};
 ghost use Rattle.lucy_order.specs.Verdicts.{IsVerdict};
 ghost use Rattle.lucy_order.specs.declared.verdict.Verdict.{Verdict};
 
@@ -8,7 +8,8 @@ use lucy_word::{Word, lcm};
 /// How two words stand to each other.
 #[derive(Clone, Copy, Debug, PartialEq, Eq)]
 pub enum Verdict {
-    /// The first is adaptable to the second. The number is the size of the buffer between them, in items.
+    /// The first is adaptable to the second. The number is the size of the buffer between them: the most items that wait
+    /// in it.
     Adaptable(u64),
     /// The rates differ.
     Rates,
@@ -26,7 +27,8 @@ fn horizon(a: &Word, b: &Word) -> u64
     prefix_a.max(prefix_b) + lcm(period_a, period_b)
 }
 
-/// The verdict on two words, over all their instants (Mandel, Plateau and Pouzet 2010). Rates are looked at first.
+/// Whether `a` is adaptable to `b`, written `a <: b`: `a` gives into a buffer and `b` takes from it. It is decided for all
+/// instants (Mandel, Plateau and Pouzet 2010). Rates are looked at first.
 pub fn adapt(a: &Word, b: &Word) -> Verdict
     ensures is { IsVerdict a.now b.now result }
     ensures only { (verdict : Verdict) → IsVerdict a.now b.now verdict → result ≡ verdict }

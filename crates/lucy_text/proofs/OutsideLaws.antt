@@ -1,6 +1,5 @@
 -- Laws of bytes that are read and written one part after another.
-use Rattle.std.proofs.Common.{ℕ, ◌≤◌, ◌≡◌, List, [], ◌++◌, length, take, Option, Some, None, refl, ap, sym, ◌∙◌, arith, append_assoc, append-nil}
-use Rattle.std.proofs.lemmas.List.{take-append-le}
+use Rattle.std.proofs.Common.{ℕ, ◌≡◌, List, [], ◌++◌, Option, Some, None, refl, ap, sym, ◌∙◌, arith, append_assoc, append-nil}
 use Rattle.lucy_text.specs.Outside.{followed, appended, WritesFront}
 
 pub appended-appended : (o : Option (List ℕ)) (a b : List ℕ) → appended (appended o a) b ≡ appended o (a ++ b)
@@ -20,11 +19,13 @@ followed-nil None = refl
 followed-nil (Some w) = refl
 
 -- one part more was written
-pub appended_more : (was now new : Option (List ℕ)) (a b : List ℕ) → now ≡ appended was a → new ≡ appended now b → new ≡ appended was (a ++ b)
+pub appended_more : (was now new : Option (List ℕ)) (a b : List ℕ) →
+    now ≡ appended was a → new ≡ appended now b → new ≡ appended was (a ++ b)
 appended_more was now new a b e f = f ∙ ap (λ o. appended o b) e ∙ appended-appended was a b
 
 -- one part more was read
-pub followed_more : (was now new : Option (List ℕ)) (a b : List ℕ) → was ≡ followed a now → now ≡ followed b new → was ≡ followed (a ++ b) new
+pub followed_more : (was now new : Option (List ℕ)) (a b : List ℕ) →
+    was ≡ followed a now → now ≡ followed b new → was ≡ followed (a ++ b) new
 followed_more was now new a b e f = e ∙ ap (followed a) f ∙ followed-followed a b new
 
 -- where nothing was written, that is a front of any bytes

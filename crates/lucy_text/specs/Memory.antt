@@ -1,6 +1,6 @@
--- What a source and a sink in memory are seen as: `most` is the most bytes that one call moves, `fails` has the
--- numbers, from 1, of the calls that fail, and `calls` and `faults` count the calls and the faults so far.
-use Rattle.std.specs.Prelude.{ℕ, List, ◌++◌, take, drop}
+-- What a source and a sink in memory are seen as. `most` is the most bytes that one call moves, and
+-- `fails` has the numbers, from 1, of the calls that fail. `calls` and `faults` count those so far.
+use Rattle.std.specs.Prelude.{ℕ, List, ◌++◌, drop}
 use Rattle.lucy_text.specs.Outside.{one_more}
 
 -- a source with these bytes left

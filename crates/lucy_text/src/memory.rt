@@ -1,14 +1,16 @@
-ghost use Rattle.std.specs.Prelude.{◌≡◌, ℕ, ◌+◌, ◌-◌, ◌<◌, ◌≤◌, ◌↔◌, ◌⊎◌, List, [], Some, ◌++◌, min, length, take, drop, nat_eq, Contains, IsTrue, IsErr, IfOk, OnErr, vec_capacity};
-ghost use Rattle.lucy_text.specs.Outside.{followed, appended, AtEnd, HasCause, one_more};
-ghost use Rattle.lucy_text.specs.Memory.{SourceState, SinkState, source_after, source_after_fault, sink_after, sink_after_fault};
+ghost use Rattle.std.specs.Prelude.{◌≡◌, ◌-◌, ◌<◌, ◌≤◌, ◌↔◌, ◌⊎◌, [], Some, ◌++◌, min, length, take, drop};
+ghost use Rattle.std.specs.Prelude.{nat_eq, vec_capacity, Contains, IsErr, IfOk, OnErr};
+ghost use Rattle.lucy_text.specs.Outside.{HasCause, one_more};
+ghost use Rattle.lucy_text.specs.Memory.{SourceState, source_after, source_after_fault};
+ghost use Rattle.lucy_text.specs.Memory.{SinkState, sink_after, sink_after_fault};
 
 use crate::calls::Calls;
 use crate::unread::Unread;
 use crate::{Failed, Sink, Source};
 use std::marker::Model;
 
-/// Bytes in memory, given at most `most` a call. The calls whose numbers, from 1, are in `fails` fail.
-/// A number of calls past the greatest u64 stands still there.
+/// Bytes in memory, given at most `most` a call. The calls whose numbers, from 1, are in `fails`
+/// fail. The number of calls stands still at the greatest u64.
 #[derive(Drop)]
 pub struct MemSource {
     unread: Unread,
@@ -34,7 +36,8 @@ impl MemSource {
     /// A source that no call has read yet.
     pub fn new(bytes: Vec<u8>, most: usize, fails: Vec<u64>) -> MemSource
         requires { 1 ≤ most }
-        ensures { result ≡ record { left = bytes.items; most = most; fails = fails.items; calls = 0; faults = 0 } }
+        ensures { result
+            ≡ record { left = bytes.items; most = most; fails = fails.items; calls = 0; faults = 0 } }
     {
         MemSource {
             unread: Unread::new(bytes),
@@ -61,7 +64,8 @@ impl Source for MemSource {
     fn read(&mut self, into: &mut [u8]) -> Result<usize, Failed>
         requires { 0 < length into.old }
         ensures fails { IsErr result ↔ Contains self.old.fails (one_more self.old.calls) }
-        ensures count { IfOk result (λ n. n ≡ min self.old.most (min (length self.old.left) (length into.old))) }
+        ensures count { IfOk result (λ n.
+            n ≡ min self.old.most (min (length self.old.left) (length into.old))) }
         ensures copied { IfOk result (λ n. into.new ≡ take n self.old.left ++ drop n into.old) }
         ensures ok { IfOk result (λ n. self.new ≡ source_after self.old n) }
         ensures untouched { OnErr result (into.new ≡ into.old) }
@@ -78,7 +82,7 @@ impl Source for MemSource {
 
 /// Takes at most `most` bytes a call, and in all no more than the room that was reserved in the
 /// vector it is made of. The calls whose numbers, from 1, are in `fails` fail, and so does one with
-/// no room left. A number of calls past the greatest u64 stands still there.
+/// no room left. The number of calls stands still at the greatest u64.
 #[derive(Drop)]
 pub struct MemSink {
     bytes: Vec<u8>,
@@ -99,7 +103,8 @@ impl Model for MemSink {
       faults = s.calls.faults;
     } };
 
-    ghost invariant = { λ s. (1 ≤ s.most) × (length s.bytes.items ≤ s.room) × (s.room ≤ vec_capacity s.bytes) };
+    ghost invariant = { λ s.
+        (1 ≤ s.most) × (length s.bytes.items ≤ s.room) × (s.room ≤ vec_capacity s.bytes) };
 }
 
 impl MemSink {
@@ -107,7 +112,14 @@ impl MemSink {
     pub fn new(room: Vec<u8>, most: usize, fails: Vec<u64>) -> MemSink
         requires some { 1 ≤ most }
         requires empty { room.items ≡ [] }
-        ensures { result ≡ record { written = []; room = vec_capacity room; most = most; fails = fails.items; calls = 0; faults = 0 } }
+        ensures { result ≡ record {
+          written = [];
+          room = vec_capacity room;
+          most = most;
+          fails = fails.items;
+          calls = 0;
+          faults = 0;
+        } }
     {
         MemSink {
             room: room.capacity(),
@@ -132,8 +144,10 @@ impl Sink for MemSink {
 
     fn write(&mut self, from: &[u8]) -> Result<usize, Failed>
         requires { 0 < length from.now }
-        ensures fails { IsErr result ↔ (Contains self.old.fails (one_more self.old.calls) ⊎ (self.old.room ≤ length self.old.written)) }
-        ensures count { IfOk result (λ n. n ≡ min self.old.most (min (length from.now) (self.old.room - length self.old.written))) }
+        ensures fails { IsErr result ↔ (Contains self.old.fails (one_more self.old.calls)
+            ⊎ (self.old.room ≤ length self.old.written)) }
+        ensures count { IfOk result (λ n.
+            n ≡ min self.old.most (min (length from.now) (self.old.room - length self.old.written))) }
         ensures ok { IfOk result (λ n. self.new ≡ sink_after self.old (take n from.now)) }
         ensures err { OnErr result (self.new ≡ sink_after_fault self.old) }
         ensures some { IfOk result (λ n. 0 < n) }

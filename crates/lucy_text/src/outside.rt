@@ -1,4 +1,5 @@
-ghost use Rattle.std.specs.Prelude.{◌≡◌, ℕ, Bool, ◌<◌, ◌≤◌, List, Option, length, take, IsTrue, IfOk, OnOk, OnErr};
+ghost use Rattle.std.specs.Prelude.{◌≡◌, ◌<◌, ◌≤◌, ℕ, Bool, List, Option, length, take};
+ghost use Rattle.std.specs.Prelude.{IsTrue, IfOk, OnOk, OnErr};
 ghost use Rattle.lucy_text.specs.Outside.{followed, appended, AtEnd, HasCause, WritesFront};
 
 /// A read or a write failed, and its source or sink counted a fault.
@@ -21,7 +22,8 @@ pub trait Source {
     fn read(&mut self, into: &mut [u8]) -> Result<usize, Failed>
         requires { 0 < length into.old }
         ensures within { IfOk result (λ n. n ≤ length into.old) }
-        ensures bytes { IfOk result (λ n. left self.old ≡ followed (take n into.new) (left self.new)) }
+        ensures bytes { IfOk result (λ n.
+            left self.old ≡ followed (take n into.new) (left self.new)) }
         ensures nothing_left { IfOk result (λ n. n ≡ 0 → AtEnd (left self.old)) }
         ensures ends { IfOk result (λ n. n ≡ 0 → IsTrue (ended self.new)) }
         ensures stays_ended { IsTrue (ended self.old) → IsTrue (ended self.new) }
@@ -43,7 +45,8 @@ pub trait Sink {
         requires { 0 < length from.now }
         ensures some { IfOk result (λ n. 0 < n) }
         ensures within { IfOk result (λ n. n ≤ length from.now) }
-        ensures bytes { IfOk result (λ n. written self.new ≡ appended (written self.old) (take n from.now)) }
+        ensures bytes { IfOk result (λ n.
+            written self.new ≡ appended (written self.old) (take n from.now)) }
         ensures err { OnErr result (written self.new ≡ written self.old) }
         ensures cause { HasCause (faults self.old) (faults self.new) result };
 }

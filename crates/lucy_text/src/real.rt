@@ -1,10 +1,11 @@
 ghost use Rattle.std.specs.Prelude.{◌≡◌, ◌<◌, ◌≤◌, ◌↔◌, false, None, length, is_ok, if◌then◌else◌, IsTrue, IfOk, OnErr};
+ghost use Rattle.std.specs.Io.KnownBytes.{ReadConsumes, WriteAppends};
 ghost use Rattle.lucy_text.specs.Outside.{HasCause, one_more};
 
 use crate::{Failed, Sink, Source};
 use std::io::{Read, Write};
 
-/// A source over a reader, which tells no bytes. It remembers the end, and then leaves the reader alone.
+/// A source over a reader, which tells no bytes. Once it has met the end it leaves the reader alone.
 #[derive(Drop)]
 pub struct RealSource<R> {
     reader: R,
@@ -13,10 +14,11 @@ pub struct RealSource<R> {
 }
 
 impl<R: Read> RealSource<R> {
-    ghost use Rattle.lucy_text.specs.Real.{has_ended, read_faults};
+    ghost use Rattle.lucy_text.specs.Real.{reader_of, has_ended, read_faults};
 
     /// A source that has not asked the reader yet.
     pub fn new(reader: R) -> RealSource<R>
+        ensures reader { reader_of result ≡ reader }
         ensures faults { read_faults result ≡ 0 }
         ensures ended { has_ended result ≡ false }
     {
@@ -29,7 +31,7 @@ impl<R: Read> RealSource<R> {
 }
 
 impl<R: Read> Source for RealSource<R> {
-    ghost use Rattle.lucy_text.specs.Real.{has_ended, read_faults};
+    ghost use Rattle.lucy_text.specs.Real.{reader_of, has_ended, read_faults};
 
     ghost left = { λ _. None };
 
@@ -41,10 +43,13 @@ impl<R: Read> Source for RealSource<R> {
     fn read(&mut self, into: &mut [u8]) -> Result<usize, Failed>
         requires { 0 < length into.old }
         ensures within { IfOk result (λ n. n ≤ length into.old) }
+        ensures bytes { has_ended self.old ≡ false →
+            ReadConsumes (R.remaining (reader_of self.old)) (R.remaining (reader_of self.new)) result into.new }
         ensures once_ended { IsTrue (has_ended self.old) → (result ≡ Ok 0) × (self.new ≡ self.old) }
         ensures ends { IfOk result (λ n. IsTrue (has_ended self.new) ↔ (n ≡ 0)) }
         ensures err { OnErr result (has_ended self.new ≡ false) }
-        ensures counts { read_faults self.new ≡ (if is_ok result then read_faults self.old else one_more (read_faults self.old)) }
+        ensures counts { read_faults self.new
+            ≡ (if is_ok result then read_faults self.old else one_more (read_faults self.old)) }
         ensures cause { HasCause (read_faults self.old) (read_faults self.new) result }
     {
         if self.ended {
@@ -71,18 +76,19 @@ pub struct RealSink<W> {
 }
 
 impl<W: Write> RealSink<W> {
-    ghost use Rattle.lucy_text.specs.Real.{write_faults};
+    ghost use Rattle.lucy_text.specs.Real.{writer_of, write_faults};
 
     /// A sink that has handed the writer nothing yet.
     pub fn new(writer: W) -> RealSink<W>
-        ensures { write_faults result ≡ 0 }
+        ensures writer { writer_of result ≡ writer }
+        ensures faults { write_faults result ≡ 0 }
     {
         RealSink { writer, faults: 0 }
     }
 }
 
 impl<W: Write> Sink for RealSink<W> {
-    ghost use Rattle.lucy_text.specs.Real.{write_faults};
+    ghost use Rattle.lucy_text.specs.Real.{writer_of, write_faults};
 
     ghost written = { λ _. None };
 
@@ -94,7 +100,9 @@ impl<W: Write> Sink for RealSink<W> {
         requires { 0 < length from.now }
         ensures some { IfOk result (λ n. 0 < n) }
         ensures within { IfOk result (λ n. n ≤ length from.now) }
-        ensures counts { write_faults self.new ≡ (if is_ok result then write_faults self.old else one_more (write_faults self.old)) }
+        ensures bytes { WriteAppends (W.contents (writer_of self.old)) (W.contents (writer_of self.new)) result from.now }
+        ensures counts { write_faults self.new
+            ≡ (if is_ok result then write_faults self.old else one_more (write_faults self.old)) }
         ensures cause { HasCause (write_faults self.old) (write_faults self.new) result }
     {
         match self.writer.write(from) {

@@ -1,5 +1,4 @@
 ghost use Rattle.std.specs.Prelude.{◌≡◌, ℕ, ◌<◌, List, Some, None, ◌++◌, min, length, take, drop, nat_eq};
-ghost use Rattle.lucy_text.specs.Outside.{followed, appended, AtEnd, HasCause};
 
 use crate::unread::Unread;
 use crate::{Failed, Sink, Source};
@@ -38,7 +37,8 @@ impl Source for SteadySource {
     fn read(&mut self, into: &mut [u8]) -> Result<usize, Failed>
         requires { 0 < length into.old }
         ensures count { result ≡ Ok (min (length self.old) (length into.old)) }
-        ensures copied { into.new ≡ take (length into.old) self.old ++ drop (length self.old) into.old }
+        ensures copied { into.new
+            ≡ take (length into.old) self.old ++ drop (length self.old) into.old }
         ensures rest { self.new ≡ drop (length into.old) self.old }
     {
         Ok(self.unread.give(into.len(), into))

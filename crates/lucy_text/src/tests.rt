@@ -1,5 +1,3 @@
-ghost use Rattle.std.specs.Prelude.{◌<◌, ◌≤◌, length};
-
 use super::*;
 use std::collections::VecDeque;
 use std::io::{self, ErrorKind, Read, Write};
@@ -15,7 +13,7 @@ fn reads<S: Source>(rt: &impl Abort, source: &mut S, answers: &[Option<&str>]) {
     }
 }
 
-/// Writes `abc` once for each answer, which is the number of bytes taken. `None` stands for a write that fails.
+/// Writes `abc` once for each answer, the number of bytes taken. `None` stands for a write that fails.
 fn writes<K: Sink>(rt: &impl Abort, sink: &mut K, answers: &[Option<usize>]) {
     for (i, answer) in answers.iter().enumerate() {
         assert_eq!(rt; sink.write(b"abc").ok(), *answer, "write {i}");

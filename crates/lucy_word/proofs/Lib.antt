@@ -1,5 +1,5 @@
 pub mod BitsLaws
-pub mod WalkLaws
+mod WalkLaws
 mod Multiples
 mod SpellingLemmas
 mod SpellingLaws

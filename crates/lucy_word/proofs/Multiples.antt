@@ -1,6 +1,6 @@
 -- The least common multiple, from the greatest common divisor.
 use Rattle.std.proofs.Common.{ℕ, suc, zero, ◌+◌, ◌*◌, ◌%◌, ◌/◌, ◌<◌, ◌≤◌, ◌≡◌, ap, sym, ◌∙◌, subst, inl, inr, arith}
-use Rattle.std.proofs.Math.Nat.{div-mul_cancel, mul-div_cancel, dvd-mul_left, dvd-mul_right, le_of_dvd, mod-lt, pos_of_dvd_of_pos, mul-le-mul_right}
+use Rattle.std.proofs.Math.Nat.{div-mul_cancel, eq_of_mul-eq-mul_right, dvd-mul_left, dvd-mul_right, le_of_dvd, mod-lt, pos_of_dvd_of_pos, mul-le-mul_right}
 use Rattle.std.proofs.lemmas.Nat.{mul-le}
 use Rattle.std.proofs.lemmas.Nat.Gcd.{IsGcd-from_zero, IsGcd-from_mod}
 use Rattle.std.proofs.lemmas.Bool.{cases_eq, cases_lt}
@@ -19,9 +19,6 @@ gcd_exists (suc fuel) a b h =
           (found.0, IsGcd-from_mod a b found.0 found.1)
     ]
 
-cancel : (x y n : ℕ) → 0 < n → x * n ≡ y * n → x ≡ y
-cancel x y n p e = sym (mul-div_cancel x p) ∙ ap (λ t. t / n) e ∙ mul-div_cancel y p
-
 divides : (d k n : ℕ) → n ≡ k * d → d ∣ n
 divides d k n e = let P : ℕ → Type 0 = λ u. d ∣ u in subst P (sym e) (dvd-mul_left d k)
 
@@ -29,7 +26,7 @@ divides d k n e = let P : ℕ → Type 0 = λ u. d ∣ u in subst P (sym e) (dvd
 one_side : (a b g q h k : ℕ) → 0 < b → h ≡ k * b → q * h * g ≡ a * b → q * g ∣ a
 one_side a b g q h k some e product =
     let s : k * (q * g) * b ≡ a * b = (let t : q * h * g ≡ q * (k * b) * g = ap (λ u. q * u * g) e in omega arith) in
-    divides (q * g) k a (sym (cancel (k * (q * g)) a b some s))
+    divides (q * g) k a (sym (eq_of_mul-eq-mul_right b some (k * (q * g)) a s))
 
 -- the product by a common multiple's greatest common divisor is no less than the least
 at_least : (a b g m h : ℕ) → 0 < a → 0 < b → 0 < g → IsGcd a b g → m * g ≡ a * b → 0 < h → a ∣ h → b ∣ h → h ∣ m → m ≤ h
@@ -65,7 +62,7 @@ lcm_by_gcd a b g some_a some_b is =
     record {
       of_left = left;
       of_right = right;
-      some = some;
+      positive = some;
       least = λ n some_n an bn.
           let found = gcd_exists (m + 1) n m (omega arith) in
           let h : ℕ = found.0 in

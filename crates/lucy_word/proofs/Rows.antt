@@ -2,7 +2,8 @@
 use Rattle.std.proofs.Common.{true, false, [], ◌∷◌, ◌≡◌, map, refl, lit<}
 use Rattle.std.specs.Prelude.{codes}
 use Rattle.lucy_word.specs.Bits.{Bits, bit_at, ones_to}
-use Rattle.lucy_word.specs.Spelling.{Spells}
+use Rattle.lucy_word.specs.Spelling.{Spells, BeginsSpelling, IsBadAt}
+use Rattle.lucy_word.proofs.SpellingLemmas.{bad_close}
 
 -- 0(01)
 late : Bits
@@ -26,4 +27,12 @@ ones_of_early = refl
 
 late_is_spelled : Spells (codes "0(01)") late
 unfolding late
-late_is_spelled = record { shape = refl; some = lit< tt }
+late_is_spelled = record { shape = refl; nonempty = lit< tt }
+
+-- `(0` begins a spelling
+begins_open : BeginsSpelling (codes "(0")
+begins_open = (record { prefix = []; period = false ∷ [] }, 41 ∷ [], record { shape = refl; nonempty = lit< tt })
+
+-- and more bytes are missing at its end, at offset 2
+bad_open_at_2 : IsBadAt (codes "(0") 2
+bad_open_at_2 = bad_close [] (48 ∷ []) [] tt (refl, tt) (lit< tt) tt tt

@@ -89,7 +89,7 @@ reads_one text (Err e) (Err f) h k = ap (λ u. Err u) (refuses_one text e f h k)
 
 -- the bits that the parts of a text stand for, and how many they are
 parts_spell : (text D E : List ℕ) → Parts text D E → Spells text (record { prefix = bits_of D; period = bits_of E })
-parts_spell text D E p = spells_parts text D E (bits_of D) (bits_of E) p.whole p.prefix_digits p.period_digits p.some refl refl
+parts_spell text D E p = spells_parts text D E (bits_of D) (bits_of E) p.whole p.prefix_digits p.period_digits p.nonempty refl refl
 
 parts_count : (D E : List ℕ) → length (bits_of D) + length (bits_of E) ≡ length D + length E
 parts_count D E = omega (arith, length-map D (λ c. eqb c 49), length-map E (λ c. eqb c 49))
@@ -103,7 +103,7 @@ no_one text D E p h none = (record { prefix = bits_of D; period = bits_of E }, p
 pub readable : (text D E : List ℕ) (u v : List Bool) → Parts text D E → length D + length E ≤ 4096 → u ≡ bits_of D → v ≡ bits_of E → 0 < ones_in v →
     IsReadable text (record { prefix = u; period = v })
 readable text D E u v p h is_u is_v some = (
-  spells_parts text D E u v p.whole p.prefix_digits p.period_digits p.some is_u is_v,
+  spells_parts text D E u v p.whole p.prefix_digits p.period_digits p.nonempty is_u is_v,
   omega (arith, parts_count D E, ap length is_u, ap length is_v),
   some,
 )

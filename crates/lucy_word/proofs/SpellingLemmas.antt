@@ -85,7 +85,7 @@ pub whole : (D E : List ℕ) → Digits D → Digits E → 0 < length E → Spel
 whole D E h k some =
     let a : spelled (bits_of D) ≡ D = spelled-bits_of D h in
     let b : spelled (bits_of E) ≡ E = spelled-bits_of E k in
-    record { shape = cc; some = omega (arith, length-map E (λ c. eqb c 49)) }
+    record { shape = cc; nonempty = omega (arith, length-map E (λ c. eqb c 49)) }
 
 open_never : (D : List ℕ) → Digits D → (z : List ℕ) → BeginsWithoutDigit z × BeginsOtherwise 40 z → (w : Bits) → Spells (D ++ z) w → ⊥
 open_never D h [] p w s = uncut D w.prefix 40 (spelled w.period ++ 41 ∷ []) h refl (sym (append-nil D) ∙ s.shape)
@@ -110,7 +110,7 @@ digit_first (b ∷ v) (c ∷ z) some none e =
 empty_never : (D : List ℕ) → Digits D → (z : List ℕ) → BeginsWithoutDigit z → (w : Bits) → Spells ((D ++ 40 ∷ []) ++ z) w → ⊥
 empty_never D h z none w s =
     let P : List ℕ → Type 0 = λ u. Spells u w in
-    digit_first w.period z s.some none (inside D z w h (subst P (append_assoc D (40 ∷ []) z) s))
+    digit_first w.period z s.nonempty none (inside D z w h (subst P (append_assoc D (40 ∷ []) z) s))
 
 pub bad_empty : (D y : List ℕ) → Digits D → BeginsWithoutDigit y → IsBadAt ((D ++ 40 ∷ []) ++ y) (length (D ++ 40 ∷ []))
 bad_empty D y h none =
@@ -162,4 +162,4 @@ spells_parts text D E p v e h k some is_p is_v =
     let b : spelled (bits_of E) ≡ E = spelled-bits_of E (recursion_from_All (λ c. is_digit c ≡ true) E k) in
     let x : spelled p ≡ D = ap spelled is_p ∙ a in
     let y : spelled v ≡ E = ap spelled is_v ∙ b in
-    record { shape = cc; some = omega (arith, length-map E (λ c. eqb c 49), ap length is_v) }
+    record { shape = cc; nonempty = omega (arith, length-map E (λ c. eqb c 49), ap length is_v) }

@@ -3,3 +3,4 @@ pub mod Spelling
 pub mod Reading
 pub mod Scan
 pub mod Multiple
+pub mod Adaptable

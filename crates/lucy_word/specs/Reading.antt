@@ -1,22 +1,26 @@
 -- What a text is read as: a word, or one refusal.
-use Rattle.std.specs.Prelude.{ℕ, ◌<◌, ◌≤◌, ◌≡◌, List, Result, Ok, Err}
-use Rattle.lucy_word.specs.Bits.{Bits, ones_in, bit_count}
+use Rattle.std.specs.Prelude.{ℕ, ◌⊎◌, ◌<◌, ◌≤◌, ◌≡◌, List, Result, Ok, Err}
+use Rattle.lucy_word.specs.Bits.{Bits, ones_in, bit_count, most_written}
 use Rattle.lucy_word.specs.Spelling.{Spells, IsBadAt}
 use Rattle.lucy_word.specs.declared.error.WordError.{WordError}
 use Rattle.lucy_word.specs.declared.error.WordError.TheVariants.{BadWord, TooLong, NoOne, OutOfMemory}
 
 -- the text spells the word, which is no longer than a written word may be and has a one in its period
 abbrev pub IsReadable : List ℕ → Bits → Type 0
-IsReadable text w = Spells text w × (bit_count w ≤ 4096) × (0 < ones_in w.period)
+IsReadable text w = Spells text w × (bit_count w ≤ most_written) × (0 < ones_in w.period)
 
 -- the text is refused so: for its form, else for its length, else for its period (never for want of memory)
 abbrev pub Refuses : List ℕ → WordError → Type 0
 Refuses text (BadWord place) = IsBadAt text place
-Refuses text TooLong = (w : Bits) × Spells text w × (4096 < bit_count w)
-Refuses text NoOne = (w : Bits) × Spells text w × (bit_count w ≤ 4096) × (ones_in w.period ≡ 0)
+Refuses text TooLong = (w : Bits) × Spells text w × (most_written < bit_count w)
+Refuses text NoOne = (w : Bits) × Spells text w × (bit_count w ≤ most_written) × (ones_in w.period ≡ 0)
 Refuses text OutOfMemory = ⊥
 
--- the text's one answer
+-- the text is answered so
 abbrev pub Reads : List ℕ → Result Bits WordError → Type 0
 Reads text (Ok w) = IsReadable text w
 Reads text (Err e) = Refuses text e
+
+-- the answer is the text's one answer, unless memory ran out
+abbrev pub OnlyAnswer : List ℕ → Result Bits WordError → Type 0
+OnlyAnswer text given = (answer : Result Bits WordError) → Reads text answer → (given ≡ Err OutOfMemory) ⊎ (given ≡ answer)

@@ -18,4 +18,4 @@ pub record Parts (text prefix period : List ℕ) : Type 0 where
   pub whole : text ≡ prefix ++ 40 ∷ (period ++ 41 ∷ [])
   pub prefix_digits : AllPass is_digit prefix
   pub period_digits : AllPass is_digit period
-  pub some : 0 < length period
+  pub nonempty : 0 < length period

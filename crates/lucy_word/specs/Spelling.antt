@@ -1,4 +1,5 @@
--- How a word is spelled: the digits of the prefix, then those of the period in parentheses, as `0(01)`.
+-- How a word is spelled: the digits of the prefix, then those of the period in parentheses, as `0(01)` (the
+-- notation u(v) of Cohen and others 2006).
 use Rattle.std.specs.Prelude.{ℕ, ◌+◌, ◌<◌, ◌≤◌, ◌≡◌, Bool, List, [], ◌∷◌, ◌++◌, length, take, map, if◌then◌else◌, ◌==◌, ◌||◌}
 use Rattle.lucy_word.specs.Bits.{Bits}
 
@@ -13,7 +14,7 @@ spelled bits = map (λ bit. if bit then 49 else 48) bits
 -- the text spells the word
 pub record Spells (text : List ℕ) (w : Bits) : Type 0 where
   pub shape : text ≡ spelled w.prefix ++ 40 ∷ (spelled w.period ++ 41 ∷ [])
-  pub some : 0 < length w.period
+  pub nonempty : 0 < length w.period
 
 -- with some rest the bytes spell a word
 abbrev pub BeginsSpelling : List ℕ → Type 0

@@ -15,7 +15,7 @@ pub enum Limit {
     Nodes,
     /// Bits of a written word, as spelled: 4,096.
     Written,
-    /// Bits of any word, prefix and period together: 1,048,576.
+    /// Bits of a word as it is computed, before it is shortened, prefix and period together: 1,048,576.
     Word,
     /// Places of one node: 4,096.
     Places,
@@ -29,7 +29,7 @@ pub enum Limit {
     Positions,
     /// Inequalities of one node: 1,048,576.
     Inequalities,
-    /// Bits of all words of one node's needs, of one node's clocks or of one net: 268,435,456.
+    /// Bits of all words of one node's needs, of one node's clocks or of one net, in shortest form: 268,435,456.
     Bits,
     /// Actors of a net: 16,384.
     Actors,
@@ -39,15 +39,15 @@ pub enum Limit {
     Slots,
     /// Instants of one prefix and one hyperperiod of a schedule: 1,048,576.
     Schedule,
-    /// Ring operations in those instants: 4,194,304.
+    /// Ring operations in the instants of a schedule: 4,194,304.
     Events,
     /// Instants of a run that isn't told how many: 1,048,576.
     Instants,
-    /// Bytes of the input of a run: 67,108,864.
+    /// Bytes of the input of `run` or `kahn`: 67,108,864.
     Input,
     /// Bytes of the input of `order`: 16,384.
     OrderInput,
-    /// Turns of the plain interpreter: 1,024.
+    /// Turns of the plain interpreter, instants times places: 1,024.
     KahnTurns,
     /// Items of one list of the plain interpreter: 65,536.
     KahnItems,

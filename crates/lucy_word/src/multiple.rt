@@ -1,5 +1,5 @@
 // Common divisors and multiples, by which periods are brought together.
-ghost use Rattle.std.specs.Prelude.{◌≡◌, ◌*◌, ◌<◌, ◌≤◌, ◌^◌};
+ghost use Rattle.std.specs.Prelude.{◌*◌, ◌<◌, ◌≤◌, ◌^◌};
 ghost use Rattle.std.specs.Int.{IsGcd};
 ghost use Rattle.lucy_word.specs.Multiple.{IsLcm};
 

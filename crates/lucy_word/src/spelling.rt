@@ -1,5 +1,5 @@
 // Where the parts of a spelled word lie.
-ghost use Rattle.std.specs.Prelude.{◌≡◌, ◌+◌, ◌<◌, ◌≤◌, ◌++◌, ◌∷◌, [], length, map, ◌==◌, take, drop, IfOk, MatchResult, MatchOption};
+ghost use Rattle.std.specs.Prelude.{◌≡◌, ◌++◌, ◌∷◌, map, ◌==◌, IfOk, MatchResult, MatchOption};
 ghost use Rattle.std.specs.List.{prefix_len, AllPass};
 ghost use Rattle.lucy_word.specs.Spelling.{is_digit, IsBadAt};
 ghost use Rattle.lucy_word.specs.Scan.{BeginsWithoutDigit, BeginsOtherwise, Parts};

@@ -1,5 +1,5 @@
-ghost use Rattle.std.specs.Prelude.{◌≡◌, ◌⊎◌, ◌+◌, ◌<◌, ◌≤◌, length, IfOk, IfErr, Result, Ok, Err};
-ghost use Rattle.lucy_word.specs.Bits.{Bits, bit_at, ones_to, ones_in, bit_count};
+ghost use Rattle.std.specs.Prelude.{◌≡◌, ◌⊎◌, ◌+◌, ◌<◌, ◌≤◌, length, IfOk, IfErr};
+ghost use Rattle.lucy_word.specs.Bits.{bit_at, ones_to, ones_in, most_bits};
 
 use crate::{Walk, WordError, spelling};
 use std::alloc::Global;
@@ -14,13 +14,14 @@ pub struct Word {
 }
 
 impl Model for Word {
-    ghost use Rattle.lucy_word.specs.Bits.{Bits, IsWord};
+    ghost use Rattle.std.specs.Prelude.{◌≤◌};
+    ghost use Rattle.lucy_word.specs.Bits.{Bits, IsWord, bit_count, most_bits};
 
     ghost Value = { Bits };
 
     ghost view = { λ w. record { prefix = w.prefix.items; period = w.period.items } };
 
-    ghost invariant = { λ w. IsWord (record { prefix = w.prefix.items; period = w.period.items }) };
+    ghost invariant = { λ w. let bits : Bits = record { prefix = w.prefix.items; period = w.period.items } in IsWord bits × (bit_count bits ≤ most_bits) };
 }
 
 // The bits that a written word may have, as spelled.
@@ -33,18 +34,17 @@ fn count(bits: &[bool]) -> u64
 }
 
 impl Word {
-    ghost use Rattle.lucy_word.specs.declared.error.WordError.{WordError};
-    ghost use Rattle.lucy_word.specs.Reading.{Refuses, IsReadable, Reads};
+    ghost use Rattle.lucy_word.specs.Reading.{Refuses, IsReadable, OnlyAnswer};
 
     /// The word that the text spells, as `0(01)`: the digits of the prefix, which may be empty, then those of the
     /// period in parentheses, and nothing else. It is kept as spelled.
     ///
-    /// The text is looked at first for its form, then for its number of bits, at most 4,096, and then for a one in
-    /// the period.
+    /// `BadWord` comes where the text has another form; else `TooLong` where it has more than 4,096 bits; else `NoOne`
+    /// where its period has no one. `OutOfMemory` says nothing of the text.
     pub fn read(alloc: Global, text: &[u8]) -> Result<Word, WordError>
         ensures ok { IfOk result (IsReadable text.now) }
         ensures refused { IfErr result (λ e. (e ≡ WordError.OutOfMemory) ⊎ Refuses text.now e) }
-        ensures only { (answer : Result Bits WordError) → Reads text.now answer → (result ≡ Err WordError.OutOfMemory) ⊎ (result ≡ answer) }
+        ensures only { OnlyAnswer text.now result }
     {
         let (prefix, period) = match spelling::parts(text) {
             Ok(parts) => parts,
@@ -93,9 +93,9 @@ impl Word {
     pub fn rate(&self) -> (u64, u64)
         ensures ones { result.0 ≡ ones_in self.now.period }
         ensures length { result.1 ≡ length self.now.period }
-        ensures some { 0 < result.0 }
+        ensures has_one { 0 < result.0 }
         ensures within { result.0 ≤ result.1 }
-        ensures short { result.1 ≤ 1048576 }
+        ensures short { result.1 ≤ most_bits }
     {
         (count(&self.period), self.period.len() as u64)
     }
@@ -104,8 +104,8 @@ impl Word {
     pub fn lengths(&self) -> (u64, u64)
         ensures prefix { result.0 ≡ length self.now.prefix }
         ensures period { result.1 ≡ length self.now.period }
-        ensures some { 0 < result.1 }
-        ensures short { result.0 + result.1 ≤ 1048576 }
+        ensures nonempty { 0 < result.1 }
+        ensures short { result.0 + result.1 ≤ most_bits }
     {
         (self.prefix.len() as u64, self.period.len() as u64)
     }

@@ -2,7 +2,8 @@ use Rattle.std.proofs.Common.{◌≡◌, ◌+◌, ◌-◌, ◌*◌, ◌<◌, ◌
 use mir.Val.{bool_byte}
 use Rattle.lucy_word.specs.Bits.{Bits, bit_at, one_if, ones_to, ones_in}
 use Rattle.lucy_word.proofs.BitsLaws.{ones_to-none, ones_to-le}
-use Rattle.lucy_order.specs.Adaptable.{SameRate, IsHorizon}
+use Rattle.lucy_word.specs.Adaptable.{SameRate}
+use Rattle.lucy_order.specs.Horizon.{IsHorizon}
 use Rattle.lucy_order.specs.Verdicts.{IsVerdict}
 use Rattle.lucy_order.specs.declared.verdict.Verdict.TheVariants.{Adaptable, Late}
 use Rattle.lucy_order.proofs.Periods.{Ahead, Walked, walked_none, walked_more, ahead_more, counted, precedes, is_size}
@@ -75,8 +76,8 @@ adaptable c =
     let end : c.horizon-i-end.result ≡ c.loop-i.i = omega arith in
     let P : ℕ → Type 0 = λ n. IsHorizon c.args.a.now c.args.b.now n in
     let h : IsHorizon c.args.a.now c.args.b.now c.loop-i.i = subst P end c.horizon-i-end.ensures.is in
-    let some_a : 0 < length c.args.a.now.period = omega (arith, c.rate-ones_a.ensures.length, c.rate-ones_a.ensures.some, c.rate-ones_a.ensures.within) in
-    let some_b : 0 < length c.args.b.now.period = omega (arith, c.rate-ones_b.ensures.length, c.rate-ones_b.ensures.some, c.rate-ones_b.ensures.within) in
+    let some_a : 0 < length c.args.a.now.period = omega (arith, c.rate-ones_a.ensures.length, c.rate-ones_a.ensures.has_one, c.rate-ones_a.ensures.within) in
+    let some_b : 0 < length c.args.b.now.period = omega (arith, c.rate-ones_b.ensures.length, c.rate-ones_b.ensures.has_one, c.rate-ones_b.ensures.within) in
     ((same, precedes c.args.a.now c.args.b.now _ _ same some_a some_b h c.loop-i.invariant.3), is_size c.args.a.now c.args.b.now _ _ same some_a some_b h c.loop-i.invariant.3)
 
 pub returns-clause-is : goal.returns-clause-is

@@ -8,5 +8,5 @@ returns-then-i-len c = grind (arith, bit_at-prefix, get_or_read)
 
 pub returns-else-i-len : goal.returns-else-i-len
 returns-else-i-len c =
-    let some = period_some _ c.self.invariant in
+    let some = period_some _ c.self.invariant.0 in
     grind (arith, bit_at-period, get_or_read, some)

@@ -7,6 +7,6 @@ returns-then-i-len c = grind (arith, ones_to-prefix)
 
 pub returns : goal.returns
 returns c =
-    let some = period_some _ c.self.invariant in
+    let some = period_some _ c.self.invariant.0 in
     let at = ones_to-at c.args.self.now c.args.i in
     grind (arith, at, some)

@@ -1,7 +1,6 @@
 -- When the items of one clock may feed another, and how many wait at most (Mandel, Plateau and Pouzet 2010).
-use Rattle.std.specs.Prelude.{ℕ, ◌+◌, ◌*◌, ◌<◌, ◌≤◌, ◌≡◌, length, max}
+use Rattle.std.specs.Prelude.{ℕ, ◌+◌, ◌*◌, ◌<◌, ◌≤◌, ◌≡◌, length}
 use Rattle.lucy_word.specs.Bits.{Bits, ones_to, ones_in}
-use Rattle.lucy_word.specs.Multiple.{IsLcm}
 
 -- the periods have the same share of ones
 abbrev pub SameRate : Bits → Bits → Type 0
@@ -24,7 +23,3 @@ pub record IsSize (a b : Bits) (size : ℕ) : Type 0 where
 pub record IsFirstLate (a b : Bits) (at : ℕ) : Type 0 where
   pub late : ones_to a at < ones_to b at
   pub first : (i : ℕ) → i < at → ones_to b i ≤ ones_to a i
-
--- so many instants have the longer prefix and a common period in them
-abbrev pub IsHorizon : Bits → Bits → ℕ → Type 0
-IsHorizon a b n = (common : ℕ) × IsLcm (length a.period) (length b.period) common × (n ≡ max (length a.prefix) (length b.prefix) + common)

@@ -1,0 +1,8 @@
+-- How many instants decide about all of them.
+use Rattle.std.specs.Prelude.{ℕ, ◌+◌, ◌≡◌, length, max}
+use Rattle.lucy_word.specs.Bits.{Bits}
+use Rattle.lucy_word.specs.Multiple.{IsLcm}
+
+-- so many instants have the longer prefix and a common period in them
+abbrev pub IsHorizon : Bits → Bits → ℕ → Type 0
+IsHorizon a b n = (common : ℕ) × IsLcm (length a.period) (length b.period) common × (n ≡ max (length a.prefix) (length b.prefix) + common)
