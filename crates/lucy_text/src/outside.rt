@@ -14,7 +14,8 @@ pub trait Source {
     /// How many reads have failed. A count at the greatest u64 stays there.
     ghost faults: { Self → ℕ };
 
-    /// Whether the source has met its end, which it never leaves.
+    /// Whether the source has met its end, which it never leaves. One in memory has met it once
+    /// nothing is left, one over a reader once a read gave 0.
     ghost ended: { Self → Bool };
 
     /// Puts the next bytes at the front of `into` and gives their number, 0 at the end alone.

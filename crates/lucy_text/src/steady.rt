@@ -51,7 +51,9 @@ pub struct SteadySink {}
 
 impl SteadySink {
     /// A sink. All are alike.
-    pub fn new() -> SteadySink {
+    pub fn new() -> SteadySink
+        ensures { result ≡ record {} }
+    {
         SteadySink {}
     }
 }
