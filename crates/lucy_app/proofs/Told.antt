@@ -45,3 +45,12 @@ input_by_status Words status h is = absurd (omega arith)
 input_by_status Input status h is = refl
 input_by_status ReadFault status h is = absurd (omega arith)
 input_by_status OutOfMemory status h is = absurd (omega arith)
+
+-- the statuses that are left where neither the words nor the input are refused
+pub other_status : (refusal : Refusal) (status : ℕ) → (status ≡ status_of refusal) ⊎ (status ≡ 5) → (refusal ≡ Words → ⊥) → (refusal ≡ Input → ⊥) →
+    (status ≡ 0) ⊎ ((status ≡ 4) ⊎ ((status ≡ 5) ⊎ (status ≡ 7)))
+other_status refusal status (inr fault) no_words no_input = inr (inr (inl fault))
+other_status Words status (inl is) no_words no_input = absurd (no_words refl)
+other_status Input status (inl is) no_words no_input = absurd (no_input refl)
+other_status ReadFault status (inl is) no_words no_input = inr (inl is)
+other_status OutOfMemory status (inl is) no_words no_input = inr (inr (inr is))

@@ -11,4 +11,5 @@ mod output;
 mod refusal;
 mod top;
 
+pub use refusal::Refusal;
 pub use top::lucy;

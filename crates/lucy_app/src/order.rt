@@ -1,5 +1,5 @@
 // The command `order`: the verdict on the two words of the input.
-ghost use Rattle.std.specs.Prelude.{◌≡◌, ◌⊎◌, ◌≤◌, IfOk, IfErr, string_bytes};
+ghost use Rattle.std.specs.Prelude.{◌≡◌, ◌≢◌, IsTrue, ◌⊎◌, ◌≤◌, IfOk, IfErr, string_bytes};
 ghost use Rattle.lucy_word.specs.Bits.{Bits};
 ghost use Rattle.lucy_text.specs.Outside.{Rose};
 ghost use Rattle.lucy_app.specs.Order.{IsPair, IsAnswer, verdict_line};
@@ -45,9 +45,11 @@ fn verdict_on(alloc: Global, text: &[u8]) -> Result<String, Refusal>
 /// The line on all bytes of the source, read to its end or to one byte past the limit.
 pub(crate) fn answer<I: Source>(alloc: Global, input: &mut I) -> Result<String, Refusal>
     ensures ok { IfOk result (λ s. AnswersAll (I.left input.old) (I.left input.new) (string_bytes s)) }
+    ensures ended { IfOk result (λ _. IsTrue (I.ended input.new)) }
     ensures refused { result ≡ Err Input → RefusesAll (I.left input.old) (I.left input.new) }
     ensures words { result ≡ Err Words → ⊥ }
     ensures fault { result ≡ Err ReadFault → Rose (I.faults input.old) (I.faults input.new) }
+    ensures calm { result ≢ Err ReadFault → I.faults input.new ≡ I.faults input.old }
     ensures took { TakesAtMost 16385 (I.left input.old) (I.left input.new) }
     ensures count { I.faults input.old ≤ I.faults input.new }
 {

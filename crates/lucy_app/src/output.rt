@@ -13,6 +13,7 @@ const WRITE_FAULT: u8 = 5;
 pub(crate) fn refuse<E: Sink>(err: &mut E, refusal: Refusal) -> u8
     ensures status { (result ≡ status_of refusal) ⊎ (result ≡ 5) }
     ensures line { result ≢ 5 → E.written err.new ≡ appended (E.written err.old) (line_of refusal) }
+    ensures calm { result ≢ 5 → E.faults err.new ≡ E.faults err.old }
     ensures fault { result ≡ 5 → Rose (E.faults err.old) (E.faults err.new) }
     ensures front { WritesFront (E.written err.old) (E.written err.new) (line_of refusal) }
     ensures count { E.faults err.old ≤ E.faults err.new }
@@ -28,9 +29,11 @@ pub(crate) fn print<O: Sink, E: Sink>(out: &mut O, err: &mut E, answer: &[u8]) -
     ensures status { (result ≡ 0) ⊎ (result ≡ 5) }
     ensures whole { result ≡ 0 → O.written out.new ≡ appended (O.written out.old) answer.now }
     ensures quiet { result ≡ 0 → err.new ≡ err.old }
+    ensures calm { result ≢ 5 → O.faults out.new ≡ O.faults out.old }
     ensures fault { result ≡ 5 → Rose (O.faults out.old) (O.faults out.new) }
     ensures front { WritesFront (O.written out.old) (O.written out.new) answer.now }
     ensures told { WritesFront (E.written err.old) (E.written err.new) write_fault_line }
+    ensures tells { result ≡ 5 → Rose (E.faults err.old) (E.faults err.new) ⊎ (E.written err.new ≡ appended (E.written err.old) write_fault_line) }
     ensures out_count { O.faults out.old ≤ O.faults out.new }
     ensures err_count { E.faults err.old ≤ E.faults err.new }
 {

@@ -9,7 +9,7 @@ use std::alloc::AllocError;
 
 /// Why a command has no answer.
 #[derive(Clone, Copy, Debug, PartialEq, Eq)]
-pub(crate) enum Refusal {
+pub enum Refusal {
     /// The words fit no command.
     Words,
     /// The input is not what the command reads.
@@ -22,7 +22,7 @@ pub(crate) enum Refusal {
 
 impl Refusal {
     /// The status that the program ends with.
-    pub(crate) fn status(self) -> u8
+    pub fn status(self) -> u8
         ensures { result ≡ status_of self }
     {
         match self {
@@ -34,7 +34,7 @@ impl Refusal {
     }
 
     /// The line on the fault sink.
-    pub(crate) fn line(self) -> &'static str
+    pub fn line(self) -> &'static str
         ensures { result.now ≡ line_of self }
     {
         match self {

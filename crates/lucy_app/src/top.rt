@@ -1,10 +1,12 @@
+// The one call that the program makes.
 ghost use Rattle.std.specs.Prelude.{◌≡◌, ◌≢◌, ◌⊎◌, ◌≤◌, ◌↔◌, List, ℕ, Some, IsTrue, map, string_bytes};
-ghost use Rattle.lucy_text.specs.Outside.{appended, Rose};
-ghost use Rattle.lucy_app.specs.Refusals.{status_of, line_of};
+ghost use Rattle.lucy_text.specs.Outside.{appended, Rose, WritesFront};
+ghost use Rattle.lucy_app.specs.Refusals.{status_of, line_of, write_fault_line};
 ghost use Rattle.lucy_app.specs.Words.{NamesOrder};
 ghost use Rattle.lucy_app.specs.Order.{IsRefused};
 ghost use Rattle.lucy_app.specs.Run.{RefusesAll, WritesAnswer, WritesAnswerFront, TellsFront, TakesAtMost};
 ghost use Rattle.lucy_app.specs.declared.refusal.Refusal.{Refusal};
+ghost use Rattle.lucy_app.specs.declared.refusal.Refusal.TheVariants.{Words};
 
 use crate::order;
 use crate::output::{print, refuse};
@@ -25,9 +27,10 @@ fn names_order(words: &[String]) -> bool
 ///
 /// - 0: the answer of the command stands on `out`, and nothing on `err`.
 /// - 2: the words fit no command.
-/// - 3: the input has more than 16,384 bytes, or is not two words.
+/// - 3: the input has more than 16,384 bytes, or is not two words of at most 4,096 bits with a one in the period each.
 /// - 4: a read failed.
-/// - 5: a write to `out` or to `err` failed.
+/// - 5: a write to `out` or to `err` failed. A front of the answer may stand on `out`; where `out` failed, the line
+///   `lucy: write fault` is tried on `err`.
 /// - 7: memory ran out.
 ///
 /// With 2, 3, 4 and 7 the line that says so stands on `err`. The words are looked at first, then the input is read, to
@@ -45,19 +48,25 @@ pub fn lucy<I: Source, O: Sink, E: Sink>(
     ensures words { result ≡ 2 → NamesOrder (map string_bytes words.now) → ⊥ }
     ensures other_words { (NamesOrder (map string_bytes words.now) → ⊥) → (result ≡ 2) ⊎ (result ≡ 5) }
     ensures other_words_source { (NamesOrder (map string_bytes words.now) → ⊥) → input.new ≡ input.old }
+    ensures other_words_err { (NamesOrder (map string_bytes words.now) → ⊥) → WritesFront (E.written err.old) (E.written err.new) (line_of Words) }
     ensures other_words_out { (NamesOrder (map string_bytes words.now) → ⊥) → out.new ≡ out.old }
 
     // With 0 the line of the verdict on all bytes of the source stands on the output.
     ensures done { result ≡ 0 → WritesAnswer (I.left input.old) (I.left input.new) (O.written out.old) (O.written out.new) }
+    ensures ended { result ≡ 0 → IsTrue (I.ended input.new) }
     ensures quiet { result ≡ 0 → err.new ≡ err.old }
 
-    // With 3 the bytes that were taken are refused. Where the source tells its bytes, it is so exactly with refused ones.
+    // With 3 the bytes that were taken are refused. Where the source tells its bytes, 3 comes exactly where they are.
     ensures refused { result ≡ 3 → RefusesAll (I.left input.old) (I.left input.new) }
     ensures refused_only { (bytes : List ℕ) → I.left input.old ≡ Some bytes → result ≡ 3 → IsRefused bytes }
-    ensures refused_always { (bytes : List ℕ) → I.left input.old ≡ Some bytes → IsRefused bytes → result ≢ 0 }
+    ensures refused_always { (bytes : List ℕ) → NamesOrder (map string_bytes words.now) → I.left input.old ≡ Some bytes → IsRefused bytes →
+        (result ≡ 3) ⊎ (result ≡ 4) ⊎ (result ≡ 5) ⊎ (result ≡ 7) }
+    ensures answered_always { (bytes : List ℕ) → NamesOrder (map string_bytes words.now) → I.left input.old ≡ Some bytes → (IsRefused bytes → ⊥) →
+        (result ≡ 0) ⊎ (result ≡ 4) ⊎ (result ≡ 5) ⊎ (result ≡ 7) }
 
     ensures read_fault { result ≡ 4 → Rose (I.faults input.old) (I.faults input.new) }
     ensures write_fault { result ≡ 5 → Rose (O.faults out.old) (O.faults out.new) ⊎ Rose (E.faults err.old) (E.faults err.new) }
+    ensures write_fault_told { result ≡ 5 → Rose (E.faults err.old) (E.faults err.new) ⊎ (E.written err.new ≡ appended (E.written err.old) write_fault_line) }
 
     // What else stands on the sinks.
     ensures not_printed { result ≢ 0 → result ≢ 5 → out.new ≡ out.old }
@@ -65,6 +74,11 @@ pub fn lucy<I: Source, O: Sink, E: Sink>(
     ensures line { (refusal : Refusal) → result ≡ status_of refusal → E.written err.new ≡ appended (E.written err.old) (line_of refusal) }
     ensures line_front { TellsFront (E.written err.old) (E.written err.new) (Rose (O.faults out.old) (O.faults out.new)) }
 
+    // A count stands still unless its fault is answered.
+    ensures source_calm { result ≢ 4 → result ≢ 5 → I.faults input.new ≡ I.faults input.old }
+    ensures out_calm { result ≢ 5 → O.faults out.new ≡ O.faults out.old }
+    ensures err_calm { result ≢ 5 → E.faults err.new ≡ E.faults err.old }
+    // What was taken and counted.
     ensures took { TakesAtMost 16385 (I.left input.old) (I.left input.new) }
     ensures source_count { I.faults input.old ≤ I.faults input.new }
     ensures out_count { O.faults out.old ≤ O.faults out.new }

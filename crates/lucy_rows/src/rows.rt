@@ -43,7 +43,7 @@ fn words(name: &'static str, words: &'static [&'static str]) -> Row {
 }
 
 /// The rows, in the order in which they are run.
-pub fn rows() -> [Row; 37] {
+pub fn rows() -> [Row; 53] {
     [
         order("each item waits one instant", &[("(10) (01)", 1)]),
         order("two of three instants", &[("(110) (101)", 1)]),
@@ -58,6 +58,15 @@ pub fn rows() -> [Row; 37] {
             "the size is reached past both periods",
             &[("(1100) (010011)", 1)],
         ),
+        order(
+            "a size of two digits",
+            &[("(11111111110000000000) (00000000001111111111)", 1)],
+        ),
+        order(
+            "an instant of two digits",
+            &[("11111111110(01) 11111111111(01)", 1)],
+        ),
+        order("half as often", &[("(01) (1)", 1)]),
         order("blanks of every kind", &[("\t(10)\r\n (01) \n", 1)]),
         order(
             "as many bits as a word may have",
@@ -77,7 +86,13 @@ pub fn rows() -> [Row; 37] {
         order("three words", &[("(10) (01) (1)", 1)]),
         order("an unclosed period", &[("(10) (0", 1)]),
         order("a byte that is no digit", &[("(12) (01)", 1)]),
+        order("no blank between the words", &[("(10)(01)", 1)]),
+        order("words without a period", &[("10 01", 1)]),
+        order("an empty period", &[("() (1)", 1)]),
+        order("a form feed is no blank", &[("(10)\x0c(01)", 1)]),
         words("no command", &[]),
+        words("an empty word", &[""]),
+        words("a blank behind the command", &["order "]),
         words("an unknown command", &["orders"]),
         words("a word too many", &["order", "order"]),
         words("a command that is not built yet", &["show", "p"]),
@@ -95,6 +110,30 @@ pub fn rows() -> [Row; 37] {
         Row {
             reads: SECOND_FAILS,
             ..order("the second read fails", &[("(10) (01)", 1)])
+        },
+        Row {
+            reads: Calls {
+                most: 7,
+                fails: &[3],
+            },
+            ..order("the read of the end fails", &[("(10) (01)", 1)])
+        },
+        Row {
+            reads: Calls {
+                most: 7,
+                fails: &[4],
+            },
+            ..order("no read follows the end", &[("(10) (01)", 1)])
+        },
+        Row {
+            reads: Calls {
+                most: 7,
+                fails: &[2342],
+            },
+            ..order(
+                "no read follows the byte past the limit",
+                &[("(10) (01)", 1), (" ", 16376)],
+            )
         },
         Row {
             writes: FIRST_FAILS,
@@ -119,6 +158,24 @@ pub fn rows() -> [Row; 37] {
         Row {
             tells: SECOND_FAILS,
             ..order("a refusal that is told in part", &[("(10)", 1)])
+        },
+        Row {
+            writes: FIRST_FAILS,
+            ..order("a refusal leaves the output alone", &[("(10)", 1)])
+        },
+        Row {
+            reads: FIRST_FAILS,
+            tells: FIRST_FAILS,
+            ..order("a read fault that cannot be told", &[("(10) (01)", 1)])
+        },
+        Row {
+            tells: FIRST_FAILS,
+            ..words("words that cannot be told", &[])
+        },
+        Row {
+            writes: FIRST_FAILS,
+            tells: SECOND_FAILS,
+            ..order("a write fault told in part", &[("(10) (01)", 1)])
         },
         Row {
             writes: FIRST_FAILS,

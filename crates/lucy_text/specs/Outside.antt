@@ -1,5 +1,5 @@
 -- What calls of a source and of a sink do to bytes, where those are told, and when they may fail.
-use Rattle.std.specs.Prelude.{ℕ, ◌+◌, ◌-◌, ◌^◌, ◌≤◌, ◌≡◌, min, List, [], ◌++◌, length, take, Option, Some, None, Result, OnErr}
+use Rattle.std.specs.Prelude.{ℕ, ◌+◌, ◌-◌, ◌^◌, ◌≤◌, ◌≡◌, min, List, [], ◌++◌, length, take, Option, Some, None, Result, OnOk, OnErr}
 
 -- bytes that stand before the rest, where the rest is told
 abbrev pub followed : List ℕ → Option (List ℕ) → Option (List ℕ)
@@ -28,7 +28,8 @@ one_more count = min (count + 1) (2 ^ 64 - 1)
 abbrev pub Rose : (before now : ℕ) → Type 0
 Rose before now = one_more before ≤ now
 
--- the count has not fallen, and has risen where the call failed
+-- the count stands still where the call went well, and has risen where it failed
 pub record HasCause {T E : Type 0} (before now : ℕ) (result : Result T E) : Type 0 where
   pub later : before ≤ now
+  pub kept : OnOk result (now ≡ before)
   pub failed : OnErr result (Rose before now)

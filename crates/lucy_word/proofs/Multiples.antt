@@ -9,7 +9,7 @@ use Rattle.std.specs.Int.{IsGcd}
 use Rattle.lucy_word.specs.Multiple.{IsLcm}
 
 -- two numbers have a greatest common divisor
-gcd_exists : (fuel a b : ℕ) → b < fuel → (g : ℕ) × IsGcd a b g
+pub gcd_exists : (fuel a b : ℕ) → b < fuel → (g : ℕ) × IsGcd a b g
 gcd_exists zero a b h = absurd (omega arith)
 gcd_exists (suc fuel) a b h =
     elim (cases_eq b 0) [

@@ -6,6 +6,8 @@ use Rattle.std.proofs.lemmas.List.{take-append-drop, take-take, length-map}
 use Rattle.lucy_word.specs.Bits.{Bits, ones_in, bit_count}
 use Rattle.lucy_word.specs.Spelling.{spelled, Spells, BeginsSpelling, IsBadAt}
 use Rattle.lucy_word.specs.Scan.{Parts}
+use Rattle.lucy_word.specs.Shortest.{IsShortForm}
+use Rattle.lucy_word.proofs.ShortLaws.{short_form_one}
 use Rattle.lucy_word.specs.Reading.{Refuses, IsReadable, Reads}
 use Rattle.lucy_word.specs.declared.error.WordError.{WordError}
 use Rattle.lucy_word.specs.declared.error.WordError.TheVariants.{BadWord, TooLong, NoOne, OutOfMemory}
@@ -76,13 +78,15 @@ refuses_one text OutOfMemory f h k = absurd h
 refuses_one text e OutOfMemory h k = absurd k
 
 read_or_refused : (text : List ℕ) (w : Bits) (e : WordError) → IsReadable text w → Refuses text e → ⊥
-read_or_refused text w (BadWord place) s r = r.none w s.0
-read_or_refused text w TooLong s r = omega (arith, same_count text r.0 w r.1 s.0, r.2, s.1)
-read_or_refused text w NoOne s r = omega (arith, same_ones text r.0 w r.1 s.0, r.3, s.2)
+read_or_refused text w (BadWord place) s r = r.none s.0 s.1
+read_or_refused text w TooLong s r = omega (arith, same_count text r.0 s.0 r.1 s.1, r.2, s.2)
+read_or_refused text w NoOne s r = omega (arith, same_ones text r.0 s.0 r.1 s.1, r.3, s.3)
 read_or_refused text w OutOfMemory s r = r
 
 pub reads_one : (text : List ℕ) (a b : Result Bits WordError) → Reads text a → Reads text b → a ≡ b
-reads_one text (Ok v) (Ok w) h k = ap (λ u. Ok u) (spells_one text v w h.0 k.0)
+reads_one text (Ok v) (Ok w) h k =
+    let P : Bits → Type 0 = λ u. IsShortForm u v in
+    ap (λ u. Ok u) (short_form_one k.0 v w (subst P (spells_one text h.0 k.0 h.1 k.1) h.4) k.4)
 reads_one text (Ok v) (Err f) h k = absurd (read_or_refused text v f h k)
 reads_one text (Err e) (Ok w) h k = absurd (read_or_refused text w e k h)
 reads_one text (Err e) (Err f) h k = ap (λ u. Err u) (refuses_one text e f h k)
@@ -100,10 +104,12 @@ too_long text D E p h = (record { prefix = bits_of D; period = bits_of E }, part
 pub no_one : (text D E : List ℕ) → Parts text D E → length D + length E ≤ 4096 → ones_in (bits_of E) ≡ 0 → Refuses text NoOne
 no_one text D E p h none = (record { prefix = bits_of D; period = bits_of E }, parts_spell text D E p, omega (arith, parts_count D E), none)
 
-pub readable : (text D E : List ℕ) (u v : List Bool) → Parts text D E → length D + length E ≤ 4096 → u ≡ bits_of D → v ≡ bits_of E → 0 < ones_in v →
-    IsReadable text (record { prefix = u; period = v })
-readable text D E u v p h is_u is_v some = (
+pub readable : (text D E : List ℕ) (u v : List Bool) (w : Bits) → Parts text D E → length D + length E ≤ 4096 → u ≡ bits_of D → v ≡ bits_of E → 0 < ones_in v →
+    IsShortForm (record { prefix = u; period = v }) w → IsReadable text w
+readable text D E u v w p h is_u is_v some form = (
+  record { prefix = u; period = v },
   spells_parts text D E u v p.whole p.prefix_digits p.period_digits p.nonempty is_u is_v,
   omega (arith, parts_count D E, ap length is_u, ap length is_v),
   some,
+  form,
 )

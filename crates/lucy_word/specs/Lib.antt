@@ -4,3 +4,12 @@ pub mod Reading
 pub mod Scan
 pub mod Multiple
 pub mod Adaptable
+pub mod Shortest
+pub mod Turns
+pub mod Making
+pub mod Complement
+pub mod Limits
+pub mod Counting
+pub mod Index
+pub mod Sampling
+pub mod SamplingSteps

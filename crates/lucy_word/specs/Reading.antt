@@ -1,13 +1,14 @@
 -- What a text is read as: a word, or one refusal.
 use Rattle.std.specs.Prelude.{ℕ, ◌⊎◌, ◌<◌, ◌≤◌, ◌≡◌, List, Result, Ok, Err}
 use Rattle.lucy_word.specs.Bits.{Bits, ones_in, bit_count, most_written}
+use Rattle.lucy_word.specs.Shortest.{IsShortForm}
 use Rattle.lucy_word.specs.Spelling.{Spells, IsBadAt}
 use Rattle.lucy_word.specs.declared.error.WordError.{WordError}
 use Rattle.lucy_word.specs.declared.error.WordError.TheVariants.{BadWord, TooLong, NoOne, OutOfMemory}
 
--- the text spells the word, which is no longer than a written word may be and has a one in its period
+-- the text spells bits that are no more than a written word may have, with a one in the period, and w is their shortest form
 abbrev pub IsReadable : List ℕ → Bits → Type 0
-IsReadable text w = Spells text w × (bit_count w ≤ most_written) × (0 < ones_in w.period)
+IsReadable text w = (bits : Bits) × Spells text bits × (bit_count bits ≤ most_written) × (0 < ones_in bits.period) × IsShortForm bits w
 
 -- the text is refused so: for its form, else for its length, else for its period (never for want of memory)
 abbrev pub Refuses : List ℕ → WordError → Type 0

@@ -11,9 +11,13 @@ is_digit byte = byte == 48 || byte == 49
 abbrev pub spelled : List Bool → List ℕ
 spelled bits = map (λ bit. if bit then 49 else 48) bits
 
+-- the text of a word
+abbrev pub text_of : Bits → List ℕ
+text_of w = spelled w.prefix ++ 40 ∷ (spelled w.period ++ 41 ∷ [])
+
 -- the text spells the word
 pub record Spells (text : List ℕ) (w : Bits) : Type 0 where
-  pub shape : text ≡ spelled w.prefix ++ 40 ∷ (spelled w.period ++ 41 ∷ [])
+  pub shape : text ≡ text_of w
   pub nonempty : 0 < length w.period
 
 -- with some rest the bytes spell a word

@@ -20,6 +20,12 @@ pub enum WordError {
     OutOfMemory,
 }
 
+impl From<AllocError> for OutOfMemory {
+    fn from(_: AllocError) -> Self {
+        OutOfMemory
+    }
+}
+
 impl From<AllocError> for WordError {
     ghost use Rattle.lucy_word.specs.declared.error.WordError.TheVariants.{OutOfMemory};
 

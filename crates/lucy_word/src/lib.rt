@@ -1,18 +1,30 @@
 //! Infinite binary words that repeat from some place on, as the clocks of streams are.
 //!
 //! It stands on nothing else. Begin with `Word` in `word.rt` and with `specs/Bits.antt`, which says what the bits of a
-//! word and their counts are; `specs/Spelling.antt` says how a word is spelled.
+//! word and their counts are. Then `specs/Shortest.antt` says which spelling of a word is the shortest, `specs/Sampling.antt`
+//! what `on` gives, and `specs/Spelling.antt` how a word is spelled.
 #![tactic(auto)]
 
+mod counted;
 mod error;
+mod flip;
+mod index;
 mod limit;
 mod multiple;
+mod print;
+mod read;
+mod sampling;
+mod shortest;
 mod spelling;
+#[cfg(test)]
+mod tests;
 mod walk;
 mod word;
 
 pub use error::{OutOfMemory, WordError};
+pub use flip::complement;
 pub use limit::Limit;
 pub use multiple::lcm;
+pub use sampling::on;
 pub use walk::Walk;
 pub use word::Word;

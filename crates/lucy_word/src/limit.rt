@@ -1,3 +1,7 @@
+// The limits that an answer can name.
+ghost use Rattle.std.specs.Prelude.{◌≡◌};
+ghost use Rattle.lucy_word.specs.Limits.{limit_name, limit_number};
+
 /// The limits that an answer can name: what each counts, and the greatest number that is allowed.
 #[derive(Clone, Copy, Debug, PartialEq, Eq)]
 pub enum Limit {
@@ -51,4 +55,72 @@ pub enum Limit {
     KahnTurns,
     /// Items of one list of the plain interpreter: 65,536.
     KahnItems,
+}
+
+impl Limit {
+    /// The name, in ASCII, as it is printed.
+    pub fn name(&self) -> &'static str
+        ensures { result.now ≡ limit_name self.now }
+    {
+        match self {
+            Limit::Text => "Text",
+            Limit::Tokens => "Tokens",
+            Limit::Depth => "Depth",
+            Limit::Name => "Name",
+            Limit::Names => "Names",
+            Limit::Nodes => "Nodes",
+            Limit::Written => "Written",
+            Limit::Word => "Word",
+            Limit::Places => "Places",
+            Limit::Needs => "Needs",
+            Limit::Compare => "Compare",
+            Limit::Rate => "Rate",
+            Limit::Positions => "Positions",
+            Limit::Inequalities => "Inequalities",
+            Limit::Bits => "Bits",
+            Limit::Actors => "Actors",
+            Limit::Rings => "Rings",
+            Limit::Slots => "Slots",
+            Limit::Schedule => "Schedule",
+            Limit::Events => "Events",
+            Limit::Instants => "Instants",
+            Limit::Input => "Input",
+            Limit::OrderInput => "OrderInput",
+            Limit::KahnTurns => "KahnTurns",
+            Limit::KahnItems => "KahnItems",
+        }
+    }
+
+    /// The greatest number that is allowed.
+    pub fn number(&self) -> u64
+        ensures { result ≡ limit_number self.now }
+    {
+        match self {
+            Limit::Text => 1_048_576,
+            Limit::Tokens => 512,
+            Limit::Depth => 512,
+            Limit::Name => 255,
+            Limit::Names => 64,
+            Limit::Nodes => 256,
+            Limit::Written => 4_096,
+            Limit::Word => 1_048_576,
+            Limit::Places => 4_096,
+            Limit::Needs => 32_768,
+            Limit::Compare => 16_777_216,
+            Limit::Rate => 65_536,
+            Limit::Positions => 65_536,
+            Limit::Inequalities => 1_048_576,
+            Limit::Bits => 268_435_456,
+            Limit::Actors => 16_384,
+            Limit::Rings => 32_768,
+            Limit::Slots => 1_048_576,
+            Limit::Schedule => 1_048_576,
+            Limit::Events => 4_194_304,
+            Limit::Instants => 1_048_576,
+            Limit::Input => 67_108_864,
+            Limit::OrderInput => 16_384,
+            Limit::KahnTurns => 1_024,
+            Limit::KahnItems => 65_536,
+        }
+    }
 }

@@ -1,63 +1,84 @@
-ghost use Rattle.std.specs.Prelude.{◌≡◌, ◌⊎◌, ◌+◌, ◌<◌, ◌≤◌, length, IfOk, IfErr};
-ghost use Rattle.lucy_word.specs.Bits.{bit_at, ones_to, ones_in, most_bits};
+ghost use Rattle.std.specs.Prelude.{◌≡◌, ◌⊎◌, ◌↔◌, ◌+◌, ◌<◌, ◌≤◌, length, IsTrue, IfOk, IfErr};
+ghost use Rattle.lucy_word.specs.Bits.{bit_at, ones_to, ones_in, bit_count, most_bits};
+ghost use Rattle.lucy_word.specs.Shortest.{Same, IsShortest, IsShortForm};
 
-use crate::{Walk, WordError, spelling};
-use std::alloc::Global;
+use crate::counted::{Counted, count};
+use crate::shortest::shorten;
+use crate::{OutOfMemory, Walk, WordError};
+use std::alloc::{AllocError, Global};
 use std::marker::Model;
 
 /// An infinite binary word `u(v)`: the prefix u, and then the period v again and again (Cohen and others 2006; Mandel,
-/// Plateau and Pouzet 2010). Its period has a one. Instants count from 1.
+/// Plateau and Pouzet 2010). Its period has a one, and it is in shortest form: of all words with its bits it has the
+/// shortest period, and then the shortest prefix. Instants count from 1.
 #[derive(Drop)]
 pub struct Word {
-    prefix: Vec<bool>,
-    period: Vec<bool>,
+    pub(crate) prefix: Counted,
+    pub(crate) period: Counted,
 }
 
 impl Model for Word {
     ghost use Rattle.std.specs.Prelude.{◌≤◌};
     ghost use Rattle.lucy_word.specs.Bits.{Bits, IsWord, bit_count, most_bits};
+    ghost use Rattle.lucy_word.specs.Shortest.{IsShortest};
 
     ghost Value = { Bits };
 
-    ghost view = { λ w. record { prefix = w.prefix.items; period = w.period.items } };
+    ghost view = { λ w. record { prefix = w.prefix; period = w.period } };
 
-    ghost invariant = { λ w. let bits : Bits = record { prefix = w.prefix.items; period = w.period.items } in IsWord bits × (bit_count bits ≤ most_bits) };
+    ghost invariant = { λ w. let bits : Bits = record { prefix = w.prefix; period = w.period } in
+        IsWord bits × (bit_count bits ≤ most_bits) × IsShortest bits };
 }
 
-// The bits that a written word may have, as spelled.
-const WRITTEN: usize = 4_096;
-
-fn count(bits: &[bool]) -> u64
-    ensures { result ≡ ones_in bits.now }
-{
-    bits.iter().filter(|bit| **bit).count() as u64
-}
+/// The bits that a word may have, as it is computed.
+pub(crate) const MOST_BITS: u64 = 1_048_576;
 
 impl Word {
-    ghost use Rattle.lucy_word.specs.Reading.{Refuses, IsReadable, OnlyAnswer};
+    ghost use Rattle.lucy_word.specs.Making.{Unmakes, IsMade, OnlyMade};
 
-    /// The word that the text spells, as `0(01)`: the digits of the prefix, which may be empty, then those of the
-    /// period in parentheses, and nothing else. It is kept as spelled.
-    ///
-    /// `BadWord` comes where the text has another form; else `TooLong` where it has more than 4,096 bits; else `NoOne`
-    /// where its period has no one. `OutOfMemory` says nothing of the text.
-    pub fn read(alloc: Global, text: &[u8]) -> Result<Word, WordError>
-        ensures ok { IfOk result (IsReadable text.now) }
-        ensures refused { IfErr result (λ e. (e ≡ WordError.OutOfMemory) ⊎ Refuses text.now e) }
-        ensures only { OnlyAnswer text.now result }
+    /// The word with these bits, brought into shortest form.
+    pub(crate) fn shortest(
+        alloc: Global,
+        prefix: Vec<bool>,
+        period: Vec<bool>,
+    ) -> Result<Word, AllocError>
+        requires has_one { 0 < ones_in period.items }
+        requires short { length prefix.items + length period.items ≤ most_bits }
+        ensures { IfOk result (IsShortForm (record { prefix = prefix.items; period = period.items })) }
     {
-        let (prefix, period) = match spelling::parts(text) {
-            Ok(parts) => parts,
-            Err(place) => return Err(WordError::BadWord(place)),
-        };
-        if prefix.len() + period.len() > WRITTEN {
+        let (prefix, period) = shorten(prefix, period);
+        let prefix = Counted::new(alloc, prefix)?;
+        let period = Counted::new(alloc, period)?;
+        Ok(Word { prefix, period })
+    }
+
+    /// The word of a prefix and a period, which isn't empty. `TooLong` comes where they have together more than 1,048,576
+    /// bits as given; else `NoOne` where the period has no one. It never answers `BadWord`.
+    pub fn from_bits(alloc: Global, prefix: &[bool], period: &[bool]) -> Result<Word, WordError>
+        requires { 0 < length period.now }
+        ensures ok { IfOk result (λ w. IsMade (record { prefix = prefix.now; period = period.now }) w) }
+        ensures refused { IfErr result (λ e. (e ≡ WordError.OutOfMemory) ⊎ Unmakes (record { prefix = prefix.now; period = period.now }) e) }
+        ensures only { OnlyMade (record { prefix = prefix.now; period = period.now }) result }
+    {
+        if prefix.len() as u64 > MOST_BITS
+            || period.len() as u64 > MOST_BITS - prefix.len() as u64
+        {
             return Err(WordError::TooLong);
         }
-        let prefix = spelling::bits(alloc, prefix)?;
-        let period = spelling::bits(alloc, period)?;
-        if count(&period) == 0 {
+        if count(period) == 0 {
             return Err(WordError::NoOne);
         }
+        let prefix = prefix.to_vec(alloc)?;
+        let period = period.to_vec(alloc)?;
+        Ok(Word::shortest(alloc, prefix, period)?)
+    }
+
+    /// An equal word.
+    pub fn copy(&self, alloc: Global) -> Result<Word, OutOfMemory>
+        ensures { IfOk result (λ w. w ≡ self.now) }
+    {
+        let prefix = self.prefix.copy(alloc)?;
+        let period = self.period.copy(alloc)?;
         Ok(Word { prefix, period })
     }
 
@@ -68,9 +89,9 @@ impl Word {
     {
         let len = self.prefix.len() as u64;
         if i <= len {
-            self.prefix[(i - 1) as usize]
+            self.prefix.bits()[(i - 1) as usize]
         } else {
-            self.period[((i - len - 1) % self.period.len() as u64) as usize]
+            self.period.bits()[((i - len - 1) % self.period.len() as u64) as usize]
         }
     }
 
@@ -80,12 +101,12 @@ impl Word {
     {
         let len = self.prefix.len() as u64;
         if i <= len {
-            return count(&self.prefix[..i as usize]);
+            return self.prefix.ones(i as usize);
         }
         let past = i - len;
         let turn = self.period.len() as u64;
-        let part = count(&self.period[..(past % turn) as usize]);
-        count(&self.prefix) + past / turn * count(&self.period) + part
+        let part = self.period.ones((past % turn) as usize);
+        self.prefix.total() + past / turn * self.period.total() + part
     }
 
     /// The word's rate as a fraction: the ones of its period, from 1 to the second number, and the period's length in
@@ -97,7 +118,7 @@ impl Word {
         ensures within { result.0 ≤ result.1 }
         ensures short { result.1 ≤ most_bits }
     {
-        (count(&self.period), self.period.len() as u64)
+        (self.period.total(), self.period.len() as u64)
     }
 
     /// The lengths of prefix and period in bits, together at most 1,048,576. The second is at least 1.
@@ -106,14 +127,22 @@ impl Word {
         ensures period { result.1 ≡ length self.now.period }
         ensures nonempty { 0 < result.1 }
         ensures short { result.0 + result.1 ≤ most_bits }
+        ensures shortest { IsShortest self.now }
     {
         (self.prefix.len() as u64, self.period.len() as u64)
+    }
+
+    /// Whether the two have the same bits at every instant.
+    pub fn same(&self, other: &Word) -> bool
+        ensures { IsTrue result ↔ Same self.now other.now }
+    {
+        self.prefix.same(&other.prefix) && self.period.same(&other.period)
     }
 
     /// The word's bits in turn, from instant 1 on.
     pub fn walk(&self) -> Walk<'_>
         ensures { result ≡ self.now }
     {
-        Walk::new(&self.prefix, &self.period)
+        Walk::new(self.prefix.bits(), self.period.bits())
     }
 }

@@ -23,5 +23,5 @@ loop-done-preserved g c =
     record {
       within = fits _ _ _ before.within taken.within;
       written = appended_more _ _ _ _ _ before.written taken.bytes ∙ ap (appended start) (fronts _ _ _);
-      later = omega (arith, before.later, taken.cause.later);
+      kept = taken.cause.kept ∙ before.kept;
     }

@@ -32,15 +32,15 @@ returns-then-count-eq0-clause-refused c = inr (has_no_one c)
 pub returns-then-count-eq0-clause-only : goal.returns-then-count-eq0-clause-only
 returns-then-count-eq0-clause-only c answer reads = inr (reads_one c.args.text.now (Err NoOne) answer (has_no_one c) reads)
 
-is_readable : (c : goal.Else-count-eq0) → IsReadable c.args.text.now (record { prefix = c.in_ok-prefix.prefix.items; period = c.in_ok-period.period.items })
+is_readable : (c : goal.In_ok-shortest) → IsReadable c.args.text.now c.in_ok-shortest.field-0
 is_readable c =
     let some : 0 < ones_in c.in_ok-period.period.items =
     (let n : 0 < c.count.result = grind (arith, nat_tests) in omega (arith, c.count.ensures, ap ones_in c.deref.ensures.value)) in
-    readable c.args.text.now c.in-Ok.parts.0.now c.in-Ok.parts.1.now _ _ c.in-Ok.ensures c.if-prefix-period-gt-WRITTEN.false c.in_ok-prefix.ensures c.in_ok-period.ensures some
+    readable c.args.text.now c.in-Ok.parts.0.now c.in-Ok.parts.1.now _ _ c.in_ok-shortest.field-0 c.in-Ok.ensures c.if-prefix-period-gt-WRITTEN.false
+    c.in_ok-prefix.ensures c.in_ok-period.ensures some c.in_ok-shortest.ensures
 
 pub returns-clause-ok : goal.returns-clause-ok
 returns-clause-ok c = is_readable c
 
 pub returns-clause-only : goal.returns-clause-only
-returns-clause-only c answer reads =
-    inr (reads_one c.args.text.now (Ok (record { prefix = c.in_ok-prefix.prefix.items; period = c.in_ok-period.period.items })) answer (is_readable c) reads)
+returns-clause-only c answer reads = inr (reads_one c.args.text.now (Ok c.in_ok-shortest.field-0) answer (is_readable c) reads)

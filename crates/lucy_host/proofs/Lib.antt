@@ -1,0 +1,4 @@
+pub mod NumberLaws
+pub mod OpLaws
+pub mod HostLaws
+mod Rows

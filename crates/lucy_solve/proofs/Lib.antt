@@ -1,0 +1,11 @@
+mod Places
+mod Chains
+mod Lifts
+mod Passes
+mod Earliest
+mod Circles
+mod Counting
+mod Climbs
+mod Forests
+mod Rounds
+mod Rows

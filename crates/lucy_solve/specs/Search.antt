@@ -1,0 +1,45 @@
+-- The search for the earliest solution: values that no solution goes below, and the parents by which they were lifted.
+use Rattle.std.specs.Prelude.{◌≡◌, ℕ, ◌+◌, ◌-◌, ◌*◌, ◌^◌, ◌<◌, ◌≤◌, ℤ, pos, negsuc, ◌≤ℤ◌, List, length, slice_index, Bool, true, false, cond, sum}
+use Rattle.lucy_solve.specs.declared.diffs.Diff.{Diff}
+use Rattle.lucy_solve.specs.System.{System, diff_at, Solves, value}
+
+-- a constant plus 2^40
+abbrev pub shifted : ℤ → ℕ
+shifted (pos n) = 2 ^ 40 + n
+shifted (negsuc n) = 2 ^ 40 - 1 - n
+
+-- the values meet inequality i
+abbrev pub Holds : List Diff → List ℕ → ℕ → Type 0
+Holds list values i = slice_index values (diff_at list i).left + 2 ^ 40 ≤ slice_index values (diff_at list i).right + shifted (diff_at list i).most
+
+-- inequality i ends at variable v, which stands no higher than i asks for; where it stands just so high, the left variable of i has a lower rank
+pub record IsLift (list : List Diff) (values : List ℕ) (rank : ℕ → ℕ) (v i : ℕ) : Type 0 where
+  pub target : (diff_at list i).right ≡ v
+  pub most : slice_index values v + shifted (diff_at list i).most ≤ slice_index values (diff_at list i).left + 2 ^ 40
+  pub strict : slice_index values v + shifted (diff_at list i).most ≡ slice_index values (diff_at list i).left + 2 ^ 40 → rank (diff_at list i).left < rank v
+
+-- no solution goes below the values; a variable without a parent has value 0, and the others were lifted by theirs
+pub record IsReached (s : System) (values parents : List ℕ) : Type 0 where
+  pub value_count : length values ≡ s.count
+  pub parent_count : length parents ≡ s.count
+  pub lower : (others : List ℤ) → Solves s others → (v : ℕ) → v < s.count → pos (slice_index values v) ≤ℤ value others v
+  pub root : (v : ℕ) → v < s.count → length s.list ≤ slice_index parents v → slice_index values v ≡ 0
+  pub rank : ℕ → ℕ
+  pub top : ℕ
+  pub below : (v : ℕ) → rank v < top
+  pub lifted : (v : ℕ) → v < s.count → slice_index parents v < length s.list → IsLift s.list values rank v (slice_index parents v)
+
+-- each value is at most n times 2^40
+abbrev pub IsWithin : List ℕ → ℕ → Type 0
+IsWithin values n = (v : ℕ) → v < length values → slice_index values v ≤ 2 ^ 40 * n
+
+-- the position that a pass over a list comes to after some others
+abbrev pub position_at : ℕ → Bool → ℕ → ℕ
+position_at len backwards steps = cond backwards (len - 1 - steps) steps
+
+-- a pass has come by some positions: where no value moved, the inequalities there hold; else the sum of the values has risen
+pub record IsPassed (list : List Diff) (backwards : Bool) (before values : List ℕ) (steps : ℕ) (moved : Bool) : Type 0 where
+  pub within : IsWithin values (length list + steps)
+  pub grown : sum before ≤ sum values
+  pub still : moved ≡ false → (values ≡ before) × ((k : ℕ) → k < steps → Holds list values (position_at (length list) backwards k))
+  pub risen : moved ≡ true → sum before < sum values

@@ -1,0 +1,35 @@
+ghost use Rattle.std.specs.Prelude.{◌↔◌, IsTrue};
+ghost use Rattle.lucy_solve.specs.System.{IsNegativeCycle, HasNoSolution};
+
+use crate::Diffs;
+
+// So many positions a cycle may have, which keeps the sum of their constants within 64 bits.
+const MOST_POSITIONS: usize = 1_048_576;
+
+/// Whether the inequalities at these positions follow one another in a circle, by which their constants sum below 0.
+/// A list of more than 1,048,576 positions is not confirmed. No memory is taken.
+pub fn confirm_cycle(diffs: &Diffs, cycle: &[u32]) -> bool
+    ensures exact { IsTrue result ↔ IsNegativeCycle diffs.now.list cycle.now }
+    ensures refutes { IsTrue result → HasNoSolution diffs.now }
+{
+    let list = diffs.list();
+    if cycle.is_empty() || cycle.len() > MOST_POSITIONS {
+        return false;
+    }
+    let Some(first) = list.get(cycle[0] as usize) else {
+        return false;
+    };
+    let mut at = first.left;
+    let mut sum = 0i64;
+    for position in cycle {
+        let Some(diff) = list.get(*position as usize) else {
+            return false;
+        };
+        if diff.left != at {
+            return false;
+        }
+        sum += diff.most;
+        at = diff.right;
+    }
+    at == first.left && sum < 0
+}

@@ -1,0 +1,21 @@
+//! The earliest solution of a system of inequalities `left <= right + most`, or a cycle of them that shows there is none.
+//!
+//! It stands on nothing else. Begin with `solve` in `solver.rt` and with `specs/System.antt`, which says what a solution
+//! is, which one is the earliest, and what a negative cycle is.
+#![tactic(auto)]
+
+mod climb;
+mod confirm;
+mod cycle;
+mod diffs;
+mod error;
+mod pass;
+mod solver;
+
+pub use confirm::confirm_cycle;
+pub use diffs::{Diff, Diffs};
+pub use error::OutOfMemory;
+pub use solver::{Outcome, solve};
+
+#[cfg(test)]
+mod tests;

@@ -1,0 +1,29 @@
+ghost use Rattle.std.specs.Prelude.{◌≡◌, ◌⊎◌, ◌↔◌, length, map, not, IfOk, IfErr};
+ghost use Rattle.lucy_word.specs.Bits.{ones_in};
+ghost use Rattle.lucy_word.specs.Shortest.{IsShortest};
+ghost use Rattle.lucy_word.specs.Complement.{IsComplement};
+
+use crate::{Word, WordError};
+use std::alloc::{AllocError, Global};
+
+fn turned(alloc: Global, bits: &[bool]) -> Result<Vec<bool>, AllocError>
+    ensures { IfOk result (λ v. v.items ≡ map not bits.now) }
+{
+    bits.iter().map(|bit| !*bit).collect(alloc)
+}
+
+/// The word `not a`, with every bit turned. `NoOne` comes where the period of `a` has no zero. It never answers `BadWord`
+/// or `TooLong`.
+pub fn complement(alloc: Global, a: &Word) -> Result<Word, WordError>
+    ensures ok { IfOk result (IsComplement a.now) }
+    ensures shortest { IfOk result IsShortest }
+    ensures zeros { IfOk result (λ w. ones_in a.now.period ≡ length a.now.period → ⊥) }
+    ensures refused { IfErr result (λ e. (e ≡ WordError.OutOfMemory) ⊎ ((e ≡ WordError.NoOne) × (ones_in a.now.period ≡ length a.now.period))) }
+{
+    if a.period.total() == a.period.len() as u64 {
+        return Err(WordError::NoOne);
+    }
+    let prefix = turned(alloc, a.prefix.bits())?;
+    let period = turned(alloc, a.period.bits())?;
+    Ok(Word::shortest(alloc, prefix, period)?)
+}
