@@ -1,3 +1,6 @@
-mod Periods
+mod Agreement
 mod OneVerdict
+mod Periods
+mod RateLaws
 mod Rows
+mod Walks

@@ -1,15 +1,13 @@
 -- One common period decides about all instants.
-use Rattle.std.proofs.Common.{below_more, ℕ, Bool, ◌+◌, ◌-◌, ◌*◌, ◌%◌, ◌/◌, ◌<◌, ◌≤◌, ◌≡◌, max, length, ap, sym, ◌∙◌, inl, inr, arith}
-use Rattle.std.proofs.Math.Nat.{div-add-mod, eq_of_mul-eq-mul_right, div-mul_cancel, mod-lt}
+use Rattle.std.proofs.Common.{below_more, ℕ, ◌+◌, ◌-◌, ◌*◌, ◌%◌, ◌/◌, ◌<◌, ◌≤◌, ◌≡◌, max, length, ap, ◌∙◌, inl, inr, arith}
+use Rattle.std.proofs.Math.Nat.{div-add-mod, le_of_mul-le-mul_right, mul-le-mul_left, div-mul_cancel, mod-lt, pos_of_dvd_of_pos}
 use Rattle.std.proofs.lemmas.Bool.{cases_lt}
-use Rattle.lucy_word.specs.Bits.{Bits, bit_at, one_if, ones_to, ones_in}
-use Rattle.lucy_word.proofs.BitsLaws.{ones_to-turns, ones_to-none, ones_to-more}
+use Rattle.lucy_word.specs.Bits.{Bits, ones_to, ones_in}
+use Rattle.lucy_word.proofs.BitsLaws.{ones_to-none}
+use Rattle.lucy_word.proofs.IndexLaws.{ones_to-periods}
 use Rattle.lucy_word.specs.Adaptable.{SameRate, Precedes, IsSize}
 use Rattle.lucy_order.specs.Horizon.{IsHorizon}
-
--- a walk that has left i bits of the word behind
-abbrev pub Ahead : Bits → Bits → ℕ → Type 0
-Ahead w walk i = (j : ℕ) → 0 < j → bit_at walk j ≡ bit_at w (i + j)
+use Rattle.lucy_order.specs.Rates.{IsNoSlower}
 
 -- what is known once the instants up to n are looked at
 pub record Walked (a b : Bits) (n most : ℕ) : Type 0 where
@@ -37,10 +35,29 @@ walked_more a b n most w h =
       passed = below_more (λ i. ones_to a i ≤ ones_to b i + max most lead) (n + 1) (λ i l. omega (arith, w.passed i l)) (omega arith);
     }
 
--- at every instant the counts are those at one of the first, with the same number added to both
-folded : (a b : Bits) (n : ℕ) → SameRate a b → 0 < length a.period → 0 < length b.period → IsHorizon a b n →
-    (i : ℕ) → (r : ℕ) × (r < n + 1) × (k : ℕ) × (ones_to a i ≡ ones_to a r + k) × (ones_to b i ≡ ones_to b r + k)
-folded a b n same some_a some_b horizon i =
+-- the counts at instant i are those at 0 or one of the first n instants, with numbers added that stand as the rates do
+pub record Folds (a b : Bits) (n i : ℕ) : Type 0 where
+  pub at : ℕ
+  pub within : at < n + 1
+  pub more_a : ℕ
+  pub more_b : ℕ
+  pub of_a : ones_to a i ≡ ones_to a at + more_a
+  pub of_b : ones_to b i ≡ ones_to b at + more_b
+  pub first : IsNoSlower a b → more_b ≤ more_a
+  pub second : IsNoSlower b a → more_a ≤ more_b
+
+-- in q common periods the word that is no slower has at least as many ones
+more_ones : (La Lb oa ob x y q P : ℕ) → 0 < Lb → x * La ≡ P → y * Lb ≡ P → ob * La ≤ oa * Lb → q * y * ob ≤ q * x * oa
+more_ones La Lb oa ob x y q P some by_a by_b rate =
+    let s : x * (ob * La) ≤ x * (oa * Lb) = mul-le-mul_left x rate in
+    let t : ob * (x * La) ≡ ob * P = ap (λ t. ob * t) by_a in
+    let u : ob * (y * Lb) ≡ ob * P = ap (λ t. ob * t) by_b in
+    let v : y * ob * Lb ≤ x * oa * Lb = omega arith in
+    let w : q * (y * ob) ≤ q * (x * oa) = mul-le-mul_left q (le_of_mul-le-mul_right v some) in
+    omega arith
+
+pub folded : (a b : Bits) (n : ℕ) → IsHorizon a b n → (i : ℕ) → Folds a b n i
+folded a b n horizon i =
     let La : ℕ = length a.period in
     let Lb : ℕ = length b.period in
     let oa : ℕ = ones_in a.period in
@@ -51,50 +68,41 @@ folded a b n same some_a some_b horizon i =
     let M : ℕ = max (length a.prefix) (length b.prefix) in
     let by_a : x * La ≡ P = div-mul_cancel La horizon.1.of_left in
     let by_b : y * Lb ≡ P = div-mul_cancel Lb horizon.1.of_right in
-    let P_pos : 0 < P = horizon.1.positive in
-    let rates : x * oa ≡ y * ob = eq_of_mul-eq-mul_right Lb some_b (x * oa) (y * ob)
-    (let s : x * (oa * Lb) ≡ x * (ob * La) = ap (λ t. x * t) same in
-    let t : ob * (x * La) ≡ ob * P = ap (λ t. ob * t) by_a in
-    let u : ob * (y * Lb) ≡ ob * P = ap (λ t. ob * t) by_b in
-    omega arith) in
+    let some_a : 0 < La = pos_of_dvd_of_pos horizon.1.of_left horizon.1.positive in
+    let some_b : 0 < Lb = pos_of_dvd_of_pos horizon.1.of_right horizon.1.positive in
     elim (cases_lt i (n + 1)) [
-      | inl h ↦ (i, h, 0, omega arith, omega arith)
+      | inl h ↦ record { at = i; within = h; more_a = 0; more_b = 0; of_a = omega arith; of_b = omega arith; first = λ rate. omega arith; second = λ rate. omega arith }
       | inr h ↦
           let m : ℕ = i - M in
           let q : ℕ = m / P in
           let r : ℕ = M + m % P in
-          let below : m % P < P = mod-lt m P_pos in
+          let below : m % P < P = mod-lt m horizon.1.positive in
           let parts : P * q + m % P ≡ m = div-add-mod m P in
           let turns_a : q * (x * La) ≡ q * P = ap (λ t. q * t) by_a in
           let turns_b : q * (y * Lb) ≡ q * P = ap (λ t. q * t) by_b in
-          let ia : i ≡ length a.prefix + (r - length a.prefix) + q * x * La = omega (arith, horizon.2) in
-          let ib : i ≡ length b.prefix + (r - length b.prefix) + q * y * Lb = omega (arith, horizon.2) in
-          let ra : ones_to a (length a.prefix + (r - length a.prefix)) ≡ ones_to a r = ap (ones_to a) (omega arith) in
-          let rb : ones_to b (length b.prefix + (r - length b.prefix)) ≡ ones_to b r = ap (ones_to b) (omega arith) in
-          let ka : ones_to a i ≡ ones_to a r + q * x * oa =
-          ap (ones_to a) ia ∙ ones_to-turns a (r - length a.prefix) (q * x) ∙ ap (λ t. t + q * x * oa) ra in
-          let kb : ones_to b i ≡ ones_to b r + q * y * ob =
-          ap (ones_to b) ib ∙ ones_to-turns b (r - length b.prefix) (q * y) ∙ ap (λ t. t + q * y * ob) rb in
-          let both : q * (x * oa) ≡ q * (y * ob) = ap (λ t. q * t) rates in
-          (r, omega (arith, horizon.2), q * x * oa, ka, omega arith)
+          let ia : i ≡ r + q * x * La = omega (arith, horizon.2) in
+          let ib : i ≡ r + q * y * Lb = omega (arith, horizon.2) in
+          record {
+            at = r;
+            within = omega (arith, horizon.2);
+            more_a = q * x * oa;
+            more_b = q * y * ob;
+            of_a = ap (ones_to a) ia ∙ ones_to-periods a r (q * x) (omega arith);
+            of_b = ap (ones_to b) ib ∙ ones_to-periods b r (q * y) (omega arith);
+            first = more_ones La Lb oa ob x y q P some_b by_a by_b;
+            second = more_ones Lb La ob oa y x q P some_a by_b by_a;
+          }
     ]
 
-pub precedes : (a b : Bits) (n most : ℕ) → SameRate a b → 0 < length a.period → 0 < length b.period → IsHorizon a b n → Walked a b n most → Precedes a b
-precedes a b n most same some_a some_b horizon w i =
-    let f = folded a b n same some_a some_b horizon i in
-    omega (arith, w.before f.0 f.1, f.3, f.4)
+pub Precedes-from_walked : (a b : Bits) (n most : ℕ) → IsHorizon a b n → Walked a b n most → IsNoSlower a b → Precedes a b
+Precedes-from_walked a b n most horizon w rate i =
+    let f : Folds a b n i = folded a b n horizon i in
+    omega (arith, w.before f.at f.within, f.of_a, f.of_b, f.first rate)
 
-pub is_size : (a b : Bits) (n most : ℕ) → SameRate a b → 0 < length a.period → 0 < length b.period → IsHorizon a b n → Walked a b n most → IsSize a b most
-is_size a b n most same some_a some_b horizon w = record {
+pub IsSize-from_walked : (a b : Bits) (n most : ℕ) → IsHorizon a b n → Walked a b n most → SameRate a b → IsSize a b most
+IsSize-from_walked a b n most horizon w same = record {
   reached = w.reached;
-  passed = λ i. let f = folded a b n same some_a some_b horizon i in omega (arith, w.passed f.0 f.1, f.3, f.4);
+  passed = λ i.
+      let f : Folds a b n i = folded a b n horizon i in
+      omega (arith, w.passed f.at f.within, f.of_a, f.of_b, f.second (omega arith));
 }
-
--- one instant more of a walk
-pub ahead_more : (w walk on : Bits) (i : ℕ) → Ahead w walk i → ((j : ℕ) → 0 < j → bit_at on j ≡ bit_at walk (j + 1)) → Ahead w on (i + 1)
-ahead_more w walk on i h more j some =
-    more j some ∙ h (j + 1) (omega arith) ∙ ap (bit_at w) (let e : i + (j + 1) ≡ i + 1 + j = omega arith in e)
-
--- the ones of the word with the bit that the walk gives
-pub counted : (w walk : Bits) (i : ℕ) (bit : Bool) → Ahead w walk i → bit ≡ bit_at walk 1 → ones_to w (i + 1) ≡ ones_to w i + one_if bit
-counted w walk i bit h e = ones_to-more w i ∙ ap (λ b. ones_to w i + one_if b) (sym (e ∙ h 1 (omega arith)))

@@ -1,10 +1,12 @@
--- The counts by which small words are adaptable or late.
-use Rattle.std.proofs.Common.{◌≡◌, true, false, [], ◌∷◌, map, refl, ap, lit<, lit≤, arith}
+-- The counts by which small words are adaptable or late, and where small words differ.
+use Rattle.std.proofs.Common.{◌≡◌, ℕ, true, false, [], ◌∷◌, map, refl, ap, sym, ◌∙◌, lit<, lit≤, arith}
 use Rattle.lucy_word.specs.Bits.{Bits, bit_at, ones_to}
 use Rattle.lucy_order.specs.Verdicts.{IsVerdict}
 use Rattle.lucy_order.specs.declared.verdict.Verdict.TheVariants.{Adaptable, Rates, Late}
 use Rattle.lucy_order.specs.Horizon.{IsHorizon}
-use Rattle.lucy_order.proofs.Periods.{Walked, walked_none, walked_more, precedes, is_size}
+use Rattle.lucy_order.specs.Difference.{IsFirstDifference}
+use Rattle.lucy_order.proofs.Agreement.{AgreeTo, agree_none, agree_more, Same-from_agreement}
+use Rattle.lucy_order.proofs.Periods.{Walked, walked_none, walked_more, Precedes-from_walked, IsSize-from_walked}
 use Rattle.std.proofs.Math.Nat.{dvd_refl, le_of_dvd}
 
 -- (10)
@@ -14,6 +16,10 @@ first = record { prefix = []; period = true ∷ false ∷ [] }
 -- (01)
 second : Bits
 second = record { prefix = []; period = false ∷ true ∷ [] }
+
+-- (1010)
+twice : Bits
+twice = record { prefix = []; period = true ∷ false ∷ true ∷ false ∷ [] }
 
 -- (110)
 often : Bits
@@ -54,4 +60,21 @@ unfolding first second ones_to bit_at
 one_waits =
     let one : Walked first second 1 1 = walked_more first second 0 0 (walked_none first second) (lit≤ tt) in
     let two : Walked first second 2 1 = walked_more first second 1 1 one (lit≤ tt) in
-    ((refl, precedes first second 2 1 refl (lit< tt) (lit< tt) common two), is_size first second 2 1 refl (lit< tt) (lit< tt) common two)
+    ((refl, Precedes-from_walked first second 2 1 common two (lit≤ tt)), IsSize-from_walked first second 2 1 common two refl)
+
+-- (10) and (1010) have no difference
+no_difference : (at : ℕ) → IsFirstDifference first twice at → ⊥
+unfolding first twice bit_at
+no_difference at h =
+    let agree : AgreeTo first twice 6 =
+    agree_more first twice 5 (agree_more first twice 4 (agree_more first twice 3 (agree_more first twice 2 (agree_more first twice 1 (agree_more first twice 0 (agree_none first twice) refl) refl) refl) refl) refl) refl in
+    h.differs (Same-from_agreement first twice 6 (lit< tt) (lit< tt) (lit≤ tt) agree at h.instant)
+
+-- (10) and (110) differ at instant 2 first
+differ_at_2 : IsFirstDifference first often 2
+unfolding first often bit_at
+differ_at_2 = record {
+  instant = lit< tt;
+  differs = λ same. absurd (cc);
+  first = λ i some h. let e : i ≡ 1 = omega arith in ap (bit_at first) e ∙ sym (ap (bit_at often) e);
+}

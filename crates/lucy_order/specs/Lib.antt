@@ -1,2 +1,4 @@
+pub mod Difference
 pub mod Horizon
+pub mod Rates
 pub mod Verdicts

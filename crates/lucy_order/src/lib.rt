@@ -1,8 +1,17 @@
-//! Whether the items of one clock may feed another through a buffer, and how many of them wait there at most.
+//! How two clocks stand to each other: whether the items of one may feed the other through a buffer and how many wait there
+//! at most, whether one precedes the other, and where their bits first differ. No call takes memory.
 //!
-//! It stands on `lucy_word`. Begin with `adapt` in `verdict.rt` and with `specs/Adaptable.antt`.
+//! It stands on `lucy_word`. Begin with `adapt` in `verdict.rt` and with `specs/Adaptable.antt` of `lucy_word`.
 #![tactic(auto)]
 
+mod difference;
+mod horizon;
+mod lead;
+mod rate;
 mod verdict;
 
+pub use difference::first_difference;
+pub use horizon::horizon_of;
+pub use lead::precedes;
+pub use rate::same_rate;
 pub use verdict::{Verdict, adapt};
