@@ -1,31 +1,36 @@
 -- The lines on the fault sink, and the statuses that go with them.
-use Rattle.std.specs.Prelude.{ℕ, List, codes}
-use Rattle.lucy_word.specs.declared.error.WordError.{WordError}
-use Rattle.lucy_word.specs.declared.error.WordError.TheVariants as word
-use Rattle.lucy_app.specs.declared.refusal.Refusal.{Refusal}
-use Rattle.lucy_app.specs.declared.refusal.Refusal.TheVariants.{Words, Input, ReadFault, OutOfMemory}
+use Rattle.std.specs.Prelude.{ℕ, List, ◌++◌, codes}
+use Rattle.std.specs.Fmt.{decimal}
+use Rattle.lucy_word.specs.Limits.{limit_name, limit_number}
+use Rattle.lucy_app.specs.declared.refusal.Cause.{Cause}
+use Rattle.lucy_app.specs.declared.refusal.Cause.TheVariants.{Count, BadWord, NoOne, Limit}
 
--- the status of a refusal
-abbrev pub status_of : Refusal → ℕ
-status_of Words = 2
-status_of Input = 3
-status_of ReadFault = 4
-status_of OutOfMemory = 7
+-- the status where the input is refused for this cause
+abbrev pub status_of : Cause → ℕ
+status_of (Count count) = 3
+status_of (BadWord number place) = 3
+status_of (NoOne number) = 3
+status_of (Limit passed) = 6
 
--- the line of a refusal
-abbrev pub line_of : Refusal → List ℕ
-line_of Words = codes "lucy: words\n"
-line_of Input = codes "lucy: input\n"
-line_of ReadFault = codes "lucy: read fault\n"
-line_of OutOfMemory = codes "lucy: out of memory\n"
+-- the line of this cause
+abbrev pub line_of : Cause → List ℕ
+line_of (Count count) = codes "lucy: input: " ++ (decimal count ++ codes " words, 2 wanted\n")
+line_of (BadWord number place) = codes "lucy: input word " ++ (decimal number ++ (codes ": bad at " ++ (decimal place ++ codes "\n")))
+line_of (NoOne number) = codes "lucy: input word " ++ (decimal number ++ codes ": no one in the period\n")
+line_of (Limit passed) = codes "lucy: limit " ++ (limit_name passed ++ (codes " " ++ (decimal (limit_number passed) ++ codes "\n")))
+
+-- the line where the words fit no command
+abbrev pub words_line : List ℕ
+words_line = codes "lucy: words\n"
+
+-- the line where a read failed
+abbrev pub read_fault_line : List ℕ
+read_fault_line = codes "lucy: read fault\n"
 
 -- the line where a write to the output failed
 abbrev pub write_fault_line : List ℕ
 write_fault_line = codes "lucy: write fault\n"
 
--- how the refusal of a word comes out
-abbrev pub from_word : WordError → Refusal
-from_word (word.BadWord place) = Input
-from_word word.TooLong = Input
-from_word word.NoOne = Input
-from_word word.OutOfMemory = OutOfMemory
+-- the line where memory ran out
+abbrev pub memory_line : List ℕ
+memory_line = codes "lucy: out of memory\n"

@@ -11,5 +11,5 @@ mod output;
 mod refusal;
 mod top;
 
-pub use refusal::Refusal;
+pub use refusal::Cause;
 pub use top::lucy;

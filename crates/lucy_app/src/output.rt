@@ -1,26 +1,44 @@
 // What goes out at the end of a run, and the status that tells how it went.
 ghost use Rattle.std.specs.Prelude.{◌≡◌, ◌≢◌, ◌⊎◌, ◌≤◌};
 ghost use Rattle.lucy_text.specs.Outside.{appended, Rose, WritesFront};
-ghost use Rattle.lucy_app.specs.Refusals.{status_of, line_of, write_fault_line};
+ghost use Rattle.lucy_app.specs.Refusals.{status_of, line_of, write_fault_line, memory_line};
 
-use crate::refusal::Refusal;
+use crate::refusal::Cause;
 use lucy_text::{Sink, write_all};
+use std::alloc::Global;
 
 // The status where a write failed.
 const WRITE_FAULT: u8 = 5;
 
-/// Writes the line of a refusal. Its status is the answer, or that of a write fault.
-pub(crate) fn refuse<E: Sink>(err: &mut E, refusal: Refusal) -> u8
-    ensures status { (result ≡ status_of refusal) ⊎ (result ≡ 5) }
-    ensures line { result ≢ 5 → E.written err.new ≡ appended (E.written err.old) (line_of refusal) }
+/// Writes the line of a status. The answer is this status, or that of a write fault.
+pub(crate) fn tell<E: Sink>(err: &mut E, line: &[u8], status: u8) -> u8
+    requires { status ≢ 5 }
+    ensures status { (result ≡ status) ⊎ (result ≡ 5) }
+    ensures line { result ≢ 5 → E.written err.new ≡ appended (E.written err.old) line.now }
     ensures calm { result ≢ 5 → E.faults err.new ≡ E.faults err.old }
     ensures fault { result ≡ 5 → Rose (E.faults err.old) (E.faults err.new) }
-    ensures front { WritesFront (E.written err.old) (E.written err.new) (line_of refusal) }
+    ensures front { WritesFront (E.written err.old) (E.written err.new) line.now }
     ensures count { E.faults err.old ≤ E.faults err.new }
 {
-    match write_all(err, refusal.line().as_bytes()) {
-        Ok(()) => refusal.status(),
+    match write_all(err, line) {
+        Ok(()) => status,
         Err(_) => WRITE_FAULT,
+    }
+}
+
+/// Says why the input is refused or, where there is no memory for that, that it ran out.
+pub(crate) fn refuse<E: Sink>(alloc: Global, err: &mut E, cause: Cause) -> u8
+    ensures status { (result ≡ status_of cause) ⊎ (result ≡ 7) ⊎ (result ≡ 5) }
+    ensures line { result ≡ status_of cause → E.written err.new ≡ appended (E.written err.old) (line_of cause) }
+    ensures memory { result ≡ 7 → E.written err.new ≡ appended (E.written err.old) memory_line }
+    ensures calm { result ≢ 5 → E.faults err.new ≡ E.faults err.old }
+    ensures fault { result ≡ 5 → Rose (E.faults err.old) (E.faults err.new) }
+    ensures front { WritesFront (E.written err.old) (E.written err.new) (line_of cause) ⊎ WritesFront (E.written err.old) (E.written err.new) memory_line }
+    ensures count { E.faults err.old ≤ E.faults err.new }
+{
+    match cause.line(alloc) {
+        Ok(line) => tell(err, line.as_bytes(), cause.status()),
+        Err(_) => tell(err, b"lucy: out of memory\n", 7),
     }
 }
 

@@ -1,48 +1,74 @@
 // Why a command has no answer: each cause with its status, and its line on the fault sink.
-ghost use Rattle.std.specs.Prelude.{◌≡◌, string_bytes};
-ghost use Rattle.lucy_app.specs.Refusals.{status_of, line_of, from_word};
-ghost use Rattle.lucy_app.specs.declared.refusal.Refusal.TheVariants.{OutOfMemory, ReadFault};
+ghost use Rattle.std.specs.Prelude.{◌≡◌, IfOk, string_bytes};
+ghost use Rattle.lucy_app.specs.Refusals.{status_of, line_of};
+ghost use Rattle.lucy_app.specs.declared.refusal.Refusal.TheVariants.{Input, OutOfMemory, ReadFault};
 
 use lucy_text::Failed;
-use lucy_word::WordError;
-use std::alloc::AllocError;
+use lucy_word::Limit;
+use std::alloc::{AllocError, Global};
+
+/// Why the input has no answer.
+#[derive(Clone, Copy, Debug, PartialEq, Eq)]
+pub enum Cause {
+    /// It has so many words, where two are wanted.
+    Count(usize),
+    /// The word with the first number, from 1, is none; the second number is the offset, in bytes from 0, of its first byte
+    /// that doesn't fit, or its length where more bytes are missing.
+    BadWord(u64, u64),
+    /// The word with this number, from 1, has no one in its period.
+    NoOne(u64),
+    /// It passes a limit.
+    Limit(Limit),
+}
 
 /// Why a command has no answer.
 #[derive(Clone, Copy, Debug, PartialEq, Eq)]
-pub enum Refusal {
-    /// The words fit no command.
-    Words,
-    /// The input is not what the command reads.
-    Input,
+pub(crate) enum Refusal {
+    /// The input is refused.
+    Input(Cause),
     /// A read failed.
     ReadFault,
     /// Memory ran out.
     OutOfMemory,
 }
 
-impl Refusal {
+impl Cause {
     /// The status that the program ends with.
     pub fn status(self) -> u8
         ensures { result ≡ status_of self }
     {
         match self {
-            Refusal::Words => 2,
-            Refusal::Input => 3,
-            Refusal::ReadFault => 4,
-            Refusal::OutOfMemory => 7,
+            Cause::Count(_) => 3,
+            Cause::BadWord(_, _) => 3,
+            Cause::NoOne(_) => 3,
+            Cause::Limit(_) => 6,
         }
     }
 
     /// The line on the fault sink.
-    pub fn line(self) -> &'static str
-        ensures { result.now ≡ line_of self }
+    pub fn line(self, alloc: Global) -> Result<String, AllocError>
+        ensures { IfOk result (λ s. string_bytes s ≡ line_of self) }
     {
         match self {
-            Refusal::Words => "lucy: words\n",
-            Refusal::Input => "lucy: input\n",
-            Refusal::ReadFault => "lucy: read fault\n",
-            Refusal::OutOfMemory => "lucy: out of memory\n",
+            Cause::Count(count) => format!(in alloc; "lucy: input: {count} words, 2 wanted\n"),
+            Cause::BadWord(number, place) => {
+                format!(in alloc; "lucy: input word {number}: bad at {place}\n")
+            }
+            Cause::NoOne(number) => {
+                format!(in alloc; "lucy: input word {number}: no one in the period\n")
+            }
+            Cause::Limit(limit) => {
+                format!(in alloc; "lucy: limit {} {}\n", limit.name(), limit.number())
+            }
         }
+    }
+}
+
+impl From<Cause> for Refusal {
+    ghost from_gives = { λ cause e. e ≡ Input cause };
+
+    fn from(cause: Cause) -> Self {
+        Refusal::Input(cause)
     }
 }
 
@@ -59,16 +85,5 @@ impl From<Failed> for Refusal {
 
     fn from(_: Failed) -> Self {
         Refusal::ReadFault
-    }
-}
-
-impl From<WordError> for Refusal {
-    ghost from_gives = { λ w e. e ≡ from_word w };
-
-    fn from(error: WordError) -> Self {
-        match error {
-            WordError::OutOfMemory => Refusal::OutOfMemory,
-            _ => Refusal::Input,
-        }
     }
 }

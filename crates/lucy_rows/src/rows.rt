@@ -43,7 +43,7 @@ fn words(name: &'static str, words: &'static [&'static str]) -> Row {
 }
 
 /// The rows, in the order in which they are run.
-pub fn rows() -> [Row; 53] {
+pub fn rows() -> [Row; 59] {
     [
         order("each item waits one instant", &[("(10) (01)", 1)]),
         order("two of three instants", &[("(110) (101)", 1)]),
@@ -79,7 +79,19 @@ pub fn rows() -> [Row; 53] {
         ),
         order("one byte more", &[("(10) (01)", 1), (" ", 16376)]),
         order("five bytes past that", &[("(10) (01)", 1), (" ", 16381)]),
+        order(
+            "a second word with too many bits",
+            &[("(1) (", 1), ("1", 4097), (")", 1)],
+        ),
+        order(
+            "too many bits, and none of them a one",
+            &[("(", 1), ("0", 4097), (") (1)", 1)],
+        ),
+        order("no words, but too many blanks", &[(" ", 16385)]),
         order("no one in the period", &[("(00) (1)", 1)]),
+        order("no one in the second period", &[("(1) 1(0)", 1)]),
+        order("both words are refused", &[("(0 (00)", 1)]),
+        order("three words that are refused", &[("(0 (00) (", 1)]),
         order("no input", &[]),
         order("blanks alone", &[(" \n", 1)]),
         order("one word", &[("(10)", 1)]),

@@ -6,7 +6,7 @@ mod StepLaws
 mod WalkLaws
 mod Multiples
 mod SpellingLemmas
-mod SpellingLaws
+pub mod SpellingLaws
 mod Repeats
 pub mod ShortLaws
 mod CountedLaws

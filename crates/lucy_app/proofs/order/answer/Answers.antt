@@ -1,6 +1,6 @@
-use Rattle.std.proofs.Common.{ℕ, List, string_bytes, subst, inr, arith}
+use Rattle.std.proofs.Common.{ℕ, List, string_bytes, subst, arith}
 use Rattle.std.proofs.lemmas.Result.{IfOk-weaker}
-use Rattle.lucy_app.specs.Order.{IsAnswer, IsRefused}
+use Rattle.lucy_app.specs.Order.{IsAnswer}
 use Rattle.lucy_app.specs.Run.{AnswersAll}
 use Rattle.lucy_app.proofs.order.answer.Goals as goal
 
@@ -12,8 +12,3 @@ returns-clause-ok g c =
     let P : List ℕ → Type 0 = λ u. IsAnswer u (string_bytes s) in
     (c.in_ok-bytes.bytes.items, c.in_ok-bytes.ensures.bytes, c.in_ok-bytes.ensures.end (omega arith), omega arith, subst P c.deref.ensures.value is))
     c.verdict_on.ensures.ok
-
-pub returns-clause-refused : goal.returns-clause-refused
-returns-clause-refused g c h =
-    let P : List ℕ → Type 0 = λ u. IsRefused u in
-    (c.in_ok-bytes.bytes.items, c.in_ok-bytes.ensures.bytes, subst P c.deref.ensures.value (inr (c.verdict_on.ensures.refused h)), λ short. c.in_ok-bytes.ensures.end (omega arith))

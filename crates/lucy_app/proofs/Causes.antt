@@ -1,0 +1,78 @@
+-- A text is answered, or refused for one cause.
+use Rattle.std.proofs.Common.{ℕ, ◌≡◌, List, [], ◌∷◌, length, Result, Ok, Err, ap, sym, ◌∙◌, subst, inl, inr, arith}
+use Rattle.lucy_word.specs.Bits.{Bits}
+use Rattle.lucy_word.specs.Reading.{IsReadable, Refuses}
+use Rattle.lucy_word.specs.declared.error.WordError.{WordError}
+use Rattle.lucy_word.specs.declared.error.WordError.TheVariants as word
+use Rattle.lucy_word.proofs.SpellingLaws.{reads_one}
+use Rattle.lucy_app.specs.Fields.{fields}
+use Rattle.lucy_app.specs.Order.{IsPair, RefusesWord, RefusesFields, IsRefused}
+use Rattle.lucy_app.specs.declared.refusal.Cause.{Cause}
+use Rattle.lucy_app.specs.declared.refusal.Cause.TheVariants.{Count, BadWord, NoOne, Limit}
+
+-- a field that is refused is no word
+pub readable_is_not_refused : (number : ℕ) (text : List ℕ) (a : Bits) (cause : Cause) → IsReadable text a → RefusesWord number text cause → ⊥
+readable_is_not_refused number text a (Count count) is not = not
+readable_is_not_refused number text a (BadWord which place) is not = let same = reads_one text (Ok a) (Err (word.BadWord place)) is not.1 in cc
+readable_is_not_refused number text a (NoOne which) is not = let same = reads_one text (Ok a) (Err word.NoOne) is not.1 in cc
+readable_is_not_refused number text a (Limit passed) is not = let same = reads_one text (Ok a) (Err word.TooLong) is not.1 in cc
+
+one_error : (text : List ℕ) (e f : WordError) → Refuses text e → Refuses text f → e ≡ f
+one_error text e f is other = let same : ◌≡◌ {A = Result Bits WordError} (Err e) (Err f) = reads_one text (Err e) (Err f) is other in cc
+
+-- a field is refused for one cause
+pub one_cause_of_a_word : (number : ℕ) (text : List ℕ) (c d : Cause) → RefusesWord number text c → RefusesWord number text d → c ≡ d
+one_cause_of_a_word number text (Count count) d is other = absurd is
+one_cause_of_a_word number text c (Count count) is other = absurd other
+one_cause_of_a_word number text (BadWord n p) (BadWord m q) is other = let same : (word.BadWord p) ≡ (word.BadWord q) = one_error text (word.BadWord p) (word.BadWord q) is.1 other.1 in cc
+one_cause_of_a_word number text (BadWord n p) (NoOne m) is other = let same : (word.BadWord p) ≡ word.NoOne = one_error text (word.BadWord p) word.NoOne is.1 other.1 in cc
+one_cause_of_a_word number text (BadWord n p) (Limit m) is other = let same : (word.BadWord p) ≡ word.TooLong = one_error text (word.BadWord p) word.TooLong is.1 other.1 in cc
+one_cause_of_a_word number text (NoOne n) (BadWord m q) is other = let same : word.NoOne ≡ (word.BadWord q) = one_error text word.NoOne (word.BadWord q) is.1 other.1 in cc
+one_cause_of_a_word number text (NoOne n) (NoOne m) is other = cc
+one_cause_of_a_word number text (NoOne n) (Limit m) is other = let same : word.NoOne ≡ word.TooLong = one_error text word.NoOne word.TooLong is.1 other.1 in cc
+one_cause_of_a_word number text (Limit n) (BadWord m q) is other = let same : word.TooLong ≡ (word.BadWord q) = one_error text word.TooLong (word.BadWord q) is.1 other.1 in cc
+one_cause_of_a_word number text (Limit n) (NoOne m) is other = let same : word.TooLong ≡ word.NoOne = one_error text word.TooLong word.NoOne is.1 other.1 in cc
+one_cause_of_a_word number text (Limit n) (Limit m) is other = cc
+
+same_first : (texts : List (List ℕ)) (u v x y : List ℕ) → texts ≡ u ∷ v ∷ [] → texts ≡ x ∷ y ∷ [] → u ≡ x
+same_first texts u v x y h k = cc
+
+same_second : (texts : List (List ℕ)) (u v x y : List ℕ) → texts ≡ u ∷ v ∷ [] → texts ≡ x ∷ y ∷ [] → v ≡ y
+same_second texts u v x y h k = cc
+
+-- fields are refused for one cause
+one_cause_of_fields : (texts : List (List ℕ)) (c d : Cause) → RefusesFields texts c → RefusesFields texts d → c ≡ d
+one_cause_of_fields texts c d (inl h) (inl k) = h.1 ∙ sym k.1
+one_cause_of_fields texts c d (inl h) (inr (inl k)) = absurd (h.0 (ap length k.2))
+one_cause_of_fields texts c d (inl h) (inr (inr k)) = absurd (h.0 (ap length k.3))
+one_cause_of_fields texts c d (inr (inl h)) (inl k) = absurd (k.0 (ap length h.2))
+one_cause_of_fields texts c d (inr (inl h)) (inr (inl k)) =
+    let P : List ℕ → Type 0 = λ u. RefusesWord 1 u d in
+    one_cause_of_a_word 1 h.0 c d h.3 (subst P (same_first texts _ _ _ _ k.2 h.2) k.3)
+one_cause_of_fields texts c d (inr (inl h)) (inr (inr k)) =
+    let P : List ℕ → Type 0 = λ u. IsReadable u k.2 in
+    absurd (readable_is_not_refused 1 h.0 k.2 c (subst P (same_first texts _ _ _ _ k.3 h.2) k.4) h.3)
+one_cause_of_fields texts c d (inr (inr h)) (inl k) = absurd (k.0 (ap length h.3))
+one_cause_of_fields texts c d (inr (inr h)) (inr (inl k)) =
+    let P : List ℕ → Type 0 = λ u. IsReadable u h.2 in
+    absurd (readable_is_not_refused 1 k.0 h.2 d (subst P (same_first texts _ _ _ _ h.3 k.2) h.4) k.3)
+one_cause_of_fields texts c d (inr (inr h)) (inr (inr k)) =
+    let P : List ℕ → Type 0 = λ u. RefusesWord 2 u d in
+    one_cause_of_a_word 2 h.1 c d h.5 (subst P (same_second texts _ _ _ _ k.3 h.3) k.5)
+
+-- a text is refused for one cause
+pub one_cause : (text : List ℕ) (c d : Cause) → IsRefused text c → IsRefused text d → c ≡ d
+one_cause text c d (inl h) (inl k) = h.1 ∙ sym k.1
+one_cause text c d (inl h) (inr k) = absurd (omega (arith, h.0, k.0))
+one_cause text c d (inr h) (inl k) = absurd (omega (arith, h.0, k.0))
+one_cause text c d (inr h) (inr k) = one_cause_of_fields (fields text) c d h.1 k.1
+
+-- the fields of a text that is two words are not refused
+pub pair_is_not_refused : (text : List ℕ) (a b : Bits) (cause : Cause) → IsPair text a b → RefusesFields (fields text) cause → ⊥
+pair_is_not_refused text a b cause pair (inl h) = h.0 (ap length pair.2)
+pair_is_not_refused text a b cause pair (inr (inl h)) =
+    let P : List ℕ → Type 0 = λ u. IsReadable u a in
+    readable_is_not_refused 1 h.0 a cause (subst P (same_first (fields text) _ _ _ _ pair.2 h.2) pair.3) h.3
+pair_is_not_refused text a b cause pair (inr (inr h)) =
+    let P : List ℕ → Type 0 = λ u. IsReadable u b in
+    readable_is_not_refused 2 h.1 b cause (subst P (same_second (fields text) _ _ _ _ pair.2 h.3) pair.4) h.5
