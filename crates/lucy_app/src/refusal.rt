@@ -1,7 +1,7 @@
 // Why a command has no answer: each cause with its status, and its line on the fault sink.
 ghost use Rattle.std.specs.Prelude.{◌≡◌, IfOk, string_bytes};
 ghost use Rattle.lucy_app.specs.Refusals.{status_of, line_of};
-ghost use Rattle.lucy_app.specs.declared.refusal.Refusal.TheVariants.{Input, OutOfMemory, ReadFault};
+ghost use Rattle.lucy_app.specs.declared.refusal.Refusal.TheVariants.{OutOfMemory, ReadFault};
 
 use lucy_text::Failed;
 use lucy_word::Limit;
@@ -12,8 +12,8 @@ use std::alloc::{AllocError, Global};
 pub enum Cause {
     /// It has so many words, where two are wanted.
     Count(usize),
-    /// The word with the first number, from 1, is none; the second number is the offset, in bytes from 0, of its first byte
-    /// that doesn't fit, or its length where more bytes are missing.
+    /// The field with the first number, from 1, spells no word. The second number is the offset within the field, in bytes
+    /// from 0, of its first byte that doesn't fit, or the field's length where more bytes are missing.
     BadWord(u64, u64),
     /// The word with this number, from 1, has no one in its period.
     NoOne(u64),
@@ -61,14 +61,6 @@ impl Cause {
                 format!(in alloc; "lucy: limit {} {}\n", limit.name(), limit.number())
             }
         }
-    }
-}
-
-impl From<Cause> for Refusal {
-    ghost from_gives = { λ cause e. e ≡ Input cause };
-
-    fn from(cause: Cause) -> Self {
-        Refusal::Input(cause)
     }
 }
 

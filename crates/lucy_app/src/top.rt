@@ -24,17 +24,18 @@ fn names_order(words: &[String]) -> bool
 
 /// All that the program does with the words after its name. The answer is the status that it ends with:
 ///
-/// - 0: the answer of the command stands on `out`, and nothing on `err`.
+/// - 0: the answer of the command stands on `out`, and nothing more on `err`.
 /// - 2: the words fit no command.
-/// - 3: the input is not two words with a one in the period each.
+/// - 3: the input is not two words, or the first of them that is refused is badly spelled or has no one in its period.
 /// - 4: a read failed.
 /// - 5: a write to `out` or to `err` failed. A front of the answer may stand on `out`; where `out` failed, the line
-///   `lucy: write fault` is tried on `err`.
-/// - 6: the input has more than 16,384 bytes, or one of its words more than 4,096 bits.
+///   `lucy: write fault` is tried on `err`. A front of a line may stand on `err`.
+/// - 6: the input has more than 16,384 bytes, or the first of its two words that is refused has more than 4,096 bits.
 /// - 7: memory ran out.
 ///
 /// With 2, 3, 4, 6 and 7 the line that says so stands on `err`. The words are looked at first, then the input is read, to
-/// its end or to one byte past its limit, and then judged: its length, the count of its words, and the words in turn.
+/// its end or to one byte past its limit, and then judged: its length, the count of its words, and the words in turn, each
+/// by its spelling, its number of bits and its period.
 pub fn lucy<I: Source, O: Sink, E: Sink>(
     alloc: Global,
     words: &[String],

@@ -43,7 +43,7 @@ fn words(name: &'static str, words: &'static [&'static str]) -> Row {
 }
 
 /// The rows, in the order in which they are run.
-pub fn rows() -> [Row; 59] {
+pub fn rows() -> [Row; 63] {
     [
         order("each item waits one instant", &[("(10) (01)", 1)]),
         order("two of three instants", &[("(110) (101)", 1)]),
@@ -92,6 +92,22 @@ pub fn rows() -> [Row; 59] {
         order("no one in the second period", &[("(1) 1(0)", 1)]),
         order("both words are refused", &[("(0 (00)", 1)]),
         order("three words that are refused", &[("(0 (00) (", 1)]),
+        order(
+            "no one in the first, too many bits in the second",
+            &[("(00) (", 1), ("1", 4097), (")", 1)],
+        ),
+        order(
+            "too many bits in the first, an unclosed second",
+            &[("(", 1), ("1", 4097), (") (0", 1)],
+        ),
+        order(
+            "three words, and too many bits in the first",
+            &[("(", 1), ("1", 4097), (") (1) (1)", 1)],
+        ),
+        order(
+            "a bad first byte, and too many digits",
+            &[("2", 1), ("1", 4097), (" (1)", 1)],
+        ),
         order("no input", &[]),
         order("blanks alone", &[(" \n", 1)]),
         order("one word", &[("(10)", 1)]),

@@ -1,3 +1,6 @@
 pub mod Outside
 pub mod Memory
 pub mod Real
+pub mod Shelf
+pub mod MemoryShelf
+pub mod RealShelf

@@ -1,5 +1,7 @@
 use super::*;
+use std::alloc::{AllocError, Global};
 use std::collections::VecDeque;
+use std::fs;
 use std::io::{self, ErrorKind, Read, Write};
 use std::process::Abort;
 use std::test::Fail;
@@ -104,5 +106,67 @@ fn a_real_sink_fails_where_nothing_is_taken(rt: HostRuntime) -> Result<(), Fail>
     let mut taken = VecDeque::new(rt.alloc());
     assert_eq!(rt; write_all(&mut RealSink::new(&mut taken), b"abc"), Ok(()));
     assert_eq!(rt; &*taken.make_contiguous(), b"abc".as_slice());
+    Ok(())
+}
+
+/// Fetches the named file with the limit, once for each row, and compares the answer.
+fn fetches<S: Shelf>(
+    rt: &(impl Abort + AllocGlobal),
+    shelf: &mut S,
+    rows: &[(&str, u64, Result<&str, ShelfError>)],
+) {
+    for (i, (name, limit, answer)) in rows.iter().enumerate() {
+        let got = shelf.fetch(rt.alloc(), name, *limit);
+        let got = got.as_ref().map(|bytes| bytes.as_slice());
+        assert_eq!(rt;
+            got.map_err(|e| *e),
+            answer.map(|text| text.as_bytes()),
+            "fetch {i}"
+        );
+    }
+}
+
+/// Three files, of which two have one name.
+fn files(alloc: Global) -> Result<Vec<(String, Vec<u8>)>, AllocError> {
+    let mut files = Vec::new(alloc);
+    for (name, bytes) in [("a", "one"), ("b", ""), ("a", "another")] {
+        files.push((
+            String::from_str(alloc, name)?,
+            bytes.as_bytes().to_vec(alloc)?,
+        ))?;
+    }
+    Ok(files)
+}
+
+#[test]
+fn memory_holds_the_first_file_of_a_name(rt: HostRuntime) -> Result<(), Fail> {
+    let alloc = rt.alloc();
+    let held = [
+        ("a", 3, Ok("one")),
+        ("a", 2, Err(ShelfError::TooLong)),
+        ("b", 0, Ok("")),
+        ("c", 9, Err(ShelfError::Missing)),
+    ];
+    let mut steady = SteadyShelf::new(files(alloc)?);
+    fetches(&rt, &mut steady, &held);
+    let mut shelf = MemShelf::new(files(alloc)?, [4u64, 5].to_vec(alloc)?);
+    fetches(&rt, &mut shelf, &held);
+    let later = [("a", 2, Err(ShelfError::Failed)), ("a", 9, Ok("one"))];
+    fetches(&rt, &mut shelf, &later);
+    assert_eq!(rt; Text::new(alloc, b"a")?.bytes(), b"a".as_slice());
+    Ok(())
+}
+
+#[test]
+fn a_real_shelf_reads_files(rt: HostRuntime) -> Result<(), Fail> {
+    let path = "lucy_text_shelf_test";
+    fs::write(&rt, path, "one")?;
+    let rows = [
+        (path, 3, Ok("one")),
+        (path, 2, Err(ShelfError::TooLong)),
+        ("lucy_text_no_file", 9, Err(ShelfError::Failed)),
+    ];
+    fetches(&rt, &mut RealShelf::new(&rt), &rows);
+    fs::remove_file(&rt, path)?;
     Ok(())
 }

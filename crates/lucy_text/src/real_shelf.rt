@@ -1,0 +1,72 @@
+ghost use Rattle.std.specs.Prelude.{◌≡◌, ◌<◌, ◌≤◌, None, length, IfOk, IfSome, MatchOption};
+ghost use Rattle.lucy_text.specs.RealShelf.{fetch_faults};
+
+use crate::{Shelf, ShelfError};
+use std::alloc::Global;
+use std::fs::{File, Files};
+use std::io::{self, ErrorKind, Read};
+
+/// The files of the file system, by their paths. It tells no files.
+#[derive(Drop)]
+pub struct RealShelf<'a, R> {
+    system: &'a R,
+    faults: u64,
+}
+
+impl<'a, R: Files> RealShelf<'a, R> {
+    /// A shelf from which nothing was fetched yet.
+    pub fn new(system: &'a R) -> RealShelf<'a, R>
+        ensures { fetch_faults result ≡ 0 }
+    {
+        RealShelf { system, faults: 0 }
+    }
+}
+
+// All bytes that the reader gives, or nothing where there are more than the limit.
+fn read_within<R: Read + Drop>(reader: R, alloc: Global, limit: u64) -> io::Result<Option<Vec<u8>>>
+    ensures within { IfOk result (λ read. IfSome read (λ bytes. length bytes.items ≤ limit)) }
+    ensures all { IfOk result (λ read. IfSome (R.remaining reader) (λ left.
+        MatchOption read (limit < length left) (λ bytes. bytes.items ≡ left))) }
+{
+    let mut bytes = Vec::new(alloc);
+    reader
+        .take(limit.saturating_add(1))
+        .read_to_end(&mut bytes)?;
+    if bytes.len() as u64 > limit {
+        return Ok(None);
+    }
+    Ok(Some(bytes))
+}
+
+fn read_file<R: Files>(
+    files: &R,
+    alloc: Global,
+    name: &str,
+    limit: u64,
+) -> io::Result<Option<Vec<u8>>>
+    ensures { IfOk result (λ read. IfSome read (λ bytes. length bytes.items ≤ limit)) }
+{
+    read_within(File::open(files, name)?, alloc, limit)
+}
+
+impl<'a, R: Files> Shelf for RealShelf<'a, R> {
+    ghost use Rattle.lucy_text.specs.RealShelf.{fetch_faults};
+
+    ghost files = { λ _. None };
+
+    ghost faults = { fetch_faults };
+
+    /// The bytes of the file at the path. Any error of the file system is a fault, also that there
+    /// is no such file.
+    fn fetch(&mut self, alloc: Global, name: &str, limit: u64) -> Result<Vec<u8>, ShelfError> {
+        match read_file(self.system, alloc, name, limit) {
+            Ok(Some(bytes)) => Ok(bytes),
+            Ok(None) => Err(ShelfError::TooLong),
+            Err(error) if error.kind() == ErrorKind::OutOfMemory => Err(ShelfError::OutOfMemory),
+            Err(_) => {
+                self.faults = self.faults.saturating_add(1);
+                Err(ShelfError::Failed)
+            }
+        }
+    }
+}

@@ -1,0 +1,50 @@
+ghost use Rattle.std.specs.Prelude.{◌≡◌, ◌≢◌, ◌≤◌, ◌↔◌, ℕ, Option, length, IfSome, IfOk};
+ghost use Rattle.lucy_text.specs.Shelf.{Files, IsHeld, Lacks, IsLonger, IsCut, CountsFaults};
+
+use std::alloc::{AllocError, Global};
+
+/// Why a shelf gave no file.
+#[derive(Clone, Copy, Debug, PartialEq, Eq)]
+pub enum ShelfError {
+    /// The fetch failed, and the shelf counted a fault. A shelf that doesn't tell its files answers
+    /// so where it finds no file of the name too.
+    Failed,
+    /// The shelf tells its files, and none has the name. That is no fault.
+    Missing,
+    /// The file has more bytes than the limit.
+    TooLong,
+    /// Memory ran out, which says nothing of the file.
+    OutOfMemory,
+}
+
+impl From<AllocError> for ShelfError {
+    ghost use Rattle.lucy_text.specs.declared.shelf.ShelfError.TheVariants.{OutOfMemory};
+
+    ghost from_gives = { λ _ e. e ≡ OutOfMemory };
+
+    fn from(_: AllocError) -> Self {
+        ShelfError::OutOfMemory
+    }
+}
+
+/// Where files are kept by their names.
+pub trait Shelf {
+    /// The bytes of the file of each name, where the shelf tells its files.
+    ghost files: { Self → Option Files };
+
+    /// How many fetches have failed. A count at the greatest u64 stays there.
+    ghost faults: { Self → ℕ };
+
+    /// All bytes of the file of the name, of which there are at most `limit`. A shelf that doesn't
+    /// tell its files has taken `limit` + 1 bytes where it answers `TooLong`.
+    fn fetch(&mut self, alloc: Global, name: &str, limit: u64) -> Result<Vec<u8>, ShelfError>
+        ensures files { files self.new ≡ files self.old }
+        ensures ok { IfOk result (λ bytes. IsHeld (files self.old) name.now bytes.items) }
+        ensures within { IfOk result (λ bytes. length bytes.items ≤ limit) }
+        ensures missing { (result ≡ Err ShelfError.Missing)
+            ↔ (Lacks (files self.old) name.now × (result ≢ Err ShelfError.OutOfMemory)) }
+        ensures too_long { IfSome (files self.old) (λ held. (result ≡ Err ShelfError.TooLong)
+            ↔ (IsLonger (held name.now) limit × ¬ IsCut result)) }
+        ensures never_falls { faults self.old ≤ faults self.new }
+        ensures cause { CountsFaults (faults self.old) (faults self.new) result };
+}
