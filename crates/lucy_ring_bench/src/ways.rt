@@ -13,7 +13,7 @@ pub enum Way {
 }
 
 impl Way {
-    pub fn read(word: &str) -> Option<Way> {
+    pub(crate) fn read(word: &str) -> Option<Way> {
         match word {
             "alone" => Some(Way::Alone),
             "meet" => Some(Way::Meet),
@@ -27,7 +27,7 @@ impl Way {
 const BLOCK: u32 = 64;
 
 /// Sends the numbers from 0 to below `count` through the ring, and gives the sum of what came out.
-pub fn send<R: Threads + Wait + Sync>(
+pub(crate) fn send<R: Threads + Wait + Sync>(
     rt: &R,
     way: Way,
     giver: Giver,

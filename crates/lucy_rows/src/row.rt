@@ -48,7 +48,7 @@ fn sink(alloc: Global, room: usize, calls: Calls) -> Result<MemSink, AllocError>
 
 impl Row {
     /// The streams before the run.
-    pub fn streams(&self, alloc: Global) -> Result<Streams, AllocError> {
+    pub(crate) fn streams(&self, alloc: Global) -> Result<Streams, AllocError> {
         let bytes = bytes_of(alloc, self.input)?;
         let reads = self.reads;
         Ok(Streams {
@@ -59,7 +59,7 @@ impl Row {
     }
 
     /// Runs the program on the row's words, and gives its status.
-    pub fn run(&self, alloc: Global, streams: &mut Streams) -> Result<u8, AllocError> {
+    pub(crate) fn run(&self, alloc: Global, streams: &mut Streams) -> Result<u8, AllocError> {
         let mut words = Vec::new(alloc);
         for word in self.words {
             words.push(String::from_str(alloc, word)?)?;

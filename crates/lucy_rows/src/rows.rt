@@ -43,7 +43,7 @@ fn words(name: &'static str, words: &'static [&'static str]) -> Row {
 }
 
 /// The rows, in the order in which they are run.
-pub fn rows() -> [Row; 63] {
+pub(crate) fn rows() -> [Row; 63] {
     [
         order("each item waits one instant", &[("(10) (01)", 1)]),
         order("two of three instants", &[("(110) (101)", 1)]),
