@@ -33,7 +33,11 @@ impl Model for Counted {
 pub(crate) fn count(bits: &[bool]) -> u64
     ensures { result ≡ ones_in bits.now }
 {
-    bits.iter().filter(|bit| **bit).count() as u64
+    let mut ones = 0u64;
+    for i in 0..bits.len() {
+        ones += u64::from(bits[i]);
+    }
+    ones
 }
 
 // How many of the counts, which do not fall, are less than the number.

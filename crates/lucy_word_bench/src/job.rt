@@ -30,8 +30,8 @@ impl Kind {
 #[derive(Clone, Copy)]
 pub(crate) struct Line {
     kind: Kind,
-    len: u32,
-    turn: u32,
+    pub(crate) len: u32,
+    pub(crate) turn: u32,
     pub(crate) rounds: u32,
 }
 
@@ -81,29 +81,27 @@ fn word(alloc: Global, period: &[bool]) -> Result<Word, WordError> {
     Word::from_bits(alloc, &[], period)
 }
 
+fn scattered_word(alloc: Global, len: u32, turn: u32) -> Result<Word, WordError>
+    requires { 0 < turn }
+{
+    word(alloc, &scattered(alloc, len, turn)?)
+}
+
 impl Job {
-    pub(crate) fn new(alloc: Global, line: &Line) -> Result<Job, WordError>
-        requires { 0 < line.now.len × 0 < line.now.turn }
+    pub(crate) fn new(alloc: Global, line: Line) -> Result<Job, WordError>
+        requires { 0 < line.len × 0 < line.turn }
     {
-        let Line {
-            kind,
-            len,
-            turn,
-            ..
-        } = *line;
-        if let Kind::Sparse = kind {
-            return Ok(Job::Shortest(sparse(alloc, len, turn)?));
-        }
-        if let Kind::On = kind {
-            let kept = word(alloc, &scattered(alloc, len, len)?)?;
-            let read = word(alloc, &scattered(alloc, turn, turn)?)?;
-            return Ok(Job::On(kept, read));
-        }
-        let bits = scattered(alloc, len, turn)?;
-        match kind {
-            Kind::Ones => Ok(Job::Ones(word(alloc, &bits)?)),
-            Kind::Index => Ok(Job::Index(word(alloc, &bits)?)),
-            _ => Ok(Job::Shortest(bits)),
+        let Line { len, turn, .. } = line;
+        match line.kind {
+            Kind::On => {
+                let kept = scattered_word(alloc, len, len)?;
+                let read = scattered_word(alloc, turn, turn)?;
+                Ok(Job::On(kept, read))
+            }
+            Kind::Shortest => Ok(Job::Shortest(scattered(alloc, len, turn)?)),
+            Kind::Sparse => Ok(Job::Shortest(sparse(alloc, len, turn)?)),
+            Kind::Ones => Ok(Job::Ones(scattered_word(alloc, len, turn)?)),
+            Kind::Index => Ok(Job::Index(scattered_word(alloc, len, turn)?)),
         }
     }
 

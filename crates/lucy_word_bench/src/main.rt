@@ -1,13 +1,16 @@
 //! Measures words: for each line of the standard input it prints what comes out, and how long that took where it is given a
 //! word. `bench/word` measures with it.
 //!
-//! A line is `KIND BITS TURN ROUNDS`, with numbers above 0. What is measured goes over a word whose period has so many
-//! bits, and they come again after each turn:
+//! A line is `KIND BITS TURN ROUNDS`, with numbers above 0. The kinds are:
 //!
-//! - `on` samples a word without a turn by one whose period has `TURN` bits, so many rounds.
-//! - `shortest` brings scattered bits into shortest form, and `sparse` bits of which each turn has its last one alone.
-//! - `ones` counts up to so many instants, and `index` looks for so many ones of the word.
+//! - `on`: a word whose period has `BITS` bits is sampled by one whose period has `TURN` bits.
+//! - `shortest` and `sparse`: `BITS` bits, which come again after each turn of `TURN`, are brought into shortest form. They
+//!   are scattered, or the last of each turn is its only one.
+//! - `ones` and `index`: the ones up to an instant are counted, or the place of a one is looked for, at an instant or a
+//!   number that is new in each round, in a word of the bits of `shortest`.
 #![tactic(auto)]
+
+ghost use Rattle.std.specs.Prelude.{◌<◌};
 
 mod bits;
 mod job;
@@ -16,7 +19,7 @@ use job::{Answer, Job, Line};
 use lucy_word::WordError;
 use std::env;
 use std::io::{self, BufRead, BufReader};
-use std::time::Instant;
+use std::time::{Clock, Instant};
 
 fn report(rt: &impl Print, answer: Result<Answer, WordError>) -> io::Result<()> {
     match answer {
@@ -30,28 +33,30 @@ fn report(rt: &impl Print, answer: Result<Answer, WordError>) -> io::Result<()> 
     }
 }
 
-fn main(rt: HostRuntime) -> io::Result<()> {
+fn measure(rt: &(impl Print + Clock + AllocGlobal), line: Line, timed: bool) -> io::Result<()>
+    requires { 0 < line.len × 0 < line.turn }
+{
     let alloc = rt.alloc();
+    let job = match Job::new(alloc, line) {
+        Ok(job) => job,
+        Err(error) => return report(rt, Err(error)),
+    };
+    let start = Instant::now(rt)?;
+    let answer = job.run(alloc, line.rounds);
+    let time = start.elapsed(rt)?.as_nanos();
+    report(rt, answer)?;
+    if timed {
+        println!(rt; "{time} nanoseconds")?;
+    }
+    Ok(())
+}
+
+fn main(rt: HostRuntime) -> io::Result<()> {
     let timed = env::args(&rt)?.nth(1).is_some();
-    for text in BufReader::new(alloc, rt.reader())?.lines(alloc) {
-        let text = text?;
-        let Some(line) = Line::read(text.as_str()) else {
-            println!(rt; "no line of this program")?;
-            continue;
-        };
-        let job = match Job::new(alloc, &line) {
-            Ok(job) => job,
-            Err(error) => {
-                report(&rt, Err(error))?;
-                continue;
-            }
-        };
-        let start = Instant::now(&rt)?;
-        let answer = job.run(alloc, line.rounds);
-        let time = start.elapsed(&rt)?.as_nanos();
-        report(&rt, answer)?;
-        if timed {
-            println!(rt; "{time} nanoseconds")?;
+    for text in BufReader::new(rt.alloc(), rt.reader())?.lines(rt.alloc()) {
+        match Line::read(text?.as_str()) {
+            Some(line) => measure(&rt, line, timed)?,
+            None => println!(rt; "no line of this program")?,
         }
     }
     Ok(())
