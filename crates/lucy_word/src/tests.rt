@@ -1,4 +1,4 @@
-use crate::{Word, on};
+use crate::{Word, complement, on};
 use std::test::Fail;
 
 // The first word, the second, and `first on second` by hand.
@@ -34,6 +34,23 @@ fn words_are_kept_in_shortest_form(rt: HostRuntime) -> Result<(), Fail> {
         word.print(alloc, &mut printed)?;
         assert_eq!(rt; printed.as_slice(), wanted.as_bytes(), "{text}");
         assert!(rt; word.copy(alloc)?.same(&word));
+    }
+    Ok(())
+}
+
+// A prefix, a period, and the text of the word with every bit turned.
+#[test]
+fn complements_have_memory_enough(rt: HostRuntime) -> Result<(), Fail> {
+    let alloc = rt.alloc();
+    let cases: [(&[bool], &[bool], &str); 3] = [
+        (&[], &[true, false], "(01)"),
+        (&[false], &[true, false], "(10)"),
+        (&[true, true], &[false, false, true], "00(110)"),
+    ];
+    for (prefix, period, wanted) in cases {
+        let word = Word::from_bits(alloc, prefix, period)?;
+        let wanted = Word::read(alloc, wanted.as_bytes())?;
+        assert!(rt; complement(alloc, &word)?.same(&wanted));
     }
     Ok(())
 }
