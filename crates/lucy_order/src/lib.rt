@@ -4,10 +4,12 @@
 //! It stands on `lucy_word`. Begin with `adapt` in `verdict.rt` and with `specs/Adaptable.antt` of `lucy_word`.
 #![tactic(auto)]
 
+mod classes;
 mod difference;
 mod horizon;
 mod lead;
 mod rate;
+mod turns;
 mod verdict;
 
 pub use difference::first_difference;

@@ -1,0 +1,92 @@
+// The greatest lead of one word over another in time linear in their lengths. Past the longer prefix the instants fall into
+// classes, by what is left of them modulo the greatest common divisor of the lengths of the periods; within a class each
+// place of one period meets each of the other (the remainder theorem).
+ghost use Rattle.std.specs.Prelude.{◌≡◌, ◌⊎◌, ℕ, ◌+◌, ◌*◌, ◌<◌, ◌≤◌, ◌^◌};
+ghost use Rattle.lucy_word.specs.Bits.{ones_to, most_bits};
+ghost use Rattle.lucy_word.specs.Adaptable.{IsSize};
+ghost use Rattle.lucy_order.specs.Rates.{IsNoSlower};
+ghost use Rattle.lucy_order.specs.Leads.{IsLeadAmong};
+ghost use Rattle.lucy_order.specs.Turns.{AreTurns, InClass, IsBest};
+
+use crate::turns::{Turns, turns_of};
+use lucy_word::Word;
+
+// The greatest lead up to an instant.
+fn lead_to(a: &Word, b: &Word, last: u64) -> u64
+    requires { last < 2 ^ 63 }
+    ensures { IsLeadAmong a.now b.now (λ i. i ≤ last) result }
+{
+    let mut most = 0u64;
+    for i in 0..last + 1 {
+        most = most.max(a.ones(i).saturating_sub(b.ones(i)));
+    }
+    most
+}
+
+// A place in the turn one step earlier, and the best from there on.
+fn step_back(a: &Word, b: &Word, t: Turns, place: u64, best: u64) -> (u64, u64)
+    requires turns { AreTurns a.now b.now t }
+    requires start { t.start < 2 ^ 62 }
+    requires turn { t.turn < 2 ^ 62 }
+    requires gain { t.gain < 2 ^ 62 }
+    requires within { place < t.turn }
+    requires best { best < 2 ^ 62 }
+    ensures within { result.0 < t.turn }
+    ensures back { (result.0 + t.step ≡ place) ⊎ (result.0 + t.step ≡ place + t.turn) }
+    ensures best { (steps : ℕ) → IsBest a.now t place best steps → IsBest a.now t result.0 result.1 (steps + 1) }
+{
+    let (earlier, carried) = if t.step <= place {
+        (place - t.step, best)
+    } else {
+        (place + t.turn - t.step, best + t.gain)
+    };
+    (earlier, a.ones(t.start + earlier).max(carried.saturating_sub(t.cost)))
+}
+
+// The lead that comes with the best at a place, where `b` has one there in its period.
+fn lead_at(b: &Word, t: Turns, place: u64, best: u64) -> u64
+    requires start { t.start < 2 ^ 62 }
+    requires place { place < 2 ^ 62 }
+    ensures reached { (result ≡ 0) ⊎ ((place < t.step) × (best ≡ ones_to b.now (t.start + place) + result)) }
+    ensures passed { place < t.step → best ≤ ones_to b.now (t.start + place) + result }
+{
+    if place < t.step {
+        best.saturating_sub(b.ones(t.start + place))
+    } else {
+        0
+    }
+}
+
+// The greatest lead at the instants of one class.
+fn class_lead(a: &Word, b: &Word, t: Turns, class: u64) -> u64
+    requires turns { AreTurns a.now b.now t }
+    requires start { t.start ≤ most_bits }
+    requires turn { t.turn ≤ 2 * most_bits }
+    requires gain { t.gain ≤ t.turn }
+    requires rounds { t.rounds ≤ t.turn }
+    requires rate { IsNoSlower b.now a.now }
+    requires class { class < t.classes }
+    ensures { IsLeadAmong a.now b.now (InClass t class) result }
+{
+    let mut place = class;
+    let mut best = a.ones(t.start + class);
+    let mut most = 0u64;
+    for i in 0..2 * t.rounds {
+        (place, best) = step_back(a, b, t, place, best);
+        most = most.max(lead_at(b, t, place, best));
+    }
+    most
+}
+
+/// The greatest lead of `a` over `b` at all instants, where `b` is no slower.
+pub(crate) fn greatest_lead(a: &Word, b: &Word) -> u64
+    requires { IsNoSlower b.now a.now }
+    ensures { IsSize a.now b.now result }
+{
+    let turns = turns_of(a, b);
+    let mut most = lead_to(a, b, turns.start);
+    for class in 0..turns.classes {
+        most = most.max(class_lead(a, b, turns, class));
+    }
+    most
+}
