@@ -79,7 +79,7 @@ fn class_lead(a: &Word, b: &Word, t: Turns, class: u64) -> u64
 }
 
 /// The greatest lead of `a` over `b` at all instants, where `b` is no slower.
-pub(crate) fn greatest_lead(a: &Word, b: &Word) -> u64
+pub(crate) fn lead_by_classes(a: &Word, b: &Word) -> u64
     requires { IsNoSlower b.now a.now }
     ensures { IsSize a.now b.now result }
 {

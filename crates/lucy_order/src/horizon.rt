@@ -1,5 +1,5 @@
-ghost use Rattle.std.specs.Prelude.{◌<◌, ◌^◌};
-ghost use Rattle.lucy_order.specs.Horizon.{IsHorizon};
+ghost use Rattle.std.specs.Prelude.{◌<◌, ◌^◌, ◌↔◌, IsTrue};
+ghost use Rattle.lucy_order.specs.Horizon.{IsHorizon, IsHorizonNear};
 
 use lucy_word::{Word, lcm};
 
@@ -12,4 +12,14 @@ pub fn horizon_of(a: &Word, b: &Word) -> u64
     let (prefix_a, period_a) = a.lengths();
     let (prefix_b, period_b) = b.lengths();
     prefix_a.max(prefix_b) + lcm(period_a, period_b)
+}
+
+/// Whether the horizon has at most 64 instants for each bit of the two words, so that a walk to it is linear in their
+/// lengths.
+pub(crate) fn is_horizon_near(a: &Word, b: &Word) -> bool
+    ensures { IsTrue result ↔ IsHorizonNear a.now b.now }
+{
+    let (prefix_a, period_a) = a.lengths();
+    let (prefix_b, period_b) = b.lengths();
+    horizon_of(a, b) <= 64 * (prefix_a + period_a + prefix_b + period_b)
 }

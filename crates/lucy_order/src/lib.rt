@@ -11,6 +11,7 @@ mod lead;
 mod rate;
 mod turns;
 mod verdict;
+mod walked;
 
 pub use difference::first_difference;
 pub use horizon::horizon_of;

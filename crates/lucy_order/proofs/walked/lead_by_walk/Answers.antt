@@ -4,7 +4,7 @@ use Rattle.lucy_word.proofs.BitsLaws.{ones_to-none, ones_to-le}
 use Rattle.lucy_order.specs.Horizon.{IsHorizon}
 use Rattle.lucy_order.proofs.Periods.{Walked, walked_none, walked_more, Precedes-from_walked, IsSize-from_walked}
 use Rattle.lucy_order.proofs.Walks.{ahead_none, ahead_more, counted}
-use Rattle.lucy_order.proofs.lead.greatest_lead.Goals as goal
+use Rattle.lucy_order.proofs.walked.lead_by_walk.Goals as goal
 
 pub loop-i-init : goal.loop-i-init
 loop-i-init c = (

@@ -1,7 +1,7 @@
 use Rattle.std.proofs.Common.{ℕ, ◌≡◌, subst, arith}
 use Rattle.lucy_order.specs.Leads.{IsLeadAmong}
 use Rattle.lucy_order.proofs.ClassLeads.{UpToClass, lead_from_prefix, lead_and_class, IsSize-from_classes}
-use Rattle.lucy_order.proofs.classes.greatest_lead.Goals as goal
+use Rattle.lucy_order.proofs.classes.lead_by_classes.Goals as goal
 
 pub loop-class-init : goal.loop-class-init
 loop-class-init c = lead_from_prefix c.args.a.now c.args.b.now c.turns_of-turns.result c.lead_to-most.result c.lead_to-most.ensures
