@@ -14,8 +14,11 @@ use Rattle.lucy_order.proofs.Leads.{lead_fewer, lead_both}
 use Rattle.lucy_order.proofs.Seen.{IsSeen}
 use Rattle.lucy_order.proofs.TurnsLaws.{ones_to-step, ones_to-rounds}
 
-pub classes_within : (a b : Bits) (t : Turns) → AreTurns a b t → t.classes ≤ t.step
+classes_within : (a b : Bits) (t : Turns) → AreTurns a b t → t.classes ≤ t.step
 classes_within a b t is = le_of_dvd is.some is.classes.1
+
+pub class_within : (a b : Bits) (t : Turns) → AreTurns a b t → (class : ℕ) → class < t.classes → class < t.turn
+class_within a b t is class below = omega (arith, is.longer, classes_within a b t is)
 
 -- the place in the period of b is of the class of the instant
 same_class : (a b : Bits) (t : Turns) → AreTurns a b t → (n : ℕ) → n % t.step % t.classes ≡ n % t.classes
@@ -30,47 +33,42 @@ same_class a b t is n =
     sym (ap (λ x. x % g) e ∙ add-mul-mod_self_right (n % t.step) (m * q) g)
 
 -- whole turns are taken off both sides
-take_off : (x c d m n : ℕ) → c < x → x + m * d ≡ c + n * d → x ≡ c + (n - m) * d
+take_off : (x c d m n : ℕ) → c < d → x + m * d ≡ c + n * d → x ≡ c + (n - m) * d
 take_off x c d m n less e =
     elim (cases_lt n m) [
-      | inl more ↦ absurd (let f : n * d ≤ m * d = mul-le-mul_right d (let g : n ≤ m = omega arith in g) in omega arith)
+      | inl more ↦ absurd (let f : (n + 1) * d ≤ m * d = mul-le-mul_right d (let g : n + 1 ≤ m = omega arith in g) in omega arith)
       | inr up ↦ (let f : n * d ≡ (m + (n - m)) * d = ap (λ k. k * d) (omega arith) in omega arith)
     ]
 
--- a place is gone back to within the last of two rounds
+-- a place is gone back to within a round
 pub record ComesBack (t : Turns) (class p : ℕ) : Type 0 where
   pub steps : ℕ
   pub turns : ℕ
-  pub within : steps < 2 * t.rounds
-  pub last : t.rounds ≤ steps
+  pub within : steps < t.rounds
   pub same : p + steps * t.step ≡ class + turns * t.turn
 
-within_rounds : (a b : Bits) (t : Turns) → AreTurns a b t → (class p : ℕ) → class < t.classes → Meets t.step t.turn p class → ComesBack t class p
-within_rounds a b t is class p below met =
+within_round : (a b : Bits) (t : Turns) → AreTurns a b t → (class p : ℕ) → class < t.classes → Meets t.step t.turn p class → ComesBack t class p
+within_round a b t is class p below met =
     let R : ℕ = t.rounds in
     let u : ℕ = is.together.0 in
-    let k : ℕ = met.of_a % R + R in
+    let k : ℕ = met.of_a % R in
     let v : ℕ = met.of_a / R in
-    let part : met.of_a % R < R = mod-lt met.of_a is.rounds in
-    let parts : R * v + met.of_a % R ≡ met.of_a = div-add-mod met.of_a R in
-    let steps : (R * v + met.of_a % R) * t.step ≡ met.of_a * t.step = ap (λ x. x * t.step) parts in
+    let parts : R * v + k ≡ met.of_a = div-add-mod met.of_a R in
+    let steps : (R * v + k) * t.step ≡ met.of_a * t.step = ap (λ x. x * t.step) parts in
     let rounds : v * (R * t.step) ≡ v * (u * t.turn) = ap (λ x. v * x) is.together.1 in
-    let one : 1 * t.step ≤ k * t.step = mul-le-mul_right t.step (let some : 1 ≤ k = omega (arith, is.rounds) in some) in
-    let sum : p + k * t.step + v * u * t.turn ≡ class + (met.of_b + u) * t.turn = omega (arith, is.together.1, met.same) in
     record {
       steps = k;
-      turns = met.of_b + u - v * u;
-      within = omega arith;
-      last = omega arith;
-      same = take_off (p + k * t.step) class t.turn (v * u) (met.of_b + u) (omega (arith, classes_within a b t is)) sum;
+      turns = met.of_b - v * u;
+      within = mod-lt met.of_a is.rounds;
+      same = take_off (p + k * t.step) class t.turn (v * u) met.of_b (omega (arith, is.longer, classes_within a b t is)) (omega (arith, met.same));
     }
 
 comes_back : (a b : Bits) (t : Turns) → AreTurns a b t → (class p : ℕ) → class < t.classes → p % t.classes ≡ class → ComesBack t class p
 comes_back a b t is class p below agree =
-    within_rounds a b t is class p below (meet t.step t.turn t.classes p class is.some (omega (arith, is.some, is.longer)) (IsGcd-swap t.turn t.step t.classes is.classes) (agree ∙ sym (mod-eq_of_lt below)))
+    within_round a b t is class p below (meet t.step t.turn t.classes p class is.some (omega (arith, is.some, is.longer)) (IsGcd-swap t.turn t.step t.classes is.classes) (agree ∙ sym (mod-eq_of_lt below)))
 
 -- no instant of the class has a greater lead than was seen
-not_passed : (a b : Bits) (t : Turns) → AreTurns a b t → IsNoSlower b a → (class most p m : ℕ) → IsSeen a b t class (2 * t.rounds) most → p < t.step →
+not_passed : (a b : Bits) (t : Turns) → AreTurns a b t → IsNoSlower b a → (class most p m : ℕ) → IsSeen a b t class t.rounds most → p < t.step →
     ComesBack t class p → ones_to a (t.start + p + m * t.step) ≤ ones_to b (t.start + p + m * t.step) + most
 not_passed a b t is rate class most p m seen some back =
     let R : ℕ = t.rounds in
@@ -80,12 +78,12 @@ not_passed a b t is rate class most p m seen some back =
     let steps : (R * v + n) * t.step ≡ m * t.step = ap (λ x. x * t.step) parts in
     let costs : (R * v + n) * t.cost ≡ m * t.cost = ap (λ x. x * t.cost) parts in
     let at : t.start + p + m * t.step ≡ t.start + p + n * t.step + v * (R * t.step) = omega arith in
-    let low = seen.passed back.steps back.turns p (omega (arith, back.within)) back.last some back.same n (mod-lt m is.rounds) in
+    let low = seen.passed back.steps back.turns p back.within some back.same n (mod-lt m is.rounds) in
     let of_a = ones_to-rounds a b t is rate (t.start + p + n * t.step) v (omega arith) in
     let of_b = ones_to-step a b t is (t.start + p) m (omega arith) in
     omega (arith, ap (ones_to a) at)
 
-pub lead_from_seen : (a b : Bits) (t : Turns) → AreTurns a b t → IsNoSlower b a → (class most : ℕ) → class < t.classes → IsSeen a b t class (2 * t.rounds) most →
+pub lead_from_seen : (a b : Bits) (t : Turns) → AreTurns a b t → IsNoSlower b a → (class most : ℕ) → class < t.classes → IsSeen a b t class t.rounds most →
     IsLeadAmong a b (InClass t class) most
 lead_from_seen a b t is rate class most below seen = record {
   reached = seen.reached;

@@ -28,21 +28,27 @@ steps_more t class place earlier steps h within back =
       | inr turned ↦ record { within = within; turns = h.turns + 1; same = omega (arith, h.same) }
     ]
 
+-- a round of steps leads back to the first place
+pub steps_round : (a b : Bits) (t : Turns) → AreTurns a b t → (class place steps : ℕ) → class < t.turn → StepsBackTo t class place steps → steps ≡ t.rounds → place ≡ class
+steps_round a b t is class place steps within to e =
+    let round : steps * t.step ≡ is.together.0 * t.turn = ap (λ n. n * t.step) e ∙ is.together.1 in
+    same_place t.turn place class is.together.0 to.turns to.within within (omega (arith, to.same))
+
 -- the lead that comes with the best at a place
 pub record IsLeadThere (b : Bits) (t : Turns) (place best lead : ℕ) : Type 0 where
   pub reached : (lead ≡ 0) ⊎ ((place < t.step) × (best ≡ ones_to b (t.start + place) + lead))
   pub passed : place < t.step → best ≤ ones_to b (t.start + place) + lead
 
--- no lead is passed at the places in the period of b that so many steps lead back to, once a best goes over all rounds
+-- no lead is passed at the places in the period of b that fewer steps lead back to
 pub record IsSeen (a b : Bits) (t : Turns) (class steps most : ℕ) : Type 0 where
   pub reached : (i : ℕ) × (ones_to a i ≡ ones_to b i + most)
-  pub passed : (k w p : ℕ) → k < steps + 1 → t.rounds ≤ k → p < t.step → p + k * t.step ≡ class + w * t.turn →
+  pub passed : (k w p : ℕ) → k < steps → p < t.step → p + k * t.step ≡ class + w * t.turn →
       (m : ℕ) → m < t.rounds → ones_to a (t.start + p + m * t.step) ≤ ones_to b (t.start + p) + most + m * t.cost
 
-pub seen_none : (a b : Bits) (t : Turns) → AreTurns a b t → (class : ℕ) → IsSeen a b t class 0 0
-seen_none a b t is class = record {
+pub seen_none : (a b : Bits) (t : Turns) (class : ℕ) → IsSeen a b t class 0 0
+seen_none a b t class = record {
   reached = (0, omega (arith, ones_to-none a, ones_to-none b));
-  passed = λ k w p below long some e m less. absurd (omega (arith, is.rounds));
+  passed = λ k w p below some e m less. absurd (omega arith);
 }
 
 -- a lead that comes with a best is one of an instant
@@ -57,19 +63,19 @@ lead_of_best a b t is place best steps lead best_is there =
     ]
 
 pub seen_more : (a b : Bits) (t : Turns) → AreTurns a b t → (class place best steps lead most now : ℕ) → IsSeen a b t class steps most →
-    StepsBackTo t class place (steps + 1) → IsBest a t place best (steps + 1 + 1) → IsLeadThere b t place best lead → now ≡ max most lead →
+    StepsBackTo t class place steps → IsBest a t place best (t.rounds + 1 + steps) → IsLeadThere b t place best lead → now ≡ max most lead →
     IsSeen a b t class (steps + 1) now
 seen_more a b t is class place best steps lead most now seen to best_is there e = record {
   reached =
       elim (cases_lt most lead) [
-        | inl l ↦ (let i = lead_of_best a b t is place best (steps + 1 + 1) lead best_is there in (i.0, omega (arith, i.1)))
+        | inl l ↦ (let i = lead_of_best a b t is place best (t.rounds + 1 + steps) lead best_is there in (i.0, omega (arith, i.1)))
         | inr l ↦ (seen.reached.0, omega (arith, seen.reached.1))
       ];
-  passed = λ k w p below long some same m less.
-      elim (cases_lt k (steps + 1)) [
-        | inl before ↦ omega (arith, seen.passed k w p before long some same m less)
+  passed = λ k w p below some same m less.
+      elim (cases_lt k steps) [
+        | inl before ↦ omega (arith, seen.passed k w p before some same m less)
         | inr last ↦
-            let k_is : k * t.step ≡ (steps + 1) * t.step = ap (λ n. n * t.step) (omega arith) in
+            let k_is : k * t.step ≡ steps * t.step = ap (λ n. n * t.step) (omega arith) in
             let p_is : p ≡ place = same_place t.turn p place to.turns w (omega (arith, is.longer)) to.within (omega (arith, to.same)) in
             let of_a : ones_to a (t.start + p + m * t.step) ≡ ones_to a (t.start + place + m * t.step) = ap (λ n. ones_to a (t.start + n + m * t.step)) p_is in
             let of_b : ones_to b (t.start + p) ≡ ones_to b (t.start + place) = ap (λ n. ones_to b (t.start + n)) p_is in

@@ -2,8 +2,10 @@
 use Rattle.std.proofs.Common.{ℕ, ◌+◌, ◌-◌, ◌*◌, ◌<◌, ◌≤◌, ◌≡◌, max, ap, ◌∙◌, inl, inr, arith}
 use Rattle.std.proofs.lemmas.Bool.{cases_lt, cases_eq}
 use Rattle.lucy_word.specs.Bits.{Bits, ones_to}
-use Rattle.lucy_order.specs.Turns.{AreTurns, IsBest}
+use Rattle.lucy_order.specs.Turns.{AreTurns, AreShort, IsBest}
 use Rattle.lucy_order.specs.declared.turns.Turns.{Turns}
+use Rattle.lucy_word.proofs.BitsLaws.{ones_to-le}
+use Rattle.std.proofs.lemmas.Nat.{mul-le}
 use Rattle.lucy_order.proofs.TurnsLaws.{ones_to-turn}
 
 -- a place one step earlier in the turn, where need be in the next turn, and the best that is carried there
@@ -54,3 +56,10 @@ best_none a t place best e = record {
       let f : t.start + place + m * t.step ≡ t.start + place = ap (λ n. t.start + place + n * t.step) none ∙ (omega arith) in
       omega (arith, ap (ones_to a) f);
 }
+
+-- over no more than two rounds it stays far from what 64 bits hold
+pub best_small : (a : Bits) (t : Turns) → AreShort t → (place best steps : ℕ) → place < t.turn → steps ≤ 2 * t.rounds + 1 → IsBest a t place best steps → best < 4611686018427387904
+best_small a t short place best steps within few h =
+    let m : ℕ = h.reached.0 in
+    let far : m * t.step ≤ 8388608 * 1048576 = mul-le m t.step 8388608 1048576 (omega (arith, h.reached.1, short.turn, short.rounds)) short.step in
+    omega (arith, h.reached.2, ones_to-le a (t.start + place + m * t.step), short.start, short.turn)

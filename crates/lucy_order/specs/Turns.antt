@@ -1,7 +1,7 @@
 -- How two words come again past the longer prefix, and which instants the periods bring together.
 use Rattle.std.specs.Prelude.{ℕ, ◌+◌, ◌-◌, ◌*◌, ◌%◌, ◌<◌, ◌≤◌, ◌≡◌, max, length}
 use Rattle.std.specs.Int.{IsGcd}
-use Rattle.lucy_word.specs.Bits.{Bits, ones_to, ones_in}
+use Rattle.lucy_word.specs.Bits.{Bits, ones_to, ones_in, most_bits}
 use Rattle.lucy_order.specs.declared.turns.Turns.{Turns}
 
 -- the numbers are those of the words: a turn is so many periods of a that it is no shorter than a step, which is the period of b
@@ -15,6 +15,14 @@ pub record AreTurns (a b : Bits) (t : Turns) : Type 0 where
   pub together : (turns : ℕ) × (t.rounds * t.step ≡ turns * t.turn)
   pub rounds : 0 < t.rounds
   pub classes : IsGcd t.turn t.step t.classes
+
+-- and they are as short as those of words are
+pub record AreShort (t : Turns) : Type 0 where
+  pub start : t.start ≤ most_bits
+  pub step : t.step ≤ most_bits
+  pub turn : t.turn ≤ 2 * most_bits
+  pub gain : t.gain ≤ t.turn
+  pub rounds : t.rounds ≤ t.turn
 
 -- an instant past the longer prefix, in the class of those that agree modulo the divisor
 abbrev pub InClass : Turns → ℕ → ℕ → Type 0

@@ -1,12 +1,12 @@
 // The greatest lead of one word over another in time linear in their lengths. Past the longer prefix the instants fall into
 // classes, by what is left of them modulo the greatest common divisor of the lengths of the periods; within a class each
 // place of one period meets each of the other (the remainder theorem).
-ghost use Rattle.std.specs.Prelude.{◌≡◌, ◌⊎◌, ℕ, ◌+◌, ◌*◌, ◌<◌, ◌≤◌, ◌^◌};
-ghost use Rattle.lucy_word.specs.Bits.{ones_to, most_bits};
+ghost use Rattle.std.specs.Prelude.{◌≡◌, ◌⊎◌, ℕ, ◌+◌, ◌<◌, ◌≤◌, ◌^◌};
+ghost use Rattle.lucy_word.specs.Bits.{ones_to};
 ghost use Rattle.lucy_word.specs.Adaptable.{IsSize};
 ghost use Rattle.lucy_order.specs.Rates.{IsNoSlower};
 ghost use Rattle.lucy_order.specs.Leads.{IsLeadAmong};
-ghost use Rattle.lucy_order.specs.Turns.{AreTurns, InClass, IsBest};
+ghost use Rattle.lucy_order.specs.Turns.{AreTurns, AreShort, InClass, IsBest};
 
 use crate::turns::{Turns, turns_of};
 use lucy_word::Word;
@@ -26,9 +26,7 @@ fn lead_to(a: &Word, b: &Word, last: u64) -> u64
 // A place in the turn one step earlier, and the best from there on.
 fn step_back(a: &Word, b: &Word, t: Turns, place: u64, best: u64) -> (u64, u64)
     requires turns { AreTurns a.now b.now t }
-    requires start { t.start < 2 ^ 62 }
-    requires turn { t.turn < 2 ^ 62 }
-    requires gain { t.gain < 2 ^ 62 }
+    requires short { AreShort t }
     requires within { place < t.turn }
     requires best { best < 2 ^ 62 }
     ensures within { result.0 < t.turn }
@@ -45,8 +43,7 @@ fn step_back(a: &Word, b: &Word, t: Turns, place: u64, best: u64) -> (u64, u64)
 
 // The lead that comes with the best at a place, where `b` has one there in its period.
 fn lead_at(b: &Word, t: Turns, place: u64, best: u64) -> u64
-    requires start { t.start < 2 ^ 62 }
-    requires place { place < 2 ^ 62 }
+    requires { AreShort t }
     ensures reached { (result ≡ 0) ⊎ ((place < t.step) × (best ≡ ones_to b.now (t.start + place) + result)) }
     ensures passed { place < t.step → best ≤ ones_to b.now (t.start + place) + result }
 {
@@ -57,23 +54,35 @@ fn lead_at(b: &Word, t: Turns, place: u64, best: u64) -> u64
     }
 }
 
+// The best at the first place of a class, over a whole round of steps.
+fn round_best(a: &Word, b: &Word, t: Turns, class: u64) -> u64
+    requires turns { AreTurns a.now b.now t }
+    requires short { AreShort t }
+    requires class { class < t.classes }
+    ensures { IsBest a.now t class result (t.rounds + 1) }
+{
+    let mut place = class;
+    let mut best = a.ones(t.start + class);
+    for i in 0..t.rounds {
+        (place, best) = step_back(a, b, t, place, best);
+    }
+    best
+}
+
 // The greatest lead at the instants of one class.
 fn class_lead(a: &Word, b: &Word, t: Turns, class: u64) -> u64
     requires turns { AreTurns a.now b.now t }
-    requires start { t.start ≤ most_bits }
-    requires turn { t.turn ≤ 2 * most_bits }
-    requires gain { t.gain ≤ t.turn }
-    requires rounds { t.rounds ≤ t.turn }
+    requires short { AreShort t }
     requires rate { IsNoSlower b.now a.now }
     requires class { class < t.classes }
     ensures { IsLeadAmong a.now b.now (InClass t class) result }
 {
     let mut place = class;
-    let mut best = a.ones(t.start + class);
+    let mut best = round_best(a, b, t, class);
     let mut most = 0u64;
-    for i in 0..2 * t.rounds {
-        (place, best) = step_back(a, b, t, place, best);
+    for i in 0..t.rounds {
         most = most.max(lead_at(b, t, place, best));
+        (place, best) = step_back(a, b, t, place, best);
     }
     most
 }

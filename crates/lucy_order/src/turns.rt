@@ -1,7 +1,5 @@
 // How two words come again past the longer prefix.
-ghost use Rattle.std.specs.Prelude.{◌*◌, ◌<◌, ◌≤◌};
-ghost use Rattle.lucy_word.specs.Bits.{most_bits};
-ghost use Rattle.lucy_order.specs.Turns.{AreTurns};
+ghost use Rattle.lucy_order.specs.Turns.{AreTurns, AreShort};
 
 use lucy_word::{Word, lcm};
 
@@ -27,10 +25,7 @@ pub(crate) struct Turns {
 /// Those of two words.
 pub(crate) fn turns_of(a: &Word, b: &Word) -> Turns
     ensures are { AreTurns a.now b.now result }
-    ensures short { result.start ≤ most_bits }
-    ensures turn { result.turn ≤ 2 * most_bits }
-    ensures gain { result.gain ≤ result.turn }
-    ensures rounds { result.rounds ≤ result.turn }
+    ensures short { AreShort result }
 {
     let (prefix_a, period_a) = a.lengths();
     let (prefix_b, step) = b.lengths();

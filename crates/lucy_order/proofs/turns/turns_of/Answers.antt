@@ -1,5 +1,5 @@
 use Rattle.std.proofs.Common.{◌*◌, ◌<◌, ◌≤◌, ◌≡◌, ℕ, ◌+◌, ◌-◌, ◌/◌, ◌%◌, ap, ◌∙◌, sym, arith}
-use Rattle.std.proofs.Math.Nat.{div-add-mod, mod-lt, div-mul_cancel, le_of_mul-le-mul_right, pos_of_dvd_of_pos, dvd-mul_right}
+use Rattle.std.proofs.Math.Nat.{div-add-mod, mod-lt, div-mul_cancel, le_of_mul-le-mul_right, mul-le-mul_left, pos_of_dvd_of_pos, dvd-mul_right}
 use Rattle.lucy_word.specs.Multiple.{IsLcm}
 use Rattle.lucy_order.proofs.Remainders.{divides, gcd_by_lcm}
 use Rattle.lucy_order.proofs.turns.turns_of.Goals as goal
@@ -9,6 +9,12 @@ long_enough : (period step : ℕ) → 0 < period → step ≤ ((step - 1) / peri
 long_enough period step some =
     let parts : period * ((step - 1) / period) + (step - 1) % period ≡ step - 1 = div-add-mod (step - 1) period in
     omega (arith, mod-lt (step - 1) some)
+
+-- and longer by less than a period
+not_longer : (period step : ℕ) → ((step - 1) / period + 1) * period ≤ step + period
+not_longer period step =
+    let parts : period * ((step - 1) / period) + (step - 1) % period ≡ step - 1 = div-add-mod (step - 1) period in
+    omega arith
 
 -- the steps in the least common multiple of turn and step
 steps_in : (turn step common : ℕ) → IsLcm turn step common → common / step * step ≡ common / turn * turn
@@ -42,5 +48,17 @@ returns-clause-are c =
       classes = gcd_by_lcm (periods * period) step c.lcm.result (omega (arith, c.lengths-prefix_b.ensures.nonempty)) c.lengths-prefix_b.ensures.nonempty c.lcm.ensures.least;
     }
 
-pub returns-clause-rounds : goal.returns-clause-rounds
-returns-clause-rounds c = few_steps _ _ _ c.lengths-prefix_b.ensures.nonempty c.lcm.ensures.least c.lcm.ensures.within
+pub returns-clause-short : goal.returns-clause-short
+returns-clause-short c =
+    let period : ℕ = c.lengths-prefix_a.result.1 in
+    let step : ℕ = c.lengths-prefix_b.result.1 in
+    let periods : ℕ = (step - 1) / period + 1 in
+    let gain : periods * c.rate-ones_a.result.0 ≤ periods * period =
+    mul-le-mul_left periods (let e : c.rate-ones_a.result.0 ≤ period = omega (arith, c.rate-ones_a.ensures.within, c.rate-ones_a.ensures.length, c.lengths-prefix_a.ensures.period) in e) in
+    record {
+      start = omega (arith, c.max.ensures, c.lengths-prefix_a.ensures.short, c.lengths-prefix_b.ensures.short);
+      step = omega (arith, c.lengths-prefix_b.ensures.short);
+      turn = omega (arith, not_longer period step, c.lengths-prefix_a.ensures.short, c.lengths-prefix_b.ensures.short);
+      gain = gain;
+      rounds = few_steps _ _ _ c.lengths-prefix_b.ensures.nonempty c.lcm.ensures.least c.lcm.ensures.within;
+    }
