@@ -1,6 +1,6 @@
 -- Leads among more and more instants.
-use Rattle.std.proofs.Common.{ℕ, ◌+◌, ◌-◌, ◌<◌, ◌≤◌, ◌≡◌, max, ap, inl, inr, arith, ◌⊎◌}
-use Rattle.std.proofs.lemmas.Bool.{cases_lt, cases_eq}
+use Rattle.std.proofs.Common.{ℕ, ◌-◌, ◌≡◌, max, ap, inl, inr, arith, ◌⊎◌}
+use Rattle.std.proofs.lemmas.Bool.{cases_lt}
 use Rattle.lucy_word.specs.Bits.{Bits, ones_to}
 use Rattle.lucy_word.proofs.BitsLaws.{ones_to-none}
 use Rattle.lucy_order.specs.Leads.{IsLeadAmong}

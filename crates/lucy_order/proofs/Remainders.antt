@@ -1,7 +1,7 @@
 -- The remainder theorem for two lengths.
 use Rattle.std.proofs.Common.{ℕ, suc, zero, ◌+◌, ◌-◌, ◌*◌, ◌%◌, ◌/◌, ◌<◌, ◌≤◌, ◌≡◌, ap, sym, ◌∙◌, subst, inl, inr, arith}
-use Rattle.std.proofs.Math.Nat.{div-mul_cancel, mul-div_cancel_left, div-add-mod, mod-lt, pos_of_dvd_of_pos, dvd-mul_left, le_of_dvd, mul-le-mul_right, le_of_mul-le-mul_right}
-use Rattle.std.proofs.lemmas.Nat.Gcd.{IsGcd-from_zero, IsGcd-from_mod, IsGcd-swap, same_from_IsGcd}
+use Rattle.std.proofs.Math.Nat.{div-mul_cancel, mul-div_cancel_left, div-add-mod, mod-lt, pos_of_dvd_of_pos, dvd-mul_left, mul-le-mul_right, le_of_mul-le-mul_right}
+use Rattle.std.proofs.lemmas.Nat.Gcd.{IsGcd-from_zero, IsGcd-from_mod, same_from_IsGcd}
 use Rattle.std.proofs.lemmas.Nat.{same_from_place, mul-le}
 use Rattle.std.proofs.lemmas.Bool.{cases_eq, cases_lt}
 use Prim.Native.Nat.{◌∣◌}

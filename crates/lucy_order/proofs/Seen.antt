@@ -1,15 +1,12 @@
 -- What is known of the leads in a class while places are gone back to.
-use Rattle.std.proofs.Common.{ℕ, ◌+◌, ◌-◌, ◌*◌, ◌/◌, ◌%◌, ◌<◌, ◌≤◌, ◌≡◌, ◌⊎◌, max, ap, sym, ◌∙◌, inl, inr, arith}
-use Rattle.std.proofs.Math.Nat.{div-add-mod, mod-lt, mul-le-mul_left, mul-le-mul_right, le_of_dvd}
-use Rattle.std.proofs.lemmas.Bool.{cases_lt, cases_eq}
+use Rattle.std.proofs.Common.{ℕ, ◌+◌, ◌*◌, ◌<◌, ◌≤◌, ◌≡◌, ◌⊎◌, max, ap, ◌∙◌, inl, inr, arith}
+use Rattle.std.proofs.lemmas.Bool.{cases_lt}
 use Rattle.lucy_word.specs.Bits.{Bits, ones_to}
 use Rattle.lucy_word.proofs.BitsLaws.{ones_to-none}
-use Rattle.lucy_order.specs.Rates.{IsNoSlower}
-use Rattle.lucy_order.specs.Leads.{IsLeadAmong}
-use Rattle.lucy_order.specs.Turns.{AreTurns, IsBest, InClass}
+use Rattle.lucy_order.specs.Turns.{AreTurns, IsBest}
 use Rattle.lucy_order.specs.declared.turns.Turns.{Turns}
 use Rattle.lucy_order.proofs.Remainders.{same_place}
-use Rattle.lucy_order.proofs.TurnsLaws.{ones_to-step, ones_to-rounds}
+use Rattle.lucy_order.proofs.TurnsLaws.{ones_to-step}
 
 -- the place in the turn where so many steps back from the first place of the class lead
 pub record StepsBackTo (t : Turns) (class place steps : ℕ) : Type 0 where

@@ -1,6 +1,6 @@
 -- Laws of turns and steps.
-use Rattle.std.proofs.Common.{ℕ, ◌+◌, ◌-◌, ◌*◌, ◌<◌, ◌≤◌, ◌≡◌, max, length, ap, sym, ◌∙◌, arith}
-use Rattle.std.proofs.Math.Nat.{mul-le-mul_left, mul-le-mul_right, le_of_mul-le-mul_right}
+use Rattle.std.proofs.Common.{ℕ, ◌+◌, ◌*◌, ◌≤◌, ◌≡◌, length, ap, ◌∙◌, arith}
+use Rattle.std.proofs.Math.Nat.{mul-le-mul_left, le_of_mul-le-mul_right}
 use Rattle.lucy_word.specs.Bits.{Bits, ones_to, ones_in}
 use Rattle.lucy_word.proofs.IndexLaws.{ones_to-periods}
 use Rattle.lucy_order.specs.Rates.{IsNoSlower}

@@ -38,7 +38,11 @@ fn step_back(a: &Word, b: &Word, t: Turns, place: u64, best: u64) -> (u64, u64)
     } else {
         (place + t.turn - t.step, best + t.gain)
     };
-    (earlier, a.ones(t.start + earlier).max(carried.saturating_sub(t.cost)))
+    (
+        earlier,
+        a.ones(t.start + earlier)
+            .max(carried.saturating_sub(t.cost)),
+    )
 }
 
 // The lead that comes with the best at a place, where `b` has one there in its period.

@@ -9,6 +9,8 @@ mod difference;
 mod horizon;
 mod lead;
 mod rate;
+#[cfg(test)]
+mod tests;
 mod turns;
 mod verdict;
 mod walked;

@@ -1,5 +1,4 @@
-use Rattle.std.proofs.Common.{◌-◌, ◌≡◌, ap, max, arith}
-use Rattle.lucy_word.specs.Bits.{ones_to}
+use Rattle.std.proofs.Common.{ap, arith}
 use Rattle.lucy_order.proofs.StepsBack.{IsBack, best_back}
 use Rattle.lucy_order.proofs.classes.step_back.Goals as goal
 use Rattle.lucy_order.proofs.classes.step_back.Goals.{then-t-place, else-t-place}

@@ -1,5 +1,5 @@
 use Rattle.std.proofs.Common.{◌*◌, ◌<◌, ◌≤◌, ◌≡◌, ℕ, ◌+◌, ◌-◌, ◌/◌, ◌%◌, ap, ◌∙◌, sym, arith}
-use Rattle.std.proofs.Math.Nat.{div-add-mod, mod-lt, div-mul_cancel, le_of_mul-le-mul_right, mul-le-mul_left, pos_of_dvd_of_pos, dvd-mul_right}
+use Rattle.std.proofs.Math.Nat.{div-add-mod, mod-lt, div-mul_cancel, le_of_mul-le-mul_right, mul-le-mul_left, pos_of_dvd_of_pos}
 use Rattle.lucy_word.specs.Multiple.{IsLcm}
 use Rattle.lucy_order.proofs.Remainders.{divides, gcd_by_lcm}
 use Rattle.lucy_order.proofs.turns.turns_of.Goals as goal
