@@ -8,6 +8,10 @@ struct word {
   long prefix_len, period_len, ones;
 };
 
+struct walk {
+  const char *at, *end;
+};
+
 static long gcd(long a, long b) { return b ? gcd(b, a % b) : a; }
 
 static struct word read_word(char *text) {
@@ -22,15 +26,22 @@ static struct word read_word(char *text) {
   return w;
 }
 
-static int bit(const struct word *w, long i) {
-  return (i < w->prefix_len ? w->prefix[i] : w->period[(i - w->prefix_len) % w->period_len]) == '1';
+static struct walk walk_of(const struct word *w) { return (struct walk){w->prefix, w->prefix + w->prefix_len}; }
+
+static int step(struct walk *walk, const struct word *w) {
+  if (walk->at == walk->end) {
+    walk->at = w->period;
+    walk->end = w->period + w->period_len;
+  }
+  return *walk->at++ == '1';
 }
 
 /* The counts at instants 0 to the last. */
 static long *counts(const struct word *w, long last) {
   long *at = malloc((last + 1) * sizeof *at);
+  struct walk walk = walk_of(w);
   at[0] = 0;
-  for (long i = 0; i < last; i++) at[i + 1] = at[i] + bit(w, i);
+  for (long i = 0; i < last; i++) at[i + 1] = at[i] + step(&walk, w);
   return at;
 }
 
@@ -70,14 +81,14 @@ int main(void) {
     if (greatest_a[c] - least_b[c] > most) most = greatest_a[c] - least_b[c];
   }
   if (least < 0) {
-    long lead = 0;
-    for (long i = 0;; i++) {
-      lead += bit(&a, i) - bit(&b, i);
-      if (lead < 0) {
-        printf("late at %ld\n", i + 1);
-        return 0;
-      }
+    struct walk walk_a = walk_of(&a), walk_b = walk_of(&b);
+    long lead = 0, at = 0;
+    for (; lead >= 0; at++) {
+      lead += step(&walk_a, &a);
+      lead -= step(&walk_b, &b);
     }
+    printf("late at %ld\n", at);
+    return 0;
   }
   printf("adaptable size %ld\n", most);
   return 0;
