@@ -7,26 +7,26 @@ use Rattle.lucy_word.specs.Bits.{Bits, ones_to}
 use Rattle.lucy_word.specs.Adaptable.{IsSize}
 use Rattle.lucy_order.specs.Rates.{IsNoSlower}
 use Rattle.lucy_order.specs.Leads.{IsLeadAmong}
-use Rattle.lucy_order.specs.Turns.{AreTurns, InClass}
+use Rattle.lucy_order.specs.Turns.{AreTurns, AreRounds, InClass}
 use Rattle.lucy_order.specs.declared.turns.Turns.{Turns}
 use Rattle.lucy_order.proofs.Remainders.{Meets, meet}
 use Rattle.lucy_order.proofs.Leads.{lead_fewer, lead_both}
 use Rattle.lucy_order.proofs.Seen.{IsSeen}
 use Rattle.lucy_order.proofs.TurnsLaws.{ones_to-step, ones_to-rounds}
 
-classes_within : (a b : Bits) (t : Turns) → AreTurns a b t → t.classes ≤ t.step
-classes_within a b t is = le_of_dvd is.some is.classes.1
+classes_within : (t : Turns) → AreRounds t → t.classes ≤ t.step
+classes_within t round = le_of_dvd round.some round.classes.1
 
-pub class_within : (a b : Bits) (t : Turns) → AreTurns a b t → (class : ℕ) → class < t.classes → class < t.turn
-class_within a b t is class below = omega (arith, is.longer, classes_within a b t is)
+pub class_within : (t : Turns) → AreRounds t → (class : ℕ) → class < t.classes → class < t.turn
+class_within t round class below = omega (arith, round.longer, classes_within t round)
 
 -- the place in the period of b is of the class of the instant
-same_class : (a b : Bits) (t : Turns) → AreTurns a b t → (n : ℕ) → n % t.step % t.classes ≡ n % t.classes
-same_class a b t is n =
+same_class : (t : Turns) → AreRounds t → (n : ℕ) → n % t.step % t.classes ≡ n % t.classes
+same_class t round n =
     let g : ℕ = t.classes in
     let q : ℕ = t.step / g in
     let m : ℕ = n / t.step in
-    let whole : q * g ≡ t.step = div-mul_cancel g is.classes.1 in
+    let whole : q * g ≡ t.step = div-mul_cancel g round.classes.1 in
     let parts : t.step * m + n % t.step ≡ n = div-add-mod n t.step in
     let turned : m * (q * g) ≡ m * t.step = ap (λ x. m * x) whole in
     let e : n ≡ n % t.step + m * q * g = omega arith in
@@ -47,30 +47,30 @@ pub record ComesBack (t : Turns) (class p : ℕ) : Type 0 where
   pub within : steps < t.rounds
   pub same : p + steps * t.step ≡ class + turns * t.turn
 
-within_round : (a b : Bits) (t : Turns) → AreTurns a b t → (class p : ℕ) → class < t.classes → Meets t.step t.turn p class → ComesBack t class p
-within_round a b t is class p below met =
+within_round : (t : Turns) → AreRounds t → (class p : ℕ) → class < t.classes → Meets t.step t.turn p class → ComesBack t class p
+within_round t round class p below met =
     let R : ℕ = t.rounds in
-    let u : ℕ = is.together.0 in
+    let u : ℕ = round.together.0 in
     let k : ℕ = met.of_a % R in
     let v : ℕ = met.of_a / R in
     let parts : R * v + k ≡ met.of_a = div-add-mod met.of_a R in
     let steps : (R * v + k) * t.step ≡ met.of_a * t.step = ap (λ x. x * t.step) parts in
-    let rounds : v * (R * t.step) ≡ v * (u * t.turn) = ap (λ x. v * x) is.together.1 in
+    let rounds : v * (R * t.step) ≡ v * (u * t.turn) = ap (λ x. v * x) round.together.1 in
     record {
       steps = k;
       turns = met.of_b - v * u;
-      within = mod-lt met.of_a is.rounds;
-      same = take_off (p + k * t.step) class t.turn (v * u) met.of_b (omega (arith, is.longer, classes_within a b t is)) (omega (arith, met.same));
+      within = mod-lt met.of_a round.rounds;
+      same = take_off (p + k * t.step) class t.turn (v * u) met.of_b (class_within t round class below) (omega (arith, met.same));
     }
 
-comes_back : (a b : Bits) (t : Turns) → AreTurns a b t → (class p : ℕ) → class < t.classes → p % t.classes ≡ class → ComesBack t class p
-comes_back a b t is class p below agree =
-    within_round a b t is class p below (meet t.step t.turn t.classes p class is.some (omega (arith, is.some, is.longer)) (IsGcd-swap t.turn t.step t.classes is.classes) (agree ∙ sym (mod-eq_of_lt below)))
+comes_back : (t : Turns) → AreRounds t → (class p : ℕ) → class < t.classes → p % t.classes ≡ class → ComesBack t class p
+comes_back t round class p below agree =
+    within_round t round class p below (meet t.step t.turn t.classes p class round.some (omega (arith, round.some, round.longer)) (IsGcd-swap t.turn t.step t.classes round.classes) (agree ∙ sym (mod-eq_of_lt below)))
 
 -- no instant of the class has a greater lead than was seen
-not_passed : (a b : Bits) (t : Turns) → AreTurns a b t → IsNoSlower b a → (class most p m : ℕ) → IsSeen a b t class t.rounds most → p < t.step →
+not_passed : (a b : Bits) (t : Turns) → AreRounds t → AreTurns a b t → IsNoSlower b a → (class most p m : ℕ) → IsSeen a b t class t.rounds most → p < t.step →
     ComesBack t class p → ones_to a (t.start + p + m * t.step) ≤ ones_to b (t.start + p + m * t.step) + most
-not_passed a b t is rate class most p m seen some back =
+not_passed a b t round is rate class most p m seen some back =
     let R : ℕ = t.rounds in
     let n : ℕ = m % R in
     let v : ℕ = m / R in
@@ -78,14 +78,14 @@ not_passed a b t is rate class most p m seen some back =
     let steps : (R * v + n) * t.step ≡ m * t.step = ap (λ x. x * t.step) parts in
     let costs : (R * v + n) * t.cost ≡ m * t.cost = ap (λ x. x * t.cost) parts in
     let at : t.start + p + m * t.step ≡ t.start + p + n * t.step + v * (R * t.step) = omega arith in
-    let low = seen.passed back.steps back.turns p back.within some back.same n (mod-lt m is.rounds) in
-    let of_a = ones_to-rounds a b t is rate (t.start + p + n * t.step) v (omega arith) in
+    let low = seen.passed back.steps back.turns p back.within some back.same n (mod-lt m round.rounds) in
+    let of_a = ones_to-rounds a b t round is rate (t.start + p + n * t.step) v (omega arith) in
     let of_b = ones_to-step a b t is (t.start + p) m (omega arith) in
     omega (arith, ap (ones_to a) at)
 
-pub lead_from_seen : (a b : Bits) (t : Turns) → AreTurns a b t → IsNoSlower b a → (class most : ℕ) → class < t.classes → IsSeen a b t class t.rounds most →
+pub lead_from_seen : (a b : Bits) (t : Turns) → AreRounds t → AreTurns a b t → IsNoSlower b a → (class most : ℕ) → class < t.classes → IsSeen a b t class t.rounds most →
     IsLeadAmong a b (InClass t class) most
-lead_from_seen a b t is rate class most below seen = record {
+lead_from_seen a b t round is rate class most below seen = record {
   reached = seen.reached;
   passed = λ i in_class.
       let n : ℕ = i - t.start in
@@ -93,8 +93,8 @@ lead_from_seen a b t is rate class most below seen = record {
       let m : ℕ = n / t.step in
       let parts : t.step * m + p ≡ n = div-add-mod n t.step in
       let at : i ≡ t.start + p + m * t.step = omega (arith, in_class.0) in
-      let back = comes_back a b t is class p below (same_class a b t is n ∙ in_class.1) in
-      omega (arith, not_passed a b t is rate class most p m seen (mod-lt n is.some) back, ap (ones_to a) at, ap (ones_to b) at);
+      let back = comes_back t round class p below (same_class t round n ∙ in_class.1) in
+      omega (arith, not_passed a b t round is rate class most p m seen (mod-lt n round.some) back, ap (ones_to a) at, ap (ones_to b) at);
 }
 
 -- the instants of the prefix and those of the classes below one
@@ -119,8 +119,8 @@ lead_and_class a b t class most lead now h k e =
     ])
 
 -- the classes are all instants past the prefix
-pub IsSize-from_classes : (a b : Bits) (t : Turns) → AreTurns a b t → (most : ℕ) → IsLeadAmong a b (UpToClass t t.classes) most → IsSize a b most
-IsSize-from_classes a b t is most h = record {
+pub IsSize-from_classes : (a b : Bits) (t : Turns) → AreRounds t → (most : ℕ) → IsLeadAmong a b (UpToClass t t.classes) most → IsSize a b most
+IsSize-from_classes a b t round most h = record {
   reached = h.reached;
-  passed = λ i. h.passed i (inr (mod-lt (i - t.start) (pos_of_dvd_of_pos is.classes.1 is.some)));
+  passed = λ i. h.passed i (inr (mod-lt (i - t.start) (pos_of_dvd_of_pos round.classes.1 round.some)));
 }

@@ -3,7 +3,7 @@ use Rattle.std.proofs.Common.{ℕ, ◌+◌, ◌*◌, ◌<◌, ◌≤◌, ◌≡�
 use Rattle.std.proofs.lemmas.Bool.{cases_lt}
 use Rattle.lucy_word.specs.Bits.{Bits, ones_to}
 use Rattle.lucy_word.proofs.BitsLaws.{ones_to-none}
-use Rattle.lucy_order.specs.Turns.{AreTurns, IsBest}
+use Rattle.lucy_order.specs.Turns.{AreTurns, AreRounds, IsBest}
 use Rattle.lucy_order.specs.declared.turns.Turns.{Turns}
 use Rattle.lucy_order.proofs.Remainders.{same_place}
 use Rattle.lucy_order.proofs.TurnsLaws.{ones_to-step}
@@ -26,10 +26,10 @@ steps_more t class place earlier steps h within back =
     ]
 
 -- a round of steps leads back to the first place
-pub steps_round : (a b : Bits) (t : Turns) → AreTurns a b t → (class place steps : ℕ) → class < t.turn → StepsBackTo t class place steps → steps ≡ t.rounds → place ≡ class
-steps_round a b t is class place steps within to e =
-    let round : steps * t.step ≡ is.together.0 * t.turn = ap (λ n. n * t.step) e ∙ is.together.1 in
-    same_place t.turn place class is.together.0 to.turns to.within within (omega (arith, to.same))
+pub steps_round : (t : Turns) → AreRounds t → (class place steps : ℕ) → class < t.turn → StepsBackTo t class place steps → steps ≡ t.rounds → place ≡ class
+steps_round t round class place steps within to e =
+    let back : steps * t.step ≡ round.together.0 * t.turn = ap (λ n. n * t.step) e ∙ round.together.1 in
+    same_place t.turn place class round.together.0 to.turns to.within within (omega (arith, to.same))
 
 -- the lead that comes with the best at a place
 pub record IsLeadThere (b : Bits) (t : Turns) (place best lead : ℕ) : Type 0 where
@@ -59,10 +59,10 @@ lead_of_best a b t is place best steps lead best_is there =
           (t.start + place + m * t.step, omega (arith, best_is.reached.2, some.1, ones_to-step a b t is (t.start + place) m (omega arith)))
     ]
 
-pub seen_more : (a b : Bits) (t : Turns) → AreTurns a b t → (class place best steps lead most now : ℕ) → IsSeen a b t class steps most →
+pub seen_more : (a b : Bits) (t : Turns) → AreRounds t → AreTurns a b t → (class place best steps lead most now : ℕ) → IsSeen a b t class steps most →
     StepsBackTo t class place steps → IsBest a t place best (t.rounds + 1 + steps) → IsLeadThere b t place best lead → now ≡ max most lead →
     IsSeen a b t class (steps + 1) now
-seen_more a b t is class place best steps lead most now seen to best_is there e = record {
+seen_more a b t round is class place best steps lead most now seen to best_is there e = record {
   reached =
       elim (cases_lt most lead) [
         | inl l ↦ (let i = lead_of_best a b t is place best (t.rounds + 1 + steps) lead best_is there in (i.0, omega (arith, i.1)))
@@ -73,7 +73,7 @@ seen_more a b t is class place best steps lead most now seen to best_is there e 
         | inl before ↦ omega (arith, seen.passed k w p before some same m less)
         | inr last ↦
             let k_is : k * t.step ≡ steps * t.step = ap (λ n. n * t.step) (omega arith) in
-            let p_is : p ≡ place = same_place t.turn p place to.turns w (omega (arith, is.longer)) to.within (omega (arith, to.same)) in
+            let p_is : p ≡ place = same_place t.turn p place to.turns w (omega (arith, round.longer)) to.within (omega (arith, to.same)) in
             let of_a : ones_to a (t.start + p + m * t.step) ≡ ones_to a (t.start + place + m * t.step) = ap (λ n. ones_to a (t.start + n + m * t.step)) p_is in
             let of_b : ones_to b (t.start + p) ≡ ones_to b (t.start + place) = ap (λ n. ones_to b (t.start + n)) p_is in
             omega (arith, best_is.passed m (omega arith), there.passed (omega arith))

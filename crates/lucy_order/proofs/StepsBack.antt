@@ -2,7 +2,7 @@
 use Rattle.std.proofs.Common.{ℕ, ◌+◌, ◌-◌, ◌*◌, ◌<◌, ◌≤◌, ◌≡◌, max, ap, ◌∙◌, inl, inr, arith}
 use Rattle.std.proofs.lemmas.Bool.{cases_lt, cases_eq}
 use Rattle.lucy_word.specs.Bits.{Bits, ones_to}
-use Rattle.lucy_order.specs.Turns.{AreTurns, AreShort, IsBest}
+use Rattle.lucy_order.specs.Turns.{IsTurn, AreShort, IsBest}
 use Rattle.lucy_order.specs.declared.turns.Turns.{Turns}
 use Rattle.lucy_word.proofs.BitsLaws.{ones_to-le}
 use Rattle.std.proofs.lemmas.Nat.{mul-le}
@@ -15,21 +15,21 @@ pub record IsBack (t : Turns) (place best earlier carried : ℕ) : Type 0 where
   pub brought : carried ≡ best + turns * t.gain
 
 -- what a has had at the places from there on is known from those before
-further : (a b : Bits) (t : Turns) → AreTurns a b t → (place best earlier carried m : ℕ) (back : IsBack t place best earlier carried) →
+further : (a : Bits) (t : Turns) → IsTurn a t → (place best earlier carried m : ℕ) (back : IsBack t place best earlier carried) →
     ones_to a (t.start + earlier + (m + 1) * t.step) ≡ ones_to a (t.start + place + m * t.step) + back.turns * t.gain
-further a b t is place best earlier carried m back =
+further a t is place best earlier carried m back =
     let at : t.start + earlier + (m + 1) * t.step ≡ t.start + place + m * t.step + back.turns * t.turn = omega (arith, back.back) in
-    ap (ones_to a) at ∙ ones_to-turn a b t is (t.start + place + m * t.step) back.turns (omega arith)
+    ap (ones_to a) at ∙ ones_to-turn a t is (t.start + place + m * t.step) back.turns (omega arith)
 
-pub best_back : (a b : Bits) (t : Turns) → AreTurns a b t → (place best earlier carried now steps : ℕ) → IsBack t place best earlier carried →
+pub best_back : (a : Bits) (t : Turns) → IsTurn a t → (place best earlier carried now steps : ℕ) → IsBack t place best earlier carried →
     now ≡ max (ones_to a (t.start + earlier)) (carried - t.cost) → IsBest a t place best steps → IsBest a t earlier now (steps + 1)
-best_back a b t is place best earlier carried now steps back e h =
+best_back a t is place best earlier carried now steps back e h =
     let here : ones_to a (t.start + earlier + 0 * t.step) ≡ ones_to a (t.start + earlier) = ap (ones_to a) (omega arith) in
     record {
       reached = elim (cases_lt (ones_to a (t.start + earlier)) (carried - t.cost)) [
         | inl less ↦
             let m : ℕ = h.reached.0 in
-            (m + 1, omega arith, omega (arith, further a b t is place best earlier carried m back, h.reached.2, back.brought))
+            (m + 1, omega arith, omega (arith, further a t is place best earlier carried m back, h.reached.2, back.brought))
         | inr more ↦ (0, omega arith, omega arith)
       ];
       passed = λ m below. elim (cases_eq m 0) [
@@ -43,7 +43,7 @@ best_back a b t is place best earlier carried now steps back e h =
             let g : ones_to a (t.start + earlier + m * t.step) ≡ ones_to a (t.start + earlier + (n + 1) * t.step) =
             ap (λ k. ones_to a (t.start + earlier + k * t.step)) f in
             let cost : m * t.cost ≡ (n + 1) * t.cost = ap (λ k. k * t.cost) f in
-            omega (arith, further a b t is place best earlier carried n back, h.passed n (omega arith), back.brought)
+            omega (arith, further a t is place best earlier carried n back, h.passed n (omega arith), back.brought)
       ];
     }
 

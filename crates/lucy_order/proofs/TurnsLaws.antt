@@ -4,15 +4,15 @@ use Rattle.std.proofs.Math.Nat.{mul-le-mul_left, le_of_mul-le-mul_right}
 use Rattle.lucy_word.specs.Bits.{Bits, ones_to, ones_in}
 use Rattle.lucy_word.proofs.IndexLaws.{ones_to-periods}
 use Rattle.lucy_order.specs.Rates.{IsNoSlower}
-use Rattle.lucy_order.specs.Turns.{AreTurns}
+use Rattle.lucy_order.specs.Turns.{IsTurn, AreTurns, AreRounds}
 use Rattle.lucy_order.specs.declared.turns.Turns.{Turns}
 
 -- with each turn a has its ones of a turn more
-pub ones_to-turn : (a b : Bits) (t : Turns) → AreTurns a b t → (i n : ℕ) → t.start ≤ i → ones_to a (i + n * t.turn) ≡ ones_to a i + n * t.gain
-ones_to-turn a b t is i n past =
-    let q : ℕ = is.turn.0 in
-    let long : n * t.turn ≡ n * (q * length a.period) = ap (λ x. n * x) is.turn.1 in
-    let many : n * t.gain ≡ n * (q * ones_in a.period) = ap (λ x. n * x) is.turn.2 in
+pub ones_to-turn : (a : Bits) (t : Turns) → IsTurn a t → (i n : ℕ) → t.start ≤ i → ones_to a (i + n * t.turn) ≡ ones_to a i + n * t.gain
+ones_to-turn a t is i n past =
+    let q : ℕ = is.periods in
+    let long : n * t.turn ≡ n * (q * length a.period) = ap (λ x. n * x) is.turn in
+    let many : n * t.gain ≡ n * (q * ones_in a.period) = ap (λ x. n * x) is.gain in
     let at : i + n * t.turn ≡ i + n * q * length a.period = omega arith in
     let periods = ones_to-periods a i (n * q) (omega (arith, is.start)) in
     omega (arith, ap (ones_to a) at)
@@ -27,27 +27,27 @@ ones_to-step a b t is i n past =
     omega (arith, ap (ones_to b) at)
 
 -- where turns and steps end together, b has no fewer ones more
-gain_below : (a b : Bits) (t : Turns) (is : AreTurns a b t) → IsNoSlower b a → is.together.0 * t.gain ≤ t.rounds * t.cost
-gain_below a b t is rate =
-    let q : ℕ = is.turn.0 in
-    let u : ℕ = is.together.0 in
+gain_below : (a b : Bits) (t : Turns) (round : AreRounds t) → AreTurns a b t → IsNoSlower b a → round.together.0 * t.gain ≤ t.rounds * t.cost
+gain_below a b t round is rate =
+    let q : ℕ = is.turn.periods in
+    let u : ℕ = round.together.0 in
     let s : q * (ones_in a.period * length b.period) ≤ q * (ones_in b.period * length a.period) = mul-le-mul_left q rate in
     let by_step : t.gain * t.step ≡ q * ones_in a.period * length b.period =
-    ap (λ x. x * t.step) is.turn.2 ∙ ap (λ x. q * ones_in a.period * x) is.step in
+    ap (λ x. x * t.step) is.turn.gain ∙ ap (λ x. q * ones_in a.period * x) is.step in
     let by_turn : t.cost * t.turn ≡ ones_in b.period * (q * length a.period) =
-    ap (λ x. x * t.turn) is.cost ∙ ap (λ x. ones_in b.period * x) is.turn.1 in
+    ap (λ x. x * t.turn) is.cost ∙ ap (λ x. ones_in b.period * x) is.turn.turn in
     let v : t.gain * t.step ≤ t.cost * t.turn = omega arith in
     let w : u * (t.gain * t.step) ≤ u * (t.cost * t.turn) = mul-le-mul_left u v in
-    let x : t.cost * (t.rounds * t.step) ≡ t.cost * (u * t.turn) = ap (λ x. t.cost * x) is.together.1 in
-    le_of_mul-le-mul_right (let y : u * t.gain * t.step ≤ t.rounds * t.cost * t.step = omega arith in y) is.some
+    let x : t.cost * (t.rounds * t.step) ≡ t.cost * (u * t.turn) = ap (λ x. t.cost * x) round.together.1 in
+    le_of_mul-le-mul_right (let y : u * t.gain * t.step ≤ t.rounds * t.cost * t.step = omega arith in y) round.some
 
 -- so a falls no further behind with each round of steps
-pub ones_to-rounds : (a b : Bits) (t : Turns) → AreTurns a b t → IsNoSlower b a → (i n : ℕ) → t.start ≤ i →
+pub ones_to-rounds : (a b : Bits) (t : Turns) → AreRounds t → AreTurns a b t → IsNoSlower b a → (i n : ℕ) → t.start ≤ i →
     ones_to a (i + n * (t.rounds * t.step)) ≤ ones_to a i + n * (t.rounds * t.cost)
-ones_to-rounds a b t is rate i n past =
-    let u : ℕ = is.together.0 in
-    let e : n * (t.rounds * t.step) ≡ n * (u * t.turn) = ap (λ x. n * x) is.together.1 in
+ones_to-rounds a b t round is rate i n past =
+    let u : ℕ = round.together.0 in
+    let e : n * (t.rounds * t.step) ≡ n * (u * t.turn) = ap (λ x. n * x) round.together.1 in
     let at : i + n * (t.rounds * t.step) ≡ i + n * u * t.turn = omega arith in
-    let turns = ones_to-turn a b t is i (n * u) past in
-    let less : n * (u * t.gain) ≤ n * (t.rounds * t.cost) = mul-le-mul_left n (gain_below a b t is rate) in
+    let turns = ones_to-turn a t is.turn i (n * u) past in
+    let less : n * (u * t.gain) ≤ n * (t.rounds * t.cost) = mul-le-mul_left n (gain_below a b t round is rate) in
     omega (arith, ap (ones_to a) at)

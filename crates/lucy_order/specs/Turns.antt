@@ -4,19 +4,29 @@ use Rattle.std.specs.Int.{IsGcd}
 use Rattle.lucy_word.specs.Bits.{Bits, ones_to, ones_in, most_bits}
 use Rattle.lucy_order.specs.declared.turns.Turns.{Turns}
 
--- the numbers are those of the words: a turn is so many periods of a that it is no shorter than a step, which is the period of b
+-- a turn is whole periods of a, and its prefix is over at the start
+pub record IsTurn (a : Bits) (t : Turns) : Type 0 where
+  pub start : length a.prefix ≤ t.start
+  pub periods : ℕ
+  pub turn : t.turn ≡ periods * length a.period
+  pub gain : t.gain ≡ periods * ones_in a.period
+
+-- the start is the length of the longer prefix, and a step is the period of b
 pub record AreTurns (a b : Bits) (t : Turns) : Type 0 where
   pub start : t.start ≡ max (length a.prefix) (length b.prefix)
-  pub turn : (periods : ℕ) × (t.turn ≡ periods * length a.period) × (t.gain ≡ periods * ones_in a.period)
+  pub turn : IsTurn a t
   pub step : t.step ≡ length b.period
   pub cost : t.cost ≡ ones_in b.period
+
+-- a step is no longer than a turn; a round of steps ends where a turn ends; the classes are the greatest common divisor
+pub record AreRounds (t : Turns) : Type 0 where
   pub some : 0 < t.step
   pub longer : t.step ≤ t.turn
-  pub together : (turns : ℕ) × (t.rounds * t.step ≡ turns * t.turn)
   pub rounds : 0 < t.rounds
+  pub together : (turns : ℕ) × (t.rounds * t.step ≡ turns * t.turn)
   pub classes : IsGcd t.turn t.step t.classes
 
--- and they are as short as those of words are
+-- the numbers are no greater than those of words
 pub record AreShort (t : Turns) : Type 0 where
   pub start : t.start ≤ most_bits
   pub step : t.step ≤ most_bits
@@ -28,7 +38,7 @@ pub record AreShort (t : Turns) : Type 0 where
 abbrev pub InClass : Turns → ℕ → ℕ → Type 0
 InClass t class i = (t.start ≤ i) × ((i - t.start) % t.classes ≡ class)
 
--- the most that a has had at a place and at some more, each a step further, less what b has more by each step
+-- the greatest count of a at a place and at more places, each a step further, less the cost of the steps to it
 pub record IsBest (a : Bits) (t : Turns) (place best steps : ℕ) : Type 0 where
   pub reached : (m : ℕ) × (m < steps) × (ones_to a (t.start + place + m * t.step) ≡ best + m * t.cost)
   pub passed : (m : ℕ) → m < steps → ones_to a (t.start + place + m * t.step) ≤ best + m * t.cost

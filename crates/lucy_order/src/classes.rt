@@ -1,12 +1,17 @@
-// The greatest lead of one word over another in time linear in their lengths. Past the longer prefix the instants fall into
-// classes, by what is left of them modulo the greatest common divisor of the lengths of the periods; within a class each
-// place of one period meets each of the other (the remainder theorem).
+// The greatest lead of one word over another, in time linear in their lengths and without memory.
+//
+// Past the longer prefix, `m` steps (periods of `b`) from a place in its first period, `b` has had what it had there and
+// the cost of `m` steps. So the greatest lead from a place on is the best there, the greatest count of `a` less the cost
+// of the steps to it, less what `b` had at the place. `a` gains the same by each turn, so the best of an instant is known
+// from that of its place in the turn, and the best one step earlier is the greater of the count there and the best less
+// the cost of a step. Steps back lead through all places of one class, those that agree modulo the greatest common
+// divisor of turn and step (the remainder theorem): after one round the best goes over all of them.
 ghost use Rattle.std.specs.Prelude.{◌≡◌, ◌⊎◌, ℕ, ◌+◌, ◌<◌, ◌≤◌, ◌^◌};
 ghost use Rattle.lucy_word.specs.Bits.{ones_to};
 ghost use Rattle.lucy_word.specs.Adaptable.{IsSize};
 ghost use Rattle.lucy_order.specs.Rates.{IsNoSlower};
 ghost use Rattle.lucy_order.specs.Leads.{IsLeadAmong};
-ghost use Rattle.lucy_order.specs.Turns.{AreTurns, AreShort, InClass, IsBest};
+ghost use Rattle.lucy_order.specs.Turns.{IsTurn, AreTurns, AreRounds, AreShort, InClass, IsBest};
 
 use crate::turns::{Turns, turns_of};
 use lucy_word::Word;
@@ -24,8 +29,9 @@ fn lead_to(a: &Word, b: &Word, last: u64) -> u64
 }
 
 // A place in the turn one step earlier, and the best from there on.
-fn step_back(a: &Word, b: &Word, t: Turns, place: u64, best: u64) -> (u64, u64)
-    requires turns { AreTurns a.now b.now t }
+fn step_back(a: &Word, t: Turns, place: u64, best: u64) -> (u64, u64)
+    requires turn { IsTurn a.now t }
+    requires longer { t.step ≤ t.turn }
     requires short { AreShort t }
     requires within { place < t.turn }
     requires best { best < 2 ^ 62 }
@@ -59,8 +65,9 @@ fn lead_at(b: &Word, t: Turns, place: u64, best: u64) -> u64
 }
 
 // The best at the first place of a class, over a whole round of steps.
-fn round_best(a: &Word, b: &Word, t: Turns, class: u64) -> u64
-    requires turns { AreTurns a.now b.now t }
+fn round_best(a: &Word, t: Turns, class: u64) -> u64
+    requires turn { IsTurn a.now t }
+    requires round { AreRounds t }
     requires short { AreShort t }
     requires class { class < t.classes }
     ensures { IsBest a.now t class result (t.rounds + 1) }
@@ -68,7 +75,7 @@ fn round_best(a: &Word, b: &Word, t: Turns, class: u64) -> u64
     let mut place = class;
     let mut best = a.ones(t.start + class);
     for i in 0..t.rounds {
-        (place, best) = step_back(a, b, t, place, best);
+        (place, best) = step_back(a, t, place, best);
     }
     best
 }
@@ -76,17 +83,18 @@ fn round_best(a: &Word, b: &Word, t: Turns, class: u64) -> u64
 // The greatest lead at the instants of one class.
 fn class_lead(a: &Word, b: &Word, t: Turns, class: u64) -> u64
     requires turns { AreTurns a.now b.now t }
+    requires round { AreRounds t }
     requires short { AreShort t }
     requires rate { IsNoSlower b.now a.now }
     requires class { class < t.classes }
     ensures { IsLeadAmong a.now b.now (InClass t class) result }
 {
     let mut place = class;
-    let mut best = round_best(a, b, t, class);
+    let mut best = round_best(a, t, class);
     let mut most = 0u64;
     for i in 0..t.rounds {
         most = most.max(lead_at(b, t, place, best));
-        (place, best) = step_back(a, b, t, place, best);
+        (place, best) = step_back(a, t, place, best);
     }
     most
 }

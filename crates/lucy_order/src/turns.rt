@@ -1,5 +1,5 @@
 // How two words come again past the longer prefix.
-ghost use Rattle.lucy_order.specs.Turns.{AreTurns, AreShort};
+ghost use Rattle.lucy_order.specs.Turns.{AreTurns, AreRounds, AreShort};
 
 use lucy_word::{Word, lcm};
 
@@ -25,6 +25,7 @@ pub(crate) struct Turns {
 /// Those of two words.
 pub(crate) fn turns_of(a: &Word, b: &Word) -> Turns
     ensures are { AreTurns a.now b.now result }
+    ensures round { AreRounds result }
     ensures short { AreShort result }
 {
     let (prefix_a, period_a) = a.lengths();

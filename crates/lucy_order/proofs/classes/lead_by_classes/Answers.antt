@@ -14,4 +14,4 @@ pub returns : goal.returns
 returns c =
     let P : ℕ → Type 0 = λ n. IsLeadAmong c.args.a.now c.args.b.now (UpToClass c.turns_of-turns.result n) c.loop-class.most in
     let all : c.loop-class.class ≡ c.turns_of-turns.result.classes = omega arith in
-    IsSize-from_classes c.args.a.now c.args.b.now c.turns_of-turns.result c.turns_of-turns.ensures.are c.loop-class.most (subst P all c.loop-class.invariant)
+    IsSize-from_classes c.args.a.now c.args.b.now c.turns_of-turns.result c.turns_of-turns.ensures.round c.loop-class.most (subst P all c.loop-class.invariant)

@@ -6,11 +6,11 @@ use Rattle.lucy_order.proofs.StepsBack.{best_none, best_small}
 use Rattle.lucy_order.proofs.classes.round_best.Goals as goal
 
 pub overflow_add-t : goal.overflow_add-t
-overflow_add-t c = omega (arith, class_within c.args.a.now c.args.b.now c.args.t c.requires.turns c.args.class c.requires.class, c.requires.short.start, c.requires.short.turn)
+overflow_add-t c = omega (arith, class_within c.args.t c.requires.round c.args.class c.requires.class, c.requires.short.start, c.requires.short.turn)
 
 pub loop-i-init : goal.loop-i-init
 loop-i-init c = (
-  steps_none c.args.t c.args.class (class_within c.args.a.now c.args.b.now c.args.t c.requires.turns c.args.class c.requires.class),
+  steps_none c.args.t c.args.class (class_within c.args.t c.requires.round c.args.class c.requires.class),
   best_none c.args.a.now c.args.t c.args.class c.ones-best.result c.ones-best.ensures,
 )
 
@@ -28,9 +28,9 @@ pub returns : goal.returns
 returns c =
     let a = c.args.a.now in
     let t = c.args.t in
-    let within = class_within a c.args.b.now t c.requires.turns c.args.class c.requires.class in
+    let within = class_within t c.requires.round c.args.class c.requires.class in
     let round : c.loop-i.i ≡ t.rounds = omega arith in
-    let first : c.loop-i.place ≡ c.args.class = steps_round a c.args.b.now t c.requires.turns c.args.class c.loop-i.place c.loop-i.i within c.loop-i.invariant.0 round in
+    let first : c.loop-i.place ≡ c.args.class = steps_round t c.requires.round c.args.class c.loop-i.place c.loop-i.i within c.loop-i.invariant.0 round in
     let P : ℕ → Type 0 = λ place. IsBest a t place c.loop-i.best (c.loop-i.i + 1) in
     let Q : ℕ → Type 0 = λ steps. IsBest a t c.args.class c.loop-i.best (steps + 1) in
     subst Q round (subst P first c.loop-i.invariant.1)

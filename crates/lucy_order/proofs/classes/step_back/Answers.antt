@@ -12,4 +12,4 @@ back c =
 
 pub returns-clause-best : goal.returns-clause-best
 returns-clause-best c steps h =
-    best_back c.args.a.now c.args.b.now c.args.t c.requires.turns c.args.place c.args.best c.if-t-place.earlier.0 c.if-t-place.earlier.1 c.max.result steps (back c) (omega (arith, c.max.ensures, c.ones.ensures, c.saturating_sub.ensures)) h
+    best_back c.args.a.now c.args.t c.requires.turn c.args.place c.args.best c.if-t-place.earlier.0 c.if-t-place.earlier.1 c.max.result steps (back c) (omega (arith, c.max.ensures, c.ones.ensures, c.saturating_sub.ensures)) h

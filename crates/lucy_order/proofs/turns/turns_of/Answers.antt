@@ -35,12 +35,25 @@ returns-clause-are c =
     let period : ℕ = c.lengths-prefix_a.result.1 in
     let step : ℕ = c.lengths-prefix_b.result.1 in
     let periods : ℕ = (step - 1) / period + 1 in
-    let longer : step ≤ periods * period = long_enough period step c.lengths-prefix_a.ensures.nonempty in
     record {
       start = omega (arith, c.max.ensures, c.lengths-prefix_a.ensures.prefix, c.lengths-prefix_b.ensures.prefix);
-      turn = (periods, ap (λ n. periods * n) c.lengths-prefix_a.ensures.period, ap (λ n. periods * n) c.rate-ones_a.ensures.ones);
+      turn = record {
+        start = omega (arith, c.max.ensures, c.lengths-prefix_a.ensures.prefix);
+        periods = periods;
+        turn = ap (λ n. periods * n) c.lengths-prefix_a.ensures.period;
+        gain = ap (λ n. periods * n) c.rate-ones_a.ensures.ones;
+      };
       step = c.lengths-prefix_b.ensures.period;
       cost = c.rate-cost.ensures.ones;
+    }
+
+pub returns-clause-round : goal.returns-clause-round
+returns-clause-round c =
+    let period : ℕ = c.lengths-prefix_a.result.1 in
+    let step : ℕ = c.lengths-prefix_b.result.1 in
+    let periods : ℕ = (step - 1) / period + 1 in
+    let longer : step ≤ periods * period = long_enough period step c.lengths-prefix_a.ensures.nonempty in
+    record {
       some = c.lengths-prefix_b.ensures.nonempty;
       longer = longer;
       together = (c.lcm.result / (periods * period), steps_in (periods * period) step c.lcm.result c.lcm.ensures.least);
