@@ -3,7 +3,7 @@ use Rattle.std.proofs.Common.{ℕ, ◌+◌, ◌*◌, ◌<◌, ◌≤◌, ◌≡�
 use Rattle.std.proofs.lemmas.Bool.{cases_lt}
 use Rattle.lucy_word.specs.Bits.{Bits, ones_to}
 use Rattle.lucy_word.proofs.BitsLaws.{ones_to-none}
-use Rattle.lucy_order.specs.Turns.{AreTurns, AreRounds, IsBest}
+use Rattle.lucy_order.specs.Turns.{AreTurns, AreRounds, IsBest, IsLeadFrom}
 use Rattle.lucy_order.specs.declared.turns.Turns.{Turns}
 use Rattle.lucy_order.proofs.Remainders.{same_place}
 use Rattle.lucy_order.proofs.TurnsLaws.{ones_to-step}
@@ -31,11 +31,6 @@ steps_round t round class place steps within to e =
     let back : steps * t.step ≡ round.together.0 * t.turn = ap (λ n. n * t.step) e ∙ round.together.1 in
     same_place t.turn place class round.together.0 to.turns to.within within (omega (arith, to.same))
 
--- the lead that comes with the best at a place
-pub record IsLeadThere (b : Bits) (t : Turns) (place best lead : ℕ) : Type 0 where
-  pub reached : (lead ≡ 0) ⊎ ((place < t.step) × (best ≡ ones_to b (t.start + place) + lead))
-  pub passed : place < t.step → best ≤ ones_to b (t.start + place) + lead
-
 -- no lead is passed at the places in the period of b that fewer steps lead back to
 pub record IsSeen (a b : Bits) (t : Turns) (class steps most : ℕ) : Type 0 where
   pub reached : (i : ℕ) × (ones_to a i ≡ ones_to b i + most)
@@ -49,7 +44,7 @@ seen_none a b t class = record {
 }
 
 -- a lead that comes with a best is one of an instant
-lead_of_best : (a b : Bits) (t : Turns) → AreTurns a b t → (place best steps lead : ℕ) → IsBest a t place best steps → IsLeadThere b t place best lead →
+lead_of_best : (a b : Bits) (t : Turns) → AreTurns a b t → (place best steps lead : ℕ) → IsBest a t place best steps → IsLeadFrom b t place best lead →
     (i : ℕ) × (ones_to a i ≡ ones_to b i + lead)
 lead_of_best a b t is place best steps lead best_is there =
     elim there.reached [
@@ -60,7 +55,7 @@ lead_of_best a b t is place best steps lead best_is there =
     ]
 
 pub seen_more : (a b : Bits) (t : Turns) → AreRounds t → AreTurns a b t → (class place best steps lead most now : ℕ) → IsSeen a b t class steps most →
-    StepsBackTo t class place steps → IsBest a t place best (t.rounds + 1 + steps) → IsLeadThere b t place best lead → now ≡ max most lead →
+    StepsBackTo t class place steps → IsBest a t place best (t.rounds + 1 + steps) → IsLeadFrom b t place best lead → now ≡ max most lead →
     IsSeen a b t class (steps + 1) now
 seen_more a b t round is class place best steps lead most now seen to best_is there e = record {
   reached =

@@ -1,5 +1,5 @@
 -- How two words come again past the longer prefix, and which instants the periods bring together.
-use Rattle.std.specs.Prelude.{ℕ, ◌+◌, ◌-◌, ◌*◌, ◌%◌, ◌<◌, ◌≤◌, ◌≡◌, max, length}
+use Rattle.std.specs.Prelude.{ℕ, ◌+◌, ◌-◌, ◌*◌, ◌%◌, ◌<◌, ◌≤◌, ◌≡◌, ◌⊎◌, max, length}
 use Rattle.std.specs.Int.{IsGcd}
 use Rattle.lucy_word.specs.Bits.{Bits, ones_to, ones_in, most_bits}
 use Rattle.lucy_order.specs.declared.turns.Turns.{Turns}
@@ -42,3 +42,8 @@ InClass t class i = (t.start ≤ i) × ((i - t.start) % t.classes ≡ class)
 pub record IsBest (a : Bits) (t : Turns) (place best steps : ℕ) : Type 0 where
   pub reached : (m : ℕ) × (m < steps) × (ones_to a (t.start + place + m * t.step) ≡ best + m * t.cost)
   pub passed : (m : ℕ) → m < steps → ones_to a (t.start + place + m * t.step) ≤ best + m * t.cost
+
+-- by so much the best at a place is above the count of b there; 0 where it is not, or the place is no place of the period of b
+pub record IsLeadFrom (b : Bits) (t : Turns) (place best lead : ℕ) : Type 0 where
+  pub reached : (lead ≡ 0) ⊎ ((place < t.step) × (best ≡ ones_to b (t.start + place) + lead))
+  pub passed : place < t.step → best ≤ ones_to b (t.start + place) + lead

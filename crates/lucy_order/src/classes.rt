@@ -11,7 +11,7 @@ ghost use Rattle.lucy_word.specs.Bits.{ones_to};
 ghost use Rattle.lucy_word.specs.Adaptable.{IsSize};
 ghost use Rattle.lucy_order.specs.Rates.{IsNoSlower};
 ghost use Rattle.lucy_order.specs.Leads.{IsLeadAmong};
-ghost use Rattle.lucy_order.specs.Turns.{IsTurn, AreTurns, AreRounds, AreShort, InClass, IsBest};
+ghost use Rattle.lucy_order.specs.Turns.{IsTurn, AreTurns, AreRounds, AreShort, InClass, IsBest, IsLeadFrom};
 
 use crate::turns::{Turns, turns_of};
 use lucy_word::Word;
@@ -28,7 +28,7 @@ fn lead_to(a: &Word, b: &Word, last: u64) -> u64
     most
 }
 
-// A place in the turn one step earlier, and the best from there on.
+// The place in the turn one step earlier, and the best there.
 fn step_back(a: &Word, t: Turns, place: u64, best: u64) -> (u64, u64)
     requires turn { IsTurn a.now t }
     requires longer { t.step ≤ t.turn }
@@ -51,11 +51,10 @@ fn step_back(a: &Word, t: Turns, place: u64, best: u64) -> (u64, u64)
     )
 }
 
-// The lead that comes with the best at a place, where `b` has one there in its period.
-fn lead_at(b: &Word, t: Turns, place: u64, best: u64) -> u64
+// The greatest lead from a place on, with the best there, where the place is one of `b`'s period; else 0.
+fn lead_from(b: &Word, t: Turns, place: u64, best: u64) -> u64
     requires { AreShort t }
-    ensures reached { (result ≡ 0) ⊎ ((place < t.step) × (best ≡ ones_to b.now (t.start + place) + result)) }
-    ensures passed { place < t.step → best ≤ ones_to b.now (t.start + place) + result }
+    ensures { IsLeadFrom b.now t place best result }
 {
     if place < t.step {
         best.saturating_sub(b.ones(t.start + place))
@@ -64,7 +63,7 @@ fn lead_at(b: &Word, t: Turns, place: u64, best: u64) -> u64
     }
 }
 
-// The best at the first place of a class, over a whole round of steps.
+// The best at the first place of a class, found by a round of steps back.
 fn round_best(a: &Word, t: Turns, class: u64) -> u64
     requires turn { IsTurn a.now t }
     requires round { AreRounds t }
@@ -93,7 +92,7 @@ fn class_lead(a: &Word, b: &Word, t: Turns, class: u64) -> u64
     let mut best = round_best(a, t, class);
     let mut most = 0u64;
     for i in 0..t.rounds {
-        most = most.max(lead_at(b, t, place, best));
+        most = most.max(lead_from(b, t, place, best));
         (place, best) = step_back(a, t, place, best);
     }
     most

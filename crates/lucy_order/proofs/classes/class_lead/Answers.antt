@@ -25,7 +25,7 @@ loop-i-preserved c =
     let P : ℕ → Type 0 = λ steps. IsBest a t c.step_back.result.0 c.step_back.result.1 steps in (
       steps_more t c.args.class c.loop-i.place c.step_back.result.0 i c.loop-i.invariant.0 c.step_back.ensures.within c.step_back.ensures.back,
       subst P (let e : t.rounds + 1 + i + 1 ≡ t.rounds + 1 + (i + 1) = omega arith in e) (c.step_back.ensures.best (t.rounds + 1 + i) c.loop-i.invariant.1),
-      seen_more a c.args.b.now t c.requires.round c.requires.turns c.args.class c.loop-i.place c.loop-i.best i c.lead_at.result c.loop-i.most c.max-most.result c.loop-i.invariant.2 c.loop-i.invariant.0 c.loop-i.invariant.1 (record { reached = c.lead_at.ensures.reached; passed = c.lead_at.ensures.passed }) c.max-most.ensures,
+      seen_more a c.args.b.now t c.requires.round c.requires.turns c.args.class c.loop-i.place c.loop-i.best i c.lead_from.result c.loop-i.most c.max-most.result c.loop-i.invariant.2 c.loop-i.invariant.0 c.loop-i.invariant.1 c.lead_from.ensures c.max-most.ensures,
     )
 
 pub returns : goal.returns
