@@ -1,0 +1,6 @@
+pub mod FrontLaws
+pub mod MergeLaws
+pub mod ListLaws
+pub mod IterateLaws
+pub mod FiringLaws
+mod Rows
