@@ -15,7 +15,7 @@ use Rattle.lucy_stream.specs.Items.{item_at, newest, HasItem, list_at}
 use Rattle.lucy_stream.specs.Forms.{Form, Given, Constant, Pointwise, Hosted, Kept, Merged, Delayed, Same, arity, operands}
 use Rattle.lucy_stream.specs.Merges.{merge_item, item_then, items_past, merged}
 use Rattle.lucy_stream.specs.Lists.{shortest, item_by_item, hosted_value, kept_past, form_list}
-use Rattle.lucy_stream.specs.Firings.{delayed_value, fire_value, DoesGive, gave_before, took_before, HasTaken, IsThere}
+use Rattle.lucy_stream.specs.Firings.{delayed_value, fire_value, DoesGive, gave_in, HasTaken, IsThere}
 use Rattle.lucy_stream.proofs.MergeLaws.{merge_item-one, merge_item-zero, get_some}
 use Rattle.lucy_stream.proofs.ListLaws.{op_value-lacks, LooksAt, arity-some, hosted_value-looks}
 
@@ -129,7 +129,7 @@ merged-item word xs ys k a b =
 
 -- what a firing gives is, in the form's list of what was taken, the item after those that were given before
 pub fire_value-item : (kinds : List HostKind) (inputs : List (List ℤ)) (n : ℕ) (form : Form) (fired : ℕ) (took : List (List ℤ)) →
-    IsThere inputs n form fired → HasTaken form fired took → DoesGive form fired → HasItem (form_list kinds inputs n form took) (gave_before form fired) (fire_value kinds inputs form fired took)
+    IsThere inputs n form fired → HasTaken form fired took → DoesGive form fired → HasItem (form_list kinds inputs n form took) (gave_in form fired) (fire_value kinds inputs form fired took)
 fire_value-item kinds inputs n (Given input) k took there h gives = (there, refl)
 fire_value-item kinds inputs n (Constant value) k took there h gives =
     (omega (arith, length-replicate (n + 1) value), sym (get_or-replicate (n + 1) k value (pos 0) (omega arith)))

@@ -28,21 +28,25 @@ abbrev pub DoesGive : Form → ℕ → Type 0
 DoesGive (Kept word) fired = bit_at word (fired + 1) ≡ true
 DoesGive form fired = Unit {0}
 
--- how many items were given before the firing
-abbrev pub gave_before : Form → ℕ → ℕ
-gave_before (Kept word) fired = ones_to word fired
-gave_before form fired = fired
+-- how many items the first firings give
+abbrev pub gave_in : Form → ℕ → ℕ
+gave_in (Kept word) fired = ones_to word fired
+gave_in form fired = fired
 
--- how many items of an operand were taken when the firing gives: a merge takes one of its two, a delay takes after it gives
-abbrev pub took_before : Form → ℕ → ℕ → ℕ
-took_before (Merged word) fired zero = ones_to word (fired + 1)
-took_before (Merged word) fired (suc i) = fired + 1 - ones_to word (fired + 1)
-took_before (Delayed first) fired i = fired
-took_before form fired i = fired + 1
+-- how many items the first firings take from an operand: a merge takes from one of its two in each
+abbrev pub took_in : Form → ℕ → ℕ → ℕ
+took_in (Merged word) fired zero = ones_to word fired
+took_in (Merged word) fired (suc i) = fired - ones_to word fired
+took_in form fired i = fired
 
--- so many items were taken from each operand
+-- how many were taken from it when the next firing gives: a delay gives before it takes
+abbrev pub took_at_give : Form → ℕ → ℕ → ℕ
+took_at_give (Delayed first) fired i = took_in (Delayed first) fired i
+took_at_give form fired i = took_in form (fired + 1) i
+
+-- as many items were taken from each operand as when the firing gives
 abbrev pub HasTaken : Form → ℕ → List (List ℤ) → Type 0
-HasTaken form fired took = (i : ℕ) → i < operands form → length (list_at took i) ≡ took_before form fired i
+HasTaken form fired took = (i : ℕ) → i < operands form → length (list_at took i) ≡ took_at_give form fired i
 
 -- what a firing without operands gives is there: an item of the input, or a copy of the literal in the iterate n + 1
 abbrev pub IsThere : List (List ℤ) → ℕ → Form → ℕ → Type 0

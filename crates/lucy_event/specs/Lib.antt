@@ -1,0 +1,6 @@
+pub mod Systems
+pub mod Runs
+pub mod States
+pub mod Firings
+pub mod Plans
+pub mod Horizons

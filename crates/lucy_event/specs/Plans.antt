@@ -1,0 +1,80 @@
+-- Actors by their forms, and the rings between them: the machine that they are, up to their quotas of firings.
+use Rattle.std.specs.Prelude.{ℕ, ◌≤◌, ◌≡◌, List, [], map, ℤ, pos, length, slice_get, slice_index_or, Option, Some, None, All}
+use Rattle.lucy_host.specs.declared.kind.HostKind.{HostKind}
+use Rattle.lucy_stream.specs.Items.{list_at}
+use Rattle.lucy_stream.specs.Forms.{Form, Given, operands}
+use Rattle.lucy_stream.specs.Firings.{fire_value}
+use Rattle.lucy_event.specs.Systems.{RingOp, System}
+use Rattle.lucy_event.specs.States.{Machine}
+use Rattle.lucy_event.specs.Firings.{ops_of, fired_at}
+
+-- what an actor has to do: its form, the rings that it takes from and gives to, and how many firings
+pub record Task : Type 0 where
+  pub form : Form
+  pub takes : List ℕ
+  pub gives : List ℕ
+  pub quota : ℕ
+
+-- a ring: the actor that gives to it, the one that takes from it, and its size
+pub record Link : Type 0 where
+  pub from : ℕ
+  pub to : ℕ
+  pub size : ℕ
+
+-- the actors and the rings
+pub record Plan : Type 0 where
+  pub tasks : List Task
+  pub links : List Link
+
+-- a ring that isn't there
+abbrev pub no_link : Link
+no_link = record { from = 0; to = 0; size = 0 }
+
+-- the ring of this number
+abbrev pub link_at : Plan → ℕ → Link
+link_at plan r = slice_index_or plan.links r no_link
+
+-- the operations of an actor, none where there is no such actor
+abbrev pub task_ops : Option Task → List RingOp
+task_ops None = []
+task_ops (Some task) = ops_of task.form task.takes task.gives task.quota
+
+-- the actors' lists of operations on the rings
+abbrev pub system : Plan → System
+system plan = record {
+  ops = λ (a : ℕ). task_ops (slice_get plan.tasks a);
+  from = λ (r : ℕ). (link_at plan r).from;
+  to = λ (r : ℕ). (link_at plan r).to;
+  size = λ (r : ℕ). (link_at plan r).size;
+}
+
+-- what an actor gives at its n-th operation, by what was taken from its rings
+abbrev pub task_value : List HostKind → List (List ℤ) → Option Task → ℕ → (ℕ → List ℤ) → ℤ
+task_value kinds inputs None n took = pos 0
+task_value kinds inputs (Some task) n took = fire_value kinds inputs task.form (slice_index_or (fired_at task.form task.takes task.gives task.quota) n 0) (map took task.takes)
+
+-- the actors with their values
+abbrev pub machine : List HostKind → List (List ℤ) → Plan → Machine
+machine kinds inputs plan = record {
+  sys = system plan;
+  value = λ (a n : ℕ) (took : ℕ → List ℤ). task_value kinds inputs (slice_get plan.tasks a) n took;
+}
+
+-- the actor of this number is the one that gives to its rings and takes from them, one for each operand
+pub record IsPluggedAt (plan : Plan) (a : ℕ) (task : Task) : Type 0 where
+  pub gives : All (λ r. (link_at plan r).from ≡ a) task.gives
+  pub takes : All (λ r. (link_at plan r).to ≡ a) task.takes
+  pub arity : length task.takes ≡ operands task.form
+
+-- every actor is
+abbrev pub IsPlugged : Plan → Type 0
+IsPlugged plan = (a : ℕ) (task : Task) → slice_get plan.tasks a ≡ Some task → IsPluggedAt plan a task
+
+-- a task that gives an input has an item of it for each of its firings
+abbrev pub HasInput : List (List ℤ) → Form → ℕ → Type 0
+HasInput inputs (Given input) quota = quota ≤ length (list_at inputs input)
+HasInput inputs form quota = Unit {0}
+
+-- all tasks have
+abbrev pub IsFed : List (List ℤ) → Plan → Type 0
+IsFed inputs plan = (a : ℕ) (task : Task) → slice_get plan.tasks a ≡ Some task → HasInput inputs task.form task.quota
