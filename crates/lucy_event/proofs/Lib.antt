@@ -11,4 +11,5 @@ pub mod FiringLaws
 pub mod PlanLaws
 pub mod HorizonLaws
 pub mod LongerPlans
+pub mod DecidingLaws
 mod Rows

@@ -1,14 +1,40 @@
--- Events and runs of two small programs.
-use Rattle.std.proofs.Common.{ℕ, List, [], ◌∷◌, ◌≡◌, map, true, false, refl}
-use Rattle.std.specs.Prelude.{ℤ, pos}
+-- The events of two small programs, with what they move.
+use Rattle.std.proofs.Common.{ℕ, zero, suc, List, [], ◌∷◌, ◌++◌, ◌≡◌, length, true, false, refl, arith}
+use Rattle.std.specs.Prelude.{ℤ, pos, Some, None}
 use Rattle.std.specs.Int.{int_wrap}
 use Rattle.lucy_word.specs.Bits.{Bits, bit_at, ones_to}
 use Rattle.lucy_host.specs.OpValue.{op_value}
 use Rattle.lucy_host.specs.declared.op.Op.TheVariants.{Add}
+use Rattle.lucy_stream.specs.Items.{item_at}
 use Rattle.lucy_stream.specs.Forms.{Form, Given, Pointwise, Merged, Delayed, Same}
-use Rattle.lucy_event.specs.Systems.{RingOp, Takes, Gives, System, given, taken}
-use Rattle.lucy_event.specs.States.{State, start, event, events}
+use Rattle.lucy_event.specs.Systems.{RingOp, Takes, Gives, op_at, given, taken}
+use Rattle.lucy_event.specs.Runs.{none_done, step, after, IsRun, IsWhole, first_left, between}
+use Rattle.lucy_event.specs.States.{Machine, State, start, held, event, events}
 use Rattle.lucy_event.specs.Plans.{Task, Link, Plan, system, machine}
+use Rattle.lucy_event.proofs.RunLaws.{after-past}
+use Rattle.lucy_event.proofs.DecidingLaws.{is_run, IsRun-from_true}
+
+-- the operation of an event, and the item that it moves
+record Move : Type 0 where
+  pub op : RingOp
+  pub item : ℤ
+
+item_of : Machine → State → ℕ → RingOp → ℤ
+item_of m s a (Takes r) = item_at (held s r) 0
+item_of m s a (Gives r) = m.value a (s.done a) s.took
+
+move : Machine → State → ℕ → Move
+move m s a = record { op = op_at m.sys a (s.done a); item = item_of m s a (op_at m.sys a (s.done a)) }
+
+moves : Machine → State → List ℕ → List Move
+moves m s [] = []
+moves m s (a ∷ picks) = move m s a ∷ moves m (event m s a) picks
+
+takes : ℕ → ℕ → Move
+takes ring item = record { op = Takes ring; item = pos item }
+
+gives : ℕ → ℕ → Move
+gives ring item = record { op = Gives ring; item = pos item }
 
 -- let node sum x = o where rec f = 0 fby o and o = x + f, for two instants: the actors x, f, o, 0 fby o, x + f and the output o
 sum : Plan
@@ -26,23 +52,105 @@ sum = record {
 }
 
 -- x 1, x 2, x 3
-sum_inputs : List (List ℤ)
-sum_inputs = (pos 1 ∷ pos 2 ∷ pos 3 ∷ []) ∷ []
+sum_machine : Machine
+sum_machine = machine [] ((pos 1 ∷ pos 2 ∷ pos 3 ∷ []) ∷ []) sum
 
--- a possible order of an instant's events
+-- a possible order of an instant's events, and of both instants'
+sum_instant : List ℕ
+sum_instant = 0 ∷ 3 ∷ 1 ∷ 1 ∷ 4 ∷ 4 ∷ 4 ∷ 2 ∷ 2 ∷ 2 ∷ 3 ∷ 5 ∷ []
 sum_order : List ℕ
-sum_order = 0 ∷ 3 ∷ 1 ∷ 1 ∷ 4 ∷ 4 ∷ 4 ∷ 2 ∷ 2 ∷ 2 ∷ 3 ∷ 5 ∷ []
+sum_order = sum_instant ++ sum_instant
 
--- what was given to each ring and taken from it
-gave_of : State → List (List ℤ)
-gave_of s = map s.gave (0 ∷ 1 ∷ 2 ∷ 3 ∷ 4 ∷ 5 ∷ [])
-took_of : State → List (List ℤ)
-took_of s = map s.took (0 ∷ 1 ∷ 2 ∷ 3 ∷ 4 ∷ 5 ∷ [])
+-- the 24 events with their values
+sum_moves : moves sum_machine start sum_order ≡
+    gives 3 1 ∷ gives 0 0 ∷ takes 0 0 ∷ gives 4 0 ∷ takes 3 1 ∷ takes 4 0 ∷ gives 1 1 ∷ takes 1 1 ∷ gives 2 1 ∷ gives 5 1 ∷ takes 2 1 ∷ takes 5 1
+    ∷ gives 3 2 ∷ gives 0 1 ∷ takes 0 1 ∷ gives 4 1 ∷ takes 3 2 ∷ takes 4 1 ∷ gives 1 3 ∷ takes 1 3 ∷ gives 2 3 ∷ gives 5 3 ∷ takes 2 3 ∷ takes 5 3 ∷ []
+unfolding moves move item_of gives takes sum_machine sum_order sum_instant sum op_value int_wrap
+sum_moves = refl
 
-sum_after : List ℕ → State
-sum_after picks = events (machine [] sum_inputs sum) start picks
+-- the output's list
+sum_output : (events sum_machine start sum_order).took 5 ≡ pos 1 ∷ pos 3 ∷ []
+unfolding sum_machine sum_order sum_instant sum op_value int_wrap
+sum_output = refl
 
--- 12 events
-sum_gave_1 : gave_of (sum_after sum_order) ≡ (pos 0 ∷ []) ∷ (pos 1 ∷ []) ∷ (pos 1 ∷ []) ∷ (pos 1 ∷ []) ∷ (pos 0 ∷ []) ∷ (pos 1 ∷ []) ∷ []
-unfolding gave_of sum_after sum_order sum_inputs sum op_value int_wrap
-sum_gave_1 = refl
+sum_finished : (a : ℕ) → after none_done sum_order a ≡ length ((system sum).ops a)
+unfolding sum sum_order sum_instant
+sum_finished zero = refl
+sum_finished (suc zero) = refl
+sum_finished (suc (suc zero)) = refl
+sum_finished (suc (suc (suc zero))) = refl
+sum_finished (suc (suc (suc (suc zero)))) = refl
+sum_finished (suc (suc (suc (suc (suc zero))))) = refl
+sum_finished (suc (suc (suc (suc (suc (suc a)))))) = after-past none_done sum_order 6 (suc (suc (suc (suc (suc (suc a)))))) refl (omega arith)
+
+sum_possible : is_run (system sum) none_done sum_order ≡ true
+unfolding sum sum_order sum_instant given taken
+sum_possible = refl
+
+-- they are all, each possible in its turn
+sum_whole : IsWhole (system sum) sum_order
+sum_whole = record { run = IsRun-from_true (system sum) none_done sum_order sum_possible; all = sum_finished }
+
+-- the input's actor goes no further ahead than its ring lets it: its second give isn't possible yet
+sum_ahead : is_run (system sum) none_done (0 ∷ 0 ∷ []) ≡ false
+unfolding sum given taken
+sum_ahead = refl
+
+-- where that actor alone has done its first give, the delay comes next
+sum_next : first_left (step none_done 0) sum_order ≡ Some 3
+unfolding sum_order sum_instant
+sum_next = refl
+
+-- let node twice x = o where rec o = merge (10) x (buffer x), for two instants: the actors x, o, the merge, the buffer and the output o
+twice : Plan
+twice = record {
+  tasks =
+      record { form = Given 0; takes = []; gives = 1 ∷ 3 ∷ []; quota = 1 }
+      ∷ record { form = Same; takes = 0 ∷ []; gives = 4 ∷ []; quota = 2 }
+      ∷ record { form = Merged (record { prefix = []; period = true ∷ false ∷ [] }); takes = 1 ∷ 2 ∷ []; gives = 0 ∷ []; quota = 2 }
+      ∷ record { form = Same; takes = 3 ∷ []; gives = 2 ∷ []; quota = 1 }
+      ∷ record { form = Same; takes = 4 ∷ []; gives = []; quota = 2 } ∷ [];
+  links =
+      record { from = 2; to = 1; size = 0 } ∷ record { from = 0; to = 2; size = 0 } ∷ record { from = 3; to = 2; size = 0 }
+      ∷ record { from = 0; to = 3; size = 1 } ∷ record { from = 1; to = 4; size = 0 } ∷ [];
+}
+
+-- x 5, x 6, x 7
+twice_machine : Machine
+twice_machine = machine [] ((pos 5 ∷ pos 6 ∷ pos 7 ∷ []) ∷ []) twice
+
+-- the merge takes from x in the first instant, and from the buffer in the second
+twice_order : List ℕ
+twice_order = 0 ∷ 0 ∷ 2 ∷ 2 ∷ 1 ∷ 1 ∷ 4 ∷ 3 ∷ 3 ∷ 2 ∷ 2 ∷ 1 ∷ 1 ∷ 4 ∷ []
+
+twice_moves : moves twice_machine start twice_order ≡
+    gives 1 5 ∷ gives 3 5 ∷ takes 1 5 ∷ gives 0 5 ∷ takes 0 5 ∷ gives 4 5 ∷ takes 4 5
+    ∷ takes 3 5 ∷ gives 2 5 ∷ takes 2 5 ∷ gives 0 5 ∷ takes 0 5 ∷ gives 4 5 ∷ takes 4 5 ∷ []
+unfolding moves move item_of gives takes twice_machine twice_order twice bit_at ones_to
+twice_moves = refl
+
+twice_finished : (a : ℕ) → after none_done twice_order a ≡ length ((system twice).ops a)
+unfolding twice twice_order bit_at
+twice_finished zero = refl
+twice_finished (suc zero) = refl
+twice_finished (suc (suc zero)) = refl
+twice_finished (suc (suc (suc zero))) = refl
+twice_finished (suc (suc (suc (suc zero)))) = refl
+twice_finished (suc (suc (suc (suc (suc a))))) = after-past none_done twice_order 5 (suc (suc (suc (suc (suc a))))) refl (omega arith)
+
+twice_possible : is_run (system twice) none_done twice_order ≡ true
+unfolding twice twice_order given taken bit_at
+twice_possible = refl
+
+twice_whole : IsWhole (system twice) twice_order
+twice_whole = record { run = IsRun-from_true (system twice) none_done twice_order twice_possible; all = twice_finished }
+
+-- the buffer may take before the merge does, and is possible then
+twice_other : is_run (system twice) none_done (0 ∷ 0 ∷ 3 ∷ 3 ∷ 2 ∷ 2 ∷ []) ≡ true
+unfolding twice given taken bit_at
+twice_other = refl
+
+-- after these, the events that are left of the whole run, in its order
+twice_rest : between (after none_done (0 ∷ 0 ∷ 3 ∷ 3 ∷ 2 ∷ 2 ∷ [])) (after none_done twice_order) twice_order ≡ 1 ∷ 1 ∷ 4 ∷ 2 ∷ 2 ∷ 1 ∷ 1 ∷ 4 ∷ []
+unfolding twice_order
+twice_rest = refl

@@ -1,6 +1,7 @@
 -- Laws of runs: no ring holds more than its size and one, and none holds less than nothing.
 use Rattle.std.proofs.Common.{ℕ, suc, zero, ◌+◌, ◌-◌, ◌<◌, ◌≤◌, ◌≡◌, ◌⊎◌, Bool, true, false, cond, eqb, leb, ltb, ◌&&◌, List, [], ◌∷◌, ◌++◌, length, get_or, take, min, max, ap, sym, refl, ◌∙◌, subst, inl, inr, arith}
 use Rattle.std.specs.Prelude.{Option, Some, None}
+use Rattle.std.specs.List.{list_all}
 use Rattle.std.proofs.lemmas.Bool.{cases_lt, cases_eq, cases_Bool, leb-true, leb-false, and_parts, and_cases, ltb-true, ltb-false}
 use Rattle.lucy_event.specs.Systems.{RingOp, Takes, Gives, System, op_at, IsWired, given, taken}
 use Rattle.lucy_event.specs.Runs.{IsPossible, none_done, step, IsRun, after, IsFinished, IsStuck, IsWhole, IsListed, IsWithin, first_left_from, first_left, between_from, between}
@@ -44,3 +45,10 @@ IsWithin-none sys = record {
 pub after-le : (d : ℕ → ℕ) (picks : List ℕ) (b : ℕ) → d b ≤ after d picks b
 after-le d [] b = omega arith
 after-le d (a ∷ picks) b = omega (arith, after-le (step d a) picks b)
+
+-- actors of a number past those that events name do nothing
+pub after-past : (d : ℕ → ℕ) (picks : List ℕ) (count b : ℕ) → list_all (λ a. ltb a count) picks ≡ true → count ≤ b → after d picks b ≡ d b
+after-past d [] count b h l = refl
+after-past d (a ∷ picks) count b h l =
+    let parts = and_parts (ltb a count) (list_all (λ a. ltb a count) picks) h in
+    after-past (step d a) picks count b parts.1 l ∙ step-other d a b (λ (e : a ≡ b). absurd (omega (arith, ltb-true a count parts.0)))
