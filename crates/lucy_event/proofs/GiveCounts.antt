@@ -10,9 +10,7 @@ use Rattle.lucy_stream.specs.Forms.{Form, Given, Constant, Pointwise, Hosted, Ke
 use Rattle.lucy_stream.specs.Firings.{DoesGive, gave_in}
 use Rattle.lucy_event.specs.Systems.{RingOp, Takes, Gives, is_give, is_take}
 use Rattle.lucy_event.specs.Firings.{firing_ops, ops_of}
-
-abbrev pub times : ℕ → List ℕ → ℕ
-times r xs = count_by (λ s. eqb s r) xs
+use Rattle.lucy_event.specs.Plans.{times}
 
 pub gives_in_takes : (r : ℕ) (ts : List ℕ) → count_by (is_give r) (map Takes ts) ≡ 0
 gives_in_takes r [] = refl

@@ -12,4 +12,9 @@ pub mod PlanLaws
 pub mod HorizonLaws
 pub mod LongerPlans
 pub mod DecidingLaws
+pub mod TurnLaws
+pub mod TurnCounts
+pub mod CoverLaws
+pub mod LeadLaws
+pub mod KahnLaws
 mod Rows

@@ -10,8 +10,9 @@ use Rattle.lucy_stream.specs.Forms.{Form, Given, Constant, Pointwise, Hosted, Ke
 use Rattle.lucy_stream.specs.Firings.{took_in, took_at_give}
 use Rattle.lucy_event.specs.Systems.{RingOp, Takes, Gives, is_give, is_take}
 use Rattle.lucy_event.specs.Firings.{firing_ops, ops_of}
+use Rattle.lucy_event.specs.Plans.{times}
 use Rattle.lucy_event.proofs.CountLaws.{count_take-le, eqb-same}
-use Rattle.lucy_event.proofs.GiveCounts.{times, takes_in_gives, takes_in_takes, count_append, no_give, does_give}
+use Rattle.lucy_event.proofs.GiveCounts.{takes_in_gives, takes_in_takes, count_append, no_give, does_give}
 
 -- in takes that gives follow, all takes stand before a give
 take_after_takes : (q r : ℕ) (ts gs : List ℕ) (i : ℕ) → i < length (map Takes ts ++ map Gives gs) → get_or (map Takes ts ++ map Gives gs) i (Takes 0) ≡ Gives r →

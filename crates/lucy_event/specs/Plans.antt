@@ -1,8 +1,9 @@
 -- Actors by their forms, and the rings between them: the machine that they are, up to their quotas of firings.
-use Rattle.std.specs.Prelude.{ℕ, ◌≤◌, ◌≡◌, List, [], map, ℤ, pos, length, slice_get, slice_index_or, Option, Some, None, All}
+use Rattle.std.specs.Prelude.{ℕ, ◌≤◌, ◌≡◌, List, [], map, ℤ, pos, length, slice_get, slice_index_or, nat_eq, count_by, Option, Some, None, All}
 use Rattle.lucy_host.specs.declared.kind.HostKind.{HostKind}
 use Rattle.lucy_stream.specs.Items.{list_at}
 use Rattle.lucy_stream.specs.Forms.{Form, Given, operands}
+use Rattle.lucy_stream.specs.Iterates.{Place}
 use Rattle.lucy_stream.specs.Firings.{fire_value}
 use Rattle.lucy_event.specs.Systems.{RingOp, System}
 use Rattle.lucy_event.specs.States.{Machine}
@@ -60,10 +61,16 @@ machine kinds inputs plan = record {
   value = λ (a n : ℕ) (took : ℕ → List ℤ). task_value kinds inputs (slice_get plan.tasks a) n took;
 }
 
--- the actor of this number is the one that gives to its rings and takes from them, one for each operand
+-- how often a list has the number
+abbrev pub times : ℕ → List ℕ → ℕ
+times r numbers = count_by (λ s. nat_eq s r) numbers
+
+-- the actor of this number is the one that gives to the rings of its one list, each once, and the one that takes from those of its other list, one for each operand
 pub record IsPluggedAt (plan : Plan) (a : ℕ) (task : Task) : Type 0 where
   pub gives : All (λ r. (link_at plan r).from ≡ a) task.gives
   pub takes : All (λ r. (link_at plan r).to ≡ a) task.takes
+  pub gives_once : (r : ℕ) → times r task.gives ≤ 1
+  pub takes_once : (r : ℕ) → times r task.takes ≤ 1
   pub arity : length task.takes ≡ operands task.form
 
 -- every actor is
@@ -78,3 +85,19 @@ HasInput inputs form quota = Unit {0}
 -- all tasks have
 abbrev pub IsFed : List (List ℤ) → Plan → Type 0
 IsFed inputs plan = (a : ℕ) (task : Task) → slice_get plan.tasks a ≡ Some task → HasInput inputs task.form task.quota
+
+-- the place that an actor is: it reads those that give to its rings
+abbrev pub place_of : Plan → Task → Place
+place_of plan task = record { form = task.form; reads = map (λ r. (link_at plan r).from) task.takes }
+
+-- the places that the actors are
+abbrev pub places_of : Plan → List Place
+places_of plan = map (place_of plan) plan.tasks
+
+-- no actor has more firings
+abbrev pub QuotasWithin : Plan → ℕ → Type 0
+QuotasWithin plan most = (a : ℕ) (task : Task) → slice_get plan.tasks a ≡ Some task → task.quota ≤ most
+
+-- the actors from this number on give to no ring
+abbrev pub GiveBelow : Plan → ℕ → Type 0
+GiveBelow plan count = (a : ℕ) (task : Task) → slice_get plan.tasks a ≡ Some task → count ≤ a → task.gives ≡ []
