@@ -18,10 +18,10 @@ use Rattle.lucy_stream.proofs.IterateLaws.{iterate-front, iterate-at}
 use Rattle.lucy_stream.proofs.FiringLaws.{fire_value-item}
 use Rattle.lucy_event.specs.Systems.{RingOp, Takes, Gives, is_give, is_take}
 use Rattle.lucy_event.specs.Firings.{firing_ops, ops_of, fired_at}
-use Rattle.lucy_event.specs.Plans.{Task, Plan, link_at, task_ops, task_value, machine, times, IsPluggedAt, IsPlugged, HasInput, IsFed, place_of, places_of}
+use Rattle.lucy_event.specs.Plans.{Task, Plan, link_at, task_ops, task_value, machine, times, IsOperand, IsPluggedAt, IsPlugged, HasInput, IsFed, place_of, places_of}
 use Rattle.lucy_event.proofs.CountLaws.{count_take-lt, eqb-same}
 use Rattle.lucy_event.proofs.GiveCounts.{gives_in, gives_in_firing, gives_in_ops, does_give}
-use Rattle.lucy_event.proofs.TakeCounts.{IsOperand, takes_in_ops, took_here}
+use Rattle.lucy_event.proofs.TakeCounts.{takes_in_ops, took_here}
 use Rattle.lucy_event.proofs.FiringLaws.{IsIn, find_firing}
 use Rattle.lucy_event.proofs.TurnLaws.{KeepsTo}
 

@@ -11,16 +11,18 @@ use Rattle.lucy_stream.specs.Items.{list_at}
 use Rattle.lucy_stream.specs.Fronts.{IsFront}
 use Rattle.lucy_stream.specs.Forms.{Form}
 use Rattle.lucy_stream.specs.Iterates.{iterate}
-use Rattle.lucy_stream.proofs.FrontLaws.{IsFront-trans}
+use Rattle.lucy_stream.specs.Firings.{gave_in}
+use Rattle.lucy_stream.proofs.FrontLaws.{IsFront-trans, IsFront-cut, IsFront-length}
 use Rattle.lucy_stream.proofs.IterateLaws.{iterate-fronts}
-use Rattle.lucy_event.specs.Systems.{RingOp, Takes, Gives, is_give}
-use Rattle.lucy_event.specs.Runs.{none_done, IsRun, after}
-use Rattle.lucy_event.specs.States.{Machine, start, events}
+use Rattle.lucy_event.specs.Systems.{RingOp, Takes, Gives, is_give, given}
+use Rattle.lucy_event.specs.Runs.{none_done, IsRun, after, IsFinished, IsWhole}
+use Rattle.lucy_event.specs.States.{Machine, State, start, events, IsState}
 use Rattle.lucy_event.specs.Firings.{firing_ops, ops_of}
 use Rattle.lucy_event.specs.Plans.{Task, Plan, link_at, task_ops, system, machine, times, IsPluggedAt, IsPlugged, IsFed, places_of, QuotasWithin, GiveBelow}
 use Rattle.lucy_event.proofs.CountLaws.{count_take-lt, eqb-same, given-none}
-use Rattle.lucy_event.proofs.StateLaws.{IsState-start}
-use Rattle.lucy_event.proofs.GiveCounts.{gives_in, gives_in_firing, count_append}
+use Rattle.lucy_event.proofs.StateLaws.{IsState-start, IsState-events}
+use Rattle.lucy_event.proofs.GiveCounts.{gives_in_firing, gives_in_ops, count_append}
+use Rattle.lucy_event.proofs.EventLaws.{events-done}
 use Rattle.lucy_event.proofs.PlanLaws.{IsWired-plan, IsLocal-plan}
 use Rattle.lucy_event.proofs.TurnLaws.{fresh, items_in, turn_law}
 use Rattle.lucy_event.proofs.TurnCounts.{few_turns}
@@ -103,3 +105,27 @@ kahn_front kinds inputs plan count most picks is fed below within run r =
     (turn_law m (lead plan) (λ (k b : ℕ). list_at (lists k) b) start picks 0 (IsWired-plan plan is) (IsLocal-plan kinds inputs plan is) (IsLead-plan plan is) (KeepsTo-plan kinds inputs plan is fed) run
       (IsState-start m) (λ q. omega (arith, given-none (system plan) none_done q refl)) (λ q. tt) r)
     (iterate-fronts kinds inputs (places_of plan) (n + 0) (count * most) (omega arith) a)
+
+-- a whole run gives to a ring all that its giver's firings give
+given_all : (plan : Plan) (done : ℕ → ℕ) (r : ℕ) (task : Task) → IsFinished (system plan) done → slice_get plan.tasks (link_at plan r).from ≡ Some task → times r task.gives ≡ 1 → given (system plan) done r ≡ gave_in task.form task.quota
+unfolding given
+given_all plan done r task finished e once =
+    let a : ℕ = (link_at plan r).from in
+    let ops : List RingOp = task_ops (slice_get plan.tasks a) in
+    ap (λ n. count_by (is_give r) (take n ops)) (finished a) ∙ ap (count_by (is_give r)) (take_all (length ops) ops (omega arith))
+    ∙ ap (λ t. count_by (is_give r) (task_ops t)) e ∙ gives_in_ops task.form task.takes task.gives task.quota r once
+
+-- so the list given is the giver's list cut there, and the iterate has so many items
+pub kahn_whole : (kinds : List HostKind) (inputs : List (List ℤ)) (plan : Plan) (count most : ℕ) (order : List ℕ) → IsPlugged plan → IsFed inputs plan → GiveBelow plan count → QuotasWithin plan most → IsWhole (system plan) order →
+    (r : ℕ) (task : Task) → slice_get plan.tasks (link_at plan r).from ≡ Some task → times r task.gives ≡ 1 →
+    ((events (machine kinds inputs plan) start order).gave r ≡ take (gave_in task.form task.quota) (list_at (iterate kinds inputs (places_of plan) (count * most)) (link_at plan r).from))
+    × (gave_in task.form task.quota ≤ length (list_at (iterate kinds inputs (places_of plan) (count * most)) (link_at plan r).from))
+kahn_whole kinds inputs plan count most order is fed below within whole r task e once =
+    let m : Machine = machine kinds inputs plan in
+    let s : State = events m start order in
+    let list : List ℤ = list_at (iterate kinds inputs (places_of plan) (count * most)) (link_at plan r).from in
+    let front : IsFront (s.gave r) list = kahn_front kinds inputs plan count most order is fed below within whole.run r in
+    let state : IsState m s = IsState-events m start order (IsWired-plan plan is) (IsLocal-plan kinds inputs plan is) whole.run (IsState-start m) in
+    let finished : IsFinished (system plan) s.done = λ b. events-done m start order b ∙ whole.all b in
+    let size : length (s.gave r) ≡ gave_in task.form task.quota = state.gave_count r ∙ given_all plan s.done r task finished e once in
+    (IsFront-cut (s.gave r) list front ∙ ap (λ n. take n list) size, omega (arith, IsFront-length (s.gave r) list front))

@@ -10,7 +10,7 @@ use Rattle.lucy_stream.specs.Forms.{Form, Given, Constant, Pointwise, Hosted, Ke
 use Rattle.lucy_stream.specs.Firings.{took_in, took_at_give}
 use Rattle.lucy_event.specs.Systems.{RingOp, Takes, Gives, is_give, is_take}
 use Rattle.lucy_event.specs.Firings.{firing_ops, ops_of}
-use Rattle.lucy_event.specs.Plans.{times}
+use Rattle.lucy_event.specs.Plans.{times, IsOperand}
 use Rattle.lucy_event.proofs.CountLaws.{count_take-le, eqb-same}
 use Rattle.lucy_event.proofs.GiveCounts.{takes_in_gives, takes_in_takes, count_append, no_give, does_give}
 
@@ -34,12 +34,6 @@ take_after_gives : (q r : ℕ) (ts gs : List ℕ) (i : ℕ) → get_or (map Give
 take_after_gives q r ts [] i e = absurd (no_give r ts i e)
 take_after_gives q r ts (g ∷ gs) zero e = refl
 take_after_gives q r ts (g ∷ gs) (suc i) e = take_after_gives q r ts gs i e
-
--- each operand is a ring of its own
-pub record IsOperand (takes : List ℕ) (j q : ℕ) : Type 0 where
-  pub there : j < length takes
-  pub is : get_or takes j 0 ≡ q
-  pub once : times q takes ≡ 1
 
 two_takes : (ts gs : List ℕ) (q : ℕ) → count_by (is_take q) (map Takes ts ++ map Gives gs) ≡ times q ts
 two_takes ts gs q = omega (arith, count_append (is_take q) (map Takes ts) (map Gives gs), takes_in_gives q gs, takes_in_takes q ts)

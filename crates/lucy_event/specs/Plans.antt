@@ -1,5 +1,5 @@
 -- Actors by their forms, and the rings between them: the machine that they are, up to their quotas of firings.
-use Rattle.std.specs.Prelude.{ℕ, ◌≤◌, ◌≡◌, List, [], map, ℤ, pos, length, slice_get, slice_index_or, nat_eq, count_by, Option, Some, None, All}
+use Rattle.std.specs.Prelude.{ℕ, ◌<◌, ◌≤◌, ◌≡◌, List, [], map, ℤ, pos, length, slice_get, slice_index_or, nat_eq, count_by, Option, Some, None, All}
 use Rattle.lucy_host.specs.declared.kind.HostKind.{HostKind}
 use Rattle.lucy_stream.specs.Items.{list_at}
 use Rattle.lucy_stream.specs.Forms.{Form, Given, operands}
@@ -64,6 +64,12 @@ machine kinds inputs plan = record {
 -- how often a list has the number
 abbrev pub times : ℕ → List ℕ → ℕ
 times r numbers = count_by (λ s. nat_eq s r) numbers
+
+-- the ring is that of operand j, and of no other one
+pub record IsOperand (takes : List ℕ) (j r : ℕ) : Type 0 where
+  pub there : j < length takes
+  pub is : slice_index_or takes j 0 ≡ r
+  pub once : times r takes ≡ 1
 
 -- the actor of this number is the one that gives to the rings of its one list, each once, and the one that takes from those of its other list, one for each operand
 pub record IsPluggedAt (plan : Plan) (a : ℕ) (task : Task) : Type 0 where

@@ -8,14 +8,18 @@
 
 mod bounds;
 mod converse;
+mod counts;
 mod horizon;
+mod kahn;
 mod plan;
 mod progress;
 mod states;
 
 pub use bounds::rings_stay_within;
 pub use converse::{states_are_reached, within_is_reached};
+pub use counts::firings_are_counted;
 pub use horizon::{longer_lists_keep_runs, more_firings_are_longer_lists};
+pub use kahn::runs_give_kahn_prefixes;
 pub use plan::plugged_actors_are_wired;
 pub use progress::nothing_is_stuck;
 pub use states::{counts_decide, runs_keep_states, taken_is_a_front};
