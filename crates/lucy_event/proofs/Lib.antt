@@ -17,4 +17,8 @@ pub mod TurnCounts
 pub mod CoverLaws
 pub mod LeadLaws
 pub mod KahnLaws
-mod Rows
+mod Plugged
+mod Moves
+mod RowSum
+mod RowTwice
+mod RowLoop

@@ -1,4 +1,4 @@
--- The events of two small programs, with what they move.
+-- The running sum: its events in two instants, and what they move.
 use Rattle.std.proofs.Common.{ℕ, zero, suc, List, [], ◌∷◌, ◌++◌, ◌≡◌, length, true, false, refl, arith}
 use Rattle.std.specs.Prelude.{ℤ, pos, Some, None}
 use Rattle.std.specs.Int.{int_wrap}
@@ -10,31 +10,11 @@ use Rattle.lucy_stream.specs.Forms.{Form, Given, Pointwise, Merged, Delayed, Sam
 use Rattle.lucy_event.specs.Systems.{RingOp, Takes, Gives, op_at, given, taken}
 use Rattle.lucy_event.specs.Runs.{none_done, step, after, IsRun, IsWhole, first_left, between}
 use Rattle.lucy_event.specs.States.{Machine, State, start, held, event, events}
-use Rattle.lucy_event.specs.Plans.{Task, Link, Plan, system, machine}
+use Rattle.lucy_event.specs.Plans.{Task, Link, Plan, system, machine, IsPluggedAt, IsPlugged}
 use Rattle.lucy_event.proofs.RunLaws.{after-past}
+use Rattle.lucy_event.proofs.Plugged.{IsPluggedAt-from, IsPlugged-from, once_in_none, once_in_one, once_in_two}
+use Rattle.lucy_event.proofs.Moves.{moves, takes, gives}
 use Rattle.lucy_event.proofs.DecidingLaws.{is_run, IsRun-from_true}
-
--- the operation of an event, and the item that it moves
-record Move : Type 0 where
-  pub op : RingOp
-  pub item : ℤ
-
-item_of : Machine → State → ℕ → RingOp → ℤ
-item_of m s a (Takes r) = item_at (held s r) 0
-item_of m s a (Gives r) = m.value a (s.done a) s.took
-
-move : Machine → State → ℕ → Move
-move m s a = record { op = op_at m.sys a (s.done a); item = item_of m s a (op_at m.sys a (s.done a)) }
-
-moves : Machine → State → List ℕ → List Move
-moves m s [] = []
-moves m s (a ∷ picks) = move m s a ∷ moves m (event m s a) picks
-
-takes : ℕ → ℕ → Move
-takes ring item = record { op = Takes ring; item = pos item }
-
-gives : ℕ → ℕ → Move
-gives ring item = record { op = Gives ring; item = pos item }
 
 -- let node sum x = o where rec f = 0 fby o and o = x + f, for two instants: the actors x, f, o, 0 fby o, x + f and the output o
 sum : Plan
@@ -65,7 +45,7 @@ sum_order = sum_instant ++ sum_instant
 sum_moves : moves sum_machine start sum_order ≡
     gives 3 1 ∷ gives 0 0 ∷ takes 0 0 ∷ gives 4 0 ∷ takes 3 1 ∷ takes 4 0 ∷ gives 1 1 ∷ takes 1 1 ∷ gives 2 1 ∷ gives 5 1 ∷ takes 2 1 ∷ takes 5 1
     ∷ gives 3 2 ∷ gives 0 1 ∷ takes 0 1 ∷ gives 4 1 ∷ takes 3 2 ∷ takes 4 1 ∷ gives 1 3 ∷ takes 1 3 ∷ gives 2 3 ∷ gives 5 3 ∷ takes 2 3 ∷ takes 5 3 ∷ []
-unfolding moves move item_of gives takes sum_machine sum_order sum_instant sum op_value int_wrap
+unfolding sum_machine sum_order sum_instant sum op_value int_wrap
 sum_moves = refl
 
 -- the output's list
@@ -101,56 +81,15 @@ sum_next : first_left (step none_done 0) sum_order ≡ Some 3
 unfolding sum_order sum_instant
 sum_next = refl
 
--- let node twice x = o where rec o = merge (10) x (buffer x), for two instants: the actors x, o, the merge, the buffer and the output o
-twice : Plan
-twice = record {
-  tasks =
-      record { form = Given 0; takes = []; gives = 1 ∷ 3 ∷ []; quota = 1 }
-      ∷ record { form = Same; takes = 0 ∷ []; gives = 4 ∷ []; quota = 2 }
-      ∷ record { form = Merged (record { prefix = []; period = true ∷ false ∷ [] }); takes = 1 ∷ 2 ∷ []; gives = 0 ∷ []; quota = 2 }
-      ∷ record { form = Same; takes = 3 ∷ []; gives = 2 ∷ []; quota = 1 }
-      ∷ record { form = Same; takes = 4 ∷ []; gives = []; quota = 2 } ∷ [];
-  links =
-      record { from = 2; to = 1; size = 0 } ∷ record { from = 0; to = 2; size = 0 } ∷ record { from = 3; to = 2; size = 0 }
-      ∷ record { from = 0; to = 3; size = 1 } ∷ record { from = 1; to = 4; size = 0 } ∷ [];
-}
-
--- x 5, x 6, x 7
-twice_machine : Machine
-twice_machine = machine [] ((pos 5 ∷ pos 6 ∷ pos 7 ∷ []) ∷ []) twice
-
--- the merge takes from x in the first instant, and from the buffer in the second
-twice_order : List ℕ
-twice_order = 0 ∷ 0 ∷ 2 ∷ 2 ∷ 1 ∷ 1 ∷ 4 ∷ 3 ∷ 3 ∷ 2 ∷ 2 ∷ 1 ∷ 1 ∷ 4 ∷ []
-
-twice_moves : moves twice_machine start twice_order ≡
-    gives 1 5 ∷ gives 3 5 ∷ takes 1 5 ∷ gives 0 5 ∷ takes 0 5 ∷ gives 4 5 ∷ takes 4 5
-    ∷ takes 3 5 ∷ gives 2 5 ∷ takes 2 5 ∷ gives 0 5 ∷ takes 0 5 ∷ gives 4 5 ∷ takes 4 5 ∷ []
-unfolding moves move item_of gives takes twice_machine twice_order twice bit_at ones_to
-twice_moves = refl
-
-twice_finished : (a : ℕ) → after none_done twice_order a ≡ length ((system twice).ops a)
-unfolding twice twice_order bit_at
-twice_finished zero = refl
-twice_finished (suc zero) = refl
-twice_finished (suc (suc zero)) = refl
-twice_finished (suc (suc (suc zero))) = refl
-twice_finished (suc (suc (suc (suc zero)))) = refl
-twice_finished (suc (suc (suc (suc (suc a))))) = after-past none_done twice_order 5 (suc (suc (suc (suc (suc a))))) refl (omega arith)
-
-twice_possible : is_run (system twice) none_done twice_order ≡ true
-unfolding twice twice_order given taken bit_at
-twice_possible = refl
-
-twice_whole : IsWhole (system twice) twice_order
-twice_whole = record { run = IsRun-from_true (system twice) none_done twice_order twice_possible; all = twice_finished }
-
--- the buffer may take before the merge does, and is possible then
-twice_other : is_run (system twice) none_done (0 ∷ 0 ∷ 3 ∷ 3 ∷ 2 ∷ 2 ∷ []) ≡ true
-unfolding twice given taken bit_at
-twice_other = refl
-
--- after these, the events that are left of the whole run, in its order
-twice_rest : between (after none_done (0 ∷ 0 ∷ 3 ∷ 3 ∷ 2 ∷ 2 ∷ [])) (after none_done twice_order) twice_order ≡ 1 ∷ 1 ∷ 4 ∷ 2 ∷ 2 ∷ 1 ∷ 1 ∷ 4 ∷ []
-unfolding twice_order
-twice_rest = refl
+-- its actors are plugged together
+sum_plugged : IsPlugged sum
+unfolding sum
+sum_plugged =
+    IsPlugged-from sum
+      (IsPluggedAt-from sum 0 _ (refl, tt) tt (once_in_one 3) once_in_none refl,
+      (IsPluggedAt-from sum 1 _ (refl, tt) (refl, tt) (once_in_one 4) (once_in_one 0) refl,
+      (IsPluggedAt-from sum 2 _ (refl, (refl, tt)) (refl, tt) (once_in_two 2 5 (λ e. absurd (omega (arith, e)))) (once_in_one 1) refl,
+      (IsPluggedAt-from sum 3 _ (refl, tt) (refl, tt) (once_in_one 0) (once_in_one 2) refl,
+      (IsPluggedAt-from sum 4 _ (refl, tt) (refl, (refl, tt)) (once_in_one 1) (once_in_two 3 4 (λ e. absurd (omega (arith, e)))) refl,
+      (IsPluggedAt-from sum 5 _ tt (refl, tt) once_in_none (once_in_one 5) refl,
+      tt))))))

@@ -1,0 +1,22 @@
+-- A loop without a delay: nothing is possible, and it isn't finished. So without a whole run states can be stuck.
+use Rattle.std.proofs.Common.{ℕ, zero, suc, ◌<◌, ◌≡◌, List, [], ◌∷◌, length, refl, arith}
+use Rattle.lucy_stream.specs.Forms.{Form, Same}
+use Rattle.lucy_event.specs.Systems.{given, taken}
+use Rattle.lucy_event.specs.Runs.{none_done, IsPossible, IsFinished, IsStuck}
+use Rattle.lucy_event.specs.Plans.{Task, Link, Plan, system}
+
+-- y = y: the one actor takes from its own ring before it gives to it
+loop : Plan
+loop = record { tasks = record { form = Same; takes = 0 ∷ []; gives = 0 ∷ []; quota = 1 } ∷ []; links = record { from = 0; to = 0; size = 0 } ∷ [] }
+
+loop_none : (a : ℕ) → IsPossible (system loop) none_done a → ⊥
+unfolding loop given taken
+loop_none zero is = absurd (omega (arith, is.item_held 0 refl))
+loop_none (suc a) is = absurd (omega (arith, is.left))
+
+loop_unfinished : IsFinished (system loop) none_done → ⊥
+unfolding loop
+loop_unfinished finished = absurd (omega (arith, finished 0))
+
+loop_stuck : IsStuck (system loop) none_done
+loop_stuck = record { unfinished = loop_unfinished; none = loop_none }
