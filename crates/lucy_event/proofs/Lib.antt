@@ -17,6 +17,8 @@ pub mod TurnCounts
 pub mod CoverLaws
 pub mod LeadLaws
 pub mod KahnLaws
+pub mod InstantLaws
+pub mod AlikeLaws
 mod Plugged
 mod Moves
 mod RowSum

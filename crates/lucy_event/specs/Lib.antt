@@ -4,3 +4,4 @@ pub mod States
 pub mod Firings
 pub mod Plans
 pub mod Horizons
+pub mod Instants
