@@ -1,5 +1,5 @@
 -- A run leads from state to state: the counts are those of the lists, and each give is of what the actor had taken.
-use Rattle.std.proofs.Common.{ℕ, suc, zero, ◌+◌, ◌-◌, ◌<◌, ◌≤◌, ◌≡◌, ◌⊎◌, Bool, true, List, [], ◌∷◌, ◌++◌, length, get_or, take, drop, ap, sym, refl, ◌∙◌, subst, inl, inr, arith}
+use Rattle.std.proofs.Common.{ℕ, suc, zero, ◌+◌, ◌-◌, ◌<◌, ◌≤◌, ◌≡◌, ◌⊎◌, Bool, true, List, [], ◌∷◌, ◌++◌, length, get_or, take, drop, ap, sym, refl, ◌∙◌, subst, inl, inr, arith, length-drop}
 use Rattle.std.specs.Prelude.{ℤ, pos}
 use Rattle.std.proofs.lemmas.Bool.{cases_lt, cases_eq}
 use Rattle.std.proofs.lemmas.List.{take_all, length_push, get_or_push}
@@ -101,3 +101,11 @@ IsState-start m = record {
   fronts = λ r. tt;
   values = λ a n r l op. absurd (omega arith);
 }
+
+-- what a ring holds, by the counts
+pub held-count : (m : Machine) (s : State) (r : ℕ) → IsState m s → taken m.sys s.done r + length (held s r) ≡ given m.sys s.done r
+held-count m s r state =
+    omega (arith, length-drop (length (s.took r)) (s.gave r), state.took_count r, state.gave_count r, state.within.behind r)
+
+pub held-most : (m : Machine) (s : State) (r : ℕ) → IsState m s → length (held s r) ≤ m.sys.size r + 1
+held-most m s r state = omega (arith, held-count m s r state, state.within.fits r)

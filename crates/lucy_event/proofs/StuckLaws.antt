@@ -58,6 +58,14 @@ first_left-some sys d order a wired whole some =
     let found : FirstLeft sys d (after none_done order) (first_left d order) = first_left-possible sys d none_done order wired whole.run (λ b. omega arith) in
     subst (FirstLeft sys d (after none_done order)) some found
 
+none_by : (sys : System) (d : ℕ → ℕ) (order : List ℕ) → IsWired sys → IsWhole sys order → IsFinished sys d → (o : Option ℕ) → first_left d order ≡ o → first_left d order ≡ None
+none_by sys d order wired whole finished None e = e
+none_by sys d order wired whole finished (Some a) e = (let is : IsPossible sys d a = first_left-some sys d order a wired whole e in absurd (omega (arith, is.left, finished a)))
+
+-- and only there
+pub first_left-finished : (sys : System) (d : ℕ → ℕ) (order : List ℕ) → IsWired sys → IsWhole sys order → IsFinished sys d → first_left d order ≡ None
+first_left-finished sys d order wired whole finished = none_by sys d order wired whole finished (first_left d order) refl
+
 stuck_by : (sys : System) (d : ℕ → ℕ) (order : List ℕ) → IsWired sys → IsWhole sys order → IsListed sys d → IsStuck sys d → (o : Option ℕ) → first_left d order ≡ o → ⊥
 stuck_by sys d order wired whole listed stuck None e = stuck.unfinished (first_left-none sys d order wired whole listed e)
 stuck_by sys d order wired whole listed stuck (Some a) e = stuck.none a (first_left-some sys d order a wired whole e)

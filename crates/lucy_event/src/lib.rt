@@ -24,4 +24,4 @@ pub use instant::{actors_go_on_or_wait, alike_counts_run_alike};
 pub use kahn::runs_give_kahn_prefixes;
 pub use plan::plugged_actors_are_wired;
 pub use progress::nothing_is_stuck;
-pub use states::{counts_decide, runs_keep_states, taken_is_a_front};
+pub use states::{counts_decide, rings_hold_what_is_counted, runs_keep_states, taken_is_a_front};

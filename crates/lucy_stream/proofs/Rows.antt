@@ -5,9 +5,9 @@ use Rattle.std.specs.Int.{int_wrap}
 use Rattle.lucy_word.specs.Bits.{Bits, bit_at, ones_to}
 use Rattle.lucy_host.specs.OpValue.{op_value}
 use Rattle.lucy_host.specs.HostValue.{host_value}
-use Rattle.lucy_host.specs.declared.op.Op.TheVariants.{Add}
+use Rattle.lucy_host.specs.declared.op.Op.TheVariants.{Add, Not, If}
 use Rattle.lucy_host.specs.declared.kind.HostKind.TheVariants.{Min, Max}
-use Rattle.lucy_stream.specs.Forms.{Form, Given, Pointwise, Hosted, Kept, Merged, Delayed, Same}
+use Rattle.lucy_stream.specs.Forms.{Form, Given, Constant, Pointwise, Hosted, Kept, Merged, Delayed, Same}
 use Rattle.lucy_stream.specs.Iterates.{Place, iterate}
 
 -- let node sum x = o where rec f = 0 fby o and o = x + f: the places x, f, o, 0 fby o, x + f
@@ -71,3 +71,19 @@ top_at_15 : iterate (Min ∷ Max ∷ []) ((pos 3 ∷ pos 1 ∷ pos 5 ∷ []) ∷
     (pos 3 ∷ pos 1 ∷ pos 5 ∷ []) ∷ (pos 3 ∷ pos 3 ∷ pos 5 ∷ []) ∷ (pos 3 ∷ pos 3 ∷ pos 5 ∷ []) ∷ (pos 0 ∷ pos 3 ∷ pos 3 ∷ pos 5 ∷ []) ∷ (pos 3 ∷ []) ∷ []
 unfolding top_places bit_at host_value
 top_at_15 = refl
+
+-- if not c then a else 7: the places c, a, not c, the 7, the if
+choice_places : List Place
+choice_places =
+    record { form = Given 0; reads = [] } ∷ record { form = Given 1; reads = [] } ∷ record { form = Pointwise Not; reads = 0 ∷ [] }
+    ∷ record { form = Constant (pos 7); reads = [] } ∷ record { form = Pointwise If; reads = 2 ∷ 1 ∷ 3 ∷ [] } ∷ []
+
+-- c false, true, false and a 1, a 2, a 3
+choice_lists : ℕ → List (List ℤ)
+choice_lists n = iterate [] ((pos 0 ∷ pos 1 ∷ pos 0 ∷ []) ∷ (pos 1 ∷ pos 2 ∷ pos 3 ∷ []) ∷ []) choice_places n
+
+-- the literal had two copies in the iterate before, so the choice has two items
+choice_at_3 : choice_lists 3 ≡
+    (pos 0 ∷ pos 1 ∷ pos 0 ∷ []) ∷ (pos 1 ∷ pos 2 ∷ pos 3 ∷ []) ∷ (pos 1 ∷ pos 0 ∷ pos 1 ∷ []) ∷ (pos 7 ∷ pos 7 ∷ pos 7 ∷ []) ∷ (pos 1 ∷ pos 7 ∷ []) ∷ []
+unfolding choice_lists choice_places op_value
+choice_at_3 = refl
