@@ -34,13 +34,13 @@ given_alike sys other d e a r wired wired' h can =
     let op : op_at sys a (d a) ≡ op_at other a (e a) = op_at-alike sys other d e a h in
     elim (gives_next sys d a r wired can.left) [
       | inl g ↦ elim (gives_next other e a r wired' (left_after sys other d e a h can.left)) [
-          | inl k ↦ omega (arith, g.1, k.1)
-          | inr k ↦ absurd (k.0 (sym op ∙ g.0))
-        ]
+        | inl k ↦ omega (arith, g.1, k.1)
+        | inr k ↦ absurd (k.0 (sym op ∙ g.0))
+      ]
       | inr g ↦ elim (gives_next other e a r wired' (left_after sys other d e a h can.left)) [
-          | inl k ↦ absurd (g.0 (op ∙ k.0))
-          | inr k ↦ omega (arith, g.1, k.1)
-        ]
+        | inl k ↦ absurd (g.0 (op ∙ k.0))
+        | inr k ↦ omega (arith, g.1, k.1)
+      ]
     ]
 
 taken_alike : (sys other : System) (d e : ℕ → ℕ) (a r : ℕ) → IsWired sys → IsWired other → IsAlike sys d other e → IsPossible sys d a →
@@ -49,13 +49,13 @@ taken_alike sys other d e a r wired wired' h can =
     let op : op_at sys a (d a) ≡ op_at other a (e a) = op_at-alike sys other d e a h in
     elim (takes_next sys d a r wired can.left) [
       | inl g ↦ elim (takes_next other e a r wired' (left_after sys other d e a h can.left)) [
-          | inl k ↦ omega (arith, g.1, k.1)
-          | inr k ↦ absurd (k.0 (sym op ∙ g.0))
-        ]
+        | inl k ↦ omega (arith, g.1, k.1)
+        | inr k ↦ absurd (k.0 (sym op ∙ g.0))
+      ]
       | inr g ↦ elim (takes_next other e a r wired' (left_after sys other d e a h can.left)) [
-          | inl k ↦ absurd (g.0 (op ∙ k.0))
-          | inr k ↦ omega (arith, g.1, k.1)
-        ]
+        | inl k ↦ absurd (g.0 (op ∙ k.0))
+        | inr k ↦ omega (arith, g.1, k.1)
+      ]
     ]
 
 left_step : (sys other : System) (d e : ℕ → ℕ) (a b : ℕ) → IsAlike sys d other e → drop (step d a b) (sys.ops b) ≡ drop (step e a b) (other.ops b)

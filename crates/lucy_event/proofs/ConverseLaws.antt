@@ -60,9 +60,9 @@ clamp_out : (low high s m : ℕ → ℕ) (a : ℕ) → (s a < low a) ⊎ (high a
     m b ≡ clamp low high (step s a) b
 clamp_out low high s m a out same b = elim (cases_eq a b) [
   | inl e ↦ subst (λ (c : ℕ). m c ≡ clamp low high (step s a) c) e (elim out [
-      | inl l ↦ omega (arith, step-same s a, same a)
-      | inr l ↦ omega (arith, step-same s a, same a)
-    ])
+    | inl l ↦ omega (arith, step-same s a, same a)
+    | inr l ↦ omega (arith, step-same s a, same a)
+  ])
   | inr n ↦ omega (arith, step-other s a b n, same b)
 ]
 

@@ -72,13 +72,16 @@ gives_at task k r most l op =
     let some : count_by (is_give r) (take i xs) < count_by (is_give r) (take (length xs) xs) = count_take-lt (is_give r) xs i (length xs) (Takes 0) at.within at.within is in
     let all : count_by (is_give r) (take (length xs) xs) ≡ count_by (is_give r) xs = ap (count_by (is_give r)) (take_all (length xs) xs (omega arith)) in
     let in_one : count_by (is_give r) xs ≡ gives_in task.form task.gives fired r = gives_in_firing task.form task.takes task.gives fired r in
-    let once : times r task.gives ≡ 1 = omega (arith, gives_in-le task.form task.gives fired r) in
-    (fired, i, record {
-      at = at;
-      here = here;
-      once = once;
-      before = omega (arith, at.before (is_give r), gives_in_ops task.form task.takes task.gives fired r once, gives_in-le task.form task.gives fired r);
-    })
+    let once : times r task.gives ≡ 1 = omega (arith, gives_in-le task.form task.gives fired r) in (
+      fired,
+      i,
+      record {
+        at = at;
+        here = here;
+        once = once;
+        before = omega (arith, at.before (is_give r), gives_in_ops task.form task.takes task.gives fired r once, gives_in-le task.form task.gives fired r);
+      },
+    )
 
 -- what a give gives is the next item of the list that its form makes of what was taken
 gives_item : (kinds : List HostKind) (inputs : List (List ℤ)) (plan : Plan) (a n k r : ℕ) (took : ℕ → List ℤ) (task : Task) → IsPluggedAt plan a task → HasInput inputs task.form task.quota →
@@ -94,12 +97,12 @@ gives_item kinds inputs plan a n k r took task is fed le l op len =
     let gives : GivesAt task k r fired i = found.2 in
     let at : IsIn form ts task.gives task.quota k fired i = gives.at in
     let taken : HasTaken form fired (map took ts) = λ j (below : j < operands form).
-      let q : ℕ = get_or ts j 0 in
-      let there : j < length ts = omega (arith, is.arity) in
-      let operand : IsOperand ts j q = record { there = there; is = refl; once = once_at ts j q there refl (is.takes_once q) } in
-      let mine : (link_at plan q).to ≡ a = All-get_or (λ s. (link_at plan s).to ≡ a) ts j 0 there is.takes in
-      let size : length (list_at (map took ts) j) ≡ length (took q) = ap length (operand_of took ts j there) in
-      omega (arith, len q mine, at.before (is_take q), takes_in_ops form ts task.gives fired j q is.arity operand, took_here form ts task.gives fired i j q r is.arity operand at.within gives.here) in
+    let q : ℕ = get_or ts j 0 in
+    let there : j < length ts = omega (arith, is.arity) in
+    let operand : IsOperand ts j q = record { there = there; is = refl; once = once_at ts j q there refl (is.takes_once q) } in
+    let mine : (link_at plan q).to ≡ a = All-get_or (λ s. (link_at plan s).to ≡ a) ts j 0 there is.takes in
+    let size : length (list_at (map took ts) j) ≡ length (took q) = ap length (operand_of took ts j there) in
+    omega (arith, len q mine, at.before (is_take q), takes_in_ops form ts task.gives fired j q is.arity operand, took_here form ts task.gives fired i j q r is.arity operand at.within gives.here) in
     let upto : gave_in form fired ≤ n = omega (arith, gives.before) in
     let item : HasItem (form_list kinds inputs n form (map took ts)) (gave_in form fired) (fire_value kinds inputs form fired (map took ts)) =
     fire_value-item kinds inputs n form fired (map took ts) (there_in_time inputs n form task.quota fired fed at.below upto) taken (does_give form ts task.gives fired i r gives.here) in

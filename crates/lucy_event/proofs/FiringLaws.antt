@@ -37,22 +37,28 @@ find_firing form takes gives (suc q) n l =
     elim (cases_lt n (length old)) [
       | inl h ↦
           let r = find_firing form takes gives q n h in
-          let s : IsIn form takes gives q n r.0 r.1 = r.2 in
-          (r.0, r.1, record {
+          let s : IsIn form takes gives q n r.0 r.1 = r.2 in (
+            r.0,
+            r.1,
+            record {
               below = omega (arith, s.below);
               within = s.within;
               op = get_or_append_left old new (Takes 0) n h ∙ s.op;
               number = get_or_append_left nums (replicate (length new) q) 0 n (omega arith) ∙ s.number;
               before = λ p. ap (count_by p) (take-append-le n old new (omega arith)) ∙ s.before p;
-            })
+            },
+          )
       | inr h ↦
           let i : ℕ = n - length old in
-          let total : length (old ++ new) ≡ length old + length new = length-append old new in
-          (q, i, record {
+          let total : length (old ++ new) ≡ length old + length new = length-append old new in (
+            q,
+            i,
+            record {
               below = omega arith;
               within = omega arith;
               op = get_or-append_right old new (length old) n (Takes 0) refl h;
               number = get_or-append_right nums (replicate (length new) q) (length old) n 0 len h ∙ get_or-replicate (length new) i q 0 (omega arith);
               before = λ p. ap (count_by p) (take_past old new n h) ∙ count_append p old (take i new);
-            })
+            },
+          )
     ]

@@ -21,14 +21,16 @@ by_op sys before after s a wired instant lo hi l (Takes r) e =
     let within : s a < length (sys.ops a) = omega (arith, instant.listed a) in
     elim (cases_lt (taken sys s r) (given sys s r)) [
       | inl some ↦ inl (record {
-          left = within;
-          item_held = λ q op. (let same : Takes r ≡ Takes q = sym e ∙ op in let ring : r ≡ q = cc in subst (λ (t : ℕ). taken sys s t < given sys s t) ring some);
-          room_left = λ q op. (let same : Takes r ≡ Gives q = sym e ∙ op in absurd (cc));
-        })
+        left = within;
+        item_held = λ q op. (let same : Takes r ≡ Takes q = sym e ∙ op in let ring : r ≡ q = cc in subst (λ (t : ℕ). taken sys s t < given sys s t) ring some);
+        room_left = λ q op. (let same : Takes r ≡ Gives q = sym e ∙ op in absurd (cc));
+      })
       | inr none ↦
           let takes : taken sys s r < taken sys after r = taken-lt sys s after a r wired l within e in
           let gives : given sys s r < given sys after r = omega (arith, instant.there r) in
-          inr (r, record {
+          inr (
+            r,
+            record {
               takes = e;
               empty = none;
               later = gives;
@@ -36,7 +38,8 @@ by_op sys before after s a wired instant lo hi l (Takes r) e =
                 | inl left ↦ left
                 | inr done ↦ absurd (omega (arith, given-le sys after s r done))
               ];
-            })
+            },
+          )
     ]
 
 pub possible_or_waits : (sys : System) (before after s : ℕ → ℕ) (a : ℕ) → IsWired sys → IsInstant sys before after → ((b : ℕ) → before b ≤ s b) → ((b : ℕ) → s b ≤ after b) → s a < after a →

@@ -18,7 +18,7 @@ use Rattle.lucy_event.specs.Systems.{RingOp, Takes, Gives, is_give, given}
 use Rattle.lucy_event.specs.Runs.{none_done, IsRun, after, IsFinished, IsWhole}
 use Rattle.lucy_event.specs.States.{Machine, State, start, events, IsState}
 use Rattle.lucy_event.specs.Firings.{firing_ops, ops_of}
-use Rattle.lucy_event.specs.Plans.{Task, Plan, link_at, task_ops, system, machine, times, IsPluggedAt, IsPlugged, IsFed, places_of, QuotasWithin, GiveBelow}
+use Rattle.lucy_event.specs.Plans.{Task, Plan, link_at, task_ops, system, machine, times, IsPluggedAt, IsPlugged, IsFed, places_of, kahn_list, QuotasWithin, GiveBelow}
 use Rattle.lucy_event.proofs.CountLaws.{count_take-lt, eqb-same, given-none}
 use Rattle.lucy_event.proofs.StateLaws.{IsState-start, IsState-events}
 use Rattle.lucy_event.proofs.GiveCounts.{gives_in_firing, gives_in_ops, count_append}
@@ -86,14 +86,14 @@ few_at plan most a n is within (Some task) e =
     let plugged : IsPluggedAt plan a task = is a task e in
     let g : ℕ = first_of task.gives 0 in
     let mine : (k r : ℕ) → k < length ops → get_or ops k (Takes 0) ≡ Gives r → lead plan r ≡ g = λ k r l op.
-      let from : (link_at plan r).from ≡ a = (IsWired-plan plan is).giver a k r (subst (λ (t : Option Task). k < length (task_ops t)) (sym e) l) (ap (λ t. get_or (task_ops t) k (Takes 0)) e ∙ op) in
-      ap (λ b. lead_in (slice_get plan.tasks b) r) from ∙ ap (λ t. lead_in t r) e ∙ first_same task.gives r (λ none. no_gives task k r none l op) in
+    let from : (link_at plan r).from ≡ a = (IsWired-plan plan is).giver a k r (subst (λ (t : Option Task). k < length (task_ops t)) (sym e) l) (ap (λ t. get_or (task_ops t) k (Takes 0)) e ∙ op) in
+    ap (λ b. lead_in (slice_get plan.tasks b) r) from ∙ ap (λ t. lead_in t r) e ∙ first_same task.gives r (λ none. no_gives task k r none l op) in
     let once : task.quota * times g task.gives ≤ task.quota * 1 = mul-le-mul_left task.quota (plugged.gives_once g) in
     omega (arith, sum_by-take-le (fresh (lead plan)) ops n, fresh_gives (lead plan) g ops mine, gives_most task.form task.takes task.gives task.quota g, within a task e)
 
 -- one turn for each firing of each actor that gives suffices
 pub kahn_front : (kinds : List HostKind) (inputs : List (List ℤ)) (plan : Plan) (count most : ℕ) (picks : List ℕ) → IsPlugged plan → IsFed inputs plan → GiveBelow plan count → QuotasWithin plan most → IsRun (system plan) none_done picks →
-    (r : ℕ) → IsFront ((events (machine kinds inputs plan) start picks).gave r) (list_at (iterate kinds inputs (places_of plan) (count * most)) (link_at plan r).from)
+    (r : ℕ) → IsFront ((events (machine kinds inputs plan) start picks).gave r) (kahn_list kinds inputs plan (count * most) r)
 kahn_front kinds inputs plan count most picks is fed below within run r =
     let m : Machine = machine kinds inputs plan in
     let lists : ℕ → List (List ℤ) = iterate kinds inputs (places_of plan) in
@@ -103,7 +103,7 @@ kahn_front kinds inputs plan count most picks is fed below within run r =
     few_turns (system plan) (lead plan) picks count most run (λ b k c l. quiet_at plan count b k below c (slice_get plan.tasks b) refl l) (λ b. few_at plan most b (after none_done picks b) is within (slice_get plan.tasks b) refl) in
     IsFront-trans ((events m start picks).gave r) (list_at (lists (n + 0)) a) (list_at (lists (count * most)) a)
     (turn_law m (lead plan) (λ (k b : ℕ). list_at (lists k) b) start picks 0 (IsWired-plan plan is) (IsLocal-plan kinds inputs plan is) (IsLead-plan plan is) (KeepsTo-plan kinds inputs plan is fed) run
-      (IsState-start m) (λ q. omega (arith, given-none (system plan) none_done q refl)) (λ q. tt) r)
+    (IsState-start m) (λ q. omega (arith, given-none (system plan) none_done q refl)) (λ q. tt) r)
     (iterate-fronts kinds inputs (places_of plan) (n + 0) (count * most) (omega arith) a)
 
 -- a whole run gives to a ring all that its giver's firings give
@@ -118,12 +118,12 @@ given_all plan done r task finished e once =
 -- so the list given is the giver's list cut there, and the iterate has so many items
 pub kahn_whole : (kinds : List HostKind) (inputs : List (List ℤ)) (plan : Plan) (count most : ℕ) (order : List ℕ) → IsPlugged plan → IsFed inputs plan → GiveBelow plan count → QuotasWithin plan most → IsWhole (system plan) order →
     (r : ℕ) (task : Task) → slice_get plan.tasks (link_at plan r).from ≡ Some task → times r task.gives ≡ 1 →
-    ((events (machine kinds inputs plan) start order).gave r ≡ take (gave_in task.form task.quota) (list_at (iterate kinds inputs (places_of plan) (count * most)) (link_at plan r).from))
-    × (gave_in task.form task.quota ≤ length (list_at (iterate kinds inputs (places_of plan) (count * most)) (link_at plan r).from))
+    ((events (machine kinds inputs plan) start order).gave r ≡ take (gave_in task.form task.quota) (kahn_list kinds inputs plan (count * most) r))
+    × (gave_in task.form task.quota ≤ length (kahn_list kinds inputs plan (count * most) r))
 kahn_whole kinds inputs plan count most order is fed below within whole r task e once =
     let m : Machine = machine kinds inputs plan in
     let s : State = events m start order in
-    let list : List ℤ = list_at (iterate kinds inputs (places_of plan) (count * most)) (link_at plan r).from in
+    let list : List ℤ = kahn_list kinds inputs plan (count * most) r in
     let front : IsFront (s.gave r) list = kahn_front kinds inputs plan count most order is fed below within whole.run r in
     let state : IsState m s = IsState-events m start order (IsWired-plan plan is) (IsLocal-plan kinds inputs plan is) whole.run (IsState-start m) in
     let finished : IsFinished (system plan) s.done = λ b. events-done m start order b ∙ whole.all b in

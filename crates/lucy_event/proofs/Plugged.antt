@@ -45,7 +45,7 @@ pub once_in_two : (x y : ℕ) → (x ≡ y → ⊥) → (r : ℕ) → times r (x
 once_in_two x y other r = elim (cases_Bool (eqb x r)) [
   | inr h ↦ subst (λ b. 0 + cond b 1 0 + cond (eqb y r) 1 0 ≤ 1) (sym h) (elim (eqb y r) as (λ b. 0 + 0 + cond b 1 0 ≤ 1) [ true ↦ omega arith | false ↦ omega arith ])
   | inl h ↦ elim (cases_Bool (eqb y r)) [
-      | inl k ↦ absurd (other (eqb-true x r h ∙ sym (eqb-true y r k)))
-      | inr k ↦ subst (λ b. 0 + cond b 1 0 + cond (eqb y r) 1 0 ≤ 1) (sym h) (subst (λ b. 0 + 1 + cond b 1 0 ≤ 1) (sym k) (omega arith))
-    ]
+    | inl k ↦ absurd (other (eqb-true x r h ∙ sym (eqb-true y r k)))
+    | inr k ↦ subst (λ b. 0 + cond b 1 0 + cond (eqb y r) 1 0 ≤ 1) (sym h) (subst (λ b. 0 + 1 + cond b 1 0 ≤ 1) (sym k) (omega arith))
+  ]
 ]

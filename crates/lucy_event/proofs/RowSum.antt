@@ -1,5 +1,5 @@
 -- The running sum: its events in two instants, and what they move.
-use Rattle.std.proofs.Common.{ℕ, zero, suc, List, [], ◌∷◌, ◌++◌, ◌≡◌, length, true, false, refl, arith}
+use Rattle.std.proofs.Common.{ℕ, ◌*◌, zero, suc, List, [], ◌∷◌, ◌++◌, ◌≡◌, length, true, false, refl, arith}
 use Rattle.std.specs.Prelude.{ℤ, pos, Some, None}
 use Rattle.std.specs.Int.{int_wrap}
 use Rattle.lucy_word.specs.Bits.{Bits, bit_at, ones_to}
@@ -10,7 +10,7 @@ use Rattle.lucy_stream.specs.Forms.{Form, Given, Pointwise, Merged, Delayed, Sam
 use Rattle.lucy_event.specs.Systems.{RingOp, Takes, Gives, op_at, given, taken}
 use Rattle.lucy_event.specs.Runs.{none_done, step, after, IsRun, IsWhole, first_left, between}
 use Rattle.lucy_event.specs.States.{Machine, State, start, held, event, events}
-use Rattle.lucy_event.specs.Plans.{Task, Link, Plan, system, machine, IsPluggedAt, IsPlugged}
+use Rattle.lucy_event.specs.Plans.{Task, Link, Plan, system, machine, IsPluggedAt, IsPlugged, kahn_list}
 use Rattle.lucy_event.proofs.RunLaws.{after-past}
 use Rattle.lucy_event.proofs.Plugged.{IsPluggedAt-from, IsPlugged-from, once_in_none, once_in_one, once_in_two}
 use Rattle.lucy_event.proofs.Moves.{moves, takes, gives}
@@ -38,6 +38,7 @@ sum_machine = machine [] ((pos 1 ∷ pos 2 ∷ pos 3 ∷ []) ∷ []) sum
 -- a possible order of an instant's events, and of both instants'
 sum_instant : List ℕ
 sum_instant = 0 ∷ 3 ∷ 1 ∷ 1 ∷ 4 ∷ 4 ∷ 4 ∷ 2 ∷ 2 ∷ 2 ∷ 3 ∷ 5 ∷ []
+
 sum_order : List ℕ
 sum_order = sum_instant ++ sum_instant
 
@@ -52,6 +53,11 @@ sum_moves = refl
 sum_output : (events sum_machine start sum_order).took 5 ≡ pos 1 ∷ pos 3 ∷ []
 unfolding sum_machine sum_order sum_instant sum op_value int_wrap
 sum_output = refl
+
+-- which is, in the iterate after two instants of five places, the list of the output's place
+sum_kahn : kahn_list [] ((pos 1 ∷ pos 2 ∷ pos 3 ∷ []) ∷ []) sum (5 * 2) 5 ≡ pos 1 ∷ pos 3 ∷ []
+unfolding sum op_value int_wrap
+sum_kahn = refl
 
 sum_finished : (a : ℕ) → after none_done sum_order a ≡ length ((system sum).ops a)
 unfolding sum sum_order sum_instant
@@ -85,11 +91,22 @@ sum_next = refl
 sum_plugged : IsPlugged sum
 unfolding sum
 sum_plugged =
-    IsPlugged-from sum
-      (IsPluggedAt-from sum 0 _ (refl, tt) tt (once_in_one 3) once_in_none refl,
-      (IsPluggedAt-from sum 1 _ (refl, tt) (refl, tt) (once_in_one 4) (once_in_one 0) refl,
-      (IsPluggedAt-from sum 2 _ (refl, (refl, tt)) (refl, tt) (once_in_two 2 5 (λ e. absurd (omega (arith, e)))) (once_in_one 1) refl,
-      (IsPluggedAt-from sum 3 _ (refl, tt) (refl, tt) (once_in_one 0) (once_in_one 2) refl,
-      (IsPluggedAt-from sum 4 _ (refl, tt) (refl, (refl, tt)) (once_in_one 1) (once_in_two 3 4 (λ e. absurd (omega (arith, e)))) refl,
-      (IsPluggedAt-from sum 5 _ tt (refl, tt) once_in_none (once_in_one 5) refl,
-      tt))))))
+    IsPlugged-from sum (
+      IsPluggedAt-from sum 0 _ (refl, tt) tt (once_in_one 3) once_in_none refl,
+      (
+        IsPluggedAt-from sum 1 _ (refl, tt) (refl, tt) (once_in_one 4) (once_in_one 0) refl,
+        (
+          IsPluggedAt-from sum 2 _ (refl, (refl, tt)) (refl, tt) (once_in_two 2 5 (λ e. absurd (omega (arith, e)))) (once_in_one 1) refl,
+          (
+            IsPluggedAt-from sum 3 _ (refl, tt) (refl, tt) (once_in_one 0) (once_in_one 2) refl,
+            (
+              IsPluggedAt-from sum 4 _ (refl, tt) (refl, (refl, tt)) (once_in_one 1) (once_in_two 3 4 (λ e. absurd (omega (arith, e)))) refl,
+              (
+                IsPluggedAt-from sum 5 _ tt (refl, tt) once_in_none (once_in_one 5) refl,
+                tt,
+              ),
+            ),
+          ),
+        ),
+      ),
+    )

@@ -74,10 +74,19 @@ twice_rest = refl
 twice_plugged : IsPlugged twice
 unfolding twice
 twice_plugged =
-    IsPlugged-from twice
-      (IsPluggedAt-from twice 0 _ (refl, (refl, tt)) tt (once_in_two 1 3 (λ e. absurd (omega (arith, e)))) once_in_none refl,
-      (IsPluggedAt-from twice 1 _ (refl, tt) (refl, tt) (once_in_one 4) (once_in_one 0) refl,
-      (IsPluggedAt-from twice 2 _ (refl, tt) (refl, (refl, tt)) (once_in_one 0) (once_in_two 1 2 (λ e. absurd (omega (arith, e)))) refl,
-      (IsPluggedAt-from twice 3 _ (refl, tt) (refl, tt) (once_in_one 2) (once_in_one 3) refl,
-      (IsPluggedAt-from twice 4 _ tt (refl, tt) once_in_none (once_in_one 4) refl,
-      tt)))))
+    IsPlugged-from twice (
+      IsPluggedAt-from twice 0 _ (refl, (refl, tt)) tt (once_in_two 1 3 (λ e. absurd (omega (arith, e)))) once_in_none refl,
+      (
+        IsPluggedAt-from twice 1 _ (refl, tt) (refl, tt) (once_in_one 4) (once_in_one 0) refl,
+        (
+          IsPluggedAt-from twice 2 _ (refl, tt) (refl, (refl, tt)) (once_in_one 0) (once_in_two 1 2 (λ e. absurd (omega (arith, e)))) refl,
+          (
+            IsPluggedAt-from twice 3 _ (refl, tt) (refl, tt) (once_in_one 2) (once_in_one 3) refl,
+            (
+              IsPluggedAt-from twice 4 _ tt (refl, tt) once_in_none (once_in_one 4) refl,
+              tt,
+            ),
+          ),
+        ),
+      ),
+    )

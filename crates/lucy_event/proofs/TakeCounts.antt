@@ -52,21 +52,21 @@ merge_takes b (s ∷ t ∷ u ∷ rest) gives j q l o = absurd (omega arith)
 merge_takes true (s ∷ t ∷ []) gives zero q l o = chosen s q gives ∙ ap one_if (eq-eqb s q o.is)
 merge_takes true (s ∷ t ∷ []) gives (suc zero) q l o =
     chosen s q gives ∙ ap one_if (ne_eqb s q (λ (e : s ≡ q).
-      let a : eqb s q ≡ true = eq-eqb s q e in
-      let b : eqb t q ≡ true = eq-eqb t q o.is in
-      let x : one_if (eqb s q) ≡ 1 = ap one_if a in
-      let y : one_if (eqb t q) ≡ 1 = ap one_if b in
-      let z : 0 + one_if (eqb s q) + one_if (eqb t q) ≡ 1 = o.once in
-      absurd (omega arith)))
+    let a : eqb s q ≡ true = eq-eqb s q e in
+    let b : eqb t q ≡ true = eq-eqb t q o.is in
+    let x : one_if (eqb s q) ≡ 1 = ap one_if a in
+    let y : one_if (eqb t q) ≡ 1 = ap one_if b in
+    let z : 0 + one_if (eqb s q) + one_if (eqb t q) ≡ 1 = o.once in
+    absurd (omega arith)))
 merge_takes false (s ∷ t ∷ []) gives (suc zero) q l o = chosen t q gives ∙ ap one_if (eq-eqb t q o.is)
 merge_takes false (s ∷ t ∷ []) gives zero q l o =
     chosen t q gives ∙ ap one_if (ne_eqb t q (λ (e : t ≡ q).
-      let a : eqb s q ≡ true = eq-eqb s q o.is in
-      let b : eqb t q ≡ true = eq-eqb t q e in
-      let x : one_if (eqb s q) ≡ 1 = ap one_if a in
-      let y : one_if (eqb t q) ≡ 1 = ap one_if b in
-      let z : 0 + one_if (eqb s q) + one_if (eqb t q) ≡ 1 = o.once in
-      absurd (omega arith)))
+    let a : eqb s q ≡ true = eq-eqb s q o.is in
+    let b : eqb t q ≡ true = eq-eqb t q e in
+    let x : one_if (eqb s q) ≡ 1 = ap one_if a in
+    let y : one_if (eqb t q) ≡ 1 = ap one_if b in
+    let z : 0 + one_if (eqb s q) + one_if (eqb t q) ≡ 1 = o.once in
+    absurd (omega arith)))
 merge_takes true (s ∷ t ∷ []) gives (suc (suc j)) q l o = absurd (omega (arith, o.there))
 merge_takes false (s ∷ t ∷ []) gives (suc (suc j)) q l o = absurd (omega (arith, o.there))
 

@@ -8,6 +8,7 @@ use Rattle.lucy_event.specs.Runs.{none_done, step, IsRun, after}
 use Rattle.lucy_event.proofs.CountLaws.{step-same, step-other}
 use Rattle.lucy_event.proofs.TurnLaws.{fresh, items_in}
 
+-- the sum of the first terms
 abbrev pub sum_to : ℕ → (ℕ → ℕ) → ℕ
 sum_to zero f = 0
 sum_to (suc n) f = sum_to n f + f n
@@ -52,7 +53,7 @@ items_in-done sys lead s [] count run h = omega arith
 items_in-done sys lead s (a ∷ picks) count run h =
     omega (arith, items_in-done sys lead (step s a) picks count run.1 h, items_step sys lead s a count run.0.left (λ x. h a (s a) x run.0.left))
 
--- so a run needs at most T * A turns, where each actor gives at most T items
+-- so few turns suffice, where each actor gives at most so many items
 pub few_turns : (sys : System) (lead : ℕ → ℕ) (picks : List ℕ) (count most : ℕ) → IsRun sys none_done picks → ((a k : ℕ) → count ≤ a → k < length (sys.ops a) → fresh lead (op_at sys a k) ≡ 0) →
     ((a : ℕ) → items_done sys lead (after none_done picks) a ≤ most) → items_in sys lead none_done picks ≤ count * most
 few_turns sys lead picks count most run h le =

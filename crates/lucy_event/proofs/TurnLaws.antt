@@ -103,13 +103,13 @@ given_next : (sys : System) (lead d : ℕ → ℕ) (a n : ℕ) → IsWired sys �
 given_next sys lead d a n wired leads l le r = elim (gives_next sys d a r wired l) [
   | inr g ↦ omega (arith, le r, g.1)
   | inl g ↦ elim (cases_eq (lead r) r) [
-      | inl same ↦ omega (arith, le r, g.1, fresh-first lead (op_at sys a (d a)) r g.0 same)
-      | inr other ↦
-          let from : sys.from r ≡ a = wired.giver a (d a) r l g.0 in
-          let mine : gives_before sys a (d a) r ≡ given sys d r = given-is sys d a (d a) r from refl in
-          let first : gives_before sys a (d a) (lead r) ≡ given sys d (lead r) = given-is sys d a (d a) (lead r) (leads.same r ∙ from) refl in
-          omega (arith, le (lead r), g.1, leads.first a (d a) r l g.0 other)
-    ]
+    | inl same ↦ omega (arith, le r, g.1, fresh-first lead (op_at sys a (d a)) r g.0 same)
+    | inr other ↦
+        let from : sys.from r ≡ a = wired.giver a (d a) r l g.0 in
+        let mine : gives_before sys a (d a) r ≡ given sys d r = given-is sys d a (d a) r from refl in
+        let first : gives_before sys a (d a) (lead r) ≡ given sys d (lead r) = given-is sys d a (d a) (lead r) (leads.same r ∙ from) refl in
+        omega (arith, le (lead r), g.1, leads.first a (d a) r l g.0 other)
+  ]
 ]
 
 pub turn_law : (m : Machine) (lead : ℕ → ℕ) (turns : ℕ → ℕ → List ℤ) (s : State) (picks : List ℕ) (n : ℕ) → IsWired m.sys → IsLocal m → IsLead m.sys lead → KeepsTo m turns → IsRun m.sys s.done picks → IsState m s →
@@ -119,4 +119,4 @@ turn_law m lead turns s (a ∷ picks) n wired local leads keeps run state le fro
     let f : ℕ = fresh lead (op_at m.sys a (s.done a)) in
     subst (λ (k : ℕ). IsFront ((events m (event m s a) picks).gave r) (turns k (m.sys.from r))) (omega arith)
     (turn_law m lead turns (event m s a) picks (f + n) wired local leads keeps run.1 (IsState-event m s a wired local run.0 state)
-      (given_next m.sys lead s.done a n wired leads run.0.left le) (turn_step m lead turns s a n wired leads keeps run.0 state le fronts) r)
+    (given_next m.sys lead s.done a n wired leads run.0.left le) (turn_step m lead turns s a n wired leads keeps run.0 state le fronts) r)

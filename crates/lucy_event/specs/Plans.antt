@@ -3,7 +3,7 @@ use Rattle.std.specs.Prelude.{ℕ, ◌<◌, ◌≤◌, ◌≡◌, List, [], map,
 use Rattle.lucy_host.specs.declared.kind.HostKind.{HostKind}
 use Rattle.lucy_stream.specs.Items.{list_at}
 use Rattle.lucy_stream.specs.Forms.{Form, Given, operands}
-use Rattle.lucy_stream.specs.Iterates.{Place}
+use Rattle.lucy_stream.specs.Iterates.{Place, iterate}
 use Rattle.lucy_stream.specs.Firings.{fire_value}
 use Rattle.lucy_event.specs.Systems.{RingOp, System}
 use Rattle.lucy_event.specs.States.{Machine}
@@ -99,6 +99,10 @@ place_of plan task = record { form = task.form; reads = map (λ r. (link_at plan
 -- the places that the actors are
 abbrev pub places_of : Plan → List Place
 places_of plan = map (place_of plan) plan.tasks
+
+-- the list, in iterate n of these places, of the actor that gives to the ring
+abbrev pub kahn_list : List HostKind → List (List ℤ) → Plan → ℕ → ℕ → List ℤ
+kahn_list kinds inputs plan n r = list_at (iterate kinds inputs (places_of plan) n) (link_at plan r).from
 
 -- no actor has more firings
 abbrev pub QuotasWithin : Plan → ℕ → Type 0

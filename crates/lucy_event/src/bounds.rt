@@ -6,6 +6,7 @@ ghost use Rattle.lucy_event.specs.Runs.{none_done, IsRun, after, IsWithin};
 /// is given and taken in one instant.
 pub fn rings_stay_within()
     ensures run { (sys : System) (picks : List ℕ) → IsRun sys none_done picks → IsWithin sys (after none_done picks) }
-    ensures later { (sys : System) (done : ℕ → ℕ) (picks : List ℕ) → IsWithin sys done → IsRun sys done picks → IsWithin sys (after done picks) }
-{
-}
+    ensures later { (sys : System) (done : ℕ → ℕ) (picks : List ℕ) →
+        IsWithin sys done → IsRun sys done picks →
+        IsWithin sys (after done picks) }
+{}

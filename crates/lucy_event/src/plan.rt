@@ -8,6 +8,7 @@ ghost use Rattle.lucy_event.specs.Plans.{Plan, system, machine, IsPlugged};
 /// what it took alone.
 pub fn plugged_actors_are_wired()
     ensures wired { (plan : Plan) → IsPlugged plan → IsWired (system plan) }
-    ensures local { (kinds : List HostKind) (inputs : List (List ℤ)) (plan : Plan) → IsPlugged plan → IsLocal (machine kinds inputs plan) }
-{
-}
+    ensures local { (kinds : List HostKind) (inputs : List (List ℤ)) (plan : Plan) →
+        IsPlugged plan →
+        IsLocal (machine kinds inputs plan) }
+{}

@@ -53,10 +53,10 @@ pub item_by_item-front : (count : ℕ) (value : ℤ → ℤ → ℤ → ℤ) (xs
 item_by_item-front count value xs us some looks h =
     IsFront-by_number (λ k. value (item_at (list_at xs 0) k) (item_at (list_at xs 1) k) (item_at (list_at xs 2) k)) (λ k. value (item_at (list_at us 0) k) (item_at (list_at us 1) k) (item_at (list_at us 2) k))
     0 (shortest count xs) (shortest count us) (shortest-rises count xs us h) (λ k above below.
-      let first : item_at (list_at xs 0) k ≡ item_at (list_at us 0) k = operand_item count 0 k xs us h (omega arith) some in
-      let others = looks (item_at (list_at xs 0) k) (item_at (list_at xs 1) k) (item_at (list_at xs 2) k) (item_at (list_at us 1) k) (item_at (list_at us 2) k)
-        (λ there. operand_item count 1 k xs us h (omega arith) there) (λ there. operand_item count 2 k xs us h (omega arith) there) in
-      others ∙ ap (λ t. value t (item_at (list_at us 1) k) (item_at (list_at us 2) k)) first)
+    let first : item_at (list_at xs 0) k ≡ item_at (list_at us 0) k = operand_item count 0 k xs us h (omega arith) some in
+    let others = looks (item_at (list_at xs 0) k) (item_at (list_at xs 1) k) (item_at (list_at xs 2) k) (item_at (list_at us 1) k) (item_at (list_at us 2) k)
+    (λ there. operand_item count 1 k xs us h (omega arith) there) (λ there. operand_item count 2 k xs us h (omega arith) there) in
+    others ∙ ap (λ t. value t (item_at (list_at us 1) k) (item_at (list_at us 2) k)) first)
 
 pub arity-some : (op : Op) → 0 < arity op
 arity-some Not = omega arith

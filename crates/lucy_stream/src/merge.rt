@@ -5,5 +5,4 @@ ghost use Rattle.lucy_stream.specs.Merges.{IsMerge, merged};
 /// A merge is the longest list of its items that are all there.
 pub fn merges_are_longest()
     ensures { (word : Bits) (xs ys : List ℤ) → IsMerge word xs ys (merged word xs ys) }
-{
-}
+{}
