@@ -1,8 +1,8 @@
 -- Runs from counts that are alike are the same runs, in this system and in another.
-use Rattle.std.proofs.Common.{ℕ, suc, zero, ◌+◌, ◌-◌, ◌<◌, ◌≤◌, ◌≡◌, ◌⊎◌, List, [], ◌∷◌, length, get_or, drop, ap, sym, refl, ◌∙◌, subst, inl, inr, arith, length-drop}
+use Rattle.std.proofs.Common.{ℕ, ◌+◌, ◌<◌, ◌≡◌, List, [], ◌∷◌, length, get_or, drop, ap, sym, ◌∙◌, subst, inl, inr, arith, length-drop}
 use Rattle.std.proofs.lemmas.Bool.{cases_eq}
 use Rattle.std.proofs.lemmas.List.{get_or-drop, drop-drop}
-use Rattle.lucy_event.specs.Systems.{RingOp, Takes, Gives, System, op_at, IsWired, given, taken}
+use Rattle.lucy_event.specs.Systems.{Takes, System, op_at, IsWired, given, taken}
 use Rattle.lucy_event.specs.Runs.{IsPossible, step, IsRun, after}
 use Rattle.lucy_event.specs.Instants.{IsAlike}
 use Rattle.lucy_event.proofs.CountLaws.{step-same, step-other, given-le, taken-le, gives_next, takes_next}

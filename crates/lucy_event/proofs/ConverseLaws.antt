@@ -1,11 +1,9 @@
 -- The events between two states, in the order of a whole run, lead from the one to the other: by counts.
-use Rattle.std.proofs.Common.{ℕ, suc, zero, ◌+◌, ◌-◌, ◌<◌, ◌≤◌, ◌≡◌, ◌⊎◌, Bool, true, false, cond, eqb, leb, ltb, ◌&&◌, List, [], ◌∷◌, ◌++◌, length, get_or, take, min, max, ap, sym, refl, ◌∙◌, subst, inl, inr, arith}
-use Rattle.std.specs.Prelude.{Option, Some, None}
+use Rattle.std.proofs.Common.{ℕ, ◌<◌, ◌≤◌, ◌≡◌, ◌⊎◌, Bool, cond, leb, ltb, ◌&&◌, List, [], ◌∷◌, min, max, ap, sym, ◌∙◌, subst, inl, inr, arith}
 use Rattle.std.proofs.lemmas.Bool.{cases_lt, cases_eq, cases_Bool, leb-true, leb-false, and_parts, and_cases, ltb-true, ltb-false}
-use Rattle.lucy_event.specs.Systems.{RingOp, Takes, Gives, System, op_at, IsWired, given, taken}
-use Rattle.lucy_event.specs.Runs.{IsPossible, none_done, step, IsRun, after, Leads, IsFinished, IsStuck, IsWhole, IsListed, IsWithin, first_left_from, first_left, between_from, between}
-use Rattle.lucy_event.proofs.CountLaws.{step-same, step-other, given-le, taken-le, given-lt, taken-lt, given-step, taken-step, given-none, taken-none}
-use Rattle.lucy_event.proofs.RunLaws.{after-le}
+use Rattle.lucy_event.specs.Systems.{Takes, Gives, System, op_at, IsWired, given, taken}
+use Rattle.lucy_event.specs.Runs.{IsPossible, none_done, step, IsRun, after, Leads, IsWhole, IsWithin, between_from, between}
+use Rattle.lucy_event.proofs.CountLaws.{step-same, step-other, given-le, taken-le, given-lt, taken-lt}
 
 -- s held between low and high
 abbrev pub clamp : (ℕ → ℕ) → (ℕ → ℕ) → (ℕ → ℕ) → ℕ → ℕ

@@ -1,23 +1,23 @@
 -- What an actor gives, on fronts of the iterates' lists, is the item of its own list in the next iterate.
-use Rattle.std.proofs.Common.{ℕ, suc, zero, ◌+◌, ◌-◌, ◌<◌, ◌≤◌, ◌≡◌, Bool, true, false, cond, eqb, List, [], ◌∷◌, ◌++◌, map, length, get_or, take, ap, sym, refl, ◌∙◌, subst, inl, inr, arith, add-one}
-use Rattle.std.specs.Prelude.{ℤ, pos, count_by, All, Option, Some, None, slice_get}
+use Rattle.std.proofs.Common.{ℕ, suc, zero, ◌+◌, ◌<◌, ◌≤◌, ◌≡◌, true, false, cond, eqb, List, [], ◌∷◌, map, length, get_or, take, ap, sym, refl, ◌∙◌, subst, arith, add-one}
+use Rattle.std.specs.Prelude.{ℤ, count_by, All, Option, Some, None, slice_get}
 use Rattle.std.proofs.lemmas.Bool.{eq-eqb}
 use Rattle.std.proofs.lemmas.List.{take_all}
 use Rattle.std.proofs.lemmas.List.Elements.{All-get_or, All-head, All-tail}
 use Rattle.lucy_word.specs.Bits.{bit_at}
 use Rattle.lucy_host.specs.declared.kind.HostKind.{HostKind}
-use Rattle.lucy_stream.specs.Items.{item_at, HasItem, list_at}
+use Rattle.lucy_stream.specs.Items.{HasItem, list_at}
 use Rattle.lucy_stream.specs.Fronts.{IsFront, AreFronts}
-use Rattle.lucy_stream.specs.Forms.{Form, Given, Constant, Pointwise, Hosted, Kept, Merged, Delayed, Same, operands}
+use Rattle.lucy_stream.specs.Forms.{Form, Given, Constant, Kept, operands}
 use Rattle.lucy_stream.specs.Lists.{form_list}
-use Rattle.lucy_stream.specs.Iterates.{Place, lists_of, iterate}
-use Rattle.lucy_stream.specs.Firings.{fire_value, DoesGive, gave_in, took_at_give, HasTaken, IsThere}
+use Rattle.lucy_stream.specs.Iterates.{lists_of, iterate}
+use Rattle.lucy_stream.specs.Firings.{fire_value, gave_in, HasTaken, IsThere}
 use Rattle.lucy_stream.proofs.FrontLaws.{IsFront-length, IsFront-item}
 use Rattle.lucy_stream.proofs.ListLaws.{form_list-front}
 use Rattle.lucy_stream.proofs.IterateLaws.{iterate-front, iterate-at}
 use Rattle.lucy_stream.proofs.FiringLaws.{fire_value-item}
 use Rattle.lucy_event.specs.Systems.{RingOp, Takes, Gives, is_give, is_take}
-use Rattle.lucy_event.specs.Firings.{firing_ops, ops_of, fired_at}
+use Rattle.lucy_event.specs.Firings.{firing_ops}
 use Rattle.lucy_event.specs.Plans.{Task, Plan, link_at, task_ops, task_value, machine, times, IsOperand, IsPluggedAt, IsPlugged, HasInput, IsFed, place_of, places_of}
 use Rattle.lucy_event.proofs.CountLaws.{count_take-lt, eqb-same}
 use Rattle.lucy_event.proofs.GiveCounts.{gives_in, gives_in_firing, gives_in_ops, does_give}

@@ -1,5 +1,5 @@
 -- Whether an event is possible, and whether events are a run, as truths that compute.
-use Rattle.std.proofs.Common.{ℕ, ◌+◌, ◌<◌, ◌≤◌, ◌≡◌, Bool, true, false, leb, ltb, ◌&&◌, List, [], ◌∷◌, length, ap, sym, refl, ◌∙◌, subst, arith}
+use Rattle.std.proofs.Common.{ℕ, ◌+◌, ◌<◌, ◌≤◌, ◌≡◌, Bool, true, leb, ltb, ◌&&◌, List, [], ◌∷◌, length, sym, refl, ◌∙◌, subst}
 use Rattle.std.proofs.lemmas.Bool.{and_parts, ltb-true, leb-true}
 use Rattle.lucy_event.specs.Systems.{RingOp, Takes, Gives, System, op_at, given, taken}
 use Rattle.lucy_event.specs.Runs.{IsPossible, step, IsRun}

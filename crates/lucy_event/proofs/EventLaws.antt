@@ -1,14 +1,14 @@
 -- Laws of events: what an operation makes of the lists given to a ring and taken from it.
-use Rattle.std.proofs.Common.{ℕ, suc, zero, ◌+◌, ◌-◌, ◌<◌, ◌≤◌, ◌≡◌, ◌⊎◌, Bool, true, false, cond, eqb, List, [], ◌∷◌, ◌++◌, length, get_or, take, drop, min, ap, sym, refl, ◌∙◌, subst, inl, inr, arith, length-append, length-drop}
+use Rattle.std.proofs.Common.{ℕ, suc, ◌+◌, ◌<◌, ◌≤◌, ◌≡◌, Bool, cond, eqb, List, [], ◌∷◌, ◌++◌, length, take, drop, ap, sym, refl, ◌∙◌, subst, inl, inr, arith, length-append, length-drop}
 use Rattle.std.specs.Prelude.{ℤ, pos}
-use Rattle.std.proofs.lemmas.Bool.{cases_Bool, eq-eqb, ne_eqb}
+use Rattle.std.proofs.lemmas.Bool.{cases_Bool, ne_eqb}
 use Rattle.std.proofs.lemmas.List.{length-take, take-append-le, get_or_append_left}
 use Rattle.lucy_stream.specs.Items.{item_at}
 use Rattle.lucy_stream.specs.Fronts.{IsFront}
-use Rattle.lucy_stream.proofs.FrontLaws.{IsFront-refl, IsFront-trans, IsFront-append, IsFront-more}
+use Rattle.lucy_stream.proofs.FrontLaws.{IsFront-trans, IsFront-append, IsFront-more}
 use Rattle.lucy_event.specs.Systems.{RingOp, Takes, Gives, op_at}
 use Rattle.lucy_event.specs.Runs.{after}
-use Rattle.lucy_event.specs.States.{Machine, State, start, held, gave_after, took_after, event, events}
+use Rattle.lucy_event.specs.States.{Machine, State, gave_after, took_after, event, events}
 use Rattle.lucy_event.proofs.CountLaws.{eqb-same}
 
 -- a give to the ring appends

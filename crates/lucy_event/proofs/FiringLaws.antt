@@ -1,10 +1,10 @@
 -- In which firing an operation is, and what stands before it.
-use Rattle.std.proofs.Common.{ℕ, suc, zero, ◌+◌, ◌-◌, ◌*◌, ◌<◌, ◌≤◌, ◌≡◌, ◌⊎◌, Bool, true, false, cond, eqb, List, [], ◌∷◌, ◌++◌, map, length, get_or, take, ap, sym, refl, ◌∙◌, subst, inl, inr, arith, length-append}
+use Rattle.std.proofs.Common.{ℕ, suc, zero, ◌+◌, ◌-◌, ◌<◌, ◌≤◌, ◌≡◌, Bool, List, [], ◌∷◌, ◌++◌, length, get_or, take, ap, refl, ◌∙◌, inl, inr, arith, length-append}
 use Rattle.std.specs.Prelude.{count_by, replicate}
 use Rattle.std.proofs.lemmas.Bool.{cases_lt}
 use Rattle.std.proofs.lemmas.List.{take-append-le, get_or_append_left, get_or-append_right, length-replicate, get_or-replicate}
 use Rattle.lucy_stream.specs.Forms.{Form}
-use Rattle.lucy_event.specs.Systems.{RingOp, Takes, Gives}
+use Rattle.lucy_event.specs.Systems.{RingOp, Takes}
 use Rattle.lucy_event.specs.Firings.{firing_ops, ops_of, fired_at}
 use Rattle.lucy_event.proofs.GiveCounts.{count_append}
 

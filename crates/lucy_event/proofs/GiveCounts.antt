@@ -1,12 +1,12 @@
 -- The gives of an actor's firings, counted.
-use Rattle.std.proofs.Common.{ℕ, suc, zero, ◌+◌, ◌-◌, ◌*◌, ◌<◌, ◌≤◌, ◌≡◌, ◌⊎◌, Bool, true, false, cond, eqb, List, [], ◌∷◌, ◌++◌, map, length, get_or, take, ap, sym, refl, ◌∙◌, subst, inl, inr, arith, length-append}
-use Rattle.std.specs.Prelude.{count_by, replicate}
+use Rattle.std.proofs.Common.{ℕ, suc, zero, ◌+◌, ◌≡◌, Bool, cond, eqb, List, [], ◌∷◌, ◌++◌, map, get_or, ap, sym, refl, ◌∙◌, inl, inr, arith}
+use Rattle.std.specs.Prelude.{count_by}
 use Rattle.std.proofs.lemmas.Bool.{cases_Bool}
 use Rattle.std.proofs.lemmas.List.{append-nil}
 use Rattle.std.proofs.lemmas.List.Sums.{sum_by-append, sum_by-cons}
-use Rattle.lucy_word.specs.Bits.{Bits, bit_at, one_if, ones_to}
+use Rattle.lucy_word.specs.Bits.{bit_at, one_if, ones_to}
 use Rattle.lucy_word.proofs.BitsLaws.{ones_to-none, ones_to-more}
-use Rattle.lucy_stream.specs.Forms.{Form, Given, Constant, Pointwise, Hosted, Kept, Merged, Delayed, Same}
+use Rattle.lucy_stream.specs.Forms.{Form, Kept, Merged, Delayed}
 use Rattle.lucy_stream.specs.Firings.{DoesGive, gave_in}
 use Rattle.lucy_event.specs.Systems.{RingOp, Takes, Gives, is_give, is_take}
 use Rattle.lucy_event.specs.Firings.{firing_ops, ops_of}

@@ -1,11 +1,11 @@
 -- The same actors with more to do: runs, states and whole runs stay.
-use Rattle.std.proofs.Common.{ℕ, suc, zero, ◌+◌, ◌<◌, ◌≤◌, ◌≡◌, Bool, List, [], ◌∷◌, ◌++◌, length, get_or, take, drop, ap, sym, refl, ◌∙◌, arith}
+use Rattle.std.proofs.Common.{ℕ, ◌<◌, ◌≤◌, ◌≡◌, Bool, List, [], ◌∷◌, ◌++◌, length, get_or, take, drop, ap, sym, refl, ◌∙◌, arith}
 use Rattle.std.specs.Prelude.{ℤ, count_by}
 use Rattle.std.proofs.lemmas.List.{take-take, get_or-take}
 use Rattle.lucy_stream.specs.Items.{item_at}
 use Rattle.lucy_event.specs.Systems.{RingOp, Takes, Gives, System, op_at, is_give, is_take, gives_before, takes_before, given, taken}
 use Rattle.lucy_event.specs.Runs.{IsPossible, none_done, step, IsRun, after, IsFinished, IsWhole, IsWithin}
-use Rattle.lucy_event.specs.States.{Machine, IsLocal, State, start, held, gave_after, took_after, event, events, IsSame, IsState}
+use Rattle.lucy_event.specs.States.{Machine, IsLocal, State, held, gave_after, took_after, event, events, IsSame, IsState}
 use Rattle.lucy_event.specs.Horizons.{IsLonger, KeepsValues}
 use Rattle.lucy_event.proofs.RunLaws.{IsWithin-step, IsWithin-none}
 

@@ -1,5 +1,5 @@
 -- Within an instant an actor can go on, or it waits for an item that another one gives later in it.
-use Rattle.std.proofs.Common.{ℕ, ◌+◌, ◌<◌, ◌≤◌, ◌≡◌, ◌⊎◌, length, ap, sym, refl, ◌∙◌, subst, inl, inr, arith}
+use Rattle.std.proofs.Common.{ℕ, ◌<◌, ◌≤◌, ◌≡◌, ◌⊎◌, length, sym, refl, ◌∙◌, subst, inl, inr, arith}
 use Rattle.std.proofs.lemmas.Bool.{cases_lt}
 use Rattle.lucy_event.specs.Systems.{RingOp, Takes, Gives, System, op_at, IsWired, given, taken}
 use Rattle.lucy_event.specs.Runs.{IsPossible}

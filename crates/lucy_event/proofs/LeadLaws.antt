@@ -1,17 +1,15 @@
 -- The first ring of each actor, to which each of its items goes first.
-use Rattle.std.proofs.Common.{ℕ, suc, zero, ◌+◌, ◌-◌, ◌<◌, ◌≤◌, ◌≡◌, Bool, true, false, cond, eqb, List, [], ◌∷◌, ◌++◌, map, length, get_or, take, ap, sym, refl, ◌∙◌, subst, arith}
+use Rattle.std.proofs.Common.{ℕ, suc, zero, ◌+◌, ◌<◌, ◌≡◌, true, cond, eqb, List, [], ◌∷◌, ◌++◌, map, length, get_or, take, ap, sym, refl, ◌∙◌, subst, arith}
 use Rattle.std.specs.Prelude.{count_by, All, Option, Some, None, slice_get}
-use Rattle.std.proofs.lemmas.Bool.{cases_Bool}
 use Rattle.std.proofs.lemmas.List.Sums.{sum_by-cons}
 use Rattle.std.proofs.lemmas.List.Elements.{All-head}
-use Rattle.lucy_word.specs.Bits.{Bits, bit_at, one_if}
-use Rattle.lucy_stream.specs.Forms.{Form, Given, Constant, Pointwise, Hosted, Kept, Merged, Delayed, Same}
-use Rattle.lucy_event.specs.Systems.{RingOp, Takes, Gives, System, IsWired, is_give, gives_before}
-use Rattle.lucy_event.specs.Firings.{firing_ops, ops_of}
+use Rattle.lucy_word.specs.Bits.{bit_at, one_if}
+use Rattle.lucy_stream.specs.Forms.{Form, Kept, Merged, Delayed}
+use Rattle.lucy_event.specs.Systems.{RingOp, Takes, Gives, is_give, gives_before}
+use Rattle.lucy_event.specs.Firings.{firing_ops}
 use Rattle.lucy_event.specs.Plans.{Task, Plan, link_at, task_ops, system, times, IsPluggedAt, IsPlugged}
 use Rattle.lucy_event.proofs.CountLaws.{eqb-same}
 use Rattle.lucy_event.proofs.GiveCounts.{gives_in_ops, does_give}
-use Rattle.lucy_event.proofs.FiringLaws.{IsIn}
 use Rattle.lucy_event.proofs.CoverLaws.{once_at, GivesAt, gives_at}
 use Rattle.lucy_event.proofs.PlanLaws.{IsWired-plan}
 use Rattle.lucy_event.proofs.TurnLaws.{IsLead}

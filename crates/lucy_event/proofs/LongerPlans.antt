@@ -1,16 +1,15 @@
 -- Actors with as many firings or more have longer lists of operations, with the same values.
-use Rattle.std.proofs.Common.{ℕ, suc, zero, ◌+◌, ◌-◌, ◌<◌, ◌≤◌, ◌≡◌, Bool, List, [], ◌∷◌, ◌++◌, map, length, get_or, take, ap, sym, refl, ◌∙◌, subst, inl, inr, arith, length-append}
-use Rattle.std.specs.Prelude.{ℤ, pos, Option, Some, None, slice_get, replicate}
+use Rattle.std.proofs.Common.{ℕ, suc, zero, ◌<◌, ◌≤◌, ◌≡◌, List, [], ◌∷◌, ◌++◌, map, length, get_or, take, ap, sym, refl, ◌∙◌, subst, inl, inr, arith, length-append}
+use Rattle.std.specs.Prelude.{ℤ, Option, Some, None, slice_get, replicate}
 use Rattle.std.specs.List.{AllZip}
 use Rattle.std.proofs.lemmas.Bool.{cases_eq}
-use Rattle.std.proofs.lemmas.List.{get_or-take, take_all, take-append-le, get_or_append_left}
+use Rattle.std.proofs.lemmas.List.{get_or-take, take_all, take-append-le}
 use Rattle.lucy_host.specs.declared.kind.HostKind.{HostKind}
-use Rattle.lucy_stream.specs.Items.{item_at, list_at}
+use Rattle.lucy_stream.specs.Items.{list_at}
 use Rattle.lucy_stream.specs.Fronts.{AreFronts}
 use Rattle.lucy_stream.specs.Forms.{Form, Given}
 use Rattle.lucy_stream.specs.Firings.{fire_value}
 use Rattle.lucy_stream.proofs.FrontLaws.{IsFront-item}
-use Rattle.lucy_event.specs.Systems.{RingOp, Takes}
 use Rattle.lucy_event.specs.Firings.{firing_ops, ops_of, fired_at}
 use Rattle.lucy_event.specs.Plans.{Task, Plan, Link, link_at, task_ops, system, task_value, machine, HasInput, IsFed, no_link}
 use Rattle.lucy_event.specs.Horizons.{IsLonger, KeepsValues, IsLongerTask, IsLongerPlan}

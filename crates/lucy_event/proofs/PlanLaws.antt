@@ -1,11 +1,10 @@
 -- Actors that are plugged together: each operates on its own rings alone, and gives by what it took alone.
-use Rattle.std.proofs.Common.{ℕ, suc, zero, ◌+◌, ◌<◌, ◌≤◌, ◌≡◌, Bool, true, false, cond, List, [], ◌∷◌, ◌++◌, map, length, get_or, ap, sym, refl, ◌∙◌, subst, inl, inr, arith}
+use Rattle.std.proofs.Common.{ℕ, suc, zero, ◌+◌, ◌<◌, ◌≡◌, true, false, cond, List, [], ◌∷◌, ◌++◌, map, length, get_or, ap, refl, subst, arith}
 use Rattle.std.specs.Prelude.{ℤ, All, Option, Some, None, slice_get}
-use Rattle.std.proofs.lemmas.Bool.{cases_Bool}
 use Rattle.std.proofs.lemmas.List.Elements.{All-append, All-get_or, All-cons, All-nil, All-map, All-head, All-tail}
 use Rattle.lucy_word.specs.Bits.{bit_at}
 use Rattle.lucy_host.specs.declared.kind.HostKind.{HostKind}
-use Rattle.lucy_stream.specs.Forms.{Form, Given, Constant, Pointwise, Hosted, Kept, Merged, Delayed, Same, operands}
+use Rattle.lucy_stream.specs.Forms.{Form, Kept, Merged, Delayed, operands}
 use Rattle.lucy_stream.specs.Firings.{fire_value}
 use Rattle.lucy_event.specs.Systems.{RingOp, Takes, Gives, IsWired}
 use Rattle.lucy_event.specs.States.{IsLocal}

@@ -1,11 +1,11 @@
 -- Events towards a later state make its lists, cut at the counts: so counts decide a state, and the converse holds with values.
-use Rattle.std.proofs.Common.{ℕ, suc, zero, ◌+◌, ◌-◌, ◌<◌, ◌≤◌, ◌≡◌, ◌⊎◌, List, [], ◌∷◌, ◌++◌, length, get_or, take, drop, ap, sym, refl, ◌∙◌, subst, inl, inr, arith, add-one}
+use Rattle.std.proofs.Common.{ℕ, suc, ◌<◌, ◌≤◌, ◌≡◌, List, [], ◌∷◌, ◌++◌, length, take, ap, sym, refl, ◌∙◌, subst, inl, inr, arith}
 use Rattle.std.specs.Prelude.{ℤ, pos}
 use Rattle.std.proofs.lemmas.List.{take-take, take_more, take_all, length-take-le}
 use Rattle.lucy_stream.specs.Items.{item_at}
 use Rattle.lucy_stream.specs.Fronts.{IsFront}
 use Rattle.lucy_stream.proofs.FrontLaws.{IsFront-cut, IsFront-take, IsFront-shorter}
-use Rattle.lucy_event.specs.Systems.{RingOp, Takes, Gives, System, op_at, IsWired, gives_before, takes_before, given, taken}
+use Rattle.lucy_event.specs.Systems.{RingOp, op_at, IsWired, gives_before, takes_before, given, taken}
 use Rattle.lucy_event.specs.Runs.{IsPossible, none_done, step, IsRun, after, Leads, IsWhole, IsWithin, between}
 use Rattle.lucy_event.specs.States.{Machine, IsLocal, State, start, held, event, events, IsSame, IsState, Reaches}
 use Rattle.lucy_event.proofs.CountLaws.{step-same, given-le, taken-le, given-none, taken-none, given-lt, given-is, taken-is, gives_next, takes_next}

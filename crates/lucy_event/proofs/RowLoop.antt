@@ -1,9 +1,9 @@
 -- A loop without a delay is stuck. So where no whole run is known, states can be stuck.
-use Rattle.std.proofs.Common.{ℕ, zero, suc, ◌<◌, ◌≡◌, List, [], ◌∷◌, length, refl, arith}
-use Rattle.lucy_stream.specs.Forms.{Form, Same}
+use Rattle.std.proofs.Common.{ℕ, zero, suc, [], ◌∷◌, refl, arith}
+use Rattle.lucy_stream.specs.Forms.{Same}
 use Rattle.lucy_event.specs.Systems.{System, IsWired, given, taken}
 use Rattle.lucy_event.specs.Runs.{none_done, IsPossible, IsFinished, IsStuck, IsListed}
-use Rattle.lucy_event.specs.Plans.{Task, Link, Plan, system, IsPlugged}
+use Rattle.lucy_event.specs.Plans.{Plan, system, IsPlugged}
 use Rattle.lucy_event.proofs.PlanLaws.{IsWired-plan}
 use Rattle.lucy_event.proofs.Plugged.{IsPluggedAt-from, IsPlugged-from, once_in_one}
 

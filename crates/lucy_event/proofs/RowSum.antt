@@ -1,16 +1,14 @@
 -- The running sum: its events in two instants, and what they move.
 use Rattle.std.proofs.Common.{ℕ, ◌*◌, zero, suc, List, [], ◌∷◌, ◌++◌, ◌≡◌, length, true, false, refl, arith}
-use Rattle.std.specs.Prelude.{ℤ, pos, Some, None}
+use Rattle.std.specs.Prelude.{pos, Some}
 use Rattle.std.specs.Int.{int_wrap}
-use Rattle.lucy_word.specs.Bits.{Bits, bit_at, ones_to}
 use Rattle.lucy_host.specs.OpValue.{op_value}
 use Rattle.lucy_host.specs.declared.op.Op.TheVariants.{Add}
-use Rattle.lucy_stream.specs.Items.{item_at}
-use Rattle.lucy_stream.specs.Forms.{Form, Given, Pointwise, Merged, Delayed, Same}
-use Rattle.lucy_event.specs.Systems.{RingOp, Takes, Gives, op_at, given, taken}
-use Rattle.lucy_event.specs.Runs.{none_done, step, after, IsRun, IsWhole, first_left, between}
-use Rattle.lucy_event.specs.States.{Machine, State, start, held, event, events}
-use Rattle.lucy_event.specs.Plans.{Task, Link, Plan, system, machine, IsPluggedAt, IsPlugged, kahn_list}
+use Rattle.lucy_stream.specs.Forms.{Given, Pointwise, Delayed, Same}
+use Rattle.lucy_event.specs.Systems.{given, taken}
+use Rattle.lucy_event.specs.Runs.{none_done, step, after, IsWhole, first_left}
+use Rattle.lucy_event.specs.States.{Machine, start, events}
+use Rattle.lucy_event.specs.Plans.{Plan, system, machine, IsPlugged, kahn_list}
 use Rattle.lucy_event.proofs.RunLaws.{after-past}
 use Rattle.lucy_event.proofs.Plugged.{IsPluggedAt-from, IsPlugged-from, once_in_none, once_in_one, once_in_two}
 use Rattle.lucy_event.proofs.Moves.{moves, takes, gives}

@@ -1,11 +1,10 @@
 -- Laws of runs: no ring holds more than its size and one, and none holds less than nothing.
-use Rattle.std.proofs.Common.{ℕ, suc, zero, ◌+◌, ◌-◌, ◌<◌, ◌≤◌, ◌≡◌, ◌⊎◌, Bool, true, false, cond, eqb, leb, ltb, ◌&&◌, List, [], ◌∷◌, ◌++◌, length, get_or, take, min, max, ap, sym, refl, ◌∙◌, subst, inl, inr, arith}
-use Rattle.std.specs.Prelude.{Option, Some, None}
+use Rattle.std.proofs.Common.{ℕ, ◌+◌, ◌<◌, ◌≤◌, ◌≡◌, true, ltb, List, [], ◌∷◌, length, refl, ◌∙◌, subst, inl, inr, arith}
 use Rattle.std.specs.List.{list_all}
-use Rattle.std.proofs.lemmas.Bool.{cases_lt, cases_eq, cases_Bool, leb-true, leb-false, and_parts, and_cases, ltb-true, ltb-false}
-use Rattle.lucy_event.specs.Systems.{RingOp, Takes, Gives, System, op_at, IsWired, given, taken}
-use Rattle.lucy_event.specs.Runs.{IsPossible, none_done, step, IsRun, after, IsFinished, IsStuck, IsWhole, IsListed, IsWithin, first_left_from, first_left, between_from, between}
-use Rattle.lucy_event.proofs.CountLaws.{step-same, step-other, given-le, taken-le, given-lt, taken-lt, given-step, taken-step, given-none, taken-none}
+use Rattle.std.proofs.lemmas.Bool.{cases_eq, and_parts, ltb-true}
+use Rattle.lucy_event.specs.Systems.{System}
+use Rattle.lucy_event.specs.Runs.{IsPossible, none_done, step, IsRun, after, IsWithin}
+use Rattle.lucy_event.proofs.CountLaws.{step-same, step-other, given-le, taken-le, given-step, taken-step, given-none, taken-none}
 
 -- no actor is past its list
 IsListed-step : (sys : System) (d : ℕ → ℕ) (a b : ℕ) → IsPossible sys d a → d b ≤ length (sys.ops b) → step d a b ≤ length (sys.ops b)

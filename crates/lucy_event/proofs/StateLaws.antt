@@ -1,13 +1,12 @@
 -- A run leads from state to state: the counts are those of the lists, and each give is of what the actor had taken.
-use Rattle.std.proofs.Common.{ℕ, suc, zero, ◌+◌, ◌-◌, ◌<◌, ◌≤◌, ◌≡◌, ◌⊎◌, Bool, true, List, [], ◌∷◌, ◌++◌, length, get_or, take, drop, ap, sym, refl, ◌∙◌, subst, inl, inr, arith, length-drop}
+use Rattle.std.proofs.Common.{ℕ, ◌+◌, ◌<◌, ◌≤◌, ◌≡◌, List, [], ◌∷◌, length, take, ap, sym, refl, ◌∙◌, subst, inl, inr, arith, length-drop}
 use Rattle.std.specs.Prelude.{ℤ, pos}
 use Rattle.std.proofs.lemmas.Bool.{cases_lt, cases_eq}
 use Rattle.std.proofs.lemmas.List.{take_all, length_push, get_or_push}
 use Rattle.lucy_stream.specs.Items.{item_at}
-use Rattle.lucy_stream.specs.Fronts.{IsFront}
-use Rattle.lucy_event.specs.Systems.{RingOp, Takes, Gives, System, op_at, IsWired, is_give, is_take, gives_before, takes_before, given, taken}
-use Rattle.lucy_event.specs.Runs.{IsPossible, none_done, step, IsRun, after, IsWithin}
-use Rattle.lucy_event.specs.States.{Machine, IsLocal, State, start, held, gave_after, took_after, event, events, IsState}
+use Rattle.lucy_event.specs.Systems.{RingOp, Takes, Gives, op_at, IsWired, is_give, is_take, gives_before, takes_before, given, taken}
+use Rattle.lucy_event.specs.Runs.{IsPossible, none_done, step, IsRun}
+use Rattle.lucy_event.specs.States.{Machine, IsLocal, State, start, held, event, events, IsState}
 use Rattle.lucy_event.proofs.CountLaws.{count_take-le, count_take-lt, eqb-same, step-same, step-other, given-none, taken-none, given-is, taken-is, gives_next, takes_next}
 use Rattle.lucy_event.proofs.RunLaws.{IsWithin-step, IsWithin-none}
 use Rattle.lucy_event.proofs.EventLaws.{gave_after-give, gave_after-other, took_after-take, took_after-other, gave_after-item, took_after-take_front, front_after, next_length}

@@ -1,10 +1,10 @@
 -- What isn't finished isn't stuck: the first event of a whole run that isn't done is possible, whatever else is done.
-use Rattle.std.proofs.Common.{ℕ, suc, zero, ◌+◌, ◌-◌, ◌<◌, ◌≤◌, ◌≡◌, ◌⊎◌, Bool, true, false, cond, eqb, leb, ltb, ◌&&◌, List, [], ◌∷◌, ◌++◌, length, get_or, take, min, max, ap, sym, refl, ◌∙◌, subst, inl, inr, arith}
+use Rattle.std.proofs.Common.{ℕ, ◌<◌, ◌≤◌, ◌≡◌, Bool, cond, leb, List, [], ◌∷◌, ap, sym, refl, ◌∙◌, subst, inl, inr, arith}
 use Rattle.std.specs.Prelude.{Option, Some, None}
-use Rattle.std.proofs.lemmas.Bool.{cases_lt, cases_eq, cases_Bool, leb-true, leb-false, and_parts, and_cases, ltb-true, ltb-false}
-use Rattle.lucy_event.specs.Systems.{RingOp, Takes, Gives, System, op_at, IsWired, given, taken}
-use Rattle.lucy_event.specs.Runs.{IsPossible, none_done, step, IsRun, after, IsFinished, IsStuck, IsWhole, IsListed, IsWithin, first_left_from, first_left, between_from, between}
-use Rattle.lucy_event.proofs.CountLaws.{step-same, step-other, given-le, taken-le, given-lt, taken-lt, given-step, taken-step, given-none, taken-none}
+use Rattle.std.proofs.lemmas.Bool.{cases_eq, cases_Bool, leb-true, leb-false}
+use Rattle.lucy_event.specs.Systems.{Takes, Gives, System, op_at, IsWired}
+use Rattle.lucy_event.specs.Runs.{IsPossible, none_done, step, IsRun, after, IsFinished, IsStuck, IsWhole, IsListed, first_left_from, first_left}
+use Rattle.lucy_event.proofs.CountLaws.{step-same, step-other, given-le, taken-le}
 
 -- an event that is possible at s is possible at d, if its actor stands alike and no other one has done less
 pub IsPossible-later : (sys : System) (s d : ℕ → ℕ) (a : ℕ) → IsWired sys → IsPossible sys s a → d a ≡ s a → ((b : ℕ) → s b ≤ d b) → IsPossible sys d a

@@ -1,17 +1,17 @@
 -- The takes of an actor's firings, counted.
-use Rattle.std.proofs.Common.{ℕ, suc, zero, ◌+◌, ◌-◌, ◌*◌, ◌<◌, ◌≤◌, ◌≡◌, ◌⊎◌, Bool, true, false, cond, eqb, List, [], ◌∷◌, ◌++◌, map, length, get_or, take, ap, sym, refl, ◌∙◌, subst, inl, inr, arith, length-append}
-use Rattle.std.specs.Prelude.{count_by, replicate}
+use Rattle.std.proofs.Common.{ℕ, suc, zero, ◌+◌, ◌<◌, ◌≤◌, ◌≡◌, Bool, true, false, cond, eqb, List, [], ◌∷◌, ◌++◌, map, length, get_or, take, ap, sym, refl, ◌∙◌, subst, inl, inr, arith}
+use Rattle.std.specs.Prelude.{count_by}
 use Rattle.std.proofs.lemmas.Bool.{cases_Bool, eq-eqb, ne_eqb}
 use Rattle.std.proofs.lemmas.List.{take_all}
 use Rattle.std.proofs.lemmas.List.Sums.{sum_by-cons}
-use Rattle.lucy_word.specs.Bits.{Bits, bit_at, one_if, ones_to}
+use Rattle.lucy_word.specs.Bits.{Bits, bit_at, one_if}
 use Rattle.lucy_word.proofs.BitsLaws.{ones_to-none, ones_to-more, ones_to-le}
-use Rattle.lucy_stream.specs.Forms.{Form, Given, Constant, Pointwise, Hosted, Kept, Merged, Delayed, Same, operands}
+use Rattle.lucy_stream.specs.Forms.{Form, Kept, Merged, Delayed, operands}
 use Rattle.lucy_stream.specs.Firings.{took_in, took_at_give}
-use Rattle.lucy_event.specs.Systems.{RingOp, Takes, Gives, is_give, is_take}
+use Rattle.lucy_event.specs.Systems.{RingOp, Takes, Gives, is_take}
 use Rattle.lucy_event.specs.Firings.{firing_ops, ops_of}
 use Rattle.lucy_event.specs.Plans.{times, IsOperand}
-use Rattle.lucy_event.proofs.CountLaws.{count_take-le, eqb-same}
+use Rattle.lucy_event.proofs.CountLaws.{count_take-le}
 use Rattle.lucy_event.proofs.GiveCounts.{takes_in_gives, takes_in_takes, count_append, no_give, does_give}
 
 -- in takes that gives follow, all takes stand before a give

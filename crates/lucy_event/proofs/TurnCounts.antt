@@ -1,9 +1,9 @@
 -- How many items a run gives to their first rings: at most as many as its actors have firings.
-use Rattle.std.proofs.Common.{ℕ, suc, zero, ◌+◌, ◌-◌, ◌*◌, ◌<◌, ◌≤◌, ◌≡◌, List, [], ◌∷◌, length, take, ap, sym, refl, ◌∙◌, subst, inl, inr, arith}
+use Rattle.std.proofs.Common.{ℕ, suc, zero, ◌+◌, ◌*◌, ◌<◌, ◌≤◌, ◌≡◌, List, [], ◌∷◌, length, take, ap, refl, ◌∙◌, subst, inl, inr, arith}
 use Rattle.std.specs.Prelude.{sum_by}
 use Rattle.std.proofs.lemmas.List.Sums.{sum_by_more}
 use Rattle.std.proofs.lemmas.Bool.{cases_lt, cases_eq}
-use Rattle.lucy_event.specs.Systems.{RingOp, Takes, System, op_at}
+use Rattle.lucy_event.specs.Systems.{Takes, System, op_at}
 use Rattle.lucy_event.specs.Runs.{none_done, step, IsRun, after}
 use Rattle.lucy_event.proofs.CountLaws.{step-same, step-other}
 use Rattle.lucy_event.proofs.TurnLaws.{fresh, items_in}

@@ -1,15 +1,14 @@
 -- The turns that a run needs: one for each item, however many rings carry it. So what was given to a ring is a front of its giver's list in that iterate.
-use Rattle.std.proofs.Common.{ℕ, suc, zero, ◌+◌, ◌-◌, ◌*◌, ◌<◌, ◌≤◌, ◌≡◌, ◌⊎◌, Bool, true, false, cond, eqb, List, [], ◌∷◌, ◌++◌, length, get_or, take, ap, sym, refl, ◌∙◌, subst, inl, inr, arith, add-one}
-use Rattle.std.specs.Prelude.{ℤ, pos, sum_by}
-use Rattle.std.proofs.lemmas.List.Sums.{sum_by_more}
-use Rattle.std.proofs.lemmas.Bool.{cases_lt, cases_eq, cases_Bool, eq-eqb, ne_eqb}
+use Rattle.std.proofs.Common.{ℕ, suc, zero, ◌+◌, ◌<◌, ◌≤◌, ◌≡◌, true, false, cond, eqb, List, [], ◌∷◌, length, ap, sym, refl, ◌∙◌, subst, inl, inr, arith}
+use Rattle.std.specs.Prelude.{ℤ}
+use Rattle.std.proofs.lemmas.Bool.{cases_eq, eq-eqb, ne_eqb}
 use Rattle.lucy_stream.specs.Items.{item_at, HasItem}
 use Rattle.lucy_stream.specs.Fronts.{IsFront}
 use Rattle.lucy_stream.proofs.FrontLaws.{IsFront-trans, IsFront-push, IsFront-length, IsFront-item}
-use Rattle.lucy_event.specs.Systems.{RingOp, Takes, Gives, System, op_at, IsWired, gives_before, takes_before, given, taken}
-use Rattle.lucy_event.specs.Runs.{IsPossible, none_done, step, IsRun, after}
+use Rattle.lucy_event.specs.Systems.{RingOp, Takes, Gives, System, op_at, IsWired, gives_before, takes_before, given}
+use Rattle.lucy_event.specs.Runs.{IsPossible, step, IsRun}
 use Rattle.lucy_event.specs.States.{Machine, IsLocal, State, event, events, IsState}
-use Rattle.lucy_event.proofs.CountLaws.{step-same, step-other, given-is, taken-is, gives_next}
+use Rattle.lucy_event.proofs.CountLaws.{given-is, taken-is, gives_next}
 use Rattle.lucy_event.proofs.EventLaws.{gave_after-give, gave_after-other}
 use Rattle.lucy_event.proofs.StateLaws.{IsState-event}
 

@@ -1,6 +1,6 @@
 -- One instant of a system, from the counts before it to those after it.
-use Rattle.std.specs.Prelude.{ℕ, ◌+◌, ◌<◌, ◌≤◌, ◌≡◌, length, drop}
-use Rattle.lucy_event.specs.Systems.{RingOp, Takes, System, op_at, given, taken}
+use Rattle.std.specs.Prelude.{ℕ, ◌+◌, ◌<◌, ◌≤◌, ◌≡◌, drop}
+use Rattle.lucy_event.specs.Systems.{Takes, System, op_at, given, taken}
 use Rattle.lucy_event.specs.Runs.{IsListed}
 
 -- what adaptability says of an instant: a ring holds at most its size before it, one item at most is given to a ring in it, and what is taken in it was given before or in it

@@ -1,6 +1,6 @@
 -- Events and runs. An event is the next operation of an actor; whether it is possible depends on counts alone.
 use Rattle.std.specs.Prelude.{ℕ, ◌+◌, ◌<◌, ◌≤◌, ◌≡◌, List, [], ◌∷◌, length, nat_eq, nat_le, nat_lt, ◌&&◌, if◌then◌else◌, Option, Some, None}
-use Rattle.lucy_event.specs.Systems.{RingOp, Takes, Gives, System, op_at, given, taken}
+use Rattle.lucy_event.specs.Systems.{Takes, Gives, System, op_at, given, taken}
 
 -- the actor's next operation is possible: a take where an item is held, a give where at most the ring's size is held
 pub record IsPossible (sys : System) (done : ℕ → ℕ) (a : ℕ) : Type 0 where

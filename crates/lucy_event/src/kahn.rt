@@ -18,17 +18,12 @@ pub fn runs_give_kahn_prefixes()
         IsPlugged plan → IsFed inputs plan → GiveBelow plan count → QuotasWithin plan most →
         IsRun (system plan) none_done picks →
         IsFront ((events (machine kinds inputs plan) start picks).took r) (kahn_list kinds inputs plan (count * most) r) }
-    ensures whole {
-        (kinds : List HostKind) (inputs : List (List ℤ)) (plan : Plan) (count most : ℕ) (order : List ℕ) (r : ℕ) (task : Task) →
+    ensures whole { (kinds : List HostKind) (inputs : List (List ℤ)) (plan : Plan) (count most : ℕ) (order : List ℕ) (r : ℕ) (task : Task) →
         IsPlugged plan → IsFed inputs plan → GiveBelow plan count → QuotasWithin plan most →
         IsWhole (system plan) order → slice_get plan.tasks (link_at plan r).from ≡ Some task → times r task.gives ≡ 1 →
-        (events (machine kinds inputs plan) start order).gave r ≡ take (gave_in task.form task.quota) (kahn_list kinds inputs plan (count * most) r)
-    }
-    ensures enough {
-        (kinds : List HostKind) (inputs : List (List ℤ)) (plan : Plan) (count most : ℕ) (order : List ℕ) (r : ℕ) (task : Task) →
+        (events (machine kinds inputs plan) start order).gave r ≡ take (gave_in task.form task.quota) (kahn_list kinds inputs plan (count * most) r) }
+    ensures enough { (kinds : List HostKind) (inputs : List (List ℤ)) (plan : Plan) (count most : ℕ) (order : List ℕ) (r : ℕ) (task : Task) →
         IsPlugged plan → IsFed inputs plan → GiveBelow plan count → QuotasWithin plan most →
         IsWhole (system plan) order → slice_get plan.tasks (link_at plan r).from ≡ Some task → times r task.gives ≡ 1 →
-        gave_in task.form task.quota ≤ length (kahn_list kinds inputs plan (count * most) r)
-    }
-{
-}
+        gave_in task.form task.quota ≤ length (kahn_list kinds inputs plan (count * most) r) }
+{}

@@ -1,6 +1,6 @@
 -- Laws of firings: what a firing gives is the item of its number in the form's list of what was taken.
-use Rattle.std.proofs.Common.{ℕ, suc, zero, ◌+◌, ◌-◌, ◌<◌, ◌≤◌, ◌≡◌, Bool, true, false, cond, List, [], ◌∷◌, min, map, length, get_or, ap, sym, refl, ◌∙◌, subst, inl, inr, arith, add-one}
-use Rattle.std.specs.Prelude.{ℤ, pos, Option, Some, None, slice_get, replicate}
+use Rattle.std.proofs.Common.{ℕ, suc, zero, ◌+◌, ◌-◌, ◌<◌, ◌≤◌, ◌≡◌, Bool, true, false, cond, List, [], ◌∷◌, map, length, get_or, ap, sym, refl, ◌∙◌, subst, inl, inr, arith, add-one}
+use Rattle.std.specs.Prelude.{ℤ, pos, Option, Some}
 use Rattle.std.specs.List.{range_with_len}
 use Rattle.std.proofs.lemmas.Bool.{cases_Bool}
 use Rattle.std.proofs.lemmas.List.{get_or-replicate, length-replicate}
@@ -9,13 +9,12 @@ use Rattle.lucy_word.specs.Bits.{Bits, bit_at, one_if, ones_to}
 use Rattle.lucy_word.proofs.BitsLaws.{ones_to-none, ones_to-more, ones_to-le}
 use Rattle.lucy_word.proofs.IndexLaws.{ones_to-rises}
 use Rattle.lucy_host.specs.OpValue.{op_value}
-use Rattle.lucy_host.specs.declared.op.Op.{Op}
 use Rattle.lucy_host.specs.declared.kind.HostKind.{HostKind}
 use Rattle.lucy_stream.specs.Items.{item_at, newest, HasItem, list_at}
-use Rattle.lucy_stream.specs.Forms.{Form, Given, Constant, Pointwise, Hosted, Kept, Merged, Delayed, Same, arity, operands}
+use Rattle.lucy_stream.specs.Forms.{Form, Given, Constant, Pointwise, Hosted, Kept, Merged, Delayed, Same, arity}
 use Rattle.lucy_stream.specs.Merges.{merge_item, item_then, items_past, merged}
 use Rattle.lucy_stream.specs.Lists.{shortest, item_by_item, hosted_value, kept_past, form_list}
-use Rattle.lucy_stream.specs.Firings.{delayed_value, fire_value, DoesGive, gave_in, HasTaken, IsThere}
+use Rattle.lucy_stream.specs.Firings.{fire_value, DoesGive, gave_in, HasTaken, IsThere}
 use Rattle.lucy_stream.proofs.MergeLaws.{merge_item-one, merge_item-zero, get_some}
 use Rattle.lucy_stream.proofs.ListLaws.{op_value-lacks, LooksAt, arity-some, hosted_value-looks}
 

@@ -1,8 +1,8 @@
 -- Laws of fronts.
-use Rattle.std.proofs.Common.{ℕ, suc, zero, ◌+◌, ◌<◌, ◌≤◌, ◌≡◌, List, [], ◌∷◌, ◌++◌, map, length, get_or, take, drop, ap, sym, refl, ◌∙◌, arith}
-use Rattle.std.specs.Prelude.{ℤ, pos, Option, Some, None, slice_get, replicate}
+use Rattle.std.proofs.Common.{ℕ, suc, zero, ◌+◌, ◌<◌, ◌≤◌, ◌≡◌, List, [], ◌∷◌, ◌++◌, map, length, take, drop, ap, sym, refl, ◌∙◌, arith}
+use Rattle.std.specs.Prelude.{ℤ, Some, slice_get, replicate}
 use Rattle.std.specs.List.{range_with_len}
-use Rattle.lucy_stream.specs.Items.{item_at, list_at}
+use Rattle.lucy_stream.specs.Items.{item_at}
 use Rattle.lucy_stream.specs.Fronts.{IsFront, AreFronts}
 
 pub IsFront-refl : (xs : List ℤ) → IsFront xs xs

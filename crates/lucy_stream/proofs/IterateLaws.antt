@@ -1,12 +1,11 @@
 -- Laws of the iterates: each list of one is a front of the same list in the next.
-use Rattle.std.proofs.Common.{ℕ, suc, zero, ◌+◌, ◌<◌, ◌≤◌, ◌≡◌, List, [], ◌∷◌, map, length, ap, sym, refl, ◌∙◌, subst, inl, inr, arith}
-use Rattle.std.specs.Prelude.{ℤ, Option, Some, None, slice_get}
+use Rattle.std.proofs.Common.{ℕ, suc, zero, ◌<◌, ◌≤◌, ◌≡◌, List, [], ◌∷◌, map, length, ap, sym, subst, inl, inr, arith}
+use Rattle.std.specs.Prelude.{ℤ, Some, slice_get}
 use Rattle.std.proofs.lemmas.List.{length-map}
 use Rattle.std.proofs.lemmas.Bool.{cases_eq}
 use Rattle.lucy_host.specs.declared.kind.HostKind.{HostKind}
 use Rattle.lucy_stream.specs.Items.{list_at}
 use Rattle.lucy_stream.specs.Fronts.{IsFront, AreFronts}
-use Rattle.lucy_stream.specs.Forms.{Form}
 use Rattle.lucy_stream.specs.Lists.{form_list}
 use Rattle.lucy_stream.specs.Iterates.{Place, lists_of, iterate}
 use Rattle.lucy_stream.proofs.FrontLaws.{IsFront-refl, IsFront-trans, AreFronts-map}

@@ -1,7 +1,6 @@
 -- Laws of the forms' lists: they grow as the operands' lists grow.
-use Rattle.std.proofs.Common.{ℕ, suc, zero, ◌+◌, ◌<◌, ◌≤◌, ◌≡◌, Bool, true, false, cond, List, [], ◌∷◌, min, map, length, ap, sym, refl, ◌∙◌, subst, inl, inr, arith}
-use Rattle.std.specs.Prelude.{ℤ, pos}
-use Rattle.std.specs.List.{range_with_len}
+use Rattle.std.proofs.Common.{ℕ, suc, zero, ◌+◌, ◌<◌, ◌≤◌, ◌≡◌, Bool, cond, List, [], ◌∷◌, length, ap, sym, refl, ◌∙◌, subst, inl, inr, arith}
+use Rattle.std.specs.Prelude.{ℤ}
 use Rattle.std.proofs.lemmas.Bool.{cases_Bool, cases_lt}
 use Rattle.lucy_word.specs.Bits.{Bits, bit_at}
 use Rattle.lucy_host.specs.OpValue.{op_value}

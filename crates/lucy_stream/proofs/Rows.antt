@@ -2,12 +2,12 @@
 use Rattle.std.proofs.Common.{ℕ, List, [], ◌∷◌, ◌≡◌, true, false, refl}
 use Rattle.std.specs.Prelude.{ℤ, pos}
 use Rattle.std.specs.Int.{int_wrap}
-use Rattle.lucy_word.specs.Bits.{Bits, bit_at, ones_to}
+use Rattle.lucy_word.specs.Bits.{bit_at, ones_to}
 use Rattle.lucy_host.specs.OpValue.{op_value}
 use Rattle.lucy_host.specs.HostValue.{host_value}
 use Rattle.lucy_host.specs.declared.op.Op.TheVariants.{Add, Not, If}
 use Rattle.lucy_host.specs.declared.kind.HostKind.TheVariants.{Min, Max}
-use Rattle.lucy_stream.specs.Forms.{Form, Given, Constant, Pointwise, Hosted, Kept, Merged, Delayed, Same}
+use Rattle.lucy_stream.specs.Forms.{Given, Constant, Pointwise, Hosted, Kept, Merged, Delayed, Same}
 use Rattle.lucy_stream.specs.Iterates.{Place, iterate}
 
 -- let node sum x = o where rec f = 0 fby o and o = x + f: the places x, f, o, 0 fby o, x + f
