@@ -1,4 +1,5 @@
--- The ring operations of an actor, by its form and by the rings that it takes from (one for each operand, in order) and gives to.
+-- The ring operations of an actor, by its form, by the rings that it takes from, one for each operand in order, and by the
+-- rings that it gives to.
 use Rattle.std.specs.Prelude.{ℕ, suc, zero, ◌+◌, List, [], ◌∷◌, ◌++◌, map, length, replicate, slice_index_or, if◌then◌else◌}
 use Rattle.lucy_word.specs.Bits.{bit_at}
 use Rattle.lucy_stream.specs.Forms.{Form, Kept, Merged, Delayed}

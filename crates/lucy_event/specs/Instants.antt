@@ -3,7 +3,8 @@ use Rattle.std.specs.Prelude.{ℕ, ◌+◌, ◌<◌, ◌≤◌, ◌≡◌, drop}
 use Rattle.lucy_event.specs.Systems.{Takes, System, op_at, given, taken}
 use Rattle.lucy_event.specs.Runs.{IsListed}
 
--- what adaptability says of an instant: a ring holds at most its size before it, one item at most is given to a ring in it, and what is taken in it was given before or in it
+-- what adaptability says of an instant: a ring holds at most its size before it, one item at most is given to a ring in it,
+-- and what is taken in it was given before or in it
 pub record IsInstant (sys : System) (before after : ℕ → ℕ) : Type 0 where
   pub listed : IsListed sys after
   pub fits : (r : ℕ) → given sys before r ≤ taken sys before r + sys.size r

@@ -49,7 +49,7 @@ system plan = record {
   size = λ (r : ℕ). (link_at plan r).size;
 }
 
--- what an actor gives at its n-th operation, by what was taken from its rings
+-- what an actor gives at its operation after n others, by what was taken from its rings
 abbrev pub task_value : List HostKind → List (List ℤ) → Option Task → ℕ → (ℕ → List ℤ) → ℤ
 task_value kinds inputs None n took = pos 0
 task_value kinds inputs (Some task) n took = fire_value kinds inputs task.form (slice_index_or (fired_at task.form task.takes task.gives task.quota) n 0) (map took task.takes)
@@ -71,7 +71,8 @@ pub record IsOperand (takes : List ℕ) (j r : ℕ) : Type 0 where
   pub is : slice_index_or takes j 0 ≡ r
   pub once : times r takes ≡ 1
 
--- the actor of this number is the one that gives to the rings of its one list, each once, and the one that takes from those of its other list, one for each operand
+-- the actor of this number is the one that gives to the rings of its one list and takes from those of the other: each ring
+-- stands in its list once, and there is one to take from for each operand
 pub record IsPluggedAt (plan : Plan) (a : ℕ) (task : Task) : Type 0 where
   pub gives : All (λ r. (link_at plan r).from ≡ a) task.gives
   pub takes : All (λ r. (link_at plan r).to ≡ a) task.takes

@@ -1,21 +1,22 @@
 -- Laws of firings: what a firing gives is the item of its number in the form's list of what was taken.
-use Rattle.std.proofs.Common.{ℕ, suc, zero, ◌+◌, ◌-◌, ◌<◌, ◌≤◌, ◌≡◌, Bool, true, false, cond, List, [], ◌∷◌, map, length, get_or, ap, sym, refl, ◌∙◌, subst, inl, inr, arith, add-one}
+use Rattle.std.proofs.Common.{ℕ, suc, zero, ◌+◌, ◌-◌, ◌<◌, ◌≤◌, ◌≡◌, true, false, cond, List, map, length, get_or, ap, sym, refl, ◌∙◌, subst, inl, inr, arith}
 use Rattle.std.specs.Prelude.{ℤ, pos, Option, Some}
 use Rattle.std.specs.List.{range_with_len}
 use Rattle.std.proofs.lemmas.Bool.{cases_Bool}
 use Rattle.std.proofs.lemmas.List.{get_or-replicate, length-replicate}
 use Rattle.std.proofs.lemmas.List.FromFn.{length-map-range_with_len, get_or-map-range_with_len}
 use Rattle.lucy_word.specs.Bits.{Bits, bit_at, one_if, ones_to}
-use Rattle.lucy_word.proofs.BitsLaws.{ones_to-none, ones_to-more, ones_to-le}
+use Rattle.lucy_word.proofs.BitsLaws.{ones_to-more, ones_to-le}
 use Rattle.lucy_word.proofs.IndexLaws.{ones_to-rises}
 use Rattle.lucy_host.specs.OpValue.{op_value}
 use Rattle.lucy_host.specs.declared.kind.HostKind.{HostKind}
 use Rattle.lucy_stream.specs.Items.{item_at, newest, HasItem, list_at}
 use Rattle.lucy_stream.specs.Forms.{Form, Given, Constant, Pointwise, Hosted, Kept, Merged, Delayed, Same, arity}
 use Rattle.lucy_stream.specs.Merges.{merge_item, item_then, items_past, merged}
-use Rattle.lucy_stream.specs.Lists.{shortest, item_by_item, hosted_value, kept_past, form_list}
+use Rattle.lucy_stream.specs.Lists.{shortest, item_by_item, hosted_value, kept, form_list}
 use Rattle.lucy_stream.specs.Firings.{fire_value, DoesGive, gave_in, HasTaken, IsThere}
 use Rattle.lucy_stream.proofs.MergeLaws.{merge_item-one, merge_item-zero, get_some}
+use Rattle.lucy_stream.proofs.KeptLaws.{kept-item}
 use Rattle.lucy_stream.proofs.ListLaws.{op_value-lacks, LooksAt, arity-some, hosted_value-looks}
 
 newest_at : (items : List ℤ) (k : ℕ) → length items ≡ k + 1 → newest items ≡ item_at items k
@@ -40,35 +41,6 @@ item_by_item-last count k value took some looks h =
     looks (at 0) (newest (list_at took 1)) (newest (list_at took 2)) (at 1) (at 2) (λ there. newest_at (list_at took 1) k (h 1 there)) (λ there. newest_at (list_at took 2) k (h 2 there)) in
     let there : get_or (map each (range_with_len 0 n)) k (pos 0) ≡ each k = get_or-map-range_with_len each 0 n k k (pos 0) (omega arith) (omega arith) in
     (omega (arith, length-map-range_with_len each 0 n), ap (λ t. value t (newest (list_at took 1)) (newest (list_at took 2))) first ∙ others ∙ sym there)
-
-item_next : (x : ℤ) (xs : List ℤ) (i : ℕ) → item_at (x ∷ xs) (i + 1) ≡ item_at xs i
-item_next x xs i = ap (item_at (x ∷ xs)) (add-one i)
-
--- the item after k others, where its number has a one, is the kept item of this one's number
-kept_past-item : (word : Bits) (n k : ℕ) (xs : List ℤ) → k < length xs → bit_at word (n + k + 1) ≡ true → (o : ℕ) → ones_to word n + o ≡ ones_to word (n + k) →
-    HasItem (kept_past word n xs) o (item_at xs k)
-kept_past-item word n k [] l b o e = absurd (omega arith)
-kept_past-item word n zero (x ∷ xs) l b o e =
-    let rest : List ℤ = kept_past word (n + 1) xs in
-    let one : bit_at word (n + 1) ≡ true = ap (bit_at word) (omega arith) ∙ b in
-    let none : o ≡ 0 = (let q : ones_to word (n + 0) ≡ ones_to word n = ap (ones_to word) (omega arith) in omega arith) in
-    subst (λ (c : Bool). HasItem (cond c (x ∷ rest) rest) o x) (sym one) (subst (λ (t : ℕ). HasItem (x ∷ rest) t x) (sym none) (omega arith, refl))
-kept_past-item word n (suc k) (x ∷ xs) l b o e =
-    let rest : List ℤ = kept_past word (n + 1) xs in
-    let bit : bit_at word (n + 1 + k + 1) ≡ true = ap (bit_at word) (omega arith) ∙ b in
-    let more : ones_to word (n + 1) ≡ ones_to word n + one_if (bit_at word (n + 1)) = ones_to-more word n in
-    let count : ones_to word (n + suc k) ≡ ones_to word (n + 1 + k) = ap (ones_to word) (omega arith) in
-    elim (cases_Bool (bit_at word (n + 1))) [
-      | inl h ↦
-          let one : one_if (bit_at word (n + 1)) ≡ 1 = ap one_if h in
-          let some : o ≡ (o - 1) + 1 = omega (arith, ones_to-rises word (n + 1) (n + 1 + k) (omega arith)) in
-          let found : HasItem rest (o - 1) (item_at xs k) = kept_past-item word (n + 1) k xs (omega arith) bit (o - 1) (omega arith) in
-          subst (λ (c : Bool). HasItem (cond c (x ∷ rest) rest) o (item_at xs k)) (sym h)
-          (omega (arith, found.0), found.1 ∙ sym (item_next x rest (o - 1)) ∙ ap (item_at (x ∷ rest)) (sym some))
-      | inr h ↦
-          let none : one_if (bit_at word (n + 1)) ≡ 0 = ap one_if h in
-          subst (λ (c : Bool). HasItem (cond c (x ∷ rest) rest) o (item_at xs k)) (sym h) (kept_past-item word (n + 1) k xs (omega arith) bit o (omega arith))
-    ]
 
 -- a list of items of which the first are there
 items_past-item : (item : ℕ → Option ℤ) (value : ℕ → ℤ) (n k size : ℕ) → k < size → ((i : ℕ) → i < k + 1 → item (n + i + 1) ≡ Some (value (n + i + 1))) →
@@ -136,9 +108,7 @@ fire_value-item kinds inputs n (Pointwise op) k took there h gives = item_by_ite
 fire_value-item kinds inputs n (Hosted op) k took there h gives = item_by_item-last 2 k (λ a b c. hosted_value kinds op a b) took (omega arith) (hosted_value-looks kinds op) h
 fire_value-item kinds inputs n (Kept word) k took there h gives =
     let items : List ℤ = list_at took 0 in
-    let bit : bit_at word (0 + k + 1) ≡ true = ap (bit_at word) (omega arith) ∙ gives in
-    let count : ones_to word (0 + k) ≡ ones_to word k = ap (ones_to word) (omega arith) in
-    let found = kept_past-item word 0 k items (omega (arith, h 0 (omega arith))) bit (ones_to word k) (omega (arith, ones_to-none word)) in
+    let found : HasItem (kept word items) (ones_to word k) (item_at items k) = kept-item word items k (omega (arith, h 0 (omega arith))) gives in
     (found.0, newest_at items k (h 0 (omega arith)) ∙ found.1)
 fire_value-item kinds inputs n (Merged word) k took there h gives = merged-item word (list_at took 0) (list_at took 1) k (h 0 (omega arith)) (h 1 (omega arith))
 fire_value-item kinds inputs n (Delayed first) zero took there h gives = (omega arith, refl)

@@ -1,5 +1,6 @@
 pub mod FrontLaws
 pub mod MergeLaws
+pub mod KeptLaws
 pub mod ListLaws
 pub mod IterateLaws
 pub mod FiringLaws

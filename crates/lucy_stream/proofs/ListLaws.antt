@@ -1,8 +1,7 @@
 -- Laws of the forms' lists: they grow as the operands' lists grow.
-use Rattle.std.proofs.Common.{ℕ, suc, zero, ◌+◌, ◌<◌, ◌≤◌, ◌≡◌, Bool, cond, List, [], ◌∷◌, length, ap, sym, refl, ◌∙◌, subst, inl, inr, arith}
+use Rattle.std.proofs.Common.{ℕ, suc, zero, ◌+◌, ◌<◌, ◌≤◌, ◌≡◌, List, length, ap, refl, ◌∙◌, inl, inr, arith}
 use Rattle.std.specs.Prelude.{ℤ}
-use Rattle.std.proofs.lemmas.Bool.{cases_Bool, cases_lt}
-use Rattle.lucy_word.specs.Bits.{Bits, bit_at}
+use Rattle.std.proofs.lemmas.Bool.{cases_lt}
 use Rattle.lucy_host.specs.OpValue.{op_value}
 use Rattle.lucy_host.specs.declared.op.Op.{Op}
 use Rattle.lucy_host.specs.declared.op.Op.TheVariants.{Not, If}
@@ -10,9 +9,10 @@ use Rattle.lucy_host.specs.declared.kind.HostKind.{HostKind}
 use Rattle.lucy_stream.specs.Items.{item_at, list_at}
 use Rattle.lucy_stream.specs.Fronts.{IsFront, AreFronts}
 use Rattle.lucy_stream.specs.Forms.{Form, Given, Constant, Pointwise, Hosted, Kept, Merged, Delayed, Same, arity}
-use Rattle.lucy_stream.specs.Lists.{shortest, item_by_item, hosted_value, kept_past, form_list}
+use Rattle.lucy_stream.specs.Lists.{shortest, item_by_item, hosted_value, form_list}
 use Rattle.lucy_stream.proofs.FrontLaws.{IsFront-refl, IsFront-replicate, IsFront-length, IsFront-item, IsFront-by_number}
 use Rattle.lucy_stream.proofs.MergeLaws.{merged-front}
+use Rattle.lucy_stream.proofs.KeptLaws.{kept-front}
 
 -- the operands that an operator lacks are ignored
 pub op_value-lacks : (op : Op) (a b c b' c' : ℤ) → (1 < arity op → b ≡ b') → (2 < arity op → c ≡ c') → op_value op a b c ≡ op_value op a b' c'
@@ -66,18 +66,6 @@ arity-some op = omega arith
 pub hosted_value-looks : (kinds : List HostKind) (op : ℕ) → LooksAt 2 (λ a b c. hosted_value kinds op a b)
 hosted_value-looks kinds op a b c b' c' f g = ap (hosted_value kinds op a) (f (omega arith))
 
-pub kept_past-front : (word : Bits) (k : ℕ) (xs ys : List ℤ) → IsFront xs ys → IsFront (kept_past word k xs) (kept_past word k ys)
-kept_past-front word k [] ys f = tt
-kept_past-front word k (x ∷ xs) [] f = absurd f
-kept_past-front word k (x ∷ xs) (y ∷ ys) f =
-    let rest_x : List ℤ = kept_past word (k + 1) xs in
-    let rest_y : List ℤ = kept_past word (k + 1) ys in
-    let rest : IsFront rest_x rest_y = kept_past-front word (k + 1) xs ys f.1 in
-    elim (cases_Bool (bit_at word (k + 1))) [
-      | inl b ↦ subst (λ (c : Bool). IsFront (cond c (x ∷ rest_x) rest_x) (cond c (y ∷ rest_y) rest_y)) (sym b) (f.0, rest)
-      | inr b ↦ subst (λ (c : Bool). IsFront (cond c (x ∷ rest_x) rest_x) (cond c (y ∷ rest_y) rest_y)) (sym b) rest
-    ]
-
 -- a form's list grows as the lists of its operands grow, and from one iterate to a later one
 pub form_list-front : (kinds : List HostKind) (inputs : List (List ℤ)) (n m : ℕ) (form : Form) (lists longer : List (List ℤ)) → n ≤ m → AreFronts lists longer →
     IsFront (form_list kinds inputs n form lists) (form_list kinds inputs m form longer)
@@ -85,7 +73,7 @@ form_list-front kinds inputs n m (Given input) xs us l h = IsFront-refl (list_at
 form_list-front kinds inputs n m (Constant value) xs us l h = IsFront-replicate value (n + 1) (m + 1) (omega arith)
 form_list-front kinds inputs n m (Pointwise op) xs us l h = item_by_item-front (arity op) (op_value op) xs us (arity-some op) (op_value-lacks op) h
 form_list-front kinds inputs n m (Hosted op) xs us l h = item_by_item-front 2 (λ a b c. hosted_value kinds op a b) xs us (omega arith) (hosted_value-looks kinds op) h
-form_list-front kinds inputs n m (Kept word) xs us l h = kept_past-front word 0 (list_at xs 0) (list_at us 0) (h 0)
+form_list-front kinds inputs n m (Kept word) xs us l h = kept-front word (list_at xs 0) (list_at us 0) (h 0)
 form_list-front kinds inputs n m (Merged word) xs us l h = merged-front word (list_at xs 0) (list_at xs 1) (list_at us 0) (list_at us 1) (h 0) (h 1)
 form_list-front kinds inputs n m (Delayed first) xs us l h = (refl, h 0)
 form_list-front kinds inputs n m Same xs us l h = h 0

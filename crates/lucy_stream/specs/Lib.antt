@@ -1,5 +1,5 @@
-pub mod Fronts
 pub mod Items
+pub mod Fronts
 pub mod Forms
 pub mod Merges
 pub mod Lists

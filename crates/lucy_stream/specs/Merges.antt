@@ -3,7 +3,8 @@ use Rattle.std.specs.Prelude.{ℕ, suc, zero, ◌+◌, ◌-◌, ◌<◌, ◌≡�
 use Rattle.lucy_word.specs.Bits.{Bits, bit_at, ones_to}
 use Rattle.lucy_stream.specs.Items.{item_at}
 
--- item k of the merge, counted from 1, where it is there: at a one the item of xs of the one's number, else that of ys of the zero's number
+-- item k of the merge, counted from 1, where it is there: at a one the item of xs that has the one's number, else the
+-- item of ys that has the zero's number
 abbrev pub merge_item : Bits → List ℤ → List ℤ → ℕ → Option ℤ
 merge_item word xs ys k = if bit_at word k then slice_get xs (ones_to word k - 1) else slice_get ys (k - ones_to word k - 1)
 

@@ -8,7 +8,9 @@
 mod firing;
 mod growth;
 mod merge;
+mod sampling;
 
 pub use firing::firings_give_the_items;
 pub use growth::{iterates_grow, lists_grow};
 pub use merge::merges_are_longest;
+pub use sampling::samplings_keep_the_ones;
