@@ -1,44 +1,42 @@
--- Whether an event is possible, and whether events are a run, as truths that compute.
-use Rattle.std.proofs.Common.{ℕ, ◌+◌, ◌<◌, ◌≤◌, ◌≡◌, Bool, true, leb, ltb, ◌&&◌, List, [], ◌∷◌, length, sym, refl, ◌∙◌, subst}
-use Rattle.std.proofs.lemmas.Bool.{and_parts, ltb-true, leb-true}
+-- Whether an event is possible, and whether events are a run, is decided.
+use Rattle.std.proofs.Common.{ℕ, ◌+◌, ◌<◌, ◌≤◌, ◌≡◌, ltb, List, [], ◌∷◌, length, refl, subst}
+use Rattle.std.specs.Bool.{Decides}
+use Rattle.std.proofs.lemmas.Bool.{leb-true, le-leb}
+use Rattle.std.proofs.lemmas.Bool.Decides.{Decides-ltb, Decides-and, Decides-like}
 use Rattle.lucy_event.specs.Systems.{RingOp, Takes, Gives, System, op_at, given, taken}
 use Rattle.lucy_event.specs.Runs.{IsPossible, step, IsRun}
+use Rattle.lucy_event.specs.Deciding.{has_room, is_possible, is_run}
 
--- the operation is possible at these counts
-abbrev pub has_room : System → (ℕ → ℕ) → RingOp → Bool
-has_room sys done (Takes r) = ltb (taken sys done r) (given sys done r)
-has_room sys done (Gives r) = leb (given sys done r) (taken sys done r + sys.size r)
+-- the operation finds an item, or room
+record FindsRoom (sys : System) (done : ℕ → ℕ) (op : RingOp) : Type 0 where
+  pub item : (r : ℕ) → op ≡ Takes r → taken sys done r < given sys done r
+  pub room : (r : ℕ) → op ≡ Gives r → given sys done r ≤ taken sys done r + sys.size r
 
--- the actor's event is possible
-abbrev pub is_possible : System → (ℕ → ℕ) → ℕ → Bool
-is_possible sys done a = ltb (done a) (length (sys.ops a)) && has_room sys done (op_at sys a (done a))
+room_decides : (sys : System) (done : ℕ → ℕ) (op : RingOp) → Decides (has_room sys done op) (FindsRoom sys done op)
+room_decides sys done (Takes q) = (
+  λ h. record {
+    item = λ r same. (let ring : q ≡ r = cc in subst (λ (t : ℕ). taken sys done t < given sys done t) ring ((Decides-ltb (taken sys done q) (given sys done q)).0 h));
+    room = λ r same. absurd (cc);
+  },
+  λ is. (Decides-ltb (taken sys done q) (given sys done q)).1 (is.item q refl),
+)
+room_decides sys done (Gives q) = (
+  λ h. record {
+    item = λ r same. absurd (cc);
+    room = λ r same.
+        (let ring : q ≡ r = cc in
+        subst (λ (t : ℕ). given sys done t ≤ taken sys done t + sys.size t) ring (leb-true (given sys done q) (taken sys done q + sys.size q) h));
+  },
+  λ is. le-leb (given sys done q) (taken sys done q + sys.size q) (is.room q refl),
+)
 
--- the events are a run
-abbrev pub is_run : System → (ℕ → ℕ) → List ℕ → Bool
-is_run sys done [] = true
-is_run sys done (a ∷ picks) = is_possible sys done a && is_run sys (step done a) picks
+pub possible_decides : (sys : System) (done : ℕ → ℕ) (a : ℕ) → Decides (is_possible sys done a) (IsPossible sys done a)
+possible_decides sys done a =
+    let op : RingOp = op_at sys a (done a) in
+    Decides-like (is_possible sys done a) (λ both. record { left = both.0; item_held = both.1.item; room_left = both.1.room })
+    (λ is. (is.left, record { item = is.item_held; room = is.room_left }))
+    (Decides-and (ltb (done a) (length (sys.ops a))) (has_room sys done op) (Decides-ltb (done a) (length (sys.ops a))) (room_decides sys done op))
 
-possible_by : (sys : System) (done : ℕ → ℕ) (a : ℕ) (op : RingOp) → op_at sys a (done a) ≡ op → done a < length (sys.ops a) → has_room sys done op ≡ true → IsPossible sys done a
-possible_by sys done a (Takes q) e l h = record {
-  left = l;
-  item_held = λ r op. (let same : Takes q ≡ Takes r = sym e ∙ op in let ring : q ≡ r = cc in subst (λ (t : ℕ). taken sys done t < given sys done t) ring (ltb-true (taken sys done q) (given sys done q) h));
-  room_left = λ r op. (let same : Takes q ≡ Gives r = sym e ∙ op in absurd (cc));
-}
-possible_by sys done a (Gives q) e l h = record {
-  left = l;
-  item_held = λ r op. (let same : Gives q ≡ Takes r = sym e ∙ op in absurd (cc));
-  room_left = λ r op.
-      (let same : Gives q ≡ Gives r = sym e ∙ op in let ring : q ≡ r = cc in
-      subst (λ (t : ℕ). given sys done t ≤ taken sys done t + sys.size t) ring (leb-true (given sys done q) (taken sys done q + sys.size q) h));
-}
-
-pub IsPossible-from_true : (sys : System) (done : ℕ → ℕ) (a : ℕ) → is_possible sys done a ≡ true → IsPossible sys done a
-IsPossible-from_true sys done a h =
-    let parts = and_parts (ltb (done a) (length (sys.ops a))) (has_room sys done (op_at sys a (done a))) h in
-    possible_by sys done a (op_at sys a (done a)) refl (ltb-true (done a) (length (sys.ops a)) parts.0) parts.1
-
-pub IsRun-from_true : (sys : System) (done : ℕ → ℕ) (picks : List ℕ) → is_run sys done picks ≡ true → IsRun sys done picks
-IsRun-from_true sys done [] h = tt
-IsRun-from_true sys done (a ∷ picks) h =
-    let parts = and_parts (is_possible sys done a) (is_run sys (step done a) picks) h in
-    (IsPossible-from_true sys done a parts.0, IsRun-from_true sys (step done a) picks parts.1)
+pub run_decides : (sys : System) (done : ℕ → ℕ) (picks : List ℕ) → Decides (is_run sys done picks) (IsRun sys done picks)
+run_decides sys done [] = (λ h. tt, λ h. refl)
+run_decides sys done (a ∷ picks) = Decides-and (is_possible sys done a) (is_run sys (step done a) picks) (possible_decides sys done a) (run_decides sys (step done a) picks)

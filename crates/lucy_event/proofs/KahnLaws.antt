@@ -15,8 +15,8 @@ use Rattle.lucy_stream.specs.Firings.{gave_in}
 use Rattle.lucy_stream.proofs.FrontLaws.{IsFront-trans, IsFront-cut, IsFront-length}
 use Rattle.lucy_stream.proofs.IterateLaws.{iterate-fronts}
 use Rattle.lucy_event.specs.Systems.{RingOp, Takes, Gives, is_give, given}
-use Rattle.lucy_event.specs.Runs.{none_done, IsRun, after, IsFinished, IsWhole}
-use Rattle.lucy_event.specs.States.{Machine, State, start, events, IsState}
+use Rattle.lucy_event.specs.Runs.{none_done, IsRun, after, IsFinished, IsWhole, between}
+use Rattle.lucy_event.specs.States.{Machine, State, start, events, IsState, Reaches}
 use Rattle.lucy_event.specs.Firings.{firing_ops, ops_of}
 use Rattle.lucy_event.specs.Plans.{Task, Plan, link_at, task_ops, system, machine, times, IsPluggedAt, IsPlugged, IsFed, places_of, kahn_list, QuotasWithin, GiveBelow}
 use Rattle.lucy_event.proofs.CountLaws.{count_take-lt, eqb-same, given-none}
@@ -24,6 +24,7 @@ use Rattle.lucy_event.proofs.StateLaws.{IsState-start, IsState-events}
 use Rattle.lucy_event.proofs.GiveCounts.{gives_in_firing, gives_in_ops, count_append}
 use Rattle.lucy_event.proofs.EventLaws.{events-done}
 use Rattle.lucy_event.proofs.PlanLaws.{IsWired-plan, IsLocal-plan}
+use Rattle.lucy_event.proofs.ReachLaws.{converse-start}
 use Rattle.lucy_event.proofs.TurnLaws.{fresh, items_in, turn_law}
 use Rattle.lucy_event.proofs.TurnCounts.{few_turns}
 use Rattle.lucy_event.proofs.CoverLaws.{gives_in-le, KeepsTo-plan}
@@ -105,6 +106,14 @@ kahn_front kinds inputs plan count most picks is fed below within run r =
     (turn_law m (lead plan) (λ (k b : ℕ). list_at (lists k) b) start picks 0 (IsWired-plan plan is) (IsLocal-plan kinds inputs plan is) (IsLead-plan plan is) (KeepsTo-plan kinds inputs plan is fed) run
     (IsState-start m) (λ q. omega (arith, given-none (system plan) none_done q refl)) (λ q. tt) r)
     (iterate-fronts kinds inputs (places_of plan) (n + 0) (count * most) (omega arith) a)
+
+-- in every state, since a run reaches it
+pub kahn_state : (kinds : List HostKind) (inputs : List (List ℤ)) (plan : Plan) (count most : ℕ) (order : List ℕ) (s : State) → IsPlugged plan → IsFed inputs plan → GiveBelow plan count → QuotasWithin plan most → IsWhole (system plan) order →
+    IsState (machine kinds inputs plan) s → (r : ℕ) → IsFront (s.gave r) (kahn_list kinds inputs plan (count * most) r)
+kahn_state kinds inputs plan count most order s is fed below within whole state r =
+    let way : Reaches (machine kinds inputs plan) start (between none_done s.done order) s = converse-start (machine kinds inputs plan) s order (IsWired-plan plan is) (IsLocal-plan kinds inputs plan is) whole state in
+    subst (λ xs. IsFront xs (kahn_list kinds inputs plan (count * most) r)) (way.ends.gave r)
+    (kahn_front kinds inputs plan count most (between none_done s.done order) is fed below within way.run r)
 
 -- a whole run gives to a ring all that its giver's firings give
 given_all : (plan : Plan) (done : ℕ → ℕ) (r : ℕ) (task : Task) → IsFinished (system plan) done → slice_get plan.tasks (link_at plan r).from ≡ Some task → times r task.gives ≡ 1 → given (system plan) done r ≡ gave_in task.form task.quota

@@ -12,7 +12,8 @@ use Rattle.lucy_event.specs.Plans.{Plan, system, machine, IsPlugged, kahn_list}
 use Rattle.lucy_event.proofs.RunLaws.{after-past}
 use Rattle.lucy_event.proofs.Plugged.{IsPluggedAt-from, IsPlugged-from, once_in_none, once_in_one, once_in_two}
 use Rattle.lucy_event.proofs.Moves.{moves, takes, gives}
-use Rattle.lucy_event.proofs.DecidingLaws.{is_run, IsRun-from_true}
+use Rattle.lucy_event.specs.Deciding.{is_run}
+use Rattle.lucy_event.proofs.DecidingLaws.{run_decides}
 
 -- let node sum x = o where rec f = 0 fby o and o = x + f, for two instants: the actors x, f, o, 0 fby o, x + f and the output o
 sum : Plan
@@ -73,7 +74,7 @@ sum_possible = refl
 
 -- they are all, each possible in its turn
 sum_whole : IsWhole (system sum) sum_order
-sum_whole = record { run = IsRun-from_true (system sum) none_done sum_order sum_possible; all = sum_finished }
+sum_whole = record { run = (run_decides (system sum) none_done sum_order).0 sum_possible; all = sum_finished }
 
 -- the input's actor goes no further ahead than its ring lets it: its second give isn't possible yet
 sum_ahead : is_run (system sum) none_done (0 ∷ 0 ∷ []) ≡ false

@@ -10,7 +10,8 @@ use Rattle.lucy_event.specs.Plans.{Plan, system, machine, IsPlugged}
 use Rattle.lucy_event.proofs.RunLaws.{after-past}
 use Rattle.lucy_event.proofs.Plugged.{IsPluggedAt-from, IsPlugged-from, once_in_none, once_in_one, once_in_two}
 use Rattle.lucy_event.proofs.Moves.{moves, takes, gives}
-use Rattle.lucy_event.proofs.DecidingLaws.{is_run, IsRun-from_true}
+use Rattle.lucy_event.specs.Deciding.{is_run}
+use Rattle.lucy_event.proofs.DecidingLaws.{run_decides}
 
 -- let node twice x = o where rec o = merge (10) x (buffer x), for two instants: the actors x, o, the merge, the buffer and the output o
 twice : Plan
@@ -54,7 +55,7 @@ unfolding twice twice_order given taken bit_at
 twice_possible = refl
 
 twice_whole : IsWhole (system twice) twice_order
-twice_whole = record { run = IsRun-from_true (system twice) none_done twice_order twice_possible; all = twice_finished }
+twice_whole = record { run = (run_decides (system twice) none_done twice_order).0 twice_possible; all = twice_finished }
 
 -- the buffer may take before the merge does, and is possible then
 twice_other : is_run (system twice) none_done (0 ∷ 0 ∷ 3 ∷ 3 ∷ 2 ∷ 2 ∷ []) ≡ true

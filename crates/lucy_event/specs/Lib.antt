@@ -1,5 +1,6 @@
 pub mod Systems
 pub mod Runs
+pub mod Deciding
 pub mod States
 pub mod Firings
 pub mod Plans

@@ -3,12 +3,13 @@ ghost use Rattle.lucy_host.specs.declared.kind.HostKind.{HostKind};
 ghost use Rattle.lucy_stream.specs.Fronts.{IsFront};
 ghost use Rattle.lucy_stream.specs.Firings.{gave_in};
 ghost use Rattle.lucy_event.specs.Runs.{none_done, IsRun, IsWhole};
-ghost use Rattle.lucy_event.specs.States.{start, events};
+ghost use Rattle.lucy_event.specs.States.{State, start, events, IsState};
 ghost use Rattle.lucy_event.specs.Plans.{Task, Plan, link_at, system, machine, times, IsPlugged, IsFed, kahn_list, QuotasWithin, GiveBelow};
 
 /// In every run of plugged actors, what was given to a ring, and what was taken from it, is a front of its giver's list in an
-/// iterate (Kahn 1974): one turn for each firing of each actor that gives. After a whole run it is this list, cut at the
-/// number of items that the giver's firings give, and the list has so many.
+/// iterate (Kahn 1974): one turn for each firing of each actor that gives. Once some whole run is known, this holds in every
+/// state. After a whole run it is this list, cut at the number of items that the giver's firings give, and the list has so
+/// many.
 pub fn runs_give_kahn_prefixes()
     ensures gave { (kinds : List HostKind) (inputs : List (List ℤ)) (plan : Plan) (count most : ℕ) (picks : List ℕ) (r : ℕ) →
         IsPlugged plan → IsFed inputs plan → GiveBelow plan count → QuotasWithin plan most →
@@ -18,6 +19,10 @@ pub fn runs_give_kahn_prefixes()
         IsPlugged plan → IsFed inputs plan → GiveBelow plan count → QuotasWithin plan most →
         IsRun (system plan) none_done picks →
         IsFront ((events (machine kinds inputs plan) start picks).took r) (kahn_list kinds inputs plan (count * most) r) }
+    ensures state { (kinds : List HostKind) (inputs : List (List ℤ)) (plan : Plan) (count most : ℕ) (order : List ℕ) (s : State) (r : ℕ) →
+        IsPlugged plan → IsFed inputs plan → GiveBelow plan count → QuotasWithin plan most →
+        IsWhole (system plan) order → IsState (machine kinds inputs plan) s →
+        IsFront (s.gave r) (kahn_list kinds inputs plan (count * most) r) }
     ensures whole { (kinds : List HostKind) (inputs : List (List ℤ)) (plan : Plan) (count most : ℕ) (order : List ℕ) (r : ℕ) (task : Task) →
         IsPlugged plan → IsFed inputs plan → GiveBelow plan count → QuotasWithin plan most →
         IsWhole (system plan) order → slice_get plan.tasks (link_at plan r).from ≡ Some task → times r task.gives ≡ 1 →

@@ -9,6 +9,7 @@
 mod bounds;
 mod converse;
 mod counts;
+mod deciding;
 mod horizon;
 mod instant;
 mod kahn;
@@ -19,6 +20,7 @@ mod states;
 pub use bounds::rings_stay_within;
 pub use converse::{states_are_reached, within_is_reached};
 pub use counts::firings_are_counted;
+pub use deciding::events_are_decided;
 pub use horizon::{longer_lists_keep_runs, more_firings_are_longer_lists};
 pub use instant::{actors_go_on_or_wait, alike_counts_run_alike};
 pub use kahn::runs_give_kahn_prefixes;
