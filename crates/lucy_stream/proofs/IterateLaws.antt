@@ -6,6 +6,7 @@ use Rattle.std.proofs.lemmas.Bool.{cases_eq}
 use Rattle.lucy_host.specs.declared.kind.HostKind.{HostKind}
 use Rattle.lucy_stream.specs.Items.{list_at}
 use Rattle.lucy_stream.specs.Fronts.{IsFront, AreFronts}
+use Rattle.lucy_stream.specs.Forms.{Form, Given}
 use Rattle.lucy_stream.specs.Lists.{form_list}
 use Rattle.lucy_stream.specs.Iterates.{Place, lists_of, iterate}
 use Rattle.lucy_stream.proofs.FrontLaws.{IsFront-refl, IsFront-trans, AreFronts-map}
@@ -48,6 +49,23 @@ iterate-fronts kinds inputs places n m l i =
       | inl same ↦ subst (λ (k : ℕ). IsFront (list_at (lists n) i) (list_at (lists k) i)) same (IsFront-refl (list_at (lists n) i))
       | inr more ↦ later kinds inputs places n m i (omega arith)
     ]
+
+-- where the inputs go on, the list of each form is as it was, but for that of an input, which goes on
+form_list-inputs : (kinds : List HostKind) (inputs more : List (List ℤ)) (n : ℕ) (form : Form) (lists : List (List ℤ)) → AreFronts inputs more → IsFront (form_list kinds inputs n form lists) (form_list kinds more n form lists)
+form_list-inputs kinds inputs more n (Given input) lists h = h input
+form_list-inputs kinds inputs more n form lists h = IsFront-refl (form_list kinds inputs n form lists)
+
+-- so each list of an iterate is a front of the same list of more inputs
+pub iterate-inputs : (kinds : List HostKind) (inputs more : List (List ℤ)) (places : List Place) (n : ℕ) → AreFronts inputs more → AreFronts (iterate kinds inputs places n) (iterate kinds more places n)
+iterate-inputs kinds inputs more places zero h = empty-front places (iterate kinds more places 0)
+iterate-inputs kinds inputs more places (suc n) h =
+    let fewer : List (List ℤ) = iterate kinds inputs places n in
+    let longer : List (List ℤ) = iterate kinds more places n in
+    AreFronts-map (λ place. form_list kinds inputs n place.form (lists_of fewer place.reads)) (λ place. form_list kinds more n place.form (lists_of longer place.reads)) places
+    (λ place.
+    IsFront-trans (form_list kinds inputs n place.form (lists_of fewer place.reads)) (form_list kinds inputs n place.form (lists_of longer place.reads)) (form_list kinds more n place.form (lists_of longer place.reads))
+    (form_list-front kinds inputs n n place.form (lists_of fewer place.reads) (lists_of longer place.reads) (omega arith) (lists_of-fronts fewer longer place.reads (iterate-inputs kinds inputs more places n h)))
+    (form_list-inputs kinds inputs more n place.form (lists_of longer place.reads) h))
 
 -- one list for each place
 pub iterate-length : (kinds : List HostKind) (inputs : List (List ℤ)) (places : List Place) (n : ℕ) → length (iterate kinds inputs places n) ≡ length places

@@ -1,4 +1,4 @@
--- The iterates of two small programs.
+-- The iterates of four small programs.
 use Rattle.std.proofs.Common.{ℕ, List, [], ◌∷◌, ◌≡◌, true, false, refl}
 use Rattle.std.specs.Prelude.{ℤ, pos}
 use Rattle.std.specs.Int.{int_wrap}
@@ -60,7 +60,7 @@ twice_at_24 : twice_lists 24 ≡ (pos 5 ∷ pos 6 ∷ pos 7 ∷ []) ∷ (pos 5 �
 unfolding twice_lists twice_places twice_inputs bit_at ones_to
 twice_at_24 = refl
 
--- let node top x = m where rec m = host max (x, 0 fby m), and x when (01): the places x, m, the host's, the fby, the sampling
+-- let node top x = m where rec m = host max (x, 0 fby m), and m when (01): the places x, m, the host's, the fby, the sampling
 top_places : List Place
 top_places =
     record { form = Given 0; reads = [] } ∷ record { form = Same; reads = 2 ∷ [] } ∷ record { form = Hosted 1; reads = 0 ∷ 3 ∷ [] }

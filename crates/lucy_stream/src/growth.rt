@@ -13,14 +13,17 @@ pub fn lists_grow()
         IsFront (form_list kinds inputs n form lists) (form_list kinds inputs m form longer) }
 {}
 
-/// Each list of an iterate is a front of the same place's list in the next one, and in every later one. In the iterate
-/// after it, a place has the list that its form makes of what it reads.
+/// Each list of an iterate is a front of the same place's list in the next one, and in every later one, and where the inputs
+/// go on. In the iterate after it, a place has the list that its form makes of what it reads.
 pub fn iterates_grow()
     ensures next { (kinds : List HostKind) (inputs : List (List ℤ)) (places : List Place) (n : ℕ) →
         AreFronts (iterate kinds inputs places n) (iterate kinds inputs places (suc n)) }
     ensures later { (kinds : List HostKind) (inputs : List (List ℤ)) (places : List Place) (n m : ℕ) →
         n ≤ m →
         AreFronts (iterate kinds inputs places n) (iterate kinds inputs places m) }
+    ensures inputs { (kinds : List HostKind) (inputs more : List (List ℤ)) (places : List Place) (n : ℕ) →
+        AreFronts inputs more →
+        AreFronts (iterate kinds inputs places n) (iterate kinds more places n) }
     ensures place { (kinds : List HostKind) (inputs : List (List ℤ)) (places : List Place) (n i : ℕ) (place : Place) →
         slice_get places i ≡ Some place →
         list_at (iterate kinds inputs places (suc n)) i ≡ form_list kinds inputs n place.form (lists_of (iterate kinds inputs places n) place.reads) }
