@@ -80,6 +80,12 @@ IsRun-alike sys other d e [] wired wired' h run = tt
 IsRun-alike sys other d e (a ∷ picks) wired wired' h run =
     (IsPossible-alike sys other d e a h run.0, IsRun-alike sys other (step d a) (step e a) picks wired wired' (IsAlike-step sys other d e a wired wired' h run.0) run.1)
 
+-- and it leads to counts that are alike
+pub IsAlike-run : (sys other : System) (d e : ℕ → ℕ) (picks : List ℕ) → IsWired sys → IsWired other → IsAlike sys d other e → IsRun sys d picks → IsAlike sys (after d picks) other (after e picks)
+IsAlike-run sys other d e [] wired wired' h run = h
+IsAlike-run sys other d e (a ∷ picks) wired wired' h run =
+    IsAlike-run sys other (step d a) (step e a) picks wired wired' (IsAlike-step sys other d e a wired wired' h run.0) run.1
+
 -- only the numbers at each actor count
 IsPossible-same : (sys : System) (d e : ℕ → ℕ) (a : ℕ) → ((b : ℕ) → d b ≡ e b) → IsPossible sys d a → IsPossible sys e a
 IsPossible-same sys d e a h can = record {

@@ -11,17 +11,18 @@ use Rattle.lucy_stream.specs.Items.{list_at}
 use Rattle.lucy_stream.specs.Fronts.{IsFront}
 use Rattle.lucy_stream.specs.Forms.{Form}
 use Rattle.lucy_stream.specs.Iterates.{iterate}
-use Rattle.lucy_stream.specs.Firings.{gave_in}
+use Rattle.lucy_stream.specs.Firings.{gave_in, took_in}
 use Rattle.lucy_stream.proofs.FrontLaws.{IsFront-trans, IsFront-cut, IsFront-length}
 use Rattle.lucy_stream.proofs.IterateLaws.{iterate-fronts}
-use Rattle.lucy_event.specs.Systems.{RingOp, Takes, Gives, is_give, given}
+use Rattle.lucy_event.specs.Systems.{RingOp, Takes, Gives, is_give, is_take, given, taken}
 use Rattle.lucy_event.specs.Runs.{none_done, IsRun, after, IsFinished, IsWhole, between}
 use Rattle.lucy_event.specs.States.{Machine, State, start, events, IsState, Reaches}
 use Rattle.lucy_event.specs.Firings.{firing_ops, ops_of}
-use Rattle.lucy_event.specs.Plans.{Task, Plan, link_at, task_ops, system, machine, times, IsPluggedAt, IsPlugged, IsFed, places_of, kahn_list, QuotasWithin, GiveBelow}
+use Rattle.lucy_event.specs.Plans.{Task, Plan, link_at, task_ops, system, machine, times, IsOperand, IsPluggedAt, IsPlugged, IsFed, places_of, kahn_list, QuotasWithin, GiveBelow}
 use Rattle.lucy_event.proofs.CountLaws.{count_take-lt, eqb-same, given-none}
 use Rattle.lucy_event.proofs.StateLaws.{IsState-start, IsState-events}
 use Rattle.lucy_event.proofs.GiveCounts.{gives_in_firing, gives_in_ops, count_append}
+use Rattle.lucy_event.proofs.TakeCounts.{takes_in_ops}
 use Rattle.lucy_event.proofs.EventLaws.{events-done}
 use Rattle.lucy_event.proofs.PlanLaws.{IsWired-plan, IsLocal-plan}
 use Rattle.lucy_event.proofs.ReachLaws.{converse-start}
@@ -124,7 +125,39 @@ given_all plan done r task finished e once =
     ap (λ n. count_by (is_give r) (take n ops)) (finished a) ∙ ap (count_by (is_give r)) (take_all (length ops) ops (omega arith))
     ∙ ap (λ t. count_by (is_give r) (task_ops t)) e ∙ gives_in_ops task.form task.takes task.gives task.quota r once
 
--- so the list given is the giver's list cut there, and the iterate has so many items
+-- and takes from it all that its taker's firings take
+taken_all : (plan : Plan) (done : ℕ → ℕ) (r j : ℕ) (task : Task) → IsPlugged plan → IsFinished (system plan) done → slice_get plan.tasks (link_at plan r).to ≡ Some task → IsOperand task.takes j r → taken (system plan) done r ≡ took_in task.form task.quota j
+unfolding taken
+taken_all plan done r j task is finished e operand =
+    let a : ℕ = (link_at plan r).to in
+    let ops : List RingOp = task_ops (slice_get plan.tasks a) in
+    ap (λ n. count_by (is_take r) (take n ops)) (finished a) ∙ ap (count_by (is_take r)) (take_all (length ops) ops (omega arith))
+    ∙ ap (λ t. count_by (is_take r) (task_ops t)) e ∙ takes_in_ops task.form task.takes task.gives task.quota j r (is a task e).arity operand
+
+-- in every state what was taken is a front of the same list
+pub kahn_state_took : (kinds : List HostKind) (inputs : List (List ℤ)) (plan : Plan) (count most : ℕ) (order : List ℕ) (s : State) → IsPlugged plan → IsFed inputs plan → GiveBelow plan count → QuotasWithin plan most → IsWhole (system plan) order →
+    IsState (machine kinds inputs plan) s → (r : ℕ) → IsFront (s.took r) (kahn_list kinds inputs plan (count * most) r)
+kahn_state_took kinds inputs plan count most order s is fed below within whole state r =
+    IsFront-trans (s.took r) (s.gave r) (kahn_list kinds inputs plan (count * most) r) (state.fronts r) (kahn_state kinds inputs plan count most order s is fed below within whole state r)
+
+-- so in a finished state the lists given and taken are the giver's list, cut at these numbers
+pub kahn_finished_gave : (kinds : List HostKind) (inputs : List (List ℤ)) (plan : Plan) (count most : ℕ) (order : List ℕ) (s : State) (r : ℕ) (task : Task) → IsPlugged plan → IsFed inputs plan → GiveBelow plan count → QuotasWithin plan most → IsWhole (system plan) order →
+    IsState (machine kinds inputs plan) s → IsFinished (system plan) s.done → slice_get plan.tasks (link_at plan r).from ≡ Some task → times r task.gives ≡ 1 →
+    s.gave r ≡ take (gave_in task.form task.quota) (kahn_list kinds inputs plan (count * most) r)
+kahn_finished_gave kinds inputs plan count most order s r task is fed below within whole state finished e once =
+    let list : List ℤ = kahn_list kinds inputs plan (count * most) r in
+    IsFront-cut (s.gave r) list (kahn_state kinds inputs plan count most order s is fed below within whole state r)
+    ∙ ap (λ n. take n list) (state.gave_count r ∙ given_all plan s.done r task finished e once)
+
+pub kahn_finished_took : (kinds : List HostKind) (inputs : List (List ℤ)) (plan : Plan) (count most : ℕ) (order : List ℕ) (s : State) (r j : ℕ) (task : Task) → IsPlugged plan → IsFed inputs plan → GiveBelow plan count → QuotasWithin plan most → IsWhole (system plan) order →
+    IsState (machine kinds inputs plan) s → IsFinished (system plan) s.done → slice_get plan.tasks (link_at plan r).to ≡ Some task → IsOperand task.takes j r →
+    s.took r ≡ take (took_in task.form task.quota j) (kahn_list kinds inputs plan (count * most) r)
+kahn_finished_took kinds inputs plan count most order s r j task is fed below within whole state finished e operand =
+    let list : List ℤ = kahn_list kinds inputs plan (count * most) r in
+    IsFront-cut (s.took r) list (kahn_state_took kinds inputs plan count most order s is fed below within whole state r)
+    ∙ ap (λ n. take n list) (state.took_count r ∙ taken_all plan s.done r j task is finished e operand)
+
+-- after a whole run the list given is the giver's list cut there, and the iterate has so many items
 pub kahn_whole : (kinds : List HostKind) (inputs : List (List ℤ)) (plan : Plan) (count most : ℕ) (order : List ℕ) → IsPlugged plan → IsFed inputs plan → GiveBelow plan count → QuotasWithin plan most → IsWhole (system plan) order →
     (r : ℕ) (task : Task) → slice_get plan.tasks (link_at plan r).from ≡ Some task → times r task.gives ≡ 1 →
     ((events (machine kinds inputs plan) start order).gave r ≡ take (gave_in task.form task.quota) (kahn_list kinds inputs plan (count * most) r))

@@ -57,7 +57,7 @@ twice_possible = refl
 twice_whole : IsWhole (system twice) twice_order
 twice_whole = record { run = (run_decides (system twice) none_done twice_order).0 twice_possible; all = twice_finished }
 
--- the buffer may take before the merge does, and is possible then
+-- the buffer may also take before the merge does
 twice_other : is_run (system twice) none_done (0 ∷ 0 ∷ 3 ∷ 3 ∷ 2 ∷ 2 ∷ []) ≡ true
 unfolding twice given taken bit_at
 twice_other = refl

@@ -49,7 +49,7 @@ pub record IsWhole (sys : System) (order : List ℕ) : Type 0 where
 abbrev pub IsListed : System → (ℕ → ℕ) → Type 0
 IsListed sys done = (a : ℕ) → done a ≤ length (sys.ops a)
 
--- on every ring no more is taken than given, and at most the size and one more is held
+-- no actor is past its list, and on every ring no more is taken than given, and at most the size and one more is held
 pub record IsWithin (sys : System) (done : ℕ → ℕ) : Type 0 where
   pub listed : IsListed sys done
   pub behind : (r : ℕ) → taken sys done r ≤ given sys done r

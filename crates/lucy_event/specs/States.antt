@@ -58,7 +58,7 @@ pub record IsSame (s t : State) : Type 0 where
   pub gave : (r : ℕ) → s.gave r ≡ t.gave r
   pub took : (r : ℕ) → s.took r ≡ t.took r
 
--- the rings are within their bounds, the lists are as long as the operations done say, what was taken is a front of what was
+-- the counts are within their bounds, the lists are as long as the operations done say, what was taken is a front of what was
 -- given, and each give was the actor's value of what the actor had taken by then
 pub record IsState (m : Machine) (s : State) : Type 0 where
   pub within : IsWithin m.sys s.done
