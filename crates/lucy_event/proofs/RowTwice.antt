@@ -1,12 +1,12 @@
 -- Each item twice, by a merge that takes from one ring at a time: its events in two instants, and what they move.
-use Rattle.std.proofs.Common.{ℕ, zero, suc, List, [], ◌∷◌, ◌≡◌, length, true, false, refl, arith}
+use Rattle.std.proofs.Common.{ℕ, ◌*◌, zero, suc, List, [], ◌∷◌, ◌≡◌, length, true, false, refl, arith}
 use Rattle.std.specs.Prelude.{pos}
 use Rattle.lucy_word.specs.Bits.{bit_at, ones_to}
 use Rattle.lucy_stream.specs.Forms.{Given, Merged, Same}
 use Rattle.lucy_event.specs.Systems.{given, taken}
 use Rattle.lucy_event.specs.Runs.{none_done, after, IsWhole, between}
-use Rattle.lucy_event.specs.States.{Machine, start}
-use Rattle.lucy_event.specs.Plans.{Plan, system, machine, IsPlugged}
+use Rattle.lucy_event.specs.States.{Machine, start, events}
+use Rattle.lucy_event.specs.Plans.{Plan, system, machine, IsPlugged, kahn_list}
 use Rattle.lucy_event.proofs.RunLaws.{after-past}
 use Rattle.lucy_event.proofs.Plugged.{IsPluggedAt-from, IsPlugged-from, once_in_none, once_in_one, once_in_two}
 use Rattle.lucy_event.proofs.Moves.{moves, takes, gives}
@@ -40,6 +40,15 @@ twice_moves : moves twice_machine start twice_order ≡
     ∷ takes 3 5 ∷ gives 2 5 ∷ takes 2 5 ∷ gives 0 5 ∷ takes 0 5 ∷ gives 4 5 ∷ takes 4 5 ∷ []
 unfolding twice_machine twice_order twice bit_at ones_to
 twice_moves = refl
+
+-- the output's list, which is its place's list in the iterate after two instants of four places, cut at two items
+twice_output : (events twice_machine start twice_order).took 4 ≡ pos 5 ∷ pos 5 ∷ []
+unfolding twice_machine twice_order twice bit_at ones_to
+twice_output = refl
+
+twice_kahn : kahn_list [] ((pos 5 ∷ pos 6 ∷ pos 7 ∷ []) ∷ []) twice (4 * 2) 4 ≡ pos 5 ∷ pos 5 ∷ pos 6 ∷ pos 6 ∷ pos 7 ∷ pos 7 ∷ []
+unfolding twice bit_at ones_to
+twice_kahn = refl
 
 twice_finished : (a : ℕ) → after none_done twice_order a ≡ length ((system twice).ops a)
 unfolding twice twice_order bit_at
