@@ -80,7 +80,7 @@ pub record IsPluggedAt (plan : Plan) (a : ℕ) (task : Task) : Type 0 where
   pub takes_once : (r : ℕ) → times r task.takes ≤ 1
   pub arity : length task.takes ≡ operands task.form
 
--- every actor is
+-- every actor is plugged to its rings in this way
 abbrev pub IsPlugged : Plan → Type 0
 IsPlugged plan = (a : ℕ) (task : Task) → slice_get plan.tasks a ≡ Some task → IsPluggedAt plan a task
 
@@ -89,7 +89,7 @@ abbrev pub HasInput : List (List ℤ) → Form → ℕ → Type 0
 HasInput inputs (Given input) quota = quota ≤ length (list_at inputs input)
 HasInput inputs form quota = Unit {0}
 
--- all tasks have
+-- every task that gives an input has so many items of it
 abbrev pub IsFed : List (List ℤ) → Plan → Type 0
 IsFed inputs plan = (a : ℕ) (task : Task) → slice_get plan.tasks a ≡ Some task → HasInput inputs task.form task.quota
 
@@ -105,7 +105,7 @@ places_of plan = map (place_of plan) plan.tasks
 abbrev pub kahn_list : List HostKind → List (List ℤ) → Plan → ℕ → ℕ → List ℤ
 kahn_list kinds inputs plan n r = list_at (iterate kinds inputs (places_of plan) n) (link_at plan r).from
 
--- no actor has more firings
+-- no actor has more firings than so many
 abbrev pub QuotasWithin : Plan → ℕ → Type 0
 QuotasWithin plan most = (a : ℕ) (task : Task) → slice_get plan.tasks a ≡ Some task → task.quota ≤ most
 
