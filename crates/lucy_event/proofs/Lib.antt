@@ -1,0 +1,26 @@
+pub mod CountLaws
+pub mod RunLaws
+pub mod StuckLaws
+pub mod ConverseLaws
+pub mod EventLaws
+pub mod StateLaws
+pub mod ReachLaws
+pub mod GiveCounts
+pub mod TakeCounts
+pub mod FiringLaws
+pub mod PlanLaws
+pub mod HorizonLaws
+pub mod LongerPlans
+pub mod DecidingLaws
+pub mod TurnLaws
+pub mod TurnCounts
+pub mod CoverLaws
+pub mod LeadLaws
+pub mod KahnLaws
+pub mod InstantLaws
+pub mod AlikeLaws
+mod Plugged
+mod Moves
+mod RowSum
+mod RowTwice
+mod RowLoop
