@@ -1,0 +1,212 @@
+-- Each production keeps its tokens but for parentheses when what it stands for is printed.
+use Rattle.std.proofs.Common.{◌≡◌, Bool, List, [], ◌∷◌, ◌++◌, Option, Some, None, map, refl, ap, sym, ◌∙◌, append_assoc}
+use Rattle.std.proofs.lemmas.List.{append-nil}
+use Rattle.lucy_word.specs.Bits.{Bits}
+use Rattle.lucy_host.specs.declared.data_type.DataType.TheVariants as holds
+use Rattle.lucy_tree.specs.declared.span.Name as name
+use Rattle.lucy_tree.specs.declared.decl.Decl as decl
+use Rattle.lucy_tree.specs.Tree.{Tree, Trees, sampled, call, trees_of}
+use Rattle.lucy_tree.specs.View.{DefTree, NodeTree}
+use Rattle.lucy_token.specs.declared.mark.Mark.TheVariants as mark
+use Rattle.lucy_token.specs.declared.token.Kind.{Kind}
+use Rattle.lucy_token.specs.declared.token.What.{What}
+use Rattle.lucy_token.specs.declared.token.What.TheVariants as what
+use Rattle.lucy_grammar.specs.Printable.{IsPrintableDef, IsPrintableDecl, AllOfSome, Anywhere}
+use Rattle.lucy_grammar.proofs.PrintableLaws.{Goods}
+use Rattle.lucy_grammar.proofs.Cores.{core, core-append, core-parens, put, put_after, put_operand, put_later, put_parens, first_defs, flat_link, flat, all_flat, some_flat, flats}
+use Rattle.lucy_grammar.specs.Symbols.{Rule, Val, Vals, Link, Part, Program, Node, Title, Params, Results, Names, Ident, MoreName, Body, Decls, MoreDecl, Decl, Typing, TypeName, ClockOf, Defs, Def, MoreDef, Lefts, Expr, Or, MoreAnd, And, MoreCmp, Cmp, Compared, CmpOp, Sum, MoreProd, SumOp, Prod, MoreSamp, ProdOp, Samp, Sampling, Pre, Followed, Atom, Small, Lit, Pair, Call, Applied, Base, Args, MoreExpr}
+use Rattle.lucy_grammar.specs.Meanings.{bytes_of, name_of, number_of, word_of, linked, grouped, sampled_by, compared, literal_before, named, all_of, args_of}
+use Rattle.lucy_grammar.specs.Grammar.{rules}
+use Rattle.lucy_grammar.specs.Parens.{kept}
+use Rattle.lucy_grammar.specs.Print.{Spaced, blank, indent, line, after, after_commas, commas, parens, name_token, lit_token, op_mark, when_mark, operand, printed, all_printed, printed_decl, printed_left, printed_def, more_defs, printed_body, printed_node, more_nodes}
+
+plus : (a : List What) → a ≡ a ++ []
+plus a = sym (append-nil a)
+
+-- lists and groups
+nodes_flat : (ns : List NodeTree) → core (more_nodes ns) ≡ all_flat (flat Node) ns
+nodes_flat [] = refl
+nodes_flat (n ∷ ns) = put_after line (printed_node n) (more_nodes ns) _ (nodes_flat ns)
+
+names_flat : (ns : List name.Name) → core (after_commas (map name_token ns)) ≡ all_flat (flat MoreName) ns
+names_flat [] = refl
+names_flat (n ∷ ns) = ap (λ u. what.Mark mark.Comma ∷ what.Name n.text ∷ u) (names_flat ns)
+
+decls_flat : (ds : List decl.Decl) → core (after_commas (map printed_decl ds)) ≡ all_flat (flat MoreDecl) ds
+decls_flat [] = refl
+decls_flat (d ∷ ds) = ap (λ u. what.Mark mark.Comma ∷ u) (put_after blank (printed_decl d) (after_commas (map printed_decl ds)) _ (decls_flat ds))
+
+defs_flat : (ds : List DefTree) → core (more_defs ds) ≡ all_flat (flat MoreDef) ds
+defs_flat [] = refl
+defs_flat (d ∷ ds) = ap (λ u. what.Mark mark.And ∷ u) (put_after blank (printed_def d) (more_defs ds) _ (defs_flat ds))
+
+exprs_flat : (es : List Tree) → core (after_commas (all_printed (trees_of es))) ≡ all_flat (flat MoreExpr) es
+exprs_flat [] = refl
+exprs_flat (e ∷ es) = ap (λ u. what.Mark mark.Comma ∷ u) (put_after blank (printed e) (after_commas (all_printed (trees_of es))) _ (exprs_flat es))
+
+linked_flat : (e : Tree) (l : Link) → core (printed (linked e l)) ≡ core (printed e) ++ flat_link l
+linked_flat e l =
+    put_operand e ((blank, what.Mark (op_mark l.op)) ∷ (after blank (operand l.right (printed l.right)) ++ [])) (flat_link l)
+    (ap (λ u. kept (what.Mark (op_mark l.op)) ++ u) (put_later l.right [] [] refl ∙ append-nil (core (printed l.right))))
+
+grouped_flat : (e : Tree) (ls : List Link) → core (printed (grouped e ls)) ≡ core (printed e) ++ all_flat flat_link ls
+grouped_flat e [] = plus (core (printed e))
+grouped_flat e (l ∷ ls) = grouped_flat (linked e l) ls ∙ ap (λ u. u ++ all_flat flat_link ls) (linked_flat e l) ∙ append_assoc (core (printed e)) (flat_link l) (all_flat flat_link ls)
+
+sampled_flat : (e : Tree) (ws : List (Bool × Bits)) → core (printed (sampled_by e ws)) ≡ core (printed e) ++ all_flat (flat Sampling) ws
+sampled_flat e [] = plus (core (printed e))
+sampled_flat e ((flip, w) ∷ ws) =
+    let one : core (printed (sampled flip e w)) ≡ core (printed e) ++ flat Sampling (flip, w) = put_operand e ((blank, what.Mark (when_mark flip)) ∷ (blank, what.Word w) ∷ []) (flat Sampling (flip, w)) refl in
+    sampled_flat (sampled flip e w) ws ∙ ap (λ u. u ++ all_flat (flat Sampling) ws) one ∙ append_assoc (core (printed e)) (flat Sampling (flip, w)) (all_flat (flat Sampling) ws)
+
+-- with nothing behind them
+grouped_rule : (e : Tree) (ls : List Link) → core (printed (grouped e ls)) ≡ core (printed e) ++ (all_flat flat_link ls ++ [])
+grouped_rule e ls = grouped_flat e ls ∙ ap (λ u. core (printed e) ++ u) (plus (all_flat flat_link ls))
+
+compared_rule : (e : Tree) (o : Option Link) → core (printed (compared e o)) ≡ core (printed e) ++ (some_flat flat_link o ++ [])
+compared_rule e None = plus (core (printed e))
+compared_rule e (Some l) = linked_flat e l ∙ ap (λ u. core (printed e) ++ u) (plus (flat_link l))
+
+literal_rule : (l : Val Lit) (o : Option (Val Followed)) → core (printed (literal_before l o)) ≡ flat Lit l ++ (some_flat (flat Followed) o ++ [])
+literal_rule l None = plus (flat Lit l)
+literal_rule l (Some f) =
+    put (lit_token l.0) ((blank, what.Mark mark.Fby) ∷ (after blank (operand f.1 (printed f.1)) ++ [])) (flat Followed f ++ []) (ap (λ u. what.Mark mark.Fby ∷ u) (put_later f.1 [] [] refl))
+
+call_flat : (n : name.Name) (at : Option Bits) (ts : Trees) → core (printed (call n at ts)) ≡ what.Name n.text ∷ (flat Applied (at, ts) ++ [])
+call_flat n None ts = ap (λ u. what.Name n.text ∷ u) (put_parens (commas (all_printed ts)) [] [] refl)
+call_flat n (Some w) ts = ap (λ u. what.Name n.text ∷ what.Mark mark.At ∷ what.Word w ∷ u) (put_parens (commas (all_printed ts)) [] [] refl)
+
+named_rule : (n : name.Name) (o : Option (Val Applied)) → core (printed (named n o)) ≡ what.Name n.text ∷ (some_flat (flat Applied) o ++ [])
+named_rule n None = refl
+named_rule n (Some a) = call_flat n a.0 a.1
+
+decl_rule : (n : name.Name) (t : Option (Val Typing)) (w : Option Bits) →
+    core (printed_decl (record { name = n; holds = t; word = w })) ≡ what.Name n.text ∷ (some_flat (flat Typing) t ++ (some_flat (flat ClockOf) w ++ []))
+decl_rule n None None = refl
+decl_rule n None (Some w) = refl
+decl_rule n (Some holds.Int) None = refl
+decl_rule n (Some holds.Int) (Some w) = refl
+decl_rule n (Some holds.Bool) None = refl
+decl_rule n (Some holds.Bool) (Some w) = refl
+
+left_flat : (ds : List decl.Decl) → core (printed_left ds) ≡ core (commas (map printed_decl ds))
+left_flat [] = refl
+left_flat (d ∷ []) = sym (ap core (append-nil (printed_decl d)))
+left_flat (d ∷ e ∷ ds) = core-parens (commas (map printed_decl (d ∷ e ∷ ds)))
+
+lefts_rule : (d : decl.Decl) (ds : List decl.Decl) → AllOfSome (IsPrintableDecl Anywhere) ds →
+    core (commas (map printed_decl (d ∷ ds))) ≡ core (printed_decl d) ++ (what.Mark mark.Comma ∷ (core (commas (map printed_decl ds)) ++ []))
+lefts_rule d [] h = absurd h
+lefts_rule d (e ∷ ds) h =
+    put (printed_decl d) (after_commas (map printed_decl (e ∷ ds))) _
+    (ap (λ u. what.Mark mark.Comma ∷ u) (put_after blank (printed_decl e) (after_commas (map printed_decl ds)) _ refl ∙ sym (core-append (printed_decl e) (after_commas (map printed_decl ds))) ∙ plus (core (commas (map printed_decl (e ∷ ds))))))
+
+body_rule : (ds : List DefTree) → AllOfSome (IsPrintableDef Anywhere) ds → core (printed_body ds) ≡ what.Mark mark.Where ∷ what.Mark mark.Rec ∷ (first_defs ds ++ [])
+body_rule [] h = absurd h
+body_rule (d ∷ ds) h = ap (λ u. what.Mark mark.Where ∷ what.Mark mark.Rec ∷ u) (put_after indent (printed_def d) (more_defs ds) _ refl ∙ plus (first_defs (d ∷ ds)))
+
+bodies_flat : (o : Option (List DefTree)) → core (printed_body (all_of o)) ≡ some_flat (flat Body) o ++ []
+bodies_flat None = refl
+bodies_flat (Some ds) = plus (core (printed_body ds))
+
+params_rule : (o : Option (List decl.Decl)) → core (commas (map printed_decl (all_of o))) ≡ some_flat (flat Decls) o ++ []
+params_rule None = refl
+params_rule (Some ds) = plus (flat Decls ds)
+
+applied_rule : (at : Option Bits) (o : Option Trees) → flat Applied (at, args_of o) ≡ some_flat (flat Base) at ++ (some_flat (flat Args) o ++ [])
+applied_rule None None = refl
+applied_rule None (Some ts) = plus (flat Args ts)
+applied_rule (Some w) None = refl
+applied_rule (Some w) (Some ts) = ap (λ u. what.Mark mark.At ∷ what.Word w ∷ u) (plus (flat Args ts))
+
+node_rule : (n : name.Name) (ps : List decl.Decl) (rs : List name.Name) (o : Option (List DefTree)) → core (printed_node (record { name = n; params = ps; results = rs; defs = all_of o }))
+    ≡ what.Mark mark.Let ∷ what.Mark mark.Node ∷ what.Name n.text ∷ (flat Params ps ++ (what.Mark mark.Equals ∷ (flat Results rs ++ (some_flat (flat Body) o ++ []))))
+node_rule n ps rs o =
+    let head = commas (map printed_decl ps) in
+    let tail = commas (map name_token rs) in
+    let both : List Spaced = after blank (parens head) ++ ((blank, what.Mark mark.Equals) ∷ (after blank (parens tail) ++ [])) in
+    let first : core both ≡ core head ++ (what.Mark mark.Equals ∷ (core tail ++ [])) = put_parens head _ _ (ap (λ u. what.Mark mark.Equals ∷ u) (put_parens tail [] [] refl)) in
+    let whole : core (both ++ printed_body (all_of o)) ≡ (core head ++ (what.Mark mark.Equals ∷ (core tail ++ []))) ++ (some_flat (flat Body) o ++ []) =
+    put both (printed_body (all_of o)) _ (bodies_flat o) ∙ ap (λ u. u ++ (some_flat (flat Body) o ++ [])) first in
+    let last : (core head ++ (what.Mark mark.Equals ∷ (core tail ++ []))) ++ (some_flat (flat Body) o ++ []) ≡ core head ++ (what.Mark mark.Equals ∷ (core tail ++ (some_flat (flat Body) o ++ []))) =
+    append_assoc (core head) (what.Mark mark.Equals ∷ (core tail ++ [])) (some_flat (flat Body) o ++ []) ∙ ap (λ u. core head ++ (what.Mark mark.Equals ∷ (u ++ (some_flat (flat Body) o ++ [])))) (append-nil (core tail)) in
+    ap (λ u. what.Mark mark.Let ∷ what.Mark mark.Node ∷ what.Name n.text ∷ u) (whole ∙ last)
+
+-- each production's tokens are, but for parentheses, those that are printed of what it stands for
+abbrev pub IsFlat : (X : Part) → Rule X → Type 0
+IsFlat X p = (k : Kind) (vs : Vals p.syms) → Goods Anywhere k p.syms vs → flat X (p.meaning vs) ≡ flats p.syms vs
+
+abbrev pub AreFlat : (X : Part) → List (Rule X) → Type 0
+AreFlat X [] = Unit {0}
+AreFlat X (p ∷ ps) = IsFlat X p × AreFlat X ps
+
+pub all_are_flat : (X : Part) → AreFlat X (rules X)
+unfolding rules
+all_are_flat Program = (λ k vs h. put (printed_node vs.0) (more_nodes vs.1.0) _ (nodes_flat vs.1.0 ∙ plus (all_flat (flat Node) vs.1.0)), tt)
+all_are_flat Node = (λ k vs h. node_rule vs.0 vs.1.0 vs.1.1.1.0 vs.1.1.1.1.0, tt)
+all_are_flat Title = (λ k vs h. refl, tt)
+all_are_flat Params = (λ k vs h. refl, (λ k vs h. params_rule vs.1.0, tt))
+all_are_flat Results = (λ k vs h. refl, (λ k vs h. plus (flat Names vs.1.0), tt))
+all_are_flat Names = (λ k vs h. ap (λ u. what.Name vs.0.text ∷ u) (names_flat vs.1.0 ∙ plus (all_flat (flat MoreName) vs.1.0)), tt)
+all_are_flat Ident = (λ k vs h. refl, tt)
+all_are_flat MoreName = (λ k vs h. refl, tt)
+all_are_flat Body = (λ k vs h. body_rule vs.1.1.0 h.1.1.1.1.0, tt)
+all_are_flat Decls = (λ k vs h. put (printed_decl vs.0) (after_commas (map printed_decl vs.1.0)) _ (decls_flat vs.1.0 ∙ plus (all_flat (flat MoreDecl) vs.1.0)), tt)
+all_are_flat MoreDecl = (λ k vs h. ap (λ u. what.Mark mark.Comma ∷ u) (plus (flat Decl vs.1.0)), tt)
+all_are_flat Decl = (λ k vs h. decl_rule (name_of vs.0) vs.1.0 vs.1.1.0, tt)
+all_are_flat Typing = (λ k vs h. refl, tt)
+all_are_flat TypeName = (λ k vs h. refl, (λ k vs h. refl, tt))
+all_are_flat ClockOf = (λ k vs h. refl, tt)
+all_are_flat Defs = (λ k vs h. ap (λ u. core (printed_def vs.0) ++ u) (defs_flat vs.1.0 ∙ plus (all_flat (flat MoreDef) vs.1.0)), tt)
+all_are_flat Def = (
+  λ k vs h. put (printed_decl vs.0) ((blank, what.Mark mark.Equals) ∷ (after blank (printed vs.1.1.0) ++ [])) _ (ap (λ u. what.Mark mark.Equals ∷ u) (put_after blank (printed vs.1.1.0) [] [] refl)),
+  (
+    λ k vs h. put (printed_left vs.0) ((blank, what.Mark mark.Equals) ∷ (after blank (printed vs.1.1.0) ++ [])) _ (ap (λ u. what.Mark mark.Equals ∷ u) (put_after blank (printed vs.1.1.0) [] [] refl))
+        ∙ ap (λ u. u ++ (what.Mark mark.Equals ∷ (core (printed vs.1.1.0) ++ []))) (left_flat vs.0),
+    tt,
+  ),
+)
+all_are_flat MoreDef = (λ k vs h. ap (λ u. what.Mark mark.And ∷ u) (plus (flat Def vs.1.0)), tt)
+all_are_flat Lefts = (λ k vs h. lefts_rule vs.1.0 vs.1.1.1.0 h.1.1.1.1.1.1.0, tt)
+all_are_flat Expr = (
+  λ k vs h. ap (λ u. what.Mark mark.If ∷ u) (put_later vs.1.0 _ _ (ap (λ u. what.Mark mark.Then ∷ u) (put_later vs.1.1.1.0 _ _ (ap (λ u. what.Mark mark.Else ∷ u) (put_later vs.1.1.1.1.1.0 [] [] refl))))),
+  (λ k vs h. plus (core (printed vs.0)), tt),
+)
+all_are_flat Or = (λ k vs h. grouped_rule vs.0 vs.1.0, tt)
+all_are_flat MoreAnd = (λ k vs h. ap (λ u. what.Mark mark.Either ∷ u) (plus (core (printed vs.1.0))), tt)
+all_are_flat And = (λ k vs h. grouped_rule vs.0 vs.1.0, tt)
+all_are_flat MoreCmp = (λ k vs h. ap (λ u. what.Mark mark.Both ∷ u) (plus (core (printed vs.1.0))), tt)
+all_are_flat Cmp = (λ k vs h. compared_rule vs.0 vs.1.0, tt)
+all_are_flat Compared = (λ k vs h. ap (λ u. kept (what.Mark (op_mark vs.0.0)) ++ u) (plus (core (printed vs.1.0))), tt)
+all_are_flat CmpOp = (λ k vs h. refl, (λ k vs h. refl, (λ k vs h. refl, (λ k vs h. refl, (λ k vs h. refl, (λ k vs h. refl, tt))))))
+all_are_flat Sum = (λ k vs h. grouped_rule vs.0 vs.1.0, tt)
+all_are_flat MoreProd = (λ k vs h. ap (λ u. kept (what.Mark (op_mark vs.0.0)) ++ u) (plus (core (printed vs.1.0))), tt)
+all_are_flat SumOp = (λ k vs h. refl, (λ k vs h. refl, tt))
+all_are_flat Prod = (λ k vs h. grouped_rule vs.0 vs.1.0, tt)
+all_are_flat MoreSamp = (λ k vs h. ap (λ u. kept (what.Mark (op_mark vs.0.0)) ++ u) (plus (core (printed vs.1.0))), tt)
+all_are_flat ProdOp = (λ k vs h. refl, (λ k vs h. refl, (λ k vs h. refl, tt)))
+all_are_flat Samp = (λ k vs h. sampled_flat vs.0 vs.1.0 ∙ ap (λ u. core (printed vs.0) ++ u) (plus (all_flat (flat Sampling) vs.1.0)), tt)
+all_are_flat Sampling = (λ k vs h. refl, (λ k vs h. refl, tt))
+all_are_flat Pre = (
+  λ k vs h. ap (λ u. what.Mark mark.Not ∷ u) (put_later vs.1.0 [] [] refl),
+  (
+    λ k vs h. ap (λ u. what.Mark mark.Buffer ∷ u) (put_later vs.1.0 [] [] refl),
+    (
+      λ k vs h. ap (λ u. what.Mark mark.Merge ∷ what.Word (word_of vs.1.0.what) ∷ u) (put_later vs.1.1.0 _ _ (put_later vs.1.1.1.0 [] [] refl)),
+      (λ k vs h. literal_rule vs.0 vs.1.0, (λ k vs h. plus (core (printed vs.0)), tt)),
+    ),
+  ),
+)
+all_are_flat Followed = (λ k vs h. ap (λ u. what.Mark mark.Fby ∷ u) (plus (core (printed vs.1.0))), tt)
+all_are_flat Atom = (
+  λ k vs h. named_rule (name_of vs.0) vs.1.0,
+  (λ k vs h. ap (λ u. what.Mark mark.Host ∷ what.Name (bytes_of vs.1.0.what) ∷ u) (put_parens (commas (all_printed vs.1.1.0)) [] [] refl), (λ k vs h. plus (core (printed vs.1.0)), tt)),
+)
+all_are_flat Small = (λ k vs h. plus (flat Lit vs.0), (λ k vs h. refl, (λ k vs h. plus (core (printed vs.1.0)), tt)))
+all_are_flat Lit = (λ k vs h. plus (core (lit_token (number_of vs.0.what))), (λ k vs h. refl, (λ k vs h. refl, tt)))
+all_are_flat Pair = (λ k vs h. put (printed vs.1.0) _ _ (ap (λ u. what.Mark mark.Comma ∷ u) (put_after blank (printed vs.1.1.1.0) [] [] refl)), tt)
+all_are_flat Call = (λ k vs h. call_flat (name_of vs.0) vs.1.0.0 vs.1.0.1, tt)
+all_are_flat Applied = (λ k vs h. applied_rule vs.0 vs.1.1.0, tt)
+all_are_flat Base = (λ k vs h. refl, tt)
+all_are_flat Args = (λ k vs h. put (printed vs.0) (after_commas (all_printed (trees_of vs.1.0))) _ (exprs_flat vs.1.0 ∙ plus (all_flat (flat MoreExpr) vs.1.0)), tt)
+all_are_flat MoreExpr = (λ k vs h. ap (λ u. what.Mark mark.Comma ∷ u) (plus (core (printed vs.1.0))), tt)

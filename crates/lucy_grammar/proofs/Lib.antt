@@ -1,0 +1,26 @@
+pub mod Sets
+pub mod Numbers
+pub mod Table
+pub mod Completions
+pub mod Ahead
+pub mod Leads
+pub mod Forms
+pub mod Tokens
+pub mod Rules
+pub mod Repeat
+pub mod Unique
+pub mod Steps
+pub mod Growing
+pub mod Whole
+pub mod SpanLaws
+pub mod Spelling
+pub mod PrintedTrees
+pub mod PrintedCalls
+pub mod PrintedPrograms
+pub mod PrintableLaws
+pub mod Cores
+pub mod CoreRules
+pub mod CoreLaws
+pub mod PrintedOrder
+mod Rows
+pub mod PrintedText

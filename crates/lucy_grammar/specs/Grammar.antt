@@ -1,0 +1,116 @@
+-- The grammar: each part's productions and their meanings. It is
+--
+--   program ::= node { node }
+--   node    ::= let node name params = results [ where rec def { and def } ]
+--   params  ::= name | ( [ decl { , decl } ] )
+--   decl    ::= name [ : type ] [ :: word ]
+--   type    ::= int | bool
+--   results ::= name | ( name { , name } )
+--   def     ::= decl = expr | ( decl , decl { , decl } ) = call
+--   expr    ::= if expr then expr else expr | or
+--   or      ::= and { || and }
+--   and     ::= cmp { && cmp }
+--   cmp     ::= sum [ ( == | != | < | <= | > | >= ) sum ]
+--   sum     ::= prod { ( + | - ) prod }
+--   prod    ::= samp { ( * | / | % ) samp }
+--   samp    ::= pre { ( when | whenot ) word }
+--   pre     ::= not pre | buffer pre | merge word small small | lit fby pre | atom
+--   atom    ::= lit | name | call | host name ( expr , expr ) | ( expr )
+--   call    ::= name [ at word ] ( [ expr { , expr } ] )
+--   small   ::= lit | name | ( expr )
+--   lit     ::= number | true | false
+--
+-- where one token ahead decides between productions. So what begins alike is one production here: `lit` and `lit fby pre`
+-- of pre and atom are `lit [ fby pre ]` of pre; `name` and `call` of atom are `name [ [ at word ] ( .. ) ]`; and what is
+-- repeated, or may be left out, is a part of its own.
+use Rattle.std.specs.Prelude.{true, false, List, [], ◌∷◌}
+use Rattle.lucy_host.specs.declared.op.Op.TheVariants as op
+use Rattle.lucy_host.specs.declared.data_type.DataType.TheVariants as holds
+use Rattle.lucy_tree.specs.declared.expr.Lit.TheVariants as lit
+use Rattle.lucy_tree.specs.Tree.{operator, host, merged, buffered, call, literal, variable, no_more, more, trees_of}
+use Rattle.lucy_token.specs.declared.mark.Mark.{Mark}
+use Rattle.lucy_token.specs.declared.mark.Mark.TheVariants as mark
+use Rattle.lucy_token.specs.declared.token.Kind.TheVariants as kind
+use Rattle.lucy_grammar.specs.Symbols.{Part, Sym, token, part, many, perhaps, Val, Vals, Rule, Program, Node, Title, Params, Results, Names, Ident, MoreName, Body, Decls, MoreDecl, Decl, Typing, TypeName, ClockOf, Defs, Def, MoreDef, Lefts, Expr, Or, MoreAnd, And, MoreCmp, Cmp, Compared, CmpOp, Sum, MoreProd, SumOp, Prod, MoreSamp, ProdOp, Samp, Sampling, Pre, Followed, Atom, Small, Lit, Pair, Call, Applied, Base, Args, MoreExpr}
+use Rattle.lucy_grammar.specs.Meanings.{name_of, number_of, word_of, bare, two, three, grouped, sampled_by, compared, literal_before, named, all_of, args_of}
+
+-- a keyword or a sign
+abbrev pub sign : Mark → Sym
+sign m = token (kind.Mark m)
+
+-- a production
+abbrev pub says : {X : Part} (syms : List Sym) → (Vals syms → Val X) → Rule X
+says syms meaning = record { syms = syms; meaning = meaning }
+
+-- the productions of each part
+unfoldable pub rules : (X : Part) → List (Rule X)
+rules Program = says (part Node ∷ many Node ∷ []) (λ (n, (ns, _)). n ∷ ns) ∷ []
+rules Node = says (part Title ∷ part Params ∷ sign mark.Equals ∷ part Results ∷ perhaps Body ∷ [])
+    (λ (name, (params, (_, (results, (body, _))))). record { name = name; params = params; results = results; defs = all_of body }) ∷ []
+rules Title = says (sign mark.Let ∷ sign mark.Node ∷ token kind.Name ∷ []) (λ (_, (_, (n, _))). name_of n) ∷ []
+rules Params = says (token kind.Name ∷ []) (λ (n, _). bare (name_of n) ∷ [])
+    ∷ says (sign mark.Open ∷ perhaps Decls ∷ sign mark.Close ∷ []) (λ (_, (ds, _)). all_of ds) ∷ []
+rules Results = says (token kind.Name ∷ []) (λ (n, _). name_of n ∷ [])
+    ∷ says (sign mark.Open ∷ part Names ∷ sign mark.Close ∷ []) (λ (_, (ns, _)). ns) ∷ []
+rules Names = says (part Ident ∷ many MoreName ∷ []) (λ (n, (ns, _)). n ∷ ns) ∷ []
+rules Ident = says (token kind.Name ∷ []) (λ (n, _). name_of n) ∷ []
+rules MoreName = says (sign mark.Comma ∷ part Ident ∷ []) (λ (_, (n, _)). n) ∷ []
+rules Body = says (sign mark.Where ∷ sign mark.Rec ∷ part Defs ∷ []) (λ (_, (_, (ds, _))). ds) ∷ []
+rules Decls = says (part Decl ∷ many MoreDecl ∷ []) (λ (d, (ds, _)). d ∷ ds) ∷ []
+rules MoreDecl = says (sign mark.Comma ∷ part Decl ∷ []) (λ (_, (d, _)). d) ∷ []
+rules Decl = says (token kind.Name ∷ perhaps Typing ∷ perhaps ClockOf ∷ []) (λ (n, (t, (w, _))). record { name = name_of n; holds = t; word = w }) ∷ []
+rules Typing = says (sign mark.Colon ∷ part TypeName ∷ []) (λ (_, (t, _)). t) ∷ []
+rules TypeName = says (sign mark.Int ∷ []) (λ _. holds.Int) ∷ says (sign mark.Bool ∷ []) (λ _. holds.Bool) ∷ []
+rules ClockOf = says (sign mark.Colons ∷ token kind.Word ∷ []) (λ (_, (w, _)). word_of w.what) ∷ []
+rules Defs = says (part Def ∷ many MoreDef ∷ []) (λ (d, (ds, _)). d ∷ ds) ∷ []
+rules Def = says (part Decl ∷ sign mark.Equals ∷ part Expr ∷ []) (λ (d, (_, (e, _))). record { left = d ∷ []; right = e })
+    ∷ says (part Lefts ∷ sign mark.Equals ∷ part Call ∷ []) (λ (ds, (_, (e, _))). record { left = ds; right = e }) ∷ []
+rules MoreDef = says (sign mark.And ∷ part Def ∷ []) (λ (_, (d, _)). d) ∷ []
+rules Lefts = says (sign mark.Open ∷ part Decl ∷ sign mark.Comma ∷ part Decls ∷ sign mark.Close ∷ []) (λ (_, (d, (_, (ds, _)))). d ∷ ds) ∷ []
+rules Expr = says (sign mark.If ∷ part Expr ∷ sign mark.Then ∷ part Expr ∷ sign mark.Else ∷ part Expr ∷ [])
+    (λ (i, (c, (_, (a, (_, (b, _)))))). operator op.If (three c a b) i.span)
+    ∷ says (part Or ∷ []) (λ (e, _). e) ∷ []
+rules Or = says (part And ∷ many MoreAnd ∷ []) (λ (e, (ls, _)). grouped e ls) ∷ []
+rules MoreAnd = says (sign mark.Either ∷ part And ∷ []) (λ (o, (e, _)). record { op = op.Or; span = o.span; right = e }) ∷ []
+rules And = says (part Cmp ∷ many MoreCmp ∷ []) (λ (e, (ls, _)). grouped e ls) ∷ []
+rules MoreCmp = says (sign mark.Both ∷ part Cmp ∷ []) (λ (o, (e, _)). record { op = op.And; span = o.span; right = e }) ∷ []
+rules Cmp = says (part Sum ∷ perhaps Compared ∷ []) (λ (e, (l, _)). compared e l) ∷ []
+rules Compared = says (part CmpOp ∷ part Sum ∷ []) (λ ((o, s), (e, _)). record { op = o; span = s; right = e }) ∷ []
+rules CmpOp = says (sign mark.Same ∷ []) (λ (o, _). (op.Eq, o.span))
+    ∷ says (sign mark.Differs ∷ []) (λ (o, _). (op.Ne, o.span))
+    ∷ says (sign mark.Less ∷ []) (λ (o, _). (op.Lt, o.span))
+    ∷ says (sign mark.AtMost ∷ []) (λ (o, _). (op.Le, o.span))
+    ∷ says (sign mark.Greater ∷ []) (λ (o, _). (op.Gt, o.span))
+    ∷ says (sign mark.AtLeast ∷ []) (λ (o, _). (op.Ge, o.span)) ∷ []
+rules Sum = says (part Prod ∷ many MoreProd ∷ []) (λ (e, (ls, _)). grouped e ls) ∷ []
+rules MoreProd = says (part SumOp ∷ part Prod ∷ []) (λ ((o, s), (e, _)). record { op = o; span = s; right = e }) ∷ []
+rules SumOp = says (sign mark.Plus ∷ []) (λ (o, _). (op.Add, o.span)) ∷ says (sign mark.Minus ∷ []) (λ (o, _). (op.Sub, o.span)) ∷ []
+rules Prod = says (part Samp ∷ many MoreSamp ∷ []) (λ (e, (ls, _)). grouped e ls) ∷ []
+rules MoreSamp = says (part ProdOp ∷ part Samp ∷ []) (λ ((o, s), (e, _)). record { op = o; span = s; right = e }) ∷ []
+rules ProdOp = says (sign mark.Star ∷ []) (λ (o, _). (op.Mul, o.span))
+    ∷ says (sign mark.Slash ∷ []) (λ (o, _). (op.Div, o.span))
+    ∷ says (sign mark.Percent ∷ []) (λ (o, _). (op.Rem, o.span)) ∷ []
+rules Samp = says (part Pre ∷ many Sampling ∷ []) (λ (e, (ws, _)). sampled_by e ws) ∷ []
+rules Sampling = says (sign mark.When ∷ token kind.Word ∷ []) (λ (_, (w, _)). (false, word_of w.what))
+    ∷ says (sign mark.Whenot ∷ token kind.Word ∷ []) (λ (_, (w, _)). (true, word_of w.what)) ∷ []
+rules Pre = says (sign mark.Not ∷ part Pre ∷ []) (λ (o, (e, _)). operator op.Not (more e no_more) o.span)
+    ∷ says (sign mark.Buffer ∷ part Pre ∷ []) (λ (o, (e, _)). buffered e o.span)
+    ∷ says (sign mark.Merge ∷ token kind.Word ∷ part Small ∷ part Small ∷ []) (λ (o, (w, (a, (b, _)))). merged (word_of w.what) a b o.span)
+    ∷ says (part Lit ∷ perhaps Followed ∷ []) (λ (l, (f, _)). literal_before l f)
+    ∷ says (part Atom ∷ []) (λ (e, _). e) ∷ []
+rules Followed = says (sign mark.Fby ∷ part Pre ∷ []) (λ (o, (e, _)). (o.span, e)) ∷ []
+rules Atom = says (token kind.Name ∷ perhaps Applied ∷ []) (λ (n, (a, _)). named (name_of n) a)
+    ∷ says (sign mark.Host ∷ token kind.Name ∷ part Pair ∷ []) (λ (_, (n, (args, _))). host (name_of n) args)
+    ∷ says (sign mark.Open ∷ part Expr ∷ sign mark.Close ∷ []) (λ (_, (e, _)). e) ∷ []
+rules Small = says (part Lit ∷ []) (λ ((l, s), _). literal l s)
+    ∷ says (token kind.Name ∷ []) (λ (n, _). variable (name_of n))
+    ∷ says (sign mark.Open ∷ part Expr ∷ sign mark.Close ∷ []) (λ (_, (e, _)). e) ∷ []
+rules Lit = says (token kind.Number ∷ []) (λ (n, _). (number_of n.what, n.span))
+    ∷ says (sign mark.True ∷ []) (λ (t, _). (lit.Bool true, t.span))
+    ∷ says (sign mark.False ∷ []) (λ (t, _). (lit.Bool false, t.span)) ∷ []
+rules Pair = says (sign mark.Open ∷ part Expr ∷ sign mark.Comma ∷ part Expr ∷ sign mark.Close ∷ []) (λ (_, (a, (_, (b, _)))). two a b) ∷ []
+rules Call = says (token kind.Name ∷ part Applied ∷ []) (λ (n, (a, _)). call (name_of n) a.0 a.1) ∷ []
+rules Applied = says (perhaps Base ∷ sign mark.Open ∷ perhaps Args ∷ sign mark.Close ∷ []) (λ (at, (_, (args, _))). (at, args_of args)) ∷ []
+rules Base = says (sign mark.At ∷ token kind.Word ∷ []) (λ (_, (w, _)). word_of w.what) ∷ []
+rules Args = says (part Expr ∷ many MoreExpr ∷ []) (λ (e, (es, _)). more e (trees_of es)) ∷ []
+rules MoreExpr = says (sign mark.Comma ∷ part Expr ∷ []) (λ (_, (e, _)). e) ∷ []

@@ -1,0 +1,12 @@
+pub mod Sets
+pub mod Kinds
+pub mod Symbols
+pub mod Meanings
+pub mod Grammar
+pub mod Derivations
+pub mod Programs
+pub mod Reading
+pub mod Print
+pub mod Spans
+pub mod Printable
+pub mod Parens

@@ -1,0 +1,86 @@
+-- What tokens and their groups stand for.
+use Rattle.std.specs.Prelude.{ℕ, pos, Bool, List, [], ◌∷◌, Option, Some, None}
+use Rattle.lucy_word.specs.Bits.{Bits}
+use Rattle.lucy_tree.specs.declared.span.Span.{Span}
+use Rattle.lucy_tree.specs.declared.span.Name.{Name}
+use Rattle.lucy_tree.specs.declared.decl.Decl.{Decl}
+use Rattle.lucy_tree.specs.declared.expr.Lit.{Lit}
+use Rattle.lucy_tree.specs.declared.expr.Lit.TheVariants as lit
+use Rattle.lucy_tree.specs.Tree.{Tree, Trees, literal, variable, operator, sampled, followed, call, no_more, more}
+use Rattle.lucy_token.specs.declared.token.What.{What}
+use Rattle.lucy_token.specs.declared.token.What.TheVariants as what
+use Rattle.lucy_token.specs.declared.token.Token.{Token}
+use Rattle.lucy_grammar.specs.Symbols.{Link}
+
+-- the bytes of a name's token
+abbrev pub bytes_of : What → List ℕ
+bytes_of (what.Name bytes) = bytes
+bytes_of (what.Mark mark) = []
+bytes_of (what.Number n) = []
+bytes_of (what.Word w) = []
+
+-- the name that a token is
+abbrev pub name_of : Token → Name
+name_of t = record { text = bytes_of t.what; span = t.span }
+
+-- the literal that a number's token is
+abbrev pub number_of : What → Lit
+number_of (what.Number n) = lit.Int n
+number_of (what.Mark mark) = lit.Int (pos 0)
+number_of (what.Name bytes) = lit.Int (pos 0)
+number_of (what.Word w) = lit.Int (pos 0)
+
+-- the bits that a word's token stands for
+abbrev pub word_of : What → Bits
+word_of (what.Word w) = w
+word_of (what.Mark mark) = record { prefix = []; period = [] }
+word_of (what.Name bytes) = record { prefix = []; period = [] }
+word_of (what.Number n) = record { prefix = []; period = [] }
+
+-- a declaration of a name alone
+abbrev pub bare : Name → Decl
+bare name = record { name = name; holds = None; word = None }
+
+abbrev pub two : Tree → Tree → Trees
+two a b = more a (more b no_more)
+
+abbrev pub three : Tree → Tree → Tree → Trees
+three a b c = more a (two b c)
+
+-- an operator between two operands
+abbrev pub linked : Tree → Link → Tree
+linked left link = operator link.op (two left link.right) link.span
+
+-- operands with operators between them: they group to the left
+abbrev pub grouped : Tree → List Link → Tree
+grouped left [] = left
+grouped left (link ∷ links) = grouped (linked left link) links
+
+-- an operand with its samplings, the first one innermost
+abbrev pub sampled_by : Tree → List (Bool × Bits) → Tree
+sampled_by operand [] = operand
+sampled_by operand ((flip, word) ∷ rest) = sampled_by (sampled flip operand word) rest
+
+-- one comparison, or none
+abbrev pub compared : Tree → Option Link → Tree
+compared left None = left
+compared left (Some link) = linked left link
+
+-- a literal alone, or before an operand
+abbrev pub literal_before : Lit × Span → Option (Span × Tree) → Tree
+literal_before (l, span) None = literal l span
+literal_before (l, span) (Some (fby, operand)) = followed l operand fby
+
+-- a name alone, or a call
+abbrev pub named : Name → Option (Option Bits × Trees) → Tree
+named name None = variable name
+named name (Some (at, args)) = call name at args
+
+-- the list behind a pair of parentheses, or nothing
+abbrev pub all_of : {A : Type 0} → Option (List A) → List A
+all_of None = []
+all_of (Some list) = list
+
+abbrev pub args_of : Option Trees → Trees
+args_of None = no_more
+args_of (Some args) = args

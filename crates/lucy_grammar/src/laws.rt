@@ -1,0 +1,29 @@
+ghost use Rattle.std.specs.Prelude.{◌≡◌, ◌++◌, List, map};
+ghost use Rattle.lucy_tree.specs.View.{ProgramTree};
+ghost use Rattle.lucy_token.specs.declared.token.Token.{Token};
+ghost use Rattle.lucy_grammar.specs.Parens.{without_parens};
+ghost use Rattle.lucy_grammar.specs.Print.{printed_program, whats};
+ghost use Rattle.lucy_grammar.specs.Printable.{IsPrintableProgram, Anywhere};
+ghost use Rattle.lucy_grammar.specs.Programs.{IsProgram, BeginsProgram, IsFirstUnfit};
+ghost use Rattle.lucy_grammar.specs.Spans.{IsAlike};
+
+/// Tokens are at most one program.
+pub fn one_tree()
+    ensures { (ts : List Token) (p q : ProgramTree) → IsProgram ts p → IsProgram ts q → p ≡ q }
+{}
+
+/// Of tokens that are no program at most one is the first that doesn't fit, and of a program none is; a front of what begins
+/// a program begins one.
+pub fn one_refusal()
+    ensures place { (ts a b : List Token) → IsFirstUnfit ts a → IsFirstUnfit ts b → a ≡ b }
+    ensures or_program { (ts : List Token) (p : ProgramTree) (rest : List Token) → IsProgram ts p → IsFirstUnfit ts rest → ⊥ }
+    ensures fronts { (front back : List Token) → BeginsProgram (front ++ back) → BeginsProgram front }
+{}
+
+/// Every program can be printed, by its own tokens but for parentheses, and tokens that are the printed ones are that
+/// program again, but for places.
+pub fn printed_again()
+    ensures printable { (ts : List Token) (p : ProgramTree) → IsProgram ts p → IsPrintableProgram Anywhere p }
+    ensures parens { (ts : List Token) (p : ProgramTree) → IsProgram ts p → without_parens (map (λ t. t.what) ts) ≡ without_parens (whats (printed_program p)) }
+    ensures again { (p : ProgramTree) (ts : List Token) → IsPrintableProgram Anywhere p → map (λ t. t.what) ts ≡ whats (printed_program p) → (q : ProgramTree) × IsProgram ts q × IsAlike q p }
+{}

@@ -1,0 +1,9 @@
+//! The grammar of programs: its productions with what each stands for, what it is for tokens to be a program, to begin
+//! one, and to be refused, and how a program is printed.
+//!
+//! It stands on `lucy_word`, `lucy_host`, `lucy_tree` and `lucy_token`. Begin with the table, `specs/Grammar.antt`.
+#![tactic(auto)]
+
+mod laws;
+
+pub use laws::{one_refusal, one_tree, printed_again};

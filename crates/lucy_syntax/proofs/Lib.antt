@@ -1,0 +1,3 @@
+mod Leaving
+mod Facts
+pub mod TextLaws

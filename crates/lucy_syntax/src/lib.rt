@@ -1,0 +1,22 @@
+//! Program texts and their trees: `parse` reads a text, and `print` writes a tree.
+//!
+//! It stands on the trees of `lucy_tree`, the tokens of `lucy_token` and the grammar of `lucy_grammar`. Begin with `parse`
+//! in `reading.rt`, and with `specs/Texts.antt`, which says when a text has a tree and why one is refused.
+#![tactic(auto)]
+
+mod atoms;
+mod cursor;
+mod decl;
+mod descent;
+mod make;
+mod program;
+mod reading;
+mod refusal;
+#[cfg(test)]
+mod tests;
+
+pub use lucy_token::SyntaxError;
+pub use lucy_tree::{
+    Decl, Decls, Def, Defs, Expr, Exprs, Lit, Name, Names, Node, Nodes, Program, Span,
+};
+pub use reading::parse;

@@ -1,0 +1,16 @@
+mod Bounds
+mod Comments
+pub mod ContentLaws
+mod CutSteps
+pub mod FollowLaws
+pub mod FrontLaws
+mod MarkSteps
+mod Numbers
+pub mod OneCut
+pub mod WordLaws
+pub mod WrittenLaws
+pub mod PrintFronts
+pub mod PrintEnds
+pub mod PrintLaws
+mod Rows
+pub mod WordAgain

@@ -1,0 +1,95 @@
+-- What stands at the front of a text: blanks or a comment, a token, or a byte that can't stand there.
+use Rattle.std.specs.Prelude.{ℕ, ◌+◌, Bool, List, [], ◌∷◌, length, take, drop, Option, Some, None, if◌then◌else◌, ◌==◌, ◌&&◌, ◌||◌, not, nat_le}
+use Rattle.std.specs.List.{prefix_len}
+use Rattle.std.specs.Str.{bytes_eq}
+use Rattle.lucy_word.specs.Spelling.{is_digit}
+use Rattle.lucy_token.specs.declared.mark.Mark.{Mark}
+use Rattle.lucy_token.specs.declared.token.Kind.{Kind}
+use Rattle.lucy_token.specs.declared.token.Kind.TheVariants as kind
+use Rattle.lucy_token.specs.declared.front.Front.{Front}
+use Rattle.lucy_token.specs.declared.front.Front.TheVariants.{Gap, Token, Bad}
+use Rattle.lucy_token.specs.Marks.{spelling, keywords, signs}
+use Rattle.lucy_token.specs.States.{State, wants_word, begins_operand}
+
+-- space, tab, line feed or carriage return
+abbrev pub is_blank : ℕ → Bool
+is_blank c = c == 32 || c == 9 || c == 10 || c == 13
+
+abbrev pub is_letter : ℕ → Bool
+is_letter c = (nat_le 97 c && nat_le c 122) || (nat_le 65 c && nat_le c 90) || c == 95
+
+abbrev pub is_decimal : ℕ → Bool
+is_decimal c = nat_le 48 c && nat_le c 57
+
+abbrev pub is_name_byte : ℕ → Bool
+is_name_byte c = is_letter c || is_decimal c
+
+-- the first byte, 0 where there is none
+abbrev pub head : List ℕ → ℕ
+head [] = 0
+head (c ∷ text) = c
+
+abbrev pub one_more : Option ℕ → Option ℕ
+one_more None = None
+one_more (Some n) = Some (n + 1)
+
+-- the bytes `*)`
+abbrev pub closes : ℕ → List ℕ → Bool
+closes c text = c == 42 && head text == 41
+
+-- how many bytes there are to the end of the first `*)`
+abbrev pub close_of : List ℕ → Option ℕ
+close_of [] = None
+close_of (c ∷ text) = if closes c text then Some 2 else one_more (close_of text)
+
+-- the text begins with a blank or opens a comment
+abbrev pub begins_gap : List ℕ → Bool
+begins_gap text = is_blank (head text) || (head text == 40 && head (drop 1 text) == 42)
+
+-- a comment ends with the first `*)` behind its opening; without one it can't stand
+abbrev pub comment_of : Option ℕ → Front
+comment_of None = Bad 0
+comment_of (Some n) = Gap (n + 2)
+
+-- a blank, or a comment
+unfoldable pub gap_of : List ℕ → Front
+gap_of text = if is_blank (head text) then Gap 1 else comment_of (close_of (drop 2 text))
+
+-- the keyword that the bytes spell, else a name
+abbrev pub named_in : List Mark → List ℕ → Kind
+named_in [] bytes = kind.Name
+named_in (m ∷ ms) bytes = if bytes_eq bytes (spelling m) then kind.Mark m else named_in ms bytes
+
+-- the first of the signs with which the text begins
+abbrev pub sign_in : List Mark → List ℕ → Front
+sign_in [] text = Bad 0
+sign_in (m ∷ ms) text = if bytes_eq (take (length (spelling m)) text) (spelling m) then Token (kind.Mark m) (length (spelling m)) else sign_in ms text
+
+-- a word, of which so many digits stand before its `(` and behind it; else the first byte that breaks this form
+abbrev pub word_from : ℕ → ℕ → List ℕ → Front
+word_from prefix period text =
+    if not (head (drop prefix text) == 40) then Bad prefix
+    else if period == 0 then Bad (prefix + 1)
+    else if head (drop (prefix + 1 + period) text) == 41 then Token kind.Word (prefix + period + 2)
+    else Bad (prefix + 1 + period)
+
+unfoldable pub word_front : List ℕ → Front
+word_front text = word_from (prefix_len is_digit text) (prefix_len is_digit (drop (prefix_len is_digit text + 1) text)) text
+
+-- how many bytes before the digits belong to a number: one for a `-` directly before a digit, where an operand begins
+abbrev pub minus_of : Bool → List ℕ → ℕ
+minus_of operand text = if operand && head text == 45 && is_decimal (head (drop 1 text)) then 1 else 0
+
+abbrev pub begins_number : Bool → List ℕ → Bool
+begins_number operand text = is_decimal (head (drop (minus_of operand text) text))
+
+-- a name or keyword, a number, or a sign
+unfoldable pub plain_front : Bool → List ℕ → Front
+plain_front operand text =
+    if is_letter (head text) then Token (named_in keywords (take (prefix_len is_name_byte text) text)) (prefix_len is_name_byte text)
+    else if begins_number operand text then Token kind.Number (minus_of operand text + prefix_len is_decimal (drop (minus_of operand text) text))
+    else sign_in signs text
+
+-- what stands at the front of a text
+unfoldable pub front_of : State → List ℕ → Front
+front_of s text = if begins_gap text then gap_of text else if wants_word s.before then word_front text else plain_front (begins_operand s) text

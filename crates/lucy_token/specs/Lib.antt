@@ -1,0 +1,9 @@
+pub mod Tokens
+pub mod Marks
+pub mod States
+pub mod Fronts
+pub mod Contents
+pub mod Cuts
+pub mod Steps
+pub mod Written
+pub mod Spelled

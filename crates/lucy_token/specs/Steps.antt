@@ -1,0 +1,59 @@
+-- What the scanner's pieces answer: one step in the cutting of a text.
+use Rattle.std.specs.Prelude.{ℕ, ◌≤◌, ◌≡◌, false, List, [], ◌∷◌, ◌++◌, take, None, Result, Ok, Err}
+use Rattle.std.specs.Str.Parse.{IsNumeral, without_leading_sign}
+use Rattle.lucy_token.specs.declared.token.Kind.{Kind}
+use Rattle.lucy_token.specs.declared.token.Kind.TheVariants as kind
+use Rattle.lucy_token.specs.declared.token.What.{What}
+use Rattle.lucy_token.specs.declared.token.Token as token_type
+use Rattle.lucy_token.specs.declared.front.Front.TheVariants as front
+use Rattle.lucy_token.specs.declared.scan.Step.{Step}
+use Rattle.lucy_token.specs.declared.scan.Step.TheVariants.{Gap, Token, Last, Stopped}
+use Rattle.lucy_token.specs.declared.stop.Stop.{Stop}
+use Rattle.lucy_token.specs.declared.stop.Stop.TheVariants.{Fault}
+use Rattle.lucy_token.specs.declared.stop.SyntaxError.{SyntaxError}
+use Rattle.lucy_token.specs.declared.state.Level.{Level}
+use Rattle.lucy_token.specs.States.{State, start, limit_passed, is_past_last}
+use Rattle.lucy_token.specs.Fronts.{front_of}
+use Rattle.lucy_token.specs.Contents.{Contains, IsMalformed}
+use Rattle.lucy_token.specs.Cuts.{Cuts, token_at}
+
+-- bytes that the front of a text can give as a token of the kind
+abbrev pub IsTokenOf : Kind → List ℕ → Type 0
+IsTokenOf kind.End bytes = ⊥
+IsTokenOf kind.Number bytes = IsNumeral 10 (without_leading_sign bytes)
+IsTokenOf k bytes = Unit {0}
+
+-- what the bytes stand for, or why they are malformed
+abbrev pub IsContent : Kind → Kind → List ℕ → ℕ → Result What SyntaxError → Type 0
+IsContent before k bytes from (Ok w) = Contains before k bytes w
+IsContent before k bytes from (Err e) = IsMalformed before k bytes from e
+
+-- the front of the text, which begins at an offset in a state, is this token, which may stand there
+pub record IsRead (from : ℕ) (s : State) (text : List ℕ) (t : token_type.Token) (k : Kind) (n : ℕ) : Type 0 where
+  pub front : front_of s text ≡ front.Token k n
+  pub passes : limit_passed s k ≡ None
+  pub in_list : is_past_last s k ≡ false
+  pub stands_for : Contains s.before k (take n text) t.what
+  pub placed : t ≡ token_at t.what from n
+
+-- bytes between tokens; a token, after which the cutting goes on; one after which it stops; or why it stops here
+abbrev pub IsStep : ℕ → State → List ℕ → Step → Type 0
+IsStep from s text (Gap n) = front_of s text ≡ front.Gap n
+IsStep from s text (Token t k n) = IsRead from s text t k n
+IsStep from s text (Last t e) = Cuts from s text (t ∷ []) (Fault e)
+IsStep from s text (Stopped e) = Cuts from s text [] (Fault e)
+
+-- Bytes that were passed stay passed: what cuts the rest cuts the whole, with these tokens before.
+abbrev pub CutsSoFar : List ℕ → List token_type.Token → ℕ → State → List ℕ → Type 0
+CutsSoFar text ts from s rest = (more : List token_type.Token) (stop : Stop) → Cuts from s rest more stop → Cuts 0 start text (ts ++ more) stop
+
+-- none of these levels has more commas than so many
+abbrev pub FewCommas : ℕ → List Level → Type 0
+FewCommas n [] = Unit {0}
+FewCommas n (l ∷ ls) = (l.commas ≤ n) × FewCommas n ls
+
+-- nothing is counted further than to so many
+pub record IsBounded (n : ℕ) (s : State) : Type 0 where
+  pub counted : s.counted ≤ n
+  pub nodes : s.nodes ≤ n
+  pub commas : FewCommas n (s.level ∷ s.outer)

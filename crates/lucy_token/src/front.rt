@@ -1,0 +1,214 @@
+// What stands at the front of a text.
+ghost use Rattle.std.specs.Prelude.{◌≡◌, ◌+◌, ◌<◌, ◌≤◌, length, drop, IfSome};
+ghost use Rattle.std.specs.List.{prefix_len};
+ghost use Rattle.lucy_word.specs.Spelling as spelling;
+ghost use Rattle.lucy_token.specs.Fronts as spec;
+
+use crate::mark::{KEYWORDS, Mark, SIGNS};
+use crate::state::{Context, wants_word};
+use crate::token::Kind;
+
+/// What stands at the front of a text: so many bytes between tokens, a token of a kind and a number of bytes, or, after
+/// so many bytes, one that can't stand there.
+#[derive(Clone, Copy, Debug)]
+pub enum Front {
+    Gap(usize),
+    Token(Kind, usize),
+    Bad(usize),
+}
+
+fn is_blank(c: u8) -> bool
+    ensures { result ≡ spec.is_blank c }
+{
+    c == b' ' || c == b'\t' || c == b'\n' || c == b'\r'
+}
+
+fn is_letter(c: u8) -> bool
+    ensures { result ≡ spec.is_letter c }
+{
+    (b'a' <= c && c <= b'z') || (b'A' <= c && c <= b'Z') || c == b'_'
+}
+
+fn is_decimal(c: u8) -> bool
+    ensures { result ≡ spec.is_decimal c }
+{
+    b'0' <= c && c <= b'9'
+}
+
+fn is_name_byte(c: u8) -> bool
+    ensures { result ≡ spec.is_name_byte c }
+{
+    is_letter(c) || is_decimal(c)
+}
+
+fn name_len(text: &[u8]) -> usize
+    ensures value { result ≡ prefix_len spec.is_name_byte text.now }
+    ensures within { result ≤ length text.now }
+{
+    text.iter().take_while(|c| is_name_byte(**c)).count()
+}
+
+fn number_len(text: &[u8]) -> usize
+    ensures value { result ≡ prefix_len spec.is_decimal text.now }
+    ensures within { result ≤ length text.now }
+{
+    text.iter().take_while(|c| is_decimal(**c)).count()
+}
+
+fn digits_len(text: &[u8]) -> usize
+    ensures value { result ≡ prefix_len spelling.is_digit text.now }
+    ensures within { result ≤ length text.now }
+{
+    text.iter()
+        .take_while(|c| **c == b'0' || **c == b'1')
+        .count()
+}
+
+// The first byte, 0 where there is none.
+fn head(text: &[u8]) -> u8
+    ensures { result ≡ spec.head text.now }
+{
+    match text.first() {
+        Some(c) => *c,
+        None => 0,
+    }
+}
+
+// The text without its first bytes, nothing where there are fewer.
+pub(crate) fn skip(text: &[u8], n: usize) -> &[u8]
+    ensures { result.now ≡ drop n text.now }
+{
+    if n <= text.len() {
+        &text[n..]
+    } else {
+        &text[text.len()..]
+    }
+}
+
+fn closes(c: u8, more: &[u8]) -> bool
+    ensures { result ≡ spec.closes c more.now }
+{
+    c == b'*' && head(more) == b')'
+}
+
+// How many bytes there are to the end of the first `*)`.
+fn close(text: &[u8]) -> Option<usize>
+    ensures value { result ≡ spec.close_of text.now }
+    ensures within { IfSome result (λ n. n ≤ length text.now) }
+{
+    let mut rest = text;
+    let mut n = 0;
+    'bytes: while let Some((c, more)) = rest.split_first() {
+        if closes(*c, more) {
+            return Some(n + 2);
+        }
+        n += 1;
+        rest = more;
+    }
+    None
+}
+
+#[tactic(auto, unfolding(crate::specs::Fronts::gap_of))]
+fn gap(text: &[u8]) -> Front
+    ensures { result ≡ spec.gap_of text.now }
+{
+    if is_blank(head(text)) {
+        return Front::Gap(1);
+    }
+    match close(skip(text, 2)) {
+        Some(n) => Front::Gap(n + 2),
+        None => Front::Bad(0),
+    }
+}
+
+// The one of these that the bytes spell, else a name.
+fn named_in(marks: &[Mark], bytes: &[u8]) -> Kind
+    ensures { result ≡ spec.named_in marks.now bytes.now }
+{
+    for mark in marks {
+        if bytes == mark.text().as_bytes() {
+            return Kind::Mark(*mark);
+        }
+    }
+    Kind::Name
+}
+
+// The first of these with which the text begins.
+fn sign_in(marks: &[Mark], text: &[u8]) -> Front
+    ensures { result ≡ spec.sign_in marks.now text.now }
+{
+    for mark in marks {
+        let sign = mark.text().as_bytes();
+        if text.starts_with(sign) {
+            return Front::Token(Kind::Mark(*mark), sign.len());
+        }
+    }
+    Front::Bad(0)
+}
+
+#[tactic(auto, unfolding(crate::specs::Fronts::word_front))]
+fn word(text: &[u8]) -> Front
+    ensures { result ≡ spec.word_front text.now }
+{
+    let prefix = digits_len(text);
+    let inner = skip(text, prefix + 1);
+    let period = digits_len(inner);
+    if head(skip(text, prefix)) != b'(' {
+        Front::Bad(prefix)
+    } else if period == 0 {
+        Front::Bad(prefix + 1)
+    } else if head(skip(text, prefix + 1 + period)) == b')' {
+        Front::Token(Kind::Word, prefix + period + 2)
+    } else {
+        Front::Bad(prefix + 1 + period)
+    }
+}
+
+// How many bytes before the digits belong to a number.
+fn minus(operand: bool, text: &[u8]) -> usize
+    ensures value { result ≡ spec.minus_of operand text.now }
+    ensures within { result ≤ 1 }
+{
+    if operand && head(text) == b'-' && is_decimal(head(skip(text, 1))) {
+        1
+    } else {
+        0
+    }
+}
+
+#[tactic(auto, unfolding(crate::specs::Fronts::plain_front))]
+fn plain(operand: bool, text: &[u8]) -> Front
+    ensures { result ≡ spec.plain_front operand text.now }
+{
+    if is_letter(head(text)) {
+        let n = name_len(text);
+        return Front::Token(named_in(&KEYWORDS, &text[..n]), n);
+    }
+    let minus = minus(operand, text);
+    let digits = skip(text, minus);
+    if is_decimal(head(digits)) {
+        Front::Token(Kind::Number, minus + number_len(digits))
+    } else {
+        sign_in(&SIGNS, text)
+    }
+}
+
+fn begins_gap(text: &[u8]) -> bool
+    ensures { result ≡ spec.begins_gap text.now }
+{
+    is_blank(head(text)) || (head(text) == b'(' && head(skip(text, 1)) == b'*')
+}
+
+// What stands at the front of a text that is not empty.
+#[tactic(auto, unfolding(crate::specs::Fronts::front_of))]
+pub(crate) fn at_front(context: &Context, text: &[u8]) -> Front
+    ensures { result ≡ spec.front_of context.now text.now }
+{
+    if begins_gap(text) {
+        gap(text)
+    } else if wants_word(context.before()) {
+        word(text)
+    } else {
+        plain(context.begins_operand(), text)
+    }
+}

@@ -1,0 +1,23 @@
+//! The tokens of a program text: keywords, signs, names, numbers and words, each with its place, and why they stop.
+//!
+//! It stands on `lucy_word` and `lucy_tree`. Begin with `Token` in `token.rt` and `tokens` in `scan.rt`, and with
+//! `specs/Cuts.antt`, which says what it is to cut a text into tokens. `specs/Written.antt` says what is known of the
+//! tokens of a text without a fault, and `specs/Spelled.antt` how tokens stand in print.
+#![tactic(auto)]
+
+mod content;
+mod front;
+mod mark;
+mod scan;
+mod state;
+mod stop;
+#[cfg(test)]
+mod tests;
+mod token;
+
+pub use front::Front;
+pub use mark::Mark;
+pub use scan::tokens;
+pub use state::{Level, Side};
+pub use stop::{Stop, SyntaxError};
+pub use token::{Kind, Piece, Token, Tokens, What};
