@@ -1,3 +1,0 @@
-mod Leaving
-mod Facts
-pub mod TextLaws
