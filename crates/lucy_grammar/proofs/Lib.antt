@@ -24,3 +24,16 @@ pub mod CoreLaws
 pub mod PrintedOrder
 mod Rows
 pub mod PrintedText
+mod CutLimits
+mod Counts
+mod Levels
+mod FewEntries
+mod FewSteps
+mod FewRules
+mod FewLaws
+mod Laid
+mod Weights
+mod Fitting
+mod FittingTrees
+mod FittingPrograms
+pub mod RoundTrip

@@ -1,8 +1,11 @@
-ghost use Rattle.std.specs.Prelude.{◌≡◌, ◌++◌, List, map};
+ghost use Rattle.std.specs.Prelude.{◌≡◌, ◌++◌, ℕ, List, length, map};
 ghost use Rattle.lucy_tree.specs.View.{ProgramTree};
 ghost use Rattle.lucy_token.specs.declared.token.Token.{Token};
+ghost use Rattle.lucy_token.specs.declared.stop.Stop.TheVariants.{End};
+ghost use Rattle.lucy_token.specs.States.{start};
+ghost use Rattle.lucy_token.specs.Cuts.{Cuts};
 ghost use Rattle.lucy_grammar.specs.Parens.{without_parens};
-ghost use Rattle.lucy_grammar.specs.Print.{printed_program, whats};
+ghost use Rattle.lucy_grammar.specs.Print.{printed_program, program_text, whats};
 ghost use Rattle.lucy_grammar.specs.Printable.{IsPrintableProgram, Anywhere};
 ghost use Rattle.lucy_grammar.specs.Programs.{IsProgram, BeginsProgram, IsFirstUnfit};
 ghost use Rattle.lucy_grammar.specs.Spans.{IsAlike};
@@ -26,4 +29,10 @@ pub fn printed_again()
     ensures printable { (ts : List Token) (p : ProgramTree) → IsProgram ts p → IsPrintableProgram Anywhere p }
     ensures parens { (ts : List Token) (p : ProgramTree) → IsProgram ts p → without_parens (map (λ t. t.what) ts) ≡ without_parens (whats (printed_program p)) }
     ensures again { (p : ProgramTree) (ts : List Token) → IsPrintableProgram Anywhere p → map (λ t. t.what) ts ≡ whats (printed_program p) → (q : ProgramTree) × IsProgram ts q × IsAlike q p }
+{}
+
+/// The text that is printed of a program read from a text is cut into tokens up to its end, and they are that program
+/// again, but for places.
+pub fn read_again()
+    ensures { (text : List ℕ) (ts : List Token) (n : ℕ) (p : ProgramTree) → Cuts 0 start text ts (End n) → IsProgram ts p → (us : List Token) × (q : ProgramTree) × Cuts 0 start (program_text p) us (End (length (program_text p))) × IsProgram us q × IsAlike q p }
 {}

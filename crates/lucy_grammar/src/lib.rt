@@ -6,4 +6,4 @@
 
 mod laws;
 
-pub use laws::{one_refusal, one_tree, printed_again};
+pub use laws::{one_refusal, one_tree, printed_again, read_again};

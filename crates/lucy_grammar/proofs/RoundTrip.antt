@@ -1,0 +1,112 @@
+-- The text of a program that was read is cut into tokens up to its end, and they are the program again, but for places.
+use Rattle.std.proofs.Common.{◌≡◌, ℕ, ◌+◌, List, [], ◌∷◌, ◌++◌, length, map, refl, ap, sym, ◌∙◌, subst, arith, append_assoc}
+use Rattle.lucy_tree.specs.View.{ProgramTree}
+use Rattle.lucy_token.specs.declared.token.Kind.{Kind}
+use Rattle.lucy_token.specs.declared.token.Kind.TheVariants as kind
+use Rattle.lucy_token.specs.declared.token.What.{What}
+use Rattle.lucy_token.specs.declared.token.What.TheVariants as what
+use Rattle.lucy_token.specs.declared.token.Token.{Token}
+use Rattle.lucy_token.specs.declared.stop.Stop.TheVariants.{End}
+use Rattle.lucy_token.specs.Tokens.{kind_of}
+use Rattle.lucy_token.specs.States.{State, start, after, wants_word}
+use Rattle.lucy_token.specs.Cuts.{Cuts}
+use Rattle.lucy_token.specs.Written.{IsWritten, AreWritten}
+use Rattle.lucy_token.specs.Spelled.{text_of_what, bytes_of, whats_of, placed, is_word, IsSpelled, Stands, AllStand, Follows}
+use Rattle.lucy_token.proofs.WrittenLaws.{tokens_written, before_after}
+use Rattle.lucy_token.proofs.FollowLaws.{placed_whats}
+use Rattle.lucy_token.proofs.WordAgain.{spelled_again}
+use Rattle.lucy_token.proofs.PrintLaws.{cut_printed}
+use Rattle.lucy_grammar.specs.Programs.{IsProgram}
+use Rattle.lucy_grammar.specs.Parens.{without_parens}
+use Rattle.lucy_grammar.specs.Print.{Spaced, line, spelled_what, spaced_text, whats, printed_program, program_text}
+use Rattle.lucy_grammar.specs.Printable.{StandAfter, MayFollow, AllMayFollow, IsPrintableProgram, Anywhere}
+use Rattle.lucy_grammar.specs.Spans.{IsAlike}
+use Rattle.lucy_grammar.proofs.PrintableLaws.{printable, all_stand}
+use Rattle.lucy_grammar.proofs.PrintedOrder.{printed_order}
+use Rattle.lucy_grammar.proofs.PrintedPrograms.{printed_again}
+use Rattle.lucy_grammar.proofs.CoreLaws.{same_core}
+use Rattle.lucy_grammar.proofs.CutLimits.{AllPass, tokens_pass}
+use Rattle.lucy_grammar.proofs.Counts.{Count, count_of, AllCount, counted_on, none_passed, all_count, count_core, core_count}
+use Rattle.lucy_grammar.proofs.FewLaws.{few_entries}
+use Rattle.lucy_grammar.proofs.Weights.{light_program}
+use Rattle.lucy_grammar.proofs.Laid.{prints, print_apart}
+use Rattle.lucy_grammar.proofs.Fitting.{AllFit}
+use Rattle.lucy_grammar.proofs.FittingPrograms.{program_fits}
+
+-- tokens as they may be written, each behind the one before it
+stand_written : (before : Kind) (ts : List Token) → AreWritten before ts → StandAfter IsWritten before ts
+stand_written before [] h = tt
+stand_written before (t ∷ ts) h = (h.0, stand_written (kind_of t.what) ts h.1)
+
+word_here : (before : Kind) (w : What) → MayFollow IsWritten before w → wants_word before ≡ is_word w
+word_here before (what.Mark m) h = h
+word_here before (what.Name bytes) h = h.0
+word_here before (what.Number n) h = h.0
+word_here before (what.Word w) h = h.0
+
+is_spelled : (before : Kind) (w : What) → MayFollow IsWritten before w → IsSpelled before w
+is_spelled before (what.Mark m) h = tt
+is_spelled before (what.Name bytes) h = h.1.1
+is_spelled before (what.Number n) h = h.1.1
+is_spelled before (what.Word w) h = spelled_again before (what.Word w) h
+
+all_stand_here : (s : State) (ws : List What) → AllMayFollow IsWritten s.before ws → AllCount (count_of s) ws → AllFit s ws → AllStand s ws
+all_stand_here s [] order count fit = tt
+all_stand_here s (w ∷ ws) order count fit =
+    let k : Kind = kind_of w in
+    let P : Kind → Type 0 = λ b. AllMayFollow IsWritten b ws in
+    let Q : Count → Type 0 = λ c. AllCount c ws in
+    let here : Stands s w = record {
+      passes = none_passed s k count.0 fit.0.room;
+      in_list = fit.0.in_list;
+      word_here = word_here s.before w order.0;
+      operand_here = fit.0.operand_here;
+      spelled = is_spelled s.before w order.0;
+    } in
+    (here, all_stand_here (after s k) ws (subst P (sym (before_after s k)) order.1) (subst Q (sym (counted_on s k)) count.1) fit.1)
+
+-- printed tokens as they are cut
+prints_whats : (ps : List Spaced) → whats_of (prints ps) ≡ whats ps
+prints_whats [] = refl
+prints_whats (p ∷ ps) = ap (λ u. p.1 ∷ u) (prints_whats ps)
+
+same_spelling : (w : What) → text_of_what w ≡ spelled_what w
+same_spelling (what.Mark m) = refl
+same_spelling (what.Name bytes) = refl
+same_spelling (what.Number n) = refl
+same_spelling (what.Word w) = refl
+
+prints_bytes : (ps : List Spaced) (rest : List ℕ) → bytes_of (prints ps) rest ≡ spaced_text ps ++ rest
+prints_bytes [] rest = refl
+prints_bytes (p ∷ ps) rest =
+    ap (λ u. p.0 ++ (text_of_what p.1 ++ u)) (prints_bytes ps rest)
+    ∙ ap (λ u. p.0 ++ (u ++ (spaced_text ps ++ rest))) (same_spelling p.1)
+    ∙ ap (λ u. p.0 ++ u) (sym (append_assoc (spelled_what p.1) (spaced_text ps) rest))
+    ∙ sym (append_assoc p.0 (spelled_what p.1 ++ spaced_text ps) rest)
+
+-- what is printed of a program that was read may stand so
+print_follows : (text : List ℕ) (ts : List Token) (n : ℕ) (p : ProgramTree) → Cuts 0 start text ts (End n) → IsProgram ts p → Follows start (prints (printed_program p))
+print_follows text ts n p q d =
+    let ws : List What = whats (printed_program p) in
+    let pass : AllPass start ts = tokens_pass q in
+    let can : IsPrintableProgram Anywhere p = printable Anywhere kind.End ts p d (all_stand kind.End ts) in
+    let order : AllMayFollow IsWritten kind.End ws = printed_order IsWritten p (printable IsWritten kind.End ts p d (stand_written kind.End ts (tokens_written q))) in
+    let P : List What → Type 0 = λ u. AllCount (count_of start) u in
+    let core : P (without_parens ws) = subst P (same_core ts p d) (count_core (count_of start) (map (λ t. t.what) ts) (all_count start ts pass)) in
+    let fit : AllFit start ws = program_fits p (few_entries start ts p d pass) can (light_program (count_of start) p core) in
+    record {
+      stand = subst (AllStand start) (sym (prints_whats (printed_program p))) (all_stand_here start ws order (core_count (count_of start) ws core) fit);
+      apart = print_apart p can;
+    }
+
+pub read_again : (text : List ℕ) (ts : List Token) (n : ℕ) (p : ProgramTree) → Cuts 0 start text ts (End n) → IsProgram ts p →
+    (us : List Token) × (q : ProgramTree) × Cuts 0 start (program_text p) us (End (length (program_text p))) × IsProgram us q × IsAlike q p
+read_again text ts n p q d =
+    let ps : List Spaced = printed_program p in
+    let us : List Token = placed 0 (prints ps) in
+    let P : List ℕ → Type 0 = λ u. Cuts 0 start u us (End (0 + length u)) in
+    let Q : ℕ → Type 0 = λ to. Cuts 0 start (program_text p) us (End to) in
+    let same : map (λ t. t.what) us ≡ whats ps = placed_whats 0 (prints ps) ∙ prints_whats ps in
+    let r = printed_again Anywhere p us (printable Anywhere kind.End ts p d (all_stand kind.End ts)) same in
+    let cut : Q (0 + length (program_text p)) = subst P (prints_bytes ps line) (cut_printed 0 start (prints ps) line (print_follows text ts n p q d) refl) in
+    (us, r.0, subst Q (let e : 0 + length (program_text p) ≡ length (program_text p) = omega arith in e) cut, r.1, r.2)
