@@ -4,6 +4,7 @@ use Rattle.std.specs.Prelude.{codes}
 use Rattle.lucy_text.specs.Outside.{appended, WritesFront}
 use Rattle.lucy_text.specs.Shelf.{Files, Lacks}
 use Rattle.lucy_tree.specs.View.{ProgramTree}
+use Rattle.lucy_token.specs.declared.stop.SyntaxError.TheVariants as syntax
 use Rattle.lucy_grammar.specs.Print.{program_text}
 use Rattle.lucy_syntax.specs.Texts.{HasTree}
 use Rattle.lucy_app.specs.Refusals.{status_of, refusal_status, refusal_line, memory_line, write_fault_line}
@@ -88,6 +89,38 @@ gives_up_no_cause r cause (inr h) k = cc
 given_up : (r : Refusal) (status : ℕ) → Ended r status → GivesUp r → IsCutShort status
 given_up r status e g = cut_short r status e (λ cause k. gives_up_no_cause r cause g k)
 
+-- a text that is refused has a status of its own
+text_status : (text : List ℕ) (cause : Cause) → RefusesText text cause → (status_of cause ≡ 1) ⊎ (status_of cause ≡ 6)
+text_status text (Unexpected place) is = inl refl
+text_status text (BadNumber place) is = inl refl
+text_status text (BadWrittenWord place) is = inl refl
+text_status text (Limit passed) is = inr refl
+text_status text (Count count) (syntax.Unexpected place, is, so) = cc
+text_status text (Count count) (syntax.BadNumber place, is, so) = cc
+text_status text (Count count) (syntax.BadWord place, is, so) = cc
+text_status text (Count count) (syntax.TooLarge passed, is, so) = cc
+text_status text (Count count) (syntax.OutOfMemory, is, so) = cc
+text_status text (BadWord n p) (syntax.Unexpected place, is, so) = cc
+text_status text (BadWord n p) (syntax.BadNumber place, is, so) = cc
+text_status text (BadWord n p) (syntax.BadWord place, is, so) = cc
+text_status text (BadWord n p) (syntax.TooLarge passed, is, so) = cc
+text_status text (BadWord n p) (syntax.OutOfMemory, is, so) = cc
+text_status text (NoOne n) (syntax.Unexpected place, is, so) = cc
+text_status text (NoOne n) (syntax.BadNumber place, is, so) = cc
+text_status text (NoOne n) (syntax.BadWord place, is, so) = cc
+text_status text (NoOne n) (syntax.TooLarge passed, is, so) = cc
+text_status text (NoOne n) (syntax.OutOfMemory, is, so) = cc
+
+program_ended : (files : Option Files) (file : List ℕ) (r : Refusal) (status : ℕ) → ((cause : Cause) → r ≡ Refused cause → RefusesFile files file cause) → Ended r status →
+    (status ≡ 1) ⊎ ((status ≡ 6) ⊎ IsCutShort status)
+program_ended files file (Refused cause) status why (inl h) =
+    let is = why cause refl in
+    elim (text_status is.0 cause is.2) [ inl one ↦ inl (h ∙ one) | inr six ↦ inr (inl (h ∙ six)) ]
+program_ended files file ReadFault status why (inl h) = inr (inr (inl h))
+program_ended files file OutOfMemory status why (inl h) = inr (inr (inr (inr h)))
+program_ended files file r status why (inr (inl h)) = inr (inr (inr (inr h)))
+program_ended files file r status why (inr (inr h)) = inr (inr (inr (inl h)))
+
 -- its line is told
 pub tells : (r : Refusal) (status : ℕ) (cause : Cause) (told told' : Option (List ℕ)) → (status ≡ refusal_status r → told' ≡ appended told (refusal_line r)) → r ≡ Refused cause → status ≡ status_of cause →
     Tells cause status told told'
@@ -105,6 +138,7 @@ pub shows_answer : (files : Option Files) (file print : List ℕ) (status : ℕ)
     (Lacks files file → ⊥) → (status ≡ 0) ⊎ (status ≡ 5) → (status ≡ 0 → out' ≡ appended out print) → (status ≡ 0 → told' ≡ told) → (status ≡ 5 → out_rose) →
     WritesFront out out' print → WritesFront told told' write_fault_line → Shows files file status out out' told told' shelf_rose out_rose
 shows_answer files file print status out out' told told' shelf_rose out_rose is never always missing ends whole quiet fault front line = record {
+  statuses = elim ends [ inl z ↦ inl z | inr z ↦ inr (inr (inr (inr (inl z)))) ];
   done = λ z. (print, is, whole z);
   refused = λ h. absurd (elim ends [ inl z ↦ (elim h [ inl k ↦ omega (arith, z, k) | inr k ↦ omega (arith, z, k) ]) | inr z ↦ (elim h [ inl k ↦ omega (arith, z, k) | inr k ↦ omega (arith, z, k) ]) ]);
   refused_always = λ text cause has refused. absurd (never text cause has refused);
@@ -125,6 +159,7 @@ pub shows_refusal : (files : Option Files) (file : List ℕ) (r : Refusal) (stat
     (Lacks files file → GivesUp r) → (r ≡ ReadFault → Lacks files file ⊎ shelf_rose) → Ended r status → (status ≡ refusal_status r → told' ≡ appended told (refusal_line r)) →
     WritesFront told told' (refusal_line r) ⊎ WritesFront told told' memory_line → Shows files file status out out told told' shelf_rose out_rose
 shows_refusal files file r status out told told' shelf_rose out_rose why refused answered printed missing fault ends line front = record {
+  statuses = inr (program_ended files file r status why ends);
   done = λ z. absurd (no_done r status ends z);
   refused = λ h.
       let cause = has_cause r status ends (λ k. judged status (elim h [ inl a ↦ inl a | inr a ↦ inr (inr a) ]) k) in

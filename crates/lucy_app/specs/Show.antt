@@ -38,6 +38,7 @@ IsCutShort status = (status ≡ 4) ⊎ ((status ≡ 5) ⊎ (status ≡ 7))
 
 -- how `show` ends, over a shelf with these files: its status, and what it leaves on the output and on the fault sink
 pub record Shows (files : Option Files) (file : List ℕ) (status : ℕ) (out out' told told' : Option (List ℕ)) (shelf_rose out_rose : Type 0) : Type 0 where
+  pub statuses : (status ≡ 0) ⊎ ((status ≡ 1) ⊎ ((status ≡ 6) ⊎ IsCutShort status))
   -- With 0 the print of the file's text stands on the output.
   pub done : status ≡ 0 → (print : List ℕ) × IsPrinted files file print × (out' ≡ appended out print)
   -- With 1 and 6 the file's text is refused, and the line of the cause is told.

@@ -26,6 +26,7 @@ pub(crate) fn answer<S: Shelf>(alloc: Global, shelf: &mut S, file: &str) -> Resu
     ensures printed_always { (text : List ℕ) → (p : ProgramTree) → HasText (S.files shelf.old) file.now text → HasTree text p →
         MatchResult result (λ v. v.items ≡ program_text p) GivesUp }
     ensures missing { Lacks (S.files shelf.old) file.now → IsErrAnd result GivesUp }
+    ensures missing_calm { Lacks (S.files shelf.old) file.now → S.faults shelf.new ≡ S.faults shelf.old }
     ensures fault { result ≡ Err ReadFault → Lacks (S.files shelf.old) file.now ⊎ Rose (S.faults shelf.old) (S.faults shelf.new) }
     ensures calm { result ≢ Err ReadFault → S.faults shelf.new ≡ S.faults shelf.old }
     ensures count { S.faults shelf.old ≤ S.faults shelf.new }

@@ -1,6 +1,7 @@
 // The one call that the program makes.
 ghost use Rattle.std.specs.Prelude.{◌≡◌, ◌≢◌, ◌⊎◌, ◌≤◌, List, ℕ, Some, IsTrue, map, string_bytes};
 ghost use Rattle.lucy_text.specs.Outside.{appended, Rose, WritesFront};
+ghost use Rattle.lucy_text.specs.Shelf.{Lacks};
 ghost use Rattle.lucy_app.specs.Refusals.{status_of, words_line, read_fault_line, write_fault_line, memory_line};
 ghost use Rattle.lucy_app.specs.Words.{NamesOrder, NamesShow, NamesCommand};
 ghost use Rattle.lucy_app.specs.Order.{IsRefused};
@@ -79,6 +80,8 @@ pub fn lucy<S: Shelf, I: Source, O: Sink, E: Sink>(
     ensures show { (file : List ℕ) → NamesShow (map string_bytes words.now) file → Shows (S.files shelf.old) file result
         (O.written out.old) (O.written out.new) (E.written err.old) (E.written err.new)
         (Rose (S.faults shelf.old) (S.faults shelf.new)) (Rose (O.faults out.old) (O.faults out.new)) }
+
+    ensures missing_calm { (file : List ℕ) → NamesShow (map string_bytes words.now) file → Lacks (S.files shelf.old) file → S.faults shelf.new ≡ S.faults shelf.old }
 
     // What every command leaves on the sinks.
     ensures quiet { result ≡ 0 → err.new ≡ err.old }
