@@ -47,7 +47,5 @@ fn run_all(rt: &(impl Print + AllocGlobal), rows: &[Row]) -> io::Result<()> {
 fn main(rt: HostRuntime) -> io::Result<()> {
     run_all(&rt, &ordered())?;
     run_all(&rt, &shown())?;
-    run_all(&rt, &refused())?;
-    run_all(&rt, &limited())?;
     run_all(&rt, &fetched())
 }

@@ -2,15 +2,11 @@
 use crate::row::{Calls, Pieces, Row};
 
 mod fetches;
-mod limits;
 mod prints;
-mod refusals;
 mod verdicts;
 
 pub(crate) use fetches::fetched;
-pub(crate) use limits::limited;
 pub(crate) use prints::shown;
-pub(crate) use refusals::refused;
 pub(crate) use verdicts::ordered;
 
 // Calls that never fail, of a few bytes each.
