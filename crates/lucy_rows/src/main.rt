@@ -9,7 +9,7 @@ mod row;
 mod rows;
 
 use row::Row;
-use rows::{fetched, limited, ordered, refused, shown};
+use rows::{fetched, ordered, shown};
 use std::{io, str};
 
 // Prints each line behind the mark.
