@@ -8,10 +8,13 @@ use Rattle.lucy_word.proofs.SpellingLaws.{reads_one}
 use Rattle.lucy_app.specs.Fields.{fields}
 use Rattle.lucy_app.specs.Order.{IsPair, RefusesWord, RefusesFields, IsRefused}
 use Rattle.lucy_app.specs.declared.refusal.Cause.{Cause}
-use Rattle.lucy_app.specs.declared.refusal.Cause.TheVariants.{Count, BadWord, NoOne, Limit}
+use Rattle.lucy_app.specs.declared.refusal.Cause.TheVariants.{Unexpected, BadNumber, BadWrittenWord, Count, BadWord, NoOne, Limit}
 
 -- a field that is refused is no word
 pub readable_is_not_refused : (number : ℕ) (text : List ℕ) (a : Bits) (cause : Cause) → IsReadable text a → RefusesWord number text cause → ⊥
+readable_is_not_refused number text a (Unexpected place) is not = not
+readable_is_not_refused number text a (BadNumber place) is not = not
+readable_is_not_refused number text a (BadWrittenWord place) is not = not
 readable_is_not_refused number text a (Count count) is not = not
 readable_is_not_refused number text a (BadWord which place) is not = let same = reads_one text (Ok a) (Err (word.BadWord place)) is not.1 in cc
 readable_is_not_refused number text a (NoOne which) is not = let same = reads_one text (Ok a) (Err word.NoOne) is not.1 in cc
@@ -22,7 +25,13 @@ one_error text e f is other = let same : ◌≡◌ {A = Result Bits WordError} (
 
 -- a field is refused for one cause
 pub one_cause_of_a_word : (number : ℕ) (text : List ℕ) (c d : Cause) → RefusesWord number text c → RefusesWord number text d → c ≡ d
+one_cause_of_a_word number text (Unexpected place) d is other = absurd is
+one_cause_of_a_word number text (BadNumber place) d is other = absurd is
+one_cause_of_a_word number text (BadWrittenWord place) d is other = absurd is
 one_cause_of_a_word number text (Count count) d is other = absurd is
+one_cause_of_a_word number text c (Unexpected place) is other = absurd other
+one_cause_of_a_word number text c (BadNumber place) is other = absurd other
+one_cause_of_a_word number text c (BadWrittenWord place) is other = absurd other
 one_cause_of_a_word number text c (Count count) is other = absurd other
 one_cause_of_a_word number text (BadWord n p) (BadWord m q) is other = let same : (word.BadWord p) ≡ (word.BadWord q) = one_error text (word.BadWord p) (word.BadWord q) is.1 other.1 in cc
 one_cause_of_a_word number text (BadWord n p) (NoOne m) is other = let same : (word.BadWord p) ≡ word.NoOne = one_error text (word.BadWord p) word.NoOne is.1 other.1 in cc

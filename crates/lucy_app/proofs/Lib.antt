@@ -1,3 +1,5 @@
 mod Pairs
 mod Causes
 mod Told
+mod Shown
+mod Ends

@@ -7,7 +7,7 @@ use Rattle.lucy_app.specs.Fields.{fields}
 use Rattle.lucy_app.specs.Order.{IsPair, RefusesWord, RefusesFields}
 use Rattle.lucy_app.specs.declared.refusal.Cause.{Cause}
 use Rattle.lucy_app.specs.declared.refusal.Refusal.{Refusal}
-use Rattle.lucy_app.specs.declared.refusal.Refusal.TheVariants.{Input, OutOfMemory}
+use Rattle.lucy_app.specs.declared.refusal.Refusal.TheVariants.{Refused, OutOfMemory}
 
 pair_of : {X : Type 0} (f : X → List ℕ) (xs : List X) (d e : X) → 2 ≤ length xs → length xs < 3 → map f xs ≡ f (get_or xs 0 d) ∷ f (get_or xs 1 e) ∷ []
 pair_of f [] d e some few = absurd (omega arith)
@@ -23,7 +23,7 @@ parts_pair f xs d text a b cut some few first second =
 
 -- want of memory, or a cause of this kind
 abbrev pub Refuses : (Cause → Type 0) → Refusal → Type 0
-Refuses P e = (e ≡ OutOfMemory) ⊎ ((cause : Cause) × P cause × (e ≡ Input cause))
+Refuses P e = (e ≡ OutOfMemory) ⊎ ((cause : Cause) × P cause × (e ≡ Refused cause))
 
 -- two fields of which the first is refused
 pub first_refused : {X : Type 0} (f : X → List ℕ) (xs : List X) (d : X) (text : List ℕ) (e : Refusal) → map f xs ≡ fields text → 2 ≤ length xs → length xs < 3 →

@@ -28,10 +28,10 @@ IsAnswer text line = (a : Bits) × (b : Bits) × (v : Verdict) × IsPair text a 
 
 -- the field with this number, from 1, is refused for this cause
 abbrev pub RefusesWord : ℕ → List ℕ → Cause → Type 0
-RefusesWord number text (Count count) = ⊥
 RefusesWord number text (BadWord which place) = (which ≡ number) × Refuses text (word.BadWord place)
 RefusesWord number text (NoOne which) = (which ≡ number) × Refuses text word.NoOne
 RefusesWord number text (Limit passed) = (passed ≡ limit.Written) × Refuses text word.TooLong
+RefusesWord number text cause = ⊥
 
 -- the fields are refused for this cause: their count, else the first word that is refused
 abbrev pub RefusesFields : List (List ℕ) → Cause → Type 0

@@ -1,7 +1,7 @@
 -- What a run leaves of its source and its sinks, as far as they tell their bytes.
 use Rattle.std.specs.Prelude.{ℕ, ◌≤◌, ◌≡◌, ◌⊎◌, List, length, Option}
 use Rattle.lucy_text.specs.Outside.{followed, appended, AtEnd, WritesFront}
-use Rattle.lucy_app.specs.Refusals.{status_of, line_of, words_line, read_fault_line, write_fault_line, memory_line}
+use Rattle.lucy_app.specs.Refusals.{status_of, line_of, read_fault_line, write_fault_line, memory_line}
 use Rattle.lucy_app.specs.Order.{IsAnswer, IsRefused}
 use Rattle.lucy_app.specs.declared.refusal.Cause.{Cause}
 
@@ -29,12 +29,11 @@ WritesAnswer left left' written written' = (line : List ℕ) × AnswersAll left 
 abbrev pub WritesAnswerFront : (left left' written written' : Option (List ℕ)) → Type 0
 WritesAnswerFront left left' written written' = (written' ≡ written) ⊎ ((line : List ℕ) × AnswersAll left left' line × WritesFront written written' line)
 
--- a line that says why there is no answer; where it tells of the input, the bytes that were taken are refused for its cause
-abbrev pub IsLine : (left left' : Option (List ℕ)) (line : List ℕ) → Type 0
-IsLine left left' line =
-    (line ≡ words_line) ⊎ ((line ≡ read_fault_line) ⊎ ((line ≡ memory_line) ⊎ ((cause : Cause) × RefusesAll left left' cause × (line ≡ line_of cause))))
+-- a line that says why there is no answer; where it tells a cause, the command refuses what it read for it
+abbrev pub IsLine : (Refuses : Cause → Type 0) (line : List ℕ) → Type 0
+IsLine Refuses line = (line ≡ read_fault_line) ⊎ ((line ≡ memory_line) ⊎ ((cause : Cause) × Refuses cause × (line ≡ line_of cause)))
 
 -- a front of such a line was written or, where the output has counted a fault, of the line of a write fault
-abbrev pub TellsFront : (left left' told told' : Option (List ℕ)) (out_rose : Type 0) → Type 0
-TellsFront left left' told told' out_rose =
-    ((line : List ℕ) × IsLine left left' line × WritesFront told told' line) ⊎ (out_rose × WritesFront told told' write_fault_line)
+abbrev pub TellsFront : (Refuses : Cause → Type 0) (told told' : Option (List ℕ)) (out_rose : Type 0) → Type 0
+TellsFront Refuses told told' out_rose =
+    ((line : List ℕ) × IsLine Refuses line × WritesFront told told' line) ⊎ (out_rose × WritesFront told told' write_fault_line)

@@ -1,6 +1,27 @@
 -- Which words name a command.
-use Rattle.std.specs.Prelude.{ℕ, ◌≡◌, List, [], ◌∷◌, codes}
+use Rattle.std.specs.Prelude.{ℕ, Bool, true, false, not, ◌==◌, ◌≡◌, ◌⊎◌, IsTrue, List, [], ◌∷◌, codes}
+use Rattle.lucy_app.specs.declared.words.Command.{Command}
+use Rattle.lucy_app.specs.declared.words.Command.TheVariants.{Order, Show}
 
 -- the one word `order`
 abbrev pub NamesOrder : List (List ℕ) → Type 0
 NamesOrder words = words ≡ codes "order" ∷ []
+
+-- a FILE is not empty, and `-` begins it only where it is all of it
+abbrev pub is_file : List ℕ → Bool
+is_file [] = false
+is_file (byte ∷ []) = true
+is_file (byte ∷ (other ∷ more)) = not (byte == 45)
+
+-- the word `show`, and then this FILE
+abbrev pub NamesShow : List (List ℕ) → (file : List ℕ) → Type 0
+NamesShow words file = (words ≡ codes "show" ∷ file ∷ []) × IsTrue (is_file file)
+
+-- this command
+abbrev pub Names : List (List ℕ) → Command → Type 0
+Names words Order = NamesOrder words
+Names words (Show file) = NamesShow words file.now
+
+-- one of the commands
+abbrev pub NamesCommand : List (List ℕ) → Type 0
+NamesCommand words = NamesOrder words ⊎ ((file : List ℕ) × NamesShow words file)

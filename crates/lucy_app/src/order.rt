@@ -7,7 +7,7 @@ ghost use Rattle.lucy_app.specs.Order.{IsAnswer, RefusesWord, RefusesFields, ver
 ghost use Rattle.lucy_app.specs.Refusals.{status_of};
 ghost use Rattle.lucy_app.specs.Run.{AnswersAll, RefusesAll, TakesAtMost};
 ghost use Rattle.lucy_app.specs.declared.refusal.Cause.{Cause};
-ghost use Rattle.lucy_app.specs.declared.refusal.Refusal.TheVariants.{Input, ReadFault, OutOfMemory};
+ghost use Rattle.lucy_app.specs.declared.refusal.Refusal.TheVariants.{Refused, ReadFault, OutOfMemory};
 
 use crate::cut::fields;
 use crate::input::read_up_to;
@@ -33,7 +33,7 @@ fn line(alloc: Global, verdict: Verdict) -> Result<String, AllocError>
 // The word in the field with this number, from 1.
 fn word(alloc: Global, number: u64, field: &[u8]) -> Result<Word, Refusal>
     ensures ok { IfOk result (IsReadable field.now) }
-    ensures refused { IfErr result (λ e. (e ≡ OutOfMemory) ⊎ ((cause : Cause) × RefusesWord number field.now cause × (e ≡ Input cause))) }
+    ensures refused { IfErr result (λ e. (e ≡ OutOfMemory) ⊎ ((cause : Cause) × RefusesWord number field.now cause × (e ≡ Refused cause))) }
 {
     let cause = match Word::read(alloc, field) {
         Ok(word) => return Ok(word),
@@ -42,17 +42,17 @@ fn word(alloc: Global, number: u64, field: &[u8]) -> Result<Word, Refusal>
         Err(WordError::NoOne) => Cause::NoOne(number),
         Err(WordError::OutOfMemory) => return Err(Refusal::OutOfMemory),
     };
-    Err(Refusal::Input(cause))
+    Err(Refusal::Refused(cause))
 }
 
 // The line on the two words that the text is.
 fn verdict_on(alloc: Global, text: &[u8]) -> Result<String, Refusal>
     ensures ok { IfOk result (λ s. IsAnswer text.now (string_bytes s)) }
-    ensures refused { IfErr result (λ e. (e ≡ OutOfMemory) ⊎ ((cause : Cause) × RefusesFields (fields text.now) cause × (e ≡ Input cause))) }
+    ensures refused { IfErr result (λ e. (e ≡ OutOfMemory) ⊎ ((cause : Cause) × RefusesFields (fields text.now) cause × (e ≡ Refused cause))) }
 {
     let fields = fields(alloc, text)?;
     let [first, second] = fields.as_slice() else {
-        return Err(Refusal::Input(Cause::Count(fields.len())));
+        return Err(Refusal::Refused(Cause::Count(fields.len())));
     };
     let first = word(alloc, 1, first)?;
     let second = word(alloc, 2, second)?;
@@ -62,9 +62,9 @@ fn verdict_on(alloc: Global, text: &[u8]) -> Result<String, Refusal>
 /// The line on all bytes of the source, read to its end or to one byte past the limit.
 pub(crate) fn answer<I: Source>(alloc: Global, input: &mut I) -> Result<String, Refusal>
     ensures ok { IfOk result (λ s. AnswersAll (I.left input.old) (I.left input.new) (string_bytes s)) }
-    ensures refused { (cause : Cause) → result ≡ Err (Input cause) → RefusesAll (I.left input.old) (I.left input.new) cause }
+    ensures refused { (cause : Cause) → result ≡ Err (Refused cause) → RefusesAll (I.left input.old) (I.left input.new) cause }
     ensures ended { IfOk result (λ _. IsTrue (I.ended input.new)) }
-    ensures ended_refused { (cause : Cause) → result ≡ Err (Input cause) → status_of cause ≡ 3 → IsTrue (I.ended input.new) }
+    ensures ended_refused { (cause : Cause) → result ≡ Err (Refused cause) → status_of cause ≡ 3 → IsTrue (I.ended input.new) }
     ensures fault { result ≡ Err ReadFault → Rose (I.faults input.old) (I.faults input.new) }
     ensures calm { result ≢ Err ReadFault → I.faults input.new ≡ I.faults input.old }
     ensures took { TakesAtMost 16385 (I.left input.old) (I.left input.new) }
@@ -72,7 +72,7 @@ pub(crate) fn answer<I: Source>(alloc: Global, input: &mut I) -> Result<String, 
 {
     let bytes = read_up_to(alloc, input, INPUT)?;
     if bytes.len() > INPUT {
-        return Err(Refusal::Input(Cause::Limit(Limit::OrderInput)));
+        return Err(Refusal::Refused(Cause::Limit(Limit::OrderInput)));
     }
     verdict_on(alloc, &bytes)
 }

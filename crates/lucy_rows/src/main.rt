@@ -1,4 +1,5 @@
-//! The worked rows: each is run through the top call over sources and sinks in memory, and what it leaves is printed.
+//! The worked rows: each is run through the top call over a shelf, a source and sinks in memory, and what it leaves is
+//! printed.
 //!
 //! A row is printed as `= NAME`, `status N`, `left N` with the number of bytes left in its source, each line of its
 //! output behind `> ` and each line of its faults behind `! `. Behind `>|` or `!|` it is said that the last line has no end.
@@ -8,7 +9,7 @@ mod row;
 mod rows;
 
 use row::Row;
-use rows::rows;
+use rows::{fetched, ordered, shown};
 use std::{io, str};
 
 // Prints each line behind the mark.
@@ -36,9 +37,15 @@ fn run(rt: &(impl Print + AllocGlobal), row: &Row) -> io::Result<()> {
     print_lines(rt, '!', streams.err.bytes())
 }
 
-fn main(rt: HostRuntime) -> io::Result<()> {
-    for row in &rows() {
-        run(&rt, row)?;
+fn run_all(rt: &(impl Print + AllocGlobal), rows: &[Row]) -> io::Result<()> {
+    for row in rows {
+        run(rt, row)?;
     }
     Ok(())
+}
+
+fn main(rt: HostRuntime) -> io::Result<()> {
+    run_all(&rt, &ordered())?;
+    run_all(&rt, &shown())?;
+    run_all(&rt, &fetched())
 }

@@ -1,5 +1,5 @@
 use lucy_app::lucy;
-use lucy_text::{MemSink, MemSource};
+use lucy_text::{MemShelf, MemSink, MemSource};
 use std::alloc::{AllocError, Global};
 
 /// How the calls of a source or a sink go: each moves at most so many bytes, and the calls with these numbers, from 1, fail.
@@ -9,13 +9,20 @@ pub struct Calls {
     pub fails: &'static [u64],
 }
 
-/// One row: the words and the input that are handed in, and how the streams behave.
+/// A text in pieces, each a text and how often it stands there.
+pub type Pieces = &'static [(&'static str, usize)];
+
+/// One row: the words, the file and the input that are handed in, and how the shelf and the streams behave.
 #[derive(Clone, Copy)]
 pub struct Row {
     pub name: &'static str,
     pub words: &'static [&'static str],
-    /// The input in pieces, each a text and how often it stands there.
-    pub input: &'static [(&'static str, usize)],
+    /// The name of the one file that the shelf holds.
+    pub file: &'static str,
+    pub text: Pieces,
+    /// The numbers, from 1, of the fetches that fail.
+    pub fetches: &'static [u64],
+    pub input: Pieces,
     pub reads: Calls,
     pub writes: Calls,
     /// Bytes that the output has room for.
@@ -23,15 +30,16 @@ pub struct Row {
     pub tells: Calls,
 }
 
-/// The streams of one run.
+/// The shelf and the streams of one run.
 #[derive(Drop)]
 pub struct Streams {
+    pub shelf: MemShelf,
     pub input: MemSource,
     pub out: MemSink,
     pub err: MemSink,
 }
 
-fn bytes_of(alloc: Global, pieces: &[(&str, usize)]) -> Result<Vec<u8>, AllocError> {
+fn bytes_of(alloc: Global, pieces: Pieces) -> Result<Vec<u8>, AllocError> {
     let mut bytes = Vec::new(alloc);
     for (text, times) in pieces {
         for _ in 0..*times {
@@ -46,12 +54,20 @@ fn sink(alloc: Global, room: usize, calls: Calls) -> Result<MemSink, AllocError>
     Ok(MemSink::new(room, calls.most.max(1), calls.fails.to_vec(alloc)?))
 }
 
+fn shelf(alloc: Global, row: &Row) -> Result<MemShelf, AllocError> {
+    let name = String::from_str(alloc, row.file)?;
+    let mut files = Vec::new(alloc);
+    files.push((name, bytes_of(alloc, row.text)?))?;
+    Ok(MemShelf::new(files, row.fetches.to_vec(alloc)?))
+}
+
 impl Row {
-    /// The streams before the run.
+    /// The shelf and the streams before the run.
     pub(crate) fn streams(&self, alloc: Global) -> Result<Streams, AllocError> {
         let bytes = bytes_of(alloc, self.input)?;
         let reads = self.reads;
         Ok(Streams {
+            shelf: shelf(alloc, self)?,
             input: MemSource::new(bytes, reads.most.max(1), reads.fails.to_vec(alloc)?),
             out: sink(alloc, self.room, self.writes)?,
             err: sink(alloc, 256, self.tells)?,
@@ -64,7 +80,12 @@ impl Row {
         for word in self.words {
             words.push(String::from_str(alloc, word)?)?;
         }
-        let Streams { input, out, err } = streams;
-        Ok(lucy(alloc, &words, input, out, err))
+        let Streams {
+            shelf,
+            input,
+            out,
+            err,
+        } = streams;
+        Ok(lucy(alloc, &words, shelf, input, out, err))
     }
 }

@@ -1,7 +1,7 @@
 use Rattle.std.proofs.Common.{◌≡◌, ◌≤◌, ◌<◌, ◌∷◌, [], ℕ, List, Bool, length, map, get_or, string_bytes, ap, sym, ◌∙◌, Decides, arith}
 use Rattle.std.proofs.lemmas.Slice.Eq.{bytes_eq-Decides}
 use Rattle.std.proofs.lemmas.Bool.Decides.{Decides-at}
-use Rattle.lucy_app.proofs.top.names_order.Goals as goal
+use Rattle.lucy_app.proofs.words.names_order.Goals as goal
 
 -- of a list of one, what is true of the one
 one_word : {X : Type 0} (f : X → List ℕ) (ws : List X) (w : X) (s x : List ℕ) (b : Bool) → 1 ≤ length ws → length ws < 2 → w ≡ get_or ws 0 w → s ≡ f w → Decides b (s ≡ x) →

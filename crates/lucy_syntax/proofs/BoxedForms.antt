@@ -1,0 +1,20 @@
+-- The trees of forms whose operands lie in boxes.
+use Rattle.std.proofs.Common.{◌≡◌, Box, Global, ap, sym, ◌∙◌}
+use Rattle.lucy_word.specs.Bits.{Bits}
+use Rattle.lucy_tree.specs.declared.span.Span.{Span}
+use Rattle.lucy_tree.specs.declared.expr.Lit.{Lit}
+use Rattle.lucy_tree.specs.declared.expr.Expr.{Expr}
+use Rattle.lucy_tree.specs.declared.expr.Expr.TheOpen as layer
+use Rattle.lucy_tree.specs.declared.expr.Expr.TheFolds.{fold-roll-Expr}
+use Rattle.lucy_tree.specs.declared.expr.Expr.TheVariants.{Merge, Fby, Buffer, rolls-Merge, rolls-Fby, rolls-Buffer}
+use Rattle.lucy_tree.specs.Tree.{Tree, Trees, merged, followed, buffered}
+use Rattle.lucy_tree.specs.View.{tree_of, tree_step, trees_step}
+
+pub tree_merged : (by : Bits) (one zero : Box Expr Global) (s : Span) → tree_of (Merge by one zero s) ≡ merged by (tree_of one.value) (tree_of zero.value) s
+tree_merged by one zero s = ap tree_of (sym (rolls-Merge by one zero s)) ∙ fold-roll-Expr Tree Trees tree_step trees_step (layer.Merge by one zero s)
+
+pub tree_followed : (l : Lit) (later : Box Expr Global) (s : Span) → tree_of (Fby l later s) ≡ followed l (tree_of later.value) s
+tree_followed l later s = ap tree_of (sym (rolls-Fby l later s)) ∙ fold-roll-Expr Tree Trees tree_step trees_step (layer.Fby l later s)
+
+pub tree_buffered : (inner : Box Expr Global) (s : Span) → tree_of (Buffer inner s) ≡ buffered (tree_of inner.value) s
+tree_buffered inner s = ap tree_of (sym (rolls-Buffer inner s)) ∙ fold-roll-Expr Tree Trees tree_step trees_step (layer.Buffer inner s)

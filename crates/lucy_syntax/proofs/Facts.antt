@@ -1,0 +1,100 @@
+-- What tests of the first token's kind tell.
+use Rattle.std.proofs.Common.{ℕ, ◌≡◌, Bool, true, false, List, [], ◌∷◌, Option, Some, None, refl, ap, sym, ◌∙◌, map, ◌++◌, length, suc, arith}
+use Rattle.std.proofs.lemmas.List.{map-append}
+use Rattle.std.specs.Prelude.{MatchOption, ◌==◌}
+use Rattle.std.proofs.lemmas.Bool.{both_ways}
+use Rattle.std.proofs.lemmas.Bool.Decides.{nat_tests}
+use Rattle.lucy_token.specs.declared.token.Kind.{Kind}
+use Rattle.lucy_token.specs.declared.token.Kind.TheVariants as kind
+use Rattle.lucy_token.specs.declared.mark.Mark.TheVariants as mark
+use Rattle.lucy_token.specs.declared.token.Token.{Token}
+use Rattle.lucy_token.specs.Tokens.{first}
+use Rattle.lucy_grammar.specs.Sets.{within}
+use Rattle.lucy_grammar.specs.Kinds.{number}
+use Rattle.lucy_host.specs.declared.op.Op.{Op}
+use Rattle.lucy_tree.specs.declared.span.Span.{Span}
+use Rattle.lucy_token.specs.declared.mark.Mark.{Mark}
+use Rattle.lucy_grammar.specs.Sets.{nth}
+use Rattle.lucy_grammar.specs.Kinds.{mark_number}
+use Rattle.lucy_grammar.specs.Symbols.{Part, Val}
+use Rattle.lucy_grammar.specs.Grammar.{rules, says, sign}
+use Rattle.lucy_grammar.specs.Reading.{begins, Begins, IsBegun, Reads}
+use Rattle.lucy_grammar.proofs.Numbers.{is_in, same_kind}
+use Rattle.lucy_grammar.proofs.Steps.{end, tok, rule, led_by, as_value}
+use Rattle.lucy_tree.specs.Tree.{Tree, trees_of, list_of}
+use Rattle.lucy_tree.specs.View.{DefTree, NodeTree, tree_of}
+use Rattle.lucy_tree.specs.declared.span.Name as name
+use Rattle.lucy_tree.specs.declared.decl.Decl as decl
+use Rattle.lucy_tree.specs.declared.expr.Expr.{Expr}
+use Rattle.lucy_grammar.proofs.Growing.{put_tree, list_of-trees_of}
+use Rattle.lucy_syntax.specs.Views.{all_trees}
+use Rattle.lucy_syntax.specs.Refusals.{begins_expr}
+
+-- a test that failed
+pub fails : {b : Bool} {P : Type 0} → (P → b ≡ true) → b ≡ false → P → ⊥
+fails {b = b} back missed p = both_ways b missed (back p)
+
+-- what holds of an option, made into something else
+pub match_to : {A N M : Type 0} {P Q : A → Type 0} (o : Option A) → MatchOption o N P → (N → M) → ((a : A) → P a → Q a) → MatchOption o M Q
+match_to None h f g = f h
+match_to (Some a) h f g = g a h
+
+-- a test that can't fail
+pub shown : (b : Bool) → (b ≡ false → ⊥) → b ≡ true
+shown true h = refl
+shown false h = absurd (h refl)
+
+pub pair_of : {A B : Type 0} {p : A × B} {a : A} {b : B} → p.0 ≡ a → p.1 ≡ b → p ≡ (a, b)
+pair_of {A = A} {B = B} {p = p} {a = a} {b = b} e f =
+    let one : ◌≡◌ {A = A × B} (p.0, p.1) (a, p.1) = ap (λ (x : A). let q : A × B = (x, p.1) in q) e in
+    let two : ◌≡◌ {A = A × B} (a, p.1) (a, b) = ap (λ (y : B). let q : A × B = (a, y) in q) f in
+    one ∙ two
+
+-- an operator's sign is read
+pub signed : (X : Part) (made : Op × Span → Val X) (i : ℕ) (m : Mark) (o : Op) {ts more : List Token} {t : Token} {v : Op × Span} →
+    nth (rules X) i ≡ Some (says (sign m ∷ []) (λ (s, _). made (o, s.span))) → within (mark_number m) (begins X) ≡ true →
+    Begins ts t (kind.Mark m) more → v.0 ≡ o → v.1 ≡ t.span → IsBegun X ts × Reads X ts (made v) more
+signed X made i m o {ts = ts} {t = t} {v = v} e w b one two = (
+  is_in ts (begins X) (ap first b.0 ∙ b.1) w,
+  as_value (ap made (pair_of one two)) (rule i e (led_by i e (same_kind (kind.Mark m)) b) (tok b (end _))),
+)
+
+begins_expr_by : (k : Kind) → begins_expr k ≡ within (number k) (begins Part.Args)
+unfolding begins
+begins_expr_by kind.End = refl
+begins_expr_by (kind.Mark mark.Let) = refl
+begins_expr_by _ = refl
+
+pub not_expr : (ts : List Token) {b : Bool} → b ≡ begins_expr (first ts) → (b ≡ true → IsBegun Part.Args ts) × (IsBegun Part.Args ts → b ≡ true)
+not_expr ts e = (λ h. sym (begins_expr_by (first ts)) ∙ sym e ∙ h, λ w. e ∙ begins_expr_by (first ts) ∙ w)
+
+list_of-all : (es : List Expr) → list_of (all_trees es) ≡ map tree_of es
+list_of-all es = list_of-trees_of (map tree_of es)
+
+-- one more expression is one more tree
+pub put_trees : (es : List Expr) (e : Expr) {new : List Expr} → new ≡ es ++ e ∷ [] → all_trees new ≡ put_tree (all_trees es) (tree_of e)
+put_trees es e {new = new} p =
+    ap all_trees p ∙ ap trees_of (map-append tree_of es (e ∷ [])) ∙ ap (λ (ts : List Tree). trees_of (ts ++ tree_of e ∷ [])) (sym (list_of-all es))
+
+-- one more entry, as it is seen
+pub put_mapped : {A B : Type 0} (f : A → B) (list : List A) (x : A) {new : List A} → new ≡ list ++ x ∷ [] → map f new ≡ map f list ++ f x ∷ []
+put_mapped f list x p = ap (map f) p ∙ map-append f list (x ∷ [])
+
+-- a node is what its parts are
+pub node_of : {n : name.Name} {a b : List decl.Decl} {r s : List name.Name} {d e : List DefTree} → a ≡ b → r ≡ s → d ≡ e →
+    ◌≡◌ {A = NodeTree} (record { name = n; params = a; results = r; defs = d }) (record { name = n; params = b; results = s; defs = e })
+node_of {n = n} {a = a} {b = b} {r = r} {s = s} {d = d} {e = e} p q u =
+    let N : List decl.Decl → List name.Name → List DefTree → NodeTree = λ x y z. record { name = n; params = x; results = y; defs = z } in
+    ap (λ x. N x r d) p ∙ ap (λ y. N b y d) q ∙ ap (λ z. N b s z) u
+
+-- a slice that a test found empty, or not
+pub is_none : {A : Type 0} (list : List A) → true ≡ (length list == 0) → list ≡ []
+is_none [] h = refl
+is_none (x ∷ xs) h = absurd (both_ways true (h ∙ zero_not (length xs)) refl)
+  where
+    zero_not : (n : ℕ) → (suc n == 0) ≡ false
+    zero_not n = grind (arith, nat_tests)
+
+pub is_some : {A : Type 0} (list : List A) → false ≡ (length list == 0) → list ≡ [] → ⊥
+is_some [] h e = both_ways true (sym h) refl
+is_some (x ∷ xs) h e = cc

@@ -1,0 +1,5 @@
+mod Leaving
+mod Facts
+mod BoxedForms
+mod Operands
+pub mod TextLaws

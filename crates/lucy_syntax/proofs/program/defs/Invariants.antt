@@ -1,0 +1,11 @@
+use Rattle.std.proofs.Common.{length, map}
+use Rattle.lucy_tree.specs.View.{def_tree}
+use Rattle.lucy_grammar.specs.Symbols.{Part}
+use Rattle.lucy_grammar.proofs.Growing.{Growing, and_then}
+use Rattle.lucy_syntax.proofs.program.defs.Given as goal
+
+abbrev pub invariant-more : goal.invariant-more
+invariant-more l = Growing Part.Defs Part.Def Part.MoreDef and_then l.ts (map def_tree l.list.items) l.over
+
+abbrev pub decreases-more : goal.decreases-more
+decreases-more l = length l.over

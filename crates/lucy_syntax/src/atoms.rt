@@ -1,0 +1,190 @@
+// Reads what needs no expression: literals, samplings, and the signs of operators.
+ghost use Rattle.std.specs.Prelude.{◌≡◌, ◌<◌, ◌≤◌, ◌↔◌, IfOk, IfErr, IfSome, IsTrue, MatchOption, length};
+ghost use Rattle.lucy_grammar.specs.Symbols.{Part};
+ghost use Rattle.lucy_token.specs.declared.token.Kind.TheVariants as kind;
+ghost use Rattle.lucy_token.specs.declared.token.Token.{Token};
+ghost use Rattle.lucy_grammar.specs.Meanings.{number_of};
+ghost use Rattle.lucy_grammar.specs.Reading.{Reads, Unfit, IsBegun, Begins, IsOther, ReadsOptional, UnfitOptional};
+ghost use Rattle.lucy_syntax.specs.Refusals.{RefusedBy, begins_expr};
+
+use crate::cursor::{ahead, at, sign, want, word};
+use crate::refusal::Refusal;
+use lucy_host::Op;
+use lucy_token::{Kind, Mark, Token, What};
+use lucy_tree::{Lit, Span};
+use lucy_word::Word;
+use std::alloc::Global;
+
+/// Whether a literal begins here.
+pub fn at_literal(ts: &[Token]) -> bool
+    ensures { IsTrue result ↔ IsBegun Part.Lit ts.now }
+{
+    if at(ts, Kind::Number) {
+        return true;
+    }
+    if at(ts, Kind::Mark(Mark::True)) {
+        return true;
+    }
+    at(ts, Kind::Mark(Mark::False))
+}
+
+// A number and its place.
+fn number<'a, 't>(ts: &'a [Token<'t>]) -> Result<((Lit, Span), &'a [Token<'t>]), Refusal<'a, 't>>
+    ensures ok { IfOk result (λ p. (t : Token) × Begins ts.now t kind.Number p.1.now × (p.0.0 ≡ number_of t.what) × (p.0.1 ≡ t.span)) }
+    ensures refused { IfErr result (RefusedBy (IsOther ts.now kind.Number)) }
+    ensures shorter { IfOk result (λ p. length p.1.now < length ts.now) }
+{
+    let Some((t, rest)) = ts.split_first() else {
+        return Err(Refusal::At(ts));
+    };
+    match &t.what {
+        What::Number(n) => Ok(((Lit::Int(*n), t.span), rest)),
+        _ => Err(Refusal::At(ts)),
+    }
+}
+
+/// A literal and its place.
+pub fn lit<'a, 't>(ts: &'a [Token<'t>]) -> Result<((Lit, Span), &'a [Token<'t>]), Refusal<'a, 't>>
+    ensures ok { IfOk result (λ p. Reads Part.Lit ts.now p.0 p.1.now) }
+    ensures refused { IfErr result (RefusedBy (Unfit Part.Lit ts.now)) }
+    ensures shorter { IfOk result (λ p. length p.1.now < length ts.now) }
+{
+    if at(ts, Kind::Mark(Mark::True)) {
+        let (span, ts) = want(ts, Mark::True)?;
+        return Ok(((Lit::Bool(true), span), ts));
+    }
+    if at(ts, Kind::Mark(Mark::False)) {
+        let (span, ts) = want(ts, Mark::False)?;
+        return Ok(((Lit::Bool(false), span), ts));
+    }
+    number(ts)
+}
+
+/// Whether a sampling begins here.
+pub fn at_sampling(ts: &[Token]) -> bool
+    ensures { IsTrue result ↔ IsBegun Part.Sampling ts.now }
+{
+    if at(ts, Kind::Mark(Mark::When)) {
+        return true;
+    }
+    at(ts, Kind::Mark(Mark::Whenot))
+}
+
+/// `when` and its word, or with true `whenot` and its word.
+pub fn sampling<'a, 't>(
+    alloc: Global,
+    ts: &'a [Token<'t>],
+) -> Result<((bool, Word), &'a [Token<'t>]), Refusal<'a, 't>>
+    ensures ok { IfOk result (λ p. Reads Part.Sampling ts.now p.0 p.1.now) }
+    ensures refused { IfErr result (RefusedBy (Unfit Part.Sampling ts.now)) }
+    ensures shorter { IfOk result (λ p. length p.1.now < length ts.now) }
+{
+    if at(ts, Kind::Mark(Mark::When)) {
+        let (_, ts) = want(ts, Mark::When)?;
+        let (word, ts) = word(alloc, ts)?;
+        return Ok(((false, word), ts));
+    }
+    let (_, ts) = want(ts, Mark::Whenot)?;
+    let (word, ts) = word(alloc, ts)?;
+    Ok(((true, word), ts))
+}
+
+/// The sign of a comparison at the front.
+pub fn comparison<'a, 't>(ts: &'a [Token<'t>]) -> Option<((Op, Span), &'a [Token<'t>])>
+    ensures read { MatchOption result (IsBegun Part.CmpOp ts.now → ⊥) (λ p. IsBegun Part.CmpOp ts.now × Reads Part.CmpOp ts.now p.0 p.1.now) }
+    ensures shorter { IfSome result (λ p. length p.1.now < length ts.now) }
+{
+    if let Some(found) = sign(ts, Mark::Same, Op::Eq) {
+        return Some(found);
+    }
+    if let Some(found) = sign(ts, Mark::Differs, Op::Ne) {
+        return Some(found);
+    }
+    if let Some(found) = sign(ts, Mark::Less, Op::Lt) {
+        return Some(found);
+    }
+    if let Some(found) = sign(ts, Mark::AtMost, Op::Le) {
+        return Some(found);
+    }
+    if let Some(found) = sign(ts, Mark::Greater, Op::Gt) {
+        return Some(found);
+    }
+    sign(ts, Mark::AtLeast, Op::Ge)
+}
+
+/// The sign of a sum at the front.
+pub fn sum_sign<'a, 't>(ts: &'a [Token<'t>]) -> Option<((Op, Span), &'a [Token<'t>])>
+    ensures read { MatchOption result (IsBegun Part.SumOp ts.now → ⊥) (λ p. IsBegun Part.SumOp ts.now × Reads Part.SumOp ts.now p.0 p.1.now) }
+    ensures shorter { IfSome result (λ p. length p.1.now < length ts.now) }
+{
+    if let Some(found) = sign(ts, Mark::Plus, Op::Add) {
+        return Some(found);
+    }
+    sign(ts, Mark::Minus, Op::Sub)
+}
+
+/// The sign of a product at the front.
+pub fn product_sign<'a, 't>(ts: &'a [Token<'t>]) -> Option<((Op, Span), &'a [Token<'t>])>
+    ensures read { MatchOption result (IsBegun Part.ProdOp ts.now → ⊥) (λ p. IsBegun Part.ProdOp ts.now × Reads Part.ProdOp ts.now p.0 p.1.now) }
+    ensures shorter { IfSome result (λ p. length p.1.now < length ts.now) }
+{
+    if let Some(found) = sign(ts, Mark::Star, Op::Mul) {
+        return Some(found);
+    }
+    if let Some(found) = sign(ts, Mark::Slash, Op::Div) {
+        return Some(found);
+    }
+    sign(ts, Mark::Percent, Op::Rem)
+}
+
+/// Whether a call's base or arguments begin here.
+pub fn at_applied(ts: &[Token]) -> bool
+    ensures { IsTrue result ↔ IsBegun Part.Applied ts.now }
+{
+    if at(ts, Kind::Mark(Mark::At)) {
+        return true;
+    }
+    at(ts, Kind::Mark(Mark::Open))
+}
+
+/// The written base of a call, if one stands here.
+pub fn base<'a, 't>(
+    alloc: Global,
+    ts: &'a [Token<'t>],
+) -> Result<(Option<Word>, &'a [Token<'t>]), Refusal<'a, 't>>
+    ensures ok { IfOk result (λ p. ReadsOptional Part.Base ts.now p.0 p.1.now) }
+    ensures refused { IfErr result (RefusedBy (UnfitOptional Part.Base ts.now)) }
+    ensures shorter { IfOk result (λ p. length p.1.now ≤ length ts.now) }
+{
+    if at(ts, Kind::Mark(Mark::At)) {
+        let (_, ts) = want(ts, Mark::At)?;
+        let (word, ts) = word(alloc, ts)?;
+        return Ok((Some(word), ts));
+    }
+    Ok((None, ts))
+}
+
+fn begins_expr(kind: Kind) -> bool
+    ensures { result ≡ begins_expr kind }
+{
+    match kind {
+        Kind::Name => true,
+        Kind::Number => true,
+        Kind::Mark(Mark::If) => true,
+        Kind::Mark(Mark::Not) => true,
+        Kind::Mark(Mark::Buffer) => true,
+        Kind::Mark(Mark::Merge) => true,
+        Kind::Mark(Mark::Host) => true,
+        Kind::Mark(Mark::True) => true,
+        Kind::Mark(Mark::False) => true,
+        Kind::Mark(Mark::Open) => true,
+        _ => false,
+    }
+}
+
+/// Whether an expression begins here.
+pub fn at_expr(ts: &[Token]) -> bool
+    ensures { IsTrue result ↔ IsBegun Part.Args ts.now }
+{
+    begins_expr(ahead(ts))
+}

@@ -1,0 +1,102 @@
+// The token at the front, if it is the one that is wanted.
+ghost use Rattle.std.specs.Prelude.{◌≡◌, ◌<◌, ◌↔◌, IfOk, IfErr, IsTrue, IfSome, MatchOption, length};
+ghost use Rattle.lucy_token.specs.Tokens.{first};
+ghost use Rattle.lucy_token.specs.declared.token.Kind.TheVariants as kind;
+ghost use Rattle.lucy_token.specs.declared.token.Token.{Token};
+ghost use Rattle.lucy_grammar.specs.Meanings.{name_of, word_of};
+ghost use Rattle.lucy_grammar.specs.Reading.{Begins, IsOther};
+ghost use Rattle.lucy_syntax.specs.Refusals.{RefusedBy};
+
+use crate::refusal::Refusal;
+use lucy_host::Op;
+use lucy_text::Text;
+use lucy_token::{Kind, Mark, Token, What};
+use lucy_tree::{Name, Span};
+use lucy_word::Word;
+use std::alloc::Global;
+
+/// The kind of the first token, or the end.
+pub fn ahead(ts: &[Token]) -> Kind
+    ensures { result ≡ first ts.now }
+{
+    match ts.first() {
+        Some(t) => t.what.kind(),
+        None => Kind::End,
+    }
+}
+
+/// Whether a token of this kind is the first.
+pub fn at(ts: &[Token], kind: Kind) -> bool
+    ensures { IsTrue result ↔ first ts.now ≡ kind }
+{
+    ahead(ts) == kind
+}
+
+/// An operator's sign with its place, and what follows it, where it is the first token.
+pub fn sign<'a, 't>(
+    ts: &'a [Token<'t>],
+    mark: Mark,
+    op: Op,
+) -> Option<((Op, Span), &'a [Token<'t>])>
+    ensures read { MatchOption result (first ts.now ≡ kind.Mark mark → ⊥) (λ p. (t : Token) × Begins ts.now t (kind.Mark mark) p.1.now × (p.0.0 ≡ op) × (p.0.1 ≡ t.span)) }
+    ensures shorter { IfSome result (λ p. length p.1.now < length ts.now) }
+{
+    match ts.split_first() {
+        Some((t, rest)) if t.what.kind() == Kind::Mark(mark) => Some(((op, t.span), rest)),
+        _ => None,
+    }
+}
+
+/// A keyword or a sign: its place, and what follows it.
+pub fn want<'a, 't>(
+    ts: &'a [Token<'t>],
+    mark: Mark,
+) -> Result<(Span, &'a [Token<'t>]), Refusal<'a, 't>>
+    ensures ok { IfOk result (λ p. (t : Token) × Begins ts.now t (kind.Mark mark) p.1.now × (p.0 ≡ t.span)) }
+    ensures refused { IfErr result (RefusedBy (IsOther ts.now (kind.Mark mark))) }
+    ensures shorter { IfOk result (λ p. length p.1.now < length ts.now) }
+{
+    match ts.split_first() {
+        Some((t, rest)) if t.what.kind() == Kind::Mark(mark) => Ok((t.span, rest)),
+        _ => Err(Refusal::At(ts)),
+    }
+}
+
+/// A name, and what follows it.
+pub fn name<'a, 't>(
+    alloc: Global,
+    ts: &'a [Token<'t>],
+) -> Result<(Name, &'a [Token<'t>]), Refusal<'a, 't>>
+    ensures ok { IfOk result (λ p. (t : Token) × Begins ts.now t kind.Name p.1.now × (p.0 ≡ name_of t)) }
+    ensures refused { IfErr result (RefusedBy (IsOther ts.now kind.Name)) }
+    ensures shorter { IfOk result (λ p. length p.1.now < length ts.now) }
+{
+    let Some((t, rest)) = ts.split_first() else {
+        return Err(Refusal::At(ts));
+    };
+    match &t.what {
+        What::Name(bytes) => {
+            let text = Text::new(alloc, bytes.bytes())?;
+            Ok((Name { text, span: t.span }, rest))
+        }
+        _ => Err(Refusal::At(ts)),
+    }
+}
+
+/// A word, and what follows it.
+pub fn word<'a, 't>(
+    alloc: Global,
+    ts: &'a [Token<'t>],
+) -> Result<(Word, &'a [Token<'t>]), Refusal<'a, 't>>
+    ensures ok { IfOk result (λ p. (t : Token) × Begins ts.now t kind.Word p.1.now × (p.0 ≡ word_of t.what)) }
+    ensures refused { IfErr result (RefusedBy (IsOther ts.now kind.Word)) }
+    ensures shorter { IfOk result (λ p. length p.1.now < length ts.now) }
+{
+    let Some((t, rest)) = ts.split_first() else {
+        return Err(Refusal::At(ts));
+    };
+    match &t.what {
+        What::Word(w) => Ok((w.copy(alloc)?, rest)),
+        _ => Err(Refusal::At(ts)),
+    }
+}

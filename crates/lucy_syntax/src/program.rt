@@ -1,0 +1,155 @@
+// Reads definitions, nodes and programs.
+ghost use Rattle.std.specs.Prelude.{◌≡◌, ◌<◌, ◌≤◌, IfOk, IfErr, List, Option, length, map};
+ghost use Rattle.lucy_tree.specs.View.{DefTree, tree_of, def_tree, node_tree};
+ghost use Rattle.lucy_grammar.specs.Symbols.{Part};
+ghost use Rattle.lucy_grammar.specs.Meanings.{all_of};
+ghost use Rattle.lucy_grammar.specs.Reading.{Reads, Unfit, ReadsOptional, UnfitOptional};
+ghost use Rattle.lucy_syntax.specs.Refusals.{RefusedBy};
+
+use crate::cursor::{at, name, want};
+use crate::decl::{decl, decls, params, results};
+use crate::descent::{call, expr};
+use crate::make::{one, push};
+use crate::refusal::Refusal;
+use lucy_token::{Kind, Mark, Token};
+use lucy_tree::{Decl, Decls, Def, Defs, Name, Names, Node};
+use std::alloc::Global;
+
+// Several names on the left, in parentheses.
+fn lefts<'a, 't>(
+    alloc: Global,
+    ts: &'a [Token<'t>],
+) -> Result<(Vec<Decl>, &'a [Token<'t>]), Refusal<'a, 't>>
+    ensures ok { IfOk result (λ p. Reads Part.Lefts ts.now p.0.items p.1.now) }
+    ensures refused { IfErr result (RefusedBy (Unfit Part.Lefts ts.now)) }
+    ensures shorter { IfOk result (λ p. length p.1.now < length ts.now) }
+{
+    let (_, ts) = want(ts, Mark::Open)?;
+    let (head, ts) = decl(alloc, ts)?;
+    let (_, ts) = want(ts, Mark::Comma)?;
+    let (mut more, ts) = decls(alloc, ts)?;
+    let (_, ts) = want(ts, Mark::Close)?;
+    let mut list = one(alloc, head)?;
+    list.append(&mut more)?;
+    Ok((list, ts))
+}
+
+/// A definition.
+fn def<'a, 't>(
+    alloc: Global,
+    ts: &'a [Token<'t>],
+) -> Result<(Def, &'a [Token<'t>]), Refusal<'a, 't>>
+    ensures ok { IfOk result (λ p. Reads Part.Def ts.now (def_tree p.0) p.1.now) }
+    ensures refused { IfErr result (RefusedBy (Unfit Part.Def ts.now)) }
+    ensures shorter { IfOk result (λ p. length p.1.now < length ts.now) }
+{
+    if at(ts, Kind::Mark(Mark::Open)) {
+        let (left, ts) = lefts(alloc, ts)?;
+        let (_, ts) = want(ts, Mark::Equals)?;
+        let (right, ts) = call(alloc, ts)?;
+        return Ok((
+            Def {
+                left: Decls::new(left),
+                right,
+            },
+            ts,
+        ));
+    }
+    let (left, ts) = decl(alloc, ts)?;
+    let (_, ts) = want(ts, Mark::Equals)?;
+    let (right, ts) = expr(alloc, ts)?;
+    let left = Decls::new(one(alloc, left)?);
+    Ok((Def { left, right }, ts))
+}
+
+// Definitions with `and` between.
+fn defs<'a, 't>(
+    alloc: Global,
+    ts: &'a [Token<'t>],
+) -> Result<(Vec<Def>, &'a [Token<'t>]), Refusal<'a, 't>>
+    ensures ok { IfOk result (λ p. Reads Part.Defs ts.now (map def_tree p.0.items) p.1.now) }
+    ensures refused { IfErr result (RefusedBy (Unfit Part.Defs ts.now)) }
+    ensures shorter { IfOk result (λ p. length p.1.now < length ts.now) }
+{
+    let (head, mut over) = def(alloc, ts)?;
+    let mut list = one(alloc, head)?;
+    'more: while at(over, Kind::Mark(Mark::And)) {
+        let (_, rest) = want(over, Mark::And)?;
+        let (next, rest) = def(alloc, rest)?;
+        push(&mut list, next)?;
+        over = rest;
+    }
+    Ok((list, over))
+}
+
+// The definitions of a node, of which there may be none.
+fn body<'a, 't>(
+    alloc: Global,
+    ts: &'a [Token<'t>],
+) -> Result<(Vec<Def>, &'a [Token<'t>]), Refusal<'a, 't>>
+    ensures ok { IfOk result (λ p. (o : Option (List DefTree)) × ReadsOptional Part.Body ts.now o p.1.now × (map def_tree p.0.items ≡ all_of o)) }
+    ensures refused { IfErr result (RefusedBy (UnfitOptional Part.Body ts.now)) }
+    ensures shorter { IfOk result (λ p. length p.1.now ≤ length ts.now) }
+{
+    if at(ts, Kind::Mark(Mark::Where)) {
+        let (_, ts) = want(ts, Mark::Where)?;
+        let (_, ts) = want(ts, Mark::Rec)?;
+        return defs(alloc, ts);
+    }
+    Ok((Vec::new(alloc), ts))
+}
+
+// `let node` and the name.
+fn title<'a, 't>(
+    alloc: Global,
+    ts: &'a [Token<'t>],
+) -> Result<(Name, &'a [Token<'t>]), Refusal<'a, 't>>
+    ensures ok { IfOk result (λ p. Reads Part.Title ts.now p.0 p.1.now) }
+    ensures refused { IfErr result (RefusedBy (Unfit Part.Title ts.now)) }
+    ensures shorter { IfOk result (λ p. length p.1.now < length ts.now) }
+{
+    let (_, ts) = want(ts, Mark::Let)?;
+    let (_, ts) = want(ts, Mark::Node)?;
+    name(alloc, ts)
+}
+
+fn node<'a, 't>(
+    alloc: Global,
+    ts: &'a [Token<'t>],
+) -> Result<(Node, &'a [Token<'t>]), Refusal<'a, 't>>
+    ensures ok { IfOk result (λ p. Reads Part.Node ts.now (node_tree p.0) p.1.now) }
+    ensures refused { IfErr result (RefusedBy (Unfit Part.Node ts.now)) }
+    ensures shorter { IfOk result (λ p. length p.1.now < length ts.now) }
+{
+    let (name, ts) = title(alloc, ts)?;
+    let (params, ts) = params(alloc, ts)?;
+    let (_, ts) = want(ts, Mark::Equals)?;
+    let (results, ts) = results(alloc, ts)?;
+    let (defs, ts) = body(alloc, ts)?;
+    let node = Node {
+        name,
+        params: Decls::new(params),
+        results: Names::new(results),
+        defs: Defs::new(defs),
+    };
+    Ok((node, ts))
+}
+
+/// The nodes of a program.
+pub fn nodes<'a, 't>(
+    alloc: Global,
+    ts: &'a [Token<'t>],
+) -> Result<(Vec<Node>, &'a [Token<'t>]), Refusal<'a, 't>>
+    ensures ok { IfOk result (λ p. Reads Part.Program ts.now (map node_tree p.0.items) p.1.now) }
+    ensures refused { IfErr result (RefusedBy (Unfit Part.Program ts.now)) }
+    ensures shorter { IfOk result (λ p. length p.1.now < length ts.now) }
+{
+    let (head, mut over) = node(alloc, ts)?;
+    let mut list = one(alloc, head)?;
+    'more: while at(over, Kind::Mark(Mark::Let)) {
+        let (next, rest) = node(alloc, over)?;
+        push(&mut list, next)?;
+        over = rest;
+    }
+    Ok((list, over))
+}

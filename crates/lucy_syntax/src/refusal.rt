@@ -1,0 +1,28 @@
+// Why no tree is read.
+ghost use Rattle.std.specs.Prelude.{◌≡◌};
+ghost use Rattle.lucy_syntax.specs.declared.refusal.Refusal.TheVariants.{OutOfMemory};
+
+use lucy_token::Token;
+use std::alloc::AllocError;
+
+/// The first of these tokens doesn't fit, or memory ran out.
+pub enum Refusal<'a, 't> {
+    At(&'a [Token<'t>]),
+    OutOfMemory,
+}
+
+impl<'a, 't> From<AllocError> for Refusal<'a, 't> {
+    ghost from_gives = { λ _ e. e ≡ OutOfMemory };
+
+    fn from(_: AllocError) -> Self {
+        Refusal::OutOfMemory
+    }
+}
+
+impl<'a, 't> From<lucy_word::OutOfMemory> for Refusal<'a, 't> {
+    ghost from_gives = { λ _ e. e ≡ OutOfMemory };
+
+    fn from(_: lucy_word::OutOfMemory) -> Self {
+        Refusal::OutOfMemory
+    }
+}
