@@ -4,44 +4,42 @@ use Rattle.lucy_word.specs.Bits.{Bits}
 use Rattle.lucy_word.specs.Reading.{IsReadable, Refuses}
 use Rattle.lucy_word.specs.declared.error.WordError.{WordError}
 use Rattle.lucy_word.specs.declared.error.WordError.TheVariants as word
+use Rattle.lucy_word.specs.declared.limit.Limit.TheVariants as limit
 use Rattle.lucy_word.proofs.SpellingLaws.{reads_one}
 use Rattle.lucy_app.specs.Fields.{fields}
 use Rattle.lucy_app.specs.Order.{IsPair, RefusesWord, RefusesFields, IsRefused}
 use Rattle.lucy_app.specs.declared.refusal.Cause.{Cause}
-use Rattle.lucy_app.specs.declared.refusal.Cause.TheVariants.{Unexpected, BadNumber, BadWrittenWord, Count, BadWord, NoOne, Limit}
+use Rattle.lucy_app.specs.declared.refusal.Cause.TheVariants.{BadWord, NoOne, Limit}
+
+-- the cause of a field that is read with this error
+word_cause : ℕ → WordError → Cause
+word_cause number (word.BadWord place) = BadWord number place
+word_cause number word.NoOne = NoOne number
+word_cause number e = Limit limit.Written
+
+-- a field that is refused is read with an error that gives the cause
+told : (number : ℕ) (text : List ℕ) (cause : Cause) → RefusesWord number text cause → (e : WordError) × Refuses text e × (cause ≡ word_cause number e)
+unfolding word_cause
+told number text (BadWord which place) is = (word.BadWord place, is.1, ap (λ n. BadWord n place) is.0)
+told number text (NoOne which) is = (word.NoOne, is.1, ap NoOne is.0)
+told number text (Limit passed) is = (word.TooLong, is.1, ap Limit is.0)
+told number text cause is = absurd is
 
 -- a field that is refused is no word
 pub readable_is_not_refused : (number : ℕ) (text : List ℕ) (a : Bits) (cause : Cause) → IsReadable text a → RefusesWord number text cause → ⊥
-readable_is_not_refused number text a (Unexpected place) is not = not
-readable_is_not_refused number text a (BadNumber place) is not = not
-readable_is_not_refused number text a (BadWrittenWord place) is not = not
-readable_is_not_refused number text a (Count count) is not = not
-readable_is_not_refused number text a (BadWord which place) is not = let same = reads_one text (Ok a) (Err (word.BadWord place)) is not.1 in cc
-readable_is_not_refused number text a (NoOne which) is not = let same = reads_one text (Ok a) (Err word.NoOne) is not.1 in cc
-readable_is_not_refused number text a (Limit passed) is not = let same = reads_one text (Ok a) (Err word.TooLong) is not.1 in cc
+readable_is_not_refused number text a cause is not =
+    let t = told number text cause not in
+    let same = reads_one text (Ok a) (Err t.0) is t.1 in cc
 
 one_error : (text : List ℕ) (e f : WordError) → Refuses text e → Refuses text f → e ≡ f
 one_error text e f is other = let same : ◌≡◌ {A = Result Bits WordError} (Err e) (Err f) = reads_one text (Err e) (Err f) is other in cc
 
 -- a field is refused for one cause
 pub one_cause_of_a_word : (number : ℕ) (text : List ℕ) (c d : Cause) → RefusesWord number text c → RefusesWord number text d → c ≡ d
-one_cause_of_a_word number text (Unexpected place) d is other = absurd is
-one_cause_of_a_word number text (BadNumber place) d is other = absurd is
-one_cause_of_a_word number text (BadWrittenWord place) d is other = absurd is
-one_cause_of_a_word number text (Count count) d is other = absurd is
-one_cause_of_a_word number text c (Unexpected place) is other = absurd other
-one_cause_of_a_word number text c (BadNumber place) is other = absurd other
-one_cause_of_a_word number text c (BadWrittenWord place) is other = absurd other
-one_cause_of_a_word number text c (Count count) is other = absurd other
-one_cause_of_a_word number text (BadWord n p) (BadWord m q) is other = let same : (word.BadWord p) ≡ (word.BadWord q) = one_error text (word.BadWord p) (word.BadWord q) is.1 other.1 in cc
-one_cause_of_a_word number text (BadWord n p) (NoOne m) is other = let same : (word.BadWord p) ≡ word.NoOne = one_error text (word.BadWord p) word.NoOne is.1 other.1 in cc
-one_cause_of_a_word number text (BadWord n p) (Limit m) is other = let same : (word.BadWord p) ≡ word.TooLong = one_error text (word.BadWord p) word.TooLong is.1 other.1 in cc
-one_cause_of_a_word number text (NoOne n) (BadWord m q) is other = let same : word.NoOne ≡ (word.BadWord q) = one_error text word.NoOne (word.BadWord q) is.1 other.1 in cc
-one_cause_of_a_word number text (NoOne n) (NoOne m) is other = cc
-one_cause_of_a_word number text (NoOne n) (Limit m) is other = let same : word.NoOne ≡ word.TooLong = one_error text word.NoOne word.TooLong is.1 other.1 in cc
-one_cause_of_a_word number text (Limit n) (BadWord m q) is other = let same : word.TooLong ≡ (word.BadWord q) = one_error text word.TooLong (word.BadWord q) is.1 other.1 in cc
-one_cause_of_a_word number text (Limit n) (NoOne m) is other = let same : word.TooLong ≡ word.NoOne = one_error text word.TooLong word.NoOne is.1 other.1 in cc
-one_cause_of_a_word number text (Limit n) (Limit m) is other = cc
+one_cause_of_a_word number text c d is other =
+    let s = told number text c is in
+    let t = told number text d other in
+    s.2 ∙ ap (word_cause number) (one_error text s.0 t.0 s.1 t.1) ∙ sym t.2
 
 same_first : (texts : List (List ℕ)) (u v x y : List ℕ) → texts ≡ u ∷ v ∷ [] → texts ≡ x ∷ y ∷ [] → u ≡ x
 same_first texts u v x y h k = cc

@@ -1,34 +1,29 @@
 -- How a command ends that has an answer, and one that has none.
-use Rattle.std.proofs.Common.{ℕ, ◌≡◌, ◌⊎◌, List, [], ◌∷◌, Option, refl, ap, sym, ◌∙◌, inl, inr, arith}
-use Rattle.std.specs.Prelude.{codes}
+use Rattle.std.proofs.Common.{ℕ, ◌≡◌, ◌⊎◌, List, [], ◌∷◌, Option, refl, ap, sym, ◌∙◌, subst, inl, inr, arith}
 use Rattle.lucy_text.specs.Outside.{appended, WritesFront}
 use Rattle.lucy_text.specs.Shelf.{Files, Lacks}
-use Rattle.lucy_tree.specs.View.{ProgramTree}
-use Rattle.lucy_token.specs.declared.stop.SyntaxError.TheVariants as syntax
-use Rattle.lucy_grammar.specs.Print.{program_text}
-use Rattle.lucy_syntax.specs.Texts.{HasTree}
-use Rattle.lucy_app.specs.Refusals.{status_of, refusal_status, refusal_line, memory_line, write_fault_line}
-use Rattle.lucy_app.specs.Words.{NamesShow}
+use Rattle.lucy_app.specs.Refusals.{status_of, refusal_status, refusal_line, memory_line, write_fault_line, SaysSame}
+use Rattle.lucy_app.specs.Words.{NamesFile}
 use Rattle.lucy_app.specs.Run.{Tells, IsLine}
-use Rattle.lucy_app.specs.Show.{HasText, RefusesText, RefusesFile, IsPrinted, GivesUp, IsCutShort, Shows}
+use Rattle.lucy_app.specs.File.{HasText, PrintsFile, RefusesFile}
+use Rattle.lucy_app.specs.Program.{IsCutShort, TellsSame, Does}
 use Rattle.lucy_app.specs.declared.refusal.Cause.{Cause}
-use Rattle.lucy_app.specs.declared.refusal.Cause.TheVariants.{Unexpected, BadNumber, BadWrittenWord, Count, BadWord, NoOne, Limit}
+use Rattle.lucy_app.specs.declared.refusal.Cause.TheVariants.{Count, BadWord, NoOne, Limit}
 use Rattle.lucy_app.specs.declared.refusal.Refusal.{Refusal}
 use Rattle.lucy_app.specs.declared.refusal.Refusal.TheVariants.{Refused, ReadFault, OutOfMemory}
 use Rattle.lucy_app.proofs.Told.{not_written}
+use Rattle.lucy_app.proofs.Verdicts.{IsProgramStatus, IsVerdict, same_text, held_is_there}
 
 -- the status where a command has no answer
 abbrev pub Ended : Refusal → ℕ → Type 0
 Ended r status = (status ≡ refusal_status r) ⊎ ((status ≡ 7) ⊎ (status ≡ 5))
 
 cause_status : (cause : Cause) → (status_of cause ≡ 1) ⊎ ((status_of cause ≡ 3) ⊎ (status_of cause ≡ 6))
-cause_status (Unexpected place) = inl refl
-cause_status (BadNumber place) = inl refl
-cause_status (BadWrittenWord place) = inl refl
 cause_status (Count count) = inr (inl refl)
 cause_status (BadWord number place) = inr (inl refl)
 cause_status (NoOne number) = inr (inl refl)
 cause_status (Limit passed) = inr (inr refl)
+cause_status cause = inl refl
 
 -- that of an answer is none of these
 pub no_done : (r : Refusal) (status : ℕ) → Ended r status → status ≡ 0 → ⊥
@@ -82,45 +77,6 @@ cut_short OutOfMemory status (inl h) none = inr (inr h)
 cut_short r status (inr (inl h)) none = inr (inr h)
 cut_short r status (inr (inr h)) none = inr (inl h)
 
-gives_up_no_cause : (r : Refusal) (cause : Cause) → GivesUp r → r ≡ Refused cause → ⊥
-gives_up_no_cause r cause (inl h) k = cc
-gives_up_no_cause r cause (inr h) k = cc
-
-given_up : (r : Refusal) (status : ℕ) → Ended r status → GivesUp r → IsCutShort status
-given_up r status e g = cut_short r status e (λ cause k. gives_up_no_cause r cause g k)
-
--- a text that is refused has a status of its own
-text_status : (text : List ℕ) (cause : Cause) → RefusesText text cause → (status_of cause ≡ 1) ⊎ (status_of cause ≡ 6)
-text_status text (Unexpected place) is = inl refl
-text_status text (BadNumber place) is = inl refl
-text_status text (BadWrittenWord place) is = inl refl
-text_status text (Limit passed) is = inr refl
-text_status text (Count count) (syntax.Unexpected place, is, so) = cc
-text_status text (Count count) (syntax.BadNumber place, is, so) = cc
-text_status text (Count count) (syntax.BadWord place, is, so) = cc
-text_status text (Count count) (syntax.TooLarge passed, is, so) = cc
-text_status text (Count count) (syntax.OutOfMemory, is, so) = cc
-text_status text (BadWord n p) (syntax.Unexpected place, is, so) = cc
-text_status text (BadWord n p) (syntax.BadNumber place, is, so) = cc
-text_status text (BadWord n p) (syntax.BadWord place, is, so) = cc
-text_status text (BadWord n p) (syntax.TooLarge passed, is, so) = cc
-text_status text (BadWord n p) (syntax.OutOfMemory, is, so) = cc
-text_status text (NoOne n) (syntax.Unexpected place, is, so) = cc
-text_status text (NoOne n) (syntax.BadNumber place, is, so) = cc
-text_status text (NoOne n) (syntax.BadWord place, is, so) = cc
-text_status text (NoOne n) (syntax.TooLarge passed, is, so) = cc
-text_status text (NoOne n) (syntax.OutOfMemory, is, so) = cc
-
-program_ended : (files : Option Files) (file : List ℕ) (r : Refusal) (status : ℕ) → ((cause : Cause) → r ≡ Refused cause → RefusesFile files file cause) → Ended r status →
-    (status ≡ 1) ⊎ ((status ≡ 6) ⊎ IsCutShort status)
-program_ended files file (Refused cause) status why (inl h) =
-    let is = why cause refl in
-    elim (text_status is.0 cause is.2) [ inl one ↦ inl (h ∙ one) | inr six ↦ inr (inl (h ∙ six)) ]
-program_ended files file ReadFault status why (inl h) = inr (inr (inl h))
-program_ended files file OutOfMemory status why (inl h) = inr (inr (inr (inr h)))
-program_ended files file r status why (inr (inl h)) = inr (inr (inr (inr h)))
-program_ended files file r status why (inr (inr h)) = inr (inr (inr (inl h)))
-
 -- its line is told
 pub tells : (r : Refusal) (status : ℕ) (cause : Cause) (told told' : Option (List ℕ)) → (status ≡ refusal_status r → told' ≡ appended told (refusal_line r)) → r ≡ Refused cause → status ≡ status_of cause →
     Tells cause status told told'
@@ -132,50 +88,72 @@ is_line Refuses (Refused cause) why = inr (inr (cause, why cause refl, refl))
 is_line Refuses ReadFault why = inl refl
 is_line Refuses OutOfMemory why = inr (inl refl)
 
--- `show` with an answer
-pub shows_answer : (files : Option Files) (file print : List ℕ) (status : ℕ) (out out' told told' : Option (List ℕ)) (shelf_rose out_rose : Type 0) → IsPrinted files file print →
-    ((text : List ℕ) (cause : Cause) → HasText files file text → RefusesText text cause → ⊥) → ((text : List ℕ) (p : ProgramTree) → HasText files file text → HasTree text p → print ≡ program_text p) →
-    (Lacks files file → ⊥) → (status ≡ 0) ⊎ (status ≡ 5) → (status ≡ 0 → out' ≡ appended out print) → (status ≡ 0 → told' ≡ told) → (status ≡ 5 → out_rose) →
-    WritesFront out out' print → WritesFront told told' write_fault_line → Shows files file status out out' told told' shelf_rose out_rose
-shows_answer files file print status out out' told told' shelf_rose out_rose is never always missing ends whole quiet fault front line = record {
-  statuses = elim ends [ inl z ↦ inl z | inr z ↦ inr (inr (inr (inr (inl z)))) ];
-  done = λ z. (print, is, whole z);
-  refused = λ h. absurd (elim ends [ inl z ↦ (elim h [ inl k ↦ omega (arith, z, k) | inr k ↦ omega (arith, z, k) ]) | inr z ↦ (elim h [ inl k ↦ omega (arith, z, k) | inr k ↦ omega (arith, z, k) ]) ]);
-  refused_always = λ text cause has refused. absurd (never text cause has refused);
-  answered_always = λ text has fine. (elim ends [ inl z ↦ inl z | inr z ↦ inr (inr (inl z)) ]);
-  printed_always = λ text p has tree. (elim ends [ inl z ↦ inl (z, whole z ∙ ap (appended out) (always text p has tree)) | inr z ↦ inr (inr (inl z)) ]);
-  missing = λ lacks. absurd (missing lacks);
-  read_fault = λ h. absurd (elim ends [ inl z ↦ omega (arith, z, h) | inr z ↦ omega (arith, z, h) ]);
-  front = inr (print, is, front);
-  line_front = elim ends [ inl z ↦ inl (memory_line, inr (inl refl), not_written told told' memory_line (quiet z)) | inr z ↦ inr (fault z, line) ];
-}
+-- the status of a command on a program
+program_ended : (r : Refusal) (status : ℕ) → ((cause : Cause) → r ≡ Refused cause → IsProgramStatus (status_of cause)) → Ended r status →
+    (status ≡ 1) ⊎ ((status ≡ 6) ⊎ IsCutShort status)
+program_ended (Refused cause) status why (inl h) = elim (why cause refl) [ inl one ↦ inl (h ∙ one) | inr six ↦ inr (inl (h ∙ six)) ]
+program_ended ReadFault status why (inl h) = inr (inr (inl h))
+program_ended OutOfMemory status why (inl h) = inr (inr (inr (inr h)))
+program_ended r status why (inr (inl h)) = inr (inr (inr (inr h)))
+program_ended r status why (inr (inr h)) = inr (inr (inr (inl h)))
 
--- `show` without one
-pub shows_refusal : (files : Option Files) (file : List ℕ) (r : Refusal) (status : ℕ) (out told told' : Option (List ℕ)) (shelf_rose out_rose : Type 0) →
-    ((cause : Cause) → r ≡ Refused cause → RefusesFile files file cause) →
-    ((text : List ℕ) (cause : Cause) → HasText files file text → RefusesText text cause → (r ≡ Refused cause) ⊎ GivesUp r) →
-    ((text : List ℕ) → HasText files file text → ((cause : Cause) → RefusesText text cause → ⊥) → GivesUp r) →
-    ((text : List ℕ) (p : ProgramTree) → HasText files file text → HasTree text p → GivesUp r) →
-    (Lacks files file → GivesUp r) → (r ≡ ReadFault → Lacks files file ⊎ shelf_rose) → Ended r status → (status ≡ refusal_status r → told' ≡ appended told (refusal_line r)) →
-    WritesFront told told' (refusal_line r) ⊎ WritesFront told told' memory_line → Shows files file status out out told told' shelf_rose out_rose
-shows_refusal files file r status out told told' shelf_rose out_rose why refused answered printed missing fault ends line front = record {
-  statuses = inr (program_ended files file r status why ends);
-  done = λ z. absurd (no_done r status ends z);
-  refused = λ h.
-      let cause = has_cause r status ends (λ k. judged status (elim h [ inl a ↦ inl a | inr a ↦ inr (inr a) ]) k) in
-      (cause.0, why cause.0 cause.1, tells r status cause.0 told told' line cause.1 cause.2);
-  refused_always = λ text cause has h. (elim (refused text cause has h) [
-    | inl same ↦ ends_for r status cause ends (λ other k. (let e : Refused other ≡ Refused cause = sym k ∙ same in cc))
-    | inr gives ↦ inr (given_up r status ends gives)
-  ]);
-  answered_always = λ text has fine. inr (given_up r status ends (answered text has fine));
-  printed_always = λ text p has tree. inr (given_up r status ends (printed text p has tree));
-  missing = λ lacks. given_up r status ends (missing lacks);
-  read_fault = λ h. fault (was_fault r status ends h);
-  front = inl refl;
-  line_front = inl (elim front [ inl h ↦ (refusal_line r, is_line _ r why, h) | inr h ↦ (memory_line, inr (inl refl), h) ]);
-}
+same_status : (c d : Cause) → SaysSame c d → status_of c ≡ status_of d
+same_status c d (inl h) = ap status_of h
+same_status c d (inr h) = ap status_of h.3 ∙ sym (ap status_of h.4)
+
+-- a cause that says the same was told, or the command was cut short
+ends_told : (Refuses : Cause → Type 0) (r : Refusal) (status : ℕ) (cause : Cause) (told told' : Option (List ℕ)) → Ended r status → (status ≡ refusal_status r → told' ≡ appended told (refusal_line r)) →
+    ((other : Cause) → r ≡ Refused other → Refuses other × SaysSame other cause) → TellsSame Refuses cause status told told' ⊎ IsCutShort status
+ends_told Refuses (Refused other) status cause told told' (inl h) line why =
+    let is = why other refl in
+    inl (h ∙ same_status other cause is.1, (other, is.0, is.1, tells (Refused other) status other told told' line refl h))
+ends_told Refuses ReadFault status cause told told' (inl h) line why = inr (inl h)
+ends_told Refuses OutOfMemory status cause told told' (inl h) line why = inr (inr (inr h))
+ends_told Refuses r status cause told told' (inr (inl h)) line why = inr (inr (inr h))
+ends_told Refuses r status cause told told' (inr (inr h)) line why = inr (inr (inl h))
+
+-- a command on a program with an answer
+pub does_answer : (Prints : List ℕ → List ℕ → Type 0) (Refuses : List ℕ → Cause → Type 0) → IsVerdict Prints Refuses → (files : Option Files) (file print : List ℕ) (status : ℕ) (out out' told told' : Option (List ℕ))
+    (shelf_rose out_rose : Type 0) → PrintsFile Prints files file print → (status ≡ 0) ⊎ (status ≡ 5) → (status ≡ 0 → out' ≡ appended out print) → (status ≡ 0 → told' ≡ told) → (status ≡ 5 → out_rose) →
+    WritesFront out out' print → WritesFront told told' write_fault_line → Does Prints Refuses files file status out out' told told' shelf_rose out_rose
+does_answer Prints Refuses v files file print status out out' told told' shelf_rose out_rose is ends whole quiet fault front line =
+    let here : (text : List ℕ) → HasText files file text → Prints text print =
+    λ text has. (let P : List ℕ → Type 0 = λ t. Prints t print in subst P (same_text files file is.0 text is.1 has) is.2) in record {
+      statuses = elim ends [ inl z ↦ inl z | inr z ↦ inr (inr (inr (inr (inl z)))) ];
+      done = λ z. (print, is, whole z);
+      refused = λ h. absurd (elim ends [ inl z ↦ (elim h [ inl k ↦ omega (arith, z, k) | inr k ↦ omega (arith, z, k) ]) | inr z ↦ (elim h [ inl k ↦ omega (arith, z, k) | inr k ↦ omega (arith, z, k) ]) ]);
+      refused_always = λ text cause has refused. absurd (v.apart text print cause (here text has) refused);
+      answered_always = λ text has fine. (elim ends [ inl z ↦ inl z | inr z ↦ inr (inr (inl z)) ]);
+      printed_always = λ text other has also. (elim ends [ inl z ↦ inl (z, whole z ∙ ap (appended out) (v.one text print other (here text has) also)) | inr z ↦ inr (inr (inl z)) ]);
+      missing = λ lacks. absurd (held_is_there files file is.0 is.1 lacks);
+      read_fault = λ h. absurd (elim ends [ inl z ↦ omega (arith, z, h) | inr z ↦ omega (arith, z, h) ]);
+      front = inr (print, is, front);
+      line_front = elim ends [ inl z ↦ inl (memory_line, inr (inl refl), not_written told told' memory_line (quiet z)) | inr z ↦ inr (fault z, line) ];
+    }
+
+-- a command on a program without one
+pub does_refusal : (Prints : List ℕ → List ℕ → Type 0) (Refuses : List ℕ → Cause → Type 0) → IsVerdict Prints Refuses → (files : Option Files) (file : List ℕ) (r : Refusal) (status : ℕ) (out told told' : Option (List ℕ))
+    (shelf_rose out_rose : Type 0) → ((cause : Cause) → r ≡ Refused cause → RefusesFile Refuses files file cause) → (r ≡ ReadFault → Lacks files file ⊎ shelf_rose) →
+    Ended r status → (status ≡ refusal_status r → told' ≡ appended told (refusal_line r)) → WritesFront told told' (refusal_line r) ⊎ WritesFront told told' memory_line →
+    Does Prints Refuses files file status out out told told' shelf_rose out_rose
+does_refusal Prints Refuses v files file r status out told told' shelf_rose out_rose why fault ends line front =
+    let here : (text : List ℕ) (cause : Cause) → HasText files file text → r ≡ Refused cause → Refuses text cause =
+    λ text cause has k. (let P : List ℕ → Type 0 = λ t. Refuses t cause in let is = why cause k in subst P (same_text files file is.0 text is.1 has) is.2) in record {
+      statuses = inr (program_ended r status (λ cause k. (let is = why cause k in v.status is.0 cause is.2)) ends);
+      done = λ z. absurd (no_done r status ends z);
+      refused = λ h.
+          let cause = has_cause r status ends (λ k. judged status (elim h [ inl a ↦ inl a | inr a ↦ inr (inr a) ]) k) in
+          (cause.0, why cause.0 cause.1, tells r status cause.0 told told' line cause.1 cause.2);
+      refused_always = λ text cause has refused.
+          ends_told (Refuses text) r status cause told told' ends line (λ other k. (here text other has k, v.same text other cause (here text other has k) refused));
+      answered_always = λ text has fine. inr (cut_short r status ends (λ cause k. fine cause (here text cause has k)));
+      printed_always = λ text print has is. inr (cut_short r status ends (λ cause k. v.apart text print cause is (here text cause has k)));
+      missing = λ lacks. cut_short r status ends (λ cause k. (let is = why cause k in held_is_there files file is.0 is.1 lacks));
+      read_fault = λ h. fault (was_fault r status ends h);
+      front = inl refl;
+      line_front = inl (elim front [ inl h ↦ (refusal_line r, is_line _ r why, h) | inr h ↦ (memory_line, inr (inl refl), h) ]);
+    }
 
 -- words name one file
-pub one_file : (words : List (List ℕ)) (f file : List ℕ) → NamesShow words f → NamesShow words file → f ≡ file
-one_file words f file named also = let same : codes "show" ∷ f ∷ [] ≡ codes "show" ∷ file ∷ [] = sym named.0 ∙ also.0 in cc
+pub one_file : (command : List ℕ) (words : List (List ℕ)) (f file : List ℕ) → NamesFile command words f → NamesFile command words file → f ≡ file
+one_file command words f file named also = let same : command ∷ f ∷ [] ≡ command ∷ file ∷ [] = sym named.0 ∙ also.0 in cc

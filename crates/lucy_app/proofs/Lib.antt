@@ -1,5 +1,8 @@
 mod Pairs
 mod Causes
 mod Told
-mod Shown
+mod Fetched
+mod Verdicts
 mod Ends
+mod Reports
+mod Typed

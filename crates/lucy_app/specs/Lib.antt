@@ -2,5 +2,9 @@ pub mod Words
 pub mod Refusals
 pub mod Fields
 pub mod Order
-pub mod Show
 pub mod Run
+pub mod File
+pub mod Program
+pub mod Show
+pub mod Report
+pub mod Types

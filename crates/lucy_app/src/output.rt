@@ -38,7 +38,7 @@ fn explain<E: Sink>(alloc: Global, err: &mut E, cause: Cause) -> u8
     ensures count { E.faults err.old ≤ E.faults err.new }
 {
     match cause.line(alloc) {
-        Ok(line) => tell(err, line.as_bytes(), cause.status()),
+        Ok(line) => tell(err, &line, cause.status()),
         Err(_) => tell(err, b"lucy: out of memory\n", 7),
     }
 }

@@ -3,22 +3,23 @@ ghost use Rattle.std.specs.Prelude.{◌≡◌, ◌≢◌, ◌⊎◌, ◌≤◌, 
 ghost use Rattle.lucy_text.specs.Outside.{appended, Rose, WritesFront};
 ghost use Rattle.lucy_text.specs.Shelf.{Lacks};
 ghost use Rattle.lucy_app.specs.Refusals.{status_of, words_line, read_fault_line, write_fault_line, memory_line};
-ghost use Rattle.lucy_app.specs.Words.{NamesOrder, NamesShow, NamesCommand};
+ghost use Rattle.lucy_app.specs.Words.{NamesOrder, NamesShow, NamesTypes, NamesCommand};
 ghost use Rattle.lucy_app.specs.Order.{IsRefused};
 ghost use Rattle.lucy_app.specs.Show.{Shows};
+ghost use Rattle.lucy_app.specs.Types.{Types};
 ghost use Rattle.lucy_app.specs.Run.{RefusesAll, Tells, WritesAnswer, WritesAnswerFront, TellsFront, TakesAtMost};
 ghost use Rattle.lucy_app.specs.declared.refusal.Cause.{Cause};
 
 use crate::output::{print, refuse, tell};
 use crate::words::{Command, command_of};
-use crate::{order, show};
+use crate::{order, show, types};
 use lucy_text::{Shelf, Sink, Source};
 use std::alloc::Global;
 
 /// All that the program does with the words after its name. The answer is the status that it ends with:
 ///
 /// - 0: the answer of the command stands on `out`, and nothing more on `err`.
-/// - 1: the text of FILE is no program.
+/// - 1: the text of FILE is no program; for `types` also, one of its names is refused, or one of its nodes has no types.
 /// - 2: the words fit no command.
 /// - 3: the input is not two words, or the first of them that is refused is badly spelled or has no one in its period.
 /// - 4: the shelf tells its files and has no FILE, or a fetch or a read failed.
@@ -26,13 +27,14 @@ use std::alloc::Global;
 ///   `lucy: write fault` is tried on `err`. A front of a line may stand on `err`.
 /// - 6: a limit is passed: the input has more than 16,384 bytes, or the first of its two words that is refused has more than
 ///   4,096 bits; the text of FILE has more than 1,048,576 bytes, or passes a limit of programs at the first token that is
-///   refused.
+///   refused; for `types` also, one of its nodes has more than 4,096 places, and no name up to its end is refused.
 /// - 7: memory ran out.
 ///
 /// With 1, 2, 3, 4, 6 and 7 the line that says so stands on `err`. The words are looked at first. Then `order` reads the
 /// input, to its end or to one byte past its limit, and judges its length, the count of its words, and the words in turn,
-/// each by its spelling, its number of bits and its period. `show` asks the shelf once, for FILE with the limit of a
-/// program's text, and judges the text; it prints the program.
+/// each by its spelling, its number of bits and its period. `show` and `types` ask the shelf once, for FILE with the limit of a
+/// program's text, and judge the text. Then `show` prints the program. `types` judges the names of all nodes, and then the
+/// types of each node in turn; it prints each node with the types of its parameters and defined names.
 pub fn lucy<S: Shelf, I: Source, O: Sink, E: Sink>(
     alloc: Global,
     words: &[String],
@@ -83,6 +85,13 @@ pub fn lucy<S: Shelf, I: Source, O: Sink, E: Sink>(
 
     ensures missing_calm { (file : List ℕ) → NamesShow (map string_bytes words.now) file → Lacks (S.files shelf.old) file → S.faults shelf.new ≡ S.faults shelf.old }
 
+    // So does `types`.
+    ensures types_source { (file : List ℕ) → NamesTypes (map string_bytes words.now) file → input.new ≡ input.old }
+    ensures types { (file : List ℕ) → NamesTypes (map string_bytes words.now) file → Types (S.files shelf.old) file result
+        (O.written out.old) (O.written out.new) (E.written err.old) (E.written err.new)
+        (Rose (S.faults shelf.old) (S.faults shelf.new)) (Rose (O.faults out.old) (O.faults out.new)) }
+    ensures types_missing_calm { (file : List ℕ) → NamesTypes (map string_bytes words.now) file → Lacks (S.files shelf.old) file → S.faults shelf.new ≡ S.faults shelf.old }
+
     // What every command leaves on the sinks.
     ensures quiet { result ≡ 0 → err.new ≡ err.old }
     ensures not_printed { result ≢ 0 → result ≢ 5 → out.new ≡ out.old }
@@ -112,6 +121,10 @@ pub fn lucy<S: Shelf, I: Source, O: Sink, E: Sink>(
         },
         Some(Command::Show(file)) => match show::answer(alloc, shelf, file) {
             Ok(text) => print(out, err, &text),
+            Err(refusal) => refuse(alloc, err, refusal),
+        },
+        Some(Command::Types(file)) => match types::answer(alloc, shelf, file) {
+            Ok(report) => print(out, err, &report),
             Err(refusal) => refuse(alloc, err, refusal),
         },
     }

@@ -1,6 +1,6 @@
 // The words of the command line.
 ghost use Rattle.std.specs.Prelude.{◌≡◌, ◌↔◌, ℕ, List, None, IsTrue, IfSome, map, string_bytes};
-ghost use Rattle.lucy_app.specs.Words.{NamesOrder, NamesShow, Names, NamesCommand, is_file};
+ghost use Rattle.lucy_app.specs.Words.{NamesOrder, NamesFile, Names, NamesCommand, is_file};
 
 /// A command, with what it works on.
 #[derive(Clone, Copy)]
@@ -8,6 +8,8 @@ pub(crate) enum Command<'a> {
     Order,
     /// With the name of its file.
     Show(&'a str),
+    /// With the name of its file.
+    Types(&'a str),
 }
 
 fn names_order(words: &[String]) -> bool
@@ -29,13 +31,13 @@ fn is_file(word: &str) -> bool
     }
 }
 
-// The file of `show`.
-fn shown_file(words: &[String]) -> Option<&str>
-    ensures some { IfSome result (λ file. NamesShow (map string_bytes words.now) file.now) }
-    ensures none { result ≡ None → (file : List ℕ) → NamesShow (map string_bytes words.now) file → ⊥ }
+// The file behind this command.
+fn file_of<'w>(words: &'w [String], command: &str) -> Option<&'w str>
+    ensures some { IfSome result (λ file. NamesFile command.now (map string_bytes words.now) file.now) }
+    ensures none { result ≡ None → (file : List ℕ) → NamesFile command.now (map string_bytes words.now) file → ⊥ }
 {
     match words {
-        [word, file] if word.as_str() == "show" && is_file(file) => Some(file),
+        [word, file] if word.as_str() == command && is_file(file) => Some(file),
         _ => None,
     }
 }
@@ -48,5 +50,8 @@ pub(crate) fn command_of(words: &[String]) -> Option<Command<'_>>
     if names_order(words) {
         return Some(Command::Order);
     }
-    Some(Command::Show(shown_file(words)?))
+    if let Some(file) = file_of(words, "show") {
+        return Some(Command::Show(file));
+    }
+    Some(Command::Types(file_of(words, "types")?))
 }

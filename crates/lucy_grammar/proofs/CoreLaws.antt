@@ -8,13 +8,14 @@ use Rattle.lucy_token.specs.declared.token.What.{What}
 use Rattle.lucy_token.specs.declared.token.What.TheVariants as what
 use Rattle.lucy_token.specs.declared.token.Token.{Token}
 use Rattle.lucy_token.specs.Tokens.{kind_of}
+use Rattle.lucy_token.specs.Spelled.{whats_of}
 use Rattle.lucy_grammar.specs.Sets.{nth}
 use Rattle.lucy_grammar.specs.Symbols.{Sym, token, part, many, perhaps, Rule, Part, Program}
 use Rattle.lucy_grammar.specs.Grammar.{rules}
 use Rattle.lucy_grammar.specs.Derivations.{Deriv, done, take, by_rule, enough, again, absent, present, spelled, value}
 use Rattle.lucy_grammar.specs.Programs.{IsProgram}
 use Rattle.lucy_grammar.specs.Parens.{kept, without_parens}
-use Rattle.lucy_grammar.specs.Print.{printed_program, whats}
+use Rattle.lucy_grammar.specs.Print.{printed_program}
 use Rattle.lucy_grammar.specs.Printable.{Anywhere}
 use Rattle.lucy_grammar.proofs.PrintableLaws.{goods, all_stand}
 use Rattle.lucy_grammar.proofs.Cores.{core, without-append, flat, token_of, all_flat, flats}
@@ -61,6 +62,6 @@ flats_are (perhaps X ∷ syms) (present i p m a b) =
     flats_are p.syms a ∙ sym (flat_in X (rules X) i p (all_are_flat X) m kind.End (value a) (goods Anywhere kind.End p.syms a (all_stand kind.End (spelled a)))) in
     core_of-append (spelled a) (spelled b) ∙ ap (λ u. u ++ core_of (spelled b)) one ∙ ap (λ u. flat X (p.meaning (value a)) ++ u) (flats_are syms b)
 
-pub same_core : (ts : List Token) (p : ProgramTree) → IsProgram ts p → without_parens (map (λ t. t.what) ts) ≡ without_parens (whats (printed_program p))
+pub same_core : (ts : List Token) (p : ProgramTree) → IsProgram ts p → without_parens (map (λ t. t.what) ts) ≡ without_parens (whats_of (printed_program p))
 same_core ts p d =
     ap core_of (sym d.1) ∙ flats_are (part Program ∷ []) d.0 ∙ append-nil (core (printed_program (value d.0).0)) ∙ ap (λ (u : ProgramTree × Unit {0}). core (printed_program u.0)) d.2

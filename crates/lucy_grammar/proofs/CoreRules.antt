@@ -11,6 +11,7 @@ use Rattle.lucy_token.specs.declared.mark.Mark.TheVariants as mark
 use Rattle.lucy_token.specs.declared.token.Kind.{Kind}
 use Rattle.lucy_token.specs.declared.token.What.{What}
 use Rattle.lucy_token.specs.declared.token.What.TheVariants as what
+use Rattle.lucy_token.specs.Spelled.{Printed, in_print}
 use Rattle.lucy_grammar.specs.Printable.{IsPrintableDef, IsPrintableDecl, AllOfSome, Anywhere}
 use Rattle.lucy_grammar.proofs.PrintableLaws.{Goods}
 use Rattle.lucy_grammar.proofs.Cores.{core, core-append, core-parens, put, put_after, put_operand, put_later, put_parens, first_defs, flat_link, flat, all_flat, some_flat, flats}
@@ -18,7 +19,7 @@ use Rattle.lucy_grammar.specs.Symbols.{Rule, Val, Vals, Link, Part, Program, Nod
 use Rattle.lucy_grammar.specs.Meanings.{bytes_of, name_of, number_of, word_of, linked, grouped, sampled_by, compared, literal_before, named, all_of, args_of}
 use Rattle.lucy_grammar.specs.Grammar.{rules}
 use Rattle.lucy_grammar.specs.Parens.{kept}
-use Rattle.lucy_grammar.specs.Print.{Spaced, blank, indent, line, after, after_commas, commas, parens, name_token, lit_token, op_mark, when_mark, operand, printed, all_printed, printed_decl, printed_left, printed_def, more_defs, printed_body, printed_node, more_nodes}
+use Rattle.lucy_grammar.specs.Print.{blank, indent, line, after, after_commas, commas, parens, name_token, lit_token, op_mark, when_mark, operand, printed, all_printed, printed_decl, printed_left, printed_def, more_defs, printed_body, printed_node, more_nodes}
 
 plus : (a : List What) → a ≡ a ++ []
 plus a = sym (append-nil a)
@@ -46,7 +47,7 @@ exprs_flat (e ∷ es) = ap (λ u. what.Mark mark.Comma ∷ u) (put_after blank (
 
 linked_flat : (e : Tree) (l : Link) → core (printed (linked e l)) ≡ core (printed e) ++ flat_link l
 linked_flat e l =
-    put_operand e ((blank, what.Mark (op_mark l.op)) ∷ (after blank (operand l.right (printed l.right)) ++ [])) (flat_link l)
+    put_operand e (in_print blank (what.Mark (op_mark l.op)) ∷ (after blank (operand l.right (printed l.right)) ++ [])) (flat_link l)
     (ap (λ u. kept (what.Mark (op_mark l.op)) ++ u) (put_later l.right [] [] refl ∙ append-nil (core (printed l.right))))
 
 grouped_flat : (e : Tree) (ls : List Link) → core (printed (grouped e ls)) ≡ core (printed e) ++ all_flat flat_link ls
@@ -56,7 +57,7 @@ grouped_flat e (l ∷ ls) = grouped_flat (linked e l) ls ∙ ap (λ u. u ++ all_
 sampled_flat : (e : Tree) (ws : List (Bool × Bits)) → core (printed (sampled_by e ws)) ≡ core (printed e) ++ all_flat (flat Sampling) ws
 sampled_flat e [] = plus (core (printed e))
 sampled_flat e ((flip, w) ∷ ws) =
-    let one : core (printed (sampled flip e w)) ≡ core (printed e) ++ flat Sampling (flip, w) = put_operand e ((blank, what.Mark (when_mark flip)) ∷ (blank, what.Word w) ∷ []) (flat Sampling (flip, w)) refl in
+    let one : core (printed (sampled flip e w)) ≡ core (printed e) ++ flat Sampling (flip, w) = put_operand e (in_print blank (what.Mark (when_mark flip)) ∷ in_print blank (what.Word w) ∷ []) (flat Sampling (flip, w)) refl in
     sampled_flat (sampled flip e w) ws ∙ ap (λ u. u ++ all_flat (flat Sampling) ws) one ∙ append_assoc (core (printed e)) (flat Sampling (flip, w)) (all_flat (flat Sampling) ws)
 
 -- with nothing behind them
@@ -70,7 +71,7 @@ compared_rule e (Some l) = linked_flat e l ∙ ap (λ u. core (printed e) ++ u) 
 literal_rule : (l : Val Lit) (o : Option (Val Followed)) → core (printed (literal_before l o)) ≡ flat Lit l ++ (some_flat (flat Followed) o ++ [])
 literal_rule l None = plus (flat Lit l)
 literal_rule l (Some f) =
-    put (lit_token l.0) ((blank, what.Mark mark.Fby) ∷ (after blank (operand f.1 (printed f.1)) ++ [])) (flat Followed f ++ []) (ap (λ u. what.Mark mark.Fby ∷ u) (put_later f.1 [] [] refl))
+    put (lit_token l.0) (in_print blank (what.Mark mark.Fby) ∷ (after blank (operand f.1 (printed f.1)) ++ [])) (flat Followed f ++ []) (ap (λ u. what.Mark mark.Fby ∷ u) (put_later f.1 [] [] refl))
 
 call_flat : (n : name.Name) (at : Option Bits) (ts : Trees) → core (printed (call n at ts)) ≡ what.Name n.text ∷ (flat Applied (at, ts) ++ [])
 call_flat n None ts = ap (λ u. what.Name n.text ∷ u) (put_parens (commas (all_printed ts)) [] [] refl)
@@ -124,7 +125,7 @@ node_rule : (n : name.Name) (ps : List decl.Decl) (rs : List name.Name) (o : Opt
 node_rule n ps rs o =
     let head = commas (map printed_decl ps) in
     let tail = commas (map name_token rs) in
-    let both : List Spaced = after blank (parens head) ++ ((blank, what.Mark mark.Equals) ∷ (after blank (parens tail) ++ [])) in
+    let both : List Printed = after blank (parens head) ++ (in_print blank (what.Mark mark.Equals) ∷ (after blank (parens tail) ++ [])) in
     let first : core both ≡ core head ++ (what.Mark mark.Equals ∷ (core tail ++ [])) = put_parens head _ _ (ap (λ u. what.Mark mark.Equals ∷ u) (put_parens tail [] [] refl)) in
     let whole : core (both ++ printed_body (all_of o)) ≡ (core head ++ (what.Mark mark.Equals ∷ (core tail ++ []))) ++ (some_flat (flat Body) o ++ []) =
     put both (printed_body (all_of o)) _ (bodies_flat o) ∙ ap (λ u. u ++ (some_flat (flat Body) o ++ [])) first in
@@ -159,9 +160,9 @@ all_are_flat TypeName = (λ k vs h. refl, (λ k vs h. refl, tt))
 all_are_flat ClockOf = (λ k vs h. refl, tt)
 all_are_flat Defs = (λ k vs h. ap (λ u. core (printed_def vs.0) ++ u) (defs_flat vs.1.0 ∙ plus (all_flat (flat MoreDef) vs.1.0)), tt)
 all_are_flat Def = (
-  λ k vs h. put (printed_decl vs.0) ((blank, what.Mark mark.Equals) ∷ (after blank (printed vs.1.1.0) ++ [])) _ (ap (λ u. what.Mark mark.Equals ∷ u) (put_after blank (printed vs.1.1.0) [] [] refl)),
+  λ k vs h. put (printed_decl vs.0) (in_print blank (what.Mark mark.Equals) ∷ (after blank (printed vs.1.1.0) ++ [])) _ (ap (λ u. what.Mark mark.Equals ∷ u) (put_after blank (printed vs.1.1.0) [] [] refl)),
   (
-    λ k vs h. put (printed_left vs.0) ((blank, what.Mark mark.Equals) ∷ (after blank (printed vs.1.1.0) ++ [])) _ (ap (λ u. what.Mark mark.Equals ∷ u) (put_after blank (printed vs.1.1.0) [] [] refl))
+    λ k vs h. put (printed_left vs.0) (in_print blank (what.Mark mark.Equals) ∷ (after blank (printed vs.1.1.0) ++ [])) _ (ap (λ u. what.Mark mark.Equals ∷ u) (put_after blank (printed vs.1.1.0) [] [] refl))
         ∙ ap (λ u. u ++ (what.Mark mark.Equals ∷ (core (printed vs.1.1.0) ++ []))) (left_flat vs.0),
     tt,
   ),

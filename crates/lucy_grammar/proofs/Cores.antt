@@ -9,48 +9,49 @@ use Rattle.lucy_token.specs.declared.token.Kind.{Kind}
 use Rattle.lucy_token.specs.declared.token.Kind.TheVariants as kind
 use Rattle.lucy_token.specs.declared.token.What.{What}
 use Rattle.lucy_token.specs.declared.token.What.TheVariants as what
+use Rattle.lucy_token.specs.Spelled.{Printed, whats_of}
 use Rattle.lucy_grammar.specs.Symbols.{Sym, token, part, many, perhaps, Val, Vals, Link, Part, Program, Node, Title, Params, Results, Names, Ident, MoreName, Body, Decls, MoreDecl, Decl, Typing, TypeName, ClockOf, Defs, Def, MoreDef, Lefts, Expr, Or, MoreAnd, And, MoreCmp, Cmp, Compared, CmpOp, Sum, MoreProd, SumOp, Prod, MoreSamp, ProdOp, Samp, Sampling, Pre, Followed, Atom, Small, Lit, Pair, Call, Applied, Base, Args, MoreExpr}
 use Rattle.lucy_grammar.specs.Meanings.{bytes_of, number_of, word_of}
 use Rattle.lucy_grammar.specs.Parens.{kept, without_parens}
-use Rattle.lucy_grammar.specs.Print.{Spaced, blank, the, after, spaced, commas, parens, name_token, lit_token, op_mark, when_mark, operand, printed, all_printed, type_mark, typing, clock, printed_decl, printed_def, more_defs, printed_body, printed_node, printed_program, whats}
+use Rattle.lucy_grammar.specs.Print.{blank, the, after, spaced, commas, parens, name_token, lit_token, op_mark, when_mark, operand, printed, all_printed, type_mark, typing, clock, printed_decl, printed_def, more_defs, printed_body, printed_node, printed_program}
 
 -- the printed tokens but for parentheses
-abbrev pub core : List Spaced → List What
-core ps = without_parens (whats ps)
+abbrev pub core : List Printed → List What
+core ps = without_parens (whats_of ps)
 
 pub without-append : (a b : List What) → without_parens (a ++ b) ≡ without_parens a ++ without_parens b
 without-append [] b = refl
 without-append (w ∷ a) b = ap (λ u. kept w ++ u) (without-append a b) ∙ sym (append_assoc (kept w) (without_parens a) (without_parens b))
 
-pub core-append : (a b : List Spaced) → core (a ++ b) ≡ core a ++ core b
-core-append a b = ap without_parens (map-append (λ t. t.1) a b) ∙ without-append (whats a) (whats b)
+pub core-append : (a b : List Printed) → core (a ++ b) ≡ core a ++ core b
+core-append a b = ap without_parens (map-append (λ (t : Printed). t.what) a b) ∙ without-append (whats_of a) (whats_of b)
 
-pub core-after : (blanks : List ℕ) (a : List Spaced) → core (after blanks a) ≡ core a
+pub core-after : (blanks : List ℕ) (a : List Printed) → core (after blanks a) ≡ core a
 core-after blanks [] = refl
 core-after blanks (t ∷ a) = refl
 
-pub core-parens : (a : List Spaced) → core (parens a) ≡ core a
+pub core-parens : (a : List Printed) → core (parens a) ≡ core a
 core-parens a = core-append a (the mark.Close) ∙ append-nil (core a)
 
-pub core-operand : (t : Tree) (a : List Spaced) → core (operand t a) ≡ core a
+pub core-operand : (t : Tree) (a : List Printed) → core (operand t a) ≡ core a
 core-operand (literal l span) a = refl
 core-operand (variable n) a = refl
 core-operand _ a = core-parens a
 
 -- tokens, with blanks before them or not, and what stands behind them
-pub put : (a b : List Spaced) (c : List What) → core b ≡ c → core (a ++ b) ≡ core a ++ c
+pub put : (a b : List Printed) (c : List What) → core b ≡ c → core (a ++ b) ≡ core a ++ c
 put a b c e = core-append a b ∙ ap (λ u. core a ++ u) e
 
-pub put_after : (blanks : List ℕ) (a b : List Spaced) (c : List What) → core b ≡ c → core (after blanks a ++ b) ≡ core a ++ c
+pub put_after : (blanks : List ℕ) (a b : List Printed) (c : List What) → core b ≡ c → core (after blanks a ++ b) ≡ core a ++ c
 put_after blanks a b c e = put (after blanks a) b c e ∙ ap (λ u. u ++ c) (core-after blanks a)
 
-pub put_operand : (t : Tree) (b : List Spaced) (c : List What) → core b ≡ c → core (operand t (printed t) ++ b) ≡ core (printed t) ++ c
+pub put_operand : (t : Tree) (b : List Printed) (c : List What) → core b ≡ c → core (operand t (printed t) ++ b) ≡ core (printed t) ++ c
 put_operand t b c e = put (operand t (printed t)) b c e ∙ ap (λ u. u ++ c) (core-operand t (printed t))
 
-pub put_later : (t : Tree) (b : List Spaced) (c : List What) → core b ≡ c → core (after blank (operand t (printed t)) ++ b) ≡ core (printed t) ++ c
+pub put_later : (t : Tree) (b : List Printed) (c : List What) → core b ≡ c → core (after blank (operand t (printed t)) ++ b) ≡ core (printed t) ++ c
 put_later t b c e = put_after blank (operand t (printed t)) b c e ∙ ap (λ u. u ++ c) (core-operand t (printed t))
 
-pub put_parens : (a b : List Spaced) (c : List What) → core b ≡ c → core (after blank (parens a) ++ b) ≡ core a ++ c
+pub put_parens : (a b : List Printed) (c : List What) → core b ≡ c → core (after blank (parens a) ++ b) ≡ core a ++ c
 put_parens a b c e = put_after blank (parens a) b c e ∙ ap (λ u. u ++ c) (core-parens a)
 
 abbrev pub first_defs : List DefTree → List What

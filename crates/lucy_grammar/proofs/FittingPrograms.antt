@@ -16,15 +16,17 @@ use Rattle.lucy_token.specs.declared.token.What.TheVariants as what
 use Rattle.lucy_token.specs.declared.state.Side.{Side}
 use Rattle.lucy_token.specs.declared.state.Side.TheVariants as side
 use Rattle.lucy_token.specs.States.{State, start, after, side_defined, precedes_operand}
+use Rattle.lucy_token.specs.Spelled.{Printed, in_print, whats_of}
 use Rattle.lucy_token.proofs.WrittenLaws.{before_after}
-use Rattle.lucy_grammar.specs.Printable.{IsCall, Defines, IsPrintableDef, IsPrintableNode, IsPrintableProgram, Anywhere}
-use Rattle.lucy_grammar.specs.Print.{Spaced, blank, indent, line, the, spaced, words, commas, parens, name_token, printed, printed_decl, printed_left, printed_def, more_defs, printed_body, printed_node, more_nodes, printed_program, whats}
+use Rattle.lucy_tree.specs.Shaped.{IsCall, Defines}
+use Rattle.lucy_grammar.specs.Printable.{IsPrintableDef, IsPrintableNode, IsPrintableProgram, Anywhere}
+use Rattle.lucy_grammar.specs.Print.{blank, indent, line, the, spaced, words, commas, parens, name_token, printed, printed_decl, printed_left, printed_def, more_defs, printed_body, printed_node, more_nodes, printed_program}
 use Rattle.lucy_grammar.specs.Print as print
 use Rattle.lucy_grammar.proofs.Cores.{core, put_after}
 use Rattle.lucy_grammar.proofs.Weights.{weight, IsLight, AreLight}
 use Rattle.lucy_grammar.proofs.FewEntries.{most, IsFew, IsFewDef, IsFewNode}
 use Rattle.lucy_grammar.proofs.Levels.{Keeps, keeps_then, keeps_plain, IsLevel, level_equals, level_and, level_rec, level_let, let_head, still_head, IsStill, opened_still, rec_left, and_left, defined, begins_behind}
-use Rattle.lucy_grammar.proofs.Fitting.{deepest, AllFit, IsReady, IsOperand, IsLast, IsDeclared, split_whats, whats-after, fits_plain, fits_mark, tail_none, operand_of, tail_declared, later, last_end, tail_plain, declared_plain, declared_one, list_fit}
+use Rattle.lucy_grammar.proofs.Fitting.{deepest, AllFit, IsReady, IsOperand, IsLast, IsDeclared, split_whats, whats_of-after, fits_plain, fits_mark, tail_none, operand_of, tail_declared, later, last_end, tail_plain, declared_plain, declared_one, list_fit}
 use Rattle.lucy_grammar.proofs.FittingTrees.{weight-append, call_last, tree_fits, all_alone}
 
 -- declarations and names
@@ -64,14 +66,14 @@ ready_top : {at : Side} {e : ℕ} {s : State} → s.side ≡ at → e ≤ deepes
 ready_top a h t = record { here = a; room = omega (arith, h, ap length t.outer); few = omega (arith, t.commas) }
 
 -- a list where nothing is open
-top_list : (at : Side) (xs : List (List Spaced)) → AllByRecursion (IsOperand at 0) xs → length xs ≤ most → IsStill at → (s : State) (ws : List What) → s.side ≡ at → IsTop s →
-    ((j : State) → j.side ≡ at → IsTop j → j.before ≡ kind.Mark mark.Close → AllFit j ws) → AllFit s (whats (parens (commas xs)) ++ ws)
+top_list : (at : Side) (xs : List (List Printed)) → AllByRecursion (IsOperand at 0) xs → length xs ≤ most → IsStill at → (s : State) (ws : List What) → s.side ≡ at → IsTop s →
+    ((j : State) → j.side ≡ at → IsTop j → j.before ≡ kind.Mark mark.Close → AllFit j ws) → AllFit s (whats_of (parens (commas xs)) ++ ws)
 top_list at xs h few still s ws a t k =
     list_fit at 0 xs h few s ws (opened_still s (subst IsStill (sym a) still) ∙ a) (omega (arith, ap length t.outer)) (few_top s t) (λ j b o l c. k j b (record { outer = o ∙ t.outer; commas = ap (λ u. u.commas) l ∙ t.commas }) c)
 
 -- the right side of a definition
 right_of : (right : Tree) (j : State) (ws : List What) → weight (printed right) ≤ deepest → IsFew right → j.side ≡ side.Left → side_defined j.before ≡ side.Right → IsTop j → ((i : State) → IsTop i → AllFit i ws) →
-    AllFit j (whats ((blank, what.Mark mark.Equals) ∷ (print.after blank (printed right) ++ [])) ++ ws)
+    AllFit j (whats_of (in_print blank (what.Mark mark.Equals) ∷ (print.after blank (printed right) ++ [])) ++ ws)
 right_of right j ws h few a d t k =
     let q : State = after j (kind.Mark mark.Equals) in
     let at : q.side ≡ side.Right = defined j a ∙ d in
@@ -93,7 +95,7 @@ a_call (followed l e span) c h = absurd c
 a_call (buffered e span) c h = absurd c
 
 called_of : (right : Tree) (j : State) (ws : List What) → weight (printed right) ≤ deepest → IsCall right → IsFew right → j.side ≡ side.Left → j.before ≡ kind.Mark mark.Close → IsTop j → ((i : State) → IsTop i → AllFit i ws) →
-    AllFit j (whats ((blank, what.Mark mark.Equals) ∷ (print.after blank (printed right) ++ [])) ++ ws)
+    AllFit j (whats_of (in_print blank (what.Mark mark.Equals) ∷ (print.after blank (printed right) ++ [])) ++ ws)
 called_of right j ws h c few a b t k =
     let q : State = after j (kind.Mark mark.Equals) in
     let at : q.side ≡ side.Called = defined j a ∙ ap side_defined b in
@@ -102,42 +104,42 @@ called_of right j ws h c few a b t k =
       (last_end (a_call right c few)).fits q ws (ready_top at h top) (λ i d o l. k i (record { outer = o ∙ top.outer; commas = l ∙ top.commas })),
     )
 
-weight_right : (left : List Spaced) (right : Tree) → weight (printed right) ≤ weight (left ++ ((blank, what.Mark mark.Equals) ∷ (print.after blank (printed right) ++ [])))
+weight_right : (left : List Printed) (right : Tree) → weight (printed right) ≤ weight (left ++ (in_print blank (what.Mark mark.Equals) ∷ (print.after blank (printed right) ++ [])))
 weight_right left right =
-    let back : List Spaced = print.after blank (printed right) ++ [] in
+    let back : List Printed = print.after blank (printed right) ++ [] in
     let e : weight back ≡ weight (printed right) + 0 = ap length (put_after blank (printed right) [] [] refl) ∙ length-append (core (printed right)) [] in
-    omega (arith, weight-append left ((blank, what.Mark mark.Equals) ∷ back), e)
+    omega (arith, weight-append left (in_print blank (what.Mark mark.Equals) ∷ back), e)
 
 def_of : (left : List decl.Decl) (right : Tree) → IsFewDef (record { left = left; right = right }) → Defines left right → IsLight (record { left = left; right = right }) → (s : State) (ws : List What) → s.side ≡ side.Left → IsTop s →
-    ((j : State) → IsTop j → AllFit j ws) → AllFit s (whats (printed_def (record { left = left; right = right })) ++ ws)
+    ((j : State) → IsTop j → AllFit j ws) → AllFit s (whats_of (printed_def (record { left = left; right = right })) ++ ws)
 def_of [] right few d light s ws a t k = absurd d
 def_of (x ∷ []) right few d light s ws a t k =
-    let back : List Spaced = (blank, what.Mark mark.Equals) ∷ (print.after blank (printed right) ++ []) in
+    let back : List Printed = in_print blank (what.Mark mark.Equals) ∷ (print.after blank (printed right) ++ []) in
     let h : weight (printed right) ≤ deepest = omega (arith, light, weight_right (printed_decl x) right) in
     let one : IsDeclared side.Left 0 (printed_decl x) = declared_of x.name x.holds x.word in
     subst (AllFit s) (sym (split_whats (printed_decl x) back ws))
-    (one.fits s (whats back ++ ws) (ready_top a (omega arith) t) (λ j p e. right_of right j ws h few.1 (p.at ∙ a) e (top_keeps t p) k))
+    (one.fits s (whats_of back ++ ws) (ready_top a (omega arith) t) (λ j p e. right_of right j ws h few.1 (p.at ∙ a) e (top_keeps t p) k))
 def_of (x ∷ y ∷ ds) right few d light s ws a t k =
-    let back : List Spaced = (blank, what.Mark mark.Equals) ∷ (print.after blank (printed right) ++ []) in
-    let left : List Spaced = printed_left (x ∷ y ∷ ds) in
+    let back : List Printed = in_print blank (what.Mark mark.Equals) ∷ (print.after blank (printed right) ++ []) in
+    let left : List Printed = printed_left (x ∷ y ∷ ds) in
     let h : weight (printed right) ≤ deepest = omega (arith, light, weight_right left right) in
     subst (AllFit s) (sym (split_whats left back ws))
-    (top_list side.Left (map printed_decl (x ∷ y ∷ ds)) (decls_fit side.Left (x ∷ y ∷ ds)) (omega (arith, few.0, length-map (x ∷ y ∷ ds) printed_decl)) tt s (whats back ++ ws) a t (λ j b u c. called_of right j ws h d few.1 b c u k))
+    (top_list side.Left (map printed_decl (x ∷ y ∷ ds)) (decls_fit side.Left (x ∷ y ∷ ds)) (omega (arith, few.0, length-map (x ∷ y ∷ ds) printed_decl)) tt s (whats_of back ++ ws) a t (λ j b u c. called_of right j ws h d few.1 b c u k))
 
 -- a definition behind blanks, and what follows it
-def_fits : (blanks : List ℕ) (d : DefTree) (b : List Spaced) → IsFewDef d → IsPrintableDef Anywhere d → IsLight d → (s : State) (ws : List What) → s.side ≡ side.Left → IsTop s → ((j : State) → IsTop j → AllFit j (whats b ++ ws)) →
-    AllFit s (whats (print.after blanks (printed_def d) ++ b) ++ ws)
+def_fits : (blanks : List ℕ) (d : DefTree) (b : List Printed) → IsFewDef d → IsPrintableDef Anywhere d → IsLight d → (s : State) (ws : List What) → s.side ≡ side.Left → IsTop s → ((j : State) → IsTop j → AllFit j (whats_of b ++ ws)) →
+    AllFit s (whats_of (print.after blanks (printed_def d) ++ b) ++ ws)
 def_fits blanks d b few p light s ws a t k =
-    subst (AllFit s) (sym (split_whats (print.after blanks (printed_def d)) b ws ∙ ap (λ u. u ++ (whats b ++ ws)) (whats-after blanks (printed_def d)))) (def_of d.left d.right few p.defines light s (whats b ++ ws) a t k)
+    subst (AllFit s) (sym (split_whats (print.after blanks (printed_def d)) b ws ∙ ap (λ u. u ++ (whats_of b ++ ws)) (whats_of-after blanks (printed_def d)))) (def_of d.left d.right few p.defines light s (whats_of b ++ ws) a t k)
 
-defs_fit : (ds : List DefTree) → AllByRecursion IsFewDef ds → AllByRecursion (IsPrintableDef Anywhere) ds → AllByRecursion IsLight ds → (s : State) (ws : List What) → IsTop s → ((j : State) → IsTop j → AllFit j ws) → AllFit s (whats (more_defs ds) ++ ws)
+defs_fit : (ds : List DefTree) → AllByRecursion IsFewDef ds → AllByRecursion (IsPrintableDef Anywhere) ds → AllByRecursion IsLight ds → (s : State) (ws : List What) → IsTop s → ((j : State) → IsTop j → AllFit j ws) → AllFit s (whats_of (more_defs ds) ++ ws)
 defs_fit [] few p light s ws t k = k s t
 defs_fit (d ∷ ds) few p light s ws t k = (
   fits_mark s mark.And (few_top s t) (λ g. absurd cc),
   def_fits blank d (more_defs ds) few.0 p.0 light.0 (after s (kind.Mark mark.And)) ws (and_left s) (top_level t (level_and s)) (λ j u. defs_fit ds few.1 p.1 light.1 j ws u k),
 )
 
-body_fits : (ds : List DefTree) → AllByRecursion IsFewDef ds → AllByRecursion (IsPrintableDef Anywhere) ds → AllByRecursion IsLight ds → (s : State) (ws : List What) → IsTop s → ((j : State) → IsTop j → AllFit j ws) → AllFit s (whats (printed_body ds) ++ ws)
+body_fits : (ds : List DefTree) → AllByRecursion IsFewDef ds → AllByRecursion (IsPrintableDef Anywhere) ds → AllByRecursion IsLight ds → (s : State) (ws : List What) → IsTop s → ((j : State) → IsTop j → AllFit j ws) → AllFit s (whats_of (printed_body ds) ++ ws)
 body_fits [] few p light s ws t k = k s t
 body_fits (d ∷ ds) few p light s ws t k =
     let m : State = after s (kind.Mark mark.Where) in
@@ -150,43 +152,43 @@ body_fits (d ∷ ds) few p light s ws t k =
     )
 
 -- nodes
-node_fits : (n : NodeTree) → IsFewNode n → IsPrintableNode Anywhere n → AreLight n → (s : State) (ws : List What) → IsTop s → ((j : State) → IsTop j → AllFit j ws) → AllFit s (whats (printed_node n) ++ ws)
+node_fits : (n : NodeTree) → IsFewNode n → IsPrintableNode Anywhere n → AreLight n → (s : State) (ws : List What) → IsTop s → ((j : State) → IsTop j → AllFit j ws) → AllFit s (whats_of (printed_node n) ++ ws)
 node_fits n few p light s ws t k =
-    let head : List Spaced = parens (commas (map printed_decl n.params)) in
-    let tail : List Spaced = parens (commas (map name_token n.results)) in
-    let back : List Spaced = (blank, what.Mark mark.Equals) ∷ (print.after blank tail ++ []) in
-    let vs : List What = whats (printed_body n.defs) ++ ws in
+    let head : List Printed = parens (commas (map printed_decl n.params)) in
+    let tail : List Printed = parens (commas (map name_token n.results)) in
+    let back : List Printed = in_print blank (what.Mark mark.Equals) ∷ (print.after blank tail ++ []) in
+    let vs : List What = whats_of (printed_body n.defs) ++ ws in
     let a : State = after s (kind.Mark mark.Let) in
     let b : State = after a (kind.Mark mark.Node) in
     let c : State = after b kind.Name in
     let top_a : IsTop a = top_level t (level_let s) in
     let keeps_b : Keeps a b = keeps_plain a (kind.Mark mark.Node) refl in
     let keeps_c : Keeps a c = keeps_then keeps_b (keeps_plain b kind.Name refl) in
-    let results : (j : State) → j.side ≡ side.Head → IsTop j → j.before ≡ kind.Mark mark.Close → AllFit j (whats back ++ vs) = λ j h u e.
+    let results : (j : State) → j.side ≡ side.Head → IsTop j → j.before ≡ kind.Mark mark.Close → AllFit j (whats_of back ++ vs) = λ j h u e.
     let q : State = after j (kind.Mark mark.Equals) in (
       fits_mark j mark.Equals (few_top j u) (λ g. absurd cc),
-      subst (λ w. AllFit q (w ++ vs)) (sym (ap whats (append-nil (print.after blank tail)) ∙ whats-after blank tail))
+      subst (λ w. AllFit q (w ++ vs)) (sym (ap whats_of (append-nil (print.after blank tail)) ∙ whats_of-after blank tail))
           (top_list side.Head (map name_token n.results) (names_fit side.Head n.results) (omega (arith, few.results, length-map n.results name_token)) tt q vs (still_head j h) (top_level u (level_equals j)) (λ i h2 v e2. body_fits n.defs few.defs p.defs light i ws v k)),
     ) in
-    let params : AllFit c (whats head ++ (whats back ++ vs)) = top_list side.Head (map printed_decl n.params) (decls_fit side.Head n.params) (omega (arith, few.params, length-map n.params printed_decl)) tt c (whats back ++ vs) (keeps_c.at ∙ let_head s) (top_keeps top_a keeps_c) results in (
+    let params : AllFit c (whats_of head ++ (whats_of back ++ vs)) = top_list side.Head (map printed_decl n.params) (decls_fit side.Head n.params) (omega (arith, few.params, length-map n.params printed_decl)) tt c (whats_of back ++ vs) (keeps_c.at ∙ let_head s) (top_keeps top_a keeps_c) results in (
       fits_mark s mark.Let (few_top s t) (λ g. absurd cc),
       (
         fits_plain a (what.Mark mark.Node) (few_top a top_a) refl refl,
         (
           fits_plain b (what.Name n.name.text) (few_top b (top_keeps top_a keeps_b)) refl refl,
-          subst (AllFit c) (sym (split_whats (print.after blank head ++ back) (printed_body n.defs) ws ∙ split_whats (print.after blank head) back vs ∙ ap (λ u. u ++ (whats back ++ vs)) (whats-after blank head))) params,
+          subst (AllFit c) (sym (split_whats (print.after blank head ++ back) (printed_body n.defs) ws ∙ split_whats (print.after blank head) back vs ∙ ap (λ u. u ++ (whats_of back ++ vs)) (whats_of-after blank head))) params,
         ),
       ),
     )
 
-nodes_fit : (ns : List NodeTree) → AllByRecursion IsFewNode ns → AllByRecursion (IsPrintableNode Anywhere) ns → AllByRecursion AreLight ns → (s : State) → IsTop s → AllFit s (whats (more_nodes ns) ++ [])
+nodes_fit : (ns : List NodeTree) → AllByRecursion IsFewNode ns → AllByRecursion (IsPrintableNode Anywhere) ns → AllByRecursion AreLight ns → (s : State) → IsTop s → AllFit s (whats_of (more_nodes ns) ++ [])
 nodes_fit [] few p light s t = tt
 nodes_fit (n ∷ ns) few p light s t =
-    subst (AllFit s) (sym (split_whats (print.after line (printed_node n)) (more_nodes ns) [] ∙ ap (λ u. u ++ (whats (more_nodes ns) ++ [])) (whats-after line (printed_node n))))
-    (node_fits n few.0 p.0 light.0 s (whats (more_nodes ns) ++ []) t (λ j u. nodes_fit ns few.1 p.1 light.1 j u))
+    subst (AllFit s) (sym (split_whats (print.after line (printed_node n)) (more_nodes ns) [] ∙ ap (λ u. u ++ (whats_of (more_nodes ns) ++ [])) (whats_of-after line (printed_node n))))
+    (node_fits n few.0 p.0 light.0 s (whats_of (more_nodes ns) ++ []) t (λ j u. nodes_fit ns few.1 p.1 light.1 j u))
 
-pub program_fits : (p : ProgramTree) → AllByRecursion IsFewNode p → IsPrintableProgram Anywhere p → AllByRecursion AreLight p → AllFit start (whats (printed_program p))
+pub program_fits : (p : ProgramTree) → AllByRecursion IsFewNode p → IsPrintableProgram Anywhere p → AllByRecursion AreLight p → AllFit start (whats_of (printed_program p))
 program_fits [] few p light = absurd p
 program_fits (n ∷ ns) few p light =
-    subst (AllFit start) (sym (split_whats (printed_node n) (more_nodes ns) []) ∙ append-nil (whats (printed_program (n ∷ ns))))
-    (node_fits n few.0 p.0 light.0 start (whats (more_nodes ns) ++ []) (record { outer = refl; commas = refl }) (λ j u. nodes_fit ns few.1 p.1 light.1 j u))
+    subst (AllFit start) (sym (split_whats (printed_node n) (more_nodes ns) []) ∙ append-nil (whats_of (printed_program (n ∷ ns))))
+    (node_fits n few.0 p.0 light.0 start (whats_of (more_nodes ns) ++ []) (record { outer = refl; commas = refl }) (λ j u. nodes_fit ns few.1 p.1 light.1 j u))

@@ -16,9 +16,10 @@ use Rattle.lucy_token.specs.declared.token.What.TheVariants as what
 use Rattle.lucy_token.specs.declared.state.Side.{Side}
 use Rattle.lucy_token.specs.declared.state.Side.TheVariants as side
 use Rattle.lucy_token.specs.States.{after, precedes_operand}
+use Rattle.lucy_token.specs.Spelled.{Printed, in_print}
 use Rattle.lucy_grammar.specs.Parens.{kept}
 use Rattle.lucy_grammar.specs.Meanings.{two}
-use Rattle.lucy_grammar.specs.Print.{Spaced, blank, the, after_commas, commas, parens, name_token, lit_token, op_mark, when_mark, operand, printed, all_printed}
+use Rattle.lucy_grammar.specs.Print.{blank, the, after_commas, commas, parens, name_token, lit_token, op_mark, when_mark, operand, printed, all_printed}
 use Rattle.lucy_grammar.specs.Print as print
 use Rattle.lucy_grammar.proofs.Cores.{core, core-append, put_after, put_operand, put_later, put_parens}
 use Rattle.lucy_grammar.proofs.Weights.{weight}
@@ -27,21 +28,21 @@ use Rattle.lucy_grammar.proofs.Levels.{is_plain, keeps_plain, IsDue, in_list, wa
 use Rattle.lucy_grammar.proofs.Fitting.{IsOperand, IsUnit, IsLast, fits_plain, tail_none, operand_of, operand_unit, tail_last, operand_and, later, operand_after, last_end, tail_plain, last_plain, tail_before, operand_more, unit_more, last_more, unit_parens, list_last, tail_merge}
 
 -- weights
-pub weight-append : (a b : List Spaced) → weight (a ++ b) ≡ weight a + weight b
+pub weight-append : (a b : List Printed) → weight (a ++ b) ≡ weight a + weight b
 weight-append a b = ap length (core-append a b) ∙ length-append (core a) (core b)
 
-weight_first : (t : Tree) (b : List Spaced) → weight (operand t (printed t) ++ b) ≡ weight (printed t) + weight b
+weight_first : (t : Tree) (b : List Printed) → weight (operand t (printed t) ++ b) ≡ weight (printed t) + weight b
 weight_first t b = ap length (put_operand t b (core b) refl) ∙ length-append (core (printed t)) (core b)
 
-weight_later : (t : Tree) (b : List Spaced) → weight (print.after blank (operand t (printed t)) ++ b) ≡ weight (printed t) + weight b
+weight_later : (t : Tree) (b : List Printed) → weight (print.after blank (operand t (printed t)) ++ b) ≡ weight (printed t) + weight b
 weight_later t b = ap length (put_later t b (core b) refl) ∙ length-append (core (printed t)) (core b)
 
-weight_list : (a : List Spaced) → weight (print.after blank (parens a) ++ []) ≡ weight a
+weight_list : (a : List Printed) → weight (print.after blank (parens a) ++ []) ≡ weight a
 weight_list a =
     let e : weight (print.after blank (parens a) ++ []) ≡ weight a + 0 = ap length (put_parens a [] [] refl) ∙ length-append (core a) [] in
     omega (arith, e)
 
-weight_mark : (blanks : List ℕ) (m : Mark) (b : List Spaced) → kept (what.Mark m) ≡ what.Mark m ∷ [] → weight ((blanks, what.Mark m) ∷ b) ≡ suc (weight b)
+weight_mark : (blanks : List ℕ) (m : Mark) (b : List Printed) → kept (what.Mark m) ≡ what.Mark m ∷ [] → weight (in_print blanks (what.Mark m) ∷ b) ≡ suc (weight b)
 weight_mark blanks m b e = ap (λ u. length (u ++ core b)) e
 
 kept_op : (o : Op) → kept (what.Mark (op_mark o)) ≡ what.Mark (op_mark o) ∷ []
@@ -65,26 +66,26 @@ plain_when true = refl
 plain_when false = refl
 
 -- the weights of entries, without those of the commas between them
-total : List (List Spaced) → ℕ
+total : List (List Printed) → ℕ
 total [] = 0
 total (x ∷ xs) = weight x + total xs
 
-total_further : (xs : List (List Spaced)) → total xs ≤ weight (after_commas xs)
+total_further : (xs : List (List Printed)) → total xs ≤ weight (after_commas xs)
 unfolding total
 total_further [] = omega arith
 total_further (x ∷ xs) =
     let e : weight (after_commas (x ∷ xs)) ≡ suc (weight x + weight (after_commas xs)) = ap suc (ap length (put_after blank x (after_commas xs) (core (after_commas xs)) refl) ∙ length-append (core x) (core (after_commas xs))) in
     omega (arith, e, total_further xs)
 
-total_commas : (xs : List (List Spaced)) → total xs ≤ weight (commas xs)
+total_commas : (xs : List (List Printed)) → total xs ≤ weight (commas xs)
 unfolding total
 total_commas [] = omega arith
 total_commas (x ∷ xs) = omega (arith, weight-append x (after_commas xs), total_further xs)
 
-abbrev FitsAlone : List Spaced → Type 0
+abbrev FitsAlone : List Printed → Type 0
 FitsAlone x = IsOperand side.Right (weight x) x
 
-all_fit : (e : ℕ) (xs : List (List Spaced)) → total xs ≤ e → AllByRecursion FitsAlone xs → AllByRecursion (IsOperand side.Right e) xs
+all_fit : (e : ℕ) (xs : List (List Printed)) → total xs ≤ e → AllByRecursion FitsAlone xs → AllByRecursion (IsOperand side.Right e) xs
 unfolding total
 all_fit e [] h k = tt
 all_fit e (x ∷ xs) h k = (operand_more e (omega (arith, h)) k.0, all_fit e xs (omega (arith, h)) k.1)
@@ -118,19 +119,19 @@ one_fits o a s x =
 two_fits : (o : Op) (a b : Tree) (s : Span) → FitsAlone (printed a) → FitsAlone (printed b) → FitsAlone (printed (operator o (two a b) s))
 two_fits o a b s x y =
     let f : ℕ = weight (printed (operator o (two a b) s)) in
-    let back : List Spaced = print.after blank (operand b (printed b)) ++ [] in
-    let whole : f ≡ weight (printed a) + suc (weight (printed b) + 0) = weight_first a ((blank, what.Mark (op_mark o)) ∷ back) ∙ ap (λ n. weight (printed a) + n) (weight_mark blank (op_mark o) back (kept_op o) ∙ ap suc (weight_later b [])) in
+    let back : List Printed = print.after blank (operand b (printed b)) ++ [] in
+    let whole : f ≡ weight (printed a) + suc (weight (printed b) + 0) = weight_first a (in_print blank (what.Mark (op_mark o)) ∷ back) ∙ ap (λ n. weight (printed a) + n) (weight_mark blank (op_mark o) back (kept_op o) ∙ ap suc (weight_later b [])) in
     operand_and (bare a f (omega (arith, whole)) x) (tail_before blank (op_mark o) (plain_op o) (before_op o) (later (bare b f (omega (arith, whole)) y)))
 
 three_fits : (o : Op) (a b c : Tree) (ts : Trees) (s : Span) → FitsAlone (printed a) → FitsAlone (printed b) → FitsAlone (printed c) → FitsAlone (printed (operator o (more a (more b (more c ts))) s))
 three_fits o a b c ts s x y z =
     let f : ℕ = weight (printed (operator o (more a (more b (more c ts))) s)) in
-    let last : List Spaced = print.after blank (operand c (printed c)) ++ [] in
-    let middle : List Spaced = print.after blank (operand b (printed b)) ++ ((blank, what.Mark mark.Else) ∷ last) in
-    let first : List Spaced = print.after blank (operand a (printed a)) ++ ((blank, what.Mark mark.Then) ∷ middle) in
+    let last : List Printed = print.after blank (operand c (printed c)) ++ [] in
+    let middle : List Printed = print.after blank (operand b (printed b)) ++ (in_print blank (what.Mark mark.Else) ∷ last) in
+    let first : List Printed = print.after blank (operand a (printed a)) ++ (in_print blank (what.Mark mark.Then) ∷ middle) in
     let w3 : weight last ≡ weight (printed c) + 0 = weight_later c [] in
-    let w2 : weight middle ≡ weight (printed b) + suc (weight last) = weight_later b ((blank, what.Mark mark.Else) ∷ last) in
-    let w1 : weight first ≡ weight (printed a) + suc (weight middle) = weight_later a ((blank, what.Mark mark.Then) ∷ middle) in
+    let w2 : weight middle ≡ weight (printed b) + suc (weight last) = weight_later b (in_print blank (what.Mark mark.Else) ∷ last) in
+    let w1 : weight first ≡ weight (printed a) + suc (weight middle) = weight_later a (in_print blank (what.Mark mark.Then) ∷ middle) in
     let whole : f ≡ suc (weight first) = weight_mark [] (op_mark o) first (kept_op o) in
     operand_of
     (tail_before [] (op_mark o) (plain_op o) (before_op o)
@@ -145,7 +146,7 @@ length-printed (more t ts) = ap suc (length-printed ts)
 
 args_last : {at : Side} (f : ℕ) (args : Trees) → IsDue at → suc (weight (commas (all_printed args))) ≤ f → length (list_of args) ≤ most → AllByRecursion FitsAlone (all_printed args) → IsLast at f (parens (commas (all_printed args)))
 args_last f args due h few x =
-    let xs : List (List Spaced) = all_printed args in
+    let xs : List (List Printed) = all_printed args in
     last_more f h (list_last (weight (commas xs)) xs due (all_fit (weight (commas xs)) xs (total_commas xs) x) (omega (arith, few, length-printed args)))
 
 pub call_last : (at : Side) (n : name.Name) (b : Option Bits) (args : Trees) → IsDue at → length (list_of args) ≤ most → AllByRecursion FitsAlone (all_printed args) → IsLast at (weight (printed (call n b args))) (printed (call n b args))
@@ -167,15 +168,15 @@ host_last n args few x =
 -- what is left of the forms
 sampled_fits : (flip : Bool) (e : Tree) (w : Bits) → FitsAlone (printed e) → FitsAlone (printed (sampled flip e w))
 sampled_fits flip e w x =
-    let back : List Spaced = (blank, what.Mark (when_mark flip)) ∷ (blank, what.Word w) ∷ [] in
+    let back : List Printed = in_print blank (what.Mark (when_mark flip)) ∷ in_print blank (what.Word w) ∷ [] in
     let f : ℕ = weight (printed (sampled flip e w)) in
-    let whole : f ≡ weight (printed e) + 2 = weight_first e back ∙ ap (λ n. weight (printed e) + n) (weight_mark blank (when_mark flip) ((blank, what.Word w) ∷ []) (kept_when flip)) in
+    let whole : f ≡ weight (printed e) + 2 = weight_first e back ∙ ap (λ n. weight (printed e) + n) (weight_mark blank (when_mark flip) (in_print blank (what.Word w) ∷ []) (kept_when flip)) in
     operand_and (bare e f (omega (arith, whole)) x) (tail_plain blank (what.Mark (when_mark flip)) (plain_when flip) refl (tail_plain blank (what.Word w) refl refl tail_none))
 
 merged_fits : (w : Bits) (a b : Tree) (s : Span) → FitsAlone (printed a) → FitsAlone (printed b) → FitsAlone (printed (merged w a b s))
 merged_fits w a b s x y =
     let f : ℕ = weight (printed (merged w a b s)) in
-    let back : List Spaced = print.after blank (operand b (printed b)) ++ [] in
+    let back : List Printed = print.after blank (operand b (printed b)) ++ [] in
     let w2 : weight back ≡ weight (printed b) + 0 = weight_later b [] in
     let w1 : weight (print.after blank (operand a (printed a)) ++ back) ≡ weight (printed a) + weight back = weight_later a back in
     let whole : f ≡ suc (suc (weight (print.after blank (operand a (printed a)) ++ back))) = refl in
@@ -184,8 +185,8 @@ merged_fits w a b s x y =
 followed_fits : (l : lit_type.Lit) (e : Tree) (s : Span) → FitsAlone (printed e) → FitsAlone (printed (followed l e s))
 followed_fits l e s x =
     let f : ℕ = weight (printed (followed l e s)) in
-    let back : List Spaced = print.after blank (operand e (printed e)) ++ [] in
-    let whole : f ≡ weight (lit_token l) + suc (weight (printed e) + 0) = weight-append (lit_token l) ((blank, what.Mark mark.Fby) ∷ back) ∙ ap (λ n. weight (lit_token l) + suc n) (weight_later e []) in
+    let back : List Printed = print.after blank (operand e (printed e)) ++ [] in
+    let whole : f ≡ weight (lit_token l) + suc (weight (printed e) + 0) = weight-append (lit_token l) (in_print blank (what.Mark mark.Fby) ∷ back) ∙ ap (λ n. weight (lit_token l) + suc n) (weight_later e []) in
     operand_and (operand_unit (unit_lit l)) (tail_before blank mark.Fby refl refl (later (bare e f (omega (arith, whole)) x)))
 
 buffered_fits : (e : Tree) (s : Span) → FitsAlone (printed e) → FitsAlone (printed (buffered e s))

@@ -19,46 +19,40 @@ use Rattle.lucy_token.specs.declared.mark.Mark.{Mark}
 use Rattle.lucy_token.specs.declared.mark.Mark.TheVariants as mark
 use Rattle.lucy_token.specs.declared.token.What.{What}
 use Rattle.lucy_token.specs.declared.token.What.TheVariants as what
-use Rattle.lucy_token.specs.Spelled.{Printed, all_blank, none_of, apart, apart_from, are_apart}
+use Rattle.lucy_token.specs.Spelled.{Printed, all_blank, none_of, apart, apart_from, are_apart, in_print}
 use Rattle.lucy_token.proofs.FollowLaws.{apart_close, apart_comma}
-use Rattle.lucy_grammar.specs.Printable.{arity, IsPrintable, ArePrintable, IsPrintableDef, IsPrintableNode, IsPrintableProgram, Anywhere}
-use Rattle.lucy_grammar.specs.Print.{Spaced, blank, indent, line, one, the, after, spaced, words, after_commas, commas, parens, name_token, word_token, lit_token, op_mark, when_mark, operated, called, operand, printed, all_printed, operands, type_mark, printed_decl, printed_left, printed_def, more_defs, printed_body, printed_node, more_nodes, printed_program}
-
--- printed tokens as they are cut
-abbrev pub print : Spaced → Printed
-print t = record { blanks = t.0; what = t.1 }
-
-abbrev pub prints : List Spaced → List Printed
-prints ts = map print ts
+use Rattle.lucy_host.specs.Arity.{arity}
+use Rattle.lucy_grammar.specs.Printable.{IsPrintable, ArePrintable, IsPrintableDef, IsPrintableNode, IsPrintableProgram, Anywhere}
+use Rattle.lucy_grammar.specs.Print.{blank, indent, line, one, the, after, spaced, words, after_commas, commas, parens, name_token, word_token, lit_token, op_mark, when_mark, operated, called, operand, printed, all_printed, operands, type_mark, printed_decl, printed_left, printed_def, more_defs, printed_body, printed_node, more_nodes, printed_program}
 
 -- tokens that stand apart, and from every token before them
-pub record IsLoose (rest : List Spaced) : Type 0 where
-  pub apart : are_apart (prints rest) ≡ true
-  pub clear : (v : What) → apart_from v (prints rest) ≡ true
+pub record IsLoose (rest : List Printed) : Type 0 where
+  pub apart : are_apart rest ≡ true
+  pub clear : (v : What) → apart_from v rest ≡ true
 
 -- tokens that stand apart, whatever loose tokens follow
-pub record IsApart (ps : List Spaced) : Type 0 where
-  pub apart : (rest : List Spaced) → IsLoose rest → are_apart (prints (ps ++ rest)) ≡ true
+pub record IsApart (ps : List Printed) : Type 0 where
+  pub apart : (rest : List Printed) → IsLoose rest → are_apart (ps ++ rest) ≡ true
 
 -- directly behind a `(` the first of the tokens opens no comment
-abbrev pub Starts : List Spaced → Type 0
+abbrev pub Starts : List Printed → Type 0
 Starts [] = Unit {0}
-Starts (t ∷ ts) = (not (none_of t.0) || apart (what.Mark mark.Open) t.1) ≡ true
+Starts (t ∷ ts) = (not (none_of t.blanks) || apart (what.Mark mark.Open) t.what) ≡ true
 
-pub record IsLaid (ps : List Spaced) : Type 0 where
+pub record IsLaid (ps : List Printed) : Type 0 where
   pub laid : IsApart ps
   pub starts : Starts ps
 
 -- tokens that are loose before loose ones
-pub record IsFree (ps : List Spaced) : Type 0 where
-  pub loose : (rest : List Spaced) → IsLoose rest → IsLoose (ps ++ rest)
+pub record IsFree (ps : List Printed) : Type 0 where
+  pub loose : (rest : List Printed) → IsLoose rest → IsLoose (ps ++ rest)
 
 pub loose_none : IsLoose []
 loose_none = record { apart = refl; clear = λ v. refl }
 
 -- one token, with blanks before it or not
-put : (blanks : List ℕ) (w : What) (rest : List Spaced) → all_blank blanks ≡ true → apart_from w (prints rest) ≡ true → are_apart (prints rest) ≡ true → are_apart (prints ((blanks, w) ∷ rest)) ≡ true
-put blanks w rest e f h = and_from (all_blank blanks && apart_from w (prints rest)) (are_apart (prints rest)) (and_from (all_blank blanks) (apart_from w (prints rest)) e f) h
+put : (blanks : List ℕ) (w : What) (rest : List Printed) → all_blank blanks ≡ true → apart_from w rest ≡ true → are_apart rest ≡ true → are_apart (in_print blanks w ∷ rest) ≡ true
+put blanks w rest e f h = and_from (all_blank blanks && apart_from w rest) (are_apart rest) (and_from (all_blank blanks) (apart_from w rest) e f) h
 
 apart_one : (w : What) → IsApart (one w)
 apart_one w = record { apart = λ rest h. put [] w rest refl (h.clear w) h.apart }
@@ -73,48 +67,48 @@ laid_none : IsLaid []
 laid_none = record { laid = apart_none; starts = tt }
 
 -- behind blanks
-blanks_loose : (blanks : List ℕ) (a rest : List Spaced) → all_blank blanks ≡ true → none_of blanks ≡ false → IsApart a → IsLoose rest → IsLoose (after blanks a ++ rest)
+blanks_loose : (blanks : List ℕ) (a rest : List Printed) → all_blank blanks ≡ true → none_of blanks ≡ false → IsApart a → IsLoose rest → IsLoose (after blanks a ++ rest)
 blanks_loose blanks [] rest e f x h = h
 blanks_loose blanks (t ∷ a) rest e f x h =
-    let whole = and_parts (all_blank t.0 && apart_from t.1 (prints (a ++ rest))) (are_apart (prints (a ++ rest))) (x.apart rest h) in
-    let first = and_parts (all_blank t.0) (apart_from t.1 (prints (a ++ rest))) whole.0 in
+    let whole = and_parts (all_blank t.blanks && apart_from t.what (a ++ rest)) (are_apart (a ++ rest)) (x.apart rest h) in
+    let first = and_parts (all_blank t.blanks) (apart_from t.what (a ++ rest)) whole.0 in
     record {
-      apart = put blanks t.1 (a ++ rest) e first.1 whole.1;
-      clear = λ v. or_left (not (none_of blanks)) (apart v t.1) (not_from_false (none_of blanks) f);
+      apart = put blanks t.what (a ++ rest) e first.1 whole.1;
+      clear = λ v. or_left (not (none_of blanks)) (apart v t.what) (not_from_false (none_of blanks) f);
     }
 
 pub free_none : IsFree []
 free_none = record { loose = λ rest h. h }
 
-pub free_and : {a b : List Spaced} → IsFree a → IsFree b → IsFree (a ++ b)
+pub free_and : {a b : List Printed} → IsFree a → IsFree b → IsFree (a ++ b)
 free_and {a} {b} x y = record { loose = λ rest h. subst IsLoose (sym (append_assoc a b rest)) (x.loose (b ++ rest) (y.loose rest h)) }
 
-pub free_after : {a : List Spaced} (blanks : List ℕ) → all_blank blanks ≡ true → none_of blanks ≡ false → IsApart a → IsFree (after blanks a)
+pub free_after : {a : List Printed} (blanks : List ℕ) → all_blank blanks ≡ true → none_of blanks ≡ false → IsApart a → IsFree (after blanks a)
 free_after {a} blanks e f x = record { loose = λ rest h. blanks_loose blanks a rest e f x h }
 
-free_blank : {a : List Spaced} → IsApart a → IsFree (after blank a)
+free_blank : {a : List Printed} → IsApart a → IsFree (after blank a)
 free_blank x = free_after blank refl refl x
 
-free_starts : (b : List Spaced) → IsFree b → Starts b
+free_starts : (b : List Printed) → IsFree b → Starts b
 free_starts [] x = tt
 free_starts (t ∷ b) x = (x.loose [] loose_none).clear (what.Mark mark.Open)
 
-pub apart_free : {a b : List Spaced} → IsApart a → IsFree b → IsApart (a ++ b)
+pub apart_free : {a b : List Printed} → IsApart a → IsFree b → IsApart (a ++ b)
 apart_free {a} {b} x y = record {
   apart = λ rest h.
-      let P : List Spaced → Type 0 = λ u. are_apart (prints u) ≡ true in
+      let P : List Printed → Type 0 = λ u. are_apart u ≡ true in
       subst P (sym (append_assoc a b rest)) (x.apart (b ++ rest) (y.loose rest h));
 }
 
-starts_and : (a b : List Spaced) → Starts a → Starts b → Starts (a ++ b)
+starts_and : (a b : List Printed) → Starts a → Starts b → Starts (a ++ b)
 starts_and [] b x y = y
 starts_and (t ∷ a) b x y = x
 
-pub laid_free : {a b : List Spaced} → IsLaid a → IsFree b → IsLaid (a ++ b)
+pub laid_free : {a b : List Printed} → IsLaid a → IsFree b → IsLaid (a ++ b)
 laid_free {a} {b} x y = record { laid = apart_free x.laid y; starts = starts_and a b x.starts (free_starts b y) }
 
 -- a comma and a closing parenthesis stand apart from everything
-free_comma : {b : List Spaced} → IsFree b → IsFree (([], what.Mark mark.Comma) ∷ b)
+free_comma : {b : List Printed} → IsFree b → IsFree (in_print [] (what.Mark mark.Comma) ∷ b)
 free_comma {b} y = record {
   loose = λ rest h.
       let l = y.loose rest h in
@@ -124,11 +118,11 @@ free_comma {b} y = record {
 free_close : IsFree (the mark.Close)
 free_close = record { loose = λ rest h. record { apart = put [] (what.Mark mark.Close) rest refl (h.clear (what.Mark mark.Close)) h.apart; clear = λ v. apart_close v } }
 
-starts_from : (a rest : List Spaced) → Starts a → apart_from (what.Mark mark.Open) (prints rest) ≡ true → apart_from (what.Mark mark.Open) (prints (a ++ rest)) ≡ true
+starts_from : (a rest : List Printed) → Starts a → apart_from (what.Mark mark.Open) rest ≡ true → apart_from (what.Mark mark.Open) (a ++ rest) ≡ true
 starts_from [] rest x h = h
 starts_from (t ∷ a) rest x h = x
 
-pub laid_parens : {a : List Spaced} → IsLaid a → IsLaid (parens a)
+pub laid_parens : {a : List Printed} → IsLaid a → IsLaid (parens a)
 laid_parens {a} x =
     let y : IsLaid (a ++ the mark.Close) = laid_free x free_close in
     record {
@@ -137,18 +131,18 @@ laid_parens {a} x =
     }
 
 -- lists
-free_spaced : (xs : List (List Spaced)) → AllByRecursion IsApart xs → IsFree (spaced xs)
+free_spaced : (xs : List (List Printed)) → AllByRecursion IsApart xs → IsFree (spaced xs)
 free_spaced [] h = free_none
 free_spaced (x ∷ xs) h = free_and (free_blank h.0) (free_spaced xs h.1)
 
-laid_words : (x : List Spaced) (xs : List (List Spaced)) → IsLaid x → AllByRecursion IsApart xs → IsLaid (words (x ∷ xs))
+laid_words : (x : List Printed) (xs : List (List Printed)) → IsLaid x → AllByRecursion IsApart xs → IsLaid (words (x ∷ xs))
 laid_words x xs h k = laid_free h (free_spaced xs k)
 
-free_further : (xs : List (List Spaced)) → AllByRecursion IsLaid xs → IsFree (after_commas xs)
+free_further : (xs : List (List Printed)) → AllByRecursion IsLaid xs → IsFree (after_commas xs)
 free_further [] h = free_none
 free_further (x ∷ xs) h = free_comma (free_and (free_blank h.0.laid) (free_further xs h.1))
 
-pub laid_commas : (xs : List (List Spaced)) → AllByRecursion IsLaid xs → IsLaid (commas xs)
+pub laid_commas : (xs : List (List Printed)) → AllByRecursion IsLaid xs → IsLaid (commas xs)
 laid_commas [] h = laid_none
 laid_commas (x ∷ xs) h = laid_free h.0 (free_further xs h.1)
 
@@ -161,7 +155,7 @@ laid_lit (lit.Int n) = laid_one (what.Number n) refl
 laid_lit (lit.Bool true) = laid_one (what.Mark mark.True) refl
 laid_lit (lit.Bool false) = laid_one (what.Mark mark.False) refl
 
-laid_operand : {a : List Spaced} (t : Tree) → IsLaid a → IsLaid (operand t a)
+laid_operand : {a : List Printed} (t : Tree) → IsLaid a → IsLaid (operand t a)
 laid_operand (literal l span) x = x
 laid_operand (variable n) x = x
 laid_operand _ x = laid_parens x
@@ -170,18 +164,18 @@ abbrev the_apart : (m : Mark) → IsApart (the m)
 the_apart m = apart_one (what.Mark m)
 
 -- an operator that stands first is a keyword, as it is printed with one operand or with three
-abbrev IsFirst : Op → List (List Spaced) → Type 0
+abbrev IsFirst : Op → List (List Printed) → Type 0
 IsFirst o (a ∷ b ∷ []) = Unit {0}
 IsFirst o xs = apart (what.Mark mark.Open) (what.Mark (op_mark o)) ≡ true
 
-laid_operated : (o : Op) (xs : List (List Spaced)) → IsFirst o xs → AllByRecursion IsLaid xs → IsLaid (operated o xs)
+laid_operated : (o : Op) (xs : List (List Printed)) → IsFirst o xs → AllByRecursion IsLaid xs → IsLaid (operated o xs)
 laid_operated o [] f h = laid_one (what.Mark (op_mark o)) f
 laid_operated o (a ∷ []) f h = laid_words (the (op_mark o)) (a ∷ []) (laid_one (what.Mark (op_mark o)) f) (h.0.laid, tt)
 laid_operated o (a ∷ b ∷ []) f h = laid_words a (the (op_mark o) ∷ b ∷ []) h.0 (the_apart (op_mark o), (h.1.0.laid, tt))
 laid_operated o (a ∷ b ∷ c ∷ rest) f h =
     laid_words (the (op_mark o)) (a ∷ the mark.Then ∷ b ∷ the mark.Else ∷ c ∷ []) (laid_one (what.Mark (op_mark o)) f) (h.0.laid, (the_apart mark.Then, (h.1.0.laid, (the_apart mark.Else, (h.1.1.0.laid, tt)))))
 
-laid_called : (n : name.Name) (at : Option Bits) (args : List Spaced) → IsLaid args → IsLaid (called n at args)
+laid_called : (n : name.Name) (at : Option Bits) (args : List Printed) → IsLaid args → IsLaid (called n at args)
 laid_called n None args x = laid_words (name_token n) (args ∷ []) (laid_name n) (x.laid, tt)
 laid_called n (Some w) args x = laid_words (name_token n) (the mark.At ∷ word_token w ∷ args ∷ []) (laid_name n) (the_apart mark.At, (apart_one (what.Word w), (x.laid, tt)))
 
@@ -243,7 +237,7 @@ laid_names : (ns : List name.Name) → AllByRecursion IsLaid (map name_token ns)
 laid_names [] = tt
 laid_names (n ∷ ns) = (laid_name n, laid_names ns)
 
-laid_list : (xs : List (List Spaced)) → AllByRecursion IsLaid xs → IsLaid (parens (commas xs))
+laid_list : (xs : List (List Printed)) → AllByRecursion IsLaid xs → IsLaid (parens (commas xs))
 laid_list xs h = laid_parens (laid_commas xs h)
 
 laid_left : (ds : List decl.Decl) → IsLaid (printed_left ds)
@@ -276,9 +270,9 @@ free_nodes : (ns : List NodeTree) → AllByRecursion (IsPrintableNode Anywhere) 
 free_nodes [] h = free_none
 free_nodes (n ∷ ns) h = free_and (free_after line refl refl (laid_node n h.0).laid) (free_nodes ns h.1)
 
-pub print_apart : (p : ProgramTree) → IsPrintableProgram Anywhere p → are_apart (prints (printed_program p)) ≡ true
+pub print_apart : (p : ProgramTree) → IsPrintableProgram Anywhere p → are_apart (printed_program p) ≡ true
 print_apart [] h = absurd h
 print_apart (n ∷ ns) h =
     let whole : IsApart (printed_program (n ∷ ns)) = apart_free (laid_node n h.0).laid (free_nodes ns h.1) in
-    let P : List Spaced → Type 0 = λ u. are_apart (prints u) ≡ true in
+    let P : List Printed → Type 0 = λ u. are_apart u ≡ true in
     subst P (append-nil (printed_program (n ∷ ns))) (whole.apart [] loose_none)

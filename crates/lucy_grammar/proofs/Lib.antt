@@ -11,6 +11,9 @@ pub mod Repeat
 pub mod Unique
 pub mod Steps
 pub mod Growing
+pub mod LeafProductions
+pub mod NodeProductions
+pub mod Productions
 pub mod Whole
 pub mod SpanLaws
 pub mod Spelling
@@ -18,6 +21,7 @@ pub mod PrintedTrees
 pub mod PrintedCalls
 pub mod PrintedPrograms
 pub mod PrintableLaws
+pub mod ShapedLaws
 pub mod Cores
 pub mod CoreRules
 pub mod CoreLaws

@@ -19,7 +19,9 @@ use Rattle.lucy_grammar.specs.Grammar.{rules}
 use Rattle.lucy_grammar.specs.Derivations.{Deriv, done, take, by_rule, enough, again, absent, present, spelled, value}
 use Rattle.lucy_grammar.specs.Programs.{IsProgram}
 use Rattle.lucy_grammar.specs.Print.{when_mark}
-use Rattle.lucy_grammar.specs.Printable.{arity, IsNamed, IsLit, IsWordBehind, IsPrintable, ArePrintable, AllOfSome, IsPrintableDecl, IsCall, Defines, IsPrintableDef, IsPrintableNode, IsPrintableProgram, StandAfter, Anywhere}
+use Rattle.lucy_host.specs.Arity.{arity}
+use Rattle.lucy_tree.specs.Shaped.{IsCall, Defines}
+use Rattle.lucy_grammar.specs.Printable.{IsNamed, IsLit, IsWordBehind, IsPrintable, ArePrintable, AllOfSome, IsPrintableDecl, IsPrintableDef, IsPrintableNode, IsPrintableProgram, StandAfter, Anywhere}
 
 -- an operator and its right operand, a list of two or more, and an entry that may be missing
 abbrev pub IsLink : (Kind → What → Type 0) → Link → Type 0

@@ -8,10 +8,11 @@ use Rattle.lucy_token.specs.declared.mark.Mark.TheVariants as mark
 use Rattle.lucy_token.specs.declared.token.Kind.{Kind}
 use Rattle.lucy_token.specs.declared.token.What.{What}
 use Rattle.lucy_token.specs.declared.token.What.TheVariants as what
+use Rattle.lucy_token.specs.Spelled.{Printed, in_print}
 use Rattle.lucy_grammar.specs.Symbols.{many, Expr, Pre, Pair, Call, Applied, Base, Args, MoreExpr}
 use Rattle.lucy_grammar.specs.Meanings.{two}
 use Rattle.lucy_grammar.specs.Grammar.{rules}
-use Rattle.lucy_grammar.specs.Print.{Spaced, blank, the, after, after_commas, commas, parens, printed, all_printed}
+use Rattle.lucy_grammar.specs.Print.{blank, the, after, after_commas, commas, parens, printed, all_printed}
 use Rattle.lucy_grammar.specs.Spans.{unplaced_name, unplaced, all_unplaced}
 use Rattle.lucy_grammar.specs.Printable.{IsPrintable, ArePrintable}
 use Rattle.lucy_grammar.proofs.Spelling.{Spells, Is, spell_end, spell_token, spell_after, spell_part, spell_again, spell_there, spell_none, spell_out, spell_rule}
@@ -33,14 +34,14 @@ some_args t ts h =
     let P : Trees → Type 0 = λ u. Is Args (more (unplaced t) u) (commas (all_printed (more t ts))) in
     subst P (trees_of-list_of (all_unplaced ts)) (spell_rule 0 refl (spell_part h.0 (more_args ts h.1)))
 
-a_base : (w : Bits) → Is Base w ((blank, what.Mark mark.At) ∷ (blank, what.Word w) ∷ [])
+a_base : (w : Bits) → Is Base w (in_print blank (what.Mark mark.At) ∷ in_print blank (what.Word w) ∷ [])
 unfolding rules
 a_base w = spell_rule 0 refl (spell_token blank (what.Mark mark.At) refl (spell_token blank (what.Word w) refl spell_end))
 
 -- what stands behind the name of a call
-abbrev behind : Option Bits → Trees → List Spaced
+abbrev behind : Option Bits → Trees → List Printed
 behind None args = after blank (parens (commas (all_printed args)))
-behind (Some w) args = (blank, what.Mark mark.At) ∷ (blank, what.Word w) ∷ after blank (parens (commas (all_printed args)))
+behind (Some w) args = in_print blank (what.Mark mark.At) ∷ in_print blank (what.Word w) ∷ after blank (parens (commas (all_printed args)))
 
 an_applied : (at : Option Bits) (args : Trees) → AreSpelled args → Is Applied (at, all_unplaced args) (behind at args)
 unfolding rules
@@ -62,13 +63,13 @@ the_call n None args h = spell_rule 0 refl (spell_token [] (what.Name n.text) re
 the_call n (Some w) args h = spell_rule 0 refl (spell_token [] (what.Name n.text) refl (spell_part (an_applied (Some w) args h) spell_end))
 
 -- a host form
-pair_pieces : (a b c d : List Spaced) → (a ++ (b ++ (c ++ []))) ++ d ≡ a ++ (b ++ (c ++ d))
+pair_pieces : (a b c d : List Printed) → (a ++ (b ++ (c ++ []))) ++ d ≡ a ++ (b ++ (c ++ d))
 pair_pieces a b c d = append_assoc a (b ++ (c ++ [])) d ∙ ap (λ u. a ++ u) (append_assoc b (c ++ []) d) ∙ ap (λ u. a ++ (b ++ (u ++ d))) (append-nil c)
 
 a_pair : (a b : Tree) → AreSpelled (two a b) → Is Pair (all_unplaced (two a b)) (after blank (parens (commas (all_printed (two a b)))))
 unfolding rules
 a_pair a b (r, (s, _)) =
-    let P : List Spaced → Type 0 = λ u. Is Pair (all_unplaced (two a b)) ((blank, what.Mark mark.Open) ∷ u) in
+    let P : List Printed → Type 0 = λ u. Is Pair (all_unplaced (two a b)) (in_print blank (what.Mark mark.Open) ∷ u) in
     subst P (sym (pair_pieces (printed a) (the mark.Comma) (after blank (printed b)) (the mark.Close)))
     (spell_rule 0 refl (spell_token blank (what.Mark mark.Open) refl (spell_part r (spell_token [] (what.Mark mark.Comma) refl (spell_part (spell_after blank s) (spell_token [] (what.Mark mark.Close) refl spell_end))))))
 

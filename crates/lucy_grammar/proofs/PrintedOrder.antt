@@ -20,35 +20,36 @@ use Rattle.lucy_token.specs.declared.token.Kind.TheVariants as kind
 use Rattle.lucy_token.specs.declared.token.What.{What}
 use Rattle.lucy_token.specs.declared.token.What.TheVariants as what
 use Rattle.lucy_token.specs.States.{wants_word}
-use Rattle.lucy_grammar.specs.Print.{Spaced, blank, indent, line, the, after, spaced, words, after_commas, commas, parens, name_token, lit_token, op_mark, when_mark, operated, called, operand, printed, all_printed, operands, clock, printed_decl, printed_left, printed_def, more_defs, printed_body, printed_node, more_nodes, printed_program, whats}
+use Rattle.lucy_token.specs.Spelled.{Printed, in_print, whats_of}
+use Rattle.lucy_grammar.specs.Print.{blank, indent, line, the, after, spaced, words, after_commas, commas, parens, name_token, lit_token, op_mark, when_mark, operated, called, operand, printed, all_printed, operands, clock, printed_decl, printed_left, printed_def, more_defs, printed_body, printed_node, more_nodes, printed_program}
 use Rattle.lucy_grammar.specs.Printable.{IsNamed, IsLit, IsWordBehind, IsPrintable, ArePrintable, AllOfSome, IsPrintableDecl, IsPrintableDef, IsPrintableNode, IsPrintableProgram, AllMayFollow}
 
 -- where no word is wanted these tokens may be printed, and behind them no word is wanted
-pub record IsWhole (Q : Kind → What → Type 0) (ps : List Spaced) : Type 0 where
-  pub stands : (before : Kind) (ws : List What) → wants_word before ≡ false → ((k : Kind) → wants_word k ≡ false → AllMayFollow Q k ws) → AllMayFollow Q before (whats ps ++ ws)
+pub record IsWhole (Q : Kind → What → Type 0) (ps : List Printed) : Type 0 where
+  pub stands : (before : Kind) (ws : List What) → wants_word before ≡ false → ((k : Kind) → wants_word k ≡ false → AllMayFollow Q k ws) → AllMayFollow Q before (whats_of ps ++ ws)
 
 whole_none : {Q : Kind → What → Type 0} → IsWhole Q []
 whole_none = record { stands = λ before ws f h. h before f }
 
-whole_and : {Q : Kind → What → Type 0} {a b : List Spaced} → IsWhole Q a → IsWhole Q b → IsWhole Q (a ++ b)
+whole_and : {Q : Kind → What → Type 0} {a b : List Printed} → IsWhole Q a → IsWhole Q b → IsWhole Q (a ++ b)
 whole_and {Q = Q} {a = a} {b = b} x y = record {
   stands = λ before ws f h.
       let P : List What → Type 0 = λ u. AllMayFollow Q before u in
-      subst P (sym (ap (λ u. u ++ ws) (map-append (λ t. t.1) a b) ∙ append_assoc (whats a) (whats b) ws)) (x.stands before (whats b ++ ws) f (λ k g. y.stands k ws g h));
+      subst P (sym (ap (λ u. u ++ ws) (map-append (λ (t : Printed). t.what) a b) ∙ append_assoc (whats_of a) (whats_of b) ws)) (x.stands before (whats_of b ++ ws) f (λ k g. y.stands k ws g h));
 }
 
-whole_after : {Q : Kind → What → Type 0} {a : List Spaced} (blanks : List ℕ) → IsWhole Q a → IsWhole Q (after blanks a)
+whole_after : {Q : Kind → What → Type 0} {a : List Printed} (blanks : List ℕ) → IsWhole Q a → IsWhole Q (after blanks a)
 whole_after {a = []} blanks x = x
 whole_after {a = t ∷ a} blanks x = record { stands = x.stands }
 
 -- a mark, a name, a number, and a mark with the word that it wants
-whole_mark : {Q : Kind → What → Type 0} {a : List Spaced} (blanks : List ℕ) (m : Mark) → wants_word (kind.Mark m) ≡ false → IsWhole Q a → IsWhole Q ((blanks, what.Mark m) ∷ a)
+whole_mark : {Q : Kind → What → Type 0} {a : List Printed} (blanks : List ℕ) (m : Mark) → wants_word (kind.Mark m) ≡ false → IsWhole Q a → IsWhole Q (in_print blanks (what.Mark m) ∷ a)
 whole_mark blanks m e x = record { stands = λ before ws f h. (f, x.stands (kind.Mark m) ws e h) }
 
-whole_name : {Q : Kind → What → Type 0} {a : List Spaced} (blanks : List ℕ) (n : name.Name) → IsNamed Q n → IsWhole Q a → IsWhole Q ((blanks, what.Name n.text) ∷ a)
+whole_name : {Q : Kind → What → Type 0} {a : List Printed} (blanks : List ℕ) (n : name.Name) → IsNamed Q n → IsWhole Q a → IsWhole Q (in_print blanks (what.Name n.text) ∷ a)
 whole_name blanks n q x = record { stands = λ before ws f h. ((f, q), x.stands kind.Name ws refl h) }
 
-whole_word : {Q : Kind → What → Type 0} {a : List Spaced} (blanks between : List ℕ) (m : Mark) (w : Bits) → Q (kind.Mark m) (what.Word w) → IsWhole Q a → IsWhole Q ((blanks, what.Mark m) ∷ (between, what.Word w) ∷ a)
+whole_word : {Q : Kind → What → Type 0} {a : List Printed} (blanks between : List ℕ) (m : Mark) (w : Bits) → Q (kind.Mark m) (what.Word w) → IsWhole Q a → IsWhole Q (in_print blanks (what.Mark m) ∷ in_print between (what.Word w) ∷ a)
 whole_word blanks between m w q x = record { stands = λ before ws f h. (f, (q, x.stands kind.Word ws refl h)) }
 
 whole_the : {Q : Kind → What → Type 0} (m : Mark) → wants_word (kind.Mark m) ≡ false → IsWhole Q (the m)
@@ -59,23 +60,23 @@ whole_lit Q (lit.Int n) q = record { stands = λ before ws f h. ((f, q), h kind.
 whole_lit Q (lit.Bool true) q = whole_the mark.True refl
 whole_lit Q (lit.Bool false) q = whole_the mark.False refl
 
-whole_parens : {Q : Kind → What → Type 0} {a : List Spaced} → IsWhole Q a → IsWhole Q (parens a)
+whole_parens : {Q : Kind → What → Type 0} {a : List Printed} → IsWhole Q a → IsWhole Q (parens a)
 whole_parens x = whole_mark [] mark.Open refl (whole_and x (whole_the mark.Close refl))
 
 -- lists
-whole_spaced : {Q : Kind → What → Type 0} (xs : List (List Spaced)) → AllByRecursion (IsWhole Q) xs → IsWhole Q (spaced xs)
+whole_spaced : {Q : Kind → What → Type 0} (xs : List (List Printed)) → AllByRecursion (IsWhole Q) xs → IsWhole Q (spaced xs)
 whole_spaced [] h = whole_none
 whole_spaced (x ∷ xs) h = whole_and (whole_after blank h.0) (whole_spaced xs h.1)
 
-whole_words : {Q : Kind → What → Type 0} (xs : List (List Spaced)) → AllByRecursion (IsWhole Q) xs → IsWhole Q (words xs)
+whole_words : {Q : Kind → What → Type 0} (xs : List (List Printed)) → AllByRecursion (IsWhole Q) xs → IsWhole Q (words xs)
 whole_words [] h = whole_none
 whole_words (x ∷ xs) h = whole_and h.0 (whole_spaced xs h.1)
 
-whole_further : {Q : Kind → What → Type 0} (xs : List (List Spaced)) → AllByRecursion (IsWhole Q) xs → IsWhole Q (after_commas xs)
+whole_further : {Q : Kind → What → Type 0} (xs : List (List Printed)) → AllByRecursion (IsWhole Q) xs → IsWhole Q (after_commas xs)
 whole_further [] h = whole_none
 whole_further (x ∷ xs) h = whole_mark [] mark.Comma refl (whole_and (whole_after blank h.0) (whole_further xs h.1))
 
-whole_commas : {Q : Kind → What → Type 0} (xs : List (List Spaced)) → AllByRecursion (IsWhole Q) xs → IsWhole Q (commas xs)
+whole_commas : {Q : Kind → What → Type 0} (xs : List (List Printed)) → AllByRecursion (IsWhole Q) xs → IsWhole Q (commas xs)
 whole_commas [] h = whole_none
 whole_commas (x ∷ xs) h = whole_and h.0 (whole_further xs h.1)
 
@@ -84,22 +85,22 @@ op_mark-quiet : (o : Op) → wants_word (kind.Mark (op_mark o)) ≡ false
 op_mark-quiet op.Add = refl
 op_mark-quiet _ = refl
 
-whole_operated : {Q : Kind → What → Type 0} (o : Op) (xs : List (List Spaced)) → AllByRecursion (IsWhole Q) xs → IsWhole Q (operated o xs)
+whole_operated : {Q : Kind → What → Type 0} (o : Op) (xs : List (List Printed)) → AllByRecursion (IsWhole Q) xs → IsWhole Q (operated o xs)
 whole_operated o [] h = whole_the (op_mark o) (op_mark-quiet o)
 whole_operated o (a ∷ []) (x, _) = whole_words (the (op_mark o) ∷ a ∷ []) (whole_the (op_mark o) (op_mark-quiet o), (x, tt))
 whole_operated o (a ∷ b ∷ []) (x, (y, _)) = whole_words (a ∷ the (op_mark o) ∷ b ∷ []) (x, (whole_the (op_mark o) (op_mark-quiet o), (y, tt)))
 whole_operated o (a ∷ b ∷ c ∷ rest) (x, (y, (z, _))) =
     whole_words (the (op_mark o) ∷ a ∷ the mark.Then ∷ b ∷ the mark.Else ∷ c ∷ []) (whole_the (op_mark o) (op_mark-quiet o), (x, (whole_the mark.Then refl, (y, (whole_the mark.Else refl, (z, tt))))))
 
-whole_operand : {Q : Kind → What → Type 0} {a : List Spaced} (t : Tree) → IsWhole Q a → IsWhole Q (operand t a)
+whole_operand : {Q : Kind → What → Type 0} {a : List Printed} (t : Tree) → IsWhole Q a → IsWhole Q (operand t a)
 whole_operand (literal l span) x = x
 whole_operand (variable n) x = x
 whole_operand _ x = whole_parens x
 
-whole_sampling : (Q : Kind → What → Type 0) (flip : Bool) (w : Bits) → IsWordBehind Q (when_mark flip) (Some w) → IsWhole Q ((blank, what.Mark (when_mark flip)) ∷ (blank, what.Word w) ∷ [])
+whole_sampling : (Q : Kind → What → Type 0) (flip : Bool) (w : Bits) → IsWordBehind Q (when_mark flip) (Some w) → IsWhole Q (in_print blank (what.Mark (when_mark flip)) ∷ in_print blank (what.Word w) ∷ [])
 whole_sampling Q flip w q = whole_word blank blank (when_mark flip) w q whole_none
 
-whole_called : (Q : Kind → What → Type 0) (n : name.Name) (at : Option Bits) (args : List Spaced) → IsNamed Q n → IsWordBehind Q mark.At at → IsWhole Q args → IsWhole Q (called n at args)
+whole_called : (Q : Kind → What → Type 0) (n : name.Name) (at : Option Bits) (args : List Printed) → IsNamed Q n → IsWordBehind Q mark.At at → IsWhole Q args → IsWhole Q (called n at args)
 whole_called Q n None args p q x = whole_name [] n p (whole_and (whole_after blank x) whole_none)
 whole_called Q n (Some w) args p q x = whole_name [] n p (whole_word blank blank mark.At w q (whole_and (whole_after blank x) whole_none))
 
@@ -182,7 +183,7 @@ whole_program : (Q : Kind → What → Type 0) (p : ProgramTree) → IsPrintable
 whole_program Q [] h = absurd h
 whole_program Q (n ∷ ns) h = whole_and (whole_node Q n h.0) (whole_more_nodes Q ns h.1)
 
-pub printed_order : (Q : Kind → What → Type 0) (p : ProgramTree) → IsPrintableProgram Q p → AllMayFollow Q kind.End (whats (printed_program p))
+pub printed_order : (Q : Kind → What → Type 0) (p : ProgramTree) → IsPrintableProgram Q p → AllMayFollow Q kind.End (whats_of (printed_program p))
 printed_order Q p h =
     let P : List What → Type 0 = λ u. AllMayFollow Q kind.End u in
-    subst P (append-nil (whats (printed_program p))) ((whole_program Q p h).stands kind.End [] refl (λ k f. tt))
+    subst P (append-nil (whats_of (printed_program p))) ((whole_program Q p h).stands kind.End [] refl (λ k f. tt))

@@ -14,25 +14,27 @@ use Rattle.lucy_token.specs.declared.token.Kind.{Kind}
 use Rattle.lucy_token.specs.declared.token.What.{What}
 use Rattle.lucy_token.specs.declared.token.What.TheVariants as what
 use Rattle.lucy_token.specs.declared.token.Token.{Token}
+use Rattle.lucy_token.specs.Spelled.{Printed, in_print, whats_of}
 use Rattle.lucy_grammar.specs.Symbols.{part, many, perhaps, Program, Node, Title, Params, Results, MoreName, Body, Decls, MoreDecl, Decl, Typing, ClockOf, Def, MoreDef, Lefts, Call}
 use Rattle.lucy_grammar.specs.Meanings.{all_of}
 use Rattle.lucy_grammar.specs.Grammar.{rules}
 use Rattle.lucy_grammar.specs.Derivations.{value}
 use Rattle.lucy_grammar.specs.Programs.{IsProgram}
-use Rattle.lucy_grammar.specs.Print.{Spaced, blank, indent, line, the, after, after_commas, commas, parens, name_token, printed, type_mark, printed_decl, printed_left, printed_def, more_defs, printed_body, printed_node, more_nodes, printed_program, whats}
+use Rattle.lucy_grammar.specs.Print.{blank, indent, line, the, after, after_commas, commas, parens, name_token, printed, type_mark, printed_decl, printed_left, printed_def, more_defs, printed_body, printed_node, more_nodes, printed_program}
 use Rattle.lucy_grammar.specs.Spans.{unplaced_token, unplaced_name, unplaced_decl, unplaced, unplaced_def, unplaced_node, unplaced_program, IsAlike}
-use Rattle.lucy_grammar.specs.Printable.{IsNamed, AllOfSome, IsCall, Defines, IsPrintable, IsPrintableDef, IsPrintableNode, IsPrintableProgram}
+use Rattle.lucy_tree.specs.Shaped.{IsCall, Defines}
+use Rattle.lucy_grammar.specs.Printable.{IsNamed, AllOfSome, IsPrintable, IsPrintableDef, IsPrintableNode, IsPrintableProgram}
 use Rattle.lucy_grammar.proofs.SpanLaws.{placed}
 use Rattle.lucy_grammar.proofs.Spelling.{plain, plains, Spells, Is, spell_end, spell_token, spell_after, spell_part, spell_again, spell_there, spell_none, spell_out, spell_given, spell_rule}
 use Rattle.lucy_grammar.proofs.PrintedCalls.{printed_is, all_are, the_call}
 
 -- declarations
-a_typing : (t : DataType) → Is Typing t ((blank, what.Mark mark.Colon) ∷ after blank (the (type_mark t)))
+a_typing : (t : DataType) → Is Typing t (in_print blank (what.Mark mark.Colon) ∷ after blank (the (type_mark t)))
 unfolding rules
 a_typing holds.Int = spell_rule 0 refl (spell_token blank (what.Mark mark.Colon) refl (spell_rule 0 refl (spell_token blank (what.Mark mark.Int) refl spell_end)))
 a_typing holds.Bool = spell_rule 0 refl (spell_token blank (what.Mark mark.Colon) refl (spell_rule 1 refl (spell_token blank (what.Mark mark.Bool) refl spell_end)))
 
-a_clock : (w : Bits) → Is ClockOf w ((blank, what.Mark mark.Colons) ∷ (blank, what.Word w) ∷ [])
+a_clock : (w : Bits) → Is ClockOf w (in_print blank (what.Mark mark.Colons) ∷ in_print blank (what.Word w) ∷ [])
 unfolding rules
 a_clock w = spell_rule 0 refl (spell_token blank (what.Mark mark.Colons) refl (spell_token blank (what.Word w) refl spell_end))
 
@@ -75,7 +77,7 @@ the_results n ns =
 the_lefts : (d e : decl.Decl) (ds : List decl.Decl) → Is Lefts (unplaced_decl d ∷ unplaced_decl e ∷ map unplaced_decl ds) (printed_left (d ∷ e ∷ ds))
 unfolding rules
 the_lefts d e ds =
-    let P : List Spaced → Type 0 = λ u. Is Lefts (unplaced_decl d ∷ unplaced_decl e ∷ map unplaced_decl ds) ((([], what.Mark mark.Open)) ∷ u) in
+    let P : List Printed → Type 0 = λ u. Is Lefts (unplaced_decl d ∷ unplaced_decl e ∷ map unplaced_decl ds) (in_print [] (what.Mark mark.Open) ∷ u) in
     subst P (sym (append_assoc (printed_decl d) (after_commas (map printed_decl (e ∷ ds))) (the mark.Close)))
     (spell_rule 0 refl (spell_token [] (what.Mark mark.Open) refl (spell_part (a_decl d) (spell_token [] (what.Mark mark.Comma) refl (spell_part (some_decls blank e ds) (spell_token [] (what.Mark mark.Close) refl spell_end))))))
 
@@ -106,7 +108,7 @@ further_defs Q [] h = spell_none spell_end
 further_defs Q (d ∷ ds) h = spell_again (spell_rule 0 refl (spell_token indent (what.Mark mark.And) refl (spell_after blank (a_def Q d h.0)))) (further_defs Q ds h.1)
 
 -- nodes
-node_pieces : (a b c d : List Spaced) → (a ++ (b ++ (c ++ []))) ++ d ≡ a ++ (b ++ (c ++ d))
+node_pieces : (a b c d : List Printed) → (a ++ (b ++ (c ++ []))) ++ d ≡ a ++ (b ++ (c ++ d))
 node_pieces a b c d = append_assoc a (b ++ (c ++ [])) d ∙ ap (λ u. a ++ u) (append_assoc b (c ++ []) d) ∙ ap (λ u. a ++ (b ++ (u ++ d))) (append-nil c)
 
 the_body : (Q : Kind → What → Type 0) (ds : List DefTree) → AllByRecursion (IsPrintableDef Q) ds → (body : Option (List DefTree)) × Spells (perhaps Body ∷ []) (body, tt) (printed_body ds) × (all_of body ≡ map unplaced_def ds)
@@ -118,7 +120,7 @@ the_body Q (d ∷ ds) h = (
   refl,
 )
 
-a_title : (n : name.Name) → Is Title (unplaced_name n) (([], what.Mark mark.Let) ∷ (blank, what.Mark mark.Node) ∷ (blank, what.Name n.text) ∷ [])
+a_title : (n : name.Name) → Is Title (unplaced_name n) (in_print [] (what.Mark mark.Let) ∷ in_print blank (what.Mark mark.Node) ∷ in_print blank (what.Name n.text) ∷ [])
 unfolding rules
 a_title n = spell_rule 0 refl (spell_token [] (what.Mark mark.Let) refl (spell_token blank (what.Mark mark.Node) refl (spell_token blank (what.Name n.text) refl spell_end)))
 
@@ -130,11 +132,11 @@ a_node_of Q n ps r rs ds h =
     let head = after blank (parens (commas (map printed_decl ps))) in
     let tail = after blank (parens (commas (map name_token (r ∷ rs)))) in
     let V : List DefTree → NodeTree = λ u. record { name = unplaced_name n; params = map unplaced_decl ps; results = unplaced_name r ∷ map unplaced_name rs; defs = u } in
-    let P : List Spaced → Type 0 = λ u. Is Node (V (all_of body.0)) (([], what.Mark mark.Let) ∷ (blank, what.Mark mark.Node) ∷ (blank, what.Name n.text) ∷ u) in
+    let P : List Printed → Type 0 = λ u. Is Node (V (all_of body.0)) (in_print [] (what.Mark mark.Let) ∷ in_print blank (what.Mark mark.Node) ∷ in_print blank (what.Name n.text) ∷ u) in
     let R : List DefTree → Type 0 = λ u. Is Node (V u) (printed_node (record { name = n; params = ps; results = r ∷ rs; defs = ds })) in
-    let whole : Is Node (V (all_of body.0)) (([], what.Mark mark.Let) ∷ (blank, what.Mark mark.Node) ∷ (blank, what.Name n.text) ∷ (head ++ ((blank, what.Mark mark.Equals) ∷ (tail ++ printed_body ds)))) =
+    let whole : Is Node (V (all_of body.0)) (in_print [] (what.Mark mark.Let) ∷ in_print blank (what.Mark mark.Node) ∷ in_print blank (what.Name n.text) ∷ (head ++ (in_print blank (what.Mark mark.Equals) ∷ (tail ++ printed_body ds)))) =
     spell_rule 0 refl (spell_part (a_title n) (spell_part (the_params ps) (spell_token blank (what.Mark mark.Equals) refl (spell_part (the_results r rs) body.1)))) in
-    subst R body.2 (subst P (sym (node_pieces head ((blank, what.Mark mark.Equals) ∷ []) tail (printed_body ds))) whole)
+    subst R body.2 (subst P (sym (node_pieces head (in_print blank (what.Mark mark.Equals) ∷ []) tail (printed_body ds))) whole)
 
 a_node : (Q : Kind → What → Type 0) (n : NodeTree) → IsPrintableNode Q n → Is Node (unplaced_node n) (printed_node n)
 a_node Q n h = go n.results h.results
@@ -153,17 +155,17 @@ the_program Q [] h = absurd h
 the_program Q (n ∷ ns) h = spell_rule 0 refl (spell_part (a_node Q n h.0) (further_nodes Q ns h.1))
 
 -- tokens with these contents are the printed ones but for places
-same_tokens : (ts : List Token) (ps : List Spaced) → map (λ t. t.what) ts ≡ whats ps → plains ps ≡ map unplaced_token ts
+same_tokens : (ts : List Token) (ps : List Printed) → map (λ t. t.what) ts ≡ whats_of ps → plains ps ≡ map unplaced_token ts
 same_tokens [] [] e = refl
 same_tokens [] (p ∷ ps) e = absurd cc
 same_tokens (t ∷ ts) [] e = absurd cc
 same_tokens (t ∷ ts) (p ∷ ps) e =
-    let one : t.what ≡ p.1 = cc in
-    let rest : map (λ t. t.what) ts ≡ whats ps = cc in
+    let one : t.what ≡ p.what = cc in
+    let rest : map (λ t. t.what) ts ≡ whats_of ps = cc in
     let both = same_tokens ts ps rest in
     ap (λ w. plain w ∷ plains ps) (sym one) ∙ ap (λ u. unplaced_token t ∷ u) both
 
-pub printed_again : (Q : Kind → What → Type 0) (p : ProgramTree) (ts : List Token) → IsPrintableProgram Q p → map (λ t. t.what) ts ≡ whats (printed_program p) →
+pub printed_again : (Q : Kind → What → Type 0) (p : ProgramTree) (ts : List Token) → IsPrintableProgram Q p → map (λ t. t.what) ts ≡ whats_of (printed_program p) →
     (q : ProgramTree) × IsProgram ts q × IsAlike q p
 printed_again Q p ts h e =
     let s = the_program Q p h in

@@ -12,52 +12,53 @@ use Rattle.lucy_tree.specs.declared.expr.Lit.TheVariants as lit
 use Rattle.lucy_tree.specs.Tree.{Tree, Trees, literal, variable, operator, host, sampled, merged, followed, buffered, call, no_more, more}
 use Rattle.lucy_tree.specs.View.{DefTree, NodeTree}
 use Rattle.lucy_token.specs.declared.mark.Mark.TheVariants as mark
+use Rattle.lucy_token.specs.Spelled.{Printed, text_of_what}
 use Rattle.lucy_grammar.specs.Meanings.{two, three}
-use Rattle.lucy_grammar.specs.Print.{Spaced, blank, indent, line, the, after, spaced, words, after_commas, commas, parens, name_token, word_token, lit_token, op_mark, when_mark, operated, called, operand, printed, all_printed, operands, typing, clock, printed_decl, printed_left, printed_def, more_defs, printed_body, printed_node, more_nodes, spelled_what, spaced_text, program_text}
+use Rattle.lucy_grammar.specs.Print.{blank, indent, line, the, after, spaced, words, after_commas, commas, parens, name_token, word_token, lit_token, op_mark, when_mark, operated, called, operand, printed, all_printed, operands, typing, clock, printed_decl, printed_left, printed_def, more_defs, printed_body, printed_node, more_nodes, spaced_text, program_text}
 
-pub text-append : (a b : List Spaced) → spaced_text (a ++ b) ≡ spaced_text a ++ spaced_text b
+pub text-append : (a b : List Printed) → spaced_text (a ++ b) ≡ spaced_text a ++ spaced_text b
 text-append [] b = refl
 text-append (t ∷ a) b =
-    ap (λ u. t.0 ++ (spelled_what t.1 ++ u)) (text-append a b) ∙ ap (λ u. t.0 ++ u) (sym (append_assoc (spelled_what t.1) (spaced_text a) (spaced_text b))) ∙ sym (append_assoc t.0 (spelled_what t.1 ++ spaced_text a) (spaced_text b))
+    ap (λ u. t.blanks ++ (text_of_what t.what ++ u)) (text-append a b) ∙ ap (λ u. t.blanks ++ u) (sym (append_assoc (text_of_what t.what) (spaced_text a) (spaced_text b))) ∙ sym (append_assoc t.blanks (text_of_what t.what ++ spaced_text a) (spaced_text b))
 
 -- there is a first token, without blanks before it
-abbrev pub IsTight : List Spaced → Type 0
+abbrev pub IsTight : List Printed → Type 0
 IsTight [] = ⊥
-IsTight (t ∷ ts) = t.0 ≡ []
+IsTight (t ∷ ts) = t.blanks ≡ []
 
-pub tight-append : (a b : List Spaced) → IsTight a → IsTight (a ++ b)
+pub tight-append : (a b : List Printed) → IsTight a → IsTight (a ++ b)
 tight-append [] b h = absurd h
 tight-append (t ∷ a) b h = h
 
-pub text-after : (blanks : List ℕ) (a : List Spaced) → IsTight a → spaced_text (after blanks a) ≡ blanks ++ spaced_text a
+pub text-after : (blanks : List ℕ) (a : List Printed) → IsTight a → spaced_text (after blanks a) ≡ blanks ++ spaced_text a
 text-after blanks [] h = absurd h
-text-after blanks (t ∷ a) h = ap (λ u. blanks ++ (u ++ (spelled_what t.1 ++ spaced_text a))) (sym h)
+text-after blanks (t ∷ a) h = ap (λ u. blanks ++ (u ++ (text_of_what t.what ++ spaced_text a))) (sym h)
 
-pub text_parens : (a : List Spaced) → spaced_text (parens a) ≡ 40 ∷ (spaced_text a ++ 41 ∷ [])
+pub text_parens : (a : List Printed) → spaced_text (parens a) ≡ 40 ∷ (spaced_text a ++ 41 ∷ [])
 text_parens a = ap (λ u. 40 ∷ u) (text-append a (the mark.Close))
 
 -- texts with a blank, and with a comma and a blank, before each
-abbrev pub blanked : List (List Spaced) → List ℕ
+abbrev pub blanked : List (List Printed) → List ℕ
 blanked [] = []
 blanked (x ∷ xs) = 32 ∷ (spaced_text x ++ blanked xs)
 
-abbrev pub listed : List (List Spaced) → List ℕ
+abbrev pub listed : List (List Printed) → List ℕ
 listed [] = []
 listed (x ∷ xs) = 44 ∷ 32 ∷ (spaced_text x ++ listed xs)
 
-pub text_spaced : (xs : List (List Spaced)) → AllByRecursion IsTight xs → spaced_text (spaced xs) ≡ blanked xs
+pub text_spaced : (xs : List (List Printed)) → AllByRecursion IsTight xs → spaced_text (spaced xs) ≡ blanked xs
 text_spaced [] h = refl
 text_spaced (x ∷ xs) h = text-append (after blank x) (spaced xs) ∙ ap (λ u. u ++ spaced_text (spaced xs)) (text-after blank x h.0) ∙ ap (λ u. 32 ∷ (spaced_text x ++ u)) (text_spaced xs h.1)
 
-pub text_words : (x : List Spaced) (xs : List (List Spaced)) → AllByRecursion IsTight xs → spaced_text (words (x ∷ xs)) ≡ spaced_text x ++ blanked xs
+pub text_words : (x : List Printed) (xs : List (List Printed)) → AllByRecursion IsTight xs → spaced_text (words (x ∷ xs)) ≡ spaced_text x ++ blanked xs
 text_words x xs h = text-append x (spaced xs) ∙ ap (λ u. spaced_text x ++ u) (text_spaced xs h)
 
-text_further : (xs : List (List Spaced)) → AllByRecursion IsTight xs → spaced_text (after_commas xs) ≡ listed xs
+text_further : (xs : List (List Printed)) → AllByRecursion IsTight xs → spaced_text (after_commas xs) ≡ listed xs
 text_further [] h = refl
 text_further (x ∷ xs) h =
     ap (λ u. 44 ∷ u) (text-append (after blank x) (after_commas xs) ∙ ap (λ u. u ++ spaced_text (after_commas xs)) (text-after blank x h.0) ∙ ap (λ u. 32 ∷ (spaced_text x ++ u)) (text_further xs h.1))
 
-pub text_commas : (x : List Spaced) (xs : List (List Spaced)) → AllByRecursion IsTight xs → spaced_text (commas (x ∷ xs)) ≡ spaced_text x ++ listed xs
+pub text_commas : (x : List Printed) (xs : List (List Printed)) → AllByRecursion IsTight xs → spaced_text (commas (x ∷ xs)) ≡ spaced_text x ++ listed xs
 text_commas x xs h = text-append x (after_commas xs) ∙ ap (λ u. spaced_text x ++ u) (text_further xs h)
 
 -- what is printed of a tree has a first token, without blanks
@@ -66,17 +67,17 @@ tight_lit (lit.Int n) = refl
 tight_lit (lit.Bool true) = refl
 tight_lit (lit.Bool false) = refl
 
-tight_operated : (o : Op) (xs : List (List Spaced)) → AllByRecursion IsTight xs → IsTight (operated o xs)
+tight_operated : (o : Op) (xs : List (List Printed)) → AllByRecursion IsTight xs → IsTight (operated o xs)
 tight_operated o [] h = refl
 tight_operated o (a ∷ []) h = refl
 tight_operated o (a ∷ b ∷ []) h = tight-append a _ h.0
 tight_operated o (a ∷ b ∷ c ∷ rest) h = refl
 
-tight_called : (n : Name) (at : Option Bits) (args : List Spaced) → IsTight (called n at args)
+tight_called : (n : Name) (at : Option Bits) (args : List Printed) → IsTight (called n at args)
 tight_called n None args = refl
 tight_called n (Some w) args = refl
 
-tight_bare : (t : Tree) (a : List Spaced) → IsTight a → IsTight (operand t a)
+tight_bare : (t : Tree) (a : List Printed) → IsTight a → IsTight (operand t a)
 tight_bare (literal l span) a h = h
 tight_bare (variable n) a h = h
 tight_bare _ a h = refl

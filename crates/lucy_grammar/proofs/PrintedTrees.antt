@@ -9,47 +9,48 @@ use Rattle.lucy_tree.specs.declared.expr.Lit.TheVariants as lit
 use Rattle.lucy_tree.specs.Tree.{Tree, Trees, literal, variable, operator, sampled, merged, followed, buffered, no_more, more, list_of}
 use Rattle.lucy_token.specs.declared.mark.Mark.TheVariants as mark
 use Rattle.lucy_token.specs.declared.token.What.TheVariants as what
+use Rattle.lucy_token.specs.Spelled.{Printed, in_print}
 use Rattle.lucy_grammar.specs.Symbols.{Expr, Or, And, Cmp, CmpOp, Sum, SumOp, Prod, ProdOp, Samp, Sampling, Pre, Small, Lit}
 use Rattle.lucy_grammar.specs.Meanings.{two, three}
 use Rattle.lucy_grammar.specs.Grammar.{rules}
-use Rattle.lucy_grammar.specs.Print.{Spaced, blank, parens, name_token, lit_token, op_mark, when_mark, operated, operand, printed, operands}
+use Rattle.lucy_grammar.specs.Print.{blank, parens, name_token, lit_token, op_mark, when_mark, operated, operand, printed, operands}
 use Rattle.lucy_grammar.specs.Spans.{nowhere, unplaced_name, unplaced, all_unplaced}
-use Rattle.lucy_grammar.specs.Printable.{arity}
+use Rattle.lucy_host.specs.Arity.{arity}
 use Rattle.lucy_grammar.proofs.Spelling.{Is, spell_end, spell_token, spell_after, spell_part, spell_out, spell_once, spell_given, spell_alone, spell_only, spell_rule}
 
 -- from the nearest part to an expression
-samp_of : {e : Tree} {ts : List Spaced} → Is Pre e ts → Is Samp e ts
+samp_of : {e : Tree} {ts : List Printed} → Is Pre e ts → Is Samp e ts
 unfolding rules
 samp_of r = spell_rule 0 refl (spell_alone r)
 
-prod_of : {e : Tree} {ts : List Spaced} → Is Samp e ts → Is Prod e ts
+prod_of : {e : Tree} {ts : List Printed} → Is Samp e ts → Is Prod e ts
 unfolding rules
 prod_of r = spell_rule 0 refl (spell_alone r)
 
-sum_of : {e : Tree} {ts : List Spaced} → Is Prod e ts → Is Sum e ts
+sum_of : {e : Tree} {ts : List Printed} → Is Prod e ts → Is Sum e ts
 unfolding rules
 sum_of r = spell_rule 0 refl (spell_alone r)
 
-cmp_of : {e : Tree} {ts : List Spaced} → Is Sum e ts → Is Cmp e ts
+cmp_of : {e : Tree} {ts : List Printed} → Is Sum e ts → Is Cmp e ts
 unfolding rules
 cmp_of r = spell_rule 0 refl (spell_only r)
 
-and_of : {e : Tree} {ts : List Spaced} → Is Cmp e ts → Is And e ts
+and_of : {e : Tree} {ts : List Printed} → Is Cmp e ts → Is And e ts
 unfolding rules
 and_of r = spell_rule 0 refl (spell_alone r)
 
-or_of : {e : Tree} {ts : List Spaced} → Is And e ts → Is Or e ts
+or_of : {e : Tree} {ts : List Printed} → Is And e ts → Is Or e ts
 unfolding rules
 or_of r = spell_rule 0 refl (spell_alone r)
 
-expr_of : {e : Tree} {ts : List Spaced} → Is Or e ts → Is Expr e ts
+expr_of : {e : Tree} {ts : List Printed} → Is Or e ts → Is Expr e ts
 unfolding rules
 expr_of r = spell_rule 1 refl r
 
-from_samp : {e : Tree} {ts : List Spaced} → Is Samp e ts → Is Expr e ts
+from_samp : {e : Tree} {ts : List Printed} → Is Samp e ts → Is Expr e ts
 from_samp r = expr_of (or_of (and_of (cmp_of (sum_of (prod_of r)))))
 
-pub from_pre : {e : Tree} {ts : List Spaced} → Is Pre e ts → Is Expr e ts
+pub from_pre : {e : Tree} {ts : List Printed} → Is Pre e ts → Is Expr e ts
 from_pre r = from_samp (samp_of r)
 
 -- literals, names and parentheses
@@ -67,7 +68,7 @@ pub a_variable : (n : name.Name) → Is Pre (variable (unplaced_name n)) (name_t
 unfolding rules
 a_variable n = spell_rule 4 refl (spell_rule 0 refl (spell_token [] (what.Name n.text) refl (spell_out spell_end)))
 
-in_parens : {e : Tree} {ts : List Spaced} → Is Expr e ts → Is Pre e (parens ts)
+in_parens : {e : Tree} {ts : List Printed} → Is Expr e ts → Is Pre e (parens ts)
 unfolding rules
 in_parens r = spell_rule 4 refl (spell_rule 2 refl (spell_token [] (what.Mark mark.Open) refl (spell_part r (spell_token [] (what.Mark mark.Close) refl spell_end))))
 
@@ -133,21 +134,21 @@ an_and a b (r, (s, _)) =
     let right = cmp_of (sum_of (prod_of (samp_of (an_operand b s)))) in
     expr_of (or_of (spell_rule 0 refl (spell_part left (spell_once (spell_rule 0 refl (spell_token blank (what.Mark mark.Both) refl (spell_part (spell_after blank right) spell_end)))))))
 
-a_comparison : (o : Op) → Is CmpOp (o, nowhere) ((blank, what.Mark (op_mark o)) ∷ []) → (a b : Tree) → Operated o (two a b)
+a_comparison : (o : Op) → Is CmpOp (o, nowhere) (in_print blank (what.Mark (op_mark o)) ∷ []) → (a b : Tree) → Operated o (two a b)
 unfolding rules
 a_comparison o h a b (r, (s, _)) =
     let left = sum_of (prod_of (samp_of (an_operand a r))) in
     let right = sum_of (prod_of (samp_of (an_operand b s))) in
     expr_of (or_of (and_of (spell_rule 0 refl (spell_part left (spell_given (spell_rule 0 refl (spell_part h (spell_part (spell_after blank right) spell_end))))))))
 
-a_sum : (o : Op) → Is SumOp (o, nowhere) ((blank, what.Mark (op_mark o)) ∷ []) → (a b : Tree) → Operated o (two a b)
+a_sum : (o : Op) → Is SumOp (o, nowhere) (in_print blank (what.Mark (op_mark o)) ∷ []) → (a b : Tree) → Operated o (two a b)
 unfolding rules
 a_sum o h a b (r, (s, _)) =
     let left = prod_of (samp_of (an_operand a r)) in
     let right = prod_of (samp_of (an_operand b s)) in
     expr_of (or_of (and_of (cmp_of (spell_rule 0 refl (spell_part left (spell_once (spell_rule 0 refl (spell_part h (spell_part (spell_after blank right) spell_end)))))))))
 
-a_product : (o : Op) → Is ProdOp (o, nowhere) ((blank, what.Mark (op_mark o)) ∷ []) → (a b : Tree) → Operated o (two a b)
+a_product : (o : Op) → Is ProdOp (o, nowhere) (in_print blank (what.Mark (op_mark o)) ∷ []) → (a b : Tree) → Operated o (two a b)
 unfolding rules
 a_product o h a b (r, (s, _)) =
     let left = samp_of (an_operand a r) in
@@ -173,7 +174,7 @@ an_operator op.Not args e = one_of (Operated op.Not) a_not args e
 an_operator op.If args e = three_of (Operated op.If) an_if args e
 
 -- samplings, merges, `fby` and `buffer`
-a_sampling : (flip : Bool) (w : Bits) → Is Sampling (flip, w) ((blank, what.Mark (when_mark flip)) ∷ (blank, what.Word w) ∷ [])
+a_sampling : (flip : Bool) (w : Bits) → Is Sampling (flip, w) (in_print blank (what.Mark (when_mark flip)) ∷ in_print blank (what.Word w) ∷ [])
 unfolding rules
 a_sampling false w = spell_rule 0 refl (spell_token blank (what.Mark mark.When) refl (spell_token blank (what.Word w) refl spell_end))
 a_sampling true w = spell_rule 1 refl (spell_token blank (what.Mark mark.Whenot) refl (spell_token blank (what.Word w) refl spell_end))

@@ -11,14 +11,14 @@ use Rattle.lucy_token.specs.Tokens.{kind_of}
 use Rattle.lucy_token.specs.States.{State, start, after, wants_word}
 use Rattle.lucy_token.specs.Cuts.{Cuts}
 use Rattle.lucy_token.specs.Written.{IsWritten, AreWritten}
-use Rattle.lucy_token.specs.Spelled.{text_of_what, bytes_of, whats_of, placed, is_word, IsSpelled, Stands, AllStand, Follows}
+use Rattle.lucy_token.specs.Spelled.{text_of_what, bytes_of, whats_of, placed, is_word, IsSpelled, Stands, AllStand, Follows, Printed}
 use Rattle.lucy_token.proofs.WrittenLaws.{tokens_written, before_after}
 use Rattle.lucy_token.proofs.FollowLaws.{placed_whats}
 use Rattle.lucy_token.proofs.WordAgain.{spelled_again}
 use Rattle.lucy_token.proofs.PrintLaws.{cut_printed}
 use Rattle.lucy_grammar.specs.Programs.{IsProgram}
 use Rattle.lucy_grammar.specs.Parens.{without_parens}
-use Rattle.lucy_grammar.specs.Print.{Spaced, line, spelled_what, spaced_text, whats, printed_program, program_text}
+use Rattle.lucy_grammar.specs.Print.{line, printed_program, program_text}
 use Rattle.lucy_grammar.specs.Printable.{StandAfter, MayFollow, AllMayFollow, IsPrintableProgram, Anywhere}
 use Rattle.lucy_grammar.specs.Spans.{IsAlike}
 use Rattle.lucy_grammar.proofs.PrintableLaws.{printable, all_stand}
@@ -29,7 +29,7 @@ use Rattle.lucy_grammar.proofs.CutLimits.{AllPass, tokens_pass}
 use Rattle.lucy_grammar.proofs.Counts.{Count, count_of, AllCount, counted_on, none_passed, all_count, count_core, core_count}
 use Rattle.lucy_grammar.proofs.FewLaws.{few_entries}
 use Rattle.lucy_grammar.proofs.Weights.{light_program}
-use Rattle.lucy_grammar.proofs.Laid.{prints, print_apart}
+use Rattle.lucy_grammar.proofs.Laid.{print_apart}
 use Rattle.lucy_grammar.proofs.Fitting.{AllFit}
 use Rattle.lucy_grammar.proofs.FittingPrograms.{program_fits}
 
@@ -65,48 +65,48 @@ all_stand_here s (w ∷ ws) order count fit =
     } in
     (here, all_stand_here (after s k) ws (subst P (sym (before_after s k)) order.1) (subst Q (sym (counted_on s k)) count.1) fit.1)
 
--- printed tokens as they are cut
-prints_whats : (ps : List Spaced) → whats_of (prints ps) ≡ whats ps
-prints_whats [] = refl
-prints_whats (p ∷ ps) = ap (λ u. p.1 ∷ u) (prints_whats ps)
+-- the bytes of tokens in print, and those behind them
+bytes-behind : (ps : List Printed) (rest : List ℕ) → bytes_of ps rest ≡ bytes_of ps [] ++ rest
+bytes-behind [] rest = refl
+bytes-behind (p ∷ ps) rest =
+    ap (λ u. p.blanks ++ (text_of_what p.what ++ u)) (bytes-behind ps rest)
+    ∙ ap (λ u. p.blanks ++ u) (sym (append_assoc (text_of_what p.what) (bytes_of ps []) rest))
+    ∙ sym (append_assoc p.blanks (text_of_what p.what ++ bytes_of ps []) rest)
 
-same_spelling : (w : What) → text_of_what w ≡ spelled_what w
-same_spelling (what.Mark m) = refl
-same_spelling (what.Name bytes) = refl
-same_spelling (what.Number n) = refl
-same_spelling (what.Word w) = refl
+-- what is printed of a program that was read may be counted
+core_counts : (text : List ℕ) (ts : List Token) (n : ℕ) (p : ProgramTree) → Cuts 0 start text ts (End n) → IsProgram ts p → AllCount (count_of start) (without_parens (whats_of (printed_program p)))
+core_counts text ts n p q d =
+    let P : List What → Type 0 = λ u. AllCount (count_of start) u in
+    subst P (same_core ts p d) (count_core (count_of start) (map (λ t. t.what) ts) (all_count start ts (tokens_pass q)))
 
-prints_bytes : (ps : List Spaced) (rest : List ℕ) → bytes_of (prints ps) rest ≡ spaced_text ps ++ rest
-prints_bytes [] rest = refl
-prints_bytes (p ∷ ps) rest =
-    ap (λ u. p.0 ++ (text_of_what p.1 ++ u)) (prints_bytes ps rest)
-    ∙ ap (λ u. p.0 ++ (u ++ (spaced_text ps ++ rest))) (same_spelling p.1)
-    ∙ ap (λ u. p.0 ++ u) (sym (append_assoc (spelled_what p.1) (spaced_text ps) rest))
-    ∙ sym (append_assoc p.0 (spelled_what p.1 ++ spaced_text ps) rest)
+pub print_counts : (text : List ℕ) (ts : List Token) (n : ℕ) (p : ProgramTree) → Cuts 0 start text ts (End n) → IsProgram ts p → AllCount (count_of start) (whats_of (printed_program p))
+print_counts text ts n p q d = core_count (count_of start) (whats_of (printed_program p)) (core_counts text ts n p q d)
+
+-- it is printed of tokens as they may be written
+pub written_program : (text : List ℕ) (ts : List Token) (n : ℕ) (p : ProgramTree) → Cuts 0 start text ts (End n) → IsProgram ts p → IsPrintableProgram IsWritten p
+written_program text ts n p q d = printable IsWritten kind.End ts p d (stand_written kind.End ts (tokens_written q))
 
 -- what is printed of a program that was read may stand so
-print_follows : (text : List ℕ) (ts : List Token) (n : ℕ) (p : ProgramTree) → Cuts 0 start text ts (End n) → IsProgram ts p → Follows start (prints (printed_program p))
+print_follows : (text : List ℕ) (ts : List Token) (n : ℕ) (p : ProgramTree) → Cuts 0 start text ts (End n) → IsProgram ts p → Follows start (printed_program p)
 print_follows text ts n p q d =
-    let ws : List What = whats (printed_program p) in
+    let ws : List What = whats_of (printed_program p) in
     let pass : AllPass start ts = tokens_pass q in
     let can : IsPrintableProgram Anywhere p = printable Anywhere kind.End ts p d (all_stand kind.End ts) in
-    let order : AllMayFollow IsWritten kind.End ws = printed_order IsWritten p (printable IsWritten kind.End ts p d (stand_written kind.End ts (tokens_written q))) in
-    let P : List What → Type 0 = λ u. AllCount (count_of start) u in
-    let core : P (without_parens ws) = subst P (same_core ts p d) (count_core (count_of start) (map (λ t. t.what) ts) (all_count start ts pass)) in
-    let fit : AllFit start ws = program_fits p (few_entries start ts p d pass) can (light_program (count_of start) p core) in
+    let order : AllMayFollow IsWritten kind.End ws = printed_order IsWritten p (written_program text ts n p q d) in
+    let fit : AllFit start ws = program_fits p (few_entries start ts p d pass) can (light_program (count_of start) p (core_counts text ts n p q d)) in
     record {
-      stand = subst (AllStand start) (sym (prints_whats (printed_program p))) (all_stand_here start ws order (core_count (count_of start) ws core) fit);
+      stand = all_stand_here start ws order (print_counts text ts n p q d) fit;
       apart = print_apart p can;
     }
 
 pub read_again : (text : List ℕ) (ts : List Token) (n : ℕ) (p : ProgramTree) → Cuts 0 start text ts (End n) → IsProgram ts p →
     (us : List Token) × (q : ProgramTree) × Cuts 0 start (program_text p) us (End (length (program_text p))) × IsProgram us q × IsAlike q p
 read_again text ts n p q d =
-    let ps : List Spaced = printed_program p in
-    let us : List Token = placed 0 (prints ps) in
+    let ps : List Printed = printed_program p in
+    let us : List Token = placed 0 ps in
     let P : List ℕ → Type 0 = λ u. Cuts 0 start u us (End (0 + length u)) in
     let Q : ℕ → Type 0 = λ to. Cuts 0 start (program_text p) us (End to) in
-    let same : map (λ t. t.what) us ≡ whats ps = placed_whats 0 (prints ps) ∙ prints_whats ps in
+    let same : map (λ t. t.what) us ≡ whats_of ps = placed_whats 0 ps in
     let r = printed_again Anywhere p us (printable Anywhere kind.End ts p d (all_stand kind.End ts)) same in
-    let cut : Q (0 + length (program_text p)) = subst P (prints_bytes ps line) (cut_printed 0 start (prints ps) line (print_follows text ts n p q d) refl) in
+    let cut : Q (0 + length (program_text p)) = subst P (bytes-behind ps line) (cut_printed 0 start ps line (print_follows text ts n p q d) refl) in
     (us, r.0, subst Q (let e : 0 + length (program_text p) ≡ length (program_text p) = omega arith in e) cut, r.1, r.2)

@@ -17,43 +17,44 @@ use Rattle.lucy_tree.specs.View.{DefTree, NodeTree, ProgramTree}
 use Rattle.lucy_token.specs.declared.mark.Mark.TheVariants as mark
 use Rattle.lucy_token.specs.declared.token.Kind.TheVariants as kind
 use Rattle.lucy_token.specs.declared.token.What.{What}
-use Rattle.lucy_grammar.specs.Print.{Spaced, blank, indent, line, the, after, spaced, words, after_commas, commas, parens, name_token, word_token, lit_token, op_mark, when_mark, operated, called, operand, printed, all_printed, operands, printed_decl, printed_left, printed_def, more_defs, printed_body, printed_node, more_nodes, printed_program}
+use Rattle.lucy_token.specs.Spelled.{Printed}
+use Rattle.lucy_grammar.specs.Print.{blank, indent, line, the, after, spaced, words, after_commas, commas, parens, name_token, word_token, lit_token, op_mark, when_mark, operated, called, operand, printed, all_printed, operands, printed_decl, printed_left, printed_def, more_defs, printed_body, printed_node, more_nodes, printed_program}
 use Rattle.lucy_grammar.proofs.Cores.{core, core-append, core-after, core-parens, core-operand, put_after}
 use Rattle.lucy_grammar.proofs.Counts.{Count, count_on, AllCount, count_behind, IsCounted, few_tokens}
 
 -- tokens of a definition
-abbrev AreOwn : List Spaced → Type 0
+abbrev AreOwn : List Printed → Type 0
 AreOwn ps = AllByRecursion IsCounted (core ps)
 
 all_append : (a b : List What) → AllByRecursion IsCounted a → AllByRecursion IsCounted b → AllByRecursion IsCounted (a ++ b)
 all_append [] b h k = k
 all_append (w ∷ a) b h k = (h.0, all_append a b h.1 k)
 
-own_and : (a b : List Spaced) → AreOwn a → AreOwn b → AreOwn (a ++ b)
+own_and : (a b : List Printed) → AreOwn a → AreOwn b → AreOwn (a ++ b)
 own_and a b h k = subst (AllByRecursion IsCounted) (sym (core-append a b)) (all_append (core a) (core b) h k)
 
-own_blank : (a : List Spaced) → AreOwn a → AreOwn (after blank a)
+own_blank : (a : List Printed) → AreOwn a → AreOwn (after blank a)
 own_blank a h = subst (AllByRecursion IsCounted) (sym (core-after blank a)) h
 
-own_parens : (a : List Spaced) → AreOwn a → AreOwn (parens a)
+own_parens : (a : List Printed) → AreOwn a → AreOwn (parens a)
 own_parens a h = subst (AllByRecursion IsCounted) (sym (core-parens a)) h
 
-own_operand : (t : Tree) (a : List Spaced) → AreOwn a → AreOwn (operand t a)
+own_operand : (t : Tree) (a : List Printed) → AreOwn a → AreOwn (operand t a)
 own_operand t a h = subst (AllByRecursion IsCounted) (sym (core-operand t a)) h
 
-own_spaced : (xs : List (List Spaced)) → AllByRecursion AreOwn xs → AreOwn (spaced xs)
+own_spaced : (xs : List (List Printed)) → AllByRecursion AreOwn xs → AreOwn (spaced xs)
 own_spaced [] h = tt
 own_spaced (x ∷ xs) h = own_and (after blank x) (spaced xs) (own_blank x h.0) (own_spaced xs h.1)
 
-own_words : (xs : List (List Spaced)) → AllByRecursion AreOwn xs → AreOwn (words xs)
+own_words : (xs : List (List Printed)) → AllByRecursion AreOwn xs → AreOwn (words xs)
 own_words [] h = tt
 own_words (x ∷ xs) h = own_and x (spaced xs) h.0 (own_spaced xs h.1)
 
-own_further : (xs : List (List Spaced)) → AllByRecursion AreOwn xs → AreOwn (after_commas xs)
+own_further : (xs : List (List Printed)) → AllByRecursion AreOwn xs → AreOwn (after_commas xs)
 own_further [] h = tt
 own_further (x ∷ xs) h = (tt, own_and (after blank x) (after_commas xs) (own_blank x h.0) (own_further xs h.1))
 
-own_list : (xs : List (List Spaced)) → AllByRecursion AreOwn xs → AreOwn (parens (commas xs))
+own_list : (xs : List (List Printed)) → AllByRecursion AreOwn xs → AreOwn (parens (commas xs))
 own_list [] h = tt
 own_list (x ∷ xs) h = own_parens (x ++ after_commas xs) (own_and x (after_commas xs) h.0 (own_further xs h.1))
 
@@ -70,13 +71,13 @@ own_lit (lit.Int n) = (tt, tt)
 own_lit (lit.Bool true) = (tt, tt)
 own_lit (lit.Bool false) = (tt, tt)
 
-own_operated : (o : Op) (xs : List (List Spaced)) → AllByRecursion AreOwn xs → AreOwn (operated o xs)
+own_operated : (o : Op) (xs : List (List Printed)) → AllByRecursion AreOwn xs → AreOwn (operated o xs)
 own_operated o [] h = own_op o
 own_operated o (a ∷ []) h = own_words (the (op_mark o) ∷ a ∷ []) (own_op o, h)
 own_operated o (a ∷ b ∷ []) h = own_words (a ∷ the (op_mark o) ∷ b ∷ []) (h.0, (own_op o, h.1))
 own_operated o (a ∷ b ∷ c ∷ rest) h = own_words (the (op_mark o) ∷ a ∷ the mark.Then ∷ b ∷ the mark.Else ∷ c ∷ []) (own_op o, (h.0, ((tt, tt), (h.1.0, ((tt, tt), (h.1.1.0, tt))))))
 
-own_called : (n : name.Name) (at : Option Bits) (args : List Spaced) → AreOwn args → AreOwn (called n at args)
+own_called : (n : name.Name) (at : Option Bits) (args : List Printed) → AreOwn args → AreOwn (called n at args)
 own_called n None args h = own_words (name_token n ∷ args ∷ []) ((tt, tt), (h, tt))
 own_called n (Some w) args h = own_words (name_token n ∷ the mark.At ∷ word_token w ∷ args ∷ []) ((tt, tt), ((tt, tt), ((tt, tt), (h, tt))))
 
@@ -122,7 +123,7 @@ own_def : (d : DefTree) → AreOwn (printed_def d)
 own_def d = own_words (printed_left d.left ∷ the mark.Equals ∷ printed d.right ∷ []) (own_left d.left, ((tt, tt), (own_tree d.right, tt)))
 
 -- how many tokens there are but for parentheses
-abbrev pub weight : List Spaced → ℕ
+abbrev pub weight : List Printed → ℕ
 weight ps = length (core ps)
 
 abbrev pub IsLight : DefTree → Type 0
@@ -138,7 +139,7 @@ record Counted (P : Type 0) (rest : List What) : Type 0 where
   left : AllCount from rest
 
 -- a definition, where the counting begins, and what follows it
-light_def : (c : Count) (blanks : List ℕ) (d : DefTree) (b : List Spaced) (rest : List What) → c.in_head ≡ false → c.tokens ≡ 0 → AllCount c (core (after blanks (printed_def d) ++ b) ++ rest) → Counted (IsLight d) (core b ++ rest)
+light_def : (c : Count) (blanks : List ℕ) (d : DefTree) (b : List Printed) (rest : List What) → c.in_head ≡ false → c.tokens ≡ 0 → AllCount c (core (after blanks (printed_def d) ++ b) ++ rest) → Counted (IsLight d) (core b ++ rest)
 light_def c blanks d b rest e f h =
     let P : List What → Type 0 = λ u. AllCount c u in
     let a : List What = core (printed_def d) in
@@ -162,7 +163,7 @@ light_body c (d ∷ ds) rest h =
 
 light_node : (c : Count) (n : NodeTree) (rest : List What) → AllCount c (core (printed_node n) ++ rest) → Counted (AreLight n) rest
 light_node c n rest h =
-    let head : List Spaced = words (the mark.Let ∷ the mark.Node ∷ name_token n.name ∷ parens (commas (map printed_decl n.params)) ∷ the mark.Equals ∷ parens (commas (map name_token n.results)) ∷ []) in
+    let head : List Printed = words (the mark.Let ∷ the mark.Node ∷ name_token n.name ∷ parens (commas (map printed_decl n.params)) ∷ the mark.Equals ∷ parens (commas (map name_token n.results)) ∷ []) in
     let P : List What → Type 0 = λ u. AllCount c u in
     let whole : P (core head ++ (core (printed_body n.defs) ++ rest)) = subst P (ap (λ u. u ++ rest) (core-append head (printed_body n.defs)) ∙ append_assoc (core head) (core (printed_body n.defs)) rest) h in
     let r = count_behind c (core head) (core (printed_body n.defs) ++ rest) whole in

@@ -10,3 +10,4 @@ pub mod Print
 pub mod Spans
 pub mod Printable
 pub mod Parens
+pub mod Texts

@@ -1,8 +1,6 @@
 -- How a program is printed: its tokens in order, each with the blanks before it.
 use Rattle.std.specs.Prelude.{ℕ, Bool, true, false, List, [], ◌∷◌, ◌++◌, Option, Some, None, map}
-use Rattle.std.specs.Fmt.{signed_decimal}
 use Rattle.lucy_word.specs.Bits.{Bits}
-use Rattle.lucy_word.specs.Spelling.{text_of}
 use Rattle.lucy_host.specs.declared.op.Op.{Op}
 use Rattle.lucy_host.specs.declared.op.Op.TheVariants as op
 use Rattle.lucy_host.specs.declared.data_type.DataType.{DataType}
@@ -17,11 +15,7 @@ use Rattle.lucy_token.specs.declared.mark.Mark.{Mark}
 use Rattle.lucy_token.specs.declared.mark.Mark.TheVariants as mark
 use Rattle.lucy_token.specs.declared.token.What.{What}
 use Rattle.lucy_token.specs.declared.token.What.TheVariants as what
-use Rattle.lucy_token.specs.Marks.{spelling}
-
--- a token, and the bytes of the blanks before it
-abbrev pub Spaced : Type 0
-Spaced = List ℕ × What
+use Rattle.lucy_token.specs.Spelled.{Printed, in_print, bytes_of}
 
 -- a blank; the end of a line; and the end of a line with two blanks
 abbrev pub blank : List ℕ
@@ -34,45 +28,45 @@ abbrev pub indent : List ℕ
 indent = 10 ∷ 32 ∷ 32 ∷ []
 
 -- a token without blanks before it, and a keyword or a sign
-abbrev pub one : What → List Spaced
-one w = ([], w) ∷ []
+abbrev pub one : What → List Printed
+one w = in_print [] w ∷ []
 
-abbrev pub the : Mark → List Spaced
+abbrev pub the : Mark → List Printed
 the m = one (what.Mark m)
 
 -- with these blanks before the first of the tokens
-abbrev pub after : List ℕ → List Spaced → List Spaced
+abbrev pub after : List ℕ → List Printed → List Printed
 after blanks [] = []
-after blanks (t ∷ ts) = (blanks, t.1) ∷ ts
+after blanks (t ∷ ts) = in_print blanks t.what ∷ ts
 
 -- with a blank before each, and with one between two
-abbrev pub spaced : List (List Spaced) → List Spaced
+abbrev pub spaced : List (List Printed) → List Printed
 spaced [] = []
 spaced (x ∷ xs) = after blank x ++ spaced xs
 
-abbrev pub words : List (List Spaced) → List Spaced
+abbrev pub words : List (List Printed) → List Printed
 words [] = []
 words (x ∷ xs) = x ++ spaced xs
 
 -- with `, ` before each, and with it between two
-abbrev pub after_commas : List (List Spaced) → List Spaced
+abbrev pub after_commas : List (List Printed) → List Printed
 after_commas [] = []
 after_commas (x ∷ xs) = the mark.Comma ++ after blank x ++ after_commas xs
 
-abbrev pub commas : List (List Spaced) → List Spaced
+abbrev pub commas : List (List Printed) → List Printed
 commas [] = []
 commas (x ∷ xs) = x ++ after_commas xs
 
-abbrev pub parens : List Spaced → List Spaced
+abbrev pub parens : List Printed → List Printed
 parens x = the mark.Open ++ x ++ the mark.Close
 
-abbrev pub name_token : Name → List Spaced
+abbrev pub name_token : Name → List Printed
 name_token name = one (what.Name name.text)
 
-abbrev pub word_token : Bits → List Spaced
+abbrev pub word_token : Bits → List Printed
 word_token w = one (what.Word w)
 
-abbrev pub lit_token : Lit → List Spaced
+abbrev pub lit_token : Lit → List Printed
 lit_token (lit.Int n) = one (what.Number n)
 lit_token (lit.Bool true) = the mark.True
 lit_token (lit.Bool false) = the mark.False
@@ -100,25 +94,25 @@ when_mark false = mark.When
 when_mark true = mark.Whenot
 
 -- an operator with its operands: `not A`, `A + B`, `if A then B else C`
-abbrev pub operated : Op → List (List Spaced) → List Spaced
+abbrev pub operated : Op → List (List Printed) → List Printed
 operated o [] = the (op_mark o)
 operated o (a ∷ []) = words (the (op_mark o) ∷ a ∷ [])
 operated o (a ∷ b ∷ []) = words (a ∷ the (op_mark o) ∷ b ∷ [])
 operated o (a ∷ b ∷ c ∷ rest) = words (the (op_mark o) ∷ a ∷ the mark.Then ∷ b ∷ the mark.Else ∷ c ∷ [])
 
 -- a call, with the word of its base where it is written
-abbrev pub called : Name → Option Bits → List Spaced → List Spaced
+abbrev pub called : Name → Option Bits → List Printed → List Printed
 called name None args = words (name_token name ∷ args ∷ [])
 called name (Some w) args = words (name_token name ∷ the mark.At ∷ word_token w ∷ args ∷ [])
 
 -- an operand is bare where it is a literal or a name, and else in parentheses
-abbrev pub operand : Tree → List Spaced → List Spaced
+abbrev pub operand : Tree → List Printed → List Printed
 operand (literal l span) x = x
 operand (variable name) x = x
 operand _ x = parens x
 
 abbrev mutual
-  pub printed : Tree → List Spaced
+  pub printed : Tree → List Printed
   printed (literal l span) = lit_token l
   printed (variable name) = name_token name
   printed (operator o args span) = operated o (operands args)
@@ -129,11 +123,11 @@ abbrev mutual
   printed (buffered e span) = words (the mark.Buffer ∷ operand e (printed e) ∷ [])
   printed (call name at args) = called name at (parens (commas (all_printed args)))
 
-  pub all_printed : Trees → List (List Spaced)
+  pub all_printed : Trees → List (List Printed)
   all_printed no_more = []
   all_printed (more t ts) = printed t ∷ all_printed ts
 
-  pub operands : Trees → List (List Spaced)
+  pub operands : Trees → List (List Printed)
   operands no_more = []
   operands (more t ts) = operand t (printed t) ∷ operands ts
 
@@ -142,64 +136,52 @@ type_mark holds.Int = mark.Int
 type_mark holds.Bool = mark.Bool
 
 -- a written type, and the word of a written clock
-abbrev pub typing : Option DataType → List (List Spaced)
+abbrev pub typing : Option DataType → List (List Printed)
 typing None = []
 typing (Some t) = the mark.Colon ∷ the (type_mark t) ∷ []
 
-abbrev pub clock : Option Bits → List (List Spaced)
+abbrev pub clock : Option Bits → List (List Printed)
 clock None = []
 clock (Some w) = the mark.Colons ∷ word_token w ∷ []
 
-abbrev pub printed_decl : Decl → List Spaced
+abbrev pub printed_decl : Decl → List Printed
 printed_decl d = words (name_token d.name ∷ (typing d.holds ++ clock d.word))
 
 -- the left side of a definition: one name without parentheses
-abbrev pub printed_left : List Decl → List Spaced
+abbrev pub printed_left : List Decl → List Printed
 printed_left [] = parens []
 printed_left (d ∷ []) = printed_decl d
 printed_left (d ∷ e ∷ ds) = parens (commas (map printed_decl (d ∷ e ∷ ds)))
 
-abbrev pub printed_def : DefTree → List Spaced
+abbrev pub printed_def : DefTree → List Printed
 printed_def d = words (printed_left d.left ∷ the mark.Equals ∷ printed d.right ∷ [])
 
 -- each further definition on a line of its own
-abbrev pub more_defs : List DefTree → List Spaced
+abbrev pub more_defs : List DefTree → List Printed
 more_defs [] = []
 more_defs (d ∷ ds) = after indent (the mark.And) ++ after blank (printed_def d) ++ more_defs ds
 
-abbrev pub printed_body : List DefTree → List Spaced
+abbrev pub printed_body : List DefTree → List Printed
 printed_body [] = []
 printed_body (d ∷ ds) = spaced (the mark.Where ∷ the mark.Rec ∷ []) ++ after indent (printed_def d) ++ more_defs ds
 
-abbrev pub printed_node : NodeTree → List Spaced
+abbrev pub printed_node : NodeTree → List Printed
 printed_node n =
     words (the mark.Let ∷ the mark.Node ∷ name_token n.name ∷ parens (commas (map printed_decl n.params)) ∷ the mark.Equals ∷ parens (commas (map name_token n.results)) ∷ [])
     ++ printed_body n.defs
 
 -- each further node on a line of its own
-abbrev pub more_nodes : List NodeTree → List Spaced
+abbrev pub more_nodes : List NodeTree → List Printed
 more_nodes [] = []
 more_nodes (n ∷ ns) = after line (printed_node n) ++ more_nodes ns
 
-abbrev pub printed_program : ProgramTree → List Spaced
+abbrev pub printed_program : ProgramTree → List Printed
 printed_program [] = []
 printed_program (n ∷ ns) = printed_node n ++ more_nodes ns
 
--- the printed tokens
-abbrev pub whats : List Spaced → List What
-whats ts = map (λ t. t.1) ts
-
--- how a token is spelled
-abbrev pub spelled_what : What → List ℕ
-spelled_what (what.Mark m) = spelling m
-spelled_what (what.Name bytes) = bytes
-spelled_what (what.Number n) = signed_decimal n
-spelled_what (what.Word w) = text_of w
-
--- the bytes of tokens with the blanks before them
-abbrev pub spaced_text : List Spaced → List ℕ
-spaced_text [] = []
-spaced_text (t ∷ ts) = t.0 ++ (spelled_what t.1 ++ spaced_text ts)
+-- the bytes of tokens in print
+abbrev pub spaced_text : List Printed → List ℕ
+spaced_text ts = bytes_of ts []
 
 -- the text of a printed program
 abbrev pub program_text : ProgramTree → List ℕ

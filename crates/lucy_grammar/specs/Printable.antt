@@ -2,17 +2,17 @@
 -- they must, and several names are defined by a call.
 --
 -- Q says of names, numbers and words that they may stand as tokens after one of a kind.
-use Rattle.std.specs.Prelude.{ℕ, false, List, [], ◌∷◌, ◌≡◌, length, Option, Some, None}
+use Rattle.std.specs.Prelude.{false, List, [], ◌∷◌, ◌≡◌, length, Option, Some, None}
 use Rattle.std.specs.List.{AllByRecursion}
 use Rattle.lucy_word.specs.Bits.{Bits}
-use Rattle.lucy_host.specs.declared.op.Op.{Op}
-use Rattle.lucy_host.specs.declared.op.Op.TheVariants as op
+use Rattle.lucy_host.specs.Arity.{arity}
 use Rattle.lucy_tree.specs.declared.span.Name.{Name}
 use Rattle.lucy_tree.specs.declared.decl.Decl.{Decl}
 use Rattle.lucy_tree.specs.declared.expr.Lit.{Lit}
 use Rattle.lucy_tree.specs.declared.expr.Lit.TheVariants as lit
 use Rattle.lucy_tree.specs.Tree.{Tree, Trees, literal, variable, operator, host, sampled, merged, followed, buffered, call, no_more, more, list_of}
 use Rattle.lucy_tree.specs.View.{DefTree, NodeTree, ProgramTree}
+use Rattle.lucy_tree.specs.Shaped.{Defines}
 use Rattle.lucy_token.specs.declared.mark.Mark.{Mark}
 use Rattle.lucy_token.specs.declared.mark.Mark.TheVariants as mark
 use Rattle.lucy_token.specs.declared.token.Kind.{Kind}
@@ -23,12 +23,6 @@ use Rattle.lucy_token.specs.declared.token.Token.{Token}
 use Rattle.lucy_token.specs.Tokens.{kind_of}
 use Rattle.lucy_token.specs.States.{wants_word}
 use Rattle.lucy_grammar.specs.Print.{when_mark}
-
--- how many operands an operator takes
-abbrev pub arity : Op → ℕ
-arity op.Not = 1
-arity op.If = 3
-arity _ = 2
 
 -- the name may stand somewhere
 abbrev pub IsNamed : (Kind → What → Type 0) → Name → Type 0
@@ -66,16 +60,6 @@ AllOfSome P (x ∷ xs) = P x × AllByRecursion P xs
 
 abbrev pub IsPrintableDecl : (Kind → What → Type 0) → Decl → Type 0
 IsPrintableDecl Q d = IsNamed Q d.name × IsWordBehind Q mark.Colons d.word
-
-abbrev pub IsCall : Tree → Type 0
-IsCall (call name at args) = Unit {0}
-IsCall _ = ⊥
-
--- one name by any expression, several by a call
-abbrev pub Defines : List Decl → Tree → Type 0
-Defines [] e = ⊥
-Defines (d ∷ []) e = Unit {0}
-Defines (d ∷ e ∷ ds) right = IsCall right
 
 pub record IsPrintableDef (Q : Kind → What → Type 0) (d : DefTree) : Type 0 where
   pub left : AllByRecursion (IsPrintableDecl Q) d.left

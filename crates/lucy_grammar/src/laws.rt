@@ -4,8 +4,9 @@ ghost use Rattle.lucy_token.specs.declared.token.Token.{Token};
 ghost use Rattle.lucy_token.specs.declared.stop.Stop.TheVariants.{End};
 ghost use Rattle.lucy_token.specs.States.{start};
 ghost use Rattle.lucy_token.specs.Cuts.{Cuts};
+ghost use Rattle.lucy_token.specs.Spelled.{whats_of};
 ghost use Rattle.lucy_grammar.specs.Parens.{without_parens};
-ghost use Rattle.lucy_grammar.specs.Print.{printed_program, program_text, whats};
+ghost use Rattle.lucy_grammar.specs.Print.{printed_program, program_text};
 ghost use Rattle.lucy_grammar.specs.Printable.{IsPrintableProgram, Anywhere};
 ghost use Rattle.lucy_grammar.specs.Programs.{IsProgram, BeginsProgram, IsFirstUnfit};
 ghost use Rattle.lucy_grammar.specs.Spans.{IsAlike};
@@ -27,8 +28,8 @@ pub fn one_refusal()
 /// program again, but for places.
 pub fn printed_again()
     ensures printable { (ts : List Token) (p : ProgramTree) → IsProgram ts p → IsPrintableProgram Anywhere p }
-    ensures parens { (ts : List Token) (p : ProgramTree) → IsProgram ts p → without_parens (map (λ t. t.what) ts) ≡ without_parens (whats (printed_program p)) }
-    ensures again { (p : ProgramTree) (ts : List Token) → IsPrintableProgram Anywhere p → map (λ t. t.what) ts ≡ whats (printed_program p) → (q : ProgramTree) × IsProgram ts q × IsAlike q p }
+    ensures parens { (ts : List Token) (p : ProgramTree) → IsProgram ts p → without_parens (map (λ t. t.what) ts) ≡ without_parens (whats_of (printed_program p)) }
+    ensures again { (p : ProgramTree) (ts : List Token) → IsPrintableProgram Anywhere p → map (λ t. t.what) ts ≡ whats_of (printed_program p) → (q : ProgramTree) × IsProgram ts q × IsAlike q p }
 {}
 
 /// The text that is printed of a program read from a text is cut into tokens up to its end, and they are that program

@@ -1,7 +1,8 @@
 //! The grammar of programs: its productions with what each stands for, what it is for tokens to be a program, to begin
-//! one, and to be refused, and how a program is printed.
+//! one, and to be refused, when a text has a tree, and how a program is printed.
 //!
-//! It stands on `lucy_word`, `lucy_host`, `lucy_tree` and `lucy_token`. Begin with the table, `specs/Grammar.antt`.
+//! It stands on `lucy_word`, `lucy_host`, `lucy_tree` and `lucy_token`. Begin with the table, `specs/Grammar.antt`;
+//! `specs/Texts.antt` says which texts have a tree and why one is refused, and `specs/Print.antt` how a program is printed.
 #![tactic(auto)]
 
 mod laws;

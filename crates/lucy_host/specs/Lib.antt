@@ -1,3 +1,4 @@
 pub mod Numbers
 pub mod OpValue
 pub mod HostValue
+pub mod Arity

@@ -1,16 +1,19 @@
 //! The worked rows: each is run through the top call over a shelf, a source and sinks in memory, and what it leaves is
 //! printed.
 //!
+//! The program's words name lists of rows, files in `data/`, whose README says how a row is written.
+//!
 //! A row is printed as `= NAME`, `status N`, `left N` with the number of bytes left in its source, each line of its
-//! output behind `> ` and each line of its faults behind `! `. Behind `>|` or `!|` it is said that the last line has no end.
+//! output behind `> ` and each line of its faults behind `! `. Behind `>|` or `!|` it is said that the last line has no
+//! end. A line of a list that isn't read is printed behind `? `, with its list and its number.
 #![tactic(auto)]
 
+mod piece;
 mod row;
-mod rows;
+mod take;
 
 use row::Row;
-use rows::{fetched, ordered, shown};
-use std::{io, str};
+use std::{env, fs, io, str};
 
 // Prints each line behind the mark.
 fn print_lines(rt: &impl Print, mark: char, bytes: &[u8]) -> io::Result<()> {
@@ -27,25 +30,54 @@ fn print_lines(rt: &impl Print, mark: char, bytes: &[u8]) -> io::Result<()> {
     Ok(())
 }
 
-fn run(rt: &(impl Print + AllocGlobal), row: &Row) -> io::Result<()> {
-    let mut streams = row.streams(rt.alloc())?;
-    let status = row.run(rt.alloc(), &mut streams)?;
-    println!(rt; "= {}", row.name)?;
-    println!(rt; "status {status}")?;
-    println!(rt; "left {}", streams.input.left().len())?;
-    print_lines(rt, '>', streams.out.bytes())?;
-    print_lines(rt, '!', streams.err.bytes())
+fn run(rt: &(impl Print + AllocGlobal), name: &str, row: Row) -> io::Result<()> {
+    let end = row.run(rt.alloc())?;
+    println!(rt; "= {name}")?;
+    println!(rt; "status {}", end.status)?;
+    println!(rt; "left {}", end.input.left().len())?;
+    print_lines(rt, '>', end.out.bytes())?;
+    print_lines(rt, '!', end.err.bytes())
 }
 
-fn run_all(rt: &(impl Print + AllocGlobal), rows: &[Row]) -> io::Result<()> {
-    for row in rows {
-        run(rt, row)?;
+// Hands the lines to the row. The first of them has this number in the list.
+fn take_lines(
+    rt: &(impl Print + AllocGlobal),
+    list: &str,
+    first: usize,
+    lines: &str,
+    row: &mut Row,
+) -> io::Result<()> {
+    for (place, line) in lines.split('\n').enumerate() {
+        if row.take(rt.alloc(), line).is_err() {
+            println!(rt; "? {list} {}: {line}", first.saturating_add(place))?;
+        }
+    }
+    Ok(())
+}
+
+// Runs the rows of a list. What stands above the first of them holds for each.
+fn run_list(rt: &(impl Print + AllocGlobal), list: &str, text: &str) -> io::Result<()> {
+    let mut blocks = text.split("\n= ");
+    let common = blocks.next().unwrap_or("");
+    take_lines(rt, list, 1, common, &mut Row::new(rt.alloc()))?;
+    let mut at = common.split('\n').count().saturating_add(1);
+    for block in blocks {
+        let (name, lines) = block.split_once('\n').unwrap_or((block, ""));
+        let mut row = Row::new(rt.alloc());
+        take_lines(rt, list, 1, common, &mut row)?;
+        take_lines(rt, list, at.saturating_add(1), lines, &mut row)?;
+        run(rt, name, row)?;
+        at = at.saturating_add(block.split('\n').count());
     }
     Ok(())
 }
 
 fn main(rt: HostRuntime) -> io::Result<()> {
-    run_all(&rt, &ordered())?;
-    run_all(&rt, &shown())?;
-    run_all(&rt, &fetched())
+    for list in env::args(&rt)?.skip(1) {
+        match fs::read_to_string(&rt, list.as_str()) {
+            Ok(text) => run_list(&rt, list.as_str(), text.as_str())?,
+            Err(_) => println!(rt; "? {list} 0: not read")?,
+        }
+    }
+    Ok(())
 }

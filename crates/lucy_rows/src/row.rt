@@ -2,90 +2,96 @@ use lucy_app::lucy;
 use lucy_text::{MemShelf, MemSink, MemSource};
 use std::alloc::{AllocError, Global};
 
-/// How the calls of a source or a sink go: each moves at most so many bytes, and the calls with these numbers, from 1, fail.
-#[derive(Clone, Copy)]
+/// How the calls of a source or a sink go: each moves at most so many bytes, and the calls with these numbers, from 1,
+/// fail.
+#[derive(Drop)]
 pub struct Calls {
     pub most: usize,
-    pub fails: &'static [u64],
+    pub fails: Vec<u64>,
 }
 
-/// A text in pieces, each a text and how often it stands there.
-pub type Pieces = &'static [(&'static str, usize)];
-
-/// One row: the words, the file and the input that are handed in, and how the shelf and the streams behave.
+/// The text of a row to which a line that begins with a blank adds.
 #[derive(Clone, Copy)]
+pub enum Open {
+    Nothing,
+    File,
+    Input,
+}
+
+/// One row: the words, the files and the input that are handed in, and how the shelf and the streams behave.
+#[derive(Drop)]
 pub struct Row {
-    pub name: &'static str,
-    pub words: &'static [&'static str],
-    /// The name of the one file that the shelf holds.
-    pub file: &'static str,
-    pub text: Pieces,
+    pub words: Vec<String>,
+    /// The names and the bytes of what the shelf holds.
+    pub files: Vec<(String, Vec<u8>)>,
     /// The numbers, from 1, of the fetches that fail.
-    pub fetches: &'static [u64],
-    pub input: Pieces,
+    pub fetches: Vec<u64>,
+    pub input: Vec<u8>,
     pub reads: Calls,
     pub writes: Calls,
     /// Bytes that the output has room for.
     pub room: usize,
     pub tells: Calls,
+    pub open: Open,
 }
 
-/// The shelf and the streams of one run.
+/// What a run leaves.
 #[derive(Drop)]
-pub struct Streams {
-    pub shelf: MemShelf,
+pub struct End {
+    pub status: u8,
     pub input: MemSource,
     pub out: MemSink,
     pub err: MemSink,
 }
 
-fn bytes_of(alloc: Global, pieces: Pieces) -> Result<Vec<u8>, AllocError> {
-    let mut bytes = Vec::new(alloc);
-    for (text, times) in pieces {
-        for _ in 0..*times {
-            bytes.extend_from_slice(text.as_bytes())?;
-        }
+// Calls that never fail, of a few bytes each.
+fn steady(alloc: Global) -> Calls {
+    Calls {
+        most: 7,
+        fails: Vec::new(alloc),
     }
-    Ok(bytes)
 }
 
 fn sink(alloc: Global, room: usize, calls: Calls) -> Result<MemSink, AllocError> {
     let room = Vec::with_capacity(alloc, room)?;
-    Ok(MemSink::new(room, calls.most.max(1), calls.fails.to_vec(alloc)?))
-}
-
-fn shelf(alloc: Global, row: &Row) -> Result<MemShelf, AllocError> {
-    let name = String::from_str(alloc, row.file)?;
-    let mut files = Vec::new(alloc);
-    files.push((name, bytes_of(alloc, row.text)?))?;
-    Ok(MemShelf::new(files, row.fetches.to_vec(alloc)?))
+    Ok(MemSink::new(room, calls.most.max(1), calls.fails))
 }
 
 impl Row {
-    /// The shelf and the streams before the run.
-    pub(crate) fn streams(&self, alloc: Global) -> Result<Streams, AllocError> {
-        let bytes = bytes_of(alloc, self.input)?;
-        let reads = self.reads;
-        Ok(Streams {
-            shelf: shelf(alloc, self)?,
-            input: MemSource::new(bytes, reads.most.max(1), reads.fails.to_vec(alloc)?),
-            out: sink(alloc, self.room, self.writes)?,
-            err: sink(alloc, 256, self.tells)?,
-        })
+    /// No words, no files and no input, and calls that never fail.
+    pub(crate) fn new(alloc: Global) -> Row {
+        Row {
+            words: Vec::new(alloc),
+            files: Vec::new(alloc),
+            fetches: Vec::new(alloc),
+            input: Vec::new(alloc),
+            reads: steady(alloc),
+            writes: steady(alloc),
+            room: 8_192,
+            tells: steady(alloc),
+            open: Open::Nothing,
+        }
     }
 
-    /// Runs the program on the row's words, and gives its status.
-    pub(crate) fn run(&self, alloc: Global, streams: &mut Streams) -> Result<u8, AllocError> {
-        let mut words = Vec::new(alloc);
-        for word in self.words {
-            words.push(String::from_str(alloc, word)?)?;
-        }
-        let Streams {
-            shelf,
+    /// Runs the program on the row's words.
+    pub(crate) fn run(self, alloc: Global) -> Result<End, AllocError> {
+        let mut shelf = MemShelf::new(self.files, self.fetches);
+        let mut input = MemSource::new(self.input, self.reads.most.max(1), self.reads.fails);
+        let mut out = sink(alloc, self.room, self.writes)?;
+        let mut err = sink(alloc, 256, self.tells)?;
+        let status = lucy(
+            alloc,
+            &self.words,
+            &mut shelf,
+            &mut input,
+            &mut out,
+            &mut err,
+        );
+        Ok(End {
+            status,
             input,
             out,
             err,
-        } = streams;
-        Ok(lucy(alloc, &words, shelf, input, out, err))
+        })
     }
 }

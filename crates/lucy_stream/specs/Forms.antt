@@ -2,7 +2,7 @@
 use Rattle.std.specs.Prelude.{ℕ, ℤ}
 use Rattle.lucy_word.specs.Bits.{Bits}
 use Rattle.lucy_host.specs.declared.op.Op.{Op}
-use Rattle.lucy_host.specs.declared.op.Op.TheVariants.{Not, If}
+use Rattle.lucy_host.specs.Arity.{arity}
 
 -- what a place or an actor does with its operands
 pub data Form : Type 0 where
@@ -22,12 +22,6 @@ pub data Form : Type 0 where
   Delayed : (first : ℤ) → Form
   -- a defined name, a buffer, a parameter or a result of a call, an output
   Same : Form
-
--- how many operands an operator has
-abbrev pub arity : Op → ℕ
-arity Not = 1
-arity If = 3
-arity op = 2
 
 -- how many operands a form has
 abbrev pub operands : Form → ℕ

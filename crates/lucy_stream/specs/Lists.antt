@@ -7,7 +7,8 @@ use Rattle.lucy_host.specs.HostValue.{host_value}
 use Rattle.lucy_host.specs.declared.kind.HostKind.{HostKind}
 use Rattle.lucy_host.specs.declared.kind.HostKind.TheVariants.{Min}
 use Rattle.lucy_stream.specs.Items.{item_at, list_at}
-use Rattle.lucy_stream.specs.Forms.{Form, Given, Constant, Pointwise, Hosted, Kept, Merged, Delayed, Same, arity}
+use Rattle.lucy_host.specs.Arity.{arity}
+use Rattle.lucy_stream.specs.Forms.{Form, Given, Constant, Pointwise, Hosted, Kept, Merged, Delayed, Same}
 use Rattle.lucy_stream.specs.Merges.{merged}
 
 -- the length of the shortest of the first lists, so many of them

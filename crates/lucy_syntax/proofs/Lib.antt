@@ -1,5 +1,4 @@
 mod Leaving
 mod Facts
-mod BoxedForms
-mod Operands
+mod Climbing
 pub mod TextLaws

@@ -14,12 +14,9 @@ use Rattle.lucy_token.specs.declared.stop.SyntaxError.TheVariants.{Unexpected, O
 use Rattle.lucy_token.specs.States.{start}
 use Rattle.lucy_token.specs.Cuts.{Cuts}
 use Rattle.lucy_token.proofs.OneCut.{one_cut}
-use Rattle.lucy_grammar.specs.Print.{program_text}
-use Rattle.lucy_grammar.specs.Spans.{IsAlike}
-use Rattle.lucy_grammar.proofs.RoundTrip.{read_again}
 use Rattle.lucy_grammar.specs.Programs.{IsProgram, BeginsProgram, IsFirstUnfit}
 use Rattle.lucy_grammar.proofs.Whole.{one_tree, front_begins, Longer, compared}
-use Rattle.lucy_syntax.specs.Texts.{HasTree, IsUnexpected, IsStopped, IsWhole, IsRefused, error_of, error_at, most_text}
+use Rattle.lucy_grammar.specs.Texts.{HasTree, IsUnexpected, IsStopped, IsWhole, IsRefused, error_of, error_at, most_text}
 
 -- why tokens are refused, that stop here
 abbrev pub IsWhy : List Token → Stop → SyntaxError → Type 0
@@ -143,11 +140,3 @@ accepted_so text ts stop x p r A short cut i (inl none) h =
     inl (q.1 ∙ ap Err (q.2 ∙ none))
 accepted_so text ts stop x p r A short cut i (inr why) h =
     absurd (tree_or_error text p x h (inr (record { short = short; tokens = ts; stop = stop; cut = cut; why = why })))
-
--- the printed text of a program that was read has that program as its tree, but for places
-pub read_again_text : (from text : List ℕ) (p : ProgramTree) → HasTree from p → text ≡ program_text p → length text ≤ most_text → (q : ProgramTree) × HasTree text q × IsAlike q p
-read_again_text from text p h is short =
-    let back = read_again from h.tokens h.end p h.cut h.program in
-    let P : List ℕ → Type 0 = λ u. length u ≤ most_text in
-    let Q : List ℕ → Type 0 = λ u. HasTree u back.1 in
-    (back.1, subst Q (sym is) (record { short = subst P is short; tokens = back.0; end = length (program_text p); cut = back.2; program = back.3 }), back.4)

@@ -1,3 +1,3 @@
 pub mod Refusals
 pub mod Views
-pub mod Texts
+pub mod Levels

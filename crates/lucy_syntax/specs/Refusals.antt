@@ -1,5 +1,10 @@
 -- What the descent's functions promise of an answer.
-use Rattle.std.specs.Prelude.{Bool, true, false, List}
+use Rattle.std.specs.Prelude.{Bool, true, false, List, Option, ◌≡◌}
+use Rattle.lucy_word.specs.Bits.{Bits}
+use Rattle.lucy_tree.specs.declared.span.Name.{Name}
+use Rattle.lucy_tree.specs.Tree.{Tree, Trees, sampled, call}
+use Rattle.lucy_grammar.specs.Symbols.{Part}
+use Rattle.lucy_grammar.specs.Reading.{Reads}
 use Rattle.lucy_token.specs.declared.mark.Mark.TheVariants as mark
 use Rattle.lucy_token.specs.declared.token.Kind.{Kind}
 use Rattle.lucy_token.specs.declared.token.Kind.TheVariants as kind
@@ -25,3 +30,11 @@ begins_expr (kind.Mark mark.True) = true
 begins_expr (kind.Mark mark.False) = true
 begins_expr (kind.Mark mark.Open) = true
 begins_expr k = false
+
+-- a sampling is read, and the tree is the operand with it
+abbrev pub IsSampled : List Token → Tree → Tree → List Token → Type 0
+IsSampled ts operand e rest = (v : Bool × Bits) × Reads Part.Sampling ts v rest × (e ≡ sampled v.0 operand v.1)
+
+-- what stands behind the name of a call is read, and the tree is the call
+abbrev pub IsApplied : Name → List Token → Tree → List Token → Type 0
+IsApplied name ts e rest = (v : Option Bits × Trees) × Reads Part.Applied ts v rest × (e ≡ call name v.0 v.1)

@@ -1,4 +1,4 @@
-// Reads expressions by descent: a function for each part of the grammar.
+// Reads expressions by descent: a function for each part of the grammar, and one for the operators of all levels.
 ghost use Rattle.std.specs.Prelude.{◌≡◌, ◌<◌, ◌≤◌, IfOk, IfErr, Option, length};
 ghost use Rattle.lucy_token.specs.Tokens.{first};
 ghost use Rattle.lucy_token.specs.declared.mark.Mark.TheVariants as mark;
@@ -8,24 +8,20 @@ ghost use Rattle.lucy_tree.specs.View.{tree_of};
 ghost use Rattle.lucy_grammar.specs.Symbols.{Part};
 ghost use Rattle.lucy_grammar.specs.Meanings.{args_of};
 ghost use Rattle.lucy_grammar.specs.Reading.{Reads, Unfit, ReadsOptional, UnfitOptional, IsBegun};
-ghost use Rattle.lucy_syntax.specs.Refusals.{RefusedBy};
+ghost use Rattle.lucy_syntax.specs.Levels.{ReadsAt, UnfitAt};
+ghost use Rattle.lucy_syntax.specs.Refusals.{RefusedBy, IsApplied, IsSampled};
 ghost use Rattle.lucy_syntax.specs.Views.{all_trees};
 
-use crate::atoms::{
-    at_applied, at_expr, at_literal, at_sampling, base, comparison, lit, product_sign, sampling,
-    sum_sign,
-};
+use crate::atoms::{at_applied, at_expr, at_literal, at_sampling, base, lit, sampling};
 use crate::cursor::{at, name, want, word};
-use crate::make::{self, Link, one, push};
+use crate::level::Level;
+use crate::make::{self, Link, one_boxed, push_boxed};
 use crate::refusal::Refusal;
-use lucy_host::Op;
 use lucy_token::{Kind, Mark, Token};
-use lucy_tree::Expr;
-use lucy_word::Word;
+use lucy_tree::{Expr, Name};
 use std::alloc::Global;
 
 /// An expression.
-#[cycle(descent)]
 pub fn expr<'a, 't>(
     alloc: Global,
     ts: &'a [Token<'t>],
@@ -35,9 +31,27 @@ pub fn expr<'a, 't>(
     ensures shorter { IfOk result (λ p. length p.1.now < length ts.now) }
 {
     if at(ts, Kind::Mark(Mark::If)) {
+        let (choice, ts) = choice(alloc, ts)?;
+        return Ok((Box::into_inner(choice), ts));
+    }
+    let (operation, ts) = operation(alloc, ts, Level::Or)?;
+    Ok((Box::into_inner(operation), ts))
+}
+
+// An expression, in a box.
+#[cycle(descent)]
+fn whole<'a, 't>(
+    alloc: Global,
+    ts: &'a [Token<'t>],
+) -> Result<(Box<Expr>, &'a [Token<'t>]), Refusal<'a, 't>>
+    ensures ok { IfOk result (λ p. Reads Part.Expr ts.now (tree_of p.0.value) p.1.now) }
+    ensures refused { IfErr result (RefusedBy (Unfit Part.Expr ts.now)) }
+    ensures shorter { IfOk result (λ p. length p.1.now < length ts.now) }
+{
+    if at(ts, Kind::Mark(Mark::If)) {
         choice(alloc, ts)
     } else {
-        or(alloc, ts)
+        operation(alloc, ts, Level::Or)
     }
 }
 
@@ -46,129 +60,43 @@ pub fn expr<'a, 't>(
 fn choice<'a, 't>(
     alloc: Global,
     ts: &'a [Token<'t>],
-) -> Result<(Expr, &'a [Token<'t>]), Refusal<'a, 't>>
+) -> Result<(Box<Expr>, &'a [Token<'t>]), Refusal<'a, 't>>
     requires { first ts.now ≡ kind.Mark mark.If }
-    ensures ok { IfOk result (λ p. Reads Part.Expr ts.now (tree_of p.0) p.1.now) }
+    ensures ok { IfOk result (λ p. Reads Part.Expr ts.now (tree_of p.0.value) p.1.now) }
     ensures refused { IfErr result (RefusedBy (Unfit Part.Expr ts.now)) }
     ensures shorter { IfOk result (λ p. length p.1.now < length ts.now) }
 {
     let (span, ts) = want(ts, Mark::If)?;
-    let (test, ts) = expr(alloc, ts)?;
+    let (test, ts) = whole(alloc, ts)?;
     let (_, ts) = want(ts, Mark::Then)?;
-    let (then, ts) = expr(alloc, ts)?;
+    let (then, ts) = whole(alloc, ts)?;
     let (_, ts) = want(ts, Mark::Else)?;
-    let (other, ts) = expr(alloc, ts)?;
+    let (other, ts) = whole(alloc, ts)?;
     Ok((make::choice(alloc, test, then, other, span)?, ts))
 }
 
-// Operands with `||` between.
+// Operands with operators between them, up to those that bind as loosely as the wanted level.
 #[cycle(descent)]
-fn or<'a, 't>(
+fn operation<'a, 't>(
     alloc: Global,
     ts: &'a [Token<'t>],
-) -> Result<(Expr, &'a [Token<'t>]), Refusal<'a, 't>>
-    ensures ok { IfOk result (λ p. Reads Part.Or ts.now (tree_of p.0) p.1.now) }
-    ensures refused { IfErr result (RefusedBy (Unfit Part.Or ts.now)) }
-    ensures shorter { IfOk result (λ p. length p.1.now < length ts.now) }
-{
-    let (mut left, mut over) = and(alloc, ts)?;
-    'more: while at(over, Kind::Mark(Mark::Either)) {
-        let (span, rest) = want(over, Mark::Either)?;
-        let (right, rest) = and(alloc, rest)?;
-        left = make::linked(
-            alloc,
-            left,
-            Link {
-                op: Op::Or,
-                span,
-                right,
-            },
-        )?;
-        over = rest;
-    }
-    Ok((left, over))
-}
-
-// Operands with `&&` between.
-#[cycle(descent)]
-fn and<'a, 't>(
-    alloc: Global,
-    ts: &'a [Token<'t>],
-) -> Result<(Expr, &'a [Token<'t>]), Refusal<'a, 't>>
-    ensures ok { IfOk result (λ p. Reads Part.And ts.now (tree_of p.0) p.1.now) }
-    ensures refused { IfErr result (RefusedBy (Unfit Part.And ts.now)) }
-    ensures shorter { IfOk result (λ p. length p.1.now < length ts.now) }
-{
-    let (mut left, mut over) = cmp(alloc, ts)?;
-    'more: while at(over, Kind::Mark(Mark::Both)) {
-        let (span, rest) = want(over, Mark::Both)?;
-        let (right, rest) = cmp(alloc, rest)?;
-        left = make::linked(
-            alloc,
-            left,
-            Link {
-                op: Op::And,
-                span,
-                right,
-            },
-        )?;
-        over = rest;
-    }
-    Ok((left, over))
-}
-
-// One comparison, or none.
-#[cycle(descent)]
-fn cmp<'a, 't>(
-    alloc: Global,
-    ts: &'a [Token<'t>],
-) -> Result<(Expr, &'a [Token<'t>]), Refusal<'a, 't>>
-    ensures ok { IfOk result (λ p. Reads Part.Cmp ts.now (tree_of p.0) p.1.now) }
-    ensures refused { IfErr result (RefusedBy (Unfit Part.Cmp ts.now)) }
-    ensures shorter { IfOk result (λ p. length p.1.now < length ts.now) }
-{
-    let (left, ts) = sum(alloc, ts)?;
-    let Some(((op, span), ts)) = comparison(ts) else {
-        return Ok((left, ts));
-    };
-    let (right, ts) = sum(alloc, ts)?;
-    Ok((make::linked(alloc, left, Link { op, span, right })?, ts))
-}
-
-// Operands with `+` and `-` between.
-#[cycle(descent)]
-fn sum<'a, 't>(
-    alloc: Global,
-    ts: &'a [Token<'t>],
-) -> Result<(Expr, &'a [Token<'t>]), Refusal<'a, 't>>
-    ensures ok { IfOk result (λ p. Reads Part.Sum ts.now (tree_of p.0) p.1.now) }
-    ensures refused { IfErr result (RefusedBy (Unfit Part.Sum ts.now)) }
-    ensures shorter { IfOk result (λ p. length p.1.now < length ts.now) }
-{
-    let (mut left, mut over) = prod(alloc, ts)?;
-    'more: while let Some(((op, span), rest)) = sum_sign(over) {
-        let (right, rest) = prod(alloc, rest)?;
-        left = make::linked(alloc, left, Link { op, span, right })?;
-        over = rest;
-    }
-    Ok((left, over))
-}
-
-// Operands with `*`, `/` and `%` between.
-#[cycle(descent)]
-fn prod<'a, 't>(
-    alloc: Global,
-    ts: &'a [Token<'t>],
-) -> Result<(Expr, &'a [Token<'t>]), Refusal<'a, 't>>
-    ensures ok { IfOk result (λ p. Reads Part.Prod ts.now (tree_of p.0) p.1.now) }
-    ensures refused { IfErr result (RefusedBy (Unfit Part.Prod ts.now)) }
+    wanted: Level,
+) -> Result<(Box<Expr>, &'a [Token<'t>]), Refusal<'a, 't>>
+    ensures ok { IfOk result (λ p. ReadsAt wanted ts.now (tree_of p.0.value) p.1.now) }
+    ensures refused { IfErr result (RefusedBy (UnfitAt wanted ts.now)) }
     ensures shorter { IfOk result (λ p. length p.1.now < length ts.now) }
 {
     let (mut left, mut over) = samp(alloc, ts)?;
-    'more: while let Some(((op, span), rest)) = product_sign(over) {
-        let (right, rest) = samp(alloc, rest)?;
+    let mut level = Level::Samp;
+    'up: while level.is_below(wanted) {
+        let Some(((op, span), rest)) = level.sign(over) else {
+            level = level.looser();
+            continue;
+        };
+        let (right, rest) = operation(alloc, rest, level)?;
         left = make::linked(alloc, left, Link { op, span, right })?;
         over = rest;
+        level = level.behind();
     }
     Ok((left, over))
 }
@@ -178,18 +106,30 @@ fn prod<'a, 't>(
 fn samp<'a, 't>(
     alloc: Global,
     ts: &'a [Token<'t>],
-) -> Result<(Expr, &'a [Token<'t>]), Refusal<'a, 't>>
-    ensures ok { IfOk result (λ p. Reads Part.Samp ts.now (tree_of p.0) p.1.now) }
+) -> Result<(Box<Expr>, &'a [Token<'t>]), Refusal<'a, 't>>
+    ensures ok { IfOk result (λ p. Reads Part.Samp ts.now (tree_of p.0.value) p.1.now) }
     ensures refused { IfErr result (RefusedBy (Unfit Part.Samp ts.now)) }
     ensures shorter { IfOk result (λ p. length p.1.now < length ts.now) }
 {
     let (mut left, mut over) = pre(alloc, ts)?;
     'more: while at_sampling(over) {
-        let ((flip, word), rest) = sampling(alloc, over)?;
-        left = make::sampled(alloc, flip, left, word)?;
-        over = rest;
+        (left, over) = sampled(alloc, left, over)?;
     }
     Ok((left, over))
+}
+
+// The operand with one sampling behind it.
+fn sampled<'a, 't>(
+    alloc: Global,
+    operand: Box<Expr>,
+    ts: &'a [Token<'t>],
+) -> Result<(Box<Expr>, &'a [Token<'t>]), Refusal<'a, 't>>
+    ensures ok { IfOk result (λ p. IsSampled ts.now (tree_of operand.value) (tree_of p.0.value) p.1.now) }
+    ensures refused { IfErr result (RefusedBy (Unfit Part.Sampling ts.now)) }
+    ensures shorter { IfOk result (λ p. length p.1.now < length ts.now) }
+{
+    let ((flip, word), ts) = sampling(alloc, ts)?;
+    Ok((make::sampled(alloc, flip, operand, word)?, ts))
 }
 
 // An operand with the words before it.
@@ -197,8 +137,8 @@ fn samp<'a, 't>(
 fn pre<'a, 't>(
     alloc: Global,
     ts: &'a [Token<'t>],
-) -> Result<(Expr, &'a [Token<'t>]), Refusal<'a, 't>>
-    ensures ok { IfOk result (λ p. Reads Part.Pre ts.now (tree_of p.0) p.1.now) }
+) -> Result<(Box<Expr>, &'a [Token<'t>]), Refusal<'a, 't>>
+    ensures ok { IfOk result (λ p. Reads Part.Pre ts.now (tree_of p.0.value) p.1.now) }
     ensures refused { IfErr result (RefusedBy (Unfit Part.Pre ts.now)) }
     ensures shorter { IfOk result (λ p. length p.1.now < length ts.now) }
 {
@@ -221,9 +161,9 @@ fn pre<'a, 't>(
 fn negation<'a, 't>(
     alloc: Global,
     ts: &'a [Token<'t>],
-) -> Result<(Expr, &'a [Token<'t>]), Refusal<'a, 't>>
+) -> Result<(Box<Expr>, &'a [Token<'t>]), Refusal<'a, 't>>
     requires { first ts.now ≡ kind.Mark mark.Not }
-    ensures ok { IfOk result (λ p. Reads Part.Pre ts.now (tree_of p.0) p.1.now) }
+    ensures ok { IfOk result (λ p. Reads Part.Pre ts.now (tree_of p.0.value) p.1.now) }
     ensures refused { IfErr result (RefusedBy (Unfit Part.Pre ts.now)) }
     ensures shorter { IfOk result (λ p. length p.1.now < length ts.now) }
 {
@@ -236,9 +176,9 @@ fn negation<'a, 't>(
 fn buffered<'a, 't>(
     alloc: Global,
     ts: &'a [Token<'t>],
-) -> Result<(Expr, &'a [Token<'t>]), Refusal<'a, 't>>
+) -> Result<(Box<Expr>, &'a [Token<'t>]), Refusal<'a, 't>>
     requires { first ts.now ≡ kind.Mark mark.Buffer }
-    ensures ok { IfOk result (λ p. Reads Part.Pre ts.now (tree_of p.0) p.1.now) }
+    ensures ok { IfOk result (λ p. Reads Part.Pre ts.now (tree_of p.0.value) p.1.now) }
     ensures refused { IfErr result (RefusedBy (Unfit Part.Pre ts.now)) }
     ensures shorter { IfOk result (λ p. length p.1.now < length ts.now) }
 {
@@ -251,9 +191,9 @@ fn buffered<'a, 't>(
 fn merged<'a, 't>(
     alloc: Global,
     ts: &'a [Token<'t>],
-) -> Result<(Expr, &'a [Token<'t>]), Refusal<'a, 't>>
+) -> Result<(Box<Expr>, &'a [Token<'t>]), Refusal<'a, 't>>
     requires { first ts.now ≡ kind.Mark mark.Merge }
-    ensures ok { IfOk result (λ p. Reads Part.Pre ts.now (tree_of p.0) p.1.now) }
+    ensures ok { IfOk result (λ p. Reads Part.Pre ts.now (tree_of p.0.value) p.1.now) }
     ensures refused { IfErr result (RefusedBy (Unfit Part.Pre ts.now)) }
     ensures shorter { IfOk result (λ p. length p.1.now < length ts.now) }
 {
@@ -269,9 +209,9 @@ fn merged<'a, 't>(
 fn literal<'a, 't>(
     alloc: Global,
     ts: &'a [Token<'t>],
-) -> Result<(Expr, &'a [Token<'t>]), Refusal<'a, 't>>
+) -> Result<(Box<Expr>, &'a [Token<'t>]), Refusal<'a, 't>>
     requires { IsBegun Part.Lit ts.now }
-    ensures ok { IfOk result (λ p. Reads Part.Pre ts.now (tree_of p.0) p.1.now) }
+    ensures ok { IfOk result (λ p. Reads Part.Pre ts.now (tree_of p.0.value) p.1.now) }
     ensures refused { IfErr result (RefusedBy (Unfit Part.Pre ts.now)) }
     ensures shorter { IfOk result (λ p. length p.1.now < length ts.now) }
 {
@@ -281,15 +221,16 @@ fn literal<'a, 't>(
         let (operand, ts) = pre(alloc, ts)?;
         return Ok((make::followed(alloc, lit, operand, fby)?, ts));
     }
-    Ok((make::literal(lit, span), ts))
+    Ok((make::literal(alloc, lit, span)?, ts))
 }
 
+// A name, a call, an operator of the host, or an expression in parentheses.
 #[cycle(descent)]
 fn atom<'a, 't>(
     alloc: Global,
     ts: &'a [Token<'t>],
-) -> Result<(Expr, &'a [Token<'t>]), Refusal<'a, 't>>
-    ensures ok { IfOk result (λ p. Reads Part.Atom ts.now (tree_of p.0) p.1.now) }
+) -> Result<(Box<Expr>, &'a [Token<'t>]), Refusal<'a, 't>>
+    ensures ok { IfOk result (λ p. Reads Part.Atom ts.now (tree_of p.0.value) p.1.now) }
     ensures refused { IfErr result (RefusedBy (Unfit Part.Atom ts.now)) }
     ensures shorter { IfOk result (λ p. length p.1.now < length ts.now) }
 {
@@ -300,7 +241,7 @@ fn atom<'a, 't>(
         return hosted(alloc, ts);
     }
     let (_, ts) = want(ts, Mark::Open)?;
-    let (inner, ts) = expr(alloc, ts)?;
+    let (inner, ts) = whole(alloc, ts)?;
     let (_, ts) = want(ts, Mark::Close)?;
     Ok((inner, ts))
 }
@@ -310,36 +251,35 @@ fn atom<'a, 't>(
 fn named<'a, 't>(
     alloc: Global,
     ts: &'a [Token<'t>],
-) -> Result<(Expr, &'a [Token<'t>]), Refusal<'a, 't>>
+) -> Result<(Box<Expr>, &'a [Token<'t>]), Refusal<'a, 't>>
     requires { first ts.now ≡ kind.Name }
-    ensures ok { IfOk result (λ p. Reads Part.Atom ts.now (tree_of p.0) p.1.now) }
+    ensures ok { IfOk result (λ p. Reads Part.Atom ts.now (tree_of p.0.value) p.1.now) }
     ensures refused { IfErr result (RefusedBy (Unfit Part.Atom ts.now)) }
     ensures shorter { IfOk result (λ p. length p.1.now < length ts.now) }
 {
     let (name, ts) = name(alloc, ts)?;
     if at_applied(ts) {
-        let ((base, args), ts) = applied(alloc, ts)?;
-        return Ok((make::called(name, base, args), ts));
+        return applied(alloc, name, ts);
     }
-    Ok((make::variable(name), ts))
+    Ok((make::variable(alloc, name)?, ts))
 }
 
 #[cycle(descent)]
 fn hosted<'a, 't>(
     alloc: Global,
     ts: &'a [Token<'t>],
-) -> Result<(Expr, &'a [Token<'t>]), Refusal<'a, 't>>
+) -> Result<(Box<Expr>, &'a [Token<'t>]), Refusal<'a, 't>>
     requires { first ts.now ≡ kind.Mark mark.Host }
-    ensures ok { IfOk result (λ p. Reads Part.Atom ts.now (tree_of p.0) p.1.now) }
+    ensures ok { IfOk result (λ p. Reads Part.Atom ts.now (tree_of p.0.value) p.1.now) }
     ensures refused { IfErr result (RefusedBy (Unfit Part.Atom ts.now)) }
     ensures shorter { IfOk result (λ p. length p.1.now < length ts.now) }
 {
     let (_, ts) = want(ts, Mark::Host)?;
     let (name, ts) = name(alloc, ts)?;
     let (_, ts) = want(ts, Mark::Open)?;
-    let (first, ts) = expr(alloc, ts)?;
+    let (first, ts) = whole(alloc, ts)?;
     let (_, ts) = want(ts, Mark::Comma)?;
-    let (second, ts) = expr(alloc, ts)?;
+    let (second, ts) = whole(alloc, ts)?;
     let (_, ts) = want(ts, Mark::Close)?;
     Ok((make::hosted(alloc, name, first, second)?, ts))
 }
@@ -349,21 +289,21 @@ fn hosted<'a, 't>(
 fn small<'a, 't>(
     alloc: Global,
     ts: &'a [Token<'t>],
-) -> Result<(Expr, &'a [Token<'t>]), Refusal<'a, 't>>
-    ensures ok { IfOk result (λ p. Reads Part.Small ts.now (tree_of p.0) p.1.now) }
+) -> Result<(Box<Expr>, &'a [Token<'t>]), Refusal<'a, 't>>
+    ensures ok { IfOk result (λ p. Reads Part.Small ts.now (tree_of p.0.value) p.1.now) }
     ensures refused { IfErr result (RefusedBy (Unfit Part.Small ts.now)) }
     ensures shorter { IfOk result (λ p. length p.1.now < length ts.now) }
 {
     if at_literal(ts) {
         let ((lit, span), ts) = lit(ts)?;
-        return Ok((make::literal(lit, span), ts));
+        return Ok((make::literal(alloc, lit, span)?, ts));
     }
     if at(ts, Kind::Name) {
         let (name, ts) = name(alloc, ts)?;
-        return Ok((make::variable(name), ts));
+        return Ok((make::variable(alloc, name)?, ts));
     }
     let (_, ts) = want(ts, Mark::Open)?;
-    let (inner, ts) = expr(alloc, ts)?;
+    let (inner, ts) = whole(alloc, ts)?;
     let (_, ts) = want(ts, Mark::Close)?;
     Ok((inner, ts))
 }
@@ -378,17 +318,18 @@ pub fn call<'a, 't>(
     ensures shorter { IfOk result (λ p. length p.1.now < length ts.now) }
 {
     let (name, ts) = name(alloc, ts)?;
-    let ((base, args), ts) = applied(alloc, ts)?;
-    Ok((make::called(name, base, args), ts))
+    let (call, ts) = applied(alloc, name, ts)?;
+    Ok((Box::into_inner(call), ts))
 }
 
-// The base of a call, where it is written, and its arguments.
+// A call by this name: its base, where it is written, and its arguments.
 #[cycle(descent)]
 fn applied<'a, 't>(
     alloc: Global,
+    name: Name,
     ts: &'a [Token<'t>],
-) -> Result<((Option<Word>, Vec<Expr>), &'a [Token<'t>]), Refusal<'a, 't>>
-    ensures ok { IfOk result (λ p. Reads Part.Applied ts.now (p.0.0, all_trees p.0.1.items) p.1.now) }
+) -> Result<(Box<Expr>, &'a [Token<'t>]), Refusal<'a, 't>>
+    ensures ok { IfOk result (λ p. IsApplied name ts.now (tree_of p.0.value) p.1.now) }
     ensures refused { IfErr result (RefusedBy (Unfit Part.Applied ts.now)) }
     ensures shorter { IfOk result (λ p. length p.1.now < length ts.now) }
 {
@@ -396,7 +337,7 @@ fn applied<'a, 't>(
     let (_, ts) = want(ts, Mark::Open)?;
     let (args, ts) = given(alloc, ts)?;
     let (_, ts) = want(ts, Mark::Close)?;
-    Ok(((base, args), ts))
+    Ok((make::called(alloc, name, base, args)?, ts))
 }
 
 // The arguments before a closing parenthesis, of which there may be none.
@@ -425,12 +366,12 @@ fn args<'a, 't>(
     ensures refused { IfErr result (RefusedBy (Unfit Part.Args ts.now)) }
     ensures shorter { IfOk result (λ p. length p.1.now < length ts.now) }
 {
-    let (head, mut over) = expr(alloc, ts)?;
-    let mut list = one(alloc, head)?;
+    let (head, mut over) = whole(alloc, ts)?;
+    let mut list = one_boxed(alloc, head)?;
     'more: while at(over, Kind::Mark(Mark::Comma)) {
         let (_, rest) = want(over, Mark::Comma)?;
-        let (next, rest) = expr(alloc, rest)?;
-        push(&mut list, next)?;
+        let (next, rest) = whole(alloc, rest)?;
+        push_boxed(&mut list, next)?;
         over = rest;
     }
     Ok((list, over))

@@ -1,25 +1,25 @@
 //! Program texts and their trees: `parse` reads a text, and `print` writes a tree.
 //!
-//! It stands on the trees of `lucy_tree`, the tokens of `lucy_token` and the grammar of `lucy_grammar`. Begin with `parse`
-//! in `reading.rt`, with `specs/Texts.antt`, which says when a text has a tree and why one is refused, and with `print` in
-//! `printing.rt`.
+//! It stands on the trees of `lucy_tree`, the tokens of `lucy_token` and the grammar of `lucy_grammar`, whose
+//! `specs/Texts.antt` says when a text has a tree and why one is refused. Begin with `parse` in `reading.rt`; `print` is that
+//! of `lucy_print`.
 #![tactic(auto)]
 
 mod atoms;
 mod cursor;
 mod decl;
 mod descent;
+mod level;
 mod make;
-mod printing;
 mod program;
 mod reading;
 mod refusal;
 #[cfg(test)]
 mod tests;
 
+pub use lucy_print::print;
 pub use lucy_token::SyntaxError;
 pub use lucy_tree::{
     Decl, Decls, Def, Defs, Expr, Exprs, Lit, Name, Names, Node, Nodes, Program, Span,
 };
-pub use printing::print;
 pub use reading::parse;

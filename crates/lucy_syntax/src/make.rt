@@ -1,4 +1,4 @@
-// Expressions from their parts.
+// Expressions from their parts. They lie in boxes, so that a deep text takes little of the stack.
 ghost use Rattle.std.specs.Prelude.{◌≡◌, ◌∷◌, ◌++◌, [], IfOk, OnOk};
 ghost use Rattle.lucy_host.specs.declared.op.Op.TheVariants as op;
 ghost use Rattle.lucy_tree.specs.Tree.{literal, variable, operator, sampled, merged, followed, buffered, host, call, more, no_more};
@@ -15,131 +15,163 @@ use std::alloc::{AllocError, Global};
 pub struct Link {
     pub op: Op,
     pub span: Span,
-    pub right: Expr,
+    pub right: Box<Expr>,
+}
+
+fn boxed(alloc: Global, expr: Expr) -> Result<Box<Expr>, AllocError>
+    ensures { IfOk result (λ e. e.value ≡ expr) }
+{
+    Ok(Box::new(alloc, expr)?)
 }
 
 /// A literal alone.
-pub fn literal(lit: Lit, span: Span) -> Expr
-    ensures { tree_of result ≡ literal lit span }
+pub fn literal(alloc: Global, lit: Lit, span: Span) -> Result<Box<Expr>, AllocError>
+    ensures { IfOk result (λ e. tree_of e.value ≡ literal lit span) }
 {
-    Expr::Lit { lit, span }
+    boxed(alloc, Expr::Lit { lit, span })
 }
 
 /// A name alone.
-pub fn variable(name: Name) -> Expr
-    ensures { tree_of result ≡ variable name }
+pub fn variable(alloc: Global, name: Name) -> Result<Box<Expr>, AllocError>
+    ensures { IfOk result (λ e. tree_of e.value ≡ variable name) }
 {
-    Expr::Var { name }
+    boxed(alloc, Expr::Var { name })
+}
+
+// An operator with its operands.
+fn operator(alloc: Global, op: Op, args: Vec<Expr>, span: Span) -> Result<Box<Expr>, AllocError>
+    ensures { IfOk result (λ e. tree_of e.value ≡ operator op (all_trees args.items) span) }
+{
+    let args = Exprs::new(args);
+    boxed(alloc, Expr::Op { op, args, span })
 }
 
 /// `left op right`
-pub fn linked(alloc: Global, left: Expr, link: Link) -> Result<Expr, AllocError>
-    ensures { IfOk result (λ e. tree_of e ≡ meaning.linked (tree_of left) (link_of link)) }
+pub fn linked(alloc: Global, left: Box<Expr>, link: Link) -> Result<Box<Expr>, AllocError>
+    ensures { IfOk result (λ e. tree_of e.value ≡ meaning.linked (tree_of left.value) (link_of link)) }
 {
     let Link { op, span, right } = link;
-    let args = Exprs::new(vec![in alloc; left, right]?);
-    Ok(Expr::Op { op, args, span })
+    let mut args = one_boxed(alloc, left)?;
+    push_boxed(&mut args, right)?;
+    operator(alloc, op, args, span)
 }
 
 /// `if test then yes else other`
 pub fn choice(
     alloc: Global,
-    test: Expr,
-    then: Expr,
-    other: Expr,
+    test: Box<Expr>,
+    then: Box<Expr>,
+    other: Box<Expr>,
     span: Span,
-) -> Result<Expr, AllocError>
-    ensures { IfOk result (λ e. tree_of e ≡ operator op.If (meaning.three (tree_of test) (tree_of then) (tree_of other)) span) }
+) -> Result<Box<Expr>, AllocError>
+    ensures { IfOk result (λ e. tree_of e.value ≡ operator op.If (meaning.three (tree_of test.value) (tree_of then.value) (tree_of other.value)) span) }
 {
-    let args = Exprs::new(vec![in alloc; test, then, other]?);
-    Ok(Expr::Op {
-        op: Op::If,
-        args,
-        span,
-    })
+    let mut args = one_boxed(alloc, test)?;
+    push_boxed(&mut args, then)?;
+    push_boxed(&mut args, other)?;
+    operator(alloc, Op::If, args, span)
 }
 
 /// `not operand`
-pub fn negation(alloc: Global, operand: Expr, span: Span) -> Result<Expr, AllocError>
-    ensures { IfOk result (λ e. tree_of e ≡ operator op.Not (more (tree_of operand) no_more) span) }
+pub fn negation(alloc: Global, operand: Box<Expr>, span: Span) -> Result<Box<Expr>, AllocError>
+    ensures { IfOk result (λ e. tree_of e.value ≡ operator op.Not (more (tree_of operand.value) no_more) span) }
 {
-    let args = Exprs::new(vec![in alloc; operand]?);
-    Ok(Expr::Op {
-        op: Op::Not,
-        args,
-        span,
-    })
+    let args = one_boxed(alloc, operand)?;
+    operator(alloc, Op::Not, args, span)
 }
 
 /// `host name (one, two)`
-pub fn hosted(alloc: Global, name: Name, one: Expr, two: Expr) -> Result<Expr, AllocError>
-    ensures { IfOk result (λ e. tree_of e ≡ host name (meaning.two (tree_of one) (tree_of two))) }
+pub fn hosted(
+    alloc: Global,
+    name: Name,
+    one: Box<Expr>,
+    two: Box<Expr>,
+) -> Result<Box<Expr>, AllocError>
+    ensures { IfOk result (λ e. tree_of e.value ≡ host name (meaning.two (tree_of one.value) (tree_of two.value))) }
 {
-    let args = Exprs::new(vec![in alloc; one, two]?);
-    Ok(Expr::Host { name, args })
+    let mut args = one_boxed(alloc, one)?;
+    push_boxed(&mut args, two)?;
+    let args = Exprs::new(args);
+    boxed(alloc, Expr::Host { name, args })
 }
 
 /// `operand when word`, or with `flip` `operand whenot word`
-pub fn sampled(alloc: Global, flip: bool, operand: Expr, word: Word) -> Result<Expr, AllocError>
-    ensures { IfOk result (λ e. tree_of e ≡ sampled flip (tree_of operand) word) }
+pub fn sampled(
+    alloc: Global,
+    flip: bool,
+    operand: Box<Expr>,
+    word: Word,
+) -> Result<Box<Expr>, AllocError>
+    ensures { IfOk result (λ e. tree_of e.value ≡ sampled flip (tree_of operand.value) word) }
 {
-    let operand = Box::new(alloc, operand)?;
-    Ok(Expr::When {
-        flip,
-        operand,
-        word,
-    })
+    boxed(
+        alloc,
+        Expr::When {
+            flip,
+            operand,
+            word,
+        },
+    )
 }
 
 /// `merge word one zero`
 pub fn merged(
     alloc: Global,
     word: Word,
-    one: Expr,
-    zero: Expr,
+    one: Box<Expr>,
+    zero: Box<Expr>,
     span: Span,
-) -> Result<Expr, AllocError>
-    ensures { IfOk result (λ e. tree_of e ≡ merged word (tree_of one) (tree_of zero) span) }
+) -> Result<Box<Expr>, AllocError>
+    ensures { IfOk result (λ e. tree_of e.value ≡ merged word (tree_of one.value) (tree_of zero.value) span) }
 {
-    let one = Box::new(alloc, one)?;
-    let zero = Box::new(alloc, zero)?;
-    Ok(Expr::Merge {
-        word,
-        one,
-        zero,
-        span,
-    })
+    boxed(
+        alloc,
+        Expr::Merge {
+            word,
+            one,
+            zero,
+            span,
+        },
+    )
 }
 
 /// `first fby operand`
-pub fn followed(alloc: Global, first: Lit, operand: Expr, span: Span) -> Result<Expr, AllocError>
-    ensures { IfOk result (λ e. tree_of e ≡ followed first (tree_of operand) span) }
+pub fn followed(
+    alloc: Global,
+    first: Lit,
+    operand: Box<Expr>,
+    span: Span,
+) -> Result<Box<Expr>, AllocError>
+    ensures { IfOk result (λ e. tree_of e.value ≡ followed first (tree_of operand.value) span) }
 {
-    let operand = Box::new(alloc, operand)?;
-    Ok(Expr::Fby {
-        first,
-        operand,
-        span,
-    })
+    boxed(
+        alloc,
+        Expr::Fby {
+            first,
+            operand,
+            span,
+        },
+    )
 }
 
 /// `buffer operand`
-pub fn buffered(alloc: Global, operand: Expr, span: Span) -> Result<Expr, AllocError>
-    ensures { IfOk result (λ e. tree_of e ≡ buffered (tree_of operand) span) }
+pub fn buffered(alloc: Global, operand: Box<Expr>, span: Span) -> Result<Box<Expr>, AllocError>
+    ensures { IfOk result (λ e. tree_of e.value ≡ buffered (tree_of operand.value) span) }
 {
-    let operand = Box::new(alloc, operand)?;
-    Ok(Expr::Buffer { operand, span })
+    boxed(alloc, Expr::Buffer { operand, span })
 }
 
 /// `node at word (args)`
-pub fn called(node: Name, at: Option<Word>, args: Vec<Expr>) -> Expr
-    ensures { tree_of result ≡ call node at (all_trees args.items) }
+pub fn called(
+    alloc: Global,
+    node: Name,
+    at: Option<Word>,
+    args: Vec<Expr>,
+) -> Result<Box<Expr>, AllocError>
+    ensures { IfOk result (λ e. tree_of e.value ≡ call node at (all_trees args.items)) }
 {
-    Expr::Call {
-        node,
-        at,
-        args: Exprs::new(args),
-    }
+    let args = Exprs::new(args);
+    boxed(alloc, Expr::Call { node, at, args })
 }
 
 /// A list of one entry.
@@ -157,4 +189,18 @@ pub fn push<T: Drop>(list: &mut Vec<T>, next: T) -> Result<(), AllocError>
 {
     list.push(next)?;
     Ok(())
+}
+
+/// A list of one expression.
+pub fn one_boxed(alloc: Global, entry: Box<Expr>) -> Result<Vec<Expr>, AllocError>
+    ensures { IfOk result (λ list. list.items ≡ entry.value ∷ []) }
+{
+    one(alloc, Box::into_inner(entry))
+}
+
+/// One more expression of a list.
+pub fn push_boxed(list: &mut Vec<Expr>, next: Box<Expr>) -> Result<(), AllocError>
+    ensures { OnOk result (list.new.items ≡ list.old.items ++ next.value ∷ []) }
+{
+    push(list, Box::into_inner(next))
 }

@@ -2,10 +2,11 @@
 ghost use Rattle.std.specs.Prelude.{◌≡◌, ◌⊎◌, ◌≤◌, IfOk, IfErr, Err, List, length, map};
 ghost use Rattle.std.specs.Result.{IsOkAnd};
 ghost use Rattle.lucy_word.specs.Limits.{limit_number};
+ghost use Rattle.lucy_tree.specs.Shaped.{IsShapedProgram};
 ghost use Rattle.lucy_tree.specs.View.{ProgramTree, program_tree, node_tree};
 ghost use Rattle.lucy_token.specs.declared.stop.SyntaxError.TheVariants as error;
-ghost use Rattle.lucy_syntax.specs.Texts as spec;
-ghost use Rattle.lucy_syntax.specs.Texts.{HasTree, IsRefused, IsUnexpected, IsStopped, IsWhole, most_text};
+ghost use Rattle.lucy_grammar.specs.Texts as spec;
+ghost use Rattle.lucy_grammar.specs.Texts.{HasTree, IsRefused, IsUnexpected, IsStopped, IsWhole, most_text};
 
 use crate::program::nodes;
 use crate::refusal::Refusal;
@@ -50,6 +51,7 @@ fn error_at(rest: &[Token], stop: Stop) -> SyntaxError
 /// the first token that can't follow what stands before it, or of the limit or the malformed token met before one.
 pub fn parse(alloc: Global, text: &[u8]) -> Result<Program, SyntaxError>
     ensures ok { IfOk result (λ program. HasTree text.now (program_tree program)) }
+    ensures shaped { IfOk result (λ program. IsShapedProgram (program_tree program)) }
     ensures refused { IfErr result (λ e. (e ≡ error.OutOfMemory) ⊎ IsRefused text.now e) }
     ensures accepted { (p : ProgramTree) → HasTree text.now p → (result ≡ Err error.OutOfMemory) ⊎ IsOkAnd result (λ program. program_tree program ≡ p) }
     ensures rejected { (e : SyntaxError) → IsRefused text.now e → (result ≡ Err error.OutOfMemory) ⊎ (result ≡ Err e) }

@@ -1,4 +1,4 @@
-use crate::{SyntaxError, parse, print};
+use crate::{SyntaxError, parse};
 use std::alloc::{AllocError, Global};
 use std::test::Fail;
 
@@ -119,38 +119,5 @@ fn the_deepest_and_the_longest_texts_are_read(rt: HostRuntime) -> Result<(), Fai
     let longer = repeated(alloc, b"let node f x = x", b" ", 1_048_561, b"")?;
     let found = answer(alloc, &longer)?;
     assert_eq!(rt; found.as_str(), "limit Text");
-    Ok(())
-}
-
-// A text, and how its program is printed.
-#[test]
-fn each_form_is_printed(rt: HostRuntime) -> Result<(), Fail> {
-    let alloc = rt.alloc();
-    let rows: [(&[u8], &str); 5] = [
-        (
-            b"let node p x = y where rec y = -3 + x * 2 when (10)",
-            "let node p (x) = (y) where rec\n  y = -3 + (x * (2 when (10)))\n",
-        ),
-        (
-            b"let node p x = y where rec y = x -1",
-            "let node p (x) = (y) where rec\n  y = x - 1\n",
-        ),
-        (
-            b"let node p x = y where rec y = buffer x when (10)",
-            "let node p (x) = (y) where rec\n  y = (buffer x) when (10)\n",
-        ),
-        (
-            b"let node sum x = o where rec o = x + (0 fby o)",
-            "let node sum (x) = (o) where rec\n  o = x + (0 fby o)\n",
-        ),
-        (
-            b"let node f()=a let node g(x:int::0(01),y:bool,z::(1))=(a,b)where rec(a:int,b)=f at(10)()and c=merge(10)x(f(x,1+2))and d=if not true then host max(x,2)else y whenot(10)",
-            "let node f () = (a)\nlet node g (x : int :: 0(01), y : bool, z :: (1)) = (a, b) where rec\n  (a : int, b) = f at (10) ()\n  and c = merge (10) x (f (x, 1 + 2))\n  and d = if (not true) then (host max (x, 2)) else (y whenot (10))\n",
-        ),
-    ];
-    for (text, wanted) in rows {
-        let found = print(alloc, &parse(alloc, text)?)?;
-        assert_eq!(rt; found.as_slice(), wanted.as_bytes());
-    }
     Ok(())
 }

@@ -30,6 +30,10 @@ pub record Printed : Type 0 where
   pub blanks : List ℕ
   pub what : What
 
+-- the token with these blanks before it
+abbrev pub in_print : List ℕ → What → Printed
+in_print blanks w = record { blanks = blanks; what = w }
+
 -- the bytes of tokens in print, and behind them these
 abbrev pub bytes_of : List Printed → List ℕ → List ℕ
 bytes_of [] rest = rest

@@ -31,6 +31,10 @@ trees_step e = trees_of e.list.items
 abbrev pub tree_of : Expr → Tree
 tree_of = fold-Expr Tree Trees tree_step trees_step
 
+-- the trees of expressions in a row
+abbrev pub all_trees : List Expr → Trees
+all_trees es = trees_of (map tree_of es)
+
 -- the expressions of a list
 abbrev pub expr_list : Exprs → List Expr
 expr_list e = e.list.items

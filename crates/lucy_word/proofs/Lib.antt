@@ -11,7 +11,7 @@ mod Repeats
 pub mod ShortLaws
 mod CountedLaws
 mod MakingLaws
-mod ComplementLaws
+pub mod ComplementLaws
 mod ShortTurn
 mod ShortPrefix
 mod Rows

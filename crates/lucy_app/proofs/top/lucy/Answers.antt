@@ -1,10 +1,14 @@
 use Rattle.std.proofs.Common.{ℕ, List, string_bytes, Err, refl, ap, ◌∙◌, subst, inl, inr}
 use Rattle.lucy_text.specs.Outside.{appended, Rose, WritesFront}
 use Rattle.lucy_app.specs.Refusals.{memory_line}
-use Rattle.lucy_app.specs.Show.{Shows}
+use Rattle.lucy_app.specs.File.{RefusesSyntax}
+use Rattle.lucy_app.specs.Show.{IsPrintOf, Shows}
+use Rattle.lucy_app.specs.Types.{IsReportOf, RefusesText, Types}
 use Rattle.lucy_app.proofs.Told.{answered_is_not_refused, refused_are_told, not_written}
 use Rattle.lucy_app.proofs.Causes.{one_cause}
-use Rattle.lucy_app.proofs.Ends.{has_cause, judged, tells, ends_for, cut_short, shows_answer, shows_refusal, one_file}
+use Rattle.lucy_app.proofs.Verdicts.{show_verdict}
+use Rattle.lucy_app.proofs.Typed.{types_verdict}
+use Rattle.lucy_app.proofs.Ends.{has_cause, judged, tells, ends_for, cut_short, does_answer, does_refusal, one_file}
 use Rattle.lucy_app.proofs.top.lucy.Goals as goal
 
 pub returns-in-Ok-clause-done : goal.returns-in-Ok-clause-done
@@ -54,25 +58,46 @@ returns-in-Err-clause-answered_always g c bytes named told fine =
 
 pub returns-in-Ok-answer-clause-show : goal.returns-in-Ok-answer-clause-show
 returns-in-Ok-answer-clause-show g c file named =
-    let same = one_file _ c.in-Some-Show.file.now file (rw c.in-Some-Show.field-0-is at c.in-Some-Show.ensures.some) named in
+    let same = one_file _ _ c.in-Some-Show.file.now file (rw c.in-Some-Show.field-0-is at c.in-Some-Show.ensures.some) named in
     let written = g.O.Sink.written c.args.out.now in
     let F : List ℕ → Type 0 = λ u. WritesFront written (g.O.Sink.written c.print-in-Ok-answer.new.out) u in
     let P : List ℕ → Type 0 = λ f. Shows (g.S.Shelf.files c.args.shelf.now) f c.print-in-Ok-answer.result written (g.O.Sink.written c.print-in-Ok-answer.new.out)
     (g.E.Sink.written c.args.err.now) (g.E.Sink.written c.print-in-Ok-answer.new.err)
     (Rose (g.S.Shelf.faults c.args.shelf.now) (g.S.Shelf.faults c.answer-in-Some-Show.new.shelf)) (Rose (g.O.Sink.faults c.args.out.now) (g.O.Sink.faults c.print-in-Ok-answer.new.out)) in
     subst P same
-    (shows_answer _ c.in-Some-Show.file.now c.in-Ok-answer.text.items _ _ _ _ _ _ _ c.in-Ok-answer.ensures.ok c.in-Ok-answer.ensures.refused_always c.in-Ok-answer.ensures.printed_always
-    c.in-Ok-answer.ensures.missing c.print-in-Ok-answer.ensures.status (λ z. c.print-in-Ok-answer.ensures.whole z ∙ ap (appended written) c.deref.ensures.value)
-    (λ z. ap g.E.Sink.written (c.print-in-Ok-answer.ensures.quiet z)) c.print-in-Ok-answer.ensures.fault (subst F c.deref.ensures.value c.print-in-Ok-answer.ensures.front)
-    c.print-in-Ok-answer.ensures.told)
+    (does_answer IsPrintOf RefusesSyntax show_verdict _ c.in-Some-Show.file.now c.in-Ok-answer.text.items _ _ _ _ _ _ _ c.in-Ok-answer.ensures.ok c.print-in-Ok-answer.ensures.status
+    (λ z. c.print-in-Ok-answer.ensures.whole z ∙ ap (appended written) c.deref.ensures.value) (λ z. ap g.E.Sink.written (c.print-in-Ok-answer.ensures.quiet z))
+    c.print-in-Ok-answer.ensures.fault (subst F c.deref.ensures.value c.print-in-Ok-answer.ensures.front) c.print-in-Ok-answer.ensures.told)
 
 pub returns-in-Err-answer-clause-show : goal.returns-in-Err-answer-clause-show
 returns-in-Err-answer-clause-show g c file named =
-    let same = one_file _ c.in-Some-Show.file.now file (rw c.in-Some-Show.field-0-is at c.in-Some-Show.ensures.some) named in
+    let same = one_file _ _ c.in-Some-Show.file.now file (rw c.in-Some-Show.field-0-is at c.in-Some-Show.ensures.some) named in
     let P : List ℕ → Type 0 = λ f. Shows (g.S.Shelf.files c.args.shelf.now) f c.refuse-in-Err-answer.result (g.O.Sink.written c.args.out.now) (g.O.Sink.written c.args.out.now)
     (g.E.Sink.written c.args.err.now) (g.E.Sink.written c.refuse-in-Err-answer.new.err)
     (Rose (g.S.Shelf.faults c.args.shelf.now) (g.S.Shelf.faults c.answer-in-Some-Show.new.shelf)) (Rose (g.O.Sink.faults c.args.out.now) (g.O.Sink.faults c.args.out.now)) in
     subst P same
-    (shows_refusal _ c.in-Some-Show.file.now c.in-Err-answer.refusal _ _ _ _ _ _ (λ cause k. c.answer-in-Some-Show.ensures.refused cause (c.in-Err-answer.is ∙ ap (λ r. Err r) k))
-    c.in-Err-answer.ensures.refused_always c.in-Err-answer.ensures.answered_always c.in-Err-answer.ensures.printed_always c.in-Err-answer.ensures.missing
+    (does_refusal IsPrintOf RefusesSyntax show_verdict _ c.in-Some-Show.file.now c.in-Err-answer.refusal _ _ _ _ _ _ (λ cause k. c.answer-in-Some-Show.ensures.refused cause (c.in-Err-answer.is ∙ ap (λ r. Err r) k))
     (λ k. c.answer-in-Some-Show.ensures.fault (c.in-Err-answer.is ∙ ap (λ r. Err r) k)) c.refuse-in-Err-answer.ensures.status c.refuse-in-Err-answer.ensures.line c.refuse-in-Err-answer.ensures.front)
+
+pub returns-in-Ok-answer-2-clause-types : goal.returns-in-Ok-answer-2-clause-types
+returns-in-Ok-answer-2-clause-types g c file named =
+    let same = one_file _ _ c.in-Some-Types.file.now file (rw c.in-Some-Types.field-0-is at c.in-Some-Types.ensures.some) named in
+    let written = g.O.Sink.written c.args.out.now in
+    let F : List ℕ → Type 0 = λ u. WritesFront written (g.O.Sink.written c.print-in-Ok-answer-2.new.out) u in
+    let P : List ℕ → Type 0 = λ f. Types (g.S.Shelf.files c.args.shelf.now) f c.print-in-Ok-answer-2.result written (g.O.Sink.written c.print-in-Ok-answer-2.new.out)
+    (g.E.Sink.written c.args.err.now) (g.E.Sink.written c.print-in-Ok-answer-2.new.err)
+    (Rose (g.S.Shelf.faults c.args.shelf.now) (g.S.Shelf.faults c.answer-in-Some-Types.new.shelf)) (Rose (g.O.Sink.faults c.args.out.now) (g.O.Sink.faults c.print-in-Ok-answer-2.new.out)) in
+    subst P same
+    (does_answer IsReportOf RefusesText types_verdict _ c.in-Some-Types.file.now c.in-Ok-answer-2.report.items _ _ _ _ _ _ _ c.in-Ok-answer-2.ensures.ok c.print-in-Ok-answer-2.ensures.status
+    (λ z. c.print-in-Ok-answer-2.ensures.whole z ∙ ap (appended written) c.deref-in-Ok-answer-2.ensures.value) (λ z. ap g.E.Sink.written (c.print-in-Ok-answer-2.ensures.quiet z))
+    c.print-in-Ok-answer-2.ensures.fault (subst F c.deref-in-Ok-answer-2.ensures.value c.print-in-Ok-answer-2.ensures.front) c.print-in-Ok-answer-2.ensures.told)
+
+pub returns-in-Err-answer-2-clause-types : goal.returns-in-Err-answer-2-clause-types
+returns-in-Err-answer-2-clause-types g c file named =
+    let same = one_file _ _ c.in-Some-Types.file.now file (rw c.in-Some-Types.field-0-is at c.in-Some-Types.ensures.some) named in
+    let P : List ℕ → Type 0 = λ f. Types (g.S.Shelf.files c.args.shelf.now) f c.refuse-in-Err-answer-2.result (g.O.Sink.written c.args.out.now) (g.O.Sink.written c.args.out.now)
+    (g.E.Sink.written c.args.err.now) (g.E.Sink.written c.refuse-in-Err-answer-2.new.err)
+    (Rose (g.S.Shelf.faults c.args.shelf.now) (g.S.Shelf.faults c.answer-in-Some-Types.new.shelf)) (Rose (g.O.Sink.faults c.args.out.now) (g.O.Sink.faults c.args.out.now)) in
+    subst P same
+    (does_refusal IsReportOf RefusesText types_verdict _ c.in-Some-Types.file.now c.in-Err-answer-2.refusal _ _ _ _ _ _ (λ cause k. c.answer-in-Some-Types.ensures.refused cause (c.in-Err-answer-2.is ∙ ap (λ r. Err r) k))
+    (λ k. c.answer-in-Some-Types.ensures.fault (c.in-Err-answer-2.is ∙ ap (λ r. Err r) k)) c.refuse-in-Err-answer-2.ensures.status c.refuse-in-Err-answer-2.ensures.line c.refuse-in-Err-answer-2.ensures.front)

@@ -1,26 +1,25 @@
-use Rattle.std.proofs.Common.{refl, ap}
+use Rattle.std.proofs.Common.{ap}
+use Rattle.lucy_grammar.specs.Symbols.{Part}
+use Rattle.lucy_grammar.specs.Reading.{IsOther, UnfitOptional}
+use Rattle.lucy_grammar.proofs.Steps.{as_value}
+use Rattle.lucy_syntax.proofs.Leaving.{leaves}
 use Rattle.lucy_tree.specs.declared.span.Name as name
 use Rattle.lucy_tree.specs.declared.decl.Decl as decl
 use Rattle.lucy_token.specs.declared.token.Kind.TheVariants as kind
-use Rattle.lucy_grammar.specs.Symbols.{Part}
-use Rattle.lucy_grammar.specs.Grammar.{rules}
-use Rattle.lucy_grammar.specs.Reading.{follows, begins, IsOther, UnfitOptional}
-use Rattle.lucy_grammar.proofs.Steps.{end, tok, tok_no, tok_bad, maybe, maybe_no, maybe_bad, rule, rule_no, others, as_value}
-use Rattle.lucy_syntax.proofs.Leaving.{leaves}
+use Rattle.lucy_grammar.proofs.NodeProductions as by
 use Rattle.lucy_syntax.proofs.decl.decl.Goals as goal
 
 pub returns-in_err-name-clause-refused : goal.returns-in_err-name-clause-refused
-unfolding rules follows begins
-returns-in_err-name-clause-refused c = leaves (IsOther c.args.ts.now kind.Name) _ c.from_residual.result c.from_residual.ensures.1 c.in_err-name.ensures.refused (λ rest u. rule_no 0 refl (others _ 0 refl tt) (tok_bad refl u))
+returns-in_err-name-clause-refused c =
+    leaves (IsOther c.args.ts.now kind.Name) _ c.from_residual.result c.from_residual.ensures.1 c.in_err-name.ensures.refused (λ rest u. by.decl_1 u)
 
 pub returns-in_err-holds-clause-refused : goal.returns-in_err-holds-clause-refused
-unfolding rules follows begins
-returns-in_err-holds-clause-refused c = leaves (UnfitOptional Part.Typing c.in_ok-name.ts.now) _ c.from_residual-in_err-holds.result c.from_residual-in_err-holds.ensures.1 c.in_err-holds.ensures.refused (λ rest u. rule_no 0 refl (others _ 0 refl tt) (tok_no c.in_ok-name.ensures.ok.1 (maybe_bad refl u)))
+returns-in_err-holds-clause-refused c =
+    leaves (UnfitOptional Part.Typing c.in_ok-name.ts.now) _ c.from_residual-in_err-holds.result c.from_residual-in_err-holds.ensures.1 c.in_err-holds.ensures.refused (λ rest u. by.decl_2 c.in_ok-name.ensures.ok.1 u)
 
 pub returns-in_err-word-clause-refused : goal.returns-in_err-word-clause-refused
-unfolding rules follows begins
-returns-in_err-word-clause-refused c = leaves (UnfitOptional Part.ClockOf c.in_ok-holds.ts.now) _ c.from_residual-in_err-word.result c.from_residual-in_err-word.ensures.1 c.in_err-word.ensures.refused (λ rest u. rule_no 0 refl (others _ 0 refl tt) (tok_no c.in_ok-name.ensures.ok.1 (maybe_no _ refl c.in_ok-holds.ensures.ok (maybe_bad refl u))))
+returns-in_err-word-clause-refused c =
+    leaves (UnfitOptional Part.ClockOf c.in_ok-holds.ts.now) _ c.from_residual-in_err-word.result c.from_residual-in_err-word.ensures.1 c.in_err-word.ensures.refused (λ rest u. by.decl_3 _ c.in_ok-name.ensures.ok.1 c.in_ok-holds.ensures.ok u)
 
 pub returns-clause-ok : goal.returns-clause-ok
-unfolding rules follows begins
-returns-clause-ok c = as_value (ap (λ (x : name.Name). let d : decl.Decl = record { name = x; holds = c.in_ok-holds.holds; word = c.in_ok-word.word } in d) c.in_ok-name.ensures.ok.2) (rule 0 refl (others _ 0 refl tt) (tok c.in_ok-name.ensures.ok.1 (maybe _ refl c.in_ok-holds.ensures.ok (maybe _ refl c.in_ok-word.ensures.ok (end _)))))
+returns-clause-ok c = as_value (ap (λ (x : name.Name). let d : decl.Decl = record { name = x; holds = c.in_ok-holds.holds; word = c.in_ok-word.word } in d) c.in_ok-name.ensures.ok.2) (by.decl _ _ _ c.in_ok-name.ensures.ok.1 c.in_ok-holds.ensures.ok c.in_ok-word.ensures.ok)

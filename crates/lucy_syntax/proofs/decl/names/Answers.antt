@@ -1,32 +1,27 @@
-use Rattle.std.proofs.Common.{◌∷◌, [], refl, arith}
-use Rattle.lucy_token.specs.declared.mark.Mark.TheVariants as mark
-use Rattle.lucy_token.specs.declared.token.Kind.TheVariants as kind
-use Rattle.lucy_grammar.specs.Symbols.{Part}
-use Rattle.lucy_grammar.specs.Grammar.{rules}
-use Rattle.lucy_grammar.specs.Reading.{follows, begins, IsOther}
-use Rattle.lucy_grammar.proofs.Numbers.{is_in, not_in}
-use Rattle.lucy_grammar.proofs.Steps.{end, tok, tok_no, tok_bad, sub, sub_bad, rule, rule_no, led_by, others, as_value}
+use Rattle.std.proofs.Common.{arith}
+use Rattle.lucy_grammar.specs.Reading.{IsOther}
+use Rattle.lucy_grammar.proofs.Steps.{as_value}
 use Rattle.lucy_grammar.proofs.Growing.{grown_first, grown_more, grown_bad, grown_refused, grown_ended, names}
+use Rattle.lucy_grammar.proofs.LeafProductions.{begun, unbegun, one_name}
 use Rattle.lucy_syntax.proofs.Leaving.{leaves}
 use Rattle.lucy_syntax.proofs.Facts.{fails}
+use Rattle.lucy_token.specs.declared.token.Kind.TheVariants as kind
+use Rattle.lucy_grammar.proofs.NodeProductions as by
 use Rattle.lucy_syntax.proofs.decl.names.Goals as goal
 
 pub returns-in_err-head-clause-refused : goal.returns-in_err-head-clause-refused
-unfolding rules follows begins
-returns-in_err-head-clause-refused c = leaves (IsOther c.args.ts.now kind.Name) _ c.from_residual.result c.from_residual.ensures.1 c.in_err-head.ensures.refused (λ rest u. grown_bad names (rule_no 0 refl (others _ 0 refl tt) (tok_bad refl u)))
+returns-in_err-head-clause-refused c =
+    leaves (IsOther c.args.ts.now kind.Name) _ c.from_residual.result c.from_residual.ensures.1 c.in_err-head.ensures.refused (λ rest u. grown_bad names (by.ident_1 u))
 
 pub more-init : goal.more-init
-unfolding rules follows begins
-more-init c = grown_first names c.in_ok-list.ensures (as_value c.in_ok-head.ensures.ok.2 (rule 0 refl (others _ 0 refl tt) (tok c.in_ok-head.ensures.ok.1 (end _)))) c.in_ok-head.ensures.shorter
+more-init c = grown_first names c.in_ok-list.ensures (as_value c.in_ok-head.ensures.ok.2 (by.ident c.in_ok-head.ensures.ok.1)) c.in_ok-head.ensures.shorter
 
 pub returns-in_err-next-clause-refused : goal.returns-in_err-next-clause-refused
-unfolding rules follows begins
-returns-in_err-next-clause-refused c = leaves (IsOther c.in_ok-rest.rest.now kind.Name) _ c.from_residual-in_err-next.result c.from_residual-in_err-next.ensures.1 c.in_err-next.ensures.refused (λ rest u. grown_refused names c.more.invariant (is_in c.more.over.now (begins Part.MoreName) (c.at.ensures.0 c.more-test.true) refl) (rule_no 0 refl (led_by 0 refl refl c.in_ok-rest.ensures.ok.1) (tok_no c.in_ok-rest.ensures.ok.1 (sub_bad refl (rule_no 0 refl (others _ 0 refl tt) (tok_bad refl u))))))
+returns-in_err-next-clause-refused c =
+    leaves (IsOther c.in_ok-rest.rest.now kind.Name) _ c.from_residual-in_err-next.result c.from_residual-in_err-next.ensures.1 c.in_err-next.ensures.refused (λ rest u. grown_refused names c.more.invariant (begun c.more.over.now one_name (c.at.ensures.0 c.more-test.true)) (by.more_name_2 c.in_ok-rest.ensures.ok.1 (by.ident_1 u)))
 
 pub more-preserved : goal.more-preserved
-unfolding rules follows begins
-more-preserved c = grown_more names c.more.invariant c.in_ok-push.ensures (is_in c.more.over.now (begins Part.MoreName) (c.at.ensures.0 c.more-test.true) refl) (rule 0 refl (led_by 0 refl refl c.in_ok-rest.ensures.ok.1) (tok c.in_ok-rest.ensures.ok.1 (sub refl (as_value c.in_ok-next.ensures.ok.2 (rule 0 refl (others _ 0 refl tt) (tok c.in_ok-next.ensures.ok.1 (end _)))) (end _)))) (omega (arith, c.in_ok-next.ensures.shorter, c.in_ok-rest.ensures.shorter))
+more-preserved c = grown_more names c.more.invariant c.in_ok-push.ensures (begun c.more.over.now one_name (c.at.ensures.0 c.more-test.true)) (by.more_name c.in_ok-rest.ensures.ok.1 (as_value c.in_ok-next.ensures.ok.2 (by.ident c.in_ok-next.ensures.ok.1))) (omega (arith, c.in_ok-next.ensures.shorter, c.in_ok-rest.ensures.shorter))
 
 pub returns-clause-ok : goal.returns-clause-ok
-unfolding rules follows begins
-returns-clause-ok c = grown_ended names c.more.invariant (not_in c.more.over.now ((kind.Mark mark.Comma) ∷ []) ((fails c.at.ensures.1 c.more-test.false), tt))
+returns-clause-ok c = grown_ended names c.more.invariant (unbegun c.more.over.now one_name (fails c.at.ensures.1 c.more-test.false))

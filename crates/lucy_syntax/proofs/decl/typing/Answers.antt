@@ -1,23 +1,18 @@
-use Rattle.std.proofs.Common.{◌∷◌, [], refl}
-use Rattle.lucy_token.specs.declared.mark.Mark.TheVariants as mark
-use Rattle.lucy_token.specs.declared.token.Kind.TheVariants as kind
+use Rattle.std.proofs.Common.{refl}
 use Rattle.lucy_grammar.specs.Symbols.{Part}
-use Rattle.lucy_grammar.specs.Grammar.{rules}
-use Rattle.lucy_grammar.specs.Reading.{follows, begins, Unfit}
-use Rattle.lucy_grammar.proofs.Numbers.{is_in, not_in}
-use Rattle.lucy_grammar.proofs.Steps.{end, tok, tok_no, sub, sub_bad, rule, rule_no, led_by}
+use Rattle.lucy_grammar.specs.Reading.{Unfit}
+use Rattle.lucy_grammar.proofs.LeafProductions.{begun, unbegun, a_type}
 use Rattle.lucy_syntax.proofs.Leaving.{leaves}
 use Rattle.lucy_syntax.proofs.Facts.{fails}
+use Rattle.lucy_grammar.proofs.NodeProductions as by
 use Rattle.lucy_syntax.proofs.decl.typing.Goals as goal
 
 pub returns-in_err-holds-clause-refused : goal.returns-in_err-holds-clause-refused
-unfolding rules follows begins
-returns-in_err-holds-clause-refused c = leaves (Unfit Part.TypeName c.in_ok-ts.ts.now) _ c.from_residual-in_err-holds.result c.from_residual-in_err-holds.ensures.1 c.in_err-holds.ensures.refused (λ rest u. (is_in c.args.ts.now (begins Part.Typing) (c.at.ensures.0 c.if-at.true) refl, rule_no 0 refl (led_by 0 refl refl c.in_ok-ts.ensures.ok.1) (tok_no c.in_ok-ts.ensures.ok.1 (sub_bad refl u))))
+returns-in_err-holds-clause-refused c =
+    leaves (Unfit Part.TypeName c.in_ok-ts.ts.now) _ c.from_residual-in_err-holds.result c.from_residual-in_err-holds.ensures.1 c.in_err-holds.ensures.refused (λ rest u. ((begun c.args.ts.now a_type (c.at.ensures.0 c.if-at.true)), by.typing_2 c.in_ok-ts.ensures.ok.1 u))
 
 pub returns-then-at-clause-ok : goal.returns-then-at-clause-ok
-unfolding rules follows begins
-returns-then-at-clause-ok c = (is_in c.args.ts.now (begins Part.Typing) (c.at.ensures.0 c.if-at.true) refl, rule 0 refl (led_by 0 refl refl c.in_ok-ts.ensures.ok.1) (tok c.in_ok-ts.ensures.ok.1 (sub refl c.in_ok-holds.ensures.ok (end _))))
+returns-then-at-clause-ok c = ((begun c.args.ts.now a_type (c.at.ensures.0 c.if-at.true)), by.typing c.in_ok-ts.ensures.ok.1 c.in_ok-holds.ensures.ok)
 
 pub returns-clause-ok : goal.returns-clause-ok
-unfolding rules follows begins
-returns-clause-ok c = (not_in c.args.ts.now ((kind.Mark mark.Colon) ∷ []) ((fails c.at.ensures.1 c.if-at.false), tt), refl)
+returns-clause-ok c = (unbegun c.args.ts.now a_type (fails c.at.ensures.1 c.if-at.false), refl)

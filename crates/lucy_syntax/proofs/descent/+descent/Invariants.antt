@@ -1,9 +1,11 @@
-use Rattle.std.proofs.Common.{length, ◌+◌, ◌*◌}
+use Rattle.std.proofs.Common.{length, ◌+◌, ◌-◌, ◌*◌}
 use Rattle.lucy_tree.specs.View.{tree_of}
 use Rattle.lucy_grammar.specs.Symbols.{Part}
-use Rattle.lucy_grammar.specs.Meanings.{grouped, sampled_by}
+use Rattle.lucy_grammar.specs.Meanings.{sampled_by}
 use Rattle.lucy_grammar.proofs.Growing.{Growing, args_from}
+use Rattle.lucy_syntax.specs.Levels.{rank}
 use Rattle.lucy_syntax.specs.Views.{all_trees}
+use Rattle.lucy_syntax.proofs.Climbing.{Climbed}
 use Rattle.lucy_syntax.proofs.descent.+descent.Given as goal
 
 abbrev pub decreases-given : goal.decreases-given
@@ -12,89 +14,59 @@ decreases-given l = 32 * length l.ts.now + 20
 abbrev pub decreases-args : goal.decreases-args
 decreases-args l = 32 * length l.ts.now + 19
 
-abbrev pub decreases-expr : goal.decreases-expr
-decreases-expr l = 32 * length l.ts.now + 18
+abbrev pub decreases-whole : goal.decreases-whole
+decreases-whole l = 32 * length l.ts.now + 18
 
 abbrev pub decreases-choice : goal.decreases-choice
 decreases-choice l = 32 * length l.ts.now + 17
 
-abbrev pub decreases-or : goal.decreases-or
-decreases-or l = 32 * length l.ts.now + 16
-
-abbrev pub decreases-and : goal.decreases-and
-decreases-and l = 32 * length l.ts.now + 15
-
-abbrev pub decreases-cmp : goal.decreases-cmp
-decreases-cmp l = 32 * length l.ts.now + 14
-
-abbrev pub decreases-sum : goal.decreases-sum
-decreases-sum l = 32 * length l.ts.now + 13
-
-abbrev pub decreases-prod : goal.decreases-prod
-decreases-prod l = 32 * length l.ts.now + 12
+abbrev pub decreases-operation : goal.decreases-operation
+decreases-operation l = 32 * length l.ts.now + 16
 
 abbrev pub decreases-samp : goal.decreases-samp
-decreases-samp l = 32 * length l.ts.now + 11
+decreases-samp l = 32 * length l.ts.now + 15
 
 abbrev pub decreases-pre : goal.decreases-pre
-decreases-pre l = 32 * length l.ts.now + 10
+decreases-pre l = 32 * length l.ts.now + 14
 
 abbrev pub decreases-negation : goal.decreases-negation
-decreases-negation l = 32 * length l.ts.now + 9
+decreases-negation l = 32 * length l.ts.now + 13
 
 abbrev pub decreases-buffered : goal.decreases-buffered
-decreases-buffered l = 32 * length l.ts.now + 9
+decreases-buffered l = 32 * length l.ts.now + 13
 
 abbrev pub decreases-merged : goal.decreases-merged
-decreases-merged l = 32 * length l.ts.now + 9
+decreases-merged l = 32 * length l.ts.now + 13
 
 abbrev pub decreases-literal : goal.decreases-literal
-decreases-literal l = 32 * length l.ts.now + 9
+decreases-literal l = 32 * length l.ts.now + 13
 
 abbrev pub decreases-atom : goal.decreases-atom
-decreases-atom l = 32 * length l.ts.now + 9
+decreases-atom l = 32 * length l.ts.now + 13
 
 abbrev pub decreases-named : goal.decreases-named
-decreases-named l = 32 * length l.ts.now + 8
+decreases-named l = 32 * length l.ts.now + 12
 
 abbrev pub decreases-hosted : goal.decreases-hosted
-decreases-hosted l = 32 * length l.ts.now + 8
+decreases-hosted l = 32 * length l.ts.now + 12
 
 abbrev pub decreases-applied : goal.decreases-applied
-decreases-applied l = 32 * length l.ts.now + 7
+decreases-applied l = 32 * length l.ts.now + 11
 
 abbrev pub decreases-small : goal.decreases-small
-decreases-small l = 32 * length l.ts.now + 6
-
-abbrev pub invariant-or-more : goal.invariant-or-more
-invariant-or-more l = Growing Part.Or Part.And Part.MoreAnd grouped l.ts (tree_of l.left) l.over
-
-abbrev pub decreases-or-more : goal.decreases-or-more
-decreases-or-more l = length l.over
-
-abbrev pub invariant-and-more : goal.invariant-and-more
-invariant-and-more l = Growing Part.And Part.Cmp Part.MoreCmp grouped l.ts (tree_of l.left) l.over
-
-abbrev pub decreases-and-more : goal.decreases-and-more
-decreases-and-more l = length l.over
-
-abbrev pub invariant-sum-more : goal.invariant-sum-more
-invariant-sum-more l = Growing Part.Sum Part.Prod Part.MoreProd grouped l.ts (tree_of l.left) l.over
-
-abbrev pub decreases-sum-more : goal.decreases-sum-more
-decreases-sum-more l = length l.over
-
-abbrev pub invariant-prod-more : goal.invariant-prod-more
-invariant-prod-more l = Growing Part.Prod Part.Samp Part.MoreSamp grouped l.ts (tree_of l.left) l.over
-
-abbrev pub decreases-prod-more : goal.decreases-prod-more
-decreases-prod-more l = length l.over
+decreases-small l = 32 * length l.ts.now + 10
 
 abbrev pub invariant-samp-more : goal.invariant-samp-more
-invariant-samp-more l = Growing Part.Samp Part.Pre Part.Sampling sampled_by l.ts (tree_of l.left) l.over
+invariant-samp-more l = Growing Part.Samp Part.Pre Part.Sampling sampled_by l.ts (tree_of l.left.value) l.over
 
 abbrev pub decreases-samp-more : goal.decreases-samp-more
 decreases-samp-more l = length l.over
+
+abbrev pub invariant-operation-up : goal.invariant-operation-up
+invariant-operation-up l = Climbed l.wanted l.level l.ts (tree_of l.left.value) l.over
+
+abbrev pub decreases-operation-up : goal.decreases-operation-up
+decreases-operation-up l = 8 * length l.over + (6 - rank l.level)
 
 abbrev pub invariant-args-more : goal.invariant-args-more
 invariant-args-more l = Growing Part.Args Part.Expr Part.MoreExpr args_from l.ts (all_trees l.list.items) l.over

@@ -1,33 +1,27 @@
-use Rattle.std.proofs.Common.{◌∷◌, [], refl, ap, arith, map}
+use Rattle.std.proofs.Common.{ap, map, arith}
 use Rattle.lucy_tree.specs.View.{def_tree}
-use Rattle.lucy_token.specs.declared.mark.Mark.TheVariants as mark
-use Rattle.lucy_token.specs.declared.token.Kind.TheVariants as kind
 use Rattle.lucy_grammar.specs.Symbols.{Part}
-use Rattle.lucy_grammar.specs.Grammar.{rules}
-use Rattle.lucy_grammar.specs.Reading.{follows, begins, Unfit}
-use Rattle.lucy_grammar.proofs.Numbers.{is_in, not_in}
-use Rattle.lucy_grammar.proofs.Steps.{end, tok, tok_no, sub, sub_bad, rule, rule_no, led_by}
+use Rattle.lucy_grammar.specs.Reading.{Unfit}
 use Rattle.lucy_grammar.proofs.Growing.{grown_first, grown_more, grown_bad, grown_refused, grown_ended, defs}
+use Rattle.lucy_grammar.proofs.LeafProductions.{begun, unbegun, one_def}
 use Rattle.lucy_syntax.proofs.Leaving.{leaves}
 use Rattle.lucy_syntax.proofs.Facts.{fails, put_mapped}
+use Rattle.lucy_grammar.proofs.NodeProductions as by
 use Rattle.lucy_syntax.proofs.program.defs.Goals as goal
 
 pub returns-in_err-head-clause-refused : goal.returns-in_err-head-clause-refused
-unfolding rules follows begins
-returns-in_err-head-clause-refused c = leaves (Unfit Part.Def c.args.ts.now) _ c.from_residual.result c.from_residual.ensures.1 c.in_err-head.ensures.refused (λ rest u. grown_bad defs u)
+returns-in_err-head-clause-refused c =
+    leaves (Unfit Part.Def c.args.ts.now) _ c.from_residual.result c.from_residual.ensures.1 c.in_err-head.ensures.refused (λ rest u. grown_bad defs u)
 
 pub more-init : goal.more-init
-unfolding rules follows begins
 more-init c = grown_first defs (ap (map def_tree) c.in_ok-list.ensures) c.in_ok-head.ensures.ok c.in_ok-head.ensures.shorter
 
 pub returns-in_err-next-clause-refused : goal.returns-in_err-next-clause-refused
-unfolding rules follows begins
-returns-in_err-next-clause-refused c = leaves (Unfit Part.Def c.in_ok-rest.rest.now) _ c.from_residual-in_err-next.result c.from_residual-in_err-next.ensures.1 c.in_err-next.ensures.refused (λ rest u. grown_refused defs c.more.invariant (is_in c.more.over.now (begins Part.MoreDef) (c.at.ensures.0 c.more-test.true) refl) (rule_no 0 refl (led_by 0 refl refl c.in_ok-rest.ensures.ok.1) (tok_no c.in_ok-rest.ensures.ok.1 (sub_bad refl u))))
+returns-in_err-next-clause-refused c =
+    leaves (Unfit Part.Def c.in_ok-rest.rest.now) _ c.from_residual-in_err-next.result c.from_residual-in_err-next.ensures.1 c.in_err-next.ensures.refused (λ rest u. grown_refused defs c.more.invariant (begun c.more.over.now one_def (c.at.ensures.0 c.more-test.true)) (by.more_def_2 c.in_ok-rest.ensures.ok.1 u))
 
 pub more-preserved : goal.more-preserved
-unfolding rules follows begins
-more-preserved c = grown_more defs c.more.invariant (put_mapped def_tree c.more.list.items c.in_ok-next.next c.in_ok-push.ensures) (is_in c.more.over.now (begins Part.MoreDef) (c.at.ensures.0 c.more-test.true) refl) (rule 0 refl (led_by 0 refl refl c.in_ok-rest.ensures.ok.1) (tok c.in_ok-rest.ensures.ok.1 (sub refl c.in_ok-next.ensures.ok (end _)))) (omega (arith, c.in_ok-next.ensures.shorter, c.in_ok-rest.ensures.shorter))
+more-preserved c = grown_more defs c.more.invariant (put_mapped def_tree c.more.list.items c.in_ok-next.next c.in_ok-push.ensures) (begun c.more.over.now one_def (c.at.ensures.0 c.more-test.true)) (by.more_def c.in_ok-rest.ensures.ok.1 c.in_ok-next.ensures.ok) (omega (arith, c.in_ok-next.ensures.shorter, c.in_ok-rest.ensures.shorter))
 
 pub returns-clause-ok : goal.returns-clause-ok
-unfolding rules follows begins
-returns-clause-ok c = grown_ended defs c.more.invariant (not_in c.more.over.now ((kind.Mark mark.And) ∷ []) ((fails c.at.ensures.1 c.more-test.false), tt))
+returns-clause-ok c = grown_ended defs c.more.invariant (unbegun c.more.over.now one_def (fails c.at.ensures.1 c.more-test.false))

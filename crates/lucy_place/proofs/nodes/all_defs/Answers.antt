@@ -1,0 +1,31 @@
+use Rattle.std.proofs.Common.{◌≡◌, ◌+◌, ◌∷◌, List, length, map, drop, ap, sym, ◌∙◌, subst, arith}
+use Rattle.lucy_tree.specs.View.{DefTree, def_tree}
+use Rattle.lucy_place.specs.Streams.{def_names}
+use Rattle.lucy_place.specs.Numbering.{Known}
+use Rattle.lucy_place.specs.Nodes.{past_def, past_defs}
+use Rattle.lucy_place.specs.Drafts.{next_of, IsSmall}
+use Rattle.lucy_place.specs.Views.{known_of}
+use Rattle.lucy_place.proofs.ListLaws.{drop_next}
+use Rattle.lucy_place.proofs.RoomLaws.{small_before_defs, later_names, left_names}
+use Rattle.lucy_place.proofs.ShapeLaws.{def_shaped_at}
+use Rattle.lucy_place.proofs.nodes.all_defs.Goals as goal
+
+pub def_places-requires-clause-lefts : goal.def_places-requires-clause-lefts
+def_places-requires-clause-lefts c =
+    let e = drop_next c.args.defs.now c.each.def-index c.def-item.result (omega arith) c.def-item.is in
+    let n = later_names c.args.defs.now c.each.def-index in
+    let m = left_names c.def-item.result (drop (c.each.def-index + 1) c.args.defs.now) in
+    let l : length (def_names (map def_tree (drop c.each.def-index c.args.defs.now))) ≡ length (def_names (map def_tree (c.def-item.result ∷ drop (c.each.def-index + 1) c.args.defs.now))) =
+    ap (λ ds. length (def_names (map def_tree ds))) e in
+    omega (arith, n, m, l, c.requires.lefts)
+
+pub def_places-requires-clause-room : goal.def_places-requires-clause-room
+def_places-requires-clause-room c =
+    let k : Known = known_of c.args.names.now in
+    let d : DefTree = def_tree c.def-item.result in
+    let rest : List DefTree = map def_tree (drop (c.each.def-index + 1) c.args.defs.now) in
+    let e : map def_tree (drop c.each.def-index c.args.defs.now) ≡ d ∷ rest = ap (map def_tree) (drop_next c.args.defs.now c.each.def-index c.def-item.result (omega arith) c.def-item.is) in
+    small_before_defs (past_def (next_of k c.each.draft) d) rest (subst IsSmall (sym c.each.invariant.next ∙ ap (past_defs (next_of k c.each.draft)) e) c.requires.room)
+
+pub def_places-requires-clause-shaped : goal.def_places-requires-clause-shaped
+def_places-requires-clause-shaped c = (def_shaped_at c.args.defs.now c.each.def-index c.def-item.result (omega arith) c.def-item.is c.requires.shaped).right

@@ -1,0 +1,70 @@
+-- What numbering adds to a draft of a node's places.
+use Rattle.std.specs.Prelude.{ℕ, ◌+◌, ◌≡◌, ◌≤◌, List, [], ◌++◌, length, Option, None}
+use Rattle.lucy_word.specs.Bits.{Bits}
+use Rattle.lucy_tree.specs.declared.span.Name.{Name}
+use Rattle.lucy_place.specs.declared.entry.PlaceKind.{PlaceKind}
+use Rattle.lucy_place.specs.declared.entry.PlaceKind.TheVariants as kind
+use Rattle.lucy_place.specs.declared.draft.Draft.{Draft}
+use Rattle.lucy_place.specs.declared.entry.PlaceEntry.{PlaceEntry}
+use Rattle.lucy_place.specs.declared.entry.CallSite.{CallSite}
+use Rattle.lucy_place.specs.Texts.{place_in}
+use Rattle.lucy_place.specs.Forms.{Called, Form, Forms, name, form, none}
+use Rattle.lucy_place.specs.Faults.{most_places}
+use Rattle.lucy_place.specs.Numbering.{Next, Known, past, past_all, entries, all_entries, sites, all_sites, own_kind, own_buffers}
+
+-- the numbers that come next in a draft
+abbrev pub next_of : Known → Draft → Next
+next_of k d = record { place = length k.streams + length d.places.items + 1; buffer = d.buffers + 1; call = length d.calls.items + 1 }
+
+-- no number has passed the most
+pub record IsSmall (at : Next) : Type 0 where
+  pub place : at.place ≤ most_places + 1
+  pub buffer : at.buffer ≤ most_places + 1
+  pub call : at.call ≤ most_places + 1
+
+-- the draft has gained these places and calls, and these numbers come next
+pub record Gains (k : Known) (es : List PlaceEntry) (ss : List CallSite) (at : Next) (old new : Draft) : Type 0 where
+  pub places : new.places.items ≡ old.places.items ++ es
+  pub calls : new.calls.items ≡ old.calls.items ++ ss
+  pub next : next_of k new ≡ at
+
+-- the draft has gained an expression
+abbrev pub Draws : Known → ℕ → Form → Draft → Draft → Type 0
+Draws k results f old new = Gains k (entries k (next_of k old) results f) (sites k (next_of k old) results f) (past (next_of k old) results f) old new
+
+-- the draft has gained operands
+abbrev pub DrawsAll : Known → Forms → Draft → Draft → Type 0
+DrawsAll k fs old new = Gains k (all_entries k (next_of k old) fs) (all_sites k (next_of k old) fs) (past_all (next_of k old) fs) old new
+
+-- the draft with nothing in it
+abbrev pub IsEmpty : Draft → Type 0
+IsEmpty d = (d.places.items ≡ []) × (d.calls.items ≡ []) × (d.buffers ≡ 0)
+
+-- a form that is no call
+abbrev pub IsPlain : Form → Type 0
+IsPlain (name n) = ⊥
+IsPlain (form (Called n base) span fs) = ⊥
+IsPlain (form h span fs) = Unit {0}
+
+-- the operands of a form
+abbrev pub operands : Form → Forms
+operands (name n) = none
+operands (form h span fs) = fs
+
+-- whether a form is a buffer, as a number
+abbrev pub buffers_of : Form → ℕ
+buffers_of (name n) = 0
+buffers_of (form h span fs) = own_buffers h
+
+-- what stands at the place of a form, with its number as a buffer and the places of its operands
+abbrev pub kind_of : ℕ → Form → List ℕ → PlaceKind
+kind_of n (name _) args = kind.Param
+kind_of n (form h span fs) args = own_kind n h args
+
+-- what stands where a call is kept free
+abbrev pub free_site : CallSite
+free_site = record { node = 0; at = None; args = [] }
+
+-- the call of a node
+abbrev pub site_of : Known → Name → Option Bits → List ℕ → CallSite
+site_of k n base args = record { node = place_in k.nodes n.text; at = base; args = args }

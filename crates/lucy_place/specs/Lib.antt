@@ -1,0 +1,13 @@
+pub mod Texts
+pub mod Forms
+pub mod Streams
+pub mod Faults
+pub mod Numbering
+pub mod Nodes
+pub mod Written
+pub mod PlacedProgram
+pub mod Placing
+pub mod Views
+pub mod Drafts
+pub mod Proper
+pub mod WrittenNodes

@@ -1,0 +1,87 @@
+-- The places of a node, and of a program.
+use Rattle.std.specs.Prelude.{ℕ, ◌+◌, List, [], ◌∷◌, ◌++◌, Some, length, map}
+use Rattle.lucy_tree.specs.declared.decl.Decl.{Decl}
+use Rattle.lucy_tree.specs.View.{DefTree, NodeTree, ProgramTree}
+use Rattle.lucy_place.specs.declared.entry.PlaceEntry.{PlaceEntry}
+use Rattle.lucy_place.specs.declared.entry.PlaceKind.{PlaceKind}
+use Rattle.lucy_place.specs.declared.entry.PlaceKind.TheVariants.{Param, Defined, Buffer}
+use Rattle.lucy_place.specs.declared.entry.CallSite.{CallSite}
+use Rattle.lucy_place.specs.declared.placed.PlacedNode.{PlacedNode}
+use Rattle.lucy_place.specs.Forms.{form_of}
+use Rattle.lucy_place.specs.Streams.{text_of, streams, node_names, wanted}
+use Rattle.lucy_place.specs.Numbering.{Next, Known, past, number, entries, sites, stream_place}
+
+-- the place of a name that is declared
+abbrev pub declared_entry : PlaceKind → Decl → PlaceEntry
+declared_entry kind d = record { name = Some d.name; holds = d.holds; word = d.word; kind = kind }
+
+-- the names on the left of a definition, defined by places in order
+abbrev pub left_entries : ℕ → List Decl → List PlaceEntry
+left_entries right [] = []
+left_entries right (d ∷ ds) = declared_entry (Defined right) d ∷ left_entries (right + 1) ds
+
+-- behind a definition
+abbrev pub past_def : Next → DefTree → Next
+past_def at d = past at (wanted d.left) (form_of d.right)
+
+-- behind definitions
+abbrev pub past_defs : Next → List DefTree → Next
+past_defs at [] = at
+past_defs at (d ∷ ds) = past_defs (past_def at d) ds
+
+-- the places of defined names, definition by definition
+abbrev pub defined : Known → Next → List DefTree → List PlaceEntry
+defined k at [] = []
+defined k at (d ∷ ds) = left_entries (number k at (form_of d.right)) d.left ++ defined k (past_def at d) ds
+
+-- the places of right sides
+abbrev pub rights : Known → Next → List DefTree → List PlaceEntry
+rights k at [] = []
+rights k at (d ∷ ds) = entries k at (wanted d.left) (form_of d.right) ++ rights k (past_def at d) ds
+
+-- the calls of right sides
+abbrev pub def_sites : Known → Next → List DefTree → List CallSite
+def_sites k at [] = []
+def_sites k at (d ∷ ds) = sites k at (wanted d.left) (form_of d.right) ++ def_sites k (past_def at d) ds
+
+-- the number of a place, where a buffer stands there
+abbrev pub buffer_at : ℕ → PlaceKind → List ℕ
+buffer_at place (Buffer n e) = place ∷ []
+buffer_at place _ = []
+
+-- the numbers of the buffers among places from a number on
+abbrev pub buffer_places : ℕ → List PlaceEntry → List ℕ
+buffer_places from [] = []
+buffer_places from (p ∷ ps) = buffer_at from p.kind ++ buffer_places (from + 1) ps
+
+-- the numbers behind those of the streams, where the right sides begin
+abbrev pub first_next : NodeTree → Next
+first_next n = record { place = length (streams n) + 1; buffer = 1; call = 1 }
+
+-- what names stand for in a node with these nodes above it
+abbrev pub known_in : ProgramTree → NodeTree → Known
+known_in above n = record { nodes = node_names above; streams = map text_of (streams n) }
+
+-- the places of a node: parameters, defined names, right sides
+abbrev pub node_entries : Known → NodeTree → List PlaceEntry
+node_entries k n = map (declared_entry Param) n.params ++ (defined k (first_next n) n.defs ++ rights k (first_next n) n.defs)
+
+-- a node with these nodes above it
+abbrev pub placed_node : ProgramTree → NodeTree → PlacedNode
+placed_node above n = record {
+  name = n.name;
+  params = length n.params;
+  places = node_entries (known_in above n) n;
+  results = map (λ r. stream_place (known_in above n) r.text) n.results;
+  buffers = buffer_places 1 (node_entries (known_in above n) n);
+  calls = def_sites (known_in above n) (first_next n) n.defs;
+}
+
+-- nodes below others
+abbrev pub placed_below : ProgramTree → List NodeTree → List PlacedNode
+placed_below above [] = []
+placed_below above (n ∷ ns) = placed_node above n ∷ placed_below (above ++ n ∷ []) ns
+
+-- a program
+abbrev pub placed_nodes : ProgramTree → List PlacedNode
+placed_nodes p = placed_below [] p

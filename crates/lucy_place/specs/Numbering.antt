@@ -1,0 +1,154 @@
+-- The numbers of places, and what stands at each.
+use Rattle.std.specs.Prelude.{ℕ, suc, zero, ◌+◌, Bool, true, false, List, [], ◌∷◌, ◌++◌, None, length, map, not, slice_index_or}
+use Rattle.lucy_word.specs.Bits.{Bits}
+use Rattle.lucy_tree.specs.View.{DefTree, NodeTree}
+use Rattle.lucy_place.specs.declared.entry.PlaceEntry.{PlaceEntry}
+use Rattle.lucy_place.specs.declared.entry.PlaceKind.{PlaceKind}
+use Rattle.lucy_place.specs.declared.entry.PlaceKind.TheVariants as kind
+use Rattle.lucy_place.specs.declared.entry.CallSite.{CallSite}
+use Rattle.lucy_place.specs.Texts.{place_in}
+use Rattle.lucy_place.specs.Forms.{Head, Literal, Operator, Host, Sampled, Merged, Followed, Buffered, Called, Form, Forms, name, form, none, and, form_of}
+use Rattle.lucy_place.specs.Streams.{streams, wanted}
+
+-- how many places a form takes for itself: a call one for each of its results, and any other form one
+abbrev pub own_rooms : ℕ → Head → ℕ
+own_rooms results (Called n at) = results
+own_rooms results h = 1
+
+abbrev pub own_buffers : Head → ℕ
+own_buffers Buffered = 1
+own_buffers h = 0
+
+abbrev pub own_calls : Head → ℕ
+own_calls (Called n at) = 1
+own_calls h = 0
+
+-- how many places, buffers and calls an expression has
+abbrev mutual
+  pub rooms : ℕ → Form → ℕ
+  rooms results (name n) = 0
+  rooms results (form h span fs) = own_rooms results h + all_rooms fs
+
+  pub all_rooms : Forms → ℕ
+  all_rooms none = 0
+  all_rooms (and f fs) = rooms 1 f + all_rooms fs
+
+abbrev mutual
+  pub buffers : Form → ℕ
+  buffers (name n) = 0
+  buffers (form h span fs) = own_buffers h + all_buffers fs
+
+  pub all_buffers : Forms → ℕ
+  all_buffers none = 0
+  all_buffers (and f fs) = buffers f + all_buffers fs
+
+abbrev mutual
+  pub calls : Form → ℕ
+  calls (name n) = 0
+  calls (form h span fs) = own_calls h + all_calls fs
+
+  pub all_calls : Forms → ℕ
+  all_calls none = 0
+  all_calls (and f fs) = calls f + all_calls fs
+
+-- the places of right sides, and those of a node
+abbrev pub def_rooms : List DefTree → ℕ
+def_rooms [] = 0
+def_rooms (d ∷ ds) = rooms (wanted d.left) (form_of d.right) + def_rooms ds
+
+abbrev pub node_rooms : NodeTree → ℕ
+node_rooms n = length (streams n) + def_rooms n.defs
+
+-- the numbers that the next place, the next buffer and the next call get
+pub record Next : Type 0 where
+  pub place : ℕ
+  pub buffer : ℕ
+  pub call : ℕ
+
+-- behind an expression
+abbrev pub past : Next → ℕ → Form → Next
+past at results f = record { place = at.place + rooms results f; buffer = at.buffer + buffers f; call = at.call + calls f }
+
+-- behind operands
+abbrev pub past_all : Next → Forms → Next
+past_all at none = at
+past_all at (and f fs) = past_all (past at 1 f) fs
+
+-- behind a form's own places, where its operands begin
+abbrev pub inside : Next → ℕ → Head → Next
+inside at results h = record { place = at.place + own_rooms results h; buffer = at.buffer + own_buffers h; call = at.call + own_calls h }
+
+-- the names of the nodes above, and those of the node's streams in order of their places
+pub record Known : Type 0 where
+  pub nodes : List (List ℕ)
+  pub streams : List (List ℕ)
+
+-- the place of a stream
+abbrev pub stream_place : Known → List ℕ → ℕ
+stream_place k text = place_in k.streams text + 1
+
+-- the place of an expression: of a name its stream's, and of a form the first of its own
+abbrev pub number : Known → Next → Form → ℕ
+number k at (name n) = stream_place k n.text
+number k at (form h span fs) = at.place
+
+-- the places of operands
+abbrev pub numbers : Known → Next → Forms → List ℕ
+numbers k at none = []
+numbers k at (and f fs) = number k at f ∷ numbers k (past at 1 f) fs
+
+-- the word of `when`; that of `whenot` has every bit turned
+abbrev pub kept : Bool → Bits → Bits
+kept false w = w
+kept true w = record { prefix = map not w.prefix; period = map not w.period }
+
+-- a place without a name
+abbrev pub unnamed : PlaceKind → PlaceEntry
+unnamed k = record { name = None; holds = None; word = None; kind = k }
+
+-- the results of a call, from one on
+abbrev pub results_from : ℕ → ℕ → ℕ → List PlaceEntry
+results_from call first zero = []
+results_from call first (suc n) = unnamed (kind.Result call first) ∷ results_from call (first + 1) n
+
+-- what stands at the place of a form that is no call, with its number as a buffer and the places of its operands (a program
+-- with a host form has no good names)
+abbrev pub own_kind : ℕ → Head → List ℕ → PlaceKind
+own_kind n (Literal l) args = kind.Lit l
+own_kind n (Operator op) args = kind.Op op args
+own_kind n (Host _) args = kind.Host 0 (slice_index_or args 0 0) (slice_index_or args 1 0)
+own_kind n (Sampled flip w) args = kind.When (slice_index_or args 0 0) (kept flip w)
+own_kind n (Merged w) args = kind.Merge w (slice_index_or args 0 0) (slice_index_or args 1 0)
+own_kind n (Followed l) args = kind.Fby l (slice_index_or args 0 0)
+own_kind n Buffered args = kind.Buffer n (slice_index_or args 0 0)
+own_kind n (Called _ base) args = kind.Param
+
+-- the places of a form itself
+abbrev pub own_entries : Next → ℕ → Head → List ℕ → List PlaceEntry
+own_entries at results (Called _ base) args = results_from at.call 0 results
+own_entries at results h args = unnamed (own_kind at.buffer h args) ∷ []
+
+-- the places of an expression: its own, then those of its operands from left to right
+abbrev mutual
+  pub entries : Known → Next → ℕ → Form → List PlaceEntry
+  entries k at results (name n) = []
+  entries k at results (form h span fs) = own_entries at results h (numbers k (inside at results h) fs) ++ all_entries k (inside at results h) fs
+
+  pub all_entries : Known → Next → Forms → List PlaceEntry
+  all_entries k at none = []
+  all_entries k at (and f fs) = entries k at 1 f ++ all_entries k (past at 1 f) fs
+
+-- the call that a form is, if it is one
+abbrev pub own_sites : Known → Head → List ℕ → List CallSite
+own_sites k (Called n base) args = record { node = place_in k.nodes n.text; at = base; args = args } ∷ []
+own_sites k h args = []
+
+-- the calls of an expression, in order of their names
+abbrev mutual
+  pub sites : Known → Next → ℕ → Form → List CallSite
+  sites k at results (name n) = []
+  sites k at results (form h span fs) = own_sites k h (numbers k (inside at results h) fs) ++ all_sites k (inside at results h) fs
+
+  pub all_sites : Known → Next → Forms → List CallSite
+  all_sites k at none = []
+  all_sites k at (and f fs) = sites k at 1 f ++ all_sites k (past at 1 f) fs

@@ -1,0 +1,23 @@
+-- What is told of a program: its places, or what is wrong with its names.
+use Rattle.std.specs.Prelude.{◌≡◌, ◌⊎◌, List, [], Err, map}
+use Rattle.lucy_tree.specs.View.{ProgramTree}
+use Rattle.lucy_place.specs.declared.error.NameError.{NameError}
+use Rattle.lucy_place.specs.declared.error.NameError.TheVariants.{OutOfMemory}
+use Rattle.lucy_place.specs.Faults.{faults, verdict}
+use Rattle.lucy_place.specs.Nodes.{placed_nodes}
+use Rattle.lucy_place.specs.Written.{first_unwritten}
+use Rattle.lucy_place.specs.PlacedProgram.{PlacedProgram}
+
+-- the first of the faults
+abbrev pub IsFirst : List NameError → NameError → Type 0
+IsFirst fs e = verdict fs ≡ Err e
+
+-- the first of the faults, unless memory ran out
+abbrev pub Tells : List NameError → NameError → Type 0
+Tells fs e = (e ≡ OutOfMemory) ⊎ IsFirst fs e
+
+-- the program's names are good, and these are its places
+pub record IsPlaced (p : ProgramTree) (v : PlacedProgram) : Type 0 where
+  pub good : faults p ≡ []
+  pub nodes : v.nodes ≡ placed_nodes p
+  pub unwritten : v.unwritten ≡ map first_unwritten p

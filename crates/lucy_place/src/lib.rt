@@ -1,0 +1,32 @@
+//! The places of a program: the parameters, defined names and expressions of each node, numbered, once every name is good.
+//!
+//! It stands on the trees of `lucy_tree` and on `indexmap`. Begin with `place` in `placing.rt` and `specs/Placing.antt`.
+//! `specs/Faults.antt` says what is wrong with names, `specs/Numbering.antt` and `specs/Nodes.antt` how places are numbered,
+//! and `specs/Written.antt` when a node is written; they see an expression as a form with operands, `specs/Forms.antt`.
+//! What a layer above may know of the tables is in `specs/Proper.antt` and `specs/WrittenNodes.antt`.
+#![tactic(auto)]
+
+mod draft;
+mod entry;
+mod error;
+mod faults;
+mod grow;
+mod lists;
+mod names;
+mod nodes;
+mod numbering;
+mod placed;
+mod placing;
+mod room;
+mod scope;
+mod steps;
+mod streams;
+#[cfg(test)]
+mod tests;
+mod unwritten;
+
+pub use entry::{CallSite, PlaceEntry, PlaceKind};
+pub use error::NameError;
+pub use lists::{Calls, Numbers, Places};
+pub use placed::{Placed, PlacedNode};
+pub use placing::place;

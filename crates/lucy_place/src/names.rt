@@ -1,0 +1,17 @@
+// Where names stand.
+ghost use Rattle.std.specs.Prelude.{◌≡◌, map};
+ghost use Rattle.lucy_tree.specs.View.{node_tree};
+ghost use Rattle.lucy_place.specs.Streams.{node_names};
+
+use crate::scope::Scope;
+use lucy_tree::Node;
+
+/// Where names stand: the nodes of the program, those above a node, and the names of these and of the node's streams.
+#[derive(Drop)]
+pub struct Names<'n> {
+    pub all: &'n [Node],
+    pub above: &'n [Node],
+    pub nodes: &'n Scope<'n>,
+    pub streams: &'n Scope<'n>,
+    ghost named: { nodes.now ≡ node_names (map node_tree above.now) },
+}

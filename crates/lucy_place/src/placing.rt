@@ -1,0 +1,91 @@
+// The places of a program.
+ghost use Rattle.std.specs.Prelude.{◌≡◌, ◌⊎◌, ◌++◌, ◌∷◌, [], ◌^◌, ◌<◌, ◌≤◌, length, map, IfOk, IfErr, OnOk, IsOk, Ok, Err};
+ghost use Rattle.lucy_tree.specs.View.{node_tree, def_tree, program_tree};
+ghost use Rattle.lucy_tree.specs.Shaped.{IsShapedNode, IsShapedProgram};
+ghost use Rattle.lucy_place.specs.declared.error.NameError.TheVariants as error;
+ghost use Rattle.lucy_place.specs.Streams.{text_of, streams, node_names};
+ghost use Rattle.lucy_place.specs.Faults.{verdict, def_faults, node_faults, nodes_faults, faults};
+ghost use Rattle.lucy_place.specs.Nodes.{placed_node, placed_below};
+ghost use Rattle.lucy_place.specs.Placing.{Tells, IsFirst, IsPlaced};
+ghost use Rattle.lucy_place.specs.Views.{within_of};
+
+use crate::error::NameError;
+use crate::faults::expr_names;
+use crate::grow::push;
+use crate::names::Names;
+use crate::nodes::node_places;
+use crate::placed::{Placed, PlacedNode};
+use crate::room::{fits, wanted};
+use crate::scope::Scope;
+use crate::streams::{results, streams};
+use crate::unwritten::first_unwritten;
+use lucy_tree::{Def, Node, Program};
+use lucy_word::Limit;
+use std::alloc::Global;
+
+// The names that right sides of definitions use.
+fn def_names(names: &Names<'_>, defs: &[Def]) -> Result<(), NameError>
+    ensures { result ≡ verdict (def_faults (within_of names.now) (map def_tree defs.now)) }
+{
+    'each: for def in defs {
+        expr_names(names, &def.right, wanted(def.left.list()))?;
+    }
+    Ok(())
+}
+
+// The places of a node with these nodes above it, once its names are good.
+fn next_node<'p>(
+    alloc: Global,
+    all: &'p [Node],
+    above: &'p [Node],
+    scope: &Scope<'p>,
+    node: &'p Node,
+) -> Result<PlacedNode, NameError>
+    requires named { scope.now ≡ node_names (map node_tree above.now) }
+    requires few { length scope.now < 2 ^ 32 }
+    requires shaped { IsShapedNode (node_tree node.now) }
+    ensures ok { IfOk result (λ placed. (node_faults (map node_tree all.now) (map node_tree above.now) (node_tree node.now) ≡ []) × (placed ≡ placed_node (map node_tree above.now) (node_tree node.now))) }
+    ensures refused { IfErr result (Tells (node_faults (map node_tree all.now) (map node_tree above.now) (node_tree node.now))) }
+{
+    if scope.find(node.name.text.bytes()).is_some() {
+        return Err(NameError::Twice(node.name.span));
+    }
+    let known = streams(alloc, node)?;
+    let names = Names {
+        all,
+        above,
+        nodes: scope,
+        streams: &known,
+    };
+    def_names(&names, node.defs.list())?;
+    results(alloc, &known, node.results.list())?;
+    if !fits(node, known.len()) {
+        return Err(NameError::TooMany(Limit::Places));
+    }
+    node_places(alloc, &names, node)
+}
+
+/// The places of a program, or what is wrong with its names: `OutOfMemory`, or the first fault, node by node. In a node first
+/// its own name is looked at, then its parameters, its defined names, its expressions in the order of the text, its results,
+/// and then the number of its places. The program has the shape that the grammar gives.
+pub fn place(alloc: Global, program: &Program) -> Result<Placed, NameError>
+    requires shaped { IsShapedProgram (program_tree program.now) }
+    ensures ok { IfOk result (IsPlaced (program_tree program.now)) }
+    ensures refused { IfErr result (Tells (faults (program_tree program.now))) }
+    ensures accepted { faults (program_tree program.now) ≡ [] → (result ≡ Err error.OutOfMemory) ⊎ IsOk result }
+    ensures rejected { (e : NameError) → IsFirst (faults (program_tree program.now)) e → (result ≡ Err error.OutOfMemory) ⊎ (result ≡ Err e) }
+{
+    let nodes = program.nodes.list();
+    let mut scope = Scope::new(alloc);
+    let mut list = Vec::new(alloc);
+    let mut spans = Vec::new(alloc);
+    'each: for (i, node) in nodes.iter().enumerate() {
+        push(
+            &mut list,
+            next_node(alloc, nodes, &nodes[..i], &scope, node)?,
+        )?;
+        push(&mut spans, first_unwritten(node))?;
+        scope.add(node.name.text.bytes())?;
+    }
+    Ok(Placed { list, spans })
+}

@@ -1,0 +1,190 @@
+// The single steps of numbering: a place or a call is kept free for a form, and settled once its operands are numbered.
+ghost use Rattle.std.specs.Prelude.{true, ◌≡◌, ◌+◌, ◌^◌, ◌<◌, ◌≤◌, ◌++◌, ◌∷◌, [], length, IfOk, IfErr, OnOk, slice_set};
+ghost use Rattle.lucy_tree.specs.Shaped.{HasZero};
+ghost use Rattle.lucy_place.specs.declared.error.NameError.TheVariants as error;
+ghost use Rattle.lucy_place.specs.declared.entry.PlaceKind.TheVariants as kind;
+ghost use Rattle.lucy_place.specs.Forms.{expr_form};
+ghost use Rattle.lucy_place.specs.Faults.{most_places};
+ghost use Rattle.lucy_place.specs.Numbering.{kept, unnamed, results_from, stream_place};
+ghost use Rattle.lucy_place.specs.Drafts.{free_site, site_of, buffers_of, next_of};
+ghost use Rattle.lucy_place.specs.Views.{known_of};
+
+use crate::draft::Draft;
+use crate::entry::{CallSite, PlaceEntry, PlaceKind};
+use crate::error::NameError;
+use crate::grow::push;
+use crate::lists::Numbers;
+use crate::names::Names;
+use lucy_tree::{Expr, Name};
+use lucy_word::{Word, WordError, complement};
+use std::alloc::Global;
+
+/// A word, where one is written.
+pub fn copy(alloc: Global, word: &Option<Word>) -> Result<Option<Word>, NameError>
+    ensures ok { IfOk result (λ copy. copy ≡ word.now) }
+    ensures refused { IfErr result (λ e. e ≡ error.OutOfMemory) }
+{
+    match word {
+        Some(word) => Ok(Some(word.copy(alloc)?)),
+        None => Ok(None),
+    }
+}
+
+/// The word of `when`, or with `flip` the complement of the word of `whenot`.
+pub fn kept(alloc: Global, flip: bool, word: &Word) -> Result<Word, NameError>
+    requires zero { flip ≡ true → HasZero word.now }
+    ensures ok { IfOk result (λ w. w ≡ kept flip word.now) }
+    ensures refused { IfErr result (λ e. e ≡ error.OutOfMemory) }
+{
+    if !flip {
+        return Ok(word.copy(alloc)?);
+    }
+    let turned = match complement(alloc, word) {
+        Ok(turned) => turned,
+        Err(WordError::OutOfMemory) => return Err(NameError::OutOfMemory),
+        Err(_) => unreachable!(),
+    };
+    let (_, some) = word.lengths();
+    let (_, turned_some) = turned.lengths();
+    prove!(some > 0 && turned_some > 0);
+    Ok(turned)
+}
+
+fn unnamed(kind: PlaceKind) -> PlaceEntry
+    ensures { result ≡ unnamed kind }
+{
+    PlaceEntry {
+        name: None,
+        holds: None,
+        word: None,
+        kind,
+    }
+}
+
+// The place of a stream.
+pub fn stream_place(names: &Names<'_>, name: &Name) -> u32
+    requires few { length names.now.streams.now ≤ most_places }
+    ensures { result ≡ stream_place (known_of names.now) name.now.text }
+{
+    names.streams.place(name.text.bytes()) as u32 + 1
+}
+
+/// The number of the next place.
+pub fn next_place(names: &Names<'_>, draft: &Draft) -> u32
+    requires small { (next_of (known_of names.now) draft.now).place ≤ most_places + 1 }
+    ensures { result ≡ (next_of (known_of names.now) draft.now).place }
+{
+    (names.streams.len() + draft.places.len() + 1) as u32
+}
+
+/// Keeps a place free for a form, which is so many buffers, and answers how many places stand before it.
+pub fn start(draft: &mut Draft, buffers: u32) -> Result<usize, NameError>
+    requires few { draft.old.buffers + buffers < 2 ^ 32 }
+    ensures at { IfOk result (λ own. own ≡ length draft.old.places.items) }
+    ensures places { OnOk result (draft.new.places.items ≡ draft.old.places.items ++ unnamed kind.Param ∷ []) }
+    ensures calls { draft.new.calls ≡ draft.old.calls }
+    ensures buffers { draft.new.buffers ≡ draft.old.buffers + buffers }
+    ensures refused { IfErr result (λ e. e ≡ error.OutOfMemory) }
+{
+    let own = draft.places.len();
+    draft.buffers += buffers;
+    push(&mut draft.places, unnamed(PlaceKind::Param))?;
+    Ok(own)
+}
+
+/// Settles what stands at a place that was kept free.
+pub fn settle(draft: &mut Draft, own: usize, kind: PlaceKind)
+    requires { own < length draft.old.places.items }
+    ensures places { draft.new.places.items ≡ slice_set draft.old.places.items own (unnamed kind) }
+    ensures calls { draft.new.calls ≡ draft.old.calls }
+    ensures buffers { draft.new.buffers ≡ draft.old.buffers }
+{
+    draft.places[own] = unnamed(kind);
+}
+
+// Puts the results of a call last.
+fn put_results(draft: &mut Draft, call: u32, results: usize) -> Result<(), NameError>
+    requires few { results ≤ most_places + 1 }
+    ensures places { OnOk result (draft.new.places.items ≡ draft.old.places.items ++ results_from call 0 results) }
+    ensures calls { draft.new.calls ≡ draft.old.calls }
+    ensures buffers { draft.new.buffers ≡ draft.old.buffers }
+    ensures refused { IfErr result (λ e. e ≡ error.OutOfMemory) }
+{
+    'each: for i in 0..results {
+        push(
+            &mut draft.places,
+            unnamed(PlaceKind::Result(call, i as u32)),
+        )?;
+    }
+    Ok(())
+}
+
+/// Keeps a call free behind the places of its results, and answers how many calls stand before it.
+pub fn start_call(alloc: Global, draft: &mut Draft, results: usize) -> Result<usize, NameError>
+    requires few { results ≤ most_places + 1 }
+    requires calls { length draft.old.calls.items ≤ most_places }
+    ensures at { IfOk result (λ site. site ≡ length draft.old.calls.items) }
+    ensures places { OnOk result (draft.new.places.items ≡ draft.old.places.items ++ results_from (length draft.old.calls.items + 1) 0 results) }
+    ensures calls { OnOk result (draft.new.calls.items ≡ draft.old.calls.items ++ free_site ∷ []) }
+    ensures buffers { draft.new.buffers ≡ draft.old.buffers }
+    ensures refused { IfErr result (λ e. e ≡ error.OutOfMemory) }
+{
+    let site = draft.calls.len();
+    put_results(draft, site as u32 + 1, results)?;
+    push(
+        &mut draft.calls,
+        CallSite {
+            node: 0,
+            at: None,
+            args: Numbers::new(Vec::new(alloc)),
+        },
+    )?;
+    Ok(site)
+}
+
+/// Settles a call that was kept free.
+pub fn settle_call(draft: &mut Draft, site: usize, call: CallSite)
+    requires { site < length draft.old.calls.items }
+    ensures calls { draft.new.calls.items ≡ slice_set draft.old.calls.items site call }
+    ensures places { draft.new.places ≡ draft.old.places }
+    ensures buffers { draft.new.buffers ≡ draft.old.buffers }
+{
+    draft.calls[site] = call;
+}
+
+/// The call of a node.
+pub fn call_site(
+    alloc: Global,
+    names: &Names<'_>,
+    node: &Name,
+    at: &Option<Word>,
+    args: Vec<u32>,
+) -> Result<CallSite, NameError>
+    requires { length names.now.nodes.now < 2 ^ 32 }
+    ensures ok { IfOk result (λ call. call ≡ site_of (known_of names.now) node.now at.now args.items) }
+    ensures refused { IfErr result (λ e. e ≡ error.OutOfMemory) }
+{
+    let at = copy(alloc, at)?;
+    Ok(CallSite {
+        node: names.nodes.place(node.text.bytes()) as u32,
+        at,
+        args: Numbers::new(args),
+    })
+}
+
+/// How many buffers a form itself is.
+pub fn buffers_of(expr: &Expr) -> u32
+    ensures { result ≡ buffers_of (expr_form expr.now) }
+{
+    match expr {
+        Expr::Buffer { .. } => 1,
+        Expr::Lit { .. } => 0,
+        Expr::Var { .. } => 0,
+        Expr::Op { .. } => 0,
+        Expr::Host { .. } => 0,
+        Expr::When { .. } => 0,
+        Expr::Merge { .. } => 0,
+        Expr::Fby { .. } => 0,
+        Expr::Call { .. } => 0,
+    }
+}

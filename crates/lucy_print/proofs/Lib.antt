@@ -1,0 +1,3 @@
+mod BoxedForms
+mod Operands
+mod ReadAgain

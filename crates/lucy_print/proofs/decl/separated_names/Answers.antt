@@ -1,0 +1,12 @@
+use Rattle.std.proofs.Common.{rules, ◌≡◌, ◌++◌, [], map, drop, arith, append_assoc, append-nil, ap, sym, ◌∙◌}
+use Rattle.std.proofs.lemmas.List.{drop_all}
+use Rattle.lucy_grammar.specs.Print.{name_token}
+use Rattle.lucy_grammar.proofs.PrintedText.{listed, text_commas, tight_names}
+use Rattle.lucy_print.proofs.decl.separated_names.Goals as goal
+
+pub returns : goal.returns
+returns c =
+    let l = c.more in
+    let none : drop l.next-index c.in-Some.more.now ≡ [] = drop_all l.next-index c.in-Some.more.now (omega arith) in
+    let done = sym (append-nil l.out.items) ∙ ap (λ xs. l.out.items ++ listed (map name_token xs)) (sym none) ∙ l.invariant in
+    rw (c.in-Some.ensures.cases.0, text_commas (name_token c.in-Some.first.now) (map name_token c.in-Some.more.now) (tight_names c.in-Some.more.now)) (search (rules, append_assoc))

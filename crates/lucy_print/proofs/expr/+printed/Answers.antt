@@ -1,0 +1,43 @@
+use Rattle.std.proofs.Common.{arith, append-nil, drop, rules, ◌≡◌, ◌++◌, [], append_assoc, sym, ap, ◌∙◌}
+use Rattle.std.proofs.lemmas.List.{drop_all}
+use Rattle.lucy_tree.specs.View.{tree_of, all_trees}
+use Rattle.lucy_grammar.specs.Print.{printed, all_printed}
+use Rattle.lucy_grammar.specs.Spans.{nowhere}
+use Rattle.lucy_grammar.proofs.PrintedText.{listed, text_parens, text_commas, tight_all, text_two, text_three, text_sampled, text_merged, text_followed, text_buffered}
+use Rattle.lucy_print.proofs.BoxedForms.{tree_merged, tree_followed, tree_buffered}
+use Rattle.lucy_print.proofs.Operands.{only_two, first_three}
+use Rattle.lucy_print.proofs.expr.+printed.Goals as goal
+
+pub args-returns : goal.args-returns
+args-returns t c = rw (text_parens _) (search (rules, append_assoc))
+
+pub enclosed-returns : goal.enclosed-returns
+enclosed-returns t c = rw (text_parens _) (search (rules, append_assoc))
+
+pub sampled-returns : goal.sampled-returns
+sampled-returns t c = rw (text_sampled _ _ _) (search (rules, append_assoc))
+
+pub expr-returns-in_ok-blank-in-Merge-2 : goal.expr-returns-in_ok-blank-in-Merge-2
+expr-returns-in_ok-blank-in-Merge-2 t c = rw (c.in-Merge.is, tree_merged _ _ _ _, text_merged _ _ _ _) (search (rules, append_assoc))
+
+pub expr-returns-in_ok-between-in-Fby : goal.expr-returns-in_ok-between-in-Fby
+expr-returns-in_ok-between-in-Fby t c = rw (c.in-Fby.is, tree_followed _ _ _, text_followed _ _ _) (search (rules, append_assoc))
+
+pub expr-returns-in_ok-leading-in-Buffer : goal.expr-returns-in_ok-leading-in-Buffer
+expr-returns-in_ok-leading-in-Buffer t c = rw (c.in-Buffer.is, tree_buffered _ _, text_buffered _ _) (search (rules, append_assoc))
+
+pub operated-returns-in_ok-between-in-len2 : goal.operated-returns-in_ok-between-in-len2
+operated-returns-in_ok-between-in-len2 t c =
+    rw (only_two _ _ _ c.in-len2.len_at_least c.in-len2.len_below c.a-item-then-list-lt3.is c.b-item.is, text_two c.args.op (tree_of c.a-item-then-list-lt3.result) (tree_of c.b-item.result) nowhere) (search (rules, append_assoc))
+
+pub operated-returns-in_ok-between-in-len3-up-2 : goal.operated-returns-in_ok-between-in-len3-up-2
+operated-returns-in_ok-between-in-len3-up-2 t c =
+    rw (first_three _ _ _ _ c.in-len3-up.len_at_least c.a-item-2.is c.b-item-2.is c.c-item.is, text_three c.args.op (tree_of c.a-item-2.result) (tree_of c.b-item-2.result) (tree_of c.c-item.result) nowhere) (search (rules, append_assoc))
+
+pub separated-returns : goal.separated-returns
+separated-returns t c =
+    let l = c.more in
+    let none : drop l.next-index c.in-Some.more.now ≡ [] = drop_all l.next-index c.in-Some.more.now (omega arith) in
+    let done = sym (append-nil l.out.items) ∙ ap (λ es. l.out.items ++ listed (all_printed (all_trees es))) (sym none) ∙ l.invariant in
+    rw (c.in-Some.ensures.cases.0, text_commas (printed (tree_of c.in-Some.first.now)) (all_printed (all_trees c.in-Some.more.now)) (tight_all (all_trees c.in-Some.more.now)))
+    (search (rules, append_assoc))

@@ -1,0 +1,34 @@
+// Prints a program.
+ghost use Rattle.std.specs.Prelude.{◌≡◌, ◌≤◌, ℕ, List, IfOk, length};
+ghost use Rattle.lucy_tree.specs.View.{ProgramTree, program_tree};
+ghost use Rattle.lucy_grammar.specs.Print.{program_text};
+ghost use Rattle.lucy_grammar.specs.Spans.{IsAlike};
+ghost use Rattle.lucy_grammar.specs.Texts.{HasTree, most_text};
+
+use crate::program::{line, nodes};
+use lucy_tree::Program;
+use lucy_word::OutOfMemory;
+use std::alloc::Global;
+
+// The text of a program, a node after another.
+fn written(alloc: Global, program: &Program) -> Result<Vec<u8>, OutOfMemory>
+    ensures { IfOk result (λ text. text.items ≡ program_text (program_tree program.now)) }
+{
+    let mut text = Vec::new(alloc);
+    nodes(alloc, program.nodes.list(), &mut text)?;
+    line(&mut text)?;
+    Ok(text)
+}
+
+/// The text of a program: a node after another, each definition on a line of its own, every operand but a literal or a
+/// name in parentheses.
+pub fn print(alloc: Global, program: &Program) -> Result<Vec<u8>, OutOfMemory>
+    ensures text { IfOk result (λ text. text.items ≡ program_text (program_tree program.now)) }
+
+    // The text of a program that was read, where it is no longer than a program may be, is read as that program again, but
+    // for places.
+    ensures again { (from : List ℕ) → HasTree from (program_tree program.now) → IfOk result (λ text. length text.items ≤ most_text →
+        (q : ProgramTree) × HasTree text.items q × IsAlike q (program_tree program.now)) }
+{
+    written(alloc, program)
+}

@@ -1,0 +1,52 @@
+-- Trees of the shape that the grammar gives: an operator has as many operands as it takes, an operator of the host two, the
+-- word of `whenot` and of `merge` has a zero in its period, several names are defined by a call, and nodes are few.
+use Rattle.std.specs.Prelude.{List, [], ◌∷◌, ◌≡◌, ◌<◌, ◌≤◌, true, length}
+use Rattle.std.specs.List.{AllByRecursion}
+use Rattle.lucy_word.specs.Bits.{Bits, ones_in}
+use Rattle.lucy_word.specs.Limits.{limit_number}
+use Rattle.lucy_word.specs.declared.limit.Limit.TheVariants as limit
+use Rattle.lucy_host.specs.Arity.{arity}
+use Rattle.lucy_tree.specs.declared.decl.Decl.{Decl}
+use Rattle.lucy_tree.specs.Tree.{Tree, Trees, literal, variable, operator, host, sampled, merged, followed, buffered, call, no_more, more, list_of}
+use Rattle.lucy_tree.specs.View.{DefTree, NodeTree, ProgramTree}
+
+-- the period has a zero
+abbrev pub HasZero : Bits → Type 0
+HasZero w = ones_in w.period < length w.period
+
+abbrev mutual
+  pub IsShaped : Tree → Type 0
+  IsShaped (literal l span) = Unit {0}
+  IsShaped (variable name) = Unit {0}
+  IsShaped (operator op args span) = (length (list_of args) ≡ arity op) × AreShaped args
+  IsShaped (host name args) = (length (list_of args) ≡ 2) × AreShaped args
+  IsShaped (sampled flip e w) = (flip ≡ true → HasZero w) × IsShaped e
+  IsShaped (merged w a b span) = HasZero w × IsShaped a × IsShaped b
+  IsShaped (followed l e span) = IsShaped e
+  IsShaped (buffered e span) = IsShaped e
+  IsShaped (call name at args) = AreShaped args
+
+  pub AreShaped : Trees → Type 0
+  AreShaped no_more = Unit {0}
+  AreShaped (more t ts) = IsShaped t × AreShaped ts
+
+abbrev pub IsCall : Tree → Type 0
+IsCall (call name at args) = Unit {0}
+IsCall _ = ⊥
+
+-- one name by any expression, several by a call
+abbrev pub Defines : List Decl → Tree → Type 0
+Defines [] e = ⊥
+Defines (d ∷ []) e = Unit {0}
+Defines (d ∷ e ∷ ds) right = IsCall right
+
+pub record IsShapedDef (d : DefTree) : Type 0 where
+  pub right : IsShaped d.right
+  pub defines : Defines d.left d.right
+
+abbrev pub IsShapedNode : NodeTree → Type 0
+IsShapedNode n = AllByRecursion IsShapedDef n.defs
+
+pub record IsShapedProgram (p : ProgramTree) : Type 0 where
+  pub nodes : AllByRecursion IsShapedNode p
+  pub few : length p ≤ limit_number limit.Nodes

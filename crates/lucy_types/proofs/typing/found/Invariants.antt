@@ -1,0 +1,5 @@
+use Rattle.lucy_types.proofs.NodeLaws.{AreTyped}
+use Rattle.lucy_types.proofs.typing.found.Given as goal
+
+abbrev pub invariant-each : goal.invariant-each
+invariant-each l = AreTyped l.placed.nodes l.node l.nodes.items

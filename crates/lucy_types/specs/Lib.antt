@@ -1,0 +1,10 @@
+pub mod Rules
+pub mod Typing
+pub mod Clash
+pub mod Tables
+pub mod Programs
+pub mod Gathered
+pub mod Ports
+pub mod Graphs
+pub mod Flooding
+pub mod Nodes
