@@ -1,7 +1,7 @@
 mod Agreement
 mod ClassLeads
 mod Leads
-mod OneVerdict
+pub mod OneVerdict
 mod Periods
 mod RateLaws
 pub mod Remainders

@@ -1,7 +1,7 @@
 -- One step back in a turn.
 use Rattle.std.proofs.Common.{ℕ, ◌+◌, ◌-◌, ◌*◌, ◌<◌, ◌≤◌, ◌≡◌, max, ap, ◌∙◌, inl, inr, arith}
 use Rattle.std.proofs.lemmas.Bool.{cases_lt, cases_eq}
-use Rattle.lucy_word.specs.Bits.{Bits, ones_to}
+use Rattle.lucy_word.specs.Bits.{Bits, ones_to, most_bits}
 use Rattle.lucy_order.specs.Turns.{IsTurn, AreShort, IsBest}
 use Rattle.lucy_order.specs.declared.turns.Turns.{Turns}
 use Rattle.lucy_word.proofs.BitsLaws.{ones_to-le}
@@ -61,5 +61,5 @@ best_none a t place best e = record {
 pub best_small : (a : Bits) (t : Turns) → AreShort t → (place best steps : ℕ) → place < t.turn → steps ≤ 2 * t.rounds + 1 → IsBest a t place best steps → best < 4611686018427387904
 best_small a t short place best steps within few h =
     let m : ℕ = h.reached.0 in
-    let far : m * t.step ≤ 8388608 * 1048576 = mul-le m t.step 8388608 1048576 (omega (arith, h.reached.1, short.turn, short.rounds)) short.step in
+    let far : m * t.step ≤ 8 * most_bits * most_bits = mul-le m t.step (8 * most_bits) most_bits (omega (arith, h.reached.1, short.turn, short.rounds)) short.step in
     omega (arith, h.reached.2, ones_to-le a (t.start + place + m * t.step), short.start, short.turn)

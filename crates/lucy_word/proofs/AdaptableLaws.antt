@@ -6,6 +6,7 @@ use Rattle.std.proofs.lemmas.Bool.{cases_lt, cases_order}
 use Rattle.lucy_word.specs.Bits.{Bits, bit_at, ones_to, ones_in, IsWord}
 use Rattle.lucy_word.specs.Adaptable.{SameRate, Precedes, IsAdaptable, IsSize}
 use Rattle.lucy_word.specs.Index.{IsIndex}
+use Rattle.lucy_word.specs.Shortest.{Same}
 use Rattle.lucy_word.specs.Sampling.{IsOn}
 use Rattle.lucy_word.proofs.BitsLaws.{ones_to-le, period_some}
 use Rattle.lucy_word.proofs.IndexLaws.{ones_to-periods, ones_to-same, IsIndex-some, IsIndex-within, IsIndex-there, IsIndex-behind}
@@ -122,3 +123,30 @@ IsSize-on a b c x y size of_x of_y word_c =
             omega (arith, is.passed i.0, ones_to-on c a x i.0 of_x, ones_to-on c b y i.0 of_y, ap (ones_to a) i.1.there, ap (ones_to b) i.1.there));
       },
     )
+
+-- adaptability is one of the bits and not of their spelling
+pub adaptable_same : (a b x y : Bits) → IsWord a → IsWord b → Same a x → Same b y → IsAdaptable a b → IsAdaptable x y
+adaptable_same a b x y word_a word_b of_a of_b is = (
+  SameRate-same a b x y of_a of_b (period_some a word_a) (period_some b word_b) is.0,
+  λ i. omega (arith, is.1 i, ones_to-same a x i of_a, ones_to-same b y i of_b),
+)
+
+-- and so is the size
+pub size_same : (a b x y : Bits) (size : ℕ) → Same a x → Same b y → IsSize a b size → IsSize x y size
+size_same a b x y size of_a of_b is = record {
+  reached = (is.reached.0, omega (arith, is.reached.1, ones_to-same a x is.reached.0 of_a, ones_to-same b y is.reached.0 of_b));
+  passed = λ i. omega (arith, is.passed i, ones_to-same a x i of_a, ones_to-same b y i of_b);
+}
+
+-- between words with the same bits nothing waits
+pub adaptable_self : (v w : Bits) → Same v w → IsAdaptable v w
+adaptable_self v w same = (
+  SameRate-from_close v w 0 (record { ahead = λ i. omega (arith, ones_to-same v w i same); behind = λ i. omega (arith, ones_to-same v w i same) }),
+  λ i. omega (arith, ones_to-same v w i same),
+)
+
+pub size_self : (v w : Bits) → Same v w → IsSize v w 0
+size_self v w same = record {
+  reached = (0, omega (arith, ones_to-same v w 0 same));
+  passed = λ i. omega (arith, ones_to-same v w i same);
+}

@@ -1,10 +1,11 @@
 pub mod BitsLaws
 pub mod IndexLaws
 pub mod SamplingLaws
+pub mod OnLaws
 pub mod AdaptableLaws
 mod StepLaws
 mod WalkLaws
-mod Multiples
+pub mod Multiples
 mod SpellingLemmas
 pub mod SpellingLaws
 mod Repeats

@@ -4,6 +4,8 @@ use Rattle.std.proofs.Math.Nat.{dvd-mul_left, dvd_refl, le_of_dvd}
 use Rattle.std.specs.Prelude.{codes}
 use Rattle.lucy_word.specs.Bits.{Bits, bit_at, ones_to}
 use Rattle.lucy_word.specs.Spelling.{Spells, BeginsSpelling, IsBadAt}
+use Rattle.lucy_word.specs.Complement.{turned}
+use Rattle.lucy_word.specs.Always.{always}
 use Rattle.lucy_word.specs.Sampling.{bit_on, AreComputedLengths}
 use Rattle.lucy_word.proofs.SpellingLemmas.{bad_close}
 use Rattle.lucy_word.proofs.IndexLaws.{IsIndex-none}
@@ -60,3 +62,17 @@ four_bits = record {
   common = record { of_left = dvd-mul_left 1 2; of_right = dvd_refl 2; positive = lit< tt; least = λ n some by_one by_two. le_of_dvd some by_two };
   of_period = refl;
 }
+
+-- 0(01) turned is 1(10)
+late_turned : turned late ≡ record { prefix = true ∷ []; period = true ∷ false ∷ [] }
+unfolding late
+late_turned = refl
+
+-- (10) on not (10) is (0010): what (10) on (10) leaves of (10)
+alternate_on_turned : map (bit_on alternate (turned alternate)) (1 ∷ 2 ∷ 3 ∷ 4 ∷ 5 ∷ 6 ∷ 7 ∷ 8 ∷ []) ≡ false ∷ false ∷ true ∷ false ∷ false ∷ false ∷ true ∷ false ∷ []
+unfolding alternate bit_at ones_to
+alternate_on_turned = refl
+
+ones_of_always : map (ones_to always) (0 ∷ 1 ∷ 2 ∷ 3 ∷ []) ≡ 0 ∷ 1 ∷ 2 ∷ 3 ∷ []
+unfolding ones_to bit_at
+ones_of_always = refl

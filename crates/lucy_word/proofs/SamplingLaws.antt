@@ -5,8 +5,8 @@ use Rattle.std.proofs.lemmas.Nat.{mul-le}
 use Rattle.std.proofs.lemmas.Bool.{cases_lt, cases_Bool, and_left}
 use Rattle.lucy_word.specs.Bits.{Bits, bit_at, one_if, ones_to, ones_in, IsWord}
 use Rattle.lucy_word.specs.Index.{IsIndex}
-use Rattle.lucy_word.specs.Multiple.{IsLcm}
 use Rattle.lucy_word.specs.Sampling.{bit_on, IsOn, AreComputedLengths, IsComputedLength}
+use Rattle.lucy_word.proofs.Multiples.{lcm_one}
 use Rattle.lucy_word.proofs.BitsLaws.{ones_to-none, ones_to-more, bit_at-prefix, bit_at-period, bit_at-turn, period_some}
 use Rattle.lucy_word.proofs.IndexLaws.{ones_to-rises, ones_to-one, ones_to-periods, IsIndex-some, IsIndex-one, IsIndex-from, IsIndex-before, IsIndex-there}
 
@@ -121,13 +121,10 @@ AreComputedLengths-some a b prefix period is word =
       | inr none ↦ absurd (let z : t * R ≡ 0 * R = ap (λ n. n * R) (let e : t ≡ 0 = omega arith in e) in omega arith)
     ]
 
-one_multiple : (a b m n : ℕ) → IsLcm a b m → IsLcm a b n → m ≡ n
-one_multiple a b m n h k = omega (arith, h.least n k.positive k.of_left k.of_right, k.least m h.positive h.of_left h.of_right)
-
 -- the computed length is one number
 pub IsComputedLength-one : (a b : Bits) (m n : ℕ) → IsComputedLength a b m → IsComputedLength a b n → m ≡ n
 IsComputedLength-one a b m n h k =
     let place = IsIndex-one a (length b.prefix) h.2.place k.2.place h.2.last_read k.2.last_read in
-    let ones = one_multiple (ones_in a.period) (length b.period) h.2.ones k.2.ones h.2.common k.2.common in
+    let ones = lcm_one (ones_in a.period) (length b.period) h.2.ones k.2.ones h.2.common k.2.common in
     let period : h.1 ≡ k.1 = h.2.of_period ∙ ap (λ x. x / ones_in a.period * length a.period) ones ∙ sym k.2.of_period in
     omega (arith, h.3, k.3, h.2.of_prefix, k.2.of_prefix)

@@ -6,27 +6,8 @@ use Prim.Native.Nat.{◌∣◌}
 use Rattle.lucy_word.specs.Bits.{bit_at}
 use Rattle.lucy_word.specs.Turns.{Repeats, turning}
 use Rattle.lucy_word.proofs.BitsLaws.{bit_at-period}
-use Rattle.lucy_word.proofs.Multiples.{gcd_exists}
+use Rattle.lucy_word.proofs.Multiples.{coprime_divides}
 use Rattle.lucy_word.proofs.Repeats.{repeats_gcd, repeats_multiple, repeats_period}
-
--- what shares no factor with q and divides a product with q divides the other factor
-coprime_divides : (q m x : ℕ) → 0 < q → 0 < x → ((t : ℕ) → t ∣ q → t ∣ m → t ≤ 1) → m ∣ q * x → m ∣ x
-coprime_divides q m x some_q some_x apart divides =
-    let found = gcd_exists (m * x + 1) (q * x) (m * x) (omega arith) in
-    let g : ℕ = found.0 in
-    let t : ℕ = g / x in
-    let by_x : x ∣ g = found.1.2 x (dvd-mul_left x q) (dvd-mul_left x m) in
-    let whole : t * x ≡ g = div-mul_cancel x by_x in
-    let P : ℕ → Type 0 = λ n. n ∣ q * x in
-    let Q : ℕ → Type 0 = λ n. n ∣ m * x in
-    let of_q : t ∣ q = dvd_of_mul-dvd-mul_right t some_x (subst P (sym whole) found.1.0) in
-    let of_m : t ∣ m = dvd_of_mul-dvd-mul_right t some_x (subst Q (sym whole) found.1.1) in
-    let small : t ≤ 1 = apart t of_q of_m in
-    let some : 0 < t = pos_of_dvd_of_pos of_q some_q in
-    let one : t ≡ 1 = omega arith in
-    let same : g ≡ x = sym whole ∙ ap (λ n. n * x) one ∙ omega arith in
-    let R : ℕ → Type 0 = λ n. m ∣ n in
-    subst R same (found.1.2 m divides (dvd-mul_right m x))
 
 -- what is known while factors are left out: `rest` has those that were not looked at
 pub record Reducing (v : List Bool) (turn rest factor : ℕ) : Type 0 where

@@ -3,7 +3,7 @@ use Rattle.std.specs.Prelude.{ℕ, ◌+◌, ◌<◌, ◌≤◌, ◌≡◌, Bool,
 use Rattle.std.proofs.Common.{eqb, ap, sym, refl, ◌∙◌, subst, inl, inr, arith, append_assoc}
 use Rattle.std.proofs.lemmas.Bool.{cases_order}
 use Rattle.std.proofs.lemmas.List.{take-append-drop, take-take, length-map}
-use Rattle.lucy_word.specs.Bits.{Bits, ones_in, bit_count}
+use Rattle.lucy_word.specs.Bits.{Bits, ones_in, bit_count, most_written}
 use Rattle.lucy_word.specs.Spelling.{spelled, Spells, BeginsSpelling, IsBadAt}
 use Rattle.lucy_word.specs.Scan.{Parts}
 use Rattle.lucy_word.specs.Shortest.{IsShortForm}
@@ -98,13 +98,13 @@ parts_spell text D E p = spells_parts text D E (bits_of D) (bits_of E) p.whole p
 parts_count : (D E : List ℕ) → length (bits_of D) + length (bits_of E) ≡ length D + length E
 parts_count D E = omega (arith, length-map D (λ c. eqb c 49), length-map E (λ c. eqb c 49))
 
-pub too_long : (text D E : List ℕ) → Parts text D E → 4096 < length D + length E → Refuses text TooLong
+pub too_long : (text D E : List ℕ) → Parts text D E → most_written < length D + length E → Refuses text TooLong
 too_long text D E p h = (record { prefix = bits_of D; period = bits_of E }, parts_spell text D E p, omega (arith, parts_count D E))
 
-pub no_one : (text D E : List ℕ) → Parts text D E → length D + length E ≤ 4096 → ones_in (bits_of E) ≡ 0 → Refuses text NoOne
+pub no_one : (text D E : List ℕ) → Parts text D E → length D + length E ≤ most_written → ones_in (bits_of E) ≡ 0 → Refuses text NoOne
 no_one text D E p h none = (record { prefix = bits_of D; period = bits_of E }, parts_spell text D E p, omega (arith, parts_count D E), none)
 
-pub readable : (text D E : List ℕ) (u v : List Bool) (w : Bits) → Parts text D E → length D + length E ≤ 4096 → u ≡ bits_of D → v ≡ bits_of E → 0 < ones_in v →
+pub readable : (text D E : List ℕ) (u v : List Bool) (w : Bits) → Parts text D E → length D + length E ≤ most_written → u ≡ bits_of D → v ≡ bits_of E → 0 < ones_in v →
     IsShortForm (record { prefix = u; period = v }) w → IsReadable text w
 readable text D E u v w p h is_u is_v some form = (
   record { prefix = u; period = v },

@@ -1,15 +1,18 @@
+pub mod Limits
 pub mod Bits
+pub mod Shortest
+pub mod Stored
 pub mod Spelling
 pub mod Reading
-pub mod Scan
-pub mod Multiple
-pub mod Adaptable
-pub mod Shortest
-pub mod Turns
 pub mod Making
-pub mod Complement
-pub mod Limits
-pub mod Counting
 pub mod Index
+pub mod Multiple
 pub mod Sampling
+pub mod Complement
+pub mod Always
+pub mod Adaptable
+-- what follows only serves proofs of bodies
+pub mod Counting
 pub mod SamplingSteps
+pub mod Scan
+pub mod Turns

@@ -9,7 +9,7 @@ use std::marker::Model;
 // How many bits lie between two counts that are kept.
 const STRIDE: usize = 64;
 
-/// Bits, seen as their list, at most 1,048,576.
+/// Bits, seen as their list, no more than `Limit::Word` allows.
 #[derive(Drop)]
 pub(crate) struct Counted {
     bits: Vec<bool>,

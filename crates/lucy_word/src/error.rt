@@ -12,7 +12,7 @@ pub enum WordError {
     /// The text spells no word. The number is the offset, in bytes from 0, of the first byte that doesn't fit, or the
     /// text's length where more bytes are missing.
     BadWord(u64),
-    /// More bits than are allowed: 4,096 as spelled for a written word, 1,048,576 else.
+    /// More bits than are allowed: `Limit::Written` as spelled for a written word, `Limit::Word` else.
     TooLong,
     /// The period has no one.
     NoOne,

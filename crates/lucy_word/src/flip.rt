@@ -1,12 +1,13 @@
 ghost use Rattle.std.specs.Prelude.{◌≡◌, ◌⊎◌, ◌↔◌, length, map, not, IfOk, IfErr};
 ghost use Rattle.lucy_word.specs.Bits.{ones_in};
 ghost use Rattle.lucy_word.specs.Shortest.{IsShortest};
-ghost use Rattle.lucy_word.specs.Complement.{IsComplement};
+ghost use Rattle.lucy_word.specs.Stored.{IsStored};
+ghost use Rattle.lucy_word.specs.Complement.{IsComplement, turned};
 
 use crate::{Word, WordError};
 use std::alloc::{AllocError, Global};
 
-fn turned(alloc: Global, bits: &[bool]) -> Result<Vec<bool>, AllocError>
+fn turned_bits(alloc: Global, bits: &[bool]) -> Result<Vec<bool>, AllocError>
     ensures { IfOk result (λ v. v.items ≡ map not bits.now) }
 {
     bits.iter().map(|bit| !*bit).collect(alloc)
@@ -16,14 +17,16 @@ fn turned(alloc: Global, bits: &[bool]) -> Result<Vec<bool>, AllocError>
 /// or `TooLong`.
 pub fn complement(alloc: Global, a: &Word) -> Result<Word, WordError>
     ensures ok { IfOk result (IsComplement a.now) }
+    ensures exact { IfOk result (λ w. w ≡ turned a.now) }
     ensures shortest { IfOk result IsShortest }
+    ensures stored { IfOk result IsStored }
     ensures zeros { IfOk result (λ w. ones_in a.now.period ≡ length a.now.period → ⊥) }
     ensures refused { IfErr result (λ e. (e ≡ WordError.OutOfMemory) ⊎ ((e ≡ WordError.NoOne) × (ones_in a.now.period ≡ length a.now.period))) }
 {
     if a.period.total() == a.period.len() as u64 {
         return Err(WordError::NoOne);
     }
-    let prefix = turned(alloc, a.prefix.bits())?;
-    let period = turned(alloc, a.period.bits())?;
+    let prefix = turned_bits(alloc, a.prefix.bits())?;
+    let period = turned_bits(alloc, a.period.bits())?;
     Ok(Word::shortest(alloc, prefix, period)?)
 }

@@ -1,8 +1,9 @@
 //! Infinite binary words that repeat from some place on, as the clocks of streams are.
 //!
 //! It stands on nothing else. Begin with `Word` in `word.rt` and with `specs/Bits.antt`, which says what the bits of a
-//! word and their counts are. Then `specs/Shortest.antt` says which spelling of a word is the shortest, `specs/Sampling.antt`
-//! what `on` gives, and `specs/Spelling.antt` how a word is spelled.
+//! word and their counts are. Then `specs/Shortest.antt` says which spelling of a word is the shortest, `specs/Stored.antt`
+//! what every word in memory is, `specs/Sampling.antt` what `on` gives, `specs/Complement.antt` what `complement` gives, and
+//! `specs/Spelling.antt` how a word is spelled. `limit.rt` and `specs/Limits.antt` have the limits of all crates.
 #![tactic(auto)]
 
 mod counted;
@@ -24,7 +25,7 @@ mod word;
 pub use error::{OutOfMemory, WordError};
 pub use flip::complement;
 pub use limit::Limit;
-pub use multiple::lcm;
+pub use multiple::{gcd, lcm};
 pub use sampling::on;
 pub use walk::Walk;
-pub use word::Word;
+pub use word::{Word, words_are_stored};

@@ -3,8 +3,8 @@ ghost use Rattle.std.specs.Prelude.{◌*◌, ◌<◌, ◌≤◌, ◌^◌};
 ghost use Rattle.std.specs.Int.{IsGcd};
 ghost use Rattle.lucy_word.specs.Multiple.{IsLcm};
 
-// The greatest common divisor, by Euclid's remainders.
-fn gcd(a: u64, b: u64) -> u64
+/// The greatest common divisor, by Euclid's remainders: 0 where both numbers are 0.
+pub fn gcd(a: u64, b: u64) -> u64
     ensures { IsGcd a b result }
 {
     let mut x = a;

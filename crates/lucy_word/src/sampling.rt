@@ -3,10 +3,10 @@ ghost use Rattle.std.specs.Prelude.{◌≡◌, ◌⊎◌, ◌↔◌, ◌+◌, �
 ghost use Rattle.lucy_word.specs.Bits.{IsWord, ones_in, most_bits};
 ghost use Rattle.lucy_word.specs.Sampling.{IsOn, bit_on, AreComputedLengths, IsOnTooLong};
 ghost use Rattle.lucy_word.specs.Shortest.{IsShortest};
+ghost use Rattle.lucy_word.specs.Stored.{IsStored};
 ghost use Rattle.lucy_word.specs.SamplingSteps.{IsLeft, AreFirstOn};
 
-use crate::word::MOST_BITS;
-use crate::{Walk, Word, WordError, lcm};
+use crate::{Limit, Walk, Word, WordError, lcm};
 use std::alloc::{AllocError, Global};
 
 // How many bits of prefix and of period `a on b` is computed with, if they are not too many.
@@ -23,7 +23,8 @@ fn computed_lengths(a: &Word, b: &Word) -> Option<(u64, u64)>
     let (_, period_b) = b.rate();
     let period = lcm(ones_a, period_b) / ones_a * period_a;
     let prefix = prefix_a.max(a.index(prefix_b)?);
-    if prefix <= MOST_BITS && period <= MOST_BITS - prefix {
+    let most = Limit::Word.number();
+    if prefix <= most && period <= most - prefix {
         Some((prefix, period))
     } else {
         None
@@ -73,12 +74,13 @@ fn on_bits(alloc: Global, a: &Word, b: &Word) -> Result<(Vec<bool>, Vec<bool>), 
 
 /// The clock `a on b`: of the ones of `a` those are kept whose number is that of a one of `b` (Cohen and others 2006).
 ///
-/// `TooLong` comes where its computed length is more than 1,048,576: the greater of the length of the prefix of `a` and the
+/// `TooLong` comes where its computed length is more than `Limit::Word` allows: the greater of the length of the prefix of `a` and the
 /// place of the one of `a` that reads the last bit of the prefix of `b`, and the periods of `a` whose ones are the least
 /// common multiple of those of one period and the length of the period of `b`. It never answers `BadWord` or `NoOne`.
 pub fn on(alloc: Global, a: &Word, b: &Word) -> Result<Word, WordError>
     ensures ok { IfOk result (IsOn a.now b.now) }
     ensures shortest { IfOk result IsShortest }
+    ensures stored { IfOk result IsStored }
     ensures too_long { IsErrAnd result (λ e. e ≡ WordError.TooLong) ↔ IsOnTooLong a.now b.now }
     ensures refused { IfErr result (λ e. (e ≡ WordError.OutOfMemory) ⊎ (e ≡ WordError.TooLong)) }
 {

@@ -1,10 +1,11 @@
 ghost use Rattle.std.specs.Prelude.{◌≡◌, ◌⊎◌, ◌↔◌, ◌+◌, ◌<◌, ◌≤◌, length, IsTrue, IfOk, IfErr};
 ghost use Rattle.lucy_word.specs.Bits.{bit_at, ones_to, ones_in, bit_count, most_bits};
 ghost use Rattle.lucy_word.specs.Shortest.{Same, IsShortest, IsShortForm};
+ghost use Rattle.lucy_word.specs.Stored.{IsStored};
 
 use crate::counted::{Counted, count};
 use crate::shortest::shorten;
-use crate::{OutOfMemory, Walk, WordError};
+use crate::{Limit, OutOfMemory, Walk, WordError};
 use std::alloc::{AllocError, Global};
 use std::marker::Model;
 
@@ -30,9 +31,6 @@ impl Model for Word {
         IsWord bits × (bit_count bits ≤ most_bits) × IsShortest bits };
 }
 
-/// The bits that a word may have, as it is computed.
-pub(crate) const MOST_BITS: u64 = 1_048_576;
-
 impl Word {
     ghost use Rattle.lucy_word.specs.Making.{Unmakes, IsMade, OnlyMade};
 
@@ -52,17 +50,17 @@ impl Word {
         Ok(Word { prefix, period })
     }
 
-    /// The word of a prefix and a period, which isn't empty. `TooLong` comes where they have together more than 1,048,576
-    /// bits as given; else `NoOne` where the period has no one. It never answers `BadWord`.
+    /// The word of a prefix and a period, which isn't empty. `TooLong` comes where they have together more bits, as
+    /// given, than `Limit::Word` allows; else `NoOne` where the period has no one. It never answers `BadWord`.
     pub fn from_bits(alloc: Global, prefix: &[bool], period: &[bool]) -> Result<Word, WordError>
         requires { 0 < length period.now }
         ensures ok { IfOk result (λ w. IsMade (record { prefix = prefix.now; period = period.now }) w) }
         ensures refused { IfErr result (λ e. (e ≡ WordError.OutOfMemory) ⊎ Unmakes (record { prefix = prefix.now; period = period.now }) e) }
         ensures only { OnlyMade (record { prefix = prefix.now; period = period.now }) result }
+        ensures stored { IfOk result IsStored }
     {
-        if prefix.len() as u64 > MOST_BITS
-            || period.len() as u64 > MOST_BITS - prefix.len() as u64
-        {
+        let most = Limit::Word.number();
+        if prefix.len() as u64 > most || period.len() as u64 > most - prefix.len() as u64 {
             return Err(WordError::TooLong);
         }
         if count(period) == 0 {
@@ -75,7 +73,8 @@ impl Word {
 
     /// An equal word.
     pub fn copy(&self, alloc: Global) -> Result<Word, OutOfMemory>
-        ensures { IfOk result (λ w. w ≡ self.now) }
+        ensures equal { IfOk result (λ w. w ≡ self.now) }
+        ensures stored { IfOk result IsStored }
     {
         let prefix = self.prefix.copy(alloc)?;
         let period = self.period.copy(alloc)?;
@@ -110,7 +109,7 @@ impl Word {
     }
 
     /// The word's rate as a fraction: the ones of its period, from 1 to the second number, and the period's length in
-    /// bits, at most 1,048,576.
+    /// bits, at most that of `Limit::Word`.
     pub fn rate(&self) -> (u64, u64)
         ensures ones { result.0 ≡ ones_in self.now.period }
         ensures length { result.1 ≡ length self.now.period }
@@ -121,7 +120,7 @@ impl Word {
         (self.period.total(), self.period.len() as u64)
     }
 
-    /// The lengths of prefix and period in bits, together at most 1,048,576. The second is at least 1.
+    /// The lengths of prefix and period in bits, together at most `Limit::Word`. The second is at least 1.
     pub fn lengths(&self) -> (u64, u64)
         ensures prefix { result.0 ≡ length self.now.prefix }
         ensures period { result.1 ≡ length self.now.period }
@@ -132,9 +131,11 @@ impl Word {
         (self.prefix.len() as u64, self.period.len() as u64)
     }
 
-    /// Whether the two have the same bits at every instant.
+    /// Whether the two have the same bits at every instant, which words in shortest form have only where prefixes and periods
+    /// are equal.
     pub fn same(&self, other: &Word) -> bool
-        ensures { IsTrue result ↔ Same self.now other.now }
+        ensures same { IsTrue result ↔ Same self.now other.now }
+        ensures equal { IsTrue result ↔ (self.now ≡ other.now) }
     {
         self.prefix.same(&other.prefix) && self.period.same(&other.period)
     }
@@ -145,4 +146,11 @@ impl Word {
     {
         Walk::new(self.prefix.bits(), self.period.bits())
     }
+}
+
+/// A word in memory has a one in its period, no more bits than are allowed, and is in shortest form.
+pub fn words_are_stored(word: &Word)
+    ensures { IsStored word.now }
+{
+    let _ = &word.period;
 }

@@ -5,7 +5,7 @@ use Rattle.lucy_word.specs.Index.{IsIndex}
 use Rattle.lucy_word.specs.Multiple.{IsLcm}
 use Rattle.lucy_word.specs.Sampling.{AreComputedLengths, IsOnTooLong}
 use Rattle.lucy_word.proofs.sampling.computed_lengths.Goals as goal
-use Rattle.lucy_word.proofs.sampling.computed_lengths.Goals.{else-prefix-le-MOST_BITS-via-then-prefix-le-MOST_BITS+else-period-prefix, else-prefix-le-MOST_BITS-via-else-prefix-le-MOST_BITS}
+use Rattle.lucy_word.proofs.sampling.computed_lengths.Goals.{else-prefix-most-via-then-prefix-most+else-period-most, else-prefix-most-via-else-prefix-most}
 
 -- the lengths, from what the calls answered
 lengths_of : (a b : Bits) (prefix_a period_a prefix_b period_b ones place common : ℕ) → prefix_a ≡ length a.prefix → period_a ≡ length a.period →
@@ -27,9 +27,9 @@ returns-in_err-index-clause-too_long c =
     let P : Option (ℕ × ℕ) → Type 0 = λ r. IfNone r (IsOnTooLong c.args.a.now c.args.b.now) in
     subst P (sym c.from_residual.ensures) long
 
-pub returns-else-prefix-le-MOST_BITS-clause-too_long : goal.returns-else-prefix-le-MOST_BITS-clause-too_long
-returns-else-prefix-le-MOST_BITS-clause-too_long c =
+pub returns-else-prefix-most-clause-too_long : goal.returns-else-prefix-most-clause-too_long
+returns-else-prefix-most-clause-too_long c =
     let are = lengths_of c.args.a.now c.args.b.now c.lengths-prefix_a.result.0 c.rate-ones_a.result.1 c.lengths-prefix_b.result.0 c.rate-period_b.result.1
     c.rate-ones_a.result.0 c.in_ok-index.field-0 c.lcm.result c.lengths-prefix_a.ensures.prefix c.rate-ones_a.ensures.length c.lengths-prefix_b.ensures.prefix
     c.rate-period_b.ensures.length c.rate-ones_a.ensures.ones c.in_ok-index.ensures.some c.lcm.ensures.least in
-    (_, (_, _, are, refl), elim c.else-prefix-le-MOST_BITS.branch [ else-prefix-le-MOST_BITS-via-then-prefix-le-MOST_BITS+else-period-prefix w ↦ omega arith | else-prefix-le-MOST_BITS-via-else-prefix-le-MOST_BITS w ↦ omega arith ])
+    (_, (_, _, are, refl), elim c.else-prefix-most.branch [ else-prefix-most-via-then-prefix-most+else-period-most w ↦ omega arith | else-prefix-most-via-else-prefix-most w ↦ omega arith ])
