@@ -1,4 +1,8 @@
 pub mod NumberLaws
 pub mod OpLaws
 pub mod HostLaws
+pub mod OpsLaws
+pub mod Answering
+pub mod ListsLaws
+pub mod ShiftLaws
 mod Rows

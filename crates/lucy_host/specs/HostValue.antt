@@ -1,5 +1,5 @@
 -- The table of the operators that a host lends, on integers.
-use Rattle.std.specs.Prelude.{ℤ, pos, neg_ℤ, ◌+ℤ◌, ◌-ℤ◌, ◌*ℤ◌, ◌^◌, int_lt, int_le, unsigned_abs, if◌then◌else◌}
+use Rattle.std.specs.Prelude.{ℕ, ℤ, List, pos, neg_ℤ, ◌+ℤ◌, ◌-ℤ◌, ◌*ℤ◌, ◌^◌, int_lt, int_le, unsigned_abs, slice_index_or, if◌then◌else◌}
 use Rattle.std.specs.Int.{int_min, int_max, int_div_euclid}
 use Rattle.lucy_host.specs.Numbers.{minus_one, wrapped, cut}
 use Rattle.lucy_host.specs.declared.kind.HostKind.{HostKind}
@@ -22,3 +22,7 @@ host_value AbsDiff a b = cut (pos (unsigned_abs (a -ℤ b)))
 host_value SatAdd a b = cut (a +ℤ b)
 host_value SatSub a b = cut (a -ℤ b)
 host_value Shift a b = shifted a b
+
+-- the value of the operator of this number, by the kinds of all of them (past their end that of `Min`, which says nothing)
+abbrev pub hosted_value : List HostKind → ℕ → ℤ → ℤ → ℤ
+hosted_value kinds op a b = host_value (slice_index_or kinds op Min) a b
