@@ -1,9 +1,10 @@
 -- The events between two states, in the order of a whole run, lead from the one to the other: by counts.
-use Rattle.std.proofs.Common.{ℕ, ◌<◌, ◌≤◌, ◌≡◌, ◌⊎◌, Bool, cond, leb, ltb, ◌&&◌, List, [], ◌∷◌, min, max, ap, sym, ◌∙◌, subst, inl, inr, arith}
-use Rattle.std.proofs.lemmas.Bool.{cases_lt, cases_eq, cases_Bool, leb-true, leb-false, and_parts, and_cases, ltb-true, ltb-false}
+use Rattle.std.proofs.Common.{ℕ, ◌<◌, ◌≤◌, ◌≡◌, ◌⊎◌, Bool, cond, leb, ltb, ◌&&◌, List, [], ◌∷◌, ◌++◌, min, max, ap, sym, refl, ◌∙◌, subst, inl, inr, arith}
+use Rattle.std.proofs.lemmas.Bool.{cases_lt, cases_eq, cases_Bool, leb-true, leb-false, and_parts, and_cases, ltb-true, ltb-false, lt-leb}
 use Rattle.lucy_event.specs.Systems.{Takes, Gives, System, op_at, IsWired, given, taken}
 use Rattle.lucy_event.specs.Runs.{IsPossible, none_done, step, IsRun, after, Leads, IsWhole, IsWithin, between_from, between}
 use Rattle.lucy_event.proofs.CountLaws.{step-same, step-other, given-le, taken-le, given-lt, taken-lt}
+use Rattle.lucy_event.proofs.RunLaws.{after-le}
 
 -- s held between low and high
 abbrev pub clamp : (ℕ → ℕ) → (ℕ → ℕ) → (ℕ → ℕ) → ℕ → ℕ
@@ -99,3 +100,14 @@ converse-counts sys low high order wired whole w h =
     let found : Leads sys low (between low high order) (clamp low high (after none_done order)) =
     between_leads sys low high none_done low order wired w whole.run (λ b. omega (arith, h b)) in
     leads_same sys low (between low high order) (clamp low high (after none_done order)) high found (λ b. omega (arith, whole.all b, w.listed b, h b))
+
+-- events that low has are passed over
+between_front : (low high s : ℕ → ℕ) (front rest : List ℕ) → ((b : ℕ) → after s front b ≤ low b) → between_from low high s (front ++ rest) ≡ between_from low high (after s front) rest
+between_front low high s [] rest h = refl
+between_front low high s (a ∷ front) rest h =
+    let more : List ℕ = between_from low high (step s a) (front ++ rest) in
+    let past : s a < low a = omega (arith, h a, after-le (step s a) front a, step-same s a) in
+    ap (λ c. cond (c && ltb (s a) (high a)) (a ∷ more) more) (lt-leb (low a) (s a) past) ∙ between_front low high (step s a) front rest h
+
+pub between_rest : (low high : ℕ → ℕ) (front rest : List ℕ) → ((b : ℕ) → after none_done front b ≤ low b) → between low high (front ++ rest) ≡ between_from low high (after none_done front) rest
+between_rest low high front rest h = between_front low high none_done front rest h

@@ -42,6 +42,13 @@ pub taken-le : (sys : System) (d e : ℕ → ℕ) (r : ℕ) → d (sys.to r) ≤
 unfolding taken
 taken-le sys d e r h = count_take-le (is_take r) (sys.ops (sys.to r)) (d (sys.to r)) (e (sys.to r)) h
 
+-- only the counts of the giver and of the taker matter
+pub given-same : (sys : System) (d e : ℕ → ℕ) (r : ℕ) → ((b : ℕ) → d b ≡ e b) → given sys d r ≡ given sys e r
+given-same sys d e r h = omega (arith, given-le sys d e r (omega (arith, h (sys.from r))), given-le sys e d r (omega (arith, h (sys.from r))))
+
+pub taken-same : (sys : System) (d e : ℕ → ℕ) (r : ℕ) → ((b : ℕ) → d b ≡ e b) → taken sys d r ≡ taken sys e r
+taken-same sys d e r h = omega (arith, taken-le sys d e r (omega (arith, h (sys.to r))), taken-le sys e d r (omega (arith, h (sys.to r))))
+
 pub given-none : (sys : System) (d : ℕ → ℕ) (r : ℕ) → d (sys.from r) ≡ 0 → given sys d r ≡ 0
 unfolding given
 given-none sys d r h = ap (λ n. count_by (is_give r) (take n (sys.ops (sys.from r)))) h

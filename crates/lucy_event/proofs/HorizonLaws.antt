@@ -8,6 +8,7 @@ use Rattle.lucy_event.specs.Runs.{IsPossible, none_done, step, IsRun, after, IsF
 use Rattle.lucy_event.specs.States.{Machine, IsLocal, State, held, gave_after, took_after, event, events, IsSame, IsState}
 use Rattle.lucy_event.specs.Horizons.{IsLonger, KeepsValues}
 use Rattle.lucy_event.proofs.RunLaws.{IsWithin-step, IsWithin-none}
+use Rattle.lucy_event.proofs.JoinedLaws.{run_joined, after_joined}
 
 count_longer : (p : RingOp → Bool) (xs ys : List RingOp) (n : ℕ) → take (length xs) ys ≡ xs → n ≤ length xs → count_by p (take n ys) ≡ count_by p (take n xs)
 count_longer p xs ys n e l = ap (count_by p) (sym (take-take n (length xs) ys l) ∙ ap (take n) e)
@@ -107,18 +108,10 @@ events-longer m longer s (a ∷ picks) h keeps local run =
     (events-same longer (event longer s a) (event m s a) picks local (event-longer m longer s a h keeps run.0.left))
     (events-longer m longer (event m s a) picks h keeps local run.1)
 
-pub IsRun-append : (sys : System) (d : ℕ → ℕ) (xs ys : List ℕ) → IsRun sys d xs → IsRun sys (after d xs) ys → IsRun sys d (xs ++ ys)
-IsRun-append sys d [] ys f g = g
-IsRun-append sys d (x ∷ xs) ys f g = (f.0, IsRun-append sys (step d x) xs ys f.1 g)
-
-pub after-append : (d : ℕ → ℕ) (xs ys : List ℕ) (b : ℕ) → after d (xs ++ ys) b ≡ after (after d xs) ys b
-after-append d [] ys b = refl
-after-append d (x ∷ xs) ys b = after-append (step d x) xs ys b
-
 -- a whole run, and a run of all that is then left, are a whole run
 pub IsWhole-longer : (sys longer : System) (order rest : List ℕ) → IsLonger sys longer → IsWhole sys order → IsRun longer (after none_done order) rest →
     IsFinished longer (after (after none_done order) rest) → IsWhole longer (order ++ rest)
 IsWhole-longer sys longer order rest h whole run finished = record {
-  run = IsRun-append longer none_done order rest (IsRun-longer sys longer none_done order h (IsWithin-none sys) whole.run) run;
-  all = λ a. after-append none_done order rest a ∙ finished a;
+  run = run_joined longer none_done order rest (IsRun-longer sys longer none_done order h (IsWithin-none sys) whole.run) run;
+  all = λ a. after_joined none_done order rest a ∙ finished a;
 }

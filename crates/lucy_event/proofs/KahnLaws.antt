@@ -18,7 +18,7 @@ use Rattle.lucy_event.specs.Systems.{RingOp, Takes, Gives, is_give, is_take, giv
 use Rattle.lucy_event.specs.Runs.{none_done, IsRun, after, IsFinished, IsWhole, between}
 use Rattle.lucy_event.specs.States.{Machine, State, start, events, IsState, Reaches}
 use Rattle.lucy_event.specs.Firings.{firing_ops, ops_of}
-use Rattle.lucy_event.specs.Plans.{Task, Plan, link_at, task_ops, system, machine, times, IsOperand, IsPluggedAt, IsPlugged, IsFed, places_of, kahn_list, QuotasWithin, GiveBelow}
+use Rattle.lucy_event.specs.Plans.{Task, Plan, link_at, task_ops, system, machine, times, IsOperand, IsPluggedAt, IsPlugged, places_of, kahn_list, QuotasWithin, GiveBelow, IsRunnable}
 use Rattle.lucy_event.proofs.CountLaws.{count_take-lt, eqb-same, given-none}
 use Rattle.lucy_event.proofs.StateLaws.{IsState-start, IsState-events}
 use Rattle.lucy_event.proofs.GiveCounts.{gives_in_firing, gives_in_ops, count_append}
@@ -94,27 +94,27 @@ few_at plan most a n is within (Some task) e =
     omega (arith, sum_by-take-le (fresh (lead plan)) ops n, fresh_gives (lead plan) g ops mine, gives_most task.form task.takes task.gives task.quota g, within a task e)
 
 -- one turn for each firing of each actor that gives suffices
-pub kahn_front : (kinds : List HostKind) (inputs : List (List ℤ)) (plan : Plan) (count most : ℕ) (picks : List ℕ) → IsPlugged plan → IsFed inputs plan → GiveBelow plan count → QuotasWithin plan most → IsRun (system plan) none_done picks →
+pub kahn_front : (kinds : List HostKind) (inputs : List (List ℤ)) (plan : Plan) (count most : ℕ) (picks : List ℕ) → IsRunnable inputs plan count most → IsRun (system plan) none_done picks →
     (r : ℕ) → IsFront ((events (machine kinds inputs plan) start picks).gave r) (kahn_list kinds inputs plan (count * most) r)
-kahn_front kinds inputs plan count most picks is fed below within run r =
+kahn_front kinds inputs plan count most picks able run r =
     let m : Machine = machine kinds inputs plan in
     let lists : ℕ → List (List ℤ) = iterate kinds inputs (places_of plan) in
     let a : ℕ = (link_at plan r).from in
     let n : ℕ = items_in (system plan) (lead plan) none_done picks in
     let few : n ≤ count * most =
-    few_turns (system plan) (lead plan) picks count most run (λ b k c l. quiet_at plan count b k below c (slice_get plan.tasks b) refl l) (λ b. few_at plan most b (after none_done picks b) is within (slice_get plan.tasks b) refl) in
+    few_turns (system plan) (lead plan) picks count most run (λ b k c l. quiet_at plan count b k able.give_below c (slice_get plan.tasks b) refl l) (λ b. few_at plan most b (after none_done picks b) able.plugged able.quotas (slice_get plan.tasks b) refl) in
     IsFront-trans ((events m start picks).gave r) (list_at (lists (n + 0)) a) (list_at (lists (count * most)) a)
-    (turn_law m (lead plan) (λ (k b : ℕ). list_at (lists k) b) start picks 0 (IsWired-plan plan is) (IsLocal-plan kinds inputs plan is) (IsLead-plan plan is) (KeepsTo-plan kinds inputs plan is fed) run
+    (turn_law m (lead plan) (λ (k b : ℕ). list_at (lists k) b) start picks 0 (IsWired-plan plan able.plugged) (IsLocal-plan kinds inputs plan able.plugged) (IsLead-plan plan able.plugged) (KeepsTo-plan kinds inputs plan able.plugged able.fed) run
     (IsState-start m) (λ q. omega (arith, given-none (system plan) none_done q refl)) (λ q. tt) r)
     (iterate-fronts kinds inputs (places_of plan) (n + 0) (count * most) (omega arith) a)
 
 -- in every state, since a run reaches it
-pub kahn_state : (kinds : List HostKind) (inputs : List (List ℤ)) (plan : Plan) (count most : ℕ) (order : List ℕ) (s : State) → IsPlugged plan → IsFed inputs plan → GiveBelow plan count → QuotasWithin plan most → IsWhole (system plan) order →
+pub kahn_state : (kinds : List HostKind) (inputs : List (List ℤ)) (plan : Plan) (count most : ℕ) (order : List ℕ) (s : State) → IsRunnable inputs plan count most → IsWhole (system plan) order →
     IsState (machine kinds inputs plan) s → (r : ℕ) → IsFront (s.gave r) (kahn_list kinds inputs plan (count * most) r)
-kahn_state kinds inputs plan count most order s is fed below within whole state r =
-    let way : Reaches (machine kinds inputs plan) start (between none_done s.done order) s = converse-start (machine kinds inputs plan) s order (IsWired-plan plan is) (IsLocal-plan kinds inputs plan is) whole state in
+kahn_state kinds inputs plan count most order s able whole state r =
+    let way : Reaches (machine kinds inputs plan) start (between none_done s.done order) s = converse-start (machine kinds inputs plan) s order (IsWired-plan plan able.plugged) (IsLocal-plan kinds inputs plan able.plugged) whole state in
     subst (λ xs. IsFront xs (kahn_list kinds inputs plan (count * most) r)) (way.ends.gave r)
-    (kahn_front kinds inputs plan count most (between none_done s.done order) is fed below within way.run r)
+    (kahn_front kinds inputs plan count most (between none_done s.done order) able way.run r)
 
 -- a whole run gives to a ring all that its giver's firings give
 given_all : (plan : Plan) (done : ℕ → ℕ) (r : ℕ) (task : Task) → IsFinished (system plan) done → slice_get plan.tasks (link_at plan r).from ≡ Some task → times r task.gives ≡ 1 → given (system plan) done r ≡ gave_in task.form task.quota
@@ -135,39 +135,39 @@ taken_all plan done r j task is finished e operand =
     ∙ ap (λ t. count_by (is_take r) (task_ops t)) e ∙ takes_in_ops task.form task.takes task.gives task.quota j r (is a task e).arity operand
 
 -- in every state what was taken is a front of the same list
-pub kahn_state_took : (kinds : List HostKind) (inputs : List (List ℤ)) (plan : Plan) (count most : ℕ) (order : List ℕ) (s : State) → IsPlugged plan → IsFed inputs plan → GiveBelow plan count → QuotasWithin plan most → IsWhole (system plan) order →
+pub kahn_state_took : (kinds : List HostKind) (inputs : List (List ℤ)) (plan : Plan) (count most : ℕ) (order : List ℕ) (s : State) → IsRunnable inputs plan count most → IsWhole (system plan) order →
     IsState (machine kinds inputs plan) s → (r : ℕ) → IsFront (s.took r) (kahn_list kinds inputs plan (count * most) r)
-kahn_state_took kinds inputs plan count most order s is fed below within whole state r =
-    IsFront-trans (s.took r) (s.gave r) (kahn_list kinds inputs plan (count * most) r) (state.fronts r) (kahn_state kinds inputs plan count most order s is fed below within whole state r)
+kahn_state_took kinds inputs plan count most order s able whole state r =
+    IsFront-trans (s.took r) (s.gave r) (kahn_list kinds inputs plan (count * most) r) (state.fronts r) (kahn_state kinds inputs plan count most order s able whole state r)
 
 -- so in a finished state the lists given and taken are the giver's list, cut at these numbers
-pub kahn_finished_gave : (kinds : List HostKind) (inputs : List (List ℤ)) (plan : Plan) (count most : ℕ) (order : List ℕ) (s : State) (r : ℕ) (task : Task) → IsPlugged plan → IsFed inputs plan → GiveBelow plan count → QuotasWithin plan most → IsWhole (system plan) order →
+pub kahn_finished_gave : (kinds : List HostKind) (inputs : List (List ℤ)) (plan : Plan) (count most : ℕ) (order : List ℕ) (s : State) (r : ℕ) (task : Task) → IsRunnable inputs plan count most → IsWhole (system plan) order →
     IsState (machine kinds inputs plan) s → IsFinished (system plan) s.done → slice_get plan.tasks (link_at plan r).from ≡ Some task → times r task.gives ≡ 1 →
     s.gave r ≡ take (gave_in task.form task.quota) (kahn_list kinds inputs plan (count * most) r)
-kahn_finished_gave kinds inputs plan count most order s r task is fed below within whole state finished e once =
+kahn_finished_gave kinds inputs plan count most order s r task able whole state finished e once =
     let list : List ℤ = kahn_list kinds inputs plan (count * most) r in
-    IsFront-cut (s.gave r) list (kahn_state kinds inputs plan count most order s is fed below within whole state r)
+    IsFront-cut (s.gave r) list (kahn_state kinds inputs plan count most order s able whole state r)
     ∙ ap (λ n. take n list) (state.gave_count r ∙ given_all plan s.done r task finished e once)
 
-pub kahn_finished_took : (kinds : List HostKind) (inputs : List (List ℤ)) (plan : Plan) (count most : ℕ) (order : List ℕ) (s : State) (r j : ℕ) (task : Task) → IsPlugged plan → IsFed inputs plan → GiveBelow plan count → QuotasWithin plan most → IsWhole (system plan) order →
+pub kahn_finished_took : (kinds : List HostKind) (inputs : List (List ℤ)) (plan : Plan) (count most : ℕ) (order : List ℕ) (s : State) (r j : ℕ) (task : Task) → IsRunnable inputs plan count most → IsWhole (system plan) order →
     IsState (machine kinds inputs plan) s → IsFinished (system plan) s.done → slice_get plan.tasks (link_at plan r).to ≡ Some task → IsOperand task.takes j r →
     s.took r ≡ take (took_in task.form task.quota j) (kahn_list kinds inputs plan (count * most) r)
-kahn_finished_took kinds inputs plan count most order s r j task is fed below within whole state finished e operand =
+kahn_finished_took kinds inputs plan count most order s r j task able whole state finished e operand =
     let list : List ℤ = kahn_list kinds inputs plan (count * most) r in
-    IsFront-cut (s.took r) list (kahn_state_took kinds inputs plan count most order s is fed below within whole state r)
-    ∙ ap (λ n. take n list) (state.took_count r ∙ taken_all plan s.done r j task is finished e operand)
+    IsFront-cut (s.took r) list (kahn_state_took kinds inputs plan count most order s able whole state r)
+    ∙ ap (λ n. take n list) (state.took_count r ∙ taken_all plan s.done r j task able.plugged finished e operand)
 
 -- after a whole run the list given is the giver's list cut there, and the iterate has so many items
-pub kahn_whole : (kinds : List HostKind) (inputs : List (List ℤ)) (plan : Plan) (count most : ℕ) (order : List ℕ) → IsPlugged plan → IsFed inputs plan → GiveBelow plan count → QuotasWithin plan most → IsWhole (system plan) order →
+pub kahn_whole : (kinds : List HostKind) (inputs : List (List ℤ)) (plan : Plan) (count most : ℕ) (order : List ℕ) → IsRunnable inputs plan count most → IsWhole (system plan) order →
     (r : ℕ) (task : Task) → slice_get plan.tasks (link_at plan r).from ≡ Some task → times r task.gives ≡ 1 →
     ((events (machine kinds inputs plan) start order).gave r ≡ take (gave_in task.form task.quota) (kahn_list kinds inputs plan (count * most) r))
     × (gave_in task.form task.quota ≤ length (kahn_list kinds inputs plan (count * most) r))
-kahn_whole kinds inputs plan count most order is fed below within whole r task e once =
+kahn_whole kinds inputs plan count most order able whole r task e once =
     let m : Machine = machine kinds inputs plan in
     let s : State = events m start order in
     let list : List ℤ = kahn_list kinds inputs plan (count * most) r in
-    let front : IsFront (s.gave r) list = kahn_front kinds inputs plan count most order is fed below within whole.run r in
-    let state : IsState m s = IsState-events m start order (IsWired-plan plan is) (IsLocal-plan kinds inputs plan is) whole.run (IsState-start m) in
+    let front : IsFront (s.gave r) list = kahn_front kinds inputs plan count most order able whole.run r in
+    let state : IsState m s = IsState-events m start order (IsWired-plan plan able.plugged) (IsLocal-plan kinds inputs plan able.plugged) whole.run (IsState-start m) in
     let finished : IsFinished (system plan) s.done = λ b. events-done m start order b ∙ whole.all b in
     let size : length (s.gave r) ≡ gave_in task.form task.quota = state.gave_count r ∙ given_all plan s.done r task finished e once in
     (IsFront-cut (s.gave r) list front ∙ ap (λ n. take n list) size, omega (arith, IsFront-length (s.gave r) list front))

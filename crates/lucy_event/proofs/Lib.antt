@@ -19,6 +19,14 @@ pub mod LeadLaws
 pub mod KahnLaws
 pub mod InstantLaws
 pub mod AlikeLaws
+pub mod JoinedLaws
+pub mod HoldingLaws
+pub mod CountedLaws
+pub mod ActorLaws
+pub mod PlaceLaws
+pub mod OperationLaws
+pub mod TotalLaws
+pub mod SoundLaws
 mod Plugged
 mod Moves
 mod RowSum

@@ -165,4 +165,4 @@ sum_below a task e l = subst (Holds (λ t. t.gives ≡ [])) e (below_at a l)
 -- so whatever the order of the events was, the output's list is a front of its place's list
 sum_any_run : (picks : List ℕ) → IsRun (system sum) none_done picks → IsFront ((events sum_machine start picks).gave 5) (kahn_list [] sum_inputs sum (5 * 2) 5)
 unfolding sum_machine
-sum_any_run picks run = kahn_front [] sum_inputs sum 5 2 picks sum_plugged sum_fed sum_below sum_within run 5
+sum_any_run picks run = kahn_front [] sum_inputs sum 5 2 picks (record { plugged = sum_plugged; fed = sum_fed; give_below = sum_below; quotas = sum_within }) run 5

@@ -1,5 +1,5 @@
 -- Whether an event is possible, and whether events are a run, as truths that compute.
-use Rattle.std.specs.Prelude.{ℕ, ◌+◌, Bool, true, List, [], ◌∷◌, length, nat_le, nat_lt, ◌&&◌}
+use Rattle.std.specs.Prelude.{ℕ, suc, ◌+◌, Bool, true, List, [], ◌∷◌, length, nat_le, nat_lt, ◌&&◌, if◌then◌else◌}
 use Rattle.lucy_event.specs.Systems.{RingOp, Takes, Gives, System, op_at, given, taken}
 use Rattle.lucy_event.specs.Runs.{step}
 
@@ -16,3 +16,8 @@ is_possible sys done a = nat_lt (done a) (length (sys.ops a)) && has_room sys do
 abbrev pub is_run : System → (ℕ → ℕ) → List ℕ → Bool
 is_run sys done [] = true
 is_run sys done (a ∷ picks) = is_possible sys done a && is_run sys (step done a) picks
+
+-- how many of the events are a run, in turn up to the first that isn't possible
+abbrev pub run_length : System → (ℕ → ℕ) → List ℕ → ℕ
+run_length sys done [] = 0
+run_length sys done (a ∷ picks) = if is_possible sys done a then suc (run_length sys (step done a) picks) else 0

@@ -1,6 +1,6 @@
 -- The ring operations of an actor, by its form, by the rings that it takes from, one for each operand in order, and by the
 -- rings that it gives to.
-use Rattle.std.specs.Prelude.{ℕ, suc, zero, ◌+◌, List, [], ◌∷◌, ◌++◌, map, length, replicate, slice_index_or, if◌then◌else◌}
+use Rattle.std.specs.Prelude.{ℕ, suc, zero, ◌+◌, ◌<◌, List, [], ◌∷◌, ◌++◌, map, length, replicate, slice_index_or, if◌then◌else◌}
 use Rattle.lucy_word.specs.Bits.{bit_at}
 use Rattle.lucy_stream.specs.Forms.{Form, Kept, Merged, Delayed}
 use Rattle.lucy_event.specs.Systems.{RingOp, Takes, Gives}
@@ -22,3 +22,8 @@ ops_of form takes gives (suc fired) = ops_of form takes gives fired ++ firing_op
 abbrev pub fired_at : Form → List ℕ → List ℕ → ℕ → List ℕ
 fired_at form takes gives zero = []
 fired_at form takes gives (suc fired) = fired_at form takes gives fired ++ replicate (length (firing_ops form takes gives fired)) fired
+
+-- the operation is on one of the first rings, so many of them
+abbrev pub IsOnRings : ℕ → RingOp → Type 0
+IsOnRings count (Takes r) = r < count
+IsOnRings count (Gives r) = r < count

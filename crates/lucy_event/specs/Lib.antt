@@ -2,7 +2,11 @@ pub mod Systems
 pub mod Runs
 pub mod Deciding
 pub mod States
+pub mod Actors
+pub mod Counted
+pub mod Totals
 pub mod Firings
 pub mod Plans
 pub mod Horizons
+pub mod Schedules
 pub mod Instants

@@ -112,3 +112,10 @@ QuotasWithin plan most = (a : ℕ) (task : Task) → slice_get plan.tasks a ≡ 
 -- the actors from this number on give to no ring
 abbrev pub GiveBelow : Plan → ℕ → Type 0
 GiveBelow plan count = (a : ℕ) (task : Task) → slice_get plan.tasks a ≡ Some task → count ≤ a → task.gives ≡ []
+
+-- plugged actors with their inputs; only the first `count` actors give, and each has at most `most` firings
+pub record IsRunnable (inputs : List (List ℤ)) (plan : Plan) (count most : ℕ) : Type 0 where
+  pub plugged : IsPlugged plan
+  pub fed : IsFed inputs plan
+  pub give_below : GiveBelow plan count
+  pub quotas : QuotasWithin plan most

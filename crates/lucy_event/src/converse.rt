@@ -1,6 +1,6 @@
-ghost use Rattle.std.specs.Prelude.{ℕ, ◌≤◌, List};
+ghost use Rattle.std.specs.Prelude.{ℕ, ◌≤◌, ◌≡◌, ◌++◌, List};
 ghost use Rattle.lucy_event.specs.Systems.{System, IsWired};
-ghost use Rattle.lucy_event.specs.Runs.{none_done, Leads, IsWhole, IsWithin, between};
+ghost use Rattle.lucy_event.specs.Runs.{none_done, after, Leads, IsWhole, IsWithin, between_from, between};
 ghost use Rattle.lucy_event.specs.States.{Machine, IsLocal, State, start, IsState, Reaches};
 
 /// By counts: where no ring is past its bounds, the events that are done, in the order of a whole run, are a run that leads
@@ -21,4 +21,11 @@ pub fn states_are_reached()
         IsWired m.sys → IsLocal m → IsWhole m.sys order → IsState m low → IsState m high →
         ((a : ℕ) → low.done a ≤ high.done a) →
         Reaches m low (between low.done high.done order) high }
+{}
+
+/// The events between two counts are found past any front of the order that the lower counts, and so both, have done.
+pub fn later_events_are_past_the_front()
+    ensures { (low high : ℕ → ℕ) (front rest : List ℕ) →
+        ((a : ℕ) → after none_done front a ≤ low a) →
+        between low high (front ++ rest) ≡ between_from low high (after none_done front) rest }
 {}

@@ -14,7 +14,8 @@ use Rattle.lucy_stream.specs.Items.{item_at, newest, HasItem, list_at}
 use Rattle.lucy_host.specs.Arity.{arity}
 use Rattle.lucy_stream.specs.Forms.{Form, Given, Constant, Pointwise, Hosted, Kept, Merged, Delayed, Same}
 use Rattle.lucy_stream.specs.Merges.{merge_item, item_then, items_past, merged}
-use Rattle.lucy_stream.specs.Lists.{shortest, item_by_item, hosted_value, kept, form_list}
+use Rattle.lucy_host.specs.HostValue.{hosted_value}
+use Rattle.lucy_stream.specs.Lists.{shortest, item_by_item, kept, form_list}
 use Rattle.lucy_stream.specs.Firings.{fire_value, DoesGive, gave_in, HasTaken, IsThere}
 use Rattle.lucy_stream.proofs.MergeLaws.{merge_item-one, merge_item-zero, get_some}
 use Rattle.lucy_stream.proofs.KeptLaws.{kept-item}

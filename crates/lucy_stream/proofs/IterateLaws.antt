@@ -1,5 +1,5 @@
 -- Laws of the iterates: each list of one is a front of the same list in the next.
-use Rattle.std.proofs.Common.{ℕ, suc, zero, ◌<◌, ◌≤◌, ◌≡◌, List, [], ◌∷◌, map, length, ap, sym, subst, inl, inr, arith}
+use Rattle.std.proofs.Common.{ℕ, suc, zero, ◌<◌, ◌≤◌, ◌≡◌, List, [], ◌∷◌, map, length, ap, sym, refl, subst, inl, inr, arith}
 use Rattle.std.specs.Prelude.{ℤ, Some, slice_get}
 use Rattle.std.proofs.lemmas.List.{length-map}
 use Rattle.std.proofs.lemmas.Bool.{cases_eq}
@@ -82,3 +82,12 @@ pub iterate-at : (kinds : List HostKind) (inputs : List (List ℤ)) (places : Li
     list_at (iterate kinds inputs places (suc n)) i ≡ form_list kinds inputs n place.form (lists_of (iterate kinds inputs places n) place.reads)
 iterate-at kinds inputs places n i place e =
     list_at_map (λ place. form_list kinds inputs n place.form (lists_of (iterate kinds inputs places n) place.reads)) places i place e
+
+-- the first iterate has no items
+none_at : (places : List Place) (i : ℕ) → list_at (map (λ place. []) places) i ≡ []
+none_at [] i = refl
+none_at (place ∷ places) zero = refl
+none_at (place ∷ places) (suc i) = none_at places i
+
+pub iterate-none : (kinds : List HostKind) (inputs : List (List ℤ)) (places : List Place) (i : ℕ) → list_at (iterate kinds inputs places 0) i ≡ []
+iterate-none kinds inputs places i = none_at places i

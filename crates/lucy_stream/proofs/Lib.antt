@@ -4,4 +4,6 @@ pub mod KeptLaws
 pub mod ListLaws
 pub mod IterateLaws
 pub mod FiringLaws
+pub mod NeedLaws
+pub mod NameLaws
 mod Rows

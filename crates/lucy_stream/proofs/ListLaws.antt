@@ -10,7 +10,8 @@ use Rattle.lucy_stream.specs.Items.{item_at, list_at}
 use Rattle.lucy_stream.specs.Fronts.{IsFront, AreFronts}
 use Rattle.lucy_host.specs.Arity.{arity}
 use Rattle.lucy_stream.specs.Forms.{Form, Given, Constant, Pointwise, Hosted, Kept, Merged, Delayed, Same}
-use Rattle.lucy_stream.specs.Lists.{shortest, item_by_item, hosted_value, form_list}
+use Rattle.lucy_host.specs.HostValue.{hosted_value}
+use Rattle.lucy_stream.specs.Lists.{shortest, item_by_item, form_list}
 use Rattle.lucy_stream.proofs.FrontLaws.{IsFront-refl, IsFront-replicate, IsFront-length, IsFront-item, IsFront-by_number}
 use Rattle.lucy_stream.proofs.MergeLaws.{merged-front}
 use Rattle.lucy_stream.proofs.KeptLaws.{kept-front}

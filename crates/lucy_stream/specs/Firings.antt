@@ -5,7 +5,7 @@ use Rattle.lucy_host.specs.OpValue.{op_value}
 use Rattle.lucy_host.specs.declared.kind.HostKind.{HostKind}
 use Rattle.lucy_stream.specs.Items.{item_at, newest, list_at}
 use Rattle.lucy_stream.specs.Forms.{Form, Given, Constant, Pointwise, Hosted, Kept, Merged, Delayed, Same, operands}
-use Rattle.lucy_stream.specs.Lists.{hosted_value}
+use Rattle.lucy_host.specs.HostValue.{hosted_value}
 
 -- the literal in the first firing, later what was taken in the firing before
 abbrev pub delayed_value : ℤ → ℕ → List ℤ → ℤ

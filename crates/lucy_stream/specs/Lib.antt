@@ -5,3 +5,5 @@ pub mod Merges
 pub mod Lists
 pub mod Iterates
 pub mod Firings
+pub mod Needs
+pub mod Names

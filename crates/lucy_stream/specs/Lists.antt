@@ -3,9 +3,8 @@ use Rattle.std.specs.Prelude.{ℕ, suc, zero, ◌+◌, min, List, [], ◌∷◌,
 use Rattle.std.specs.List.{range_with_len}
 use Rattle.lucy_word.specs.Bits.{Bits, bit_at}
 use Rattle.lucy_host.specs.OpValue.{op_value}
-use Rattle.lucy_host.specs.HostValue.{host_value}
+use Rattle.lucy_host.specs.HostValue.{hosted_value}
 use Rattle.lucy_host.specs.declared.kind.HostKind.{HostKind}
-use Rattle.lucy_host.specs.declared.kind.HostKind.TheVariants.{Min}
 use Rattle.lucy_stream.specs.Items.{item_at, list_at}
 use Rattle.lucy_host.specs.Arity.{arity}
 use Rattle.lucy_stream.specs.Forms.{Form, Given, Constant, Pointwise, Hosted, Kept, Merged, Delayed, Same}
@@ -21,11 +20,6 @@ shortest (suc (suc n)) lists = min (shortest (suc n) lists) (length (list_at lis
 abbrev pub item_by_item : ℕ → (ℤ → ℤ → ℤ → ℤ) → List (List ℤ) → List ℤ
 item_by_item count value lists =
     map (λ k. value (item_at (list_at lists 0) k) (item_at (list_at lists 1) k) (item_at (list_at lists 2) k)) (range_with_len 0 (shortest count lists))
-
--- the value of the host's operator of this number, by the kinds of all of them (past their end that of `Min`, which
--- says nothing)
-abbrev pub hosted_value : List HostKind → ℕ → ℤ → ℤ → ℤ
-hosted_value kinds op a b = host_value (slice_index_or kinds op Min) a b
 
 -- of the items after so many others, those whose number has a one in the word
 abbrev pub kept_past : Bits → ℕ → List ℤ → List ℤ

@@ -3,8 +3,8 @@ use Rattle.lucy_event.proofs.kahn.finished_states_hold_kahn_streams.Goals as goa
 
 pub returns : goal.returns
 returns c = record {
-  gave = λ kinds inputs plan count most order s r task is fed below within whole state finished e once.
-      kahn_finished_gave kinds inputs plan count most order s r task is fed below within whole state finished e once;
-  took = λ kinds inputs plan count most order s r j task is fed below within whole state finished e operand.
-      kahn_finished_took kinds inputs plan count most order s r j task is fed below within whole state finished e operand;
+  gave = λ kinds inputs plan count most order s r task able whole state finished e once.
+      kahn_finished_gave kinds inputs plan count most order s r task able whole state finished e once;
+  took = λ kinds inputs plan count most order s r j task able whole state finished e operand.
+      kahn_finished_took kinds inputs plan count most order s r j task able whole state finished e operand;
 }
