@@ -1,6 +1,6 @@
 -- How the two ends of a ring are seen, by what they hold.
 use Rattle.std.specs.Prelude.{◌≡◌, ℕ, ℤ, ◌-◌, List, ◌++◌, length, take, drop, vec_len}
-use Rattle.rtrb.specs.Ring.{sent, received, known_items, IsPair}
+use Rattle.rtrb.specs.Ring.{sent, known_free, producer_capacity, received, known_items, consumer_capacity, IsPair}
 use Rattle.lucy_ring.specs.Views.{RingName, GiverView, TakerView}
 use Rattle.lucy_ring.specs.declared.giver_end.GiverEnd.{GiverEnd}
 use Rattle.lucy_ring.specs.declared.taker_end.TakerEnd.{TakerEnd}
@@ -41,6 +41,10 @@ taken t = take t.place t.side.items ++ drop (popped_before t) (received t.items)
 abbrev pub known : TakerEnd → List ℤ
 known t = drop t.place t.side.items ++ known_items t.items
 
+-- the slots for numbers that the taker knows to be free
+abbrev pub return_slots : TakerEnd → ℕ
+return_slots t = known_free t.numbers
+
 -- the two ends of one ring
 pub record AreEnds (g : GiverEnd) (t : TakerEnd) : Type 0 where
   pub items : IsPair g.items t.items
@@ -48,7 +52,8 @@ pub record AreEnds (g : GiverEnd) (t : TakerEnd) : Type 0 where
   pub passed : pushed_before g ≡ popped_before t
   pub returned : returned_before t ≡ fetched_before g
   pub held : g.held ≡ vec_len t.side
-  pub capacity : g.capacity ≡ t.capacity
+  pub capacity : producer_capacity g.items ≡ consumer_capacity t.items
+  pub numbers_capacity : consumer_capacity g.numbers ≡ producer_capacity t.numbers
 
 -- the giver's ring and its last meeting
 unfoldable pub ring_of_giver : GiverEnd → RingName
@@ -58,7 +63,8 @@ ring_of_giver g = record {
   items_before = pushed_before g;
   numbers_before = fetched_before g;
   held = g.held;
-  capacity = g.capacity;
+  capacity = producer_capacity g.items;
+  numbers_capacity = consumer_capacity g.numbers;
 }
 
 -- the taker's ring and its last meeting
@@ -69,13 +75,14 @@ ring_of_taker t = record {
   items_before = popped_before t;
   numbers_before = returned_before t;
   held = vec_len t.side;
-  capacity = t.capacity;
+  capacity = consumer_capacity t.items;
+  numbers_capacity = producer_capacity t.numbers;
 }
 
 -- the giver as contracts see it
 abbrev pub giver_view : GiverEnd → GiverView
-giver_view g = record { ring = ring_of_giver g; given = given g; slots = known_slots g; capacity = g.capacity }
+giver_view g = record { ring = ring_of_giver g; given = given g; slots = known_slots g }
 
 -- the taker as contracts see it
 abbrev pub taker_view : TakerEnd → TakerView
-taker_view t = record { ring = ring_of_taker t; held = held t; taken = taken t; known = known t; capacity = t.capacity }
+taker_view t = record { ring = ring_of_taker t; held = held t; taken = taken t; known = known t; returned = t.returned; return_slots = return_slots t }

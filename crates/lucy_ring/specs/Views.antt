@@ -10,7 +10,8 @@ abbrev pub Buffer : Type 0
 Buffer = Ptr × Ptr × Names × Global
 
 -- what the two ends of one ring have in common from one meeting to the next: the buffers of the items and of the numbers
--- sent back, how many of each had gone through them by the last meeting, and how many items were held then
+-- sent back, how many of each had gone through them by the last meeting, how many items were held then, and how many slots
+-- the buffers have
 pub record RingName : Type 0 where
   pub items : Buffer
   pub numbers : Buffer
@@ -18,18 +19,20 @@ pub record RingName : Type 0 where
   pub numbers_before : ℕ
   pub held : ℕ
   pub capacity : ℕ
+  pub numbers_capacity : ℕ
 
 -- the giver's ring, what it gave since the last meeting, and how many slots it knows to be free
 pub record GiverView : Type 0 where
   pub ring : RingName
   pub given : List ℤ
   pub slots : ℕ
-  pub capacity : ℕ
 
--- the taker's ring, what it held at the last meeting, what it took since, and the items that it knows to be there
+-- the taker's ring, what it held at the last meeting, what it took since, the items that it knows to be there, how many
+-- numbers it sent back since the last meeting, and how many slots for numbers it knows to be free
 pub record TakerView : Type 0 where
   pub ring : RingName
   pub held : List ℤ
   pub taken : List ℤ
   pub known : List ℤ
-  pub capacity : ℕ
+  pub returned : ℕ
+  pub return_slots : ℕ

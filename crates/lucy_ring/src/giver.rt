@@ -25,7 +25,6 @@ impl Giver {
     pub fn give(&mut self, item: i64) -> Result<(), i64>
         requires few { length self.old.given < 2 ^ 40 }
         ensures ring { self.new.ring ≡ self.old.ring }
-        ensures capacity { self.new.capacity ≡ self.old.capacity }
         ensures given { OnOk result (self.new.given ≡ self.old.given ++ item ∷ []) }
         ensures slots { OnOk result (self.old.slots ≤ self.new.slots + 1) }
         ensures handed_back { IfErr result (λ e. e ≡ item) }

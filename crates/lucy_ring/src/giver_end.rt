@@ -1,5 +1,7 @@
 ghost use Rattle.std.specs.Prelude.{◌≡◌, ◌+◌, ◌≤◌, ◌++◌, length, vec_len, vec_capacity};
-ghost use Rattle.rtrb.specs.Ring.{sent, received, known_items, SameConsumer};
+ghost use Rattle.rtrb.specs.Ring.{sent, producer_capacity, received, known_items, SameConsumer};
+ghost use Rattle.lucy_word.specs.Limits.{limit_number};
+ghost use Rattle.lucy_word.specs.declared.limit.Limit.TheVariants as limit;
 
 use rtrb::{Consumer, Producer};
 
@@ -10,7 +12,6 @@ pub(crate) struct GiverEnd {
     pub(crate) items: Producer<i64>,
     // Brings one number back for each item taken, since no producer is told which slots were freed.
     pub(crate) numbers: Consumer<u8>,
-    capacity: u32,
     // The slots known to be free.
     free: u32,
     // How many items the taker held at the last meeting.
@@ -20,33 +21,30 @@ pub(crate) struct GiverEnd {
     // How many items were pushed, and how many numbers popped, since the last meeting.
     pushed: u64,
     fetched: u64,
-    ghost bounds: { (1 ≤ capacity) × (capacity ≤ 1048576) × (held ≤ capacity) },
+    ghost bounds: { (1 ≤ producer_capacity items) × (producer_capacity items ≤ limit_number limit.Slots) × (held ≤ producer_capacity items) },
     ghost past: { (pushed ≤ length (sent items)) × (fetched ≤ length (received numbers)) },
-    ghost room: { (vec_len side + free ≤ capacity) × (capacity ≤ vec_capacity side) },
-    ghost counted: { held + pushed + vec_len side + free ≡ capacity + fetched },
+    ghost room: { (vec_len side + free ≤ producer_capacity items) × (producer_capacity items ≤ vec_capacity side) },
+    ghost counted: { held + pushed + vec_len side + free ≡ producer_capacity items + fetched },
 }
 
 impl GiverEnd {
     ghost use Rattle.std.specs.Prelude.{◌≡◌, ◌+◌, ◌^◌, ◌<◌, ◌≤◌, [], ◌∷◌, ◌++◌, length, vec_len, vec_capacity, IfErr, OnOk, OnErr, IsOk};
-    ghost use Rattle.rtrb.specs.Ring.{sent, received, IsPair, SameProducer, SameConsumer};
+    ghost use Rattle.rtrb.specs.Ring.{sent, producer_capacity, received, IsPair, SameProducer, SameConsumer};
+    ghost use Rattle.lucy_word.specs.Limits.{limit_number};
+    ghost use Rattle.lucy_word.specs.declared.limit.Limit.TheVariants as limit;
     ghost use Rattle.lucy_ring.specs.Ring.{given, known_slots, ring_of_giver, giver_view};
 
-    pub(crate) fn new(
-        items: Producer<i64>,
-        numbers: Consumer<u8>,
-        capacity: u32,
-        side: Vec<i64>,
-    ) -> GiverEnd
-        requires capacity { (1 ≤ capacity) × (capacity ≤ 1048576) }
-        requires side { (side.items ≡ []) × (vec_capacity side ≡ capacity) }
-        ensures parts { (result.items ≡ items) × (result.numbers ≡ numbers) × (result.capacity ≡ capacity) × (result.side ≡ side) }
-        ensures counts { (result.free ≡ capacity) × (result.held ≡ 0) × (result.pushed ≡ 0) × (result.fetched ≡ 0) }
+    pub(crate) fn new(items: Producer<i64>, numbers: Consumer<u8>, side: Vec<i64>) -> GiverEnd
+        requires capacity { (1 ≤ producer_capacity items) × (producer_capacity items ≤ limit_number limit.Slots) }
+        requires side { (side.items ≡ []) × (vec_capacity side ≡ producer_capacity items) }
+        ensures parts { (result.items ≡ items) × (result.numbers ≡ numbers) × (result.side ≡ side) }
+        ensures counts { (result.free ≡ producer_capacity items) × (result.held ≡ 0) × (result.pushed ≡ 0) × (result.fetched ≡ 0) }
     {
+        let free = items.capacity() as u32;
         GiverEnd {
             items,
             numbers,
-            capacity,
-            free: capacity,
+            free,
             held: 0,
             side,
             pushed: 0,
@@ -57,7 +55,6 @@ impl GiverEnd {
     pub(crate) fn give(&mut self, item: i64) -> Result<(), i64>
         requires few { length (given self.old) < 2 ^ 40 }
         ensures ring { ring_of_giver self.new ≡ ring_of_giver self.old }
-        ensures capacity { self.new.capacity ≡ self.old.capacity }
         ensures given { OnOk result (given self.new ≡ given self.old ++ item ∷ []) }
         ensures slots { OnOk result (known_slots self.old ≤ known_slots self.new + 1) }
         ensures handed_back { IfErr result (λ e. e ≡ item) }
@@ -81,7 +78,6 @@ impl GiverEnd {
         requires none { known_slots self.old ≡ 0 }
         requires few { length (given self.old) < 2 ^ 40 }
         ensures ring { ring_of_giver self.new ≡ ring_of_giver self.old }
-        ensures capacity { self.new.capacity ≡ self.old.capacity }
         ensures given { given self.new ≡ given self.old }
     {
         if self.side.is_empty() && self.numbers.pop().is_ok() {
@@ -95,7 +91,6 @@ impl GiverEnd {
         requires some { 0 < known_slots self.old }
         requires few { length (given self.old) < 2 ^ 40 }
         ensures ring { ring_of_giver self.new ≡ ring_of_giver self.old }
-        ensures capacity { self.new.capacity ≡ self.old.capacity }
         ensures given { given self.new ≡ given self.old ++ item ∷ [] }
         ensures slots { known_slots self.old ≡ known_slots self.new + 1 }
     {
@@ -113,18 +108,18 @@ impl GiverEnd {
     // Throws away the numbers that came back, and counts anew from what the taker holds.
     pub(crate) fn renew(&mut self, numbers: &mut Producer<u8>, held: u32)
         requires pair { IsPair numbers.old self.old.numbers }
-        requires held { held ≤ self.old.capacity }
-        ensures items { (self.new.items ≡ self.old.items) × (self.new.capacity ≡ self.old.capacity) }
+        requires held { held ≤ producer_capacity self.old.items }
+        ensures items { self.new.items ≡ self.old.items }
         ensures numbers { SameConsumer self.old.numbers self.new.numbers × SameProducer numbers.old numbers.new }
         ensures sent { (sent numbers.new ≡ sent numbers.old) × (length (received self.new.numbers) ≡ length (sent numbers.new)) }
-        ensures counts { (self.new.held ≡ held) × (self.new.free + held ≡ self.old.capacity) × (self.new.pushed ≡ 0) × (self.new.fetched ≡ 0) }
+        ensures counts { (self.new.held ≡ held) × (self.new.free + held ≡ producer_capacity self.old.items) × (self.new.pushed ≡ 0) × (self.new.fetched ≡ 0) }
         ensures side { self.new.side.items ≡ [] }
     {
         let count = self.numbers.slots_beside(numbers);
         discard(&mut self.numbers, count);
         self.side.clear();
         self.held = held;
-        self.free = self.capacity - held;
+        self.free = self.items.capacity() as u32 - held;
         self.pushed = 0;
         self.fetched = 0;
     }

@@ -1,4 +1,5 @@
 ghost use Rattle.std.specs.Prelude.{◌≡◌, ◌+◌, ◌≤◌, [], ◌++◌, length};
+ghost use Rattle.rtrb.specs.Ring.{producer_capacity, consumer_capacity};
 ghost use Rattle.lucy_ring.specs.Ring.{given, held, taken, known_slots, known, ring_of_giver, ring_of_taker, AreEnds};
 
 use crate::giver::Giver;
@@ -12,11 +13,11 @@ pub fn meet(giver: &mut Giver, taker: &mut Taker)
     requires ends { giver.old.ring ≡ taker.old.ring }
     ensures ends { giver.new.ring ≡ taker.new.ring }
     ensures fifo { taker.old.held ++ giver.old.given ≡ taker.old.taken ++ taker.new.held }
-    ensures within { length taker.new.held ≤ taker.new.capacity }
+    ensures within { length taker.new.held ≤ taker.new.ring.capacity }
     ensures all_items { taker.new.known ≡ taker.new.held }
-    ensures all_slots { giver.new.slots + length taker.new.held ≡ giver.new.capacity }
-    ensures anew { (giver.new.given ≡ []) × (taker.new.taken ≡ []) }
-    ensures capacity { (giver.new.capacity ≡ giver.old.capacity) × (taker.new.capacity ≡ taker.old.capacity) }
+    ensures all_slots { giver.new.slots + length taker.new.held ≡ giver.new.ring.capacity }
+    ensures anew { (giver.new.given ≡ []) × (taker.new.taken ≡ []) × (taker.new.returned ≡ 0) }
+    ensures capacity { (giver.new.ring.capacity ≡ giver.old.ring.capacity) × (giver.new.ring.numbers_capacity ≡ giver.old.ring.numbers_capacity) }
 {
     meet_ends(&mut giver.end, &mut taker.end);
 }
@@ -26,11 +27,11 @@ fn meet_ends(giver: &mut GiverEnd, taker: &mut TakerEnd)
     requires ends { ring_of_giver giver.old ≡ ring_of_taker taker.old }
     ensures ends { ring_of_giver giver.new ≡ ring_of_taker taker.new }
     ensures fifo { held taker.old ++ given giver.old ≡ taken taker.old ++ held taker.new }
-    ensures within { length (held taker.new) ≤ taker.new.capacity }
+    ensures within { length (held taker.new) ≤ (ring_of_taker taker.new).capacity }
     ensures all_items { known taker.new ≡ held taker.new }
-    ensures all_slots { known_slots giver.new + length (held taker.new) ≡ giver.new.capacity }
-    ensures anew { (given giver.new ≡ []) × (taken taker.new ≡ []) }
-    ensures capacity { (giver.new.capacity ≡ giver.old.capacity) × (taker.new.capacity ≡ taker.old.capacity) }
+    ensures all_slots { known_slots giver.new + length (held taker.new) ≡ (ring_of_giver giver.new).capacity }
+    ensures anew { (given giver.new ≡ []) × (taken taker.new ≡ []) × (taker.new.returned ≡ 0) }
+    ensures capacity { ((ring_of_giver giver.new).capacity ≡ (ring_of_giver giver.old).capacity) × ((ring_of_giver giver.new).numbers_capacity ≡ (ring_of_giver giver.old).numbers_capacity) }
 {
     bring_together(giver, taker);
 }
@@ -40,9 +41,10 @@ fn bring_together(giver: &mut GiverEnd, taker: &mut TakerEnd)
     ensures ends { AreEnds giver.new taker.new }
     ensures fifo { held taker.old ++ given giver.old ≡ taken taker.old ++ held taker.new }
     ensures all_items { known taker.new ≡ held taker.new }
-    ensures all_slots { known_slots giver.new + length (held taker.new) ≡ giver.new.capacity }
-    ensures anew { (given giver.new ≡ []) × (taken taker.new ≡ []) }
-    ensures capacity { (giver.new.capacity ≡ giver.old.capacity) × (taker.new.capacity ≡ taker.old.capacity) }
+    ensures within { length (held taker.new) ≤ consumer_capacity taker.new.items }
+    ensures all_slots { known_slots giver.new + length (held taker.new) ≡ producer_capacity giver.new.items }
+    ensures anew { (given giver.new ≡ []) × (taken taker.new ≡ []) × (taker.new.returned ≡ 0) }
+    ensures capacity { (producer_capacity giver.new.items ≡ producer_capacity giver.old.items) × (consumer_capacity giver.new.numbers ≡ consumer_capacity giver.old.numbers) }
 {
     look(giver, taker);
     taker.gather(&mut giver.items, giver.side.as_slice());
@@ -57,7 +59,7 @@ fn look(giver: &mut GiverEnd, taker: &mut TakerEnd)
     ensures ends { AreEnds giver.new taker.new }
     ensures lists { (given giver.new ≡ given giver.old) × (taken taker.new ≡ taken taker.old) × (held taker.new ≡ held taker.old) }
     ensures counts { giver.new.fetched ≤ taker.new.returned }
-    ensures capacity { (giver.new.capacity ≡ giver.old.capacity) × (taker.new.capacity ≡ taker.old.capacity) }
+    ensures capacity { (producer_capacity giver.new.items ≡ producer_capacity giver.old.items) × (consumer_capacity giver.new.numbers ≡ consumer_capacity giver.old.numbers) }
 {
     giver.numbers.slots_beside(&mut taker.numbers);
 }

@@ -1,4 +1,4 @@
-ghost use Rattle.std.specs.Prelude.{◌≡◌, ◌+◌, ◌^◌, ◌<◌, ◌++◌, ◌∷◌, [], length, IfSome, IfNone, IsSome};
+ghost use Rattle.std.specs.Prelude.{◌≡◌, ◌⊎◌, ◌+◌, ◌^◌, ◌<◌, ◌++◌, ◌∷◌, [], length, IfSome, IfNone, IsSome};
 ghost use mathlib.Core.List.{IsPrefix};
 
 use crate::taker_end::TakerEnd;
@@ -22,14 +22,15 @@ impl Model for Taker {
 }
 
 impl Taker {
-    /// Takes the oldest item, or answers None where none is found. An item that is not known yet may be found here.
+    /// Takes the oldest item, or answers None where none is found. An item that is not known yet may be found here. For an
+    /// item that is taken a number goes back, unless no slot for one is found.
     pub fn take(&mut self) -> Option<i64>
         requires few { length self.old.taken < 2 ^ 40 }
         ensures ring { self.new.ring ≡ self.old.ring }
-        ensures capacity { self.new.capacity ≡ self.old.capacity }
         ensures held { self.new.held ≡ self.old.held }
         ensures taken { IfSome result (λ x. self.new.taken ≡ self.old.taken ++ x ∷ []) }
         ensures oldest { IfSome result (λ x. IsPrefix self.old.known (x ∷ self.new.known)) }
+        ensures sent_back { IfSome result (λ _. (self.new.returned ≡ self.old.returned + 1) ⊎ (self.new.return_slots ≡ 0)) }
         ensures unchanged { IfNone result (self.new ≡ self.old) }
         ensures succeeds { 0 < length self.old.known → IsSome result }
     {

@@ -1,5 +1,7 @@
 ghost use Rattle.std.specs.Prelude.{◌≡◌, ◌+◌, ◌≤◌, ◌<◌, ◌++◌, [], length, drop, vec_len, vec_capacity};
-ghost use Rattle.rtrb.specs.Ring.{sent, received, known_items, SameConsumer};
+ghost use Rattle.rtrb.specs.Ring.{sent, received, known_items, consumer_capacity, SameConsumer};
+ghost use Rattle.lucy_word.specs.Limits.{limit_number};
+ghost use Rattle.lucy_word.specs.declared.limit.Limit.TheVariants as limit;
 
 use rtrb::{Consumer, Producer};
 
@@ -10,41 +12,36 @@ pub(crate) struct TakerEnd {
     pub(crate) items: Consumer<i64>,
     // Sends one number back for each item taken.
     pub(crate) numbers: Producer<u8>,
-    capacity: u32,
     // What was held at the last meeting, and how many of these were taken since.
     pub(crate) side: Vec<i64>,
     place: usize,
     // How many items were popped, and how many numbers pushed, since the last meeting.
     popped: u64,
     returned: u64,
-    ghost bounds: { (1 ≤ capacity) × (capacity ≤ 1048576) },
+    ghost bounds: { (1 ≤ consumer_capacity items) × (consumer_capacity items ≤ limit_number limit.Slots) },
     ghost past: { (popped ≤ length (received items)) × (returned ≤ length (sent numbers)) },
-    ghost stored: { (place ≤ vec_len side) × (vec_len side ≤ capacity) × (capacity ≤ vec_capacity side) },
+    ghost stored: { (place ≤ vec_len side) × (vec_len side ≤ consumer_capacity items) × (consumer_capacity items ≤ vec_capacity side) },
     ghost in_turn: { place < vec_len side → popped ≡ 0 },
     ghost few: { returned ≤ place + popped },
 }
 
 impl TakerEnd {
-    ghost use Rattle.std.specs.Prelude.{◌≡◌, ◌+◌, ◌-◌, ◌^◌, ◌<◌, ◌≤◌, [], ◌∷◌, ◌++◌, length, take, drop, vec_len, vec_capacity, IfSome, IfNone, IsSome};
+    ghost use Rattle.std.specs.Prelude.{◌≡◌, ◌⊎◌, ◌+◌, ◌-◌, ◌^◌, ◌<◌, ◌≤◌, [], ◌∷◌, ◌++◌, length, take, drop, vec_len, vec_capacity, IfSome, IfNone, IsSome};
     ghost use mathlib.Core.List.{IsPrefix};
-    ghost use Rattle.rtrb.specs.Ring.{sent, received, known_items, IsPair, SameProducer, SameConsumer};
-    ghost use Rattle.lucy_ring.specs.Ring.{taken, held, known, popped_before, ring_of_taker, taker_view};
+    ghost use Rattle.rtrb.specs.Ring.{sent, received, known_items, consumer_capacity, IsPair, SameProducer, SameConsumer};
+    ghost use Rattle.lucy_word.specs.Limits.{limit_number};
+    ghost use Rattle.lucy_word.specs.declared.limit.Limit.TheVariants as limit;
+    ghost use Rattle.lucy_ring.specs.Ring.{taken, held, known, return_slots, popped_before, ring_of_taker, taker_view};
 
-    pub(crate) fn new(
-        items: Consumer<i64>,
-        numbers: Producer<u8>,
-        capacity: u32,
-        side: Vec<i64>,
-    ) -> TakerEnd
-        requires capacity { (1 ≤ capacity) × (capacity ≤ 1048576) }
-        requires side { (side.items ≡ []) × (vec_capacity side ≡ capacity) }
-        ensures parts { (result.items ≡ items) × (result.numbers ≡ numbers) × (result.capacity ≡ capacity) × (result.side ≡ side) }
+    pub(crate) fn new(items: Consumer<i64>, numbers: Producer<u8>, side: Vec<i64>) -> TakerEnd
+        requires capacity { (1 ≤ consumer_capacity items) × (consumer_capacity items ≤ limit_number limit.Slots) }
+        requires side { (side.items ≡ []) × (vec_capacity side ≡ consumer_capacity items) }
+        ensures parts { (result.items ≡ items) × (result.numbers ≡ numbers) × (result.side ≡ side) }
         ensures counts { (result.place ≡ 0) × (result.popped ≡ 0) × (result.returned ≡ 0) }
     {
         TakerEnd {
             items,
             numbers,
-            capacity,
             side,
             place: 0,
             popped: 0,
@@ -55,10 +52,10 @@ impl TakerEnd {
     pub(crate) fn take(&mut self) -> Option<i64>
         requires few { length (taken self.old) < 2 ^ 40 }
         ensures ring { ring_of_taker self.new ≡ ring_of_taker self.old }
-        ensures capacity { self.new.capacity ≡ self.old.capacity }
         ensures held { held self.new ≡ held self.old }
         ensures taken { IfSome result (λ x. taken self.new ≡ taken self.old ++ x ∷ []) }
         ensures oldest { IfSome result (λ x. IsPrefix (known self.old) (x ∷ known self.new)) }
+        ensures sent_back { IfSome result (λ _. (self.new.returned ≡ self.old.returned + 1) ⊎ (return_slots self.new ≡ 0)) }
         ensures unchanged { IfNone result (taker_view self.new ≡ taker_view self.old) }
         ensures succeeds { 0 < length (known self.old) → IsSome result }
     {
@@ -75,10 +72,10 @@ impl TakerEnd {
     fn take_held(&mut self) -> i64
         requires some { self.old.place < vec_len self.old.side }
         ensures ring { ring_of_taker self.new ≡ ring_of_taker self.old }
-        ensures capacity { self.new.capacity ≡ self.old.capacity }
         ensures held { held self.new ≡ held self.old }
         ensures taken { taken self.new ≡ taken self.old ++ result ∷ [] }
         ensures known { known self.old ≡ result ∷ known self.new }
+        ensures numbers { self.new.returned ≡ self.old.returned }
         ensures owed { self.new.returned < self.new.place + self.new.popped }
     {
         let item = self.side[self.place];
@@ -92,12 +89,12 @@ impl TakerEnd {
         requires in_turn { self.old.place ≡ vec_len self.old.side }
         requires few { length (taken self.old) < 2 ^ 40 }
         ensures ring { ring_of_taker self.new ≡ ring_of_taker self.old }
-        ensures capacity { self.new.capacity ≡ self.old.capacity }
         ensures held { held self.new ≡ held self.old }
         ensures taken { IfSome result (λ x. taken self.new ≡ taken self.old ++ x ∷ []) }
         ensures oldest { IfSome result (λ x. IsPrefix (known self.old) (x ∷ known self.new)) }
         ensures unchanged { IfNone result (taker_view self.new ≡ taker_view self.old) }
         ensures succeeds { 0 < length (known self.old) → IsSome result }
+        ensures numbers { IfSome result (λ _. self.new.returned ≡ self.old.returned) }
         ensures owed { IfSome result (λ _. self.new.returned < self.new.place + self.new.popped) }
     {
         match self.items.pop() {
@@ -116,10 +113,10 @@ impl TakerEnd {
         requires owed { self.old.returned < self.old.place + self.old.popped }
         requires few { length (taken self.old) ≤ 2 ^ 40 }
         ensures ring { ring_of_taker self.new ≡ ring_of_taker self.old }
-        ensures capacity { self.new.capacity ≡ self.old.capacity }
         ensures held { held self.new ≡ held self.old }
         ensures taken { taken self.new ≡ taken self.old }
         ensures known { known self.new ≡ known self.old }
+        ensures sent_back { (self.new.returned ≡ self.old.returned + 1) ⊎ (return_slots self.new ≡ 0) }
     {
         if self.numbers.push(0).is_ok() {
             self.returned += 1;
@@ -129,10 +126,10 @@ impl TakerEnd {
     // Holds from now on what is left of what it held, then all that is in the ring, then `more`.
     pub(crate) fn gather(&mut self, items: &mut Producer<i64>, more: &[i64])
         requires pair { IsPair items.old self.old.items }
-        requires room { vec_len self.old.side + (length (sent items.old) - popped_before self.old) + length more.now ≤ self.old.capacity + self.old.place + self.old.popped }
+        requires room { vec_len self.old.side + (length (sent items.old) - popped_before self.old) + length more.now ≤ consumer_capacity self.old.items + self.old.place + self.old.popped }
         ensures items { SameConsumer self.old.items self.new.items × SameProducer items.old items.new }
         ensures sent { (sent items.new ≡ sent items.old) × (received self.new.items ≡ sent items.new) }
-        ensures numbers { (self.new.numbers ≡ self.old.numbers) × (self.new.capacity ≡ self.old.capacity) }
+        ensures numbers { self.new.numbers ≡ self.old.numbers }
         ensures none { known_items self.new.items ≡ [] }
         ensures counts { (self.new.place ≡ 0) × (self.new.popped ≡ 0) × (self.new.returned ≡ 0) }
         ensures held { self.new.side.items ≡ drop self.old.place self.old.side.items ++ drop (length (received self.old.items)) (sent items.old) ++ more.now }

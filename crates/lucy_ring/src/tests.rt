@@ -6,16 +6,45 @@ use std::sync::Wait;
 use std::test::Fail;
 use std::thread;
 
+// The slot of the first item taken is free for the next given, with no meeting between: after items given since the last
+// meeting, and after items that were held at it.
 #[test]
 fn a_slot_freed_between_meetings_is_used_again(rt: HostRuntime) -> Result<(), Fail> {
+    let (mut giver, mut taker) = ring(rt.alloc(), 2)?;
+    assert_eq!(rt; giver.give(1), Ok(()));
+    assert_eq!(rt; giver.give(2), Ok(()));
+    assert_eq!(rt; giver.give(3), Err(3));
+    assert_eq!(rt; taker.take(), Some(1));
+    assert_eq!(rt; giver.give(3), Ok(()));
+    assert_eq!(rt; giver.give(4), Err(4));
+    meet(&mut giver, &mut taker);
+    assert_eq!(rt; giver.give(4), Err(4));
+    assert_eq!(rt; taker.take(), Some(2));
+    assert_eq!(rt; giver.give(4), Ok(()));
+    assert_eq!(rt; taker.take(), Some(3));
+    assert_eq!(rt; giver.give(5), Ok(()));
+    assert_eq!(rt; giver.give(6), Err(6));
+    assert_eq!(rt; taker.take(), Some(4));
+    assert_eq!(rt; giver.give(6), Ok(()));
+    assert_eq!(rt; taker.take(), Some(5));
+    assert_eq!(rt; taker.take(), Some(6));
+    assert_eq!(rt; taker.take(), None);
+    Ok(())
+}
+
+// A slot freed before a meeting is known at it, and is not found twice after it.
+#[test]
+fn a_slot_freed_before_a_meeting_is_used_once(rt: HostRuntime) -> Result<(), Fail> {
     let (mut giver, mut taker) = ring(rt.alloc(), 2)?;
     meet(&mut giver, &mut taker);
     assert_eq!(rt; giver.give(1), Ok(()));
     assert_eq!(rt; giver.give(2), Ok(()));
-    assert_eq!(rt; giver.give(3), Err(3));
-    meet(&mut giver, &mut taker);
     assert_eq!(rt; taker.take(), Some(1));
+    meet(&mut giver, &mut taker);
+    assert_eq!(rt; giver.give(3), Ok(()));
+    assert_eq!(rt; giver.give(4), Err(4));
     assert_eq!(rt; taker.take(), Some(2));
+    assert_eq!(rt; taker.take(), Some(3));
     assert_eq!(rt; taker.take(), None);
     meet(&mut giver, &mut taker);
     assert_eq!(rt; giver.give(4), Ok(()));

@@ -12,9 +12,9 @@ nothing c =
     search rules
 
 pub returns-in-Ok-clause-ring : goal.returns-in-Ok-clause-ring
-returns-in-Ok-clause-ring c = taker_keeps _ _ (search rules) (search rules) (grind (arith, common_steps)) (search rules) (search rules) (search rules)
+returns-in-Ok-clause-ring c = taker_keeps _ _ (search rules) (search rules) (grind (arith, common_steps)) (search rules) (search rules)
 
 pub returns-in-Err-clause-unchanged : goal.returns-in-Err-clause-unchanged
 returns-in-Err-clause-unchanged c = same_view _ _
-    (taker_keeps _ _ (search rules) (search rules) (search rules) (search rules) (search rules) (search rules))
-    (search rules) (search rules) (ap (λ l. drop c.args.self.now.place c.args.self.now.side.items ++ l) (nothing c)) (search rules)
+    (taker_keeps _ _ (search rules) (search rules) (search rules) (search rules) (search rules))
+    (search rules) (search rules) (ap (λ l. drop c.args.self.now.place c.args.self.now.side.items ++ l) (nothing c)) (search rules) (search rules)
