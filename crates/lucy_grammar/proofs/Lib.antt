@@ -15,6 +15,7 @@ pub mod LeafProductions
 pub mod NodeProductions
 pub mod Productions
 pub mod Whole
+pub mod TextLaws
 pub mod SpanLaws
 pub mod Spelling
 pub mod PrintedTrees

@@ -1,5 +1,5 @@
 -- Every program that is read is shaped.
-use Rattle.std.proofs.Common.{ℕ, ◌+◌, ◌≤◌, ◌≡◌, true, Bool, List, [], ◌∷◌, ◌++◌, length, refl, ap, sym, ◌∙◌, arith}
+use Rattle.std.proofs.Common.{ℕ, ◌+◌, ◌<◌, ◌≤◌, ◌≡◌, true, Bool, List, [], ◌∷◌, ◌++◌, length, refl, ap, sym, ◌∙◌, arith}
 use Rattle.std.specs.Prelude.{nat_le}
 use Rattle.std.specs.List.{AllByRecursion}
 use Rattle.std.proofs.lemmas.Bool.{not-true, leb-false}
@@ -60,6 +60,11 @@ shaped_nodes : (p : ProgramTree) → IsPrintableProgram IsWritten p → AllByRec
 shaped_nodes [] h = tt
 shaped_nodes (n ∷ ns) h = (shaped_node n h.0, each (IsPrintableNode IsWritten) IsShapedNode shaped_node ns h.1)
 
+-- there is a node
+some_node : (p : ProgramTree) → IsPrintableProgram IsWritten p → 0 < length p
+some_node [] h = absurd h
+some_node (n ∷ ns) h = omega arith
+
 -- how many `let` there are among tokens
 abbrev lets : List What → ℕ
 lets [] = 0
@@ -114,5 +119,6 @@ program_lets (n ∷ ns) = omega (arith, one_each n, more_lets ns, parts (printed
 pub shaped : (text : List ℕ) (p : ProgramTree) → HasTree text p → IsShapedProgram p
 shaped text p h = record {
   nodes = shaped_nodes p (written_program text h.tokens h.end p h.cut h.program);
+  some = some_node p (written_program text h.tokens h.end p h.cut h.program);
   few = omega (arith, program_lets p, few_lets (count_of start) (whats_of (printed_program p)) (print_counts text h.tokens h.end p h.cut h.program) (omega arith));
 }

@@ -2,6 +2,7 @@ ghost use Rattle.std.specs.Prelude.{◌≡◌, ◌++◌, ℕ, List, length, map}
 ghost use Rattle.lucy_tree.specs.View.{ProgramTree};
 ghost use Rattle.lucy_token.specs.declared.token.Token.{Token};
 ghost use Rattle.lucy_token.specs.declared.stop.Stop.TheVariants.{End};
+ghost use Rattle.lucy_token.specs.declared.stop.SyntaxError.{SyntaxError};
 ghost use Rattle.lucy_token.specs.States.{start};
 ghost use Rattle.lucy_token.specs.Cuts.{Cuts};
 ghost use Rattle.lucy_token.specs.Spelled.{whats_of};
@@ -10,6 +11,7 @@ ghost use Rattle.lucy_grammar.specs.Print.{printed_program, program_text};
 ghost use Rattle.lucy_grammar.specs.Printable.{IsPrintableProgram, Anywhere};
 ghost use Rattle.lucy_grammar.specs.Programs.{IsProgram, BeginsProgram, IsFirstUnfit};
 ghost use Rattle.lucy_grammar.specs.Spans.{IsAlike};
+ghost use Rattle.lucy_grammar.specs.Texts.{HasTree, IsRefused};
 
 /// Tokens are at most one program.
 pub fn one_tree()
@@ -36,4 +38,12 @@ pub fn printed_again()
 /// again, but for places.
 pub fn read_again()
     ensures { (text : List ℕ) (ts : List Token) (n : ℕ) (p : ProgramTree) → Cuts 0 start text ts (End n) → IsProgram ts p → (us : List Token) × (q : ProgramTree) × Cuts 0 start (program_text p) us (End (length (program_text p))) × IsProgram us q × IsAlike q p }
+{}
+
+/// A text has at most one tree and at most one refusal, never both, and no text has neither.
+pub fn texts_have_one_answer()
+    ensures one_tree { (text : List ℕ) (p q : ProgramTree) → HasTree text p → HasTree text q → p ≡ q }
+    ensures one_refusal { (text : List ℕ) (e f : SyntaxError) → IsRefused text e → IsRefused text f → e ≡ f }
+    ensures never_both { (text : List ℕ) (p : ProgramTree) (e : SyntaxError) → HasTree text p → IsRefused text e → ⊥ }
+    ensures never_neither { (text : List ℕ) → ((p : ProgramTree) → HasTree text p → ⊥) → ((e : SyntaxError) → IsRefused text e → ⊥) → ⊥ }
 {}

@@ -7,4 +7,4 @@
 
 mod laws;
 
-pub use laws::{one_refusal, one_tree, printed_again, read_again};
+pub use laws::{one_refusal, one_tree, printed_again, read_again, texts_have_one_answer};

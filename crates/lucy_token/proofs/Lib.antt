@@ -7,6 +7,7 @@ pub mod FrontLaws
 mod MarkSteps
 mod Numbers
 pub mod OneCut
+pub mod SomeCut
 pub mod WordLaws
 pub mod WrittenLaws
 pub mod PrintFronts

@@ -7,6 +7,7 @@
 
 mod content;
 mod front;
+mod laws;
 mod mark;
 mod scan;
 mod state;
@@ -16,6 +17,7 @@ mod tests;
 mod token;
 
 pub use front::Front;
+pub use laws::texts_have_one_cut;
 pub use mark::Mark;
 pub use scan::tokens;
 pub use state::{Level, Side};

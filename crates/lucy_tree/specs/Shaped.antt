@@ -1,6 +1,7 @@
 -- Trees of the shape that the grammar gives: an operator has as many operands as it takes, an operator of the host two, the
--- word of `whenot` and of `merge` has a zero in its period, several names are defined by a call, and nodes are few.
-use Rattle.std.specs.Prelude.{List, [], ◌∷◌, ◌≡◌, ◌<◌, ◌≤◌, true, length}
+-- word of `whenot` and of `merge` has a zero in its period, several names are defined by a call, and there is a node, but nodes
+-- are few.
+use Rattle.std.specs.Prelude.{ℕ, List, [], ◌∷◌, ◌≡◌, ◌<◌, ◌≤◌, true, length}
 use Rattle.std.specs.List.{AllByRecursion}
 use Rattle.lucy_word.specs.Bits.{Bits, ones_in}
 use Rattle.lucy_word.specs.Limits.{limit_number}
@@ -49,4 +50,5 @@ IsShapedNode n = AllByRecursion IsShapedDef n.defs
 
 pub record IsShapedProgram (p : ProgramTree) : Type 0 where
   pub nodes : AllByRecursion IsShapedNode p
+  pub some : 0 < length p
   pub few : length p ≤ limit_number limit.Nodes

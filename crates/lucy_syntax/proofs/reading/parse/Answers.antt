@@ -6,7 +6,8 @@ use Rattle.lucy_token.specs.States.{start}
 use Rattle.lucy_token.specs.Cuts.{Cuts}
 use Rattle.lucy_grammar.specs.Texts.{HasTree}
 use Rattle.lucy_grammar.proofs.ShapedLaws.{shaped}
-use Rattle.lucy_syntax.proofs.TextLaws.{has_tree, one_program, tree_or_error, rejected_so, accepted_so}
+use Rattle.lucy_grammar.proofs.TextLaws.{has_tree, one_program, tree_or_error}
+use Rattle.lucy_syntax.proofs.TextLaws.{rejected_so, accepted_so}
 use Rattle.lucy_syntax.proofs.reading.parse.Goals as goal
 
 pub returns-in_err-list-clause-accepted : goal.returns-in_err-list-clause-accepted
