@@ -5,36 +5,36 @@ use Rattle.lucy_tree.specs.View.{DefTree}
 use Rattle.lucy_place.specs.declared.entry.CallSite.{CallSite}
 use Rattle.lucy_place.specs.Texts.{place_in}
 use Rattle.lucy_place.specs.Streams.{wanted}
-use Rattle.lucy_place.specs.Forms.{Head, Literal, Operator, Host, Sampled, Merged, Followed, Buffered, Called, Form, Forms, name, form, none, and, form_of}
+use Rattle.lucy_place.specs.Phrases.{Head, Literal, Applied, Host, Sampled, Merged, Followed, Buffered, Called, Phrase, Phrases, name, headed, none, and, phrase_of}
 use Rattle.lucy_place.specs.Numbering.{Next, Known, past, past_all, inside, numbers, entries, all_entries, own_entries, own_sites, sites, all_sites, results_from}
 use Rattle.lucy_place.specs.Nodes.{past_def, past_defs, rights, def_sites, buffer_places}
 use Rattle.lucy_place.proofs.DraftLaws.{length_results, inside_past}
 use Rattle.lucy_place.proofs.Spread.{Call, Reaches, reaches_none, reaches_join}
 
 abbrev pub own_made : Known → Next → ℕ → Head → List ℕ → List Call
-own_made k at results (Called n base) args = record { site = record { node = place_in k.nodes n.text; at = base; args = args }; first = at.place; results = results } ∷ []
+own_made k at results (Called n base) args = record { site = record { node = place_in k.nodes n.text; at = base; first = at.place; args = args }; results = results } ∷ []
 own_made k at results h args = []
 
 abbrev mutual
-  pub made : Known → Next → ℕ → Form → List Call
+  pub made : Known → Next → ℕ → Phrase → List Call
   made k at results (name n) = []
-  made k at results (form h span fs) = own_made k at results h (numbers k (inside at results h) fs) ++ all_made k (inside at results h) fs
+  made k at results (headed h span fs) = own_made k at results h (numbers k (inside at results h) fs) ++ all_made k (inside at results h) fs
 
-  pub all_made : Known → Next → Forms → List Call
+  pub all_made : Known → Next → Phrases → List Call
   all_made k at none = []
   all_made k at (and f fs) = made k at 1 f ++ all_made k (past at 1 f) fs
 
 abbrev pub def_made : Known → Next → List DefTree → List Call
 def_made k at [] = []
-def_made k at (d ∷ ds) = made k at (wanted d.left) (form_of d.right) ++ def_made k (past_def at d) ds
+def_made k at (d ∷ ds) = made k at (wanted d.left) (phrase_of d.right) ++ def_made k (past_def at d) ds
 
 -- they are the calls of the numbering
 abbrev pub site : Call → CallSite
 site c = c.site
 
-own_sites_are : (k : Known) (at : Next) (r : ℕ) (h : Head) (args : List ℕ) → map site (own_made k at r h args) ≡ own_sites k h args
+own_sites_are : (k : Known) (at : Next) (r : ℕ) (h : Head) (args : List ℕ) → map site (own_made k at r h args) ≡ own_sites k at h args
 own_sites_are k at r (Literal l) args = refl
-own_sites_are k at r (Operator o) args = refl
+own_sites_are k at r (Applied o) args = refl
 own_sites_are k at r (Host n) args = refl
 own_sites_are k at r (Sampled flip w) args = refl
 own_sites_are k at r (Merged w) args = refl
@@ -43,14 +43,14 @@ own_sites_are k at r Buffered args = refl
 own_sites_are k at r (Called n base) args = refl
 
 mutual
-  sites_are : (k : Known) (at : Next) (r : ℕ) (f : Form) → map site (made k at r f) ≡ sites k at r f
+  sites_are : (k : Known) (at : Next) (r : ℕ) (f : Phrase) → map site (made k at r f) ≡ sites k at r f
   sites_are k at r (name n) = refl
-  sites_are k at r (form h span fs) =
+  sites_are k at r (headed h span fs) =
       let in_ : Next = inside at r h in
       map-append site (own_made k at r h (numbers k in_ fs)) (all_made k in_ fs)
-      ∙ ap (λ l. l ++ map site (all_made k in_ fs)) (own_sites_are k at r h (numbers k in_ fs)) ∙ ap (λ l. own_sites k h (numbers k in_ fs) ++ l) (all_sites_are k in_ fs)
+      ∙ ap (λ l. l ++ map site (all_made k in_ fs)) (own_sites_are k at r h (numbers k in_ fs)) ∙ ap (λ l. own_sites k at h (numbers k in_ fs) ++ l) (all_sites_are k in_ fs)
 
-  all_sites_are : (k : Known) (at : Next) (fs : Forms) → map site (all_made k at fs) ≡ all_sites k at fs
+  all_sites_are : (k : Known) (at : Next) (fs : Phrases) → map site (all_made k at fs) ≡ all_sites k at fs
   all_sites_are k at none = refl
   all_sites_are k at (and f fs) =
       map-append site (made k at 1 f) (all_made k (past at 1 f) fs)
@@ -60,17 +60,17 @@ pub def_sites_are : (k : Known) (at : Next) (ds : List DefTree) → map site (de
 def_sites_are k at [] = refl
 def_sites_are k at (d ∷ ds) =
     let r : ℕ = wanted d.left in
-    map-append site (made k at r (form_of d.right)) (def_made k (past_def at d) ds)
-    ∙ ap (λ l. l ++ map site (def_made k (past_def at d) ds)) (sites_are k at r (form_of d.right)) ∙ ap (λ l. sites k at r (form_of d.right) ++ l) (def_sites_are k (past_def at d) ds)
+    map-append site (made k at r (phrase_of d.right)) (def_made k (past_def at d) ds)
+    ∙ ap (λ l. l ++ map site (def_made k (past_def at d) ds)) (sites_are k at r (phrase_of d.right)) ∙ ap (λ l. sites k at r (phrase_of d.right) ++ l) (def_sites_are k (past_def at d) ds)
 
 -- no buffer stands at the results of a call
 pub buffers_results : (from call first n : ℕ) → buffer_places from (results_from call first n) ≡ []
 buffers_results from call first zero = refl
 buffers_results from call first (suc n) = buffers_results (from + 1) call (first + 1) n
 
-pub reaches_own : (k : Known) (at : Next) (r : ℕ) (h : Head) (args : List ℕ) → Reaches at (inside at r h) (own_entries at r h args) (own_made k at r h args)
+pub reaches_own : (k : Known) (at : Next) (r : ℕ) (h : Head) (args : List ℕ) → Reaches at (inside at r h) (own_entries k at r h args) (own_made k at r h args)
 reaches_own k at r (Literal l) args = record { place = omega arith; buffer = omega arith; call = omega arith }
-reaches_own k at r (Operator o) args = record { place = omega arith; buffer = omega arith; call = omega arith }
+reaches_own k at r (Applied o) args = record { place = omega arith; buffer = omega arith; call = omega arith }
 reaches_own k at r (Host n) args = record { place = omega arith; buffer = omega arith; call = omega arith }
 reaches_own k at r (Sampled flip w) args = record { place = omega arith; buffer = omega arith; call = omega arith }
 reaches_own k at r (Merged w) args = record { place = omega arith; buffer = omega arith; call = omega arith }
@@ -82,23 +82,23 @@ reaches_own k at r (Called n base) args =
     record { place = omega (arith, l); buffer = omega (arith, b); call = omega arith }
 
 mutual
-  pub reaches_form : (k : Known) (at : Next) (r : ℕ) (f : Form) → Reaches at (past at r f) (entries k at r f) (made k at r f)
-  reaches_form k at r (name n) = record { place = omega arith; buffer = omega arith; call = omega arith }
-  reaches_form k at r (form h span fs) =
+  pub reaches_phrase : (k : Known) (at : Next) (r : ℕ) (f : Phrase) → Reaches at (past at r f) (entries k at r f) (made k at r f)
+  reaches_phrase k at r (name n) = record { place = omega arith; buffer = omega arith; call = omega arith }
+  reaches_phrase k at r (headed h span fs) =
       let in_ : Next = inside at r h in
       let args : List ℕ = numbers k in_ fs in
-      subst (λ t. Reaches at t (entries k at r (form h span fs)) (made k at r (form h span fs))) (inside_past at r h span fs)
-      (reaches_join at in_ (past_all in_ fs) (own_entries at r h args) (all_entries k in_ fs) (own_made k at r h args) (all_made k in_ fs) (reaches_own k at r h args) (reaches_all k in_ fs))
+      subst (λ t. Reaches at t (entries k at r (headed h span fs)) (made k at r (headed h span fs))) (inside_past at r h span fs)
+      (reaches_join at in_ (past_all in_ fs) (own_entries k at r h args) (all_entries k in_ fs) (own_made k at r h args) (all_made k in_ fs) (reaches_own k at r h args) (reaches_all k in_ fs))
 
-  pub reaches_all : (k : Known) (at : Next) (fs : Forms) → Reaches at (past_all at fs) (all_entries k at fs) (all_made k at fs)
+  pub reaches_all : (k : Known) (at : Next) (fs : Phrases) → Reaches at (past_all at fs) (all_entries k at fs) (all_made k at fs)
   reaches_all k at none = reaches_none at
   reaches_all k at (and f fs) =
       reaches_join at (past at 1 f) (past_all (past at 1 f) fs) (entries k at 1 f) (all_entries k (past at 1 f) fs) (made k at 1 f) (all_made k (past at 1 f) fs)
-      (reaches_form k at 1 f) (reaches_all k (past at 1 f) fs)
+      (reaches_phrase k at 1 f) (reaches_all k (past at 1 f) fs)
 
 pub reaches_defs : (k : Known) (at : Next) (ds : List DefTree) → Reaches at (past_defs at ds) (rights k at ds) (def_made k at ds)
 reaches_defs k at [] = reaches_none at
 reaches_defs k at (d ∷ ds) =
     let r : ℕ = wanted d.left in
-    reaches_join at (past_def at d) (past_defs (past_def at d) ds) (entries k at r (form_of d.right)) (rights k (past_def at d) ds) (made k at r (form_of d.right)) (def_made k (past_def at d) ds)
-    (reaches_form k at r (form_of d.right)) (reaches_defs k (past_def at d) ds)
+    reaches_join at (past_def at d) (past_defs (past_def at d) ds) (entries k at r (phrase_of d.right)) (rights k (past_def at d) ds) (made k at r (phrase_of d.right)) (def_made k (past_def at d) ds)
+    (reaches_phrase k at r (phrase_of d.right)) (reaches_defs k (past_def at d) ds)

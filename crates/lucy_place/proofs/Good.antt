@@ -16,7 +16,7 @@ use Rattle.lucy_place.proofs.CallLaws.{site}
 
 -- what names stand for
 abbrev pub known_of : Within → Known
-known_of w = record { nodes = node_names w.above; streams = w.streams }
+known_of w = record { operators = w.operators; nodes = node_names w.above; streams = w.streams }
 
 -- places, buffers and calls lie in a node and its calls at these numbers
 abbrev pub Lies : PlacedNode → List Call → Next → List PlaceEntry → List Call → Type 0
@@ -24,7 +24,7 @@ Lies n cs at es ds = Spread (λ p e. at_one n.places p ≡ Some e) (λ b p. at_o
 
 -- a result is one of its call's
 abbrev pub IsResultOf : List Call → ℕ → PlaceKind → Type 0
-IsResultOf cs p (kind.Result c j) = (x : Call) × (at_one cs c ≡ Some x) × (p ≡ x.first + j) × (j < x.results)
+IsResultOf cs p (kind.Result c j) = (x : Call) × (at_one cs c ≡ Some x) × (p ≡ x.site.first + j) × (j < x.results)
 IsResultOf cs p _ = Unit {0}
 
 pub record GoodPlace (n : PlacedNode) (cs : List Call) (p : ℕ) (e : PlaceEntry) : Type 0 where
@@ -41,7 +41,8 @@ pub record GoodCall (above : List PlacedNode) (n : PlacedNode) (c : ℕ) (x : Ca
   pub arguments : length x.site.args ≡ callee.params
   pub places : ArePlaces n x.site.args
   pub count : x.results ≡ length callee.results
-  pub results : (j : ℕ) → j < x.results → Stands n (x.first + j) (kind.Result c j)
+  pub some : 0 < x.results
+  pub results : (j : ℕ) → j < x.results → Stands n (x.site.first + j) (kind.Result c j)
 
 abbrev pub Good : List PlacedNode → PlacedNode → List Call → Next → List PlaceEntry → List Call → Type 0
 Good above n cs at es ds = Spread (GoodPlace n cs) (GoodBuffer n) (GoodCall above n) at es ds

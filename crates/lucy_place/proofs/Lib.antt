@@ -1,9 +1,8 @@
 pub mod ListLaws
 pub mod TextLaws
 pub mod VerdictLaws
-pub mod Turned
 pub mod TreeLaws
-pub mod FormLaws
+pub mod PhraseLaws
 pub mod DraftLaws
 pub mod RoomLaws
 pub mod NodeLaws
@@ -15,12 +14,19 @@ mod Spread
 mod CallLaws
 mod ShapeLaws
 mod Good
-mod OwnForms
-mod ProperForms
+mod OwnPlaces
+mod ProperPhrases
 mod NodeParts
+mod NodeFaults
+mod NameLaws
 mod ProperNodes
 mod ProperPrograms
-mod WrittenForms
-mod NamedForms
+mod OperatorLaws
+mod WrittenPhrases
+mod NamedPhrases
 mod WrittenDefs
 mod WrittenNodes
+mod ReadCounts
+mod ReadPhrases
+mod ReadNodes
+pub mod ReadOrder

@@ -2,6 +2,7 @@
 use Rattle.std.proofs.Common.{◌≡◌, ◌+◌, ◌<◌, ◌||◌, ℕ, zero, suc, Bool, true, false, not, cond, List, [], ◌∷◌, ◌++◌, length, length-append, map, Some, slice_get, refl, ap, sym, ◌∙◌, arith, append_assoc}
 use Rattle.std.proofs.lemmas.List.{length-map}
 use Rattle.std.specs.List.{AllByRecursion, list_any, position_or_len}
+use Rattle.lucy_host.specs.Operators.{Operator}
 use Rattle.lucy_tree.specs.declared.span.Name.{Name}
 use Rattle.lucy_tree.specs.declared.decl.Decl.{Decl}
 use Rattle.lucy_tree.specs.View.{DefTree, NodeTree, ProgramTree}
@@ -10,7 +11,7 @@ use Rattle.lucy_place.specs.declared.entry.PlaceKind.TheVariants as kind
 use Rattle.lucy_place.specs.declared.placed.PlacedNode.{PlacedNode}
 use Rattle.lucy_place.specs.Texts.{is_text, is_in, place_in}
 use Rattle.lucy_place.specs.Streams.{text_of, streams, declared, def_names}
-use Rattle.lucy_place.specs.Forms.{form_of}
+use Rattle.lucy_place.specs.Phrases.{phrase_of}
 use Rattle.lucy_place.specs.Faults.{Within}
 use Rattle.lucy_place.specs.Numbering.{Next, Known, number, stream_place}
 use Rattle.lucy_place.specs.Nodes.{past_def, declared_entry, left_entries, defined, rights, first_next, known_in, placed_node, buffer_places}
@@ -20,7 +21,7 @@ use Rattle.lucy_place.proofs.Spread.{Call, Reaches, buffers_append}
 use Rattle.lucy_place.proofs.CallLaws.{def_made, def_sites_are}
 use Rattle.lucy_place.proofs.RoomLaws.{length_defined}
 use Rattle.lucy_place.proofs.Good.{Lies, Callee, Setting}
-use Rattle.lucy_place.proofs.ProperForms.{lies_back}
+use Rattle.lucy_place.proofs.ProperPhrases.{lies_back}
 
 -- a text among others stands at one of their places
 pub found_within : {A : Type 0} (p : A → Bool) (xs : List A) → list_any p xs ≡ true → position_or_len p xs < length xs
@@ -40,11 +41,11 @@ named_at [] ys i h all = absurd (omega arith)
 named_at (x ∷ xs) ys zero h all = (x, all.0.0, refl, all.0.1)
 named_at (x ∷ xs) ys (suc i) h all = named_at xs ys i (omega (arith, h)) all.1
 
-names_join : (xs ys : List PlaceEntry) → AllByRecursion HasName xs → AllByRecursion HasName ys → AllByRecursion HasName (xs ++ ys)
+pub names_join : (xs ys : List PlaceEntry) → AllByRecursion HasName xs → AllByRecursion HasName ys → AllByRecursion HasName (xs ++ ys)
 names_join [] ys a b = b
 names_join (x ∷ xs) ys a b = (a.0, names_join xs ys a.1 b)
 
-params_named : (ds : List Decl) → AllByRecursion HasName (map (declared_entry kind.Param) ds)
+pub params_named : (ds : List Decl) → AllByRecursion HasName (map (declared_entry kind.Param) ds)
 params_named [] = tt
 params_named (d ∷ ds) = ((d.name, refl), params_named ds)
 
@@ -52,10 +53,10 @@ lefts_named : (right : ℕ) (ds : List Decl) → AllByRecursion HasName (left_en
 lefts_named right [] = tt
 lefts_named right (d ∷ ds) = ((d.name, refl), lefts_named (right + 1) ds)
 
-defined_named : (k : Known) (at : Next) (ds : List DefTree) → AllByRecursion HasName (defined k at ds)
+pub defined_named : (k : Known) (at : Next) (ds : List DefTree) → AllByRecursion HasName (defined k at ds)
 defined_named k at [] = tt
 defined_named k at (d ∷ ds) =
-    names_join (left_entries (number k at (form_of d.right)) d.left) (defined k (past_def at d) ds) (lefts_named (number k at (form_of d.right)) d.left) (defined_named k (past_def at d) ds)
+    names_join (left_entries (number k at (phrase_of d.right)) d.left) (defined k (past_def at d) ds) (lefts_named (number k at (phrase_of d.right)) d.left) (defined_named k (past_def at d) ds)
 
 -- no buffer stands at them
 pub buffers_params : (from : ℕ) (ds : List Decl) → buffer_places from (map (declared_entry kind.Param) ds) ≡ []
@@ -69,23 +70,23 @@ buffers_lefts from right (d ∷ ds) = buffers_lefts (from + 1) (right + 1) ds
 pub buffers_defined : (from : ℕ) (k : Known) (at : Next) (ds : List DefTree) → buffer_places from (defined k at ds) ≡ []
 buffers_defined from k at [] = refl
 buffers_defined from k at (d ∷ ds) =
-    let left : List PlaceEntry = left_entries (number k at (form_of d.right)) d.left in
+    let left : List PlaceEntry = left_entries (number k at (phrase_of d.right)) d.left in
     buffers_append from (from + length left) left (defined k (past_def at d) ds) refl
-    ∙ ap (λ l. l ++ buffer_places (from + length left) (defined k (past_def at d) ds)) (buffers_lefts from (number k at (form_of d.right)) d.left)
+    ∙ ap (λ l. l ++ buffer_places (from + length left) (defined k (past_def at d) ds)) (buffers_lefts from (number k at (phrase_of d.right)) d.left)
     ∙ buffers_defined (from + length left) k (past_def at d) ds
 
-module _ (all above : ProgramTree) (t : NodeTree) where
+module _ (ops : List Operator) (all above : ProgramTree) (t : NodeTree) where
   abbrev pub texts : List (List ℕ)
   texts = map text_of (streams t)
 
   abbrev pub w : Within
-  w = record { all = all; above = above; streams = texts }
+  w = record { operators = ops; all = all; above = above; streams = texts }
 
   abbrev pub k : Known
-  k = known_in above t
+  k = known_in ops above t
 
   abbrev pub n : PlacedNode
-  n = placed_node above t
+  n = placed_node ops above t
 
   abbrev pub cs : List Call
   cs = def_made k (first_next t) t.defs

@@ -1,32 +1,32 @@
 -- A node without faults is proper, where its tree has the shape that the grammar gives.
-use Rattle.std.proofs.Common.{◌≡◌, ◌+◌, ◌≤◌, ◌<◌, ℕ, zero, suc, Bool, true, false, not, List, [], ◌∷◌, ◌++◌, length, length-append, map, Some, slice_get, nat_lt, if◌then◌else◌, refl, ap, sym, ◌∙◌, subst, arith}
-use Rattle.std.proofs.lemmas.Bool.Decides.{nat_tests}
+use Rattle.std.proofs.Common.{◌≡◌, ◌+◌, ◌≤◌, ◌<◌, ℕ, zero, suc, Bool, true, false, List, [], ◌∷◌, ◌++◌, length, length-append, map, Some, slice_get, if◌then◌else◌, refl, ap, sym, ◌∙◌, subst, arith}
 use Rattle.std.proofs.lemmas.List.{length-map}
-use Rattle.lucy_word.specs.declared.limit.Limit.TheVariants as limit
+use Rattle.lucy_host.specs.Operators.{Operator}
 use Rattle.lucy_tree.specs.declared.span.Name.{Name}
 use Rattle.lucy_tree.specs.declared.decl.Decl.{Decl}
 use Rattle.lucy_tree.specs.View.{NodeTree, ProgramTree}
 use Rattle.lucy_tree.specs.Shaped.{IsShapedNode}
 use Rattle.lucy_place.specs.declared.error.NameError.{NameError}
-use Rattle.lucy_place.specs.declared.error.NameError.TheVariants.{TooMany}
 use Rattle.lucy_place.specs.declared.entry.PlaceEntry.{PlaceEntry}
 use Rattle.lucy_place.specs.declared.entry.PlaceKind.TheVariants as kind
 use Rattle.lucy_place.specs.declared.entry.CallSite.{CallSite}
 use Rattle.lucy_place.specs.declared.placed.PlacedNode.{PlacedNode}
 use Rattle.lucy_place.specs.Texts.{is_in}
 use Rattle.lucy_place.specs.Streams.{text_of, streams, declared, def_names}
-use Rattle.lucy_place.specs.Faults.{Within, most_places, unless, def_faults, result_fault, result_faults, node_faults}
-use Rattle.lucy_place.specs.Numbering.{Next, Known, stream_place, node_rooms}
+use Rattle.lucy_place.specs.Faults.{Within, most_places, result_fault, result_faults, node_faults}
+use Rattle.lucy_place.specs.Numbering.{Next, Known, stream_place}
 use Rattle.lucy_place.specs.Nodes.{declared_entry, defined, rights, first_next, known_in, placed_node}
 use Rattle.lucy_place.specs.Proper.{at_one, Stands, ArePlaces, IsNamed, AreNamed, IsProperCall, IsProperNode}
 use Rattle.lucy_place.proofs.EachLaws.{Each, each_one}
 use Rattle.lucy_place.proofs.Spread.{Call}
-use Rattle.lucy_place.proofs.CallLaws.{site, def_made, def_sites_are}
-use Rattle.lucy_place.proofs.RoomLaws.{length_node}
+use Rattle.lucy_place.proofs.CallLaws.{site, def_made, def_sites_are, reaches_defs}
+use Rattle.lucy_place.proofs.RoomLaws.{length_node, past_few}
 use Rattle.lucy_place.proofs.VerdictLaws.{none_front, none_back}
 use Rattle.lucy_place.proofs.Good.{known_of, GoodPlace, GoodBuffer, GoodCall, Good, IsResultOf, Callee, named_place}
-use Rattle.lucy_place.proofs.OwnForms.{unless_holds}
-use Rattle.lucy_place.proofs.ProperForms.{good_join, defs_good}
+use Rattle.lucy_place.proofs.ProperPhrases.{good_join, defs_good}
+use Rattle.lucy_place.proofs.NodeFaults.{defs_faultless, results_faultless, rooms_few}
+use Rattle.lucy_place.proofs.NameLaws.{distinct}
+use Rattle.lucy_place.proofs.ReadOrder.{read_once}
 use Rattle.lucy_place.proofs.NodeParts.{buffers_params, buffers_defined, reach_params, reach_defined, known, node_set, rights_lie}
 
 -- a call in the list of calls is one of the node's
@@ -38,9 +38,6 @@ call_at (x ∷ cs) (suc i) s h = call_at cs i s h
 pub call_one : (cs : List Call) (c : ℕ) (s : CallSite) → at_one (map site cs) c ≡ Some s → (x : Call) × (at_one cs c ≡ Some x) × (x.site ≡ s)
 call_one cs zero s h = cc
 call_one cs (suc i) s h = call_at cs i s h
-
-few_rooms : (most rooms : ℕ) → not (nat_lt most rooms) ≡ true → rooms ≤ most
-few_rooms most rooms h = grind (arith, nat_tests)
 
 are_places : (n : PlacedNode) (ps : List ℕ) → AreNamed n ps → ArePlaces n ps
 are_places n [] h = tt
@@ -64,39 +61,19 @@ module _ (n : PlacedNode) (cs : List Call) where
   params_good from [] few = tt
   params_good from (d ∷ ds) few = (record { label = (d.name, refl); kind = omega (arith, few); result = tt }, params_good (from + 1) ds (omega (arith, few)))
 
--- the faults of a node by their kinds
-module _ (all above : ProgramTree) (t : NodeTree) (none : node_faults all above t ≡ []) where
-  abbrev texts : List (List ℕ)
-  texts = map text_of (streams t)
-
-  abbrev rooms_fault : List NameError
-  rooms_fault = unless (not (nat_lt most_places (node_rooms t))) (TooMany limit.Places)
-
-  after_streams : def_faults (record { all = all; above = above; streams = texts }) t.defs ++ (result_faults texts [] t.results ++ rooms_fault) ≡ []
-  after_streams = none_back _ _ (none_back _ _ none)
-
-  pub defs_faultless : def_faults (record { all = all; above = above; streams = texts }) t.defs ≡ []
-  defs_faultless = none_front _ _ after_streams
-
-  pub results_faultless : result_faults texts [] t.results ≡ []
-  results_faultless = none_front _ _ (none_back _ _ after_streams)
-
-  pub rooms_few : node_rooms t ≤ most_places
-  rooms_few = few_rooms most_places (node_rooms t) (unless_holds _ _ (none_back _ _ (none_back _ _ after_streams)))
-
-module _ (all above : ProgramTree) (t : NodeTree) (placed : List PlacedNode) (callees : (i : ℕ) (u : NodeTree) → slice_get above i ≡ Some u → Callee placed i u)
-    (shape : IsShapedNode t) (none : node_faults all above t ≡ []) where
+module _ (ops : List Operator) (all above : ProgramTree) (t : NodeTree) (placed : List PlacedNode) (callees : (i : ℕ) (u : NodeTree) → slice_get above i ≡ Some u → Callee placed i u)
+    (shape : IsShapedNode t) (none : node_faults ops all above t ≡ []) where
   abbrev k : Known
-  k = known_in above t
+  k = known_in ops above t
 
   abbrev n : PlacedNode
-  n = placed_node above t
+  n = placed_node ops above t
 
   abbrev cs : List Call
   cs = def_made k (first_next t) t.defs
 
   abbrev w : Within
-  w = record { all = all; above = above; streams = map text_of (streams t) }
+  w = record { operators = ops; all = all; above = above; streams = map text_of (streams t) }
 
   abbrev ps : List PlaceEntry
   ps = map (declared_entry kind.Param) t.params
@@ -117,10 +94,10 @@ module _ (all above : ProgramTree) (t : NodeTree) (placed : List PlacedNode) (ca
   good =
       let a = length-append (declared t.params) (def_names t.defs) in
       let b = length-map t.params (λ (x : Decl). x.name) in
-      let defs = defs_good w placed n cs (node_set all above t placed callees) (first_next t) t.defs (omega (arith, a, b)) shape (defs_faultless all above t none) (rights_lie all above t) in
-      good_join n cs start behind_params ps (ds ++ rs) [] cs (reach_params all above t) placed
+      let defs = defs_good w placed n cs (node_set ops all above t placed callees) (first_next t) t.defs (omega (arith, a, b)) shape (defs_faultless ops all above t none) (rights_lie ops all above t) in
+      good_join n cs start behind_params ps (ds ++ rs) [] cs (reach_params ops all above t) placed
       (record { places = params_good n cs 1 t.params (omega arith); buffers = subst (λ l. Each (GoodBuffer n) 1 l) (sym (buffers_params 1 t.params)) tt; calls = tt })
-      (good_join n cs behind_params (first_next t) ds rs [] cs (reach_defined all above t) placed
+      (good_join n cs behind_params (first_next t) ds rs [] cs (reach_defined ops all above t) placed
       (record {
         places = defs.defined (length t.params + 1) (omega arith);
         buffers = subst (λ l. Each (GoodBuffer n) 1 l) (sym (buffers_defined (length t.params + 1) k (first_next t) t.defs)) tt;
@@ -131,11 +108,11 @@ module _ (all above : ProgramTree) (t : NodeTree) (placed : List PlacedNode) (ca
   place_good : (p : ℕ) (e : PlaceEntry) → at_one n.places p ≡ Some e → GoodPlace n cs p e
   place_good p e g = each_one (GoodPlace n cs) n.places p e g good.places
 
-  only_results : (c : ℕ) (x : Call) → at_one cs c ≡ Some x → (p j : ℕ) → Stands n p (kind.Result c j) → (p ≡ x.first + j) × (j < x.results)
+  only_results : (c : ℕ) (x : Call) → at_one cs c ≡ Some x → (p j : ℕ) → Stands n p (kind.Result c j) → (p ≡ x.site.first + j) × (j < x.results)
   only_results c x at p j stands =
       let r : IsResultOf cs p (kind.Result c j) = subst (IsResultOf cs p) stands.2 (place_good p stands.0 stands.1).result in
       let same : r.0 ≡ x = cc (r.1, at) in
-      (r.2 ∙ ap (λ y. y.first + j) same, subst (λ y. j < y.results) same r.3)
+      (r.2 ∙ ap (λ y. y.site.first + j) same, subst (λ y. j < y.results) same r.3)
 
   call_proper : (c : ℕ) (s : CallSite) → at_one n.calls c ≡ Some s → IsProperCall placed n c s
   call_proper c s g =
@@ -145,25 +122,39 @@ module _ (all above : ProgramTree) (t : NodeTree) (placed : List PlacedNode) (ca
         callee = call.callee;
         found = call.found;
         arguments = call.arguments;
+        some = omega (arith, call.some, call.count);
         places = call.places;
-        first = found.0.first;
         results = λ j h. call.results j (omega (arith, h, call.count));
         only = λ p j stands. let o = only_results c found.0 found.1 p j stands in (o.0, omega (arith, o.1, call.count));
       })
+
+  calls_few : length n.calls ≤ most_places
+  calls_few =
+      let reach = reaches_defs k (first_next t) t.defs in
+      let behind = past_few (first_next t) t.defs in
+      let last = reach.call in
+      let most = behind.2 in
+      let same : length n.calls ≡ length cs = ap length (sym (def_sites_are k (first_next t) t.defs)) ∙ length-map cs site in
+      let rooms = rooms_few ops all above t none in
+      omega arith
 
   pub node_proper : IsProperNode placed n
   node_proper =
       let rooms = length_node k t in
       let a = length-append ps (ds ++ rs) in
       let b = length-map t.params (declared_entry kind.Param) in
-      let named = results_named n w (known all above t) [] t.results (results_faultless all above t none) in
+      let named = results_named n w (known ops all above t) [] t.results (results_faultless ops all above t none) in
       record {
-        few = subst (λ m. m ≤ most_places) (sym rooms) (rooms_few all above t none);
+        few = subst (λ m. m ≤ most_places) (sym rooms) (rooms_few ops all above t none);
         params = omega (arith, a, b);
         labels = λ p e g. (place_good p e g).label;
         kinds = λ p e g. (place_good p e g).kind;
         calls = call_proper;
+        in_order = refl;
         buffers = λ b p g. each_one (GoodBuffer n) n.buffers b p g good.buffers;
         results = are_places n n.results named;
         named = named;
+        few_calls = calls_few;
+        distinct = distinct ops all above t none;
+        once = read_once ops all above t shape none;
       }

@@ -10,7 +10,7 @@ use Rattle.lucy_tree.specs.declared.decl.Decl.{Decl}
 use Rattle.lucy_tree.specs.declared.program.Def.{Def}
 use Rattle.lucy_tree.specs.View.{DefTree, NodeTree, def_tree}
 use Rattle.lucy_place.specs.Streams.{declared, def_names, wanted}
-use Rattle.lucy_place.specs.Forms.{Head, Literal, Operator, Host, Sampled, Merged, Followed, Buffered, Called, Form, Forms, name, form, none, and, form_of}
+use Rattle.lucy_place.specs.Phrases.{Head, Literal, Applied, Host, Sampled, Merged, Followed, Buffered, Called, Phrase, Phrases, name, headed, none, and, phrase_of}
 use Rattle.lucy_place.specs.Faults.{most_places}
 use Rattle.lucy_place.specs.Numbering.{Next, Known, past, inside, number, numbers, entries, all_entries, own_entries, rooms, all_rooms, buffers, all_buffers, calls, all_calls, own_rooms, own_buffers, own_calls, def_rooms, node_rooms}
 use Rattle.lucy_place.specs.Nodes.{past_def, past_defs, first_next, declared_entry, left_entries, defined, rights, node_entries}
@@ -18,7 +18,7 @@ use Rattle.lucy_place.specs.Drafts.{IsSmall}
 
 own_few : (r : ℕ) (h : Head) → 1 ≤ r → (own_buffers h ≤ own_rooms r h) × (own_calls h ≤ own_rooms r h)
 own_few r (Literal l) some = (omega arith, omega arith)
-own_few r (Operator o) some = (omega arith, omega arith)
+own_few r (Applied o) some = (omega arith, omega arith)
 own_few r (Host n) some = (omega arith, omega arith)
 own_few r (Sampled flip w) some = (omega arith, omega arith)
 own_few r (Merged w) some = (omega arith, omega arith)
@@ -27,14 +27,14 @@ own_few r Buffered some = (omega arith, omega arith)
 own_few r (Called n base) some = (omega arith, omega arith)
 
 mutual
-  few : (r : ℕ) (f : Form) → 1 ≤ r → (buffers f ≤ rooms r f) × (calls f ≤ rooms r f)
+  few : (r : ℕ) (f : Phrase) → 1 ≤ r → (buffers f ≤ rooms r f) × (calls f ≤ rooms r f)
   few r (name n) some = (omega arith, omega arith)
-  few r (form h span fs) some =
+  few r (headed h span fs) some =
       let own = own_few r h some in
       let more = all_few fs in
       (omega (arith, own.0, more.0), omega (arith, own.1, more.1))
 
-  all_few : (fs : Forms) → (all_buffers fs ≤ all_rooms fs) × (all_calls fs ≤ all_rooms fs)
+  all_few : (fs : Phrases) → (all_buffers fs ≤ all_rooms fs) × (all_calls fs ≤ all_rooms fs)
   all_few none = (omega arith, omega arith)
   all_few (and f fs) =
       let first = few 1 f (omega arith) in
@@ -45,11 +45,11 @@ pub wanted_some : (ds : List Decl) → 1 ≤ wanted ds
 wanted_some [] = omega arith
 wanted_some (d ∷ ds) = omega arith
 
-past_few : (at : Next) (ds : List DefTree) →
+pub past_few : (at : Next) (ds : List DefTree) →
     ((past_defs at ds).place ≡ at.place + def_rooms ds) × ((past_defs at ds).buffer ≤ at.buffer + def_rooms ds) × ((past_defs at ds).call ≤ at.call + def_rooms ds)
 past_few at [] = (omega arith, omega arith, omega arith)
 past_few at (d ∷ ds) =
-    let own = few (wanted d.left) (form_of d.right) (wanted_some d.left) in
+    let own = few (wanted d.left) (phrase_of d.right) (wanted_some d.left) in
     let more = past_few (past_def at d) ds in
     (omega (arith, more.0), omega (arith, more.1, own.0), omega (arith, more.2, own.1))
 
@@ -59,30 +59,30 @@ node_small n few =
     record { place = omega (arith, more.0); buffer = omega (arith, more.1); call = omega (arith, more.2) }
 
 -- a number is small where the next one is
-pub number_few : (k : Known) (at : Next) (f : Form) → length k.streams ≤ most_places → at.place ≤ most_places + 1 → number k at f ≤ most_places + 1
+pub number_few : (k : Known) (at : Next) (f : Phrase) → length k.streams ≤ most_places → at.place ≤ most_places + 1 → number k at f ≤ most_places + 1
 number_few k at (name n) few here = omega (arith, prefix_len-le-length (λ t. not (is_text n.text t)) k.streams)
-number_few k at (form h span fs) few here = here
+number_few k at (headed h span fs) few here = here
 
 -- as many places as were counted
-length_own : (at : Next) (r : ℕ) (h : Head) (args : List ℕ) → length (own_entries at r h args) ≡ own_rooms r h
-length_own at r (Literal l) args = refl
-length_own at r (Operator o) args = refl
-length_own at r (Host n) args = refl
-length_own at r (Sampled flip w) args = refl
-length_own at r (Merged w) args = refl
-length_own at r (Followed l) args = refl
-length_own at r Buffered args = refl
-length_own at r (Called n base) args = length_results at.call 0 r
+length_own : (k : Known) (at : Next) (r : ℕ) (h : Head) (args : List ℕ) → length (own_entries k at r h args) ≡ own_rooms r h
+length_own k at r (Literal l) args = refl
+length_own k at r (Applied o) args = refl
+length_own k at r (Host n) args = refl
+length_own k at r (Sampled flip w) args = refl
+length_own k at r (Merged w) args = refl
+length_own k at r (Followed l) args = refl
+length_own k at r Buffered args = refl
+length_own k at r (Called n base) args = length_results at.call 0 r
 
 mutual
-  length_entries : (k : Known) (at : Next) (r : ℕ) (f : Form) → length (entries k at r f) ≡ rooms r f
+  length_entries : (k : Known) (at : Next) (r : ℕ) (f : Phrase) → length (entries k at r f) ≡ rooms r f
   length_entries k at r (name n) = refl
-  length_entries k at r (form h span fs) =
+  length_entries k at r (headed h span fs) =
       let in_ : Next = inside at r h in
-      length-append (own_entries at r h (numbers k in_ fs)) (all_entries k in_ fs)
-      ∙ ap (λ n. n + length (all_entries k in_ fs)) (length_own at r h (numbers k in_ fs)) ∙ ap (λ n. own_rooms r h + n) (length_all k in_ fs)
+      length-append (own_entries k at r h (numbers k in_ fs)) (all_entries k in_ fs)
+      ∙ ap (λ n. n + length (all_entries k in_ fs)) (length_own k at r h (numbers k in_ fs)) ∙ ap (λ n. own_rooms r h + n) (length_all k in_ fs)
 
-  length_all : (k : Known) (at : Next) (fs : Forms) → length (all_entries k at fs) ≡ all_rooms fs
+  length_all : (k : Known) (at : Next) (fs : Phrases) → length (all_entries k at fs) ≡ all_rooms fs
   length_all k at none = refl
   length_all k at (and f fs) =
       length-append (entries k at 1 f) (all_entries k (past at 1 f) fs)
@@ -95,17 +95,17 @@ length_lefts right (d ∷ ds) = omega (arith, length_lefts (right + 1) ds)
 pub length_defined : (k : Known) (at : Next) (ds : List DefTree) → length (defined k at ds) ≡ length (def_names ds)
 length_defined k at [] = refl
 length_defined k at (d ∷ ds) =
-    let l : List PlaceEntry = left_entries (number k at (form_of d.right)) d.left in
+    let l : List PlaceEntry = left_entries (number k at (phrase_of d.right)) d.left in
     let a = length-append l (defined k (past_def at d) ds) in
     let b = length-append (declared d.left) (def_names ds) in
-    omega (arith, a, b, length_lefts (number k at (form_of d.right)) d.left, length-map d.left (λ (x : Decl). x.name), length_defined k (past_def at d) ds)
+    omega (arith, a, b, length_lefts (number k at (phrase_of d.right)) d.left, length-map d.left (λ (x : Decl). x.name), length_defined k (past_def at d) ds)
 
 pub length_rights : (k : Known) (at : Next) (ds : List DefTree) → length (rights k at ds) ≡ def_rooms ds
 length_rights k at [] = refl
 length_rights k at (d ∷ ds) =
     let r : ℕ = wanted d.left in
-    let a = length-append (entries k at r (form_of d.right)) (rights k (past_def at d) ds) in
-    omega (arith, a, length_entries k at r (form_of d.right), length_rights k (past_def at d) ds)
+    let a = length-append (entries k at r (phrase_of d.right)) (rights k (past_def at d) ds) in
+    omega (arith, a, length_entries k at r (phrase_of d.right), length_rights k (past_def at d) ds)
 
 pub length_node : (k : Known) (n : NodeTree) → length (node_entries k n) ≡ node_rooms n
 length_node k n =

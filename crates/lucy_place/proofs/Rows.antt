@@ -3,6 +3,8 @@ use Rattle.std.proofs.Common.{ℕ, ◌+◌, ◌≡◌, true, false, List, [], �
 use Rattle.std.specs.Prelude.{codes, pos}
 use Rattle.lucy_word.specs.Bits.{Bits}
 use Rattle.lucy_host.specs.declared.op.Op.TheVariants as op
+use Rattle.lucy_host.specs.declared.kind.HostKind.TheVariants.{Min, Max}
+use Rattle.lucy_host.specs.Operators.{Operator}
 use Rattle.lucy_tree.specs.declared.span.Span.{Span}
 use Rattle.lucy_tree.specs.declared.span.Name.{Name}
 use Rattle.lucy_tree.specs.declared.decl.Decl.{Decl}
@@ -49,15 +51,15 @@ sum = record {
   defs = record { left = bare (nm (codes "o") 29) ∷ []; right = operator op.Add (two (variable (nm (codes "x") 33)) (followed (lit.Int (pos 0)) (variable (nm (codes "o") 44)) (at 40))) (at 35) } ∷ [];
 }
 
-sum_places : kinds (placed_node [] sum).places ≡ kind.Param ∷ kind.Defined 3 ∷ kind.Op op.Add (1 ∷ 4 ∷ []) ∷ kind.Fby (lit.Int (pos 0)) 2 ∷ []
+sum_places : kinds (placed_node [] [] sum).places ≡ kind.Param ∷ kind.Defined 3 ∷ kind.Op op.Add (1 ∷ 4 ∷ []) ∷ kind.Fby (lit.Int (pos 0)) 2 ∷ []
 unfolding sum
 sum_places = refl
 
-sum_results : (placed_node [] sum).results ≡ 2 ∷ []
+sum_results : (placed_node [] [] sum).results ≡ 2 ∷ []
 unfolding sum
 sum_results = refl
 
-sum_good : faults (sum ∷ []) ≡ []
+sum_good : faults [] (sum ∷ []) ≡ []
 unfolding sum
 sum_good = refl
 
@@ -74,11 +76,11 @@ lag = record {
   defs = record { left = bare (nm (codes "y") 29) ∷ []; right = operator op.Add (two (variable (nm (codes "x") 33)) (buffered (sampled true (variable (nm (codes "x") 45)) half) (at 37))) (at 35) } ∷ [];
 }
 
-lag_places : kinds (placed_node [] lag).places ≡ kind.Param ∷ kind.Defined 3 ∷ kind.Op op.Add (1 ∷ 4 ∷ []) ∷ kind.Buffer 1 5 ∷ kind.When 1 other_half ∷ []
+lag_places : kinds (placed_node [] [] lag).places ≡ kind.Param ∷ kind.Defined 3 ∷ kind.Op op.Add (1 ∷ 4 ∷ []) ∷ kind.Buffer 1 5 ∷ kind.When 1 other_half ∷ []
 unfolding lag
 lag_places = refl
 
-lag_buffers : (placed_node [] lag).buffers ≡ 4 ∷ []
+lag_buffers : (placed_node [] [] lag).buffers ≡ 4 ∷ []
 unfolding lag
 lag_buffers = refl
 
@@ -97,15 +99,15 @@ both = record {
   } ∷ [];
 }
 
-both_places : kinds (placed_node (sum ∷ pair ∷ []) both).places ≡ kind.Param ∷ kind.Defined 4 ∷ kind.Defined 5 ∷ kind.Result 1 0 ∷ kind.Result 1 1 ∷ kind.Result 2 0 ∷ kind.Lit (lit.Int (pos 1)) ∷ []
+both_places : kinds (placed_node [] (sum ∷ pair ∷ []) both).places ≡ kind.Param ∷ kind.Defined 4 ∷ kind.Defined 5 ∷ kind.Result 1 0 ∷ kind.Result 1 1 ∷ kind.Result 2 0 ∷ kind.Lit (lit.Int (pos 1)) ∷ []
 unfolding sum pair both
 both_places = refl
 
-both_calls : (placed_node (sum ∷ pair ∷ []) both).calls ≡ record { node = 1; at = Some half; args = 6 ∷ 7 ∷ [] } ∷ record { node = 0; at = None; args = 1 ∷ [] } ∷ []
+both_calls : (placed_node [] (sum ∷ pair ∷ []) both).calls ≡ record { node = 1; at = Some half; first = 4; args = 6 ∷ 7 ∷ [] } ∷ record { node = 0; at = None; first = 6; args = 1 ∷ [] } ∷ []
 unfolding sum pair both
 both_calls = refl
 
-both_good : faults (sum ∷ pair ∷ both ∷ []) ≡ []
+both_good : faults [] (sum ∷ pair ∷ both ∷ []) ≡ []
 unfolding sum pair both
 both_good = refl
 
@@ -113,15 +115,15 @@ both_good = refl
 one : Tree → NodeTree
 one e = record { name = nm (codes "f") 9; params = bare (nm (codes "x") 11) ∷ []; results = nm (codes "y") 15 ∷ []; defs = record { left = bare (nm (codes "y") 27) ∷ []; right = e } ∷ [] }
 
-unknown : faults (one (variable (nm (codes "z") 31)) ∷ []) ≡ error.Unknown (at 31) ∷ []
+unknown : faults [] (one (variable (nm (codes "z") 31)) ∷ []) ≡ error.Unknown (at 31) ∷ []
 unfolding one
 unknown = refl
 
-later_node : faults (one (call (nm (codes "f") 31) None (more (variable (nm (codes "x") 34)) no_more)) ∷ []) ≡ error.LaterNode (at 31) ∷ []
+later_node : faults [] (one (call (nm (codes "f") 31) None (more (variable (nm (codes "x") 34)) no_more)) ∷ []) ≡ error.LaterNode (at 31) ∷ []
 unfolding one
 later_node = refl
 
-arity : faults (one (variable (nm (codes "x") 31)) ∷ record {
+arity : faults [] (one (variable (nm (codes "x") 31)) ∷ record {
   name = nm (codes "g") 42;
   params = bare (nm (codes "x") 44) ∷ [];
   results = nm (codes "y") 48 ∷ [];
@@ -131,7 +133,7 @@ unfolding one
 arity = refl
 
 -- let node f x = q where rec y = x and y = x
-twice : faults (record {
+twice : faults [] (record {
   name = nm (codes "f") 9;
   params = bare (nm (codes "x") 11) ∷ [];
   results = nm (codes "q") 15 ∷ [];
@@ -139,8 +141,32 @@ twice : faults (record {
 } ∷ []) ≡ error.Twice (at 37) ∷ error.NoResult (at 15) ∷ []
 twice = refl
 
--- the host has no operators, and a name that stands again among results is refused after what they lack
-results : faults (record {
+-- let node top x = m where rec m = host NAME (x, 0 fby m)
+top : Name → NodeTree
+top called = record {
+  name = nm (codes "top") 9;
+  params = bare (nm (codes "x") 13) ∷ [];
+  results = nm (codes "m") 17 ∷ [];
+  defs = record { left = bare (nm (codes "m") 29) ∷ []; right = host called (two (variable (nm (codes "x") 43)) (followed (lit.Int (pos 0)) (variable (nm (codes "m") 52)) (at 48))) } ∷ [];
+}
+
+extremes : List Operator
+extremes = record { name = codes "min"; kind = Min } ∷ record { name = codes "max"; kind = Max } ∷ []
+
+top_good : faults extremes (top (nm (codes "max") 38) ∷ []) ≡ []
+unfolding top extremes
+top_good = refl
+
+top_places : kinds (placed_node extremes [] (top (nm (codes "max") 38))).places ≡ kind.Param ∷ kind.Defined 3 ∷ kind.Host 1 1 4 ∷ kind.Fby (lit.Int (pos 0)) 2 ∷ []
+unfolding top extremes
+top_places = refl
+
+no_operator : faults extremes (top (nm (codes "nope") 38) ∷ []) ≡ error.Unknown (at 38) ∷ []
+unfolding top extremes
+no_operator = refl
+
+-- where the host has no operators; and a name that stands again among results is refused after what they lack
+results : faults [] (record {
   name = nm (codes "f") 9;
   params = bare (nm (codes "x") 11) ∷ [];
   results = nm (codes "x") 15 ∷ nm (codes "x") 18 ∷ [];

@@ -8,13 +8,13 @@ use Rattle.lucy_tree.specs.declared.program.Def.{Def}
 use Rattle.lucy_tree.specs.declared.program.Node.{Node}
 use Rattle.lucy_tree.specs.View.{tree_of, def_tree, node_tree}
 use Rattle.lucy_tree.specs.Shaped.{HasZero, IsShaped, AreShaped, IsShapedDef, IsShapedNode}
-use Rattle.lucy_place.specs.Forms.{Head, Literal, Operator, Host, Sampled, Merged, Followed, Buffered, Called, Form, Forms, name, form, none, and, form_of, forms_of, count}
+use Rattle.lucy_place.specs.Phrases.{Head, Literal, Applied, Host, Sampled, Merged, Followed, Buffered, Called, Phrase, Phrases, name, headed, none, and, phrase_of, phrases_of, count}
 use Rattle.lucy_place.specs.Numbering.{Next, Known, past, numbers}
 
 -- a head takes so many operands; the word of `whenot` and of `merge` has a zero
 abbrev pub Takes : Head → ℕ → Type 0
 Takes (Literal l) n = n ≡ 0
-Takes (Operator op) n = n ≡ arity op
+Takes (Applied op) n = n ≡ arity op
 Takes (Host function) n = n ≡ 2
 Takes (Sampled flip w) n = (n ≡ 1) × (flip ≡ true → HasZero w)
 Takes (Merged w) n = (n ≡ 2) × HasZero w
@@ -23,20 +23,20 @@ Takes Buffered n = n ≡ 1
 Takes (Called node base) n = Unit {0}
 
 abbrev mutual
-  pub HasShape : Form → Type 0
+  pub HasShape : Phrase → Type 0
   HasShape (name n) = Unit {0}
-  HasShape (form h span fs) = Takes h (count fs) × HaveShape fs
+  HasShape (headed h span fs) = Takes h (count fs) × HaveShape fs
 
-  pub HaveShape : Forms → Type 0
+  pub HaveShape : Phrases → Type 0
   HaveShape none = Unit {0}
   HaveShape (and f fs) = HasShape f × HaveShape fs
 
-count_of : (ts : Trees) → count (forms_of ts) ≡ length (list_of ts)
+count_of : (ts : Trees) → count (phrases_of ts) ≡ length (list_of ts)
 count_of no_more = refl
 count_of (more t ts) = omega (arith, count_of ts)
 
 mutual
-  pub has_shape : (t : Tree) → IsShaped t → HasShape (form_of t)
+  pub has_shape : (t : Tree) → IsShaped t → HasShape (phrase_of t)
   has_shape (literal l span) s = (refl, tt)
   has_shape (variable n) s = tt
   has_shape (operator op args span) s = (count_of args ∙ s.0, have_shape args s.1)
@@ -47,12 +47,12 @@ mutual
   has_shape (buffered e span) s = (refl, (has_shape e s, tt))
   has_shape (call n at args) s = (tt, have_shape args s)
 
-  pub have_shape : (ts : Trees) → AreShaped ts → HaveShape (forms_of ts)
+  pub have_shape : (ts : Trees) → AreShaped ts → HaveShape (phrases_of ts)
   have_shape no_more s = tt
   have_shape (more t ts) s = (has_shape t s.0, have_shape ts s.1)
 
 -- as many numbers as operands
-pub count_numbers : (k : Known) (at : Next) (fs : Forms) → count fs ≡ length (numbers k at fs)
+pub count_numbers : (k : Known) (at : Next) (fs : Phrases) → count fs ≡ length (numbers k at fs)
 count_numbers k at none = refl
 count_numbers k at (and f fs) = omega (arith, count_numbers k (past at 1 f) fs)
 

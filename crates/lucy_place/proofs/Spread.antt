@@ -6,10 +6,9 @@ use Rattle.lucy_place.specs.Numbering.{Next}
 use Rattle.lucy_place.specs.Nodes.{buffer_at, buffer_places}
 use Rattle.lucy_place.proofs.EachLaws.{Each, each_join, each_front, each_back}
 
--- a call, with the first place of its results and how many there are
+-- a call, with how many results it has
 pub record Call : Type 0 where
   pub site : CallSite
-  pub first : ℕ
   pub results : ℕ
 
 -- P holds of the places, Q of the buffers, and R of the calls, from these numbers on

@@ -7,7 +7,7 @@ use Rattle.std.proofs.lemmas.Result.{err_from_is_err_and}
 use Rattle.lucy_tree.specs.declared.span.Name.{Name}
 use Rattle.lucy_tree.specs.declared.expr.Expr.{Expr}
 use Rattle.lucy_place.specs.declared.error.NameError.{NameError}
-use Rattle.lucy_place.specs.Forms.{expr_forms, count}
+use Rattle.lucy_place.specs.Phrases.{expr_phrases, count}
 use Rattle.lucy_place.specs.Streams.{text_of}
 use Rattle.lucy_place.specs.Faults.{verdict, unless, repeat, repeats}
 use Rattle.lucy_place.specs.declared.error.NameError.TheVariants.{OutOfMemory}
@@ -40,10 +40,10 @@ leaves P Q e r i h f =
     let p = err_from_is_err_and r i in
     rw (p.1, p.2) (f e h)
 
--- as many forms as expressions
-pub count_forms : (es : List Expr) → count (expr_forms es) ≡ length es
-count_forms [] = refl
-count_forms (e ∷ es) = omega (arith, count_forms es)
+-- as many phrases as expressions
+pub count_phrases : (es : List Expr) → count (expr_phrases es) ≡ length es
+count_phrases [] = refl
+count_phrases (e ∷ es) = omega (arith, count_phrases es)
 
 -- names, then further names
 pub repeats_append : (before : List (List ℕ)) (xs ys : List Name) → repeats before (xs ++ ys) ≡ repeats before xs ++ repeats (before ++ map text_of xs) ys

@@ -9,23 +9,23 @@ use Rattle.lucy_place.specs.declared.entry.PlaceKind.TheVariants as kind
 use Rattle.lucy_place.specs.declared.placed.PlacedNode.{PlacedNode}
 use Rattle.lucy_place.specs.Texts.{is_in}
 use Rattle.lucy_place.specs.Streams.{wanted}
-use Rattle.lucy_place.specs.Forms.{Form, form_of}
-use Rattle.lucy_place.specs.Faults.{Within, def_faults, form_faults}
-use Rattle.lucy_place.specs.Written.{lacking, decl_spans, form_spans, def_spans}
+use Rattle.lucy_place.specs.Phrases.{Phrase, phrase_of}
+use Rattle.lucy_place.specs.Faults.{Within, def_faults, phrase_faults}
+use Rattle.lucy_place.specs.Written.{lacking, decl_spans, phrase_spans, def_spans}
 use Rattle.lucy_place.specs.Numbering.{Next, Known, number, entries, stream_place}
 use Rattle.lucy_place.specs.Nodes.{past_def, declared_entry, left_entries, defined, rights}
 use Rattle.lucy_place.specs.Proper.{at_one, IsNamed}
 use Rattle.lucy_place.specs.WrittenNodes.{IsWritten}
 use Rattle.lucy_place.proofs.EachLaws.{Each, each_join, each_front, each_back}
 use Rattle.lucy_place.proofs.Spread.{Call}
-use Rattle.lucy_place.proofs.CallLaws.{made, def_made, reaches_form}
+use Rattle.lucy_place.proofs.CallLaws.{made, def_made, reaches_phrase}
 use Rattle.lucy_place.proofs.ShapeLaws.{has_shape}
 use Rattle.lucy_place.proofs.RoomLaws.{length_lefts}
 use Rattle.lucy_place.proofs.VerdictLaws.{none_front, none_back}
 use Rattle.lucy_place.proofs.Good.{known_of, Lies, Setting}
-use Rattle.lucy_place.proofs.ProperForms.{lies_front, lies_back}
-use Rattle.lucy_place.proofs.WrittenForms.{no_spans, spans_front, spans_back, has_word, none_lacking, WrittenPlace, AllWritten, written_join, form_written}
-use Rattle.lucy_place.proofs.NamedForms.{form_none}
+use Rattle.lucy_place.proofs.ProperPhrases.{lies_front, lies_back}
+use Rattle.lucy_place.proofs.WrittenPhrases.{no_spans, spans_front, spans_back, has_word, none_lacking, WrittenPlace, AllWritten, written_join, phrase_written}
+use Rattle.lucy_place.proofs.NamedPhrases.{phrase_none}
 
 -- declarations that have their words
 pub params_written : (n : PlacedNode) (from : ℕ) (ds : List Decl) → decl_spans ds ≡ [] → Each (WrittenPlace n) from (map (declared_entry kind.Param) ds)
@@ -68,18 +68,18 @@ module _ (w : Within) (n : PlacedNode) (known : (t : List ℕ) → is_in w.strea
   defs_written at (d ∷ ds) shape good spans =
       let k : Known = known_of w in
       let r : ℕ = wanted d.left in
-      let f : Form = form_of d.right in
+      let f : Phrase = phrase_of d.right in
       let next : Next = past_def at d in
       let own = spans_front (def_spans d) (flat_map def_spans ds) spans in
-      let rest = defs_written next ds shape.1 (none_back (form_faults w r f) (def_faults w ds) good) (spans_back (def_spans d) (flat_map def_spans ds) spans) in
+      let rest = defs_written next ds shape.1 (none_back (phrase_faults w r f) (def_faults w ds) good) (spans_back (def_spans d) (flat_map def_spans ds) spans) in
       record {
-        rights = written_join n at next (entries k at r f) (rights k next ds) (made k at r f) (def_made k next ds) (reaches_form k at r f)
-            (form_written w n known at r f (has_shape d.right shape.0.right) (none_front (form_faults w r f) (def_faults w ds) good) (spans_back (decl_spans d.left) (form_spans f) own))
+        rights = written_join n at next (entries k at r f) (rights k next ds) (made k at r f) (def_made k next ds) (reaches_phrase k at r f)
+            (phrase_written w n known at r f (has_shape d.right shape.0.right) (none_front (phrase_faults w r f) (def_faults w ds) good) (spans_back (decl_spans d.left) (phrase_spans f) own))
             rest.rights;
         defined = λ from.
             each_join (WrittenPlace n) from (from + length d.left) (left_entries (number k at f) d.left) (defined k next ds)
             (let e = length_lefts (number k at f) d.left in omega (arith, e))
-            (lefts_written n from (number k at f) d.left (spans_front (decl_spans d.left) (form_spans f) own))
+            (lefts_written n from (number k at f) d.left (spans_front (decl_spans d.left) (phrase_spans f) own))
             (rest.defined (from + length d.left));
       }
 
@@ -90,14 +90,14 @@ module _ (w : Within) (above : List PlacedNode) (n : PlacedNode) (cs : List Call
   defs_none at (d ∷ ds) from shape lies left =
       let k : Known = known_of w in
       let r : ℕ = wanted d.left in
-      let f : Form = form_of d.right in
+      let f : Phrase = phrase_of d.right in
       let next : Next = past_def at d in
       let len = length_lefts (number k at f) d.left in
-      let front = lies_front n cs at next (entries k at r f) (rights k next ds) (made k at r f) (def_made k next ds) (reaches_form k at r f) lies in
-      let back = lies_back n cs at next (entries k at r f) (rights k next ds) (made k at r f) (def_made k next ds) (reaches_form k at r f) lies in
+      let front = lies_front n cs at next (entries k at r f) (rights k next ds) (made k at r f) (def_made k next ds) (reaches_phrase k at r f) lies in
+      let back = lies_back n cs at next (entries k at r f) (rights k next ds) (made k at r f) (def_made k next ds) (reaches_phrase k at r f) lies in
       no_spans
       (no_spans
       (lefts_none n is from (number k at f) d.left (each_front (λ p e. at_one n.places p ≡ Some e) from (left_entries (number k at f) d.left) (defined k next ds) left))
-      (form_none w above n cs set is at r f (has_shape d.right shape.0.right) front))
+      (phrase_none w above n cs set is at r f (has_shape d.right shape.0.right) front))
       (defs_none next ds (from + length d.left) shape.1 back
       (each_back (λ p e. at_one n.places p ≡ Some e) from (from + length d.left) (left_entries (number k at f) d.left) (defined k next ds) (omega (arith, len)) left))

@@ -8,7 +8,7 @@ use Rattle.lucy_place.specs.declared.draft.Draft.{Draft}
 use Rattle.lucy_place.specs.declared.entry.PlaceEntry.{PlaceEntry}
 use Rattle.lucy_place.specs.declared.entry.CallSite.{CallSite}
 use Rattle.lucy_place.specs.Texts.{place_in}
-use Rattle.lucy_place.specs.Forms.{Called, Form, Forms, name, form, none}
+use Rattle.lucy_place.specs.Phrases.{Called, Phrase, Phrases, name, headed, none}
 use Rattle.lucy_place.specs.Faults.{most_places}
 use Rattle.lucy_place.specs.Numbering.{Next, Known, past, past_all, entries, all_entries, sites, all_sites, own_kind, own_buffers}
 
@@ -29,11 +29,11 @@ pub record Gains (k : Known) (es : List PlaceEntry) (ss : List CallSite) (at : N
   pub next : next_of k new ≡ at
 
 -- the draft has gained an expression
-abbrev pub Draws : Known → ℕ → Form → Draft → Draft → Type 0
+abbrev pub Draws : Known → ℕ → Phrase → Draft → Draft → Type 0
 Draws k results f old new = Gains k (entries k (next_of k old) results f) (sites k (next_of k old) results f) (past (next_of k old) results f) old new
 
 -- the draft has gained operands
-abbrev pub DrawsAll : Known → Forms → Draft → Draft → Type 0
+abbrev pub DrawsAll : Known → Phrases → Draft → Draft → Type 0
 DrawsAll k fs old new = Gains k (all_entries k (next_of k old) fs) (all_sites k (next_of k old) fs) (past_all (next_of k old) fs) old new
 
 -- the draft with nothing in it
@@ -41,30 +41,30 @@ abbrev pub IsEmpty : Draft → Type 0
 IsEmpty d = (d.places.items ≡ []) × (d.calls.items ≡ []) × (d.buffers ≡ 0)
 
 -- a form that is no call
-abbrev pub IsPlain : Form → Type 0
+abbrev pub IsPlain : Phrase → Type 0
 IsPlain (name n) = ⊥
-IsPlain (form (Called n base) span fs) = ⊥
-IsPlain (form h span fs) = Unit {0}
+IsPlain (headed (Called n base) span fs) = ⊥
+IsPlain (headed h span fs) = Unit {0}
 
 -- the operands of a form
-abbrev pub operands : Form → Forms
-operands (name n) = none
-operands (form h span fs) = fs
+abbrev pub phrase_operands : Phrase → Phrases
+phrase_operands (name n) = none
+phrase_operands (headed h span fs) = fs
 
 -- whether a form is a buffer, as a number
-abbrev pub buffers_of : Form → ℕ
+abbrev pub buffers_of : Phrase → ℕ
 buffers_of (name n) = 0
-buffers_of (form h span fs) = own_buffers h
+buffers_of (headed h span fs) = own_buffers h
 
 -- what stands at the place of a form, with its number as a buffer and the places of its operands
-abbrev pub kind_of : ℕ → Form → List ℕ → PlaceKind
-kind_of n (name _) args = kind.Param
-kind_of n (form h span fs) args = own_kind n h args
+abbrev pub kind_of : Known → ℕ → Phrase → List ℕ → PlaceKind
+kind_of k n (name _) args = kind.Param
+kind_of k n (headed h span fs) args = own_kind k n h args
 
 -- what stands where a call is kept free
 abbrev pub free_site : CallSite
-free_site = record { node = 0; at = None; args = [] }
+free_site = record { node = 0; at = None; first = 0; args = [] }
 
 -- the call of a node
-abbrev pub site_of : Known → Name → Option Bits → List ℕ → CallSite
-site_of k n base args = record { node = place_in k.nodes n.text; at = base; args = args }
+abbrev pub site_of : Known → Name → Option Bits → ℕ → List ℕ → CallSite
+site_of k n base first args = record { node = place_in k.nodes n.text; at = base; first = first; args = args }

@@ -1,5 +1,6 @@
 -- The places of a node, and of a program.
 use Rattle.std.specs.Prelude.{ℕ, ◌+◌, List, [], ◌∷◌, ◌++◌, Some, length, map}
+use Rattle.lucy_host.specs.Operators.{Operator}
 use Rattle.lucy_tree.specs.declared.decl.Decl.{Decl}
 use Rattle.lucy_tree.specs.View.{DefTree, NodeTree, ProgramTree}
 use Rattle.lucy_place.specs.declared.entry.PlaceEntry.{PlaceEntry}
@@ -7,7 +8,7 @@ use Rattle.lucy_place.specs.declared.entry.PlaceKind.{PlaceKind}
 use Rattle.lucy_place.specs.declared.entry.PlaceKind.TheVariants.{Param, Defined, Buffer}
 use Rattle.lucy_place.specs.declared.entry.CallSite.{CallSite}
 use Rattle.lucy_place.specs.declared.placed.PlacedNode.{PlacedNode}
-use Rattle.lucy_place.specs.Forms.{form_of}
+use Rattle.lucy_place.specs.Phrases.{phrase_of}
 use Rattle.lucy_place.specs.Streams.{text_of, streams, node_names, wanted}
 use Rattle.lucy_place.specs.Numbering.{Next, Known, past, number, entries, sites, stream_place}
 
@@ -22,7 +23,7 @@ left_entries right (d ∷ ds) = declared_entry (Defined right) d ∷ left_entrie
 
 -- behind a definition
 abbrev pub past_def : Next → DefTree → Next
-past_def at d = past at (wanted d.left) (form_of d.right)
+past_def at d = past at (wanted d.left) (phrase_of d.right)
 
 -- behind definitions
 abbrev pub past_defs : Next → List DefTree → Next
@@ -32,17 +33,17 @@ past_defs at (d ∷ ds) = past_defs (past_def at d) ds
 -- the places of defined names, definition by definition
 abbrev pub defined : Known → Next → List DefTree → List PlaceEntry
 defined k at [] = []
-defined k at (d ∷ ds) = left_entries (number k at (form_of d.right)) d.left ++ defined k (past_def at d) ds
+defined k at (d ∷ ds) = left_entries (number k at (phrase_of d.right)) d.left ++ defined k (past_def at d) ds
 
 -- the places of right sides
 abbrev pub rights : Known → Next → List DefTree → List PlaceEntry
 rights k at [] = []
-rights k at (d ∷ ds) = entries k at (wanted d.left) (form_of d.right) ++ rights k (past_def at d) ds
+rights k at (d ∷ ds) = entries k at (wanted d.left) (phrase_of d.right) ++ rights k (past_def at d) ds
 
 -- the calls of right sides
 abbrev pub def_sites : Known → Next → List DefTree → List CallSite
 def_sites k at [] = []
-def_sites k at (d ∷ ds) = sites k at (wanted d.left) (form_of d.right) ++ def_sites k (past_def at d) ds
+def_sites k at (d ∷ ds) = sites k at (wanted d.left) (phrase_of d.right) ++ def_sites k (past_def at d) ds
 
 -- the number of a place, where a buffer stands there
 abbrev pub buffer_at : ℕ → PlaceKind → List ℕ
@@ -59,29 +60,29 @@ abbrev pub first_next : NodeTree → Next
 first_next n = record { place = length (streams n) + 1; buffer = 1; call = 1 }
 
 -- what names stand for in a node with these nodes above it
-abbrev pub known_in : ProgramTree → NodeTree → Known
-known_in above n = record { nodes = node_names above; streams = map text_of (streams n) }
+abbrev pub known_in : List Operator → ProgramTree → NodeTree → Known
+known_in operators above n = record { operators = operators; nodes = node_names above; streams = map text_of (streams n) }
 
 -- the places of a node: parameters, defined names, right sides
 abbrev pub node_entries : Known → NodeTree → List PlaceEntry
 node_entries k n = map (declared_entry Param) n.params ++ (defined k (first_next n) n.defs ++ rights k (first_next n) n.defs)
 
 -- a node with these nodes above it
-abbrev pub placed_node : ProgramTree → NodeTree → PlacedNode
-placed_node above n = record {
+abbrev pub placed_node : List Operator → ProgramTree → NodeTree → PlacedNode
+placed_node operators above n = record {
   name = n.name;
   params = length n.params;
-  places = node_entries (known_in above n) n;
-  results = map (λ r. stream_place (known_in above n) r.text) n.results;
-  buffers = buffer_places 1 (node_entries (known_in above n) n);
-  calls = def_sites (known_in above n) (first_next n) n.defs;
+  places = node_entries (known_in operators above n) n;
+  results = map (λ r. stream_place (known_in operators above n) r.text) n.results;
+  buffers = buffer_places 1 (node_entries (known_in operators above n) n);
+  calls = def_sites (known_in operators above n) (first_next n) n.defs;
 }
 
 -- nodes below others
-abbrev pub placed_below : ProgramTree → List NodeTree → List PlacedNode
-placed_below above [] = []
-placed_below above (n ∷ ns) = placed_node above n ∷ placed_below (above ++ n ∷ []) ns
+abbrev pub placed_below : List Operator → ProgramTree → List NodeTree → List PlacedNode
+placed_below operators above [] = []
+placed_below operators above (n ∷ ns) = placed_node operators above n ∷ placed_below operators (above ++ n ∷ []) ns
 
--- a program
-abbrev pub placed_nodes : ProgramTree → List PlacedNode
-placed_nodes p = placed_below [] p
+-- a program, where the host has these operators
+abbrev pub placed_nodes : List Operator → ProgramTree → List PlacedNode
+placed_nodes operators p = placed_below operators [] p

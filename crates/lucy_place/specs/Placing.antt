@@ -1,5 +1,6 @@
 -- What is told of a program: its places, or what is wrong with its names.
-use Rattle.std.specs.Prelude.{◌≡◌, ◌⊎◌, List, [], Err, map}
+use Rattle.std.specs.Prelude.{◌≡◌, ◌⊎◌, List, [], Err, length, map}
+use Rattle.lucy_host.specs.Operators.{Operator}
 use Rattle.lucy_tree.specs.View.{ProgramTree}
 use Rattle.lucy_place.specs.declared.error.NameError.{NameError}
 use Rattle.lucy_place.specs.declared.error.NameError.TheVariants.{OutOfMemory}
@@ -16,8 +17,9 @@ IsFirst fs e = verdict fs ≡ Err e
 abbrev pub Tells : List NameError → NameError → Type 0
 Tells fs e = (e ≡ OutOfMemory) ⊎ IsFirst fs e
 
--- the program's names are good, and these are its places
-pub record IsPlaced (p : ProgramTree) (v : PlacedProgram) : Type 0 where
-  pub good : faults p ≡ []
-  pub nodes : v.nodes ≡ placed_nodes p
+-- the program's names are good, where the host has these operators, and these are its places
+pub record IsPlaced (ops : List Operator) (p : ProgramTree) (v : PlacedProgram) : Type 0 where
+  pub good : faults ops p ≡ []
+  pub nodes : v.nodes ≡ placed_nodes ops p
   pub unwritten : v.unwritten ≡ map first_unwritten p
+  pub operators : v.operators ≡ length ops

@@ -7,8 +7,8 @@ use Rattle.lucy_place.specs.Numbering.{Known}
 
 -- where names stand
 abbrev pub within_of : Names → Within
-within_of n = record { all = map node_tree n.all.now; above = map node_tree n.above.now; streams = n.streams.now }
+within_of n = record { operators = n.ops.now; all = map node_tree n.all.now; above = map node_tree n.above.now; streams = n.streams.now }
 
 -- what names stand for
 abbrev pub known_of : Names → Known
-known_of n = record { nodes = n.nodes.now; streams = n.streams.now }
+known_of n = record { operators = n.ops.now; nodes = n.nodes.now; streams = n.streams.now }

@@ -5,7 +5,7 @@ use Rattle.lucy_word.specs.Bits.{Bits}
 use Rattle.lucy_tree.specs.declared.span.Span.{Span}
 use Rattle.lucy_tree.specs.declared.decl.Decl.{Decl}
 use Rattle.lucy_tree.specs.View.{DefTree, NodeTree}
-use Rattle.lucy_place.specs.Forms.{Head, Sampled, Buffered, Called, Form, Forms, name, form, none, and, form_of}
+use Rattle.lucy_place.specs.Phrases.{Head, Sampled, Buffered, Called, Phrase, Phrases, name, headed, none, and, phrase_of}
 
 -- the span of a name that lacks its word
 abbrev pub lacking : Option Bits → Span → List Span
@@ -16,33 +16,33 @@ abbrev pub decl_spans : List Decl → List Span
 decl_spans ds = flat_map (λ d. lacking d.word d.name.span) ds
 
 -- the span of an operand that is no name
-abbrev pub unnamed_span : Form → List Span
+abbrev pub unnamed_span : Phrase → List Span
 unnamed_span (name n) = []
-unnamed_span (form h span fs) = span ∷ []
+unnamed_span (headed h span fs) = span ∷ []
 
-abbrev pub unnamed_spans : Forms → List Span
+abbrev pub unnamed_spans : Phrases → List Span
 unnamed_spans none = []
 unnamed_spans (and f fs) = unnamed_span f ++ unnamed_spans fs
 
 -- what keeps a form itself from being written: the operands of `when`, `whenot` and `buffer` and the arguments of a call
 -- are to be names, and a call is to have its word
-abbrev pub own_spans : Head → Forms → List Span
+abbrev pub own_spans : Head → Phrases → List Span
 own_spans (Sampled flip w) fs = unnamed_spans fs
 own_spans Buffered fs = unnamed_spans fs
 own_spans (Called n at) fs = lacking at n.span ++ unnamed_spans fs
 own_spans h fs = []
 
 abbrev mutual
-  pub form_spans : Form → List Span
-  form_spans (name n) = []
-  form_spans (form h span fs) = own_spans h fs ++ forms_spans fs
+  pub phrase_spans : Phrase → List Span
+  phrase_spans (name n) = []
+  phrase_spans (headed h span fs) = own_spans h fs ++ phrases_spans fs
 
-  pub forms_spans : Forms → List Span
-  forms_spans none = []
-  forms_spans (and f fs) = form_spans f ++ forms_spans fs
+  pub phrases_spans : Phrases → List Span
+  phrases_spans none = []
+  phrases_spans (and f fs) = phrase_spans f ++ phrases_spans fs
 
 abbrev pub def_spans : DefTree → List Span
-def_spans d = decl_spans d.left ++ form_spans (form_of d.right)
+def_spans d = decl_spans d.left ++ phrase_spans (phrase_of d.right)
 
 -- all spans that keep a node from being written, in no order: it is written where there is none
 abbrev pub unwritten_spans : NodeTree → List Span

@@ -20,7 +20,7 @@ pub enum NameError {
     Arity(Span),
     /// The node that is called stands no higher than its caller.
     LaterNode(Span),
-    /// A node has more than 4,096 places.
+    /// A node has more places than `Limit::Places`.
     TooMany(Limit),
     OutOfMemory,
 }

@@ -1,11 +1,12 @@
 // Looks for faults in the names that expressions use.
-ghost use Rattle.std.specs.Prelude.{◌≡◌, map, length, Result, Ok, Err, if◌then◌else◌};
+ghost use Rattle.std.specs.Prelude.{◌≡◌, map, length, Result, Ok, Err, is_some, if◌then◌else◌};
+ghost use Rattle.lucy_host.specs.Operators.{operator_number};
 ghost use Rattle.lucy_tree.specs.View.{node_tree};
 ghost use Rattle.lucy_place.specs.declared.error.NameError.TheVariants as error;
 ghost use Rattle.lucy_place.specs.Texts.{is_in};
 ghost use Rattle.lucy_place.specs.Streams.{node_names};
-ghost use Rattle.lucy_place.specs.Forms.{expr_form, expr_forms};
-ghost use Rattle.lucy_place.specs.Faults.{verdict, unless, form_faults, forms_faults, def_faults, call_faults};
+ghost use Rattle.lucy_place.specs.Phrases.{expr_phrase, expr_phrases};
+ghost use Rattle.lucy_place.specs.Faults.{verdict, unless, phrase_faults, phrases_faults, def_faults, call_faults};
 ghost use Rattle.lucy_place.specs.Views.{within_of};
 
 use crate::error::NameError;
@@ -60,17 +61,31 @@ fn stream_name(names: &Names<'_>, name: &Name) -> Result<(), NameError>
     }
 }
 
+// The name of an operator of the host.
+fn operator_name(names: &Names<'_>, name: &Name) -> Result<(), NameError>
+    ensures { result ≡ verdict (unless (is_some (operator_number names.now.ops.now name.now.text)) (error.Unknown name.now.span)) }
+{
+    if names.ops.find(name.text.bytes()).is_some() {
+        Ok(())
+    } else {
+        Err(NameError::Unknown(name.span))
+    }
+}
+
 /// The names that an expression uses, which has so many results where it is a call.
 #[cycle(names)]
-#[tactic(auto, using(crate::proofs::VerdictLaws::count_forms))]
+#[tactic(auto, using(crate::proofs::VerdictLaws::count_phrases))]
 pub fn expr_names(names: &Names<'_>, expr: &Expr, results: usize) -> Result<(), NameError>
-    ensures { result ≡ verdict (form_faults (within_of names.now) results (expr_form expr.now)) }
+    ensures { result ≡ verdict (phrase_faults (within_of names.now) results (expr_phrase expr.now)) }
 {
     match expr {
         Expr::Lit { .. } => Ok(()),
         Expr::Var { name } => stream_name(names, name),
         Expr::Op { args, .. } => all_names(names, args.list()),
-        Expr::Host { name, .. } => Err(NameError::Unknown(name.span)),
+        Expr::Host { name, args } => {
+            operator_name(names, name)?;
+            all_names(names, args.list())
+        }
         Expr::When { operand, .. } => expr_names(names, operand, 1),
         Expr::Merge { one, zero, .. } => {
             expr_names(names, one, 1)?;
@@ -88,7 +103,7 @@ pub fn expr_names(names: &Names<'_>, expr: &Expr, results: usize) -> Result<(), 
 // The names that operands use.
 #[cycle(names)]
 fn all_names(names: &Names<'_>, list: &[Expr]) -> Result<(), NameError>
-    ensures { result ≡ verdict (forms_faults (within_of names.now) (expr_forms list.now)) }
+    ensures { result ≡ verdict (phrases_faults (within_of names.now) (expr_phrases list.now)) }
 {
     'each: for expr in list {
         expr_names(names, expr, 1)?;

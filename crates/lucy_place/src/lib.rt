@@ -2,8 +2,9 @@
 //!
 //! It stands on the trees of `lucy_tree` and on `indexmap`. Begin with `place` in `placing.rt` and `specs/Placing.antt`.
 //! `specs/Faults.antt` says what is wrong with names, `specs/Numbering.antt` and `specs/Nodes.antt` how places are numbered,
-//! and `specs/Written.antt` when a node is written; they see an expression as a form with operands, `specs/Forms.antt`.
-//! What a layer above may know of the tables is in `specs/Proper.antt` and `specs/WrittenNodes.antt`.
+//! and `specs/Written.antt` when a node is written; they see an expression as a head with operands, `specs/Phrases.antt`.
+//! What a layer above may know of the tables is in `specs/Standing.antt`, `specs/Reads.antt`, `specs/Proper.antt` and
+//! `specs/WrittenNodes.antt`.
 #![tactic(auto)]
 
 mod draft;
@@ -12,6 +13,7 @@ mod error;
 mod faults;
 mod grow;
 mod lists;
+mod literal;
 mod names;
 mod nodes;
 mod numbering;
@@ -28,5 +30,6 @@ mod unwritten;
 pub use entry::{CallSite, PlaceEntry, PlaceKind};
 pub use error::NameError;
 pub use lists::{Calls, Numbers, Places};
+pub use literal::literal_value;
 pub use placed::{Placed, PlacedNode};
 pub use placing::place;

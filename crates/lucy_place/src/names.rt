@@ -4,11 +4,13 @@ ghost use Rattle.lucy_tree.specs.View.{node_tree};
 ghost use Rattle.lucy_place.specs.Streams.{node_names};
 
 use crate::scope::Scope;
+use lucy_host::Ops;
 use lucy_tree::Node;
 
-/// Where names stand: the nodes of the program, those above a node, and the names of these and of the node's streams.
+/// Where names stand: the operators of the host, the nodes of the program, those above a node, and the names of these and of the node's streams.
 #[derive(Drop)]
 pub struct Names<'n> {
+    pub ops: &'n Ops,
     pub all: &'n [Node],
     pub above: &'n [Node],
     pub nodes: &'n Scope<'n>,

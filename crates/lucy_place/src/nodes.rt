@@ -6,7 +6,7 @@ ghost use Rattle.lucy_tree.specs.Shaped.{IsShaped, IsShapedDef, IsShapedNode};
 ghost use Rattle.lucy_place.specs.declared.error.NameError.TheVariants as error;
 ghost use Rattle.lucy_place.specs.declared.entry.PlaceKind.TheVariants as kind;
 ghost use Rattle.lucy_place.specs.Streams.{text_of, streams, def_names, wanted};
-ghost use Rattle.lucy_place.specs.Forms.{expr_form};
+ghost use Rattle.lucy_place.specs.Phrases.{expr_phrase};
 ghost use Rattle.lucy_place.specs.Faults.{most_places};
 ghost use Rattle.lucy_place.specs.Numbering.{node_rooms, number, stream_place};
 ghost use Rattle.lucy_place.specs.Nodes.{declared_entry, left_entries, past_def, past_defs, defined, rights, def_sites, first_next, node_entries, buffer_places, placed_node};
@@ -99,8 +99,8 @@ fn def_places(
     requires lefts { length def.now.left ≤ most_places }
     requires shaped { IsShaped (tree_of def.now.right) }
     requires room { IsSmall (past_def (next_of (known_of names.now) draft.old) (def_tree def.now)) }
-    ensures named { OnOk result (named.new.items ≡ named.old.items ++ left_entries (number (known_of names.now) (next_of (known_of names.now) draft.old) (expr_form def.now.right)) def.now.left) }
-    ensures draws { OnOk result (Draws (known_of names.now) (wanted def.now.left) (expr_form def.now.right) draft.old draft.new) }
+    ensures named { OnOk result (named.new.items ≡ named.old.items ++ left_entries (number (known_of names.now) (next_of (known_of names.now) draft.old) (expr_phrase def.now.right)) def.now.left) }
+    ensures draws { OnOk result (Draws (known_of names.now) (wanted def.now.left) (expr_phrase def.now.right) draft.old draft.new) }
     ensures refused { IfErr result (λ e. e ≡ error.OutOfMemory) }
 {
     let right = expr_places(alloc, names, &def.right, wanted(def.left.list()), draft)?;
@@ -191,7 +191,7 @@ pub fn node_places(alloc: Global, names: &Names<'_>, node: &Node) -> Result<Plac
     requires streams { names.now.streams.now ≡ map text_of (streams (node_tree node.now)) }
     requires shaped { IsShapedNode (node_tree node.now) }
     requires room { node_rooms (node_tree node.now) ≤ most_places }
-    ensures ok { IfOk result (λ placed. placed ≡ placed_node (map node_tree names.now.above.now) (node_tree node.now)) }
+    ensures ok { IfOk result (λ placed. placed ≡ placed_node names.now.ops.now (map node_tree names.now.above.now) (node_tree node.now)) }
     ensures refused { IfErr result (λ e. e ≡ error.OutOfMemory) }
 {
     let (places, calls) = entries(alloc, names, node)?;

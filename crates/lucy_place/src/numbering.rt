@@ -4,10 +4,10 @@ ghost use Rattle.lucy_tree.specs.Tree.{trees_of};
 ghost use Rattle.lucy_tree.specs.View.{tree_of};
 ghost use Rattle.lucy_tree.specs.Shaped.{IsShaped, AreShaped};
 ghost use Rattle.lucy_place.specs.declared.error.NameError.TheVariants as error;
-ghost use Rattle.lucy_place.specs.Forms.{Called, form, expr_form, expr_forms};
+ghost use Rattle.lucy_place.specs.Phrases.{Called, headed, expr_phrase, expr_phrases};
 ghost use Rattle.lucy_place.specs.Faults.{most_places};
 ghost use Rattle.lucy_place.specs.Numbering.{number, numbers, past, past_all};
-ghost use Rattle.lucy_place.specs.Drafts.{next_of, kind_of, operands, IsPlain, IsSmall, Draws, DrawsAll};
+ghost use Rattle.lucy_place.specs.Drafts.{next_of, kind_of, phrase_operands, IsPlain, IsSmall, Draws, DrawsAll};
 ghost use Rattle.lucy_place.specs.Views.{known_of};
 
 use crate::draft::Draft;
@@ -17,7 +17,8 @@ use crate::grow::push;
 use crate::lists::Numbers;
 use crate::names::Names;
 use crate::steps::{
-    buffers_of, call_site, kept, next_place, settle, settle_call, start, start_call, stream_place,
+    buffers_of, call_site, next_place, operator_place, sampling_word, settle, settle_call, start,
+    start_call, stream_place,
 };
 use lucy_tree::{Expr, Name};
 use lucy_word::Word;
@@ -35,9 +36,9 @@ pub fn expr_places(
     requires few { length names.now.streams.now ≤ most_places }
     requires nodes { length names.now.nodes.now < 2 ^ 32 }
     requires shaped { IsShaped (tree_of expr.now) }
-    requires room { IsSmall (past (next_of (known_of names.now) draft.old) results (expr_form expr.now)) }
-    ensures number { IfOk result (λ n. n ≡ number (known_of names.now) (next_of (known_of names.now) draft.old) (expr_form expr.now)) }
-    ensures draws { OnOk result (Draws (known_of names.now) results (expr_form expr.now) draft.old draft.new) }
+    requires room { IsSmall (past (next_of (known_of names.now) draft.old) results (expr_phrase expr.now)) }
+    ensures number { IfOk result (λ n. n ≡ number (known_of names.now) (next_of (known_of names.now) draft.old) (expr_phrase expr.now)) }
+    ensures draws { OnOk result (Draws (known_of names.now) results (expr_phrase expr.now) draft.old draft.new) }
     ensures refused { IfErr result (λ e. e ≡ error.OutOfMemory) }
 {
     match expr {
@@ -71,11 +72,11 @@ fn form_places(
 ) -> Result<u32, NameError>
     requires few { length names.now.streams.now ≤ most_places }
     requires nodes { length names.now.nodes.now < 2 ^ 32 }
-    requires plain { IsPlain (expr_form expr.now) }
+    requires plain { IsPlain (expr_phrase expr.now) }
     requires shaped { IsShaped (tree_of expr.now) }
-    requires room { IsSmall (past (next_of (known_of names.now) draft.old) 1 (expr_form expr.now)) }
+    requires room { IsSmall (past (next_of (known_of names.now) draft.old) 1 (expr_phrase expr.now)) }
     ensures number { IfOk result (λ n. n ≡ (next_of (known_of names.now) draft.old).place) }
-    ensures draws { OnOk result (Draws (known_of names.now) 1 (expr_form expr.now) draft.old draft.new) }
+    ensures draws { OnOk result (Draws (known_of names.now) 1 (expr_phrase expr.now) draft.old draft.new) }
     ensures refused { IfErr result (λ e. e ≡ error.OutOfMemory) }
 {
     let number = next_place(names, draft);
@@ -95,11 +96,11 @@ fn operand_places(
 ) -> Result<PlaceKind, NameError>
     requires few { length names.now.streams.now ≤ most_places }
     requires nodes { length names.now.nodes.now < 2 ^ 32 }
-    requires plain { IsPlain (expr_form expr.now) }
+    requires plain { IsPlain (expr_phrase expr.now) }
     requires shaped { IsShaped (tree_of expr.now) }
-    requires room { IsSmall (past_all (next_of (known_of names.now) draft.old) (operands (expr_form expr.now))) }
-    ensures kind { IfOk result (λ kind. kind ≡ kind_of draft.old.buffers (expr_form expr.now) (numbers (known_of names.now) (next_of (known_of names.now) draft.old) (operands (expr_form expr.now)))) }
-    ensures draws { OnOk result (DrawsAll (known_of names.now) (operands (expr_form expr.now)) draft.old draft.new) }
+    requires room { IsSmall (past_all (next_of (known_of names.now) draft.old) (phrase_operands (expr_phrase expr.now))) }
+    ensures kind { IfOk result (λ kind. kind ≡ kind_of (known_of names.now) draft.old.buffers (expr_phrase expr.now) (numbers (known_of names.now) (next_of (known_of names.now) draft.old) (phrase_operands (expr_phrase expr.now)))) }
+    ensures draws { OnOk result (DrawsAll (known_of names.now) (phrase_operands (expr_phrase expr.now)) draft.old draft.new) }
     ensures refused { IfErr result (λ e. e ≡ error.OutOfMemory) }
 {
     match expr {
@@ -108,10 +109,10 @@ fn operand_places(
             let args = all_places(alloc, names, args.list(), draft)?;
             Ok(PlaceKind::Op(*op, Numbers::new(args)))
         }
-        Expr::Host { args, .. } => {
+        Expr::Host { name, args } => {
             let args = all_places(alloc, names, args.list(), draft)?;
             Ok(PlaceKind::Host(
-                0,
+                operator_place(names, name),
                 args.first().copied().unwrap_or(0),
                 args.get(1).copied().unwrap_or(0),
             ))
@@ -122,7 +123,7 @@ fn operand_places(
             word,
         } => {
             let operand = expr_places(alloc, names, operand, 1, draft)?;
-            let word = kept(alloc, *flip, word)?;
+            let word = sampling_word(alloc, *flip, word)?;
             Ok(PlaceKind::When(operand, word))
         }
         Expr::Merge {
@@ -133,7 +134,7 @@ fn operand_places(
         } => {
             let one = expr_places(alloc, names, one, 1, draft)?;
             let zero = expr_places(alloc, names, zero, 1, draft)?;
-            let word = kept(alloc, false, word)?;
+            let word = sampling_word(alloc, false, word)?;
             Ok(PlaceKind::Merge(word, one, zero))
         }
         Expr::Fby { first, operand, .. } => {
@@ -164,15 +165,19 @@ fn call_places(
     requires few { length names.now.streams.now ≤ most_places }
     requires nodes { length names.now.nodes.now < 2 ^ 32 }
     requires shaped { AreShaped (trees_of (map tree_of list.now)) }
-    requires room { IsSmall (past (next_of (known_of names.now) draft.old) results (form (Called node.now at.now) node.now.span (expr_forms list.now))) }
+    requires room { IsSmall (past (next_of (known_of names.now) draft.old) results (headed (Called node.now at.now) node.now.span (expr_phrases list.now))) }
     ensures number { IfOk result (λ n. n ≡ (next_of (known_of names.now) draft.old).place) }
-    ensures draws { OnOk result (Draws (known_of names.now) results (form (Called node.now at.now) node.now.span (expr_forms list.now)) draft.old draft.new) }
+    ensures draws { OnOk result (Draws (known_of names.now) results (headed (Called node.now at.now) node.now.span (expr_phrases list.now)) draft.old draft.new) }
     ensures refused { IfErr result (λ e. e ≡ error.OutOfMemory) }
 {
     let number = next_place(names, draft);
     let site = start_call(alloc, draft, results)?;
     let args = all_places(alloc, names, list, draft)?;
-    settle_call(draft, site, call_site(alloc, names, node, at, args)?);
+    settle_call(
+        draft,
+        site,
+        call_site(alloc, names, node, at, number, args)?,
+    );
     Ok(number)
 }
 
@@ -187,9 +192,9 @@ fn all_places(
     requires few { length names.now.streams.now ≤ most_places }
     requires nodes { length names.now.nodes.now < 2 ^ 32 }
     requires shaped { AreShaped (trees_of (map tree_of list.now)) }
-    requires room { IsSmall (past_all (next_of (known_of names.now) draft.old) (expr_forms list.now)) }
-    ensures numbers { IfOk result (λ v. v.items ≡ numbers (known_of names.now) (next_of (known_of names.now) draft.old) (expr_forms list.now)) }
-    ensures draws { OnOk result (DrawsAll (known_of names.now) (expr_forms list.now) draft.old draft.new) }
+    requires room { IsSmall (past_all (next_of (known_of names.now) draft.old) (expr_phrases list.now)) }
+    ensures numbers { IfOk result (λ v. v.items ≡ numbers (known_of names.now) (next_of (known_of names.now) draft.old) (expr_phrases list.now)) }
+    ensures draws { OnOk result (DrawsAll (known_of names.now) (expr_phrases list.now) draft.old draft.new) }
     ensures refused { IfErr result (λ e. e ≡ error.OutOfMemory) }
 {
     let mut found = Vec::new(alloc);

@@ -19,6 +19,7 @@ use crate::room::{fits, wanted};
 use crate::scope::Scope;
 use crate::streams::{results, streams};
 use crate::unwritten::first_unwritten;
+use lucy_host::Ops;
 use lucy_tree::{Def, Node, Program};
 use lucy_word::Limit;
 use std::alloc::Global;
@@ -36,6 +37,7 @@ fn def_names(names: &Names<'_>, defs: &[Def]) -> Result<(), NameError>
 // The places of a node with these nodes above it, once its names are good.
 fn next_node<'p>(
     alloc: Global,
+    ops: &'p Ops,
     all: &'p [Node],
     above: &'p [Node],
     scope: &Scope<'p>,
@@ -44,14 +46,15 @@ fn next_node<'p>(
     requires named { scope.now ≡ node_names (map node_tree above.now) }
     requires few { length scope.now < 2 ^ 32 }
     requires shaped { IsShapedNode (node_tree node.now) }
-    ensures ok { IfOk result (λ placed. (node_faults (map node_tree all.now) (map node_tree above.now) (node_tree node.now) ≡ []) × (placed ≡ placed_node (map node_tree above.now) (node_tree node.now))) }
-    ensures refused { IfErr result (Tells (node_faults (map node_tree all.now) (map node_tree above.now) (node_tree node.now))) }
+    ensures ok { IfOk result (λ placed. (node_faults ops.now (map node_tree all.now) (map node_tree above.now) (node_tree node.now) ≡ []) × (placed ≡ placed_node ops.now (map node_tree above.now) (node_tree node.now))) }
+    ensures refused { IfErr result (Tells (node_faults ops.now (map node_tree all.now) (map node_tree above.now) (node_tree node.now))) }
 {
     if scope.find(node.name.text.bytes()).is_some() {
         return Err(NameError::Twice(node.name.span));
     }
     let known = streams(alloc, node)?;
     let names = Names {
+        ops,
         all,
         above,
         nodes: scope,
@@ -67,13 +70,14 @@ fn next_node<'p>(
 
 /// The places of a program, or what is wrong with its names: `OutOfMemory`, or the first fault, node by node. In a node first
 /// its own name is looked at, then its parameters, its defined names, its expressions in the order of the text, its results,
-/// and then the number of its places. The program has the shape that the grammar gives.
-pub fn place(alloc: Global, program: &Program) -> Result<Placed, NameError>
+/// and then the number of its places. `ops` are the operators of the host, which host forms name. The program has the shape
+/// that the grammar gives.
+pub fn place(alloc: Global, program: &Program, ops: &Ops) -> Result<Placed, NameError>
     requires shaped { IsShapedProgram (program_tree program.now) }
-    ensures ok { IfOk result (IsPlaced (program_tree program.now)) }
-    ensures refused { IfErr result (Tells (faults (program_tree program.now))) }
-    ensures accepted { faults (program_tree program.now) ≡ [] → (result ≡ Err error.OutOfMemory) ⊎ IsOk result }
-    ensures rejected { (e : NameError) → IsFirst (faults (program_tree program.now)) e → (result ≡ Err error.OutOfMemory) ⊎ (result ≡ Err e) }
+    ensures ok { IfOk result (IsPlaced ops.now (program_tree program.now)) }
+    ensures refused { IfErr result (Tells (faults ops.now (program_tree program.now))) }
+    ensures accepted { faults ops.now (program_tree program.now) ≡ [] → (result ≡ Err error.OutOfMemory) ⊎ IsOk result }
+    ensures rejected { (e : NameError) → IsFirst (faults ops.now (program_tree program.now)) e → (result ≡ Err error.OutOfMemory) ⊎ (result ≡ Err e) }
 {
     let nodes = program.nodes.list();
     let mut scope = Scope::new(alloc);
@@ -82,10 +86,14 @@ pub fn place(alloc: Global, program: &Program) -> Result<Placed, NameError>
     'each: for (i, node) in nodes.iter().enumerate() {
         push(
             &mut list,
-            next_node(alloc, nodes, &nodes[..i], &scope, node)?,
+            next_node(alloc, ops, nodes, &nodes[..i], &scope, node)?,
         )?;
         push(&mut spans, first_unwritten(node))?;
         scope.add(node.name.text.bytes())?;
     }
-    Ok(Placed { list, spans })
+    Ok(Placed {
+        list,
+        spans,
+        operators: ops.count(),
+    })
 }

@@ -2,7 +2,7 @@
 ghost use Rattle.std.specs.Prelude.{◌≡◌, ◌+◌, ◌<◌, ◌≤◌, ◌↔◌, length, map, MatchOption, IsTrue};
 ghost use Rattle.lucy_tree.specs.View.{node_tree, def_tree};
 ghost use Rattle.lucy_place.specs.Streams.{streams, wanted};
-ghost use Rattle.lucy_place.specs.Forms.{expr_form, expr_forms};
+ghost use Rattle.lucy_place.specs.Phrases.{expr_phrase, expr_phrases};
 ghost use Rattle.lucy_place.specs.Faults.{most_places};
 ghost use Rattle.lucy_place.specs.Numbering.{rooms, all_rooms, def_rooms, node_rooms};
 
@@ -19,7 +19,7 @@ pub fn wanted(left: &[Decl]) -> usize
 // What is left of so many places behind an expression, where it has no more.
 #[cycle(room)]
 fn behind(left: usize, expr: &Expr, results: usize) -> Option<usize>
-    ensures { MatchOption result (left < rooms results (expr_form expr.now)) (λ more. more + rooms results (expr_form expr.now) ≡ left) }
+    ensures { MatchOption result (left < rooms results (expr_phrase expr.now)) (λ more. more + rooms results (expr_phrase expr.now) ≡ left) }
 {
     match expr {
         Expr::Lit { .. } => left.checked_sub(1),
@@ -37,7 +37,7 @@ fn behind(left: usize, expr: &Expr, results: usize) -> Option<usize>
 // What is left of so many places behind operands, where they have no more.
 #[cycle(room)]
 fn behind_all(left: usize, list: &[Expr]) -> Option<usize>
-    ensures { MatchOption result (left < all_rooms (expr_forms list.now)) (λ more. more + all_rooms (expr_forms list.now) ≡ left) }
+    ensures { MatchOption result (left < all_rooms (expr_phrases list.now)) (λ more. more + all_rooms (expr_phrases list.now) ≡ left) }
 {
     let mut more = left;
     'each: for expr in list {

@@ -3,9 +3,9 @@ ghost use Rattle.std.specs.Prelude.{true, ◌≡◌, ◌+◌, ◌^◌, ◌<◌, 
 ghost use Rattle.lucy_tree.specs.Shaped.{HasZero};
 ghost use Rattle.lucy_place.specs.declared.error.NameError.TheVariants as error;
 ghost use Rattle.lucy_place.specs.declared.entry.PlaceKind.TheVariants as kind;
-ghost use Rattle.lucy_place.specs.Forms.{expr_form};
+ghost use Rattle.lucy_place.specs.Phrases.{expr_phrase};
 ghost use Rattle.lucy_place.specs.Faults.{most_places};
-ghost use Rattle.lucy_place.specs.Numbering.{kept, unnamed, results_from, stream_place};
+ghost use Rattle.lucy_place.specs.Numbering.{sampling_word, unnamed, results_from, operator_place, stream_place};
 ghost use Rattle.lucy_place.specs.Drafts.{free_site, site_of, buffers_of, next_of};
 ghost use Rattle.lucy_place.specs.Views.{known_of};
 
@@ -31,23 +31,19 @@ pub fn copy(alloc: Global, word: &Option<Word>) -> Result<Option<Word>, NameErro
 }
 
 /// The word of `when`, or with `flip` the complement of the word of `whenot`.
-pub fn kept(alloc: Global, flip: bool, word: &Word) -> Result<Word, NameError>
+pub fn sampling_word(alloc: Global, flip: bool, word: &Word) -> Result<Word, NameError>
     requires zero { flip ≡ true → HasZero word.now }
-    ensures ok { IfOk result (λ w. w ≡ kept flip word.now) }
+    ensures ok { IfOk result (λ w. w ≡ sampling_word flip word.now) }
     ensures refused { IfErr result (λ e. e ≡ error.OutOfMemory) }
 {
     if !flip {
         return Ok(word.copy(alloc)?);
     }
-    let turned = match complement(alloc, word) {
-        Ok(turned) => turned,
-        Err(WordError::OutOfMemory) => return Err(NameError::OutOfMemory),
+    match complement(alloc, word) {
+        Ok(turned) => Ok(turned),
+        Err(WordError::OutOfMemory) => Err(NameError::OutOfMemory),
         Err(_) => unreachable!(),
-    };
-    let (_, some) = word.lengths();
-    let (_, turned_some) = turned.lengths();
-    prove!(some > 0 && turned_some > 0);
-    Ok(turned)
+    }
 }
 
 fn unnamed(kind: PlaceKind) -> PlaceEntry
@@ -67,6 +63,13 @@ pub fn stream_place(names: &Names<'_>, name: &Name) -> u32
     ensures { result ≡ stream_place (known_of names.now) name.now.text }
 {
     names.streams.place(name.text.bytes()) as u32 + 1
+}
+
+/// The number of an operator of the host.
+pub fn operator_place(names: &Names<'_>, name: &Name) -> u32
+    ensures { result ≡ operator_place (known_of names.now) name.now.text }
+{
+    names.ops.find(name.text.bytes()).unwrap_or(0)
 }
 
 /// The number of the next place.
@@ -136,6 +139,7 @@ pub fn start_call(alloc: Global, draft: &mut Draft, results: usize) -> Result<us
         CallSite {
             node: 0,
             at: None,
+            first: 0,
             args: Numbers::new(Vec::new(alloc)),
         },
     )?;
@@ -152,29 +156,31 @@ pub fn settle_call(draft: &mut Draft, site: usize, call: CallSite)
     draft.calls[site] = call;
 }
 
-/// The call of a node.
+/// The call of a node whose first result has this place.
 pub fn call_site(
     alloc: Global,
     names: &Names<'_>,
     node: &Name,
     at: &Option<Word>,
+    first: u32,
     args: Vec<u32>,
 ) -> Result<CallSite, NameError>
     requires { length names.now.nodes.now < 2 ^ 32 }
-    ensures ok { IfOk result (λ call. call ≡ site_of (known_of names.now) node.now at.now args.items) }
+    ensures ok { IfOk result (λ call. call ≡ site_of (known_of names.now) node.now at.now first args.items) }
     ensures refused { IfErr result (λ e. e ≡ error.OutOfMemory) }
 {
     let at = copy(alloc, at)?;
     Ok(CallSite {
         node: names.nodes.place(node.text.bytes()) as u32,
         at,
+        first,
         args: Numbers::new(args),
     })
 }
 
 /// How many buffers a form itself is.
 pub fn buffers_of(expr: &Expr) -> u32
-    ensures { result ≡ buffers_of (expr_form expr.now) }
+    ensures { result ≡ buffers_of (expr_phrase expr.now) }
 {
     match expr {
         Expr::Buffer { .. } => 1,

@@ -1,9 +1,9 @@
 // Looks for the first span that keeps a node from being written.
 ghost use Rattle.std.specs.Prelude.{◌≡◌, fold, map};
 ghost use Rattle.lucy_tree.specs.View.{node_tree, def_tree};
-ghost use Rattle.lucy_place.specs.Forms.{expr_form, expr_forms, span_of};
+ghost use Rattle.lucy_place.specs.Phrases.{expr_phrase, expr_phrases, span_of};
 ghost use Rattle.lucy_place.specs.Written as spec;
-ghost use Rattle.lucy_place.specs.Written.{lacking, decl_spans, unnamed_span, unnamed_spans, form_spans, forms_spans, def_spans, first_unwritten};
+ghost use Rattle.lucy_place.specs.Written.{lacking, decl_spans, unnamed_span, unnamed_spans, phrase_spans, phrases_spans, def_spans, first_unwritten};
 
 use lucy_tree::{Decl, Def, Expr, Node, Span};
 use lucy_word::Word;
@@ -42,7 +42,7 @@ fn declared(first: Option<Span>, decls: &[Decl]) -> Option<Span>
 
 // The span of an expression as an operand: of its outermost operator, literal or name.
 fn span_of(expr: &Expr) -> Span
-    ensures { result ≡ span_of (expr_form expr.now) }
+    ensures { result ≡ span_of (expr_phrase expr.now) }
 {
     match expr {
         Expr::Lit { span, .. } => *span,
@@ -59,7 +59,7 @@ fn span_of(expr: &Expr) -> Span
 
 // The first span, with that of an operand that should be a name.
 fn unnamed(first: Option<Span>, expr: &Expr) -> Option<Span>
-    ensures { result ≡ fold spec.earlier first (unnamed_span (expr_form expr.now)) }
+    ensures { result ≡ fold spec.earlier first (unnamed_span (expr_phrase expr.now)) }
 {
     match expr {
         Expr::Var { .. } => first,
@@ -69,7 +69,7 @@ fn unnamed(first: Option<Span>, expr: &Expr) -> Option<Span>
 
 // The first span, with those of arguments that should be names.
 fn unnamed_all(first: Option<Span>, list: &[Expr]) -> Option<Span>
-    ensures { result ≡ fold spec.earlier first (unnamed_spans (expr_forms list.now)) }
+    ensures { result ≡ fold spec.earlier first (unnamed_spans (expr_phrases list.now)) }
 {
     let mut found = first;
     'each: for expr in list {
@@ -81,7 +81,7 @@ fn unnamed_all(first: Option<Span>, list: &[Expr]) -> Option<Span>
 // The first span, with those of an expression.
 #[cycle(unwritten)]
 fn inside(first: Option<Span>, expr: &Expr) -> Option<Span>
-    ensures { result ≡ fold spec.earlier first (form_spans (expr_form expr.now)) }
+    ensures { result ≡ fold spec.earlier first (phrase_spans (expr_phrase expr.now)) }
 {
     match expr {
         Expr::Lit { .. } => first,
@@ -102,7 +102,7 @@ fn inside(first: Option<Span>, expr: &Expr) -> Option<Span>
 // The first span, with those of operands.
 #[cycle(unwritten)]
 fn inside_all(first: Option<Span>, list: &[Expr]) -> Option<Span>
-    ensures { result ≡ fold spec.earlier first (forms_spans (expr_forms list.now)) }
+    ensures { result ≡ fold spec.earlier first (phrases_spans (expr_phrases list.now)) }
 {
     let mut found = first;
     'each: for expr in list {

@@ -1,6 +1,6 @@
 -- One node more has types.
 use Rattle.std.proofs.Common.{Vec, Global, ℕ, zero, suc, ◌≡◌, ◌+◌, ◌<◌, ◌≤◌, ◌++◌, ◌∷◌, [], List, Some, length, take, arith, ap, sym, ◌∙◌, subst, inl, inr, refl}
-use Rattle.std.specs.Prelude.{slice_get, Result, Ok, Err, IfOk, IfErr}
+use Rattle.std.specs.Prelude.{slice_get, ◌⊎◌, Result, Ok, Err, IsOk, IfOk, IfErr}
 use Rattle.std.specs.List.{Contains}
 use Rattle.std.proofs.lemmas.List.{take_more, take-append-le, take_at, take_all, map_push, length_push, length-take-le}
 use Rattle.std.proofs.lemmas.Option.{slice_get_within, get_or_from_slice_get}
@@ -16,16 +16,16 @@ use Rattle.lucy_types.specs.declared.solve.Solution.TheVariants.{Types, Clash}
 use Rattle.lucy_types.specs.declared.error.TypeError.{TypeError}
 use Rattle.lucy_types.specs.declared.error.TypeError.TheVariants as error
 use Rattle.lucy_types.specs.Rules.{IsRule}
-use Rattle.lucy_types.specs.Typing.{AreNumbered, AreTypes}
+use Rattle.lucy_types.specs.Typing.{IsTyping, AreNumbered, AreTypes}
 use Rattle.lucy_types.specs.Clash.{IsClashPath}
 use Rattle.lucy_types.specs.Graphs.{AllFit}
 use Rattle.lucy_types.specs.Ports.{ArePlacesOf, HaveClasses, AreHeads, port_types}
 use Rattle.lucy_types.specs.Nodes.{tables_of, IsSignature, AreSignatures, StandFor, Solves}
-use Rattle.lucy_types.specs.Programs.{IsTyped, IsClash, Refuses, AnswersTypes, AnswersClash}
-use Rattle.lucy_types.proofs.ListLaws.{none_some, get_old, get_push}
-use Rattle.lucy_types.proofs.TypingLaws.{same_typings, clash_weaker, touch_weaker}
+use Rattle.lucy_types.specs.Programs.{IsTyped, HaveTypings, IsClash, Refuses, AnswersTypes, AnswersClash}
+use Rattle.lucy_types.proofs.ListLaws.{none_some, get_there, get_old, get_push}
+use Rattle.lucy_types.proofs.TypingLaws.{same_typings, clash_refutes, clash_weaker, touch_weaker}
 use Rattle.lucy_types.proofs.RuleLaws.{rule_fits}
-use Rattle.lucy_types.proofs.ProgramLaws.{typed_unique, clash_untyped, clash_unique}
+use Rattle.lucy_types.proofs.ProgramLaws.{typed_above, typed_unique, clash_untyped, clash_unique}
 
 -- what solves the rules that stand for others solves those
 pub stands_solved : (Rules : Rule → Type 0) (list : List Rule) (n : ℕ) (s : Solution) → StandFor Rules list → Solves (Contains list) n s → Solves Rules n s
@@ -137,6 +137,24 @@ pub accepted : (nodes : List PlacedNode) (r : Result (List (List Ty)) TypeError)
 accepted nodes (Ok found) o e tables t = typed_unique nodes found tables o t
 accepted nodes (Err error.OutOfMemory) o e tables t = refl
 accepted nodes (Err (error.Clash node path)) o e tables t = absurd (clash_untyped nodes tables node path.items e t)
+
+-- it has types exactly where each node has a typing
+pub has_typings : (nodes : List PlacedNode) (r : Result (List (List Ty)) TypeError) → IfOk r (IsTyped nodes) → IsOk r → HaveTypings nodes
+has_typings nodes (Ok tables) o h = λ i n e.
+    let l : i < length nodes = slice_get_within nodes i n e in
+    let m : length tables ≡ length nodes = o.all in
+    let u = get_there tables i (omega arith) in
+    let t = o.each i n u.0 e u.1 in
+    (take i tables, typed_above nodes tables i (omega arith) o, t.typing, t.meets)
+has_typings nodes (Err e) o h = cc
+
+pub typings_suffice : (nodes : List PlacedNode) (r : Result (List (List Ty)) TypeError) → IfErr r (Refuses nodes) → HaveTypings nodes → (r ≡ Err error.OutOfMemory) ⊎ IsOk r
+typings_suffice nodes (Ok found) e h = inr refl
+typings_suffice nodes (Err error.OutOfMemory) e h = inl refl
+typings_suffice nodes (Err (error.Clash node path)) e h =
+    let t = h node e.n e.found in
+    let same : t.0 ≡ e.known = typed_unique (take node nodes) t.0 e.known t.1 e.above in
+    absurd (clash_refutes (IsRule (take node nodes) e.known e.n) path.items e.clashes t.2 (subst (λ known. IsTyping (IsRule (take node nodes) known e.n) t.2) same t.3))
 
 pub rejected : (nodes : List PlacedNode) (r : Result (List (List Ty)) TypeError) → IfOk r (IsTyped nodes) → IfErr r (Refuses nodes)
     → (node : ℕ) (path : List ℕ) → IsClash nodes node path → AnswersClash node r

@@ -104,7 +104,7 @@ id_typed = record {
 
 -- let node m a = b where rec b = id (a) && true
 abbrev site : CallSite
-site = record { node = 0; at = None; args = 1 ∷ [] }
+site = record { node = 0; at = None; first = 4; args = 1 ∷ [] }
 
 m : PlacedNode
 m = record {

@@ -3,7 +3,6 @@ use Rattle.std.proofs.Common.{ℕ, zero, suc, ◌≡◌, ◌+◌, ◌-◌, ◌<�
 use Rattle.std.specs.Prelude.{slice_get, slice_index}
 use Rattle.std.specs.List.{Contains, AllByRecursion}
 use Rattle.std.proofs.lemmas.Bool.{cases_lt}
-use Rattle.std.proofs.lemmas.List.{get_or_default}
 use Rattle.std.proofs.lemmas.List.Elements.{Contains-append_left, Contains-append_right, Contains-append_cases}
 use Rattle.std.proofs.lemmas.Option.{same_Some, slice_get_within, slice_get_read, get_or_from_slice_get}
 use Rattle.lucy_host.specs.declared.data_type.DataType.{DataType}
@@ -16,7 +15,7 @@ use Rattle.lucy_place.specs.declared.entry.PlaceKind.{PlaceKind}
 use Rattle.lucy_place.specs.declared.entry.PlaceKind.TheVariants.{Param, Defined, Lit, Op as Operator, Host, When, Merge, Fby, Buffer, Result}
 use Rattle.lucy_place.specs.declared.entry.CallSite.{CallSite}
 use Rattle.lucy_place.specs.declared.placed.PlacedNode.{PlacedNode}
-use Rattle.lucy_place.specs.Proper.{at_one, Stands, IsPlace, ArePlaces, IsProperCall, IsProperKind, IsProperNode}
+use Rattle.lucy_place.specs.Proper.{at_one, IsPlace, ArePlaces, IsProperCall, IsProperKind, IsProperNode}
 use Rattle.lucy_types.specs.declared.ty.Ty.{Ty}
 use Rattle.lucy_types.specs.declared.rule.Rule.{Rule}
 use Rattle.lucy_types.specs.declared.rule.Rule.TheVariants.{Is, Alike}
@@ -25,7 +24,7 @@ use Rattle.lucy_types.specs.Rules.{all_are, op_rules, kind_rules, written_rules,
 use Rattle.lucy_types.specs.Typing.{Typing, IsTyping}
 use Rattle.lucy_types.specs.Graphs.{Fits}
 use Rattle.lucy_types.specs.Gathered.{HasArity, HaveArities, own_rules}
-use Rattle.lucy_types.specs.Ports.{counted, joined_rules, AreHeads, HaveCalls, IsOneFirst, FirstOf, AreMost}
+use Rattle.lucy_types.specs.Ports.{counted, joined_rules, AreHeads}
 use Rattle.lucy_types.specs.Nodes.{tables_of, IsSignature, AreSignatures, StandFor}
 use Rattle.lucy_types.proofs.ListLaws.{none_some, at_one_within, contains_none, contains_cons}
 use Rattle.lucy_types.proofs.PortLaws.{get_map, AreJoined, joined_sound, joined_complete, IsPlacedCall, call_joined, length_ports}
@@ -51,19 +50,6 @@ kind_arity n p kind h = tt
 
 pub proper_arities : (above : List PlacedNode) (n : PlacedNode) → IsProperNode above n → HaveArities n.places
 proper_arities above n h = arities_of n.places (λ i entry e. kind_arity n (suc i) entry.kind (h.kinds (suc i) entry e))
-
--- the call of a result
-result_site : (above : List PlacedNode) (n : PlacedNode) → IsProperNode above n → (p call j : ℕ) → Stands n p (Result call j) → (site : CallSite) × (at_one n.calls call ≡ Some site)
-result_site above n h p call j s = let k = subst (IsProperKind n p) s.2 (h.kinds p s.0 s.1) in (k.1, k.2)
-
-pub proper_calls : (above : List PlacedNode) (n : PlacedNode) → IsProperNode above n → HaveCalls (length n.calls) n.places
-proper_calls above n h p call j entry e k = let s = result_site above n h p call j (entry, e, k) in at_one_within n.calls call s.0 s.1
-
-pub proper_once : (above : List PlacedNode) (n : PlacedNode) → IsProperNode above n → IsOneFirst n.places
-proper_once above n h p q call entry other e k f m =
-    let s = result_site above n h p call 0 (entry, e, k) in
-    let c = h.calls call s.0 s.1 in
-    (c.only p 0 (entry, e, k)).0 ∙ sym (c.only q 0 (other, f, m)).0
 
 -- every rule of a proper node fits
 
@@ -117,7 +103,7 @@ kind_fit n p Param h k = tt
 kind_fit n p (Defined e) h k = ((place_fits n p h, place_fits n e k.1), tt)
 kind_fit n p (Lit l) h k = (place_fits n p h, tt)
 kind_fit n p (Operator o args) h k = op_fit n o p args h k.1 k.2
-kind_fit n p (Host o a b) h k = absurd k
+kind_fit n p (Host o a b) h k = (place_fits n a k.1, (place_fits n b k.2, (place_fits n p h, tt)))
 kind_fit n p (When e w) h k = ((place_fits n p h, place_fits n e k.1), tt)
 kind_fit n p (Merge w a b) h k = ((place_fits n p h, place_fits n a k.2), ((place_fits n p h, place_fits n b k.3), tt))
 kind_fit n p (Fby l e) h k = ((place_fits n p h, place_fits n e k.1), (place_fits n p h, tt))
@@ -245,50 +231,28 @@ gathered_all above known n upto list l u = record { sound = u.sound; complete = 
         u.calls r.call r.site r.callee r.tys (omega arith) r.calls r.called r.typed a m rule r.carries
 
 -- a proper call by its first place
-
-pub first_place : (above : List PlacedNode) (n : PlacedNode) (call : ℕ) (site : CallSite) (firsts : List ℕ) (c : IsProperCall above n call site) → FirstOf n.places (length n.places) firsts
-    → 0 < length c.callee.results → slice_index firsts (call - 1) ≡ c.first
-first_place above n call site firsts c f l =
-    let s = c.results 0 l in
-    let b = at_one_within n.places (c.first + 0) s.0 s.1 in
-    f (c.first + 0) call s.0 b.1 s.1 s.2 ∙ (let e : c.first + 0 ≡ c.first = omega arith in e)
-
-pub placed_call : (above : List PlacedNode) (n : PlacedNode) (call : ℕ) (site : CallSite) (s : Signature) (first : ℕ) (c : IsProperCall above n call site) → IsSignature c.callee s
-    → (0 < length c.callee.results → first ≡ c.first) → IsPlacedCall c.callee n call site s.tys.items first
-placed_call above n call site s first c h f = record {
-  params = h.params;
-  places = h.results;
-  arguments = c.arguments;
-  results = λ j l. subst (λ p. Stands n p (Result call j)) (ap (λ p. p + j) (sym (f (omega arith)))) (c.results j l);
-  only = λ p j w.
-      let o = c.only p j w in
-      let l : j < length c.callee.results = o.1 in
-      (o.0 ∙ ap (λ q. q + j) (sym (f (omega arith))), o.1);
-}
+pub placed_call : (above : List PlacedNode) (n : PlacedNode) (call : ℕ) (site : CallSite) (s : Signature) (c : IsProperCall above n call site) → IsSignature c.callee s
+    → IsPlacedCall c.callee n call site s.tys.items site.first
+placed_call above n call site s c h = record { params = h.params; places = h.results; arguments = c.arguments; results = c.results; only = c.only }
 
 -- the places of a call are few
-pub few_places : (above : List PlacedNode) (n : PlacedNode) (call : ℕ) (site : CallSite) (first : ℕ) (c : IsProperCall above n call site) → first ≤ length n.places
-    → (0 < length c.callee.results → first ≡ c.first) → first + length c.callee.results ≤ length n.places + 1
-few_places above n call site first c b f =
-    elim (cases_lt 0 (length c.callee.results)) [
-      | inl l ↦
-          let j : ℕ = length c.callee.results - 1 in
-          let s = c.results j (omega arith) in
-          let w : c.first + j ≤ length n.places = (at_one_within n.places (c.first + j) s.0 s.1).1 in
-          let e : first ≡ c.first = f l in
-          omega arith
-      | inr l ↦ omega arith
-    ]
+pub few_places : (above : List PlacedNode) (n : PlacedNode) (call : ℕ) (site : CallSite) (c : IsProperCall above n call site) → site.first + length c.callee.results ≤ length n.places + 1
+few_places above n call site c =
+    let j : ℕ = length c.callee.results - 1 in
+    let some : 0 < length c.callee.results = c.some in
+    let s = c.results j (omega arith) in
+    let w : site.first + j ≤ length n.places = (at_one_within n.places (site.first + j) s.0 s.1).1 in
+    omega arith
 
 -- what is known where the rules of a call are gathered
-pub record CallFacts (above : List PlacedNode) (known : List (List Ty)) (n : PlacedNode) (i : ℕ) (site : CallSite) (s : Signature) (first : ℕ) : Type 0 where
+pub record CallFacts (above : List PlacedNode) (known : List (List Ty)) (n : PlacedNode) (i : ℕ) (site : CallSite) (s : Signature) : Type 0 where
   pub callee : PlacedNode
   pub found : slice_get above site.node ≡ Some callee
   pub signature : IsSignature callee s
   pub typed : slice_get known site.node ≡ Some s.tys.items
-  pub placed : IsPlacedCall callee n (suc i) site s.tys.items first
+  pub placed : IsPlacedCall callee n (suc i) site s.tys.items site.first
   pub results : length s.ports.items ≡ length site.args + length callee.results
-  pub few : first + length callee.results ≤ length n.places + 1
+  pub few : site.first + length callee.results ≤ length n.places + 1
 
 -- a call is of a node whose signature is known
 pub site_within : (above : List PlacedNode) (n : PlacedNode) (signatures : List Signature) (i : ℕ) (site : CallSite) → IsProperNode above n → AreSignatures above signatures
@@ -299,22 +263,19 @@ site_within above n signatures i site h a e =
     let m : length signatures ≡ length above = a.all in
     omega arith
 
-pub call_facts : (above : List PlacedNode) (n : PlacedNode) (signatures : List Signature) (firsts : List ℕ) (i : ℕ) (site : CallSite) (s : Signature) (first : ℕ)
-    → IsProperNode above n → AreSignatures above signatures → FirstOf n.places (length n.places) firsts → AreMost (length n.places) firsts → slice_get n.calls i ≡ Some site
-    → slice_get signatures site.node ≡ Some s → slice_index firsts i ≡ first → CallFacts above (tables_of signatures) n i site s first
-call_facts above n signatures firsts i site s first h a f b e g w =
+pub call_facts : (above : List PlacedNode) (n : PlacedNode) (signatures : List Signature) (i : ℕ) (site : CallSite) (s : Signature) → IsProperNode above n
+    → AreSignatures above signatures → slice_get n.calls i ≡ Some site → slice_get signatures site.node ≡ Some s → CallFacts above (tables_of signatures) n i site s
+call_facts above n signatures i site s h a e g =
     let c = h.calls (suc i) site e in
     let sig = a.each site.node c.callee s c.found g in
-    let at = λ (l : 0 < length c.callee.results). sym w ∙ ap (slice_index firsts) (let d : i ≡ suc i - 1 = omega arith in d) ∙ first_place above n (suc i) site firsts c f l in
-    let small : first ≤ length n.places = subst (λ m. m ≤ length n.places) w (b i) in
     record {
       callee = c.callee;
       found = c.found;
       signature = sig;
       typed = get_map (λ (x : Signature). x.tys.items) signatures site.node s g;
-      placed = placed_call above n (suc i) site s first c sig at;
+      placed = placed_call above n (suc i) site s c sig;
       results = ap length sig.ports ∙ length_ports c.callee.params c.callee.results s.tys.items sig.params ∙ ap (λ m. m + length c.callee.results) (sym c.arguments);
-      few = few_places above n (suc i) site first c small at;
+      few = few_places above n (suc i) site c;
     }
 
 -- a call as it is read
@@ -322,22 +283,19 @@ pub site_stands : (n : PlacedNode) (sites : List CallSite) (i : ℕ) (site : Cal
 site_stands n sites i site e l r = ap (λ cs. slice_get cs i) (sym e) ∙ slice_get_read sites (length sites) i site refl l r
 
 -- what is known of a call as it is read
-pub read_facts : (above : List PlacedNode) (n : PlacedNode) (sites : List CallSite) (places : List PlaceEntry) (signatures : List Signature) (firsts : List ℕ) (i : ℕ) (site : CallSite)
-    (s : Signature) (first : ℕ) → IsProperNode above n → AreSignatures above signatures → sites ≡ n.calls → places ≡ n.places → FirstOf places (length places) firsts → AreMost (length places) firsts
-    → length firsts ≡ length sites → i < length sites → site ≡ get_or sites i site → s ≡ get_or signatures site.node s → first ≡ get_or firsts i first
-    → CallFacts above (tables_of signatures) n i site s first
-read_facts above n sites places signatures firsts i site s first h a e f first_of most all l g k w =
+pub read_facts : (above : List PlacedNode) (n : PlacedNode) (sites : List CallSite) (signatures : List Signature) (i : ℕ) (site : CallSite) (s : Signature) → IsProperNode above n
+    → AreSignatures above signatures → sites ≡ n.calls → i < length sites → site ≡ get_or sites i site → s ≡ get_or signatures site.node s → CallFacts above (tables_of signatures) n i site s
+read_facts above n sites signatures i site s h a e l g k =
     let stands = site_stands n sites i site e l g in
-    call_facts above n signatures firsts i site s first h a (subst (λ ps. FirstOf ps (length ps) firsts) f first_of) (subst (λ ps. AreMost (length ps) firsts) f most) stands
-    (slice_get_read signatures (length signatures) site.node s refl (site_within above n signatures i site h a stands) k)
-    (get_or_default firsts i 0 first (omega arith) ∙ sym w)
+    call_facts above n signatures i site s h a stands (slice_get_read signatures (length signatures) site.node s refl (site_within above n signatures i site h a stands) k)
 
 -- the rules of a call more
-pub gathered_call : (above : List PlacedNode) (known : List (List Ty)) (n : PlacedNode) (i : ℕ) (list new : List Rule) (site : CallSite) (args : List ℕ) (s : Signature) (first : ℕ)
-    → CallFacts above known n i site s first → GatheredUpto above known n i list → slice_get n.calls i ≡ Some site → args ≡ site.args
-    → new ≡ list ++ joined_rules (args ++ counted first (length s.ports.items - length args)) s.ports.items s.heads.items (args ++ counted first (length s.ports.items - length args))
+pub gathered_call : (above : List PlacedNode) (known : List (List Ty)) (n : PlacedNode) (i : ℕ) (list new : List Rule) (site : CallSite) (args : List ℕ) (s : Signature)
+    → CallFacts above known n i site s → GatheredUpto above known n i list → slice_get n.calls i ≡ Some site → args ≡ site.args
+    → new ≡ list ++ joined_rules (args ++ counted site.first (length s.ports.items - length args)) s.ports.items s.heads.items (args ++ counted site.first (length s.ports.items - length args))
     → GatheredUpto above known n (i + 1) new
-gathered_call above known n i list new site args s first c u e a w =
+gathered_call above known n i list new site args s c u e a w =
+    let first : ℕ = site.first in
     let places : List ℕ = site.args ++ counted first (length c.callee.results) in
     let count : length s.ports.items - length site.args ≡ length c.callee.results = let r : length s.ports.items ≡ length site.args + length c.callee.results = c.results in omega arith in
     let same : args ++ counted first (length s.ports.items - length args) ≡ places = ap (λ xs. xs ++ counted first (length s.ports.items - length xs)) a ∙ ap (λ m. site.args ++ counted first m) count in

@@ -2,10 +2,6 @@
 use Rattle.std.specs.Prelude.{ℕ, zero, suc, ◌+◌, ◌-◌, ◌≡◌, ◌≤◌, ◌<◌, List, [], ◌∷◌, ◌++◌, Some, length, map, take, slice_get, slice_index, slice_index_or, slice_set, ◌⊎◌}
 use Rattle.std.specs.List.{AllByRecursion}
 use Rattle.lucy_host.specs.declared.data_type.DataType.TheVariants.{Int, Bool}
-use Rattle.lucy_place.specs.declared.entry.PlaceEntry.{PlaceEntry}
-use Rattle.lucy_place.specs.declared.entry.PlaceKind.{PlaceKind}
-use Rattle.lucy_place.specs.declared.entry.PlaceKind.TheVariants.{Result}
-use Rattle.lucy_place.specs.Proper.{at_one}
 use Rattle.lucy_types.specs.declared.ty.Ty.{Ty}
 use Rattle.lucy_types.specs.declared.ty.Ty.TheVariants as ty
 use Rattle.lucy_types.specs.declared.rule.Rule.{Rule}
@@ -58,28 +54,3 @@ port_rule (ty.Open k) p head = Alike p head
 abbrev pub joined_rules : List ℕ → List Ty → List ℕ → List ℕ → List Rule
 joined_rules all (t ∷ ports) (h ∷ heads) (p ∷ places) = port_rule t p (slice_index all h) ∷ joined_rules all ports heads places
 joined_rules all ports heads places = []
-
--- the calls that have results number at most so many
-abbrev pub HaveCalls : ℕ → List PlaceEntry → Type 0
-HaveCalls calls places =
-    (p call j : ℕ) (entry : PlaceEntry) → at_one places p ≡ Some entry → entry.kind ≡ Result call j → (1 ≤ call) × (call ≤ calls)
-
--- no call has its first result twice
-abbrev pub IsOneFirst : List PlaceEntry → Type 0
-IsOneFirst places =
-    (p q call : ℕ) (entry other : PlaceEntry) → at_one places p ≡ Some entry → entry.kind ≡ Result call 0
-    → at_one places q ≡ Some other → other.kind ≡ Result call 0 → p ≡ q
-
--- the numbers are at most this one
-abbrev pub AreMost : ℕ → List ℕ → Type 0
-AreMost most ns = (k : ℕ) → slice_index ns k ≤ most
-
--- the call of which a place is the first result, or 0
-abbrev pub first_call : PlaceKind → ℕ
-first_call (Result call zero) = call
-first_call kind = 0
-
--- of the places up to this one, each that is a call's first result stands for its call
-abbrev pub FirstOf : List PlaceEntry → ℕ → List ℕ → Type 0
-FirstOf places upto firsts =
-    (p call : ℕ) (entry : PlaceEntry) → p ≤ upto → at_one places p ≡ Some entry → entry.kind ≡ Result call 0 → slice_index firsts (call - 1) ≡ p

@@ -5,7 +5,7 @@ use Rattle.lucy_types.specs.declared.ty.Ty.{Ty}
 use Rattle.lucy_types.specs.declared.error.TypeError.{TypeError}
 use Rattle.lucy_types.specs.declared.error.TypeError.TheVariants.{Clash, OutOfMemory}
 use Rattle.lucy_types.specs.Rules.{IsRule}
-use Rattle.lucy_types.specs.Typing.{AreTypes}
+use Rattle.lucy_types.specs.Typing.{Typing, IsTyping, AreTypes}
 use Rattle.lucy_types.specs.Clash.{IsClashPath}
 
 -- the types of the places of each node, by its rules with the types of the nodes above
@@ -13,6 +13,12 @@ pub record IsTyped (nodes : List PlacedNode) (tables : List (List Ty)) : Type 0 
   pub all : length tables ≡ length nodes
   pub each : (i : ℕ) (n : PlacedNode) (tys : List Ty) → slice_get nodes i ≡ Some n → slice_get tables i ≡ Some tys →
       AreTypes (IsRule (take i nodes) (take i tables) n) (length n.places) tys
+
+-- each node has a typing, which meets its rules with the types of the nodes above
+abbrev pub HaveTypings : List PlacedNode → Type 0
+HaveTypings nodes =
+    (i : ℕ) (n : PlacedNode) → slice_get nodes i ≡ Some n
+    → (known : List (List Ty)) × IsTyped (take i nodes) known × (typing : Typing) × IsTyping (IsRule (take i nodes) known n) typing
 
 -- the nodes above have types, and the path shows that nothing meets the node's rules
 pub record IsClash (nodes : List PlacedNode) (node : ℕ) (path : List ℕ) : Type 0 where

@@ -1,54 +1,12 @@
 // The rules of a node's calls.
 ghost use Rattle.std.specs.Prelude.{◌≡◌, ◌+◌, ◌-◌, ◌++◌, ◌≤◌, ◌<◌, ◌^◌, length, IfOk, OnOk};
-ghost use Rattle.lucy_types.specs.Ports.{AreHeads, counted, first_call, port_rule, joined_rules, AreMost, FirstOf, IsOneFirst, HaveCalls};
+ghost use Rattle.lucy_types.specs.Ports.{AreHeads, counted, port_rule, joined_rules};
 
 use crate::rule::Rule;
 use crate::signature::Signature;
 use crate::ty::Ty;
 use lucy_host::DataType;
-use lucy_place::{PlaceEntry, PlaceKind};
 use std::alloc::{AllocError, Global};
-
-// The call of which a place is the first result, or 0.
-fn first_call(kind: &PlaceKind) -> u32
-    ensures { result ≡ first_call kind.now }
-{
-    match kind {
-        PlaceKind::Result(call, result) => if *result == 0 { *call } else { 0 },
-        PlaceKind::Param => 0,
-        PlaceKind::Defined(_) => 0,
-        PlaceKind::Lit(_) => 0,
-        PlaceKind::Op(_, _) => 0,
-        PlaceKind::Host(_, _, _) => 0,
-        PlaceKind::When(_, _) => 0,
-        PlaceKind::Merge(_, _, _) => 0,
-        PlaceKind::Fby(_, _) => 0,
-        PlaceKind::Buffer(_, _) => 0,
-    }
-}
-
-/// For each call the place of its first result, or 0 where it has none.
-pub(crate) fn firsts(
-    alloc: Global,
-    places: &[PlaceEntry],
-    calls: usize,
-) -> Result<Vec<u32>, AllocError>
-    requires few { length places.now < 2 ^ 32 }
-    requires calls { HaveCalls calls places.now }
-    requires once { IsOneFirst places.now }
-    ensures all { IfOk result (λ v. length v.items ≡ calls) }
-    ensures small { IfOk result (λ v. AreMost (length places.now) v.items) }
-    ensures first { IfOk result (λ v. FirstOf places.now (length places.now) v.items) }
-{
-    let mut list = vec![in alloc; 0u32; calls]?;
-    'each: for (i, entry) in places.iter().enumerate() {
-        let call = first_call(&entry.kind);
-        if call > 0 {
-            list[call as usize - 1] = i as u32 + 1;
-        }
-    }
-    Ok(list)
-}
 
 // The places of a call's arguments, and then those of so many results from the first on.
 fn call_places(

@@ -4,7 +4,7 @@ ghost use Rattle.lucy_place.specs.declared.placed.PlacedNode.{PlacedNode as Node
 ghost use Rattle.lucy_types.specs.Rules.{IsRule};
 ghost use Rattle.lucy_types.specs.Nodes.{AreSignatures, StandFor, tables_of};
 
-use crate::calls::{firsts, put_call};
+use crate::calls::put_call;
 use crate::own::put_own;
 use crate::rule::Rule;
 use crate::signature::Signature;
@@ -27,10 +27,9 @@ pub(crate) fn node_rules(
     let found = placed.node(node);
     put_own(&mut rules, found.places.list())?;
     let sites = found.calls.list();
-    let firsts = firsts(alloc, found.places.list(), sites.len())?;
-    'each: for (i, site) in sites.iter().enumerate() {
+    'each: for site in sites {
         let signature = &signatures[site.node as usize];
-        put_call(alloc, &mut rules, signature, site.args.list(), firsts[i])?;
+        put_call(alloc, &mut rules, signature, site.args.list(), site.first)?;
     }
     Ok(rules)
 }

@@ -4,7 +4,7 @@ ghost use Rattle.lucy_tree.specs.View.{tree_of, node_tree, program_tree};
 ghost use Rattle.lucy_tree.specs.Shaped.{IsShaped, IsShapedNode, IsShapedProgram};
 
 use crate::{Ty, TypeError, Typed, types};
-use lucy_host::Op;
+use lucy_host::{HostKind, Op, Ops};
 use lucy_place::{Placed, place};
 use lucy_text::Text;
 use lucy_tree::{
@@ -67,6 +67,21 @@ fn operator(alloc: Global, op: Op, one: Expr, two: Expr) -> Result<Expr, AllocEr
     })
 }
 
+// `host max (one, two)`
+fn hosted(alloc: Global, one: Expr, two: Expr) -> Result<Expr, AllocError>
+    requires one { IsShaped (tree_of one) }
+    requires two { IsShaped (tree_of two) }
+    ensures { IfOk result (λ e. IsShaped (tree_of e)) }
+{
+    let mut args = Vec::new(alloc);
+    args.push(one)?;
+    args.push(two)?;
+    Ok(Expr::Host {
+        name: name(alloc, b"max")?,
+        args: Exprs::new(args),
+    })
+}
+
 // The node `id` of the argument.
 fn id_of(alloc: Global, argument: Expr) -> Result<Expr, AllocError>
     requires { IsShaped (tree_of argument) }
@@ -119,7 +134,11 @@ fn placed(alloc: Global, right: Expr) -> Result<Placed, AllocError>
     requires { IsShaped (tree_of right) }
 {
     let program = below_id(alloc, node(alloc, b"m", right)?)?;
-    match place(alloc, &program) {
+    let mut ops = Ops::new(alloc);
+    let Ok(()) = ops.add(alloc, "max", HostKind::Max) else {
+        return Err(AllocError);
+    };
+    match place(alloc, &program, &ops) {
         Ok(placed) => Ok(placed),
         Err(_) => Err(AllocError),
     }
@@ -174,6 +193,29 @@ fn a_path_goes_through_a_call(rt: HostRuntime) -> Result<(), Fail> {
         Err(TypeError::Clash { node, path }) => {
             assert_eq!(rt; node, 1);
             assert_eq!(rt; path.as_slice(), [5u32, 4].as_slice());
+        }
+        _ => panic!(rt; "the program was not refused"),
+    }
+    Ok(())
+}
+
+#[test]
+fn an_operator_of_the_host_is_on_ints(rt: HostRuntime) -> Result<(), Fail> {
+    let alloc = rt.alloc();
+    // `y = host max (x, y)`
+    let right = hosted(alloc, read(alloc, b"x")?, read(alloc, b"y")?)?;
+    let Ok(typed) = types(alloc, &placed(alloc, right)?) else {
+        panic!(rt; "the program was refused");
+    };
+    assert_eq!(rt; ty(&typed, 1, 1), Some(Ty::Int));
+    assert_eq!(rt; ty(&typed, 1, 2), Some(Ty::Int));
+    assert_eq!(rt; ty(&typed, 1, 3), Some(Ty::Int));
+    // `y = host max (x, true)`
+    let right = hosted(alloc, read(alloc, b"x")?, literal(Lit::Bool(true)))?;
+    match types(alloc, &placed(alloc, right)?) {
+        Err(TypeError::Clash { node, path }) => {
+            assert_eq!(rt; node, 1);
+            assert_eq!(rt; path.as_slice(), [4u32].as_slice());
         }
         _ => panic!(rt; "the program was not refused"),
     }

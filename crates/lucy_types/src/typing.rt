@@ -1,9 +1,10 @@
-ghost use Rattle.std.specs.Prelude.{◌≡◌, ◌<◌, ◌∷◌, ◌++◌, [], ℕ, List, Some, length, take, slice_get, IfOk, IfErr, OnOk};
+ghost use Rattle.std.specs.Prelude.{◌≡◌, ◌<◌, ◌∷◌, ◌++◌, ◌⊎◌, [], ℕ, List, Some, Err, length, take, slice_get, IfOk, IfErr, IsOk, OnOk};
 ghost use Rattle.lucy_types.specs.declared.ty.Ty.{Ty};
 ghost use Rattle.lucy_place.specs.declared.placed.PlacedNode.{PlacedNode as Node};
+ghost use Rattle.lucy_types.specs.declared.error.TypeError.TheVariants as error;
 ghost use Rattle.lucy_types.specs.Rules.{IsRule};
 ghost use Rattle.lucy_types.specs.Nodes.{AreSignatures, Solves, tables_of};
-ghost use Rattle.lucy_types.specs.Programs.{IsTyped, IsClash, Refuses, AnswersTypes, AnswersClash};
+ghost use Rattle.lucy_types.specs.Programs.{IsTyped, HaveTypings, IsClash, Refuses, AnswersTypes, AnswersClash};
 
 use crate::error::TypeError;
 use crate::rules::node_rules;
@@ -54,13 +55,15 @@ fn found(alloc: Global, placed: &Placed) -> Result<Typed, TypeError>
     Ok(Typed { nodes })
 }
 
-/// The types of a program's places. The refusal is that of the first node whose rules no typing meets.
+/// The types of a program's places. It is refused exactly where some node has no typing, and the refusal is that of the first.
 ///
 /// A call takes the types of its callee's parameters and results as they are. What is open there is settled at each call
 /// anew.
 pub fn types(alloc: Global, placed: &Placed) -> Result<Typed, TypeError>
     ensures ok { IfOk result (λ typed. IsTyped placed.now.nodes typed) }
     ensures refused { IfErr result (λ e. Refuses placed.now.nodes e) }
+    ensures well_typed { IsOk result → HaveTypings placed.now.nodes }
+    ensures typable { HaveTypings placed.now.nodes → (result ≡ Err error.OutOfMemory) ⊎ IsOk result }
     ensures accepted { (tables : List (List Ty)) → IsTyped placed.now.nodes tables → AnswersTypes tables result }
     ensures rejected { (node : ℕ) (path : List ℕ) → IsClash placed.now.nodes node path → AnswersClash node result }
 {

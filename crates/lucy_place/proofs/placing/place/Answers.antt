@@ -1,9 +1,12 @@
-use Rattle.std.proofs.Common.{◌≡◌, ◌+◌, ◌∷◌, ◌++◌, ◌≤◌, [], length, map, take, drop, ap, sym, ◌∙◌, subst, arith, if◌then◌else◌}
+use Rattle.std.proofs.Common.{◌≡◌, ◌+◌, ◌∷◌, ◌++◌, ◌<◌, ◌≤◌, [], length, map, take, drop, ap, sym, ◌∙◌, subst, arith, if◌then◌else◌}
 use Rattle.std.proofs.lemmas.List.{drop_all, map-append, length-map}
 use Rattle.lucy_tree.specs.Shaped.{IsShapedProgram}
 use Rattle.lucy_tree.specs.View.{NodeTree, ProgramTree, node_tree, program_tree}
 use Rattle.lucy_place.specs.Texts.{is_in}
 use Rattle.lucy_place.specs.Faults.{faults}
+use Rattle.lucy_word.specs.Limits.{limit_number}
+use Rattle.lucy_word.specs.declared.limit.Limit.TheVariants as limit
+use Rattle.lucy_place.specs.Proper.{HaveOperators}
 use Rattle.lucy_place.specs.Placing.{Tells}
 use Rattle.lucy_place.proofs.ListLaws.{drop_next, take_next}
 use Rattle.lucy_place.proofs.VerdictLaws.{leaves, accepted_by, rejected_by, out_of}
@@ -13,27 +16,27 @@ use Rattle.lucy_place.proofs.placing.place.Goals as goal
 
 pub returns-in_err-next_node-clause-refused : goal.returns-in_err-next_node-clause-refused
 returns-in_err-next_node-clause-refused c =
-    let told : Tells (faults (program_tree c.args.program.now)) c.in_err-next_node.field-0.0 =
-    subst (λ ns. Tells (faults (map node_tree ns)) c.in_err-next_node.field-0.0) c.list-nodes.ensures
-    (told_at c.list-nodes.result.now c.each.i c.index-nodes-i.result c.each.scope c.each.list.items c.each.spans.items c.in_err-next_node.field-0.0 (omega arith) c.index-nodes-i.is c.each.invariant
+    let told : Tells (faults c.args.ops.now (program_tree c.args.program.now)) c.in_err-next_node.field-0.0 =
+    subst (λ ns. Tells (faults c.args.ops.now (map node_tree ns)) c.in_err-next_node.field-0.0) c.list-nodes.ensures
+    (told_at c.args.ops.now c.list-nodes.result.now c.each.i c.index-nodes-i.result c.each.scope c.each.list.items c.each.spans.items c.in_err-next_node.field-0.0 (omega arith) c.index-nodes-i.is c.each.invariant
     c.in_err-next_node.ensures.refused) in
-    leaves (Tells (faults (program_tree c.args.program.now))) _ c.in_err-next_node.field-0.0 c.from_residual.result c.from_residual.ensures.1 told (λ y h. h)
+    leaves (Tells (faults c.args.ops.now (program_tree c.args.program.now))) _ c.in_err-next_node.field-0.0 c.from_residual.result c.from_residual.ensures.1 told (λ y h. h)
 
 pub returns-in_err-next_node-clause-accepted : goal.returns-in_err-next_node-clause-accepted
 returns-in_err-next_node-clause-accepted c =
-    let told : Tells (faults (program_tree c.args.program.now)) c.in_err-next_node.field-0.0 =
-    subst (λ ns. Tells (faults (map node_tree ns)) c.in_err-next_node.field-0.0) c.list-nodes.ensures
-    (told_at c.list-nodes.result.now c.each.i c.index-nodes-i.result c.each.scope c.each.list.items c.each.spans.items c.in_err-next_node.field-0.0 (omega arith) c.index-nodes-i.is c.each.invariant
+    let told : Tells (faults c.args.ops.now (program_tree c.args.program.now)) c.in_err-next_node.field-0.0 =
+    subst (λ ns. Tells (faults c.args.ops.now (map node_tree ns)) c.in_err-next_node.field-0.0) c.list-nodes.ensures
+    (told_at c.args.ops.now c.list-nodes.result.now c.each.i c.index-nodes-i.result c.each.scope c.each.list.items c.each.spans.items c.in_err-next_node.field-0.0 (omega arith) c.index-nodes-i.is c.each.invariant
     c.in_err-next_node.ensures.refused) in
-    accepted_by (faults (program_tree c.args.program.now)) c.from_residual.result c.in_err-next_node.field-0.0 (out_of c.from_residual.result _ c.from_residual.ensures.1) told
+    accepted_by (faults c.args.ops.now (program_tree c.args.program.now)) c.from_residual.result c.in_err-next_node.field-0.0 (out_of c.from_residual.result _ c.from_residual.ensures.1) told
 
 pub returns-in_err-next_node-clause-rejected : goal.returns-in_err-next_node-clause-rejected
 returns-in_err-next_node-clause-rejected c =
-    let told : Tells (faults (program_tree c.args.program.now)) c.in_err-next_node.field-0.0 =
-    subst (λ ns. Tells (faults (map node_tree ns)) c.in_err-next_node.field-0.0) c.list-nodes.ensures
-    (told_at c.list-nodes.result.now c.each.i c.index-nodes-i.result c.each.scope c.each.list.items c.each.spans.items c.in_err-next_node.field-0.0 (omega arith) c.index-nodes-i.is c.each.invariant
+    let told : Tells (faults c.args.ops.now (program_tree c.args.program.now)) c.in_err-next_node.field-0.0 =
+    subst (λ ns. Tells (faults c.args.ops.now (map node_tree ns)) c.in_err-next_node.field-0.0) c.list-nodes.ensures
+    (told_at c.args.ops.now c.list-nodes.result.now c.each.i c.index-nodes-i.result c.each.scope c.each.list.items c.each.spans.items c.in_err-next_node.field-0.0 (omega arith) c.index-nodes-i.is c.each.invariant
     c.in_err-next_node.ensures.refused) in
-    rejected_by (faults (program_tree c.args.program.now)) c.from_residual.result c.in_err-next_node.field-0.0 (out_of c.from_residual.result _ c.from_residual.ensures.1) told
+    rejected_by (faults c.args.ops.now (program_tree c.args.program.now)) c.from_residual.result c.in_err-next_node.field-0.0 (out_of c.from_residual.result _ c.from_residual.ensures.1) told
 
 pub next_node-requires-clause-shaped : goal.next_node-requires-clause-shaped
 next_node-requires-clause-shaped c =
@@ -49,9 +52,9 @@ each-preserved c =
     let e : map node_tree (drop i nodes) ≡ n ∷ rest = ap (map node_tree) (drop_next nodes i c.index-nodes-i.result (omega arith) c.index-nodes-i.is) in
     let f : map node_tree (take (i + 1) nodes) ≡ map node_tree (take i nodes) ++ n ∷ [] =
     ap (map node_tree) (take_next nodes i c.index-nodes-i.result (omega arith) c.index-nodes-i.is) ∙ map-append node_tree (take i nodes) (c.index-nodes-i.result ∷ []) in
-    placed_step (map node_tree nodes) (map node_tree (take i nodes)) rest (map node_tree (take (i + 1) nodes)) n c.each.scope c.add.new.self c.each.list.items c.push.new.list.items c.in_ok-next_node.field-0
+    placed_step c.args.ops.now (map node_tree nodes) (map node_tree (take i nodes)) rest (map node_tree (take (i + 1) nodes)) n c.each.scope c.add.new.self c.each.list.items c.push.new.list.items c.in_ok-next_node.field-0
     c.each.spans.items c.push-in-each.new.list.items c.first_unwritten.result
-    (subst (λ r. NodesPlaced (map node_tree nodes) (map node_tree (take i nodes)) r c.each.scope c.each.list.items c.each.spans.items) e c.each.invariant)
+    (subst (λ r. NodesPlaced c.args.ops.now (map node_tree nodes) (map node_tree (take i nodes)) r c.each.scope c.each.list.items c.each.spans.items) e c.each.invariant)
     f c.in_ok-next_node.ensures.ok.0 c.in_ok-next_node.ensures.ok.1 c.first_unwritten.ensures
     (c.in_ok-add.ensures.names ∙ ap (λ t. if is_in c.each.scope t then c.each.scope else c.each.scope ++ t ∷ []) c.bytes.ensures) c.in_ok-push.ensures.ok c.in_ok-push-2.ensures.ok
 
@@ -59,13 +62,21 @@ pub invariant_of-result : goal.invariant_of-result
 invariant_of-result c =
     let nodes = c.list-nodes.result.now in
     let i = c.each.i in
-    let inv = subst (λ r. NodesPlaced (map node_tree nodes) (map node_tree (take i nodes)) r c.each.scope c.each.list.items c.each.spans.items)
+    let inv = subst (λ r. NodesPlaced c.args.ops.now (map node_tree nodes) (map node_tree (take i nodes)) r c.each.scope c.each.list.items c.each.spans.items)
     (ap (map node_tree) (drop_all i nodes c.each-test.false)) c.each.invariant in
-    let l = placed_length (map node_tree nodes) (map node_tree (take i nodes)) c.each.scope c.each.list.items c.each.spans.items inv in
+    let l = placed_length c.args.ops.now (map node_tree nodes) (map node_tree (take i nodes)) c.each.scope c.each.list.items c.each.spans.items inv in
     let m = length-map nodes node_tree in
     let same : length nodes ≡ length c.args.program.now.nodes = ap length c.list-nodes.ensures in
-    let few : length (program_tree c.args.program.now) ≤ 256 = c.requires.shaped.few in
+    let few : length (program_tree c.args.program.now) ≤ limit_number limit.Nodes = c.requires.shaped.few in
+    let some : 0 < length (program_tree c.args.program.now) = c.requires.shaped.some in
     let k = length-map c.args.program.now.nodes node_tree in
     let shape = subst (λ ns. IsShapedProgram (map node_tree ns)) (sym c.list-nodes.ensures) c.requires.shaped in
-    let sound = placed_sound (map node_tree nodes) (map node_tree (take i nodes)) c.each.scope c.each.list.items c.each.spans.items inv shape in
-    (omega (arith, l.0, l.1), omega (arith, l.0, m, few, same, k), sound.0, sound.1)
+    let sound = placed_sound c.args.ops.now (map node_tree nodes) (map node_tree (take i nodes)) c.each.scope c.each.list.items c.each.spans.items inv shape in (
+      omega (arith, l.0, l.1),
+      omega (arith, l.0, m, some, same, k),
+      omega (arith, l.0, m, few, same, k),
+      omega (arith, l.0, m, few, same, k),
+      sound.0,
+      sound.1,
+      subst (λ most. HaveOperators most c.each.list.items) (sym c.count.ensures) sound.2,
+    )

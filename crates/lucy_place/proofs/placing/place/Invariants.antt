@@ -4,4 +4,4 @@ use Rattle.lucy_place.proofs.ProgramLaws.{NodesPlaced}
 use Rattle.lucy_place.proofs.placing.place.Given as goal
 
 abbrev pub invariant-each : goal.invariant-each
-invariant-each l = NodesPlaced (map node_tree l.nodes) (map node_tree (take l.i l.nodes)) (map node_tree (drop l.i l.nodes)) l.scope l.list.items l.spans.items
+invariant-each l = NodesPlaced l.ops (map node_tree l.nodes) (map node_tree (take l.i l.nodes)) (map node_tree (drop l.i l.nodes)) l.scope l.list.items l.spans.items

@@ -17,7 +17,7 @@ one_node : (ns : List Node) (n : Node) (d : Def) → ns ≡ n ∷ [] → n.defs 
 one_node ns n d nodes defs left right =
     let def : IsShapedDef (def_tree d) = record { right = right; defines = defines_one d.left (tree_of d.right) left } in
     subst (λ l. IsShapedProgram (map node_tree l)) (sym nodes)
-    (record { nodes = (subst (λ l. AllByRecursion IsShapedDef (map def_tree l)) (sym defs) (def, tt), tt); few = omega arith })
+    (record { nodes = (subst (λ l. AllByRecursion IsShapedDef (map def_tree l)) (sym defs) (def, tt), tt); some = omega arith; few = omega arith })
 
 pub returns : goal.returns
 returns c =

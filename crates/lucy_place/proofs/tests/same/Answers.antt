@@ -7,7 +7,7 @@ use Rattle.lucy_place.proofs.tests.same.Goals as goal
 
 one_node : (ns : List Node) (n : Node) → ns ≡ n ∷ [] → n.defs ≡ [] → IsShapedProgram (map node_tree ns)
 one_node ns n nodes defs =
-    subst (λ l. IsShapedProgram (map node_tree l)) (sym nodes) (record { nodes = (subst (λ l. AllByRecursion IsShapedDef (map def_tree l)) (sym defs) tt, tt); few = omega arith })
+    subst (λ l. IsShapedProgram (map node_tree l)) (sym nodes) (record { nodes = (subst (λ l. AllByRecursion IsShapedDef (map def_tree l)) (sym defs) tt, tt); some = omega arith; few = omega arith })
 
 pub returns : goal.returns
 returns c =

@@ -6,4 +6,4 @@ use Rattle.lucy_types.proofs.RuleLaws.{GatheredUpto}
 use Rattle.lucy_types.proofs.rules.node_rules.Given as goal
 
 abbrev pub invariant-each : goal.invariant-each
-invariant-each l = (n : PlacedNode) → slice_get l.placed.nodes l.node ≡ Some n → GatheredUpto (take l.node l.placed.nodes) (tables_of l.signatures) n l.i l.rules.items
+invariant-each l = (n : PlacedNode) → slice_get l.placed.nodes l.node ≡ Some n → GatheredUpto (take l.node l.placed.nodes) (tables_of l.signatures) n l.site-index l.rules.items

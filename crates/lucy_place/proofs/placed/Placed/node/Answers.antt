@@ -9,4 +9,4 @@ returns-clause-proper c =
     let e : nodes ≡ c.args.self.now.nodes = ap (λ v. v.nodes) c.self.view_is in
     let within : c.args.node < length nodes = omega (arith, c.requires, ap length e) in
     let at : slice_get nodes c.args.node ≡ Some c.index.result.now = slice_get_read nodes (length nodes) c.args.node c.index.result.now refl within c.index.ensures in
-    subst (λ ns. IsProperNode (take c.args.node ns) c.index.result.now) e (c.self.invariant.2 c.args.node c.index.result.now at)
+    subst (λ ns. IsProperNode (take c.args.node ns) c.index.result.now) e (c.self.invariant.4 c.args.node c.index.result.now at)

@@ -10,7 +10,7 @@ use Rattle.lucy_place.specs.declared.entry.PlaceKind.TheVariants as kind
 use Rattle.lucy_place.specs.declared.placed.PlacedNode.{PlacedNode}
 use Rattle.lucy_place.specs.Texts.{place_in}
 use Rattle.lucy_place.specs.Streams.{node_names}
-use Rattle.lucy_place.specs.Forms.{Head, Literal, Operator, Host, Sampled, Merged, Followed, Buffered, Called}
+use Rattle.lucy_place.specs.Phrases.{Head, Literal, Applied, Host, Sampled, Merged, Followed, Buffered, Called}
 use Rattle.lucy_place.specs.Faults.{Within, unless, callee_faults, head_faults}
 use Rattle.lucy_place.specs.Numbering.{Next, own_entries, unnamed, results_from}
 use Rattle.lucy_place.specs.Proper.{at_one, IsPlace, ArePlaces}
@@ -57,7 +57,7 @@ site_at cs zero x h = cc
 site_at cs (suc i) x h = slice_get-map site cs i ∙ ap (option_map site) h
 
 module _ (w : Within) (above : List PlacedNode) (n : PlacedNode) (cs : List Call) (set : Setting w above n cs) where
-  results_good : (from c first m : ℕ) (x : Call) → n.params < from → at_one cs c ≡ Some x → from ≡ x.first + first → first + m ≤ x.results →
+  results_good : (from c first m : ℕ) (x : Call) → n.params < from → at_one cs c ≡ Some x → from ≡ x.site.first + first → first + m ≤ x.results →
       Each (GoodPlace n cs) from (results_from c first m)
   results_good from c first zero x low at e few = tt
   results_good from c first (suc m) x low at e few = (
@@ -71,23 +71,30 @@ module _ (w : Within) (above : List PlacedNode) (n : PlacedNode) (cs : List Call
 
   pub record OwnGood (at : Next) (r : ℕ) (h : Head) (args : List ℕ) : Type 0 where
     pub first : IsPlace n at.place
-    pub good : Good above n cs at (own_entries at r h args) (own_made (known_of w) at r h args)
+    pub good : Good above n cs at (own_entries (known_of w) at r h args) (own_made (known_of w) at r h args)
 
   called_first : (at : Next) (r : ℕ) → 1 ≤ r → Each (λ p e. at_one n.places p ≡ Some e) at.place (results_from at.call 0 r) → IsPlace n at.place
   called_first at zero some h = absurd (omega arith)
   called_first at (suc r) some h = is_place n at.place (unnamed (kind.Result at.call 0)) h.0
 
   pub own_good : (at : Next) (r : ℕ) (h : Head) (args : List ℕ) → 1 ≤ r → n.params < at.place → Takes h (length args) → ArePlaces n args → head_faults w r (length args) h ≡ [] →
-      Lies n cs at (own_entries at r h args) (own_made (known_of w) at r h args) → OwnGood at r h args
+      Lies n cs at (own_entries (known_of w) at r h args) (own_made (known_of w) at r h args) → OwnGood at r h args
   own_good at r (Literal l) args some low takes places none lies = record {
     first = is_place n at.place _ lies.places.0;
     good = record { places = (record { label = (refl, refl, refl); kind = low; result = tt }, tt); buffers = tt; calls = tt };
   }
-  own_good at r (Operator o) args some low takes places none lies = record {
+  own_good at r (Applied o) args some low takes places none lies = record {
     first = is_place n at.place _ lies.places.0;
     good = record { places = (record { label = (refl, refl, refl); kind = (low, takes, places); result = tt }, tt); buffers = tt; calls = tt };
   }
-  own_good at r (Host function) args some low takes places none lies = cc
+  own_good at r (Host function) args some low takes places none lies = record {
+    first = is_place n at.place _ lies.places.0;
+    good = record {
+      places = (record { label = (refl, refl, refl); kind = (low, first_place n args (omega (arith, takes)) places, second_place n args (omega (arith, takes)) places); result = tt }, tt);
+      buffers = tt;
+      calls = tt;
+    };
+  }
   own_good at r (Sampled flip w) args some low takes places none lies = record {
     first = is_place n at.place _ lies.places.0;
     good = record { places = (record { label = (refl, refl, refl); kind = (low, first_place n args (omega (arith, takes.0)) places); result = tt }, tt); buffers = tt; calls = tt };
@@ -113,7 +120,7 @@ module _ (w : Within) (above : List PlacedNode) (n : PlacedNode) (cs : List Call
     };
   }
   own_good at r (Called callee_name base) args some low takes places none lies =
-      let x : Call = record { site = record { node = place_in (node_names w.above) callee_name.text; at = base; args = args }; first = at.place; results = r } in
+      let x : Call = record { site = record { node = place_in (node_names w.above) callee_name.text; at = base; first = at.place; args = args }; results = r } in
       let good = callee_good w.all callee_name (length args) r (slice_get w.above (place_in (node_names w.above) callee_name.text)) none in
       let callee : Callee above (place_in (node_names w.above) callee_name.text) good.0 = set.callees (place_in (node_names w.above) callee_name.text) good.0 good.1 in
       record {
@@ -128,6 +135,7 @@ module _ (w : Within) (above : List PlacedNode) (n : PlacedNode) (cs : List Call
               arguments = sym good.2 ∙ sym callee.params;
               places = places;
               count = sym good.3 ∙ sym callee.results;
+              some = omega (arith, some);
               results = λ j h. (
                 unnamed (kind.Result at.call (0 + j)),
                 each_at (λ p e. at_one n.places p ≡ Some e) at.place (results_from at.call 0 r) j (at.place + j) (unnamed (kind.Result at.call (0 + j))) refl (slice_results at.call 0 r j h) lies.places,

@@ -8,18 +8,18 @@ use Rattle.lucy_place.specs.declared.entry.PlaceKind.{PlaceKind}
 use Rattle.lucy_place.specs.declared.entry.PlaceKind.TheVariants as kind
 use Rattle.lucy_place.specs.declared.placed.PlacedNode.{PlacedNode}
 use Rattle.lucy_place.specs.Texts.{is_in}
-use Rattle.lucy_place.specs.Forms.{Head, Literal, Operator, Host, Sampled, Merged, Followed, Buffered, Called, Form, Forms, name, form, none, and, count}
-use Rattle.lucy_place.specs.Faults.{Within, head_faults, form_faults, forms_faults}
-use Rattle.lucy_place.specs.Written.{lacking, unnamed_spans, own_spans, form_spans, forms_spans}
+use Rattle.lucy_place.specs.Phrases.{Head, Literal, Applied, Host, Sampled, Merged, Followed, Buffered, Called, Phrase, Phrases, name, headed, none, and, count}
+use Rattle.lucy_place.specs.Faults.{Within, head_faults, phrase_faults, phrases_faults}
+use Rattle.lucy_place.specs.Written.{lacking, unnamed_spans, own_spans, phrase_spans, phrases_spans}
 use Rattle.lucy_place.specs.Numbering.{Next, Known, past, inside, numbers, entries, all_entries, own_entries, results_from, stream_place}
 use Rattle.lucy_place.specs.Proper.{IsNamed, AreNamed}
 use Rattle.lucy_place.proofs.EachLaws.{Each}
 use Rattle.lucy_place.proofs.Spread.{Call, Spread, Reaches, spread_join}
-use Rattle.lucy_place.proofs.CallLaws.{made, all_made, own_made, reaches_own, reaches_form}
+use Rattle.lucy_place.proofs.CallLaws.{made, all_made, own_made, reaches_own, reaches_phrase}
 use Rattle.lucy_place.proofs.ShapeLaws.{Takes, HasShape, HaveShape, count_numbers}
 use Rattle.lucy_place.proofs.VerdictLaws.{none_front, none_back}
 use Rattle.lucy_place.proofs.Good.{known_of}
-use Rattle.lucy_place.proofs.OwnForms.{unless_holds}
+use Rattle.lucy_place.proofs.OwnPlaces.{unless_holds}
 
 -- no spans of the one, none of the other
 pub no_spans : {xs ys : List Span} → xs ≡ [] → ys ≡ [] → xs ++ ys ≡ []
@@ -87,16 +87,16 @@ module _ (w : Within) (n : PlacedNode) (known : (t : List ℕ) → is_in w.strea
   k = known_of w
 
   -- where no operand is to have a name and hasn't
-  names_written : (at : Next) (fs : Forms) → forms_faults w fs ≡ [] → unnamed_spans fs ≡ [] → AreNamed n (numbers k at fs)
+  names_written : (at : Next) (fs : Phrases) → phrases_faults w fs ≡ [] → unnamed_spans fs ≡ [] → AreNamed n (numbers k at fs)
   names_written at none good h = tt
   names_written at (and (name t) fs) good h =
-      (known t.text (unless_holds _ _ (none_front (form_faults w 1 (name t)) (forms_faults w fs) good)), names_written (past at 1 (name t)) fs (none_back (form_faults w 1 (name t)) (forms_faults w fs) good) h)
-  names_written at (and (form h0 span gs) fs) good h = cc
+      (known t.text (unless_holds _ _ (none_front (phrase_faults w 1 (name t)) (phrases_faults w fs) good)), names_written (past at 1 (name t)) fs (none_back (phrase_faults w 1 (name t)) (phrases_faults w fs) good) h)
+  names_written at (and (headed h0 span gs) fs) good h = cc
 
-  own_written : (at : Next) (r : ℕ) (h : Head) (args : List ℕ) (fs : Forms) → Takes h (length args) → (unnamed_spans fs ≡ [] → AreNamed n args) → own_spans h fs ≡ [] →
-      AllWritten n at (own_entries at r h args) (own_made k at r h args)
+  own_written : (at : Next) (r : ℕ) (h : Head) (args : List ℕ) (fs : Phrases) → Takes h (length args) → (unnamed_spans fs ≡ [] → AreNamed n args) → own_spans h fs ≡ [] →
+      AllWritten n at (own_entries k at r h args) (own_made k at r h args)
   own_written at r (Literal l) args fs takes named h = record { places = (record { word = λ name g. cc; operand = tt }, tt); buffers = tt; calls = tt }
-  own_written at r (Operator o) args fs takes named h = record { places = (record { word = λ name g. cc; operand = tt }, tt); buffers = tt; calls = tt }
+  own_written at r (Applied o) args fs takes named h = record { places = (record { word = λ name g. cc; operand = tt }, tt); buffers = tt; calls = tt }
   own_written at r (Host f) args fs takes named h = record { places = (record { word = λ name g. cc; operand = tt }, tt); buffers = tt; calls = tt }
   own_written at r (Sampled flip p) args fs takes named h = record { places = (record { word = λ name g. cc; operand = first_named n args takes.0 (named h) }, tt); buffers = tt; calls = tt }
   own_written at r (Merged p) args fs takes named h = record { places = (record { word = λ name g. cc; operand = tt }, tt); buffers = tt; calls = tt }
@@ -109,21 +109,21 @@ module _ (w : Within) (n : PlacedNode) (known : (t : List ℕ) → is_in w.strea
   }
 
   mutual
-    pub form_written : (at : Next) (r : ℕ) (f : Form) → HasShape f → form_faults w r f ≡ [] → form_spans f ≡ [] → AllWritten n at (entries k at r f) (made k at r f)
-    form_written at r (name t) shape good spans = record { places = tt; buffers = tt; calls = tt }
-    form_written at r (form h span fs) shape good spans =
+    pub phrase_written : (at : Next) (r : ℕ) (f : Phrase) → HasShape f → phrase_faults w r f ≡ [] → phrase_spans f ≡ [] → AllWritten n at (entries k at r f) (made k at r f)
+    phrase_written at r (name t) shape good spans = record { places = tt; buffers = tt; calls = tt }
+    phrase_written at r (headed h span fs) shape good spans =
         let in_ : Next = inside at r h in
         let args : List ℕ = numbers k in_ fs in
         let same : count fs ≡ length args = count_numbers k in_ fs in
-        let rest_good = none_back (head_faults w r (count fs) h) (forms_faults w fs) good in
-        written_join n at in_ (own_entries at r h args) (all_entries k in_ fs) (own_made k at r h args) (all_made k in_ fs) (reaches_own k at r h args)
-        (own_written at r h args fs (subst (Takes h) same shape.0) (names_written in_ fs rest_good) (spans_front (own_spans h fs) (forms_spans fs) spans))
-        (all_written in_ fs shape.1 rest_good (spans_back (own_spans h fs) (forms_spans fs) spans))
+        let rest_good = none_back (head_faults w r (count fs) h) (phrases_faults w fs) good in
+        written_join n at in_ (own_entries k at r h args) (all_entries k in_ fs) (own_made k at r h args) (all_made k in_ fs) (reaches_own k at r h args)
+        (own_written at r h args fs (subst (Takes h) same shape.0) (names_written in_ fs rest_good) (spans_front (own_spans h fs) (phrases_spans fs) spans))
+        (all_written in_ fs shape.1 rest_good (spans_back (own_spans h fs) (phrases_spans fs) spans))
 
-    all_written : (at : Next) (fs : Forms) → HaveShape fs → forms_faults w fs ≡ [] → forms_spans fs ≡ [] → AllWritten n at (all_entries k at fs) (all_made k at fs)
+    all_written : (at : Next) (fs : Phrases) → HaveShape fs → phrases_faults w fs ≡ [] → phrases_spans fs ≡ [] → AllWritten n at (all_entries k at fs) (all_made k at fs)
     all_written at none shape good spans = record { places = tt; buffers = tt; calls = tt }
     all_written at (and f fs) shape good spans =
         let next : Next = past at 1 f in
-        written_join n at next (entries k at 1 f) (all_entries k next fs) (made k at 1 f) (all_made k next fs) (reaches_form k at 1 f)
-        (form_written at 1 f shape.0 (none_front (form_faults w 1 f) (forms_faults w fs) good) (spans_front (form_spans f) (forms_spans fs) spans))
-        (all_written next fs shape.1 (none_back (form_faults w 1 f) (forms_faults w fs) good) (spans_back (form_spans f) (forms_spans fs) spans))
+        written_join n at next (entries k at 1 f) (all_entries k next fs) (made k at 1 f) (all_made k next fs) (reaches_phrase k at 1 f)
+        (phrase_written at 1 f shape.0 (none_front (phrase_faults w 1 f) (phrases_faults w fs) good) (spans_front (phrase_spans f) (phrases_spans fs) spans))
+        (all_written next fs shape.1 (none_back (phrase_faults w 1 f) (phrases_faults w fs) good) (spans_back (phrase_spans f) (phrases_spans fs) spans))

@@ -1,0 +1,40 @@
+-- What stands at the numbers of a placed node. Places, buffers and calls count from 1.
+use Rattle.std.specs.Prelude.{ℕ, zero, suc, ◌≡◌, ◌≤◌, List, Option, Some, None, length, slice_get}
+use Rattle.std.specs.List.{AllByRecursion}
+use Rattle.lucy_tree.specs.declared.span.Name.{Name}
+use Rattle.lucy_place.specs.declared.entry.PlaceEntry.{PlaceEntry}
+use Rattle.lucy_place.specs.declared.entry.PlaceKind.{PlaceKind}
+use Rattle.lucy_place.specs.declared.placed.PlacedNode.{PlacedNode}
+
+-- the entry of a number that counts from 1, where there is one
+abbrev pub at_one : {A : Type 0} → List A → ℕ → Option A
+at_one xs zero = None
+at_one xs (suc n) = slice_get xs n
+
+-- there is a place of this number, and this stands there
+abbrev pub Stands : PlacedNode → ℕ → PlaceKind → Type 0
+Stands n p kind = (entry : PlaceEntry) × (at_one n.places p ≡ Some entry) × (entry.kind ≡ kind)
+
+-- there is a place of this number
+abbrev pub IsPlace : PlacedNode → ℕ → Type 0
+IsPlace n p = (1 ≤ p) × (p ≤ length n.places)
+
+abbrev pub ArePlaces : PlacedNode → List ℕ → Type 0
+ArePlaces n ps = AllByRecursion (IsPlace n) ps
+
+-- there is a place of this number, and it has a name
+abbrev pub IsNamed : PlacedNode → ℕ → Type 0
+IsNamed n p = (entry : PlaceEntry) × (name : Name) × (at_one n.places p ≡ Some entry) × (entry.name ≡ Some name)
+
+abbrev pub AreNamed : PlacedNode → List ℕ → Type 0
+AreNamed n ps = AllByRecursion (IsNamed n) ps
+
+-- there is a place of this number, and it has no name
+abbrev pub IsUnnamed : PlacedNode → ℕ → Type 0
+IsUnnamed n p = (entry : PlaceEntry) × (at_one n.places p ≡ Some entry) × (entry.name ≡ None)
+
+-- places with one name are one place
+abbrev pub AreDistinct : PlacedNode → Type 0
+AreDistinct n =
+    (p q : ℕ) (entry other : PlaceEntry) (name twin : Name) → at_one n.places p ≡ Some entry → at_one n.places q ≡ Some other
+    → entry.name ≡ Some name → other.name ≡ Some twin → name.text ≡ twin.text → p ≡ q
