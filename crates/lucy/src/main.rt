@@ -1,7 +1,9 @@
-//! The program: it hands the words, the files and the standard streams to the call that does all the work.
+//! The program: it hands the words, the files, the standard streams and the operators that it lends to the call that does all
+//! the work.
 #![tactic(auto)]
 
-use lucy_app::lucy;
+use lucy_app::{lucy, program_operators};
+use lucy_host::Host;
 use lucy_text::{RealShelf, RealSink, RealSource};
 use std::alloc::Global;
 use std::env::{self, Env};
@@ -17,20 +19,32 @@ fn words_of(rt: &(impl Env + AllocGlobal), alloc: Global) -> io::Result<Vec<Stri
     Ok(words)
 }
 
+// Says that memory ran out.
+fn out_of_memory(rt: &impl Eprint) -> ExitCode {
+    let _ = eprintln!(rt; "lucy: out of memory");
+    ExitCode::from(7)
+}
+
 fn main(rt: HostRuntime) -> ExitCode {
     let alloc = rt.alloc();
-    let mut shelf = RealShelf::new(&rt);
-    let mut input = RealSource::new(rt.stdin());
-    let mut out = RealSink::new(rt.stdout());
-    let mut err = RealSink::new(rt.stderr());
-    let status = match words_of(&rt, alloc) {
-        Ok(words) => lucy(alloc, &words, &mut shelf, &mut input, &mut out, &mut err),
-        Err(error) if error.kind() == ErrorKind::OutOfMemory => {
-            let _ = eprintln!(rt; "lucy: out of memory");
-            7
-        }
+    let words = match words_of(&rt, alloc) {
+        Ok(words) => words,
+        Err(error) if error.kind() == ErrorKind::OutOfMemory => return out_of_memory(&rt),
         // A word that is no text fits no command.
-        Err(_) => lucy(alloc, &[], &mut shelf, &mut input, &mut out, &mut err),
+        Err(_) => Vec::new(alloc),
     };
+    let (Ok(ops), Ok(kinds)) = (program_operators(alloc), program_operators(alloc)) else {
+        return out_of_memory(&rt);
+    };
+    let host = Host::new(ops, |op: u32, a: i64, b: i64| kinds.value(op, a, b));
+    let status = lucy(
+        alloc,
+        &words,
+        &mut RealShelf::new(&rt),
+        &mut RealSource::new(rt.stdin()),
+        &mut RealSink::new(rt.stdout()),
+        &mut RealSink::new(rt.stderr()),
+        &host,
+    );
     ExitCode::from(status)
 }

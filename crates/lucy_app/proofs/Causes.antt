@@ -7,26 +7,29 @@ use Rattle.lucy_word.specs.declared.error.WordError.TheVariants as word
 use Rattle.lucy_word.specs.declared.limit.Limit.TheVariants as limit
 use Rattle.lucy_word.proofs.SpellingLaws.{reads_one}
 use Rattle.lucy_app.specs.Fields.{fields}
-use Rattle.lucy_app.specs.Order.{IsPair, RefusesWord, RefusesFields, IsRefused}
-use Rattle.lucy_app.specs.declared.refusal.Cause.{Cause}
-use Rattle.lucy_app.specs.declared.refusal.Cause.TheVariants.{BadWord, NoOne, Limit}
+use Rattle.lucy_order.specs.declared.verdict.Verdict.{Verdict}
+use Rattle.lucy_order.specs.Verdicts.{IsVerdict}
+use Rattle.lucy_order.proofs.OneVerdict.{one_verdict}
+use Rattle.lucy_app.specs.Order.{IsPair, IsVerdictLine, verdict_line, RefusesWord, RefusesFields}
+use Rattle.lucy_app.specs.declared.input_refusal.InputCause.{InputCause}
+use Rattle.lucy_app.specs.declared.input_refusal.InputCause.TheVariants.{Count, BadWord, NoOne, Limit}
 
 -- the cause of a field that is read with this error
-word_cause : ℕ → WordError → Cause
+word_cause : ℕ → WordError → InputCause
 word_cause number (word.BadWord place) = BadWord number place
 word_cause number word.NoOne = NoOne number
 word_cause number e = Limit limit.Written
 
 -- a field that is refused is read with an error that gives the cause
-told : (number : ℕ) (text : List ℕ) (cause : Cause) → RefusesWord number text cause → (e : WordError) × Refuses text e × (cause ≡ word_cause number e)
+told : (number : ℕ) (text : List ℕ) (cause : InputCause) → RefusesWord number text cause → (e : WordError) × Refuses text e × (cause ≡ word_cause number e)
 unfolding word_cause
 told number text (BadWord which place) is = (word.BadWord place, is.1, ap (λ n. BadWord n place) is.0)
 told number text (NoOne which) is = (word.NoOne, is.1, ap NoOne is.0)
 told number text (Limit passed) is = (word.TooLong, is.1, ap Limit is.0)
-told number text cause is = absurd is
+told number text (Count count) is = absurd is
 
 -- a field that is refused is no word
-pub readable_is_not_refused : (number : ℕ) (text : List ℕ) (a : Bits) (cause : Cause) → IsReadable text a → RefusesWord number text cause → ⊥
+pub readable_is_not_refused : (number : ℕ) (text : List ℕ) (a : Bits) (cause : InputCause) → IsReadable text a → RefusesWord number text cause → ⊥
 readable_is_not_refused number text a cause is not =
     let t = told number text cause not in
     let same = reads_one text (Ok a) (Err t.0) is t.1 in cc
@@ -35,7 +38,7 @@ one_error : (text : List ℕ) (e f : WordError) → Refuses text e → Refuses t
 one_error text e f is other = let same : ◌≡◌ {A = Result Bits WordError} (Err e) (Err f) = reads_one text (Err e) (Err f) is other in cc
 
 -- a field is refused for one cause
-pub one_cause_of_a_word : (number : ℕ) (text : List ℕ) (c d : Cause) → RefusesWord number text c → RefusesWord number text d → c ≡ d
+pub one_cause_of_a_word : (number : ℕ) (text : List ℕ) (c d : InputCause) → RefusesWord number text c → RefusesWord number text d → c ≡ d
 one_cause_of_a_word number text c d is other =
     let s = told number text c is in
     let t = told number text d other in
@@ -48,7 +51,7 @@ same_second : (texts : List (List ℕ)) (u v x y : List ℕ) → texts ≡ u ∷
 same_second texts u v x y h k = cc
 
 -- fields are refused for one cause
-one_cause_of_fields : (texts : List (List ℕ)) (c d : Cause) → RefusesFields texts c → RefusesFields texts d → c ≡ d
+pub one_cause_of_fields : (texts : List (List ℕ)) (c d : InputCause) → RefusesFields texts c → RefusesFields texts d → c ≡ d
 one_cause_of_fields texts c d (inl h) (inl k) = h.1 ∙ sym k.1
 one_cause_of_fields texts c d (inl h) (inr (inl k)) = absurd (h.0 (ap length k.2))
 one_cause_of_fields texts c d (inl h) (inr (inr k)) = absurd (h.0 (ap length k.3))
@@ -67,15 +70,8 @@ one_cause_of_fields texts c d (inr (inr h)) (inr (inr k)) =
     let P : List ℕ → Type 0 = λ u. RefusesWord 2 u d in
     one_cause_of_a_word 2 h.1 c d h.5 (subst P (same_second texts _ _ _ _ k.3 h.3) k.5)
 
--- a text is refused for one cause
-pub one_cause : (text : List ℕ) (c d : Cause) → IsRefused text c → IsRefused text d → c ≡ d
-one_cause text c d (inl h) (inl k) = h.1 ∙ sym k.1
-one_cause text c d (inl h) (inr k) = absurd (omega (arith, h.0, k.0))
-one_cause text c d (inr h) (inl k) = absurd (omega (arith, h.0, k.0))
-one_cause text c d (inr h) (inr k) = one_cause_of_fields (fields text) c d h.1 k.1
-
 -- the fields of a text that is two words are not refused
-pub pair_is_not_refused : (text : List ℕ) (a b : Bits) (cause : Cause) → IsPair text a b → RefusesFields (fields text) cause → ⊥
+pub pair_is_not_refused : (text : List ℕ) (a b : Bits) (cause : InputCause) → IsPair text a b → RefusesFields (fields text) cause → ⊥
 pair_is_not_refused text a b cause pair (inl h) = h.0 (ap length pair.2)
 pair_is_not_refused text a b cause pair (inr (inl h)) =
     let P : List ℕ → Type 0 = λ u. IsReadable u a in
@@ -83,3 +79,24 @@ pair_is_not_refused text a b cause pair (inr (inl h)) =
 pair_is_not_refused text a b cause pair (inr (inr h)) =
     let P : List ℕ → Type 0 = λ u. IsReadable u b in
     readable_is_not_refused 2 h.1 b cause (subst P (same_second (fields text) _ _ _ _ pair.2 h.3) pair.4) h.5
+
+one_bits : (text : List ℕ) (a b : Bits) → IsReadable text a → IsReadable text b → a ≡ b
+one_bits text a b is also = let same : ◌≡◌ {A = Result Bits WordError} (Ok a) (Ok b) = reads_one text (Ok a) (Ok b) is also in cc
+
+-- a text is one pair of words
+one_pair : (text : List ℕ) (a b c d : Bits) → IsPair text a b → IsPair text c d → (a ≡ c) × (b ≡ d)
+one_pair text a b c d is also =
+    let P : List ℕ → Type 0 = λ u. IsReadable u c in
+    let Q : List ℕ → Type 0 = λ u. IsReadable u d in (
+      one_bits is.0 a c is.3 (subst P (same_first (fields text) _ _ _ _ also.2 is.2) also.3),
+      one_bits is.1 b d is.4 (subst Q (same_second (fields text) _ _ _ _ also.2 is.2) also.4),
+    )
+
+-- a text has one line of a verdict
+pub one_line : (text line other : List ℕ) → IsVerdictLine text line → IsVerdictLine text other → line ≡ other
+one_line text line other is also =
+    let same = one_pair text is.0 is.1 also.0 also.1 is.3 also.3 in
+    let P : Bits → Type 0 = λ u. IsVerdict u also.1 also.2 in
+    let Q : Bits → Type 0 = λ u. IsVerdict is.0 u also.2 in
+    let verdict = one_verdict is.0 is.1 is.2 also.2 is.4 (subst Q (sym same.1) (subst P (sym same.0) also.4)) in
+    is.5 ∙ ap verdict_line verdict ∙ sym also.5

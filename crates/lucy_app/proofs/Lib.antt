@@ -1,8 +1,10 @@
 mod Pairs
 mod Causes
-mod Told
-mod Fetched
 mod Verdicts
-mod Ends
-mod Reports
 mod Typed
+mod Owed
+mod Outcomes
+mod Gathered
+mod Sinks
+mod Statuses
+mod Reports

@@ -5,9 +5,9 @@ use Rattle.lucy_word.specs.Bits.{Bits}
 use Rattle.lucy_word.specs.Reading.{IsReadable}
 use Rattle.lucy_app.specs.Fields.{fields}
 use Rattle.lucy_app.specs.Order.{IsPair, RefusesWord, RefusesFields}
-use Rattle.lucy_app.specs.declared.refusal.Cause.{Cause}
+use Rattle.lucy_app.specs.declared.input_refusal.InputCause.{InputCause}
 use Rattle.lucy_app.specs.declared.refusal.Refusal.{Refusal}
-use Rattle.lucy_app.specs.declared.refusal.Refusal.TheVariants.{Refused, OutOfMemory}
+use Rattle.lucy_app.specs.Outcomes.{RefusesInput}
 
 pair_of : {X : Type 0} (f : X → List ℕ) (xs : List X) (d e : X) → 2 ≤ length xs → length xs < 3 → map f xs ≡ f (get_or xs 0 d) ∷ f (get_or xs 1 e) ∷ []
 pair_of f [] d e some few = absurd (omega arith)
@@ -21,20 +21,16 @@ pub parts_pair : {X : Type 0} (f : X → List ℕ) (xs : List X) (d : X) (text :
 parts_pair f xs d text a b cut some few first second =
     (f (get_or xs 0 d), f (get_or xs 1 d), sym cut ∙ pair_of f xs d d some few, first, second)
 
--- want of memory, or a cause of this kind
-abbrev pub Refuses : (Cause → Type 0) → Refusal → Type 0
-Refuses P e = (e ≡ OutOfMemory) ⊎ ((cause : Cause) × P cause × (e ≡ Refused cause))
-
 -- two fields of which the first is refused
 pub first_refused : {X : Type 0} (f : X → List ℕ) (xs : List X) (d : X) (text : List ℕ) (e : Refusal) → map f xs ≡ fields text → 2 ≤ length xs → length xs < 3 →
-    Refuses (λ cause. RefusesWord 1 (f (get_or xs 0 d)) cause) e → Refuses (λ cause. RefusesFields (fields text) cause) e
+    RefusesInput (λ cause. RefusesWord 1 (f (get_or xs 0 d)) cause) e → RefusesInput (λ cause. RefusesFields (fields text) cause) e
 first_refused f xs d text e cut some few (inl h) = inl h
 first_refused f xs d text e cut some few (inr h) =
     inr (h.0, inr (inl (f (get_or xs 0 d), f (get_or xs 1 d), sym cut ∙ pair_of f xs d d some few, h.1)), h.2)
 
 -- two fields of which the first is read, and the second is refused
 pub second_refused : {X : Type 0} (f : X → List ℕ) (xs : List X) (d : X) (text : List ℕ) (a : Bits) (e : Refusal) → map f xs ≡ fields text → 2 ≤ length xs → length xs < 3 →
-    IsReadable (f (get_or xs 0 d)) a → Refuses (λ cause. RefusesWord 2 (f (get_or xs 1 d)) cause) e → Refuses (λ cause. RefusesFields (fields text) cause) e
+    IsReadable (f (get_or xs 0 d)) a → RefusesInput (λ cause. RefusesWord 2 (f (get_or xs 1 d)) cause) e → RefusesInput (λ cause. RefusesFields (fields text) cause) e
 second_refused f xs d text a e cut some few first (inl h) = inl h
 second_refused f xs d text a e cut some few first (inr h) =
     inr (h.0, inr (inr (f (get_or xs 0 d), f (get_or xs 1 d), a, sym cut ∙ pair_of f xs d d some few, first, h.1)), h.2)

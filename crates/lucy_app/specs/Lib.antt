@@ -1,10 +1,17 @@
-pub mod Words
-pub mod Refusals
+-- What callers believe, in the order to read it.
+pub mod Commands
+pub mod World
+pub mod Lines
+pub mod ProgramRefusals
+pub mod InputRefusals
+pub mod Answers
 pub mod Fields
 pub mod Order
-pub mod Run
-pub mod File
-pub mod Program
 pub mod Show
 pub mod Report
 pub mod Types
+pub mod Owes
+pub mod Ends
+pub mod Operators
+-- What only serves the proof of the body.
+pub mod Outcomes

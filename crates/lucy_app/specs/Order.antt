@@ -1,5 +1,5 @@
 -- What `order` prints, and why it refuses its input.
-use Rattle.std.specs.Prelude.{ℕ, ◌<◌, ◌≤◌, ◌≡◌, ◌⊎◌, List, [], ◌∷◌, ◌++◌, length, codes}
+use Rattle.std.specs.Prelude.{ℕ, ◌≡◌, ◌⊎◌, List, [], ◌∷◌, ◌++◌, length, codes}
 use Rattle.std.specs.Fmt.{decimal}
 use Rattle.lucy_word.specs.Bits.{Bits}
 use Rattle.lucy_word.specs.Reading.{IsReadable, Refuses}
@@ -9,8 +9,8 @@ use Rattle.lucy_order.specs.Verdicts.{IsVerdict}
 use Rattle.lucy_order.specs.declared.verdict.Verdict.{Verdict}
 use Rattle.lucy_order.specs.declared.verdict.Verdict.TheVariants.{Adaptable, Rates, Late}
 use Rattle.lucy_app.specs.Fields.{fields}
-use Rattle.lucy_app.specs.declared.refusal.Cause.{Cause}
-use Rattle.lucy_app.specs.declared.refusal.Cause.TheVariants.{Count, BadWord, NoOne, Limit}
+use Rattle.lucy_app.specs.declared.input_refusal.InputCause.{InputCause}
+use Rattle.lucy_app.specs.declared.input_refusal.InputCause.TheVariants.{Count, BadWord, NoOne, Limit}
 
 -- the text is two fields, and they are read as these words
 abbrev pub IsPair : List ℕ → Bits → Bits → Type 0
@@ -23,25 +23,19 @@ verdict_line Rates = codes "unequal rates\n"
 verdict_line (Late at) = codes "late at " ++ (decimal at ++ codes "\n")
 
 -- the line is that of the verdict which holds of the text's two words
-abbrev pub IsAnswer : List ℕ → List ℕ → Type 0
-IsAnswer text line = (a : Bits) × (b : Bits) × (v : Verdict) × IsPair text a b × IsVerdict a b v × (line ≡ verdict_line v)
+abbrev pub IsVerdictLine : (text line : List ℕ) → Type 0
+IsVerdictLine text line = (a : Bits) × (b : Bits) × (v : Verdict) × IsPair text a b × IsVerdict a b v × (line ≡ verdict_line v)
 
 -- the field with this number, from 1, is refused for this cause
-abbrev pub RefusesWord : ℕ → List ℕ → Cause → Type 0
+abbrev pub RefusesWord : ℕ → List ℕ → InputCause → Type 0
 RefusesWord number text (BadWord which place) = (which ≡ number) × Refuses text (word.BadWord place)
 RefusesWord number text (NoOne which) = (which ≡ number) × Refuses text word.NoOne
 RefusesWord number text (Limit passed) = (passed ≡ limit.Written) × Refuses text word.TooLong
-RefusesWord number text cause = ⊥
+RefusesWord number text (Count count) = ⊥
 
 -- the fields are refused for this cause: their count, else the first word that is refused
-abbrev pub RefusesFields : List (List ℕ) → Cause → Type 0
+abbrev pub RefusesFields : List (List ℕ) → InputCause → Type 0
 RefusesFields texts cause =
     ((length texts ≡ 2 → ⊥) × (cause ≡ Count (length texts)))
     ⊎ (((u : List ℕ) × (v : List ℕ) × (texts ≡ u ∷ v ∷ []) × RefusesWord 1 u cause)
     ⊎ ((u : List ℕ) × (v : List ℕ) × (a : Bits) × (texts ≡ u ∷ v ∷ []) × IsReadable u a × RefusesWord 2 v cause))
-
--- the text is refused for this cause: its length, else its fields
-abbrev pub IsRefused : List ℕ → Cause → Type 0
-IsRefused text cause =
-    ((16384 < length text) × (cause ≡ Limit limit.OrderInput))
-    ⊎ ((length text ≤ 16384) × RefusesFields (fields text) cause)

@@ -1,8 +1,7 @@
 // All bytes of a source, up to a limit.
-ghost use Rattle.std.specs.Prelude.{◌≡◌, ◌≢◌, IsTrue, ◌⊎◌, ◌+◌, ◌<◌, ◌≤◌, ◌^◌, vec_len, IfOk, IfErr};
-ghost use Rattle.lucy_text.specs.Outside.{followed, AtEnd, Rose};
-ghost use Rattle.lucy_app.specs.Run.{TakesAtMost};
-ghost use Rattle.lucy_app.specs.declared.refusal.Refusal.TheVariants.{ReadFault, OutOfMemory};
+ghost use Rattle.std.specs.Prelude.{◌+◌, ◌<◌, ◌≤◌, ◌^◌, ℕ, List};
+ghost use Rattle.lucy_app.specs.World.{Stop, seen_source, Read};
+ghost use Rattle.lucy_app.specs.Outcomes.{IsGathered};
 
 use crate::refusal::Refusal;
 use lucy_text::Source;
@@ -15,14 +14,10 @@ pub(crate) fn read_up_to<I: Source>(
     limit: usize,
 ) -> Result<Vec<u8>, Refusal>
     requires { limit < 2 ^ 32 }
-    ensures bytes { IfOk result (λ v. I.left input.old ≡ followed v.items (I.left input.new)) }
-    ensures within { IfOk result (λ v. vec_len v ≤ limit + 1) }
-    ensures end { IfOk result (λ v. vec_len v ≤ limit → AtEnd (I.left input.new)) }
-    ensures ended { IfOk result (λ v. vec_len v ≤ limit → IsTrue (I.ended input.new)) }
-    ensures refused { IfErr result (λ e. (e ≡ ReadFault) ⊎ (e ≡ OutOfMemory)) }
-    ensures fault { result ≡ Err ReadFault → Rose (I.faults input.old) (I.faults input.new) }
-    ensures calm { result ≢ Err ReadFault → I.faults input.new ≡ I.faults input.old }
-    ensures took { TakesAtMost (limit + 1) (I.left input.old) (I.left input.new) }
+    ensures read { (taken : List ℕ) × (stop : Stop) × Read limit
+        (seen_source (I.left input.old) (I.ended input.old) (I.faults input.old) (I.since_stop input.old))
+        (seen_source (I.left input.new) (I.ended input.new) (I.faults input.new) (I.since_stop input.new))
+        taken stop × IsGathered limit taken stop result }
     ensures count { I.faults input.old ≤ I.faults input.new }
 {
     let mut bytes = Vec::new(alloc);

@@ -1,17 +1,22 @@
 //! All that the program does, over a shelf, a source and sinks that are handed in: one call, with a status as its answer.
 //!
-//! It stands on `lucy_word`, `lucy_order`, `lucy_text`, `lucy_syntax`, `lucy_place` and `lucy_types`. Begin with `lucy` in
-//! `top.rt`. `specs/Order.antt` says what `order` answers; `specs/Show.antt` and `specs/Types.antt` say what `show` and `types`
-//! print of a text and why they refuse one, and `specs/Program.antt` how such a command ends; `specs/Run.antt` says what a run
-//! leaves of its source and its sinks.
+//! It stands on `lucy_word`, `lucy_host`, `lucy_order`, `lucy_text`, `lucy_syntax`, `lucy_place` and `lucy_types`. Begin with `lucy` in
+//! `top.rt`. What it promises is in `specs/`: `Commands` says which command the words name, `World` what a command is lent and
+//! meets, `Owes` which answer it owes by that, with `Order`, `Show` and `Types` for what each prints and refuses, and `Ends`
+//! what it leaves.
 #![tactic(auto)]
 
 mod cut;
-mod file;
+mod fetch;
 mod input;
+mod input_refusal;
+mod laws;
+mod lines;
+mod operators;
 mod order;
 mod output;
 mod path;
+mod program_refusal;
 mod refusal;
 mod report;
 mod show;
@@ -19,6 +24,9 @@ mod top;
 mod types;
 mod words;
 
+pub use input_refusal::InputCause;
+pub use laws::one_answer;
+pub use operators::program_operators;
 pub use path::Path;
-pub use refusal::Cause;
+pub use program_refusal::ProgramCause;
 pub use top::lucy;

@@ -1,17 +1,18 @@
 // The command `order`: the verdict on the two words of the input.
-ghost use Rattle.std.specs.Prelude.{◌≡◌, ◌≢◌, IsTrue, ◌⊎◌, ◌≤◌, Err, IfOk, IfErr, string_bytes};
+ghost use Rattle.std.specs.Prelude.{◌≡◌, ◌≤◌, ℕ, List, IfOk, IfErr};
+ghost use Rattle.lucy_word.specs.Limits.{limit_number};
 ghost use Rattle.lucy_word.specs.Reading.{IsReadable};
-ghost use Rattle.lucy_text.specs.Outside.{Rose};
+ghost use Rattle.lucy_word.specs.declared.limit.Limit.TheVariants as limit;
 ghost use Rattle.lucy_app.specs.Fields.{fields};
-ghost use Rattle.lucy_app.specs.Order.{IsAnswer, RefusesWord, RefusesFields, verdict_line};
-ghost use Rattle.lucy_app.specs.Refusals.{status_of};
-ghost use Rattle.lucy_app.specs.Run.{AnswersAll, RefusesAll, TakesAtMost};
-ghost use Rattle.lucy_app.specs.declared.refusal.Cause.{Cause};
-ghost use Rattle.lucy_app.specs.declared.refusal.Refusal.TheVariants.{Refused, ReadFault, OutOfMemory};
+ghost use Rattle.lucy_app.specs.Order.{IsVerdictLine, RefusesWord, RefusesFields, verdict_line};
+ghost use Rattle.lucy_app.specs.World.{Stop, seen_source, Read};
+ghost use Rattle.lucy_app.specs.Owes.{OwesOrder};
+ghost use Rattle.lucy_app.specs.Outcomes.{RefusesInput, IsOutcome};
 
 use crate::cut::fields;
 use crate::input::read_up_to;
-use crate::refusal::{Cause, Refusal};
+use crate::input_refusal::InputCause;
+use crate::refusal::Refusal;
 use lucy_order::{Verdict, adapt};
 use lucy_text::Source;
 use lucy_word::{Limit, Word, WordError};
@@ -20,59 +21,57 @@ use std::alloc::{AllocError, Global};
 // Bytes that the input may have.
 const INPUT: usize = 16_384;
 
-fn line(alloc: Global, verdict: Verdict) -> Result<String, AllocError>
-    ensures { IfOk result (λ s. string_bytes s ≡ verdict_line verdict) }
+fn line(alloc: Global, verdict: Verdict) -> Result<Vec<u8>, AllocError>
+    ensures { IfOk result (λ v. v.items ≡ verdict_line verdict) }
 {
-    match verdict {
+    let line = match verdict {
         Verdict::Adaptable(size) => format!(in alloc; "adaptable size {size}\n"),
         Verdict::Rates => format!(in alloc; "unequal rates\n"),
         Verdict::Late(at) => format!(in alloc; "late at {at}\n"),
-    }
+    };
+    Ok(line?.into_bytes())
 }
 
 // The word in the field with this number, from 1.
 fn word(alloc: Global, number: u64, field: &[u8]) -> Result<Word, Refusal>
     ensures ok { IfOk result (IsReadable field.now) }
-    ensures refused { IfErr result (λ e. (e ≡ OutOfMemory) ⊎ ((cause : Cause) × RefusesWord number field.now cause × (e ≡ Refused cause))) }
+    ensures refused { IfErr result (RefusesInput (RefusesWord number field.now)) }
 {
     let cause = match Word::read(alloc, field) {
         Ok(word) => return Ok(word),
-        Err(WordError::BadWord(place)) => Cause::BadWord(number, place),
-        Err(WordError::TooLong) => Cause::Limit(Limit::Written),
-        Err(WordError::NoOne) => Cause::NoOne(number),
+        Err(WordError::BadWord(place)) => InputCause::BadWord(number, place),
+        Err(WordError::TooLong) => InputCause::Limit(Limit::Written),
+        Err(WordError::NoOne) => InputCause::NoOne(number),
         Err(WordError::OutOfMemory) => return Err(Refusal::OutOfMemory),
     };
-    Err(Refusal::Refused(cause))
+    Err(Refusal::Input(cause))
 }
 
 // The line on the two words that the text is.
-fn verdict_on(alloc: Global, text: &[u8]) -> Result<String, Refusal>
-    ensures ok { IfOk result (λ s. IsAnswer text.now (string_bytes s)) }
-    ensures refused { IfErr result (λ e. (e ≡ OutOfMemory) ⊎ ((cause : Cause) × RefusesFields (fields text.now) cause × (e ≡ Refused cause))) }
+fn verdict_on(alloc: Global, text: &[u8]) -> Result<Vec<u8>, Refusal>
+    ensures ok { IfOk result (λ v. IsVerdictLine text.now v.items) }
+    ensures refused { IfErr result (RefusesInput (RefusesFields (fields text.now))) }
 {
     let fields = fields(alloc, text)?;
     let [first, second] = fields.as_slice() else {
-        return Err(Refusal::Refused(Cause::Count(fields.len())));
+        return Err(Refusal::Input(InputCause::Count(fields.len())));
     };
     let first = word(alloc, 1, first)?;
     let second = word(alloc, 2, second)?;
     Ok(line(alloc, adapt(&first, &second))?)
 }
 
-/// The line on all bytes of the source, read to its end or to one byte past the limit.
-pub(crate) fn answer<I: Source>(alloc: Global, input: &mut I) -> Result<String, Refusal>
-    ensures ok { IfOk result (λ s. AnswersAll (I.left input.old) (I.left input.new) (string_bytes s)) }
-    ensures refused { (cause : Cause) → result ≡ Err (Refused cause) → RefusesAll (I.left input.old) (I.left input.new) cause }
-    ensures ended { IfOk result (λ _. IsTrue (I.ended input.new)) }
-    ensures ended_refused { (cause : Cause) → result ≡ Err (Refused cause) → status_of cause ≡ 3 → IsTrue (I.ended input.new) }
-    ensures fault { result ≡ Err ReadFault → Rose (I.faults input.old) (I.faults input.new) }
-    ensures calm { result ≢ Err ReadFault → I.faults input.new ≡ I.faults input.old }
-    ensures took { TakesAtMost 16385 (I.left input.old) (I.left input.new) }
+/// The line on all bytes of the source, read to its end or to one byte past the limit, or why there is none.
+pub(crate) fn answer<I: Source>(alloc: Global, input: &mut I) -> Result<Vec<u8>, Refusal>
+    ensures outcome { (taken : List ℕ) × (stop : Stop) × Read (limit_number limit.OrderInput)
+        (seen_source (I.left input.old) (I.ended input.old) (I.faults input.old) (I.since_stop input.old))
+        (seen_source (I.left input.new) (I.ended input.new) (I.faults input.new) (I.since_stop input.new))
+        taken stop × IsOutcome (OwesOrder taken stop) result }
     ensures count { I.faults input.old ≤ I.faults input.new }
 {
     let bytes = read_up_to(alloc, input, INPUT)?;
     if bytes.len() > INPUT {
-        return Err(Refusal::Refused(Cause::Limit(Limit::OrderInput)));
+        return Err(Refusal::Input(InputCause::Limit(Limit::OrderInput)));
     }
     verdict_on(alloc, &bytes)
 }

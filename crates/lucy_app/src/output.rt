@@ -1,82 +1,96 @@
-// What goes out at the end of a run, and the status that tells how it went.
-ghost use Rattle.std.specs.Prelude.{◌≡◌, ◌≢◌, ◌⊎◌, ◌≤◌};
-ghost use Rattle.lucy_text.specs.Outside.{appended, Rose, WritesFront};
-ghost use Rattle.lucy_app.specs.Refusals.{status_of, line_of, refusal_status, refusal_line, write_fault_line, memory_line};
-ghost use Rattle.lucy_app.specs.declared.refusal.Refusal.TheVariants.{ReadFault};
+// What goes out at the end of a command, and the status that tells how it went.
+ghost use Rattle.std.specs.Prelude.{◌≡◌, ◌≤◌, IfOk, OnErr};
+ghost use Rattle.lucy_app.specs.World.{seen_sink};
+ghost use Rattle.lucy_app.specs.Lines.{memory_line};
+ghost use Rattle.lucy_app.specs.Ends.{Tells};
+ghost use Rattle.lucy_app.specs.Outcomes.{TellsRefusal, Prints, Delivers};
 
-use crate::refusal::{Cause, Refusal};
+use crate::refusal::Refusal;
 use lucy_text::{Sink, write_all};
-use std::alloc::Global;
+use std::alloc::{AllocError, Global};
 
 // The status where a write failed.
 const WRITE_FAULT: u8 = 5;
 
-/// Writes the line of a status. The answer is this status, or that of a write fault.
-pub(crate) fn tell<E: Sink>(err: &mut E, line: &[u8], status: u8) -> u8
-    requires { status ≢ 5 }
-    ensures status { (result ≡ status) ⊎ (result ≡ 5) }
-    ensures line { result ≢ 5 → E.written err.new ≡ appended (E.written err.old) line.now }
-    ensures calm { result ≢ 5 → E.faults err.new ≡ E.faults err.old }
-    ensures fault { result ≡ 5 → Rose (E.faults err.old) (E.faults err.new) }
-    ensures front { WritesFront (E.written err.old) (E.written err.new) line.now }
+/// Writes the lines that go with a status. The answer is this status, or that of a write fault.
+pub(crate) fn tell<E: Sink>(err: &mut E, lines: &[u8], status: u8) -> u8
+    ensures told { Tells status lines.now
+        (seen_sink (E.written err.old) (E.faults err.old) (E.since_stop err.old))
+        (seen_sink (E.written err.new) (E.faults err.new) (E.since_stop err.new)) result }
     ensures count { E.faults err.old ≤ E.faults err.new }
 {
-    match write_all(err, line) {
+    match write_all(err, lines) {
         Ok(()) => status,
         Err(_) => WRITE_FAULT,
     }
 }
 
-// Says why a program or an input is refused or, where there is no memory for that, that it ran out.
-fn explain<E: Sink>(alloc: Global, err: &mut E, cause: Cause) -> u8
-    ensures status { (result ≡ status_of cause) ⊎ (result ≡ 7) ⊎ (result ≡ 5) }
-    ensures line { result ≡ status_of cause → E.written err.new ≡ appended (E.written err.old) (line_of cause) }
-    ensures memory { result ≡ 7 → E.written err.new ≡ appended (E.written err.old) memory_line }
-    ensures calm { result ≢ 5 → E.faults err.new ≡ E.faults err.old }
-    ensures fault { result ≡ 5 → Rose (E.faults err.old) (E.faults err.new) }
-    ensures front { WritesFront (E.written err.old) (E.written err.new) (line_of cause) ⊎ WritesFront (E.written err.old) (E.written err.new) memory_line }
+// Says why there is no answer or, where there is no memory for that, that it ran out.
+fn explain<E: Sink>(err: &mut E, lines: Result<Vec<u8>, AllocError>, status: u8) -> u8
+    ensures ok { IfOk lines (λ v. Tells status v.items
+        (seen_sink (E.written err.old) (E.faults err.old) (E.since_stop err.old))
+        (seen_sink (E.written err.new) (E.faults err.new) (E.since_stop err.new)) result) }
+    ensures err { OnErr lines (Tells 7 memory_line
+        (seen_sink (E.written err.old) (E.faults err.old) (E.since_stop err.old))
+        (seen_sink (E.written err.new) (E.faults err.new) (E.since_stop err.new)) result) }
     ensures count { E.faults err.old ≤ E.faults err.new }
 {
-    match cause.line(alloc) {
-        Ok(line) => tell(err, &line, cause.status()),
+    match lines {
+        Ok(lines) => tell(err, &lines, status),
         Err(_) => tell(err, b"lucy: out of memory\n", 7),
     }
 }
 
-/// Says why a command has no answer.
-pub(crate) fn refuse<E: Sink>(alloc: Global, err: &mut E, refusal: Refusal) -> u8
-    ensures status { (result ≡ refusal_status refusal) ⊎ (result ≡ 7) ⊎ (result ≡ 5) }
-    ensures read_fault { refusal ≡ ReadFault → (result ≡ 4) ⊎ (result ≡ 5) }
-    ensures line { result ≡ refusal_status refusal → E.written err.new ≡ appended (E.written err.old) (refusal_line refusal) }
-    ensures memory { result ≡ 7 → E.written err.new ≡ appended (E.written err.old) memory_line }
-    ensures calm { result ≢ 5 → E.faults err.new ≡ E.faults err.old }
-    ensures fault { result ≡ 5 → Rose (E.faults err.old) (E.faults err.new) }
-    ensures front { WritesFront (E.written err.old) (E.written err.new) (refusal_line refusal) ⊎ WritesFront (E.written err.old) (E.written err.new) memory_line }
+// Says why a command has no answer.
+fn refuse<E: Sink>(alloc: Global, err: &mut E, refusal: Refusal) -> u8
+    ensures told { TellsRefusal refusal
+        (seen_sink (E.written err.old) (E.faults err.old) (E.since_stop err.old))
+        (seen_sink (E.written err.new) (E.faults err.new) (E.since_stop err.new)) result }
     ensures count { E.faults err.old ≤ E.faults err.new }
 {
     match refusal {
-        Refusal::Refused(cause) => explain(alloc, err, cause),
+        Refusal::Program(cause) => explain(err, cause.line(alloc), cause.status()),
+        Refusal::Input(cause) => explain(err, cause.line(alloc), cause.status()),
         Refusal::ReadFault => tell(err, b"lucy: read fault\n", 4),
         Refusal::OutOfMemory => tell(err, b"lucy: out of memory\n", 7),
     }
 }
 
-/// Writes the answer. Where that fails, the fault is told on `err`, if it can be.
-pub(crate) fn print<O: Sink, E: Sink>(out: &mut O, err: &mut E, answer: &[u8]) -> u8
-    ensures status { (result ≡ 0) ⊎ (result ≡ 5) }
-    ensures whole { result ≡ 0 → O.written out.new ≡ appended (O.written out.old) answer.now }
+// Writes what a command prints. Where that fails, the fault is told on `err`, if it can be.
+fn print<O: Sink, E: Sink>(out: &mut O, err: &mut E, text: &[u8]) -> u8
+    ensures prints { Prints text.now
+        (seen_sink (O.written out.old) (O.faults out.old) (O.since_stop out.old))
+        (seen_sink (O.written out.new) (O.faults out.new) (O.since_stop out.new))
+        (seen_sink (E.written err.old) (E.faults err.old) (E.since_stop err.old))
+        (seen_sink (E.written err.new) (E.faults err.new) (E.since_stop err.new)) result }
     ensures quiet { result ≡ 0 → err.new ≡ err.old }
-    ensures calm { result ≢ 5 → O.faults out.new ≡ O.faults out.old }
-    ensures fault { result ≡ 5 → Rose (O.faults out.old) (O.faults out.new) }
-    ensures front { WritesFront (O.written out.old) (O.written out.new) answer.now }
-    ensures told { WritesFront (E.written err.old) (E.written err.new) write_fault_line }
-    ensures tells { result ≡ 5 → Rose (E.faults err.old) (E.faults err.new) ⊎ (E.written err.new ≡ appended (E.written err.old) write_fault_line) }
     ensures out_count { O.faults out.old ≤ O.faults out.new }
     ensures err_count { E.faults err.old ≤ E.faults err.new }
 {
-    if write_all(out, answer).is_ok() {
-        return 0;
+    match write_all(out, text) {
+        Ok(()) => 0,
+        Err(_) => tell(err, b"lucy: write fault\n", WRITE_FAULT),
     }
-    let _ = write_all(err, b"lucy: write fault\n");
-    WRITE_FAULT
+}
+
+/// Writes how a command came out: what it prints, or why it has no answer.
+pub(crate) fn finish<O: Sink, E: Sink>(
+    alloc: Global,
+    out: &mut O,
+    err: &mut E,
+    outcome: Result<Vec<u8>, Refusal>,
+) -> u8
+    ensures delivers { Delivers outcome
+        (seen_sink (O.written out.old) (O.faults out.old) (O.since_stop out.old))
+        (seen_sink (O.written out.new) (O.faults out.new) (O.since_stop out.new))
+        (seen_sink (E.written err.old) (E.faults err.old) (E.since_stop err.old))
+        (seen_sink (E.written err.new) (E.faults err.new) (E.since_stop err.new)) result }
+    ensures quiet { result ≡ 0 → err.new ≡ err.old }
+    ensures out_count { O.faults out.old ≤ O.faults out.new }
+    ensures err_count { E.faults err.old ≤ E.faults err.new }
+{
+    match outcome {
+        Ok(text) => print(out, err, &text),
+        Err(refusal) => refuse(alloc, err, refusal),
+    }
 }

@@ -1,28 +1,43 @@
 // The command `show`: the program of a file, in print.
-ghost use Rattle.std.specs.Prelude.{◌≡◌, ◌≢◌, ◌⊎◌, ◌≤◌, Err, IfOk};
-ghost use Rattle.lucy_text.specs.Outside.{Rose};
-ghost use Rattle.lucy_text.specs.Shelf.{Lacks};
-ghost use Rattle.lucy_app.specs.File.{PrintsFile, RefusesFile, RefusesSyntax};
-ghost use Rattle.lucy_app.specs.Show.{IsPrintOf};
-ghost use Rattle.lucy_app.specs.declared.refusal.Cause.{Cause};
-ghost use Rattle.lucy_app.specs.declared.refusal.Refusal.TheVariants.{Refused, ReadFault};
+ghost use Rattle.std.specs.Prelude.{IfOk, IfErr};
+ghost use Rattle.lucy_tree.specs.View.{program_tree};
+ghost use Rattle.lucy_tree.specs.Shaped.{IsShapedProgram};
+ghost use Rattle.lucy_grammar.specs.Texts.{HasTree};
+ghost use Rattle.lucy_app.specs.Show.{IsPrintOf, RefusesSyntax};
+ghost use Rattle.lucy_app.specs.Owes.{OwesProgram};
+ghost use Rattle.lucy_app.specs.Outcomes.{bytes_of, RefusesProgram, IsOutcome};
 
-use crate::file::program;
 use crate::refusal::Refusal;
-use lucy_syntax::print;
-use lucy_text::Shelf;
+use lucy_syntax::{parse, print};
+use lucy_text::ShelfError;
+use lucy_tree::Program;
 use std::alloc::Global;
 
-/// The print of the program in the file, which is fetched once.
-pub(crate) fn answer<S: Shelf>(alloc: Global, shelf: &mut S, file: &str) -> Result<Vec<u8>, Refusal>
-    ensures ok { IfOk result (λ v. PrintsFile IsPrintOf (S.files shelf.old) file.now v.items) }
-    ensures refused { (cause : Cause) → result ≡ Err (Refused cause) → RefusesFile RefusesSyntax (S.files shelf.old) file.now cause }
-    ensures missing_calm { Lacks (S.files shelf.old) file.now → S.faults shelf.new ≡ S.faults shelf.old }
-    ensures fault { result ≡ Err ReadFault → Lacks (S.files shelf.old) file.now ⊎ Rose (S.faults shelf.old) (S.faults shelf.new) }
-    ensures calm { result ≢ Err ReadFault → S.faults shelf.new ≡ S.faults shelf.old }
-    ensures count { S.faults shelf.old ≤ S.faults shelf.new }
-    ensures files { S.files shelf.new ≡ S.files shelf.old }
+/// The program that a text is.
+pub(crate) fn program(alloc: Global, text: &[u8]) -> Result<Program, Refusal>
+    ensures ok { IfOk result (λ program. HasTree text.now (program_tree program)) }
+    ensures shaped { IfOk result (λ program. IsShapedProgram (program_tree program)) }
+    ensures refused { IfErr result (RefusesProgram (RefusesSyntax text.now)) }
 {
-    let program = program(alloc, shelf, file)?;
+    Ok(parse(alloc, text)?)
+}
+
+// The print of the program that a text is.
+fn print_of(alloc: Global, text: &[u8]) -> Result<Vec<u8>, Refusal>
+    ensures ok { IfOk result (λ v. IsPrintOf text.now v.items) }
+    ensures refused { IfErr result (RefusesProgram (RefusesSyntax text.now)) }
+{
+    let program = program(alloc, text)?;
     Ok(print(alloc, &program)?)
+}
+
+/// What `show` prints of what the fetch gave, or why it has no answer.
+pub(crate) fn answer(
+    alloc: Global,
+    fetched: Result<Vec<u8>, ShelfError>,
+) -> Result<Vec<u8>, Refusal>
+    ensures { IsOutcome (OwesProgram IsPrintOf RefusesSyntax (bytes_of fetched)) result }
+{
+    let text = fetched?;
+    print_of(alloc, &text)
 }

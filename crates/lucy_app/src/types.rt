@@ -1,20 +1,19 @@
 // The command `types`: the data types of the program of a file.
-ghost use Rattle.std.specs.Prelude.{◌≡◌, ◌≢◌, ◌⊎◌, ◌≤◌, ◌<◌, Err, IfOk, IfErr, length};
-ghost use Rattle.lucy_text.specs.Outside.{Rose};
-ghost use Rattle.lucy_text.specs.Shelf.{Lacks};
+ghost use Rattle.std.specs.Prelude.{◌<◌, IfOk, IfErr, length};
 ghost use Rattle.lucy_tree.specs.View.{program_tree};
 ghost use Rattle.lucy_tree.specs.Shaped.{IsShapedProgram};
-ghost use Rattle.lucy_app.specs.File.{PrintsFile, RefusesFile};
 ghost use Rattle.lucy_app.specs.Types.{ReportsTree, RefusesTree, IsReportOf, RefusesText, TellsClash};
-ghost use Rattle.lucy_app.specs.declared.refusal.Cause.{Cause};
-ghost use Rattle.lucy_app.specs.declared.refusal.Refusal.TheVariants.{Refused, ReadFault, OutOfMemory};
+ghost use Rattle.lucy_app.specs.Owes.{OwesProgram};
+ghost use Rattle.lucy_app.specs.Outcomes.{bytes_of, RefusesProgram, IsOutcome};
 
-use crate::file::program;
 use crate::path::Path;
-use crate::refusal::{Cause, Refusal};
+use crate::program_refusal::ProgramCause;
+use crate::refusal::Refusal;
 use crate::report::{place_names, report};
+use crate::show::program;
+use lucy_host::Ops;
 use lucy_place::{Placed, place};
-use lucy_text::{Shelf, Text};
+use lucy_text::{ShelfError, Text};
 use lucy_tree::Program;
 use lucy_types::{TypeError, types};
 use std::alloc::Global;
@@ -25,45 +24,52 @@ fn clash(
     placed: &Placed,
     node: u32,
     path: &[u32],
-) -> Result<Cause, lucy_word::OutOfMemory>
+) -> Result<ProgramCause, lucy_word::OutOfMemory>
     requires { node < length placed.now.nodes }
     ensures { IfOk result (TellsClash placed.now.nodes node path.now) }
 {
     let node = placed.node(node);
     let path = place_names(alloc, node, path)?;
     let node = Text::new(alloc, node.name.text.bytes())?;
-    Ok(Cause::Clash {
+    Ok(ProgramCause::Clash {
         node,
         path: Path::new(path),
     })
 }
 
 // The report of a program: its names are looked at first, and then its types.
-fn report_of(alloc: Global, program: &Program) -> Result<Vec<u8>, Refusal>
+fn report_tree(alloc: Global, program: &Program, ops: &Ops) -> Result<Vec<u8>, Refusal>
     requires { IsShapedProgram (program_tree program.now) }
-    ensures ok { IfOk result (λ v. ReportsTree (program_tree program.now) v.items) }
-    ensures refused { IfErr result (λ e. (e ≡ OutOfMemory) ⊎ ((cause : Cause) × RefusesTree (program_tree program.now) cause × (e ≡ Refused cause))) }
+    ensures ok { IfOk result (λ v. ReportsTree ops.now (program_tree program.now) v.items) }
+    ensures refused { IfErr result (RefusesProgram (RefusesTree ops.now (program_tree program.now))) }
 {
-    let placed = place(alloc, program)?;
+    let placed = place(alloc, program, ops)?;
     match types(alloc, &placed) {
         Ok(typed) => Ok(report(alloc, &placed, &typed)?),
-        Err(TypeError::Clash { node, path }) => Err(Refusal::Refused(clash(
+        Err(TypeError::Clash { node, path }) => Err(Refusal::Program(clash(
             alloc, &placed, node, &path,
         )?)),
         Err(TypeError::OutOfMemory) => Err(Refusal::OutOfMemory),
     }
 }
 
-/// The report of the types of the program in the file, which is fetched once.
-pub(crate) fn answer<S: Shelf>(alloc: Global, shelf: &mut S, file: &str) -> Result<Vec<u8>, Refusal>
-    ensures ok { IfOk result (λ v. PrintsFile IsReportOf (S.files shelf.old) file.now v.items) }
-    ensures refused { (cause : Cause) → result ≡ Err (Refused cause) → RefusesFile RefusesText (S.files shelf.old) file.now cause }
-    ensures missing_calm { Lacks (S.files shelf.old) file.now → S.faults shelf.new ≡ S.faults shelf.old }
-    ensures fault { result ≡ Err ReadFault → Lacks (S.files shelf.old) file.now ⊎ Rose (S.faults shelf.old) (S.faults shelf.new) }
-    ensures calm { result ≢ Err ReadFault → S.faults shelf.new ≡ S.faults shelf.old }
-    ensures count { S.faults shelf.old ≤ S.faults shelf.new }
-    ensures files { S.files shelf.new ≡ S.files shelf.old }
+// The report of the program that a text is.
+fn report_of(alloc: Global, text: &[u8], ops: &Ops) -> Result<Vec<u8>, Refusal>
+    ensures ok { IfOk result (λ v. IsReportOf ops.now text.now v.items) }
+    ensures refused { IfErr result (RefusesProgram (RefusesText ops.now text.now)) }
 {
-    let program = program(alloc, shelf, file)?;
-    report_of(alloc, &program)
+    let program = program(alloc, text)?;
+    report_tree(alloc, &program, ops)
+}
+
+/// What `types` prints of what the fetch gave, where the host has these operators, or why it has no answer.
+pub(crate) fn answer(
+    alloc: Global,
+    fetched: Result<Vec<u8>, ShelfError>,
+    ops: &Ops,
+) -> Result<Vec<u8>, Refusal>
+    ensures { IsOutcome (OwesProgram (IsReportOf ops.now) (RefusesText ops.now) (bytes_of fetched)) result }
+{
+    let text = fetched?;
+    report_of(alloc, &text, ops)
 }

@@ -1,6 +1,8 @@
 // The words of the command line.
-ghost use Rattle.std.specs.Prelude.{◌≡◌, ◌↔◌, ℕ, List, None, IsTrue, IfSome, map, string_bytes};
-ghost use Rattle.lucy_app.specs.Words.{NamesOrder, NamesFile, Names, NamesCommand, is_file};
+ghost use Rattle.std.specs.Prelude.{◌≡◌, map, string_bytes};
+ghost use Rattle.std.specs.Option.{option_map};
+ghost use Rattle.lucy_app.specs.Commands.{is_file, only_file, command_of};
+ghost use Rattle.lucy_app.specs.Outcomes.{named};
 
 /// A command, with what it works on.
 #[derive(Clone, Copy)]
@@ -10,15 +12,6 @@ pub(crate) enum Command<'a> {
     Show(&'a str),
     /// With the name of its file.
     Types(&'a str),
-}
-
-fn names_order(words: &[String]) -> bool
-    ensures { IsTrue result ↔ NamesOrder (map string_bytes words.now) }
-{
-    match words {
-        [word] => word.as_str() == "order",
-        _ => false,
-    }
 }
 
 fn is_file(word: &str) -> bool
@@ -31,27 +24,34 @@ fn is_file(word: &str) -> bool
     }
 }
 
-// The file behind this command.
-fn file_of<'w>(words: &'w [String], command: &str) -> Option<&'w str>
-    ensures some { IfSome result (λ file. NamesFile command.now (map string_bytes words.now) file.now) }
-    ensures none { result ≡ None → (file : List ℕ) → NamesFile command.now (map string_bytes words.now) file → ⊥ }
+// The file, where it is all that stands behind the name of a command.
+fn only_file(behind: &[String]) -> Option<&str>
+    ensures { option_map (λ file. file.now) result ≡ only_file (map string_bytes behind.now) }
 {
-    match words {
-        [word, file] if word.as_str() == command && is_file(file) => Some(file),
+    match behind {
+        [file] if is_file(file) => Some(file),
         _ => None,
     }
 }
 
 /// The command that the words name.
 pub(crate) fn command_of(words: &[String]) -> Option<Command<'_>>
-    ensures some { IfSome result (λ command. Names (map string_bytes words.now) command) }
-    ensures none { result ≡ None → NamesCommand (map string_bytes words.now) → ⊥ }
+    ensures { option_map named result ≡ command_of (map string_bytes words.now) }
 {
-    if names_order(words) {
-        return Some(Command::Order);
+    let (name, behind) = words.split_first()?;
+    let name = name.as_str();
+    if name == "order" {
+        return if behind.is_empty() {
+            Some(Command::Order)
+        } else {
+            None
+        };
     }
-    if let Some(file) = file_of(words, "show") {
-        return Some(Command::Show(file));
+    if name == "show" {
+        return Some(Command::Show(only_file(behind)?));
     }
-    Some(Command::Types(file_of(words, "types")?))
+    if name == "types" {
+        return Some(Command::Types(only_file(behind)?));
+    }
+    None
 }

@@ -12,8 +12,11 @@ mod piece;
 mod row;
 mod take;
 
+use lucy_app::program_operators;
+use lucy_host::Host;
 use row::Row;
-use std::{env, fs, io, str};
+use std::io::{self, ErrorKind};
+use std::{env, fs, str};
 
 // Prints each line behind the mark.
 fn print_lines(rt: &impl Print, mark: char, bytes: &[u8]) -> io::Result<()> {
@@ -30,8 +33,13 @@ fn print_lines(rt: &impl Print, mark: char, bytes: &[u8]) -> io::Result<()> {
     Ok(())
 }
 
-fn run(rt: &(impl Print + AllocGlobal), name: &str, row: Row) -> io::Result<()> {
-    let end = row.run(rt.alloc())?;
+fn run<F: Fn(u32, i64, i64) -> i64 + Sync>(
+    rt: &(impl Print + AllocGlobal),
+    host: &Host<F>,
+    name: &str,
+    row: Row,
+) -> io::Result<()> {
+    let end = row.run(rt.alloc(), host)?;
     println!(rt; "= {name}")?;
     println!(rt; "status {}", end.status)?;
     println!(rt; "left {}", end.input.left().len())?;
@@ -56,7 +64,12 @@ fn take_lines(
 }
 
 // Runs the rows of a list. What stands above the first of them holds for each.
-fn run_list(rt: &(impl Print + AllocGlobal), list: &str, text: &str) -> io::Result<()> {
+fn run_list<F: Fn(u32, i64, i64) -> i64 + Sync>(
+    rt: &(impl Print + AllocGlobal),
+    host: &Host<F>,
+    list: &str,
+    text: &str,
+) -> io::Result<()> {
     let mut blocks = text.split("\n= ");
     let common = blocks.next().unwrap_or("");
     take_lines(rt, list, 1, common, &mut Row::new(rt.alloc()))?;
@@ -66,16 +79,21 @@ fn run_list(rt: &(impl Print + AllocGlobal), list: &str, text: &str) -> io::Resu
         let mut row = Row::new(rt.alloc());
         take_lines(rt, list, 1, common, &mut row)?;
         take_lines(rt, list, at.saturating_add(1), lines, &mut row)?;
-        run(rt, name, row)?;
+        run(rt, host, name, row)?;
         at = at.saturating_add(block.split('\n').count());
     }
     Ok(())
 }
 
 fn main(rt: HostRuntime) -> io::Result<()> {
+    let alloc = rt.alloc();
+    let (Ok(ops), Ok(kinds)) = (program_operators(alloc), program_operators(alloc)) else {
+        return Err(ErrorKind::OutOfMemory.into());
+    };
+    let host = Host::new(ops, |op: u32, a: i64, b: i64| kinds.value(op, a, b));
     for list in env::args(&rt)?.skip(1) {
         match fs::read_to_string(&rt, list.as_str()) {
-            Ok(text) => run_list(&rt, list.as_str(), text.as_str())?,
+            Ok(text) => run_list(&rt, &host, list.as_str(), text.as_str())?,
             Err(_) => println!(rt; "? {list} 0: not read")?,
         }
     }

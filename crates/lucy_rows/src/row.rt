@@ -1,4 +1,5 @@
 use lucy_app::lucy;
+use lucy_host::Host;
 use lucy_text::{MemShelf, MemSink, MemSource};
 use std::alloc::{AllocError, Global};
 
@@ -73,8 +74,12 @@ impl Row {
         }
     }
 
-    /// Runs the program on the row's words.
-    pub(crate) fn run(self, alloc: Global) -> Result<End, AllocError> {
+    /// Runs the program on the row's words, with the operators of the host.
+    pub(crate) fn run<F: Fn(u32, i64, i64) -> i64 + Sync>(
+        self,
+        alloc: Global,
+        host: &Host<F>,
+    ) -> Result<End, AllocError> {
         let mut shelf = MemShelf::new(self.files, self.fetches);
         let mut input = MemSource::new(self.input, self.reads.most.max(1), self.reads.fails);
         let mut out = sink(alloc, self.room, self.writes)?;
@@ -86,6 +91,7 @@ impl Row {
             &mut input,
             &mut out,
             &mut err,
+            host,
         );
         Ok(End {
             status,

@@ -1,6 +1,8 @@
 -- Laws of bytes that are read and written one part after another.
-use Rattle.std.proofs.Common.{ℕ, ◌≡◌, List, [], ◌++◌, Option, Some, None, refl, ap, sym, ◌∙◌, arith, append_assoc, append-nil}
-use Rattle.lucy_text.specs.Outside.{followed, appended, WritesFront}
+use Rattle.std.proofs.Common.{ℕ, zero, suc, ◌≡◌, ◌≤◌, Bool, true, false, List, [], ◌++◌, Option, Some, None, Ok, refl, ap, sym, subst, ◌∙◌, arith, append_assoc, append-nil}
+use Rattle.std.specs.Prelude.{IsSomeAnd}
+use Rattle.std.specs.Option.{option_map}
+use Rattle.lucy_text.specs.Outside.{followed, appended, WritesFront, gives_nothing, after_call, NoneFollows}
 
 pub appended-appended : (o : Option (List ℕ)) (a b : List ℕ) → appended (appended o a) b ≡ appended o (a ++ b)
 appended-appended None a b = refl
@@ -31,3 +33,27 @@ followed_more was now new a b e f = e ∙ ap (followed a) f ∙ followed-followe
 -- where nothing was written, that is a front of any bytes
 pub no_front : (was : Option (List ℕ)) (bytes : List ℕ) → WritesFront was was bytes
 no_front was bytes = (0, omega arith, sym (appended-nil was))
+
+-- a call that goes on is not counted where none has stopped
+pub goes_on : (before now : Option ℕ) (stops : Bool) → now ≡ option_map (after_call stops) before → stops ≡ false → before ≡ Some 0 → now ≡ Some 0
+goes_on before now stops counted going none = counted ∙ ap (λ b. option_map (after_call b) before) going ∙ ap (option_map (after_call false)) none
+
+-- after any call there is at most the one that stopped
+pub none_follows : (before now : Option ℕ) (stops : Bool) → now ≡ option_map (after_call stops) before → NoneFollows before now
+none_follows before now true counted none =
+    let P : Option ℕ → Type 0 = λ o. IsSomeAnd o (λ calls. calls ≤ 1) in
+    subst P (sym (counted ∙ ap (option_map (after_call true)) none)) (omega arith)
+none_follows before now false counted none =
+    let P : Option ℕ → Type 0 = λ o. IsSomeAnd o (λ calls. calls ≤ 1) in
+    subst P (sym (counted ∙ ap (option_map (after_call false)) none)) (omega arith)
+
+-- where none has stopped, none follows
+pub still_none : (now : Option ℕ) → now ≡ Some 0 → IsSomeAnd now (λ calls. calls ≤ 1)
+still_none now none =
+    let P : Option ℕ → Type 0 = λ o. IsSomeAnd o (λ calls. calls ≤ 1) in
+    subst P (sym none) (omega arith)
+
+-- a read of some bytes goes on
+pub some_is_no_stop : (E : Type 0) (n : ℕ) → (n ≡ 0 → ⊥) → gives_nothing {E = E} (Ok n) ≡ false
+some_is_no_stop E zero some = absurd (some refl)
+some_is_no_stop E (suc n) some = refl

@@ -1,5 +1,5 @@
 ghost use Rattle.std.specs.Prelude.{◌≡◌, ◌≤◌, ◌↔◌, IsTrue, Contains};
-ghost use Rattle.lucy_text.specs.Outside.{one_more};
+ghost use Rattle.lucy_text.specs.Outside.{one_more, after_call};
 
 use crate::Failed;
 
@@ -10,16 +10,19 @@ pub(crate) struct Calls {
     pub(crate) fails: Vec<u64>,
     pub(crate) made: u64,
     pub(crate) faults: u64,
+    /// Those from the first on that met the end or failed.
+    pub(crate) since_stop: u64,
 }
 
 impl Calls {
     pub(crate) fn new(fails: Vec<u64>) -> Calls
-        ensures { result ≡ record { fails = fails; made = 0; faults = 0 } }
+        ensures { result ≡ record { fails = fails; made = 0; faults = 0; since_stop = 0 } }
     {
         Calls {
             fails,
             made: 0,
             faults: 0,
+            since_stop: 0,
         }
     }
 
@@ -34,10 +37,23 @@ impl Calls {
 
     /// Counts a fault.
     pub(crate) fn fault(&mut self) -> Failed
-        ensures counted { self.new ≡ record self.old { faults = one_more self.old.faults } }
+        ensures counted { self.new ≡ record self.old {
+          faults = one_more self.old.faults;
+          since_stop = one_more self.old.since_stop;
+        } }
         ensures never_falls { self.old.faults ≤ self.new.faults }
     {
         self.faults = self.faults.saturating_add(1);
+        self.since_stop = self.since_stop.saturating_add(1);
         Failed
+    }
+
+    /// Notes a call that went well, and whether it met the end.
+    pub(crate) fn went(&mut self, ends: bool)
+        ensures { self.new ≡ record self.old { since_stop = after_call ends self.old.since_stop } }
+    {
+        if ends || self.since_stop > 0 {
+            self.since_stop = self.since_stop.saturating_add(1);
+        }
     }
 }

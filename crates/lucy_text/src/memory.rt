@@ -27,6 +27,7 @@ impl Model for MemSource {
       fails = s.calls.fails.items;
       calls = s.calls.made;
       faults = s.calls.faults;
+      since_stop = s.calls.since_stop;
     } };
 
     ghost invariant = { λ s. 1 ≤ s.most };
@@ -37,7 +38,7 @@ impl MemSource {
     pub fn new(bytes: Vec<u8>, most: usize, fails: Vec<u64>) -> MemSource
         requires { 1 ≤ most }
         ensures { result
-            ≡ record { left = bytes.items; most = most; fails = fails.items; calls = 0; faults = 0 } }
+            ≡ record { left = bytes.items; most = most; fails = fails.items; calls = 0; faults = 0; since_stop = 0 } }
     {
         MemSource {
             unread: Unread::new(bytes),
@@ -61,6 +62,8 @@ impl Source for MemSource {
 
     ghost ended = { λ s. nat_eq (length s.left) 0 };
 
+    ghost since_stop = { λ s. Some s.since_stop };
+
     fn read(&mut self, into: &mut [u8]) -> Result<usize, Failed>
         requires { 0 < length into.old }
         ensures fails { IsErr result ↔ Contains self.old.fails (one_more self.old.calls) }
@@ -76,7 +79,9 @@ impl Source for MemSource {
         if self.calls.next_fails() {
             return Err(self.calls.fault());
         }
-        Ok(self.unread.give(self.most, into))
+        let n = self.unread.give(self.most, into);
+        self.calls.went(n == 0);
+        Ok(n)
     }
 }
 
@@ -101,6 +106,7 @@ impl Model for MemSink {
       fails = s.calls.fails.items;
       calls = s.calls.made;
       faults = s.calls.faults;
+      since_stop = s.calls.since_stop;
     } };
 
     ghost invariant = { λ s.
@@ -119,6 +125,7 @@ impl MemSink {
           fails = fails.items;
           calls = 0;
           faults = 0;
+          since_stop = 0;
         } }
     {
         MemSink {
@@ -142,6 +149,8 @@ impl Sink for MemSink {
 
     ghost faults = { λ s. s.faults };
 
+    ghost since_stop = { λ s. Some s.since_stop };
+
     fn write(&mut self, from: &[u8]) -> Result<usize, Failed>
         requires { 0 < length from.now }
         ensures fails { IsErr result ↔ (Contains self.old.fails (one_more self.old.calls)
@@ -159,6 +168,7 @@ impl Sink for MemSink {
         }
         let n = self.most.min(from.len().min(left));
         self.bytes.extend_from_slice(&from[..n]).unwrap();
+        self.calls.went(false);
         Ok(n)
     }
 }

@@ -1,4 +1,4 @@
-ghost use Rattle.std.specs.Prelude.{◌≡◌, ◌≢◌, ◌≤◌, ◌↔◌, Some, length, Contains, IfOk, IsSome};
+ghost use Rattle.std.specs.Prelude.{◌≡◌, ◌≢◌, ◌≤◌, ◌↔◌, Some, None, length, Contains, IfOk, IsSome};
 ghost use Rattle.lucy_text.specs.Outside.{one_more};
 ghost use Rattle.lucy_text.specs.Shelf.{IsLonger, CountsFaults};
 ghost use Rattle.lucy_text.specs.MemoryShelf.{NamedList, held, ShelfState, shelf_after, shelf_after_fault};
@@ -46,6 +46,8 @@ impl Shelf for MemShelf {
     ghost files = { λ s. Some (held s.files) };
 
     ghost faults = { λ s. s.faults };
+
+    ghost fetches = { λ s. Some s.calls };
 
     fn fetch(&mut self, alloc: Global, name: &str, limit: u64) -> Result<Vec<u8>, ShelfError>
         ensures fails { (result ≡ Err ShelfError.Failed)
@@ -95,6 +97,8 @@ impl Shelf for SteadyShelf {
     ghost files = { λ s. Some (held s) };
 
     ghost faults = { λ _. 0 };
+
+    ghost fetches = { λ _. None };
 
     fn fetch(&mut self, alloc: Global, name: &str, limit: u64) -> Result<Vec<u8>, ShelfError>
         ensures ok { IfOk result (λ bytes. held self.old name.now ≡ Some bytes.items) }

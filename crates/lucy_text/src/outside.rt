@@ -1,6 +1,8 @@
-ghost use Rattle.std.specs.Prelude.{◌≡◌, ◌<◌, ◌≤◌, ℕ, Bool, List, Option, length, take};
+ghost use Rattle.std.specs.Prelude.{◌≡◌, ◌<◌, ◌≤◌, ℕ, Bool, List, [], Option, Some, length, take, is_err};
 ghost use Rattle.std.specs.Prelude.{IsTrue, IfOk, OnOk, OnErr};
+ghost use Rattle.std.specs.Option.{option_map};
 ghost use Rattle.lucy_text.specs.Outside.{followed, appended, AtEnd, HasCause, WritesFront};
+ghost use Rattle.lucy_text.specs.Outside.{gives_nothing, after_call, NoneFollows};
 
 /// A read or a write failed, and its source or sink counted a fault.
 #[derive(Clone, Copy, Debug, PartialEq, Eq)]
@@ -18,6 +20,10 @@ pub trait Source {
     /// nothing is left, one over a reader once a read gave 0.
     ghost ended: { Self → Bool };
 
+    /// How many reads there were from the first on that met the end or failed, where the source
+    /// counts them. A count at the greatest u64 stays there.
+    ghost since_stop: { Self → Option ℕ };
+
     /// Puts the next bytes at the front of `into` and gives their number, 0 at the end alone.
     /// It may give fewer than `into` holds. What it does to the rest of `into` is left open.
     fn read(&mut self, into: &mut [u8]) -> Result<usize, Failed>
@@ -30,6 +36,7 @@ pub trait Source {
         ensures stays_ended { IsTrue (ended self.old) → IsTrue (ended self.new) }
         ensures gives_no_more { IsTrue (ended self.old) → IfOk result (λ n. n ≡ 0) }
         ensures err { OnErr result (left self.new ≡ left self.old) }
+        ensures counted { since_stop self.new ≡ option_map (after_call (gives_nothing result)) (since_stop self.old) }
         ensures cause { HasCause (faults self.old) (faults self.new) result };
 }
 
@@ -41,6 +48,10 @@ pub trait Sink {
     /// How many writes have failed. A count at the greatest u64 stays there.
     ghost faults: { Self → ℕ };
 
+    /// How many writes there were from the first failed one on, where the sink counts them. A count
+    /// at the greatest u64 stays there.
+    ghost since_stop: { Self → Option ℕ };
+
     /// Takes bytes from the front of `from`, at least one, and gives their number.
     fn write(&mut self, from: &[u8]) -> Result<usize, Failed>
         requires { 0 < length from.now }
@@ -49,14 +60,19 @@ pub trait Sink {
         ensures bytes { IfOk result (λ n.
             written self.new ≡ appended (written self.old) (take n from.now)) }
         ensures err { OnErr result (written self.new ≡ written self.old) }
+        ensures counted { since_stop self.new ≡ option_map (after_call (is_err result)) (since_stop self.old) }
         ensures cause { HasCause (faults self.old) (faults self.new) result };
 }
 
-/// Writes all the bytes, in as many calls as the sink needs.
+/// Writes all the bytes, in as many calls as the sink needs, and in none where there are no bytes. No
+/// call follows one that failed.
 pub fn write_all<K: Sink>(sink: &mut K, bytes: &[u8]) -> Result<(), Failed>
     ensures ok { OnOk result (K.written sink.new ≡ appended (K.written sink.old) bytes.now) }
     ensures front { WritesFront (K.written sink.old) (K.written sink.new) bytes.now }
     ensures cause { HasCause (K.faults sink.old) (K.faults sink.new) result }
+    ensures goes_on { OnOk result (K.since_stop sink.old ≡ Some 0 → K.since_stop sink.new ≡ Some 0) }
+    ensures none_follows { NoneFollows (K.since_stop sink.old) (K.since_stop sink.new) }
+    ensures untouched { bytes.now ≡ [] → sink.new ≡ sink.old }
 {
     let mut done = 0usize;
     while done < bytes.len() {

@@ -39,6 +39,8 @@ impl<R: Read> Source for RealSource<R> {
 
     ghost ended = { has_ended };
 
+    ghost since_stop = { λ _. None };
+
     /// One call of the reader. Any error of it is a fault, an interrupted call too.
     fn read(&mut self, into: &mut [u8]) -> Result<usize, Failed>
         requires { 0 < length into.old }
@@ -93,6 +95,8 @@ impl<W: Write> Sink for RealSink<W> {
     ghost written = { λ _. None };
 
     ghost faults = { write_faults };
+
+    ghost since_stop = { λ _. None };
 
     /// One call of the writer. Any error of it is a fault, an interrupted call too. Nothing is
     /// flushed: take a writer that holds nothing back, as std's standard output and files are.

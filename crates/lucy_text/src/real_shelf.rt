@@ -1,5 +1,6 @@
-ghost use Rattle.std.specs.Prelude.{◌≡◌, ◌<◌, ◌≤◌, None, length, IfOk, IfSome, MatchOption};
-ghost use Rattle.lucy_text.specs.RealShelf.{fetch_faults};
+ghost use Rattle.std.specs.Prelude.{◌≡◌, ◌≢◌, ◌↔◌, ◌≤◌, None, length, IfOk, IfSome};
+ghost use Rattle.lucy_text.specs.RealShelf.{fetch_faults, IsReadOf, IsFetchOf};
+ghost use Rattle.lucy_text.specs.Shelf.{IsHeld, Lacks, CountsFaults};
 
 use crate::{Shelf, ShelfError};
 use std::alloc::Global;
@@ -25,8 +26,7 @@ impl<'a, R: Files> RealShelf<'a, R> {
 // All bytes that the reader gives, or nothing where there are more than the limit.
 fn read_within<R: Read + Drop>(reader: R, alloc: Global, limit: u64) -> io::Result<Option<Vec<u8>>>
     ensures within { IfOk result (λ read. IfSome read (λ bytes. length bytes.items ≤ limit)) }
-    ensures all { IfOk result (λ read. IfSome (R.remaining reader) (λ left.
-        MatchOption read (limit < length left) (λ bytes. bytes.items ≡ left))) }
+    ensures all { IfOk result (IsReadOf (R.remaining reader) limit) }
 {
     let mut bytes = Vec::new(alloc);
     reader
@@ -44,7 +44,8 @@ fn read_file<R: Files>(
     name: &str,
     limit: u64,
 ) -> io::Result<Option<Vec<u8>>>
-    ensures { IfOk result (λ read. IfSome read (λ bytes. length bytes.items ≤ limit)) }
+    ensures within { IfOk result (λ read. IfSome read (λ bytes. length bytes.items ≤ limit)) }
+    ensures all { IfOk result (λ read. (file : R.File) × IsReadOf (R.File.remaining file) limit read) }
 {
     read_within(File::open(files, name)?, alloc, limit)
 }
@@ -56,9 +57,18 @@ impl<'a, R: Files> Shelf for RealShelf<'a, R> {
 
     ghost faults = { fetch_faults };
 
-    /// The bytes of the file at the path. Any error of the file system is a fault, also that there
-    /// is no such file.
-    fn fetch(&mut self, alloc: Global, name: &str, limit: u64) -> Result<Vec<u8>, ShelfError> {
+    ghost fetches = { λ _. None };
+
+    /// The bytes of the file at the path. Any error of the file system but want of memory is a fault,
+    /// also that there is no such file.
+    fn fetch(&mut self, alloc: Global, name: &str, limit: u64) -> Result<Vec<u8>, ShelfError>
+        ensures read { IsFetchOf (λ read. (file : R.File) × IsReadOf (R.File.remaining file) limit read) result }
+        ensures within { IfOk result (λ bytes. length bytes.items ≤ limit) }
+        ensures ok { IfOk result (λ bytes. IsHeld None name.now bytes.items) }
+        ensures missing { (result ≡ Err ShelfError.Missing) ↔ (Lacks None name.now × (result ≢ Err ShelfError.OutOfMemory)) }
+        ensures never_falls { fetch_faults self.old ≤ fetch_faults self.new }
+        ensures cause { CountsFaults (fetch_faults self.old) (fetch_faults self.new) result }
+    {
         match read_file(self.system, alloc, name, limit) {
             Ok(Some(bytes)) => Ok(bytes),
             Ok(None) => Err(ShelfError::TooLong),

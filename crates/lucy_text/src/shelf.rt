@@ -1,4 +1,6 @@
 ghost use Rattle.std.specs.Prelude.{◌≡◌, ◌≢◌, ◌≤◌, ◌↔◌, ℕ, Option, length, IfSome, IfOk};
+ghost use Rattle.std.specs.Option.{option_map};
+ghost use Rattle.lucy_text.specs.Outside.{one_more};
 ghost use Rattle.lucy_text.specs.Shelf.{Files, IsHeld, Lacks, IsLonger, IsCut, CountsFaults};
 
 use std::alloc::{AllocError, Global};
@@ -35,6 +37,9 @@ pub trait Shelf {
     /// How many fetches have failed. A count at the greatest u64 stays there.
     ghost faults: { Self → ℕ };
 
+    /// How many fetches there were, where the shelf counts them. A count at the greatest u64 stays there.
+    ghost fetches: { Self → Option ℕ };
+
     /// All bytes of the file of the name, of which there are at most `limit`. A shelf that doesn't
     /// tell its files has taken `limit` + 1 bytes where it answers `TooLong`.
     fn fetch(&mut self, alloc: Global, name: &str, limit: u64) -> Result<Vec<u8>, ShelfError>
@@ -45,6 +50,7 @@ pub trait Shelf {
             ↔ (Lacks (files self.old) name.now × (result ≢ Err ShelfError.OutOfMemory)) }
         ensures too_long { IfSome (files self.old) (λ held. (result ≡ Err ShelfError.TooLong)
             ↔ (IsLonger (held name.now) limit × ¬ IsCut result)) }
+        ensures counted { fetches self.new ≡ option_map one_more (fetches self.old) }
         ensures never_falls { faults self.old ≤ faults self.new }
         ensures cause { CountsFaults (faults self.old) (faults self.new) result };
 }

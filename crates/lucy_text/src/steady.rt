@@ -34,6 +34,8 @@ impl Source for SteadySource {
 
     ghost ended = { λ s. nat_eq (length s) 0 };
 
+    ghost since_stop = { λ _. None };
+
     fn read(&mut self, into: &mut [u8]) -> Result<usize, Failed>
         requires { 0 < length into.old }
         ensures count { result ≡ Ok (min (length self.old) (length into.old)) }
@@ -62,6 +64,8 @@ impl Sink for SteadySink {
     ghost written = { λ _. None };
 
     ghost faults = { λ _. 0 };
+
+    ghost since_stop = { λ _. None };
 
     fn write(&mut self, from: &[u8]) -> Result<usize, Failed>
         requires { 0 < length from.now }

@@ -159,14 +159,25 @@ fn memory_holds_the_first_file_of_a_name(rt: HostRuntime) -> Result<(), Fail> {
 
 #[test]
 fn a_real_shelf_reads_files(rt: HostRuntime) -> Result<(), Fail> {
-    let path = "lucy_text_shelf_test";
+    let (path, other, folder) = (
+        "lucy_text_shelf_test",
+        "lucy_text_shelf_test ",
+        "lucy_text_shelf",
+    );
     fs::write(&rt, path, "one")?;
+    fs::write(&rt, other, "another")?;
+    fs::create_dir(&rt, folder)?;
     let rows = [
         (path, 3, Ok("one")),
         (path, 2, Err(ShelfError::TooLong)),
+        (other, 7, Ok("another")),
+        (other, 6, Err(ShelfError::TooLong)),
         ("lucy_text_no_file", 9, Err(ShelfError::Failed)),
+        (folder, 9, Err(ShelfError::Failed)),
     ];
     fetches(&rt, &mut RealShelf::new(&rt), &rows);
+    fs::remove_dir(&rt, folder)?;
+    fs::remove_file(&rt, other)?;
     fs::remove_file(&rt, path)?;
     Ok(())
 }

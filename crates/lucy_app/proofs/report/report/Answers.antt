@@ -11,5 +11,5 @@ name_lines-requires-clause-all c =
 pub each-preserved : goal.each-preserved
 each-preserved c =
     let l = c.each in
-    report_more c.args.placed.now.nodes c.args.typed.now l.number c.nodes-nodes.result c.node-node.result.now c.list.result.now l.out.items _ _ _ c.node-node.ensures.is c.requires.all c.nodes-nodes.ensures
+    report_more c.args.placed.now.nodes c.args.typed.now l.number c.nodes-nodes.result c.node-node.result.now c.list.result.now l.out.items _ _ _ c.node-node.ensures.is c.requires.all c.nodes-nodes.ensures.count
     c.list.ensures c.in_ok-node_line.ensures c.in_ok-name_lines.ensures l.invariant

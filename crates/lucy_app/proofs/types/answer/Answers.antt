@@ -1,7 +1,6 @@
-use Rattle.lucy_tree.specs.View.{program_tree}
-use Rattle.lucy_app.proofs.Typed.{tree_told}
+use Rattle.lucy_app.specs.Types.{IsReportOf, RefusesText}
+use Rattle.lucy_app.proofs.Outcomes.{program_outcome}
 use Rattle.lucy_app.proofs.types.answer.Goals as goal
 
-pub returns-clause-refused : goal.returns-clause-refused
-returns-clause-refused g c cause is =
-    tree_told _ _ (program_tree c.in_ok-program.program) c.report_of.result cause c.in_ok-program.ensures.ok c.report_of.ensures.refused is
+pub returns : goal.returns
+returns c = program_outcome (IsReportOf c.args.ops.now) (RefusesText c.args.ops.now) _ _ _ c.in_ok-text.was (rw c.deref.ensures.value at c.report_of.ensures.ok) (rw c.deref.ensures.value at c.report_of.ensures.refused)

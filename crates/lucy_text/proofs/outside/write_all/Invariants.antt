@@ -1,4 +1,4 @@
-use Rattle.std.proofs.Common.{length, ◌-◌, ◌≡◌, ◌≤◌, take}
+use Rattle.std.proofs.Common.{length, ◌-◌, ◌≡◌, ◌≤◌, Some, take}
 use Rattle.lucy_text.specs.Outside.{appended}
 use Rattle.lucy_text.proofs.outside.write_all.Given as goal
 
@@ -8,6 +8,8 @@ invariant-loop-done g l = record {
   within : l.done ≤ length l.bytes;
   written : g.K.Sink.written l.sink ≡ appended (g.K.Sink.written l.initial.sink) (take l.done l.bytes);
   kept : g.K.Sink.faults l.sink ≡ g.K.Sink.faults l.initial.sink;
+  going : g.K.Sink.since_stop l.initial.sink ≡ Some 0 → g.K.Sink.since_stop l.sink ≡ Some 0;
+  untouched : l.done ≡ 0 → l.sink ≡ l.initial.sink;
 }
 
 abbrev pub decreases-loop-done : goal.decreases-loop-done

@@ -1,0 +1,84 @@
+-- What is owed where a text, or an input, came out so.
+use Rattle.std.proofs.Common.{ℕ, ◌≤◌, ◌<◌, ◌≡◌, ◌⊎◌, List, Result, Ok, Err, refl, ap, sym, ◌∙◌, subst, inl, inr, arith}
+use Rattle.std.specs.Prelude.{length, IfOk, IfErr}
+use Rattle.std.specs.declared.alloc.Global.{Global}
+use Rattle.std.specs.declared.vec.Vec.{Vec}
+use Rattle.lucy_word.specs.declared.limit.Limit.TheVariants as limit
+use Rattle.lucy_text.specs.declared.shelf.ShelfError.{ShelfError}
+use Rattle.lucy_text.specs.declared.shelf.ShelfError.TheVariants as shelf
+use Rattle.lucy_app.specs.World.{Stop, Ended, Failed, Passed, Open}
+use Rattle.lucy_app.specs.Answers.{limit_passed}
+use Rattle.lucy_app.specs.Fields.{fields}
+use Rattle.lucy_app.specs.Order.{IsVerdictLine, RefusesFields}
+use Rattle.lucy_app.specs.Owes.{OwesOrder, OwesProgram}
+use Rattle.lucy_app.specs.Outcomes.{bytes_of, refusal_answer, fetch_refusal, RefusesProgram, RefusesInput, IsOutcome, IsGathered}
+use Rattle.lucy_app.specs.declared.program_refusal.ProgramCause.{ProgramCause}
+use Rattle.lucy_app.specs.declared.input_refusal.InputCause.{InputCause}
+use Rattle.lucy_app.specs.declared.refusal.Refusal.{Refusal}
+use Rattle.lucy_app.specs.declared.refusal.Refusal.TheVariants.{Program, Input, ReadFault, OutOfMemory}
+
+program_owed : (Prints : List ℕ → List ℕ → Type 0) (Refuses : List ℕ → ProgramCause → Type 0) (text : List ℕ) (r : Result (Vec ℕ Global) Refusal) →
+    IfOk r (λ v. Prints text v.items) → IfErr r (RefusesProgram (Refuses text)) → IsOutcome (OwesProgram Prints Refuses (Ok text)) r
+program_owed Prints Refuses text (Ok print) is why = inl (print.items, is, refl)
+program_owed Prints Refuses text (Err e) is (inl out) = inl out
+program_owed Prints Refuses text (Err e) is (inr why) = inr (inr (why.0, why.1, ap refusal_answer why.2))
+
+-- the text that a fetch gave came out so
+pub program_outcome : (Prints : List ℕ → List ℕ → Type 0) (Refuses : List ℕ → ProgramCause → Type 0) (fetched : Result (Vec ℕ Global) ShelfError) (text : Vec ℕ Global) (r : Result (Vec ℕ Global) Refusal) →
+    fetched ≡ Ok text → IfOk r (λ v. Prints text.items v.items) → IfErr r (RefusesProgram (Refuses text.items)) → IsOutcome (OwesProgram Prints Refuses (bytes_of fetched)) r
+program_outcome Prints Refuses fetched text r gave is why =
+    let P : Result (Vec ℕ Global) ShelfError → Type 0 = λ f. IsOutcome (OwesProgram Prints Refuses (bytes_of f)) r in
+    subst P (sym gave) (program_owed Prints Refuses text.items r is why)
+
+fetch_owed : (Prints : List ℕ → List ℕ → Type 0) (Refuses : List ℕ → ProgramCause → Type 0) (e : ShelfError) →
+    (fetch_refusal e ≡ OutOfMemory) ⊎ OwesProgram Prints Refuses (Err e) (refusal_answer (fetch_refusal e))
+fetch_owed Prints Refuses shelf.Failed = inr refl
+fetch_owed Prints Refuses shelf.Missing = inr refl
+fetch_owed Prints Refuses shelf.TooLong = inr refl
+fetch_owed Prints Refuses shelf.OutOfMemory = inl refl
+
+-- a fetch gave no text
+pub fetch_outcome : (Prints : List ℕ → List ℕ → Type 0) (Refuses : List ℕ → ProgramCause → Type 0) (fetched : Result (Vec ℕ Global) ShelfError) (e : ShelfError) (r : Result (Vec ℕ Global) Refusal) (refusal : Refusal) →
+    fetched ≡ Err e → r ≡ Err refusal → refusal ≡ fetch_refusal e → IsOutcome (OwesProgram Prints Refuses (bytes_of fetched)) r
+fetch_outcome Prints Refuses fetched e r refusal gave is so =
+    let P : Result (Vec ℕ Global) ShelfError → Type 0 = λ f. IsOutcome (OwesProgram Prints Refuses (bytes_of f)) r in
+    let Q : Result (Vec ℕ Global) Refusal → Type 0 = λ x. IsOutcome (OwesProgram Prints Refuses (Err e)) x in
+    subst P (sym gave) (subst Q (sym (is ∙ ap Err so)) (fetch_owed Prints Refuses e))
+
+-- an input that was read to its end came out so
+order_owed : (text : List ℕ) (r : Result (Vec ℕ Global) Refusal) → IfOk r (λ v. IsVerdictLine text v.items) → IfErr r (RefusesInput (RefusesFields (fields text))) →
+    IsOutcome (OwesOrder text Ended) r
+order_owed text (Ok line) is why = inl (line.items, is, refl)
+order_owed text (Err e) is (inl out) = inl out
+order_owed text (Err e) is (inr why) = inr (inr (why.0, why.1, ap refusal_answer why.2))
+
+pub order_outcome : (most : ℕ) (taken bytes : List ℕ) (stop : Stop) (r : Result (Vec ℕ Global) Refusal) → bytes ≡ taken → length bytes ≤ most →
+    ((length taken ≤ most) × (stop ≡ Ended)) ⊎ ((most < length taken) × (stop ≡ Passed)) →
+    IfOk r (λ v. IsVerdictLine bytes v.items) → IfErr r (RefusesInput (RefusesFields (fields bytes))) → IsOutcome (OwesOrder taken stop) r
+order_outcome most taken bytes stop r same short (inl ended) is why =
+    let P : List ℕ → Type 0 = λ t. IsOutcome (OwesOrder t stop) r in
+    let Q : Stop → Type 0 = λ s. IsOutcome (OwesOrder bytes s) r in
+    subst P same (subst Q (sym ended.1) (order_owed bytes r is why))
+order_outcome most taken bytes stop r same short (inr passed) is why = absurd (omega (arith, ap length same, passed.0, short))
+
+-- an input that is too long
+pub long_outcome : (most : ℕ) (taken bytes : List ℕ) (stop : Stop) (e : Refusal) → bytes ≡ taken → most < length bytes →
+    ((length taken ≤ most) × (stop ≡ Ended)) ⊎ ((most < length taken) × (stop ≡ Passed)) → refusal_answer e ≡ limit_passed limit.OrderInput → IsOutcome (OwesOrder taken stop) (Err e)
+long_outcome most taken bytes stop e same long (inl ended) is = absurd (omega (arith, ap length same, ended.0, long))
+long_outcome most taken bytes stop e same long (inr passed) is =
+    let Q : Stop → Type 0 = λ s. IsOutcome (OwesOrder taken s) (Err e) in
+    subst Q (sym passed.1) (inr is)
+
+fault_owed : (taken : List ℕ) (stop : Stop) (e : Refusal) → ((e ≡ ReadFault) × (stop ≡ Failed)) ⊎ ((e ≡ OutOfMemory) × (stop ≡ Open)) → (e ≡ OutOfMemory) ⊎ OwesOrder taken stop (refusal_answer e)
+fault_owed taken stop e (inl fault) =
+    let P : Stop → Type 0 = λ s. OwesOrder taken s (refusal_answer e) in
+    inr (subst P (sym fault.1) (ap refusal_answer fault.0))
+fault_owed taken stop e (inr out) = inl out.0
+
+-- an input that was not read to its end
+pub unread_outcome : (most : ℕ) (taken : List ℕ) (stop : Stop) (gathered r : Result (Vec ℕ Global) Refusal) (e f : Refusal) → IsGathered most taken stop gathered → gathered ≡ Err e → r ≡ Err f → f ≡ e →
+    IsOutcome (OwesOrder taken stop) r
+unread_outcome most taken stop gathered r e f how was is same =
+    let G : Result (Vec ℕ Global) Refusal → Type 0 = λ g. IsGathered most taken stop g in
+    let Q : Result (Vec ℕ Global) Refusal → Type 0 = λ x. IsOutcome (OwesOrder taken stop) x in
+    subst Q (sym (is ∙ ap Err same)) (fault_owed taken stop e (subst G was how))

@@ -1,0 +1,70 @@
+-- Every status is at most 7.
+use Rattle.std.proofs.Common.{ℕ, ◌≤◌, ◌≡◌, ◌⊎◌, List, Option, Some, None, Result, Ok, Err, inl, inr, ap, arith}
+use Rattle.std.specs.Prelude.{IsSomeAnd}
+use Rattle.lucy_text.specs.declared.shelf.ShelfError.{ShelfError}
+use Rattle.lucy_text.specs.declared.shelf.ShelfError.TheVariants as shelf
+use Rattle.lucy_app.specs.Commands.{Command, Order, Show, Types}
+use Rattle.lucy_app.specs.World.{SeenSink, World, Stop, Unread, Ended, Failed, Passed, Open, Given}
+use Rattle.lucy_app.specs.ProgramRefusals.{program_status}
+use Rattle.lucy_app.specs.InputRefusals.{input_status}
+use Rattle.lucy_app.specs.Answers.{Answer, no_command}
+use Rattle.lucy_app.specs.Show.{IsPrintOf, RefusesSyntax}
+use Rattle.lucy_app.specs.Types.{IsReportOf, RefusesText}
+use Rattle.lucy_app.specs.Owes.{OwesOrder, OwesProgram, Owes}
+use Rattle.lucy_app.specs.Ends.{Tells, MayAnswer, EndsWith, Ends}
+use Rattle.lucy_app.specs.declared.program_refusal.ProgramCause.{ProgramCause}
+use Rattle.lucy_app.specs.declared.program_refusal.ProgramCause.TheVariants as program
+use Rattle.lucy_app.specs.declared.input_refusal.InputCause.{InputCause}
+use Rattle.lucy_app.specs.declared.input_refusal.InputCause.TheVariants as input
+
+program_within : (cause : ProgramCause) → program_status cause ≤ 7
+program_within (program.Limit passed) = omega arith
+program_within cause = omega arith
+
+input_within : (cause : InputCause) → input_status cause ≤ 7
+input_within (input.Limit passed) = omega arith
+input_within cause = omega arith
+
+same_within : (a b : Answer) → a ≡ b → b.status ≤ 7 → a.status ≤ 7
+same_within a b same h = omega (arith, ap (λ x. x.status) same, h)
+
+order_within : (taken : List ℕ) (stop : Stop) (a : Answer) → OwesOrder taken stop a → a.status ≤ 7
+order_within taken Ended a (inl is) = same_within a _ is.2 (omega arith)
+order_within taken Ended a (inr is) = same_within a _ is.2 (input_within is.0)
+order_within taken Failed a is = same_within a _ is (omega arith)
+order_within taken Passed a is = same_within a _ is (omega arith)
+order_within taken stop a is = absurd is
+
+file_within : (Prints : List ℕ → List ℕ → Type 0) (Refuses : List ℕ → ProgramCause → Type 0) (fetched : Result (List ℕ) ShelfError) (a : Answer) → OwesProgram Prints Refuses fetched a → a.status ≤ 7
+file_within Prints Refuses (Ok text) a (inl is) = same_within a _ is.2 (omega arith)
+file_within Prints Refuses (Ok text) a (inr is) = same_within a _ is.2 (program_within is.0)
+file_within Prints Refuses (Err shelf.Failed) a is = same_within a _ is (omega arith)
+file_within Prints Refuses (Err shelf.Missing) a is = same_within a _ is (omega arith)
+file_within Prints Refuses (Err shelf.TooLong) a is = same_within a _ is (omega arith)
+file_within Prints Refuses (Err shelf.OutOfMemory) a is = absurd is
+
+fetched_within : (Prints : List ℕ → List ℕ → Type 0) (Refuses : List ℕ → ProgramCause → Type 0) (fetched : Option (Result (List ℕ) ShelfError)) (a : Answer) →
+    IsSomeAnd fetched (λ r. OwesProgram Prints Refuses r a) → a.status ≤ 7
+fetched_within Prints Refuses None a is = absurd is
+fetched_within Prints Refuses (Some fetched) a is = file_within Prints Refuses fetched a is
+
+owed_within : (command : Command) (given : Given) (a : Answer) → Owes command given a → a.status ≤ 7
+owed_within Order given a is = order_within given.taken given.stop a is
+owed_within (Show file) given a is = fetched_within IsPrintOf RefusesSyntax given.fetched a is
+owed_within (Types file) given a is = fetched_within (IsReportOf given.operators) (RefusesText given.operators) given.fetched a is
+
+answer_within : (command : Command) (given : Given) (a : Answer) → MayAnswer command given a → a.status ≤ 7
+answer_within command given a (inl is) = owed_within command given a is
+answer_within command given a (inr is) = same_within a _ is.2 (omega arith)
+
+tells_within : (told : ℕ) (lines : List ℕ) (err err' : SeenSink) (status : ℕ) → told ≤ 7 → Tells told lines err err' status → status ≤ 7
+tells_within told lines err err' status h (inl is) = omega (arith, is.0, h)
+tells_within told lines err err' status h (inr is) = omega (arith, is.0)
+
+ends_with_within : (command : Command) (given : Given) (before after : World) (status : ℕ) → EndsWith command given before after status → status ≤ 7
+ends_with_within command given before after status (inl is) = tells_within is.0.status is.0.err before.err after.err status (answer_within command given is.0 is.1) is.2.told
+ends_with_within command given before after status (inr is) = tells_within 5 _ before.err after.err status (omega arith) is.2.told
+
+pub ends_within : (found : Option Command) (before after : World) (status : ℕ) → Ends found before after status → status ≤ 7
+ends_within None before after status is = tells_within 2 no_command.err before.err after.err status (omega arith) is.2.told
+ends_within (Some command) before after status is = ends_with_within command is.0 before after status is.2

@@ -1,0 +1,11 @@
+use Rattle.lucy_app.proofs.Owed.{owes_one, order_owes_one, show_owes_one}
+use Rattle.lucy_app.proofs.laws.one_answer.Goals as goal
+
+pub returns-clause-alike : goal.returns-clause-alike
+returns-clause-alike c = owes_one
+
+pub returns-clause-order : goal.returns-clause-order
+returns-clause-order c given a b is also = order_owes_one given.taken given.stop a b is also
+
+pub returns-clause-show : goal.returns-clause-show
+returns-clause-show c file given a b is also = show_owes_one given.fetched a b is also

@@ -1,0 +1,50 @@
+-- The answers of commands.
+use Rattle.std.specs.Prelude.{ℕ, ◌≡◌, ◌⊎◌, List, []}
+use Rattle.lucy_word.specs.declared.limit.Limit.{Limit}
+use Rattle.lucy_app.specs.Lines.{limit_line, read_fault_line, memory_line, words_line}
+use Rattle.lucy_app.specs.ProgramRefusals.{program_status, program_line}
+use Rattle.lucy_app.specs.InputRefusals.{input_status, input_line}
+use Rattle.lucy_app.specs.declared.program_refusal.ProgramCause.{ProgramCause}
+use Rattle.lucy_app.specs.declared.program_refusal.ProgramCause.TheVariants.{Clash}
+use Rattle.lucy_app.specs.declared.input_refusal.InputCause.{InputCause}
+
+-- an answer: its status, what stands on the output, and what stands on the fault sink
+pub record Answer : Type 0 where
+  pub status : ℕ
+  pub out : List ℕ
+  pub err : List ℕ
+
+-- this is printed
+abbrev pub printed : (out : List ℕ) → Answer
+printed out = record { status = 0; out = out; err = [] }
+
+-- nothing is printed, and lines say why
+abbrev pub refused : (status : ℕ) (lines : List ℕ) → Answer
+refused status lines = record { status = status; out = []; err = lines }
+
+-- the words name no command
+abbrev pub no_command : Answer
+no_command = refused 2 words_line
+
+-- a fetch or a read failed, or no file has the name
+abbrev pub read_fault : Answer
+read_fault = refused 4 read_fault_line
+
+-- a limit is passed
+abbrev pub limit_passed : Limit → Answer
+limit_passed passed = refused 6 (limit_line passed)
+
+-- the program, or the input, is refused for this cause
+abbrev pub program_refused : ProgramCause → Answer
+program_refused cause = refused (program_status cause) (program_line cause)
+
+abbrev pub input_refused : InputCause → Answer
+input_refused cause = refused (input_status cause) (input_line cause)
+
+-- memory ran out once this stood on the output
+abbrev pub out_of_memory : (out : List ℕ) → Answer
+out_of_memory out = record { status = 7; out = out; err = memory_line }
+
+-- two answers are one, but that both may tell of a clash in the same node, each by a path of its own
+abbrev pub Alike : Answer → Answer → Type 0
+Alike a b = (a ≡ b) ⊎ ((node : List ℕ) × (path other : List (List ℕ)) × (a ≡ program_refused (Clash node path)) × (b ≡ program_refused (Clash node other)))
