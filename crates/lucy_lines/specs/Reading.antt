@@ -1,0 +1,56 @@
+-- What a reader of an input is seen as, and what a call of it answers.
+use Rattle.std.specs.Prelude.{ℕ, ◌≡◌, ◌⊎◌, Bool, true, false, List, [], ◌++◌, Option, Result, Ok, Err}
+use Rattle.lucy_text.specs.Outside.{followed, Rose}
+use Rattle.lucy_lines.specs.declared.input.InputSpec.{InputSpec}
+use Rattle.lucy_lines.specs.declared.reader.Line as line_type
+use Rattle.lucy_lines.specs.declared.reader.Line.TheVariants.{Item, End}
+use Rattle.lucy_lines.specs.declared.reader.TextFault.{TextFault}
+use Rattle.lucy_lines.specs.declared.reader.TextFault.TheVariants.{BadLine, UnknownStream, BadValue, ReadFault, TooLong}
+use Rattle.lucy_lines.specs.Cuts.{Held, Answer, Gives, Refuses, Wants, Next, with_more}
+
+-- A reader of these inputs: the bytes that it holds, whether a read has met their end, and whether there is nothing more to ask for.
+pub record ReaderState : Type 0 where
+  pub inputs : List InputSpec
+  pub held : Held
+  pub closed : Bool
+  pub ended : Bool
+
+-- a reader of these inputs that has read nothing
+abbrev pub new_reader : List InputSpec → ReaderState
+new_reader inputs = record { inputs = inputs; held = record { lines = 0; used = 0; rest = [] }; closed = false; ended = false }
+
+-- the answer of a call, before which this was held with the bytes that the call took
+abbrev pub Answers : List InputSpec → Bool → Held → Held → Result line_type.Line TextFault → Type 0
+Answers inputs closed was now (Ok (Item s v)) = Next inputs closed was (Gives (record { stream = s; value = v }) now)
+Answers inputs closed was now (Ok End) = (closed ≡ true) × Next inputs closed was (Wants now)
+Answers inputs closed was now (Err ReadFault) = (closed ≡ false) × Next inputs closed was (Wants now)
+Answers inputs closed was now (Err (BadLine n)) = Next inputs closed was (Refuses (BadLine n))
+Answers inputs closed was now (Err (UnknownStream n)) = Next inputs closed was (Refuses (UnknownStream n))
+Answers inputs closed was now (Err (BadValue n)) = Next inputs closed was (Refuses (BadValue n))
+Answers inputs closed was now (Err TooLong) = Next inputs closed was (Refuses TooLong)
+
+-- bytes were asked for where the bytes before those of the last read decided nothing
+abbrev pub Asked : ReaderState → List ℕ → Type 0
+Asked was taken = (early late : List ℕ) × (h : Held) × (taken ≡ early ++ late) × Next was.inputs false (with_more was.held early) (Wants h)
+
+-- A call took these bytes, and answered by what was held with them. Once the end was met a call takes none.
+pub record Took (was now : ReaderState) (before after : Option (List ℕ)) (result : Result line_type.Line TextFault) (taken : List ℕ) : Type 0 where
+  pub bytes : before ≡ followed taken after
+  pub quiet : was.closed ≡ true → (taken ≡ []) × (now.closed ≡ true)
+  pub needed : (taken ≡ []) ⊎ Asked was taken
+  pub answer : Answers was.inputs now.closed (with_more was.held taken) now.held result
+
+-- the answer needs no more bytes
+abbrev pub IsDecided : Answer → Type 0
+IsDecided (Wants h) = ⊥
+IsDecided a = Unit {0}
+
+-- nothing follows the answer
+abbrev pub IsLast : Result line_type.Line TextFault → Type 0
+IsLast (Ok (Item s v)) = ⊥
+IsLast r = Unit {0}
+
+-- the count has risen where the answer is a read fault, and stands still where it isn't
+abbrev pub Blames : (before now : ℕ) → Result line_type.Line TextFault → Type 0
+Blames before now (Err ReadFault) = Rose before now
+Blames before now r = now ≡ before
