@@ -1,0 +1,7 @@
+mod ListSteps
+mod InstanceLaws
+mod CountLaws
+mod TurnLaws
+mod OwnLaws
+mod RunLaws
+mod ReadLaws

@@ -1,0 +1,90 @@
+-- The lists of places that read in their own instance.
+use Rattle.std.proofs.Common.{ℕ, zero, suc, ◌+◌, ◌-◌, ◌<◌, ◌≤◌, ◌≡◌, List, [], ◌∷◌, ◌++◌, Some, length, map, get_or, set, replicate, take, ap, sym, refl, ◌∙◌, subst, arith}
+use Rattle.std.specs.Prelude.{ℤ, slice_get, slice_index_or}
+use Rattle.std.specs.List.{AllByRecursion, range_with_len}
+use Rattle.std.proofs.lemmas.Option.{get_or_from_slice_get}
+use Rattle.lucy_host.specs.Arity.{arity}
+use Rattle.lucy_host.specs.OpValue.{op_value}
+use Rattle.lucy_host.specs.declared.op.Op.{Op}
+use Rattle.lucy_host.specs.declared.op.Op.TheVariants as op
+use Rattle.lucy_host.specs.declared.kind.HostKind.{HostKind}
+use Rattle.lucy_stream.specs.Items.{list_at}
+use Rattle.lucy_stream.specs.Forms.{Pointwise}
+use Rattle.lucy_stream.specs.Lists.{item_by_item, form_list}
+use Rattle.lucy_kahn.specs.Outcomes.{most_items}
+use Rattle.lucy_kahn.specs.Turns.{own_at, AreShort, AreThere}
+
+-- the list of a place that is there
+pub at_is : (own : List (List ℤ)) (place : ℕ) (list : List ℤ) → slice_get own (place - 1) ≡ Some list → list ≡ own_at own place
+at_is own place list e = sym (get_or_from_slice_get own (place - 1) list [] e)
+
+-- an operator looks at the lists of its operands alone
+pub pointwise_law : (kinds : List HostKind) (n : ℕ) (o : Op) (lists : List (List ℤ)) →
+    item_by_item (arity o) (op_value o) (list_at lists 0 ∷ list_at lists 1 ∷ list_at lists 2 ∷ []) ≡ form_list kinds [] n (Pointwise o) lists
+pointwise_law kinds n op.Not lists = refl
+pointwise_law kinds n op.If lists = refl
+pointwise_law kinds n _ lists = refl
+
+-- a list that isn't too long
+pub short_list : (own : List (List ℤ)) (place : ℕ) → AreShort own → length (own_at own place) ≤ most_items
+short_list own place all = go own (place - 1) all
+  where
+    go : (xs : List (List ℤ)) (i : ℕ) → AreShort xs → length (slice_index_or xs i []) ≤ most_items
+    go [] i h = omega arith
+    go (x ∷ xs) zero h = h.0
+    go (x ∷ xs) (suc i) h = go xs i h.1
+
+-- operands by their numbers
+pub operand_at : (own : List (List ℤ)) (places : List ℕ) (k place : ℕ) (list : List ℤ) → slice_get places k ≡ Some place → slice_get own (place - 1) ≡ Some list → list ≡ list_at (map (own_at own) places) k
+operand_at own [] k place list e f = absurd (cc e)
+operand_at own (p ∷ places) zero place list e f = at_is own place list f ∙ (let same : p ≡ place = cc e in ap (own_at own) (sym same))
+operand_at own (p ∷ places) (suc k) place list e f = operand_at own places k place list e f
+
+pub no_operand : (own : List (List ℤ)) (places : List ℕ) (k : ℕ) → length places ≤ k → [] ≡ list_at (map (own_at own) places) k
+no_operand own [] k l = refl
+no_operand own (p ∷ places) zero l = absurd (omega arith)
+no_operand own (p ∷ places) (suc k) l = no_operand own places k (omega (arith, l))
+
+pub operand_there : (own : List (List ℤ)) (places : List ℕ) (k place : ℕ) → AreThere own places → slice_get places k ≡ Some place → (1 ≤ place) × (place ≤ length own)
+operand_there own [] k place all e = absurd (cc e)
+operand_there own (p ∷ places) zero place all e = let same : p ≡ place = cc e in subst (λ q. (1 ≤ q) × (q ≤ length own)) same all.0
+operand_there own (p ∷ places) (suc k) place all e = operand_there own places k place all.1 e
+
+-- one more list behind others that are short
+pub short_push : (lists : List (List ℤ)) (list : List ℤ) → AreShort lists → length list ≤ most_items → AreShort (lists ++ list ∷ [])
+short_push [] list all l = (l, tt)
+short_push (x ∷ lists) list all l = (all.0, short_push lists list all.1 l)
+
+pub all_push : (each : List (List (List ℤ))) (lists : List (List ℤ)) → AllByRecursion AreShort each → AreShort lists → AllByRecursion AreShort (each ++ lists ∷ [])
+all_push [] lists all l = (l, tt)
+all_push (x ∷ each) lists all l = (all.0, all_push each lists all.1 l)
+
+-- a list at the end is put back with an item more
+pub last_is : (lists : List (List ℤ)) (list : List ℤ) → slice_index_or (lists ++ list ∷ []) (length lists) [] ≡ list
+last_is [] list = refl
+last_is (x ∷ lists) list = last_is lists list
+
+pub last_set : (lists : List (List ℤ)) (list new : List ℤ) → set (lists ++ list ∷ []) (length lists) new ≡ lists ++ new ∷ []
+last_set [] list new = refl
+last_set (x ∷ lists) list new = ap (λ xs. x ∷ xs) (last_set lists list new)
+
+pub grown_last : (lists : List (List ℤ)) (list : List ℤ) (i : ℕ) (item : ℤ) → i ≡ length lists →
+    set (lists ++ list ∷ []) i (slice_index_or (lists ++ list ∷ []) i [] ++ item ∷ []) ≡ lists ++ (list ++ item ∷ []) ∷ []
+grown_last lists list i item e =
+    ap (λ k. set (lists ++ list ∷ []) k (slice_index_or (lists ++ list ∷ []) k [] ++ item ∷ [])) e
+    ∙ ap (λ xs. set (lists ++ list ∷ []) (length lists) (xs ++ item ∷ [])) (last_is lists list) ∙ last_set lists list (list ++ item ∷ [])
+
+pub mapped_take : {A B : Type 0} (f : A → B) (xs : List A) (i : ℕ) (d : A) → i < length xs → map f (take (i + 1) xs) ≡ map f (take i xs) ++ f (get_or xs i d) ∷ []
+mapped_take f [] i d l = absurd (omega arith)
+mapped_take f (x ∷ xs) zero d l = refl
+mapped_take f (x ∷ xs) (suc i) d l =
+    let z : suc i + 1 ≡ suc (i + 1) = omega arith in
+    ap (λ k. map f (take k (x ∷ xs))) z ∙ ap (λ ys. f x ∷ ys) (mapped_take f xs i d (omega (arith, l)))
+
+pub none_lists : (count a : ℕ) → replicate {A = List ℤ} count [] ≡ map (λ p. []) (range_with_len a count)
+none_lists zero a = refl
+none_lists (suc n) a = ap (λ xs. [] ∷ xs) (none_lists n _)
+
+pub none_short : (count : ℕ) → AreShort (replicate count [])
+none_short zero = tt
+none_short (suc n) = (omega arith, none_short n)

@@ -1,0 +1,30 @@
+// Why there are no lists.
+ghost use Rattle.std.specs.Prelude.{◌≡◌};
+ghost use Rattle.lucy_kahn.specs.declared.error.KahnError.TheVariants as error;
+
+use lucy_word::Limit;
+use std::alloc::AllocError;
+
+/// Why an iterate isn't given.
+#[derive(Clone, Copy, Debug, PartialEq, Eq)]
+pub enum KahnError {
+    /// A list has more items than `KahnItems` allows: 65,536.
+    Limit(Limit),
+    OutOfMemory,
+}
+
+impl From<AllocError> for KahnError {
+    ghost from_gives = { λ _ e. e ≡ error.OutOfMemory };
+
+    fn from(_: AllocError) -> Self {
+        KahnError::OutOfMemory
+    }
+}
+
+impl From<lucy_host::OutOfMemory> for KahnError {
+    ghost from_gives = { λ _ e. e ≡ error.OutOfMemory };
+
+    fn from(_: lucy_host::OutOfMemory) -> Self {
+        KahnError::OutOfMemory
+    }
+}

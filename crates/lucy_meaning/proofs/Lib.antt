@@ -1,0 +1,8 @@
+pub mod Lists
+pub mod Tables
+pub mod Paths
+pub mod SpotLists
+pub mod Numbered
+pub mod Closed
+pub mod ByNumber
+mod Rows
