@@ -1,0 +1,92 @@
+// What a place hands down to an operand.
+ghost use Rattle.std.specs.Prelude.{ℕ, ◌≡◌, ◌⊎◌, ◌<◌, not, true, Some, length, slice_get, IfOk, IfErr, OnOk};
+ghost use Rattle.lucy_tree.specs.Shaped.{HasZero};
+ghost use Rattle.lucy_word.specs.Stored.{IsStored};
+ghost use Rattle.lucy_word.specs.Sampling.{IsOn, IsOnTooLong};
+ghost use Rattle.lucy_word.specs.declared.limit.Limit.TheVariants as lim;
+ghost use Rattle.lucy_place.specs.Numbering.{sampling_word};
+ghost use Rattle.lucy_place.specs.Reads.{operands_of};
+ghost use Rattle.lucy_word.specs.Complement.{turned};
+ghost use Rattle.lucy_clock.specs.declared.error.ClockError.TheVariants as err;
+ghost use Rattle.lucy_clock.specs.HandedDown.{Hands, HandsTooLong};
+ghost use Rattle.lucy_clock.specs.Reading.{IsAmong, HasTurned};
+
+use crate::error::ClockError;
+use crate::own_words::{copied, turned};
+use lucy_place::PlaceKind;
+use lucy_word::{Limit, Word, WordError, on};
+use std::alloc::Global;
+
+// A clock on a word.
+fn sampled(alloc: Global, own: &Word, word: &Word) -> Result<Word, ClockError>
+    ensures ok { IfOk result (IsOn own.now word.now) }
+    ensures fits { IfOk result (λ w. IsOnTooLong own.now word.now → ⊥) }
+    ensures stored { IfOk result IsStored }
+    ensures refused { IfErr result (λ e. (e ≡ err.OutOfMemory) ⊎ ((e ≡ err.Limit lim.Word) × IsOnTooLong own.now word.now)) }
+{
+    match on(alloc, own, word) {
+        Ok(word) => Ok(word),
+        Err(WordError::TooLong) => Err(ClockError::Limit(Limit::Word)),
+        Err(_) => Err(ClockError::OutOfMemory),
+    }
+}
+
+// What a merge hands down to its first operand, or to its second.
+fn merged(alloc: Global, word: &Word, own: &Word, first: bool) -> Result<Word, ClockError>
+    requires { HasZero word.now }
+    ensures ok { IfOk result (IsOn own.now (sampling_word (not first) word.now)) }
+    ensures stored { IfOk result IsStored }
+    ensures refused { IfErr result (λ e. (e ≡ err.OutOfMemory) ⊎ ((e ≡ err.Limit lim.Word) × IsOnTooLong own.now (sampling_word (not first) word.now))) }
+{
+    if first {
+        return sampled(alloc, own, word);
+    }
+    let word = turned(alloc, word)?;
+    sampled(alloc, own, &word)
+}
+
+/// The word that a place of a kind, with its own word, hands down to one of its operands.
+pub(crate) fn handed(
+    alloc: Global,
+    kind: &PlaceKind,
+    own: &Word,
+    to: u32,
+) -> Result<Word, ClockError>
+    requires zero { HasTurned kind.now }
+    requires among { IsAmong (operands_of kind.now) to }
+    requires once { (j k : ℕ) → slice_get (operands_of kind.now) j ≡ Some to → slice_get (operands_of kind.now) k ≡ Some to → j ≡ k }
+    ensures ok { IfOk result (λ w. (k : ℕ) → slice_get (operands_of kind.now) k ≡ Some to → Hands kind.now k own.now w) }
+    ensures stored { IfOk result IsStored }
+    ensures refused { IfErr result (λ e. (e ≡ err.OutOfMemory) ⊎ ((e ≡ err.Limit lim.Word) × HandsTooLong kind.now own.now)) }
+{
+    match kind {
+        PlaceKind::Merge(word, one, _) => merged(alloc, word, own, *one == to),
+        _ => copied(alloc, own),
+    }
+}
+
+// Both words that a merge hands down are made, to see that neither is too long.
+fn test_merge(alloc: Global, word: &Word, own: &Word) -> Result<(), ClockError>
+    requires { HasZero word.now }
+    ensures first { OnOk result (IsOnTooLong own.now word.now → ⊥) }
+    ensures second { OnOk result (IsOnTooLong own.now (turned word.now) → ⊥) }
+    ensures refused { IfErr result (λ e. (e ≡ err.OutOfMemory) ⊎ ((e ≡ err.Limit lim.Word) × (IsOnTooLong own.now word.now ⊎ IsOnTooLong own.now (turned word.now)))) }
+{
+    sampled(alloc, own, word)?;
+    let turned = turned(alloc, word)?;
+    sampled(alloc, own, &turned)?;
+    Ok(())
+}
+
+/// Tests that what a place of a kind hands down, with its own word, isn't too long. An operand may be a name that has a word
+/// of its own: what would be handed down to it is looked at all the same.
+pub(crate) fn test_handed(alloc: Global, kind: &PlaceKind, own: &Word) -> Result<(), ClockError>
+    requires { HasTurned kind.now }
+    ensures ok { OnOk result (HandsTooLong kind.now own.now → ⊥) }
+    ensures refused { IfErr result (λ e. (e ≡ err.OutOfMemory) ⊎ ((e ≡ err.Limit lim.Word) × HandsTooLong kind.now own.now)) }
+{
+    match kind {
+        PlaceKind::Merge(word, _, _) => test_merge(alloc, word, own),
+        _ => Ok(()),
+    }
+}

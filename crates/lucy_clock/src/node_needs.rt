@@ -1,0 +1,107 @@
+// The needs of a node as a list of its own.
+ghost use Rattle.std.specs.Prelude.{◌≡◌, ◌⊎◌, ◌+◌, ◌<◌, ◌≤◌, ◌^◌, Some, length, take, map, slice_get, IfOk, IfErr};
+ghost use Rattle.lucy_word.specs.declared.limit.Limit.TheVariants as lim;
+ghost use Rattle.lucy_word.specs.Limits.{limit_number};
+ghost use Rattle.lucy_place.specs.declared.placed.PlacedNode.{PlacedNode as Node};
+ghost use Rattle.lucy_place.specs.Numbering.{sampling_word};
+ghost use Rattle.lucy_need.specs.Meeting.{all_bits, most_needs, AreProperNeeds};
+ghost use Rattle.lucy_clock.specs.declared.error.ClockError.{ClockError as Fault};
+ghost use Rattle.lucy_clock.specs.declared.error.ClockError.TheVariants as err;
+ghost use Rattle.lucy_clock.specs.Clocks.{AreSignatures, clocks_of};
+ghost use Rattle.lucy_clock.specs.Listing.{needs_of, RefusesNeeds};
+ghost use Rattle.lucy_clock.specs.Drafts.{seen, side_term};
+
+use crate::error::ClockError;
+use crate::grow::push;
+use crate::listing::{Listing, list_needs};
+use crate::own_words::{copied, turned};
+use crate::side::{Draft, Side};
+use crate::signature::Signature;
+use lucy_need::{Need, NeedList, Needs, Term, always};
+use lucy_place::Placed;
+use lucy_word::{Limit, Word};
+use std::alloc::Global;
+
+// The word of a side, as one of its own.
+fn word(alloc: Global, side: &Side<'_>) -> Result<Word, ClockError>
+    ensures ok { IfOk result (λ w. w ≡ sampling_word side.now.turned side.now.word.now) }
+    ensures refused { IfErr result (λ e. e ≡ err.OutOfMemory) }
+{
+    if side.turned {
+        turned(alloc, side.word)
+    } else {
+        copied(alloc, side.word)
+    }
+}
+
+// The term of a side.
+fn term(alloc: Global, side: &Side<'_>) -> Result<Term, ClockError>
+    ensures ok { IfOk result (λ t. t ≡ side_term side.now) }
+    ensures refused { IfErr result (λ e. e ≡ err.OutOfMemory) }
+{
+    Ok(Term {
+        clock: side.clock,
+        word: word(alloc, side)?,
+    })
+}
+
+// The need of a draft.
+fn need(alloc: Global, draft: &Draft<'_>) -> Result<Need, ClockError>
+    ensures ok { IfOk result (λ n. n ≡ seen draft.now) }
+    ensures refused { IfErr result (λ e. e ≡ err.OutOfMemory) }
+{
+    let left = term(alloc, &draft.left)?;
+    let right = term(alloc, &draft.right)?;
+    if draft.adapt {
+        Ok(Need::Adapt(left, right))
+    } else {
+        Ok(Need::Equal(left, right))
+    }
+}
+
+// The needs of drafts.
+fn need_list(alloc: Global, drafts: &[Draft<'_>]) -> Result<Vec<Need>, ClockError>
+    ensures ok { IfOk result (λ v. v.items ≡ map seen drafts.now) }
+    ensures refused { IfErr result (λ e. e ≡ err.OutOfMemory) }
+{
+    let mut list = Vec::new(alloc);
+    'each: for draft in drafts {
+        push(&mut list, need(alloc, draft)?)?;
+    }
+    Ok(list)
+}
+
+/// The needs of a node, by number from 0, with the signatures of the nodes above it: an assignment of words keeps the node's
+/// clock rules exactly where it meets them (`needs_are_the_rules`). `Limit(Needs)` comes exactly where they are more, else
+/// `Limit(Bits)` exactly where their words have together more bits; no word is copied before.
+pub fn needs(
+    alloc: Global,
+    placed: &Placed,
+    node: u32,
+    above: &[Signature],
+) -> Result<Needs, ClockError>
+    requires node { node < length placed.now.nodes }
+    requires signatures { AreSignatures (take node placed.now.nodes) above.now }
+    ensures ok { (n : Node) → slice_get placed.now.nodes node ≡ Some n → IfOk result (λ needs. (needs.clocks ≡ clocks_of n) × (needs.list ≡ needs_of above.now n)) }
+    ensures proper { IfOk result AreProperNeeds }
+    ensures refused { (n : Node) → slice_get placed.now.nodes node ≡ Some n → IfErr result (RefusesNeeds (needs_of above.now n)) }
+    ensures past { (n : Node) → slice_get placed.now.nodes node ≡ Some n → IfOk result (λ _. (length (needs_of above.now n) ≤ most_needs) × (all_bits (needs_of above.now n) ≤ limit_number lim.Bits)) }
+{
+    let always = always(alloc)?;
+    let found = placed.node(node);
+    let listing = Listing {
+        node: found,
+        above,
+        always: &always,
+    };
+    let drafts = list_needs(alloc, listing)?;
+    if drafts.bits() > Limit::Bits.number() {
+        return Err(ClockError::Limit(Limit::Bits));
+    }
+    let clocks = 1 + found.places.list().len() + found.calls.list().len();
+    let list = need_list(alloc, drafts.list())?;
+    Ok(Needs {
+        clocks: clocks as u32,
+        list: NeedList::new(list),
+    })
+}

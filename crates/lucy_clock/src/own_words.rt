@@ -1,0 +1,32 @@
+// Words of one's own, of words that are lent.
+ghost use Rattle.std.specs.Prelude.{◌≡◌, IfOk, IfErr};
+ghost use Rattle.lucy_word.specs.Stored.{IsStored};
+ghost use Rattle.lucy_tree.specs.Shaped.{HasZero};
+ghost use Rattle.lucy_word.specs.Complement.{turned};
+ghost use Rattle.lucy_clock.specs.declared.error.ClockError.TheVariants as err;
+
+use crate::error::ClockError;
+use lucy_word::{Word, WordError, complement};
+use std::alloc::Global;
+
+/// An equal word.
+pub(crate) fn copied(alloc: Global, word: &Word) -> Result<Word, ClockError>
+    ensures ok { IfOk result (λ w. w ≡ word.now) }
+    ensures stored { IfOk result IsStored }
+    ensures refused { IfErr result (λ e. e ≡ err.OutOfMemory) }
+{
+    Ok(word.copy(alloc)?)
+}
+
+/// The word with every bit turned.
+pub(crate) fn turned(alloc: Global, word: &Word) -> Result<Word, ClockError>
+    requires { HasZero word.now }
+    ensures ok { IfOk result (λ w. w ≡ turned word.now) }
+    ensures refused { IfErr result (λ e. e ≡ err.OutOfMemory) }
+{
+    match complement(alloc, word) {
+        Ok(turned) => Ok(turned),
+        Err(WordError::OutOfMemory) => Err(ClockError::OutOfMemory),
+        Err(_) => unreachable!(),
+    }
+}

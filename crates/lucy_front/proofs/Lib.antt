@@ -1,0 +1,6 @@
+mod SizeLaws
+mod ClockedLaws
+mod MoreClocks
+mod ReportLaws
+mod AcceptLaws
+mod TellableLaws

@@ -1,0 +1,124 @@
+-- The clocks of one node more.
+use Rattle.std.proofs.Common.{ℕ, zero, suc, ◌+◌, ◌<◌, ◌≤◌, ◌≡◌, List, [], ◌∷◌, ◌++◌, length, take, drop, Some, ap, sym, refl, ◌∙◌, subst, inl, inr, arith, length-drop}
+use Rattle.std.specs.Prelude.{slice_get, ◌⊎◌}
+use Rattle.std.proofs.Math.Nat.{min-le_left}
+use Rattle.std.proofs.lemmas.List.{take-take, take-append-le, take_more, length-take-le, length-map, length_push, take_all, length-take}
+use Rattle.std.specs.List.{AllByRecursion}
+use Rattle.lucy_place.specs.Standing.{ArePlaces}
+use Rattle.std.proofs.lemmas.Option.{same_Some, slice_get_within, get_or_from_slice_get}
+use Rattle.lucy_types.proofs.ListLaws.{get_take}
+use Rattle.lucy_place.specs.declared.placed.PlacedNode.{PlacedNode}
+use Rattle.lucy_place.specs.Proper.{IsProperNode, AreProper}
+use Rattle.lucy_clock.specs.declared.signature.Signature.{Signature}
+use Rattle.lucy_clock.specs.declared.node_clock.NodeClock.{NodeClock}
+use Rattle.lucy_clock.specs.Clocks.{AreSignatures}
+use Rattle.lucy_front.specs.Clocked.{ports, signatures, IsClocked, AreClocked}
+
+-- the signatures are those of the nodes
+pub signatures_count : (nodes : List PlacedNode) (clocks : List NodeClock) → length clocks ≡ length nodes → length (signatures nodes clocks) ≡ length nodes
+signatures_count [] clocks same = refl
+signatures_count (n ∷ nodes) [] same = absurd (omega (arith, same))
+signatures_count (n ∷ nodes) (c ∷ clocks) same = ap suc (signatures_count nodes clocks (omega (arith, same)))
+
+signature_at : (nodes : List PlacedNode) (clocks : List NodeClock) (i : ℕ) (n : PlacedNode) (s : Signature) → slice_get nodes i ≡ Some n → slice_get (signatures nodes clocks) i ≡ Some s →
+    (c : NodeClock) × (slice_get clocks i ≡ Some c) × (ports n c ≡ s)
+signature_at [] clocks i n s at of = absurd (cc at)
+signature_at (m ∷ nodes) [] i n s at of = absurd (cc of)
+signature_at (m ∷ nodes) (c ∷ clocks) zero n s at of = (c, refl, ap (λ x. ports x c) (sym (same_Some m n at)) ∙ same_Some (ports m c) s of)
+signature_at (m ∷ nodes) (c ∷ clocks) (suc i) n s at of = signature_at nodes clocks i n s at of
+
+pub signatures_are : (nodes : List PlacedNode) (clocks : List NodeClock) → AreProper nodes → AreClocked nodes clocks → AreSignatures nodes (signatures nodes clocks)
+signatures_are nodes clocks proper are = record {
+  all = signatures_count nodes clocks are.all;
+  params = λ i n s at of.
+      let found = signature_at nodes clocks i n s at of in
+      let c : NodeClock = found.0 in
+      let clocked = are.each i n c at found.1 in
+      let count = clocked.words.of.count in
+      let few = (proper i n at).params in
+      let left = length-drop 1 c.words in
+      let long : n.params ≤ length (drop 1 c.words) = omega arith in
+      ap (λ (x : Signature). length x.params) (sym found.2) ∙ length-take-le n.params (drop 1 c.words) long;
+  results = λ i n s at of.
+      let found = signature_at nodes clocks i n s at of in
+      ap (λ (x : Signature). length x.results) (sym found.2) ∙ length-map n.results _;
+}
+
+signatures_join : (nodes : List PlacedNode) (clocks : List NodeClock) (n : PlacedNode) (c : NodeClock) → length clocks ≡ length nodes →
+    signatures (nodes ++ n ∷ []) (clocks ++ c ∷ []) ≡ signatures nodes clocks ++ ports n c ∷ []
+signatures_join [] [] n c same = refl
+signatures_join [] (d ∷ clocks) n c same = absurd (omega (arith, same))
+signatures_join (m ∷ nodes) [] n c same = absurd (omega (arith, same))
+signatures_join (m ∷ nodes) (d ∷ clocks) n c same = ap (λ l. ports m d ∷ l) (signatures_join nodes clocks n c (omega (arith, same)))
+
+get_back : {A : Type 0} (xs : List A) (x : A) (i : ℕ) (y : A) → slice_get (xs ++ x ∷ []) i ≡ Some y → (slice_get xs i ≡ Some y) ⊎ ((i ≡ length xs) × (x ≡ y))
+get_back [] x zero y e = inr (refl, same_Some x y e)
+get_back [] x (suc i) y e = absurd (cc e)
+get_back (z ∷ xs) x zero y e = inl e
+get_back (z ∷ xs) x (suc i) y e = elim (get_back xs x i y e) [ inl f ↦ inl f | inr f ↦ inr (ap suc f.0, f.1) ]
+
+-- all before the next one
+module _ (nodes : List PlacedNode) (node : ℕ) (clocks more : List NodeClock) (n : PlacedNode) (c : NodeClock) (at : slice_get nodes node ≡ Some n) (are : AreClocked (take node nodes) clocks) (e : more ≡ clocks ++ c ∷ []) where
+  below : node < length nodes
+  below = slice_get_within nodes node n at
+
+  count : length clocks ≡ node
+  count = are.all ∙ length-take-le node nodes (omega (arith, below))
+
+  next : take (node + 1) nodes ≡ take node nodes ++ n ∷ []
+  next = take_more nodes node n below ∙ ap (λ x. take node nodes ++ x ∷ []) (get_or_from_slice_get nodes node n n at)
+
+  pub signatures_push : signatures (take (node + 1) nodes) more ≡ signatures (take node nodes) clocks ++ ports n c ∷ []
+  signatures_push = ap (λ l. signatures l more) next ∙ ap (signatures (take node nodes ++ n ∷ [])) e ∙ signatures_join (take node nodes) clocks n c are.all
+
+  front_same : (i : ℕ) → i ≤ node → signatures (take i (take node nodes)) (take i clocks) ≡ signatures (take i (take (node + 1) nodes)) (take i more)
+  front_same i l =
+      let of_nodes : take i (take node nodes) ≡ take i (take (node + 1) nodes) = take-take i node nodes l ∙ sym (take-take i (node + 1) nodes (omega (arith, l))) in
+      let of_clocks : take i clocks ≡ take i more = sym (ap (take i) e ∙ take-append-le i clocks (c ∷ []) (omega (arith, l, count))) in
+      ap (λ xs. signatures xs (take i clocks)) of_nodes ∙ ap (signatures (take i (take (node + 1) nodes))) of_clocks
+
+  last_same : signatures (take node nodes) clocks ≡ signatures (take node (take (node + 1) nodes)) (take node more)
+  last_same =
+      let of_nodes : take node nodes ≡ take node (take node nodes) = sym (take-take node node nodes (omega arith)) in
+      let of_clocks : clocks ≡ take node clocks = sym (take_all node clocks (omega (arith, count))) in
+      ap (λ xs. signatures xs clocks) of_nodes ∙ ap (signatures (take node (take node nodes))) of_clocks ∙ front_same node (omega arith)
+
+  each : IsClocked (signatures (take node nodes) clocks) n c → (i : ℕ) (m : PlacedNode) (d : NodeClock) → slice_get (take (node + 1) nodes) i ≡ Some m → slice_get more i ≡ Some d →
+      IsClocked (signatures (take i (take (node + 1) nodes)) (take i more)) m d
+  each clocked i m d here of =
+      let within = slice_get_within (take (node + 1) nodes) i m here in
+      let long = length-take-le (node + 1) nodes (omega (arith, below)) in
+      let at_m : slice_get nodes i ≡ Some m = sym (get_take (node + 1) nodes i (omega arith)) ∙ here in
+      elim (get_back clocks c i d (sym (ap (λ l. slice_get l i) e) ∙ of)) [
+        | inl f ↦
+            let l : i < node = omega (arith, slice_get_within clocks i d f, count) in
+            subst (λ s. IsClocked s m d) (front_same i (omega arith)) (are.each i m d (get_take node nodes i l ∙ at_m) f)
+        | inr f ↦
+            let last : i ≡ node = f.0 ∙ count in
+            let one : n ≡ m = same_Some n m (sym at ∙ ap (slice_get nodes) (sym last) ∙ at_m) in
+            subst (λ j. IsClocked (signatures (take j (take (node + 1) nodes)) (take j more)) m d) (sym last)
+            (subst (λ s. IsClocked s m d) last_same (subst (λ x. IsClocked (signatures (take node nodes) clocks) x d) one (subst (IsClocked (signatures (take node nodes) clocks) n) f.1 clocked)))
+      ]
+
+  pub clocked_push : IsClocked (signatures (take node nodes) clocks) n c → AreClocked (take (node + 1) nodes) more
+  clocked_push clocked = record {
+    all = (let a = ap length e in let b = length_push clocks c in let d = length-take-le (node + 1) nodes (omega (arith, below)) in omega (arith, count));
+    each = each clocked;
+  }
+
+-- no clocks of no nodes
+pub clocked_none : (nodes : List PlacedNode) (clocks : List NodeClock) → clocks ≡ [] → AreClocked (take 0 nodes) clocks
+clocked_none nodes clocks e = record { all = ap length e; each = λ i n c at of. absurd (cc at) }
+
+-- the nodes above one are proper
+pub proper_take : (nodes : List PlacedNode) (node : ℕ) → AreProper nodes → AreProper (take node nodes)
+proper_take nodes node proper i n at =
+    let within = slice_get_within (take node nodes) i n at in
+    let most = length-take node nodes in
+    let l : i < node = omega (arith, min-le_left node (length nodes)) in
+    subst (λ above. IsProperNode above n) (sym (take-take i node nodes (omega (arith, l)))) (proper i n (sym (get_take node nodes i l) ∙ at))
+
+-- the places of results have words
+pub places_within : (n : PlacedNode) (ps : List ℕ) (count : ℕ) → length n.places < count → ArePlaces n ps → AllByRecursion (λ place. place < count) ps
+places_within n [] count l all = tt
+places_within n (p ∷ ps) count l all = ((let h = all.0.1 in omega (arith, l)), places_within n ps count l all.1)

@@ -1,0 +1,20 @@
+use Rattle.std.proofs.Common.{subst, arith}
+use Rattle.lucy_front.specs.Clocking.{Refused}
+use Rattle.lucy_front.proofs.ClockedLaws.{there}
+use Rattle.lucy_front.proofs.clocking.node_clocks.Goals as goal
+
+pub returns-in-Err-clause-refused : goal.returns-in-Err-clause-refused
+returns-in-Err-clause-refused c =
+    let count = c.nodes-nodes.ensures.count in
+    let test = c.each-test.true in
+    let n = there c.args.placed.now.nodes c.each.node (omega arith) in
+    let refused = c.in-Err.ensures.refused n.0 n.1 in (
+      refused.0,
+      record {
+        clocks = c.each.clocks.items;
+        above = c.each.invariant.0;
+        n = n.0;
+        stands = n.1;
+        refused = subst (λ s. Refused c.in-Err.fault s n.0) c.each.invariant.1 refused.1;
+      },
+    )

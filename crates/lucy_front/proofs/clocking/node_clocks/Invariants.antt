@@ -1,0 +1,6 @@
+use Rattle.std.proofs.Common.{◌≡◌, take}
+use Rattle.lucy_front.specs.Clocked.{signatures, AreClocked}
+use Rattle.lucy_front.proofs.clocking.node_clocks.Given as goal
+
+abbrev pub invariant-each : goal.invariant-each
+invariant-each l = AreClocked (take l.node l.placed.nodes) l.clocks.items × (l.above.items ≡ signatures (take l.node l.placed.nodes) l.clocks.items)

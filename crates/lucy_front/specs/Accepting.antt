@@ -1,0 +1,103 @@
+-- What a text is accepted as, and why one is refused.
+use Rattle.std.specs.Prelude.{ℕ, ◌≡◌, ◌⊎◌, List, Some, slice_get}
+use Rattle.lucy_word.specs.declared.limit.Limit.{Limit}
+use Rattle.lucy_host.specs.Operators.{Operator}
+use Rattle.lucy_tree.specs.View.{ProgramTree}
+use Rattle.lucy_token.specs.declared.stop.SyntaxError.{SyntaxError}
+use Rattle.lucy_token.specs.declared.stop.SyntaxError.TheVariants as syntax
+use Rattle.lucy_grammar.specs.Texts.{HasTree, IsRefused}
+use Rattle.lucy_place.specs.declared.error.NameError.{NameError}
+use Rattle.lucy_place.specs.declared.error.NameError.TheVariants as names
+use Rattle.lucy_place.specs.declared.placed.PlacedNode.{PlacedNode}
+use Rattle.lucy_place.specs.Faults.{faults}
+use Rattle.lucy_place.specs.PlacedProgram.{PlacedProgram}
+use Rattle.lucy_place.specs.Placing.{IsFirst, IsPlaced}
+use Rattle.lucy_place.specs.WrittenNodes.{IsWritten}
+use Rattle.lucy_types.specs.declared.ty.Ty.{Ty}
+use Rattle.lucy_types.specs.declared.error.TypeError.{TypeError}
+use Rattle.lucy_types.specs.declared.error.TypeError.TheVariants as types
+use Rattle.lucy_types.specs.Programs.{IsTyped, IsClash}
+use Rattle.lucy_clock.specs.declared.signature.Signature.{Signature}
+use Rattle.lucy_clock.specs.Clocks.{clocks_of}
+use Rattle.lucy_clock.specs.Listing.{needs_of}
+use Rattle.lucy_need.specs.declared.need.Needs.{Needs}
+use Rattle.lucy_check.specs.declared.fault.CheckFault.{CheckFault}
+use Rattle.lucy_front.specs.declared.accepted.Accepted.{Accepted}
+use Rattle.lucy_front.specs.declared.refusal.Refusal.{Refusal}
+use Rattle.lucy_front.specs.declared.refusal.Refusal.TheVariants.{Syntax, Names, Types, NotWritten, Check, Limit as LimitPassed, OutOfMemory}
+use Rattle.lucy_front.specs.Clocked.{AreClocked, PassesLimit, FailsCheck, IsUnclocked}
+
+-- the text has this tree, whose names are good where the host has these operators, and these are its places
+pub record IsPlacedText (ops : List Operator) (text : List ℕ) (placed : PlacedProgram) : Type 0 where
+  pub tree : ProgramTree
+  pub read : HasTree text tree
+  pub is_placed : IsPlaced ops tree placed
+
+-- and each of its nodes has types
+pub record IsTypedText (ops : List Operator) (text : List ℕ) (placed : PlacedProgram) (tables : List (List Ty)) : Type 0 where
+  pub program : IsPlacedText ops text placed
+  pub typed : IsTyped placed.nodes tables
+
+-- the text is accepted as this: its places, their types, and the clocks of its nodes
+pub record IsAccepted (ops : List Operator) (text : List ℕ) (a : Accepted) : Type 0 where
+  pub program : IsTypedText ops text a.placed a.typed
+  pub clocks : AreClocked a.placed.nodes a.clocks.items
+
+-- the refusal of a syntax, and of names, that is none of a limit
+abbrev pub IsSyntax : SyntaxError → Type 0
+IsSyntax (syntax.TooLarge l) = ⊥
+IsSyntax syntax.OutOfMemory = ⊥
+IsSyntax e = Unit {0}
+
+abbrev pub IsName : NameError → Type 0
+IsName (names.TooMany l) = ⊥
+IsName names.OutOfMemory = ⊥
+IsName e = Unit {0}
+
+-- a node has no typing, and the path shows it
+abbrev pub TellsClash : List PlacedNode → TypeError → Type 0
+TellsClash nodes (types.Clash node path) = IsClash nodes node path.items
+TellsClash nodes types.OutOfMemory = ⊥
+
+-- a node of the typed program is refused so, and those above it have clocks
+abbrev pub Unclocked : List Operator → List ℕ → PlacedProgram → ℕ → (List Signature → PlacedNode → Type 0) → Type 0
+Unclocked ops text placed node Refuses = (tables : List (List Ty)) × IsTypedText ops text placed tables × IsUnclocked placed.nodes node Refuses
+
+-- a node passes a limit
+abbrev pub NodePasses : Limit → List Signature → PlacedNode → Type 0
+NodePasses l above n = IsWritten n × PassesLimit above n l
+
+-- a written node isn't well clocked, by these needs of it
+abbrev pub NodeFails : Needs → CheckFault → List Signature → PlacedNode → Type 0
+NodeFails needs e above n = IsWritten n × (needs.clocks ≡ clocks_of n) × (needs.list ≡ needs_of above n) × FailsCheck above n e
+
+-- why a text is refused: first for its syntax, then for its names, then for the types of all nodes, and then node by node (of a
+-- limit the number alone is told)
+abbrev pub Refuses : List Operator → List ℕ → Refusal → Type 0
+Refuses ops text (Syntax e) = IsRefused text e × IsSyntax e
+Refuses ops text (Names e) = (p : ProgramTree) × HasTree text p × IsFirst (faults ops p) e × IsName e
+Refuses ops text (Types placed clash) = IsPlacedText ops text placed × TellsClash placed.nodes clash
+Refuses ops text (NotWritten placed node span) = (slice_get placed.unwritten node ≡ Some (Some span)) × Unclocked ops text placed node (λ above n. IsWritten n → ⊥)
+Refuses ops text (Check placed node needs e) = Unclocked ops text placed node (NodeFails needs e)
+Refuses ops text (LimitPassed l) =
+    IsRefused text (syntax.TooLarge l)
+    ⊎ ((p : ProgramTree) × HasTree text p × IsFirst (faults ops p) (names.TooMany l))
+    ⊎ ((placed : PlacedProgram) × (node : ℕ) × Unclocked ops text placed node (NodePasses l))
+Refuses ops text OutOfMemory = Unit {0}
+
+-- the refusal where the syntax, or the names, are refused so
+abbrev pub syntax_refusal : SyntaxError → Refusal
+syntax_refusal (syntax.TooLarge l) = LimitPassed l
+syntax_refusal syntax.OutOfMemory = OutOfMemory
+syntax_refusal (syntax.Unexpected place) = Syntax (syntax.Unexpected place)
+syntax_refusal (syntax.BadNumber place) = Syntax (syntax.BadNumber place)
+syntax_refusal (syntax.BadWord place) = Syntax (syntax.BadWord place)
+
+abbrev pub names_refusal : NameError → Refusal
+names_refusal (names.TooMany l) = LimitPassed l
+names_refusal names.OutOfMemory = OutOfMemory
+names_refusal (names.Unknown span) = Names (names.Unknown span)
+names_refusal (names.Twice span) = Names (names.Twice span)
+names_refusal (names.NoResult span) = Names (names.NoResult span)
+names_refusal (names.Arity span) = Names (names.Arity span)
+names_refusal (names.LaterNode span) = Names (names.LaterNode span)

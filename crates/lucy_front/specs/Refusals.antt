@@ -1,0 +1,115 @@
+-- The texts of refusals.
+use Rattle.std.specs.Prelude.{ℕ, ◌<◌, List, [], ◌∷◌, ◌++◌, Option, Some, None, length, slice_get, codes}
+use Rattle.std.specs.Fmt.{decimal}
+use Rattle.lucy_word.specs.declared.limit.Limit.{Limit}
+use Rattle.lucy_word.specs.Limits.{limit_name, limit_number}
+use Rattle.lucy_token.specs.declared.stop.SyntaxError.{SyntaxError}
+use Rattle.lucy_token.specs.declared.stop.SyntaxError.TheVariants as syntax
+use Rattle.lucy_place.specs.declared.error.NameError.{NameError}
+use Rattle.lucy_place.specs.declared.error.NameError.TheVariants as names
+use Rattle.lucy_place.specs.declared.placed.PlacedNode.{PlacedNode}
+use Rattle.lucy_types.specs.declared.error.TypeError.{TypeError}
+use Rattle.lucy_types.specs.declared.error.TypeError.TheVariants as types
+use Rattle.lucy_need.specs.declared.need.Need.{Need}
+use Rattle.lucy_check.specs.declared.fault.CheckFault.{CheckFault}
+use Rattle.lucy_check.specs.declared.fault.CheckFault.TheVariants as fault
+use Rattle.lucy_front.specs.declared.refusal.Refusal.{Refusal}
+use Rattle.lucy_front.specs.declared.refusal.Refusal.TheVariants.{Syntax, Names, Types, NotWritten, Check, Limit as LimitPassed, OutOfMemory}
+use Rattle.lucy_front.specs.Names.{place_names}
+use Rattle.lucy_front.specs.Needs.{need_text}
+
+-- the line where a limit is passed, and the one where memory ran out
+abbrev pub limit_line : Limit → List ℕ
+limit_line l = codes "lucy: limit " ++ (limit_name l ++ (codes " " ++ (decimal (limit_number l) ++ codes "\n")))
+
+abbrev pub memory_line : List ℕ
+memory_line = codes "lucy: out of memory\n"
+
+-- the line of a syntax
+abbrev pub syntax_line : SyntaxError → List ℕ
+syntax_line (syntax.Unexpected place) = codes "lucy: syntax: unexpected at " ++ (decimal place ++ codes "\n")
+syntax_line (syntax.BadNumber place) = codes "lucy: syntax: bad number at " ++ (decimal place ++ codes "\n")
+syntax_line (syntax.BadWord place) = codes "lucy: syntax: bad word at " ++ (decimal place ++ codes "\n")
+syntax_line (syntax.TooLarge l) = limit_line l
+syntax_line syntax.OutOfMemory = memory_line
+
+-- and of a name
+abbrev pub name_fault_line : NameError → List ℕ
+name_fault_line (names.Unknown span) = codes "lucy: names: unknown at " ++ (decimal span.from ++ codes "\n")
+name_fault_line (names.Twice span) = codes "lucy: names: twice at " ++ (decimal span.from ++ codes "\n")
+name_fault_line (names.NoResult span) = codes "lucy: names: no result at " ++ (decimal span.from ++ codes "\n")
+name_fault_line (names.Arity span) = codes "lucy: names: arity at " ++ (decimal span.from ++ codes "\n")
+name_fault_line (names.LaterNode span) = codes "lucy: names: later node at " ++ (decimal span.from ++ codes "\n")
+name_fault_line (names.TooMany l) = limit_line l
+name_fault_line names.OutOfMemory = memory_line
+
+-- the text of one of a list, where it is there
+abbrev pub of_one : {A : Type 0} → (A → List ℕ) → Option A → List ℕ
+of_one text None = []
+of_one text (Some x) = text x
+
+-- places, each on a line of its own behind two blanks
+abbrev pub place_lines : List (List ℕ) → List ℕ
+place_lines [] = []
+place_lines (name ∷ names) = codes "  " ++ (name ++ (codes "\n" ++ place_lines names))
+
+-- a clash of types in a node, with the places that show it
+abbrev pub path_lines : PlacedNode → List ℕ → List ℕ
+path_lines n path = codes "lucy: types: node " ++ (n.name.text ++ (codes ": int against bool\n" ++ place_lines (place_names n path)))
+
+abbrev pub clash_lines : List PlacedNode → TypeError → List ℕ
+clash_lines nodes (types.Clash node path) = of_one (λ n. path_lines n path.items) (slice_get nodes node)
+clash_lines nodes types.OutOfMemory = memory_line
+
+-- a node isn't written
+abbrev pub unwritten_line : PlacedNode → ℕ → List ℕ
+unwritten_line n at = codes "lucy: check: node " ++ (n.name.text ++ (codes ": not written at " ++ (decimal at ++ codes "\n")))
+
+-- a need of a node isn't met, and what is wrong stands at the end
+abbrev pub need_line : PlacedNode → Need → (end : List ℕ) → List ℕ
+need_line n need end = codes "lucy: check: node " ++ (n.name.text ++ (codes ": " ++ (need_text n need ++ end)))
+
+-- what is wrong
+abbrev pub differ_end : ℕ → List ℕ
+differ_end at = codes ": differ at " ++ (decimal at ++ codes "\n")
+
+abbrev pub rates_end : List ℕ
+rates_end = codes ": unequal rates\n"
+
+abbrev pub late_end : ℕ → List ℕ
+late_end at = codes ": late at " ++ (decimal at ++ codes "\n")
+
+-- what the checker says of the needs of a node
+abbrev pub check_line : PlacedNode → List Need → CheckFault → List ℕ
+check_line n needs (fault.Differs need at) = of_one (λ x. need_line n x (differ_end at)) (slice_get needs need)
+check_line n needs (fault.Rates need) = of_one (λ x. need_line n x rates_end) (slice_get needs need)
+check_line n needs (fault.Late need at) = of_one (λ x. need_line n x (late_end at)) (slice_get needs need)
+check_line n needs (fault.Limit need l) = limit_line l
+check_line n needs fault.OutOfMemory = memory_line
+
+-- the text of a refusal
+abbrev pub refusal_text : Refusal → List ℕ
+refusal_text (Syntax e) = syntax_line e
+refusal_text (Names e) = name_fault_line e
+refusal_text (Types placed clash) = clash_lines placed.nodes clash
+refusal_text (NotWritten placed node span) = of_one (λ n. unwritten_line n span.from) (slice_get placed.nodes node)
+refusal_text (Check placed node needs e) = of_one (λ n. check_line n needs.list e) (slice_get placed.nodes node)
+refusal_text (LimitPassed l) = limit_line l
+refusal_text OutOfMemory = memory_line
+
+-- a refusal names nodes and needs that are there, as those that `accept` gives do
+abbrev pub NamesNode : List PlacedNode → TypeError → Type 0
+NamesNode nodes (types.Clash node path) = node < length nodes
+NamesNode nodes types.OutOfMemory = Unit {0}
+
+abbrev pub NamesNeed : List Need → CheckFault → Type 0
+NamesNeed needs (fault.Differs need at) = need < length needs
+NamesNeed needs (fault.Rates need) = need < length needs
+NamesNeed needs (fault.Late need at) = need < length needs
+NamesNeed needs e = Unit {0}
+
+abbrev pub IsTellable : Refusal → Type 0
+IsTellable (Types placed clash) = NamesNode placed.nodes clash
+IsTellable (NotWritten placed node span) = node < length placed.nodes
+IsTellable (Check placed node needs e) = (node < length placed.nodes) × NamesNeed needs.list e
+IsTellable e = Unit {0}

@@ -1,0 +1,77 @@
+// Acceptance, phase by phase.
+ghost use Rattle.std.specs.Prelude.{◌≡◌, ◌⊎◌, ◌<◌, length, IfOk, IfErr};
+ghost use Rattle.lucy_place.specs.PlacedProgram.{PlacedProgram as Program};
+ghost use Rattle.lucy_front.specs.Accepting.{IsAccepted, Refuses};
+ghost use Rattle.lucy_front.specs.Report.{IsReportable};
+ghost use Rattle.lucy_front.specs.Refusals.{IsTellable};
+ghost use Rattle.lucy_front.specs.Clocking.{clock_refusal};
+
+use crate::accepted::Accepted;
+use crate::clocking::{NodeFault, Unclocked, node_clocks};
+use crate::options::Options;
+use crate::refusal::Refusal;
+use lucy_host::Ops;
+use lucy_place::{Placed, place};
+use lucy_syntax::parse;
+use lucy_types::{TypeError, types};
+use std::alloc::Global;
+
+// The refusal of the program where a node of it has no clocks.
+fn refusal(placed: Placed, unclocked: Unclocked) -> Refusal
+    ensures { result ≡ clock_refusal placed unclocked }
+{
+    let node = unclocked.node;
+    match unclocked.fault {
+        NodeFault::NotWritten(span) => Refusal::NotWritten { placed, node, span },
+        NodeFault::Check { needs, fault } => Refusal::Check {
+            placed,
+            node,
+            needs,
+            fault,
+        },
+        NodeFault::Limit(limit) => Refusal::Limit(limit),
+        NodeFault::OutOfMemory => Refusal::OutOfMemory,
+    }
+}
+
+// The phases in order, up to the first that refuses.
+fn phases(alloc: Global, text: &[u8], ops: &Ops) -> Result<Accepted, Refusal>
+    ensures ok { IfOk result (IsAccepted ops.now text.now) }
+    ensures refused { IfErr result (Refuses ops.now text.now) }
+{
+    let program = parse(alloc, text)?;
+    let placed = place(alloc, &program, ops)?;
+    let typed = match types(alloc, &placed) {
+        Ok(typed) => typed,
+        Err(TypeError::OutOfMemory) => return Err(Refusal::OutOfMemory),
+        Err(clash) => return Err(Refusal::Types { placed, clash }),
+    };
+    match node_clocks(alloc, &placed) {
+        Ok(clocks) => Ok(Accepted {
+            placed,
+            typed,
+            clocks,
+        }),
+        Err(unclocked) => Err(refusal(placed, unclocked)),
+    }
+}
+
+/// The program of a text, where the host has these operators, with the types of its places and the clocks of its nodes, or why it is refused: first for its length
+/// and its syntax, then for its names, then for the types of all nodes; then node by node, where it isn't written, else where
+/// its needs pass a limit, else where a word that it hands down passes one, else where these words don't meet a need or where
+/// the checker passes a limit.
+///
+/// The options say how clocks are inferred, which isn't done yet: each node has to be written.
+pub fn accept(
+    alloc: Global,
+    text: &[u8],
+    ops: &Ops,
+    _options: &Options,
+) -> Result<Accepted, Refusal>
+    ensures ok { IfOk result (IsAccepted ops.now text.now) }
+    ensures refused { IfErr result (Refuses ops.now text.now) }
+    ensures reportable { IfOk result (λ a. IsReportable a.placed.nodes a.typed a.clocks.items) }
+    ensures tellable { IfErr result IsTellable }
+{
+    phases(alloc, text, ops)
+}

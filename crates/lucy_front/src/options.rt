@@ -1,0 +1,10 @@
+/// How a program's clocks are found.
+#[derive(Clone, Copy, Debug, PartialEq, Eq)]
+pub struct Options {
+    /// How many times longer than necessary the period of inferred clocks is, from 1 to 64.
+    pub scale: u64,
+    /// How many periods inferred clocks may take until they are regular, from 1 to 64.
+    pub lead: u64,
+    /// Whether each node must be written. Until clocks are inferred, each node must be.
+    pub written_only: bool,
+}

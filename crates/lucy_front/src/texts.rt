@@ -1,0 +1,245 @@
+// The texts of refusals.
+ghost use Rattle.std.specs.Prelude.{◌≡◌, ◌<◌, ◌++◌, IfOk, OnOk, length};
+ghost use Rattle.lucy_word.specs.Spelling.{text_of};
+ghost use Rattle.lucy_front.specs.Needs as shown;
+ghost use Rattle.lucy_front.specs.Refusals as spec;
+
+use crate::names::{bytes, number, place_name, place_names};
+use crate::refusal::Refusal;
+use lucy_check::CheckFault;
+use lucy_need::{Need, Term};
+use lucy_place::{NameError, Placed, PlacedNode};
+use lucy_syntax::SyntaxError;
+use lucy_text::Text;
+use lucy_types::TypeError;
+use lucy_word::{Limit, OutOfMemory, Word};
+use std::alloc::Global;
+
+// A clock of a node.
+fn clock_name(alloc: Global, node: &PlacedNode, clock: u32) -> Result<Text, OutOfMemory>
+    ensures { IfOk result (λ text. text ≡ shown.clock_name node.now clock) }
+{
+    let places = node.places.list().len();
+    if clock == 0 {
+        Text::new(alloc, b"base")
+    } else if clock as usize <= places {
+        place_name(alloc, node, clock)
+    } else {
+        let call = clock as usize - places;
+        Text::new(alloc, format!(in alloc; "call{call}")?.as_bytes())
+    }
+}
+
+// The text of a word.
+fn word_text(alloc: Global, word: &Word) -> Result<Vec<u8>, OutOfMemory>
+    ensures { IfOk result (λ v. v.items ≡ text_of word.now) }
+{
+    let mut text = Vec::new(alloc);
+    word.print(alloc, &mut text)?;
+    Ok(text)
+}
+
+// A term, on its word but for (1).
+fn term_text(
+    alloc: Global,
+    node: &PlacedNode,
+    term: &Term,
+    out: &mut Vec<u8>,
+) -> Result<(), OutOfMemory>
+    ensures { OnOk result (out.new.items ≡ out.old.items ++ shown.term_text node.now term.now) }
+{
+    let clock = clock_name(alloc, node, term.clock)?;
+    let word = word_text(alloc, &term.word)?;
+    bytes(clock.bytes(), out)?;
+    if word.as_slice() == b"(1)".as_slice() {
+        return Ok(());
+    }
+    bytes(b" on ", out)?;
+    bytes(&word, out)
+}
+
+// A need.
+fn need_text(
+    alloc: Global,
+    node: &PlacedNode,
+    need: &Need,
+    out: &mut Vec<u8>,
+) -> Result<(), OutOfMemory>
+    ensures { OnOk result (out.new.items ≡ out.old.items ++ shown.need_text node.now need.now) }
+{
+    match need {
+        Need::Equal(first, second) => {
+            term_text(alloc, node, first, out)?;
+            bytes(b" = ", out)?;
+            term_text(alloc, node, second, out)
+        }
+        Need::Adapt(first, second) => {
+            term_text(alloc, node, first, out)?;
+            bytes(b" <: ", out)?;
+            term_text(alloc, node, second, out)
+        }
+    }
+}
+
+// The line where a limit is passed.
+fn limit_line(alloc: Global, limit: Limit) -> Result<Vec<u8>, OutOfMemory>
+    ensures { IfOk result (λ v. v.items ≡ spec.limit_line limit) }
+{
+    Ok(format!(in alloc; "lucy: limit {} {}\n", limit.name(), limit.number())?.into_bytes())
+}
+
+// The line where memory ran out.
+fn memory_line(alloc: Global) -> Result<Vec<u8>, OutOfMemory>
+    ensures { IfOk result (λ v. v.items ≡ spec.memory_line) }
+{
+    Ok(b"lucy: out of memory\n".to_vec(alloc)?)
+}
+
+// The line of a syntax.
+fn syntax_line(alloc: Global, error: SyntaxError) -> Result<Vec<u8>, OutOfMemory>
+    ensures { IfOk result (λ v. v.items ≡ spec.syntax_line error) }
+{
+    let line = match error {
+        SyntaxError::Unexpected(at) => format!(in alloc; "lucy: syntax: unexpected at {at}\n"),
+        SyntaxError::BadNumber(at) => format!(in alloc; "lucy: syntax: bad number at {at}\n"),
+        SyntaxError::BadWord(at) => format!(in alloc; "lucy: syntax: bad word at {at}\n"),
+        SyntaxError::TooLarge(limit) => return limit_line(alloc, limit),
+        SyntaxError::OutOfMemory => return memory_line(alloc),
+    };
+    Ok(line?.into_bytes())
+}
+
+// The line of a name.
+fn name_line(alloc: Global, error: NameError) -> Result<Vec<u8>, OutOfMemory>
+    ensures { IfOk result (λ v. v.items ≡ spec.name_fault_line error) }
+{
+    let line = match error {
+        NameError::Unknown(span) => format!(in alloc; "lucy: names: unknown at {}\n", span.from),
+        NameError::Twice(span) => format!(in alloc; "lucy: names: twice at {}\n", span.from),
+        NameError::NoResult(span) => format!(in alloc; "lucy: names: no result at {}\n", span.from),
+        NameError::Arity(span) => format!(in alloc; "lucy: names: arity at {}\n", span.from),
+        NameError::LaterNode(span) => {
+            format!(in alloc; "lucy: names: later node at {}\n", span.from)
+        }
+        NameError::TooMany(limit) => return limit_line(alloc, limit),
+        NameError::OutOfMemory => return memory_line(alloc),
+    };
+    Ok(line?.into_bytes())
+}
+
+// Puts places last, each on a line of its own.
+fn place_lines(places: &[Text], lines: &mut Vec<u8>) -> Result<(), OutOfMemory>
+    ensures { OnOk result (lines.new.items ≡ lines.old.items ++ spec.place_lines places.now) }
+{
+    'each: for place in places {
+        bytes(b"  ", lines)?;
+        bytes(place.bytes(), lines)?;
+        bytes(b"\n", lines)?;
+    }
+    Ok(())
+}
+
+// The lines of a clash of types in a node.
+fn path_lines(alloc: Global, node: &PlacedNode, path: &[u32]) -> Result<Vec<u8>, OutOfMemory>
+    ensures { IfOk result (λ v. v.items ≡ spec.path_lines node.now path.now) }
+{
+    let mut lines = Vec::new(alloc);
+    bytes(b"lucy: types: node ", &mut lines)?;
+    bytes(node.name.text.bytes(), &mut lines)?;
+    bytes(b": int against bool\n", &mut lines)?;
+    place_lines(&place_names(alloc, node, path)?, &mut lines)?;
+    Ok(lines)
+}
+
+// The lines of a clash of types.
+fn clash_lines(alloc: Global, placed: &Placed, clash: &TypeError) -> Result<Vec<u8>, OutOfMemory>
+    requires { spec.NamesNode placed.now.nodes clash.now }
+    ensures { IfOk result (λ v. v.items ≡ spec.clash_lines placed.now.nodes clash.now) }
+{
+    match clash {
+        TypeError::Clash { node, path } => { path_lines(alloc, placed.node(*node), path) }
+        TypeError::OutOfMemory => memory_line(alloc),
+    }
+}
+
+// The line where a node isn't written.
+fn unwritten_line(alloc: Global, node: &PlacedNode, at: u64) -> Result<Vec<u8>, OutOfMemory>
+    ensures { IfOk result (λ v. v.items ≡ spec.unwritten_line node.now at) }
+{
+    let mut line = Vec::new(alloc);
+    bytes(b"lucy: check: node ", &mut line)?;
+    bytes(node.name.text.bytes(), &mut line)?;
+    bytes(b": not written at ", &mut line)?;
+    number(alloc, at, &mut line)?;
+    bytes(b"\n", &mut line)?;
+    Ok(line)
+}
+
+// The line where a need of a node isn't met, with what is wrong at its end.
+fn need_line(
+    alloc: Global,
+    node: &PlacedNode,
+    need: &Need,
+    end: &[u8],
+) -> Result<Vec<u8>, OutOfMemory>
+    ensures { IfOk result (λ v. v.items ≡ spec.need_line node.now need.now end.now) }
+{
+    let mut line = Vec::new(alloc);
+    bytes(b"lucy: check: node ", &mut line)?;
+    bytes(node.name.text.bytes(), &mut line)?;
+    bytes(b": ", &mut line)?;
+    need_text(alloc, node, need, &mut line)?;
+    bytes(end, &mut line)?;
+    Ok(line)
+}
+
+// The line where the words of a node don't meet its needs.
+fn check_line(
+    alloc: Global,
+    node: &PlacedNode,
+    needs: &[Need],
+    fault: CheckFault,
+) -> Result<Vec<u8>, OutOfMemory>
+    requires { spec.NamesNeed needs.now fault }
+    ensures { IfOk result (λ v. v.items ≡ spec.check_line node.now needs.now fault) }
+{
+    match fault {
+        CheckFault::Differs { need, instant } => {
+            let end = format!(in alloc; ": differ at {instant}\n")?;
+            need_line(alloc, node, &needs[need as usize], end.as_bytes())
+        }
+        CheckFault::Rates { need } => {
+            need_line(alloc, node, &needs[need as usize], b": unequal rates\n")
+        }
+        CheckFault::Late { need, instant } => {
+            let end = format!(in alloc; ": late at {instant}\n")?;
+            need_line(alloc, node, &needs[need as usize], end.as_bytes())
+        }
+        CheckFault::Limit { limit, .. } => limit_line(alloc, limit),
+        CheckFault::OutOfMemory => memory_line(alloc),
+    }
+}
+
+/// The text of a refusal that `accept` gives: its line on the fault sink, for a clash of types with the places of its path,
+/// each on a line of its own.
+pub fn refusal_text(alloc: Global, refusal: &Refusal) -> Result<Vec<u8>, OutOfMemory>
+    requires { spec.IsTellable refusal.now }
+    ensures { IfOk result (λ v. v.items ≡ spec.refusal_text refusal.now) }
+{
+    match refusal {
+        Refusal::Syntax(error) => syntax_line(alloc, *error),
+        Refusal::Names(error) => name_line(alloc, *error),
+        Refusal::Types { placed, clash } => clash_lines(alloc, placed, clash),
+        Refusal::NotWritten { placed, node, span } => {
+            unwritten_line(alloc, placed.node(*node), u64::from(span.from))
+        }
+        Refusal::Check {
+            placed,
+            node,
+            needs,
+            fault,
+        } => check_line(alloc, placed.node(*node), needs.list.list(), *fault),
+        Refusal::Limit(limit) => limit_line(alloc, *limit),
+        Refusal::OutOfMemory => memory_line(alloc),
+    }
+}
