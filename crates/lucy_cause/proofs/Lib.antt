@@ -1,0 +1,11 @@
+pub mod Lists
+pub mod PlayLaws
+pub mod StackLaws
+pub mod SettleLaws
+pub mod InstantLaws
+pub mod NeedLaws
+pub mod RowLaws
+pub mod LengthLaws
+pub mod CountLaws
+pub mod AgendaLaws
+pub mod WordLaws

@@ -1,0 +1,24 @@
+use Rattle.std.proofs.Common.{subst, arith}
+use Rattle.lucy_cause.specs.declared.settle.Settled.{Settled}
+use Rattle.lucy_cause.specs.Play.{IsPlayed}
+use Rattle.lucy_cause.specs.Settling.{AreOver, AreSettled}
+use Rattle.lucy_cause.proofs.InstantLaws.{played_none, firing_busy, firing_there, ordered, ready_again}
+use Rattle.lucy_cause.proofs.instant.play_instant.Goals as goal
+
+pub settle_all-requires-clause-firing : goal.settle_all-requires-clause-firing
+settle_all-requires-clause-firing c = firing_busy c.args.net.now c.args.before c.args.firing.now c.requires.firing
+
+pub settle_all-requires-clause-played : goal.settle_all-requires-clause-played
+settle_all-requires-clause-played c = played_none c.args.net.now c.args.before c.args.order.now.items c.args.steps.now c.args.held.now c.args.depth.now c.requires.proper c.requires.ready c.requires.fresh
+
+pub clear-requires : goal.clear-requires
+clear-requires c k d l = omega (arith, firing_there c.args.net.now c.args.before c.args.firing.now c.requires.firing k d l, c.requires.ready.actors)
+
+pub returns : goal.returns
+returns c =
+    let over : IsPlayed c.args.net.now c.args.before c.settle_all.new.order.items c.settle_all.new.steps c.settle_all.new.held × AreOver c.args.net.now c.args.before c.args.firing.now c.settle_all.new.steps c.settle_all.new.depth =
+    subst (λ (s : Settled). AreSettled c.args.net.now c.args.before c.args.firing.now c.settle_all.new.order.items c.settle_all.new.steps c.settle_all.new.held c.settle_all.new.depth s) c.in_default.is c.in_ok-waits.ensures in (
+      ordered c.args.net.now c.args.before c.args.firing.now c.settle_all.new.order.items c.settle_all.new.steps c.settle_all.new.held c.settle_all.new.depth c.requires.firing over.0 over.1,
+      ready_again c.args.net.now c.args.before c.args.firing.now c.settle_all.new.order.items c.settle_all.new.steps c.settle_all.new.held c.settle_all.new.depth c.clear.new.steps c.requires.proper c.requires.firing over.0 over.1 (omega arith)
+          c.clear.ensures.cleared c.clear.ensures.kept,
+    )

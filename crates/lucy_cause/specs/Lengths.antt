@@ -1,0 +1,25 @@
+-- The lengths of a schedule, and how many operations a net has.
+use Rattle.std.specs.Prelude.{ℕ, ◌<◌, ◌≤◌, List, All, length, sum_by, Some}
+use Prim.Native.Nat.{◌∣◌}
+use Rattle.lucy_word.specs.Bits.{Bits}
+use Rattle.lucy_stream.specs.Forms.{Form, Merged}
+use Rattle.lucy_event.specs.Plans.{task_ops}
+use Rattle.lucy_net.specs.declared.net.Net.{Net}
+use Rattle.lucy_net.specs.Plans.{task_of}
+
+-- the greatest prefix length of words, and the least common multiple of their period lengths
+pub record AreLengths (words : List Bits) (prefix period : ℕ) : Type 0 where
+  pub prefixes : All (λ w. length w.prefix ≤ prefix) words
+  pub prefix_least : (n : ℕ) → All (λ w. length w.prefix ≤ n) words → prefix ≤ n
+  pub some : 0 < period
+  pub periods : All (λ w. length w.period ∣ period) words
+  pub period_least : (n : ℕ) → 0 < n → All (λ w. length w.period ∣ n) words → period ∣ n
+
+-- how many items an actor of the form, with so many operands, takes in each firing
+abbrev pub takes_each : Form → ℕ → ℕ
+takes_each (Merged word) operands = 1
+takes_each form operands = operands
+
+-- how many operations the actors of a net have in the first instants
+abbrev pub operations_by : Net → ℕ → ℕ
+operations_by net instants = sum_by (λ actor. length (task_ops (Some (task_of instants actor)))) net.actors

@@ -1,0 +1,49 @@
+// How many operations there are.
+ghost use Rattle.std.specs.Prelude.{◌≡◌, ◌+◌, ◌<◌, ◌≤◌, length, Some};
+ghost use Rattle.lucy_stream.specs.Forms.{operands};
+ghost use Rattle.lucy_event.specs.Plans.{task_ops};
+ghost use Rattle.lucy_net.specs.Plans.{form_of, task_of};
+ghost use Rattle.lucy_net.specs.Proper.{IsProper};
+ghost use Rattle.lucy_word.specs.Limits.{limit_number};
+ghost use Rattle.lucy_cause.specs.Lengths.{takes_each, operations_by};
+
+use crate::cycle::items_by;
+use lucy_net::{Actor, ActorKind, Net};
+use lucy_word::Limit;
+
+// How many items an actor takes in each firing.
+fn takes_each(actor: &Actor) -> u64
+    requires { length actor.now.takes ≡ operands (form_of actor.now.kind) }
+    ensures is { result ≡ takes_each (form_of actor.now.kind) (length actor.now.takes) }
+    ensures few { result ≤ 3 }
+{
+    match &actor.kind {
+        ActorKind::Merge(_) => 1,
+        _ => actor.takes.list().len() as u64,
+    }
+}
+
+// How many ring operations an actor has in the first instants.
+fn operations_of(actor: &Actor, instants: u64) -> u64
+    requires arity { length actor.now.takes ≡ operands (form_of actor.now.kind) }
+    requires gives { length actor.now.gives ≤ 32768 }
+    requires early { instants ≤ limit_number Limit.Schedule }
+    ensures count { result ≡ length (task_ops (Some (task_of instants actor.now))) }
+    ensures few { result ≤ 34363932672 }
+{
+    let fired = actor.firing.ones(instants);
+    fired * takes_each(actor) + items_by(actor, instants) * actor.gives.list().len() as u64
+}
+
+/// How many ring operations the actors of a net have in the first instants.
+pub(crate) fn operations_in(net: &Net, instants: u64) -> u64
+    requires proper { IsProper net.now }
+    requires early { instants ≤ limit_number Limit.Schedule }
+    ensures { result ≡ operations_by net.now instants }
+{
+    let mut operations = 0;
+    for actor in net.actors.list() {
+        operations += operations_of(actor, instants);
+    }
+    operations
+}

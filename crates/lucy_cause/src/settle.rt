@@ -1,0 +1,94 @@
+// The firings of one instant, played by counts: an actor that finds a ring empty lets the ring's giver go on first.
+ghost use Rattle.std.specs.Prelude.{ℕ, ◌≡◌, ◌+◌, ◌<◌, ◌≤◌, ◌^◌, length, slice_index, IfOk};
+ghost use Rattle.lucy_net.specs.Proper.{IsProper};
+ghost use Rattle.lucy_net.specs.Instants.{slot};
+ghost use Rattle.lucy_cause.specs.Play.{IsPlayed};
+ghost use Rattle.lucy_cause.specs.Waiting.{actor_at, IsResumed};
+ghost use Rattle.lucy_cause.specs.Settling.{IsSettled};
+
+use crate::advance::{Event, advance};
+use lucy_net::Net;
+use std::alloc::{AllocError, Global};
+
+/// The actor waits for an item of the ring.
+#[derive(Clone, Copy, Debug, PartialEq, Eq)]
+pub(crate) struct Wait {
+    pub actor: u32,
+    pub ring: u32,
+}
+
+/// How a play ended.
+#[derive(Drop)]
+pub(crate) enum Settled {
+    /// The actor has done its firing.
+    Done,
+    /// Each of these actors waits for an item that the next one gives, and the last one for one of the first.
+    Stuck(Vec<Wait>),
+}
+
+// Who goes on after a give: the one that waited for it, or else the giver.
+fn resume(waits: &mut Vec<Wait>, depth: &mut [u32], now: usize, ring: u32) -> usize
+    requires { (k : ℕ) → k < length waits.old.items → actor_at waits.old.items now k < length depth.old }
+    ensures { IsResumed waits.old.items waits.new.items depth.old depth.new now ring result }
+{
+    match waits.last() {
+        Some(wait) if wait.ring == ring => {
+            let next = wait.actor as usize;
+            waits.pop();
+            depth[next] = 0;
+            next
+        }
+        _ => now,
+    }
+}
+
+/// Plays the firing of one actor to its end, and before each take that finds nothing the ring's giver up to its give.
+///
+/// `steps` are the operations that the actors have done in the instant, `held` the rings' items, and `order` the events so
+/// far. `depth` is 0 for each actor and is so again at `Done`.
+pub(crate) fn settle(
+    alloc: Global,
+    net: &Net,
+    before: u64,
+    first: u32,
+    steps: &mut [u32],
+    held: &mut [u64],
+    depth: &mut [u32],
+    order: &mut Vec<u32>,
+) -> Result<Settled, AllocError>
+    requires proper { IsProper net.now }
+    requires early { before < 2 ^ 32 }
+    requires first { first < length net.now.actors }
+    requires played { IsPlayed net.now before order.old.items steps.old held.old }
+    requires depths { length depth.old ≡ length net.now.actors }
+    requires unmarked { (a : ℕ) → slice_index depth.old a ≡ 0 }
+    requires busy { 0 < length (slot net.now before first) }
+    ensures settled { IfOk result (IsSettled net.now before first order.new.items steps.new held.new depth.new) }
+    ensures grown { IfOk result (λ _. (a : ℕ) → slice_index steps.old a ≤ slice_index steps.new a) }
+{
+    let actors = net.actors.list();
+    let rings = net.rings.list();
+    let mut waits: Vec<Wait> = Vec::new(alloc);
+    let mut now = first as usize;
+    'events: loop {
+        match advance(&actors[now], before, &mut steps[now], held) {
+            Event::Over => return Ok(Settled::Done),
+            Event::Took => order.push(now as u32)?,
+            Event::Gave(ring) => {
+                order.push(now as u32)?;
+                now = resume(&mut waits, depth, now, ring);
+            }
+            Event::Waits(ring) => {
+                waits.push(Wait {
+                    actor: now as u32,
+                    ring,
+                })?;
+                depth[now] = waits.len() as u32;
+                now = rings[ring as usize].from as usize;
+                if depth[now] > 0 {
+                    return Ok(Settled::Stuck(waits.split_off((depth[now] - 1) as usize)?));
+                }
+            }
+        }
+    }
+}

@@ -1,0 +1,12 @@
+pub mod Plans
+pub mod Proper
+pub mod Moves
+pub mod Cursors
+pub mod States
+pub mod Words
+pub mod Causal
+pub mod Schedules
+-- what only serves the proofs
+pub mod Stepping
+pub mod Instants
+pub mod Turning
