@@ -1,0 +1,10 @@
+pub mod CircleLaws
+pub mod SeenLaws
+pub mod ListLaws
+pub mod CountingLaws
+pub mod StepLaws
+pub mod PickLaws
+pub mod OpenLaws
+pub mod MakeLaws
+pub mod InsideLaws
+mod Rows

@@ -1,0 +1,4 @@
+pub mod Seen
+-- what only serves the proofs
+pub mod Circles
+pub mod Inside
