@@ -1,0 +1,34 @@
+-- Why there is no net.
+use Rattle.std.proofs.Common.{◌≡◌, List, sym, refl, subst, inl, inr}
+use Rattle.std.specs.Prelude.{◌⊎◌}
+use Rattle.lucy_word.specs.declared.limit.Limit.TheVariants as lim
+use Rattle.lucy_place.specs.declared.placed.PlacedNode.{PlacedNode}
+use Rattle.lucy_place.specs.Proper.{AreProper}
+use Rattle.lucy_flat.specs.declared.error.FlatError.{FlatError}
+use Rattle.lucy_flat.specs.declared.error.FlatError.TheVariants as err
+use Rattle.lucy_clock.specs.declared.node_clock.NodeClock.{NodeClock}
+use Rattle.lucy_flat.specs.declared.draft.Draft.{Draft}
+use Rattle.lucy_flat.specs.Clocked.{AreClocked}
+use Rattle.lucy_flat.specs.Counts.{IsSmall}
+use Rattle.lucy_flat.specs.Drafts.{AreDrafts}
+use Rattle.lucy_flat.specs.Assembly.{IsReadTooLong}
+use Rattle.lucy_flat.specs.Refusals.{IsWordTooLong, IsClockTooLong, RefusesFlat}
+use Rattle.lucy_flat.proofs.FlatLaws.{read_long}
+
+refuses_word : (nodes : List PlacedNode) (clocks : List NodeClock) → IsSmall nodes clocks → IsWordTooLong nodes clocks → RefusesFlat nodes clocks (err.Limit lim.Word)
+refuses_word nodes clocks small long = inr (inl (refl, small, long))
+
+pub refuses_clock : (nodes : List PlacedNode) (clocks : List NodeClock) (e : FlatError) → IsSmall nodes clocks → (e ≡ err.OutOfMemory) ⊎ ((e ≡ err.Limit lim.Word) × IsClockTooLong nodes clocks) → RefusesFlat nodes clocks e
+refuses_clock nodes clocks e small why =
+    elim why [
+      | inl l ↦ subst (RefusesFlat nodes clocks) (sym l) tt
+      | inr r ↦ subst (RefusesFlat nodes clocks) (sym r.0) (refuses_word nodes clocks small (inl r.1))
+    ]
+
+pub refuses_read : (nodes : List PlacedNode) (clocks : List NodeClock) → AreProper nodes → AreClocked nodes clocks → (drafts : List Draft) → AreDrafts nodes clocks drafts → (e : FlatError) → IsSmall nodes clocks →
+    (e ≡ err.OutOfMemory) ⊎ ((e ≡ err.Limit lim.Word) × IsReadTooLong drafts) → RefusesFlat nodes clocks e
+refuses_read nodes clocks proper clocked drafts are e small why =
+    elim why [
+      | inl l ↦ subst (RefusesFlat nodes clocks) (sym l) tt
+      | inr r ↦ subst (RefusesFlat nodes clocks) (sym r.0) (refuses_word nodes clocks small (inr (read_long nodes clocks proper clocked drafts are r.1)))
+    ]

@@ -1,0 +1,33 @@
+use Rattle.std.proofs.Common.{◌≡◌, sym, subst, inl, inr}
+use Rattle.std.specs.Prelude.{◌⊎◌}
+use Rattle.lucy_word.specs.Sampling.{IsOn, IsOnTooLong}
+use Rattle.lucy_word.specs.declared.limit.Limit.TheVariants as lim
+use Rattle.lucy_flat.specs.declared.error.FlatError.TheVariants as err
+use Rattle.lucy_flat.specs.Assembly.{IsReadOn, ReadsTooLong}
+use Rattle.lucy_flat.proofs.AssemblyLaws.{ok_map, err_map, read_other, long_other, long_back}
+use Rattle.lucy_flat.proofs.assemble.read_word.Goals as goal
+
+pub returns-in_ok-other-in-Merge-2-clause-ok : goal.returns-in_ok-other-in-Merge-2-clause-ok
+returns-in_ok-other-in-Merge-2-clause-ok c =
+    let own = c.args.taker.now.word in
+    ok_map (IsOn own c.in_ok-other-in-Merge-2.other) (IsReadOn c.args.taker.now.kind c.args.operand own c.args.write.now) c.sampled-in-Merge-2.result
+    (λ w is. read_other c.args.taker.now.kind c.args.operand c.in-Merge-2.word own c.args.write.now w c.in-Merge-2.is c.if-operand-eq0.false (subst (λ v. IsOn own v w) c.in_ok-other-in-Merge-2.ensures.ok is))
+    c.sampled-in-Merge-2.ensures.ok
+
+pub returns-in_ok-other-in-Merge-2-clause-fits : goal.returns-in_ok-other-in-Merge-2-clause-fits
+returns-in_ok-other-in-Merge-2-clause-fits c =
+    let own = c.args.taker.now.word in
+    ok_map (λ w. IsOnTooLong own c.in_ok-other-in-Merge-2.other → ⊥) (λ w. ReadsTooLong c.args.taker.now.kind c.args.operand own → ⊥) c.sampled-in-Merge-2.result
+    (λ w no is. no (subst (IsOnTooLong own) (sym c.in_ok-other-in-Merge-2.ensures.ok) (long_back c.args.taker.now.kind c.args.operand c.in-Merge-2.word own c.in-Merge-2.is c.if-operand-eq0.false is)))
+    c.sampled-in-Merge-2.ensures.fits
+
+pub returns-in_ok-other-in-Merge-2-clause-refused : goal.returns-in_ok-other-in-Merge-2-clause-refused
+returns-in_ok-other-in-Merge-2-clause-refused c =
+    let own = c.args.taker.now.word in
+    err_map (λ e. (e ≡ err.OutOfMemory) ⊎ ((e ≡ err.Limit lim.Word) × IsOnTooLong own c.in_ok-other-in-Merge-2.other))
+    (λ e. (e ≡ err.OutOfMemory) ⊎ ((e ≡ err.Limit lim.Word) × ReadsTooLong c.args.taker.now.kind c.args.operand own)) c.sampled-in-Merge-2.result
+    (λ e why. elim why [
+      | inl l ↦ inl l
+      | inr r ↦ inr (r.0, long_other c.args.taker.now.kind c.args.operand c.in-Merge-2.word own c.in-Merge-2.is c.if-operand-eq0.false (subst (IsOnTooLong own) c.in_ok-other-in-Merge-2.ensures.ok r.1))
+    ])
+    c.sampled-in-Merge-2.ensures.refused

@@ -1,0 +1,41 @@
+use Rattle.std.proofs.Common.{◌≡◌, ◌+◌, ap, subst, length, arith}
+use Rattle.lucy_flat.specs.Drafts.{ArePlacesPut}
+use Rattle.lucy_meaning.proofs.Closed.{place_spot}
+use Rattle.lucy_flat.proofs.InstanceLaws.{found_at, places_few}
+use Rattle.lucy_flat.proofs.MadeLaws.{places_none, places_more}
+use Rattle.lucy_flat.proofs.instance.put_places.Goals as goal
+
+pub overflow_cast-i : goal.overflow_cast-i
+overflow_cast-i c =
+    let few = places_few c.args.program.placed.now.nodes c.args.program.clocks.now c.requires.program.proper c.requires.of.0 c.args.of c.requires.of.1 in
+    let count = ap length c.list-count.ensures in
+    let low = c.each-test.true in
+    omega arith
+
+pub each-init : goal.each-init
+each-init c = λ path is. places_none c.args.program.placed.now.nodes c.args.program.clocks.now path c.args.drafts.now.items
+
+pub overflow_add-i : goal.overflow_add-i
+overflow_add-i c =
+    let few = places_few c.args.program.placed.now.nodes c.args.program.clocks.now c.requires.program.proper c.requires.of.0 c.args.of c.requires.of.1 in
+    let count = ap length c.list-count.ensures in
+    let low = c.each-test.true in
+    omega arith
+
+pub each-preserved : goal.each-preserved
+each-preserved c = λ path is.
+    let nodes = c.args.program.placed.now.nodes in
+    let clocks = c.args.program.clocks.now in
+    let low = c.each-test.true in
+    let count = ap length c.list-count.ensures in
+    let spot = place_spot nodes path c.args.of.node.now (c.each.i + 1) (found_at nodes clocks c.requires.program.proper path c.args.of is) (omega arith, omega arith) in
+    places_more nodes clocks path c.each.i c.args.drafts.now.items c.each.drafts.items c.push.new.list.items c.in_ok-next.next (c.each.invariant path is) c.in_ok-push.ensures.ok
+    (record { kind = spot.0; stands = spot.1; made = c.in_ok-next.ensures.ok path spot.0 is spot.1 }) (c.in_ok-next.ensures.fits path is)
+
+pub returns-clause-ok : goal.returns-clause-ok
+returns-clause-ok c = λ path is.
+    let count = ap length c.list-count.ensures in
+    let high = c.each-test.false in
+    let end = c.each.auto.i-end in
+    let same : c.each.i ≡ length c.args.of.node.now.places = omega arith in
+    subst (λ n. ArePlacesPut c.args.program.placed.now.nodes c.args.program.clocks.now path n c.args.drafts.now.items c.each.drafts.items) same (c.each.invariant path is)

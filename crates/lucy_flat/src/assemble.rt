@@ -1,0 +1,201 @@
+// Actors and rings out of drafts.
+ghost use Rattle.std.specs.Prelude.{ℕ, ◌≡◌, ◌⊎◌, ◌+◌, ◌<◌, ◌≤◌, ◌^◌, Some, length, slice_get, OnOk, IfOk, IfErr};
+ghost use Rattle.std.specs.List.{range_with_len};
+ghost use Rattle.lucy_word.specs.Shortest.{IsShortest};
+ghost use Rattle.lucy_word.specs.declared.limit.Limit.TheVariants as lim;
+ghost use Rattle.lucy_flat.specs.declared.error.FlatError.TheVariants as err;
+ghost use Rattle.lucy_flat.specs.declared.draft.Draft.{Draft as One};
+ghost use Rattle.lucy_flat.specs.Assembly.{reads_count, all_reads, IsReadOn, ReadsTooLong, HasKind, IsReady, IsRingOf, AreRingsOf, IsAssembled, IsReadTooLong, AreGiven, IsActorOf, AreActorsOf, IsFiring, IsSampling};
+
+use crate::draft::Draft;
+use crate::error::FlatError;
+use crate::grow::push;
+use crate::words::{copied, sampled, turned};
+use lucy_net::{Actor, ActorKind, Actors, Net, Numbers, RingSpec, Rings};
+use lucy_word::Word;
+use std::alloc::Global;
+
+// The word on which an actor takes an operand: a sampling when it is written, a merge where its word says so.
+fn read_word(alloc: Global, taker: &Draft, operand: usize, write: &Word) -> Result<Word, FlatError>
+    requires kind { HasKind taker.now.kind (reads_count taker.now) }
+    requires short { IsShortest taker.now.word }
+    requires short_write { IsShortest write.now }
+    ensures ok { IfOk result (IsReadOn taker.now.kind operand taker.now.word write.now) }
+    ensures shortest { IfOk result IsShortest }
+    ensures fits { IfOk result (λ w. ReadsTooLong taker.now.kind operand taker.now.word → ⊥) }
+    ensures refused { IfErr result (λ e. (e ≡ err.OutOfMemory) ⊎ ((e ≡ err.Limit lim.Word) × ReadsTooLong taker.now.kind operand taker.now.word)) }
+{
+    match &taker.kind {
+        ActorKind::When(_) => copied(alloc, write),
+        ActorKind::Merge(word) if operand == 0 => sampled(alloc, &taker.word, word),
+        ActorKind::Merge(word) => {
+            let other = turned(alloc, word)?;
+            sampled(alloc, &taker.word, &other)
+        }
+        _ => copied(alloc, &taker.word),
+    }
+}
+
+fn ring_of(
+    alloc: Global,
+    drafts: &[Draft],
+    to: usize,
+    operand: usize,
+) -> Result<RingSpec, FlatError>
+    requires ready { IsReady drafts.now }
+    requires to { to < length drafts.now }
+    requires operand { (draft : One) → slice_get drafts.now to ≡ Some draft → operand < reads_count draft }
+    ensures ok { (draft : One) (from : ℕ) → slice_get drafts.now to ≡ Some draft → slice_get draft.reads.items operand ≡ Some from → IfOk result (IsRingOf drafts.now to operand from draft) }
+    ensures refused { IfErr result (λ e. (e ≡ err.OutOfMemory) ⊎ ((e ≡ err.Limit lim.Word) × IsReadTooLong drafts.now)) }
+{
+    let taker = &drafts[to];
+    let from = taker.reads[operand];
+    let write = copied(alloc, &drafts[from as usize].word)?;
+    let read = read_word(alloc, taker, operand, &write)?;
+    Ok(RingSpec {
+        from,
+        to: to as u32,
+        write,
+        read,
+        size: taker.size,
+    })
+}
+
+// Puts the rings of an actor's operands.
+fn put_rings(
+    alloc: Global,
+    drafts: &[Draft],
+    to: usize,
+    rings: &mut Vec<RingSpec>,
+) -> Result<(), FlatError>
+    requires ready { IsReady drafts.now }
+    requires to { to < length drafts.now }
+    requires before { AreRingsOf drafts.now to rings.old.items }
+    ensures ok { OnOk result (AreRingsOf drafts.now (to + 1) rings.new.items) }
+    ensures refused { IfErr result (λ e. (e ≡ err.OutOfMemory) ⊎ ((e ≡ err.Limit lim.Word) × IsReadTooLong drafts.now)) }
+{
+    let count = drafts[to].reads.len();
+    'each: for operand in 0..count {
+        let next = ring_of(alloc, drafts, to, operand)?;
+        push(rings, next)?;
+    }
+    Ok(())
+}
+
+fn all_rings(alloc: Global, drafts: &[Draft]) -> Result<Vec<RingSpec>, FlatError>
+    requires ready { IsReady drafts.now }
+    ensures ok { IfOk result (λ v. AreRingsOf drafts.now (length drafts.now) v.items) }
+    ensures refused { IfErr result (λ e. (e ≡ err.OutOfMemory) ⊎ ((e ≡ err.Limit lim.Word) × IsReadTooLong drafts.now)) }
+{
+    let mut rings = Vec::new(alloc);
+    let count = drafts.len();
+    'each: for to in 0..count {
+        put_rings(alloc, drafts, to, &mut rings)?;
+    }
+    Ok(rings)
+}
+
+// Gives each ring to the draft from which it comes.
+fn hand_out(drafts: &mut Vec<Draft>, rings: &[RingSpec]) -> Result<(), FlatError>
+    requires ready { IsReady drafts.old.items }
+    requires rings { AreRingsOf drafts.old.items (length drafts.old.items) rings.now }
+    ensures ok { OnOk result (AreGiven drafts.old.items rings.now (length rings.now) drafts.new.items) }
+    ensures refused { IfErr result (λ e. e ≡ err.OutOfMemory) }
+{
+    let count = rings.len();
+    'each: for r in 0..count {
+        push(&mut drafts[rings[r].from as usize].gives, r as u32)?;
+    }
+    Ok(())
+}
+
+// So many numbers from the first on.
+fn numbers(alloc: Global, first: u32, count: usize) -> Result<Vec<u32>, FlatError>
+    requires { first + count < 2 ^ 32 }
+    ensures ok { IfOk result (λ v. v.items ≡ range_with_len first count) }
+    ensures refused { IfErr result (λ e. e ≡ err.OutOfMemory) }
+{
+    let mut numbers = Vec::new(alloc);
+    'each: for i in 0..count {
+        push(&mut numbers, first + i as u32)?;
+    }
+    Ok(numbers)
+}
+
+// A sampling fires where its operand is written.
+fn firing(
+    alloc: Global,
+    kind: &ActorKind,
+    word: Word,
+    first: u32,
+    rings: &[RingSpec],
+) -> Result<Word, FlatError>
+    requires { IsSampling kind.now → first < length rings.now }
+    ensures ok { IfOk result (IsFiring kind.now word (slice_get rings.now first)) }
+    ensures refused { IfErr result (λ e. e ≡ err.OutOfMemory) }
+{
+    match kind {
+        ActorKind::When(_) => copied(alloc, &rings[first as usize].write),
+        _ => Ok(word),
+    }
+}
+
+// The actor of a draft, whose rings begin with this one.
+fn finished(alloc: Global, draft: Draft, first: u32, rings: &[RingSpec]) -> Result<Actor, FlatError>
+    requires kind { HasKind draft.kind (reads_count draft) }
+    requires within { first + reads_count draft ≤ length rings.now }
+    requires few { length rings.now < 2 ^ 32 }
+    ensures ok { IfOk result (IsActorOf rings.now first draft) }
+    ensures refused { IfErr result (λ e. e ≡ err.OutOfMemory) }
+{
+    let Draft {
+        kind,
+        word,
+        reads,
+        gives,
+        ..
+    } = draft;
+    let takes = numbers(alloc, first, reads.len())?;
+    let firing = firing(alloc, &kind, word, first, rings)?;
+    Ok(Actor {
+        kind,
+        firing,
+        takes: Numbers::new(takes),
+        gives: Numbers::new(gives),
+    })
+}
+
+// The actors of drafts.
+fn actors(alloc: Global, drafts: Vec<Draft>, rings: &[RingSpec]) -> Result<Vec<Actor>, FlatError>
+    requires kinds { (a : ℕ) (draft : One) → slice_get drafts.items a ≡ Some draft → HasKind draft.kind (reads_count draft) }
+    requires all { all_reads drafts.items ≡ length rings.now }
+    requires few { length rings.now < 2 ^ 32 }
+    ensures ok { IfOk result (λ v. AreActorsOf rings.now drafts.items v.items) }
+    ensures refused { IfErr result (λ e. e ≡ err.OutOfMemory) }
+{
+    let mut actors = Vec::new(alloc);
+    let mut first = 0u32;
+    'each: for draft in drafts {
+        let count = draft.reads.len() as u32;
+        let next = finished(alloc, draft, first, rings)?;
+        push(&mut actors, next)?;
+        first += count;
+    }
+    Ok(actors)
+}
+
+/// The net of drafts: a ring for each operand, in order.
+pub fn assemble(alloc: Global, mut drafts: Vec<Draft>) -> Result<Net, FlatError>
+    requires { IsReady drafts.items }
+    ensures ok { IfOk result (IsAssembled drafts.items) }
+    ensures fits { IfOk result (λ net. IsReadTooLong drafts.items → ⊥) }
+    ensures refused { IfErr result (λ e. (e ≡ err.OutOfMemory) ⊎ ((e ≡ err.Limit lim.Word) × IsReadTooLong drafts.items)) }
+{
+    let rings = all_rings(alloc, &drafts)?;
+    hand_out(&mut drafts, &rings)?;
+    let actors = actors(alloc, drafts, &rings)?;
+    Ok(Net {
+        actors: Actors::new(actors),
+        rings: Rings::new(rings),
+    })
+}

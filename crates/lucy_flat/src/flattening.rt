@@ -1,0 +1,134 @@
+// The flat net of a program.
+ghost use Rattle.std.specs.Prelude.{[], ◌≡◌, ◌⊎◌, ◌+◌, ◌<◌, ◌≤◌, ◌^◌, Some, length, OnOk, IfOk, IfErr};
+ghost use Rattle.lucy_word.specs.Bits.{bit_count};
+ghost use Rattle.lucy_word.specs.declared.limit.Limit.TheVariants as lim;
+ghost use Rattle.lucy_word.specs.Limits.{limit_number};
+ghost use Rattle.lucy_place.specs.Proper.{AreProper};
+ghost use Rattle.lucy_flat.specs.declared.error.FlatError.TheVariants as err;
+ghost use Rattle.lucy_meaning.specs.Spots.{main_of, results_in};
+ghost use Rattle.lucy_flat.specs.Counts.{IsSmall, last_of};
+ghost use Rattle.lucy_flat.specs.Clocked.{AreClocked};
+ghost use Rattle.lucy_flat.specs.Drafts.{IsProgram, AreDrafts, ArePut};
+ghost use Rattle.lucy_flat.specs.Refusals.{IsClockTooLong, IsFlatNet, RefusesFlat, net_bits};
+
+use crate::assemble::assemble;
+use crate::draft::Draft;
+use crate::error::FlatError;
+use crate::extent::{extents, passed};
+use crate::grow::push;
+use crate::instance::{Program, put_instance};
+use crate::words::copied;
+use lucy_clock::NodeClock;
+use lucy_need::always;
+use lucy_net::{ActorKind, Net};
+use lucy_place::Placed;
+use lucy_word::{Limit, Word};
+use std::alloc::Global;
+
+// Puts the drafts of the outputs.
+fn put_outputs(
+    alloc: Global,
+    placed: &Placed,
+    clocks: &[NodeClock],
+    results: &[u32],
+    drafts: &mut Vec<Draft>,
+) -> Result<(), FlatError>
+    requires some { 0 < length placed.now.nodes }
+    requires results { results.now ≡ results_in (main_of placed.now.nodes) }
+    requires proper { AreProper placed.now.nodes }
+    requires clocked { AreClocked placed.now.nodes clocks.now }
+    requires put { ArePut placed.now.nodes clocks.now [] (last_of placed.now.nodes) [] drafts.old.items }
+    requires few { length drafts.old.items + length results.now < 2 ^ 32 }
+    ensures ok { OnOk result (AreDrafts placed.now.nodes clocks.now drafts.new.items) }
+    ensures refused { IfErr result (λ e. e ≡ err.OutOfMemory) }
+{
+    'each: for i in 0..results.len() {
+        let from = results[i] - 1;
+        let word = copied(alloc, &drafts[from as usize].word)?;
+        let mut reads = Vec::new(alloc);
+        push(&mut reads, from)?;
+        let kind = ActorKind::Output(i as u32);
+        push(
+            drafts,
+            Draft {
+                kind,
+                word,
+                reads,
+                size: 0,
+                gives: Vec::new(alloc),
+            },
+        )?;
+    }
+    Ok(())
+}
+
+fn bits(word: &Word) -> u64
+    ensures is { result ≡ bit_count word.now }
+    ensures few { result ≤ 1048576 }
+{
+    let (prefix, period) = word.lengths();
+    prefix + period
+}
+
+// How many bits the words of a net have together.
+fn all_bits(net: &Net) -> u64
+    requires actors { length net.now.actors < 2 ^ 32 }
+    requires rings { length net.now.rings < 2 ^ 32 }
+    ensures { result ≡ net_bits net.now }
+{
+    let mut all = 0u64;
+    let actors = net.actors.list();
+    'actors: for actor in actors {
+        all += bits(&actor.firing);
+    }
+    let rings = net.rings.list();
+    'rings: for ring in rings {
+        all += bits(&ring.write) + bits(&ring.read);
+    }
+    all
+}
+
+// The drafts of a program.
+fn drafts(alloc: Global, program: Program<'_>, main: u32) -> Result<Vec<Draft>, FlatError>
+    requires some { 0 < length program.placed.now.nodes }
+    requires main { main ≡ last_of program.placed.now.nodes }
+    requires program { IsProgram program.placed.now.nodes program.clocks.now program.extents.now }
+    requires small { IsSmall program.placed.now.nodes program.clocks.now }
+    ensures ok { IfOk result (λ v. AreDrafts program.entry.placed.now.nodes program.entry.clocks.now v.items) }
+    ensures small { IfOk result (λ v. IsSmall program.entry.placed.now.nodes program.entry.clocks.now) }
+    ensures fits { IfOk result (λ v. IsClockTooLong program.entry.placed.now.nodes program.entry.clocks.now → ⊥) }
+    ensures refused { IfErr result (λ e. (e ≡ err.OutOfMemory) ⊎ ((e ≡ err.Limit lim.Word) × IsClockTooLong program.entry.placed.now.nodes program.entry.clocks.now)) }
+{
+    let mut drafts = Vec::new(alloc);
+    let base = always(alloc)?;
+    put_instance(alloc, program, main, &base, None, &mut drafts)?;
+    let results = program.placed.node(main).results.list();
+    put_outputs(alloc, program.placed, program.clocks, results, &mut drafts)?;
+    Ok(drafts)
+}
+
+/// The flat net of a program, whose nodes have words that keep their clock rules, and the sizes of their buffers. A limit
+/// comes where it is passed, in the order `Actors`, `Rings`, `Slots`, `Word`, `Bits`.
+pub fn flatten(alloc: Global, placed: &Placed, clocks: &[NodeClock]) -> Result<Net, FlatError>
+    requires { AreClocked placed.now.nodes clocks.now }
+    ensures ok { IfOk result (IsFlatNet placed.now.nodes clocks.now) }
+    ensures bits { IfOk result (λ net. net_bits net ≤ limit_number lim.Bits) }
+    ensures refused { IfErr result (RefusesFlat placed.now.nodes clocks.now) }
+{
+    let extents = extents(alloc, placed, clocks)?;
+    let main = placed.nodes() - 1;
+    let results = placed.node(main).results.list().len() as u64;
+    if let Some(limit) = passed(extents[main as usize], results) {
+        return Err(FlatError::Limit(limit));
+    }
+    let program = Program {
+        placed,
+        clocks,
+        extents: &extents,
+    };
+    let net = assemble(alloc, drafts(alloc, program, main)?)?;
+    if all_bits(&net) > Limit::Bits.number() {
+        return Err(FlatError::Limit(Limit::Bits));
+    }
+    Ok(net)
+}

@@ -1,0 +1,275 @@
+// The instances of a program in order, by a recursion from a node to the nodes that it calls, which stand above it.
+ghost use Rattle.std.specs.Prelude.{ℕ, List, ◌≡◌, ◌⊎◌, ◌+◌, ◌-◌, ◌<◌, ◌≤◌, ◌^◌, ◌∷◌, [], Some, None, length, map, OnOk, IfOk, IfErr, IsTrue};
+ghost use Rattle.std.specs.List.{AllByRecursion};
+ghost use Rattle.lucy_word.specs.Shortest.{IsShortest};
+ghost use Rattle.lucy_word.specs.declared.limit.Limit.TheVariants as lim;
+ghost use Rattle.lucy_place.specs.Proper.{Stands};
+ghost use Rattle.lucy_flat.specs.declared.error.FlatError.TheVariants as err;
+ghost use Rattle.lucy_meaning.specs.Spots.{at, spot_form, spot_reads, kind_at};
+ghost use Rattle.lucy_flat.specs.Extents.{Below, actors_in, AreSumsOf, HasSize, size_in};
+ghost use Rattle.lucy_meaning.specs.Numbers.{number};
+ghost use Rattle.lucy_meaning.specs.Sizes.{size_of};
+ghost use Rattle.lucy_flat.specs.Flat.{actor_of};
+ghost use Rattle.lucy_flat.specs.Drafts.{IsProgram, IsAt, IsInstance, IsMade, IsFit, ArePut, ArePlacesPut};
+ghost use Rattle.lucy_flat.specs.Refusals.{IsClockTooLong};
+ghost use Rattle.lucy_place.specs.declared.entry.PlaceKind.{PlaceKind as Kind};
+
+use crate::draft::Draft;
+use crate::error::FlatError;
+use crate::extent::Extent;
+use crate::grow::push;
+use crate::words::{copied, sampled};
+use lucy_clock::NodeClock;
+use lucy_net::ActorKind;
+use lucy_place::{CallSite, PlaceKind, Placed, PlacedNode, literal_value};
+use lucy_word::Word;
+use std::alloc::Global;
+
+/// A program with its words, and the extents of its nodes.
+#[derive(Clone, Copy)]
+pub struct Program<'a> {
+    pub placed: &'a Placed,
+    pub clocks: &'a [NodeClock],
+    pub extents: &'a [Extent],
+}
+
+/// Where the caller of an instance begins, and the places of the arguments there.
+#[derive(Clone, Copy)]
+pub struct Caller<'a> {
+    pub begin: u32,
+    pub args: &'a [u32],
+}
+
+/// An instance: its node and the words there, its base, its caller, if it isn't main, its first actor, and those of the
+/// instances of its calls.
+#[derive(Clone, Copy)]
+pub struct Instance<'a> {
+    pub node: &'a PlacedNode,
+    pub clock: &'a NodeClock,
+    pub base: &'a Word,
+    pub caller: Option<Caller<'a>>,
+    pub begin: u32,
+    pub inner: &'a [u32],
+}
+
+fn kind(alloc: Global, kind: &PlaceKind, place: u32, main: bool) -> Result<ActorKind, FlatError>
+    requires { 1 ≤ place }
+    ensures ok { (path : List ℕ) → (IsTrue main → path ≡ []) → (path ≡ [] → IsTrue main) → IfOk result (λ k. k ≡ actor_of (spot_form (at path place) kind.now)) }
+    ensures refused { IfErr result (λ e. e ≡ err.OutOfMemory) }
+{
+    Ok(match kind {
+        PlaceKind::Param if main => ActorKind::Input(place - 1),
+        PlaceKind::Lit(lit) => ActorKind::Lit(literal_value(*lit)),
+        PlaceKind::Op(op, _) => ActorKind::Op(*op),
+        PlaceKind::Host(op, _, _) => ActorKind::Host(*op),
+        PlaceKind::When(_, word) => ActorKind::When(copied(alloc, word)?),
+        PlaceKind::Merge(word, _, _) => ActorKind::Merge(copied(alloc, word)?),
+        PlaceKind::Fby(first, _) => ActorKind::Fby(literal_value(*first)),
+        _ => ActorKind::Pass,
+    })
+}
+
+// The actor of a place of an instance that begins there.
+fn actor(begin: u32, place: u32) -> u32
+    requires { (1 ≤ place) × (begin + place < 2 ^ 32) }
+    ensures { result ≡ begin + (place - 1) }
+{
+    begin + (place - 1)
+}
+
+fn one(alloc: Global, begin: u32, place: u32) -> Result<Vec<u32>, FlatError>
+    requires { (1 ≤ place) × (begin + place < 2 ^ 32) }
+    ensures ok { IfOk result (λ v. v.items ≡ (begin + (place - 1)) ∷ []) }
+    ensures refused { IfErr result (λ e. e ≡ err.OutOfMemory) }
+{
+    let mut reads = Vec::new(alloc);
+    push(&mut reads, actor(begin, place))?;
+    Ok(reads)
+}
+
+fn two(alloc: Global, begin: u32, first: u32, second: u32) -> Result<Vec<u32>, FlatError>
+    requires first { (1 ≤ first) × (begin + first < 2 ^ 32) }
+    requires second { (1 ≤ second) × (begin + second < 2 ^ 32) }
+    ensures ok { IfOk result (λ v. v.items ≡ (begin + (first - 1)) ∷ (begin + (second - 1)) ∷ []) }
+    ensures refused { IfErr result (λ e. e ≡ err.OutOfMemory) }
+{
+    let mut reads = one(alloc, begin, first)?;
+    push(&mut reads, actor(begin, second))?;
+    Ok(reads)
+}
+
+fn all(alloc: Global, begin: u32, places: &[u32]) -> Result<Vec<u32>, FlatError>
+    requires { AllByRecursion (λ place. (1 ≤ place) × (begin + place < 2 ^ 32)) places.now }
+    ensures ok { IfOk result (λ v. v.items ≡ map (λ place. begin + (place - 1)) places.now) }
+    ensures refused { IfErr result (λ e. e ≡ err.OutOfMemory) }
+{
+    let mut reads = Vec::new(alloc);
+    'each: for place in places {
+        push(&mut reads, actor(begin, *place))?;
+    }
+    Ok(reads)
+}
+
+// The actors that a place of an instance reads.
+fn reads(
+    alloc: Global,
+    program: Program<'_>,
+    of: Instance<'_>,
+    place: u32,
+    kind: &PlaceKind,
+) -> Result<Vec<u32>, FlatError>
+    requires program { IsProgram program.placed.now.nodes program.clocks.now program.extents.now }
+    requires of { (path : List ℕ) × IsInstance program.placed.now.nodes program.clocks.now path of }
+    requires stands { Stands of.node.now place kind.now }
+    ensures ok { (path : List ℕ) → IsInstance program.entry.placed.now.nodes program.entry.clocks.now path of.entry →
+        IfOk result (λ v. v.items ≡ map (number program.entry.placed.now.nodes) (spot_reads program.entry.placed.now.nodes (at path place) kind.now)) }
+    ensures refused { IfErr result (λ e. e ≡ err.OutOfMemory) }
+{
+    match kind {
+        PlaceKind::Param => match of.caller {
+            Some(caller) => one(alloc, caller.begin, caller.args[place as usize - 1]),
+            None => Ok(Vec::new(alloc)),
+        },
+        PlaceKind::Lit(_) => Ok(Vec::new(alloc)),
+        PlaceKind::Op(_, args) => all(alloc, of.begin, args.list()),
+        PlaceKind::Host(_, a, b) => two(alloc, of.begin, *a, *b),
+        PlaceKind::Merge(_, a, b) => two(alloc, of.begin, *a, *b),
+        PlaceKind::Defined(e) => one(alloc, of.begin, *e),
+        PlaceKind::When(e, _) => one(alloc, of.begin, *e),
+        PlaceKind::Fby(_, e) => one(alloc, of.begin, *e),
+        PlaceKind::Buffer(_, e) => one(alloc, of.begin, *e),
+        PlaceKind::Result(call, number) => {
+            let call = *call as usize - 1;
+            let callee = program.placed.node(of.node.calls.list()[call].node);
+            one(
+                alloc,
+                of.inner[call],
+                callee.results.list()[*number as usize],
+            )
+        }
+    }
+}
+
+fn size(clock: &NodeClock, kind: &PlaceKind) -> u64
+    requires { HasSize clock.now.sizes kind.now }
+    ensures { result ≡ size_in clock.now.sizes kind.now }
+{
+    match kind {
+        PlaceKind::Buffer(number, _) => clock.sizes.list()[*number as usize - 1],
+        _ => 0,
+    }
+}
+
+fn draft_of(
+    alloc: Global,
+    program: Program<'_>,
+    of: Instance<'_>,
+    place: u32,
+) -> Result<Draft, FlatError>
+    requires program { IsProgram program.placed.now.nodes program.clocks.now program.extents.now }
+    requires of { (path : List ℕ) × IsInstance program.placed.now.nodes program.clocks.now path of }
+    requires base { IsShortest of.base.now }
+    requires place { (1 ≤ place) × (place ≤ length of.node.now.places) }
+    ensures ok { (path : List ℕ) (kind : Kind) → IsInstance program.entry.placed.now.nodes program.entry.clocks.now path of.entry →
+        kind_at program.entry.placed.now.nodes (at path place) ≡ Some kind → IfOk result (IsMade program.entry.placed.now.nodes program.entry.clocks.now (at path place) kind) }
+    ensures fits { (path : List ℕ) → IsInstance program.entry.placed.now.nodes program.entry.clocks.now path of.entry → IfOk result (λ d. IsFit program.entry.placed.now.nodes program.entry.clocks.now path place) }
+    ensures refused { IfErr result (λ e. (e ≡ err.OutOfMemory) ⊎ ((e ≡ err.Limit lim.Word) × IsClockTooLong program.entry.placed.now.nodes program.entry.clocks.now)) }
+{
+    let entry = &of.node.places.list()[place as usize - 1];
+    let word = sampled(alloc, of.base, &of.clock.words.list()[place as usize])?;
+    Ok(Draft {
+        kind: kind(alloc, &entry.kind, place, of.caller.is_none())?,
+        word,
+        reads: reads(alloc, program, of, place, &entry.kind)?,
+        size: size(of.clock, &entry.kind),
+        gives: Vec::new(alloc),
+    })
+}
+
+// Where the instances of a node's calls begin, the first of them there.
+fn begins(
+    alloc: Global,
+    extents: &[Extent],
+    first: u32,
+    sites: &[CallSite],
+) -> Result<Vec<u32>, FlatError>
+    requires below { Below (length extents.now) sites.now }
+    requires few { first + actors_in extents.now sites.now < 2 ^ 32 }
+    ensures ok { IfOk result (λ v. AreSumsOf extents.now sites.now first (length sites.now) v.items) }
+    ensures refused { IfErr result (λ e. e ≡ err.OutOfMemory) }
+{
+    let mut begins = Vec::new(alloc);
+    let mut next = first;
+    'each: for site in sites {
+        push(&mut begins, next)?;
+        next += extents[site.node as usize].actors as u32;
+    }
+    Ok(begins)
+}
+
+// Puts the drafts of the places of an instance.
+fn put_places(
+    alloc: Global,
+    program: Program<'_>,
+    of: Instance<'_>,
+    drafts: &mut Vec<Draft>,
+) -> Result<(), FlatError>
+    requires program { IsProgram program.placed.now.nodes program.clocks.now program.extents.now }
+    requires of { (path : List ℕ) × IsInstance program.placed.now.nodes program.clocks.now path of }
+    requires base { IsShortest of.base.now }
+    ensures ok { (path : List ℕ) → IsInstance program.entry.placed.now.nodes program.entry.clocks.now path of.entry →
+        OnOk result (ArePlacesPut program.entry.placed.now.nodes program.entry.clocks.now path (length of.entry.node.now.places) drafts.old.items drafts.new.items) }
+    ensures refused { IfErr result (λ e. (e ≡ err.OutOfMemory) ⊎ ((e ≡ err.Limit lim.Word) × IsClockTooLong program.entry.placed.now.nodes program.entry.clocks.now)) }
+{
+    let count = of.node.places.list().len();
+    'each: for i in 0..count {
+        let next = draft_of(alloc, program, of, i as u32 + 1)?;
+        push(drafts, next)?;
+    }
+    Ok(())
+}
+
+/// Puts the drafts of the instance of a node, and of those inside it.
+pub fn put_instance(
+    alloc: Global,
+    program: Program<'_>,
+    node: u32,
+    base: &Word,
+    caller: Option<Caller<'_>>,
+    drafts: &mut Vec<Draft>,
+) -> Result<(), FlatError>
+    requires program { IsProgram program.placed.now.nodes program.clocks.now program.extents.now }
+    requires node { node < length program.placed.now.nodes }
+    requires at { (path : List ℕ) × IsAt program.placed.now.nodes program.clocks.now path node (length drafts.old.items) base.now caller }
+    requires base { IsShortest base.now }
+    requires few { length drafts.old.items + size_of program.placed.now.nodes node < 2 ^ 32 }
+    ensures ok { (path : List ℕ) → IsAt program.entry.placed.now.nodes program.entry.clocks.now path node (length drafts.old.items) base.now caller.entry →
+        OnOk result (ArePut program.entry.placed.now.nodes program.entry.clocks.now path node drafts.old.items drafts.new.items) }
+    ensures refused { IfErr result (λ e. (e ≡ err.OutOfMemory) ⊎ ((e ≡ err.Limit lim.Word) × IsClockTooLong program.entry.placed.now.nodes program.entry.clocks.now)) }
+{
+    let found = program.placed.node(node);
+    let clock = &program.clocks[node as usize];
+    let begin = drafts.len() as u32;
+    let places = found.places.list().len();
+    let sites = found.calls.list();
+    let inner = begins(alloc, program.extents, begin + places as u32, sites)?;
+    let of = Instance {
+        node: found,
+        clock,
+        base,
+        caller,
+        begin,
+        inner: &inner,
+    };
+    put_places(alloc, program, of, drafts)?;
+    'calls: for i in 0..sites.len() {
+        let site = &sites[i];
+        let base = sampled(alloc, base, &clock.words.list()[places + 1 + i])?;
+        let caller = Some(Caller {
+            begin,
+            args: site.args.list(),
+        });
+        put_instance(alloc, program, site.node, &base, caller, drafts)?;
+    }
+    Ok(())
+}

@@ -1,0 +1,24 @@
+//! Flattening: the flat net of a program, whose nodes have words that keep their clock rules.
+//!
+//! It stands on the placed nodes of `lucy_place`, their clocks of `lucy_clock`, the instance places of `lucy_meaning` and the
+//! nets of `lucy_net`. Begin with `specs/Flat.antt`, which says what the flat net of a program is, and with `flatten` in
+//! `flattening.rt`. `laws.rt` has what holds of every flat net: its iterates are the program's, and it is causal exactly where
+//! the program is.
+//!
+//! First the net is counted (`extent.rt`), so that nothing is built past a limit. Then each instance in order puts the drafts of
+//! its actors (`instance.rt`, by a recursion on nodes), and the drafts are assembled to actors and rings (`assemble.rt`).
+#![tactic(auto)]
+
+mod assemble;
+mod draft;
+mod error;
+mod extent;
+mod flattening;
+mod grow;
+mod instance;
+mod laws;
+mod words;
+
+pub use error::FlatError;
+pub use flattening::flatten;
+pub use laws::{flat_nets_are_causal_as_programs, flat_nets_iterate_as_programs};

@@ -1,0 +1,47 @@
+// Words on words.
+ghost use Rattle.std.specs.Prelude.{◌≡◌, ◌⊎◌, IfOk, IfErr};
+ghost use Rattle.lucy_tree.specs.Shaped.{HasZero};
+ghost use Rattle.lucy_word.specs.Complement.{turned as turned_word};
+ghost use Rattle.lucy_word.specs.Stored.{IsStored};
+ghost use Rattle.lucy_word.specs.Sampling.{IsOn, IsOnTooLong};
+ghost use Rattle.lucy_word.specs.declared.limit.Limit.TheVariants as lim;
+ghost use Rattle.lucy_flat.specs.declared.error.FlatError.TheVariants as err;
+
+use crate::error::FlatError;
+use lucy_word::{Limit, Word, WordError, complement, on};
+use std::alloc::Global;
+
+/// The word as one of its own.
+pub fn copied(alloc: Global, word: &Word) -> Result<Word, FlatError>
+    ensures ok { IfOk result (λ w. w ≡ word.now) }
+    ensures refused { IfErr result (λ e. e ≡ err.OutOfMemory) }
+{
+    Ok(word.copy(alloc)?)
+}
+
+/// A clock on a word.
+pub fn sampled(alloc: Global, own: &Word, word: &Word) -> Result<Word, FlatError>
+    ensures ok { IfOk result (IsOn own.now word.now) }
+    ensures fits { IfOk result (λ w. IsOnTooLong own.now word.now → ⊥) }
+    ensures stored { IfOk result IsStored }
+    ensures refused { IfErr result (λ e. (e ≡ err.OutOfMemory) ⊎ ((e ≡ err.Limit lim.Word) × IsOnTooLong own.now word.now)) }
+{
+    match on(alloc, own, word) {
+        Ok(word) => Ok(word),
+        Err(WordError::TooLong) => Err(FlatError::Limit(Limit::Word)),
+        Err(_) => Err(FlatError::OutOfMemory),
+    }
+}
+
+/// A word with every bit turned, where that has a one in its period.
+pub fn turned(alloc: Global, word: &Word) -> Result<Word, FlatError>
+    requires { HasZero word.now }
+    ensures ok { IfOk result (λ w. w ≡ turned_word word.now) }
+    ensures refused { IfErr result (λ e. e ≡ err.OutOfMemory) }
+{
+    match complement(alloc, word) {
+        Ok(turned) => Ok(turned),
+        Err(WordError::OutOfMemory) => Err(FlatError::OutOfMemory),
+        Err(_) => unreachable!(),
+    }
+}
