@@ -1,7 +1,13 @@
 -- Inequalities `left <= right + most` between variables that are counted from 0. Variable 0 is the origin, whose value is 0.
 use Rattle.std.specs.Prelude.{◌≡◌, ℕ, ◌+◌, ◌<◌, ◌≤◌, ◌^◌, ℤ, pos, neg_ℤ, ◌+ℤ◌, ◌≤ℤ◌, ◌<ℤ◌, List, length, slice_index, slice_index_or}
 use Rattle.std.specs.List.{All, fold}
+use Rattle.lucy_word.specs.Limits.{limit_number}
+use Rattle.lucy_word.specs.declared.limit.Limit.TheVariants as limit
 use Rattle.lucy_solve.specs.declared.diffs.Diff.{Diff}
+
+-- so many inequalities a system may have, and so many positions a cycle, by which the sum of its constants has 64 bits
+abbrev pub most_inequalities : ℕ
+most_inequalities = limit_number limit.Inequalities
 
 -- how many variables there are, and the inequalities between them
 pub record System : Type 0 where
@@ -53,7 +59,7 @@ constants list cycle = fold (λ sum i. sum +ℤ (diff_at list i).most) (pos 0) c
 -- positions of inequalities that follow one another in a circle, by right and left variable, with constants that sum below 0
 pub record IsNegativeCycle (list : List Diff) (cycle : List ℕ) : Type 0 where
   pub some : 0 < length cycle
-  pub few : length cycle ≤ 1048576
+  pub few : length cycle ≤ most_inequalities
   pub within : (k : ℕ) → k < length cycle → slice_index cycle k < length list
   pub joined : (k : ℕ) → k + 1 < length cycle → (diff_at list (slice_index cycle k)).right ≡ (diff_at list (slice_index cycle (k + 1))).left
   pub closed : (k : ℕ) → k + 1 ≡ length cycle → (diff_at list (slice_index cycle k)).right ≡ (diff_at list (slice_index cycle 0)).left
@@ -65,7 +71,7 @@ pub record IsBase (v : ℕ) (diff : Diff) : Type 0 where
   pub right : diff.right ≡ v
   pub most : diff.most ≤ℤ pos 0
 
--- at most 1,048,576 inequalities, a base of each variable but the origin among them
+-- no more inequalities than the limit, a base of each variable but the origin among them
 pub record IsReady (s : System) : Type 0 where
-  pub few : length s.list ≤ 1048576
+  pub few : length s.list ≤ most_inequalities
   pub based : (v : ℕ) → 0 < v → v < s.count → (i : ℕ) × (i < length s.list) × IsBase v (diff_at s.list i)

@@ -1,4 +1,5 @@
 ghost use Rattle.std.specs.Prelude.{◌≡◌, ◌<◌, ◌≤◌, ◌⊎◌, length, slice_index, IfOk};
+ghost use Rattle.lucy_solve.specs.System.{most_inequalities};
 ghost use Rattle.lucy_solve.specs.Climb.{IsClimb, IsEnd};
 ghost use Rattle.lucy_solve.specs.Parents.{HasTargets};
 
@@ -16,7 +17,7 @@ pub(crate) fn climb(
 ) -> Result<u32, OutOfMemory>
     requires ready { IsClimb diffs.now parents.now marks.old path.old.items before start start }
     requires targets { HasTargets diffs.now parents.now }
-    requires few { length diffs.now.list ≤ 1048576 }
+    requires few { length diffs.now.list ≤ most_inequalities }
     requires inside { start < diffs.now.count }
     requires parents { length parents.now ≡ diffs.now.count }
     ensures climbed { IfOk result (λ at. IsClimb diffs.now parents.now marks.new path.new.items before start at) }

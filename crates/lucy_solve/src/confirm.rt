@@ -2,18 +2,16 @@ ghost use Rattle.std.specs.Prelude.{◌↔◌, IsTrue};
 ghost use Rattle.lucy_solve.specs.System.{IsNegativeCycle, HasNoSolution};
 
 use crate::Diffs;
-
-// So many positions a cycle may have, which keeps the sum of their constants within 64 bits.
-const MOST_POSITIONS: usize = 1_048_576;
+use lucy_word::Limit;
 
 /// Whether the inequalities at these positions follow one another in a circle, by which their constants sum below 0.
-/// A list of more than 1,048,576 positions is not confirmed. No memory is taken.
+/// A list of more positions than the number of `Limit::Inequalities` is not confirmed. No memory is taken.
 pub fn confirm_cycle(diffs: &Diffs, cycle: &[u32]) -> bool
     ensures exact { IsTrue result ↔ IsNegativeCycle diffs.now.list cycle.now }
     ensures refutes { IsTrue result → HasNoSolution diffs.now }
 {
     let list = diffs.list();
-    if cycle.is_empty() || cycle.len() > MOST_POSITIONS {
+    if cycle.is_empty() || cycle.len() as u64 > Limit::Inequalities.number() {
         return false;
     }
     let Some(first) = list.get(cycle[0] as usize) else {

@@ -1,4 +1,5 @@
 ghost use Rattle.std.specs.Prelude.{◌≡◌, ◌≤◌, length, drop, reverse, replicate, IfOk, MatchOption};
+ghost use Rattle.lucy_solve.specs.System.{most_inequalities};
 ghost use Rattle.lucy_solve.specs.Parents.{IsForest, IsRound, HasTargets};
 
 use crate::climb::climb;
@@ -21,7 +22,7 @@ pub(crate) fn find_cycle(
     marks: &mut [u32],
 ) -> Result<Option<Vec<u32>>, OutOfMemory>
     requires targets { HasTargets diffs.now parents.now }
-    requires few { length diffs.now.list ≤ 1048576 }
+    requires few { length diffs.now.list ≤ most_inequalities }
     requires parents { length parents.now ≡ diffs.now.count }
     requires zeros { marks.old ≡ replicate diffs.now.count 0 }
     ensures { IfOk result (λ o. MatchOption o (IsForest diffs.now parents.now) (λ cycle. IsRound diffs.now parents.now cycle.items)) }

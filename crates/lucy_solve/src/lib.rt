@@ -1,6 +1,6 @@
 //! The earliest solution of a system of inequalities `left <= right + most`, or a cycle of them that shows there is none.
 //!
-//! It stands on nothing else. Begin with `solve` in `solver.rt` and with `specs/System.antt`, which says what a solution
+//! It stands on `lucy_word` for the limit of inequalities. Begin with `solve` in `solver.rt` and with `specs/System.antt`, which says what a solution
 //! is, which one is the earliest, and what a negative cycle is.
 #![tactic(auto)]
 

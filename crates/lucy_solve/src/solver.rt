@@ -1,6 +1,6 @@
 ghost use Rattle.std.specs.Prelude.{◌≡◌, ◌<◌, ◌≤◌, ◌^◌, ◌↔◌, length, map, pos, IfOk, MatchOption};
 ghost use Rattle.std.specs.List.{All};
-ghost use Rattle.lucy_solve.specs.System.{IsSystem, IsReady, IsEarliest, HasNoSolution};
+ghost use Rattle.lucy_solve.specs.System.{IsSystem, IsReady, IsEarliest, HasNoSolution, most_inequalities};
 ghost use Rattle.lucy_solve.specs.Outcomes.{IsOutcome, IsCycle, IsRefutedBy};
 ghost use Rattle.lucy_solve.specs.Search.{IsReached, IsWithin};
 
@@ -32,7 +32,7 @@ fn settle(
     requires reached { IsReached diffs.now values.old parents.old }
     requires within { IsWithin values.old (length diffs.now.list) }
     requires proper { IsSystem diffs.now }
-    requires few { length diffs.now.list ≤ 1048576 }
+    requires few { length diffs.now.list ≤ most_inequalities }
     ensures settled { IfOk result (λ o. MatchOption o (IsEarliest diffs.now (map pos values.new)) (λ cycle. IsRefutedBy diffs.now cycle.items)) }
     ensures within { IfOk result (λ _. IsWithin values.new 2097152) }
 {

@@ -2,6 +2,7 @@ ghost use Rattle.std.specs.Prelude.{ℕ, ◌<◌, ◌≤◌, length, IsTrue, IfO
 ghost use Rattle.lucy_solve.specs.System.{IsReady, IsBase, diff_at};
 
 use super::*;
+use lucy_word::Limit;
 use std::alloc::Global;
 use std::process::Abort;
 use std::test::Fail;
@@ -23,7 +24,7 @@ fn is_ready(diffs: &Diffs) -> bool
     ensures { IsTrue result → IsReady diffs.now }
 {
     let list = diffs.list();
-    if list.len() > 1_048_576 {
+    if list.len() as u64 > Limit::Inequalities.number() {
         return false;
     }
     for variable in 1..diffs.count() {

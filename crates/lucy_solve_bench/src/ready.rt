@@ -2,6 +2,7 @@ ghost use Rattle.std.specs.Prelude.{◌<◌, ◌≤◌, length, IfOk, IsTrue};
 ghost use Rattle.lucy_solve.specs.System.{IsReady};
 
 use lucy_solve::Diffs;
+use lucy_word::Limit;
 use std::alloc::{AllocError, Global};
 
 // Whether the system is what `solve` requires.
@@ -9,7 +10,7 @@ pub(crate) fn is_ready(alloc: Global, diffs: &Diffs) -> Result<bool, AllocError>
     ensures { IfOk result (λ ready. IsTrue ready → IsReady diffs.now) }
 {
     let list = diffs.list();
-    if list.len() > 1_048_576 {
+    if list.len() as u64 > Limit::Inequalities.number() {
         return Ok(false);
     }
     let mut bases = vec![in alloc; 0u32; diffs.count() as usize]?;
