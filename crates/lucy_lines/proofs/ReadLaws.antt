@@ -1,6 +1,7 @@
 -- What comes next where bytes are read as long as nothing is decided.
-use Rattle.std.proofs.Common.{◌≡◌, ℕ, ◌+◌, ◌-◌, ◌<◌, ◌≤◌, Bool, true, false, List, [], ◌++◌, length, Option, Some, None, Result, Ok, Err, refl, ap, sym, ◌∙◌, subst, inl, inr, arith, append_assoc, append-nil, length-append, length-drop}
-use Rattle.std.specs.Prelude.{◌⊎◌, IsTrue}
+use Rattle.std.proofs.Common.{◌≡◌, ℕ, ◌+◌, ◌-◌, ◌<◌, ◌≤◌, Bool, true, false, List, [], ◌∷◌, ◌++◌, length, Option, Some, None, Result, Ok, Err, refl, ap, sym, ◌∙◌, subst, inl, inr, arith, append_assoc, append-nil, length-append, length-drop}
+use Rattle.std.specs.Prelude.{ℤ, ◌⊎◌, IsTrue, take}
+use Rattle.std.proofs.lemmas.Option.{slice_get_within}
 use Rattle.lucy_lines.specs.declared.input.InputSpec.{InputSpec}
 use Rattle.lucy_lines.specs.declared.front.Front.TheVariants as front
 use Rattle.lucy_lines.specs.declared.kind.Kind.{Kind}
@@ -12,8 +13,10 @@ use Rattle.lucy_lines.specs.declared.reader.TextFault.TheVariants.{BadLine, Unkn
 use Rattle.lucy_text.specs.Outside.{followed, AtEnd}
 use Rattle.lucy_text.proofs.OutsideLaws.{followed_more}
 use Rattle.lucy_lines.specs.Fronts.{most_bytes, front_of}
-use Rattle.lucy_lines.specs.Cuts.{Held, with_more, Answer, Gives, Refuses, Wants, refusal, Next, blank, item, refused, long, too_long, wants}
-use Rattle.lucy_lines.specs.Reading.{ReaderState, Answers, Asked, Took, Blames, IsDecided}
+use Rattle.lucy_lines.specs.Fields.{fields}
+use Rattle.lucy_lines.specs.Kinds.{FieldsSay}
+use Rattle.lucy_lines.specs.Cuts.{Held, bytes_taken, with_more, ItemOf, Answer, Gives, Refuses, Wants, refusal, Next, blank, item, refused, long, too_long, wants}
+use Rattle.lucy_lines.specs.Reading.{ReaderState, Answers, Asked, Took, most_taken, OfItem, Blames, IsDecided}
 use Rattle.lucy_lines.specs.Steps.{HeldAnswers, Reads}
 use Rattle.lucy_lines.proofs.FrontLaws.{line_within, open_within}
 use Rattle.lucy_lines.proofs.CutLaws.{next_one, next_more}
@@ -27,23 +30,19 @@ wants_open a e (long f) = cc
 wants_open a e (too_long f) = cc
 wants_open {closed = closed} {h} {g} a e (wants f) = let same : h ≡ g = cc in let P : Held → Type 0 = λ u. front_of closed u.used u.rest ≡ front.Open in subst P same f
 
--- the bytes of an input up to the last that is held
-abbrev pub total : Held → ℕ
-total h = h.used + length h.rest
-
--- lines of blanks leave it
-pub wants_total : {inputs : List InputSpec} {closed : Bool} {h g : Held} (a : Answer) → a ≡ Wants g → Next inputs closed h a → total g ≡ total h
-wants_total {closed = closed} {h} a e (blank {content = content} {length = n} f k next) =
+-- lines of blanks leave all bytes that were taken
+pub wants_taken : {inputs : List InputSpec} {closed : Bool} {h g : Held} (a : Answer) → a ≡ Wants g → Next inputs closed h a → bytes_taken g ≡ bytes_taken h
+wants_taken {closed = closed} {h} a e (blank {content = content} {length = n} f k next) =
     let w = line_within closed h.used h.rest content n f in
     let cut = length-drop n h.rest in
     let whole = w.whole in
-    let rest = wants_total a e next in
+    let rest = wants_taken a e next in
     omega arith
-wants_total a e (item f k) = cc
-wants_total a e (refused k f s r) = cc
-wants_total a e (long f) = cc
-wants_total a e (too_long f) = cc
-wants_total {h = h} {g} a e (wants f) = let same : h ≡ g = cc in ap total (sym same)
+wants_taken a e (item f k) = cc
+wants_taken a e (refused k f s r) = cc
+wants_taken a e (long f) = cc
+wants_taken a e (too_long f) = cc
+wants_taken {h = h} {g} a e (wants f) = let same : h ≡ g = cc in ap bytes_taken (sym same)
 
 not_read : (n : ℕ) (k : Kind) → refusal n k ≡ Some ReadFault → ⊥
 not_read n kind.Blank e = cc
@@ -184,12 +183,12 @@ may_end false = 1
 
 -- a read uses up what may still be read
 pub read_smaller : (now mid new : ReaderState) (before after : Option (List ℕ)) (ended : Bool) (bytes : List ℕ) → HeldAnswers now mid.held None → Reads mid new before after ended bytes →
-    most_bytes + 1 - total new.held + may_end new.closed < most_bytes + 1 - total now.held + may_end now.closed
+    most_bytes + 1 - bytes_taken new.held + may_end new.closed < most_bytes + 1 - bytes_taken now.held + may_end now.closed
 read_smaller now mid new before after ended bytes w r =
     let o = open_within false mid.held.used mid.held.rest (wants_open (Wants mid.held) refl w.1) in
-    let room : total mid.held ≤ most_bytes = o.room in
-    let same : total mid.held ≡ total now.held = wants_total (Wants mid.held) refl w.1 in
-    let held : total new.held ≡ mid.held.used + length (mid.held.rest ++ bytes) = ap (λ u. total u.held) r.held in
+    let room : bytes_taken mid.held ≤ most_bytes = o.room in
+    let same : bytes_taken mid.held ≡ bytes_taken now.held = wants_taken (Wants mid.held) refl w.1 in
+    let held : bytes_taken new.held ≡ mid.held.used + length (mid.held.rest ++ bytes) = ap (λ u. bytes_taken u.held) r.held in
     let long = length-append mid.held.rest bytes in
     let open_now : may_end now.closed ≡ 1 = ap may_end w.0 in
     elim r.progress [
@@ -210,13 +209,23 @@ pub record SoFar (was now : ReaderState) (before after : Option (List ℕ)) (tak
   pub follows : Follows was.inputs was.held taken now.held
   pub quiet : was.closed ≡ true → taken ≡ []
   pub needed : (taken ≡ []) ⊎ Asked was taken
+  pub counted : bytes_taken now.held ≡ bytes_taken was.held + length taken
 
 pub nothing_yet : (was : ReaderState) (before : Option (List ℕ)) → SoFar was was before before []
-nothing_yet was before = record { bytes = sym (nothing_followed before); follows = follows_none was.inputs was.held; quiet = λ e. refl; needed = inl refl }
+nothing_yet was before = record { bytes = sym (nothing_followed before); follows = follows_none was.inputs was.held; quiet = λ e. refl; needed = inl refl; counted = omega arith }
   where
     nothing_followed : (o : Option (List ℕ)) → followed [] o ≡ o
     nothing_followed None = refl
     nothing_followed (Some b) = refl
+
+counted_read : (was now mid new : ReaderState) (before after : Option (List ℕ)) (ended : Bool) (taken bytes : List ℕ) → bytes_taken now.held ≡ bytes_taken was.held + length taken →
+    HeldAnswers now mid.held None → Reads mid new before after ended bytes → bytes_taken new.held ≡ bytes_taken was.held + length (taken ++ bytes)
+counted_read was now mid new before after ended taken bytes c w r =
+    let same : bytes_taken mid.held ≡ bytes_taken now.held = wants_taken (Wants mid.held) refl w.1 in
+    let held : bytes_taken new.held ≡ mid.held.used + length (mid.held.rest ++ bytes) = ap (λ u. bytes_taken u.held) r.held in
+    let long = length-append mid.held.rest bytes in
+    let both = length-append taken bytes in
+    omega arith
 
 -- the bytes of a call so far, one read on
 pub read_on : {S : Type 0} (was now mid new : ReaderState) (source left : S) (before between after : Option (List ℕ)) (ended : Bool) (taken bytes : List ℕ) → Kept was now → Fresh was now source left →
@@ -228,14 +237,16 @@ read_on was now mid new source left before between after ended taken bytes k f s
       follows = follows_read was now mid new taken bytes k s.follows w (ap (λ u. u.held) r.held);
       quiet = λ e. let no_more : true ≡ false = sym e ∙ open_call in cc;
       needed = inr (taken, bytes, mid.held, refl, follows_now was.inputs was.held now.held taken false (Wants mid.held) s.follows (wants_call was now mid.held k w));
+      counted = counted_read was now mid new between after ended taken bytes s.counted w r;
     }
 
 pub took_line : {S : Type 0} (was now new : ReaderState) (source left : S) (before after : Option (List ℕ)) (taken : List ℕ) (result : Result line_type.Line TextFault) → Kept was now → Fresh was now source left →
-    SoFar was now before after taken → new ≡ record now { held = new.held } → HeldAnswers now new.held (Some result) → Took was new before after result taken
-took_line was now new source left before after taken result k f s e h = record {
+    SoFar was now before after taken → new ≡ record now { held = new.held } → bytes_taken new.held ≡ bytes_taken now.held → HeldAnswers now new.held (Some result) → Took was new before after result taken
+took_line was now new source left before after taken result k f s e c h = record {
   bytes = s.bytes;
-  quiet = λ c. (s.quiet c, ap (λ r. r.closed) e ∙ stays_closed was now source left f c);
+  quiet = λ ends. (s.quiet ends, ap (λ r. r.closed) e ∙ stays_closed was now source left f ends);
   needed = s.needed;
+  counted = c ∙ s.counted;
   answer = answers_call was now new taken result k e s.follows h;
 }
 
@@ -247,5 +258,78 @@ took_fault was now mid new source left before between after taken k f s w e d b 
       bytes = s.bytes ∙ ap (followed taken) (sym b);
       quiet = λ c. let no_more : true ≡ false = sym c ∙ open_call in cc;
       needed = inr (taken, [], mid.held, sym (append-nil taken), follows_now was.inputs was.held now.held taken false (Wants mid.held) s.follows (wants_call was now mid.held k w));
+      counted = ap (λ r. bytes_taken r.held) d ∙ wants_taken (Wants mid.held) refl w.1 ∙ s.counted;
       answer = fault_answers was now new taken mid.held k s.follows w (d ∙ e);
     }
+
+within_answer : (inputs : List InputSpec) (closed : Bool) (was now : Held) (result : Result line_type.Line TextFault) → Answers inputs closed was now result → bytes_taken now ≤ most_bytes + 1 → bytes_taken now ≤ most_taken result
+within_answer inputs closed was now (Ok (Item s v)) a w = w
+within_answer inputs closed was now (Ok End) a w = let o = open_within closed now.used now.rest (wants_open (Wants now) refl a.1) in o.room
+within_answer inputs closed was now (Err ReadFault) a w = let o = open_within closed now.used now.rest (wants_open (Wants now) refl a.1) in o.room
+within_answer inputs closed was now (Err (BadLine k)) a w = w
+within_answer inputs closed was now (Err (UnknownStream k)) a w = w
+within_answer inputs closed was now (Err (BadValue k)) a w = w
+within_answer inputs closed was now (Err TooLong) a w = w
+
+-- no byte past an input's limit is taken where no line is decided
+pub took_within : (was now : ReaderState) (before after : Option (List ℕ)) (result : Result line_type.Line TextFault) (taken : List ℕ) → Took was now before after result taken → bytes_taken now.held ≤ most_bytes + 1 →
+    bytes_taken now.held ≤ most_taken result
+took_within was now before after result taken t w = within_answer was.inputs now.closed (with_more was.held taken) now.held result t.answer w
+
+stream_said : (inputs : List InputSpec) (fs : List (List ℕ)) (s : ℕ) (v : ℤ) → FieldsSay inputs fs (kind.Item s v) → s < length inputs
+stream_said inputs [] s v h = cc
+stream_said inputs (a ∷ []) s v h = cc
+stream_said inputs (a ∷ b ∷ []) s v (i, p, q) = slice_get_within inputs s i p.there
+stream_said inputs (a ∷ b ∷ c ∷ fs) s v h = cc
+
+abbrev gives_holds : (ItemOf → Held → Type 0) → Answer → Type 0
+gives_holds P (Gives i k) = P i k
+gives_holds P a = Unit {0}
+
+-- an item is of one of the inputs, and its line has bytes
+pub record OfLine (inputs : List InputSpec) (was now : Held) (stream : ℕ) : Type 0 where
+  pub known : stream < length inputs
+  pub uses : was.used < now.used
+
+pub gives_line : {inputs : List InputSpec} {closed : Bool} {h g : Held} {i : ItemOf} (a : Answer) → a ≡ Gives i g → Next inputs closed h a → OfLine inputs h g i.stream
+gives_line {inputs = inputs} {closed = closed} {h} {g} {i} a e (blank {content = content} {length = n} f k next) =
+    let w = line_within closed h.used h.rest content n f in
+    let o = gives_line a e next in
+    let b = o.uses in
+    record { known = o.known; uses = omega arith }
+gives_line {inputs = inputs} {closed = closed} {h} {g} {i} a e (item {content = content} {length = n} {stream = s} {value = v} f k) =
+    let w = line_within closed h.used h.rest content n f in
+    let some = w.some in
+    let known = stream_said inputs (fields (take content h.rest)) s v k in
+    let P : Answer → Type 0 = λ u. gives_holds (λ j k. OfLine inputs h k j.stream) u in
+    subst P e (record { known = known; uses = omega arith })
+gives_line a e (refused k f s r) = cc
+gives_line a e (long f) = cc
+gives_line a e (too_long f) = cc
+gives_line a e (wants f) = cc
+
+-- what a call that took bytes tells of its item
+took_item : (was now : ReaderState) (before after : Option (List ℕ)) (result : Result line_type.Line TextFault) (taken : List ℕ) → Took was now before after result taken → OfItem (OfLine was.inputs was.held now.held) result
+took_item was now before after (Ok (Item s v)) taken t = let l = gives_line (Gives (record { stream = s; value = v }) now.held) refl t.answer in record { known = l.known; uses = l.uses }
+took_item was now before after (Ok End) taken t = tt
+took_item was now before after (Err f) taken t = tt
+
+of_item : (P Q : ℕ → Type 0) → ((s : ℕ) → P s → Q s) → (result : Result line_type.Line TextFault) → OfItem P result → OfItem Q result
+of_item P Q f (Ok (Item s v)) p = f s p
+of_item P Q f (Ok End) p = tt
+of_item P Q f (Err e) p = tt
+
+pub took_stream : (was now : ReaderState) (before after : Option (List ℕ)) (result : Result line_type.Line TextFault) (taken : List ℕ) → Took was now before after result taken → OfItem (λ stream. stream < length was.inputs) result
+took_stream was now before after result taken t =
+    let P : ℕ → Type 0 = OfLine was.inputs was.held now.held in
+    let Q : ℕ → Type 0 = λ stream. stream < length was.inputs in
+    let f : (s : ℕ) → P s → Q s = λ s of. of.known in
+    of_item P Q f result (took_item was now before after result taken t)
+
+pub took_line_bytes : (was now : ReaderState) (used : ℕ) (before after : Option (List ℕ)) (result : Result line_type.Line TextFault) (taken : List ℕ) → now.held.used ≡ used → Took was now before after result taken →
+    OfItem (λ _. was.held.used < used) result
+took_line_bytes was now used before after result taken same t =
+    let P : ℕ → Type 0 = OfLine was.inputs was.held now.held in
+    let Q : ℕ → Type 0 = λ stream. was.held.used < used in
+    let f : (s : ℕ) → P s → Q s = λ s of. let uses = of.uses in omega arith in
+    of_item P Q f result (took_item was now before after result taken t)

@@ -1,12 +1,13 @@
 -- What a reader of an input is seen as, and what a call of it answers.
-use Rattle.std.specs.Prelude.{ℕ, ◌≡◌, ◌⊎◌, Bool, true, false, List, [], ◌++◌, Option, Result, Ok, Err}
+use Rattle.std.specs.Prelude.{ℕ, ◌+◌, ◌≡◌, ◌⊎◌, Bool, true, false, List, [], ◌++◌, length, Option, Some, Result, Ok, Err}
 use Rattle.lucy_text.specs.Outside.{followed, Rose}
 use Rattle.lucy_lines.specs.declared.input.InputSpec.{InputSpec}
 use Rattle.lucy_lines.specs.declared.reader.Line as line_type
 use Rattle.lucy_lines.specs.declared.reader.Line.TheVariants.{Item, End}
 use Rattle.lucy_lines.specs.declared.reader.TextFault.{TextFault}
 use Rattle.lucy_lines.specs.declared.reader.TextFault.TheVariants.{BadLine, UnknownStream, BadValue, ReadFault, TooLong}
-use Rattle.lucy_lines.specs.Cuts.{Held, Answer, Gives, Refuses, Wants, Next, with_more}
+use Rattle.lucy_lines.specs.Fronts.{most_bytes}
+use Rattle.lucy_lines.specs.Cuts.{Held, bytes_taken, Answer, Gives, Refuses, Wants, Next, with_more}
 
 -- A reader of these inputs: the bytes that it holds, whether a read has met their end, and whether there is nothing more to ask for.
 pub record ReaderState : Type 0 where
@@ -33,12 +34,26 @@ Answers inputs closed was now (Err TooLong) = Next inputs closed was (Refuses To
 abbrev pub Asked : ReaderState → List ℕ → Type 0
 Asked was taken = (early late : List ℕ) × (h : Held) × (taken ≡ early ++ late) × Next was.inputs false (with_more was.held early) (Wants h)
 
--- A call took these bytes, and answered by what was held with them. Once the end was met a call takes none.
+-- A call took these bytes, all of which are counted, and answered by what was held with them. Once the end was met a call takes
+-- none.
 pub record Took (was now : ReaderState) (before after : Option (List ℕ)) (result : Result line_type.Line TextFault) (taken : List ℕ) : Type 0 where
   pub bytes : before ≡ followed taken after
   pub quiet : was.closed ≡ true → (taken ≡ []) × (now.closed ≡ true)
   pub needed : (taken ≡ []) ⊎ Asked was taken
+  pub counted : bytes_taken now.held ≡ bytes_taken was.held + length taken
   pub answer : Answers was.inputs now.closed (with_more was.held taken) now.held result
+
+-- How many bytes may have been taken in all where this is answered: as many as an input may have, and one more where a line was
+-- decided.
+abbrev pub most_taken : Result line_type.Line TextFault → ℕ
+most_taken (Ok End) = most_bytes
+most_taken (Err ReadFault) = most_bytes
+most_taken answer = most_bytes + 1
+
+-- what holds of the stream of an item, where an item is answered
+abbrev pub OfItem : (Holds : ℕ → Type 0) → Result line_type.Line TextFault → Type 0
+OfItem Holds (Ok (Item s v)) = Holds s
+OfItem Holds answer = Unit {0}
 
 -- the answer needs no more bytes
 abbrev pub IsDecided : Answer → Type 0
@@ -54,3 +69,8 @@ IsLast r = Unit {0}
 abbrev pub Blames : (before now : ℕ) → Result line_type.Line TextFault → Type 0
 Blames before now (Err ReadFault) = Rose before now
 Blames before now r = now ≡ before
+
+-- where no call of the source had stopped, none has; told of every answer but a read fault
+abbrev pub GoesOn : (before now : Option ℕ) → Result line_type.Line TextFault → Type 0
+GoesOn before now (Err ReadFault) = Unit {0}
+GoesOn before now r = before ≡ Some 0 → now ≡ Some 0

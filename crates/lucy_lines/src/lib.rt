@@ -10,7 +10,6 @@ mod buffer;
 mod field;
 mod front;
 mod input;
-mod instants;
 mod kind;
 mod laws;
 mod reader;
@@ -20,7 +19,6 @@ mod value;
 mod written;
 
 pub use input::InputSpec;
-pub use instants::horizon;
 pub use laws::{cut_in_pieces, items_in_turn, judged_first, one_cut, some_cut};
 pub use reader::{InputReader, Line, TextFault};
 pub use written::{ValueLines, value_line};

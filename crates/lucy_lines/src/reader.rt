@@ -1,8 +1,8 @@
-ghost use Rattle.std.specs.Prelude.{◌≡◌, ◌+◌, ◌<◌, ◌≤◌, ◌^◌, ◌↔◌, ℕ, Bool, List, [], ◌++◌, Some, Ok, true, false, length, IfOk, IfSome, OnErr, IsTrue};
-ghost use Rattle.lucy_text.specs.Outside.{followed, AtEnd, HasCause, Rose};
+ghost use Rattle.std.specs.Prelude.{◌≡◌, ◌+◌, ◌<◌, ◌≤◌, ◌^◌, ◌↔◌, ℕ, Bool, List, [], ◌++◌, Some, Ok, true, false, length, IfOk, IfSome, OnOk, OnErr, IsTrue};
+ghost use Rattle.lucy_text.specs.Outside.{followed, AtEnd, HasCause, Rose, NoneFollows};
 ghost use Rattle.lucy_lines.specs.Fronts.{most_bytes, run, front_of};
-ghost use Rattle.lucy_lines.specs.Cuts.{Held, with_more, past, Answer, Next};
-ghost use Rattle.lucy_lines.specs.Reading.{ReaderState, new_reader, Took, Blames, IsDecided, IsLast};
+ghost use Rattle.lucy_lines.specs.Cuts.{Held, bytes_taken, with_more, past, Answer, Next};
+ghost use Rattle.lucy_lines.specs.Reading.{ReaderState, new_reader, Took, Blames, GoesOn, most_taken, OfItem, IsDecided, IsLast};
 ghost use Rattle.lucy_lines.specs.Steps.{step_at, Steps, Says, HeldAnswers, Reads};
 
 use crate::InputSpec;
@@ -120,7 +120,8 @@ impl InputReader {
     // Passes a line, and says what it gives.
     fn line(&mut self, content: usize, length: usize) -> Step
         requires line { front_of self.old.closed self.old.held.used self.old.held.rest ≡ Front.Line content length }
-        ensures { Steps self.old self.new result }
+        ensures step { Steps self.old self.new result }
+        ensures counted { bytes_taken self.new.held ≡ bytes_taken self.old.held }
     {
         let said = kind_of(&self.inputs, &self.buffer.rest()[..content]);
         self.buffer.pass(length);
@@ -132,7 +133,8 @@ impl InputReader {
 
     // Judges the line at the front of what is held.
     fn step(&mut self) -> Step
-        ensures { Steps self.old self.new result }
+        ensures step { Steps self.old self.new result }
+        ensures counted { bytes_taken self.new.held ≡ bytes_taken self.old.held }
     {
         match front_at(self.closed, self.used, self.buffer.rest(), self.seen) {
             Front::Line { content, length } => self.line(content, length),
@@ -146,6 +148,7 @@ impl InputReader {
     fn held_line(&mut self) -> Option<Result<Line, TextFault>>
         ensures answer { HeldAnswers self.old self.new.held result }
         ensures kept { self.new ≡ record self.old { held = self.new.held } }
+        ensures counted { bytes_taken self.new.held ≡ bytes_taken self.old.held }
     {
         loop {
             match self.step() {
@@ -163,6 +166,8 @@ impl InputReader {
         requires { front_of false self.old.held.used self.old.held.rest ≡ Front.Open }
         ensures ok { IfOk result (λ _. (taken : List ℕ) × Reads self.old self.new (I.left source.old) (I.left source.new) (I.ended source.new) taken) }
         ensures err { OnErr result ((self.new ≡ self.old) × (I.left source.new ≡ I.left source.old)) }
+        ensures goes_on { OnOk result (self.new.closed ≡ false → I.since_stop source.old ≡ Some 0 → I.since_stop source.new ≡ Some 0) }
+        ensures none_follows { NoneFollows (I.since_stop source.old) (I.since_stop source.new) }
         ensures cause { HasCause (I.faults source.old) (I.faults source.new) result }
     {
         let held = self.buffer.rest().len();
@@ -180,7 +185,10 @@ impl InputReader {
         ensures unread { IsTrue self.old.closed → source.new ≡ source.old }
         ensures needed { (a : Answer) → Next self.old.inputs self.old.closed self.old.held a → IsDecided a → source.new ≡ source.old }
         ensures at_end { self.old.closed ≡ false → self.new.closed ≡ true → AtEnd (I.left source.new) × IsTrue (I.ended source.new) }
+        ensures goes_on { self.new.closed ≡ false → GoesOn (I.since_stop source.old) (I.since_stop source.new) result }
+        ensures none_follows { NoneFollows (I.since_stop source.old) (I.since_stop source.new) }
         ensures cause { Blames (I.faults source.old) (I.faults source.new) result }
+        ensures count { I.faults source.old ≤ I.faults source.new }
     {
         loop {
             match self.held_line() {
@@ -204,12 +212,17 @@ impl InputReader {
         requires { self.old.ended ≡ false }
         ensures answer { (taken : List ℕ) × Took self.old self.new (I.left source.old) (I.left source.new) result taken }
         ensures inputs { self.new.inputs ≡ self.old.inputs }
-        ensures within { self.new.held.used + length self.new.held.rest ≤ most_bytes + 1 }
+        ensures within { bytes_taken self.new.held ≤ most_taken result }
+        ensures stream { OfItem (λ stream. stream < length self.old.inputs) result }
+        ensures line { OfItem (λ _. self.old.held.used < self.new.held.used) result }
         ensures ended { IsTrue self.new.ended ↔ IsLast result }
         ensures unread { IsTrue self.old.closed → source.new ≡ source.old }
         ensures needed { (a : Answer) → Next self.old.inputs self.old.closed self.old.held a → IsDecided a → source.new ≡ source.old }
         ensures at_end { self.old.closed ≡ false → self.new.closed ≡ true → AtEnd (I.left source.new) × IsTrue (I.ended source.new) }
+        ensures goes_on { self.new.closed ≡ false → GoesOn (I.since_stop source.old) (I.since_stop source.new) result }
+        ensures none_follows { NoneFollows (I.since_stop source.old) (I.since_stop source.new) }
         ensures cause { Blames (I.faults source.old) (I.faults source.new) result }
+        ensures count { I.faults source.old ≤ I.faults source.new }
     {
         let answer = self.read_line(source);
         self.ended = !matches!(answer, Ok(Line::Item { .. }));

@@ -1,7 +1,6 @@
 use super::*;
 use lucy_host::DataType;
 use lucy_text::{MemSource, Text};
-use lucy_word::Word;
 use std::alloc::Global;
 use std::process::Abort;
 use std::test::Fail;
@@ -202,23 +201,5 @@ fn lines_of_values(rt: HostRuntime) -> Result<(), Fail> {
     lines.clear();
     assert!(&rt; lines.push(b"p", DataType::Bool, 5));
     assert_eq!(&rt; lines.bytes(), b"p true\n".as_slice());
-    Ok(())
-}
-
-#[test]
-fn items_allow_instants(rt: HostRuntime) -> Result<(), Fail> {
-    let alloc = rt.alloc();
-    let words = vec![in alloc;
-        Word::read(alloc, b"(1)").expect(&rt, "a word"),
-        Word::read(alloc, b"0(01)").expect(&rt, "a word"),
-    ]?;
-    for (items, most, last) in [
-        ([3, 9], 10, 3),
-        ([9, 2], 10, 6),
-        ([9, 9], 5, 5),
-        ([9, 0], 10, 2),
-    ] {
-        assert_eq!(&rt; horizon(&words, &items, most), last);
-    }
     Ok(())
 }

@@ -2,6 +2,7 @@ use Rattle.std.proofs.Common.{◌≡◌, ◌+◌, List, ℕ, length, ap, sym, su
 use Rattle.std.proofs.lemmas.List.{length-take-le}
 use Rattle.lucy_lines.specs.declared.front.Front.TheVariants.{Line}
 use Rattle.lucy_lines.specs.Fronts.{front_of}
+use Rattle.lucy_lines.specs.Cuts.{bytes_taken}
 use Rattle.lucy_lines.specs.Reading.{ReaderState}
 use Rattle.lucy_lines.proofs.FrontLaws.{line_within, WithinBytes}
 use Rattle.lucy_lines.proofs.ReaderLaws.{line_steps, kind_same, steps_same}
@@ -33,8 +34,17 @@ invariant_of-self c =
     let b = length-drop c.args.length c.self.inside.buffer.held in
     (i.0, omega arith, omega arith, omega arith)
 
-pub returns : goal.returns
-returns c =
+pub returns-clause-counted : goal.returns-clause-counted
+returns-clause-counted c =
+    let w = within _ _ _ _ c.self.view_is c.requires.line in
+    let whole = w.whole in
+    let a = ap length c.pass.ensures in
+    let b = length-drop c.args.length c.self.inside.buffer.held in
+    let same = ap (λ r. bytes_taken r.held) c.self.view_is in
+    omega arith
+
+pub returns-clause-step : goal.returns-clause-step
+returns-clause-step c =
     let r : ReaderState = c.args.self.now in
     let s : ReaderState = record { inputs = c.self.inside.inputs.items; held = record { lines = c.self.inside.lines; used = c.self.inside.used; rest = c.self.inside.buffer.held }; closed = c.self.inside.closed; ended = c.self.inside.ended } in
     let e : s ≡ r = c.self.view_is in

@@ -21,8 +21,8 @@ past_step s r bytes e b h =
     let same = ap (front_of s.closed s.held.used) b in
     subst P e (too_long (sym same ∙ sym h), refl)
 
-pub returns-in-Long : goal.returns-in-Long
-returns-in-Long c = long_step _ _ _ c.self.view_is c.rest.ensures c.in-Long.ensures
+pub returns-in-Long-clause-step : goal.returns-in-Long-clause-step
+returns-in-Long-clause-step c = long_step _ _ _ c.self.view_is c.rest.ensures c.in-Long.ensures
 
-pub returns-in-Past : goal.returns-in-Past
-returns-in-Past c = past_step _ _ _ c.self.view_is c.rest.ensures c.in-Past.ensures
+pub returns-in-Past-clause-step : goal.returns-in-Past-clause-step
+returns-in-Past-clause-step c = past_step _ _ _ c.self.view_is c.rest.ensures c.in-Past.ensures

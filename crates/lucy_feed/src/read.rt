@@ -1,0 +1,61 @@
+// All bytes of a source, up to a limit.
+ghost use Rattle.std.specs.Prelude.{◌+◌, ◌<◌, ◌≤◌, ◌≡◌, ◌^◌, ℕ, List};
+ghost use Rattle.lucy_feed.specs.Sources.{Stop, seen_source, Read, IsGathered};
+
+use lucy_text::Source;
+use std::alloc::{AllocError, Global};
+
+/// Why there are no bytes.
+#[derive(Clone, Copy, Debug, PartialEq, Eq)]
+pub enum ReadError {
+    /// A read failed.
+    Failed,
+    /// Memory ran out.
+    OutOfMemory,
+}
+
+impl From<AllocError> for ReadError {
+    ghost use Rattle.lucy_feed.specs.declared.read.ReadError.TheVariants.{OutOfMemory};
+
+    ghost from_gives = { λ _ e. e ≡ OutOfMemory };
+
+    fn from(_: AllocError) -> Self {
+        ReadError::OutOfMemory
+    }
+}
+
+impl From<lucy_text::Failed> for ReadError {
+    ghost use Rattle.lucy_feed.specs.declared.read.ReadError.TheVariants.{Failed};
+
+    ghost from_gives = { λ _ e. e ≡ Failed };
+
+    fn from(_: lucy_text::Failed) -> Self {
+        ReadError::Failed
+    }
+}
+
+/// The bytes up to the source's end, or `limit` of them and one more.
+pub fn read_up_to<I: Source>(
+    alloc: Global,
+    input: &mut I,
+    limit: usize,
+) -> Result<Vec<u8>, ReadError>
+    requires { limit < 2 ^ 32 }
+    ensures read { (taken : List ℕ) × (stop : Stop) × Read limit
+        (seen_source (I.left input.old) (I.ended input.old) (I.faults input.old) (I.since_stop input.old))
+        (seen_source (I.left input.new) (I.ended input.new) (I.faults input.new) (I.since_stop input.new))
+        taken stop × IsGathered limit taken stop result }
+    ensures count { I.faults input.old ≤ I.faults input.new }
+{
+    let mut bytes = Vec::new(alloc);
+    let mut buffer = [0u8; 4_096];
+    while bytes.len() <= limit {
+        let room = buffer.len().min(limit + 1 - bytes.len());
+        let n = input.read(&mut buffer[..room])?;
+        if n == 0 {
+            return Ok(bytes);
+        }
+        bytes.extend_from_slice(&buffer[..n])?;
+    }
+    Ok(bytes)
+}
