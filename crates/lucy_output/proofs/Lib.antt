@@ -1,0 +1,4 @@
+pub mod OutputLaws
+pub mod SinkLaws
+mod WalkLaws
+mod RunLaws

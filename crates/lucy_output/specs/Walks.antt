@@ -1,0 +1,63 @@
+-- What the writing of output lines keeps: how far each output was walked along, and which lines wait.
+use Rattle.std.specs.Prelude.{ℕ, ℤ, ◌+◌, ◌<◌, ◌≤◌, ◌≡◌, List, [], ◌∷◌, ◌++◌, Option, Some, None, length, drop, slice_get, slice_index_or, if◌then◌else◌}
+use Rattle.lucy_word.specs.Bits.{Bits, bit_at, ones_to, one_if}
+use Rattle.lucy_lines.specs.Written.{LinesState}
+use Rattle.lucy_output.specs.declared.output.OutputSpec.{OutputSpec}
+use Rattle.lucy_output.specs.Outputs.{line_with_value}
+use Rattle.lucy_output.specs.Sinks.{SeenSink, Writes}
+
+-- an output with what is left of its word and of its list
+pub record WalkState : Type 0 where
+  pub output : OutputSpec
+  pub bits : Bits
+  pub items : List ℤ
+
+-- its value at the next instant
+abbrev pub next_value : WalkState → Option ℤ
+next_value w = if bit_at w.bits 1 then slice_get w.items 0 else None
+
+-- what is left one instant later
+pub record IsStepped (before after : WalkState) : Type 0 where
+  pub output : after.output ≡ before.output
+  pub bits : (i : ℕ) → 0 < i → bit_at after.bits i ≡ bit_at before.bits (i + 1)
+  pub items : after.items ≡ drop (one_if (bit_at before.bits 1)) before.items
+
+-- the lines of the next instant
+unfoldable pub next_lines : List WalkState → List ℕ
+next_lines [] = []
+next_lines (w ∷ walks) = line_with_value w.output (next_value w) ++ next_lines walks
+
+-- all are left one instant later
+abbrev pub AreStepped : List WalkState → List WalkState → Type 0
+AreStepped before after = (k : ℕ) (w v : WalkState) → slice_get before k ≡ Some w → slice_get after k ≡ Some v → IsStepped w v
+
+-- the line of each value of an output fits the room
+abbrev pub FitsRoom : OutputSpec → (room : ℕ) → Type 0
+FitsRoom o room = length o.name + 22 ≤ room
+
+-- those of all outputs that are walked along
+abbrev pub FitRoom : List WalkState → (room : ℕ) → Type 0
+FitRoom walks room = (k : ℕ) (w : WalkState) → slice_get walks k ≡ Some w → FitsRoom w.output room
+
+-- what is left of an output after so many instants
+pub record IsWalked (t : ℕ) (o : OutputSpec) (list : List ℤ) (w : WalkState) : Type 0 where
+  pub output : w.output ≡ o
+  pub bits : (i : ℕ) → 0 < i → bit_at w.bits i ≡ bit_at o.word (t + i)
+  pub items : w.items ≡ drop (ones_to o.word t) list
+
+-- what is left of the outputs
+pub record AreWalked (t : ℕ) (outputs : List OutputSpec) (lists : List (List ℤ)) (walks : List WalkState) : Type 0 where
+  pub count : length walks ≡ length outputs
+  pub each : (k : ℕ) (o : OutputSpec) (w : WalkState) → slice_get outputs k ≡ Some o → slice_get walks k ≡ Some w → IsWalked t o (slice_index_or lists k []) w
+
+-- of a text, a front was written to a sink, which isn't called before a piece is full, and the rest waits in lines
+pub record Gathers {K : Type 0} (before after : K) (seen now : SeenSink) (lines : LinesState) (text : List ℕ) : Type 0 where
+  pub done : List ℕ
+  pub written : Writes seen now done
+  pub untouched : done ≡ [] → after ≡ before
+  pub all : done ++ lines.bytes ≡ text
+
+-- of outputs that are walked along, the first so many are left one instant later, and the others as they were
+pub record AreSteppedTo (before now : List WalkState) (count : ℕ) : Type 0 where
+  pub stepped : (k : ℕ) (w v : WalkState) → k < count → slice_get before k ≡ Some w → slice_get now k ≡ Some v → IsStepped w v
+  pub others : (k : ℕ) → count ≤ k → slice_get now k ≡ slice_get before k

@@ -1,0 +1,17 @@
+// Laws of output lines, each on a function that does nothing.
+ghost use Rattle.lucy_output.specs.Laws.{InstantByInstant, TextsGrow, FrontsSuffice};
+
+/// Up to instant 0 there is no line, and one more instant puts its lines behind.
+pub fn instant_by_instant()
+    ensures { InstantByInstant }
+{}
+
+/// The text of more instants begins with that of fewer.
+pub fn texts_grow()
+    ensures { TextsGrow }
+{}
+
+/// Of each list only as many items matter as the output's word has ones up to the last instant.
+pub fn fronts_suffice()
+    ensures { FrontsSuffice }
+{}

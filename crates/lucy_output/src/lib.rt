@@ -1,0 +1,21 @@
+//! The output lines of a run, written to a sink: by instant, and within an instant in the order of the outputs.
+//!
+//! It stands on `lucy_lines` for the lines, on `lucy_text` for sinks and names, on `lucy_host` for types and lists of values and
+//! on `lucy_word` for words. Begin with `write_outputs` in `write.rt`, and with the definitions that it is held to in the order
+//! of `specs/Lib.antt`.
+#![tactic(auto)]
+
+mod error;
+mod laws;
+mod output;
+#[cfg(test)]
+mod tests;
+mod text;
+mod walk;
+mod write;
+
+pub use error::OutputError;
+pub use laws::{fronts_suffice, instant_by_instant, texts_grow};
+pub use output::OutputSpec;
+pub use text::write_text;
+pub use write::write_outputs;
