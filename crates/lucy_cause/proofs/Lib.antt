@@ -4,8 +4,10 @@ pub mod StackLaws
 pub mod SettleLaws
 pub mod InstantLaws
 pub mod NeedLaws
+pub mod TurnLaws
 pub mod RowLaws
 pub mod LengthLaws
 pub mod CountLaws
 pub mod AgendaLaws
 pub mod WordLaws
+pub mod OneAnswer

@@ -1,5 +1,5 @@
 -- The instants that are played, one after another.
-use Rattle.std.proofs.Common.{ℕ, suc, zero, ◌+◌, ◌<◌, ◌≡◌, List, [], ◌∷◌, ◌++◌, map, length, get_or, ap, sym, refl, ◌∙◌, subst, inl, inr, arith, length-append}
+use Rattle.std.proofs.Common.{ℕ, suc, zero, ◌+◌, ◌<◌, ◌≡◌, List, [], ◌∷◌, ◌++◌, map, length, get_or, take, drop, ap, sym, refl, ◌∙◌, subst, inl, inr, arith, length-append}
 use Rattle.std.specs.Prelude.{Some, slice_get, slice_index, slice_index_or, All, Vec, replicate}
 use Rattle.std.specs.Option.{option_map}
 use Rattle.std.proofs.lemmas.Bool.{cases_lt}
@@ -14,10 +14,12 @@ use Rattle.lucy_net.specs.Schedules.{IsOrder}
 use Rattle.lucy_cause.specs.declared.settle.Wait.{Wait}
 use Rattle.lucy_net.specs.Instants.{slot}
 use Rattle.lucy_cause.specs.Play.{IsPlayed, IsReady}
-use Rattle.lucy_cause.specs.Waiting.{actor_at, ring_at, IsKnot}
+use Rattle.lucy_cause.specs.Waiting.{actor_at, ring_at, IsKnot, IsTurned}
 use Rattle.lucy_cause.specs.Faults.{item_now, rows_of, AreOrders, IsFirstCycle}
 use Rattle.lucy_net.proofs.SlotLaws.{slot_within}
 use Rattle.lucy_cause.proofs.NeedLaws.{knot_cycle}
+use Rattle.lucy_cause.proofs.TurnLaws.{turned_cycle, turned_least}
+use Rattle.std.proofs.lemmas.List.Elements.{All-append, All-take, All-drop}
 use Rattle.lucy_net.proofs.SoundLaws.{none_reaches}
 
 -- a row that a program reads
@@ -62,16 +64,24 @@ knot_actors net n steps held waits knot k d l =
     let busy : slice_index steps (actor_at waits 0 k) < length (slot net n (actor_at waits 0 k)) = slice_get_within (slot net n (actor_at waits 0 k)) (slice_index steps (actor_at waits 0 k)) (Takes (ring_at waits k)) (knot.each k l).takes in
     subst (λ (a : ℕ). a < length net.actors) same (slot_within net n (actor_at waits 0 k) (omega arith))
 
+-- in another turn too
+pub turned_actors : (net : Net) (waits turned : List Wait) → IsTurned waits turned → All (λ wait. wait.actor < length net.actors) waits → All (λ wait. wait.actor < length net.actors) turned
+turned_actors net waits turned turn all =
+    let P : Wait → Type 0 = λ w. w.actor < length net.actors in
+    subst (All P) (sym turn.turned) (All-append P (drop turn.place waits) (take turn.place waits) (All-drop P turn.place waits all) (All-take P turn.place waits all))
+
 -- a knot in the first instant that has no order
-pub first_cycle : (net : Net) (n : ℕ) (order steps held : List ℕ) (waits : List Wait) (rows : List (List ℕ)) (items : List Item) → IsProper net → IsPlayed net n order steps held → IsKnot net n steps held waits →
-    AreOrders net rows → length rows ≡ n → items ≡ map (λ wait. item_now net (n + 1) wait.actor) waits → IsFirstCycle net (n + 1) items
-first_cycle net n order steps held waits rows items is played knot are len e =
-    let cycle = knot_cycle net n order steps held waits is played knot in
+pub first_cycle : (net : Net) (n : ℕ) (order steps held : List ℕ) (waits turned : List Wait) (rows : List (List ℕ)) (items : List Item) → IsProper net → IsPlayed net n order steps held → IsKnot net n steps held waits →
+    IsTurned waits turned → AreOrders net rows → length rows ≡ n → items ≡ map (λ wait. item_now net (n + 1) wait.actor) turned → IsFirstCycle net (n + 1) items
+first_cycle net n order steps held waits turned rows items is played knot turn are len e =
+    let knot_is = knot_cycle net n order steps held waits is played knot in
+    let cycle = turned_cycle net n waits turned turn knot_is.0 knot_is.1 in
     subst (IsFirstCycle net (n + 1)) (sym e) (record {
       before = n;
       instant_is = refl;
       cycle = cycle.0;
       of_instant = cycle.1;
+      least = turned_least net n waits turned turn;
       first = λ u x l of reaches. none_reaches net (row_events rows) n u x is (λ k h. row_orders net rows are k (omega arith)) l of reaches;
     })
 

@@ -1,5 +1,5 @@
 -- What a play of a net's instants comes to.
-use Rattle.std.specs.Prelude.{ℕ, ◌+◌, ◌<◌, ◌≤◌, ◌≡◌, List, All, map, length, slice_get, Some, Vec}
+use Rattle.std.specs.Prelude.{ℕ, ◌+◌, ◌<◌, ◌≤◌, ◌≡◌, List, [], ◌∷◌, All, map, length, slice_get, Some, Vec}
 use Rattle.lucy_net.specs.declared.net.Net.{Net}
 use Rattle.lucy_net.specs.Proper.{numbers_where}
 use Rattle.lucy_stream.specs.Needs.{Item, ReachesItself, IsCycle}
@@ -30,12 +30,19 @@ AreFirings net rows = (before : ℕ) (row : List ℕ) → slice_get rows before 
 abbrev pub AreOrders : Net → List (List ℕ) → Type 0
 AreOrders net rows = (before : ℕ) (order : List ℕ) → slice_get rows before ≡ Some order → IsOrder net before order
 
--- the items are of this instant and depend on each other, and none of an earlier one reaches itself
+-- the first item's actor is the least of the items'
+abbrev pub BeginsLeast : List Item → Type 0
+BeginsLeast [] = ⊥
+BeginsLeast (x ∷ items) = All (λ y. x.place ≤ y.place) (x ∷ items)
+
+-- the items are of this instant and depend on each other, from the one of the least actor on, and none of an earlier instant
+-- reaches itself
 pub record IsFirstCycle (net : Net) (instant : ℕ) (items : List Item) : Type 0 where
   pub before : ℕ
   pub instant_is : instant ≡ before + 1
   pub cycle : IsCycle (net_places net) items
   pub of_instant : All (IsOfInstant net before) items
+  pub least : BeginsLeast items
   pub first : (u : ℕ) (x : Item) → u < before → IsOfInstant net u x → ReachesItself (net_places net) x → ⊥
 
 -- the play stops within the first instants so

@@ -58,3 +58,13 @@ abbrev pub Refuses : Net → CauseFault → Type 0
 Refuses net (fault.Limit which) = (IsTooLong net × (which ≡ limit.Schedule)) ⊎ (HasTooMany net × (which ≡ limit.Events))
 Refuses net (fault.Cycle instant items) = ((prefix : ℕ) × (period : ℕ) × IsAllowed net prefix period × (instant ≤ prefix + period)) × IsFirstCycle net instant (map item_of items.items)
 Refuses net fault.OutOfMemory = Unit {0}
+
+-- two refusals tell the same: one limit, or cycles of one instant. Want of memory tells nothing
+abbrev pub TellSame : CauseFault → CauseFault → Type 0
+TellSame fault.OutOfMemory f = Unit {0}
+TellSame (fault.Limit which) (fault.Limit other) = which ≡ other
+TellSame (fault.Limit which) (fault.Cycle instant items) = ⊥
+TellSame (fault.Limit which) fault.OutOfMemory = Unit {0}
+TellSame (fault.Cycle instant items) (fault.Limit which) = ⊥
+TellSame (fault.Cycle instant items) (fault.Cycle other others) = instant ≡ other
+TellSame (fault.Cycle instant items) fault.OutOfMemory = Unit {0}

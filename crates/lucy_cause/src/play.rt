@@ -5,7 +5,7 @@ ghost use Rattle.lucy_word.specs.Limits.{limit_number};
 ghost use Rattle.lucy_cause.specs.Play.{IsReady};
 ghost use Rattle.lucy_cause.specs.Faults.{rows_of, AreFirings, AreOrders, StopsAt};
 
-use crate::cycle::items_of;
+use crate::cycle::{items_of, turn_to_least};
 use crate::error::CauseFault;
 use crate::instant::play_instant;
 use crate::settle::Settled;
@@ -44,6 +44,8 @@ fn play_rows(
             &mut order,
         )?;
         if let Settled::Stuck(waits) = settled {
+            let mut waits = waits;
+            turn_to_least(&mut waits);
             let instant = before as u64 + 1;
             let items = items_of(alloc, net, instant, &waits)?;
             return Err(CauseFault::Cycle { instant, items });

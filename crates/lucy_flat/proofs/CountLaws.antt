@@ -172,7 +172,7 @@ slots_plain : (x y : ℕ) → y ≡ 0 → x * (y + 1) ≡ x + y
 slots_plain x y e = let z : x * (0 + 1) ≡ x + 0 = omega arith in subst (λ t. x * (t + 1) ≡ x + t) (sym e) z
 
 -- only a buffer has a size, and it reads one place
-kind_slots : (nodes : List PlacedNode) (clocks : List NodeClock) (i : ℕ) (path : List ℕ) (place : ℕ) (kind : PlaceKind) → length (spot_reads nodes (at path place) kind) * (ring_size clocks i kind + 1) ≡ length (spot_reads nodes (at path place) kind) + ring_size clocks i kind
+pub kind_slots : (nodes : List PlacedNode) (clocks : List NodeClock) (i : ℕ) (path : List ℕ) (place : ℕ) (kind : PlaceKind) → length (spot_reads nodes (at path place) kind) * (ring_size clocks i kind + 1) ≡ length (spot_reads nodes (at path place) kind) + ring_size clocks i kind
 kind_slots nodes clocks i path place Param = slots_plain (length (spot_reads nodes (at path place) Param)) 0 refl
 kind_slots nodes clocks i path place (Defined q) = slots_plain 1 0 refl
 kind_slots nodes clocks i path place (Lit l) = slots_plain 0 0 refl

@@ -438,7 +438,7 @@ module _ (nodes : List PlacedNode) (clocks : List NodeClock) (proper : AreProper
       let word : IsSpotWord nodes clocks (at [] place.0) ring.read = subst (IsSpotWord nodes clocks (at [] place.0)) (sym read_is) (subst (λ (t : Draft). IsSpotWord nodes clocks (at [] place.0) t.word) same out.word) in
       let alike : Same ring.write ring.read =
       on_one word.0 (word_at nodes clocks [] place.0) ring.write ring.read
-      (on_base written.0 word.0 (word_at nodes clocks [] place.0) ring.write (base_same nodes clocks proper clocked [] written.0 word.0 written.1 word.1) written.2) word.2 in
+      (on_base written.0 word.0 (word_at nodes clocks [] place.0) ring.write (base_same nodes clocks [] written.0 word.0 written.1 word.1) written.2) word.2 in
       let empty : 0 ≡ ring.size = sym (of.size ∙ ap (λ (t : Draft). t.size) (sym same) ∙ out.size) in
       (adaptable_self ring.write ring.read alike, subst (IsSize ring.write ring.read) empty (size_self ring.write ring.read alike))
 

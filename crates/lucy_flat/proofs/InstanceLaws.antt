@@ -244,7 +244,7 @@ tells_none (Some x) b e h = absurd (cc h)
 -- an instance has one base in shortest form
 pub base_one : (nodes : List PlacedNode) (clocks : List NodeClock) → AreProper nodes → AreClocked nodes clocks → (path : List ℕ) (a b : Bits) → IsBase nodes clocks path a → IsBase nodes clocks path b → IsShortest a → IsShortest b → a ≡ b
 base_one nodes clocks proper clocked path a b is_a is_b short_a short_b =
-    shortest_one a b short_a short_b (period_some a (base_word nodes clocks proper clocked path a is_a)) (period_some b (base_word nodes clocks proper clocked path b is_b)) (base_same nodes clocks proper clocked path a b is_a is_b)
+    shortest_one a b short_a short_b (period_some a (base_word nodes clocks proper clocked path a is_a)) (period_some b (base_word nodes clocks proper clocked path b is_b)) (base_same nodes clocks path a b is_a is_b)
 
 pub fit_here : (nodes : List PlacedNode) (clocks : List NodeClock) → AreProper nodes → AreClocked nodes clocks → (path : List ℕ) (clock : ℕ) (base w : Bits) → IsBase nodes clocks path base → IsShortest base → word_at nodes clocks path clock ≡ w →
     (IsOnTooLong base w → ⊥) → IsFit nodes clocks path clock

@@ -16,3 +16,5 @@ pub mod CountLaws
 pub mod DraftLaws
 pub mod OutputLaws
 pub mod MeaningLaws
+pub mod OneNet
+pub mod SizeOfNet

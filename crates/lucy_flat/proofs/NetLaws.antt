@@ -1,13 +1,13 @@
 -- The net of a program's drafts is proper, and it is the program's flat net.
 use Rattle.std.proofs.Common.{ℕ, ◌+◌, ◌<◌, ◌≤◌, ◌≡◌, true, false, List, [], ◌∷◌, Option, Some, None, length, map, get_or, ap, sym, refl, ◌∙◌, subst, inl, inr, arith}
-use Rattle.std.specs.Prelude.{sum_by, slice_get, slice_index_or, ◌⊎◌, nat_eq}
+use Rattle.std.specs.Prelude.{All, sum_by, slice_get, slice_index_or, ◌⊎◌, nat_eq}
 use Rattle.std.specs.List.{range_with_len}
 use Rattle.std.proofs.lemmas.Bool.{eq-eqb, ne_eqb}
 use Rattle.std.proofs.lemmas.List.{take_all}
 use Rattle.std.proofs.lemmas.List.Sums.{sum_by-cons, sum_by-append}
 use Rattle.std.proofs.lemmas.Option.{same_Some, slice_get_within}
 use Rattle.lucy_word.specs.Bits.{Bits, bit_count}
-use Rattle.lucy_word.specs.Shortest.{Same, IsShortest}
+use Rattle.lucy_word.specs.Shortest.{Same}
 use Rattle.lucy_word.specs.Sampling.{IsOnTooLong}
 use Rattle.lucy_word.proofs.BitsLaws.{period_some}
 use Rattle.lucy_word.proofs.ShortLaws.{shortest_one}
@@ -15,8 +15,7 @@ use Rattle.lucy_place.specs.declared.placed.PlacedNode.{PlacedNode}
 use Rattle.lucy_place.specs.declared.entry.PlaceKind.TheVariants as place_kind
 use Rattle.lucy_place.specs.Proper.{AreProper}
 use Rattle.lucy_word.specs.Complement.{turned}
-use Rattle.lucy_stream.specs.Forms.{Form, Given, Constant, Pointwise, Hosted, Kept, Merged, Delayed, operands, Same as Alike}
-use Rattle.lucy_net.specs.declared.kind.ActorKind.{ActorKind}
+use Rattle.lucy_stream.specs.Forms.{operands, Same as Alike}
 use Rattle.lucy_net.specs.declared.kind.ActorKind.TheVariants.{When, Output}
 use Rattle.lucy_net.specs.declared.net.Actor.{Actor}
 use Rattle.lucy_net.specs.declared.net.RingSpec.{RingSpec}
@@ -30,23 +29,22 @@ use Rattle.lucy_net.specs.States.{GivesNone}
 use Rattle.lucy_net.specs.Proper.{numbers_where, IsNumbering, IsWriteWord, IsReadWord, IsProper, IsProperActor, IsProperRing}
 use Rattle.lucy_clock.specs.declared.node_clock.NodeClock.{NodeClock}
 use Rattle.lucy_flat.specs.declared.draft.Draft.{Draft}
-use Rattle.lucy_meaning.specs.Spots.{Spot, at, node_at, results_in}
+use Rattle.lucy_meaning.specs.Spots.{at, node_at, results_in}
 use Rattle.lucy_meaning.specs.Sizes.{all_places}
 use Rattle.lucy_meaning.specs.Numbers.{number}
-use Rattle.lucy_flat.specs.Instances.{word_at, IsSpotWord}
 use Rattle.lucy_flat.specs.Flat.{IsFlat}
 use Rattle.lucy_flat.specs.Counts.{IsSmall}
-use Rattle.lucy_word.proofs.OnLaws.{on_base, on_one}
 use Rattle.lucy_meaning.proofs.Lists.{there}
+use Rattle.lucy_word.specs.Stored.{IsStored}
 use Rattle.lucy_flat.specs.Clocked.{AreClocked}
 use Rattle.lucy_flat.specs.Drafts.{inputs_in, AreDrafts, draft_slots}
-use Rattle.lucy_flat.specs.Refusals.{IsClockTooLong, IsMergeTooLong, AreShortest, IsFlatNet}
-use Rattle.lucy_flat.specs.Assembly.{from_of, from_at, IsReadTooLong, IsFiring, reads_count, first_ring, IsRingOf, IsActorFrom, IsAssembled}
+use Rattle.lucy_flat.specs.Refusals.{IsClockTooLong, IsMergeTooLong, IsFlatNet}
+use Rattle.lucy_flat.specs.Assembly.{from_of, from_at, IsReadTooLong, reads_count, first_ring, IsRingOf, IsActorFrom, IsAssembled}
 use Rattle.lucy_flat.proofs.AssemblyLaws.{first_next}
-use Rattle.lucy_flat.proofs.SpotWords.{base_same, feeds}
+use Rattle.lucy_flat.proofs.SpotWords.{spot_same, feeds}
 use Rattle.lucy_flat.proofs.RingWords.{made_form, made_inner, FiresBy, form_fires}
 use Rattle.lucy_flat.proofs.ProperLaws.{link_from, link_to, where_same, where_none, where_row, length_row, row_numbering, numbers_same, write_word, read_word, LongBy, long_form, none_inner, none_gives, rings_rise, row_of, row_at, slots_of_ring, slots_front}
-use Rattle.lucy_flat.proofs.FlatLaws.{standing, which, ready_short, ready_kinds, ready_below, ready_arity, actor_of, output_of, sampled_word, all_rings_row, count_whole, ring_found, ring_fits, ring_sizes}
+use Rattle.lucy_flat.proofs.FlatLaws.{standing, which, ready_kinds, ready_below, ready_arity, actor_of, output_of, sampled_word, all_rings_row, count_whole, ring_found, ring_fits, ring_sizes}
 
 -- the bits of a net's words
 rings_bits : (rings : List RingSpec) → sum_by bit_count (ring_words rings) ≡ sum_by ring_bits rings
@@ -61,12 +59,6 @@ actors_bits (actor ∷ actors) =
 
 pub words_bits : (net : Net) → sum_by bit_count (net_words net) ≡ sum_by (λ (a : Actor). bit_count a.firing) net.actors + sum_by ring_bits net.rings
 words_bits net = omega (arith, sum_by-append bit_count (map (λ (a : Actor). a.firing) net.actors) (ring_words net.rings), actors_bits net.actors, rings_bits net.rings)
-
--- the word of an instance place has one list of bits
-same_spot : (nodes : List PlacedNode) (clocks : List NodeClock) → AreProper nodes → AreClocked nodes clocks → (s : Spot) (x y : Bits) → IsSpotWord nodes clocks s x → IsSpotWord nodes clocks s y → Same x y
-same_spot nodes clocks proper clocked s x y sx sy =
-    let word : Bits = word_at nodes clocks s.path s.place in
-    on_one sx.0 word x y sx.2 (on_base sy.0 sx.0 word y (base_same nodes clocks proper clocked s.path sy.0 sx.0 sy.1 sx.1) sy.2)
 
 module _ (nodes : List PlacedNode) (clocks : List NodeClock) (proper : AreProper nodes) (clocked : AreClocked nodes clocks) (drafts : List Draft) (net : Net)
     (are : AreDrafts nodes clocks drafts) (is : IsAssembled drafts net) where
@@ -269,41 +261,12 @@ module _ (nodes : List PlacedNode) (clocks : List NodeClock) (proper : AreProper
   pub rings_few : IsSmall nodes clocks → length net.rings < 4294967296
   rings_few small = omega (arith, is.rings.count, count_whole nodes clocks proper clocked drafts net are is drafts, are.reads, small.1)
 
-  -- its words are in shortest form
-  ring_shortest : (r : ℕ) (ring : RingSpec) → slice_get net.rings r ≡ Some ring → IsShortest ring.write × IsShortest ring.read
-  ring_shortest r ring e =
-      let o = ring_found nodes clocks proper clocked drafts net are is r ring e in
-      (subst IsShortest (sym o.1.write) (ready_short nodes clocks proper clocked drafts are o.0.source o.1.giver o.1.gives), o.1.shortest)
-
-  firing_shortest : (kind : ActorKind) (own firing : Bits) (r : ℕ) → IsShortest own → IsFiring kind own (slice_get net.rings r) firing → IsShortest firing
-  firing_shortest kind own firing r short is_firing = by_ring (slice_get net.rings r) refl (form_fires kind own (slice_get net.rings r) firing is_firing)
-    where
-      by_form : (form : Form) (o : Option RingSpec) → ((ring : RingSpec) → o ≡ Some ring → IsShortest ring.write) → FiresBy form own o firing → IsShortest firing
-      by_form (Given x) o rings e = subst IsShortest (sym e) short
-      by_form (Constant x) o rings e = subst IsShortest (sym e) short
-      by_form (Pointwise x) o rings e = subst IsShortest (sym e) short
-      by_form (Hosted x) o rings e = subst IsShortest (sym e) short
-      by_form (Kept p) (Some ring) rings e = subst IsShortest (sym e) (rings ring refl)
-      by_form (Kept p) None rings e = absurd e
-      by_form (Merged p) o rings e = subst IsShortest (sym e) short
-      by_form (Delayed x) o rings e = subst IsShortest (sym e) short
-      by_form Alike o rings e = subst IsShortest (sym e) short
-
-      by_ring : (o : Option RingSpec) → slice_get net.rings r ≡ o → FiresBy (plans.form_of kind) own (slice_get net.rings r) firing → IsShortest firing
-      by_ring o e fires = by_form (plans.form_of kind) (slice_get net.rings r) (λ ring f. (ring_shortest r ring f).0) fires
-
-  shortest_net : AreShortest net
-  shortest_net = record {
-    actors = λ a actor e. (let d = drafted a actor e in firing_shortest d.draft.kind d.draft.word actor.firing (first_ring drafts a) (ready_short nodes clocks proper clocked drafts are a d.draft d.there) d.from.firing);
-    rings = ring_shortest;
-  }
-
   -- a merge whose operand's word is too long is a draft's
   merge_long : IsMergeTooLong nodes clocks → IsReadTooLong drafts
   merge_long long =
       let d = are.places long.spot (place_kind.Merge long.p long.a long.b) long.stands in
       let same : long.own ≡ d.0.word =
-      shortest_one long.own d.0.word long.shortest d.2.shortest (period_some long.own long.is_word) (period_some d.0.word d.2.is_word) (same_spot nodes clocks proper clocked long.spot long.own d.0.word long.is d.2.word) in
+      shortest_one long.own d.0.word long.shortest d.2.shortest (period_some long.own long.is_word) (period_some d.0.word d.2.is_word) (spot_same nodes clocks long.spot long.own d.0.word long.is d.2.word) in
       let count : reads_count d.0 ≡ 2 = ap length d.2.reads in
       elim long.too_long [
         | inl l ↦ record {
@@ -324,10 +287,10 @@ module _ (nodes : List PlacedNode) (clocks : List NodeClock) (proper : AreProper
         }
       ]
 
-  pub flat_net : IsSmall nodes clocks → (IsClockTooLong nodes clocks → ⊥) → (IsReadTooLong drafts → ⊥) → IsFlatNet nodes clocks net
-  flat_net small clock_fits read_fits = record {
+  pub flat_net : All IsStored (net_words net) → IsSmall nodes clocks → (IsClockTooLong nodes clocks → ⊥) → (IsReadTooLong drafts → ⊥) → IsFlatNet nodes clocks net
+  flat_net stored small clock_fits read_fits = record {
     flat = flat_from small;
-    shortest = shortest_net;
+    stored = stored;
     small = small;
     words = λ long. elim long [
       | inl l ↦ clock_fits l

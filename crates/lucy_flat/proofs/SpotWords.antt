@@ -89,6 +89,18 @@ sig_at (m ∷ ns) (d ∷ cs) zero n c e f =
     ap (λ t. Some (ports t d)) a ∙ ap (λ t. Some (ports n t)) b
 sig_at (m ∷ ns) (d ∷ cs) (suc i) n c e f = sig_at ns cs i n c e f
 
+-- an instance's base has one list of bits, and so has an instance place
+pub base_same : (nodes : List PlacedNode) (clocks : List NodeClock) (path : List ℕ) (a b : Bits) → IsBase nodes clocks path a → IsBase nodes clocks path b → Same a b
+base_same nodes clocks [] a b x y i low = x.1 i low ∙ sym (y.1 i low)
+base_same nodes clocks (call ∷ path) a b x y i low =
+    let word : Bits = word_at nodes clocks path (base_clock (node_at nodes path) call) in
+    x.3 i low ∙ on_same x.1 y.1 word word i (base_same nodes clocks path x.1 y.1 x.2 y.2) (same_self word) low ∙ sym (y.3 i low)
+
+pub spot_same : (nodes : List PlacedNode) (clocks : List NodeClock) (s : Spot) (x y : Bits) → IsSpotWord nodes clocks s x → IsSpotWord nodes clocks s y → Same x y
+spot_same nodes clocks s x y sx sy =
+    let word : Bits = word_at nodes clocks s.path s.place in
+    on_one sx.0 word x y sx.2 (on_base sy.0 sx.0 word y (base_same nodes clocks s.path sy.0 sx.0 sy.1 sx.1) sy.2)
+
 module _ (nodes : List PlacedNode) (clocks : List NodeClock) (proper : AreProper nodes) (clocked : AreClocked nodes clocks) where
   -- the words of the node that a path leads to
   pub record HasClock (path : List ℕ) (n : PlacedNode) : Type 0 where
@@ -121,18 +133,11 @@ module _ (nodes : List PlacedNode) (clocks : List NodeClock) (proper : AreProper
         proper_node = proper (index_at nodes path) n at_index;
       }
 
-  -- the base of an instance has one list of bits
-  pub base_same : (path : List ℕ) (a b : Bits) → IsBase nodes clocks path a → IsBase nodes clocks path b → Same a b
-  base_same [] a b x y i low = x.1 i low ∙ sym (y.1 i low)
-  base_same (call ∷ path) a b x y i low =
-      let word : Bits = word_at nodes clocks path (base_clock (node_at nodes path) call) in
-      x.3 i low ∙ on_same x.1 y.1 word word i (base_same path x.1 y.1 x.2 y.2) (same_self word) low ∙ sym (y.3 i low)
-
   -- the word of an instance place, on any base
   on_spot : (path : List ℕ) (n : PlacedNode) (h : HasClock path n) (b : Bits) → IsBase nodes clocks path b → (q : ℕ) (s : Spot) (x : Bits) → at path q ≡ s → IsSpotWord nodes clocks s x → IsOn b (assigned h.clock.words q) x
   on_spot path n h b is q s x e spot =
       let own : IsSpotWord nodes clocks (at path q) x = subst (λ t. IsSpotWord nodes clocks t x) (sym e) spot in
-      subst (λ v. IsOn b v x) (h.word q) (on_base own.0 b (word_at nodes clocks path q) x (base_same path own.0 b own.1 is) own.2)
+      subst (λ v. IsOn b v x) (h.word q) (on_base own.0 b (word_at nodes clocks path q) x (base_same nodes clocks path own.0 b own.1 is) own.2)
 
   -- a call between two instances: its base is the caller's on the word of the call
   pub record IsCallAt (path : List ℕ) (call : ℕ) (m n : PlacedNode) (outer : HasClock path m) (inner : HasClock (call ∷ path) n) : Type 0 where

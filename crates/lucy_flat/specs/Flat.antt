@@ -12,7 +12,7 @@ use Rattle.lucy_net.specs.declared.kind.ActorKind.TheVariants.{Input, Lit, Op, H
 use Rattle.lucy_net.specs.declared.net.RingSpec.{RingSpec}
 use Rattle.lucy_net.specs.declared.net.Net.{Net}
 use Rattle.lucy_net.specs.Plans.{giver}
-use Rattle.lucy_net.specs.Proper.{IsProper}
+use Rattle.lucy_net.specs.Proper.{IsProperActor, IsProperRing, IsProper}
 use Rattle.lucy_meaning.specs.Spots.{Spot, at, main_of, kind_at, spot_form, spot_reads, results_in}
 use Rattle.lucy_meaning.specs.Sizes.{all_places}
 use Rattle.lucy_meaning.specs.Numbers.{number}
@@ -57,8 +57,8 @@ ring_size clocks node (place_kind.Buffer k e) = slice_index_or (sizes_in (slice_
 ring_size clocks node kind = 0
 
 -- the net has these actors, in this order; rings are numbered by the taking actor and then by its operand, with the sizes of the
--- buffers; and the net is proper, so that the words of its rings are those of its actors
-pub record IsFlat (nodes : List PlacedNode) (clocks : List NodeClock) (net : Net) : Type 0 where
+-- buffers; and the net is good, in whatever way is meant
+pub record IsFlatAnd (IsGood : Net → Type 0) (nodes : List PlacedNode) (clocks : List NodeClock) (net : Net) : Type 0 where
   pub count : length net.actors ≡ all_places nodes + length (results_in (main_of nodes))
   pub actors : (spot : Spot) (kind : PlaceKind) → kind_at nodes spot ≡ Some kind → IsActorOf nodes clocks net spot kind
   pub outputs : (i place : ℕ) → slice_get (results_in (main_of nodes)) i ≡ Some place → IsOutput nodes clocks net i place
@@ -66,4 +66,17 @@ pub record IsFlat (nodes : List PlacedNode) (clocks : List NodeClock) (net : Net
   pub sizes : (spot : Spot) (kind : PlaceKind) (actor : Actor) (k r : ℕ) (ring : RingSpec) → kind_at nodes spot ≡ Some kind →
       slice_get net.actors (number nodes spot) ≡ Some actor → slice_get actor.takes k ≡ Some r → slice_get net.rings r ≡ Some ring →
       ring.size ≡ ring_size clocks (index_at nodes spot.path) kind
-  pub proper : IsProper net
+  pub proper : IsGood net
+
+-- the flat net is proper, so that the words of its rings are those of its actors
+abbrev pub IsFlat : List PlacedNode → List NodeClock → Net → Type 0
+IsFlat nodes clocks net = IsFlatAnd IsProper nodes clocks net
+
+-- of a proper net this is left, were there no limits
+pub record IsJoined (net : Net) : Type 0 where
+  pub actors : (a : ℕ) (actor : Actor) → slice_get net.actors a ≡ Some actor → IsProperActor net a actor
+  pub rings : (r : ℕ) (ring : RingSpec) → slice_get net.rings r ≡ Some ring → IsProperRing net r ring
+
+-- the flat net that a program would have, were there no limits
+abbrev pub WouldBeFlat : List PlacedNode → List NodeClock → Net → Type 0
+WouldBeFlat nodes clocks net = IsFlatAnd IsJoined nodes clocks net

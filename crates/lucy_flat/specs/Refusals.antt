@@ -1,15 +1,14 @@
 -- Why a program has no flat net.
-use Rattle.std.specs.Prelude.{ℕ, ◌<◌, ◌≡◌, ◌⊎◌, List, Some, slice_get, sum_by}
+use Rattle.std.specs.Prelude.{ℕ, ◌<◌, ◌≡◌, ◌⊎◌, List, All, Some, sum_by}
 use Rattle.lucy_word.specs.Bits.{Bits, IsWord, bit_count}
 use Rattle.lucy_word.specs.Limits.{limit_number}
 use Rattle.lucy_word.specs.declared.limit.Limit.TheVariants as limit
 use Rattle.lucy_word.specs.Shortest.{IsShortest}
+use Rattle.lucy_word.specs.Stored.{IsStored}
 use Rattle.lucy_word.specs.Sampling.{IsOnTooLong}
 use Rattle.lucy_place.specs.declared.placed.PlacedNode.{PlacedNode}
 use Rattle.lucy_place.specs.declared.entry.PlaceKind.TheVariants.{Merge}
 use Rattle.lucy_word.specs.Complement.{turned}
-use Rattle.lucy_net.specs.declared.net.Actor.{Actor}
-use Rattle.lucy_net.specs.declared.net.RingSpec.{RingSpec}
 use Rattle.lucy_net.specs.declared.net.Net.{Net}
 use Rattle.lucy_net.specs.Words.{net_words}
 use Rattle.lucy_flat.specs.declared.error.FlatError.{FlatError}
@@ -58,15 +57,10 @@ IsWordTooLong nodes clocks = IsClockTooLong nodes clocks ⊎ IsMergeTooLong node
 abbrev pub net_bits : Net → ℕ
 net_bits net = sum_by bit_count (net_words net)
 
--- all words are in shortest form
-pub record AreShortest (net : Net) : Type 0 where
-  pub actors : (a : ℕ) (actor : Actor) → slice_get net.actors a ≡ Some actor → IsShortest actor.firing
-  pub rings : (r : ℕ) (ring : RingSpec) → slice_get net.rings r ≡ Some ring → IsShortest ring.write × IsShortest ring.read
-
--- the net of a program, with the limits that it keeps
+-- the net of a program, whose words are as all are in memory, with the limits that it keeps
 pub record IsFlatNet (nodes : List PlacedNode) (clocks : List NodeClock) (net : Net) : Type 0 where
   pub flat : IsFlat nodes clocks net
-  pub shortest : AreShortest net
+  pub stored : All IsStored (net_words net)
   pub small : IsSmall nodes clocks
   pub words : IsWordTooLong nodes clocks → ⊥
 

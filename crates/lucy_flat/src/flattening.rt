@@ -1,7 +1,9 @@
 // The flat net of a program.
-ghost use Rattle.std.specs.Prelude.{[], ◌≡◌, ◌⊎◌, ◌+◌, ◌<◌, ◌≤◌, ◌^◌, Some, length, OnOk, IfOk, IfErr};
+ghost use Rattle.std.specs.Prelude.{[], ◌≡◌, ◌⊎◌, ◌+◌, ◌<◌, ◌≤◌, ◌^◌, Some, length, OnOk, IfOk, IfErr, MatchResult};
 ghost use Rattle.lucy_word.specs.Bits.{bit_count};
+ghost use Rattle.lucy_word.specs.declared.limit.Limit.{Limit as Which};
 ghost use Rattle.lucy_word.specs.declared.limit.Limit.TheVariants as lim;
+ghost use Rattle.lucy_net.specs.declared.net.Net.{Net as Flat};
 ghost use Rattle.lucy_word.specs.Limits.{limit_number};
 ghost use Rattle.lucy_place.specs.Proper.{AreProper};
 ghost use Rattle.lucy_flat.specs.declared.error.FlatError.TheVariants as err;
@@ -20,7 +22,7 @@ use crate::instance::{Program, put_instance};
 use crate::words::copied;
 use lucy_clock::NodeClock;
 use lucy_need::always;
-use lucy_net::{ActorKind, Net};
+use lucy_net::{ActorKind, Net, net_words_are_stored};
 use lucy_place::Placed;
 use lucy_word::{Limit, Word};
 use std::alloc::Global;
@@ -107,16 +109,16 @@ fn drafts(alloc: Global, program: Program<'_>, main: u32) -> Result<Vec<Draft>, 
     Ok(drafts)
 }
 
-/// The flat net of a program, whose nodes have words that keep their clock rules, and the sizes of their buffers. A limit
-/// comes where it is passed, in the order `Actors`, `Rings`, `Slots`, `Word`, `Bits`.
-pub fn flatten(alloc: Global, placed: &Placed, clocks: &[NodeClock]) -> Result<Net, FlatError>
+// The flat net of a program, or why it has none.
+fn made(alloc: Global, placed: &Placed, clocks: &[NodeClock]) -> Result<Net, FlatError>
     requires { AreClocked placed.now.nodes clocks.now }
+    ensures proper { AreProper placed.now.nodes }
     ensures ok { IfOk result (IsFlatNet placed.now.nodes clocks.now) }
     ensures bits { IfOk result (λ net. net_bits net ≤ limit_number lim.Bits) }
     ensures refused { IfErr result (RefusesFlat placed.now.nodes clocks.now) }
 {
-    let extents = extents(alloc, placed, clocks)?;
     let main = placed.nodes() - 1;
+    let extents = extents(alloc, placed, clocks)?;
     let results = placed.node(main).results.list().len() as u64;
     if let Some(limit) = passed(extents[main as usize], results) {
         return Err(FlatError::Limit(limit));
@@ -127,8 +129,22 @@ pub fn flatten(alloc: Global, placed: &Placed, clocks: &[NodeClock]) -> Result<N
         extents: &extents,
     };
     let net = assemble(alloc, drafts(alloc, program, main)?)?;
+    net_words_are_stored(&net);
     if all_bits(&net) > Limit::Bits.number() {
         return Err(FlatError::Limit(Limit::Bits));
     }
     Ok(net)
+}
+
+/// The flat net of a program, whose nodes have words that keep their clock rules, and the sizes of their buffers. A limit
+/// comes where it is passed, in the order `Actors`, `Rings`, `Slots`, `Word`, `Bits`.
+pub fn flatten(alloc: Global, placed: &Placed, clocks: &[NodeClock]) -> Result<Net, FlatError>
+    requires { AreClocked placed.now.nodes clocks.now }
+    ensures ok { IfOk result (IsFlatNet placed.now.nodes clocks.now) }
+    ensures bits { IfOk result (λ net. net_bits net ≤ limit_number lim.Bits) }
+    ensures refused { IfErr result (RefusesFlat placed.now.nodes clocks.now) }
+    ensures accepted { (net : Flat) → IsFlatNet placed.now.nodes clocks.now net → net_bits net ≤ limit_number lim.Bits → MatchResult result (λ got. got ≡ net) (λ e. e ≡ err.OutOfMemory) }
+    ensures limit { (l : Which) → RefusesFlat placed.now.nodes clocks.now (err.Limit l) → MatchResult result (λ net. ⊥) (λ e. (e ≡ err.OutOfMemory) ⊎ (e ≡ err.Limit l)) }
+{
+    made(alloc, placed, clocks)
 }

@@ -20,7 +20,7 @@ mod NodeParts
 mod NodeFaults
 mod NameLaws
 mod ProperNodes
-mod ProperPrograms
+pub mod ProperPrograms
 mod OperatorLaws
 mod WrittenPhrases
 mod NamedPhrases

@@ -8,25 +8,32 @@ use Rattle.lucy_cause.specs.Play.{IsPlayed, IsReady}
 use Rattle.lucy_cause.specs.Waiting.{IsKnot}
 use Rattle.lucy_cause.specs.Settling.{IsInstantPlayed}
 use Rattle.lucy_cause.specs.Faults.{rows_of, item_now}
-use Rattle.lucy_cause.proofs.RowLaws.{row_at, orders_push, knot_actors, first_cycle}
+use Rattle.lucy_cause.proofs.RowLaws.{row_at, orders_push, knot_actors, turned_actors, first_cycle}
 use Rattle.lucy_cause.proofs.play.play_rows.Goals as goal
 
 pub play_instant-requires-clause-firing : goal.play_instant-requires-clause-firing
 play_instant-requires-clause-firing c = c.deref.ensures.value ∙ c.requires.agenda c.loop-before.before c.index-agenda-before.result.items (row_at c.args.agenda.now c.loop-before.before c.index-agenda-before.result (omega arith) c.index-agenda-before.is)
 
+pub turn_to_least-requires : goal.turn_to_least-requires
+turn_to_least-requires c =
+    let stuck : IsPlayed c.args.net.now c.loop-before.before c.play_instant.new.order.items c.play_instant.new.steps c.play_instant.new.held × IsKnot c.args.net.now c.loop-before.before c.play_instant.new.steps c.play_instant.new.held c.in-Stuck.waits.items =
+    subst (λ (s : Settled). IsInstantPlayed c.args.net.now c.loop-before.before c.play_instant.new.order.items c.play_instant.new.steps c.play_instant.new.held c.play_instant.new.depth s) c.in-Stuck.is c.in_ok-settled.ensures in
+    stuck.1.some
+
 pub items_of-requires : goal.items_of-requires
 items_of-requires c =
     let stuck : IsPlayed c.args.net.now c.loop-before.before c.play_instant.new.order.items c.play_instant.new.steps c.play_instant.new.held × IsKnot c.args.net.now c.loop-before.before c.play_instant.new.steps c.play_instant.new.held c.in-Stuck.waits.items =
     subst (λ (s : Settled). IsInstantPlayed c.args.net.now c.loop-before.before c.play_instant.new.order.items c.play_instant.new.steps c.play_instant.new.held c.play_instant.new.depth s) c.in-Stuck.is c.in_ok-settled.ensures in
-    subst (λ (ws : List Wait). All (λ (w : Wait). w.actor < length c.args.net.now.actors) ws) (sym c.deref-in-Stuck.ensures.value) (knot_actors c.args.net.now c.loop-before.before c.play_instant.new.steps c.play_instant.new.held c.in-Stuck.waits.items stuck.1)
+    subst (λ (ws : List Wait). All (λ (w : Wait). w.actor < length c.args.net.now.actors) ws) (sym c.deref-in-Stuck.ensures.value)
+    (turned_actors c.args.net.now c.in-Stuck.waits.items c.turn_to_least.new.waits.items c.turn_to_least.ensures (knot_actors c.args.net.now c.loop-before.before c.play_instant.new.steps c.play_instant.new.held c.in-Stuck.waits.items stuck.1))
 
 pub returns-in-Stuck-clause-refused : goal.returns-in-Stuck-clause-refused
 returns-in-Stuck-clause-refused c =
     let stuck : IsPlayed c.args.net.now c.loop-before.before c.play_instant.new.order.items c.play_instant.new.steps c.play_instant.new.held × IsKnot c.args.net.now c.loop-before.before c.play_instant.new.steps c.play_instant.new.held c.in-Stuck.waits.items =
     subst (λ (s : Settled). IsInstantPlayed c.args.net.now c.loop-before.before c.play_instant.new.order.items c.play_instant.new.steps c.play_instant.new.held c.play_instant.new.depth s) c.in-Stuck.is c.in_ok-settled.ensures in (
       omega arith,
-      first_cycle c.args.net.now c.loop-before.before c.play_instant.new.order.items c.play_instant.new.steps c.play_instant.new.held c.in-Stuck.waits.items (rows_of c.loop-before.orders.items) (map _ c.in_ok-items.items.items) c.requires.proper stuck.0 stuck.1
-          c.loop-before.invariant.orders (length-map c.loop-before.orders.items _ ∙ c.loop-before.invariant.count) (c.in_ok-items.ensures ∙ ap (map (λ (w : Wait). item_now c.args.net.now (c.loop-before.before + 1) w.actor)) c.deref-in-Stuck.ensures.value),
+      first_cycle c.args.net.now c.loop-before.before c.play_instant.new.order.items c.play_instant.new.steps c.play_instant.new.held c.in-Stuck.waits.items c.turn_to_least.new.waits.items (rows_of c.loop-before.orders.items) (map _ c.in_ok-items.items.items) c.requires.proper stuck.0 stuck.1
+          c.turn_to_least.ensures c.loop-before.invariant.orders (length-map c.loop-before.orders.items _ ∙ c.loop-before.invariant.count) (c.in_ok-items.ensures ∙ ap (map (λ (w : Wait). item_now c.args.net.now (c.loop-before.before + 1) w.actor)) c.deref-in-Stuck.ensures.value),
     )
 
 pub loop-before-preserved : goal.loop-before-preserved
