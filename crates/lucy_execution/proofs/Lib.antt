@@ -1,0 +1,5 @@
+pub mod HorizonLaws
+pub mod NetLaws
+pub mod StreamLaws
+pub mod ClockLaws
+pub mod OutputLaws

@@ -1,0 +1,42 @@
+// How many instants the items of the inputs allow.
+ghost use Rattle.std.specs.Prelude.{◌≡◌, ◌≤◌, ◌<◌, ◌+◌, ◌^◌, ◌↔◌, ℕ, length, IsTrue};
+ghost use Rattle.lucy_word.specs.Bits.{ones_to};
+ghost use Rattle.lucy_meaning.specs.Horizons.{Suffice, IsHorizon};
+
+use lucy_host::Inputs;
+use lucy_word::Word;
+
+// The last instant, up to the most, up to which the word has no more ones than the list has items.
+fn last_within(word: &Word, list: &[i64], most: u64) -> u64
+    ensures within { result ≤ most }
+    ensures exact { (t : ℕ) → t ≤ most → (ones_to word.now t ≤ length list.now) ↔ (t ≤ result) }
+{
+    match word.index(list.len() as u64 + 1) {
+        Some(place) => most.min(place - 1),
+        None => most,
+    }
+}
+
+/// The horizon: the greatest number of instants, up to the most, that the items of the inputs allow, an input for each word.
+/// It takes one step for each input.
+pub fn horizon(words: &[Word], inputs: &Inputs, most: u64) -> u64
+    requires inputs { length inputs.now ≡ length words.now }
+    requires few { length words.now < 2 ^ 32 }
+    ensures { IsHorizon words.now inputs.now most result }
+{
+    let mut last = most;
+    'each: for (i, word) in words.iter().enumerate() {
+        last = last_within(word, inputs.list(i as u32), last);
+    }
+    last
+}
+
+/// Whether the items of the inputs, an input for each word, allow more instants than so many.
+pub fn allows_more(words: &[Word], inputs: &Inputs, most: u64) -> bool
+    requires inputs { length inputs.now ≡ length words.now }
+    requires few { length words.now < 2 ^ 32 }
+    requires most { most + 1 < 2 ^ 64 }
+    ensures { IsTrue result ↔ Suffice words.now inputs.now (most + 1) }
+{
+    horizon(words, inputs, most + 1) > most
+}

@@ -1,0 +1,62 @@
+// What holds of the output streams of every program whose flat net has a sound schedule. The bodies are empty: the contracts
+// are laws.
+ghost use Rattle.std.specs.Prelude.{ℕ, ◌≡◌, ◌≤◌, List, [], ℤ, Some, length, map, take, slice_get};
+ghost use Rattle.lucy_word.specs.Bits.{ones_to};
+ghost use Rattle.lucy_host.specs.declared.kind.HostKind.{HostKind};
+ghost use Rattle.lucy_host.specs.Operators.{Operator, kinds_of};
+ghost use Rattle.lucy_event.specs.Plans.{GiveBelow};
+ghost use Rattle.lucy_place.specs.declared.placed.PlacedNode.{PlacedNode as Node};
+ghost use Rattle.lucy_place.specs.Proper.{AreProper, HaveOperators};
+ghost use Rattle.lucy_clock.specs.declared.node_clock.NodeClock.{NodeClock as Clock};
+ghost use Rattle.lucy_net.specs.declared.net.Actor.{Actor};
+ghost use Rattle.lucy_net.specs.declared.net.Net.{Net as Flat};
+ghost use Rattle.lucy_net.specs.Plans.{plan};
+ghost use Rattle.lucy_net.specs.Schedules.{IsSound};
+ghost use Rattle.lucy_cause.specs.Schedules.{Timetable, events_at};
+ghost use Rattle.lucy_core.specs.Seen.{Seen, IsFixed, IsOutputOf, first_ring, stream_of};
+ghost use Rattle.lucy_meaning.specs.Spots.{at, main_of, results_in};
+ghost use Rattle.lucy_meaning.specs.Sizes.{all_places};
+ghost use Rattle.lucy_meaning.specs.Horizons.{Suffice};
+ghost use Rattle.lucy_meaning.specs.Kahn.{kahn};
+ghost use Rattle.lucy_kahn.specs.Turns.{params_in};
+ghost use Rattle.lucy_flat.specs.Flat.{IsFlat};
+ghost use Rattle.lucy_execution.specs.Streams.{main_word, param_words, result_words, main_streams, cut_inputs};
+ghost use Rattle.lucy_execution.specs.Running.{HasSchedule, turns_of};
+
+/// A core can be made of the flat net of a program with a sound schedule, of inputs with the items of the horizon and of the
+/// operators that the program names. Only the actors of its instance places give.
+pub fn nets_can_be_run()
+    ensures fixed { (nodes : List Node) (clocks : List Clock) (net : Flat) (schedule : Timetable) (inputs : List (List ℤ)) (operators : List Operator) (instants : ℕ) →
+        AreProper nodes → HaveOperators (length operators) nodes → IsFlat nodes clocks net → IsSound net (events_at schedule) →
+        Suffice (param_words nodes clocks) inputs instants → instants ≤ 1048576 →
+        IsFixed net schedule inputs operators instants }
+    ensures givers { (nodes : List Node) (clocks : List Clock) (net : Flat) (instants : ℕ) → AreProper nodes → IsFlat nodes clocks net → GiveBelow (plan net instants) (all_places nodes) }
+{}
+
+/// Each output stream has as many items as its word has ones up to the horizon.
+pub fn streams_are_whole()
+    ensures { (kinds : List HostKind) (inputs : List (List ℤ)) (nodes : List Node) (clocks : List Clock) (instants : ℕ) →
+        AreProper nodes → HasSchedule nodes clocks → Suffice (param_words nodes clocks) inputs instants →
+        map length (main_streams kinds inputs nodes clocks instants) ≡ map (λ word. ones_to word instants) (result_words nodes clocks) }
+{}
+
+/// The items of the horizon suffice for it, and give the output streams.
+pub fn streams_need_no_more()
+    ensures suffice { (inputs : List (List ℤ)) (nodes : List Node) (clocks : List Clock) (instants : ℕ) →
+        params_in (main_of nodes) ≡ length inputs → Suffice (param_words nodes clocks) inputs instants →
+        Suffice (param_words nodes clocks) (cut_inputs nodes clocks inputs instants) instants }
+    ensures same { (kinds : List HostKind) (inputs : List (List ℤ)) (nodes : List Node) (clocks : List Clock) (instants : ℕ) →
+        AreProper nodes → HasSchedule nodes clocks → params_in (main_of nodes) ≡ length inputs → Suffice (param_words nodes clocks) inputs instants →
+        main_streams kinds (cut_inputs nodes clocks inputs instants) nodes clocks instants ≡ main_streams kinds inputs nodes clocks instants }
+{}
+
+/// The stream of an output of the flat net, cut at the horizon, is what the plain interpreter has of its result from the items
+/// of the horizon.
+pub fn two_ways_agree()
+    ensures { (seen : Seen) (nodes : List Node) (clocks : List Clock) (i place a : ℕ) (actor : Actor) →
+        AreProper nodes → IsFlat nodes clocks seen.net → IsSound seen.net (events_at seen.schedule) →
+        params_in (main_of nodes) ≡ length seen.inputs → Suffice (param_words nodes clocks) seen.inputs seen.instants →
+        slice_get (results_in (main_of nodes)) i ≡ Some place → IsOutputOf seen.net i a actor →
+        take (ones_to actor.firing seen.instants) (stream_of seen (all_places nodes) (first_ring actor))
+        ≡ take (ones_to (main_word nodes clocks place) seen.instants) (kahn (kinds_of seen.operators) (cut_inputs nodes clocks seen.inputs seen.instants) nodes (turns_of nodes seen.instants) (at [] place)) }
+{}
