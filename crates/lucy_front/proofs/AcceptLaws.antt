@@ -16,10 +16,10 @@ use Rattle.lucy_front.specs.declared.clocking.NodeFault.{NodeFault}
 use Rattle.lucy_front.specs.declared.clocking.NodeFault.TheVariants.{NotWritten, Check, Limit, OutOfMemory}
 use Rattle.lucy_front.specs.declared.clocking.Unclocked.{Unclocked as FirstUnclocked}
 use Rattle.lucy_front.specs.Clocked.{IsUnclocked}
-use Rattle.lucy_front.specs.Accepting.{IsTypedText, Refuses, syntax_refusal, names_refusal}
+use Rattle.lucy_front.specs.Accepting.{IsTypedText, RefusesPhases, syntax_refusal, names_refusal}
 use Rattle.lucy_front.specs.Clocking.{Refused, TellsSpan, RefusesNodes, fault_refusal, clock_refusal}
 
-pub syntax_refuses : (ops : List Operator) (text : List ℕ) (e : SyntaxError) → (e ≡ syntax.OutOfMemory) ⊎ IsRefused text e → Refuses ops text (syntax_refusal e)
+pub syntax_refuses : (ops : List Operator) (text : List ℕ) (e : SyntaxError) → (e ≡ syntax.OutOfMemory) ⊎ IsRefused text e → RefusesPhases ops text (syntax_refusal e)
 syntax_refuses ops text (syntax.Unexpected place) (inl f) = absurd (cc f)
 syntax_refuses ops text (syntax.Unexpected place) (inr h) = (h, tt)
 syntax_refuses ops text (syntax.BadNumber place) (inl f) = absurd (cc f)
@@ -30,7 +30,7 @@ syntax_refuses ops text (syntax.TooLarge l) (inl f) = absurd (cc f)
 syntax_refuses ops text (syntax.TooLarge l) (inr h) = inl h
 syntax_refuses ops text syntax.OutOfMemory h = tt
 
-pub names_refuse : (ops : List Operator) (text : List ℕ) (p : ProgramTree) (e : NameError) → HasTree text p → Tells (faults ops p) e → Refuses ops text (names_refusal e)
+pub names_refuse : (ops : List Operator) (text : List ℕ) (p : ProgramTree) (e : NameError) → HasTree text p → Tells (faults ops p) e → RefusesPhases ops text (names_refusal e)
 names_refuse ops text p (names.Unknown span) read (inl f) = absurd (cc f)
 names_refuse ops text p (names.Unknown span) read (inr h) = (p, read, h, tt)
 names_refuse ops text p (names.Twice span) read (inl f) = absurd (cc f)
@@ -46,11 +46,11 @@ names_refuse ops text p (names.TooMany l) read (inr h) = inr (inl (p, read, h))
 names_refuse ops text p names.OutOfMemory read h = tt
 
 fault_refuses : (ops : List Operator) (text : List ℕ) (placed : PlacedProgram) (tables : List (List Ty)) (node : ℕ) (fault : NodeFault) → IsTypedText ops text placed tables → TellsSpan placed node fault →
-    IsUnclocked placed.nodes node (Refused fault) → Refuses ops text (fault_refusal placed node fault)
+    IsUnclocked placed.nodes node (Refused fault) → RefusesPhases ops text (fault_refusal placed node fault)
 fault_refuses ops text placed tables node (NotWritten span) typed told is = (told, (tables, typed, is))
 fault_refuses ops text placed tables node (Check needs e) typed told is = (tables, typed, is)
 fault_refuses ops text placed tables node (Limit l) typed told is = inr (inr (placed, node, (tables, typed, is)))
 fault_refuses ops text placed tables node OutOfMemory typed told is = tt
 
-pub clocks_refuse : (ops : List Operator) (text : List ℕ) (placed : PlacedProgram) (tables : List (List Ty)) (u : FirstUnclocked) → IsTypedText ops text placed tables → RefusesNodes placed u → Refuses ops text (clock_refusal placed u)
+pub clocks_refuse : (ops : List Operator) (text : List ℕ) (placed : PlacedProgram) (tables : List (List Ty)) (u : FirstUnclocked) → IsTypedText ops text placed tables → RefusesNodes placed u → RefusesPhases ops text (clock_refusal placed u)
 clocks_refuse ops text placed tables u typed h = fault_refuses ops text placed tables u.node u.fault typed h.0 h.1

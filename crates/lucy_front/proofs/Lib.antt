@@ -2,5 +2,16 @@ mod SizeLaws
 mod ClockedLaws
 mod MoreClocks
 mod ReportLaws
+mod ItemLaws
 mod AcceptLaws
-mod TellableLaws
+pub mod TellableLaws
+mod OneClock
+mod OneNode
+mod OneUnclocked
+pub mod OneAnswer
+pub mod OneAccepted
+mod EndLaws
+mod ItemNames
+mod CauseLaws
+mod StreamLaws
+mod ScheduledLaws

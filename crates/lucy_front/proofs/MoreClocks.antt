@@ -12,7 +12,8 @@ use Rattle.lucy_place.specs.Proper.{IsProperNode, AreProper}
 use Rattle.lucy_clock.specs.declared.signature.Signature.{Signature}
 use Rattle.lucy_clock.specs.declared.node_clock.NodeClock.{NodeClock}
 use Rattle.lucy_clock.specs.Clocks.{AreSignatures}
-use Rattle.lucy_front.specs.Clocked.{ports, signatures, IsClocked, AreClocked}
+use Rattle.lucy_clock.specs.NodeClocks.{ports, signatures}
+use Rattle.lucy_front.specs.Clocked.{IsClocked, AreClocksOf}
 
 -- the signatures are those of the nodes
 pub signatures_count : (nodes : List PlacedNode) (clocks : List NodeClock) → length clocks ≡ length nodes → length (signatures nodes clocks) ≡ length nodes
@@ -27,7 +28,7 @@ signature_at (m ∷ nodes) [] i n s at of = absurd (cc of)
 signature_at (m ∷ nodes) (c ∷ clocks) zero n s at of = (c, refl, ap (λ x. ports x c) (sym (same_Some m n at)) ∙ same_Some (ports m c) s of)
 signature_at (m ∷ nodes) (c ∷ clocks) (suc i) n s at of = signature_at nodes clocks i n s at of
 
-pub signatures_are : (nodes : List PlacedNode) (clocks : List NodeClock) → AreProper nodes → AreClocked nodes clocks → AreSignatures nodes (signatures nodes clocks)
+pub signatures_are : (nodes : List PlacedNode) (clocks : List NodeClock) → AreProper nodes → AreClocksOf nodes clocks → AreSignatures nodes (signatures nodes clocks)
 signatures_are nodes clocks proper are = record {
   all = signatures_count nodes clocks are.all;
   params = λ i n s at of.
@@ -51,14 +52,14 @@ signatures_join [] (d ∷ clocks) n c same = absurd (omega (arith, same))
 signatures_join (m ∷ nodes) [] n c same = absurd (omega (arith, same))
 signatures_join (m ∷ nodes) (d ∷ clocks) n c same = ap (λ l. ports m d ∷ l) (signatures_join nodes clocks n c (omega (arith, same)))
 
-get_back : {A : Type 0} (xs : List A) (x : A) (i : ℕ) (y : A) → slice_get (xs ++ x ∷ []) i ≡ Some y → (slice_get xs i ≡ Some y) ⊎ ((i ≡ length xs) × (x ≡ y))
+pub get_back : {A : Type 0} (xs : List A) (x : A) (i : ℕ) (y : A) → slice_get (xs ++ x ∷ []) i ≡ Some y → (slice_get xs i ≡ Some y) ⊎ ((i ≡ length xs) × (x ≡ y))
 get_back [] x zero y e = inr (refl, same_Some x y e)
 get_back [] x (suc i) y e = absurd (cc e)
 get_back (z ∷ xs) x zero y e = inl e
 get_back (z ∷ xs) x (suc i) y e = elim (get_back xs x i y e) [ inl f ↦ inl f | inr f ↦ inr (ap suc f.0, f.1) ]
 
 -- all before the next one
-module _ (nodes : List PlacedNode) (node : ℕ) (clocks more : List NodeClock) (n : PlacedNode) (c : NodeClock) (at : slice_get nodes node ≡ Some n) (are : AreClocked (take node nodes) clocks) (e : more ≡ clocks ++ c ∷ []) where
+module _ (nodes : List PlacedNode) (node : ℕ) (clocks more : List NodeClock) (n : PlacedNode) (c : NodeClock) (at : slice_get nodes node ≡ Some n) (are : AreClocksOf (take node nodes) clocks) (e : more ≡ clocks ++ c ∷ []) where
   below : node < length nodes
   below = slice_get_within nodes node n at
 
@@ -100,14 +101,14 @@ module _ (nodes : List PlacedNode) (node : ℕ) (clocks more : List NodeClock) (
             (subst (λ s. IsClocked s m d) last_same (subst (λ x. IsClocked (signatures (take node nodes) clocks) x d) one (subst (IsClocked (signatures (take node nodes) clocks) n) f.1 clocked)))
       ]
 
-  pub clocked_push : IsClocked (signatures (take node nodes) clocks) n c → AreClocked (take (node + 1) nodes) more
+  pub clocked_push : IsClocked (signatures (take node nodes) clocks) n c → AreClocksOf (take (node + 1) nodes) more
   clocked_push clocked = record {
     all = (let a = ap length e in let b = length_push clocks c in let d = length-take-le (node + 1) nodes (omega (arith, below)) in omega (arith, count));
     each = each clocked;
   }
 
 -- no clocks of no nodes
-pub clocked_none : (nodes : List PlacedNode) (clocks : List NodeClock) → clocks ≡ [] → AreClocked (take 0 nodes) clocks
+pub clocked_none : (nodes : List PlacedNode) (clocks : List NodeClock) → clocks ≡ [] → AreClocksOf (take 0 nodes) clocks
 clocked_none nodes clocks e = record { all = ap length e; each = λ i n c at of. absurd (cc at) }
 
 -- the nodes above one are proper

@@ -14,17 +14,17 @@ use Rattle.lucy_check.specs.declared.fault.CheckFault.{CheckFault}
 use Rattle.lucy_check.specs.Passing.{PassesLimit, Refuses as RefusesNeed, IsFirstRefusal}
 use Rattle.lucy_front.specs.declared.accepted.Accepted.{Accepted}
 use Rattle.lucy_front.specs.declared.refusal.Refusal.{Refusal}
-use Rattle.lucy_front.specs.declared.refusal.Refusal.TheVariants.{Syntax, Names, Types, NotWritten, Check, Limit as LimitPassed, OutOfMemory}
+use Rattle.lucy_front.specs.declared.refusal.Refusal.TheVariants.{Syntax, Names, Types, NotWritten, Check, Cause, Limit as LimitPassed, OutOfMemory}
 use Rattle.lucy_front.specs.Clocked.{IsTold, IsUnclocked}
-use Rattle.lucy_front.specs.Accepting.{IsAccepted, Refuses, TellsClash}
+use Rattle.lucy_front.specs.Accepting.{IsAccepted, RefusesPhases, RefusesClocked, Refuses, TellsClash}
 use Rattle.lucy_front.specs.Report.{IsReportable}
 use Rattle.lucy_front.specs.Refusals.{NamesNode, NamesNeed, IsTellable}
 
 pub reportable : (ops : List Operator) (text : List ℕ) (a : Accepted) → IsAccepted ops text a → IsReportable a.placed.nodes a.typed a.clocks.items
 reportable ops text a is = record {
-  typed = is.program.typed;
-  all = is.clocks.all;
-  sizes = λ i n c at of. (is.clocks.each i n c at of).sizes.count;
+  typed = is.clocked.program.typed;
+  all = is.clocked.clocks.all;
+  sizes = λ i n c at of. (is.clocked.clocks.each i n c at of).sizes.count;
 }
 
 -- a clash is of a node that is there
@@ -52,13 +52,29 @@ first_there w needs e r told = need_there w needs r.number r.need e (slice_get_w
 node_there : (nodes : List PlacedNode) (node : ℕ) (P : List Signature → PlacedNode → Type 0) → IsUnclocked nodes node P → node < length nodes
 node_there nodes node P u = slice_get_within nodes node u.n u.stands
 
-pub tellable : (ops : List Operator) (text : List ℕ) (e : Refusal) → Refuses ops text e → IsTellable e
-tellable ops text (Syntax e) h = tt
-tellable ops text (Names e) h = tt
-tellable ops text (Types placed clash) h = clash_there placed.nodes clash h.1
-tellable ops text (NotWritten placed node span) h = node_there placed.nodes node _ h.1.2
-tellable ops text (Check placed node needs e) h =
+phase_tellable : (ops : List Operator) (text : List ℕ) (e : Refusal) → RefusesPhases ops text e → IsTellable e
+phase_tellable ops text (Syntax e) h = tt
+phase_tellable ops text (Names e) h = tt
+phase_tellable ops text (Types placed clash) h = clash_there placed.nodes clash h.1
+phase_tellable ops text (NotWritten placed node span) h = node_there placed.nodes node _ h.1.2
+phase_tellable ops text (Check placed node needs e) h =
     let failed = h.2.refused.3 in
     (node_there placed.nodes node _ h.2, subst (λ l. NamesNeed l e) (sym h.2.refused.2) (first_there (assigned failed.1) _ e failed.3 failed.4))
-tellable ops text (LimitPassed l) h = tt
-tellable ops text OutOfMemory h = tt
+phase_tellable ops text (Cause net names instant items) h = tt
+phase_tellable ops text (LimitPassed l) h = tt
+phase_tellable ops text OutOfMemory h = tt
+
+-- a refusal for the net is of a limit or of a cycle
+net_tellable : (ops : List Operator) (text : List ℕ) (e : Refusal) → RefusesClocked ops text e → IsTellable e
+net_tellable ops text (Syntax e) h = absurd h.refused
+net_tellable ops text (Names e) h = absurd h.refused
+net_tellable ops text (Types placed clash) h = absurd h.refused
+net_tellable ops text (NotWritten placed node span) h = absurd h.refused
+net_tellable ops text (Check placed node needs e) h = absurd h.refused
+net_tellable ops text (Cause net names instant items) h = tt
+net_tellable ops text (LimitPassed l) h = tt
+net_tellable ops text OutOfMemory h = tt
+
+pub tellable : (ops : List Operator) (text : List ℕ) (e : Refusal) → Refuses ops text e → IsTellable e
+tellable ops text e (inl h) = phase_tellable ops text e h
+tellable ops text e (inr h) = net_tellable ops text e h

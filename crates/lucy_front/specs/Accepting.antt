@@ -18,14 +18,17 @@ use Rattle.lucy_types.specs.declared.error.TypeError.{TypeError}
 use Rattle.lucy_types.specs.declared.error.TypeError.TheVariants as types
 use Rattle.lucy_types.specs.Programs.{IsTyped, IsClash}
 use Rattle.lucy_clock.specs.declared.signature.Signature.{Signature}
+use Rattle.lucy_clock.specs.declared.node_clock.NodeClock.{NodeClock}
 use Rattle.lucy_clock.specs.Clocks.{clocks_of}
 use Rattle.lucy_clock.specs.Listing.{needs_of}
 use Rattle.lucy_need.specs.declared.need.Needs.{Needs}
 use Rattle.lucy_check.specs.declared.fault.CheckFault.{CheckFault}
+use Rattle.lucy_cause.specs.Schedules.{IsScheduleOf}
 use Rattle.lucy_front.specs.declared.accepted.Accepted.{Accepted}
 use Rattle.lucy_front.specs.declared.refusal.Refusal.{Refusal}
-use Rattle.lucy_front.specs.declared.refusal.Refusal.TheVariants.{Syntax, Names, Types, NotWritten, Check, Limit as LimitPassed, OutOfMemory}
-use Rattle.lucy_front.specs.Clocked.{AreClocked, PassesLimit, FailsCheck, IsUnclocked}
+use Rattle.lucy_front.specs.declared.refusal.Refusal.TheVariants.{Syntax, Names, Types, NotWritten, Check, Cause, Limit as LimitPassed, OutOfMemory}
+use Rattle.lucy_front.specs.Clocked.{AreClocksOf, PassesLimit, FailsCheck, IsUnclocked}
+use Rattle.lucy_front.specs.Scheduled.{inputs_of, outputs_of, IsNetOf, RefusesNet}
 
 -- the text has this tree, whose names are good where the host has these operators, and these are its places
 pub record IsPlacedText (ops : List Operator) (text : List ℕ) (placed : PlacedProgram) : Type 0 where
@@ -38,10 +41,19 @@ pub record IsTypedText (ops : List Operator) (text : List ℕ) (placed : PlacedP
   pub program : IsPlacedText ops text placed
   pub typed : IsTyped placed.nodes tables
 
--- the text is accepted as this: its places, their types, and the clocks of its nodes
+-- and clocks
+pub record IsClockedText (ops : List Operator) (text : List ℕ) (placed : PlacedProgram) (tables : List (List Ty)) (node_clocks : List NodeClock) : Type 0 where
+  pub program : IsTypedText ops text placed tables
+  pub clocks : AreClocksOf placed.nodes node_clocks
+
+-- the text is accepted as this: its places, their types, and the clocks of its nodes, its flat net and a sound schedule of that,
+-- its inputs and its outputs
 pub record IsAccepted (ops : List Operator) (text : List ℕ) (a : Accepted) : Type 0 where
-  pub program : IsTypedText ops text a.placed a.typed
-  pub clocks : AreClocked a.placed.nodes a.clocks.items
+  pub clocked : IsClockedText ops text a.placed a.typed a.clocks.items
+  pub net : IsNetOf a.placed.nodes a.clocks.items a.net
+  pub schedule : IsScheduleOf a.net a.schedule
+  pub inputs : a.inputs.items ≡ inputs_of a.placed.nodes a.typed
+  pub outputs : a.outputs.items ≡ outputs_of a.placed.nodes a.typed a.clocks.items
 
 -- the refusal of a syntax, and of names, that is none of a limit
 abbrev pub IsSyntax : SyntaxError → Type 0
@@ -71,19 +83,32 @@ NodePasses l above n = IsWritten n × PassesLimit above n l
 abbrev pub NodeFails : Needs → CheckFault → List Signature → PlacedNode → Type 0
 NodeFails needs e above n = IsWritten n × (needs.clocks ≡ clocks_of n) × (needs.list ≡ needs_of above n) × FailsCheck above n e
 
--- why a text is refused: first for its syntax, then for its names, then for the types of all nodes, and then node by node (of a
--- limit the number alone is told)
-abbrev pub Refuses : List Operator → List ℕ → Refusal → Type 0
-Refuses ops text (Syntax e) = IsRefused text e × IsSyntax e
-Refuses ops text (Names e) = (p : ProgramTree) × HasTree text p × IsFirst (faults ops p) e × IsName e
-Refuses ops text (Types placed clash) = IsPlacedText ops text placed × TellsClash placed.nodes clash
-Refuses ops text (NotWritten placed node span) = (slice_get placed.unwritten node ≡ Some (Some span)) × Unclocked ops text placed node (λ above n. IsWritten n → ⊥)
-Refuses ops text (Check placed node needs e) = Unclocked ops text placed node (NodeFails needs e)
-Refuses ops text (LimitPassed l) =
+-- why the phases refuse a text: first for its syntax, then for its names, then for the types of all nodes, and then node by node
+-- (of a limit the number alone is told)
+abbrev pub RefusesPhases : List Operator → List ℕ → Refusal → Type 0
+RefusesPhases ops text (Syntax e) = IsRefused text e × IsSyntax e
+RefusesPhases ops text (Names e) = (p : ProgramTree) × HasTree text p × IsFirst (faults ops p) e × IsName e
+RefusesPhases ops text (Types placed clash) = IsPlacedText ops text placed × TellsClash placed.nodes clash
+RefusesPhases ops text (NotWritten placed node span) = (slice_get placed.unwritten node ≡ Some (Some span)) × Unclocked ops text placed node (λ above n. IsWritten n → ⊥)
+RefusesPhases ops text (Check placed node needs e) = Unclocked ops text placed node (NodeFails needs e)
+RefusesPhases ops text (Cause net names instant items) = ⊥
+RefusesPhases ops text (LimitPassed l) =
     IsRefused text (syntax.TooLarge l)
     ⊎ ((p : ProgramTree) × HasTree text p × IsFirst (faults ops p) (names.TooMany l))
     ⊎ ((placed : PlacedProgram) × (node : ℕ) × Unclocked ops text placed node (NodePasses l))
-Refuses ops text OutOfMemory = Unit {0}
+RefusesPhases ops text OutOfMemory = Unit {0}
+
+-- the text has places, types and clocks, and the net that is made of them is refused so
+pub record RefusesClocked (ops : List Operator) (text : List ℕ) (e : Refusal) : Type 0 where
+  pub placed : PlacedProgram
+  pub tables : List (List Ty)
+  pub node_clocks : List NodeClock
+  pub clocked : IsClockedText ops text placed tables node_clocks
+  pub refused : RefusesNet placed.nodes node_clocks e
+
+-- why a text is refused: by a phase, or after all of them for its net
+abbrev pub Refuses : List Operator → List ℕ → Refusal → Type 0
+Refuses ops text e = RefusesPhases ops text e ⊎ RefusesClocked ops text e
 
 -- the refusal where the syntax, or the names, are refused so
 abbrev pub syntax_refusal : SyntaxError → Refusal

@@ -1,34 +1,22 @@
 -- The clocks of the nodes of a program, one for each clock of a node, and why a node has none.
-use Rattle.std.specs.Prelude.{ℕ, ◌≤◌, ◌≡◌, ◌⊎◌, List, [], ◌∷◌, Some, length, map, take, drop, slice_get}
+use Rattle.std.specs.Prelude.{ℕ, ◌≤◌, ◌≡◌, ◌⊎◌, List, Some, length, take, slice_get}
 use Rattle.lucy_word.specs.Bits.{Bits}
 use Rattle.lucy_word.specs.Limits.{limit_number}
 use Rattle.lucy_word.specs.declared.limit.Limit.{Limit}
 use Rattle.lucy_word.specs.declared.limit.Limit.TheVariants as limit
-use Rattle.lucy_word.specs.Adaptable.{IsSize}
-use Rattle.lucy_place.specs.declared.entry.PlaceKind.TheVariants.{Buffer}
 use Rattle.lucy_place.specs.declared.placed.PlacedNode.{PlacedNode}
-use Rattle.lucy_place.specs.Standing.{Stands}
 use Rattle.lucy_place.specs.WrittenNodes.{IsWritten}
 use Rattle.lucy_need.specs.Meeting.{assigned, all_bits, most_needs}
 use Rattle.lucy_clock.specs.declared.signature.Signature.{Signature}
 use Rattle.lucy_clock.specs.declared.node_clock.NodeClock.{NodeClock}
 use Rattle.lucy_clock.specs.declared.error.ClockError.TheVariants as error
+use Rattle.lucy_clock.specs.NodeClocks.{signatures, AreSizes}
 use Rattle.lucy_clock.specs.WellClocked.{IsWellClocked}
 use Rattle.lucy_clock.specs.Listing.{needs_of, RefusesNeeds}
 use Rattle.lucy_clock.specs.HandedDown.{AreWordsOf, IsWordTooLong, RefusesWords, word_bits}
 use Rattle.lucy_check.specs.declared.fault.CheckFault.{CheckFault}
 use Rattle.lucy_check.specs.declared.fault.CheckFault.TheVariants as fault
 use Rattle.lucy_check.specs.Passing.{AllWithinLimits, IsFirstRefusal}
-
--- what the callers of a node need of its clocks: the words of its parameters, which are its first places, and of its results
-abbrev pub ports : PlacedNode → NodeClock → Signature
-ports n c = record { params = take n.params (drop 1 c.words); results = map (assigned c.words) n.results }
-
--- of each of the nodes
-abbrev pub signatures : List PlacedNode → List NodeClock → List Signature
-signatures [] cs = []
-signatures (n ∷ ns) [] = []
-signatures (n ∷ ns) (c ∷ cs) = ports n c ∷ signatures ns cs
 
 -- the needs of a node pass no limit
 pub record AreFewNeeds (above : List Signature) (n : PlacedNode) : Type 0 where
@@ -45,12 +33,6 @@ pub record AreNodeWords (n : PlacedNode) (words : List Bits) : Type 0 where
   pub of : AreWordsOf n words
   pub few : AreFewWords n words
 
--- each buffer has its size: the greatest number of items that wait in it
-pub record AreSizes (n : PlacedNode) (c : NodeClock) : Type 0 where
-  pub count : length c.sizes ≡ length n.buffers
-  pub each : (i p k e size : ℕ) → slice_get n.buffers i ≡ Some p → slice_get c.sizes i ≡ Some size → Stands n p (Buffer k e) →
-      IsSize (assigned c.words e) (assigned c.words p) size
-
 -- the clocks of a written node, within all limits: by these words it is well clocked
 pub record IsClocked (above : List Signature) (n : PlacedNode) (c : NodeClock) : Type 0 where
   pub written : IsWritten n
@@ -61,7 +43,7 @@ pub record IsClocked (above : List Signature) (n : PlacedNode) (c : NodeClock) :
   pub sizes : AreSizes n c
 
 -- the clocks of nodes, each by the clocks of those above
-pub record AreClocked (nodes : List PlacedNode) (clocks : List NodeClock) : Type 0 where
+pub record AreClocksOf (nodes : List PlacedNode) (clocks : List NodeClock) : Type 0 where
   pub all : length clocks ≡ length nodes
   pub each : (i : ℕ) (n : PlacedNode) (c : NodeClock) → slice_get nodes i ≡ Some n → slice_get clocks i ≡ Some c →
       IsClocked (signatures (take i nodes) (take i clocks)) n c
@@ -86,7 +68,7 @@ FailsCheck above n e = AreFewNeeds above n × (words : List Bits) × AreNodeWord
 -- this node is refused so, and those above it have clocks
 pub record IsUnclocked (nodes : List PlacedNode) (node : ℕ) (Refuses : List Signature → PlacedNode → Type 0) : Type 0 where
   pub clocks : List NodeClock
-  pub above : AreClocked (take node nodes) clocks
+  pub above : AreClocksOf (take node nodes) clocks
   pub n : PlacedNode
   pub stands : slice_get nodes node ≡ Some n
   pub refused : Refuses (signatures (take node nodes) clocks) n

@@ -13,8 +13,9 @@ use Rattle.lucy_types.specs.declared.error.TypeError.TheVariants as types
 use Rattle.lucy_need.specs.declared.need.Need.{Need}
 use Rattle.lucy_check.specs.declared.fault.CheckFault.{CheckFault}
 use Rattle.lucy_check.specs.declared.fault.CheckFault.TheVariants as fault
+use Rattle.lucy_cause.specs.declared.error.Item.{Item}
 use Rattle.lucy_front.specs.declared.refusal.Refusal.{Refusal}
-use Rattle.lucy_front.specs.declared.refusal.Refusal.TheVariants.{Syntax, Names, Types, NotWritten, Check, Limit as LimitPassed, OutOfMemory}
+use Rattle.lucy_front.specs.declared.refusal.Refusal.TheVariants.{Syntax, Names, Types, NotWritten, Check, Cause, Limit as LimitPassed, OutOfMemory}
 use Rattle.lucy_front.specs.Names.{place_names}
 use Rattle.lucy_front.specs.Needs.{need_text}
 
@@ -87,6 +88,15 @@ check_line n needs (fault.Late need at) = of_one (λ x. need_line n x (late_end 
 check_line n needs (fault.Limit need l) = limit_line l
 check_line n needs fault.OutOfMemory = memory_line
 
+-- items that depend on each other, each by the name of its actor and its number, on a line of its own
+abbrev pub item_lines : List (List ℕ) → List Item → List ℕ
+item_lines [] items = []
+item_lines (name ∷ names) [] = []
+item_lines (name ∷ names) (item ∷ items) = codes "  " ++ (name ++ (codes "[" ++ (decimal item.number ++ (codes "]\n" ++ item_lines names items))))
+
+abbrev pub cause_lines : ℕ → List (List ℕ) → List Item → List ℕ
+cause_lines instant names items = codes "lucy: causality: instant " ++ (decimal instant ++ (codes "\n" ++ item_lines names items))
+
 -- the text of a refusal
 abbrev pub refusal_text : Refusal → List ℕ
 refusal_text (Syntax e) = syntax_line e
@@ -94,6 +104,7 @@ refusal_text (Names e) = name_fault_line e
 refusal_text (Types placed clash) = clash_lines placed.nodes clash
 refusal_text (NotWritten placed node span) = of_one (λ n. unwritten_line n span.from) (slice_get placed.nodes node)
 refusal_text (Check placed node needs e) = of_one (λ n. check_line n needs.list e) (slice_get placed.nodes node)
+refusal_text (Cause net names instant items) = cause_lines instant names.items items.items
 refusal_text (LimitPassed l) = limit_line l
 refusal_text OutOfMemory = memory_line
 

@@ -1,15 +1,20 @@
 // Acceptance, phase by phase.
-ghost use Rattle.std.specs.Prelude.{◌≡◌, ◌⊎◌, ◌<◌, length, IfOk, IfErr};
-ghost use Rattle.lucy_place.specs.PlacedProgram.{PlacedProgram as Program};
-ghost use Rattle.lucy_front.specs.Accepting.{IsAccepted, Refuses};
+ghost use Rattle.std.specs.Prelude.{◌≡◌, ◌⊎◌, ◌<◌, length, IfOk, IfErr, MatchResult};
+ghost use Rattle.lucy_front.specs.declared.accepted.Accepted.{Accepted as Program};
+ghost use Rattle.lucy_front.specs.declared.refusal.Refusal.{Refusal as Reason};
+ghost use Rattle.lucy_front.specs.declared.refusal.Refusal.TheVariants.{OutOfMemory};
+ghost use Rattle.lucy_flat.specs.Clocked.{AreClocked};
+ghost use Rattle.lucy_front.specs.Accepting.{IsClockedText, IsAccepted, RefusesPhases, Refuses};
+ghost use Rattle.lucy_front.specs.OneAnswer.{AreAlike};
 ghost use Rattle.lucy_front.specs.Report.{IsReportable};
 ghost use Rattle.lucy_front.specs.Refusals.{IsTellable};
 ghost use Rattle.lucy_front.specs.Clocking.{clock_refusal};
 
-use crate::accepted::Accepted;
+use crate::accepted::{Accepted, Clocked};
 use crate::clocking::{NodeFault, Unclocked, node_clocks};
 use crate::options::Options;
 use crate::refusal::Refusal;
+use crate::scheduling::scheduled;
 use lucy_host::Ops;
 use lucy_place::{Placed, place};
 use lucy_syntax::parse;
@@ -35,9 +40,9 @@ fn refusal(placed: Placed, unclocked: Unclocked) -> Refusal
 }
 
 // The phases in order, up to the first that refuses.
-fn phases(alloc: Global, text: &[u8], ops: &Ops) -> Result<Accepted, Refusal>
-    ensures ok { IfOk result (IsAccepted ops.now text.now) }
-    ensures refused { IfErr result (Refuses ops.now text.now) }
+fn phases(alloc: Global, text: &[u8], ops: &Ops) -> Result<Clocked, Refusal>
+    ensures ok { IfOk result (λ c. IsClockedText ops.now text.now c.placed c.typed c.clocks.items) }
+    ensures refused { IfErr result (RefusesPhases ops.now text.now) }
 {
     let program = parse(alloc, text)?;
     let placed = place(alloc, &program, ops)?;
@@ -47,7 +52,7 @@ fn phases(alloc: Global, text: &[u8], ops: &Ops) -> Result<Accepted, Refusal>
         Err(clash) => return Err(Refusal::Types { placed, clash }),
     };
     match node_clocks(alloc, &placed) {
-        Ok(clocks) => Ok(Accepted {
+        Ok(clocks) => Ok(Clocked {
             placed,
             typed,
             clocks,
@@ -56,10 +61,20 @@ fn phases(alloc: Global, text: &[u8], ops: &Ops) -> Result<Accepted, Refusal>
     }
 }
 
-/// The program of a text, where the host has these operators, with the types of its places and the clocks of its nodes, or why it is refused: first for its length
-/// and its syntax, then for its names, then for the types of all nodes; then node by node, where it isn't written, else where
-/// its needs pass a limit, else where a word that it hands down passes one, else where these words don't meet a need or where
-/// the checker passes a limit.
+// The phases, and then the net and its schedule.
+fn planned(alloc: Global, text: &[u8], ops: &Ops) -> Result<Accepted, Refusal>
+    ensures ok { IfOk result (IsAccepted ops.now text.now) }
+    ensures refused { IfErr result (Refuses ops.now text.now) }
+{
+    scheduled(alloc, phases(alloc, text, ops)?)
+}
+
+/// The program of a text, where the host has these operators, with the types of its places and the clocks of its nodes, its
+/// flat net with a schedule, and its inputs and outputs; or why it is refused: first for its length and its syntax, then for
+/// its names, then for the types of all nodes; then node by node, where it isn't written, else where its needs pass a limit,
+/// else where a word that it hands down passes one, else where these words don't meet a need or where the checker passes a
+/// limit; then for the limits of its net, in the order `Actors`, `Rings`, `Slots`, `Word`, `Bits`; then for those of the
+/// schedule, `Schedule` before `Events`; and at last where an item of the net reaches itself.
 ///
 /// The options say how clocks are inferred, which isn't done yet: each node has to be written.
 pub fn accept(
@@ -70,8 +85,11 @@ pub fn accept(
 ) -> Result<Accepted, Refusal>
     ensures ok { IfOk result (IsAccepted ops.now text.now) }
     ensures refused { IfErr result (Refuses ops.now text.now) }
+    ensures accepted { (a : Program) → IsAccepted ops.now text.now a → IfErr result (λ e. e ≡ OutOfMemory) }
+    ensures rejected { (r : Reason) → Refuses ops.now text.now r → (r ≡ OutOfMemory → ⊥) → MatchResult result (λ _. ⊥) (λ e. (e ≡ OutOfMemory) ⊎ AreAlike r e) }
+    ensures clocked { IfOk result (λ a. AreClocked a.placed.nodes a.clocks.items) }
     ensures reportable { IfOk result (λ a. IsReportable a.placed.nodes a.typed a.clocks.items) }
     ensures tellable { IfErr result IsTellable }
 {
-    phases(alloc, text, ops)
+    planned(alloc, text, ops)
 }

@@ -6,7 +6,8 @@ ghost use Rattle.lucy_place.specs.declared.placed.PlacedNode.{PlacedNode as Node
 ghost use Rattle.lucy_place.specs.Proper.{AreProper};
 ghost use Rattle.lucy_need.specs.Meeting.{assigned};
 ghost use Rattle.lucy_clock.specs.Clocks.{AreSignatures};
-ghost use Rattle.lucy_front.specs.Clocked.{ports, signatures, AreClocked, IsClocked, IsUnclocked};
+ghost use Rattle.lucy_clock.specs.NodeClocks.{ports, signatures};
+ghost use Rattle.lucy_front.specs.Clocked.{AreClocksOf, IsClocked, IsUnclocked};
 ghost use Rattle.lucy_front.specs.Clocking.{check_fault, RefusesNode, RefusesNodes};
 
 use lucy_check::{CheckFault, check};
@@ -70,8 +71,8 @@ impl From<OutOfMemory> for NodeFault {
     }
 }
 
-// One more entry of a list.
-fn push<T: Drop>(list: &mut Vec<T>, next: T) -> Result<(), AllocError>
+/// One more entry of a list.
+pub(crate) fn push<T: Drop>(list: &mut Vec<T>, next: T) -> Result<(), AllocError>
     ensures { OnOk result (list.new.items ≡ list.old.items ++ next ∷ []) }
 {
     list.push(next)?;
@@ -174,9 +175,9 @@ fn next_clock(
 ) -> Result<(), NodeFault>
     requires proper { AreProper placed.now.nodes }
     requires node { node < length placed.now.nodes }
-    requires clocked { AreClocked (take node placed.now.nodes) clocks.old.items }
+    requires clocked { AreClocksOf (take node placed.now.nodes) clocks.old.items }
     requires signatures { above.old.items ≡ signatures (take node placed.now.nodes) clocks.old.items }
-    ensures clocked { OnOk result (AreClocked (take (node + 1) placed.now.nodes) clocks.new.items) }
+    ensures clocked { OnOk result (AreClocksOf (take (node + 1) placed.now.nodes) clocks.new.items) }
     ensures signatures { OnOk result (above.new.items ≡ signatures (take (node + 1) placed.now.nodes) clocks.new.items) }
     ensures refused { (n : Node) → slice_get placed.now.nodes node ≡ Some n → IfErr result (RefusesNode placed.now node above.old.items n) }
 {
@@ -189,7 +190,7 @@ fn next_clock(
 
 /// The clocks of all nodes, or the first node that has none.
 pub(crate) fn node_clocks(alloc: Global, placed: &Placed) -> Result<Vec<NodeClock>, Unclocked>
-    ensures ok { IfOk result (λ clocks. AreClocked placed.now.nodes clocks.items) }
+    ensures ok { IfOk result (λ clocks. AreClocksOf placed.now.nodes clocks.items) }
     ensures refused { IfErr result (RefusesNodes placed.now) }
 {
     let mut above = Vec::new(alloc);

@@ -1,24 +1,31 @@
 //! Acceptance: what a program text comes to, phase by phase, or the first refusal; the report of an accepted program, and the
 //! text of each refusal.
 //!
-//! It stands on all phases: `lucy_syntax`, `lucy_place`, `lucy_types`, `lucy_clock` and `lucy_check`. Begin with `accept` in
-//! `accepting.rt` and with `specs/Clocked.antt` and `specs/Accepting.antt`.
+//! It stands on all phases: `lucy_syntax`, `lucy_place`, `lucy_types`, `lucy_clock`, `lucy_check`, `lucy_flat` and
+//! `lucy_cause`. Begin with `accept` in `accepting.rt` and with `specs/Clocked.antt`, `specs/Scheduled.antt` and
+//! `specs/Accepting.antt`; that a text has one answer stands in `specs/OneAnswer.antt`, with the laws of `laws.rt`.
 #![tactic(auto)]
 
 mod accepted;
 mod accepting;
 mod clocking;
+mod items;
+mod laws;
 mod names;
 mod options;
 mod printing;
 mod refusal;
+mod scheduling;
+mod streams;
 #[cfg(test)]
 mod tests;
 mod texts;
 
 pub use accepted::Accepted;
 pub use accepting::accept;
+pub use laws::{texts_have_one_answer, texts_have_one_program, texts_have_one_refusal};
+pub use names::node_line;
 pub use options::Options;
-pub use printing::report;
+pub use printing::{report, type_name};
 pub use refusal::Refusal;
 pub use texts::refusal_text;

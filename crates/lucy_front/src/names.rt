@@ -83,20 +83,16 @@ fn listed(names: &[Text], out: &mut Vec<u8>) -> Result<(), OutOfMemory>
     Ok(())
 }
 
-// The places of this many parameters.
-fn param_places(alloc: Global, params: u32) -> Result<Vec<u32>, OutOfMemory>
+/// The places of this many parameters.
+pub(crate) fn param_places(alloc: Global, params: u32) -> Result<Vec<u32>, OutOfMemory>
     requires { params ≤ most_places }
     ensures { IfOk result (λ v. v.items ≡ range_with_len 1 params) }
 {
     Ok((1..params + 1).collect(alloc)?)
 }
 
-/// `node NAME (PARAMS) = (RESULTS)`
-pub(crate) fn node_line(
-    alloc: Global,
-    node: &PlacedNode,
-    out: &mut Vec<u8>,
-) -> Result<(), OutOfMemory>
+/// Puts the first line of a node last: `node NAME (PARAMS) = (RESULTS)`.
+pub fn node_line(alloc: Global, node: &PlacedNode, out: &mut Vec<u8>) -> Result<(), OutOfMemory>
     requires { node.now.params ≤ most_places }
     ensures { OnOk result (out.new.items ≡ out.old.items ++ spec.node_line node.now) }
 {

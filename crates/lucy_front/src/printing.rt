@@ -34,8 +34,9 @@ fn clock_word(
     }
 }
 
-// A type, of a place of main or of another node.
-fn type_name(alloc: Global, main: bool, ty: Ty, out: &mut Vec<u8>) -> Result<(), OutOfMemory>
+/// Puts a type last, of a place of main or of another node: `int`, `bool`, or of an open type, which is `int` in main, `'` and the
+/// number of its class.
+pub fn type_name(alloc: Global, main: bool, ty: Ty, out: &mut Vec<u8>) -> Result<(), OutOfMemory>
     ensures { OnOk result (out.new.items ≡ out.old.items ++ spec.type_name main ty) }
 {
     match ty {

@@ -1,14 +1,20 @@
 // Why a program text is refused.
 ghost use Rattle.std.specs.Prelude.{◌≡◌};
+ghost use Rattle.lucy_front.specs.declared.refusal.Refusal.TheVariants.{OutOfMemory as NoMemory};
+ghost use Rattle.lucy_front.specs.Scheduled.{flat_refusal};
 ghost use Rattle.lucy_front.specs.Accepting.{syntax_refusal, names_refusal};
 
+use lucy_cause::Item;
 use lucy_check::CheckFault;
+use lucy_flat::FlatError;
 use lucy_need::Needs;
+use lucy_net::Net;
 use lucy_place::{NameError, Placed};
 use lucy_syntax::SyntaxError;
+use lucy_text::Text;
 use lucy_tree::Span;
 use lucy_types::TypeError;
-use lucy_word::Limit;
+use lucy_word::{Limit, OutOfMemory};
 
 /// Why a program text is refused. Nodes and needs count from 0.
 #[derive(Drop)]
@@ -34,6 +40,15 @@ pub enum Refusal {
         node: u32,
         needs: Needs,
         fault: CheckFault,
+    },
+    /// Items of the flat net depend on each other: each on the next one, and the last one on the first, which is of the least
+    /// actor. They are of this instant, which counts from 1, and no item of an earlier one reaches itself. There is a name for
+    /// each item, in the order of the items: that of its actor.
+    Cause {
+        net: Net,
+        names: Vec<Text>,
+        instant: u64,
+        items: Vec<Item>,
     },
     /// A limit is passed.
     Limit(Limit),
@@ -68,5 +83,24 @@ impl From<NameError> for Refusal {
             NameError::Arity(span) => Refusal::Names(NameError::Arity(span)),
             NameError::LaterNode(span) => Refusal::Names(NameError::LaterNode(span)),
         }
+    }
+}
+
+impl From<FlatError> for Refusal {
+    ghost from_gives = { λ error e. e ≡ flat_refusal error };
+
+    fn from(error: FlatError) -> Self {
+        match error {
+            FlatError::Limit(limit) => Refusal::Limit(limit),
+            FlatError::OutOfMemory => Refusal::OutOfMemory,
+        }
+    }
+}
+
+impl From<OutOfMemory> for Refusal {
+    ghost from_gives = { λ _ e. e ≡ NoMemory };
+
+    fn from(_: OutOfMemory) -> Self {
+        Refusal::OutOfMemory
     }
 }

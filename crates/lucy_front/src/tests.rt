@@ -19,8 +19,8 @@ fn answer(alloc: Global, text: &[u8]) -> Result<Vec<u8>, Fail> {
     }
 }
 
-// Each form's clock rule kept and broken, each kind of refusal of the phases, sizes, rates and late instants, and calls on a
-// base of their own; the answers are by hand.
+// Each form's clock rule kept and broken, each kind of refusal of the phases, sizes, rates and late instants, calls on a base of
+// their own, and loops, one through a call; the answers are by hand.
 #[test]
 fn texts_are_reported_or_refused(rt: HostRuntime) -> Result<(), Fail> {
     let alloc = rt.alloc();
@@ -78,10 +78,6 @@ fn texts_are_reported_or_refused(rt: HostRuntime) -> Result<(), Fail> {
             "lucy: check: node m: y = #4 on (01): differ at 1\n",
         ),
         (
-            "let node s (x :: (1)) = o where rec f :: (1) = 0 fby o and o :: (1) = x + f",
-            "node s (x) = (o)\n  x : int :: (1)\n  f : int :: (1)\n  o : int :: (1)\n",
-        ),
-        (
             "let node half (x :: (1)) = y where rec y :: (10) = x when (10)\nlet node g (z :: (01)) = p where rec p :: (0100) = half at (01) (z)",
             "node half (x) = (y)\n  x : '1 :: (1)\n  y : '1 :: (10)\nnode g (z) = (p)\n  z : int :: (01)\n  p : int :: (0100)\n  call 1 : half at (01)\n",
         ),
@@ -100,6 +96,26 @@ fn texts_are_reported_or_refused(rt: HostRuntime) -> Result<(), Fail> {
         (
             "let node half (x :: (1)) = y where rec y :: (10) = x when (10)\nlet node quarter (x :: (1)) = z where rec h :: (10) = half at (1) (x) and z :: (1000) = half at (10) (h)",
             "node half (x) = (y)\n  x : '1 :: (1)\n  y : '1 :: (10)\nnode quarter (x) = (z)\n  x : int :: (1)\n  h : int :: (10)\n  z : int :: (1000)\n  call 1 : half at (1)\n  call 2 : half at (10)\n",
+        ),
+        (
+            "let node sum (x :: (1)) = o where rec f :: (1) = 0 fby o and o :: (1) = x + f",
+            "node sum (x) = (o)\n  x : int :: (1)\n  f : int :: (1)\n  o : int :: (1)\n",
+        ),
+        (
+            "let node twice (x :: (10)) = o where rec b :: (01) = buffer x and o :: (1) = merge (10) x b",
+            "node twice (x) = (o)\n  x : int :: (10)\n  b : int :: (01)\n  o : int :: (1)\n  buffer 1 : (10) <: (01) size 1\n",
+        ),
+        (
+            "let node loop (x :: (1)) = y where rec b :: (1) = buffer y and y :: (1) = x + b",
+            "lucy: causality: instant 1\n  b[1]\n  #4[1]\n  y[1]\n  #5[1]\n",
+        ),
+        (
+            "let node acc (x :: (1)) = y where rec f :: (1) = 0 fby y and b :: (1) = buffer f and y :: (1) = x + b",
+            "node acc (x) = (y)\n  x : int :: (1)\n  f : int :: (1)\n  b : int :: (1)\n  y : int :: (1)\n  buffer 1 : (1) <: (1) size 0\n",
+        ),
+        (
+            "let node id (a :: (1)) = b where rec b :: (1) = a\nlet node loop (x :: (1)) = y where rec y :: (1) = id at (1) (z) and z :: (1) = buffer y",
+            "lucy: causality: instant 1\n  y[1]\n  #4[1]\n  call1.b[1]\n  call1.a[1]\n  z[1]\n  #5[1]\n",
         ),
         (
             "let node f x = y where rec y = x when (1",
@@ -171,7 +187,7 @@ fn a_call_passes_compare(rt: HostRuntime) -> Result<(), Fail> {
 }
 
 // A node of 64 parameters is called 481 times, each time with 68 needs. There are 29 definitions more with two needs each, and
-// one need for each parameter.
+// one need for each parameter. So many calls have too many actors, which are looked at after the needs.
 fn many_needs(alloc: Global, params: &[u8]) -> Result<Vec<u8>, AllocError> {
     let mut text = Vec::new(alloc);
     text.extend_from_slice(b"let node f (")?;
@@ -196,8 +212,25 @@ fn many_needs(alloc: Global, params: &[u8]) -> Result<Vec<u8>, AllocError> {
 fn needs_are_counted(rt: HostRuntime) -> Result<(), Fail> {
     let alloc = rt.alloc();
     let most = answer(alloc, &many_needs(alloc, b", p :: (1)")?)?;
-    assert!(rt; most.starts_with(b"node f (a0, "));
+    assert!(rt; most.as_slice() == b"lucy: limit Actors 16384\n".as_slice());
     let more = answer(alloc, &many_needs(alloc, b", p :: (1), q :: (1)")?)?;
     assert!(rt; more.as_slice() == b"lucy: limit Needs 32768\n".as_slice());
+    Ok(())
+}
+
+// Each node but the first calls the one above it twice, so that the actors double from node to node: no net is built.
+#[test]
+fn doubled_calls_have_too_many_actors(rt: HostRuntime) -> Result<(), Fail> {
+    let alloc = rt.alloc();
+    let mut text = Vec::new(alloc);
+    text.extend_from_slice(b"let node n0 (x :: (1)) = x")?;
+    for i in 1..256u32 {
+        let above = i - 1;
+        text.extend_from_slice(format!(in alloc;
+            " let node n{i} (x :: (1)) = z where rec y :: (1) = n{above} at (1) (x) and z :: (1) = n{above} at (1) (y)"
+        )?.as_bytes())?;
+    }
+    let given = answer(alloc, &text)?;
+    assert!(rt; given.as_slice() == b"lucy: limit Actors 16384\n".as_slice());
     Ok(())
 }

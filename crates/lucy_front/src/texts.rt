@@ -6,6 +6,7 @@ ghost use Rattle.lucy_front.specs.Refusals as spec;
 
 use crate::names::{bytes, number, place_name, place_names};
 use crate::refusal::Refusal;
+use lucy_cause::Item;
 use lucy_check::CheckFault;
 use lucy_need::{Need, Term};
 use lucy_place::{NameError, Placed, PlacedNode};
@@ -220,8 +221,44 @@ fn check_line(
     }
 }
 
+// Puts items last, each on a line of its own.
+fn item_lines(
+    alloc: Global,
+    names: &[Text],
+    items: &[Item],
+    lines: &mut Vec<u8>,
+) -> Result<(), OutOfMemory>
+    ensures { OnOk result (lines.new.items ≡ lines.old.items ++ spec.item_lines names.now items.now) }
+{
+    'each: for (name, item) in names.iter().zip(items) {
+        bytes(b"  ", lines)?;
+        bytes(name.bytes(), lines)?;
+        bytes(b"[", lines)?;
+        number(alloc, item.number, lines)?;
+        bytes(b"]\n", lines)?;
+    }
+    Ok(())
+}
+
+// The lines of items that depend on each other.
+fn cause_lines(
+    alloc: Global,
+    instant: u64,
+    names: &[Text],
+    items: &[Item],
+) -> Result<Vec<u8>, OutOfMemory>
+    ensures { IfOk result (λ v. v.items ≡ spec.cause_lines instant names.now items.now) }
+{
+    let mut lines = Vec::new(alloc);
+    bytes(b"lucy: causality: instant ", &mut lines)?;
+    number(alloc, instant, &mut lines)?;
+    bytes(b"\n", &mut lines)?;
+    item_lines(alloc, names, items, &mut lines)?;
+    Ok(lines)
+}
+
 /// The text of a refusal that `accept` gives: its line on the fault sink, for a clash of types with the places of its path,
-/// each on a line of its own.
+/// and for a cycle of causality with its items, each on a line of its own.
 pub fn refusal_text(alloc: Global, refusal: &Refusal) -> Result<Vec<u8>, OutOfMemory>
     requires { spec.IsTellable refusal.now }
     ensures { IfOk result (λ v. v.items ≡ spec.refusal_text refusal.now) }
@@ -239,6 +276,12 @@ pub fn refusal_text(alloc: Global, refusal: &Refusal) -> Result<Vec<u8>, OutOfMe
             needs,
             fault,
         } => check_line(alloc, placed.node(*node), needs.list.list(), *fault),
+        Refusal::Cause {
+            names,
+            instant,
+            items,
+            ..
+        } => cause_lines(alloc, *instant, names, items),
         Refusal::Limit(limit) => limit_line(alloc, *limit),
         Refusal::OutOfMemory => memory_line(alloc),
     }

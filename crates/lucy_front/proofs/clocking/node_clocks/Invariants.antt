@@ -1,6 +1,7 @@
 use Rattle.std.proofs.Common.{◌≡◌, take}
-use Rattle.lucy_front.specs.Clocked.{signatures, AreClocked}
+use Rattle.lucy_clock.specs.NodeClocks.{signatures}
+use Rattle.lucy_front.specs.Clocked.{AreClocksOf}
 use Rattle.lucy_front.proofs.clocking.node_clocks.Given as goal
 
 abbrev pub invariant-each : goal.invariant-each
-invariant-each l = AreClocked (take l.node l.placed.nodes) l.clocks.items × (l.above.items ≡ signatures (take l.node l.placed.nodes) l.clocks.items)
+invariant-each l = AreClocksOf (take l.node l.placed.nodes) l.clocks.items × (l.above.items ≡ signatures (take l.node l.placed.nodes) l.clocks.items)

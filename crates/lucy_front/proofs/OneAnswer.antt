@@ -1,0 +1,253 @@
+-- A text has one answer of the phases.
+use Rattle.std.proofs.Common.{ℕ, ◌≡◌, List, [], Option, Ok, Err, Result, refl, ap, sym, ◌∙◌, subst, inl, inr}
+use Rattle.std.specs.Prelude.{◌⊎◌, IfOk, IfErr, MatchResult}
+use Rattle.lucy_tree.specs.declared.span.Span.{Span}
+use Rattle.lucy_host.specs.Operators.{Operator}
+use Rattle.lucy_tree.specs.View.{ProgramTree}
+use Rattle.lucy_token.specs.declared.stop.SyntaxError.{SyntaxError}
+use Rattle.lucy_token.specs.declared.stop.SyntaxError.TheVariants as syntax
+use Rattle.lucy_grammar.specs.Texts.{HasTree, IsRefused}
+use Rattle.lucy_grammar.proofs.TextLaws.{one_program as one_tree, one_error, tree_or_error}
+use Rattle.lucy_grammar.proofs.ShapedLaws.{shaped}
+use Rattle.lucy_place.specs.declared.error.NameError.{NameError}
+use Rattle.lucy_place.specs.declared.error.NameError.TheVariants as names
+use Rattle.lucy_place.specs.declared.placed.PlacedNode.{PlacedNode}
+use Rattle.lucy_place.specs.Faults.{faults, verdict}
+use Rattle.lucy_place.specs.PlacedProgram.{PlacedProgram}
+use Rattle.lucy_place.specs.Placing.{IsFirst, IsPlaced}
+use Rattle.lucy_place.specs.Proper.{AreProper}
+use Rattle.lucy_place.proofs.ProperPrograms.{nodes_proper}
+use Rattle.lucy_types.specs.declared.ty.Ty.{Ty}
+use Rattle.lucy_types.specs.declared.error.TypeError.{TypeError}
+use Rattle.lucy_types.specs.declared.error.TypeError.TheVariants as types
+use Rattle.lucy_types.specs.Programs.{IsTyped}
+use Rattle.lucy_types.proofs.ProgramLaws.{typed_unique, clash_untyped, clash_unique}
+use Rattle.lucy_clock.specs.declared.node_clock.NodeClock.{NodeClock}
+use Rattle.lucy_front.specs.declared.clocking.NodeFault.{NodeFault}
+use Rattle.lucy_front.specs.declared.clocking.NodeFault.TheVariants as node_fault
+use Rattle.lucy_front.specs.declared.refusal.Refusal.{Refusal}
+use Rattle.lucy_front.specs.declared.refusal.Refusal.TheVariants.{Syntax, Names, Types, NotWritten, Check, Cause, Limit as LimitPassed, OutOfMemory}
+use Rattle.lucy_front.specs.Clocked.{AreClocksOf, IsUnclocked}
+use Rattle.lucy_front.specs.Accepting.{IsPlacedText, IsTypedText, IsClockedText, TellsClash, RefusesPhases, syntax_refusal, names_refusal}
+use Rattle.lucy_front.specs.Clocking.{Refused, TellsSpan, fault_refusal}
+use Rattle.lucy_front.specs.OneAnswer.{AreOfOneNode, AreAlike, HaveOneProgram, AreNotRefused, HaveOneRefusal}
+use Rattle.lucy_front.proofs.OneUnclocked.{clocks_one, clocked_all, unclocked_one}
+
+-- a tree has one list of places
+placed_one : (ops : List Operator) (p : ProgramTree) (v w : PlacedProgram) → IsPlaced ops p v → IsPlaced ops p w → v ≡ w
+placed_one ops p v w x y =
+    ap (λ (ns : List PlacedNode). let r : PlacedProgram = record { nodes = ns; unwritten = v.unwritten; operators = v.operators } in r) (x.nodes ∙ sym y.nodes)
+    ∙ ap (λ (ss : List (Option Span)). let r : PlacedProgram = record { nodes = w.nodes; unwritten = ss; operators = v.operators } in r) (x.unwritten ∙ sym y.unwritten)
+    ∙ ap (λ (k : ℕ). let r : PlacedProgram = record { nodes = w.nodes; unwritten = w.unwritten; operators = k } in r) (x.operators ∙ sym y.operators)
+
+-- faults have one that is the first
+first_one : (fs : List NameError) (e f : NameError) → IsFirst fs e → IsFirst fs f → e ≡ f
+first_one fs e f h k = let g : ◌≡◌ {A = Result (Unit {0}) NameError} (Err e) (Err f) = sym h ∙ k in cc
+
+-- why a text is refused, phase by phase
+record OfSyntax (text : List ℕ) (r : Refusal) : Type 0 where
+  error : SyntaxError
+  refused : IsRefused text error
+  is : r ≡ syntax_refusal error
+
+record OfNames (ops : List Operator) (text : List ℕ) (r : Refusal) : Type 0 where
+  tree : ProgramTree
+  error : NameError
+  read : HasTree text tree
+  first : IsFirst (faults ops tree) error
+  is : r ≡ names_refusal error
+
+record OfTypes (ops : List Operator) (text : List ℕ) (r : Refusal) : Type 0 where
+  placed : PlacedProgram
+  clash : TypeError
+  program : IsPlacedText ops text placed
+  told : TellsClash placed.nodes clash
+  is : r ≡ Types placed clash
+
+record OfNode (ops : List Operator) (text : List ℕ) (r : Refusal) : Type 0 where
+  placed : PlacedProgram
+  tables : List (List Ty)
+  node : ℕ
+  fault : NodeFault
+  program : IsTypedText ops text placed tables
+  told : TellsSpan placed node fault
+  unclocked : IsUnclocked placed.nodes node (Refused fault)
+  is : r ≡ fault_refusal placed node fault
+
+abbrev OfPhase : List Operator → List ℕ → Refusal → Type 0
+OfPhase ops text r = OfSyntax text r ⊎ OfNames ops text r ⊎ OfTypes ops text r ⊎ OfNode ops text r
+
+module _ (ops : List Operator) (text : List ℕ) where
+  of_syntax : (e : SyntaxError) → IsRefused text e → OfPhase ops text (syntax_refusal e)
+  of_syntax e h = inl (record { error = e; refused = h; is = refl })
+
+  of_names : (p : ProgramTree) (e : NameError) → HasTree text p → IsFirst (faults ops p) e → OfPhase ops text (names_refusal e)
+  of_names p e read first = inr (inl (record { tree = p; error = e; read = read; first = first; is = refl }))
+
+  of_node : (placed : PlacedProgram) (tables : List (List Ty)) (node : ℕ) (fault : NodeFault) → IsTypedText ops text placed tables → TellsSpan placed node fault → IsUnclocked placed.nodes node (Refused fault) →
+      OfPhase ops text (fault_refusal placed node fault)
+  of_node placed tables node fault program told unclocked = inr (inr (inr (record { placed = placed; tables = tables; node = node; fault = fault; program = program; told = told; unclocked = unclocked; is = refl })))
+
+  -- each refusal but want of memory is one of a phase
+  phase : (r : Refusal) → RefusesPhases ops text r → (r ≡ OutOfMemory → ⊥) → OfPhase ops text r
+  phase (Syntax (syntax.Unexpected place)) h some = of_syntax (syntax.Unexpected place) h.0
+  phase (Syntax (syntax.BadNumber place)) h some = of_syntax (syntax.BadNumber place) h.0
+  phase (Syntax (syntax.BadWord place)) h some = of_syntax (syntax.BadWord place) h.0
+  phase (Syntax (syntax.TooLarge l)) h some = absurd h.1
+  phase (Syntax syntax.OutOfMemory) h some = absurd h.1
+  phase (Names (names.Unknown span)) h some = of_names h.0 (names.Unknown span) h.1 h.2
+  phase (Names (names.Twice span)) h some = of_names h.0 (names.Twice span) h.1 h.2
+  phase (Names (names.NoResult span)) h some = of_names h.0 (names.NoResult span) h.1 h.2
+  phase (Names (names.Arity span)) h some = of_names h.0 (names.Arity span) h.1 h.2
+  phase (Names (names.LaterNode span)) h some = of_names h.0 (names.LaterNode span) h.1 h.2
+  phase (Names (names.TooMany l)) h some = absurd h.3
+  phase (Names names.OutOfMemory) h some = absurd h.3
+  phase (Types placed clash) h some = inr (inr (inl (record { placed = placed; clash = clash; program = h.0; told = h.1; is = refl })))
+  phase (NotWritten placed node span) h some = of_node placed h.1.0 node (node_fault.NotWritten span) h.1.1 h.0 h.1.2
+  phase (Check placed node needs e) h some = of_node placed h.0 node (node_fault.Check needs e) h.1 tt h.2
+  phase (LimitPassed l) (inl h) some = of_syntax (syntax.TooLarge l) h
+  phase (LimitPassed l) (inr (inl h)) some = of_names h.0 (names.TooMany l) h.1 h.2
+  phase (LimitPassed l) (inr (inr h)) some = of_node h.0 h.2.0 h.1 (node_fault.Limit l) h.2.1 tt h.2.2
+  phase (Cause net texts instant items) h some = absurd h
+  phase OutOfMemory h some = absurd (some refl)
+
+  -- the places of a text are one program, and its nodes are proper
+  pub text_one : (v w : PlacedProgram) → IsPlacedText ops text v → IsPlacedText ops text w → v ≡ w
+  text_one v w x y = placed_one ops y.tree v w (subst (λ t. IsPlaced ops t v) (one_tree text x.tree y.tree x.read y.read) x.is_placed) y.is_placed
+
+  pub text_proper : (v : PlacedProgram) → IsPlacedText ops text v → AreProper v.nodes
+  text_proper v x = subst AreProper (sym x.is_placed.nodes) (nodes_proper ops x.tree (shaped text x.tree x.read) x.is_placed.good)
+
+  -- no phase before refuses a text that has places
+  placed_read : (v : PlacedProgram) (r : Refusal) → IsPlacedText ops text v → OfSyntax text r → ⊥
+  placed_read v r x a = tree_or_error text x.tree a.error x.read a.refused
+
+  placed_named : (v : PlacedProgram) (r : Refusal) → IsPlacedText ops text v → OfNames ops text r → ⊥
+  placed_named v r x b =
+      let good : faults ops b.tree ≡ [] = subst (λ t. faults ops t ≡ []) (one_tree text x.tree b.tree x.read b.read) x.is_placed.good in
+      let h : Ok tt ≡ Err b.error = sym (ap verdict good) ∙ b.first in
+      cc
+
+  -- nor one that has types
+  clash_none : (nodes : List PlacedNode) (tables : List (List Ty)) (clash : TypeError) → IsTyped nodes tables → TellsClash nodes clash → ⊥
+  clash_none nodes tables (types.Clash node path) typed told = clash_untyped nodes tables node path.items told typed
+  clash_none nodes tables types.OutOfMemory typed told = told
+
+  typed_kept : (v : PlacedProgram) (tables : List (List Ty)) (r : Refusal) → IsTypedText ops text v tables → OfTypes ops text r → ⊥
+  typed_kept v tables r x a =
+      let same : a.placed ≡ v = text_one a.placed v a.program x.program in
+      clash_none v.nodes tables a.clash x.typed (subst (λ w. TellsClash w.nodes a.clash) same a.told)
+
+  -- a node is refused for another cause than memory, where the text is
+  node_told : (r : Refusal) → (r ≡ OutOfMemory → ⊥) → (a : OfNode ops text r) → a.fault ≡ node_fault.OutOfMemory → ⊥
+  node_told r some a e = some (a.is ∙ ap (fault_refusal a.placed a.node) e)
+
+  -- no phase refuses a text that has clocks
+  clocked_kept : (v : PlacedProgram) (tables : List (List Ty)) (clocks : List NodeClock) (r : Refusal) → IsClockedText ops text v tables clocks → OfPhase ops text r → (r ≡ OutOfMemory → ⊥) → ⊥
+  clocked_kept v tables clocks r x (inl a) some = placed_read v r x.program.program a
+  clocked_kept v tables clocks r x (inr (inl a)) some = placed_named v r x.program.program a
+  clocked_kept v tables clocks r x (inr (inr (inl a))) some = typed_kept v tables r x.program a
+  clocked_kept v tables clocks r x (inr (inr (inr a))) some =
+      let same : a.placed ≡ v = text_one a.placed v a.program.program x.program.program in
+      clocked_all v.nodes clocks a.node a.fault (text_proper v x.program.program) (node_told r some a) x.clocks (subst (λ w. IsUnclocked w.nodes a.node (Refused a.fault)) same a.unclocked)
+
+  -- clashes are of one node
+  clash_one : (nodes : List PlacedNode) (clash way : TypeError) → TellsClash nodes clash → TellsClash nodes way → AreOfOneNode clash way
+  clash_one nodes (types.Clash i path) (types.Clash j other) h k = clash_unique nodes i j path.items other.items h k
+  clash_one nodes types.OutOfMemory way h k = absurd h
+  clash_one nodes (types.Clash i path) types.OutOfMemory h k = absurd k
+
+  -- refusals of one phase are alike
+  types_alike : (r s : Refusal) → OfTypes ops text r → OfTypes ops text s → AreAlike r s
+  types_alike r s a b =
+      let same : a.placed ≡ b.placed = text_one a.placed b.placed a.program b.program in
+      let one : AreAlike (Types a.placed a.clash) (Types b.placed b.clash) = (same, clash_one b.placed.nodes a.clash b.clash (subst (λ w. TellsClash w.nodes a.clash) same a.told) b.told) in
+      subst (λ x. AreAlike x s) (sym a.is) (subst (AreAlike (Types a.placed a.clash)) (sym b.is) one)
+
+  nodes_equal : (r s : Refusal) → (r ≡ OutOfMemory → ⊥) → (s ≡ OutOfMemory → ⊥) → OfNode ops text r → OfNode ops text s → r ≡ s
+  nodes_equal r s some other a b =
+      let same : a.placed ≡ b.placed = text_one a.placed b.placed a.program.program b.program.program in
+      let one = unclocked_one b.placed a.node b.node a.fault b.fault (text_proper b.placed b.program.program) (node_told r some a) (node_told s other b)
+      (subst (λ w. TellsSpan w a.node a.fault) same a.told) b.told (subst (λ w. IsUnclocked w.nodes a.node (Refused a.fault)) same a.unclocked) b.unclocked in
+      a.is ∙ ap (λ w. fault_refusal w a.node a.fault) same ∙ ap (λ k. fault_refusal b.placed k a.fault) one.0 ∙ ap (fault_refusal b.placed b.node) one.1 ∙ sym b.is
+
+  names_equal : (r s : Refusal) → OfNames ops text r → OfNames ops text s → r ≡ s
+  names_equal r s a b =
+      let moved = subst (λ t. IsFirst (faults ops t) a.error) (one_tree text a.tree b.tree a.read b.read) a.first in
+      a.is ∙ ap names_refusal (first_one (faults ops b.tree) a.error b.error moved b.first) ∙ sym b.is
+
+-- a refusal is like itself
+alike_self : (r : Refusal) → AreAlike r r
+alike_self (Types placed (types.Clash node path)) = (refl, refl)
+alike_self (Types placed types.OutOfMemory) = (refl, refl)
+alike_self (Syntax e) = refl
+alike_self (Names e) = refl
+alike_self (NotWritten placed node span) = refl
+alike_self (Check placed node needs e) = refl
+alike_self (LimitPassed l) = refl
+alike_self (Cause net texts instant items) = (refl, refl)
+alike_self OutOfMemory = refl
+
+pub equal_alike : (r s : Refusal) → r ≡ s → AreAlike r s
+equal_alike r s e = subst (AreAlike r) e (alike_self r)
+
+-- a refusal tells of memory or not
+pub of_memory : (r : Refusal) → (r ≡ OutOfMemory) ⊎ (r ≡ OutOfMemory → ⊥)
+of_memory (Types placed clash) = inr (λ e. cc e)
+of_memory (Syntax f) = inr (λ e. cc e)
+of_memory (Names f) = inr (λ e. cc e)
+of_memory (NotWritten placed node span) = inr (λ e. cc e)
+of_memory (Check placed node needs f) = inr (λ e. cc e)
+of_memory (LimitPassed l) = inr (λ e. cc e)
+of_memory (Cause net texts instant items) = inr (λ e. cc e)
+of_memory OutOfMemory = inl refl
+
+module _ (ops : List Operator) (text : List ℕ) (r s : Refusal) (some : r ≡ OutOfMemory → ⊥) (other : s ≡ OutOfMemory → ⊥) where
+  -- refusals of two phases never stand together
+  phases_alike : OfPhase ops text r → OfPhase ops text s → AreAlike r s
+  phases_alike (inl a) (inl b) = equal_alike r s (a.is ∙ ap syntax_refusal (one_error text a.error b.error a.refused b.refused) ∙ sym b.is)
+  phases_alike (inl a) (inr (inl b)) = absurd (tree_or_error text b.tree a.error b.read a.refused)
+  phases_alike (inl a) (inr (inr (inl b))) = absurd (placed_read ops text b.placed r b.program a)
+  phases_alike (inl a) (inr (inr (inr b))) = absurd (placed_read ops text b.placed r b.program.program a)
+  phases_alike (inr (inl a)) (inl b) = absurd (tree_or_error text a.tree b.error a.read b.refused)
+  phases_alike (inr (inl a)) (inr (inl b)) = equal_alike r s (names_equal ops text r s a b)
+  phases_alike (inr (inl a)) (inr (inr (inl b))) = absurd (placed_named ops text b.placed r b.program a)
+  phases_alike (inr (inl a)) (inr (inr (inr b))) = absurd (placed_named ops text b.placed r b.program.program a)
+  phases_alike (inr (inr (inl a))) (inl b) = absurd (placed_read ops text a.placed s a.program b)
+  phases_alike (inr (inr (inl a))) (inr (inl b)) = absurd (placed_named ops text a.placed s a.program b)
+  phases_alike (inr (inr (inl a))) (inr (inr (inl b))) = types_alike ops text r s a b
+  phases_alike (inr (inr (inl a))) (inr (inr (inr b))) = absurd (typed_kept ops text b.placed b.tables r b.program a)
+  phases_alike (inr (inr (inr a))) (inl b) = absurd (placed_read ops text a.placed s a.program.program b)
+  phases_alike (inr (inr (inr a))) (inr (inl b)) = absurd (placed_named ops text a.placed s a.program.program b)
+  phases_alike (inr (inr (inr a))) (inr (inr (inl b))) = absurd (typed_kept ops text a.placed a.tables s a.program b)
+  phases_alike (inr (inr (inr a))) (inr (inr (inr b))) = equal_alike r s (nodes_equal ops text r s some other a b)
+
+pub one_program : HaveOneProgram
+one_program ops text p q xs ys cs ds x y =
+    let same : p ≡ q = text_one ops text p q x.program.program y.program.program in
+    let typed : IsTyped q.nodes xs = subst (λ v. IsTyped v.nodes xs) same x.program.typed in
+    let clocked : AreClocksOf q.nodes cs = subst (λ v. AreClocksOf v.nodes cs) same x.clocks in
+    (same, typed_unique q.nodes xs ys typed y.program.typed, clocks_one q.nodes cs ds (text_proper ops text q y.program.program) clocked y.clocks)
+
+pub never_both : AreNotRefused
+never_both ops text p xs cs r x h =
+    elim (of_memory r) [
+      | inl e ↦ e
+      | inr some ↦ absurd (clocked_kept ops text p xs cs r x (phase ops text r h some) some)
+    ]
+
+pub one_refusal : HaveOneRefusal
+one_refusal ops text r s h k =
+    elim (of_memory r) [
+      | inl e ↦ inl e
+      | inr some ↦ elim (of_memory s) [
+        | inl e ↦ inr (inl e)
+        | inr other ↦ inr (inr (phases_alike ops text r s some other (phase ops text r h some) (phase ops text s k other)))
+      ]
+    ]
+
+-- an answer that is a program or a refusal, as is said of each, is like the one refusal
+pub only_refusal : {A : Type 0} (answer : Result A Refusal) (P : A → Type 0) (Q : Refusal → Type 0) (r : Refusal) → (r ≡ OutOfMemory → ⊥) → ((a : A) → P a → r ≡ OutOfMemory) →
+    ((e : Refusal) → Q e → (r ≡ OutOfMemory) ⊎ (e ≡ OutOfMemory) ⊎ AreAlike r e) → IfOk answer P → IfErr answer Q → MatchResult answer (λ _. ⊥) (λ e. (e ≡ OutOfMemory) ⊎ AreAlike r e)
+only_refusal (Ok a) P Q r some never one ok refused = some (never a ok)
+only_refusal (Err e) P Q r some never one ok refused = elim (one e refused) [ inl f ↦ absurd (some f) | inr h ↦ h ]

@@ -1,0 +1,68 @@
+-- The inputs and outputs of main, place by place.
+use Rattle.std.proofs.Common.{ℕ, zero, suc, ◌+◌, ◌-◌, ◌<◌, ◌≤◌, ◌≡◌, List, map, length, Option, Some, None, ap, sym, ◌∙◌, arith}
+use Rattle.std.specs.Prelude.{slice_get, option_map}
+use Rattle.std.specs.List.{range_with_len}
+use Rattle.std.proofs.lemmas.Option.{same_Some}
+use Rattle.lucy_host.specs.declared.data_type.DataType.{DataType}
+use Rattle.lucy_place.specs.declared.placed.PlacedNode.{PlacedNode}
+use Rattle.lucy_place.specs.Proper.{ArePlaces}
+use Rattle.lucy_types.specs.declared.ty.Ty.{Ty}
+use Rattle.lucy_types.specs.Tables.{table_at, held}
+use Rattle.lucy_types.specs.Programs.{IsTyped}
+use Rattle.lucy_clock.specs.declared.node_clock.NodeClock.{NodeClock}
+use Rattle.lucy_meaning.specs.Spots.{main_of}
+use Rattle.lucy_flat.specs.Instances.{words_in}
+use Rattle.lucy_front.specs.Clocked.{AreClocksOf}
+use Rattle.lucy_front.specs.Names.{param_places}
+use Rattle.lucy_front.specs.Scheduled.{held_if, input_of, output_of, inputs_in, outputs_in, inputs_of, outputs_of}
+use Rattle.lucy_front.proofs.ReportLaws.{table_found}
+
+-- what is told of a place that has a type
+pub holds_is : (o : Option Ty) (holds : DataType) → option_map held o ≡ Some holds → holds ≡ held_if o
+holds_is None holds e = absurd (cc e)
+holds_is (Some t) holds e = sym (same_Some (held t) holds e)
+
+-- the parameters are places of their node
+params_from : (n : PlacedNode) (first count : ℕ) → 1 ≤ first → first + count ≤ length n.places + 1 → ArePlaces n (range_with_len first count)
+params_from n first zero low high = tt
+params_from n first (suc count) low high = ((low, omega (arith, high)), params_from n (first + 1) count (omega arith) (omega (arith, high)))
+
+pub params_there : (n : PlacedNode) (places : List ℕ) → n.params ≤ length n.places → places ≡ param_places n → ArePlaces n places
+params_there n places few is = rw is (params_from n 1 n.params (omega arith) (omega (arith, few)))
+
+-- the types of main's places
+module _ (nodes : List PlacedNode) (tables : List (List Ty)) (last : ℕ) (main : PlacedNode) (typed : IsTyped nodes tables) (is_last : last + 1 ≡ length nodes) (found : slice_get nodes last ≡ Some main) where
+  last_is : last ≡ length nodes - 1
+  last_is = omega (arith, is_last)
+
+  same_last : length tables - 1 ≡ last
+  same_last = omega (arith, is_last, typed.all)
+
+  pub some_types : 0 < length tables
+  some_types = omega (arith, is_last, typed.all)
+
+  pub types_all : length (table_at tables (length tables - 1)) ≡ length main.places
+  types_all = ap (λ i. length (table_at tables i)) same_last ∙ (typed.each last main (table_at tables last) found (table_found tables last (omega (arith, is_last, typed.all)))).all
+
+  main_is : main_of nodes ≡ Some main
+  main_is = ap (slice_get nodes) (sym last_is) ∙ found
+
+  table_is : table_at tables (length tables - 1) ≡ table_at tables (length nodes - 1)
+  table_is = ap (table_at tables) (same_last ∙ last_is)
+
+  pub inputs_are : (places : List ℕ) → places ≡ param_places main → map (input_of main (table_at tables (length tables - 1))) places ≡ inputs_of nodes tables
+  inputs_are places is =
+      ap (λ t. map (input_of main t) places) table_is ∙ ap (map (input_of main (table_at tables (length nodes - 1)))) is ∙ ap (λ o. inputs_in o (table_at tables (length nodes - 1))) (sym main_is)
+
+  pub outputs_are : (clocks : List NodeClock) (clock : NodeClock) (places : List ℕ) → slice_get clocks last ≡ Some clock → places ≡ main.results →
+      map (output_of main (table_at tables (length tables - 1)) clock.words) places ≡ outputs_of nodes tables clocks
+  outputs_are clocks clock places at is =
+      let words : words_in (slice_get clocks (length nodes - 1)) ≡ clock.words = ap (λ i. words_in (slice_get clocks i)) (sym last_is) ∙ ap words_in at in
+      ap (λ t. map (output_of main t clock.words) places) table_is ∙ ap (map (output_of main (table_at tables (length nodes - 1)) clock.words)) is
+      ∙ ap (λ w. map (output_of main (table_at tables (length nodes - 1)) w) main.results) (sym words)
+      ∙ ap (λ o. outputs_in o (table_at tables (length nodes - 1)) (words_in (slice_get clocks (length nodes - 1)))) (sym main_is)
+
+-- each place of a clocked node has a word
+pub words_past : (nodes : List PlacedNode) (clocks : List NodeClock) (i : ℕ) (n : PlacedNode) (clock : NodeClock) → AreClocksOf nodes clocks → slice_get nodes i ≡ Some n → slice_get clocks i ≡ Some clock →
+    length n.places < length clock.words
+words_past nodes clocks i n clock are at of = let count = (are.each i n clock at of).words.of.count in omega arith

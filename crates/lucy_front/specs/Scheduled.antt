@@ -1,0 +1,74 @@
+-- What a program with clocks comes to, its net, its schedule, its inputs and its outputs, and why it comes to none.
+use Rattle.std.specs.Prelude.{ℕ, ◌-◌, ◌≤◌, ◌⊎◌, List, [], Option, Some, None, map, length, slice_get}
+use Rattle.lucy_host.specs.declared.data_type.DataType.{DataType}
+use Rattle.lucy_host.specs.declared.data_type.DataType.TheVariants.{Int}
+use Rattle.lucy_word.specs.Bits.{Bits}
+use Rattle.lucy_word.specs.Limits.{limit_number}
+use Rattle.lucy_word.specs.declared.limit.Limit.TheVariants as limit
+use Rattle.lucy_lines.specs.declared.input.InputSpec.{InputSpec}
+use Rattle.lucy_output.specs.declared.output.OutputSpec.{OutputSpec}
+use Rattle.lucy_place.specs.declared.placed.PlacedNode.{PlacedNode}
+use Rattle.lucy_place.specs.Proper.{at_one}
+use Rattle.lucy_types.specs.declared.ty.Ty.{Ty}
+use Rattle.lucy_types.specs.Tables.{table_at, held}
+use Rattle.lucy_need.specs.Meeting.{assigned}
+use Rattle.lucy_clock.specs.declared.node_clock.NodeClock.{NodeClock}
+use Rattle.lucy_meaning.specs.Spots.{main_of}
+use Rattle.lucy_net.specs.declared.net.Net.{Net}
+use Rattle.lucy_flat.specs.declared.error.FlatError.{FlatError}
+use Rattle.lucy_flat.specs.declared.error.FlatError.TheVariants as flat
+use Rattle.lucy_flat.specs.Instances.{words_in}
+use Rattle.lucy_flat.specs.Refusals.{IsFlatNet, RefusesFlat, net_bits}
+use Rattle.lucy_cause.specs.declared.error.CauseFault.TheVariants as cause
+use Rattle.lucy_cause.specs.Schedules.{Refuses as RefusesSchedule}
+use Rattle.lucy_front.specs.declared.refusal.Refusal.{Refusal}
+use Rattle.lucy_front.specs.declared.refusal.Refusal.TheVariants.{Cause, Limit as LimitPassed, OutOfMemory}
+use Rattle.lucy_front.specs.Names.{place_name, param_places}
+use Rattle.lucy_front.specs.Items.{AreNamesOf}
+
+-- what a place of main holds, by the types of main's places: an open one holds numbers
+abbrev pub held_if : Option Ty → DataType
+held_if None = Int
+held_if (Some t) = held t
+
+-- an input and an output of main: the place's name, the type of its values, and of an output its word
+abbrev pub input_of : PlacedNode → List Ty → ℕ → InputSpec
+input_of main types place = record { name = place_name main place; holds = held_if (at_one types place) }
+
+abbrev pub output_of : PlacedNode → List Ty → List Bits → ℕ → OutputSpec
+output_of main types words place = record { name = place_name main place; holds = held_if (at_one types place); word = assigned words place }
+
+-- one for each parameter of main, and one for each result, in order
+abbrev pub inputs_in : Option PlacedNode → List Ty → List InputSpec
+inputs_in None types = []
+inputs_in (Some main) types = map (input_of main types) (param_places main)
+
+abbrev pub outputs_in : Option PlacedNode → List Ty → List Bits → List OutputSpec
+outputs_in None types words = []
+outputs_in (Some main) types words = map (output_of main types words) main.results
+
+-- main is the last node
+abbrev pub inputs_of : List PlacedNode → List (List Ty) → List InputSpec
+inputs_of nodes tables = inputs_in (main_of nodes) (table_at tables (length nodes - 1))
+
+abbrev pub outputs_of : List PlacedNode → List (List Ty) → List NodeClock → List OutputSpec
+outputs_of nodes tables clocks = outputs_in (main_of nodes) (table_at tables (length nodes - 1)) (words_in (slice_get clocks (length nodes - 1)))
+
+-- the program's flat net, within its limits
+pub record IsNetOf (nodes : List PlacedNode) (clocks : List NodeClock) (net : Net) : Type 0 where
+  pub flat : IsFlatNet nodes clocks net
+  pub few_bits : net_bits net ≤ limit_number limit.Bits
+
+-- why a program with these clocks has no net, or its net no schedule: a limit of the net is passed, or else one of the schedule,
+-- or else items of the net depend on each other: those of the first instant that has such items, by the names of their actors
+abbrev pub RefusesNet : List PlacedNode → List NodeClock → Refusal → Type 0
+RefusesNet nodes clocks (LimitPassed l) = RefusesFlat nodes clocks (flat.Limit l) ⊎ ((net : Net) × IsNetOf nodes clocks net × RefusesSchedule net (cause.Limit l))
+RefusesNet nodes clocks (Cause net names instant items) =
+    IsNetOf nodes clocks net × RefusesSchedule net (cause.Cycle instant items) × AreNamesOf nodes items.items names.items
+RefusesNet nodes clocks OutOfMemory = Unit {0}
+RefusesNet nodes clocks e = ⊥
+
+-- the refusal where there is no net
+abbrev pub flat_refusal : FlatError → Refusal
+flat_refusal (flat.Limit l) = LimitPassed l
+flat_refusal flat.OutOfMemory = OutOfMemory
