@@ -1,0 +1,238 @@
+-- How a call ends, from what its parts leave.
+use Rattle.std.proofs.Common.{◌≡◌, ℕ, ◌⊎◌, List, [], ◌++◌, length, take, Option, Some, None, Result, Ok, Err, OnOk, OnErr, refl, ap, sym, ◌∙◌, subst, inl, inr, arith}
+use Rattle.std.specs.Prelude.{ℤ, IfOk}
+use Rattle.std.proofs.lemmas.List.{take-append-le}
+use Rattle.std.proofs.Math.Seq.{take-length}
+use Rattle.std.proofs.lemmas.Result.{IfOk-at_ok}
+use Rattle.lucy_word.specs.Bits.{Bits}
+use Rattle.lucy_word.specs.declared.limit.Limit.TheVariants as limit
+use Rattle.lucy_host.specs.declared.kind.HostKind.{HostKind}
+use Rattle.lucy_kahn.specs.declared.error.KahnError.{KahnError}
+use Rattle.lucy_kahn.specs.declared.error.KahnError.TheVariants as error
+use Rattle.lucy_lines.specs.Fronts.{most_bytes}
+use Rattle.lucy_lines.specs.declared.reader.TextFault.{TextFault}
+use Rattle.lucy_feed.specs.declared.feeds.Feed.{Feed}
+use Rattle.lucy_word.specs.declared.error.OutOfMemory.{OutOfMemory}
+use Rattle.lucy_feed.specs.Sources.{Stop, Unread, Open, SeenSource, Read}
+use Rattle.lucy_output.specs.declared.output.OutputSpec.{OutputSpec}
+use Rattle.lucy_output.specs.Outputs.{output_text}
+use Rattle.lucy_output.specs.Sinks.{SeenSink, Writes, Fails}
+use Rattle.lucy_output.proofs.SinkLaws.{unwritten, writes_more, fails_behind, fails_longer}
+use Rattle.lucy_place.specs.declared.placed.PlacedNode.{PlacedNode}
+use Rattle.lucy_clock.specs.declared.node_clock.NodeClock.{NodeClock}
+use Rattle.lucy_execution.specs.Running.{HasManyTurns, HasManyItems, Refuses}
+use Rattle.lucy_execution.specs.Streams.{param_words, main_streams}
+use Rattle.lucy_front.specs.declared.accepted.Accepted.{Accepted}
+use Rattle.lucy_run.specs.declared.ending.Ending.{Ending}
+use Rattle.lucy_run.specs.declared.ending.Ending.TheVariants as ending
+use Rattle.lucy_run.specs.Feeds.{Feeds, IsUnfinished, IsMainFeed}
+use Rattle.lucy_run.specs.Owes.{most_instants, input_words, stream_lines, lines_to, heading, EndsFor, IsFed, Interprets, OwesRun, OwesRunOutput, OwesKahn, OwesKahnOutput, IsHorizonOf}
+use Rattle.lucy_run.specs.Ends.{IsFrontOf, EndsWith, FailsInOrder}
+use Rattle.lucy_run.specs.Steps.{LeavesLines, LeavesOwed, IsWhole, refusal_ending}
+use Rattle.lucy_run.proofs.FedLaws.{read_nothing, fed_so_far}
+use Rattle.lucy_run.proofs.HorizonLaws.{some_horizon}
+
+-- a run that comes to its end so has the whole output
+pub ends_whole : (words : List Bits) (given : Option ℕ) (lists : List (List ℤ)) (fault : Option TextFault) (end : Ending) → EndsFor words given lists fault end → IsWhole end
+ends_whole words given lists (Some fault) end e = subst IsWhole (sym e) tt
+ends_whole words (Some n) lists None end e = subst IsWhole (sym e) tt
+ends_whole words None lists None end (inl e) = subst IsWhole (sym e.0) tt
+ends_whole words None lists None end (inr e) = subst IsWhole (sym e.0) tt
+
+pub lines_written : (lines : List ℕ) (end : Ending) (before after : SeenSink) → IsWhole end → Writes before after lines → LeavesLines lines end before after end
+lines_written lines ending.Done before after whole w = (refl, w)
+lines_written lines (ending.Input f) before after whole w = (refl, w)
+lines_written lines (ending.Limit l) before after whole w = (refl, w)
+lines_written lines ending.WriteFault before after whole w = absurd whole
+lines_written lines ending.OutOfMemory before after whole w = absurd whole
+
+pub owed_written : (Owes : List ℕ → Ending → Type 0) (output : List ℕ) (end : Ending) (before after : SeenSink) → IsWhole end → Owes output end → Writes before after output →
+    LeavesOwed Owes before after end
+owed_written Owes output ending.Done before after whole o w = (output, o, w)
+owed_written Owes output (ending.Input f) before after whole o w = (output, o, w)
+owed_written Owes output (ending.Limit l) before after whole o w = (output, o, w)
+owed_written Owes output ending.WriteFault before after whole o w = absurd whole
+owed_written Owes output ending.OutOfMemory before after whole o w = absurd whole
+
+-- the plain interpreter gave no streams
+pub interpreter_refused : (kinds : List HostKind) (nodes : List PlacedNode) (clocks : List NodeClock) (outputs : List OutputSpec) (given : Option ℕ) (lists : List (List ℤ)) (fault : Option TextFault) (horizon : ℕ)
+    (e : KahnError) (s : SeenSink) → Refuses kinds lists nodes clocks horizon e → LeavesOwed (Interprets kinds nodes clocks outputs given lists fault horizon) s s (refusal_ending e)
+interpreter_refused kinds nodes clocks outputs given lists fault horizon error.OutOfMemory s refused = refl
+interpreter_refused kinds nodes clocks outputs given lists fault horizon (error.Limit l) s (inl none) = cc
+interpreter_refused kinds nodes clocks outputs given lists fault horizon (error.Limit l) s (inr (inl turns)) =
+    ([], inl (turns.1, refl, ap refusal_ending turns.0), unwritten s)
+interpreter_refused kinds nodes clocks outputs given lists fault horizon (error.Limit l) s (inr (inr items)) =
+    ([], inr (inl (items.1, refl, ap refusal_ending items.0)), unwritten s)
+
+-- what a call that writes the interpreter's lines leaves
+abbrev pub Leaves : List HostKind → List PlacedNode → List NodeClock → List OutputSpec → (given : Option ℕ) (lists : List (List ℤ)) → Option TextFault → (was now : SeenSink) → Ending → Type 0
+Leaves kinds nodes clocks outputs given lists fault was now result =
+    (horizon : ℕ) × IsHorizonOf (param_words nodes clocks) given lists horizon × LeavesOwed (Interprets kinds nodes clocks outputs given lists fault horizon) was now result
+
+pub refused_ends : (kinds : List HostKind) (nodes : List PlacedNode) (clocks : List NodeClock) (outputs : List OutputSpec) (given : Option ℕ) (lists : List (List ℤ)) (fault : Option TextFault) (horizon : ℕ)
+    (words : List Bits) (e : KahnError) (s : SeenSink) (result : Ending) → words ≡ param_words nodes clocks → IsHorizonOf words given lists horizon → result ≡ refusal_ending e → Refuses kinds lists nodes clocks horizon e →
+    Leaves kinds nodes clocks outputs given lists fault s s result
+refused_ends kinds nodes clocks outputs given lists fault horizon words e s result same horizon_is is refused =
+    let P : List Bits → Type 0 = λ u. IsHorizonOf u given lists horizon in
+    let Q : Ending → Type 0 = λ r. LeavesOwed (Interprets kinds nodes clocks outputs given lists fault horizon) s s r in
+    (horizon, subst P same horizon_is, subst Q (sym is) (interpreter_refused kinds nodes clocks outputs given lists fault horizon e s refused))
+
+-- the plain interpreter gave these streams, and their lines were written
+module _ (kinds : List HostKind) (nodes : List PlacedNode) (clocks : List NodeClock) (outputs : List OutputSpec) (given : Option ℕ) (lists : List (List ℤ)) (fault : Option TextFault) (horizon : ℕ)
+    (answer : Result (List (List ℤ)) KahnError) (streams : List (List ℤ)) (is : answer ≡ Ok streams) (ok : IfOk answer (λ got. got ≡ main_streams kinds lists nodes clocks horizon))
+    (turns : HasManyTurns nodes horizon → answer ≡ Err (error.Limit limit.KahnTurns))
+    (items : HasManyItems kinds lists nodes clocks horizon → (answer ≡ Err error.OutOfMemory) ⊎ (answer ≡ Err (error.Limit limit.KahnItems))) (words : List Bits) (same : words ≡ param_words nodes clocks) where
+  few_turns : HasManyTurns nodes horizon → ⊥
+  few_turns many = let both : Ok streams ≡ Err (error.Limit limit.KahnTurns) = sym is ∙ turns many in cc
+
+  few_items : HasManyItems kinds lists nodes clocks horizon → ⊥
+  few_items many = elim (items many) [
+    | inl none ↦ let both : Ok streams ≡ Err error.OutOfMemory = sym is ∙ none in cc
+    | inr past ↦ let both : Ok streams ≡ Err (error.Limit limit.KahnItems) = sym is ∙ past in cc
+  ]
+
+  interprets : (end : Ending) → EndsFor words given lists fault end → Interprets kinds nodes clocks outputs given lists fault horizon (output_text outputs streams horizon) end
+  interprets end ends =
+      let P : List Bits → Type 0 = λ u. EndsFor u given lists fault end in
+      inr (inr (few_turns, few_items, ap (λ u. output_text outputs u horizon) (IfOk-at_ok (λ got. got ≡ main_streams kinds lists nodes clocks horizon) is ok), subst P same ends))
+
+  module _ (horizon_is : IsHorizonOf words given lists horizon) where
+    at_horizon : IsHorizonOf (param_words nodes clocks) given lists horizon
+    at_horizon = (let P : List Bits → Type 0 = λ u. IsHorizonOf u given lists horizon in subst P same horizon_is)
+
+    pub lines_interpreted : (end : Ending) (was now : SeenSink) → EndsFor words given lists fault end → Writes was now (output_text outputs streams horizon) →
+        Leaves kinds nodes clocks outputs given lists fault was now end
+    lines_interpreted end was now ends w = (
+      horizon,
+      at_horizon,
+      owed_written (Interprets kinds nodes clocks outputs given lists fault horizon) (output_text outputs streams horizon) end was now (ends_whole words given lists fault end ends) (interprets end ends) w,
+    )
+
+    pub interpreted_failed : (end : Ending) (was now : SeenSink) → EndsFor words given lists fault end → Fails was now (output_text outputs streams horizon) →
+        Leaves kinds nodes clocks outputs given lists fault was now ending.WriteFault
+    interpreted_failed end was now ends f = (horizon, at_horizon, (output_text outputs streams horizon, end, interprets end ends, f))
+
+pub on_ok : {T E P : Type 0} (r : Result T E) (x : T) → r ≡ Ok x → OnOk r P → P
+on_ok {P = P} r x e h = subst (λ u. OnOk u P) e h
+
+pub on_err : {T E P : Type 0} (r : Result T E) (y : E) → r ≡ Err y → OnErr r P → P
+on_err {P = P} r y e h = subst (λ u. OnErr u P) e h
+
+take_front : (a b : List ℕ) → a ≡ take (length a) (a ++ b)
+take_front a b = sym (take-append-le (length a) a b (omega arith) ∙ take-length a)
+
+module _ (kinds : List HostKind) (a : Accepted) (given : Option ℕ) where
+  -- what a call of `run` leaves
+  abbrev pub RunGives : (before after : SeenSource) (was now : SeenSink) → Ending → Type 0
+  RunGives before after was now result = (taken : List ℕ) × (stop : Stop) × Read most_bytes before after taken stop
+      × EndsWith (OwesRun kinds a given taken stop) (OwesRunOutput kinds a given taken stop) was now result
+
+  abbrev pub KahnGives : (before after : SeenSource) (was now : SeenSink) → Ending → Type 0
+  KahnGives before after was now result = (taken : List ℕ) × (stop : Stop) × Read most_bytes before after taken stop
+      × EndsWith (OwesKahn kinds a given taken stop) (OwesKahnOutput kinds a given taken stop) was now result
+
+  -- memory ran out before anything was done
+  pub run_unbegun : (s : SeenSource) (o : SeenSink) → RunGives s s o o ending.OutOfMemory
+  run_unbegun s o = ([], Unread, read_nothing s, ([], inl refl, unwritten o))
+
+  -- an output of a reading that was given up
+  output_so_far : (taken : List ℕ) (stop : Stop) → IsUnfinished stop → (lines : List ℕ) × OwesRunOutput kinds a given taken stop (heading a ++ lines)
+  output_so_far taken stop unfinished =
+      let (lists, fed) = fed_so_far a.inputs.items taken stop unfinished in
+      let (horizon, is) = some_horizon (input_words a) lists (most_instants given) in
+      (lines_to kinds a lists horizon, inr (lists, horizon, fed, is, refl))
+
+  -- the heading could not be written
+  pub run_broken : (s : SeenSource) (was now : SeenSink) (text : List ℕ) → text ≡ heading a → Fails was now text → RunGives s s was now ending.WriteFault
+  run_broken s was now text e f =
+      let (lines, owed) = output_so_far [] Unread tt in
+      ([], Unread, read_nothing s, (heading a ++ lines, owed, fails_longer was now (heading a) lines (subst (Fails was now) e f)))
+
+  -- memory ran out while the input was read
+  pub run_given_up : (before after : SeenSource) (taken : List ℕ) (stop : Stop) (was now : SeenSink) (text : List ℕ) → text ≡ heading a → Writes was now text →
+      Read most_bytes before after taken stop → stop ≡ Open → RunGives before after was now ending.OutOfMemory
+  run_given_up before after taken stop was now text e w read open_yet =
+      let (lines, owed) = output_so_far taken stop (subst IsUnfinished (sym open_yet) tt) in
+      (taken, stop, read, (heading a, inr (heading a ++ lines, length (heading a), owed, take_front (heading a) lines), subst (Writes was now) e w))
+
+  module _ (taken : List ℕ) (stop : Stop) (lists : List (List ℤ)) (fault : Option TextFault) (horizon : ℕ) (feeds : Feeds a.inputs.items taken stop lists fault)
+      (horizon_is : IsHorizonOf (input_words a) given lists horizon) where
+    fed : IsFed a given taken stop lists fault horizon
+    fed = record { feeds = feeds; horizon_is = horizon_is }
+
+    whole_run : (end : Ending) (was between now : SeenSink) (result : Ending) → EndsFor (input_words a) given lists fault end → Writes was between (heading a) →
+        (result ≡ end) × Writes between now (lines_to kinds a lists horizon) → (output : List ℕ) × OwesRun kinds a given taken stop output result × Writes was now output
+    whole_run end was between now result ends w left = (
+      heading a ++ lines_to kinds a lists horizon,
+      (lists, fault, horizon, fed, refl, subst (EndsFor (input_words a) given lists fault) (sym left.0) ends),
+      writes_more was between now (heading a) (lines_to kinds a lists horizon) w left.1,
+    )
+
+    run_ends : (end : Ending) (was between now : SeenSink) (result : Ending) → EndsFor (input_words a) given lists fault end → Writes was between (heading a) →
+        LeavesLines (lines_to kinds a lists horizon) end between now result → EndsWith (OwesRun kinds a given taken stop) (OwesRunOutput kinds a given taken stop) was now result
+    run_ends end was between now ending.WriteFault ends w left =
+        (heading a ++ lines_to kinds a lists horizon, inl (end, (lists, fault, horizon, fed, refl, ends)), fails_behind was between now (heading a) (lines_to kinds a lists horizon) w left)
+    run_ends end was between now ending.OutOfMemory ends w left = (
+      heading a,
+      inr (heading a ++ lines_to kinds a lists horizon, length (heading a), inl (end, (lists, fault, horizon, fed, refl, ends)), take_front (heading a) (lines_to kinds a lists horizon)),
+      subst (λ u. Writes was u (heading a)) (sym left) w,
+    )
+    run_ends end was between now ending.Done ends w left = whole_run end was between now ending.Done ends w left
+    run_ends end was between now (ending.Input f) ends w left = whole_run end was between now (ending.Input f) ends w left
+    run_ends end was between now (ending.Limit l) ends w left = whole_run end was between now (ending.Limit l) ends w left
+
+    -- the lines were written, or not
+    pub run_over : (end : Ending) (before after : SeenSource) (was between now : SeenSink) (text : List ℕ) (result : Ending) → Read most_bytes before after taken stop → EndsFor (input_words a) given lists fault end →
+        text ≡ heading a → Writes was between text → LeavesLines (lines_to kinds a lists horizon) end between now result → RunGives before after was now result
+    run_over end before after was between now text result read ends e w left = (taken, stop, read, run_ends end was between now result ends (subst (Writes was between) e w) left)
+
+    kahn_ends : (was now : SeenSink) (result : Ending) → LeavesOwed (Interprets kinds a.placed.nodes a.clocks.items a.outputs.items given lists fault horizon) was now result →
+        EndsWith (OwesKahn kinds a given taken stop) (OwesKahnOutput kinds a given taken stop) was now result
+    kahn_ends was now ending.WriteFault (output, end, owed, f) = (output, (end, (lists, fault, horizon, fed, owed)), f)
+    kahn_ends was now ending.OutOfMemory left = ([], inl refl, subst (λ u. Writes was u []) (sym left) (unwritten was))
+    kahn_ends was now ending.Done (output, owed, w) = (output, (lists, fault, horizon, fed, owed), w)
+    kahn_ends was now (ending.Input f) (output, owed, w) = (output, (lists, fault, horizon, fed, owed), w)
+    kahn_ends was now (ending.Limit l) (output, owed, w) = (output, (lists, fault, horizon, fed, owed), w)
+
+    pub kahn_over : (before after : SeenSource) (was now : SeenSink) (result : Ending) → Read most_bytes before after taken stop →
+        LeavesOwed (Interprets kinds a.placed.nodes a.clocks.items a.outputs.items given lists fault horizon) was now result → KahnGives before after was now result
+    kahn_over before after was now result read left = (taken, stop, read, kahn_ends was now result left)
+
+  -- memory ran out while the input was read
+  pub kahn_given_up : (before after : SeenSource) (taken : List ℕ) (stop : Stop) (o : SeenSink) → Read most_bytes before after taken stop → KahnGives before after o o ending.OutOfMemory
+  kahn_given_up before after taken stop o read = (taken, stop, read, ([], inl refl, unwritten o))
+
+  -- main was fed, and the lines of its results were written or not
+  pub run_done : (before after : SeenSource) (was between now : SeenSink) (text : List ℕ) (result : Ending) (feed : Feed) (answer : Result Feed OutOfMemory) (taken : List ℕ) (stop : Stop) →
+      Read most_bytes before after taken stop → IsMainFeed a.inputs.items taken stop answer → answer ≡ Ok feed → text ≡ heading a → Writes was between text → (horizon : ℕ) (end : Ending) →
+      IsHorizonOf (input_words a) given feed.items horizon → EndsFor (input_words a) given feed.items feed.stop end → LeavesLines (lines_to kinds a feed.items horizon) end between now result →
+      RunGives before after was now result
+  run_done before after was between now text result feed answer taken stop read fed_so is e w horizon end horizon_is ends left =
+      run_over taken stop feed.items feed.stop horizon (subst (IsMainFeed a.inputs.items taken stop) is fed_so) horizon_is end before after was between now text result read ends e w left
+
+  pub run_out : (before after : SeenSource) (was now : SeenSink) (text : List ℕ) (e : OutOfMemory) (answer : Result Feed OutOfMemory) (taken : List ℕ) (stop : Stop) → Read most_bytes before after taken stop →
+      IsMainFeed a.inputs.items taken stop answer → answer ≡ Err e → text ≡ heading a → Writes was now text → RunGives before after was now ending.OutOfMemory
+  run_out before after was now text e answer taken stop read fed_so is same w =
+      run_given_up before after taken stop was now text same w read (subst (IsMainFeed a.inputs.items taken stop) is fed_so)
+
+  pub kahn_done : (before after : SeenSource) (was now : SeenSink) (result : Ending) (feed : Feed) (answer : Result Feed OutOfMemory) (clocks : List NodeClock) (outputs : List OutputSpec) (taken : List ℕ) (stop : Stop) →
+      Read most_bytes before after taken stop → IsMainFeed a.inputs.items taken stop answer → answer ≡ Ok feed → clocks ≡ a.clocks.items → outputs ≡ a.outputs.items →
+      (horizon : ℕ) × IsHorizonOf (param_words a.placed.nodes clocks) given feed.items horizon × LeavesOwed (Interprets kinds a.placed.nodes clocks outputs given feed.items feed.stop horizon) was now result →
+      KahnGives before after was now result
+  kahn_done before after was now result feed answer clocks outputs taken stop read fed_so is e f left =
+      let P : List NodeClock → Type 0 = λ u. (horizon : ℕ) × IsHorizonOf (param_words a.placed.nodes u) given feed.items horizon
+      × LeavesOwed (Interprets kinds a.placed.nodes u outputs given feed.items feed.stop horizon) was now result in
+      let Q : List OutputSpec → Type 0 = λ u. (horizon : ℕ) × IsHorizonOf (param_words a.placed.nodes a.clocks.items) given feed.items horizon
+      × LeavesOwed (Interprets kinds a.placed.nodes a.clocks.items u given feed.items feed.stop horizon) was now result in
+      let (horizon, horizon_is, moved) = subst Q f (subst P e left) in
+      kahn_over taken stop feed.items feed.stop horizon (subst (IsMainFeed a.inputs.items taken stop) is fed_so) horizon_is before after was now result read moved
+
+  -- a write of the lines failed behind the heading
+  pub lines_failed : {S : Type 0} (source left : S) (was between now : SeenSink) (text lines : List ℕ) (end result : Ending) → text ≡ heading a → Writes was between text →
+      LeavesLines lines end between now result → result ≡ ending.WriteFault → FailsInOrder (heading a) was now source left
+  lines_failed source left was between now text lines end result e w leaves is =
+      inr (between, lines, subst (Writes was between) e w, subst (LeavesLines lines end between now) is leaves)
+
+  -- the heading could not be written, and nothing was read
+  pub heading_failed : {S : Type 0} (source : S) (was now : SeenSink) (text : List ℕ) → text ≡ heading a → Fails was now text → FailsInOrder (heading a) was now source source
+  heading_failed source was now text e f = inl (subst (Fails was now) e f, refl)

@@ -1,0 +1,5 @@
+pub mod HorizonLaws
+pub mod OwesLaws
+mod FedLaws
+mod AcceptedLaws
+mod EndsLaws

@@ -1,0 +1,35 @@
+use Rattle.std.proofs.Common.{sym, ◌∙◌, subst}
+use Rattle.std.proofs.lemmas.Result.{IfOk-at_ok}
+use Rattle.std.specs.Prelude.{◌≡◌, length, List}
+use Rattle.lucy_clock.specs.declared.node_clock.NodeClock.{NodeClock}
+use Rattle.lucy_feed.specs.declared.feeds.Feed.{Feed}
+use Rattle.lucy_host.specs.Host.{lent}
+use Rattle.lucy_host.specs.Operators.{kinds_of}
+use Rattle.lucy_execution.specs.Running.{HasSchedule}
+use Rattle.lucy_run.proofs.AcceptedLaws.{few_inputs, inputs_count, outputs_count, scheduled}
+use Rattle.lucy_run.proofs.EndsLaws.{kahn_given_up, kahn_done}
+use Rattle.lucy_run.proofs.interpreting.kahn.Goals as goal
+
+pub main_feed-requires : goal.main_feed-requires
+main_feed-requires g c = few_inputs _ c.requires.accepted.0 c.args.accepted c.requires.accepted.1
+
+pub returns-in-Err-clause-ends : goal.returns-in-Err-clause-ends
+returns-in-Err-clause-ends g c =
+    let (taken, stop, read, fed) = c.main_feed.ensures.fed in
+    kahn_given_up (kinds_of (lent c.args.host.now)) c.args.accepted c.args.instants _ _ taken stop _ read
+
+pub write_interpreted-requires-clause-scheduled : goal.write_interpreted-requires-clause-scheduled
+write_interpreted-requires-clause-scheduled g c = λ κs within.
+    let P : List NodeClock → Type 0 = λ u. HasSchedule c.args.accepted.placed.nodes u in
+    subst P (sym c.deref.ensures.value) (scheduled _ c.requires.accepted.0 c.args.accepted c.requires.accepted.1)
+
+pub write_interpreted-requires-clause-inputs : goal.write_interpreted-requires-clause-inputs
+write_interpreted-requires-clause-inputs g c = λ κs within.
+    let lists = IfOk-at_ok (λ (feed : Feed). length feed.items ≡ length c.args.accepted.inputs.items) c.in-Ok.is c.main_feed.ensures.lists in
+    sym (lists ∙ inputs_count _ c.requires.accepted.0 c.args.accepted c.requires.accepted.1)
+
+pub returns-clause-ends : goal.returns-clause-ends
+returns-clause-ends g c =
+    let (taken, stop, read, fed) = c.main_feed.ensures.fed in
+    kahn_done (kinds_of (lent c.args.host.now)) c.args.accepted c.args.instants _ _ _ _ c.write_interpreted.result c.in-Ok.feed c.main_feed.result c.deref.result.now c.deref-2.result.now taken stop read fed c.in-Ok.is
+    c.deref.ensures.value c.deref-2.ensures.value c.write_interpreted.ensures.ends

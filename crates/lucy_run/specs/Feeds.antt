@@ -1,0 +1,31 @@
+-- What main is fed by the bytes that were taken from a source.
+use Rattle.std.specs.Prelude.{ℕ, ℤ, ◌≡◌, true, List, [], ◌∷◌, length, Option, None, Result, Ok, Err}
+use Rattle.lucy_word.specs.declared.error.OutOfMemory.{OutOfMemory}
+use Rattle.lucy_lines.specs.Cuts.{ItemOf, Stop as Halt, Cut, input_of}
+use Rattle.lucy_lines.specs.declared.input.InputSpec.{InputSpec}
+use Rattle.lucy_lines.specs.declared.reader.TextFault.{TextFault}
+use Rattle.lucy_feed.specs.declared.feeds.Feed.{Feed}
+use Rattle.lucy_feed.specs.Sources.{Stop, Unread, Open}
+use Rattle.lucy_feed.specs.Feeding.{values_by_stream, IsFeedOf}
+
+-- the items of each input, and why they stop before the end of what was to be read; where main has no inputs nothing is read
+abbrev pub Feeds : List InputSpec → (taken : List ℕ) → Stop → (lists : List (List ℤ)) → Option TextFault → Type 0
+Feeds [] taken stop lists fault = (taken ≡ []) × (stop ≡ Unread) × (lists ≡ []) × (fault ≡ None)
+Feeds (input ∷ inputs) taken stop lists fault =
+    (items : List ItemOf) × (halt : Halt) × IsFeedOf (input ∷ inputs) taken stop items halt (record { items = lists; stop = fault })
+
+-- reading was not begun, or given up before its stop
+abbrev pub IsUnfinished : Stop → Type 0
+IsUnfinished Unread = Unit {0}
+IsUnfinished Open = Unit {0}
+IsUnfinished stop = ⊥
+
+-- then the bytes taken count as the whole input
+abbrev pub FeedsSoFar : List InputSpec → (taken : List ℕ) → Stop → (lists : List (List ℤ)) → Type 0
+FeedsSoFar inputs taken stop lists =
+    IsUnfinished stop × (items : List ItemOf) × (halt : Halt) × Cut inputs true (input_of taken) items halt × (lists ≡ values_by_stream (length inputs) items)
+
+-- main was fed so; or memory ran out, and reading was given up
+abbrev pub IsMainFeed : List InputSpec → (taken : List ℕ) → Stop → Result Feed OutOfMemory → Type 0
+IsMainFeed inputs taken stop (Ok feed) = Feeds inputs taken stop feed.items feed.stop
+IsMainFeed inputs taken stop (Err e) = stop ≡ Open

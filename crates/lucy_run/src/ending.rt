@@ -1,0 +1,19 @@
+// How a run ends.
+use lucy_lines::TextFault;
+use lucy_word::Limit;
+
+/// How a run ends.
+#[derive(Drop)]
+pub enum Ending {
+    /// All that the input allows stands on the output, and the input was read to its end.
+    Done,
+    /// All that the items before this fault of the input allow stands on the output.
+    Input(TextFault),
+    /// A limit is passed: with `Instants` the lines of so many instants stand on the output, with `KahnTurns` and `KahnItems`
+    /// nothing does.
+    Limit(Limit),
+    /// A write failed.
+    WriteFault,
+    /// Memory ran out.
+    OutOfMemory,
+}

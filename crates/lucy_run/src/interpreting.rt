@@ -1,0 +1,123 @@
+// The command `kahn` on an accepted program.
+ghost use Rattle.std.specs.Prelude.{◌≡◌, ◌≢◌, ◌≤◌, ℕ, List, [], None, length, IfSome};
+ghost use Rattle.lucy_word.specs.Limits.{limit_number};
+ghost use Rattle.lucy_word.specs.declared.limit.Limit.TheVariants as limit;
+ghost use Rattle.lucy_host.specs.Host.{Serves, lent};
+ghost use Rattle.lucy_host.specs.Operators.{kinds_of};
+ghost use Rattle.lucy_lines.specs.Fronts.{most_bytes};
+ghost use Rattle.lucy_feed.specs.Sources.{Stop, seen_source, Read};
+ghost use Rattle.lucy_output.specs.Sinks.{seen_sink};
+ghost use Rattle.lucy_meaning.specs.Spots.{main_of, results_in};
+ghost use Rattle.lucy_kahn.specs.Turns.{params_in};
+ghost use Rattle.lucy_flat.specs.Clocked.{AreClocked};
+ghost use Rattle.lucy_execution.specs.Streams.{param_words};
+ghost use Rattle.lucy_execution.specs.Running.{HasSchedule};
+ghost use Rattle.lucy_front.specs.Accepting.{IsAccepted};
+ghost use Rattle.lucy_run.specs.Owes.{IsHorizonOf, Interprets, OwesKahn, OwesKahnOutput};
+ghost use Rattle.lucy_run.specs.Ends.{EndsWith};
+ghost use Rattle.lucy_run.specs.Steps.{refusal_ending, LeavesOwed};
+
+use crate::ending::Ending;
+use crate::feeding::main_feed;
+use crate::horizons::{ending_for, horizon_of};
+use lucy_clock::NodeClock;
+use lucy_execution::{interpret, param_words};
+use lucy_feed::Feed;
+use lucy_front::Accepted;
+use lucy_host::Host;
+use lucy_kahn::KahnError;
+use lucy_output::{OutputError, OutputSpec, write_outputs};
+use lucy_place::Placed;
+use lucy_text::{Sink, Source};
+use std::alloc::Global;
+
+// How the run ends where the interpreter gives no streams.
+fn refused(error: KahnError) -> Ending
+    ensures { result ≡ refusal_ending error }
+{
+    match error {
+        KahnError::Limit(limit) => Ending::Limit(limit),
+        KahnError::OutOfMemory => Ending::OutOfMemory,
+    }
+}
+
+// Writes the lines of main's results that its feed allows, where these instants are given, by the plain interpreter.
+fn write_interpreted<F: Fn(u32, i64, i64) -> i64 + Sync, O: Sink>(
+    alloc: Global,
+    placed: &Placed,
+    clocks: &[NodeClock],
+    outputs: &[OutputSpec],
+    host: &Host<F>,
+    given: Option<u64>,
+    feed: Feed,
+    out: &mut O,
+) -> Ending
+    requires clocked { AreClocked placed.now.nodes clocks.now }
+    requires scheduled { HasSchedule placed.now.nodes clocks.now }
+    requires outputs { length outputs.now ≡ length (results_in (main_of placed.now.nodes)) }
+    requires serves { Serves F.pre F.post host.now }
+    requires known { placed.now.operators ≤ length (lent host.now) }
+    requires inputs { params_in (main_of placed.now.nodes) ≡ length feed.items }
+    requires few { IfSome given (λ most. most ≤ limit_number limit.Instants) }
+    ensures ends { (horizon : ℕ) × IsHorizonOf (param_words placed.now.nodes clocks.now) given feed.items horizon
+        × LeavesOwed (Interprets (kinds_of (lent host.now)) placed.now.nodes clocks.now outputs.now given feed.items feed.stop horizon)
+        (seen_sink (O.written out.old) (O.faults out.old) (O.since_stop out.old))
+        (seen_sink (O.written out.new) (O.faults out.new) (O.since_stop out.new)) result }
+    ensures count { O.faults out.old ≤ O.faults out.new }
+{
+    let Feed { items, stop } = feed;
+    let words = param_words(placed, clocks);
+    let horizon = horizon_of(words, given, &items);
+    let ending = ending_for(words, given, &items, stop);
+    let streams = match interpret(alloc, placed, clocks, host, &items, horizon) {
+        Ok(streams) => streams,
+        Err(error) => return refused(error),
+    };
+    match write_outputs(alloc, outputs, &streams, horizon, out) {
+        Ok(()) => ending,
+        Err(OutputError::Failed) => Ending::WriteFault,
+        Err(OutputError::OutOfMemory) => Ending::OutOfMemory,
+    }
+}
+
+/// Runs an accepted program by the plain interpreter: its input is read to its end or its first fault, and then the lines of its
+/// results are written up to the horizon, which is that of [`run`](crate::run), and nothing else.
+///
+/// `Limit(KahnTurns)` comes where the horizon times the number of places with calls written out is more than 1,024, else
+/// `Limit(KahnItems)` where a list of the interpreter has more than 65,536 items; both after reading and before any line.
+pub fn kahn<F: Fn(u32, i64, i64) -> i64 + Sync, I: Source, O: Sink>(
+    alloc: Global,
+    accepted: Accepted,
+    host: &Host<F>,
+    instants: Option<u64>,
+    source: &mut I,
+    out: &mut O,
+) -> Ending
+    requires serves { Serves F.pre F.post host.now }
+    requires accepted { (text : List ℕ) × IsAccepted (lent host.now) text accepted }
+    requires clocked { AreClocked accepted.placed.nodes accepted.clocks.items }
+    requires few { IfSome instants (λ given. given ≤ limit_number limit.Instants) }
+    requires given { accepted.inputs.items ≡ [] → instants ≢ None }
+    ensures ends { (taken : List ℕ) × (stop : Stop) × Read most_bytes
+        (seen_source (I.left source.old) (I.ended source.old) (I.faults source.old) (I.since_stop source.old))
+        (seen_source (I.left source.new) (I.ended source.new) (I.faults source.new) (I.since_stop source.new)) taken stop
+        × EndsWith (OwesKahn (kinds_of (lent host.now)) accepted instants taken stop) (OwesKahnOutput (kinds_of (lent host.now)) accepted instants taken stop)
+        (seen_sink (O.written out.old) (O.faults out.old) (O.since_stop out.old))
+        (seen_sink (O.written out.new) (O.faults out.new) (O.since_stop out.new)) result }
+    ensures unread { accepted.inputs.items ≡ [] → source.new ≡ source.old }
+    ensures source_count { I.faults source.old ≤ I.faults source.new }
+    ensures out_count { O.faults out.old ≤ O.faults out.new }
+{
+    let Accepted {
+        placed,
+        clocks,
+        inputs,
+        outputs,
+        ..
+    } = accepted;
+    let feed = match main_feed(alloc, inputs, source) {
+        Ok(feed) => feed,
+        Err(_) => return Ending::OutOfMemory,
+    };
+    write_interpreted(alloc, &placed, &clocks, &outputs, host, instants, feed, out)
+}

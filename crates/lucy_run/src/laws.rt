@@ -1,0 +1,29 @@
+// Laws of what is owed, on functions that call the laws of feeds and horizons alone.
+ghost use Rattle.lucy_run.specs.Laws.{OneRun, OneInterpretation, SameLines};
+
+use lucy_feed::one_feed;
+use lucy_meaning::one_horizon;
+
+/// The bytes taken, and how reading stopped, owe one output of `run`, with one ending.
+pub fn one_run()
+    ensures { OneRun }
+{
+    one_feed();
+    one_horizon();
+}
+
+/// They owe one output of `kahn`, with one ending.
+pub fn one_interpretation()
+    ensures { OneInterpretation }
+{
+    one_feed();
+    one_horizon();
+}
+
+/// `run` and `kahn` owe the same lines and the same ending, unless the interpreter passes a limit of its own.
+pub fn runs_print_what_kahn_prints()
+    ensures { SameLines }
+{
+    one_feed();
+    one_horizon();
+}

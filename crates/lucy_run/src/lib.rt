@@ -1,0 +1,20 @@
+//! A program run from its input to its output lines: what the commands `run` and `kahn` do with an accepted program, a source and
+//! a sink.
+//!
+//! It stands on `lucy_front` for accepted programs and their report, on `lucy_feed` for the items of the input, on `lucy_execution`
+//! for the streams of the results and on `lucy_output` for their lines. Begin with `specs/Owes.antt`, which says what stands on
+//! the output and how a run ends, and with `run` in `running.rt`.
+#![tactic(auto)]
+
+mod ending;
+mod feeding;
+mod horizons;
+mod interpreting;
+mod laws;
+mod lines;
+mod running;
+
+pub use ending::Ending;
+pub use interpreting::kahn;
+pub use laws::{one_interpretation, one_run, runs_print_what_kahn_prints};
+pub use running::run;

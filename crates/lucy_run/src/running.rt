@@ -1,0 +1,99 @@
+// The command `run` on an accepted program.
+ghost use Rattle.std.specs.Prelude.{◌≡◌, ◌≢◌, ◌≤◌, ℕ, List, [], None, Some, IfOk, IfSome};
+ghost use Rattle.lucy_word.specs.Limits.{limit_number};
+ghost use Rattle.lucy_word.specs.declared.limit.Limit.TheVariants as limit;
+ghost use Rattle.lucy_host.specs.Host.{Serves, lent};
+ghost use Rattle.lucy_host.specs.Operators.{kinds_of};
+ghost use Rattle.lucy_lines.specs.Fronts.{most_bytes};
+ghost use Rattle.lucy_feed.specs.Sources.{Stop, seen_source, Read};
+ghost use Rattle.lucy_output.specs.Sinks.{seen_sink};
+ghost use Rattle.lucy_flat.specs.Clocked.{AreClocked};
+ghost use Rattle.lucy_front.specs.Accepting.{IsAccepted};
+ghost use Rattle.lucy_front.specs.Report.{IsReportable};
+ghost use Rattle.lucy_run.specs.Owes as owes;
+ghost use Rattle.lucy_run.specs.Owes.{OwesRun, OwesRunOutput};
+ghost use Rattle.lucy_run.specs.declared.ending.Ending.TheVariants as ending;
+ghost use Rattle.lucy_run.specs.Ends.{EndsWith, FailsInOrder};
+
+use crate::ending::Ending;
+use crate::feeding::main_feed;
+use crate::lines::{Play, write_fed};
+use lucy_front::{Accepted, report};
+use lucy_host::Host;
+use lucy_output::write_text;
+use lucy_text::{Sink, Source};
+use lucy_word::OutOfMemory;
+use std::alloc::Global;
+
+// The report and the line `run`.
+fn heading(alloc: Global, accepted: &Accepted) -> Result<Vec<u8>, OutOfMemory>
+    requires { IsReportable accepted.now.placed.nodes accepted.now.typed accepted.now.clocks.items }
+    ensures { IfOk result (λ v. v.items ≡ owes.heading accepted.now) }
+{
+    let mut text = report(alloc, accepted)?;
+    text.extend_from_slice(b"run\n")?;
+    Ok(text)
+}
+
+/// Runs an accepted program: its report and the line `run` are written, then its input is read to its end or its first fault, and
+/// then the lines of its results are written up to the horizon, at most as many instants as are given, or 1,048,576 where none
+/// are. A main without inputs reads nothing, and runs so many instants.
+///
+/// After a failed write nothing more is written or read.
+pub fn run<F: Fn(u32, i64, i64) -> i64 + Sync, I: Source, O: Sink>(
+    alloc: Global,
+    accepted: Accepted,
+    host: &Host<F>,
+    instants: Option<u64>,
+    source: &mut I,
+    out: &mut O,
+) -> Ending
+    requires serves { Serves F.pre F.post host.now }
+    requires accepted { (text : List ℕ) × IsAccepted (lent host.now) text accepted }
+    requires reportable { IsReportable accepted.placed.nodes accepted.typed accepted.clocks.items }
+    requires clocked { AreClocked accepted.placed.nodes accepted.clocks.items }
+    requires few { IfSome instants (λ given. given ≤ limit_number limit.Instants) }
+    requires given { accepted.inputs.items ≡ [] → instants ≢ None }
+    ensures ends { (taken : List ℕ) × (stop : Stop) × Read most_bytes
+        (seen_source (I.left source.old) (I.ended source.old) (I.faults source.old) (I.since_stop source.old))
+        (seen_source (I.left source.new) (I.ended source.new) (I.faults source.new) (I.since_stop source.new)) taken stop
+        × EndsWith (OwesRun (kinds_of (lent host.now)) accepted instants taken stop) (OwesRunOutput (kinds_of (lent host.now)) accepted instants taken stop)
+        (seen_sink (O.written out.old) (O.faults out.old) (O.since_stop out.old))
+        (seen_sink (O.written out.new) (O.faults out.new) (O.since_stop out.new)) result }
+    ensures in_order { result ≡ ending.WriteFault → FailsInOrder (owes.heading accepted)
+        (seen_sink (O.written out.old) (O.faults out.old) (O.since_stop out.old))
+        (seen_sink (O.written out.new) (O.faults out.new) (O.since_stop out.new)) source.old source.new }
+    ensures unread { accepted.inputs.items ≡ [] → source.new ≡ source.old }
+    ensures source_count { I.faults source.old ≤ I.faults source.new }
+    ensures out_count { O.faults out.old ≤ O.faults out.new }
+{
+    let text = match heading(alloc, &accepted) {
+        Ok(text) => text,
+        Err(_) => return Ending::OutOfMemory,
+    };
+    match write_text(out, &text) {
+        Ok(()) => {}
+        Err(_) => return Ending::WriteFault,
+    }
+    let Accepted {
+        placed,
+        clocks,
+        net,
+        schedule,
+        inputs,
+        outputs,
+        ..
+    } = accepted;
+    let feed = match main_feed(alloc, inputs, source) {
+        Ok(feed) => feed,
+        Err(_) => return Ending::OutOfMemory,
+    };
+    let play = Play {
+        placed,
+        clocks,
+        net,
+        schedule,
+        outputs,
+    };
+    write_fed(alloc, play, host, instants, feed, out)
+}
