@@ -1,5 +1,5 @@
 -- A text is answered, or refused for one cause.
-use Rattle.std.proofs.Common.{ℕ, ◌≡◌, List, [], ◌∷◌, length, Result, Ok, Err, ap, sym, ◌∙◌, subst, inl, inr, arith}
+use Rattle.std.proofs.Common.{ℕ, ◌≡◌, List, [], ◌∷◌, length, Result, Ok, Err, ap, sym, ◌∙◌, subst, inl, inr}
 use Rattle.lucy_word.specs.Bits.{Bits}
 use Rattle.lucy_word.specs.Reading.{IsReadable, Refuses}
 use Rattle.lucy_word.specs.declared.error.WordError.{WordError}
@@ -7,7 +7,6 @@ use Rattle.lucy_word.specs.declared.error.WordError.TheVariants as word
 use Rattle.lucy_word.specs.declared.limit.Limit.TheVariants as limit
 use Rattle.lucy_word.proofs.SpellingLaws.{reads_one}
 use Rattle.lucy_app.specs.Fields.{fields}
-use Rattle.lucy_order.specs.declared.verdict.Verdict.{Verdict}
 use Rattle.lucy_order.specs.Verdicts.{IsVerdict}
 use Rattle.lucy_order.proofs.OneVerdict.{one_verdict}
 use Rattle.lucy_app.specs.Order.{IsPair, IsVerdictLine, verdict_line, RefusesWord, RefusesFields}

@@ -2,9 +2,16 @@ mod Pairs
 mod Causes
 mod Verdicts
 mod Typed
+mod Checked
+mod Told
+mod OwedPrograms
+mod RunsOnce
 mod Owed
 mod Outcomes
-mod Gathered
 mod Sinks
+mod Runs
+mod RunEnds
+mod Accepting
+mod Instants
 mod Statuses
 mod Reports

@@ -6,31 +6,33 @@ use Rattle.std.specs.declared.vec.Vec.{Vec}
 use Rattle.lucy_word.specs.declared.limit.Limit.TheVariants as limit
 use Rattle.lucy_text.specs.declared.shelf.ShelfError.{ShelfError}
 use Rattle.lucy_text.specs.declared.shelf.ShelfError.TheVariants as shelf
-use Rattle.lucy_app.specs.World.{Stop, Ended, Failed, Passed, Open}
+use Rattle.lucy_feed.specs.Sources.{Stop, Ended, Failed, Passed, Open, IsGathered}
+use Rattle.lucy_feed.specs.declared.read.ReadError.{ReadError}
+use Rattle.lucy_feed.specs.declared.read.ReadError.TheVariants as read
 use Rattle.lucy_app.specs.Answers.{limit_passed}
 use Rattle.lucy_app.specs.Fields.{fields}
 use Rattle.lucy_app.specs.Order.{IsVerdictLine, RefusesFields}
-use Rattle.lucy_app.specs.Owes.{OwesOrder, OwesProgram}
-use Rattle.lucy_app.specs.Outcomes.{bytes_of, refusal_answer, fetch_refusal, RefusesProgram, RefusesInput, IsOutcome, IsGathered}
-use Rattle.lucy_app.specs.declared.program_refusal.ProgramCause.{ProgramCause}
-use Rattle.lucy_app.specs.declared.input_refusal.InputCause.{InputCause}
+use Rattle.lucy_app.specs.Owes.{OwesOrder}
+use Rattle.lucy_app.specs.Programs.{OwesProgram}
+use Rattle.lucy_app.specs.Outcomes.{bytes_of, refusal_answer, fetch_refusal, RefusesProgram, RefusesInput, IsOutcome, read_refusal}
+use Rattle.lucy_front.specs.declared.refusal.Refusal.{Refusal as Reason}
 use Rattle.lucy_app.specs.declared.refusal.Refusal.{Refusal}
-use Rattle.lucy_app.specs.declared.refusal.Refusal.TheVariants.{Program, Input, ReadFault, OutOfMemory}
+use Rattle.lucy_app.specs.declared.refusal.Refusal.TheVariants.{ReadFault, OutOfMemory}
 
-program_owed : (Prints : List ℕ → List ℕ → Type 0) (Refuses : List ℕ → ProgramCause → Type 0) (text : List ℕ) (r : Result (Vec ℕ Global) Refusal) →
+pub program_owed : (Prints : List ℕ → List ℕ → Type 0) (Refuses : List ℕ → Reason → Type 0) (text : List ℕ) (r : Result (Vec ℕ Global) Refusal) →
     IfOk r (λ v. Prints text v.items) → IfErr r (RefusesProgram (Refuses text)) → IsOutcome (OwesProgram Prints Refuses (Ok text)) r
 program_owed Prints Refuses text (Ok print) is why = inl (print.items, is, refl)
 program_owed Prints Refuses text (Err e) is (inl out) = inl out
 program_owed Prints Refuses text (Err e) is (inr why) = inr (inr (why.0, why.1, ap refusal_answer why.2))
 
 -- the text that a fetch gave came out so
-pub program_outcome : (Prints : List ℕ → List ℕ → Type 0) (Refuses : List ℕ → ProgramCause → Type 0) (fetched : Result (Vec ℕ Global) ShelfError) (text : Vec ℕ Global) (r : Result (Vec ℕ Global) Refusal) →
+pub program_outcome : (Prints : List ℕ → List ℕ → Type 0) (Refuses : List ℕ → Reason → Type 0) (fetched : Result (Vec ℕ Global) ShelfError) (text : Vec ℕ Global) (r : Result (Vec ℕ Global) Refusal) →
     fetched ≡ Ok text → IfOk r (λ v. Prints text.items v.items) → IfErr r (RefusesProgram (Refuses text.items)) → IsOutcome (OwesProgram Prints Refuses (bytes_of fetched)) r
 program_outcome Prints Refuses fetched text r gave is why =
     let P : Result (Vec ℕ Global) ShelfError → Type 0 = λ f. IsOutcome (OwesProgram Prints Refuses (bytes_of f)) r in
     subst P (sym gave) (program_owed Prints Refuses text.items r is why)
 
-fetch_owed : (Prints : List ℕ → List ℕ → Type 0) (Refuses : List ℕ → ProgramCause → Type 0) (e : ShelfError) →
+pub fetch_owed : (Prints : List ℕ → List ℕ → Type 0) (Refuses : List ℕ → Reason → Type 0) (e : ShelfError) →
     (fetch_refusal e ≡ OutOfMemory) ⊎ OwesProgram Prints Refuses (Err e) (refusal_answer (fetch_refusal e))
 fetch_owed Prints Refuses shelf.Failed = inr refl
 fetch_owed Prints Refuses shelf.Missing = inr refl
@@ -38,7 +40,7 @@ fetch_owed Prints Refuses shelf.TooLong = inr refl
 fetch_owed Prints Refuses shelf.OutOfMemory = inl refl
 
 -- a fetch gave no text
-pub fetch_outcome : (Prints : List ℕ → List ℕ → Type 0) (Refuses : List ℕ → ProgramCause → Type 0) (fetched : Result (Vec ℕ Global) ShelfError) (e : ShelfError) (r : Result (Vec ℕ Global) Refusal) (refusal : Refusal) →
+pub fetch_outcome : (Prints : List ℕ → List ℕ → Type 0) (Refuses : List ℕ → Reason → Type 0) (fetched : Result (Vec ℕ Global) ShelfError) (e : ShelfError) (r : Result (Vec ℕ Global) Refusal) (refusal : Refusal) →
     fetched ≡ Err e → r ≡ Err refusal → refusal ≡ fetch_refusal e → IsOutcome (OwesProgram Prints Refuses (bytes_of fetched)) r
 fetch_outcome Prints Refuses fetched e r refusal gave is so =
     let P : Result (Vec ℕ Global) ShelfError → Type 0 = λ f. IsOutcome (OwesProgram Prints Refuses (bytes_of f)) r in
@@ -69,16 +71,17 @@ long_outcome most taken bytes stop e same long (inr passed) is =
     let Q : Stop → Type 0 = λ s. IsOutcome (OwesOrder taken s) (Err e) in
     subst Q (sym passed.1) (inr is)
 
-fault_owed : (taken : List ℕ) (stop : Stop) (e : Refusal) → ((e ≡ ReadFault) × (stop ≡ Failed)) ⊎ ((e ≡ OutOfMemory) × (stop ≡ Open)) → (e ≡ OutOfMemory) ⊎ OwesOrder taken stop (refusal_answer e)
+fault_owed : (taken : List ℕ) (stop : Stop) (e : ReadError) → ((e ≡ read.Failed) × (stop ≡ Failed)) ⊎ ((e ≡ read.OutOfMemory) × (stop ≡ Open)) →
+    (read_refusal e ≡ OutOfMemory) ⊎ OwesOrder taken stop (refusal_answer (read_refusal e))
 fault_owed taken stop e (inl fault) =
-    let P : Stop → Type 0 = λ s. OwesOrder taken s (refusal_answer e) in
-    inr (subst P (sym fault.1) (ap refusal_answer fault.0))
-fault_owed taken stop e (inr out) = inl out.0
+    let P : Stop → Type 0 = λ s. OwesOrder taken s (refusal_answer (read_refusal e)) in
+    inr (subst P (sym fault.1) (ap (λ x. refusal_answer (read_refusal x)) fault.0))
+fault_owed taken stop e (inr out) = inl (ap read_refusal out.0)
 
 -- an input that was not read to its end
-pub unread_outcome : (most : ℕ) (taken : List ℕ) (stop : Stop) (gathered r : Result (Vec ℕ Global) Refusal) (e f : Refusal) → IsGathered most taken stop gathered → gathered ≡ Err e → r ≡ Err f → f ≡ e →
-    IsOutcome (OwesOrder taken stop) r
+pub unread_outcome : (most : ℕ) (taken : List ℕ) (stop : Stop) (gathered : Result (Vec ℕ Global) ReadError) (r : Result (Vec ℕ Global) Refusal) (e : ReadError) (f : Refusal) →
+    IsGathered most taken stop gathered → gathered ≡ Err e → r ≡ Err f → f ≡ read_refusal e → IsOutcome (OwesOrder taken stop) r
 unread_outcome most taken stop gathered r e f how was is same =
-    let G : Result (Vec ℕ Global) Refusal → Type 0 = λ g. IsGathered most taken stop g in
+    let G : Result (Vec ℕ Global) ReadError → Type 0 = λ g. IsGathered most taken stop g in
     let Q : Result (Vec ℕ Global) Refusal → Type 0 = λ x. IsOutcome (OwesOrder taken stop) x in
     subst Q (sym (is ∙ ap Err same)) (fault_owed taken stop e (subst G was how))

@@ -9,7 +9,9 @@ use Rattle.lucy_place.specs.declared.placed.PlacedNode.{PlacedNode}
 use Rattle.lucy_place.specs.Proper.{at_one}
 use Rattle.lucy_types.specs.declared.ty.Ty.{Ty}
 use Rattle.lucy_types.specs.Tables.{table_at}
-use Rattle.lucy_app.specs.Report.{name_line, name_lines, node_line, is_main, report}
+use Rattle.lucy_front.specs.Names.{node_line}
+use Rattle.lucy_front.specs.Report.{is_main}
+use Rattle.lucy_app.specs.Report.{name_line, name_lines, report}
 
 -- what is left of a list from an entry on
 drop_at : {A : Type 0} (xs : List A) (i : ℕ) (x : A) → slice_get xs i ≡ Some x → drop i xs ≡ x ∷ drop (i + 1) xs

@@ -1,18 +1,20 @@
 -- How a command ends that came out so and was told so.
-use Rattle.std.proofs.Common.{ℕ, ◌≡◌, ◌⊎◌, List, [], Option, Some, None, Result, Ok, Err, refl, ap, sym, ◌∙◌, subst, inl, inr}
+use Rattle.std.proofs.Common.{ℕ, ◌≡◌, ◌⊎◌, List, [], Option, Some, None, Result, Ok, Err, refl, sym, subst, inl, inr}
 use Rattle.std.specs.declared.alloc.Global.{Global}
 use Rattle.std.specs.declared.vec.Vec.{Vec}
-use Rattle.lucy_text.specs.Outside.{appended}
 use Rattle.lucy_text.proofs.OutsideLaws.{appended-nil}
 use Rattle.lucy_app.specs.Commands.{Command}
-use Rattle.lucy_app.specs.World.{SeenSink, World, Given, Meets}
-use Rattle.lucy_app.specs.Lines.{words_line, read_fault_line}
+use Rattle.lucy_output.specs.Sinks.{SeenSink, Writes}
+use Rattle.lucy_app.specs.World.{World, Given, Meets}
+use Rattle.lucy_app.specs.Lines.{words_line, read_fault_line, instants_line, write_fault_line}
 use Rattle.lucy_app.specs.Answers.{Answer, printed, out_of_memory}
-use Rattle.lucy_app.specs.Owes.{Owes}
-use Rattle.lucy_app.specs.Ends.{Writes, Tells, MayAnswer, EndsWith, Ends}
-use Rattle.lucy_app.specs.Outcomes.{refusal_answer, IsOutcome, TellsRefusal, Delivers}
+use Rattle.lucy_app.specs.Owes.{Owes, OwesOutput}
+use Rattle.lucy_app.specs.Ends.{Tells, MayAnswer, EndsBy, EndsWith, Ends}
+use Rattle.lucy_run.specs.declared.ending.Ending.{Ending}
+use Rattle.lucy_run.specs.declared.ending.Ending.TheVariants as ending
+use Rattle.lucy_app.specs.Outcomes.{refusal_answer, IsOutcome, TellsRefusal, Delivers, TellsEnding}
 use Rattle.lucy_app.specs.declared.refusal.Refusal.{Refusal}
-use Rattle.lucy_app.specs.declared.refusal.Refusal.TheVariants.{Program, Input, ReadFault, OutOfMemory}
+use Rattle.lucy_app.specs.declared.refusal.Refusal.TheVariants.{Program, Input, NoInstants, ReadFault, OutOfMemory}
 
 -- a sink that is as it was has no more bytes
 pub unwritten : (s : SeenSink) → Writes s s []
@@ -26,45 +28,51 @@ nothing_written s t bytes same none =
 
 -- a refusal prints nothing
 prints_nothing : (e : Refusal) → (refusal_answer e).out ≡ []
-prints_nothing (Program cause) = refl
+prints_nothing (Program reason) = refl
 prints_nothing (Input cause) = refl
+prints_nothing NoInstants = refl
 prints_nothing ReadFault = refl
 prints_nothing OutOfMemory = refl
 
--- memory may run out before anything is printed
-may_run_out : (command : Command) (given : Given) → MayAnswer command given (out_of_memory [])
-may_run_out command given = inr ([], inl refl, refl)
+module _ (Owed : Answer → Type 0) (OwedOutput : List ℕ → Type 0) where
+  may_refuse : (e : Refusal) → (e ≡ OutOfMemory) ⊎ Owed (refusal_answer e) → MayAnswer Owed OwedOutput (refusal_answer e)
+  may_refuse e (inl out) =
+      let P : Refusal → Type 0 = λ r. MayAnswer Owed OwedOutput (refusal_answer r) in
+      subst P (sym out) (inr ([], inl refl, refl))
+  may_refuse e (inr owed) = inl owed
 
-may_refuse : (command : Command) (given : Given) (e : Refusal) → (e ≡ OutOfMemory) ⊎ Owes command given (refusal_answer e) → MayAnswer command given (refusal_answer e)
-may_refuse command given e (inl out) =
-    let P : Refusal → Type 0 = λ r. MayAnswer command given (refusal_answer r) in
-    subst P (sym out) (may_run_out command given)
-may_refuse command given e (inr owed) = inl owed
+  -- a command that is refused, and this was told
+  pub ends_refused : (e : Refusal) (out out' err err' : SeenSink) (status : ℕ) → (e ≡ OutOfMemory) ⊎ Owed (refusal_answer e) → out' ≡ out → TellsRefusal e err err' status →
+      EndsBy Owed OwedOutput out out' err err' status
+  ends_refused e out out' err err' status owed same (inl line) =
+      inl (refusal_answer e, may_refuse e owed, record { printed = nothing_written out out' (refusal_answer e).out same (prints_nothing e); told = line })
+  ends_refused e out out' err err' status owed same (inr line) =
+      inl (out_of_memory [], inr ([], inl refl, refl), record { printed = nothing_written out out' [] same refl; told = line })
 
 -- a command that came out so, and whose outcome was delivered
 ends_so : (command : Command) (given : Given) (outcome : Result (Vec ℕ Global) Refusal) (before after : World) (status : ℕ) → IsOutcome (Owes command given) outcome →
     Delivers outcome before.out after.out before.err after.err status → EndsWith command given before after status
 ends_so command given (Ok print) before after status owed (inl answers) = inl (printed print.items, inl owed, answers)
-ends_so command given (Ok print) before after status owed (inr breaks) = inr (print.items, (printed print.items, owed, refl), breaks)
-ends_so command given (Err e) before after status owed told =
-    elim told.1 [
-      | inl line ↦ inl (
-        refusal_answer e,
-        may_refuse command given e owed,
-        record { printed = nothing_written before.out after.out (refusal_answer e).out told.0 (prints_nothing e); told = line },
-      )
-      | inr line ↦ inl (
-        out_of_memory [],
-        may_run_out command given,
-        record { printed = nothing_written before.out after.out [] told.0 refl; told = line },
-      )
-    ]
+ends_so command given (Ok print) before after status owed (inr breaks) = inr (print.items, inl (printed print.items, owed, refl), breaks)
+ends_so command given (Err e) before after status owed told = ends_refused (Owes command given) (OwesOutput command given) e before.out after.out before.err after.err status owed told.0 told.1
 
 -- a read fault was told
 pub tells_fault : (e : Refusal) (err err' : SeenSink) (status : ℕ) → e ≡ ReadFault → Tells 4 read_fault_line err err' status → TellsRefusal e err err' status
 tells_fault e err err' status is told =
     let P : Refusal → Type 0 = λ r. TellsRefusal r err err' status in
     subst P (sym is) (inl told)
+
+-- or that the instants are missing
+pub tells_missing : (e : Refusal) (err err' : SeenSink) (status : ℕ) → e ≡ NoInstants → Tells 2 instants_line err err' status → TellsRefusal e err err' status
+tells_missing e err err' status is told =
+    let P : Refusal → Type 0 = λ r. TellsRefusal r err err' status in
+    subst P (sym is) (inl told)
+
+-- or that a write failed
+pub tells_write_fault : (end : Ending) (err err' : SeenSink) (status : ℕ) → end ≡ ending.WriteFault → Tells 5 write_fault_line err err' status → TellsEnding end err err' status
+tells_write_fault end err err' status is told =
+    let P : Ending → Type 0 = λ x. TellsEnding x err err' status in
+    subst P (sym is) told
 
 -- words that name no command
 pub ends_none : (found : Option Command) (before after : World) (status : ℕ) → None ≡ found → after.shelf ≡ before.shelf → after.source ≡ before.source → after.out ≡ before.out →
@@ -79,3 +87,10 @@ pub ends_some : (found : Option Command) (command : Command) (given : Given) (ou
 ends_some found command given outcome before after status is met owed told =
     let P : Option Command → Type 0 = λ o. Ends o before after status in
     subst P is (given, met, ends_so command given outcome before after status owed told)
+
+-- and that ends so
+pub ends_with : (found : Option Command) (command : Command) (given : Given) (before after : World) (status : ℕ) → Some command ≡ found → Meets command before after given →
+    EndsWith command given before after status → Ends found before after status
+ends_with found command given before after status is met ends =
+    let P : Option Command → Type 0 = λ o. Ends o before after status in
+    subst P is (given, met, ends)

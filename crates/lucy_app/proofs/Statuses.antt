@@ -1,25 +1,39 @@
 -- Every status is at most 7.
-use Rattle.std.proofs.Common.{ℕ, ◌≤◌, ◌≡◌, ◌⊎◌, List, Option, Some, None, Result, Ok, Err, inl, inr, ap, arith}
+use Rattle.std.proofs.Common.{ℕ, ◌≤◌, ◌≡◌, List, Option, Some, None, Result, Ok, Err, inl, inr, ap, arith}
 use Rattle.std.specs.Prelude.{IsSomeAnd}
 use Rattle.lucy_text.specs.declared.shelf.ShelfError.{ShelfError}
 use Rattle.lucy_text.specs.declared.shelf.ShelfError.TheVariants as shelf
-use Rattle.lucy_app.specs.Commands.{Command, Order, Show, Types}
-use Rattle.lucy_app.specs.World.{SeenSink, World, Stop, Unread, Ended, Failed, Passed, Open, Given}
+use Rattle.lucy_app.specs.Commands.{Command, Order, Show, Types, Check, Run, Kahn}
+use Rattle.lucy_feed.specs.Sources.{Stop, Ended, Failed, Passed}
+use Rattle.lucy_output.specs.Sinks.{SeenSink}
+use Rattle.lucy_app.specs.World.{World, Given}
 use Rattle.lucy_app.specs.ProgramRefusals.{program_status}
 use Rattle.lucy_app.specs.InputRefusals.{input_status}
 use Rattle.lucy_app.specs.Answers.{Answer, no_command}
 use Rattle.lucy_app.specs.Show.{IsPrintOf, RefusesSyntax}
 use Rattle.lucy_app.specs.Types.{IsReportOf, RefusesText}
-use Rattle.lucy_app.specs.Owes.{OwesOrder, OwesProgram, Owes}
+use Rattle.lucy_app.specs.Check.{IsCheckOf, RefusesCheck}
+use Rattle.lucy_app.specs.Owes.{OwesOrder, Owes, OwesOutput}
+use Rattle.lucy_app.specs.Programs.{OwesProgram}
+use Rattle.lucy_app.specs.Endings.{fault_status, ending_status}
+use Rattle.lucy_app.specs.Running.{NoPrint, OwesRunning}
+use Rattle.lucy_host.specs.Operators.{Operator, kinds_of}
+use Rattle.lucy_lines.specs.declared.reader.TextFault.{TextFault}
+use Rattle.lucy_lines.specs.declared.reader.TextFault.TheVariants as fault
+use Rattle.lucy_front.specs.declared.accepted.Accepted.{Accepted}
+use Rattle.lucy_run.specs.declared.ending.Ending.{Ending}
+use Rattle.lucy_run.specs.declared.ending.Ending.TheVariants as ending
+use Rattle.lucy_run.specs.Owes.{OwesRun, OwesKahn}
 use Rattle.lucy_app.specs.Ends.{Tells, MayAnswer, EndsWith, Ends}
-use Rattle.lucy_app.specs.declared.program_refusal.ProgramCause.{ProgramCause}
-use Rattle.lucy_app.specs.declared.program_refusal.ProgramCause.TheVariants as program
+use Rattle.lucy_front.specs.declared.refusal.Refusal.{Refusal}
+use Rattle.lucy_front.specs.declared.refusal.Refusal.TheVariants as program
 use Rattle.lucy_app.specs.declared.input_refusal.InputCause.{InputCause}
 use Rattle.lucy_app.specs.declared.input_refusal.InputCause.TheVariants as input
 
-program_within : (cause : ProgramCause) → program_status cause ≤ 7
+program_within : (refusal : Refusal) → program_status refusal ≤ 7
 program_within (program.Limit passed) = omega arith
-program_within cause = omega arith
+program_within program.OutOfMemory = omega arith
+program_within refusal = omega arith
 
 input_within : (cause : InputCause) → input_status cause ≤ 7
 input_within (input.Limit passed) = omega arith
@@ -35,7 +49,7 @@ order_within taken Failed a is = same_within a _ is (omega arith)
 order_within taken Passed a is = same_within a _ is (omega arith)
 order_within taken stop a is = absurd is
 
-file_within : (Prints : List ℕ → List ℕ → Type 0) (Refuses : List ℕ → ProgramCause → Type 0) (fetched : Result (List ℕ) ShelfError) (a : Answer) → OwesProgram Prints Refuses fetched a → a.status ≤ 7
+file_within : (Prints : List ℕ → List ℕ → Type 0) (Refuses : List ℕ → Refusal → Type 0) (fetched : Result (List ℕ) ShelfError) (a : Answer) → OwesProgram Prints Refuses fetched a → a.status ≤ 7
 file_within Prints Refuses (Ok text) a (inl is) = same_within a _ is.2 (omega arith)
 file_within Prints Refuses (Ok text) a (inr is) = same_within a _ is.2 (program_within is.0)
 file_within Prints Refuses (Err shelf.Failed) a is = same_within a _ is (omega arith)
@@ -43,17 +57,47 @@ file_within Prints Refuses (Err shelf.Missing) a is = same_within a _ is (omega 
 file_within Prints Refuses (Err shelf.TooLong) a is = same_within a _ is (omega arith)
 file_within Prints Refuses (Err shelf.OutOfMemory) a is = absurd is
 
-fetched_within : (Prints : List ℕ → List ℕ → Type 0) (Refuses : List ℕ → ProgramCause → Type 0) (fetched : Option (Result (List ℕ) ShelfError)) (a : Answer) →
+fetched_within : (Prints : List ℕ → List ℕ → Type 0) (Refuses : List ℕ → Refusal → Type 0) (fetched : Option (Result (List ℕ) ShelfError)) (a : Answer) →
     IsSomeAnd fetched (λ r. OwesProgram Prints Refuses r a) → a.status ≤ 7
 fetched_within Prints Refuses None a is = absurd is
 fetched_within Prints Refuses (Some fetched) a is = file_within Prints Refuses fetched a is
+
+fault_within : (e : TextFault) → fault_status e ≤ 7
+fault_within (fault.BadLine number) = omega arith
+fault_within (fault.UnknownStream number) = omega arith
+fault_within (fault.BadValue number) = omega arith
+fault_within fault.ReadFault = omega arith
+fault_within fault.TooLong = omega arith
+
+ending_within : (end : Ending) → ending_status end ≤ 7
+ending_within ending.Done = omega arith
+ending_within (ending.Input e) = fault_within e
+ending_within (ending.Limit passed) = omega arith
+ending_within ending.WriteFault = omega arith
+ending_within ending.OutOfMemory = omega arith
+
+running_within : (Owed : Accepted → List ℕ → Ending → Type 0) (ops : List Operator) (instants : Option ℕ) (stop : Stop) (fetched : Result (List ℕ) ShelfError) (a : Answer) →
+    OwesRunning Owed ops instants stop fetched a → a.status ≤ 7
+running_within Owed ops instants stop fetched a (inl (inl is, read)) = file_within NoPrint (RefusesCheck ops) fetched a is
+running_within Owed ops instants stop (Ok text) a (inl (inr is, read)) = same_within a _ is.3 (omega arith)
+running_within Owed ops instants stop (Err e) a (inl (inr is, read)) = absurd is
+running_within Owed ops instants stop (Ok text) a (inr is) = same_within a _ is.5 (ending_within is.3)
+running_within Owed ops instants stop (Err e) a (inr is) = absurd is
+
+run_within : (Owed : Accepted → List ℕ → Ending → Type 0) (ops : List Operator) (instants : Option ℕ) (stop : Stop) (fetched : Option (Result (List ℕ) ShelfError)) (a : Answer) →
+    IsSomeAnd fetched (λ r. OwesRunning Owed ops instants stop r a) → a.status ≤ 7
+run_within Owed ops instants stop None a is = absurd is
+run_within Owed ops instants stop (Some fetched) a is = running_within Owed ops instants stop fetched a is
 
 owed_within : (command : Command) (given : Given) (a : Answer) → Owes command given a → a.status ≤ 7
 owed_within Order given a is = order_within given.taken given.stop a is
 owed_within (Show file) given a is = fetched_within IsPrintOf RefusesSyntax given.fetched a is
 owed_within (Types file) given a is = fetched_within (IsReportOf given.operators) (RefusesText given.operators) given.fetched a is
+owed_within (Check file) given a is = fetched_within (IsCheckOf given.operators) (RefusesCheck given.operators) given.fetched a is
+owed_within (Run file instants) given a is = run_within (λ p. OwesRun (kinds_of given.operators) p instants given.taken given.stop) given.operators instants given.stop given.fetched a is
+owed_within (Kahn file instants) given a is = run_within (λ p. OwesKahn (kinds_of given.operators) p instants given.taken given.stop) given.operators instants given.stop given.fetched a is
 
-answer_within : (command : Command) (given : Given) (a : Answer) → MayAnswer command given a → a.status ≤ 7
+answer_within : (command : Command) (given : Given) (a : Answer) → MayAnswer (Owes command given) (OwesOutput command given) a → a.status ≤ 7
 answer_within command given a (inl is) = owed_within command given a is
 answer_within command given a (inr is) = same_within a _ is.2 (omega arith)
 

@@ -1,56 +1,57 @@
--- A text is printed in one way, or refused for causes that say the same.
-use Rattle.std.proofs.Common.{ℕ, ◌≡◌, ◌⊎◌, List, refl, ap, sym, ◌∙◌, subst, inl, inr}
+-- A text is printed in one way, or refused in ways that are alike.
+use Rattle.std.proofs.Common.{ℕ, ◌≡◌, List, [], ap, sym, ◌∙◌, subst, inl, inr}
 use Rattle.lucy_tree.specs.View.{ProgramTree}
-use Rattle.lucy_token.specs.declared.stop.SyntaxError.{SyntaxError}
+use Rattle.lucy_host.specs.Operators.{Operator}
 use Rattle.lucy_token.specs.declared.stop.SyntaxError.TheVariants as syntax
 use Rattle.lucy_grammar.specs.Print.{program_text}
-use Rattle.lucy_grammar.specs.Texts.{HasTree, IsRefused}
-use Rattle.lucy_grammar.proofs.TextLaws.{one_program, one_error, tree_or_error}
-use Rattle.lucy_app.specs.Show.{IsPrintOf, IsSyntaxCause, RefusesSyntax}
-use Rattle.lucy_app.specs.Outcomes.{RefusesProgram, syntax_refusal}
-use Rattle.lucy_app.specs.declared.program_refusal.ProgramCause.{ProgramCause}
-use Rattle.lucy_app.specs.declared.program_refusal.ProgramCause.TheVariants.{Clash}
+use Rattle.lucy_grammar.specs.Texts.{HasTree}
+use Rattle.lucy_grammar.proofs.TextLaws.{one_program, tree_or_error}
+use Rattle.lucy_front.specs.declared.refusal.Refusal.{Refusal}
+use Rattle.lucy_front.specs.declared.refusal.Refusal.TheVariants.{Syntax, Limit as LimitPassed, OutOfMemory}
+use Rattle.lucy_front.specs.Accepting.{RefusesPhases}
+use Rattle.lucy_front.specs.OneAnswer.{AreAlike}
+use Rattle.lucy_front.proofs.OneAnswer.{one_refusal}
+use Rattle.lucy_app.specs.Show.{IsPrintOf, RefusesSyntax}
 
--- the same cause, but for the path of a clash
-abbrev pub SaysSame : ProgramCause → ProgramCause → Type 0
-SaysSame c d = (c ≡ d) ⊎ ((node : List ℕ) × (path other : List (List ℕ)) × (c ≡ Clash node path) × (d ≡ Clash node other))
-
--- a text has one print, or none and causes that say the same
-pub record IsVerdict (Prints : List ℕ → List ℕ → Type 0) (Refuses : List ℕ → ProgramCause → Type 0) : Type 0 where
+-- a text has one print, or none and refusals that are alike
+pub record IsVerdict (Prints : List ℕ → List ℕ → Type 0) (Refuses : List ℕ → Refusal → Type 0) : Type 0 where
   pub one : (text print other : List ℕ) → Prints text print → Prints text other → print ≡ other
-  pub apart : (text print : List ℕ) (cause : ProgramCause) → Prints text print → Refuses text cause → ⊥
-  pub same : (text : List ℕ) (cause other : ProgramCause) → Refuses text cause → Refuses text other → SaysSame cause other
+  pub apart : (text print : List ℕ) (refusal : Refusal) → Prints text print → Refuses text refusal → ⊥
+  pub same : (text : List ℕ) (refusal other : Refusal) → Refuses text refusal → Refuses text other → AreAlike refusal other
 
--- an error of a text gives one cause
-one_syntax : (e : SyntaxError) (c d : ProgramCause) → IsSyntaxCause e c → IsSyntaxCause e d → c ≡ d
-one_syntax (syntax.Unexpected place) c d is also = is ∙ sym also
-one_syntax (syntax.BadNumber place) c d is also = is ∙ sym also
-one_syntax (syntax.BadWord place) c d is also = is ∙ sym also
-one_syntax (syntax.TooLarge passed) c d is also = is ∙ sym also
-one_syntax syntax.OutOfMemory c d is also = absurd is
+-- refusals by phases, none of them for want of memory, are alike
+pub phases_alike : (ops : List Operator) (Refuses : List ℕ → Refusal → Type 0) (text : List ℕ) (r s : Refusal) → ((x : Refusal) → Refuses text x → RefusesPhases ops text x) → (Refuses text OutOfMemory → ⊥) →
+    Refuses text r → Refuses text s → AreAlike r s
+phases_alike ops Refuses text r s phases some h k =
+    elim (one_refusal ops text r s (phases r h) (phases s k)) [
+      | inl e ↦ absurd (some (subst (Refuses text) e h))
+      | inr (inl e) ↦ absurd (some (subst (Refuses text) e k))
+      | inr (inr alike) ↦ alike
+    ]
 
--- a text has no tree for one cause
-pub one_syntax_cause : (text : List ℕ) (c d : ProgramCause) → RefusesSyntax text c → RefusesSyntax text d → c ≡ d
-one_syntax_cause text c d is also =
-    let P : SyntaxError → Type 0 = λ e. IsSyntaxCause e d in
-    one_syntax is.0 c d is.2 (subst P (one_error text also.0 is.0 also.1 is.1) also.2)
+syntax_phases : (text : List ℕ) (r : Refusal) → RefusesSyntax text r → RefusesPhases [] text r
+syntax_phases text (Syntax e) h = h
+syntax_phases text (LimitPassed l) h = inl h
+syntax_phases text r h = absurd h
+
+syntax_equal : (text : List ℕ) (r s : Refusal) → RefusesSyntax text r → AreAlike r s → r ≡ s
+syntax_equal text (Syntax e) s h alike = alike
+syntax_equal text (LimitPassed l) s h alike = alike
+syntax_equal text r s h alike = absurd h
+
+-- a text has no tree for one reason
+pub one_syntax : (text : List ℕ) (r s : Refusal) → RefusesSyntax text r → RefusesSyntax text s → r ≡ s
+one_syntax text r s h k = syntax_equal text r s h (phases_alike [] RefusesSyntax text r s (syntax_phases text) (λ out. out) h k)
 
 -- a text that has a tree is not refused
-pub tree_is_not_refused : (text : List ℕ) (p : ProgramTree) (cause : ProgramCause) → HasTree text p → RefusesSyntax text cause → ⊥
-tree_is_not_refused text p cause tree is = tree_or_error text p is.0 tree is.1
+tree_is_not_refused : (text : List ℕ) (p : ProgramTree) (r : Refusal) → HasTree text p → RefusesSyntax text r → ⊥
+tree_is_not_refused text p (Syntax e) tree h = tree_or_error text p e tree h.0
+tree_is_not_refused text p (LimitPassed l) tree h = tree_or_error text p (syntax.TooLarge l) tree h
+tree_is_not_refused text p r tree h = absurd h
 
 pub show_verdict : IsVerdict IsPrintOf RefusesSyntax
 show_verdict = record {
   one = λ text print other a b. a.2 ∙ ap program_text (one_program text a.0 b.0 a.1 b.1) ∙ sym b.2;
-  apart = λ text print cause a is. tree_is_not_refused text a.0 cause a.1 is;
-  same = λ text cause other is also. inl (one_syntax_cause text cause other is also);
+  apart = λ text print refusal a is. tree_is_not_refused text a.0 refusal a.1 is;
+  same = λ text r s h k. phases_alike [] RefusesSyntax text r s (syntax_phases text) (λ out. out) h k;
 }
-
--- why a text has no program that is refused so
-pub syntax_told : (text : List ℕ) (e : SyntaxError) → (e ≡ syntax.OutOfMemory) ⊎ IsRefused text e → RefusesProgram (RefusesSyntax text) (syntax_refusal e)
-syntax_told text e (inl out) = inl (ap syntax_refusal out)
-syntax_told text (syntax.Unexpected place) (inr is) = inr (_, (_, is, refl), refl)
-syntax_told text (syntax.BadNumber place) (inr is) = inr (_, (_, is, refl), refl)
-syntax_told text (syntax.BadWord place) (inr is) = inr (_, (_, is, refl), refl)
-syntax_told text (syntax.TooLarge passed) (inr is) = inr (_, (_, is, refl), refl)
-syntax_told text syntax.OutOfMemory (inr is) = inl refl

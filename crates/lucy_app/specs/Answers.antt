@@ -1,11 +1,12 @@
 -- The answers of commands.
 use Rattle.std.specs.Prelude.{ℕ, ◌≡◌, ◌⊎◌, List, []}
 use Rattle.lucy_word.specs.declared.limit.Limit.{Limit}
-use Rattle.lucy_app.specs.Lines.{limit_line, read_fault_line, memory_line, words_line}
-use Rattle.lucy_app.specs.ProgramRefusals.{program_status, program_line}
+use Rattle.lucy_front.specs.declared.refusal.Refusal.{Refusal}
+use Rattle.lucy_front.specs.Refusals.{limit_line, memory_line, refusal_text}
+use Rattle.lucy_front.specs.OneAnswer.{AreAlike}
+use Rattle.lucy_app.specs.Lines.{instants_line, read_fault_line, words_line}
+use Rattle.lucy_app.specs.ProgramRefusals.{program_status}
 use Rattle.lucy_app.specs.InputRefusals.{input_status, input_line}
-use Rattle.lucy_app.specs.declared.program_refusal.ProgramCause.{ProgramCause}
-use Rattle.lucy_app.specs.declared.program_refusal.ProgramCause.TheVariants.{Clash}
 use Rattle.lucy_app.specs.declared.input_refusal.InputCause.{InputCause}
 
 -- an answer: its status, what stands on the output, and what stands on the fault sink
@@ -26,6 +27,10 @@ refused status lines = record { status = status; out = []; err = lines }
 abbrev pub no_command : Answer
 no_command = refused 2 words_line
 
+-- the words lack the instants of a program without inputs
+abbrev pub no_instants : Answer
+no_instants = refused 2 instants_line
+
 -- a fetch or a read failed, or no file has the name
 abbrev pub read_fault : Answer
 read_fault = refused 4 read_fault_line
@@ -34,10 +39,11 @@ read_fault = refused 4 read_fault_line
 abbrev pub limit_passed : Limit → Answer
 limit_passed passed = refused 6 (limit_line passed)
 
--- the program, or the input, is refused for this cause
-abbrev pub program_refused : ProgramCause → Answer
-program_refused cause = refused (program_status cause) (program_line cause)
+-- the program is refused so
+abbrev pub program_refused : Refusal → Answer
+program_refused refusal = refused (program_status refusal) (refusal_text refusal)
 
+-- the input is refused for this cause
 abbrev pub input_refused : InputCause → Answer
 input_refused cause = refused (input_status cause) (input_line cause)
 
@@ -45,6 +51,6 @@ input_refused cause = refused (input_status cause) (input_line cause)
 abbrev pub out_of_memory : (out : List ℕ) → Answer
 out_of_memory out = record { status = 7; out = out; err = memory_line }
 
--- two answers are one, but that both may tell of a clash in the same node, each by a path of its own
+-- two answers are one, but that both may tell of refusals of a program that are alike, each with evidence of its own
 abbrev pub Alike : Answer → Answer → Type 0
-Alike a b = (a ≡ b) ⊎ ((node : List ℕ) × (path other : List (List ℕ)) × (a ≡ program_refused (Clash node path)) × (b ≡ program_refused (Clash node other)))
+Alike a b = (a ≡ b) ⊎ ((refusal other : Refusal) × AreAlike refusal other × (a ≡ program_refused refusal) × (b ≡ program_refused other))

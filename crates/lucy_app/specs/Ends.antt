@@ -1,24 +1,12 @@
 -- How a command ends: its status, and what it leaves of what it was lent.
-use Rattle.std.specs.Prelude.{ℕ, ◌≡◌, ◌⊎◌, List, [], take, Option, None, Some}
-use Rattle.lucy_text.specs.Outside.{appended, Rose, WritesFront, NoneFollows}
+use Rattle.std.specs.Prelude.{ℕ, ◌≡◌, ◌⊎◌, List, Option, None, Some}
+use Rattle.lucy_output.specs.Sinks.{SeenSink, Writes, Fails}
+use Rattle.lucy_run.specs.Ends.{IsFrontOf}
 use Rattle.lucy_app.specs.Commands.{Command}
-use Rattle.lucy_app.specs.World.{SeenSink, World, Given, Meets}
+use Rattle.lucy_app.specs.World.{World, Given, Meets}
 use Rattle.lucy_app.specs.Lines.{write_fault_line}
 use Rattle.lucy_app.specs.Answers.{Answer, no_command, out_of_memory}
 use Rattle.lucy_app.specs.Owes.{Owes, OwesOutput}
-
--- the bytes were written, whole; where there are none the sink is as it was
-pub record Writes (before after : SeenSink) (bytes : List ℕ) : Type 0 where
-  pub written : after.written ≡ appended before.written bytes
-  pub faults : after.faults ≡ before.faults
-  pub goes_on : before.since_stop ≡ Some 0 → after.since_stop ≡ Some 0
-  pub untouched : bytes ≡ [] → after ≡ before
-
--- a write failed, and a front of the bytes stands there
-pub record Fails (before after : SeenSink) (bytes : List ℕ) : Type 0 where
-  pub front : WritesFront before.written after.written bytes
-  pub faults : Rose before.faults after.faults
-  pub none_follows : NoneFollows before.since_stop after.since_stop
 
 -- the lines were told and the call ends with their status, or they failed
 abbrev pub Tells : (told : ℕ) (lines : List ℕ) (err err' : SeenSink) (status : ℕ) → Type 0
@@ -34,19 +22,19 @@ pub record Breaks (output : List ℕ) (out out' err err' : SeenSink) (status : �
   pub failed : Fails out out' output
   pub told : Tells 5 write_fault_line err err' status
 
--- a front of the output that a command owes; nothing is one, also where none is owed yet
-abbrev pub IsFront : Command → Given → (front : List ℕ) → Type 0
-IsFront command given front = (front ≡ []) ⊎ ((output : List ℕ) × (n : ℕ) × OwesOutput command given output × (front ≡ take n output))
+-- what is owed may be answered; or memory runs out, when a front of an output that is owed stands there
+abbrev pub MayAnswer : (Owed : Answer → Type 0) (OwedOutput : List ℕ → Type 0) → Answer → Type 0
+MayAnswer Owed OwedOutput answer = Owed answer ⊎ ((front : List ℕ) × IsFrontOf OwedOutput front × (answer ≡ out_of_memory front))
 
--- a command may give what it owes; or memory runs out, when a front of its output stands there
-abbrev pub MayAnswer : Command → Given → Answer → Type 0
-MayAnswer command given answer = Owes command given answer ⊎ ((front : List ℕ) × IsFront command given front × (answer ≡ out_of_memory front))
+-- how a command ends that owes such answers and such outputs
+abbrev pub EndsBy : (Owed : Answer → Type 0) (OwedOutput : List ℕ → Type 0) → (out out' err err' : SeenSink) (status : ℕ) → Type 0
+EndsBy Owed OwedOutput out out' err err' status =
+    ((answer : Answer) × MayAnswer Owed OwedOutput answer × Answers answer out out' err err' status)
+    ⊎ ((output : List ℕ) × OwedOutput output × Breaks output out out' err err' status)
 
 -- how a command ends, by what it has met
 abbrev pub EndsWith : Command → Given → (before after : World) (status : ℕ) → Type 0
-EndsWith command given before after status =
-    ((answer : Answer) × MayAnswer command given answer × Answers answer before.out after.out before.err after.err status)
-    ⊎ ((output : List ℕ) × OwesOutput command given output × Breaks output before.out after.out before.err after.err status)
+EndsWith command given before after status = EndsBy (Owes command given) (OwesOutput command given) before.out after.out before.err after.err status
 
 -- how the top call ends, where the words name this command or none
 abbrev pub Ends : Option Command → (before after : World) (status : ℕ) → Type 0

@@ -1,7 +1,7 @@
 -- Why the two words of `order` are refused, with their statuses and lines.
 use Rattle.std.specs.Prelude.{ℕ, List, ◌++◌, codes}
 use Rattle.std.specs.Fmt.{decimal}
-use Rattle.lucy_app.specs.Lines.{limit_line}
+use Rattle.lucy_front.specs.Refusals.{limit_line}
 use Rattle.lucy_app.specs.declared.input_refusal.InputCause.{InputCause}
 use Rattle.lucy_app.specs.declared.input_refusal.InputCause.TheVariants.{Count, BadWord, NoOne, Limit}
 

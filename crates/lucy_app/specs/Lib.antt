@@ -10,6 +10,10 @@ pub mod Order
 pub mod Show
 pub mod Report
 pub mod Types
+pub mod Check
+pub mod Programs
+pub mod Endings
+pub mod Running
 pub mod Owes
 pub mod Ends
 pub mod Operators

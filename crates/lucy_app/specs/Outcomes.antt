@@ -1,32 +1,50 @@
 -- What the parts of the body hand on: what a fetch gave, and how a command came out before anything is written.
-use Rattle.std.specs.Prelude.{ℕ, ◌≡◌, ◌⊎◌, ◌≤◌, ◌<◌, List, [], length, Result, Ok, Err, MatchResult}
+use Rattle.std.specs.Prelude.{ℕ, ◌≡◌, ◌⊎◌, ◌≤◌, List, [], Option, IfSome, Result, Ok, Err, MatchResult, IsOkAnd}
 use Rattle.std.specs.declared.alloc.Global.{Global}
 use Rattle.std.specs.declared.vec.Vec.{Vec}
 use Rattle.lucy_word.specs.declared.limit.Limit.TheVariants as limit
 use Rattle.lucy_text.specs.declared.shelf.ShelfError.{ShelfError}
 use Rattle.lucy_text.specs.declared.shelf.ShelfError.TheVariants as shelf
-use Rattle.lucy_token.specs.declared.stop.SyntaxError.{SyntaxError}
-use Rattle.lucy_token.specs.declared.stop.SyntaxError.TheVariants as syntax
-use Rattle.lucy_place.specs.declared.error.NameError.{NameError}
-use Rattle.lucy_place.specs.declared.error.NameError.TheVariants as errors
+use Rattle.lucy_front.specs.declared.refusal.Refusal.{Refusal as Reason}
+use Rattle.lucy_front.specs.declared.refusal.Refusal.TheVariants as front
+use Rattle.lucy_front.specs.Refusals.{limit_line, memory_line, IsTellable}
 use Rattle.lucy_app.specs.Commands as names
-use Rattle.lucy_app.specs.World.{Stop, Ended, Failed, Passed, Open, SeenSink}
-use Rattle.lucy_app.specs.Answers.{Answer, printed, read_fault, program_refused, input_refused, out_of_memory}
-use Rattle.lucy_app.specs.Lines.{memory_line}
-use Rattle.lucy_app.specs.Ends.{Tells, Answers, Breaks}
-use Rattle.lucy_app.specs.declared.program_refusal.ProgramCause.{ProgramCause}
-use Rattle.lucy_app.specs.declared.program_refusal.ProgramCause.TheVariants as causes
+use Rattle.lucy_feed.specs.declared.read.ReadError.{ReadError}
+use Rattle.lucy_feed.specs.declared.read.ReadError.TheVariants as read
+use Rattle.lucy_output.specs.Sinks.{SeenSink}
+use Rattle.lucy_host.specs.Operators.{Operator}
+use Rattle.lucy_front.specs.declared.accepted.Accepted.{Accepted}
+use Rattle.lucy_run.specs.declared.ending.Ending.{Ending}
+use Rattle.lucy_run.specs.declared.ending.Ending.TheVariants as ending
+use Rattle.lucy_word.specs.Limits.{limit_number}
+use Rattle.lucy_app.specs.Answers.{Answer, printed, read_fault, no_instants, program_refused, input_refused, out_of_memory}
+use Rattle.lucy_app.specs.Endings.{fault_status, fault_line, ending_status, ending_line}
+use Rattle.lucy_app.specs.Running.{IsRunnable, OwesRefusal, OwesRunning, OwesRunningOutput}
+use Rattle.lucy_feed.specs.Sources.{Stop}
+use Rattle.lucy_app.specs.Ends.{Tells, Answers, Breaks, EndsBy}
 use Rattle.lucy_app.specs.declared.input_refusal.InputCause.{InputCause}
 use Rattle.lucy_app.specs.declared.refusal.Refusal.{Refusal}
-use Rattle.lucy_app.specs.declared.refusal.Refusal.TheVariants.{Program, Input, ReadFault, OutOfMemory}
+use Rattle.lucy_app.specs.declared.refusal.Refusal.TheVariants.{Program, Input, NoInstants, ReadFault, OutOfMemory}
 use Rattle.lucy_app.specs.declared.words.Command.{Command}
-use Rattle.lucy_app.specs.declared.words.Command.TheVariants.{Order, Show, Types}
+use Rattle.lucy_app.specs.declared.words.Command.TheVariants.{Order, Show, Types, Check, Run, Kahn}
 
 -- the command that the body has read
 abbrev pub named : Command → names.Command
 named Order = names.Order
 named (Show file) = names.Show file.now
 named (Types file) = names.Types file.now
+named (Check file) = names.Check file.now
+named (Run file instants) = names.Run file.now instants
+named (Kahn file instants) = names.Kahn file.now instants
+
+-- instants that are given are within their limit
+abbrev pub AreFew : Option ℕ → Type 0
+AreFew instants = IfSome instants (λ given. given ≤ limit_number limit.Instants)
+
+abbrev pub IsWithin : Command → Type 0
+IsWithin (Run file instants) = AreFew instants
+IsWithin (Kahn file instants) = AreFew instants
+IsWithin command = Unit {0}
 
 -- the bytes that a fetch gave
 abbrev pub bytes_of : Result (Vec ℕ Global) ShelfError → Result (List ℕ) ShelfError
@@ -35,28 +53,28 @@ bytes_of (Err e) = Err e
 
 -- the answer of a refusal
 abbrev pub refusal_answer : Refusal → Answer
-refusal_answer (Program cause) = program_refused cause
+refusal_answer (Program reason) = program_refused reason
 refusal_answer (Input cause) = input_refused cause
+refusal_answer NoInstants = no_instants
 refusal_answer ReadFault = read_fault
 refusal_answer OutOfMemory = out_of_memory []
 
 -- a program is refused so, but for want of memory
-abbrev pub RefusesProgram : (Refuses : ProgramCause → Type 0) → Refusal → Type 0
-RefusesProgram Refuses e = (e ≡ OutOfMemory) ⊎ ((cause : ProgramCause) × Refuses cause × (e ≡ Program cause))
+abbrev pub RefusesProgram : (Refuses : Reason → Type 0) → Refusal → Type 0
+RefusesProgram Refuses e = (e ≡ OutOfMemory) ⊎ ((reason : Reason) × Refuses reason × (e ≡ Program reason))
 
 -- an input is refused so, but for want of memory
 abbrev pub RefusesInput : (Refuses : InputCause → Type 0) → Refusal → Type 0
 RefusesInput Refuses e = (e ≡ OutOfMemory) ⊎ ((cause : InputCause) × Refuses cause × (e ≡ Input cause))
 
+-- why a program is refused has a text
+abbrev pub Tellable : Refusal → Type 0
+Tellable (Program reason) = IsTellable reason
+Tellable e = Unit {0}
+
 -- what is printed is owed, or the refusal, but for want of memory
 abbrev pub IsOutcome : (Owed : Answer → Type 0) → Result (Vec ℕ Global) Refusal → Type 0
 IsOutcome Owed outcome = MatchResult outcome (λ print. Owed (printed print.items)) (λ e. (e ≡ OutOfMemory) ⊎ Owed (refusal_answer e))
-
--- how reading stopped that gave this
-abbrev pub IsGathered : (most : ℕ) (taken : List ℕ) → Stop → Result (Vec ℕ Global) Refusal → Type 0
-IsGathered most taken stop gathered = MatchResult gathered
-    (λ bytes. (bytes.items ≡ taken) × (((length taken ≤ most) × (stop ≡ Ended)) ⊎ ((most < length taken) × (stop ≡ Passed))))
-    (λ e. ((e ≡ ReadFault) × (stop ≡ Failed)) ⊎ ((e ≡ OutOfMemory) × (stop ≡ Open)))
 
 -- why there is no answer was told, or that memory ran out
 abbrev pub TellsRefusal : Refusal → (err err' : SeenSink) (status : ℕ) → Type 0
@@ -73,25 +91,37 @@ abbrev pub Delivers : Result (Vec ℕ Global) Refusal → (out out' err err' : S
 Delivers (Ok print) out out' err err' status = Prints print.items out out' err err' status
 Delivers (Err e) out out' err err' status = (out' ≡ out) × TellsRefusal e err err' status
 
--- why a command has no answer where a fetch, the reading of a text, or its names are refused so
+-- why a command has no answer where a fetch failed so, or a phase refused the text
 abbrev pub fetch_refusal : ShelfError → Refusal
 fetch_refusal shelf.Failed = ReadFault
 fetch_refusal shelf.Missing = ReadFault
-fetch_refusal shelf.TooLong = Program (causes.Limit limit.Text)
+fetch_refusal shelf.TooLong = Program (front.Limit limit.Text)
 fetch_refusal shelf.OutOfMemory = OutOfMemory
 
-abbrev pub syntax_refusal : SyntaxError → Refusal
-syntax_refusal (syntax.Unexpected place) = Program (causes.Unexpected place)
-syntax_refusal (syntax.BadNumber place) = Program (causes.BadNumber place)
-syntax_refusal (syntax.BadWord place) = Program (causes.BadWord place)
-syntax_refusal (syntax.TooLarge passed) = Program (causes.Limit passed)
-syntax_refusal syntax.OutOfMemory = OutOfMemory
+abbrev pub program_refusal : Reason → Refusal
+program_refusal front.OutOfMemory = OutOfMemory
+program_refusal reason = Program reason
 
-abbrev pub names_refusal : NameError → Refusal
-names_refusal (errors.Unknown span) = Program (causes.Unknown span.from)
-names_refusal (errors.Twice span) = Program (causes.Twice span.from)
-names_refusal (errors.NoResult span) = Program (causes.NoResult span.from)
-names_refusal (errors.Arity span) = Program (causes.Arity span.from)
-names_refusal (errors.LaterNode span) = Program (causes.LaterNode span.from)
-names_refusal (errors.TooMany passed) = Program (causes.Limit passed)
-names_refusal errors.OutOfMemory = OutOfMemory
+-- and where a reading failed so
+abbrev pub read_refusal : ReadError → Refusal
+read_refusal read.Failed = ReadFault
+read_refusal read.OutOfMemory = OutOfMemory
+
+-- what was fetched is a program that can be run, or is refused, but for want of memory
+abbrev pub IsAccepting : List Operator → (instants : Option ℕ) → Result (List ℕ) ShelfError → Result Accepted Refusal → Type 0
+IsAccepting ops instants fetched accepted =
+    MatchResult accepted (λ a. IsOkAnd fetched (λ text. IsRunnable ops instants text a)) (λ e. (e ≡ OutOfMemory) ⊎ OwesRefusal ops instants fetched (refusal_answer e))
+
+-- how a run ended was told; of a fault or a limit, or else that memory ran out
+abbrev pub TellsEnding : Ending → (err err' : SeenSink) (status : ℕ) → Type 0
+TellsEnding (ending.Input fault) err err' status = Tells (fault_status fault) (fault_line fault) err err' status ⊎ Tells 7 memory_line err err' status
+TellsEnding (ending.Limit passed) err err' status = Tells 6 (limit_line passed) err err' status ⊎ Tells 7 memory_line err err' status
+TellsEnding end err err' status = Tells (ending_status end) (ending_line end) err err' status
+
+-- how a command ends that runs what was fetched
+abbrev pub EndsRun : (Owed : Accepted → List ℕ → Ending → Type 0) (OwedOutput : Accepted → List ℕ → Type 0) → List Operator → (instants : Option ℕ) → Stop → Result (List ℕ) ShelfError →
+    (out out' err err' : SeenSink) (status : ℕ) → Type 0
+EndsRun Owed OwedOutput ops instants stop fetched out out' err err' status =
+    EndsBy (OwesRunning Owed ops instants stop fetched)
+    (λ output. ((answer : Answer) × OwesRunning Owed ops instants stop fetched answer × (output ≡ answer.out)) ⊎ OwesRunningOutput OwedOutput ops instants fetched output)
+    out out' err err' status

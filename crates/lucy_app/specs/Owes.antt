@@ -1,16 +1,19 @@
 -- What each command owes, by what it has met.
-use Rattle.std.specs.Prelude.{ℕ, ◌≡◌, ◌⊎◌, List, IsSomeAnd, Result, Ok, Err}
+use Rattle.std.specs.Prelude.{ℕ, ◌≡◌, ◌⊎◌, List, IsSomeAnd}
 use Rattle.lucy_word.specs.declared.limit.Limit.TheVariants as limit
-use Rattle.lucy_text.specs.declared.shelf.ShelfError.{ShelfError}
-use Rattle.lucy_text.specs.declared.shelf.ShelfError.TheVariants as shelf
-use Rattle.lucy_app.specs.Commands.{Command, Order, Show, Types}
-use Rattle.lucy_app.specs.World.{Stop, Unread, Ended, Failed, Passed, Open, Given}
-use Rattle.lucy_app.specs.Answers.{Answer, printed, read_fault, limit_passed, program_refused, input_refused}
+use Rattle.lucy_host.specs.Operators.{kinds_of}
+use Rattle.lucy_feed.specs.Sources.{Stop, Ended, Failed, Passed}
+use Rattle.lucy_run.specs.Owes.{OwesRun, OwesRunOutput, OwesKahn, OwesKahnOutput}
+use Rattle.lucy_app.specs.Commands.{Command, Order, Show, Types, Check, Run, Kahn}
+use Rattle.lucy_app.specs.World.{Given}
+use Rattle.lucy_app.specs.Answers.{Answer, printed, read_fault, limit_passed, input_refused}
 use Rattle.lucy_app.specs.Fields.{fields}
 use Rattle.lucy_app.specs.Order.{IsVerdictLine, RefusesFields}
 use Rattle.lucy_app.specs.Show.{IsPrintOf, RefusesSyntax}
 use Rattle.lucy_app.specs.Types.{IsReportOf, RefusesText}
-use Rattle.lucy_app.specs.declared.program_refusal.ProgramCause.{ProgramCause}
+use Rattle.lucy_app.specs.Check.{IsCheckOf, RefusesCheck}
+use Rattle.lucy_app.specs.Programs.{OwesProgram}
+use Rattle.lucy_app.specs.Running.{OwesRunning, OwesRunningOutput}
 use Rattle.lucy_app.specs.declared.input_refusal.InputCause.{InputCause}
 
 -- `order`, by the bytes taken and how reading stopped
@@ -22,22 +25,25 @@ OwesOrder taken Failed answer = answer ≡ read_fault
 OwesOrder taken Passed answer = answer ≡ limit_passed limit.OrderInput
 OwesOrder taken stop answer = ⊥
 
--- a command that prints the text of a program so, and refuses it for such causes, by what the fetch gave
-abbrev pub OwesProgram : (Prints : List ℕ → List ℕ → Type 0) (Refuses : List ℕ → ProgramCause → Type 0) → Result (List ℕ) ShelfError → Answer → Type 0
-OwesProgram Prints Refuses (Ok text) answer =
-    ((print : List ℕ) × Prints text print × (answer ≡ printed print))
-    ⊎ ((cause : ProgramCause) × Refuses text cause × (answer ≡ program_refused cause))
-OwesProgram Prints Refuses (Err shelf.Failed) answer = answer ≡ read_fault
-OwesProgram Prints Refuses (Err shelf.Missing) answer = answer ≡ read_fault
-OwesProgram Prints Refuses (Err shelf.TooLong) answer = answer ≡ limit_passed limit.Text
-OwesProgram Prints Refuses (Err shelf.OutOfMemory) answer = ⊥
-
 -- a command owes this answer
 abbrev pub Owes : Command → Given → Answer → Type 0
 Owes Order given answer = OwesOrder given.taken given.stop answer
 Owes (Show file) given answer = IsSomeAnd given.fetched (λ fetched. OwesProgram IsPrintOf RefusesSyntax fetched answer)
 Owes (Types file) given answer = IsSomeAnd given.fetched (λ fetched. OwesProgram (IsReportOf given.operators) (RefusesText given.operators) fetched answer)
+Owes (Check file) given answer = IsSomeAnd given.fetched (λ fetched. OwesProgram (IsCheckOf given.operators) (RefusesCheck given.operators) fetched answer)
+Owes (Run file instants) given answer =
+    IsSomeAnd given.fetched (λ fetched. OwesRunning (λ a. OwesRun (kinds_of given.operators) a instants given.taken given.stop) given.operators instants given.stop fetched answer)
+Owes (Kahn file instants) given answer =
+    IsSomeAnd given.fetched (λ fetched. OwesRunning (λ a. OwesKahn (kinds_of given.operators) a instants given.taken given.stop) given.operators instants given.stop fetched answer)
+
+-- a command that runs a program owes this output, also where reading was given up
+abbrev pub OwesLines : Command → Given → (output : List ℕ) → Type 0
+OwesLines (Run file instants) given output =
+    IsSomeAnd given.fetched (λ fetched. OwesRunningOutput (λ a. OwesRunOutput (kinds_of given.operators) a instants given.taken given.stop) given.operators instants fetched output)
+OwesLines (Kahn file instants) given output =
+    IsSomeAnd given.fetched (λ fetched. OwesRunningOutput (λ a. OwesKahnOutput (kinds_of given.operators) a instants given.taken given.stop) given.operators instants fetched output)
+OwesLines command given output = ⊥
 
 -- a command owes this output
 abbrev pub OwesOutput : Command → Given → (output : List ℕ) → Type 0
-OwesOutput command given output = (answer : Answer) × Owes command given answer × (output ≡ answer.out)
+OwesOutput command given output = ((answer : Answer) × Owes command given answer × (output ≡ answer.out)) ⊎ OwesLines command given output

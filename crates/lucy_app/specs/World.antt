@@ -1,13 +1,15 @@
 -- What the top call is lent, as contracts see it, and what a command has met there.
-use Rattle.std.specs.Prelude.{ℕ, ◌+◌, ◌≤◌, ◌≡◌, ◌≢◌, ◌↔◌, Bool, IsTrue, List, [], length, Option, Some, None, IfSome, IfOk, Result, Err}
+use Rattle.std.specs.Prelude.{ℕ, ◌≤◌, ◌≡◌, ◌≢◌, ◌↔◌, List, [], length, Option, Some, None, IfSome, IfOk, Result, Err}
 use Rattle.std.specs.Option.{option_map}
 use Rattle.lucy_word.specs.Limits.{limit_number}
 use Rattle.lucy_word.specs.declared.limit.Limit.TheVariants as limit
 use Rattle.lucy_host.specs.Operators.{Operator}
-use Rattle.lucy_text.specs.Outside.{followed, AtEnd, Rose, NoneFollows, one_more}
+use Rattle.lucy_text.specs.Outside.{one_more}
 use Rattle.lucy_text.specs.Shelf.{Files, IsHeld, Lacks, IsLonger, IsCut, CountsFaults}
 use Rattle.lucy_text.specs.declared.shelf.ShelfError.{ShelfError}
 use Rattle.lucy_text.specs.declared.shelf.ShelfError.TheVariants as shelf
+use Rattle.lucy_feed.specs.Sources.{SeenSource, Stop, Unread, Read}
+use Rattle.lucy_output.specs.Sinks.{SeenSink}
 use Rattle.lucy_app.specs.Commands.{Command, file_of, input_of}
 
 -- a shelf: its files, how often it failed, and how often it was called
@@ -19,25 +21,6 @@ pub record SeenShelf : Type 0 where
 abbrev pub seen_shelf : Option Files → (faults : ℕ) (fetches : Option ℕ) → SeenShelf
 seen_shelf files faults fetches = record { files = files; faults = faults; fetches = fetches }
 
--- a source: the bytes left, whether it has met its end, how often it failed, and the calls since it first met the end or failed
-pub record SeenSource : Type 0 where
-  pub left : Option (List ℕ)
-  pub ended : Bool
-  pub faults : ℕ
-  pub since_stop : Option ℕ
-
-abbrev pub seen_source : (left : Option (List ℕ)) (ended : Bool) (faults : ℕ) (since_stop : Option ℕ) → SeenSource
-seen_source left ended faults since_stop = record { left = left; ended = ended; faults = faults; since_stop = since_stop }
-
--- a sink: the bytes written, how often it failed, and the calls since it first failed
-pub record SeenSink : Type 0 where
-  pub written : Option (List ℕ)
-  pub faults : ℕ
-  pub since_stop : Option ℕ
-
-abbrev pub seen_sink : (written : Option (List ℕ)) (faults : ℕ) (since_stop : Option ℕ) → SeenSink
-seen_sink written faults since_stop = record { written = written; faults = faults; since_stop = since_stop }
-
 -- all that the top call is lent, with the operators of the host
 pub record World : Type 0 where
   pub shelf : SeenShelf
@@ -45,11 +28,6 @@ pub record World : Type 0 where
   pub out : SeenSink
   pub err : SeenSink
   pub operators : List Operator
-
--- how the reading of a source stopped: nothing was read, it met the end, a read failed, a byte past the limit was taken, or
--- the command read no further before any of these
-pub data Stop : Type 0 where
-  Unread Ended Failed Passed Open : Stop
 
 -- what a command has met: what the fetch gave, where there was one, the bytes taken from the source, how reading stopped, and the
 -- operators of the host
@@ -67,20 +45,6 @@ pub record Fetched (before after : SeenShelf) (file : List ℕ) (fetched : Resul
   pub files : after.files ≡ before.files
   pub faults : CountsFaults before.faults after.faults fetched
   pub fetches : after.fetches ≡ option_map one_more before.fetches
-
--- the reading of at most so many bytes, and one more, stopped so; memory may run out behind that one too
-abbrev pub StoppedAt : (most : ℕ) (before after : SeenSource) (taken : List ℕ) → Stop → Type 0
-StoppedAt most before after taken Unread = (taken ≡ []) × (after ≡ before)
-StoppedAt most before after taken Ended = (length taken ≤ most) × AtEnd after.left × IsTrue after.ended × (after.faults ≡ before.faults)
-StoppedAt most before after taken Failed = (length taken ≤ most) × Rose before.faults after.faults
-StoppedAt most before after taken Passed = (length taken ≡ most + 1) × (after.faults ≡ before.faults)
-StoppedAt most before after taken Open = (length taken ≤ most + 1) × (after.faults ≡ before.faults)
-
--- these bytes were taken, and then reading stopped so
-pub record Read (most : ℕ) (before after : SeenSource) (taken : List ℕ) (stop : Stop) : Type 0 where
-  pub took : before.left ≡ followed taken after.left
-  pub stopped : StoppedAt most before after taken stop
-  pub none_follows : NoneFollows before.since_stop after.since_stop
 
 -- the shelf is called, once, by a command that fetches a FILE, and by no other
 abbrev pub MeetsShelf : (file : Option (List ℕ)) (before after : SeenShelf) → Option (Result (List ℕ) ShelfError) → Type 0

@@ -2,9 +2,9 @@
 ghost use Rattle.std.specs.Prelude.{◌≡◌, IfOk};
 ghost use Rattle.lucy_app.specs.InputRefusals.{input_status, input_line};
 
-use crate::lines::limit_line;
-use lucy_word::Limit;
-use std::alloc::{AllocError, Global};
+use lucy_front::refusal_text;
+use lucy_word::{Limit, OutOfMemory};
+use std::alloc::Global;
 
 /// Why the input of `order` has no answer.
 #[derive(Drop)]
@@ -34,7 +34,7 @@ impl InputCause {
     }
 
     /// The line on the fault sink.
-    pub fn line(&self, alloc: Global) -> Result<Vec<u8>, AllocError>
+    pub fn line(&self, alloc: Global) -> Result<Vec<u8>, OutOfMemory>
         ensures { IfOk result (λ v. v.items ≡ input_line self.now) }
     {
         let line = match self {
@@ -45,7 +45,9 @@ impl InputCause {
             InputCause::NoOne(number) => {
                 format!(in alloc; "lucy: input word {number}: no one in the period\n")
             }
-            InputCause::Limit(limit) => return limit_line(alloc, *limit),
+            InputCause::Limit(limit) => {
+                return refusal_text(alloc, &lucy_front::Refusal::Limit(*limit));
+            }
         };
         Ok(line?.into_bytes())
     }

@@ -5,14 +5,14 @@ ghost use Rattle.lucy_word.specs.Reading.{IsReadable};
 ghost use Rattle.lucy_word.specs.declared.limit.Limit.TheVariants as limit;
 ghost use Rattle.lucy_app.specs.Fields.{fields};
 ghost use Rattle.lucy_app.specs.Order.{IsVerdictLine, RefusesWord, RefusesFields, verdict_line};
-ghost use Rattle.lucy_app.specs.World.{Stop, seen_source, Read};
+ghost use Rattle.lucy_feed.specs.Sources.{Stop, seen_source, Read};
 ghost use Rattle.lucy_app.specs.Owes.{OwesOrder};
-ghost use Rattle.lucy_app.specs.Outcomes.{RefusesInput, IsOutcome};
+ghost use Rattle.lucy_app.specs.Outcomes.{RefusesInput, IsOutcome, Tellable};
 
 use crate::cut::fields;
-use crate::input::read_up_to;
 use crate::input_refusal::InputCause;
 use crate::refusal::Refusal;
+use lucy_feed::read_up_to;
 use lucy_order::{Verdict, adapt};
 use lucy_text::Source;
 use lucy_word::{Limit, Word, WordError};
@@ -67,6 +67,7 @@ pub(crate) fn answer<I: Source>(alloc: Global, input: &mut I) -> Result<Vec<u8>,
         (seen_source (I.left input.old) (I.ended input.old) (I.faults input.old) (I.since_stop input.old))
         (seen_source (I.left input.new) (I.ended input.new) (I.faults input.new) (I.since_stop input.new))
         taken stop × IsOutcome (OwesOrder taken stop) result }
+    ensures tellable { IfErr result Tellable }
     ensures count { I.faults input.old ≤ I.faults input.new }
 {
     let bytes = read_up_to(alloc, input, INPUT)?;

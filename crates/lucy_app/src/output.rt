@@ -1,13 +1,17 @@
 // What goes out at the end of a command, and the status that tells how it went.
-ghost use Rattle.std.specs.Prelude.{◌≡◌, ◌≤◌, IfOk, OnErr};
-ghost use Rattle.lucy_app.specs.World.{seen_sink};
-ghost use Rattle.lucy_app.specs.Lines.{memory_line};
+ghost use Rattle.std.specs.Prelude.{◌≡◌, ◌≢◌, ◌≤◌, IfOk, IfErr, OnErr};
+ghost use Rattle.lucy_output.specs.Sinks.{seen_sink};
+ghost use Rattle.lucy_front.specs.Refusals.{memory_line};
 ghost use Rattle.lucy_app.specs.Ends.{Tells};
-ghost use Rattle.lucy_app.specs.Outcomes.{TellsRefusal, Prints, Delivers};
+ghost use Rattle.lucy_app.specs.Outcomes.{TellsRefusal, Prints, Delivers, Tellable, TellsEnding};
 
-use crate::refusal::Refusal;
+use crate::ending::{fault_line, fault_status};
+use crate::refusal::{Refusal, program_status};
+use lucy_front::refusal_text;
+use lucy_run::Ending;
 use lucy_text::{Sink, write_all};
-use std::alloc::{AllocError, Global};
+use lucy_word::OutOfMemory;
+use std::alloc::Global;
 
 // The status where a write failed.
 const WRITE_FAULT: u8 = 5;
@@ -26,7 +30,7 @@ pub(crate) fn tell<E: Sink>(err: &mut E, lines: &[u8], status: u8) -> u8
 }
 
 // Says why there is no answer or, where there is no memory for that, that it ran out.
-fn explain<E: Sink>(err: &mut E, lines: Result<Vec<u8>, AllocError>, status: u8) -> u8
+fn explain<E: Sink>(err: &mut E, lines: Result<Vec<u8>, OutOfMemory>, status: u8) -> u8
     ensures ok { IfOk lines (λ v. Tells status v.items
         (seen_sink (E.written err.old) (E.faults err.old) (E.since_stop err.old))
         (seen_sink (E.written err.new) (E.faults err.new) (E.since_stop err.new)) result) }
@@ -41,16 +45,25 @@ fn explain<E: Sink>(err: &mut E, lines: Result<Vec<u8>, AllocError>, status: u8)
     }
 }
 
-// Says why a command has no answer.
-fn refuse<E: Sink>(alloc: Global, err: &mut E, refusal: Refusal) -> u8
+/// Says why a command has no answer.
+pub(crate) fn refuse<E: Sink>(alloc: Global, err: &mut E, refusal: Refusal) -> u8
+    requires { Tellable refusal }
     ensures told { TellsRefusal refusal
         (seen_sink (E.written err.old) (E.faults err.old) (E.since_stop err.old))
         (seen_sink (E.written err.new) (E.faults err.new) (E.since_stop err.new)) result }
+    ensures fails { result ≢ 0 }
     ensures count { E.faults err.old ≤ E.faults err.new }
 {
     match refusal {
-        Refusal::Program(cause) => explain(err, cause.line(alloc), cause.status()),
+        Refusal::Program(reason) => {
+            explain(err, refusal_text(alloc, &reason), program_status(&reason))
+        }
         Refusal::Input(cause) => explain(err, cause.line(alloc), cause.status()),
+        Refusal::NoInstants => tell(
+            err,
+            b"lucy: words: main has no inputs, give --instants\n",
+            2,
+        ),
         Refusal::ReadFault => tell(err, b"lucy: read fault\n", 4),
         Refusal::OutOfMemory => tell(err, b"lucy: out of memory\n", 7),
     }
@@ -80,6 +93,7 @@ pub(crate) fn finish<O: Sink, E: Sink>(
     err: &mut E,
     outcome: Result<Vec<u8>, Refusal>,
 ) -> u8
+    requires { IfErr outcome Tellable }
     ensures delivers { Delivers outcome
         (seen_sink (O.written out.old) (O.faults out.old) (O.since_stop out.old))
         (seen_sink (O.written out.new) (O.faults out.new) (O.since_stop out.new))
@@ -92,5 +106,28 @@ pub(crate) fn finish<O: Sink, E: Sink>(
     match outcome {
         Ok(text) => print(out, err, &text),
         Err(refusal) => refuse(alloc, err, refusal),
+    }
+}
+
+/// Says how a run ended, where there is something to say.
+pub(crate) fn conclude<E: Sink>(alloc: Global, err: &mut E, ending: Ending) -> u8
+    ensures told { TellsEnding ending
+        (seen_sink (E.written err.old) (E.faults err.old) (E.since_stop err.old))
+        (seen_sink (E.written err.new) (E.faults err.new) (E.since_stop err.new)) result }
+    ensures quiet { result ≡ 0 → err.new ≡ err.old }
+    ensures count { E.faults err.old ≤ E.faults err.new }
+{
+    match ending {
+        Ending::Done => 0,
+        Ending::Input(fault) => explain(err, fault_line(alloc, fault), fault_status(fault)),
+        Ending::Limit(limit) => {
+            explain(
+                err,
+                refusal_text(alloc, &lucy_front::Refusal::Limit(limit)),
+                6,
+            )
+        }
+        Ending::WriteFault => tell(err, b"lucy: write fault\n", WRITE_FAULT),
+        Ending::OutOfMemory => tell(err, b"lucy: out of memory\n", 7),
     }
 }

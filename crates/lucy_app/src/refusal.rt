@@ -1,13 +1,15 @@
 // Why a command has no answer.
 ghost use Rattle.std.specs.Prelude.{◌≡◌};
-ghost use Rattle.lucy_app.specs.Outcomes.{fetch_refusal, syntax_refusal, names_refusal};
-ghost use Rattle.lucy_app.specs.declared.refusal.Refusal.TheVariants.{OutOfMemory, ReadFault};
+ghost use Rattle.lucy_front.specs.Accepting.{syntax_refusal, names_refusal};
+ghost use Rattle.lucy_app.specs.ProgramRefusals.{program_status};
+ghost use Rattle.lucy_app.specs.Outcomes.{fetch_refusal, program_refusal, read_refusal};
+ghost use Rattle.lucy_app.specs.declared.refusal.Refusal.TheVariants.{OutOfMemory};
 
 use crate::input_refusal::InputCause;
-use crate::program_refusal::ProgramCause;
+use lucy_feed::ReadError;
 use lucy_place::NameError;
 use lucy_syntax::SyntaxError;
-use lucy_text::{Failed, ShelfError};
+use lucy_text::ShelfError;
 use lucy_word::{Limit, OutOfMemory};
 use std::alloc::AllocError;
 
@@ -15,13 +17,31 @@ use std::alloc::AllocError;
 #[derive(Drop)]
 pub(crate) enum Refusal {
     /// The program is refused.
-    Program(ProgramCause),
+    Program(lucy_front::Refusal),
     /// The input is refused.
     Input(InputCause),
+    /// The program's main has no inputs, and the words give no instants.
+    NoInstants,
     /// A fetch or a read failed, or no file has the name.
     ReadFault,
     /// Memory ran out.
     OutOfMemory,
+}
+
+/// The status that the program ends with where a program is refused so.
+pub(crate) fn program_status(refusal: &lucy_front::Refusal) -> u8
+    ensures { result ≡ program_status refusal.now }
+{
+    match refusal {
+        lucy_front::Refusal::Syntax(_) => 1,
+        lucy_front::Refusal::Names(_) => 1,
+        lucy_front::Refusal::Types { .. } => 1,
+        lucy_front::Refusal::NotWritten { .. } => 1,
+        lucy_front::Refusal::Check { .. } => 1,
+        lucy_front::Refusal::Cause { .. } => 1,
+        lucy_front::Refusal::Limit(_) => 6,
+        lucy_front::Refusal::OutOfMemory => 7,
+    }
 }
 
 impl From<AllocError> for Refusal {
@@ -32,11 +52,14 @@ impl From<AllocError> for Refusal {
     }
 }
 
-impl From<Failed> for Refusal {
-    ghost from_gives = { λ _ e. e ≡ ReadFault };
+impl From<ReadError> for Refusal {
+    ghost from_gives = { λ error e. e ≡ read_refusal error };
 
-    fn from(_: Failed) -> Self {
-        Refusal::ReadFault
+    fn from(error: ReadError) -> Self {
+        match error {
+            ReadError::Failed => Refusal::ReadFault,
+            ReadError::OutOfMemory => Refusal::OutOfMemory,
+        }
     }
 }
 
@@ -54,38 +77,35 @@ impl From<ShelfError> for Refusal {
     fn from(error: ShelfError) -> Self {
         match error {
             ShelfError::Failed | ShelfError::Missing => Refusal::ReadFault,
-            ShelfError::TooLong => Refusal::Program(ProgramCause::Limit(Limit::Text)),
+            ShelfError::TooLong => Refusal::Program(lucy_front::Refusal::Limit(Limit::Text)),
             ShelfError::OutOfMemory => Refusal::OutOfMemory,
         }
     }
 }
 
+impl From<lucy_front::Refusal> for Refusal {
+    ghost from_gives = { λ refusal e. e ≡ program_refusal refusal };
+
+    fn from(refusal: lucy_front::Refusal) -> Self {
+        match refusal {
+            lucy_front::Refusal::OutOfMemory => Refusal::OutOfMemory,
+            refusal => Refusal::Program(refusal),
+        }
+    }
+}
+
 impl From<SyntaxError> for Refusal {
-    ghost from_gives = { λ error e. e ≡ syntax_refusal error };
+    ghost from_gives = { λ error e. e ≡ program_refusal (syntax_refusal error) };
 
     fn from(error: SyntaxError) -> Self {
-        Refusal::Program(match error {
-            SyntaxError::Unexpected(place) => ProgramCause::Unexpected(place),
-            SyntaxError::BadNumber(place) => ProgramCause::BadNumber(place),
-            SyntaxError::BadWord(place) => ProgramCause::BadWord(place),
-            SyntaxError::TooLarge(limit) => ProgramCause::Limit(limit),
-            SyntaxError::OutOfMemory => return Refusal::OutOfMemory,
-        })
+        Refusal::from(lucy_front::Refusal::from(error))
     }
 }
 
 impl From<NameError> for Refusal {
-    ghost from_gives = { λ error e. e ≡ names_refusal error };
+    ghost from_gives = { λ error e. e ≡ program_refusal (names_refusal error) };
 
     fn from(error: NameError) -> Self {
-        Refusal::Program(match error {
-            NameError::Unknown(span) => ProgramCause::Unknown(u64::from(span.from)),
-            NameError::Twice(span) => ProgramCause::Twice(u64::from(span.from)),
-            NameError::NoResult(span) => ProgramCause::NoResult(u64::from(span.from)),
-            NameError::Arity(span) => ProgramCause::Arity(u64::from(span.from)),
-            NameError::LaterNode(span) => ProgramCause::LaterNode(u64::from(span.from)),
-            NameError::TooMany(limit) => ProgramCause::Limit(limit),
-            NameError::OutOfMemory => return Refusal::OutOfMemory,
-        })
+        Refusal::from(lucy_front::Refusal::from(error))
     }
 }

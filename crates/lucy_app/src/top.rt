@@ -1,14 +1,16 @@
 // The one call that the program makes.
 ghost use Rattle.std.specs.Prelude.{◌≡◌, ◌⊎◌, ◌≤◌, None, map, string_bytes};
-ghost use Rattle.lucy_host.specs.Host.{lent};
+ghost use Rattle.lucy_host.specs.Host.{Serves, lent};
 ghost use Rattle.lucy_app.specs.Commands.{command_of, file_of, input_of};
-ghost use Rattle.lucy_app.specs.World.{seen_shelf, seen_source, seen_sink};
+ghost use Rattle.lucy_feed.specs.Sources.{seen_source};
+ghost use Rattle.lucy_output.specs.Sinks.{seen_sink};
+ghost use Rattle.lucy_app.specs.World.{seen_shelf};
 ghost use Rattle.lucy_app.specs.Ends.{Ends};
 
 use crate::fetch::fetch;
 use crate::output::{finish, tell};
 use crate::words::{Command, command_of};
-use crate::{order, show, types};
+use crate::{check, order, running, show, types};
 use lucy_host::Host;
 use lucy_text::{Shelf, Sink, Source};
 use std::alloc::Global;
@@ -16,24 +18,34 @@ use std::alloc::Global;
 /// All that the program does with the words after its name. The answer is the status that it ends with:
 ///
 /// - 0: the answer of the command stands on `out`, and nothing more on `err`.
-/// - 1: the text of FILE is no program; for `types` also, one of its names is refused, or one of its nodes has no types.
-/// - 2: the words name no command.
-/// - 3: the input is not two words, or the first of them that is refused is badly spelled or has no one in its period.
-/// - 4: the shelf tells its files and has no FILE, or a fetch or a read failed.
+/// - 1: the text of FILE is no program; for all but `show` also, one of its names is refused, or one of its nodes has no types;
+///   for `check`, `run` and `kahn` also, one of its nodes isn't written, or the words that it hands down don't meet its needs, or
+///   items of its net depend on each other.
+/// - 2: the words name no command; or main has no inputs and `run` or `kahn` is given no instants.
+/// - 3: the input of `order` is not two words, or the first of them that is refused is badly spelled or has no one in its period;
+///   or a line of the input of `run` or `kahn` is refused: the lines of what the items before it allow stand on `out`.
+/// - 4: the shelf tells its files and has no FILE, or a fetch or a read failed; where a read of `run` or `kahn` did, the lines of
+///   what the items before it allow stand on `out`.
 /// - 5: a write to `out` or to `err` failed. A front of the answer may stand on `out`; where `out` failed, the line
 ///   `lucy: write fault` is tried on `err`. A front of a line may stand on `err`.
-/// - 6: a limit is passed: the input has more than 16,384 bytes, or the first of its two words that is refused has more than
-///   4,096 bits; the text of FILE has more than 1,048,576 bytes, or passes a limit of programs at the first token that is
-///   refused; for `types` also, one of its nodes has more than 4,096 places, and no name up to its end is refused.
-/// - 7: memory ran out.
+/// - 6: a limit is passed: the input of `order` has more than 16,384 bytes, or the first of its two words that is refused has more
+///   than 4,096 bits; the text of FILE has more than 1,048,576 bytes, or passes a limit of programs at the first token that is
+///   refused; for all but `show` also, one of its nodes has more than 4,096 places, and no name up to its end is refused; for
+///   `check`, `run` and `kahn` also, the needs of a node, its words or their comparison, the net or its schedule pass a limit,
+///   and nothing before that is refused. Where `run` or `kahn` pass the limit of the input or of the instants of a run, the lines
+///   up to there stand on `out`, and nothing where `kahn` passes one of its own.
+/// - 7: memory ran out. Of `run` and `kahn` a front of the answer may stand on `out`.
 ///
 /// With 1, 2, 3, 4, 6 and 7 the line that says so stands on `err`. The words are looked at first. Then `order` reads the
 /// input, to its end or to one byte past its limit, and judges its length, the count of its words, and the words in turn,
-/// each by its spelling, its number of bits and its period. `show` and `types` ask the shelf once, for FILE with the limit of a
-/// program's text, and judge the text. Then `show` prints the program. `types` judges the names of all nodes, and then the
-/// types of each node in turn; it prints each node with the types of its parameters and defined names. The host lends programs
-/// its operators, by their names. No read follows the
-/// end of the input or a failed read, and no write to a sink follows one that failed.
+/// each by its spelling, its number of bits and its period. The other commands ask the shelf once, for FILE with the limit
+/// of a program's text, and judge the text. Then `show` prints the program. `types` judges the names of all nodes, and then the
+/// types of each node in turn; it prints each node with the types of its parameters and defined names. `check` judges these too,
+/// then the clocks of each node in turn, each of which must be written, and then the net; it prints the report: types, words, and
+/// the sizes of buffers. `run` and `kahn` judge the same, and then look for missing instants. `run` prints the report and the
+/// line `run`. Both read the input to its end or to its first fault, where main has inputs, and print the output lines. The host
+/// lends programs its operators, by their names. No read follows the end of the input or a failed read, and no write to a sink
+/// follows one that failed.
 ///
 /// `Ends` says all this, by the command that the words name.
 pub fn lucy<S: Shelf, I: Source, O: Sink, E: Sink, F: Fn(u32, i64, i64) -> i64 + Sync>(
@@ -45,6 +57,7 @@ pub fn lucy<S: Shelf, I: Source, O: Sink, E: Sink, F: Fn(u32, i64, i64) -> i64 +
     err: &mut E,
     host: &Host<F>,
 ) -> u8
+    requires { Serves F.pre F.post host.now }
     // How the call ends, by the command that the words name, where they name one.
     ensures ends { Ends (command_of (map string_bytes words.now))
         (record {
@@ -89,6 +102,18 @@ pub fn lucy<S: Shelf, I: Source, O: Sink, E: Sink, F: Fn(u32, i64, i64) -> i64 +
         Some(Command::Types(file)) => {
             let fetched = fetch(alloc, shelf, file);
             finish(alloc, out, err, types::answer(alloc, fetched, host.ops()))
+        }
+        Some(Command::Check(file)) => {
+            let fetched = fetch(alloc, shelf, file);
+            finish(alloc, out, err, check::answer(alloc, fetched, host.ops()))
+        }
+        Some(Command::Run(file, instants)) => {
+            let fetched = fetch(alloc, shelf, file);
+            running::run(alloc, fetched, instants, input, out, err, host)
+        }
+        Some(Command::Kahn(file, instants)) => {
+            let fetched = fetch(alloc, shelf, file);
+            running::kahn(alloc, fetched, instants, input, out, err, host)
         }
     }
 }

@@ -8,6 +8,8 @@
 //! end. A line of a list that isn't read is printed behind `? `, with its list and its number.
 #![tactic(auto)]
 
+ghost use Rattle.lucy_host.specs.Host.{Serves};
+
 mod piece;
 mod row;
 mod take;
@@ -38,7 +40,9 @@ fn run<F: Fn(u32, i64, i64) -> i64 + Sync>(
     host: &Host<F>,
     name: &str,
     row: Row,
-) -> io::Result<()> {
+) -> io::Result<()>
+    requires { Serves F.pre F.post host.now }
+{
     let end = row.run(rt.alloc(), host)?;
     println!(rt; "= {name}")?;
     println!(rt; "status {}", end.status)?;
@@ -69,7 +73,9 @@ fn run_list<F: Fn(u32, i64, i64) -> i64 + Sync>(
     host: &Host<F>,
     list: &str,
     text: &str,
-) -> io::Result<()> {
+) -> io::Result<()>
+    requires { Serves F.pre F.post host.now }
+{
     let mut blocks = text.split("\n= ");
     let common = blocks.next().unwrap_or("");
     take_lines(rt, list, 1, common, &mut Row::new(rt.alloc()))?;

@@ -1,3 +1,5 @@
+ghost use Rattle.lucy_host.specs.Host.{Serves};
+
 use lucy_app::lucy;
 use lucy_host::Host;
 use lucy_text::{MemShelf, MemSink, MemSource};
@@ -79,7 +81,9 @@ impl Row {
         self,
         alloc: Global,
         host: &Host<F>,
-    ) -> Result<End, AllocError> {
+    ) -> Result<End, AllocError>
+        requires { Serves F.pre F.post host.now }
+    {
         let mut shelf = MemShelf::new(self.files, self.fetches);
         let mut input = MemSource::new(self.input, self.reads.most.max(1), self.reads.fails);
         let mut out = sink(alloc, self.room, self.writes)?;

@@ -1,0 +1,134 @@
+-- What a command owes that runs a program is one answer, but for the evidence of a refusal.
+use Rattle.std.proofs.Common.{ℕ, ◌≡◌, ◌⊎◌, List, [], Option, Some, None, Result, Ok, Err, refl, ap, sym, ◌∙◌, subst, inl, inr}
+use Rattle.std.specs.Prelude.{IsOkAnd, IsSomeAnd, ◌++◌, codes}
+use Rattle.lucy_host.specs.Operators.{Operator}
+use Rattle.lucy_host.specs.declared.kind.HostKind.{HostKind}
+use Rattle.lucy_text.specs.declared.shelf.ShelfError.{ShelfError}
+use Rattle.lucy_feed.specs.Sources.{Stop}
+use Rattle.lucy_meaning.specs.Horizons.{IsHorizon}
+use Rattle.lucy_place.specs.declared.placed.PlacedNode.{PlacedNode}
+use Rattle.lucy_clock.specs.declared.node_clock.NodeClock.{NodeClock}
+use Rattle.lucy_execution.specs.Streams.{param_words}
+use Rattle.lucy_front.specs.declared.accepted.Accepted.{Accepted}
+use Rattle.lucy_front.specs.declared.refusal.Refusal.{Refusal}
+use Rattle.lucy_front.specs.Accepting.{IsAccepted}
+use Rattle.lucy_front.specs.Report.{report}
+use Rattle.lucy_front.specs.Scheduled.{inputs_of, outputs_of}
+use Rattle.lucy_front.proofs.OneAnswer.{one_program}
+use Rattle.lucy_run.specs.declared.ending.Ending.{Ending}
+use Rattle.lucy_run.specs.Feeds.{Feeds}
+use Rattle.lucy_run.specs.Owes.{most_instants, stream_lines, EndsFor, Interprets, IsFed, OwesRun, OwesKahn}
+use Rattle.lucy_run.specs.Laws.{OneRun, OneInterpretation}
+use Rattle.lucy_app.specs.Answers.{Answer, Alike}
+use Rattle.lucy_app.specs.Check.{RefusesCheck}
+use Rattle.lucy_app.specs.Endings.{ended}
+use Rattle.lucy_app.specs.Running.{LacksInstants, IsRunnable, NoPrint, OwesRefusal, OwesRunning}
+use Rattle.lucy_app.proofs.Verdicts.{IsVerdict}
+use Rattle.lucy_app.proofs.Checked.{checks_apart, checks_alike}
+use Rattle.lucy_app.proofs.OwedPrograms.{program_owes_one}
+
+-- what two programs of one text have in common: all that is run
+pub record AreSame (a b : Accepted) : Type 0 where
+  pub nodes : a.placed.nodes ≡ b.placed.nodes
+  pub typed : a.typed ≡ b.typed
+  pub clocks : a.clocks.items ≡ b.clocks.items
+  pub inputs : a.inputs.items ≡ b.inputs.items
+  pub outputs : a.outputs.items ≡ b.outputs.items
+
+pub accepted_same : (ops : List Operator) (text : List ℕ) (a b : Accepted) → IsAccepted ops text a → IsAccepted ops text b → AreSame a b
+accepted_same ops text a b is also =
+    let same = one_program ops text a.placed b.placed a.typed b.typed a.clocks.items b.clocks.items is.clocked also.clocked in
+    record {
+      nodes = ap (λ p. p.nodes) same.0;
+      typed = same.1;
+      clocks = same.2;
+      inputs = is.inputs ∙ ap (λ p. inputs_of p.nodes a.typed) same.0 ∙ ap (inputs_of b.placed.nodes) same.1 ∙ sym also.inputs;
+      outputs =
+          is.outputs ∙ ap (λ p. outputs_of p.nodes a.typed a.clocks.items) same.0 ∙ ap (λ ts. outputs_of b.placed.nodes ts a.clocks.items) same.1
+          ∙ ap (outputs_of b.placed.nodes b.typed) same.2 ∙ sym also.outputs;
+    }
+
+module _ (kinds : List HostKind) (a b : Accepted) (same : AreSame a b) (instants : Option ℕ) (taken : List ℕ) (stop : Stop) where
+  -- what the nodes and the words say of one says it of the other
+  moves : (P : List PlacedNode → List NodeClock → Type 0) → P a.placed.nodes a.clocks.items → P b.placed.nodes b.clocks.items
+  moves P h = subst (λ cs. P b.placed.nodes cs) same.clocks (subst (λ ns. P ns a.clocks.items) same.nodes h)
+
+  fed_moves : (lists : List (List _)) (fault : Option _) (horizon : ℕ) → IsFed a instants taken stop lists fault horizon → IsFed b instants taken stop lists fault horizon
+  fed_moves lists fault horizon fed = record {
+    feeds = subst (λ is. Feeds is taken stop lists fault) same.inputs fed.feeds;
+    horizon_is = moves (λ ns cs. IsHorizon (param_words ns cs) lists (most_instants instants) horizon) fed.horizon_is;
+  }
+
+  pub run_moves : (output : List ℕ) (end : Ending) → OwesRun kinds a instants taken stop output end → OwesRun kinds b instants taken stop output end
+  run_moves output end (lists, fault, horizon, fed, lines, ends) = (
+    lists,
+    fault,
+    horizon,
+    fed_moves lists fault horizon fed,
+    moves (λ ns cs. output ≡ (report ns b.typed cs ++ codes "run\n") ++ stream_lines kinds ns cs b.outputs.items lists horizon)
+        (subst (λ os. output ≡ (report a.placed.nodes b.typed a.clocks.items ++ codes "run\n") ++ stream_lines kinds a.placed.nodes a.clocks.items os lists horizon) same.outputs
+        (subst (λ ts. output ≡ (report a.placed.nodes ts a.clocks.items ++ codes "run\n") ++ stream_lines kinds a.placed.nodes a.clocks.items a.outputs.items lists horizon) same.typed lines)),
+    moves (λ ns cs. EndsFor (param_words ns cs) instants lists fault end) ends,
+  )
+
+  pub kahn_moves : (output : List ℕ) (end : Ending) → OwesKahn kinds a instants taken stop output end → OwesKahn kinds b instants taken stop output end
+  kahn_moves output end (lists, fault, horizon, fed, is) = (
+    lists,
+    fault,
+    horizon,
+    fed_moves lists fault horizon fed,
+    moves (λ ns cs. Interprets kinds ns cs b.outputs.items instants lists fault horizon output end)
+        (subst (λ os. Interprets kinds a.placed.nodes a.clocks.items os instants lists fault horizon output end) same.outputs is),
+  )
+
+-- what programs of one text owe is one output and one ending
+abbrev pub OwesOnce : (Owed : Accepted → List ℕ → Ending → Type 0) → Type 0
+OwesOnce Owed = (a b : Accepted) (output other : List ℕ) (end way : Ending) → AreSame a b → Owed a output end → Owed b other way → (output ≡ other) × (end ≡ way)
+
+no_print : (ops : List Operator) → IsVerdict NoPrint (RefusesCheck ops)
+no_print ops = record {
+  one = λ text x y is also. absurd is;
+  apart = λ text x r is bad. is;
+  same = λ text r s h k. checks_alike ops text r s h k;
+}
+
+module _ (Owed : Accepted → List ℕ → Ending → Type 0) (once : OwesOnce Owed) (ops : List Operator) (instants : Option ℕ) (stop : Stop) where
+  -- a text that is accepted is not refused
+  accepted_unrefused : (text : List ℕ) (a : Accepted) (x : Answer) → IsAccepted ops text a → (LacksInstants a instants → ⊥) → OwesRefusal ops instants (Ok text) x → ⊥
+  accepted_unrefused text a x is given (inl (inl none)) = none.1
+  accepted_unrefused text a x is given (inl (inr refused)) = checks_apart ops text a refused.0 is refused.1
+  accepted_unrefused text a x is given (inr lacks) =
+      let same : AreSame lacks.0 a = accepted_same ops text lacks.0 a lacks.1 is in
+      given (sym same.inputs ∙ lacks.2.0, lacks.2.1)
+
+  refusals_alike : (fetched : Result (List ℕ) ShelfError) (x y : Answer) → OwesRefusal ops instants fetched x → OwesRefusal ops instants fetched y → Alike x y
+  refusals_alike fetched x y (inl h) (inl k) = program_owes_one NoPrint (RefusesCheck ops) (no_print ops) fetched x y h k
+  refusals_alike (Ok text) x y (inl (inl h)) (inr k) = absurd h.1
+  refusals_alike (Ok text) x y (inl (inr h)) (inr k) = absurd (checks_apart ops text k.0 h.0 k.1 h.1)
+  refusals_alike (Ok text) x y (inr h) (inl (inl k)) = absurd k.1
+  refusals_alike (Ok text) x y (inr h) (inl (inr k)) = absurd (checks_apart ops text h.0 k.0 h.1 k.1)
+  refusals_alike (Ok text) x y (inr h) (inr k) = inl (h.3 ∙ sym k.3)
+  refusals_alike (Err e) x y (inl h) (inr k) = absurd k
+  refusals_alike (Err e) x y (inr h) k = absurd h
+
+  running_alike : (fetched : Result (List ℕ) ShelfError) (x y : Answer) → OwesRunning Owed ops instants stop fetched x → OwesRunning Owed ops instants stop fetched y → Alike x y
+  running_alike fetched x y (inl h) (inl k) = refusals_alike fetched x y h.0 k.0
+  running_alike (Ok text) x y (inl h) (inr k) = absurd (accepted_unrefused text k.0 x k.1.0 k.1.1 h.0)
+  running_alike (Ok text) x y (inr h) (inl k) = absurd (accepted_unrefused text h.0 y h.1.0 h.1.1 k.0)
+  running_alike (Ok text) x y (inr h) (inr k) =
+      let one = once h.0 k.0 h.2 k.2 h.3 k.3 (accepted_same ops text h.0 k.0 h.1.0 k.1.0) h.4 k.4 in
+      inl (h.5 ∙ ap (λ o. ended o h.3) one.0 ∙ ap (ended k.2) one.1 ∙ sym k.5)
+  running_alike (Err e) x y (inl h) (inr k) = absurd k
+  running_alike (Err e) x y (inr h) k = absurd h
+
+  pub runs_alike : (fetched : Option (Result (List ℕ) ShelfError)) (x y : Answer) → IsSomeAnd fetched (λ r. OwesRunning Owed ops instants stop r x) →
+      IsSomeAnd fetched (λ r. OwesRunning Owed ops instants stop r y) → Alike x y
+  runs_alike None x y h k = absurd h
+  runs_alike (Some fetched) x y h k = running_alike fetched x y h k
+
+-- by the laws of one run and one interpretation
+pub run_once : OneRun → (kinds : List HostKind) (instants : Option ℕ) (taken : List ℕ) (stop : Stop) → OwesOnce (λ a. OwesRun kinds a instants taken stop)
+run_once law kinds instants taken stop a b output other end way same h k = law kinds b instants taken stop output other end way (run_moves kinds a b same instants taken stop output end h) k
+
+pub kahn_once : OneInterpretation → (kinds : List HostKind) (instants : Option ℕ) (taken : List ℕ) (stop : Stop) → OwesOnce (λ a. OwesKahn kinds a instants taken stop)
+kahn_once law kinds instants taken stop a b output other end way same h k = law kinds b instants taken stop output other end way (kahn_moves kinds a b same instants taken stop output end h) k

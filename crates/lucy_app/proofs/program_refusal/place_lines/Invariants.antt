@@ -1,6 +1,0 @@
-use Rattle.std.proofs.Common.{◌≡◌, ◌++◌, drop}
-use Rattle.lucy_app.specs.ProgramRefusals.{place_lines}
-use Rattle.lucy_app.proofs.program_refusal.place_lines.Given as goal
-
-abbrev pub invariant-each : goal.invariant-each
-invariant-each l = l.lines.items ++ place_lines (drop l.place-index l.places) ≡ l.initial.lines.items ++ place_lines l.places
