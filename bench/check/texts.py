@@ -1,0 +1,50 @@
+# texts.py WHAT PART: prints a program that comes near limits of `check`, or near half or a quarter of them (PART is 1, 0.5 or 0.25).
+import sys
+
+part = float(sys.argv[2])
+
+
+def word(length):
+    """A period of so many bits, of which the first half are ones."""
+    ones = length // 2
+    return "(" + "1" * ones + "0" * (length - ones) + ")"
+
+
+def node(name, params, result, definitions):
+    return f"let node {name} ({params}) = {result}" + (" where rec " + " and ".join(definitions) if definitions else "")
+
+
+def words():
+    """Written words that fill the text."""
+    nodes = [node(f"f{i}", f"x :: {word(4001)}", "x", []) for i in range(int(254 * part))]
+    return nodes + [node("top", "x :: (1)", "x", [])]
+
+
+def calls():
+    """Thirty thousand calls of a node with a long word."""
+    long = word(4001)
+    nodes = [node("f", f"x :: {long}", "o", ["o :: (1) = 7"])]
+    for i in range(int(16 * part)):
+        nodes.append(node(f"g{i}", f"x :: {long}", "x", [f"y{j} :: (1) = f at (1) (x)" for j in range(1900)]))
+    return nodes + [node("top", "x :: (1)", "x", [])]
+
+
+def doubled():
+    """Sixteen thousand actors by calls that double, with words of three thousand bits."""
+    long = word(3001)
+    nodes = [node("f0", f"x :: {long}", "y", [f"y :: {long} = x"])]
+    for level in range(1, {1: 12, 0.5: 11, 0.25: 10}[part]):
+        halves = [f"y :: {long} = f{level - 1} at (1) (x)", f"z :: {long} = f{level - 1} at (1) (y)"]
+        nodes.append(node(f"f{level}", f"x :: {long}", "z", halves))
+    return nodes
+
+
+def events():
+    """Four million events, of four thousand actors in 512 instants."""
+    names = int(4088 * part)
+    slow = "(1" + "0" * 511 + ")"
+    chain = ["y1 :: (1) = x"] + [f"y{i} :: (1) = y{i - 1}" for i in range(2, names + 1)]
+    return [node("top", f"x :: (1), slow :: {slow}", f"y{names}", chain)]
+
+
+print("\n".join({"words": words, "calls": calls, "doubled": doubled, "events": events}[sys.argv[1]]()))
