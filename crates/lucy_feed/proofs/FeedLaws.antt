@@ -14,7 +14,7 @@ use Rattle.lucy_lines.specs.declared.reader.TextFault.{TextFault}
 use Rattle.lucy_lines.specs.declared.reader.TextFault.TheVariants.{BadLine, UnknownStream, BadValue, ReadFault, TooLong}
 use Rattle.lucy_lines.specs.Fronts.{most_bytes}
 use Rattle.lucy_lines.specs.Cuts.{Held, bytes_taken, ItemOf, Answer, Gives, Refuses, Wants, Next, blank, item, refused, long, too_long, wants, with_more, Stop as Halt, At, Before, Cut, refused_line, undecided, first, turn, input_of}
-use Rattle.lucy_lines.specs.Reading.{ReaderState, new_reader, Took, Asked, Blames, GoesOn, OfItem, IsLast, most_taken}
+use Rattle.lucy_lines.specs.Reading.{ReaderState, new_reader, Took, Asked, Blames, GoesOn, OfItem, IsLast, most_taken, most_read}
 use Rattle.lucy_lines.proofs.CutLaws.{turns_cut, next_more}
 use Rattle.lucy_lines.proofs.ReaderLaws.{kind_fits}
 use Rattle.lucy_feed.specs.declared.feeds.Feed.{Feed}
@@ -135,17 +135,17 @@ asked_before inputs taken bytes none asked =
 
 -- bytes were asked for in this call
 asked_now : (inputs : List InputSpec) (items : List ItemOf) (taken bytes : List ℕ) (held : Held) (closed : Bool) → Leads inputs items taken held closed → closed ≡ false →
-    (early late : List ℕ) (h : Held) → bytes ≡ early ++ late → Next inputs false (with_more held early) (Wants h) → IsAsked inputs (taken ++ bytes)
-asked_now inputs items taken bytes held closed leads open_yet early late h e n =
-    inr (taken ++ early, late, items ++ [], h, ap (λ u. taken ++ u) e ∙ sym (append_assoc taken early late), leads false early [] (Before h) (λ t. let no_more : true ≡ false = sym t ∙ open_yet in cc) (undecided n))
+    (early late : List ℕ) (h : Held) → bytes ≡ early ++ late → length late ≤ most_read → Next inputs false (with_more held early) (Wants h) → IsAsked inputs (taken ++ bytes)
+asked_now inputs items taken bytes held closed leads open_yet early late h e few n =
+    inr (taken ++ early, late, items ++ [], h, ap (λ u. taken ++ u) e ∙ sym (append_assoc taken early late), few, leads false early [] (Before h) (λ t. let no_more : true ≡ false = sym t ∙ open_yet in cc) (undecided n))
 
 asked_so : (inputs : List InputSpec) (old new : ReaderState) (before after : Option (List ℕ)) (result : Result line_type.Line TextFault) (items : List ItemOf) (taken bytes : List ℕ) → old.inputs ≡ inputs →
     Leads inputs items taken old.held old.closed → IsAsked inputs taken → Took old new before after result bytes → (bytes ≡ []) ⊎ Asked old bytes → (old.closed ≡ true) ⊎ (old.closed ≡ false) → IsAsked inputs (taken ++ bytes)
 asked_so inputs old new before after result items taken bytes same leads asked t (inl none) closed = asked_before inputs taken bytes none asked
 asked_so inputs old new before after result items taken bytes same leads asked t (inr now) (inl shut) = let q = t.quiet shut in asked_before inputs taken bytes q.0 asked
-asked_so inputs old new before after result items taken bytes same leads asked t (inr (early, late, h, e, n)) (inr open_yet) =
+asked_so inputs old new before after result items taken bytes same leads asked t (inr (early, late, h, e, few, n)) (inr open_yet) =
     let P : List InputSpec → Type 0 = λ u. Next u false (with_more old.held early) (Wants h) in
-    asked_now inputs items taken bytes old.held old.closed leads open_yet early late h e (subst P same n)
+    asked_now inputs items taken bytes old.held old.closed leads open_yet early late h e few (subst P same n)
 
 -- what holds of the bytes taken behind a call, whatever it answered
 pub behind_call : (inputs : List InputSpec) (old new : ReaderState) (lists : List (List ℤ)) (before between after : SeenSource) (result : Result line_type.Line TextFault) (items : List ItemOf) (taken bytes : List ℕ) →

@@ -1,8 +1,9 @@
 -- The items of an input, stream by stream, and why they stop before the input's end.
-use Rattle.std.specs.Prelude.{ℕ, ℤ, ◌≡◌, ◌⊎◌, Bool, true, false, nat_eq, List, [], ◌++◌, map, length, Option, Some, None, Result, Ok, Err}
+use Rattle.std.specs.Prelude.{ℕ, ℤ, ◌≤◌, ◌≡◌, ◌⊎◌, Bool, true, false, nat_eq, List, [], ◌++◌, map, length, Option, Some, None, Result, Ok, Err}
 use Rattle.std.specs.List.{filter, range_with_len}
 use Rattle.lucy_word.specs.declared.error.OutOfMemory.{OutOfMemory}
 use Rattle.lucy_lines.specs.Cuts.{Held, ItemOf, Stop as Halt, At, Before, Cut, input_of}
+use Rattle.lucy_lines.specs.Reading.{most_read}
 use Rattle.lucy_lines.specs.declared.input.InputSpec.{InputSpec}
 use Rattle.lucy_lines.specs.declared.reader.TextFault.{TextFault}
 use Rattle.lucy_lines.specs.declared.reader.TextFault.TheVariants.{ReadFault}
@@ -52,9 +53,9 @@ abbrev pub IsFeed : List InputSpec → (taken : List ℕ) → Stop → Result Fe
 IsFeed inputs taken stop (Ok feed) = (items : List ItemOf) × (halt : Halt) × IsFeedOf inputs taken stop items halt feed
 IsFeed inputs taken stop (Err e) = stop ≡ Open
 
--- Bytes were asked for only as long as those taken before refused no line.
+-- Bytes were asked for only as long as those taken before the last read refused no line.
 abbrev pub IsAsked : List InputSpec → (taken : List ℕ) → Type 0
-IsAsked inputs taken = (taken ≡ []) ⊎ ((early late : List ℕ) × (items : List ItemOf) × (held : Held) × (taken ≡ early ++ late) ×
+IsAsked inputs taken = (taken ≡ []) ⊎ ((early late : List ℕ) × (items : List ItemOf) × (held : Held) × (taken ≡ early ++ late) × (length late ≤ most_read) ×
     Cut inputs false (input_of early) items (Before held))
 
 -- the bytes taken, and how reading stopped, have one feed

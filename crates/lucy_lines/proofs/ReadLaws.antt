@@ -236,7 +236,7 @@ read_on was now mid new source left before between after ended taken bytes k f s
       bytes = followed_more before between after taken bytes s.bytes r.bytes;
       follows = follows_read was now mid new taken bytes k s.follows w (ap (λ u. u.held) r.held);
       quiet = λ e. let no_more : true ≡ false = sym e ∙ open_call in cc;
-      needed = inr (taken, bytes, mid.held, refl, follows_now was.inputs was.held now.held taken false (Wants mid.held) s.follows (wants_call was now mid.held k w));
+      needed = inr (taken, bytes, mid.held, refl, r.few, follows_now was.inputs was.held now.held taken false (Wants mid.held) s.follows (wants_call was now mid.held k w));
       counted = counted_read was now mid new between after ended taken bytes s.counted w r;
     }
 
@@ -257,7 +257,7 @@ took_fault was now mid new source left before between after taken k f s w e d b 
     record {
       bytes = s.bytes ∙ ap (followed taken) (sym b);
       quiet = λ c. let no_more : true ≡ false = sym c ∙ open_call in cc;
-      needed = inr (taken, [], mid.held, sym (append-nil taken), follows_now was.inputs was.held now.held taken false (Wants mid.held) s.follows (wants_call was now mid.held k w));
+      needed = inr (taken, [], mid.held, sym (append-nil taken), omega arith, follows_now was.inputs was.held now.held taken false (Wants mid.held) s.follows (wants_call was now mid.held k w));
       counted = ap (λ r. bytes_taken r.held) d ∙ wants_taken (Wants mid.held) refl w.1 ∙ s.counted;
       answer = fault_answers was now new taken mid.held k s.follows w (d ∙ e);
     }

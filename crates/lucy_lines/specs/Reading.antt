@@ -1,5 +1,5 @@
 -- What a reader of an input is seen as, and what a call of it answers.
-use Rattle.std.specs.Prelude.{ℕ, ◌+◌, ◌≡◌, ◌⊎◌, Bool, true, false, List, [], ◌++◌, length, Option, Some, Result, Ok, Err}
+use Rattle.std.specs.Prelude.{ℕ, ◌+◌, ◌≤◌, ◌≡◌, ◌⊎◌, Bool, true, false, List, [], ◌++◌, length, Option, Some, Result, Ok, Err}
 use Rattle.lucy_text.specs.Outside.{followed, Rose}
 use Rattle.lucy_lines.specs.declared.input.InputSpec.{InputSpec}
 use Rattle.lucy_lines.specs.declared.reader.Line as line_type
@@ -30,9 +30,13 @@ Answers inputs closed was now (Err (UnknownStream n)) = Next inputs closed was (
 Answers inputs closed was now (Err (BadValue n)) = Next inputs closed was (Refuses (BadValue n))
 Answers inputs closed was now (Err TooLong) = Next inputs closed was (Refuses TooLong)
 
+-- the most bytes that one read takes
+abbrev pub most_read : ℕ
+most_read = 65536
+
 -- bytes were asked for where the bytes before those of the last read decided nothing
 abbrev pub Asked : ReaderState → List ℕ → Type 0
-Asked was taken = (early late : List ℕ) × (h : Held) × (taken ≡ early ++ late) × Next was.inputs false (with_more was.held early) (Wants h)
+Asked was taken = (early late : List ℕ) × (h : Held) × (taken ≡ early ++ late) × (length late ≤ most_read) × Next was.inputs false (with_more was.held early) (Wants h)
 
 -- A call took these bytes, all of which are counted, and answered by what was held with them. Once the end was met a call takes
 -- none.

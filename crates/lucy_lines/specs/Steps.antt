@@ -13,7 +13,7 @@ use Rattle.lucy_lines.specs.declared.reader.TextFault.TheVariants.{BadLine, Unkn
 use Rattle.lucy_lines.specs.Fronts.{front_of}
 use Rattle.lucy_lines.specs.Kinds.{IsKind}
 use Rattle.lucy_lines.specs.Cuts.{Held, Gives, Refuses, Wants, Next, past, with_more}
-use Rattle.lucy_lines.specs.Reading.{ReaderState}
+use Rattle.lucy_lines.specs.Reading.{ReaderState, most_read}
 
 -- the step of the line of the number, which says this
 abbrev pub step_at : ℕ → kind_type.Kind → step_type.Step
@@ -49,5 +49,6 @@ HeldAnswers r h (Some (Err f)) = Next r.inputs r.closed r.held (Refuses f)
 -- One read: it took these bytes behind those that were held, or none at the end, which is noted then.
 pub record Reads (old new : ReaderState) (before after : Option (List ℕ)) (ended : Bool) (taken : List ℕ) : Type 0 where
   pub bytes : before ≡ followed taken after
+  pub few : length taken ≤ most_read
   pub held : new ≡ record old { held = with_more old.held taken; closed = new.closed }
   pub progress : (new.closed ≡ false) × (1 ≤ length taken) ⊎ ((new.closed ≡ true) × AtEnd after × (ended ≡ true))
