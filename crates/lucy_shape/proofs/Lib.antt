@@ -1,0 +1,17 @@
+pub mod Adding
+pub mod Bases
+pub mod Earlier
+pub mod Fitting
+pub mod Indexes
+pub mod Reaches
+pub mod Lists
+pub mod Marks
+pub mod Meeting
+pub mod Places
+pub mod PositionWord
+pub mod RowCounts
+pub mod RowLaws
+pub mod Systems
+pub mod WordIndex
+pub mod WordOf
+pub mod Writings
