@@ -1,0 +1,73 @@
+-- The tree of a component, and the rates that it gives.
+use Rattle.std.specs.Prelude.{ℕ, ◌*◌, ◌<◌, ◌≡◌, ◌⊎◌, List, ◌∷◌, length, take, slice_index}
+use Rattle.std.specs.List.{Contains, All}
+use Rattle.std.specs.Int.{IsGcd}
+use Rattle.lucy_word.specs.Limits.{limit_number}
+use Rattle.lucy_word.specs.declared.limit.Limit.TheVariants as limit
+use Rattle.lucy_need.specs.declared.need.Need.{Need}
+use Rattle.lucy_rates.specs.Walks.{first_of, second_of, need_at, over, under, IsWalk, IsRoot}
+
+abbrev pub IsNamedBy : ℕ → Need → Type 0
+IsNamedBy c need = ((first_of need).clock ≡ c) ⊎ ((second_of need).clock ≡ c)
+
+-- the root, and the clocks that needs of the tree name
+abbrev pub IsReached : List Need → ℕ → List ℕ → ℕ → Type 0
+IsReached needs root tree c = (c ≡ root) ⊎ ((k : ℕ) × Contains tree k × IsNamedBy c (need_at needs k))
+
+-- the need joins a reached clock with one that is not reached
+abbrev pub JoinsMore : List Need → ℕ → List ℕ → Need → Type 0
+JoinsMore needs root tree need = (IsReached needs root tree (first_of need).clock × (IsReached needs root tree (second_of need).clock → ⊥))
+    ⊎ (IsReached needs root tree (second_of need).clock × (IsReached needs root tree (first_of need).clock → ⊥))
+
+-- the tree grows from the root: again and again the first need that joins more
+pub record IsTree (needs : List Need) (root : ℕ) (tree : List ℕ) : Type 0 where
+  pub within : (i : ℕ) → i < length tree → slice_index tree i < length needs
+  pub joins : (i : ℕ) → i < length tree → JoinsMore needs root (take i tree) (need_at needs (slice_index tree i))
+  pub first : (i k : ℕ) → i < length tree → k < slice_index tree i → JoinsMore needs root (take i tree) (need_at needs k) → ⊥
+  pub done : (k : ℕ) → k < length needs → JoinsMore needs root tree (need_at needs k) → ⊥
+
+-- the rate of a clock in lowest terms: the root's is 1, and those of the others come along the tree
+pub record IsTreeRate (needs : List Need) (c num den : ℕ) : Type 0 where
+  pub root : ℕ
+  pub tree : List ℕ
+  pub is_root : IsRoot needs root c
+  pub is_tree : IsTree needs root tree
+  pub walk : List ℕ
+  pub a : ℕ
+  pub b : ℕ
+  pub along : IsWalk needs walk root c a b
+  pub in_tree : All (Contains tree) walk
+  pub same : num * b ≡ a * den
+  pub lowest : IsGcd num den 1
+
+abbrev pub most_rate : ℕ
+most_rate = limit_number limit.Rate
+
+-- a rate has too large a number
+abbrev pub HasLargeRate : List Need → ℕ → Type 0
+HasLargeRate needs clocks = (c : ℕ) × (num : ℕ) × (den : ℕ) × (c < clocks) × IsTreeRate needs c num den × ((most_rate < num) ⊎ (most_rate < den))
+
+-- both sides of the need have one rate, num1 / den1 and num2 / den2 being those of its clocks
+abbrev pub AreEven : Need → ℕ → ℕ → ℕ → ℕ → Type 0
+AreEven need num1 den1 num2 den2 = num1 * den2 * over need ≡ num2 * den1 * under need
+
+abbrev pub IsBalanced : List Need → Need → Type 0
+IsBalanced needs need = (num1 : ℕ) (den1 : ℕ) (num2 : ℕ) (den2 : ℕ) → IsTreeRate needs (first_of need).clock num1 den1 → IsTreeRate needs (second_of need).clock num2 den2 → AreEven need num1 den1 num2 den2
+
+-- the walk that shows it: the first need that is not balanced, from its first clock to its second, and back along the tree
+pub record IsFirstUnequal (needs : List Need) (walk : List ℕ) : Type 0 where
+  pub need : ℕ
+  pub back : List ℕ
+  pub is : walk ≡ need ∷ back
+  pub within : need < length needs
+  pub uneven : IsBalanced needs (need_at needs need) → ⊥
+  pub before : (k : ℕ) → k < need → IsBalanced needs (need_at needs k)
+  pub root : ℕ
+  pub tree : List ℕ
+  pub is_root : IsRoot needs root (first_of (need_at needs need)).clock
+  pub is_tree : IsTree needs root tree
+  pub in_tree : All (Contains tree) back
+  pub num : ℕ
+  pub den : ℕ
+  pub returns : IsWalk needs back (second_of (need_at needs need)).clock (first_of (need_at needs need)).clock num den
+  pub simple : (i j : ℕ) → i < j → j < length back → slice_index back i ≡ slice_index back j → ⊥

@@ -1,0 +1,13 @@
+// What walks and rates say. Each body is empty: the contract is a law.
+ghost use Rattle.lucy_rates.specs.Forests.{BalanceLaw};
+ghost use Rattle.lucy_rates.specs.Walks.{UnmetLaw};
+
+/// Where all needs are balanced, each walk multiplies the rate of its first clock to that of its last.
+pub fn walks_balance()
+    ensures { BalanceLaw }
+{}
+
+/// An unequal walk shows that no words of the clocks at all meet the needs.
+pub fn walk_is_unmet()
+    ensures { UnmetLaw }
+{}
