@@ -1,0 +1,3 @@
+pub mod AtEarliest
+pub mod OneAnswer
+pub mod Steps
