@@ -1,6 +1,8 @@
 -- What the calls on a node give is what its clocks are, or why it has none.
-use Rattle.std.proofs.Common.{ℕ, zero, suc, [], ◌∷◌, arith, ◌<◌, ◌≤◌, ◌≡◌, List, Some, None, Option, length, ap, sym, refl, ◌∙◌, subst, inl, inr}
-use Rattle.std.specs.Prelude.{slice_get}
+use Rattle.std.proofs.Common.{true, Result, Ok, Err, ℕ, zero, suc, [], ◌∷◌, arith, ◌<◌, ◌≤◌, ◌≡◌, List, Some, length, ap, sym, refl, ◌∙◌, subst, inl, inr}
+use Rattle.std.specs.Prelude.{slice_get, IfErr, IsErrAnd}
+use Rattle.lucy_word.specs.Always.{always}
+use Rattle.lucy_word.specs.Shortest.{Same}
 use Rattle.lucy_word.specs.Bits.{Bits}
 use Rattle.lucy_word.specs.Limits.{limit_number}
 use Rattle.lucy_word.specs.declared.limit.Limit.TheVariants as limit
@@ -9,8 +11,9 @@ use Rattle.lucy_place.specs.declared.placed.PlacedNode.{PlacedNode}
 use Rattle.lucy_place.specs.PlacedProgram.{PlacedProgram}
 use Rattle.lucy_place.specs.Proper.{IsProperNode}
 use Rattle.lucy_place.specs.WrittenNodes.{IsWritten}
+use Rattle.lucy_need.specs.declared.need.Need.{Need}
 use Rattle.lucy_need.specs.declared.need.Needs.{Needs}
-use Rattle.lucy_need.specs.Meeting.{assigned, all_bits, most_needs, MeetsAll}
+use Rattle.lucy_need.specs.Meeting.{AreWordsIn, assigned, all_bits, most_needs, MeetsAll}
 use Rattle.lucy_clock.specs.declared.signature.Signature.{Signature}
 use Rattle.lucy_clock.specs.declared.node_clock.NodeClock.{NodeClock}
 use Rattle.lucy_clock.specs.declared.error.ClockError.{ClockError}
@@ -23,8 +26,11 @@ use Rattle.lucy_clock.proofs.WordLaws.{stored_at}
 use Rattle.lucy_check.specs.declared.fault.CheckFault.{CheckFault}
 use Rattle.lucy_check.specs.declared.fault.CheckFault.TheVariants as fault
 use Rattle.lucy_check.specs.Passing.{OrNoMemory, PassesAll, AllWithinLimits, IsFirstRefusal}
-use Rattle.lucy_front.specs.declared.clocking.NodeFault.TheVariants.{NotWritten, Check}
-use Rattle.lucy_front.specs.Clocked.{AreFewNeeds, AreNodeWords, IsClocked, IsTold}
+use Rattle.lucy_front.specs.declared.fault.NodeFault.{NodeFault}
+use Rattle.lucy_front.specs.declared.fault.NodeFault.TheVariants.{NotWritten, Check}
+use Rattle.lucy_front.specs.declared.options.Options.{Options}
+use Rattle.lucy_front.specs.Inferring.{IsShut, node_needs}
+use Rattle.lucy_front.specs.Clocked.{AreFewNeeds, AreNodeWords, AreItsClocks, IsClocked, IsTold}
 use Rattle.lucy_front.specs.Clocking.{clock_fault, check_fault, RefusesNode}
 use Rattle.lucy_front.proofs.SizeLaws.{node_sized, sized_count, sized_at}
 
@@ -32,16 +38,17 @@ use Rattle.lucy_front.proofs.SizeLaws.{node_sized, sized_count, sized_at}
 pub words_of : (n : PlacedNode) (words : List Bits) → AreWordsOf n words → (IsWordTooLong n → ⊥) × (word_bits words ≤ limit_number limit.Bits) → AreNodeWords n words
 words_of n words of few = record { of = of; few = record { fit = few.0; bits = few.1 } }
 
-module _ (nodes : List PlacedNode) (above : List Signature) (n : PlacedNode) (proper : IsProperNode nodes n) (ports : AreSignatures nodes above) (is_written : IsWritten n) where
-  pub clocked : (c : NodeClock) → AreFewNeeds above n → AreNodeWords n c.words → MeetsAll (assigned c.words) (needs_of above n) → AllWithinLimits (assigned c.words) (needs_of above n) →
-      PassesAll (assigned c.words) (needs_of above n) c.sizes → IsClocked above n c
-  clocked c few words met within passes =
+module _ (o : Options) (nodes : List PlacedNode) (above : List Signature) (n : PlacedNode) (proper : IsProperNode nodes n) (ports : AreSignatures nodes above) where
+  -- words that meet the needs within the limits, with what the checker tells of sizes, are clocks
+  pub clocked_by : (c : NodeClock) → AreFewNeeds above n → AreItsClocks o above n c → length c.words ≡ clocks_of n → AreWordsIn (assigned c.words) (clocks_of n) → Same (assigned c.words 0) always →
+      MeetsAll (assigned c.words) (needs_of above n) → AllWithinLimits (assigned c.words) (needs_of above n) → PassesAll (assigned c.words) (needs_of above n) c.sizes → IsClocked o above n c
+  clocked_by c few its count are_words base met within passes =
       let sized = node_sized (assigned c.words) above n c.sizes proper.in_order passes in
       record {
-        written = is_written;
         needs = few;
-        words = words;
-        well = (rules_law (assigned c.words) nodes above n proper ports (λ i l. (stored_at c.words i words.of.stored).word) words.of.handed.places.base).0 met;
+        its = its;
+        count = count;
+        well = (rules_law (assigned c.words) nodes above n proper ports are_words base).0 met;
         within = within;
         sizes = record {
           count = sized_count (assigned c.words) n n.buffers c.sizes sized;
@@ -49,33 +56,53 @@ module _ (nodes : List PlacedNode) (above : List Signature) (n : PlacedNode) (pr
         };
       }
 
+  pub clocked : (c : NodeClock) → IsWritten n → AreFewNeeds above n → AreNodeWords n c.words → MeetsAll (assigned c.words) (needs_of above n) → AllWithinLimits (assigned c.words) (needs_of above n) →
+      PassesAll (assigned c.words) (needs_of above n) c.sizes → IsClocked o above n c
+  clocked c is_written few words met within passes =
+      clocked_by c few (inl (record { written = is_written; words = words })) words.of.count (λ i l. (stored_at c.words i words.of.stored).word) words.of.handed.places.base met within passes
+
+-- a written node isn't refused for not being so
+pub unshut : (o : Options) (n : PlacedNode) → IsWritten n → IsShut o n → ⊥
+unshut o n is_written shut = shut.unwritten is_written
+
 -- a span that keeps a node from being written
-pub unwritten : (placed : PlacedProgram) (node : ℕ) (above : List Signature) (n : PlacedNode) (o : Option Span) (span : Span) → slice_get placed.unwritten node ≡ Some o → (IsWritten n → o ≡ None) → o ≡ Some span →
-    RefusesNode placed node above n (NotWritten span)
-unwritten placed node above n o span at tells is = (at ∙ ap (λ x. Some x) is, λ w. let e : Some span ≡ None = sym is ∙ tells w in cc e)
+pub unwritten : (o : Options) (placed : PlacedProgram) (node : ℕ) (above : List Signature) (n : PlacedNode) (span : Span) → slice_get placed.unwritten node ≡ Some (Some span) → o.written_only ≡ true → (IsWritten n → ⊥) →
+    RefusesNode o placed node above n (NotWritten span)
+unwritten o placed node above n span at asked is = (at, record { asked = asked; unwritten = is })
 
 -- a limit of the needs, of the words and of the checker
-pub needs_refused : (placed : PlacedProgram) (node : ℕ) (above : List Signature) (n : PlacedNode) (e : ClockError) → IsWritten n → RefusesNeeds (needs_of above n) e → RefusesNode placed node above n (clock_fault e)
-needs_refused placed node above n (error.Limit l) is_written h = (tt, (is_written, inl h))
-needs_refused placed node above n error.OutOfMemory is_written h = (tt, tt)
+pub needs_refused : (o : Options) (placed : PlacedProgram) (node : ℕ) (above : List Signature) (n : PlacedNode) (e : ClockError) → (IsShut o n → ⊥) → RefusesNeeds (needs_of above n) e → RefusesNode o placed node above n (clock_fault e)
+needs_refused o placed node above n (error.Limit l) shut h = (tt, inl (shut, h))
+needs_refused o placed node above n error.OutOfMemory shut h = (tt, tt)
 
-pub words_refused : (placed : PlacedProgram) (node : ℕ) (above : List Signature) (n : PlacedNode) (e : ClockError) → IsWritten n → AreFewNeeds above n → RefusesWords n e → RefusesNode placed node above n (clock_fault e)
-words_refused placed node above n (error.Limit l) is_written few h = (tt, (is_written, inr (inl (few, h))))
-words_refused placed node above n error.OutOfMemory is_written few h = (tt, tt)
+pub words_refused : (o : Options) (placed : PlacedProgram) (node : ℕ) (above : List Signature) (n : PlacedNode) (e : ClockError) → IsWritten n → AreFewNeeds above n → RefusesWords n e → RefusesNode o placed node above n (clock_fault e)
+words_refused o placed node above n (error.Limit l) is_written few h = (tt, inr (few, inl (is_written, inl h)))
+words_refused o placed node above n error.OutOfMemory is_written few h = (tt, tt)
 
-told_refused : (placed : PlacedProgram) (node : ℕ) (above : List Signature) (n : PlacedNode) (words : List Bits) (needs : Needs) (e : CheckFault) → IsWritten n → needs.clocks ≡ clocks_of n → needs.list ≡ needs_of above n →
-    AreFewNeeds above n → AreNodeWords n words → IsTold e → OrNoMemory (IsFirstRefusal (assigned words) (needs_of above n)) e → RefusesNode placed node above n (Check needs e)
-told_refused placed node above n words needs e is_written clocks list few are told (inl none) = absurd (subst IsTold none told)
-told_refused placed node above n words needs e is_written clocks list few are told (inr first) = (tt, (is_written, clocks, list, (few, words, are, first, told)))
+-- needs by their clocks and their list
+pub needs_are : (above : List Signature) (n : PlacedNode) (needs : Needs) → needs.clocks ≡ clocks_of n → needs.list ≡ needs_of above n → needs ≡ node_needs above n
+needs_are above n needs clocks list =
+    ap (λ (c : ℕ). let r : Needs = record { clocks = c; list = needs.list } in r) clocks
+    ∙ ap (λ (l : List Need). let r : Needs = record { clocks = clocks_of n; list = l } in r) list
 
-pub check_refused : (placed : PlacedProgram) (node : ℕ) (above : List Signature) (n : PlacedNode) (words : List Bits) (needs : Needs) (e : CheckFault) → IsWritten n → needs.clocks ≡ clocks_of n → needs.list ≡ needs_of above n →
-    AreFewNeeds above n → AreNodeWords n words → OrNoMemory (IsFirstRefusal (assigned words) (needs_of above n)) e → RefusesNode placed node above n (check_fault needs e)
-check_refused placed node above n words needs (fault.Limit need l) is_written clocks list few are (inl none) = absurd (cc none)
-check_refused placed node above n words needs (fault.Limit need l) is_written clocks list few are (inr first) = (tt, (is_written, inr (inr (few, words, are, need, first))))
-check_refused placed node above n words needs fault.OutOfMemory is_written clocks list few are h = (tt, tt)
-check_refused placed node above n words needs (fault.Differs need at) is_written clocks list few are h = told_refused placed node above n words needs (fault.Differs need at) is_written clocks list few are tt h
-check_refused placed node above n words needs (fault.Rates need) is_written clocks list few are h = told_refused placed node above n words needs (fault.Rates need) is_written clocks list few are tt h
-check_refused placed node above n words needs (fault.Late need at) is_written clocks list few are h = told_refused placed node above n words needs (fault.Late need at) is_written clocks list few are tt h
+module _ (o : Options) (placed : PlacedProgram) (node : ℕ) (above : List Signature) (n : PlacedNode) (words : List Bits) (needs : Needs) (is_written : IsWritten n) (are_needs : needs ≡ node_needs above n)
+    (few : AreFewNeeds above n) (are : AreNodeWords n words) where
+  told_refused : (e : CheckFault) → IsTold e → OrNoMemory (IsFirstRefusal (assigned words) (needs_of above n)) e → RefusesNode o placed node above n (Check needs e)
+  told_refused e told (inl none) = absurd (subst IsTold none told)
+  told_refused e told (inr first) = (tt, (are_needs, (few, is_written, words, are, first, told)))
+
+  pub check_refused : (e : CheckFault) → OrNoMemory (IsFirstRefusal (assigned words) (needs_of above n)) e → RefusesNode o placed node above n (check_fault needs e)
+  check_refused (fault.Limit need l) (inl none) = absurd (cc none)
+  check_refused (fault.Limit need l) (inr first) = (tt, inr (few, inl (is_written, inr (words, are, need, first))))
+  check_refused fault.OutOfMemory h = (tt, tt)
+  check_refused (fault.Differs need at) h = told_refused (fault.Differs need at) tt h
+  check_refused (fault.Rates need) h = told_refused (fault.Rates need) tt h
+  check_refused (fault.Late need at) h = told_refused (fault.Late need at) tt h
+
+-- what is refused for one reason
+pub refused_so : {A : Type 0} (r : Result A NodeFault) (f : NodeFault) (P : NodeFault → Type 0) → IsErrAnd r (λ e. e ≡ f) → P f → IfErr r P
+refused_so (Ok a) f P is h = tt
+refused_so (Err e) f P is h = subst P (sym is) h
 
 -- the node of a number
 pub there : (nodes : List PlacedNode) (node : ℕ) → node < length nodes → (n : PlacedNode) × (slice_get nodes node ≡ Some n)

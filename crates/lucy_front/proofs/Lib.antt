@@ -1,5 +1,8 @@
 mod SizeLaws
 mod ClockedLaws
+mod InferredLaws
+mod EvidenceLaws
+mod LineLaws
 mod MoreClocks
 mod ReportLaws
 mod ItemLaws

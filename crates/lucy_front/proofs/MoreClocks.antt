@@ -13,6 +13,7 @@ use Rattle.lucy_clock.specs.declared.signature.Signature.{Signature}
 use Rattle.lucy_clock.specs.declared.node_clock.NodeClock.{NodeClock}
 use Rattle.lucy_clock.specs.Clocks.{AreSignatures}
 use Rattle.lucy_clock.specs.NodeClocks.{ports, signatures}
+use Rattle.lucy_front.specs.declared.options.Options.{Options}
 use Rattle.lucy_front.specs.Clocked.{IsClocked, AreClocksOf}
 
 -- the signatures are those of the nodes
@@ -28,14 +29,14 @@ signature_at (m ∷ nodes) [] i n s at of = absurd (cc of)
 signature_at (m ∷ nodes) (c ∷ clocks) zero n s at of = (c, refl, ap (λ x. ports x c) (sym (same_Some m n at)) ∙ same_Some (ports m c) s of)
 signature_at (m ∷ nodes) (c ∷ clocks) (suc i) n s at of = signature_at nodes clocks i n s at of
 
-pub signatures_are : (nodes : List PlacedNode) (clocks : List NodeClock) → AreProper nodes → AreClocksOf nodes clocks → AreSignatures nodes (signatures nodes clocks)
+pub signatures_are : {o : Options} (nodes : List PlacedNode) (clocks : List NodeClock) → AreProper nodes → AreClocksOf o nodes clocks → AreSignatures nodes (signatures nodes clocks)
 signatures_are nodes clocks proper are = record {
   all = signatures_count nodes clocks are.all;
   params = λ i n s at of.
       let found = signature_at nodes clocks i n s at of in
       let c : NodeClock = found.0 in
       let clocked = are.each i n c at found.1 in
-      let count = clocked.words.of.count in
+      let count = clocked.count in
       let few = (proper i n at).params in
       let left = length-drop 1 c.words in
       let long : n.params ≤ length (drop 1 c.words) = omega arith in
@@ -59,7 +60,7 @@ get_back (z ∷ xs) x zero y e = inl e
 get_back (z ∷ xs) x (suc i) y e = elim (get_back xs x i y e) [ inl f ↦ inl f | inr f ↦ inr (ap suc f.0, f.1) ]
 
 -- all before the next one
-module _ (nodes : List PlacedNode) (node : ℕ) (clocks more : List NodeClock) (n : PlacedNode) (c : NodeClock) (at : slice_get nodes node ≡ Some n) (are : AreClocksOf (take node nodes) clocks) (e : more ≡ clocks ++ c ∷ []) where
+module _ {o : Options} (nodes : List PlacedNode) (node : ℕ) (clocks more : List NodeClock) (n : PlacedNode) (c : NodeClock) (at : slice_get nodes node ≡ Some n) (are : AreClocksOf o (take node nodes) clocks) (e : more ≡ clocks ++ c ∷ []) where
   below : node < length nodes
   below = slice_get_within nodes node n at
 
@@ -84,8 +85,8 @@ module _ (nodes : List PlacedNode) (node : ℕ) (clocks more : List NodeClock) (
       let of_clocks : clocks ≡ take node clocks = sym (take_all node clocks (omega (arith, count))) in
       ap (λ xs. signatures xs clocks) of_nodes ∙ ap (signatures (take node (take node nodes))) of_clocks ∙ front_same node (omega arith)
 
-  each : IsClocked (signatures (take node nodes) clocks) n c → (i : ℕ) (m : PlacedNode) (d : NodeClock) → slice_get (take (node + 1) nodes) i ≡ Some m → slice_get more i ≡ Some d →
-      IsClocked (signatures (take i (take (node + 1) nodes)) (take i more)) m d
+  each : IsClocked o (signatures (take node nodes) clocks) n c → (i : ℕ) (m : PlacedNode) (d : NodeClock) → slice_get (take (node + 1) nodes) i ≡ Some m → slice_get more i ≡ Some d →
+      IsClocked o (signatures (take i (take (node + 1) nodes)) (take i more)) m d
   each clocked i m d here of =
       let within = slice_get_within (take (node + 1) nodes) i m here in
       let long = length-take-le (node + 1) nodes (omega (arith, below)) in
@@ -93,22 +94,22 @@ module _ (nodes : List PlacedNode) (node : ℕ) (clocks more : List NodeClock) (
       elim (get_back clocks c i d (sym (ap (λ l. slice_get l i) e) ∙ of)) [
         | inl f ↦
             let l : i < node = omega (arith, slice_get_within clocks i d f, count) in
-            subst (λ s. IsClocked s m d) (front_same i (omega arith)) (are.each i m d (get_take node nodes i l ∙ at_m) f)
+            subst (λ s. IsClocked o s m d) (front_same i (omega arith)) (are.each i m d (get_take node nodes i l ∙ at_m) f)
         | inr f ↦
             let last : i ≡ node = f.0 ∙ count in
             let one : n ≡ m = same_Some n m (sym at ∙ ap (slice_get nodes) (sym last) ∙ at_m) in
-            subst (λ j. IsClocked (signatures (take j (take (node + 1) nodes)) (take j more)) m d) (sym last)
-            (subst (λ s. IsClocked s m d) last_same (subst (λ x. IsClocked (signatures (take node nodes) clocks) x d) one (subst (IsClocked (signatures (take node nodes) clocks) n) f.1 clocked)))
+            subst (λ j. IsClocked o (signatures (take j (take (node + 1) nodes)) (take j more)) m d) (sym last)
+            (subst (λ s. IsClocked o s m d) last_same (subst (λ x. IsClocked o (signatures (take node nodes) clocks) x d) one (subst (IsClocked o (signatures (take node nodes) clocks) n) f.1 clocked)))
       ]
 
-  pub clocked_push : IsClocked (signatures (take node nodes) clocks) n c → AreClocksOf (take (node + 1) nodes) more
+  pub clocked_push : IsClocked o (signatures (take node nodes) clocks) n c → AreClocksOf o (take (node + 1) nodes) more
   clocked_push clocked = record {
     all = (let a = ap length e in let b = length_push clocks c in let d = length-take-le (node + 1) nodes (omega (arith, below)) in omega (arith, count));
     each = each clocked;
   }
 
 -- no clocks of no nodes
-pub clocked_none : (nodes : List PlacedNode) (clocks : List NodeClock) → clocks ≡ [] → AreClocksOf (take 0 nodes) clocks
+pub clocked_none : {o : Options} (nodes : List PlacedNode) (clocks : List NodeClock) → clocks ≡ [] → AreClocksOf o (take 0 nodes) clocks
 clocked_none nodes clocks e = record { all = ap length e; each = λ i n c at of. absurd (cc at) }
 
 -- the nodes above one are proper

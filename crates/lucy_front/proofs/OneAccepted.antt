@@ -1,25 +1,21 @@
 -- A text has one answer, its net and its schedule included.
-use Rattle.std.proofs.Common.{ℕ, ◌≤◌, ◌≡◌, List, refl, ap, sym, ◌∙◌, subst, inl, inr}
+use Rattle.std.proofs.Common.{ℕ, ◌≡◌, List, refl, ap, sym, ◌∙◌, subst, inl, inr}
 use Rattle.std.specs.Prelude.{◌⊎◌}
-use Rattle.lucy_word.specs.Limits.{limit_number}
-use Rattle.lucy_word.specs.declared.limit.Limit.{Limit as LimitOf}
-use Rattle.lucy_word.specs.declared.limit.Limit.TheVariants as limit
 use Rattle.lucy_host.specs.Operators.{Operator}
 use Rattle.lucy_place.specs.declared.placed.PlacedNode.{PlacedNode}
 use Rattle.lucy_place.specs.Proper.{AreProper}
 use Rattle.lucy_clock.specs.declared.node_clock.NodeClock.{NodeClock}
 use Rattle.lucy_net.specs.declared.net.Net.{Net}
-use Rattle.lucy_flat.specs.declared.error.FlatError.TheVariants as flat
-use Rattle.lucy_flat.specs.Refusals.{IsFlatNet, RefusesFlat, net_bits}
 use Rattle.lucy_cause.specs.declared.error.CauseFault.{CauseFault}
 use Rattle.lucy_cause.specs.declared.error.CauseFault.TheVariants as cause
 use Rattle.lucy_cause.specs.Schedules.{Timetable, IsScheduleOf, Refuses as RefusesSchedule}
 use Rattle.lucy_flat.proofs.OneNet.{one_net, one_limit, never_both as net_kept}
 use Rattle.lucy_cause.proofs.OneAnswer.{never_both as schedule_kept, one_refusal as one_fault}
+use Rattle.lucy_front.specs.declared.options.Options.{Options}
 use Rattle.lucy_front.specs.declared.accepted.Accepted.{Accepted}
 use Rattle.lucy_front.specs.declared.refusal.Refusal.{Refusal}
-use Rattle.lucy_front.specs.declared.refusal.Refusal.TheVariants.{Syntax, Names, Types, NotWritten, Check, Cause, Limit as LimitPassed, OutOfMemory}
-use Rattle.lucy_front.specs.Accepting.{IsClockedText, IsAccepted, RefusesPhases, RefusesClocked, Refuses}
+use Rattle.lucy_front.specs.declared.refusal.Refusal.TheVariants.{Syntax, Names, Types, NotWritten, Rates, Clocks, Check, Cause, Limit as LimitPassed, OutOfMemory}
+use Rattle.lucy_front.specs.Accepting.{IsAccepted, RefusesClocked, Refuses}
 use Rattle.lucy_front.specs.Scheduled.{IsNetOf, RefusesNet, inputs_of, outputs_of}
 use Rattle.lucy_front.specs.OneAnswer.{AreAlike}
 use Rattle.lucy_front.proofs.OneAnswer.{text_proper, one_program, never_both, one_refusal}
@@ -41,6 +37,8 @@ module _ (nodes : List PlacedNode) (clocks : List NodeClock) (proper : AreProper
   net_refused net s (Names e) x is h = absurd h
   net_refused net s (Types placed clash) x is h = absurd h
   net_refused net s (NotWritten placed node span) x is h = absurd h
+  net_refused net s (Rates placed node needs walk) x is h = absurd h
+  net_refused net s (Clocks placed node needs shape diffs cycle) x is h = absurd h
   net_refused net s (Check placed node needs e) x is h = absurd h
   net_refused net s OutOfMemory x is h = refl
 
@@ -64,53 +62,59 @@ module _ (nodes : List PlacedNode) (clocks : List NodeClock) (proper : AreProper
   nets_alike (Names e) s h k = absurd h
   nets_alike (Types placed clash) s h k = absurd h
   nets_alike (NotWritten placed node span) s h k = absurd h
+  nets_alike (Rates placed node needs walk) s h k = absurd h
+  nets_alike (Clocks placed node needs shape diffs cycle) s h k = absurd h
   nets_alike (Check placed node needs e) s h k = absurd h
   nets_alike OutOfMemory s h k = inl refl
   nets_alike (LimitPassed l) (Syntax e) h k = absurd k
   nets_alike (LimitPassed l) (Names e) h k = absurd k
   nets_alike (LimitPassed l) (Types placed clash) h k = absurd k
   nets_alike (LimitPassed l) (NotWritten placed node span) h k = absurd k
+  nets_alike (LimitPassed l) (Rates placed node needs walk) h k = absurd k
+  nets_alike (LimitPassed l) (Clocks placed node needs shape diffs cycle) h k = absurd k
   nets_alike (LimitPassed l) (Check placed node needs e) h k = absurd k
   nets_alike (LimitPassed l) OutOfMemory h k = inr (inl refl)
   nets_alike (Cause net names instant items) (Syntax e) h k = absurd k
   nets_alike (Cause net names instant items) (Names e) h k = absurd k
   nets_alike (Cause net names instant items) (Types placed clash) h k = absurd k
   nets_alike (Cause net names instant items) (NotWritten placed node span) h k = absurd k
+  nets_alike (Cause net names instant items) (Rates placed node needs walk) h k = absurd k
+  nets_alike (Cause net names instant items) (Clocks placed node needs shape diffs cycle) h k = absurd k
   nets_alike (Cause net names instant items) (Check placed node needs e) h k = absurd k
   nets_alike (Cause net names instant items) OutOfMemory h k = inr (inl refl)
 
 -- what is refused for its net has one program
-moved : (ops : List Operator) (text : List ℕ) (nodes : List PlacedNode) (clocks : List NodeClock) (r : Refusal) (x : RefusesClocked ops text r) → x.placed.nodes ≡ nodes → x.node_clocks ≡ clocks → RefusesNet nodes clocks r
-moved ops text nodes clocks r x e f = subst (λ ns. RefusesNet ns clocks r) e (subst (λ cs. RefusesNet x.placed.nodes cs r) f x.refused)
+moved : (ops : List Operator) (o : Options) (text : List ℕ) (nodes : List PlacedNode) (clocks : List NodeClock) (r : Refusal) (x : RefusesClocked ops o text r) → x.placed.nodes ≡ nodes → x.node_clocks ≡ clocks → RefusesNet nodes clocks r
+moved ops o text nodes clocks r x e f = subst (λ ns. RefusesNet ns clocks r) e (subst (λ cs. RefusesNet x.placed.nodes cs r) f x.refused)
 
 -- no text is accepted and refused, unless memory ran out
-pub accepted_kept : (ops : List Operator) (text : List ℕ) (a : Accepted) (r : Refusal) → IsAccepted ops text a → Refuses ops text r → r ≡ OutOfMemory
-accepted_kept ops text a r is (inl h) = never_both ops text a.placed a.typed a.clocks.items r is.clocked h
-accepted_kept ops text a r is (inr h) =
-    let same = one_program ops text h.placed a.placed h.tables a.typed h.node_clocks a.clocks.items h.clocked is.clocked in
-    net_refused a.placed.nodes a.clocks.items (text_proper ops text a.placed is.clocked.program.program) a.net a.schedule r is.net is.schedule
-    (moved ops text a.placed.nodes a.clocks.items r h (ap (λ p. p.nodes) same.0) same.2)
+pub accepted_kept : (ops : List Operator) (o : Options) (text : List ℕ) (a : Accepted) (r : Refusal) → IsAccepted ops o text a → Refuses ops o text r → r ≡ OutOfMemory
+accepted_kept ops o text a r is (inl h) = never_both ops o text a.placed a.typed a.clocks.items r is.clocked h
+accepted_kept ops o text a r is (inr h) =
+    let same = one_program ops o text h.placed a.placed h.tables a.typed h.node_clocks a.clocks.items h.clocked is.clocked in
+    net_refused a.placed.nodes a.clocks.items (text_proper ops o text a.placed is.clocked.program.program) a.net a.schedule r is.net is.schedule
+    (moved ops o text a.placed.nodes a.clocks.items r h (ap (λ p. p.nodes) same.0) same.2)
 
 -- and a text is refused in one way
-pub refused_alike : (ops : List Operator) (text : List ℕ) (r s : Refusal) → Refuses ops text r → Refuses ops text s → (r ≡ OutOfMemory) ⊎ (s ≡ OutOfMemory) ⊎ AreAlike r s
-refused_alike ops text r s (inl h) (inl k) = one_refusal ops text r s h k
-refused_alike ops text r s (inl h) (inr k) = inl (never_both ops text k.placed k.tables k.node_clocks r k.clocked h)
-refused_alike ops text r s (inr h) (inl k) = inr (inl (never_both ops text h.placed h.tables h.node_clocks s h.clocked k))
-refused_alike ops text r s (inr h) (inr k) =
-    let same = one_program ops text h.placed k.placed h.tables k.tables h.node_clocks k.node_clocks h.clocked k.clocked in
-    nets_alike k.placed.nodes k.node_clocks (text_proper ops text k.placed k.clocked.program.program) r s (moved ops text k.placed.nodes k.node_clocks r h (ap (λ p. p.nodes) same.0) same.2) k.refused
+pub refused_alike : (ops : List Operator) (o : Options) (text : List ℕ) (r s : Refusal) → Refuses ops o text r → Refuses ops o text s → (r ≡ OutOfMemory) ⊎ (s ≡ OutOfMemory) ⊎ AreAlike r s
+refused_alike ops o text r s (inl h) (inl k) = one_refusal ops o text r s h k
+refused_alike ops o text r s (inl h) (inr k) = inl (never_both ops o text k.placed k.tables k.node_clocks r k.clocked h)
+refused_alike ops o text r s (inr h) (inl k) = inr (inl (never_both ops o text h.placed h.tables h.node_clocks s h.clocked k))
+refused_alike ops o text r s (inr h) (inr k) =
+    let same = one_program ops o text h.placed k.placed h.tables k.tables h.node_clocks k.node_clocks h.clocked k.clocked in
+    nets_alike k.placed.nodes k.node_clocks (text_proper ops o text k.placed k.clocked.program.program) r s (moved ops o text k.placed.nodes k.node_clocks r h (ap (λ p. p.nodes) same.0) same.2) k.refused
 
 -- and is accepted as one thing
-pub accepted_once : (ops : List Operator) (text : List ℕ) (a b : Accepted) → IsAccepted ops text a → IsAccepted ops text b →
+pub accepted_once : (ops : List Operator) (o : Options) (text : List ℕ) (a b : Accepted) → IsAccepted ops o text a → IsAccepted ops o text b →
     (a.placed ≡ b.placed) × (a.typed ≡ b.typed) × (a.clocks.items ≡ b.clocks.items) × (a.net ≡ b.net) × (a.inputs.items ≡ b.inputs.items) × (a.outputs.items ≡ b.outputs.items)
-accepted_once ops text a b x y =
-    let same = one_program ops text a.placed b.placed a.typed b.typed a.clocks.items b.clocks.items x.clocked y.clocked in
+accepted_once ops o text a b x y =
+    let same = one_program ops o text a.placed b.placed a.typed b.typed a.clocks.items b.clocks.items x.clocked y.clocked in
     let nodes : a.placed.nodes ≡ b.placed.nodes = ap (λ p. p.nodes) same.0 in
     let net : IsNetOf b.placed.nodes b.clocks.items a.net = subst (λ ns. IsNetOf ns b.clocks.items a.net) nodes (subst (λ cs. IsNetOf a.placed.nodes cs a.net) same.2 x.net) in (
       same.0,
       same.1,
       same.2,
-      net_one b.placed.nodes b.clocks.items (text_proper ops text b.placed y.clocked.program.program) a.net b.net net y.net,
+      net_one b.placed.nodes b.clocks.items (text_proper ops o text b.placed y.clocked.program.program) a.net b.net net y.net,
       x.inputs ∙ ap (λ ns. inputs_of ns a.typed) nodes ∙ ap (inputs_of b.placed.nodes) same.1 ∙ sym y.inputs,
       x.outputs ∙ ap (λ ns. outputs_of ns a.typed a.clocks.items) nodes ∙ ap (λ ts. outputs_of b.placed.nodes ts a.clocks.items) same.1 ∙ ap (outputs_of b.placed.nodes b.typed) same.2 ∙ sym y.outputs,
     )

@@ -23,14 +23,16 @@ use Rattle.lucy_types.specs.declared.error.TypeError.TheVariants as types
 use Rattle.lucy_types.specs.Programs.{IsTyped}
 use Rattle.lucy_types.proofs.ProgramLaws.{typed_unique, clash_untyped, clash_unique}
 use Rattle.lucy_clock.specs.declared.node_clock.NodeClock.{NodeClock}
-use Rattle.lucy_front.specs.declared.clocking.NodeFault.{NodeFault}
-use Rattle.lucy_front.specs.declared.clocking.NodeFault.TheVariants as node_fault
+use Rattle.lucy_front.specs.declared.options.Options.{Options}
+use Rattle.lucy_front.specs.declared.fault.NodeFault.{NodeFault}
+use Rattle.lucy_front.specs.declared.fault.NodeFault.TheVariants as node_fault
 use Rattle.lucy_front.specs.declared.refusal.Refusal.{Refusal}
-use Rattle.lucy_front.specs.declared.refusal.Refusal.TheVariants.{Syntax, Names, Types, NotWritten, Check, Cause, Limit as LimitPassed, OutOfMemory}
+use Rattle.lucy_front.specs.declared.refusal.Refusal.TheVariants.{Syntax, Names, Types, NotWritten, Rates, Clocks, Check, Cause, Limit as LimitPassed, OutOfMemory}
 use Rattle.lucy_front.specs.Clocked.{AreClocksOf, IsUnclocked}
 use Rattle.lucy_front.specs.Accepting.{IsPlacedText, IsTypedText, IsClockedText, TellsClash, RefusesPhases, syntax_refusal, names_refusal}
 use Rattle.lucy_front.specs.Clocking.{Refused, TellsSpan, fault_refusal}
 use Rattle.lucy_front.specs.OneAnswer.{AreOfOneNode, AreAlike, HaveOneProgram, AreNotRefused, HaveOneRefusal}
+use Rattle.lucy_front.proofs.OneNode.{AreFaultsAlike}
 use Rattle.lucy_front.proofs.OneUnclocked.{clocks_one, clocked_all, unclocked_one}
 
 -- a tree has one list of places
@@ -64,32 +66,71 @@ record OfTypes (ops : List Operator) (text : List ℕ) (r : Refusal) : Type 0 wh
   told : TellsClash placed.nodes clash
   is : r ≡ Types placed clash
 
-record OfNode (ops : List Operator) (text : List ℕ) (r : Refusal) : Type 0 where
+record OfNode (ops : List Operator) (o : Options) (text : List ℕ) (r : Refusal) : Type 0 where
   placed : PlacedProgram
   tables : List (List Ty)
   node : ℕ
   fault : NodeFault
   program : IsTypedText ops text placed tables
   told : TellsSpan placed node fault
-  unclocked : IsUnclocked placed.nodes node (Refused fault)
+  unclocked : IsUnclocked o placed.nodes node (Refused o fault)
   is : r ≡ fault_refusal placed node fault
 
-abbrev OfPhase : List Operator → List ℕ → Refusal → Type 0
-OfPhase ops text r = OfSyntax text r ⊎ OfNames ops text r ⊎ OfTypes ops text r ⊎ OfNode ops text r
+abbrev OfPhase : List Operator → Options → List ℕ → Refusal → Type 0
+OfPhase ops o text r = OfSyntax text r ⊎ OfNames ops text r ⊎ OfTypes ops text r ⊎ OfNode ops o text r
 
-module _ (ops : List Operator) (text : List ℕ) where
-  of_syntax : (e : SyntaxError) → IsRefused text e → OfPhase ops text (syntax_refusal e)
+-- a refusal is like itself
+alike_self : (r : Refusal) → AreAlike r r
+alike_self (Types placed (types.Clash node path)) = (refl, refl)
+alike_self (Types placed types.OutOfMemory) = (refl, refl)
+alike_self (Syntax e) = refl
+alike_self (Names e) = refl
+alike_self (NotWritten placed node span) = refl
+alike_self (Rates placed node needs walk) = (refl, refl, refl, refl)
+alike_self (Clocks placed node needs shape diffs cycle) = (refl, refl, refl, refl, refl)
+alike_self (Check placed node needs e) = refl
+alike_self (LimitPassed l) = refl
+alike_self (Cause net texts instant items) = (refl, refl)
+alike_self OutOfMemory = refl
+
+pub equal_alike : (r s : Refusal) → r ≡ s → AreAlike r s
+equal_alike r s e = subst (AreAlike r) e (alike_self r)
+
+-- faults of a node that are alike are refusals that are
+faults_equal : (placed : PlacedProgram) (node : ℕ) (f g : NodeFault) → f ≡ g → AreAlike (fault_refusal placed node f) (fault_refusal placed node g)
+faults_equal placed node f g e = equal_alike (fault_refusal placed node f) (fault_refusal placed node g) (ap (fault_refusal placed node) e)
+
+faults_alike : (placed : PlacedProgram) (node : ℕ) (f g : NodeFault) → AreFaultsAlike f g → AreAlike (fault_refusal placed node f) (fault_refusal placed node g)
+faults_alike placed node (node_fault.Rates needs walk) (node_fault.Rates those way) h = (refl, refl, h.0, h.1)
+faults_alike placed node (node_fault.Clocks needs shape diffs cycle) (node_fault.Clocks those like these round) h = (refl, refl, h.0, h.1, h.2)
+faults_alike placed node (node_fault.NotWritten span) g h = faults_equal placed node (node_fault.NotWritten span) g h
+faults_alike placed node (node_fault.Check needs e) g h = faults_equal placed node (node_fault.Check needs e) g h
+faults_alike placed node (node_fault.Limit l) g h = faults_equal placed node (node_fault.Limit l) g h
+faults_alike placed node node_fault.OutOfMemory g h = faults_equal placed node node_fault.OutOfMemory g h
+faults_alike placed node (node_fault.Rates needs walk) (node_fault.NotWritten span) h = absurd (cc h)
+faults_alike placed node (node_fault.Rates needs walk) (node_fault.Clocks those shape diffs cycle) h = absurd (cc h)
+faults_alike placed node (node_fault.Rates needs walk) (node_fault.Check those e) h = absurd (cc h)
+faults_alike placed node (node_fault.Rates needs walk) (node_fault.Limit l) h = absurd (cc h)
+faults_alike placed node (node_fault.Rates needs walk) node_fault.OutOfMemory h = absurd (cc h)
+faults_alike placed node (node_fault.Clocks needs shape diffs cycle) (node_fault.NotWritten span) h = absurd (cc h)
+faults_alike placed node (node_fault.Clocks needs shape diffs cycle) (node_fault.Rates those walk) h = absurd (cc h)
+faults_alike placed node (node_fault.Clocks needs shape diffs cycle) (node_fault.Check those e) h = absurd (cc h)
+faults_alike placed node (node_fault.Clocks needs shape diffs cycle) (node_fault.Limit l) h = absurd (cc h)
+faults_alike placed node (node_fault.Clocks needs shape diffs cycle) node_fault.OutOfMemory h = absurd (cc h)
+
+module _ (ops : List Operator) (o : Options) (text : List ℕ) where
+  of_syntax : (e : SyntaxError) → IsRefused text e → OfPhase ops o text (syntax_refusal e)
   of_syntax e h = inl (record { error = e; refused = h; is = refl })
 
-  of_names : (p : ProgramTree) (e : NameError) → HasTree text p → IsFirst (faults ops p) e → OfPhase ops text (names_refusal e)
+  of_names : (p : ProgramTree) (e : NameError) → HasTree text p → IsFirst (faults ops p) e → OfPhase ops o text (names_refusal e)
   of_names p e read first = inr (inl (record { tree = p; error = e; read = read; first = first; is = refl }))
 
-  of_node : (placed : PlacedProgram) (tables : List (List Ty)) (node : ℕ) (fault : NodeFault) → IsTypedText ops text placed tables → TellsSpan placed node fault → IsUnclocked placed.nodes node (Refused fault) →
-      OfPhase ops text (fault_refusal placed node fault)
+  of_node : (placed : PlacedProgram) (tables : List (List Ty)) (node : ℕ) (fault : NodeFault) → IsTypedText ops text placed tables → TellsSpan placed node fault → IsUnclocked o placed.nodes node (Refused o fault) →
+      OfPhase ops o text (fault_refusal placed node fault)
   of_node placed tables node fault program told unclocked = inr (inr (inr (record { placed = placed; tables = tables; node = node; fault = fault; program = program; told = told; unclocked = unclocked; is = refl })))
 
   -- each refusal but want of memory is one of a phase
-  phase : (r : Refusal) → RefusesPhases ops text r → (r ≡ OutOfMemory → ⊥) → OfPhase ops text r
+  phase : (r : Refusal) → RefusesPhases ops o text r → (r ≡ OutOfMemory → ⊥) → OfPhase ops o text r
   phase (Syntax (syntax.Unexpected place)) h some = of_syntax (syntax.Unexpected place) h.0
   phase (Syntax (syntax.BadNumber place)) h some = of_syntax (syntax.BadNumber place) h.0
   phase (Syntax (syntax.BadWord place)) h some = of_syntax (syntax.BadWord place) h.0
@@ -104,6 +145,8 @@ module _ (ops : List Operator) (text : List ℕ) where
   phase (Names names.OutOfMemory) h some = absurd h.3
   phase (Types placed clash) h some = inr (inr (inl (record { placed = placed; clash = clash; program = h.0; told = h.1; is = refl })))
   phase (NotWritten placed node span) h some = of_node placed h.1.0 node (node_fault.NotWritten span) h.1.1 h.0 h.1.2
+  phase (Rates placed node needs walk) h some = of_node placed h.0 node (node_fault.Rates needs walk) h.1 tt h.2
+  phase (Clocks placed node needs shape diffs cycle) h some = of_node placed h.0 node (node_fault.Clocks needs shape diffs cycle) h.1 tt h.2
   phase (Check placed node needs e) h some = of_node placed h.0 node (node_fault.Check needs e) h.1 tt h.2
   phase (LimitPassed l) (inl h) some = of_syntax (syntax.TooLarge l) h
   phase (LimitPassed l) (inr (inl h)) some = of_names h.0 (names.TooMany l) h.1 h.2
@@ -139,17 +182,17 @@ module _ (ops : List Operator) (text : List ℕ) where
       clash_none v.nodes tables a.clash x.typed (subst (λ w. TellsClash w.nodes a.clash) same a.told)
 
   -- a node is refused for another cause than memory, where the text is
-  node_told : (r : Refusal) → (r ≡ OutOfMemory → ⊥) → (a : OfNode ops text r) → a.fault ≡ node_fault.OutOfMemory → ⊥
+  node_told : (r : Refusal) → (r ≡ OutOfMemory → ⊥) → (a : OfNode ops o text r) → a.fault ≡ node_fault.OutOfMemory → ⊥
   node_told r some a e = some (a.is ∙ ap (fault_refusal a.placed a.node) e)
 
   -- no phase refuses a text that has clocks
-  clocked_kept : (v : PlacedProgram) (tables : List (List Ty)) (clocks : List NodeClock) (r : Refusal) → IsClockedText ops text v tables clocks → OfPhase ops text r → (r ≡ OutOfMemory → ⊥) → ⊥
+  clocked_kept : (v : PlacedProgram) (tables : List (List Ty)) (clocks : List NodeClock) (r : Refusal) → IsClockedText ops o text v tables clocks → OfPhase ops o text r → (r ≡ OutOfMemory → ⊥) → ⊥
   clocked_kept v tables clocks r x (inl a) some = placed_read v r x.program.program a
   clocked_kept v tables clocks r x (inr (inl a)) some = placed_named v r x.program.program a
   clocked_kept v tables clocks r x (inr (inr (inl a))) some = typed_kept v tables r x.program a
   clocked_kept v tables clocks r x (inr (inr (inr a))) some =
       let same : a.placed ≡ v = text_one a.placed v a.program.program x.program.program in
-      clocked_all v.nodes clocks a.node a.fault (text_proper v x.program.program) (node_told r some a) x.clocks (subst (λ w. IsUnclocked w.nodes a.node (Refused a.fault)) same a.unclocked)
+      clocked_all v.nodes clocks a.node a.fault (text_proper v x.program.program) (node_told r some a) x.clocks (subst (λ w. IsUnclocked o w.nodes a.node (Refused o a.fault)) same a.unclocked)
 
   -- clashes are of one node
   clash_one : (nodes : List PlacedNode) (clash way : TypeError) → TellsClash nodes clash → TellsClash nodes way → AreOfOneNode clash way
@@ -164,32 +207,18 @@ module _ (ops : List Operator) (text : List ℕ) where
       let one : AreAlike (Types a.placed a.clash) (Types b.placed b.clash) = (same, clash_one b.placed.nodes a.clash b.clash (subst (λ w. TellsClash w.nodes a.clash) same a.told) b.told) in
       subst (λ x. AreAlike x s) (sym a.is) (subst (AreAlike (Types a.placed a.clash)) (sym b.is) one)
 
-  nodes_equal : (r s : Refusal) → (r ≡ OutOfMemory → ⊥) → (s ≡ OutOfMemory → ⊥) → OfNode ops text r → OfNode ops text s → r ≡ s
-  nodes_equal r s some other a b =
+  nodes_alike : (r s : Refusal) → (r ≡ OutOfMemory → ⊥) → (s ≡ OutOfMemory → ⊥) → OfNode ops o text r → OfNode ops o text s → AreAlike r s
+  nodes_alike r s some other a b =
       let same : a.placed ≡ b.placed = text_one a.placed b.placed a.program.program b.program.program in
       let one = unclocked_one b.placed a.node b.node a.fault b.fault (text_proper b.placed b.program.program) (node_told r some a) (node_told s other b)
-      (subst (λ w. TellsSpan w a.node a.fault) same a.told) b.told (subst (λ w. IsUnclocked w.nodes a.node (Refused a.fault)) same a.unclocked) b.unclocked in
-      a.is ∙ ap (λ w. fault_refusal w a.node a.fault) same ∙ ap (λ k. fault_refusal b.placed k a.fault) one.0 ∙ ap (fault_refusal b.placed b.node) one.1 ∙ sym b.is
+      (subst (λ w. TellsSpan w a.node a.fault) same a.told) b.told (subst (λ w. IsUnclocked o w.nodes a.node (Refused o a.fault)) same a.unclocked) b.unclocked in
+      let here : r ≡ fault_refusal b.placed b.node a.fault = a.is ∙ ap (λ w. fault_refusal w a.node a.fault) same ∙ ap (λ k. fault_refusal b.placed k a.fault) one.0 in
+      subst (λ x. AreAlike x s) (sym here) (subst (AreAlike (fault_refusal b.placed b.node a.fault)) (sym b.is) (faults_alike b.placed b.node a.fault b.fault one.1))
 
   names_equal : (r s : Refusal) → OfNames ops text r → OfNames ops text s → r ≡ s
   names_equal r s a b =
       let moved = subst (λ t. IsFirst (faults ops t) a.error) (one_tree text a.tree b.tree a.read b.read) a.first in
       a.is ∙ ap names_refusal (first_one (faults ops b.tree) a.error b.error moved b.first) ∙ sym b.is
-
--- a refusal is like itself
-alike_self : (r : Refusal) → AreAlike r r
-alike_self (Types placed (types.Clash node path)) = (refl, refl)
-alike_self (Types placed types.OutOfMemory) = (refl, refl)
-alike_self (Syntax e) = refl
-alike_self (Names e) = refl
-alike_self (NotWritten placed node span) = refl
-alike_self (Check placed node needs e) = refl
-alike_self (LimitPassed l) = refl
-alike_self (Cause net texts instant items) = (refl, refl)
-alike_self OutOfMemory = refl
-
-pub equal_alike : (r s : Refusal) → r ≡ s → AreAlike r s
-equal_alike r s e = subst (AreAlike r) e (alike_self r)
 
 -- a refusal tells of memory or not
 pub of_memory : (r : Refusal) → (r ≡ OutOfMemory) ⊎ (r ≡ OutOfMemory → ⊥)
@@ -197,52 +226,54 @@ of_memory (Types placed clash) = inr (λ e. cc e)
 of_memory (Syntax f) = inr (λ e. cc e)
 of_memory (Names f) = inr (λ e. cc e)
 of_memory (NotWritten placed node span) = inr (λ e. cc e)
+of_memory (Rates placed node needs walk) = inr (λ e. cc e)
+of_memory (Clocks placed node needs shape diffs cycle) = inr (λ e. cc e)
 of_memory (Check placed node needs f) = inr (λ e. cc e)
 of_memory (LimitPassed l) = inr (λ e. cc e)
 of_memory (Cause net texts instant items) = inr (λ e. cc e)
 of_memory OutOfMemory = inl refl
 
-module _ (ops : List Operator) (text : List ℕ) (r s : Refusal) (some : r ≡ OutOfMemory → ⊥) (other : s ≡ OutOfMemory → ⊥) where
+module _ (ops : List Operator) (o : Options) (text : List ℕ) (r s : Refusal) (some : r ≡ OutOfMemory → ⊥) (other : s ≡ OutOfMemory → ⊥) where
   -- refusals of two phases never stand together
-  phases_alike : OfPhase ops text r → OfPhase ops text s → AreAlike r s
+  phases_alike : OfPhase ops o text r → OfPhase ops o text s → AreAlike r s
   phases_alike (inl a) (inl b) = equal_alike r s (a.is ∙ ap syntax_refusal (one_error text a.error b.error a.refused b.refused) ∙ sym b.is)
   phases_alike (inl a) (inr (inl b)) = absurd (tree_or_error text b.tree a.error b.read a.refused)
-  phases_alike (inl a) (inr (inr (inl b))) = absurd (placed_read ops text b.placed r b.program a)
-  phases_alike (inl a) (inr (inr (inr b))) = absurd (placed_read ops text b.placed r b.program.program a)
+  phases_alike (inl a) (inr (inr (inl b))) = absurd (placed_read ops o text b.placed r b.program a)
+  phases_alike (inl a) (inr (inr (inr b))) = absurd (placed_read ops o text b.placed r b.program.program a)
   phases_alike (inr (inl a)) (inl b) = absurd (tree_or_error text a.tree b.error a.read b.refused)
-  phases_alike (inr (inl a)) (inr (inl b)) = equal_alike r s (names_equal ops text r s a b)
-  phases_alike (inr (inl a)) (inr (inr (inl b))) = absurd (placed_named ops text b.placed r b.program a)
-  phases_alike (inr (inl a)) (inr (inr (inr b))) = absurd (placed_named ops text b.placed r b.program.program a)
-  phases_alike (inr (inr (inl a))) (inl b) = absurd (placed_read ops text a.placed s a.program b)
-  phases_alike (inr (inr (inl a))) (inr (inl b)) = absurd (placed_named ops text a.placed s a.program b)
-  phases_alike (inr (inr (inl a))) (inr (inr (inl b))) = types_alike ops text r s a b
-  phases_alike (inr (inr (inl a))) (inr (inr (inr b))) = absurd (typed_kept ops text b.placed b.tables r b.program a)
-  phases_alike (inr (inr (inr a))) (inl b) = absurd (placed_read ops text a.placed s a.program.program b)
-  phases_alike (inr (inr (inr a))) (inr (inl b)) = absurd (placed_named ops text a.placed s a.program.program b)
-  phases_alike (inr (inr (inr a))) (inr (inr (inl b))) = absurd (typed_kept ops text a.placed a.tables s a.program b)
-  phases_alike (inr (inr (inr a))) (inr (inr (inr b))) = equal_alike r s (nodes_equal ops text r s some other a b)
+  phases_alike (inr (inl a)) (inr (inl b)) = equal_alike r s (names_equal ops o text r s a b)
+  phases_alike (inr (inl a)) (inr (inr (inl b))) = absurd (placed_named ops o text b.placed r b.program a)
+  phases_alike (inr (inl a)) (inr (inr (inr b))) = absurd (placed_named ops o text b.placed r b.program.program a)
+  phases_alike (inr (inr (inl a))) (inl b) = absurd (placed_read ops o text a.placed s a.program b)
+  phases_alike (inr (inr (inl a))) (inr (inl b)) = absurd (placed_named ops o text a.placed s a.program b)
+  phases_alike (inr (inr (inl a))) (inr (inr (inl b))) = types_alike ops o text r s a b
+  phases_alike (inr (inr (inl a))) (inr (inr (inr b))) = absurd (typed_kept ops o text b.placed b.tables r b.program a)
+  phases_alike (inr (inr (inr a))) (inl b) = absurd (placed_read ops o text a.placed s a.program.program b)
+  phases_alike (inr (inr (inr a))) (inr (inl b)) = absurd (placed_named ops o text a.placed s a.program.program b)
+  phases_alike (inr (inr (inr a))) (inr (inr (inl b))) = absurd (typed_kept ops o text a.placed a.tables s a.program b)
+  phases_alike (inr (inr (inr a))) (inr (inr (inr b))) = nodes_alike ops o text r s some other a b
 
 pub one_program : HaveOneProgram
-one_program ops text p q xs ys cs ds x y =
-    let same : p ≡ q = text_one ops text p q x.program.program y.program.program in
+one_program ops o text p q xs ys cs ds x y =
+    let same : p ≡ q = text_one ops o text p q x.program.program y.program.program in
     let typed : IsTyped q.nodes xs = subst (λ v. IsTyped v.nodes xs) same x.program.typed in
-    let clocked : AreClocksOf q.nodes cs = subst (λ v. AreClocksOf v.nodes cs) same x.clocks in
-    (same, typed_unique q.nodes xs ys typed y.program.typed, clocks_one q.nodes cs ds (text_proper ops text q y.program.program) clocked y.clocks)
+    let clocked : AreClocksOf o q.nodes cs = subst (λ v. AreClocksOf o v.nodes cs) same x.clocks in
+    (same, typed_unique q.nodes xs ys typed y.program.typed, clocks_one q.nodes cs ds (text_proper ops o text q y.program.program) clocked y.clocks)
 
 pub never_both : AreNotRefused
-never_both ops text p xs cs r x h =
+never_both ops o text p xs cs r x h =
     elim (of_memory r) [
       | inl e ↦ e
-      | inr some ↦ absurd (clocked_kept ops text p xs cs r x (phase ops text r h some) some)
+      | inr some ↦ absurd (clocked_kept ops o text p xs cs r x (phase ops o text r h some) some)
     ]
 
 pub one_refusal : HaveOneRefusal
-one_refusal ops text r s h k =
+one_refusal ops o text r s h k =
     elim (of_memory r) [
       | inl e ↦ inl e
       | inr some ↦ elim (of_memory s) [
         | inl e ↦ inr (inl e)
-        | inr other ↦ inr (inr (phases_alike ops text r s some other (phase ops text r h some) (phase ops text s k other)))
+        | inr other ↦ inr (inr (phases_alike ops o text r s some other (phase ops o text r h some) (phase ops o text s k other)))
       ]
     ]
 

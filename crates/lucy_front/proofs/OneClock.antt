@@ -1,5 +1,5 @@
--- A written node has one choice of clocks: words in shortest form, and the sizes of its buffers.
-use Rattle.std.proofs.Common.{ℕ, suc, ◌<◌, ◌≡◌, List, [], ◌∷◌, length, Some, refl, ap, sym, ◌∙◌, subst, arith}
+-- A node has one choice of clocks: words in shortest form, and the sizes of its buffers.
+use Rattle.std.proofs.Common.{ℕ, suc, ◌<◌, ◌≡◌, List, [], ◌∷◌, length, Some, refl, ap, sym, ◌∙◌, subst, inl, inr, arith}
 use Rattle.std.specs.Prelude.{slice_get}
 use Rattle.std.specs.List.{AllByRecursion}
 use Rattle.std.proofs.lemmas.Option.{slice_get_within}
@@ -19,7 +19,10 @@ use Rattle.lucy_clock.specs.declared.node_clock.NodeClock.{NodeClock}
 use Rattle.lucy_clock.specs.HandedDown.{AreWordsOf}
 use Rattle.lucy_clock.proofs.HandLaws.{words_agree}
 use Rattle.lucy_clock.specs.NodeClocks.{AreSizes}
-use Rattle.lucy_front.specs.Clocked.{IsClocked}
+use Rattle.lucy_front.specs.declared.options.Options.{Options}
+use Rattle.lucy_front.specs.Inferring.{node_needs}
+use Rattle.lucy_front.specs.Clocked.{AreItsClocks, IsClocked}
+use Rattle.lucy_inference.proofs.OneAnswer.{inference_one}
 
 -- words in shortest form with the same bits are equal
 words_same : (xs ys : List Bits) → length xs ≡ length ys → AllByRecursion IsStored xs → AllByRecursion IsStored ys →
@@ -58,8 +61,20 @@ module _ (nodes : List PlacedNode) (n : PlacedNode) (proper : IsProperNode nodes
       one_size (assigned c.words buffer.0) (assigned c.words place.0) a b (x.each i place.0 (suc i) buffer.0 a place.1 at buffer.1)
       (subst (λ ws. IsSize (assigned ws buffer.0) (assigned ws place.0) b) (sym words) (y.each i place.0 (suc i) buffer.0 b place.1 of buffer.1)))
 
-  pub clock_one : (above : List Signature) (c d : NodeClock) → IsClocked above n c → IsClocked above n d → c ≡ d
-  clock_one above c d x y =
-      let words : c.words ≡ d.words = words_one x.written c.words d.words x.words.of y.words.of in
+  same_clock : (c d : NodeClock) → c.words ≡ d.words → c.sizes ≡ d.sizes → c ≡ d
+  same_clock c d words sizes =
       ap (λ (ws : List Bits). let r : NodeClock = record { words = ws; sizes = c.sizes } in r) words
-      ∙ ap (λ (ss : List ℕ). let r : NodeClock = record { words = d.words; sizes = ss } in r) (sizes_one c d words x.sizes y.sizes)
+      ∙ ap (λ (ss : List ℕ). let r : NodeClock = record { words = d.words; sizes = ss } in r) sizes
+
+  pub clock_one : (o : Options) (above : List Signature) → (c d : NodeClock) → IsClocked o above n c → IsClocked o above n d → c ≡ d
+  clock_one o above c d x y = by_kind x.its y.its
+    where
+      by_kind : AreItsClocks o above n c → AreItsClocks o above n d → c ≡ d
+      by_kind (inl h) (inl k) =
+          let words : c.words ≡ d.words = words_one h.written c.words d.words h.words.of k.words.of in
+          same_clock c d words (sizes_one c d words x.sizes y.sizes)
+      by_kind (inl h) (inr k) = absurd (k.is_open.unwritten h.written)
+      by_kind (inr h) (inl k) = absurd (h.is_open.unwritten k.written)
+      by_kind (inr h) (inr k) =
+          let one = inference_one (node_needs above n) o.scale o.lead c.words d.words c.sizes d.sizes h.inferred k.inferred in
+          same_clock c d one.0 one.1

@@ -9,92 +9,93 @@ use Rattle.lucy_place.specs.Proper.{AreProper}
 use Rattle.lucy_types.proofs.ListLaws.{get_there, get_take, taken}
 use Rattle.lucy_clock.specs.declared.signature.Signature.{Signature}
 use Rattle.lucy_clock.specs.declared.node_clock.NodeClock.{NodeClock}
-use Rattle.lucy_front.specs.declared.clocking.NodeFault.{NodeFault}
-use Rattle.lucy_front.specs.declared.clocking.NodeFault.TheVariants.{OutOfMemory}
+use Rattle.lucy_front.specs.declared.fault.NodeFault.{NodeFault}
+use Rattle.lucy_front.specs.declared.fault.NodeFault.TheVariants.{OutOfMemory}
 use Rattle.lucy_clock.specs.NodeClocks.{signatures}
+use Rattle.lucy_front.specs.declared.options.Options.{Options}
 use Rattle.lucy_front.specs.Clocked.{IsClocked, AreClocksOf, IsUnclocked}
 use Rattle.lucy_front.specs.Clocking.{Refused, TellsSpan}
 use Rattle.lucy_front.proofs.MoreClocks.{signatures_are, proper_take}
 use Rattle.lucy_front.proofs.OneClock.{clock_one}
-use Rattle.lucy_front.proofs.OneNode.{refused_one, clocked_kept}
+use Rattle.lucy_front.proofs.OneNode.{AreFaultsAlike, refused_one, clocked_kept}
 
 -- the clocks of the nodes above are the clocks of those
-clocked_above : (nodes : List PlacedNode) (clocks : List NodeClock) (m : ℕ) → m ≤ length nodes → AreClocksOf nodes clocks → AreClocksOf (take m nodes) (take m clocks)
-clocked_above nodes clocks m l are = record {
+clocked_above : {o : Options} (nodes : List PlacedNode) (clocks : List NodeClock) (m : ℕ) → m ≤ length nodes → AreClocksOf o nodes clocks → AreClocksOf o (take m nodes) (take m clocks)
+clocked_above {o = o} nodes clocks m l are = record {
   all = let e : length clocks ≡ length nodes = are.all in length-take-le m clocks (omega arith) ∙ sym (length-take-le m nodes l);
   each = λ i n c at of.
       let a = taken m nodes i n at in
       let b = taken m clocks i c of in
       let h : i < m = a.0 in
-      subst (λ ns. IsClocked (signatures ns (take i (take m clocks))) n c) (sym (take-take i m nodes (omega arith)))
-      (subst (λ cs. IsClocked (signatures (take i nodes) cs) n c) (sym (take-take i m clocks (omega arith))) (are.each i n c a.1 b.1));
+      subst (λ ns. IsClocked o (signatures ns (take i (take m clocks))) n c) (sym (take-take i m nodes (omega arith)))
+      (subst (λ cs. IsClocked o (signatures (take i nodes) cs) n c) (sym (take-take i m clocks (omega arith))) (are.each i n c a.1 b.1));
 }
 
-front_one : (nodes : List PlacedNode) (xs ys : List NodeClock) → AreProper nodes → AreClocksOf nodes xs → AreClocksOf nodes ys → (m : ℕ) → m ≤ length nodes → take m xs ≡ take m ys
-front_one nodes xs ys proper x y zero l = refl
-front_one nodes xs ys proper x y (suc m) l =
+front_one : {o : Options} (nodes : List PlacedNode) (xs ys : List NodeClock) → AreProper nodes → AreClocksOf o nodes xs → AreClocksOf o nodes ys → (m : ℕ) → m ≤ length nodes → take m xs ≡ take m ys
+front_one {o = o} nodes xs ys proper x y zero l = refl
+front_one {o = o} nodes xs ys proper x y (suc m) l =
     let xl : length xs ≡ length nodes = x.all in
     let yl : length ys ≡ length nodes = y.all in
     let n = get_there nodes m (omega arith) in
     let c = get_there xs m (omega arith) in
     let d = get_there ys m (omega arith) in
     let before : take m xs ≡ take m ys = front_one nodes xs ys proper x y m (omega arith) in
-    let own = subst (λ cs. IsClocked (signatures (take m nodes) cs) n.0 d.0) (sym before) (y.each m n.0 d.0 n.1 d.1) in
-    let e : c.0 ≡ d.0 = clock_one (take m nodes) n.0 (proper m n.0 n.1) (signatures (take m nodes) (take m xs)) c.0 d.0 (x.each m n.0 c.0 n.1 c.1) own in
+    let own = subst (λ cs. IsClocked o (signatures (take m nodes) cs) n.0 d.0) (sym before) (y.each m n.0 d.0 n.1 d.1) in
+    let e : c.0 ≡ d.0 = clock_one (take m nodes) n.0 (proper m n.0 n.1) _ (signatures (take m nodes) (take m xs)) c.0 d.0 (x.each m n.0 c.0 n.1 c.1) own in
     rw (← add-one) (take_more_same xs ys m c.0 (omega arith) (omega arith) before (get_or_from_slice_get xs m c.0 c.0 c.1 ∙ e ∙ sym (get_or_from_slice_get ys m d.0 c.0 d.1)))
 
 -- the nodes have one choice of clocks
-pub clocks_one : (nodes : List PlacedNode) (xs ys : List NodeClock) → AreProper nodes → AreClocksOf nodes xs → AreClocksOf nodes ys → xs ≡ ys
+pub clocks_one : {o : Options} (nodes : List PlacedNode) (xs ys : List NodeClock) → AreProper nodes → AreClocksOf o nodes xs → AreClocksOf o nodes ys → xs ≡ ys
 clocks_one nodes xs ys proper x y =
     let xl : length xs ≡ length nodes = x.all in
     let yl : length ys ≡ length nodes = y.all in
     sym (take_all (length nodes) xs (omega arith)) ∙ front_one nodes xs ys proper x y (length nodes) (omega arith) ∙ take_all (length nodes) ys (omega arith)
 
 -- no node is refused where all have clocks
-pub clocked_all : (nodes : List PlacedNode) (clocks : List NodeClock) (node : ℕ) (f : NodeFault) → AreProper nodes → (f ≡ OutOfMemory → ⊥) → AreClocksOf nodes clocks → IsUnclocked nodes node (Refused f) → ⊥
-clocked_all nodes clocks node f proper some are u =
+pub clocked_all : {o : Options} (nodes : List PlacedNode) (clocks : List NodeClock) (node : ℕ) (f : NodeFault) → AreProper nodes → (f ≡ OutOfMemory → ⊥) → AreClocksOf o nodes clocks → IsUnclocked o nodes node (Refused o f) → ⊥
+clocked_all {o = o} nodes clocks node f proper some are u =
     let l : node < length nodes = slice_get_within nodes node u.n u.stands in
     let count : length clocks ≡ length nodes = are.all in
     let c = get_there clocks node (omega arith) in
     let front : AreProper (take node nodes) = proper_take nodes node proper in
     let e : take node clocks ≡ u.clocks = clocks_one (take node nodes) (take node clocks) u.clocks front (clocked_above nodes clocks node (omega arith) are) u.above in
-    let clocked = subst (λ cs. IsClocked (signatures (take node nodes) cs) u.n c.0) e (are.each node u.n c.0 u.stands c.1) in
-    clocked_kept (take node nodes) (signatures (take node nodes) u.clocks) u.n (proper node u.n u.stands) (signatures_are (take node nodes) u.clocks front u.above) f c.0 some u.refused clocked
+    let clocked = subst (λ cs. IsClocked o (signatures (take node nodes) cs) u.n c.0) e (are.each node u.n c.0 u.stands c.1) in
+    clocked_kept (take node nodes) (signatures (take node nodes) u.clocks) u.n (proper node u.n u.stands) (signatures_are (take node nodes) u.clocks front u.above) _ f c.0 some u.refused clocked
 
 -- a node that is refused is so among the first nodes
-unclocked_above : (nodes : List PlacedNode) (node m : ℕ) (P : List Signature → PlacedNode → Type 0) → node < m → IsUnclocked nodes node P → IsUnclocked (take m nodes) node P
-unclocked_above nodes node m P l u = record {
+unclocked_above : {o : Options} (nodes : List PlacedNode) (node m : ℕ) (P : List Signature → PlacedNode → Type 0) → node < m → IsUnclocked o nodes node P → IsUnclocked o (take m nodes) node P
+unclocked_above {o = o} nodes node m P l u = record {
   clocks = u.clocks;
-  above = subst (λ ns. AreClocksOf ns u.clocks) (sym (take-take node m nodes (omega arith))) u.above;
+  above = subst (λ ns. AreClocksOf o ns u.clocks) (sym (take-take node m nodes (omega arith))) u.above;
   n = u.n;
   stands = get_take m nodes node l ∙ u.stands;
   refused = subst (λ ns. P (signatures ns u.clocks) u.n) (sym (take-take node m nodes (omega arith))) u.refused;
 }
 
 -- one node is refused
-node_one : (nodes : List PlacedNode) (i j : ℕ) (f g : NodeFault) → AreProper nodes → (f ≡ OutOfMemory → ⊥) → (g ≡ OutOfMemory → ⊥) → IsUnclocked nodes i (Refused f) → IsUnclocked nodes j (Refused g) → i ≡ j
-node_one nodes i j f g proper some other u v =
+node_one : {o : Options} (nodes : List PlacedNode) (i j : ℕ) (f g : NodeFault) → AreProper nodes → (f ≡ OutOfMemory → ⊥) → (g ≡ OutOfMemory → ⊥) → IsUnclocked o nodes i (Refused o f) → IsUnclocked o nodes j (Refused o g) → i ≡ j
+node_one {o = o} nodes i j f g proper some other u v =
     elim (cases_lt i j) [
-      | inl h ↦ absurd (clocked_all (take j nodes) v.clocks i f (proper_take nodes j proper) some v.above (unclocked_above nodes i j (Refused f) h u))
+      | inl h ↦ absurd (clocked_all (take j nodes) v.clocks i f (proper_take nodes j proper) some v.above (unclocked_above nodes i j (Refused o f) h u))
       | inr h ↦ elim (cases_lt j i) [
-        | inl k ↦ absurd (clocked_all (take i nodes) u.clocks j g (proper_take nodes i proper) other u.above (unclocked_above nodes j i (Refused g) k v))
+        | inl k ↦ absurd (clocked_all (take i nodes) u.clocks j g (proper_take nodes i proper) other u.above (unclocked_above nodes j i (Refused o g) k v))
         | inr k ↦ omega arith
       ]
     ]
 
-here_one : (placed : PlacedProgram) (node : ℕ) (f g : NodeFault) → AreProper placed.nodes → (f ≡ OutOfMemory → ⊥) → (g ≡ OutOfMemory → ⊥) → TellsSpan placed node f → TellsSpan placed node g →
-    IsUnclocked placed.nodes node (Refused f) → IsUnclocked placed.nodes node (Refused g) → f ≡ g
-here_one placed node f g proper some other told tells u v =
+here_one : {o : Options} (placed : PlacedProgram) (node : ℕ) (f g : NodeFault) → AreProper placed.nodes → (f ≡ OutOfMemory → ⊥) → (g ≡ OutOfMemory → ⊥) → TellsSpan placed node f → TellsSpan placed node g →
+    IsUnclocked o placed.nodes node (Refused o f) → IsUnclocked o placed.nodes node (Refused o g) → AreFaultsAlike f g
+here_one {o = o} placed node f g proper some other told tells u v =
     let front : AreProper (take node placed.nodes) = proper_take placed.nodes node proper in
     let clocks : u.clocks ≡ v.clocks = clocks_one (take node placed.nodes) u.clocks v.clocks front u.above v.above in
     let n : u.n ≡ v.n = same_Some u.n v.n (sym u.stands ∙ v.stands) in
-    let moved = subst (λ m. Refused f (signatures (take node placed.nodes) v.clocks) m) n (subst (λ cs. Refused f (signatures (take node placed.nodes) cs) u.n) clocks u.refused) in
-    refused_one (take node placed.nodes) (signatures (take node placed.nodes) v.clocks) v.n (proper node v.n v.stands) (signatures_are (take node placed.nodes) v.clocks front v.above)
+    let moved = subst (λ m. Refused o f (signatures (take node placed.nodes) v.clocks) m) n (subst (λ cs. Refused o f (signatures (take node placed.nodes) cs) u.n) clocks u.refused) in
+    refused_one (take node placed.nodes) (signatures (take node placed.nodes) v.clocks) v.n (proper node v.n v.stands) (signatures_are (take node placed.nodes) v.clocks front v.above) _
     placed node f g some other told tells moved v.refused
 
 -- in one way
-pub unclocked_one : (placed : PlacedProgram) (i j : ℕ) (f g : NodeFault) → AreProper placed.nodes → (f ≡ OutOfMemory → ⊥) → (g ≡ OutOfMemory → ⊥) → TellsSpan placed i f → TellsSpan placed j g →
-    IsUnclocked placed.nodes i (Refused f) → IsUnclocked placed.nodes j (Refused g) → (i ≡ j) × (f ≡ g)
-unclocked_one placed i j f g proper some other told tells u v =
+pub unclocked_one : {o : Options} (placed : PlacedProgram) (i j : ℕ) (f g : NodeFault) → AreProper placed.nodes → (f ≡ OutOfMemory → ⊥) → (g ≡ OutOfMemory → ⊥) → TellsSpan placed i f → TellsSpan placed j g →
+    IsUnclocked o placed.nodes i (Refused o f) → IsUnclocked o placed.nodes j (Refused o g) → (i ≡ j) × AreFaultsAlike f g
+unclocked_one {o = o} placed i j f g proper some other told tells u v =
     let same : i ≡ j = node_one placed.nodes i j f g proper some other u v in
-    (same, here_one placed j f g proper some other (subst (λ k. TellsSpan placed k f) same told) tells (subst (λ k. IsUnclocked placed.nodes k (Refused f)) same u) v)
+    (same, here_one placed j f g proper some other (subst (λ k. TellsSpan placed k f) same told) tells (subst (λ k. IsUnclocked o placed.nodes k (Refused o f)) same u) v)

@@ -21,7 +21,7 @@ use Rattle.lucy_front.specs.Report.{name_line, name_lines, buffer_line, buffer_l
 pub drop_at : {A : Type 0} (xs : List A) (i : ℕ) (x : A) → slice_get xs i ≡ Some x → drop i xs ≡ x ∷ drop (i + 1) xs
 drop_at xs i x is = drop_more xs i x (slice_get_within xs i x is) ∙ ap (λ y. y ∷ drop (i + 1) xs) (get_or_from_slice_get xs i x x is)
 
-drop_read : {A : Type 0} (xs : List A) (i : ℕ) (x : A) → i < length xs → x ≡ get_or xs i x → drop i xs ≡ x ∷ drop (i + 1) xs
+pub drop_read : {A : Type 0} (xs : List A) (i : ℕ) (x : A) → i < length xs → x ≡ get_or xs i x → drop i xs ≡ x ∷ drop (i + 1) xs
 drop_read xs i x h is = drop_more xs i x h ∙ ap (λ y. y ∷ drop (i + 1) xs) (sym is)
 
 -- the types of a node are its table
@@ -29,7 +29,7 @@ pub table_found : (tables : List (List Ty)) (i : ℕ) → i < length tables → 
 table_found tables i h = slice_get-get_or tables i [] h
 
 -- a line more, of lines that stand behind others
-line_more : (a b line rest all : List ℕ) → b ≡ a ++ line → a ++ (line ++ rest) ≡ all → b ++ rest ≡ all
+pub line_more : (a b line rest all : List ℕ) → b ≡ a ++ line → a ++ (line ++ rest) ≡ all → b ++ rest ≡ all
 line_more a b line rest all more before = ap (λ u. u ++ rest) more ∙ append_assoc a line rest ∙ before
 
 number_next : (i : ℕ) → 1 + i + 1 ≡ 1 + (i + 1)

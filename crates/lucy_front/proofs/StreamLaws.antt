@@ -12,6 +12,7 @@ use Rattle.lucy_types.specs.Programs.{IsTyped}
 use Rattle.lucy_clock.specs.declared.node_clock.NodeClock.{NodeClock}
 use Rattle.lucy_meaning.specs.Spots.{main_of}
 use Rattle.lucy_flat.specs.Instances.{words_in}
+use Rattle.lucy_front.specs.declared.options.Options.{Options}
 use Rattle.lucy_front.specs.Clocked.{AreClocksOf}
 use Rattle.lucy_front.specs.Names.{param_places}
 use Rattle.lucy_front.specs.Scheduled.{held_if, input_of, output_of, inputs_in, outputs_in, inputs_of, outputs_of}
@@ -63,6 +64,6 @@ module _ (nodes : List PlacedNode) (tables : List (List Ty)) (last : ℕ) (main 
       ∙ ap (λ o. outputs_in o (table_at tables (length nodes - 1)) (words_in (slice_get clocks (length nodes - 1)))) (sym main_is)
 
 -- each place of a clocked node has a word
-pub words_past : (nodes : List PlacedNode) (clocks : List NodeClock) (i : ℕ) (n : PlacedNode) (clock : NodeClock) → AreClocksOf nodes clocks → slice_get nodes i ≡ Some n → slice_get clocks i ≡ Some clock →
+pub words_past : {o : Options} (nodes : List PlacedNode) (clocks : List NodeClock) (i : ℕ) (n : PlacedNode) (clock : NodeClock) → AreClocksOf o nodes clocks → slice_get nodes i ≡ Some n → slice_get clocks i ≡ Some clock →
     length n.places < length clock.words
-words_past nodes clocks i n clock are at of = let count = (are.each i n clock at of).words.of.count in omega arith
+words_past nodes clocks i n clock are at of = let count = (are.each i n clock at of).count in omega arith

@@ -1,5 +1,6 @@
 -- What a text is accepted as, why one is refused, and what is printed of both, in this order.
 pub mod Names
+pub mod Inferring
 pub mod Clocked
 pub mod Items
 pub mod Scheduled
@@ -7,6 +8,7 @@ pub mod Accepting
 pub mod OneAnswer
 pub mod Report
 pub mod Needs
+pub mod Evidence
 pub mod Refusals
 -- Below this line stands what only serves the proofs of the bodies.
 pub mod Clocking

@@ -1,13 +1,14 @@
 -- A text has one answer: what it is accepted as, or why it is refused.
-use Rattle.std.specs.Prelude.{ℕ, ◌≡◌, ◌⊎◌, List}
+use Rattle.std.specs.Prelude.{ℕ, ◌≡◌, ◌⊎◌, List, slice_index}
 use Rattle.lucy_host.specs.Operators.{Operator}
 use Rattle.lucy_place.specs.PlacedProgram.{PlacedProgram}
 use Rattle.lucy_types.specs.declared.ty.Ty.{Ty}
 use Rattle.lucy_types.specs.declared.error.TypeError.{TypeError}
 use Rattle.lucy_types.specs.declared.error.TypeError.TheVariants.{Clash}
 use Rattle.lucy_clock.specs.declared.node_clock.NodeClock.{NodeClock}
+use Rattle.lucy_front.specs.declared.options.Options.{Options}
 use Rattle.lucy_front.specs.declared.refusal.Refusal.{Refusal}
-use Rattle.lucy_front.specs.declared.refusal.Refusal.TheVariants.{Types, Cause, OutOfMemory}
+use Rattle.lucy_front.specs.declared.refusal.Refusal.TheVariants.{Types, Rates, Clocks, Cause, OutOfMemory}
 use Rattle.lucy_front.specs.declared.accepted.Accepted.{Accepted}
 use Rattle.lucy_front.specs.Accepting.{IsClockedText, RefusesPhases, IsAccepted, Refuses}
 
@@ -16,40 +17,43 @@ abbrev pub AreOfOneNode : TypeError → TypeError → Type 0
 AreOfOneNode (Clash node path) (Clash other way) = node ≡ other
 AreOfOneNode e f = e ≡ f
 
--- the refusals tell the same of a text: they are equal, but that other paths may show that a node has no typing, and other
--- items that some of an instant depend on each other
+-- the refusals tell the same of a text: they are equal, but that other paths may show that a node has no typing, other
+-- inequalities that there are no clocks, and other items that some of an instant depend on each other; of a walk the first need is
+-- compared alone
 abbrev pub AreAlike : Refusal → Refusal → Type 0
 AreAlike (Types placed clash) (Types other way) = (placed ≡ other) × AreOfOneNode clash way
+AreAlike (Rates placed node needs walk) (Rates other at those way) = (placed ≡ other) × (node ≡ at) × (needs ≡ those) × (slice_index walk.items 0 ≡ slice_index way.items 0)
+AreAlike (Clocks placed node needs shape diffs cycle) (Clocks other at those like these round) = (placed ≡ other) × (node ≡ at) × (needs ≡ those) × (shape ≡ like) × (diffs ≡ these)
 AreAlike (Cause net names instant items) (Cause other texts at way) = (net ≡ other) × (instant ≡ at)
 AreAlike r s = r ≡ s
 
 -- a text has one program: its places, their types and the clocks of its nodes
 abbrev pub HaveOneProgram : Type 0
 HaveOneProgram =
-    (ops : List Operator) (text : List ℕ) (p q : PlacedProgram) (xs ys : List (List Ty)) (cs ds : List NodeClock) → IsClockedText ops text p xs cs → IsClockedText ops text q ys ds
+    (ops : List Operator) (o : Options) (text : List ℕ) (p q : PlacedProgram) (xs ys : List (List Ty)) (cs ds : List NodeClock) → IsClockedText ops o text p xs cs → IsClockedText ops o text q ys ds
     → (p ≡ q) × (xs ≡ ys) × (cs ≡ ds)
 
 -- no phase refuses a text that has a program, unless memory ran out
 abbrev pub AreNotRefused : Type 0
 AreNotRefused =
-    (ops : List Operator) (text : List ℕ) (p : PlacedProgram) (xs : List (List Ty)) (cs : List NodeClock) (r : Refusal) → IsClockedText ops text p xs cs → RefusesPhases ops text r
+    (ops : List Operator) (o : Options) (text : List ℕ) (p : PlacedProgram) (xs : List (List Ty)) (cs : List NodeClock) (r : Refusal) → IsClockedText ops o text p xs cs → RefusesPhases ops o text r
     → r ≡ OutOfMemory
 
 -- and the phases refuse a text in one way, unless memory ran out
 abbrev pub HaveOneRefusal : Type 0
 HaveOneRefusal =
-    (ops : List Operator) (text : List ℕ) (r s : Refusal) → RefusesPhases ops text r → RefusesPhases ops text s → (r ≡ OutOfMemory) ⊎ (s ≡ OutOfMemory) ⊎ AreAlike r s
+    (ops : List Operator) (o : Options) (text : List ℕ) (r s : Refusal) → RefusesPhases ops o text r → RefusesPhases ops o text s → (r ≡ OutOfMemory) ⊎ (s ≡ OutOfMemory) ⊎ AreAlike r s
 
 -- a text is accepted as one thing, but that the events of an instant may be ordered in other ways
 abbrev pub HaveOneAcceptance : Type 0
 HaveOneAcceptance =
-    (ops : List Operator) (text : List ℕ) (a b : Accepted) → IsAccepted ops text a → IsAccepted ops text b
+    (ops : List Operator) (o : Options) (text : List ℕ) (a b : Accepted) → IsAccepted ops o text a → IsAccepted ops o text b
     → (a.placed ≡ b.placed) × (a.typed ≡ b.typed) × (a.clocks.items ≡ b.clocks.items) × (a.net ≡ b.net) × (a.inputs.items ≡ b.inputs.items) × (a.outputs.items ≡ b.outputs.items)
 
 -- what is accepted is not refused, unless memory ran out
 abbrev pub AcceptedAreNotRefused : Type 0
-AcceptedAreNotRefused = (ops : List Operator) (text : List ℕ) (a : Accepted) (r : Refusal) → IsAccepted ops text a → Refuses ops text r → r ≡ OutOfMemory
+AcceptedAreNotRefused = (ops : List Operator) (o : Options) (text : List ℕ) (a : Accepted) (r : Refusal) → IsAccepted ops o text a → Refuses ops o text r → r ≡ OutOfMemory
 
 -- and what is refused is refused in one way, unless memory ran out
 abbrev pub AreRefusedInOneWay : Type 0
-AreRefusedInOneWay = (ops : List Operator) (text : List ℕ) (r s : Refusal) → Refuses ops text r → Refuses ops text s → (r ≡ OutOfMemory) ⊎ (s ≡ OutOfMemory) ⊎ AreAlike r s
+AreRefusedInOneWay = (ops : List Operator) (o : Options) (text : List ℕ) (r s : Refusal) → Refuses ops o text r → Refuses ops o text s → (r ≡ OutOfMemory) ⊎ (s ≡ OutOfMemory) ⊎ AreAlike r s

@@ -1,5 +1,6 @@
 -- The texts of refusals.
-use Rattle.std.specs.Prelude.{ℕ, ◌<◌, List, [], ◌∷◌, ◌++◌, Option, Some, None, length, slice_get, codes}
+use Rattle.std.specs.Prelude.{ℕ, ◌<◌, ◌≡◌, List, [], ◌∷◌, ◌++◌, length, slice_get, codes}
+use Rattle.std.specs.List.{AllByRecursion}
 use Rattle.std.specs.Fmt.{decimal}
 use Rattle.lucy_word.specs.declared.limit.Limit.{Limit}
 use Rattle.lucy_word.specs.Limits.{limit_name, limit_number}
@@ -15,9 +16,11 @@ use Rattle.lucy_check.specs.declared.fault.CheckFault.{CheckFault}
 use Rattle.lucy_check.specs.declared.fault.CheckFault.TheVariants as fault
 use Rattle.lucy_cause.specs.declared.error.Item.{Item}
 use Rattle.lucy_front.specs.declared.refusal.Refusal.{Refusal}
-use Rattle.lucy_front.specs.declared.refusal.Refusal.TheVariants.{Syntax, Names, Types, NotWritten, Check, Cause, Limit as LimitPassed, OutOfMemory}
+use Rattle.lucy_front.specs.declared.refusal.Refusal.TheVariants.{Syntax, Names, Types, NotWritten, Rates, Clocks, Check, Cause, Limit as LimitPassed, OutOfMemory}
+use Rattle.lucy_shape.specs.Fitting.{variable_count}
 use Rattle.lucy_front.specs.Names.{place_names}
 use Rattle.lucy_front.specs.Needs.{need_text}
+use Rattle.lucy_front.specs.Evidence.{of_one, unequal_lines, unclocked_lines}
 
 -- the line where a limit is passed, and the one where memory ran out
 abbrev pub limit_line : Limit → List ℕ
@@ -43,11 +46,6 @@ name_fault_line (names.Arity span) = codes "lucy: names: arity at " ++ (decimal 
 name_fault_line (names.LaterNode span) = codes "lucy: names: later node at " ++ (decimal span.from ++ codes "\n")
 name_fault_line (names.TooMany l) = limit_line l
 name_fault_line names.OutOfMemory = memory_line
-
--- the text of one of a list, where it is there
-abbrev pub of_one : {A : Type 0} → (A → List ℕ) → Option A → List ℕ
-of_one text None = []
-of_one text (Some x) = text x
 
 -- places, each on a line of its own behind two blanks
 abbrev pub place_lines : List (List ℕ) → List ℕ
@@ -103,12 +101,14 @@ refusal_text (Syntax e) = syntax_line e
 refusal_text (Names e) = name_fault_line e
 refusal_text (Types placed clash) = clash_lines placed.nodes clash
 refusal_text (NotWritten placed node span) = of_one (λ n. unwritten_line n span.from) (slice_get placed.nodes node)
+refusal_text (Rates placed node needs walk) = of_one (λ n. unequal_lines n needs.list walk.items) (slice_get placed.nodes node)
+refusal_text (Clocks placed node needs shape diffs cycle) = of_one (λ n. unclocked_lines n shape.period shape.clocks diffs.list cycle.items) (slice_get placed.nodes node)
 refusal_text (Check placed node needs e) = of_one (λ n. check_line n needs.list e) (slice_get placed.nodes node)
 refusal_text (Cause net names instant items) = cause_lines instant names.items items.items
 refusal_text (LimitPassed l) = limit_line l
 refusal_text OutOfMemory = memory_line
 
--- a refusal names nodes and needs that are there, as those that `accept` gives do
+-- a refusal names nodes, needs, inequalities and variables that are there, as those that `accept` gives do
 abbrev pub NamesNode : List PlacedNode → TypeError → Type 0
 NamesNode nodes (types.Clash node path) = node < length nodes
 NamesNode nodes types.OutOfMemory = Unit {0}
@@ -119,8 +119,14 @@ NamesNeed needs (fault.Rates need) = need < length needs
 NamesNeed needs (fault.Late need at) = need < length needs
 NamesNeed needs e = Unit {0}
 
+abbrev pub AreBelow : ℕ → List ℕ → Type 0
+AreBelow count numbers = AllByRecursion (λ k. k < count) numbers
+
 abbrev pub IsTellable : Refusal → Type 0
 IsTellable (Types placed clash) = NamesNode placed.nodes clash
 IsTellable (NotWritten placed node span) = node < length placed.nodes
+IsTellable (Rates placed node needs walk) = (node < length placed.nodes) × AreBelow (length needs.list) walk.items
+IsTellable (Clocks placed node needs shape diffs cycle) =
+    (node < length placed.nodes) × (length shape.clocks ≡ needs.clocks) × (diffs.count ≡ variable_count shape.clocks) × AreBelow (length diffs.list) cycle.items
 IsTellable (Check placed node needs e) = (node < length placed.nodes) × NamesNeed needs.list e
 IsTellable e = Unit {0}

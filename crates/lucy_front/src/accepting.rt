@@ -5,13 +5,15 @@ ghost use Rattle.lucy_front.specs.declared.refusal.Refusal.{Refusal as Reason};
 ghost use Rattle.lucy_front.specs.declared.refusal.Refusal.TheVariants.{OutOfMemory};
 ghost use Rattle.lucy_flat.specs.Clocked.{AreClocked};
 ghost use Rattle.lucy_front.specs.Accepting.{IsClockedText, IsAccepted, RefusesPhases, Refuses};
+ghost use Rattle.lucy_front.specs.Inferring.{AreOptions};
 ghost use Rattle.lucy_front.specs.OneAnswer.{AreAlike};
 ghost use Rattle.lucy_front.specs.Report.{IsReportable};
 ghost use Rattle.lucy_front.specs.Refusals.{IsTellable};
 ghost use Rattle.lucy_front.specs.Clocking.{clock_refusal};
 
 use crate::accepted::{Accepted, Clocked};
-use crate::clocking::{NodeFault, Unclocked, node_clocks};
+use crate::clocking::node_clocks;
+use crate::fault::{NodeFault, Unclocked};
 use crate::options::Options;
 use crate::refusal::Refusal;
 use crate::scheduling::scheduled;
@@ -28,6 +30,25 @@ fn refusal(placed: Placed, unclocked: Unclocked) -> Refusal
     let node = unclocked.node;
     match unclocked.fault {
         NodeFault::NotWritten(span) => Refusal::NotWritten { placed, node, span },
+        NodeFault::Rates { needs, walk } => Refusal::Rates {
+            placed,
+            node,
+            needs,
+            walk,
+        },
+        NodeFault::Clocks {
+            needs,
+            shape,
+            diffs,
+            cycle,
+        } => Refusal::Clocks {
+            placed,
+            node,
+            needs,
+            shape,
+            diffs,
+            cycle,
+        },
         NodeFault::Check { needs, fault } => Refusal::Check {
             placed,
             node,
@@ -40,9 +61,10 @@ fn refusal(placed: Placed, unclocked: Unclocked) -> Refusal
 }
 
 // The phases in order, up to the first that refuses.
-fn phases(alloc: Global, text: &[u8], ops: &Ops) -> Result<Clocked, Refusal>
-    ensures ok { IfOk result (λ c. IsClockedText ops.now text.now c.placed c.typed c.clocks.items) }
-    ensures refused { IfErr result (RefusesPhases ops.now text.now) }
+fn phases(alloc: Global, text: &[u8], ops: &Ops, options: &Options) -> Result<Clocked, Refusal>
+    requires { AreOptions options.now }
+    ensures ok { IfOk result (λ c. IsClockedText ops.now options.now text.now c.placed c.typed c.clocks.items) }
+    ensures refused { IfErr result (RefusesPhases ops.now options.now text.now) }
 {
     let program = parse(alloc, text)?;
     let placed = place(alloc, &program, ops)?;
@@ -51,7 +73,7 @@ fn phases(alloc: Global, text: &[u8], ops: &Ops) -> Result<Clocked, Refusal>
         Err(TypeError::OutOfMemory) => return Err(Refusal::OutOfMemory),
         Err(clash) => return Err(Refusal::Types { placed, clash }),
     };
-    match node_clocks(alloc, &placed) {
+    match node_clocks(alloc, &placed, options) {
         Ok(clocks) => Ok(Clocked {
             placed,
             typed,
@@ -62,34 +84,33 @@ fn phases(alloc: Global, text: &[u8], ops: &Ops) -> Result<Clocked, Refusal>
 }
 
 // The phases, and then the net and its schedule.
-fn planned(alloc: Global, text: &[u8], ops: &Ops) -> Result<Accepted, Refusal>
-    ensures ok { IfOk result (IsAccepted ops.now text.now) }
-    ensures refused { IfErr result (Refuses ops.now text.now) }
+fn planned(alloc: Global, text: &[u8], ops: &Ops, options: &Options) -> Result<Accepted, Refusal>
+    requires { AreOptions options.now }
+    ensures ok { IfOk result (IsAccepted ops.now options.now text.now) }
+    ensures refused { IfErr result (Refuses ops.now options.now text.now) }
 {
-    scheduled(alloc, phases(alloc, text, ops)?)
+    scheduled(alloc, phases(alloc, text, ops, options)?)
 }
 
 /// The program of a text, where the host has these operators, with the types of its places and the clocks of its nodes, its
 /// flat net with a schedule, and its inputs and outputs; or why it is refused: first for its length and its syntax, then for
-/// its names, then for the types of all nodes; then node by node, where it isn't written, else where its needs pass a limit,
-/// else where a word that it hands down passes one, else where these words don't meet a need or where the checker passes a
-/// limit; then for the limits of its net, in the order `Actors`, `Rings`, `Slots`, `Word`, `Bits`; then for those of the
-/// schedule, `Schedule` before `Events`; and at last where an item of the net reaches itself.
+/// its names, then for the types of all nodes; then node by node, where it has to be written and isn't, else where its needs
+/// pass a limit; a written node then where a word that it hands down passes one, else where these words don't meet a need or
+/// where the checker passes a limit; another node where its rates pass a limit, else where they don't agree, else where its
+/// positions or inequalities pass one, else where there are no clocks of its shape, else where their words pass one; then for
+/// the limits of the net, in the order `Actors`, `Rings`, `Slots`, `Word`, `Bits`; then for those of the schedule, `Schedule`
+/// before `Events`; and at last where an item of the net reaches itself.
 ///
-/// The options say how clocks are inferred, which isn't done yet: each node has to be written.
-pub fn accept(
-    alloc: Global,
-    text: &[u8],
-    ops: &Ops,
-    _options: &Options,
-) -> Result<Accepted, Refusal>
-    ensures ok { IfOk result (IsAccepted ops.now text.now) }
-    ensures refused { IfErr result (Refuses ops.now text.now) }
-    ensures accepted { (a : Program) → IsAccepted ops.now text.now a → IfErr result (λ e. e ≡ OutOfMemory) }
-    ensures rejected { (r : Reason) → Refuses ops.now text.now r → (r ≡ OutOfMemory → ⊥) → MatchResult result (λ _. ⊥) (λ e. (e ≡ OutOfMemory) ⊎ AreAlike r e) }
+/// The options say whether each node has to be written, and in which shape the clocks of the others are inferred.
+pub fn accept(alloc: Global, text: &[u8], ops: &Ops, options: &Options) -> Result<Accepted, Refusal>
+    requires { AreOptions options.now }
+    ensures ok { IfOk result (IsAccepted ops.now options.now text.now) }
+    ensures refused { IfErr result (Refuses ops.now options.now text.now) }
+    ensures accepted { (a : Program) → IsAccepted ops.now options.now text.now a → IfErr result (λ e. e ≡ OutOfMemory) }
+    ensures rejected { (r : Reason) → Refuses ops.now options.now text.now r → (r ≡ OutOfMemory → ⊥) → MatchResult result (λ _. ⊥) (λ e. (e ≡ OutOfMemory) ⊎ AreAlike r e) }
     ensures clocked { IfOk result (λ a. AreClocked a.placed.nodes a.clocks.items) }
     ensures reportable { IfOk result (λ a. IsReportable a.placed.nodes a.typed a.clocks.items) }
     ensures tellable { IfErr result IsTellable }
 {
-    planned(alloc, text, ops)
+    planned(alloc, text, ops, options)
 }

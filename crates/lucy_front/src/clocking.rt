@@ -1,5 +1,5 @@
 // The clocks of nodes, one by one.
-ghost use Rattle.std.specs.Prelude.{◌≡◌, ◌⊎◌, ◌+◌, ◌<◌, ◌≤◌, ◌∷◌, ◌++◌, [], ℕ, Some, length, map, take, slice_get, IfOk, IfErr, OnOk};
+ghost use Rattle.std.specs.Prelude.{◌≡◌, ◌⊎◌, ◌+◌, ◌<◌, ◌≤◌, ◌∷◌, ◌++◌, [], ℕ, Some, false, length, map, take, slice_get, IfOk, IfErr, OnOk};
 ghost use Rattle.std.specs.List.{AllByRecursion};
 ghost use Rattle.lucy_word.specs.Stored.{IsStored};
 ghost use Rattle.lucy_place.specs.declared.placed.PlacedNode.{PlacedNode as Node};
@@ -7,69 +7,20 @@ ghost use Rattle.lucy_place.specs.Proper.{AreProper};
 ghost use Rattle.lucy_need.specs.Meeting.{assigned};
 ghost use Rattle.lucy_clock.specs.Clocks.{AreSignatures};
 ghost use Rattle.lucy_clock.specs.NodeClocks.{ports, signatures};
-ghost use Rattle.lucy_front.specs.Clocked.{AreClocksOf, IsClocked, IsUnclocked};
-ghost use Rattle.lucy_front.specs.Clocking.{check_fault, RefusesNode, RefusesNodes};
+ghost use Rattle.lucy_place.specs.WrittenNodes.{IsWritten};
+ghost use Rattle.lucy_front.specs.declared.options.Options.{Options as Choices};
+ghost use Rattle.lucy_front.specs.Inferring.{AreOptions};
+ghost use Rattle.lucy_front.specs.Clocked.{AreClocksOf, IsClocked};
+ghost use Rattle.lucy_front.specs.Clocking.{RefusesNode, RefusesNodes};
 
-use lucy_check::{CheckFault, check};
-use lucy_clock::{ClockError, NodeClock, Numbers64, Signature, Words, needs, written};
-use lucy_need::Needs;
+use crate::fault::{NodeFault, Unclocked, check_fault, inference_fault};
+use crate::options::Options;
+use lucy_check::check;
+use lucy_clock::{NodeClock, Numbers64, Signature, Words, needs, written};
+use lucy_inference::infer;
 use lucy_place::{Placed, PlacedNode};
-use lucy_tree::Span;
-use lucy_word::{Limit, OutOfMemory, Word};
+use lucy_word::{OutOfMemory, Word};
 use std::alloc::{AllocError, Global};
-
-/// Why a node has no clocks.
-#[derive(Drop)]
-pub(crate) enum NodeFault {
-    /// It isn't written, and this is the first span that keeps it from being so.
-    NotWritten(Span),
-    /// The words that it hands down don't meet a need.
-    Check { needs: Needs, fault: CheckFault },
-    /// It passes a limit.
-    Limit(Limit),
-    /// Memory ran out.
-    OutOfMemory,
-}
-
-/// The first node that has no clocks, and why.
-#[derive(Drop)]
-pub(crate) struct Unclocked {
-    pub node: u32,
-    pub fault: NodeFault,
-}
-
-impl From<ClockError> for NodeFault {
-    ghost use Rattle.lucy_front.specs.Clocking.{clock_fault};
-
-    ghost from_gives = { λ error e. e ≡ clock_fault error };
-
-    fn from(error: ClockError) -> Self {
-        match error {
-            ClockError::Limit(limit) => NodeFault::Limit(limit),
-            ClockError::OutOfMemory => NodeFault::OutOfMemory,
-        }
-    }
-}
-
-impl From<AllocError> for NodeFault {
-    ghost use Rattle.lucy_front.specs.declared.clocking.NodeFault.TheVariants.{OutOfMemory};
-
-    ghost from_gives = { λ _ e. e ≡ OutOfMemory };
-
-    fn from(_: AllocError) -> Self {
-        NodeFault::OutOfMemory
-    }
-}
-
-impl From<OutOfMemory> for NodeFault {
-    ghost use Rattle.lucy_front.specs.declared.clocking.NodeFault.TheVariants.{OutOfMemory};
-
-    ghost from_gives = { λ _ e. e ≡ OutOfMemory };
-
-    fn from(_: OutOfMemory) -> Self {
-        NodeFault::OutOfMemory
-    }
-}
 
 /// One more entry of a list.
 pub(crate) fn push<T: Drop>(list: &mut Vec<T>, next: T) -> Result<(), AllocError>
@@ -79,25 +30,56 @@ pub(crate) fn push<T: Drop>(list: &mut Vec<T>, next: T) -> Result<(), AllocError
     Ok(())
 }
 
-// Why a node has no clocks where the checker refuses its words.
-fn check_fault(needs: Needs, fault: CheckFault) -> NodeFault
-    ensures { result ≡ check_fault needs fault }
+// The clocks of a written node with these signatures of the nodes above it: the words that it hands down, and the sizes of its
+// buffers.
+fn handed_clock(
+    alloc: Global,
+    placed: &Placed,
+    node: u32,
+    above: &[Signature],
+) -> Result<NodeClock, NodeFault>
+    requires proper { AreProper placed.now.nodes }
+    requires node { node < length placed.now.nodes }
+    requires signatures { AreSignatures (take node placed.now.nodes) above.now }
+    requires written { (n : Node) → slice_get placed.now.nodes node ≡ Some n → IsWritten n }
+    ensures ok { (o : Choices) (n : Node) → slice_get placed.now.nodes node ≡ Some n → IfOk result (IsClocked o above.now n) }
+    ensures refused { (o : Choices) (n : Node) → slice_get placed.now.nodes node ≡ Some n → IfErr result (RefusesNode o placed.now node above.now n) }
 {
-    match fault {
-        CheckFault::Limit { limit, .. } => NodeFault::Limit(limit),
-        CheckFault::OutOfMemory => NodeFault::OutOfMemory,
-        CheckFault::Differs { need, instant } => NodeFault::Check {
-            needs,
-            fault: CheckFault::Differs { need, instant },
-        },
-        CheckFault::Rates { need } => NodeFault::Check {
-            needs,
-            fault: CheckFault::Rates { need },
-        },
-        CheckFault::Late { need, instant } => NodeFault::Check {
-            needs,
-            fault: CheckFault::Late { need, instant },
-        },
+    let needs = needs(alloc, placed, node, above)?;
+    let words = written(alloc, placed, node)?;
+    match check(alloc, &needs, &words) {
+        Ok(sizes) => Ok(NodeClock {
+            words: Words::new(words),
+            sizes: Numbers64::new(sizes),
+        }),
+        Err(fault) => Err(check_fault(needs, fault)),
+    }
+}
+
+// Those of another node, which are inferred from its needs.
+fn inferred_clock(
+    alloc: Global,
+    placed: &Placed,
+    node: u32,
+    above: &[Signature],
+    options: &Options,
+) -> Result<NodeClock, NodeFault>
+    requires options { AreOptions options.now }
+    requires proper { AreProper placed.now.nodes }
+    requires node { node < length placed.now.nodes }
+    requires signatures { AreSignatures (take node placed.now.nodes) above.now }
+    requires allowed { options.now.written_only ≡ false }
+    requires unwritten { (n : Node) → slice_get placed.now.nodes node ≡ Some n → IsWritten n → ⊥ }
+    ensures ok { (n : Node) → slice_get placed.now.nodes node ≡ Some n → IfOk result (IsClocked options.now above.now n) }
+    ensures refused { (n : Node) → slice_get placed.now.nodes node ≡ Some n → IfErr result (RefusesNode options.now placed.now node above.now n) }
+{
+    let needs = needs(alloc, placed, node, above)?;
+    match infer(alloc, &needs, options.scale, options.lead) {
+        Ok(found) => Ok(NodeClock {
+            words: Words::new(found.words),
+            sizes: Numbers64::new(found.sizes),
+        }),
+        Err(why) => Err(inference_fault(needs, why)),
     }
 }
 
@@ -107,25 +89,23 @@ fn node_clock(
     placed: &Placed,
     node: u32,
     above: &[Signature],
+    options: &Options,
 ) -> Result<NodeClock, NodeFault>
+    requires options { AreOptions options.now }
     requires proper { AreProper placed.now.nodes }
     requires node { node < length placed.now.nodes }
     requires signatures { AreSignatures (take node placed.now.nodes) above.now }
-    ensures ok { (n : Node) → slice_get placed.now.nodes node ≡ Some n → IfOk result (IsClocked above.now n) }
-    ensures refused { (n : Node) → slice_get placed.now.nodes node ≡ Some n → IfErr result (RefusesNode placed.now node above.now n) }
+    ensures ok { (n : Node) → slice_get placed.now.nodes node ≡ Some n → IfOk result (IsClocked options.now above.now n) }
+    ensures refused { (n : Node) → slice_get placed.now.nodes node ≡ Some n → IfErr result (RefusesNode options.now placed.now node above.now n) }
 {
     match placed.first_unwritten(node) {
-        Some(span) => return Err(NodeFault::NotWritten(span)),
-        None => {}
-    }
-    let needs = needs(alloc, placed, node, above)?;
-    let words = written(alloc, placed, node)?;
-    match check(alloc, &needs, &words) {
-        Ok(sizes) => Ok(NodeClock {
-            words: Words::new(words),
-            sizes: Numbers64::new(sizes),
-        }),
-        Err(fault) => Err(check_fault(needs, fault)),
+        None => handed_clock(alloc, placed, node, above),
+        Some(span) => {
+            if options.written_only {
+                return Err(NodeFault::NotWritten(span));
+            }
+            inferred_clock(alloc, placed, node, above, options)
+        }
     }
 }
 
@@ -170,34 +150,41 @@ fn next_clock(
     alloc: Global,
     placed: &Placed,
     node: u32,
+    options: &Options,
     above: &mut Vec<Signature>,
     clocks: &mut Vec<NodeClock>,
 ) -> Result<(), NodeFault>
+    requires options { AreOptions options.now }
     requires proper { AreProper placed.now.nodes }
     requires node { node < length placed.now.nodes }
-    requires clocked { AreClocksOf (take node placed.now.nodes) clocks.old.items }
+    requires clocked { AreClocksOf options.now (take node placed.now.nodes) clocks.old.items }
     requires signatures { above.old.items ≡ signatures (take node placed.now.nodes) clocks.old.items }
-    ensures clocked { OnOk result (AreClocksOf (take (node + 1) placed.now.nodes) clocks.new.items) }
+    ensures clocked { OnOk result (AreClocksOf options.now (take (node + 1) placed.now.nodes) clocks.new.items) }
     ensures signatures { OnOk result (above.new.items ≡ signatures (take (node + 1) placed.now.nodes) clocks.new.items) }
-    ensures refused { (n : Node) → slice_get placed.now.nodes node ≡ Some n → IfErr result (RefusesNode placed.now node above.old.items n) }
+    ensures refused { (n : Node) → slice_get placed.now.nodes node ≡ Some n → IfErr result (RefusesNode options.now placed.now node above.old.items n) }
 {
-    let clock = node_clock(alloc, placed, node, above)?;
+    let clock = node_clock(alloc, placed, node, above, options)?;
     let ports = ports_of(alloc, placed.node(node), &clock)?;
     push(above, ports)?;
     push(clocks, clock)?;
     Ok(())
 }
 
-/// The clocks of all nodes, or the first node that has none.
-pub(crate) fn node_clocks(alloc: Global, placed: &Placed) -> Result<Vec<NodeClock>, Unclocked>
-    ensures ok { IfOk result (λ clocks. AreClocksOf placed.now.nodes clocks.items) }
-    ensures refused { IfErr result (RefusesNodes placed.now) }
+/// The clocks of all nodes with these options, or the first node that has none.
+pub(crate) fn node_clocks(
+    alloc: Global,
+    placed: &Placed,
+    options: &Options,
+) -> Result<Vec<NodeClock>, Unclocked>
+    requires { AreOptions options.now }
+    ensures ok { IfOk result (λ clocks. AreClocksOf options.now placed.now.nodes clocks.items) }
+    ensures refused { IfErr result (RefusesNodes options.now placed.now) }
 {
     let mut above = Vec::new(alloc);
     let mut clocks = Vec::new(alloc);
     let nodes = placed.nodes();
     'each: for node in 0..nodes {
-        match next_clock(alloc, placed, node, &mut above, &mut clocks) {
+        match next_clock(alloc, placed, node, options, &mut above, &mut clocks) {
             Ok(()) => {}
             Err(fault) => return Err(Unclocked { node, fault }),
         }

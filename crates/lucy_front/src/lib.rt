@@ -1,14 +1,17 @@
 //! Acceptance: what a program text comes to, phase by phase, or the first refusal; the report of an accepted program, and the
 //! text of each refusal.
 //!
-//! It stands on all phases: `lucy_syntax`, `lucy_place`, `lucy_types`, `lucy_clock`, `lucy_check`, `lucy_flat` and
-//! `lucy_cause`. Begin with `accept` in `accepting.rt` and with `specs/Clocked.antt`, `specs/Scheduled.antt` and
-//! `specs/Accepting.antt`; that a text has one answer stands in `specs/OneAnswer.antt`, with the laws of `laws.rt`.
+//! It stands on all phases: `lucy_syntax`, `lucy_place`, `lucy_types`, `lucy_clock`, `lucy_check`, `lucy_inference`, `lucy_flat`
+//! and `lucy_cause`. Begin with `accept` in `accepting.rt` and with `specs/Inferring.antt`, `specs/Clocked.antt`,
+//! `specs/Scheduled.antt` and `specs/Accepting.antt`; that a text has one answer stands in `specs/OneAnswer.antt`, with the laws
+//! of `laws.rt`.
 #![tactic(auto)]
 
 mod accepted;
 mod accepting;
 mod clocking;
+mod evidence;
+mod fault;
 mod items;
 mod laws;
 mod names;
@@ -17,6 +20,7 @@ mod printing;
 mod refusal;
 mod scheduling;
 mod streams;
+mod terms;
 #[cfg(test)]
 mod tests;
 mod texts;

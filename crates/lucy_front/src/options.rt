@@ -5,6 +5,6 @@ pub struct Options {
     pub scale: u64,
     /// How many periods inferred clocks may take until they are regular, from 1 to 64.
     pub lead: u64,
-    /// Whether each node must be written. Until clocks are inferred, each node must be.
+    /// Whether each node must be written; else the clocks of the others are inferred.
     pub written_only: bool,
 }

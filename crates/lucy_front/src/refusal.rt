@@ -10,13 +10,15 @@ use lucy_flat::FlatError;
 use lucy_need::Needs;
 use lucy_net::Net;
 use lucy_place::{NameError, Placed};
+use lucy_shape::Shape;
+use lucy_solve::Diffs;
 use lucy_syntax::SyntaxError;
 use lucy_text::Text;
 use lucy_tree::Span;
 use lucy_types::TypeError;
 use lucy_word::{Limit, OutOfMemory};
 
-/// Why a program text is refused. Nodes and needs count from 0.
+/// Why a program text is refused. Nodes, needs and inequalities count from 0.
 #[derive(Drop)]
 pub enum Refusal {
     /// The text is no program, for another cause than a limit.
@@ -28,11 +30,29 @@ pub enum Refusal {
         placed: Placed,
         clash: TypeError,
     },
-    /// The node isn't written, and this is the first span that keeps it from being so.
+    /// The node has to be written and isn't, and this is the first span that keeps it from being so.
     NotWritten {
         placed: Placed,
         node: u32,
         span: Span,
+    },
+    /// The node isn't written, and its rates don't agree: these needs lead from a clock back to it, the first of them from its
+    /// first clock to its second, and multiply the clock's rate by another number than 1.
+    Rates {
+        placed: Placed,
+        node: u32,
+        needs: Needs,
+        walk: Vec<u32>,
+    },
+    /// The node isn't written, and no clocks of this shape meet its needs: of the inequalities between their positions, those at
+    /// the positions of the cycle follow one another in a circle, and their constants sum below 0.
+    Clocks {
+        placed: Placed,
+        node: u32,
+        needs: Needs,
+        shape: Shape,
+        diffs: Diffs,
+        cycle: Vec<u32>,
     },
     /// The node is written and not well clocked: the words that it hands down don't meet a need.
     Check {

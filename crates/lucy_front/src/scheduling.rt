@@ -3,6 +3,7 @@ ghost use Rattle.std.specs.Prelude.{ℕ, List, IfOk, IfErr};
 ghost use Rattle.lucy_host.specs.Operators.{Operator};
 ghost use Rattle.lucy_clock.specs.declared.node_clock.NodeClock.{NodeClock as Clock};
 ghost use Rattle.lucy_cause.specs.Schedules.{Refuses as RefusesSchedule};
+ghost use Rattle.lucy_front.specs.declared.options.Options.{Options as Choices};
 ghost use Rattle.lucy_front.specs.Scheduled.{IsNetOf, RefusesNet};
 ghost use Rattle.lucy_front.specs.Accepting.{IsClockedText, IsAccepted};
 
@@ -43,8 +44,8 @@ fn refusal(alloc: Global, placed: &Placed, net: Net, fault: CauseFault) -> Refus
 
 /// The net of a program with clocks, its schedule, its inputs and its outputs.
 pub(crate) fn scheduled(alloc: Global, program: Clocked) -> Result<Accepted, Refusal>
-    requires { (ops : List Operator) × (text : List ℕ) × IsClockedText ops text program.placed program.typed program.clocks.items }
-    ensures ok { (ops : List Operator) (text : List ℕ) → IsClockedText ops text program.placed program.typed program.clocks.items → IfOk result (IsAccepted ops text) }
+    requires { (ops : List Operator) × (o : Choices) × (text : List ℕ) × IsClockedText ops o text program.placed program.typed program.clocks.items }
+    ensures ok { (ops : List Operator) (o : Choices) (text : List ℕ) → IsClockedText ops o text program.placed program.typed program.clocks.items → IfOk result (IsAccepted ops o text) }
     ensures refused { IfErr result (RefusesNet program.placed.nodes program.clocks.items) }
 {
     let Clocked {

@@ -4,6 +4,7 @@ ghost use Rattle.std.specs.List.{AllByRecursion};
 ghost use Rattle.lucy_place.specs.Proper.{ArePlaces};
 ghost use Rattle.lucy_types.specs.Programs.{IsTyped};
 ghost use Rattle.lucy_types.specs.Tables.{table_at};
+ghost use Rattle.lucy_front.specs.declared.options.Options.{Options as Choices};
 ghost use Rattle.lucy_front.specs.Clocked.{AreClocksOf};
 ghost use Rattle.lucy_front.specs.Scheduled as spec;
 
@@ -118,7 +119,7 @@ pub(crate) fn outputs(
     clocks: &[NodeClock],
 ) -> Result<Vec<OutputSpec>, OutOfMemory>
     requires typed { IsTyped placed.now.nodes typed.now }
-    requires clocks { AreClocksOf placed.now.nodes clocks.now }
+    requires clocks { (o : Choices) × AreClocksOf o placed.now.nodes clocks.now }
     ensures { IfOk result (λ v. v.items ≡ spec.outputs_of placed.now.nodes typed.now clocks.now) }
 {
     let last = placed.nodes() - 1;

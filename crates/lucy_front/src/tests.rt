@@ -1,22 +1,45 @@
 ghost use Rattle.std.specs.Prelude.{◌<◌};
+ghost use Rattle.lucy_front.specs.Inferring.{AreOptions};
 
 use crate::{Options, accept, refusal_text, report};
 use lucy_host::Ops;
 use std::alloc::{AllocError, Global};
 use std::test::Fail;
 
-// What is printed of a text: the report, or why it is refused.
-fn answer(alloc: Global, text: &[u8]) -> Result<Vec<u8>, Fail> {
+// What is printed of a text with these options: the report, or why it is refused.
+fn answer_with(alloc: Global, text: &[u8], options: Options) -> Result<Vec<u8>, Fail>
+    requires { AreOptions options }
+{
     let ops = Ops::new(alloc);
-    let options = Options {
-        scale: 1,
-        lead: 1,
-        written_only: true,
-    };
     match accept(alloc, text, &ops, &options) {
         Ok(accepted) => Ok(report(alloc, &accepted)?),
         Err(refusal) => Ok(refusal_text(alloc, &refusal)?),
     }
+}
+
+// Where each node has to be written, and where clocks are inferred.
+fn answer(alloc: Global, text: &[u8]) -> Result<Vec<u8>, Fail> {
+    answer_with(
+        alloc,
+        text,
+        Options {
+            scale: 1,
+            lead: 1,
+            written_only: true,
+        },
+    )
+}
+
+fn inferred(alloc: Global, text: &[u8]) -> Result<Vec<u8>, Fail> {
+    answer_with(
+        alloc,
+        text,
+        Options {
+            scale: 1,
+            lead: 1,
+            written_only: false,
+        },
+    )
 }
 
 // Each form's clock rule kept and broken, each kind of refusal of the phases, sizes, rates and late instants, calls on a base of
@@ -137,87 +160,6 @@ fn texts_are_reported_or_refused(rt: HostRuntime) -> Result<(), Fail> {
     Ok(())
 }
 
-// Puts a text so many times.
-fn repeated(out: &mut Vec<u8>, piece: &[u8], times: u32) -> Result<(), AllocError> {
-    for _ in 0..times {
-        out.extend_from_slice(piece)?;
-    }
-    Ok(())
-}
-
-// The base of the merge has a period of 1,023 bits and its word one of 1,024, so that one sampled word has 1,047,552 bits; with
-// two bits more it has more than a word may have. The operands are names that have words of their own, and the need of p,
-// which isn't met, stands before those of the merge.
-#[test]
-fn sampled_words_come_before_the_needs(rt: HostRuntime) -> Result<(), Fail> {
-    let alloc = rt.alloc();
-    for (zeros, limited) in [(1_023u32, false), (1_025, true)] {
-        let mut text = Vec::new(alloc);
-        text.extend_from_slice(b"let node l (x :: (1)) = o where rec p :: (10) = x and o :: (1")?;
-        repeated(&mut text, b"0", 1_022)?;
-        text.extend_from_slice(b") = merge (1")?;
-        repeated(&mut text, b"0", zeros)?;
-        text.extend_from_slice(b") x x")?;
-        let given = answer(alloc, &text)?;
-        let expected: &[u8] = if limited {
-            b"lucy: limit Word 1048576\n"
-        } else {
-            b"lucy: check: node l: p = x: differ at 2\n"
-        };
-        assert!(rt; given.as_slice() == expected);
-    }
-    Ok(())
-}
-
-// A call's result is compared with a word whose period is coprime to that of its base on its own word.
-#[test]
-fn a_call_passes_compare(rt: HostRuntime) -> Result<(), Fail> {
-    let alloc = rt.alloc();
-    let mut text = Vec::new(alloc);
-    text.extend_from_slice(b"let node f (x :: (1")?;
-    repeated(&mut text, b"0", 1_022)?;
-    text.extend_from_slice(b")) = x let node g (z :: (1")?;
-    repeated(&mut text, b"0", 4_090)?;
-    text.extend_from_slice(b")) = p where rec p :: (1) = f at (1")?;
-    repeated(&mut text, b"0", 1_023)?;
-    text.extend_from_slice(b") (z)")?;
-    let given = answer(alloc, &text)?;
-    assert!(rt; given.as_slice() == b"lucy: limit Compare 16777216\n".as_slice());
-    Ok(())
-}
-
-// A node of 64 parameters is called 481 times, each time with 68 needs. There are 29 definitions more with two needs each, and
-// one need for each parameter. So many calls have too many actors, which are looked at after the needs.
-fn many_needs(alloc: Global, params: &[u8]) -> Result<Vec<u8>, AllocError> {
-    let mut text = Vec::new(alloc);
-    text.extend_from_slice(b"let node f (")?;
-    for i in 0..63u32 {
-        text.extend_from_slice(format!(in alloc; "a{i} :: (1), ")?.as_bytes())?;
-    }
-    text.extend_from_slice(b"a63 :: (1)) = a0 let node g (x :: (1)")?;
-    text.extend_from_slice(params)?;
-    text.extend_from_slice(b") = x where rec z0 :: (1) = x")?;
-    for i in 1..29u32 {
-        text.extend_from_slice(format!(in alloc; " and z{i} :: (1) = x")?.as_bytes())?;
-    }
-    for i in 0..481u32 {
-        text.extend_from_slice(format!(in alloc; " and y{i} :: (1) = f at (1) (")?.as_bytes())?;
-        repeated(&mut text, b"x, ", 63)?;
-        text.extend_from_slice(b"x)")?;
-    }
-    Ok(text)
-}
-
-#[test]
-fn needs_are_counted(rt: HostRuntime) -> Result<(), Fail> {
-    let alloc = rt.alloc();
-    let most = answer(alloc, &many_needs(alloc, b", p :: (1)")?)?;
-    assert!(rt; most.as_slice() == b"lucy: limit Actors 16384\n".as_slice());
-    let more = answer(alloc, &many_needs(alloc, b", p :: (1), q :: (1)")?)?;
-    assert!(rt; more.as_slice() == b"lucy: limit Needs 32768\n".as_slice());
-    Ok(())
-}
-
 // Each node but the first calls the one above it twice, so that the actors double from node to node: no net is built.
 #[test]
 fn doubled_calls_have_too_many_actors(rt: HostRuntime) -> Result<(), Fail> {
@@ -232,5 +174,102 @@ fn doubled_calls_have_too_many_actors(rt: HostRuntime) -> Result<(), Fail> {
     }
     let given = answer(alloc, &text)?;
     assert!(rt; given.as_slice() == b"lucy: limit Actors 16384\n".as_slice());
+    Ok(())
+}
+
+// Rates that don't agree, with the walk; no clocks of the shape, of which the first line is sure; and a node that isn't written
+// between nodes that are, by whose clocks it is inferred.
+#[test]
+fn inferred_texts_are_reported_or_refused(rt: HostRuntime) -> Result<(), Fail> {
+    let alloc = rt.alloc();
+    let cases = [
+        (
+            "let node lag x = y where rec y = x + buffer (x when (10))",
+            "lucy: rates: node lag\n  #5 = x on (10)\n  #3 = x\n  #3 = #4\n  #5 <: #4\n",
+        ),
+        (
+            "let node bad x = y where rec y = (x when (10)) + (x when (01))",
+            "lucy: clocks: node bad: no clocks of period 2\n",
+        ),
+        (
+            "let node twice (x :: (1)) = o where rec o = merge (10) x (buffer x)",
+            "lucy: clocks: node twice: no clocks of period 1\n",
+        ),
+        (
+            "let node d (a, b) = y where rec y = buffer a + buffer (b when (01))",
+            "node d (a, b) = (y)\n  a : int :: 1(10)\n  b : int :: (1)\n  y : int :: (01)\n  buffer 1 : 1(10) <: (01) size 1\n  buffer 2 : (01) <: (01) size 0\n",
+        ),
+        (
+            "let node half (x :: (1)) = y where rec y :: (10) = x when (10)\nlet node g z = p where rec p = half (z when (01))\nlet node h (u :: (1)) = v where rec v :: (0100) = g at (1) (u)",
+            "node half (x) = (y)\n  x : '1 :: (1)\n  y : '1 :: (10)\nnode g (z) = (p)\n  z : '1 :: (1)\n  p : '1 :: (0100)\n  call 1 : half at (01)\nnode h (u) = (v)\n  u : int :: (1)\n  v : int :: (0100)\n  call 1 : g at (1)\n",
+        ),
+    ];
+    for (text, expected) in cases {
+        let given = inferred(alloc, text.as_bytes())?;
+        assert!(rt; given.starts_with(expected.as_bytes()), "{text}");
+    }
+    Ok(())
+}
+
+// Puts a text so many times.
+fn repeated(out: &mut Vec<u8>, piece: &[u8], times: u32) -> Result<(), AllocError> {
+    for _ in 0..times {
+        out.extend_from_slice(piece)?;
+    }
+    Ok(())
+}
+
+// Rates of 1 to 257 * 257 are too large; of 1 to 256 * 256 they aren't, but x has 65,536 ones in a period.
+#[test]
+fn rates_and_positions_are_limited(rt: HostRuntime) -> Result<(), Fail> {
+    let alloc = rt.alloc();
+    let cases = [
+        (256u32, "lucy: limit Rate 65536\n"),
+        (255, "lucy: limit Positions 65536\n"),
+    ];
+    for (zeros, expected) in cases {
+        let mut text = Vec::new(alloc);
+        text.extend_from_slice(b"let node f x = y where rec y = x when (1")?;
+        repeated(&mut text, b"0", zeros)?;
+        text.extend_from_slice(b") when (1")?;
+        repeated(&mut text, b"0", zeros)?;
+        text.extend_from_slice(b")")?;
+        let given = inferred(alloc, &text)?;
+        assert!(rt; given.as_slice() == expected.as_bytes());
+    }
+    Ok(())
+}
+
+// x has 4,096 ones in a period and as many before, so that each of 64 arguments needs 16,384 inequalities.
+#[test]
+fn inequalities_are_counted(rt: HostRuntime) -> Result<(), Fail> {
+    let alloc = rt.alloc();
+    let mut text = Vec::new(alloc);
+    text.extend_from_slice(b"let node f (")?;
+    for i in 0..63u32 {
+        text.extend_from_slice(format!(in alloc; "a{i}, ")?.as_bytes())?;
+    }
+    text.extend_from_slice(b"a63) = a0 let node g x = (y, z) where rec y = x when (1")?;
+    repeated(&mut text, b"0", 4_095)?;
+    text.extend_from_slice(b") and z = f (")?;
+    repeated(&mut text, b"x, ", 63)?;
+    text.extend_from_slice(b"x)")?;
+    let given = inferred(alloc, &text)?;
+    assert!(rt; given.as_slice() == b"lucy: limit Inequalities 1048576\n".as_slice());
+    Ok(())
+}
+
+// The first one of y is that of x at instant 1,044,481, and the next one, from which on it is regular, a period of 4,096 later.
+#[test]
+fn inferred_words_are_limited(rt: HostRuntime) -> Result<(), Fail> {
+    let alloc = rt.alloc();
+    let mut text = Vec::new(alloc);
+    text.extend_from_slice(b"let node f x = y where rec y = x when (1")?;
+    repeated(&mut text, b"0", 4_095)?;
+    text.extend_from_slice(b") when ")?;
+    repeated(&mut text, b"0", 255)?;
+    text.extend_from_slice(b"(1)")?;
+    let given = inferred(alloc, &text)?;
+    assert!(rt; given.as_slice() == b"lucy: limit Word 1048576\n".as_slice());
     Ok(())
 }

@@ -1,86 +1,20 @@
 // The texts of refusals.
 ghost use Rattle.std.specs.Prelude.{◌≡◌, ◌<◌, ◌++◌, IfOk, OnOk, length};
-ghost use Rattle.lucy_word.specs.Spelling.{text_of};
-ghost use Rattle.lucy_front.specs.Needs as shown;
 ghost use Rattle.lucy_front.specs.Refusals as spec;
 
-use crate::names::{bytes, number, place_name, place_names};
+use crate::evidence::{unclocked_lines, unequal_lines};
+use crate::names::{bytes, number, place_names};
 use crate::refusal::Refusal;
+use crate::terms::need_text;
 use lucy_cause::Item;
 use lucy_check::CheckFault;
-use lucy_need::{Need, Term};
+use lucy_need::Need;
 use lucy_place::{NameError, Placed, PlacedNode};
 use lucy_syntax::SyntaxError;
 use lucy_text::Text;
 use lucy_types::TypeError;
-use lucy_word::{Limit, OutOfMemory, Word};
+use lucy_word::{Limit, OutOfMemory};
 use std::alloc::Global;
-
-// A clock of a node.
-fn clock_name(alloc: Global, node: &PlacedNode, clock: u32) -> Result<Text, OutOfMemory>
-    ensures { IfOk result (λ text. text ≡ shown.clock_name node.now clock) }
-{
-    let places = node.places.list().len();
-    if clock == 0 {
-        Text::new(alloc, b"base")
-    } else if clock as usize <= places {
-        place_name(alloc, node, clock)
-    } else {
-        let call = clock as usize - places;
-        Text::new(alloc, format!(in alloc; "call{call}")?.as_bytes())
-    }
-}
-
-// The text of a word.
-fn word_text(alloc: Global, word: &Word) -> Result<Vec<u8>, OutOfMemory>
-    ensures { IfOk result (λ v. v.items ≡ text_of word.now) }
-{
-    let mut text = Vec::new(alloc);
-    word.print(alloc, &mut text)?;
-    Ok(text)
-}
-
-// A term, on its word but for (1).
-fn term_text(
-    alloc: Global,
-    node: &PlacedNode,
-    term: &Term,
-    out: &mut Vec<u8>,
-) -> Result<(), OutOfMemory>
-    ensures { OnOk result (out.new.items ≡ out.old.items ++ shown.term_text node.now term.now) }
-{
-    let clock = clock_name(alloc, node, term.clock)?;
-    let word = word_text(alloc, &term.word)?;
-    bytes(clock.bytes(), out)?;
-    if word.as_slice() == b"(1)".as_slice() {
-        return Ok(());
-    }
-    bytes(b" on ", out)?;
-    bytes(&word, out)
-}
-
-// A need.
-fn need_text(
-    alloc: Global,
-    node: &PlacedNode,
-    need: &Need,
-    out: &mut Vec<u8>,
-) -> Result<(), OutOfMemory>
-    ensures { OnOk result (out.new.items ≡ out.old.items ++ shown.need_text node.now need.now) }
-{
-    match need {
-        Need::Equal(first, second) => {
-            term_text(alloc, node, first, out)?;
-            bytes(b" = ", out)?;
-            term_text(alloc, node, second, out)
-        }
-        Need::Adapt(first, second) => {
-            term_text(alloc, node, first, out)?;
-            bytes(b" <: ", out)?;
-            term_text(alloc, node, second, out)
-        }
-    }
-}
 
 // The line where a limit is passed.
 fn limit_line(alloc: Global, limit: Limit) -> Result<Vec<u8>, OutOfMemory>
@@ -257,8 +191,9 @@ fn cause_lines(
     Ok(lines)
 }
 
-/// The text of a refusal that `accept` gives: its line on the fault sink, for a clash of types with the places of its path,
-/// and for a cycle of causality with its items, each on a line of its own.
+/// The text of a refusal that `accept` gives: its line on the fault sink, for a clash of types with the places of its path, for
+/// rates that don't agree with the needs of the walk, for clocks that there are none of with the inequalities of the cycle, and
+/// for a cycle of causality with its items, each on a line of its own.
 pub fn refusal_text(alloc: Global, refusal: &Refusal) -> Result<Vec<u8>, OutOfMemory>
     requires { spec.IsTellable refusal.now }
     ensures { IfOk result (λ v. v.items ≡ spec.refusal_text refusal.now) }
@@ -269,6 +204,23 @@ pub fn refusal_text(alloc: Global, refusal: &Refusal) -> Result<Vec<u8>, OutOfMe
         Refusal::Types { placed, clash } => clash_lines(alloc, placed, clash),
         Refusal::NotWritten { placed, node, span } => {
             unwritten_line(alloc, placed.node(*node), u64::from(span.from))
+        }
+        Refusal::Rates {
+            placed,
+            node,
+            needs,
+            walk,
+        } => unequal_lines(alloc, placed.node(*node), needs.list.list(), walk),
+        Refusal::Clocks {
+            placed,
+            node,
+            needs,
+            shape,
+            diffs,
+            cycle,
+        } => {
+            let node = placed.node(*node);
+            unclocked_lines(alloc, node, needs.clocks, shape, diffs, cycle)
         }
         Refusal::Check {
             placed,

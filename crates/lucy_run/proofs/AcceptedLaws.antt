@@ -13,6 +13,7 @@ use Rattle.lucy_kahn.specs.Turns.{params_in}
 use Rattle.lucy_cause.specs.Schedules.{events_at}
 use Rattle.lucy_execution.specs.Running.{HasSchedule}
 use Rattle.lucy_front.specs.declared.accepted.Accepted.{Accepted}
+use Rattle.lucy_front.specs.declared.options.Options.{Options}
 use Rattle.lucy_front.specs.Accepting.{IsAccepted}
 use Rattle.lucy_front.specs.Names.{param_places}
 use Rattle.lucy_front.specs.Scheduled.{input_of, output_of, inputs_in, outputs_in}
@@ -35,7 +36,7 @@ few_in nodes (Some n) proper e =
     let params = own.params in
     omega arith
 
-module _ (ops : List Operator) (text : List ℕ) (a : Accepted) (is : IsAccepted ops text a) where
+module _ (ops : List Operator) (text : List ℕ) (o : Options) (a : Accepted) (is : IsAccepted ops o text a) where
   -- an input for each parameter of main, an output for each result
   pub inputs_count : length a.inputs.items ≡ params_in (main_of a.placed.nodes)
   inputs_count = ap length is.inputs ∙ inputs_counted (main_of a.placed.nodes) (table_at a.typed (length a.placed.nodes - 1))
@@ -45,7 +46,7 @@ module _ (ops : List Operator) (text : List ℕ) (a : Accepted) (is : IsAccepted
 
   pub few_inputs : length a.inputs.items < 2 ^ 32
   few_inputs =
-      let few = few_in a.placed.nodes (main_of a.placed.nodes) (text_proper ops text a.placed is.clocked.program.program) refl in
+      let few = few_in a.placed.nodes (main_of a.placed.nodes) (text_proper ops o text a.placed is.clocked.program.program) refl in
       let count = inputs_count in
       omega arith
 

@@ -12,6 +12,7 @@ ghost use Rattle.lucy_kahn.specs.Turns.{params_in};
 ghost use Rattle.lucy_flat.specs.Clocked.{AreClocked};
 ghost use Rattle.lucy_execution.specs.Streams.{param_words};
 ghost use Rattle.lucy_execution.specs.Running.{HasSchedule};
+ghost use Rattle.lucy_front.specs.declared.options.Options.{Options};
 ghost use Rattle.lucy_front.specs.Accepting.{IsAccepted};
 ghost use Rattle.lucy_run.specs.Owes.{IsHorizonOf, Interprets, OwesKahn, OwesKahnOutput};
 ghost use Rattle.lucy_run.specs.Ends.{EndsWith};
@@ -94,7 +95,7 @@ pub fn kahn<F: Fn(u32, i64, i64) -> i64 + Sync, I: Source, O: Sink>(
     out: &mut O,
 ) -> Ending
     requires serves { Serves F.pre F.post host.now }
-    requires accepted { (text : List ℕ) × IsAccepted (lent host.now) text accepted }
+    requires accepted { (text : List ℕ) × (options : Options) × IsAccepted (lent host.now) options text accepted }
     requires clocked { AreClocked accepted.placed.nodes accepted.clocks.items }
     requires few { IfSome instants (λ given. given ≤ limit_number limit.Instants) }
     requires given { accepted.inputs.items ≡ [] → instants ≢ None }

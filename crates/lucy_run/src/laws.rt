@@ -1,5 +1,5 @@
 // Laws of what is owed, on functions that call the laws of feeds and horizons alone.
-ghost use Rattle.lucy_run.specs.Laws.{OneRun, OneInterpretation, SameLines};
+ghost use Rattle.lucy_run.specs.Laws.{OneRun, OneInterpretation, SameLines, CompleteRun, CompleteInterpretation};
 
 use lucy_feed::one_feed;
 use lucy_meaning::one_horizon;
@@ -26,4 +26,13 @@ pub fn runs_print_what_kahn_prints()
 {
     one_feed();
     one_horizon();
+}
+
+/// An input without a fault, whose items allow no more instants than a run may have where none are given, is run to its end, and
+/// so it is by the interpreter, unless that passes a limit of its own.
+pub fn faultless_runs_are_done()
+    ensures run { CompleteRun }
+    ensures interpretation { CompleteInterpretation }
+{
+    one_feed();
 }

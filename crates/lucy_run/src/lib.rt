@@ -16,5 +16,5 @@ mod running;
 
 pub use ending::Ending;
 pub use interpreting::kahn;
-pub use laws::{one_interpretation, one_run, runs_print_what_kahn_prints};
+pub use laws::{faultless_runs_are_done, one_interpretation, one_run, runs_print_what_kahn_prints};
 pub use running::run;

@@ -8,6 +8,7 @@ ghost use Rattle.lucy_lines.specs.Fronts.{most_bytes};
 ghost use Rattle.lucy_feed.specs.Sources.{Stop, seen_source, Read};
 ghost use Rattle.lucy_output.specs.Sinks.{seen_sink};
 ghost use Rattle.lucy_flat.specs.Clocked.{AreClocked};
+ghost use Rattle.lucy_front.specs.declared.options.Options.{Options};
 ghost use Rattle.lucy_front.specs.Accepting.{IsAccepted};
 ghost use Rattle.lucy_front.specs.Report.{IsReportable};
 ghost use Rattle.lucy_run.specs.Owes as owes;
@@ -49,7 +50,7 @@ pub fn run<F: Fn(u32, i64, i64) -> i64 + Sync, I: Source, O: Sink>(
     out: &mut O,
 ) -> Ending
     requires serves { Serves F.pre F.post host.now }
-    requires accepted { (text : List ℕ) × IsAccepted (lent host.now) text accepted }
+    requires accepted { (text : List ℕ) × (options : Options) × IsAccepted (lent host.now) options text accepted }
     requires reportable { IsReportable accepted.placed.nodes accepted.typed accepted.clocks.items }
     requires clocked { AreClocked accepted.placed.nodes accepted.clocks.items }
     requires few { IfSome instants (λ given. given ≤ limit_number limit.Instants) }

@@ -7,19 +7,19 @@ use Rattle.lucy_front.proofs.OneAccepted.{accepted_kept, refused_alike}
 use Rattle.lucy_front.proofs.accepting.accept.Goals as goal
 
 pub returns-clause-accepted : goal.returns-clause-accepted
-returns-clause-accepted c = λ a is. IfErr-weaker c.planned.result _ _ (λ e h. accepted_kept c.args.ops.now c.args.text.now a e is h) c.planned.ensures.refused
+returns-clause-accepted c = λ a is. IfErr-weaker c.planned.result _ _ (λ e h. accepted_kept c.args.ops.now c.args.options.now c.args.text.now a e is h) c.planned.ensures.refused
 
 pub returns-clause-rejected : goal.returns-clause-rejected
 returns-clause-rejected c = λ r h some.
-    only_refusal c.planned.result (IsAccepted c.args.ops.now c.args.text.now) (Refuses c.args.ops.now c.args.text.now) r some
-    (λ a is. accepted_kept c.args.ops.now c.args.text.now a r is h) (λ e k. refused_alike c.args.ops.now c.args.text.now r e h k)
+    only_refusal c.planned.result (IsAccepted c.args.ops.now c.args.options.now c.args.text.now) (Refuses c.args.ops.now c.args.options.now c.args.text.now) r some
+    (λ a is. accepted_kept c.args.ops.now c.args.options.now c.args.text.now a r is h) (λ e k. refused_alike c.args.ops.now c.args.options.now c.args.text.now r e h k)
     c.planned.ensures.ok c.planned.ensures.refused
 
 pub returns-clause-clocked : goal.returns-clause-clocked
 returns-clause-clocked c = IfOk-weaker c.planned.result _ _ (λ a is. clocked a.placed.nodes a.clocks.items is.clocked.clocks) c.planned.ensures.ok
 
 pub returns-clause-reportable : goal.returns-clause-reportable
-returns-clause-reportable c = IfOk-weaker c.planned.result _ _ (λ a is. reportable c.args.ops.now c.args.text.now a is) c.planned.ensures.ok
+returns-clause-reportable c = IfOk-weaker c.planned.result _ _ (λ a is. reportable c.args.ops.now c.args.options.now c.args.text.now a is) c.planned.ensures.ok
 
 pub returns-clause-tellable : goal.returns-clause-tellable
-returns-clause-tellable c = IfErr-weaker c.planned.result _ _ (λ e is. tellable c.args.ops.now c.args.text.now e is) c.planned.ensures.refused
+returns-clause-tellable c = IfErr-weaker c.planned.result _ _ (λ e is. tellable c.args.ops.now c.args.options.now c.args.text.now e is) c.planned.ensures.refused

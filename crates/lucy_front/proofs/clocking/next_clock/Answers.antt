@@ -13,13 +13,13 @@ node_clock-requires-clause-signatures c =
 pub ports_of-requires-clause-results : goal.ports_of-requires-clause-results
 ports_of-requires-clause-results c =
     let clocked = c.in_ok-clock.ensures.ok c.node.result.now c.node.ensures.is in
-    let count = clocked.words.of.count in
+    let count = clocked.count in
     places_within c.node.result.now c.node.result.now.results (length c.in_ok-clock.clock.words) (omega arith) c.node.ensures.proper.results
 
 pub returns-clause-clocked : goal.returns-clause-clocked
 returns-clause-clocked c =
     let n = c.node.result.now in
-    let own = subst (λ s. IsClocked s n c.in_ok-clock.clock) (c.deref.ensures.value ∙ c.requires.signatures) (c.in_ok-clock.ensures.ok n c.node.ensures.is) in
+    let own = subst (λ s. IsClocked c.args.options.now s n c.in_ok-clock.clock) (c.deref.ensures.value ∙ c.requires.signatures) (c.in_ok-clock.ensures.ok n c.node.ensures.is) in
     clocked_push c.args.placed.now.nodes c.args.node c.args.clocks.now.items c.push-2.new.list.items n c.in_ok-clock.clock c.node.ensures.is c.requires.clocked c.in_ok-push-2.ensures own
 
 pub returns-clause-signatures : goal.returns-clause-signatures

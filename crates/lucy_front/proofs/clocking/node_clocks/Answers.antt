@@ -15,6 +15,6 @@ returns-in-Err-clause-refused c =
         above = c.each.invariant.0;
         n = n.0;
         stands = n.1;
-        refused = subst (λ s. Refused c.in-Err.fault s n.0) c.each.invariant.1 refused.1;
+        refused = subst (λ s. Refused c.args.options.now c.in-Err.fault s n.0) c.each.invariant.1 refused.1;
       },
     )

@@ -4,4 +4,4 @@ use Rattle.lucy_front.specs.Clocked.{AreClocksOf}
 use Rattle.lucy_front.proofs.clocking.node_clocks.Given as goal
 
 abbrev pub invariant-each : goal.invariant-each
-invariant-each l = AreClocksOf (take l.node l.placed.nodes) l.clocks.items × (l.above.items ≡ signatures (take l.node l.placed.nodes) l.clocks.items)
+invariant-each l = AreClocksOf l.options (take l.node l.placed.nodes) l.clocks.items × (l.above.items ≡ signatures (take l.node l.placed.nodes) l.clocks.items)

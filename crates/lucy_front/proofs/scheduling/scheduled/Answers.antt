@@ -6,7 +6,7 @@ use Rattle.lucy_front.proofs.scheduling.scheduled.Goals as goal
 pub flatten-requires : goal.flatten-requires
 flatten-requires c =
     let program = c.args.program in
-    subst (AreClocked program.placed.nodes) (sym c.deref.ensures.value) (clocked program.placed.nodes program.clocks.items c.requires.2.clocks)
+    subst (AreClocked program.placed.nodes) (sym c.deref.ensures.value) (clocked program.placed.nodes program.clocks.items c.requires.3.clocks)
 
 pub returns-in_err-net-clause-refused : goal.returns-in_err-net-clause-refused
 returns-in_err-net-clause-refused c =

@@ -17,11 +17,11 @@ pub outputs_at-requires-clause-words : goal.outputs_at-requires-clause-words
 outputs_at-requires-clause-words c =
     let count = c.nodes-last.ensures.count in
     let some = c.nodes-last.ensures.some in
-    let all = c.requires.clocks.all in
+    let all = c.requires.clocks.1.all in
     let clocks = c.args.clocks.now in
     let clock : NodeClock = c.index-clocks-last.result in
     let at = slice_get_read clocks (length clocks) (c.nodes-last.result - 1) clock refl (omega arith) c.index-clocks-last.is in
-    let past = words_past c.args.placed.now.nodes clocks (c.nodes-last.result - 1) c.node-main.result.now clock c.requires.clocks c.node-main.ensures.is at in
+    let past = words_past c.args.placed.now.nodes clocks (c.nodes-last.result - 1) c.node-main.result.now clock c.requires.clocks.1 c.node-main.ensures.is at in
     let words = ap length c.list-words.ensures in
     let same = ap (λ (x : NodeClock). length x.words) c.index-clocks-last.is in
     omega arith
@@ -30,7 +30,7 @@ pub returns : goal.returns
 returns c =
     let count = c.nodes-last.ensures.count in
     let some = c.nodes-last.ensures.some in
-    let all = c.requires.clocks.all in
+    let all = c.requires.clocks.1.all in
     let nodes = c.args.placed.now.nodes in
     let tables = c.args.typed.now in
     let clocks = c.args.clocks.now in

@@ -11,7 +11,7 @@ use Rattle.lucy_run.proofs.EndsLaws.{kahn_given_up, kahn_done}
 use Rattle.lucy_run.proofs.interpreting.kahn.Goals as goal
 
 pub main_feed-requires : goal.main_feed-requires
-main_feed-requires g c = few_inputs _ c.requires.accepted.0 c.args.accepted c.requires.accepted.1
+main_feed-requires g c = few_inputs _ c.requires.accepted.0 c.requires.accepted.1 c.args.accepted c.requires.accepted.2
 
 pub returns-in-Err-clause-ends : goal.returns-in-Err-clause-ends
 returns-in-Err-clause-ends g c =
@@ -21,12 +21,12 @@ returns-in-Err-clause-ends g c =
 pub write_interpreted-requires-clause-scheduled : goal.write_interpreted-requires-clause-scheduled
 write_interpreted-requires-clause-scheduled g c = λ κs within.
     let P : List NodeClock → Type 0 = λ u. HasSchedule c.args.accepted.placed.nodes u in
-    subst P (sym c.deref.ensures.value) (scheduled _ c.requires.accepted.0 c.args.accepted c.requires.accepted.1)
+    subst P (sym c.deref.ensures.value) (scheduled _ c.requires.accepted.0 c.requires.accepted.1 c.args.accepted c.requires.accepted.2)
 
 pub write_interpreted-requires-clause-inputs : goal.write_interpreted-requires-clause-inputs
 write_interpreted-requires-clause-inputs g c = λ κs within.
     let lists = IfOk-at_ok (λ (feed : Feed). length feed.items ≡ length c.args.accepted.inputs.items) c.in-Ok.is c.main_feed.ensures.lists in
-    sym (lists ∙ inputs_count _ c.requires.accepted.0 c.args.accepted c.requires.accepted.1)
+    sym (lists ∙ inputs_count _ c.requires.accepted.0 c.requires.accepted.1 c.args.accepted c.requires.accepted.2)
 
 pub returns-clause-ends : goal.returns-clause-ends
 returns-clause-ends g c =

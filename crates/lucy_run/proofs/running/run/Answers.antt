@@ -12,7 +12,7 @@ use Rattle.lucy_run.specs.Owes.{heading}
 use Rattle.lucy_run.proofs.running.run.Goals as goal
 
 pub main_feed-requires : goal.main_feed-requires
-main_feed-requires g c = few_inputs _ c.requires.accepted.0 c.args.accepted c.requires.accepted.1
+main_feed-requires g c = few_inputs _ c.requires.accepted.0 c.requires.accepted.1 c.args.accepted c.requires.accepted.2
 
 pub returns-in-Err-clause-ends : goal.returns-in-Err-clause-ends
 returns-in-Err-clause-ends g c = run_unbegun (kinds_of (lent c.args.host.now)) c.args.accepted c.args.instants _ _
@@ -35,12 +35,12 @@ returns-in-Err-main_feed-clause-ends g c =
     (on_ok _ _ c.in-Ok-write_text.is c.write_text.ensures.ok)
 
 pub write_fed-requires-clause-outputs : goal.write_fed-requires-clause-outputs
-write_fed-requires-clause-outputs g c = λ κs within. outputs_count _ c.requires.accepted.0 c.args.accepted c.requires.accepted.1
+write_fed-requires-clause-outputs g c = λ κs within. outputs_count _ c.requires.accepted.0 c.requires.accepted.1 c.args.accepted c.requires.accepted.2
 
 pub write_fed-requires-clause-inputs : goal.write_fed-requires-clause-inputs
 write_fed-requires-clause-inputs g c = λ κs within.
     let lists = IfOk-at_ok (λ (feed : Feed). length feed.items ≡ length c.args.accepted.inputs.items) c.in-Ok-main_feed.is c.main_feed.ensures.lists in
-    sym (lists ∙ inputs_count _ c.requires.accepted.0 c.args.accepted c.requires.accepted.1)
+    sym (lists ∙ inputs_count _ c.requires.accepted.0 c.requires.accepted.1 c.args.accepted c.requires.accepted.2)
 
 pub returns-clause-ends : goal.returns-clause-ends
 returns-clause-ends g c =

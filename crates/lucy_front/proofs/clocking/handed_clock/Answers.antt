@@ -5,8 +5,8 @@ use Rattle.lucy_need.specs.Meeting.{assigned, MeetsAll}
 use Rattle.lucy_check.specs.Passing.{OrNoMemory, PassesAll, AllWithinLimits, IsFirstRefusal}
 use Rattle.lucy_front.specs.Clocked.{AreNodeWords}
 use Rattle.lucy_front.specs.Clocking.{RefusesNode}
-use Rattle.lucy_front.proofs.ClockedLaws.{there, few_of, words_of, clocked, check_refused}
-use Rattle.lucy_front.proofs.clocking.node_clock.Goals as goal
+use Rattle.lucy_front.proofs.ClockedLaws.{there, few_of, words_of, clocked, check_refused, needs_are, needs_refused, words_refused, unshut, refused_so}
+use Rattle.lucy_front.proofs.clocking.handed_clock.Goals as goal
 
 pub check-requires-clause-words : goal.check-requires-clause-words
 check-requires-clause-words c =
@@ -19,9 +19,7 @@ check-requires-clause-base c =
     subst (λ ws. Same (assigned ws 0) always) (sym c.deref.ensures.value) (c.in_ok-words.ensures.ok n.0 n.1).handed.places.base
 
 pub returns-in-Ok-clause-ok : goal.returns-in-Ok-clause-ok
-returns-in-Ok-clause-ok c = λ n e.
-    let is = c.first_unwritten.ensures.tables n e in
-    let is_written = is.0 c.in-None.is in
+returns-in-Ok-clause-ok c = λ o n e.
     let made = c.in_ok-words.ensures.ok n e in
     let fits = c.in_ok-words.ensures.fits n e in
     let list = (c.in_ok-needs.ensures.ok n e).1 in
@@ -32,18 +30,26 @@ returns-in-Ok-clause-ok c = λ n e.
     let within = subst (AllWithinLimits (assigned c.new.result)) list (subst (λ ws. AllWithinLimits (assigned ws) c.in_ok-needs.needs.list) same c.in-Ok.ensures.within) in
     let passes = subst (λ l. PassesAll (assigned c.new.result) l c.new-in-Ok.result) list
     (subst (PassesAll (assigned c.new.result) c.in_ok-needs.needs.list) (sym c.new-in-Ok.ensures) (subst (λ ws. PassesAll (assigned ws) c.in_ok-needs.needs.list c.in-Ok.sizes.items) same c.in-Ok.ensures.sizes)) in
-    clocked (take c.args.node c.args.placed.now.nodes) c.args.above.now n (c.requires.proper c.args.node n e) c.requires.signatures is_written
-    (record { words = c.new.result; sizes = c.new-in-Ok.result }) few words met within passes
+    clocked o (take c.args.node c.args.placed.now.nodes) c.args.above.now n (c.requires.proper c.args.node n e) c.requires.signatures
+    (record { words = c.new.result; sizes = c.new-in-Ok.result }) (c.requires.written n e) few words met within passes
 
 pub returns-in-Err-clause-refused : goal.returns-in-Err-clause-refused
-returns-in-Err-clause-refused c = λ n e.
-    let is = c.first_unwritten.ensures.tables n e in
-    let is_written = is.0 c.in-None.is in
+returns-in-Err-clause-refused c = λ o n e.
     let made = c.in_ok-words.ensures.ok n e in
     let fits = c.in_ok-words.ensures.fits n e in
     let needs = c.in_ok-needs.ensures.ok n e in
     let few = few_of c.args.above.now n (c.in_ok-needs.ensures.past n e) in
     let words = subst (AreNodeWords n) (sym c.deref.ensures.value) (words_of n c.in_ok-words.words.items made fits) in
     let refused = subst (λ l. OrNoMemory (IsFirstRefusal (assigned c.deref.result.now) l) c.in-Err.fault) needs.1 c.in-Err.ensures.refused in
-    subst (λ f. RefusesNode c.args.placed.now c.args.node c.args.above.now n f) (sym c.check_fault.ensures)
-    (check_refused c.args.placed.now c.args.node c.args.above.now n c.deref.result.now c.in_ok-needs.needs c.in-Err.fault is_written needs.0 needs.1 few words refused)
+    subst (λ f. RefusesNode o c.args.placed.now c.args.node c.args.above.now n f) (sym c.check_fault.ensures)
+    (check_refused o c.args.placed.now c.args.node c.args.above.now n c.deref.result.now c.in_ok-needs.needs (c.requires.written n e) (needs_are c.args.above.now n c.in_ok-needs.needs needs.0 needs.1) few words c.in-Err.fault refused)
+
+pub returns-in_err-needs-clause-refused : goal.returns-in_err-needs-clause-refused
+returns-in_err-needs-clause-refused c = λ o n e.
+    refused_so c.from_residual.result _ (RefusesNode o c.args.placed.now c.args.node c.args.above.now n) c.from_residual.ensures.1
+    (needs_refused o c.args.placed.now c.args.node c.args.above.now n _ (unshut o n (c.requires.written n e)) (c.in_err-needs.ensures.refused n e))
+
+pub returns-in_err-words-clause-refused : goal.returns-in_err-words-clause-refused
+returns-in_err-words-clause-refused c = λ o n e.
+    refused_so c.from_residual-in_err-words.result _ (RefusesNode o c.args.placed.now c.args.node c.args.above.now n) c.from_residual-in_err-words.ensures.1
+    (words_refused o c.args.placed.now c.args.node c.args.above.now n _ (c.requires.written n e) (few_of c.args.above.now n (c.in_ok-needs.ensures.past n e)) (c.in_err-words.ensures.refused n e))

@@ -1,0 +1,177 @@
+// The texts of what shows that no clocks are inferred for a node.
+ghost use Rattle.std.specs.Prelude.{◌≡◌, ◌<◌, ◌++◌, length, map, IfOk, OnOk};
+ghost use Rattle.std.specs.List.{range_with_len};
+ghost use Rattle.lucy_shape.specs.Fitting.{variable_count};
+ghost use Rattle.lucy_front.specs.Refusals.{AreBelow};
+ghost use Rattle.lucy_front.specs.Evidence as spec;
+
+use crate::clocking::push;
+use crate::names::{bytes, number};
+use crate::terms::{clock_name, need_text};
+use lucy_need::Need;
+use lucy_place::PlacedNode;
+use lucy_shape::{ClockShape, Shape};
+use lucy_solve::{Diff, Diffs};
+use lucy_text::Text;
+use lucy_word::OutOfMemory;
+use std::alloc::Global;
+
+// Puts the needs of these numbers last, each on a line of its own.
+fn walk_lines(
+    alloc: Global,
+    node: &PlacedNode,
+    needs: &[Need],
+    walk: &[u32],
+    lines: &mut Vec<u8>,
+) -> Result<(), OutOfMemory>
+    requires { AreBelow (length needs.now) walk.now }
+    ensures { OnOk result (lines.new.items ≡ lines.old.items ++ spec.walk_lines node.now needs.now walk.now) }
+{
+    'each: for need in walk {
+        bytes(b"  ", lines)?;
+        need_text(alloc, node, &needs[*need as usize], lines)?;
+        bytes(b"\n", lines)?;
+    }
+    Ok(())
+}
+
+/// The lines of a node whose rates don't agree along this walk.
+pub(crate) fn unequal_lines(
+    alloc: Global,
+    node: &PlacedNode,
+    needs: &[Need],
+    walk: &[u32],
+) -> Result<Vec<u8>, OutOfMemory>
+    requires { AreBelow (length needs.now) walk.now }
+    ensures { IfOk result (λ v. v.items ≡ spec.unequal_lines node.now needs.now walk.now) }
+{
+    let mut lines = Vec::new(alloc);
+    bytes(b"lucy: rates: node ", &mut lines)?;
+    bytes(node.name.text.bytes(), &mut lines)?;
+    bytes(b"\n", &mut lines)?;
+    walk_lines(alloc, node, needs, walk, &mut lines)?;
+    Ok(lines)
+}
+
+// A position of a clock.
+fn position_name(alloc: Global, clock: &[u8], position: u64) -> Result<Text, OutOfMemory>
+    ensures { IfOk result (λ text. text ≡ spec.position_name clock.now position) }
+{
+    let mut name = Vec::new(alloc);
+    bytes(clock, &mut name)?;
+    bytes(b"[", &mut name)?;
+    number(alloc, position, &mut name)?;
+    bytes(b"]", &mut name)?;
+    Text::new(alloc, &name)
+}
+
+// Puts the names of the first positions of a clock last.
+fn put_positions(
+    alloc: Global,
+    clock: &[u8],
+    count: u64,
+    names: &mut Vec<Text>,
+) -> Result<(), OutOfMemory>
+    requires { count < 18446744073709551615 }
+    ensures { OnOk result (names.new.items ≡ names.old.items ++ map (spec.position_name clock.now) (range_with_len 1 count)) }
+{
+    'each: for position in 1..count + 1 {
+        push(names, position_name(alloc, clock, position)?)?;
+    }
+    Ok(())
+}
+
+// The variables of inequalities by their numbers, so many of them: the origin, and the positions of the clocks.
+fn variable_names(
+    alloc: Global,
+    node: &PlacedNode,
+    clocks: u32,
+    shapes: &[ClockShape],
+    count: u32,
+) -> Result<Vec<Text>, OutOfMemory>
+    requires clocks { length shapes.now ≡ clocks }
+    requires count { count ≡ variable_count shapes.now }
+    ensures { IfOk result (λ v. v.items ≡ spec.variable_names node.now shapes.now) }
+{
+    let mut names = Vec::with_capacity(alloc, count as usize)?;
+    push(&mut names, Text::new(alloc, b"0")?)?;
+    'each: for clock in 0..clocks {
+        let shape = &shapes[clock as usize];
+        if shape.used {
+            let name = clock_name(alloc, node, clock)?;
+            put_positions(alloc, name.bytes(), shape.lead + shape.ones, &mut names)?;
+        }
+    }
+    Ok(names)
+}
+
+// Puts a constant last, behind a variable.
+fn put_most(alloc: Global, most: i64, line: &mut Vec<u8>) -> Result<(), OutOfMemory>
+    ensures { OnOk result (line.new.items ≡ line.old.items ++ spec.most_text most) }
+{
+    bytes(if most < 0 { b" - " } else { b" + " }, line)?;
+    number(alloc, most.unsigned_abs(), line)
+}
+
+// Puts the inequality last, on a line of its own.
+fn diff_line(
+    alloc: Global,
+    names: &[Text],
+    diff: &Diff,
+    lines: &mut Vec<u8>,
+) -> Result<(), OutOfMemory>
+    requires left { diff.now.left < length names.now }
+    requires right { diff.now.right < length names.now }
+    ensures { OnOk result (lines.new.items ≡ lines.old.items ++ spec.diff_line names.now diff.now) }
+{
+    bytes(b"  ", lines)?;
+    bytes(names[diff.left as usize].bytes(), lines)?;
+    bytes(b" <= ", lines)?;
+    bytes(names[diff.right as usize].bytes(), lines)?;
+    put_most(alloc, diff.most, lines)?;
+    bytes(b"\n", lines)
+}
+
+// Puts the inequalities at these positions last, each on a line of its own.
+fn cycle_lines(
+    alloc: Global,
+    names: &[Text],
+    diffs: &Diffs,
+    cycle: &[u32],
+    lines: &mut Vec<u8>,
+) -> Result<(), OutOfMemory>
+    requires names { length names.now ≡ diffs.now.count }
+    requires there { AreBelow (length diffs.now.list) cycle.now }
+    ensures { OnOk result (lines.new.items ≡ lines.old.items ++ spec.cycle_lines names.now diffs.now.list cycle.now) }
+{
+    let list = diffs.list();
+    'each: for diff in cycle {
+        diff_line(alloc, names, &list[*diff as usize], lines)?;
+    }
+    Ok(())
+}
+
+/// The lines of a node of so many clocks that has none in a shape, as this cycle of inequalities shows.
+pub(crate) fn unclocked_lines(
+    alloc: Global,
+    node: &PlacedNode,
+    clocks: u32,
+    shape: &Shape,
+    diffs: &Diffs,
+    cycle: &[u32],
+) -> Result<Vec<u8>, OutOfMemory>
+    requires clocks { length shape.now.clocks ≡ clocks }
+    requires variables { diffs.now.count ≡ variable_count shape.now.clocks }
+    requires there { AreBelow (length diffs.now.list) cycle.now }
+    ensures { IfOk result (λ v. v.items ≡ spec.unclocked_lines node.now shape.now.period shape.now.clocks diffs.now.list cycle.now) }
+{
+    let names = variable_names(alloc, node, clocks, shape.clocks.list(), diffs.count())?;
+    let mut lines = Vec::new(alloc);
+    bytes(b"lucy: clocks: node ", &mut lines)?;
+    bytes(node.name.text.bytes(), &mut lines)?;
+    bytes(b": no clocks of period ", &mut lines)?;
+    number(alloc, shape.period, &mut lines)?;
+    bytes(b"\n", &mut lines)?;
+    cycle_lines(alloc, &names, diffs, cycle, &mut lines)?;
+    Ok(lines)
+}
