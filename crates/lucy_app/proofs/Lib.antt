@@ -13,5 +13,6 @@ mod Runs
 mod RunEnds
 mod Accepting
 mod Instants
+mod Numbers
 mod Statuses
 mod Reports

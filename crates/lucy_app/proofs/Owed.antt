@@ -3,7 +3,7 @@ use Rattle.std.proofs.Common.{ℕ, ◌≡◌, List, Option, Some, None, Result, 
 use Rattle.std.specs.Prelude.{IsSomeAnd}
 use Rattle.lucy_text.specs.declared.shelf.ShelfError.{ShelfError}
 use Rattle.lucy_text.specs.declared.shelf.ShelfError.TheVariants as shelf
-use Rattle.lucy_app.specs.Commands.{Command, Order, Show, Types, Check, Run, Kahn}
+use Rattle.lucy_app.specs.Commands.{Command, Order, Show, Types, Check, Clocks, Run, Kahn, written_options}
 use Rattle.lucy_feed.specs.Sources.{Stop, Ended, Failed, Passed}
 use Rattle.lucy_app.specs.World.{Given}
 use Rattle.lucy_app.specs.Answers.{Answer, Alike, printed, program_refused, input_refused}
@@ -42,12 +42,14 @@ pub owes_one : OneRun → OneInterpretation → (command : Command) (given : Giv
 owes_one run kahn Order given a b is also = inl (order_owes_one given.taken given.stop a b is also)
 owes_one run kahn (Show file) given a b is also = fetched_owes_one IsPrintOf RefusesSyntax show_verdict given.fetched a b is also
 owes_one run kahn (Types file) given a b is also = fetched_owes_one (IsReportOf given.operators) (RefusesText given.operators) (types_verdict given.operators) given.fetched a b is also
-owes_one run kahn (Check file) given a b is also = fetched_owes_one (IsCheckOf given.operators) (RefusesCheck given.operators) (check_verdict given.operators) given.fetched a b is also
-owes_one run kahn (Run file instants) given a b is also =
-    runs_alike (λ p. OwesRun (kinds_of given.operators) p instants given.taken given.stop) (run_once run (kinds_of given.operators) instants given.taken given.stop) given.operators instants given.stop given.fetched
+owes_one run kahn (Check file) given a b is also =
+    fetched_owes_one (IsCheckOf given.operators written_options) (RefusesCheck given.operators written_options) (check_verdict given.operators written_options) given.fetched a b is also
+owes_one run kahn (Clocks file options) given a b is also = fetched_owes_one (IsCheckOf given.operators options) (RefusesCheck given.operators options) (check_verdict given.operators options) given.fetched a b is also
+owes_one run kahn (Run file options instants) given a b is also =
+    runs_alike (λ p. OwesRun (kinds_of given.operators) p instants given.taken given.stop) (run_once run (kinds_of given.operators) instants given.taken given.stop) given.operators options instants given.stop given.fetched
     a b is also
-owes_one run kahn (Kahn file instants) given a b is also =
-    runs_alike (λ p. OwesKahn (kinds_of given.operators) p instants given.taken given.stop) (kahn_once kahn (kinds_of given.operators) instants given.taken given.stop) given.operators instants given.stop
+owes_one run kahn (Kahn file options instants) given a b is also =
+    runs_alike (λ p. OwesKahn (kinds_of given.operators) p instants given.taken given.stop) (kahn_once kahn (kinds_of given.operators) instants given.taken given.stop) given.operators options instants given.stop
     given.fetched a b is also
 
 -- `show` owes one answer

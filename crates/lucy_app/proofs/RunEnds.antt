@@ -1,4 +1,5 @@
 -- How a command ends that runs a program, by what has been read.
+use Rattle.lucy_front.specs.declared.options.Options.{Options}
 use Rattle.std.proofs.Common.{ℕ, ◌≡◌, List, [], Result, Ok, Err, refl, sym, subst}
 use Rattle.std.specs.Prelude.{Option}
 use Rattle.lucy_word.specs.Limits.{limit_number}
@@ -15,26 +16,26 @@ use Rattle.lucy_app.specs.Outcomes.{IsAccepting, EndsRun, TellsEnding, TellsRefu
 use Rattle.lucy_app.specs.declared.refusal.Refusal.{Refusal}
 use Rattle.lucy_app.proofs.Runs.{ends_unrun, ends_run}
 
-module _ (Owed : List ℕ → Stop → Accepted → List ℕ → Ending → Type 0) (OwedOutput : List ℕ → Stop → Accepted → List ℕ → Type 0) (ops lends : List Operator) (instants : Option ℕ)
-    (fetched : Result (List ℕ) ShelfError) (answer : Result Accepted Refusal) (same : ops ≡ lends) (accepting : IsAccepting ops instants fetched answer) where
-  accepting_so : IsAccepting lends instants fetched answer
-  accepting_so = (let P : List Operator → Type 0 = λ u. IsAccepting u instants fetched answer in subst P same accepting)
+module _ (Owed : List ℕ → Stop → Accepted → List ℕ → Ending → Type 0) (OwedOutput : List ℕ → Stop → Accepted → List ℕ → Type 0) (ops lends : List Operator) (o : Options) (instants : Option ℕ)
+    (fetched : Result (List ℕ) ShelfError) (answer : Result Accepted Refusal) (same : ops ≡ lends) (accepting : IsAccepting ops o instants fetched answer) where
+  accepting_so : IsAccepting lends o instants fetched answer
+  accepting_so = (let P : List Operator → Type 0 = λ u. IsAccepting u o instants fetched answer in subst P same accepting)
 
   -- the program was not run
   pub unrun : (s : SeenSource) (out err err' : SeenSink) (status : ℕ) (e : Refusal) → answer ≡ Err e → TellsRefusal e err err' status →
-      (taken : List ℕ) × (stop : Stop) × Read (limit_number limit.Input) s s taken stop × EndsRun (Owed taken stop) (OwedOutput taken stop) lends instants stop fetched out out err err' status
+      (taken : List ℕ) × (stop : Stop) × Read (limit_number limit.Input) s s taken stop × EndsRun (Owed taken stop) (OwedOutput taken stop) lends o instants stop fetched out out err err' status
   unrun s out err err' status e is told =
-      let P : Result Accepted Refusal → Type 0 = λ r. IsAccepting lends instants fetched r in (
+      let P : Result Accepted Refusal → Type 0 = λ r. IsAccepting lends o instants fetched r in (
         [],
         Unread,
         record { took = sym (followed-nil s.left); stopped = (refl, refl); none_follows = still_none s.since_stop },
-        ends_unrun (Owed [] Unread) (OwedOutput [] Unread) lends instants fetched e out out err err' status (subst P is accepting_so) refl told,
+        ends_unrun (Owed [] Unread) (OwedOutput [] Unread) lends o instants fetched e out out err err' status (subst P is accepting_so) refl told,
       )
 
   -- the program was run
   pub ran : (before after : SeenSource) (out out' err err' : SeenSink) (status : ℕ) (a : Accepted) (end : Ending) → answer ≡ Ok a →
       (taken : List ℕ) × (stop : Stop) × Read (limit_number limit.Input) before after taken stop × EndsWith (Owed taken stop a) (OwedOutput taken stop a) out out' end → TellsEnding end err err' status →
-      (taken : List ℕ) × (stop : Stop) × Read (limit_number limit.Input) before after taken stop × EndsRun (Owed taken stop) (OwedOutput taken stop) lends instants stop fetched out out' err err' status
+      (taken : List ℕ) × (stop : Stop) × Read (limit_number limit.Input) before after taken stop × EndsRun (Owed taken stop) (OwedOutput taken stop) lends o instants stop fetched out out' err err' status
   ran before after out out' err err' status a end is (taken, stop, read, left) told =
-      let P : Result Accepted Refusal → Type 0 = λ r. IsAccepting lends instants fetched r in
-      (taken, stop, read, ends_run (Owed taken stop) (OwedOutput taken stop) lends instants fetched stop a (subst P is accepting_so) end out out' err err' status left told)
+      let P : Result Accepted Refusal → Type 0 = λ r. IsAccepting lends o instants fetched r in
+      (taken, stop, read, ends_run (Owed taken stop) (OwedOutput taken stop) lends o instants fetched stop a (subst P is accepting_so) end out out' err err' status left told)

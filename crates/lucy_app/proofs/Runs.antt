@@ -1,4 +1,5 @@
 -- How a command ends that runs a program.
+use Rattle.lucy_front.specs.declared.options.Options.{Options}
 use Rattle.std.proofs.Common.{ℕ, ◌≡◌, ◌⊎◌, List, [], length, take, Option, Result, Ok, Err, refl, ap, sym, subst, inl, inr, arith}
 use Rattle.std.specs.Prelude.{IsOkAnd}
 use Rattle.std.proofs.lemmas.List.{take_all}
@@ -23,39 +24,39 @@ ok_more : {T E : Type 0} (r : Result T E) (P Q : T → Type 0) → ((x : T) → 
 ok_more (Ok x) P Q more h = more x h
 ok_more (Err e) P Q more h = h
 
-module _ (Owed : Accepted → List ℕ → Ending → Type 0) (OwedOutput : Accepted → List ℕ → Type 0) (ops : List Operator) (instants : Option ℕ) (fetched : Result (List ℕ) ShelfError) where
+module _ (Owed : Accepted → List ℕ → Ending → Type 0) (OwedOutput : Accepted → List ℕ → Type 0) (ops : List Operator) (o : Options) (instants : Option ℕ) (fetched : Result (List ℕ) ShelfError) where
   -- the program is not run, and why was told
-  pub ends_unrun : (e : Refusal) (out out' err err' : SeenSink) (status : ℕ) → (e ≡ refusal.OutOfMemory) ⊎ OwesRefusal ops instants fetched (refusal_answer e) → out' ≡ out →
-      TellsRefusal e err err' status → EndsRun Owed OwedOutput ops instants Unread fetched out out' err err' status
+  pub ends_unrun : (e : Refusal) (out out' err err' : SeenSink) (status : ℕ) → (e ≡ refusal.OutOfMemory) ⊎ OwesRefusal ops o instants fetched (refusal_answer e) → out' ≡ out →
+      TellsRefusal e err err' status → EndsRun Owed OwedOutput ops o instants Unread fetched out out' err err' status
   ends_unrun e out out' err err' status (inl is) same told = ends_refused _ _ e out out' err err' status (inl is) same told
   ends_unrun e out out' err err' status (inr owed) same told = ends_refused _ _ e out out' err err' status (inr (inl (owed, refl))) same told
 
-  module _ (stop : Stop) (a : Accepted) (runnable : IsOkAnd fetched (λ text. IsRunnable ops instants text a)) where
-    answer_owed : (output : List ℕ) (end : Ending) → Owed a output end → OwesRunning Owed ops instants stop fetched (ended output end)
+  module _ (stop : Stop) (a : Accepted) (runnable : IsOkAnd fetched (λ text. IsRunnable ops o instants text a)) where
+    answer_owed : (output : List ℕ) (end : Ending) → Owed a output end → OwesRunning Owed ops o instants stop fetched (ended output end)
     answer_owed output end owed = inr (ok_more fetched _ _ (λ text is. (a, is, output, end, owed, refl)) runnable)
 
-    output_owed : (output : List ℕ) → OwedOutput a output → OwesRunningOutput OwedOutput ops instants fetched output
+    output_owed : (output : List ℕ) → OwedOutput a output → OwesRunningOutput OwedOutput ops o instants fetched output
     output_owed output owed = ok_more fetched _ _ (λ text is. (a, is, owed)) runnable
 
     front_owed : (front : List ℕ) → IsFrontOf (OwedOutput a) front →
-        IsFrontOf (λ output. ((answer : Answer) × OwesRunning Owed ops instants stop fetched answer × (output ≡ answer.out)) ⊎ OwesRunningOutput OwedOutput ops instants fetched output) front
+        IsFrontOf (λ output. ((answer : Answer) × OwesRunning Owed ops o instants stop fetched answer × (output ≡ answer.out)) ⊎ OwesRunningOutput OwedOutput ops o instants fetched output) front
     front_owed front (inl none) = inl none
     front_owed front (inr is) = inr (is.0, is.1, inr (output_owed is.0 is.2), is.3)
 
     -- the output stands, and its ending was told
     whole : (output : List ℕ) (end : Ending) (out out' err err' : SeenSink) (status : ℕ) → Owed a output end → Writes out out' output → Tells (ended output end).status (ended output end).err err err' status →
-        EndsRun Owed OwedOutput ops instants stop fetched out out' err err' status
+        EndsRun Owed OwedOutput ops o instants stop fetched out out' err err' status
     whole output end out out' err err' status owed writes told = inl (ended output end, inl (answer_owed output end owed), record { printed = writes; told = told })
 
     -- or there was no memory for that
     untold : (output : List ℕ) (end : Ending) (out out' err err' : SeenSink) (status : ℕ) → Owed a output end → Writes out out' output → Tells 7 (out_of_memory output).err err err' status →
-        EndsRun Owed OwedOutput ops instants stop fetched out out' err err' status
+        EndsRun Owed OwedOutput ops o instants stop fetched out out' err err' status
     untold output end out out' err err' status owed writes told =
         inl (out_of_memory output, inr (output, inr (output, length output, inl (ended output end, answer_owed output end owed, refl), sym (take_all (length output) output (omega arith))), refl), record { printed = writes; told = told })
 
     -- the program is run, and how that ended was told
     pub ends_run : (end : Ending) (out out' err err' : SeenSink) (status : ℕ) → EndsWith (Owed a) (OwedOutput a) out out' end → TellsEnding end err err' status →
-        EndsRun Owed OwedOutput ops instants stop fetched out out' err err' status
+        EndsRun Owed OwedOutput ops o instants stop fetched out out' err err' status
     ends_run Done out out' err err' status left told = whole left.0 Done out out' err err' status left.1 left.2 told
     ends_run (Input fault) out out' err err' status left (inl told) = whole left.0 (Input fault) out out' err err' status left.1 left.2 told
     ends_run (Input fault) out out' err err' status left (inr told) = untold left.0 (Input fault) out out' err err' status left.1 left.2 told

@@ -1,4 +1,5 @@
 -- What a command owes that runs a program is one answer, but for the evidence of a refusal.
+use Rattle.lucy_front.specs.declared.options.Options.{Options}
 use Rattle.std.proofs.Common.{ℕ, ◌≡◌, ◌⊎◌, List, [], Option, Some, None, Result, Ok, Err, refl, ap, sym, ◌∙◌, subst, inl, inr}
 use Rattle.std.specs.Prelude.{IsOkAnd, IsSomeAnd, ◌++◌, codes}
 use Rattle.lucy_host.specs.Operators.{Operator}
@@ -35,9 +36,9 @@ pub record AreSame (a b : Accepted) : Type 0 where
   pub inputs : a.inputs.items ≡ b.inputs.items
   pub outputs : a.outputs.items ≡ b.outputs.items
 
-pub accepted_same : (ops : List Operator) (text : List ℕ) (a b : Accepted) → IsAccepted ops text a → IsAccepted ops text b → AreSame a b
-accepted_same ops text a b is also =
-    let same = one_program ops text a.placed b.placed a.typed b.typed a.clocks.items b.clocks.items is.clocked also.clocked in
+pub accepted_same : (ops : List Operator) (o : Options) (text : List ℕ) (a b : Accepted) → IsAccepted ops o text a → IsAccepted ops o text b → AreSame a b
+accepted_same ops o text a b is also =
+    let same = one_program ops o text a.placed b.placed a.typed b.typed a.clocks.items b.clocks.items is.clocked also.clocked in
     record {
       nodes = ap (λ p. p.nodes) same.0;
       typed = same.1;
@@ -85,44 +86,44 @@ module _ (kinds : List HostKind) (a b : Accepted) (same : AreSame a b) (instants
 abbrev pub OwesOnce : (Owed : Accepted → List ℕ → Ending → Type 0) → Type 0
 OwesOnce Owed = (a b : Accepted) (output other : List ℕ) (end way : Ending) → AreSame a b → Owed a output end → Owed b other way → (output ≡ other) × (end ≡ way)
 
-no_print : (ops : List Operator) → IsVerdict NoPrint (RefusesCheck ops)
-no_print ops = record {
+no_print : (ops : List Operator) (o : Options) → IsVerdict NoPrint (RefusesCheck ops o)
+no_print ops o = record {
   one = λ text x y is also. absurd is;
   apart = λ text x r is bad. is;
-  same = λ text r s h k. checks_alike ops text r s h k;
+  same = λ text r s h k. checks_alike ops o text r s h k;
 }
 
-module _ (Owed : Accepted → List ℕ → Ending → Type 0) (once : OwesOnce Owed) (ops : List Operator) (instants : Option ℕ) (stop : Stop) where
+module _ (Owed : Accepted → List ℕ → Ending → Type 0) (once : OwesOnce Owed) (ops : List Operator) (o : Options) (instants : Option ℕ) (stop : Stop) where
   -- a text that is accepted is not refused
-  accepted_unrefused : (text : List ℕ) (a : Accepted) (x : Answer) → IsAccepted ops text a → (LacksInstants a instants → ⊥) → OwesRefusal ops instants (Ok text) x → ⊥
+  accepted_unrefused : (text : List ℕ) (a : Accepted) (x : Answer) → IsAccepted ops o text a → (LacksInstants a instants → ⊥) → OwesRefusal ops o instants (Ok text) x → ⊥
   accepted_unrefused text a x is given (inl (inl none)) = none.1
-  accepted_unrefused text a x is given (inl (inr refused)) = checks_apart ops text a refused.0 is refused.1
+  accepted_unrefused text a x is given (inl (inr refused)) = checks_apart ops o text a refused.0 is refused.1
   accepted_unrefused text a x is given (inr lacks) =
-      let same : AreSame lacks.0 a = accepted_same ops text lacks.0 a lacks.1 is in
+      let same : AreSame lacks.0 a = accepted_same ops o text lacks.0 a lacks.1 is in
       given (sym same.inputs ∙ lacks.2.0, lacks.2.1)
 
-  refusals_alike : (fetched : Result (List ℕ) ShelfError) (x y : Answer) → OwesRefusal ops instants fetched x → OwesRefusal ops instants fetched y → Alike x y
-  refusals_alike fetched x y (inl h) (inl k) = program_owes_one NoPrint (RefusesCheck ops) (no_print ops) fetched x y h k
+  refusals_alike : (fetched : Result (List ℕ) ShelfError) (x y : Answer) → OwesRefusal ops o instants fetched x → OwesRefusal ops o instants fetched y → Alike x y
+  refusals_alike fetched x y (inl h) (inl k) = program_owes_one NoPrint (RefusesCheck ops o) (no_print ops o) fetched x y h k
   refusals_alike (Ok text) x y (inl (inl h)) (inr k) = absurd h.1
-  refusals_alike (Ok text) x y (inl (inr h)) (inr k) = absurd (checks_apart ops text k.0 h.0 k.1 h.1)
+  refusals_alike (Ok text) x y (inl (inr h)) (inr k) = absurd (checks_apart ops o text k.0 h.0 k.1 h.1)
   refusals_alike (Ok text) x y (inr h) (inl (inl k)) = absurd k.1
-  refusals_alike (Ok text) x y (inr h) (inl (inr k)) = absurd (checks_apart ops text h.0 k.0 h.1 k.1)
+  refusals_alike (Ok text) x y (inr h) (inl (inr k)) = absurd (checks_apart ops o text h.0 k.0 h.1 k.1)
   refusals_alike (Ok text) x y (inr h) (inr k) = inl (h.3 ∙ sym k.3)
   refusals_alike (Err e) x y (inl h) (inr k) = absurd k
   refusals_alike (Err e) x y (inr h) k = absurd h
 
-  running_alike : (fetched : Result (List ℕ) ShelfError) (x y : Answer) → OwesRunning Owed ops instants stop fetched x → OwesRunning Owed ops instants stop fetched y → Alike x y
+  running_alike : (fetched : Result (List ℕ) ShelfError) (x y : Answer) → OwesRunning Owed ops o instants stop fetched x → OwesRunning Owed ops o instants stop fetched y → Alike x y
   running_alike fetched x y (inl h) (inl k) = refusals_alike fetched x y h.0 k.0
   running_alike (Ok text) x y (inl h) (inr k) = absurd (accepted_unrefused text k.0 x k.1.0 k.1.1 h.0)
   running_alike (Ok text) x y (inr h) (inl k) = absurd (accepted_unrefused text h.0 y h.1.0 h.1.1 k.0)
   running_alike (Ok text) x y (inr h) (inr k) =
-      let one = once h.0 k.0 h.2 k.2 h.3 k.3 (accepted_same ops text h.0 k.0 h.1.0 k.1.0) h.4 k.4 in
+      let one = once h.0 k.0 h.2 k.2 h.3 k.3 (accepted_same ops o text h.0 k.0 h.1.0 k.1.0) h.4 k.4 in
       inl (h.5 ∙ ap (λ o. ended o h.3) one.0 ∙ ap (ended k.2) one.1 ∙ sym k.5)
   running_alike (Err e) x y (inl h) (inr k) = absurd k
   running_alike (Err e) x y (inr h) k = absurd h
 
-  pub runs_alike : (fetched : Option (Result (List ℕ) ShelfError)) (x y : Answer) → IsSomeAnd fetched (λ r. OwesRunning Owed ops instants stop r x) →
-      IsSomeAnd fetched (λ r. OwesRunning Owed ops instants stop r y) → Alike x y
+  pub runs_alike : (fetched : Option (Result (List ℕ) ShelfError)) (x y : Answer) → IsSomeAnd fetched (λ r. OwesRunning Owed ops o instants stop r x) →
+      IsSomeAnd fetched (λ r. OwesRunning Owed ops o instants stop r y) → Alike x y
   runs_alike None x y h k = absurd h
   runs_alike (Some fetched) x y h k = running_alike fetched x y h k
 

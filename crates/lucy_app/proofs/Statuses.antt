@@ -1,9 +1,10 @@
 -- Every status is at most 7.
+use Rattle.lucy_front.specs.declared.options.Options.{Options}
 use Rattle.std.proofs.Common.{ℕ, ◌≤◌, ◌≡◌, List, Option, Some, None, Result, Ok, Err, inl, inr, ap, arith}
 use Rattle.std.specs.Prelude.{IsSomeAnd}
 use Rattle.lucy_text.specs.declared.shelf.ShelfError.{ShelfError}
 use Rattle.lucy_text.specs.declared.shelf.ShelfError.TheVariants as shelf
-use Rattle.lucy_app.specs.Commands.{Command, Order, Show, Types, Check, Run, Kahn}
+use Rattle.lucy_app.specs.Commands.{Command, Order, Show, Types, Check, Clocks, Run, Kahn, written_options}
 use Rattle.lucy_feed.specs.Sources.{Stop, Ended, Failed, Passed}
 use Rattle.lucy_output.specs.Sinks.{SeenSink}
 use Rattle.lucy_app.specs.World.{World, Given}
@@ -76,26 +77,27 @@ ending_within (ending.Limit passed) = omega arith
 ending_within ending.WriteFault = omega arith
 ending_within ending.OutOfMemory = omega arith
 
-running_within : (Owed : Accepted → List ℕ → Ending → Type 0) (ops : List Operator) (instants : Option ℕ) (stop : Stop) (fetched : Result (List ℕ) ShelfError) (a : Answer) →
-    OwesRunning Owed ops instants stop fetched a → a.status ≤ 7
-running_within Owed ops instants stop fetched a (inl (inl is, read)) = file_within NoPrint (RefusesCheck ops) fetched a is
-running_within Owed ops instants stop (Ok text) a (inl (inr is, read)) = same_within a _ is.3 (omega arith)
-running_within Owed ops instants stop (Err e) a (inl (inr is, read)) = absurd is
-running_within Owed ops instants stop (Ok text) a (inr is) = same_within a _ is.5 (ending_within is.3)
-running_within Owed ops instants stop (Err e) a (inr is) = absurd is
+running_within : (Owed : Accepted → List ℕ → Ending → Type 0) (ops : List Operator) (o : Options) (instants : Option ℕ) (stop : Stop) (fetched : Result (List ℕ) ShelfError) (a : Answer) →
+    OwesRunning Owed ops o instants stop fetched a → a.status ≤ 7
+running_within Owed ops o instants stop fetched a (inl (inl is, read)) = file_within NoPrint (RefusesCheck ops o) fetched a is
+running_within Owed ops o instants stop (Ok text) a (inl (inr is, read)) = same_within a _ is.3 (omega arith)
+running_within Owed ops o instants stop (Err e) a (inl (inr is, read)) = absurd is
+running_within Owed ops o instants stop (Ok text) a (inr is) = same_within a _ is.5 (ending_within is.3)
+running_within Owed ops o instants stop (Err e) a (inr is) = absurd is
 
-run_within : (Owed : Accepted → List ℕ → Ending → Type 0) (ops : List Operator) (instants : Option ℕ) (stop : Stop) (fetched : Option (Result (List ℕ) ShelfError)) (a : Answer) →
-    IsSomeAnd fetched (λ r. OwesRunning Owed ops instants stop r a) → a.status ≤ 7
-run_within Owed ops instants stop None a is = absurd is
-run_within Owed ops instants stop (Some fetched) a is = running_within Owed ops instants stop fetched a is
+run_within : (Owed : Accepted → List ℕ → Ending → Type 0) (ops : List Operator) (o : Options) (instants : Option ℕ) (stop : Stop) (fetched : Option (Result (List ℕ) ShelfError)) (a : Answer) →
+    IsSomeAnd fetched (λ r. OwesRunning Owed ops o instants stop r a) → a.status ≤ 7
+run_within Owed ops o instants stop None a is = absurd is
+run_within Owed ops o instants stop (Some fetched) a is = running_within Owed ops o instants stop fetched a is
 
 owed_within : (command : Command) (given : Given) (a : Answer) → Owes command given a → a.status ≤ 7
 owed_within Order given a is = order_within given.taken given.stop a is
 owed_within (Show file) given a is = fetched_within IsPrintOf RefusesSyntax given.fetched a is
 owed_within (Types file) given a is = fetched_within (IsReportOf given.operators) (RefusesText given.operators) given.fetched a is
-owed_within (Check file) given a is = fetched_within (IsCheckOf given.operators) (RefusesCheck given.operators) given.fetched a is
-owed_within (Run file instants) given a is = run_within (λ p. OwesRun (kinds_of given.operators) p instants given.taken given.stop) given.operators instants given.stop given.fetched a is
-owed_within (Kahn file instants) given a is = run_within (λ p. OwesKahn (kinds_of given.operators) p instants given.taken given.stop) given.operators instants given.stop given.fetched a is
+owed_within (Check file) given a is = fetched_within (IsCheckOf given.operators written_options) (RefusesCheck given.operators written_options) given.fetched a is
+owed_within (Clocks file options) given a is = fetched_within (IsCheckOf given.operators options) (RefusesCheck given.operators options) given.fetched a is
+owed_within (Run file options instants) given a is = run_within (λ p. OwesRun (kinds_of given.operators) p instants given.taken given.stop) given.operators options instants given.stop given.fetched a is
+owed_within (Kahn file options instants) given a is = run_within (λ p. OwesKahn (kinds_of given.operators) p instants given.taken given.stop) given.operators options instants given.stop given.fetched a is
 
 answer_within : (command : Command) (given : Given) (a : Answer) → MayAnswer (Owes command given) (OwesOutput command given) a → a.status ≤ 7
 answer_within command given a (inl is) = owed_within command given a is

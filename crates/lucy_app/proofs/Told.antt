@@ -1,4 +1,5 @@
 -- A refusal by a phase is told as a refusal of the program.
+use Rattle.lucy_front.specs.declared.options.Options.{Options}
 use Rattle.std.proofs.Common.{ℕ, ◌≡◌, ◌⊎◌, List, refl, ap, sym, subst, inl, inr}
 use Rattle.lucy_text.specs.declared.shelf.ShelfError.{ShelfError}
 use Rattle.lucy_text.specs.declared.shelf.ShelfError.TheVariants as shelf
@@ -16,6 +17,7 @@ use Rattle.lucy_front.specs.declared.refusal.Refusal.TheVariants as front
 use Rattle.lucy_front.specs.Accepting.{Refuses, syntax_refusal, names_refusal}
 use Rattle.lucy_front.specs.Refusals.{IsTellable}
 use Rattle.lucy_front.proofs.TellableLaws.{tellable}
+use Rattle.lucy_app.specs.Commands.{written_options}
 use Rattle.lucy_app.specs.Show.{RefusesSyntax}
 use Rattle.lucy_app.specs.Types.{RefusesText}
 use Rattle.lucy_app.specs.Check.{RefusesCheck}
@@ -54,15 +56,17 @@ names_told ops text p (names.TooMany l) tree (inr is) = inr (_, inr (p, tree, is
 names_told ops text p names.OutOfMemory tree (inr is) = inl refl
 
 -- a refusal of acceptance
-pub check_told : (ops : List Operator) (text : List ℕ) (r : Reason) → Refuses ops text r → RefusesProgram (RefusesCheck ops text) (program_refusal r)
-check_told ops text (front.Syntax e) h = inr (_, (h, λ is. cc is), refl)
-check_told ops text (front.Names e) h = inr (_, (h, λ is. cc is), refl)
-check_told ops text (front.Types placed clash) h = inr (_, (h, λ is. cc is), refl)
-check_told ops text (front.NotWritten placed node span) h = inr (_, (h, λ is. cc is), refl)
-check_told ops text (front.Check placed node needs e) h = inr (_, (h, λ is. cc is), refl)
-check_told ops text (front.Cause net names instant items) h = inr (_, (h, λ is. cc is), refl)
-check_told ops text (front.Limit l) h = inr (_, (h, λ is. cc is), refl)
-check_told ops text front.OutOfMemory h = inl refl
+pub check_told : (ops : List Operator) (o : Options) (text : List ℕ) (r : Reason) → Refuses ops o text r → RefusesProgram (RefusesCheck ops o text) (program_refusal r)
+check_told ops o text (front.Syntax e) h = inr (_, (h, λ is. cc is), refl)
+check_told ops o text (front.Names e) h = inr (_, (h, λ is. cc is), refl)
+check_told ops o text (front.Types placed clash) h = inr (_, (h, λ is. cc is), refl)
+check_told ops o text (front.NotWritten placed node span) h = inr (_, (h, λ is. cc is), refl)
+check_told ops o text (front.Rates placed node needs walk) h = inr (_, (h, λ is. cc is), refl)
+check_told ops o text (front.Clocks placed node needs shape diffs cycle) h = inr (_, (h, λ is. cc is), refl)
+check_told ops o text (front.Check placed node needs e) h = inr (_, (h, λ is. cc is), refl)
+check_told ops o text (front.Cause net names instant items) h = inr (_, (h, λ is. cc is), refl)
+check_told ops o text (front.Limit l) h = inr (_, (h, λ is. cc is), refl)
+check_told ops o text front.OutOfMemory h = inl refl
 
 -- what is told has a text
 program_tellable : (Refuses : Reason → Type 0) (e : Refusal) → ((r : Reason) → Refuses r → IsTellable r) → RefusesProgram Refuses e → Tellable e
@@ -78,10 +82,10 @@ pub show_tellable : (text : List ℕ) (e : Refusal) → RefusesProgram (RefusesS
 show_tellable text e h = program_tellable (RefusesSyntax text) e (show_tells text) h
 
 pub types_tellable : (ops : List Operator) (text : List ℕ) (e : Refusal) → RefusesProgram (RefusesText ops text) e → Tellable e
-types_tellable ops text e h = program_tellable (RefusesText ops text) e (λ r is. tellable ops text r (inl (text_phases ops text r is))) h
+types_tellable ops text e h = program_tellable (RefusesText ops text) e (λ r is. tellable ops written_options text r (inl (text_phases ops text r is))) h
 
-pub check_tellable : (ops : List Operator) (text : List ℕ) (e : Refusal) → RefusesProgram (RefusesCheck ops text) e → Tellable e
-check_tellable ops text e h = program_tellable (RefusesCheck ops text) e (λ r is. tellable ops text r is.0) h
+pub check_tellable : (ops : List Operator) (o : Options) (text : List ℕ) (e : Refusal) → RefusesProgram (RefusesCheck ops o text) e → Tellable e
+check_tellable ops o text e h = program_tellable (RefusesCheck ops o text) e (λ r is. tellable ops o text r is.0) h
 
 pub fetch_tellable : (e : ShelfError) → Tellable (fetch_refusal e)
 fetch_tellable shelf.Failed = tt

@@ -20,6 +20,7 @@ use Rattle.lucy_types.proofs.ProgramLaws.{typed_unique, clash_untyped}
 use Rattle.lucy_front.specs.declared.refusal.Refusal.{Refusal}
 use Rattle.lucy_front.specs.declared.refusal.Refusal.TheVariants.{Syntax, Names, Types, Limit as LimitPassed}
 use Rattle.lucy_front.specs.Accepting.{IsPlacedText, TellsClash, RefusesPhases}
+use Rattle.lucy_app.specs.Commands.{written_options}
 use Rattle.lucy_app.specs.Report.{report}
 use Rattle.lucy_app.specs.Types.{IsReportOf, RefusesText}
 use Rattle.lucy_app.proofs.Verdicts.{IsVerdict, phases_alike}
@@ -58,7 +59,7 @@ module _ (ops : List Operator) (text : List ℕ) where
   report_apart x (LimitPassed l) is (inr bad) = good_names is.0 bad.0 (names.TooMany l) is.2.program bad.1 bad.2
   report_apart x r is bad = absurd bad
 
-  pub text_phases : (r : Refusal) → RefusesText ops text r → RefusesPhases ops text r
+  pub text_phases : (r : Refusal) → RefusesText ops text r → RefusesPhases ops written_options text r
   text_phases (Syntax e) h = h
   text_phases (Names e) h = h
   text_phases (Types placed clash) h = h

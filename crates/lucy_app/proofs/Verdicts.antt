@@ -11,6 +11,7 @@ use Rattle.lucy_front.specs.declared.refusal.Refusal.TheVariants.{Syntax, Limit 
 use Rattle.lucy_front.specs.Accepting.{RefusesPhases}
 use Rattle.lucy_front.specs.OneAnswer.{AreAlike}
 use Rattle.lucy_front.proofs.OneAnswer.{one_refusal}
+use Rattle.lucy_app.specs.Commands.{written_options}
 use Rattle.lucy_app.specs.Show.{IsPrintOf, RefusesSyntax}
 
 -- a text has one print, or none and refusals that are alike
@@ -20,16 +21,16 @@ pub record IsVerdict (Prints : List ℕ → List ℕ → Type 0) (Refuses : List
   pub same : (text : List ℕ) (refusal other : Refusal) → Refuses text refusal → Refuses text other → AreAlike refusal other
 
 -- refusals by phases, none of them for want of memory, are alike
-pub phases_alike : (ops : List Operator) (Refuses : List ℕ → Refusal → Type 0) (text : List ℕ) (r s : Refusal) → ((x : Refusal) → Refuses text x → RefusesPhases ops text x) → (Refuses text OutOfMemory → ⊥) →
+pub phases_alike : (ops : List Operator) (Refuses : List ℕ → Refusal → Type 0) (text : List ℕ) (r s : Refusal) → ((x : Refusal) → Refuses text x → RefusesPhases ops written_options text x) → (Refuses text OutOfMemory → ⊥) →
     Refuses text r → Refuses text s → AreAlike r s
 phases_alike ops Refuses text r s phases some h k =
-    elim (one_refusal ops text r s (phases r h) (phases s k)) [
+    elim (one_refusal ops written_options text r s (phases r h) (phases s k)) [
       | inl e ↦ absurd (some (subst (Refuses text) e h))
       | inr (inl e) ↦ absurd (some (subst (Refuses text) e k))
       | inr (inr alike) ↦ alike
     ]
 
-syntax_phases : (text : List ℕ) (r : Refusal) → RefusesSyntax text r → RefusesPhases [] text r
+syntax_phases : (text : List ℕ) (r : Refusal) → RefusesSyntax text r → RefusesPhases [] written_options text r
 syntax_phases text (Syntax e) h = h
 syntax_phases text (LimitPassed l) h = inl h
 syntax_phases text r h = absurd h

@@ -1,10 +1,13 @@
 -- The commands, and which of them a list of words names.
-use Rattle.std.specs.Prelude.{ℕ, ◌≤◌, Bool, false, true, not, ◌==◌, ◌&&◌, nat_le, List, [], ◌∷◌, length, Option, Some, None, IfSome, codes, if◌then◌else◌}
-use Rattle.std.specs.Option.{option_map}
+use Rattle.std.specs.Prelude.{ℕ, ◌≤◌, Bool, false, true, not, ◌==◌, ◌&&◌, nat_le, List, [], ◌∷◌, length, Option, Some, None, codes, if◌then◌else◌}
+use Rattle.std.specs.Option.{option_map, option_and_then}
 use Rattle.std.specs.Str.{bytes_eq, all_ascii_digits}
 use Rattle.std.specs.Str.Parse.{digits_value}
 use Rattle.lucy_word.specs.Limits.{limit_number}
 use Rattle.lucy_word.specs.declared.limit.Limit.TheVariants as limit
+use Rattle.lucy_front.specs.declared.options.Options.{Options}
+use Rattle.lucy_front.specs.Inferring.{most_scale}
+use Rattle.lucy_app.specs.declared.words.Numbers.{Numbers}
 
 -- a command, with what it works on
 pub data Command : Type 0 where
@@ -12,8 +15,21 @@ pub data Command : Type 0 where
   Show : (file : List ℕ) → Command
   Types : (file : List ℕ) → Command
   Check : (file : List ℕ) → Command
-  Run : (file : List ℕ) (instants : Option ℕ) → Command
-  Kahn : (file : List ℕ) (instants : Option ℕ) → Command
+  Clocks : (file : List ℕ) (options : Options) → Command
+  Run : (file : List ℕ) (options : Options) (instants : Option ℕ) → Command
+  Kahn : (file : List ℕ) (options : Options) (instants : Option ℕ) → Command
+
+-- each node has to be written
+abbrev pub written_options : Options
+written_options = record { scale = 1; lead = 1; written_only = true }
+
+-- the clocks of the others are inferred with this scale and this lead, 1 where none is given
+abbrev pub or_one : Option ℕ → ℕ
+or_one None = 1
+or_one (Some n) = n
+
+abbrev pub inferring_options : (scale lead : Option ℕ) → Options
+inferring_options scale lead = record { scale = or_one scale; lead = or_one lead; written_only = false }
 
 -- a FILE is not empty, and `-` begins it only where it is all of it
 abbrev pub is_file : List ℕ → Bool
@@ -27,25 +43,46 @@ only_file [] = None
 only_file (file ∷ []) = if is_file file then Some file else None
 only_file (file ∷ (other ∷ more)) = None
 
--- a number of instants: one to seven digits, within the limit
-abbrev pub is_instants : List ℕ → Bool
-is_instants [] = false
-is_instants (digit ∷ more) = nat_le (length (digit ∷ more)) 7 && (all_ascii_digits (digit ∷ more) && nat_le (digits_value 10 (digit ∷ more)) (limit_number limit.Instants))
+-- a number: one to seven digits, between these
+abbrev pub is_number : (least most : ℕ) → List ℕ → Bool
+is_number least most [] = false
+is_number least most (digit ∷ more) =
+    nat_le (length (digit ∷ more)) 7 && (all_ascii_digits (digit ∷ more) && (nat_le least (digits_value 10 (digit ∷ more)) && nat_le (digits_value 10 (digit ∷ more)) most))
 
-abbrev pub instants_of : List ℕ → Option ℕ
-instants_of word = if is_instants word then Some (digits_value 10 word) else None
+abbrev pub number_of : (least most : ℕ) → (word : List ℕ) → Option ℕ
+number_of least most word = if is_number least most word then Some (digits_value 10 word) else None
 
--- the instants that are given behind FILE, if any, where nothing else stands there
-abbrev pub given_instants : (behind : List (List ℕ)) → Option (Option ℕ)
-given_instants [] = Some None
-given_instants (option ∷ []) = None
-given_instants (option ∷ (number ∷ [])) = if bytes_eq option (codes "--instants") then option_map Some (instants_of number) else None
-given_instants (option ∷ (number ∷ (other ∷ more))) = None
+-- no option has stood yet
+abbrev pub no_numbers : Numbers
+no_numbers = record { scale = None; lead = None; instants = None }
 
--- the FILE and the instants behind a command's name, where they fit it
-abbrev pub file_and_instants : (behind : List (List ℕ)) → Option (List ℕ × Option ℕ)
-file_and_instants [] = None
-file_and_instants (file ∷ more) = if is_file file then option_map (λ instants. (file, instants)) (given_instants more) else None
+-- the number of an option that stands there, which it may once
+abbrev pub once : (before found : Option ℕ) → Option ℕ
+once None found = found
+once (Some n) found = None
+
+-- the numbers of the options, with that of one that stands there: it is one of the command, and has not stood before
+abbrev pub with_number : (runs : Bool) (option word : List ℕ) → Numbers → Option Numbers
+with_number runs option word n =
+    if bytes_eq option (codes "--scale") then option_map (λ found. record n { scale = Some found }) (once n.scale (number_of 1 most_scale word))
+    else (if bytes_eq option (codes "--lead") then option_map (λ found. record n { lead = Some found }) (once n.lead (number_of 1 most_scale word))
+    else (if runs && bytes_eq option (codes "--instants") then option_map (λ found. record n { instants = Some found }) (once n.instants (number_of 0 (limit_number limit.Instants) word))
+    else None))
+
+-- the numbers of options in any order, each as two words, behind those that have stood
+abbrev pub numbers_in : (runs : Bool) (behind : List (List ℕ)) → Numbers → Option Numbers
+numbers_in runs [] n = Some n
+numbers_in runs (option ∷ []) n = None
+numbers_in runs (option ∷ (word ∷ more)) n = option_and_then (numbers_in runs more) (with_number runs option word n)
+
+-- FILE, and the numbers of the options behind it; a command that runs a program may have instants too
+abbrev pub file_and_numbers : (runs : Bool) (behind : List (List ℕ)) → Option (List ℕ × Numbers)
+file_and_numbers runs [] = None
+file_and_numbers runs (file ∷ more) = if is_file file then option_map (λ n. (file, n)) (numbers_in runs more no_numbers) else None
+
+-- how clocks are inferred with these
+abbrev pub options_of : Numbers → Options
+options_of n = inferring_options n.scale n.lead
 
 -- the command, where nothing stands behind its name
 abbrev pub alone : Command → (behind : List (List ℕ)) → Option Command
@@ -59,8 +96,9 @@ command_named name behind =
     else (if bytes_eq name (codes "show") then option_map Show (only_file behind)
     else (if bytes_eq name (codes "types") then option_map Types (only_file behind)
     else (if bytes_eq name (codes "check") then option_map Check (only_file behind)
-    else (if bytes_eq name (codes "run") then option_map (λ found. Run found.0 found.1) (file_and_instants behind)
-    else (if bytes_eq name (codes "kahn") then option_map (λ found. Kahn found.0 found.1) (file_and_instants behind) else None)))))
+    else (if bytes_eq name (codes "clocks") then option_map (λ found. Clocks found.0 (options_of found.1)) (file_and_numbers false behind)
+    else (if bytes_eq name (codes "run") then option_map (λ found. Run found.0 (options_of found.1) found.1.instants) (file_and_numbers true behind)
+    else (if bytes_eq name (codes "kahn") then option_map (λ found. Kahn found.0 (options_of found.1) found.1.instants) (file_and_numbers true behind) else None))))))
 
 -- the command that the words name, where they name one
 abbrev pub command_of : (words : List (List ℕ)) → Option Command
@@ -74,8 +112,9 @@ file_of (Some Order) = None
 file_of (Some (Show file)) = Some file
 file_of (Some (Types file)) = Some file
 file_of (Some (Check file)) = Some file
-file_of (Some (Run file instants)) = Some file
-file_of (Some (Kahn file instants)) = Some file
+file_of (Some (Clocks file options)) = Some file
+file_of (Some (Run file options instants)) = Some file
+file_of (Some (Kahn file options instants)) = Some file
 
 -- how many bytes may be taken from the source, and one more, where the words name a command that may read it
 abbrev pub input_of : Option Command → Option ℕ
@@ -84,5 +123,6 @@ input_of (Some Order) = Some (limit_number limit.OrderInput)
 input_of (Some (Show file)) = None
 input_of (Some (Types file)) = None
 input_of (Some (Check file)) = None
-input_of (Some (Run file instants)) = Some (limit_number limit.Input)
-input_of (Some (Kahn file instants)) = Some (limit_number limit.Input)
+input_of (Some (Clocks file options)) = None
+input_of (Some (Run file options instants)) = Some (limit_number limit.Input)
+input_of (Some (Kahn file options instants)) = Some (limit_number limit.Input)

@@ -7,6 +7,8 @@ use Rattle.lucy_text.specs.declared.shelf.ShelfError.{ShelfError}
 use Rattle.lucy_text.specs.declared.shelf.ShelfError.TheVariants as shelf
 use Rattle.lucy_front.specs.declared.refusal.Refusal.{Refusal as Reason}
 use Rattle.lucy_front.specs.declared.refusal.Refusal.TheVariants as front
+use Rattle.lucy_front.specs.declared.options.Options.{Options}
+use Rattle.lucy_front.specs.Inferring.{AreOptions, most_scale}
 use Rattle.lucy_front.specs.Refusals.{limit_line, memory_line, IsTellable}
 use Rattle.lucy_app.specs.Commands as names
 use Rattle.lucy_feed.specs.declared.read.ReadError.{ReadError}
@@ -25,8 +27,9 @@ use Rattle.lucy_app.specs.Ends.{Tells, Answers, Breaks, EndsBy}
 use Rattle.lucy_app.specs.declared.input_refusal.InputCause.{InputCause}
 use Rattle.lucy_app.specs.declared.refusal.Refusal.{Refusal}
 use Rattle.lucy_app.specs.declared.refusal.Refusal.TheVariants.{Program, Input, NoInstants, ReadFault, OutOfMemory}
+use Rattle.lucy_app.specs.declared.words.Numbers.{Numbers}
 use Rattle.lucy_app.specs.declared.words.Command.{Command}
-use Rattle.lucy_app.specs.declared.words.Command.TheVariants.{Order, Show, Types, Check, Run, Kahn}
+use Rattle.lucy_app.specs.declared.words.Command.TheVariants.{Order, Show, Types, Check, Clocks, Run, Kahn}
 
 -- the command that the body has read
 abbrev pub named : Command → names.Command
@@ -34,16 +37,28 @@ named Order = names.Order
 named (Show file) = names.Show file.now
 named (Types file) = names.Types file.now
 named (Check file) = names.Check file.now
-named (Run file instants) = names.Run file.now instants
-named (Kahn file instants) = names.Kahn file.now instants
+named (Clocks file options) = names.Clocks file.now options
+named (Run file options instants) = names.Run file.now options instants
+named (Kahn file options instants) = names.Kahn file.now options instants
 
 -- instants that are given are within their limit
 abbrev pub AreFew : Option ℕ → Type 0
 AreFew instants = IfSome instants (λ given. given ≤ limit_number limit.Instants)
 
+-- so is a scale, or a lead, that is given
+abbrev pub IsScale : Option ℕ → Type 0
+IsScale given = IfSome given (λ n. (1 ≤ n) × (n ≤ most_scale))
+
+-- the numbers of options are within their limits
+pub record AreNumbers (n : Numbers) : Type 0 where
+  pub scale : IsScale n.scale
+  pub lead : IsScale n.lead
+  pub instants : AreFew n.instants
+
 abbrev pub IsWithin : Command → Type 0
-IsWithin (Run file instants) = AreFew instants
-IsWithin (Kahn file instants) = AreFew instants
+IsWithin (Clocks file options) = AreOptions options
+IsWithin (Run file options instants) = AreOptions options × AreFew instants
+IsWithin (Kahn file options instants) = AreOptions options × AreFew instants
 IsWithin command = Unit {0}
 
 -- the bytes that a fetch gave
@@ -108,9 +123,9 @@ read_refusal read.Failed = ReadFault
 read_refusal read.OutOfMemory = OutOfMemory
 
 -- what was fetched is a program that can be run, or is refused, but for want of memory
-abbrev pub IsAccepting : List Operator → (instants : Option ℕ) → Result (List ℕ) ShelfError → Result Accepted Refusal → Type 0
-IsAccepting ops instants fetched accepted =
-    MatchResult accepted (λ a. IsOkAnd fetched (λ text. IsRunnable ops instants text a)) (λ e. (e ≡ OutOfMemory) ⊎ OwesRefusal ops instants fetched (refusal_answer e))
+abbrev pub IsAccepting : List Operator → Options → (instants : Option ℕ) → Result (List ℕ) ShelfError → Result Accepted Refusal → Type 0
+IsAccepting ops o instants fetched accepted =
+    MatchResult accepted (λ a. IsOkAnd fetched (λ text. IsRunnable ops o instants text a)) (λ e. (e ≡ OutOfMemory) ⊎ OwesRefusal ops o instants fetched (refusal_answer e))
 
 -- how a run ended was told; of a fault or a limit, or else that memory ran out
 abbrev pub TellsEnding : Ending → (err err' : SeenSink) (status : ℕ) → Type 0
@@ -119,9 +134,9 @@ TellsEnding (ending.Limit passed) err err' status = Tells 6 (limit_line passed) 
 TellsEnding end err err' status = Tells (ending_status end) (ending_line end) err err' status
 
 -- how a command ends that runs what was fetched
-abbrev pub EndsRun : (Owed : Accepted → List ℕ → Ending → Type 0) (OwedOutput : Accepted → List ℕ → Type 0) → List Operator → (instants : Option ℕ) → Stop → Result (List ℕ) ShelfError →
+abbrev pub EndsRun : (Owed : Accepted → List ℕ → Ending → Type 0) (OwedOutput : Accepted → List ℕ → Type 0) → List Operator → Options → (instants : Option ℕ) → Stop → Result (List ℕ) ShelfError →
     (out out' err err' : SeenSink) (status : ℕ) → Type 0
-EndsRun Owed OwedOutput ops instants stop fetched out out' err err' status =
-    EndsBy (OwesRunning Owed ops instants stop fetched)
-    (λ output. ((answer : Answer) × OwesRunning Owed ops instants stop fetched answer × (output ≡ answer.out)) ⊎ OwesRunningOutput OwedOutput ops instants fetched output)
+EndsRun Owed OwedOutput ops o instants stop fetched out out' err err' status =
+    EndsBy (OwesRunning Owed ops o instants stop fetched)
+    (λ output. ((answer : Answer) × OwesRunning Owed ops o instants stop fetched answer × (output ≡ answer.out)) ⊎ OwesRunningOutput OwedOutput ops o instants fetched output)
     out out' err err' status

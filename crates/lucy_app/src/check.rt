@@ -1,34 +1,38 @@
-// The command `check`: the clocks and the sizes of buffers of the program of a file.
+// The commands `check` and `clocks`: the clocks and the sizes of buffers of the program of a file.
 ghost use Rattle.std.specs.Prelude.{IfOk, IfErr};
+ghost use Rattle.lucy_front.specs.Inferring.{AreOptions};
 ghost use Rattle.lucy_app.specs.Check.{IsCheckOf, RefusesCheck};
 ghost use Rattle.lucy_app.specs.Programs.{OwesProgram};
 ghost use Rattle.lucy_app.specs.Outcomes.{bytes_of, RefusesProgram, IsOutcome, Tellable};
 
 use crate::refusal::Refusal;
-use crate::running::WRITTEN;
-use lucy_front::{accept, report};
+use lucy_front::{Options, accept, report};
 use lucy_host::Ops;
 use lucy_text::ShelfError;
 use std::alloc::Global;
 
 // The report of the program that a text is accepted as.
-fn report_of(alloc: Global, text: &[u8], ops: &Ops) -> Result<Vec<u8>, Refusal>
-    ensures ok { IfOk result (λ v. IsCheckOf ops.now text.now v.items) }
-    ensures refused { IfErr result (RefusesProgram (RefusesCheck ops.now text.now)) }
+fn report_of(alloc: Global, text: &[u8], ops: &Ops, options: &Options) -> Result<Vec<u8>, Refusal>
+    requires { AreOptions options.now }
+    ensures ok { IfOk result (λ v. IsCheckOf ops.now options.now text.now v.items) }
+    ensures refused { IfErr result (RefusesProgram (RefusesCheck ops.now options.now text.now)) }
 {
-    let accepted = accept(alloc, text, ops, &WRITTEN)?;
+    let accepted = accept(alloc, text, ops, options)?;
     Ok(report(alloc, &accepted)?)
 }
 
-/// What `check` prints of what the fetch gave, where the host has these operators, or why it has no answer.
+/// What `check` or `clocks` prints of what the fetch gave, where the host has these operators and clocks are found so, or why
+/// it has no answer.
 pub(crate) fn answer(
     alloc: Global,
     fetched: Result<Vec<u8>, ShelfError>,
     ops: &Ops,
+    options: &Options,
 ) -> Result<Vec<u8>, Refusal>
-    ensures outcome { IsOutcome (OwesProgram (IsCheckOf ops.now) (RefusesCheck ops.now) (bytes_of fetched)) result }
+    requires { AreOptions options.now }
+    ensures outcome { IsOutcome (OwesProgram (IsCheckOf ops.now options.now) (RefusesCheck ops.now options.now) (bytes_of fetched)) result }
     ensures tellable { IfErr result Tellable }
 {
     let text = fetched?;
-    report_of(alloc, &text, ops)
+    report_of(alloc, &text, ops, options)
 }

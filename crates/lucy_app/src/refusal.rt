@@ -37,6 +37,8 @@ pub(crate) fn program_status(refusal: &lucy_front::Refusal) -> u8
         lucy_front::Refusal::Names(_) => 1,
         lucy_front::Refusal::Types { .. } => 1,
         lucy_front::Refusal::NotWritten { .. } => 1,
+        lucy_front::Refusal::Rates { .. } => 1,
+        lucy_front::Refusal::Clocks { .. } => 1,
         lucy_front::Refusal::Check { .. } => 1,
         lucy_front::Refusal::Cause { .. } => 1,
         lucy_front::Refusal::Limit(_) => 6,

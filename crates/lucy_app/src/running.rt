@@ -7,6 +7,7 @@ ghost use Rattle.lucy_host.specs.Operators.{kinds_of};
 ghost use Rattle.lucy_feed.specs.Sources.{Stop, seen_source, Read};
 ghost use Rattle.lucy_output.specs.Sinks.{seen_sink};
 ghost use Rattle.lucy_flat.specs.Clocked.{AreClocked};
+ghost use Rattle.lucy_front.specs.Inferring.{AreOptions};
 ghost use Rattle.lucy_front.specs.Report.{IsReportable};
 ghost use Rattle.lucy_run.specs.Owes.{OwesRun, OwesRunOutput, OwesKahn, OwesKahnOutput};
 ghost use Rattle.lucy_app.specs.Outcomes.{bytes_of, AreFew, IsAccepting, EndsRun, Tellable};
@@ -18,21 +19,17 @@ use lucy_host::{Host, Ops};
 use lucy_text::{ShelfError, Sink, Source};
 use std::alloc::Global;
 
-/// How a text is accepted: each node must be written.
-pub(crate) const WRITTEN: Options = Options {
-    scale: 1,
-    lead: 1,
-    written_only: true,
-};
-
-// The program of what the fetch gave, where the host has these operators, if it can be run for these instants.
+// The program of what the fetch gave, where the host has these operators and clocks are found so, if it can be run for these
+// instants.
 fn accepted(
     alloc: Global,
     fetched: Result<Vec<u8>, ShelfError>,
+    options: &Options,
     instants: Option<u64>,
     ops: &Ops,
 ) -> Result<Accepted, Refusal>
-    ensures accepting { IsAccepting ops.now instants (bytes_of fetched) result }
+    requires { AreOptions options.now }
+    ensures accepting { IsAccepting ops.now options.now instants (bytes_of fetched) result }
     ensures reportable { IfOk result (λ a. IsReportable a.placed.nodes a.typed a.clocks.items) }
     ensures clocked { IfOk result (λ a. AreClocked a.placed.nodes a.clocks.items) }
     ensures given { IfOk result (λ a. a.inputs.items ≡ [] → instants ≢ None) }
@@ -42,7 +39,7 @@ fn accepted(
         Ok(text) => text,
         Err(error) => return Err(Refusal::from(error)),
     };
-    let accepted = match accept(alloc, &text, ops, &WRITTEN) {
+    let accepted = match accept(alloc, &text, ops, options) {
         Ok(accepted) => accepted,
         Err(reason) => return Err(Refusal::from(reason)),
     };
@@ -56,6 +53,7 @@ fn accepted(
 pub(crate) fn run<I: Source, O: Sink, E: Sink, F: Fn(u32, i64, i64) -> i64 + Sync>(
     alloc: Global,
     fetched: Result<Vec<u8>, ShelfError>,
+    options: &Options,
     instants: Option<u64>,
     input: &mut I,
     out: &mut O,
@@ -63,12 +61,13 @@ pub(crate) fn run<I: Source, O: Sink, E: Sink, F: Fn(u32, i64, i64) -> i64 + Syn
     host: &Host<F>,
 ) -> u8
     requires serves { Serves F.pre F.post host.now }
+    requires options { AreOptions options.now }
     requires few { AreFew instants }
     ensures ends { (taken : List ℕ) × (stop : Stop) × Read (limit_number limit.Input)
         (seen_source (I.left input.old) (I.ended input.old) (I.faults input.old) (I.since_stop input.old))
         (seen_source (I.left input.new) (I.ended input.new) (I.faults input.new) (I.since_stop input.new)) taken stop
         × EndsRun (λ a. OwesRun (kinds_of (lent host.now)) a instants taken stop) (λ a. OwesRunOutput (kinds_of (lent host.now)) a instants taken stop)
-        (lent host.now) instants stop (bytes_of fetched)
+        (lent host.now) options.now instants stop (bytes_of fetched)
         (seen_sink (O.written out.old) (O.faults out.old) (O.since_stop out.old))
         (seen_sink (O.written out.new) (O.faults out.new) (O.since_stop out.new))
         (seen_sink (E.written err.old) (E.faults err.old) (E.since_stop err.old))
@@ -78,7 +77,7 @@ pub(crate) fn run<I: Source, O: Sink, E: Sink, F: Fn(u32, i64, i64) -> i64 + Syn
     ensures out_count { O.faults out.old ≤ O.faults out.new }
     ensures err_count { E.faults err.old ≤ E.faults err.new }
 {
-    match accepted(alloc, fetched, instants, host.ops()) {
+    match accepted(alloc, fetched, options, instants, host.ops()) {
         Ok(accepted) => {
             let ending = lucy_run::run(alloc, accepted, host, instants, input, out);
             conclude(alloc, err, ending)
@@ -91,6 +90,7 @@ pub(crate) fn run<I: Source, O: Sink, E: Sink, F: Fn(u32, i64, i64) -> i64 + Syn
 pub(crate) fn kahn<I: Source, O: Sink, E: Sink, F: Fn(u32, i64, i64) -> i64 + Sync>(
     alloc: Global,
     fetched: Result<Vec<u8>, ShelfError>,
+    options: &Options,
     instants: Option<u64>,
     input: &mut I,
     out: &mut O,
@@ -98,12 +98,13 @@ pub(crate) fn kahn<I: Source, O: Sink, E: Sink, F: Fn(u32, i64, i64) -> i64 + Sy
     host: &Host<F>,
 ) -> u8
     requires serves { Serves F.pre F.post host.now }
+    requires options { AreOptions options.now }
     requires few { AreFew instants }
     ensures ends { (taken : List ℕ) × (stop : Stop) × Read (limit_number limit.Input)
         (seen_source (I.left input.old) (I.ended input.old) (I.faults input.old) (I.since_stop input.old))
         (seen_source (I.left input.new) (I.ended input.new) (I.faults input.new) (I.since_stop input.new)) taken stop
         × EndsRun (λ a. OwesKahn (kinds_of (lent host.now)) a instants taken stop) (λ a. OwesKahnOutput (kinds_of (lent host.now)) a instants taken stop)
-        (lent host.now) instants stop (bytes_of fetched)
+        (lent host.now) options.now instants stop (bytes_of fetched)
         (seen_sink (O.written out.old) (O.faults out.old) (O.since_stop out.old))
         (seen_sink (O.written out.new) (O.faults out.new) (O.since_stop out.new))
         (seen_sink (E.written err.old) (E.faults err.old) (E.since_stop err.old))
@@ -113,7 +114,7 @@ pub(crate) fn kahn<I: Source, O: Sink, E: Sink, F: Fn(u32, i64, i64) -> i64 + Sy
     ensures out_count { O.faults out.old ≤ O.faults out.new }
     ensures err_count { E.faults err.old ≤ E.faults err.new }
 {
-    match accepted(alloc, fetched, instants, host.ops()) {
+    match accepted(alloc, fetched, options, instants, host.ops()) {
         Ok(accepted) => {
             let ending = lucy_run::kahn(alloc, accepted, host, instants, input, out);
             conclude(alloc, err, ending)

@@ -9,7 +9,7 @@ ghost use Rattle.lucy_app.specs.Ends.{Ends};
 
 use crate::fetch::fetch;
 use crate::output::{finish, tell};
-use crate::words::{Command, command_of};
+use crate::words::{Command, WRITTEN, command_of};
 use crate::{check, order, running, show, types};
 use lucy_host::Host;
 use lucy_text::{Shelf, Sink, Source};
@@ -19,8 +19,9 @@ use std::alloc::Global;
 ///
 /// - 0: the answer of the command stands on `out`, and nothing more on `err`.
 /// - 1: the text of FILE is no program; for all but `show` also, one of its names is refused, or one of its nodes has no types;
-///   for `check`, `run` and `kahn` also, one of its nodes isn't written, or the words that it hands down don't meet its needs, or
-///   items of its net depend on each other.
+///   for `check`, `clocks`, `run` and `kahn` also, a written node hands down words that don't meet its needs, or items of its net
+///   depend on each other; for `check` one of its nodes isn't written; for the others a node that isn't has no clocks, as its
+///   rates don't agree or none of the shape meet its needs.
 /// - 2: the words name no command; or main has no inputs and `run` or `kahn` is given no instants.
 /// - 3: the input of `order` is not two words, or the first of them that is refused is badly spelled or has no one in its period;
 ///   or a line of the input of `run` or `kahn` is refused: the lines of what the items before it allow stand on `out`.
@@ -31,8 +32,8 @@ use std::alloc::Global;
 /// - 6: a limit is passed: the input of `order` has more than 16,384 bytes, or the first of its two words that is refused has more
 ///   than 4,096 bits; the text of FILE has more than 1,048,576 bytes, or passes a limit of programs at the first token that is
 ///   refused; for all but `show` also, one of its nodes has more than 4,096 places, and no name up to its end is refused; for
-///   `check`, `run` and `kahn` also, the needs of a node, its words or their comparison, the net or its schedule pass a limit,
-///   and nothing before that is refused. Where `run` or `kahn` pass the limit of the input or of the instants of a run, the lines
+///   `check`, `clocks`, `run` and `kahn` also, the needs of a node, its rates, positions, inequalities or words or their
+///   comparison, the net or its schedule pass a limit, and nothing before that is refused. Where `run` or `kahn` pass the limit of the input or of the instants of a run, the lines
 ///   up to there stand on `out`, and nothing where `kahn` passes one of its own.
 /// - 7: memory ran out. Of `run` and `kahn` a front of the answer may stand on `out`.
 ///
@@ -42,7 +43,8 @@ use std::alloc::Global;
 /// of a program's text, and judge the text. Then `show` prints the program. `types` judges the names of all nodes, and then the
 /// types of each node in turn; it prints each node with the types of its parameters and defined names. `check` judges these too,
 /// then the clocks of each node in turn, each of which must be written, and then the net; it prints the report: types, words, and
-/// the sizes of buffers. `run` and `kahn` judge the same, and then look for missing instants. `run` prints the report and the
+/// the sizes of buffers. `clocks` does the same, but infers the clocks of nodes that aren't written. `run` and `kahn` judge as
+/// `clocks` does, and then look for missing instants. `run` prints the report and the
 /// line `run`. Both read the input to its end or to its first fault, where main has inputs, and print the output lines. The host
 /// lends programs its operators, by their names. No read follows the end of the input or a failed read, and no write to a sink
 /// follows one that failed.
@@ -105,15 +107,29 @@ pub fn lucy<S: Shelf, I: Source, O: Sink, E: Sink, F: Fn(u32, i64, i64) -> i64 +
         }
         Some(Command::Check(file)) => {
             let fetched = fetch(alloc, shelf, file);
-            finish(alloc, out, err, check::answer(alloc, fetched, host.ops()))
+            finish(
+                alloc,
+                out,
+                err,
+                check::answer(alloc, fetched, host.ops(), &WRITTEN),
+            )
         }
-        Some(Command::Run(file, instants)) => {
+        Some(Command::Clocks(file, options)) => {
             let fetched = fetch(alloc, shelf, file);
-            running::run(alloc, fetched, instants, input, out, err, host)
+            finish(
+                alloc,
+                out,
+                err,
+                check::answer(alloc, fetched, host.ops(), &options),
+            )
         }
-        Some(Command::Kahn(file, instants)) => {
+        Some(Command::Run(file, options, instants)) => {
             let fetched = fetch(alloc, shelf, file);
-            running::kahn(alloc, fetched, instants, input, out, err, host)
+            running::run(alloc, fetched, &options, instants, input, out, err, host)
+        }
+        Some(Command::Kahn(file, options, instants)) => {
+            let fetched = fetch(alloc, shelf, file);
+            running::kahn(alloc, fetched, &options, instants, input, out, err, host)
         }
     }
 }

@@ -1,10 +1,12 @@
 // The words of the command line.
-ghost use Rattle.std.specs.Prelude.{◌≡◌, IfSome, map, string_bytes};
+ghost use Rattle.std.specs.Prelude.{◌≡◌, ◌≤◌, IfSome, map, string_bytes};
 ghost use Rattle.std.specs.Option.{option_map};
 ghost use Rattle.std.specs.Str.{all_ascii_digits};
-ghost use Rattle.lucy_app.specs.Commands.{is_file, only_file, instants_of, given_instants, file_and_instants, command_of};
-ghost use Rattle.lucy_app.specs.Outcomes.{named, AreFew, IsWithin};
+ghost use Rattle.lucy_front.specs.Inferring.{AreOptions};
+ghost use Rattle.lucy_app.specs.Commands.{is_file, only_file, number_of, once, with_number, no_numbers, numbers_in, file_and_numbers, options_of, command_of};
+ghost use Rattle.lucy_app.specs.Outcomes.{named, AreNumbers, IsWithin};
 
+use lucy_front::Options;
 use lucy_word::Limit;
 
 /// A command, with what it works on.
@@ -17,11 +19,31 @@ pub(crate) enum Command<'a> {
     Types(&'a str),
     /// With the name of its file.
     Check(&'a str),
-    /// With the name of its file, and the instants where they are given, up to 1,048,576.
-    Run(&'a str, Option<u64>),
+    /// With the name of its file, and how its clocks are inferred.
+    Clocks(&'a str, Options),
+    /// With the name of its file, how its clocks are inferred, and the instants where they are given, up to 1,048,576.
+    Run(&'a str, Options, Option<u64>),
     /// Likewise.
-    Kahn(&'a str, Option<u64>),
+    Kahn(&'a str, Options, Option<u64>),
 }
+
+/// The numbers of the options of a command, where they stand: the scale and the lead from 1 to 64, the instants up to 1,048,576.
+#[derive(Clone, Copy)]
+pub(crate) struct Numbers {
+    pub scale: Option<u64>,
+    pub lead: Option<u64>,
+    pub instants: Option<u64>,
+}
+
+/// How a program's clocks are found where each node has to be written.
+pub(crate) const WRITTEN: Options = Options {
+    scale: 1,
+    lead: 1,
+    written_only: true,
+};
+
+/// The greatest scale, and the greatest lead.
+const MOST_SCALE: u64 = 64;
 
 fn is_file(word: &str) -> bool
     ensures { result ≡ is_file word.now }
@@ -55,43 +77,101 @@ fn are_digits(word: &[u8]) -> bool
     true
 }
 
-// The number of instants that a word spells.
-fn instants(word: &str) -> Option<u64>
-    ensures is { result ≡ instants_of word.now }
-    ensures few { AreFew result }
+// The number that a word spells, where it lies between these.
+fn number(word: &str, least: u64, most: u64) -> Option<u64>
+    ensures is { result ≡ number_of least most word.now }
+    ensures least { IfSome result (λ n. least ≤ n) }
+    ensures most { IfSome result (λ n. n ≤ most) }
 {
     if word.is_empty() || word.len() > 7 || !are_digits(word.as_bytes()) {
         return None;
     }
     let number = word.parse::<u64>().ok()?;
-    if number > Limit::Instants.number() {
+    if number < least || number > most {
         return None;
     }
     Some(number)
 }
 
-// The instants that are given behind a file, if any, where nothing else stands there.
-fn given_instants(behind: &[String]) -> Option<Option<u64>>
-    ensures is { result ≡ given_instants (map string_bytes behind.now) }
-    ensures few { IfSome result AreFew }
+// The number of an option that stands there, if it has not stood before.
+fn once(before: Option<u64>, found: Option<u64>) -> Option<u64>
+    ensures { result ≡ once before found }
 {
-    match behind {
-        [] => Some(None),
-        [option, number] if option.as_str() == "--instants" => Some(Some(instants(number)?)),
-        _ => None,
+    match before {
+        None => found,
+        Some(_) => None,
     }
 }
 
-// The file and the instants behind the name of a command.
-fn file_and_instants(behind: &[String]) -> Option<(&str, Option<u64>)>
-    ensures is { option_map (λ found. (found.0.now, found.1)) result ≡ file_and_instants (map string_bytes behind.now) }
-    ensures few { IfSome result (λ found. AreFew found.1) }
+// The numbers of the options, with that of one more. A command that runs a program may have instants.
+fn with_number(runs: bool, option: &str, word: &str, numbers: Numbers) -> Option<Numbers>
+    requires { AreNumbers numbers }
+    ensures is { result ≡ with_number runs option.now word.now numbers }
+    ensures within { IfSome result AreNumbers }
+{
+    if option == "--scale" {
+        let scale = Some(once(numbers.scale, number(word, 1, MOST_SCALE))?);
+        return Some(Numbers { scale, ..numbers });
+    }
+    if option == "--lead" {
+        let lead = Some(once(numbers.lead, number(word, 1, MOST_SCALE))?);
+        return Some(Numbers { lead, ..numbers });
+    }
+    if runs && option == "--instants" {
+        let most = Limit::Instants.number();
+        let instants = Some(once(numbers.instants, number(word, 0, most))?);
+        return Some(Numbers {
+            instants,
+            ..numbers
+        });
+    }
+    None
+}
+
+// The numbers of options in any order, each as two words.
+fn numbers_in(runs: bool, behind: &[String]) -> Option<Numbers>
+    ensures is { result ≡ numbers_in runs (map string_bytes behind.now) no_numbers }
+    ensures within { IfSome result AreNumbers }
+{
+    let mut numbers = Numbers {
+        scale: None,
+        lead: None,
+        instants: None,
+    };
+    let mut rest = behind;
+    'each: while let Some((option, more)) = rest.split_first() {
+        let (word, left) = more.split_first()?;
+        numbers = with_number(runs, option, word, numbers)?;
+        rest = left;
+    }
+    Some(numbers)
+}
+
+// The file behind the name of a command, and the numbers of the options behind it.
+fn file_and_numbers(runs: bool, behind: &[String]) -> Option<(&str, Numbers)>
+    ensures is { option_map (λ found. (found.0.now, found.1)) result ≡ file_and_numbers runs (map string_bytes behind.now) }
+    ensures within { IfSome result (λ found. AreNumbers found.1) }
 {
     let (file, more) = behind.split_first()?;
     if !is_file(file) {
         return None;
     }
-    Some((file.as_str(), given_instants(more)?))
+    Some((file.as_str(), numbers_in(runs, more)?))
+}
+
+impl Numbers {
+    // How clocks are inferred with these, with 1 where none is given.
+    fn options(&self) -> Options
+        requires { AreNumbers self.now }
+        ensures is { result ≡ options_of self.now }
+        ensures within { AreOptions result }
+    {
+        Options {
+            scale: self.scale.unwrap_or(1),
+            lead: self.lead.unwrap_or(1),
+            written_only: false,
+        }
+    }
 }
 
 /// The command that the words name.
@@ -117,13 +197,17 @@ pub(crate) fn command_of(words: &[String]) -> Option<Command<'_>>
     if name == "check" {
         return Some(Command::Check(only_file(behind)?));
     }
+    if name == "clocks" {
+        let (file, numbers) = file_and_numbers(false, behind)?;
+        return Some(Command::Clocks(file, numbers.options()));
+    }
     if name == "run" {
-        let (file, instants) = file_and_instants(behind)?;
-        return Some(Command::Run(file, instants));
+        let (file, numbers) = file_and_numbers(true, behind)?;
+        return Some(Command::Run(file, numbers.options(), numbers.instants));
     }
     if name == "kahn" {
-        let (file, instants) = file_and_instants(behind)?;
-        return Some(Command::Kahn(file, instants));
+        let (file, numbers) = file_and_numbers(true, behind)?;
+        return Some(Command::Kahn(file, numbers.options(), numbers.instants));
     }
     None
 }

@@ -24,11 +24,31 @@ impl From<ParseIntError> for Unread {
     }
 }
 
-/// A text, and how often it stands there.
+/// A text, and how often it stands there. It has parts, and the number of the repetition, from 1, stands between two of them.
 #[derive(Drop)]
 pub(crate) struct Piece {
     pub(crate) times: usize,
-    pub(crate) bytes: Vec<u8>,
+    parts: Vec<Vec<u8>>,
+}
+
+impl Piece {
+    /// Appends the text as it stands in the repetition of this number.
+    pub(crate) fn append(
+        &self,
+        alloc: Global,
+        bytes: &mut Vec<u8>,
+        number: usize,
+    ) -> Result<(), AllocError> {
+        let mut is_first = true;
+        for part in &self.parts {
+            if !is_first {
+                bytes.extend_from_slice(format!(in alloc; "{number}")?.as_bytes())?;
+            }
+            bytes.extend_from_slice(part)?;
+            is_first = false;
+        }
+        Ok(())
+    }
 }
 
 // The byte of an escape, behind its backslash, and what stands behind it.
@@ -46,7 +66,7 @@ fn escape(text: &str) -> Option<(u8, &str)> {
     Some((u8::from_str_radix(digits, 16).ok()?, rest))
 }
 
-// The bytes of a text, as it stands between its quotes.
+// The bytes of a text in which no number stands.
 fn bytes_of(alloc: Global, text: &str) -> Result<Vec<u8>, Unread> {
     let mut bytes = Vec::new(alloc);
     let mut parts = text.split('\\');
@@ -59,6 +79,15 @@ fn bytes_of(alloc: Global, text: &str) -> Result<Vec<u8>, Unread> {
         bytes.extend_from_slice(rest.as_bytes())?;
     }
     Ok(bytes)
+}
+
+// The parts of a text, as it stands between its quotes.
+fn parts_of(alloc: Global, text: &str) -> Result<Vec<Vec<u8>>, Unread> {
+    let mut parts = Vec::new(alloc);
+    for part in text.split("\\i") {
+        parts.push(bytes_of(alloc, part)?)?;
+    }
+    Ok(parts)
 }
 
 // What stands before a text: nothing, or how often it stands there, as `N *`.
@@ -88,8 +117,8 @@ pub(crate) fn pieces(alloc: Global, line: &str) -> Result<Vec<Piece>, Unread> {
         match before {
             None => before = Some(times_of(part)?),
             Some(times) => {
-                let bytes = bytes_of(alloc, part)?;
-                pieces.push(Piece { times, bytes })?;
+                let parts = parts_of(alloc, part)?;
+                pieces.push(Piece { times, parts })?;
                 before = None;
             }
         }
@@ -101,10 +130,14 @@ pub(crate) fn pieces(alloc: Global, line: &str) -> Result<Vec<Piece>, Unread> {
 }
 
 /// Appends the pieces.
-pub(crate) fn append(bytes: &mut Vec<u8>, pieces: &[Piece]) -> Result<(), AllocError> {
+pub(crate) fn append(
+    alloc: Global,
+    bytes: &mut Vec<u8>,
+    pieces: &[Piece],
+) -> Result<(), AllocError> {
     for piece in pieces {
-        for _ in 0..piece.times {
-            bytes.extend_from_slice(&piece.bytes)?;
+        for number in 0..piece.times {
+            piece.append(alloc, bytes, number + 1)?;
         }
     }
     Ok(())

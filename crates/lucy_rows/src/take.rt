@@ -3,9 +3,11 @@ use crate::piece::{Piece, Unread, append, pieces, positive, positives};
 use crate::row::{Open, Row};
 use std::alloc::Global;
 
-// The piece's bytes as a text.
-fn text_of(piece: &Piece) -> Result<String, Unread> {
-    match String::from_utf8(piece.bytes.clone()?) {
+// The piece as a text, in the repetition of this number.
+fn text_of(alloc: Global, piece: &Piece, number: usize) -> Result<String, Unread> {
+    let mut bytes = Vec::new(alloc);
+    piece.append(alloc, &mut bytes, number)?;
+    match String::from_utf8(bytes) {
         Ok(text) => Ok(text),
         Err(_) => Err(Unread),
     }
@@ -14,7 +16,7 @@ fn text_of(piece: &Piece) -> Result<String, Unread> {
 // The pieces as one text.
 fn joined(alloc: Global, pieces: &[Piece]) -> Result<Vec<u8>, Unread> {
     let mut bytes = Vec::new(alloc);
-    append(&mut bytes, pieces)?;
+    append(alloc, &mut bytes, pieces)?;
     Ok(bytes)
 }
 
@@ -22,8 +24,8 @@ fn joined(alloc: Global, pieces: &[Piece]) -> Result<Vec<u8>, Unread> {
 fn words(alloc: Global, line: &str) -> Result<Vec<String>, Unread> {
     let mut words = Vec::new(alloc);
     for piece in &pieces(alloc, line)? {
-        for _ in 0..piece.times {
-            words.push(text_of(piece)?)?;
+        for number in 0..piece.times {
+            words.push(text_of(alloc, piece, number + 1)?)?;
         }
     }
     Ok(words)
@@ -47,9 +49,9 @@ impl Row {
         let pieces = pieces(alloc, line)?;
         match self.open {
             Open::Nothing => Err(Unread),
-            Open::Input => Ok(append(&mut self.input, &pieces)?),
+            Open::Input => Ok(append(alloc, &mut self.input, &pieces)?),
             Open::File => match self.files.last_mut() {
-                Some((_, bytes)) => Ok(append(bytes, &pieces)?),
+                Some((_, bytes)) => Ok(append(alloc, bytes, &pieces)?),
                 None => Err(Unread),
             },
         }
@@ -83,7 +85,8 @@ impl Row {
         if name.times != 1 {
             return Err(Unread);
         }
-        self.files.push((text_of(name)?, joined(alloc, text)?))?;
+        self.files
+            .push((text_of(alloc, name, 1)?, joined(alloc, text)?))?;
         self.open = Open::File;
         Ok(())
     }

@@ -64,3 +64,12 @@ returns-in-Some-Kahn-clause-ends g c =
 
 pub returns-in-Some-Kahn-clause-statuses : goal.returns-in-Some-Kahn-clause-statuses
 returns-in-Some-Kahn-clause-statuses g c = ends_within _ _ _ _ (returns-in-Some-Kahn-clause-ends g c)
+
+pub returns-in-Some-Clocks-clause-ends : goal.returns-in-Some-Clocks-clause-ends
+returns-in-Some-Clocks-clause-ends g c =
+    ends_some _ _ (record { fetched = Some (bytes_of c.fetch-fetched-in-Some-Clocks.result); taken = []; stop = Unread; operators = lent c.args.host.now }) c.answer-in-Some-Clocks.result _ _ _
+    (rw c.in-Some-Clocks.field-0-is at c.in-Some-Clocks.ensures.is)
+    (record { shelf = c.fetch-fetched-in-Some-Clocks.ensures.fetched; source = (refl, refl, refl); operators = refl }) (rw c.ops-in-Some-Clocks.ensures at c.answer-in-Some-Clocks.ensures.outcome) c.finish-in-Some-Clocks.ensures.delivers
+
+pub returns-in-Some-Clocks-clause-statuses : goal.returns-in-Some-Clocks-clause-statuses
+returns-in-Some-Clocks-clause-statuses g c = ends_within _ _ _ _ (returns-in-Some-Clocks-clause-ends g c)

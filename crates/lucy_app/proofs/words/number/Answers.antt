@@ -1,7 +1,7 @@
 use Rattle.std.proofs.Common.{ap, sym, ◌∙◌}
 use Rattle.std.specs.Str.{all_ascii_digits}
 use Rattle.lucy_app.proofs.Instants.{unparsed}
-use Rattle.lucy_app.proofs.words.instants.Goals as goal
+use Rattle.lucy_app.proofs.words.number.Goals as goal
 
 pub returns-in_err-number-clause-is : goal.returns-in_err-number-clause-is
 returns-in_err-number-clause-is c =
