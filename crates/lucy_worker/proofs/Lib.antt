@@ -1,0 +1,12 @@
+pub mod Runs
+pub mod CountLaws
+pub mod ListLaws
+pub mod PartLaws
+pub mod GiveLaws
+pub mod TakeLaws
+pub mod StepLaws
+pub mod MeetLaws
+pub mod WithinLaws
+pub mod RoundLaws
+pub mod RoundRuns
+pub mod GrowLaws

@@ -1,0 +1,64 @@
+-- What a worker keeps of its parts from one call to the next.
+use Rattle.std.specs.Prelude.{ℕ, ◌+◌, ◌-◌, ◌<◌, ◌≤◌, ◌≡◌, List, [], ◌∷◌, ◌++◌, ℤ, length, All, sum_by, vec_capacity}
+use Rattle.lucy_host.specs.declared.kind.HostKind.{HostKind}
+use Rattle.lucy_event.specs.Firings.{ops_of}
+use Rattle.lucy_net.specs.declared.kind.ActorKind.{ActorKind}
+use Rattle.lucy_net.specs.declared.kind.ActorKind.TheVariants.{Output}
+use Rattle.lucy_net.specs.declared.net.Actor.{Actor}
+use Rattle.lucy_net.specs.declared.state.ActorState.{ActorState}
+use Rattle.lucy_net.specs.Plans.{form_of}
+use Rattle.lucy_net.specs.States.{IsUsable, IsOfActor}
+use Rattle.lucy_worker.specs.declared.part.Part.{Part}
+use Rattle.lucy_worker.specs.Parts.{done_at, done_of}
+use Rattle.lucy_worker.specs.Turns.{IsServed, HaveRun, done_by}
+use Rattle.lucy_worker.specs.News.{HasItems, HasRoom, ends_of, ends_by}
+
+-- all operations of an actor, and those that are left to it
+abbrev pub all_at : Actor → ActorState → ℕ
+all_at actor s = length (ops_of (form_of actor.kind) actor.takes actor.gives s.quota)
+
+unfoldable pub left_at : Actor → ActorState → ℕ
+left_at actor s = all_at actor s - done_at actor s
+
+abbrev pub left_of : Part → ℕ
+left_of p = left_at p.actor p.state
+
+abbrev pub left_by : List Part → ℕ
+left_by parts = sum_by left_of parts
+
+-- the actor and its state are usable, its ends are there, and so are its input and the room for its output; since a worker was
+-- made no end has moved more items than its actor has done operations
+pub record IsReady (p : Part) : Type 0 where
+  pub usable : IsUsable p.actor
+  pub state : IsOfActor p.actor p.state
+  pub givers : length p.givers.items ≡ length p.actor.gives
+  pub takers : length p.takers.items ≡ length p.actor.takes
+  pub few : ends_of p ≤ 65536
+  pub quota : p.state.quota ≤ 1048576
+  pub items : HasItems p.actor.kind p.state.quota (length p.input.items)
+  pub room : HasRoom p.actor.kind (left_of p) (length p.output.items) (vec_capacity p.output)
+  pub gave_few : All (λ g. length g.given ≤ 1048576 + done_of p) p.givers.items
+  pub took_few : All (λ t. length t.taken ≤ 1048576 + done_of p) p.takers.items
+
+-- of all parts
+pub record AreReady (parts : List Part) : Type 0 where
+  pub each : All IsReady parts
+  pub few : ends_by parts ≤ 65536
+
+-- the list of an output has room for one item, and what it is with this item
+abbrev pub HasSlot : ActorKind → ℕ → ℕ → Type 0
+HasSlot (Output output) items room = items < room
+HasSlot kind items room = Unit {0}
+
+abbrev pub out_after : ActorKind → List ℤ → ℤ → List ℤ
+out_after (Output output) items x = items ++ x ∷ []
+out_after kind items x = items
+
+-- the parts ran, so many operations further all together, and what is left is as much less; they are ready for the next pass,
+-- and a host of so many operators still serves them
+pub record HavePassed (kinds : List HostKind) (count : ℕ) (ps qs : List Part) (moves : ℕ) : Type 0 where
+  pub ready : AreReady qs
+  pub served : All (IsServed count) qs
+  pub run : HaveRun kinds ps qs
+  pub done : done_by qs ≡ done_by ps + moves
+  pub left : left_by qs + moves ≡ left_by ps

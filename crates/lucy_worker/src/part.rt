@@ -1,0 +1,134 @@
+// One actor, and its moves.
+ghost use Rattle.std.specs.Prelude.{ℕ, ◌≡◌, ◌+◌, ◌<◌, ◌≤◌, IsTrue, IsFalse, List, length, vec_capacity};
+ghost use Rattle.lucy_host.specs.declared.kind.HostKind.{HostKind};
+ghost use Rattle.lucy_host.specs.Host.{Serves, lent};
+ghost use Rattle.lucy_host.specs.Operators.{kinds_of};
+ghost use Rattle.lucy_event.specs.Systems.{Takes, Gives};
+ghost use Rattle.lucy_net.specs.States.{IsNext};
+ghost use Rattle.lucy_worker.specs.Parts.{done_of, CanMove};
+ghost use Rattle.lucy_worker.specs.Turns.{HasRun, IsServed};
+ghost use Rattle.lucy_worker.specs.Readiness.{left_of, IsReady, HasSlot, out_after};
+
+use lucy_host::Host;
+use lucy_net::{
+    Actor, ActorKind, ActorState, Move, after_give, after_take, give_value, next_end, next_move,
+};
+use lucy_ring::{Giver, Taker};
+
+/// An actor of a net, and all that it moves.
+#[derive(Drop)]
+pub struct Part {
+    /// The number of the actor in the net, from 0.
+    pub number: u32,
+    /// The actor.
+    pub actor: Actor,
+    /// Where it stands.
+    pub state: ActorState,
+    /// The items of an input, oldest first.
+    pub input: Vec<i64>,
+    /// What an output took, oldest first.
+    pub output: Vec<i64>,
+    /// The ends of the rings that it gives to, in order of the actor's `gives`.
+    pub givers: Vec<Giver>,
+    /// The ends of the rings that it takes from, in order of the actor's `takes`.
+    pub takers: Vec<Taker>,
+}
+
+impl Part {
+    // Does all moves that are possible in a row, and answers how many.
+    #[tactic(auto, using(crate::proofs::Runs::goes_on, crate::proofs::Runs::stays))]
+    pub(crate) fn go_on<F: Fn(u32, i64, i64) -> i64 + Sync>(&mut self, host: &Host<F>) -> u64
+        requires ready { IsReady self.old }
+        requires serves { Serves F.pre F.post host.now }
+        requires served { IsServed (length (lent host.now)) self.old }
+        ensures ready { IsReady self.new }
+        ensures run { HasRun (kinds_of (lent host.now)) self.old self.new }
+        ensures moves { done_of self.new ≡ done_of self.old + result }
+        ensures left { left_of self.new + result ≡ left_of self.old }
+        ensures moved { CanMove self.old → 0 < result }
+        ensures rests { CanMove self.new → ⊥ }
+    {
+        let mut moves = 0;
+        while self.step(host) {
+            moves += 1;
+        }
+        moves
+    }
+
+    // Tries the next move.
+    fn step<F: Fn(u32, i64, i64) -> i64 + Sync>(&mut self, host: &Host<F>) -> bool
+        requires ready { IsReady self.old }
+        requires serves { Serves F.pre F.post host.now }
+        requires served { IsServed (length (lent host.now)) self.old }
+        ensures ready { IsReady self.new }
+        ensures run { HasRun (kinds_of (lent host.now)) self.old self.new }
+        ensures moved { IsTrue result → (done_of self.new ≡ done_of self.old + 1) × (left_of self.new + 1 ≡ left_of self.old) }
+        ensures stayed { IsFalse result → (done_of self.new ≡ done_of self.old) × (left_of self.new ≡ left_of self.old) }
+        ensures rests { IsFalse result → CanMove self.new → ⊥ }
+        ensures possible { CanMove self.old → IsTrue result }
+    {
+        match next_move(&self.actor, &self.state) {
+            Move::Take(_) => self.take(),
+            Move::Give(_) => self.give(host),
+            Move::Done => false,
+        }
+    }
+
+    // Takes, where an item is found.
+    fn take(&mut self) -> bool
+        requires ready { IsReady self.old }
+        requires next { (ring : ℕ) × IsNext self.old.actor self.old.state (Takes ring) }
+        ensures ready { IsReady self.new }
+        ensures run { (kinds : List HostKind) → HasRun kinds self.old self.new }
+        ensures moved { IsTrue result → (done_of self.new ≡ done_of self.old + 1) × (left_of self.new + 1 ≡ left_of self.old) }
+        ensures stayed { IsFalse result → (done_of self.new ≡ done_of self.old) × (left_of self.new ≡ left_of self.old) }
+        ensures rests { IsFalse result → CanMove self.new → ⊥ }
+        ensures possible { CanMove self.old → IsTrue result }
+    {
+        let end = next_end(&self.actor, &self.state) as usize;
+        match self.takers[end].take() {
+            Some(value) => {
+                after_take(&self.actor, &mut self.state, value);
+                put_out(&self.actor.kind, &mut self.output, value);
+                true
+            }
+            None => false,
+        }
+    }
+
+    // Gives, where a slot is found.
+    fn give<F: Fn(u32, i64, i64) -> i64 + Sync>(&mut self, host: &Host<F>) -> bool
+        requires ready { IsReady self.old }
+        requires next { (ring : ℕ) × IsNext self.old.actor self.old.state (Gives ring) }
+        requires serves { Serves F.pre F.post host.now }
+        requires served { IsServed (length (lent host.now)) self.old }
+        ensures ready { IsReady self.new }
+        ensures run { HasRun (kinds_of (lent host.now)) self.old self.new }
+        ensures moved { IsTrue result → (done_of self.new ≡ done_of self.old + 1) × (left_of self.new + 1 ≡ left_of self.old) }
+        ensures stayed { IsFalse result → (done_of self.new ≡ done_of self.old) × (left_of self.new ≡ left_of self.old) }
+        ensures rests { IsFalse result → CanMove self.new → ⊥ }
+        ensures possible { CanMove self.old → IsTrue result }
+    {
+        let value = give_value(&self.actor, &self.state, &self.input, host);
+        let end = next_end(&self.actor, &self.state) as usize;
+        if self.givers[end].give(value).is_err() {
+            return false;
+        }
+        after_give(&self.actor, &mut self.state);
+        true
+    }
+}
+
+// An output keeps what it takes.
+fn put_out(kind: &ActorKind, output: &mut Vec<i64>, value: i64)
+    requires room { HasSlot kind.now (length output.old.items) (vec_capacity output.old) }
+    ensures kept { output.new.items ≡ out_after kind.now output.old.items value }
+    ensures room { vec_capacity output.old ≤ vec_capacity output.new }
+{
+    if let ActorKind::Output(_) = kind {
+        match output.push(value) {
+            Ok(()) => (),
+            Err(_) => unreachable!(),
+        }
+    }
+}
