@@ -47,4 +47,17 @@ def events():
     return [node("top", f"x :: (1), slow :: {slow}", f"y{names}", chain)]
 
 
-print("\n".join({"words": words, "calls": calls, "doubled": doubled, "events": events}[sys.argv[1]]()))
+def net():
+    """A net of 268 million bits, with eleven thousand actors and twenty-eight thousand rings, or a half or a quarter of these bits."""
+    word = "(1" + "0" * 4095 + ")"
+    choices = lambda count: "if b then b else " * count + "b"
+    nodes = [node("g0", f"b :: {word}", "z", [f"z :: {word} = {choices(99)}"])]
+    for level in range(1, 7):
+        halves = [f"y :: {word} = g{level - 1} at (1) (b)", f"z :: {word} = g{level - 1} at (1) (y)"]
+        nodes.append(node(f"g{level}", f"b :: {word}", "z", halves))
+    levels = {1: [6, 4, 3, 1, 0], 0.5: [5, 3, 2, 0], 0.25: [4, 2, 1]}[part]
+    parts = [f"c{level} :: {word} = g{level} at (1) (b)" for level in levels]
+    return nodes + [node("m", f"b :: {word}", "b", parts + [f"u :: {word} = {choices(84)}"])]
+
+
+print("\n".join({"words": words, "calls": calls, "doubled": doubled, "net": net, "events": events}[sys.argv[1]]()))

@@ -1,0 +1,54 @@
+# texts.py WHAT PART: prints a program that comes near limits of `clocks` with scale 64, or near half or a quarter of them (PART is
+# 1, 0.5 or 0.25).
+import random
+import sys
+
+what, part = sys.argv[1], float(sys.argv[2])
+
+
+def node(name, params, result, definitions):
+    return f"let node {name} {params} = {result}" + (" where rec " + " and ".join(definitions) if definitions else "")
+
+
+def calls():
+    """As many inequalities as are allowed: 59 calls of a node with 64 parameters."""
+    names = [f"a{i}" for i in range(64)]
+    wide = node("wide", f"({', '.join(names)})", "a0", [])
+    given = ", ".join(["x"] * 64)
+    return [wide, node("top", "x", "x", [f"y{i} = wide ({given})" for i in range(int(59 * part))])]
+
+
+def chain(order):
+    """Buffers one behind the other, each with as many positions as fit, whose definitions stand in this order."""
+    count = int(255 * part)
+    definitions = [f"y{i} = buffer (y{i - 1})" if i else "y0 = x" for i in range(count)]
+    if order == "reversed":
+        definitions.reverse()
+    if order == "scattered":
+        random.Random(1).shuffle(definitions)
+    return [node("top", "x", f"y{count - 1}", definitions)]
+
+
+def components():
+    """As many components as there are positions for."""
+    count = int(64 * part)
+    return [node(f"part{k}", f"({', '.join(f'a{i}' for i in range(count))})", "a0", []) for k in range(8)]
+
+
+def cycle():
+    """No clocks: an item is wanted before it comes, through all buffers of a chain whose definitions are scattered."""
+    count = int(250 * part)
+    definitions = [f"y{i} = buffer (y{i - 1})" for i in range(1, count)]
+    random.Random(1).shuffle(definitions)
+    return [node("top", "x", "z", ["y0 = x when 0(1)"] + definitions + [f"z = y{count - 1} + x when (1)"])]
+
+
+kinds = {
+    "calls": calls,
+    "chain": lambda: chain("forward"),
+    "reversed": lambda: chain("reversed"),
+    "scattered": lambda: chain("scattered"),
+    "components": components,
+    "cycle": cycle,
+}
+print("\n".join(kinds[what]()))
