@@ -43,7 +43,19 @@ def cycle():
     return [node("top", "x", "z", ["y0 = x when 0(1)"] + definitions + [f"z = y{count - 1} + x when (1)"])]
 
 
+def trees():
+    """The most steps back and forth in growing a tree: each clock that it reaches is named by a need far in front, behind which thousands
+    stand that join nothing more."""
+    count, wide = int(1000 * part), ",".join(["x"] * 64)
+    definitions = [f"c{i} = 0" for i in range(count)] + [f"z{i} = f ({wide})" for i in range(int(400 * part))]
+    for first in range(0, count, 200):
+        definitions.append(f"s{first} = x" + "".join(f" + c{i}" for i in range(first, min(first + 200, count))))
+    params = ", ".join(f"a{i}" for i in range(64))
+    return [node("f", f"({params})", "a0", [])] + [node(f"top{k}", "x", "s0", definitions) for k in range(13)]
+
+
 kinds = {
+    "trees": trees,
     "calls": calls,
     "chain": lambda: chain("forward"),
     "reversed": lambda: chain("reversed"),

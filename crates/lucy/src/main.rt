@@ -5,6 +5,7 @@
 use lucy_app::{lucy, program_operators};
 use lucy_host::Host;
 use lucy_text::{RealShelf, RealSink, RealSource};
+use lucy_worker::OpenGate;
 use std::alloc::Global;
 use std::env::{self, Env};
 use std::io::{self, ErrorKind};
@@ -38,12 +39,14 @@ fn main(rt: HostRuntime) -> ExitCode {
     };
     let host = Host::new(ops, |op: u32, a: i64, b: i64| kinds.value(op, a, b));
     let status = lucy(
+        &rt,
         alloc,
         &words,
         &mut RealShelf::new(&rt),
         &mut RealSource::new(rt.stdin()),
         &mut RealSink::new(rt.stdout()),
         &mut RealSink::new(rt.stderr()),
+        &OpenGate,
         &host,
     );
     ExitCode::from(status)

@@ -17,7 +17,7 @@ use Rattle.lucy_app.specs.Programs.{OwesProgram}
 use Rattle.lucy_app.specs.Outcomes.{bytes_of, refusal_answer, fetch_refusal, RefusesProgram, RefusesInput, IsOutcome, read_refusal}
 use Rattle.lucy_front.specs.declared.refusal.Refusal.{Refusal as Reason}
 use Rattle.lucy_app.specs.declared.refusal.Refusal.{Refusal}
-use Rattle.lucy_app.specs.declared.refusal.Refusal.TheVariants.{ReadFault, OutOfMemory}
+use Rattle.lucy_app.specs.declared.refusal.Refusal.TheVariants.{OutOfMemory}
 
 pub program_owed : (Prints : List ℕ → List ℕ → Type 0) (Refuses : List ℕ → Reason → Type 0) (text : List ℕ) (r : Result (Vec ℕ Global) Refusal) →
     IfOk r (λ v. Prints text v.items) → IfErr r (RefusesProgram (Refuses text)) → IsOutcome (OwesProgram Prints Refuses (Ok text)) r

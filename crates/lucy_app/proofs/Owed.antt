@@ -45,7 +45,7 @@ owes_one run kahn (Types file) given a b is also = fetched_owes_one (IsReportOf 
 owes_one run kahn (Check file) given a b is also =
     fetched_owes_one (IsCheckOf given.operators written_options) (RefusesCheck given.operators written_options) (check_verdict given.operators written_options) given.fetched a b is also
 owes_one run kahn (Clocks file options) given a b is also = fetched_owes_one (IsCheckOf given.operators options) (RefusesCheck given.operators options) (check_verdict given.operators options) given.fetched a b is also
-owes_one run kahn (Run file options instants) given a b is also =
+owes_one run kahn (Run file options instants workers) given a b is also =
     runs_alike (λ p. OwesRun (kinds_of given.operators) p instants given.taken given.stop) (run_once run (kinds_of given.operators) instants given.taken given.stop) given.operators options instants given.stop given.fetched
     a b is also
 owes_one run kahn (Kahn file options instants) given a b is also =

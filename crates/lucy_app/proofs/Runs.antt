@@ -1,6 +1,6 @@
 -- How a command ends that runs a program.
 use Rattle.lucy_front.specs.declared.options.Options.{Options}
-use Rattle.std.proofs.Common.{ℕ, ◌≡◌, ◌⊎◌, List, [], length, take, Option, Result, Ok, Err, refl, ap, sym, subst, inl, inr, arith}
+use Rattle.std.proofs.Common.{ℕ, ◌≡◌, ◌⊎◌, List, length, Option, Result, Ok, Err, refl, sym, inl, inr, arith}
 use Rattle.std.specs.Prelude.{IsOkAnd}
 use Rattle.std.proofs.lemmas.List.{take_all}
 use Rattle.lucy_host.specs.Operators.{Operator}
@@ -14,7 +14,7 @@ use Rattle.lucy_run.specs.Ends.{IsFrontOf, EndsWith}
 use Rattle.lucy_app.specs.Answers.{Answer, out_of_memory}
 use Rattle.lucy_app.specs.Endings.{ended}
 use Rattle.lucy_app.specs.Running.{IsRunnable, OwesRefusal, OwesRunning, OwesRunningOutput}
-use Rattle.lucy_app.specs.Ends.{Tells, EndsBy}
+use Rattle.lucy_app.specs.Ends.{Tells}
 use Rattle.lucy_app.specs.Outcomes.{refusal_answer, TellsRefusal, TellsEnding, EndsRun}
 use Rattle.lucy_app.specs.declared.refusal.Refusal.{Refusal}
 use Rattle.lucy_app.specs.declared.refusal.Refusal.TheVariants as refusal

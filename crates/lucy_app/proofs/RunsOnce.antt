@@ -1,7 +1,7 @@
 -- What a command owes that runs a program is one answer, but for the evidence of a refusal.
 use Rattle.lucy_front.specs.declared.options.Options.{Options}
-use Rattle.std.proofs.Common.{ℕ, ◌≡◌, ◌⊎◌, List, [], Option, Some, None, Result, Ok, Err, refl, ap, sym, ◌∙◌, subst, inl, inr}
-use Rattle.std.specs.Prelude.{IsOkAnd, IsSomeAnd, ◌++◌, codes}
+use Rattle.std.proofs.Common.{ℕ, ◌≡◌, List, Option, Some, None, Result, Ok, Err, ap, sym, ◌∙◌, subst, inl, inr}
+use Rattle.std.specs.Prelude.{IsSomeAnd, ◌++◌, codes}
 use Rattle.lucy_host.specs.Operators.{Operator}
 use Rattle.lucy_host.specs.declared.kind.HostKind.{HostKind}
 use Rattle.lucy_text.specs.declared.shelf.ShelfError.{ShelfError}
@@ -11,7 +11,6 @@ use Rattle.lucy_place.specs.declared.placed.PlacedNode.{PlacedNode}
 use Rattle.lucy_clock.specs.declared.node_clock.NodeClock.{NodeClock}
 use Rattle.lucy_execution.specs.Streams.{param_words}
 use Rattle.lucy_front.specs.declared.accepted.Accepted.{Accepted}
-use Rattle.lucy_front.specs.declared.refusal.Refusal.{Refusal}
 use Rattle.lucy_front.specs.Accepting.{IsAccepted}
 use Rattle.lucy_front.specs.Report.{report}
 use Rattle.lucy_front.specs.Scheduled.{inputs_of, outputs_of}
@@ -23,7 +22,7 @@ use Rattle.lucy_run.specs.Laws.{OneRun, OneInterpretation}
 use Rattle.lucy_app.specs.Answers.{Answer, Alike}
 use Rattle.lucy_app.specs.Check.{RefusesCheck}
 use Rattle.lucy_app.specs.Endings.{ended}
-use Rattle.lucy_app.specs.Running.{LacksInstants, IsRunnable, NoPrint, OwesRefusal, OwesRunning}
+use Rattle.lucy_app.specs.Running.{LacksInstants, NoPrint, OwesRefusal, OwesRunning}
 use Rattle.lucy_app.proofs.Verdicts.{IsVerdict}
 use Rattle.lucy_app.proofs.Checked.{checks_apart, checks_alike}
 use Rattle.lucy_app.proofs.OwedPrograms.{program_owes_one}

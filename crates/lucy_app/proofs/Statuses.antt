@@ -96,7 +96,7 @@ owed_within (Show file) given a is = fetched_within IsPrintOf RefusesSyntax give
 owed_within (Types file) given a is = fetched_within (IsReportOf given.operators) (RefusesText given.operators) given.fetched a is
 owed_within (Check file) given a is = fetched_within (IsCheckOf given.operators written_options) (RefusesCheck given.operators written_options) given.fetched a is
 owed_within (Clocks file options) given a is = fetched_within (IsCheckOf given.operators options) (RefusesCheck given.operators options) given.fetched a is
-owed_within (Run file options instants) given a is = run_within (λ p. OwesRun (kinds_of given.operators) p instants given.taken given.stop) given.operators options instants given.stop given.fetched a is
+owed_within (Run file options instants workers) given a is = run_within (λ p. OwesRun (kinds_of given.operators) p instants given.taken given.stop) given.operators options instants given.stop given.fetched a is
 owed_within (Kahn file options instants) given a is = run_within (λ p. OwesKahn (kinds_of given.operators) p instants given.taken given.stop) given.operators options instants given.stop given.fetched a is
 
 answer_within : (command : Command) (given : Given) (a : Answer) → MayAnswer (Owes command given) (OwesOutput command given) a → a.status ≤ 7

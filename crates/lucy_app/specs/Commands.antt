@@ -1,5 +1,5 @@
 -- The commands, and which of them a list of words names.
-use Rattle.std.specs.Prelude.{ℕ, ◌≤◌, Bool, false, true, not, ◌==◌, ◌&&◌, nat_le, List, [], ◌∷◌, length, Option, Some, None, codes, if◌then◌else◌}
+use Rattle.std.specs.Prelude.{ℕ, Bool, false, true, not, ◌==◌, ◌&&◌, nat_le, List, [], ◌∷◌, length, Option, Some, None, codes, if◌then◌else◌}
 use Rattle.std.specs.Option.{option_map, option_and_then}
 use Rattle.std.specs.Str.{bytes_eq, all_ascii_digits}
 use Rattle.std.specs.Str.Parse.{digits_value}
@@ -16,7 +16,7 @@ pub data Command : Type 0 where
   Types : (file : List ℕ) → Command
   Check : (file : List ℕ) → Command
   Clocks : (file : List ℕ) (options : Options) → Command
-  Run : (file : List ℕ) (options : Options) (instants : Option ℕ) → Command
+  Run : (file : List ℕ) (options : Options) (instants : Option ℕ) (workers : ℕ) → Command
   Kahn : (file : List ℕ) (options : Options) (instants : Option ℕ) → Command
 
 -- each node has to be written
@@ -27,6 +27,14 @@ written_options = record { scale = 1; lead = 1; written_only = true }
 abbrev pub or_one : Option ℕ → ℕ
 or_one None = 1
 or_one (Some n) = n
+
+-- the greatest number of workers, and how many there are where none is given
+abbrev pub most_workers : ℕ
+most_workers = 64
+
+abbrev pub or_four : Option ℕ → ℕ
+or_four None = 4
+or_four (Some n) = n
 
 abbrev pub inferring_options : (scale lead : Option ℕ) → Options
 inferring_options scale lead = record { scale = or_one scale; lead = or_one lead; written_only = false }
@@ -54,7 +62,7 @@ number_of least most word = if is_number least most word then Some (digits_value
 
 -- no option has stood yet
 abbrev pub no_numbers : Numbers
-no_numbers = record { scale = None; lead = None; instants = None }
+no_numbers = record { scale = None; lead = None; instants = None; workers = None }
 
 -- the number of an option that stands there, which it may once
 abbrev pub once : (before found : Option ℕ) → Option ℕ
@@ -62,23 +70,25 @@ once None found = found
 once (Some n) found = None
 
 -- the numbers of the options, with that of one that stands there: it is one of the command, and has not stood before
-abbrev pub with_number : (runs : Bool) (option word : List ℕ) → Numbers → Option Numbers
-with_number runs option word n =
+abbrev pub with_number : (runs moves : Bool) (option word : List ℕ) → Numbers → Option Numbers
+with_number runs moves option word n =
     if bytes_eq option (codes "--scale") then option_map (λ found. record n { scale = Some found }) (once n.scale (number_of 1 most_scale word))
     else (if bytes_eq option (codes "--lead") then option_map (λ found. record n { lead = Some found }) (once n.lead (number_of 1 most_scale word))
     else (if runs && bytes_eq option (codes "--instants") then option_map (λ found. record n { instants = Some found }) (once n.instants (number_of 0 (limit_number limit.Instants) word))
-    else None))
+    else (if moves && bytes_eq option (codes "--workers") then option_map (λ found. record n { workers = Some found }) (once n.workers (number_of 1 most_workers word))
+    else None)))
 
 -- the numbers of options in any order, each as two words, behind those that have stood
-abbrev pub numbers_in : (runs : Bool) (behind : List (List ℕ)) → Numbers → Option Numbers
-numbers_in runs [] n = Some n
-numbers_in runs (option ∷ []) n = None
-numbers_in runs (option ∷ (word ∷ more)) n = option_and_then (numbers_in runs more) (with_number runs option word n)
+abbrev pub numbers_in : (runs moves : Bool) (behind : List (List ℕ)) → Numbers → Option Numbers
+numbers_in runs moves [] n = Some n
+numbers_in runs moves (option ∷ []) n = None
+numbers_in runs moves (option ∷ (word ∷ more)) n = option_and_then (numbers_in runs moves more) (with_number runs moves option word n)
 
--- FILE, and the numbers of the options behind it; a command that runs a program may have instants too
-abbrev pub file_and_numbers : (runs : Bool) (behind : List (List ℕ)) → Option (List ℕ × Numbers)
-file_and_numbers runs [] = None
-file_and_numbers runs (file ∷ more) = if is_file file then option_map (λ n. (file, n)) (numbers_in runs more no_numbers) else None
+-- FILE, and the numbers of the options behind it; a command that runs a program may have instants too, and one that moves its net's
+-- actors may have workers
+abbrev pub file_and_numbers : (runs moves : Bool) (behind : List (List ℕ)) → Option (List ℕ × Numbers)
+file_and_numbers runs moves [] = None
+file_and_numbers runs moves (file ∷ more) = if is_file file then option_map (λ n. (file, n)) (numbers_in runs moves more no_numbers) else None
 
 -- how clocks are inferred with these
 abbrev pub options_of : Numbers → Options
@@ -96,9 +106,9 @@ command_named name behind =
     else (if bytes_eq name (codes "show") then option_map Show (only_file behind)
     else (if bytes_eq name (codes "types") then option_map Types (only_file behind)
     else (if bytes_eq name (codes "check") then option_map Check (only_file behind)
-    else (if bytes_eq name (codes "clocks") then option_map (λ found. Clocks found.0 (options_of found.1)) (file_and_numbers false behind)
-    else (if bytes_eq name (codes "run") then option_map (λ found. Run found.0 (options_of found.1) found.1.instants) (file_and_numbers true behind)
-    else (if bytes_eq name (codes "kahn") then option_map (λ found. Kahn found.0 (options_of found.1) found.1.instants) (file_and_numbers true behind) else None))))))
+    else (if bytes_eq name (codes "clocks") then option_map (λ found. Clocks found.0 (options_of found.1)) (file_and_numbers false false behind)
+    else (if bytes_eq name (codes "run") then option_map (λ found. Run found.0 (options_of found.1) found.1.instants (or_four found.1.workers)) (file_and_numbers true true behind)
+    else (if bytes_eq name (codes "kahn") then option_map (λ found. Kahn found.0 (options_of found.1) found.1.instants) (file_and_numbers true false behind) else None))))))
 
 -- the command that the words name, where they name one
 abbrev pub command_of : (words : List (List ℕ)) → Option Command
@@ -113,7 +123,7 @@ file_of (Some (Show file)) = Some file
 file_of (Some (Types file)) = Some file
 file_of (Some (Check file)) = Some file
 file_of (Some (Clocks file options)) = Some file
-file_of (Some (Run file options instants)) = Some file
+file_of (Some (Run file options instants workers)) = Some file
 file_of (Some (Kahn file options instants)) = Some file
 
 -- how many bytes may be taken from the source, and one more, where the words name a command that may read it
@@ -124,5 +134,5 @@ input_of (Some (Show file)) = None
 input_of (Some (Types file)) = None
 input_of (Some (Check file)) = None
 input_of (Some (Clocks file options)) = None
-input_of (Some (Run file options instants)) = Some (limit_number limit.Input)
+input_of (Some (Run file options instants workers)) = Some (limit_number limit.Input)
 input_of (Some (Kahn file options instants)) = Some (limit_number limit.Input)

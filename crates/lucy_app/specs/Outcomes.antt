@@ -38,7 +38,7 @@ named (Show file) = names.Show file.now
 named (Types file) = names.Types file.now
 named (Check file) = names.Check file.now
 named (Clocks file options) = names.Clocks file.now options
-named (Run file options instants) = names.Run file.now options instants
+named (Run file options instants workers) = names.Run file.now options instants workers
 named (Kahn file options instants) = names.Kahn file.now options instants
 
 -- instants that are given are within their limit
@@ -49,15 +49,20 @@ AreFew instants = IfSome instants (λ given. given ≤ limit_number limit.Instan
 abbrev pub IsScale : Option ℕ → Type 0
 IsScale given = IfSome given (λ n. (1 ≤ n) × (n ≤ most_scale))
 
+-- the workers that are given are within their limit, and so are those that move a net
+abbrev pub AreWorkers : ℕ → Type 0
+AreWorkers workers = (1 ≤ workers) × (workers ≤ names.most_workers)
+
 -- the numbers of options are within their limits
 pub record AreNumbers (n : Numbers) : Type 0 where
   pub scale : IsScale n.scale
   pub lead : IsScale n.lead
   pub instants : AreFew n.instants
+  pub workers : IfSome n.workers AreWorkers
 
 abbrev pub IsWithin : Command → Type 0
 IsWithin (Clocks file options) = AreOptions options
-IsWithin (Run file options instants) = AreOptions options × AreFew instants
+IsWithin (Run file options instants workers) = AreOptions options × AreFew instants × AreWorkers workers
 IsWithin (Kahn file options instants) = AreOptions options × AreFew instants
 IsWithin command = Unit {0}
 

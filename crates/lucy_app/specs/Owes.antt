@@ -32,14 +32,14 @@ Owes (Show file) given answer = IsSomeAnd given.fetched (λ fetched. OwesProgram
 Owes (Types file) given answer = IsSomeAnd given.fetched (λ fetched. OwesProgram (IsReportOf given.operators) (RefusesText given.operators) fetched answer)
 Owes (Check file) given answer = IsSomeAnd given.fetched (λ fetched. OwesProgram (IsCheckOf given.operators written_options) (RefusesCheck given.operators written_options) fetched answer)
 Owes (Clocks file options) given answer = IsSomeAnd given.fetched (λ fetched. OwesProgram (IsCheckOf given.operators options) (RefusesCheck given.operators options) fetched answer)
-Owes (Run file options instants) given answer =
+Owes (Run file options instants workers) given answer =
     IsSomeAnd given.fetched (λ fetched. OwesRunning (λ a. OwesRun (kinds_of given.operators) a instants given.taken given.stop) given.operators options instants given.stop fetched answer)
 Owes (Kahn file options instants) given answer =
     IsSomeAnd given.fetched (λ fetched. OwesRunning (λ a. OwesKahn (kinds_of given.operators) a instants given.taken given.stop) given.operators options instants given.stop fetched answer)
 
 -- a command that runs a program owes this output, also where reading was given up
 abbrev pub OwesLines : Command → Given → (output : List ℕ) → Type 0
-OwesLines (Run file options instants) given output =
+OwesLines (Run file options instants workers) given output =
     IsSomeAnd given.fetched (λ fetched. OwesRunningOutput (λ a. OwesRunOutput (kinds_of given.operators) a instants given.taken given.stop) given.operators options instants fetched output)
 OwesLines (Kahn file options instants) given output =
     IsSomeAnd given.fetched (λ fetched. OwesRunningOutput (λ a. OwesKahnOutput (kinds_of given.operators) a instants given.taken given.stop) given.operators options instants fetched output)

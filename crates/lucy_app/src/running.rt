@@ -10,14 +10,16 @@ ghost use Rattle.lucy_flat.specs.Clocked.{AreClocked};
 ghost use Rattle.lucy_front.specs.Inferring.{AreOptions};
 ghost use Rattle.lucy_front.specs.Report.{IsReportable};
 ghost use Rattle.lucy_run.specs.Owes.{OwesRun, OwesRunOutput, OwesKahn, OwesKahnOutput};
-ghost use Rattle.lucy_app.specs.Outcomes.{bytes_of, AreFew, IsAccepting, EndsRun, Tellable};
+ghost use Rattle.lucy_app.specs.Outcomes.{bytes_of, AreFew, AreWorkers, IsAccepting, EndsRun, Tellable};
 
 use crate::output::{conclude, refuse};
 use crate::refusal::Refusal;
 use lucy_front::{Accepted, Options, accept};
 use lucy_host::{Host, Ops};
 use lucy_text::{ShelfError, Sink, Source};
+use lucy_worker::Gate;
 use std::alloc::Global;
+use std::thread::Threads;
 
 // The program of what the fetch gave, where the host has these operators and clocks are found so, if it can be run for these
 // instants.
@@ -49,20 +51,31 @@ fn accepted(
     Ok(accepted)
 }
 
-/// Runs the program of what the fetch gave on the input: its report, the line `run`, and the output lines.
-pub(crate) fn run<I: Source, O: Sink, E: Sink, F: Fn(u32, i64, i64) -> i64 + Sync>(
+/// Runs the program of what the fetch gave on the input, by so many workers: its report, the line `run`, and the output lines.
+pub(crate) fn run<
+    R: Threads + Sync,
+    I: Source,
+    O: Sink,
+    E: Sink,
+    G: Gate + Sync,
+    F: Fn(u32, i64, i64) -> i64 + Sync,
+>(
+    rt: &R,
     alloc: Global,
     fetched: Result<Vec<u8>, ShelfError>,
     options: &Options,
     instants: Option<u64>,
+    workers: u32,
     input: &mut I,
     out: &mut O,
     err: &mut E,
+    gate: &G,
     host: &Host<F>,
 ) -> u8
     requires serves { Serves F.pre F.post host.now }
     requires options { AreOptions options.now }
     requires few { AreFew instants }
+    requires workers { AreWorkers workers }
     ensures ends { (taken : List ℕ) × (stop : Stop) × Read (limit_number limit.Input)
         (seen_source (I.left input.old) (I.ended input.old) (I.faults input.old) (I.since_stop input.old))
         (seen_source (I.left input.new) (I.ended input.new) (I.faults input.new) (I.since_stop input.new)) taken stop
@@ -79,7 +92,9 @@ pub(crate) fn run<I: Source, O: Sink, E: Sink, F: Fn(u32, i64, i64) -> i64 + Syn
 {
     match accepted(alloc, fetched, options, instants, host.ops()) {
         Ok(accepted) => {
-            let ending = lucy_run::run(alloc, accepted, host, instants, input, out);
+            let ending = lucy_run::run(
+                rt, alloc, accepted, host, gate, instants, workers, input, out,
+            );
             conclude(alloc, err, ending)
         }
         Err(refusal) => refuse(alloc, err, refusal),

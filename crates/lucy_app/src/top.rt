@@ -13,7 +13,9 @@ use crate::words::{Command, WRITTEN, command_of};
 use crate::{check, order, running, show, types};
 use lucy_host::Host;
 use lucy_text::{Shelf, Sink, Source};
+use lucy_worker::Gate;
 use std::alloc::Global;
+use std::thread::Threads;
 
 /// All that the program does with the words after its name. The answer is the status that it ends with:
 ///
@@ -50,13 +52,26 @@ use std::alloc::Global;
 /// follows one that failed.
 ///
 /// `Ends` says all this, by the command that the words name.
-pub fn lucy<S: Shelf, I: Source, O: Sink, E: Sink, F: Fn(u32, i64, i64) -> i64 + Sync>(
+///
+/// `run` moves the actors of the program's net by workers, each on a thread of its own where there are several; each passes the gate
+/// before it moves. The call returns if the gate does.
+pub fn lucy<
+    R: Threads + Sync,
+    S: Shelf,
+    I: Source,
+    O: Sink,
+    E: Sink,
+    G: Gate + Sync,
+    F: Fn(u32, i64, i64) -> i64 + Sync,
+>(
+    rt: &R,
     alloc: Global,
     words: &[String],
     shelf: &mut S,
     input: &mut I,
     out: &mut O,
     err: &mut E,
+    gate: &G,
     host: &Host<F>,
 ) -> u8
     requires { Serves F.pre F.post host.now }
@@ -123,9 +138,11 @@ pub fn lucy<S: Shelf, I: Source, O: Sink, E: Sink, F: Fn(u32, i64, i64) -> i64 +
                 check::answer(alloc, fetched, host.ops(), &options),
             )
         }
-        Some(Command::Run(file, options, instants)) => {
+        Some(Command::Run(file, options, instants, workers)) => {
             let fetched = fetch(alloc, shelf, file);
-            running::run(alloc, fetched, &options, instants, input, out, err, host)
+            running::run(
+                rt, alloc, fetched, &options, instants, workers, input, out, err, gate, host,
+            )
         }
         Some(Command::Kahn(file, options, instants)) => {
             let fetched = fetch(alloc, shelf, file);

@@ -3,8 +3,8 @@ ghost use Rattle.std.specs.Prelude.{◌≡◌, ◌≤◌, IfSome, map, string_by
 ghost use Rattle.std.specs.Option.{option_map};
 ghost use Rattle.std.specs.Str.{all_ascii_digits};
 ghost use Rattle.lucy_front.specs.Inferring.{AreOptions};
-ghost use Rattle.lucy_app.specs.Commands.{is_file, only_file, number_of, once, with_number, no_numbers, numbers_in, file_and_numbers, options_of, command_of};
-ghost use Rattle.lucy_app.specs.Outcomes.{named, AreNumbers, IsWithin};
+ghost use Rattle.lucy_app.specs.Commands.{is_file, only_file, number_of, once, with_number, no_numbers, numbers_in, file_and_numbers, options_of, or_four, command_of};
+ghost use Rattle.lucy_app.specs.Outcomes.{named, AreNumbers, AreWorkers, IsWithin};
 
 use lucy_front::Options;
 use lucy_word::Limit;
@@ -21,18 +21,21 @@ pub(crate) enum Command<'a> {
     Check(&'a str),
     /// With the name of its file, and how its clocks are inferred.
     Clocks(&'a str, Options),
-    /// With the name of its file, how its clocks are inferred, and the instants where they are given, up to 1,048,576.
-    Run(&'a str, Options, Option<u64>),
-    /// Likewise.
+    /// With the name of its file, how its clocks are inferred, the instants where they are given, up to 1,048,576, and the number of
+    /// workers, from 1 to 64.
+    Run(&'a str, Options, Option<u64>, u32),
+    /// Likewise, without workers.
     Kahn(&'a str, Options, Option<u64>),
 }
 
-/// The numbers of the options of a command, where they stand: the scale and the lead from 1 to 64, the instants up to 1,048,576.
+/// The numbers of the options of a command, where they stand: the scale, the lead and the workers from 1 to 64, the instants up to
+/// 1,048,576.
 #[derive(Clone, Copy)]
 pub(crate) struct Numbers {
     pub scale: Option<u64>,
     pub lead: Option<u64>,
     pub instants: Option<u64>,
+    pub workers: Option<u64>,
 }
 
 /// How a program's clocks are found where each node has to be written.
@@ -44,6 +47,11 @@ pub(crate) const WRITTEN: Options = Options {
 
 /// The greatest scale, and the greatest lead.
 const MOST_SCALE: u64 = 64;
+
+/// The greatest number of workers, and how many there are where none is given.
+const MOST_WORKERS: u64 = 64;
+
+const WORKERS: u64 = 4;
 
 fn is_file(word: &str) -> bool
     ensures { result ≡ is_file word.now }
@@ -103,10 +111,17 @@ fn once(before: Option<u64>, found: Option<u64>) -> Option<u64>
     }
 }
 
-// The numbers of the options, with that of one more. A command that runs a program may have instants.
-fn with_number(runs: bool, option: &str, word: &str, numbers: Numbers) -> Option<Numbers>
+// The numbers of the options, with that of one more. A command that runs a program may have instants, and one that moves its net's
+// actors may have workers.
+fn with_number(
+    runs: bool,
+    moves: bool,
+    option: &str,
+    word: &str,
+    numbers: Numbers,
+) -> Option<Numbers>
     requires { AreNumbers numbers }
-    ensures is { result ≡ with_number runs option.now word.now numbers }
+    ensures is { result ≡ with_number runs moves option.now word.now numbers }
     ensures within { IfSome result AreNumbers }
 {
     if option == "--scale" {
@@ -125,38 +140,43 @@ fn with_number(runs: bool, option: &str, word: &str, numbers: Numbers) -> Option
             ..numbers
         });
     }
+    if moves && option == "--workers" {
+        let workers = Some(once(numbers.workers, number(word, 1, MOST_WORKERS))?);
+        return Some(Numbers { workers, ..numbers });
+    }
     None
 }
 
 // The numbers of options in any order, each as two words.
-fn numbers_in(runs: bool, behind: &[String]) -> Option<Numbers>
-    ensures is { result ≡ numbers_in runs (map string_bytes behind.now) no_numbers }
+fn numbers_in(runs: bool, moves: bool, behind: &[String]) -> Option<Numbers>
+    ensures is { result ≡ numbers_in runs moves (map string_bytes behind.now) no_numbers }
     ensures within { IfSome result AreNumbers }
 {
     let mut numbers = Numbers {
         scale: None,
         lead: None,
         instants: None,
+        workers: None,
     };
     let mut rest = behind;
     'each: while let Some((option, more)) = rest.split_first() {
         let (word, left) = more.split_first()?;
-        numbers = with_number(runs, option, word, numbers)?;
+        numbers = with_number(runs, moves, option, word, numbers)?;
         rest = left;
     }
     Some(numbers)
 }
 
 // The file behind the name of a command, and the numbers of the options behind it.
-fn file_and_numbers(runs: bool, behind: &[String]) -> Option<(&str, Numbers)>
-    ensures is { option_map (λ found. (found.0.now, found.1)) result ≡ file_and_numbers runs (map string_bytes behind.now) }
+fn file_and_numbers(runs: bool, moves: bool, behind: &[String]) -> Option<(&str, Numbers)>
+    ensures is { option_map (λ found. (found.0.now, found.1)) result ≡ file_and_numbers runs moves (map string_bytes behind.now) }
     ensures within { IfSome result (λ found. AreNumbers found.1) }
 {
     let (file, more) = behind.split_first()?;
     if !is_file(file) {
         return None;
     }
-    Some((file.as_str(), numbers_in(runs, more)?))
+    Some((file.as_str(), numbers_in(runs, moves, more)?))
 }
 
 impl Numbers {
@@ -171,6 +191,15 @@ impl Numbers {
             lead: self.lead.unwrap_or(1),
             written_only: false,
         }
+    }
+
+    // How many workers move the actors, 4 where none is given.
+    fn workers(&self) -> u32
+        requires { AreNumbers self.now }
+        ensures is { result ≡ or_four self.now.workers }
+        ensures within { AreWorkers result }
+    {
+        self.workers.unwrap_or(WORKERS) as u32
     }
 }
 
@@ -198,15 +227,15 @@ pub(crate) fn command_of(words: &[String]) -> Option<Command<'_>>
         return Some(Command::Check(only_file(behind)?));
     }
     if name == "clocks" {
-        let (file, numbers) = file_and_numbers(false, behind)?;
+        let (file, numbers) = file_and_numbers(false, false, behind)?;
         return Some(Command::Clocks(file, numbers.options()));
     }
     if name == "run" {
-        let (file, numbers) = file_and_numbers(true, behind)?;
-        return Some(Command::Run(file, numbers.options(), numbers.instants));
+        let (file, numbers) = file_and_numbers(true, true, behind)?;
+        return Some(Command::Run(file, numbers.options(), numbers.instants, numbers.workers()));
     }
     if name == "kahn" {
-        let (file, numbers) = file_and_numbers(true, behind)?;
+        let (file, numbers) = file_and_numbers(true, false, behind)?;
         return Some(Command::Kahn(file, numbers.options(), numbers.instants));
     }
     None

@@ -9,8 +9,6 @@ mod checking;
 mod fault;
 mod grow;
 mod need;
-#[cfg(test)]
-mod tests;
 
 pub use checking::check;
 pub use fault::CheckFault;

@@ -1,6 +1,6 @@
 -- From the fields of a core to what contracts see of it.
-use Rattle.std.proofs.Common.{ℕ, ◌+◌, ◌<◌, ◌≡◌, List, length, map, get_or, set, ap, sym, subst, refl, arith}
-use Rattle.std.specs.Prelude.{ℤ, ◌^◌, ◌-◌, Some, slice_get, slice_index}
+use Rattle.std.proofs.Common.{ℕ, ◌+◌, ◌<◌, ◌≡◌, List, length, map, get_or, set, ap, sym, subst, arith}
+use Rattle.std.specs.Prelude.{◌^◌, ◌-◌, Some, slice_get, slice_index}
 use Rattle.std.proofs.lemmas.List.{length-map}
 use Rattle.lucy_host.specs.Operators.{Operator, kinds_of}
 use Rattle.lucy_event.specs.Systems.{RingOp, op_at}
@@ -8,7 +8,7 @@ use Rattle.lucy_event.specs.Runs.{IsPossible}
 use Rattle.lucy_event.specs.Firings.{IsOnRings}
 use Rattle.lucy_net.specs.declared.net.Actor.{Actor}
 use Rattle.lucy_net.specs.declared.state.ActorState.{ActorState}
-use Rattle.lucy_net.specs.States.{IsUsable, IsActorState, IsOfActor, IsNext}
+use Rattle.lucy_net.specs.States.{IsActorState, IsNext}
 use Rattle.lucy_core.specs.Circles.{Held}
 use Rattle.lucy_core.specs.declared.machine.Core.TheInside.{Inside}
 use Rattle.lucy_core.specs.contracts.machine.Core.{the_invariant, the_view}

@@ -1,6 +1,7 @@
 pub mod CircleLaws
 pub mod SeenLaws
 pub mod ListLaws
+pub mod CursorLaws
 pub mod CountingLaws
 pub mod StepLaws
 pub mod PickLaws

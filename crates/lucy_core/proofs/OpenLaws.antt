@@ -1,14 +1,13 @@
 -- What holds of a core as contracts see it.
-use Rattle.std.proofs.Common.{ℕ, suc, ◌≤◌, ◌+◌, ◌*◌, ◌<◌, ◌≡◌, List, [], ◌∷◌, ◌++◌, length, take, get_or, ap, sym, refl, ◌∙◌, subst, arith}
-use Rattle.std.specs.Prelude.{ℤ, Some, slice_get}
+use Rattle.std.proofs.Common.{ℕ, suc, ◌≤◌, ◌+◌, ◌<◌, ◌≡◌, List, [], ◌∷◌, ◌++◌, length, take, get_or, ap, sym, refl, ◌∙◌, subst, arith}
+use Rattle.std.specs.Prelude.{Some, slice_get}
 use Rattle.std.proofs.lemmas.List.Elements.{All-get_or}
 use Rattle.lucy_host.specs.Operators.{kinds_of}
 use Rattle.lucy_word.specs.Bits.{ones_to}
-use Rattle.lucy_host.specs.declared.kind.HostKind.{HostKind}
 use Rattle.lucy_stream.specs.Forms.{Form, Same, operands}
 use Rattle.lucy_stream.specs.Fronts.{IsFront}
 use Rattle.lucy_stream.specs.Firings.{took_in}
-use Rattle.lucy_event.specs.Runs.{IsPossible, IsRun, after, none_done, IsWithin, IsFinished, between, first_left}
+use Rattle.lucy_event.specs.Runs.{IsPossible, IsRun, after, none_done, IsWithin, between, first_left}
 use Rattle.lucy_event.proofs.StuckLaws.{first_left-some}
 use Rattle.lucy_event.specs.States.{State, held, events, IsSame, IsState, Reaches}
 use Rattle.lucy_event.specs.Plans.{link_at, GiveBelow, IsOperand, IsRunnable}
@@ -16,14 +15,13 @@ use Rattle.lucy_event.proofs.AlikeLaws.{IsRun-same, after-same}
 use Rattle.lucy_event.proofs.CoverLaws.{once_at}
 use Rattle.lucy_event.proofs.KahnLaws.{kahn_state_took, kahn_finished_took, kahn_state}
 use Rattle.lucy_net.specs.declared.net.Actor.{Actor}
-use Rattle.lucy_net.specs.declared.net.Net.{Net}
-use Rattle.lucy_net.specs.Plans.{form_of, task_of, plan}
+use Rattle.lucy_net.specs.Plans.{form_of, task_of}
 use Rattle.lucy_event.specs.Schedules.{events_to}
 use Rattle.lucy_cause.specs.Schedules.{Timetable, events_at}
 use Rattle.lucy_net.proofs.NetLaws.{task_at, plugged}
 use Rattle.lucy_net.proofs.BackLaws.{fed, quotas}
 use Rattle.lucy_core.specs.Seen.{Seen, machine_of, machine_on, order_of, order_on, done_of, state_on, one_more, more_done, stepped, after_picks, CanRun, IsOver, IsFixed, IsOutputOf, first_ring, state_of, plan_of, stream_of}
-use Rattle.lucy_core.proofs.SeenLaws.{IsMachineOf, machine_is, state_is, state_done}
+use Rattle.lucy_core.proofs.SeenLaws.{IsMachineOf, state_is, state_done}
 use Rattle.lucy_core.proofs.PickLaws.{done_more, more_after, events_front, events_next}
 use Rattle.lucy_event.proofs.CountedLaws.{counted_later}
 use Rattle.lucy_event.proofs.StateLaws.{held-most}

@@ -1,6 +1,6 @@
 -- Events one after another, by the counts that the code keeps.
 use Rattle.std.proofs.Common.{ℕ, suc, zero, ◌+◌, ◌<◌, ◌≤◌, ◌≡◌, cond, List, [], ◌∷◌, ◌++◌, length, get_or, take, ap, sym, refl, ◌∙◌, subst, inl, inr, arith}
-use Rattle.std.specs.Prelude.{ℤ, pos, All, Option, Some, None, IfSome, slice_get, slice_index}
+use Rattle.std.specs.Prelude.{ℤ, pos, All, Option, Some, None, IfSome, ◌↔◌, slice_get, slice_index}
 use Rattle.std.proofs.lemmas.Bool.{cases_Bool, cases_eq, cases_lt}
 use Rattle.std.proofs.lemmas.Option.{slice_get_within, slice_get_past, slice_get-get_or}
 use Rattle.std.proofs.lemmas.List.{length-set, take_more}
@@ -149,18 +149,18 @@ module _ (net : Net) (m : Machine) (order : List ℕ) (inputs : List (List ℤ))
     | inr ended ↦ ended
   ]
 
-  first_there : (first : Option ℕ) → first_left (done_of done) order ≡ first → ((a : ℕ) → a < length states → IsPossible m.sys (done_of done) a → ⊥) → IsFinished m.sys (done_of done)
-  first_there None e none = first_left-none m.sys (done_of done) order is.wired is.whole kept.within.listed e
-  first_there (Some a) e none =
-      let can : IsPossible m.sys (done_of done) a = first_left-some m.sys (done_of done) order a is.wired is.whole e in
-      absurd (none a (omega (arith, kept.states_count, possible_in net m order inputs kinds instants is (done_of done) a can)) can)
-
-  -- where no actor can step all is done
-  pub none_can : ((a : ℕ) → a < length states → IsPossible m.sys (done_of done) a → ⊥) → IsFinished m.sys (done_of done)
-  none_can none = first_there (first_left (done_of done) order) refl none
+  -- the first event that isn't done is possible
+  pub first_can : (first : Option ℕ) → first_left (done_of done) order ≡ first → IfSome first (λ a. IsPossible m.sys (done_of done) a)
+  first_can None e = tt
+  first_can (Some a) e = first_left-some m.sys (done_of done) order a is.wired is.whole e
 
   pub over_none : (a : ℕ) → IsFinished m.sys (done_of done) → IsPossible m.sys (done_of done) a → ⊥
   over_none a finished can = absurd (omega (arith, can.left, finished a))
+
+  -- and there is one exactly where something is left
+  pub first_over : (first : Option ℕ) → first_left (done_of done) order ≡ first → (first ≡ None) ↔ IsFinished m.sys (done_of done)
+  first_over None e = (λ _. first_left-none m.sys (done_of done) order is.wired is.whole kept.within.listed e, λ _. refl)
+  first_over (Some a) e = (λ no_one. absurd (cc), λ finished. absurd (over_none a finished (first_left-some m.sys (done_of done) order a is.wired is.whole e)))
 
 -- the events of the first instants are a front of those of all
 pub events_front : (sys : System) (d : ℕ → ℕ) (events : ℕ → List ℕ) (t n : ℕ) → t ≤ n → IsRun sys d (events_to events n) → IsRun sys d (events_to events t)
@@ -175,8 +175,3 @@ events_next sys d events t n l run =
     let all : IsRun sys d (events_to events (suc t)) = events_front sys d events (suc t) n (omega arith) run in
     let e : suc t ≡ t + 1 = omega arith in
     subst (λ k. IsRun sys (after d (events_to events t)) (events k)) e (run_rest sys d (events_to events t) (events (suc t)) all)
-
--- where nothing can be picked
-pub none_of : (o : Option ℕ) (P : ℕ → Type 0) → IfSome o P → ((a : ℕ) → P a → ⊥) → o ≡ None
-none_of None P h none = refl
-none_of (Some a) P h none = absurd (none a h)

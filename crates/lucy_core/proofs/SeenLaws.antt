@@ -1,19 +1,19 @@
 -- The machine of a net, and what an event of it changes.
-use Rattle.std.proofs.Common.{ℕ, suc, zero, ◌+◌, ◌<◌, ◌≤◌, ◌≡◌, true, false, cond, List, [], ◌∷◌, ◌++◌, map, length, get_or, drop, ap, sym, ◌∙◌, arith}
+use Rattle.std.proofs.Common.{ℕ, ◌<◌, ◌≤◌, ◌≡◌, true, List, [], ◌∷◌, ◌++◌, map, length, drop, ap, sym, ◌∙◌, arith}
 use Rattle.std.specs.Prelude.{ℤ, All, Some, None, slice_get, slice_index_or, count_by}
 use Rattle.std.specs.Option.{option_map}
 use Rattle.std.proofs.lemmas.Option.{slice_get-map}
 use Rattle.std.proofs.lemmas.List.{take_all}
-use Rattle.lucy_word.specs.Bits.{bit_at, ones_to}
+use Rattle.lucy_word.specs.Bits.{ones_to}
 use Rattle.lucy_host.specs.declared.kind.HostKind.{HostKind}
 use Rattle.lucy_host.specs.Operators.{Operator, kinds_of}
 use Rattle.lucy_stream.specs.Items.{item_at}
-use Rattle.lucy_stream.specs.Forms.{Form, Given, Constant, Pointwise, Hosted, Kept, Merged, Delayed, Same, operands}
+use Rattle.lucy_stream.specs.Forms.{Form, operands}
 use Rattle.lucy_stream.specs.Firings.{fire_value, took_in}
 use Rattle.lucy_event.specs.Systems.{RingOp, Takes, Gives, op_at, IsWired, is_take, takes_before, taken}
 use Rattle.lucy_event.specs.Runs.{IsPossible, IsWhole, IsWithin}
 use Rattle.lucy_event.specs.States.{Machine, IsLocal, State, held, event, IsSame, IsState}
-use Rattle.lucy_event.specs.Firings.{firing_ops, ops_of, fired_at}
+use Rattle.lucy_event.specs.Firings.{ops_of, fired_at}
 use Rattle.lucy_event.specs.Plans.{Link, task_ops, task_value, times, IsOperand, HasInput}
 use Rattle.lucy_event.proofs.CountLaws.{count_take-lt, eqb-same, taken-is}
 use Rattle.lucy_event.proofs.PlanLaws.{IsWired-plan, IsLocal-plan}
@@ -26,7 +26,7 @@ use Rattle.lucy_net.specs.declared.net.RingSpec.{RingSpec}
 use Rattle.lucy_net.specs.declared.net.Net.{Net}
 use Rattle.lucy_net.specs.declared.kind.ActorKind.TheVariants.{Output}
 use Rattle.lucy_net.specs.Plans.{form_of, task_of, plan, net_system}
-use Rattle.lucy_net.specs.States.{IsUsable, operand_at}
+use Rattle.lucy_net.specs.States.{IsUsable}
 use Rattle.lucy_cause.specs.Schedules.{Timetable}
 use Rattle.lucy_net.proofs.NetLaws.{task_at, link_is, plugged, usable}
 use Rattle.lucy_net.proofs.NumberedLaws.{outputs_apart}

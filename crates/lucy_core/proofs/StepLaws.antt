@@ -13,7 +13,7 @@ use Rattle.lucy_stream.specs.Firings.{took_in}
 use Rattle.lucy_event.specs.Systems.{RingOp, Takes, Gives, op_at, given, taken}
 use Rattle.lucy_event.specs.Runs.{IsPossible}
 use Rattle.lucy_event.specs.States.{Machine, held, IsState}
-use Rattle.lucy_event.specs.Firings.{firing_ops, ops_of}
+use Rattle.lucy_event.specs.Firings.{firing_ops}
 use Rattle.lucy_event.specs.Plans.{task_ops, IsOperand, HasInput}
 use Rattle.lucy_event.proofs.CountLaws.{step-same, step-other, given-same, taken-same}
 use Rattle.lucy_event.proofs.StateLaws.{held-count}

@@ -1,4 +1,5 @@
 pub mod Seen
 -- what only serves the proofs
 pub mod Circles
+pub mod Cursors
 pub mod Inside

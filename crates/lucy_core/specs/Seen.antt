@@ -1,5 +1,5 @@
 -- What contracts see of a core, and the state of the net that it is. Actors and rings count from 0, instants from 1.
-use Rattle.std.specs.Prelude.{ℕ, ◌+◌, ◌*◌, ◌<◌, ◌≤◌, ◌≡◌, ℤ, List, [], ◌∷◌, length, replicate, slice_get, slice_set, slice_index, slice_index_or, Some}
+use Rattle.std.specs.Prelude.{ℕ, ◌+◌, ◌*◌, ◌≤◌, ◌≡◌, ℤ, List, [], ◌∷◌, length, replicate, slice_get, slice_set, slice_index, slice_index_or, Some}
 use Rattle.lucy_host.specs.declared.kind.HostKind.{HostKind}
 use Rattle.lucy_host.specs.Operators.{Operator, kinds_of}
 use Rattle.lucy_event.specs.Runs.{IsPossible, IsRun, IsFinished}
@@ -7,7 +7,6 @@ use Rattle.lucy_event.specs.States.{Machine, State}
 use Rattle.lucy_event.specs.Plans.{Plan, machine, kahn_list}
 use Rattle.lucy_event.specs.Counted.{state_at}
 use Rattle.lucy_event.specs.Schedules.{events_to}
-use Rattle.lucy_net.specs.declared.kind.ActorKind.{ActorKind}
 use Rattle.lucy_net.specs.declared.kind.ActorKind.TheVariants.{Output}
 use Rattle.lucy_net.specs.declared.net.Actor.{Actor}
 use Rattle.lucy_net.specs.declared.net.Net.{Net}

@@ -6,6 +6,7 @@
 #![tactic(auto)]
 
 mod circle;
+mod cursor;
 mod ends;
 mod machine;
 mod making;

@@ -1,6 +1,7 @@
-ghost use Rattle.std.specs.Prelude.{ℕ, ◌≡◌, ◌↔◌, ◌≤◌, ◌<◌, ◌+◌, take, length, slice_get, slice_index, List, Some, IsTrue, IfOk, IfSome, None};
+ghost use Rattle.std.specs.Prelude.{ℕ, ◌≡◌, ◌↔◌, ◌≤◌, ◌<◌, ◌+◌, take, length, slice_get, slice_index, slice_index_or, [], List, Some, IsTrue, IfOk, IfSome, None};
 
 use crate::circle::Circle;
+use crate::cursor::Cursor;
 use crate::ends::{input_for, put_out};
 use crate::making::{copy_ops, empty_circles, empty_trays, first_states, going_count};
 use crate::steps::{count_ended, count_event};
@@ -27,8 +28,8 @@ pub struct Core {
     going: u64,
     circles: Vec<Circle>,
     trays: Vec<Tray>,
-    // the actor of the last event, from which on `pick` looks for one
-    last: u32,
+    // the first event of the schedule's order that isn't done, which is always possible
+    cursor: Cursor,
 }
 
 /// What a core was made of: the net, its schedule, the inputs, the operators of the host and the horizon in instants.
@@ -44,7 +45,9 @@ pub struct CoreParts {
 impl Model for Core {
     ghost use Rattle.std.specs.Prelude.{◌≡◌};
     ghost use Rattle.lucy_host.specs.Operators.{kinds_of};
-    ghost use Rattle.lucy_core.specs.Seen.{Seen, machine_on, order_on, IsFixed};
+    ghost use Rattle.lucy_event.specs.Runs.{first_left};
+    ghost use Rattle.lucy_core.specs.Seen.{Seen, machine_on, order_on, done_of, IsFixed};
+    ghost use Rattle.lucy_core.specs.Cursors.{IsIn};
     ghost use Rattle.lucy_core.specs.Inside.{going_in, IsKept};
 
     ghost Value = { Seen };
@@ -53,7 +56,9 @@ impl Model for Core {
 
     ghost invariant = { λ c. IsFixed c.net c.schedule c.inputs c.ops c.instants
         × IsKept c.net (machine_on c.net c.inputs (kinds_of c.ops) c.instants) (order_on c.schedule c.instants) c.instants c.done.items c.states.items c.circles.items c.trays.items
-        × (c.going ≡ going_in c.states.items) };
+        × (c.going ≡ going_in c.states.items)
+        × IsIn c.schedule c.instants c.done.items c.cursor
+        × (c.cursor.next ≡ first_left (done_of c.done.items) (order_on c.schedule c.instants)) };
 }
 
 impl Core {
@@ -93,6 +98,7 @@ impl Core {
         let circles = empty_circles(alloc, net.rings.list())?;
         let trays = empty_trays(alloc, net.actors.list(), instants)?;
         let ops = copy_ops(alloc, ops)?;
+        let cursor = Cursor::new(alloc, &schedule, instants, &done)?;
         Ok(Core {
             net,
             schedule,
@@ -104,7 +110,7 @@ impl Core {
             going,
             circles,
             trays,
-            last: 0,
+            cursor,
         })
     }
 
@@ -158,6 +164,7 @@ impl Core {
         put_out(&spec.kind, &mut self.trays, value);
         count_event(&mut self.done, actor);
         count_ended(&self.states[actor], &mut self.going);
+        self.cursor.go_on(&self.schedule, self.instants, &self.done);
     }
 
     // The actor gives its value to the ring.
@@ -180,6 +187,7 @@ impl Core {
         after_give(spec, &mut self.states[actor]);
         count_event(&mut self.done, actor);
         count_ended(&self.states[actor], &mut self.going);
+        self.cursor.go_on(&self.schedule, self.instants, &self.done);
     }
 
     /// Does the actor's next operation, which is possible.
@@ -194,7 +202,6 @@ impl Core {
             Move::Give(ring) => self.give(host, actor as usize, ring as usize),
             Move::Done => {}
         }
-        self.last = actor;
     }
 
     /// Whether every actor has done its list.
@@ -204,30 +211,13 @@ impl Core {
         self.going == 0
     }
 
-    // The first actor from one on, below an end, that can step.
-    fn first_that_can(&self, from: u32, end: u32) -> Option<u32>
-        ensures some { IfSome result (λ a. CanStep self.now a) }
-        ensures none { result ≡ None → (a : ℕ) → from ≤ a → a < end → CanStep self.now a → ⊥ }
-    {
-        for actor in from..end {
-            if self.can(actor) {
-                return Some(actor);
-            }
-        }
-        None
-    }
-
-    /// An actor that can step, None exactly where every actor has done its list: nothing is ever stuck. It looks from the actor
-    /// of the last event on.
+    /// An actor that can step, None exactly where every actor has done its list: nothing is ever stuck. It is the actor of the
+    /// first event of the schedule's order that isn't done.
     pub fn pick(&self) -> Option<u32>
         ensures possible { IfSome result (λ a. CanStep self.now a) }
         ensures none { (result ≡ None) ↔ IsOver self.now }
     {
-        let count = self.states.len() as u32;
-        match self.first_that_can(self.last, count) {
-            Some(actor) => Some(actor),
-            None => self.first_that_can(0, count),
-        }
+        self.cursor.next()
     }
 
     /// Does the events of these actors in turn, up to the first that isn't possible, and answers how many.
@@ -251,21 +241,21 @@ impl Core {
         picks.len() as u64
     }
 
-    // How many events an instant has.
-    fn event_count(&self, instant: u64) -> usize
-        requires { 1 ≤ instant }
-        ensures { result ≡ length (events_at self.now.schedule instant) }
+    // How many events a row of the schedule has.
+    fn event_count(&self, row: u64) -> usize
+        requires { row < length self.now.schedule.orders }
+        ensures { result ≡ length (slice_index_or self.now.schedule.orders row []) }
     {
-        self.schedule.events(instant).len()
+        self.schedule.events_of(row).len()
     }
 
-    // The actor of an event of an instant.
-    fn event(&self, instant: u64, i: usize) -> u32
-        requires instant { 1 ≤ instant }
-        requires there { i < length (events_at self.now.schedule instant) }
-        ensures { result ≡ slice_index (events_at self.now.schedule instant) i }
+    // The actor of an event of a row.
+    fn event(&self, row: u64, i: usize) -> u32
+        requires row { row < length self.now.schedule.orders }
+        requires there { i < length (slice_index_or self.now.schedule.orders row []) }
+        ensures { result ≡ slice_index (slice_index_or self.now.schedule.orders row []) i }
     {
-        self.schedule.events(instant)[i]
+        self.schedule.events_of(row)[i]
     }
 
     // Does the events of an instant in the schedule's order.
@@ -276,9 +266,9 @@ impl Core {
         requires run { CanRun self.old (events_at self.old.schedule instant) }
         ensures { self.new ≡ after_picks self.old (events_at self.old.schedule instant) }
     {
-        let _ = &self.net;
-        for i in 0..self.event_count(instant) {
-            let actor = self.event(instant, i);
+        let row = self.schedule.row(instant);
+        for i in 0..self.event_count(row) {
+            let actor = self.event(row, i);
             self.step(host, actor);
         }
     }

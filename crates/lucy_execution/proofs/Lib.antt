@@ -3,3 +3,4 @@ pub mod NetLaws
 pub mod StreamLaws
 pub mod ClockLaws
 pub mod OutputLaws
+pub mod InputLaws

@@ -60,11 +60,11 @@ main_counts nodes clocks place t firing is =
     ones_to-on base (main_word nodes clocks place) firing t is.2 ∙ ap (ones_to (main_word nodes clocks place)) ticks
 
 -- a parameter of main is one of the first places
-record IsParam (nodes : List PlacedNode) (place : ℕ) : Type 0 where
+pub record IsParam (nodes : List PlacedNode) (place : ℕ) : Type 0 where
   pub low : 1 ≤ place
   pub high : place ≤ params_in (main_of nodes)
 
-main_param : (nodes : List PlacedNode) → AreProper nodes → (place : ℕ) → kind_at nodes (at [] place) ≡ Some place_kind.Param → IsParam nodes place
+pub main_param : (nodes : List PlacedNode) → AreProper nodes → (place : ℕ) → kind_at nodes (at [] place) ≡ Some place_kind.Param → IsParam nodes place
 main_param nodes proper place e =
     let is = is_at (main_of nodes) place place_kind.Param e in
     let own = (proper_at nodes proper [] is.node is.node_is).2 in
@@ -120,7 +120,7 @@ module _ (nodes : List PlacedNode) (clocks : List NodeClock) (proper : AreProper
 
   module _ (net : Net) (flat : IsFlat nodes clocks net) where
     -- what holds of the actors of instance places and of the outputs holds of all actors
-    each_actor : (P : ℕ → Actor → Type 0) →
+    pub each_actor : (P : ℕ → Actor → Type 0) →
         ((spot : Spot) (kind : PlaceKind) (a : ℕ) (actor : Actor) → kind_at nodes spot ≡ Some kind → actor.kind ≡ actor_of (spot_form spot kind) → IsSpotWord nodes clocks (fires_at spot kind) actor.firing → P a actor) →
         ((i a : ℕ) (actor : Actor) → actor.kind ≡ Output i → slice_get net.actors a ≡ Some actor → P a actor) →
         (a : ℕ) (actor : Actor) → slice_get net.actors a ≡ Some actor → P a actor

@@ -1,10 +1,11 @@
--- The outputs of a core of a program's flat net, list by list.
-use Rattle.std.proofs.Common.{ℕ, ◌+◌, ◌-◌, ◌<◌, ◌≤◌, ◌≡◌, List, [], ◌∷◌, ◌++◌, Some, length, map, take, get_or, ap, sym, ◌∙◌, inl, inr, arith}
+-- The outputs of a runner of a program's flat net, list by list.
+use Rattle.std.proofs.Common.{ℕ, ◌+◌, ◌-◌, ◌<◌, ◌≤◌, ◌≡◌, List, [], ◌∷◌, ◌++◌, Some, length, map, take, drop, get_or, ap, sym, ◌∙◌, inl, inr, arith}
 use Rattle.std.specs.Prelude.{ℤ, slice_get, slice_index, option_map, replicate, Result, Ok, Err, IfOk}
 use Rattle.std.proofs.lemmas.List.{length-map, length-replicate, get_or-replicate, get_or_past, take_more}
 use Rattle.std.proofs.lemmas.Bool.{cases_lt}
 use Rattle.std.proofs.lemmas.Option.{get_or_from_slice_get, slice_get-map}
 use Rattle.lucy_word.specs.Bits.{Bits, ones_to}
+use Rattle.lucy_word.proofs.BitsLaws.{ones_to-none}
 use Rattle.lucy_host.specs.declared.kind.HostKind.{HostKind}
 use Rattle.lucy_host.specs.Operators.{Operator, kinds_of}
 use Rattle.lucy_event.specs.Plans.{GiveBelow}
@@ -15,6 +16,7 @@ use Rattle.lucy_net.specs.declared.net.Actor.{Actor}
 use Rattle.lucy_net.specs.declared.net.Net.{Net}
 use Rattle.lucy_cause.specs.Schedules.{Timetable}
 use Rattle.lucy_core.specs.Seen.{Seen, IsOver, IsUnbegun, IsOutputOf, first_ring, first_seen, done_of, stream_of, plan_of}
+use Rattle.lucy_runner.specs.Views.{RunnerView}
 use Rattle.lucy_meaning.specs.Spots.{main_of, results_in}
 use Rattle.lucy_meaning.specs.Sizes.{all_places}
 use Rattle.lucy_meaning.proofs.Lists.{there}
@@ -46,9 +48,18 @@ output_there nodes clocks net proper flat i l =
 stream_at : {A : Type 0} (f : ℕ → A) (xs : List ℕ) (i x : ℕ) (d : A) → slice_get xs i ≡ Some x → get_or (map f xs) i d ≡ f x
 stream_at f xs i x d e = get_or_from_slice_get (map f xs) i (f x) d (slice_get-map f xs i ∙ ap (option_map f) e)
 
--- what is told of the output of a finished core
+-- what is to be told of an output
 abbrev pub IsTold : Seen → ℕ → List ℤ → Type 0
 IsTold seen i list = (a givers : ℕ) (actor : Actor) → IsOutputOf seen.net i a actor → GiveBelow (plan_of seen) givers → IsOver seen → list ≡ take (ones_to actor.firing seen.instants) (stream_of seen givers (first_ring actor))
+
+-- so is told of the output of a finished runner, where no outputs were carried away
+pub told_whole : (view : RunnerView) → view.before ≡ 0 → (i : ℕ) (list : List ℤ) →
+    ((a givers : ℕ) (actor : Actor) → IsOutputOf view.seen.net i a actor → GiveBelow (plan_of view.seen) givers → IsOver view.seen →
+    list ≡ drop (ones_to actor.firing view.before) (take (ones_to actor.firing view.seen.instants) (stream_of view.seen givers (first_ring actor)))) →
+    IsTold view.seen i list
+told_whole view whole i list told a givers actor of below over =
+    let none : ones_to actor.firing view.before ≡ 0 = ap (ones_to actor.firing) whole ∙ ones_to-none actor.firing in
+    told a givers actor of below over ∙ ap (λ n. drop n (take (ones_to actor.firing view.seen.instants) (stream_of view.seen givers (first_ring actor)))) none
 
 -- the outputs so far with the next one
 pub next_output : (seen : Seen) (nodes : List PlacedNode) (clocks : List NodeClock) → AreProper nodes → IsFlat nodes clocks seen.net → IsOver seen → (i : ℕ) → i < length (results_in (main_of nodes)) → (list : List ℤ) → IsTold seen i list →

@@ -1,5 +1,5 @@
 // The output streams by the flat net.
-ghost use Rattle.std.specs.Prelude.{◌≡◌, ◌≤◌, length, map, IfOk};
+ghost use Rattle.std.specs.Prelude.{◌≡◌, ◌≤◌, ◌<◌, All, length, map, IfOk};
 ghost use Rattle.lucy_word.specs.Bits.{ones_to};
 ghost use Rattle.lucy_host.specs.Host.{Serves, lent};
 ghost use Rattle.lucy_host.specs.Operators.{kinds_of};
@@ -10,6 +10,7 @@ ghost use Rattle.lucy_net.specs.Schedules.{IsSound};
 ghost use Rattle.lucy_cause.specs.Schedules.{events_at};
 ghost use Rattle.lucy_core.specs.Seen.{IsUnbegun, IsOver};
 ghost use Rattle.lucy_flat.specs.Flat.{IsFlat};
+ghost use Rattle.lucy_runner.specs.Views.{input_count, inputs_for};
 ghost use Rattle.lucy_execution.specs.Streams.{param_words, result_words, main_streams};
 
 use crate::lists::add;
@@ -19,57 +20,95 @@ use lucy_core::Core;
 use lucy_host::{Host, Inputs, OutOfMemory};
 use lucy_net::Net;
 use lucy_place::Placed;
-use std::alloc::Global;
+use lucy_runner::Runner;
+use lucy_worker::Gate;
+use std::alloc::{AllocError, Global};
+use std::thread::Threads;
 
-/// The output streams of a program, from a finished core of its flat net, in whatever order its events were done.
+/// The output streams of a program, from a finished runner of its flat net whose outputs were not carried away, in whatever order
+/// its events were done.
 pub fn outputs(
     alloc: Global,
     placed: &Placed,
     clocks: &[NodeClock],
-    core: &Core,
+    runner: &Runner,
 ) -> Result<Inputs, OutOfMemory>
-    requires flat { IsFlat placed.now.nodes clocks.now core.now.net }
-    requires over { IsOver core.now }
-    ensures { IfOk result (λ lists. lists ≡ main_streams (kinds_of core.now.operators) core.now.inputs placed.now.nodes clocks.now core.now.instants) }
+    requires flat { IsFlat placed.now.nodes clocks.now runner.now.seen.net }
+    requires over { IsOver runner.now.seen }
+    requires whole { runner.now.before ≡ 0 }
+    ensures { IfOk result (λ lists. lists ≡ main_streams (kinds_of runner.now.seen.operators) runner.now.seen.inputs placed.now.nodes clocks.now runner.now.seen.instants) }
 {
     let results = placed.node(placed.nodes() - 1).results.list().len();
     let mut lists = Inputs::new(alloc);
     'each: for i in 0..results {
-        add(alloc, &mut lists, i as u32, core.output(i as u32))?;
+        add(alloc, &mut lists, i as u32, runner.output(i as u32))?;
     }
     Ok(lists)
 }
 
-// The output streams of a program by the static order, from a core of its flat net without an event so far.
-fn run_core<F: Fn(u32, i64, i64) -> i64 + Sync>(
+// The homes of so many actors: the workers in turn.
+fn homes_of(alloc: Global, actors: usize, workers: u32) -> Result<Vec<u32>, AllocError>
+    requires { 1 ≤ workers }
+    ensures count { IfOk result (λ homes. length homes.items ≡ actors) }
+    ensures each { IfOk result (λ homes. All (λ home. home < workers) homes.items) }
+{
+    let mut homes = Vec::new(alloc);
+    let mut home = 0;
+    for _ in 0..actors {
+        homes.push(home)?;
+        home = if home + 1 < workers { home + 1 } else { 0 };
+    }
+    Ok(homes)
+}
+
+// The output streams of a program by so many workers, from a core of its flat net without an event so far.
+fn run_core<R: Threads + Sync, F: Fn(u32, i64, i64) -> i64 + Sync, G: Gate + Sync>(
+    rt: &R,
     alloc: Global,
     placed: &Placed,
     clocks: &[NodeClock],
-    mut core: Core,
+    core: Core,
     host: &Host<F>,
+    gate: &G,
+    workers: u32,
+    homes: &[u32],
 ) -> Result<Inputs, OutOfMemory>
     requires flat { IsFlat placed.now.nodes clocks.now core.net }
     requires serves { Serves F.pre F.post host.now }
     requires kinds { kinds_of (lent host.now) ≡ kinds_of core.operators }
     requires unbegun { IsUnbegun core }
+    requires workers { (1 ≤ workers) × (workers ≤ 64) }
+    requires homes { length homes.now ≡ length core.net.actors }
+    requires each { All (λ home. home < workers) homes.now }
+    requires counted { input_count core.net.actors ≤ length core.inputs }
+    requires inputs { inputs_for core.net core.inputs ≡ core.inputs }
     ensures { IfOk result (λ lists. lists ≡ main_streams (kinds_of core.operators) core.inputs placed.now.nodes clocks.now core.instants) }
 {
-    core.run_static(host);
-    outputs(alloc, placed, clocks, &core)
+    match Runner::new(alloc, core, workers, homes) {
+        Ok(mut runner) => {
+            runner.go(rt, host, gate);
+            outputs(alloc, placed, clocks, &runner)
+        }
+        Err(_) => Err(OutOfMemory),
+    }
 }
 
-/// The output streams of a program up to a horizon of at most 1,048,576 instants, by the static order of its flat net: a list
-/// for each result of main, in order. There is an input for each parameter of main, with the items of so many instants, and
-/// the operators of the host that the program names are among those of this one.
-pub fn run_net<F: Fn(u32, i64, i64) -> i64 + Sync>(
+/// The output streams of a program up to a horizon of at most 1,048,576 instants, by its flat net, whose actors are moved by 1 to 64
+/// workers, each on a thread of its own: a list for each result of main, in order. Actor `a` is in worker `a mod workers`. There is
+/// an input for each parameter of main, with the items of so many instants, and the operators of the host that the program names
+/// are among those of this one.
+pub fn run_net<R: Threads + Sync, F: Fn(u32, i64, i64) -> i64 + Sync, G: Gate + Sync>(
+    rt: &R,
     alloc: Global,
     placed: &Placed,
     clocks: &[NodeClock],
     net: Net,
     schedule: Schedule,
     host: &Host<F>,
+    gate: &G,
     inputs: Inputs,
     instants: u64,
+    workers: u32,
 ) -> Result<Inputs, OutOfMemory>
     requires flat { IsFlat placed.now.nodes clocks.now net }
     requires sound { IsSound net (events_at schedule) }
@@ -78,12 +117,17 @@ pub fn run_net<F: Fn(u32, i64, i64) -> i64 + Sync>(
     requires inputs { params_in (main_of placed.now.nodes) ≡ length inputs }
     requires suffice { Suffice (param_words placed.now.nodes clocks.now) inputs instants }
     requires early { instants ≤ 1048576 }
+    requires workers { (1 ≤ workers) × (workers ≤ 64) }
     ensures ok { IfOk result (λ lists. lists ≡ main_streams (kinds_of (lent host.now)) inputs placed.now.nodes clocks.now instants) }
     ensures counts { IfOk result (λ lists. map length lists ≡ map (λ word. ones_to word instants) (result_words placed.now.nodes clocks.now)) }
 {
     let _ = placed.nodes();
+    let homes = match homes_of(alloc, net.actors.list().len(), workers) {
+        Ok(homes) => homes,
+        Err(_) => return Err(OutOfMemory),
+    };
     match Core::new(alloc, net, schedule, inputs, host.ops(), instants) {
-        Ok(core) => run_core(alloc, placed, clocks, core, host),
+        Ok(core) => run_core(rt, alloc, placed, clocks, core, host, gate, workers, &homes),
         Err(_) => Err(OutOfMemory),
     }
 }

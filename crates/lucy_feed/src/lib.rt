@@ -8,8 +8,6 @@
 mod feeds;
 mod laws;
 mod read;
-#[cfg(test)]
-mod tests;
 
 pub use feeds::{Feed, read_feed};
 pub use laws::one_feed;

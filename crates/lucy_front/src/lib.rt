@@ -21,8 +21,6 @@ mod refusal;
 mod scheduling;
 mod streams;
 mod terms;
-#[cfg(test)]
-mod tests;
 mod texts;
 
 pub use accepted::Accepted;

@@ -12,8 +12,6 @@ mod inputs;
 mod kind;
 mod op;
 mod ops;
-#[cfg(test)]
-mod tests;
 
 pub use data_type::DataType;
 pub use error::{OpsError, OutOfMemory};

@@ -9,8 +9,6 @@
 mod inferring;
 mod laws;
 mod refusal;
-#[cfg(test)]
-mod tests;
 
 pub use inferring::{Inferred, infer};
 pub use laws::{inference_meets, one_inference};

@@ -13,8 +13,6 @@ mod input;
 mod kind;
 mod laws;
 mod reader;
-#[cfg(test)]
-mod tests;
 mod value;
 mod written;
 

@@ -10,8 +10,6 @@ mod difference;
 mod horizon;
 mod lead;
 mod rate;
-#[cfg(test)]
-mod tests;
 mod turns;
 mod verdict;
 mod walked;

@@ -8,8 +8,6 @@
 mod error;
 mod laws;
 mod output;
-#[cfg(test)]
-mod tests;
 mod text;
 mod walk;
 mod write;

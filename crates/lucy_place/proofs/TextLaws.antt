@@ -1,63 +1,100 @@
--- Texts behind references.
-use Rattle.std.proofs.Common.{◌≡◌, ◌≤◌, ◌++◌, ℕ, ◌+◌, Bool, true, false, not, cond, List, [], ◌∷◌, length, map, Option, Some, None, refl, ap, sym, ◌∙◌, arith, ◌||◌, Bor, if◌then◌else◌}
+-- Texts behind references, and their numbers in a map by the order of bytes.
+use Rattle.std.proofs.Common.{◌≡◌, ◌≤◌, ◌++◌, ℕ, suc, ◌+◌, Bool, true, false, not, cond, List, [], ◌∷◌, length, map, Option, Some, None, refl, ap, sym, ◌∙◌, arith, ◌||◌, if◌then◌else◌, is_some, Ordering}
+use Rattle.std.specs.Ordering.{is_eq, nat_cmp}
+use Rattle.std.specs.BTreeMap.{BTreeMap, Updates}
+use Rattle.std.specs.Cmp.Lexicographic.{slice_cmp, bytes_decides}
+use mathlib.Core.Bool.{true≢false}
 use Rattle.std.specs.Prelude.{nat_lt}
-use Rattle.std.specs.List.{list_any, position, position_or_len}
+use Rattle.std.specs.List.{list_any, position_from}
 use Rattle.std.proofs.lemmas.Bool.Decides.{nat_tests}
+use Rattle.std.proofs.lemmas.Cmp.{same_from_slice_cmp, nat_list_eq_equiv}
+use Rattle.std.proofs.lemmas.Iterator.Adapters.{position_from-zero}
+use Rattle.std.proofs.lemmas.List.{map-append}
 use Rattle.std.proofs.lemmas.List.Sums.{prefix_len-le-length}
-use Rattle.std.proofs.lemmas.List.Recursion.{is_position_or_len}
-use Rattle.std.proofs.lemmas.List.{length-map, map-append}
-use Rattle.lucy_place.specs.Texts.{is_text, is_in, find_in, place_in}
-
-module _ {A B : Type 0} (f : A → B) (p : B → Bool) where
-  pub list_any_map : (xs : List A) → list_any p (map f xs) ≡ list_any (λ x. p (f x)) xs
-  list_any_map [] = refl
-  list_any_map (x ∷ xs) = ap (λ b. p (f x) || b) (list_any_map xs)
-
-  pub place_map : (xs : List A) → position_or_len p (map f xs) ≡ position_or_len (λ x. p (f x)) xs
-  place_map xs = is_position_or_len (λ ys. position_or_len p (map f ys)) (λ x. p (f x)) refl (λ x ys. step (p (f x)) (position_or_len p (map f ys))) xs
-    where
-      step : (b : Bool) (n : ℕ) → cond (not b) (1 + n) 0 ≡ cond b 0 (1 + n)
-      step true n = refl
-      step false n = refl
+use Rattle.lucy_place.specs.Texts.{is_text, is_in, find_in, place_in, Bytes, found_by_bytes}
 
 -- the bytes behind the references
-abbrev pub seen : List (Bor (List ℕ)) → List (List ℕ)
+abbrev pub seen : List Bytes → List (List ℕ)
 seen ks = map (λ k. k.now) ks
 
-pub in_seen : (ks : List (Bor (List ℕ))) (t : List ℕ) → list_any (λ k. is_text t k.now) ks ≡ is_in (seen ks) t
-in_seen ks t = sym (list_any_map (λ (k : Bor (List ℕ)). k.now) (is_text t) ks)
+-- texts that are equal by the order of bytes have the same bytes
+alike : (t u : List ℕ) (o : Ordering) → o ≡ slice_cmp nat_cmp t u → is_eq o ≡ is_text t u
+alike = same_from_slice_cmp nat_cmp is_eq (λ t u. is_text t u) refl (λ _ _. refl) (λ _ _. refl) (λ x y xs ys o h. grind (arith, nat_tests))
 
-pub place_seen : (ks : List (Bor (List ℕ))) (t : List ℕ) → position_or_len (λ k. is_text t k.now) ks ≡ place_in (seen ks) t
-place_seen ks t = sym (place_map (λ (k : Bor (List ℕ)). k.now) (is_text t) ks)
+module _ (p : List ℕ → Bool) where
+  there_from : (i : ℕ) (ts : List (List ℕ)) → is_some (position_from p i ts) ≡ list_any p ts
+  there_from i [] = refl
+  there_from i (t ∷ ts) = by (p t) (there_from (i + 1) ts)
+    where
+      by : (b : Bool) → is_some (position_from p (i + 1) ts) ≡ list_any p ts → is_some (cond b (Some i) (position_from p (i + 1) ts)) ≡ b || list_any p ts
+      by true h = refl
+      by false h = h
 
-pub find_seen : (ks : List (Bor (List ℕ))) (t : List ℕ) → position (λ k. is_text t k.now) ks ≡ find_in (seen ks) t
-find_seen ks t =
-    let F : ℕ → ℕ → Option ℕ = λ i n. cond (nat_lt i n) (Some i) None in
-    ap (λ i. F i (length ks)) (place_seen ks t) ∙ ap (λ n. F (place_in (seen ks) t) n) (sym (simp length-map))
+  last_from : (u : List ℕ) (i : ℕ) (ts : List (List ℕ)) →
+      position_from p i (ts ++ u ∷ []) ≡ (if list_any p ts then position_from p i ts else (if p u then Some (i + length ts) else None))
+  last_from u i [] = let e : i ≡ i + 0 = omega arith in ap (λ n. cond (p u) (Some n) None) e
+  last_from u i (t ∷ ts) = by (p t) (last_from u (i + 1) ts)
+    where
+      Rest : ℕ → Option ℕ
+      Rest n = if list_any p ts then position_from p (i + 1) ts else (if p u then Some n else None)
 
--- one more name
-pub put_seen : (ks : List (Bor (List ℕ))) (k : Bor (List ℕ)) →
-    seen (if list_any (λ x. is_text k.now x.now) ks then ks else ks ++ k ∷ []) ≡ (if is_in (seen ks) k.now then seen ks else seen ks ++ k.now ∷ [])
-put_seen ks k = rw (sym (in_seen ks k.now)) (by (list_any (λ x. is_text k.now x.now) ks))
+      by : (b : Bool) → position_from p (i + 1) (ts ++ u ∷ []) ≡ Rest (i + 1 + length ts) →
+          cond b (Some i) (position_from p (i + 1) (ts ++ u ∷ []))
+          ≡ (if b || list_any p ts then cond b (Some i) (position_from p (i + 1) ts) else (if p u then Some (i + suc (length ts)) else None))
+      by true h = refl
+      by false h = let e : i + 1 + length ts ≡ i + suc (length ts) = omega arith in h ∙ ap Rest e
+
+-- a name that is found is there
+pub there : (ts : List (List ℕ)) (t : List ℕ) → is_some (find_in ts t) ≡ is_in ts t
+there ts t = ap is_some (position_from-zero (is_text t) ts) ∙ there_from (is_text t) 0 ts
+
+-- a name behind names that it isn't among
+pub found_last : (ts : List (List ℕ)) (t u : List ℕ) → is_in ts u ≡ false →
+    (if is_text u t then Some (length ts) else find_in ts t) ≡ find_in (ts ++ u ∷ []) t
+found_last ts t u new = by (is_text u t) refl ∙ sym (last_from (is_text t) u 0 ts) ∙ sym (position_from-zero (is_text t) (ts ++ u ∷ []))
   where
-    by : (b : Bool) → seen (if b then ks else ks ++ k ∷ []) ≡ (if b then seen ks else seen ks ++ k.now ∷ [])
-    by true = refl
-    by false = map-append (λ (x : Bor (List ℕ)). x.now) ks (k ∷ [])
+    none : (b : Bool) → is_some (find_in ts t) ≡ b → find_in ts t ≡ (if b then position_from (is_text t) 0 ts else None)
+    none true e = position_from-zero (is_text t) ts
+    none false e = is_none e
+      where
+        is_none : {o : Option ℕ} → is_some o ≡ false → o ≡ None
+        is_none {o = None} h = refl
+        is_none {o = Some n} h = absurd (true≢false h)
+
+    by : (b : Bool) → is_text u t ≡ b →
+        (if b then Some (length ts) else find_in ts t) ≡ (if is_in ts t then position_from (is_text t) 0 ts else (if is_text t u then Some (0 + length ts) else None))
+    by true e =
+        let same : u ≡ t = (bytes_decides u t).0 e in
+        let n : length ts ≡ 0 + length ts = omega arith in
+        rw (ap (is_in ts) (sym same) ∙ new) (rw (ap (λ v. is_text t v) same ∙ nat_list_eq_equiv.refl t) (ap (λ i. Some i) n))
+    by false e = rw (nat_list_eq_equiv.symm t u ∙ e) (none (is_in ts t) (there ts t))
 
 same : {i n : ℕ} → i ≤ n → nat_lt i n ≡ false → n ≡ i
 same h g = grind (arith, nat_tests)
 
-module _ (ks : List (Bor (List ℕ))) (t : List ℕ) where
-  pub place_some : {i : ℕ} → Some i ≡ position (λ k. is_text t k.now) ks → i ≡ place_in (seen ks) t
-  place_some {i = i} e = by (nat_lt (position_or_len (λ k. is_text t k.now) ks) (length ks)) e ∙ place_seen ks t
-    where
-      by : (b : Bool) → Some i ≡ cond b (Some (position_or_len (λ k. is_text t k.now) ks)) None → i ≡ position_or_len (λ k. is_text t k.now) ks
-      by true h = cc
-      by false h = cc
+-- a name that isn't found has all names before it
+pub place_none : (ts : List (List ℕ)) (t : List ℕ) → None ≡ find_in ts t → length ts ≡ place_in ts t
+place_none ts t = by (nat_lt (place_in ts t) (length ts)) refl
+  where
+    by : (b : Bool) → nat_lt (place_in ts t) (length ts) ≡ b → None ≡ cond b (Some (place_in ts t)) None → length ts ≡ place_in ts t
+    by true g h = cc
+    by false g h = same (prefix_len-le-length (λ u. not (is_text t u)) ts) g
 
-  pub place_none : None ≡ position (λ k. is_text t k.now) ks → length ks ≡ place_in (seen ks) t
-  place_none e = by (nat_lt (position_or_len (λ k. is_text t k.now) ks) (length ks)) refl e ∙ place_seen ks t
-    where
-      by : (b : Bool) → nat_lt (position_or_len (λ k. is_text t k.now) ks) (length ks) ≡ b → None ≡ cond b (Some (position_or_len (λ k. is_text t k.now) ks)) None → length ks ≡ position_or_len (λ k. is_text t k.now) ks
-      by true g h = cc
-      by false g h = same (prefix_len-le-length (λ (k : Bor (List ℕ)). not (is_text t k.now)) ks) g
+-- the map has the number of each name
+abbrev pub Knows : List Bytes → BTreeMap Bytes ℕ → Type 0
+Knows ks m = (t : Bytes) → found_by_bytes t m ≡ find_in (seen ks) t.now
+
+pub known_in : (ks : List Bytes) (t : Bytes) (m : BTreeMap Bytes ℕ) (ts : List (List ℕ)) {b : Bool} → seen ks ≡ ts → Knows ks m →
+    b ≡ is_some (found_by_bytes t m) → b ≡ is_in ts t.now
+known_in ks t m ts e known h = h ∙ ap is_some (known t) ∙ there (seen ks) t.now ∙ ap (λ l. is_in l t.now) e
+
+-- also once a name is put last
+pub put_last : (ks : List Bytes) (k : Bytes) (m n : BTreeMap Bytes ℕ) (ts : List (List ℕ)) {i : ℕ} → seen ks ≡ ts → false ≡ is_in ts k.now → i ≡ length ts →
+    Knows ks m → Updates (λ x y. slice_cmp nat_cmp x.now y.now) m n k (Some i) → Knows (ks ++ k ∷ []) n
+put_last ks k m n ts {i = i} e new place known put t =
+    put.0 t
+    ∙ ap (λ b. cond b (Some i) (found_by_bytes t m)) (alike k.now t.now (slice_cmp nat_cmp k.now t.now) refl)
+    ∙ ap (λ o. cond (is_text k.now t.now) (Some i) o) (known t)
+    ∙ ap (λ j. cond (is_text k.now t.now) (Some j) (find_in (seen ks) t.now)) (place ∙ ap (λ l. length l) (sym e))
+    ∙ found_last (seen ks) t.now k.now (ap (λ l. is_in l k.now) e ∙ sym new)
+    ∙ ap (λ l. find_in l t.now) (sym (map-append (λ (x : Bytes). x.now) ks (k ∷ [])))

@@ -37,7 +37,12 @@ fn missing(all: &[Node], name: &Name) -> NameError
 }
 
 // The name of a call with so many arguments and results.
-fn call_name(names: &Names<'_>, name: &Name, args: usize, results: usize) -> Result<(), NameError>
+fn call_name(
+    names: &Names<'_, '_>,
+    name: &Name,
+    args: usize,
+    results: usize,
+) -> Result<(), NameError>
     ensures { result ≡ verdict (call_faults (within_of names.now) name.now args results) }
 {
     let Some(callee) = names.above.get(names.nodes.place(name.text.bytes())) else {
@@ -51,7 +56,7 @@ fn call_name(names: &Names<'_>, name: &Name, args: usize, results: usize) -> Res
 }
 
 // The name of a stream.
-fn stream_name(names: &Names<'_>, name: &Name) -> Result<(), NameError>
+fn stream_name(names: &Names<'_, '_>, name: &Name) -> Result<(), NameError>
     ensures { result ≡ verdict (unless (is_in names.now.streams.now name.now.text) (error.Unknown name.now.span)) }
 {
     if names.streams.find(name.text.bytes()).is_some() {
@@ -62,7 +67,7 @@ fn stream_name(names: &Names<'_>, name: &Name) -> Result<(), NameError>
 }
 
 // The name of an operator of the host.
-fn operator_name(names: &Names<'_>, name: &Name) -> Result<(), NameError>
+fn operator_name(names: &Names<'_, '_>, name: &Name) -> Result<(), NameError>
     ensures { result ≡ verdict (unless (is_some (operator_number names.now.ops.now name.now.text)) (error.Unknown name.now.span)) }
 {
     if names.ops.find(name.text.bytes()).is_some() {
@@ -75,7 +80,7 @@ fn operator_name(names: &Names<'_>, name: &Name) -> Result<(), NameError>
 /// The names that an expression uses, which has so many results where it is a call.
 #[cycle(names)]
 #[tactic(auto, using(crate::proofs::VerdictLaws::count_phrases))]
-pub fn expr_names(names: &Names<'_>, expr: &Expr, results: usize) -> Result<(), NameError>
+pub fn expr_names(names: &Names<'_, '_>, expr: &Expr, results: usize) -> Result<(), NameError>
     ensures { result ≡ verdict (phrase_faults (within_of names.now) results (expr_phrase expr.now)) }
 {
     match expr {
@@ -102,7 +107,7 @@ pub fn expr_names(names: &Names<'_>, expr: &Expr, results: usize) -> Result<(), 
 
 // The names that operands use.
 #[cycle(names)]
-fn all_names(names: &Names<'_>, list: &[Expr]) -> Result<(), NameError>
+fn all_names(names: &Names<'_, '_>, list: &[Expr]) -> Result<(), NameError>
     ensures { result ≡ verdict (phrases_faults (within_of names.now) (expr_phrases list.now)) }
 {
     'each: for expr in list {

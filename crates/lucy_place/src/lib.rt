@@ -1,6 +1,6 @@
 //! The places of a program: the parameters, defined names and expressions of each node, numbered, once every name is good.
 //!
-//! It stands on the trees of `lucy_tree` and on `indexmap`. Begin with `place` in `placing.rt` and `specs/Placing.antt`.
+//! It stands on the trees of `lucy_tree`. Begin with `place` in `placing.rt` and `specs/Placing.antt`.
 //! `specs/Faults.antt` says what is wrong with names, `specs/Numbering.antt` and `specs/Nodes.antt` how places are numbered,
 //! and `specs/Written.antt` when a node is written; they see an expression as a head with operands, `specs/Phrases.antt`.
 //! What a layer above may know of the tables is in `specs/Standing.antt`, `specs/Reads.antt`, `specs/Proper.antt` and
@@ -23,8 +23,6 @@ mod room;
 mod scope;
 mod steps;
 mod streams;
-#[cfg(test)]
-mod tests;
 mod unwritten;
 
 pub use entry::{CallSite, PlaceEntry, PlaceKind};

@@ -9,11 +9,11 @@ use lucy_tree::Node;
 
 /// Where names stand: the operators of the host, the nodes of the program, those above a node, and the names of these and of the node's streams.
 #[derive(Drop)]
-pub struct Names<'n> {
+pub struct Names<'n, 'p> {
     pub ops: &'n Ops,
     pub all: &'n [Node],
     pub above: &'n [Node],
-    pub nodes: &'n Scope<'n>,
-    pub streams: &'n Scope<'n>,
+    pub nodes: &'n Scope<'p>,
+    pub streams: &'n Scope<'p>,
     ghost named: { nodes.now ≡ node_names (map node_tree above.now) },
 }

@@ -89,7 +89,7 @@ fn lefts(
 // Numbers the places of a definition.
 fn def_places(
     alloc: Global,
-    names: &Names<'_>,
+    names: &Names<'_, '_>,
     def: &Def,
     named: &mut Vec<PlaceEntry>,
     draft: &mut Draft,
@@ -110,7 +110,7 @@ fn def_places(
 // Numbers the places of definitions.
 fn all_defs(
     alloc: Global,
-    names: &Names<'_>,
+    names: &Names<'_, '_>,
     defs: &[Def],
     named: &mut Vec<PlaceEntry>,
     draft: &mut Draft,
@@ -132,7 +132,7 @@ fn all_defs(
 }
 
 // The places of results.
-fn results(alloc: Global, names: &Names<'_>, list: &[Name]) -> Result<Vec<u32>, NameError>
+fn results(alloc: Global, names: &Names<'_, '_>, list: &[Name]) -> Result<Vec<u32>, NameError>
     requires few { length names.now.streams.now ≤ most_places }
     ensures ok { IfOk result (λ v. v.items ≡ map (λ r. stream_place (known_of names.now) r.text) list.now) }
     ensures refused { IfErr result (λ e. e ≡ error.OutOfMemory) }
@@ -162,7 +162,7 @@ fn buffers(alloc: Global, places: &[PlaceEntry]) -> Result<Vec<u32>, NameError>
 // The places and the calls of a node.
 fn entries(
     alloc: Global,
-    names: &Names<'_>,
+    names: &Names<'_, '_>,
     node: &Node,
 ) -> Result<(Vec<PlaceEntry>, Vec<CallSite>), NameError>
     requires nodes { length names.now.nodes.now < 2 ^ 32 }
@@ -186,7 +186,11 @@ fn entries(
 }
 
 /// The places of a node whose names are good, and which has no more places than it may have.
-pub fn node_places(alloc: Global, names: &Names<'_>, node: &Node) -> Result<PlacedNode, NameError>
+pub fn node_places(
+    alloc: Global,
+    names: &Names<'_, '_>,
+    node: &Node,
+) -> Result<PlacedNode, NameError>
     requires few { length names.now.nodes.now < 2 ^ 32 }
     requires streams { names.now.streams.now ≡ map text_of (streams (node_tree node.now)) }
     requires shaped { IsShapedNode (node_tree node.now) }

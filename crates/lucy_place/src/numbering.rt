@@ -28,7 +28,7 @@ use std::alloc::Global;
 #[cycle(numbering)]
 pub fn expr_places(
     alloc: Global,
-    names: &Names<'_>,
+    names: &Names<'_, '_>,
     expr: &Expr,
     results: usize,
     draft: &mut Draft,
@@ -66,7 +66,7 @@ pub fn expr_places(
 #[cycle(numbering)]
 fn form_places(
     alloc: Global,
-    names: &Names<'_>,
+    names: &Names<'_, '_>,
     expr: &Expr,
     draft: &mut Draft,
 ) -> Result<u32, NameError>
@@ -90,7 +90,7 @@ fn form_places(
 #[cycle(numbering)]
 fn operand_places(
     alloc: Global,
-    names: &Names<'_>,
+    names: &Names<'_, '_>,
     expr: &Expr,
     draft: &mut Draft,
 ) -> Result<PlaceKind, NameError>
@@ -155,7 +155,7 @@ fn operand_places(
 #[cycle(numbering)]
 fn call_places(
     alloc: Global,
-    names: &Names<'_>,
+    names: &Names<'_, '_>,
     node: &Name,
     at: &Option<Word>,
     list: &[Expr],
@@ -185,7 +185,7 @@ fn call_places(
 #[cycle(numbering)]
 fn all_places(
     alloc: Global,
-    names: &Names<'_>,
+    names: &Names<'_, '_>,
     list: &[Expr],
     draft: &mut Draft,
 ) -> Result<Vec<u32>, NameError>

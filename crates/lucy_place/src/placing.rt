@@ -25,7 +25,7 @@ use lucy_word::Limit;
 use std::alloc::Global;
 
 // The names that right sides of definitions use.
-fn def_names(names: &Names<'_>, defs: &[Def]) -> Result<(), NameError>
+fn def_names(names: &Names<'_, '_>, defs: &[Def]) -> Result<(), NameError>
     ensures { result ≡ verdict (def_faults (within_of names.now) (map def_tree defs.now)) }
 {
     'each: for def in defs {

@@ -2,22 +2,28 @@
 ghost use Rattle.std.specs.Prelude.{◌≡◌, ◌≤◌, ◌++◌, ◌∷◌, [], length, IfOk, if◌then◌else◌, not, is_some};
 ghost use Rattle.lucy_place.specs.Texts.{place_in, find_in, is_in};
 
-use indexmap::IndexSet;
 use std::alloc::{AllocError, Global};
+use std::collections::BTreeMap;
 use std::marker::Model;
 
-/// Names in the order in which they were first seen. Contracts see the list of their bytes.
+/// Names in the order in which they were first seen. Contracts see the list of their bytes. A name is looked for by the order of
+/// bytes, so that no text can choose names which take longer to find than others.
 #[derive(Drop)]
 pub struct Scope<'a> {
-    names: IndexSet<&'a [u8]>,
+    names: Vec<&'a [u8]>,
+    // How many names stand before each.
+    places: BTreeMap<&'a [u8], usize>,
 }
 
 impl<'a> Model for Scope<'a> {
-    ghost use Rattle.std.specs.Prelude.{List, ℕ, map};
+    ghost use Rattle.std.specs.Prelude.{List, ℕ, map, ◌≡◌};
+    ghost use Rattle.lucy_place.specs.Texts.{find_in, found_by_bytes, Bytes};
 
     ghost Value = { List (List ℕ) };
 
-    ghost view = { λ scope. map (λ name. name.now) scope.names.keys };
+    ghost view = { λ scope. map (λ name. name.now) scope.names.items };
+
+    ghost invariant = { λ scope. (name : Bytes) → found_by_bytes name scope.places ≡ find_in (map (λ other. other.now) scope.names.items) name.now };
 }
 
 impl<'a> Scope<'a> {
@@ -26,7 +32,8 @@ impl<'a> Scope<'a> {
         ensures { result ≡ [] }
     {
         Scope {
-            names: IndexSet::new(alloc),
+            names: Vec::new(alloc),
+            places: BTreeMap::new(alloc),
         }
     }
 
@@ -35,10 +42,15 @@ impl<'a> Scope<'a> {
         ensures new { IfOk result (λ new. new ≡ not (is_in self.old name.now)) }
         ensures names { IfOk result (λ new. self.new ≡ (if is_in self.old name.now then self.old else self.old ++ name.now ∷ [])) }
     {
-        match self.names.insert(name) {
-            Ok(new) => Ok(new),
-            Err(_) => Err(AllocError),
+        if self.places.contains_key(name) {
+            return Ok(false);
         }
+        let place = self.len();
+        // Room comes first, so that the name stands in both or in neither.
+        self.names.reserve(1)?;
+        self.places.insert(name, place)?;
+        self.names.push(name)?;
+        Ok(true)
     }
 
     /// How many names stand before this one, where it is there.
@@ -46,7 +58,7 @@ impl<'a> Scope<'a> {
         ensures found { result ≡ find_in self.now name.now }
         ensures there { is_some result ≡ is_in self.now name.now }
     {
-        self.names.get_index_of(name)
+        self.places.get(name).copied()
     }
 
     /// How many names stand before this one: all where it isn't there.
@@ -54,9 +66,9 @@ impl<'a> Scope<'a> {
         ensures place { result ≡ place_in self.now name.now }
         ensures within { result ≤ length self.now }
     {
-        match self.names.get_index_of(name) {
+        match self.find(name) {
             Some(place) => place,
-            None => self.names.len(),
+            None => self.len(),
         }
     }
 

@@ -58,7 +58,7 @@ fn unnamed(kind: PlaceKind) -> PlaceEntry
 }
 
 // The place of a stream.
-pub fn stream_place(names: &Names<'_>, name: &Name) -> u32
+pub fn stream_place(names: &Names<'_, '_>, name: &Name) -> u32
     requires few { length names.now.streams.now ≤ most_places }
     ensures { result ≡ stream_place (known_of names.now) name.now.text }
 {
@@ -66,14 +66,14 @@ pub fn stream_place(names: &Names<'_>, name: &Name) -> u32
 }
 
 /// The number of an operator of the host.
-pub fn operator_place(names: &Names<'_>, name: &Name) -> u32
+pub fn operator_place(names: &Names<'_, '_>, name: &Name) -> u32
     ensures { result ≡ operator_place (known_of names.now) name.now.text }
 {
     names.ops.find(name.text.bytes()).unwrap_or(0)
 }
 
 /// The number of the next place.
-pub fn next_place(names: &Names<'_>, draft: &Draft) -> u32
+pub fn next_place(names: &Names<'_, '_>, draft: &Draft) -> u32
     requires small { (next_of (known_of names.now) draft.now).place ≤ most_places + 1 }
     ensures { result ≡ (next_of (known_of names.now) draft.now).place }
 {
@@ -159,7 +159,7 @@ pub fn settle_call(draft: &mut Draft, site: usize, call: CallSite)
 /// The call of a node whose first result has this place.
 pub fn call_site(
     alloc: Global,
-    names: &Names<'_>,
+    names: &Names<'_, '_>,
     node: &Name,
     at: &Option<Word>,
     first: u32,

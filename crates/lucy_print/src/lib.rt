@@ -8,8 +8,6 @@ mod decl;
 mod expr;
 mod printing;
 mod program;
-#[cfg(test)]
-mod tests;
 mod token;
 
 pub use printing::print;

@@ -13,8 +13,6 @@ mod laws;
 mod rating;
 mod shape_laws;
 mod shaping;
-#[cfg(test)]
-mod tests;
 mod vector;
 mod walk;
 

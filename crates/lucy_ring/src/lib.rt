@@ -17,6 +17,3 @@ pub use giver::Giver;
 pub use making::ring;
 pub use meeting::meet;
 pub use taker::Taker;
-
-#[cfg(test)]
-mod tests;

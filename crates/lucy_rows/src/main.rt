@@ -18,6 +18,7 @@ use lucy_app::program_operators;
 use lucy_host::Host;
 use row::Row;
 use std::io::{self, ErrorKind};
+use std::thread::Threads;
 use std::{env, fs, str};
 
 // Prints each line behind the mark.
@@ -36,14 +37,14 @@ fn print_lines(rt: &impl Print, mark: char, bytes: &[u8]) -> io::Result<()> {
 }
 
 fn run<F: Fn(u32, i64, i64) -> i64 + Sync>(
-    rt: &(impl Print + AllocGlobal),
+    rt: &(impl Print + AllocGlobal + Threads + Sync),
     host: &Host<F>,
     name: &str,
     row: Row,
 ) -> io::Result<()>
     requires { Serves F.pre F.post host.now }
 {
-    let end = row.run(rt.alloc(), host)?;
+    let end = row.run(rt, rt.alloc(), host)?;
     println!(rt; "= {name}")?;
     println!(rt; "status {}", end.status)?;
     println!(rt; "left {}", end.input.left().len())?;
@@ -69,7 +70,7 @@ fn take_lines(
 
 // Runs the rows of a list. What stands above the first of them holds for each.
 fn run_list<F: Fn(u32, i64, i64) -> i64 + Sync>(
-    rt: &(impl Print + AllocGlobal),
+    rt: &(impl Print + AllocGlobal + Threads + Sync),
     host: &Host<F>,
     list: &str,
     text: &str,

@@ -3,7 +3,9 @@ ghost use Rattle.lucy_host.specs.Host.{Serves};
 use lucy_app::lucy;
 use lucy_host::Host;
 use lucy_text::{MemShelf, MemSink, MemSource};
+use lucy_worker::OpenGate;
 use std::alloc::{AllocError, Global};
+use std::thread::Threads;
 
 /// How the calls of a source or a sink go: each moves at most so many bytes, and the calls with these numbers, from 1,
 /// fail.
@@ -77,8 +79,9 @@ impl Row {
     }
 
     /// Runs the program on the row's words, with the operators of the host.
-    pub(crate) fn run<F: Fn(u32, i64, i64) -> i64 + Sync>(
+    pub(crate) fn run<R: Threads + Sync, F: Fn(u32, i64, i64) -> i64 + Sync>(
         self,
+        rt: &R,
         alloc: Global,
         host: &Host<F>,
     ) -> Result<End, AllocError>
@@ -89,12 +92,14 @@ impl Row {
         let mut out = sink(alloc, self.room, self.writes)?;
         let mut err = sink(alloc, 256, self.tells)?;
         let status = lucy(
+            rt,
             alloc,
             &self.words,
             &mut shelf,
             &mut input,
             &mut out,
             &mut err,
+            &OpenGate,
             host,
         );
         Ok(End {

@@ -29,9 +29,12 @@ use lucy_net::Net;
 use lucy_output::{OutputError, OutputSpec, write_outputs};
 use lucy_place::Placed;
 use lucy_text::Sink;
+use lucy_worker::Gate;
 use std::alloc::Global;
+use std::thread::Threads;
 
-/// What a run goes by: the program with the clocks of its nodes, its net with a sound schedule, and main's outputs.
+/// What a run goes by: the program with the clocks of its nodes, its net with a sound schedule, main's outputs, and how many workers
+/// move the net's actors.
 #[derive(Drop)]
 pub(crate) struct Play {
     pub placed: Placed,
@@ -39,13 +42,16 @@ pub(crate) struct Play {
     pub net: Net,
     pub schedule: Schedule,
     pub outputs: Vec<OutputSpec>,
+    pub workers: u32,
 }
 
 // Writes the lines of main's results up to the horizon, which the items of its inputs allow.
-fn write_lines<F: Fn(u32, i64, i64) -> i64 + Sync, O: Sink>(
+fn write_lines<R: Threads + Sync, F: Fn(u32, i64, i64) -> i64 + Sync, G: Gate + Sync, O: Sink>(
+    rt: &R,
     alloc: Global,
     play: Play,
     host: &Host<F>,
+    gate: &G,
     items: Inputs,
     horizon: u64,
     out: &mut O,
@@ -58,6 +64,7 @@ fn write_lines<F: Fn(u32, i64, i64) -> i64 + Sync, O: Sink>(
     requires inputs { params_in (main_of play.placed.nodes) ≡ length items }
     requires suffice { Suffice (param_words play.placed.nodes play.clocks.items) items horizon }
     requires early { horizon ≤ 1048576 }
+    requires workers { (1 ≤ play.workers) × (play.workers ≤ 64) }
     ensures ok { OnOk result (Writes
         (seen_sink (O.written out.old) (O.faults out.old) (O.since_stop out.old))
         (seen_sink (O.written out.new) (O.faults out.new) (O.since_stop out.new))
@@ -75,18 +82,28 @@ fn write_lines<F: Fn(u32, i64, i64) -> i64 + Sync, O: Sink>(
         net,
         schedule,
         outputs,
+        workers,
     } = play;
-    match run_net(alloc, &placed, &clocks, net, schedule, host, items, horizon) {
+    match run_net(
+        rt, alloc, &placed, &clocks, net, schedule, host, gate, items, horizon, workers,
+    ) {
         Ok(streams) => write_outputs(alloc, &outputs, &streams, horizon, out),
         Err(_) => Err(OutputError::OutOfMemory),
     }
 }
 
 /// Writes the lines of main's results that its feed allows, where these instants are given.
-pub(crate) fn write_fed<F: Fn(u32, i64, i64) -> i64 + Sync, O: Sink>(
+pub(crate) fn write_fed<
+    R: Threads + Sync,
+    F: Fn(u32, i64, i64) -> i64 + Sync,
+    G: Gate + Sync,
+    O: Sink,
+>(
+    rt: &R,
     alloc: Global,
     play: Play,
     host: &Host<F>,
+    gate: &G,
     given: Option<u64>,
     feed: Feed,
     out: &mut O,
@@ -99,6 +116,7 @@ pub(crate) fn write_fed<F: Fn(u32, i64, i64) -> i64 + Sync, O: Sink>(
     requires known { play.placed.operators ≤ length (lent host.now) }
     requires inputs { params_in (main_of play.placed.nodes) ≡ length feed.items }
     requires few { IfSome given (λ most. most ≤ limit_number limit.Instants) }
+    requires workers { (1 ≤ play.workers) × (play.workers ≤ 64) }
     ensures ends { (horizon : ℕ) × (end : End) × IsHorizonOf (param_words play.placed.nodes play.clocks.items) given feed.items horizon
         × EndsFor (param_words play.placed.nodes play.clocks.items) given feed.items feed.stop end
         × LeavesLines (stream_lines (kinds_of (lent host.now)) play.placed.nodes play.clocks.items play.outputs.items feed.items horizon) end
@@ -110,7 +128,7 @@ pub(crate) fn write_fed<F: Fn(u32, i64, i64) -> i64 + Sync, O: Sink>(
     let words = param_words(&play.placed, &play.clocks);
     let horizon = horizon_of(words, given, &items);
     let ending = ending_for(words, given, &items, stop);
-    match write_lines(alloc, play, host, items, horizon, out) {
+    match write_lines(rt, alloc, play, host, gate, items, horizon, out) {
         Ok(()) => ending,
         Err(OutputError::Failed) => Ending::WriteFault,
         Err(OutputError::OutOfMemory) => Ending::OutOfMemory,

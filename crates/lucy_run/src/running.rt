@@ -24,7 +24,9 @@ use lucy_host::Host;
 use lucy_output::write_text;
 use lucy_text::{Sink, Source};
 use lucy_word::OutOfMemory;
+use lucy_worker::Gate;
 use std::alloc::Global;
+use std::thread::Threads;
 
 // The report and the line `run`.
 fn heading(alloc: Global, accepted: &Accepted) -> Result<Vec<u8>, OutOfMemory>
@@ -41,11 +43,20 @@ fn heading(alloc: Global, accepted: &Accepted) -> Result<Vec<u8>, OutOfMemory>
 /// are. A main without inputs reads nothing, and runs so many instants.
 ///
 /// After a failed write nothing more is written or read.
-pub fn run<F: Fn(u32, i64, i64) -> i64 + Sync, I: Source, O: Sink>(
+pub fn run<
+    R: Threads + Sync,
+    F: Fn(u32, i64, i64) -> i64 + Sync,
+    G: Gate + Sync,
+    I: Source,
+    O: Sink,
+>(
+    rt: &R,
     alloc: Global,
     accepted: Accepted,
     host: &Host<F>,
+    gate: &G,
     instants: Option<u64>,
+    workers: u32,
     source: &mut I,
     out: &mut O,
 ) -> Ending
@@ -55,6 +66,7 @@ pub fn run<F: Fn(u32, i64, i64) -> i64 + Sync, I: Source, O: Sink>(
     requires clocked { AreClocked accepted.placed.nodes accepted.clocks.items }
     requires few { IfSome instants (λ given. given ≤ limit_number limit.Instants) }
     requires given { accepted.inputs.items ≡ [] → instants ≢ None }
+    requires workers { (1 ≤ workers) × (workers ≤ 64) }
     ensures ends { (taken : List ℕ) × (stop : Stop) × Read most_bytes
         (seen_source (I.left source.old) (I.ended source.old) (I.faults source.old) (I.since_stop source.old))
         (seen_source (I.left source.new) (I.ended source.new) (I.faults source.new) (I.since_stop source.new)) taken stop
@@ -95,6 +107,7 @@ pub fn run<F: Fn(u32, i64, i64) -> i64 + Sync, I: Source, O: Sink>(
         net,
         schedule,
         outputs,
+        workers,
     };
-    write_fed(alloc, play, host, instants, feed, out)
+    write_fed(rt, alloc, play, host, gate, instants, feed, out)
 }

@@ -15,8 +15,6 @@ mod marking;
 mod rows;
 mod shape;
 mod spreading;
-#[cfg(test)]
-mod tests;
 mod words;
 
 pub use laws::{index_laws, needs_have_words, shape_laws};

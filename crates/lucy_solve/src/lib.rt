@@ -16,6 +16,3 @@ pub use confirm::confirm_cycle;
 pub use diffs::{Diff, Diffs};
 pub use error::OutOfMemory;
 pub use solver::{Outcome, solve};
-
-#[cfg(test)]
-mod tests;

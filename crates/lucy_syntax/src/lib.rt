@@ -14,8 +14,6 @@ mod make;
 mod program;
 mod reading;
 mod refusal;
-#[cfg(test)]
-mod tests;
 
 pub use lucy_print::print;
 pub use lucy_token::SyntaxError;

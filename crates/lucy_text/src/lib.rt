@@ -17,8 +17,6 @@ mod real;
 mod real_shelf;
 mod shelf;
 mod steady;
-#[cfg(test)]
-mod tests;
 mod text;
 mod unread;
 

@@ -12,8 +12,6 @@ mod mark;
 mod scan;
 mod state;
 mod stop;
-#[cfg(test)]
-mod tests;
 mod token;
 
 pub use front::Front;

@@ -19,8 +19,6 @@ mod rule;
 mod rules;
 mod signature;
 mod solve;
-#[cfg(test)]
-mod tests;
 mod ty;
 mod typed;
 mod typing;

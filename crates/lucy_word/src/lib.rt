@@ -17,8 +17,6 @@ mod read;
 mod sampling;
 mod shortest;
 mod spelling;
-#[cfg(test)]
-mod tests;
 mod walk;
 mod word;
 

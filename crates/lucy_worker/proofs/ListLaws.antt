@@ -10,7 +10,7 @@ use Rattle.lucy_net.proofs.OperandLaws.{there}
 use Rattle.lucy_worker.specs.Parts.{list_on}
 
 -- a ring that stands later, too, isn't the first one
-not_first : (p : ℕ) (rings : List ℕ) (j r : ℕ) → slice_get rings j ≡ Some r → times r (p ∷ rings) ≤ 1 → p ≡ r → ⊥
+pub not_first : (p : ℕ) (rings : List ℕ) (j r : ℕ) → slice_get rings j ≡ Some r → times r (p ∷ rings) ≤ 1 → p ≡ r → ⊥
 not_first p rings j r at once same =
     let l : j < length rings = slice_get_within rings j r at in
     let some : 0 < times r rings = there r rings j l (get_or_from_slice_get rings j r 0 at) in
@@ -18,7 +18,7 @@ not_first p rings j r at once same =
     let o : cond {A = ℕ} (eqb p r) 1 0 ≡ 1 = ap (λ (b : Bool). cond {A = ℕ} b 1 0) (eq-eqb p r same) in
     absurd (omega arith)
 
-later_once : (p : ℕ) (rings : List ℕ) (r : ℕ) → times r (p ∷ rings) ≤ 1 → times r rings ≤ 1
+pub later_once : (p : ℕ) (rings : List ℕ) (r : ℕ) → times r (p ∷ rings) ≤ 1 → times r rings ≤ 1
 later_once p rings r once =
     let a : times r (p ∷ rings) ≡ cond {A = ℕ} (eqb p r) 1 0 + times r rings = sum_by-cons (λ s. cond (eqb s r) 1 0) p rings in
     omega arith

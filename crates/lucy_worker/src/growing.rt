@@ -31,7 +31,7 @@ impl Part {
         let quota = self.actor.firing.ones(instants);
         raise(&self.actor, &mut self.state, quota);
         append(&mut self.input, items);
-        self.output.clear();
+        empty(&mut self.output);
     }
 }
 
@@ -94,4 +94,11 @@ fn append(list: &mut Vec<i64>, more: &[i64])
         Ok(()) => (),
         Err(_) => unreachable!(),
     }
+}
+
+fn empty(list: &mut Vec<i64>)
+    ensures none { list.new.items ≡ [] }
+    ensures room { vec_capacity list.old ≤ vec_capacity list.new }
+{
+    list.clear();
 }

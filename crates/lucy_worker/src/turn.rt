@@ -1,7 +1,8 @@
 // A turn over the actors of one thread.
-ghost use Rattle.std.specs.Prelude.{◌≡◌, All, length};
+ghost use Rattle.std.specs.Prelude.{◌≡◌, ◌↔◌, ◌<◌, All, IsTrue, length};
 ghost use Rattle.lucy_host.specs.Host.{Serves, lent};
 ghost use Rattle.lucy_host.specs.Operators.{kinds_of};
+ghost use Rattle.lucy_worker.specs.Parts.{IsDone};
 ghost use Rattle.lucy_worker.specs.Turns.{IsServed, HaveMoved, NoneCan};
 ghost use Rattle.lucy_worker.specs.Readiness.{AreReady, HavePassed};
 
@@ -9,8 +10,11 @@ use crate::gate::Passages;
 use crate::part::Part;
 use lucy_host::Host;
 
-// After so many passes on end that move nothing a turn ends: the other workers may move something meanwhile.
-const MOST_VAIN_PASSES: u32 = 16;
+// After so many looks at parts, one after another, that find no move a turn ends: the other workers may move something
+// meanwhile, but for a worker that moves alone. A look takes about 10 ns, so that all of these last about as long as threads take to start for another round, 25 us
+// for two and 140 us for four: with far fewer a round would end before the last of its threads has begun. A worker that is
+// done looks no further.
+const MOST_VAIN_LOOKS: u64 = 16_384;
 
 // All possible moves of each part, from the first part to the last; how many they are.
 fn pass_on<F: Fn(u32, i64, i64) -> i64 + Sync>(parts: &mut [Part], host: &Host<F>) -> u64
@@ -33,7 +37,8 @@ fn pass_back<F: Fn(u32, i64, i64) -> i64 + Sync>(parts: &mut [Part], host: &Host
     requires ready { AreReady parts.old }
     requires serves { Serves F.pre F.post host.now }
     requires served { All (IsServed (length (lent host.now))) parts.old }
-    ensures { HavePassed (kinds_of (lent host.now)) (length (lent host.now)) parts.old parts.new result }
+    ensures passed { HavePassed (kinds_of (lent host.now)) (length (lent host.now)) parts.old parts.new result }
+    ensures rests { NoneCan parts.new }
 {
     let count = parts.len();
     let mut moves = 0;
@@ -43,12 +48,55 @@ fn pass_back<F: Fn(u32, i64, i64) -> i64 + Sync>(parts: &mut [Part], host: &Host
     moves
 }
 
-// Passes over the parts, back and on by turns, so that whatever their order every other pass comes to a giver before it comes to
-// its taker. They end when so many in a row moved nothing. The gate was passed once before.
+// One pass, back or on.
+fn pass<F: Fn(u32, i64, i64) -> i64 + Sync>(parts: &mut [Part], host: &Host<F>, back: bool) -> u64
+    requires ready { AreReady parts.old }
+    requires serves { Serves F.pre F.post host.now }
+    requires served { All (IsServed (length (lent host.now))) parts.old }
+    ensures passed { HavePassed (kinds_of (lent host.now)) (length (lent host.now)) parts.old parts.new result }
+    ensures rests { NoneCan parts.new }
+{
+    if back {
+        pass_back(parts, host)
+    } else {
+        pass_on(parts, host)
+    }
+}
+
+/// Whether every actor has done its list of operations.
+pub(crate) fn all_done(parts: &[Part]) -> bool
+    ensures { IsTrue result ↔ All IsDone parts.now }
+{
+    parts
+        .iter()
+        .all(|part| part.state.quota <= part.state.fired)
+}
+
+// How many looks were in vain after one pass more, which made so many moves.
+fn looks_in_vain(vain: u64, more: u64, parts: &[Part], alone: bool) -> u64
+    requires { vain < 16384 }
+    ensures some { 0 < more → result ≡ 0 }
+    ensures none { more ≡ 0 → vain < result }
+{
+    if more > 0 {
+        0
+    } else if alone {
+        MOST_VAIN_LOOKS
+    } else if all_done(parts) {
+        MOST_VAIN_LOOKS
+    } else {
+        vain + 1 + parts.len() as u64
+    }
+}
+
+// Passes over the parts, which turn round whenever one moved nothing: so whatever their order, an item goes from part to part in
+// one of two passes, and while items follow one another each pass moves one along every ring of a chain, in either direction.
+// They end when so many looks in a row found nothing. The gate was passed once before.
 pub(crate) fn turn<F: Fn(u32, i64, i64) -> i64 + Sync>(
     parts: &mut [Part],
     host: &Host<F>,
     passages: Passages,
+    alone: bool,
 ) -> u64
     requires once { passages.count ≡ 1 }
     requires ready { AreReady parts.old }
@@ -59,10 +107,12 @@ pub(crate) fn turn<F: Fn(u32, i64, i64) -> i64 + Sync>(
     ensures rests { NoneCan parts.new }
 {
     let mut moves = pass_on(parts, host);
+    let mut back = true;
     let mut vain = 0;
-    while vain < MOST_VAIN_PASSES {
-        let more = pass_back(parts, host) + pass_on(parts, host);
-        vain = if more == 0 { vain + 2 } else { 0 };
+    while vain < MOST_VAIN_LOOKS {
+        let more = pass(parts, host, back);
+        back = back != (more == 0);
+        vain = looks_in_vain(vain, more, parts, alone);
         moves += more;
     }
     moves

@@ -12,7 +12,7 @@ ghost use Rattle.lucy_worker.specs.Growing.{HasSpared, HasSpare, CanExtend, IsEx
 use crate::gate::{Gate, Passages};
 use crate::part::Part;
 use crate::place::EndPlace;
-use crate::turn::turn;
+use crate::turn::{all_done, turn};
 use crate::within::meet_within;
 use lucy_host::Host;
 use lucy_ring::meet;
@@ -70,13 +70,54 @@ impl Worker {
         ensures passed { G.passed gate.now self.old.number }
         ensures run { HaveRun (kinds_of (lent host.now)) self.old.parts self.new.parts }
         ensures moves { done_by self.new.parts ≡ done_by self.old.parts + result }
+        ensures few { result ≤ 68719476736 }
+        ensures moved { HaveMoved self.old.parts self.new.parts }
+        ensures none { result ≡ 0 → NoneCan self.old.parts }
+        ensures rests { NoneCan self.new.parts }
+    {
+        self.turn(host, gate, false)
+    }
+
+    /// The same while no other worker moves, so that it waits for none: it ends once one pass has found nothing more.
+    pub fn advance_alone<F: Fn(u32, i64, i64) -> i64 + Sync, G: Gate + Sync>(
+        &mut self,
+        host: &Host<F>,
+        gate: &G,
+    ) -> u64
+        requires serves { Serves F.pre F.post host.now }
+        requires served { All (IsServed (length (lent host.now))) self.old.parts }
+        ensures number { self.new.number ≡ self.old.number }
+        ensures passed { G.passed gate.now self.old.number }
+        ensures run { HaveRun (kinds_of (lent host.now)) self.old.parts self.new.parts }
+        ensures moves { done_by self.new.parts ≡ done_by self.old.parts + result }
+        ensures few { result ≤ 68719476736 }
+        ensures moved { HaveMoved self.old.parts self.new.parts }
+        ensures none { result ≡ 0 → NoneCan self.old.parts }
+        ensures rests { NoneCan self.new.parts }
+    {
+        self.turn(host, gate, true)
+    }
+
+    fn turn<F: Fn(u32, i64, i64) -> i64 + Sync, G: Gate + Sync>(
+        &mut self,
+        host: &Host<F>,
+        gate: &G,
+        alone: bool,
+    ) -> u64
+        requires serves { Serves F.pre F.post host.now }
+        requires served { All (IsServed (length (lent host.now))) self.old.parts }
+        ensures number { self.new.number ≡ self.old.number }
+        ensures passed { G.passed gate.now self.old.number }
+        ensures run { HaveRun (kinds_of (lent host.now)) self.old.parts self.new.parts }
+        ensures moves { done_by self.new.parts ≡ done_by self.old.parts + result }
+        ensures few { result ≤ 68719476736 }
         ensures moved { HaveMoved self.old.parts self.new.parts }
         ensures none { result ≡ 0 → NoneCan self.old.parts }
         ensures rests { NoneCan self.new.parts }
     {
         let mut passages = Passages::none();
         passages.pass(gate, self.number);
-        turn(self.parts.as_mut_slice(), host, passages)
+        turn(self.parts.as_mut_slice(), host, passages, alone)
     }
 
     /// Lets a giver and a taker of this worker, the ends of one ring, meet.
@@ -94,9 +135,7 @@ impl Worker {
     pub fn done(&self) -> bool
         ensures { IsTrue result ↔ All IsDone self.now.parts }
     {
-        self.parts
-            .iter()
-            .all(|part| part.state.quota <= part.state.fired)
+        all_done(self.parts.as_slice())
     }
 
     /// The parts as they stand, in the order in which they were handed in. It takes no memory.

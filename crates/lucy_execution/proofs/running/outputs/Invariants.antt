@@ -5,4 +5,4 @@ use Rattle.lucy_execution.proofs.running.outputs.Given as goal
 
 -- the streams of the results so far
 abbrev pub invariant-each : goal.invariant-each
-invariant-each l = l.lists ≡ take l.i (main_streams (kinds_of l.core.operators) l.core.inputs l.placed.nodes l.clocks l.core.instants)
+invariant-each l = l.lists ≡ take l.i (main_streams (kinds_of l.runner.seen.operators) l.runner.seen.inputs l.placed.nodes l.clocks l.runner.seen.instants)

@@ -6,12 +6,12 @@ use Rattle.lucy_host.specs.Operators.{kinds_of}
 use Rattle.lucy_worker.specs.declared.part.Part.{Part}
 use Rattle.lucy_worker.specs.Turns.{IsServed}
 use Rattle.lucy_worker.specs.Readiness.{left_by, HavePassed}
-use Rattle.lucy_worker.proofs.Runs.{passed_none, passed_on, passed_one}
+use Rattle.lucy_worker.proofs.Runs.{passed_none, passed_on, passed_one, back_none, back_more}
 use Rattle.lucy_worker.proofs.CountLaws.{left_by_few}
 use Rattle.lucy_worker.proofs.turn.pass_back.Goals as goal
 
 pub loop-passed-init : goal.loop-passed-init
-loop-passed-init g c = passed_none (kinds_of (lent c.args.host.now)) (length (lent c.args.host.now)) c.args.parts.now c.requires.ready c.requires.served
+loop-passed-init g c = (passed_none (kinds_of (lent c.args.host.now)) (length (lent c.args.host.now)) c.args.parts.now c.requires.ready c.requires.served, back_none c.args.parts.now)
 
 pub overflow_add-moves : goal.overflow_add-moves
 overflow_add-moves g c =
@@ -22,7 +22,7 @@ overflow_add-moves g c =
     let p : Part = get_or c.loop-passed.parts i c.index-parts-count.result in
     let l : i < length c.loop-passed.parts = omega arith in
     let at : (d : Part) → get_or c.loop-passed.parts i d ≡ p = λ (d : Part). get_or_default c.loop-passed.parts i d c.index-parts-count.result l in
-    let so_far = c.loop-passed.invariant in
+    let so_far = c.loop-passed.invariant.0 in
     let serves : IsServed count p = All-get_or (IsServed count) c.loop-passed.parts i c.index-parts-count.result l so_far.served in
     let one : HavePassed kinds count c.loop-passed.parts (set c.loop-passed.parts i c.go_on-moves.new.self) c.go_on-moves.result =
     passed_one kinds count c.loop-passed.parts i p c.go_on-moves.new.self c.go_on-moves.result l at (record { ready = e.ready; run = e.run; done = e.moves; left = e.left }) serves so_far.ready so_far.served in
@@ -40,7 +40,9 @@ loop-passed-preserved g c =
     let p : Part = get_or c.loop-passed.parts i c.index-parts-count.result in
     let l : i < length c.loop-passed.parts = omega arith in
     let at : (d : Part) → get_or c.loop-passed.parts i d ≡ p = λ (d : Part). get_or_default c.loop-passed.parts i d c.index-parts-count.result l in
-    let so_far = c.loop-passed.invariant in
-    let serves : IsServed count p = All-get_or (IsServed count) c.loop-passed.parts i c.index-parts-count.result l so_far.served in
-    passed_on kinds count c.args.parts.now c.loop-passed.parts _ c.loop-passed.moves c.go_on-moves.result so_far
-    (passed_one kinds count c.loop-passed.parts i p c.go_on-moves.new.self c.go_on-moves.result l at (record { ready = e.ready; run = e.run; done = e.moves; left = e.left }) serves so_far.ready so_far.served)
+    let so_far = c.loop-passed.invariant.0 in
+    let serves : IsServed count p = All-get_or (IsServed count) c.loop-passed.parts i c.index-parts-count.result l so_far.served in (
+      passed_on kinds count c.args.parts.now c.loop-passed.parts _ c.loop-passed.moves c.go_on-moves.result so_far
+          (passed_one kinds count c.loop-passed.parts i p c.go_on-moves.new.self c.go_on-moves.result l at (record { ready = e.ready; run = e.run; done = e.moves; left = e.left }) serves so_far.ready so_far.served),
+      back_more c.loop-passed.parts i c.loop-passed.passed c.go_on-moves.new.self (omega arith) e.rests c.loop-passed.invariant.1,
+    )

@@ -1,4 +1,4 @@
-use Rattle.std.proofs.Common.{ℕ, ◌<◌, ◌≡◌, length, ap, subst, arith}
+use Rattle.std.proofs.Common.{◌<◌, ◌≡◌, length, ap, subst, arith}
 use Rattle.lucy_core.specs.Seen.{Seen, done_of}
 use Rattle.lucy_core.proofs.ListLaws.{done_read}
 use Rattle.lucy_core.proofs.machine.Core.done.Goals as goal

@@ -1,7 +1,6 @@
-use Rattle.std.proofs.Common.{ℕ, ◌≡◌, length, take, subst, sym, refl, ◌∙◌}
+use Rattle.std.proofs.Common.{ℕ, ◌≡◌, length, subst, sym, refl, ◌∙◌}
 use Rattle.std.specs.Prelude.{Some, slice_get}
 use Rattle.std.proofs.lemmas.Option.{slice_get_read}
-use Rattle.lucy_word.specs.Bits.{ones_to}
 use Rattle.lucy_stream.specs.Fronts.{IsFront}
 use Rattle.lucy_net.specs.declared.net.Actor.{Actor}
 use Rattle.lucy_core.specs.Seen.{Seen, IsOutputOf, first_ring, state_of, stream_of}

@@ -6,8 +6,11 @@ use Rattle.lucy_host.specs.Operators.{kinds_of}
 use Rattle.lucy_event.specs.Systems.{Takes}
 use Rattle.lucy_net.specs.declared.state.ActorState.{ActorState}
 use Rattle.lucy_core.specs.Circles.{Held}
-use Rattle.lucy_core.specs.Seen.{Seen, machine_on, order_on, stepped, one_more}
+use Rattle.lucy_core.specs.Seen.{Seen, machine_on, order_on, done_of, stepped, one_more}
+use Rattle.lucy_core.specs.Cursors.{IsIn}
 use Rattle.lucy_core.specs.Inside.{left_in, IsKept}
+use Rattle.lucy_event.specs.Runs.{first_left}
+use Rattle.lucy_core.proofs.CursorLaws.{step_in}
 use Rattle.lucy_core.proofs.InsideLaws.{at_hand, actor_at, state_at, circle_at, is_next, of_actor, few_at, some_going, going_after}
 use Rattle.lucy_core.proofs.StepLaws.{took_some, tray_room, kept_took}
 use Rattle.lucy_core.proofs.machine.Core.take.Goals as goal
@@ -109,6 +112,16 @@ count_ended-requires c =
     let state = state_at x c.args.actor (Takes c.args.ring) h c.index_mut-2.result.now c.index_mut-2.ensures.value in
     some_going x c.args.actor (Takes c.args.ring) h c.index-list-actor.result c.index_mut-2.result.now there state
 
+pub go_on-requires-clause-early : goal.go_on-requires-clause-early
+go_on-requires-clause-early c = c.self.invariant.0.early
+
+pub go_on-requires-clause-within : goal.go_on-requires-clause-within
+go_on-requires-clause-within c =
+    let x = c.self.inside in
+    let h = at_hand x c.args.self.now c.args.actor (Takes c.args.ring) c.self.invariant c.self.view_is c.requires.can c.requires.op in
+    subst (λ (ds : List ℕ). IsIn x.schedule x.instants ds x.cursor) (sym (c.deref.ensures.value ∙ c.count_event.ensures))
+    (step_in x.schedule x.instants x.done.items x.cursor c.args.actor (omega (arith, h.kept.done_count, h.actor_in)) c.self.invariant.3)
+
 pub invariant_of-self : goal.invariant_of-self
 invariant_of-self c =
     let x = c.self.inside in
@@ -128,6 +141,8 @@ invariant_of-self c =
       subst (λ (ds : List ℕ). IsKept x.net m order x.instants ds states circles c.put_out.new.trays.items) (sym c.count_event.ensures)
           (subst (λ (ts : List Held). IsKept x.net m order x.instants (one_more x.done.items c.args.actor) states circles ts) (sym c.put_out.ensures) now),
       going_after x c.args.actor (Takes c.args.ring) h c.index-list-actor.result c.index_mut-2.result.now c.after_take.new.state c.count_ended.new.going there state (c.count_ended.ensures ∙ ap (λ (s : ActorState). x.going + left_in s) new),
+      subst (λ (ds : List ℕ). IsIn x.schedule x.instants ds c.go_on.new.self) c.deref.ensures.value c.go_on.ensures.within,
+      c.go_on.ensures.next ∙ ap (λ (ds : List ℕ). first_left (done_of ds) (order_on x.schedule x.instants)) c.deref.ensures.value,
     )
 
 pub returns : goal.returns

@@ -14,8 +14,8 @@ pub returns : goal.returns
 returns c = record {
   rest = refl;
   input = c.append.ensures;
-  output = c.clear.ensures.items;
-  output_room = (let same = c.clear.ensures.capacity in omega arith);
+  output = c.empty.ensures.none;
+  output_room = c.empty.ensures.room;
   quota = c.raise.ensures.quota ∙ c.ones-quota.ensures;
   fired = c.raise.ensures.fired;
   state = λ before n took is. c.raise.ensures.state before c.args.instants n took c.ones-quota.ensures is;

@@ -1,0 +1,2 @@
+mod ReadyLaws
+mod RowLaws

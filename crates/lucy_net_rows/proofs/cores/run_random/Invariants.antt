@@ -1,0 +1,6 @@
+use Rattle.std.proofs.Common.{◌≡◌}
+use Rattle.lucy_net_rows.proofs.cores.run_random.Given as goal
+
+-- the net and the operators stay
+abbrev pub invariant-tries : goal.invariant-tries
+invariant-tries g l = (l.core.net ≡ l.fn.core.net) × (l.core.operators ≡ l.fn.core.operators)

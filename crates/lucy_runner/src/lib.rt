@@ -1,0 +1,19 @@
+//! A flat net run by workers on threads, in rounds: a turn of every worker, and then a meeting of the two ends of every ring.
+//!
+//! It stands on `lucy_core`, whose states it goes through, and on `lucy_worker`. Begin with `Runner` in `runner.rt` and with
+//! `specs/Views.antt`, which says what a contract sees of it.
+#![tactic(auto)]
+
+mod beginning;
+mod grow;
+mod growing;
+mod joining;
+mod making;
+mod meeting;
+mod outputs;
+mod place;
+mod runner;
+mod seat;
+mod sitting;
+
+pub use runner::Runner;

@@ -1,0 +1,250 @@
+ghost use Rattle.std.specs.Prelude.{ℕ, ◌≡◌, ◌↔◌, ◌≤◌, ◌<◌, ◌+◌, ◌++◌, List, take, drop, length, slice_get, Some, IsTrue, IfOk, OnErr, All};
+
+use crate::growing::grow_all;
+use crate::making::{Crew, seat_all};
+use crate::meeting::meet_all;
+use crate::outputs::outputs_of;
+use crate::place::{Ends, Place};
+use crate::seat::{Seat, all_done, turn_all};
+use lucy_cause::Schedule;
+use lucy_core::{Core, CoreParts};
+use lucy_host::{Host, Inputs, Ops};
+use lucy_net::Net;
+use lucy_word::OutOfMemory;
+use lucy_worker::Gate;
+use std::alloc::Global;
+use std::marker::Model;
+use std::thread::Threads;
+
+/// A net whose actors are moved by workers, in rounds (Kahn 1974; Cohen and others 2006). Actors, rings and outputs count from 0,
+/// instants from 1.
+#[derive(Drop)]
+pub struct Runner {
+    net: Net,
+    schedule: Schedule,
+    ops: Ops,
+    instants: u64,
+    // the horizon up to which the outputs were carried away
+    before: u64,
+    seats: Vec<Seat>,
+    // of each actor
+    places: Vec<Place>,
+    // of each ring
+    ends: Vec<Ends>,
+    // the actor of each output
+    outputs: Vec<u32>,
+}
+
+impl Model for Runner {
+    ghost use Rattle.lucy_runner.specs.Views.{RunnerView};
+    ghost use Rattle.lucy_runner.specs.Crews.{crew_of, seen_by};
+    ghost use Rattle.lucy_runner.specs.Standing.{IsStanding, AreOutputs};
+
+    ghost Value = { RunnerView };
+
+    ghost view = { λ r. record { seen = seen_by r.net r.schedule r.ops r.instants (crew_of r.seats.items) r.places.items; before = r.before } };
+
+    ghost invariant = { λ r. IsStanding (seen_by r.net r.schedule r.ops r.instants (crew_of r.seats.items) r.places.items) r.before (crew_of r.seats.items) r.places.items r.ends.items
+        × AreOutputs r.net.actors r.outputs.items };
+}
+
+// After so many rounds in a row that moved little `go` starts no more threads.
+const MOST_LEAN_ROUNDS: u32 = 64;
+
+// As many moves take about as long as threads take to start: a round of fewer moved little.
+const FEW_MOVES: u64 = 4_096;
+
+// How many rounds in a row moved little, after one more. Once they are as many as `MOST_LEAN_ROUNDS` it stays so.
+fn lean_rounds(lean: u32, moves: u64) -> u32 {
+    if lean >= MOST_LEAN_ROUNDS {
+        lean
+    } else if moves < FEW_MOVES {
+        lean + 1
+    } else {
+        0
+    }
+}
+
+impl Runner {
+    ghost use Rattle.lucy_host.specs.Host.{Serves, lent};
+    ghost use Rattle.lucy_host.specs.Operators.{kinds_of};
+    ghost use Rattle.lucy_word.specs.Bits.{ones_to};
+    ghost use Rattle.lucy_stream.specs.Fronts.{IsFront};
+    ghost use Rattle.lucy_event.specs.Runs.{none_done, IsRun, between, first_left};
+    ghost use Rattle.lucy_event.specs.States.{State, held, events, IsSame, IsState, Reaches};
+    ghost use Rattle.lucy_event.specs.Plans.{GiveBelow};
+    ghost use Rattle.lucy_net.specs.declared.net.Actor.{Actor};
+    ghost use Rattle.lucy_net.specs.declared.net.RingSpec.{RingSpec};
+    ghost use Rattle.lucy_net.specs.Proper.{IsSupplied};
+    ghost use Rattle.lucy_core.specs.Seen.{plan_of, machine_of, order_of, state_of, done_of, after_picks, CanStep, CanRun, IsOver, IsUnbegun, IsOutputOf, first_ring, stream_of};
+    ghost use Rattle.lucy_runner.specs.Views.{first_runner, input_count};
+    ghost use Rattle.lucy_runner.specs.Blocks.{longer_inputs, grown_seen};
+    ghost use Rattle.lucy_runner.specs.Turns.{IsRoundTo};
+
+    /// A runner of a core without an event so far, with a list for each input of the net, by 1 to 64 workers: the actor of a number
+    /// is in the worker that is its home. Each ring gets its size and one slot more. All memory that rounds use is made here.
+    pub fn new(
+        alloc: Global,
+        core: Core,
+        workers: u32,
+        homes: &[u32],
+    ) -> Result<Runner, OutOfMemory>
+        requires unbegun { IsUnbegun core }
+        requires inputs { input_count core.net.actors ≤ length core.inputs }
+        requires workers { (1 ≤ workers) × (workers ≤ 64) }
+        requires homes { length homes.now ≡ length core.net.actors }
+        requires each { All (λ home. home < workers) homes.now }
+        ensures { IfOk result (λ runner. runner ≡ first_runner core) }
+    {
+        let CoreParts {
+            net,
+            schedule,
+            inputs,
+            ops,
+            instants,
+        } = core.into_parts();
+        let Crew {
+            seats,
+            places,
+            ends,
+        } = seat_all(alloc, &net, &inputs, instants, workers, homes)?;
+        let outputs = outputs_of(alloc, net.actors.list())?;
+        Ok(Runner {
+            net,
+            schedule,
+            ops,
+            instants,
+            before: 0,
+            seats,
+            places,
+            ends,
+            outputs,
+        })
+    }
+
+    /// A turn of every worker, each in a thread of its own where there are several, and then a meeting of the two ends of every
+    /// ring. Answers the number of moves, 0 exactly where every actor had done its list. It takes no memory, and returns if the
+    /// gate does.
+    pub fn round<R: Threads + Sync, F: Fn(u32, i64, i64) -> i64 + Sync, G: Gate + Sync>(
+        &mut self,
+        rt: &R,
+        host: &Host<F>,
+        gate: &G,
+    ) -> u64
+        requires serves { Serves F.pre F.post host.now }
+        requires kinds { kinds_of (lent host.now) ≡ kinds_of self.old.seen.operators }
+        ensures round { IsRoundTo self.old.seen self.new.seen result }
+        ensures before { self.new.before ≡ self.old.before }
+    {
+        self.round_in(rt, host, gate, true)
+    }
+
+    // A round, in which several workers each have a thread of their own or, if not `apart`, move one after another.
+    fn round_in<R: Threads + Sync, F: Fn(u32, i64, i64) -> i64 + Sync, G: Gate + Sync>(
+        &mut self,
+        rt: &R,
+        host: &Host<F>,
+        gate: &G,
+        apart: bool,
+    ) -> u64
+        requires serves { Serves F.pre F.post host.now }
+        requires kinds { kinds_of (lent host.now) ≡ kinds_of self.old.seen.operators }
+        ensures round { IsRoundTo self.old.seen self.new.seen result }
+        ensures before { self.new.before ≡ self.old.before }
+    {
+        let moves = turn_all(rt, self.seats.as_mut_slice(), host, gate, apart);
+        meet_all(
+            self.seats.as_mut_slice(),
+            self.net.rings.list(),
+            self.places.as_slice(),
+            self.ends.as_slice(),
+        );
+        moves
+    }
+
+    /// Makes rounds until every actor has done its list. Where many rounds in a row move little, as they do if rings are short and
+    /// no processors are free, the workers from there on move one after another. It takes no memory, and returns if the gate does.
+    pub fn go<R: Threads + Sync, F: Fn(u32, i64, i64) -> i64 + Sync, G: Gate + Sync>(
+        &mut self,
+        rt: &R,
+        host: &Host<F>,
+        gate: &G,
+    )
+        requires serves { Serves F.pre F.post host.now }
+        requires kinds { kinds_of (lent host.now) ≡ kinds_of self.old.seen.operators }
+        ensures run { (picks : List ℕ) × CanRun self.old.seen picks × (self.new.seen ≡ after_picks self.old.seen picks) }
+        ensures before { self.new.before ≡ self.old.before }
+        ensures finished { IsOver self.new.seen }
+    {
+        let _ = &self.net;
+        let mut lean = 0;
+        while !self.finished() {
+            let moves = self.round_in(rt, host, gate, lean < MOST_LEAN_ROUNDS);
+            lean = lean_rounds(lean, moves);
+        }
+    }
+
+    /// Whether every actor has done its list.
+    pub fn finished(&self) -> bool
+        ensures { IsTrue result ↔ IsOver self.now.seen }
+    {
+        all_done(self.seats.as_slice())
+    }
+
+    /// What the output of this number took since its items were carried away last, oldest first: in every state a front of its
+    /// stream past these, in the finished one the stream cut at the horizon (Kahn 1974).
+    pub fn output(&self, number: u32) -> &[i64]
+        requires { (a : ℕ) × (actor : Actor) × IsOutputOf self.now.seen.net number a actor }
+        ensures took { (a : ℕ) (actor : Actor) → IsOutputOf self.now.seen.net number a actor →
+            result.now ≡ drop (ones_to actor.firing self.now.before) ((state_of self.now.seen).took (first_ring actor)) }
+        ensures front { (a givers : ℕ) (actor : Actor) → IsOutputOf self.now.seen.net number a actor → GiveBelow (plan_of self.now.seen) givers →
+            IsFront result.now (drop (ones_to actor.firing self.now.before) (stream_of self.now.seen givers (first_ring actor))) }
+        ensures finished { (a givers : ℕ) (actor : Actor) → IsOutputOf self.now.seen.net number a actor → GiveBelow (plan_of self.now.seen) givers → IsOver self.now.seen →
+            result.now ≡ drop (ones_to actor.firing self.now.before) (take (ones_to actor.firing self.now.seen.instants) (stream_of self.now.seen givers (first_ring actor))) }
+    {
+        let actor = self.outputs[number as usize];
+        let place = self.places[actor as usize];
+        let parts = self.seats[place.seat as usize].worker.parts();
+        parts[place.part as usize].output.as_slice()
+    }
+
+    /// Moves the horizon of a finished runner on, to at most 1,048,576 instants, and appends to each input the items that follow its
+    /// own: it then needs an item for each firing up to the new horizon. Rings and actors stay as they are, and the outputs' items
+    /// count as carried away. All memory that rounds use is made here, before anything else is done, so a refusal changes nothing.
+    pub fn more(&mut self, alloc: Global, inputs: &Inputs, instants: u64) -> Result<(), OutOfMemory>
+        requires finished { IsOver self.old.seen }
+        requires later { self.old.seen.instants ≤ instants }
+        requires early { instants ≤ 1048576 }
+        requires inputs { input_count self.old.seen.net.actors ≤ length inputs.now }
+        requires supplied { IsSupplied (longer_inputs self.old.seen.net self.old.seen.inputs inputs.now) self.old.seen.net instants }
+        ensures ok { IfOk result (λ _. self.new ≡ record { seen = grown_seen self.old.seen inputs.now instants; before = self.old.seen.instants }) }
+        ensures refused { OnErr result (self.new ≡ self.old) }
+        ensures same { IfOk result (λ _. IsSame (state_of self.new.seen) (state_of self.old.seen)) }
+        ensures joined { IfOk result (λ _. (number a : ℕ) (actor : Actor) (picks : List ℕ) → IsOutputOf self.old.seen.net number a actor → CanRun self.new.seen picks →
+            (state_of (after_picks self.new.seen picks)).took (first_ring actor)
+            ≡ (state_of self.old.seen).took (first_ring actor) ++ drop (ones_to actor.firing self.new.before) ((state_of (after_picks self.new.seen picks)).took (first_ring actor))) }
+    {
+        grow_all(alloc, self.seats.as_mut_slice(), inputs, instants)?;
+        self.before = self.instants;
+        self.instants = instants;
+        Ok(())
+    }
+
+    /// A runner is always in a state that a run of its net's events reaches, namely the events that are done, in the schedule's
+    /// order. In it each ring holds at most its size and one more, and what was given to it is a front of its giver's stream
+    /// (Kahn 1974). The first event of the schedule's order that isn't done is possible. Events lead from the state of a runner
+    /// to that of the runner after them, and every state with no fewer operations done is reached from there.
+    pub fn is_reached(&self)
+        ensures run { IsRun (machine_of self.now.seen).sys none_done (between none_done (done_of self.now.seen.done) (order_of self.now.seen)) }
+        ensures state { IsState (machine_of self.now.seen) (state_of self.now.seen) }
+        ensures counts { (a : ℕ) → (state_of self.now.seen).done a ≡ done_of self.now.seen.done a }
+        ensures most { (r : ℕ) (ring : RingSpec) → slice_get self.now.seen.net.rings r ≡ Some ring → length (held (state_of self.now.seen) r) ≤ ring.size + 1 }
+        ensures fronts { (r givers : ℕ) → GiveBelow (plan_of self.now.seen) givers → IsFront ((state_of self.now.seen).gave r) (stream_of self.now.seen givers r) }
+        ensures next { (a : ℕ) → first_left (done_of self.now.seen.done) (order_of self.now.seen) ≡ Some a → CanStep self.now.seen a }
+        ensures events { (picks : List ℕ) → CanRun self.now.seen picks → IsSame (state_of (after_picks self.now.seen picks)) (events (machine_of self.now.seen) (state_of self.now.seen) picks) }
+        ensures converse { (s : State) → IsState (machine_of self.now.seen) s → ((a : ℕ) → done_of self.now.seen.done a ≤ s.done a) →
+            Reaches (machine_of self.now.seen) (state_of self.now.seen) (between (state_of self.now.seen).done s.done (order_of self.now.seen)) s }
+    {
+        let _ = &self.net;
+    }
+}

@@ -1,0 +1,141 @@
+// A turn of every worker.
+ghost use Rattle.std.specs.Prelude.{◌≡◌, ◌↔◌, ◌≤◌, ◌<◌, All, IsTrue, length, sum_by};
+ghost use Rattle.lucy_host.specs.Host.{Serves, lent};
+ghost use Rattle.lucy_host.specs.Operators.{kinds_of};
+ghost use Rattle.lucy_worker.specs.Parts.{IsDone};
+ghost use Rattle.lucy_worker.specs.Turns.{IsServed};
+ghost use Rattle.lucy_runner.specs.Crews.{crew_of};
+ghost use Rattle.lucy_runner.specs.Turns.{AreServed, HaveTurned};
+ghost use Rattle.lucy_runner.specs.Seats.{IsTurned, AreTurned, moves_of};
+
+use lucy_host::Host;
+use lucy_worker::{Gate, Worker};
+use std::thread;
+use std::thread::Threads;
+
+/// A worker, and how many moves it made in its last turn.
+#[derive(Drop)]
+pub(crate) struct Seat {
+    pub worker: Worker,
+    pub moves: u64,
+}
+
+impl Seat {
+    // A turn of the worker, where others move meanwhile.
+    fn turn<F: Fn(u32, i64, i64) -> i64 + Sync, G: Gate + Sync>(&mut self, host: &Host<F>, gate: &G)
+        requires serves { Serves F.pre F.post host.now }
+        requires served { All (IsServed (length (lent host.now))) self.old.worker.parts }
+        ensures { IsTurned (kinds_of (lent host.now)) self.old self.new }
+    {
+        self.moves = self.worker.advance(host, gate);
+    }
+
+    // A turn of the worker, where no other moves meanwhile.
+    fn turn_alone<F: Fn(u32, i64, i64) -> i64 + Sync, G: Gate + Sync>(
+        &mut self,
+        host: &Host<F>,
+        gate: &G,
+    )
+        requires serves { Serves F.pre F.post host.now }
+        requires served { All (IsServed (length (lent host.now))) self.old.worker.parts }
+        ensures { IsTurned (kinds_of (lent host.now)) self.old self.new }
+    {
+        self.moves = self.worker.advance_alone(host, gate);
+    }
+}
+
+/// A turn of each worker: if they are several and `apart`, each in a thread of its own, and else one after another. Answers the
+/// number of moves.
+pub(crate) fn turn_all<R: Threads + Sync, F: Fn(u32, i64, i64) -> i64 + Sync, G: Gate + Sync>(
+    rt: &R,
+    seats: &mut [Seat],
+    host: &Host<F>,
+    gate: &G,
+    apart: bool,
+) -> u64
+    requires serves { Serves F.pre F.post host.now }
+    requires served { AreServed (length (lent host.now)) (crew_of seats.old) }
+    requires few { length seats.old ≤ 64 }
+    ensures { HaveTurned (kinds_of (lent host.now)) (crew_of seats.old) (crew_of seats.new) result }
+{
+    turn_each(rt, seats, host, gate, apart);
+    moves_in(seats)
+}
+
+// A turn of each worker.
+fn turn_each<R: Threads + Sync, F: Fn(u32, i64, i64) -> i64 + Sync, G: Gate + Sync>(
+    rt: &R,
+    seats: &mut [Seat],
+    host: &Host<F>,
+    gate: &G,
+    apart: bool,
+)
+    requires serves { Serves F.pre F.post host.now }
+    requires served { All (λ seat. All (IsServed (length (lent host.now))) seat.worker.parts) seats.old }
+    ensures { AreTurned (kinds_of (lent host.now)) seats.old seats.new }
+{
+    if apart && seats.len() > 1 {
+        turn_side_by_side(rt, seats, host, gate);
+    } else {
+        turn_in_place(seats, host, gate);
+    }
+}
+
+// A turn of each worker in a thread of its own.
+fn turn_side_by_side<R: Threads + Sync, F: Fn(u32, i64, i64) -> i64 + Sync, G: Gate + Sync>(
+    rt: &R,
+    seats: &mut [Seat],
+    host: &Host<F>,
+    gate: &G,
+)
+    requires serves { Serves F.pre F.post host.now }
+    requires some { 0 < length seats.old }
+    requires served { All (λ seat. All (IsServed (length (lent host.now))) seat.worker.parts) seats.old }
+    ensures { AreTurned (kinds_of (lent host.now)) seats.old seats.new }
+{
+    let count = seats.len();
+    thread::for_each_mut(
+        rt,
+        seats,
+        count,
+        &|_, seat: &mut Seat|
+            requires { Serves F.pre F.post host.now × All (IsServed (length (lent host.now))) seat.now.worker.parts }
+            ensures { IsTurned (kinds_of (lent host.entry.now)) seat.entry.now seat.exit.now }
+        { seat.turn(host, gate) },
+    );
+}
+
+// A turn of one worker after the other.
+fn turn_in_place<F: Fn(u32, i64, i64) -> i64 + Sync, G: Gate + Sync>(
+    seats: &mut [Seat],
+    host: &Host<F>,
+    gate: &G,
+)
+    requires serves { Serves F.pre F.post host.now }
+    requires served { All (λ seat. All (IsServed (length (lent host.now))) seat.worker.parts) seats.old }
+    ensures { AreTurned (kinds_of (lent host.now)) seats.old seats.new }
+{
+    for seat in seats.iter_mut() {
+        seat.turn_alone(host, gate);
+    }
+}
+
+/// Whether every actor has done its list.
+pub(crate) fn all_done(seats: &[Seat]) -> bool
+    ensures { IsTrue result ↔ All (λ seat. All IsDone seat.worker.parts) seats.now }
+{
+    seats.iter().all(|seat| seat.worker.done())
+}
+
+// The moves of the last turn of each.
+fn moves_in(seats: &[Seat]) -> u64
+    requires few { length seats.now ≤ 64 }
+    requires each { All (λ seat. seat.moves ≤ 68719476736) seats.now }
+    ensures { result ≡ sum_by moves_of seats.now }
+{
+    let mut moves = 0;
+    for seat in seats {
+        moves += seat.moves;
+    }
+    moves
+}
