@@ -1,4 +1,4 @@
-ghost use Rattle.std.specs.Prelude.{◌≡◌, ◌⊎◌, ◌↔◌, ◌+◌, ◌<◌, ◌≤◌, length, IsTrue, IfOk, IfErr};
+ghost use Rattle.std.specs.Prelude.{◌≡◌, ◌⊎◌, ◌↔◌, ◌+◌, ◌%◌, ◌<◌, ◌≤◌, length, IsTrue, IfOk, IfErr};
 ghost use Rattle.lucy_word.specs.Bits.{bit_at, ones_to, ones_in, bit_count, most_bits};
 ghost use Rattle.lucy_word.specs.Shortest.{Same, IsShortest, IsShortForm};
 ghost use Rattle.lucy_word.specs.Stored.{IsStored};
@@ -29,6 +29,14 @@ impl Model for Word {
 
     ghost invariant = { λ w. let bits : Bits = record { prefix = w.prefix; period = w.period } in
         IsWord bits × (bit_count bits ≤ most_bits) × IsShortest bits };
+}
+
+// What is left of a number; nothing is divided where it is the smaller one.
+fn remainder(number: u64, of: u64) -> u64
+    requires { 0 < of }
+    ensures { result ≡ number % of }
+{
+    if number < of { number } else { number % of }
 }
 
 impl Word {
@@ -81,7 +89,7 @@ impl Word {
         Ok(Word { prefix, period })
     }
 
-    /// The bit at an instant, which is at least 1.
+    /// The bit at an instant, which is at least 1. Within prefix and first period this takes no division.
     pub fn bit(&self, i: u64) -> bool
         requires { 1 ≤ i }
         ensures { result ≡ bit_at self.now i }
@@ -90,7 +98,7 @@ impl Word {
         if i <= len {
             self.prefix.bits()[(i - 1) as usize]
         } else {
-            self.period.bits()[((i - len - 1) % self.period.len() as u64) as usize]
+            self.period.bits()[remainder(i - len - 1, self.period.len() as u64) as usize]
         }
     }
 
