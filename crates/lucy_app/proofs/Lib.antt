@@ -6,13 +6,14 @@ mod Checked
 mod Told
 mod OwedPrograms
 mod RunsOnce
+mod MakesOnce
+mod Makes
 mod Owed
 mod Outcomes
 mod Sinks
 mod Runs
 mod RunEnds
 mod Accepting
-mod Instants
-mod Numbers
 mod Statuses
+mod Suited
 mod Reports

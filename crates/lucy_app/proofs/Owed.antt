@@ -3,7 +3,8 @@ use Rattle.std.proofs.Common.{ℕ, ◌≡◌, List, Option, Some, None, Result, 
 use Rattle.std.specs.Prelude.{IsSomeAnd}
 use Rattle.lucy_text.specs.declared.shelf.ShelfError.{ShelfError}
 use Rattle.lucy_text.specs.declared.shelf.ShelfError.TheVariants as shelf
-use Rattle.lucy_app.specs.Commands.{Command, Order, Show, Types, Check, Clocks, Run, Kahn, written_options}
+use Rattle.lucy_command.specs.Commands.{Command, Order, Show, Types, Check, Clocks, Run, Kahn, Make}
+use Rattle.lucy_app.specs.Commands.{written_options, inferring_options}
 use Rattle.lucy_feed.specs.Sources.{Stop, Ended, Failed, Passed}
 use Rattle.lucy_app.specs.World.{Given}
 use Rattle.lucy_app.specs.Answers.{Answer, Alike, printed, program_refused, input_refused}
@@ -17,7 +18,12 @@ use Rattle.lucy_host.specs.Operators.{kinds_of}
 use Rattle.lucy_run.specs.Owes.{OwesRun, OwesKahn}
 use Rattle.lucy_run.specs.Laws.{OneRun, OneInterpretation}
 use Rattle.lucy_app.proofs.OwedPrograms.{program_owes_one}
+use Rattle.lucy_make.specs.Text.{made_text}
+use Rattle.lucy_make.specs.Owes.{OwesSummary}
+use Rattle.lucy_lines.specs.Laws.{OneCut}
+use Rattle.lucy_run.proofs.OwesLaws.{OneHorizon}
 use Rattle.lucy_app.proofs.RunsOnce.{runs_alike, run_once, kahn_once}
+use Rattle.lucy_app.proofs.MakesOnce.{summary_once}
 use Rattle.lucy_front.specs.declared.refusal.Refusal.{Refusal}
 use Rattle.lucy_app.proofs.Causes.{one_line, one_cause_of_fields, pair_is_not_refused}
 use Rattle.lucy_app.proofs.Verdicts.{IsVerdict, show_verdict, one_syntax}
@@ -38,19 +44,23 @@ fetched_owes_one : (Prints : List ℕ → List ℕ → Type 0) (Refuses : List �
 fetched_owes_one Prints Refuses v None a b is also = absurd is
 fetched_owes_one Prints Refuses v (Some fetched) a b is also = program_owes_one Prints Refuses v fetched a b is also
 
-pub owes_one : OneRun → OneInterpretation → (command : Command) (given : Given) (a b : Answer) → Owes command given a → Owes command given b → Alike a b
-owes_one run kahn Order given a b is also = inl (order_owes_one given.taken given.stop a b is also)
-owes_one run kahn (Show file) given a b is also = fetched_owes_one IsPrintOf RefusesSyntax show_verdict given.fetched a b is also
-owes_one run kahn (Types file) given a b is also = fetched_owes_one (IsReportOf given.operators) (RefusesText given.operators) (types_verdict given.operators) given.fetched a b is also
-owes_one run kahn (Check file) given a b is also =
+pub owes_one : OneCut → OneHorizon → OneRun → OneInterpretation → (command : Command) (given : Given) (a b : Answer) → Owes command given a → Owes command given b → Alike a b
+owes_one cut horizon run kahn Order given a b is also = inl (order_owes_one given.taken given.stop a b is also)
+owes_one cut horizon run kahn (Show file) given a b is also = fetched_owes_one IsPrintOf RefusesSyntax show_verdict given.fetched a b is also
+owes_one cut horizon run kahn (Types file) given a b is also = fetched_owes_one (IsReportOf given.operators) (RefusesText given.operators) (types_verdict given.operators) given.fetched a b is also
+owes_one cut horizon run kahn (Check file) given a b is also =
     fetched_owes_one (IsCheckOf given.operators written_options) (RefusesCheck given.operators written_options) (check_verdict given.operators written_options) given.fetched a b is also
-owes_one run kahn (Clocks file options) given a b is also = fetched_owes_one (IsCheckOf given.operators options) (RefusesCheck given.operators options) (check_verdict given.operators options) given.fetched a b is also
-owes_one run kahn (Run file options instants workers) given a b is also =
-    runs_alike (λ p. OwesRun (kinds_of given.operators) p instants given.taken given.stop) (run_once run (kinds_of given.operators) instants given.taken given.stop) given.operators options instants given.stop given.fetched
+owes_one cut horizon run kahn (Clocks file scale lead) given a b is also =
+    let o = inferring_options scale lead in
+    fetched_owes_one (IsCheckOf given.operators o) (RefusesCheck given.operators o) (check_verdict given.operators o) given.fetched a b is also
+owes_one cut horizon run kahn (Run file scale lead instants workers block) given a b is also =
+    runs_alike (λ p. OwesRun (kinds_of given.operators) p instants given.taken given.stop) (run_once run (kinds_of given.operators) instants given.taken given.stop) given.operators (inferring_options scale lead) instants given.stop given.fetched
     a b is also
-owes_one run kahn (Kahn file options instants) given a b is also =
-    runs_alike (λ p. OwesKahn (kinds_of given.operators) p instants given.taken given.stop) (kahn_once kahn (kinds_of given.operators) instants given.taken given.stop) given.operators options instants given.stop
+owes_one cut horizon run kahn (Kahn file scale lead instants) given a b is also =
+    runs_alike (λ p. OwesKahn (kinds_of given.operators) p instants given.taken given.stop) (kahn_once kahn (kinds_of given.operators) instants given.taken given.stop) given.operators (inferring_options scale lead) instants given.stop
     given.fetched a b is also
+owes_one cut horizon run kahn (Make stages workers block) given a b is also =
+    runs_alike (λ p. OwesSummary stages (kinds_of given.operators) p) (summary_once cut horizon stages (kinds_of given.operators)) given.operators (inferring_options 1 1) None given.stop (Some (Ok (made_text stages))) a b is also
 
 -- `show` owes one answer
 show_program_one : (fetched : Result (List ℕ) ShelfError) (a b : Answer) → OwesProgram IsPrintOf RefusesSyntax fetched a → OwesProgram IsPrintOf RefusesSyntax fetched b → a ≡ b

@@ -14,7 +14,9 @@ use Rattle.lucy_front.specs.declared.accepted.Accepted.{Accepted}
 use Rattle.lucy_front.specs.Accepting.{IsAccepted}
 use Rattle.lucy_front.specs.Report.{report}
 use Rattle.lucy_front.specs.Scheduled.{inputs_of, outputs_of}
-use Rattle.lucy_front.proofs.OneAnswer.{one_program}
+use Rattle.lucy_front.proofs.OneAnswer.{text_proper, one_program}
+use Rattle.lucy_flat.specs.Refusals.{IsFlatNet}
+use Rattle.lucy_flat.proofs.OneNet.{one_net}
 use Rattle.lucy_run.specs.declared.ending.Ending.{Ending}
 use Rattle.lucy_run.specs.Feeds.{Feeds}
 use Rattle.lucy_run.specs.Owes.{most_instants, stream_lines, EndsFor, Interprets, IsFed, OwesRun, OwesKahn}
@@ -34,6 +36,7 @@ pub record AreSame (a b : Accepted) : Type 0 where
   pub clocks : a.clocks.items ≡ b.clocks.items
   pub inputs : a.inputs.items ≡ b.inputs.items
   pub outputs : a.outputs.items ≡ b.outputs.items
+  pub net : a.net ≡ b.net
 
 pub accepted_same : (ops : List Operator) (o : Options) (text : List ℕ) (a b : Accepted) → IsAccepted ops o text a → IsAccepted ops o text b → AreSame a b
 accepted_same ops o text a b is also =
@@ -46,6 +49,9 @@ accepted_same ops o text a b is also =
       outputs =
           is.outputs ∙ ap (λ p. outputs_of p.nodes a.typed a.clocks.items) same.0 ∙ ap (λ ts. outputs_of b.placed.nodes ts a.clocks.items) same.1
           ∙ ap (outputs_of b.placed.nodes b.typed) same.2 ∙ sym also.outputs;
+      net =
+          one_net b.placed.nodes b.clocks.items (text_proper ops o text b.placed also.clocked.program.program) a.net b.net
+          (subst (λ cs. IsFlatNet b.placed.nodes cs a.net) same.2 (subst (λ p. IsFlatNet p.nodes a.clocks.items a.net) same.0 is.net.flat)) also.net.flat;
     }
 
 module _ (kinds : List HostKind) (a b : Accepted) (same : AreSame a b) (instants : Option ℕ) (taken : List ℕ) (stop : Stop) where
@@ -94,7 +100,7 @@ no_print ops o = record {
 
 module _ (Owed : Accepted → List ℕ → Ending → Type 0) (once : OwesOnce Owed) (ops : List Operator) (o : Options) (instants : Option ℕ) (stop : Stop) where
   -- a text that is accepted is not refused
-  accepted_unrefused : (text : List ℕ) (a : Accepted) (x : Answer) → IsAccepted ops o text a → (LacksInstants a instants → ⊥) → OwesRefusal ops o instants (Ok text) x → ⊥
+  pub accepted_unrefused : (text : List ℕ) (a : Accepted) (x : Answer) → IsAccepted ops o text a → (LacksInstants a instants → ⊥) → OwesRefusal ops o instants (Ok text) x → ⊥
   accepted_unrefused text a x is given (inl (inl none)) = none.1
   accepted_unrefused text a x is given (inl (inr refused)) = checks_apart ops o text a refused.0 is refused.1
   accepted_unrefused text a x is given (inr lacks) =

@@ -3,13 +3,14 @@ use Rattle.std.proofs.Common.{ℕ, ◌≡◌, ◌⊎◌, List, [], Option, Some,
 use Rattle.std.specs.declared.alloc.Global.{Global}
 use Rattle.std.specs.declared.vec.Vec.{Vec}
 use Rattle.lucy_text.proofs.OutsideLaws.{appended-nil}
-use Rattle.lucy_app.specs.Commands.{Command}
+use Rattle.lucy_command.specs.Commands.{Command}
 use Rattle.lucy_output.specs.Sinks.{SeenSink, Writes}
 use Rattle.lucy_app.specs.World.{World, Given, Meets}
 use Rattle.lucy_app.specs.Lines.{words_line, read_fault_line, instants_line, write_fault_line}
-use Rattle.lucy_app.specs.Answers.{Answer, printed, out_of_memory}
+use Rattle.lucy_front.specs.Refusals.{memory_line}
+use Rattle.lucy_app.specs.Answers.{Answer, printed, no_command, out_of_memory}
 use Rattle.lucy_app.specs.Owes.{Owes, OwesOutput}
-use Rattle.lucy_app.specs.Ends.{Tells, MayAnswer, EndsBy, EndsWith, Ends}
+use Rattle.lucy_app.specs.Ends.{Tells, MayAnswer, EndsBy, EndsWith, Declines, EndsSo, Ends}
 use Rattle.lucy_run.specs.declared.ending.Ending.{Ending}
 use Rattle.lucy_run.specs.declared.ending.Ending.TheVariants as ending
 use Rattle.lucy_app.specs.Outcomes.{refusal_answer, IsOutcome, TellsRefusal, Delivers, TellsEnding}
@@ -74,23 +75,40 @@ tells_write_fault end err err' status is told =
     let P : Ending → Type 0 = λ x. TellsEnding x err err' status in
     subst P (sym is) told
 
+-- nothing is called, and this is answered
+declines : (answer : Answer) (before after : World) (status : ℕ) → answer.out ≡ [] → after.shelf ≡ before.shelf → after.source ≡ before.source → after.out ≡ before.out →
+    Tells answer.status answer.err before.err after.err status → Declines answer before after status
+declines answer before after status none shelf source out told = (shelf, source, record { printed = nothing_written before.out after.out answer.out out none; told = told })
+
 -- words that name no command
 pub ends_none : (found : Option Command) (before after : World) (status : ℕ) → None ≡ found → after.shelf ≡ before.shelf → after.source ≡ before.source → after.out ≡ before.out →
     Tells 2 words_line before.err after.err status → Ends found before after status
 ends_none found before after status is shelf source out told =
     let P : Option Command → Type 0 = λ o. Ends o before after status in
-    subst P is (shelf, source, record { printed = nothing_written before.out after.out [] out refl; told = told })
+    subst P is (declines no_command before after status refl shelf source out told)
 
--- words that name this command
-pub ends_some : (found : Option Command) (command : Command) (given : Given) (outcome : Result (Vec ℕ Global) Refusal) (before after : World) (status : ℕ) → Some command ≡ found →
-    Meets command before after given → IsOutcome (Owes command given) outcome → Delivers outcome before.out after.out before.err after.err status → Ends found before after status
-ends_some found command given outcome before after status is met owed told =
+-- words that name one, which memory is too short to read
+pub ends_short : (found : Option Command) (before after : World) (status : ℕ) → (found ≡ None → ⊥) → after.shelf ≡ before.shelf → after.source ≡ before.source → after.out ≡ before.out →
+    Tells 7 memory_line before.err after.err status → Ends found before after status
+ends_short None before after status some shelf source out told = absurd (some refl)
+ends_short (Some command) before after status some shelf source out told = inr (declines (out_of_memory []) before after status refl shelf source out told)
+
+-- words that name one, which was carried out
+pub ends_begun : (found : Option Command) (command : Command) (before after : World) (status : ℕ) → Some command ≡ found → EndsSo command before after status → Ends found before after status
+ends_begun found command before after status is ends =
     let P : Option Command → Type 0 = λ o. Ends o before after status in
+    subst P is (inl ends)
+
+-- a command that was carried out, and came out so
+pub ends_some : (found command : Command) (given : Given) (outcome : Result (Vec ℕ Global) Refusal) (before after : World) (status : ℕ) → command ≡ found → Meets command before after given →
+    IsOutcome (Owes command given) outcome → Delivers outcome before.out after.out before.err after.err status → EndsSo found before after status
+ends_some found command given outcome before after status is met owed told =
+    let P : Command → Type 0 = λ c. EndsSo c before after status in
     subst P is (given, met, ends_so command given outcome before after status owed told)
 
 -- and that ends so
-pub ends_with : (found : Option Command) (command : Command) (given : Given) (before after : World) (status : ℕ) → Some command ≡ found → Meets command before after given →
-    EndsWith command given before after status → Ends found before after status
+pub ends_with : (found command : Command) (given : Given) (before after : World) (status : ℕ) → command ≡ found → Meets command before after given → EndsWith command given before after status →
+    EndsSo found before after status
 ends_with found command given before after status is met ends =
-    let P : Option Command → Type 0 = λ o. Ends o before after status in
+    let P : Command → Type 0 = λ c. EndsSo c before after status in
     subst P is (given, met, ends)

@@ -4,7 +4,8 @@ use Rattle.std.proofs.Common.{ℕ, ◌≤◌, ◌≡◌, List, Option, Some, Non
 use Rattle.std.specs.Prelude.{IsSomeAnd}
 use Rattle.lucy_text.specs.declared.shelf.ShelfError.{ShelfError}
 use Rattle.lucy_text.specs.declared.shelf.ShelfError.TheVariants as shelf
-use Rattle.lucy_app.specs.Commands.{Command, Order, Show, Types, Check, Clocks, Run, Kahn, written_options}
+use Rattle.lucy_command.specs.Commands.{Command, Order, Show, Types, Check, Clocks, Run, Kahn, Make}
+use Rattle.lucy_app.specs.Commands.{written_options, inferring_options}
 use Rattle.lucy_feed.specs.Sources.{Stop, Ended, Failed, Passed}
 use Rattle.lucy_output.specs.Sinks.{SeenSink}
 use Rattle.lucy_app.specs.World.{World, Given}
@@ -25,7 +26,10 @@ use Rattle.lucy_front.specs.declared.accepted.Accepted.{Accepted}
 use Rattle.lucy_run.specs.declared.ending.Ending.{Ending}
 use Rattle.lucy_run.specs.declared.ending.Ending.TheVariants as ending
 use Rattle.lucy_run.specs.Owes.{OwesRun, OwesKahn}
+use Rattle.lucy_make.specs.Text.{made_text}
+use Rattle.lucy_make.specs.Owes.{OwesSummary}
 use Rattle.lucy_app.specs.Ends.{Tells, MayAnswer, EndsWith, Ends}
+use Rattle.lucy_front.specs.Refusals.{memory_line}
 use Rattle.lucy_front.specs.declared.refusal.Refusal.{Refusal}
 use Rattle.lucy_front.specs.declared.refusal.Refusal.TheVariants as program
 use Rattle.lucy_app.specs.declared.input_refusal.InputCause.{InputCause}
@@ -95,9 +99,14 @@ owed_within Order given a is = order_within given.taken given.stop a is
 owed_within (Show file) given a is = fetched_within IsPrintOf RefusesSyntax given.fetched a is
 owed_within (Types file) given a is = fetched_within (IsReportOf given.operators) (RefusesText given.operators) given.fetched a is
 owed_within (Check file) given a is = fetched_within (IsCheckOf given.operators written_options) (RefusesCheck given.operators written_options) given.fetched a is
-owed_within (Clocks file options) given a is = fetched_within (IsCheckOf given.operators options) (RefusesCheck given.operators options) given.fetched a is
-owed_within (Run file options instants workers) given a is = run_within (λ p. OwesRun (kinds_of given.operators) p instants given.taken given.stop) given.operators options instants given.stop given.fetched a is
-owed_within (Kahn file options instants) given a is = run_within (λ p. OwesKahn (kinds_of given.operators) p instants given.taken given.stop) given.operators options instants given.stop given.fetched a is
+owed_within (Clocks file scale lead) given a is =
+    fetched_within (IsCheckOf given.operators (inferring_options scale lead)) (RefusesCheck given.operators (inferring_options scale lead)) given.fetched a is
+owed_within (Run file scale lead instants workers block) given a is =
+    run_within (λ p. OwesRun (kinds_of given.operators) p instants given.taken given.stop) given.operators (inferring_options scale lead) instants given.stop given.fetched a is
+owed_within (Kahn file scale lead instants) given a is =
+    run_within (λ p. OwesKahn (kinds_of given.operators) p instants given.taken given.stop) given.operators (inferring_options scale lead) instants given.stop given.fetched a is
+owed_within (Make stages workers block) given a is =
+    running_within (λ p. OwesSummary stages (kinds_of given.operators) p) given.operators (inferring_options 1 1) None given.stop (Ok (made_text stages)) a is
 
 answer_within : (command : Command) (given : Given) (a : Answer) → MayAnswer (Owes command given) (OwesOutput command given) a → a.status ≤ 7
 answer_within command given a (inl is) = owed_within command given a is
@@ -113,4 +122,5 @@ ends_with_within command given before after status (inr is) = tells_within 5 _ b
 
 pub ends_within : (found : Option Command) (before after : World) (status : ℕ) → Ends found before after status → status ≤ 7
 ends_within None before after status is = tells_within 2 no_command.err before.err after.err status (omega arith) is.2.told
-ends_within (Some command) before after status is = ends_with_within command is.0 before after status is.2
+ends_within (Some command) before after status (inl is) = ends_with_within command is.0 before after status is.2
+ends_within (Some command) before after status (inr is) = tells_within 7 memory_line before.err after.err status (omega arith) is.2.told

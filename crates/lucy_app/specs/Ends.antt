@@ -1,8 +1,8 @@
 -- How a command ends: its status, and what it leaves of what it was lent.
-use Rattle.std.specs.Prelude.{ℕ, ◌≡◌, ◌⊎◌, List, Option, None, Some}
+use Rattle.std.specs.Prelude.{ℕ, ◌≡◌, ◌⊎◌, List, [], Option, None, Some}
 use Rattle.lucy_output.specs.Sinks.{SeenSink, Writes, Fails}
 use Rattle.lucy_run.specs.Ends.{IsFrontOf}
-use Rattle.lucy_app.specs.Commands.{Command}
+use Rattle.lucy_command.specs.Commands.{Command}
 use Rattle.lucy_app.specs.World.{World, Given, Meets}
 use Rattle.lucy_app.specs.Lines.{write_fault_line}
 use Rattle.lucy_app.specs.Answers.{Answer, no_command, out_of_memory}
@@ -36,7 +36,15 @@ EndsBy Owed OwedOutput out out' err err' status =
 abbrev pub EndsWith : Command → Given → (before after : World) (status : ℕ) → Type 0
 EndsWith command given before after status = EndsBy (Owes command given) (OwesOutput command given) before.out after.out before.err after.err status
 
--- how the top call ends, where the words name this command or none
+-- nothing is called and nothing is printed, and this is answered
+abbrev pub Declines : Answer → (before after : World) (status : ℕ) → Type 0
+Declines answer before after status = (after.shelf ≡ before.shelf) × (after.source ≡ before.source) × Answers answer before.out after.out before.err after.err status
+
+-- how the top call ends that carries out a command
+abbrev pub EndsSo : Command → (before after : World) (status : ℕ) → Type 0
+EndsSo command before after status = (given : Given) × Meets command before after given × EndsWith command given before after status
+
+-- how the top call ends, where the words name this command or none; memory may run out before the command is carried out
 abbrev pub Ends : Option Command → (before after : World) (status : ℕ) → Type 0
-Ends None before after status = (after.shelf ≡ before.shelf) × (after.source ≡ before.source) × Answers no_command before.out after.out before.err after.err status
-Ends (Some command) before after status = (given : Given) × Meets command before after given × EndsWith command given before after status
+Ends None before after status = Declines no_command before after status
+Ends (Some command) before after status = EndsSo command before after status ⊎ Declines (out_of_memory []) before after status

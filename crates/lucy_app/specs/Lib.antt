@@ -16,6 +16,7 @@ pub mod Endings
 pub mod Running
 pub mod Owes
 pub mod Ends
+pub mod Complete
 pub mod Operators
 -- What only serves the proof of the body.
 pub mod Outcomes

@@ -1,5 +1,5 @@
 -- What the parts of the body hand on: what a fetch gave, and how a command came out before anything is written.
-use Rattle.std.specs.Prelude.{ℕ, ◌≡◌, ◌⊎◌, ◌≤◌, List, [], Option, IfSome, Result, Ok, Err, MatchResult, IsOkAnd}
+use Rattle.std.specs.Prelude.{ℕ, ◌≡◌, ◌⊎◌, ◌≤◌, List, [], Option, None, Result, Ok, Err, MatchResult, IsOkAnd}
 use Rattle.std.specs.declared.alloc.Global.{Global}
 use Rattle.std.specs.declared.vec.Vec.{Vec}
 use Rattle.lucy_word.specs.declared.limit.Limit.TheVariants as limit
@@ -8,9 +8,9 @@ use Rattle.lucy_text.specs.declared.shelf.ShelfError.TheVariants as shelf
 use Rattle.lucy_front.specs.declared.refusal.Refusal.{Refusal as Reason}
 use Rattle.lucy_front.specs.declared.refusal.Refusal.TheVariants as front
 use Rattle.lucy_front.specs.declared.options.Options.{Options}
-use Rattle.lucy_front.specs.Inferring.{AreOptions, most_scale}
+use Rattle.lucy_command.specs.Commands.{Make, most_stages}
+use Rattle.lucy_front.specs.Inferring.{most_scale}
 use Rattle.lucy_front.specs.Refusals.{limit_line, memory_line, IsTellable}
-use Rattle.lucy_app.specs.Commands as names
 use Rattle.lucy_feed.specs.declared.read.ReadError.{ReadError}
 use Rattle.lucy_feed.specs.declared.read.ReadError.TheVariants as read
 use Rattle.lucy_output.specs.Sinks.{SeenSink}
@@ -18,53 +18,32 @@ use Rattle.lucy_host.specs.Operators.{Operator}
 use Rattle.lucy_front.specs.declared.accepted.Accepted.{Accepted}
 use Rattle.lucy_run.specs.declared.ending.Ending.{Ending}
 use Rattle.lucy_run.specs.declared.ending.Ending.TheVariants as ending
-use Rattle.lucy_word.specs.Limits.{limit_number}
 use Rattle.lucy_app.specs.Answers.{Answer, printed, read_fault, no_instants, program_refused, input_refused, out_of_memory}
 use Rattle.lucy_app.specs.Endings.{fault_status, fault_line, ending_status, ending_line}
 use Rattle.lucy_app.specs.Running.{IsRunnable, OwesRefusal, OwesRunning, OwesRunningOutput}
-use Rattle.lucy_feed.specs.Sources.{Stop}
+use Rattle.lucy_feed.specs.Sources.{Stop, Unread}
+use Rattle.lucy_app.specs.World.{Given}
+use Rattle.lucy_app.specs.Owes.{Owes, OwesOutput}
 use Rattle.lucy_app.specs.Ends.{Tells, Answers, Breaks, EndsBy}
 use Rattle.lucy_app.specs.declared.input_refusal.InputCause.{InputCause}
 use Rattle.lucy_app.specs.declared.refusal.Refusal.{Refusal}
 use Rattle.lucy_app.specs.declared.refusal.Refusal.TheVariants.{Program, Input, NoInstants, ReadFault, OutOfMemory}
-use Rattle.lucy_app.specs.declared.words.Numbers.{Numbers}
-use Rattle.lucy_app.specs.declared.words.Command.{Command}
-use Rattle.lucy_app.specs.declared.words.Command.TheVariants.{Order, Show, Types, Check, Clocks, Run, Kahn}
 
--- the command that the body has read
-abbrev pub named : Command → names.Command
-named Order = names.Order
-named (Show file) = names.Show file.now
-named (Types file) = names.Types file.now
-named (Check file) = names.Check file.now
-named (Clocks file options) = names.Clocks file.now options
-named (Run file options instants workers) = names.Run file.now options instants workers
-named (Kahn file options instants) = names.Kahn file.now options instants
+-- a scale, or a lead, is within its limits
+abbrev pub IsScale : ℕ → Type 0
+IsScale n = (1 ≤ n) × (n ≤ most_scale)
 
--- instants that are given are within their limit
-abbrev pub AreFew : Option ℕ → Type 0
-AreFew instants = IfSome instants (λ given. given ≤ limit_number limit.Instants)
+-- so are stages
+abbrev pub AreStages : ℕ → Type 0
+AreStages stages = (1 ≤ stages) × (stages ≤ most_stages)
 
--- so is a scale, or a lead, that is given
-abbrev pub IsScale : Option ℕ → Type 0
-IsScale given = IfSome given (λ n. (1 ≤ n) × (n ≤ most_scale))
-
--- the workers that are given are within their limit, and so are those that move a net
+-- so are workers
 abbrev pub AreWorkers : ℕ → Type 0
-AreWorkers workers = (1 ≤ workers) × (workers ≤ names.most_workers)
+AreWorkers workers = (1 ≤ workers) × (workers ≤ 64)
 
--- the numbers of options are within their limits
-pub record AreNumbers (n : Numbers) : Type 0 where
-  pub scale : IsScale n.scale
-  pub lead : IsScale n.lead
-  pub instants : AreFew n.instants
-  pub workers : IfSome n.workers AreWorkers
-
-abbrev pub IsWithin : Command → Type 0
-IsWithin (Clocks file options) = AreOptions options
-IsWithin (Run file options instants workers) = AreOptions options × AreFew instants × AreWorkers workers
-IsWithin (Kahn file options instants) = AreOptions options × AreFew instants
-IsWithin command = Unit {0}
+-- and so are the instants of a block
+abbrev pub IsBlock : ℕ → Type 0
+IsBlock block = (1 ≤ block) × (block ≤ 1048576)
 
 -- the bytes that a fetch gave
 abbrev pub bytes_of : Result (Vec ℕ Global) ShelfError → Result (List ℕ) ShelfError
@@ -145,3 +124,11 @@ EndsRun Owed OwedOutput ops o instants stop fetched out out' err err' status =
     EndsBy (OwesRunning Owed ops o instants stop fetched)
     (λ output. ((answer : Answer) × OwesRunning Owed ops o instants stop fetched answer × (output ≡ answer.out)) ⊎ OwesRunningOutput OwedOutput ops o instants fetched output)
     out out' err err' status
+
+-- what `make` has met
+abbrev pub made_given : List Operator → Given
+made_given ops = record { fetched = None; taken = []; stop = Unread; operators = ops }
+
+-- how it ends
+abbrev pub EndsMake : (stages workers block : ℕ) → List Operator → (out out' err err' : SeenSink) (status : ℕ) → Type 0
+EndsMake stages workers block ops out out' err err' status = EndsBy (Owes (Make stages workers block) (made_given ops)) (OwesOutput (Make stages workers block) (made_given ops)) out out' err err' status

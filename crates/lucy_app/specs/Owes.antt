@@ -1,10 +1,13 @@
 -- What each command owes, by what it has met.
-use Rattle.std.specs.Prelude.{ℕ, ◌≡◌, ◌⊎◌, List, IsSomeAnd}
+use Rattle.std.specs.Prelude.{ℕ, ◌≡◌, ◌⊎◌, List, None, Ok, IsSomeAnd}
 use Rattle.lucy_word.specs.declared.limit.Limit.TheVariants as limit
 use Rattle.lucy_host.specs.Operators.{kinds_of}
 use Rattle.lucy_feed.specs.Sources.{Stop, Ended, Failed, Passed}
 use Rattle.lucy_run.specs.Owes.{OwesRun, OwesRunOutput, OwesKahn, OwesKahnOutput}
-use Rattle.lucy_app.specs.Commands.{Command, Order, Show, Types, Check, Clocks, Run, Kahn, written_options}
+use Rattle.lucy_make.specs.Text.{made_text}
+use Rattle.lucy_make.specs.Owes.{OwesSummary}
+use Rattle.lucy_command.specs.Commands.{Command, Order, Show, Types, Check, Clocks, Run, Kahn, Make}
+use Rattle.lucy_app.specs.Commands.{written_options, inferring_options}
 use Rattle.lucy_app.specs.World.{Given}
 use Rattle.lucy_app.specs.Answers.{Answer, printed, read_fault, limit_passed, input_refused}
 use Rattle.lucy_app.specs.Fields.{fields}
@@ -31,18 +34,21 @@ Owes Order given answer = OwesOrder given.taken given.stop answer
 Owes (Show file) given answer = IsSomeAnd given.fetched (λ fetched. OwesProgram IsPrintOf RefusesSyntax fetched answer)
 Owes (Types file) given answer = IsSomeAnd given.fetched (λ fetched. OwesProgram (IsReportOf given.operators) (RefusesText given.operators) fetched answer)
 Owes (Check file) given answer = IsSomeAnd given.fetched (λ fetched. OwesProgram (IsCheckOf given.operators written_options) (RefusesCheck given.operators written_options) fetched answer)
-Owes (Clocks file options) given answer = IsSomeAnd given.fetched (λ fetched. OwesProgram (IsCheckOf given.operators options) (RefusesCheck given.operators options) fetched answer)
-Owes (Run file options instants workers) given answer =
-    IsSomeAnd given.fetched (λ fetched. OwesRunning (λ a. OwesRun (kinds_of given.operators) a instants given.taken given.stop) given.operators options instants given.stop fetched answer)
-Owes (Kahn file options instants) given answer =
-    IsSomeAnd given.fetched (λ fetched. OwesRunning (λ a. OwesKahn (kinds_of given.operators) a instants given.taken given.stop) given.operators options instants given.stop fetched answer)
+Owes (Clocks file scale lead) given answer =
+    IsSomeAnd given.fetched (λ fetched. OwesProgram (IsCheckOf given.operators (inferring_options scale lead)) (RefusesCheck given.operators (inferring_options scale lead)) fetched answer)
+Owes (Run file scale lead instants workers block) given answer =
+    IsSomeAnd given.fetched (λ fetched. OwesRunning (λ a. OwesRun (kinds_of given.operators) a instants given.taken given.stop) given.operators (inferring_options scale lead) instants given.stop fetched answer)
+Owes (Kahn file scale lead instants) given answer =
+    IsSomeAnd given.fetched (λ fetched. OwesRunning (λ a. OwesKahn (kinds_of given.operators) a instants given.taken given.stop) given.operators (inferring_options scale lead) instants given.stop fetched answer)
+Owes (Make stages workers block) given answer =
+    OwesRunning (λ a. OwesSummary stages (kinds_of given.operators) a) given.operators (inferring_options 1 1) None given.stop (Ok (made_text stages)) answer
 
 -- a command that runs a program owes this output, also where reading was given up
 abbrev pub OwesLines : Command → Given → (output : List ℕ) → Type 0
-OwesLines (Run file options instants workers) given output =
-    IsSomeAnd given.fetched (λ fetched. OwesRunningOutput (λ a. OwesRunOutput (kinds_of given.operators) a instants given.taken given.stop) given.operators options instants fetched output)
-OwesLines (Kahn file options instants) given output =
-    IsSomeAnd given.fetched (λ fetched. OwesRunningOutput (λ a. OwesKahnOutput (kinds_of given.operators) a instants given.taken given.stop) given.operators options instants fetched output)
+OwesLines (Run file scale lead instants workers block) given output =
+    IsSomeAnd given.fetched (λ fetched. OwesRunningOutput (λ a. OwesRunOutput (kinds_of given.operators) a instants given.taken given.stop) given.operators (inferring_options scale lead) instants fetched output)
+OwesLines (Kahn file scale lead instants) given output =
+    IsSomeAnd given.fetched (λ fetched. OwesRunningOutput (λ a. OwesKahnOutput (kinds_of given.operators) a instants given.taken given.stop) given.operators (inferring_options scale lead) instants fetched output)
 OwesLines command given output = ⊥
 
 -- a command owes this output

@@ -10,7 +10,8 @@ use Rattle.lucy_text.specs.declared.shelf.ShelfError.{ShelfError}
 use Rattle.lucy_text.specs.declared.shelf.ShelfError.TheVariants as shelf
 use Rattle.lucy_feed.specs.Sources.{SeenSource, Stop, Unread, Read}
 use Rattle.lucy_output.specs.Sinks.{SeenSink}
-use Rattle.lucy_app.specs.Commands.{Command, file_of, input_of}
+use Rattle.lucy_command.specs.Commands.{Command}
+use Rattle.lucy_app.specs.Commands.{file_of, input_of}
 
 -- a shelf: its files, how often it failed, and how often it was called
 pub record SeenShelf : Type 0 where

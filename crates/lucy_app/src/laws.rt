@@ -1,11 +1,14 @@
 // Laws of what commands owe.
 ghost use Rattle.std.specs.Prelude.{◌≡◌, ℕ, List};
-ghost use Rattle.lucy_app.specs.Commands.{Command, Order, Show};
+ghost use Rattle.lucy_command.specs.Commands.{Command, Order, Show};
 ghost use Rattle.lucy_app.specs.World.{Given};
 ghost use Rattle.lucy_app.specs.Answers.{Answer, Alike};
 ghost use Rattle.lucy_app.specs.Owes.{Owes};
+ghost use Rattle.lucy_app.specs.Complete.{Completes};
 
-use lucy_run::{one_interpretation, one_run};
+use lucy_lines::one_cut;
+use lucy_meaning::one_horizon;
+use lucy_run::{faultless_runs_are_done, one_interpretation, one_run};
 
 /// A command that has met the same things owes one answer. Only the evidence for which a program is refused is left
 /// open, such as the path of a clash of types.
@@ -14,6 +17,20 @@ pub fn one_answer()
     ensures order { (given : Given) (a b : Answer) → Owes Order given a → Owes Order given b → a ≡ b }
     ensures show { (file : List ℕ) (given : Given) (a b : Answer) → Owes (Show file) given a → Owes (Show file) given b → a ≡ b }
 {
+    one_cut();
+    one_horizon();
     one_run();
     one_interpretation();
+}
+
+/// A command that nothing refuses is done, or memory runs out: its FILE is told and is a program that it takes, its input has no
+/// fault, no limit is passed, and no count has risen.
+pub fn suited_commands_are_done()
+    ensures { Completes }
+{
+    one_cut();
+    one_horizon();
+    one_run();
+    one_interpretation();
+    faultless_runs_are_done();
 }

@@ -1,18 +1,23 @@
 //! All that the program does, over a shelf, a source and sinks that are handed in: one call, with a status as its answer.
 //!
 //! It stands on `lucy_word`, `lucy_host`, `lucy_order`, `lucy_text`, `lucy_syntax`, `lucy_place`, `lucy_types`, `lucy_front`,
-//! `lucy_feed` and `lucy_run`. Begin with `lucy` in `top.rt`. What it promises is in `specs/`: `Commands` says which command the
-//! words name, `World` what a command is lent and meets, `Owes` which answer it owes by that, with `Order`, `Show`, `Types`,
-//! `Check` and `Running` for what each prints and refuses, and `Ends` what it leaves.
+//! `lucy_command`,
+//! `lucy_feed`, `lucy_run` and `lucy_make`. Begin with `lucy` in `top.rt`. What it promises is in `specs/`: `Commands` says what the
+//! commands that `lucy_command` reads call, `World` what a command is lent and meets, `Owes` which answer it owes by that, with
+//! `Order`, `Show`, `Types`, `Check` and `Running` for what each prints and refuses, `Ends` what it leaves, and `Complete` when it
+//! is done.
 #![tactic(auto)]
 
+mod carrying;
 mod check;
 mod cut;
 mod ending;
 mod fetch;
 mod input_refusal;
 mod laws;
+mod making;
 mod operators;
+mod options;
 mod order;
 mod output;
 mod refusal;
@@ -21,9 +26,8 @@ mod running;
 mod show;
 mod top;
 mod types;
-mod words;
 
 pub use input_refusal::InputCause;
-pub use laws::one_answer;
+pub use laws::{one_answer, suited_commands_are_done};
 pub use operators::program_operators;
 pub use top::lucy;

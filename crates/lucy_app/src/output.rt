@@ -69,8 +69,8 @@ pub(crate) fn refuse<E: Sink>(alloc: Global, err: &mut E, refusal: Refusal) -> u
     }
 }
 
-// Writes what a command prints. Where that fails, the fault is told on `err`, if it can be.
-fn print<O: Sink, E: Sink>(out: &mut O, err: &mut E, text: &[u8]) -> u8
+/// Writes what a command prints. Where that fails, the fault is told on `err`, if it can be.
+pub(crate) fn print<O: Sink, E: Sink>(out: &mut O, err: &mut E, text: &[u8]) -> u8
     ensures prints { Prints text.now
         (seen_sink (O.written out.old) (O.faults out.old) (O.since_stop out.old))
         (seen_sink (O.written out.new) (O.faults out.new) (O.since_stop out.new))

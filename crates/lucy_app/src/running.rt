@@ -10,7 +10,8 @@ ghost use Rattle.lucy_flat.specs.Clocked.{AreClocked};
 ghost use Rattle.lucy_front.specs.Inferring.{AreOptions};
 ghost use Rattle.lucy_front.specs.Report.{IsReportable};
 ghost use Rattle.lucy_run.specs.Owes.{OwesRun, OwesRunOutput, OwesKahn, OwesKahnOutput};
-ghost use Rattle.lucy_app.specs.Outcomes.{bytes_of, AreFew, AreWorkers, IsAccepting, EndsRun, Tellable};
+ghost use Rattle.lucy_command.specs.Named.{AreFew};
+ghost use Rattle.lucy_app.specs.Outcomes.{bytes_of, AreWorkers, IsBlock, IsAccepting, EndsRun, Tellable};
 
 use crate::output::{conclude, refuse};
 use crate::refusal::Refusal;
@@ -21,9 +22,9 @@ use lucy_worker::Gate;
 use std::alloc::Global;
 use std::thread::Threads;
 
-// The program of what the fetch gave, where the host has these operators and clocks are found so, if it can be run for these
-// instants.
-fn accepted(
+/// The program of what the fetch gave, where the host has these operators and clocks are found so, if it can be run for these
+/// instants.
+pub(crate) fn accepted(
     alloc: Global,
     fetched: Result<Vec<u8>, ShelfError>,
     options: &Options,
@@ -51,7 +52,7 @@ fn accepted(
     Ok(accepted)
 }
 
-/// Runs the program of what the fetch gave on the input, by so many workers: its report, the line `run`, and the output lines.
+/// Runs the program of what the fetch gave on the input, by so many workers and in blocks of so many instants: its report, the line `run`, and the output lines.
 pub(crate) fn run<
     R: Threads + Sync,
     I: Source,
@@ -66,6 +67,7 @@ pub(crate) fn run<
     options: &Options,
     instants: Option<u64>,
     workers: u32,
+    block: u64,
     input: &mut I,
     out: &mut O,
     err: &mut E,
@@ -76,6 +78,7 @@ pub(crate) fn run<
     requires options { AreOptions options.now }
     requires few { AreFew instants }
     requires workers { AreWorkers workers }
+    requires block { IsBlock block }
     ensures ends { (taken : List ℕ) × (stop : Stop) × Read (limit_number limit.Input)
         (seen_source (I.left input.old) (I.ended input.old) (I.faults input.old) (I.since_stop input.old))
         (seen_source (I.left input.new) (I.ended input.new) (I.faults input.new) (I.since_stop input.new)) taken stop
@@ -93,7 +96,7 @@ pub(crate) fn run<
     match accepted(alloc, fetched, options, instants, host.ops()) {
         Ok(accepted) => {
             let ending = lucy_run::run(
-                rt, alloc, accepted, host, gate, instants, workers, input, out,
+                rt, alloc, accepted, host, gate, instants, workers, block, input, out,
             );
             conclude(alloc, err, ending)
         }

@@ -1,16 +1,16 @@
 // The one call that the program makes.
 ghost use Rattle.std.specs.Prelude.{◌≡◌, ◌⊎◌, ◌≤◌, None, map, string_bytes};
 ghost use Rattle.lucy_host.specs.Host.{Serves, lent};
-ghost use Rattle.lucy_app.specs.Commands.{command_of, file_of, input_of};
+ghost use Rattle.lucy_command.specs.Commands.{command_of};
+ghost use Rattle.lucy_app.specs.Commands.{file_of, input_of};
 ghost use Rattle.lucy_feed.specs.Sources.{seen_source};
 ghost use Rattle.lucy_output.specs.Sinks.{seen_sink};
 ghost use Rattle.lucy_app.specs.World.{seen_shelf};
 ghost use Rattle.lucy_app.specs.Ends.{Ends};
 
-use crate::fetch::fetch;
-use crate::output::{finish, tell};
-use crate::words::{Command, WRITTEN, command_of};
-use crate::{check, order, running, show, types};
+use crate::carrying::carry_out;
+use crate::output::tell;
+use lucy_command::read;
 use lucy_host::Host;
 use lucy_text::{Shelf, Sink, Source};
 use lucy_worker::Gate;
@@ -37,7 +37,7 @@ use std::thread::Threads;
 ///   `check`, `clocks`, `run` and `kahn` also, the needs of a node, its rates, positions, inequalities or words or their
 ///   comparison, the net or its schedule pass a limit, and nothing before that is refused. Where `run` or `kahn` pass the limit of the input or of the instants of a run, the lines
 ///   up to there stand on `out`, and nothing where `kahn` passes one of its own.
-/// - 7: memory ran out. Of `run` and `kahn` a front of the answer may stand on `out`.
+/// - 7: memory ran out. Of `run` and `kahn` a front of the answer may stand on `out`. Words that name no command take none.
 ///
 /// With 1, 2, 3, 4, 6 and 7 the line that says so stands on `err`. The words are looked at first. Then `order` reads the
 /// input, to its end or to one byte past its limit, and judges its length, the count of its words, and the words in turn,
@@ -48,7 +48,8 @@ use std::thread::Threads;
 /// the sizes of buffers. `clocks` does the same, but infers the clocks of nodes that aren't written. `run` and `kahn` judge as
 /// `clocks` does, and then look for missing instants. `run` prints the report and the
 /// line `run`. Both read the input to its end or to its first fault, where main has inputs, and print the output lines. The host
-/// lends programs its operators, by their names. No read follows the end of the input or a failed read, and no write to a sink
+/// lends programs its operators, by their names. `make` judges the program that it generates as `run` does, and prints the figures of
+/// its run on the input that it generates; it calls neither the shelf nor the source. No read follows the end of the input or a failed read, and no write to a sink
 /// follows one that failed.
 ///
 /// `Ends` says all this, by the command that the words name.
@@ -106,47 +107,10 @@ pub fn lucy<
     ensures out_count { O.faults out.old ≤ O.faults out.new }
     ensures err_count { E.faults err.old ≤ E.faults err.new }
 {
-    match command_of(words) {
-        None => tell(err, b"lucy: words\n", 2),
-        Some(Command::Order) => {
-            let outcome = order::answer(alloc, input);
-            finish(alloc, out, err, outcome)
-        }
-        Some(Command::Show(file)) => {
-            let fetched = fetch(alloc, shelf, file);
-            finish(alloc, out, err, show::answer(alloc, fetched))
-        }
-        Some(Command::Types(file)) => {
-            let fetched = fetch(alloc, shelf, file);
-            finish(alloc, out, err, types::answer(alloc, fetched, host.ops()))
-        }
-        Some(Command::Check(file)) => {
-            let fetched = fetch(alloc, shelf, file);
-            finish(
-                alloc,
-                out,
-                err,
-                check::answer(alloc, fetched, host.ops(), &WRITTEN),
-            )
-        }
-        Some(Command::Clocks(file, options)) => {
-            let fetched = fetch(alloc, shelf, file);
-            finish(
-                alloc,
-                out,
-                err,
-                check::answer(alloc, fetched, host.ops(), &options),
-            )
-        }
-        Some(Command::Run(file, options, instants, workers)) => {
-            let fetched = fetch(alloc, shelf, file);
-            running::run(
-                rt, alloc, fetched, &options, instants, workers, input, out, err, gate, host,
-            )
-        }
-        Some(Command::Kahn(file, options, instants)) => {
-            let fetched = fetch(alloc, shelf, file);
-            running::kahn(alloc, fetched, &options, instants, input, out, err, host)
-        }
+    let mut spelled = Vec::new(alloc);
+    match read(alloc, words, &mut spelled) {
+        Ok(Some(command)) => { carry_out(rt, alloc, command, shelf, input, out, err, gate, host) }
+        Ok(None) => tell(err, b"lucy: words\n", 2),
+        Err(_) => tell(err, b"lucy: out of memory\n", 7),
     }
 }

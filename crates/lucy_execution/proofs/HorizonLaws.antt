@@ -1,12 +1,14 @@
 -- The instants that the items of one input more allow.
 use Rattle.std.proofs.Common.{◌≡◌, ℕ, ◌+◌, ◌-◌, ◌<◌, ◌≤◌, min, List, Some, ap, sym, ◌∙◌, subst, inl, inr, arith}
-use Rattle.std.specs.Prelude.{ℤ, ◌↔◌, length, slice_get}
-use Rattle.std.proofs.lemmas.Bool.{cases_lt}
+use Rattle.std.specs.Prelude.{ℤ, ◌↔◌, IsTrue, length, nat_lt, slice_get}
+use Rattle.std.proofs.lemmas.Bool.{cases_lt, ltb-true, lt-ltb}
 use Rattle.std.proofs.lemmas.Option.{same_Some}
 use Rattle.lucy_word.specs.Bits.{Bits, ones_to}
 use Rattle.lucy_word.specs.Index.{IsIndex}
+use Rattle.lucy_word.proofs.BitsLaws.{ones_to-le}
 use Rattle.lucy_word.proofs.IndexLaws.{IsIndex-there, IsIndex-before, IsIndex-instant, ones_to-rises}
 use Rattle.lucy_stream.specs.Items.{list_at}
+use Rattle.lucy_meaning.specs.Horizons.{Suffice, IsHorizon}
 
 -- the last instant with no more ones than items
 pub record IsLast (w : Bits) (items most last : ℕ) : Type 0 where
@@ -43,6 +45,13 @@ last_most w items most place h e = record {
   exact = λ t m. (λ few. m, λ early. few_before w items place t h (omega arith));
 }
 
+-- no fewer items than instants
+pub last_all : (w : Bits) (items most : ℕ) → most ≤ items → IsLast w items most most
+last_all w items most e = record {
+  within = omega arith;
+  exact = λ t m. (λ few. m, λ early. omega (arith, ones_to-le w t));
+}
+
 -- the inputs of the first so many words suffice
 abbrev pub SufficeTo : List Bits → List (List ℤ) → ℕ → ℕ → Type 0
 SufficeTo words inputs count instants = (i : ℕ) (word : Bits) → i < count → slice_get words i ≡ Some word → ones_to word instants ≤ length (list_at inputs i)
@@ -66,3 +75,13 @@ pub suffice_up_to : (words : List Bits) (inputs : List (List ℤ)) (i most last 
     ((u : ℕ) → u ≤ most → SufficeTo words inputs i u → u ≤ last) → (u : ℕ) → u ≤ most → SufficeTo words inputs (i + 1) u → u ≤ new
 suffice_up_to words inputs i most last new word e h g u m a =
     (h.exact u (g u m (λ j w k f. a j w (omega arith) f))).0 (a i word (omega arith) e)
+
+-- the horizon is past the most but for one exactly where the inputs suffice for it
+pub past_most : (words : List Bits) (inputs : List (List ℤ)) (most horizon : ℕ) → IsHorizon words inputs (most + 1) horizon → IsTrue (nat_lt most horizon) ↔ Suffice words inputs (most + 1)
+past_most words inputs most horizon is = (
+  λ past.
+      let above : most < horizon = ltb-true most horizon past in
+      let reached : horizon ≡ most + 1 = omega (arith, is.within) in
+      subst (λ t. Suffice words inputs t) reached is.suffice,
+  λ suffice. lt-ltb most horizon (omega (arith, is.greatest (most + 1) (omega arith) suffice)),
+)

@@ -59,7 +59,7 @@ count_within (x ∷ actors) most each =
 
 module _ (nodes : List PlacedNode) (clocks : List NodeClock) (proper : AreProper nodes) (net : Net) (flat : IsFlat nodes clocks net) where
   -- the actor of a parameter
-  param_actor : (i : ℕ) → i < params_in (main_of nodes) → (a : ℕ) × (actor : Actor) × (slice_get net.actors a ≡ Some actor) × (actor.kind ≡ actor_kind.Input i)
+  pub param_actor : (i : ℕ) → i < params_in (main_of nodes) → (a : ℕ) × (actor : Actor) × (slice_get net.actors a ≡ Some actor) × (actor.kind ≡ actor_kind.Input i)
   param_actor i low = let of = flat.actors (at [] (suc i)) place_kind.Param (param_is nodes proper i low) in (_, of.actor, of.there, of.does ∙ ap (λ n. actor_kind.Input n) (omega arith))
 
   kind_within : (spot : Spot) (kind : PlaceKind) → kind_at nodes spot ≡ Some kind → after_input (actor_of (spot_form spot kind)) ≤ params_in (main_of nodes)

@@ -4,3 +4,5 @@ pub mod StreamLaws
 pub mod ClockLaws
 pub mod OutputLaws
 pub mod InputLaws
+pub mod LaterLaws
+mod PlayLaws

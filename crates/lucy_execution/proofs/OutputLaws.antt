@@ -5,7 +5,6 @@ use Rattle.std.proofs.lemmas.List.{length-map, length-replicate, get_or-replicat
 use Rattle.std.proofs.lemmas.Bool.{cases_lt}
 use Rattle.std.proofs.lemmas.Option.{get_or_from_slice_get, slice_get-map}
 use Rattle.lucy_word.specs.Bits.{Bits, ones_to}
-use Rattle.lucy_word.proofs.BitsLaws.{ones_to-none}
 use Rattle.lucy_host.specs.declared.kind.HostKind.{HostKind}
 use Rattle.lucy_host.specs.Operators.{Operator, kinds_of}
 use Rattle.lucy_event.specs.Plans.{GiveBelow}
@@ -21,8 +20,8 @@ use Rattle.lucy_meaning.specs.Spots.{main_of, results_in}
 use Rattle.lucy_meaning.specs.Sizes.{all_places}
 use Rattle.lucy_meaning.proofs.Lists.{there}
 use Rattle.lucy_flat.specs.Flat.{IsFlat}
-use Rattle.lucy_execution.specs.Streams.{main_stream, main_streams, cut_to}
-use Rattle.lucy_execution.proofs.NetLaws.{output_of, output_stream, gives_below}
+use Rattle.lucy_execution.specs.Streams.{main_stream, later_stream, later_streams, cut_to}
+use Rattle.lucy_execution.proofs.NetLaws.{main_counts, output_of, output_stream, gives_below}
 use Rattle.lucy_execution.proofs.StreamLaws.{cut_at, cut_count}
 
 -- main is the last node
@@ -49,31 +48,27 @@ stream_at : {A : Type 0} (f : ℕ → A) (xs : List ℕ) (i x : ℕ) (d : A) →
 stream_at f xs i x d e = get_or_from_slice_get (map f xs) i (f x) d (slice_get-map f xs i ∙ ap (option_map f) e)
 
 -- what is to be told of an output
-abbrev pub IsTold : Seen → ℕ → List ℤ → Type 0
-IsTold seen i list = (a givers : ℕ) (actor : Actor) → IsOutputOf seen.net i a actor → GiveBelow (plan_of seen) givers → IsOver seen → list ≡ take (ones_to actor.firing seen.instants) (stream_of seen givers (first_ring actor))
-
--- so is told of the output of a finished runner, where no outputs were carried away
-pub told_whole : (view : RunnerView) → view.before ≡ 0 → (i : ℕ) (list : List ℤ) →
-    ((a givers : ℕ) (actor : Actor) → IsOutputOf view.seen.net i a actor → GiveBelow (plan_of view.seen) givers → IsOver view.seen →
-    list ≡ drop (ones_to actor.firing view.before) (take (ones_to actor.firing view.seen.instants) (stream_of view.seen givers (first_ring actor)))) →
-    IsTold view.seen i list
-told_whole view whole i list told a givers actor of below over =
-    let none : ones_to actor.firing view.before ≡ 0 = ap (ones_to actor.firing) whole ∙ ones_to-none actor.firing in
-    told a givers actor of below over ∙ ap (λ n. drop n (take (ones_to actor.firing view.seen.instants) (stream_of view.seen givers (first_ring actor)))) none
+abbrev pub IsTold : RunnerView → ℕ → List ℤ → Type 0
+IsTold view i list = (a givers : ℕ) (actor : Actor) → IsOutputOf view.seen.net i a actor → GiveBelow (plan_of view.seen) givers → IsOver view.seen →
+    list ≡ drop (ones_to actor.firing view.before) (take (ones_to actor.firing view.seen.instants) (stream_of view.seen givers (first_ring actor)))
 
 -- the outputs so far with the next one
-pub next_output : (seen : Seen) (nodes : List PlacedNode) (clocks : List NodeClock) → AreProper nodes → IsFlat nodes clocks seen.net → IsOver seen → (i : ℕ) → i < length (results_in (main_of nodes)) → (list : List ℤ) → IsTold seen i list →
-    take i (main_streams (kinds_of seen.operators) seen.inputs nodes clocks seen.instants) ++ list ∷ [] ≡ take (i + 1) (main_streams (kinds_of seen.operators) seen.inputs nodes clocks seen.instants)
-next_output seen nodes clocks proper flat over i l list told =
+pub next_output : (view : RunnerView) (nodes : List PlacedNode) (clocks : List NodeClock) → AreProper nodes → IsFlat nodes clocks view.seen.net → IsOver view.seen → (i : ℕ) → i < length (results_in (main_of nodes)) → (list : List ℤ) → IsTold view i list →
+    take i (later_streams (kinds_of view.seen.operators) view.seen.inputs nodes clocks view.before view.seen.instants) ++ list ∷ []
+    ≡ take (i + 1) (later_streams (kinds_of view.seen.operators) view.seen.inputs nodes clocks view.before view.seen.instants)
+next_output view nodes clocks proper flat over i l list told =
+    let seen : Seen = view.seen in
     let kinds : List HostKind = kinds_of seen.operators in
-    let streams : List (List ℤ) = main_streams kinds seen.inputs nodes clocks seen.instants in
+    let later : ℕ → List ℤ = later_stream kinds seen.inputs nodes clocks view.before seen.instants in
+    let streams : List (List ℤ) = later_streams kinds seen.inputs nodes clocks view.before seen.instants in
     let place = there (results_in (main_of nodes)) i l in
     let of = flat.outputs i place.0 place.1 in
-    let is : list ≡ main_stream kinds seen.inputs nodes clocks seen.instants place.0 =
+    let is : list ≡ later place.0 =
     told (all_places nodes + i) (all_places nodes) of.actor (output_of nodes clocks proper seen.net flat i place.0 place.1) (gives_below nodes clocks proper seen.net flat seen.instants) over
-    ∙ output_stream nodes clocks proper seen.net flat kinds seen.inputs seen.instants i place.0 place.1 in
-    let here : get_or streams i [] ≡ main_stream kinds seen.inputs nodes clocks seen.instants place.0 = stream_at (main_stream kinds seen.inputs nodes clocks seen.instants) (results_in (main_of nodes)) i place.0 [] place.1 in
-    let within : i < length streams = omega (arith, l, length-map (results_in (main_of nodes)) (main_stream kinds seen.inputs nodes clocks seen.instants)) in
+    ∙ ap (drop (ones_to of.actor.firing view.before)) (output_stream nodes clocks proper seen.net flat kinds seen.inputs seen.instants i place.0 place.1)
+    ∙ ap (λ n. drop n (main_stream kinds seen.inputs nodes clocks seen.instants place.0)) (main_counts nodes clocks place.0 view.before of.actor.firing of.firing) in
+    let here : get_or streams i [] ≡ later place.0 = stream_at later (results_in (main_of nodes)) i place.0 [] place.1 in
+    let within : i < length streams = omega (arith, l, length-map (results_in (main_of nodes)) later) in
     ap (λ xs. take i streams ++ xs ∷ []) (is ∙ sym here) ∙ sym (take_more streams i [] within)
 
 -- the lists cut so far with the next one

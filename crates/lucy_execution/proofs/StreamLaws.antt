@@ -63,7 +63,7 @@ cut_mapped t word list [] = refl
 cut_mapped t word list (place ∷ places) = ap (λ xs. take (ones_to (word place) t) (list (at [] place)) ∷ xs) (cut_mapped t word list places)
 
 -- a front of a list begins as the list does
-front_takes : (xs ys : List ℤ) (k : ℕ) → IsFront xs ys → k ≤ length xs → take k xs ≡ take k ys
+pub front_takes : (xs ys : List ℤ) (k : ℕ) → IsFront xs ys → k ≤ length xs → take k xs ≡ take k ys
 front_takes xs ys zero f l = refl
 front_takes [] ys (suc k) f l = absurd (omega arith)
 front_takes (x ∷ xs) [] (suc k) f l = absurd f
@@ -82,7 +82,7 @@ results_count nodes clocks = length-map (results_in (main_of nodes)) (main_word 
 
 module _ (nodes : List PlacedNode) (clocks : List NodeClock) (proper : AreProper nodes) (schedule : HasSchedule nodes clocks) where
   -- the iterate has the items of a stream
-  long : (kinds : List HostKind) (inputs : List (List ℤ)) (t : ℕ) → Suffice (param_words nodes clocks) inputs t → (i place : ℕ) → slice_get (results_in (main_of nodes)) i ≡ Some place →
+  pub long : (kinds : List HostKind) (inputs : List (List ℤ)) (t : ℕ) → Suffice (param_words nodes clocks) inputs t → (i place : ℕ) → slice_get (results_in (main_of nodes)) i ≡ Some place →
       ones_to (main_word nodes clocks place) t ≤ length (kahn kinds inputs nodes (t * all_places nodes) (at [] place))
   long kinds inputs t suffice i place e = enough nodes clocks proper schedule.net schedule.flat kinds inputs t (events_to schedule.events t) suffice (schedule.sound t) i place e
 

@@ -1,5 +1,5 @@
 -- The output streams of a program whose nodes have clocks, up to a horizon in instants.
-use Rattle.std.specs.Prelude.{ℕ, List, [], ◌∷◌, map, take, ℤ}
+use Rattle.std.specs.Prelude.{ℕ, List, [], ◌∷◌, map, take, drop, ℤ}
 use Rattle.std.specs.List.{range_with_len}
 use Rattle.lucy_word.specs.Bits.{Bits, ones_to}
 use Rattle.lucy_host.specs.declared.kind.HostKind.{HostKind}
@@ -28,6 +28,13 @@ main_stream kinds inputs nodes clocks instants place = stream_to kinds inputs no
 -- those of main's results, in order
 abbrev pub main_streams : List HostKind → List (List ℤ) → List PlacedNode → List NodeClock → ℕ → List (List ℤ)
 main_streams kinds inputs nodes clocks instants = map (main_stream kinds inputs nodes clocks instants) (results_in (main_of nodes))
+
+-- what the stream of a place of main has past an earlier horizon, and those of main's results, in order
+abbrev pub later_stream : List HostKind → List (List ℤ) → List PlacedNode → List NodeClock → (before instants : ℕ) → ℕ → List ℤ
+later_stream kinds inputs nodes clocks before instants place = drop (ones_to (main_word nodes clocks place) before) (main_stream kinds inputs nodes clocks instants place)
+
+abbrev pub later_streams : List HostKind → List (List ℤ) → List PlacedNode → List NodeClock → (before instants : ℕ) → List (List ℤ)
+later_streams kinds inputs nodes clocks before instants = map (later_stream kinds inputs nodes clocks before instants) (results_in (main_of nodes))
 
 -- lists cut at the horizon, each by the word of its number
 abbrev pub cut_to : ℕ → List Bits → List (List ℤ) → List (List ℤ)

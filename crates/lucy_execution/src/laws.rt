@@ -20,7 +20,8 @@ ghost use Rattle.lucy_meaning.specs.Horizons.{Suffice};
 ghost use Rattle.lucy_meaning.specs.Kahn.{kahn};
 ghost use Rattle.lucy_kahn.specs.Turns.{params_in};
 ghost use Rattle.lucy_flat.specs.Flat.{IsFlat};
-ghost use Rattle.lucy_execution.specs.Streams.{main_word, param_words, result_words, main_streams, cut_inputs};
+ghost use Rattle.lucy_stream.specs.Fronts.{AreFronts};
+ghost use Rattle.lucy_execution.specs.Streams.{main_word, param_words, result_words, main_streams, cut_to, cut_inputs};
 ghost use Rattle.lucy_execution.specs.Running.{HasSchedule, turns_of};
 
 /// A core can be made of the flat net of a program with a sound schedule, of inputs with the items of the horizon and of the
@@ -48,6 +49,13 @@ pub fn streams_need_no_more()
     ensures same { (kinds : List HostKind) (inputs : List (List ℤ)) (nodes : List Node) (clocks : List Clock) (instants : ℕ) →
         AreProper nodes → HasSchedule nodes clocks → params_in (main_of nodes) ≡ length inputs → Suffice (param_words nodes clocks) inputs instants →
         main_streams kinds (cut_inputs nodes clocks inputs instants) nodes clocks instants ≡ main_streams kinds inputs nodes clocks instants }
+{}
+
+/// The output streams of more instants, from inputs that go on, begin with those of fewer.
+pub fn streams_go_on()
+    ensures { (kinds : List HostKind) (inputs more : List (List ℤ)) (nodes : List Node) (clocks : List Clock) (s t : ℕ) →
+        AreProper nodes → HasSchedule nodes clocks → AreFronts inputs more → s ≤ t → Suffice (param_words nodes clocks) inputs s →
+        cut_to s (result_words nodes clocks) (main_streams kinds more nodes clocks t) ≡ main_streams kinds inputs nodes clocks s }
 {}
 
 /// The stream of an output of the flat net, cut at the horizon, is what the plain interpreter has of its result from the items

@@ -1,8 +1,8 @@
 //! Executions: the output streams of a program whose nodes have clocks, up to a horizon, in two ways.
 //!
 //! Begin with `specs/Streams.antt`, which says what the output streams are, by `lucy_meaning` and the nodes' clocks alone. The
-//! horizon that the items of the inputs allow is in `instants.rt`. `running.rt` runs the flat net of `lucy_flat` on the core of
-//! `lucy_core`; `interpreting.rt` goes by the plain interpreter of `lucy_kahn`. Both answer what the one definition says.
+//! horizon that the items of the inputs allow is in `instants.rt`. `player.rt` runs the flat net of `lucy_flat` on the runner of
+//! `lucy_runner`, from horizon to horizon; `interpreting.rt` goes by the plain interpreter of `lucy_kahn`. Both answer what the one definition says.
 //! `laws.rt` has what holds of these streams.
 #![tactic(auto)]
 
@@ -11,10 +11,14 @@ mod instants;
 mod interpreting;
 mod laws;
 mod lists;
+mod player;
 mod running;
 
 pub use clocks::{param_words, result_word};
-pub use instants::{allows_more, horizon};
+pub use instants::{allows_more, counts_allow_more, horizon, horizon_of_counts};
 pub use interpreting::interpret;
-pub use laws::{nets_can_be_run, streams_are_whole, streams_need_no_more, two_ways_agree};
-pub use running::{outputs, run_net};
+pub use laws::{
+    nets_can_be_run, streams_are_whole, streams_go_on, streams_need_no_more, two_ways_agree,
+};
+pub use player::Player;
+pub use running::run_net;

@@ -11,9 +11,11 @@ ghost use Rattle.lucy_cause.specs.Schedules.{events_at};
 ghost use Rattle.lucy_core.specs.Seen.{IsUnbegun, IsOver};
 ghost use Rattle.lucy_flat.specs.Flat.{IsFlat};
 ghost use Rattle.lucy_runner.specs.Views.{input_count, inputs_for};
-ghost use Rattle.lucy_execution.specs.Streams.{param_words, result_words, main_streams};
+ghost use Rattle.lucy_execution.specs.Streams.{param_words, result_words, main_streams, later_streams};
+ghost use Rattle.lucy_execution.specs.Playing.{PlayerView, played, IsPlayed};
 
 use crate::lists::add;
+use crate::player::Player;
 use lucy_cause::Schedule;
 use lucy_clock::NodeClock;
 use lucy_core::Core;
@@ -25,9 +27,9 @@ use lucy_worker::Gate;
 use std::alloc::{AllocError, Global};
 use std::thread::Threads;
 
-/// The output streams of a program, from a finished runner of its flat net whose outputs were not carried away, in whatever order
-/// its events were done.
-pub fn outputs(
+/// What the output streams of a program have past the horizon before, from a finished runner of its flat net, in whatever order its
+/// events were done: a list for each result of main, in order.
+pub(crate) fn outputs(
     alloc: Global,
     placed: &Placed,
     clocks: &[NodeClock],
@@ -35,8 +37,7 @@ pub fn outputs(
 ) -> Result<Inputs, OutOfMemory>
     requires flat { IsFlat placed.now.nodes clocks.now runner.now.seen.net }
     requires over { IsOver runner.now.seen }
-    requires whole { runner.now.before ≡ 0 }
-    ensures { IfOk result (λ lists. lists ≡ main_streams (kinds_of runner.now.seen.operators) runner.now.seen.inputs placed.now.nodes clocks.now runner.now.seen.instants) }
+    ensures { IfOk result (λ lists. lists ≡ later_streams (kinds_of runner.now.seen.operators) runner.now.seen.inputs placed.now.nodes clocks.now runner.now.before runner.now.seen.instants) }
 {
     let results = placed.node(placed.nodes() - 1).results.list().len();
     let mut lists = Inputs::new(alloc);
@@ -46,8 +47,8 @@ pub fn outputs(
     Ok(lists)
 }
 
-// The homes of so many actors: the workers in turn.
-fn homes_of(alloc: Global, actors: usize, workers: u32) -> Result<Vec<u32>, AllocError>
+/// The homes of so many actors: the workers in turn.
+pub(crate) fn homes_of(alloc: Global, actors: usize, workers: u32) -> Result<Vec<u32>, AllocError>
     requires { 1 ≤ workers }
     ensures count { IfOk result (λ homes. length homes.items ≡ actors) }
     ensures each { IfOk result (λ homes. All (λ home. home < workers) homes.items) }
@@ -61,8 +62,8 @@ fn homes_of(alloc: Global, actors: usize, workers: u32) -> Result<Vec<u32>, Allo
     Ok(homes)
 }
 
-// The output streams of a program by so many workers, from a core of its flat net without an event so far.
-fn run_core<R: Threads + Sync, F: Fn(u32, i64, i64) -> i64 + Sync, G: Gate + Sync>(
+/// A finished runner, by so many workers, of a core of a program's flat net without an event so far.
+pub(crate) fn run_core<R: Threads + Sync, F: Fn(u32, i64, i64) -> i64 + Sync, G: Gate + Sync>(
     rt: &R,
     alloc: Global,
     placed: &Placed,
@@ -72,7 +73,7 @@ fn run_core<R: Threads + Sync, F: Fn(u32, i64, i64) -> i64 + Sync, G: Gate + Syn
     gate: &G,
     workers: u32,
     homes: &[u32],
-) -> Result<Inputs, OutOfMemory>
+) -> Result<Runner, OutOfMemory>
     requires flat { IsFlat placed.now.nodes clocks.now core.net }
     requires serves { Serves F.pre F.post host.now }
     requires kinds { kinds_of (lent host.now) ≡ kinds_of core.operators }
@@ -82,12 +83,15 @@ fn run_core<R: Threads + Sync, F: Fn(u32, i64, i64) -> i64 + Sync, G: Gate + Syn
     requires each { All (λ home. home < workers) homes.now }
     requires counted { input_count core.net.actors ≤ length core.inputs }
     requires inputs { inputs_for core.net core.inputs ≡ core.inputs }
-    ensures { IfOk result (λ lists. lists ≡ main_streams (kinds_of core.operators) core.inputs placed.now.nodes clocks.now core.instants) }
+    requires params { params_in (main_of placed.now.nodes) ≡ length core.inputs }
+    ensures played { IfOk result (λ runner. IsPlayed placed.now.nodes clocks.now runner) }
+    ensures is { IfOk result (λ runner. played placed.now.nodes clocks.now runner
+        ≡ record { nodes = placed.now.nodes; clocks = clocks.now; kinds = kinds_of core.operators; inputs = core.inputs; instants = core.instants; before = 0 }) }
 {
     match Runner::new(alloc, core, workers, homes) {
         Ok(mut runner) => {
             runner.go(rt, host, gate);
-            outputs(alloc, placed, clocks, &runner)
+            Ok(runner)
         }
         Err(_) => Err(OutOfMemory),
     }
@@ -122,12 +126,8 @@ pub fn run_net<R: Threads + Sync, F: Fn(u32, i64, i64) -> i64 + Sync, G: Gate + 
     ensures counts { IfOk result (λ lists. map length lists ≡ map (λ word. ones_to word instants) (result_words placed.now.nodes clocks.now)) }
 {
     let _ = placed.nodes();
-    let homes = match homes_of(alloc, net.actors.list().len(), workers) {
-        Ok(homes) => homes,
-        Err(_) => return Err(OutOfMemory),
-    };
-    match Core::new(alloc, net, schedule, inputs, host.ops(), instants) {
-        Ok(core) => run_core(rt, alloc, placed, clocks, core, host, gate, workers, &homes),
-        Err(_) => Err(OutOfMemory),
-    }
+    let player = Player::new(
+        rt, alloc, placed, clocks, net, schedule, host, gate, inputs, instants, workers,
+    )?;
+    player.outputs(alloc)
 }

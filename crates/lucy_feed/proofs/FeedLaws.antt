@@ -1,11 +1,9 @@
 -- What items that were taken one by one make of the bytes taken.
 use Rattle.std.proofs.Common.{◌≡◌, ℕ, ◌+◌, ◌<◌, ◌≤◌, Bool, true, false, List, [], ◌∷◌, ◌++◌, length, Option, Some, None, Result, Ok, Err, refl, ap, sym, ◌∙◌, subst, inl, inr, arith, append_assoc, append-nil, length-append}
-use Rattle.std.specs.Prelude.{ℤ, ◌-◌, ◌⊎◌, IsTrue, IsErr, take, slice_set, slice_index_or}
+use Rattle.std.specs.Prelude.{ℤ, ◌-◌, ◌⊎◌, IsTrue, take, slice_set, slice_index_or}
 use Rattle.std.specs.Int.{w64}
 use mir.Val.{SFits as FitsSigned}
-use Rattle.std.proofs.lemmas.List.FromFn.{length-map-range_with_len}
-use Rattle.lucy_word.specs.declared.error.OutOfMemory.{OutOfMemory}
-use Rattle.lucy_text.specs.Outside.{followed, AtEnd, Rose, NoneFollows}
+use Rattle.lucy_text.specs.Outside.{AtEnd, Rose, NoneFollows}
 use Rattle.lucy_text.proofs.OutsideLaws.{followed_more, followed-nil, still_none}
 use Rattle.lucy_lines.specs.declared.input.InputSpec.{InputSpec}
 use Rattle.lucy_lines.specs.declared.reader.Line as line_type
@@ -15,17 +13,14 @@ use Rattle.lucy_lines.specs.declared.reader.TextFault.TheVariants.{BadLine, Unkn
 use Rattle.lucy_lines.specs.Fronts.{most_bytes}
 use Rattle.lucy_lines.specs.Cuts.{Held, bytes_taken, ItemOf, Answer, Gives, Refuses, Wants, Next, blank, item, refused, long, too_long, wants, with_more, Stop as Halt, At, Before, Cut, refused_line, undecided, first, turn, input_of}
 use Rattle.lucy_lines.specs.Reading.{ReaderState, new_reader, Took, Asked, Blames, GoesOn, OfItem, IsLast, most_taken, most_read}
-use Rattle.lucy_lines.proofs.CutLaws.{turns_cut, next_more}
+use Rattle.lucy_lines.proofs.CutLaws.{turns_cut}
+use Rattle.lucy_lines.proofs.Exists.{some_cut}
 use Rattle.lucy_lines.proofs.ReaderLaws.{kind_fits}
-use Rattle.lucy_feed.specs.declared.feeds.Feed.{Feed}
-use Rattle.lucy_feed.specs.Sources.{Stop, Ended, Failed, Open, Drained, SeenSource, seen_source, Read}
-use Rattle.lucy_feed.specs.Feeding.{values_of, values_by_stream, StopsFor, IsAsked, IsFeed}
-use Rattle.lucy_feed.proofs.ListLaws.{item_pushed}
-
--- A cut of what is held, with the bytes that are still to be taken, goes on behind these items, for which those bytes were taken.
-abbrev pub Leads : List InputSpec → List ItemOf → (taken : List ℕ) → Held → (closed : Bool) → Type 0
-Leads inputs items taken held closed = (shut : Bool) (late : List ℕ) (others : List ItemOf) (halt : Halt) → (closed ≡ true → (late ≡ []) × (shut ≡ true)) →
-    Cut inputs shut (with_more held late) others halt → Cut inputs shut (input_of (taken ++ late)) (items ++ others) halt
+use Rattle.lucy_feed.specs.Sources.{Stop, Ended, Failed, Open, Drained, SeenSource, seen_source}
+use Rattle.lucy_feed.specs.Feeding.{StopsFor, IsAsked}
+use Rattle.lucy_feed.specs.Going.{Leads, Behind, CanGoOn, CanCount}
+use Rattle.lucy_feed.specs.Resuming.{AreCounts, BeginCut, IsOpen, IsStopped}
+use Rattle.lucy_feed.proofs.ListLaws.{counts_more, no_counts}
 
 -- one item on
 lead_on : (inputs : List InputSpec) (items : List ItemOf) (taken bytes : List ℕ) (held next : Held) (was now : Bool) (i : ItemOf) → Leads inputs items taken held was →
@@ -40,25 +35,6 @@ lead_on inputs items taken bytes held next was now i leads quiet n shut late oth
   where
     joined : (bytes ≡ []) × (now ≡ true) → (now ≡ true → (late ≡ []) × (shut ≡ true)) → (bytes ++ late ≡ []) × (shut ≡ true)
     joined (b, t) f = let (l, s) = f t in (ap (λ u. u ++ late) b ∙ l, s)
-
--- what holds of the bytes taken so far, whatever was answered
-pub record Behind (inputs : List InputSpec) (reader : ReaderState) (before after : SeenSource) (taken : List ℕ) : Type 0 where
-  pub took : before.left ≡ followed taken after.left
-  pub counted : bytes_taken reader.held ≡ length taken
-  pub met_end : reader.closed ≡ true → AtEnd after.left × IsTrue after.ended
-  pub none_follows : NoneFollows before.since_stop after.since_stop
-  pub asked : IsAsked inputs taken
-
--- the items taken so far, and their lists
-pub record SoFar (inputs : List InputSpec) (reader : ReaderState) (lists : List (List ℤ)) (before after : SeenSource) (items : List ItemOf) (taken : List ℕ) : Type 0 where
-  pub behind : Behind inputs reader before after taken
-  pub kept : reader.inputs ≡ inputs
-  pub open_yet : reader.ended ≡ false
-  pub leads : Leads inputs items taken reader.held reader.closed
-  pub parted : lists ≡ values_by_stream (length inputs) items
-  pub within : bytes_taken reader.held ≤ most_bytes + 1
-  pub calm : after.faults ≡ before.faults
-  pub going : reader.closed ≡ false → before.since_stop ≡ Some 0 → after.since_stop ≡ Some 0
 
 -- what a call of the reader tells
 pub record Called (old new : ReaderState) (before after : SeenSource) (result : Result line_type.Line TextFault) (bytes : List ℕ) : Type 0 where
@@ -99,28 +75,41 @@ called_as old new before after result answer bytes e c = let P : Result line_typ
 pub of_item : (Holds : ℕ → Type 0) (result : Result line_type.Line TextFault) (stream : ℕ) (value : ℤ) → result ≡ Ok (Item stream value) → OfItem Holds result → Holds stream
 of_item Holds result stream value e h = let P : Result line_type.Line TextFault → Type 0 = λ r. OfItem Holds r in subst P e h
 
--- there is a list for an item
-pub listed : (inputs others : List InputSpec) (lists : List (List ℤ)) (items : List ItemOf) (stream : ℕ) → others ≡ inputs → lists ≡ values_by_stream (length inputs) items → stream < length others → stream < length lists
-listed inputs others lists items stream same parted known =
-    let many = ap length parted in
-    let all = length-map-range_with_len (λ s. values_of s items) 0 (length inputs) in
-    let few = ap length same in
-    omega arith
+-- what has been read begins what the bytes taken have as a whole input
+begins_cut : (inputs : List InputSpec) (reader : ReaderState) (before after : SeenSource) (items : List ItemOf) (taken : List ℕ) → CanGoOn inputs reader before after items taken → BeginCut inputs taken items
+begins_cut inputs reader before after items taken g =
+    let rest = some_cut inputs true (with_more reader.held []) in
+    let P : List ℕ → Type 0 = λ u. Cut inputs true (input_of u) (items ++ rest.0) rest.1 in
+    (rest.0, rest.1, subst P (append-nil taken) (g.leads true [] rest.0 rest.1 (λ e. (refl, refl)) rest.2))
 
-none_taken : (inputs : List InputSpec) (source : SeenSource) (lists : List (List ℤ)) → lists ≡ values_by_stream (length inputs) [] → SoFar inputs (new_reader inputs) lists source source [] []
-none_taken inputs source lists none = record {
+-- reading goes on
+open_now : (inputs : List InputSpec) (reader : ReaderState) (before after : SeenSource) (counts : List ℕ) (items : List ItemOf) (taken : List ℕ) → reader.ended ≡ false → AreCounts inputs counts items →
+    CanGoOn inputs reader before after items taken → IsOpen inputs before after reader counts items taken
+open_now inputs reader before after counts items taken open_yet counted g = record {
+  open_yet = open_yet;
+  counted = counted;
+  read = record { took = g.behind.took; stopped = (omega (arith, g.behind.counted, g.within), g.calm); none_follows = g.behind.none_follows };
+  asked = g.behind.asked;
+  begin = begins_cut inputs reader before after items taken g;
+  goes_on = g;
+}
+
+none_taken : (inputs : List InputSpec) (source : SeenSource) → CanGoOn inputs (new_reader inputs) source source [] []
+none_taken inputs source = record {
   behind = record { took = sym (followed-nil source.left); counted = refl; met_end = λ e. cc; none_follows = still_none source.since_stop; asked = inl refl };
   kept = refl;
-  open_yet = refl;
   leads = λ shut late others halt after c. c;
-  parted = none;
   within = omega arith;
   calm = refl;
   going = λ e none. none;
 }
 
-pub nothing_yet : (inputs : List InputSpec) (reader : ReaderState) (source : SeenSource) (lists : List (List ℤ)) → reader ≡ new_reader inputs → lists ≡ values_by_stream (length inputs) [] → SoFar inputs reader lists source source [] []
-nothing_yet inputs reader source lists new none = let P : ReaderState → Type 0 = λ r. SoFar inputs r lists source source [] [] in subst P (sym new) (none_taken inputs source lists none)
+-- nothing was read yet
+pub nothing_yet : (inputs : List InputSpec) (reader : ReaderState) (source : SeenSource) (counts : List ℕ) → reader ≡ new_reader inputs → length counts ≡ length inputs → ((i : ℕ) → slice_index_or counts i 0 ≡ 0) →
+    IsOpen inputs source source reader counts [] []
+nothing_yet inputs reader source counts new many none =
+    let P : ReaderState → Type 0 = λ r. CanGoOn inputs r source source [] [] in
+    open_now inputs reader source source counts [] [] (ap (λ r. r.ended) new) (no_counts inputs counts many none) (subst P (sym new) (none_taken inputs source))
 
 either : (b : Bool) → (b ≡ true) ⊎ (b ≡ false)
 either true = inl refl
@@ -148,9 +137,9 @@ asked_so inputs old new before after result items taken bytes same leads asked t
     asked_now inputs items taken bytes old.held old.closed leads open_yet early late h e few (subst P same n)
 
 -- what holds of the bytes taken behind a call, whatever it answered
-pub behind_call : (inputs : List InputSpec) (old new : ReaderState) (lists : List (List ℤ)) (before between after : SeenSource) (result : Result line_type.Line TextFault) (items : List ItemOf) (taken bytes : List ℕ) →
-    SoFar inputs old lists before between items taken → Called old new between after result bytes → Behind inputs new before after (taken ++ bytes)
-behind_call inputs old new lists before between after result items taken bytes s c = record {
+behind_call : (inputs : List InputSpec) (old new : ReaderState) (before between after : SeenSource) (result : Result line_type.Line TextFault) (items : List ItemOf) (taken bytes : List ℕ) →
+    CanGoOn inputs old before between items taken → Called old new between after result bytes → Behind inputs new before after (taken ++ bytes)
+behind_call inputs old new before between after result items taken bytes s c = record {
   took = followed_more before.left between.left after.left taken bytes s.behind.took c.took.bytes;
   counted = let a = s.behind.counted in let b = c.took.counted in let l = length-append taken bytes in omega arith;
   met_end = λ e. elim (either old.closed) [
@@ -164,24 +153,17 @@ behind_call inputs old new lists before between after result items taken bytes s
   asked = asked_so inputs old new between.left after.left result items taken bytes s.kept s.leads s.behind.asked c.took c.took.needed (either old.closed);
 }
 
--- an item more
-pub item_taken : (inputs : List InputSpec) (old new : ReaderState) (lists now : List (List ℤ)) (before between after : SeenSource) (items : List ItemOf) (taken bytes : List ℕ) (stream : ℕ) (value : ℤ) →
-    SoFar inputs old lists before between items taken → Called old new between after (Ok (Item stream value)) bytes → stream < length old.inputs → new.ended ≡ false →
-    now ≡ slice_set lists stream (slice_index_or lists stream [] ++ value ∷ []) →
-    SoFar inputs new now before after (items ++ record { stream = stream; value = value } ∷ []) (taken ++ bytes)
-item_taken inputs old new lists now before between after items taken bytes stream value s c known open_yet pushed =
+-- what a call that gave an item goes on from
+item_more : (inputs : List InputSpec) (old new : ReaderState) (before between after : SeenSource) (items : List ItemOf) (taken bytes : List ℕ) (stream : ℕ) (value : ℤ) →
+    CanGoOn inputs old before between items taken → Called old new between after (Ok (Item stream value)) bytes →
+    CanGoOn inputs new before after (items ++ record { stream = stream; value = value } ∷ []) (taken ++ bytes)
+item_more inputs old new before between after items taken bytes stream value s c =
     let i : ItemOf = record { stream = stream; value = value } in
     let P : List InputSpec → Type 0 = λ u. Next u new.closed (with_more old.held bytes) (Gives i new.held) in
-    let Q : List InputSpec → Type 0 = λ u. stream < length u in
-    let Q : List InputSpec → Type 0 = λ u. stream < length u in
-    let Q : List InputSpec → Type 0 = λ u. stream < length u in
-    let f : List (List ℤ) → List (List ℤ) = λ u. slice_set u stream (slice_index_or u stream [] ++ value ∷ []) in
     record {
-      behind = behind_call inputs old new lists before between after (Ok (Item stream value)) items taken bytes s c;
+      behind = behind_call inputs old new before between after (Ok (Item stream value)) items taken bytes s c;
       kept = c.inputs ∙ s.kept;
-      open_yet = open_yet;
       leads = lead_on inputs items taken bytes old.held new.held old.closed new.closed i s.leads c.took.quiet (subst P s.kept c.took.answer);
-      parted = pushed ∙ ap f s.parted ∙ item_pushed (length inputs) items i (subst Q s.kept known);
       within = c.within;
       calm = c.cause ∙ s.calm;
       going = λ e none. c.goes_on e (s.going (still_open old.closed new.closed bytes (either old.closed) c.took.quiet e) none);
@@ -191,103 +173,141 @@ item_taken inputs old new lists now before between after items taken bytes strea
     still_open was closed bytes (inl shut) quiet e = let q = quiet shut in let no_more : true ≡ false = sym q.1 ∙ e in cc
     still_open was closed bytes (inr open_yet) quiet e = open_yet
 
--- what the reading of an input gives
-abbrev pub GivesFeed : List InputSpec → (before after : SeenSource) → Result Feed OutOfMemory → Type 0
-GivesFeed inputs before after result = (taken : List ℕ) × (stop : Stop) × Read most_bytes before after taken stop × IsAsked inputs taken × IsFeed inputs taken stop result
+-- an item more
+pub item_read : (inputs : List InputSpec) (old new : ReaderState) (counts now : List ℕ) (before between after : SeenSource) (items : List ItemOf) (taken bytes : List ℕ) (stream : ℕ) (value : ℤ) →
+    IsOpen inputs before between old counts items taken → Called old new between after (Ok (Item stream value)) bytes → stream < length old.inputs → new.ended ≡ false →
+    now ≡ slice_set counts stream (slice_index_or counts stream 0 + 1) →
+    IsOpen inputs before after new now (items ++ record { stream = stream; value = value } ∷ []) (taken ++ bytes)
+item_read inputs old new counts now before between after items taken bytes stream value s c known open_yet pushed =
+    let i : ItemOf = record { stream = stream; value = value } in
+    let Q : List InputSpec → Type 0 = λ u. stream < length u in
+    open_now inputs new before after now (items ++ i ∷ []) (taken ++ bytes) open_yet
+    (counts_more inputs counts now items i (subst Q s.goes_on.kept known) s.counted pushed)
+    (item_more inputs old new before between after items taken bytes stream value s.goes_on c)
 
--- memory ran out behind an item
-pub ran_out : (inputs : List InputSpec) (old new : ReaderState) (lists : List (List ℤ)) (before between after : SeenSource) (items : List ItemOf) (taken bytes : List ℕ) (stream : ℕ) (value : ℤ) (e : OutOfMemory) →
-    SoFar inputs old lists before between items taken → Called old new between after (Ok (Item stream value)) bytes → GivesFeed inputs before after (Err e)
-ran_out inputs old new lists before between after items taken bytes stream value e s c =
-    let b = behind_call inputs old new lists before between after (Ok (Item stream value)) items taken bytes s c in
-    let count = b.counted in
-    let room = c.within in
-    (taken ++ bytes, Open, record { took = b.took; stopped = (omega arith, c.cause ∙ s.calm); none_follows = b.none_follows }, b.asked, refl)
+-- how the reading of an input stops behind these items
+abbrev pub Stops : List InputSpec → (before after : SeenSource) → ReaderState → (counts : List ℕ) → Option TextFault → List ItemOf → (taken : List ℕ) → Type 0
+Stops inputs before after reader counts fault items taken =
+    (bytes : List ℕ) × (stop : Stop) × (halt : Halt) × IsStopped inputs before after reader counts fault items (taken ++ bytes) stop halt
 
 -- the input was read to its end
-pub ended : (inputs : List InputSpec) (old new : ReaderState) (lists : List (List ℤ)) (before between after : SeenSource) (items : List ItemOf) (taken bytes : List ℕ) →
-    SoFar inputs old lists before between items taken → Called old new between after (Ok End) bytes → GivesFeed inputs before after (Ok (record { items = lists; stop = None }))
-ended inputs old new lists before between after items taken bytes s c =
-    let b = behind_call inputs old new lists before between after (Ok End) items taken bytes s c in
+pub ended : (inputs : List InputSpec) (old new : ReaderState) (counts : List ℕ) (fault : Option TextFault) (before between after : SeenSource) (items : List ItemOf) (taken bytes : List ℕ) →
+    IsOpen inputs before between old counts items taken → Called old new between after (Ok End) bytes → new.ended ≡ true → fault ≡ None → Stops inputs before after new counts fault items taken
+ended inputs old new counts fault before between after items taken bytes o c shut none =
+    let s = o.goes_on in
+    let b = behind_call inputs old new before between after (Ok End) items taken bytes s c in
     let count = b.counted in
     let room = c.within in
     let met = b.met_end c.took.answer.0 in
     let P : List InputSpec → Type 0 = λ u. Next u true (with_more old.held bytes) (Wants new.held) in
     let Q : Bool → Type 0 = λ u. Next old.inputs u (with_more old.held bytes) (Wants new.held) in
+    let R : List ItemOf → Type 0 = λ u. Cut inputs true (input_of (taken ++ bytes)) u (Before new.held) in
+    let T : Option TextFault → Type 0 = λ u. StopsFor u Ended in
     let cut = s.leads true bytes [] (Before new.held) (λ e. let q = c.took.quiet e in (q.0, refl)) (undecided (subst P s.kept (subst Q c.took.answer.0 c.took.answer.1))) in (
-      taken ++ bytes,
+      bytes,
       Ended,
-      record { took = b.took; stopped = (omega arith, met.0, met.1, c.cause ∙ s.calm); none_follows = b.none_follows },
-      b.asked,
-      (items ++ [], Before new.held, record { cut = cut; lists = s.parted ∙ ap (values_by_stream (length inputs)) (sym (append-nil items)); fault = refl; stopped = refl }),
+      Before new.held,
+      record {
+        ended = shut;
+        kept = c.inputs ∙ s.kept;
+        counted = o.counted;
+        read = record { took = b.took; stopped = (omega arith, met.0, met.1, c.cause ∙ s.calm); none_follows = b.none_follows };
+        asked = b.asked;
+        feed = record { cut = subst R (append-nil items) cut; lists = refl; fault = none; stopped = subst T (sym none) refl };
+      },
     )
 
 -- a read failed
-pub failed : (inputs : List InputSpec) (old new : ReaderState) (lists : List (List ℤ)) (before between after : SeenSource) (items : List ItemOf) (taken bytes : List ℕ) →
-    SoFar inputs old lists before between items taken → Called old new between after (Err ReadFault) bytes → GivesFeed inputs before after (Ok (record { items = lists; stop = Some ReadFault }))
-failed inputs old new lists before between after items taken bytes s c =
-    let b = behind_call inputs old new lists before between after (Err ReadFault) items taken bytes s c in
+failed : (inputs : List InputSpec) (old new : ReaderState) (counts : List ℕ) (before between after : SeenSource) (items : List ItemOf) (taken bytes : List ℕ) →
+    IsOpen inputs before between old counts items taken → Called old new between after (Err ReadFault) bytes → new.ended ≡ true → Stops inputs before after new counts (Some ReadFault) items taken
+failed inputs old new counts before between after items taken bytes o c shut =
+    let s = o.goes_on in
+    let b = behind_call inputs old new before between after (Err ReadFault) items taken bytes s c in
     let count = b.counted in
     let room = c.within in
     let P : List InputSpec → Type 0 = λ u. Next u false (with_more old.held bytes) (Wants new.held) in
     let Q : Bool → Type 0 = λ u. Next old.inputs u (with_more old.held bytes) (Wants new.held) in
     let R : ℕ → Type 0 = λ u. Rose u after.faults in
+    let T : List ItemOf → Type 0 = λ u. Cut inputs false (input_of (taken ++ bytes)) u (Before new.held) in
     let cut = s.leads false bytes [] (Before new.held) (λ e. let q = c.took.quiet e in let no_more : true ≡ false = sym q.1 ∙ c.took.answer.0 in cc)
     (undecided (subst P s.kept (subst Q c.took.answer.0 c.took.answer.1))) in (
-      taken ++ bytes,
+      bytes,
       Failed,
-      record { took = b.took; stopped = (omega arith, subst R s.calm c.cause); none_follows = b.none_follows },
-      b.asked,
-      (items ++ [], Before new.held, record { cut = cut; lists = s.parted ∙ ap (values_by_stream (length inputs)) (sym (append-nil items)); fault = refl; stopped = refl }),
+      Before new.held,
+      record {
+        ended = shut;
+        kept = c.inputs ∙ s.kept;
+        counted = o.counted;
+        read = record { took = b.took; stopped = (omega arith, subst R s.calm c.cause); none_follows = b.none_follows };
+        asked = b.asked;
+        feed = record { cut = subst T (append-nil items) cut; lists = refl; fault = refl; stopped = refl };
+      },
     )
 
 -- a line was refused
-line_refused : (inputs : List InputSpec) (old new : ReaderState) (lists : List (List ℤ)) (before between after : SeenSource) (items : List ItemOf) (taken bytes : List ℕ) (f : TextFault) →
-    SoFar inputs old lists before between items taken → Called old new between after (Err f) bytes → Next old.inputs new.closed (with_more old.held bytes) (Refuses f) →
+line_refused : (inputs : List InputSpec) (old new : ReaderState) (counts : List ℕ) (before between after : SeenSource) (items : List ItemOf) (taken bytes : List ℕ) (f : TextFault) →
+    IsOpen inputs before between old counts items taken → Called old new between after (Err f) bytes → new.ended ≡ true → Next old.inputs new.closed (with_more old.held bytes) (Refuses f) →
     most_taken (Err f) ≡ most_bytes + 1 → after.faults ≡ between.faults → ((stop : Stop) → (stop ≡ Drained) ⊎ (stop ≡ Open) → StopsFor (Some f) stop) →
-    (new.closed ≡ true) ⊎ (new.closed ≡ false) → GivesFeed inputs before after (Ok (record { items = lists; stop = Some f }))
-line_refused inputs old new lists before between after items taken bytes f s c n most calm stops (inl shut) =
-    let b = behind_call inputs old new lists before between after (Err f) items taken bytes s c in
+    (new.closed ≡ true) ⊎ (new.closed ≡ false) → Stops inputs before after new counts (Some f) items taken
+line_refused inputs old new counts before between after items taken bytes f o c ended_now n most calm stops (inl shut) =
+    let s = o.goes_on in
+    let b = behind_call inputs old new before between after (Err f) items taken bytes s c in
     let count = b.counted in
     let room = c.within in
     let met = b.met_end shut in
     let P : List InputSpec → Type 0 = λ u. Next u true (with_more old.held bytes) (Refuses f) in
     let Q : Bool → Type 0 = λ u. Next old.inputs u (with_more old.held bytes) (Refuses f) in
+    let T : List ItemOf → Type 0 = λ u. Cut inputs true (input_of (taken ++ bytes)) u (At f) in
     let cut = s.leads true bytes [] (At f) (λ e. let q = c.took.quiet e in (q.0, refl)) (refused_line (subst P s.kept (subst Q shut n))) in (
-      taken ++ bytes,
+      bytes,
       Drained,
-      record { took = b.took; stopped = (omega arith, met.0, met.1, calm ∙ s.calm); none_follows = b.none_follows },
-      b.asked,
-      (items ++ [], At f, record { cut = cut; lists = s.parted ∙ ap (values_by_stream (length inputs)) (sym (append-nil items)); fault = refl; stopped = stops Drained (inl refl) }),
+      At f,
+      record {
+        ended = ended_now;
+        kept = c.inputs ∙ s.kept;
+        counted = o.counted;
+        read = record { took = b.took; stopped = (omega arith, met.0, met.1, calm ∙ s.calm); none_follows = b.none_follows };
+        asked = b.asked;
+        feed = record { cut = subst T (append-nil items) cut; lists = refl; fault = refl; stopped = stops Drained (inl refl) };
+      },
     )
-line_refused inputs old new lists before between after items taken bytes f s c n most calm stops (inr open_yet) =
-    let b = behind_call inputs old new lists before between after (Err f) items taken bytes s c in
+line_refused inputs old new counts before between after items taken bytes f o c ended_now n most calm stops (inr open_yet) =
+    let s = o.goes_on in
+    let b = behind_call inputs old new before between after (Err f) items taken bytes s c in
     let count = b.counted in
     let room = c.within in
     let P : List InputSpec → Type 0 = λ u. Next u false (with_more old.held bytes) (Refuses f) in
     let Q : Bool → Type 0 = λ u. Next old.inputs u (with_more old.held bytes) (Refuses f) in
+    let T : List ItemOf → Type 0 = λ u. Cut inputs false (input_of (taken ++ bytes)) u (At f) in
     let cut = s.leads false bytes [] (At f) (λ e. let q = c.took.quiet e in let no_more : true ≡ false = sym q.1 ∙ open_yet in cc)
     (refused_line (subst P s.kept (subst Q open_yet n))) in (
-      taken ++ bytes,
+      bytes,
       Open,
-      record { took = b.took; stopped = (omega arith, calm ∙ s.calm); none_follows = b.none_follows },
-      b.asked,
-      (items ++ [], At f, record { cut = cut; lists = s.parted ∙ ap (values_by_stream (length inputs)) (sym (append-nil items)); fault = refl; stopped = stops Open (inr refl) }),
+      At f,
+      record {
+        ended = ended_now;
+        kept = c.inputs ∙ s.kept;
+        counted = o.counted;
+        read = record { took = b.took; stopped = (omega arith, calm ∙ s.calm); none_follows = b.none_follows };
+        asked = b.asked;
+        feed = record { cut = subst T (append-nil items) cut; lists = refl; fault = refl; stopped = stops Open (inr refl) };
+      },
     )
 
--- the items stop before the end
-pub stopped : (inputs : List InputSpec) (old new : ReaderState) (lists : List (List ℤ)) (before between after : SeenSource) (items : List ItemOf) (taken bytes : List ℕ) (f : TextFault) →
-    SoFar inputs old lists before between items taken → Called old new between after (Err f) bytes → GivesFeed inputs before after (Ok (record { items = lists; stop = Some f }))
-stopped inputs old new lists before between after items taken bytes ReadFault s c = failed inputs old new lists before between after items taken bytes s c
-stopped inputs old new lists before between after items taken bytes (BadLine k) s c = line_refused inputs old new lists before between after items taken bytes (BadLine k) s c c.took.answer refl c.cause (λ stop e. e) (either new.closed)
-stopped inputs old new lists before between after items taken bytes (UnknownStream k) s c = line_refused inputs old new lists before between after items taken bytes (UnknownStream k) s c c.took.answer refl c.cause (λ stop e. e) (either new.closed)
-stopped inputs old new lists before between after items taken bytes (BadValue k) s c = line_refused inputs old new lists before between after items taken bytes (BadValue k) s c c.took.answer refl c.cause (λ stop e. e) (either new.closed)
-stopped inputs old new lists before between after items taken bytes TooLong s c = line_refused inputs old new lists before between after items taken bytes TooLong s c c.took.answer refl c.cause (λ stop e. e) (either new.closed)
+stopped_at : (inputs : List InputSpec) (old new : ReaderState) (counts : List ℕ) (before between after : SeenSource) (items : List ItemOf) (taken bytes : List ℕ) (f : TextFault) →
+    IsOpen inputs before between old counts items taken → Called old new between after (Err f) bytes → new.ended ≡ true → Stops inputs before after new counts (Some f) items taken
+stopped_at inputs old new counts before between after items taken bytes ReadFault s c e = failed inputs old new counts before between after items taken bytes s c e
+stopped_at inputs old new counts before between after items taken bytes (BadLine k) s c e = line_refused inputs old new counts before between after items taken bytes (BadLine k) s c e c.took.answer refl c.cause (λ stop e. e) (either new.closed)
+stopped_at inputs old new counts before between after items taken bytes (UnknownStream k) s c e = line_refused inputs old new counts before between after items taken bytes (UnknownStream k) s c e c.took.answer refl c.cause (λ stop e. e) (either new.closed)
+stopped_at inputs old new counts before between after items taken bytes (BadValue k) s c e = line_refused inputs old new counts before between after items taken bytes (BadValue k) s c e c.took.answer refl c.cause (λ stop e. e) (either new.closed)
+stopped_at inputs old new counts before between after items taken bytes TooLong s c e = line_refused inputs old new counts before between after items taken bytes TooLong s c e c.took.answer refl c.cause (λ stop e. e) (either new.closed)
 
--- memory ran out before anything was read
-pub nothing_read : (inputs : List InputSpec) (source : SeenSource) (result : Result Feed OutOfMemory) → IsErr result → GivesFeed inputs source source result
-nothing_read inputs source (Ok feed) is = cc
-nothing_read inputs source (Err e) is = ([], Open, record { took = sym (followed-nil source.left); stopped = (omega arith, refl); none_follows = still_none source.since_stop }, inl refl, refl)
+-- the items stop before the end
+pub stopped : (inputs : List InputSpec) (old new : ReaderState) (counts : List ℕ) (fault : Option TextFault) (before between after : SeenSource) (items : List ItemOf) (taken bytes : List ℕ) (f : TextFault) →
+    IsOpen inputs before between old counts items taken → Called old new between after (Err f) bytes → new.ended ≡ true → fault ≡ Some f → Stops inputs before after new counts fault items taken
+stopped inputs old new counts fault before between after items taken bytes f s c e is =
+    let P : Option TextFault → Type 0 = λ u. Stops inputs before after new counts u items taken in
+    subst P (sym is) (stopped_at inputs old new counts before between after items taken bytes f s c e)
 
 most_any : (result : Result line_type.Line TextFault) → most_taken result ≤ most_bytes + 1
 most_any (Ok (Item s v)) = omega arith
@@ -307,6 +327,23 @@ pub not_ended : (ended : Bool) (result : Result line_type.Line TextFault) (strea
 not_ended true result stream value is last = let P : Result line_type.Line TextFault → Type 0 = λ r. IsLast r in absurd (subst P is (last refl))
 not_ended false result stream value is last = refl
 
+-- one that answered without an item has
+pub has_ended : (ended : Bool) (result answer : Result line_type.Line TextFault) → result ≡ answer → IsLast answer → (IsLast result → IsTrue ended) → ended ≡ true
+has_ended ended result answer is last ends = let P : Result line_type.Line TextFault → Type 0 = λ r. IsLast r in ends (subst P (sym is) last)
+
+pub err_ended : (ended : Bool) (result : Result line_type.Line TextFault) (f : TextFault) → result ≡ Err f → (IsLast result → IsTrue ended) → ended ≡ true
+err_ended ended result f is ends = has_ended ended result (Err f) is tt ends
+
+-- a reader that has read nothing can count
+pub can_count : (inputs : List InputSpec) (reader : ReaderState) (counts : List ℕ) → reader ≡ new_reader inputs → ((i : ℕ) → slice_index_or counts i 0 ≡ 0) → CanCount reader counts None
+can_count inputs reader counts new none =
+    let used : reader.held.used ≡ 0 = ap (λ r. r.held.used) new in
+    record { within = omega arith; few = λ i. let e = none i in omega arith; none = refl }
+
+-- while reading goes on no fault was met
+pub no_fault : (reader : ReaderState) (counts : List ℕ) (fault : Option TextFault) → reader.ended ≡ false → (reader.ended ≡ false → CanCount reader counts fault) → fault ≡ None
+no_fault reader counts fault open_yet can = (can open_yet).none
+
 abbrev gives_holds : (ItemOf → Type 0) → Answer → Type 0
 gives_holds P (Gives i k) = P i
 gives_holds P a = Unit {0}
@@ -324,7 +361,3 @@ gives_fits a e (wants f) = cc
 -- a value of an item is within 64 bits
 pub value_fits : (old new : ReaderState) (before after : SeenSource) (stream : ℕ) (value : ℤ) (bytes : List ℕ) → Called old new before after (Ok (Item stream value)) bytes → FitsSigned w64 value
 value_fits old new before after stream value bytes c = gives_fits (Gives (record { stream = stream; value = value }) new.held) refl c.took.answer
-
--- there is a list for each stream
-pub as_many : (inputs : List InputSpec) (reader : ReaderState) (lists : List (List ℤ)) (before after : SeenSource) (items : List ItemOf) (taken : List ℕ) → SoFar inputs reader lists before after items taken → length lists ≡ length inputs
-as_many inputs reader lists before after items taken s = ap length s.parted ∙ length-map-range_with_len (λ k. values_of k items) 0 (length inputs)

@@ -1,3 +1,6 @@
 pub mod Gathered
 pub mod ListLaws
 pub mod FeedLaws
+pub mod ResumeLaws
+pub mod WantedLaws
+pub mod GivenLaws

@@ -4,8 +4,9 @@ ghost use Rattle.lucy_lines.specs.Fronts.{most_bytes};
 ghost use Rattle.lucy_feed.specs.Sources.{Stop, seen_source, Read};
 ghost use Rattle.lucy_feed.specs.Feeding.{values_by_stream, IsFeed, IsAsked};
 
+use crate::reader::FeedReader;
 use lucy_host::Inputs;
-use lucy_lines::{InputReader, InputSpec, Line, TextFault};
+use lucy_lines::{InputSpec, TextFault};
 use lucy_text::Source;
 use lucy_word::OutOfMemory;
 use std::alloc::Global;
@@ -21,7 +22,7 @@ pub struct Feed {
 }
 
 // So many lists, which are empty.
-fn empty_lists(alloc: Global, streams: usize) -> Result<Inputs, OutOfMemory>
+pub(crate) fn empty_lists(alloc: Global, streams: usize) -> Result<Inputs, OutOfMemory>
     requires { streams < 2 ^ 32 }
     ensures { IfOk result (λ lists. lists ≡ values_by_stream streams []) }
 {
@@ -50,21 +51,7 @@ pub fn read_feed<I: Source>(
     ensures lists { IfOk result (λ feed. length feed.items ≡ length inputs.items) }
     ensures count { I.faults source.old ≤ I.faults source.new }
 {
-    let mut items = empty_lists(alloc, inputs.len())?;
-    let mut reader = InputReader::new(alloc, inputs)?;
-    loop {
-        match reader.next_line(source) {
-            Ok(Line::Item { stream, value }) => match items.push(alloc, stream, value) {
-                Ok(()) => {}
-                Err(_) => return Err(OutOfMemory),
-            },
-            Ok(Line::End) => return Ok(Feed { items, stop: None }),
-            Err(fault) => {
-                return Ok(Feed {
-                    items,
-                    stop: Some(fault),
-                });
-            }
-        }
-    }
+    let mut reader = FeedReader::new(alloc, inputs)?;
+    reader.read_on(alloc, source)?;
+    Ok(reader.into_feed())
 }

@@ -1,5 +1,6 @@
-// Laws of feeds, on a function that calls the laws of cuts alone.
+// Laws of feeds, on functions that call the laws of cuts at most.
 ghost use Rattle.lucy_feed.specs.Feeding.{OneFeed};
+ghost use Rattle.lucy_feed.specs.Resuming.{ValuesInTurn};
 
 use lucy_lines::one_cut;
 
@@ -9,3 +10,8 @@ pub fn one_feed()
 {
     one_cut();
 }
+
+/// The values of a stream among items are those among the first ones, and then those among the others.
+pub fn values_in_turn()
+    ensures { ValuesInTurn }
+{}

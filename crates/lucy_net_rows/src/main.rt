@@ -11,12 +11,14 @@ mod cores;
 mod interpreted;
 mod programs;
 mod ready;
+mod rounds;
 mod running;
 mod schedules;
 mod show;
 mod timing;
 
 use lucy_host::{Host, HostKind, Ops, OutOfMemory};
+use lucy_text::RealSource;
 use std::alloc::Global;
 use std::{env, io};
 
@@ -59,7 +61,7 @@ fn main(rt: HostRuntime) -> io::Result<()> {
     };
     let host = Host::new(ops, |op: u32, a: i64, b: i64| kinds.value(op, a, b));
     if let Some(job) = timing::asked(&rt)? {
-        return timing::print_time(&rt, &host, job);
+        return timing::print_time(&rt, &host, job, &mut RealSource::new(rt.stdin()));
     }
     for part in env::args(&rt)?.skip(1) {
         print_part(&rt, &host, part.as_str())?;

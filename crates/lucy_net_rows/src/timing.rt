@@ -1,8 +1,10 @@
-// The events of a core are timed.
+// The events of a net are timed.
 //
-// The words are `time NET WAY INSTANTS`. The net is `sum` (a running sum, of six actors with twelve events in an instant) or
-// `chain` (of thirty names, each of which stands before the one that it takes from). The way is `static` (in the schedule's
-// order) or `picked` (as `pick` names them). The input is the numbers from 1 on.
+// The words are `time NET WAY ITEMS`. The net is `sum` (a running sum, of six actors with twelve events in an instant), `chain` (of
+// thirty names, each of which stands before the one that it takes from) or `given` (that of the program on standard input, whose
+// main has one input). The way is `static` (by a core, in the schedule's order), `picked` (by a core, as `pick` names the events) or
+// a number of workers. The input is so many numbers from 1 on. What is printed are the sum of the items of the first output and the
+// nanoseconds; of workers also the numbers of events and rounds.
 ghost use Rattle.std.specs.Prelude.{◌≡◌, ◌≤◌};
 ghost use Rattle.lucy_host.specs.Host.{Serves, lent};
 ghost use Rattle.lucy_host.specs.Operators.{kinds_of};
@@ -11,39 +13,48 @@ ghost use Rattle.lucy_net_rows.specs.Ready.{IsReady};
 
 use crate::programs::{SUM, chain_text};
 use crate::ready::{Ready, ready_text};
+use crate::rounds::print_rounds;
 use crate::running::{output_of, run_picked};
 use crate::show::{counted, no_memory};
 use lucy_core::Core;
+use lucy_feed::read_up_to;
 use lucy_host::Host;
-use std::alloc::{AllocError, Global};
+use lucy_text::Source;
+use std::alloc::Global;
 use std::env::{self, Env};
 use std::io;
+use std::thread::Threads;
 use std::time::{Clock, Instant};
 
 // A core runs for no more instants.
 const MOST: u64 = 1_048_576;
 
+// A text is no longer.
+const MOST_TEXT: usize = 1_048_576;
+
 // The names of the chain.
 const NAMES: usize = 30;
 
-/// What is timed: which net, in which order, for how many instants.
+/// What is timed: which net, in which way, with how many items.
 #[derive(Clone, Copy)]
 pub(crate) struct Job {
     net: Shape,
     way: Way,
-    instants: i64,
+    items: i64,
 }
 
 #[derive(Clone, Copy)]
 enum Shape {
     Sum,
     Chain,
+    Given,
 }
 
 #[derive(Clone, Copy)]
 enum Way {
     Static,
     Picked,
+    Workers(u32),
 }
 
 impl Shape {
@@ -51,16 +62,22 @@ impl Shape {
         match word {
             "sum" => Some(Shape::Sum),
             "chain" => Some(Shape::Chain),
+            "given" => Some(Shape::Given),
             _ => None,
         }
     }
 
     // The program's text.
-    fn text(self, alloc: Global) -> Result<String, AllocError> {
-        match self {
-            Shape::Sum => String::from_str(alloc, SUM),
-            Shape::Chain => chain_text(alloc, NAMES),
-        }
+    fn text<I: Source>(self, alloc: Global, source: &mut I) -> io::Result<Vec<u8>> {
+        let text = match self {
+            Shape::Sum => String::from_str(alloc, SUM)?.into_bytes(),
+            Shape::Chain => chain_text(alloc, NAMES)?.into_bytes(),
+            Shape::Given => match read_up_to(alloc, source, MOST_TEXT) {
+                Ok(text) => text,
+                Err(_) => return Err(no_memory()),
+            },
+        };
+        Ok(text)
     }
 }
 
@@ -69,7 +86,7 @@ impl Way {
         match word {
             "static" => Some(Way::Static),
             "picked" => Some(Way::Picked),
-            _ => None,
+            workers => Some(Way::Workers(workers.parse::<u32>().ok()?)),
         }
     }
 }
@@ -78,21 +95,19 @@ impl Way {
 pub(crate) fn asked(rt: &(impl Env + AllocGlobal)) -> io::Result<Option<Job>> {
     let mut words = env::args(rt)?.skip(1);
     match (words.next(), words.next(), words.next(), words.next()) {
-        (Some(time), Some(net), Some(way), Some(instants)) => {
-            Ok(job_of(&time, &net, &way, &instants))
-        }
+        (Some(time), Some(net), Some(way), Some(items)) => { Ok(job_of(&time, &net, &way, &items)) }
         _ => Ok(None),
     }
 }
 
-fn job_of(time: &str, net: &str, way: &str, instants: &str) -> Option<Job> {
+fn job_of(time: &str, net: &str, way: &str, items: &str) -> Option<Job> {
     if time != "time" {
         return None;
     }
     Some(Job {
         net: Shape::read(net)?,
         way: Way::read(way)?,
-        instants: instants.parse::<i64>().ok()?,
+        items: items.parse::<i64>().ok()?,
     })
 }
 
@@ -104,10 +119,10 @@ fn run<F: Fn(u32, i64, i64) -> i64 + Sync>(core: &mut Core, host: &Host<F>, way:
     ensures { core.new.net ≡ core.old.net }
 {
     match way {
-        Way::Static => core.run_static(host),
         Way::Picked => {
             let _ = run_picked(core, host, u64::MAX);
         }
+        _ => core.run_static(host),
     }
 }
 
@@ -140,20 +155,21 @@ fn print_run<F: Fn(u32, i64, i64) -> i64 + Sync>(
 }
 
 /// Times the events.
-pub(crate) fn print_time<F: Fn(u32, i64, i64) -> i64 + Sync>(
-    rt: &(impl Print + Clock + AllocGlobal),
-    host: &Host<F>,
-    job: Job,
-) -> io::Result<()>
+pub(crate) fn print_time<
+    R: Print + Clock + AllocGlobal + Threads + Sync,
+    F: Fn(u32, i64, i64) -> i64 + Sync,
+    I: Source,
+>(rt: &R, host: &Host<F>, job: Job, source: &mut I) -> io::Result<()>
     requires { Serves F.pre F.post host.now }
 {
-    let Ok(text) = job.net.text(rt.alloc()) else {
+    let text = job.net.text(rt.alloc(), source)?;
+    let Ok(inputs) = counted(rt.alloc(), job.items) else {
         return Err(no_memory());
     };
-    let Ok(inputs) = counted(rt.alloc(), job.instants) else {
-        return Err(no_memory());
-    };
-    match ready_text(rt.alloc(), text.as_bytes(), host.ops(), inputs, 1, MOST) {
+    if let Way::Workers(workers) = job.way {
+        return print_rounds(rt, host, workers.clamp(1, 64), &text, inputs);
+    }
+    match ready_text(rt.alloc(), &text, host.ops(), inputs, 1, MOST) {
         Some(program) => print_run(rt, host, job.way, program),
         None => Err(no_memory()),
     }

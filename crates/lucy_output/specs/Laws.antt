@@ -1,8 +1,8 @@
 -- Laws of output lines.
-use Rattle.std.specs.Prelude.{ℕ, ◌+◌, ◌≤◌, ◌≡◌, ℤ, List, [], ◌++◌, length, take, Some, slice_get, slice_index_or}
+use Rattle.std.specs.Prelude.{ℕ, ◌+◌, ◌≤◌, ◌≡◌, ℤ, List, [], ◌++◌, length, take, drop, Some, slice_get, slice_index_or}
 use Rattle.lucy_word.specs.Bits.{ones_to}
 use Rattle.lucy_output.specs.declared.output.OutputSpec.{OutputSpec}
-use Rattle.lucy_output.specs.Outputs.{instant_text, output_text}
+use Rattle.lucy_output.specs.Outputs.{instant_text, output_text, lines_after}
 
 -- up to instant 0 there is no line, and one more instant puts its lines behind
 abbrev pub InstantByInstant : Type 0
@@ -23,3 +23,13 @@ pub record BeginAlike (outputs : List OutputSpec) (lists others : List (List ℤ
 abbrev pub FrontsSuffice : Type 0
 FrontsSuffice = (outputs : List OutputSpec) (lists others : List (List ℤ)) (t : ℕ) → BeginAlike outputs lists others t →
     output_text outputs lists t ≡ output_text outputs others t
+
+-- the lists lack the values of so many instants, which the whole ones have in front
+pub record AreRests (outputs : List OutputSpec) (whole rests : List (List ℤ)) (before : ℕ) : Type 0 where
+  pub lengths : length rests ≡ length whole
+  pub each : (i : ℕ) (o : OutputSpec) → slice_get outputs i ≡ Some o → slice_index_or rests i [] ≡ drop (ones_to o.word before) (slice_index_or whole i [])
+
+-- the text of a run is that of its first instants, and then the lines of the others by what is left of the lists
+abbrev pub BlockByBlock : Type 0
+BlockByBlock = (outputs : List OutputSpec) (whole rests : List (List ℤ)) (before instants : ℕ) → before ≤ instants → AreRests outputs whole rests before →
+    output_text outputs whole instants ≡ output_text outputs whole before ++ lines_after outputs rests before instants

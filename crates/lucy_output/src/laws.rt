@@ -1,5 +1,5 @@
 // Laws of output lines, each on a function that does nothing.
-ghost use Rattle.lucy_output.specs.Laws.{InstantByInstant, TextsGrow, FrontsSuffice};
+ghost use Rattle.lucy_output.specs.Laws.{InstantByInstant, TextsGrow, FrontsSuffice, BlockByBlock};
 
 /// Up to instant 0 there is no line, and one more instant puts its lines behind.
 pub fn instant_by_instant()
@@ -14,4 +14,9 @@ pub fn texts_grow()
 /// Of each list only as many items matter as the output's word has ones up to the last instant.
 pub fn fronts_suffice()
     ensures { FrontsSuffice }
+{}
+
+/// The text of a run is that of its first instants, and then the lines of the others by what is left of the lists.
+pub fn block_by_block()
+    ensures { BlockByBlock }
 {}

@@ -7,12 +7,12 @@ use lucy_host::DataType;
 use lucy_word::Walk;
 use std::marker::Model;
 
-// An output that is walked along, seen as what is left of its word and of its list.
+// An output that is walked along, seen as what is left of its word and how many items of its list are behind.
 #[derive(Drop)]
 pub(crate) struct OutputWalk<'a> {
     output: &'a OutputSpec,
     bits: Walk<'a>,
-    items: &'a [i64],
+    place: usize,
 }
 
 impl<'a> Model for OutputWalk<'a> {
@@ -20,19 +20,26 @@ impl<'a> Model for OutputWalk<'a> {
 
     ghost Value = { WalkState };
 
-    ghost view = { λ w. record { output = w.output.now; bits = w.bits; items = w.items.now } };
+    ghost view = { λ w. record { output = w.output.now; bits = w.bits; place = w.place } };
 }
 
 impl<'a> OutputWalk<'a> {
     // From the first instant and the first item on.
-    pub(crate) fn new(output: &'a OutputSpec, items: &'a [i64]) -> OutputWalk<'a>
-        ensures { result ≡ record { output = output.now; bits = output.now.word; items = items.now } }
+    pub(crate) fn new(output: &'a OutputSpec) -> OutputWalk<'a>
+        ensures { result ≡ record { output = output.now; bits = output.now.word; place = 0 } }
     {
         OutputWalk {
             output,
             bits: output.word.walk(),
-            items,
+            place: 0,
         }
+    }
+
+    // The next list begins.
+    pub(crate) fn begin_list(&mut self)
+        ensures { self.new ≡ record self.old { place = 0 } }
+    {
+        self.place = 0;
     }
 
     // The bytes of the output's name.
@@ -49,21 +56,26 @@ impl<'a> OutputWalk<'a> {
         self.output.holds
     }
 
-    // The next item, which is left behind.
-    fn item(&mut self) -> Option<i64>
-        ensures value { result ≡ slice_get self.old.items 0 }
-        ensures rest { self.new ≡ record self.old { items = drop 1 self.old.items } }
+    // The next item of the list, which is left behind.
+    fn item(&mut self, items: &[i64]) -> Option<i64>
+        ensures value { result ≡ slice_get items.now self.old.place }
+        ensures rest { drop self.new.place items.now ≡ drop 1 (drop self.old.place items.now) }
+        ensures same { self.new ≡ record self.old { place = self.new.place } }
     {
-        let (item, rest) = self.items.split_first()?;
-        self.items = rest;
+        let item = items.get(self.place)?;
+        self.place += 1;
         Some(*item)
     }
 
     // The value at the next instant, which is left behind.
-    pub(crate) fn step(&mut self) -> Option<i64>
-        ensures value { result ≡ next_value self.old }
-        ensures rest { IsStepped self.old self.new }
+    pub(crate) fn step(&mut self, items: &[i64]) -> Option<i64>
+        ensures value { result ≡ next_value self.old items.now }
+        ensures rest { IsStepped items.now self.old self.new }
     {
-        if self.bits.step() { self.item() } else { None }
+        if self.bits.step() {
+            self.item(items)
+        } else {
+            None
+        }
     }
 }

@@ -1,7 +1,8 @@
 -- What an accepted program is to those that run it.
-use Rattle.std.proofs.Common.{◌≡◌, ℕ, ◌-◌, ◌<◌, ◌≤◌, ◌^◌, List, Option, Some, None, refl, ap, sym, ◌∙◌, arith}
+use Rattle.std.proofs.Common.{◌≡◌, ℕ, ◌-◌, ◌<◌, ◌≤◌, ◌^◌, List, Option, Some, None, map, refl, ap, sym, ◌∙◌, arith}
 use Rattle.std.specs.Prelude.{length, slice_get}
 use Rattle.std.proofs.lemmas.List.{length-map}
+use Rattle.std.proofs.lemmas.Simd.{map-map}
 use Rattle.lucy_host.specs.Operators.{Operator}
 use Rattle.lucy_place.specs.declared.placed.PlacedNode.{PlacedNode}
 use Rattle.lucy_place.specs.Proper.{AreProper}
@@ -11,7 +12,13 @@ use Rattle.lucy_word.specs.Bits.{Bits}
 use Rattle.lucy_meaning.specs.Spots.{main_of, results_in}
 use Rattle.lucy_kahn.specs.Turns.{params_in}
 use Rattle.lucy_cause.specs.Schedules.{events_at}
+use Rattle.lucy_flat.specs.Instances.{words_in}
+use Rattle.lucy_host.specs.declared.kind.HostKind.{HostKind}
+use Rattle.lucy_need.specs.Meeting.{assigned}
+use Rattle.lucy_output.specs.declared.output.OutputSpec.{OutputSpec}
 use Rattle.lucy_execution.specs.Running.{HasSchedule}
+use Rattle.lucy_execution.specs.Streams.{result_words}
+use Rattle.lucy_run.specs.Courses.{Program, CanRun}
 use Rattle.lucy_front.specs.declared.accepted.Accepted.{Accepted}
 use Rattle.lucy_front.specs.declared.options.Options.{Options}
 use Rattle.lucy_front.specs.Accepting.{IsAccepted}
@@ -27,6 +34,11 @@ inputs_counted (Some n) types = length-map-range_with_len (input_of n types) 1 n
 outputs_counted : (main : Option PlacedNode) (types : List Ty) (words : List Bits) → length (outputs_in main types words) ≡ length (results_in main)
 outputs_counted None types words = refl
 outputs_counted (Some n) types words = length-map n.results (output_of n types words)
+
+-- of which each has the word of its result
+outputs_words : (main : Option PlacedNode) (types : List Ty) (words : List Bits) → map (λ (o : OutputSpec). o.word) (outputs_in main types words) ≡ map (assigned words) (results_in main)
+outputs_words None types words = refl
+outputs_words (Some n) types words = map-map (λ (o : OutputSpec). o.word) (output_of n types words) n.results
 
 few_in : (nodes : List PlacedNode) (main : Option PlacedNode) → AreProper nodes → slice_get nodes (length nodes - 1) ≡ main → params_in main < 2 ^ 32
 few_in nodes None proper e = omega arith
@@ -53,3 +65,12 @@ module _ (ops : List Operator) (text : List ℕ) (o : Options) (a : Accepted) (i
   -- its net has a sound schedule
   pub scheduled : HasSchedule a.placed.nodes a.clocks.items
   scheduled = record { net = a.net; events = events_at a.schedule; flat = is.net.flat.flat; sound = is.schedule.sound }
+
+  -- so it can be run
+  pub can_run : (kinds : List HostKind) → CanRun (record { kinds = kinds; nodes = a.placed.nodes; clocks = a.clocks.items; inputs = a.inputs.items; outputs = a.outputs.items })
+  can_run kinds = record {
+    proper = text_proper ops o text a.placed is.clocked.program.program;
+    scheduled = scheduled;
+    inputs = inputs_count;
+    words = ap (map (λ (x : OutputSpec). x.word)) is.outputs ∙ outputs_words (main_of a.placed.nodes) (table_at a.typed (length a.placed.nodes - 1)) (words_in (slice_get a.clocks.items (length a.placed.nodes - 1)));
+  }

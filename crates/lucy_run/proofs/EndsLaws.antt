@@ -1,10 +1,11 @@
 -- How a call ends, from what its parts leave.
-use Rattle.std.proofs.Common.{◌≡◌, ℕ, ◌⊎◌, List, [], ◌++◌, length, take, Option, Some, None, Result, Ok, Err, OnOk, OnErr, refl, ap, sym, ◌∙◌, subst, inl, inr, arith}
-use Rattle.std.specs.Prelude.{ℤ, IfOk}
+use Rattle.std.proofs.Common.{◌≡◌, ℕ, ◌+◌, ◌≤◌, ◌⊎◌, List, [], ◌∷◌, ◌++◌, length, take, append_assoc, Option, Some, None, Result, Ok, Err, OnOk, OnErr, refl, ap, sym, ◌∙◌, subst, inl, inr, arith}
+use Rattle.std.specs.Prelude.{ℤ, IfOk, IfSome, MatchResult}
 use Rattle.std.proofs.lemmas.List.{take-append-le}
 use Rattle.std.proofs.Math.Seq.{take-length}
 use Rattle.std.proofs.lemmas.Result.{IfOk-at_ok}
 use Rattle.lucy_word.specs.Bits.{Bits}
+use Rattle.lucy_word.specs.Limits.{limit_number}
 use Rattle.lucy_word.specs.declared.limit.Limit.TheVariants as limit
 use Rattle.lucy_host.specs.declared.kind.HostKind.{HostKind}
 use Rattle.lucy_kahn.specs.declared.error.KahnError.{KahnError}
@@ -16,8 +17,10 @@ use Rattle.lucy_word.specs.declared.error.OutOfMemory.{OutOfMemory}
 use Rattle.lucy_feed.specs.Sources.{Stop, Unread, Open, SeenSource, Read}
 use Rattle.lucy_output.specs.declared.output.OutputSpec.{OutputSpec}
 use Rattle.lucy_output.specs.Outputs.{output_text}
+use Rattle.lucy_output.specs.declared.error.OutputError.TheVariants.{Failed, OutOfMemory as Memory}
 use Rattle.lucy_output.specs.Sinks.{SeenSink, Writes, Fails}
 use Rattle.lucy_output.proofs.SinkLaws.{unwritten, writes_more, fails_behind, fails_longer}
+use Rattle.lucy_meaning.specs.Horizons.{Suffice}
 use Rattle.lucy_place.specs.declared.placed.PlacedNode.{PlacedNode}
 use Rattle.lucy_clock.specs.declared.node_clock.NodeClock.{NodeClock}
 use Rattle.lucy_execution.specs.Running.{HasManyTurns, HasManyItems, Refuses}
@@ -27,10 +30,16 @@ use Rattle.lucy_run.specs.declared.ending.Ending.{Ending}
 use Rattle.lucy_run.specs.declared.ending.Ending.TheVariants as ending
 use Rattle.lucy_run.specs.Feeds.{Feeds, IsUnfinished, IsMainFeed}
 use Rattle.lucy_run.specs.Owes.{most_instants, input_words, stream_lines, lines_to, heading, EndsFor, IsFed, Interprets, OwesRun, OwesRunOutput, OwesKahn, OwesKahnOutput, IsHorizonOf}
+use Rattle.lucy_lines.specs.Cuts.{ItemOf}
+use Rattle.lucy_feed.specs.Resuming.{FeedState}
+use Rattle.lucy_output.specs.Writing.{WriterState}
+use Rattle.lucy_execution.specs.Playing.{PlayerView}
+use Rattle.lucy_run.specs.Courses.{Program, CanRun, IsFedSoFar, IsAlong, IsOver, BreaksOff, LinesByBlock}
 use Rattle.lucy_run.specs.Ends.{IsFrontOf, EndsWith, FailsInOrder}
-use Rattle.lucy_run.specs.Steps.{LeavesLines, LeavesOwed, IsWhole, refusal_ending}
+use Rattle.lucy_run.specs.Steps.{LeavesOwed, IsWhole, refusal_ending}
 use Rattle.lucy_run.proofs.FedLaws.{read_nothing, fed_so_far}
-use Rattle.lucy_run.proofs.HorizonLaws.{some_horizon}
+use Rattle.lucy_run.proofs.HorizonLaws.{some_horizon, suffice_either}
+use Rattle.lucy_run.proofs.ReadLaws.{suffice_longer}
 
 -- a run that comes to its end so has the whole output
 pub ends_whole : (words : List Bits) (given : Option ℕ) (lists : List (List ℤ)) (fault : Option TextFault) (end : Ending) → EndsFor words given lists fault end → IsWhole end
@@ -39,12 +48,14 @@ ends_whole words (Some n) lists None end e = subst IsWhole (sym e) tt
 ends_whole words None lists None end (inl e) = subst IsWhole (sym e.0) tt
 ends_whole words None lists None end (inr e) = subst IsWhole (sym e.0) tt
 
-pub lines_written : (lines : List ℕ) (end : Ending) (before after : SeenSink) → IsWhole end → Writes before after lines → LeavesLines lines end before after end
-lines_written lines ending.Done before after whole w = (refl, w)
-lines_written lines (ending.Input f) before after whole w = (refl, w)
-lines_written lines (ending.Limit l) before after whole w = (refl, w)
-lines_written lines ending.WriteFault before after whole w = absurd whole
-lines_written lines ending.OutOfMemory before after whole w = absurd whole
+-- a run ends in some way
+some_ending : (words : List Bits) (given : Option ℕ) (lists : List (List ℤ)) (fault : Option TextFault) → (end : Ending) × EndsFor words given lists fault end
+some_ending words given lists (Some fault) = (ending.Input fault, refl)
+some_ending words (Some n) lists None = (ending.Done, refl)
+some_ending words None lists None = elim (suffice_either words lists (limit_number limit.Instants + 1)) [
+  | inl fits ↦ (ending.Limit limit.Instants, inl (refl, fits))
+  | inr none ↦ (ending.Done, inr (refl, none))
+]
 
 pub owed_written : (Owes : List ℕ → Ending → Type 0) (output : List ℕ) (end : Ending) (before after : SeenSink) → IsWhole end → Owes output end → Writes before after output →
     LeavesOwed Owes before after end
@@ -115,6 +126,22 @@ module _ (kinds : List HostKind) (nodes : List PlacedNode) (clocks : List NodeCl
 pub on_ok : {T E P : Type 0} (r : Result T E) (x : T) → r ≡ Ok x → OnOk r P → P
 on_ok {P = P} r x e h = subst (λ u. OnOk u P) e h
 
+pub at_err : {T E : Type 0} (r : Result T E) (e : E) (A : T → Type 0) (B : E → Type 0) → r ≡ Err e → MatchResult r A B → B e
+at_err r e A B is m = subst (λ u. MatchResult u A B) is m
+
+pub at_ok : {T E : Type 0} (r : Result T E) (x : T) (A : T → Type 0) (B : E → Type 0) → r ≡ Ok x → MatchResult r A B → A x
+at_ok r x A B is m = subst (λ u. MatchResult u A B) is m
+
+-- a list without items
+pub empty_of : {A : Type 0} (xs : List A) → length xs ≡ 0 → xs ≡ []
+empty_of [] l = refl
+empty_of (x ∷ xs) l = absurd (omega arith)
+
+-- the most instants of a run are few
+pub few_most : (given : Option ℕ) → IfSome given (λ n. n ≤ limit_number limit.Instants) → most_instants given ≤ limit_number limit.Instants
+few_most None few = omega arith
+few_most (Some n) few = few
+
 pub on_err : {T E P : Type 0} (r : Result T E) (y : E) → r ≡ Err y → OnErr r P → P
 on_err {P = P} r y e h = subst (λ u. OnErr u P) e h
 
@@ -148,43 +175,92 @@ module _ (kinds : List HostKind) (a : Accepted) (given : Option ℕ) where
       let (lines, owed) = output_so_far [] Unread tt in
       ([], Unread, read_nothing s, (heading a ++ lines, owed, fails_longer was now (heading a) lines (subst (Fails was now) e f)))
 
-  -- memory ran out while the input was read
-  pub run_given_up : (before after : SeenSource) (taken : List ℕ) (stop : Stop) (was now : SeenSink) (text : List ℕ) → text ≡ heading a → Writes was now text →
-      Read most_bytes before after taken stop → stop ≡ Open → RunGives before after was now ending.OutOfMemory
-  run_given_up before after taken stop was now text e w read open_yet =
-      let (lines, owed) = output_so_far taken stop (subst IsUnfinished (sym open_yet) tt) in
-      (taken, stop, read, (heading a, inr (heading a ++ lines, length (heading a), owed, take_front (heading a) lines), subst (Writes was now) e w))
+  -- memory ran out behind the heading, before anything was read
+  pub run_unplayed : (s : SeenSource) (was now : SeenSink) (text : List ℕ) → text ≡ heading a → Writes was now text → RunGives s s was now ending.OutOfMemory
+  run_unplayed s was now text e w =
+      let (lines, owed) = output_so_far [] Unread tt in
+      ([], Unread, read_nothing s, (heading a, inr (heading a ++ lines, length (heading a), owed, take_front (heading a) lines), subst (Writes was now) e w))
+
+  -- the program that is run
+  abbrev pub program : Program
+  program = record { kinds = kinds; nodes = a.placed.nodes; clocks = a.clocks.items; inputs = a.inputs.items; outputs = a.outputs.items }
+
+  -- its clocks and outputs, as they lie
+  pub along_here : (clocks : List NodeClock) (outputs : List OutputSpec) → clocks ≡ a.clocks.items → outputs ≡ a.outputs.items → (first : SeenSource) (was : SeenSink) (items : List ItemOf) (horizon : ℕ) (now : SeenSource) (written : SeenSink)
+      (reader : FeedState) (player : PlayerView) (writer : WriterState) →
+      IsAlong (record { kinds = kinds; nodes = a.placed.nodes; clocks = clocks; inputs = a.inputs.items; outputs = outputs }) first was items horizon now written reader player writer →
+      IsAlong program first was items horizon now written reader player writer
+  along_here clocks outputs e f first was items horizon now written reader player writer along =
+      let P : List NodeClock → Type 0 = λ cs. IsAlong (record { kinds = kinds; nodes = a.placed.nodes; clocks = cs; inputs = a.inputs.items; outputs = outputs }) first was items horizon now written reader player writer in
+      let Q : List OutputSpec → Type 0 = λ os. IsAlong (record { kinds = kinds; nodes = a.placed.nodes; clocks = a.clocks.items; inputs = a.inputs.items; outputs = os }) first was items horizon now written reader player writer in
+      subst Q f (subst P e along)
+
+  -- it was run to its end
+  pub run_whole : (before after : SeenSource) (was between now : SeenSink) (text : List ℕ) (result : Ending) → text ≡ heading a → Writes was between text → IsOver program before between given after now result →
+      RunGives before after was now result
+  run_whole before after was between now text result e w over =
+      (over.taken, over.stop, over.read, whole_with result over.ends (subst (Writes was between) e w))
+    where
+      output : List ℕ
+      output = heading a ++ lines_to kinds a over.lists over.horizon
+
+      whole_with : (end : Ending) → EndsFor (input_words a) given over.lists over.fault end → Writes was between (heading a) → EndsWith (OwesRun kinds a given over.taken over.stop) (OwesRunOutput kinds a given over.taken over.stop) was now end
+      whole_with end ends head = ends_with end (ends_whole (input_words a) given over.lists over.fault end ends)
+          (over.lists, over.fault, over.horizon, record { feeds = over.feeds; horizon_is = over.horizon_is }, refl, ends) (writes_more was between now (heading a) (lines_to kinds a over.lists over.horizon) head over.lines)
+        where
+          ends_with : (end : Ending) → IsWhole end → OwesRun kinds a given over.taken over.stop output end → Writes was now output → EndsWith (OwesRun kinds a given over.taken over.stop) (OwesRunOutput kinds a given over.taken over.stop) was now end
+          ends_with ending.WriteFault whole owes all = absurd whole
+          ends_with ending.OutOfMemory whole owes all = absurd whole
+          ends_with ending.Done whole owes all = (output, owes, all)
+          ends_with (ending.Input f) whole owes all = (output, owes, all)
+          ends_with (ending.Limit l) whole owes all = (output, owes, all)
+
+  -- an output of which the lines so far are a front
+  module _ (blocks : LinesByBlock) (can : CanRun program) (before after : SeenSource) (lists : List (List ℤ)) (horizon : ℕ) (within : horizon ≤ most_instants given) (suffice : Suffice (input_words a) lists horizon)
+      (fed : IsFedSoFar a.inputs.items before after lists) where
+    owed_beyond : (output rest : List ℕ) × OwesRunOutput kinds a given fed.taken fed.stop output × (output ≡ (heading a ++ lines_to kinds a lists horizon) ++ rest)
+    owed_beyond =
+        let (last, is) = some_horizon (input_words a) fed.others (most_instants given) in
+        let later : horizon ≤ last = is.greatest horizon within (suffice_longer (input_words a) lists fed.others horizon fed.fronts suffice) in
+        let text = blocks program lists fed.others horizon last can fed.fronts later suffice in
+        let lines : List ℕ = lines_to kinds a fed.others last in (
+          heading a ++ lines,
+          _,
+          elim fed.fed [
+            | inl whole ↦
+                let (end, ends) = some_ending (input_words a) given fed.others whole.0 in
+                inl (end, (fed.others, whole.0, last, record { feeds = whole.1; horizon_is = is }, refl, ends))
+            | inr front ↦ inr (fed.others, last, front, is, refl)
+          ],
+          ap (λ xs. heading a ++ xs) text ∙ sym (append_assoc (heading a) (lines_to kinds a lists horizon) _),
+        )
+
+    pub broken_lines : (was between now : SeenSink) → Writes was between (heading a) → Fails between now (lines_to kinds a lists horizon) → RunGives before after was now ending.WriteFault
+    broken_lines was between now w f =
+        let (output, rest, owed, is) = owed_beyond in
+        (fed.taken, fed.stop, fed.read, (output, owed, subst (Fails was now) (sym is) (fails_longer was now (heading a ++ lines_to kinds a lists horizon) rest (fails_behind was between now (heading a) (lines_to kinds a lists horizon) w f))))
+
+    pub lines_without_memory : (was between now : SeenSink) → Writes was between (heading a) → Writes between now (lines_to kinds a lists horizon) → RunGives before after was now ending.OutOfMemory
+    lines_without_memory was between now w v =
+        let (output, rest, owed, is) = owed_beyond in
+        let front : List ℕ = heading a ++ lines_to kinds a lists horizon in
+        (fed.taken, fed.stop, fed.read, (front, inr (output, length front, owed, take_front front rest ∙ ap (take (length front)) (sym is)), writes_more was between now (heading a) (lines_to kinds a lists horizon) w v))
+
+  -- it was broken off
+  pub run_failed : LinesByBlock → CanRun program → (before after : SeenSource) (was between now : SeenSink) (text : List ℕ) (most : ℕ) → most ≡ most_instants given → text ≡ heading a → Writes was between text →
+      BreaksOff program before between most after now Failed → RunGives before after was now ending.WriteFault
+  run_failed blocks can before after was between now text most m e w off =
+      broken_lines blocks can before after off.lists off.horizon (omega (arith, off.within)) off.suffice off.fed was between now (subst (Writes was between) e w) off.left
+
+  pub run_out_of_memory : LinesByBlock → CanRun program → (before after : SeenSource) (was between now : SeenSink) (text : List ℕ) (most : ℕ) → most ≡ most_instants given → text ≡ heading a → Writes was between text →
+      BreaksOff program before between most after now Memory → RunGives before after was now ending.OutOfMemory
+  run_out_of_memory blocks can before after was between now text most m e w off =
+      lines_without_memory blocks can before after off.lists off.horizon (omega (arith, off.within)) off.suffice off.fed was between now (subst (Writes was between) e w) off.left
 
   module _ (taken : List ℕ) (stop : Stop) (lists : List (List ℤ)) (fault : Option TextFault) (horizon : ℕ) (feeds : Feeds a.inputs.items taken stop lists fault)
       (horizon_is : IsHorizonOf (input_words a) given lists horizon) where
     fed : IsFed a given taken stop lists fault horizon
     fed = record { feeds = feeds; horizon_is = horizon_is }
-
-    whole_run : (end : Ending) (was between now : SeenSink) (result : Ending) → EndsFor (input_words a) given lists fault end → Writes was between (heading a) →
-        (result ≡ end) × Writes between now (lines_to kinds a lists horizon) → (output : List ℕ) × OwesRun kinds a given taken stop output result × Writes was now output
-    whole_run end was between now result ends w left = (
-      heading a ++ lines_to kinds a lists horizon,
-      (lists, fault, horizon, fed, refl, subst (EndsFor (input_words a) given lists fault) (sym left.0) ends),
-      writes_more was between now (heading a) (lines_to kinds a lists horizon) w left.1,
-    )
-
-    run_ends : (end : Ending) (was between now : SeenSink) (result : Ending) → EndsFor (input_words a) given lists fault end → Writes was between (heading a) →
-        LeavesLines (lines_to kinds a lists horizon) end between now result → EndsWith (OwesRun kinds a given taken stop) (OwesRunOutput kinds a given taken stop) was now result
-    run_ends end was between now ending.WriteFault ends w left =
-        (heading a ++ lines_to kinds a lists horizon, inl (end, (lists, fault, horizon, fed, refl, ends)), fails_behind was between now (heading a) (lines_to kinds a lists horizon) w left)
-    run_ends end was between now ending.OutOfMemory ends w left = (
-      heading a,
-      inr (heading a ++ lines_to kinds a lists horizon, length (heading a), inl (end, (lists, fault, horizon, fed, refl, ends)), take_front (heading a) (lines_to kinds a lists horizon)),
-      subst (λ u. Writes was u (heading a)) (sym left) w,
-    )
-    run_ends end was between now ending.Done ends w left = whole_run end was between now ending.Done ends w left
-    run_ends end was between now (ending.Input f) ends w left = whole_run end was between now (ending.Input f) ends w left
-    run_ends end was between now (ending.Limit l) ends w left = whole_run end was between now (ending.Limit l) ends w left
-
-    -- the lines were written, or not
-    pub run_over : (end : Ending) (before after : SeenSource) (was between now : SeenSink) (text : List ℕ) (result : Ending) → Read most_bytes before after taken stop → EndsFor (input_words a) given lists fault end →
-        text ≡ heading a → Writes was between text → LeavesLines (lines_to kinds a lists horizon) end between now result → RunGives before after was now result
-    run_over end before after was between now text result read ends e w left = (taken, stop, read, run_ends end was between now result ends (subst (Writes was between) e w) left)
 
     kahn_ends : (was now : SeenSink) (result : Ending) → LeavesOwed (Interprets kinds a.placed.nodes a.clocks.items a.outputs.items given lists fault horizon) was now result →
         EndsWith (OwesKahn kinds a given taken stop) (OwesKahnOutput kinds a given taken stop) was now result
@@ -202,19 +278,7 @@ module _ (kinds : List HostKind) (a : Accepted) (given : Option ℕ) where
   pub kahn_given_up : (before after : SeenSource) (taken : List ℕ) (stop : Stop) (o : SeenSink) → Read most_bytes before after taken stop → KahnGives before after o o ending.OutOfMemory
   kahn_given_up before after taken stop o read = (taken, stop, read, ([], inl refl, unwritten o))
 
-  -- main was fed, and the lines of its results were written or not
-  pub run_done : (before after : SeenSource) (was between now : SeenSink) (text : List ℕ) (result : Ending) (feed : Feed) (answer : Result Feed OutOfMemory) (taken : List ℕ) (stop : Stop) →
-      Read most_bytes before after taken stop → IsMainFeed a.inputs.items taken stop answer → answer ≡ Ok feed → text ≡ heading a → Writes was between text → (horizon : ℕ) (end : Ending) →
-      IsHorizonOf (input_words a) given feed.items horizon → EndsFor (input_words a) given feed.items feed.stop end → LeavesLines (lines_to kinds a feed.items horizon) end between now result →
-      RunGives before after was now result
-  run_done before after was between now text result feed answer taken stop read fed_so is e w horizon end horizon_is ends left =
-      run_over taken stop feed.items feed.stop horizon (subst (IsMainFeed a.inputs.items taken stop) is fed_so) horizon_is end before after was between now text result read ends e w left
-
-  pub run_out : (before after : SeenSource) (was now : SeenSink) (text : List ℕ) (e : OutOfMemory) (answer : Result Feed OutOfMemory) (taken : List ℕ) (stop : Stop) → Read most_bytes before after taken stop →
-      IsMainFeed a.inputs.items taken stop answer → answer ≡ Err e → text ≡ heading a → Writes was now text → RunGives before after was now ending.OutOfMemory
-  run_out before after was now text e answer taken stop read fed_so is same w =
-      run_given_up before after taken stop was now text same w read (subst (IsMainFeed a.inputs.items taken stop) is fed_so)
-
+  -- main was fed, and the lines were written or not
   pub kahn_done : (before after : SeenSource) (was now : SeenSink) (result : Ending) (feed : Feed) (answer : Result Feed OutOfMemory) (clocks : List NodeClock) (outputs : List OutputSpec) (taken : List ℕ) (stop : Stop) →
       Read most_bytes before after taken stop → IsMainFeed a.inputs.items taken stop answer → answer ≡ Ok feed → clocks ≡ a.clocks.items → outputs ≡ a.outputs.items →
       (horizon : ℕ) × IsHorizonOf (param_words a.placed.nodes clocks) given feed.items horizon × LeavesOwed (Interprets kinds a.placed.nodes clocks outputs given feed.items feed.stop horizon) was now result →
@@ -228,10 +292,8 @@ module _ (kinds : List HostKind) (a : Accepted) (given : Option ℕ) where
       kahn_over taken stop feed.items feed.stop horizon (subst (IsMainFeed a.inputs.items taken stop) is fed_so) horizon_is before after was now result read moved
 
   -- a write of the lines failed behind the heading
-  pub lines_failed : {S : Type 0} (source left : S) (was between now : SeenSink) (text lines : List ℕ) (end result : Ending) → text ≡ heading a → Writes was between text →
-      LeavesLines lines end between now result → result ≡ ending.WriteFault → FailsInOrder (heading a) was now source left
-  lines_failed source left was between now text lines end result e w leaves is =
-      inr (between, lines, subst (Writes was between) e w, subst (LeavesLines lines end between now) is leaves)
+  pub lines_failed : {S : Type 0} (source left : S) (was between now : SeenSink) (text lines : List ℕ) → text ≡ heading a → Writes was between text → Fails between now lines → FailsInOrder (heading a) was now source left
+  lines_failed source left was between now text lines e w fails = inr (between, lines, subst (Writes was between) e w, fails)
 
   -- the heading could not be written, and nothing was read
   pub heading_failed : {S : Type 0} (source : S) (was now : SeenSink) (text : List ℕ) → text ≡ heading a → Fails was now text → FailsInOrder (heading a) was now source source

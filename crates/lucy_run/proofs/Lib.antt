@@ -1,5 +1,9 @@
 pub mod HorizonLaws
 pub mod OwesLaws
 mod FedLaws
-mod AcceptedLaws
+mod LinesLaws
+mod ReadLaws
+mod CourseLaws
+mod OverLaws
+pub mod AcceptedLaws
 mod EndsLaws

@@ -5,3 +5,4 @@ pub mod Ends
 pub mod Laws
 -- Below this line stands what only serves the proofs of the bodies.
 pub mod Steps
+pub mod Courses

@@ -6,12 +6,6 @@ use Rattle.lucy_kahn.specs.declared.error.KahnError.TheVariants as error
 use Rattle.lucy_run.specs.declared.ending.Ending.{Ending}
 use Rattle.lucy_run.specs.declared.ending.Ending.TheVariants as ending
 
--- the lines were written, with this ending; or a write of them failed; or memory ran out before that
-abbrev pub LeavesLines : (lines : List ℕ) (end : Ending) → (before after : SeenSink) → (result : Ending) → Type 0
-LeavesLines lines end before after ending.WriteFault = Fails before after lines
-LeavesLines lines end before after ending.OutOfMemory = after ≡ before
-LeavesLines lines end before after result = (result ≡ end) × Writes before after lines
-
 -- the output that is owed with this ending was written; or a write of an output that is owed failed; or memory ran out before that
 abbrev pub LeavesOwed : (Owes : List ℕ → Ending → Type 0) → (before after : SeenSink) → (result : Ending) → Type 0
 LeavesOwed Owes before after ending.WriteFault = (output : List ℕ) × (end : Ending) × Owes output end × Fails before after output

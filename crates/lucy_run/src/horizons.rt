@@ -1,14 +1,26 @@
 // The horizon of a run, and how it ends.
-ghost use Rattle.std.specs.Prelude.{◌≡◌, ◌≤◌, ◌^◌, ◌<◌, ℕ, Some, length};
+ghost use Rattle.std.specs.Prelude.{◌≡◌, ◌≤◌, ◌^◌, ◌<◌, ◌↔◌, ℕ, ℤ, List, Some, length, IsTrue};
+ghost use Rattle.lucy_word.specs.Bits.{Bits};
 ghost use Rattle.lucy_word.specs.Limits.{limit_number};
 ghost use Rattle.lucy_word.specs.declared.limit.Limit.TheVariants as limit;
-ghost use Rattle.lucy_run.specs.Owes.{IsHorizonOf, EndsFor};
+ghost use Rattle.lucy_run.specs.Owes as owes;
+ghost use Rattle.lucy_run.specs.Owes.{AllowsMore, EndsFor, IsHorizonOf};
 
 use crate::ending::Ending;
-use lucy_execution::{allows_more, horizon};
+use lucy_execution::horizon;
 use lucy_host::Inputs;
 use lucy_lines::TextFault;
 use lucy_word::{Limit, Word};
+
+/// The most instants of a run where these are given.
+pub(crate) fn most_instants(given: Option<u64>) -> u64
+    ensures { result ≡ owes.most_instants given }
+{
+    match given {
+        Some(given) => given,
+        None => Limit::Instants.number(),
+    }
+}
 
 /// The horizon of a run where these instants are given, for inputs of these words with these items.
 pub(crate) fn horizon_of(words: &[Word], given: Option<u64>, items: &Inputs) -> u64
@@ -16,28 +28,17 @@ pub(crate) fn horizon_of(words: &[Word], given: Option<u64>, items: &Inputs) -> 
     requires few { length words.now < 2 ^ 32 }
     ensures { IsHorizonOf words.now given items.now result }
 {
-    let most = match given {
-        Some(given) => given,
-        None => Limit::Instants.number(),
-    };
-    horizon(words, items, most)
+    horizon(words, items, most_instants(given))
 }
 
-/// How the run ends where its output is whole.
-pub(crate) fn ending_for(
-    words: &[Word],
-    given: Option<u64>,
-    items: &Inputs,
-    stop: Option<TextFault>,
-) -> Ending
-    requires inputs { length items.now ≡ length words.now }
-    requires few { length words.now < 2 ^ 32 }
-    ensures { EndsFor words.now given items.now stop result }
+/// How the run ends where its output is whole, by whether the items allow more instants than a run may have.
+pub(crate) fn ending_for(given: Option<u64>, more: bool, stop: Option<TextFault>) -> Ending
+    ensures { (words : List Bits) (lists : List (List ℤ)) → (IsTrue more ↔ AllowsMore words lists) → EndsFor words given lists stop result }
 {
     match stop {
         Some(fault) => Ending::Input(fault),
         None => {
-            if given.is_none() && allows_more(words, items, Limit::Instants.number()) {
+            if given.is_none() && more {
                 Ending::Limit(Limit::Instants)
             } else {
                 Ending::Done

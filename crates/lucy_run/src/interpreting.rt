@@ -22,7 +22,7 @@ use crate::ending::Ending;
 use crate::feeding::main_feed;
 use crate::horizons::{ending_for, horizon_of};
 use lucy_clock::NodeClock;
-use lucy_execution::{interpret, param_words};
+use lucy_execution::{allows_more, interpret, param_words};
 use lucy_feed::Feed;
 use lucy_front::Accepted;
 use lucy_host::Host;
@@ -30,6 +30,7 @@ use lucy_kahn::KahnError;
 use lucy_output::{OutputError, OutputSpec, write_outputs};
 use lucy_place::Placed;
 use lucy_text::{Sink, Source};
+use lucy_word::Limit;
 use std::alloc::Global;
 
 // How the run ends where the interpreter gives no streams.
@@ -69,7 +70,8 @@ fn write_interpreted<F: Fn(u32, i64, i64) -> i64 + Sync, O: Sink>(
     let Feed { items, stop } = feed;
     let words = param_words(placed, clocks);
     let horizon = horizon_of(words, given, &items);
-    let ending = ending_for(words, given, &items, stop);
+    let more = allows_more(words, &items, Limit::Instants.number());
+    let ending = ending_for(given, more, stop);
     let streams = match interpret(alloc, placed, clocks, host, &items, horizon) {
         Ok(streams) => streams,
         Err(error) => return refused(error),

@@ -1,8 +1,11 @@
 // Laws of what is owed, on functions that call the laws of feeds and horizons alone.
+ghost use Rattle.lucy_run.specs.Courses.{LinesAgree, LinesByBlock};
 ghost use Rattle.lucy_run.specs.Laws.{OneRun, OneInterpretation, SameLines, CompleteRun, CompleteInterpretation};
 
+use lucy_execution::streams_go_on;
 use lucy_feed::one_feed;
 use lucy_meaning::one_horizon;
+use lucy_output::{block_by_block, fronts_suffice};
 
 /// The bytes taken, and how reading stopped, owe one output of `run`, with one ending.
 pub fn one_run()
@@ -35,4 +38,14 @@ pub fn faultless_runs_are_done()
     ensures interpretation { CompleteInterpretation }
 {
     one_feed();
+}
+
+// The lines up to an instant are those of fewer items, if they suffice, and then those of the instants after.
+pub(crate) fn lines_go_on()
+    ensures agree { LinesAgree }
+    ensures blocks { LinesByBlock }
+{
+    streams_go_on();
+    fronts_suffice();
+    block_by_block();
 }

@@ -2,16 +2,16 @@
 //! a sink.
 //!
 //! It stands on `lucy_front` for accepted programs and their report, on `lucy_feed` for the items of the input, on `lucy_execution`
-//! for the streams of the results and on `lucy_output` for their lines. Begin with `specs/Owes.antt`, which says what stands on
+//! for the streams of the results and on `lucy_output` for their lines. `course.rt` takes these through the blocks of a run. Begin with `specs/Owes.antt`, which says what stands on
 //! the output and how a run ends, and with `run` in `running.rt`.
 #![tactic(auto)]
 
+mod course;
 mod ending;
 mod feeding;
 mod horizons;
 mod interpreting;
 mod laws;
-mod lines;
 mod running;
 
 pub use ending::Ending;

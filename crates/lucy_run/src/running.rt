@@ -16,12 +16,14 @@ ghost use Rattle.lucy_run.specs.Owes.{OwesRun, OwesRunOutput};
 ghost use Rattle.lucy_run.specs.declared.ending.Ending.TheVariants as ending;
 ghost use Rattle.lucy_run.specs.Ends.{EndsWith, FailsInOrder};
 
+use crate::course::Course;
 use crate::ending::Ending;
-use crate::feeding::main_feed;
-use crate::lines::{Play, write_fed};
+use crate::horizons::most_instants;
+use crate::laws::lines_go_on;
+use lucy_execution::param_words;
 use lucy_front::{Accepted, report};
 use lucy_host::Host;
-use lucy_output::write_text;
+use lucy_output::{OutputError, write_text};
 use lucy_text::{Sink, Source};
 use lucy_word::OutOfMemory;
 use lucy_worker::Gate;
@@ -38,9 +40,11 @@ fn heading(alloc: Global, accepted: &Accepted) -> Result<Vec<u8>, OutOfMemory>
     Ok(text)
 }
 
-/// Runs an accepted program: its report and the line `run` are written, then its input is read to its end or its first fault, and
-/// then the lines of its results are written up to the horizon, at most as many instants as are given, or 1,048,576 where none
-/// are. A main without inputs reads nothing, and runs so many instants.
+/// Runs an accepted program: its report and the line `run` are written, and then the lines of its results up to the horizon, at
+/// most as many instants as are given, or 1,048,576 where none are. It goes by blocks of so many instants: lines of the input are
+/// read until there are the items that the block needs, and then the block is run, and its lines are written. Behind the last
+/// block the input is read on to its end or its first fault. A main without inputs reads nothing, and runs so many instants. No
+/// byte of the output depends on the block.
 ///
 /// After a failed write nothing more is written or read.
 pub fn run<
@@ -57,6 +61,7 @@ pub fn run<
     gate: &G,
     instants: Option<u64>,
     workers: u32,
+    block: u64,
     source: &mut I,
     out: &mut O,
 ) -> Ending
@@ -67,6 +72,7 @@ pub fn run<
     requires few { IfSome instants (λ given. given ≤ limit_number limit.Instants) }
     requires given { accepted.inputs.items ≡ [] → instants ≢ None }
     requires workers { (1 ≤ workers) × (workers ≤ 64) }
+    requires block { (1 ≤ block) × (block ≤ 1048576) }
     ensures ends { (taken : List ℕ) × (stop : Stop) × Read most_bytes
         (seen_source (I.left source.old) (I.ended source.old) (I.faults source.old) (I.since_stop source.old))
         (seen_source (I.left source.new) (I.ended source.new) (I.faults source.new) (I.since_stop source.new)) taken stop
@@ -97,17 +103,18 @@ pub fn run<
         outputs,
         ..
     } = accepted;
-    let feed = match main_feed(alloc, inputs, source) {
-        Ok(feed) => feed,
+    lines_go_on();
+    let words = param_words(&placed, &clocks);
+    let mut course = match Course::new(
+        rt, alloc, &placed, &clocks, net, schedule, inputs, &outputs, host, gate, workers,
+    ) {
+        Ok(course) => course,
         Err(_) => return Ending::OutOfMemory,
     };
-    let play = Play {
-        placed,
-        clocks,
-        net,
-        schedule,
-        outputs,
-        workers,
-    };
-    write_fed(rt, alloc, play, host, gate, instants, feed, out)
+    let most = most_instants(instants);
+    match course.play(rt, alloc, host, gate, words, most, block, source, out) {
+        Ok(()) => course.finish(words, instants, source),
+        Err(OutputError::Failed) => Ending::WriteFault,
+        Err(OutputError::OutOfMemory) => Ending::OutOfMemory,
+    }
 }

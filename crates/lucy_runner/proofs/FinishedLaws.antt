@@ -30,7 +30,7 @@ use Rattle.lucy_runner.specs.declared.place.Ends.{Ends}
 use Rattle.lucy_runner.specs.Crews.{done_in, done_at_place, seen_by}
 use Rattle.lucy_runner.specs.Left.{events_left}
 use Rattle.lucy_runner.specs.Standing.{carried, IsPartOf, IsStanding}
-use Rattle.lucy_runner.specs.Turns.{IsRoundTo}
+use Rattle.lucy_runner.specs.Rounds.{IsRoundTo}
 use Rattle.lucy_runner.proofs.PlaceLaws.{IsFound, found, no_part, same_part}
 use Rattle.lucy_runner.proofs.CrewLaws.{done_is}
 use Rattle.lucy_runner.proofs.ReachLaws.{at_number}

@@ -13,7 +13,8 @@ use Rattle.lucy_runner.specs.declared.place.Place.{Place}
 use Rattle.lucy_runner.specs.declared.place.Ends.{Ends}
 use Rattle.lucy_runner.specs.Crews.{part_of, done_at_place, done_list, seen_by, AreJoined}
 use Rattle.lucy_runner.specs.Standing.{IsStanding}
-use Rattle.lucy_runner.specs.Turns.{HaveTurned, HaveAllMet, IsRoundTo}
+use Rattle.lucy_runner.specs.Turns.{HaveTurned, HaveAllMet}
+use Rattle.lucy_runner.specs.Rounds.{IsRoundTo}
 use Rattle.lucy_runner.proofs.PlaceLaws.{no_part}
 use Rattle.lucy_runner.proofs.CrewLaws.{IsSameInput, done_is, inputs_same}
 use Rattle.lucy_runner.proofs.JoinLaws.{still_joined}

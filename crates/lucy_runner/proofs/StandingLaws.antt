@@ -19,7 +19,8 @@ use Rattle.lucy_runner.specs.declared.place.Ends.{Ends}
 use Rattle.lucy_runner.specs.declared.seat.Seat.{Seat}
 use Rattle.lucy_runner.specs.Crews.{seated, crew_of, part_in, placed_in, part_of, seen_by, AreJoined}
 use Rattle.lucy_runner.specs.Standing.{IsPartOf, IsStanding, AreOutputs}
-use Rattle.lucy_runner.specs.Turns.{AreServed, HaveTurned, HaveAllMet, IsRoundTo}
+use Rattle.lucy_runner.specs.Turns.{AreServed, HaveTurned, HaveAllMet}
+use Rattle.lucy_runner.specs.Rounds.{IsRoundTo}
 use Rattle.lucy_runner.proofs.PlaceLaws.{IsFound, found, part_is}
 use Rattle.lucy_runner.proofs.TurningLaws.{crew_get}
 use Rattle.lucy_runner.proofs.RoundLaws.{joined, round_stands}

@@ -1,5 +1,6 @@
--- What callers believe: a runner as contracts see it, and what a block makes of it.
+-- What callers believe: a runner as contracts see it, and what a round and a block make of it.
 pub mod Views
+pub mod Rounds
 pub mod Blocks
 -- what only serves the proofs
 pub mod Crews

@@ -1,8 +1,7 @@
 -- What the steps of a round leave: a turn of every worker, and then a meeting of the ends of every ring.
-use Rattle.std.specs.Prelude.{ℕ, ◌+◌, ◌<◌, ◌≡◌, ◌↔◌, List, length, sum_by, slice_get, Some}
+use Rattle.std.specs.Prelude.{ℕ, ◌+◌, ◌≡◌, List, length, sum_by, slice_get, Some}
 use Rattle.lucy_host.specs.declared.kind.HostKind.{HostKind}
 use Rattle.lucy_net.specs.declared.net.RingSpec.{RingSpec}
-use Rattle.lucy_core.specs.Seen.{Seen, done_of, CanStep, CanRun, IsOver, after_picks}
 use Rattle.lucy_worker.specs.declared.part.Part.{Part}
 use Rattle.lucy_worker.specs.Turns.{HaveRun, HaveMoved, IsServed, done_by}
 use Rattle.lucy_worker.specs.Meets.{HaveMet}
@@ -48,13 +47,3 @@ pub record HasMet (crew met : List (List Part)) (places : List Place) (ends : Li
 pub record HaveAllMet (crew met : List (List Part)) (places : List Place) (ends : List Ends) (rings : List RingSpec) : Type 0 where
   pub rest : AreButEnds crew met
   pub each : (r : ℕ) (ring : RingSpec) → slice_get rings r ≡ Some ring → HasMet crew met places ends r ring
-
--- from the one state to the other lead so many events, among them one at least of each actor that had a possible one; there are
--- none exactly where every actor had done its list
-pub record IsRoundTo (seen next : Seen) (moves : ℕ) : Type 0 where
-  pub picks : List ℕ
-  pub count : length picks ≡ moves
-  pub run : CanRun seen picks
-  pub is : next ≡ after_picks seen picks
-  pub moved : (a : ℕ) → CanStep seen a → done_of seen.done a < done_of next.done a
-  pub none : (moves ≡ 0) ↔ IsOver seen

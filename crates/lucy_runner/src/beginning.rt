@@ -8,7 +8,7 @@ ghost use Rattle.lucy_net.specs.States.{IsUsable, ReadsInput};
 ghost use Rattle.lucy_worker.specs.News.{HasRoom};
 ghost use Rattle.lucy_runner.specs.Making.{IsFirstPart, AreFirstParts};
 
-use crate::grow::push;
+use crate::lists::push;
 use lucy_host::Inputs;
 use lucy_net::{Actor, ActorKind, first_state};
 use lucy_word::OutOfMemory;

@@ -4,7 +4,7 @@ ghost use Rattle.lucy_word.specs.Limits.{limit_number};
 ghost use Rattle.lucy_word.specs.declared.limit.Limit.TheVariants as limit;
 ghost use Rattle.lucy_runner.specs.Making.{AreNewEnds, HasGained, HaveJoined, HaveAllJoined, HasFewEnds};
 
-use crate::grow::push;
+use crate::lists::push;
 use crate::place::Ends;
 use lucy_net::RingSpec;
 use lucy_ring::{Giver, Taker, ring};

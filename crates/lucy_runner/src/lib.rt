@@ -5,9 +5,9 @@
 #![tactic(auto)]
 
 mod beginning;
-mod grow;
 mod growing;
 mod joining;
+mod lists;
 mod making;
 mod meeting;
 mod outputs;

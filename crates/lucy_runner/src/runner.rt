@@ -33,6 +33,8 @@ pub struct Runner {
     ends: Vec<Ends>,
     // the actor of each output
     outputs: Vec<u32>,
+    // how many rounds in a row moved little, up to now
+    lean: u32,
 }
 
 impl Model for Runner {
@@ -79,7 +81,7 @@ impl Runner {
     ghost use Rattle.lucy_core.specs.Seen.{plan_of, machine_of, order_of, state_of, done_of, after_picks, CanStep, CanRun, IsOver, IsUnbegun, IsOutputOf, first_ring, stream_of};
     ghost use Rattle.lucy_runner.specs.Views.{first_runner, input_count};
     ghost use Rattle.lucy_runner.specs.Blocks.{longer_inputs, grown_seen};
-    ghost use Rattle.lucy_runner.specs.Turns.{IsRoundTo};
+    ghost use Rattle.lucy_runner.specs.Rounds.{IsRoundTo};
 
     /// A runner of a core without an event so far, with a list for each input of the net, by 1 to 64 workers: the actor of a number
     /// is in the worker that is its home. Each ring gets its size and one slot more. All memory that rounds use is made here.
@@ -119,6 +121,7 @@ impl Runner {
             places,
             ends,
             outputs,
+            lean: 0,
         })
     }
 
@@ -139,7 +142,8 @@ impl Runner {
         self.round_in(rt, host, gate, true)
     }
 
-    // A round, in which several workers each have a thread of their own or, if not `apart`, move one after another.
+    // A round, in which several workers each have a thread of their own or, if not `apart`, move one after another, over and over
+    // until none can.
     fn round_in<R: Threads + Sync, F: Fn(u32, i64, i64) -> i64 + Sync, G: Gate + Sync>(
         &mut self,
         rt: &R,
@@ -163,7 +167,8 @@ impl Runner {
     }
 
     /// Makes rounds until every actor has done its list. Where many rounds in a row move little, as they do if rings are short and
-    /// no processors are free, the workers from there on move one after another. It takes no memory, and returns if the gate does.
+    /// no processors are free, the workers from there on move one after another, also in later calls. It takes no memory, and
+    /// returns if the gate does.
     pub fn go<R: Threads + Sync, F: Fn(u32, i64, i64) -> i64 + Sync, G: Gate + Sync>(
         &mut self,
         rt: &R,
@@ -176,12 +181,30 @@ impl Runner {
         ensures before { self.new.before ≡ self.old.before }
         ensures finished { IsOver self.new.seen }
     {
+        let lean = self.lean;
+        self.lean = self.go_from(rt, host, gate, lean);
+    }
+
+    // Makes rounds until every actor has done its list, behind so many that moved little. Answers how many these then are.
+    fn go_from<R: Threads + Sync, F: Fn(u32, i64, i64) -> i64 + Sync, G: Gate + Sync>(
+        &mut self,
+        rt: &R,
+        host: &Host<F>,
+        gate: &G,
+        mut lean: u32,
+    ) -> u32
+        requires serves { Serves F.pre F.post host.now }
+        requires kinds { kinds_of (lent host.now) ≡ kinds_of self.old.seen.operators }
+        ensures run { (picks : List ℕ) × CanRun self.old.seen picks × (self.new.seen ≡ after_picks self.old.seen picks) }
+        ensures before { self.new.before ≡ self.old.before }
+        ensures finished { IsOver self.new.seen }
+    {
         let _ = &self.net;
-        let mut lean = 0;
         while !self.finished() {
             let moves = self.round_in(rt, host, gate, lean < MOST_LEAN_ROUNDS);
             lean = lean_rounds(lean, moves);
         }
+        lean
     }
 
     /// Whether every actor has done its list.

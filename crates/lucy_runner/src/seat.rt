@@ -21,31 +21,30 @@ pub(crate) struct Seat {
 }
 
 impl Seat {
-    // A turn of the worker, where others move meanwhile.
-    fn turn<F: Fn(u32, i64, i64) -> i64 + Sync, G: Gate + Sync>(&mut self, host: &Host<F>, gate: &G)
-        requires serves { Serves F.pre F.post host.now }
-        requires served { All (IsServed (length (lent host.now))) self.old.worker.parts }
-        ensures { IsTurned (kinds_of (lent host.now)) self.old self.new }
-    {
-        self.moves = self.worker.advance(host, gate);
-    }
-
-    // A turn of the worker, where no other moves meanwhile.
-    fn turn_alone<F: Fn(u32, i64, i64) -> i64 + Sync, G: Gate + Sync>(
+    // A turn of the worker, where others move meanwhile or, if it is `alone`, none does.
+    fn turn<F: Fn(u32, i64, i64) -> i64 + Sync, G: Gate + Sync>(
         &mut self,
         host: &Host<F>,
         gate: &G,
+        alone: bool,
     )
         requires serves { Serves F.pre F.post host.now }
         requires served { All (IsServed (length (lent host.now))) self.old.worker.parts }
         ensures { IsTurned (kinds_of (lent host.now)) self.old self.new }
     {
-        self.moves = self.worker.advance_alone(host, gate);
+        self.moves = if alone {
+            self.worker.advance_alone(host, gate)
+        } else {
+            self.worker.advance(host, gate)
+        };
     }
 }
 
-/// A turn of each worker: if they are several and `apart`, each in a thread of its own, and else one after another. Answers the
-/// number of moves.
+// After so many sweeps a round ends also where something may still move.
+const MOST_SWEEPS: u32 = 4_096;
+
+/// Turns of the workers: if `apart`, one of each, and where they are several each in a thread of its own; else sweeps over the
+/// workers, one after another, until a sweep moves nothing. Answers the number of moves.
 pub(crate) fn turn_all<R: Threads + Sync, F: Fn(u32, i64, i64) -> i64 + Sync, G: Gate + Sync>(
     rt: &R,
     seats: &mut [Seat],
@@ -57,6 +56,50 @@ pub(crate) fn turn_all<R: Threads + Sync, F: Fn(u32, i64, i64) -> i64 + Sync, G:
     requires served { AreServed (length (lent host.now)) (crew_of seats.old) }
     requires few { length seats.old ≤ 64 }
     ensures { HaveTurned (kinds_of (lent host.now)) (crew_of seats.old) (crew_of seats.new) result }
+{
+    if apart {
+        turn_once(rt, seats, host, gate, true)
+    } else {
+        turn_in_sweeps(rt, seats, host, gate)
+    }
+}
+
+// Sweeps over the workers until one moves nothing, at most so many and one.
+fn turn_in_sweeps<R: Threads + Sync, F: Fn(u32, i64, i64) -> i64 + Sync, G: Gate + Sync>(
+    rt: &R,
+    seats: &mut [Seat],
+    host: &Host<F>,
+    gate: &G,
+) -> u64
+    requires serves { Serves F.pre F.post host.now }
+    requires served { AreServed (length (lent host.now)) (crew_of seats.old) }
+    requires few { length seats.old ≤ 64 }
+    ensures { HaveTurned (kinds_of (lent host.now)) (crew_of seats.old) (crew_of seats.new) result }
+{
+    let mut moves = turn_once(rt, seats, host, gate, false);
+    'sweeps: for _ in 0..MOST_SWEEPS {
+        let more = turn_once(rt, seats, host, gate, false);
+        moves += more;
+        if more == 0 {
+            break;
+        }
+    }
+    moves
+}
+
+// One turn of each worker, and how many moves they made.
+fn turn_once<R: Threads + Sync, F: Fn(u32, i64, i64) -> i64 + Sync, G: Gate + Sync>(
+    rt: &R,
+    seats: &mut [Seat],
+    host: &Host<F>,
+    gate: &G,
+    apart: bool,
+) -> u64
+    requires serves { Serves F.pre F.post host.now }
+    requires served { AreServed (length (lent host.now)) (crew_of seats.old) }
+    requires few { length seats.old ≤ 64 }
+    ensures turned { HaveTurned (kinds_of (lent host.now)) (crew_of seats.old) (crew_of seats.new) result }
+    ensures few { result ≤ 4398046511104 }
 {
     turn_each(rt, seats, host, gate, apart);
     moves_in(seats)
@@ -77,7 +120,7 @@ fn turn_each<R: Threads + Sync, F: Fn(u32, i64, i64) -> i64 + Sync, G: Gate + Sy
     if apart && seats.len() > 1 {
         turn_side_by_side(rt, seats, host, gate);
     } else {
-        turn_in_place(seats, host, gate);
+        turn_in_place(seats, host, gate, !apart);
     }
 }
 
@@ -101,7 +144,7 @@ fn turn_side_by_side<R: Threads + Sync, F: Fn(u32, i64, i64) -> i64 + Sync, G: G
         &|_, seat: &mut Seat|
             requires { Serves F.pre F.post host.now × All (IsServed (length (lent host.now))) seat.now.worker.parts }
             ensures { IsTurned (kinds_of (lent host.entry.now)) seat.entry.now seat.exit.now }
-        { seat.turn(host, gate) },
+        { seat.turn(host, gate, false) },
     );
 }
 
@@ -110,13 +153,14 @@ fn turn_in_place<F: Fn(u32, i64, i64) -> i64 + Sync, G: Gate + Sync>(
     seats: &mut [Seat],
     host: &Host<F>,
     gate: &G,
+    alone: bool,
 )
     requires serves { Serves F.pre F.post host.now }
     requires served { All (λ seat. All (IsServed (length (lent host.now))) seat.worker.parts) seats.old }
     ensures { AreTurned (kinds_of (lent host.now)) seats.old seats.new }
 {
     for seat in seats.iter_mut() {
-        seat.turn_alone(host, gate);
+        seat.turn(host, gate, alone);
     }
 }
 
@@ -131,7 +175,8 @@ pub(crate) fn all_done(seats: &[Seat]) -> bool
 fn moves_in(seats: &[Seat]) -> u64
     requires few { length seats.now ≤ 64 }
     requires each { All (λ seat. seat.moves ≤ 68719476736) seats.now }
-    ensures { result ≡ sum_by moves_of seats.now }
+    ensures sum { result ≡ sum_by moves_of seats.now }
+    ensures few { result ≤ 4398046511104 }
 {
     let mut moves = 0;
     for seat in seats {

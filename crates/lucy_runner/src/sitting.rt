@@ -6,7 +6,7 @@ ghost use Rattle.lucy_worker.specs.News.{IsNew, ends_by};
 ghost use Rattle.lucy_runner.specs.Crews.{crew_of};
 ghost use Rattle.lucy_runner.specs.Making.{benched, ArePlaced, AreNumbered, CanWork, HaveSeats};
 
-use crate::grow::push;
+use crate::lists::push;
 use crate::place::Place;
 use crate::seat::Seat;
 use lucy_word::OutOfMemory;

@@ -8,5 +8,4 @@ pub mod StepLaws
 pub mod MeetLaws
 pub mod WithinLaws
 pub mod RoundLaws
-pub mod RoundRuns
 pub mod GrowLaws

@@ -1,5 +1,5 @@
 -- What a turn does to a part, and to all of a worker.
-use Rattle.std.specs.Prelude.{ℕ, ◌<◌, ◌≤◌, ◌≡◌, List, ℤ, length, map, sum_by, slice_index_or}
+use Rattle.std.specs.Prelude.{ℕ, ◌+◌, ◌<◌, ◌≤◌, ◌≡◌, List, ℤ, length, map, sum_by, slice_index_or}
 use Rattle.lucy_host.specs.declared.kind.HostKind.{HostKind}
 use Rattle.lucy_ring.specs.Views.{RingName, GiverView, TakerView}
 use Rattle.lucy_stream.specs.Fronts.{IsFront}
@@ -59,3 +59,13 @@ HaveMoved ps qs = (k : ℕ) (d : Part) → k < length ps → CanMove (slice_inde
 -- no part can move
 abbrev pub NoneCan : List Part → Type 0
 NoneCan ps = (k : ℕ) (d : Part) → k < length ps → CanMove (slice_index_or ps k d) → ⊥
+
+-- a turn of so many moves: the parts have run, those that could move at first among them, there are none only where no part could
+-- move at first, and none can in the end
+pub record IsTurnOf (kinds : List HostKind) (ps qs : List Part) (moves : ℕ) : Type 0 where
+  pub run : HaveRun kinds ps qs
+  pub counted : done_by qs ≡ done_by ps + moves
+  pub few : moves ≤ 68719476736
+  pub moved : HaveMoved ps qs
+  pub none : moves ≡ 0 → NoneCan ps
+  pub rests : NoneCan qs

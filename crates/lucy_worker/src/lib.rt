@@ -17,5 +17,5 @@ mod worker;
 pub use gate::{Gate, OpenGate};
 pub use part::Part;
 pub use place::EndPlace;
-pub use round::{a_round_is_a_run, rounds_are_runs};
+pub use round::rounds_are_runs;
 pub use worker::{Worker, meet_between};

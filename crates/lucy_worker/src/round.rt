@@ -2,8 +2,8 @@
 ghost use Rattle.std.specs.Prelude.{ℕ, ◌≡◌, ◌+◌, ◌≤◌, ◌++◌, List, ℤ, length};
 ghost use Rattle.lucy_host.specs.declared.kind.HostKind.{HostKind};
 ghost use Rattle.lucy_stream.specs.Fronts.{IsFront};
-ghost use Rattle.lucy_event.specs.Runs.{IsPossible, IsWhole, between};
-ghost use Rattle.lucy_event.specs.States.{State, IsState, Reaches};
+ghost use Rattle.lucy_event.specs.Runs.{IsPossible};
+ghost use Rattle.lucy_event.specs.States.{State};
 ghost use Rattle.lucy_event.specs.Actors.{StandsAs};
 ghost use Rattle.lucy_event.specs.Plans.{machine, system};
 ghost use Rattle.lucy_net.specs.declared.net.Net.{Net};
@@ -11,9 +11,8 @@ ghost use Rattle.lucy_net.specs.Plans.{plan};
 ghost use Rattle.lucy_ring.specs.Views.{GiverView, TakerView};
 ghost use Rattle.lucy_worker.specs.declared.part.Part.{Part};
 ghost use Rattle.lucy_worker.specs.Parts.{done_of, IsPartAt, CanMove, IsDone};
-ghost use Rattle.lucy_worker.specs.Turns.{done_by};
 ghost use Rattle.lucy_worker.specs.Meets.{HaveMet};
-ghost use Rattle.lucy_worker.specs.Rounds.{IsIn, KnowsAll, IsRound};
+ghost use Rattle.lucy_worker.specs.Rounds.{IsIn, KnowsAll};
 
 /// What holds of the parts of workers holds in the state of the whole net: the actor of a part stands there as the part says,
 /// a part whose ends know all can do its possible event, and a part that is done has done its list. What a meeting shows of a
@@ -34,18 +33,4 @@ pub fn rounds_are_runs()
         IsFront (took ++ t.taken) ((took ++ t.held) ++ g.given) }
     ensures bound { (took : List ℤ) (g : GiverView) (t : TakerView) (h : GiverView) (u : TakerView) → HaveMet g t h u →
         length ((took ++ t.held) ++ g.given) ≤ length (took ++ t.taken) + g.ring.capacity }
-{}
-
-/// After a round the actors and rings are in a state again, which is reached from the state before it by as many events as the
-/// workers answered.
-pub fn a_round_is_a_run()
-    ensures state { (kinds : List HostKind) (inputs : List (List ℤ)) (net : Net) (instants : ℕ) (ps qs : List Part) (low high : State) →
-        IsRound kinds inputs net instants ps qs low high →
-        IsState (machine kinds inputs (plan net instants)) high }
-    ensures reached { (kinds : List HostKind) (inputs : List (List ℤ)) (net : Net) (instants : ℕ) (ps qs : List Part) (low high : State) (order : List ℕ) →
-        IsRound kinds inputs net instants ps qs low high → IsWhole (system (plan net instants)) order →
-        Reaches (machine kinds inputs (plan net instants)) low (between low.done high.done order) high }
-    ensures counted { (kinds : List HostKind) (inputs : List (List ℤ)) (net : Net) (instants : ℕ) (ps qs : List Part) (low high : State) (order : List ℕ) →
-        IsRound kinds inputs net instants ps qs low high → IsWhole (system (plan net instants)) order →
-        done_by qs ≡ done_by ps + length (between low.done high.done order) }
 {}

@@ -11,7 +11,7 @@ use crate::part::Part;
 use lucy_host::Host;
 
 // After so many looks at parts, one after another, that find no move a turn ends: the other workers may move something
-// meanwhile, but for a worker that moves alone. A look takes about 10 ns, so that all of these last about as long as threads take to start for another round, 25 us
+// meanwhile. A look takes about 10 ns, so that all of these last about as long as threads take to start for another round, 25 us
 // for two and 140 us for four: with far fewer a round would end before the last of its threads has begun. A worker that is
 // done looks no further.
 const MOST_VAIN_LOOKS: u64 = 16_384;
@@ -73,15 +73,13 @@ pub(crate) fn all_done(parts: &[Part]) -> bool
 }
 
 // How many looks were in vain after one pass more, which made so many moves.
-fn looks_in_vain(vain: u64, more: u64, parts: &[Part], alone: bool) -> u64
+fn looks_in_vain(vain: u64, more: u64, parts: &[Part]) -> u64
     requires { vain < 16384 }
     ensures some { 0 < more → result ≡ 0 }
     ensures none { more ≡ 0 → vain < result }
 {
     if more > 0 {
         0
-    } else if alone {
-        MOST_VAIN_LOOKS
     } else if all_done(parts) {
         MOST_VAIN_LOOKS
     } else {
@@ -89,9 +87,9 @@ fn looks_in_vain(vain: u64, more: u64, parts: &[Part], alone: bool) -> u64
     }
 }
 
-// Passes over the parts, which turn round whenever one moved nothing: so whatever their order, an item goes from part to part in
-// one of two passes, and while items follow one another each pass moves one along every ring of a chain, in either direction.
-// They end when so many looks in a row found nothing. The gate was passed once before.
+// Passes over the parts, each in the other direction than the one before: so whatever their order, an item goes from part to part
+// in one of two passes, also where it goes round a loop. They end when so many looks in a row found nothing; of a worker that
+// moves alone there is the first pass only. The gate was passed once before.
 pub(crate) fn turn<F: Fn(u32, i64, i64) -> i64 + Sync>(
     parts: &mut [Part],
     host: &Host<F>,
@@ -108,11 +106,11 @@ pub(crate) fn turn<F: Fn(u32, i64, i64) -> i64 + Sync>(
 {
     let mut moves = pass_on(parts, host);
     let mut back = true;
-    let mut vain = 0;
+    let mut vain = if alone { MOST_VAIN_LOOKS } else { 0 };
     while vain < MOST_VAIN_LOOKS {
         let more = pass(parts, host, back);
-        back = back != (more == 0);
-        vain = looks_in_vain(vain, more, parts, alone);
+        back = !back;
+        vain = looks_in_vain(vain, more, parts);
         moves += more;
     }
     moves

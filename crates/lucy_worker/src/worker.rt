@@ -4,7 +4,7 @@ ghost use Rattle.lucy_host.specs.Host.{Serves, lent};
 ghost use Rattle.lucy_host.specs.Operators.{kinds_of};
 ghost use Rattle.lucy_worker.specs.declared.part.Part.{Part};
 ghost use Rattle.lucy_worker.specs.Parts.{IsDone};
-ghost use Rattle.lucy_worker.specs.Turns.{IsServed, HaveRun, HaveMoved, NoneCan, done_by};
+ghost use Rattle.lucy_worker.specs.Turns.{IsServed, IsTurnOf};
 ghost use Rattle.lucy_worker.specs.News.{IsNew, ends_by};
 ghost use Rattle.lucy_worker.specs.Meets.{HasGiver, HasTaker, AreOfOneRing, MetBetween, MetWithin};
 ghost use Rattle.lucy_worker.specs.Growing.{HasSpared, HasSpare, CanExtend, IsExtended};
@@ -68,17 +68,12 @@ impl Worker {
         requires served { All (IsServed (length (lent host.now))) self.old.parts }
         ensures number { self.new.number ≡ self.old.number }
         ensures passed { G.passed gate.now self.old.number }
-        ensures run { HaveRun (kinds_of (lent host.now)) self.old.parts self.new.parts }
-        ensures moves { done_by self.new.parts ≡ done_by self.old.parts + result }
-        ensures few { result ≤ 68719476736 }
-        ensures moved { HaveMoved self.old.parts self.new.parts }
-        ensures none { result ≡ 0 → NoneCan self.old.parts }
-        ensures rests { NoneCan self.new.parts }
+        ensures turned { IsTurnOf (kinds_of (lent host.now)) self.old.parts self.new.parts result }
     {
         self.turn(host, gate, false)
     }
 
-    /// The same while no other worker moves, so that it waits for none: it ends once one pass has found nothing more.
+    /// The same while no other worker moves, so that it waits for none: it is one pass over the actors.
     pub fn advance_alone<F: Fn(u32, i64, i64) -> i64 + Sync, G: Gate + Sync>(
         &mut self,
         host: &Host<F>,
@@ -88,16 +83,12 @@ impl Worker {
         requires served { All (IsServed (length (lent host.now))) self.old.parts }
         ensures number { self.new.number ≡ self.old.number }
         ensures passed { G.passed gate.now self.old.number }
-        ensures run { HaveRun (kinds_of (lent host.now)) self.old.parts self.new.parts }
-        ensures moves { done_by self.new.parts ≡ done_by self.old.parts + result }
-        ensures few { result ≤ 68719476736 }
-        ensures moved { HaveMoved self.old.parts self.new.parts }
-        ensures none { result ≡ 0 → NoneCan self.old.parts }
-        ensures rests { NoneCan self.new.parts }
+        ensures turned { IsTurnOf (kinds_of (lent host.now)) self.old.parts self.new.parts result }
     {
         self.turn(host, gate, true)
     }
 
+    // Passes the gate, and then makes a turn.
     fn turn<F: Fn(u32, i64, i64) -> i64 + Sync, G: Gate + Sync>(
         &mut self,
         host: &Host<F>,
@@ -108,12 +99,7 @@ impl Worker {
         requires served { All (IsServed (length (lent host.now))) self.old.parts }
         ensures number { self.new.number ≡ self.old.number }
         ensures passed { G.passed gate.now self.old.number }
-        ensures run { HaveRun (kinds_of (lent host.now)) self.old.parts self.new.parts }
-        ensures moves { done_by self.new.parts ≡ done_by self.old.parts + result }
-        ensures few { result ≤ 68719476736 }
-        ensures moved { HaveMoved self.old.parts self.new.parts }
-        ensures none { result ≡ 0 → NoneCan self.old.parts }
-        ensures rests { NoneCan self.new.parts }
+        ensures turned { IsTurnOf (kinds_of (lent host.now)) self.old.parts self.new.parts result }
     {
         let mut passages = Passages::none();
         passages.pass(gate, self.number);

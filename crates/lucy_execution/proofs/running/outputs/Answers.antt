@@ -1,6 +1,6 @@
 use Rattle.std.proofs.Common.{◌<◌, ◌-◌, ◌++◌, ◌∷◌, [], length, ap, refl, ◌∙◌, arith}
 use Rattle.lucy_meaning.specs.Spots.{main_of, results_in}
-use Rattle.lucy_execution.proofs.OutputLaws.{main_here, results_here, output_there, told_whole, next_output}
+use Rattle.lucy_execution.proofs.OutputLaws.{main_here, results_here, output_there, next_output}
 use Rattle.lucy_execution.proofs.running.outputs.Goals as goal
 
 pub output-requires : goal.output-requires
@@ -16,4 +16,4 @@ each-preserved c =
     let main = main_here nodes c.nodes.result (c.nodes.result - 1) c.node.result.now c.nodes.ensures.count refl c.node.ensures.is in
     let within : c.each.i < length (results_in (main_of nodes)) = omega (arith, c.each-test.true, ap length c.list-results.ensures, results_here nodes c.node.result.now main) in
     c.in_ok-add.ensures ∙ ap (λ ls. ls ++ c.output.result.now ∷ []) c.each.invariant
-    ∙ next_output c.args.runner.now.seen nodes c.args.clocks.now c.nodes.ensures.proper c.requires.flat c.requires.over c.each.i within c.output.result.now (told_whole c.args.runner.now c.requires.whole c.each.i c.output.result.now c.output.ensures.finished)
+    ∙ next_output c.args.runner.now nodes c.args.clocks.now c.nodes.ensures.proper c.requires.flat c.requires.over c.each.i within c.output.result.now c.output.ensures.finished

@@ -1,48 +1,20 @@
-use Rattle.std.proofs.Common.{◌≤◌, ◌≡◌, List, length, map, ap, sym, subst, ◌∙◌, arith}
 use Rattle.lucy_host.specs.Host.{lent}
-use Rattle.lucy_host.specs.Operators.{Operator, kinds_of}
+use Rattle.lucy_host.specs.Operators.{kinds_of}
 use Rattle.lucy_cause.specs.Schedules.{events_at}
-use Rattle.lucy_core.specs.Seen.{Seen, IsFixed, done_of}
-use Rattle.lucy_flat.specs.Flat.{IsFlat}
-use Rattle.lucy_runner.specs.Views.{input_count, inputs_for}
-use Rattle.lucy_execution.specs.Streams.{main_streams}
 use Rattle.lucy_execution.specs.Running.{HasSchedule}
-use Rattle.lucy_execution.proofs.NetLaws.{fixed}
-use Rattle.lucy_execution.proofs.InputLaws.{inputs_counted, inputs_same}
 use Rattle.lucy_execution.proofs.StreamLaws.{lengths}
-use Rattle.lucy_execution.proofs.OutputLaws.{first_unbegun, known_lengths}
+use Rattle.lucy_execution.proofs.OutputLaws.{known_lengths}
+use Rattle.lucy_execution.proofs.PlayLaws.{told_whole}
 use Rattle.lucy_execution.proofs.running.run_net.Goals as goal
 
-pub new-requires : goal.new-requires
-new-requires g c =
-    let r = c.requires in
-    subst (λ (ops : List Operator). IsFixed c.args.net c.args.schedule c.args.inputs ops c.args.instants) (sym c.ops.ensures)
-    (fixed c.args.placed.now.nodes c.args.clocks.now c.nodes.ensures.proper c.args.net r.flat c.args.schedule c.args.inputs (lent c.args.host.now) c.args.placed.now.operators c.args.instants c.nodes.ensures.operators r.known r.sound r.suffice r.early)
+pub returns-clause-ok : goal.returns-clause-ok
+returns-clause-ok g c =
+    told_whole c.outputs.result c.in_ok-player.player c.args.placed.now.nodes c.args.clocks.now (kinds_of (lent c.args.host.now)) c.args.inputs c.args.instants c.in_ok-player.ensures c.outputs.ensures
 
-pub run_core-requires-clause-unbegun : goal.run_core-requires-clause-unbegun
-run_core-requires-clause-unbegun g c κs within = λ a.
-    ap (λ (s : Seen). done_of s.done a) c.in-Ok-new.ensures ∙ first_unbegun c.args.net c.args.schedule c.args.inputs c.ops.result.now c.args.instants a
-
-pub returns-in-Ok-new-clause-counts : goal.returns-in-Ok-new-clause-counts
-returns-in-Ok-new-clause-counts g c =
+pub returns-clause-counts : goal.returns-clause-counts
+returns-clause-counts g c =
     let nodes = c.args.placed.now.nodes in
     let clocks = c.args.clocks.now in
     let r = c.requires in
     let schedule : HasSchedule nodes clocks = record { net = c.args.net; events = events_at c.args.schedule; flat = r.flat; sound = r.sound } in
-    known_lengths c.run_core.result _ _ c.run_core.ensures
-    (ap (λ (s : Seen). map length (main_streams (kinds_of s.operators) s.inputs nodes clocks s.instants)) c.in-Ok-new.ensures
-    ∙ lengths nodes clocks c.nodes.ensures.proper schedule (kinds_of c.ops.result.now) c.args.inputs c.args.instants r.suffice)
-
-pub run_core-requires-clause-flat : goal.run_core-requires-clause-flat
-run_core-requires-clause-flat g c κs within =
-    subst (λ (s : Seen). IsFlat c.args.placed.now.nodes c.args.clocks.now s.net) (sym c.in-Ok-new.ensures) c.requires.flat
-
-pub run_core-requires-clause-counted : goal.run_core-requires-clause-counted
-run_core-requires-clause-counted g c κs within =
-    let count = inputs_counted c.args.placed.now.nodes c.args.clocks.now c.nodes.ensures.proper c.args.net c.requires.flat in
-    subst (λ (s : Seen). input_count s.net.actors ≤ length s.inputs) (sym c.in-Ok-new.ensures) (omega (arith, count, c.requires.inputs))
-
-pub run_core-requires-clause-inputs : goal.run_core-requires-clause-inputs
-run_core-requires-clause-inputs g c κs within =
-    subst (λ (s : Seen). inputs_for s.net s.inputs ≡ s.inputs) (sym c.in-Ok-new.ensures)
-    (inputs_same c.args.placed.now.nodes c.args.clocks.now c.nodes.ensures.proper c.args.net c.requires.flat c.args.inputs c.requires.inputs)
+    known_lengths c.outputs.result _ _ (returns-clause-ok g c) (lengths nodes clocks c.nodes.ensures.proper schedule (kinds_of (lent c.args.host.now)) c.args.inputs c.args.instants r.suffice)

@@ -1,18 +1,20 @@
-use Rattle.std.proofs.Common.{ap, sym, ◌∙◌, refl, subst, inl, inr}
+use Rattle.std.proofs.Common.{◌≡◌, ℕ, [], Err, length, ap, sym, ◌∙◌, subst, arith}
 use Rattle.std.proofs.lemmas.Result.{IfOk-at_ok}
 use Rattle.std.specs.declared.alloc.Global.{Global}
 use Rattle.std.specs.declared.vec.Vec.{Vec}
-use Rattle.std.specs.Prelude.{ℕ, ◌≡◌, length}
-use Rattle.lucy_feed.specs.declared.feeds.Feed.{Feed}
 use Rattle.lucy_host.specs.Host.{lent}
 use Rattle.lucy_host.specs.Operators.{kinds_of}
-use Rattle.lucy_run.proofs.AcceptedLaws.{few_inputs, inputs_count, outputs_count}
-use Rattle.lucy_run.proofs.EndsLaws.{on_ok, on_err, run_unbegun, run_broken, run_out, run_done, lines_failed, heading_failed}
+use Rattle.lucy_feed.specs.Sources.{seen_source}
+use Rattle.lucy_output.specs.declared.error.OutputError.TheVariants as error
+use Rattle.lucy_output.specs.Sinks.{seen_sink}
+use Rattle.lucy_execution.specs.Streams.{param_words}
 use Rattle.lucy_run.specs.Owes.{heading}
+use Rattle.lucy_run.specs.Steps.{IsWhole}
+use Rattle.lucy_run.specs.Courses.{CanRun, words_of, lines_of, IsAlong, IsLast, BreaksOff}
+use Rattle.lucy_run.proofs.AcceptedLaws.{inputs_count, few_inputs, can_run}
+use Rattle.lucy_run.proofs.OverLaws.{words_count}
+use Rattle.lucy_run.proofs.EndsLaws.{on_ok, on_err, at_ok, at_err, empty_of, few_most, ends_whole, program, along_here, run_unbegun, run_broken, run_unplayed, run_whole, run_failed, run_out_of_memory, lines_failed, heading_failed}
 use Rattle.lucy_run.proofs.running.run.Goals as goal
-
-pub main_feed-requires : goal.main_feed-requires
-main_feed-requires g c = few_inputs _ c.requires.accepted.0 c.requires.accepted.1 c.args.accepted c.requires.accepted.2
 
 pub returns-in-Err-clause-ends : goal.returns-in-Err-clause-ends
 returns-in-Err-clause-ends g c = run_unbegun (kinds_of (lent c.args.host.now)) c.args.accepted c.args.instants _ _
@@ -27,32 +29,124 @@ returns-in-Err-write_text-clause-in_order g c = λ is.
     let text = c.deref.ensures.value ∙ IfOk-at_ok (λ (v : Vec ℕ Global). v.items ≡ heading c.args.accepted) c.in-Ok.is c.heading.ensures in
     heading_failed (kinds_of (lent c.args.host.now)) c.args.accepted c.args.instants _ _ _ c.deref.result.now text (on_err _ _ c.in-Err-write_text.is c.write_text.ensures.failed)
 
-pub returns-in-Err-main_feed-clause-ends : goal.returns-in-Err-main_feed-clause-ends
-returns-in-Err-main_feed-clause-ends g c =
+pub new-requires-clause-inputs : goal.new-requires-clause-inputs
+new-requires-clause-inputs g c κs within = inputs_count _ c.requires.accepted.0 c.requires.accepted.1 c.args.accepted c.requires.accepted.2
+
+pub new-requires-clause-few : goal.new-requires-clause-few
+new-requires-clause-few g c κs within = few_inputs _ c.requires.accepted.0 c.requires.accepted.1 c.args.accepted c.requires.accepted.2
+
+pub returns-in-Err-new-clause-ends : goal.returns-in-Err-new-clause-ends
+returns-in-Err-new-clause-ends g c =
     let text = c.deref.ensures.value ∙ IfOk-at_ok (λ (v : Vec ℕ Global). v.items ≡ heading c.args.accepted) c.in-Ok.is c.heading.ensures in
-    let (taken, stop, read, fed) = c.main_feed.ensures.fed in
-    run_out (kinds_of (lent c.args.host.now)) c.args.accepted c.args.instants _ _ _ _ c.deref.result.now _ c.main_feed.result taken stop read fed c.in-Err-main_feed.is text
-    (on_ok _ _ c.in-Ok-write_text.is c.write_text.ensures.ok)
+    let head = on_ok _ _ c.in-Ok-write_text.is c.write_text.ensures.ok in
+    run_unplayed (kinds_of (lent c.args.host.now)) c.args.accepted c.args.instants (seen_source (g.I.Source.left c.args.source.now) (g.I.Source.ended c.args.source.now) (g.I.Source.faults c.args.source.now) (g.I.Source.since_stop c.args.source.now)) (seen_sink (g.O.Sink.written c.args.out.now) (g.O.Sink.faults c.args.out.now) (g.O.Sink.since_stop c.args.out.now)) (seen_sink (g.O.Sink.written c.write_text.new.sink) (g.O.Sink.faults c.write_text.new.sink) (g.O.Sink.since_stop c.write_text.new.sink)) c.deref.result.now text head
 
-pub write_fed-requires-clause-outputs : goal.write_fed-requires-clause-outputs
-write_fed-requires-clause-outputs g c = λ κs within. outputs_count _ c.requires.accepted.0 c.requires.accepted.1 c.args.accepted c.requires.accepted.2
+pub play-requires-clause-kinds : goal.play-requires-clause-kinds
+play-requires-clause-kinds g c κs within =
+    let along : IsAlong (program (kinds_of (lent c.args.host.now)) c.args.accepted c.args.instants) (seen_source (g.I.Source.left c.args.source.now) (g.I.Source.ended c.args.source.now) (g.I.Source.faults c.args.source.now) (g.I.Source.since_stop c.args.source.now)) (seen_sink (g.O.Sink.written c.write_text.new.sink) (g.O.Sink.faults c.write_text.new.sink) (g.O.Sink.since_stop c.write_text.new.sink)) [] 0 (seen_source (g.I.Source.left c.args.source.now) (g.I.Source.ended c.args.source.now) (g.I.Source.faults c.args.source.now) (g.I.Source.since_stop c.args.source.now)) (seen_sink (g.O.Sink.written c.write_text.new.sink) (g.O.Sink.faults c.write_text.new.sink) (g.O.Sink.since_stop c.write_text.new.sink)) c.in-Ok-new.course.reader c.in-Ok-new.course.player c.in-Ok-new.course.writer =
+    along_here (kinds_of (lent c.args.host.now)) c.args.accepted c.args.instants c.deref-3.result.now c.deref-4.result.now c.deref-3.ensures.value c.deref-4.ensures.value (seen_source (g.I.Source.left c.args.source.now) (g.I.Source.ended c.args.source.now) (g.I.Source.faults c.args.source.now) (g.I.Source.since_stop c.args.source.now)) (seen_sink (g.O.Sink.written c.write_text.new.sink) (g.O.Sink.faults c.write_text.new.sink) (g.O.Sink.since_stop c.write_text.new.sink)) [] 0 (seen_source (g.I.Source.left c.args.source.now) (g.I.Source.ended c.args.source.now) (g.I.Source.faults c.args.source.now) (g.I.Source.since_stop c.args.source.now)) (seen_sink (g.O.Sink.written c.write_text.new.sink) (g.O.Sink.faults c.write_text.new.sink) (g.O.Sink.since_stop c.write_text.new.sink)) c.in-Ok-new.course.reader c.in-Ok-new.course.player c.in-Ok-new.course.writer (c.in-Ok-new.ensures.along (seen_source (g.I.Source.left c.args.source.now) (g.I.Source.ended c.args.source.now) (g.I.Source.faults c.args.source.now) (g.I.Source.since_stop c.args.source.now)) (seen_sink (g.O.Sink.written c.write_text.new.sink) (g.O.Sink.faults c.write_text.new.sink) (g.O.Sink.since_stop c.write_text.new.sink))) in
+    sym along.run.kinds
 
-pub write_fed-requires-clause-inputs : goal.write_fed-requires-clause-inputs
-write_fed-requires-clause-inputs g c = λ κs within.
-    let lists = IfOk-at_ok (λ (feed : Feed). length feed.items ≡ length c.args.accepted.inputs.items) c.in-Ok-main_feed.is c.main_feed.ensures.lists in
-    sym (lists ∙ inputs_count _ c.requires.accepted.0 c.requires.accepted.1 c.args.accepted c.requires.accepted.2)
+pub play-requires-clause-along : goal.play-requires-clause-along
+play-requires-clause-along g c κs within =
+    let can : CanRun (program (kinds_of (lent c.args.host.now)) c.args.accepted c.args.instants) = can_run _ c.requires.accepted.0 c.requires.accepted.1 c.args.accepted c.requires.accepted.2 (kinds_of (lent c.args.host.now)) in
+    let same : c.param_words-words.result.now ≡ words_of (program (kinds_of (lent c.args.host.now)) c.args.accepted c.args.instants) = c.param_words-words.ensures.words ∙ ap (λ cs. param_words c.args.accepted.placed.nodes cs) c.deref-2.ensures.value in
+    let along : IsAlong (program (kinds_of (lent c.args.host.now)) c.args.accepted c.args.instants) (seen_source (g.I.Source.left c.args.source.now) (g.I.Source.ended c.args.source.now) (g.I.Source.faults c.args.source.now) (g.I.Source.since_stop c.args.source.now)) (seen_sink (g.O.Sink.written c.write_text.new.sink) (g.O.Sink.faults c.write_text.new.sink) (g.O.Sink.since_stop c.write_text.new.sink)) [] 0 (seen_source (g.I.Source.left c.args.source.now) (g.I.Source.ended c.args.source.now) (g.I.Source.faults c.args.source.now) (g.I.Source.since_stop c.args.source.now)) (seen_sink (g.O.Sink.written c.write_text.new.sink) (g.O.Sink.faults c.write_text.new.sink) (g.O.Sink.since_stop c.write_text.new.sink)) c.in-Ok-new.course.reader c.in-Ok-new.course.player c.in-Ok-new.course.writer =
+    along_here (kinds_of (lent c.args.host.now)) c.args.accepted c.args.instants c.deref-3.result.now c.deref-4.result.now c.deref-3.ensures.value c.deref-4.ensures.value (seen_source (g.I.Source.left c.args.source.now) (g.I.Source.ended c.args.source.now) (g.I.Source.faults c.args.source.now) (g.I.Source.since_stop c.args.source.now)) (seen_sink (g.O.Sink.written c.write_text.new.sink) (g.O.Sink.faults c.write_text.new.sink) (g.O.Sink.since_stop c.write_text.new.sink)) [] 0 (seen_source (g.I.Source.left c.args.source.now) (g.I.Source.ended c.args.source.now) (g.I.Source.faults c.args.source.now) (g.I.Source.since_stop c.args.source.now)) (seen_sink (g.O.Sink.written c.write_text.new.sink) (g.O.Sink.faults c.write_text.new.sink) (g.O.Sink.since_stop c.write_text.new.sink)) c.in-Ok-new.course.reader c.in-Ok-new.course.player c.in-Ok-new.course.writer (c.in-Ok-new.ensures.along (seen_source (g.I.Source.left c.args.source.now) (g.I.Source.ended c.args.source.now) (g.I.Source.faults c.args.source.now) (g.I.Source.since_stop c.args.source.now)) (seen_sink (g.O.Sink.written c.write_text.new.sink) (g.O.Sink.faults c.write_text.new.sink) (g.O.Sink.since_stop c.write_text.new.sink))) in
+    ((program (kinds_of (lent c.args.host.now)) c.args.accepted c.args.instants), (seen_source (g.I.Source.left c.args.source.now) (g.I.Source.ended c.args.source.now) (g.I.Source.faults c.args.source.now) (g.I.Source.since_stop c.args.source.now)), (seen_sink (g.O.Sink.written c.write_text.new.sink) (g.O.Sink.faults c.write_text.new.sink) (g.O.Sink.since_stop c.write_text.new.sink)), can, same, along)
+
+pub finish-requires-clause-over : goal.finish-requires-clause-over
+finish-requires-clause-over g c =
+    let can : CanRun (program (kinds_of (lent c.args.host.now)) c.args.accepted c.args.instants) = can_run _ c.requires.accepted.0 c.requires.accepted.1 c.args.accepted c.requires.accepted.2 (kinds_of (lent c.args.host.now)) in
+    let same : c.param_words-words.result.now ≡ words_of (program (kinds_of (lent c.args.host.now)) c.args.accepted c.args.instants) = c.param_words-words.ensures.words ∙ ap (λ cs. param_words c.args.accepted.placed.nodes cs) c.deref-2.ensures.value in
+    let along : IsAlong (program (kinds_of (lent c.args.host.now)) c.args.accepted c.args.instants) (seen_source (g.I.Source.left c.args.source.now) (g.I.Source.ended c.args.source.now) (g.I.Source.faults c.args.source.now) (g.I.Source.since_stop c.args.source.now)) (seen_sink (g.O.Sink.written c.write_text.new.sink) (g.O.Sink.faults c.write_text.new.sink) (g.O.Sink.since_stop c.write_text.new.sink)) [] 0 (seen_source (g.I.Source.left c.args.source.now) (g.I.Source.ended c.args.source.now) (g.I.Source.faults c.args.source.now) (g.I.Source.since_stop c.args.source.now)) (seen_sink (g.O.Sink.written c.write_text.new.sink) (g.O.Sink.faults c.write_text.new.sink) (g.O.Sink.since_stop c.write_text.new.sink)) c.in-Ok-new.course.reader c.in-Ok-new.course.player c.in-Ok-new.course.writer =
+    along_here (kinds_of (lent c.args.host.now)) c.args.accepted c.args.instants c.deref-3.result.now c.deref-4.result.now c.deref-3.ensures.value c.deref-4.ensures.value (seen_source (g.I.Source.left c.args.source.now) (g.I.Source.ended c.args.source.now) (g.I.Source.faults c.args.source.now) (g.I.Source.since_stop c.args.source.now)) (seen_sink (g.O.Sink.written c.write_text.new.sink) (g.O.Sink.faults c.write_text.new.sink) (g.O.Sink.since_stop c.write_text.new.sink)) [] 0 (seen_source (g.I.Source.left c.args.source.now) (g.I.Source.ended c.args.source.now) (g.I.Source.faults c.args.source.now) (g.I.Source.since_stop c.args.source.now)) (seen_sink (g.O.Sink.written c.write_text.new.sink) (g.O.Sink.faults c.write_text.new.sink) (g.O.Sink.since_stop c.write_text.new.sink)) c.in-Ok-new.course.reader c.in-Ok-new.course.player c.in-Ok-new.course.writer (c.in-Ok-new.ensures.along (seen_source (g.I.Source.left c.args.source.now) (g.I.Source.ended c.args.source.now) (g.I.Source.faults c.args.source.now) (g.I.Source.since_stop c.args.source.now)) (seen_sink (g.O.Sink.written c.write_text.new.sink) (g.O.Sink.faults c.write_text.new.sink) (g.O.Sink.since_stop c.write_text.new.sink))) in
+    let (items, horizon, last, now) = at_ok c.play.result c.in-Ok-play.field-0 _ _ c.in-Ok-play.is (c.play.ensures.played (program (kinds_of (lent c.args.host.now)) c.args.accepted c.args.instants) (seen_source (g.I.Source.left c.args.source.now) (g.I.Source.ended c.args.source.now) (g.I.Source.faults c.args.source.now) (g.I.Source.since_stop c.args.source.now)) (seen_sink (g.O.Sink.written c.write_text.new.sink) (g.O.Sink.faults c.write_text.new.sink) (g.O.Sink.since_stop c.write_text.new.sink)) can same along) in
+    ((program (kinds_of (lent c.args.host.now)) c.args.accepted c.args.instants), (seen_source (g.I.Source.left c.args.source.now) (g.I.Source.ended c.args.source.now) (g.I.Source.faults c.args.source.now) (g.I.Source.since_stop c.args.source.now)), (seen_sink (g.O.Sink.written c.write_text.new.sink) (g.O.Sink.faults c.write_text.new.sink) (g.O.Sink.since_stop c.write_text.new.sink)), (seen_sink (g.O.Sink.written c.play.new.out) (g.O.Sink.faults c.play.new.out) (g.O.Sink.since_stop c.play.new.out)), items, horizon, can, same, now)
+
+pub finish-requires-clause-given : goal.finish-requires-clause-given
+finish-requires-clause-given g c = λ none.
+    let can : CanRun (program (kinds_of (lent c.args.host.now)) c.args.accepted c.args.instants) = can_run _ c.requires.accepted.0 c.requires.accepted.1 c.args.accepted c.requires.accepted.2 (kinds_of (lent c.args.host.now)) in
+    let same : c.param_words-words.result.now ≡ words_of (program (kinds_of (lent c.args.host.now)) c.args.accepted c.args.instants) = c.param_words-words.ensures.words ∙ ap (λ cs. param_words c.args.accepted.placed.nodes cs) c.deref-2.ensures.value in
+    c.requires.given (empty_of c.args.accepted.inputs.items (words_count (program (kinds_of (lent c.args.host.now)) c.args.accepted c.args.instants) can ∙ ap length (sym same ∙ none)))
+
+pub returns-in-Ok-play-clause-ends : goal.returns-in-Ok-play-clause-ends
+returns-in-Ok-play-clause-ends g c =
+    let text = c.deref.ensures.value ∙ IfOk-at_ok (λ (v : Vec ℕ Global). v.items ≡ heading c.args.accepted) c.in-Ok.is c.heading.ensures in
+    let head = on_ok _ _ c.in-Ok-write_text.is c.write_text.ensures.ok in
+    let can : CanRun (program (kinds_of (lent c.args.host.now)) c.args.accepted c.args.instants) = can_run _ c.requires.accepted.0 c.requires.accepted.1 c.args.accepted c.requires.accepted.2 (kinds_of (lent c.args.host.now)) in
+    let same : c.param_words-words.result.now ≡ words_of (program (kinds_of (lent c.args.host.now)) c.args.accepted c.args.instants) = c.param_words-words.ensures.words ∙ ap (λ cs. param_words c.args.accepted.placed.nodes cs) c.deref-2.ensures.value in
+    let along : IsAlong (program (kinds_of (lent c.args.host.now)) c.args.accepted c.args.instants) (seen_source (g.I.Source.left c.args.source.now) (g.I.Source.ended c.args.source.now) (g.I.Source.faults c.args.source.now) (g.I.Source.since_stop c.args.source.now)) (seen_sink (g.O.Sink.written c.write_text.new.sink) (g.O.Sink.faults c.write_text.new.sink) (g.O.Sink.since_stop c.write_text.new.sink)) [] 0 (seen_source (g.I.Source.left c.args.source.now) (g.I.Source.ended c.args.source.now) (g.I.Source.faults c.args.source.now) (g.I.Source.since_stop c.args.source.now)) (seen_sink (g.O.Sink.written c.write_text.new.sink) (g.O.Sink.faults c.write_text.new.sink) (g.O.Sink.since_stop c.write_text.new.sink)) c.in-Ok-new.course.reader c.in-Ok-new.course.player c.in-Ok-new.course.writer =
+    along_here (kinds_of (lent c.args.host.now)) c.args.accepted c.args.instants c.deref-3.result.now c.deref-4.result.now c.deref-3.ensures.value c.deref-4.ensures.value (seen_source (g.I.Source.left c.args.source.now) (g.I.Source.ended c.args.source.now) (g.I.Source.faults c.args.source.now) (g.I.Source.since_stop c.args.source.now)) (seen_sink (g.O.Sink.written c.write_text.new.sink) (g.O.Sink.faults c.write_text.new.sink) (g.O.Sink.since_stop c.write_text.new.sink)) [] 0 (seen_source (g.I.Source.left c.args.source.now) (g.I.Source.ended c.args.source.now) (g.I.Source.faults c.args.source.now) (g.I.Source.since_stop c.args.source.now)) (seen_sink (g.O.Sink.written c.write_text.new.sink) (g.O.Sink.faults c.write_text.new.sink) (g.O.Sink.since_stop c.write_text.new.sink)) c.in-Ok-new.course.reader c.in-Ok-new.course.player c.in-Ok-new.course.writer (c.in-Ok-new.ensures.along (seen_source (g.I.Source.left c.args.source.now) (g.I.Source.ended c.args.source.now) (g.I.Source.faults c.args.source.now) (g.I.Source.since_stop c.args.source.now)) (seen_sink (g.O.Sink.written c.write_text.new.sink) (g.O.Sink.faults c.write_text.new.sink) (g.O.Sink.since_stop c.write_text.new.sink))) in
+    let (items, horizon, last, now) = at_ok c.play.result c.in-Ok-play.field-0 _ _ c.in-Ok-play.is (c.play.ensures.played (program (kinds_of (lent c.args.host.now)) c.args.accepted c.args.instants) (seen_source (g.I.Source.left c.args.source.now) (g.I.Source.ended c.args.source.now) (g.I.Source.faults c.args.source.now) (g.I.Source.since_stop c.args.source.now)) (seen_sink (g.O.Sink.written c.write_text.new.sink) (g.O.Sink.faults c.write_text.new.sink) (g.O.Sink.since_stop c.write_text.new.sink)) can same along) in
+    let known = subst (λ n. IsLast (program (kinds_of (lent c.args.host.now)) c.args.accepted c.args.instants) items n horizon c.play.new.self.reader) c.most_instants-most.ensures last in
+    let over = c.finish.ensures.over (program (kinds_of (lent c.args.host.now)) c.args.accepted c.args.instants) (seen_source (g.I.Source.left c.args.source.now) (g.I.Source.ended c.args.source.now) (g.I.Source.faults c.args.source.now) (g.I.Source.since_stop c.args.source.now)) (seen_sink (g.O.Sink.written c.write_text.new.sink) (g.O.Sink.faults c.write_text.new.sink) (g.O.Sink.since_stop c.write_text.new.sink)) (seen_sink (g.O.Sink.written c.play.new.out) (g.O.Sink.faults c.play.new.out) (g.O.Sink.since_stop c.play.new.out)) items horizon can same now known in
+    run_whole (kinds_of (lent c.args.host.now)) c.args.accepted c.args.instants (seen_source (g.I.Source.left c.args.source.now) (g.I.Source.ended c.args.source.now) (g.I.Source.faults c.args.source.now) (g.I.Source.since_stop c.args.source.now)) (seen_source (g.I.Source.left c.finish.new.source) (g.I.Source.ended c.finish.new.source) (g.I.Source.faults c.finish.new.source) (g.I.Source.since_stop c.finish.new.source)) (seen_sink (g.O.Sink.written c.args.out.now) (g.O.Sink.faults c.args.out.now) (g.O.Sink.since_stop c.args.out.now)) (seen_sink (g.O.Sink.written c.write_text.new.sink) (g.O.Sink.faults c.write_text.new.sink) (g.O.Sink.since_stop c.write_text.new.sink)) (seen_sink (g.O.Sink.written c.play.new.out) (g.O.Sink.faults c.play.new.out) (g.O.Sink.since_stop c.play.new.out)) c.deref.result.now c.finish.result text head over
+
+pub returns-in-Ok-play-clause-in_order : goal.returns-in-Ok-play-clause-in_order
+returns-in-Ok-play-clause-in_order g c = λ is.
+    let can : CanRun (program (kinds_of (lent c.args.host.now)) c.args.accepted c.args.instants) = can_run _ c.requires.accepted.0 c.requires.accepted.1 c.args.accepted c.requires.accepted.2 (kinds_of (lent c.args.host.now)) in
+    let same : c.param_words-words.result.now ≡ words_of (program (kinds_of (lent c.args.host.now)) c.args.accepted c.args.instants) = c.param_words-words.ensures.words ∙ ap (λ cs. param_words c.args.accepted.placed.nodes cs) c.deref-2.ensures.value in
+    let along : IsAlong (program (kinds_of (lent c.args.host.now)) c.args.accepted c.args.instants) (seen_source (g.I.Source.left c.args.source.now) (g.I.Source.ended c.args.source.now) (g.I.Source.faults c.args.source.now) (g.I.Source.since_stop c.args.source.now)) (seen_sink (g.O.Sink.written c.write_text.new.sink) (g.O.Sink.faults c.write_text.new.sink) (g.O.Sink.since_stop c.write_text.new.sink)) [] 0 (seen_source (g.I.Source.left c.args.source.now) (g.I.Source.ended c.args.source.now) (g.I.Source.faults c.args.source.now) (g.I.Source.since_stop c.args.source.now)) (seen_sink (g.O.Sink.written c.write_text.new.sink) (g.O.Sink.faults c.write_text.new.sink) (g.O.Sink.since_stop c.write_text.new.sink)) c.in-Ok-new.course.reader c.in-Ok-new.course.player c.in-Ok-new.course.writer =
+    along_here (kinds_of (lent c.args.host.now)) c.args.accepted c.args.instants c.deref-3.result.now c.deref-4.result.now c.deref-3.ensures.value c.deref-4.ensures.value (seen_source (g.I.Source.left c.args.source.now) (g.I.Source.ended c.args.source.now) (g.I.Source.faults c.args.source.now) (g.I.Source.since_stop c.args.source.now)) (seen_sink (g.O.Sink.written c.write_text.new.sink) (g.O.Sink.faults c.write_text.new.sink) (g.O.Sink.since_stop c.write_text.new.sink)) [] 0 (seen_source (g.I.Source.left c.args.source.now) (g.I.Source.ended c.args.source.now) (g.I.Source.faults c.args.source.now) (g.I.Source.since_stop c.args.source.now)) (seen_sink (g.O.Sink.written c.write_text.new.sink) (g.O.Sink.faults c.write_text.new.sink) (g.O.Sink.since_stop c.write_text.new.sink)) c.in-Ok-new.course.reader c.in-Ok-new.course.player c.in-Ok-new.course.writer (c.in-Ok-new.ensures.along (seen_source (g.I.Source.left c.args.source.now) (g.I.Source.ended c.args.source.now) (g.I.Source.faults c.args.source.now) (g.I.Source.since_stop c.args.source.now)) (seen_sink (g.O.Sink.written c.write_text.new.sink) (g.O.Sink.faults c.write_text.new.sink) (g.O.Sink.since_stop c.write_text.new.sink))) in
+    let (items, horizon, last, now) = at_ok c.play.result c.in-Ok-play.field-0 _ _ c.in-Ok-play.is (c.play.ensures.played (program (kinds_of (lent c.args.host.now)) c.args.accepted c.args.instants) (seen_source (g.I.Source.left c.args.source.now) (g.I.Source.ended c.args.source.now) (g.I.Source.faults c.args.source.now) (g.I.Source.since_stop c.args.source.now)) (seen_sink (g.O.Sink.written c.write_text.new.sink) (g.O.Sink.faults c.write_text.new.sink) (g.O.Sink.since_stop c.write_text.new.sink)) can same along) in
+    let known = subst (λ n. IsLast (program (kinds_of (lent c.args.host.now)) c.args.accepted c.args.instants) items n horizon c.play.new.self.reader) c.most_instants-most.ensures last in
+    let over = c.finish.ensures.over (program (kinds_of (lent c.args.host.now)) c.args.accepted c.args.instants) (seen_source (g.I.Source.left c.args.source.now) (g.I.Source.ended c.args.source.now) (g.I.Source.faults c.args.source.now) (g.I.Source.since_stop c.args.source.now)) (seen_sink (g.O.Sink.written c.write_text.new.sink) (g.O.Sink.faults c.write_text.new.sink) (g.O.Sink.since_stop c.write_text.new.sink)) (seen_sink (g.O.Sink.written c.play.new.out) (g.O.Sink.faults c.play.new.out) (g.O.Sink.since_stop c.play.new.out)) items horizon can same now known in
+    absurd (subst IsWhole is (ends_whole (words_of (program (kinds_of (lent c.args.host.now)) c.args.accepted c.args.instants)) c.args.instants over.lists over.fault c.finish.result over.ends))
+
+pub returns-in-Ok-play-clause-unread : goal.returns-in-Ok-play-clause-unread
+returns-in-Ok-play-clause-unread g c = λ none.
+    let can : CanRun (program (kinds_of (lent c.args.host.now)) c.args.accepted c.args.instants) = can_run _ c.requires.accepted.0 c.requires.accepted.1 c.args.accepted c.requires.accepted.2 (kinds_of (lent c.args.host.now)) in
+    let same : c.param_words-words.result.now ≡ words_of (program (kinds_of (lent c.args.host.now)) c.args.accepted c.args.instants) = c.param_words-words.ensures.words ∙ ap (λ cs. param_words c.args.accepted.placed.nodes cs) c.deref-2.ensures.value in
+    let words = empty_of c.param_words-words.result.now (ap length same ∙ sym (words_count _ can) ∙ ap length none) in
+    c.finish.ensures.unread words ∙ c.play.ensures.unread words
+
+pub returns-in-Err-Failed-clause-ends : goal.returns-in-Err-Failed-clause-ends
+returns-in-Err-Failed-clause-ends g c =
+    let text = c.deref.ensures.value ∙ IfOk-at_ok (λ (v : Vec ℕ Global). v.items ≡ heading c.args.accepted) c.in-Ok.is c.heading.ensures in
+    let head = on_ok _ _ c.in-Ok-write_text.is c.write_text.ensures.ok in
+    let can : CanRun (program (kinds_of (lent c.args.host.now)) c.args.accepted c.args.instants) = can_run _ c.requires.accepted.0 c.requires.accepted.1 c.args.accepted c.requires.accepted.2 (kinds_of (lent c.args.host.now)) in
+    let same : c.param_words-words.result.now ≡ words_of (program (kinds_of (lent c.args.host.now)) c.args.accepted c.args.instants) = c.param_words-words.ensures.words ∙ ap (λ cs. param_words c.args.accepted.placed.nodes cs) c.deref-2.ensures.value in
+    let along : IsAlong (program (kinds_of (lent c.args.host.now)) c.args.accepted c.args.instants) (seen_source (g.I.Source.left c.args.source.now) (g.I.Source.ended c.args.source.now) (g.I.Source.faults c.args.source.now) (g.I.Source.since_stop c.args.source.now)) (seen_sink (g.O.Sink.written c.write_text.new.sink) (g.O.Sink.faults c.write_text.new.sink) (g.O.Sink.since_stop c.write_text.new.sink)) [] 0 (seen_source (g.I.Source.left c.args.source.now) (g.I.Source.ended c.args.source.now) (g.I.Source.faults c.args.source.now) (g.I.Source.since_stop c.args.source.now)) (seen_sink (g.O.Sink.written c.write_text.new.sink) (g.O.Sink.faults c.write_text.new.sink) (g.O.Sink.since_stop c.write_text.new.sink)) c.in-Ok-new.course.reader c.in-Ok-new.course.player c.in-Ok-new.course.writer =
+    along_here (kinds_of (lent c.args.host.now)) c.args.accepted c.args.instants c.deref-3.result.now c.deref-4.result.now c.deref-3.ensures.value c.deref-4.ensures.value (seen_source (g.I.Source.left c.args.source.now) (g.I.Source.ended c.args.source.now) (g.I.Source.faults c.args.source.now) (g.I.Source.since_stop c.args.source.now)) (seen_sink (g.O.Sink.written c.write_text.new.sink) (g.O.Sink.faults c.write_text.new.sink) (g.O.Sink.since_stop c.write_text.new.sink)) [] 0 (seen_source (g.I.Source.left c.args.source.now) (g.I.Source.ended c.args.source.now) (g.I.Source.faults c.args.source.now) (g.I.Source.since_stop c.args.source.now)) (seen_sink (g.O.Sink.written c.write_text.new.sink) (g.O.Sink.faults c.write_text.new.sink) (g.O.Sink.since_stop c.write_text.new.sink)) c.in-Ok-new.course.reader c.in-Ok-new.course.player c.in-Ok-new.course.writer (c.in-Ok-new.ensures.along (seen_source (g.I.Source.left c.args.source.now) (g.I.Source.ended c.args.source.now) (g.I.Source.faults c.args.source.now) (g.I.Source.since_stop c.args.source.now)) (seen_sink (g.O.Sink.written c.write_text.new.sink) (g.O.Sink.faults c.write_text.new.sink) (g.O.Sink.since_stop c.write_text.new.sink))) in
+    let off : BreaksOff (program (kinds_of (lent c.args.host.now)) c.args.accepted c.args.instants) (seen_source (g.I.Source.left c.args.source.now) (g.I.Source.ended c.args.source.now) (g.I.Source.faults c.args.source.now) (g.I.Source.since_stop c.args.source.now)) (seen_sink (g.O.Sink.written c.write_text.new.sink) (g.O.Sink.faults c.write_text.new.sink) (g.O.Sink.since_stop c.write_text.new.sink)) c.most_instants-most.result (seen_source (g.I.Source.left c.play.new.source) (g.I.Source.ended c.play.new.source) (g.I.Source.faults c.play.new.source) (g.I.Source.since_stop c.play.new.source)) (seen_sink (g.O.Sink.written c.play.new.out) (g.O.Sink.faults c.play.new.out) (g.O.Sink.since_stop c.play.new.out)) error.Failed =
+    at_err c.play.result error.Failed _ _ (c.in-Err-Failed.is ∙ ap Err c.in-Err-Failed.field-0-is) (c.play.ensures.played (program (kinds_of (lent c.args.host.now)) c.args.accepted c.args.instants) (seen_source (g.I.Source.left c.args.source.now) (g.I.Source.ended c.args.source.now) (g.I.Source.faults c.args.source.now) (g.I.Source.since_stop c.args.source.now)) (seen_sink (g.O.Sink.written c.write_text.new.sink) (g.O.Sink.faults c.write_text.new.sink) (g.O.Sink.since_stop c.write_text.new.sink)) can same along) in
+    run_failed (kinds_of (lent c.args.host.now)) c.args.accepted c.args.instants c.lines_go_on.ensures.blocks can (seen_source (g.I.Source.left c.args.source.now) (g.I.Source.ended c.args.source.now) (g.I.Source.faults c.args.source.now) (g.I.Source.since_stop c.args.source.now)) (seen_source (g.I.Source.left c.play.new.source) (g.I.Source.ended c.play.new.source) (g.I.Source.faults c.play.new.source) (g.I.Source.since_stop c.play.new.source)) (seen_sink (g.O.Sink.written c.args.out.now) (g.O.Sink.faults c.args.out.now) (g.O.Sink.since_stop c.args.out.now)) (seen_sink (g.O.Sink.written c.write_text.new.sink) (g.O.Sink.faults c.write_text.new.sink) (g.O.Sink.since_stop c.write_text.new.sink)) (seen_sink (g.O.Sink.written c.play.new.out) (g.O.Sink.faults c.play.new.out) (g.O.Sink.since_stop c.play.new.out)) c.deref.result.now c.most_instants-most.result c.most_instants-most.ensures text head off
+
+pub returns-in-Err-Failed-clause-in_order : goal.returns-in-Err-Failed-clause-in_order
+returns-in-Err-Failed-clause-in_order g c = λ is.
+    let text = c.deref.ensures.value ∙ IfOk-at_ok (λ (v : Vec ℕ Global). v.items ≡ heading c.args.accepted) c.in-Ok.is c.heading.ensures in
+    let head = on_ok _ _ c.in-Ok-write_text.is c.write_text.ensures.ok in
+    let can : CanRun (program (kinds_of (lent c.args.host.now)) c.args.accepted c.args.instants) = can_run _ c.requires.accepted.0 c.requires.accepted.1 c.args.accepted c.requires.accepted.2 (kinds_of (lent c.args.host.now)) in
+    let same : c.param_words-words.result.now ≡ words_of (program (kinds_of (lent c.args.host.now)) c.args.accepted c.args.instants) = c.param_words-words.ensures.words ∙ ap (λ cs. param_words c.args.accepted.placed.nodes cs) c.deref-2.ensures.value in
+    let along : IsAlong (program (kinds_of (lent c.args.host.now)) c.args.accepted c.args.instants) (seen_source (g.I.Source.left c.args.source.now) (g.I.Source.ended c.args.source.now) (g.I.Source.faults c.args.source.now) (g.I.Source.since_stop c.args.source.now)) (seen_sink (g.O.Sink.written c.write_text.new.sink) (g.O.Sink.faults c.write_text.new.sink) (g.O.Sink.since_stop c.write_text.new.sink)) [] 0 (seen_source (g.I.Source.left c.args.source.now) (g.I.Source.ended c.args.source.now) (g.I.Source.faults c.args.source.now) (g.I.Source.since_stop c.args.source.now)) (seen_sink (g.O.Sink.written c.write_text.new.sink) (g.O.Sink.faults c.write_text.new.sink) (g.O.Sink.since_stop c.write_text.new.sink)) c.in-Ok-new.course.reader c.in-Ok-new.course.player c.in-Ok-new.course.writer =
+    along_here (kinds_of (lent c.args.host.now)) c.args.accepted c.args.instants c.deref-3.result.now c.deref-4.result.now c.deref-3.ensures.value c.deref-4.ensures.value (seen_source (g.I.Source.left c.args.source.now) (g.I.Source.ended c.args.source.now) (g.I.Source.faults c.args.source.now) (g.I.Source.since_stop c.args.source.now)) (seen_sink (g.O.Sink.written c.write_text.new.sink) (g.O.Sink.faults c.write_text.new.sink) (g.O.Sink.since_stop c.write_text.new.sink)) [] 0 (seen_source (g.I.Source.left c.args.source.now) (g.I.Source.ended c.args.source.now) (g.I.Source.faults c.args.source.now) (g.I.Source.since_stop c.args.source.now)) (seen_sink (g.O.Sink.written c.write_text.new.sink) (g.O.Sink.faults c.write_text.new.sink) (g.O.Sink.since_stop c.write_text.new.sink)) c.in-Ok-new.course.reader c.in-Ok-new.course.player c.in-Ok-new.course.writer (c.in-Ok-new.ensures.along (seen_source (g.I.Source.left c.args.source.now) (g.I.Source.ended c.args.source.now) (g.I.Source.faults c.args.source.now) (g.I.Source.since_stop c.args.source.now)) (seen_sink (g.O.Sink.written c.write_text.new.sink) (g.O.Sink.faults c.write_text.new.sink) (g.O.Sink.since_stop c.write_text.new.sink))) in
+    let off : BreaksOff (program (kinds_of (lent c.args.host.now)) c.args.accepted c.args.instants) (seen_source (g.I.Source.left c.args.source.now) (g.I.Source.ended c.args.source.now) (g.I.Source.faults c.args.source.now) (g.I.Source.since_stop c.args.source.now)) (seen_sink (g.O.Sink.written c.write_text.new.sink) (g.O.Sink.faults c.write_text.new.sink) (g.O.Sink.since_stop c.write_text.new.sink)) c.most_instants-most.result (seen_source (g.I.Source.left c.play.new.source) (g.I.Source.ended c.play.new.source) (g.I.Source.faults c.play.new.source) (g.I.Source.since_stop c.play.new.source)) (seen_sink (g.O.Sink.written c.play.new.out) (g.O.Sink.faults c.play.new.out) (g.O.Sink.since_stop c.play.new.out)) error.Failed =
+    at_err c.play.result error.Failed _ _ (c.in-Err-Failed.is ∙ ap Err c.in-Err-Failed.field-0-is) (c.play.ensures.played (program (kinds_of (lent c.args.host.now)) c.args.accepted c.args.instants) (seen_source (g.I.Source.left c.args.source.now) (g.I.Source.ended c.args.source.now) (g.I.Source.faults c.args.source.now) (g.I.Source.since_stop c.args.source.now)) (seen_sink (g.O.Sink.written c.write_text.new.sink) (g.O.Sink.faults c.write_text.new.sink) (g.O.Sink.since_stop c.write_text.new.sink)) can same along) in
+    lines_failed (kinds_of (lent c.args.host.now)) c.args.accepted c.args.instants c.args.source.now c.play.new.source (seen_sink (g.O.Sink.written c.args.out.now) (g.O.Sink.faults c.args.out.now) (g.O.Sink.since_stop c.args.out.now)) (seen_sink (g.O.Sink.written c.write_text.new.sink) (g.O.Sink.faults c.write_text.new.sink) (g.O.Sink.since_stop c.write_text.new.sink)) (seen_sink (g.O.Sink.written c.play.new.out) (g.O.Sink.faults c.play.new.out) (g.O.Sink.since_stop c.play.new.out)) c.deref.result.now (lines_of (program (kinds_of (lent c.args.host.now)) c.args.accepted c.args.instants) off.lists off.horizon) text head off.left
+
+pub returns-in-Err-Failed-clause-unread : goal.returns-in-Err-Failed-clause-unread
+returns-in-Err-Failed-clause-unread g c = λ none.
+    let can : CanRun (program (kinds_of (lent c.args.host.now)) c.args.accepted c.args.instants) = can_run _ c.requires.accepted.0 c.requires.accepted.1 c.args.accepted c.requires.accepted.2 (kinds_of (lent c.args.host.now)) in
+    let same : c.param_words-words.result.now ≡ words_of (program (kinds_of (lent c.args.host.now)) c.args.accepted c.args.instants) = c.param_words-words.ensures.words ∙ ap (λ cs. param_words c.args.accepted.placed.nodes cs) c.deref-2.ensures.value in
+    let words = empty_of c.param_words-words.result.now (ap length same ∙ sym (words_count _ can) ∙ ap length none) in
+    c.play.ensures.unread words
 
 pub returns-clause-ends : goal.returns-clause-ends
 returns-clause-ends g c =
     let text = c.deref.ensures.value ∙ IfOk-at_ok (λ (v : Vec ℕ Global). v.items ≡ heading c.args.accepted) c.in-Ok.is c.heading.ensures in
-    let (taken, stop, read, fed) = c.main_feed.ensures.fed in
-    let (horizon, end, is, ends, left) = c.write_fed.ensures.ends in
-    run_done (kinds_of (lent c.args.host.now)) c.args.accepted c.args.instants _ _ _ _ _ c.deref.result.now c.write_fed.result c.in-Ok-main_feed.feed c.main_feed.result taken stop read fed c.in-Ok-main_feed.is text
-    (on_ok _ _ c.in-Ok-write_text.is c.write_text.ensures.ok) horizon end is ends left
+    let head = on_ok _ _ c.in-Ok-write_text.is c.write_text.ensures.ok in
+    let can : CanRun (program (kinds_of (lent c.args.host.now)) c.args.accepted c.args.instants) = can_run _ c.requires.accepted.0 c.requires.accepted.1 c.args.accepted c.requires.accepted.2 (kinds_of (lent c.args.host.now)) in
+    let same : c.param_words-words.result.now ≡ words_of (program (kinds_of (lent c.args.host.now)) c.args.accepted c.args.instants) = c.param_words-words.ensures.words ∙ ap (λ cs. param_words c.args.accepted.placed.nodes cs) c.deref-2.ensures.value in
+    let along : IsAlong (program (kinds_of (lent c.args.host.now)) c.args.accepted c.args.instants) (seen_source (g.I.Source.left c.args.source.now) (g.I.Source.ended c.args.source.now) (g.I.Source.faults c.args.source.now) (g.I.Source.since_stop c.args.source.now)) (seen_sink (g.O.Sink.written c.write_text.new.sink) (g.O.Sink.faults c.write_text.new.sink) (g.O.Sink.since_stop c.write_text.new.sink)) [] 0 (seen_source (g.I.Source.left c.args.source.now) (g.I.Source.ended c.args.source.now) (g.I.Source.faults c.args.source.now) (g.I.Source.since_stop c.args.source.now)) (seen_sink (g.O.Sink.written c.write_text.new.sink) (g.O.Sink.faults c.write_text.new.sink) (g.O.Sink.since_stop c.write_text.new.sink)) c.in-Ok-new.course.reader c.in-Ok-new.course.player c.in-Ok-new.course.writer =
+    along_here (kinds_of (lent c.args.host.now)) c.args.accepted c.args.instants c.deref-3.result.now c.deref-4.result.now c.deref-3.ensures.value c.deref-4.ensures.value (seen_source (g.I.Source.left c.args.source.now) (g.I.Source.ended c.args.source.now) (g.I.Source.faults c.args.source.now) (g.I.Source.since_stop c.args.source.now)) (seen_sink (g.O.Sink.written c.write_text.new.sink) (g.O.Sink.faults c.write_text.new.sink) (g.O.Sink.since_stop c.write_text.new.sink)) [] 0 (seen_source (g.I.Source.left c.args.source.now) (g.I.Source.ended c.args.source.now) (g.I.Source.faults c.args.source.now) (g.I.Source.since_stop c.args.source.now)) (seen_sink (g.O.Sink.written c.write_text.new.sink) (g.O.Sink.faults c.write_text.new.sink) (g.O.Sink.since_stop c.write_text.new.sink)) c.in-Ok-new.course.reader c.in-Ok-new.course.player c.in-Ok-new.course.writer (c.in-Ok-new.ensures.along (seen_source (g.I.Source.left c.args.source.now) (g.I.Source.ended c.args.source.now) (g.I.Source.faults c.args.source.now) (g.I.Source.since_stop c.args.source.now)) (seen_sink (g.O.Sink.written c.write_text.new.sink) (g.O.Sink.faults c.write_text.new.sink) (g.O.Sink.since_stop c.write_text.new.sink))) in
+    let off : BreaksOff (program (kinds_of (lent c.args.host.now)) c.args.accepted c.args.instants) (seen_source (g.I.Source.left c.args.source.now) (g.I.Source.ended c.args.source.now) (g.I.Source.faults c.args.source.now) (g.I.Source.since_stop c.args.source.now)) (seen_sink (g.O.Sink.written c.write_text.new.sink) (g.O.Sink.faults c.write_text.new.sink) (g.O.Sink.since_stop c.write_text.new.sink)) c.most_instants-most.result (seen_source (g.I.Source.left c.play.new.source) (g.I.Source.ended c.play.new.source) (g.I.Source.faults c.play.new.source) (g.I.Source.since_stop c.play.new.source)) (seen_sink (g.O.Sink.written c.play.new.out) (g.O.Sink.faults c.play.new.out) (g.O.Sink.since_stop c.play.new.out)) error.OutOfMemory =
+    at_err c.play.result error.OutOfMemory _ _ (c.in-Err-OutOfMemory.is ∙ ap Err c.in-Err-OutOfMemory.field-0-is) (c.play.ensures.played (program (kinds_of (lent c.args.host.now)) c.args.accepted c.args.instants) (seen_source (g.I.Source.left c.args.source.now) (g.I.Source.ended c.args.source.now) (g.I.Source.faults c.args.source.now) (g.I.Source.since_stop c.args.source.now)) (seen_sink (g.O.Sink.written c.write_text.new.sink) (g.O.Sink.faults c.write_text.new.sink) (g.O.Sink.since_stop c.write_text.new.sink)) can same along) in
+    run_out_of_memory (kinds_of (lent c.args.host.now)) c.args.accepted c.args.instants c.lines_go_on.ensures.blocks can (seen_source (g.I.Source.left c.args.source.now) (g.I.Source.ended c.args.source.now) (g.I.Source.faults c.args.source.now) (g.I.Source.since_stop c.args.source.now)) (seen_source (g.I.Source.left c.play.new.source) (g.I.Source.ended c.play.new.source) (g.I.Source.faults c.play.new.source) (g.I.Source.since_stop c.play.new.source)) (seen_sink (g.O.Sink.written c.args.out.now) (g.O.Sink.faults c.args.out.now) (g.O.Sink.since_stop c.args.out.now)) (seen_sink (g.O.Sink.written c.write_text.new.sink) (g.O.Sink.faults c.write_text.new.sink) (g.O.Sink.since_stop c.write_text.new.sink)) (seen_sink (g.O.Sink.written c.play.new.out) (g.O.Sink.faults c.play.new.out) (g.O.Sink.since_stop c.play.new.out)) c.deref.result.now c.most_instants-most.result c.most_instants-most.ensures text head off
 
-pub returns-clause-in_order : goal.returns-clause-in_order
-returns-clause-in_order g c = λ failed.
-    let text = c.deref.ensures.value ∙ IfOk-at_ok (λ (v : Vec ℕ Global). v.items ≡ heading c.args.accepted) c.in-Ok.is c.heading.ensures in
-    let (horizon, end, is, ends, left) = c.write_fed.ensures.ends in
-    lines_failed (kinds_of (lent c.args.host.now)) c.args.accepted c.args.instants _ _ _ _ _ c.deref.result.now _ end c.write_fed.result text
-    (on_ok _ _ c.in-Ok-write_text.is c.write_text.ensures.ok) left failed
+pub returns-clause-unread : goal.returns-clause-unread
+returns-clause-unread g c = λ none.
+    let can : CanRun (program (kinds_of (lent c.args.host.now)) c.args.accepted c.args.instants) = can_run _ c.requires.accepted.0 c.requires.accepted.1 c.args.accepted c.requires.accepted.2 (kinds_of (lent c.args.host.now)) in
+    let same : c.param_words-words.result.now ≡ words_of (program (kinds_of (lent c.args.host.now)) c.args.accepted c.args.instants) = c.param_words-words.ensures.words ∙ ap (λ cs. param_words c.args.accepted.placed.nodes cs) c.deref-2.ensures.value in
+    let words = empty_of c.param_words-words.result.now (ap length same ∙ sym (words_count _ can) ∙ ap length none) in
+    c.play.ensures.unread words

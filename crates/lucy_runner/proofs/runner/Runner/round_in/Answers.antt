@@ -6,7 +6,8 @@ use Rattle.lucy_core.specs.Seen.{Seen}
 use Rattle.lucy_runner.specs.declared.seat.Seat.{Seat}
 use Rattle.lucy_runner.specs.Views.{RunnerView}
 use Rattle.lucy_runner.specs.Crews.{seated, crew_of, seen_by}
-use Rattle.lucy_runner.specs.Turns.{AreServed, IsRoundTo}
+use Rattle.lucy_runner.specs.Turns.{AreServed}
+use Rattle.lucy_runner.specs.Rounds.{IsRoundTo}
 use Rattle.lucy_runner.proofs.StandingLaws.{served, as_many_kinds, back_in, joined_here, round_here}
 use Rattle.lucy_runner.proofs.runner.Runner.round_in.Goals as goal
 

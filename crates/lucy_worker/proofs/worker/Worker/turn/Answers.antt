@@ -1,22 +1,33 @@
-use Rattle.std.proofs.Common.{◌≡◌, ◌≤◌, List, sym, subst, arith}
+use Rattle.std.proofs.Common.{◌≡◌, ◌≤◌, ◌++◌, List, length, take, drop, sym, subst, arith}
+use Rattle.std.proofs.lemmas.List.{take_at}
 use Rattle.lucy_host.specs.Host.{lent}
 use Rattle.lucy_host.specs.Operators.{kinds_of}
 use Rattle.lucy_worker.specs.declared.part.Part.{Part}
-use Rattle.lucy_worker.specs.Turns.{NoneCan}
+use Rattle.lucy_worker.specs.Turns.{IsTurnOf}
 use Rattle.lucy_worker.specs.Readiness.{left_by, AreReady}
 use Rattle.lucy_worker.proofs.Runs.{none_could}
 use Rattle.lucy_worker.proofs.CountLaws.{left_by_few}
 use Rattle.lucy_worker.proofs.worker.Worker.turn.Goals as goal
 
-pub returns-clause-none : goal.returns-clause-none
-returns-clause-none g c none =
-    let same : c.as_mut_slice.result.now ≡ c.args.self.now.parts = cc in
-    subst (λ (ps : List Part). NoneCan ps) same
-    (none_could (kinds_of (lent c.args.host.now)) c.as_mut_slice.result.now c.turn.new.parts c.turn.result c.turn.ensures.passed.run c.turn.ensures.moved c.turn.ensures.passed.done none)
-
-pub returns-clause-few : goal.returns-clause-few
-returns-clause-few g c =
-    let same : c.as_mut_slice.result.now ≡ c.self.inside.parts.items = cc in
-    let ready : AreReady c.as_mut_slice.result.now = subst (λ (ps : List Part). AreReady ps) (sym same) c.self.invariant in
-    let most : left_by c.as_mut_slice.result.now ≤ 68719476736 = left_by_few c.as_mut_slice.result.now ready in
-    omega (arith, c.turn.ensures.passed.left)
+pub returns-clause-turned : goal.returns-clause-turned
+returns-clause-turned g c =
+    let kinds = kinds_of (lent c.args.host.now) in
+    let before : List Part = c.as_mut_slice.result.now in
+    let after : List Part = c.turn.new.parts in
+    let inside : before ≡ c.self.inside.parts.items = cc in
+    let ready : AreReady before = subst (λ (ps : List Part). AreReady ps) (sym inside) c.self.invariant in
+    let most : left_by before ≤ 68719476736 = left_by_few before ready in
+    let passed = c.turn.ensures.passed in
+    let same : before ≡ c.args.self.now.parts = cc in
+    let count : length after ≡ c.self.inside.parts.len = omega (arith, passed.run.as_many, (let e : length before ≡ length c.self.inside.parts.items = cc in e)) in
+    let left : List Part = take c.self.inside.parts.len (after ++ drop (length after) c.self.inside.parts.items) in
+    let whole : left ≡ after = take_at after (drop (length after) c.self.inside.parts.items) c.self.inside.parts.len count in
+    subst (λ (ps : List Part). IsTurnOf kinds ps left c.turn.result) same
+    (subst (λ (ps : List Part). IsTurnOf kinds before ps c.turn.result) (sym whole) (record {
+      run = passed.run;
+      counted = passed.done;
+      few = omega (arith, passed.left);
+      moved = c.turn.ensures.moved;
+      none = none_could kinds before after c.turn.result passed.run c.turn.ensures.moved passed.done;
+      rests = c.turn.ensures.rests;
+    }))

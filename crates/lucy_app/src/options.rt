@@ -1,0 +1,33 @@
+// How the clocks of a program are found.
+ghost use Rattle.std.specs.Prelude.{◌≡◌};
+ghost use Rattle.lucy_front.specs.Inferring.{AreOptions};
+ghost use Rattle.lucy_app.specs.Commands.{written_options, inferring_options};
+ghost use Rattle.lucy_app.specs.Outcomes.{IsScale};
+
+use lucy_front::Options;
+
+/// Each node has to be written.
+pub(crate) fn written() -> Options
+    ensures is { result ≡ written_options }
+    ensures within { AreOptions result }
+{
+    Options {
+        scale: 1,
+        lead: 1,
+        written_only: true,
+    }
+}
+
+/// The clocks of the others are inferred with this scale and this lead.
+pub(crate) fn inferring(scale: u64, lead: u64) -> Options
+    requires scale { IsScale scale }
+    requires lead { IsScale lead }
+    ensures is { result ≡ inferring_options scale lead }
+    ensures within { AreOptions result }
+{
+    Options {
+        scale,
+        lead,
+        written_only: false,
+    }
+}

@@ -1,0 +1,4 @@
+mod Digits
+mod Canonical
+mod Full
+mod Folds

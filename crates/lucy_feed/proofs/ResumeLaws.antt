@@ -1,0 +1,146 @@
+-- Laws of a reading that is resumed.
+use Rattle.std.proofs.Common.{◌≡◌, ℕ, Option, Some, None, Result, Ok, Err, OnOk, OnErr, ◌<◌, true, false, List, [], ◌∷◌, ◌++◌, length, ap, sym, ◌∙◌, subst, inl, inr, arith, append_assoc, append-nil}
+use Rattle.std.specs.Prelude.{ℤ, ◌⊎◌, slice_set, slice_index_or, IfSome, MatchOption}
+use Rattle.lucy_lines.specs.declared.input.InputSpec.{InputSpec}
+use Rattle.lucy_lines.specs.Cuts.{ItemOf, Stop as Halt, Cut, input_of}
+use Rattle.lucy_lines.specs.Reading.{ReaderState}
+use Rattle.lucy_feed.specs.Sources.{SeenSource, Stop}
+use Rattle.lucy_feed.specs.Resuming.{FeedState, BeginCut, IsOpen, IsStopped, HasRead, IsGivenUp, AreFresh, ReadsMore, PassesMore, GivesUp}
+use Rattle.lucy_feed.proofs.ListLaws.{item_pushed}
+
+-- nothing more was read
+pub none_read : (source : SeenSource) (s : FeedState) → ReadsMore source source s s
+none_read source s inputs first items recent taken read fresh =
+    let P : List ItemOf → Type 0 = λ u. HasRead inputs first source s u (taken ++ []) in
+    let Q : List ℕ → Type 0 = λ u. HasRead inputs first source s items u in
+    let R : List ItemOf → Type 0 = λ u. AreFresh inputs s u in
+    ([], [], subst P (sym (append-nil items)) (subst Q (sym (append-nil taken)) read), subst R (sym (append-nil recent)) fresh)
+
+-- and more again
+pub reads_on : (a b c : SeenSource) (s t u : FeedState) → ReadsMore a b s t → ReadsMore b c t u → ReadsMore a c s u
+reads_on a b c s t u p q inputs first items recent taken read fresh =
+    let (more, bytes, now, kept) = p inputs first items recent taken read fresh in
+    let (others, late, next, all) = q inputs first (items ++ more) (recent ++ more) (taken ++ bytes) now kept in
+    let P : List ItemOf → Type 0 = λ v. HasRead inputs first c u v (taken ++ (bytes ++ late)) in
+    let Q : List ℕ → Type 0 = λ v. HasRead inputs first c u ((items ++ more) ++ others) v in
+    let R : List ItemOf → Type 0 = λ v. AreFresh inputs u v in
+    (more ++ others, bytes ++ late, subst P (append_assoc items more others) (subst Q (append_assoc taken bytes late) next), subst R (append_assoc recent more others) all)
+
+-- so where values are counted alone
+pub none_passed : (source : SeenSource) (s : FeedState) → PassesMore source source s s
+none_passed source s inputs first items taken read =
+    let P : List ItemOf → Type 0 = λ u. HasRead inputs first source s u (taken ++ []) in
+    let Q : List ℕ → Type 0 = λ u. HasRead inputs first source s items u in
+    ([], [], subst P (sym (append-nil items)) (subst Q (sym (append-nil taken)) read))
+
+pub passes_on : (a b c : SeenSource) (s t u : FeedState) → PassesMore a b s t → PassesMore b c t u → PassesMore a c s u
+passes_on a b c s t u p q inputs first items taken read =
+    let (more, bytes, now) = p inputs first items taken read in
+    let (others, late, next) = q inputs first (items ++ more) (taken ++ bytes) now in
+    let P : List ItemOf → Type 0 = λ v. HasRead inputs first c u v (taken ++ (bytes ++ late)) in
+    let Q : List ℕ → Type 0 = λ v. HasRead inputs first c u ((items ++ more) ++ others) v in
+    (more ++ others, bytes ++ late, subst P (append_assoc items more others) (subst Q (append_assoc taken bytes late) next))
+
+-- what stands in front of items stands in front of what they begin
+begin_before : (inputs : List InputSpec) (taken : List ℕ) (items more : List ItemOf) → BeginCut inputs taken (items ++ more) → BeginCut inputs taken items
+begin_before inputs taken items more (others, halt, cut) =
+    let P : List ItemOf → Type 0 = λ u. Cut inputs true (input_of taken) u halt in
+    (more ++ others, halt, subst P (append_assoc items more others) cut)
+
+given_up_before : (inputs : List InputSpec) (first now : SeenSource) (items more : List ItemOf) (taken : List ℕ) → IsGivenUp inputs first now (items ++ more) taken → IsGivenUp inputs first now items taken
+given_up_before inputs first now items more taken g = record { read = g.read; asked = g.asked; begin = begin_before inputs taken items more g.begin }
+
+-- reading was given up behind what was read
+pub given_up_later : (a b c : SeenSource) (s t : FeedState) → ReadsMore a b s t → GivesUp b c t → GivesUp a c s
+given_up_later a b c s t p q inputs first items recent taken read fresh =
+    let (more, bytes, now, kept) = p inputs first items recent taken read fresh in
+    let (late, g) = q inputs first (items ++ more) (recent ++ more) (taken ++ bytes) now kept in
+    let P : List ℕ → Type 0 = λ v. IsGivenUp inputs first c items v in
+    (bytes ++ late, subst P (append_assoc taken bytes late) (given_up_before inputs first c items more ((taken ++ bytes) ++ late) g))
+
+-- where reading goes on, what was read is open
+pub still_open : (inputs : List InputSpec) (first now : SeenSource) (s : FeedState) (items : List ItemOf) (taken : List ℕ) → s.reader.ended ≡ false → HasRead inputs first now s items taken →
+    IsOpen inputs first now s.reader s.counts items taken
+still_open inputs first now s items taken open_yet (inl is) = is
+still_open inputs first now s items taken open_yet (inr (stop, halt, is)) = let no_more : false ≡ true = sym open_yet ∙ is.ended in cc
+
+-- an item more is given by what was open before it
+abbrev pub OpensMore : (before after : SeenSource) (old new : FeedState) → ItemOf → Type 0
+OpensMore before after old new i = (inputs : List InputSpec) (first : SeenSource) (items : List ItemOf) (taken : List ℕ) →
+    IsOpen inputs first before old.reader old.counts items taken → (bytes : List ℕ) × IsOpen inputs first after new.reader new.counts (items ++ i ∷ []) (taken ++ bytes)
+
+-- a stop
+abbrev pub OpensNoMore : (before after : SeenSource) (old new : FeedState) → Type 0
+OpensNoMore before after old new = (inputs : List InputSpec) (first : SeenSource) (items : List ItemOf) (taken : List ℕ) →
+    IsOpen inputs first before old.reader old.counts items taken →
+    (bytes : List ℕ) × (stop : Stop) × (halt : Halt) × IsStopped inputs first after new.reader new.counts new.fault items (taken ++ bytes) stop halt
+
+-- the item was kept
+pub item_kept : (before after : SeenSource) (old new now : FeedState) (i : ItemOf) → old.reader.ended ≡ false → OpensMore before after old new i → i.stream < length old.reader.inputs →
+    now.reader ≡ new.reader → now.counts ≡ new.counts → now.fresh ≡ slice_set old.fresh i.stream (slice_index_or old.fresh i.stream [] ++ i.value ∷ []) → ReadsMore before after old now
+item_kept before after old new now i open_yet opens known same counted pushed inputs first items recent taken read fresh =
+    let o = still_open inputs first before old items taken open_yet read in
+    let (bytes, is) = opens inputs first items taken o in
+    let P : ReaderState → Type 0 = λ r. IsOpen inputs first after r now.counts (items ++ i ∷ []) (taken ++ bytes) in
+    let Q : List ℕ → Type 0 = λ n. IsOpen inputs first after new.reader n (items ++ i ∷ []) (taken ++ bytes) in
+    let f : List (List ℤ) → List (List ℤ) = λ u. slice_set u i.stream (slice_index_or u i.stream [] ++ i.value ∷ []) in
+    let there : i.stream < length inputs = let e = ap length o.goes_on.kept in omega arith in
+    (i ∷ [], bytes, inl (subst P (sym same) (subst Q (sym counted) is)), pushed ∙ ap f fresh ∙ item_pushed (length inputs) recent i there)
+
+-- the item was counted alone
+pub item_passed : (before after : SeenSource) (old new : FeedState) (i : ItemOf) → old.reader.ended ≡ false → OpensMore before after old new i → PassesMore before after old new
+item_passed before after old new i open_yet opens inputs first items taken read =
+    let o = still_open inputs first before old items taken open_yet read in
+    let (bytes, is) = opens inputs first items taken o in
+    (i ∷ [], bytes, inl is)
+
+-- there was no room for it
+pub item_lost : (before after : SeenSource) (old new : FeedState) (i : ItemOf) → old.reader.ended ≡ false → OpensMore before after old new i → GivesUp before after old
+item_lost before after old new i open_yet opens inputs first items recent taken read fresh =
+    let o = still_open inputs first before old items taken open_yet read in
+    let (bytes, is) = opens inputs first items taken o in
+    (bytes, given_up_before inputs first after items (i ∷ []) (taken ++ bytes) (record { read = is.read; asked = is.asked; begin = is.begin }))
+
+-- reading stopped
+pub stop_passed : (before after : SeenSource) (old new : FeedState) → old.reader.ended ≡ false → OpensNoMore before after old new → PassesMore before after old new
+stop_passed before after old new open_yet stops inputs first items taken read =
+    let o = still_open inputs first before old items taken open_yet read in
+    let (bytes, stop, halt, is) = stops inputs first items taken o in
+    let P : List ItemOf → Type 0 = λ u. HasRead inputs first after new u (taken ++ bytes) in
+    ([], bytes, subst P (sym (append-nil items)) (inr (stop, halt, is)))
+
+pub stop_kept : (before after : SeenSource) (old new : FeedState) → old.reader.ended ≡ false → OpensNoMore before after old new → new.fresh ≡ old.fresh → ReadsMore before after old new
+stop_kept before after old new open_yet stops same inputs first items recent taken read fresh =
+    let o = still_open inputs first before old items taken open_yet read in
+    let (bytes, stop, halt, is) = stops inputs first items taken o in
+    let P : List ItemOf → Type 0 = λ u. HasRead inputs first after new u (taken ++ bytes) in
+    let R : List ItemOf → Type 0 = λ u. AreFresh inputs new u in
+    ([], bytes, subst P (sym (append-nil items)) (inr (stop, halt, is)), subst R (sym (append-nil recent)) (same ∙ fresh))
+
+-- an item or a stop, where values are counted alone
+pub line_passed : {A : Type 0} (before after : SeenSource) (old new : FeedState) (result : Option A) (item : A → ItemOf) → old.reader.ended ≡ false →
+    IfSome result (λ a. OpensMore before after old new (item a)) → MatchOption result (OpensNoMore before after old new) (λ a. Unit {0}) → PassesMore before after old new
+line_passed before after old new None item open_yet more stops = stop_passed before after old new open_yet stops
+line_passed before after old new (Some a) item open_yet more stops = item_passed before after old new (item a) open_yet more
+
+pub one_way : {A : Type 0} (result : Option A) (P Q : Type 0) → MatchOption result P (λ a. Q) → P ⊎ Q
+one_way None P Q is = inl is
+one_way (Some a) P Q is = inr is
+
+-- a fact of an answer that is right, and of one that is an error
+pub on_ok : {T E : Type 0} (result : Result T E) (P : Type 0) → P → OnOk result P
+on_ok (Ok value) P holds = holds
+on_ok (Err e) P holds = tt
+
+pub on_err : {T E : Type 0} (result : Result T E) (P : Type 0) → P → OnErr result P
+on_err (Ok value) P holds = tt
+on_err (Err e) P holds = holds
+
+-- and of the other
+pub none_on_ok : {T E : Type 0} (result : Result T E) (e : E) (P : Type 0) → result ≡ Err e → OnOk result P
+none_on_ok (Ok value) e P is = cc
+none_on_ok (Err f) e P is = tt
+
+pub none_on_err : {T E : Type 0} (result : Result T E) (value : T) (P : Type 0) → result ≡ Ok value → OnErr result P
+none_on_err (Ok v) value P is = tt
+none_on_err (Err f) value P is = cc

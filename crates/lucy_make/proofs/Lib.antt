@@ -1,0 +1,4 @@
+mod Lines
+mod Feeds
+mod Runs
+mod Rows

@@ -1,0 +1,87 @@
+// The figures of a run.
+ghost use Rattle.std.specs.Prelude.{◌≡◌, ◌≤◌, ◌++◌, IfOk, length, string_bytes};
+ghost use Rattle.lucy_make.specs.Figures as spec;
+
+use lucy_net::{Net, RingSpec};
+use lucy_word::OutOfMemory;
+use std::alloc::{AllocError, Global};
+
+/// How many actors, rings and slots of rings a net has.
+#[derive(Clone, Copy)]
+pub(crate) struct Counts {
+    pub actors: usize,
+    pub rings: usize,
+    pub slots: u64,
+}
+
+// The sum of the values, in 64 bits.
+fn sum_of(values: &[i64]) -> i64
+    ensures { result ≡ spec.sum_of values.now }
+{
+    let mut sum = 0i64;
+    'each: for value in values {
+        sum = sum.wrapping_add(*value);
+    }
+    sum
+}
+
+// The slots of rings, of which each has one more than its size.
+fn slots_of(rings: &[RingSpec]) -> u64
+    requires { spec.slots_of rings.now ≤ 1048576 }
+    ensures { result ≡ spec.slots_of rings.now }
+{
+    let mut slots = 0;
+    'each: for ring in rings {
+        slots += ring.size + 1;
+    }
+    slots
+}
+
+/// Those of this net, which has at most 1,048,576 slots.
+pub(crate) fn counts_of(net: &Net) -> Counts
+    requires { spec.slots_of net.now.rings ≤ 1048576 }
+    ensures actors { result.actors ≡ length net.now.actors }
+    ensures rings { result.rings ≡ length net.now.rings }
+    ensures slots { result.slots ≡ spec.slots_of net.now.rings }
+{
+    Counts {
+        actors: net.actors.list().len(),
+        rings: net.rings.list().len(),
+        slots: slots_of(net.rings.list()),
+    }
+}
+
+// The lines of a program of so many stages whose net has these counts.
+fn net_lines(alloc: Global, stages: u64, counts: Counts) -> Result<String, AllocError>
+    ensures { IfOk result (λ s. string_bytes s ≡ spec.net_lines stages counts.actors counts.rings counts.slots) }
+{
+    let Counts {
+        actors,
+        rings,
+        slots,
+    } = counts;
+    format!(in alloc; "stages {stages}\nactors {actors}\nrings {rings}\nslots {slots}\n")
+}
+
+// The lines of a run of so many instants, with as many outputs and their sum.
+fn run_lines(alloc: Global, instants: u64, outputs: usize, sum: i64) -> Result<String, AllocError>
+    ensures { IfOk result (λ s. string_bytes s ≡ spec.run_lines instants outputs sum) }
+{
+    format!(in alloc; "instants {instants}\noutputs {outputs}\nsum {sum}\n")
+}
+
+/// The seven lines of a run of so many stages and instants, by a net of these counts, that prints these values.
+pub(crate) fn print(
+    alloc: Global,
+    stages: u64,
+    counts: Counts,
+    instants: u64,
+    values: &[i64],
+) -> Result<Vec<u8>, OutOfMemory>
+    ensures { IfOk result (λ v. v.items ≡ spec.net_lines stages counts.actors counts.rings counts.slots ++ spec.run_lines instants (length values.now) (spec.sum_of values.now)) }
+{
+    let run = run_lines(alloc, instants, values.len(), sum_of(values))?;
+    let mut lines = net_lines(alloc, stages, counts)?.into_bytes();
+    lines.extend_from_slice(run.as_bytes())?;
+    Ok(lines)
+}

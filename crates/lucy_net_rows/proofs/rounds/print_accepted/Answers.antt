@@ -1,0 +1,16 @@
+use Rattle.std.proofs.Common.{◌≡◌, ◌∙◌, List, length, ap, sym, arith}
+use Rattle.std.proofs.lemmas.List.FromFn.{length-map-range_with_len}
+use Rattle.lucy_word.specs.Bits.{Bits}
+use Rattle.lucy_meaning.specs.Spots.{main_of}
+use Rattle.lucy_kahn.specs.Turns.{params_in}
+use Rattle.lucy_execution.specs.Streams.{main_word, param_words}
+use Rattle.lucy_net_rows.proofs.rounds.print_accepted.Goals as goal
+
+pub run_net-streams-requires-clause-inputs : goal.run_net-streams-requires-clause-inputs
+run_net-streams-requires-clause-inputs g c κs within =
+    let nodes = c.args.accepted.placed.nodes in
+    let clocks = c.deref.result.now in
+    let words : c.param_words-words.result.now ≡ param_words nodes clocks = c.param_words-words.ensures.words in
+    let one : length c.param_words-words.result.now ≡ 1 = omega (arith, c.if-words-ne1.false) in
+    let counted : length (param_words nodes clocks) ≡ params_in (main_of nodes) = length-map-range_with_len (main_word nodes clocks) 1 (params_in (main_of nodes)) in
+    sym counted ∙ sym (ap (λ (ws : List Bits). length ws) words) ∙ one ∙ sym c.requires.count

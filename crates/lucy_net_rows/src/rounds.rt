@@ -1,0 +1,127 @@
+// The events of a net, by workers on threads, are timed, and their rounds counted.
+ghost use Rattle.std.specs.Prelude.{ℕ, ◌≡◌, ◌≤◌, List, length};
+ghost use Rattle.lucy_host.specs.Host.{Serves, lent};
+ghost use Rattle.lucy_flat.specs.Clocked.{AreClocked};
+ghost use Rattle.lucy_front.specs.declared.options.Options.{Options as Clocking};
+ghost use Rattle.lucy_front.specs.Accepting.{IsAccepted};
+
+use crate::ready::OPTIONS;
+use crate::running::main_node;
+use crate::show::no_memory;
+use lucy_cause::Schedule;
+use lucy_execution::{horizon, param_words, run_net};
+use lucy_front::{Accepted, accept};
+use lucy_host::{Host, Inputs};
+use lucy_worker::Gate;
+use std::io;
+use std::sync::atomic::{AtomicU64, Ordering};
+use std::thread::Threads;
+use std::time::{Clock, Instant};
+
+// A run has no more instants.
+const MOST: u64 = 1_048_576;
+
+// A gate that counts the rounds: worker 0, which has actor 0, passes it once in each.
+#[derive(Drop)]
+struct Rounds {
+    passed: AtomicU64,
+}
+
+impl Gate for Rounds {
+    fn pass(&self, worker: u32) {
+        if worker == 0 {
+            self.passed.fetch_add(1, Ordering::Relaxed);
+        }
+    }
+}
+
+// The sum of items, which wraps.
+fn sum_of(items: &[i64]) -> i64 {
+    let mut sum = 0i64;
+    for item in items {
+        sum = sum.wrapping_add(*item);
+    }
+    sum
+}
+
+// How many events the instants up to this one have.
+fn events_to(schedule: &Schedule, instants: u64) -> u64 {
+    let mut events = 0u64;
+    for before in 0..instants {
+        events = events.saturating_add(schedule.events(before.saturating_add(1)).len() as u64);
+    }
+    events
+}
+
+// Runs an accepted program for as many instants as the items of its one input allow, and no more than the most.
+fn print_accepted<
+    R: Print + Clock + AllocGlobal + Threads + Sync,
+    F: Fn(u32, i64, i64) -> i64 + Sync,
+>(rt: &R, host: &Host<F>, workers: u32, accepted: Accepted, inputs: Inputs) -> io::Result<()>
+    requires serves { Serves F.pre F.post host.now }
+    requires accepted { (text : List ℕ) × (o : Clocking) × IsAccepted (lent host.now) o text accepted }
+    requires clocked { AreClocked accepted.placed.nodes accepted.clocks.items }
+    requires count { length inputs ≡ 1 }
+    requires workers { (1 ≤ workers) × (workers ≤ 64) }
+{
+    let Accepted {
+        placed,
+        clocks,
+        net,
+        schedule,
+        ..
+    } = accepted;
+    let words = param_words(&placed, &clocks);
+    if words.len() != 1 {
+        return Err(no_memory());
+    }
+    let instants = horizon(words, &inputs, MOST);
+    let events = events_to(&schedule, instants);
+    let results = main_node(&placed).results.list().len();
+    let gate = Rounds {
+        passed: AtomicU64::new(0),
+    };
+    let start = Instant::now(rt)?;
+    let streams = run_net(
+        rt,
+        rt.alloc(),
+        &placed,
+        &clocks,
+        net,
+        schedule,
+        host,
+        &gate,
+        inputs,
+        instants,
+        workers,
+    );
+    let time = start.elapsed(rt)?.as_nanos();
+    let Ok(lists) = streams else {
+        return Err(no_memory());
+    };
+    let sum = if results > 0 {
+        sum_of(lists.list(0))
+    } else {
+        0
+    };
+    println!(rt;
+        "{sum} {time} {events} {}",
+        gate.passed.load(Ordering::Relaxed)
+    )
+}
+
+/// Runs the program of a text, whose main has one input, by 1 to 64 workers, for as many instants as these items allow, and prints the
+/// sum of the items of its first output, the nanoseconds of the run, and the numbers of its events and rounds.
+pub(crate) fn print_rounds<
+    R: Print + Clock + AllocGlobal + Threads + Sync,
+    F: Fn(u32, i64, i64) -> i64 + Sync,
+>(rt: &R, host: &Host<F>, workers: u32, text: &[u8], inputs: Inputs) -> io::Result<()>
+    requires serves { Serves F.pre F.post host.now }
+    requires count { length inputs ≡ 1 }
+    requires workers { (1 ≤ workers) × (workers ≤ 64) }
+{
+    match accept(rt.alloc(), text, host.ops(), &OPTIONS) {
+        Ok(accepted) => print_accepted(rt, host, workers, accepted, inputs),
+        Err(_) => Err(no_memory()),
+    }
+}

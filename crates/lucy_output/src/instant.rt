@@ -1,0 +1,91 @@
+// The lines of one instant.
+ghost use Rattle.std.specs.Prelude.{◌≡◌, ◌+◌, ◌≤◌, ◌<◌, ◌^◌, ◌++◌, [], length, OnOk, OnErr};
+ghost use Rattle.lucy_lines.specs.Written.{line_of};
+ghost use Rattle.lucy_output.specs.Outputs.{line_with_value};
+ghost use Rattle.lucy_output.specs.Sinks.{seen_sink, Fails};
+ghost use Rattle.lucy_output.specs.Walks.{next_value, next_lines, IsStepped, AreStepped, FitsRoom, FitRoom, Gathers};
+
+use crate::walk::OutputWalk;
+use crate::write_text;
+use lucy_host::{DataType, Inputs};
+use lucy_lines::ValueLines;
+use lucy_text::{Failed, Sink};
+
+// Puts a line behind the others, which are written first where there is no room for it.
+fn put_line<K: Sink>(
+    lines: &mut ValueLines,
+    sink: &mut K,
+    name: &[u8],
+    holds: DataType,
+    value: i64,
+) -> Result<(), Failed>
+    requires { length name.now + 22 ≤ lines.old.room }
+    ensures ok { OnOk result (Gathers sink.old sink.new
+        (seen_sink (K.written sink.old) (K.faults sink.old) (K.since_stop sink.old))
+        (seen_sink (K.written sink.new) (K.faults sink.new) (K.since_stop sink.new)) lines.new (lines.old.bytes ++ line_of name.now holds value)) }
+    ensures failed { OnErr result (Fails
+        (seen_sink (K.written sink.old) (K.faults sink.old) (K.since_stop sink.old))
+        (seen_sink (K.written sink.new) (K.faults sink.new) (K.since_stop sink.new)) (lines.old.bytes ++ line_of name.now holds value)) }
+    ensures room { lines.new.room ≡ lines.old.room }
+    ensures count { K.faults sink.old ≤ K.faults sink.new }
+    ensures untouched { lines.old.bytes ≡ [] → sink.new ≡ sink.old }
+{
+    if !lines.push(name, holds, value) {
+        write_text(sink, lines.bytes())?;
+        lines.clear();
+        lines.push(name, holds, value);
+    }
+    Ok(())
+}
+
+// Puts the line of an output's value at the next instant behind the others, where it has one.
+fn put_next<K: Sink>(
+    walk: &mut OutputWalk<'_>,
+    items: &[i64],
+    lines: &mut ValueLines,
+    sink: &mut K,
+) -> Result<(), Failed>
+    requires { FitsRoom walk.old.output lines.old.room }
+    ensures ok { OnOk result (Gathers sink.old sink.new
+        (seen_sink (K.written sink.old) (K.faults sink.old) (K.since_stop sink.old))
+        (seen_sink (K.written sink.new) (K.faults sink.new) (K.since_stop sink.new)) lines.new (lines.old.bytes ++ line_with_value walk.old.output (next_value walk.old items.now))) }
+    ensures step { IsStepped items.now walk.old walk.new }
+    ensures failed { OnErr result (Fails
+        (seen_sink (K.written sink.old) (K.faults sink.old) (K.since_stop sink.old))
+        (seen_sink (K.written sink.new) (K.faults sink.new) (K.since_stop sink.new)) (lines.old.bytes ++ line_with_value walk.old.output (next_value walk.old items.now))) }
+    ensures room { lines.new.room ≡ lines.old.room }
+    ensures count { K.faults sink.old ≤ K.faults sink.new }
+    ensures untouched { lines.old.bytes ≡ [] → sink.new ≡ sink.old }
+{
+    match walk.step(items) {
+        Some(value) => put_line(lines, sink, walk.name(), walk.holds(), value),
+        None => Ok(()),
+    }
+}
+
+// Puts the lines of the next instant behind the others. List number i has the values of the output that is walked along at place i.
+pub(crate) fn put_instant<K: Sink>(
+    walks: &mut [OutputWalk<'_>],
+    lists: &Inputs,
+    lines: &mut ValueLines,
+    sink: &mut K,
+) -> Result<(), Failed>
+    requires fit { FitRoom walks.old lines.old.room }
+    requires few { length walks.old < 2 ^ 32 }
+    requires lists { length walks.old ≤ length lists.now }
+    ensures ok { OnOk result (Gathers sink.old sink.new
+        (seen_sink (K.written sink.old) (K.faults sink.old) (K.since_stop sink.old))
+        (seen_sink (K.written sink.new) (K.faults sink.new) (K.since_stop sink.new)) lines.new (lines.old.bytes ++ next_lines walks.old lists.now)) }
+    ensures steps { OnOk result (AreStepped lists.now walks.old walks.new) }
+    ensures failed { OnErr result (Fails
+        (seen_sink (K.written sink.old) (K.faults sink.old) (K.since_stop sink.old))
+        (seen_sink (K.written sink.new) (K.faults sink.new) (K.since_stop sink.new)) (lines.old.bytes ++ next_lines walks.old lists.now)) }
+    ensures room { lines.new.room ≡ lines.old.room }
+    ensures count { K.faults sink.old ≤ K.faults sink.new }
+    ensures untouched { lines.old.bytes ++ next_lines walks.old lists.now ≡ [] → sink.new ≡ sink.old }
+{
+    for i in 0..walks.len() {
+        put_next(&mut walks[i], lists.list(i as u32), lines, sink)?;
+    }
+    Ok(())
+}

@@ -1,0 +1,77 @@
+-- Lines up to one horizon and up to a later one.
+use Rattle.std.proofs.Common.{ℕ, ◌+◌, ◌-◌, ◌≤◌, ◌≡◌, List, [], ◌∷◌, ◌++◌, Some, length, map, take, drop, get_or, ap, sym, refl, ◌∙◌, arith}
+use Rattle.std.specs.Prelude.{ℤ, slice_get, slice_index_or, option_map}
+use Rattle.std.proofs.lemmas.List.{length-map, take-take}
+use Rattle.std.proofs.lemmas.Option.{get_or_from_slice_get, slice_get-map}
+use Rattle.lucy_word.specs.Bits.{Bits, ones_to}
+use Rattle.lucy_host.specs.declared.kind.HostKind.{HostKind}
+use Rattle.lucy_stream.specs.Items.{list_at}
+use Rattle.lucy_stream.specs.Fronts.{AreFronts}
+use Rattle.lucy_output.specs.declared.output.OutputSpec.{OutputSpec}
+use Rattle.lucy_output.specs.Outputs.{output_text, lines_after}
+use Rattle.lucy_output.specs.Laws.{BeginAlike, FrontsSuffice, AreRests, BlockByBlock}
+use Rattle.lucy_place.specs.declared.placed.PlacedNode.{PlacedNode}
+use Rattle.lucy_place.specs.Proper.{AreProper}
+use Rattle.lucy_clock.specs.declared.node_clock.NodeClock.{NodeClock}
+use Rattle.lucy_meaning.specs.Spots.{main_of, results_in}
+use Rattle.lucy_meaning.specs.Horizons.{Suffice}
+use Rattle.lucy_meaning.proofs.Lists.{mapped}
+use Rattle.lucy_execution.specs.Streams.{main_word, param_words, result_words, main_stream, main_streams, later_stream, later_streams, cut_to}
+use Rattle.lucy_execution.specs.Running.{HasSchedule}
+use Rattle.lucy_execution.proofs.StreamLaws.{cut_at}
+use Rattle.lucy_run.specs.Courses.{Program, CanRun, words_of, lines_of, LinesAgree, LinesByBlock}
+
+-- the streams of more instants, from inputs that go on, begin with those of fewer
+abbrev pub StreamsGoOn : Type 0
+StreamsGoOn = (kinds : List HostKind) (inputs more : List (List ℤ)) (nodes : List PlacedNode) (clocks : List NodeClock) (s t : ℕ) → AreProper nodes → HasSchedule nodes clocks → AreFronts inputs more → s ≤ t →
+    Suffice (param_words nodes clocks) inputs s → cut_to s (result_words nodes clocks) (main_streams kinds more nodes clocks t) ≡ main_streams kinds inputs nodes clocks s
+
+-- what is made of each number of a list
+made_at : {A : Type 0} (f : ℕ → A) (xs : List ℕ) (i x : ℕ) (d : A) → slice_get xs i ≡ Some x → get_or (map f xs) i d ≡ f x
+made_at f xs i x d e = get_or_from_slice_get (map f xs) i (f x) d (slice_get-map f xs i ∙ ap (option_map f) e)
+
+module _ (p : Program) (can : CanRun p) where
+  -- the word of a result, among those of the outputs
+  word_at : (i : ℕ) (o : OutputSpec) → slice_get p.outputs i ≡ Some o → slice_get (result_words p.nodes p.clocks) i ≡ Some o.word
+  word_at i o e = ap (λ xs. slice_get xs i) (sym can.words) ∙ slice_get-map (λ (o : OutputSpec). o.word) p.outputs i ∙ ap (option_map (λ (o : OutputSpec). o.word)) e
+
+  place_at : (i : ℕ) (o : OutputSpec) → slice_get p.outputs i ≡ Some o → (place : ℕ) × (slice_get (results_in (main_of p.nodes)) i ≡ Some place) × (main_word p.nodes p.clocks place ≡ o.word)
+  place_at i o e =
+      let found = mapped (main_word p.nodes p.clocks) (slice_get (results_in (main_of p.nodes)) i) o.word
+      (sym (slice_get-map (main_word p.nodes p.clocks) (results_in (main_of p.nodes)) i) ∙ word_at i o e) in
+      (found.0, found.1, found.2)
+
+  module _ (lists more : List (List ℤ)) (s t : ℕ) where
+    are_rests : AreRests p.outputs (main_streams p.kinds more p.nodes p.clocks t) (later_streams p.kinds more p.nodes p.clocks s t) s
+    are_rests = record {
+      lengths = length-map (results_in (main_of p.nodes)) (later_stream p.kinds more p.nodes p.clocks s t) ∙ sym (length-map (results_in (main_of p.nodes)) (main_stream p.kinds more p.nodes p.clocks t));
+      each = λ i o e.
+          let place = place_at i o e in
+          made_at (later_stream p.kinds more p.nodes p.clocks s t) (results_in (main_of p.nodes)) i place.0 [] place.1
+          ∙ ap (λ w. drop (ones_to w s) (main_stream p.kinds more p.nodes p.clocks t place.0)) place.2
+          ∙ ap (drop (ones_to o.word s)) (sym (made_at (main_stream p.kinds more p.nodes p.clocks t) (results_in (main_of p.nodes)) i place.0 [] place.1));
+    }
+
+    alike : cut_to s (result_words p.nodes p.clocks) (main_streams p.kinds more p.nodes p.clocks t) ≡ main_streams p.kinds lists p.nodes p.clocks s →
+        BeginAlike p.outputs (main_streams p.kinds more p.nodes p.clocks t) (main_streams p.kinds lists p.nodes p.clocks s) s
+    alike cut = record {
+      lengths = length-map (results_in (main_of p.nodes)) (main_stream p.kinds more p.nodes p.clocks t) ∙ sym (length-map (results_in (main_of p.nodes)) (main_stream p.kinds lists p.nodes p.clocks s));
+      fronts = λ i o e.
+          let n : ℕ = ones_to o.word s in
+          let as_many = length-map (results_in (main_of p.nodes)) (main_word p.nodes p.clocks) ∙ sym (length-map (results_in (main_of p.nodes)) (main_stream p.kinds more p.nodes p.clocks t)) in
+          let front : list_at (main_streams p.kinds lists p.nodes p.clocks s) i ≡ take n (list_at (main_streams p.kinds more p.nodes p.clocks t) i) =
+          ap (λ xs. list_at xs i) (sym cut) ∙ cut_at s (result_words p.nodes p.clocks) (main_streams p.kinds more p.nodes p.clocks t) i o.word as_many (word_at i o e) in
+          sym (ap (take n) front ∙ take-take n n (list_at (main_streams p.kinds more p.nodes p.clocks t) i) (omega arith));
+    }
+
+pub agree : StreamsGoOn → FrontsSuffice → LinesAgree
+agree on fronts p lists more t can f suffice =
+    fronts p.outputs (main_streams p.kinds more p.nodes p.clocks t) (main_streams p.kinds lists p.nodes p.clocks t) t
+    (alike p can lists more t t (on p.kinds lists more p.nodes p.clocks t t can.proper can.scheduled f (omega arith) suffice))
+
+pub by_block : StreamsGoOn → FrontsSuffice → BlockByBlock → LinesByBlock
+by_block on fronts blocks p lists more s t can f l suffice =
+    blocks p.outputs (main_streams p.kinds more p.nodes p.clocks t) (later_streams p.kinds more p.nodes p.clocks s t) s t l (are_rests p can lists more s t)
+    ∙ ap (λ xs. xs ++ lines_after p.outputs (later_streams p.kinds more p.nodes p.clocks s t) s t)
+    (fronts p.outputs (main_streams p.kinds more p.nodes p.clocks t) (main_streams p.kinds lists p.nodes p.clocks s) s
+    (alike p can lists more s t (on p.kinds lists more p.nodes p.clocks s t can.proper can.scheduled f l suffice)))

@@ -1,0 +1,147 @@
+-- What main was fed so far.
+use Rattle.std.proofs.Common.{ℕ, suc, ◌+◌, ◌≤◌, ◌≡◌, List, [], ◌∷◌, ◌++◌, Option, None, Some, length, map, get_or, ap, sym, refl, ◌∙◌, subst, inl, inr, arith}
+use Rattle.std.specs.Prelude.{ℤ, slice_get, slice_index, slice_index_or, option_map}
+use Rattle.std.specs.List.{range_with_len}
+use Rattle.std.proofs.lemmas.List.FromFn.{fill_by_all, length-map-range_with_len, get_or-map-range_with_len}
+use Rattle.std.proofs.lemmas.Option.{get_or_from_slice_get, slice_get-map}
+use Rattle.lucy_word.specs.Bits.{Bits, ones_to}
+use Rattle.lucy_stream.specs.Items.{list_at}
+use Rattle.lucy_stream.specs.Fronts.{IsFront, AreFronts}
+use Rattle.lucy_stream.proofs.FrontLaws.{IsFront-refl, IsFront-trans, IsFront-append, IsFront-length}
+use Rattle.lucy_lines.specs.Cuts.{ItemOf}
+use Rattle.lucy_lines.specs.Fronts.{most_bytes}
+use Rattle.lucy_lines.specs.declared.input.InputSpec.{InputSpec}
+use Rattle.lucy_feed.specs.Sources.{SeenSource, Unread, Open, Read}
+use Rattle.lucy_feed.specs.Feeding.{values_of, values_by_stream}
+use Rattle.lucy_feed.specs.Resuming.{FeedState, AreCounts, AreMet, IsOpen, IsStopped, HasRead, IsGivenUp, AreFresh, ReadsMore, PassesMore, GivesUp, ValuesInTurn}
+use Rattle.lucy_meaning.specs.Horizons.{Suffice, IsHorizon}
+use Rattle.lucy_execution.specs.Playing.{joined}
+use Rattle.lucy_execution.proofs.LaterLaws.{joined_count, joined_at}
+use Rattle.lucy_run.specs.Courses.{HasFed, IsFedSoFar, ReadsOn, GivesUpBehind}
+use Rattle.lucy_run.proofs.FedLaws.{read_nothing}
+
+pub fronts_same : (lists : List (List ℤ)) → AreFronts lists lists
+fronts_same lists i = IsFront-refl (list_at lists i)
+
+pub fronts_longer : (lists more most : List (List ℤ)) → AreFronts lists more → AreFronts more most → AreFronts lists most
+fronts_longer lists more most f g i = IsFront-trans (list_at lists i) (list_at more i) (list_at most i) (f i) (g i)
+
+-- more items suffice for as many instants
+pub suffice_longer : (words : List Bits) (lists more : List (List ℤ)) (t : ℕ) → AreFronts lists more → Suffice words lists t → Suffice words more t
+suffice_longer words lists more t f suffice i word e = let few = suffice i word e in omega (arith, IsFront-length (list_at lists i) (list_at more i) (f i))
+
+pub values_count : (n : ℕ) (items : List ItemOf) → length (values_by_stream n items) ≡ n
+values_count n items = length-map-range_with_len (λ stream. values_of stream items) 0 n
+
+module _ (turn : ValuesInTurn) where
+  -- the values of items are a front of those of more items
+  pub values_front : (n : ℕ) (items more : List ItemOf) → AreFronts (values_by_stream n items) (values_by_stream n (items ++ more))
+  values_front n items more i =
+      subst (λ ys. IsFront (list_at (values_by_stream n items) i) ys) (sym (turn n i items more)) (IsFront-append (list_at (values_by_stream n items) i) (list_at (values_by_stream n more) i))
+
+  -- and are joined by those of the others
+  pub values_joined : (n : ℕ) (items more : List ItemOf) → joined (values_by_stream n items) (values_by_stream n more) ≡ values_by_stream n (items ++ more)
+  values_joined n items more =
+      fill_by_all (λ stream. values_of stream (items ++ more)) (joined (values_by_stream n items) (values_by_stream n more)) n []
+      (joined_count (values_by_stream n items) (values_by_stream n more) ∙ values_count n items)
+      (λ k l. joined_at (values_by_stream n items) (values_by_stream n more) k (values_count n items ∙ sym (values_count n more)) ∙ sym (turn n k items more)
+      ∙ get_or-map-range_with_len (λ stream. values_of stream (items ++ more)) 0 n k k [] l (omega arith))
+
+  -- what was read feeds main so far
+  read_feeds : (input : InputSpec) (inputs : List InputSpec) (first now : SeenSource) (reader : FeedState) (items : List ItemOf) (taken : List ℕ) → HasRead (input ∷ inputs) first now reader items taken →
+      IsFedSoFar (input ∷ inputs) first now (values_by_stream (length (input ∷ inputs)) items)
+  read_feeds input inputs first now reader items taken (inl going) = record {
+    taken = taken;
+    stop = Open;
+    read = going.read;
+    others = values_by_stream (length (input ∷ inputs)) (items ++ going.begin.0);
+    fronts = values_front (length (input ∷ inputs)) items going.begin.0;
+    fed = inr (tt, items ++ going.begin.0, going.begin.1, going.begin.2, refl);
+  }
+  read_feeds input inputs first now reader items taken (inr (stop, halt, stopped)) = record {
+    taken = taken;
+    stop = stop;
+    read = stopped.read;
+    others = values_by_stream (length (input ∷ inputs)) items;
+    fronts = fronts_same (values_by_stream (length (input ∷ inputs)) items);
+    fed = inl (reader.fault, (items, halt, stopped.feed));
+  }
+
+  pub fed_feeds : (inputs : List InputSpec) (first now : SeenSource) (reader : FeedState) (items : List ItemOf) → HasFed inputs first now reader items → IsFedSoFar inputs first now (values_by_stream (length inputs) items)
+  fed_feeds [] first now reader items (e, counted) = record {
+    taken = [];
+    stop = Unread;
+    read = subst (λ u. Read most_bytes first u [] Unread) (sym e) (read_nothing first);
+    others = [];
+    fronts = λ i. tt;
+    fed = inl (None, (refl, refl, refl, refl));
+  }
+  fed_feeds (input ∷ inputs) first now reader items (taken, has) = read_feeds input inputs first now reader items taken has
+
+  pub given_up_feeds : (inputs : List InputSpec) (first now : SeenSource) (items : List ItemOf) (taken : List ℕ) → IsGivenUp inputs first now items taken → IsFedSoFar inputs first now (values_by_stream (length inputs) items)
+  given_up_feeds inputs first now items taken given_up = record {
+    taken = taken;
+    stop = Open;
+    read = given_up.read;
+    others = values_by_stream (length inputs) (items ++ given_up.begin.0);
+    fronts = values_front (length inputs) items given_up.begin.0;
+    fed = inr (tt, items ++ given_up.begin.0, given_up.begin.1, given_up.begin.2, refl);
+  }
+
+  -- reading is given up behind what was read
+  pub gives_up : (before after : SeenSource) (old : FeedState) → (old.reader.inputs ≡ [] → ⊥) → GivesUp before after old → GivesUpBehind before after old
+  gives_up before after old none given_up [] first items fed fresh kept = absurd (none kept)
+  gives_up before after old none given_up (input ∷ inputs) first items (taken, has) fresh kept =
+      let (bytes, is) = given_up (input ∷ inputs) first items [] taken has fresh in
+      given_up_feeds (input ∷ inputs) first after items (taken ++ bytes) is
+
+-- less is fed so far too
+pub feeds_less : (inputs : List InputSpec) (first now : SeenSource) (lists more : List (List ℤ)) → AreFronts lists more → IsFedSoFar inputs first now more → IsFedSoFar inputs first now lists
+feeds_less inputs first now lists more f fed = record { taken = fed.taken; stop = fed.stop; read = fed.read; others = fed.others; fronts = fronts_longer lists more fed.others f fed.fronts; fed = fed.fed }
+
+-- how many items there are is counted
+pub fed_counts : (inputs : List InputSpec) (first now : SeenSource) (reader : FeedState) (items : List ItemOf) → HasFed inputs first now reader items → AreCounts inputs reader.counts items
+fed_counts [] first now reader items (e, counted) = counted
+fed_counts (input ∷ inputs) first now reader items (taken, inl going) = going.counted
+fed_counts (input ∷ inputs) first now reader items (taken, inr (stop, halt, stopped)) = stopped.counted
+
+-- values that are carried away were read all the same
+pub fed_carried : (inputs : List InputSpec) (first now : SeenSource) (reader : FeedState) (items : List ItemOf) (fresh : List (List ℤ)) → HasFed inputs first now reader items → HasFed inputs first now (record reader { fresh = fresh }) items
+fed_carried [] first now reader items fresh fed = fed
+fed_carried (input ∷ inputs) first now reader items fresh fed = fed
+
+-- nothing was read yet
+pub fed_none : (inputs : List InputSpec) (source : SeenSource) (reader : FeedState) → ((s : SeenSource) → HasRead inputs s s reader [] []) → HasFed inputs source source reader []
+fed_none [] source reader begun = (refl, counted_none (begun source))
+  where
+    counted_none : HasRead [] source source reader [] [] → AreCounts [] reader.counts []
+    counted_none (inl going) = going.counted
+    counted_none (inr (stop, halt, stopped)) = stopped.counted
+fed_none (input ∷ inputs) source reader begun = ([], begun source)
+
+-- more was read behind what was read
+pub reads_on : (before after : SeenSource) (old new : FeedState) → (old.reader.inputs ≡ [] → (after ≡ before) × (new ≡ old)) → new.reader.inputs ≡ old.reader.inputs → ReadsMore before after old new → ReadsOn before after old new
+reads_on before after old new unread same more [] first items fed fresh kept =
+    let (source, state) = unread kept in (
+      [],
+      (source ∙ fed.0, subst (λ (s : FeedState). AreCounts [] s.counts (items ++ [])) (sym state) (record { many = fed.1.many; each = fed.1.each })),
+      subst (λ (s : FeedState). AreFresh [] s []) (sym state) fresh,
+      same ∙ kept,
+    )
+reads_on before after old new unread same more (input ∷ inputs) first items (taken, has) fresh kept =
+    let (others, bytes, read, recent) = more (input ∷ inputs) first items [] taken has fresh in
+    (others, (taken ++ bytes, read), recent, same ∙ kept)
+
+-- where there are the items that are wanted, they suffice
+pub met_suffices : (words : List Bits) (counts : List ℕ) (lists : List (List ℤ)) (t : ℕ) → AreMet (map (λ word. ones_to word t) words) counts → ((i : ℕ) → slice_index counts i ≡ length (list_at lists i)) → Suffice words lists t
+met_suffices words counts lists t met are i word e =
+    let wanted : slice_index_or (map (λ w. ones_to w t) words) i 0 ≡ ones_to word t =
+    get_or_from_slice_get (map (λ w. ones_to w t) words) i (ones_to word t) 0 (slice_get-map (λ w. ones_to w t) words i ∙ ap (option_map (λ w. ones_to w t)) e) in
+    let enough = met i in
+    let count = are i in
+    omega (arith, wanted, enough, count)
+
+-- of no inputs no items are wanted
+pub met_none : (words : List Bits) (inputs : List InputSpec) (wanted counts : List ℕ) (t : ℕ) → wanted ≡ map (λ word. ones_to word t) words → length words ≡ length inputs → inputs ≡ [] → AreMet wanted counts
+met_none [] inputs wanted counts t e f none = subst (λ ws. AreMet ws counts) (sym e) (λ i. omega arith)
+met_none (word ∷ words) inputs wanted counts t e f none = let empty = ap length none in absurd (omega arith)
