@@ -58,7 +58,7 @@ goes_ends u t k at before some within inside is goes other again same =
     other (sym (bit_at-prefix w k within) ∙ sym same ∙ goes p (omega arith) ∙ turned ∙ bit_at-turning t before inside)
 
 -- a turn that divides the period: the bits of the period are those of its first turn
-turn_bits : (v : List Bool) (p : ℕ) → 0 < p → p ≤ length v → Repeats (bit_at (turning v)) 0 p → (i : ℕ) → 0 < i → bit_at (turning v) i ≡ bit_at (turning (take p v)) i
+pub turn_bits : (v : List Bool) (p : ℕ) → 0 < p → p ≤ length v → Repeats (bit_at (turning v)) 0 p → (i : ℕ) → 0 < i → bit_at (turning v) i ≡ bit_at (turning (take p v)) i
 turn_bits v p some le again i h =
     let t : List Bool = take p v in
     let r : ℕ = (i - 1) % p in

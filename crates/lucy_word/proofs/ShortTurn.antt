@@ -35,6 +35,12 @@ reducing_start v some = record {
   two = lit≤ tt;
 }
 
+-- and that without the factor that was refused last the bits do not come again
+pub record Trying (v : List Bool) (turn rest factor refused : ℕ) : Type 0 where
+  pub reducing : Reducing v turn rest factor
+  pub passed : refused ≤ factor
+  pub other : factor ≡ refused → Repeats (bit_at (turning v)) 0 (turn / factor) → ⊥
+
 -- no factor is greater than what is left
 pub factor_within : (v : List Bool) (turn rest factor : ℕ) → Reducing v turn rest factor → 1 < rest → factor ≤ rest
 factor_within v turn rest factor h more =
@@ -194,7 +200,8 @@ within_repeats v d i again h =
     ∙ bit_at-turning v i (omega arith)
 
 -- the turn without a factor of the rest is a distance to be looked at
+pub part_of_turn : (v : List Bool) (turn rest factor : ℕ) → Reducing v turn rest factor → rest % factor ≡ 0 → turn / factor ∣ turn
+part_of_turn v turn rest factor h even = quotient_divides factor turn (dvd_trans factor (dvd_of_mod-eq-zero factor even) h.rest_divides)
+
 pub part_divides : (v : List Bool) (turn rest factor : ℕ) → Reducing v turn rest factor → rest % factor ≡ 0 → turn / factor ∣ length v
-part_divides v turn rest factor h even =
-    let of_turn : factor ∣ turn = dvd_trans factor (dvd_of_mod-eq-zero factor even) h.rest_divides in
-    dvd_trans (turn / factor) (quotient_divides factor turn of_turn) h.whole
+part_divides v turn rest factor h even = dvd_trans (turn / factor) (part_of_turn v turn rest factor h even) h.whole

@@ -22,7 +22,8 @@ fn comes_again(period: &[bool], distance: usize) -> bool
 }
 
 // The shortest distance after which the bits of the period come again. The factors of its length are left out one after
-// another, so it takes the period's length times a logarithm.
+// another, and one without which the bits don't come again is not tried twice. What is left is looked at alone, so it takes
+// the period's length for each of its prime factors at most.
 fn shortest_turn(period: &[bool]) -> usize
     requires nonempty { 0 < length period.now }
     requires short { length period.now ≤ most_bits }
@@ -34,14 +35,20 @@ fn shortest_turn(period: &[bool]) -> usize
     let mut turn = period.len();
     let mut rest = turn;
     let mut factor = 2;
+    let mut refused = 0;
     while rest > 1 {
         if rest % factor != 0 {
             factor += 1;
             continue;
         }
         rest /= factor;
-        if comes_again(period, turn / factor) {
+        if factor == refused {
+            continue;
+        }
+        if comes_again(&period[..turn], turn / factor) {
             turn /= factor;
+        } else {
+            refused = factor;
         }
     }
     turn
