@@ -7,12 +7,15 @@ use lucy_word::Word;
 /// The first instant, counted from 1, at which the bits of the words differ; `None` where they are the same at every instant.
 ///
 /// Words that agree on the longer prefix and on as many bits more as both periods have together agree for ever, so no
-/// common period is walked.
+/// common period is walked; equal words are not walked at all.
 pub fn first_difference(a: &Word, b: &Word) -> Option<u64>
     ensures some { IfSome result (IsFirstDifference a.now b.now) }
     ensures only { (at : ℕ) → IsFirstDifference a.now b.now at → result ≡ Some at }
     ensures none { IsNone result ↔ Same a.now b.now }
 {
+    if a.same(b) {
+        return None;
+    }
     let (prefix_a, period_a) = a.lengths();
     let (prefix_b, period_b) = b.lengths();
     let mut walk_a = a.walk();
