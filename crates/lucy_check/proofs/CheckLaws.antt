@@ -16,6 +16,8 @@ use Rattle.lucy_need.specs.Meeting.{Assignment, Meets, MeetsAll, assigned}
 use Rattle.lucy_word.specs.Stored.{IsStored}
 use Rattle.lucy_word.specs.Always.{always}
 use Rattle.lucy_word.proofs.AdaptableLaws.{adaptable_same}
+use Rattle.lucy_word.proofs.Multiples.{lcm_one}
+use Rattle.lucy_order.specs.Horizon.{IsHorizon}
 use Rattle.lucy_check.specs.declared.fault.CheckFault.{CheckFault}
 use Rattle.lucy_check.specs.Passing.{IsTermPassing, AreWithinLimits, OrNoMemory, PassesLimit, Passes, Refuses, size_list, PassesAll, IsWithinLimits, AllWithinLimits, IsFirstRefusal, IsBeyond}
 
@@ -42,6 +44,10 @@ passing w t a word e on stored within = record {
   shortest = stored.shortest;
   within = subst (λ b. IsOnTooLong b t.word → ⊥) e within;
 }
+
+-- two words have one horizon
+pub horizon_one : (a b : Bits) (m n : ℕ) → IsHorizon a b m → IsHorizon a b n → m ≡ n
+horizon_one a b m n h k = omega (arith, h.2, k.2, lcm_one (length a.period) (length b.period) h.0 k.0 h.1 k.1)
 
 -- a need that is passed is met
 pub passes_meets : (w : Assignment) (need : Need) (size : Option ℕ) → Passes w need size → Meets w need

@@ -1,10 +1,11 @@
 // One need: the words of its terms, and how they stand to each other.
-ghost use Rattle.std.specs.Prelude.{◌≡◌, ◌⊎◌, ◌<◌, ◌≤◌, length, IfOk, IfErr};
+ghost use Rattle.std.specs.Prelude.{◌≡◌, ◌⊎◌, ◌<◌, ◌≤◌, length, IsTrue, IfOk, IfErr};
 ghost use Rattle.lucy_word.specs.declared.limit.Limit.TheVariants as lim;
 ghost use Rattle.lucy_need.specs.Meeting.{assigned, IsTermWord, IsWithin};
-ghost use Rattle.lucy_word.specs.Shortest.{IsShortest};
-ghost use Rattle.lucy_word.specs.Sampling.{IsOnTooLong};
+ghost use Rattle.lucy_word.specs.Always.{always};
+ghost use Rattle.lucy_word.specs.Stored.{IsStored};
 ghost use Rattle.lucy_check.specs.Passing.{AreWithinLimits, OrNoMemory, PassesWord, PassesLimit, Passes, Refuses, IsTermPassing};
+ghost use Rattle.lucy_check.specs.Lent.{seen};
 ghost use Rattle.lucy_check.specs.declared.fault.CheckFault.TheVariants as fault;
 
 use crate::fault::CheckFault;
@@ -13,14 +14,55 @@ use lucy_order::{Verdict, adapt, first_difference, horizon_of};
 use lucy_word::{Limit, Word, WordError, on};
 use std::alloc::Global;
 
-// The word of a term of the need.
-fn word_of(alloc: Global, need: u32, term: &Term, words: &[Word]) -> Result<Word, CheckFault>
+// A word that is lent, or one that was made.
+#[derive(Drop)]
+enum Sampled<'w> {
+    Lent(&'w Word),
+    Made(Word),
+}
+
+impl<'w> Sampled<'w> {
+    fn word(&self) -> &Word
+        ensures { result.now ≡ seen self.now }
+    {
+        match self {
+            Sampled::Lent(word) => word,
+            Sampled::Made(word) => word,
+        }
+    }
+}
+
+// Whether the word is (1): every word on it, and it on every word, is that word.
+fn is_always(word: &Word) -> bool
+    ensures is { IsTrue result → word.now ≡ always }
+    ensures stored { IsStored word.now }
+{
+    let (prefix, _) = word.lengths();
+    let (_, period) = word.rate();
+    prefix == 0 && period == 1
+}
+
+// The word of a term of the need. It is made only where neither word of the term is (1).
+fn word_of<'w>(
+    alloc: Global,
+    need: u32,
+    term: &'w Term,
+    words: &'w [Word],
+) -> Result<Sampled<'w>, CheckFault>
     requires { term.now.clock < length words.now }
-    ensures ok { IfOk result (IsTermPassing (assigned words.now) term.now) }
+    ensures ok { IfOk result (λ w. IsTermPassing (assigned words.now) term.now (seen w)) }
     ensures refused { IfErr result (OrNoMemory (PassesWord (assigned words.now) term.now need)) }
 {
-    match on(alloc, &words[term.clock as usize], &term.word) {
-        Ok(word) => Ok(word),
+    let own = &words[term.clock as usize];
+    let base = is_always(own);
+    if is_always(&term.word) {
+        return Ok(Sampled::Lent(own));
+    }
+    if base {
+        return Ok(Sampled::Lent(&term.word));
+    }
+    match on(alloc, own, &term.word) {
+        Ok(word) => Ok(Sampled::Made(word)),
         Err(WordError::TooLong) => Err(CheckFault::Limit {
             need,
             limit: Limit::Word,
@@ -30,21 +72,21 @@ fn word_of(alloc: Global, need: u32, term: &Term, words: &[Word]) -> Result<Word
 }
 
 // The words of both terms of the need, where no limit is passed.
-fn words_within(
+fn words_within<'w>(
     alloc: Global,
     need: u32,
-    first: &Term,
-    second: &Term,
-    words: &[Word],
-) -> Result<(Word, Word), CheckFault>
+    first: &'w Term,
+    second: &'w Term,
+    words: &'w [Word],
+) -> Result<(Sampled<'w>, Sampled<'w>), CheckFault>
     requires first { first.now.clock < length words.now }
     requires second { second.now.clock < length words.now }
-    ensures ok { IfOk result (λ p. AreWithinLimits (assigned words.now) first.now second.now p.0 p.1) }
+    ensures ok { IfOk result (λ p. AreWithinLimits (assigned words.now) first.now second.now (seen p.0) (seen p.1)) }
     ensures refused { IfErr result (OrNoMemory (PassesLimit (assigned words.now) first.now second.now need)) }
 {
     let a = word_of(alloc, need, first, words)?;
     let b = word_of(alloc, need, second, words)?;
-    if horizon_of(&a, &b) > Limit::Compare.number() {
+    if horizon_of(a.word(), b.word()) > Limit::Compare.number() {
         return Err(CheckFault::Limit {
             need,
             limit: Limit::Compare,
@@ -67,7 +109,7 @@ pub(crate) fn check_need(
     match need {
         Need::Equal(first, second) => {
             let (a, b) = words_within(alloc, number, first, second, words)?;
-            match first_difference(&a, &b) {
+            match first_difference(a.word(), b.word()) {
                 None => Ok(None),
                 Some(instant) => Err(CheckFault::Differs {
                     need: number,
@@ -77,7 +119,7 @@ pub(crate) fn check_need(
         }
         Need::Adapt(first, second) => {
             let (a, b) = words_within(alloc, number, first, second, words)?;
-            match adapt(&a, &b) {
+            match adapt(a.word(), b.word()) {
                 Verdict::Adaptable(size) => Ok(Some(size)),
                 Verdict::Rates => Err(CheckFault::Rates { need: number }),
                 Verdict::Late(instant) => Err(CheckFault::Late {
