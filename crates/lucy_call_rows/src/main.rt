@@ -6,6 +6,7 @@
 
 mod cutting;
 mod devices;
+mod limits;
 mod printing;
 mod rings;
 mod threads;
@@ -24,5 +25,6 @@ fn main(rt: HostRuntime) -> io::Result<()> {
     }
     threads::show(&rt)?;
     printing::show(&rt)?;
-    devices::show(&rt)
+    devices::show(&rt)?;
+    limits::show(&rt)
 }
