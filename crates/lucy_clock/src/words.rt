@@ -74,8 +74,7 @@ fn next_word(
 
 // Tests that what a place hands down, with its own word, isn't too long.
 fn test_place(alloc: Global, node: &PlacedNode, place: u32, own: &Word) -> Result<(), ClockError>
-    requires place { (1 ≤ place) × (place ≤ length node.now.places) }
-    requires turned { HaveTurned node.now }
+    requires { (1 ≤ place) × (place ≤ length node.now.places) }
     ensures ok { OnOk result (NextHandsTooLong node.now place own.now → ⊥) }
     ensures refused { IfErr result (λ e. (e ≡ err.OutOfMemory) ⊎ ((e ≡ err.Limit lim.Word) × NextHandsTooLong node.now place own.now)) }
 {
