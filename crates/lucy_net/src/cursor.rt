@@ -7,6 +7,7 @@ use crate::kind::ActorKind;
 use lucy_word::{Word, words_are_stored};
 
 // The bit at the cursor of a sampling or a merge.
+#[inline(always)]
 pub(crate) fn bit_under(kind: &ActorKind, cursor: u64) -> bool
     requires { (fired : ℕ) × HasCursor (form_of kind.now) fired cursor }
     ensures { (fired : ℕ) → HasCursor (form_of kind.now) fired cursor → Reads (form_of kind.now) fired result }
@@ -32,6 +33,7 @@ fn next_bit(word: &Word, cursor: u64) -> u64
 }
 
 // The cursor after one firing more.
+#[inline(always)]
 pub(crate) fn cursor_on(kind: &ActorKind, cursor: u64) -> u64
     requires { (fired : ℕ) × HasCursor (form_of kind.now) fired cursor }
     ensures { (fired : ℕ) → HasCursor (form_of kind.now) fired cursor → HasCursor (form_of kind.now) (fired + 1) result }

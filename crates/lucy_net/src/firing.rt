@@ -22,6 +22,7 @@ pub enum Move {
 }
 
 // The take of this number, counted from 0.
+#[inline(always)]
 fn take_at(takes: &[u32], step: usize) -> Move
     ensures { result ≡ move_of (slice_get (map Takes takes.now) step) }
 {
@@ -32,6 +33,7 @@ fn take_at(takes: &[u32], step: usize) -> Move
 }
 
 // The give of this number, counted from 0.
+#[inline(always)]
 fn give_at(gives: &[u32], step: usize) -> Move
     ensures { result ≡ move_of (slice_get (map Gives gives.now) step) }
 {
@@ -42,6 +44,7 @@ fn give_at(gives: &[u32], step: usize) -> Move
 }
 
 // In takes that gives follow, the operation of this number.
+#[inline(always)]
 fn take_then_give(takes: &[u32], gives: &[u32], step: usize) -> Move
     ensures { result ≡ move_of (slice_get (map Takes takes.now ++ map Gives gives.now) step) }
 {
@@ -53,6 +56,7 @@ fn take_then_give(takes: &[u32], gives: &[u32], step: usize) -> Move
 }
 
 // In gives that takes follow, the operation of this number.
+#[inline(always)]
 fn give_then_take(takes: &[u32], gives: &[u32], step: usize) -> Move
     ensures { result ≡ move_of (slice_get (map Gives gives.now ++ map Takes takes.now) step) }
 {
@@ -64,6 +68,7 @@ fn give_then_take(takes: &[u32], gives: &[u32], step: usize) -> Move
 }
 
 // The operation of this number in a firing in which a sampling or a merge reads this bit.
+#[inline(always)]
 pub(crate) fn move_by(actor: &Actor, bit: bool, step: u32) -> Move
     requires arity { length actor.now.takes ≡ operands (form_of actor.now.kind) }
     ensures { (fired : ℕ) → Reads (form_of actor.now.kind) fired bit →
@@ -80,6 +85,22 @@ pub(crate) fn move_by(actor: &Actor, bit: bool, step: u32) -> Move
             take_then_give(&takes[operand..operand + 1], gives, step)
         }
         _ => take_then_give(takes, gives, step),
+    }
+}
+
+// How many operations there are in a firing in which a sampling or a merge reads this bit.
+#[inline(always)]
+pub(crate) fn moves_by(actor: &Actor, bit: bool) -> u64
+    requires arity { length actor.now.takes ≡ operands (form_of actor.now.kind) }
+    ensures { (fired : ℕ) → Reads (form_of actor.now.kind) fired bit →
+        result ≡ length (firing_ops (form_of actor.now.kind) actor.now.takes actor.now.gives fired) }
+{
+    let takes = actor.takes.list().len() as u64;
+    let gives = actor.gives.list().len() as u64;
+    match &actor.kind {
+        ActorKind::When(_) if !bit => takes,
+        ActorKind::Merge(_) => 1 + gives,
+        _ => takes + gives,
     }
 }
 

@@ -11,7 +11,7 @@ ghost use Rattle.lucy_net.specs.States.{IsUsable, IsActorState, IsOfActor, IsNex
 ghost use Rattle.lucy_net.specs.Stepping.{IsSteppedOn};
 
 use crate::cursor::{bit_under, cursor_on, first_cursor};
-use crate::firing::{Move, move_by};
+use crate::firing::{Move, move_by, moves_by};
 use crate::kind::ActorKind;
 use crate::net::Actor;
 
@@ -59,6 +59,7 @@ pub fn first_state(actor: &Actor, instants: u64) -> ActorState
 }
 
 /// The actor's next operation, `Done` exactly where its quota of firings is done.
+#[inline(always)]
 pub fn next_move(actor: &Actor, state: &ActorState) -> Move
     requires usable { IsUsable actor.now }
     requires state { IsOfActor actor.now state.now }
@@ -75,6 +76,7 @@ pub fn next_move(actor: &Actor, state: &ActorState) -> Move
 }
 
 /// Which of the actor's takes, or of its gives, the next operation is on, counted from 0.
+#[inline(always)]
 pub fn next_end(actor: &Actor, state: &ActorState) -> u32
     requires usable { IsUsable actor.now }
     requires state { IsOfActor actor.now state.now }
@@ -88,6 +90,7 @@ pub fn next_end(actor: &Actor, state: &ActorState) -> u32
 }
 
 // The same by the numbers of its takes and gives.
+#[inline(always)]
 fn end_of(actor: &Actor, state: &ActorState, takes: u32, gives: u32) -> u32
     requires { HasCursor (form_of actor.now.kind) state.now.fired state.now.cursor }
     ensures { result ≡ end_at (form_of actor.now.kind) takes gives state.now.fired state.now.step }
@@ -114,6 +117,7 @@ fn past(step: u32, first: u32) -> u32
 }
 
 // One operation of the firing more; after its last one the next firing begins.
+#[inline(always)]
 fn step_on(actor: &Actor, state: ActorState) -> ActorState
     requires usable { IsUsable actor.now }
     requires open { state.fired < state.quota }
@@ -122,7 +126,7 @@ fn step_on(actor: &Actor, state: ActorState) -> ActorState
     ensures { IsSteppedOn actor.now state result }
 {
     let step = state.step + 1;
-    if move_by(actor, bit_under(&actor.kind, state.cursor), step) == Move::Done {
+    if moves_by(actor, bit_under(&actor.kind, state.cursor)) <= u64::from(step) {
         ActorState {
             fired: state.fired + 1,
             step: 0,
@@ -135,6 +139,7 @@ fn step_on(actor: &Actor, state: ActorState) -> ActorState
 }
 
 // From which operand the actor takes next.
+#[inline(always)]
 fn operand_of(actor: &Actor, state: &ActorState) -> u32
     requires { HasCursor (form_of actor.now.kind) state.now.fired state.now.cursor }
     ensures { result ≡ operand_at (form_of actor.now.kind) state.now.fired state.now.step }
@@ -153,6 +158,7 @@ fn operand_of(actor: &Actor, state: &ActorState) -> u32
 }
 
 // The item that was taken last from this operand, kept.
+#[inline(always)]
 fn keep(state: ActorState, operand: u32, value: i64) -> ActorState
     requires { operand < 3 }
     ensures quota { result.quota ≡ state.quota }
@@ -175,6 +181,7 @@ fn keep(state: ActorState, operand: u32, value: i64) -> ActorState
 }
 
 /// The actor takes this item.
+#[inline(always)]
 pub fn after_take(actor: &Actor, state: &mut ActorState, value: i64)
     requires usable { IsUsable actor.now }
     requires state { IsOfActor actor.now state.old }
@@ -186,6 +193,7 @@ pub fn after_take(actor: &Actor, state: &mut ActorState, value: i64)
 }
 
 /// The actor gives an item.
+#[inline(always)]
 pub fn after_give(actor: &Actor, state: &mut ActorState)
     requires usable { IsUsable actor.now }
     requires state { IsOfActor actor.now state.old }

@@ -17,6 +17,7 @@ use lucy_host::{Host, op_value};
 
 /// The value that the actor gives in its next firing, by what it took last. `input` is the list of an input's actor, of which
 /// no other actor reads anything, and the host has the operator of a host's actor.
+#[inline(always)]
 pub fn give_value<F: Fn(u32, i64, i64) -> i64 + Sync>(
     actor: &Actor,
     state: &ActorState,
