@@ -16,6 +16,9 @@ use lucy_host::Host;
 // done looks no further.
 const MOST_VAIN_LOOKS: u64 = 16_384;
 
+// After so many passes one in the other direction is tried.
+const TRIED_AFTER: u64 = 16;
+
 // All possible moves of each part, from the first part to the last; how many they are.
 fn pass_on<F: Fn(u32, i64, i64) -> i64 + Sync>(parts: &mut [Part], host: &Host<F>) -> u64
     requires ready { AreReady parts.old }
@@ -87,9 +90,15 @@ fn looks_in_vain(vain: u64, more: u64, parts: &[Part]) -> u64
     }
 }
 
-// Passes over the parts, each in the other direction than the one before: so whatever their order, an item goes from part to part
-// in one of two passes, also where it goes round a loop. They end when so many looks in a row found nothing; of a worker that
-// moves alone there is the first pass only. The gate was passed once before.
+// Whether the next pass goes in the other direction: where the last one moved less than half of what the one before it moved, and
+// once in so many passes, so that a direction in which items go further is found.
+fn turns_round(passes: u64, before: u64, more: u64) -> bool {
+    passes % TRIED_AFTER == 0 || more < before / 2
+}
+
+// Passes over the parts, back and on, as `turns_round` says: so whatever their order, an item goes from part to part in one pass,
+// also where it goes round a loop, and no pass is made in vain where one in the same direction moves as much. They end when so
+// many looks in a row found nothing; of a worker that moves alone there is the first pass only. The gate was passed once before.
 pub(crate) fn turn<F: Fn(u32, i64, i64) -> i64 + Sync>(
     parts: &mut [Part],
     host: &Host<F>,
@@ -105,11 +114,15 @@ pub(crate) fn turn<F: Fn(u32, i64, i64) -> i64 + Sync>(
     ensures rests { NoneCan parts.new }
 {
     let mut moves = pass_on(parts, host);
+    let mut before = moves;
     let mut back = true;
+    let mut passes = 0u64;
     let mut vain = if alone { MOST_VAIN_LOOKS } else { 0 };
     while vain < MOST_VAIN_LOOKS {
         let more = pass(parts, host, back);
-        back = !back;
+        passes = passes.wrapping_add(1);
+        back = back != turns_round(passes, before, more);
+        before = more;
         vain = looks_in_vain(vain, more, parts);
         moves += more;
     }
