@@ -8,6 +8,8 @@ use Rattle.lucy_event.specs.Firings.{firing_ops, ops_of}
 use Rattle.lucy_net.specs.declared.kind.ActorKind.{ActorKind}
 use Rattle.lucy_net.specs.declared.kind.ActorKind.TheVariants.{Input, Host, Output}
 use Rattle.lucy_net.specs.declared.net.Actor.{Actor}
+use Rattle.lucy_net.specs.declared.ends.EndMove.{EndMove}
+use Rattle.lucy_net.specs.declared.ends.EndMove.TheVariants.{Take, Give}
 use Rattle.lucy_net.specs.declared.state.ActorState.{ActorState}
 use Rattle.lucy_net.specs.Plans.{form_of}
 use Rattle.lucy_net.specs.Cursors.{HasCursor}
@@ -52,12 +54,12 @@ operand_at (Merged word) fired step = if bit_at word (fired + 1) then 0 else 1
 operand_at (Delayed first) fired step = 0
 operand_at form fired step = step
 
--- which of so many takes, or of so many gives, the operation of this number is on
-abbrev pub end_at : Form → ℕ → ℕ → ℕ → ℕ → ℕ
-end_at (Merged word) takes gives fired zero = if bit_at word (fired + 1) then 0 else 1
-end_at (Merged word) takes gives fired (suc step) = step
-end_at (Delayed first) takes gives fired step = if nat_lt step gives then step else step - gives
-end_at form takes gives fired step = if nat_lt step takes then step else step - takes
+-- the operation of this number, by which of so many takes, or of so many gives, it is on
+abbrev pub end_move_at : Form → ℕ → ℕ → ℕ → ℕ → EndMove
+end_move_at (Merged word) takes gives fired zero = Take (if bit_at word (fired + 1) then 0 else 1)
+end_move_at (Merged word) takes gives fired (suc step) = Give step
+end_move_at (Delayed first) takes gives fired step = if nat_lt step gives then Give step else Take (step - gives)
+end_move_at form takes gives fired step = if nat_lt step takes then Take step else Give (step - takes)
 
 -- one item more from an operand
 abbrev pub took_more : List (List ℤ) → ℕ → ℤ → List (List ℤ)

@@ -7,6 +7,7 @@
 
 mod copy;
 mod cursor;
+mod ends;
 mod firing;
 mod kind;
 mod laws;
@@ -16,6 +17,7 @@ mod state;
 mod value;
 mod words;
 
+pub use ends::{EndMove, next_end_move};
 pub use firing::{Move, firing_move};
 pub use kind::ActorKind;
 pub use laws::{
@@ -24,6 +26,6 @@ pub use laws::{
 };
 pub use lists::{Actors, Numbers, Rings};
 pub use net::{Actor, Net, RingSpec};
-pub use state::{ActorState, after_give, after_take, first_state, next_end, next_move};
+pub use state::{ActorState, after_give, after_take, first_state, next_move};
 pub use value::give_value;
 pub use words::net_words_are_stored;

@@ -1,5 +1,5 @@
 // An actor's operations one after another, firing by firing.
-ghost use Rattle.std.specs.Prelude.{ℕ, ◌≡◌, ◌↔◌, ◌+◌, ◌-◌, ◌<◌, ◌≤◌, ◌^◌, List, [], ◌∷◌, ◌++◌, ℤ, length, replicate, nat_lt, slice_get, if◌then◌else◌, Some};
+ghost use Rattle.std.specs.Prelude.{ℕ, ◌≡◌, ◌↔◌, ◌+◌, ◌<◌, ◌≤◌, ◌^◌, List, [], ◌∷◌, ◌++◌, ℤ, length, replicate, slice_get, Some};
 ghost use Rattle.lucy_stream.specs.Forms.{operands};
 ghost use Rattle.lucy_event.specs.Systems.{RingOp, Takes, Gives};
 ghost use Rattle.lucy_event.specs.Firings.{firing_ops};
@@ -7,7 +7,7 @@ ghost use Rattle.lucy_event.specs.Plans.{task_ops};
 ghost use Rattle.lucy_net.specs.Plans.{form_of, task_of};
 ghost use Rattle.lucy_net.specs.Moves.{move_of};
 ghost use Rattle.lucy_net.specs.Cursors.{HasCursor};
-ghost use Rattle.lucy_net.specs.States.{IsUsable, IsActorState, IsOfActor, IsNext, operand_at, end_at, took_more};
+ghost use Rattle.lucy_net.specs.States.{IsUsable, IsActorState, IsOfActor, IsNext, operand_at, took_more};
 ghost use Rattle.lucy_net.specs.Stepping.{IsSteppedOn};
 
 use crate::cursor::{bit_under, cursor_on, first_cursor};
@@ -73,47 +73,6 @@ pub fn next_move(actor: &Actor, state: &ActorState) -> Move
     } else {
         Move::Done
     }
-}
-
-/// Which of the actor's takes, or of its gives, the next operation is on, counted from 0.
-#[inline(always)]
-pub fn next_end(actor: &Actor, state: &ActorState) -> u32
-    requires usable { IsUsable actor.now }
-    requires state { IsOfActor actor.now state.now }
-    requires next { (op : RingOp) × IsNext actor.now state.now op }
-    ensures take { (ring : ℕ) → IsNext actor.now state.now (Takes ring) → slice_get actor.now.takes result ≡ Some ring }
-    ensures give { (ring : ℕ) → IsNext actor.now state.now (Gives ring) → slice_get actor.now.gives result ≡ Some ring }
-{
-    let takes = actor.takes.list().len() as u32;
-    let gives = actor.gives.list().len() as u32;
-    end_of(actor, state, takes, gives)
-}
-
-// The same by the numbers of its takes and gives.
-#[inline(always)]
-fn end_of(actor: &Actor, state: &ActorState, takes: u32, gives: u32) -> u32
-    requires { HasCursor (form_of actor.now.kind) state.now.fired state.now.cursor }
-    ensures { result ≡ end_at (form_of actor.now.kind) takes gives state.now.fired state.now.step }
-{
-    match &actor.kind {
-        ActorKind::Fby(_) => past(state.step, gives),
-        ActorKind::Merge(_) if state.step > 0 => state.step - 1,
-        ActorKind::Merge(_) => {
-            if bit_under(&actor.kind, state.cursor) {
-                0
-            } else {
-                1
-            }
-        }
-        _ => past(state.step, takes),
-    }
-}
-
-// The number of an operation among those of its sort, where so many of the other sort, or of its own, come first.
-fn past(step: u32, first: u32) -> u32
-    ensures { result ≡ (if nat_lt step first then step else step - first) }
-{
-    if step < first { step } else { step - first }
 }
 
 // One operation of the firing more; after its last one the next firing begins.
