@@ -4,7 +4,6 @@ pub mod ListLaws
 pub mod PartLaws
 pub mod GiveLaws
 pub mod TakeLaws
-pub mod StepLaws
 pub mod MeetLaws
 pub mod WithinLaws
 pub mod RoundLaws

@@ -1,16 +1,10 @@
 -- How the parts of all workers make a state.
-use Rattle.std.specs.Prelude.{ℕ, ◌+◌, ◌<◌, ◌≤◌, ◌≡◌, [], ◌++◌, List, ℤ, length, slice_get, slice_index_or, Some}
-use Rattle.lucy_host.specs.declared.kind.HostKind.{HostKind}
-use Rattle.lucy_stream.specs.Fronts.{IsFront}
+use Rattle.std.specs.Prelude.{ℕ, ◌+◌, ◌≡◌, ◌++◌, length, slice_get, Some}
 use Rattle.lucy_event.specs.Systems.{System, given, taken}
-use Rattle.lucy_event.specs.States.{State, IsState}
-use Rattle.lucy_event.specs.Plans.{machine, system, IsPlugged}
-use Rattle.lucy_net.specs.declared.net.Net.{Net}
-use Rattle.lucy_net.specs.Plans.{plan}
+use Rattle.lucy_event.specs.States.{State}
 use Rattle.lucy_ring.specs.Views.{GiverView, TakerView}
 use Rattle.lucy_worker.specs.declared.part.Part.{Part}
-use Rattle.lucy_worker.specs.Parts.{done_of, given_on, taken_on, IsPartAt}
-use Rattle.lucy_worker.specs.Turns.{HasRun}
+use Rattle.lucy_worker.specs.Parts.{done_of, given_on, taken_on}
 
 -- the state is the part's, as far as it speaks of the part's actor
 pub record IsIn (sys : System) (base : State) (p : Part) (s : State) : Type 0 where

@@ -1,5 +1,5 @@
 // One actor, and its moves.
-ghost use Rattle.std.specs.Prelude.{ℕ, ◌≡◌, ◌+◌, ◌<◌, ◌≤◌, IsTrue, IsFalse, List, length, vec_capacity};
+ghost use Rattle.std.specs.Prelude.{ℕ, ◌≡◌, ◌+◌, ◌<◌, ◌≤◌, IsTrue, IsFalse, List, length, slice_get, Some, vec_capacity};
 ghost use Rattle.lucy_host.specs.declared.kind.HostKind.{HostKind};
 ghost use Rattle.lucy_host.specs.Host.{Serves, lent};
 ghost use Rattle.lucy_host.specs.Operators.{kinds_of};
@@ -11,7 +11,7 @@ ghost use Rattle.lucy_worker.specs.Readiness.{left_of, IsReady, HasSlot, out_aft
 
 use lucy_host::Host;
 use lucy_net::{
-    Actor, ActorKind, ActorState, Move, after_give, after_take, give_value, next_end, next_move,
+    Actor, ActorKind, ActorState, EndMove, after_give, after_take, give_value, next_end_move,
 };
 use lucy_ring::{Giver, Taker};
 
@@ -67,17 +67,18 @@ impl Part {
         ensures rests { IsFalse result → CanMove self.new → ⊥ }
         ensures possible { CanMove self.old → IsTrue result }
     {
-        match next_move(&self.actor, &self.state) {
-            Move::Take(_) => self.take(),
-            Move::Give(_) => self.give(host),
-            Move::Done => false,
+        match next_end_move(&self.actor, &self.state) {
+            EndMove::Take(end) => self.take(end),
+            EndMove::Give(end) => self.give(host, end),
+            EndMove::Done => false,
         }
     }
 
-    // Takes, where an item is found.
-    fn take(&mut self) -> bool
+    // Takes from this one of its ends, where an item is found.
+    #[inline(always)]
+    fn take(&mut self, end: u32) -> bool
         requires ready { IsReady self.old }
-        requires next { (ring : ℕ) × IsNext self.old.actor self.old.state (Takes ring) }
+        requires next { (ring : ℕ) × IsNext self.old.actor self.old.state (Takes ring) × (slice_get self.old.actor.takes end ≡ Some ring) }
         ensures ready { IsReady self.new }
         ensures run { (kinds : List HostKind) → HasRun kinds self.old self.new }
         ensures moved { IsTrue result → (done_of self.new ≡ done_of self.old + 1) × (left_of self.new + 1 ≡ left_of self.old) }
@@ -85,8 +86,7 @@ impl Part {
         ensures rests { IsFalse result → CanMove self.new → ⊥ }
         ensures possible { CanMove self.old → IsTrue result }
     {
-        let end = next_end(&self.actor, &self.state) as usize;
-        match self.takers[end].take() {
+        match self.takers[end as usize].take() {
             Some(value) => {
                 after_take(&self.actor, &mut self.state, value);
                 put_out(&self.actor.kind, &mut self.output, value);
@@ -96,10 +96,11 @@ impl Part {
         }
     }
 
-    // Gives, where a slot is found.
-    fn give<F: Fn(u32, i64, i64) -> i64 + Sync>(&mut self, host: &Host<F>) -> bool
+    // Gives to this one of its ends, where a slot is found.
+    #[inline(always)]
+    fn give<F: Fn(u32, i64, i64) -> i64 + Sync>(&mut self, host: &Host<F>, end: u32) -> bool
         requires ready { IsReady self.old }
-        requires next { (ring : ℕ) × IsNext self.old.actor self.old.state (Gives ring) }
+        requires next { (ring : ℕ) × IsNext self.old.actor self.old.state (Gives ring) × (slice_get self.old.actor.gives end ≡ Some ring) }
         requires serves { Serves F.pre F.post host.now }
         requires served { IsServed (length (lent host.now)) self.old }
         ensures ready { IsReady self.new }
@@ -110,8 +111,7 @@ impl Part {
         ensures possible { CanMove self.old → IsTrue result }
     {
         let value = give_value(&self.actor, &self.state, &self.input, host);
-        let end = next_end(&self.actor, &self.state) as usize;
-        if self.givers[end].give(value).is_err() {
+        if self.givers[end as usize].give(value).is_err() {
             return false;
         }
         after_give(&self.actor, &mut self.state);

@@ -11,13 +11,13 @@ use Rattle.lucy_worker.proofs.part.Part.give.Given.{Over}
 pub index_mut-requires : goal.index_mut-requires
 index_mut-requires g c =
     let next = c.requires.next in
-    let inside = give_inside c.args.self.now next.0 c.next_end-end.result c.requires.ready (c.next_end-end.ensures.give next.0 next.1) in
+    let inside = give_inside c.args.self.now next.0 c.args.end c.requires.ready next.2 in
     omega arith
 
 pub give-requires : goal.give-requires
 give-requires g c =
     let next = c.requires.next in
-    record { few = give_few c.args.self.now next.0 c.next_end-end.result c.index_mut.result.now c.requires.ready (c.next_end-end.ensures.give next.0 next.1) c.index_mut.ensures.value }
+    record { few = give_few c.args.self.now next.0 c.args.end c.index_mut.result.now c.requires.ready next.2 c.index_mut.ensures.value }
 
 pub give_value-value-requires-clause-item : goal.give_value-value-requires-clause-item
 give_value-value-requires-clause-item g c k l =
@@ -27,12 +27,12 @@ give_value-value-requires-clause-item g c k l =
 pub returns-then-is_err-clause-ready : goal.returns-then-is_err-clause-ready
 returns-then-is_err-clause-ready g c =
     let same : c.give.new.self ≡ c.index_mut.result.now = search rules in
-    kept_ready c.args.self.now c.next_end-end.result c.index_mut.result.now c.give.new.self c.requires.ready c.index_mut.ensures.value same
+    kept_ready c.args.self.now c.args.end c.index_mut.result.now c.give.new.self c.requires.ready c.index_mut.ensures.value same
 
 pub returns-then-is_err-clause-run : goal.returns-then-is_err-clause-run
 returns-then-is_err-clause-run g c =
     let same : c.give.new.self ≡ c.index_mut.result.now = search rules in
-    kept_run (kinds_of (lent c.args.host.now)) c.args.self.now c.next_end-end.result c.index_mut.result.now c.give.new.self c.index_mut.ensures.value same
+    kept_run (kinds_of (lent c.args.host.now)) c.args.self.now c.args.end c.index_mut.result.now c.give.new.self c.index_mut.ensures.value same
 
 pub returns-then-is_err-clause-stayed : goal.returns-then-is_err-clause-stayed
 returns-then-is_err-clause-stayed g c f = (refl, refl)
@@ -41,23 +41,23 @@ pub returns-then-is_err-clause-rests : goal.returns-then-is_err-clause-rests
 returns-then-is_err-clause-rests g c f can =
     let next = c.requires.next in
     let same : c.give.new.self ≡ c.index_mut.result.now = search rules in
-    let found = c.give.ensures.succeeds (none_known c.args.self.now next.0 c.next_end-end.result c.index_mut.result.now c.give.new.self c.requires.ready next.1 (c.next_end-end.ensures.give next.0 next.1) c.index_mut.ensures.value same can) in
+    let found = c.give.ensures.succeeds (none_known c.args.self.now next.0 c.args.end c.index_mut.result.now c.give.new.self c.requires.ready next.1 next.2 c.index_mut.ensures.value same can) in
     search rules
 
 pub returns-then-is_err-clause-possible : goal.returns-then-is_err-clause-possible
 returns-then-is_err-clause-possible g c can =
     let next = c.requires.next in
-    let found = c.give.ensures.succeeds (knows_slot c.args.self.now next.0 c.next_end-end.result c.index_mut.result.now c.requires.ready can next.1 (c.next_end-end.ensures.give next.0 next.1) c.index_mut.ensures.value) in
+    let found = c.give.ensures.succeeds (knows_slot c.args.self.now next.0 c.args.end c.index_mut.result.now c.requires.ready can next.1 next.2 c.index_mut.ensures.value) in
     search rules
 
 given : (g : Over) (c : After-after_give g) → c.give.new.self.given ≡ c.index_mut.result.now.given ++ c.give_value-value.result ∷ []
 given g c = search rules
 
-gave : (g : Over) (c : After-after_give g) → Gave (kinds_of (lent c.args.host.now)) c.args.self.now c.after_give.new.state c.requires.next.0 c.next_end-end.result c.give_value-value.result c.index_mut.result.now c.give.new.self
+gave : (g : Over) (c : After-after_give g) → Gave (kinds_of (lent c.args.host.now)) c.args.self.now c.after_give.new.state c.requires.next.0 c.args.end c.give_value-value.result c.index_mut.result.now c.give.new.self
 gave g c = record {
   ready = c.requires.ready;
   next = c.requires.next.1;
-  end = c.next_end-end.ensures.give c.requires.next.0 c.requires.next.1;
+  end = c.requires.next.2;
   was = c.index_mut.ensures.value;
   ring = c.give.ensures.ring;
   given = given g c;

@@ -1,14 +1,13 @@
 use Rattle.lucy_host.specs.Host.{lent}
 use Rattle.lucy_host.specs.Operators.{kinds_of}
 use Rattle.lucy_worker.proofs.Runs.{stays}
-use Rattle.lucy_worker.proofs.StepLaws.{next_take, next_give}
 use Rattle.lucy_worker.proofs.part.Part.step.Goals as goal
 
 pub take-requires-clause-next : goal.take-requires-clause-next
-take-requires-clause-next g c = next_take c.args.self.now.actor c.args.self.now.state c.next_move.result _ c.requires.ready.state c.next_move.ensures.next c.next_move.ensures.done c.in-Take.is
+take-requires-clause-next g c = c.next_end_move.ensures.take _ c.in-Take.is
 
 pub give-requires-clause-next : goal.give-requires-clause-next
-give-requires-clause-next g c k l = next_give c.args.self.now.actor c.args.self.now.state c.next_move.result _ c.requires.ready.state c.next_move.ensures.next c.next_move.ensures.done c.in-Give.is
+give-requires-clause-next g c k l = c.next_end_move.ensures.give _ c.in-Give.is
 
 pub returns-in-Take-clause-run : goal.returns-in-Take-clause-run
 returns-in-Take-clause-run g c = c.take.ensures.run (kinds_of (lent c.args.host.now))

@@ -11,13 +11,13 @@ use Rattle.lucy_worker.proofs.part.Part.take.Goals.{In-None, After-put_out}
 pub index_mut-requires : goal.index_mut-requires
 index_mut-requires c =
     let next = c.requires.next in
-    let inside = take_inside c.args.self.now next.0 c.next_end-end.result c.requires.ready (c.next_end-end.ensures.take next.0 next.1) in
+    let inside = take_inside c.args.self.now next.0 c.args.end c.requires.ready next.2 in
     omega arith
 
 pub take-requires : goal.take-requires
 take-requires c =
     let next = c.requires.next in
-    record { few = take_few c.args.self.now next.0 c.next_end-end.result c.index_mut.result.now c.requires.ready (c.next_end-end.ensures.take next.0 next.1) c.index_mut.ensures.value }
+    record { few = take_few c.args.self.now next.0 c.args.end c.index_mut.result.now c.requires.ready next.2 c.index_mut.ensures.value }
 
 pub put_out-requires : goal.put_out-requires
 put_out-requires c = (let next = c.requires.next in record { room = slot_there c.args.self.now next.0 c.requires.ready next.1 })
@@ -26,10 +26,10 @@ unchanged : (c : In-None) → c.take.new.self ≡ c.index_mut.result.now
 unchanged c = search rules
 
 pub returns-in-None-clause-ready : goal.returns-in-None-clause-ready
-returns-in-None-clause-ready c = kept_ready c.args.self.now c.next_end-end.result c.index_mut.result.now c.take.new.self c.requires.ready c.index_mut.ensures.value (unchanged c)
+returns-in-None-clause-ready c = kept_ready c.args.self.now c.args.end c.index_mut.result.now c.take.new.self c.requires.ready c.index_mut.ensures.value (unchanged c)
 
 pub returns-in-None-clause-run : goal.returns-in-None-clause-run
-returns-in-None-clause-run c = λ kinds. kept_run kinds c.args.self.now c.next_end-end.result c.index_mut.result.now c.take.new.self c.index_mut.ensures.value (unchanged c)
+returns-in-None-clause-run c = λ kinds. kept_run kinds c.args.self.now c.args.end c.index_mut.result.now c.take.new.self c.index_mut.ensures.value (unchanged c)
 
 pub returns-in-None-clause-stayed : goal.returns-in-None-clause-stayed
 returns-in-None-clause-stayed c f = (refl, refl)
@@ -37,13 +37,13 @@ returns-in-None-clause-stayed c f = (refl, refl)
 pub returns-in-None-clause-rests : goal.returns-in-None-clause-rests
 returns-in-None-clause-rests c f can =
     let next = c.requires.next in
-    let found = c.take.ensures.succeeds (none_known c.args.self.now next.0 c.next_end-end.result c.index_mut.result.now c.take.new.self c.requires.ready next.1 (c.next_end-end.ensures.take next.0 next.1) c.index_mut.ensures.value (unchanged c) can) in
+    let found = c.take.ensures.succeeds (none_known c.args.self.now next.0 c.args.end c.index_mut.result.now c.take.new.self c.requires.ready next.1 next.2 c.index_mut.ensures.value (unchanged c) can) in
     search rules
 
 pub returns-in-None-clause-possible : goal.returns-in-None-clause-possible
 returns-in-None-clause-possible c can =
     let next = c.requires.next in
-    let found = c.take.ensures.succeeds (knows_item c.args.self.now next.0 c.next_end-end.result c.index_mut.result.now c.requires.ready can next.1 (c.next_end-end.ensures.take next.0 next.1) c.index_mut.ensures.value) in
+    let found = c.take.ensures.succeeds (knows_item c.args.self.now next.0 c.args.end c.index_mut.result.now c.requires.ready can next.1 next.2 c.index_mut.ensures.value) in
     search rules
 
 taken : (c : After-put_out) → c.take.new.self.taken ≡ c.index_mut.result.now.taken ++ c.in-Some.value ∷ []
@@ -52,11 +52,11 @@ taken c = search rules
 back : (c : After-put_out) → to_z w64 (of_z w64 c.in-Some.value) ≡ c.in-Some.value
 back c = omega (arith, ints)
 
-took : (c : After-put_out) → Took c.args.self.now c.after_take.new.state c.put_out.new.output c.requires.next.0 c.next_end-end.result c.in-Some.value c.index_mut.result.now c.take.new.self
+took : (c : After-put_out) → Took c.args.self.now c.after_take.new.state c.put_out.new.output c.requires.next.0 c.args.end c.in-Some.value c.index_mut.result.now c.take.new.self
 took c = record {
   ready = c.requires.ready;
   next = c.requires.next.1;
-  end = c.next_end-end.ensures.take c.requires.next.0 c.requires.next.1;
+  end = c.requires.next.2;
   was = c.index_mut.ensures.value;
   ring = c.take.ensures.ring;
   held = c.take.ensures.held;
