@@ -43,8 +43,8 @@ impl Seat {
 // After so many sweeps a round ends also where something may still move.
 const MOST_SWEEPS: u32 = 4_096;
 
-/// Turns of the workers: if `apart`, one of each, and where they are several each in a thread of its own; else sweeps over the
-/// workers, one after another, until a sweep moves nothing. Answers the number of moves.
+/// Turns of the workers: if `apart`, or of a worker that is the only one, one of each, and where they are several each in a thread of
+/// its own; else sweeps over the workers, one after another, until a sweep moves nothing. Answers the number of moves.
 pub(crate) fn turn_all<R: Threads + Sync, F: Fn(u32, i64, i64) -> i64 + Sync, G: Gate + Sync>(
     rt: &R,
     seats: &mut [Seat],
@@ -57,7 +57,7 @@ pub(crate) fn turn_all<R: Threads + Sync, F: Fn(u32, i64, i64) -> i64 + Sync, G:
     requires few { length seats.old ≤ 64 }
     ensures { HaveTurned (kinds_of (lent host.now)) (crew_of seats.old) (crew_of seats.new) result }
 {
-    if apart {
+    if apart || seats.len() < 2 {
         turn_once(rt, seats, host, gate, true)
     } else {
         turn_in_sweeps(rt, seats, host, gate)
