@@ -21,8 +21,8 @@ pub struct Feed {
     pub stop: Option<TextFault>,
 }
 
-// So many lists, which are empty.
-pub(crate) fn empty_lists(alloc: Global, streams: usize) -> Result<Inputs, OutOfMemory>
+/// So many lists, fewer than 2^32, without an item.
+pub fn empty_lists(alloc: Global, streams: usize) -> Result<Inputs, OutOfMemory>
     requires { streams < 2 ^ 32 }
     ensures { IfOk result (λ lists. lists ≡ values_by_stream streams []) }
 {

@@ -11,7 +11,7 @@ mod laws;
 mod read;
 mod reader;
 
-pub use feeds::{Feed, read_feed};
+pub use feeds::{Feed, empty_lists, read_feed};
 pub use laws::{one_feed, values_in_turn};
 pub use read::{ReadError, read_up_to};
 pub use reader::FeedReader;
