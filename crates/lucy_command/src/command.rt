@@ -3,6 +3,7 @@ ghost use Rattle.std.specs.Prelude.{◌≡◌, ◌≤◌, IfSome};
 ghost use Rattle.std.specs.Option.{option_map};
 ghost use Rattle.lucy_command.specs.Commands as spec;
 ghost use Rattle.lucy_command.specs.Names.{most_of};
+ghost use Rattle.lucy_command.specs.declared.names.Name.TheVariants as Name;
 ghost use Rattle.lucy_command.specs.Named.{named, AreFew, IsOf, IsWithin};
 ghost use Rattle.lucy_command.specs.Seen.{seen, seen_text};
 
@@ -144,6 +145,37 @@ fn running_of<'a>(texts: &Texts<'a>) -> Option<(&'a str, u64, u64, Option<u64>)>
     Some((file, scale, lead, instants))
 }
 
+// The command `run` with these texts, where they fit it.
+fn run_with<'a>(texts: &Texts<'a>) -> Option<Command<'a>>
+    ensures is { option_map named result ≡ spec.command_with Name.Run (seen texts.now) }
+    ensures within { IfSome result (λ command. IsWithin (named command)) }
+{
+    let (file, scale, lead, instants) = running_of(texts)?;
+    let (workers, block) = playing_of(texts)?;
+    Some(Command::Run {
+        file,
+        scale,
+        lead,
+        instants,
+        workers,
+        block,
+    })
+}
+
+// The command `kahn` with these texts, where they fit it.
+fn kahn_with<'a>(texts: &Texts<'a>) -> Option<Command<'a>>
+    ensures is { option_map named result ≡ spec.command_with Name.Kahn (seen texts.now) }
+    ensures within { IfSome result (λ command. IsWithin (named command)) }
+{
+    let (file, scale, lead, instants) = running_of(texts)?;
+    Some(Command::Kahn {
+        file,
+        scale,
+        lead,
+        instants,
+    })
+}
+
 /// The command of this name with these texts, where they fit it.
 pub(crate) fn command_with<'a>(name: Name, texts: &Texts<'a>) -> Option<Command<'a>>
     ensures is { option_map named result ≡ spec.command_with name (seen texts.now) }
@@ -163,27 +195,8 @@ pub(crate) fn command_with<'a>(name: Name, texts: &Texts<'a>) -> Option<Command<
             let lead = scale_of(Setting::Lead, texts.lead)?;
             Some(Command::Clocks { file, scale, lead })
         }
-        Name::Run => {
-            let (file, scale, lead, instants) = running_of(texts)?;
-            let (workers, block) = playing_of(texts)?;
-            Some(Command::Run {
-                file,
-                scale,
-                lead,
-                instants,
-                workers,
-                block,
-            })
-        }
-        Name::Kahn => {
-            let (file, scale, lead, instants) = running_of(texts)?;
-            Some(Command::Kahn {
-                file,
-                scale,
-                lead,
-                instants,
-            })
-        }
+        Name::Run => run_with(texts),
+        Name::Kahn => kahn_with(texts),
         Name::Make => {
             let stages = stages_of(texts.operand)?;
             let (workers, block) = playing_of(texts)?;

@@ -29,8 +29,9 @@ fn judged(words: &[String]) -> Option<(Name, Texts<'_>)>
     Some((name, texts))
 }
 
-/// The command that the words name, or none. The words are judged first, and only where they name a command memory is taken: the
-/// texts of its options and of its operand are spelled into the list `spelled`, which is empty before, and `clap` reads them there.
+/// The command that the words name, or none. The words are judged first, so that those that name none are never refused for want of
+/// memory. Where they name one, the texts of its options and of its operand are spelled into the list `spelled`, which is empty
+/// before, and `clap` reads them there.
 pub fn read<'a>(
     alloc: Global,
     words: &[String],
@@ -39,7 +40,7 @@ pub fn read<'a>(
     requires { spelled.old.items ≡ [] }
     ensures ok { IfOk result (λ command. option_map named command ≡ spec.command_of (map string_bytes words.now)) }
     ensures within { IfOk result (λ command. IfSome command (λ c. IsWithin (named c))) }
-    // Words that name no command take no memory.
+    // Words that name no command are never refused for want of memory.
     ensures err { IfErr result (λ _. spec.command_of (map string_bytes words.now) ≢ None) }
 {
     let Some((name, texts)) = judged(words) else {
