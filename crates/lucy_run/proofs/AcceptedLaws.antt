@@ -1,5 +1,5 @@
 -- What an accepted program is to those that run it.
-use Rattle.std.proofs.Common.{◌≡◌, ℕ, ◌-◌, ◌<◌, ◌≤◌, ◌^◌, List, Option, Some, None, map, refl, ap, sym, ◌∙◌, arith}
+use Rattle.std.proofs.Common.{◌≡◌, ℕ, ◌-◌, ◌<◌, ◌≤◌, ◌^◌, List, Option, Some, None, map, refl, ap, ◌∙◌, arith}
 use Rattle.std.specs.Prelude.{length, slice_get}
 use Rattle.std.proofs.lemmas.List.{length-map}
 use Rattle.std.proofs.lemmas.Simd.{map-map}
@@ -17,12 +17,10 @@ use Rattle.lucy_host.specs.declared.kind.HostKind.{HostKind}
 use Rattle.lucy_need.specs.Meeting.{assigned}
 use Rattle.lucy_output.specs.declared.output.OutputSpec.{OutputSpec}
 use Rattle.lucy_execution.specs.Running.{HasSchedule}
-use Rattle.lucy_execution.specs.Streams.{result_words}
-use Rattle.lucy_run.specs.Courses.{Program, CanRun}
+use Rattle.lucy_run.specs.Courses.{CanRun}
 use Rattle.lucy_front.specs.declared.accepted.Accepted.{Accepted}
 use Rattle.lucy_front.specs.declared.options.Options.{Options}
 use Rattle.lucy_front.specs.Accepting.{IsAccepted}
-use Rattle.lucy_front.specs.Names.{param_places}
 use Rattle.lucy_front.specs.Scheduled.{input_of, output_of, inputs_in, outputs_in}
 use Rattle.lucy_front.proofs.OneAnswer.{text_proper}
 use Rattle.std.proofs.lemmas.List.FromFn.{length-map-range_with_len}

@@ -1,5 +1,5 @@
 -- A block more.
-use Rattle.std.proofs.Common.{ℕ, ◌+◌, ◌≤◌, ◌≡◌, ◌⊎◌, true, false, List, [], ◌++◌, Option, None, length, map, ap, sym, refl, ◌∙◌, subst, inl, inr, arith}
+use Rattle.std.proofs.Common.{ℕ, ◌≤◌, ◌≡◌, ◌⊎◌, true, List, [], ◌++◌, length, map, ap, sym, ◌∙◌, subst, inl, inr, arith}
 use Rattle.std.specs.Prelude.{ℤ, Result, Ok, Err, MatchResult, IsErrAnd, slice_index}
 use Rattle.std.proofs.lemmas.List.{length-map}
 use Rattle.lucy_meaning.specs.Spots.{main_of, results_in}
@@ -12,7 +12,7 @@ use Rattle.lucy_stream.specs.Fronts.{AreFronts}
 use Rattle.lucy_lines.specs.Cuts.{ItemOf}
 use Rattle.lucy_feed.specs.Sources.{SeenSource}
 use Rattle.lucy_feed.specs.Feeding.{values_by_stream}
-use Rattle.lucy_feed.specs.Resuming.{FeedState, AreCounts, AreMet, HasRead, AreFresh, ValuesInTurn}
+use Rattle.lucy_feed.specs.Resuming.{FeedState, AreMet, HasRead, AreFresh, ValuesInTurn}
 use Rattle.lucy_output.specs.Outputs.{lines_after}
 use Rattle.lucy_output.specs.declared.error.OutputError.TheVariants as error
 use Rattle.lucy_output.specs.Sinks.{SeenSink, Writes, Fails}
@@ -22,11 +22,7 @@ use Rattle.lucy_output.proofs.SinkLaws.{unwritten, writes_more, fails_behind}
 use Rattle.lucy_meaning.specs.Horizons.{Suffice, IsHorizon}
 use Rattle.lucy_execution.specs.Streams.{main_word, param_words, main_streams, later_stream, later_streams}
 use Rattle.lucy_execution.specs.Playing.{PlayerView, joined}
-use Rattle.lucy_run.specs.Courses.{Program, CanRun, words_of, values, lines_of, HasFed, IsFedSoFar, IsRunTo, IsAlong, IsLast, IsOver, BreaksOff, ReadsOn, GivesUpBehind, CanGoOn, HasGoneOn, LinesAgree, LinesByBlock}
-use Rattle.lucy_run.specs.declared.ending.Ending.{Ending}
-use Rattle.lucy_run.specs.declared.ending.Ending.TheVariants as ending
-use Rattle.lucy_run.specs.Feeds.{Feeds}
-use Rattle.lucy_run.specs.Owes.{most_instants, EndsFor}
+use Rattle.lucy_run.specs.Courses.{Program, CanRun, words_of, values, lines_of, HasFed, IsAlong, IsLast, BreaksOff, GivesUpBehind, CanGoOn, HasGoneOn, LinesByBlock}
 use Rattle.lucy_run.proofs.ReadLaws.{suffice_longer, values_count, values_front, values_joined, fed_feeds, feeds_less, fed_counts, fed_carried, fed_none, met_suffices}
 
 -- of an answer that is an error

@@ -14,7 +14,7 @@ use Rattle.lucy_lines.specs.Fronts.{most_bytes}
 use Rattle.lucy_lines.specs.declared.reader.TextFault.{TextFault}
 use Rattle.lucy_feed.specs.declared.feeds.Feed.{Feed}
 use Rattle.lucy_word.specs.declared.error.OutOfMemory.{OutOfMemory}
-use Rattle.lucy_feed.specs.Sources.{Stop, Unread, Open, SeenSource, Read}
+use Rattle.lucy_feed.specs.Sources.{Stop, Unread, SeenSource, Read}
 use Rattle.lucy_output.specs.declared.output.OutputSpec.{OutputSpec}
 use Rattle.lucy_output.specs.Outputs.{output_text}
 use Rattle.lucy_output.specs.declared.error.OutputError.TheVariants.{Failed, OutOfMemory as Memory}
@@ -28,16 +28,16 @@ use Rattle.lucy_execution.specs.Streams.{param_words, main_streams}
 use Rattle.lucy_front.specs.declared.accepted.Accepted.{Accepted}
 use Rattle.lucy_run.specs.declared.ending.Ending.{Ending}
 use Rattle.lucy_run.specs.declared.ending.Ending.TheVariants as ending
-use Rattle.lucy_run.specs.Feeds.{Feeds, IsUnfinished, IsMainFeed}
-use Rattle.lucy_run.specs.Owes.{most_instants, input_words, stream_lines, lines_to, heading, EndsFor, IsFed, Interprets, OwesRun, OwesRunOutput, OwesKahn, OwesKahnOutput, IsHorizonOf}
+use Rattle.lucy_run.specs.Feeds.{Feeds, IsMainFeed}
+use Rattle.lucy_run.specs.Owes.{most_instants, input_words, lines_to, heading, EndsFor, IsFed, Interprets, OwesRun, OwesRunOutput, OwesKahn, OwesKahnOutput, IsHorizonOf}
 use Rattle.lucy_lines.specs.Cuts.{ItemOf}
 use Rattle.lucy_feed.specs.Resuming.{FeedState}
 use Rattle.lucy_output.specs.Writing.{WriterState}
 use Rattle.lucy_execution.specs.Playing.{PlayerView}
 use Rattle.lucy_run.specs.Courses.{Program, CanRun, IsFedSoFar, IsAlong, IsOver, BreaksOff, LinesByBlock}
-use Rattle.lucy_run.specs.Ends.{IsFrontOf, EndsWith, FailsInOrder}
+use Rattle.lucy_run.specs.Ends.{EndsWith, FailsInOrder}
 use Rattle.lucy_run.specs.Steps.{LeavesOwed, IsWhole, refusal_ending}
-use Rattle.lucy_run.proofs.FedLaws.{read_nothing, fed_so_far}
+use Rattle.lucy_run.proofs.FedLaws.{read_nothing, fed_not_yet}
 use Rattle.lucy_run.proofs.HorizonLaws.{some_horizon, suffice_either}
 use Rattle.lucy_run.proofs.ReadLaws.{suffice_longer}
 
@@ -162,23 +162,23 @@ module _ (kinds : List HostKind) (a : Accepted) (given : Option ℕ) where
   pub run_unbegun : (s : SeenSource) (o : SeenSink) → RunGives s s o o ending.OutOfMemory
   run_unbegun s o = ([], Unread, read_nothing s, ([], inl refl, unwritten o))
 
-  -- an output of a reading that was given up
-  output_so_far : (taken : List ℕ) (stop : Stop) → IsUnfinished stop → (lines : List ℕ) × OwesRunOutput kinds a given taken stop (heading a ++ lines)
-  output_so_far taken stop unfinished =
-      let (lists, fed) = fed_so_far a.inputs.items taken stop unfinished in
+  -- an output where nothing was read yet
+  output_not_yet : (lines : List ℕ) × OwesRunOutput kinds a given [] Unread (heading a ++ lines)
+  output_not_yet =
+      let (lists, fed) = fed_not_yet a.inputs.items in
       let (horizon, is) = some_horizon (input_words a) lists (most_instants given) in
       (lines_to kinds a lists horizon, inr (lists, horizon, fed, is, refl))
 
   -- the heading could not be written
   pub run_broken : (s : SeenSource) (was now : SeenSink) (text : List ℕ) → text ≡ heading a → Fails was now text → RunGives s s was now ending.WriteFault
   run_broken s was now text e f =
-      let (lines, owed) = output_so_far [] Unread tt in
+      let (lines, owed) = output_not_yet in
       ([], Unread, read_nothing s, (heading a ++ lines, owed, fails_longer was now (heading a) lines (subst (Fails was now) e f)))
 
   -- memory ran out behind the heading, before anything was read
   pub run_unplayed : (s : SeenSource) (was now : SeenSink) (text : List ℕ) → text ≡ heading a → Writes was now text → RunGives s s was now ending.OutOfMemory
   run_unplayed s was now text e w =
-      let (lines, owed) = output_so_far [] Unread tt in
+      let (lines, owed) = output_not_yet in
       ([], Unread, read_nothing s, (heading a, inr (heading a ++ lines, length (heading a), owed, take_front (heading a) lines), subst (Writes was now) e w))
 
   -- the program that is run

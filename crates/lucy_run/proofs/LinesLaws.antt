@@ -1,14 +1,14 @@
 -- Lines up to one horizon and up to a later one.
-use Rattle.std.proofs.Common.{ℕ, ◌+◌, ◌-◌, ◌≤◌, ◌≡◌, List, [], ◌∷◌, ◌++◌, Some, length, map, take, drop, get_or, ap, sym, refl, ◌∙◌, arith}
-use Rattle.std.specs.Prelude.{ℤ, slice_get, slice_index_or, option_map}
+use Rattle.std.proofs.Common.{ℕ, ◌≤◌, ◌≡◌, List, [], ◌++◌, Some, map, take, drop, get_or, ap, sym, ◌∙◌, arith}
+use Rattle.std.specs.Prelude.{ℤ, slice_get, option_map}
 use Rattle.std.proofs.lemmas.List.{length-map, take-take}
 use Rattle.std.proofs.lemmas.Option.{get_or_from_slice_get, slice_get-map}
-use Rattle.lucy_word.specs.Bits.{Bits, ones_to}
+use Rattle.lucy_word.specs.Bits.{ones_to}
 use Rattle.lucy_host.specs.declared.kind.HostKind.{HostKind}
 use Rattle.lucy_stream.specs.Items.{list_at}
 use Rattle.lucy_stream.specs.Fronts.{AreFronts}
 use Rattle.lucy_output.specs.declared.output.OutputSpec.{OutputSpec}
-use Rattle.lucy_output.specs.Outputs.{output_text, lines_after}
+use Rattle.lucy_output.specs.Outputs.{lines_after}
 use Rattle.lucy_output.specs.Laws.{BeginAlike, FrontsSuffice, AreRests, BlockByBlock}
 use Rattle.lucy_place.specs.declared.placed.PlacedNode.{PlacedNode}
 use Rattle.lucy_place.specs.Proper.{AreProper}
@@ -19,7 +19,7 @@ use Rattle.lucy_meaning.proofs.Lists.{mapped}
 use Rattle.lucy_execution.specs.Streams.{main_word, param_words, result_words, main_stream, main_streams, later_stream, later_streams, cut_to}
 use Rattle.lucy_execution.specs.Running.{HasSchedule}
 use Rattle.lucy_execution.proofs.StreamLaws.{cut_at}
-use Rattle.lucy_run.specs.Courses.{Program, CanRun, words_of, lines_of, LinesAgree, LinesByBlock}
+use Rattle.lucy_run.specs.Courses.{Program, CanRun, LinesAgree, LinesByBlock}
 
 -- the streams of more instants, from inputs that go on, begin with those of fewer
 abbrev pub StreamsGoOn : Type 0

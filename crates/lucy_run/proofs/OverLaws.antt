@@ -1,8 +1,8 @@
 -- The last block, and the end of a run.
-use Rattle.std.proofs.Common.{ℕ, ◌+◌, ◌<◌, ◌≤◌, ◌≡◌, ◌⊎◌, true, false, List, [], ◌∷◌, ◌++◌, Option, None, Some, length, ap, sym, refl, ◌∙◌, subst, inl, inr, arith}
+use Rattle.std.proofs.Common.{ℕ, ◌<◌, ◌≤◌, ◌≡◌, ◌⊎◌, true, false, List, [], ◌∷◌, ◌++◌, Option, None, Some, length, ap, sym, refl, ◌∙◌, subst, inl, inr, arith}
 use Rattle.std.specs.Prelude.{ℤ, slice_index}
 use Rattle.std.proofs.lemmas.Bool.{cases_lt}
-use Rattle.lucy_word.specs.Bits.{Bits, ones_to}
+use Rattle.lucy_word.specs.Bits.{Bits}
 use Rattle.lucy_word.proofs.IndexLaws.{ones_to-rises}
 use Rattle.lucy_stream.specs.Items.{list_at}
 use Rattle.lucy_stream.specs.Fronts.{AreFronts}
@@ -22,7 +22,7 @@ use Rattle.lucy_run.specs.declared.ending.Ending.{Ending}
 use Rattle.lucy_run.specs.declared.ending.Ending.TheVariants as ending
 use Rattle.lucy_run.specs.Feeds.{Feeds}
 use Rattle.lucy_run.specs.Owes.{most_instants, EndsFor}
-use Rattle.lucy_run.specs.Courses.{Program, CanRun, words_of, values, lines_of, HasFed, IsAlong, IsLast, IsOver, BreaksOff, LinesAgree}
+use Rattle.lucy_run.specs.Courses.{Program, CanRun, words_of, values, HasFed, IsAlong, IsLast, IsOver, BreaksOff, LinesAgree}
 use Rattle.lucy_run.proofs.FedLaws.{read_nothing}
 use Rattle.lucy_run.proofs.ReadLaws.{suffice_longer, values_front, fed_counts}
 

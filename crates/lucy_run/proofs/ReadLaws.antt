@@ -1,7 +1,6 @@
 -- What main was fed so far.
-use Rattle.std.proofs.Common.{ℕ, suc, ◌+◌, ◌≤◌, ◌≡◌, List, [], ◌∷◌, ◌++◌, Option, None, Some, length, map, get_or, ap, sym, refl, ◌∙◌, subst, inl, inr, arith}
-use Rattle.std.specs.Prelude.{ℤ, slice_get, slice_index, slice_index_or, option_map}
-use Rattle.std.specs.List.{range_with_len}
+use Rattle.std.proofs.Common.{ℕ, ◌≡◌, List, [], ◌∷◌, ◌++◌, None, length, map, ap, sym, refl, ◌∙◌, subst, inl, inr, arith}
+use Rattle.std.specs.Prelude.{ℤ, slice_index, slice_index_or, option_map}
 use Rattle.std.proofs.lemmas.List.FromFn.{fill_by_all, length-map-range_with_len, get_or-map-range_with_len}
 use Rattle.std.proofs.lemmas.Option.{get_or_from_slice_get, slice_get-map}
 use Rattle.lucy_word.specs.Bits.{Bits, ones_to}
@@ -13,8 +12,8 @@ use Rattle.lucy_lines.specs.Fronts.{most_bytes}
 use Rattle.lucy_lines.specs.declared.input.InputSpec.{InputSpec}
 use Rattle.lucy_feed.specs.Sources.{SeenSource, Unread, Open, Read}
 use Rattle.lucy_feed.specs.Feeding.{values_of, values_by_stream}
-use Rattle.lucy_feed.specs.Resuming.{FeedState, AreCounts, AreMet, IsOpen, IsStopped, HasRead, IsGivenUp, AreFresh, ReadsMore, PassesMore, GivesUp, ValuesInTurn}
-use Rattle.lucy_meaning.specs.Horizons.{Suffice, IsHorizon}
+use Rattle.lucy_feed.specs.Resuming.{FeedState, AreCounts, AreMet, HasRead, IsGivenUp, AreFresh, ReadsMore, GivesUp, ValuesInTurn}
+use Rattle.lucy_meaning.specs.Horizons.{Suffice}
 use Rattle.lucy_execution.specs.Playing.{joined}
 use Rattle.lucy_execution.proofs.LaterLaws.{joined_count, joined_at}
 use Rattle.lucy_run.specs.Courses.{HasFed, IsFedSoFar, ReadsOn, GivesUpBehind}
@@ -78,13 +77,14 @@ module _ (turn : ValuesInTurn) where
   }
   fed_feeds (input ∷ inputs) first now reader items (taken, has) = read_feeds input inputs first now reader items taken has
 
-  pub given_up_feeds : (inputs : List InputSpec) (first now : SeenSource) (items : List ItemOf) (taken : List ℕ) → IsGivenUp inputs first now items taken → IsFedSoFar inputs first now (values_by_stream (length inputs) items)
-  given_up_feeds inputs first now items taken given_up = record {
+  given_up_feeds : (input : InputSpec) (inputs : List InputSpec) (first now : SeenSource) (items : List ItemOf) (taken : List ℕ) → IsGivenUp (input ∷ inputs) first now items taken →
+      IsFedSoFar (input ∷ inputs) first now (values_by_stream (length (input ∷ inputs)) items)
+  given_up_feeds input inputs first now items taken given_up = record {
     taken = taken;
     stop = Open;
     read = given_up.read;
-    others = values_by_stream (length inputs) (items ++ given_up.begin.0);
-    fronts = values_front (length inputs) items given_up.begin.0;
+    others = values_by_stream (length (input ∷ inputs)) (items ++ given_up.begin.0);
+    fronts = values_front (length (input ∷ inputs)) items given_up.begin.0;
     fed = inr (tt, items ++ given_up.begin.0, given_up.begin.1, given_up.begin.2, refl);
   }
 
@@ -93,7 +93,7 @@ module _ (turn : ValuesInTurn) where
   gives_up before after old none given_up [] first items fed fresh kept = absurd (none kept)
   gives_up before after old none given_up (input ∷ inputs) first items (taken, has) fresh kept =
       let (bytes, is) = given_up (input ∷ inputs) first items [] taken has fresh in
-      given_up_feeds (input ∷ inputs) first after items (taken ++ bytes) is
+      given_up_feeds input inputs first after items (taken ++ bytes) is
 
 -- less is fed so far too
 pub feeds_less : (inputs : List InputSpec) (first now : SeenSource) (lists more : List (List ℤ)) → AreFronts lists more → IsFedSoFar inputs first now more → IsFedSoFar inputs first now lists

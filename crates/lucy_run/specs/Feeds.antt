@@ -20,10 +20,11 @@ IsUnfinished Unread = Unit {0}
 IsUnfinished Open = Unit {0}
 IsUnfinished stop = ⊥
 
--- then the bytes taken count as the whole input
+-- then the bytes taken count as the whole input; where main has no inputs nothing is read
 abbrev pub FeedsSoFar : List InputSpec → (taken : List ℕ) → Stop → (lists : List (List ℤ)) → Type 0
-FeedsSoFar inputs taken stop lists =
-    IsUnfinished stop × (items : List ItemOf) × (halt : Halt) × Cut inputs true (input_of taken) items halt × (lists ≡ values_by_stream (length inputs) items)
+FeedsSoFar [] taken stop lists = (taken ≡ []) × (stop ≡ Unread) × (lists ≡ [])
+FeedsSoFar (input ∷ inputs) taken stop lists =
+    IsUnfinished stop × (items : List ItemOf) × (halt : Halt) × Cut (input ∷ inputs) true (input_of taken) items halt × (lists ≡ values_by_stream (length (input ∷ inputs)) items)
 
 -- main was fed so; or memory ran out, and reading was given up
 abbrev pub IsMainFeed : List InputSpec → (taken : List ℕ) → Stop → Result Feed OutOfMemory → Type 0

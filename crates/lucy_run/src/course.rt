@@ -17,13 +17,12 @@ ghost use Rattle.lucy_run.specs.Owes as owes;
 ghost use Rattle.lucy_run.specs.Courses.{Program, CanRun, words_of, IsAlong, IsLast, IsOver, BreaksOff, ReadsOn, GivesUpBehind, CanGoOn, HasGoneOn};
 
 use crate::ending::Ending;
-use crate::feeding::no_items;
 use crate::horizons::ending_for;
 use crate::laws::lines_go_on;
 use lucy_cause::Schedule;
 use lucy_clock::NodeClock;
 use lucy_execution::{Player, counts_allow_more, horizon_of_counts};
-use lucy_feed::{FeedReader, values_in_turn};
+use lucy_feed::{FeedReader, empty_lists, values_in_turn};
 use lucy_host::{Host, Inputs};
 use lucy_lines::InputSpec;
 use lucy_net::Net;
@@ -78,7 +77,7 @@ impl<'a> Course<'a> {
         ensures refused { OnErr result (result ≡ Err OutputError.OutOfMemory) }
     {
         instant_by_instant();
-        let none = no_items(alloc, inputs.len())?;
+        let none = empty_lists(alloc, inputs.len())?;
         let reader = FeedReader::new(alloc, inputs)?;
         let writer = OutputWriter::new(alloc, outputs)?;
         match Player::new(

@@ -2,7 +2,6 @@
 ghost use Rattle.std.specs.Prelude.{◌≡◌, ◌<◌, ◌≤◌, ◌^◌, ℕ, List, [], length, IfOk};
 ghost use Rattle.lucy_lines.specs.Fronts.{most_bytes};
 ghost use Rattle.lucy_feed.specs.Sources.{Stop, seen_source, Read};
-ghost use Rattle.lucy_feed.specs.Feeding.{values_by_stream};
 ghost use Rattle.lucy_run.specs.Feeds.{IsMainFeed};
 
 use lucy_feed::{Feed, read_feed};
@@ -34,19 +33,4 @@ pub(crate) fn main_feed<I: Source>(
         });
     }
     read_feed(alloc, inputs, source)
-}
-
-/// So many lists without an item.
-pub(crate) fn no_items(alloc: Global, inputs: usize) -> Result<Inputs, OutOfMemory>
-    requires { inputs < 2 ^ 32 }
-    ensures { IfOk result (λ lists. lists ≡ values_by_stream inputs []) }
-{
-    let mut lists = Inputs::new(alloc);
-    for _ in 0..inputs {
-        match lists.add_list(alloc) {
-            Ok(()) => {}
-            Err(_) => return Err(OutOfMemory),
-        }
-    }
-    Ok(lists)
 }

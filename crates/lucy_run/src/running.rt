@@ -46,7 +46,8 @@ fn heading(alloc: Global, accepted: &Accepted) -> Result<Vec<u8>, OutOfMemory>
 /// block the input is read on to its end or its first fault. A main without inputs reads nothing, and runs so many instants. No
 /// byte of the output depends on the block.
 ///
-/// After a failed write nothing more is written or read.
+/// After a failed write nothing more is written. Where that is a write of the report or of the line `run`, nothing is read
+/// (`in_order`); that nothing is read after a failed write of a line is tested, and no clause says it.
 pub fn run<
     R: Threads + Sync,
     F: Fn(u32, i64, i64) -> i64 + Sync,

@@ -1,12 +1,10 @@
-use Rattle.std.proofs.Common.{ap, sym, refl, ◌∙◌, subst, inl, inr, Ok, Err, Result, ◌≡◌}
-use Rattle.std.proofs.lemmas.Result.{IfErr-at_err, IfOk-at_ok}
-use Rattle.std.specs.Prelude.{ℕ, ◌+◌, ◌↔◌, IsTrue, length, List, ℤ}
+use Rattle.std.proofs.Common.{ap, sym, ◌∙◌, subst, Err}
+use Rattle.std.proofs.lemmas.Result.{IfErr-at_err}
+use Rattle.std.specs.Prelude.{ℕ, ◌+◌, ◌↔◌, IsTrue, length}
 use Rattle.lucy_meaning.specs.Horizons.{Suffice}
 use Rattle.lucy_host.specs.Host.{lent}
 use Rattle.lucy_host.specs.Operators.{kinds_of}
-use Rattle.lucy_output.specs.Outputs.{output_text}
 use Rattle.lucy_execution.specs.Running.{Refuses}
-use Rattle.lucy_execution.specs.Streams.{main_streams}
 use Rattle.lucy_execution.proofs.StreamLaws.{params_count}
 use Rattle.lucy_run.proofs.EndsLaws.{on_ok, refused_ends, lines_interpreted, interpreted_failed}
 use Rattle.lucy_run.proofs.interpreting.write_interpreted.Goals as goal

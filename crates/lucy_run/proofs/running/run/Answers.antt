@@ -1,4 +1,4 @@
-use Rattle.std.proofs.Common.{◌≡◌, ℕ, [], Err, length, ap, sym, ◌∙◌, subst, arith}
+use Rattle.std.proofs.Common.{◌≡◌, ℕ, [], Err, length, ap, sym, ◌∙◌, subst}
 use Rattle.std.proofs.lemmas.Result.{IfOk-at_ok}
 use Rattle.std.specs.declared.alloc.Global.{Global}
 use Rattle.std.specs.declared.vec.Vec.{Vec}
@@ -13,7 +13,7 @@ use Rattle.lucy_run.specs.Steps.{IsWhole}
 use Rattle.lucy_run.specs.Courses.{CanRun, words_of, lines_of, IsAlong, IsLast, BreaksOff}
 use Rattle.lucy_run.proofs.AcceptedLaws.{inputs_count, few_inputs, can_run}
 use Rattle.lucy_run.proofs.OverLaws.{words_count}
-use Rattle.lucy_run.proofs.EndsLaws.{on_ok, on_err, at_ok, at_err, empty_of, few_most, ends_whole, program, along_here, run_unbegun, run_broken, run_unplayed, run_whole, run_failed, run_out_of_memory, lines_failed, heading_failed}
+use Rattle.lucy_run.proofs.EndsLaws.{on_ok, on_err, at_ok, at_err, empty_of, ends_whole, program, along_here, run_unbegun, run_broken, run_unplayed, run_whole, run_failed, run_out_of_memory, lines_failed, heading_failed}
 use Rattle.lucy_run.proofs.running.run.Goals as goal
 
 pub returns-in-Err-clause-ends : goal.returns-in-Err-clause-ends

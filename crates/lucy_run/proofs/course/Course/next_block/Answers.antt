@@ -1,10 +1,9 @@
-use Rattle.std.proofs.Common.{◌≡◌, ◌≤◌, List, length, ap, sym, ◌∙◌, subst, arith}
+use Rattle.std.proofs.Common.{◌≡◌, length, ap, sym, ◌∙◌, subst, arith}
 use Rattle.lucy_feed.specs.Sources.{seen_source}
 use Rattle.lucy_output.specs.declared.error.OutputError.TheVariants as error
 use Rattle.lucy_output.specs.Outputs.{lines_after}
 use Rattle.lucy_output.specs.Sinks.{seen_sink, Writes, Fails}
 use Rattle.lucy_output.specs.Writing.{WriterState}
-use Rattle.lucy_execution.specs.Playing.{PlayerView}
 use Rattle.lucy_run.specs.Courses.{CanGoOn, HasGoneOn}
 use Rattle.lucy_run.proofs.ReadLaws.{fed_counts}
 use Rattle.lucy_run.proofs.OverLaws.{words_count}

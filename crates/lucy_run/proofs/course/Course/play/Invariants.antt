@@ -1,4 +1,4 @@
-use Rattle.std.proofs.Common.{ℕ, ◌-◌, ◌≤◌, ◌≡◌, List, []}
+use Rattle.std.proofs.Common.{◌-◌, ◌≤◌, ◌≡◌, List, []}
 use Rattle.lucy_lines.specs.Cuts.{ItemOf}
 use Rattle.lucy_feed.specs.Sources.{SeenSource, seen_source}
 use Rattle.lucy_output.specs.Sinks.{SeenSink, seen_sink}

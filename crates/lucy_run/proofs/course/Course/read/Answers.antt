@@ -1,4 +1,4 @@
-use Rattle.std.proofs.Common.{◌≡◌, [], ◌∷◌, List, length, ap, sym, ◌∙◌, inl, inr}
+use Rattle.std.proofs.Common.{◌≡◌, [], ap, ◌∙◌, inr}
 use Rattle.lucy_feed.specs.Sources.{seen_source}
 use Rattle.lucy_feed.specs.Resuming.{AreMet}
 use Rattle.lucy_output.proofs.SinkLaws.{on_err}
