@@ -1,8 +1,12 @@
 -- What commands work with: how they find the clocks of a program, and what they call.
-use Rattle.std.specs.Prelude.{ℕ, false, true, List, Option, Some, None}
+use Rattle.std.specs.Prelude.{ℕ, ◌≢◌, false, true, List, [], Option, Some, None, Result, IsSomeAnd, IsOkAnd}
 use Rattle.lucy_word.specs.Limits.{limit_number}
 use Rattle.lucy_word.specs.declared.limit.Limit.TheVariants as limit
+use Rattle.lucy_host.specs.Operators.{Operator}
+use Rattle.lucy_text.specs.declared.shelf.ShelfError.{ShelfError}
+use Rattle.lucy_front.specs.declared.accepted.Accepted.{Accepted}
 use Rattle.lucy_front.specs.declared.options.Options.{Options}
+use Rattle.lucy_front.specs.Accepting.{IsAccepted}
 use Rattle.lucy_command.specs.Commands.{Command, Order, Show, Types, Check, Clocks, Run, Kahn, Make}
 
 -- each node has to be written
@@ -36,3 +40,14 @@ input_of (Some (Clocks file scale lead)) = None
 input_of (Some (Run file scale lead instants workers block)) = Some (limit_number limit.Input)
 input_of (Some (Kahn file scale lead instants)) = Some (limit_number limit.Input)
 input_of (Some (Make stages workers block)) = None
+
+-- what was fetched is a text that is accepted as a program with inputs
+abbrev pub TakesInput : List Operator → Options → (fetched : Result (List ℕ) ShelfError) → Type 0
+TakesInput ops o fetched = IsOkAnd fetched (λ text. (a : Accepted) × IsAccepted ops o text a × (a.inputs.items ≢ []))
+
+-- a command reads the source where the host has these operators and this was fetched
+abbrev pub ReadsSource : Command → List Operator → (fetched : Option (Result (List ℕ) ShelfError)) → Type 0
+ReadsSource Order ops fetched = Unit {0}
+ReadsSource (Run file scale lead instants workers block) ops fetched = IsSomeAnd fetched (TakesInput ops (inferring_options scale lead))
+ReadsSource (Kahn file scale lead instants) ops fetched = IsSomeAnd fetched (TakesInput ops (inferring_options scale lead))
+ReadsSource command ops fetched = ⊥

@@ -1,5 +1,5 @@
 -- What the top call is lent, as contracts see it, and what a command has met there.
-use Rattle.std.specs.Prelude.{ℕ, ◌≤◌, ◌≡◌, ◌≢◌, ◌↔◌, List, [], length, Option, Some, None, IfSome, IfOk, Result, Err}
+use Rattle.std.specs.Prelude.{ℕ, ◌≤◌, ◌≡◌, ◌≢◌, ◌↔◌, ◌⊎◌, List, [], length, Option, Some, None, IfSome, IfOk, Result, Err}
 use Rattle.std.specs.Option.{option_map}
 use Rattle.lucy_word.specs.Limits.{limit_number}
 use Rattle.lucy_word.specs.declared.limit.Limit.TheVariants as limit
@@ -11,7 +11,7 @@ use Rattle.lucy_text.specs.declared.shelf.ShelfError.TheVariants as shelf
 use Rattle.lucy_feed.specs.Sources.{SeenSource, Stop, Unread, Read}
 use Rattle.lucy_output.specs.Sinks.{SeenSink}
 use Rattle.lucy_command.specs.Commands.{Command}
-use Rattle.lucy_app.specs.Commands.{file_of, input_of}
+use Rattle.lucy_app.specs.Commands.{file_of, input_of, ReadsSource}
 
 -- a shelf: its files, how often it failed, and how often it was called
 pub record SeenShelf : Type 0 where
@@ -58,8 +58,9 @@ abbrev pub MeetsSource : (most : Option ℕ) (before after : SeenSource) (taken 
 MeetsSource None before after taken stop = (taken ≡ []) × (stop ≡ Unread) × (after ≡ before)
 MeetsSource (Some most) before after taken stop = Read most before after taken stop
 
--- this is what a command has met
+-- this is what a command has met; the source is as it was where the command need not read it
 pub record Meets (command : Command) (before after : World) (given : Given) : Type 0 where
   pub shelf : MeetsShelf (file_of (Some command)) before.shelf after.shelf given.fetched
   pub source : MeetsSource (input_of (Some command)) before.source after.source given.taken given.stop
+  pub unread : (after.source ≡ before.source) ⊎ ReadsSource command before.operators given.fetched
   pub operators : given.operators ≡ before.operators

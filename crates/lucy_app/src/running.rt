@@ -1,5 +1,5 @@
 // The commands `run` and `kahn`: a program of a file from its input to its output.
-ghost use Rattle.std.specs.Prelude.{◌≡◌, ◌≢◌, ◌≤◌, ℕ, List, [], None, IfOk, IfErr};
+ghost use Rattle.std.specs.Prelude.{◌≡◌, ◌≢◌, ◌≤◌, ◌⊎◌, ℕ, List, [], None, IfOk, IfErr};
 ghost use Rattle.lucy_word.specs.Limits.{limit_number};
 ghost use Rattle.lucy_word.specs.declared.limit.Limit.TheVariants as limit;
 ghost use Rattle.lucy_host.specs.Host.{Serves, lent};
@@ -11,6 +11,7 @@ ghost use Rattle.lucy_front.specs.Inferring.{AreOptions};
 ghost use Rattle.lucy_front.specs.Report.{IsReportable};
 ghost use Rattle.lucy_run.specs.Owes.{OwesRun, OwesRunOutput, OwesKahn, OwesKahnOutput};
 ghost use Rattle.lucy_command.specs.Named.{AreFew};
+ghost use Rattle.lucy_app.specs.Commands.{TakesInput};
 ghost use Rattle.lucy_app.specs.Outcomes.{bytes_of, AreWorkers, IsBlock, IsAccepting, EndsRun, Tellable};
 
 use crate::output::{conclude, refuse};
@@ -52,7 +53,8 @@ pub(crate) fn accepted(
     Ok(accepted)
 }
 
-/// Runs the program of what the fetch gave on the input, by so many workers and in blocks of so many instants: its report, the line `run`, and the output lines.
+/// Runs the program of what the fetch gave on the input, by so many workers and in blocks of so many instants: its report, the line
+/// `run`, and the output lines.
 pub(crate) fn run<
     R: Threads + Sync,
     I: Source,
@@ -88,6 +90,7 @@ pub(crate) fn run<
         (seen_sink (O.written out.new) (O.faults out.new) (O.since_stop out.new))
         (seen_sink (E.written err.old) (E.faults err.old) (E.since_stop err.old))
         (seen_sink (E.written err.new) (E.faults err.new) (E.since_stop err.new)) result }
+    ensures unread { (input.new ≡ input.old) ⊎ TakesInput (lent host.now) options.now (bytes_of fetched) }
     ensures quiet { result ≡ 0 → err.new ≡ err.old }
     ensures source_count { I.faults input.old ≤ I.faults input.new }
     ensures out_count { O.faults out.old ≤ O.faults out.new }
@@ -127,6 +130,7 @@ pub(crate) fn kahn<I: Source, O: Sink, E: Sink, F: Fn(u32, i64, i64) -> i64 + Sy
         (seen_sink (O.written out.new) (O.faults out.new) (O.since_stop out.new))
         (seen_sink (E.written err.old) (E.faults err.old) (E.since_stop err.old))
         (seen_sink (E.written err.new) (E.faults err.new) (E.since_stop err.new)) result }
+    ensures unread { (input.new ≡ input.old) ⊎ TakesInput (lent host.now) options.now (bytes_of fetched) }
     ensures quiet { result ≡ 0 → err.new ≡ err.old }
     ensures source_count { I.faults input.old ≤ I.faults input.new }
     ensures out_count { O.faults out.old ≤ O.faults out.new }

@@ -37,7 +37,7 @@ use std::thread::Threads;
 ///   `check`, `clocks`, `run` and `kahn` also, the needs of a node, its rates, positions, inequalities or words or their
 ///   comparison, the net or its schedule pass a limit, and nothing before that is refused. Where `run` or `kahn` pass the limit of the input or of the instants of a run, the lines
 ///   up to there stand on `out`, and nothing where `kahn` passes one of its own.
-/// - 7: memory ran out. Of `run` and `kahn` a front of the answer may stand on `out`. Words that name no command take none.
+/// - 7: memory ran out. Of `run` and `kahn` a front of the answer may stand on `out`. Words that name no command never end so.
 ///
 /// With 1, 2, 3, 4, 6 and 7 the line that says so stands on `err`. The words are looked at first. Then `order` reads the
 /// input, to its end or to one byte past its limit, and judges its length, the count of its words, and the words in turn,
@@ -47,7 +47,8 @@ use std::thread::Threads;
 /// then the clocks of each node in turn, each of which must be written, and then the net; it prints the report: types, words, and
 /// the sizes of buffers. `clocks` does the same, but infers the clocks of nodes that aren't written. `run` and `kahn` judge as
 /// `clocks` does, and then look for missing instants. `run` prints the report and the
-/// line `run`. Both read the input to its end or to its first fault, where main has inputs, and print the output lines. The host
+/// line `run`. Both read the input to its end or to its first fault, where main has inputs, and print the output lines; where main has
+/// none, or nothing is run, they leave the source alone, with every status. The host
 /// lends programs its operators, by their names. `make` judges the program that it generates as `run` does, and prints the figures of
 /// its run on the input that it generates; it calls neither the shelf nor the source. No read follows the end of the input or a failed read, and no write to a sink
 /// follows one that failed.

@@ -1,5 +1,3 @@
-use Rattle.std.proofs.Common.{ap}
-use Rattle.std.proofs.lemmas.Result.{IfOk-at_ok, IfErr-at_err}
 use Rattle.lucy_host.specs.Host.{lent}
 use Rattle.lucy_app.proofs.Makes.{untold, unmade, figured, undone}
 use Rattle.lucy_app.proofs.making.make.Goals as goal
