@@ -1,44 +1,47 @@
--- A command that nothing refuses is done, or memory runs out.
-use Rattle.std.proofs.Common.{ℕ, ◌≡◌, ◌≤◌, ◌<◌, ◌⊎◌, List, length, Option, Some, None, Result, Ok, Err, refl, ap, sym, ◌∙◌, subst, inl, inr, arith}
+-- A command that nothing refuses is done, and its whole output stands, or memory runs out.
+use Rattle.std.proofs.Common.{ℕ, ◌+◌, ◌≡◌, ◌≤◌, ◌<◌, ◌⊎◌, List, [], ◌∷◌, ◌++◌, length, Option, Some, None, Result, Ok, Err, refl, ap, sym, ◌∙◌, subst, inl, inr, arith}
 use Rattle.std.specs.Prelude.{ℤ, ◌↔◌, IsSomeAnd, IfSome}
+use Rattle.std.proofs.lemmas.List.{length-append}
 use Rattle.lucy_word.specs.Limits.{limit_number}
 use Rattle.lucy_word.specs.Bits.{Bits}
-use Rattle.lucy_word.specs.declared.limit.Limit.{Limit}
 use Rattle.lucy_word.specs.declared.limit.Limit.TheVariants as limit
 use Rattle.lucy_host.specs.Operators.{Operator, kinds_of}
 use Rattle.lucy_host.specs.declared.kind.HostKind.{HostKind}
-use Rattle.lucy_text.specs.Outside.{Rose}
+use Rattle.lucy_text.specs.Outside.{followed, Rose}
 use Rattle.lucy_text.specs.Shelf.{Files, IsHeld, Lacks, IsLonger, IsCut}
 use Rattle.lucy_text.specs.declared.shelf.ShelfError.{ShelfError}
 use Rattle.lucy_text.specs.declared.shelf.ShelfError.TheVariants as shelf
 use Rattle.lucy_lines.specs.Laws.{OneCut}
+use Rattle.lucy_lines.specs.declared.input.InputSpec.{InputSpec}
 use Rattle.lucy_lines.specs.declared.reader.TextFault.{TextFault}
-use Rattle.lucy_feed.specs.Sources.{Stop, Ended, Failed, Passed, SeenSource, Read, StoppedAt}
-use Rattle.lucy_execution.specs.Running.{HasManyTurns, HasManyItems}
+use Rattle.lucy_feed.specs.Sources.{Stop, Ended, Drained, Failed, Passed, SeenSource, Read, StoppedAt}
 use Rattle.lucy_front.specs.declared.options.Options.{Options}
 use Rattle.lucy_front.specs.declared.accepted.Accepted.{Accepted}
 use Rattle.lucy_front.specs.declared.refusal.Refusal.{Refusal}
 use Rattle.lucy_run.specs.declared.ending.Ending.{Ending}
 use Rattle.lucy_run.specs.declared.ending.Ending.TheVariants as ending
-use Rattle.lucy_run.specs.Owes.{input_words, EndsFor, IsFed, OwesRun, OwesKahn}
-use Rattle.lucy_run.specs.Laws.{OneRun, OneInterpretation, CompleteRun, CompleteInterpretation}
-use Rattle.lucy_run.proofs.OwesLaws.{OneHorizon}
+use Rattle.lucy_run.specs.Feeds.{Feeds, IsInput}
+use Rattle.lucy_run.specs.Owes.{most_instants, input_words, heading, lines_to, IsHorizonOf, EndsFor, OwesRun, OwesKahn}
+use Rattle.lucy_run.specs.Laws.{OneRun, OneInterpretation, IsFedWell, CompleteRun, CompleteInterpretation}
+use Rattle.lucy_run.proofs.OwesLaws.{OneHorizon, done_for}
+use Rattle.lucy_run.proofs.WholeLaws.{taken_front, taken_all}
 use Rattle.lucy_make.specs.Text.{made_text, made_input}
-use Rattle.lucy_make.specs.Owes.{OwesSummary}
+use Rattle.lucy_make.specs.Figures.{figures}
+use Rattle.lucy_make.specs.Owes.{OwesSummary, printed_values, where_done}
 use Rattle.lucy_command.specs.Commands.{Command, Order, Show, Types, Check, Clocks, Run, Kahn, Make}
 use Rattle.lucy_app.specs.Commands.{written_options, inferring_options}
-use Rattle.lucy_app.specs.World.{SeenShelf, World, Given, Fetched, MeetsShelf}
-use Rattle.lucy_app.specs.Answers.{Answer, printed}
+use Rattle.lucy_app.specs.World.{SeenShelf, World, Given, Fetched, Meets, MeetsShelf}
+use Rattle.lucy_app.specs.Answers.{Answer, printed, out_of_memory}
 use Rattle.lucy_app.specs.Order.{IsVerdictLine}
 use Rattle.lucy_app.specs.Show.{IsPrintOf, RefusesSyntax}
 use Rattle.lucy_app.specs.Types.{IsReportOf, RefusesText}
 use Rattle.lucy_app.specs.Check.{IsCheckOf, RefusesCheck}
-use Rattle.lucy_app.specs.Endings.{ending_status}
+use Rattle.lucy_app.specs.Endings.{ended}
 use Rattle.lucy_app.specs.Programs.{OwesProgram}
-use Rattle.lucy_app.specs.Running.{IsRunnable, OwesRunning}
+use Rattle.lucy_app.specs.Running.{IsRunnable, LacksInstants, OwesRunning}
 use Rattle.lucy_app.specs.Owes.{OwesOrder, Owes}
-use Rattle.lucy_app.specs.Ends.{EndsWith}
-use Rattle.lucy_app.specs.Complete.{IsFaultless, Holds, IsFedWell, Completes}
+use Rattle.lucy_app.specs.Ends.{Answers, EndsWith, Declines}
+use Rattle.lucy_app.specs.Complete.{IsFaultless, Holds, Suits, Completes}
 use Rattle.lucy_app.proofs.Owed.{order_owes_one}
 use Rattle.lucy_app.proofs.Verdicts.{IsVerdict, show_verdict}
 use Rattle.lucy_app.proofs.Typed.{types_verdict}
@@ -46,32 +49,52 @@ use Rattle.lucy_app.proofs.Checked.{check_verdict}
 use Rattle.lucy_app.proofs.RunsOnce.{AreSame, OwesOnce, accepted_same, accepted_unrefused, run_moves, kahn_moves, run_once, kahn_once}
 use Rattle.lucy_app.proofs.MakesOnce.{whole_feeds, summary_moves, summary_once}
 
--- where each answer that is owed is done, so is the command
-done : (command : Command) (before after : World) (given : Given) (status : ℕ) → ((answer : Answer) → Owes command given answer → answer.status ≡ 0) → IsFaultless before after →
-    EndsWith command given before after status → (status ≡ 0) ⊎ (status ≡ 7)
-done command before after given status zero well (inl (answer, inl owed, answers)) = elim answers.told [ inl told ↦ inl (told.0 ∙ zero answer owed) | inr told ↦ absurd (well.err told.1.faults) ]
-done command before after given status zero well (inl (answer, inr short, answers)) =
+-- the command is done and this stands, or memory ran out
+abbrev Finishes : (output : List ℕ) (before after : World) (status : ℕ) → Type 0
+Finishes output before after status = ((status ≡ 0) × Answers (printed output) before.out after.out before.err after.err status) ⊎ (status ≡ 7)
+
+-- where each answer that is owed is this output, the command is done
+done : (command : Command) (before after : World) (given : Given) (output : List ℕ) (status : ℕ) → ((answer : Answer) → Owes command given answer → answer ≡ printed output) → IsFaultless before after →
+    EndsWith command given before after status → Finishes output before after status
+done command before after given output status same well (inl (answer, inl owed, answers)) =
+    let P : Answer → Type 0 = λ a. Answers a before.out after.out before.err after.err status in
+    let whole : Answers (printed output) before.out after.out before.err after.err status = subst P (same answer owed) answers in
+    elim whole.told [ inl told ↦ inl (told.0, whole) | inr told ↦ absurd (well.err told.1.faults) ]
+done command before after given output status same well (inl (answer, inr short, answers)) =
     elim answers.told [ inl told ↦ inr (told.0 ∙ ap (λ a. a.status) short.2) | inr told ↦ absurd (well.err told.1.faults) ]
-done command before after given status zero well (inr (output, owed, breaks)) = absurd (well.out breaks.failed.faults)
+done command before after given output status same well (inr (printing, owed, breaks)) = absurd (well.out breaks.failed.faults)
 
-order_done : (taken : List ℕ) (stop : Stop) (line : List ℕ) → IsVerdictLine taken line → (stop ≡ Failed → ⊥) → (stop ≡ Passed → ⊥) → (answer : Answer) → OwesOrder taken stop answer → answer.status ≡ 0
-order_done taken Ended line is failed passed answer owed = ap (λ a. a.status) (order_owes_one taken Ended answer (printed line) owed (inl (line, is, refl)))
-order_done taken Failed line is failed passed answer owed = absurd (failed refl)
-order_done taken Passed line is failed passed answer owed = absurd (passed refl)
-order_done taken stop line is failed passed answer owed = absurd owed
+-- where memory ran out before the command was carried out
+declined : (before after : World) (output : List ℕ) (status : ℕ) → IsFaultless before after → Declines (out_of_memory []) before after status → Finishes output before after status
+declined before after output status well (shelf, source, answers) = elim answers.told [ inl told ↦ inr told.0 | inr told ↦ absurd (well.err told.1.faults) ]
 
-unfailed : (most : ℕ) (before after : SeenSource) (taken : List ℕ) (stop : Stop) → Read most before after taken stop → (Rose before.faults after.faults → ⊥) → stop ≡ Failed → ⊥
-unfailed most before after taken stop read well e =
-    let P : Stop → Type 0 = λ s. StoppedAt most before after taken s in
-    let at : StoppedAt most before after taken Failed = subst P e read.stopped in
-    well at.1
+-- `order` of two words that are told
+module _ (before after : SeenSource) (bytes taken output : List ℕ) (took : Some bytes ≡ followed taken after.left) (well : Rose before.faults after.faults → ⊥)
+    (is : IsVerdictLine bytes output) (few : length bytes ≤ limit_number limit.OrderInput) where
+  order_owed : (stop : Stop) → StoppedAt (limit_number limit.OrderInput) before after taken stop → (answer : Answer) → OwesOrder taken stop answer → answer ≡ printed output
+  order_owed Ended stopped answer owed =
+      let all : taken ≡ bytes = taken_all bytes taken after.left took stopped.1 in
+      order_owes_one bytes Ended answer (printed output) (subst (λ bs. OwesOrder bs Ended answer) all owed) (inl (output, is, refl))
+  order_owed Failed stopped answer owed = absurd (well stopped.1)
+  order_owed Passed stopped answer owed =
+      let (rest, left, are) = taken_front bytes taken after.left took in
+      let long : length bytes ≡ length taken + length rest = ap length are ∙ length-append taken rest in
+      let past : length taken ≡ limit_number limit.OrderInput + 1 = stopped.0 in
+      absurd (omega (arith, long, past, few))
+  order_owed stop stopped answer owed = absurd owed
 
--- a text that is accepted is run to its end, where what that owes is done
-ran_done : (Owed : Accepted → List ℕ → Ending → Type 0) (once : OwesOnce Owed) (ops : List Operator) (o : Options) (instants : Option ℕ) (stop : Stop) (text : List ℕ) (a : Accepted) → IsRunnable ops o instants text a →
-    ((b : Accepted) (output : List ℕ) (end : Ending) → AreSame b a → Owed b output end → end ≡ ending.Done) → (answer : Answer) → OwesRunning Owed ops o instants stop (Ok text) answer → answer.status ≡ 0
-ran_done Owed once ops o instants stop text a is ends answer (inl refused) = absurd (accepted_unrefused Owed once ops o instants stop text a answer is.0 is.1 refused.0)
-ran_done Owed once ops o instants stop text a is ends answer (inr ran) =
-    ap (λ x. x.status) ran.5 ∙ ap ending_status (ends ran.0 ran.2 ran.3 (accepted_same ops o text ran.0 a ran.1.0 is.0) ran.4)
+order_done : (before after : SeenSource) (taken output : List ℕ) (stop : Stop) (left : Option (List ℕ)) → before.left ≡ left → Read (limit_number limit.OrderInput) before after taken stop →
+    (Rose before.faults after.faults → ⊥) → IsSomeAnd left (λ bytes. IsVerdictLine bytes output × (length bytes ≤ limit_number limit.OrderInput)) →
+    (answer : Answer) → OwesOrder taken stop answer → answer ≡ printed output
+order_done before after taken output stop None e read well none answer owed = absurd none
+order_done before after taken output stop (Some bytes) e read well (is, few) answer owed = order_owed before after bytes taken output (sym e ∙ read.took) well is few stop read.stopped answer owed
+
+-- a text that is accepted is run to its end, where what that owes is this output
+ran_done : (Owed : Accepted → List ℕ → Ending → Type 0) (once : OwesOnce Owed) (ops : List Operator) (o : Options) (instants : Option ℕ) (stop : Stop) (text : List ℕ) (a : Accepted) (output : List ℕ) → IsRunnable ops o instants text a →
+    ((b : Accepted) (out : List ℕ) (end : Ending) → AreSame b a → Owed b out end → ended out end ≡ printed output) → (answer : Answer) → OwesRunning Owed ops o instants stop (Ok text) answer → answer ≡ printed output
+ran_done Owed once ops o instants stop text a output is ends answer (inl refused) = absurd (accepted_unrefused Owed once ops o instants stop text a answer is.0 is.1 refused.0)
+ran_done Owed once ops o instants stop text a output is ends answer (inr ran) =
+    ran.5 ∙ ends ran.0 ran.2 ran.3 (accepted_same ops o text ran.0 a ran.1.0 is.0) ran.4
 
 -- what the fetch of a file that is held gave, where no count rose
 module _ (before after : SeenShelf) (file text : List ℕ) where
@@ -100,83 +123,95 @@ module _ (before after : SeenShelf) (file text : List ℕ) where
 
   -- a command that prints the text's program
   print_done : (Prints : List ℕ → List ℕ → Type 0) (Refuses : List ℕ → Refusal → Type 0) → IsVerdict Prints Refuses → (print : List ℕ) → Prints text print → Holds before file text → (Rose before.faults after.faults → ⊥) →
-      (fetched : Option (Result (List ℕ) ShelfError)) → MeetsShelf (Some file) before after fetched → (answer : Answer) → IsSomeAnd fetched (λ r. OwesProgram Prints Refuses r answer) → answer.status ≡ 0
+      (fetched : Option (Result (List ℕ) ShelfError)) → MeetsShelf (Some file) before after fetched → (answer : Answer) → IsSomeAnd fetched (λ r. OwesProgram Prints Refuses r answer) → answer ≡ printed print
   print_done Prints Refuses v print is holds well None met answer owed = absurd met
   print_done Prints Refuses v print is holds well (Some r) met answer owed =
       let P : Result (List ℕ) ShelfError → Type 0 = λ f. OwesProgram Prints Refuses f answer in
       elim (fetched_so before.files r refl holds.0 holds.1 well met) [
-        | inl e ↦ elim (subst P e owed) [ inl printed ↦ ap (λ a. a.status) printed.2 | inr refused ↦ absurd (v.apart text print refused.0 is refused.1) ]
+        | inl e ↦ elim (subst P e owed) [ inl prints ↦ prints.2 ∙ ap printed (v.one text prints.0 print prints.1 is) | inr refused ↦ absurd (v.apart text print refused.0 is refused.1) ]
         | inr e ↦ absurd (subst P e owed)
       ]
 
   -- one that runs it
-  run_done : (Owed : Accepted → List ℕ → Ending → Type 0) (once : OwesOnce Owed) (ops : List Operator) (o : Options) (instants : Option ℕ) (stop : Stop) (a : Accepted) → IsRunnable ops o instants text a →
-      ((b : Accepted) (output : List ℕ) (end : Ending) → AreSame b a → Owed b output end → end ≡ ending.Done) → Holds before file text → (Rose before.faults after.faults → ⊥) →
-      (fetched : Option (Result (List ℕ) ShelfError)) → MeetsShelf (Some file) before after fetched → (answer : Answer) → IsSomeAnd fetched (λ r. OwesRunning Owed ops o instants stop r answer) → answer.status ≡ 0
-  run_done Owed once ops o instants stop a is ends holds well None met answer owed = absurd met
-  run_done Owed once ops o instants stop a is ends holds well (Some r) met answer owed =
+  run_done : (Owed : Accepted → List ℕ → Ending → Type 0) (once : OwesOnce Owed) (ops : List Operator) (o : Options) (instants : Option ℕ) (stop : Stop) (a : Accepted) (output : List ℕ) → IsRunnable ops o instants text a →
+      ((b : Accepted) (out : List ℕ) (end : Ending) → AreSame b a → Owed b out end → ended out end ≡ printed output) → Holds before file text → (Rose before.faults after.faults → ⊥) →
+      (fetched : Option (Result (List ℕ) ShelfError)) → MeetsShelf (Some file) before after fetched → (answer : Answer) → IsSomeAnd fetched (λ r. OwesRunning Owed ops o instants stop r answer) → answer ≡ printed output
+  run_done Owed once ops o instants stop a output is ends holds well None met answer owed = absurd met
+  run_done Owed once ops o instants stop a output is ends holds well (Some r) met answer owed =
       let P : Result (List ℕ) ShelfError → Type 0 = λ f. OwesRunning Owed ops o instants stop f answer in
       elim (fetched_so before.files r refl holds.0 holds.1 well met) [
-        | inl e ↦ ran_done Owed once ops o instants stop text a is ends answer (subst P e owed)
+        | inl e ↦ ran_done Owed once ops o instants stop text a output is ends answer (subst P e owed)
         | inr e ↦ elim (subst P e owed) [ inl refused ↦ elim refused.0 [ inl none ↦ absurd none | inr none ↦ absurd none ] | inr none ↦ absurd none ]
       ]
 
--- a run does not end at a limit of the interpreter, as far as its input says
-not_limit : (words : List Bits) (lists : List (List ℤ)) (given : Option ℕ) (fault : Option TextFault) (end : Ending) (l : Limit) → (l ≡ limit.Instants → ⊥) → EndsFor words given lists fault end → end ≡ ending.Limit l → ⊥
-not_limit words lists given (Some f) end l other e is = let x : ending.Input f ≡ ending.Limit l = sym e ∙ is in cc x
-not_limit words lists (Some n) None end l other e is = let x : ending.Done ≡ ending.Limit l = sym e ∙ is in cc x
-not_limit words lists None None end l other (inl e) is = let x : ending.Limit limit.Instants ≡ ending.Limit l = sym e.0 ∙ is in let y : l ≡ limit.Instants = cc x in other y
-not_limit words lists None None end l other (inr e) is = let x : ending.Done ≡ ending.Limit l = sym e.0 ∙ is in cc x
+-- the input that `make` generates is what it runs on
+made_fed : OneCut → (inputs : List InputSpec) (stop : Stop) (lists others : List (List ℤ)) (fault : Option TextFault) → (inputs ≡ [] → ⊥) → (stop ≡ Ended) ⊎ (stop ≡ Drained) →
+    IsInput inputs (Some made_input) lists → Feeds inputs made_input stop others fault → (others ≡ lists) × (fault ≡ None)
+made_fed cut [] stop lists others fault some whole is fed = absurd (some refl)
+made_fed cut (input ∷ inputs) stop lists others fault some whole is fed = whole_feeds cut (input ∷ inputs) made_input stop Ended others lists fault None whole (inl refl) fed is
 
-kahn_ends : (kinds : List HostKind) (a : Accepted) (instants : Option ℕ) (taken : List ℕ) (stop : Stop) (output : List ℕ) (end : Ending) → CompleteInterpretation → IsFedWell a instants taken stop →
-    ((lists : List (List ℤ)) (fault : Option TextFault) (horizon : ℕ) → IsFed a instants taken stop lists fault horizon →
-    (HasManyTurns a.placed.nodes horizon → ⊥) × (HasManyItems kinds lists a.placed.nodes a.clocks.items horizon → ⊥)) → OwesKahn kinds a instants taken stop output end → end ≡ ending.Done
-kahn_ends kinds a instants taken stop output end law fed few (lists, fault, horizon, is, inl turns) = absurd ((few lists fault horizon is).0 turns.0)
-kahn_ends kinds a instants taken stop output end law fed few (lists, fault, horizon, is, inr (inl items)) = absurd ((few lists fault horizon is).1 items.0)
-kahn_ends kinds a instants taken stop output end law fed few (lists, fault, horizon, is, inr (inr whole)) =
-    elim (law kinds a instants taken stop fed.0 output end fed.1 fed.2 (lists, fault, horizon, is, inr (inr whole))) [
-      | inl turns ↦ absurd (not_limit (input_words a) lists instants fault end limit.KahnTurns (λ e. cc e) whole.3 turns)
-      | inr (inl items) ↦ absurd (not_limit (input_words a) lists instants fault end limit.KahnItems (λ e. cc e) whole.3 items)
-      | inr (inr is_done) ↦ is_done
-    ]
+made_ends : OneCut → OneHorizon → (stages : ℕ) (kinds : List HostKind) (a : Accepted) (lists : List (List ℤ)) (horizon : ℕ) (output : List ℕ) (end : Ending) → (LacksInstants a None → ⊥) →
+    IsFedWell a None (Some made_input) lists horizon → OwesSummary stages kinds a output end → ended output end ≡ printed (figures stages a.net horizon (printed_values kinds a lists horizon))
+made_ends cut horizons stages kinds a lists horizon output end runs fed (others, other, made, is) =
+    let (same, none) = made_fed cut a.inputs.items made.stop lists others made.fault (λ e. runs (e, refl)) made.whole fed.input made.feeds in
+    let words : List Bits = input_words a in
+    let last : other ≡ horizon = horizons words lists (most_instants None) other horizon (subst (λ ls. IsHorizonOf words None ls other) same made.horizon_is) fed.horizon_is in
+    let P : Option TextFault → Type 0 = λ f. EndsFor words None lists f end in
+    let Q : List (List ℤ) → Type 0 = λ ls. EndsFor words None ls made.fault end in
+    let over : end ≡ ending.Done = done_for words None lists end fed.few (subst P none (subst Q same made.ends)) in
+    ap (λ e. ended output e) over
+    ∙ ap printed (is ∙ ap (λ e. where_done e (figures stages a.net other (printed_values kinds a others other))) over
+    ∙ ap (λ ls. figures stages a.net other (printed_values kinds a ls other)) same ∙ ap (λ t. figures stages a.net t (printed_values kinds a lists t)) last)
 
-made_ends : OneCut → (stages : ℕ) (kinds : List HostKind) (a : Accepted) (output : List ℕ) (end : Ending) → IsFedWell a None made_input Ended → OwesSummary stages kinds a output end → end ≡ ending.Done
-made_ends cut stages kinds a output end fed (lists, horizon, made, is) =
-    let same = whole_feeds cut a.inputs.items made_input made.stop Ended lists fed.0 made.fault None made.whole (inl refl) made.feeds fed.1 in
-    let P : List (List ℤ) → Type 0 = λ u. EndsFor (input_words a) None u made.fault end in
-    let Q : Option TextFault → Type 0 = λ f. EndsFor (input_words a) None fed.0 f end in
-    elim (subst Q same.1 (subst P same.0 made.ends)) [ inl more ↦ absurd (fed.2 refl more.1) | inr is_done ↦ is_done.0 ]
+-- what suits a command in a world suits it with the operators that it has met
+met_suits : (command : Command) (before : World) (ops : List Operator) (output : List ℕ) → ops ≡ before.operators → Suits command before output → Suits command (record before { operators = ops }) output
+met_suits command before ops output e suits =
+    let P : List Operator → Type 0 = λ os. Suits command (record before { operators = os }) output in
+    subst P (sym e) suits
+
+-- what is owed with this ending is what is printed
+ended_printed : (out output : List ℕ) (end : Ending) → (out ≡ output) × (end ≡ ending.Done) → ended out end ≡ printed output
+ended_printed out output end (same, over) = ap (λ e. ended out e) over ∙ ap printed same
+
+module _ (cut : OneCut) (horizons : OneHorizon) (one_run : OneRun) (one_kahn : OneInterpretation) (run : CompleteRun) (kahn : CompleteInterpretation) (before after : World) (output : List ℕ) (status : ℕ) (well : IsFaultless before after) where
+  carried_out : (command : Command) (given : Given) → Meets command before after given → EndsWith command given before after status → Suits command (record before { operators = given.operators }) output →
+      Finishes output before after status
+  carried_out Order given met ends suits = done Order before after given output status (order_done before.source after.source given.taken output given.stop before.source.left refl met.source well.source suits) well ends
+  carried_out (Show file) given met ends (text, holds, is) =
+      done (Show file) before after given output status (print_done before.shelf after.shelf file text IsPrintOf RefusesSyntax show_verdict output is holds well.shelf given.fetched met.shelf) well ends
+  carried_out (Types file) given met ends (text, holds, is) =
+      let ops : List Operator = given.operators in
+      done (Types file) before after given output status (print_done before.shelf after.shelf file text (IsReportOf ops) (RefusesText ops) (types_verdict ops) output is holds well.shelf given.fetched met.shelf) well ends
+  carried_out (Check file) given met ends (text, holds, is) =
+      let ops : List Operator = given.operators in
+      done (Check file) before after given output status
+      (print_done before.shelf after.shelf file text (IsCheckOf ops written_options) (RefusesCheck ops written_options) (check_verdict ops written_options) output is holds well.shelf given.fetched met.shelf) well ends
+  carried_out (Clocks file scale lead) given met ends (text, holds, is) =
+      let ops : List Operator = given.operators in
+      let o : Options = inferring_options scale lead in
+      done (Clocks file scale lead) before after given output status
+      (print_done before.shelf after.shelf file text (IsCheckOf ops o) (RefusesCheck ops o) (check_verdict ops o) output is holds well.shelf given.fetched met.shelf) well ends
+  carried_out (Run file scale lead instants workers block) given met ends (a, lists, horizon, (text, holds, is), fed, lines) =
+      let ops : List Operator = given.operators in
+      let kinds : List HostKind = kinds_of ops in
+      done (Run file scale lead instants workers block) before after given output status
+      (run_done before.shelf after.shelf file text (λ p. OwesRun kinds p instants given.taken given.stop) (run_once one_run kinds instants given.taken given.stop) ops (inferring_options scale lead) instants given.stop a output is
+      (λ b out end same owed. ended_printed out (heading a ++ lines_to kinds a lists horizon) end (run kinds a instants before.source after.source given.taken given.stop lists horizon out end met.source well.source fed
+      (run_moves kinds b a same instants given.taken given.stop out end owed)) ∙ ap printed (sym lines)) holds well.shelf given.fetched met.shelf) well ends
+  carried_out (Kahn file scale lead instants) given met ends (a, lists, horizon, (text, holds, is), fed, turns, items, lines) =
+      let ops : List Operator = given.operators in
+      let kinds : List HostKind = kinds_of ops in
+      done (Kahn file scale lead instants) before after given output status
+      (run_done before.shelf after.shelf file text (λ p. OwesKahn kinds p instants given.taken given.stop) (kahn_once one_kahn kinds instants given.taken given.stop) ops (inferring_options scale lead) instants given.stop a output is
+      (λ b out end same owed. ended_printed out (lines_to kinds a lists horizon) end (kahn kinds a instants before.source after.source given.taken given.stop lists horizon out end met.source well.source fed turns items
+      (kahn_moves kinds b a same instants given.taken given.stop out end owed)) ∙ ap printed (sym lines)) holds well.shelf given.fetched met.shelf) well ends
+  carried_out (Make stages workers block) given met ends (a, lists, horizon, is, fed, lines) =
+      let kinds : List HostKind = kinds_of given.operators in
+      done (Make stages workers block) before after given output status
+      (ran_done (λ p. OwesSummary stages kinds p) (summary_once cut horizons stages kinds) given.operators (inferring_options 1 1) None given.stop (made_text stages) a output is
+      (λ b out end same owed. made_ends cut horizons stages kinds a lists horizon out end is.1 fed (summary_moves stages kinds b a same out end owed) ∙ ap printed (sym lines))) well ends
 
 pub suited_done : OneCut → OneHorizon → OneRun → OneInterpretation → CompleteRun → CompleteInterpretation → Completes
-suited_done cut horizons one_run one_kahn run kahn Order before after given status met ends well suits =
-    done Order before after given status (order_done given.taken given.stop suits.0 suits.1 (unfailed (limit_number limit.OrderInput) before.source after.source given.taken given.stop met.source well.source) suits.2) well ends
-suited_done cut horizons one_run one_kahn run kahn (Show file) before after given status met ends well (text, print, holds, is) =
-    done (Show file) before after given status (print_done before.shelf after.shelf file text IsPrintOf RefusesSyntax show_verdict print is holds well.shelf given.fetched met.shelf) well ends
-suited_done cut horizons one_run one_kahn run kahn (Types file) before after given status met ends well (text, print, holds, is) =
-    let ops : List Operator = given.operators in
-    done (Types file) before after given status (print_done before.shelf after.shelf file text (IsReportOf ops) (RefusesText ops) (types_verdict ops) print is holds well.shelf given.fetched met.shelf) well ends
-suited_done cut horizons one_run one_kahn run kahn (Check file) before after given status met ends well (text, print, holds, is) =
-    let ops : List Operator = given.operators in
-    done (Check file) before after given status
-    (print_done before.shelf after.shelf file text (IsCheckOf ops written_options) (RefusesCheck ops written_options) (check_verdict ops written_options) print is holds well.shelf given.fetched met.shelf) well ends
-suited_done cut horizons one_run one_kahn run kahn (Clocks file scale lead) before after given status met ends well (text, print, holds, is) =
-    let ops : List Operator = given.operators in
-    let o : Options = inferring_options scale lead in
-    done (Clocks file scale lead) before after given status (print_done before.shelf after.shelf file text (IsCheckOf ops o) (RefusesCheck ops o) (check_verdict ops o) print is holds well.shelf given.fetched met.shelf) well ends
-suited_done cut horizons one_run one_kahn run kahn (Run file scale lead instants workers block) before after given status met ends well (text, a, holds, is, fed) =
-    let ops : List Operator = given.operators in
-    let kinds : List HostKind = kinds_of ops in
-    done (Run file scale lead instants workers block) before after given status
-    (run_done before.shelf after.shelf file text (λ p. OwesRun kinds p instants given.taken given.stop) (run_once one_run kinds instants given.taken given.stop) ops (inferring_options scale lead) instants given.stop a is
-    (λ b output end same owed. run kinds a instants given.taken given.stop fed.0 output end fed.1 fed.2 (run_moves kinds b a same instants given.taken given.stop output end owed)) holds well.shelf given.fetched met.shelf) well ends
-suited_done cut horizons one_run one_kahn run kahn (Kahn file scale lead instants) before after given status met ends well (text, a, holds, is, fed, few) =
-    let ops : List Operator = given.operators in
-    let kinds : List HostKind = kinds_of ops in
-    done (Kahn file scale lead instants) before after given status
-    (run_done before.shelf after.shelf file text (λ p. OwesKahn kinds p instants given.taken given.stop) (kahn_once one_kahn kinds instants given.taken given.stop) ops (inferring_options scale lead) instants given.stop a is
-    (λ b output end same owed. kahn_ends kinds a instants given.taken given.stop output end kahn fed few (kahn_moves kinds b a same instants given.taken given.stop output end owed)) holds well.shelf given.fetched met.shelf) well ends
-suited_done cut horizons one_run one_kahn run kahn (Make stages workers block) before after given status met ends well (a, is, fed) =
-    let kinds : List HostKind = kinds_of given.operators in
-    done (Make stages workers block) before after given status
-    (ran_done (λ p. OwesSummary stages kinds p) (summary_once cut horizons stages kinds) given.operators (inferring_options 1 1) None given.stop (made_text stages) a is
-    (λ b output end same owed. made_ends cut stages kinds a output end fed (summary_moves stages kinds b a same output end owed))) well ends
+suited_done cut horizons one_run one_kahn run kahn command before after output status (inl (given, met, ends)) well suits =
+    carried_out cut horizons one_run one_kahn run kahn before after output status well command given met ends (met_suits command before given.operators output met.operators suits)
+suited_done cut horizons one_run one_kahn run kahn command before after output status (inr declines) well suits = declined before after output status well declines

@@ -1,25 +1,28 @@
--- When a command is done, unless memory runs out: nothing that it is given refuses it, no limit is passed, and no count has risen.
-use Rattle.std.specs.Prelude.{ℕ, ℤ, ◌≤◌, ◌≡◌, ◌≢◌, ◌⊎◌, List, length, Option, None, Some, IsSomeAnd}
+-- When a command is done, unless memory runs out, and what then stands on the output: nothing that it is handed refuses it, no limit
+-- is passed, and no count has risen.
+use Rattle.std.specs.Prelude.{ℕ, ℤ, ◌≤◌, ◌≡◌, ◌⊎◌, List, ◌++◌, length, Option, None, Some, IsSomeAnd}
 use Rattle.lucy_word.specs.Limits.{limit_number}
 use Rattle.lucy_word.specs.declared.limit.Limit.TheVariants as limit
-use Rattle.lucy_host.specs.Operators.{kinds_of}
+use Rattle.lucy_host.specs.Operators.{Operator, kinds_of}
 use Rattle.lucy_text.specs.Outside.{Rose}
-use Rattle.lucy_lines.specs.declared.reader.TextFault.{TextFault}
-use Rattle.lucy_feed.specs.Sources.{Stop, Ended, Passed}
 use Rattle.lucy_execution.specs.Running.{HasManyTurns, HasManyItems}
 use Rattle.lucy_front.specs.declared.accepted.Accepted.{Accepted}
-use Rattle.lucy_run.specs.Feeds.{Feeds}
-use Rattle.lucy_run.specs.Owes.{input_words, AllowsMore, IsFed}
+use Rattle.lucy_front.specs.declared.options.Options.{Options}
+use Rattle.lucy_run.specs.Owes.{heading, lines_to}
+use Rattle.lucy_run.specs.Laws.{IsFedWell}
 use Rattle.lucy_make.specs.Text.{made_text, made_input}
+use Rattle.lucy_make.specs.Figures.{figures}
+use Rattle.lucy_make.specs.Owes.{printed_values}
 use Rattle.lucy_command.specs.Commands.{Command, Order, Show, Types, Check, Clocks, Run, Kahn, Make}
 use Rattle.lucy_app.specs.Commands.{written_options, inferring_options}
-use Rattle.lucy_app.specs.World.{SeenShelf, World, Given, Meets}
+use Rattle.lucy_app.specs.World.{SeenShelf, World}
+use Rattle.lucy_app.specs.Answers.{printed}
 use Rattle.lucy_app.specs.Order.{IsVerdictLine}
 use Rattle.lucy_app.specs.Show.{IsPrintOf}
 use Rattle.lucy_app.specs.Types.{IsReportOf}
 use Rattle.lucy_app.specs.Check.{IsCheckOf}
 use Rattle.lucy_app.specs.Running.{IsRunnable}
-use Rattle.lucy_app.specs.Ends.{EndsWith}
+use Rattle.lucy_app.specs.Ends.{Answers, Ends}
 
 -- no count has risen
 pub record IsFaultless (before after : World) : Type 0 where
@@ -33,29 +36,32 @@ abbrev pub Holds : SeenShelf → (file text : List ℕ) → Type 0
 Holds shelf file text = IsSomeAnd shelf.files (λ files. files file ≡ Some text) × (length text ≤ limit_number limit.Text)
 
 -- it tells one of which this is printed
-abbrev pub HoldsPrintable : (Prints : List ℕ → List ℕ → Type 0) → SeenShelf → (file : List ℕ) → Type 0
-HoldsPrintable Prints shelf file = (text : List ℕ) × (print : List ℕ) × Holds shelf file text × Prints text print
+abbrev pub HoldsPrintable : (Prints : List ℕ → List ℕ → Type 0) → SeenShelf → (file print : List ℕ) → Type 0
+HoldsPrintable Prints shelf file print = (text : List ℕ) × Holds shelf file text × Prints text print
 
--- main is fed these items without a fault, and they allow no more instants than a run may have where none are given
-abbrev pub IsFedWell : Accepted → (instants : Option ℕ) → (taken : List ℕ) → Stop → Type 0
-IsFedWell a instants taken stop = (lists : List (List ℤ)) × Feeds a.inputs.items taken stop lists None × (instants ≡ None → AllowsMore (input_words a) lists → ⊥)
+-- it tells one that is accepted as this program, which can be run
+abbrev pub HoldsRunnable : List Operator → Options → (instants : Option ℕ) → SeenShelf → (file : List ℕ) → Accepted → Type 0
+HoldsRunnable ops o instants shelf file a = (text : List ℕ) × Holds shelf file text × IsRunnable ops o instants text a
 
--- nothing that a command is given refuses it, and no limit is passed
-abbrev pub Suits : Command → World → Given → Type 0
-Suits Order before given = (line : List ℕ) × IsVerdictLine given.taken line × (given.stop ≢ Passed)
-Suits (Show file) before given = HoldsPrintable IsPrintOf before.shelf file
-Suits (Types file) before given = HoldsPrintable (IsReportOf given.operators) before.shelf file
-Suits (Check file) before given = HoldsPrintable (IsCheckOf given.operators written_options) before.shelf file
-Suits (Clocks file scale lead) before given = HoldsPrintable (IsCheckOf given.operators (inferring_options scale lead)) before.shelf file
-Suits (Run file scale lead instants workers block) before given =
-    (text : List ℕ) × (a : Accepted) × Holds before.shelf file text × IsRunnable given.operators (inferring_options scale lead) instants text a × IsFedWell a instants given.taken given.stop
-Suits (Kahn file scale lead instants) before given =
-    (text : List ℕ) × (a : Accepted) × Holds before.shelf file text × IsRunnable given.operators (inferring_options scale lead) instants text a × IsFedWell a instants given.taken given.stop
-    × ((lists : List (List ℤ)) (fault : Option TextFault) (horizon : ℕ) → IsFed a instants given.taken given.stop lists fault horizon →
-    (HasManyTurns a.placed.nodes horizon → ⊥) × (HasManyItems (kinds_of given.operators) lists a.placed.nodes a.clocks.items horizon → ⊥))
-Suits (Make stages workers block) before given = (a : Accepted) × IsRunnable given.operators (inferring_options 1 1) None (made_text stages) a × IsFedWell a None made_input Ended
+-- nothing that a command is handed refuses it, no limit is passed, and this is its output
+abbrev pub Suits : Command → World → (output : List ℕ) → Type 0
+Suits Order before output = IsSomeAnd before.source.left (λ bytes. IsVerdictLine bytes output × (length bytes ≤ limit_number limit.OrderInput))
+Suits (Show file) before output = HoldsPrintable IsPrintOf before.shelf file output
+Suits (Types file) before output = HoldsPrintable (IsReportOf before.operators) before.shelf file output
+Suits (Check file) before output = HoldsPrintable (IsCheckOf before.operators written_options) before.shelf file output
+Suits (Clocks file scale lead) before output = HoldsPrintable (IsCheckOf before.operators (inferring_options scale lead)) before.shelf file output
+Suits (Run file scale lead instants workers block) before output =
+    (a : Accepted) × (lists : List (List ℤ)) × (horizon : ℕ) × HoldsRunnable before.operators (inferring_options scale lead) instants before.shelf file a
+    × IsFedWell a instants before.source.left lists horizon × (output ≡ heading a ++ lines_to (kinds_of before.operators) a lists horizon)
+Suits (Kahn file scale lead instants) before output =
+    (a : Accepted) × (lists : List (List ℤ)) × (horizon : ℕ) × HoldsRunnable before.operators (inferring_options scale lead) instants before.shelf file a
+    × IsFedWell a instants before.source.left lists horizon × (HasManyTurns a.placed.nodes horizon → ⊥)
+    × (HasManyItems (kinds_of before.operators) lists a.placed.nodes a.clocks.items horizon → ⊥) × (output ≡ lines_to (kinds_of before.operators) a lists horizon)
+Suits (Make stages workers block) before output =
+    (a : Accepted) × (lists : List (List ℤ)) × (horizon : ℕ) × IsRunnable before.operators (inferring_options 1 1) None (made_text stages) a
+    × IsFedWell a None (Some made_input) lists horizon × (output ≡ figures stages a.net horizon (printed_values (kinds_of before.operators) a lists horizon))
 
--- a command that nothing refuses is done, or memory runs out
+-- then the command is done and its whole output stands, or memory runs out
 abbrev pub Completes : Type 0
-Completes = (command : Command) (before after : World) (given : Given) (status : ℕ) → Meets command before after given → EndsWith command given before after status → IsFaultless before after →
-    Suits command before given → (status ≡ 0) ⊎ (status ≡ 7)
+Completes = (command : Command) (before after : World) (output : List ℕ) (status : ℕ) → Ends (Some command) before after status → IsFaultless before after → Suits command before output →
+    ((status ≡ 0) × Answers (printed output) before.out after.out before.err after.err status) ⊎ (status ≡ 7)

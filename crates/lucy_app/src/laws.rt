@@ -23,8 +23,8 @@ pub fn one_answer()
     one_interpretation();
 }
 
-/// A command that nothing refuses is done, or memory runs out: its FILE is told and is a program that it takes, its input has no
-/// fault, no limit is passed, and no count has risen.
+/// A command that nothing refuses is done, and its whole output stands, or memory runs out: its FILE is told and is a program that
+/// it takes, all bytes of its input are told and have no fault, no limit is passed, and no count has risen.
 pub fn suited_commands_are_done()
     ensures { Completes }
 {

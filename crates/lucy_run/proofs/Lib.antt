@@ -1,6 +1,7 @@
 pub mod HorizonLaws
 pub mod OwesLaws
 mod FedLaws
+pub mod WholeLaws
 mod LinesLaws
 mod ReadLaws
 mod CourseLaws

@@ -1,5 +1,5 @@
 -- What is owed is one thing.
-use Rattle.std.proofs.Common.{◌≡◌, ℕ, ◌⊎◌, List, [], ◌∷◌, ◌++◌, Option, Some, None, Ok, refl, ap, sym, ◌∙◌, subst, inl, inr, arith}
+use Rattle.std.proofs.Common.{◌≡◌, ℕ, ◌⊎◌, List, [], ◌∷◌, ◌++◌, Option, Some, None, refl, ap, sym, ◌∙◌, subst, inl, inr, arith}
 use Rattle.std.specs.Prelude.{ℤ}
 use Rattle.lucy_word.specs.Bits.{Bits}
 use Rattle.lucy_word.specs.declared.limit.Limit.TheVariants as limit
@@ -48,7 +48,7 @@ ends_once words None lists None end other (inl p) (inr q) = absurd (q.1 p.1)
 ends_once words None lists None end other (inr p) (inl q) = absurd (p.1 q.1)
 ends_once words None lists None end other (inr p) (inr q) = p.0 ∙ sym q.0
 
-carried : (P : List (List ℤ) → Option TextFault → ℕ → Type 0) (lists others : List (List ℤ)) (fault other : Option TextFault) (horizon last : ℕ) →
+pub carried : (P : List (List ℤ) → Option TextFault → ℕ → Type 0) (lists others : List (List ℤ)) (fault other : Option TextFault) (horizon last : ℕ) →
     lists ≡ others → fault ≡ other → horizon ≡ last → P lists fault horizon → P others other last
 carried P lists others fault other horizon last e f g p =
     let A : List (List ℤ) → Type 0 = λ u. P u fault horizon in
@@ -100,29 +100,8 @@ kahn_once one horizons kinds a given taken stop output out end other (lists, fau
     let P : List (List ℤ) → Option TextFault → ℕ → Type 0 = λ u f t. Interprets kinds a.placed.nodes a.clocks.items a.outputs.items given u f t output end in
     kahn_for kinds a given others stops last output out end other (carried P lists others fault stops horizon last same.0 same.1 same.2 p) q
 
-done_for : (words : List Bits) (given : Option ℕ) (lists : List (List ℤ)) (end : Ending) → (given ≡ None → AllowsMore words lists → ⊥) → EndsFor words given lists None end → end ≡ ending.Done
+-- without a fault, and within the limit of instants, a run is done
+pub done_for : (words : List Bits) (given : Option ℕ) (lists : List (List ℤ)) (end : Ending) → (given ≡ None → AllowsMore words lists → ⊥) → EndsFor words given lists None end → end ≡ ending.Done
 done_for words (Some n) lists end few p = p
 done_for words None lists end few (inl p) = absurd (few refl p.1)
 done_for words None lists end few (inr p) = p.0
-
--- so does what is fed end that has no fault
-faultless : OneFeed → (a : Accepted) (given : Option ℕ) (taken : List ℕ) (stop : Stop) (lists others : List (List ℤ)) (fault : Option TextFault) (end : Ending) →
-    Feeds a.inputs.items taken stop lists None → (given ≡ None → AllowsMore (input_words a) lists → ⊥) → Feeds a.inputs.items taken stop others fault → EndsFor (input_words a) given others fault end → end ≡ ending.Done
-faultless one a given taken stop lists others fault end none few feeds ends =
-    let same = feeds_once one a.inputs.items taken stop lists others None fault none feeds in
-    let P : Option TextFault → Type 0 = λ u. EndsFor (input_words a) given others u end in
-    let Q : List (List ℤ) → Type 0 = λ u. EndsFor (input_words a) given u None end in
-    done_for (input_words a) given lists end few (subst Q (sym same.0) (subst P (sym same.1) ends))
-
-pub run_done : OneFeed → (kinds : List HostKind) (a : Accepted) (given : Option ℕ) (taken : List ℕ) (stop : Stop) (lists : List (List ℤ)) (output : List ℕ) (end : Ending) →
-    Feeds a.inputs.items taken stop lists None → (given ≡ None → AllowsMore (input_words a) lists → ⊥) → OwesRun kinds a given taken stop output end → end ≡ ending.Done
-run_done one kinds a given taken stop lists output end none few (others, fault, horizon, fed, text, ends) =
-    faultless one a given taken stop lists others fault end none few fed.feeds ends
-
-pub kahn_done : OneFeed → (kinds : List HostKind) (a : Accepted) (given : Option ℕ) (taken : List ℕ) (stop : Stop) (lists : List (List ℤ)) (output : List ℕ) (end : Ending) →
-    Feeds a.inputs.items taken stop lists None → (given ≡ None → AllowsMore (input_words a) lists → ⊥) → OwesKahn kinds a given taken stop output end →
-    (end ≡ ending.Limit limit.KahnTurns) ⊎ (end ≡ ending.Limit limit.KahnItems) ⊎ (end ≡ ending.Done)
-kahn_done one kinds a given taken stop lists output end none few (others, fault, horizon, fed, inl turns) = inl turns.2
-kahn_done one kinds a given taken stop lists output end none few (others, fault, horizon, fed, inr (inl items)) = inr (inl items.2)
-kahn_done one kinds a given taken stop lists output end none few (others, fault, horizon, fed, inr (inr both)) =
-    inr (inr (faultless one a given taken stop lists others fault end none few fed.feeds both.3))

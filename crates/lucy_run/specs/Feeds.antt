@@ -1,11 +1,11 @@
 -- What main is fed by the bytes that were taken from a source.
-use Rattle.std.specs.Prelude.{ℕ, ℤ, ◌≡◌, true, List, [], ◌∷◌, length, Option, None, Result, Ok, Err}
+use Rattle.std.specs.Prelude.{ℕ, ℤ, ◌≡◌, true, List, [], ◌∷◌, length, Option, None, Result, Ok, Err, IsSomeAnd}
 use Rattle.lucy_word.specs.declared.error.OutOfMemory.{OutOfMemory}
 use Rattle.lucy_lines.specs.Cuts.{ItemOf, Stop as Halt, Cut, input_of}
 use Rattle.lucy_lines.specs.declared.input.InputSpec.{InputSpec}
 use Rattle.lucy_lines.specs.declared.reader.TextFault.{TextFault}
 use Rattle.lucy_feed.specs.declared.feeds.Feed.{Feed}
-use Rattle.lucy_feed.specs.Sources.{Stop, Unread, Open}
+use Rattle.lucy_feed.specs.Sources.{Stop, Unread, Ended, Open}
 use Rattle.lucy_feed.specs.Feeding.{values_by_stream, IsFeedOf}
 
 -- the items of each input, and why they stop before the end of what was to be read; where main has no inputs nothing is read
@@ -13,6 +13,11 @@ abbrev pub Feeds : List InputSpec → (taken : List ℕ) → Stop → (lists : L
 Feeds [] taken stop lists fault = (taken ≡ []) × (stop ≡ Unread) × (lists ≡ []) × (fault ≡ None)
 Feeds (input ∷ inputs) taken stop lists fault =
     (items : List ItemOf) × (halt : Halt) × IsFeedOf (input ∷ inputs) taken stop items halt (record { items = lists; stop = fault })
+
+-- all bytes of an input are told, and have these items and no fault; where main has no inputs none is asked for
+abbrev pub IsInput : List InputSpec → (left : Option (List ℕ)) → (lists : List (List ℤ)) → Type 0
+IsInput [] left lists = lists ≡ []
+IsInput (input ∷ inputs) left lists = IsSomeAnd left (λ bytes. Feeds (input ∷ inputs) bytes Ended lists None)
 
 -- reading was not begun, or given up before its stop
 abbrev pub IsUnfinished : Stop → Type 0

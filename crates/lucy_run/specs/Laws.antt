@@ -2,12 +2,15 @@
 use Rattle.std.specs.Prelude.{ℕ, ℤ, ◌≡◌, ◌⊎◌, List, ◌++◌, Option, None}
 use Rattle.lucy_word.specs.declared.limit.Limit.TheVariants as limit
 use Rattle.lucy_host.specs.declared.kind.HostKind.{HostKind}
-use Rattle.lucy_feed.specs.Sources.{Stop}
+use Rattle.lucy_text.specs.Outside.{Rose}
+use Rattle.lucy_lines.specs.Fronts.{most_bytes}
+use Rattle.lucy_feed.specs.Sources.{Stop, SeenSource, Read}
+use Rattle.lucy_execution.specs.Running.{HasManyTurns, HasManyItems}
 use Rattle.lucy_front.specs.declared.accepted.Accepted.{Accepted}
 use Rattle.lucy_run.specs.declared.ending.Ending.{Ending}
 use Rattle.lucy_run.specs.declared.ending.Ending.TheVariants as ending
-use Rattle.lucy_run.specs.Feeds.{Feeds}
-use Rattle.lucy_run.specs.Owes.{input_words, heading, AllowsMore, OwesRun, OwesKahn}
+use Rattle.lucy_run.specs.Feeds.{IsInput}
+use Rattle.lucy_run.specs.Owes.{input_words, IsHorizonOf, heading, lines_to, AllowsMore, OwesRun, OwesKahn}
 
 -- the bytes taken and how reading stopped owe one output of `run`, with one ending
 abbrev pub OneRun : Type 0
@@ -25,13 +28,20 @@ SameLines = (kinds : List HostKind) (a : Accepted) (given : Option ℕ) (taken :
     OwesRun kinds a given taken stop output end → OwesKahn kinds a given taken stop lines other →
     (other ≡ ending.Limit limit.KahnTurns) ⊎ (other ≡ ending.Limit limit.KahnItems) ⊎ ((output ≡ heading a ++ lines) × (end ≡ other))
 
--- An input without a fault, whose items allow no more instants than a run may have where none are given, is run to its end.
-abbrev pub CompleteRun : Type 0
-CompleteRun = (kinds : List HostKind) (a : Accepted) (given : Option ℕ) (taken : List ℕ) (stop : Stop) (lists : List (List ℤ)) (output : List ℕ) (end : Ending) →
-    Feeds a.inputs.items taken stop lists None → (given ≡ None → AllowsMore (input_words a) lists → ⊥) → OwesRun kinds a given taken stop output end → end ≡ ending.Done
+-- an input that is told and has no fault allows so many instants, and no more than a run may have where none are given
+pub record IsFedWell (a : Accepted) (given : Option ℕ) (left : Option (List ℕ)) (lists : List (List ℤ)) (horizon : ℕ) : Type 0 where
+  pub input : IsInput a.inputs.items left lists
+  pub horizon_is : IsHorizonOf (input_words a) given lists horizon
+  pub few : given ≡ None → AllowsMore (input_words a) lists → ⊥
 
--- So it is by the interpreter, unless that passes a limit of its own.
+-- By such an input, where the count of its source did not rise, a run is done, and owes the lines of all those instants.
+abbrev pub CompleteRun : Type 0
+CompleteRun = (kinds : List HostKind) (a : Accepted) (given : Option ℕ) (before after : SeenSource) (taken : List ℕ) (stop : Stop) (lists : List (List ℤ)) (horizon : ℕ) (output : List ℕ) (end : Ending) →
+    Read most_bytes before after taken stop → (Rose before.faults after.faults → ⊥) → IsFedWell a given before.left lists horizon → OwesRun kinds a given taken stop output end →
+    (output ≡ heading a ++ lines_to kinds a lists horizon) × (end ≡ ending.Done)
+
+-- So it is by the interpreter, which passes no limit of its own.
 abbrev pub CompleteInterpretation : Type 0
-CompleteInterpretation = (kinds : List HostKind) (a : Accepted) (given : Option ℕ) (taken : List ℕ) (stop : Stop) (lists : List (List ℤ)) (output : List ℕ) (end : Ending) →
-    Feeds a.inputs.items taken stop lists None → (given ≡ None → AllowsMore (input_words a) lists → ⊥) → OwesKahn kinds a given taken stop output end →
-    (end ≡ ending.Limit limit.KahnTurns) ⊎ (end ≡ ending.Limit limit.KahnItems) ⊎ (end ≡ ending.Done)
+CompleteInterpretation = (kinds : List HostKind) (a : Accepted) (given : Option ℕ) (before after : SeenSource) (taken : List ℕ) (stop : Stop) (lists : List (List ℤ)) (horizon : ℕ) (output : List ℕ) (end : Ending) →
+    Read most_bytes before after taken stop → (Rose before.faults after.faults → ⊥) → IsFedWell a given before.left lists horizon → (HasManyTurns a.placed.nodes horizon → ⊥) →
+    (HasManyItems kinds lists a.placed.nodes a.clocks.items horizon → ⊥) → OwesKahn kinds a given taken stop output end → (output ≡ lines_to kinds a lists horizon) × (end ≡ ending.Done)

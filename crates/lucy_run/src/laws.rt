@@ -4,6 +4,7 @@ ghost use Rattle.lucy_run.specs.Laws.{OneRun, OneInterpretation, SameLines, Comp
 
 use lucy_execution::streams_go_on;
 use lucy_feed::one_feed;
+use lucy_lines::{cut_in_pieces, one_cut};
 use lucy_meaning::one_horizon;
 use lucy_output::{block_by_block, fronts_suffice};
 
@@ -31,13 +32,15 @@ pub fn runs_print_what_kahn_prints()
     one_horizon();
 }
 
-/// An input without a fault, whose items allow no more instants than a run may have where none are given, is run to its end, and
-/// so it is by the interpreter, unless that passes a limit of its own.
+/// By an input that is told whole and has no fault, whose items allow no more instants than a run may have where none are given, a run
+/// is done and owes all its lines, where no count of its source rose; and so it is by the interpreter within its own limits.
 pub fn faultless_runs_are_done()
     ensures run { CompleteRun }
     ensures interpretation { CompleteInterpretation }
 {
-    one_feed();
+    one_cut();
+    cut_in_pieces();
+    one_horizon();
 }
 
 // The lines up to an instant are those of fewer items, if they suffice, and then those of the instants after.

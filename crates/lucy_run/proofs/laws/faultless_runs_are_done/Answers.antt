@@ -1,8 +1,8 @@
-use Rattle.lucy_run.proofs.OwesLaws.{run_done, kahn_done}
+use Rattle.lucy_run.proofs.WholeLaws.{run_whole, kahn_whole}
 use Rattle.lucy_run.proofs.laws.faultless_runs_are_done.Goals as goal
 
 pub returns-clause-run : goal.returns-clause-run
-returns-clause-run c = run_done c.one_feed.ensures
+returns-clause-run c = run_whole c.one_cut.ensures c.cut_in_pieces.ensures c.one_horizon.ensures
 
 pub returns-clause-interpretation : goal.returns-clause-interpretation
-returns-clause-interpretation c = kahn_done c.one_feed.ensures
+returns-clause-interpretation c = kahn_whole c.one_cut.ensures c.cut_in_pieces.ensures c.one_horizon.ensures
