@@ -1,6 +1,7 @@
 mod Places
 mod Chains
 mod Lifts
+mod Raises
 mod Passes
 mod Earliest
 mod Circles

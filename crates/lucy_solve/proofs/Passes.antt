@@ -1,18 +1,14 @@
 -- One pass, step by step, and why the passes end.
-use Rattle.std.proofs.Common.{◌^◌, inl, inr, ◌-◌, ◌≡◌, ℕ, ◌+◌, ◌*◌, ◌<◌, ◌≤◌, List, length, get_or, set, zero, suc, Bool, true, false, sum, sym, ap, ◌∙◌, subst, refl, arith}
-use Rattle.std.proofs.Common.{to_z, of_z, w64}
-use Rattle.std.proofs.lemmas.Int.{ints}
+use Rattle.std.proofs.Common.{◌^◌, inl, inr, ◌-◌, ◌≡◌, ℕ, ◌+◌, ◌*◌, ◌<◌, ◌≤◌, List, length, get_or, zero, suc, Bool, true, false, sum, sym, ap, subst, refl, arith}
 use Rattle.std.proofs.lemmas.Bool.{cases_lt}
-use Rattle.std.proofs.lemmas.List.{length-set}
 use Rattle.std.proofs.lemmas.List.Sums.{sum_by-le}
 use Rattle.std.proofs.lemmas.List.Elements.{All-from_get_or}
 use borrow.Author.Count.{below_more}
 use Rattle.lucy_solve.specs.declared.diffs.Diff.{Diff}
-use Rattle.lucy_solve.specs.System.{System, diff_at, IsProper, IsSystem}
-use Rattle.lucy_solve.specs.Search.{shifted, position_at, Holds, IsReached, IsWithin, IsPassed}
+use Rattle.lucy_solve.specs.System.{System, diff_at, IsSystem}
+use Rattle.lucy_solve.specs.Search.{position_at, Holds, IsReached, IsWithin, IsRaised, IsPassed}
 use Rattle.lucy_solve.specs.Parents.{IsForest}
-use Rattle.lucy_solve.proofs.Places.{at_set, sum_set}
-use Rattle.lucy_solve.proofs.Lifts.{lift, proper}
+use Rattle.lucy_solve.proofs.Lifts.{proper}
 
 -- along a forest the values stay small
 deep : (s : System) (x parents : List ℕ) (h : IsReached s x parents) (f : IsForest s parents) → IsSystem s → (n v : ℕ) → v < s.count → f.depth v ≤ n → get_or x v 0 ≤ 2 ^ 40 * n
@@ -48,57 +44,27 @@ passed_keep list backwards before x i moved h here = record {
   risen = h.risen;
 }
 
-pub passed_move : (list : List Diff) (backwards : Bool) (before x : List ℕ) (i r to : ℕ) (moved : Bool) → IsPassed list backwards before x i moved → r < length x → get_or x r 0 < to →
-    to ≤ 2 ^ 40 * (length list + (i + 1)) → IsPassed list backwards before (set x r to) (i + 1) true
-passed_move list backwards before x i r to moved h in' more most =
-    let a = sum_set x r to in' in
-    let g = h.grown in
+-- the step of a pass
+pub passed_step : (list : List Diff) (backwards : Bool) (before x x' : List ℕ) (n i : ℕ) (moved raised moved' : Bool) → IsPassed list backwards before x n moved → IsRaised list x x' i raised →
+    i ≡ position_at (length list) backwards n → (raised ≡ true → moved' ≡ true) → (raised ≡ false → moved' ≡ moved) → IsPassed list backwards before x' (n + 1) moved'
+passed_step list backwards before x x' n i moved true moved' h r e f g =
+    let a = r.risen refl in
+    let b = h.grown in
     record {
-      within = λ v k. elim (at_set x r to v in') [
-        | inl w ↦ let b = w.1 in omega arith
-        | inr w ↦ let b = w.1 in let c = h.within v (let d = length-set x r to in omega arith) in omega arith
-      ];
+      within = λ v k. let c = r.within (length list + n) h.within v k in omega arith;
       grown = omega arith;
-      still = λ e. (cc);
+      still = λ e. let m = f refl in (cc);
       risen = λ e. omega arith;
     }
+passed_step list backwards before x x' n i moved false moved' h r e f g =
+    let a = r.still refl in
+    let here : Holds list x (position_at (length list) backwards n) = subst (λ (x : List ℕ). Holds list x (position_at (length list) backwards n)) a.0 (subst (λ (i : ℕ). Holds list x' i) e a.1) in
+    subst (λ (x : List ℕ). IsPassed list backwards before x (n + 1) moved') (sym a.0)
+    (subst (λ (m : Bool). IsPassed list backwards before x (n + 1) m) (sym (g refl)) (passed_keep list backwards before x n moved h here))
 
-pub passing_bounds : (s : System) (list : List Diff) (backwards : Bool) (before x parents : List ℕ) (k i : ℕ) (moved : Bool) → k < length list → list ≡ s.list → IsSystem s → length s.list ≤ 1048576 → IsReached s x parents → IsPassed s.list backwards before x k moved → i < length list →
-    (get_or x (diff_at list i).left 0 ≤ 2 ^ 61) × (get_or x (diff_at list i).right 0 ≤ 2 ^ 61)
-passing_bounds s list backwards before x parents n i moved m e p few h q l =
-    let few' : length list ≤ 1048576 = let a = ap length e in omega arith in
-    let P : List Diff → Type 0 = λ list. i < length list → (get_or x (diff_at list i).left 0 ≤ 2 ^ 61) × (get_or x (diff_at list i).right 0 ≤ 2 ^ 61) in
-    let here : P s.list = λ l.
-    let a = proper s p i l in let b = a.left in let c = a.right in let v = h.value_count in
-    let f = q.within (diff_at s.list i).left (omega arith) in
-    let g = q.within (diff_at s.list i).right (omega arith) in
-    (omega arith, omega arith) in
-    subst P (sym e) here l
-
--- the step of a pass, where variable r of inequality i is lifted
-pub lifted_step : (s : System) (list : List Diff) (backwards : Bool) (before x parents : List ℕ) (n i to : ℕ) (moved : Bool) → list ≡ s.list → IsSystem s → IsReached s x parents → IsPassed s.list backwards before x n moved → i < length list →
-    get_or x (diff_at list i).right 0 < to → to + shifted (diff_at list i).most ≡ get_or x (diff_at list i).left 0 + 2 ^ 40 →
-    IsReached s (set x (diff_at list i).right to) (set parents (diff_at list i).right i) × IsPassed s.list backwards before (set x (diff_at list i).right to) (n + 1) true
-lifted_step s list backwards before x parents n i to moved e p h q l more f =
-    let P : List Diff → Type 0 = λ list. i < length list → get_or x (diff_at list i).right 0 < to → to + shifted (diff_at list i).most ≡ get_or x (diff_at list i).left 0 + 2 ^ 40 →
-    IsReached s (set x (diff_at list i).right to) (set parents (diff_at list i).right i) × IsPassed s.list backwards before (set x (diff_at list i).right to) (n + 1) true in
-    let here : P s.list = λ l more f.
-    let a = proper s p i l in let b = a.left in let c = a.right in let v = h.value_count in
-    let g = q.within (diff_at s.list i).left (omega arith) in
-    (lift s x parents i to h p l more f, passed_move s.list backwards before x n (diff_at s.list i).right to moved q (omega arith) more (omega arith)) in
-    subst P (sym e) here l more f
-
-pub kept_step : (s : System) (list : List Diff) (backwards : Bool) (before x parents : List ℕ) (n i : ℕ) (moved : Bool) → list ≡ s.list → IsReached s x parents → IsPassed s.list backwards before x n moved → i ≡ position_at (length list) backwards n →
-    get_or x (diff_at list i).left 0 + 2 ^ 40 ≤ get_or x (diff_at list i).right 0 + shifted (diff_at list i).most → IsReached s x parents × IsPassed s.list backwards before x (n + 1) moved
-kept_step s list backwards before x parents n i moved e h q l f = (h, passed_keep s.list backwards before x n moved q (subst (λ (l : List Diff). Holds l x (position_at (length l) backwards n)) e (subst (λ (i : ℕ). Holds list x i) l f)))
-
-pub passed_most : (s : System) (list : List Diff) (i : ℕ) (n : ℕ) → list ≡ s.list → IsSystem s → i < length list → n ≡ shifted (to_z w64 (of_z w64 (diff_at list i).most)) → n ≡ shifted (diff_at list i).most
-passed_most s list i n e p l h =
-    let a : IsProper s.count (diff_at list i) = subst (λ (x : List Diff). i < length x → IsProper s.count (diff_at x i)) (sym e) (proper s p i) l in
-    let b = a.low in
-    let c = a.high in
-    let f : to_z w64 (of_z w64 (diff_at list i).most) ≡ (diff_at list i).most = omega (arith, ints) in
-    h ∙ ap shifted f
+-- values within some bound are within a higher one
+pub within_more : (x : List ℕ) (n m : ℕ) → IsWithin x n → n ≤ m → IsWithin x m
+within_more x n m h l v k = let a = h v k in omega arith
 
 -- the passes end: the sum of the values rises, and is bounded
 pub sum_bounded : (xs : List ℕ) (n : ℕ) → IsWithin xs n → sum xs ≤ length xs * (2 ^ 40 * n)

@@ -33,6 +33,12 @@ pub record IsReached (s : System) (values parents : List ℕ) : Type 0 where
 abbrev pub IsWithin : List ℕ → ℕ → Type 0
 IsWithin values n = (v : ℕ) → v < length values → slice_index values v ≤ 2 ^ 40 * n
 
+-- inequality i was looked at: where no value moved, it holds; else the sum of the values has risen, and none by more than 2^40 past the highest
+pub record IsRaised (list : List Diff) (before values : List ℕ) (i : ℕ) (moved : Bool) : Type 0 where
+  pub within : (n : ℕ) → IsWithin before n → IsWithin values (n + 1)
+  pub still : moved ≡ false → (values ≡ before) × Holds list values i
+  pub risen : moved ≡ true → sum before < sum values
+
 -- the position that a pass over a list comes to after some others
 abbrev pub position_at : ℕ → Bool → ℕ → ℕ
 position_at len backwards steps = cond backwards (len - 1 - steps) steps

@@ -9,8 +9,11 @@ mod confirm;
 mod cycle;
 mod diffs;
 mod error;
+mod lift;
+mod order;
 mod pass;
 mod solver;
+mod sweep;
 
 pub use confirm::confirm_cycle;
 pub use diffs::{Diff, Diffs};
