@@ -43,6 +43,11 @@ def cycle():
     return [node("top", "x", "z", ["y0 = x when 0(1)"] + definitions + [f"z = y{count - 1} + x when (1)"])]
 
 
+def zigzag():
+    """No clocks: an item is wanted before it comes, to and fro between two clocks. The part is that of the lead."""
+    return ["let node top (x1, x2) = y where rec y = (x1 when (101)) + (x2 when (110))"]
+
+
 def trees():
     """The most steps back and forth in growing a tree: each clock that it reaches is named by a need far in front, behind which thousands
     stand that join nothing more."""
@@ -62,5 +67,6 @@ kinds = {
     "scattered": lambda: chain("scattered"),
     "components": components,
     "cycle": cycle,
+    "zigzag": zigzag,
 }
 print("\n".join(kinds[what]()))
