@@ -98,7 +98,8 @@ pub fn lucy<
     // Words that name no command are refused, and then the output is not touched.
     ensures other_words { command_of (map string_bytes words.now) ≡ None → (result ≡ 2) ⊎ (result ≡ 5) }
     ensures other_words_out { command_of (map string_bytes words.now) ≡ None → out.new ≡ out.old }
-    // What isn't called is left alone: the shelf where no FILE is fetched, the source where nothing is read.
+    // What isn't called is left alone: the shelf where no FILE is fetched, the source where the command reads none. Of `run` and `kahn`
+    // that need not read it `Ends` says so, by `Meets`.
     ensures shelf { file_of (command_of (map string_bytes words.now)) ≡ None → shelf.new ≡ shelf.old }
     ensures source { input_of (command_of (map string_bytes words.now)) ≡ None → input.new ≡ input.old }
     ensures quiet { result ≡ 0 → err.new ≡ err.old }
