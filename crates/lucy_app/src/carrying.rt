@@ -117,7 +117,7 @@ pub(crate) fn carry_out<
         Command::Make {
             stages,
             workers,
-            ..
-        } => { making::make(rt, alloc, stages, workers, out, err, gate, host) }
+            block,
+        } => { making::make(rt, alloc, stages, workers, block, out, err, gate, host) }
     }
 }

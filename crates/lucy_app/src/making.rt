@@ -1,8 +1,8 @@
 // The command `make`: a generated program and its input, and the figures of their run.
-ghost use Rattle.std.specs.Prelude.{ℕ, ◌≡◌, ◌≤◌};
+ghost use Rattle.std.specs.Prelude.{◌≡◌, ◌≤◌};
 ghost use Rattle.lucy_host.specs.Host.{Serves, lent};
 ghost use Rattle.lucy_output.specs.Sinks.{seen_sink};
-ghost use Rattle.lucy_app.specs.Outcomes.{AreStages, AreWorkers, EndsMake};
+ghost use Rattle.lucy_app.specs.Outcomes.{AreStages, AreWorkers, IsBlock, EndsMake};
 
 use crate::options::inferring;
 use crate::output::{conclude, print, refuse};
@@ -15,8 +15,8 @@ use lucy_worker::Gate;
 use std::alloc::Global;
 use std::thread::Threads;
 
-/// Runs the program of so many stages by so many workers, on its input: the figures of that run. The input is at hand, so it is no run
-/// of blocks, which would change no byte.
+/// Runs the program of so many stages by so many workers, in blocks of so many instants, on its input: the figures of that run. No byte
+/// depends on the block.
 pub(crate) fn make<
     R: Threads + Sync,
     O: Sink,
@@ -28,6 +28,7 @@ pub(crate) fn make<
     alloc: Global,
     stages: u64,
     workers: u32,
+    block: u64,
     out: &mut O,
     err: &mut E,
     gate: &G,
@@ -36,7 +37,8 @@ pub(crate) fn make<
     requires serves { Serves F.pre F.post host.now }
     requires stages { AreStages stages }
     requires workers { AreWorkers workers }
-    ensures ends { (block : ℕ) → EndsMake stages workers block (lent host.now)
+    requires block { IsBlock block }
+    ensures ends { EndsMake stages workers block (lent host.now)
         (seen_sink (O.written out.old) (O.faults out.old) (O.since_stop out.old))
         (seen_sink (O.written out.new) (O.faults out.new) (O.since_stop out.new))
         (seen_sink (E.written err.old) (E.faults err.old) (E.since_stop err.old))
@@ -53,7 +55,7 @@ pub(crate) fn make<
         Ok(program) => program,
         Err(refusal) => return refuse(alloc, err, refusal),
     };
-    match summary(rt, alloc, stages, program, host, gate, workers) {
+    match summary(rt, alloc, stages, program, host, gate, workers, block) {
         Ok(figures) => print(out, err, &figures),
         Err(ending) => conclude(alloc, err, ending),
     }

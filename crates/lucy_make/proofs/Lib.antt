@@ -1,4 +1,5 @@
 mod Lines
+mod FirstLaws
 mod Feeds
 mod Runs
 mod Rows

@@ -1,5 +1,5 @@
 -- The run on the generated input, and what is told of it.
-use Rattle.std.proofs.Common.{ℕ, ℤ, ◌≡◌, List, [], ◌∷◌, ◌++◌, Option, Some, None, Ok, length, refl, ap, sym, ◌∙◌, subst}
+use Rattle.std.proofs.Common.{ℕ, ℤ, ◌≡◌, List, [], ◌∷◌, Option, Some, None, Ok, refl, sym, subst}
 use Rattle.lucy_word.specs.Bits.{Bits}
 use Rattle.lucy_host.specs.declared.kind.HostKind.{HostKind}
 use Rattle.lucy_lines.specs.declared.input.InputSpec.{InputSpec}
@@ -7,7 +7,6 @@ use Rattle.lucy_lines.specs.declared.reader.TextFault.{TextFault}
 use Rattle.lucy_feed.specs.Sources.{Stop}
 use Rattle.lucy_feed.specs.Feeding.{IsFeed}
 use Rattle.lucy_feed.specs.declared.feeds.Feed.{Feed}
-use Rattle.lucy_net.specs.declared.net.Net.{Net}
 use Rattle.lucy_clock.specs.declared.node_clock.NodeClock.{NodeClock}
 use Rattle.lucy_execution.specs.Streams.{param_words}
 use Rattle.lucy_front.specs.declared.accepted.Accepted.{Accepted}
@@ -16,7 +15,7 @@ use Rattle.lucy_run.specs.declared.ending.Ending.TheVariants as ending
 use Rattle.lucy_run.specs.Feeds.{Feeds}
 use Rattle.lucy_run.specs.Owes.{IsHorizonOf, EndsFor}
 use Rattle.lucy_make.specs.Text.{made_input}
-use Rattle.lucy_make.specs.Figures.{net_lines, run_lines, slots_of, sum_of, figures}
+use Rattle.lucy_make.specs.Figures.{figures}
 use Rattle.lucy_make.specs.Owes.{IsWhole, IsMadeRun, printed_values, where_done, OwesSummary}
 
 made_feeds : (inputs : List InputSpec) (stop : Stop) (feed : Feed) → (inputs ≡ [] → ⊥) → IsFeed inputs made_input stop (Ok feed) → Feeds inputs made_input stop feed.items feed.stop
@@ -45,16 +44,6 @@ module _ (inputs : List InputSpec) (words own : List Bits) (feed : Feed) (horizo
   ended end e ends =
       let P : Option TextFault → Type 0 = λ o. EndsFor words None feed.items o end in
       made end (subst P (sym e) ends)
-
--- the seven lines are the figures
-pub told : (stages actors rings slots instants : ℕ) (net : Net) (values own : List ℤ) (text : List ℕ) → actors ≡ length net.actors → rings ≡ length net.rings → slots ≡ slots_of net.rings → values ≡ own →
-    text ≡ net_lines stages actors rings slots ++ run_lines instants (length values) (sum_of values) → text ≡ figures stages net instants own
-told stages actors rings slots instants net values own text a r s v e =
-    e
-    ∙ ap (λ n. net_lines stages n rings slots ++ run_lines instants (length values) (sum_of values)) a
-    ∙ ap (λ n. net_lines stages (length net.actors) n slots ++ run_lines instants (length values) (sum_of values)) r
-    ∙ ap (λ n. net_lines stages (length net.actors) (length net.rings) n ++ run_lines instants (length values) (sum_of values)) s
-    ∙ ap (λ u. net_lines stages (length net.actors) (length net.rings) (slots_of net.rings) ++ run_lines instants (length u) (sum_of u)) v
 
 -- where the run is refused nothing stands
 nothing : (end : Ending) (text : List ℕ) → (end ≡ ending.Done → ⊥) → [] ≡ where_done end text

@@ -4,3 +4,5 @@ pub mod Text
 pub mod Figures
 pub mod Owes
 pub mod Laws
+-- Below this line stands what only serves the proofs of the bodies.
+pub mod Blocks

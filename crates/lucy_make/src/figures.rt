@@ -1,5 +1,5 @@
 // The figures of a run.
-ghost use Rattle.std.specs.Prelude.{◌≡◌, ◌≤◌, ◌++◌, IfOk, length, string_bytes};
+ghost use Rattle.std.specs.Prelude.{ℤ, ◌≡◌, ◌≤◌, ◌<◌, ◌+◌, ◌^◌, List, ◌++◌, IfOk, length, string_bytes};
 ghost use Rattle.lucy_make.specs.Figures as spec;
 
 use lucy_net::{Net, RingSpec};
@@ -14,15 +14,34 @@ pub(crate) struct Counts {
     pub slots: u64,
 }
 
-// The sum of the values, in 64 bits.
-fn sum_of(values: &[i64]) -> i64
-    ensures { result ≡ spec.sum_of values.now }
+/// How many values there are so far, and their sum in 64 bits.
+#[derive(Clone, Copy)]
+pub(crate) struct Tally {
+    pub count: u64,
+    pub sum: i64,
+}
+
+// The sum of values, in 64 bits, behind those that have the sum before.
+fn sum_on(before: i64, values: &[i64]) -> i64
+    ensures { (prior : List ℤ) → before ≡ spec.sum_of prior → result ≡ spec.sum_of (prior ++ values.now) }
 {
-    let mut sum = 0i64;
+    let mut sum = before;
     'each: for value in values {
         sum = sum.wrapping_add(*value);
     }
     sum
+}
+
+impl Tally {
+    /// Counts more values behind those so far.
+    pub(crate) fn add(&mut self, values: &[i64])
+        requires { self.old.count + length values.now < 2 ^ 64 }
+        ensures count { self.new.count ≡ self.old.count + length values.now }
+        ensures sum { (prior : List ℤ) → self.old.sum ≡ spec.sum_of prior → self.new.sum ≡ spec.sum_of (prior ++ values.now) }
+    {
+        self.count += values.len() as u64;
+        self.sum = sum_on(self.sum, values);
+    }
 }
 
 // The slots of rings, of which each has one more than its size.
@@ -63,24 +82,28 @@ fn net_lines(alloc: Global, stages: u64, counts: Counts) -> Result<String, Alloc
     format!(in alloc; "stages {stages}\nactors {actors}\nrings {rings}\nslots {slots}\n")
 }
 
-// The lines of a run of so many instants, with as many outputs and their sum.
-fn run_lines(alloc: Global, instants: u64, outputs: usize, sum: i64) -> Result<String, AllocError>
-    ensures { IfOk result (λ s. string_bytes s ≡ spec.run_lines instants outputs sum) }
+// The lines of a run of so many instants, with this tally of its outputs.
+fn run_lines(alloc: Global, instants: u64, tally: Tally) -> Result<String, AllocError>
+    ensures { IfOk result (λ s. string_bytes s ≡ spec.run_lines instants tally.count tally.sum) }
 {
+    let Tally {
+        count: outputs,
+        sum,
+    } = tally;
     format!(in alloc; "instants {instants}\noutputs {outputs}\nsum {sum}\n")
 }
 
-/// The seven lines of a run of so many stages and instants, by a net of these counts, that prints these values.
+/// The seven lines of a run of so many stages and instants, by a net of these counts, that prints values of this tally.
 pub(crate) fn print(
     alloc: Global,
     stages: u64,
     counts: Counts,
     instants: u64,
-    values: &[i64],
+    tally: Tally,
 ) -> Result<Vec<u8>, OutOfMemory>
-    ensures { IfOk result (λ v. v.items ≡ spec.net_lines stages counts.actors counts.rings counts.slots ++ spec.run_lines instants (length values.now) (spec.sum_of values.now)) }
+    ensures { IfOk result (λ v. v.items ≡ spec.net_lines stages counts.actors counts.rings counts.slots ++ spec.run_lines instants tally.count tally.sum) }
 {
-    let run = run_lines(alloc, instants, values.len(), sum_of(values))?;
+    let run = run_lines(alloc, instants, tally)?;
     let mut lines = net_lines(alloc, stages, counts)?.into_bytes();
     lines.extend_from_slice(run.as_bytes())?;
     Ok(lines)

@@ -5,6 +5,7 @@
 //! that is, and how it ends, says `specs/Owes.antt` in the words of `lucy_run`.
 #![tactic(auto)]
 
+mod blocks;
 mod figures;
 mod input;
 mod laws;

@@ -10,12 +10,13 @@ ghost use Rattle.lucy_execution.specs.Streams.{param_words};
 ghost use Rattle.lucy_front.specs.declared.options.Options.{Options};
 ghost use Rattle.lucy_front.specs.Accepting.{IsAccepted};
 ghost use Rattle.lucy_run.specs.declared.ending.Ending.TheVariants as ending;
-ghost use Rattle.lucy_make.specs.Owes.{IsMadeRun, OwesSummary, first_of};
+ghost use Rattle.lucy_make.specs.Owes.{IsMadeRun, OwesSummary};
 
+use crate::blocks::Course;
 use crate::figures::{counts_of, print};
 use crate::input::made_feed;
 use lucy_clock::NodeClock;
-use lucy_execution::{allows_more, horizon, param_words, run_net};
+use lucy_execution::{allows_more, horizon, param_words};
 use lucy_feed::Feed;
 use lucy_front::Accepted;
 use lucy_host::{Host, Inputs};
@@ -67,16 +68,9 @@ fn made_run(
     Ok(Fed { items, instants })
 }
 
-// The first of so many lists, or nothing where there is none.
-fn first<'a>(lists: &'a Inputs, count: usize) -> &'a [i64]
-    requires { length lists.now ≡ count }
-    ensures { result.now ≡ first_of lists.now }
-{
-    if count == 0 { &[] } else { lists.list(0) }
-}
-
-/// The figures of the run of an accepted program of so many stages on the generated input, in seven lines, by 1 to 64 workers. Where
-/// that run isn't done, how it ends: for a fault of its input, or past the limit of instants; and that memory ran out where it did.
+/// The figures of the run of an accepted program of so many stages on the generated input, in seven lines, by 1 to 64 workers and
+/// in blocks of so many instants, on which no byte depends. Where that run isn't done, how it ends: for a fault of its input, or past
+/// the limit of instants; and that memory ran out where it did.
 /// Main has inputs.
 pub fn summary<R: Threads + Sync, F: Fn(u32, i64, i64) -> i64 + Sync, G: Gate + Sync>(
     rt: &R,
@@ -86,12 +80,14 @@ pub fn summary<R: Threads + Sync, F: Fn(u32, i64, i64) -> i64 + Sync, G: Gate + 
     host: &Host<F>,
     gate: &G,
     workers: u32,
+    block: u64,
 ) -> Result<Vec<u8>, Ending>
     requires serves { Serves F.pre F.post host.now }
     requires accepted { (text : List ℕ) × (options : Options) × IsAccepted (lent host.now) options text accepted }
     requires clocked { AreClocked accepted.placed.nodes accepted.clocks.items }
     requires inputs { accepted.inputs.items ≢ [] }
     requires workers { (1 ≤ workers) × (workers ≤ 64) }
+    requires block { (1 ≤ block) × (block ≤ 1048576) }
     ensures ok { IfOk result (λ v. OwesSummary stages (kinds_of (lent host.now)) accepted v.items ending.Done) }
     ensures err { IfErr result (λ end. (end ≡ ending.OutOfMemory) ⊎ ((end ≢ ending.Done) × OwesSummary stages (kinds_of (lent host.now)) accepted [] end)) }
 {
@@ -109,14 +105,17 @@ pub fn summary<R: Threads + Sync, F: Fn(u32, i64, i64) -> i64 + Sync, G: Gate + 
         Ok(fed) => fed,
         Err(end) => return Err(end),
     };
-    let streams = match run_net(
-        rt, alloc, &placed, &clocks, net, schedule, host, gate, items, instants, workers,
+    let mut course = match Course::new(
+        rt, alloc, &placed, &clocks, net, schedule, host, gate, items, workers,
     ) {
-        Ok(streams) => streams,
+        Ok(course) => course,
         Err(_) => return Err(Ending::OutOfMemory),
     };
-    let values = first(&streams, outputs.len());
-    match print(alloc, stages, counts, instants, values) {
+    let tally = match course.play(rt, alloc, host, gate, outputs.len(), instants, block) {
+        Ok(tally) => tally,
+        Err(_) => return Err(Ending::OutOfMemory),
+    };
+    match print(alloc, stages, counts, instants, tally) {
         Ok(lines) => Ok(lines),
         Err(_) => Err(Ending::OutOfMemory),
     }

@@ -44,6 +44,13 @@ fn sum_of(items: &[i64]) -> i64 {
     sum
 }
 
+// The sum of the items of the first of so many lists, or 0 where there is none.
+fn first_sum(lists: &Inputs, count: usize) -> i64
+    requires { length lists.now ≡ count }
+{
+    if count > 0 { sum_of(lists.list(0)) } else { 0 }
+}
+
 // How many events the instants up to this one have.
 fn events_to(schedule: &Schedule, instants: u64) -> u64 {
     let mut events = 0u64;
@@ -99,11 +106,7 @@ fn print_accepted<
     let Ok(lists) = streams else {
         return Err(no_memory());
     };
-    let sum = if results > 0 {
-        sum_of(lists.list(0))
-    } else {
-        0
-    };
+    let sum = first_sum(&lists, results);
     println!(rt;
         "{sum} {time} {events} {}",
         gate.passed.load(Ordering::Relaxed)

@@ -51,4 +51,4 @@ returns-in-Kahn-clause-ends g c =
 
 pub returns-in-Make-clause-ends : goal.returns-in-Make-clause-ends
 returns-in-Make-clause-ends g c =
-    ends_with _ _ (made_given (lent c.args.host.now)) _ _ _ (ap named (sym c.in-Make.is)) (record { shelf = (refl, refl); source = (refl, refl, refl); unread = inl refl; operators = refl }) (c.make.ensures.ends c.in-Make.block)
+    ends_with _ _ (made_given (lent c.args.host.now)) _ _ _ (ap named (sym c.in-Make.is)) (record { shelf = (refl, refl); source = (refl, refl, refl); unread = inl refl; operators = refl }) c.make.ensures.ends
