@@ -39,6 +39,18 @@ def doubled():
     return nodes
 
 
+def merges():
+    """Nodes of 4 KB, in each of which 120 merges hand down words of 1,048,576 bits."""
+    first, second = "(" + "1" * 1023 + "0)", word(1024)
+
+    def tree(count):
+        left = (count - 1) // 2
+        return f"(merge (10) {tree(left)} {tree(count - 1 - left)})" if count > 0 else "1"
+
+    definitions = [f"y :: {first} = merge {second} {tree(120)} 1"]
+    return [node(f"f{i}", "x :: (1)", "x", definitions) for i in range(int(4 * part))] + [node("top", "x :: (1)", "x", [])]
+
+
 def events():
     """Four million events, of four thousand actors in 512 instants."""
     names = int(4088 * part)
@@ -60,4 +72,4 @@ def net():
     return nodes + [node("m", f"b :: {word}", "b", parts + [f"u :: {word} = {choices(84)}"])]
 
 
-print("\n".join({"words": words, "calls": calls, "doubled": doubled, "net": net, "events": events}[sys.argv[1]]()))
+print("\n".join({"words": words, "calls": calls, "doubled": doubled, "merges": merges, "net": net, "events": events}[sys.argv[1]]()))

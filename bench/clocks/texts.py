@@ -48,6 +48,15 @@ def zigzag():
     return ["let node top (x1, x2) = y where rec y = (x1 when (101)) + (x2 when (110))"]
 
 
+def wraps():
+    """Clocks each of which must be late for the one before by more positions than it has, with definitions in reverse order."""
+    count, zeros = 280, 8
+    definitions = [f"b{j} = buffer x" for j in range(count + 1)] + [f"w = b0 + (x when {'0' * (count * zeros + 10)}(1))"]
+    definitions += [f"w{j} = b{j} + (b{j + 1} when {'0' * zeros}(1))" for j in range(count)]
+    definitions.reverse()
+    return [node(f"n{k}", "x", "x", definitions) for k in range(int(4 * part))]
+
+
 def trees():
     """The most steps back and forth in growing a tree: each clock that it reaches is named by a need far in front, behind which thousands
     stand that join nothing more."""
@@ -68,5 +77,6 @@ kinds = {
     "components": components,
     "cycle": cycle,
     "zigzag": zigzag,
+    "wraps": wraps,
 }
 print("\n".join(kinds[what]()))
