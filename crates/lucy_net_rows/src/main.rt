@@ -20,6 +20,8 @@ mod timing;
 use lucy_host::{Host, HostKind, Ops, OutOfMemory};
 use lucy_text::RealSource;
 use std::alloc::Global;
+use std::thread::Threads;
+use std::time::Clock;
 use std::{env, io};
 
 // The operators of the rows' host: `max` alone.
@@ -32,8 +34,8 @@ fn operators(alloc: Global) -> Result<Ops, OutOfMemory> {
 }
 
 // Prints the rows of a part.
-fn print_part<F: Fn(u32, i64, i64) -> i64 + Sync>(
-    rt: &(impl Print + AllocGlobal),
+fn print_part<R: Print + Clock + AllocGlobal + Threads + Sync, F: Fn(u32, i64, i64) -> i64 + Sync>(
+    rt: &R,
     host: &Host<F>,
     part: &str,
 ) -> io::Result<()>
@@ -43,6 +45,7 @@ fn print_part<F: Fn(u32, i64, i64) -> i64 + Sync>(
         "schedules" => schedules::print_schedules(rt, host.ops()),
         "iterates" => interpreted::print_interpreted(rt, host),
         "cores" => cores::print_cores(rt, host),
+        "workers" => rounds::print_workers(rt, host),
         "limits" => {
             schedules::print_limits(rt, host.ops())?;
             interpreted::print_limits(rt, host)?;

@@ -1,13 +1,14 @@
-// The events of a net, by workers on threads, are timed, and their rounds counted.
-ghost use Rattle.std.specs.Prelude.{ℕ, ◌≡◌, ◌≤◌, List, length};
+// The events of a net, by workers on threads: their rounds are counted, and they are timed.
+ghost use Rattle.std.specs.Prelude.{ℕ, ◌≡◌, ◌≤◌, List, length, IfOk};
 ghost use Rattle.lucy_host.specs.Host.{Serves, lent};
 ghost use Rattle.lucy_flat.specs.Clocked.{AreClocked};
 ghost use Rattle.lucy_front.specs.declared.options.Options.{Options as Clocking};
 ghost use Rattle.lucy_front.specs.Accepting.{IsAccepted};
 
+use crate::programs::SUM;
 use crate::ready::OPTIONS;
 use crate::running::main_node;
-use crate::show::no_memory;
+use crate::show::{counted, no_memory, print_list};
 use lucy_cause::Schedule;
 use lucy_execution::{horizon, param_words, run_net};
 use lucy_front::{Accepted, accept};
@@ -44,11 +45,21 @@ fn sum_of(items: &[i64]) -> i64 {
     sum
 }
 
-// The sum of the items of the first of so many lists, or 0 where there is none.
-fn first_sum(lists: &Inputs, count: usize) -> i64
+/// What a run came to: the lists of its outputs, so many, the nanoseconds that it took, and how many events and rounds it had.
+#[derive(Drop)]
+struct Ran {
+    lists: Inputs,
+    results: usize,
+    time: u128,
+    events: u64,
+    rounds: u64,
+}
+
+// The items of the first output, or none where there is no output.
+fn first_list(lists: &Inputs, count: usize) -> &[i64]
     requires { length lists.now ≡ count }
 {
-    if count > 0 { sum_of(lists.list(0)) } else { 0 }
+    if count > 0 { lists.list(0) } else { &[] }
 }
 
 // How many events the instants up to this one have.
@@ -61,15 +72,16 @@ fn events_to(schedule: &Schedule, instants: u64) -> u64 {
 }
 
 // Runs an accepted program for as many instants as the items of its one input allow, and no more than the most.
-fn print_accepted<
+fn run_accepted<
     R: Print + Clock + AllocGlobal + Threads + Sync,
     F: Fn(u32, i64, i64) -> i64 + Sync,
->(rt: &R, host: &Host<F>, workers: u32, accepted: Accepted, inputs: Inputs) -> io::Result<()>
+>(rt: &R, host: &Host<F>, workers: u32, accepted: Accepted, inputs: Inputs) -> io::Result<Ran>
     requires serves { Serves F.pre F.post host.now }
     requires accepted { (text : List ℕ) × (o : Clocking) × IsAccepted (lent host.now) o text accepted }
     requires clocked { AreClocked accepted.placed.nodes accepted.clocks.items }
     requires count { length inputs ≡ 1 }
     requires workers { (1 ≤ workers) × (workers ≤ 64) }
+    ensures { IfOk result (λ ran. length ran.lists ≡ ran.results) }
 {
     let Accepted {
         placed,
@@ -106,11 +118,53 @@ fn print_accepted<
     let Ok(lists) = streams else {
         return Err(no_memory());
     };
-    let sum = first_sum(&lists, results);
+    Ok(Ran {
+        lists,
+        results,
+        time,
+        events,
+        rounds: gate.passed.load(Ordering::Relaxed),
+    })
+}
+
+// Runs the program of a text, whose main has one input.
+fn run_text<R: Print + Clock + AllocGlobal + Threads + Sync, F: Fn(u32, i64, i64) -> i64 + Sync>(
+    rt: &R,
+    host: &Host<F>,
+    workers: u32,
+    text: &[u8],
+    inputs: Inputs,
+) -> io::Result<Ran>
+    requires serves { Serves F.pre F.post host.now }
+    requires count { length inputs ≡ 1 }
+    requires workers { (1 ≤ workers) × (workers ≤ 64) }
+    ensures { IfOk result (λ ran. length ran.lists ≡ ran.results) }
+{
+    match accept(rt.alloc(), text, host.ops(), &OPTIONS) {
+        Ok(accepted) => run_accepted(rt, host, workers, accepted, inputs),
+        Err(_) => Err(no_memory()),
+    }
+}
+
+// By hand: three instants have twelve events each, and each round of a run that isn't finished has at least one.
+/// Prints the rows of workers: a running sum by two of them, one with the actors of even numbers and one with those of odd ones.
+pub(crate) fn print_workers<
+    R: Print + Clock + AllocGlobal + Threads + Sync,
+    F: Fn(u32, i64, i64) -> i64 + Sync,
+>(rt: &R, host: &Host<F>) -> io::Result<()>
+    requires { Serves F.pre F.post host.now }
+{
+    let Ok(inputs) = counted(rt.alloc(), 3) else {
+        return Err(no_memory());
+    };
+    let ran = run_text(rt, host, 2, SUM.as_bytes(), inputs)?;
+    println!(rt; "= sum by two workers")?;
     println!(rt;
-        "{sum} {time} {events} {}",
-        gate.passed.load(Ordering::Relaxed)
-    )
+        "events {}, within 36 rounds: {}",
+        ran.events,
+        ran.rounds <= 36
+    )?;
+    print_list(rt, "output 0", first_list(&ran.lists, ran.results))
 }
 
 /// Runs the program of a text, whose main has one input, by 1 to 64 workers, for as many instants as these items allow, and prints the
@@ -123,8 +177,7 @@ pub(crate) fn print_rounds<
     requires count { length inputs ≡ 1 }
     requires workers { (1 ≤ workers) × (workers ≤ 64) }
 {
-    match accept(rt.alloc(), text, host.ops(), &OPTIONS) {
-        Ok(accepted) => print_accepted(rt, host, workers, accepted, inputs),
-        Err(_) => Err(no_memory()),
-    }
+    let ran = run_text(rt, host, workers, text, inputs)?;
+    let sum = sum_of(first_list(&ran.lists, ran.results));
+    println!(rt; "{sum} {} {} {}", ran.time, ran.events, ran.rounds)
 }

@@ -4,7 +4,7 @@ use Rattle.lucy_word.specs.Bits.{Bits}
 use Rattle.lucy_meaning.specs.Spots.{main_of}
 use Rattle.lucy_kahn.specs.Turns.{params_in}
 use Rattle.lucy_execution.specs.Streams.{main_word, param_words}
-use Rattle.lucy_net_rows.proofs.rounds.print_accepted.Goals as goal
+use Rattle.lucy_net_rows.proofs.rounds.run_accepted.Goals as goal
 
 pub run_net-streams-requires-clause-inputs : goal.run_net-streams-requires-clause-inputs
 run_net-streams-requires-clause-inputs g c κs within =
