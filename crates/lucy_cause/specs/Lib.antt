@@ -1,3 +1,4 @@
+-- What callers believe, in the order to read it: how long a schedule is, why there is none, and what one is.
 pub mod Lengths
 pub mod Faults
 pub mod Schedules

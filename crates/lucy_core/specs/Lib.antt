@@ -1,3 +1,4 @@
+-- What callers believe: a core as contracts see it, its events, and the state that they lead to.
 pub mod Seen
 -- what only serves the proofs
 pub mod Circles

@@ -1,3 +1,5 @@
+-- What callers believe, in the order to read it: actors, rings and their operations, runs and what decides them, states, firings, the
+-- system of a plan, horizons, schedules and instants. Nothing here serves proofs alone.
 pub mod Systems
 pub mod Runs
 pub mod Deciding

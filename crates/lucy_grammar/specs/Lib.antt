@@ -1,3 +1,5 @@
+-- What callers believe, in the order to read it: sets and kinds of tokens, the symbols of the grammar, what a derivation means, the
+-- grammar, programs, how tokens are read by one token ahead, and the printed text of a tree. Nothing here serves proofs alone.
 pub mod Sets
 pub mod Kinds
 pub mod Symbols

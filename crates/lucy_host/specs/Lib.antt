@@ -1,3 +1,5 @@
+-- What callers believe, in the order to read it: numbers, the values of operators and of the host's functions, operators, the host,
+-- lists and entries.
 pub mod Numbers
 pub mod OpValue
 pub mod HostValue

@@ -1,7 +1,8 @@
+-- What callers believe, in the order to read it: the instances and places of a program, their numbers of items, the Kahn meaning, items up
+-- to an instant, horizons, and the numbers of instance places, by which they are places of lucy_stream.
 pub mod Spots
 pub mod Sizes
 pub mod Kahn
 pub mod Items
 pub mod Horizons
--- numbers of instance places, by which they are places of lucy_stream
 pub mod Numbers

@@ -1,3 +1,5 @@
+-- What callers believe, in the order to read it: the plan of a net, proper nets, moves, cursors and states of actors, words, causes and
+-- schedules.
 pub mod Plans
 pub mod Proper
 pub mod Moves

@@ -1,3 +1,4 @@
+-- What callers believe, in the order to read it: walks over needs, trees and forests of needs, the least whole vector, and laws of shapes.
 pub mod Walks
 pub mod Trees
 pub mod Forests

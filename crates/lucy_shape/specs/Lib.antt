@@ -1,3 +1,5 @@
+-- What callers believe, in the order to read it: positions of ones, assignments that fit a shape, the inequalities of clocks and needs in
+-- their order, words of positions, how long they are, and laws that join these.
 pub mod Index
 pub mod Fitting
 pub mod Rows

@@ -1,3 +1,4 @@
+-- What callers believe, in the order to read it: items, fronts, the forms of actors, merges, lists, iterates, firings and needs of items.
 pub mod Items
 pub mod Fronts
 pub mod Forms
@@ -6,4 +7,5 @@ pub mod Lists
 pub mod Iterates
 pub mod Firings
 pub mod Needs
+-- what only serves the proofs
 pub mod Names

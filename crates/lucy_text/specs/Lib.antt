@@ -1,3 +1,4 @@
+-- What callers believe, in the order to read it: the outside and its sources, sinks and shelves, those of memory, and the real ones.
 pub mod Outside
 pub mod Memory
 pub mod Real

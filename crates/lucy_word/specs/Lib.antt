@@ -1,3 +1,5 @@
+-- What callers believe, in the order to read it: the limits, the bits of a word, the one shortest form, how words are stored, spelled, read
+-- and made, the index of a one, sampling, complements, and adaptability.
 pub mod Limits
 pub mod Bits
 pub mod Shortest

@@ -1,3 +1,4 @@
+-- What callers believe, in the order to read it: a worker as contracts see it, its parts, a turn, meetings, new parts, rounds and growth.
 pub mod Views
 pub mod Parts
 pub mod Turns
