@@ -3,6 +3,7 @@ mod Chains
 mod Lifts
 mod Raises
 mod Passes
+mod Sweeps
 mod Earliest
 mod Circles
 mod Counting

@@ -9,6 +9,7 @@ use Rattle.lucy_solve.specs.System.{System, diff_at, IsSystem}
 use Rattle.lucy_solve.specs.Search.{position_at, Holds, IsReached, IsWithin, IsRaised, IsPassed}
 use Rattle.lucy_solve.specs.Parents.{IsForest}
 use Rattle.lucy_solve.proofs.Lifts.{proper}
+use Rattle.lucy_solve.proofs.Raises.{raised_within}
 
 -- along a forest the values stay small
 deep : (s : System) (x parents : List ℕ) (h : IsReached s x parents) (f : IsForest s parents) → IsSystem s → (n v : ℕ) → v < s.count → f.depth v ≤ n → get_or x v 0 ≤ 2 ^ 40 * n
@@ -51,7 +52,7 @@ passed_step list backwards before x x' n i moved true moved' h r e f g =
     let a = r.risen refl in
     let b = h.grown in
     record {
-      within = λ v k. let c = r.within (length list + n) h.within v k in omega arith;
+      within = λ v k. let c = raised_within list x x' i (length list + n) true r h.within v k in omega arith;
       grown = omega arith;
       still = λ e. let m = f refl in (cc);
       risen = λ e. omega arith;
@@ -61,10 +62,6 @@ passed_step list backwards before x x' n i moved false moved' h r e f g =
     let here : Holds list x (position_at (length list) backwards n) = subst (λ (x : List ℕ). Holds list x (position_at (length list) backwards n)) a.0 (subst (λ (i : ℕ). Holds list x' i) e a.1) in
     subst (λ (x : List ℕ). IsPassed list backwards before x (n + 1) moved') (sym a.0)
     (subst (λ (m : Bool). IsPassed list backwards before x (n + 1) m) (sym (g refl)) (passed_keep list backwards before x n moved h here))
-
--- values within some bound are within a higher one
-pub within_more : (x : List ℕ) (n m : ℕ) → IsWithin x n → n ≤ m → IsWithin x m
-within_more x n m h l v k = let a = h v k in omega arith
 
 -- the passes end: the sum of the values rises, and is bounded
 pub sum_bounded : (xs : List ℕ) (n : ℕ) → IsWithin xs n → sum xs ≤ length xs * (2 ^ 40 * n)

@@ -33,9 +33,9 @@ pub record IsReached (s : System) (values parents : List ℕ) : Type 0 where
 abbrev pub IsWithin : List ℕ → ℕ → Type 0
 IsWithin values n = (v : ℕ) → v < length values → slice_index values v ≤ 2 ^ 40 * n
 
--- inequality i was looked at: where no value moved, it holds; else the sum of the values has risen, and none by more than 2^40 past the highest
+-- inequality i was looked at: where no value moved, it holds; else the sum of the values has risen, and none by more than 2^40 past that of the left variable
 pub record IsRaised (list : List Diff) (before values : List ℕ) (i : ℕ) (moved : Bool) : Type 0 where
-  pub within : (n : ℕ) → IsWithin before n → IsWithin values (n + 1)
+  pub within : (n : ℕ) → IsWithin before n → slice_index before (diff_at list i).left + 2 ^ 40 ≤ 2 ^ 40 * n → IsWithin values n
   pub still : moved ≡ false → (values ≡ before) × Holds list values i
   pub risen : moved ≡ true → sum before < sum values
 
@@ -49,3 +49,9 @@ pub record IsPassed (list : List Diff) (backwards : Bool) (before values : List 
   pub grown : sum before ≤ sum values
   pub still : moved ≡ false → (values ≡ before) × ((k : ℕ) → k < steps → Holds list values (position_at (length list) backwards k))
   pub risen : moved ≡ true → sum before < sum values
+
+-- inequalities were looked at whose left variables stood at 2^61 or below
+pub record IsSwept (s : System) (before values parents : List ℕ) : Type 0 where
+  pub reached : IsReached s values parents
+  pub within : IsWithin values 2097153
+  pub grown : sum before ≤ sum values

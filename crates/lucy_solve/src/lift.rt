@@ -1,7 +1,7 @@
 // One inequality: its right variable is lifted where the values break it.
 ghost use Rattle.std.specs.Prelude.{◌≡◌, ◌<◌, ◌≤◌, ◌^◌, length, pos, neg_ℤ, ◌≤ℤ◌};
 ghost use Rattle.lucy_solve.specs.System.{most_inequalities};
-ghost use Rattle.lucy_solve.specs.Search.{shifted, IsReached, IsWithin, IsRaised};
+ghost use Rattle.lucy_solve.specs.Search.{shifted, IsReached, IsWithin, IsRaised, IsSwept};
 
 use crate::Diffs;
 
@@ -35,4 +35,29 @@ pub(crate) fn lift(diffs: &Diffs, values: &mut [u64], parents: &mut [u32], posit
         return true;
     }
     false
+}
+
+// The highest value from which a sweep lifts: however often it does, values stay at or below 2^61 + 2^40.
+const LOW: u64 = 1 << 61;
+
+// The variable that was lifted, where one was.
+pub(crate) fn lift_from_low(
+    diffs: &Diffs,
+    values: &mut [u64],
+    parents: &mut [u32],
+    position: usize,
+) -> Option<usize>
+    requires reached { IsReached diffs.now values.old parents.old }
+    requires within { IsWithin values.old 2097153 }
+    requires few { length diffs.now.list ≤ most_inequalities }
+    ensures swept { IsSwept diffs.now values.old values.new parents.new }
+{
+    let list = diffs.list();
+    if position >= list.len() || values[list[position].left as usize] > LOW {
+        return None;
+    }
+    if lift(diffs, values, parents, position) {
+        return Some(list[position].right as usize);
+    }
+    None
 }

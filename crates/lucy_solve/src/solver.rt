@@ -5,7 +5,7 @@ ghost use Rattle.lucy_solve.specs.Outcomes.{IsOutcome, IsCycle, IsRefutedBy};
 ghost use Rattle.lucy_solve.specs.Search.{IsReached, IsWithin};
 
 use crate::cycle::find_cycle;
-use crate::order::order_of;
+use crate::flow::Flow;
 use crate::pass::pass;
 use crate::sweep::sweep;
 use crate::{Diffs, OutOfMemory};
@@ -24,11 +24,11 @@ pub enum Outcome {
 // No position of an inequality: the variable has no parent.
 const NONE: u32 = u32::MAX;
 
-// After so many passes the inequalities are brought into an order.
-const FIRST_PASSES: u32 = 8;
+// From this pass on a sweep follows each.
+const FIRST_PASSES: u32 = 4;
 
 // Passes over the inequalities, in both directions in turn, until none lifts a variable or some parents are a circle. Where a few passes
-// don't do, a sweep in the order of `order_of` follows each.
+// don't do, a sweep of the variables follows each.
 fn settle(
     alloc: Global,
     diffs: &Diffs,
@@ -40,18 +40,18 @@ fn settle(
     requires proper { IsSystem diffs.now }
     requires few { length diffs.now.list ≤ most_inequalities }
     ensures settled { IfOk result (λ o. MatchOption o (IsEarliest diffs.now (map pos values.new)) (λ cycle. IsRefutedBy diffs.now cycle.items)) }
-    ensures within { IfOk result (λ _. IsWithin values.new 4194304) }
+    ensures within { IfOk result (λ _. IsWithin values.new 2097153) }
 {
     let mut backwards = false;
     let mut passes = 0u32;
-    let mut order = Vec::new(alloc);
+    let mut flow = Flow::none(alloc);
     'passes: while pass(diffs, values, parents, backwards) {
         backwards = !backwards;
         passes = passes.saturating_add(1);
         if passes == FIRST_PASSES {
-            order = order_of(alloc, diffs)?;
+            flow = Flow::of(alloc, diffs)?;
         }
-        sweep(diffs, values, parents, &order);
+        sweep(alloc, diffs, values, parents, &flow)?;
         let mut marks = vec![in alloc; 0u32; parents.len()]?;
         if let Some(cycle) = find_cycle(alloc, diffs, parents, &mut marks)? {
             return Ok(Some(cycle));
