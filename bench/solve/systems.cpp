@@ -5,6 +5,8 @@
 //   long-cycle       a circle of buffers through all clocks, in the order of their flow
 //   scattered-cycle  the same in random order
 //   chain            variables one above another, listed against their flow
+//   wave             one variable far up lifts all others in turn, by constants above 0, in random order
+//   hops             the more inequalities lead to a variable, the higher it stands, with constants above 0, in random order
 #include <cstdint>
 #include <cstdio>
 #include <cstdlib>
@@ -127,13 +129,53 @@ static std::vector<Diff> chain(uint32_t links) {
     return list;
 }
 
+// The variables under numbers in random order, and the inequalities between them too, behind a base of each.
+static std::vector<Diff> scattered(std::vector<Diff> list, uint32_t variables) {
+    std::vector<uint32_t> number(variables);
+    for (uint32_t v = 0; v < variables; v++) number[v] = v;
+    for (uint32_t v = variables - 1; v > 1; v--) std::swap(number[v], number[1 + below(v)]);
+    for (size_t i = list.size(); i > 1; i--) std::swap(list[i - 1], list[below(i)]);
+    std::vector<Diff> all;
+    for (uint32_t v = 1; v < variables; v++) all.push_back({0, v, -1});
+    for (const Diff& diff : list) all.push_back({number[diff.left], number[diff.right], diff.most});
+    return all;
+}
+
+static std::vector<Diff> wave(uint32_t variables) {
+    std::vector<Diff> list = {{0, 1, -10 * int64_t(variables)}};
+    for (uint32_t v = 1; v + 1 < variables; v++) list.push_back({v, v + 1, 1});
+    return scattered(list, variables);
+}
+
+static std::vector<Diff> hops(uint64_t wanted, uint32_t variables) {
+    std::vector<Diff> list = {{0, 1, -6 * int64_t(variables)}};
+    for (uint32_t v = 1; v + 1 < variables; v++) list.push_back({v, v + 1, 4});
+    while (list.size() + variables - 1 < wanted) {
+        uint32_t from = 1 + below(variables - 2), to = from + 1 + below(variables - 1 - from);
+        list.push_back({from, to, 5 * int64_t(to - from) - 1});
+    }
+    return scattered(list, variables);
+}
+
 int main(int count, char** words) {
     if (count != 3) return 2;
     uint64_t wanted = strtoull(words[2], nullptr, 10);
     bool large = wanted > 500000, ring = is_ring(words[1]);
     Clocks clocks = ring ? Clocks{large ? 16u : 8u, large ? 4000u : 1600u} : Clocks{large ? 128u : 32u, large ? 500u : 200u};
-    bool is_chain = strcmp(words[1], "chain") == 0;
-    std::vector<Diff> list = is_chain ? chain(wanted) : inferred(clocks, wanted, words[1]);
-    printf("%u\n", is_chain ? uint32_t(wanted) + 1 : clocks.variables());
+    uint32_t variables = clocks.variables();
+    std::vector<Diff> list;
+    if (strcmp(words[1], "chain") == 0) {
+        variables = uint32_t(wanted) + 1;
+        list = chain(uint32_t(wanted));
+    } else if (strcmp(words[1], "wave") == 0) {
+        variables = uint32_t(wanted / 2) + 1;
+        list = wave(variables);
+    } else if (strcmp(words[1], "hops") == 0) {
+        variables = large ? 8000 : 1000;
+        list = hops(wanted, variables);
+    } else {
+        list = inferred(clocks, wanted, words[1]);
+    }
+    printf("%u\n", variables);
     for (const Diff& diff : list) printf("%u %u %lld\n", diff.left, diff.right, (long long)diff.most);
 }
