@@ -1,6 +1,7 @@
 pub mod Adding
 pub mod Bases
 pub mod Earlier
+pub mod Firsts
 pub mod Fitting
 pub mod Indexes
 pub mod Reaches

@@ -1,11 +1,13 @@
 -- Rows that are put behind others, and what the calls that put them rely on.
-use Rattle.std.specs.Prelude.{ℕ, ◌+◌, ◌<◌, ◌≤◌, ◌++◌, List, length}
+use Rattle.std.specs.Prelude.{ℕ, ◌+◌, ◌*◌, ◌^◌, ◌<◌, ◌≤◌, ◌≡◌, ◌++◌, List, length, slice_index}
 use Prim.Native.Nat.{◌∣◌}
 use Rattle.lucy_word.specs.Bits.{Bits, IsWord, most_bits}
 use Rattle.lucy_solve.specs.declared.diffs.Diff.{Diff}
 use Rattle.lucy_solve.specs.System.{System}
 use Rattle.lucy_shape.specs.declared.shape.ClockShape.{ClockShape}
 use Rattle.lucy_shape.specs.Fitting.{most_positions, clock_at}
+use Rattle.lucy_shape.specs.Index.{index_of}
+use Rattle.lucy_shape.specs.Rows.{turns_of}
 use Rattle.lucy_need.specs.declared.need.Term.{Term}
 use Rattle.lucy_need.specs.declared.need.Need.{Need}
 use Rattle.lucy_need.specs.declared.need.Need.TheVariants.{Equal, Adapt}
@@ -31,6 +33,17 @@ pub record IsSpreadable (count : ℕ) (c : ClockShape) (u : Bits) : Type 0 where
 pub record IsSmall (P count : ℕ) : Type 0 where
   pub short : P ≤ most_positions
   pub few : count ≤ 1 + most_positions
+
+-- a position of a clock that can be folded, by no more than 2^40 instants
+pub record IsFoldable (P : ℕ) (c : ClockShape) (m : ℕ) : Type 0 where
+  pub placed : IsPlaced (1 + most_positions) c
+  pub some : 0 < m
+  pub fits : turns_of c m * P < 2 ^ 40
+
+-- at the first so many places of the list stand the positions of the word's first ones
+pub record AreFirsts (w : Bits) (count : ℕ) (list : List ℕ) : Type 0 where
+  pub within : count ≤ length list
+  pub at : (k : ℕ) → k < count → slice_index list k ≡ index_of w (k + 1)
 
 -- both terms are such, of clocks that are there
 abbrev pub AreTermsSpreadable : ℕ → List ClockShape → Term → Term → Type 0

@@ -10,6 +10,7 @@ ghost use Rattle.lucy_shape.specs.Rows.{row};
 ghost use Rattle.lucy_shape.specs.Inequalities.{lead_instances, need_rows};
 ghost use Rattle.lucy_shape.specs.Added.{with_rows, IsSpreadable, IsNeedSpreadable, IsSmall};
 
+use crate::positions::positions;
 use crate::rows::{add, add_pair, instance};
 use crate::{ClockShape, RateFault, Shape};
 use lucy_need::{Need, Needs};
@@ -50,8 +51,10 @@ fn add_adapt(
     ensures ok { OnOk result (diffs.new ≡ with_rows diffs.old (map (λ k. row period first.now (index_of u.now k) second.now (index_of v.now k)) (range_with_len 1 count))) }
     ensures refused { IfErr result (λ e. e ≡ fault.OutOfMemory) }
 {
-    for k in 0..count {
-        let diff = instance(period, first, u, second, v, k + 1);
+    let before = positions(alloc, u, count)?;
+    let after = positions(alloc, v, count)?;
+    for k in 0..count as usize {
+        let diff = instance(period, first, before[k], second, after[k]);
         add(alloc, diffs, diff)?;
     }
     Ok(())
@@ -75,9 +78,13 @@ fn add_equal(
     ensures ok { OnOk result (diffs.new ≡ with_rows diffs.old (flat_map (λ k. row period first.now (index_of u.now k) second.now (index_of v.now k) ∷ row period second.now (index_of v.now k) first.now (index_of u.now k) ∷ []) (range_with_len 1 count))) }
     ensures refused { IfErr result (λ e. e ≡ fault.OutOfMemory) }
 {
-    for k in 0..count {
-        let one = instance(period, first, u, second, v, k + 1);
-        let two = instance(period, second, v, first, u, k + 1);
+    let before = positions(alloc, u, count)?;
+    let after = positions(alloc, v, count)?;
+    for k in 0..count as usize {
+        let left = before[k];
+        let right = after[k];
+        let one = instance(period, first, left, second, right);
+        let two = instance(period, second, right, first, left);
         add_pair(alloc, diffs, one, two)?;
     }
     Ok(())

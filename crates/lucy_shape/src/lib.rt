@@ -12,6 +12,7 @@ mod grow;
 mod instances;
 mod laws;
 mod marking;
+mod positions;
 mod rows;
 mod shape;
 mod spreading;

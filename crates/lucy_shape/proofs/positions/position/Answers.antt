@@ -1,6 +1,6 @@
 use Rattle.std.proofs.Common.{refl, arith}
 use Rattle.lucy_shape.proofs.WordIndex.{place_is}
-use Rattle.lucy_shape.proofs.rows.position.Goals as goal
+use Rattle.lucy_shape.proofs.positions.position.Goals as goal
 
 pub returns-in-Some : goal.returns-in-Some
 returns-in-Some c = place_is c.args.word.now c.args.number c.in-Some.place c.requires.word c.in-Some.ensures.some
