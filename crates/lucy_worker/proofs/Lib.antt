@@ -8,3 +8,4 @@ pub mod MeetLaws
 pub mod WithinLaws
 pub mod RoundLaws
 pub mod GrowLaws
+pub mod GoLaws

@@ -69,3 +69,10 @@ pub record IsTurnOf (kinds : List HostKind) (ps qs : List Part) (moves : ℕ) : 
   pub moved : HaveMoved ps qs
   pub none : moves ≡ 0 → NoneCan ps
   pub rests : NoneCan qs
+
+-- the part went on by so many operations, as long as it could
+pub record HasGoneOn (kinds : List HostKind) (p q : Part) (moves : ℕ) : Type 0 where
+  pub run : HasRun kinds p q
+  pub counted : done_of q ≡ done_of p + moves
+  pub moved : CanMove p → 0 < moves
+  pub rests : CanMove q → ⊥

@@ -4,7 +4,7 @@ ghost use Rattle.lucy_host.specs.Host.{Serves, lent};
 ghost use Rattle.lucy_host.specs.Operators.{kinds_of};
 ghost use Rattle.lucy_worker.specs.declared.part.Part.{Part};
 ghost use Rattle.lucy_worker.specs.Parts.{IsDone};
-ghost use Rattle.lucy_worker.specs.Turns.{IsServed, IsTurnOf};
+ghost use Rattle.lucy_worker.specs.Turns.{IsServed, IsTurnOf, HaveRun, HasGoneOn, done_by};
 ghost use Rattle.lucy_worker.specs.News.{IsNew, ends_by};
 ghost use Rattle.lucy_worker.specs.Meets.{HasGiver, HasTaker, AreOfOneRing, MetBetween, MetWithin};
 ghost use Rattle.lucy_worker.specs.Growing.{HasSpared, HasSpare, CanExtend, IsExtended};
@@ -104,6 +104,24 @@ impl Worker {
         let mut passages = Passages::none();
         passages.pass(gate, self.number);
         turn(self.parts.as_mut_slice(), host, passages, alone)
+    }
+
+    /// Moves the actor of this part, which is there, as long as it can, while no other worker moves. Answers the number of moves. It
+    /// passes no gate and takes no memory.
+    #[inline]
+    pub fn go_on<F: Fn(u32, i64, i64) -> i64 + Sync>(&mut self, host: &Host<F>, part: u32) -> u64
+        requires serves { Serves F.pre F.post host.now }
+        requires served { All (IsServed (length (lent host.now))) self.old.parts }
+        requires there { part < length self.old.parts }
+        ensures number { self.new.number ≡ self.old.number }
+        ensures run { HaveRun (kinds_of (lent host.now)) self.old.parts self.new.parts }
+        ensures counted { done_by self.new.parts ≡ done_by self.old.parts + result }
+        ensures few { result ≤ 68719476736 }
+        ensures gone { (d : Part) → (q : Part) × HasGoneOn (kinds_of (lent host.now)) (slice_index_or self.old.parts part d) q result
+            × (self.new.parts ≡ slice_set self.old.parts part q) }
+    {
+        let moving = &mut self.parts[part as usize];
+        moving.go_on(host)
     }
 
     /// Lets a giver and a taker of this worker, the ends of one ring, meet.
