@@ -28,7 +28,7 @@ pub mod RoundLaws
 pub mod FinishedLaws
 pub mod OutputLaws
 pub mod TurningLaws
-pub mod SweepLaws
+pub mod RunLaws
 pub mod MeetingLaws
 pub mod MeetAllLaws
 pub mod StandingLaws

@@ -24,6 +24,12 @@ pub record HaveTurned (kinds : List HostKind) (crew turned : List (List Part)) (
   pub each : (s : ℕ) (ps qs : List Part) → slice_get crew s ≡ Some ps → slice_get turned s ≡ Some qs → HasTurned kinds ps qs
   pub counted : sum_by done_by turned ≡ sum_by done_by crew + moves
 
+-- the parts of every worker have run, by so many operations all together
+pub record HaveAllRun (kinds : List HostKind) (crew next : List (List Part)) (moves : ℕ) : Type 0 where
+  pub as_many : length next ≡ length crew
+  pub each : (s : ℕ) (ps qs : List Part) → slice_get crew s ≡ Some ps → slice_get next s ≡ Some qs → HaveRun kinds ps qs
+  pub counted : sum_by done_by next ≡ sum_by done_by crew + moves
+
 -- the same part but for its ends, of which there are as many
 pub record IsButEnds (p q : Part) : Type 0 where
   pub rest : q ≡ record p { givers = q.givers; takers = q.takers }

@@ -12,6 +12,7 @@ mod making;
 mod meeting;
 mod outputs;
 mod place;
+mod route;
 mod runner;
 mod seat;
 mod sitting;

@@ -5,6 +5,7 @@ use crate::making::{Crew, seat_all};
 use crate::meeting::meet_all;
 use crate::outputs::outputs_of;
 use crate::place::{Ends, Place};
+use crate::route::route_of;
 use crate::seat::{Seat, all_done, turn_all};
 use lucy_cause::Schedule;
 use lucy_core::{Core, CoreParts};
@@ -33,6 +34,8 @@ pub struct Runner {
     ends: Vec<Ends>,
     // the actor of each output
     outputs: Vec<u32>,
+    // all places, as one thread goes through them
+    route: Vec<Place>,
     // how many rounds in a row moved little, up to now
     lean: u32,
 }
@@ -111,6 +114,7 @@ impl Runner {
             ends,
         } = seat_all(alloc, &net, &inputs, instants, workers, homes)?;
         let outputs = outputs_of(alloc, net.actors.list())?;
+        let route = route_of(alloc, &schedule, &places)?;
         Ok(Runner {
             net,
             schedule,
@@ -121,6 +125,7 @@ impl Runner {
             places,
             ends,
             outputs,
+            route,
             lean: 0,
         })
     }
@@ -142,8 +147,8 @@ impl Runner {
         self.round_in(rt, host, gate, true)
     }
 
-    // A round, in which several workers each have a thread of their own or, if not `apart`, move one after another, over and over
-    // until none can.
+    // A round, in which several workers each have a thread of their own or, if not `apart`, one thread moves all actors until none
+    // can, as it does where there is one worker.
     fn round_in<R: Threads + Sync, F: Fn(u32, i64, i64) -> i64 + Sync, G: Gate + Sync>(
         &mut self,
         rt: &R,
@@ -156,7 +161,14 @@ impl Runner {
         ensures round { IsRoundTo self.old.seen self.new.seen result }
         ensures before { self.new.before ≡ self.old.before }
     {
-        let moves = turn_all(rt, self.seats.as_mut_slice(), host, gate, apart);
+        let moves = turn_all(
+            rt,
+            self.seats.as_mut_slice(),
+            self.route.as_slice(),
+            host,
+            gate,
+            apart,
+        );
         meet_all(
             self.seats.as_mut_slice(),
             self.net.rings.list(),
@@ -167,8 +179,8 @@ impl Runner {
     }
 
     /// Makes rounds until every actor has done its list. Where many rounds in a row move little, as they do if rings are short and
-    /// no processors are free, the workers from there on move one after another, also in later calls. It takes no memory, and
-    /// returns if the gate does.
+    /// no processors are free, one thread moves the actors of all workers from there on, also in later calls. It takes no memory,
+    /// and returns if the gate does.
     pub fn go<R: Threads + Sync, F: Fn(u32, i64, i64) -> i64 + Sync, G: Gate + Sync>(
         &mut self,
         rt: &R,

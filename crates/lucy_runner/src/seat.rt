@@ -1,13 +1,15 @@
 // A turn of every worker.
-ghost use Rattle.std.specs.Prelude.{◌≡◌, ◌↔◌, ◌≤◌, ◌<◌, All, IsTrue, length, sum_by};
+ghost use Rattle.std.specs.Prelude.{◌≡◌, ◌↔◌, ◌+◌, ◌≤◌, ◌<◌, All, IsTrue, length, sum_by};
 ghost use Rattle.lucy_host.specs.Host.{Serves, lent};
 ghost use Rattle.lucy_host.specs.Operators.{kinds_of};
 ghost use Rattle.lucy_worker.specs.Parts.{IsDone};
-ghost use Rattle.lucy_worker.specs.Turns.{IsServed};
+ghost use Rattle.lucy_worker.specs.Turns.{IsServed, HaveRun, done_by};
 ghost use Rattle.lucy_runner.specs.Crews.{crew_of};
 ghost use Rattle.lucy_runner.specs.Turns.{AreServed, HaveTurned};
 ghost use Rattle.lucy_runner.specs.Seats.{IsTurned, AreTurned, moves_of};
 
+use crate::place::Place;
+use crate::route::go_along;
 use lucy_host::Host;
 use lucy_worker::{Gate, Worker};
 use std::thread;
@@ -38,16 +40,34 @@ impl Seat {
             self.worker.advance(host, gate)
         };
     }
+
+    // Moves the part of this number as long as it can, where there is one.
+    #[inline]
+    pub(crate) fn go_on<F: Fn(u32, i64, i64) -> i64 + Sync>(
+        &mut self,
+        host: &Host<F>,
+        part: u32,
+    ) -> u64
+        requires serves { Serves F.pre F.post host.now }
+        requires served { All (IsServed (length (lent host.now))) self.old.worker.parts }
+        ensures run { HaveRun (kinds_of (lent host.now)) self.old.worker.parts self.new.worker.parts }
+        ensures counted { done_by self.new.worker.parts ≡ done_by self.old.worker.parts + result }
+        ensures few { result ≤ 68719476736 }
+    {
+        if (part as usize) < self.worker.parts().len() {
+            self.worker.go_on(host, part)
+        } else {
+            0
+        }
+    }
 }
 
-// After so many sweeps a round ends also where something may still move.
-const MOST_SWEEPS: u32 = 4_096;
-
-/// Turns of the workers: if `apart`, or of a worker that is the only one, one of each, and where they are several each in a thread of
-/// its own; else sweeps over the workers, one after another, until a sweep moves nothing. Answers the number of moves.
+/// Turns of the workers: if `apart` and they are several, one of each in a thread of its own; else one of each after the other, and
+/// then passes over all parts along the route until one moves nothing. Answers the number of moves.
 pub(crate) fn turn_all<R: Threads + Sync, F: Fn(u32, i64, i64) -> i64 + Sync, G: Gate + Sync>(
     rt: &R,
     seats: &mut [Seat],
+    route: &[Place],
     host: &Host<F>,
     gate: &G,
     apart: bool,
@@ -57,34 +77,13 @@ pub(crate) fn turn_all<R: Threads + Sync, F: Fn(u32, i64, i64) -> i64 + Sync, G:
     requires few { length seats.old ≤ 64 }
     ensures { HaveTurned (kinds_of (lent host.now)) (crew_of seats.old) (crew_of seats.new) result }
 {
-    if apart || seats.len() < 2 {
-        turn_once(rt, seats, host, gate, true)
+    let apart = apart && seats.len() > 1;
+    let moves = turn_once(rt, seats, host, gate, apart);
+    if apart {
+        moves
     } else {
-        turn_in_sweeps(rt, seats, host, gate)
+        moves + go_along(seats, route, host)
     }
-}
-
-// Sweeps over the workers until one moves nothing, at most so many and one.
-fn turn_in_sweeps<R: Threads + Sync, F: Fn(u32, i64, i64) -> i64 + Sync, G: Gate + Sync>(
-    rt: &R,
-    seats: &mut [Seat],
-    host: &Host<F>,
-    gate: &G,
-) -> u64
-    requires serves { Serves F.pre F.post host.now }
-    requires served { AreServed (length (lent host.now)) (crew_of seats.old) }
-    requires few { length seats.old ≤ 64 }
-    ensures { HaveTurned (kinds_of (lent host.now)) (crew_of seats.old) (crew_of seats.new) result }
-{
-    let mut moves = turn_once(rt, seats, host, gate, false);
-    'sweeps: for _ in 0..MOST_SWEEPS {
-        let more = turn_once(rt, seats, host, gate, false);
-        moves += more;
-        if more == 0 {
-            break;
-        }
-    }
-    moves
 }
 
 // One turn of each worker, and how many moves they made.
@@ -97,6 +96,7 @@ fn turn_once<R: Threads + Sync, F: Fn(u32, i64, i64) -> i64 + Sync, G: Gate + Sy
 ) -> u64
     requires serves { Serves F.pre F.post host.now }
     requires served { AreServed (length (lent host.now)) (crew_of seats.old) }
+    requires some { IsTrue apart → 0 < length seats.old }
     requires few { length seats.old ≤ 64 }
     ensures turned { HaveTurned (kinds_of (lent host.now)) (crew_of seats.old) (crew_of seats.new) result }
     ensures few { result ≤ 4398046511104 }
@@ -115,12 +115,13 @@ fn turn_each<R: Threads + Sync, F: Fn(u32, i64, i64) -> i64 + Sync, G: Gate + Sy
 )
     requires serves { Serves F.pre F.post host.now }
     requires served { All (λ seat. All (IsServed (length (lent host.now))) seat.worker.parts) seats.old }
+    requires some { IsTrue apart → 0 < length seats.old }
     ensures { AreTurned (kinds_of (lent host.now)) seats.old seats.new }
 {
-    if apart && seats.len() > 1 {
+    if apart {
         turn_side_by_side(rt, seats, host, gate);
     } else {
-        turn_in_place(seats, host, gate, !apart);
+        turn_in_place(seats, host, gate);
     }
 }
 
@@ -153,14 +154,13 @@ fn turn_in_place<F: Fn(u32, i64, i64) -> i64 + Sync, G: Gate + Sync>(
     seats: &mut [Seat],
     host: &Host<F>,
     gate: &G,
-    alone: bool,
 )
     requires serves { Serves F.pre F.post host.now }
     requires served { All (λ seat. All (IsServed (length (lent host.now))) seat.worker.parts) seats.old }
     ensures { AreTurned (kinds_of (lent host.now)) seats.old seats.new }
 {
     for seat in seats.iter_mut() {
-        seat.turn(host, gate, alone);
+        seat.turn(host, gate, true);
     }
 }
 

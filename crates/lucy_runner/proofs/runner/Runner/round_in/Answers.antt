@@ -30,8 +30,8 @@ meet_all-requires g c =
     let x = c.self.inside in
     let kinds : kinds_of x.ops ≡ kinds_of (lent c.args.host.now) = ap (λ (v : RunnerView). kinds_of v.seen.operators) c.self.view_is ∙ sym c.requires.kinds in
     let all = joined_here x.net x.schedule x.ops x.instants x.before c.turn_all-moves.result x.seats.len (kinds_of (lent c.args.host.now)) x.seats.items c.as_mut_slice.result.now c.turn_all-moves.new.seats c.as_mut_slice-2.result.now
-    x.places.items c.as_slice.result.now x.ends.items c.as_slice-2.result.now c.list.result.now c.self.invariant.0 kinds c.as_mut_slice.ensures.value c.as_mut_slice.ensures.len c.turn_all-moves.auto.seats c.as_mut_slice-2.ensures.value
-    c.as_slice.ensures.value c.as_slice-2.ensures.value c.list.ensures c.turn_all-moves.ensures in
+    x.places.items c.as_slice-2.result.now x.ends.items c.as_slice-3.result.now c.list.result.now c.self.invariant.0 kinds c.as_mut_slice.ensures.value c.as_mut_slice.ensures.len c.turn_all-moves.auto.seats c.as_mut_slice-2.ensures.value
+    c.as_slice-2.ensures.value c.as_slice-3.ensures.value c.list.ensures c.turn_all-moves.ensures in
     record { joined = all }
 
 pub invariant_of-self : goal.invariant_of-self
@@ -39,8 +39,8 @@ invariant_of-self g c =
     let x = c.self.inside in
     let kinds : kinds_of x.ops ≡ kinds_of (lent c.args.host.now) = ap (λ (v : RunnerView). kinds_of v.seen.operators) c.self.view_is ∙ sym c.requires.kinds in
     let over = round_here x.net x.schedule x.ops x.instants x.before c.turn_all-moves.result x.seats.len (kinds_of (lent c.args.host.now)) x.seats.items c.as_mut_slice.result.now c.turn_all-moves.new.seats c.as_mut_slice-2.result.now
-    x.places.items c.as_slice.result.now x.ends.items c.as_slice-2.result.now c.list.result.now c.self.invariant.0 kinds c.as_mut_slice.ensures.value c.as_mut_slice.ensures.len c.turn_all-moves.auto.seats c.as_mut_slice-2.ensures.value
-    c.as_slice.ensures.value c.as_slice-2.ensures.value c.list.ensures c.turn_all-moves.ensures
+    x.places.items c.as_slice-2.result.now x.ends.items c.as_slice-3.result.now c.list.result.now c.self.invariant.0 kinds c.as_mut_slice.ensures.value c.as_mut_slice.ensures.len c.turn_all-moves.auto.seats c.as_mut_slice-2.ensures.value
+    c.as_slice-2.ensures.value c.as_slice-3.ensures.value c.list.ensures c.turn_all-moves.ensures
     c.meet_all.new.seats c.meet_all.auto.seats c.meet_all.ensures in
     (over.stands, c.self.invariant.1)
 
@@ -49,8 +49,8 @@ returns g c =
     let x = c.self.inside in
     let kinds : kinds_of x.ops ≡ kinds_of (lent c.args.host.now) = ap (λ (v : RunnerView). kinds_of v.seen.operators) c.self.view_is ∙ sym c.requires.kinds in
     let over = round_here x.net x.schedule x.ops x.instants x.before c.turn_all-moves.result x.seats.len (kinds_of (lent c.args.host.now)) x.seats.items c.as_mut_slice.result.now c.turn_all-moves.new.seats c.as_mut_slice-2.result.now
-    x.places.items c.as_slice.result.now x.ends.items c.as_slice-2.result.now c.list.result.now c.self.invariant.0 kinds c.as_mut_slice.ensures.value c.as_mut_slice.ensures.len c.turn_all-moves.auto.seats c.as_mut_slice-2.ensures.value
-    c.as_slice.ensures.value c.as_slice-2.ensures.value c.list.ensures c.turn_all-moves.ensures
+    x.places.items c.as_slice-2.result.now x.ends.items c.as_slice-3.result.now c.list.result.now c.self.invariant.0 kinds c.as_mut_slice.ensures.value c.as_mut_slice.ensures.len c.turn_all-moves.auto.seats c.as_mut_slice-2.ensures.value
+    c.as_slice-2.ensures.value c.as_slice-3.ensures.value c.list.ensures c.turn_all-moves.ensures
     c.meet_all.new.seats c.meet_all.auto.seats c.meet_all.ensures in
     let next : Seen = seen_by x.net x.schedule x.ops x.instants (crew_of (back_in x.seats.len c.meet_all.new.seats (back_in x.seats.len c.turn_all-moves.new.seats x.seats.items))) x.places.items in
     record {
