@@ -1,2 +1,3 @@
+mod BareLaws
 mod ReadyLaws
 mod RowLaws

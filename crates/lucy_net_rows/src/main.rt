@@ -7,8 +7,11 @@
 
 ghost use Rattle.lucy_host.specs.Host.{Serves};
 
+mod bare;
 mod cores;
+mod floor;
 mod interpreted;
+mod moves;
 mod programs;
 mod ready;
 mod rounds;
@@ -45,7 +48,10 @@ fn print_part<R: Print + Clock + AllocGlobal + Threads + Sync, F: Fn(u32, i64, i
         "schedules" => schedules::print_schedules(rt, host.ops()),
         "iterates" => interpreted::print_interpreted(rt, host),
         "cores" => cores::print_cores(rt, host),
-        "workers" => rounds::print_workers(rt, host),
+        "workers" => {
+            rounds::print_workers(rt, host)?;
+            floor::print_floor(rt, host.ops())
+        }
         "limits" => {
             schedules::print_limits(rt, host.ops())?;
             interpreted::print_limits(rt, host)?;

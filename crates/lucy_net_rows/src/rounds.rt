@@ -19,8 +19,8 @@ use std::sync::atomic::{AtomicU64, Ordering};
 use std::thread::Threads;
 use std::time::{Clock, Instant};
 
-// A run has no more instants.
-const MOST: u64 = 1_048_576;
+/// A run has no more instants.
+pub(crate) const MOST: u64 = 1_048_576;
 
 // A gate that counts the rounds: worker 0, which has actor 0, passes it once in each.
 #[derive(Drop)]
@@ -62,8 +62,8 @@ fn first_list(lists: &Inputs, count: usize) -> &[i64]
     if count > 0 { lists.list(0) } else { &[] }
 }
 
-// How many events the instants up to this one have.
-fn events_to(schedule: &Schedule, instants: u64) -> u64 {
+/// How many events the instants up to this one have.
+pub(crate) fn events_to(schedule: &Schedule, instants: u64) -> u64 {
     let mut events = 0u64;
     for before in 0..instants {
         events = events.saturating_add(schedule.events(before.saturating_add(1)).len() as u64);

@@ -2,15 +2,17 @@
 //
 // The words are `time NET WAY ITEMS`. The net is `sum` (a running sum, of six actors with twelve events in an instant), `chain` (of
 // thirty names, each of which stands before the one that it takes from) or `given` (that of the program on standard input, whose
-// main has one input). The way is `static` (by a core, in the schedule's order), `picked` (by a core, as `pick` names the events) or
-// a number of workers. The input is so many numbers from 1 on. What is printed are the sum of the items of the first output and the
-// nanoseconds; of workers also the numbers of events and rounds.
+// main has one input). The way is `static` (by a core, in the schedule's order), `picked` (by a core, as `pick` names the events), a
+// number of workers, or `bare` (the net's rings alone, in the schedule's order). The input is so many numbers from 1 on. What is
+// printed are the sum of the items of the first output and the nanoseconds; of workers also the numbers of events and rounds. Of
+// bare rings the sum is the number of items that were given and taken, and the number of events follows.
 ghost use Rattle.std.specs.Prelude.{◌≡◌, ◌≤◌};
 ghost use Rattle.lucy_host.specs.Host.{Serves, lent};
 ghost use Rattle.lucy_host.specs.Operators.{kinds_of};
 ghost use Rattle.lucy_core.specs.Seen.{IsUnbegun};
 ghost use Rattle.lucy_net_rows.specs.Ready.{IsReady};
 
+use crate::floor::print_bare;
 use crate::programs::{SUM, chain_text};
 use crate::ready::{Ready, ready_text};
 use crate::rounds::print_rounds;
@@ -54,6 +56,7 @@ enum Shape {
 enum Way {
     Static,
     Picked,
+    Bare,
     Workers(u32),
 }
 
@@ -86,6 +89,7 @@ impl Way {
         match word {
             "static" => Some(Way::Static),
             "picked" => Some(Way::Picked),
+            "bare" => Some(Way::Bare),
             workers => Some(Way::Workers(workers.parse::<u32>().ok()?)),
         }
     }
@@ -166,11 +170,12 @@ pub(crate) fn print_time<
     let Ok(inputs) = counted(rt.alloc(), job.items) else {
         return Err(no_memory());
     };
-    if let Way::Workers(workers) = job.way {
-        return print_rounds(rt, host, workers.clamp(1, 64), &text, inputs);
-    }
-    match ready_text(rt.alloc(), &text, host.ops(), inputs, 1, MOST) {
-        Some(program) => print_run(rt, host, job.way, program),
-        None => Err(no_memory()),
+    match job.way {
+        Way::Workers(workers) => { print_rounds(rt, host, workers.clamp(1, 64), &text, inputs) }
+        Way::Bare => print_bare(rt, host.ops(), &text, &inputs),
+        way => match ready_text(rt.alloc(), &text, host.ops(), inputs, 1, MOST) {
+            Some(program) => print_run(rt, host, way, program),
+            None => Err(no_memory()),
+        },
     }
 }
