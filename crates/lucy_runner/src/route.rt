@@ -27,20 +27,26 @@ fn visit(
     Ok(())
 }
 
+// Those of the actors of an instant's events, by their last events in it: with its last event an actor has all that it needs there.
 fn visit_each(
     route: &mut Vec<Place>,
     missing: &mut [bool],
     places: &[Place],
     actors: &[u32],
 ) -> Result<(), OutOfMemory> {
-    for actor in actors {
+    let from = route.len();
+    for actor in actors.iter().rev() {
         visit(route, missing, places, *actor as usize)?;
+    }
+    let list = route.as_mut_slice();
+    if from < list.len() {
+        list[from..].reverse();
     }
     Ok(())
 }
 
-/// The places of all actors by their first events in the schedule, those without events last, so that one pass along it mostly moves
-/// an item as far as it goes in an instant. Nothing is claimed of it.
+/// The places of all actors by the first instants in which they have events, and there by their last ones, those without events last. So
+/// one pass along it mostly moves an item as far as it goes in an instant. Nothing is claimed of it.
 pub(crate) fn route_of(
     alloc: Global,
     schedule: &Schedule,
