@@ -74,7 +74,39 @@ const MOST_MOVES: u64 = 1 << 40;
 // A route has no more places, as a net has no more actors.
 const MOST_PLACES: usize = 16_384;
 
-/// Passes along the route until one moves nothing. Answers the number of moves.
+// After so many passes one in the other direction is tried.
+const TRIED_AFTER: u64 = 16;
+
+// The direction of the next pass. Nothing is claimed of it.
+#[derive(Clone, Copy)]
+struct Heading {
+    back: bool,
+    passes: u64,
+    before: u64,
+}
+
+impl Heading {
+    // Back: where items don't go round a loop, each part then moves what the others gave in the pass before, so that no move waits for
+    // another.
+    const FIRST: Heading = Heading {
+        back: true,
+        passes: 0,
+        before: 0,
+    };
+
+    // After a pass of so many moves it turns where that was less than half of the pass before, and once in so many passes.
+    fn after(self, moves: u64) -> Heading {
+        let passes = self.passes.wrapping_add(1);
+        let turns = passes % TRIED_AFTER == 0 || moves < self.before / 2;
+        Heading {
+            back: self.back != turns,
+            passes,
+            before: moves,
+        }
+    }
+}
+
+/// Passes over the route, back and on, until one moves nothing. Answers the number of moves.
 pub(crate) fn go_along<F: Fn(u32, i64, i64) -> i64 + Sync>(
     seats: &mut [Seat],
     route: &[Place],
@@ -87,27 +119,32 @@ pub(crate) fn go_along<F: Fn(u32, i64, i64) -> i64 + Sync>(
 {
     let mut moves = 0;
     let mut more = 1;
+    let mut heading = Heading::FIRST;
     while more > 0 && moves < MOST_MOVES {
-        more = pass_along(seats, route, host);
+        more = pass_along(seats, route, host, heading.back);
         moves += more;
+        heading = heading.after(more);
     }
     moves
 }
 
-// All possible moves of the part at each place of the route, from the first to the last.
+// All possible moves of the part at each place of the route, from the first to the last or, if `back`, from the last to the first.
 fn pass_along<F: Fn(u32, i64, i64) -> i64 + Sync>(
     seats: &mut [Seat],
     route: &[Place],
     host: &Host<F>,
+    back: bool,
 ) -> u64
     requires serves { Serves F.pre F.post host.now }
     requires served { AreServed (length (lent host.now)) (crew_of seats.old) }
     ensures run { HaveAllRun (kinds_of (lent host.now)) (crew_of seats.old) (crew_of seats.new) result }
     ensures few { result ≤ 1125899906842624 }
 {
+    let count = route.len().min(MOST_PLACES);
     let mut moves = 0;
-    for k in 0..route.len().min(MOST_PLACES) {
-        moves += go_on_at(seats, route[k], host);
+    for k in 0..count {
+        let at = if back { count - 1 - k } else { k };
+        moves += go_on_at(seats, route[at], host);
     }
     moves
 }
