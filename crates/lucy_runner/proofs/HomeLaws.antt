@@ -1,33 +1,13 @@
 -- Homes that are used, and the numbers of their seats.
-use Rattle.std.proofs.Common.{ℕ, ◌+◌, ◌<◌, ◌≤◌, ◌≡◌, Bool, true, false, List, [], ◌∷◌, ◌++◌, map, length, get_or, set, ap, sym, ◌∙◌, subst, inl, inr, arith}
+use Rattle.std.proofs.Common.{ℕ, ◌+◌, ◌<◌, ◌≤◌, ◌≡◌, Bool, true, false, List, [], ◌∷◌, ◌++◌, map, length, get_or, ap, sym, ◌∙◌, subst, inl, inr, arith}
 use Rattle.std.specs.Prelude.{All, Some, slice_get}
-use Rattle.std.proofs.lemmas.Bool.{cases_eq, cases_lt}
-use Rattle.std.proofs.lemmas.List.{get_or_append_left, get_or_push, get_or_default}
+use Rattle.std.proofs.lemmas.Bool.{cases_lt}
+use Rattle.std.proofs.lemmas.List.{get_or_append_left, get_or_push}
 use Rattle.std.proofs.lemmas.List.Elements.{All-push, All-map}
 use Rattle.std.proofs.lemmas.Option.{slice_get-get_or}
-use Rattle.lucy_core.proofs.ListLaws.{get_set_other}
 use Rattle.lucy_worker.specs.declared.part.Part.{Part}
 use Rattle.lucy_runner.specs.declared.sitting.Bench.{Bench}
 use Rattle.lucy_runner.specs.Making.{benched}
-use Rattle.lucy_runner.proofs.PlacingLaws.{get_there, get_set}
-
-still_true : (used : List Bool) (h x : ℕ) → h < length used → slice_get used x ≡ Some true → slice_get (set used h true) x ≡ Some true
-still_true used h x l e = elim (cases_eq h x) [
-  | inl same ↦ ap (slice_get (set used h true)) (sym same) ∙ (let (b, at) = get_there used h l in get_set used h b true at)
-  | inr other ↦ get_set_other used h x true other ∙ e
-]
-
--- one home more
-pub marked_more : (homes : List ℕ) (n h : ℕ) (used : List Bool) → n < length homes → h ≡ get_or homes n h → h < length used → ((k d : ℕ) → k < n → slice_get used (get_or homes k d) ≡ Some true) →
-    (k d : ℕ) → k < n + 1 → slice_get (set used h true) (get_or homes k d) ≡ Some true
-marked_more homes n h used l e there old k d lt = elim (cases_lt k n) [
-  | inl before ↦ still_true used h (get_or homes k d) there (old k d before)
-  | inr last ↦
-      let same : k ≡ n = omega arith in
-      let here : get_or homes k d ≡ h = ap (λ i. get_or homes i d) same ∙ get_or_default homes n d h l ∙ sym e in
-      let (b, at) = get_there used h there in
-      ap (slice_get (set used h true)) here ∙ get_set used h b true at
-]
 
 -- one seat more, where the home is used
 pub seats_more : (used : List Bool) (n : ℕ) (numbers : List ℕ) (count next : ℕ) → length numbers ≡ n → ((h : ℕ) → h < n → slice_get used h ≡ Some true → get_or numbers h 0 < count) → count ≤ next → (slice_get used n ≡ Some true → count < next) →

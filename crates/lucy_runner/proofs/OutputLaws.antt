@@ -10,7 +10,6 @@ use Rattle.lucy_net.specs.declared.net.Actor.{Actor}
 use Rattle.lucy_net.specs.declared.net.Net.{Net}
 use Rattle.lucy_net.specs.declared.kind.ActorKind.{ActorKind}
 use Rattle.lucy_net.specs.declared.kind.ActorKind.TheVariants.{Output}
-use Rattle.lucy_net.proofs.NumberedLaws.{outputs_apart}
 use Rattle.lucy_cause.specs.Schedules.{Timetable}
 use Rattle.lucy_core.specs.Seen.{Seen, state_of, plan_of, stream_of, first_ring, IsOver, IsOutputOf}
 use Rattle.lucy_core.proofs.OpenLaws.{took_all}
@@ -48,11 +47,6 @@ output_is seen before number a crew places ends actor p standing out at =
     let many : n ≤ length took = subst (λ (k : ActorKind). TookAsMany k n (length took)) what is.took in
     let all : took ≡ take n took ++ q.output.items = sym (ap (λ (xs : List ℤ). took ++ xs) none ∙ append-nil took) ∙ puts in
     ap (λ (y : Part). y.output.items) (sym same) ∙ past_front n took q.output.items many all ∙ ap (λ (o : Actor). drop (ones_to o.firing before) ((state_of seen).took (first_ring o))) own
-
--- there is one output of a number
-pub output_alone : (seen : Seen) (before number a b : ℕ) (crew : List (List Part)) (places : List Place) (ends : List Ends) (x y : Actor) →
-    IsStanding seen before crew places ends → IsOutputOf seen.net number a x → IsOutputOf seen.net number b y → a ≡ b
-output_alone seen before number a b crew places ends x y standing one other = outputs_apart seen.net.actors a b number x y standing.fixed.proper.outputs one.there other.there one.kind other.kind
 
 -- in the end it has its stream up to the horizon, past those items
 pub output_ends : (net : Net) (schedule : Timetable) (ops : List Operator) (instants before number a givers : ℕ) (crew : List (List Part)) (places : List Place) (ends : List Ends) (actor : Actor) (p : Part) →

@@ -1,5 +1,5 @@
 -- A loop that changes the elements of a list one after another.
-use Rattle.std.proofs.Common.{ℕ, ◌+◌, ◌<◌, ◌≤◌, ◌≡◌, List, length, get_or, set, ap, sym, refl, ◌∙◌, subst, inl, inr, arith}
+use Rattle.std.proofs.Common.{ℕ, ◌+◌, ◌<◌, ◌≤◌, ◌≡◌, List, length, get_or, set, ap, sym, ◌∙◌, subst, inl, inr, arith}
 use Rattle.std.proofs.lemmas.Bool.{cases_eq, cases_lt}
 use Rattle.std.proofs.lemmas.List.{length-set, get_or-set_same, get_or-set_other, get_or_default}
 
@@ -8,9 +8,6 @@ pub record IsChangedTo {X : Type 0} (changed : X → X → Type 0) (xs ys : List
   pub as_many : length ys ≡ length xs
   pub done : (k : ℕ) (d : X) → k < n → changed (get_or xs k d) (get_or ys k d)
   pub rest : (k : ℕ) (d : X) → n ≤ k → get_or ys k d ≡ get_or xs k d
-
-pub none_changed : {X : Type 0} (changed : X → X → Type 0) (xs : List X) → IsChangedTo changed xs xs 0
-none_changed changed xs = record { as_many = refl; done = λ k d l. absurd (omega arith); rest = λ k d l. refl }
 
 -- the element at a place that was set
 set_there : {X : Type 0} (ys : List X) (n k : ℕ) (y d : X) → n < length ys → k ≡ n → get_or (set ys n y) k d ≡ y

@@ -6,7 +6,7 @@ use crate::meeting::meet_all;
 use crate::outputs::outputs_of;
 use crate::place::{Ends, Place};
 use crate::route::route_of;
-use crate::seat::{Seat, all_done, turn_all};
+use crate::seat::{Seat, all_done, looks_in, turn_all};
 use lucy_cause::Schedule;
 use lucy_core::{Core, CoreParts};
 use lucy_host::{Host, Inputs, Ops};
@@ -36,7 +36,7 @@ pub struct Runner {
     outputs: Vec<u32>,
     // all places, as one thread goes through them
     route: Vec<Place>,
-    // how many rounds in a row moved little, up to now
+    // how many rounds in a row were lean, up to now
     lean: u32,
 }
 
@@ -53,21 +53,22 @@ impl Model for Runner {
         × AreOutputs r.net.actors r.outputs.items };
 }
 
-// After so many rounds in a row that moved little `go` starts no more threads.
-const MOST_LEAN_ROUNDS: u32 = 64;
+// After so many lean rounds in a row `go` starts no more threads.
+const MOST_LEAN_ROUNDS: u32 = 16;
 
 // As many moves take about as long as threads take to start: a round of fewer moved little.
 const FEW_MOVES: u64 = 4_096;
 
-// How many rounds in a row moved little, after one more. Once they are as many as `MOST_LEAN_ROUNDS` it stays so.
-fn lean_rounds(lean: u32, moves: u64) -> u32 {
-    if lean >= MOST_LEAN_ROUNDS {
-        lean
-    } else if moves < FEW_MOVES {
-        lean + 1
-    } else {
-        0
-    }
+// A look at an actor whose neighbours move on other threads costs some 150 ns, as much as five moves of one thread that moves all actors;
+// one at neighbours that rest costs some 10 ns, and counts as much. Four in place of five: threads stay where they take up to a quarter
+// longer.
+const MOVES_OF_LOOK: u64 = 4;
+
+// Whether a round of so many workers, moves and looks for them moved little or mostly waited. The workers share moves and looks, so threads
+// are worth their looks where one thread would need longer for all moves alone.
+fn is_lean(workers: u64, moves: u64, looks: u64) -> bool {
+    let together = looks.saturating_mul(MOVES_OF_LOOK).saturating_add(moves);
+    moves < FEW_MOVES || moves.saturating_mul(workers) < together
 }
 
 impl Runner {
@@ -178,9 +179,9 @@ impl Runner {
         moves
     }
 
-    /// Makes rounds until every actor has done its list. Where many rounds in a row move little, as they do if rings are short and
-    /// no processors are free, one thread moves the actors of all workers from there on, also in later calls. It takes no memory,
-    /// and returns if the gate does.
+    /// Makes rounds until every actor has done its list. Where many rounds in a row move little or mostly wait, as they do if rings are
+    /// short, one thread moves the actors of all workers from there on, also in later calls. It takes no memory, and returns if the
+    /// gate does.
     pub fn go<R: Threads + Sync, F: Fn(u32, i64, i64) -> i64 + Sync, G: Gate + Sync>(
         &mut self,
         rt: &R,
@@ -197,7 +198,7 @@ impl Runner {
         self.lean = self.go_from(rt, host, gate, lean);
     }
 
-    // Makes rounds until every actor has done its list, behind so many that moved little. Answers how many these then are.
+    // Makes rounds until every actor has done its list, behind so many in a row that were lean. Answers how many these then are.
     fn go_from<R: Threads + Sync, F: Fn(u32, i64, i64) -> i64 + Sync, G: Gate + Sync>(
         &mut self,
         rt: &R,
@@ -214,9 +215,21 @@ impl Runner {
         let _ = &self.net;
         while !self.finished() {
             let moves = self.round_in(rt, host, gate, lean < MOST_LEAN_ROUNDS);
-            lean = lean_rounds(lean, moves);
+            lean = self.lean_after(lean, moves);
         }
         lean
+    }
+
+    // How many rounds in a row were lean, after one more of so many moves. Once they are `MOST_LEAN_ROUNDS` it stays so.
+    fn lean_after(&self, lean: u32, moves: u64) -> u32 {
+        let seats = self.seats.as_slice();
+        if lean >= MOST_LEAN_ROUNDS {
+            lean
+        } else if is_lean(seats.len() as u64, moves, looks_in(seats)) {
+            lean + 1
+        } else {
+            0
+        }
     }
 
     /// Whether every actor has done its list.

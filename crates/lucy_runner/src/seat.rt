@@ -15,11 +15,12 @@ use lucy_worker::{Gate, Worker};
 use std::thread;
 use std::thread::Threads;
 
-/// A worker, and how many moves it made in its last turn.
+/// A worker, how many moves it made in its last turn, and how often it looked for some there.
 #[derive(Drop)]
 pub(crate) struct Seat {
     pub worker: Worker,
     pub moves: u64,
+    pub looks: u64,
 }
 
 impl Seat {
@@ -34,11 +35,13 @@ impl Seat {
         requires served { All (IsServed (length (lent host.now))) self.old.worker.parts }
         ensures { IsTurned (kinds_of (lent host.now)) self.old self.new }
     {
-        self.moves = if alone {
+        let turn = if alone {
             self.worker.advance_alone(host, gate)
         } else {
             self.worker.advance(host, gate)
         };
+        self.moves = turn.moves;
+        self.looks = turn.looks;
     }
 
     // Moves the part of this number as long as it can, where there is one.
@@ -183,4 +186,13 @@ fn moves_in(seats: &[Seat]) -> u64
         moves += seat.moves;
     }
     moves
+}
+
+/// How often the workers looked for moves in their last turns. Nothing is claimed of it.
+pub(crate) fn looks_in(seats: &[Seat]) -> u64 {
+    let mut looks = 0u64;
+    for seat in seats {
+        looks = looks.wrapping_add(seat.looks);
+    }
+    looks
 }

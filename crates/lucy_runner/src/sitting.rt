@@ -108,6 +108,7 @@ fn workers_of(alloc: Global, benches: Vec<Bench>) -> Result<Vec<Seat>, OutOfMemo
         let seat = Seat {
             worker: Worker::new(bench.home, bench.parts),
             moves: 0,
+            looks: 0,
         };
         push(&mut seats, seat)?;
     }

@@ -157,19 +157,3 @@ extended_ready p items instants q can more ready =
 
 pub extended_ends : (p : Part) (items : List ℤ) (instants : ℕ) (q : Part) → IsExtended p items instants q → ends_of q ≡ ends_of p
 extended_ends p items instants q more = ap ends_of more.rest
-
--- the firings of a ready part are few
-pub fired_few : (p : Part) → IsReady p → p.state.fired ≤ 1048576
-fired_few p ready =
-    let of : IsOfActor p.actor p.state = ready.state in
-    let is : IsActorState p.actor of.0 of.1 of.2 p.state = of.3 in
-    let w = is.within in
-    let q = ready.quota in
-    omega arith
-
-pub raised_within : (p : Part) (instants : ℕ) → IsReady p → p.state.quota ≤ ones_to p.actor.firing instants → p.state.fired ≤ ones_to p.actor.firing instants
-raised_within p instants ready more =
-    let of : IsOfActor p.actor p.state = ready.state in
-    let is : IsActorState p.actor of.0 of.1 of.2 p.state = of.3 in
-    let w = is.within in
-    omega arith

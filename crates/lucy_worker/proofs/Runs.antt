@@ -168,29 +168,6 @@ come_more ps qs i p q l at moved rests so_far =
       later = λ k d b. same k d (λ (e : k ≡ i). absurd (omega arith)) ∙ so_far.later k d (omega arith);
     }
 
-pub come_all_moved : (ps qs : List Part) (i : ℕ) → length ps ≤ i → HasComeTo ps qs i → HaveMoved ps qs
-come_all_moved ps qs i past come = λ k d l. come.moved k d (omega arith)
-
-pub come_all_rest : (ps qs : List Part) (i : ℕ) → length qs ≤ i → HasComeTo ps qs i → NoneCan qs
-come_all_rest ps qs i past come = λ k d l. come.rests k d (omega arith)
-
--- a pass from the end that came to so many parts
-pub record HasComeBack (qs : List Part) (n : ℕ) : Type 0 where
-  pub rests : (k : ℕ) (d : Part) → length qs ≤ k + n → k < length qs → CanMove (get_or qs k d) → ⊥
-
-pub back_none : (qs : List Part) → HasComeBack qs 0
-back_none qs = record { rests = λ k d l m. absurd (omega arith) }
-
-pub back_more : (qs : List Part) (i n : ℕ) (q : Part) → i + (n + 1) ≡ length qs → (CanMove q → ⊥) → HasComeBack qs n → HasComeBack (set qs i q) (n + 1)
-back_more qs i n q at rests so_far =
-    let same : length (set qs i q) ≡ length qs = length-set qs i q in
-    record {
-      rests = λ k d l m. elim (cases_eq k i) [
-        | inl e ↦ subst (λ (j : ℕ). CanMove (get_or (set qs i q) j d) → ⊥) (sym e) (subst (λ (x : Part). CanMove x → ⊥) (sym (get_or-set_same qs i q d (omega arith))) rests)
-        | inr ne ↦ subst (λ (x : Part). CanMove x → ⊥) (sym (get_or-set_other qs i k q d ne)) (so_far.rests k d (omega arith) (omega arith))
-      ];
-    }
-
 -- what has moved once has moved
 pub moved_on : (kinds : List HostKind) (ps qs rs : List Part) → HaveRun kinds ps qs → HaveMoved ps qs → HaveRun kinds qs rs → HaveMoved ps rs
 moved_on kinds ps qs rs run moved more k d l can =

@@ -18,4 +18,5 @@ pub use gate::{Gate, OpenGate};
 pub use part::Part;
 pub use place::EndPlace;
 pub use round::rounds_are_runs;
+pub use turn::Progress;
 pub use worker::{Worker, meet_between};

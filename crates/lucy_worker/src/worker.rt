@@ -12,7 +12,7 @@ ghost use Rattle.lucy_worker.specs.Growing.{HasSpared, HasSpare, CanExtend, IsEx
 use crate::gate::{Gate, Passages};
 use crate::part::Part;
 use crate::place::EndPlace;
-use crate::turn::{all_done, turn};
+use crate::turn::{Progress, all_done, turn};
 use crate::within::meet_within;
 use lucy_host::Host;
 use lucy_ring::meet;
@@ -56,19 +56,19 @@ impl Worker {
         self.parts.as_slice()
     }
 
-    /// Passes the gate once, and then moves the actors, each as long as it can, until no one can move on what its ends know and
-    /// a number of passes over them have found nothing more. Answers the number of moves. It takes no memory, and returns if
-    /// the gate does.
+    /// Passes the gate once, and then goes over the actors again and again and moves each as long as it can, until all are done or it
+    /// has looked for moves a number of times; then no one can move on what its ends know. It takes no memory, and returns if the gate
+    /// does.
     pub fn advance<F: Fn(u32, i64, i64) -> i64 + Sync, G: Gate + Sync>(
         &mut self,
         host: &Host<F>,
         gate: &G,
-    ) -> u64
+    ) -> Progress
         requires serves { Serves F.pre F.post host.now }
         requires served { All (IsServed (length (lent host.now))) self.old.parts }
         ensures number { self.new.number ≡ self.old.number }
         ensures passed { G.passed gate.now self.old.number }
-        ensures turned { IsTurnOf (kinds_of (lent host.now)) self.old.parts self.new.parts result }
+        ensures turned { IsTurnOf (kinds_of (lent host.now)) self.old.parts self.new.parts result.moves }
     {
         self.turn(host, gate, false)
     }
@@ -78,12 +78,12 @@ impl Worker {
         &mut self,
         host: &Host<F>,
         gate: &G,
-    ) -> u64
+    ) -> Progress
         requires serves { Serves F.pre F.post host.now }
         requires served { All (IsServed (length (lent host.now))) self.old.parts }
         ensures number { self.new.number ≡ self.old.number }
         ensures passed { G.passed gate.now self.old.number }
-        ensures turned { IsTurnOf (kinds_of (lent host.now)) self.old.parts self.new.parts result }
+        ensures turned { IsTurnOf (kinds_of (lent host.now)) self.old.parts self.new.parts result.moves }
     {
         self.turn(host, gate, true)
     }
@@ -94,12 +94,12 @@ impl Worker {
         host: &Host<F>,
         gate: &G,
         alone: bool,
-    ) -> u64
+    ) -> Progress
         requires serves { Serves F.pre F.post host.now }
         requires served { All (IsServed (length (lent host.now))) self.old.parts }
         ensures number { self.new.number ≡ self.old.number }
         ensures passed { G.passed gate.now self.old.number }
-        ensures turned { IsTurnOf (kinds_of (lent host.now)) self.old.parts self.new.parts result }
+        ensures turned { IsTurnOf (kinds_of (lent host.now)) self.old.parts self.new.parts result.moves }
     {
         let mut passages = Passages::none();
         passages.pass(gate, self.number);

@@ -53,7 +53,7 @@ pub returns-then-from-to : goal.returns-then-from-to
 returns-then-from-to c =
     let seats : List Seat = c.args.seats.now in
     let d : Seat = c.index-seats-from.result in
-    let y : Seat = record { worker = c.meet_own.new.self; moves = (get_or seats c.args.from d).moves } in
+    let y : Seat = record (get_or seats c.args.from d) { worker = c.meet_own.new.self } in
     own_met seats c.args.from c.args.to c.args.giver c.args.taker d y c.if-from-to.true c.requires.seats.0 c.meet_own.ensures.met
 
 pub returns-then-from-to-2 : goal.returns-then-from-to-2
@@ -64,8 +64,8 @@ returns-then-from-to-2 c =
     let r : List Seat = cut.result.1.now in
     let d : Seat = c.index-left-from.result in
     let e : Seat = c.index-right-0.result in
-    let x : Seat = record { worker = c.meet_between.new.first; moves = (get_or l c.args.from d).moves } in
-    let y : Seat = record { worker = c.meet_between.new.second; moves = (get_or r 0 e).moves } in
+    let x : Seat = record (get_or l c.args.from d) { worker = c.meet_between.new.first } in
+    let y : Seat = record (get_or r 0 e) { worker = c.meet_between.new.second } in
     left_met seats l r c.args.from c.args.to c.args.giver c.args.taker d e x y cut.ensures.value cut.ensures.front_len c.if-from-to-2.true c.requires.seats.1 c.meet_between.ensures.met
 
 pub returns-else-from-to-2 : goal.returns-else-from-to-2
@@ -76,7 +76,7 @@ returns-else-from-to-2 c =
     let r : List Seat = cut.result.1.now in
     let d : Seat = c.index-right-0-else-from-to-2.result in
     let e : Seat = c.index-left-to.result in
-    let x : Seat = record { worker = c.meet_between-else-from-to-2.new.first; moves = (get_or r 0 d).moves } in
-    let y : Seat = record { worker = c.meet_between-else-from-to-2.new.second; moves = (get_or l c.args.to e).moves } in
+    let x : Seat = record (get_or r 0 d) { worker = c.meet_between-else-from-to-2.new.first } in
+    let y : Seat = record (get_or l c.args.to e) { worker = c.meet_between-else-from-to-2.new.second } in
     let less : c.args.to < c.args.from = omega (arith, c.if-from-to.false, c.if-from-to-2.false) in
     right_met seats l r c.args.from c.args.to c.args.giver c.args.taker d e x y cut.ensures.value cut.ensures.front_len less c.requires.seats.0 c.meet_between-else-from-to-2.ensures.met

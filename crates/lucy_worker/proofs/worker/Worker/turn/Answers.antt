@@ -22,12 +22,12 @@ returns-clause-turned g c =
     let count : length after ≡ c.self.inside.parts.len = omega (arith, passed.run.as_many, (let e : length before ≡ length c.self.inside.parts.items = cc in e)) in
     let left : List Part = take c.self.inside.parts.len (after ++ drop (length after) c.self.inside.parts.items) in
     let whole : left ≡ after = take_at after (drop (length after) c.self.inside.parts.items) c.self.inside.parts.len count in
-    subst (λ (ps : List Part). IsTurnOf kinds ps left c.turn.result) same
-    (subst (λ (ps : List Part). IsTurnOf kinds before ps c.turn.result) (sym whole) (record {
+    subst (λ (ps : List Part). IsTurnOf kinds ps left c.turn.result.moves) same
+    (subst (λ (ps : List Part). IsTurnOf kinds before ps c.turn.result.moves) (sym whole) (record {
       run = passed.run;
       counted = passed.done;
       few = omega (arith, passed.left);
       moved = c.turn.ensures.moved;
-      none = none_could kinds before after c.turn.result passed.run c.turn.ensures.moved passed.done;
+      none = none_could kinds before after c.turn.result.moves passed.run c.turn.ensures.moved passed.done;
       rests = c.turn.ensures.rests;
     }))

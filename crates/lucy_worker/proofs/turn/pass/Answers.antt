@@ -8,7 +8,7 @@ use Rattle.lucy_worker.specs.Turns.{IsServed}
 use Rattle.lucy_worker.specs.Readiness.{left_by, HavePassed}
 use Rattle.lucy_worker.proofs.Runs.{passed_none, passed_on, passed_one, come_none, come_more}
 use Rattle.lucy_worker.proofs.CountLaws.{left_by_few}
-use Rattle.lucy_worker.proofs.turn.pass_on.Goals as goal
+use Rattle.lucy_worker.proofs.turn.pass.Goals as goal
 
 pub loop-part-init : goal.loop-part-init
 loop-part-init g c = (passed_none (kinds_of (lent c.args.host.now)) (length (lent c.args.host.now)) c.args.parts.now c.requires.ready c.requires.served, come_none c.args.parts.now)
