@@ -34,6 +34,10 @@ use Rattle.lucy_syntax.specs.Refusals.{begins_expr}
 pub fails : {b : Bool} {P : Type 0} → (P → b ≡ true) → b ≡ false → P → ⊥
 fails {b = b} back missed p = both_ways b missed (back p)
 
+-- the first token of some that begin with a token
+pub is_first : {ts more : List Token} {t : Token} {k : Kind} → Begins ts t k more → first ts ≡ k
+is_first b = ap first b.0 ∙ b.1
+
 -- what holds of an option, made into something else
 pub match_to : {A N M : Type 0} {P Q : A → Type 0} (o : Option A) → MatchOption o N P → (N → M) → ((a : A) → P a → Q a) → MatchOption o M Q
 match_to None h f g = f h

@@ -1,4 +1,5 @@
 mod Leaving
 mod Facts
+mod Parts
 mod Climbing
 pub mod TextLaws

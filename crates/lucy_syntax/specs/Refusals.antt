@@ -1,9 +1,10 @@
 -- What the descent's functions promise of an answer.
-use Rattle.std.specs.Prelude.{Bool, true, false, List, Option, ◌≡◌}
+use Rattle.std.specs.Prelude.{Bool, true, false, List, [], ◌∷◌, Option, ◌≡◌}
 use Rattle.lucy_word.specs.Bits.{Bits}
 use Rattle.lucy_tree.specs.declared.span.Name.{Name}
 use Rattle.lucy_tree.specs.Tree.{Tree, Trees, sampled, call}
-use Rattle.lucy_grammar.specs.Symbols.{Part}
+use Rattle.lucy_grammar.specs.Symbols.{Part, Sym, part, perhaps}
+use Rattle.lucy_grammar.specs.Grammar.{sign}
 use Rattle.lucy_grammar.specs.Reading.{Reads}
 use Rattle.lucy_token.specs.declared.mark.Mark.TheVariants as mark
 use Rattle.lucy_token.specs.declared.token.Kind.{Kind}
@@ -38,3 +39,19 @@ IsSampled ts operand e rest = (v : Bool × Bits) × Reads Part.Sampling ts v res
 -- what stands behind the name of a call is read, and the tree is the call
 abbrev pub IsApplied : Name → List Token → Tree → List Token → Type 0
 IsApplied name ts e rest = (v : Option Bits × Trees) × Reads Part.Applied ts v rest × (e ≡ call name v.0 v.1)
+
+-- what stands in a declaration behind its name
+abbrev pub behind_name : List Sym
+behind_name = perhaps Part.Typing ∷ perhaps Part.ClockOf ∷ []
+
+-- and in several names on the left behind the first one
+abbrev pub behind_first : List Sym
+behind_first = sign mark.Comma ∷ part Part.Decls ∷ sign mark.Close ∷ []
+
+-- and in a choice behind its test
+abbrev pub behind_test : List Sym
+behind_test = sign mark.Then ∷ part Part.Expr ∷ sign mark.Else ∷ part Part.Expr ∷ []
+
+-- and in a call behind its base
+abbrev pub behind_base : List Sym
+behind_base = sign mark.Open ∷ perhaps Part.Args ∷ sign mark.Close ∷ []

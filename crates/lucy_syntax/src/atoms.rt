@@ -7,7 +7,7 @@ ghost use Rattle.lucy_grammar.specs.Meanings.{number_of};
 ghost use Rattle.lucy_grammar.specs.Reading.{Reads, Unfit, IsBegun, Begins, IsOther, ReadsOptional, UnfitOptional};
 ghost use Rattle.lucy_syntax.specs.Refusals.{RefusedBy, begins_expr};
 
-use crate::cursor::{ahead, at, sign, want, word};
+use crate::cursor::{ahead, at, sign, take, want, word};
 use crate::refusal::Refusal;
 use lucy_host::Op;
 use lucy_token::{Kind, Mark, Token, What};
@@ -49,12 +49,10 @@ pub fn lit<'a, 't>(ts: &'a [Token<'t>]) -> Result<((Lit, Span), &'a [Token<'t>])
     ensures refused { IfErr result (RefusedBy (Unfit Part.Lit ts.now)) }
     ensures shorter { IfOk result (λ p. length p.1.now < length ts.now) }
 {
-    if at(ts, Kind::Mark(Mark::True)) {
-        let (span, ts) = want(ts, Mark::True)?;
+    if let Some((span, ts)) = take(ts, Mark::True) {
         return Ok(((Lit::Bool(true), span), ts));
     }
-    if at(ts, Kind::Mark(Mark::False)) {
-        let (span, ts) = want(ts, Mark::False)?;
+    if let Some((span, ts)) = take(ts, Mark::False) {
         return Ok(((Lit::Bool(false), span), ts));
     }
     number(ts)
@@ -79,8 +77,7 @@ pub fn sampling<'a, 't>(
     ensures refused { IfErr result (RefusedBy (Unfit Part.Sampling ts.now)) }
     ensures shorter { IfOk result (λ p. length p.1.now < length ts.now) }
 {
-    if at(ts, Kind::Mark(Mark::When)) {
-        let (_, ts) = want(ts, Mark::When)?;
+    if let Some((_, ts)) = take(ts, Mark::When) {
         let (word, ts) = word(alloc, ts)?;
         return Ok(((false, word), ts));
     }
@@ -156,8 +153,7 @@ pub fn base<'a, 't>(
     ensures refused { IfErr result (RefusedBy (UnfitOptional Part.Base ts.now)) }
     ensures shorter { IfOk result (λ p. length p.1.now ≤ length ts.now) }
 {
-    if at(ts, Kind::Mark(Mark::At)) {
-        let (_, ts) = want(ts, Mark::At)?;
+    if let Some((_, ts)) = take(ts, Mark::At) {
         let (word, ts) = word(alloc, ts)?;
         return Ok((Some(word), ts));
     }

@@ -32,6 +32,17 @@ pub fn at(ts: &[Token], kind: Kind) -> bool
     ahead(ts) == kind
 }
 
+/// The place of a keyword or a sign, and what follows it, where it is the first token.
+pub fn take<'a, 't>(ts: &'a [Token<'t>], mark: Mark) -> Option<(Span, &'a [Token<'t>])>
+    ensures read { MatchOption result (first ts.now ≡ kind.Mark mark → ⊥) (λ p. (t : Token) × Begins ts.now t (kind.Mark mark) p.1.now × (p.0 ≡ t.span)) }
+    ensures shorter { IfSome result (λ p. length p.1.now < length ts.now) }
+{
+    match ts.split_first() {
+        Some((t, rest)) if t.what.kind() == Kind::Mark(mark) => Some((t.span, rest)),
+        _ => None,
+    }
+}
+
 /// An operator's sign with its place, and what follows it, where it is the first token.
 pub fn sign<'a, 't>(
     ts: &'a [Token<'t>],
@@ -41,10 +52,8 @@ pub fn sign<'a, 't>(
     ensures read { MatchOption result (first ts.now ≡ kind.Mark mark → ⊥) (λ p. (t : Token) × Begins ts.now t (kind.Mark mark) p.1.now × (p.0.0 ≡ op) × (p.0.1 ≡ t.span)) }
     ensures shorter { IfSome result (λ p. length p.1.now < length ts.now) }
 {
-    match ts.split_first() {
-        Some((t, rest)) if t.what.kind() == Kind::Mark(mark) => Some(((op, t.span), rest)),
-        _ => None,
-    }
+    let (span, rest) = take(ts, mark)?;
+    Some(((op, span), rest))
 }
 
 /// A keyword or a sign: its place, and what follows it.
@@ -56,9 +65,9 @@ pub fn want<'a, 't>(
     ensures refused { IfErr result (RefusedBy (IsOther ts.now (kind.Mark mark))) }
     ensures shorter { IfOk result (λ p. length p.1.now < length ts.now) }
 {
-    match ts.split_first() {
-        Some((t, rest)) if t.what.kind() == Kind::Mark(mark) => Ok((t.span, rest)),
-        _ => Err(Refusal::At(ts)),
+    match take(ts, mark) {
+        Some(taken) => Ok(taken),
+        None => Err(Refusal::At(ts)),
     }
 }
 

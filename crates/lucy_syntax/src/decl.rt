@@ -3,10 +3,10 @@ ghost use Rattle.std.specs.Prelude.{◌≡◌, ◌<◌, ◌≤◌, IfOk, IfErr, 
 ghost use Rattle.lucy_tree.specs.declared.decl.Decl.{Decl};
 ghost use Rattle.lucy_grammar.specs.Meanings.{all_of};
 ghost use Rattle.lucy_grammar.specs.Symbols.{Part};
-ghost use Rattle.lucy_grammar.specs.Reading.{Reads, Unfit, ReadsOptional, UnfitOptional};
-ghost use Rattle.lucy_syntax.specs.Refusals.{RefusedBy};
+ghost use Rattle.lucy_grammar.specs.Reading.{Takes, Refuses, Reads, Unfit, ReadsOptional, UnfitOptional};
+ghost use Rattle.lucy_syntax.specs.Refusals.{RefusedBy, behind_name};
 
-use crate::cursor::{at, name, want, word};
+use crate::cursor::{at, name, take, want, word};
 use crate::make::{one, push};
 use crate::refusal::Refusal;
 use lucy_host::DataType;
@@ -23,8 +23,7 @@ fn typing<'a, 't>(
     ensures refused { IfErr result (RefusedBy (UnfitOptional Part.Typing ts.now)) }
     ensures shorter { IfOk result (λ p. length p.1.now ≤ length ts.now) }
 {
-    if at(ts, Kind::Mark(Mark::Colon)) {
-        let (_, ts) = want(ts, Mark::Colon)?;
+    if let Some((_, ts)) = take(ts, Mark::Colon) {
         let (holds, ts) = type_name(ts)?;
         return Ok((Some(holds), ts));
     }
@@ -36,8 +35,7 @@ fn type_name<'a, 't>(ts: &'a [Token<'t>]) -> Result<(DataType, &'a [Token<'t>]),
     ensures refused { IfErr result (RefusedBy (Unfit Part.TypeName ts.now)) }
     ensures shorter { IfOk result (λ p. length p.1.now < length ts.now) }
 {
-    if at(ts, Kind::Mark(Mark::Int)) {
-        let (_, ts) = want(ts, Mark::Int)?;
+    if let Some((_, ts)) = take(ts, Mark::Int) {
         return Ok((DataType::Int, ts));
     }
     let (_, ts) = want(ts, Mark::Bool)?;
@@ -53,8 +51,7 @@ fn clock<'a, 't>(
     ensures refused { IfErr result (RefusedBy (UnfitOptional Part.ClockOf ts.now)) }
     ensures shorter { IfOk result (λ p. length p.1.now ≤ length ts.now) }
 {
-    if at(ts, Kind::Mark(Mark::Colons)) {
-        let (_, ts) = want(ts, Mark::Colons)?;
+    if let Some((_, ts)) = take(ts, Mark::Colons) {
         let (word, ts) = word(alloc, ts)?;
         return Ok((Some(word), ts));
     }
@@ -71,9 +68,22 @@ pub fn decl<'a, 't>(
     ensures shorter { IfOk result (λ p. length p.1.now < length ts.now) }
 {
     let (name, ts) = name(alloc, ts)?;
+    let ((holds, word), ts) = typing_and_clock(alloc, ts)?;
+    Ok((Decl { name, holds, word }, ts))
+}
+
+// What stands in a declaration behind its name.
+fn typing_and_clock<'a, 't>(
+    alloc: Global,
+    ts: &'a [Token<'t>],
+) -> Result<((Option<DataType>, Option<Word>), &'a [Token<'t>]), Refusal<'a, 't>>
+    ensures ok { IfOk result (λ p. Takes Part.Decl behind_name ts.now (p.0.0, (p.0.1, tt)) p.1.now) }
+    ensures refused { IfErr result (RefusedBy (Refuses Part.Decl behind_name ts.now)) }
+    ensures shorter { IfOk result (λ p. length p.1.now ≤ length ts.now) }
+{
     let (holds, ts) = typing(ts)?;
     let (word, ts) = clock(alloc, ts)?;
-    Ok((Decl { name, holds, word }, ts))
+    Ok(((holds, word), ts))
 }
 
 /// Declarations with commas between.
@@ -87,8 +97,7 @@ pub fn decls<'a, 't>(
 {
     let (head, mut over) = decl(alloc, ts)?;
     let mut list = one(alloc, head)?;
-    'more: while at(over, Kind::Mark(Mark::Comma)) {
-        let (_, rest) = want(over, Mark::Comma)?;
+    'more: while let Some((_, rest)) = take(over, Mark::Comma) {
         let (next, rest) = decl(alloc, rest)?;
         push(&mut list, next)?;
         over = rest;
@@ -149,8 +158,7 @@ fn names<'a, 't>(
 {
     let (head, mut over) = name(alloc, ts)?;
     let mut list = one(alloc, head)?;
-    'more: while at(over, Kind::Mark(Mark::Comma)) {
-        let (_, rest) = want(over, Mark::Comma)?;
+    'more: while let Some((_, rest)) = take(over, Mark::Comma) {
         let (next, rest) = name(alloc, rest)?;
         push(&mut list, next)?;
         over = rest;

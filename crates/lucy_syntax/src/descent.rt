@@ -3,17 +3,18 @@ ghost use Rattle.std.specs.Prelude.{◌≡◌, ◌<◌, ◌≤◌, IfOk, IfErr, 
 ghost use Rattle.lucy_token.specs.Tokens.{first};
 ghost use Rattle.lucy_token.specs.declared.mark.Mark.TheVariants as mark;
 ghost use Rattle.lucy_token.specs.declared.token.Kind.TheVariants as kind;
+ghost use Rattle.lucy_token.specs.declared.token.Token.{Token};
 ghost use Rattle.lucy_tree.specs.Tree.{Trees};
 ghost use Rattle.lucy_tree.specs.View.{tree_of};
 ghost use Rattle.lucy_grammar.specs.Symbols.{Part};
-ghost use Rattle.lucy_grammar.specs.Meanings.{args_of};
-ghost use Rattle.lucy_grammar.specs.Reading.{Reads, Unfit, ReadsOptional, UnfitOptional, IsBegun};
+ghost use Rattle.lucy_grammar.specs.Meanings.{args_of, two};
+ghost use Rattle.lucy_grammar.specs.Reading.{Takes, Refuses, Reads, Unfit, ReadsOptional, UnfitOptional, IsBegun};
 ghost use Rattle.lucy_syntax.specs.Levels.{ReadsAt, UnfitAt};
-ghost use Rattle.lucy_syntax.specs.Refusals.{RefusedBy, IsApplied, IsSampled};
+ghost use Rattle.lucy_syntax.specs.Refusals.{RefusedBy, IsApplied, IsSampled, behind_test, behind_base};
 ghost use Rattle.lucy_syntax.specs.Views.{all_trees};
 
 use crate::atoms::{at_applied, at_expr, at_literal, at_sampling, base, lit, sampling};
-use crate::cursor::{at, name, want, word};
+use crate::cursor::{at, name, take, want, word};
 use crate::level::Level;
 use crate::make::{self, Link, one_boxed, push_boxed};
 use crate::refusal::Refusal;
@@ -68,11 +69,25 @@ fn choice<'a, 't>(
 {
     let (span, ts) = want(ts, Mark::If)?;
     let (test, ts) = whole(alloc, ts)?;
+    let ((then, other), ts) = branches(alloc, ts)?;
+    Ok((make::choice(alloc, test, then, other, span)?, ts))
+}
+
+// What stands in a choice behind its test.
+#[cycle(descent)]
+fn branches<'a, 't>(
+    alloc: Global,
+    ts: &'a [Token<'t>],
+) -> Result<((Box<Expr>, Box<Expr>), &'a [Token<'t>]), Refusal<'a, 't>>
+    ensures ok { IfOk result (λ p. (t : Token) × (e : Token) × Takes Part.Expr behind_test ts.now (t, (tree_of p.0.0.value, (e, (tree_of p.0.1.value, tt)))) p.1.now) }
+    ensures refused { IfErr result (RefusedBy (Refuses Part.Expr behind_test ts.now)) }
+    ensures shorter { IfOk result (λ p. length p.1.now < length ts.now) }
+{
     let (_, ts) = want(ts, Mark::Then)?;
     let (then, ts) = whole(alloc, ts)?;
     let (_, ts) = want(ts, Mark::Else)?;
     let (other, ts) = whole(alloc, ts)?;
-    Ok((make::choice(alloc, test, then, other, span)?, ts))
+    Ok(((then, other), ts))
 }
 
 // Operands with operators between them, up to those that bind as loosely as the wanted level.
@@ -216,8 +231,7 @@ fn literal<'a, 't>(
     ensures shorter { IfOk result (λ p. length p.1.now < length ts.now) }
 {
     let ((lit, span), ts) = lit(ts)?;
-    if at(ts, Kind::Mark(Mark::Fby)) {
-        let (fby, ts) = want(ts, Mark::Fby)?;
+    if let Some((fby, ts)) = take(ts, Mark::Fby) {
         let (operand, ts) = pre(alloc, ts)?;
         return Ok((make::followed(alloc, lit, operand, fby)?, ts));
     }
@@ -276,12 +290,26 @@ fn hosted<'a, 't>(
 {
     let (_, ts) = want(ts, Mark::Host)?;
     let (name, ts) = name(alloc, ts)?;
+    let ((first, second), ts) = pair(alloc, ts)?;
+    Ok((make::hosted(alloc, name, first, second)?, ts))
+}
+
+// Two expressions in parentheses.
+#[cycle(descent)]
+fn pair<'a, 't>(
+    alloc: Global,
+    ts: &'a [Token<'t>],
+) -> Result<((Box<Expr>, Box<Expr>), &'a [Token<'t>]), Refusal<'a, 't>>
+    ensures ok { IfOk result (λ p. Reads Part.Pair ts.now (two (tree_of p.0.0.value) (tree_of p.0.1.value)) p.1.now) }
+    ensures refused { IfErr result (RefusedBy (Unfit Part.Pair ts.now)) }
+    ensures shorter { IfOk result (λ p. length p.1.now < length ts.now) }
+{
     let (_, ts) = want(ts, Mark::Open)?;
     let (first, ts) = whole(alloc, ts)?;
     let (_, ts) = want(ts, Mark::Comma)?;
     let (second, ts) = whole(alloc, ts)?;
     let (_, ts) = want(ts, Mark::Close)?;
-    Ok((make::hosted(alloc, name, first, second)?, ts))
+    Ok(((first, second), ts))
 }
 
 // A small operand.
@@ -334,10 +362,24 @@ fn applied<'a, 't>(
     ensures shorter { IfOk result (λ p. length p.1.now < length ts.now) }
 {
     let (base, ts) = base(alloc, ts)?;
+    let (args, ts) = enclosed(alloc, ts)?;
+    Ok((make::called(alloc, name, base, args)?, ts))
+}
+
+// The arguments of a call, in parentheses.
+#[cycle(descent)]
+fn enclosed<'a, 't>(
+    alloc: Global,
+    ts: &'a [Token<'t>],
+) -> Result<(Vec<Expr>, &'a [Token<'t>]), Refusal<'a, 't>>
+    ensures ok { IfOk result (λ p. (o : Token) × (given : Option Trees) × (s : Token) × Takes Part.Applied behind_base ts.now (o, (given, (s, tt))) p.1.now × (all_trees p.0.items ≡ args_of given)) }
+    ensures refused { IfErr result (RefusedBy (Refuses Part.Applied behind_base ts.now)) }
+    ensures shorter { IfOk result (λ p. length p.1.now < length ts.now) }
+{
     let (_, ts) = want(ts, Mark::Open)?;
     let (args, ts) = given(alloc, ts)?;
     let (_, ts) = want(ts, Mark::Close)?;
-    Ok((make::called(alloc, name, base, args)?, ts))
+    Ok((args, ts))
 }
 
 // The arguments before a closing parenthesis, of which there may be none.
@@ -368,8 +410,7 @@ fn args<'a, 't>(
 {
     let (head, mut over) = whole(alloc, ts)?;
     let mut list = one_boxed(alloc, head)?;
-    'more: while at(over, Kind::Mark(Mark::Comma)) {
-        let (_, rest) = want(over, Mark::Comma)?;
+    'more: while let Some((_, rest)) = take(over, Mark::Comma) {
         let (next, rest) = whole(alloc, rest)?;
         push_boxed(&mut list, next)?;
         over = rest;

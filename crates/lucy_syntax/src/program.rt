@@ -1,19 +1,20 @@
 // Reads definitions, nodes and programs.
-ghost use Rattle.std.specs.Prelude.{◌≡◌, ◌<◌, ◌≤◌, IfOk, IfErr, List, Option, length, map};
+ghost use Rattle.std.specs.Prelude.{◌≡◌, ◌<◌, ◌≤◌, ◌∷◌, IfOk, IfErr, List, Option, length, map};
 ghost use Rattle.lucy_tree.specs.View.{DefTree, tree_of, def_tree, node_tree};
+ghost use Rattle.lucy_token.specs.declared.token.Token.{Token};
 ghost use Rattle.lucy_grammar.specs.Symbols.{Part};
 ghost use Rattle.lucy_grammar.specs.Meanings.{all_of};
-ghost use Rattle.lucy_grammar.specs.Reading.{Reads, Unfit, ReadsOptional, UnfitOptional};
-ghost use Rattle.lucy_syntax.specs.Refusals.{RefusedBy};
+ghost use Rattle.lucy_grammar.specs.Reading.{Takes, Refuses, Reads, Unfit, ReadsOptional, UnfitOptional};
+ghost use Rattle.lucy_syntax.specs.Refusals.{RefusedBy, behind_first};
 
-use crate::cursor::{at, name, want};
+use crate::cursor::{at, name, take, want};
 use crate::decl::{decl, decls, params, results};
 use crate::descent::{call, expr};
 use crate::make::{one, push};
 use crate::refusal::Refusal;
 use lucy_token::{Kind, Mark, Token};
 use lucy_tree::{Decl, Decls, Def, Defs, Name, Names, Node};
-use std::alloc::Global;
+use std::alloc::{AllocError, Global};
 
 // Several names on the left, in parentheses.
 fn lefts<'a, 't>(
@@ -26,12 +27,31 @@ fn lefts<'a, 't>(
 {
     let (_, ts) = want(ts, Mark::Open)?;
     let (head, ts) = decl(alloc, ts)?;
+    let (others, ts) = other_lefts(alloc, ts)?;
+    Ok((joined(alloc, head, others)?, ts))
+}
+
+// What stands in several names on the left behind the first one.
+fn other_lefts<'a, 't>(
+    alloc: Global,
+    ts: &'a [Token<'t>],
+) -> Result<(Vec<Decl>, &'a [Token<'t>]), Refusal<'a, 't>>
+    ensures ok { IfOk result (λ p. (c : Token) × (s : Token) × Takes Part.Lefts behind_first ts.now (c, (p.0.items, (s, tt))) p.1.now) }
+    ensures refused { IfErr result (RefusedBy (Refuses Part.Lefts behind_first ts.now)) }
+    ensures shorter { IfOk result (λ p. length p.1.now < length ts.now) }
+{
     let (_, ts) = want(ts, Mark::Comma)?;
-    let (mut more, ts) = decls(alloc, ts)?;
+    let (others, ts) = decls(alloc, ts)?;
     let (_, ts) = want(ts, Mark::Close)?;
+    Ok((others, ts))
+}
+
+fn joined(alloc: Global, head: Decl, mut others: Vec<Decl>) -> Result<Vec<Decl>, AllocError>
+    ensures { IfOk result (λ list. list.items ≡ head ∷ others.items) }
+{
     let mut list = one(alloc, head)?;
-    list.append(&mut more)?;
-    Ok((list, ts))
+    list.append(&mut others)?;
+    Ok(list)
 }
 
 /// A definition.
@@ -73,8 +93,7 @@ fn defs<'a, 't>(
 {
     let (head, mut over) = def(alloc, ts)?;
     let mut list = one(alloc, head)?;
-    'more: while at(over, Kind::Mark(Mark::And)) {
-        let (_, rest) = want(over, Mark::And)?;
+    'more: while let Some((_, rest)) = take(over, Mark::And) {
         let (next, rest) = def(alloc, rest)?;
         push(&mut list, next)?;
         over = rest;
@@ -91,8 +110,7 @@ fn body<'a, 't>(
     ensures refused { IfErr result (RefusedBy (UnfitOptional Part.Body ts.now)) }
     ensures shorter { IfOk result (λ p. length p.1.now ≤ length ts.now) }
 {
-    if at(ts, Kind::Mark(Mark::Where)) {
-        let (_, ts) = want(ts, Mark::Where)?;
+    if let Some((_, ts)) = take(ts, Mark::Where) {
         let (_, ts) = want(ts, Mark::Rec)?;
         return defs(alloc, ts);
     }

@@ -3,17 +3,17 @@ use Rattle.lucy_grammar.specs.Reading.{IsOther}
 use Rattle.lucy_grammar.proofs.Steps.{as_value}
 use Rattle.lucy_grammar.proofs.LeafProductions.{begun, unbegun, a_base}
 use Rattle.lucy_syntax.proofs.Leaving.{leaves}
-use Rattle.lucy_syntax.proofs.Facts.{fails}
+use Rattle.lucy_syntax.proofs.Facts.{is_first}
 use Rattle.lucy_token.specs.declared.token.Kind.TheVariants as kind
 use Rattle.lucy_grammar.proofs.LeafProductions as by
 use Rattle.lucy_syntax.proofs.atoms.base.Goals as goal
 
 pub returns-in_err-word-clause-refused : goal.returns-in_err-word-clause-refused
 returns-in_err-word-clause-refused c =
-    leaves (IsOther c.in_ok-ts.ts.now kind.Word) _ c.from_residual-in_err-word.result c.from_residual-in_err-word.ensures.1 c.in_err-word.ensures.refused (λ rest u. ((begun c.args.ts.now a_base (c.at.ensures.0 c.if-at.true)), by.base_2 c.in_ok-ts.ensures.ok.1 u))
+    leaves (IsOther c.in-Some.ts.now kind.Word) _ c.from_residual.result c.from_residual.ensures.1 c.in_err-word.ensures.refused (λ rest u. ((begun c.args.ts.now a_base (is_first c.in-Some.ensures.read.1)), by.base_2 c.in-Some.ensures.read.1 u))
 
-pub returns-then-at-clause-ok : goal.returns-then-at-clause-ok
-returns-then-at-clause-ok c = ((begun c.args.ts.now a_base (c.at.ensures.0 c.if-at.true)), as_value c.in_ok-word.ensures.ok.2 (by.base c.in_ok-ts.ensures.ok.1 c.in_ok-word.ensures.ok.1))
+pub returns-in-Some-clause-ok : goal.returns-in-Some-clause-ok
+returns-in-Some-clause-ok c = ((begun c.args.ts.now a_base (is_first c.in-Some.ensures.read.1)), as_value c.in_ok-word.ensures.ok.2 (by.base c.in-Some.ensures.read.1 c.in_ok-word.ensures.ok.1))
 
 pub returns-clause-ok : goal.returns-clause-ok
-returns-clause-ok c = (unbegun c.args.ts.now a_base (fails c.at.ensures.1 c.if-at.false), refl)
+returns-clause-ok c = (unbegun c.args.ts.now a_base c.in_default.ensures.read, refl)

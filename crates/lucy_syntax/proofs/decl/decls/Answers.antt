@@ -4,7 +4,7 @@ use Rattle.lucy_grammar.specs.Reading.{Unfit}
 use Rattle.lucy_grammar.proofs.Growing.{grown_first, grown_more, grown_bad, grown_refused, grown_ended, decls}
 use Rattle.lucy_grammar.proofs.LeafProductions.{begun, unbegun, one_decl}
 use Rattle.lucy_syntax.proofs.Leaving.{leaves}
-use Rattle.lucy_syntax.proofs.Facts.{fails}
+use Rattle.lucy_syntax.proofs.Facts.{is_first}
 use Rattle.lucy_grammar.proofs.NodeProductions as by
 use Rattle.lucy_syntax.proofs.decl.decls.Goals as goal
 
@@ -17,10 +17,10 @@ more-init c = grown_first decls c.in_ok-list.ensures c.in_ok-head.ensures.ok c.i
 
 pub returns-in_err-next-clause-refused : goal.returns-in_err-next-clause-refused
 returns-in_err-next-clause-refused c =
-    leaves (Unfit Part.Decl c.in_ok-rest.rest.now) _ c.from_residual-in_err-next.result c.from_residual-in_err-next.ensures.1 c.in_err-next.ensures.refused (λ rest u. grown_refused decls c.more.invariant (begun c.more.over.now one_decl (c.at.ensures.0 c.more-test.true)) (by.more_decl_2 c.in_ok-rest.ensures.ok.1 u))
+    leaves (Unfit Part.Decl c.in-Some.rest.now) _ c.from_residual-in_err-next.result c.from_residual-in_err-next.ensures.1 c.in_err-next.ensures.refused (λ rest u. grown_refused decls c.more.invariant (begun c.more.over.now one_decl (is_first c.in-Some.ensures.read.1)) (by.more_decl_2 c.in-Some.ensures.read.1 u))
 
 pub more-preserved : goal.more-preserved
-more-preserved c = grown_more decls c.more.invariant c.in_ok-push.ensures (begun c.more.over.now one_decl (c.at.ensures.0 c.more-test.true)) (by.more_decl c.in_ok-rest.ensures.ok.1 c.in_ok-next.ensures.ok) (omega (arith, c.in_ok-next.ensures.shorter, c.in_ok-rest.ensures.shorter))
+more-preserved c = grown_more decls c.more.invariant c.in_ok-push.ensures (begun c.more.over.now one_decl (is_first c.in-Some.ensures.read.1)) (by.more_decl c.in-Some.ensures.read.1 c.in_ok-next.ensures.ok) (omega (arith, c.in_ok-next.ensures.shorter, c.in-Some.ensures.shorter))
 
 pub returns-clause-ok : goal.returns-clause-ok
-returns-clause-ok c = grown_ended decls c.more.invariant (unbegun c.more.over.now one_decl (fails c.at.ensures.1 c.more-test.false))
+returns-clause-ok c = grown_ended decls c.more.invariant (unbegun c.more.over.now one_decl c.in_default.ensures.read)

@@ -9,15 +9,17 @@ use Rattle.lucy_token.specs.declared.mark.Mark.TheVariants as mark
 use Rattle.lucy_token.specs.declared.token.Kind.TheVariants as kind
 use Rattle.lucy_grammar.specs.Symbols.{Part}
 use Rattle.lucy_grammar.specs.Meanings.{word_of, two, three, args_of}
-use Rattle.lucy_grammar.specs.Reading.{Unfit, IsOther, UnfitOptional}
+use Rattle.lucy_grammar.specs.Reading.{Refuses, Unfit, IsOther, UnfitOptional}
 use Rattle.lucy_grammar.proofs.Steps.{as_value}
 use Rattle.lucy_grammar.proofs.Growing.{grown_first, grown_more, grown_bad, grown_refused, grown_ended, samps, args}
 use Rattle.lucy_grammar.proofs.LeafProductions.{begun, unbegun, one_expr}
 use Rattle.lucy_grammar.proofs.Productions as by
 use Rattle.lucy_syntax.specs.Levels.{UnfitAt}
+use Rattle.lucy_syntax.specs.Refusals.{behind_test, behind_base}
 use Rattle.lucy_syntax.specs.Views.{all_trees}
 use Rattle.lucy_syntax.proofs.Leaving.{leaves, hands_on}
-use Rattle.lucy_syntax.proofs.Facts.{fails, put_trees}
+use Rattle.lucy_syntax.proofs.Parts as parts
+use Rattle.lucy_syntax.proofs.Facts.{fails, is_first, put_trees}
 use Rattle.lucy_syntax.proofs.Climbing.{from_samp, climb_first, climb_up, climb_more, climb_bad, climb_end}
 use Rattle.lucy_syntax.proofs.descent.+descent.Goals as goal
 
@@ -31,24 +33,31 @@ pub choice-returns-in_err-test-clause-refused : goal.choice-returns-in_err-test-
 choice-returns-in_err-test-clause-refused t c =
     leaves (Unfit Part.Expr c.in_ok-span.ts.now) _ c.from_residual-in_err-test.result c.from_residual-in_err-test.ensures.1 c.in_err-test.ensures.refused (λ rest u. by.choice_2 c.in_ok-span.ensures.ok.1 u)
 
-pub choice-returns-in_err-ts-clause-refused : goal.choice-returns-in_err-ts-clause-refused
-choice-returns-in_err-ts-clause-refused t c =
-    leaves (IsOther c.in_ok-test.ts.now (kind.Mark mark.Then)) _ c.from_residual-in_err-ts.result c.from_residual-in_err-ts.ensures.1 c.in_err-ts.ensures.refused (λ rest u. by.choice_3 c.in_ok-span.ensures.ok.1 c.in_ok-test.ensures.ok u)
-
 pub choice-returns-in_err-then-clause-refused : goal.choice-returns-in_err-then-clause-refused
 choice-returns-in_err-then-clause-refused t c =
-    leaves (Unfit Part.Expr c.in_ok-ts.ts.now) _ c.from_residual-in_err-then.result c.from_residual-in_err-then.ensures.1 c.in_err-then.ensures.refused (λ rest u. by.choice_4 c.in_ok-span.ensures.ok.1 c.in_ok-test.ensures.ok c.in_ok-ts.ensures.ok.1 u)
-
-pub choice-returns-in_err-ts-2-clause-refused : goal.choice-returns-in_err-ts-2-clause-refused
-choice-returns-in_err-ts-2-clause-refused t c =
-    leaves (IsOther c.in_ok-then.ts.now (kind.Mark mark.Else)) _ c.from_residual-in_err-ts-2.result c.from_residual-in_err-ts-2.ensures.1 c.in_err-ts-2.ensures.refused (λ rest u. by.choice_5 c.in_ok-span.ensures.ok.1 c.in_ok-test.ensures.ok c.in_ok-ts.ensures.ok.1 c.in_ok-then.ensures.ok u)
-
-pub choice-returns-in_err-other-clause-refused : goal.choice-returns-in_err-other-clause-refused
-choice-returns-in_err-other-clause-refused t c =
-    leaves (Unfit Part.Expr c.in_ok-ts-2.ts.now) _ c.from_residual-in_err-other.result c.from_residual-in_err-other.ensures.1 c.in_err-other.ensures.refused (λ rest u. by.choice_6 c.in_ok-span.ensures.ok.1 c.in_ok-test.ensures.ok c.in_ok-ts.ensures.ok.1 c.in_ok-then.ensures.ok c.in_ok-ts-2.ensures.ok.1 u)
+    leaves (Refuses Part.Expr behind_test c.in_ok-test.ts.now) _ c.from_residual-in_err-then.result c.from_residual-in_err-then.ensures.1 c.in_err-then.ensures.refused (λ rest u. parts.choice_no c.in_ok-span.ensures.ok.1 c.in_ok-test.ensures.ok u)
 
 pub choice-returns-clause-ok : goal.choice-returns-clause-ok
-choice-returns-clause-ok t c = as_value (c.in_ok-choice.ensures ∙ ap (operator op.If (three (tree_of c.in_ok-test.test.value) (tree_of c.in_ok-then.then.value) (tree_of c.in_ok-other.other.value))) c.in_ok-span.ensures.ok.2) (by.choice c.in_ok-span.ensures.ok.1 c.in_ok-test.ensures.ok c.in_ok-ts.ensures.ok.1 c.in_ok-then.ensures.ok c.in_ok-ts-2.ensures.ok.1 c.in_ok-other.ensures.ok)
+choice-returns-clause-ok t c = as_value (c.in_ok-choice.ensures ∙ ap (operator op.If (three (tree_of c.in_ok-test.test.value) (tree_of c.in_ok-then.then.value) (tree_of c.in_ok-then.other.value))) c.in_ok-span.ensures.ok.2) (parts.choice c.in_ok-span.ensures.ok.1 c.in_ok-test.ensures.ok c.in_ok-then.ensures.ok.2)
+
+pub branches-returns-in_err-ts-clause-refused : goal.branches-returns-in_err-ts-clause-refused
+branches-returns-in_err-ts-clause-refused t c =
+    leaves (IsOther c.args.ts.now (kind.Mark mark.Then)) _ c.from_residual.result c.from_residual.ensures.1 c.in_err-ts.ensures.refused (λ rest u. parts.behind_test_1 u)
+
+pub branches-returns-in_err-then-clause-refused : goal.branches-returns-in_err-then-clause-refused
+branches-returns-in_err-then-clause-refused t c =
+    leaves (Unfit Part.Expr c.in_ok-ts.ts.now) _ c.from_residual-in_err-then.result c.from_residual-in_err-then.ensures.1 c.in_err-then.ensures.refused (λ rest u. parts.behind_test_2 c.in_ok-ts.ensures.ok.1 u)
+
+pub branches-returns-in_err-ts-2-clause-refused : goal.branches-returns-in_err-ts-2-clause-refused
+branches-returns-in_err-ts-2-clause-refused t c =
+    leaves (IsOther c.in_ok-then.ts.now (kind.Mark mark.Else)) _ c.from_residual-in_err-ts-2.result c.from_residual-in_err-ts-2.ensures.1 c.in_err-ts-2.ensures.refused (λ rest u. parts.behind_test_3 c.in_ok-ts.ensures.ok.1 c.in_ok-then.ensures.ok u)
+
+pub branches-returns-in_err-other-clause-refused : goal.branches-returns-in_err-other-clause-refused
+branches-returns-in_err-other-clause-refused t c =
+    leaves (Unfit Part.Expr c.in_ok-ts-2.ts.now) _ c.from_residual-in_err-other.result c.from_residual-in_err-other.ensures.1 c.in_err-other.ensures.refused (λ rest u. parts.behind_test_4 c.in_ok-ts.ensures.ok.1 c.in_ok-then.ensures.ok c.in_ok-ts-2.ensures.ok.1 u)
+
+pub branches-returns-clause-ok : goal.branches-returns-clause-ok
+branches-returns-clause-ok t c = (c.in_ok-ts.ensures.ok.0, c.in_ok-ts-2.ensures.ok.0, parts.behind_test_is c.in_ok-ts.ensures.ok.1 c.in_ok-then.ensures.ok c.in_ok-ts-2.ensures.ok.1 c.in_ok-other.ensures.ok)
 
 pub operation-returns-in_err-left-clause-refused : goal.operation-returns-in_err-left-clause-refused
 operation-returns-in_err-left-clause-refused t c =
@@ -128,13 +137,13 @@ literal-returns-in_err-lit-clause-refused t c =
 
 pub literal-returns-in_err-operand-clause-refused : goal.literal-returns-in_err-operand-clause-refused
 literal-returns-in_err-operand-clause-refused t c =
-    leaves (Unfit Part.Pre c.in_ok-fby.ts.now) _ c.from_residual-in_err-operand.result c.from_residual-in_err-operand.ensures.1 c.in_err-operand.ensures.refused (λ rest u. by.literal_follows_4 c.requires c.in_ok-lit.ensures.ok c.in_ok-fby.ensures.ok.1 u)
+    leaves (Unfit Part.Pre c.in-Some.ts.now) _ c.from_residual-in_err-operand.result c.from_residual-in_err-operand.ensures.1 c.in_err-operand.ensures.refused (λ rest u. by.literal_follows_4 c.requires c.in_ok-lit.ensures.ok c.in-Some.ensures.read.1 u)
 
-pub literal-returns-then-at-clause-ok : goal.literal-returns-then-at-clause-ok
-literal-returns-then-at-clause-ok t c = as_value (c.in_ok-followed.ensures ∙ ap (followed c.in_ok-lit.lit (tree_of c.in_ok-operand.operand.value)) c.in_ok-fby.ensures.ok.2) (by.literal_follows c.requires c.in_ok-lit.ensures.ok c.in_ok-fby.ensures.ok.1 c.in_ok-operand.ensures.ok)
+pub literal-returns-in-Some-clause-ok : goal.literal-returns-in-Some-clause-ok
+literal-returns-in-Some-clause-ok t c = as_value (c.in_ok-followed.ensures ∙ ap (followed c.in_ok-lit.lit (tree_of c.in_ok-operand.operand.value)) c.in-Some.ensures.read.2) (by.literal_follows c.requires c.in_ok-lit.ensures.ok c.in-Some.ensures.read.1 c.in_ok-operand.ensures.ok)
 
 pub literal-returns-clause-ok : goal.literal-returns-clause-ok
-literal-returns-clause-ok t c = as_value c.in_ok-literal.ensures (by.literal_alone c.requires c.in_ok-lit.ensures.ok (fails c.at.ensures.1 c.if-at.false))
+literal-returns-clause-ok t c = as_value c.in_ok-literal.ensures (by.literal_alone c.requires c.in_ok-lit.ensures.ok c.in_default.ensures.read)
 
 pub atom-returns-in_err-ts-clause-refused : goal.atom-returns-in_err-ts-clause-refused
 atom-returns-in_err-ts-clause-refused t c =
@@ -164,28 +173,35 @@ pub hosted-returns-in_err-name-clause-refused : goal.hosted-returns-in_err-name-
 hosted-returns-in_err-name-clause-refused t c =
     leaves (IsOther c.in_ok-ts.ts.now kind.Name) _ c.from_residual-in_err-name.result c.from_residual-in_err-name.ensures.1 c.in_err-name.ensures.refused (λ rest u. by.hosted_2 c.in_ok-ts.ensures.ok.1 u)
 
-pub hosted-returns-in_err-ts-2-clause-refused : goal.hosted-returns-in_err-ts-2-clause-refused
-hosted-returns-in_err-ts-2-clause-refused t c =
-    leaves (IsOther c.in_ok-name.ts.now (kind.Mark mark.Open)) _ c.from_residual-in_err-ts-2.result c.from_residual-in_err-ts-2.ensures.1 c.in_err-ts-2.ensures.refused (λ rest u. by.hosted_3 c.in_ok-ts.ensures.ok.1 c.in_ok-name.ensures.ok.1 (by.pair_1 u))
-
 pub hosted-returns-in_err-first-clause-refused : goal.hosted-returns-in_err-first-clause-refused
 hosted-returns-in_err-first-clause-refused t c =
-    leaves (Unfit Part.Expr c.in_ok-ts-2.ts.now) _ c.from_residual-in_err-first.result c.from_residual-in_err-first.ensures.1 c.in_err-first.ensures.refused (λ rest u. by.hosted_3 c.in_ok-ts.ensures.ok.1 c.in_ok-name.ensures.ok.1 (by.pair_2 c.in_ok-ts-2.ensures.ok.1 u))
-
-pub hosted-returns-in_err-ts-3-clause-refused : goal.hosted-returns-in_err-ts-3-clause-refused
-hosted-returns-in_err-ts-3-clause-refused t c =
-    leaves (IsOther c.in_ok-first.ts.now (kind.Mark mark.Comma)) _ c.from_residual-in_err-ts-3.result c.from_residual-in_err-ts-3.ensures.1 c.in_err-ts-3.ensures.refused (λ rest u. by.hosted_3 c.in_ok-ts.ensures.ok.1 c.in_ok-name.ensures.ok.1 (by.pair_3 c.in_ok-ts-2.ensures.ok.1 c.in_ok-first.ensures.ok u))
-
-pub hosted-returns-in_err-second-clause-refused : goal.hosted-returns-in_err-second-clause-refused
-hosted-returns-in_err-second-clause-refused t c =
-    leaves (Unfit Part.Expr c.in_ok-ts-3.ts.now) _ c.from_residual-in_err-second.result c.from_residual-in_err-second.ensures.1 c.in_err-second.ensures.refused (λ rest u. by.hosted_3 c.in_ok-ts.ensures.ok.1 c.in_ok-name.ensures.ok.1 (by.pair_4 c.in_ok-ts-2.ensures.ok.1 c.in_ok-first.ensures.ok c.in_ok-ts-3.ensures.ok.1 u))
-
-pub hosted-returns-in_err-ts-4-clause-refused : goal.hosted-returns-in_err-ts-4-clause-refused
-hosted-returns-in_err-ts-4-clause-refused t c =
-    leaves (IsOther c.in_ok-second.ts.now (kind.Mark mark.Close)) _ c.from_residual-in_err-ts-4.result c.from_residual-in_err-ts-4.ensures.1 c.in_err-ts-4.ensures.refused (λ rest u. by.hosted_3 c.in_ok-ts.ensures.ok.1 c.in_ok-name.ensures.ok.1 (by.pair_5 c.in_ok-ts-2.ensures.ok.1 c.in_ok-first.ensures.ok c.in_ok-ts-3.ensures.ok.1 c.in_ok-second.ensures.ok u))
+    leaves (Unfit Part.Pair c.in_ok-name.ts.now) _ c.from_residual-in_err-first.result c.from_residual-in_err-first.ensures.1 c.in_err-first.ensures.refused (λ rest u. by.hosted_3 c.in_ok-ts.ensures.ok.1 c.in_ok-name.ensures.ok.1 u)
 
 pub hosted-returns-clause-ok : goal.hosted-returns-clause-ok
-hosted-returns-clause-ok t c = as_value (c.in_ok-hosted.ensures ∙ ap (λ (x : name.Name). host x (two (tree_of c.in_ok-first.first.value) (tree_of c.in_ok-second.second.value))) c.in_ok-name.ensures.ok.2) (by.hosted c.in_ok-ts.ensures.ok.1 c.in_ok-name.ensures.ok.1 (by.pair c.in_ok-ts-2.ensures.ok.1 c.in_ok-first.ensures.ok c.in_ok-ts-3.ensures.ok.1 c.in_ok-second.ensures.ok c.in_ok-ts-4.ensures.ok.1))
+hosted-returns-clause-ok t c = as_value (c.in_ok-hosted.ensures ∙ ap (λ (x : name.Name). host x (two (tree_of c.in_ok-first.first.value) (tree_of c.in_ok-first.second.value))) c.in_ok-name.ensures.ok.2) (by.hosted c.in_ok-ts.ensures.ok.1 c.in_ok-name.ensures.ok.1 c.in_ok-first.ensures.ok)
+
+pub pair-returns-in_err-ts-clause-refused : goal.pair-returns-in_err-ts-clause-refused
+pair-returns-in_err-ts-clause-refused t c =
+    leaves (IsOther c.args.ts.now (kind.Mark mark.Open)) _ c.from_residual.result c.from_residual.ensures.1 c.in_err-ts.ensures.refused (λ rest u. by.pair_1 u)
+
+pub pair-returns-in_err-first-clause-refused : goal.pair-returns-in_err-first-clause-refused
+pair-returns-in_err-first-clause-refused t c =
+    leaves (Unfit Part.Expr c.in_ok-ts.ts.now) _ c.from_residual-in_err-first.result c.from_residual-in_err-first.ensures.1 c.in_err-first.ensures.refused (λ rest u. by.pair_2 c.in_ok-ts.ensures.ok.1 u)
+
+pub pair-returns-in_err-ts-2-clause-refused : goal.pair-returns-in_err-ts-2-clause-refused
+pair-returns-in_err-ts-2-clause-refused t c =
+    leaves (IsOther c.in_ok-first.ts.now (kind.Mark mark.Comma)) _ c.from_residual-in_err-ts-2.result c.from_residual-in_err-ts-2.ensures.1 c.in_err-ts-2.ensures.refused (λ rest u. by.pair_3 c.in_ok-ts.ensures.ok.1 c.in_ok-first.ensures.ok u)
+
+pub pair-returns-in_err-second-clause-refused : goal.pair-returns-in_err-second-clause-refused
+pair-returns-in_err-second-clause-refused t c =
+    leaves (Unfit Part.Expr c.in_ok-ts-2.ts.now) _ c.from_residual-in_err-second.result c.from_residual-in_err-second.ensures.1 c.in_err-second.ensures.refused (λ rest u. by.pair_4 c.in_ok-ts.ensures.ok.1 c.in_ok-first.ensures.ok c.in_ok-ts-2.ensures.ok.1 u)
+
+pub pair-returns-in_err-ts-3-clause-refused : goal.pair-returns-in_err-ts-3-clause-refused
+pair-returns-in_err-ts-3-clause-refused t c =
+    leaves (IsOther c.in_ok-second.ts.now (kind.Mark mark.Close)) _ c.from_residual-in_err-ts-3.result c.from_residual-in_err-ts-3.ensures.1 c.in_err-ts-3.ensures.refused (λ rest u. by.pair_5 c.in_ok-ts.ensures.ok.1 c.in_ok-first.ensures.ok c.in_ok-ts-2.ensures.ok.1 c.in_ok-second.ensures.ok u)
+
+pub pair-returns-clause-ok : goal.pair-returns-clause-ok
+pair-returns-clause-ok t c = by.pair c.in_ok-ts.ensures.ok.1 c.in_ok-first.ensures.ok c.in_ok-ts-2.ensures.ok.1 c.in_ok-second.ensures.ok c.in_ok-ts-3.ensures.ok.1
 
 pub small-returns-in_err-lit-clause-refused : goal.small-returns-in_err-lit-clause-refused
 small-returns-in_err-lit-clause-refused t c =
@@ -216,20 +232,27 @@ pub applied-returns-in_err-base-clause-refused : goal.applied-returns-in_err-bas
 applied-returns-in_err-base-clause-refused t c =
     leaves (UnfitOptional Part.Base c.args.ts.now) _ c.from_residual.result c.from_residual.ensures.1 c.in_err-base.ensures.refused (λ rest u. by.applied_1 u)
 
-pub applied-returns-in_err-ts-clause-refused : goal.applied-returns-in_err-ts-clause-refused
-applied-returns-in_err-ts-clause-refused t c =
-    leaves (IsOther c.in_ok-base.ts.now (kind.Mark mark.Open)) _ c.from_residual-in_err-ts.result c.from_residual-in_err-ts.ensures.1 c.in_err-ts.ensures.refused (λ rest u. by.applied_2 _ c.in_ok-base.ensures.ok u)
-
 pub applied-returns-in_err-args-clause-refused : goal.applied-returns-in_err-args-clause-refused
 applied-returns-in_err-args-clause-refused t c =
-    leaves (UnfitOptional Part.Args c.in_ok-ts.ts.now) _ c.from_residual-in_err-args.result c.from_residual-in_err-args.ensures.1 c.in_err-args.ensures.refused (λ rest u. by.applied_3 _ c.in_ok-base.ensures.ok c.in_ok-ts.ensures.ok.1 u)
-
-pub applied-returns-in_err-ts-2-clause-refused : goal.applied-returns-in_err-ts-2-clause-refused
-applied-returns-in_err-ts-2-clause-refused t c =
-    leaves (IsOther c.in_ok-args.ts.now (kind.Mark mark.Close)) _ c.from_residual-in_err-ts-2.result c.from_residual-in_err-ts-2.ensures.1 c.in_err-ts-2.ensures.refused (λ rest u. by.applied_4 _ c.in_ok-args.ensures.ok.0 c.in_ok-base.ensures.ok c.in_ok-ts.ensures.ok.1 c.in_ok-args.ensures.ok.1 u)
+    leaves (Refuses Part.Applied behind_base c.in_ok-base.ts.now) _ c.from_residual-in_err-args.result c.from_residual-in_err-args.ensures.1 c.in_err-args.ensures.refused (λ rest u. parts.applied_no _ c.in_ok-base.ensures.ok u)
 
 pub applied-returns-clause-ok : goal.applied-returns-clause-ok
-applied-returns-clause-ok t c = ((c.in_ok-base.base, args_of c.in_ok-args.ensures.ok.0), by.applied _ c.in_ok-args.ensures.ok.0 c.in_ok-base.ensures.ok c.in_ok-ts.ensures.ok.1 c.in_ok-args.ensures.ok.1 c.in_ok-ts-2.ensures.ok.1, c.in_ok-called.ensures ∙ ap (call c.args.name c.in_ok-base.base) c.in_ok-args.ensures.ok.2)
+applied-returns-clause-ok t c = ((c.in_ok-base.base, args_of c.in_ok-args.ensures.ok.1), parts.applied _ c.in_ok-base.ensures.ok c.in_ok-args.ensures.ok.3, c.in_ok-called.ensures ∙ ap (call c.args.name c.in_ok-base.base) c.in_ok-args.ensures.ok.4)
+
+pub enclosed-returns-in_err-ts-clause-refused : goal.enclosed-returns-in_err-ts-clause-refused
+enclosed-returns-in_err-ts-clause-refused t c =
+    leaves (IsOther c.args.ts.now (kind.Mark mark.Open)) _ c.from_residual.result c.from_residual.ensures.1 c.in_err-ts.ensures.refused (λ rest u. parts.behind_base_1 u)
+
+pub enclosed-returns-in_err-args-clause-refused : goal.enclosed-returns-in_err-args-clause-refused
+enclosed-returns-in_err-args-clause-refused t c =
+    leaves (UnfitOptional Part.Args c.in_ok-ts.ts.now) _ c.from_residual-in_err-args.result c.from_residual-in_err-args.ensures.1 c.in_err-args.ensures.refused (λ rest u. parts.behind_base_2 c.in_ok-ts.ensures.ok.1 u)
+
+pub enclosed-returns-in_err-ts-2-clause-refused : goal.enclosed-returns-in_err-ts-2-clause-refused
+enclosed-returns-in_err-ts-2-clause-refused t c =
+    leaves (IsOther c.in_ok-args.ts.now (kind.Mark mark.Close)) _ c.from_residual-in_err-ts-2.result c.from_residual-in_err-ts-2.ensures.1 c.in_err-ts-2.ensures.refused (λ rest u. parts.behind_base_3 c.in_ok-args.ensures.ok.0 c.in_ok-ts.ensures.ok.1 c.in_ok-args.ensures.ok.1 u)
+
+pub enclosed-returns-clause-ok : goal.enclosed-returns-clause-ok
+enclosed-returns-clause-ok t c = (c.in_ok-ts.ensures.ok.0, c.in_ok-args.ensures.ok.0, c.in_ok-ts-2.ensures.ok.0, parts.behind_base_is c.in_ok-args.ensures.ok.0 c.in_ok-ts.ensures.ok.1 c.in_ok-args.ensures.ok.1 c.in_ok-ts-2.ensures.ok.1, c.in_ok-args.ensures.ok.2)
 
 pub given-returns-then-at_expr-clause-ok : goal.given-returns-then-at_expr-clause-ok
 given-returns-then-at_expr-clause-ok t c = IfOk-weaker c.args-then-at_expr.result _ _ (λ p r. (Some (all_trees p.0.items), (c.at_expr.ensures.0 c.if-at_expr.true, r), refl)) c.args-then-at_expr.ensures.ok
@@ -249,10 +272,10 @@ args-more-init t c = grown_first args (ap all_trees c.in_ok-list.ensures) c.in_o
 
 pub args-returns-in_err-next-clause-refused : goal.args-returns-in_err-next-clause-refused
 args-returns-in_err-next-clause-refused t c =
-    leaves (Unfit Part.Expr c.in_ok-rest.rest.now) _ c.from_residual-in_err-next.result c.from_residual-in_err-next.ensures.1 c.in_err-next.ensures.refused (λ rest u. grown_refused args c.more.invariant (begun c.more.over.now one_expr (c.at.ensures.0 c.more-test.true)) (by.more_expr_2 c.in_ok-rest.ensures.ok.1 u))
+    leaves (Unfit Part.Expr c.in-Some.rest.now) _ c.from_residual-in_err-next.result c.from_residual-in_err-next.ensures.1 c.in_err-next.ensures.refused (λ rest u. grown_refused args c.more.invariant (begun c.more.over.now one_expr (is_first c.in-Some.ensures.read.1)) (by.more_expr_2 c.in-Some.ensures.read.1 u))
 
 pub args-more-preserved : goal.args-more-preserved
-args-more-preserved t c = grown_more args c.more.invariant (put_trees c.more.list.items c.in_ok-next.next.value c.in_ok-push_boxed.ensures) (begun c.more.over.now one_expr (c.at.ensures.0 c.more-test.true)) (by.more_expr c.in_ok-rest.ensures.ok.1 c.in_ok-next.ensures.ok) (omega (arith, c.in_ok-next.ensures.shorter, c.in_ok-rest.ensures.shorter))
+args-more-preserved t c = grown_more args c.more.invariant (put_trees c.more.list.items c.in_ok-next.next.value c.in_ok-push_boxed.ensures) (begun c.more.over.now one_expr (is_first c.in-Some.ensures.read.1)) (by.more_expr c.in-Some.ensures.read.1 c.in_ok-next.ensures.ok) (omega (arith, c.in_ok-next.ensures.shorter, c.in-Some.ensures.shorter))
 
 pub args-returns-clause-ok : goal.args-returns-clause-ok
-args-returns-clause-ok t c = grown_ended args c.more.invariant (unbegun c.more.over.now one_expr (fails c.at.ensures.1 c.more-test.false))
+args-returns-clause-ok t c = grown_ended args c.more.invariant (unbegun c.more.over.now one_expr c.in_default.ensures.read)

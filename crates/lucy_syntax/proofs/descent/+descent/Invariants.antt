@@ -20,6 +20,9 @@ decreases-whole l = 32 * length l.ts.now + 18
 abbrev pub decreases-choice : goal.decreases-choice
 decreases-choice l = 32 * length l.ts.now + 17
 
+abbrev pub decreases-branches : goal.decreases-branches
+decreases-branches l = 32 * length l.ts.now + 19
+
 abbrev pub decreases-operation : goal.decreases-operation
 decreases-operation l = 32 * length l.ts.now + 16
 
@@ -50,8 +53,14 @@ decreases-named l = 32 * length l.ts.now + 12
 abbrev pub decreases-hosted : goal.decreases-hosted
 decreases-hosted l = 32 * length l.ts.now + 12
 
+abbrev pub decreases-pair : goal.decreases-pair
+decreases-pair l = 32 * length l.ts.now + 19
+
 abbrev pub decreases-applied : goal.decreases-applied
 decreases-applied l = 32 * length l.ts.now + 11
+
+abbrev pub decreases-enclosed : goal.decreases-enclosed
+decreases-enclosed l = 32 * length l.ts.now + 10
 
 abbrev pub decreases-small : goal.decreases-small
 decreases-small l = 32 * length l.ts.now + 10
