@@ -215,6 +215,14 @@ pub plain_results : (k : Known) (results : ℕ) (f : Phrase) (d e : Draft) → I
 plain_results k results (name n) d e p draws = absurd p
 plain_results k results (headed h span fs) d e p draws = any_results results span fs k h d e p draws
 
+pub plain_past : (at : Next) (results : ℕ) (f : Phrase) → IsPlain f → IsSmall (past at results f) → IsSmall (past at 1 f)
+plain_past at results (name n) p small = absurd p
+plain_past at results (headed h span fs) p small = any_small results span fs at h p small
+
+pub plain_number : (k : Known) (at : Next) (f : Phrase) → IsPlain f → number k at f ≡ at.place
+plain_number k at (name n) p = absurd p
+plain_number k at (headed h span fs) p = refl
+
 pub plain_small : (k : Known) (f : Phrase) (d0 d1 : Draft) → IsPlain f → d1.places.items ≡ d0.places.items ++ unnamed kind.Param ∷ [] → d1.calls ≡ d0.calls →
     d1.buffers ≡ d0.buffers + buffers_of f → IsSmall (past (next_of k d0) 1 f) → IsSmall (past_all (next_of k d1) (phrase_operands f))
 plain_small k (name n) d0 d1 p places calls_1 buffers_1 small = absurd p

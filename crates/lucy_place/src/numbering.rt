@@ -43,13 +43,6 @@ pub fn expr_places(
 {
     match expr {
         Expr::Var { name } => Ok(stream_place(names, name)),
-        Expr::Lit { .. } => form_places(alloc, names, expr, draft),
-        Expr::Op { .. } => form_places(alloc, names, expr, draft),
-        Expr::Host { .. } => form_places(alloc, names, expr, draft),
-        Expr::When { .. } => form_places(alloc, names, expr, draft),
-        Expr::Merge { .. } => form_places(alloc, names, expr, draft),
-        Expr::Fby { .. } => form_places(alloc, names, expr, draft),
-        Expr::Buffer { .. } => form_places(alloc, names, expr, draft),
         Expr::Call { node, at, args } => call_places(
             alloc,
             names,
@@ -59,6 +52,7 @@ pub fn expr_places(
             results,
             draft,
         ),
+        _ => form_places(alloc, names, expr, draft),
     }
 }
 

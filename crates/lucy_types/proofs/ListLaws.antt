@@ -1,7 +1,8 @@
 -- Elements of lists by their numbers.
-use Rattle.std.proofs.Common.{ℕ, zero, suc, ◌+◌, ◌≡◌, ◌≤◌, ◌<◌, List, [], ◌∷◌, ◌++◌, Some, None, length, take, refl, ap, sym, ◌∙◌, inl, inr, arith}
+use Rattle.std.proofs.Common.{ℕ, zero, suc, ◌+◌, ◌≡◌, ◌≤◌, ◌<◌, List, [], ◌∷◌, ◌++◌, Some, None, length, map, take, get_or, refl, ap, sym, ◌∙◌, inl, inr, arith, append_assoc}
 use Rattle.std.specs.Prelude.{slice_get, ◌⊎◌}
 use Rattle.std.specs.List.{Contains}
+use Rattle.std.proofs.lemmas.List.{take_more, map-append}
 use Rattle.std.proofs.lemmas.Option.{slice_get_within, slice_get-get_or, get_or_from_slice_get, same_Some}
 use Rattle.lucy_place.specs.Proper.{at_one}
 
@@ -102,3 +103,11 @@ contains_cons y xs x c = cons_at y xs x (at_contains (y ∷ xs) x c).0 (at_conta
 
 pub contains_none : {A : Type 0} (x : A) → Contains [] x → ⊥
 contains_none x c = none_some x (at_contains [] x c).1
+
+-- what the elements up to one give, behind other elements
+pub mapped_next : {A B : Type 0} (f : A → B) (start old new : List B) (xs : List A) (i : ℕ) (d : A) → i < length xs → new ≡ old ++ f (get_or xs i d) ∷ [] →
+    old ≡ start ++ map f (take i xs) → new ≡ start ++ map f (take (i + 1) xs)
+mapped_next f start old new xs i d h put before =
+    let x = get_or xs i d in
+    put ∙ ap (λ l. l ++ f x ∷ []) before ∙ append_assoc start (map f (take i xs)) (f x ∷ [])
+    ∙ ap (λ l. start ++ l) (sym (ap (map f) (take_more xs i d h) ∙ map-append f (take i xs) (x ∷ [])))

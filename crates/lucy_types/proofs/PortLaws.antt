@@ -95,7 +95,7 @@ joined_complete tys Joined ports heads places j h a m (Alike p q) c =
 
 -- the ports of a proper call
 
-place_there : (n : ℕ) (ps : List ℕ) (j p : ℕ) → ArePlacesOf n ps → slice_get ps j ≡ Some p → (1 ≤ p) × (p ≤ n)
+pub place_there : (n : ℕ) (ps : List ℕ) (j p : ℕ) → ArePlacesOf n ps → slice_get ps j ≡ Some p → (1 ≤ p) × (p ≤ n)
 place_there n [] j p a e = absurd (none_some p e)
 place_there n (q ∷ ps) zero p a e = subst (λ z. (1 ≤ z) × (z ≤ n)) (same_Some q p e) a.0
 place_there n (q ∷ ps) (suc j) p a e = place_there n ps j p a.1 e

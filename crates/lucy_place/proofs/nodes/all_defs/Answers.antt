@@ -6,6 +6,7 @@ use Rattle.lucy_place.specs.Nodes.{past_def, past_defs}
 use Rattle.lucy_place.specs.Drafts.{next_of, IsSmall}
 use Rattle.lucy_place.specs.Views.{known_of}
 use Rattle.lucy_place.proofs.ListLaws.{drop_next}
+use Rattle.lucy_place.proofs.NodeLaws.{DefsDrawn, defs_start, defs_step}
 use Rattle.lucy_place.proofs.RoomLaws.{small_before_defs, later_names, left_names}
 use Rattle.lucy_place.proofs.ShapeLaws.{def_shaped_at}
 use Rattle.lucy_place.proofs.nodes.all_defs.Goals as goal
@@ -29,3 +30,17 @@ def_places-requires-clause-room c =
 
 pub def_places-requires-clause-shaped : goal.def_places-requires-clause-shaped
 def_places-requires-clause-shaped c = (def_shaped_at c.args.defs.now c.each.def-index c.def-item.result (omega arith) c.def-item.is c.requires.shaped).right
+
+pub each-init : goal.each-init
+each-init c = defs_start (known_of c.args.names.now) c.args.named.now.items c.args.draft.now (map def_tree c.args.defs.now)
+
+pub each-preserved : goal.each-preserved
+each-preserved c =
+    let k : Known = known_of c.args.names.now in
+    let d : DefTree = def_tree c.def-item.result in
+    let rest : List DefTree = map def_tree (drop (c.each.def-index + 1) c.args.defs.now) in
+    let all : List DefTree = map def_tree c.args.defs.now in
+    let e : map def_tree (drop c.each.def-index c.args.defs.now) ≡ d ∷ rest = ap (map def_tree) (drop_next c.args.defs.now c.each.def-index c.def-item.result (omega arith) c.def-item.is) in
+    let before = subst (λ ds. DefsDrawn k c.each.named.items c.each.draft ds c.args.named.now.items c.args.draft.now all) e c.each.invariant in
+    defs_step k c.each.named.items c.def_places.new.named.items c.each.draft c.def_places.new.draft d rest c.args.named.now.items c.args.draft.now all before
+    c.in_ok-def_places.ensures.draws c.in_ok-def_places.ensures.named

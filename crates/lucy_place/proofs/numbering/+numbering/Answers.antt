@@ -1,19 +1,16 @@
 use Rattle.std.proofs.Common.{◌≡◌, ◌+◌, ◌∷◌, [], ℕ, drop, rules, refl, ap, sym, ◌∙◌, subst, arith}
 use denote.Param.Weighed.{at_most}
-use Rattle.std.proofs.lemmas.Result.{on_ok_weaker}
+use Rattle.std.proofs.lemmas.Result.{on_ok_weaker, IfOk-weaker}
 use Rattle.lucy_place.specs.Phrases as phrases
 use Rattle.lucy_place.specs.Phrases.{Phrase, Phrases, headed, none, and, expr_phrase, expr_phrases}
-use Rattle.lucy_place.specs.Numbering.{Known, past, past_all}
-use Rattle.lucy_place.specs.Drafts.{next_of, IsSmall, IsPlain, DrawsAll, phrase_operands, site_of}
+use Rattle.lucy_place.specs.Numbering.{Next, Known, number, past, past_all}
+use Rattle.lucy_place.specs.Drafts.{next_of, IsSmall, DrawsAll, phrase_operands, site_of}
 use Rattle.lucy_place.specs.Views.{known_of}
 use Rattle.lucy_place.proofs.ListLaws.{drop_next}
 use Rattle.lucy_place.proofs.ShapeLaws.{shaped_at}
-use Rattle.lucy_place.proofs.PhraseLaws.{phrase_literal, phrase_sampled, phrase_merged, phrase_followed, phrase_buffered, phrase_operated, phrase_hosted}
-use Rattle.lucy_place.proofs.DraftLaws.{small_before, small_inside, drawn_start, drawn_step, drawn_all, next_called, called, plain_results, plain_small, plain_drawn}
+use Rattle.lucy_place.proofs.PhraseLaws.{phrase_merged, plain_else}
+use Rattle.lucy_place.proofs.DraftLaws.{AllDrawn, small_before, small_inside, drawn_start, drawn_step, drawn_all, next_called, called, plain_results, plain_past, plain_number, plain_small, plain_drawn}
 use Rattle.lucy_place.proofs.numbering.+numbering.Goals as goal
-
-plain : {f g : Phrase} → g ≡ f → IsPlain f → IsPlain g
-plain e p = subst IsPlain (sym e) p
 
 pub all_places-expr_places-requires : goal.all_places-expr_places-requires
 all_places-expr_places-requires t c = (search (rules, at_most), (c.requires.few, (c.requires.nodes, (shaped_at c.args.list.now c.each.expr-index c.expr-item.result (omega arith) c.expr-item.is c.requires.shaped, room))))
@@ -32,6 +29,24 @@ all_places-expr_places-requires t c = (search (rules, at_most), (c.requires.few,
 
     room : IsSmall (past (next_of k c.each.draft) 1 f)
     room = small_before (past (next_of k c.each.draft) 1 f) rest (subst IsSmall (sym c.each.invariant.next ∙ ap (past_all (next_of k c.each.draft)) e) c.requires.room)
+
+pub all_places-each-init : goal.all_places-each-init
+all_places-each-init t c =
+    let k : Known = known_of c.args.names.now in
+    let all : Phrases = expr_phrases c.args.list.now in
+    subst (λ l. AllDrawn k l c.args.draft.now all c.args.draft.now all) (sym c.new-found.ensures.items) (drawn_start k c.args.draft.now all)
+
+pub all_places-each-preserved : goal.all_places-each-preserved
+all_places-each-preserved t c =
+    let k : Known = known_of c.args.names.now in
+    let f : Phrase = expr_phrase c.expr-item.result in
+    let rest : Phrases = expr_phrases (drop (c.each.expr-index + 1) c.args.list.now) in
+    let all : Phrases = expr_phrases c.args.list.now in
+    let e : expr_phrases (drop c.each.expr-index c.args.list.now) ≡ and f rest =
+    ap expr_phrases (drop_next c.args.list.now c.each.expr-index c.expr-item.result (omega arith) c.expr-item.is) in
+    let before = subst (λ fs. AllDrawn k c.each.found.items c.each.draft fs c.args.draft.now all) e c.each.invariant in
+    drawn_step k c.each.found.items c.push.new.list.items c.each.draft c.expr_places.new.draft f rest c.args.draft.now all c.in_ok-number.number before
+    c.in_ok-number.ensures.draws c.in_ok-number.ensures.number c.in_ok-push.ensures.ok
 
 pub call_places-all_places-requires : goal.call_places-all_places-requires
 call_places-all_places-requires t c =
@@ -85,30 +100,21 @@ operand_places-returns-in_ok-word-in-Merge-clause-draws t c =
     ∙ ap (λ x. and a (and (expr_phrase x) none)) (sym c.deref-in-Merge-2.ensures) in
     subst (λ fs. DrawsAll k fs c.args.draft.now c.expr_places-in-Merge-2.new.draft) (sym e) drawn
 
-pub expr_places-returns-in-Lit-clause-draws : goal.expr_places-returns-in-Lit-clause-draws
-expr_places-returns-in-Lit-clause-draws t c =
-    on_ok_weaker c.form_places.result (plain_results (known_of c.args.names.now) c.args.results (expr_phrase c.args.expr.now) _ _ (plain (ap expr_phrase c.in-Lit.is ∙ phrase_literal _ _) tt)) c.form_places.ensures.draws
+pub expr_places-form_places-requires : goal.expr_places-form_places-requires
+expr_places-form_places-requires t c =
+    let p = plain_else c.args.expr.now c.in_default.not-Var c.in_default.not-Call in
+    let room = plain_past (next_of (known_of c.args.names.now) c.args.draft.now) c.args.results (expr_phrase c.args.expr.now) p c.requires.room in
+    (search rules, (c.requires.few, (c.requires.nodes, (p, (c.requires.shaped, room)))))
 
-pub expr_places-returns-in-Op-clause-draws : goal.expr_places-returns-in-Op-clause-draws
-expr_places-returns-in-Op-clause-draws t c =
-    on_ok_weaker c.form_places-in-Op.result (plain_results (known_of c.args.names.now) c.args.results (expr_phrase c.args.expr.now) _ _ (plain (ap expr_phrase c.in-Op.is ∙ phrase_operated _ _ _) tt)) c.form_places-in-Op.ensures.draws
+pub expr_places-returns-in_default-clause-draws : goal.expr_places-returns-in_default-clause-draws
+expr_places-returns-in_default-clause-draws t c =
+    let p = plain_else c.args.expr.now c.in_default.not-Var c.in_default.not-Call in
+    on_ok_weaker c.form_places.result (plain_results (known_of c.args.names.now) c.args.results (expr_phrase c.args.expr.now) c.args.draft.now c.form_places.new.draft p) c.form_places.ensures.draws
 
-pub expr_places-returns-in-Host-clause-draws : goal.expr_places-returns-in-Host-clause-draws
-expr_places-returns-in-Host-clause-draws t c =
-    on_ok_weaker c.form_places-in-Host.result (plain_results (known_of c.args.names.now) c.args.results (expr_phrase c.args.expr.now) _ _ (plain (ap expr_phrase c.in-Host.is ∙ phrase_hosted _ _) tt)) c.form_places-in-Host.ensures.draws
-
-pub expr_places-returns-in-When-clause-draws : goal.expr_places-returns-in-When-clause-draws
-expr_places-returns-in-When-clause-draws t c =
-    on_ok_weaker c.form_places-in-When.result (plain_results (known_of c.args.names.now) c.args.results (expr_phrase c.args.expr.now) _ _ (plain (ap expr_phrase c.in-When.is ∙ phrase_sampled _ _ _) tt)) c.form_places-in-When.ensures.draws
-
-pub expr_places-returns-in-Merge-clause-draws : goal.expr_places-returns-in-Merge-clause-draws
-expr_places-returns-in-Merge-clause-draws t c =
-    on_ok_weaker c.form_places-in-Merge.result (plain_results (known_of c.args.names.now) c.args.results (expr_phrase c.args.expr.now) _ _ (plain (ap expr_phrase c.in-Merge.is ∙ phrase_merged _ _ _ _) tt)) c.form_places-in-Merge.ensures.draws
-
-pub expr_places-returns-in-Fby-clause-draws : goal.expr_places-returns-in-Fby-clause-draws
-expr_places-returns-in-Fby-clause-draws t c =
-    on_ok_weaker c.form_places-in-Fby.result (plain_results (known_of c.args.names.now) c.args.results (expr_phrase c.args.expr.now) _ _ (plain (ap expr_phrase c.in-Fby.is ∙ phrase_followed _ _ _) tt)) c.form_places-in-Fby.ensures.draws
-
-pub expr_places-returns-in-Buffer-clause-draws : goal.expr_places-returns-in-Buffer-clause-draws
-expr_places-returns-in-Buffer-clause-draws t c =
-    on_ok_weaker c.form_places-in-Buffer.result (plain_results (known_of c.args.names.now) c.args.results (expr_phrase c.args.expr.now) _ _ (plain (ap expr_phrase c.in-Buffer.is ∙ phrase_buffered _ _) tt)) c.form_places-in-Buffer.ensures.draws
+pub expr_places-returns-in_default-clause-number : goal.expr_places-returns-in_default-clause-number
+expr_places-returns-in_default-clause-number t c =
+    let k : Known = known_of c.args.names.now in
+    let at : Next = next_of k c.args.draft.now in
+    let f : Phrase = expr_phrase c.args.expr.now in
+    let p = plain_else c.args.expr.now c.in_default.not-Var c.in_default.not-Call in
+    IfOk-weaker c.form_places.result (λ n. n ≡ at.place) (λ n. n ≡ number k at f) (λ n e. e ∙ sym (plain_number k at f p)) c.form_places.ensures.number

@@ -1,8 +1,12 @@
-use Rattle.std.proofs.Common.{◌≡◌, ◌+◌, ◌-◌, ◌++◌, ◌∷◌, [], ap, sym, ◌∙◌, arith, append_assoc}
-use Rattle.std.proofs.lemmas.List.{take_all}
+use Rattle.std.proofs.Common.{◌≡◌, ◌+◌, ◌-◌, ◌++◌, ◌∷◌, [], get_or, ap, sym, ◌∙◌, arith, append_assoc}
+use Rattle.std.proofs.lemmas.List.{take_all, take_more}
 use Rattle.lucy_types.specs.Ports.{counted}
 use Rattle.lucy_types.proofs.CallLaws.{counted_next}
 use Rattle.lucy_types.proofs.calls.call_places.Goals as goal
+
+pub each-preserved : goal.each-preserved
+each-preserved c =
+    c.in_ok-push.ensures.items ∙ ap (λ l. l ++ get_or c.args.args.now c.each.arg-index 0 ∷ []) c.each.invariant ∙ sym (take_more c.args.args.now c.each.arg-index 0 c.each-test.true)
 
 pub results-init : goal.results-init
 results-init c =
