@@ -1,4 +1,4 @@
-/* Prints the items of an input again, a line each, as lucy_lines_bench does: numbers of the stream `x`, with reads and writes
+/* Prints the items of an input again, a line each, as `lucy_bench lines` does: numbers of the stream `x`, with reads and writes
    of 64 KiB. A line that is none of these ends it. */
 #include <stdbool.h>
 #include <stdint.h>

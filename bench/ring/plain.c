@@ -1,6 +1,6 @@
 /* Times numbers through a plain ring for one producer and one consumer whose steps on the two positions are sequentially
    consistent: `plain WAY COUNT` prints their sum and the nanoseconds that they took. The ways are those of
-   lucy_ring_bench; `meet` is 64 at a time, since a plain ring has no meetings. */
+   `lucy_bench ring`; `meet` is 64 at a time, since a plain ring has no meetings. */
 #include <pthread.h>
 #include <stdatomic.h>
 #include <stdbool.h>

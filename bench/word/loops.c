@@ -1,5 +1,5 @@
-/* The algorithms of lucy_word in plain C, one byte a bit, to compare their time: reads the lines that lucy_word_bench
-   reads, and prints the same answers and the time. */
+/* The algorithms of lucy_word in plain C, one byte a bit, to compare their time: reads the lines that the part
+   `words` of lucy_bench reads, and prints the same answers and the time. */
 #include <stdbool.h>
 #include <stdint.h>
 #include <stdio.h>

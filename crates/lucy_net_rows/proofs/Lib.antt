@@ -1,3 +1,4 @@
 mod BareLaws
 mod ReadyLaws
+mod EchoLaws
 mod RowLaws

@@ -9,6 +9,8 @@ ghost use Rattle.lucy_host.specs.Host.{Serves};
 
 mod bare;
 mod cores;
+mod echo;
+mod echoed;
 mod floor;
 mod interpreted;
 mod moves;
@@ -52,6 +54,7 @@ fn print_part<R: Print + Clock + AllocGlobal + Threads + Sync, F: Fn(u32, i64, i
             rounds::print_workers(rt, host)?;
             floor::print_floor(rt, host.ops())
         }
+        "echo" => echoed::print_echoed(rt),
         "limits" => {
             schedules::print_limits(rt, host.ops())?;
             interpreted::print_limits(rt, host)?;

@@ -5,17 +5,21 @@
 //!
 //! A row is printed as `= NAME`, `status N`, `left N` with the number of bytes left in its source, each line of its
 //! output behind `> ` and each line of its faults behind `! `. Behind `>|` or `!|` it is said that the last line has no
-//! end. A line of a list that isn't read is printed behind `? `, with its list and its number.
+//! end. A line of a list that isn't read is printed behind `? `, with its list and its number. Behind the lists stand runs whose
+//! workers come to a gate.
 #![tactic(auto)]
 
 ghost use Rattle.lucy_host.specs.Host.{Serves};
 
+mod gate;
+mod gated;
 mod piece;
 mod row;
 mod take;
 
 use lucy_app::program_operators;
 use lucy_host::Host;
+use lucy_worker::OpenGate;
 use row::Row;
 use std::io::{self, ErrorKind};
 use std::thread::Threads;
@@ -44,7 +48,7 @@ fn run<F: Fn(u32, i64, i64) -> i64 + Sync>(
 ) -> io::Result<()>
     requires { Serves F.pre F.post host.now }
 {
-    let end = row.run(rt, rt.alloc(), host)?;
+    let end = row.run(rt, rt.alloc(), &OpenGate, host)?;
     println!(rt; "= {name}")?;
     println!(rt; "status {}", end.status)?;
     println!(rt; "left {}", end.input.left().len())?;
@@ -104,5 +108,5 @@ fn main(rt: HostRuntime) -> io::Result<()> {
             Err(_) => println!(rt; "? {list} 0: not read")?,
         }
     }
-    Ok(())
+    gated::show(&rt, &host)
 }

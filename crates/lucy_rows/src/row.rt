@@ -3,7 +3,7 @@ ghost use Rattle.lucy_host.specs.Host.{Serves};
 use lucy_app::lucy;
 use lucy_host::Host;
 use lucy_text::{MemShelf, MemSink, MemSource};
-use lucy_worker::OpenGate;
+use lucy_worker::Gate;
 use std::alloc::{AllocError, Global};
 use std::thread::Threads;
 
@@ -78,11 +78,12 @@ impl Row {
         }
     }
 
-    /// Runs the program on the row's words, with the operators of the host.
-    pub(crate) fn run<R: Threads + Sync, F: Fn(u32, i64, i64) -> i64 + Sync>(
+    /// Runs the program on the row's words, with the operators of the host and workers that come to the gate.
+    pub(crate) fn run<R: Threads + Sync, F: Fn(u32, i64, i64) -> i64 + Sync, G: Gate + Sync>(
         self,
         rt: &R,
         alloc: Global,
+        gate: &G,
         host: &Host<F>,
     ) -> Result<End, AllocError>
         requires { Serves F.pre F.post host.now }
@@ -99,7 +100,7 @@ impl Row {
             &mut input,
             &mut out,
             &mut err,
-            &OpenGate,
+            gate,
             host,
         );
         Ok(End {

@@ -59,9 +59,9 @@ const MOST_LEAN_ROUNDS: u32 = 16;
 // As many moves take about as long as threads take to start: a round of fewer moved little.
 const FEW_MOVES: u64 = 4_096;
 
-// A look at an actor whose neighbours move on other threads costs some 150 ns, as much as five moves of one thread that moves all actors;
-// one at neighbours that rest costs some 10 ns, and counts as much. Four in place of five: threads stay where they take up to a quarter
-// longer.
+// A look at an actor whose neighbours move on other threads is taken to cost as much as five moves of one thread that moves all actors: an
+// estimate, looks were not timed by themselves. One at neighbours that rest costs less, and counts as much. Four in place of five: threads
+// stay where they take up to a quarter longer.
 const MOVES_OF_LOOK: u64 = 4;
 
 // Whether a round of so many workers, moves and looks for them moved little or mostly waited. The workers share moves and looks, so threads

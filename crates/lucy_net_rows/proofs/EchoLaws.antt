@@ -1,0 +1,130 @@
+-- The net that is made by hand is proper, and can be run.
+use Rattle.std.proofs.Common.{ℕ, zero, suc, ◌<◌, ◌≤◌, ◌+◌, ◌≡◌, List, [], ◌∷◌, ◌++◌, length, length-append, ap, sym, refl, ◌∙◌, subst, arith}
+use Rattle.std.specs.Prelude.{ℤ, Some, slice_get}
+use Rattle.lucy_word.specs.Bits.{Bits, ones_to}
+use Rattle.lucy_word.proofs.BitsLaws.{ones_to-le}
+use Rattle.lucy_host.specs.Operators.{Operator}
+use Rattle.lucy_stream.specs.Items.{list_at}
+use Rattle.lucy_event.specs.Plans.{times, HasInput}
+use Rattle.lucy_net.specs.declared.net.Actor.{Actor}
+use Rattle.lucy_net.specs.declared.net.RingSpec.{RingSpec}
+use Rattle.lucy_net.specs.declared.net.Net.{Net}
+use Rattle.lucy_net.specs.Plans.{form_of}
+use Rattle.lucy_net.specs.Proper.{IsProperActor, IsProperRing, IsProper, IsSupplied}
+use Rattle.lucy_net.specs.States.{KnowsOperator}
+use Rattle.lucy_cause.specs.Schedules.{Timetable, IsScheduleOf}
+use Rattle.lucy_core.specs.Seen.{Seen, IsOutputOf, IsFixed, first_seen, after_picks}
+use Rattle.lucy_runner.specs.Views.{RunnerView, input_count, inputs_for, first_runner}
+use Rattle.lucy_runner.specs.Blocks.{longer_inputs, grown_seen}
+use Rattle.lucy_net_rows.specs.Echo.{giver, taker, ring, echo, IsReady, IsAt}
+use Rattle.lucy_net_rows.proofs.ReadyLaws.{first_unbegun}
+
+giver_proper : (w : Bits) → IsProperActor (echo w) 0 (giver w)
+giver_proper w = record { gives = refl; takes = refl; arity = refl; gives_none = tt }
+
+taker_proper : (w : Bits) → IsProperActor (echo w) 1 (taker w)
+taker_proper w = record { gives = refl; takes = refl; arity = refl; gives_none = refl }
+
+ring_proper : (w : Bits) → IsProperRing (echo w) 0 (ring w)
+ring_proper w = record {
+  giver = giver w;
+  taker = taker w;
+  gives_here = refl;
+  takes_here = refl;
+  write = λ i l. refl;
+  read = λ j l e i s. refl;
+  adaptable = (refl, λ i. omega arith);
+  size = record { reached = (0, omega arith); passed = λ i. omega arith };
+}
+
+actors_proper : (w : Bits) (a : ℕ) (actor : Actor) → slice_get (echo w).actors a ≡ Some actor → IsProperActor (echo w) a actor
+actors_proper w zero actor e = (let same : giver w ≡ actor = cc in subst (IsProperActor (echo w) 0) same (giver_proper w))
+actors_proper w (suc zero) actor e = (let same : taker w ≡ actor = cc in subst (IsProperActor (echo w) 1) same (taker_proper w))
+actors_proper w (suc (suc a)) actor e = absurd (cc)
+
+rings_proper : (w : Bits) (r : ℕ) (spec : RingSpec) → slice_get (echo w).rings r ≡ Some spec → IsProperRing (echo w) r spec
+rings_proper w zero spec e = (let same : ring w ≡ spec = cc in subst (IsProperRing (echo w) 0) same (ring_proper w))
+rings_proper w (suc r) spec e = absurd (cc)
+
+numbered : (n : ℕ) → n < 1 → times n (0 ∷ []) ≡ 1
+numbered zero l = refl
+numbered (suc n) l = absurd (omega arith)
+
+pub echo_proper : (w : Bits) → IsProper (echo w)
+echo_proper w = record {
+  few_actors = omega arith;
+  few_rings = omega arith;
+  few_slots = omega arith;
+  inputs = numbered;
+  outputs = numbered;
+  actors = actors_proper w;
+  rings = rings_proper w;
+}
+
+pub supplied : (w : Bits) (inputs : List (List ℤ)) (instants : ℕ) → instants ≤ length (list_at inputs 0) → IsSupplied inputs (echo w) instants
+supplied w inputs instants enough zero actor e =
+    let same : giver w ≡ actor = cc in
+    let there : ones_to w instants ≤ length (list_at inputs 0) = omega (arith, ones_to-le w instants, enough) in
+    subst (λ (x : Actor). HasInput inputs (form_of x.kind) (ones_to x.firing instants)) same there
+supplied w inputs instants enough (suc zero) actor e = (let same : taker w ≡ actor = cc in subst (λ (x : Actor). HasInput inputs (form_of x.kind) (ones_to x.firing instants)) same tt)
+supplied w inputs instants enough (suc (suc a)) actor e = absurd (cc)
+
+known : (w : Bits) (count a : ℕ) (actor : Actor) → slice_get (echo w).actors a ≡ Some actor → KnowsOperator actor.kind count
+known w count zero actor e = (let same : giver w ≡ actor = cc in subst (λ (x : Actor). KnowsOperator x.kind count) same tt)
+known w count (suc zero) actor e = (let same : taker w ≡ actor = cc in subst (λ (x : Actor). KnowsOperator x.kind count) same tt)
+known w count (suc (suc a)) actor e = absurd (cc)
+
+-- a core can be made of it
+pub echo_fixed : (w : Bits) (net : Net) (schedule : Timetable) (inputs : List (List ℤ)) (operators : List Operator) (items : List ℤ) (instants : ℕ) → net ≡ echo w → IsScheduleOf net schedule → inputs ≡ items ∷ [] → instants ≡ length items → length items ≤ 1048576 →
+    IsFixed net schedule inputs operators instants
+echo_fixed w net schedule inputs operators items instants same is list all few =
+    let at : IsScheduleOf (echo w) schedule = subst (λ (n : Net). IsScheduleOf n schedule) same is in
+    let there : length (list_at inputs 0) ≡ length items = ap (λ xs. length (list_at xs 0)) list in
+    let fixed : IsFixed (echo w) schedule inputs operators instants = record { proper = echo_proper w; sound = at.sound; early = omega arith; supplied = supplied w inputs instants (omega arith); known = known w (length operators) } in
+    subst (λ (n : Net). IsFixed n schedule inputs operators instants) (sym same) fixed
+
+pub echo_ready : (w : Bits) (net : Net) (schedule : Timetable) (inputs : List (List ℤ)) (operators : List Operator) (items : List ℤ) (instants : ℕ) (core : Seen) → net ≡ echo w → inputs ≡ items ∷ [] → operators ≡ [] → instants ≡ length items →
+    core ≡ first_seen net schedule inputs operators instants → IsReady w items core
+echo_ready w net schedule inputs operators items instants core same list none all e =
+    subst (IsReady w items) (sym e) (record { net = same; inputs = list; operators = none; instants = all; unbegun = first_unbegun net schedule inputs operators instants })
+
+-- a runner of the core
+first_list : (w : Bits) (net : Net) (inputs : List (List ℤ)) → net ≡ echo w → list_at (inputs_for net inputs) 0 ≡ list_at inputs 0
+first_list w net inputs e = ap (λ n. list_at (inputs_for n inputs) 0) e
+
+pub echo_at : (w : Bits) (items : List ℤ) (core : Seen) (view : RunnerView) → IsReady w items core → view ≡ first_runner core → IsAt w (length items) view.seen
+echo_at w items core view is e =
+    subst (λ (v : RunnerView). IsAt w (length items) v.seen) (sym e) (record {
+      net = is.net;
+      operators = is.operators;
+      horizon = is.instants;
+      items = (let same : length (list_at (inputs_for core.net core.inputs) 0) ≡ length items = ap length (first_list w core.net core.inputs is.net) ∙ ap (λ xs. length (list_at xs 0)) is.inputs in omega arith);
+    })
+
+-- events leave it so
+pub still_at : (w : Bits) (instants : ℕ) (seen next : Seen) (picks : List ℕ) → IsAt w instants seen → next ≡ after_picks seen picks → IsAt w instants next
+still_at w instants seen next picks is e = subst (IsAt w instants) (sym e) (record { net = is.net; operators = is.operators; horizon = is.horizon; items = is.items })
+
+-- with an item more it is so an instant later
+longer_list : (w : Bits) (net : Net) (held added : List (List ℤ)) → net ≡ echo w → list_at (longer_inputs net held added) 0 ≡ list_at held 0 ++ list_at added 0
+longer_list w net held added e = ap (λ n. list_at (longer_inputs n held added) 0) e
+
+pub longer_supplied : (w : Bits) (instants : ℕ) (seen : Seen) (added : List (List ℤ)) (item : ℤ) → IsAt w instants seen → added ≡ (item ∷ []) ∷ [] → IsSupplied (longer_inputs seen.net seen.inputs added) seen.net (instants + 1)
+longer_supplied w instants seen added item is e =
+    let more : length (list_at (longer_inputs seen.net seen.inputs added) 0) ≡ length (list_at seen.inputs 0) + 1 = ap length (longer_list w seen.net seen.inputs added is.net) ∙ length-append (list_at seen.inputs 0) (list_at added 0) ∙ ap (λ xs. length (list_at seen.inputs 0) + length (list_at xs 0)) e in
+    let enough = is.items in
+    subst (λ (n : Net). IsSupplied (longer_inputs seen.net seen.inputs added) n (instants + 1)) (sym is.net) (supplied w (longer_inputs seen.net seen.inputs added) (instants + 1) (omega (arith, more, enough)))
+
+pub longer_at : (w : Bits) (instants : ℕ) (seen : Seen) (added : List (List ℤ)) (item : ℤ) (view : RunnerView) (before : ℕ) → IsAt w instants seen → added ≡ (item ∷ []) ∷ [] → view ≡ record { seen = grown_seen seen added (instants + 1); before = before } → IsAt w (instants + 1) view.seen
+longer_at w instants seen added item view before is e f =
+    let more : length (list_at (longer_inputs seen.net seen.inputs added) 0) ≡ length (list_at seen.inputs 0) + 1 = ap length (longer_list w seen.net seen.inputs added is.net) ∙ length-append (list_at seen.inputs 0) (list_at added 0) ∙ ap (λ xs. length (list_at seen.inputs 0) + length (list_at xs 0)) e in
+    let enough = is.items in
+    subst (λ (v : RunnerView). IsAt w (instants + 1) v.seen) (sym f) (record { net = is.net; operators = is.operators; horizon = refl; items = omega (arith, more, enough) })
+
+-- one list serves it
+pub one_list : (w : Bits) (net : Net) (inputs : List (List ℤ)) (items : List ℤ) → net ≡ echo w → inputs ≡ items ∷ [] → input_count net.actors ≤ length inputs
+one_list w net inputs items e f = (let a : input_count net.actors ≡ 1 = ap (λ (n : Net). input_count n.actors) e in let b : length inputs ≡ 1 = ap length f in omega arith)
+
+-- its output
+pub echo_output : (w : Bits) (instants : ℕ) (seen : Seen) → IsAt w instants seen → (a : ℕ) × (actor : Actor) × IsOutputOf seen.net 0 a actor
+echo_output w instants seen is = (1, taker w, subst (λ (n : Net). IsOutputOf n 0 1 (taker w)) (sym is.net) (record { there = refl; kind = refl }))

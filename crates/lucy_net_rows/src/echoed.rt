@@ -1,0 +1,130 @@
+// Rows of a runner of a net that is made by hand: its input is put out, by workers on threads. Printed is whether a round of two
+// workers moved anything, and what is put out by 1, 2, 3 and 64 workers, in one piece and in blocks of one instant.
+ghost use Rattle.std.specs.Prelude.{◌≡◌, ◌+◌, ◌<◌, ◌≤◌, [], IfOk};
+ghost use Rattle.lucy_host.specs.Host.{Serves, lent};
+ghost use Rattle.lucy_core.specs.Seen.{IsOver};
+ghost use Rattle.lucy_net_rows.specs.Echo.{IsAt};
+
+use crate::echo;
+use crate::show::no_memory;
+use lucy_host::{Host, Ops};
+use lucy_runner::Runner;
+use lucy_word::Word;
+use lucy_worker::OpenGate;
+use std::io;
+use std::thread::Threads;
+
+// What comes in, one item an instant.
+const ITEMS: [i64; 3] = [5, 6, 7];
+
+// Prints what was put out since it was carried away last.
+fn print_output(rt: &impl Print, runner: &Runner, word: &Word, instants: u64) -> io::Result<()>
+    requires { IsAt word.now instants runner.now.seen }
+{
+    let _ = (word.lengths(), instants);
+    for item in runner.output(0) {
+        print!(rt; " {item}")?;
+    }
+    println!(rt; "")
+}
+
+// Prints whether one round of two workers moved anything, and what is put out in the end.
+fn print_round<R: Print + AllocGlobal + Threads + Sync, F: Fn(u32, i64, i64) -> i64 + Sync>(
+    rt: &R,
+    host: &Host<F>,
+    word: &Word,
+) -> io::Result<()>
+    requires serves { Serves F.pre F.post host.now }
+    requires none { lent host.now ≡ [] }
+{
+    let Ok(mut runner) = echo::runner(rt.alloc(), word, &ITEMS, 2) else {
+        return Err(no_memory());
+    };
+    let moves = runner.round(rt, host, &OpenGate);
+    println!(rt; "a round moved {}", moves > 0)?;
+    runner.go(rt, host, &OpenGate);
+    print!(rt; "then")?;
+    print_output(rt, &runner, word, 3)
+}
+
+// Prints what so many workers put out.
+fn print_run<R: Print + AllocGlobal + Threads + Sync, F: Fn(u32, i64, i64) -> i64 + Sync>(
+    rt: &R,
+    host: &Host<F>,
+    word: &Word,
+    workers: u32,
+) -> io::Result<()>
+    requires serves { Serves F.pre F.post host.now }
+    requires none { lent host.now ≡ [] }
+    requires workers { (1 ≤ workers) × (workers ≤ 64) }
+{
+    let Ok(mut runner) = echo::runner(rt.alloc(), word, &ITEMS, workers) else {
+        return Err(no_memory());
+    };
+    runner.go(rt, host, &OpenGate);
+    print!(rt; "by {workers}:")?;
+    print_output(rt, &runner, word, 3)
+}
+
+// One item and one instant more, where all before is done, and what is put out then.
+fn print_next<R: Print + AllocGlobal + Threads + Sync, F: Fn(u32, i64, i64) -> i64 + Sync>(
+    rt: &R,
+    host: &Host<F>,
+    word: &Word,
+    runner: &mut Runner,
+    item: i64,
+    instants: u64,
+) -> io::Result<()>
+    requires serves { Serves F.pre F.post host.now }
+    requires none { lent host.now ≡ [] }
+    requires at { IsAt word.now instants runner.old.seen }
+    requires over { IsOver runner.old.seen }
+    requires few { instants < 1048576 }
+    ensures at { IfOk result (λ _. IsAt word.now (instants + 1) runner.new.seen) }
+    ensures over { IfOk result (λ _. IsOver runner.new.seen) }
+{
+    match echo::grow(rt.alloc(), runner, item, word, instants) {
+        Ok(()) => {}
+        Err(_) => return Err(no_memory()),
+    }
+    runner.go(rt, host, &OpenGate);
+    print!(rt; "instant {}:", instants + 1)?;
+    print_output(rt, runner, word, instants + 1)
+}
+
+// Prints what so many workers put out, instant by instant.
+fn print_blocks<R: Print + AllocGlobal + Threads + Sync, F: Fn(u32, i64, i64) -> i64 + Sync>(
+    rt: &R,
+    host: &Host<F>,
+    word: &Word,
+    workers: u32,
+) -> io::Result<()>
+    requires serves { Serves F.pre F.post host.now }
+    requires none { lent host.now ≡ [] }
+    requires workers { (1 ≤ workers) × (workers ≤ 64) }
+{
+    let Ok(mut runner) = echo::runner(rt.alloc(), word, &[5], workers) else {
+        return Err(no_memory());
+    };
+    runner.go(rt, host, &OpenGate);
+    print!(rt; "by {workers}, instant 1:")?;
+    print_output(rt, &runner, word, 1)?;
+    print_next(rt, host, word, &mut runner, 6, 1)?;
+    print_next(rt, host, word, &mut runner, 7, 2)
+}
+
+/// Prints them.
+pub(crate) fn print_echoed<R: Print + AllocGlobal + Threads + Sync>(rt: &R) -> io::Result<()> {
+    let alloc = rt.alloc();
+    let Ok(word) = Word::read(alloc, b"(1)") else {
+        return Err(no_memory());
+    };
+    let host = Host::new(Ops::new(alloc), |_: u32, a: i64, _: i64| a);
+    println!(rt; "= net by hand")?;
+    print_round(rt, &host, &word)?;
+    for workers in [1, 2, 3, 64] {
+        print_run(rt, &host, &word, workers)?;
+    }
+    print_blocks(rt, &host, &word, 1)?;
+    print_blocks(rt, &host, &word, 2)
+}
