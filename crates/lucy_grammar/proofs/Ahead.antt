@@ -1,14 +1,14 @@
 -- The first token of what a derivation spells, and then of what may follow, is of a kind of the table.
-use Rattle.std.proofs.Common.{ℕ, ◌≡◌, true, List, [], ◌∷◌, ◌++◌, Some, refl, ap, sym, subst, append_assoc}
+use Rattle.std.proofs.Common.{ℕ, ◌≡◌, true, List, [], ◌∷◌, ◌++◌, Some, refl, sym, subst, append_assoc}
 use Rattle.lucy_token.specs.declared.token.Token.{Token}
 use Rattle.lucy_grammar.specs.Sets.{within, nth}
-use Rattle.lucy_grammar.specs.Kinds.{number, ahead}
+use Rattle.lucy_grammar.specs.Kinds.{ahead}
 use Rattle.lucy_grammar.specs.Symbols.{Part, Sym, token, part, many, perhaps, Rule}
 use Rattle.lucy_grammar.specs.Grammar.{rules}
 use Rattle.lucy_grammar.specs.Derivations.{Deriv, done, take, by_rule, enough, again, absent, present, spelled}
 use Rattle.lucy_grammar.specs.Reading.{follows, begins, Follows}
 use Rattle.lucy_grammar.proofs.Sets.{within_subset, within_left, within_right}
-use Rattle.lucy_grammar.proofs.Numbers.{same_kind}
+use Rattle.lucy_grammar.proofs.Numbers.{fits_number}
 use Rattle.lucy_grammar.proofs.Table.{look, good, rule_good, part_fits, past_part, many_fits, past_many, perhaps_fits, past_perhaps}
 
 pub ahead_append : (front y z : List Token) → ahead y ≡ ahead z → ahead (front ++ y) ≡ ahead (front ++ z)
@@ -22,7 +22,7 @@ part_first Y i p e a b tail w =
 
 pub first_fits : (X : Part) (syms : List Sym) → good X syms ≡ true → (d : Deriv syms) (tail : List Token) → Follows X tail → within (ahead (spelled d ++ tail)) (look X syms) ≡ true
 first_fits X [] g done tail f = f
-first_fits X (token k ∷ syms) g (take t e d) tail f = subst (λ (n : ℕ). within n (number k ∷ []) ≡ true) (sym (ap number e)) (same_kind k)
+first_fits X (token s ∷ syms) g (take t e d) tail f = fits_number s t.what e
 first_fits X (part Y ∷ syms) g (by_rule i p e a b) tail f =
     let behind = within_subset (look X syms) (follows Y) _ (part_fits X Y syms g) (first_fits X syms (past_part X Y syms g) b tail f) in
     part_first Y i p e (spelled a) (spelled b) tail (first_fits Y p.syms (rule_good Y i p e).0 a (spelled b ++ tail) behind)

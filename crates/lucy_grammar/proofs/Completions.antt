@@ -1,14 +1,13 @@
 -- Each part has a derivation, a short one: so what begins symbols can be completed.
 use Rattle.std.proofs.Common.{◌≡◌, true, List, [], ◌∷◌, refl}
-use Rattle.std.specs.Prelude.{pos}
+use Rattle.std.specs.Prelude.{pos, negsuc}
 use Rattle.lucy_token.specs.declared.mark.Mark.{Mark}
 use Rattle.lucy_token.specs.declared.mark.Mark.TheVariants as mark
-use Rattle.lucy_token.specs.declared.token.Kind.{Kind}
 use Rattle.lucy_token.specs.declared.token.Kind.TheVariants as kind
 use Rattle.lucy_token.specs.declared.token.What.{What}
 use Rattle.lucy_token.specs.declared.token.What.TheVariants as what
-use Rattle.lucy_token.specs.Tokens.{kind_of}
-use Rattle.lucy_grammar.specs.Symbols.{Part, Sym, token, part, many, perhaps, Program, Node, Title, Params, Results, Names, Ident, MoreName, Body, Decls, MoreDecl, Decl, Typing, TypeName, ClockOf, Defs, Def, MoreDef, Lefts, Expr, Or, MoreAnd, And, MoreCmp, Cmp, Compared, CmpOp, Sum, MoreProd, SumOp, Prod, MoreSamp, ProdOp, Samp, Sampling, Pre, Followed, Atom, Small, Lit, Pair, Call, Applied, Base, Args, MoreExpr}
+use Rattle.lucy_grammar.specs.Kinds.{Sort, of, bound, unbound, sort_kind, Fits}
+use Rattle.lucy_grammar.specs.Symbols.{Part, Sym, token, any, part, many, perhaps, Program, Node, Title, Params, Results, Names, Ident, MoreName, Body, Decls, MoreDecl, Decl, Typing, TypeName, ClockOf, Defs, Def, MoreDef, Lefts, Expr, Or, MoreAnd, And, MoreCmp, Cmp, Compared, CmpOp, Sum, MoreProd, SumOp, Prod, MoreSamp, ProdOp, Samp, Sampling, Pre, Followed, Form, Buffered, Held, Other, Atom, Small, Lit, Pair, Call, Applied, Base, Args, MoreExpr}
 use Rattle.lucy_grammar.specs.Grammar.{rules, sign}
 use Rattle.lucy_grammar.specs.Derivations.{Deriv, done, take, by_rule, enough, absent}
 use Rattle.lucy_grammar.proofs.Table.{is_kind, good, token_kind, past_token, past_part, past_many, past_perhaps}
@@ -17,33 +16,37 @@ use Rattle.lucy_grammar.proofs.Table.{is_kind, good, token_kind, past_token, pas
 abbrev pub join : {X : Part} {syms : List Sym} → Deriv (part X ∷ []) → Deriv syms → Deriv (part X ∷ syms)
 join (by_rule i p e a rest) b = by_rule i p e a b
 
--- a token of a kind
-some_what : Kind → What
-some_what kind.End = what.Mark mark.Let
-some_what kind.Name = what.Name []
-some_what kind.Number = what.Number (pos 0)
-some_what kind.Word = what.Word (record { prefix = []; period = [] })
-some_what (kind.Mark m) = what.Mark m
+-- a token of a sort
+some_what : Sort → What
+some_what (of kind.End) = what.Mark mark.Let
+some_what (of kind.Name) = what.Name []
+some_what (of kind.Number) = what.Number (pos 0)
+some_what (of kind.Word) = what.Word (record { prefix = []; period = [] })
+some_what (of (kind.Mark m)) = what.Mark m
+some_what bound = what.Number (pos 0)
+some_what unbound = what.Number (negsuc 0)
 
-some_what-kind : (k : Kind) → is_kind k ≡ true → kind_of (some_what k) ≡ k
+some_what-fits : (s : Sort) → is_kind (sort_kind s) ≡ true → Fits s (some_what s)
 unfolding some_what
-some_what-kind kind.End e = absurd cc
-some_what-kind kind.Name e = refl
-some_what-kind kind.Number e = refl
-some_what-kind kind.Word e = refl
-some_what-kind (kind.Mark m) e = refl
+some_what-fits (of kind.End) e = absurd cc
+some_what-fits (of kind.Name) e = refl
+some_what-fits (of kind.Number) e = refl
+some_what-fits (of kind.Word) e = refl
+some_what-fits (of (kind.Mark m)) e = refl
+some_what-fits bound e = refl
+some_what-fits unbound e = (refl, refl)
 
-one_token : {syms : List Sym} (k : Kind) → is_kind k ≡ true → Deriv syms → Deriv (token k ∷ syms)
-one_token k e d = take (record { what = some_what k; span = record { from = 0; to = 0 } }) (some_what-kind k e) d
+one_token : {syms : List Sym} (s : Sort) → is_kind (sort_kind s) ≡ true → Deriv syms → Deriv (token s ∷ syms)
+one_token s e d = take (record { what = some_what s; span = record { from = 0; to = 0 } }) (some_what-fits s e) d
 
 one : {syms : List Sym} (m : Mark) → Deriv syms → Deriv (sign m ∷ syms)
-one m d = one_token (kind.Mark m) refl d
+one m d = one_token (of (kind.Mark m)) refl d
 
-name : {syms : List Sym} → Deriv syms → Deriv (token kind.Name ∷ syms)
-name d = one_token kind.Name refl d
+name : {syms : List Sym} → Deriv syms → Deriv (any kind.Name ∷ syms)
+name d = one_token (of kind.Name) refl d
 
-word : {syms : List Sym} → Deriv syms → Deriv (token kind.Word ∷ syms)
-word d = one_token kind.Word refl d
+word : {syms : List Sym} → Deriv syms → Deriv (any kind.Word ∷ syms)
+word d = one_token (of kind.Word) refl d
 
 lit : Deriv (part Lit ∷ [])
 unfolding rules
@@ -51,7 +54,7 @@ lit = by_rule 1 _ refl (one mark.True done) done
 
 pre : Deriv (part Pre ∷ [])
 unfolding rules
-pre = by_rule 3 _ refl (join lit (absent done)) done
+pre = by_rule 0 _ refl (join lit (absent done)) done
 
 samp : Deriv (part Samp ∷ [])
 unfolding rules
@@ -133,6 +136,18 @@ node : Deriv (part Node ∷ [])
 unfolding rules
 node = by_rule 0 _ refl (join title (join params (one mark.Equals (join results (absent done))))) done
 
+atom : Deriv (part Atom ∷ [])
+unfolding rules
+atom = by_rule 0 _ refl (name (absent done)) done
+
+form : Deriv (part Form ∷ [])
+unfolding rules
+form = by_rule 3 _ refl atom done
+
+followed : Deriv (part Followed ∷ [])
+unfolding rules
+followed = by_rule 0 _ refl (one mark.Fby pre) done
+
 applied : Deriv (part Applied ∷ [])
 unfolding rules
 applied = by_rule 0 _ refl (absent (one mark.Open (absent (one mark.Close done)))) done
@@ -175,8 +190,12 @@ some_part ProdOp = prod_op
 some_part Samp = samp
 some_part Sampling = by_rule 0 _ refl (one mark.When (word done)) done
 some_part Pre = pre
-some_part Followed = by_rule 0 _ refl (one mark.Fby pre) done
-some_part Atom = by_rule 0 _ refl (name (absent done)) done
+some_part Followed = followed
+some_part Form = form
+some_part Buffered = by_rule 2 _ refl form done
+some_part Held = by_rule 0 _ refl followed done
+some_part Other = by_rule 1 _ refl (one mark.True done) done
+some_part Atom = atom
 some_part Small = by_rule 1 _ refl (name done) done
 some_part Lit = lit
 some_part Pair = by_rule 0 _ refl (one mark.Open (join expr (one mark.Comma (join expr (one mark.Close done))))) done
@@ -189,7 +208,7 @@ some_part MoreExpr = by_rule 0 _ refl (one mark.Comma expr) done
 -- and so have symbols
 pub some : (X : Part) (syms : List Sym) → good X syms ≡ true → Deriv syms
 some X [] g = done
-some X (token k ∷ syms) g = one_token k (token_kind X k syms g) (some X syms (past_token X k syms g))
+some X (token s ∷ syms) g = one_token s (token_kind X s syms g) (some X syms (past_token X s syms g))
 some X (part Y ∷ syms) g = join (some_part Y) (some X syms (past_part X Y syms g))
 some X (many Y ∷ syms) g = enough (some X syms (past_many X Y syms g))
 some X (perhaps Y ∷ syms) g = absent (some X syms (past_perhaps X Y syms g))

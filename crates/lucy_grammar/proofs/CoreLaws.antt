@@ -17,6 +17,8 @@ use Rattle.lucy_grammar.specs.Programs.{IsProgram}
 use Rattle.lucy_grammar.specs.Parens.{kept, without_parens}
 use Rattle.lucy_grammar.specs.Print.{printed_program}
 use Rattle.lucy_grammar.specs.Printable.{Anywhere}
+use Rattle.lucy_grammar.specs.Kinds.{sort_kind}
+use Rattle.lucy_grammar.proofs.Numbers.{fits_kind}
 use Rattle.lucy_grammar.proofs.PrintableLaws.{goods, all_stand}
 use Rattle.lucy_grammar.proofs.Cores.{core, without-append, flat, token_of, all_flat, flats}
 use Rattle.lucy_grammar.proofs.CoreRules.{IsFlat, AreFlat, all_are_flat}
@@ -43,8 +45,9 @@ core_of-append a b = ap without_parens (map-append (λ t. t.what) a b) ∙ witho
 
 flats_are : (syms : List Sym) (d : Deriv syms) → core_of (spelled d) ≡ flats syms (value d)
 flats_are [] done = refl
-flats_are (token k ∷ syms) (take t e d) =
-    let one : kept t.what ≡ token_of k t.what = subst (λ (j : Kind). kept t.what ≡ token_of j t.what) e (own_token t.what) in
+flats_are (token s ∷ syms) (take t e d) =
+    let k : Kind = sort_kind s in
+    let one : kept t.what ≡ token_of k t.what = subst (λ (j : Kind). kept t.what ≡ token_of j t.what) (fits_kind s t.what e) (own_token t.what) in
     ap (λ u. u ++ core_of (spelled d)) one ∙ ap (λ u. token_of k t.what ++ u) (flats_are syms d)
 flats_are (part X ∷ syms) (by_rule i p m a b) =
     let one : core_of (spelled a) ≡ flat X (p.meaning (value a)) =

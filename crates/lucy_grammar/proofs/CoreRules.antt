@@ -1,11 +1,16 @@
 -- Each production keeps its tokens but for parentheses when what it stands for is printed.
-use Rattle.std.proofs.Common.{◌≡◌, Bool, List, [], ◌∷◌, ◌++◌, Option, Some, None, map, refl, ap, sym, ◌∙◌, append_assoc}
+use Rattle.std.specs.Prelude.{pos, negsuc}
+use Rattle.lucy_tree.specs.declared.span.Span.{Span}
+use Rattle.lucy_token.specs.declared.token.Kind.TheVariants as kind
+use Rattle.lucy_token.specs.declared.token.Token.{Token}
+use Rattle.lucy_grammar.specs.Kinds.{is_bound}
+use Rattle.std.proofs.Common.{ℕ, true, ◌≡◌, Bool, List, [], ◌∷◌, ◌++◌, Option, Some, None, map, refl, ap, sym, ◌∙◌, append_assoc}
 use Rattle.std.proofs.lemmas.List.{append-nil}
 use Rattle.lucy_word.specs.Bits.{Bits}
 use Rattle.lucy_host.specs.declared.data_type.DataType.TheVariants as holds
 use Rattle.lucy_tree.specs.declared.span.Name as name
 use Rattle.lucy_tree.specs.declared.decl.Decl as decl
-use Rattle.lucy_tree.specs.Tree.{Tree, Trees, sampled, call, trees_of}
+use Rattle.lucy_tree.specs.Tree.{Tree, Trees, sampled, buffered, call, trees_of}
 use Rattle.lucy_tree.specs.View.{DefTree, NodeTree}
 use Rattle.lucy_token.specs.declared.mark.Mark.TheVariants as mark
 use Rattle.lucy_token.specs.declared.token.Kind.{Kind}
@@ -14,9 +19,9 @@ use Rattle.lucy_token.specs.declared.token.What.TheVariants as what
 use Rattle.lucy_token.specs.Spelled.{Printed, in_print}
 use Rattle.lucy_grammar.specs.Printable.{IsPrintableDef, IsPrintableDecl, AllOfSome, Anywhere}
 use Rattle.lucy_grammar.proofs.PrintableLaws.{Goods}
-use Rattle.lucy_grammar.proofs.Cores.{core, core-append, core-parens, put, put_after, put_operand, put_later, put_parens, first_defs, flat_link, flat, all_flat, some_flat, flats}
-use Rattle.lucy_grammar.specs.Symbols.{Rule, Val, Vals, Link, Part, Program, Node, Title, Params, Results, Names, Ident, MoreName, Body, Decls, MoreDecl, Decl, Typing, TypeName, ClockOf, Defs, Def, MoreDef, Lefts, Expr, Or, MoreAnd, And, MoreCmp, Cmp, Compared, CmpOp, Sum, MoreProd, SumOp, Prod, MoreSamp, ProdOp, Samp, Sampling, Pre, Followed, Atom, Small, Lit, Pair, Call, Applied, Base, Args, MoreExpr}
-use Rattle.lucy_grammar.specs.Meanings.{bytes_of, name_of, number_of, word_of, linked, grouped, sampled_by, compared, literal_before, named, all_of, args_of}
+use Rattle.lucy_grammar.proofs.Cores.{core, core-append, core-parens, put, put_after, put_operand, put_later, put_parens, first_defs, flat_link, flat, token_of, all_flat, some_flat, flats}
+use Rattle.lucy_grammar.specs.Symbols.{Rule, Val, Vals, Link, Part, Program, Node, Title, Params, Results, Names, Ident, MoreName, Body, Decls, MoreDecl, Decl, Typing, TypeName, ClockOf, Defs, Def, MoreDef, Lefts, Expr, Or, MoreAnd, And, MoreCmp, Cmp, Compared, CmpOp, Sum, MoreProd, SumOp, Prod, MoreSamp, ProdOp, Samp, Sampling, Pre, Followed, Form, Buffered, Held, Other, Atom, Small, Lit, Pair, Call, Applied, Base, Args, MoreExpr}
+use Rattle.lucy_grammar.specs.Meanings.{bytes_of, name_of, number_of, word_of, bound_of, linked, grouped, sampled_by, compared, literal_before, held, named, all_of, args_of}
 use Rattle.lucy_grammar.specs.Grammar.{rules}
 use Rattle.lucy_grammar.specs.Parens.{kept}
 use Rattle.lucy_grammar.specs.Print.{blank, indent, line, after, after_commas, commas, parens, name_token, lit_token, op_mark, when_mark, operand, printed, all_printed, printed_decl, printed_left, printed_def, more_defs, printed_body, printed_node, more_nodes}
@@ -72,6 +77,22 @@ literal_rule : (l : Val Lit) (o : Option (Val Followed)) → core (printed (lite
 literal_rule l None = plus (flat Lit l)
 literal_rule l (Some f) =
     put (lit_token l.0) (in_print blank (what.Mark mark.Fby) ∷ (after blank (operand f.1 (printed f.1)) ++ [])) (flat Followed f ++ []) (ap (λ u. what.Mark mark.Fby ∷ u) (put_later f.1 [] [] refl))
+
+buffer_rule : (most : Option ℕ) (e : Tree) (s : Span) → core (printed (buffered most e s)) ≡ what.Mark mark.Buffer ∷ (flat Buffered (most, e) ++ [])
+buffer_rule None e s = ap (λ u. what.Mark mark.Buffer ∷ u) (put_later e [] [] refl)
+buffer_rule (Some n) e s = ap (λ u. what.Mark mark.Buffer ∷ what.Number (pos n) ∷ u) (put_parens (printed e) [] [] refl)
+
+bound_token : (w : What) → is_bound w ≡ true → what.Number (pos (bound_of w)) ∷ [] ≡ token_of kind.Number w
+bound_token (what.Number (pos n)) e = refl
+bound_token (what.Number (negsuc n)) e = absurd cc
+bound_token (what.Mark m) e = absurd cc
+bound_token (what.Name bytes) e = absurd cc
+bound_token (what.Word w) e = absurd cc
+
+held_rule : (n : Token) (o : Option (Val Held)) → is_bound n.what ≡ true → flat Buffered (held n o) ≡ token_of kind.Number n.what ++ (some_flat (flat Held) o ++ [])
+held_rule n None e = plus (core (lit_token (number_of n.what)))
+held_rule n (Some (Some fby, t)) e = literal_rule (number_of n.what, n.span) (Some (fby, t))
+held_rule n (Some (None, t)) e = ap (λ u. u ++ core (printed t)) (bound_token n.what e) ∙ ap (λ u. token_of kind.Number n.what ++ u) (plus (core (printed t)))
 
 call_flat : (n : name.Name) (at : Option Bits) (ts : Trees) → core (printed (call n at ts)) ≡ what.Name n.text ∷ (flat Applied (at, ts) ++ [])
 call_flat n None ts = ap (λ u. what.Name n.text ∷ u) (put_parens (commas (all_printed ts)) [] [] refl)
@@ -188,17 +209,18 @@ all_are_flat MoreSamp = (λ k vs h. ap (λ u. kept (what.Mark (op_mark vs.0.0)) 
 all_are_flat ProdOp = (λ k vs h. refl, (λ k vs h. refl, (λ k vs h. refl, tt)))
 all_are_flat Samp = (λ k vs h. sampled_flat vs.0 vs.1.0 ∙ ap (λ u. core (printed vs.0) ++ u) (plus (all_flat (flat Sampling) vs.1.0)), tt)
 all_are_flat Sampling = (λ k vs h. refl, (λ k vs h. refl, tt))
-all_are_flat Pre = (
+all_are_flat Pre = (λ k vs h. literal_rule vs.0 vs.1.0, (λ k vs h. plus (core (printed vs.0)), tt))
+all_are_flat Followed = (λ k vs h. ap (λ u. what.Mark mark.Fby ∷ u) (plus (core (printed vs.1.0))), tt)
+all_are_flat Form = (
   λ k vs h. ap (λ u. what.Mark mark.Not ∷ u) (put_later vs.1.0 [] [] refl),
   (
-    λ k vs h. ap (λ u. what.Mark mark.Buffer ∷ u) (put_later vs.1.0 [] [] refl),
-    (
-      λ k vs h. ap (λ u. what.Mark mark.Merge ∷ what.Word (word_of vs.1.0.what) ∷ u) (put_later vs.1.1.0 _ _ (put_later vs.1.1.1.0 [] [] refl)),
-      (λ k vs h. literal_rule vs.0 vs.1.0, (λ k vs h. plus (core (printed vs.0)), tt)),
-    ),
+    λ k vs h. buffer_rule vs.1.0.0 vs.1.0.1 vs.0.span,
+    (λ k vs h. ap (λ u. what.Mark mark.Merge ∷ what.Word (word_of vs.1.0.what) ∷ u) (put_later vs.1.1.0 _ _ (put_later vs.1.1.1.0 [] [] refl)), (λ k vs h. plus (core (printed vs.0)), tt)),
   ),
 )
-all_are_flat Followed = (λ k vs h. ap (λ u. what.Mark mark.Fby ∷ u) (plus (core (printed vs.1.0))), tt)
+all_are_flat Buffered = (λ k vs h. held_rule vs.0 vs.1.0 h.0, (λ k vs h. literal_rule vs.0 vs.1.0, (λ k vs h. plus (core (printed vs.0)), tt)))
+all_are_flat Held = (λ k vs h. plus (flat Followed vs.0), (λ k vs h. plus (core (printed vs.1.0)), tt))
+all_are_flat Other = (λ k vs h. plus (core (lit_token (number_of vs.0.what))), (λ k vs h. refl, (λ k vs h. refl, tt)))
 all_are_flat Atom = (
   λ k vs h. named_rule (name_of vs.0) vs.1.0,
   (λ k vs h. ap (λ u. what.Mark mark.Host ∷ what.Name (bytes_of vs.1.0.what) ∷ u) (put_parens (commas (all_printed vs.1.1.0)) [] [] refl), (λ k vs h. plus (core (printed vs.1.0)), tt)),

@@ -2,6 +2,8 @@
 use Rattle.std.proofs.Common.{ℕ, ◌≡◌, List, [], ◌∷◌, ◌++◌, Option, Some, None, map, refl, ap, sym, ◌∙◌, append_assoc}
 use Rattle.std.proofs.lemmas.List.{append-nil, map-append}
 use Rattle.lucy_word.specs.Bits.{Bits}
+use Rattle.std.specs.Prelude.{pos}
+use Rattle.lucy_tree.specs.declared.span.Span.{Span}
 use Rattle.lucy_tree.specs.Tree.{Tree, literal, variable}
 use Rattle.lucy_tree.specs.View.{DefTree}
 use Rattle.lucy_token.specs.declared.mark.Mark.TheVariants as mark
@@ -10,7 +12,8 @@ use Rattle.lucy_token.specs.declared.token.Kind.TheVariants as kind
 use Rattle.lucy_token.specs.declared.token.What.{What}
 use Rattle.lucy_token.specs.declared.token.What.TheVariants as what
 use Rattle.lucy_token.specs.Spelled.{Printed, whats_of}
-use Rattle.lucy_grammar.specs.Symbols.{Sym, token, part, many, perhaps, Val, Vals, Link, Part, Program, Node, Title, Params, Results, Names, Ident, MoreName, Body, Decls, MoreDecl, Decl, Typing, TypeName, ClockOf, Defs, Def, MoreDef, Lefts, Expr, Or, MoreAnd, And, MoreCmp, Cmp, Compared, CmpOp, Sum, MoreProd, SumOp, Prod, MoreSamp, ProdOp, Samp, Sampling, Pre, Followed, Atom, Small, Lit, Pair, Call, Applied, Base, Args, MoreExpr}
+use Rattle.lucy_grammar.specs.Kinds.{sort_kind}
+use Rattle.lucy_grammar.specs.Symbols.{Sym, token, part, many, perhaps, Val, Vals, Link, Part, Program, Node, Title, Params, Results, Names, Ident, MoreName, Body, Decls, MoreDecl, Decl, Typing, TypeName, ClockOf, Defs, Def, MoreDef, Lefts, Expr, Or, MoreAnd, And, MoreCmp, Cmp, Compared, CmpOp, Sum, MoreProd, SumOp, Prod, MoreSamp, ProdOp, Samp, Sampling, Pre, Followed, Form, Buffered, Held, Other, Atom, Small, Lit, Pair, Call, Applied, Base, Args, MoreExpr}
 use Rattle.lucy_grammar.specs.Meanings.{bytes_of, number_of, word_of}
 use Rattle.lucy_grammar.specs.Parens.{kept, without_parens}
 use Rattle.lucy_grammar.specs.Print.{blank, the, after, spaced, commas, parens, name_token, lit_token, op_mark, when_mark, operand, printed, all_printed, type_mark, typing, clock, printed_decl, printed_def, more_defs, printed_body, printed_node, printed_program}
@@ -65,6 +68,14 @@ based (Some w) = what.Mark mark.At ∷ what.Word w ∷ []
 abbrev pub flat_link : Link → List What
 flat_link l = kept (what.Mark (op_mark l.op)) ++ core (printed l.right)
 
+abbrev pub flat_bound : Option ℕ → List What
+flat_bound None = []
+flat_bound (Some n) = what.Number (pos n) ∷ []
+
+abbrev pub flat_fby : Option Span → List What
+flat_fby None = []
+flat_fby (Some span) = what.Mark mark.Fby ∷ []
+
 -- what a part's tokens are but for parentheses, by what it stands for
 abbrev pub flat : (X : Part) → Val X → List What
 flat Program v = core (printed_program v)
@@ -104,6 +115,10 @@ flat Samp v = core (printed v)
 flat Sampling v = kept (what.Mark (when_mark v.0)) ++ (what.Word v.1 ∷ [])
 flat Pre v = core (printed v)
 flat Followed v = what.Mark mark.Fby ∷ core (printed v.1)
+flat Form v = core (printed v)
+flat Buffered v = flat_bound v.0 ++ core (printed v.1)
+flat Held v = flat_fby v.0 ++ core (printed v.1)
+flat Other v = core (lit_token v.0)
 flat Atom v = core (printed v)
 flat Small v = core (printed v)
 flat Lit v = core (lit_token v.0)
@@ -132,7 +147,7 @@ some_flat f (Some x) = f x
 
 abbrev pub flats : (syms : List Sym) → Vals syms → List What
 flats [] vs = []
-flats (token k ∷ syms) vs = token_of k vs.0.what ++ flats syms vs.1
+flats (token s ∷ syms) vs = token_of (sort_kind s) vs.0.what ++ flats syms vs.1
 flats (part X ∷ syms) vs = flat X vs.0 ++ flats syms vs.1
 flats (many X ∷ syms) vs = all_flat (flat X) vs.0 ++ flats syms vs.1
 flats (perhaps X ∷ syms) vs = some_flat (flat X) vs.0 ++ flats syms vs.1

@@ -20,7 +20,7 @@ use Rattle.lucy_token.specs.States.{State, after, closed, side_after, side_defin
 use Rattle.lucy_grammar.specs.Parens.{without_parens}
 use Rattle.lucy_grammar.proofs.CutLimits.{AllPass}
 
-abbrev is_head : Side → Bool
+abbrev pub is_head : Side → Bool
 is_head side.Head = true
 is_head at = false
 
@@ -30,13 +30,13 @@ pub record Count : Type 0 where
   pub tokens : ℕ
   pub nodes : ℕ
 
-abbrev head_after : Bool → Kind → Bool
+abbrev pub head_after : Bool → Kind → Bool
 head_after h (kind.Mark mark.Let) = true
 head_after h (kind.Mark mark.Rec) = false
 head_after h (kind.Mark mark.And) = false
 head_after h k = h
 
-abbrev tokens_after : Bool → ℕ → Kind → ℕ
+abbrev pub tokens_after : Bool → ℕ → Kind → ℕ
 tokens_after h n (kind.Mark mark.Let) = 0
 tokens_after h n (kind.Mark mark.Rec) = 0
 tokens_after h n (kind.Mark mark.And) = 0
@@ -67,7 +67,7 @@ head_defined : (before : Kind) → is_head (side_defined before) ≡ false
 head_defined (kind.Mark mark.Close) = refl
 head_defined before = refl
 
-same_head : (at : Side) (before k : Kind) → is_head (side_after at before k) ≡ head_after (is_head at) k
+pub same_head : (at : Side) (before k : Kind) → is_head (side_after at before k) ≡ head_after (is_head at) k
 same_head side.Left before (kind.Mark mark.Equals) = head_defined before
 same_head side.Left before k = refl
 same_head side.Called before (kind.Mark mark.Open) = refl

@@ -10,7 +10,8 @@ use Rattle.lucy_token.specs.declared.token.Kind.{Kind}
 use Rattle.lucy_token.specs.declared.token.Kind.TheVariants as kind
 use Rattle.lucy_token.specs.declared.state.Side.TheVariants as side
 use Rattle.lucy_token.specs.States.{State, after, side_defined, is_past_last}
-use Rattle.lucy_grammar.specs.Symbols.{Sym, token, part, many, perhaps, Val, Vals, Link, Rule, Part, Program, Node, Title, Params, Results, Names, Ident, MoreName, Body, Decls, MoreDecl, Decl, Typing, TypeName, ClockOf, Defs, Def, MoreDef, Lefts, Expr, Or, MoreAnd, And, MoreCmp, Cmp, Compared, CmpOp, Sum, MoreProd, SumOp, Prod, MoreSamp, ProdOp, Samp, Sampling, Pre, Followed, Atom, Small, Lit, Pair, Call, Applied, Base, Args, MoreExpr}
+use Rattle.lucy_grammar.specs.Kinds.{sort_kind}
+use Rattle.lucy_grammar.specs.Symbols.{Sym, token, part, many, perhaps, Val, Vals, Link, Rule, Part, Program, Node, Title, Params, Results, Names, Ident, MoreName, Body, Decls, MoreDecl, Decl, Typing, TypeName, ClockOf, Defs, Def, MoreDef, Lefts, Expr, Or, MoreAnd, And, MoreCmp, Cmp, Compared, CmpOp, Sum, MoreProd, SumOp, Prod, MoreSamp, ProdOp, Samp, Sampling, Pre, Followed, Form, Buffered, Held, Other, Atom, Small, Lit, Pair, Call, Applied, Base, Args, MoreExpr}
 use Rattle.lucy_grammar.proofs.Levels.{Keeps, IsDue}
 
 abbrev pub most : ℕ
@@ -25,7 +26,7 @@ abbrev mutual
   IsFew (sampled flip e w) = IsFew e
   IsFew (merged w a b span) = IsFew a × IsFew b
   IsFew (followed l e span) = IsFew e
-  IsFew (buffered e span) = IsFew e
+  IsFew (buffered most_held e span) = IsFew e
   IsFew (call n at args) = (length (list_of args) ≤ most) × AreFew args
 
   pub AreFew : Trees → Type 0
@@ -125,6 +126,10 @@ Spec Samp s v j = ExprSpec s v j
 Spec Sampling s v j = Keeps s j
 Spec Pre s v j = ExprSpec s v j
 Spec Followed s v j = s.side ≡ side.Right → Keeps s j × IsFew v.1
+Spec Form s v j = ExprSpec s v j
+Spec Buffered s v j = s.side ≡ side.Right → Keeps s j × IsFew v.1
+Spec Held s v j = s.side ≡ side.Right → Keeps s j × IsFew v.1
+Spec Other s v j = ((k : Kind) × (is_past_last s k ≡ false)) × Keeps s j
 Spec Atom s v j = ExprSpec s v j
 Spec Small s v j = ExprSpec s v j
 Spec Lit s v j = ((k : Kind) × (is_past_last s k ≡ false)) × Keeps s j
@@ -147,7 +152,7 @@ Maybe R s (Some x) j = R s x j
 -- what holds behind symbols, where each of their parts is so
 abbrev pub Behind : (syms : List Sym) → State → Vals syms → (State → Type 0) → Type 0
 Behind [] s vs K = K s
-Behind (token k ∷ syms) s vs K = is_past_last s k ≡ false → Behind syms (after s k) vs.1 K
+Behind (token k ∷ syms) s vs K = is_past_last s (sort_kind k) ≡ false → Behind syms (after s (sort_kind k)) vs.1 K
 Behind (part X ∷ syms) s vs K = (j : State) → Spec X s vs.0 j → Behind syms j vs.1 K
 Behind (many X ∷ syms) s vs K = (j : State) → Chain (Spec X) s vs.0 j → Behind syms j vs.1 K
 Behind (perhaps X ∷ syms) s vs K = (j : State) → Maybe (Spec X) s vs.0 j → Behind syms j vs.1 K

@@ -11,6 +11,8 @@ use Rattle.lucy_grammar.specs.Symbols.{Sym, token, part, many, perhaps, Rule, Pa
 use Rattle.lucy_grammar.specs.Grammar.{rules}
 use Rattle.lucy_grammar.specs.Derivations.{Deriv, done, take, by_rule, enough, again, absent, present, spelled, value}
 use Rattle.lucy_grammar.specs.Programs.{IsProgram}
+use Rattle.lucy_grammar.specs.Kinds.{sort_kind}
+use Rattle.lucy_grammar.proofs.Numbers.{fits_kind}
 use Rattle.lucy_grammar.proofs.CutLimits.{AllPass}
 use Rattle.lucy_grammar.proofs.FewEntries.{IsFewNode, Spec, Behind, Makes, AllMake}
 use Rattle.lucy_grammar.proofs.FewRules.{all_make}
@@ -29,9 +31,10 @@ both s a b rest h = subst (AllPass s) (append_assoc a b rest) h
 -- a derivation in a text with no fault goes from a state to one behind it
 reads : (syms : List Sym) (d : Deriv syms) (s : State) (rest : List Token) → AllPass s (spelled d ++ rest) → (K : State → Type 0) → Behind syms s (value d) K → (j : State) × K j × AllPass j rest
 reads [] done s rest h K w = (s, w, h)
-reads (token k ∷ syms) (take t e d) s rest h K w =
-    let P : Kind → Type 0 = λ i. (is_past_last s i ≡ false) × AllPass (after s i) (spelled d ++ rest) in
-    let at : P k = subst P e (h.1, h.2) in
+reads (token i ∷ syms) (take t e d) s rest h K w =
+    let k : Kind = sort_kind i in
+    let P : Kind → Type 0 = λ j. (is_past_last s j ≡ false) × AllPass (after s j) (spelled d ++ rest) in
+    let at : P k = subst P (fits_kind i t.what e) (h.1, h.2) in
     reads syms d (after s k) rest at.1 K (w at.0)
 reads (part X ∷ syms) (by_rule i p m a b) s rest h K w =
     let r = reads p.syms a s (spelled b ++ rest) (both s (spelled a) (spelled b) rest h) (λ j. Spec X s (p.meaning (value a)) j) (makes_in X (rules X) i p (all_make X) m s (value a)) in

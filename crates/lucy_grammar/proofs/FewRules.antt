@@ -4,12 +4,12 @@ use Rattle.lucy_token.specs.declared.mark.Mark.TheVariants as mark
 use Rattle.lucy_token.specs.declared.token.Kind.TheVariants as kind
 use Rattle.lucy_token.specs.declared.state.Side.TheVariants as side
 use Rattle.lucy_token.specs.States.{after, side_defined, begins_entry}
-use Rattle.lucy_grammar.specs.Symbols.{Part, Program, Node, Title, Params, Results, Names, Ident, MoreName, Body, Decls, MoreDecl, Decl, Typing, TypeName, ClockOf, Defs, Def, MoreDef, Lefts, Expr, Or, MoreAnd, And, MoreCmp, Cmp, Compared, CmpOp, Sum, MoreProd, SumOp, Prod, MoreSamp, ProdOp, Samp, Sampling, Pre, Followed, Atom, Small, Lit, Pair, Call, Applied, Base, Args, MoreExpr}
+use Rattle.lucy_grammar.specs.Symbols.{Part, Program, Node, Title, Params, Results, Names, Ident, MoreName, Body, Decls, MoreDecl, Decl, Typing, TypeName, ClockOf, Defs, Def, MoreDef, Lefts, Expr, Or, MoreAnd, And, MoreCmp, Cmp, Compared, CmpOp, Sum, MoreProd, SumOp, Prod, MoreSamp, ProdOp, Samp, Sampling, Pre, Followed, Form, Buffered, Held, Other, Atom, Small, Lit, Pair, Call, Applied, Base, Args, MoreExpr}
 use Rattle.lucy_grammar.specs.Meanings.{name_of}
 use Rattle.lucy_grammar.specs.Grammar.{rules}
 use Rattle.lucy_grammar.proofs.Levels.{keeps_then, keeps_plain, IsDue, due_called, one_on, rec_left, and_left, defined, begins_name}
 use Rattle.lucy_grammar.proofs.FewEntries.{IsFewDef, IsFewNode, Spec, AllMake}
-use Rattle.lucy_grammar.proofs.FewSteps.{chain_all, more_entries, list_read, still_few, more_read, few_opened, params_few, body_few, ended_plain, ended_after, decl_read, lefts_read, few_second, expr_after, link_read, grouped_read, compared_read, sampled_read, literal_read, named_read, parens_read, length-trees, args_read, applied_read, pair_read, if_read, merge_read}
+use Rattle.lucy_grammar.proofs.FewSteps.{chain_all, more_entries, list_read, still_few, more_read, few_opened, params_few, body_few, ended_plain, ended_after, decl_read, lefts_read, few_second, expr_after, link_read, grouped_read, compared_read, sampled_read, literal_read, held_read, named_read, parens_read, length-trees, args_read, applied_read, pair_read, if_read, merge_read}
 
 -- each production makes its part so
 pub all_make : (X : Part) → AllMake X (rules X)
@@ -67,17 +67,30 @@ all_make Sampling = (
   λ s vs p q. keeps_then (keeps_plain s (kind.Mark mark.When) refl) (keeps_plain (after s (kind.Mark mark.When)) kind.Word refl),
   (λ s vs p q. keeps_then (keeps_plain s (kind.Mark mark.Whenot) refl) (keeps_plain (after s (kind.Mark mark.Whenot)) kind.Word refl), tt),
 )
-all_make Pre = (
+all_make Pre = (λ s vs m l j f r. literal_read s m j vs.0 vs.1.0 r l f, (λ s vs j c. c, tt))
+all_make Followed = (λ s vs p j c. expr_after s j vs.1.0 (kind.Mark mark.Fby) refl c, tt)
+all_make Form = (
   λ s vs p j c r. let x = expr_after s j vs.1.0 (kind.Mark mark.Not) refl c r in record { first = (kind.Mark mark.Not, p); keeps = x.0; few = (x.1, tt) },
   (
-    λ s vs p j c r. let x = expr_after s j vs.1.0 (kind.Mark mark.Buffer) refl c r in record { first = (kind.Mark mark.Buffer, p); keeps = x.0; few = x.1 },
+    λ s vs p j c r.
+        let keeps = keeps_plain s (kind.Mark mark.Buffer) refl in
+        let x = c (keeps.at ∙ r) in
+        record { first = (kind.Mark mark.Buffer, p); keeps = keeps_then keeps x.0; few = x.1 },
     (
       λ s vs p q m a j b r. let x = merge_read s m j vs.1.1.0 vs.1.1.1.0 r a b in record { first = (kind.Mark mark.Merge, p); keeps = x.0; few = x.1 },
-      (λ s vs m l j f r. literal_read s m j vs.0 vs.1.0 r l f, (λ s vs j c. c, tt)),
+      (λ s vs j c. c, tt),
     ),
   ),
 )
-all_make Followed = (λ s vs p j c. expr_after s j vs.1.0 (kind.Mark mark.Fby) refl c, tt)
+all_make Buffered = (
+  λ s vs p j h r. held_read s j vs.0 vs.1.0 r h,
+  (λ s vs m l j f r. let x = literal_read s m j vs.0 vs.1.0 r l f in (x.keeps, x.few), (λ s vs j c r. let x = c r in (x.keeps, x.few), tt)),
+)
+all_make Held = (λ s vs j c. c, (λ s vs p m c q r. let x = parens_read s m vs.1.0 r p c in (x.keeps, x.few), tt))
+all_make Other = (
+  λ s vs p. ((kind.Number, p), keeps_plain s kind.Number refl),
+  (λ s vs p. ((kind.Mark mark.True, p), keeps_plain s (kind.Mark mark.True) refl), (λ s vs p. ((kind.Mark mark.False, p), keeps_plain s (kind.Mark mark.False) refl), tt)),
+)
 all_make Atom = (
   λ s vs p j c r. named_read s j (name_of vs.0) vs.1.0 r p c,
   (

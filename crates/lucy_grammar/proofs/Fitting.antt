@@ -190,6 +190,18 @@ unit_parens {e} {a} x = record {
       (λ j a o l f. k j (record { at = a ∙ sym r.here; outer = o; commas = ap (λ u. u.commas) l }) (ap (λ u. u.wanted) l));
 }
 
+pub last_parens : {e : ℕ} {a : List Printed} → IsOperand side.Right e a → IsLast side.Right (suc e) (parens a)
+last_parens {e} {a} x = record {
+  fits = λ s ws r k.
+      let q : State = after s (kind.Mark mark.Open) in
+      let o = opened s in
+      let at : q.side ≡ side.Right = opened_right s (due_right s.side r.here) in
+      let ready : IsReady side.Right e q = record { here = at; room = omega (arith, r.room, ap length o.outer); few = omega (arith, no_commas o) } in
+      parens_fit a side.Right s ws at (omega (arith, r.room)) r.few
+      (λ vs h. x.fits q vs ready (λ g. begins_behind q at (ap precedes_operand o.before)) (λ j p. h j (p.at ∙ at) (p.outer ∙ o.outer) (omega (arith, p.commas, no_commas o))))
+      (λ j a o l f. k j a o (ap (λ u. u.commas) l));
+}
+
 -- lists
 entries_fit : (at : Side) (e : ℕ) (xs : List (List Printed)) → AllByRecursion (IsOperand at e) xs → (s : State) (ws : List What) → s.side ≡ at → length s.outer + e ≤ deepest → s.level.commas + length xs < most →
     ((j : State) → j.side ≡ at → j.outer ≡ s.outer → j.level.commas < most → AllFit j ws) → AllFit s (whats_of (after_commas xs) ++ ws)

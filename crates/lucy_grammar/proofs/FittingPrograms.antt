@@ -92,7 +92,7 @@ a_call (host n args) c h = absurd c
 a_call (sampled flip e w) c h = absurd c
 a_call (merged w a b span) c h = absurd c
 a_call (followed l e span) c h = absurd c
-a_call (buffered e span) c h = absurd c
+a_call (buffered most e span) c h = absurd c
 
 called_of : (right : Tree) (j : State) (ws : List What) → weight (printed right) ≤ deepest → IsCall right → IsFew right → j.side ≡ side.Left → j.before ≡ kind.Mark mark.Close → IsTop j → ((i : State) → IsTop i → AllFit i ws) →
     AllFit j (whats_of (in_print blank (what.Mark mark.Equals) ∷ (print.after blank (printed right) ++ [])) ++ ws)

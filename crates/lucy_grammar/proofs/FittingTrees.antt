@@ -1,5 +1,6 @@
 -- What is printed of a tree may stand where an operand begins, if there is room for its parentheses.
 use Rattle.std.proofs.Common.{◌≡◌, ℕ, suc, ◌+◌, ◌≤◌, Bool, true, false, List, [], ◌∷◌, ◌++◌, length, Option, Some, None, refl, ap, ◌∙◌, arith, length-append}
+use Rattle.std.specs.Prelude.{pos}
 use Rattle.std.specs.List.{AllByRecursion}
 use Rattle.lucy_word.specs.Bits.{Bits}
 use Rattle.lucy_host.specs.declared.op.Op.{Op}
@@ -25,7 +26,7 @@ use Rattle.lucy_grammar.proofs.Cores.{core, core-append, put_after, put_operand,
 use Rattle.lucy_grammar.proofs.Weights.{weight}
 use Rattle.lucy_grammar.proofs.FewEntries.{most, IsFew, AreFew}
 use Rattle.lucy_grammar.proofs.Levels.{is_plain, keeps_plain, IsDue, in_list, wanted_name, wanted_number, wanted_true, wanted_false}
-use Rattle.lucy_grammar.proofs.Fitting.{IsOperand, IsUnit, IsLast, fits_plain, tail_none, operand_of, operand_unit, tail_last, operand_and, later, operand_after, last_end, tail_plain, last_plain, tail_before, operand_more, unit_more, last_more, unit_parens, list_last, tail_merge}
+use Rattle.lucy_grammar.proofs.Fitting.{IsOperand, IsUnit, IsLast, fits_plain, tail_none, operand_of, operand_unit, tail_last, operand_and, later, operand_after, last_end, tail_plain, last_plain, tail_before, operand_more, unit_more, last_more, unit_parens, last_parens, list_last, tail_merge}
 
 -- weights
 pub weight-append : (a b : List Printed) → weight (a ++ b) ≡ weight a + weight b
@@ -189,11 +190,15 @@ followed_fits l e s x =
     let whole : f ≡ weight (lit_token l) + suc (weight (printed e) + 0) = weight-append (lit_token l) (in_print blank (what.Mark mark.Fby) ∷ back) ∙ ap (λ n. weight (lit_token l) + suc n) (weight_later e []) in
     operand_and (operand_unit (unit_lit l)) (tail_before blank mark.Fby refl refl (later (bare e f (omega (arith, whole)) x)))
 
-buffered_fits : (e : Tree) (s : Span) → FitsAlone (printed e) → FitsAlone (printed (buffered e s))
-buffered_fits e s x =
-    let f : ℕ = weight (printed (buffered e s)) in
+buffered_fits : (most : Option ℕ) (e : Tree) (s : Span) → FitsAlone (printed e) → FitsAlone (printed (buffered most e s))
+buffered_fits None e s x =
+    let f : ℕ = weight (printed (buffered None e s)) in
     let whole : f ≡ suc (weight (printed e) + 0) = ap suc (weight_later e []) in
     operand_of (tail_before [] mark.Buffer refl refl (later (bare e f (omega (arith, whole)) x)))
+buffered_fits (Some n) e s x =
+    let f : ℕ = weight (printed (buffered (Some n) e s)) in
+    let w = weight_list (printed e) in
+    operand_of (tail_plain [] (what.Mark mark.Buffer) refl refl (tail_plain blank (what.Number (pos n)) refl refl (tail_last (last_end (last_more f (omega (arith, w)) (last_parens x))))))
 
 mutual
   pub tree_fits : (t : Tree) → IsFew t → IsOperand side.Right (weight (printed t)) (printed t)
@@ -207,7 +212,7 @@ mutual
   tree_fits (sampled flip e w) h = sampled_fits flip e w (tree_fits e h)
   tree_fits (merged w a b span) h = merged_fits w a b span (tree_fits a h.0) (tree_fits b h.1)
   tree_fits (followed l e span) h = followed_fits l e span (tree_fits e h)
-  tree_fits (buffered e span) h = buffered_fits e span (tree_fits e h)
+  tree_fits (buffered most_held e span) h = buffered_fits most_held e span (tree_fits e h)
   tree_fits (call n at args) h = operand_of (tail_last (call_last side.Right n at args tt h.0 (all_alone args h.1)))
 
   pub all_alone : (ts : Trees) → AreFew ts → AllByRecursion (λ x. IsOperand side.Right (weight x) x) (all_printed ts)

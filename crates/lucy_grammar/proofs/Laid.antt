@@ -1,7 +1,7 @@
 -- Only blanks stand between printed tokens, and some wherever two would run together; and what is printed of a definition
 -- counts as its own tokens.
 use Rattle.std.proofs.Common.{ℕ, suc, ◌≡◌, length, arith, true, false, List, [], ◌∷◌, ◌++◌, Option, Some, None, map, refl, sym, subst, append_assoc}
-use Rattle.std.specs.Prelude.{not, ◌&&◌, ◌||◌}
+use Rattle.std.specs.Prelude.{pos, not, ◌&&◌, ◌||◌}
 use Rattle.std.specs.List.{AllByRecursion}
 use Rattle.std.proofs.lemmas.List.{append-nil}
 use Rattle.std.proofs.lemmas.Bool.{and_parts, and_from, or_left, not_from_false}
@@ -210,7 +210,9 @@ mutual
       laid_words (the mark.Merge) (word_token w ∷ operand a (printed a) ∷ operand b (printed b) ∷ []) (laid_one (what.Mark mark.Merge) refl)
       (apart_one (what.Word w), ((laid_operand a (laid_tree a h.1.0)).laid, ((laid_operand b (laid_tree b h.1.1)).laid, tt)))
   laid_tree (followed l e span) h = laid_words (lit_token l) (the mark.Fby ∷ operand e (printed e) ∷ []) (laid_lit l) (the_apart mark.Fby, ((laid_operand e (laid_tree e h.1)).laid, tt))
-  laid_tree (buffered e span) h = laid_words (the mark.Buffer) (operand e (printed e) ∷ []) (laid_one (what.Mark mark.Buffer) refl) ((laid_operand e (laid_tree e h)).laid, tt)
+  laid_tree (buffered None e span) h = laid_words (the mark.Buffer) (operand e (printed e) ∷ []) (laid_one (what.Mark mark.Buffer) refl) ((laid_operand e (laid_tree e h.1)).laid, tt)
+  laid_tree (buffered (Some n) e span) h =
+      laid_words (the mark.Buffer) (one (what.Number (pos n)) ∷ parens (printed e) ∷ []) (laid_one (what.Mark mark.Buffer) refl) (apart_one (what.Number (pos n)), ((laid_parens (laid_tree e h.1)).laid, tt))
   laid_tree (call n at args) h = laid_called n at (parens (commas (all_printed args))) (laid_parens (laid_commas (all_printed args) (laid_all args h.1.1)))
 
   laid_all : (ts : Trees) → ArePrintable Anywhere ts → AllByRecursion IsLaid (all_printed ts)

@@ -42,3 +42,8 @@ mod Fitting
 mod FittingTrees
 mod FittingPrograms
 pub mod RoundTrip
+mod PlainLimitsLaws
+mod PlainNames
+mod Balance
+mod Groups
+mod Sides

@@ -15,43 +15,43 @@ use Rattle.lucy_grammar.proofs.Steps.{end, tok, tok_no, tok_bad, sub, sub_no, su
 
 pub title : {ts m1 m2 rest : List Token} {l d n : Token} → Begins ts l (kind.Mark mark.Let) m1 → Begins m1 d (kind.Mark mark.Node) m2 → Begins m2 n kind.Name rest → Reads Title ts (name_of n) rest
 unfolding rules follows begins
-title h1 h2 h3 = rule 0 refl (others _ 0 refl tt) (tok h1 (tok h2 (tok h3 (end _))))
+title {ts = ts} h1 h2 h3 = rule 0 refl (others ts 0 refl tt) (tok h1 (tok h2 (tok h3 (end _))))
 
 pub title_1 : {ts rest : List Token} → IsOther ts (kind.Mark mark.Let) rest → Unfit Title ts rest
 unfolding rules follows begins
-title_1 u = rule_no 0 refl (others _ 0 refl tt) (tok_bad refl u)
+title_1 {ts = ts} u = rule_no 0 refl (others ts 0 refl tt) (tok_bad refl u)
 
 pub title_2 : {ts m1 rest : List Token} {l : Token} → Begins ts l (kind.Mark mark.Let) m1 → IsOther m1 (kind.Mark mark.Node) rest → Unfit Title ts rest
 unfolding rules follows begins
-title_2 h1 u = rule_no 0 refl (others _ 0 refl tt) (tok_no h1 (tok_bad refl u))
+title_2 {ts = ts} h1 u = rule_no 0 refl (others ts 0 refl tt) (tok_no h1 (tok_bad refl u))
 
 pub title_3 : {ts m1 m2 rest : List Token} {l d : Token} → Begins ts l (kind.Mark mark.Let) m1 → Begins m1 d (kind.Mark mark.Node) m2 → IsOther m2 kind.Name rest → Unfit Title ts rest
 unfolding rules follows begins
-title_3 h1 h2 u = rule_no 0 refl (others _ 0 refl tt) (tok_no h1 (tok_no h2 (tok_bad refl u)))
+title_3 {ts = ts} h1 h2 u = rule_no 0 refl (others ts 0 refl tt) (tok_no h1 (tok_no h2 (tok_bad refl u)))
 
 pub node : {ts m1 m2 m3 m4 rest : List Token} {q : Token} {n : Val Title} {ps : Val Params} {rs : Val Results} (ds : Option (Val Body)) → Reads Title ts n m1 → Reads Params m1 ps m2 → Begins m2 q (kind.Mark mark.Equals) m3 → Reads Results m3 rs m4 → ReadsOptional Body m4 ds rest → Reads Node ts (record { name = n; params = ps; results = rs; defs = all_of ds }) rest
 unfolding rules follows begins
-node ds h1 h2 h3 h4 h5 = rule 0 refl (others _ 0 refl tt) (sub refl h1 (sub refl h2 (tok h3 (sub refl h4 (maybe ds refl h5 (end _))))))
+node {ts = ts} ds h1 h2 h3 h4 h5 = rule 0 refl (others ts 0 refl tt) (sub refl h1 (sub refl h2 (tok h3 (sub refl h4 (maybe ds refl h5 (end _))))))
 
 pub node_1 : {ts rest : List Token} → Unfit Title ts rest → Unfit Node ts rest
 unfolding rules follows begins
-node_1 u = rule_no 0 refl (others _ 0 refl tt) (sub_bad refl u)
+node_1 {ts = ts} u = rule_no 0 refl (others ts 0 refl tt) (sub_bad refl u)
 
 pub node_2 : {ts m1 rest : List Token} {n : Val Title} → Reads Title ts n m1 → Unfit Params m1 rest → Unfit Node ts rest
 unfolding rules follows begins
-node_2 h1 u = rule_no 0 refl (others _ 0 refl tt) (sub_no refl h1 (sub_bad refl u))
+node_2 {ts = ts} h1 u = rule_no 0 refl (others ts 0 refl tt) (sub_no refl h1 (sub_bad refl u))
 
 pub node_3 : {ts m1 m2 rest : List Token} {n : Val Title} {ps : Val Params} → Reads Title ts n m1 → Reads Params m1 ps m2 → IsOther m2 (kind.Mark mark.Equals) rest → Unfit Node ts rest
 unfolding rules follows begins
-node_3 h1 h2 u = rule_no 0 refl (others _ 0 refl tt) (sub_no refl h1 (sub_no refl h2 (tok_bad refl u)))
+node_3 {ts = ts} h1 h2 u = rule_no 0 refl (others ts 0 refl tt) (sub_no refl h1 (sub_no refl h2 (tok_bad refl u)))
 
 pub node_4 : {ts m1 m2 m3 rest : List Token} {q : Token} {n : Val Title} {ps : Val Params} → Reads Title ts n m1 → Reads Params m1 ps m2 → Begins m2 q (kind.Mark mark.Equals) m3 → Unfit Results m3 rest → Unfit Node ts rest
 unfolding rules follows begins
-node_4 h1 h2 h3 u = rule_no 0 refl (others _ 0 refl tt) (sub_no refl h1 (sub_no refl h2 (tok_no h3 (sub_bad refl u))))
+node_4 {ts = ts} h1 h2 h3 u = rule_no 0 refl (others ts 0 refl tt) (sub_no refl h1 (sub_no refl h2 (tok_no h3 (sub_bad refl u))))
 
 pub node_5 : {ts m1 m2 m3 m4 rest : List Token} {q : Token} {n : Val Title} {ps : Val Params} {rs : Val Results} → Reads Title ts n m1 → Reads Params m1 ps m2 → Begins m2 q (kind.Mark mark.Equals) m3 → Reads Results m3 rs m4 → UnfitOptional Body m4 rest → Unfit Node ts rest
 unfolding rules follows begins
-node_5 h1 h2 h3 h4 u = rule_no 0 refl (others _ 0 refl tt) (sub_no refl h1 (sub_no refl h2 (tok_no h3 (sub_no refl h4 (maybe_bad refl u)))))
+node_5 {ts = ts} h1 h2 h3 h4 u = rule_no 0 refl (others ts 0 refl tt) (sub_no refl h1 (sub_no refl h2 (tok_no h3 (sub_no refl h4 (maybe_bad refl u)))))
 
 pub param : {ts rest : List Token} {n : Token} → Begins ts n kind.Name rest → Reads Params ts (bare (name_of n) ∷ []) rest
 unfolding rules follows begins
@@ -63,7 +63,7 @@ params ds h1 h2 h3 = rule 1 refl (led_by 1 refl refl h1) (tok h1 (maybe ds refl 
 
 pub params_1 : {ts rest : List Token} → (first ts ≡ kind.Name → ⊥) → IsOther ts (kind.Mark mark.Open) rest → Unfit Params ts rest
 unfolding rules follows begins
-params_1 {ts = ts} w u = rule_no 1 refl (others _ 1 refl (not_in ts (kind.Name ∷ []) (w, tt), tt)) (tok_bad refl u)
+params_1 {ts = ts} w u = rule_no 1 refl (others ts 1 refl (not_in ts (kind.Name ∷ []) (w, tt), tt)) (tok_bad refl u)
 
 pub params_2 : {ts m1 rest : List Token} {o : Token} → Begins ts o (kind.Mark mark.Open) m1 → UnfitOptional Decls m1 rest → Unfit Params ts rest
 unfolding rules follows begins
@@ -83,7 +83,7 @@ results h1 h2 h3 = rule 1 refl (led_by 1 refl refl h1) (tok h1 (sub refl h2 (tok
 
 pub results_1 : {ts rest : List Token} → (first ts ≡ kind.Name → ⊥) → IsOther ts (kind.Mark mark.Open) rest → Unfit Results ts rest
 unfolding rules follows begins
-results_1 {ts = ts} w u = rule_no 1 refl (others _ 1 refl (not_in ts (kind.Name ∷ []) (w, tt), tt)) (tok_bad refl u)
+results_1 {ts = ts} w u = rule_no 1 refl (others ts 1 refl (not_in ts (kind.Name ∷ []) (w, tt), tt)) (tok_bad refl u)
 
 pub results_2 : {ts m1 rest : List Token} {o : Token} → Begins ts o (kind.Mark mark.Open) m1 → Unfit Names m1 rest → Unfit Results ts rest
 unfolding rules follows begins
@@ -95,63 +95,63 @@ results_3 h1 h2 u = rule_no 1 refl (led_by 1 refl refl h1) (tok_no h1 (sub_no re
 
 pub ident : {ts rest : List Token} {n : Token} → Begins ts n kind.Name rest → Reads Ident ts (name_of n) rest
 unfolding rules follows begins
-ident h1 = rule 0 refl (others _ 0 refl tt) (tok h1 (end _))
+ident {ts = ts} h1 = rule 0 refl (others ts 0 refl tt) (tok h1 (end _))
 
 pub ident_1 : {ts rest : List Token} → IsOther ts kind.Name rest → Unfit Ident ts rest
 unfolding rules follows begins
-ident_1 u = rule_no 0 refl (others _ 0 refl tt) (tok_bad refl u)
+ident_1 {ts = ts} u = rule_no 0 refl (others ts 0 refl tt) (tok_bad refl u)
 
 pub more_name : {ts m1 rest : List Token} {m : Token} {n : Val Ident} → Begins ts m (kind.Mark mark.Comma) m1 → Reads Ident m1 n rest → Reads MoreName ts n rest
 unfolding rules follows begins
-more_name h1 h2 = rule 0 refl (others _ 0 refl tt) (tok h1 (sub refl h2 (end _)))
+more_name {ts = ts} h1 h2 = rule 0 refl (others ts 0 refl tt) (tok h1 (sub refl h2 (end _)))
 
 pub more_name_2 : {ts m1 rest : List Token} {m : Token} → Begins ts m (kind.Mark mark.Comma) m1 → Unfit Ident m1 rest → Unfit MoreName ts rest
 unfolding rules follows begins
-more_name_2 h1 u = rule_no 0 refl (others _ 0 refl tt) (tok_no h1 (sub_bad refl u))
+more_name_2 {ts = ts} h1 u = rule_no 0 refl (others ts 0 refl tt) (tok_no h1 (sub_bad refl u))
 
 pub body : {ts m1 m2 rest : List Token} {w r : Token} {ds : Val Defs} → Begins ts w (kind.Mark mark.Where) m1 → Begins m1 r (kind.Mark mark.Rec) m2 → Reads Defs m2 ds rest → Reads Body ts ds rest
 unfolding rules follows begins
-body h1 h2 h3 = rule 0 refl (others _ 0 refl tt) (tok h1 (tok h2 (sub refl h3 (end _))))
+body {ts = ts} h1 h2 h3 = rule 0 refl (others ts 0 refl tt) (tok h1 (tok h2 (sub refl h3 (end _))))
 
 pub body_2 : {ts m1 rest : List Token} {w : Token} → Begins ts w (kind.Mark mark.Where) m1 → IsOther m1 (kind.Mark mark.Rec) rest → Unfit Body ts rest
 unfolding rules follows begins
-body_2 h1 u = rule_no 0 refl (others _ 0 refl tt) (tok_no h1 (tok_bad refl u))
+body_2 {ts = ts} h1 u = rule_no 0 refl (others ts 0 refl tt) (tok_no h1 (tok_bad refl u))
 
 pub body_3 : {ts m1 m2 rest : List Token} {w r : Token} → Begins ts w (kind.Mark mark.Where) m1 → Begins m1 r (kind.Mark mark.Rec) m2 → Unfit Defs m2 rest → Unfit Body ts rest
 unfolding rules follows begins
-body_3 h1 h2 u = rule_no 0 refl (others _ 0 refl tt) (tok_no h1 (tok_no h2 (sub_bad refl u)))
+body_3 {ts = ts} h1 h2 u = rule_no 0 refl (others ts 0 refl tt) (tok_no h1 (tok_no h2 (sub_bad refl u)))
 
 pub more_decl : {ts m1 rest : List Token} {m : Token} {d : Val Decl} → Begins ts m (kind.Mark mark.Comma) m1 → Reads Decl m1 d rest → Reads MoreDecl ts d rest
 unfolding rules follows begins
-more_decl h1 h2 = rule 0 refl (others _ 0 refl tt) (tok h1 (sub refl h2 (end _)))
+more_decl {ts = ts} h1 h2 = rule 0 refl (others ts 0 refl tt) (tok h1 (sub refl h2 (end _)))
 
 pub more_decl_2 : {ts m1 rest : List Token} {m : Token} → Begins ts m (kind.Mark mark.Comma) m1 → Unfit Decl m1 rest → Unfit MoreDecl ts rest
 unfolding rules follows begins
-more_decl_2 h1 u = rule_no 0 refl (others _ 0 refl tt) (tok_no h1 (sub_bad refl u))
+more_decl_2 {ts = ts} h1 u = rule_no 0 refl (others ts 0 refl tt) (tok_no h1 (sub_bad refl u))
 
 pub decl : {ts m1 rest : List Token} {n : Token} (m2 : List Token) (t : Option (Val Typing)) (w : Option (Val ClockOf)) → Begins ts n kind.Name m1 → ReadsOptional Typing m1 t m2 → ReadsOptional ClockOf m2 w rest → Reads Decl ts (record { name = name_of n; holds = t; word = w }) rest
 unfolding rules follows begins
-decl m2 t w h1 h2 h3 = rule 0 refl (others _ 0 refl tt) (tok h1 (maybe t refl h2 (maybe w refl h3 (end _))))
+decl {ts = ts} m2 t w h1 h2 h3 = rule 0 refl (others ts 0 refl tt) (tok h1 (maybe t refl h2 (maybe w refl h3 (end _))))
 
 pub decl_1 : {ts rest : List Token} → IsOther ts kind.Name rest → Unfit Decl ts rest
 unfolding rules follows begins
-decl_1 u = rule_no 0 refl (others _ 0 refl tt) (tok_bad refl u)
+decl_1 {ts = ts} u = rule_no 0 refl (others ts 0 refl tt) (tok_bad refl u)
 
 pub decl_2 : {ts m1 rest : List Token} {n : Token} → Begins ts n kind.Name m1 → UnfitOptional Typing m1 rest → Unfit Decl ts rest
 unfolding rules follows begins
-decl_2 h1 u = rule_no 0 refl (others _ 0 refl tt) (tok_no h1 (maybe_bad refl u))
+decl_2 {ts = ts} h1 u = rule_no 0 refl (others ts 0 refl tt) (tok_no h1 (maybe_bad refl u))
 
 pub decl_3 : {ts m1 m2 rest : List Token} {n : Token} (t : Option (Val Typing)) → Begins ts n kind.Name m1 → ReadsOptional Typing m1 t m2 → UnfitOptional ClockOf m2 rest → Unfit Decl ts rest
 unfolding rules follows begins
-decl_3 t h1 h2 u = rule_no 0 refl (others _ 0 refl tt) (tok_no h1 (maybe_no t refl h2 (maybe_bad refl u)))
+decl_3 {ts = ts} t h1 h2 u = rule_no 0 refl (others ts 0 refl tt) (tok_no h1 (maybe_no t refl h2 (maybe_bad refl u)))
 
 pub typing : {ts m1 rest : List Token} {o : Token} {t : Val TypeName} → Begins ts o (kind.Mark mark.Colon) m1 → Reads TypeName m1 t rest → Reads Typing ts t rest
 unfolding rules follows begins
-typing h1 h2 = rule 0 refl (others _ 0 refl tt) (tok h1 (sub refl h2 (end _)))
+typing {ts = ts} h1 h2 = rule 0 refl (others ts 0 refl tt) (tok h1 (sub refl h2 (end _)))
 
 pub typing_2 : {ts m1 rest : List Token} {o : Token} → Begins ts o (kind.Mark mark.Colon) m1 → Unfit TypeName m1 rest → Unfit Typing ts rest
 unfolding rules follows begins
-typing_2 h1 u = rule_no 0 refl (others _ 0 refl tt) (tok_no h1 (sub_bad refl u))
+typing_2 {ts = ts} h1 u = rule_no 0 refl (others ts 0 refl tt) (tok_no h1 (sub_bad refl u))
 
 pub int : {ts rest : List Token} {t : Token} → Begins ts t (kind.Mark mark.Int) rest → Reads TypeName ts holds.Int rest
 unfolding rules follows begins
@@ -163,31 +163,31 @@ bool h1 = rule 1 refl (led_by 1 refl refl h1) (tok h1 (end _))
 
 pub bool_1 : {ts rest : List Token} → (first ts ≡ kind.Mark mark.Int → ⊥) → IsOther ts (kind.Mark mark.Bool) rest → Unfit TypeName ts rest
 unfolding rules follows begins
-bool_1 {ts = ts} w u = rule_no 1 refl (others _ 1 refl (not_in ts (kind.Mark mark.Int ∷ []) (w, tt), tt)) (tok_bad refl u)
+bool_1 {ts = ts} w u = rule_no 1 refl (others ts 1 refl (not_in ts (kind.Mark mark.Int ∷ []) (w, tt), tt)) (tok_bad refl u)
 
 pub clock : {ts m1 rest : List Token} {o w : Token} → Begins ts o (kind.Mark mark.Colons) m1 → Begins m1 w kind.Word rest → Reads ClockOf ts (word_of w.what) rest
 unfolding rules follows begins
-clock h1 h2 = rule 0 refl (others _ 0 refl tt) (tok h1 (tok h2 (end _)))
+clock {ts = ts} h1 h2 = rule 0 refl (others ts 0 refl tt) (tok h1 (tok h2 (end _)))
 
 pub clock_2 : {ts m1 rest : List Token} {o : Token} → Begins ts o (kind.Mark mark.Colons) m1 → IsOther m1 kind.Word rest → Unfit ClockOf ts rest
 unfolding rules follows begins
-clock_2 h1 u = rule_no 0 refl (others _ 0 refl tt) (tok_no h1 (tok_bad refl u))
+clock_2 {ts = ts} h1 u = rule_no 0 refl (others ts 0 refl tt) (tok_no h1 (tok_bad refl u))
 
 pub def : {ts m1 m2 rest : List Token} {q : Token} {d : Val Decl} {e : Val Expr} → IsNone (first ts) (kind.Mark mark.Open ∷ []) → Reads Decl ts d m1 → Begins m1 q (kind.Mark mark.Equals) m2 → Reads Expr m2 e rest → Reads Def ts (record { left = d ∷ []; right = e }) rest
 unfolding rules follows begins
-def {ts = ts} w h1 h2 h3 = rule 0 refl (others _ 0 refl (not_in ts (kind.Mark mark.Open ∷ []) w, tt)) (sub refl h1 (tok h2 (sub refl h3 (end _))))
+def {ts = ts} w h1 h2 h3 = rule 0 refl (others ts 0 refl (not_in ts (kind.Mark mark.Open ∷ []) w, tt)) (sub refl h1 (tok h2 (sub refl h3 (end _))))
 
 pub def_1 : {ts rest : List Token} → IsNone (first ts) (kind.Mark mark.Open ∷ []) → Unfit Decl ts rest → Unfit Def ts rest
 unfolding rules follows begins
-def_1 {ts = ts} w u = rule_no 0 refl (others _ 0 refl (not_in ts (kind.Mark mark.Open ∷ []) w, tt)) (sub_bad refl u)
+def_1 {ts = ts} w u = rule_no 0 refl (others ts 0 refl (not_in ts (kind.Mark mark.Open ∷ []) w, tt)) (sub_bad refl u)
 
 pub def_2 : {ts m1 rest : List Token} {d : Val Decl} → IsNone (first ts) (kind.Mark mark.Open ∷ []) → Reads Decl ts d m1 → IsOther m1 (kind.Mark mark.Equals) rest → Unfit Def ts rest
 unfolding rules follows begins
-def_2 {ts = ts} w h1 u = rule_no 0 refl (others _ 0 refl (not_in ts (kind.Mark mark.Open ∷ []) w, tt)) (sub_no refl h1 (tok_bad refl u))
+def_2 {ts = ts} w h1 u = rule_no 0 refl (others ts 0 refl (not_in ts (kind.Mark mark.Open ∷ []) w, tt)) (sub_no refl h1 (tok_bad refl u))
 
 pub def_3 : {ts m1 m2 rest : List Token} {q : Token} {d : Val Decl} → IsNone (first ts) (kind.Mark mark.Open ∷ []) → Reads Decl ts d m1 → Begins m1 q (kind.Mark mark.Equals) m2 → Unfit Expr m2 rest → Unfit Def ts rest
 unfolding rules follows begins
-def_3 {ts = ts} w h1 h2 u = rule_no 0 refl (others _ 0 refl (not_in ts (kind.Mark mark.Open ∷ []) w, tt)) (sub_no refl h1 (tok_no h2 (sub_bad refl u)))
+def_3 {ts = ts} w h1 h2 u = rule_no 0 refl (others ts 0 refl (not_in ts (kind.Mark mark.Open ∷ []) w, tt)) (sub_no refl h1 (tok_no h2 (sub_bad refl u)))
 
 pub several : {ts m1 m2 rest : List Token} {q : Token} {ds : Val Lefts} {e : Val Call} → first ts ≡ kind.Mark mark.Open → Reads Lefts ts ds m1 → Begins m1 q (kind.Mark mark.Equals) m2 → Reads Call m2 e rest → Reads Def ts (record { left = ds; right = e }) rest
 unfolding rules follows begins
@@ -207,32 +207,32 @@ several_3 w h1 h2 u = rule_no 1 refl (led _ 1 refl refl w) (sub_no refl h1 (tok_
 
 pub more_def : {ts m1 rest : List Token} {m : Token} {d : Val Def} → Begins ts m (kind.Mark mark.And) m1 → Reads Def m1 d rest → Reads MoreDef ts d rest
 unfolding rules follows begins
-more_def h1 h2 = rule 0 refl (others _ 0 refl tt) (tok h1 (sub refl h2 (end _)))
+more_def {ts = ts} h1 h2 = rule 0 refl (others ts 0 refl tt) (tok h1 (sub refl h2 (end _)))
 
 pub more_def_2 : {ts m1 rest : List Token} {m : Token} → Begins ts m (kind.Mark mark.And) m1 → Unfit Def m1 rest → Unfit MoreDef ts rest
 unfolding rules follows begins
-more_def_2 h1 u = rule_no 0 refl (others _ 0 refl tt) (tok_no h1 (sub_bad refl u))
+more_def_2 {ts = ts} h1 u = rule_no 0 refl (others ts 0 refl tt) (tok_no h1 (sub_bad refl u))
 
 pub lefts : {ts m1 m2 m3 m4 rest : List Token} {o m s : Token} {d : Val Decl} {ds : Val Decls} → Begins ts o (kind.Mark mark.Open) m1 → Reads Decl m1 d m2 → Begins m2 m (kind.Mark mark.Comma) m3 → Reads Decls m3 ds m4 → Begins m4 s (kind.Mark mark.Close) rest → Reads Lefts ts (d ∷ ds) rest
 unfolding rules follows begins
-lefts h1 h2 h3 h4 h5 = rule 0 refl (others _ 0 refl tt) (tok h1 (sub refl h2 (tok h3 (sub refl h4 (tok h5 (end _))))))
+lefts {ts = ts} h1 h2 h3 h4 h5 = rule 0 refl (others ts 0 refl tt) (tok h1 (sub refl h2 (tok h3 (sub refl h4 (tok h5 (end _))))))
 
 pub lefts_1 : {ts rest : List Token} → IsOther ts (kind.Mark mark.Open) rest → Unfit Lefts ts rest
 unfolding rules follows begins
-lefts_1 u = rule_no 0 refl (others _ 0 refl tt) (tok_bad refl u)
+lefts_1 {ts = ts} u = rule_no 0 refl (others ts 0 refl tt) (tok_bad refl u)
 
 pub lefts_2 : {ts m1 rest : List Token} {o : Token} → Begins ts o (kind.Mark mark.Open) m1 → Unfit Decl m1 rest → Unfit Lefts ts rest
 unfolding rules follows begins
-lefts_2 h1 u = rule_no 0 refl (others _ 0 refl tt) (tok_no h1 (sub_bad refl u))
+lefts_2 {ts = ts} h1 u = rule_no 0 refl (others ts 0 refl tt) (tok_no h1 (sub_bad refl u))
 
 pub lefts_3 : {ts m1 m2 rest : List Token} {o : Token} {d : Val Decl} → Begins ts o (kind.Mark mark.Open) m1 → Reads Decl m1 d m2 → IsOther m2 (kind.Mark mark.Comma) rest → Unfit Lefts ts rest
 unfolding rules follows begins
-lefts_3 h1 h2 u = rule_no 0 refl (others _ 0 refl tt) (tok_no h1 (sub_no refl h2 (tok_bad refl u)))
+lefts_3 {ts = ts} h1 h2 u = rule_no 0 refl (others ts 0 refl tt) (tok_no h1 (sub_no refl h2 (tok_bad refl u)))
 
 pub lefts_4 : {ts m1 m2 m3 rest : List Token} {o m : Token} {d : Val Decl} → Begins ts o (kind.Mark mark.Open) m1 → Reads Decl m1 d m2 → Begins m2 m (kind.Mark mark.Comma) m3 → Unfit Decls m3 rest → Unfit Lefts ts rest
 unfolding rules follows begins
-lefts_4 h1 h2 h3 u = rule_no 0 refl (others _ 0 refl tt) (tok_no h1 (sub_no refl h2 (tok_no h3 (sub_bad refl u))))
+lefts_4 {ts = ts} h1 h2 h3 u = rule_no 0 refl (others ts 0 refl tt) (tok_no h1 (sub_no refl h2 (tok_no h3 (sub_bad refl u))))
 
 pub lefts_5 : {ts m1 m2 m3 m4 rest : List Token} {o m : Token} {d : Val Decl} {ds : Val Decls} → Begins ts o (kind.Mark mark.Open) m1 → Reads Decl m1 d m2 → Begins m2 m (kind.Mark mark.Comma) m3 → Reads Decls m3 ds m4 → IsOther m4 (kind.Mark mark.Close) rest → Unfit Lefts ts rest
 unfolding rules follows begins
-lefts_5 h1 h2 h3 h4 u = rule_no 0 refl (others _ 0 refl tt) (tok_no h1 (sub_no refl h2 (tok_no h3 (sub_no refl h4 (tok_bad refl u)))))
+lefts_5 {ts = ts} h1 h2 h3 h4 u = rule_no 0 refl (others ts 0 refl tt) (tok_no h1 (sub_no refl h2 (tok_no h3 (sub_no refl h4 (tok_bad refl u)))))

@@ -1,5 +1,7 @@
 -- Every program of the grammar can be printed.
-use Rattle.std.proofs.Common.{ℕ, zero, suc, ◌≡◌, Bool, List, [], ◌∷◌, ◌++◌, length, Option, Some, None, refl, sym, subst}
+use Rattle.std.specs.Prelude.{pos, negsuc}
+use Rattle.std.proofs.lemmas.Bool.Decides.{nat_tests}
+use Rattle.std.proofs.Common.{◌≤◌, nat_le, true, arith, ℕ, zero, suc, ◌≡◌, Bool, List, [], ◌∷◌, ◌++◌, length, Option, Some, None, refl, sym, subst}
 use Rattle.std.specs.List.{AllByRecursion}
 use Rattle.lucy_word.specs.Bits.{Bits}
 use Rattle.lucy_tree.specs.declared.decl.Decl as decl
@@ -13,15 +15,17 @@ use Rattle.lucy_token.specs.declared.token.What.TheVariants as what
 use Rattle.lucy_token.specs.declared.token.Token.{Token}
 use Rattle.lucy_token.specs.Tokens.{kind_of}
 use Rattle.lucy_grammar.specs.Sets.{nth}
-use Rattle.lucy_grammar.specs.Symbols.{Sym, token, part, many, perhaps, Rule, Val, Vals, Link, Part, Program, Node, Title, Params, Results, Names, Ident, MoreName, Body, Decls, MoreDecl, Decl, Typing, TypeName, ClockOf, Defs, Def, MoreDef, Lefts, Expr, Or, MoreAnd, And, MoreCmp, Cmp, Compared, CmpOp, Sum, MoreProd, SumOp, Prod, MoreSamp, ProdOp, Samp, Sampling, Pre, Followed, Atom, Small, Lit, Pair, Call, Applied, Base, Args, MoreExpr}
-use Rattle.lucy_grammar.specs.Meanings.{bytes_of, name_of, number_of, word_of, linked, grouped, sampled_by, compared, literal_before, named, all_of, args_of}
+use Rattle.lucy_grammar.specs.Kinds.{is_bound, Fits, bound, sort_kind}
+use Rattle.lucy_grammar.proofs.Numbers.{fits_kind}
+use Rattle.lucy_grammar.specs.Symbols.{Sym, token, part, many, perhaps, Rule, Val, Vals, Link, Part, Program, Node, Title, Params, Results, Names, Ident, MoreName, Body, Decls, MoreDecl, Decl, Typing, TypeName, ClockOf, Defs, Def, MoreDef, Lefts, Expr, Or, MoreAnd, And, MoreCmp, Cmp, Compared, CmpOp, Sum, MoreProd, SumOp, Prod, MoreSamp, ProdOp, Samp, Sampling, Pre, Followed, Form, Buffered, Held, Other, Atom, Small, Lit, Pair, Call, Applied, Base, Args, MoreExpr}
+use Rattle.lucy_grammar.specs.Meanings.{bytes_of, name_of, number_of, word_of, bound_of, linked, grouped, sampled_by, compared, literal_before, held, named, all_of, args_of}
 use Rattle.lucy_grammar.specs.Grammar.{rules}
 use Rattle.lucy_grammar.specs.Derivations.{Deriv, done, take, by_rule, enough, again, absent, present, spelled, value}
 use Rattle.lucy_grammar.specs.Programs.{IsProgram}
 use Rattle.lucy_grammar.specs.Print.{when_mark}
 use Rattle.lucy_host.specs.Arity.{arity}
-use Rattle.lucy_tree.specs.Shaped.{IsCall, Defines}
-use Rattle.lucy_grammar.specs.Printable.{IsNamed, IsLit, IsWordBehind, IsPrintable, ArePrintable, AllOfSome, IsPrintableDecl, IsPrintableDef, IsPrintableNode, IsPrintableProgram, StandAfter, Anywhere}
+use Rattle.lucy_tree.specs.Shaped.{most_bound, IsCall, Defines}
+use Rattle.lucy_grammar.specs.Printable.{IsNamed, IsLit, IsHeld, IsWordBehind, IsPrintable, ArePrintable, AllOfSome, IsPrintableDecl, IsPrintableDef, IsPrintableNode, IsPrintableProgram, StandAfter, Anywhere}
 
 -- an operator and its right operand, a list of two or more, and an entry that may be missing
 abbrev pub IsLink : (Kind → What → Type 0) → Link → Type 0
@@ -75,6 +79,10 @@ Good Q Samp v = IsPrintable Q v
 Good Q Sampling v = IsWordBehind Q (when_mark v.0) (Some v.1)
 Good Q Pre v = IsPrintable Q v
 Good Q Followed v = IsPrintable Q v.1
+Good Q Form v = IsPrintable Q v
+Good Q Buffered v = IsHeld Q v.0 × IsPrintable Q v.1
+Good Q Held v = IsPrintable Q v.1
+Good Q Other v = IsLit Q v.0
 Good Q Atom v = IsPrintable Q v
 Good Q Small v = IsPrintable Q v
 Good Q Lit v = IsLit Q v.0
@@ -88,7 +96,7 @@ Good Q MoreExpr v = IsPrintable Q v
 -- what symbols stand for, behind a token of a kind, is so, and each token may stand after the one before it
 abbrev pub Goods : (Kind → What → Type 0) → Kind → (syms : List Sym) → Vals syms → Type 0
 Goods Q before [] vs = Unit {0}
-Goods Q before (token k ∷ syms) vs = (kind_of vs.0.what ≡ k) × (Q before vs.0.what × Goods Q k syms vs.1)
+Goods Q before (token s ∷ syms) vs = Fits s vs.0.what × (Q before vs.0.what × Goods Q (sort_kind s) syms vs.1)
 Goods Q before (part X ∷ syms) vs = Good Q X vs.0 × ((k : Kind) × Goods Q k syms vs.1)
 Goods Q before (many X ∷ syms) vs = AllByRecursion (Good Q X) vs.0 × ((k : Kind) × Goods Q k syms vs.1)
 Goods Q before (perhaps X ∷ syms) vs = InOption (Good Q X) vs.0 × ((k : Kind) × Goods Q k syms vs.1)
@@ -158,6 +166,21 @@ literal_good : (Q : Kind → What → Type 0) (l : Val Lit) (o : Option (Val Fol
 literal_good Q l None g h = g
 literal_good Q l (Some f) g h = (g, h)
 
+few_enough : (n : ℕ) → nat_le n most_bound ≡ true → n ≤ most_bound
+few_enough n e = grind (arith, nat_tests)
+
+bound_from : (Q : Kind → What → Type 0) (k : Kind) (w : What) → is_bound w ≡ true → Q k w → IsHeld Q (Some (bound_of w))
+bound_from Q k (what.Number (pos n)) e q = (few_enough n e, (k, q))
+bound_from Q k (what.Number (negsuc n)) e q = absurd cc
+bound_from Q k (what.Mark m) e q = absurd cc
+bound_from Q k (what.Name bytes) e q = absurd cc
+bound_from Q k (what.Word w) e q = absurd cc
+
+held_good : (Q : Kind → What → Type 0) (k : Kind) (n : Token) (o : Option (Val Held)) → is_bound n.what ≡ true → Q k n.what → InOption (Good Q Held) o → Good Q Buffered (held n o)
+held_good Q k n None e q h = (tt, lit_from Q k n.what (fits_kind bound n.what e) q)
+held_good Q k n (Some (Some fby, t)) e q h = (tt, (lit_from Q k n.what (fits_kind bound n.what e) q, h))
+held_good Q k n (Some (None, t)) e q h = (bound_from Q k n.what e q, h)
+
 named_good : (Q : Kind → What → Type 0) (n : Val Title) (o : Option (Val Applied)) → IsNamed Q n → InOption (Good Q Applied) o → IsPrintable Q (named n o)
 named_good Q n None g h = g
 named_good Q n (Some a) g h = (g, h)
@@ -211,14 +234,18 @@ all_keep Q MoreSamp = (λ k vs h. (h.0, h.1.1.0), tt)
 all_keep Q ProdOp = (λ k vs h. refl, (λ k vs h. refl, (λ k vs h. refl, tt)))
 all_keep Q Samp = (λ k vs h. sampled_good Q vs.0 vs.1.0 h.0 h.1.1.0, tt)
 all_keep Q Sampling = (λ k vs (_, (_, (e, (q, _)))). word_from Q _ vs.1.0.what e q, (λ k vs (_, (_, (e, (q, _)))). word_from Q _ vs.1.0.what e q, tt))
-all_keep Q Pre = (
-  λ k vs (_, (_, (e, _))). (refl, (e, tt)),
-  (
-    λ k vs (_, (_, (e, _))). e,
-    (λ k vs (_, (_, (e, (q, (a, (_, (b, _))))))). (word_from Q _ vs.1.0.what e q, (a, b)), (λ k vs h. literal_good Q vs.0 vs.1.0 h.0 h.1.1.0, (λ k vs h. h.0, tt))),
-  ),
-)
+all_keep Q Pre = (λ k vs h. literal_good Q vs.0 vs.1.0 h.0 h.1.1.0, (λ k vs h. h.0, tt))
 all_keep Q Followed = (λ k vs (_, (_, (e, _))). e, tt)
+all_keep Q Form = (
+  λ k vs (_, (_, (e, _))). (refl, (e, tt)),
+  (λ k vs (_, (_, (e, _))). e, (λ k vs (_, (_, (e, (q, (a, (_, (b, _))))))). (word_from Q _ vs.1.0.what e q, (a, b)), (λ k vs h. h.0, tt))),
+)
+all_keep Q Buffered = (
+  λ k vs (e, (q, (h, _))). held_good Q k vs.0 vs.1.0 e q h,
+  (λ k vs h. (tt, literal_good Q vs.0 vs.1.0 h.0 h.1.1.0), (λ k vs h. (tt, h.0), tt)),
+)
+all_keep Q Held = (λ k vs h. h.0, (λ k vs (_, (_, (e, _))). e, tt))
+all_keep Q Other = (λ k vs (e, (q, _)). lit_from Q k vs.0.what e.0 q, (λ k vs h. tt, (λ k vs h. tt, tt)))
 all_keep Q Atom = (
   λ k vs (e, (q, (a, _))). named_good Q (name_of vs.0) vs.1.0 (named_from Q k vs.0.what e q) a,
   (λ k vs (_, (_, (e, (q, (p, _))))). (named_from Q _ vs.1.0.what e q, p), (λ k vs (_, (_, (e, _))). e, tt)),
@@ -246,7 +273,7 @@ halves Q k (t ∷ x) y h = let r = halves Q (kind_of t.what) x y h.1 in ((h.0, r
 -- what a derivation stands for can be printed
 pub goods : (Q : Kind → What → Type 0) (k : Kind) (syms : List Sym) (d : Deriv syms) → StandAfter Q k (spelled d) → Goods Q k syms (value d)
 goods Q k [] done h = tt
-goods Q k (token j ∷ syms) (take t e d) h = (e, (h.0, goods Q j syms d (subst (λ (i : Kind). StandAfter Q i (spelled d)) e h.1)))
+goods Q k (token s ∷ syms) (take t e d) h = (e, (h.0, goods Q (sort_kind s) syms d (subst (λ (i : Kind). StandAfter Q i (spelled d)) (fits_kind s t.what e) h.1)))
 goods Q k (part X ∷ syms) (by_rule i p m a b) h =
     let r = halves Q k (spelled a) (spelled b) h in
     (keeps_in Q X (rules X) i p (all_keep Q X) m k (value a) (goods Q k p.syms a r.0), (r.1.0, goods Q r.1.0 syms b r.1.1))

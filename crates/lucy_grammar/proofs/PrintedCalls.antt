@@ -16,7 +16,7 @@ use Rattle.lucy_grammar.specs.Print.{blank, the, after, after_commas, commas, pa
 use Rattle.lucy_grammar.specs.Spans.{unplaced_name, unplaced, all_unplaced}
 use Rattle.lucy_grammar.specs.Printable.{IsPrintable, ArePrintable}
 use Rattle.lucy_grammar.proofs.Spelling.{Spells, Is, spell_end, spell_token, spell_after, spell_part, spell_again, spell_there, spell_none, spell_out, spell_rule}
-use Rattle.lucy_grammar.proofs.PrintedTrees.{AreSpelled, from_pre, a_literal, a_variable, an_operator, two_of, a_sampled, a_merge, a_followed, a_buffer}
+use Rattle.lucy_grammar.proofs.PrintedTrees.{AreSpelled, from_pre, from_atom, a_literal, a_variable, an_operator, two_of, a_sampled, a_merge, a_followed, a_buffer}
 
 trees_of-list_of : (ts : Trees) → trees_of (list_of ts) ≡ ts
 trees_of-list_of no_more = refl
@@ -54,8 +54,8 @@ an_applied (Some w) (more t ts) h =
 -- a call in an expression, and one that is the right side of several names
 a_call : (n : name.Name) (at : Option Bits) (args : Trees) → AreSpelled args → Is Pre (call (unplaced_name n) at (all_unplaced args)) (printed (call n at args))
 unfolding rules
-a_call n None args h = spell_rule 4 refl (spell_rule 0 refl (spell_token [] (what.Name n.text) refl (spell_there (an_applied None args h) spell_end)))
-a_call n (Some w) args h = spell_rule 4 refl (spell_rule 0 refl (spell_token [] (what.Name n.text) refl (spell_there (an_applied (Some w) args h) spell_end)))
+a_call n None args h = from_atom (spell_rule 0 refl (spell_token [] (what.Name n.text) refl (spell_there (an_applied None args h) spell_end)))
+a_call n (Some w) args h = from_atom (spell_rule 0 refl (spell_token [] (what.Name n.text) refl (spell_there (an_applied (Some w) args h) spell_end)))
 
 pub the_call : (n : name.Name) (at : Option Bits) (args : Trees) → AreSpelled args → Is Call (call (unplaced_name n) at (all_unplaced args)) (printed (call n at args))
 unfolding rules
@@ -77,7 +77,7 @@ a_host : (n : name.Name) (args : Trees) → length (list_of args) ≡ 2 → AreS
 unfolding rules
 a_host n args e =
     let P : Trees → Type 0 = λ ts. AreSpelled ts → Is Pre (host (unplaced_name n) (all_unplaced ts)) (printed (host n ts)) in
-    two_of P (λ a b h. spell_rule 4 refl (spell_rule 1 refl (spell_token [] (what.Mark mark.Host) refl (spell_token blank (what.Name n.text) refl (spell_part (a_pair a b h) spell_end))))) args e
+    two_of P (λ a b h. from_atom (spell_rule 1 refl (spell_token [] (what.Mark mark.Host) refl (spell_token blank (what.Name n.text) refl (spell_part (a_pair a b h) spell_end))))) args e
 
 mutual
   -- a printed tree is an expression, and stands for that tree but for places
@@ -89,7 +89,8 @@ mutual
   printed_is Q (sampled flip e w) h = a_sampled flip e w (printed_is Q e h.0)
   printed_is Q (merged w a b span) h = from_pre (a_merge w a b (printed_is Q a h.1.0) (printed_is Q b h.1.1))
   printed_is Q (followed l e span) h = from_pre (a_followed l e (printed_is Q e h.1))
-  printed_is Q (buffered e span) h = from_pre (a_buffer e (printed_is Q e h))
+  printed_is Q (buffered None e span) h = from_pre (a_buffer None e tt (printed_is Q e h.1))
+  printed_is Q (buffered (Some n) e span) h = from_pre (a_buffer (Some n) e h.0.0 (printed_is Q e h.1))
   printed_is Q (call n at args) h = from_pre (a_call n at args (all_are Q args h.1.1))
 
   pub all_are : (Q : Kind → What → Type 0) (ts : Trees) → ArePrintable Q ts → AreSpelled ts

@@ -1,6 +1,7 @@
 -- A printed program has a word where one is wanted, and nowhere else.
 use Rattle.std.proofs.Common.{ℕ, ◌≡◌, Bool, true, false, List, [], ◌∷◌, ◌++◌, Option, Some, None, map, refl, ap, sym, ◌∙◌, subst, append_assoc}
 use Rattle.std.proofs.lemmas.List.{append-nil, map-append}
+use Rattle.std.specs.Prelude.{pos}
 use Rattle.std.specs.List.{AllByRecursion}
 use Rattle.lucy_word.specs.Bits.{Bits}
 use Rattle.lucy_host.specs.declared.op.Op.{Op}
@@ -60,6 +61,9 @@ whole_lit Q (lit.Int n) q = record { stands = λ before ws f h. ((f, q), h kind.
 whole_lit Q (lit.Bool true) q = whole_the mark.True refl
 whole_lit Q (lit.Bool false) q = whole_the mark.False refl
 
+whole_bound : {Q : Kind → What → Type 0} {a : List Printed} (blanks : List ℕ) (n : ℕ) → IsLit Q (lit.Int (pos n)) → IsWhole Q a → IsWhole Q (in_print blanks (what.Number (pos n)) ∷ a)
+whole_bound blanks n q x = record { stands = λ before ws f h. ((f, q), x.stands kind.Number ws refl h) }
+
 whole_parens : {Q : Kind → What → Type 0} {a : List Printed} → IsWhole Q a → IsWhole Q (parens a)
 whole_parens x = whole_mark [] mark.Open refl (whole_and x (whole_the mark.Close refl))
 
@@ -114,7 +118,8 @@ mutual
   printed_whole Q (merged w a b span) h =
       whole_word [] blank mark.Merge w h.0 (whole_and (whole_after blank (whole_operand a (printed_whole Q a h.1.0))) (whole_and (whole_after blank (whole_operand b (printed_whole Q b h.1.1))) whole_none))
   printed_whole Q (followed l e span) h = whole_and (whole_lit Q l h.0) (whole_mark blank mark.Fby refl (whole_and (whole_after blank (whole_operand e (printed_whole Q e h.1))) whole_none))
-  printed_whole Q (buffered e span) h = whole_mark [] mark.Buffer refl (whole_and (whole_after blank (whole_operand e (printed_whole Q e h))) whole_none)
+  printed_whole Q (buffered None e span) h = whole_mark [] mark.Buffer refl (whole_and (whole_after blank (whole_operand e (printed_whole Q e h.1))) whole_none)
+  printed_whole Q (buffered (Some n) e span) h = whole_mark [] mark.Buffer refl (whole_bound blank n h.0.1 (whole_and (whole_after blank (whole_parens (printed_whole Q e h.1))) whole_none))
   printed_whole Q (call n at args) h = whole_called Q n at (parens (commas (all_printed args))) h.0 h.1.0 (whole_parens (whole_commas (all_printed args) (all_whole Q args h.1.1)))
 
   all_whole : (Q : Kind → What → Type 0) (ts : Trees) → ArePrintable Q ts → AllByRecursion (IsWhole Q) (all_printed ts)

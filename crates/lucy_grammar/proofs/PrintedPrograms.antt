@@ -90,7 +90,7 @@ the_right Q (host n args) h c = absurd c
 the_right Q (sampled flip e w) h c = absurd c
 the_right Q (merged w a b span) h c = absurd c
 the_right Q (followed l e span) h c = absurd c
-the_right Q (buffered e span) h c = absurd c
+the_right Q (buffered most e span) h c = absurd c
 
 a_def_of : (Q : Kind → What → Type 0) (left : List decl.Decl) (right : Tree) → IsPrintable Q right → Defines left right →
     Is Def (record { left = map unplaced_decl left; right = unplaced right }) (printed_def (record { left = left; right = right }))

@@ -1,5 +1,6 @@
 -- The text of what is printed, form by form.
 use Rattle.std.proofs.Common.{ℕ, ◌≡◌, Bool, true, false, List, [], ◌∷◌, ◌++◌, Option, Some, None, map, refl, ap, sym, ◌∙◌, append_assoc}
+use Rattle.std.specs.Prelude.{pos}
 use Rattle.std.specs.List.{AllByRecursion}
 use Rattle.lucy_word.specs.Bits.{Bits}
 use Rattle.lucy_host.specs.declared.op.Op.{Op}
@@ -12,9 +13,10 @@ use Rattle.lucy_tree.specs.declared.expr.Lit.TheVariants as lit
 use Rattle.lucy_tree.specs.Tree.{Tree, Trees, literal, variable, operator, host, sampled, merged, followed, buffered, call, no_more, more}
 use Rattle.lucy_tree.specs.View.{DefTree, NodeTree}
 use Rattle.lucy_token.specs.declared.mark.Mark.TheVariants as mark
+use Rattle.lucy_token.specs.declared.token.What.TheVariants as what
 use Rattle.lucy_token.specs.Spelled.{Printed, text_of_what}
 use Rattle.lucy_grammar.specs.Meanings.{two, three}
-use Rattle.lucy_grammar.specs.Print.{blank, indent, line, the, after, spaced, words, after_commas, commas, parens, name_token, word_token, lit_token, op_mark, when_mark, operated, called, operand, printed, all_printed, operands, typing, clock, printed_decl, printed_left, printed_def, more_defs, printed_body, printed_node, more_nodes, spaced_text, program_text}
+use Rattle.lucy_grammar.specs.Print.{blank, indent, line, one, the, after, spaced, words, after_commas, commas, parens, name_token, word_token, lit_token, op_mark, when_mark, operated, called, operand, printed, all_printed, operands, typing, clock, printed_decl, printed_left, printed_def, more_defs, printed_body, printed_node, more_nodes, spaced_text, program_text}
 
 pub text-append : (a b : List Printed) → spaced_text (a ++ b) ≡ spaced_text a ++ spaced_text b
 text-append [] b = refl
@@ -91,7 +93,8 @@ mutual
   tight (sampled flip e w) = tight-append (operand e (printed e)) _ (tight_bare e (printed e) (tight e))
   tight (merged w a b span) = refl
   tight (followed l e span) = tight-append (lit_token l) _ (tight_lit l)
-  tight (buffered e span) = refl
+  tight (buffered None e span) = refl
+  tight (buffered (Some n) e span) = refl
   tight (call n at args) = tight_called n at (parens (commas (all_printed args)))
 
   tight_operands : (ts : Trees) → AllByRecursion IsTight (operands ts)
@@ -134,8 +137,11 @@ text_merged w a b s = text_words (the mark.Merge) (word_token w ∷ operand a (p
 pub text_followed : (l : Lit) (e : Tree) (s : Span) → text_of_tree (followed l e s) ≡ spaced_text (lit_token l) ++ (32 ∷ (spaced_text (the mark.Fby) ++ (32 ∷ (text_of_operand e ++ []))))
 text_followed l e s = text_words (lit_token l) (the mark.Fby ∷ operand e (printed e) ∷ []) (refl, (tight_operand e, tt))
 
-pub text_buffered : (e : Tree) (s : Span) → text_of_tree (buffered e s) ≡ spaced_text (the mark.Buffer) ++ (32 ∷ (text_of_operand e ++ []))
+pub text_buffered : (e : Tree) (s : Span) → text_of_tree (buffered None e s) ≡ spaced_text (the mark.Buffer) ++ (32 ∷ (text_of_operand e ++ []))
 text_buffered e s = text_words (the mark.Buffer) (operand e (printed e) ∷ []) (tight_operand e, tt)
+
+pub text_bounded : (n : ℕ) (e : Tree) (s : Span) → text_of_tree (buffered (Some n) e s) ≡ spaced_text (the mark.Buffer) ++ (32 ∷ (spaced_text (one (what.Number (pos n))) ++ (32 ∷ (spaced_text (parens (printed e)) ++ []))))
+text_bounded n e s = text_words (the mark.Buffer) (one (what.Number (pos n)) ∷ parens (printed e) ∷ []) (refl, (refl, tt))
 
 pub text_called : (n : Name) (args : Trees) → text_of_tree (call n None args) ≡ spaced_text (name_token n) ++ (32 ∷ (spaced_text (parens (commas (all_printed args))) ++ []))
 text_called n args = text_words (name_token n) (parens (commas (all_printed args)) ∷ []) (refl, tt)

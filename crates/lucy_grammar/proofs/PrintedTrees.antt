@@ -1,5 +1,9 @@
 -- A printed tree is an expression, and stands for that tree but for places.
-use Rattle.std.proofs.Common.{◌≡◌, Bool, true, false, List, [], ◌∷◌, length, refl}
+use Rattle.std.specs.Prelude.{ℤ, pos}
+use Rattle.std.proofs.lemmas.Bool.Decides.{nat_tests}
+use Rattle.lucy_tree.specs.Shaped.{most_bound, IsBound}
+use Rattle.lucy_grammar.specs.Kinds.{is_bound, bound, unbound}
+use Rattle.std.proofs.Common.{ℕ, ◌≤◌, arith, Option, Some, None, ◌≡◌, Bool, true, false, List, [], ◌∷◌, length, refl}
 use Rattle.lucy_word.specs.Bits.{Bits}
 use Rattle.lucy_host.specs.declared.op.Op.{Op}
 use Rattle.lucy_host.specs.declared.op.Op.TheVariants as op
@@ -10,13 +14,13 @@ use Rattle.lucy_tree.specs.Tree.{Tree, Trees, literal, variable, operator, sampl
 use Rattle.lucy_token.specs.declared.mark.Mark.TheVariants as mark
 use Rattle.lucy_token.specs.declared.token.What.TheVariants as what
 use Rattle.lucy_token.specs.Spelled.{Printed, in_print}
-use Rattle.lucy_grammar.specs.Symbols.{Expr, Or, And, Cmp, CmpOp, Sum, SumOp, Prod, ProdOp, Samp, Sampling, Pre, Small, Lit}
+use Rattle.lucy_grammar.specs.Symbols.{Expr, Or, And, Cmp, CmpOp, Sum, SumOp, Prod, ProdOp, Samp, Sampling, Pre, Form, Buffered, Held, Atom, Small, Lit}
 use Rattle.lucy_grammar.specs.Meanings.{two, three}
 use Rattle.lucy_grammar.specs.Grammar.{rules}
 use Rattle.lucy_grammar.specs.Print.{blank, parens, name_token, lit_token, op_mark, when_mark, operated, operand, printed, operands}
 use Rattle.lucy_grammar.specs.Spans.{nowhere, unplaced_name, unplaced, all_unplaced}
 use Rattle.lucy_host.specs.Arity.{arity}
-use Rattle.lucy_grammar.proofs.Spelling.{Is, spell_end, spell_token, spell_after, spell_part, spell_out, spell_once, spell_given, spell_alone, spell_only, spell_rule}
+use Rattle.lucy_grammar.proofs.Spelling.{Is, spell_end, spell_token, spell_sort, spell_there, spell_alike, spell_after, spell_part, spell_out, spell_once, spell_given, spell_alone, spell_only, spell_rule}
 
 -- from the nearest part to an expression
 samp_of : {e : Tree} {ts : List Printed} → Is Pre e ts → Is Samp e ts
@@ -53,6 +57,18 @@ from_samp r = expr_of (or_of (and_of (cmp_of (sum_of (prod_of r)))))
 pub from_pre : {e : Tree} {ts : List Printed} → Is Pre e ts → Is Expr e ts
 from_pre r = from_samp (samp_of r)
 
+-- from the nearest part to an operand
+pub from_form : {e : Tree} {ts : List Printed} → Is Form e ts → Is Pre e ts
+unfolding rules
+from_form r = spell_rule 1 refl r
+
+form_of : {e : Tree} {ts : List Printed} → Is Atom e ts → Is Form e ts
+unfolding rules
+form_of r = spell_rule 3 refl r
+
+pub from_atom : {e : Tree} {ts : List Printed} → Is Atom e ts → Is Pre e ts
+from_atom r = from_form (form_of r)
+
 -- literals, names and parentheses
 a_lit : (l : lit_type.Lit) → Is Lit (l, nowhere) (lit_token l)
 unfolding rules
@@ -62,15 +78,15 @@ a_lit (lit.Bool false) = spell_rule 2 refl (spell_token [] (what.Mark mark.False
 
 pub a_literal : (l : lit_type.Lit) → Is Pre (literal l nowhere) (lit_token l)
 unfolding rules
-a_literal l = spell_rule 3 refl (spell_only (a_lit l))
+a_literal l = spell_rule 0 refl (spell_only (a_lit l))
 
 pub a_variable : (n : name.Name) → Is Pre (variable (unplaced_name n)) (name_token n)
 unfolding rules
-a_variable n = spell_rule 4 refl (spell_rule 0 refl (spell_token [] (what.Name n.text) refl (spell_out spell_end)))
+a_variable n = from_atom (spell_rule 0 refl (spell_token [] (what.Name n.text) refl (spell_out spell_end)))
 
 in_parens : {e : Tree} {ts : List Printed} → Is Expr e ts → Is Pre e (parens ts)
 unfolding rules
-in_parens r = spell_rule 4 refl (spell_rule 2 refl (spell_token [] (what.Mark mark.Open) refl (spell_part r (spell_token [] (what.Mark mark.Close) refl spell_end))))
+in_parens r = from_atom (spell_rule 2 refl (spell_token [] (what.Mark mark.Open) refl (spell_part r (spell_token [] (what.Mark mark.Close) refl spell_end))))
 
 an_operand : (t : Tree) → Is Expr (unplaced t) (printed t) → Is Pre (unplaced t) (operand t (printed t))
 an_operand (literal l span) r = a_literal l
@@ -113,7 +129,7 @@ Operated o args = AreSpelled args → Is Expr (operator o (all_unplaced args) no
 
 a_not : (a : Tree) → Operated op.Not (more a no_more)
 unfolding rules
-a_not a (r, _) = from_pre (spell_rule 0 refl (spell_token [] (what.Mark mark.Not) refl (spell_part (spell_after blank (an_operand a r)) spell_end)))
+a_not a (r, _) = from_pre (from_form (spell_rule 0 refl (spell_token [] (what.Mark mark.Not) refl (spell_part (spell_after blank (an_operand a r)) spell_end))))
 
 an_if : (a b c : Tree) → Operated op.If (three a b c)
 unfolding rules
@@ -186,12 +202,40 @@ a_sampled flip e w r = from_samp (spell_rule 0 refl (spell_part (an_operand e r)
 pub a_merge : (w : Bits) (a b : Tree) → Is Expr (unplaced a) (printed a) → Is Expr (unplaced b) (printed b) → Is Pre (merged w (unplaced a) (unplaced b) nowhere) (printed (merged w a b nowhere))
 unfolding rules
 a_merge w a b r s =
-    spell_rule 2 refl (spell_token [] (what.Mark mark.Merge) refl (spell_token blank (what.Word w) refl (spell_part (spell_after blank (a_small a r)) (spell_part (spell_after blank (a_small b s)) spell_end))))
+    from_form (spell_rule 2 refl (spell_token [] (what.Mark mark.Merge) refl (spell_token blank (what.Word w) refl (spell_part (spell_after blank (a_small a r)) (spell_part (spell_after blank (a_small b s)) spell_end)))))
 
 pub a_followed : (l : lit_type.Lit) (e : Tree) → Is Expr (unplaced e) (printed e) → Is Pre (followed l (unplaced e) nowhere) (printed (followed l e nowhere))
 unfolding rules
-a_followed l e r = spell_rule 3 refl (spell_part (a_lit l) (spell_given (spell_rule 0 refl (spell_token blank (what.Mark mark.Fby) refl (spell_part (spell_after blank (an_operand e r)) spell_end)))))
+a_followed l e r = spell_rule 0 refl (spell_part (a_lit l) (spell_given (spell_rule 0 refl (spell_token blank (what.Mark mark.Fby) refl (spell_part (spell_after blank (an_operand e r)) spell_end)))))
 
-pub a_buffer : (e : Tree) → Is Expr (unplaced e) (printed e) → Is Pre (buffered (unplaced e) nowhere) (printed (buffered e nowhere))
+-- behind `buffer`: a number is a bound or none, and all else is no number
+held_number : (b : Bool) (n : ℤ) → is_bound (what.Number n) ≡ b → Is Buffered (None, literal (lit.Int n) nowhere) (in_print [] (what.Number n) ∷ [])
 unfolding rules
-a_buffer e r = spell_rule 1 refl (spell_token [] (what.Mark mark.Buffer) refl (spell_part (spell_after blank (an_operand e r)) spell_end))
+held_number true n e = spell_rule 0 refl (spell_sort bound [] (what.Number n) e (spell_out spell_end))
+held_number false n e = spell_rule 1 refl (spell_only (spell_rule 0 refl (spell_sort unbound [] (what.Number n) (refl, e) spell_end)))
+
+held_literal : (l : lit_type.Lit) → Is Buffered (None, literal l nowhere) (lit_token l)
+unfolding rules
+held_literal (lit.Int n) = held_number (is_bound (what.Number n)) n refl
+held_literal (lit.Bool true) = spell_rule 1 refl (spell_only (spell_rule 1 refl (spell_token [] (what.Mark mark.True) refl spell_end)))
+held_literal (lit.Bool false) = spell_rule 1 refl (spell_only (spell_rule 2 refl (spell_token [] (what.Mark mark.False) refl spell_end)))
+
+held_atom : {e : Tree} {ts : List Printed} → Is Atom e ts → Is Buffered (None, e) ts
+unfolding rules
+held_atom r = spell_rule 2 refl (form_of r)
+
+held_operand : (t : Tree) → Is Expr (unplaced t) (printed t) → Is Buffered (None, unplaced t) (operand t (printed t))
+unfolding rules
+held_operand (literal l span) r = held_literal l
+held_operand (variable n) r = held_atom (spell_rule 0 refl (spell_token [] (what.Name n.text) refl (spell_out spell_end)))
+held_operand _ r = held_atom (spell_rule 2 refl (spell_token [] (what.Mark mark.Open) refl (spell_part r (spell_token [] (what.Mark mark.Close) refl spell_end))))
+
+in_bounds : (n : ℕ) → n ≤ most_bound → is_bound (what.Number (pos n)) ≡ true
+in_bounds n h = grind (arith, nat_tests)
+
+pub a_buffer : (most : Option ℕ) (e : Tree) → IsBound most → Is Expr (unplaced e) (printed e) → Is Pre (buffered most (unplaced e) nowhere) (printed (buffered most e nowhere))
+unfolding rules
+a_buffer None e h r = from_form (spell_rule 1 refl (spell_token [] (what.Mark mark.Buffer) refl (spell_part (spell_after blank (held_operand e r)) spell_end)))
+a_buffer (Some n) e h r =
+    let inner : Is Held (None, unplaced e) (parens (printed e)) = spell_rule 1 refl (spell_token [] (what.Mark mark.Open) refl (spell_part r (spell_token [] (what.Mark mark.Close) refl spell_end))) in
+    from_form (spell_rule 1 refl (spell_token [] (what.Mark mark.Buffer) refl (spell_alike (spell_rule 0 refl (spell_sort bound blank (what.Number (pos n)) (in_bounds n h) (spell_there (spell_after blank inner) spell_end))))))

@@ -17,6 +17,7 @@ use Rattle.lucy_token.specs.declared.token.What.TheVariants as what
 use Rattle.lucy_token.specs.declared.token.Token.{Token}
 use Rattle.lucy_token.specs.Tokens.{first}
 use Rattle.lucy_grammar.specs.Symbols.{Body, Decl, Typing, ClockOf, Expr, MoreAnd, MoreCmp, Compared, Sum, MoreProd, Prod, MoreSamp, Sampling, Pre}
+use Rattle.lucy_grammar.specs.Kinds.{is_bound}
 use Rattle.lucy_grammar.specs.Grammar.{rules}
 use Rattle.lucy_grammar.specs.Meanings.{bare, two, three, grouped}
 use Rattle.lucy_grammar.specs.Print.{printed, spaced_text, program_text}
@@ -63,7 +64,7 @@ rich = record { name = called (codes "f"); params = []; results = x ∷ y ∷ []
   params = record { name = x; holds = Some holds.Int; word = Some two_ones } ∷ record { name = y; holds = Some holds.Bool; word = None } ∷ [];
   results = o ∷ [];
   defs = record { left = bare x ∷ record { name = y; holds = None; word = Some two_ones } ∷ []; right = call (called (codes "f")) (Some two_ones) no_more }
-      ∷ record { left = bare o ∷ []; right = merged two_ones (literal (lit.Int (neg_ℤ (pos 12))) nowhere) (host (called (codes "min")) (two (buffered (variable x) nowhere) (sampled true (call (called (codes "f")) None (two (variable x) (literal (lit.Bool true) nowhere))) two_ones))) nowhere }
+      ∷ record { left = bare o ∷ []; right = merged two_ones (literal (lit.Int (neg_ℤ (pos 12))) nowhere) (host (called (codes "min")) (two (buffered None (variable x) nowhere) (sampled true (call (called (codes "f")) None (two (variable x) (literal (lit.Bool true) nowhere))) two_ones))) nowhere }
       ∷ [];
 } ∷ []
 
@@ -79,6 +80,18 @@ choice = operator op.If (three (operator op.Not (more (variable x) no_more) nowh
 choice_text : spaced_text (printed choice) ≡ codes "if (not x) then ((x - y) - y) else x"
 unfolding choice called x y
 choice_text = refl
+
+-- a written bound holds a whole expression, without parentheses of its own
+bounded : Tree
+bounded = buffered (Some 3) (operator op.Add (two (variable x) (buffered None (operator op.Not (more (variable y) no_more) nowhere) nowhere)) nowhere) nowhere
+
+bounded_text : spaced_text (printed bounded) ≡ codes "buffer 3 (x + (buffer (not y)))"
+unfolding bounded called x y digits
+bounded_text = refl
+
+-- numbers from 0 to 4,095 may be a bound
+bounds : (is_bound (what.Number (pos 0)) ≡ true) × (is_bound (what.Number (pos 4095)) ≡ true) × (is_bound (what.Number (pos 4096)) ≡ false) × (is_bound (what.Number (neg_ℤ (pos 1))) ≡ false)
+bounds = (refl, refl, refl, refl)
 
 -- tokens
 token_at : What → ℕ → ℕ → Token
@@ -151,7 +164,7 @@ expr_of {ts = ts} {rest = rest} n r l a b c =
 
 o_read : Reads Pre behind_fby (variable (placed_name (codes "o") 44 45)) (mark_at mark.Close 45 46 ∷ [])
 unfolding behind_fby mark_at name_at token_at placed_name rules follows begins
-o_read = rule 4 refl (led behind_fby 4 refl refl refl) (sub refl (rule 0 refl (led behind_fby 0 refl refl refl) (tok (refl, refl) (out refl (λ w. absurd cc) (end _)))) (end _))
+o_read = rule 1 refl (led behind_fby 1 refl refl refl) (sub refl (rule 3 refl (led behind_fby 3 refl refl refl) (sub refl (rule 0 refl (led behind_fby 0 refl refl refl) (tok (refl, refl) (out refl (λ w. absurd cc) (end _)))) (end _))) (end _))
 
 in_parens : List Token
 in_parens = token_at (what.Number (pos 0)) 38 39 ∷ mark_at mark.Fby 40 43 ∷ behind_fby
@@ -164,17 +177,17 @@ unfolding in_parens close mark_at token_at rules follows begins
 fby_read =
     let follow = sole refl (tok (refl, refl) (sub refl o_read (end close))) in
     let literal = rule 0 refl (led in_parens 0 refl refl refl) (tok (refl, refl) (end _)) in
-    rule 3 refl (led in_parens 3 refl refl refl) (sub refl literal (opt refl refl follow (end close)))
+    rule 0 refl (led in_parens 0 refl refl refl) (sub refl literal (opt refl refl follow (end close)))
 
 parens_read : Reads Pre behind_plus (followed (lit.Int (pos 0)) (variable (placed_name (codes "o") 44 45)) (record { from = 40; to = 43 })) []
 unfolding behind_plus in_parens close mark_at token_at behind_fby name_at rules follows begins
 parens_read =
     let inner = expr_of (λ e. absurd cc) (sum_of (prod_of fby_read (lit< tt) (λ w. absurd cc) (λ w. absurd cc)) (lit< tt) (λ w. absurd cc)) (lit< tt) (λ w. absurd cc) (λ w. absurd cc) (λ w. absurd cc) in
-    rule 4 refl (led behind_plus 4 refl refl refl) (sub refl (rule 2 refl (led behind_plus 2 refl refl refl) (tok (refl, refl) (sub refl inner (tok (refl, refl) (end []))))) (end []))
+    rule 1 refl (led behind_plus 1 refl refl refl) (sub refl (rule 3 refl (led behind_plus 3 refl refl refl) (sub refl (rule 2 refl (led behind_plus 2 refl refl refl) (tok (refl, refl) (sub refl inner (tok (refl, refl) (end []))))) (end []))) (end []))
 
 x_read : Reads Pre right (variable (placed_name (codes "x") 33 34)) (mark_at mark.Plus 35 36 ∷ behind_plus)
 unfolding right mark_at name_at token_at placed_name rules follows begins
-x_read = rule 4 refl (led right 4 refl refl refl) (sub refl (rule 0 refl (led right 0 refl refl refl) (tok (refl, refl) (out refl (λ w. absurd cc) (end _)))) (end _))
+x_read = rule 1 refl (led right 1 refl refl refl) (sub refl (rule 3 refl (led right 3 refl refl refl) (sub refl (rule 0 refl (led right 0 refl refl refl) (tok (refl, refl) (out refl (λ w. absurd cc) (end _)))) (end _))) (end _))
 
 right_read : Reads Expr right sum_right []
 unfolding right sum_right behind_plus behind_fby mark_at name_at token_at placed_name rules follows begins

@@ -60,3 +60,11 @@ within_left (x ∷ xs) ys k h = or_more (eqb x k) (within k xs) (within k (xs ++
 pub within_right : (xs ys : List ℕ) (k : ℕ) → within k ys ≡ true → within k (xs ++ ys) ≡ true
 within_right [] ys k h = h
 within_right (x ∷ xs) ys k h = or_right (eqb x k) _ (within_right xs ys k h)
+
+-- a number of two lists is one of either
+pub within_either : (xs ys : List ℕ) (k : ℕ) (P : Type 0) → within k (xs ++ ys) ≡ true → (within k xs ≡ true → P) → (within k ys ≡ true → P) → P
+within_either [] ys k P w f g = g w
+within_either (x ∷ xs) ys k P w f g =
+    within_cases x k (xs ++ ys) P w
+    (λ e. f (subst (λ (n : ℕ). within n (x ∷ xs) ≡ true) e (or_more (eqb x x) false (within x xs) (λ h. absurd (both_ways false refl h)) (same_number x))))
+    (λ v. within_either xs ys k P v (λ u. f (or_right (eqb x k) _ u)) g)

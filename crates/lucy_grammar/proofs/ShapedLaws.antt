@@ -1,5 +1,5 @@
 -- Every program that is read is shaped.
-use Rattle.std.proofs.Common.{ℕ, ◌+◌, ◌<◌, ◌≤◌, ◌≡◌, true, Bool, List, [], ◌∷◌, ◌++◌, length, refl, ap, sym, ◌∙◌, arith}
+use Rattle.std.proofs.Common.{Some, None, ℕ, ◌+◌, ◌<◌, ◌≤◌, ◌≡◌, true, Bool, List, [], ◌∷◌, ◌++◌, length, refl, ap, sym, ◌∙◌, arith}
 use Rattle.std.specs.Prelude.{nat_le}
 use Rattle.std.specs.List.{AllByRecursion}
 use Rattle.std.proofs.lemmas.Bool.{not-true, leb-false}
@@ -39,7 +39,8 @@ mutual
   shaped_tree (sampled flip e w) h = (λ s. zero_behind (when_mark flip) w (ap (λ b. wants_zero (kind.Mark (when_mark b))) s) h.1, shaped_tree e h.0)
   shaped_tree (merged w a b span) h = (zero_behind mark.Merge w refl h.0, shaped_tree a h.1.0, shaped_tree b h.1.1)
   shaped_tree (followed l e span) h = shaped_tree e h.1
-  shaped_tree (buffered e span) h = shaped_tree e h
+  shaped_tree (buffered None e span) h = (tt, shaped_tree e h.1)
+  shaped_tree (buffered (Some n) e span) h = (h.0.0, shaped_tree e h.1)
   shaped_tree (call name at args) h = shaped_trees args h.1.1
 
   shaped_trees : (ts : Trees) → ArePrintable IsWritten ts → AreShaped ts

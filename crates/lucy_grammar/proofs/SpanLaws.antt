@@ -3,10 +3,10 @@ use Rattle.std.proofs.Common.{ℕ, zero, suc, ◌≡◌, Bool, List, [], ◌∷�
 use Rattle.lucy_word.specs.Bits.{Bits}
 use Rattle.lucy_tree.specs.Tree.{Tree, Trees, trees_of, more}
 use Rattle.lucy_token.specs.declared.token.Token.{Token}
-use Rattle.lucy_token.specs.Tokens.{kind_of}
+use Rattle.lucy_grammar.specs.Kinds.{Fits}
 use Rattle.lucy_grammar.specs.Sets.{nth}
-use Rattle.lucy_grammar.specs.Symbols.{Part, Sym, token, part, many, perhaps, Rule, Val, Vals, Link, Program, Node, Title, Params, Results, Names, Ident, MoreName, Body, Decls, MoreDecl, Decl, Typing, TypeName, ClockOf, Defs, Def, MoreDef, Lefts, Expr, Or, MoreAnd, And, MoreCmp, Cmp, Compared, CmpOp, Sum, MoreProd, SumOp, Prod, MoreSamp, ProdOp, Samp, Sampling, Pre, Followed, Atom, Small, Lit, Pair, Call, Applied, Base, Args, MoreExpr}
-use Rattle.lucy_grammar.specs.Meanings.{linked, grouped, sampled_by, compared, literal_before, named, name_of, all_of, args_of}
+use Rattle.lucy_grammar.specs.Symbols.{Part, Sym, token, part, many, perhaps, Rule, Val, Vals, Link, Program, Node, Title, Params, Results, Names, Ident, MoreName, Body, Decls, MoreDecl, Decl, Typing, TypeName, ClockOf, Defs, Def, MoreDef, Lefts, Expr, Or, MoreAnd, And, MoreCmp, Cmp, Compared, CmpOp, Sum, MoreProd, SumOp, Prod, MoreSamp, ProdOp, Samp, Sampling, Pre, Followed, Form, Buffered, Held, Other, Atom, Small, Lit, Pair, Call, Applied, Base, Args, MoreExpr}
+use Rattle.lucy_grammar.specs.Meanings.{linked, grouped, sampled_by, compared, literal_before, held, named, name_of, all_of, args_of}
 use Rattle.lucy_grammar.specs.Grammar.{rules}
 use Rattle.lucy_grammar.specs.Derivations.{Deriv, done, take, by_rule, enough, again, absent, present, spelled, value}
 use Rattle.lucy_grammar.proofs.Tokens.{same_pair}
@@ -58,6 +58,10 @@ bare Samp v = unplaced v
 bare Sampling v = v
 bare Pre v = unplaced v
 bare Followed v = (nowhere, unplaced v.1)
+bare Form v = unplaced v
+bare Buffered v = (v.0, unplaced v.1)
+bare Held v = (in_option (λ s. nowhere) v.0, unplaced v.1)
+bare Other v = (v.0, nowhere)
 bare Atom v = unplaced v
 bare Small v = unplaced v
 bare Lit v = (v.0, nowhere)
@@ -71,7 +75,7 @@ bare MoreExpr v = unplaced v
 -- what symbols stand for, but for places
 abbrev pub all_bare : (syms : List Sym) → Vals syms → Vals syms
 all_bare [] vs = tt
-all_bare (token k ∷ syms) vs = (unplaced_token vs.0, all_bare syms vs.1)
+all_bare (token s ∷ syms) vs = (unplaced_token vs.0, all_bare syms vs.1)
 all_bare (part X ∷ syms) vs = (bare X vs.0, all_bare syms vs.1)
 all_bare (many X ∷ syms) vs = (map (bare X) vs.0, all_bare syms vs.1)
 all_bare (perhaps X ∷ syms) vs = (in_option (bare X) vs.0, all_bare syms vs.1)
@@ -103,6 +107,11 @@ compared_blind e (Some l) = refl
 literal_blind : (l : Val Lit) (f : Option (Val Followed)) → unplaced (literal_before l f) ≡ literal_before (bare Lit l) (in_option (bare Followed) f)
 literal_blind l None = refl
 literal_blind l (Some f) = refl
+
+held_blind : (n : Token) (h : Option (Val Held)) → bare Buffered (held n h) ≡ held (unplaced_token n) (in_option (bare Held) h)
+held_blind n None = refl
+held_blind n (Some (Some fby, e)) = refl
+held_blind n (Some (None, e)) = refl
 
 named_blind : (n : Val Title) (a : Option (Val Applied)) → unplaced (named n a) ≡ named (unplaced_name n) (in_option (bare Applied) a)
 named_blind n None = refl
@@ -169,8 +178,12 @@ rules_blind MoreSamp = (λ vs. refl, tt)
 rules_blind ProdOp = (λ vs. refl, (λ vs. refl, (λ vs. refl, tt)))
 rules_blind Samp = (λ vs. sampled_bare vs.0 vs.1.0, tt)
 rules_blind Sampling = (λ vs. refl, (λ vs. refl, tt))
-rules_blind Pre = (λ vs. refl, (λ vs. refl, (λ vs. refl, (λ vs. literal_blind vs.0 vs.1.0, (λ vs. refl, tt)))))
+rules_blind Pre = (λ vs. literal_blind vs.0 vs.1.0, (λ vs. refl, tt))
 rules_blind Followed = (λ vs. refl, tt)
+rules_blind Form = (λ vs. refl, (λ vs. refl, (λ vs. refl, (λ vs. refl, tt))))
+rules_blind Buffered = (λ vs. held_blind vs.0 vs.1.0, (λ vs. ap (λ (e : Tree). let p : Val Buffered = (None, e) in p) (literal_blind vs.0 vs.1.0), (λ vs. refl, tt)))
+rules_blind Held = (λ vs. refl, (λ vs. refl, tt))
+rules_blind Other = (λ vs. refl, (λ vs. refl, (λ vs. refl, tt)))
 rules_blind Atom = (λ vs. named_blind (name_of vs.0) vs.1.0, (λ vs. refl, (λ vs. refl, tt)))
 rules_blind Small = (λ vs. refl, (λ vs. refl, (λ vs. refl, tt)))
 rules_blind Lit = (λ vs. refl, (λ vs. refl, (λ vs. refl, tt)))
@@ -217,12 +230,12 @@ pub record Placed (syms : List Sym) (d : Deriv syms) (ts : List Token) : Type 0 
 pub placed : (syms : List Sym) (d : Deriv syms) (ts : List Token) → spelled d ≡ map unplaced_token ts → Placed syms d ts
 placed [] done [] e = record { deriv = done; spells = refl; means = refl }
 placed [] done (t ∷ ts) e = absurd cc
-placed (token k ∷ syms) (take t h d) [] e = absurd cc
-placed (token k ∷ syms) (take t h d) (u ∷ ts) e =
+placed (token s ∷ syms) (take t h d) [] e = absurd cc
+placed (token s ∷ syms) (take t h d) (u ∷ ts) e =
     let same : t ≡ unplaced_token u = cc in
     let rest : spelled d ≡ map unplaced_token ts = cc in
     let p = placed syms d ts rest in
-    record { deriv = take u (sym (ap (λ (v : Token). kind_of v.what) same) ∙ h) p.deriv; spells = ap (λ v. u ∷ v) p.spells; means = same_pair Token (Vals syms) (unplaced_token u) t _ _ (sym same) p.means }
+    record { deriv = take u (subst (λ (v : Token). Fits s v.what) same h) p.deriv; spells = ap (λ v. u ∷ v) p.spells; means = same_pair Token (Vals syms) (unplaced_token u) t _ _ (sym same) p.means }
 placed (part X ∷ syms) (by_rule i p m a b) ts e =
     let h = halved (spelled a) (spelled b) ts e in
     let one = placed p.syms a h.left (sym h.is_left) in

@@ -7,7 +7,8 @@ use Rattle.lucy_token.specs.declared.token.Token.{Token}
 use Rattle.lucy_token.specs.Tokens.{kind_of}
 use Rattle.lucy_token.specs.Spelled.{Printed, in_print}
 use Rattle.lucy_grammar.specs.Sets.{nth}
-use Rattle.lucy_grammar.specs.Symbols.{Part, Sym, token, part, many, perhaps, Rule, Val, Vals}
+use Rattle.lucy_grammar.specs.Symbols.{Part, Sym, token, any, part, many, perhaps, Rule, Val, Vals}
+use Rattle.lucy_grammar.specs.Kinds.{Sort, of, Fits}
 use Rattle.lucy_grammar.specs.Grammar.{rules}
 use Rattle.lucy_grammar.specs.Derivations.{Deriv, done, take, by_rule, enough, absent, spelled, value}
 use Rattle.lucy_grammar.specs.Print.{after}
@@ -35,8 +36,11 @@ Is X v ts = Spells (part X ∷ []) (v, tt) ts
 pub spell_end : Spells [] tt []
 spell_end = record { deriv = done; spells = refl; means = refl }
 
-pub spell_token : {k : Kind} {syms : List Sym} {vs : Vals syms} {ts : List Printed} (blanks : List ℕ) (w : What) → kind_of w ≡ k → Spells syms vs ts → Spells (token k ∷ syms) (plain w, vs) (in_print blanks w ∷ ts)
-spell_token {syms = syms} blanks w e s = record { deriv = take (plain w) e s.deriv; spells = ap (λ u. plain w ∷ u) s.spells; means = same_pair Token (Vals syms) _ _ _ _ refl s.means }
+pub spell_sort : (k : Sort) {syms : List Sym} {vs : Vals syms} {ts : List Printed} (blanks : List ℕ) (w : What) → Fits k w → Spells syms vs ts → Spells (token k ∷ syms) (plain w, vs) (in_print blanks w ∷ ts)
+spell_sort k {syms = syms} blanks w e s = record { deriv = take (plain w) e s.deriv; spells = ap (λ u. plain w ∷ u) s.spells; means = same_pair Token (Vals syms) _ _ _ _ refl s.means }
+
+pub spell_token : {k : Kind} {syms : List Sym} {vs : Vals syms} {ts : List Printed} (blanks : List ℕ) (w : What) → kind_of w ≡ k → Spells syms vs ts → Spells (any k ∷ syms) (plain w, vs) (in_print blanks w ∷ ts)
+spell_token {k = k} blanks w e s = spell_sort (of k) blanks w e s
 
 pub spell_after : {syms : List Sym} {vs : Vals syms} {ts : List Printed} (blanks : List ℕ) → Spells syms vs ts → Spells syms vs (after blanks ts)
 spell_after {ts = []} blanks s = s
@@ -92,3 +96,7 @@ spell_only {Y = Y} {M = M} {v = v} {us = us} r = subst (λ (u : List Printed). S
 -- a part, by a production
 pub spell_rule : {X : Part} {p : Rule X} {vs : Vals p.syms} {ts : List Printed} (i : ℕ) → nth (rules X) i ≡ Some p → Spells p.syms vs ts → Is X (p.meaning vs) ts
 spell_rule {X = X} {p = p} i e s = record { deriv = by_rule i p e s.deriv done; spells = append-nil (spelled s.deriv) ∙ s.spells; means = ap (λ (u : Vals p.syms). (p.meaning u, tt)) s.means }
+
+-- a part alone, at the end
+pub spell_alike : {Y : Part} {v : Val Y} {us : List Printed} → Is Y v us → Spells (part Y ∷ []) (v, tt) us
+spell_alike r = r

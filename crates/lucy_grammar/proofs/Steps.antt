@@ -3,12 +3,13 @@ use Rattle.std.proofs.Common.{ℕ, ◌≡◌, true, List, [], ◌∷◌, Option,
 use Rattle.lucy_token.specs.declared.token.Kind.{Kind}
 use Rattle.lucy_token.specs.declared.token.Token.{Token}
 use Rattle.lucy_token.specs.Tokens.{first}
-use Rattle.lucy_grammar.specs.Sets.{within, nth}
-use Rattle.lucy_grammar.specs.Kinds.{number, ahead}
-use Rattle.lucy_grammar.specs.Symbols.{Part, Sym, token, part, perhaps, Rule, Val, Vals}
+use Rattle.lucy_grammar.specs.Sets.{within, subset, nth}
+use Rattle.lucy_grammar.specs.Kinds.{ahead, kind_numbers, Sort, of, Fits, sort_numbers}
+use Rattle.lucy_grammar.specs.Symbols.{Part, Sym, token, any, part, perhaps, Rule, Val, Vals}
 use Rattle.lucy_grammar.specs.Grammar.{rules}
 use Rattle.lucy_grammar.specs.Reading.{Takes, Refuses, Reads, Unfit, IsBegun, Begins, IsOther, ReadsOptional, UnfitOptional}
-use Rattle.lucy_grammar.proofs.Numbers.{number_own, is_in}
+use Rattle.lucy_grammar.proofs.Numbers.{ahead_kind, is_in, fits_number}
+use Rattle.lucy_grammar.proofs.Sets.{within_subset}
 use Rattle.lucy_grammar.proofs.Table.{good, look}
 use Rattle.lucy_grammar.proofs.Leads.{lead_taken, lead_then_refused, lead_refused, skip_taken, skip_refused}
 use Rattle.lucy_grammar.proofs.Forms.{with_part, with_it, without_it, part_leads, perhaps_leads, perhaps_skips}
@@ -19,23 +20,32 @@ use Rattle.lucy_grammar.proofs.Rules.{Alone, Others, by_first, by_others, only_o
 pub end : {X : Part} (ts : List Token) → Takes X [] ts tt ts
 end ts = nothing_taken _ ts
 
--- a token: it is there, and what is behind it is read, or refused; or another is there
+-- a token of a sort: it is there, and what is behind it is read, or refused
+pub sort_tok : {X : Part} (s : Sort) {syms : List Sym} {t : Token} {ts more : List Token} {vs : Vals syms} {rest : List Token} →
+    ts ≡ t ∷ more → Fits s t.what → Takes X syms more vs rest → Takes X (token s ∷ syms) ts (t, vs) rest
+sort_tok {X = X} s {syms = syms} {t = t} {more = more} {vs = vs} {rest = rest} e f r =
+    let P : List Token → Type 0 = λ u. Takes X (token s ∷ syms) u (t, vs) rest in
+    subst P (sym e) (token_taken X s syms t more vs rest f r)
+
+pub sort_tok_no : {X : Part} (s : Sort) {syms : List Sym} {t : Token} {ts more rest : List Token} →
+    ts ≡ t ∷ more → Fits s t.what → Refuses X syms more rest → Refuses X (token s ∷ syms) ts rest
+sort_tok_no {X = X} s {syms = syms} {t = t} {more = more} {rest = rest} e f r =
+    let P : List Token → Type 0 = λ u. Refuses X (token s ∷ syms) u rest in
+    subst P (sym e) (token_then_refused X s syms t more rest f r)
+
+-- a token of a kind: it is there, and what is behind it is read, or refused; or another is there
 pub tok : {X : Part} {k : Kind} {syms : List Sym} {t : Token} {ts more : List Token} {vs : Vals syms} {rest : List Token} →
-    Begins ts t k more → Takes X syms more vs rest → Takes X (token k ∷ syms) ts (t, vs) rest
-tok {X = X} {k = k} {syms = syms} {t = t} {more = more} {vs = vs} {rest = rest} b r =
-    let P : List Token → Type 0 = λ u. Takes X (token k ∷ syms) u (t, vs) rest in
-    subst P (sym b.0) (token_taken X k syms t more vs rest b.1 r)
+    Begins ts t k more → Takes X syms more vs rest → Takes X (any k ∷ syms) ts (t, vs) rest
+tok {k = k} b r = sort_tok (of k) b.0 b.1 r
 
 pub tok_no : {X : Part} {k : Kind} {syms : List Sym} {t : Token} {ts more rest : List Token} →
-    Begins ts t k more → Refuses X syms more rest → Refuses X (token k ∷ syms) ts rest
-tok_no {X = X} {k = k} {syms = syms} {t = t} {more = more} {rest = rest} b r =
-    let P : List Token → Type 0 = λ u. Refuses X (token k ∷ syms) u rest in
-    subst P (sym b.0) (token_then_refused X k syms t more rest b.1 r)
+    Begins ts t k more → Refuses X syms more rest → Refuses X (any k ∷ syms) ts rest
+tok_no {k = k} b r = sort_tok_no (of k) b.0 b.1 r
 
-pub tok_bad : {X : Part} {k : Kind} {syms : List Sym} {ts rest : List Token} → good X (token k ∷ syms) ≡ true → IsOther ts k rest → Refuses X (token k ∷ syms) ts rest
+pub tok_bad : {X : Part} {k : Kind} {syms : List Sym} {ts rest : List Token} → good X (any k ∷ syms) ≡ true → IsOther ts k rest → Refuses X (any k ∷ syms) ts rest
 tok_bad {X = X} {k = k} {syms = syms} {ts = ts} g h =
-    let P : List Token → Type 0 = λ u. Refuses X (token k ∷ syms) ts u in
-    subst P (sym h.0) (token_refused X k syms ts g (λ e. h.1 (number_own _ _ e)))
+    let P : List Token → Type 0 = λ u. Refuses X (any k ∷ syms) ts u in
+    subst P (sym h.0) (token_refused X (of k) syms ts g (λ w. h.1 (ahead_kind ts k w)))
 
 -- a part: it is read, and what is behind it is read, or refused; or the part is refused
 pub sub : {X Y : Part} {syms : List Sym} {ts : List Token} {v : Val Y} {mid : List Token} {vs : Vals syms} {rest : List Token} → good X (part Y ∷ syms) ≡ true →
@@ -120,10 +130,10 @@ none {X = X} {ts = ts} e w =
     subst P (sym e) (no_rule X ts w)
 
 -- the production is the only one: it begins with the kind that is ahead, or none of the others does
-pub led : {X : Part} {p : Rule X} (ts : List Token) {k : Kind} (i : ℕ) → nth (rules X) i ≡ Some p → within (number k) (look X p.syms) ≡ true → first ts ≡ k → Alone X p (ahead ts)
+pub led : {X : Part} {p : Rule X} (ts : List Token) {k : Kind} (i : ℕ) → nth (rules X) i ≡ Some p → subset (kind_numbers k) (look X p.syms) ≡ true → first ts ≡ k → Alone X p (ahead ts)
 led {X = X} {p = p} ts i e l f = by_first X i p _ e (is_in ts (look X p.syms) f l)
 
-pub led_by : {X : Part} {p : Rule X} {ts : List Token} {t : Token} {k : Kind} {more : List Token} (i : ℕ) → nth (rules X) i ≡ Some p → within (number k) (look X p.syms) ≡ true → Begins ts t k more → Alone X p (ahead ts)
+pub led_by : {X : Part} {p : Rule X} {ts : List Token} {t : Token} {k : Kind} {more : List Token} (i : ℕ) → nth (rules X) i ≡ Some p → subset (kind_numbers k) (look X p.syms) ≡ true → Begins ts t k more → Alone X p (ahead ts)
 led_by {ts = ts} i e l b = led ts i e l (ap first b.0 ∙ b.1)
 
 pub others : {X : Part} {p : Rule X} (ts : List Token) (i : ℕ) → nth (rules X) i ≡ Some p → Others X (ahead ts) (rules X) i → Alone X p (ahead ts)
@@ -132,3 +142,9 @@ others {X = X} {p = p} ts i e o = by_others X i p _ e o
 -- the same value
 pub as_value : {X : Part} {ts : List Token} {v w : Val X} {rest : List Token} → w ≡ v → Reads X ts v rest → Reads X ts w rest
 as_value {X = X} {ts = ts} {rest = rest} e r = subst (λ (u : Val X). Reads X ts u rest) (sym e) r
+
+-- the production begins with a token of the sort that is ahead
+pub led_sort : {X : Part} {p : Rule X} {ts : List Token} {t : Token} {more : List Token} (s : Sort) (i : ℕ) → nth (rules X) i ≡ Some p → subset (sort_numbers s) (look X p.syms) ≡ true → ts ≡ t ∷ more → Fits s t.what → Alone X p (ahead ts)
+led_sort {X = X} {p = p} {ts = ts} {t = t} s i e l b f =
+    let at : within (ahead ts) (sort_numbers s) ≡ true = subst (λ (u : List Token). within (ahead u) (sort_numbers s) ≡ true) (sym b) (fits_number s t.what f) in
+    by_first X i p _ e (within_subset (sort_numbers s) (look X p.syms) (ahead ts) l at)

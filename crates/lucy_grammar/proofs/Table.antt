@@ -3,7 +3,7 @@ use Rattle.std.proofs.Common.{ℕ, zero, suc, ◌≡◌, Bool, true, false, List
 use Rattle.lucy_token.specs.declared.token.Kind.{Kind}
 use Rattle.lucy_token.specs.declared.token.Kind.TheVariants as kind
 use Rattle.lucy_grammar.specs.Sets.{within, subset, apart, nth}
-use Rattle.lucy_grammar.specs.Kinds.{number}
+use Rattle.lucy_grammar.specs.Kinds.{Sort, sort_kind, sort_numbers}
 use Rattle.lucy_grammar.specs.Symbols.{Part, Sym, token, part, many, perhaps, Rule, Program}
 use Rattle.lucy_grammar.specs.Grammar.{rules}
 use Rattle.lucy_grammar.specs.Reading.{follows, begins}
@@ -17,7 +17,7 @@ is_kind _ = true
 -- the kinds with which the symbols, and then what follows X, begin
 abbrev pub look : Part → List Sym → List ℕ
 look X [] = follows X
-look X (token k ∷ syms) = number k ∷ []
+look X (token s ∷ syms) = sort_numbers s
 look X (part Y ∷ syms) = begins Y
 look X (many Y ∷ syms) = begins Y ++ look X syms
 look X (perhaps Y ∷ syms) = begins Y ++ look X syms
@@ -25,17 +25,17 @@ look X (perhaps Y ∷ syms) = begins Y ++ look X syms
 -- what comes after each part of the symbols may follow it, and doesn't begin it where it may be left out
 abbrev pub good : Part → List Sym → Bool
 good X [] = true
-good X (token k ∷ syms) = is_kind k && good X syms
+good X (token s ∷ syms) = is_kind (sort_kind s) && good X syms
 good X (part Y ∷ syms) = subset (look X syms) (follows Y) && good X syms
 good X (many Y ∷ syms) = (apart (begins Y) (look X syms) && subset (begins Y ++ look X syms) (follows Y)) && good X syms
 good X (perhaps Y ∷ syms) = (apart (begins Y) (look X syms) && subset (look X syms) (follows Y)) && good X syms
 
 -- what that says of the first symbol, and of those behind it
-pub token_kind : (X : Part) (k : Kind) (syms : List Sym) → good X (token k ∷ syms) ≡ true → is_kind k ≡ true
-token_kind X k syms g = and_left _ (good X syms) g
+pub token_kind : (X : Part) (s : Sort) (syms : List Sym) → good X (token s ∷ syms) ≡ true → is_kind (sort_kind s) ≡ true
+token_kind X s syms g = and_left _ (good X syms) g
 
-pub past_token : (X : Part) (k : Kind) (syms : List Sym) → good X (token k ∷ syms) ≡ true → good X syms ≡ true
-past_token X k syms g = and_right (is_kind k) _ g
+pub past_token : (X : Part) (s : Sort) (syms : List Sym) → good X (token s ∷ syms) ≡ true → good X syms ≡ true
+past_token X s syms g = and_right (is_kind (sort_kind s)) _ g
 
 pub part_fits : (X Y : Part) (syms : List Sym) → good X (part Y ∷ syms) ≡ true → subset (look X syms) (follows Y) ≡ true
 part_fits X Y syms g = and_left _ (good X syms) g

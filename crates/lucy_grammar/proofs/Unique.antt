@@ -27,10 +27,10 @@ same_rule Y i j p q m n d e t u f h apart =
 pub unique : (X : Part) (syms : List Sym) → good X syms ≡ true → (d e : Deriv syms) (t u : List Token) → Follows X t → Follows X u →
     spelled d ++ t ≡ spelled e ++ u → (value d ≡ value e) × (t ≡ u)
 unique X [] g done done t u f h same = (refl, same)
-unique X (token k ∷ syms) g (take a m d) (take b n e) t u f h same =
+unique X (token s ∷ syms) g (take a m d) (take b n e) t u f h same =
     let one : a ≡ b = cc in
     let more : spelled d ++ t ≡ spelled e ++ u = cc in
-    let r = unique X syms (past_token X k syms g) d e t u f h more in
+    let r = unique X syms (past_token X s syms g) d e t u f h more in
     (same_pair Token (Vals syms) a b (value d) (value e) one r.0, r.1)
 unique X (part Y ∷ syms) g (by_rule i p m d d2) (by_rule j q n e e2) t u f h same =
     let apart' : spelled d ++ (spelled d2 ++ t) ≡ spelled e ++ (spelled e2 ++ u) =

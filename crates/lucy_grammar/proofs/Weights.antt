@@ -16,9 +16,11 @@ use Rattle.lucy_tree.specs.Tree.{Tree, Trees, literal, variable, operator, host,
 use Rattle.lucy_tree.specs.View.{DefTree, NodeTree, ProgramTree}
 use Rattle.lucy_token.specs.declared.mark.Mark.TheVariants as mark
 use Rattle.lucy_token.specs.declared.token.Kind.TheVariants as kind
+use Rattle.std.specs.Prelude.{pos}
 use Rattle.lucy_token.specs.declared.token.What.{What}
+use Rattle.lucy_token.specs.declared.token.What.TheVariants as what
 use Rattle.lucy_token.specs.Spelled.{Printed}
-use Rattle.lucy_grammar.specs.Print.{blank, indent, line, the, after, spaced, words, after_commas, commas, parens, name_token, word_token, lit_token, op_mark, when_mark, operated, called, operand, printed, all_printed, operands, printed_decl, printed_left, printed_def, more_defs, printed_body, printed_node, more_nodes, printed_program}
+use Rattle.lucy_grammar.specs.Print.{blank, indent, line, the, after, spaced, words, after_commas, commas, parens, name_token, word_token, lit_token, op_mark, when_mark, operated, called, one, held, operand, printed, all_printed, operands, printed_decl, printed_left, printed_def, more_defs, printed_body, printed_node, more_nodes, printed_program}
 use Rattle.lucy_grammar.proofs.Cores.{core, core-append, core-after, core-parens, core-operand, put_after}
 use Rattle.lucy_grammar.proofs.Counts.{Count, count_on, AllCount, count_behind, IsCounted, few_tokens}
 
@@ -81,6 +83,10 @@ own_called : (n : name.Name) (at : Option Bits) (args : List Printed) → AreOwn
 own_called n None args h = own_words (name_token n ∷ args ∷ []) ((tt, tt), (h, tt))
 own_called n (Some w) args h = own_words (name_token n ∷ the mark.At ∷ word_token w ∷ args ∷ []) ((tt, tt), ((tt, tt), ((tt, tt), (h, tt))))
 
+own_held : (most : Option ℕ) (a b : List Printed) → AreOwn a → AreOwn b → AreOwn (held most a b)
+own_held None a b h k = own_words (the mark.Buffer ∷ a ∷ []) ((tt, tt), (h, tt))
+own_held (Some n) a b h k = own_words (the mark.Buffer ∷ one (what.Number (pos n)) ∷ parens b ∷ []) ((tt, tt), ((tt, tt), (own_parens b k, tt)))
+
 mutual
   own_tree : (t : Tree) → AreOwn (printed t)
   own_tree (literal l span) = own_lit l
@@ -91,7 +97,7 @@ mutual
   own_tree (merged w a b span) =
       own_words (the mark.Merge ∷ word_token w ∷ operand a (printed a) ∷ operand b (printed b) ∷ []) ((tt, tt), ((tt, tt), (own_operand a (printed a) (own_tree a), (own_operand b (printed b) (own_tree b), tt))))
   own_tree (followed l e span) = own_words (lit_token l ∷ the mark.Fby ∷ operand e (printed e) ∷ []) (own_lit l, ((tt, tt), (own_operand e (printed e) (own_tree e), tt)))
-  own_tree (buffered e span) = own_words (the mark.Buffer ∷ operand e (printed e) ∷ []) ((tt, tt), (own_operand e (printed e) (own_tree e), tt))
+  own_tree (buffered most e span) = own_held most (operand e (printed e)) (printed e) (own_operand e (printed e) (own_tree e)) (own_tree e)
   own_tree (call n at args) = own_called n at (parens (commas (all_printed args))) (own_list (all_printed args) (own_all args))
 
   own_all : (ts : Trees) → AllByRecursion AreOwn (all_printed ts)

@@ -1,16 +1,15 @@
 -- Derivations by the grammar: which tokens symbols spell, and what they then stand for.
 use Rattle.std.specs.Prelude.{ℕ, List, [], ◌∷◌, ◌++◌, ◌≡◌, Some, None}
-use Rattle.lucy_token.specs.declared.token.Kind.{Kind}
 use Rattle.lucy_token.specs.declared.token.Token.{Token}
-use Rattle.lucy_token.specs.Tokens.{kind_of}
 use Rattle.lucy_grammar.specs.Sets.{nth}
+use Rattle.lucy_grammar.specs.Kinds.{Sort, Fits}
 use Rattle.lucy_grammar.specs.Symbols.{Part, Sym, token, part, many, perhaps, Vals, Rule}
 use Rattle.lucy_grammar.specs.Grammar.{rules}
 
 -- a derivation of symbols: a token for each token, and for each part one of its productions with a derivation of its own
 pub data Deriv : List Sym → Type 0 where
   done : Deriv []
-  take : {k : Kind} {syms : List Sym} (t : Token) → kind_of t.what ≡ k → Deriv syms → Deriv (token k ∷ syms)
+  take : {s : Sort} {syms : List Sym} (t : Token) → Fits s t.what → Deriv syms → Deriv (token s ∷ syms)
   by_rule : {X : Part} {syms : List Sym} (i : ℕ) (p : Rule X) → nth (rules X) i ≡ Some p → Deriv p.syms → Deriv syms → Deriv (part X ∷ syms)
   enough : {X : Part} {syms : List Sym} → Deriv syms → Deriv (many X ∷ syms)
   again : {X : Part} {syms : List Sym} (i : ℕ) (p : Rule X) → nth (rules X) i ≡ Some p → Deriv p.syms → Deriv (many X ∷ syms) → Deriv (many X ∷ syms)

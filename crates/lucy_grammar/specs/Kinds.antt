@@ -1,11 +1,14 @@
 -- Kinds of tokens by numbers, so that sets of kinds compute.
-use Rattle.std.specs.Prelude.{ℕ, List}
+use Rattle.std.specs.Prelude.{ℕ, pos, negsuc, Bool, true, false, if◌then◌else◌, nat_le, ◌≡◌, List, [], ◌∷◌}
+use Rattle.lucy_tree.specs.Shaped.{most_bound}
 use Rattle.lucy_token.specs.declared.mark.Mark.{Mark}
 use Rattle.lucy_token.specs.declared.mark.Mark.TheVariants as mark
 use Rattle.lucy_token.specs.declared.token.Kind.{Kind}
 use Rattle.lucy_token.specs.declared.token.Kind.TheVariants as kind
+use Rattle.lucy_token.specs.declared.token.What.{What}
+use Rattle.lucy_token.specs.declared.token.What.TheVariants as what
 use Rattle.lucy_token.specs.declared.token.Token.{Token}
-use Rattle.lucy_token.specs.Tokens.{first}
+use Rattle.lucy_token.specs.Tokens.{kind_of}
 
 -- the number of a mark
 abbrev pub mark_number : Mark → ℕ
@@ -57,6 +60,64 @@ number kind.Number = 2
 number kind.Word = 3
 number (kind.Mark m) = mark_number m
 
--- the number of the first token's kind
+-- the token is a number that a buffer's bound may be
+abbrev pub is_bound : What → Bool
+is_bound (what.Number (pos n)) = nat_le n most_bound
+is_bound (what.Number (negsuc n)) = false
+is_bound (what.Mark m) = false
+is_bound (what.Name bytes) = false
+is_bound (what.Word w) = false
+
+-- what one token ahead tells: its kind, or that it is a number that may be a bound
+pub data Class : Type 0 where
+  kind_class : Kind → Class
+  bound_class : Class
+
+abbrev pub class_number : Class → ℕ
+class_number (kind_class k) = number k
+class_number bound_class = 43
+
+abbrev pub class_of : What → Class
+class_of w = if is_bound w then bound_class else kind_class (kind_of w)
+
+-- that of the first token, or of the end
+abbrev pub first_class : List Token → Class
+first_class [] = kind_class kind.End
+first_class (t ∷ ts) = class_of t.what
+
+-- the number of a token, and of the first one
+abbrev pub what_number : What → ℕ
+what_number w = class_number (class_of w)
+
 abbrev pub ahead : List Token → ℕ
-ahead ts = number (first ts)
+ahead ts = class_number (first_class ts)
+
+-- the numbers of the tokens of a kind
+abbrev pub kind_numbers : Kind → List ℕ
+kind_numbers kind.Number = 2 ∷ 43 ∷ []
+kind_numbers kind.End = 0 ∷ []
+kind_numbers kind.Name = 1 ∷ []
+kind_numbers kind.Word = 3 ∷ []
+kind_numbers (kind.Mark m) = mark_number m ∷ []
+
+-- what a token must be: of a kind, a number that may be a bound, or one that may not
+pub data Sort : Type 0 where
+  of : Kind → Sort
+  bound unbound : Sort
+
+-- the kind of such tokens, and their numbers
+abbrev pub sort_kind : Sort → Kind
+sort_kind (of k) = k
+sort_kind bound = kind.Number
+sort_kind unbound = kind.Number
+
+abbrev pub sort_numbers : Sort → List ℕ
+sort_numbers (of k) = kind_numbers k
+sort_numbers bound = 43 ∷ []
+sort_numbers unbound = 2 ∷ []
+
+-- the token is so
+abbrev pub Fits : Sort → What → Type 0
+Fits (of k) w = kind_of w ≡ k
+Fits bound w = is_bound w ≡ true
+Fits unbound w = (kind_of w ≡ kind.Number) × (is_bound w ≡ false)

@@ -13,3 +13,4 @@ pub mod Spans
 pub mod Printable
 pub mod Parens
 pub mod Texts
+pub mod PlainLimits

@@ -1,5 +1,5 @@
 -- What tokens and their groups stand for.
-use Rattle.std.specs.Prelude.{ℕ, pos, Bool, List, [], ◌∷◌, Option, Some, None}
+use Rattle.std.specs.Prelude.{ℕ, pos, negsuc, Bool, List, [], ◌∷◌, Option, Some, None}
 use Rattle.lucy_word.specs.Bits.{Bits}
 use Rattle.lucy_tree.specs.declared.span.Span.{Span}
 use Rattle.lucy_tree.specs.declared.span.Name.{Name}
@@ -30,6 +30,14 @@ number_of (what.Mark mark) = lit.Int (pos 0)
 number_of (what.Name bytes) = lit.Int (pos 0)
 number_of (what.Word w) = lit.Int (pos 0)
 
+-- the bound that a number's token is
+abbrev pub bound_of : What → ℕ
+bound_of (what.Number (pos n)) = n
+bound_of (what.Number (negsuc n)) = 0
+bound_of (what.Mark mark) = 0
+bound_of (what.Name bytes) = 0
+bound_of (what.Word w) = 0
+
 -- the bits that a word's token stands for
 abbrev pub word_of : What → Bits
 word_of (what.Word w) = w
@@ -41,9 +49,11 @@ word_of (what.Number n) = record { prefix = []; period = [] }
 abbrev pub bare : Name → Decl
 bare name = record { name = name; holds = None; word = None }
 
+-- two operands
 abbrev pub two : Tree → Tree → Trees
 two a b = more a (more b no_more)
 
+-- three operands
 abbrev pub three : Tree → Tree → Tree → Trees
 three a b c = more a (two b c)
 
@@ -71,6 +81,16 @@ abbrev pub literal_before : Lit × Span → Option (Span × Tree) → Tree
 literal_before (l, span) None = literal l span
 literal_before (l, span) (Some (fby, operand)) = followed l operand fby
 
+-- a number behind `buffer`: alone, before `fby` and an operand, or as the bound of an expression
+abbrev pub held_by : ℕ → Lit × Span → Option (Option Span × Tree) → Option ℕ × Tree
+held_by n (l, span) None = (None, literal l span)
+held_by n (l, span) (Some (Some fby, operand)) = (None, followed l operand fby)
+held_by n (l, span) (Some (None, e)) = (Some n, e)
+
+-- the same, of a number's token
+abbrev pub held : Token → Option (Option Span × Tree) → Option ℕ × Tree
+held n h = held_by (bound_of n.what) (number_of n.what, n.span) h
+
 -- a name alone, or a call
 abbrev pub named : Name → Option (Option Bits × Trees) → Tree
 named name None = variable name
@@ -81,6 +101,7 @@ abbrev pub all_of : {A : Type 0} → Option (List A) → List A
 all_of None = []
 all_of (Some list) = list
 
+-- the arguments of a call, of which there may be none
 abbrev pub args_of : Option Trees → Trees
 args_of None = no_more
 args_of (Some args) = args

@@ -1,5 +1,5 @@
 -- How a program is printed: its tokens in order, each with the blanks before it.
-use Rattle.std.specs.Prelude.{ℕ, Bool, true, false, List, [], ◌∷◌, ◌++◌, Option, Some, None, map}
+use Rattle.std.specs.Prelude.{ℕ, pos, Bool, true, false, List, [], ◌∷◌, ◌++◌, Option, Some, None, map}
 use Rattle.lucy_word.specs.Bits.{Bits}
 use Rattle.lucy_host.specs.declared.op.Op.{Op}
 use Rattle.lucy_host.specs.declared.op.Op.TheVariants as op
@@ -17,20 +17,23 @@ use Rattle.lucy_token.specs.declared.token.What.{What}
 use Rattle.lucy_token.specs.declared.token.What.TheVariants as what
 use Rattle.lucy_token.specs.Spelled.{Printed, in_print, bytes_of}
 
--- a blank; the end of a line; and the end of a line with two blanks
+-- a blank
 abbrev pub blank : List ℕ
 blank = 32 ∷ []
 
+-- the end of a line
 abbrev pub line : List ℕ
 line = 10 ∷ []
 
+-- the end of a line, and two blanks
 abbrev pub indent : List ℕ
 indent = 10 ∷ 32 ∷ 32 ∷ []
 
--- a token without blanks before it, and a keyword or a sign
+-- a token without blanks before it
 abbrev pub one : What → List Printed
 one w = in_print [] w ∷ []
 
+-- a keyword or a sign without blanks before it
 abbrev pub the : Mark → List Printed
 the m = one (what.Mark m)
 
@@ -39,33 +42,39 @@ abbrev pub after : List ℕ → List Printed → List Printed
 after blanks [] = []
 after blanks (t ∷ ts) = in_print blanks t.what ∷ ts
 
--- with a blank before each, and with one between two
+-- with a blank before each
 abbrev pub spaced : List (List Printed) → List Printed
 spaced [] = []
 spaced (x ∷ xs) = after blank x ++ spaced xs
 
+-- with a blank between two
 abbrev pub words : List (List Printed) → List Printed
 words [] = []
 words (x ∷ xs) = x ++ spaced xs
 
--- with `, ` before each, and with it between two
+-- with `, ` before each
 abbrev pub after_commas : List (List Printed) → List Printed
 after_commas [] = []
 after_commas (x ∷ xs) = the mark.Comma ++ after blank x ++ after_commas xs
 
+-- with `, ` between two
 abbrev pub commas : List (List Printed) → List Printed
 commas [] = []
 commas (x ∷ xs) = x ++ after_commas xs
 
+-- in parentheses
 abbrev pub parens : List Printed → List Printed
 parens x = the mark.Open ++ x ++ the mark.Close
 
+-- a name
 abbrev pub name_token : Name → List Printed
 name_token name = one (what.Name name.text)
 
+-- a word
 abbrev pub word_token : Bits → List Printed
 word_token w = one (what.Word w)
 
+-- a literal
 abbrev pub lit_token : Lit → List Printed
 lit_token (lit.Int n) = one (what.Number n)
 lit_token (lit.Bool true) = the mark.True
@@ -89,6 +98,7 @@ op_mark op.Or = mark.Either
 op_mark op.Not = mark.Not
 op_mark op.If = mark.If
 
+-- the keyword of a sampling
 abbrev pub when_mark : Bool → Mark
 when_mark false = mark.When
 when_mark true = mark.Whenot
@@ -111,6 +121,11 @@ operand (literal l span) x = x
 operand (variable name) x = x
 operand _ x = parens x
 
+-- a buffer of an operand, or with a written bound of a whole expression
+abbrev pub held : Option ℕ → List Printed → List Printed → List Printed
+held None operand e = words (the mark.Buffer ∷ operand ∷ [])
+held (Some n) operand e = words (the mark.Buffer ∷ one (what.Number (pos n)) ∷ parens e ∷ [])
+
 abbrev mutual
   pub printed : Tree → List Printed
   printed (literal l span) = lit_token l
@@ -120,7 +135,7 @@ abbrev mutual
   printed (sampled flip e w) = words (operand e (printed e) ∷ the (when_mark flip) ∷ word_token w ∷ [])
   printed (merged w a b span) = words (the mark.Merge ∷ word_token w ∷ operand a (printed a) ∷ operand b (printed b) ∷ [])
   printed (followed l e span) = words (lit_token l ∷ the mark.Fby ∷ operand e (printed e) ∷ [])
-  printed (buffered e span) = words (the mark.Buffer ∷ operand e (printed e) ∷ [])
+  printed (buffered most e span) = held most (operand e (printed e)) (printed e)
   printed (call name at args) = called name at (parens (commas (all_printed args)))
 
   pub all_printed : Trees → List (List Printed)
@@ -131,19 +146,22 @@ abbrev mutual
   operands no_more = []
   operands (more t ts) = operand t (printed t) ∷ operands ts
 
+-- the keyword of a type
 abbrev pub type_mark : DataType → Mark
 type_mark holds.Int = mark.Int
 type_mark holds.Bool = mark.Bool
 
--- a written type, and the word of a written clock
+-- a written type: `:` and its keyword, or nothing
 abbrev pub typing : Option DataType → List (List Printed)
 typing None = []
 typing (Some t) = the mark.Colon ∷ the (type_mark t) ∷ []
 
+-- a written clock: `::` and its word, or nothing
 abbrev pub clock : Option Bits → List (List Printed)
 clock None = []
 clock (Some w) = the mark.Colons ∷ word_token w ∷ []
 
+-- a declaration: a name, then its type and its clock where they are written
 abbrev pub printed_decl : Decl → List Printed
 printed_decl d = words (name_token d.name ∷ (typing d.holds ++ clock d.word))
 
@@ -153,6 +171,7 @@ printed_left [] = parens []
 printed_left (d ∷ []) = printed_decl d
 printed_left (d ∷ e ∷ ds) = parens (commas (map printed_decl (d ∷ e ∷ ds)))
 
+-- a definition: its left side, `=`, and its right side
 abbrev pub printed_def : DefTree → List Printed
 printed_def d = words (printed_left d.left ∷ the mark.Equals ∷ printed d.right ∷ [])
 
@@ -161,10 +180,12 @@ abbrev pub more_defs : List DefTree → List Printed
 more_defs [] = []
 more_defs (d ∷ ds) = after indent (the mark.And) ++ after blank (printed_def d) ++ more_defs ds
 
+-- the definitions of a node behind `where rec`, the first on a line of its own, or nothing
 abbrev pub printed_body : List DefTree → List Printed
 printed_body [] = []
 printed_body (d ∷ ds) = spaced (the mark.Where ∷ the mark.Rec ∷ []) ++ after indent (printed_def d) ++ more_defs ds
 
+-- a node: `let node`, its name, its parameters and results in parentheses, and its definitions
 abbrev pub printed_node : NodeTree → List Printed
 printed_node n =
     words (the mark.Let ∷ the mark.Node ∷ name_token n.name ∷ parens (commas (map printed_decl n.params)) ∷ the mark.Equals ∷ parens (commas (map name_token n.results)) ∷ [])
@@ -175,6 +196,7 @@ abbrev pub more_nodes : List NodeTree → List Printed
 more_nodes [] = []
 more_nodes (n ∷ ns) = after line (printed_node n) ++ more_nodes ns
 
+-- the nodes of a program
 abbrev pub printed_program : ProgramTree → List Printed
 printed_program [] = []
 printed_program (n ∷ ns) = printed_node n ++ more_nodes ns

@@ -2,7 +2,7 @@
 -- they must, and several names are defined by a call.
 --
 -- Q says of names, numbers and words that they may stand as tokens after one of a kind.
-use Rattle.std.specs.Prelude.{false, List, [], ◌∷◌, ◌≡◌, length, Option, Some, None}
+use Rattle.std.specs.Prelude.{ℕ, pos, ◌≤◌, false, List, [], ◌∷◌, ◌≡◌, length, Option, Some, None}
 use Rattle.std.specs.List.{AllByRecursion}
 use Rattle.lucy_word.specs.Bits.{Bits}
 use Rattle.lucy_host.specs.Arity.{arity}
@@ -12,7 +12,7 @@ use Rattle.lucy_tree.specs.declared.expr.Lit.{Lit}
 use Rattle.lucy_tree.specs.declared.expr.Lit.TheVariants as lit
 use Rattle.lucy_tree.specs.Tree.{Tree, Trees, literal, variable, operator, host, sampled, merged, followed, buffered, call, no_more, more, list_of}
 use Rattle.lucy_tree.specs.View.{DefTree, NodeTree, ProgramTree}
-use Rattle.lucy_tree.specs.Shaped.{Defines}
+use Rattle.lucy_tree.specs.Shaped.{most_bound, Defines}
 use Rattle.lucy_token.specs.declared.mark.Mark.{Mark}
 use Rattle.lucy_token.specs.declared.mark.Mark.TheVariants as mark
 use Rattle.lucy_token.specs.declared.token.Kind.{Kind}
@@ -32,6 +32,11 @@ abbrev pub IsLit : (Kind → What → Type 0) → Lit → Type 0
 IsLit Q (lit.Int n) = (k : Kind) × Q k (what.Number n)
 IsLit Q (lit.Bool b) = Unit {0}
 
+-- the bound, where one is written, is one and may stand somewhere
+abbrev pub IsHeld : (Kind → What → Type 0) → Option ℕ → Type 0
+IsHeld Q None = Unit {0}
+IsHeld Q (Some n) = (n ≤ most_bound) × IsLit Q (lit.Int (pos n))
+
 -- the word, where one is written, may stand after the mark
 abbrev pub IsWordBehind : (Kind → What → Type 0) → Mark → Option Bits → Type 0
 IsWordBehind Q m None = Unit {0}
@@ -46,7 +51,7 @@ abbrev mutual
   IsPrintable Q (sampled flip e w) = IsPrintable Q e × IsWordBehind Q (when_mark flip) (Some w)
   IsPrintable Q (merged w a b span) = IsWordBehind Q mark.Merge (Some w) × (IsPrintable Q a × IsPrintable Q b)
   IsPrintable Q (followed l e span) = IsLit Q l × IsPrintable Q e
-  IsPrintable Q (buffered e span) = IsPrintable Q e
+  IsPrintable Q (buffered most e span) = IsHeld Q most × IsPrintable Q e
   IsPrintable Q (call name at args) = IsNamed Q name × (IsWordBehind Q mark.At at × ArePrintable Q args)
 
   pub ArePrintable : (Kind → What → Type 0) → Trees → Type 0

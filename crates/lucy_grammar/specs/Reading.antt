@@ -7,7 +7,7 @@ use Rattle.lucy_token.specs.declared.token.Token.{Token}
 use Rattle.lucy_token.specs.Tokens.{kind_of, first}
 use Rattle.lucy_grammar.specs.Sets.{within}
 use Rattle.lucy_grammar.specs.Kinds.{mark_number, ahead}
-use Rattle.lucy_grammar.specs.Symbols.{Part, Sym, part, Val, Vals, Program, Node, Title, Params, Results, Names, Ident, MoreName, Body, Decls, MoreDecl, Decl, Typing, TypeName, ClockOf, Defs, Def, MoreDef, Lefts, Expr, Or, MoreAnd, And, MoreCmp, Cmp, Compared, CmpOp, Sum, MoreProd, SumOp, Prod, MoreSamp, ProdOp, Samp, Sampling, Pre, Followed, Atom, Small, Lit, Pair, Call, Applied, Base, Args, MoreExpr}
+use Rattle.lucy_grammar.specs.Symbols.{Part, Sym, part, Val, Vals, Program, Node, Title, Params, Results, Names, Ident, MoreName, Body, Decls, MoreDecl, Decl, Typing, TypeName, ClockOf, Defs, Def, MoreDef, Lefts, Expr, Or, MoreAnd, And, MoreCmp, Cmp, Compared, CmpOp, Sum, MoreProd, SumOp, Prod, MoreSamp, ProdOp, Samp, Sampling, Pre, Followed, Form, Buffered, Held, Other, Atom, Small, Lit, Pair, Call, Applied, Base, Args, MoreExpr}
 use Rattle.lucy_grammar.specs.Derivations.{Deriv, spelled, value}
 
 -- the numbers of marks
@@ -15,9 +15,9 @@ abbrev pub numbers : List Mark → List ℕ
 numbers [] = []
 numbers (m ∷ ms) = mark_number m ∷ numbers ms
 
--- the kinds with which a small operand begins (1 is a name, 2 a number)
+-- the kinds with which a small operand begins (1 is a name, 2 a number that may be no bound of a buffer, 43 one that may)
 abbrev pub small : List ℕ
-small = 1 ∷ 2 ∷ numbers (mark.True ∷ mark.False ∷ mark.Open ∷ [])
+small = 1 ∷ 2 ∷ 43 ∷ numbers (mark.True ∷ mark.False ∷ mark.Open ∷ [])
 
 -- and any operand
 abbrev pub operand : List ℕ
@@ -102,6 +102,10 @@ follows Samp = after_samp
 follows Sampling = after_pre
 follows Pre = after_pre
 follows Followed = after_pre
+follows Form = after_pre
+follows Buffered = after_pre
+follows Held = after_pre
+follows Other = mark_number mark.Fby ∷ after_pre
 follows Atom = after_pre
 follows Small = small ++ after_pre
 follows Lit = mark_number mark.Fby ∷ (small ++ after_pre)
@@ -151,9 +155,13 @@ begins Samp = operand
 begins Sampling = samplings
 begins Pre = operand
 begins Followed = numbers (mark.Fby ∷ [])
+begins Form = 1 ∷ numbers (mark.Not ∷ mark.Buffer ∷ mark.Merge ∷ mark.Host ∷ mark.Open ∷ [])
+begins Buffered = operand
+begins Held = numbers (mark.Fby ∷ mark.Open ∷ [])
+begins Other = 2 ∷ numbers (mark.True ∷ mark.False ∷ [])
 begins Atom = 1 ∷ numbers (mark.Host ∷ mark.Open ∷ [])
 begins Small = small
-begins Lit = 2 ∷ numbers (mark.True ∷ mark.False ∷ [])
+begins Lit = 2 ∷ 43 ∷ numbers (mark.True ∷ mark.False ∷ [])
 begins Pair = numbers (mark.Open ∷ [])
 begins Call = 1 ∷ []
 begins Applied = numbers (mark.At ∷ mark.Open ∷ [])
@@ -193,6 +201,10 @@ Unfit X ts rest = Refuses X (part X ∷ []) ts rest
 -- a part begins here
 abbrev pub IsBegun : Part → List Token → Type 0
 IsBegun X ts = within (ahead ts) (begins X) ≡ true
+
+-- a number that may be a bound is the first token
+abbrev pub IsBoundAhead : List Token → Type 0
+IsBoundAhead ts = within (ahead ts) (43 ∷ []) ≡ true
 
 -- the part is read, or it doesn't begin here and nothing is taken
 abbrev pub ReadsOptional : (X : Part) → List Token → Option (Val X) → List Token → Type 0

@@ -29,7 +29,7 @@ abbrev mutual
   unplaced (sampled flip e w) = sampled flip (unplaced e) w
   unplaced (merged w a b span) = merged w (unplaced a) (unplaced b) nowhere
   unplaced (followed l e span) = followed l (unplaced e) nowhere
-  unplaced (buffered e span) = buffered (unplaced e) nowhere
+  unplaced (buffered most e span) = buffered most (unplaced e) nowhere
   unplaced (call name at args) = call (unplaced_name name) at (all_unplaced args)
 
   pub all_unplaced : Trees → Trees

@@ -1,5 +1,5 @@
 -- The parts of a program, and what each stands for.
-use Rattle.std.specs.Prelude.{Bool, List, [], ◌∷◌, Option}
+use Rattle.std.specs.Prelude.{ℕ, Bool, List, [], ◌∷◌, Option}
 use Rattle.lucy_word.specs.Bits.{Bits}
 use Rattle.lucy_host.specs.declared.op.Op.{Op}
 use Rattle.lucy_host.specs.declared.data_type.DataType.{DataType}
@@ -11,20 +11,25 @@ use Rattle.lucy_tree.specs.Tree.{Tree, Trees}
 use Rattle.lucy_tree.specs.View.{DefTree, NodeTree, ProgramTree}
 use Rattle.lucy_token.specs.declared.token.Kind.{Kind}
 use Rattle.lucy_token.specs.declared.token.Token.{Token}
+use Rattle.lucy_grammar.specs.Kinds.{Sort, of}
 
 -- the parts: of a program, of a node, of its declarations and definitions, of an expression
 pub data Part : Type 0 where
   Program Node Title Params Results Names Ident MoreName Body : Part
   Decls MoreDecl Decl Typing TypeName ClockOf Defs Def MoreDef Lefts : Part
   Expr Or MoreAnd And MoreCmp Cmp Compared CmpOp Sum MoreProd SumOp Prod MoreSamp ProdOp Samp Sampling : Part
-  Pre Followed Atom Small Lit Pair Call Applied Base Args MoreExpr : Part
+  Pre Followed Form Buffered Held Other Atom Small Lit Pair Call Applied Base Args MoreExpr : Part
 
--- a symbol of a production: a token of a kind, a part, a part as often as one likes, a part or nothing
+-- a symbol of a production: a token of a sort, a part, a part as often as one likes, a part or nothing
 pub data Sym : Type 0 where
-  token : Kind → Sym
+  token : Sort → Sym
   part : Part → Sym
   many : Part → Sym
   perhaps : Part → Sym
+
+-- any token of a kind
+abbrev pub any : Kind → Sym
+any k = token (of k)
 
 -- an operator with its place, and the operand to its right
 pub record Link : Type 0 where
@@ -71,6 +76,10 @@ Val Samp = Tree
 Val Sampling = Bool × Bits
 Val Pre = Tree
 Val Followed = Span × Tree
+Val Form = Tree
+Val Buffered = Option ℕ × Tree
+Val Held = Option Span × Tree
+Val Other = lit.Lit × Span
 Val Atom = Tree
 Val Small = Tree
 Val Lit = lit.Lit × Span
@@ -84,7 +93,7 @@ Val MoreExpr = Tree
 -- what symbols stand for, one after the other
 abbrev pub Vals : List Sym → Type 0
 Vals [] = Unit {0}
-Vals (token k ∷ syms) = Token × Vals syms
+Vals (token s ∷ syms) = Token × Vals syms
 Vals (part X ∷ syms) = Val X × Vals syms
 Vals (many X ∷ syms) = List (Val X) × Vals syms
 Vals (perhaps X ∷ syms) = Option (Val X) × Vals syms

@@ -58,6 +58,7 @@ pub record IsUnfitText (text : List ℕ) (e : SyntaxError) : Type 0 where
   pub cut : Cuts 0 start text tokens stop
   pub why : IsUnexpected tokens e ⊎ IsStopped tokens stop e
 
+-- the text is refused so: it is too long, or else its tokens don't fit
 abbrev pub IsRefused : List ℕ → SyntaxError → Type 0
 IsRefused text e = ((most_text < length text) × (e ≡ TooLarge limit.Text)) ⊎ IsUnfitText text e
 

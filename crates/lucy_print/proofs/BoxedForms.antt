@@ -1,5 +1,5 @@
 -- The trees of forms whose operands lie in boxes.
-use Rattle.std.proofs.Common.{◌≡◌, Box, Global, ap, sym, ◌∙◌}
+use Rattle.std.proofs.Common.{ℕ, Option, ◌≡◌, Box, Global, ap, sym, ◌∙◌}
 use Rattle.lucy_word.specs.Bits.{Bits}
 use Rattle.lucy_tree.specs.declared.span.Span.{Span}
 use Rattle.lucy_tree.specs.declared.expr.Lit.{Lit}
@@ -16,5 +16,5 @@ tree_merged by one zero s = ap tree_of (sym (rolls-Merge by one zero s)) ∙ fol
 pub tree_followed : (l : Lit) (later : Box Expr Global) (s : Span) → tree_of (Fby l later s) ≡ followed l (tree_of later.value) s
 tree_followed l later s = ap tree_of (sym (rolls-Fby l later s)) ∙ fold-roll-Expr Tree Trees tree_step trees_step (layer.Fby l later s)
 
-pub tree_buffered : (inner : Box Expr Global) (s : Span) → tree_of (Buffer inner s) ≡ buffered (tree_of inner.value) s
-tree_buffered inner s = ap tree_of (sym (rolls-Buffer inner s)) ∙ fold-roll-Expr Tree Trees tree_step trees_step (layer.Buffer inner s)
+pub tree_buffered : (most : Option ℕ) (inner : Box Expr Global) (s : Span) → tree_of (Buffer most inner s) ≡ buffered most (tree_of inner.value) s
+tree_buffered most inner s = ap tree_of (sym (rolls-Buffer most inner s)) ∙ fold-roll-Expr Tree Trees tree_step trees_step (layer.Buffer most inner s)

@@ -2,9 +2,12 @@
 ghost use Rattle.std.specs.Prelude.{◌≡◌, ◌++◌, OnOk};
 ghost use Rattle.lucy_tree.specs.Tree as tree;
 ghost use Rattle.lucy_tree.specs.View.{tree_of, all_trees};
+ghost use Rattle.lucy_grammar.specs.Spans.{nowhere};
 ghost use Rattle.lucy_grammar.specs.Print.{spaced_text, printed, operand, parens, operated, operands, commas, all_printed};
 
-use crate::token::{between, blank, comma, leading, lit, mark, name, op_mark, when_mark, word};
+use crate::token::{
+    between, blank, bound, comma, leading, lit, mark, name, op_mark, when_mark, word,
+};
 use lucy_host::Op;
 use lucy_token::Mark;
 use lucy_tree::{Expr, Name};
@@ -48,11 +51,33 @@ pub fn expr(alloc: Global, expr: &Expr, out: &mut Vec<u8>) -> Result<(), OutOfMe
             between(Mark::Fby, out)?;
             operand(alloc, later, out)
         }
-        Expr::Buffer { operand: inner, .. } => {
-            leading(Mark::Buffer, out)?;
-            operand(alloc, inner, out)
-        }
+        Expr::Buffer {
+            most,
+            operand: inner,
+            ..
+        } => buffered(alloc, *most, inner, out),
         Expr::Call { node, at, args } => called(alloc, node, at, args.list(), out),
+    }
+}
+
+// `buffer A`, or with a written bound `buffer B (E)`
+#[cycle(printed)]
+fn buffered(
+    alloc: Global,
+    most: Option<u64>,
+    inner: &Expr,
+    out: &mut Vec<u8>,
+) -> Result<(), OutOfMemory>
+    ensures { OnOk result (out.new.items ≡ out.old.items ++ spaced_text (printed (tree.buffered most (tree_of inner.now) nowhere))) }
+{
+    leading(Mark::Buffer, out)?;
+    match most {
+        None => operand(alloc, inner, out),
+        Some(most) => {
+            bound(alloc, most, out)?;
+            blank(out)?;
+            enclosed(alloc, inner, out)
+        }
     }
 }
 

@@ -1,6 +1,8 @@
 // Writes single tokens, and the blanks between them.
 ghost use Rattle.std.specs.Prelude.{◌≡◌, ◌∷◌, ◌++◌, OnOk};
 ghost use Rattle.lucy_grammar.specs.Print as spec;
+ghost use Rattle.std.specs.Prelude.{pos};
+ghost use Rattle.lucy_token.specs.declared.token.What.TheVariants as what;
 
 use lucy_host::{DataType, Op};
 use lucy_token::Mark;
@@ -76,6 +78,13 @@ pub fn lit(alloc: Global, lit: Lit, out: &mut Vec<u8>) -> Result<(), OutOfMemory
         Lit::Bool(true) => mark(Mark::True, out),
         Lit::Bool(false) => mark(Mark::False, out),
     }
+}
+
+/// A written bound.
+pub fn bound(alloc: Global, most: u64, out: &mut Vec<u8>) -> Result<(), OutOfMemory>
+    ensures { OnOk result (out.new.items ≡ out.old.items ++ spec.spaced_text (spec.one (what.Number (pos most)))) }
+{
+    bytes(format!(in alloc; "{most}")?.as_bytes(), out)
 }
 
 /// The sign of an operator, or its first keyword.

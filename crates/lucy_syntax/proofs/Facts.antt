@@ -8,9 +8,13 @@ use Rattle.lucy_token.specs.declared.token.Kind.{Kind}
 use Rattle.lucy_token.specs.declared.token.Kind.TheVariants as kind
 use Rattle.lucy_token.specs.declared.mark.Mark.TheVariants as mark
 use Rattle.lucy_token.specs.declared.token.Token.{Token}
-use Rattle.lucy_token.specs.Tokens.{first}
-use Rattle.lucy_grammar.specs.Sets.{within}
-use Rattle.lucy_grammar.specs.Kinds.{number}
+use Rattle.lucy_token.specs.Tokens.{kind_of, first}
+use Rattle.lucy_grammar.specs.Sets.{within, subset}
+use Rattle.lucy_grammar.specs.Kinds.{number, class_number, kind_class, bound_class, what_number, ahead, is_bound}
+use Rattle.lucy_tree.specs.Shaped.{most_bound}
+use Rattle.lucy_token.specs.declared.token.What.{What}
+use Rattle.lucy_token.specs.declared.token.What.TheVariants as what
+use Rattle.std.specs.Prelude.{pos, negsuc, nat_le, if◌then◌else◌}
 use Rattle.lucy_host.specs.declared.op.Op.{Op}
 use Rattle.lucy_tree.specs.declared.span.Span.{Span}
 use Rattle.lucy_token.specs.declared.mark.Mark.{Mark}
@@ -18,7 +22,7 @@ use Rattle.lucy_grammar.specs.Sets.{nth}
 use Rattle.lucy_grammar.specs.Kinds.{mark_number}
 use Rattle.lucy_grammar.specs.Symbols.{Part, Val}
 use Rattle.lucy_grammar.specs.Grammar.{rules, says, sign}
-use Rattle.lucy_grammar.specs.Reading.{begins, Begins, IsBegun, Reads}
+use Rattle.lucy_grammar.specs.Reading.{begins, IsBoundAhead, Begins, IsBegun, Reads}
 use Rattle.lucy_grammar.proofs.Numbers.{is_in, same_kind}
 use Rattle.lucy_grammar.proofs.Steps.{end, tok, rule, led_by, as_value}
 use Rattle.lucy_tree.specs.Tree.{Tree, trees_of, list_of}
@@ -56,7 +60,7 @@ pair_of {A = A} {B = B} {p = p} {a = a} {b = b} e f =
 
 -- an operator's sign is read
 pub signed : (X : Part) (made : Op × Span → Val X) (i : ℕ) (m : Mark) (o : Op) {ts more : List Token} {t : Token} {v : Op × Span} →
-    nth (rules X) i ≡ Some (says (sign m ∷ []) (λ (s, _). made (o, s.span))) → within (mark_number m) (begins X) ≡ true →
+    nth (rules X) i ≡ Some (says (sign m ∷ []) (λ (s, _). made (o, s.span))) → subset (mark_number m ∷ []) (begins X) ≡ true →
     Begins ts t (kind.Mark m) more → v.0 ≡ o → v.1 ≡ t.span → IsBegun X ts × Reads X ts (made v) more
 signed X made i m o {ts = ts} {t = t} {v = v} e w b one two = (
   is_in ts (begins X) (ap first b.0 ∙ b.1) w,
@@ -69,8 +73,25 @@ begins_expr_by kind.End = refl
 begins_expr_by (kind.Mark mark.Let) = refl
 begins_expr_by _ = refl
 
+either_expr : (b : Bool) → true ≡ within (class_number (if b then bound_class else kind_class kind.Number)) (begins Part.Args)
+unfolding begins
+either_expr true = refl
+either_expr false = refl
+
+begins_expr_so : (ts : List Token) → begins_expr (first ts) ≡ within (ahead ts) (begins Part.Args)
+unfolding begins
+begins_expr_so [] = refl
+begins_expr_so (t ∷ ts) = go t.what
+  where
+    go : (w : What) → begins_expr (kind_of w) ≡ within (what_number w) (begins Part.Args)
+    go (what.Mark m) = begins_expr_by (kind.Mark m)
+    go (what.Name bytes) = refl
+    go (what.Word w) = refl
+    go (what.Number (pos n)) = either_expr (nat_le n most_bound)
+    go (what.Number (negsuc n)) = refl
+
 pub not_expr : (ts : List Token) {b : Bool} → b ≡ begins_expr (first ts) → (b ≡ true → IsBegun Part.Args ts) × (IsBegun Part.Args ts → b ≡ true)
-not_expr ts e = (λ h. sym (begins_expr_by (first ts)) ∙ sym e ∙ h, λ w. e ∙ begins_expr_by (first ts) ∙ w)
+not_expr ts e = (λ h. sym (begins_expr_so ts) ∙ sym e ∙ h, λ w. e ∙ begins_expr_so ts ∙ w)
 
 list_of-all : (es : List Expr) → list_of (all_trees es) ≡ map tree_of es
 list_of-all es = list_of-trees_of (map tree_of es)
@@ -102,3 +123,11 @@ is_none (x ∷ xs) h = absurd (both_ways true (h ∙ zero_not (length xs)) refl)
 pub is_some : {A : Type 0} (list : List A) → false ≡ (length list == 0) → list ≡ [] → ⊥
 is_some [] h e = both_ways true (sym h) refl
 is_some (x ∷ xs) h e = cc
+
+-- a first token that is no bound
+pub no_bound : {ts more : List Token} {t : Token} → ts ≡ t ∷ more → (IsBoundAhead ts → ⊥) → is_bound t.what ≡ false
+no_bound {t = t} e n = go (is_bound t.what) refl
+  where
+    go : (b : Bool) → is_bound t.what ≡ b → is_bound t.what ≡ false
+    go false f = f
+    go true f = absurd (n (ap (λ (u : List Token). within (ahead u) (43 ∷ [])) e ∙ ap (λ (b : Bool). within (class_number (if b then bound_class else kind_class (kind_of t.what))) (43 ∷ [])) f))

@@ -14,11 +14,11 @@ use Rattle.lucy_syntax.specs.Refusals.{behind_name, behind_first, behind_test, b
 
 pub decl : {ts m1 rest : List Token} {n : Token} {h : Option (Val Part.Typing)} {w : Option (Val Part.ClockOf)} → Begins ts n kind.Name m1 → Takes Part.Decl behind_name m1 (h, (w, tt)) rest → Reads Part.Decl ts (record { name = name_of n; holds = h; word = w }) rest
 unfolding rules follows begins
-decl h1 r = rule 0 refl (others _ 0 refl tt) (tok h1 r)
+decl {ts = ts} h1 r = rule 0 refl (others ts 0 refl tt) (tok h1 r)
 
 pub decl_no : {ts m1 rest : List Token} {n : Token} → Begins ts n kind.Name m1 → Refuses Part.Decl behind_name m1 rest → Unfit Part.Decl ts rest
 unfolding rules follows begins
-decl_no h1 u = rule_no 0 refl (others _ 0 refl tt) (tok_no h1 u)
+decl_no {ts = ts} h1 u = rule_no 0 refl (others ts 0 refl tt) (tok_no h1 u)
 
 pub behind_name_is : {ts rest : List Token} (m1 : List Token) (h : Option (Val Part.Typing)) (w : Option (Val Part.ClockOf)) → ReadsOptional Part.Typing ts h m1 → ReadsOptional Part.ClockOf m1 w rest → Takes Part.Decl behind_name ts (h, (w, tt)) rest
 unfolding rules follows begins
@@ -34,11 +34,11 @@ behind_name_2 h h1 u = maybe_no h refl h1 (maybe_bad refl u)
 
 pub lefts : {ts m1 m2 rest : List Token} {o c s : Token} {d : Val Part.Decl} {ds : Val Part.Decls} → Begins ts o (kind.Mark mark.Open) m1 → Reads Part.Decl m1 d m2 → Takes Part.Lefts behind_first m2 (c, (ds, (s, tt))) rest → Reads Part.Lefts ts (d ∷ ds) rest
 unfolding rules follows begins
-lefts h1 h2 r = rule 0 refl (others _ 0 refl tt) (tok h1 (sub refl h2 r))
+lefts {ts = ts} h1 h2 r = rule 0 refl (others ts 0 refl tt) (tok h1 (sub refl h2 r))
 
 pub lefts_no : {ts m1 m2 rest : List Token} {o : Token} {d : Val Part.Decl} → Begins ts o (kind.Mark mark.Open) m1 → Reads Part.Decl m1 d m2 → Refuses Part.Lefts behind_first m2 rest → Unfit Part.Lefts ts rest
 unfolding rules follows begins
-lefts_no h1 h2 u = rule_no 0 refl (others _ 0 refl tt) (tok_no h1 (sub_no refl h2 u))
+lefts_no {ts = ts} h1 h2 u = rule_no 0 refl (others ts 0 refl tt) (tok_no h1 (sub_no refl h2 u))
 
 pub behind_first_is : {ts m1 m2 rest : List Token} {c s : Token} {ds : Val Part.Decls} → Begins ts c (kind.Mark mark.Comma) m1 → Reads Part.Decls m1 ds m2 → Begins m2 s (kind.Mark mark.Close) rest → Takes Part.Lefts behind_first ts (c, (ds, (s, tt))) rest
 unfolding rules follows begins
@@ -86,11 +86,11 @@ behind_test_4 h1 h2 h3 u = tok_no h1 (sub_no refl h2 (tok_no h3 (sub_bad refl u)
 
 pub applied : {ts m1 rest : List Token} {o s : Token} (at : Option (Val Part.Base)) {args : Option (Val Part.Args)} → ReadsOptional Part.Base ts at m1 → Takes Part.Applied behind_base m1 (o, (args, (s, tt))) rest → Reads Part.Applied ts (at, args_of args) rest
 unfolding rules follows begins
-applied at h1 r = rule 0 refl (others _ 0 refl tt) (maybe at refl h1 r)
+applied {ts = ts} at h1 r = rule 0 refl (others ts 0 refl tt) (maybe at refl h1 r)
 
 pub applied_no : {ts m1 rest : List Token} (at : Option (Val Part.Base)) → ReadsOptional Part.Base ts at m1 → Refuses Part.Applied behind_base m1 rest → Unfit Part.Applied ts rest
 unfolding rules follows begins
-applied_no at h1 u = rule_no 0 refl (others _ 0 refl tt) (maybe_no at refl h1 u)
+applied_no {ts = ts} at h1 u = rule_no 0 refl (others ts 0 refl tt) (maybe_no at refl h1 u)
 
 pub behind_base_is : {ts m1 m2 rest : List Token} {o s : Token} (args : Option (Val Part.Args)) → Begins ts o (kind.Mark mark.Open) m1 → ReadsOptional Part.Args m1 args m2 → Begins m2 s (kind.Mark mark.Close) rest → Takes Part.Applied behind_base ts (o, (args, (s, tt))) rest
 unfolding rules follows begins

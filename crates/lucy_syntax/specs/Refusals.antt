@@ -1,11 +1,14 @@
 -- What the descent's functions promise of an answer.
-use Rattle.std.specs.Prelude.{Bool, true, false, List, [], ◌∷◌, Option, ◌≡◌}
+use Rattle.std.specs.Prelude.{ℕ, Bool, true, false, List, [], ◌∷◌, Option, ◌≡◌}
 use Rattle.lucy_word.specs.Bits.{Bits}
 use Rattle.lucy_tree.specs.declared.span.Name.{Name}
+use Rattle.lucy_tree.specs.declared.span.Span.{Span}
+use Rattle.lucy_tree.specs.declared.expr.Lit.{Lit}
 use Rattle.lucy_tree.specs.Tree.{Tree, Trees, sampled, call}
 use Rattle.lucy_grammar.specs.Symbols.{Part, Sym, part, perhaps}
 use Rattle.lucy_grammar.specs.Grammar.{sign}
-use Rattle.lucy_grammar.specs.Reading.{Reads}
+use Rattle.lucy_grammar.specs.Meanings.{literal_before, held_by}
+use Rattle.lucy_grammar.specs.Reading.{Reads, ReadsOptional}
 use Rattle.lucy_token.specs.declared.mark.Mark.TheVariants as mark
 use Rattle.lucy_token.specs.declared.token.Kind.{Kind}
 use Rattle.lucy_token.specs.declared.token.Kind.TheVariants as kind
@@ -35,6 +38,14 @@ begins_expr k = false
 -- a sampling is read, and the tree is the operand with it
 abbrev pub IsSampled : List Token → Tree → Tree → List Token → Type 0
 IsSampled ts operand e rest = (v : Bool × Bits) × Reads Part.Sampling ts v rest × (e ≡ sampled v.0 operand v.1)
+
+-- what stands behind a literal is read, and the tree is the literal with it
+abbrev pub IsFollowed : Lit → Span → List Token → Tree → List Token → Type 0
+IsFollowed lit span ts e rest = (v : Option (Span × Tree)) × ReadsOptional Part.Followed ts v rest × (e ≡ literal_before (lit, span) v)
+
+-- what stands behind a number that may be a bound is read, and the bound and the tree are that number with it
+abbrev pub IsHeldBy : ℕ → Lit → Span → List Token → Option ℕ × Tree → List Token → Type 0
+IsHeldBy n lit span ts b rest = (v : Option (Option Span × Tree)) × ReadsOptional Part.Held ts v rest × (b ≡ held_by n (lit, span) v)
 
 -- what stands behind the name of a call is read, and the tree is the call
 abbrev pub IsApplied : Name → List Token → Tree → List Token → Type 0

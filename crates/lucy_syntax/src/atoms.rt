@@ -1,10 +1,12 @@
 // Reads what needs no expression: literals, samplings, and the signs of operators.
-ghost use Rattle.std.specs.Prelude.{◌≡◌, ◌<◌, ◌≤◌, ◌↔◌, IfOk, IfErr, IfSome, IsTrue, MatchOption, length};
+ghost use Rattle.std.specs.Prelude.{◌≡◌, ◌<◌, ◌≤◌, ◌↔◌, IfOk, IfErr, IfSome, IsTrue, MatchOption, length, ◌∷◌, true};
 ghost use Rattle.lucy_grammar.specs.Symbols.{Part};
 ghost use Rattle.lucy_token.specs.declared.token.Kind.TheVariants as kind;
 ghost use Rattle.lucy_token.specs.declared.token.Token.{Token};
-ghost use Rattle.lucy_grammar.specs.Meanings.{number_of};
-ghost use Rattle.lucy_grammar.specs.Reading.{Reads, Unfit, IsBegun, Begins, IsOther, ReadsOptional, UnfitOptional};
+ghost use Rattle.lucy_token.specs.declared.token.What.TheVariants as what;
+ghost use Rattle.lucy_grammar.specs.Kinds.{is_bound};
+ghost use Rattle.lucy_grammar.specs.Meanings.{number_of, bound_of};
+ghost use Rattle.lucy_grammar.specs.Reading.{Reads, Unfit, IsBoundAhead, IsBegun, Begins, IsOther, ReadsOptional, UnfitOptional};
 ghost use Rattle.lucy_syntax.specs.Refusals.{RefusedBy, begins_expr};
 
 use crate::cursor::{ahead, at, sign, take, want, word};
@@ -43,10 +45,39 @@ fn number<'a, 't>(ts: &'a [Token<'t>]) -> Result<((Lit, Span), &'a [Token<'t>]),
     }
 }
 
+/// A number that a buffer's bound may be: the bound, the literal, and its place.
+pub fn bound<'a, 't>(ts: &'a [Token<'t>]) -> Option<((u64, Lit, Span), &'a [Token<'t>])>
+    ensures read { MatchOption result (IsBoundAhead ts.now → ⊥) (λ p. (t : Token) × (ts.now ≡ t ∷ p.1.now) × (is_bound t.what ≡ true) × (p.0.0 ≡ bound_of t.what) × (p.0.1 ≡ number_of t.what) × (p.0.2 ≡ t.span)) }
+    ensures shorter { IfSome result (λ p. length p.1.now < length ts.now) }
+{
+    let (t, rest) = ts.split_first()?;
+    match &t.what {
+        What::Number(n) if may_bound(*n) => Some(((as_bound(*n), Lit::Int(*n), t.span), rest)),
+        _ => None,
+    }
+}
+
+// Whether the number may be a buffer's bound.
+fn may_bound(n: i64) -> bool
+    ensures { result ≡ is_bound (what.Number n) }
+{
+    0 <= n && n <= 4095
+}
+
+// The bound that the number is.
+fn as_bound(n: i64) -> u64
+    requires { is_bound (what.Number n) ≡ true }
+    ensures { result ≡ bound_of (what.Number n) }
+{
+    n as u64
+}
+
 /// A literal and its place.
 pub fn lit<'a, 't>(ts: &'a [Token<'t>]) -> Result<((Lit, Span), &'a [Token<'t>]), Refusal<'a, 't>>
     ensures ok { IfOk result (λ p. Reads Part.Lit ts.now p.0 p.1.now) }
+    ensures other { IfOk result (λ p. (IsBoundAhead ts.now → ⊥) → Reads Part.Other ts.now p.0 p.1.now) }
     ensures refused { IfErr result (RefusedBy (Unfit Part.Lit ts.now)) }
+    ensures refused_other { IfErr result (RefusedBy (Unfit Part.Other ts.now)) }
     ensures shorter { IfOk result (λ p. length p.1.now < length ts.now) }
 {
     if let Some((span, ts)) = take(ts, Mark::True) {

@@ -105,7 +105,7 @@ pub fn word<'a, 't>(
         return Err(Refusal::At(ts));
     };
     match &t.what {
-        What::Word(w) => Ok((w.copy(alloc)?, rest)),
+        What::Word(w) => Ok((w.word(alloc)?, rest)),
         _ => Err(Refusal::At(ts)),
     }
 }

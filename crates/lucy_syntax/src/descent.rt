@@ -10,16 +10,16 @@ ghost use Rattle.lucy_grammar.specs.Symbols.{Part};
 ghost use Rattle.lucy_grammar.specs.Meanings.{args_of, two};
 ghost use Rattle.lucy_grammar.specs.Reading.{Takes, Refuses, Reads, Unfit, ReadsOptional, UnfitOptional, IsBegun};
 ghost use Rattle.lucy_syntax.specs.Levels.{ReadsAt, UnfitAt};
-ghost use Rattle.lucy_syntax.specs.Refusals.{RefusedBy, IsApplied, IsSampled, behind_test, behind_base};
+ghost use Rattle.lucy_syntax.specs.Refusals.{RefusedBy, IsFollowed, IsHeldBy, IsApplied, IsSampled, behind_test, behind_base};
 ghost use Rattle.lucy_syntax.specs.Views.{all_trees};
 
-use crate::atoms::{at_applied, at_expr, at_literal, at_sampling, base, lit, sampling};
+use crate::atoms::{at_applied, at_expr, at_literal, at_sampling, base, bound, lit, sampling};
 use crate::cursor::{at, name, take, want, word};
 use crate::level::Level;
 use crate::make::{self, Link, one_boxed, push_boxed};
 use crate::refusal::Refusal;
 use lucy_token::{Kind, Mark, Token};
-use lucy_tree::{Expr, Name};
+use lucy_tree::{Expr, Lit, Name, Span};
 use std::alloc::Global;
 
 /// An expression.
@@ -157,6 +157,22 @@ fn pre<'a, 't>(
     ensures refused { IfErr result (RefusedBy (Unfit Part.Pre ts.now)) }
     ensures shorter { IfOk result (λ p. length p.1.now < length ts.now) }
 {
+    if at_literal(ts) {
+        return literal(alloc, ts);
+    }
+    form(alloc, ts)
+}
+
+// An operand that is no literal and begins with none.
+#[cycle(descent)]
+fn form<'a, 't>(
+    alloc: Global,
+    ts: &'a [Token<'t>],
+) -> Result<(Box<Expr>, &'a [Token<'t>]), Refusal<'a, 't>>
+    ensures ok { IfOk result (λ p. Reads Part.Form ts.now (tree_of p.0.value) p.1.now) }
+    ensures refused { IfErr result (RefusedBy (Unfit Part.Form ts.now)) }
+    ensures shorter { IfOk result (λ p. length p.1.now < length ts.now) }
+{
     if at(ts, Kind::Mark(Mark::Not)) {
         return negation(alloc, ts);
     }
@@ -165,9 +181,6 @@ fn pre<'a, 't>(
     }
     if at(ts, Kind::Mark(Mark::Merge)) {
         return merged(alloc, ts);
-    }
-    if at_literal(ts) {
-        return literal(alloc, ts);
     }
     atom(alloc, ts)
 }
@@ -178,8 +191,8 @@ fn negation<'a, 't>(
     ts: &'a [Token<'t>],
 ) -> Result<(Box<Expr>, &'a [Token<'t>]), Refusal<'a, 't>>
     requires { first ts.now ≡ kind.Mark mark.Not }
-    ensures ok { IfOk result (λ p. Reads Part.Pre ts.now (tree_of p.0.value) p.1.now) }
-    ensures refused { IfErr result (RefusedBy (Unfit Part.Pre ts.now)) }
+    ensures ok { IfOk result (λ p. Reads Part.Form ts.now (tree_of p.0.value) p.1.now) }
+    ensures refused { IfErr result (RefusedBy (Unfit Part.Form ts.now)) }
     ensures shorter { IfOk result (λ p. length p.1.now < length ts.now) }
 {
     let (span, ts) = want(ts, Mark::Not)?;
@@ -193,13 +206,58 @@ fn buffered<'a, 't>(
     ts: &'a [Token<'t>],
 ) -> Result<(Box<Expr>, &'a [Token<'t>]), Refusal<'a, 't>>
     requires { first ts.now ≡ kind.Mark mark.Buffer }
-    ensures ok { IfOk result (λ p. Reads Part.Pre ts.now (tree_of p.0.value) p.1.now) }
-    ensures refused { IfErr result (RefusedBy (Unfit Part.Pre ts.now)) }
+    ensures ok { IfOk result (λ p. Reads Part.Form ts.now (tree_of p.0.value) p.1.now) }
+    ensures refused { IfErr result (RefusedBy (Unfit Part.Form ts.now)) }
     ensures shorter { IfOk result (λ p. length p.1.now < length ts.now) }
 {
     let (span, ts) = want(ts, Mark::Buffer)?;
-    let (held, ts) = pre(alloc, ts)?;
-    Ok((make::buffered(alloc, held, span)?, ts))
+    let ((most, operand), ts) = held(alloc, ts)?;
+    Ok((make::buffered(alloc, most, operand, span)?, ts))
+}
+
+// What stands behind `buffer`: a bound and an expression in parentheses, or an operand.
+#[cycle(descent)]
+fn held<'a, 't>(
+    alloc: Global,
+    ts: &'a [Token<'t>],
+) -> Result<((Option<u64>, Box<Expr>), &'a [Token<'t>]), Refusal<'a, 't>>
+    ensures ok { IfOk result (λ p. Reads Part.Buffered ts.now (p.0.0, tree_of p.0.1.value) p.1.now) }
+    ensures refused { IfErr result (RefusedBy (Unfit Part.Buffered ts.now)) }
+    ensures shorter { IfOk result (λ p. length p.1.now < length ts.now) }
+{
+    if let Some(((most, number, span), ts)) = bound(ts) {
+        return behind_bound(alloc, most, number, span, ts);
+    }
+    if at_literal(ts) {
+        let ((lit, span), ts) = lit(ts)?;
+        let (operand, ts) = behind_literal(alloc, lit, span, ts)?;
+        return Ok(((None, operand), ts));
+    }
+    let (operand, ts) = form(alloc, ts)?;
+    Ok(((None, operand), ts))
+}
+
+// What may stand behind `buffer` and a number that may be a bound: with it, a buffer's operand and its bound, if it is one.
+#[cycle(descent)]
+fn behind_bound<'a, 't>(
+    alloc: Global,
+    most: u64,
+    number: Lit,
+    span: Span,
+    ts: &'a [Token<'t>],
+) -> Result<((Option<u64>, Box<Expr>), &'a [Token<'t>]), Refusal<'a, 't>>
+    ensures ok { IfOk result (λ p. IsHeldBy most number span ts.now (p.0.0, tree_of p.0.1.value) p.1.now) }
+    ensures refused { IfErr result (RefusedBy (UnfitOptional Part.Held ts.now)) }
+    ensures shorter { IfOk result (λ p. length p.1.now ≤ length ts.now) }
+{
+    if at(ts, Kind::Mark(Mark::Open)) {
+        let (_, ts) = want(ts, Mark::Open)?;
+        let (inner, ts) = whole(alloc, ts)?;
+        let (_, ts) = want(ts, Mark::Close)?;
+        return Ok(((Some(most), inner), ts));
+    }
+    let (operand, ts) = behind_literal(alloc, number, span, ts)?;
+    Ok(((None, operand), ts))
 }
 
 #[cycle(descent)]
@@ -208,8 +266,8 @@ fn merged<'a, 't>(
     ts: &'a [Token<'t>],
 ) -> Result<(Box<Expr>, &'a [Token<'t>]), Refusal<'a, 't>>
     requires { first ts.now ≡ kind.Mark mark.Merge }
-    ensures ok { IfOk result (λ p. Reads Part.Pre ts.now (tree_of p.0.value) p.1.now) }
-    ensures refused { IfErr result (RefusedBy (Unfit Part.Pre ts.now)) }
+    ensures ok { IfOk result (λ p. Reads Part.Form ts.now (tree_of p.0.value) p.1.now) }
+    ensures refused { IfErr result (RefusedBy (Unfit Part.Form ts.now)) }
     ensures shorter { IfOk result (λ p. length p.1.now < length ts.now) }
 {
     let (span, ts) = want(ts, Mark::Merge)?;
@@ -231,6 +289,21 @@ fn literal<'a, 't>(
     ensures shorter { IfOk result (λ p. length p.1.now < length ts.now) }
 {
     let ((lit, span), ts) = lit(ts)?;
+    behind_literal(alloc, lit, span, ts)
+}
+
+// The literal with the operand before which it stands, or alone.
+#[cycle(descent)]
+fn behind_literal<'a, 't>(
+    alloc: Global,
+    lit: Lit,
+    span: Span,
+    ts: &'a [Token<'t>],
+) -> Result<(Box<Expr>, &'a [Token<'t>]), Refusal<'a, 't>>
+    ensures ok { IfOk result (λ p. IsFollowed lit span ts.now (tree_of p.0.value) p.1.now) }
+    ensures refused { IfErr result (RefusedBy (UnfitOptional Part.Followed ts.now)) }
+    ensures shorter { IfOk result (λ p. length p.1.now ≤ length ts.now) }
+{
     if let Some((fby, ts)) = take(ts, Mark::Fby) {
         let (operand, ts) = pre(alloc, ts)?;
         return Ok((make::followed(alloc, lit, operand, fby)?, ts));

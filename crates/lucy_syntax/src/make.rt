@@ -154,11 +154,23 @@ pub fn followed(
     )
 }
 
-/// `buffer operand`
-pub fn buffered(alloc: Global, operand: Box<Expr>, span: Span) -> Result<Box<Expr>, AllocError>
-    ensures { IfOk result (λ e. tree_of e.value ≡ buffered (tree_of operand.value) span) }
+/// `buffer operand`, or with a written bound `buffer most (operand)`
+pub fn buffered(
+    alloc: Global,
+    most: Option<u64>,
+    operand: Box<Expr>,
+    span: Span,
+) -> Result<Box<Expr>, AllocError>
+    ensures { IfOk result (λ e. tree_of e.value ≡ buffered most (tree_of operand.value) span) }
 {
-    boxed(alloc, Expr::Buffer { operand, span })
+    boxed(
+        alloc,
+        Expr::Buffer {
+            most,
+            operand,
+            span,
+        },
+    )
 }
 
 /// `node at word (args)`

@@ -1,23 +1,24 @@
 -- What stands at the front of a text has a byte at least, and no more than the text.
 use Rattle.std.proofs.Common.{◌≡◌, ℕ, ◌+◌, ◌<◌, ◌≤◌, Bool, true, false, cond, List, [], ◌∷◌, length, take, drop, Option, Some, None, refl, ap, sym, subst, arith, eqb, leb, suc, length-drop, length-take}
-use Rattle.std.specs.Prelude.{IfSome, ◌&&◌, not}
+use Rattle.std.specs.Prelude.{IfSome, ◌&&◌}
 use Rattle.std.specs.List.{prefix_len}
 use Rattle.std.specs.Str.{bytes_eq}
 use Rattle.std.specs.Str.Parse.{IsNumeral, AllDigits, without_leading_sign}
-use Rattle.std.proofs.lemmas.Bool.{cond_both, and_parts, not-false, both_ways, eqb-true, leb-true, or_left}
+use Rattle.std.proofs.lemmas.Bool.{cond_both, and_parts, both_ways, eqb-true, leb-true, or_left}
 use Rattle.std.proofs.lemmas.Slice.Eq.{bytes_eq-Decides}
 use Rattle.std.proofs.lemmas.List.{length-take-le}
 use Rattle.std.proofs.lemmas.List.Sums.{prefix_len-le-length}
 use Rattle.std.proofs.lemmas.Str.Parse.{tells_digits}
-use Rattle.lucy_word.specs.Spelling.{is_digit}
 use Rattle.lucy_token.specs.declared.mark.Mark.{Mark}
+use Rattle.lucy_token.specs.declared.token.Kind.{Kind}
 use Rattle.lucy_token.specs.declared.token.Kind.TheVariants as kind
 use Rattle.lucy_token.specs.declared.front.Front.{Front}
 use Rattle.lucy_token.specs.declared.front.Front.TheVariants.{Gap, Token, Bad}
 use Rattle.lucy_token.specs.Marks.{spelling, keywords, signs}
 use Rattle.lucy_token.specs.States.{State, wants_word, begins_operand}
-use Rattle.lucy_token.specs.Fronts.{head, closes, close_of, one_more, begins_gap, gap_of, comment_of, word_from, word_front, plain_front, front_of, minus_of, begins_number, is_letter, is_decimal, is_name_byte, is_blank, sign_in, named_in}
+use Rattle.lucy_token.specs.Fronts.{head, closes, close_of, one_more, begins_gap, gap_of, comment_of, word_front, plain_front, front_of, minus_of, begins_number, is_letter, is_decimal, is_name_byte, is_blank, sign_in, named_in}
 use Rattle.lucy_token.specs.Steps.{IsTokenOf}
+use Rattle.lucy_token.proofs.WordFronts.{IsBetween, front_is}
 
 -- what is known of the front of a text that is not empty
 abbrev pub IsFront : List ℕ → Front → Type 0
@@ -56,18 +57,13 @@ gap_front : (text : List ℕ) → 0 < length text → IsFront text (gap_of text)
 unfolding gap_of
 gap_front text some = cond_both (is_blank (head text)) (Gap 1) (comment_of (close_of (drop 2 text))) (IsFront text) (λ e. (omega arith, omega (arith, some))) (λ e. comment_front text)
 
-word_from_front : (text : List ℕ) (p q : ℕ) → p ≤ length text → q ≤ length (drop (p + 1) text) → IsFront text (word_from p q text)
-word_from_front text p q h k =
-    cond_both (not (eqb (head (drop p text)) 40)) (Bad p) _ (IsFront text) (λ e. h)
-    (λ e. let open_there : 0 < length (drop p text) = head_is 40 (drop p text) (not-false _ e) (omega arith) in
-    cond_both (eqb q 0) (Bad (p + 1)) _ (IsFront text) (λ f. omega (arith, open_there, length-drop p text))
-    (λ f. cond_both (eqb (head (drop (p + 1 + q) text)) 41) (Token kind.Word (p + q + 2)) (Bad (p + 1 + q)) (IsFront text)
-    (λ g. (omega arith, let there : 0 < length (drop (p + 1 + q) text) = head_is 41 _ g (omega arith) in omega (arith, there, length-drop (p + 1 + q) text), tt))
-    (λ g. omega (arith, k, open_there, length-drop p text, length-drop (p + 1) text))))
-
 word_front_front : (text : List ℕ) → IsFront text (word_front text)
-unfolding word_front
-word_front_front text = word_from_front text _ _ (prefix_len-le-length is_digit text) (prefix_len-le-length is_digit (drop (prefix_len is_digit text + 1) text))
+word_front_front text = go (word_front text) (front_is text)
+  where
+    go : (f : Front) → IsBetween 1 (length text) f → IsFront text f
+    go (Gap n) h = absurd h
+    go (Token k n) h = (omega (arith, h.1.0), h.1.1, subst (λ (t : Kind). IsTokenOf t (take n text)) (sym h.0) tt)
+    go (Bad n) h = h
 
 -- where the first byte passes, there is one that does
 pub prefix_some : (p : ℕ → Bool) (text : List ℕ) → p 0 ≡ false → p (head text) ≡ true → 0 < prefix_len p text

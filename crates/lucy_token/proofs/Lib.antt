@@ -8,6 +8,8 @@ mod MarkSteps
 mod Numbers
 pub mod OneCut
 pub mod SomeCut
+pub mod WordFronts
+pub mod FormFronts
 pub mod WordLaws
 pub mod WrittenLaws
 pub mod PrintFronts

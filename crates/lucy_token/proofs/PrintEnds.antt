@@ -1,11 +1,12 @@
 -- Which bytes may stand directly behind a token.
-use Rattle.std.proofs.Common.{◌≡◌, ℕ, ◌^◌, ◌<◌, ◌≤◌, Bool, true, false, List, [], ◌∷◌, ◌++◌, length, refl, ap, ◌∙◌, inl, inr, arith}
-use Rattle.std.specs.Prelude.{◌⊎◌, ◌==◌, ◌||◌, not, if◌then◌else◌, pos, negsuc}
+use Rattle.std.proofs.Common.{◌≡◌, ℕ, ◌^◌, ◌<◌, ◌≤◌, true, false, List, [], ◌∷◌, ◌++◌, length, refl, ap, ◌∙◌, inl, inr, arith}
+use Rattle.std.specs.Prelude.{◌⊎◌, ◌==◌, ◌||◌, not, pos, negsuc}
 use Rattle.std.specs.Fmt.{decimal}
 use Rattle.std.proofs.lemmas.Bool.{cases_Bool, and_parts, or_cases, or_from, not-true, not_from_false, false_from_ne_true, eqb-true, ne_eqb}
 use Rattle.std.proofs.lemmas.Fmt.{decimal_is_IsNumeral}
 use Rattle.lucy_word.specs.Bits.{Bits}
-use Rattle.lucy_word.specs.Spelling.{text_of}
+use Rattle.lucy_word.specs.Spelling.{text_of, Spells}
+use Rattle.lucy_token.proofs.WordFronts.{form_head}
 use Rattle.lucy_token.specs.declared.mark.Mark.{Mark}
 use Rattle.lucy_token.specs.declared.mark.Mark.TheVariants as mark
 use Rattle.lucy_token.specs.declared.token.Kind.{Kind}
@@ -87,16 +88,10 @@ natural_ends v n rest h k m =
     let r : (48 ≤ head (decimal n ++ rest)) × (head (decimal n ++ rest) ≤ 57) = decimal_range (head (decimal n ++ rest)) (first_decimal (decimal n) rest d.0.0 d.0.1) in
     digit_ends v (head (decimal n ++ rest)) k m (omega (arith, r.0)) (omega (arith, r.1))
 
-bit_ends : (v : What) (b : Bool) → runs_on v ≡ false → is_minus v ≡ false → ends_before v (if b then 49 else 48) ≡ true
-bit_ends v true k m = digit_ends v 49 k m (omega arith) (omega arith)
-bit_ends v false k m = digit_ends v 48 k m (omega arith) (omega arith)
-
-word_ends : (v : What) (w : Bits) (rest : List ℕ) → runs_on v ≡ false → is_minus v ≡ false → ends_before v (head (text_of w ++ rest)) ≡ true
-word_ends v w rest k m = at w.prefix
-  where
-    at : (prefix : List Bool) → ends_before v (head (text_of (record { prefix = prefix; period = w.period }) ++ rest)) ≡ true
-    at [] = apart_ends v 40 k refl refl refl (inl m)
-    at (b ∷ prefix) = bit_ends v b k m
+word_ends : (v : What) (w u : Bits) (rest : List ℕ) → Spells (text_of w) u → runs_on v ≡ false → is_minus v ≡ false → ends_before v (head (text_of w ++ rest)) ≡ true
+word_ends v w u rest s k m =
+    ap (λ x. ends_before v (head (x ++ rest))) s.shape
+    ∙ form_head (λ c. ends_before v c ≡ true) (digit_ends v 48 k m (omega arith) (omega arith)) (digit_ends v 49 k m (omega arith) (omega arith)) (apart_ends v 40 k refl refl refl (inl m)) s.form rest
 
 token_ends : (before : Kind) (v w : What) (rest : List ℕ) → IsSpelled before w → apart v w ≡ true → ends_before v (head (text_of_what w ++ rest)) ≡ true
 token_ends before v (what.Mark m) rest s h = ap (ends_before v) (head_spelling m rest) ∙ h
@@ -109,7 +104,7 @@ token_ends before v (what.Number (negsuc n)) rest s h =
     digit_ends v 45 (not-true (runs_on v) p.0) (not-true (is_minus v) p.1) (omega arith) (omega arith)
 token_ends before v (what.Word w) rest s h =
     let p = and_parts (not (runs_on v)) (not (is_minus v)) h in
-    word_ends v w rest (not-true (runs_on v) p.0) (not-true (is_minus v) p.1)
+    word_ends v w s.0.0 rest s.0.1 (not-true (runs_on v) p.0) (not-true (is_minus v) p.1)
 
 -- what stands behind a token in print
 pub next_ends : (before : Kind) (w : What) (p : Printed) (ps : List Printed) (rest : List ℕ) → all_blank p.blanks ≡ true → IsSpelled before p.what → apart_from w (p ∷ ps) ≡ true → ends_before w (head (bytes_of (p ∷ ps) rest)) ≡ true

@@ -1,21 +1,18 @@
 -- What stands at the front of a token in print.
-use Rattle.std.proofs.Common.{◌≡◌, ℕ, suc, ◌+◌, ◌<◌, ◌≤◌, Bool, true, false, List, [], ◌∷◌, ◌++◌, length, drop, take, refl, ap, sym, ◌∙◌, subst, inl, inr, arith, append_assoc, length-append}
-use Rattle.std.specs.Prelude.{◌⊎◌, ◌==◌, ◌&&◌, ◌||◌, not, if◌then◌else◌, nat_le}
+use Rattle.std.proofs.Common.{◌≡◌, ℕ, suc, ◌+◌, ◌<◌, ◌≤◌, Bool, true, false, List, [], ◌∷◌, ◌++◌, length, drop, take, refl, ap, sym, ◌∙◌, subst, inl, inr, arith}
+use Rattle.std.specs.Prelude.{◌⊎◌, ◌==◌, ◌&&◌, ◌||◌, not, nat_le}
 use Rattle.std.specs.List.{prefix_len, AllByRecursion}
 use Rattle.std.specs.Str.Parse.{AllDigits}
 use Rattle.std.proofs.lemmas.Bool.{cases_Bool, cond-true, cond-false, and_right, and_parts, and_from, and_left, or_cases, or_parts, or_from, not-true, false_from_ne_true, leb-true, le-leb, eqb-true, ne_eqb}
-use Rattle.std.proofs.lemmas.List.{length-map}
 use Rattle.std.proofs.lemmas.List.Elements.{recursion_from_All}
 use Rattle.std.proofs.lemmas.Str.Parse.{tells_digits}
-use Rattle.std.proofs.Math.Seq.{take-append_seam, drop-append_seam, drop-append-add}
-use Rattle.lucy_word.specs.Bits.{Bits}
-use Rattle.lucy_word.specs.Spelling.{is_digit, spelled, text_of}
+use Rattle.std.proofs.Math.Seq.{take-append_seam}
 use Rattle.lucy_token.specs.declared.mark.Mark.{Mark}
 use Rattle.lucy_token.specs.declared.mark.Mark.TheVariants as mark
 use Rattle.lucy_token.specs.declared.token.Kind.TheVariants as kind
 use Rattle.lucy_token.specs.declared.front.Front.TheVariants.{Token}
 use Rattle.lucy_token.specs.Marks.{spelling, keywords, signs}
-use Rattle.lucy_token.specs.Fronts.{head, is_blank, is_letter, is_decimal, is_name_byte, begins_gap, word_from, word_front, plain_front, minus_of, begins_number, sign_in, named_in}
+use Rattle.lucy_token.specs.Fronts.{head, is_blank, is_letter, is_decimal, is_name_byte, begins_gap, plain_front, minus_of, begins_number, sign_in, named_in}
 use Rattle.lucy_token.specs.Written.{IsNameText}
 use Rattle.lucy_token.specs.Spelled.{is_keyword, mark_ends}
 
@@ -206,58 +203,3 @@ name_no_gap bytes rest name = at bytes name.some name.begins
     at : (u : List ℕ) → 0 < length u → is_letter (head u) ≡ true → begins_gap (u ++ rest) ≡ false
     at [] some h = absurd (omega (arith, some))
     at (c ∷ u) some h = no_gap c (u ++ rest) (omega (arith, letter_high c h))
-
--- words
-digit_of_bit : (b : Bool) → is_digit (if b then 49 else 48) ≡ true
-digit_of_bit true = refl
-digit_of_bit false = refl
-
-spelled_digits : (bits : List Bool) → AllByRecursion (λ c. is_digit c ≡ true) (spelled bits)
-spelled_digits [] = tt
-spelled_digits (b ∷ bits) = (digit_of_bit b, spelled_digits bits)
-
--- the parts of a word's text, and what follows
-word_parts : (w : Bits) (rest : List ℕ) → text_of w ++ rest ≡ spelled w.prefix ++ 40 ∷ (spelled w.period ++ 41 ∷ rest)
-word_parts w rest = simp append_assoc
-
-high_bit : (b : Bool) (rest : List ℕ) → begins_gap ((if b then 49 else 48) ∷ rest) ≡ false
-high_bit true rest = refl
-high_bit false rest = refl
-
-bit_no_star : (b : Bool) → ((if b then 49 else 48) == 42) ≡ false
-bit_no_star true = refl
-bit_no_star false = refl
-
-parts_no_gap : (prefix period : List Bool) (rest : List ℕ) → 0 < length period → begins_gap (spelled prefix ++ 40 ∷ (spelled period ++ 41 ∷ rest)) ≡ false
-parts_no_gap (b ∷ prefix) period rest some = high_bit b (spelled prefix ++ 40 ∷ (spelled period ++ 41 ∷ rest))
-parts_no_gap [] [] rest some = absurd (omega (arith, some))
-parts_no_gap [] (b ∷ period) rest some = bit_no_star b
-
-pub word_no_gap : (w : Bits) (rest : List ℕ) → 0 < length w.period → begins_gap (text_of w ++ rest) ≡ false
-word_no_gap w rest some = ap begins_gap (word_parts w rest) ∙ parts_no_gap w.prefix w.period rest some
-
--- the word that stands in these parts
-parts_front : (front inner rest : List ℕ) → AllByRecursion (λ c. is_digit c ≡ true) front → AllByRecursion (λ c. is_digit c ≡ true) inner → 0 < length inner →
-    word_front (front ++ 40 ∷ (inner ++ 41 ∷ rest)) ≡ Token kind.Word (length front + length inner + 2)
-unfolding word_front
-parts_front front inner rest digits period some =
-    let text : List ℕ = front ++ 40 ∷ (inner ++ 41 ∷ rest) in
-    let p : prefix_len is_digit text ≡ length front = prefix_through is_digit front (40 ∷ (inner ++ 41 ∷ rest)) digits refl in
-    let behind : drop (length front + 1) text ≡ inner ++ 41 ∷ rest = drop-append-add front (40 ∷ (inner ++ 41 ∷ rest)) 1 in
-    let q : prefix_len is_digit (drop (length front + 1) text) ≡ length inner = ap (prefix_len is_digit) behind ∙ prefix_through is_digit inner (41 ∷ rest) period refl in
-    let opens : (head (drop (length front) text) == 40) ≡ true = ap (λ u. head u == 40) (drop-append_seam front (40 ∷ (inner ++ 41 ∷ rest))) in
-    let some_bits : (length inner == 0) ≡ false = ne_eqb (length inner) 0 (λ e. omega (arith, e, some)) in
-    let far : drop (length front + 1 + length inner) text ≡ 41 ∷ rest =
-    ap (λ n. drop n text) (let e : length front + 1 + length inner ≡ length front + suc (length inner) = omega arith in e) ∙ drop-append-add front (40 ∷ (inner ++ 41 ∷ rest)) (suc (length inner)) ∙ drop-append_seam inner (41 ∷ rest) in
-    let closes : (head (drop (length front + 1 + length inner) text) == 41) ≡ true = ap (λ u. head u == 41) far in
-    ap (λ n. word_from n (prefix_len is_digit (drop (n + 1) text)) text) p
-    ∙ ap (λ n. word_from (length front) n text) q
-    ∙ cond-false (not (head (drop (length front) text) == 40)) _ _ (ap not opens)
-    ∙ cond-false (length inner == 0) _ _ some_bits
-    ∙ cond-true (head (drop (length front + 1 + length inner) text) == 41) _ _ closes
-
-pub word_text_front : (w : Bits) (rest : List ℕ) → 0 < length w.period → word_front (text_of w ++ rest) ≡ Token kind.Word (length (text_of w))
-word_text_front w rest some =
-    let inner : 0 < length (spelled w.period) = omega (arith, length-map {B = ℕ} w.period (λ bit. if bit then 49 else 48), some) in
-    let length_is : length (spelled w.prefix) + length (spelled w.period) + 2 ≡ length (text_of w) = omega (arith, length-append (spelled w.prefix) (40 ∷ (spelled w.period ++ 41 ∷ [])), length-append (spelled w.period) (41 ∷ [])) in
-    ap word_front (word_parts w rest) ∙ parts_front (spelled w.prefix) (spelled w.period) rest (spelled_digits w.prefix) (spelled_digits w.period) inner ∙ ap (λ n. Token kind.Word n) length_is

@@ -14,6 +14,7 @@ use Rattle.lucy_word.specs.Spelling.{spelled, text_of}
 use Rattle.lucy_token.specs.declared.mark.Mark.{Mark}
 use Rattle.lucy_token.specs.declared.mark.Mark.TheVariants as mark
 use Rattle.lucy_token.specs.declared.token.Kind.{Kind}
+use Rattle.lucy_token.specs.declared.token.Kind.TheVariants as kind
 use Rattle.lucy_token.specs.declared.token.What.{What}
 use Rattle.lucy_token.specs.declared.token.What.TheVariants as what
 use Rattle.lucy_token.specs.declared.token.Token as token_type
@@ -27,7 +28,8 @@ use Rattle.lucy_token.specs.Fronts.{head, is_blank, is_name_byte, begins_gap, ga
 use Rattle.lucy_token.specs.Contents.{Contains}
 use Rattle.lucy_token.specs.Cuts.{Cuts, token_at, ends, gap, token}
 use Rattle.lucy_token.specs.Spelled.{text_of_what, Printed, bytes_of, whats_of, placed, all_blank, ends_before, are_apart, apart_from, IsSpelled, Stands, AllStand, Follows}
-use Rattle.lucy_token.proofs.PrintFronts.{no_gap, mark_no_gap, mark_front, digits_front, minus_front, digits_no_gap, name_text_front, name_no_gap, word_no_gap, word_text_front}
+use Rattle.lucy_token.proofs.PrintFronts.{no_gap, mark_no_gap, mark_front, digits_front, minus_front, digits_no_gap, name_text_front, name_no_gap}
+use Rattle.lucy_token.proofs.WordFronts.{form_no_gap, form_front}
 use Rattle.lucy_token.proofs.PrintEnds.{next_ends, blanks_end}
 
 -- the front of a text that begins neither with a blank nor with a comment
@@ -56,8 +58,9 @@ front_printed s (what.Number (negsuc n)) rest h e =
     front_plain s text (no_gap 45 (decimal (suc n) ++ rest) (omega arith)) h.word_here ∙ ap (λ operand. plain_front operand text) (h.operand_here refl)
     ∙ minus_front (decimal (suc n)) rest d.0.0 d.0.1 (not-true (is_name_byte (head rest)) e)
 front_printed s (what.Word w) rest h e =
-    let some : 0 < length w.period = h.spelled.0.4.nonempty in
-    front_word s (text_of w ++ rest) (word_no_gap w rest some) h.word_here ∙ word_text_front w rest some
+    let r = h.spelled.0.1 in
+    let gap' : begins_gap (text_of w ++ rest) ≡ false = ap (λ x. begins_gap (x ++ rest)) r.shape ∙ form_no_gap r.form rest r.is_form.nonempty in
+    front_word s (text_of w ++ rest) gap' h.word_here ∙ ap (λ x. word_front (x ++ rest)) r.shape ∙ form_front r.form rest r.is_form ∙ ap (λ x. Token kind.Word (length x)) (sym r.shape)
 
 -- digits are their value
 plain_value : (ds : List ℕ) → AllDigits 10 ds → 0 < length ds → signed_digits_value 10 ds ≡ pos (digits_value 10 ds)

@@ -12,6 +12,7 @@ use Rattle.lucy_word.specs.Spelling.{text_of}
 use Rattle.lucy_word.specs.Shortest.{Same, IsShortest, IsShortForm}
 use Rattle.lucy_word.specs.Reading.{IsReadable}
 use Rattle.lucy_word.proofs.BitsLaws.{bit_at-prefix, bit_at-period, bit_at-turn}
+use Rattle.lucy_word.proofs.RunLaws.{text_spells}
 use Rattle.lucy_word.proofs.ShortLaws.{same_sym, one_by_same}
 
 -- the bits at so many instants from one on
@@ -100,13 +101,18 @@ module _ (bits w : Bits) (some : 0 < length bits.period) (form : IsShortForm bit
         form.shortest.prefix middle (length-bits_from w (length bits.prefix + 1) (length w.period)) (same_sym w middle middle_same),
       )
 
+period_some : (v : List Bool) → 0 < ones_in v → 0 < length v
+period_some [] h = h
+period_some (b ∷ v) h = omega arith
+
 pub readable_again : (bytes : List ℕ) (w : Bits) → IsReadable bytes w → IsReadable (text_of w) w
 readable_again bytes w r =
     let bits : Bits = r.0 in
-    let form : IsShortForm bits w = r.4 in (
+    let form : IsShortForm bits w = r.4 in
+    let short : bit_count w ≤ bit_count bits = no_longer bits w (period_some bits.period r.3) form in (
       w,
-      record { shape = refl; nonempty = form.nonempty },
-      omega (arith, no_longer bits w r.1.nonempty form, r.2),
+      text_spells w (omega (arith, short, r.2)) (omega (arith, short, r.2)) form.nonempty,
+      omega (arith, short, r.2),
       one_by_same bits w form.same form.nonempty r.3,
       record { nonempty = form.nonempty; same = λ i h. refl; shortest = form.shortest },
     )
@@ -115,7 +121,7 @@ readable_again bytes w r =
 pub readable_short : (w : Bits) → 0 < length w.period → bit_count w ≤ most_written → 0 < ones_in w.period → IsShortest w → IsReadable (text_of w) w
 readable_short w some short one shortest = (
   w,
-  record { shape = refl; nonempty = some },
+  text_spells w (omega (arith, short)) (omega (arith, short)) some,
   short,
   one,
   record { nonempty = some; same = λ i h. refl; shortest = shortest },

@@ -1,12 +1,10 @@
 -- What is known of the tokens of a text that is cut up to its end, and where they stand.
 use Rattle.std.proofs.Common.{◌≡◌, ℕ, zero, suc, ◌+◌, ◌<◌, ◌≤◌, Bool, true, List, [], ◌∷◌, length, drop, take, get_or, Option, Some, None, refl, ap, sym, ◌∙◌, subst, arith, length-drop}
-use Rattle.std.specs.Prelude.{◌==◌, not, if◌then◌else◌}
 use Rattle.std.specs.List.{prefix_len, AllPass}
 use Rattle.std.specs.Str.{bytes_eq}
 use Rattle.std.proofs.lemmas.Bool.{cond_both, or_left}
 use Rattle.std.proofs.lemmas.List.{get_or-take, length-take-le}
 use Rattle.std.proofs.lemmas.List.Sums.{prefix_len-le-length, prefix_len_passes}
-use Rattle.lucy_word.specs.Spelling.{is_digit}
 use Rattle.lucy_token.specs.declared.mark.Mark.{Mark}
 use Rattle.lucy_token.specs.declared.mark.Mark.TheVariants as mark
 use Rattle.lucy_token.specs.declared.state.Level.{Level}
@@ -20,11 +18,12 @@ use Rattle.lucy_token.specs.declared.stop.Stop.{Stop}
 use Rattle.lucy_token.specs.declared.stop.Stop.TheVariants.{End}
 use Rattle.lucy_token.specs.Marks.{spelling, keywords, signs}
 use Rattle.lucy_token.specs.States.{State, after, closed, wants_word, begins_operand}
-use Rattle.lucy_token.specs.Fronts.{head, begins_gap, gap_of, comment_of, close_of, is_blank, word_from, word_front, plain_front, front_of, begins_number, is_letter, is_decimal, is_name_byte, sign_in, named_in}
+use Rattle.lucy_token.specs.Fronts.{head, begins_gap, gap_of, comment_of, close_of, is_blank, word_front, plain_front, front_of, begins_number, is_letter, is_decimal, is_name_byte, sign_in, named_in}
 use Rattle.lucy_token.specs.Contents.{Contains}
 use Rattle.lucy_token.specs.Cuts.{Cuts, ends, gap, bad, passed, past_last, malformed, token}
 use Rattle.lucy_token.specs.Written.{IsNameText, IsWritten, AreWritten, InOrder}
 use Rattle.lucy_token.proofs.ContentLaws.{contains_kind}
+use Rattle.lucy_token.proofs.WordFronts.{IsBetween, front_is}
 use Rattle.lucy_token.proofs.FrontLaws.{IsFront, of_front, prefix_some}
 
 -- the shape of a name
@@ -52,16 +51,13 @@ gap_tells before text = cond_both (is_blank (head text)) (Gap 1) (comment_of (cl
     of_close None = tt
     of_close (Some n) = tt
 
-word_tells : (before : Kind) (text : List ℕ) (p q : ℕ) → wants_word before ≡ true → FrontTells before text (word_from p q text)
-word_tells before text p q h =
-    let closing : Front = if head (drop (p + 1 + q) text) == 41 then Token kind.Word (p + q + 2) else Bad (p + 1 + q) in
-    cond_both (not (head (drop p text) == 40)) (Bad p) (if q == 0 then Bad (p + 1) else closing) (FrontTells before text) (λ e. tt)
-    (λ e. cond_both (q == 0) (Bad (p + 1)) closing (FrontTells before text) (λ f. tt)
-    (λ f. cond_both (head (drop (p + 1 + q) text) == 41) (Token kind.Word (p + q + 2)) (Bad (p + 1 + q)) (FrontTells before text) (λ g. h) (λ g. tt)))
-
 word_front_tells : (before : Kind) (text : List ℕ) → wants_word before ≡ true → FrontTells before text (word_front text)
-unfolding word_front
-word_front_tells before text h = word_tells before text (prefix_len is_digit text) (prefix_len is_digit (drop (prefix_len is_digit text + 1) text)) h
+word_front_tells before text h = go (word_front text) (front_is text)
+  where
+    go : (f : Front) → IsBetween 1 (length text) f → FrontTells before text f
+    go (Gap n) k = absurd k
+    go (Token t n) k = subst (λ (u : Kind). Tells before (take n text) u) (sym k.0) h
+    go (Bad n) k = tt
 
 sign_tells : (before : Kind) (ms : List Mark) (text : List ℕ) → FrontTells before text (sign_in ms text)
 sign_tells before [] text = tt

@@ -1,8 +1,12 @@
 -- What stands at the front of a text: blanks or a comment, a token, or a byte that can't stand there.
-use Rattle.std.specs.Prelude.{ℕ, ◌+◌, Bool, List, [], ◌∷◌, length, take, drop, Option, Some, None, if◌then◌else◌, ◌==◌, ◌&&◌, ◌||◌, not, nat_le}
+use Rattle.std.specs.Prelude.{ℕ, ◌+◌, ◌≡◌, ◌≤◌, ◌<◌, Bool, List, [], ◌∷◌, length, take, drop, Option, Some, None, if◌then◌else◌, ◌==◌, ◌&&◌, ◌||◌, nat_le}
 use Rattle.std.specs.List.{prefix_len}
 use Rattle.std.specs.Str.{bytes_eq}
-use Rattle.lucy_word.specs.Spelling.{is_digit}
+use Rattle.lucy_word.specs.declared.form.Stage.{Stage}
+use Rattle.lucy_word.specs.declared.form.Stage.TheVariants.{Item, Digit, Brace, Count, Closed}
+use Rattle.lucy_word.specs.Stages.{begin, next}
+use Rattle.lucy_word.specs.Items.{Form, form_text, IsForm}
+use Rattle.lucy_word.specs.Forms.{BeginsForm}
 use Rattle.lucy_token.specs.declared.mark.Mark.{Mark}
 use Rattle.lucy_token.specs.declared.token.Kind.{Kind}
 use Rattle.lucy_token.specs.declared.token.Kind.TheVariants as kind
@@ -15,12 +19,15 @@ use Rattle.lucy_token.specs.States.{State, wants_word, begins_operand}
 abbrev pub is_blank : ℕ → Bool
 is_blank c = c == 32 || c == 9 || c == 10 || c == 13
 
+-- a letter or `_`
 abbrev pub is_letter : ℕ → Bool
 is_letter c = (nat_le 97 c && nat_le c 122) || (nat_le 65 c && nat_le c 90) || c == 95
 
+-- a digit
 abbrev pub is_decimal : ℕ → Bool
 is_decimal c = nat_le 48 c && nat_le c 57
 
+-- a byte that a name may have behind its first one
 abbrev pub is_name_byte : ℕ → Bool
 is_name_byte c = is_letter c || is_decimal c
 
@@ -29,6 +36,7 @@ abbrev pub head : List ℕ → ℕ
 head [] = 0
 head (c ∷ text) = c
 
+-- one more, where there is a number
 abbrev pub one_more : Option ℕ → Option ℕ
 one_more None = None
 one_more (Some n) = Some (n + 1)
@@ -65,21 +73,41 @@ abbrev pub sign_in : List Mark → List ℕ → Front
 sign_in [] text = Bad 0
 sign_in (m ∷ ms) text = if bytes_eq (take (length (spelling m)) text) (spelling m) then Token (kind.Mark m) (length (spelling m)) else sign_in ms text
 
--- a word, of which so many digits stand before its `(` and behind it; else the first byte that breaks this form
-abbrev pub word_from : ℕ → ℕ → List ℕ → Front
-word_from prefix period text =
-    if not (head (drop prefix text) == 40) then Bad prefix
-    else if period == 0 then Bad (prefix + 1)
-    else if head (drop (prefix + 1 + period) text) == 41 then Token kind.Word (prefix + period + 2)
-    else Bad (prefix + 1 + period)
+-- a word where all of its form was read, else what breaks the form, behind so many bytes
+abbrev pub word_end : ℕ → Stage → Front
+word_end n Closed = Token kind.Word n
+word_end n (Item inside some) = Bad n
+word_end n (Digit inside) = Bad n
+word_end n (Brace inside) = Bad n
+word_end n (Count inside) = Bad n
 
+-- a word, of whose form so many bytes are read up to a stage, and one more where it leads to another
+abbrev pub word_behind : ℕ → Stage → Option Stage → List ℕ → Front
+word_behind n last None text = word_end n last
+word_behind n last (Some s) [] = word_end (n + 1) s
+word_behind n last (Some s) (c ∷ text) = word_behind (n + 1) s (next s c) text
+
+-- a word, of whose form so many bytes are read, up to this stage
+abbrev pub word_from : ℕ → Stage → List ℕ → Front
+word_from n s [] = word_end n s
+word_from n s (c ∷ text) = word_behind n s (next s c) text
+
+-- a word at the front, its form whole, or the byte that breaks it
 unfoldable pub word_front : List ℕ → Front
-word_front text = word_from (prefix_len is_digit text) (prefix_len is_digit (drop (prefix_len is_digit text + 1) text)) text
+word_front text = word_from 0 begin text
+
+-- what stands there, by the form: a word whose form is whole, or the first byte that can't follow those before it in any form
+abbrev pub IsWordFront : List ℕ → Front → Type 0
+IsWordFront text (Gap n) = ⊥
+IsWordFront text (Token k n) = (k ≡ kind.Word) × (n ≤ length text) × (f : Form) × IsForm f × (take n text ≡ form_text f)
+IsWordFront text (Bad n) =
+    (n ≤ length text) × BeginsForm (take n text) × ((f : Form) → IsForm f → take n text ≡ form_text f → ⊥) × (n < length text → BeginsForm (take (n + 1) text) → ⊥)
 
 -- how many bytes before the digits belong to a number: one for a `-` directly before a digit, where an operand begins
 abbrev pub minus_of : Bool → List ℕ → ℕ
 minus_of operand text = if operand && head text == 45 && is_decimal (head (drop 1 text)) then 1 else 0
 
+-- a number begins here
 abbrev pub begins_number : Bool → List ℕ → Bool
 begins_number operand text = is_decimal (head (drop (minus_of operand text) text))
 

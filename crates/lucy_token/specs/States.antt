@@ -21,6 +21,7 @@ pub record State : Type 0 where
   pub level : Level
   pub outer : List Level
 
+-- what is known behind a `(`: nothing is counted yet
 abbrev pub fresh : Level
 fresh = record { commas = 0; wanted = 0 }
 
@@ -53,6 +54,7 @@ counted_after at n (kind.Mark mark.Close) = n
 counted_after side.Head n k = n
 counted_after at n k = n + 1
 
+-- the nodes so far, one more for each `let`
 abbrev pub nodes_after : ℕ → Kind → ℕ
 nodes_after n (kind.Mark mark.Let) = n + 1
 nodes_after n k = n
@@ -61,10 +63,12 @@ nodes_after n k = n
 abbrev pub served : Level → Level
 served l = record { commas = l.commas; wanted = l.wanted - 1 }
 
+-- the word of `merge` is followed by two operands
 abbrev pub merging : Kind → Level → Level
 merging (kind.Mark mark.Merge) l = record { commas = l.commas; wanted = 2 }
 merging before l = l
 
+-- what is known at the innermost open parenthesis behind one token more
 abbrev pub level_after : Kind → Level → Kind → Level
 level_after before l kind.Word = merging before l
 level_after before l kind.Name = served l
@@ -85,6 +89,7 @@ moved s k level outer = record {
   outer = outer;
 }
 
+-- behind a `)` the parenthesis outside is the innermost again, and what was closed is an operand there
 abbrev pub closed : State → List Level → State
 closed s [] = moved s (kind.Mark mark.Close) s.level []
 closed s (l ∷ outer) = moved s (kind.Mark mark.Close) (served l) outer
@@ -136,6 +141,7 @@ precedes_operand (kind.Mark mark.Both) = true
 precedes_operand (kind.Mark mark.Either) = true
 precedes_operand k = false
 
+-- on the right of a definition
 abbrev pub is_right : Side → Bool
 is_right side.Right = true
 is_right at = false
@@ -161,6 +167,7 @@ limit_passed s (kind.Mark mark.And) = None
 limit_passed s (kind.Mark mark.Let) = past limit.Nodes s.nodes
 limit_passed s k = past_tokens s.side s.counted
 
+-- a comma
 abbrev pub is_comma : Kind → Bool
 is_comma (kind.Mark mark.Comma) = true
 is_comma k = false

@@ -1,5 +1,5 @@
 // What a token's bytes stand for.
-ghost use Rattle.std.specs.Prelude.{◌≡◌, IfOk, MatchOption};
+ghost use Rattle.std.specs.Prelude.{◌≡◌, MatchOption};
 ghost use Rattle.std.specs.Int.{w64};
 ghost use Rattle.std.specs.Str.Parse.{IsNumeral, without_leading_sign, signed_digits_value};
 ghost use mir.Val.{SFits as FitsSigned};
@@ -10,8 +10,7 @@ ghost use Rattle.lucy_token.specs.Steps.{IsTokenOf, IsContent};
 use crate::state::wants_zero;
 use crate::stop::SyntaxError;
 use crate::token::{Kind, Piece, What};
-use lucy_word::{Limit, OutOfMemory, Word, WordError};
-use std::alloc::Global;
+use lucy_word::{Limit, Spelled};
 use std::str;
 
 // The number that digits, behind a `-` or not, stand for; none where it is outside of 64 bits.
@@ -26,35 +25,29 @@ fn number(bytes: &[u8]) -> Option<i64>
 }
 
 // The word that the bytes spell, where it may stand behind a token of this kind.
-fn word(alloc: Global, before: Kind, bytes: &[u8]) -> Result<Option<Word>, OutOfMemory>
-    ensures { IfOk result (λ o. MatchOption o ((v : Bits) → IsWordAfter before bytes.now v → ⊥) (IsWordAfter before bytes.now)) }
+fn word<'a>(before: Kind, bytes: &'a [u8]) -> Option<Spelled<'a>>
+    ensures { MatchOption result ((v : Bits) → IsWordAfter before bytes.now v → ⊥) (IsWordAfter before bytes.now) }
 {
-    let word = match Word::read(alloc, bytes) {
-        Ok(word) => word,
-        Err(WordError::OutOfMemory) => return Err(OutOfMemory),
-        Err(WordError::BadWord(_)) => return Ok(None),
-        Err(WordError::TooLong) => return Ok(None),
-        Err(WordError::NoOne) => return Ok(None),
+    let Ok(word) = Spelled::read(bytes) else {
+        return None;
     };
-    let (ones, length) = word.rate();
-    if wants_zero(before) && ones == length {
-        return Ok(None);
+    if wants_zero(before) && !word.has_zero() {
+        return None;
     }
-    Ok(Some(word))
+    Some(word)
 }
 
 // What the bytes of a token of a kind, which begin at an offset, stand for behind one of another kind; else why not.
 pub(crate) fn content<'a>(
-    alloc: Global,
     before: Kind,
     kind: Kind,
     bytes: &'a [u8],
     from: u64,
-) -> Result<Result<What<'a>, SyntaxError>, OutOfMemory>
+) -> Result<What<'a>, SyntaxError>
     requires { IsTokenOf kind bytes.now }
-    ensures { IfOk result (IsContent before kind bytes.now from) }
+    ensures { IsContent before kind bytes.now from result }
 {
-    Ok(match kind {
+    match kind {
         Kind::End => unreachable!(),
         Kind::Mark(mark) => Ok(What::Mark(mark)),
         Kind::Name if bytes.len() as u64 > Limit::Name.number() => {
@@ -65,9 +58,9 @@ pub(crate) fn content<'a>(
             Some(n) => Ok(What::Number(n)),
             None => Err(SyntaxError::BadNumber(from)),
         },
-        Kind::Word => match word(alloc, before, bytes)? {
+        Kind::Word => match word(before, bytes) {
             Some(w) => Ok(What::Word(w)),
             None => Err(SyntaxError::BadWord(from)),
         },
-    })
+    }
 }

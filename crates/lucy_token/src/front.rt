@@ -1,12 +1,12 @@
 // What stands at the front of a text.
 ghost use Rattle.std.specs.Prelude.{◌≡◌, ◌+◌, ◌<◌, ◌≤◌, length, drop, IfSome};
 ghost use Rattle.std.specs.List.{prefix_len};
-ghost use Rattle.lucy_word.specs.Spelling as spelling;
 ghost use Rattle.lucy_token.specs.Fronts as spec;
 
 use crate::mark::{KEYWORDS, Mark, SIGNS};
 use crate::state::{Context, wants_word};
 use crate::token::Kind;
+use lucy_word::Stage;
 
 /// What stands at the front of a text: so many bytes between tokens, a token of a kind and a number of bytes, or, after
 /// so many bytes, one that can't stand there.
@@ -53,15 +53,6 @@ fn number_len(text: &[u8]) -> usize
     ensures within { result ≤ length text.now }
 {
     text.iter().take_while(|c| is_decimal(**c)).count()
-}
-
-fn digits_len(text: &[u8]) -> usize
-    ensures value { result ≡ prefix_len spelling.is_digit text.now }
-    ensures within { result ≤ length text.now }
-{
-    text.iter()
-        .take_while(|c| **c == b'0' || **c == b'1')
-        .count()
 }
 
 // The first byte, 0 where there is none.
@@ -146,22 +137,32 @@ fn sign_in(marks: &[Mark], text: &[u8]) -> Front
     Front::Bad(0)
 }
 
+// A word where all of its form was read, else what breaks the form, behind so many bytes.
+fn word_end(n: usize, stage: Stage) -> Front
+    ensures { result ≡ spec.word_end n stage }
+{
+    match stage {
+        Stage::Closed => Front::Token(Kind::Word, n),
+        _ => Front::Bad(n),
+    }
+}
+
 #[tactic(auto, unfolding(crate::specs::Fronts::word_front))]
 fn word(text: &[u8]) -> Front
     ensures { result ≡ spec.word_front text.now }
 {
-    let prefix = digits_len(text);
-    let inner = skip(text, prefix + 1);
-    let period = digits_len(inner);
-    if head(skip(text, prefix)) != b'(' {
-        Front::Bad(prefix)
-    } else if period == 0 {
-        Front::Bad(prefix + 1)
-    } else if head(skip(text, prefix + 1 + period)) == b')' {
-        Front::Token(Kind::Word, prefix + period + 2)
-    } else {
-        Front::Bad(prefix + 1 + period)
+    let mut stage = Stage::begin();
+    let mut rest = text;
+    let mut length = 0;
+    'bytes: while let Some((c, more)) = rest.split_first() {
+        let Some(then) = stage.next(*c) else {
+            return word_end(length, stage);
+        };
+        stage = then;
+        rest = more;
+        length += 1;
     }
+    word_end(length, stage)
 }
 
 // How many bytes before the digits belong to a number.

@@ -4,6 +4,7 @@ ghost use Rattle.lucy_token.specs.declared.token.Kind.TheVariants as kind;
 ghost use Rattle.lucy_token.specs.declared.stop.Stop as stop;
 ghost use Rattle.lucy_token.specs.declared.stop.Stop.TheVariants.{End};
 ghost use Rattle.lucy_token.specs.States.{start};
+ghost use Rattle.lucy_token.specs.Fronts.{IsWordFront, word_front};
 ghost use Rattle.lucy_token.specs.Cuts.{Cuts};
 ghost use Rattle.lucy_token.specs.Written.{AreWritten, InOrder};
 
@@ -15,4 +16,10 @@ pub fn texts_have_one_cut()
     ensures rise { (text : List ℕ) (ts : List token.Token) (a : stop.Stop) → Cuts 0 start text ts a → InOrder 0 ts (length text) }
     ensures written { (text : List ℕ) (ts : List token.Token) (n : ℕ) → Cuts 0 start text ts (End n) → AreWritten kind.End ts }
     ensures end { (text : List ℕ) (ts : List token.Token) (n : ℕ) → Cuts 0 start text ts (End n) → n ≡ length text }
+{}
+
+/// Where a word is due stands one whose form is whole, or the first byte that can't follow those before it in any form.
+#[tactic(auto, using(crate::proofs::FormFronts::word_front_so))]
+pub fn words_end_with_their_form()
+    ensures { (text : List ℕ) → IsWordFront text (word_front text) }
 {}

@@ -15,7 +15,7 @@ mod stop;
 mod token;
 
 pub use front::Front;
-pub use laws::texts_have_one_cut;
+pub use laws::{texts_have_one_cut, words_end_with_their_form};
 pub use mark::Mark;
 pub use scan::tokens;
 pub use state::{Level, Side};

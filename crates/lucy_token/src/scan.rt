@@ -36,23 +36,18 @@ fn unread<'a>(kind: Kind, bytes: &'a [u8]) -> What<'a>
     }
 }
 
-fn next_step<'a>(
-    alloc: Global,
-    context: &Context,
-    text: &'a [u8],
-    from: usize,
-) -> Result<Step<'a>, OutOfMemory>
+fn next_step<'a>(context: &Context, text: &'a [u8], from: usize) -> Step<'a>
     requires some { 0 < length text.now }
     requires short { from + length text.now ≤ limit_number Limit.Text }
-    ensures { IfOk result (IsStep from context.now text.now) }
+    ensures { IsStep from context.now text.now result }
 {
     let (kind, n) = match at_front(context, text) {
-        Front::Gap(n) => return Ok(Step::Gap(n)),
-        Front::Bad(n) => return Ok(Step::Stopped(SyntaxError::Unexpected((from + n) as u64))),
+        Front::Gap(n) => return Step::Gap(n),
+        Front::Bad(n) => return Step::Stopped(SyntaxError::Unexpected((from + n) as u64)),
         Front::Token(kind, n) => (kind, n),
     };
     if let Some(limit) = context.limit_passed(kind) {
-        return Ok(Step::Stopped(SyntaxError::TooLarge(limit)));
+        return Step::Stopped(SyntaxError::TooLarge(limit));
     }
     let bytes = &text[..n];
     let span = Span {
@@ -62,14 +57,12 @@ fn next_step<'a>(
     if context.is_past_last(kind) {
         let what = unread(kind, bytes);
         let error = SyntaxError::TooLarge(Limit::Names);
-        return Ok(Step::Last(Token { what, span }, error));
+        return Step::Last(Token { what, span }, error);
     }
-    Ok(
-        match content(alloc, context.before(), kind, bytes, from as u64)? {
-            Ok(what) => Step::Token(Token { what, span }, kind, n),
-            Err(error) => Step::Stopped(error),
-        },
-    )
+    match content(context.before(), kind, bytes, from as u64) {
+        Ok(what) => Step::Token(Token { what, span }, kind, n),
+        Err(error) => Step::Stopped(error),
+    }
 }
 
 fn add<'a>(list: &mut Vec<Token<'a>>, token: Token<'a>) -> Result<(), OutOfMemory>
@@ -91,7 +84,7 @@ pub fn tokens<'a>(alloc: Global, text: &'a [u8]) -> Result<Tokens<'a>, OutOfMemo
     let mut context = Context::start(alloc);
     let mut from = 0;
     'text: while from < text.len() {
-        match next_step(alloc, &context, skip(text, from), from)? {
+        match next_step(&context, skip(text, from), from) {
             Step::Gap(n) => from += n,
             Step::Token(token, kind, n) => {
                 add(&mut list, token)?;

@@ -8,8 +8,8 @@ pub enum SyntaxError {
     Unexpected(u64),
     /// The number that begins at this offset is no signed number of 64 bits.
     BadNumber(u64),
-    /// The word that begins at this offset has more than 4,096 bits, or no one in its period, or after `whenot` or
-    /// `merge` no zero there.
+    /// The word that begins at this offset has a count that is 0, more than 65,536 bits, or no one in its period, or after
+    /// `whenot` or `merge` no zero there.
     BadWord(u64),
     /// A limit is passed: Text, Tokens, Depth, Name, Names or Nodes.
     TooLarge(Limit),

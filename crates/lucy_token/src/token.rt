@@ -4,7 +4,7 @@ ghost use Rattle.lucy_token.specs.Tokens as spec;
 use crate::mark::Mark;
 use crate::stop::Stop;
 use lucy_tree::Span;
-use lucy_word::Word;
+use lucy_word::Spelled;
 use std::marker::Model;
 
 /// The kinds of tokens, and the end behind the last one.
@@ -47,13 +47,13 @@ impl<'a> Piece<'a> {
     }
 }
 
-/// What a token is.
+/// What a token is. A word stays as it is spelled: it is made where the tree takes it.
 #[derive(Drop)]
 pub enum What<'a> {
     Mark(Mark),
     Name(Piece<'a>),
     Number(i64),
-    Word(Word),
+    Word(Spelled<'a>),
 }
 
 impl<'a> What<'a> {

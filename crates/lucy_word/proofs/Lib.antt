@@ -6,7 +6,6 @@ pub mod AdaptableLaws
 mod StepLaws
 mod WalkLaws
 pub mod Multiples
-mod SpellingLemmas
 pub mod SpellingLaws
 mod Repeats
 pub mod ShortLaws
@@ -16,3 +15,8 @@ pub mod ComplementLaws
 mod ShortTurn
 mod ShortPrefix
 mod Rows
+pub mod PartialLaws
+pub mod Checking
+mod CuttingLaws
+pub mod RunLaws
+pub mod ShortenedLaws

@@ -1,13 +1,19 @@
 -- The definitions on small words.
-use Rattle.std.proofs.Common.{true, false, [], ◌∷◌, ◌≡◌, map, refl, lit<}
+use Rattle.std.proofs.Common.{true, false, [], ◌∷◌, ◌≡◌, map, refl, lit<, arith}
 use Rattle.std.proofs.Math.Nat.{dvd-mul_left, dvd_refl, le_of_dvd}
 use Rattle.std.specs.Prelude.{codes}
 use Rattle.lucy_word.specs.Bits.{Bits, bit_at, ones_to}
-use Rattle.lucy_word.specs.Spelling.{Spells, BeginsSpelling, IsBadAt}
+use Rattle.std.specs.Fmt.{digits}
+use Rattle.lucy_word.specs.Items.{alone}
+use Rattle.std.specs.Prelude.{Some}
+use Rattle.lucy_word.specs.Spelling.{text_of, Spells}
+use Rattle.lucy_word.specs.Forms.{IsBadAt}
+use Rattle.lucy_word.specs.Partials.{going, digit, count}
+use Rattle.lucy_word.specs.declared.form.Stage.TheVariants as stage
+use Rattle.lucy_word.proofs.Checking.{Checked, bad_end, bad_zero}
 use Rattle.lucy_word.specs.Complement.{turned}
 use Rattle.lucy_word.specs.Always.{always}
 use Rattle.lucy_word.specs.Sampling.{bit_on, AreComputedLengths}
-use Rattle.lucy_word.proofs.SpellingLemmas.{bad_close}
 use Rattle.lucy_word.proofs.IndexLaws.{IsIndex-none}
 
 -- 0(01)
@@ -32,15 +38,34 @@ ones_of_early = refl
 
 late_is_spelled : Spells (codes "0(01)") late
 unfolding late
-late_is_spelled = record { shape = refl; nonempty = lit< tt }
+late_is_spelled = record {
+  form = record { prefix = alone false ∷ []; period = alone false ∷ alone true ∷ [] };
+  is_form = record { prefix = (tt, tt); period = (tt, (tt, tt)); nonempty = lit< tt };
+  counts = record { prefix = (lit< tt, tt); period = (lit< tt, (lit< tt, tt)) };
+  shape = refl;
+  bits = refl;
+}
 
--- `(0` begins a spelling
-begins_open : BeginsSpelling (codes "(0")
-begins_open = (record { prefix = []; period = false ∷ [] }, 41 ∷ [], record { shape = refl; nonempty = lit< tt })
+-- `(0` breaks its form at its end, and the count of `(1{0})` is 0
+bad_at_end : IsBadAt (codes "(0") 2
+bad_at_end =
+    let k : Checked (codes "(0") 2 0 false (stage.Digit true) =
+    record { within = omega arith; state = going (Some []) [] (digit false); reads = refl; staged = refl; some = (tt, tt); pending = refl } in
+    bad_end (codes "(0") 0 false (stage.Digit true) 2 k refl (λ e. absurd cc)
 
--- and more bytes are missing at its end, at offset 2
-bad_open_at_2 : IsBadAt (codes "(0") 2
-bad_open_at_2 = bad_close [] (48 ∷ []) [] tt (refl, tt) (lit< tt) tt tt
+bad_count : IsBadAt (codes "(1{0})") 3
+bad_count =
+    let k : Checked (codes "(1{0})") 4 3 true (stage.Count true) =
+    record { within = omega arith; state = going (Some []) [] (count true (48 ∷ [])); reads = refl; staged = refl; some = (tt, tt); pending = (refl, refl) } in
+    bad_zero (codes "(1{0})") 4 3 (stage.Count true) (stage.Item true true) k (omega arith) refl refl
+
+-- runs of more than four have a count, each part by itself
+runs_of_a_part : text_of (record { prefix = true ∷ true ∷ true ∷ true ∷ true ∷ []; period = false ∷ true ∷ true ∷ true ∷ true ∷ true ∷ false ∷ false ∷ false ∷ false ∷ false ∷ [] }) ≡ codes "1{5}(01{5}0{5})"
+unfolding digits
+runs_of_a_part = refl
+
+runs_of_four : text_of (record { prefix = []; period = true ∷ true ∷ true ∷ true ∷ false ∷ [] }) ≡ codes "(11110)"
+runs_of_four = refl
 
 -- (10)
 alternate : Bits

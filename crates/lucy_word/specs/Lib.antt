@@ -4,7 +4,10 @@ pub mod Limits
 pub mod Bits
 pub mod Shortest
 pub mod Stored
+pub mod Items
 pub mod Spelling
+pub mod Forms
+pub mod Stages
 pub mod Reading
 pub mod Making
 pub mod Index
@@ -16,5 +19,7 @@ pub mod Adaptable
 -- what follows only serves proofs of bodies
 pub mod Counting
 pub mod SamplingSteps
-pub mod Scan
 pub mod Turns
+pub mod Partials
+pub mod Shortened
+pub mod Cutting

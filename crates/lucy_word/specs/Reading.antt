@@ -2,7 +2,8 @@
 use Rattle.std.specs.Prelude.{ℕ, ◌⊎◌, ◌<◌, ◌≤◌, ◌≡◌, List, Result, Ok, Err}
 use Rattle.lucy_word.specs.Bits.{Bits, ones_in, bit_count, most_written}
 use Rattle.lucy_word.specs.Shortest.{IsShortForm}
-use Rattle.lucy_word.specs.Spelling.{Spells, IsBadAt}
+use Rattle.lucy_word.specs.Spelling.{Spells}
+use Rattle.lucy_word.specs.Forms.{IsBadAt}
 use Rattle.lucy_word.specs.declared.error.WordError.{WordError}
 use Rattle.lucy_word.specs.declared.error.WordError.TheVariants.{BadWord, TooLong, NoOne, OutOfMemory}
 

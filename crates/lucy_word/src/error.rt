@@ -9,10 +9,11 @@ pub struct OutOfMemory;
 /// Why there is no word.
 #[derive(Clone, Copy, Debug, PartialEq, Eq)]
 pub enum WordError {
-    /// The text spells no word. The number is the offset, in bytes from 0, of the first byte that doesn't fit, or the
-    /// text's length where more bytes are missing.
+    /// The text spells no word. The number is an offset in bytes from 0: that of the first byte that doesn't fit, or the
+    /// text's length where more bytes are missing, or that of the first digit of a count that is 0, whichever is least.
     BadWord(u64),
-    /// More bits than are allowed: `Limit::Written` as spelled for a written word, `Limit::Word` else.
+    /// More bits than are allowed: `Limit::Written` for a written word, each digit as often as its count says, else
+    /// `Limit::Word`.
     TooLong,
     /// The period has no one.
     NoOne,

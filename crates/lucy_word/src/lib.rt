@@ -3,12 +3,13 @@
 //! It stands on nothing else. Begin with `Word` in `word.rt` and with `specs/Bits.antt`, which says what the bits of a
 //! word and their counts are. Then `specs/Shortest.antt` says which spelling of a word is the shortest, `specs/Stored.antt`
 //! what every word in memory is, `specs/Sampling.antt` what `on` gives, `specs/Complement.antt` what `complement` gives, and
-//! `specs/Spelling.antt` how a word is spelled. `limit.rt` and `specs/Limits.antt` have the limits of all crates.
+//! `specs/Items.antt` and `specs/Spelling.antt` how a word is spelled. `limit.rt` and `specs/Limits.antt` have the limits of all crates.
 #![tactic(auto)]
 
 mod counted;
 mod error;
 mod flip;
+mod form;
 mod index;
 mod limit;
 mod multiple;
@@ -22,8 +23,10 @@ mod word;
 
 pub use error::{OutOfMemory, WordError};
 pub use flip::complement;
+pub use form::Stage;
 pub use limit::Limit;
 pub use multiple::{gcd, lcm};
+pub use read::{Spelled, digits_spell_words};
 pub use sampling::on;
 pub use walk::Walk;
 pub use word::{Word, words_are_stored};

@@ -1,9 +1,10 @@
-use Rattle.std.proofs.Common.{arith, append-nil, drop, rules, ◌≡◌, ◌++◌, [], append_assoc, sym, ap, ◌∙◌}
+use Rattle.std.proofs.Common.{ℕ, Option, arith, append-nil, drop, rules, ◌≡◌, ◌++◌, [], append_assoc, sym, ap, ◌∙◌}
 use Rattle.std.proofs.lemmas.List.{drop_all}
+use Rattle.lucy_tree.specs.Tree.{Tree, buffered}
 use Rattle.lucy_tree.specs.View.{tree_of, all_trees}
-use Rattle.lucy_grammar.specs.Print.{printed, all_printed}
+use Rattle.lucy_grammar.specs.Print.{spaced_text, printed, all_printed}
 use Rattle.lucy_grammar.specs.Spans.{nowhere}
-use Rattle.lucy_grammar.proofs.PrintedText.{listed, text_parens, text_commas, tight_all, text_two, text_three, text_sampled, text_merged, text_followed, text_buffered}
+use Rattle.lucy_grammar.proofs.PrintedText.{listed, text_parens, text_commas, tight_all, text_two, text_three, text_sampled, text_merged, text_followed, text_buffered, text_bounded}
 use Rattle.lucy_print.proofs.BoxedForms.{tree_merged, tree_followed, tree_buffered}
 use Rattle.lucy_print.proofs.Operands.{only_two, first_three}
 use Rattle.lucy_print.proofs.expr.+printed.Goals as goal
@@ -23,8 +24,17 @@ expr-returns-in_ok-blank-in-Merge-2 t c = rw (c.in-Merge.is, tree_merged _ _ _ _
 pub expr-returns-in_ok-between-in-Fby : goal.expr-returns-in_ok-between-in-Fby
 expr-returns-in_ok-between-in-Fby t c = rw (c.in-Fby.is, tree_followed _ _ _, text_followed _ _ _) (search (rules, append_assoc))
 
-pub expr-returns-in_ok-leading-in-Buffer : goal.expr-returns-in_ok-leading-in-Buffer
-expr-returns-in_ok-leading-in-Buffer t c = rw (c.in-Buffer.is, tree_buffered _ _, text_buffered _ _) (search (rules, append_assoc))
+pub buffered-returns-in-None : goal.buffered-returns-in-None
+buffered-returns-in-None t c =
+    let e : Tree = tree_of c.args.inner.now in
+    let same = ap (λ (m : Option ℕ). spaced_text (printed (buffered m e nowhere))) c.in-None.is ∙ text_buffered e nowhere in
+    rw same (search (rules, append_assoc))
+
+pub buffered-returns-in_ok-blank-in-Some : goal.buffered-returns-in_ok-blank-in-Some
+buffered-returns-in_ok-blank-in-Some t c =
+    let e : Tree = tree_of c.args.inner.now in
+    let same = ap (λ (m : Option ℕ). spaced_text (printed (buffered m e nowhere))) c.in-Some.is ∙ text_bounded c.in-Some.most e nowhere in
+    rw same (search (rules, append_assoc))
 
 pub operated-returns-in_ok-between-in-len2 : goal.operated-returns-in_ok-between-in-len2
 operated-returns-in_ok-between-in-len2 t c =

@@ -1,4 +1,4 @@
-use Rattle.std.proofs.Common.{Some, None, refl, ap, arith, ◌∙◌}
+use Rattle.std.proofs.Common.{ℕ, Some, None, refl, ap, sym, arith, ◌∙◌}
 use Rattle.std.proofs.lemmas.Result.{IfOk-weaker}
 use Rattle.lucy_word.specs.Bits.{Bits}
 use Rattle.lucy_host.specs.declared.op.Op.TheVariants as op
@@ -7,8 +7,8 @@ use Rattle.lucy_tree.specs.Tree.{variable, operator, host, merged, followed, buf
 use Rattle.lucy_tree.specs.View.{tree_of}
 use Rattle.lucy_token.specs.declared.mark.Mark.TheVariants as mark
 use Rattle.lucy_token.specs.declared.token.Kind.TheVariants as kind
-use Rattle.lucy_grammar.specs.Symbols.{Part}
-use Rattle.lucy_grammar.specs.Meanings.{word_of, two, three, args_of}
+use Rattle.lucy_grammar.specs.Symbols.{Part, Val}
+use Rattle.lucy_grammar.specs.Meanings.{word_of, bound_of, held_by, two, three, args_of}
 use Rattle.lucy_grammar.specs.Reading.{Refuses, Unfit, IsOther, UnfitOptional}
 use Rattle.lucy_grammar.proofs.Steps.{as_value}
 use Rattle.lucy_grammar.proofs.Growing.{grown_first, grown_more, grown_bad, grown_refused, grown_ended, samps, args}
@@ -19,7 +19,7 @@ use Rattle.lucy_syntax.specs.Refusals.{behind_test, behind_base}
 use Rattle.lucy_syntax.specs.Views.{all_trees}
 use Rattle.lucy_syntax.proofs.Leaving.{leaves, hands_on}
 use Rattle.lucy_syntax.proofs.Parts as parts
-use Rattle.lucy_syntax.proofs.Facts.{fails, is_first, put_trees}
+use Rattle.lucy_syntax.proofs.Facts.{fails, is_first, pair_of, put_trees}
 use Rattle.lucy_syntax.proofs.Climbing.{from_samp, climb_first, climb_up, climb_more, climb_bad, climb_end}
 use Rattle.lucy_syntax.proofs.descent.+descent.Goals as goal
 
@@ -97,10 +97,16 @@ pub samp-returns-clause-ok : goal.samp-returns-clause-ok
 samp-returns-clause-ok t c = grown_ended samps c.more.invariant (fails c.at_sampling.ensures.1 c.more-test.false)
 
 pub pre-returns-clause-ok : goal.pre-returns-clause-ok
-pre-returns-clause-ok t c = IfOk-weaker c.atom.result _ _ (λ p r. by.bare (((fails c.at.ensures.1 c.if-at.false), ((fails c.at-2.ensures.1 c.if-at-2.false), ((fails c.at-3.ensures.1 c.if-at-3.false), tt))), (fails c.at_literal.ensures.1 c.if-at_literal.false)) r) c.atom.ensures.ok
+pre-returns-clause-ok t c = IfOk-weaker c.form.result _ _ (λ p r. by.by_form (fails c.at_literal.ensures.1 c.if-at_literal.false) r) c.form.ensures.ok
 
 pub pre-returns-clause-refused : goal.pre-returns-clause-refused
-pre-returns-clause-refused t c = hands_on c.atom.result c.atom.ensures.refused (λ rest u. by.bare_1 (((fails c.at.ensures.1 c.if-at.false), ((fails c.at-2.ensures.1 c.if-at-2.false), ((fails c.at-3.ensures.1 c.if-at-3.false), tt))), (fails c.at_literal.ensures.1 c.if-at_literal.false)) u)
+pre-returns-clause-refused t c = hands_on c.form.result c.form.ensures.refused (λ rest u. by.by_form_1 (fails c.at_literal.ensures.1 c.if-at_literal.false) u)
+
+pub form-returns-clause-ok : goal.form-returns-clause-ok
+form-returns-clause-ok t c = IfOk-weaker c.atom.result _ _ (λ p r. by.bare ((fails c.at.ensures.1 c.if-at.false), ((fails c.at-2.ensures.1 c.if-at-2.false), ((fails c.at-3.ensures.1 c.if-at-3.false), tt))) r) c.atom.ensures.ok
+
+pub form-returns-clause-refused : goal.form-returns-clause-refused
+form-returns-clause-refused t c = hands_on c.atom.result c.atom.ensures.refused (λ rest u. by.bare_1 ((fails c.at.ensures.1 c.if-at.false), ((fails c.at-2.ensures.1 c.if-at-2.false), ((fails c.at-3.ensures.1 c.if-at-3.false), tt))) u)
 
 pub negation-returns-in_err-operand-clause-refused : goal.negation-returns-in_err-operand-clause-refused
 negation-returns-in_err-operand-clause-refused t c =
@@ -109,12 +115,63 @@ negation-returns-in_err-operand-clause-refused t c =
 pub negation-returns-clause-ok : goal.negation-returns-clause-ok
 negation-returns-clause-ok t c = as_value (c.in_ok-negation.ensures ∙ ap (operator op.Not (more (tree_of c.in_ok-operand.operand.value) no_more)) c.in_ok-span.ensures.ok.2) (by.negation c.in_ok-span.ensures.ok.1 c.in_ok-operand.ensures.ok)
 
-pub buffered-returns-in_err-held-clause-refused : goal.buffered-returns-in_err-held-clause-refused
-buffered-returns-in_err-held-clause-refused t c =
-    leaves (Unfit Part.Pre c.in_ok-span.ts.now) _ c.from_residual-in_err-held.result c.from_residual-in_err-held.ensures.1 c.in_err-held.ensures.refused (λ rest u. by.buffer_2 c.in_ok-span.ensures.ok.1 u)
+pub buffered-returns-in_err-most-clause-refused : goal.buffered-returns-in_err-most-clause-refused
+buffered-returns-in_err-most-clause-refused t c =
+    leaves (Unfit Part.Buffered c.in_ok-span.ts.now) _ c.from_residual-in_err-most.result c.from_residual-in_err-most.ensures.1 c.in_err-most.ensures.refused (λ rest u. by.buffer_2 c.in_ok-span.ensures.ok.1 u)
 
 pub buffered-returns-clause-ok : goal.buffered-returns-clause-ok
-buffered-returns-clause-ok t c = as_value (c.in_ok-buffered.ensures ∙ ap (buffered (tree_of c.in_ok-held.held.value)) c.in_ok-span.ensures.ok.2) (by.buffer c.in_ok-span.ensures.ok.1 c.in_ok-held.ensures.ok)
+buffered-returns-clause-ok t c = as_value (c.in_ok-buffered.ensures ∙ ap (buffered c.in_ok-most.most (tree_of c.in_ok-most.operand.value)) c.in_ok-span.ensures.ok.2) (by.buffer c.in_ok-span.ensures.ok.1 c.in_ok-most.ensures.ok)
+
+pub held-returns-in-Some-clause-ok : goal.held-returns-in-Some-clause-ok
+held-returns-in-Some-clause-ok t c =
+    let b = c.in-Some.ensures.read in
+    IfOk-weaker c.behind_bound.result _ _
+    (λ p r. as_value (r.2 ∙ ap (λ (n : ℕ). held_by n (c.in-Some.number, c.in-Some.span) r.0) b.3 ∙ ap (λ (l : Val Part.Lit). held_by (bound_of b.0.what) l r.0) (pair_of b.4 b.5)) (by.held_bound r.0 b.1 b.2 r.1)) c.behind_bound.ensures.ok
+
+pub held-returns-in-Some-clause-refused : goal.held-returns-in-Some-clause-refused
+held-returns-in-Some-clause-refused t c = hands_on c.behind_bound.result c.behind_bound.ensures.refused (λ rest u. by.held_bound_2 c.in-Some.ensures.read.1 c.in-Some.ensures.read.2 u)
+
+pub held-returns-in_err-lit-clause-refused : goal.held-returns-in_err-lit-clause-refused
+held-returns-in_err-lit-clause-refused t c =
+    leaves (Unfit Part.Other c.args.ts.now) _ c.from_residual.result c.from_residual.ensures.1 c.in_err-lit.ensures.refused_other (λ rest u. by.held_other_1 (by.other_begun c.args.ts.now (c.at_literal.ensures.0 c.if-at_literal.true) c.in_default.ensures.read) u)
+
+pub held-returns-in_err-operand-clause-refused : goal.held-returns-in_err-operand-clause-refused
+held-returns-in_err-operand-clause-refused t c =
+    leaves (UnfitOptional Part.Followed c.in_ok-lit.ts.now) _ c.from_residual-in_err-operand.result c.from_residual-in_err-operand.ensures.1 c.in_err-operand.ensures.refused
+    (λ rest u. by.held_other_2 (by.other_begun c.args.ts.now (c.at_literal.ensures.0 c.if-at_literal.true) c.in_default.ensures.read) (c.in_ok-lit.ensures.other c.in_default.ensures.read) u)
+
+pub held-returns-then-at_literal-clause-ok : goal.held-returns-then-at_literal-clause-ok
+held-returns-then-at_literal-clause-ok t c =
+    let r = c.in_ok-operand.ensures.ok in
+    as_value (pair_of refl r.2) (by.held_other r.0 (by.other_begun c.args.ts.now (c.at_literal.ensures.0 c.if-at_literal.true) c.in_default.ensures.read) (c.in_ok-lit.ensures.other c.in_default.ensures.read) r.1)
+
+pub held-returns-in_err-operand-2-clause-refused : goal.held-returns-in_err-operand-2-clause-refused
+held-returns-in_err-operand-2-clause-refused t c =
+    leaves (Unfit Part.Form c.args.ts.now) _ c.from_residual-in_err-operand-2.result c.from_residual-in_err-operand-2.ensures.1 c.in_err-operand-2.ensures.refused (λ rest u. by.held_form_1 (fails c.at_literal.ensures.1 c.if-at_literal.false) u)
+
+pub held-returns-clause-ok : goal.held-returns-clause-ok
+held-returns-clause-ok t c = by.held_form (fails c.at_literal.ensures.1 c.if-at_literal.false) c.in_ok-operand-2.ensures.ok
+
+pub behind_bound-returns-in_err-inner-clause-refused : goal.behind_bound-returns-in_err-inner-clause-refused
+behind_bound-returns-in_err-inner-clause-refused t c =
+    leaves (Unfit Part.Expr c.in_ok-ts.ts.now) _ c.from_residual-in_err-inner.result c.from_residual-in_err-inner.ensures.1 c.in_err-inner.ensures.refused (λ rest u. by.held_parens_2 c.in_ok-ts.ensures.ok.1 u)
+
+pub behind_bound-returns-in_err-ts-2-clause-refused : goal.behind_bound-returns-in_err-ts-2-clause-refused
+behind_bound-returns-in_err-ts-2-clause-refused t c =
+    leaves (IsOther c.in_ok-inner.ts.now (kind.Mark mark.Close)) _ c.from_residual-in_err-ts-2.result c.from_residual-in_err-ts-2.ensures.1 c.in_err-ts-2.ensures.refused (λ rest u. by.held_parens_3 c.in_ok-ts.ensures.ok.1 c.in_ok-inner.ensures.ok u)
+
+pub behind_bound-returns-then-at-clause-ok : goal.behind_bound-returns-then-at-clause-ok
+behind_bound-returns-then-at-clause-ok t c =
+    (Some (None, tree_of c.in_ok-inner.inner.value), by.held_parens c.in_ok-ts.ensures.ok.1 c.in_ok-inner.ensures.ok c.in_ok-ts-2.ensures.ok.1, refl)
+
+pub behind_bound-returns-in_err-operand-clause-refused : goal.behind_bound-returns-in_err-operand-clause-refused
+behind_bound-returns-in_err-operand-clause-refused t c =
+    leaves (UnfitOptional Part.Followed c.args.ts.now) _ c.from_residual-in_err-operand.result c.from_residual-in_err-operand.ensures.1 c.in_err-operand.ensures.refused (λ rest u. by.held_followed_1 u)
+
+pub behind_bound-returns-clause-ok : goal.behind_bound-returns-clause-ok
+behind_bound-returns-clause-ok t c =
+    let r = c.in_ok-operand.ensures.ok in
+    (by.held_of r.0, by.held_followed _ _ r.0 (fails c.at.ensures.1 c.if-at.false) r.1, pair_of refl r.2 ∙ sym (by.held_before c.args.most (c.args.number, c.args.span) r.0))
 
 pub merged-returns-in_err-word-clause-refused : goal.merged-returns-in_err-word-clause-refused
 merged-returns-in_err-word-clause-refused t c =
@@ -135,15 +192,23 @@ pub literal-returns-in_err-lit-clause-refused : goal.literal-returns-in_err-lit-
 literal-returns-in_err-lit-clause-refused t c =
     leaves (Unfit Part.Lit c.args.ts.now) _ c.from_residual.result c.from_residual.ensures.1 c.in_err-lit.ensures.refused (λ rest u. by.by_literal_1 c.requires u)
 
-pub literal-returns-in_err-operand-clause-refused : goal.literal-returns-in_err-operand-clause-refused
-literal-returns-in_err-operand-clause-refused t c =
-    leaves (Unfit Part.Pre c.in-Some.ts.now) _ c.from_residual-in_err-operand.result c.from_residual-in_err-operand.ensures.1 c.in_err-operand.ensures.refused (λ rest u. by.literal_follows_4 c.requires c.in_ok-lit.ensures.ok c.in-Some.ensures.read.1 u)
-
-pub literal-returns-in-Some-clause-ok : goal.literal-returns-in-Some-clause-ok
-literal-returns-in-Some-clause-ok t c = as_value (c.in_ok-followed.ensures ∙ ap (followed c.in_ok-lit.lit (tree_of c.in_ok-operand.operand.value)) c.in-Some.ensures.read.2) (by.literal_follows c.requires c.in_ok-lit.ensures.ok c.in-Some.ensures.read.1 c.in_ok-operand.ensures.ok)
-
 pub literal-returns-clause-ok : goal.literal-returns-clause-ok
-literal-returns-clause-ok t c = as_value c.in_ok-literal.ensures (by.literal_alone c.requires c.in_ok-lit.ensures.ok c.in_default.ensures.read)
+literal-returns-clause-ok t c = IfOk-weaker c.behind_literal.result _ _ (λ p r. as_value r.2 (by.by_literal r.0 c.requires c.in_ok-lit.ensures.ok r.1)) c.behind_literal.ensures.ok
+
+pub literal-returns-clause-refused : goal.literal-returns-clause-refused
+literal-returns-clause-refused t c = hands_on c.behind_literal.result c.behind_literal.ensures.refused (λ rest u. by.by_literal_2 c.requires c.in_ok-lit.ensures.ok u)
+
+pub behind_literal-returns-in_err-operand-clause-refused : goal.behind_literal-returns-in_err-operand-clause-refused
+behind_literal-returns-in_err-operand-clause-refused t c =
+    leaves (Unfit Part.Pre c.in-Some.ts.now) _ c.from_residual.result c.from_residual.ensures.1 c.in_err-operand.ensures.refused (λ rest u. by.fby_follows_2 c.in-Some.ensures.read.1 u)
+
+pub behind_literal-returns-in-Some-clause-ok : goal.behind_literal-returns-in-Some-clause-ok
+behind_literal-returns-in-Some-clause-ok t c =
+    let fby = c.in-Some.ensures.read in
+    (Some (fby.0.span, tree_of c.in_ok-operand.operand.value), by.fby_follows fby.1 c.in_ok-operand.ensures.ok, c.in_ok-followed.ensures ∙ ap (followed c.args.lit (tree_of c.in_ok-operand.operand.value)) fby.2)
+
+pub behind_literal-returns-clause-ok : goal.behind_literal-returns-clause-ok
+behind_literal-returns-clause-ok t c = (None, by.no_fby c.in_default.ensures.read, c.in_ok-literal.ensures)
 
 pub atom-returns-in_err-ts-clause-refused : goal.atom-returns-in_err-ts-clause-refused
 atom-returns-in_err-ts-clause-refused t c =

@@ -32,35 +32,47 @@ decreases-samp l = 32 * length l.ts.now + 15
 abbrev pub decreases-pre : goal.decreases-pre
 decreases-pre l = 32 * length l.ts.now + 14
 
+abbrev pub decreases-form : goal.decreases-form
+decreases-form l = 32 * length l.ts.now + 13
+
+abbrev pub decreases-held : goal.decreases-held
+decreases-held l = 32 * length l.ts.now + 20
+
+abbrev pub decreases-behind_bound : goal.decreases-behind_bound
+decreases-behind_bound l = 32 * length l.ts.now + 19
+
+abbrev pub decreases-behind_literal : goal.decreases-behind_literal
+decreases-behind_literal l = 32 * length l.ts.now + 15
+
 abbrev pub decreases-negation : goal.decreases-negation
-decreases-negation l = 32 * length l.ts.now + 13
+decreases-negation l = 32 * length l.ts.now + 12
 
 abbrev pub decreases-buffered : goal.decreases-buffered
-decreases-buffered l = 32 * length l.ts.now + 13
+decreases-buffered l = 32 * length l.ts.now + 12
 
 abbrev pub decreases-merged : goal.decreases-merged
-decreases-merged l = 32 * length l.ts.now + 13
+decreases-merged l = 32 * length l.ts.now + 12
 
 abbrev pub decreases-literal : goal.decreases-literal
 decreases-literal l = 32 * length l.ts.now + 13
 
 abbrev pub decreases-atom : goal.decreases-atom
-decreases-atom l = 32 * length l.ts.now + 13
+decreases-atom l = 32 * length l.ts.now + 12
 
 abbrev pub decreases-named : goal.decreases-named
-decreases-named l = 32 * length l.ts.now + 12
+decreases-named l = 32 * length l.ts.now + 11
 
 abbrev pub decreases-hosted : goal.decreases-hosted
-decreases-hosted l = 32 * length l.ts.now + 12
+decreases-hosted l = 32 * length l.ts.now + 11
 
 abbrev pub decreases-pair : goal.decreases-pair
 decreases-pair l = 32 * length l.ts.now + 19
 
 abbrev pub decreases-applied : goal.decreases-applied
-decreases-applied l = 32 * length l.ts.now + 11
+decreases-applied l = 32 * length l.ts.now + 10
 
 abbrev pub decreases-enclosed : goal.decreases-enclosed
-decreases-enclosed l = 32 * length l.ts.now + 10
+decreases-enclosed l = 32 * length l.ts.now + 9
 
 abbrev pub decreases-small : goal.decreases-small
 decreases-small l = 32 * length l.ts.now + 10

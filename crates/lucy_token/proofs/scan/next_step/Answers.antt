@@ -1,20 +1,16 @@
-use Rattle.std.proofs.Common.{◌≡◌, false, [], ◌∷◌, take, None, Result, arith, sym, ◌∙◌, subst}
+use Rattle.std.proofs.Common.{◌≡◌, false, [], ◌∷◌, None, arith, sym, ◌∙◌, subst}
 use Rattle.std.proofs.lemmas.List.{length-take-le}
 use Rattle.lucy_token.specs.declared.front.Front.TheVariants.{Token, Bad}
 use Rattle.lucy_token.specs.declared.token.What.{What}
-use Rattle.lucy_token.specs.declared.scan.Step.{Step}
 use Rattle.lucy_token.specs.declared.stop.Stop.TheVariants.{Fault}
-use Rattle.lucy_token.specs.declared.stop.SyntaxError.{SyntaxError}
 use Rattle.lucy_token.specs.declared.stop.SyntaxError.TheVariants.{TooLarge}
 use Rattle.lucy_word.specs.declared.limit.Limit.TheVariants as limit
 use Rattle.lucy_token.specs.States.{limit_passed, is_past_last}
 use Rattle.lucy_token.specs.Fronts.{front_of}
-use Rattle.lucy_token.specs.Steps.{IsStep, IsContent}
-use Rattle.lucy_token.proofs.CutSteps.{read_step, fault_step}
+use Rattle.lucy_token.proofs.CutSteps.{fault_step}
 use Rattle.lucy_token.specs.Cuts as cuts
 use Rattle.lucy_token.proofs.FrontLaws.{IsFront, of_front}
 use Rattle.lucy_token.proofs.scan.next_step.Goals as goal
-use Rattle.lucy_token.proofs.scan.next_step.Goals.{in-Ok, in-Err}
 
 pub overflow_add-result : goal.overflow_add-result
 overflow_add-result c =
@@ -62,15 +58,9 @@ returns-then-is_past_last c =
     let P : What → Type 0 = λ w. cuts.Cuts c.args.from c.args.context.now c.args.text.now (cuts.token_at w c.args.from c.in-Token.n ∷ []) (Fault (TooLarge limit.Names)) in
     subst P (sym c.unread-what.ensures) (cuts.past_last c.requires.some (sym e) (sym c.limit_passed.ensures ∙ c.in_default.is) (sym c.is_past_last.ensures ∙ c.if-is_past_last.true))
 
-pub returns : goal.returns
-returns c =
+pub returns-in-Err : goal.returns-in-Err
+returns-in-Err c =
     let e : Token c.in-Token.kind c.in-Token.n ≡ front_of c.args.context.now c.args.text.now = c.in-Token.ensures in
     let f : limit_passed c.args.context.now c.in-Token.kind ≡ None = sym c.limit_passed.ensures ∙ c.in_default.is in
     let g : is_past_last c.args.context.now c.in-Token.kind ≡ false = sym c.is_past_last.ensures ∙ c.if-is_past_last.false in
-    let P : Step → Type 0 = IsStep c.args.from c.args.context.now c.args.text.now in
-    let Q : Result What SyntaxError → Type 0 = IsContent c.before-2.result c.in-Token.kind (take c.in-Token.n c.args.text.now) c.args.from in
-    let h : Q c.in_ok-what.field-0 = c.in_ok-what.ensures in
-    elim c.match-branch-2.branch [
-      | in-Ok w ↦ subst P (sym w.result-is) (read_step _ _ _ _ _ _ _ (sym e) f g c.before-2.ensures (subst Q w.in-Ok.is h))
-      | in-Err w ↦ subst P (sym w.result-is) (fault_step _ _ _ _ _ _ _ c.requires.some (sym e) f g c.before-2.ensures (subst Q w.in-Err.is h))
-    ]
+    fault_step _ _ _ _ _ _ _ c.requires.some (sym e) f g c.before-2.ensures c.in-Err.ensures

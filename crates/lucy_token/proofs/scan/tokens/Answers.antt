@@ -9,19 +9,19 @@ use Rattle.lucy_token.proofs.scan.tokens.Goals as goal
 
 pub overflow_add-from : goal.overflow_add-from
 overflow_add-from c =
-    let h : front_of c.text.context (drop c.text.from c.args.text.now) ≡ Gap c.in-Gap.n = at_rest _ _ _ _ _ _ c.skip.ensures c.in-Gap.is c.in_ok-n.ensures in
+    let h : front_of c.text.context (drop c.text.from c.args.text.now) ≡ Gap c.in-Gap.n = at_rest _ _ _ _ _ _ c.skip.ensures c.in-Gap.is c.next_step.ensures in
     let b = gap_bounds c.text.from c.text.context c.args.text.now c.in-Gap.n c.text-test.true h in
     omega (arith, b.1, c.requires)
 
 pub text-smaller-in-Gap : goal.text-smaller-in-Gap
 text-smaller-in-Gap c =
-    let h : front_of c.text.context (drop c.text.from c.args.text.now) ≡ Gap c.in-Gap.n = at_rest _ _ _ _ _ _ c.skip.ensures c.in-Gap.is c.in_ok-n.ensures in
+    let h : front_of c.text.context (drop c.text.from c.args.text.now) ≡ Gap c.in-Gap.n = at_rest _ _ _ _ _ _ c.skip.ensures c.in-Gap.is c.next_step.ensures in
     let b = gap_bounds c.text.from c.text.context c.args.text.now c.in-Gap.n c.text-test.true h in
     omega (arith, b.0, b.1)
 
 pub text-preserved-in-Gap : goal.text-preserved-in-Gap
 text-preserved-in-Gap c =
-    let h : front_of c.text.context (drop c.text.from c.args.text.now) ≡ Gap c.in-Gap.n = at_rest _ _ _ _ _ _ c.skip.ensures c.in-Gap.is c.in_ok-n.ensures in
+    let h : front_of c.text.context (drop c.text.from c.args.text.now) ≡ Gap c.in-Gap.n = at_rest _ _ _ _ _ _ c.skip.ensures c.in-Gap.is c.next_step.ensures in
     let b = gap_bounds c.text.from c.text.context c.args.text.now c.in-Gap.n c.text-test.true h in
     record {
       within = b.1;
@@ -31,13 +31,13 @@ text-preserved-in-Gap c =
 
 pub text-smaller : goal.text-smaller
 text-smaller c =
-    let h : IsRead c.text.from c.text.context (drop c.text.from c.args.text.now) c.in-Token.token c.in-Token.kind c.in-Token.n = at_rest _ _ _ _ _ _ c.skip.ensures c.in-Token.is c.in_ok-n.ensures in
+    let h : IsRead c.text.from c.text.context (drop c.text.from c.args.text.now) c.in-Token.token c.in-Token.kind c.in-Token.n = at_rest _ _ _ _ _ _ c.skip.ensures c.in-Token.is c.next_step.ensures in
     let b = token_bounds c.text.from c.text.context c.args.text.now c.in-Token.kind c.in-Token.n c.text-test.true h.front in
     omega (arith, b.0, b.1)
 
 pub text-preserved : goal.text-preserved
 text-preserved c =
-    let h : IsRead c.text.from c.text.context (drop c.text.from c.args.text.now) c.in-Token.token c.in-Token.kind c.in-Token.n = at_rest _ _ _ _ _ _ c.skip.ensures c.in-Token.is c.in_ok-n.ensures in
+    let h : IsRead c.text.from c.text.context (drop c.text.from c.args.text.now) c.in-Token.token c.in-Token.kind c.in-Token.n = at_rest _ _ _ _ _ _ c.skip.ensures c.in-Token.is c.next_step.ensures in
     let b = token_bounds c.text.from c.text.context c.args.text.now c.in-Token.kind c.in-Token.n c.text-test.true h.front in
     let P : State → Type 0 = λ s. CutsSoFar c.args.text.now c.add.new.list.items (c.text.from + c.in-Token.n) s (drop (c.text.from + c.in-Token.n) c.args.text.now) in
     let Q : State → Type 0 = IsBounded (c.text.from + c.in-Token.n) in
