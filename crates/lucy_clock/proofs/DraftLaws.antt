@@ -1,11 +1,10 @@
 -- Laws of needs whose words are lent.
-use Rattle.std.proofs.Common.{ℕ, ◌+◌, ◌<◌, ◌≡◌, ◌∷◌, ◌++◌, [], Bool, true, false, not, List, length, get_or, take, map, ap, sym, refl, ◌∙◌, inl, inr, arith, length-append}
+use Rattle.std.proofs.Common.{ℕ, ◌+◌, ◌<◌, ◌≡◌, ◌∷◌, ◌++◌, [], Bool, true, false, List, length, get_or, take, map, ap, sym, refl, ◌∙◌, inl, inr, arith, length-append}
 use Rattle.std.specs.Prelude.{if◌then◌else◌, IfErr, IsErrAnd, Result}
 use Rattle.std.proofs.lemmas.Result.{err_from_is_err_and}
-use Rattle.std.proofs.lemmas.List.{length-map, map-append, take_more}
+use Rattle.std.proofs.lemmas.List.{map-append, take_more}
 use Rattle.std.proofs.lemmas.List.Sums.{sum_by-cons, sum_by-append}
-use Rattle.lucy_word.specs.Bits.{Bits, bit_count}
-use Rattle.lucy_place.specs.Numbering.{sampling_word}
+use Rattle.lucy_word.specs.Bits.{bit_count}
 use Rattle.lucy_need.specs.declared.need.Term.{Term}
 use Rattle.lucy_need.specs.declared.need.Need.{Need}
 use Rattle.lucy_need.specs.declared.need.Need.TheVariants.{Equal, Adapt}
@@ -22,20 +21,12 @@ leaves P Q e r i h f =
     rw (p.1, p.2) (f e h)
 
 -- how many bits the words of a draft have
-kept_bits : (flip : Bool) (w : Bits) → bit_count (sampling_word flip w) ≡ bit_count w
-kept_bits true w = omega (arith, length-map w.prefix not, length-map w.period not)
-kept_bits false w = refl
-
-of_terms : (adapt : Bool) (s t : Term) → need_bits (if adapt then Adapt s t else Equal s t) ≡ bit_count s.word + bit_count t.word
-of_terms true s t = refl
-of_terms false s t = refl
-
-pub seen_bits : (d : Draft) → need_bits (seen d) ≡ bit_count d.left.word.now + bit_count d.right.word.now
-seen_bits d =
-    let a = of_terms d.adapt (side_term d.left) (side_term d.right) in
-    let b = kept_bits d.left.turned d.left.word.now in
-    let c = kept_bits d.right.turned d.right.word.now in
-    omega arith
+pub seen_bits : (d : Draft) → need_bits (seen d) ≡ bit_count (side_term d.left).word + bit_count (side_term d.right).word
+seen_bits d = of_terms d.adapt (side_term d.left) (side_term d.right)
+  where
+    of_terms : (adapt : Bool) (s t : Term) → need_bits (if adapt then Adapt s t else Equal s t) ≡ bit_count s.word + bit_count t.word
+    of_terms true s t = refl
+    of_terms false s t = refl
 
 take_next : {A : Type 0} (xs : List A) (i : ℕ) (x : A) → i < length xs → x ≡ get_or xs i x → take (i + 1) xs ≡ take i xs ++ x ∷ []
 take_next xs i x h e = take_more xs i x h ∙ ap (λ y. take i xs ++ y ∷ []) (sym e)
@@ -44,7 +35,7 @@ pub seen_next : (xs : List Draft) (i : ℕ) (x : Draft) → i < length xs → x 
 seen_next xs i x h e = ap (map seen) (take_next xs i x h e) ∙ map-append seen (take i xs) (x ∷ [])
 
 pub bits_next : (xs : List Draft) (i : ℕ) (x : Draft) → i < length xs → x ≡ get_or xs i x →
-    all_bits (map seen (take (i + 1) xs)) ≡ all_bits (map seen (take i xs)) + (bit_count x.left.word.now + bit_count x.right.word.now)
+    all_bits (map seen (take (i + 1) xs)) ≡ all_bits (map seen (take i xs)) + (bit_count (side_term x.left).word + bit_count (side_term x.right).word)
 bits_next xs i x h e =
     let a : all_bits (map seen (take (i + 1) xs)) ≡ all_bits (map seen (take i xs) ++ seen x ∷ []) = ap all_bits (seen_next xs i x h e) in
     let b = sum_by-append need_bits (map seen (take i xs)) (seen x ∷ []) in

@@ -1,12 +1,14 @@
 -- What listing asks of a node holds of a proper one.
-use Rattle.std.proofs.Common.{ℕ, zero, suc, ◌+◌, ◌-◌, ◌^◌, ◌<◌, ◌≤◌, ◌≡◌, List, Some, length, sym, refl, ◌∙◌, subst, arith}
+use Rattle.std.proofs.Common.{ℕ, zero, suc, ◌+◌, ◌-◌, ◌^◌, ◌<◌, ◌≤◌, ◌≡◌, List, [], ◌∷◌, Option, Some, None, length, sym, refl, ◌∙◌, subst, arith}
 use Rattle.std.specs.Prelude.{slice_get, slice_index_or}
 use Rattle.std.proofs.lemmas.Option.{slice_get_within, slice_get-get_or}
+use Rattle.std.specs.List.{AllByRecursion}
+use Rattle.lucy_tree.specs.Shaped.{IsBound}
 use Rattle.lucy_place.specs.declared.entry.PlaceKind.{PlaceKind}
-use Rattle.lucy_place.specs.declared.entry.PlaceKind.TheVariants.{Merge, Result}
+use Rattle.lucy_place.specs.declared.entry.PlaceKind.TheVariants.{Merge, Buffer, Result}
 use Rattle.lucy_place.specs.declared.entry.CallSite.{CallSite}
 use Rattle.lucy_place.specs.declared.placed.PlacedNode.{PlacedNode}
-use Rattle.lucy_place.specs.Proper.{at_one, Stands, IsProperKind, IsProperNode}
+use Rattle.lucy_place.specs.Proper.{at_one, bound_of, Stands, IsProperKind, IsProperNode}
 use Rattle.lucy_clock.specs.declared.signature.Signature.{Signature}
 use Rattle.lucy_clock.specs.Clocks.{AreSignatures, clocks_of}
 use Rattle.lucy_clock.specs.Listing.{no_signature}
@@ -15,6 +17,20 @@ use Rattle.lucy_clock.specs.Drafts.{IsListedCall, IsListedKind, IsListedNode}
 one_within : {A : Type 0} (xs : List A) (p : ℕ) (x : A) → at_one xs p ≡ Some x → p ≤ length xs
 one_within xs zero x e = omega arith
 one_within xs (suc i) x e = let l = slice_get_within xs i x e in omega arith
+
+one_some : {A : Type 0} (xs : List A) (p : ℕ) (x : A) → at_one xs p ≡ Some x → 0 < p
+one_some xs zero x e = absurd (cc)
+one_some xs (suc i) x e = omega arith
+
+-- a bound is no greater than it may be
+small_at : (bounds : List (Option ℕ)) (i : ℕ) → AllByRecursion IsBound bounds → IsBound (slice_index_or bounds i None)
+small_at [] i all = tt
+small_at (most ∷ bounds) zero all = all.0
+small_at (most ∷ bounds) (suc i) all = small_at bounds i all.1
+
+pub buffer_small : (n : PlacedNode) (k : ℕ) → AllByRecursion IsBound n.bounds → IsBound (bound_of n k)
+buffer_small n zero all = tt
+buffer_small n (suc i) all = small_at n.bounds i all
 
 module _ (nodes : List PlacedNode) (above : List Signature) (n : PlacedNode) (proper : IsProperNode nodes n) (ports : AreSignatures nodes above) where
   pub small : clocks_of n < 2 ^ 32
@@ -44,6 +60,7 @@ module _ (nodes : List PlacedNode) (above : List Signature) (n : PlacedNode) (pr
 
   kind_listed : (p : ℕ) (kind : PlaceKind) → Stands n p kind → IsProperKind n p kind → IsListedKind above n p kind
   kind_listed p (Merge word a b) stands is = is.1
+  kind_listed p (Buffer k e) stands is = record { counts = one_some n.buffers k p is.1; there = (let l = one_within n.buffers k p is.1 in let b = proper.bounds in omega arith); small = buffer_small n k proper.small }
   kind_listed p (Result call j) stands is = λ e. call_listed p call is.1 is.2 (subst (λ i. Stands n p (Result call i)) e stands)
   kind_listed p kind stands is = tt
 

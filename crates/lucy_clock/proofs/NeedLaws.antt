@@ -11,13 +11,14 @@ use Rattle.lucy_place.specs.declared.entry.PlaceKind.TheVariants.{Param, Defined
 use Rattle.lucy_place.specs.declared.entry.CallSite.{CallSite}
 use Rattle.lucy_place.specs.declared.placed.PlacedNode.{PlacedNode}
 use Rattle.lucy_word.specs.Complement.{turned}
-use Rattle.lucy_place.specs.Proper.{at_one, Stands, IsPlace, IsProperKind, IsProperNode}
+use Rattle.lucy_place.specs.Proper.{at_one, bound_of, Stands, IsPlace, IsProperKind, IsProperNode}
 use Rattle.lucy_need.specs.Meeting.{Assignment, AreWordsIn, Meets, MeetsAll}
 use Rattle.lucy_need.proofs.AllLaws.{all_join, all_front, all_back}
 use Rattle.lucy_clock.specs.declared.signature.Signature.{Signature}
 use Rattle.lucy_clock.specs.Clocks.{AreSignatures, call_clock, clocks_of}
-use Rattle.lucy_clock.specs.WellClocked.{KeepsRule, KeepsCall, IsWellClocked}
+use Rattle.lucy_clock.specs.WellClocked.{KeepsRule, KeepsBound, KeepsCall, IsWellClocked}
 use Rattle.lucy_clock.specs.Listing.{word_needs, argument_needs, result_needs, no_signature, site_needs, call_needs, kind_needs, place_needs, needs_from, needs_of}
+use Rattle.lucy_clock.proofs.BoundLaws.{bound_from, bound_to}
 use Rattle.lucy_clock.proofs.RuleLaws.{base_from, base_to, args_from, args_to}
 use Rattle.lucy_word.specs.Always.{always}
 use Rattle.lucy_word.proofs.OnLaws.{on_not_from, on_not_to}
@@ -164,17 +165,20 @@ module _ (w : Assignment) (nodes : List PlacedNode) (above : List Signature) (n 
 
   -- the table of forms
   kind_from : (p : ℕ) (kind : PlaceKind) → Same (w 0) always → AreWordsIn w (clocks_of n) → ((c : ℕ) (site : CallSite) → at_one n.calls c ≡ Some site → KeepsCall above n w c site) →
-      IsPlace n p → Stands n p kind → IsProperKind n p kind → KeepsRule w p kind → MeetsAll w (kind_needs above n p kind)
-  kind_from p Param base words keeps here stands is h = tt
-  kind_from p (Defined e) base words keeps here stands is h = (alone_from w p e h, tt)
-  kind_from p (Lit l) base words keeps here stands is h = tt
-  kind_from p (Op op args) base words keeps here stands is h = args_from w p args h
-  kind_from p (Host op a b) base words keeps here stands is h = (alone_from w p a h.0, (alone_from w p b h.1, tt))
-  kind_from p (When e word) base words keeps here stands is h = (on_from w p e word h, tt)
-  kind_from p (Merge word a b) base words keeps here stands is h = (on_from w a p word h.0, (on_from w b p (turned word) (on_not_to (w p) word (w b) (omega (arith, is.1)) h.1), tt))
-  kind_from p (Fby l e) base words keeps here stands is h = (alone_from w p e h, tt)
-  kind_from p (Buffer k e) base words keeps here stands is h = (adapt_from w e p (place_word words e is.2) (place_word words p here) h, tt)
-  kind_from p (Result call j) base words keeps here stands is h = result_to p call j base keeps is.1 is.2 stands
+      ((q k e : ℕ) → Stands n q (Buffer k e) → KeepsBound (bound_of n k) (w e) (w q)) → IsPlace n p → Stands n p kind → IsProperKind n p kind → KeepsRule w p kind → MeetsAll w (kind_needs above n p kind)
+  kind_from p Param base words keeps bounds here stands is h = tt
+  kind_from p (Defined e) base words keeps bounds here stands is h = (alone_from w p e h, tt)
+  kind_from p (Lit l) base words keeps bounds here stands is h = tt
+  kind_from p (Op op args) base words keeps bounds here stands is h = args_from w p args h
+  kind_from p (Host op a b) base words keeps bounds here stands is h = (alone_from w p a h.0, (alone_from w p b h.1, tt))
+  kind_from p (When e word) base words keeps bounds here stands is h = (on_from w p e word h, tt)
+  kind_from p (Merge word a b) base words keeps bounds here stands is h = (on_from w a p word h.0, (on_from w b p (turned word) (on_not_to (w p) word (w b) (omega (arith, is.1)) h.1), tt))
+  kind_from p (Fby l e) base words keeps bounds here stands is h = (alone_from w p e h, tt)
+  kind_from p (Buffer k e) base words keeps bounds here stands is h =
+      let of_e = place_word words e is.2 in
+      let of_p = place_word words p here in
+      (adapt_from w e p of_e of_p h, bound_from w p e (bound_of n k) of_e of_p h (bounds p k e stands))
+  kind_from p (Result call j) base words keeps bounds here stands is h = result_to p call j base keeps is.1 is.2 stands
 
   kind_to : (p : ℕ) (kind : PlaceKind) → IsProperKind n p kind → MeetsAll w (kind_needs above n p kind) → KeepsRule w p kind
   kind_to p Param is h = tt
@@ -201,6 +205,11 @@ module _ (w : Assignment) (nodes : List PlacedNode) (above : List Signature) (n 
     base = base;
     forms = λ p entry e.
         kind_to p entry.kind (proper.kinds p entry e) (all_back (Meets w) (word_needs p entry.word) (kind_needs above n p entry.kind) (needs_at met p entry e));
+    bounds = λ p k e stands.
+        let own = all_back (Meets w) (word_needs p stands.0.word) (kind_needs above n p stands.0.kind) (needs_at met p stands.0 stands.1) in
+        let needs : MeetsAll w (kind_needs above n p (Buffer k e)) = subst (λ kind. MeetsAll w (kind_needs above n p kind)) stands.2 own in
+        let is : IsProperKind n p (Buffer k e) = subst (IsProperKind n p) stands.2 (proper.kinds p stands.0 stands.1) in
+        bound_to w p e (bound_of n k) (place_word words e is.2) (place_word words p (at_one_place p stands.0 stands.1)) (adapt_to w e p needs.0) needs.1;
     written = λ p entry word e f.
         word_to w p entry.word base (all_front (Meets w) (word_needs p entry.word) (kind_needs above n p entry.kind) (needs_at met p entry e)) word f;
     calls = λ call site at.
@@ -219,7 +228,7 @@ module _ (w : Assignment) (nodes : List PlacedNode) (above : List Signature) (n 
       let here : at_one n.places (1 + i) ≡ Some entry = ap (at_one n.places) g ∙ e in
       all_join (Meets w) (word_needs (1 + i) entry.word) (kind_needs above n (1 + i) entry.kind)
       (word_from w (1 + i) entry.word well.base (λ word f. well.written (1 + i) entry word here f))
-      (kind_from (1 + i) entry.kind well.base well.words well.calls (at_one_place (1 + i) entry here) (entry, here, refl) (proper.kinds (1 + i) entry here) (well.forms (1 + i) entry here)))
+      (kind_from (1 + i) entry.kind well.base well.words well.calls well.bounds (at_one_place (1 + i) entry here) (entry, here, refl) (proper.kinds (1 + i) entry here) (well.forms (1 + i) entry here)))
 
   pub rules_law : AreWordsIn w (clocks_of n) → Same (w 0) always → MeetsAll w (needs_of above n) ↔ IsWellClocked above n w
   rules_law words base = (well_to words base, well_from)

@@ -23,6 +23,9 @@ two_of_three = turning (true ∷ true ∷ false ∷ [])
 abbrev first_and_last : Bits
 first_and_last = turning (true ∷ false ∷ true ∷ [])
 
+abbrev one_late : Bits
+one_late = record { prefix = false ∷ []; period = true ∷ [] }
+
 abbrev odd : Bits
 odd = turning (true ∷ false ∷ [])
 
@@ -38,7 +41,7 @@ named kind word = record { name = Some nobody; holds = None; word = Some word; k
 abbrev unnamed : PlaceKind → PlaceEntry
 unnamed kind = record { name = None; holds = None; word = None; kind = kind }
 
--- let node f (x :: (1)) = y where rec a :: (110) = x when (110) and y :: (101) = buffer a
+-- let node f (x :: (1)) = y where rec a :: (110) = x when (110) and y :: (101) = buffer 1 (a)
 abbrev f : PlacedNode
 f = record {
   name = nobody;
@@ -46,11 +49,12 @@ f = record {
   places = named Param one ∷ named (Defined 4) two_of_three ∷ named (Defined 5) first_and_last ∷ unnamed (When 1 two_of_three) ∷ unnamed (Buffer 1 2) ∷ [];
   results = 3 ∷ [];
   buffers = 5 ∷ [];
+  bounds = Some 1 ∷ [];
   calls = [];
 }
 
 f_needs : needs_of [] f ≡ Equal (alone 1) (term 0 one) ∷ Equal (alone 2) (term 0 two_of_three) ∷ Equal (alone 2) (alone 4) ∷ Equal (alone 3) (term 0 first_and_last) ∷ Equal (alone 3) (alone 5)
-    ∷ Equal (alone 4) (term 1 two_of_three) ∷ Adapt (alone 2) (alone 5) ∷ []
+    ∷ Equal (alone 4) (term 1 two_of_three) ∷ Adapt (alone 2) (alone 5) ∷ Adapt (alone 5) (term 2 one_late) ∷ []
 f_needs = refl
 
 -- let node g (z :: (1)) = p where rec e :: (10) = z when (10) and p :: (10) = h at (10) (e) and m :: (1) = merge (10) e p,
@@ -62,6 +66,7 @@ g = record {
   places = named Param one ∷ named (Defined 5) odd ∷ named (Defined 6) odd ∷ named (Defined 7) one ∷ unnamed (When 1 odd) ∷ unnamed (Result 1 0) ∷ unnamed (Merge odd 2 3) ∷ [];
   results = 3 ∷ [];
   buffers = [];
+  bounds = [];
   calls = record { node = 0; at = Some odd; first = 6; args = 2 ∷ [] } ∷ [];
 }
 

@@ -9,13 +9,13 @@ use Rattle.lucy_place.specs.declared.entry.PlaceKind.{PlaceKind}
 use Rattle.lucy_place.specs.declared.entry.PlaceKind.TheVariants.{Param, Defined, Lit, Op, Host, When, Merge, Fby, Buffer, Result}
 use Rattle.lucy_place.specs.declared.entry.CallSite.{CallSite}
 use Rattle.lucy_place.specs.declared.placed.PlacedNode.{PlacedNode}
-use Rattle.lucy_place.specs.Proper.{at_one, Stands, IsPlace, ArePlaces, IsProperKind, IsProperNode}
+use Rattle.lucy_place.specs.Proper.{at_one, bound_of, Stands, IsPlace, ArePlaces, IsProperKind, IsProperNode}
 use Rattle.lucy_need.specs.declared.need.Need.{Need}
 use Rattle.lucy_need.specs.Meeting.{IsWithin}
 use Rattle.lucy_need.proofs.AllLaws.{all_join}
 use Rattle.lucy_clock.specs.declared.signature.Signature.{Signature}
 use Rattle.lucy_clock.specs.Clocks.{AreSignatures, call_clock, clocks_of}
-use Rattle.lucy_clock.specs.Listing.{word_needs, argument_needs, result_needs, operand_needs, no_signature, site_needs, call_needs, kind_needs, place_needs, needs_from, needs_of}
+use Rattle.lucy_clock.specs.Listing.{word_needs, argument_needs, result_needs, operand_needs, bound_needs, no_signature, site_needs, call_needs, kind_needs, place_needs, needs_from, needs_of}
 
 one_within : {A : Type 0} (xs : List A) (p : ℕ) (x : A) → at_one xs p ≡ Some x → p ≤ length xs
 one_within xs zero x e = omega arith
@@ -41,6 +41,10 @@ module _ (m : ℕ) where
   operands_within : (place : ℕ) (args : List ℕ) → place < m → AllByRecursion (λ a. a < m) args → All (operand_needs place args)
   operands_within place [] l all = tt
   operands_within place (a ∷ args) l all = ((l, all.0), operands_within place args l all.1)
+
+  bound_within : (place operand : ℕ) (most : Option ℕ) → place < m → operand < m → All (bound_needs place operand most)
+  bound_within place operand None p e = tt
+  bound_within place operand (Some most) p e = ((p, e), tt)
 
 module _ (nodes : List PlacedNode) (above : List Signature) (n : PlacedNode) (proper : IsProperNode nodes n) (ports : AreSignatures nodes above) where
   place_below : (p : ℕ) → IsPlace n p → p < clocks_of n
@@ -87,7 +91,9 @@ module _ (nodes : List PlacedNode) (above : List Signature) (n : PlacedNode) (pr
   kind_within p (When e word) s is = ((stands_below p (When e word) s, place_below e is.1), tt)
   kind_within p (Merge word a b) s is = let l = stands_below p (Merge word a b) s in ((place_below a is.2, l), ((place_below b is.3, l), tt))
   kind_within p (Fby l e) s is = ((stands_below p (Fby l e) s, place_below e is.1), tt)
-  kind_within p (Buffer k e) s is = ((place_below e is.2, stands_below p (Buffer k e) s), tt)
+  kind_within p (Buffer k e) s is =
+      let l = stands_below p (Buffer k e) s in
+      ((place_below e is.2, l), bound_within (clocks_of n) p e (bound_of n k) l (place_below e is.2))
   kind_within p (Result call j) s is = result_within p call j is.1 is.2 s
 
   from_within : (p : ℕ) (entries : List PlaceEntry) → ((i : ℕ) (entry : PlaceEntry) → slice_get entries i ≡ Some entry → AllByRecursion (IsWithin (clocks_of n)) (place_needs above n (p + i) entry)) →

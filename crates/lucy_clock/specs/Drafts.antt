@@ -1,20 +1,20 @@
 -- The needs that drafts stand for.
-use Rattle.std.specs.Prelude.{ℕ, ◌+◌, ◌^◌, ◌⊎◌, ◌<◌, ◌≡◌, List, Some, length, slice_index_or, if◌then◌else◌}
+use Rattle.std.specs.Prelude.{ℕ, ◌+◌, ◌^◌, ◌⊎◌, ◌<◌, ◌≤◌, ◌≡◌, List, Some, length, slice_index_or, if◌then◌else◌}
 use Rattle.lucy_word.specs.declared.limit.Limit.TheVariants as limit
-use Rattle.lucy_tree.specs.Shaped.{HasZero}
+use Rattle.lucy_tree.specs.Shaped.{HasZero, IsBound}
 use Rattle.lucy_place.specs.declared.entry.PlaceEntry.{PlaceEntry}
 use Rattle.lucy_place.specs.declared.entry.PlaceKind.{PlaceKind}
-use Rattle.lucy_place.specs.declared.entry.PlaceKind.TheVariants.{Merge, Result}
+use Rattle.lucy_place.specs.declared.entry.PlaceKind.TheVariants.{Merge, Buffer, Result}
 use Rattle.lucy_place.specs.declared.entry.CallSite.{CallSite}
 use Rattle.lucy_place.specs.declared.placed.PlacedNode.{PlacedNode}
-use Rattle.lucy_place.specs.Proper.{at_one}
-use Rattle.lucy_place.specs.Numbering.{sampling_word}
+use Rattle.lucy_place.specs.Proper.{at_one, bound_of}
 use Rattle.lucy_need.specs.declared.need.Term.{Term}
 use Rattle.lucy_need.specs.declared.need.Need.{Need}
 use Rattle.lucy_need.specs.declared.need.Need.TheVariants.{Equal, Adapt}
 use Rattle.lucy_need.specs.Meeting.{most_needs}
 use Rattle.lucy_clock.specs.declared.signature.Signature.{Signature}
 use Rattle.lucy_clock.specs.Listing.{no_signature}
+use Rattle.lucy_clock.specs.Factors.{factor_word}
 use Rattle.lucy_clock.specs.declared.side.Side.{Side}
 use Rattle.lucy_clock.specs.declared.side.Draft.{Draft}
 use Rattle.lucy_clock.specs.declared.error.ClockError.{ClockError}
@@ -22,7 +22,7 @@ use Rattle.lucy_clock.specs.declared.error.ClockError.TheVariants as error
 
 -- the term of a side
 abbrev pub side_term : Side → Term
-side_term side = record { clock = side.clock; word = sampling_word side.turned side.word.now }
+side_term side = record { clock = side.clock; word = factor_word side.factor }
 
 -- the need of a draft
 abbrev pub seen : Draft → Need
@@ -44,9 +44,16 @@ pub record IsListedCall (above : List Signature) (n : PlacedNode) (call place : 
   pub few : length n.places + call < 2 ^ 32
   pub listed : IsListedSite above site place
 
+-- what it asks of a buffer
+pub record IsListedBuffer (n : PlacedNode) (buffer : ℕ) : Type 0 where
+  pub counts : 0 < buffer
+  pub there : buffer ≤ length n.bounds
+  pub small : IsBound (bound_of n buffer)
+
 -- what it asks of a place
 abbrev pub IsListedKind : List Signature → PlacedNode → ℕ → PlaceKind → Type 0
 IsListedKind above n p (Merge word a b) = HasZero word
+IsListedKind above n p (Buffer k e) = IsListedBuffer n k
 IsListedKind above n p (Result call j) = j ≡ 0 → IsListedCall above n call p
 IsListedKind above n p kind = Unit {0}
 

@@ -1,7 +1,7 @@
 -- The words that a written node hands down to its places.
-use Rattle.std.specs.Prelude.{ℕ, zero, suc, ◌<◌, ◌≤◌, ◌≡◌, ◌⊎◌, List, Some, length, sum_by}
+use Rattle.std.specs.Prelude.{ℕ, zero, suc, ◌<◌, ◌≤◌, ◌≡◌, ◌⊎◌, List, Some, length}
 use Rattle.std.specs.List.{AllByRecursion}
-use Rattle.lucy_word.specs.Bits.{Bits, bit_count}
+use Rattle.lucy_word.specs.Bits.{Bits}
 use Rattle.lucy_word.specs.Limits.{limit_number}
 use Rattle.lucy_word.specs.declared.limit.Limit.TheVariants as limit
 use Rattle.lucy_word.specs.Shortest.{Same}
@@ -16,6 +16,7 @@ use Rattle.lucy_place.specs.declared.placed.PlacedNode.{PlacedNode}
 use Rattle.lucy_word.specs.Complement.{turned}
 use Rattle.lucy_place.specs.Proper.{at_one, Reads, IsUnnamed}
 use Rattle.lucy_need.specs.Meeting.{Assignment, assigned}
+pub use Rattle.lucy_need.specs.Meeting.{word_bits}
 use Rattle.lucy_clock.specs.declared.error.ClockError.{ClockError}
 use Rattle.lucy_clock.specs.declared.error.ClockError.TheVariants as error
 use Rattle.lucy_clock.specs.Clocks.{call_clock, clocks_of}
@@ -34,14 +35,10 @@ pub record AreHandedDown (n : PlacedNode) (upto : ℕ) (w : Assignment) : Type 0
   pub named : (p : ℕ) (entry : PlaceEntry) (word : Bits) → p ≤ upto → at_one n.places p ≡ Some entry → entry.word ≡ Some word → Same (w p) word
   pub passed : (p k q : ℕ) → q ≤ upto → IsUnnamed n q → (reads : Reads n p k q) → Hands reads.entry.kind k (w p) (w q)
 
--- and those of the calls' bases are the written ones
-abbrev pub AreWrittenBases : PlacedNode → Assignment → Type 0
-AreWrittenBases n w = (call : ℕ) (site : CallSite) (word : Bits) → at_one n.calls call ≡ Some site → site.at ≡ Some word → Same (w (call_clock n call)) word
-
--- the words of all clocks are those that are handed down, or written
+-- the words of all clocks are those that are handed down, and those of the calls' bases the written ones
 pub record AreHandedWords (n : PlacedNode) (w : Assignment) : Type 0 where
   pub places : AreHandedDown n (length n.places) w
-  pub bases : AreWrittenBases n w
+  pub bases : (call : ℕ) (site : CallSite) (word : Bits) → at_one n.calls call ≡ Some site → site.at ≡ Some word → Same (w (call_clock n call)) word
 
 -- with this word of its own a place of the kind hands down a word whose computed length is too long: a merge, to one operand
 -- or the other, be they names with words of their own or not
@@ -58,10 +55,6 @@ pub record IsWordTooLong (n : PlacedNode) : Type 0 where
   pub handed : AreHandedDown n place words
   pub stored : (p : ℕ) → p ≤ place → IsStored (words p)
   pub too_long : HandsTooLong entry.kind (words place)
-
--- how many bits words have
-abbrev pub word_bits : List Bits → ℕ
-word_bits words = sum_by bit_count words
 
 -- the words of a written node, one for each of its clocks and in shortest form
 pub record AreWordsOf (n : PlacedNode) (words : List Bits) : Type 0 where

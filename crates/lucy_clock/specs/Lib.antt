@@ -5,5 +5,6 @@ pub mod Listing
 pub mod HandedDown
 pub mod NodeClocks
 -- Below this line stands what only serves the proofs of the bodies.
+pub mod Factors
 pub mod Drafts
 pub mod Reading

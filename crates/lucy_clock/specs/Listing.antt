@@ -1,5 +1,5 @@
 -- The needs of a node, in order of its places.
-use Rattle.std.specs.Prelude.{ℕ, zero, suc, ◌+◌, ◌<◌, ◌≤◌, ◌≡◌, ◌⊎◌, length, List, [], ◌∷◌, ◌++◌, Option, Some, None, slice_index_or}
+use Rattle.std.specs.Prelude.{ℕ, zero, suc, ◌+◌, ◌<◌, ◌≤◌, ◌≡◌, ◌⊎◌, length, true, false, replicate, List, [], ◌∷◌, ◌++◌, Option, Some, None, slice_index_or}
 use Rattle.lucy_word.specs.Bits.{Bits}
 use Rattle.lucy_word.specs.Limits.{limit_number}
 use Rattle.lucy_word.specs.declared.limit.Limit.TheVariants as limit
@@ -9,7 +9,7 @@ use Rattle.lucy_place.specs.declared.entry.PlaceKind.TheVariants.{Param, Defined
 use Rattle.lucy_place.specs.declared.entry.CallSite.{CallSite}
 use Rattle.lucy_place.specs.declared.placed.PlacedNode.{PlacedNode}
 use Rattle.lucy_word.specs.Complement.{turned}
-use Rattle.lucy_place.specs.Proper.{at_one}
+use Rattle.lucy_place.specs.Proper.{at_one, bound_of}
 use Rattle.lucy_need.specs.declared.need.Need.{Need}
 use Rattle.lucy_need.specs.declared.need.Need.TheVariants.{Equal, Adapt}
 use Rattle.lucy_need.specs.Meeting.{alone, term, all_bits, most_needs}
@@ -55,6 +55,15 @@ abbrev pub operand_needs : ℕ → List ℕ → List Need
 operand_needs place [] = []
 operand_needs place (arg ∷ args) = Equal (alone place) (alone arg) ∷ operand_needs place args
 
+-- 0^n(1): so many zeros, and then ones for ever
+abbrev pub delayed : ℕ → Bits
+delayed zeros = record { prefix = replicate zeros false; period = true ∷ [] }
+
+-- a written bound, where there is one: the reader's clock is adaptable to the writer's on so many zeros and then ones
+abbrev pub bound_needs : ℕ → ℕ → Option ℕ → List Need
+bound_needs place operand None = []
+bound_needs place operand (Some most) = Adapt (alone place) (term operand (delayed most)) ∷ []
+
 -- the needs of what stands at a place
 abbrev pub kind_needs : List Signature → PlacedNode → ℕ → PlaceKind → List Need
 kind_needs above n p Param = []
@@ -65,7 +74,7 @@ kind_needs above n p (Host op a b) = Equal (alone p) (alone a) ∷ Equal (alone 
 kind_needs above n p (When e word) = Equal (alone p) (term e word) ∷ []
 kind_needs above n p (Merge word a b) = Equal (alone a) (term p word) ∷ Equal (alone b) (term p (turned word)) ∷ []
 kind_needs above n p (Fby l e) = Equal (alone p) (alone e) ∷ []
-kind_needs above n p (Buffer k e) = Adapt (alone e) (alone p) ∷ []
+kind_needs above n p (Buffer k e) = Adapt (alone e) (alone p) ∷ bound_needs p e (bound_of n k)
 kind_needs above n p (Result call j) = call_needs above n p call j
 
 -- the needs of a place

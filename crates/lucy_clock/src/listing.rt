@@ -3,12 +3,13 @@ ghost use Rattle.std.specs.Prelude.{ℕ, ◌≡◌, ◌++◌, ◌+◌, ◌≤◌
 ghost use Rattle.lucy_place.specs.Proper.{at_one, IsProperKind, IsProperNode, IsPlace};
 ghost use Rattle.lucy_place.specs.declared.placed.PlacedNode.{PlacedNode as Node};
 ghost use Rattle.lucy_place.specs.declared.entry.PlaceEntry.{PlaceEntry as Entry};
+ghost use Rattle.lucy_place.specs.declared.entry.PlaceKind.TheVariants as kind;
 ghost use Rattle.lucy_word.specs.Always.{always as ticking};
 ghost use Rattle.lucy_clock.specs.Clocks.{AreSignatures, call_clock};
 ghost use Rattle.lucy_clock.specs.Listing.{word_needs, operand_needs, argument_needs, result_needs, call_needs, site_needs, kind_needs, place_needs, needs_of};
-ghost use Rattle.lucy_clock.specs.Drafts.{IsPast, IsListedSite, IsListedCall, IsListedKind, IsListedNode};
+ghost use Rattle.lucy_clock.specs.Drafts.{IsPast, IsListedSite, IsListedCall, IsListedBuffer, IsListedKind, IsListedNode};
 
-use crate::draft::{Drafts, on, on_turned};
+use crate::draft::{Drafts, on, on_delayed, on_turned};
 use crate::error::ClockError;
 use crate::signature::Signature;
 use lucy_place::{CallSite, PlaceEntry, PlaceKind, PlacedNode};
@@ -140,6 +141,27 @@ fn put_call<'p>(
     put_site(drafts, listing, base, place, site)
 }
 
+// Puts the needs of the buffer of a number: that its reader may follow its writer, and that its bound is kept, where one is
+// written.
+fn put_buffer<'p>(
+    drafts: &mut Drafts<'p>,
+    listing: Listing<'p>,
+    place: u32,
+    number: u32,
+    operand: u32,
+) -> Result<(), ClockError>
+    requires { IsListedBuffer listing.node.now number }
+    ensures ok { OnOk result (drafts.new ≡ drafts.old ++ kind_needs listing.entry.above.now listing.entry.node.now place (kind.Buffer number operand)) }
+    ensures refused { IfErr result (IsPast (drafts.old ++ kind_needs listing.entry.above.now listing.entry.node.now place (kind.Buffer number operand))) }
+{
+    let read = on(place, listing.always);
+    drafts.adapt(on(operand, listing.always), read)?;
+    match listing.node.bounds.list()[number as usize - 1] {
+        Some(most) => drafts.adapt(read, on_delayed(operand, most)),
+        None => Ok(()),
+    }
+}
+
 // Puts the needs of what stands at a place.
 fn put_kind<'p>(
     drafts: &mut Drafts<'p>,
@@ -168,7 +190,7 @@ fn put_kind<'p>(
             drafts.equal(on(*zero, always), on_turned(place, word))
         }
         PlaceKind::Fby(_, operand) => drafts.equal(own, on(*operand, always)),
-        PlaceKind::Buffer(_, operand) => drafts.adapt(on(*operand, always), own),
+        PlaceKind::Buffer(number, operand) => put_buffer(drafts, listing, place, *number, *operand),
         PlaceKind::Result(call, number) => put_call(drafts, listing, place, *call, *number),
     }
 }

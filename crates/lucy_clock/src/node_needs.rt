@@ -3,7 +3,6 @@ ghost use Rattle.std.specs.Prelude.{◌≡◌, ◌⊎◌, ◌+◌, ◌<◌, ◌�
 ghost use Rattle.lucy_word.specs.declared.limit.Limit.TheVariants as lim;
 ghost use Rattle.lucy_word.specs.Limits.{limit_number};
 ghost use Rattle.lucy_place.specs.declared.placed.PlacedNode.{PlacedNode as Node};
-ghost use Rattle.lucy_place.specs.Numbering.{sampling_word};
 ghost use Rattle.lucy_need.specs.Meeting.{all_bits, most_needs, AreProperNeeds};
 ghost use Rattle.lucy_clock.specs.declared.error.ClockError.{ClockError as Fault};
 ghost use Rattle.lucy_clock.specs.declared.error.ClockError.TheVariants as err;
@@ -14,8 +13,8 @@ ghost use Rattle.lucy_clock.specs.Drafts.{seen, side_term};
 use crate::error::ClockError;
 use crate::grow::push;
 use crate::listing::{Listing, list_needs};
-use crate::own_words::{copied, turned};
-use crate::side::{Draft, Side};
+use crate::own_words::{copied, delayed, turned};
+use crate::side::{Draft, Factor, Side};
 use crate::signature::Signature;
 use lucy_need::{Need, NeedList, Needs, Term, always};
 use lucy_place::Placed;
@@ -24,13 +23,13 @@ use std::alloc::Global;
 
 // The word of a side, as one of its own.
 fn word(alloc: Global, side: &Side<'_>) -> Result<Word, ClockError>
-    ensures ok { IfOk result (λ w. w ≡ sampling_word side.now.turned side.now.word.now) }
+    ensures ok { IfOk result (λ w. w ≡ (side_term side.now).word) }
     ensures refused { IfErr result (λ e. e ≡ err.OutOfMemory) }
 {
-    if side.turned {
-        turned(alloc, side.word)
-    } else {
-        copied(alloc, side.word)
+    match side.factor {
+        Factor::Lent(word) => copied(alloc, word),
+        Factor::Turned(word) => turned(alloc, word),
+        Factor::Delayed(zeros) => delayed(alloc, zeros),
     }
 }
 

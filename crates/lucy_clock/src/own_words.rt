@@ -1,11 +1,13 @@
 // Words of one's own, of words that are lent.
-ghost use Rattle.std.specs.Prelude.{◌≡◌, IfOk, IfErr};
+ghost use Rattle.std.specs.Prelude.{◌≡◌, ◌≤◌, IfOk, IfErr};
 ghost use Rattle.lucy_word.specs.Stored.{IsStored};
-ghost use Rattle.lucy_tree.specs.Shaped.{HasZero};
+ghost use Rattle.lucy_tree.specs.Shaped.{HasZero, most_bound};
 ghost use Rattle.lucy_word.specs.Complement.{turned};
+ghost use Rattle.lucy_clock.specs.Listing.{delayed};
 ghost use Rattle.lucy_clock.specs.declared.error.ClockError.TheVariants as err;
 
 use crate::error::ClockError;
+use crate::grow::push;
 use lucy_word::{Word, WordError, complement};
 use std::alloc::Global;
 
@@ -28,5 +30,21 @@ pub(crate) fn turned(alloc: Global, word: &Word) -> Result<Word, ClockError>
         Ok(turned) => Ok(turned),
         Err(WordError::OutOfMemory) => Err(ClockError::OutOfMemory),
         Err(_) => unreachable!(),
+    }
+}
+
+/// So many zeros, and then ones for ever.
+pub(crate) fn delayed(alloc: Global, zeros: u64) -> Result<Word, ClockError>
+    requires { zeros ≤ most_bound }
+    ensures ok { IfOk result (λ w. w ≡ delayed zeros) }
+    ensures refused { IfErr result (λ e. e ≡ err.OutOfMemory) }
+{
+    let mut prefix = Vec::new(alloc);
+    'each: for i in 0..zeros {
+        push(&mut prefix, false)?;
+    }
+    match Word::from_bits(alloc, &prefix, &[true]) {
+        Ok(word) => Ok(word),
+        Err(_) => Err(ClockError::OutOfMemory),
     }
 }

@@ -9,7 +9,8 @@ ghost use Rattle.lucy_place.specs.WrittenNodes.{IsWritten};
 ghost use Rattle.lucy_need.specs.Meeting.{assigned};
 ghost use Rattle.lucy_clock.specs.declared.error.ClockError.TheVariants as err;
 ghost use Rattle.lucy_clock.specs.Clocks.{clocks_of};
-ghost use Rattle.lucy_clock.specs.HandedDown.{AreWordsOf, IsWordTooLong, RefusesWords, word_bits};
+ghost use Rattle.lucy_clock.specs.HandedDown.{AreWordsOf, IsWordTooLong, RefusesWords};
+ghost use Rattle.lucy_need.specs.Meeting.{word_bits};
 ghost use Rattle.lucy_clock.specs.Reading.{HaveBases, HasBases};
 
 use crate::error::ClockError;

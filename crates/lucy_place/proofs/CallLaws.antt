@@ -39,7 +39,7 @@ own_sites_are k at r (Host n) args = refl
 own_sites_are k at r (Sampled flip w) args = refl
 own_sites_are k at r (Merged w) args = refl
 own_sites_are k at r (Followed l) args = refl
-own_sites_are k at r Buffered args = refl
+own_sites_are k at r (Buffered most) args = refl
 own_sites_are k at r (Called n base) args = refl
 
 mutual
@@ -75,7 +75,7 @@ reaches_own k at r (Host n) args = record { place = omega arith; buffer = omega 
 reaches_own k at r (Sampled flip w) args = record { place = omega arith; buffer = omega arith; call = omega arith }
 reaches_own k at r (Merged w) args = record { place = omega arith; buffer = omega arith; call = omega arith }
 reaches_own k at r (Followed l) args = record { place = omega arith; buffer = omega arith; call = omega arith }
-reaches_own k at r Buffered args = record { place = omega arith; buffer = omega arith; call = omega arith }
+reaches_own k at r (Buffered most) args = record { place = omega arith; buffer = omega arith; call = omega arith }
 reaches_own k at r (Called n base) args =
     let l = length_results at.call 0 r in
     let b : length (buffer_places at.place (results_from at.call 0 r)) ≡ 0 = ap length (buffers_results at.place at.call 0 r) in

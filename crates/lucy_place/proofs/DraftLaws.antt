@@ -12,7 +12,7 @@ use Rattle.lucy_place.specs.declared.entry.PlaceKind.{PlaceKind}
 use Rattle.lucy_place.specs.declared.entry.PlaceKind.TheVariants as kind
 use Rattle.lucy_place.specs.declared.entry.CallSite.{CallSite}
 use Rattle.lucy_place.specs.Phrases.{Head, Literal, Applied, Host, Sampled, Merged, Followed, Buffered, Called, Phrase, Phrases, name, headed, none, and}
-use Rattle.lucy_place.specs.Numbering.{Next, Known, past, past_all, inside, all_rooms, all_buffers, all_calls, own_rooms, own_buffers, own_calls, own_kind, own_entries, own_sites, entries, all_entries, sites, all_sites, number, numbers, unnamed, results_from}
+use Rattle.lucy_place.specs.Numbering.{Next, Known, past, past_all, inside, all_rooms, bounds, all_bounds, all_calls, own_rooms, own_bounds, own_calls, own_kind, own_entries, own_sites, entries, all_entries, sites, all_sites, number, numbers, unnamed, results_from}
 use Rattle.lucy_place.specs.Drafts.{next_of, IsSmall, Draws, DrawsAll, IsPlain, phrase_operands, buffers_of, kind_of, free_site, site_of}
 
 -- numbers that are the same
@@ -23,20 +23,20 @@ next_same {a = a} {b = b} p q r =
     ∙ ap (λ x. let n : Next = record { place = b.place; buffer = b.buffer; call = x } in n) r
 
 -- the numbers behind operands
-past_all_is : (at : Next) (fs : Phrases) → past_all at fs ≡ record { place = at.place + all_rooms fs; buffer = at.buffer + all_buffers fs; call = at.call + all_calls fs }
+past_all_is : (at : Next) (fs : Phrases) → past_all at fs ≡ record { place = at.place + all_rooms fs; buffer = at.buffer + length (all_bounds fs); call = at.call + all_calls fs }
 past_all_is at none = next_same (omega arith) (omega arith) (omega arith)
-past_all_is at (and f fs) = past_all_is (past at 1 f) fs ∙ next_same (omega arith) (omega arith) (omega arith)
+past_all_is at (and f fs) = past_all_is (past at 1 f) fs ∙ next_same (omega arith) (omega (arith, length-append (bounds f) (all_bounds fs))) (omega arith)
 
 -- the numbers behind a form are those behind its operands
 pub inside_past : (at : Next) (results : ℕ) (h : Head) (span : Span) (fs : Phrases) → past_all (inside at results h) fs ≡ past at results (headed h span fs)
-inside_past at results h span fs = past_all_is (inside at results h) fs ∙ next_same (omega arith) (omega arith) (omega arith)
+inside_past at results h span fs = past_all_is (inside at results h) fs ∙ next_same (omega arith) (omega (arith, length-append (own_bounds h) (all_bounds fs))) (omega arith)
 
 -- numbers before others are small where these are
 pub small_before : (at : Next) (fs : Phrases) → IsSmall (past_all at fs) → IsSmall at
 small_before at fs small =
     let e = past_all_is at fs in
     let p : (past_all at fs).place ≡ at.place + all_rooms fs = ap (λ n. n.place) e in
-    let q : (past_all at fs).buffer ≡ at.buffer + all_buffers fs = ap (λ n. n.buffer) e in
+    let q : (past_all at fs).buffer ≡ at.buffer + length (all_bounds fs) = ap (λ n. n.buffer) e in
     let r : (past_all at fs).call ≡ at.call + all_calls fs = ap (λ n. n.call) e in
     record { place = omega (arith, small.place); buffer = omega (arith, small.buffer); call = omega (arith, small.call) }
 
@@ -87,7 +87,7 @@ module _ (results : ℕ) (span : Span) (fs : Phrases) where
   plain_rooms (Sampled flip w) p = refl
   plain_rooms (Merged w) p = refl
   plain_rooms (Followed l) p = refl
-  plain_rooms Buffered p = refl
+  plain_rooms (Buffered most) p = refl
 
   plain_calls : (h : Head) → IsPlain (headed h span fs) → own_calls h ≡ 0
   plain_calls (Called n base) p = absurd p
@@ -97,7 +97,7 @@ module _ (results : ℕ) (span : Span) (fs : Phrases) where
   plain_calls (Sampled flip w) p = refl
   plain_calls (Merged w) p = refl
   plain_calls (Followed l) p = refl
-  plain_calls Buffered p = refl
+  plain_calls (Buffered most) p = refl
 
   plain_sites : (k : Known) (at : Next) (args : List ℕ) (h : Head) → IsPlain (headed h span fs) → own_sites k at h args ≡ []
   plain_sites k at args (Called n base) p = absurd p
@@ -107,10 +107,10 @@ module _ (results : ℕ) (span : Span) (fs : Phrases) where
   plain_sites k at args (Sampled flip w) p = refl
   plain_sites k at args (Merged w) p = refl
   plain_sites k at args (Followed l) p = refl
-  plain_sites k at args Buffered p = refl
+  plain_sites k at args (Buffered most) p = refl
 
   plain_entries : (k : Known) (at : Next) (b : ℕ) (args : List ℕ) (h : Head) → IsPlain (headed h span fs) → at.buffer ≡ b + 1 →
-      own_entries k at results h args ≡ unnamed (own_kind k (b + own_buffers h) h args) ∷ []
+      own_entries k at results h args ≡ unnamed (own_kind k (b + length (own_bounds h)) h args) ∷ []
   plain_entries k at b args (Called n base) p e = absurd p
   plain_entries k at b args (Literal l) p e = refl
   plain_entries k at b args (Applied o) p e = refl
@@ -118,7 +118,7 @@ module _ (results : ℕ) (span : Span) (fs : Phrases) where
   plain_entries k at b args (Sampled flip w) p e = refl
   plain_entries k at b args (Merged w) p e = refl
   plain_entries k at b args (Followed l) p e = refl
-  plain_entries k at b args Buffered p e = ap (λ n. unnamed (own_kind k n Buffered args) ∷ []) e
+  plain_entries k at b args (Buffered most) p e = ap (λ n. unnamed (own_kind k n (Buffered most) args) ∷ []) e
 
   -- it is drawn alike for any number of results
   pub any_results : (k : Known) (h : Head) (d e : Draft) → IsPlain (headed h span fs) → Draws k 1 (headed h span fs) d e → Draws k results (headed h span fs) d e
@@ -129,7 +129,7 @@ module _ (results : ℕ) (span : Span) (fs : Phrases) where
   any_results k (Sampled flip w) d e p draws = draws
   any_results k (Merged w) d e p draws = draws
   any_results k (Followed l) d e p draws = draws
-  any_results k Buffered d e p draws = draws
+  any_results k (Buffered most) d e p draws = draws
 
   pub any_small : (at : Next) (h : Head) → IsPlain (headed h span fs) → IsSmall (past at results (headed h span fs)) → IsSmall (past at 1 (headed h span fs))
   any_small at (Called n base) p s = absurd p
@@ -139,11 +139,11 @@ module _ (results : ℕ) (span : Span) (fs : Phrases) where
   any_small at (Sampled flip w) p s = s
   any_small at (Merged w) p s = s
   any_small at (Followed l) p s = s
-  any_small at Buffered p s = s
+  any_small at (Buffered most) p s = s
 
 -- a form is drawn by keeping its place free, drawing its operands, and settling its place
 module _ (k : Known) (h : Head) (span : Span) (fs : Phrases) (plain : IsPlain (headed h span fs)) (d0 d1 : Draft)
-    (places : d1.places.items ≡ d0.places.items ++ unnamed kind.Param ∷ []) (calls_1 : d1.calls ≡ d0.calls) (buffers_1 : d1.buffers ≡ d0.buffers + own_buffers h) where
+    (places : d1.places.items ≡ d0.places.items ++ unnamed kind.Param ∷ []) (calls_1 : d1.calls ≡ d0.calls) (buffers_1 : d1.buffers ≡ d0.buffers + length (own_bounds h)) where
   pub next_inside : next_of k d1 ≡ inside (next_of k d0) 1 h
   next_inside =
       let l : length d1.places.items ≡ length d0.places.items + 1 = ap length places ∙ length-append d0.places.items (unnamed kind.Param ∷ []) in
@@ -158,7 +158,7 @@ module _ (k : Known) (h : Head) (span : Span) (fs : Phrases) (plain : IsPlain (h
       let at : Next = next_of k d0 in
       let in_ : Next = inside at 1 h in
       let args : List ℕ = numbers k in_ fs in
-      let what_is : what ≡ own_kind k (d0.buffers + own_buffers h) h args =
+      let what_is : what ≡ own_kind k (d0.buffers + length (own_bounds h)) h args =
       is_what ∙ ap (λ u. own_kind k d1.buffers h (numbers k u fs)) next_inside ∙ ap (λ b. own_kind k b h args) buffers_1 in
       let before : d2.places.items ≡ (d0.places.items ++ unnamed kind.Param ∷ []) ++ all_entries k in_ fs =
       drawn.places ∙ ap (λ l. l ++ all_entries k (next_of k d1) fs) places ∙ ap (λ u. (d0.places.items ++ unnamed kind.Param ∷ []) ++ all_entries k u fs) next_inside in

@@ -11,6 +11,7 @@ mod Rows
 pub mod WrittenLaws
 mod EachLaws
 mod Spread
+mod BoundLaws
 mod CallLaws
 mod ShapeLaws
 mod Good

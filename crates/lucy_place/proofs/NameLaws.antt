@@ -62,7 +62,7 @@ own_nameless k at r (Host t) args = (refl, tt)
 own_nameless k at r (Sampled flip w) args = (refl, tt)
 own_nameless k at r (Merged w) args = (refl, tt)
 own_nameless k at r (Followed l) args = (refl, tt)
-own_nameless k at r Buffered args = (refl, tt)
+own_nameless k at r (Buffered most) args = (refl, tt)
 own_nameless k at r (Called t base) args = results_nameless at.call 0 r
 
 mutual

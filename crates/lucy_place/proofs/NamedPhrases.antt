@@ -37,7 +37,7 @@ module _ (n : PlacedNode) where
   own_unnamed k at (Sampled flip p) args s named = not_named n at.place _ s.0 named
   own_unnamed k at (Merged p) args s named = not_named n at.place _ s.0 named
   own_unnamed k at (Followed l) args s named = not_named n at.place _ s.0 named
-  own_unnamed k at Buffered args s named = not_named n at.place _ s.0 named
+  own_unnamed k at (Buffered most) args s named = not_named n at.place _ s.0 named
   own_unnamed k at (Called f base) args s named = not_named n at.place _ s.0 named
 
 module _ (w : Within) (above : List PlacedNode) (n : PlacedNode) (cs : List Call) (set : Setting w above n cs) (is : IsWritten n) where
@@ -66,8 +66,8 @@ module _ (w : Within) (above : List PlacedNode) (n : PlacedNode) (cs : List Call
       unnamed_ (only_named n args takes.0 (is.sampled at.place (slice_index_or args 0 0) (sampling_word flip p) (unnamed (kind.When (slice_index_or args 0 0) (sampling_word flip p)), lies.places.0, refl)))
   own_none at r (Merged p) args fs takes unnamed lies = refl
   own_none at r (Followed l) args fs takes unnamed lies = refl
-  own_none at r Buffered args fs takes unnamed_ lies =
-      unnamed_ (only_named n args takes (is.buffered at.place at.buffer (slice_index_or args 0 0) (unnamed (kind.Buffer at.buffer (slice_index_or args 0 0)), lies.places.0, refl)))
+  own_none at r (Buffered most) args fs takes unnamed_ lies =
+      unnamed_ (only_named n args takes.0 (is.buffered at.place at.buffer (slice_index_or args 0 0) (unnamed (kind.Buffer at.buffer (slice_index_or args 0 0)), lies.places.0, refl)))
   own_none at r (Called f base) args fs takes unnamed_ lies =
       let g = ap (λ l. at_one l at.call) set.calls ∙ site_at cs at.call _ lies.calls.0 in
       let word = is.bases at.call _ g in

@@ -85,7 +85,7 @@ module _ (sc : Within) where
   own_below at r (Sampled flip p) args m clean = (tt, tt)
   own_below at r (Merged p) args m clean = (tt, tt)
   own_below at r (Followed l) args m clean = (tt, tt)
-  own_below at r Buffered args m clean = (tt, tt)
+  own_below at r (Buffered _) args m clean = (tt, tt)
   own_below at r (Called t base) args m clean = results_below most at.call 0 r
 
   mutual

@@ -111,10 +111,10 @@ module _ (w : Within) (above : List PlacedNode) (n : PlacedNode) (cs : List Call
     first = is_place n at.place _ lies.places.0;
     good = record { places = (record { label = (refl, refl, refl); kind = (low, first_place n args (omega (arith, takes)) places); result = tt }, tt); buffers = tt; calls = tt };
   }
-  own_good at r Buffered args some low takes places none lies = record {
+  own_good at r (Buffered most) args some low takes places none lies = record {
     first = is_place n at.place _ lies.places.0;
     good = record {
-      places = (record { label = (refl, refl, refl); kind = (low, lies.buffers.0, first_place n args (omega (arith, takes)) places); result = tt }, tt);
+      places = (record { label = (refl, refl, refl); kind = (low, lies.buffers.0, first_place n args (omega (arith, takes.0)) places); result = tt }, tt);
       buffers = ((slice_index_or args 0 0, (unnamed (kind.Buffer at.buffer (slice_index_or args 0 0)), lies.places.0, refl)), tt);
       calls = tt;
     };

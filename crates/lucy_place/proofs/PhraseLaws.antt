@@ -1,5 +1,5 @@
 -- The forms of single expressions.
-use Rattle.std.proofs.Common.{◌≡◌, Bool, Box, Global, Option, ap, sym, ◌∙◌, subst}
+use Rattle.std.proofs.Common.{◌≡◌, ℕ, Bool, Box, Global, Option, ap, sym, ◌∙◌, subst}
 use Rattle.lucy_word.specs.Bits.{Bits}
 use Rattle.lucy_host.specs.declared.op.Op as ops
 use Rattle.lucy_tree.specs.declared.span.Span.{Span}
@@ -31,8 +31,8 @@ phrase_merged w a b s = ap phrase_of (tree_merged w a b s)
 pub phrase_followed : (l : lits.Lit) (e : Box Expr Global) (s : Span) → expr_phrase (Fby l e s) ≡ headed (phrases.Followed l) s (and (expr_phrase e.value) none)
 phrase_followed l e s = ap phrase_of (tree_followed l e s)
 
-pub phrase_buffered : (e : Box Expr Global) (s : Span) → expr_phrase (Buffer e s) ≡ headed phrases.Buffered s (and (expr_phrase e.value) none)
-phrase_buffered e s = ap phrase_of (tree_buffered e s)
+pub phrase_buffered : (most : Option ℕ) (e : Box Expr Global) (s : Span) → expr_phrase (Buffer most e s) ≡ headed (phrases.Buffered most) s (and (expr_phrase e.value) none)
+phrase_buffered most e s = ap phrase_of (tree_buffered most e s)
 
 pub phrase_called : (n : Name) (at : Option Bits) (args : Exprs) → expr_phrase (Call n at args) ≡ headed (phrases.Called n at) n.span (expr_phrases (expr_list args))
 phrase_called n at args = ap phrase_of (tree_called n at args)
@@ -52,7 +52,7 @@ plain_open (open_.Host n args) is no_name no_call = subst IsPlain (sym (ap expr_
 plain_open (open_.When flip inner w) is no_name no_call = subst IsPlain (sym (ap expr_phrase (sym is ∙ rolls-When flip inner w) ∙ phrase_sampled flip inner w)) tt
 plain_open (open_.Merge w a b s) is no_name no_call = subst IsPlain (sym (ap expr_phrase (sym is ∙ rolls-Merge w a b s) ∙ phrase_merged w a b s)) tt
 plain_open (open_.Fby l inner s) is no_name no_call = subst IsPlain (sym (ap expr_phrase (sym is ∙ rolls-Fby l inner s) ∙ phrase_followed l inner s)) tt
-plain_open (open_.Buffer inner s) is no_name no_call = subst IsPlain (sym (ap expr_phrase (sym is ∙ rolls-Buffer inner s) ∙ phrase_buffered inner s)) tt
+plain_open (open_.Buffer most inner s) is no_name no_call = subst IsPlain (sym (ap expr_phrase (sym is ∙ rolls-Buffer most inner s) ∙ phrase_buffered most inner s)) tt
 plain_open (open_.Call n at args) is no_name no_call = absurd (no_call n at args (sym is ∙ rolls-Call n at args))
 
 pub plain_else : (e : Expr) → ((n : Name) → e ≡ Var n → ⊥) → ((n : Name) (at : Option Bits) (args : Exprs) → e ≡ Call n at args → ⊥) → IsPlain (expr_phrase e)

@@ -15,10 +15,11 @@ use Rattle.lucy_place.specs.Texts.{is_in}
 use Rattle.lucy_place.specs.Streams.{text_of, streams, declared, def_names}
 use Rattle.lucy_place.specs.Faults.{Within, most_places, result_fault, result_faults, node_faults}
 use Rattle.lucy_place.specs.Numbering.{Next, Known, stream_place}
-use Rattle.lucy_place.specs.Nodes.{declared_entry, defined, rights, first_next, known_in, placed_node}
+use Rattle.lucy_place.specs.Nodes.{declared_entry, past_defs, defined, rights, first_next, known_in, placed_node}
 use Rattle.lucy_place.specs.Proper.{at_one, Stands, ArePlaces, IsNamed, AreNamed, IsProperCall, IsProperNode}
 use Rattle.lucy_place.proofs.EachLaws.{Each, each_one}
-use Rattle.lucy_place.proofs.Spread.{Call}
+use Rattle.lucy_place.proofs.Spread.{Call, Reaches, reaches_join}
+use Rattle.lucy_place.proofs.BoundLaws.{past_bounds, defs_small}
 use Rattle.lucy_place.proofs.CallLaws.{site, def_made, def_sites_are, reaches_defs}
 use Rattle.lucy_place.proofs.RoomLaws.{length_node, past_few}
 use Rattle.lucy_place.proofs.VerdictLaws.{none_front, none_back}
@@ -138,6 +139,15 @@ module _ (ops : List Operator) (all above : ProgramTree) (t : NodeTree) (placed 
       let rooms = rooms_few ops all above t none in
       omega arith
 
+  reach_all : Reaches start (past_defs (first_next t) t.defs) (ps ++ (ds ++ rs)) cs
+  reach_all =
+      let end : Next = past_defs (first_next t) t.defs in
+      reaches_join start behind_params end ps (ds ++ rs) [] cs (reach_params ops all above t)
+      (reaches_join behind_params (first_next t) end ds rs [] cs (reach_defined ops all above t) (reaches_defs k (first_next t) t.defs))
+
+  bounds_count : length n.bounds ≡ length n.buffers
+  bounds_count = (let b = past_bounds (first_next t) t.defs in let r = reach_all.buffer in omega arith)
+
   pub node_proper : IsProperNode placed n
   node_proper =
       let rooms = length_node k t in
@@ -151,6 +161,8 @@ module _ (ops : List Operator) (all above : ProgramTree) (t : NodeTree) (placed 
         kinds = λ p e g. (place_good p e g).kind;
         calls = call_proper;
         in_order = refl;
+        bounds = bounds_count;
+        small = defs_small t.defs shape;
         buffers = λ b p g. each_one (GoodBuffer n) n.buffers b p g good.buffers;
         results = are_places n n.results named;
         named = named;

@@ -88,7 +88,7 @@ module _ (w : Within) (above : List PlacedNode) (n : PlacedNode) (cs : List Call
   call_numbers at r (sampled flip e p) c lies j h = absurd c
   call_numbers at r (merged p a b span) c lies j h = absurd c
   call_numbers at r (followed l e span) c lies j h = absurd c
-  call_numbers at r (buffered e span) c lies j h = absurd c
+  call_numbers at r (buffered most e span) c lies j h = absurd c
   call_numbers at r (call t base args) c lies j h =
       let in_ : Next = inside at r (Called t base) in
       let own = each_front (λ p e. at_one n.places p ≡ Some e) at.place (results_from at.call 0 r) (all_entries k in_ (phrases_of args)) lies.places in

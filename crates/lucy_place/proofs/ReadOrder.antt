@@ -98,7 +98,7 @@ module _ (sc : Scope) (m : PlacedNode) (calls_of : List Call) (calls : m.calls �
   )
   own_ahead at r (Followed l) args some takes clean lies behind =
       (ahead_one at.place (slice_index_or args 0 0) (λ l. let b = behind 0 (slice_index_or args 0 0) (zero_arg args (omega (arith, takes))) l in omega arith), tt)
-  own_ahead at r Buffered args some takes clean lies behind =
+  own_ahead at r (Buffered most) args some takes clean lies behind =
       (ahead_one at.place (slice_index_or args 0 0) (λ l. let b = behind 0 (slice_index_or args 0 0) (zero_arg args (omega (arith, takes))) l in omega arith), tt)
   own_ahead at zero (Called t base) args some takes clean lies behind = absurd (omega arith)
   own_ahead at (suc r) (Called t base) args some takes clean lies behind =

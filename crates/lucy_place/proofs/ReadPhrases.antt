@@ -41,7 +41,7 @@ own_one (Host t) = refl
 own_one (Sampled flip p) = refl
 own_one (Merged p) = refl
 own_one (Followed l) = refl
-own_one Buffered = refl
+own_one (Buffered most) = refl
 own_one (Called t base) = refl
 
 one_arg : (args : List ℕ) (q : ℕ) → length args ≡ 1 → times q (slice_index_or args 0 0 ∷ []) ≡ times q args
@@ -83,7 +83,7 @@ module _ (w : Scope) (n : PlacedNode) (cs : List Call) (calls : n.calls ≡ map 
   own_count at r (Sampled flip p) args some takes clean lies = omega (arith, one_arg args q takes.0)
   own_count at r (Merged p) args some takes clean lies = omega (arith, two_args args q takes.0)
   own_count at r (Followed l) args some takes clean lies = omega (arith, one_arg args q takes)
-  own_count at r Buffered args some takes clean lies = omega (arith, one_arg args q takes)
+  own_count at r (Buffered most) args some takes clean lies = omega (arith, one_arg args q takes.0)
   own_count at zero (Called t base) args some takes clean lies = absurd (omega arith)
   own_count at (suc r) (Called t base) args some takes clean lies =
       let x : Call = record { site = record { node = place_in (node_names w.above) t.text; at = base; first = at.place; args = args }; results = suc r } in
@@ -180,7 +180,7 @@ module _ (w : Scope) (n : PlacedNode) (cs : List Call) (calls : n.calls ≡ map 
   fits_of (a ∷ b ∷ left) (sampled flip e p) d = d
   fits_of (a ∷ b ∷ left) (merged p x y span) d = d
   fits_of (a ∷ b ∷ left) (followed l e span) d = d
-  fits_of (a ∷ b ∷ left) (buffered e span) d = d
+  fits_of (a ∷ b ∷ left) (buffered most e span) d = d
   fits_of (a ∷ b ∷ left) (call x base args) d = tt
 
   defs_behind : (at : Next) (ds : List DefTree) → at.place ≤ (past_defs at ds).place

@@ -12,34 +12,34 @@ use Rattle.lucy_tree.specs.View.{DefTree, NodeTree, def_tree}
 use Rattle.lucy_place.specs.Streams.{declared, def_names, wanted}
 use Rattle.lucy_place.specs.Phrases.{Head, Literal, Applied, Host, Sampled, Merged, Followed, Buffered, Called, Phrase, Phrases, name, headed, none, and, phrase_of}
 use Rattle.lucy_place.specs.Faults.{most_places}
-use Rattle.lucy_place.specs.Numbering.{Next, Known, past, inside, number, numbers, entries, all_entries, own_entries, rooms, all_rooms, buffers, all_buffers, calls, all_calls, own_rooms, own_buffers, own_calls, def_rooms, node_rooms}
+use Rattle.lucy_place.specs.Numbering.{Next, Known, past, inside, number, numbers, entries, all_entries, own_entries, rooms, all_rooms, bounds, all_bounds, calls, all_calls, own_rooms, own_bounds, own_calls, def_rooms, node_rooms}
 use Rattle.lucy_place.specs.Nodes.{past_def, past_defs, first_next, declared_entry, left_entries, defined, rights, node_entries}
 use Rattle.lucy_place.specs.Drafts.{IsSmall}
 
-own_few : (r : ℕ) (h : Head) → 1 ≤ r → (own_buffers h ≤ own_rooms r h) × (own_calls h ≤ own_rooms r h)
+own_few : (r : ℕ) (h : Head) → 1 ≤ r → (length (own_bounds h) ≤ own_rooms r h) × (own_calls h ≤ own_rooms r h)
 own_few r (Literal l) some = (omega arith, omega arith)
 own_few r (Applied o) some = (omega arith, omega arith)
 own_few r (Host n) some = (omega arith, omega arith)
 own_few r (Sampled flip w) some = (omega arith, omega arith)
 own_few r (Merged w) some = (omega arith, omega arith)
 own_few r (Followed l) some = (omega arith, omega arith)
-own_few r Buffered some = (omega arith, omega arith)
+own_few r (Buffered most) some = (omega arith, omega arith)
 own_few r (Called n base) some = (omega arith, omega arith)
 
 mutual
-  few : (r : ℕ) (f : Phrase) → 1 ≤ r → (buffers f ≤ rooms r f) × (calls f ≤ rooms r f)
+  few : (r : ℕ) (f : Phrase) → 1 ≤ r → (length (bounds f) ≤ rooms r f) × (calls f ≤ rooms r f)
   few r (name n) some = (omega arith, omega arith)
   few r (headed h span fs) some =
       let own = own_few r h some in
       let more = all_few fs in
-      (omega (arith, own.0, more.0), omega (arith, own.1, more.1))
+      (omega (arith, own.0, more.0, length-append (own_bounds h) (all_bounds fs)), omega (arith, own.1, more.1))
 
-  all_few : (fs : Phrases) → (all_buffers fs ≤ all_rooms fs) × (all_calls fs ≤ all_rooms fs)
+  all_few : (fs : Phrases) → (length (all_bounds fs) ≤ all_rooms fs) × (all_calls fs ≤ all_rooms fs)
   all_few none = (omega arith, omega arith)
   all_few (and f fs) =
       let first = few 1 f (omega arith) in
       let more = all_few fs in
-      (omega (arith, first.0, more.0), omega (arith, first.1, more.1))
+      (omega (arith, first.0, more.0, length-append (bounds f) (all_bounds fs)), omega (arith, first.1, more.1))
 
 pub wanted_some : (ds : List Decl) → 1 ≤ wanted ds
 wanted_some [] = omega arith
@@ -71,7 +71,7 @@ length_own k at r (Host n) args = refl
 length_own k at r (Sampled flip w) args = refl
 length_own k at r (Merged w) args = refl
 length_own k at r (Followed l) args = refl
-length_own k at r Buffered args = refl
+length_own k at r (Buffered most) args = refl
 length_own k at r (Called n base) args = length_results at.call 0 r
 
 mutual

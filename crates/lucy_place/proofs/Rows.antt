@@ -67,13 +67,13 @@ sum_unwritten : first_unwritten sum ≡ Some (at 13)
 unfolding sum
 sum_unwritten = refl
 
--- let node lag x = y where rec y = x + buffer (x whenot (10))
+-- let node lag x = y where rec y = x + buffer 3 (x whenot (10))
 lag : NodeTree
 lag = record {
   name = nm (codes "lag") 9;
   params = bare (nm (codes "x") 13) ∷ [];
   results = nm (codes "y") 17 ∷ [];
-  defs = record { left = bare (nm (codes "y") 29) ∷ []; right = operator op.Add (two (variable (nm (codes "x") 33)) (buffered (sampled true (variable (nm (codes "x") 45)) half) (at 37))) (at 35) } ∷ [];
+  defs = record { left = bare (nm (codes "y") 29) ∷ []; right = operator op.Add (two (variable (nm (codes "x") 33)) (buffered (Some 3) (sampled true (variable (nm (codes "x") 45)) half) (at 37))) (at 35) } ∷ [];
 }
 
 lag_places : kinds (placed_node [] [] lag).places ≡ kind.Param ∷ kind.Defined 3 ∷ kind.Op op.Add (1 ∷ 4 ∷ []) ∷ kind.Buffer 1 5 ∷ kind.When 1 other_half ∷ []
@@ -83,6 +83,27 @@ lag_places = refl
 lag_buffers : (placed_node [] [] lag).buffers ≡ 4 ∷ []
 unfolding lag
 lag_buffers = refl
+
+lag_bounds : (placed_node [] [] lag).bounds ≡ Some 3 ∷ []
+unfolding lag
+lag_bounds = refl
+
+-- let node twin x = y where rec y = buffer 3 (buffer x): the outer buffer is the first
+twin : NodeTree
+twin = record {
+  name = nm (codes "twin") 9;
+  params = bare (nm (codes "x") 14) ∷ [];
+  results = nm (codes "y") 18 ∷ [];
+  defs = record { left = bare (nm (codes "y") 30) ∷ []; right = buffered (Some 3) (buffered None (variable (nm (codes "x") 51)) (at 44)) (at 34) } ∷ [];
+}
+
+twin_buffers : (placed_node [] [] twin).buffers ≡ 3 ∷ 4 ∷ []
+unfolding twin
+twin_buffers = refl
+
+twin_bounds : (placed_node [] [] twin).bounds ≡ Some 3 ∷ None ∷ []
+unfolding twin
+twin_bounds = refl
 
 -- let node both z = (p, q) where rec (p, q) = pair at (10) (sum (z), 1) and the like
 pair : NodeTree

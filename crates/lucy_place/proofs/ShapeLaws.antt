@@ -7,11 +7,11 @@ use Rattle.lucy_tree.specs.declared.expr.Expr.{Expr}
 use Rattle.lucy_tree.specs.declared.program.Def.{Def}
 use Rattle.lucy_tree.specs.declared.program.Node.{Node}
 use Rattle.lucy_tree.specs.View.{tree_of, def_tree, node_tree}
-use Rattle.lucy_tree.specs.Shaped.{HasZero, IsShaped, AreShaped, IsShapedDef, IsShapedNode}
+use Rattle.lucy_tree.specs.Shaped.{HasZero, IsBound, IsShaped, AreShaped, IsShapedDef, IsShapedNode}
 use Rattle.lucy_place.specs.Phrases.{Head, Literal, Applied, Host, Sampled, Merged, Followed, Buffered, Called, Phrase, Phrases, name, headed, none, and, phrase_of, phrases_of, count}
 use Rattle.lucy_place.specs.Numbering.{Next, Known, past, numbers}
 
--- a head takes so many operands; the word of `whenot` and of `merge` has a zero
+-- a head takes so many operands; the word of `whenot` and of `merge` has a zero, and a written bound is small
 abbrev pub Takes : Head → ℕ → Type 0
 Takes (Literal l) n = n ≡ 0
 Takes (Applied op) n = n ≡ arity op
@@ -19,7 +19,7 @@ Takes (Host function) n = n ≡ 2
 Takes (Sampled flip w) n = (n ≡ 1) × (flip ≡ true → HasZero w)
 Takes (Merged w) n = (n ≡ 2) × HasZero w
 Takes (Followed l) n = n ≡ 1
-Takes Buffered n = n ≡ 1
+Takes (Buffered most) n = (n ≡ 1) × IsBound most
 Takes (Called node base) n = Unit {0}
 
 abbrev mutual
@@ -44,7 +44,7 @@ mutual
   has_shape (sampled flip e w) s = ((refl, s.0), (has_shape e s.1, tt))
   has_shape (merged w a b span) s = ((refl, s.0), (has_shape a s.1, (has_shape b s.2, tt)))
   has_shape (followed l e span) s = (refl, (has_shape e s, tt))
-  has_shape (buffered e span) s = (refl, (has_shape e s, tt))
+  has_shape (buffered most e span) s = ((refl, s.0), (has_shape e s.1, tt))
   has_shape (call n at args) s = (tt, have_shape args s)
 
   pub have_shape : (ts : Trees) → AreShaped ts → HaveShape (phrases_of ts)

@@ -1,5 +1,5 @@
 -- The trees of single expressions.
-use Rattle.std.proofs.Common.{◌≡◌, Bool, Box, Global, Option, map, ap, sym, ◌∙◌, rules}
+use Rattle.std.proofs.Common.{◌≡◌, ℕ, Bool, Box, Global, Option, map, ap, sym, ◌∙◌, rules}
 use Rattle.lucy_word.specs.Bits.{Bits}
 use Rattle.lucy_host.specs.declared.op.Op as ops
 use Rattle.lucy_tree.specs.declared.span.Span.{Span}
@@ -28,8 +28,8 @@ tree_merged w a b s = ap tree_of (sym (rolls-Merge w a b s)) ∙ fold-roll-Expr 
 pub tree_followed : (l : lits.Lit) (e : Box Expr Global) (s : Span) → tree_of (Fby l e s) ≡ followed l (tree_of e.value) s
 tree_followed l e s = ap tree_of (sym (rolls-Fby l e s)) ∙ fold-roll-Expr Tree Trees tree_step trees_step (open_.Fby l e s)
 
-pub tree_buffered : (e : Box Expr Global) (s : Span) → tree_of (Buffer e s) ≡ buffered (tree_of e.value) s
-tree_buffered e s = ap tree_of (sym (rolls-Buffer e s)) ∙ fold-roll-Expr Tree Trees tree_step trees_step (open_.Buffer e s)
+pub tree_buffered : (most : Option ℕ) (e : Box Expr Global) (s : Span) → tree_of (Buffer most e s) ≡ buffered most (tree_of e.value) s
+tree_buffered most e s = ap tree_of (sym (rolls-Buffer most e s)) ∙ fold-roll-Expr Tree Trees tree_step trees_step (open_.Buffer most e s)
 
 pub tree_called : (n : Name) (at : Option Bits) (args : Exprs) → tree_of (Call n at args) ≡ call n at (trees_of (map tree_of (expr_list args)))
 tree_called n at args = search (rules, the_lemmas)

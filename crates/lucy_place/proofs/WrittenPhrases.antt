@@ -101,7 +101,7 @@ module _ (w : Within) (n : PlacedNode) (known : (t : List ℕ) → is_in w.strea
   own_written at r (Sampled flip p) args fs takes named h = record { places = (record { word = λ name g. cc; operand = first_named n args takes.0 (named h) }, tt); buffers = tt; calls = tt }
   own_written at r (Merged p) args fs takes named h = record { places = (record { word = λ name g. cc; operand = tt }, tt); buffers = tt; calls = tt }
   own_written at r (Followed l) args fs takes named h = record { places = (record { word = λ name g. cc; operand = tt }, tt); buffers = tt; calls = tt }
-  own_written at r Buffered args fs takes named h = record { places = (record { word = λ name g. cc; operand = first_named n args takes (named h) }, tt); buffers = (tt, tt); calls = tt }
+  own_written at r (Buffered most) args fs takes named h = record { places = (record { word = λ name g. cc; operand = first_named n args takes.0 (named h) }, tt); buffers = (tt, tt); calls = tt }
   own_written at r (Called f base) args fs takes named h = record {
     places = results_written n at.place at.call 0 r;
     buffers = any_buffers at.buffer _;

@@ -10,7 +10,7 @@ use Rattle.lucy_place.specs.declared.entry.CallSite.{CallSite}
 use Rattle.lucy_place.specs.Texts.{place_in}
 use Rattle.lucy_place.specs.Phrases.{Called, Phrase, Phrases, name, headed, none}
 use Rattle.lucy_place.specs.Faults.{most_places}
-use Rattle.lucy_place.specs.Numbering.{Next, Known, past, past_all, entries, all_entries, sites, all_sites, own_kind, own_buffers}
+use Rattle.lucy_place.specs.Numbering.{Next, Known, past, past_all, entries, all_entries, sites, all_sites, own_kind, own_bounds}
 
 -- the numbers that come next in a draft
 abbrev pub next_of : Known → Draft → Next
@@ -54,7 +54,7 @@ phrase_operands (headed h span fs) = fs
 -- whether a form is a buffer, as a number
 abbrev pub buffers_of : Phrase → ℕ
 buffers_of (name n) = 0
-buffers_of (headed h span fs) = own_buffers h
+buffers_of (headed h span fs) = length (own_bounds h)
 
 -- what stands at the place of a form, with its number as a buffer and the places of its operands
 abbrev pub kind_of : Known → ℕ → Phrase → List ℕ → PlaceKind

@@ -66,6 +66,7 @@ def_faults w (d ∷ ds) = phrase_faults w (wanted d.left) (phrase_of d.right) ++
 abbrev pub result_fault : List (List ℕ) → List (List ℕ) → names.Name → List NameError
 result_fault streams before n = if is_in streams n.text then repeat before n else NoResult n.span ∷ []
 
+-- the results of a node, each with those before it
 abbrev pub result_faults : List (List ℕ) → List (List ℕ) → List names.Name → List NameError
 result_faults streams before [] = []
 result_faults streams before (n ∷ ns) = result_fault streams before n ++ result_faults streams (before ++ n.text ∷ []) ns

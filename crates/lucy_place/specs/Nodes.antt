@@ -1,5 +1,6 @@
 -- The places of a node, and of a program.
-use Rattle.std.specs.Prelude.{ℕ, ◌+◌, List, [], ◌∷◌, ◌++◌, Some, length, map}
+use Rattle.std.specs.Prelude.{ℕ, ◌+◌, List, [], ◌∷◌, ◌++◌, Option, Some, length, map}
+use Rattle.std.specs.List.{flat_map}
 use Rattle.lucy_host.specs.Operators.{Operator}
 use Rattle.lucy_tree.specs.declared.decl.Decl.{Decl}
 use Rattle.lucy_tree.specs.View.{DefTree, NodeTree, ProgramTree}
@@ -10,7 +11,7 @@ use Rattle.lucy_place.specs.declared.entry.CallSite.{CallSite}
 use Rattle.lucy_place.specs.declared.placed.PlacedNode.{PlacedNode}
 use Rattle.lucy_place.specs.Phrases.{phrase_of}
 use Rattle.lucy_place.specs.Streams.{text_of, streams, node_names, wanted}
-use Rattle.lucy_place.specs.Numbering.{Next, Known, past, number, entries, sites, stream_place}
+use Rattle.lucy_place.specs.Numbering.{Next, Known, past, number, entries, sites, bounds, stream_place}
 
 -- the place of a name that is declared
 abbrev pub declared_entry : PlaceKind → Decl → PlaceEntry
@@ -45,6 +46,10 @@ abbrev pub def_sites : Known → Next → List DefTree → List CallSite
 def_sites k at [] = []
 def_sites k at (d ∷ ds) = sites k at (wanted d.left) (phrase_of d.right) ++ def_sites k (past_def at d) ds
 
+-- the bounds of the buffers of right sides, one for each, where they are written
+abbrev pub def_bounds : List DefTree → List (Option ℕ)
+def_bounds ds = flat_map (λ d. bounds (phrase_of d.right)) ds
+
 -- the number of a place, where a buffer stands there
 abbrev pub buffer_at : ℕ → PlaceKind → List ℕ
 buffer_at place (Buffer n e) = place ∷ []
@@ -75,6 +80,7 @@ placed_node operators above n = record {
   places = node_entries (known_in operators above n) n;
   results = map (λ r. stream_place (known_in operators above n) r.text) n.results;
   buffers = buffer_places 1 (node_entries (known_in operators above n) n);
+  bounds = def_bounds n.defs;
   calls = def_sites (known_in operators above n) (first_next n) n.defs;
 }
 

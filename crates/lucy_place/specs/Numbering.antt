@@ -1,5 +1,5 @@
 -- The numbers of places, and what stands at each.
-use Rattle.std.specs.Prelude.{ℕ, suc, zero, ◌+◌, Bool, true, false, List, [], ◌∷◌, ◌++◌, None, length, slice_index_or}
+use Rattle.std.specs.Prelude.{ℕ, suc, zero, ◌+◌, Bool, true, false, List, [], ◌∷◌, ◌++◌, Option, None, length, slice_index_or}
 use Rattle.std.specs.Option.{unwrap_or}
 use Rattle.lucy_word.specs.Bits.{Bits}
 use Rattle.lucy_word.specs.Complement.{turned}
@@ -18,15 +18,16 @@ abbrev pub own_rooms : ℕ → Head → ℕ
 own_rooms results (Called n at) = results
 own_rooms results h = 1
 
-abbrev pub own_buffers : Head → ℕ
-own_buffers Buffered = 1
-own_buffers h = 0
+-- the buffer that a form is, if it is one: its bound, where one is written
+abbrev pub own_bounds : Head → List (Option ℕ)
+own_bounds (Buffered most) = most ∷ []
+own_bounds h = []
 
 abbrev pub own_calls : Head → ℕ
 own_calls (Called n at) = 1
 own_calls h = 0
 
--- how many places, buffers and calls an expression has
+-- how many places an expression has, its buffers with their bounds, in order of the text, and how many calls it has
 abbrev mutual
   pub rooms : ℕ → Phrase → ℕ
   rooms results (name n) = 0
@@ -37,13 +38,13 @@ abbrev mutual
   all_rooms (and f fs) = rooms 1 f + all_rooms fs
 
 abbrev mutual
-  pub buffers : Phrase → ℕ
-  buffers (name n) = 0
-  buffers (headed h span fs) = own_buffers h + all_buffers fs
+  pub bounds : Phrase → List (Option ℕ)
+  bounds (name n) = []
+  bounds (headed h span fs) = own_bounds h ++ all_bounds fs
 
-  pub all_buffers : Phrases → ℕ
-  all_buffers none = 0
-  all_buffers (and f fs) = buffers f + all_buffers fs
+  pub all_bounds : Phrases → List (Option ℕ)
+  all_bounds none = []
+  all_bounds (and f fs) = bounds f ++ all_bounds fs
 
 abbrev mutual
   pub calls : Phrase → ℕ
@@ -54,11 +55,12 @@ abbrev mutual
   all_calls none = 0
   all_calls (and f fs) = calls f + all_calls fs
 
--- the places of right sides, and those of a node
+-- how many places the right sides of definitions take
 abbrev pub def_rooms : List DefTree → ℕ
 def_rooms [] = 0
 def_rooms (d ∷ ds) = rooms (wanted d.left) (phrase_of d.right) + def_rooms ds
 
+-- how many places a node has
 abbrev pub node_rooms : NodeTree → ℕ
 node_rooms n = length (streams n) + def_rooms n.defs
 
@@ -70,7 +72,7 @@ pub record Next : Type 0 where
 
 -- behind an expression
 abbrev pub past : Next → ℕ → Phrase → Next
-past at results f = record { place = at.place + rooms results f; buffer = at.buffer + buffers f; call = at.call + calls f }
+past at results f = record { place = at.place + rooms results f; buffer = at.buffer + length (bounds f); call = at.call + calls f }
 
 -- behind operands
 abbrev pub past_all : Next → Phrases → Next
@@ -79,7 +81,7 @@ past_all at (and f fs) = past_all (past at 1 f) fs
 
 -- behind a form's own places, where its operands begin
 abbrev pub inside : Next → ℕ → Head → Next
-inside at results h = record { place = at.place + own_rooms results h; buffer = at.buffer + own_buffers h; call = at.call + own_calls h }
+inside at results h = record { place = at.place + own_rooms results h; buffer = at.buffer + length (own_bounds h); call = at.call + own_calls h }
 
 -- the operators of the host, the names of the nodes above, and those of the node's streams in order of their places
 pub record Known : Type 0 where
@@ -127,7 +129,7 @@ own_kind k n (Host t) args = kind.Host (operator_place k t.text) (slice_index_or
 own_kind k n (Sampled flip w) args = kind.When (slice_index_or args 0 0) (sampling_word flip w)
 own_kind k n (Merged w) args = kind.Merge w (slice_index_or args 0 0) (slice_index_or args 1 0)
 own_kind k n (Followed l) args = kind.Fby l (slice_index_or args 0 0)
-own_kind k n Buffered args = kind.Buffer n (slice_index_or args 0 0)
+own_kind k n (Buffered most) args = kind.Buffer n (slice_index_or args 0 0)
 own_kind k n (Called _ base) args = kind.Param
 
 -- the places of a form itself

@@ -17,7 +17,7 @@ pub data Head : Type 0 where
   Sampled : Bool → Bits → Head
   Merged : Bits → Head
   Followed : Lit → Head
-  Buffered : Head
+  Buffered : Option ℕ → Head
   Called : names.Name → Option Bits → Head
 
 -- an expression: a name, or a head with its operands in the order of the text. The span is that of an operand that is no
@@ -46,7 +46,7 @@ abbrev mutual
   phrase_of (sampled flip e w) = headed (Sampled flip w) (span_of (phrase_of e)) (and (phrase_of e) none)
   phrase_of (merged w a b span) = headed (Merged w) span (and (phrase_of a) (and (phrase_of b) none))
   phrase_of (followed l e span) = headed (Followed l) span (and (phrase_of e) none)
-  phrase_of (buffered e span) = headed Buffered span (and (phrase_of e) none)
+  phrase_of (buffered most e span) = headed (Buffered most) span (and (phrase_of e) none)
   phrase_of (call n at args) = headed (Called n at) n.span (phrases_of args)
 
   pub phrases_of : Trees → Phrases

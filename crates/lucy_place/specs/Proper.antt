@@ -1,8 +1,9 @@
 -- What holds of the numbers in a placed node: each names what it should.
 use Rattle.std.specs.Prelude.{ℕ, ◌≡◌, ◌≤◌, ◌<◌, ◌+◌, List, Some, None, length, slice_get, take}
+use Rattle.std.specs.List.{AllByRecursion}
 use Rattle.lucy_host.specs.Arity.{arity}
 use Rattle.lucy_tree.specs.declared.span.Name.{Name}
-use Rattle.lucy_tree.specs.Shaped.{HasZero}
+use Rattle.lucy_tree.specs.Shaped.{HasZero, IsBound}
 use Rattle.lucy_place.specs.declared.entry.PlaceEntry.{PlaceEntry}
 use Rattle.lucy_place.specs.declared.entry.PlaceKind.{PlaceKind}
 use Rattle.lucy_place.specs.declared.entry.PlaceKind.TheVariants.{Param, Defined, Lit, Op, Host, When, Merge, Fby, Buffer, Result}
@@ -10,7 +11,7 @@ use Rattle.lucy_place.specs.declared.entry.CallSite.{CallSite}
 use Rattle.lucy_place.specs.declared.placed.PlacedNode.{PlacedNode}
 use Rattle.lucy_place.specs.Faults.{most_places}
 use Rattle.lucy_place.specs.Nodes.{buffer_places}
-pub use Rattle.lucy_place.specs.Standing.{at_one, Stands, IsPlace, ArePlaces, IsNamed, AreNamed, IsUnnamed, AreDistinct}
+pub use Rattle.lucy_place.specs.Standing.{at_one, bound_of, Stands, IsPlace, ArePlaces, IsNamed, AreNamed, IsUnnamed, AreDistinct}
 pub use Rattle.lucy_place.specs.Reads.{operands_of, arguments_of, reads_of, Reads, IsReadOnce, AreReadOnce}
 
 -- a parameter or a defined name has a name; any other place has none, and so no type and no word of its own in the text
@@ -45,7 +46,8 @@ IsProperKind n p (Buffer k e) = (n.params < p) × (at_one n.buffers k ≡ Some p
 IsProperKind n p (Result c j) = (n.params < p) × (site : CallSite) × (at_one n.calls c ≡ Some site)
 
 -- A node with these nodes above it. Its parameters are its first places, and its results have names. No two places have one
--- name, and each place without a name is read once, by a place before it. Buffers are numbered in order of their places.
+-- name, and each place without a name is read once, by a place before it. Buffers are numbered in order of their places, and
+-- each has its bound, where one is written.
 pub record IsProperNode (above : List PlacedNode) (n : PlacedNode) : Type 0 where
   pub few : length n.places ≤ most_places
   pub few_calls : length n.calls ≤ most_places
@@ -57,6 +59,8 @@ pub record IsProperNode (above : List PlacedNode) (n : PlacedNode) : Type 0 wher
   pub calls : (c : ℕ) (site : CallSite) → at_one n.calls c ≡ Some site → IsProperCall above n c site
   pub in_order : n.buffers ≡ buffer_places 1 n.places
   pub buffers : (k p : ℕ) → at_one n.buffers k ≡ Some p → (e : ℕ) × Stands n p (Buffer k e)
+  pub bounds : length n.bounds ≡ length n.buffers
+  pub small : AllByRecursion IsBound n.bounds
   pub results : ArePlaces n n.results
   pub named : AreNamed n n.results
 

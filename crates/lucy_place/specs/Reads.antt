@@ -2,24 +2,22 @@
 use Rattle.std.specs.Prelude.{ℕ, zero, ◌≡◌, ◌<◌, List, [], ◌∷◌, Option, Some, None, slice_get}
 use Rattle.lucy_place.specs.declared.entry.PlaceEntry.{PlaceEntry}
 use Rattle.lucy_place.specs.declared.entry.PlaceKind.{PlaceKind}
-use Rattle.lucy_place.specs.declared.entry.PlaceKind.TheVariants.{Param, Defined, Lit, Op, Host, When, Merge, Fby, Buffer, Result}
+use Rattle.lucy_place.specs.declared.entry.PlaceKind.TheVariants.{Defined, Op, Host, When, Merge, Fby, Buffer, Result}
 use Rattle.lucy_place.specs.declared.entry.CallSite.{CallSite}
 use Rattle.lucy_place.specs.declared.placed.PlacedNode.{PlacedNode}
 use Rattle.lucy_place.specs.Standing.{at_one, IsUnnamed}
 
--- the places that a place of a kind reads, in the order of its operands. A parameter and a result of a call read no place of
--- their node.
+-- the places that a place of a kind reads, in the order of its operands. A literal reads none, and a parameter and a result of
+-- a call read no place of their node.
 abbrev pub operands_of : PlaceKind → List ℕ
-operands_of Param = []
 operands_of (Defined e) = e ∷ []
-operands_of (Lit l) = []
 operands_of (Op op args) = args
 operands_of (Host op a b) = a ∷ b ∷ []
 operands_of (When e word) = e ∷ []
 operands_of (Merge word a b) = a ∷ b ∷ []
 operands_of (Fby l e) = e ∷ []
 operands_of (Buffer k e) = e ∷ []
-operands_of (Result call j) = []
+operands_of kind = []
 
 abbrev pub arguments_of : Option CallSite → List ℕ
 arguments_of None = []

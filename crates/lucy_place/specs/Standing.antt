@@ -1,5 +1,5 @@
 -- What stands at the numbers of a placed node. Places, buffers and calls count from 1.
-use Rattle.std.specs.Prelude.{ℕ, zero, suc, ◌≡◌, ◌≤◌, List, Option, Some, None, length, slice_get}
+use Rattle.std.specs.Prelude.{ℕ, zero, suc, ◌≡◌, ◌≤◌, List, Option, Some, None, length, slice_get, slice_index_or}
 use Rattle.std.specs.List.{AllByRecursion}
 use Rattle.lucy_tree.specs.declared.span.Name.{Name}
 use Rattle.lucy_place.specs.declared.entry.PlaceEntry.{PlaceEntry}
@@ -10,6 +10,11 @@ use Rattle.lucy_place.specs.declared.placed.PlacedNode.{PlacedNode}
 abbrev pub at_one : {A : Type 0} → List A → ℕ → Option A
 at_one xs zero = None
 at_one xs (suc n) = slice_get xs n
+
+-- the bound of the buffer of a number, where one is written
+abbrev pub bound_of : PlacedNode → ℕ → Option ℕ
+bound_of n zero = None
+bound_of n (suc k) = slice_index_or n.bounds k None
 
 -- there is a place of this number, and this stands there
 abbrev pub Stands : PlacedNode → ℕ → PlaceKind → Type 0

@@ -12,6 +12,7 @@ abbrev pub lacking : Option Bits → Span → List Span
 lacking None span = span ∷ []
 lacking (Some w) span = []
 
+-- the spans of declared names that lack their words
 abbrev pub decl_spans : List Decl → List Span
 decl_spans ds = flat_map (λ d. lacking d.word d.name.span) ds
 
@@ -28,7 +29,7 @@ unnamed_spans (and f fs) = unnamed_span f ++ unnamed_spans fs
 -- are to be names, and a call is to have its word
 abbrev pub own_spans : Head → Phrases → List Span
 own_spans (Sampled flip w) fs = unnamed_spans fs
-own_spans Buffered fs = unnamed_spans fs
+own_spans (Buffered most) fs = unnamed_spans fs
 own_spans (Called n at) fs = lacking at n.span ++ unnamed_spans fs
 own_spans h fs = []
 
@@ -41,6 +42,7 @@ abbrev mutual
   phrases_spans none = []
   phrases_spans (and f fs) = phrase_spans f ++ phrases_spans fs
 
+-- the spans in a definition that keep its node from being written
 abbrev pub def_spans : DefTree → List Span
 def_spans d = decl_spans d.left ++ phrase_spans (phrase_of d.right)
 

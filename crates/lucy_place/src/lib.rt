@@ -7,11 +7,13 @@
 //! `specs/WrittenNodes.antt`.
 #![tactic(auto)]
 
+mod bounds;
 mod draft;
 mod entry;
 mod error;
 mod faults;
 mod grow;
+mod hash;
 mod lists;
 mod literal;
 mod names;
@@ -27,7 +29,7 @@ mod unwritten;
 
 pub use entry::{CallSite, PlaceEntry, PlaceKind};
 pub use error::NameError;
-pub use lists::{Calls, Numbers, Places};
+pub use lists::{Bounds, Calls, Numbers, Places};
 pub use literal::literal_value;
 pub use placed::{Placed, PlacedNode};
 pub use placing::place;

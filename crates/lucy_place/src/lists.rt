@@ -34,6 +34,37 @@ impl Numbers {
     }
 }
 
+/// The written bounds of the buffers of a node in order of their numbers, the first of which is 1, in items: None, where none
+/// is written. Contracts see their list.
+#[derive(Drop)]
+pub struct Bounds {
+    list: Vec<Option<u64>>,
+}
+
+impl Model for Bounds {
+    ghost use Rattle.std.specs.Prelude.{List, Option, ℕ};
+
+    ghost Value = { List (Option ℕ) };
+
+    ghost view = { λ bounds. bounds.list.items };
+}
+
+impl Bounds {
+    /// These bounds.
+    pub fn new(list: Vec<Option<u64>>) -> Bounds
+        ensures { result ≡ list.items }
+    {
+        Bounds { list }
+    }
+
+    /// The bounds.
+    pub fn list(&self) -> &[Option<u64>]
+        ensures { result.now ≡ self.now }
+    {
+        &self.list
+    }
+}
+
 /// The places of a node in order of their numbers, the first of which is 1. Contracts see their list.
 #[derive(Drop)]
 pub struct Places {

@@ -13,11 +13,12 @@ ghost use Rattle.lucy_place.specs.Nodes.{declared_entry, left_entries, past_def,
 ghost use Rattle.lucy_place.specs.Drafts.{next_of, IsSmall, Draws};
 ghost use Rattle.lucy_place.specs.Views.{known_of};
 
+use crate::bounds::bounds;
 use crate::draft::Draft;
 use crate::entry::{CallSite, PlaceEntry, PlaceKind};
 use crate::error::NameError;
 use crate::grow::push;
-use crate::lists::{Calls, Numbers, Places};
+use crate::lists::{Bounds, Calls, Numbers, Places};
 use crate::names::Names;
 use crate::numbering::expr_places;
 use crate::placed::PlacedNode;
@@ -200,6 +201,7 @@ pub fn node_places(
 {
     let (places, calls) = entries(alloc, names, node)?;
     let buffers = buffers(alloc, &places)?;
+    let bounds = bounds(alloc, node.defs.list())?;
     let results = results(alloc, names, node.results.list())?;
     let name = copy_name(alloc, &node.name)?;
     let params = node.params.list().len() as u32;
@@ -209,6 +211,7 @@ pub fn node_places(
         places: Places::new(places),
         results: Numbers::new(results),
         buffers: Numbers::new(buffers),
+        bounds: Bounds::new(bounds),
         calls: Calls::new(calls),
     })
 }

@@ -5,12 +5,12 @@ ghost use Rattle.lucy_word.specs.declared.limit.Limit.TheVariants as limit;
 ghost use Rattle.lucy_place.specs.Proper.{IsProperNode, AreProper, HaveOperators};
 ghost use Rattle.lucy_place.specs.WrittenNodes.{IsWritten, TellWritten};
 
-use crate::lists::{Calls, Numbers, Places};
+use crate::lists::{Bounds, Calls, Numbers, Places};
 use lucy_tree::{Name, Span};
 use std::marker::Model;
 
-/// A node: its name, how many of its places are parameters, its places, the places of its results, those of its buffers,
-/// and its calls.
+/// A node: its name, how many of its places are parameters, its places, the places of its results, those of its buffers with
+/// their written bounds, and its calls.
 #[derive(Drop)]
 pub struct PlacedNode {
     pub name: Name,
@@ -18,6 +18,7 @@ pub struct PlacedNode {
     pub places: Places,
     pub results: Numbers,
     pub buffers: Numbers,
+    pub bounds: Bounds,
     pub calls: Calls,
 }
 

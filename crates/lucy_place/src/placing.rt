@@ -12,6 +12,7 @@ ghost use Rattle.lucy_place.specs.Views.{within_of};
 use crate::error::NameError;
 use crate::faults::expr_names;
 use crate::grow::push;
+use crate::hash::NameHash;
 use crate::names::Names;
 use crate::nodes::node_places;
 use crate::placed::{Placed, PlacedNode};
@@ -37,6 +38,7 @@ fn def_names(names: &Names<'_, '_>, defs: &[Def]) -> Result<(), NameError>
 // The places of a node with these nodes above it, once its names are good.
 fn next_node<'p>(
     alloc: Global,
+    hash: NameHash,
     ops: &'p Ops,
     all: &'p [Node],
     above: &'p [Node],
@@ -52,7 +54,7 @@ fn next_node<'p>(
     if scope.find(node.name.text.bytes()).is_some() {
         return Err(NameError::Twice(node.name.span));
     }
-    let known = streams(alloc, node)?;
+    let known = streams(alloc, hash, node)?;
     let names = Names {
         ops,
         all,
@@ -61,7 +63,7 @@ fn next_node<'p>(
         streams: &known,
     };
     def_names(&names, node.defs.list())?;
-    results(alloc, &known, node.results.list())?;
+    results(alloc, hash, &known, node.results.list())?;
     if !fits(node, known.len()) {
         return Err(NameError::TooMany(Limit::Places));
     }
@@ -80,13 +82,14 @@ pub fn place(alloc: Global, program: &Program, ops: &Ops) -> Result<Placed, Name
     ensures rejected { (e : NameError) → IsFirst (faults ops.now (program_tree program.now)) e → (result ≡ Err error.OutOfMemory) ⊎ (result ≡ Err e) }
 {
     let nodes = program.nodes.list();
-    let mut scope = Scope::new(alloc);
+    let hash = NameHash::of(nodes);
+    let mut scope = Scope::new(alloc, hash);
     let mut list = Vec::new(alloc);
     let mut spans = Vec::new(alloc);
     'each: for (i, node) in nodes.iter().enumerate() {
         push(
             &mut list,
-            next_node(alloc, ops, nodes, &nodes[..i], &scope, node)?,
+            next_node(alloc, hash, ops, nodes, &nodes[..i], &scope, node)?,
         )?;
         push(&mut spans, first_unwritten(node))?;
         scope.add(node.name.text.bytes())?;

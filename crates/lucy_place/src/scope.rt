@@ -2,38 +2,32 @@
 ghost use Rattle.std.specs.Prelude.{◌≡◌, ◌≤◌, ◌++◌, ◌∷◌, [], length, IfOk, if◌then◌else◌, not, is_some};
 ghost use Rattle.lucy_place.specs.Texts.{place_in, find_in, is_in};
 
+use crate::hash::NameHash;
+use indexmap::IndexSet;
 use std::alloc::{AllocError, Global};
-use std::collections::BTreeMap;
 use std::marker::Model;
 
-/// Names in the order in which they were first seen. Contracts see the list of their bytes. A name is looked for by the order of
-/// bytes, so that no text can choose names which take longer to find than others.
+/// Names in the order in which they were first seen. Contracts see the list of their bytes.
 #[derive(Drop)]
 pub struct Scope<'a> {
-    names: Vec<&'a [u8]>,
-    // How many names stand before each.
-    places: BTreeMap<&'a [u8], usize>,
+    names: IndexSet<&'a [u8], NameHash>,
 }
 
 impl<'a> Model for Scope<'a> {
-    ghost use Rattle.std.specs.Prelude.{List, ℕ, map, ◌≡◌};
-    ghost use Rattle.lucy_place.specs.Texts.{find_in, found_by_bytes, Bytes};
+    ghost use Rattle.std.specs.Prelude.{List, ℕ, map};
 
     ghost Value = { List (List ℕ) };
 
-    ghost view = { λ scope. map (λ name. name.now) scope.names.items };
-
-    ghost invariant = { λ scope. (name : Bytes) → found_by_bytes name scope.places ≡ find_in (map (λ other. other.now) scope.names.items) name.now };
+    ghost view = { λ scope. map (λ name. name.now) scope.names.keys };
 }
 
 impl<'a> Scope<'a> {
-    /// No names.
-    pub fn new(alloc: Global) -> Scope<'a>
+    /// No names, and how they will be hashed.
+    pub fn new(alloc: Global, hash: NameHash) -> Scope<'a>
         ensures { result ≡ [] }
     {
         Scope {
-            names: Vec::new(alloc),
-            places: BTreeMap::new(alloc),
+            names: IndexSet::with_hasher(alloc, hash),
         }
     }
 
@@ -42,15 +36,8 @@ impl<'a> Scope<'a> {
         ensures new { IfOk result (λ new. new ≡ not (is_in self.old name.now)) }
         ensures names { IfOk result (λ new. self.new ≡ (if is_in self.old name.now then self.old else self.old ++ name.now ∷ [])) }
     {
-        if self.places.contains_key(name) {
-            return Ok(false);
-        }
-        let place = self.len();
-        // Room comes first, so that the name stands in both or in neither.
-        self.names.reserve(1)?;
-        self.places.insert(name, place)?;
-        self.names.push(name)?;
-        Ok(true)
+        let (_, new) = self.names.insert_full(name)?;
+        Ok(new)
     }
 
     /// How many names stand before this one, where it is there.
@@ -58,7 +45,7 @@ impl<'a> Scope<'a> {
         ensures found { result ≡ find_in self.now name.now }
         ensures there { is_some result ≡ is_in self.now name.now }
     {
-        self.places.get(name).copied()
+        self.names.get_index_of(name)
     }
 
     /// How many names stand before this one: all where it isn't there.

@@ -6,6 +6,7 @@ ghost use Rattle.lucy_place.specs.Faults.{repeat, repeats, result_fault, result_
 ghost use Rattle.lucy_place.specs.Placing.{Tells};
 
 use crate::error::NameError;
+use crate::hash::NameHash;
 use crate::scope::Scope;
 use lucy_tree::{Decl, Def, Name, Node};
 use std::alloc::Global;
@@ -45,11 +46,11 @@ fn define<'p>(scope: &mut Scope<'p>, defs: &'p [Def]) -> Result<(), NameError>
 }
 
 /// The names of a node's streams, in order of their places.
-pub fn streams<'p>(alloc: Global, node: &'p Node) -> Result<Scope<'p>, NameError>
+pub fn streams<'p>(alloc: Global, hash: NameHash, node: &'p Node) -> Result<Scope<'p>, NameError>
     ensures ok { IfOk result (λ scope. (repeats [] (streams (node_tree node.now)) ≡ []) × (scope ≡ map text_of (streams (node_tree node.now)))) }
     ensures refused { IfErr result (Tells (repeats [] (streams (node_tree node.now)))) }
 {
-    let mut scope = Scope::new(alloc);
+    let mut scope = Scope::new(alloc, hash);
     declare(&mut scope, node.params.list())?;
     define(&mut scope, node.defs.list())?;
     Ok(scope)
@@ -67,11 +68,16 @@ fn result<'p>(streams: &Scope<'_>, before: &mut Scope<'p>, name: &'p Name) -> Re
 }
 
 /// The results of a node with these streams.
-pub fn results(alloc: Global, streams: &Scope<'_>, list: &[Name]) -> Result<(), NameError>
+pub fn results(
+    alloc: Global,
+    hash: NameHash,
+    streams: &Scope<'_>,
+    list: &[Name],
+) -> Result<(), NameError>
     ensures ok { OnOk result (result_faults streams.now [] list.now ≡ []) }
     ensures refused { IfErr result (Tells (result_faults streams.now [] list.now)) }
 {
-    let mut before = Scope::new(alloc);
+    let mut before = Scope::new(alloc, hash);
     'each: for name in list {
         result(streams, &mut before, name)?;
     }

@@ -1,7 +1,7 @@
 -- Trees of the shape that the grammar gives: an operator has as many operands as it takes, an operator of the host two, the
--- word of `whenot` and of `merge` has a zero in its period, several names are defined by a call, and there is a node, but nodes
--- are few.
-use Rattle.std.specs.Prelude.{ℕ, List, [], ◌∷◌, ◌≡◌, ◌<◌, ◌≤◌, true, length}
+-- word of `whenot` and of `merge` has a zero in its period, a written bound is small, several names are defined by a call, and
+-- there is a node, but nodes are few.
+use Rattle.std.specs.Prelude.{ℕ, List, [], ◌∷◌, ◌≡◌, ◌<◌, ◌≤◌, true, length, Option, Some, None}
 use Rattle.std.specs.List.{AllByRecursion}
 use Rattle.lucy_word.specs.Bits.{Bits, ones_in}
 use Rattle.lucy_word.specs.Limits.{limit_number}
@@ -15,6 +15,15 @@ use Rattle.lucy_tree.specs.View.{DefTree, NodeTree, ProgramTree}
 abbrev pub HasZero : Bits → Type 0
 HasZero w = ones_in w.period < length w.period
 
+-- a written bound of a buffer is at most this
+abbrev pub most_bound : ℕ
+most_bound = 4095
+
+-- the bound of a buffer, where one is written, is no greater than it may be
+abbrev pub IsBound : Option ℕ → Type 0
+IsBound None = Unit {0}
+IsBound (Some n) = n ≤ most_bound
+
 abbrev mutual
   pub IsShaped : Tree → Type 0
   IsShaped (literal l span) = Unit {0}
@@ -24,7 +33,7 @@ abbrev mutual
   IsShaped (sampled flip e w) = (flip ≡ true → HasZero w) × IsShaped e
   IsShaped (merged w a b span) = HasZero w × IsShaped a × IsShaped b
   IsShaped (followed l e span) = IsShaped e
-  IsShaped (buffered e span) = IsShaped e
+  IsShaped (buffered most e span) = IsBound most × IsShaped e
   IsShaped (call name at args) = AreShaped args
 
   pub AreShaped : Trees → Type 0

@@ -1,5 +1,5 @@
 -- What an expression is, apart from where it lies in memory.
-use Rattle.std.specs.Prelude.{Bool, List, [], ◌∷◌, Option}
+use Rattle.std.specs.Prelude.{ℕ, Bool, List, [], ◌∷◌, Option}
 use Rattle.lucy_word.specs.Bits.{Bits}
 use Rattle.lucy_host.specs.declared.op.Op.{Op}
 use Rattle.lucy_tree.specs.declared.span.Span.{Span}
@@ -16,7 +16,7 @@ mutual
     sampled : Bool → Tree → Bits → Tree
     merged : Bits → Tree → Tree → Span → Tree
     followed : Lit → Tree → Span → Tree
-    buffered : Tree → Span → Tree
+    buffered : Option ℕ → Tree → Span → Tree
     call : Name → Option Bits → Trees → Tree
 
   pub data Trees : Type 0 where

@@ -20,7 +20,7 @@ tree_step (Host name args) = host name args
 tree_step (When flip operand word) = sampled flip operand.value word
 tree_step (Merge word one zero span) = merged word one.value zero.value span
 tree_step (Fby lit operand span) = followed lit operand.value span
-tree_step (Buffer operand span) = buffered operand.value span
+tree_step (Buffer most operand span) = buffered most operand.value span
 tree_step (Call node at args) = call node at args
 
 -- the trees of a list's expressions

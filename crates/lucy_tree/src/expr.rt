@@ -56,8 +56,9 @@ pub enum Expr {
         operand: Box<Expr>,
         span: Span,
     },
-    /// The operand's items, which may wait.
+    /// The operand's items, which may wait; with a written bound, at most so many at a time.
     Buffer {
+        most: Option<u64>,
         operand: Box<Expr>,
         span: Span,
     },

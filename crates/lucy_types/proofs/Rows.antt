@@ -36,6 +36,7 @@ t = record {
   places = bare kind.Param ∷ bare (kind.Defined 3) ∷ bare (kind.Op op.Add (1 ∷ 4 ∷ [])) ∷ bare (kind.Op op.Eq (1 ∷ 5 ∷ [])) ∷ bare (kind.Lit (lit.Int (pos 1))) ∷ [];
   results = 2 ∷ [];
   buffers = [];
+  bounds = [];
   calls = [];
 }
 
@@ -59,7 +60,7 @@ t_clash = record {
 
 -- let node id x = y where rec y = x
 id : PlacedNode
-id = record { name = called (codes "id"); params = 1; places = bare kind.Param ∷ bare (kind.Defined 1) ∷ []; results = 2 ∷ []; buffers = []; calls = [] }
+id = record { name = called (codes "id"); params = 1; places = bare kind.Param ∷ bare (kind.Defined 1) ∷ []; results = 2 ∷ []; buffers = []; bounds = []; calls = [] }
 
 abbrev id_types : List Ty
 id_types = ty.Open 1 ∷ ty.Open 1 ∷ []
@@ -113,6 +114,7 @@ m = record {
   places = bare kind.Param ∷ bare (kind.Defined 3) ∷ bare (kind.Op op.And (4 ∷ 5 ∷ [])) ∷ bare (kind.Result 1 0) ∷ bare (kind.Lit (lit.Bool true)) ∷ [];
   results = 2 ∷ [];
   buffers = [];
+  bounds = [];
   calls = site ∷ [];
 }
 

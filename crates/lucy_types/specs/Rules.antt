@@ -4,7 +4,7 @@ use Rattle.std.specs.List.{Contains}
 use Rattle.lucy_host.specs.declared.data_type.DataType.{DataType}
 use Rattle.lucy_host.specs.declared.data_type.DataType.TheVariants.{Int, Bool}
 use Rattle.lucy_host.specs.declared.op.Op.{Op}
-use Rattle.lucy_host.specs.declared.op.Op.TheVariants.{Add, Sub, Mul, Div, Rem, Eq, Ne, Lt, Le, Gt, Ge, And, Or, Not, If}
+use Rattle.lucy_host.specs.declared.op.Op.TheVariants.{Eq, Ne, Lt, Le, Gt, Ge, And, Or, Not, If}
 use Rattle.lucy_tree.specs.declared.expr.Lit.{Lit as Literal}
 use Rattle.lucy_tree.specs.declared.expr.Lit.TheVariants as lit
 use Rattle.lucy_place.specs.declared.entry.PlaceEntry.{PlaceEntry}
@@ -29,11 +29,6 @@ all_are t ps = map (λ p. Is p t) ps
 
 -- the table of operators: what the operator at a place says of it and of the places of its operands
 abbrev pub op_rules : Op → ℕ → List ℕ → List Rule
-op_rules Add p args = all_are Int args ++ Is p Int ∷ []
-op_rules Sub p args = all_are Int args ++ Is p Int ∷ []
-op_rules Mul p args = all_are Int args ++ Is p Int ∷ []
-op_rules Div p args = all_are Int args ++ Is p Int ∷ []
-op_rules Rem p args = all_are Int args ++ Is p Int ∷ []
 op_rules Eq p args = Alike (slice_index args 0) (slice_index args 1) ∷ Is p Bool ∷ []
 op_rules Ne p args = Alike (slice_index args 0) (slice_index args 1) ∷ Is p Bool ∷ []
 op_rules Lt p args = all_are Int args ++ Is p Bool ∷ []
@@ -46,6 +41,7 @@ op_rules Not p args = all_are Bool args ++ Is p Bool ∷ []
 op_rules If p args =
     Is (slice_index args 0) Bool ∷ Alike (slice_index args 1) (slice_index args 2) ∷ Alike p (slice_index args 1)
     ∷ Alike p (slice_index args 2) ∷ []
+op_rules op p args = all_are Int args ++ Is p Int ∷ []
 
 -- what stands at a place says of it and of the places that it reads
 abbrev pub kind_rules : ℕ → PlaceKind → List Rule

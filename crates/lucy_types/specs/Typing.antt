@@ -12,6 +12,7 @@ use Rattle.lucy_types.specs.declared.rule.Rule.TheVariants.{Is, Alike}
 abbrev pub Typing : Type 0
 Typing = ℕ → DataType
 
+-- a typing meets a rule: the place is of the type, or the two places are of one type
 abbrev pub Meets : Typing → Rule → Type 0
 Meets a (Is p t) = a p ≡ t
 Meets a (Alike p q) = a p ≡ a q

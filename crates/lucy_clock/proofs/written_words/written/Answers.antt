@@ -3,7 +3,8 @@ use Rattle.std.proofs.lemmas.Option.{same_Some}
 use Rattle.lucy_word.specs.declared.limit.Limit.TheVariants as lim
 use Rattle.lucy_place.specs.declared.placed.PlacedNode.{PlacedNode as Node}
 use Rattle.lucy_clock.specs.declared.error.ClockError.TheVariants as err
-use Rattle.lucy_clock.specs.HandedDown.{AreWordsOf, IsWordTooLong, RefusesWords, word_bits}
+use Rattle.lucy_need.specs.Meeting.{word_bits}
+use Rattle.lucy_clock.specs.HandedDown.{AreWordsOf, IsWordTooLong, RefusesWords}
 use Rattle.lucy_clock.specs.Reading.{AreReadersUpto, HaveBases, HasBases}
 use Rattle.lucy_clock.proofs.BaseLaws.{labelled, bases_of, words_are}
 use Rattle.lucy_clock.proofs.WordLaws.{none_long}

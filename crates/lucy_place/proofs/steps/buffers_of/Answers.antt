@@ -5,7 +5,7 @@ use Rattle.lucy_place.proofs.PhraseLaws.{phrase_buffered, phrase_literal, phrase
 use Rattle.lucy_place.proofs.steps.buffers_of.Goals as goal
 
 pub returns-in-Buffer : goal.returns-in-Buffer
-returns-in-Buffer c = sym (ap (λ e. buffers_of (expr_phrase e)) c.in-Buffer.is ∙ ap buffers_of (phrase_buffered _ _))
+returns-in-Buffer c = sym (ap (λ e. buffers_of (expr_phrase e)) c.in-Buffer.is ∙ ap buffers_of (phrase_buffered _ _ _))
 
 pub returns-in-Lit : goal.returns-in-Lit
 returns-in-Lit c = sym (ap (λ e. buffers_of (expr_phrase e)) c.in-Lit.is ∙ ap buffers_of (phrase_literal _ _))

@@ -22,7 +22,7 @@ pub returns-in-Fby : goal.returns-in-Fby
 returns-in-Fby t c = sym (ap (λ e. span_of (expr_phrase e)) c.in-Fby.is ∙ ap span_of (phrase_followed _ _ _))
 
 pub returns-in-Buffer : goal.returns-in-Buffer
-returns-in-Buffer t c = sym (ap (λ e. span_of (expr_phrase e)) c.in-Buffer.is ∙ ap span_of (phrase_buffered _ _))
+returns-in-Buffer t c = sym (ap (λ e. span_of (expr_phrase e)) c.in-Buffer.is ∙ ap span_of (phrase_buffered _ _ _))
 
 pub returns-in-Call : goal.returns-in-Call
 returns-in-Call t c = sym (ap (λ e. span_of (expr_phrase e)) c.in-Call.is ∙ ap span_of (phrase_called _ _ _))

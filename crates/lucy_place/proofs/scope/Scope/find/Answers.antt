@@ -1,6 +1,12 @@
-use Rattle.std.proofs.Common.{ap, ◌∙◌, is_some}
-use Rattle.lucy_place.proofs.TextLaws.{known_in}
+use Rattle.std.proofs.Common.{ap, ◌∙◌}
+use Rattle.lucy_place.specs.Texts.{is_in, find_in}
+use Rattle.lucy_place.proofs.TextLaws.{any_seen, found_seen}
 use Rattle.lucy_place.proofs.scope.Scope.find.Goals as goal
 
+pub returns-clause-found : goal.returns-clause-found
+returns-clause-found c =
+    c.get_index_of.ensures.index ∙ found_seen c.args.name.now c.self.inside.names.keys ∙ ap (λ l. find_in l c.args.name.now) c.self.view_is
+
 pub returns-clause-there : goal.returns-clause-there
-returns-clause-there c = known_in c.self.inside.names.items c.args.name c.self.inside.places c.args.self.now c.self.view_is c.self.invariant (ap is_some (c.copied.ensures ∙ c.get.ensures.value))
+returns-clause-there c =
+    c.get_index_of.ensures.found ∙ any_seen c.args.name.now c.self.inside.names.keys ∙ ap (λ l. is_in l c.args.name.now) c.self.view_is
