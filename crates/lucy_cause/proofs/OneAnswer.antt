@@ -24,19 +24,19 @@ one_length words prefix period p q is other = (
 -- what is allowed passes no limit
 allowed_short : (net : Net) (prefix period : ℕ) → IsAllowed net prefix period → IsTooLong net → ⊥
 allowed_short net prefix period allowed long =
-    let same = one_length (net_words net) prefix period long.prefix long.period allowed.lengths long.lengths in
-    omega (arith, allowed.short, long.long, same.0, same.1)
+    let same = one_length (net_words net) prefix period long.0 long.1 allowed.lengths long.2 in
+    omega (arith, allowed.short, long.3, same.0, same.1)
 
 allowed_few : (net : Net) (prefix period : ℕ) → IsAllowed net prefix period → HasTooMany net → ⊥
 allowed_few net prefix period allowed many =
-    let same = one_length (net_words net) prefix period many.prefix many.period allowed.lengths many.lengths in
-    let total : prefix + period ≡ many.prefix + many.period = omega (arith, same.0, same.1) in
-    omega (arith, allowed.few, many.many, ap (operations_by net) total)
+    let same = one_length (net_words net) prefix period many.0 many.1 allowed.lengths many.2 in
+    let total : prefix + period ≡ many.0 + many.1 = omega (arith, same.0, same.1) in
+    omega (arith, allowed.few, many.4, ap (operations_by net) total)
 
 long_not_many : (net : Net) → IsTooLong net → HasTooMany net → ⊥
 long_not_many net long many =
-    let same = one_length (net_words net) many.prefix many.period long.prefix long.period many.lengths long.lengths in
-    omega (arith, many.short, long.long, same.0, same.1)
+    let same = one_length (net_words net) many.0 many.1 long.0 long.1 many.2 long.2 in
+    omega (arith, many.3, long.3, same.0, same.1)
 
 -- an item of a cycle reaches itself
 record Turns (net : Net) (before : ℕ) : Type 0 where

@@ -150,4 +150,4 @@ schedule_ok net s is words lengths short few are len =
 pub too_long : (net : Net) → All IsStored (net_words net) → AreTooMany net → IsTooLong net
 too_long net words many =
     let found = lengths_exist (net_words net) words in
-    record { prefix = found.0; period = found.1; lengths = found.2; long = many found.0 found.1 found.2 }
+    (found.0, found.1, found.2, many found.0 found.1 found.2)

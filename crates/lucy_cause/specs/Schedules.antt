@@ -38,20 +38,14 @@ pub record IsScheduleOf (net : Net) (s : Timetable) : Type 0 where
   pub sound : IsSound net (events_at s)
   pub causal : IsCausal (net_places net)
 
--- its schedule would have more instants than are allowed
-pub record IsTooLong (net : Net) : Type 0 where
-  pub prefix : ℕ
-  pub period : ℕ
-  pub lengths : AreLengths (net_words net) prefix period
-  pub long : limit_number limit.Schedule < prefix + period
+-- the net's schedule would have more instants than are allowed
+abbrev pub IsTooLong : Net → Type 0
+IsTooLong net = (prefix period : ℕ) × AreLengths (net_words net) prefix period × (limit_number limit.Schedule < prefix + period)
 
--- or more events
-pub record HasTooMany (net : Net) : Type 0 where
-  pub prefix : ℕ
-  pub period : ℕ
-  pub lengths : AreLengths (net_words net) prefix period
-  pub short : prefix + period ≤ limit_number limit.Schedule
-  pub many : limit_number limit.Events < operations_by net (prefix + period)
+-- or else more events
+abbrev pub HasTooMany : Net → Type 0
+HasTooMany net = (prefix period : ℕ) × AreLengths (net_words net) prefix period
+    × (prefix + period ≤ limit_number limit.Schedule) × (limit_number limit.Events < operations_by net (prefix + period))
 
 -- there is no schedule so
 abbrev pub Refuses : Net → CauseFault → Type 0

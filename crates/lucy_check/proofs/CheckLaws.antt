@@ -1,6 +1,6 @@
 -- Laws of passing needs.
 use Rattle.std.proofs.Common.{ℕ, zero, suc, ◌+◌, ◌<◌, ◌≤◌, ◌≡◌, ◌∷◌, ◌++◌, [], List, Option, Some, Result, length, get_or, drop, ap, sym, refl, ◌∙◌, subst, inl, inr, arith, append_assoc, add-one, drop-cons}
-use Rattle.std.specs.Prelude.{slice_get, IfErr, MatchResult, IsErrAnd}
+use Rattle.std.specs.Prelude.{slice_get, option_to_list, IfErr, MatchResult, IsErrAnd}
 use Rattle.std.specs.List.{AllByRecursion}
 use Rattle.std.proofs.lemmas.Bool.{cases_lt}
 use Rattle.std.proofs.lemmas.Result.{err_from_is_err_and}
@@ -19,7 +19,7 @@ use Rattle.lucy_word.proofs.AdaptableLaws.{adaptable_same}
 use Rattle.lucy_word.proofs.Multiples.{lcm_one}
 use Rattle.lucy_order.specs.Horizon.{IsHorizon}
 use Rattle.lucy_check.specs.declared.fault.CheckFault.{CheckFault}
-use Rattle.lucy_check.specs.Passing.{IsTermPassing, AreWithinLimits, OrNoMemory, PassesLimit, Passes, Refuses, size_list, PassesAll, IsWithinLimits, AllWithinLimits, IsFirstRefusal, IsBeyond}
+use Rattle.lucy_check.specs.Passing.{IsTermPassing, AreWithinLimits, OrNoMemory, PassesLimit, Passes, Refuses, PassesAll, IsWithinLimits, AllWithinLimits, IsFirstRefusal, IsBeyond}
 
 -- the error of a call goes out of the function by `?`
 pub leaves : {T : Type 0} (P Q : CheckFault → Type 0) (e : CheckFault) (r : Result T CheckFault) →
@@ -81,9 +81,9 @@ met_adaptable w s t a b within met =
 pub refuses_beyond : (w : Assignment) (number : ℕ) (need : Need) (e : CheckFault) → Refuses w number need e → Meets w need → IsBeyond e
 refuses_beyond w number (Equal s t) e (inl p) met = limit_beyond w s t number e p
 refuses_beyond w number (Equal s t) e (inr d) met =
-    let at : ℕ = d.0 in
-    let within = d.2.2 in
-    absurd (d.2.3.differs (within.first.is.on at d.2.3.instant ∙ met at d.2.3.instant ∙ sym (within.second.is.on at d.2.3.instant)))
+    let at : ℕ = d.3.0 in
+    let here = d.3.2 in
+    absurd (here.differs (d.2.first.is.on at here.instant ∙ met at here.instant ∙ sym (d.2.second.is.on at here.instant)))
 refuses_beyond w number (Adapt s t) e (inl p) met = limit_beyond w s t number e p
 refuses_beyond w number (Adapt s t) e (inr d) met =
     let is : IsAdaptable d.0 d.1 = met_adaptable w s t d.0 d.1 d.2 met in
@@ -117,11 +117,11 @@ drop_next : {A : Type 0} (xs : List A) (i : ℕ) (x : A) → i < length xs → x
 drop_next xs i x h e = drop-cons xs i x h ∙ ap (λ y. y ∷ drop (suc i) xs) (sym e) ∙ ap (λ n. x ∷ drop n xs) (sym (add-one i))
 
 pub so_far_more : (w : Assignment) (needs : List Need) (i : ℕ) (sizes more : List ℕ) (need : Need) (size : Option ℕ) → PassesSoFar w needs i sizes → i < length needs → need ≡ get_or needs i need →
-    Passes w need size → more ≡ sizes ++ size_list size → PassesSoFar w needs (i + 1) more
+    Passes w need size → more ≡ sizes ++ option_to_list size → PassesSoFar w needs (i + 1) more
 so_far_more w needs i sizes more need size far h e p f = record {
   rest = λ rest q.
-      let here : PassesAll w (drop i needs) (size_list size ++ rest) = subst (λ l. PassesAll w l (size_list size ++ rest)) (sym (drop_next needs i need h e)) (size, rest, p, q, refl) in
-      subst (PassesAll w needs) (sym (append_assoc sizes (size_list size) rest) ∙ ap (λ l. l ++ rest) (sym f)) (far.rest (size_list size ++ rest) here);
+      let here : PassesAll w (drop i needs) (option_to_list size ++ rest) = subst (λ l. PassesAll w l (option_to_list size ++ rest)) (sym (drop_next needs i need h e)) (size, rest, p, q, refl) in
+      subst (PassesAll w needs) (sym (append_assoc sizes (option_to_list size) rest) ∙ ap (λ l. l ++ rest) (sym f)) (far.rest (option_to_list size ++ rest) here);
   before = λ k earlier l g. elim (cases_lt k i) [
     | inl less ↦ far.before k earlier less g
     | inr not ↦

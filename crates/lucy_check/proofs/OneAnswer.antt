@@ -1,16 +1,14 @@
 -- A need is passed, or refused in one way.
-use Rattle.std.proofs.Common.{ℕ, zero, suc, ◌<◌, ◌≤◌, ◌≡◌, ◌∷◌, ◌++◌, [], List, Option, Some, ap, sym, ◌∙◌, subst, inl, inr, arith}
-use Rattle.std.specs.Prelude.{slice_get, ◌⊎◌}
+use Rattle.std.proofs.Common.{ℕ, zero, suc, ◌<◌, ◌≡◌, ◌∷◌, ◌++◌, [], List, Option, Some, ap, sym, ◌∙◌, subst, inl, inr, arith}
+use Rattle.std.specs.Prelude.{slice_get, option_to_list, ◌⊎◌}
 use Rattle.std.proofs.lemmas.Bool.{cases_order}
 use Rattle.std.proofs.lemmas.Option.{same_Some}
 use Rattle.lucy_word.specs.Bits.{Bits, ones_to}
-use Rattle.lucy_word.specs.Limits.{limit_number}
-use Rattle.lucy_word.specs.declared.limit.Limit.TheVariants as limit
 use Rattle.lucy_word.specs.Shortest.{Same}
 use Rattle.lucy_word.specs.Adaptable.{IsAdaptable}
 use Rattle.lucy_word.proofs.BitsLaws.{period_some}
 use Rattle.lucy_word.proofs.ShortLaws.{shortest_one}
-use Rattle.lucy_order.specs.Horizon.{IsHorizon}
+use Rattle.lucy_order.specs.Horizon.{AreFar}
 use Rattle.lucy_order.specs.Difference.{IsFirstDifference}
 use Rattle.lucy_order.specs.Verdicts.{IsVerdict}
 use Rattle.lucy_order.proofs.OneVerdict.{one_size, one_late, one_difference}
@@ -22,7 +20,7 @@ use Rattle.lucy_need.specs.Meeting.{Assignment, Meets, MeetsAll}
 use Rattle.lucy_need.proofs.TermLaws.{one_term}
 use Rattle.lucy_check.specs.declared.fault.CheckFault.{CheckFault}
 use Rattle.lucy_check.specs.declared.fault.CheckFault.TheVariants as fault
-use Rattle.lucy_check.specs.Passing.{IsTermPassing, AreWithinLimits, PassesLimit, Passes, Refuses, size_list, PassesAll, IsWithinLimits, AllWithinLimits, IsFirstRefusal}
+use Rattle.lucy_check.specs.Passing.{IsTermPassing, AreWithinLimits, PassesLimit, Passes, Refuses, PassesAll, IsWithinLimits, AllWithinLimits, IsFirstRefusal}
 use Rattle.lucy_check.proofs.CheckLaws.{met_adaptable, all_at}
 
 -- a term has one word in shortest form
@@ -40,11 +38,7 @@ module _ (w : Assignment) (s t : Term) where
   within_limit a b number e h (inl (inr p)) = h.second.within p.1
   within_limit a b number e h (inr p) =
       let c = p.1 in
-      let is : IsHorizon a b c.horizon =
-      subst (λ u. IsHorizon u b c.horizon) (term_one w s c.a a c.first h.first) (subst (λ v. IsHorizon c.a v c.horizon) (term_one w t c.b b c.second h.second) c.is) in
-      let most : c.horizon ≤ limit_number limit.Compare = h.compare c.horizon is in
-      let past : limit_number limit.Compare < c.horizon = c.past in
-      omega arith
+      h.near (subst (λ u. AreFar u b) (term_one w s c.a a c.first h.first) (subst (λ v. AreFar c.a v) (term_one w t c.b b c.second h.second) c.far))
 
   limit_one : (number : ℕ) (e f : CheckFault) → PassesLimit w s t number e → PassesLimit w s t number f → e ≡ f
   limit_one number e f (inl (inl p)) (inl (inl q)) = p.0 ∙ sym q.0
@@ -66,8 +60,8 @@ passes_one w (Adapt s t) m n p q =
 pub passes_not : (w : Assignment) (need : Need) (size : Option ℕ) (number : ℕ) (e : CheckFault) → Passes w need size → Refuses w number need e → ⊥
 passes_not w (Equal s t) size number e p (inl l) = within_limit w s t p.0 p.1 number e p.2 l
 passes_not w (Equal s t) size number e p (inr d) =
-    let same : Same d.2.0 d.2.1 = carried w s t Same p.0 p.1 d.2.0 d.2.1 p.2 d.2.2 p.3 in
-    d.2.3.differs (same d.0 d.2.3.instant)
+    let same : Same d.0 d.1 = carried w s t Same p.0 p.1 d.0 d.1 p.2 d.2 p.3 in
+    d.3.2.differs (same d.3.0 d.3.2.instant)
 passes_not w (Adapt s t) size number e p (inl l) = within_limit w s t p.0 p.1 number e p.2 l
 passes_not w (Adapt s t) size number e p (inr d) =
     let is : IsAdaptable d.0 d.1 = carried w s t IsAdaptable p.0 p.1 d.0 d.1 p.2 d.2 p.4.0 in
@@ -86,11 +80,11 @@ adapt_one w s t number e f a b (inr p) (inr q) = p.1 ∙ ap (fault.Late number) 
 
 pub refuses_one : (w : Assignment) (need : Need) (number : ℕ) (e f : CheckFault) → Refuses w number need e → Refuses w number need f → e ≡ f
 refuses_one w (Equal s t) number e f (inl p) (inl q) = limit_one w s t number e f p q
-refuses_one w (Equal s t) number e f (inl p) (inr q) = absurd (within_limit w s t q.2.0 q.2.1 number e q.2.2 p)
-refuses_one w (Equal s t) number e f (inr p) (inl q) = absurd (within_limit w s t p.2.0 p.2.1 number f p.2.2 q)
+refuses_one w (Equal s t) number e f (inl p) (inr q) = absurd (within_limit w s t q.0 q.1 number e q.2 p)
+refuses_one w (Equal s t) number e f (inr p) (inl q) = absurd (within_limit w s t p.0 p.1 number f p.2 q)
 refuses_one w (Equal s t) number e f (inr p) (inr q) =
-    let is : IsFirstDifference q.2.0 q.2.1 p.0 = carried w s t (λ a b. IsFirstDifference a b p.0) p.2.0 p.2.1 q.2.0 q.2.1 p.2.2 q.2.2 p.2.3 in
-    p.1 ∙ ap (fault.Differs number) (one_difference q.2.0 q.2.1 p.0 q.0 is q.2.3) ∙ sym q.1
+    let is : IsFirstDifference q.0 q.1 p.3.0 = carried w s t (λ a b. IsFirstDifference a b p.3.0) p.0 p.1 q.0 q.1 p.2 q.2 p.3.2 in
+    p.3.1 ∙ ap (fault.Differs number) (one_difference q.0 q.1 p.3.0 q.3.0 is q.3.2) ∙ sym q.3.1
 refuses_one w (Adapt s t) number e f (inl p) (inl q) = limit_one w s t number e f p q
 refuses_one w (Adapt s t) number e f (inl p) (inr q) = absurd (within_limit w s t q.0 q.1 number e q.2 p)
 refuses_one w (Adapt s t) number e f (inr p) (inl q) = absurd (within_limit w s t p.0 p.1 number f p.2 q)
@@ -102,7 +96,7 @@ refuses_one w (Adapt s t) number e f (inr p) (inr q) =
 pub all_one : (w : Assignment) (needs : List Need) (xs ys : List ℕ) → PassesAll w needs xs → PassesAll w needs ys → xs ≡ ys
 all_one w [] xs ys p q = p ∙ sym q
 all_one w (need ∷ needs) xs ys p q =
-    p.4 ∙ ap (λ s. size_list s ++ p.1) (passes_one w need p.0 q.0 p.2 q.2) ∙ ap (λ r. size_list q.0 ++ r) (all_one w needs p.1 q.1 p.3 q.3) ∙ sym q.4
+    p.4 ∙ ap (λ s. option_to_list s ++ p.1) (passes_one w need p.0 q.0 p.2 q.2) ∙ ap (λ r. option_to_list q.0 ++ r) (all_one w needs p.1 q.1 p.3 q.3) ∙ sym q.4
 
 passed_at : (w : Assignment) (needs : List Need) (sizes : List ℕ) (i : ℕ) (need : Need) → PassesAll w needs sizes → slice_get needs i ≡ Some need → (size : Option ℕ) × Passes w need size
 passed_at w [] sizes i need p e = absurd (cc)
@@ -128,7 +122,8 @@ refusal_one w needs e f p q =
 held_not : (w : Assignment) (need : Need) (number : ℕ) (e : CheckFault) → IsWithinLimits w need → Meets w need → Refuses w number need e → ⊥
 held_not w (Equal s t) number e within met (inl l) = within_limit w s t within.0 within.1 number e within.2 l
 held_not w (Equal s t) number e within met (inr d) =
-    d.2.3.differs (d.2.2.first.is.on d.0 d.2.3.instant ∙ met d.0 d.2.3.instant ∙ sym (d.2.2.second.is.on d.0 d.2.3.instant))
+    let here = d.3.2 in
+    here.differs (d.2.first.is.on d.3.0 here.instant ∙ met d.3.0 here.instant ∙ sym (d.2.second.is.on d.3.0 here.instant))
 held_not w (Adapt s t) number e within met (inl l) = within_limit w s t within.0 within.1 number e within.2 l
 held_not w (Adapt s t) number e within met (inr d) =
     let is : IsAdaptable d.0 d.1 = met_adaptable w s t d.0 d.1 d.2 met in

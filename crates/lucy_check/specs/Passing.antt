@@ -1,12 +1,11 @@
 -- When words pass needs, and what is told of the first need that they don't pass.
-use Rattle.std.specs.Prelude.{ℕ, ◌⊎◌, ◌<◌, ◌≤◌, ◌≡◌, List, [], ◌∷◌, ◌++◌, Option, Some, None, slice_get}
+use Rattle.std.specs.Prelude.{ℕ, ◌⊎◌, ◌<◌, ◌≡◌, List, [], ◌∷◌, ◌++◌, Option, Some, None, slice_get, option_to_list}
 use Rattle.std.specs.List.{AllByRecursion}
 use Rattle.lucy_word.specs.Bits.{Bits}
-use Rattle.lucy_word.specs.Limits.{limit_number}
 use Rattle.lucy_word.specs.declared.limit.Limit.TheVariants as limit
 use Rattle.lucy_word.specs.Shortest.{Same, IsShortest}
 use Rattle.lucy_word.specs.Sampling.{IsOnTooLong}
-use Rattle.lucy_order.specs.Horizon.{IsHorizon}
+use Rattle.lucy_order.specs.Horizon.{AreFar}
 use Rattle.lucy_order.specs.Difference.{IsFirstDifference}
 use Rattle.lucy_order.specs.Verdicts.{IsVerdict}
 use Rattle.lucy_order.specs.declared.verdict.Verdict.TheVariants as verdict
@@ -27,7 +26,7 @@ pub record IsTermPassing (w : Assignment) (t : Term) (word : Bits) : Type 0 wher
 pub record AreWithinLimits (w : Assignment) (s t : Term) (a b : Bits) : Type 0 where
   pub first : IsTermPassing w s a
   pub second : IsTermPassing w t b
-  pub compare : (n : ℕ) → IsHorizon a b n → n ≤ limit_number limit.Compare
+  pub near : AreFar a b → ⊥
 
 -- the instants that decide about the words of two terms are too many
 pub record IsComparedTooLong (w : Assignment) (s t : Term) : Type 0 where
@@ -35,9 +34,7 @@ pub record IsComparedTooLong (w : Assignment) (s t : Term) : Type 0 where
   pub b : Bits
   pub first : IsTermPassing w s a
   pub second : IsTermPassing w t b
-  pub horizon : ℕ
-  pub is : IsHorizon a b horizon
-  pub past : limit_number limit.Compare < horizon
+  pub far : AreFar a b
 
 -- memory ran out, or else
 abbrev pub OrNoMemory : (CheckFault → Type 0) → CheckFault → Type 0
@@ -57,27 +54,19 @@ abbrev pub Passes : Assignment → Need → Option ℕ → Type 0
 Passes w (Equal s t) size = (a b : Bits) × AreWithinLimits w s t a b × Same a b × (size ≡ None)
 Passes w (Adapt s t) size = (a b : Bits) × AreWithinLimits w s t a b × (most : ℕ) × IsVerdict a b (verdict.Adaptable most) × (size ≡ Some most)
 
--- the words of the terms differ, at this instant first
-abbrev pub Differ : Assignment → Term → Term → ℕ → Type 0
-Differ w s t at = (a b : Bits) × AreWithinLimits w s t a b × IsFirstDifference a b at
-
 -- the need of a number is refused so
 abbrev pub Refuses : Assignment → ℕ → Need → CheckFault → Type 0
-Refuses w number (Equal s t) e = PassesLimit w s t number e ⊎ ((at : ℕ) × (e ≡ fault.Differs number at) × Differ w s t at)
+Refuses w number (Equal s t) e =
+    PassesLimit w s t number e ⊎ ((a b : Bits) × AreWithinLimits w s t a b × ((at : ℕ) × (e ≡ fault.Differs number at) × IsFirstDifference a b at))
 Refuses w number (Adapt s t) e =
     PassesLimit w s t number e
     ⊎ ((a b : Bits) × AreWithinLimits w s t a b
     × (((e ≡ fault.Rates number) × IsVerdict a b verdict.Rates) ⊎ ((at : ℕ) × (e ≡ fault.Late number at) × IsVerdict a b (verdict.Late at))))
 
--- a size, where there is one
-abbrev pub size_list : Option ℕ → List ℕ
-size_list None = []
-size_list (Some size) = size ∷ []
-
 -- all needs are met within the limits, and these are the sizes of the buffers
 abbrev pub PassesAll : Assignment → List Need → List ℕ → Type 0
 PassesAll w [] sizes = sizes ≡ []
-PassesAll w (need ∷ needs) sizes = (size : Option ℕ) × (rest : List ℕ) × Passes w need size × PassesAll w needs rest × (sizes ≡ size_list size ++ rest)
+PassesAll w (need ∷ needs) sizes = (size : Option ℕ) × (rest : List ℕ) × Passes w need size × PassesAll w needs rest × (sizes ≡ option_to_list size ++ rest)
 
 -- the refusal is that of the first need that is not met within the limits
 pub record IsFirstRefusal (w : Assignment) (needs : List Need) (e : CheckFault) : Type 0 where
@@ -87,11 +76,12 @@ pub record IsFirstRefusal (w : Assignment) (needs : List Need) (e : CheckFault) 
   pub refused : Refuses w number need e
   pub before : (k : ℕ) (earlier : Need) → k < number → slice_get needs k ≡ Some earlier → (size : Option ℕ) × Passes w earlier size
 
--- no limit is passed at a need, and at any of them
+-- no limit is passed at a need
 abbrev pub IsWithinLimits : Assignment → Need → Type 0
 IsWithinLimits w (Equal s t) = (a b : Bits) × AreWithinLimits w s t a b
 IsWithinLimits w (Adapt s t) = (a b : Bits) × AreWithinLimits w s t a b
 
+-- no limit is passed at any of them
 abbrev pub AllWithinLimits : Assignment → List Need → Type 0
 AllWithinLimits w needs = AllByRecursion (IsWithinLimits w) needs
 

@@ -1,9 +1,9 @@
 // The needs in order, until one is refused.
-ghost use Rattle.std.specs.Prelude.{ℕ, List, ◌≡◌, ◌⊎◌, ◌++◌, length, OnOk, IfOk, IfErr, MatchResult};
+ghost use Rattle.std.specs.Prelude.{ℕ, List, ◌≡◌, ◌⊎◌, ◌++◌, length, option_to_list, OnOk, IfOk, IfErr, MatchResult};
 ghost use Rattle.lucy_word.specs.Shortest.{Same};
 ghost use Rattle.lucy_word.specs.Always.{always};
 ghost use Rattle.lucy_need.specs.Meeting.{assigned, AreProperNeeds, MeetsAll};
-ghost use Rattle.lucy_check.specs.Passing.{OrNoMemory, PassesAll, AllWithinLimits, IsFirstRefusal, IsBeyond, size_list};
+ghost use Rattle.lucy_check.specs.Passing.{OrNoMemory, PassesAll, AllWithinLimits, IsFirstRefusal, IsBeyond};
 ghost use Rattle.lucy_check.specs.declared.fault.CheckFault.{CheckFault as Fault};
 ghost use Rattle.lucy_check.specs.declared.fault.CheckFault.TheVariants as fault;
 
@@ -16,7 +16,7 @@ use std::alloc::Global;
 
 // Puts a size behind others, where there is one.
 fn put(sizes: &mut Vec<u64>, size: Option<u64>) -> Result<(), CheckFault>
-    ensures ok { OnOk result (sizes.new.items ≡ sizes.old.items ++ size_list size) }
+    ensures ok { OnOk result (sizes.new.items ≡ sizes.old.items ++ option_to_list size) }
     ensures refused { IfErr result (λ e. e ≡ fault.OutOfMemory) }
 {
     match size {

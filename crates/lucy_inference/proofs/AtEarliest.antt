@@ -20,7 +20,7 @@ use Rattle.lucy_shape.proofs.Meeting.{meeting_law}
 use Rattle.lucy_shape.proofs.Fitting.{positions_law, fitting_law}
 use Rattle.lucy_shape.proofs.Earlier.{earlier_law}
 use Rattle.lucy_shape.proofs.Writings.{written_law}
-use Rattle.lucy_inference.specs.Earliest.{HasNoAssignment, IsEarliestAssignment}
+use Rattle.lucy_inference.specs.Earliest.{FitsAndMeets, IsEarliestAssignment}
 use Rattle.lucy_inference.specs.Inference.{HasLongClock}
 use Rattle.lucy_inference.specs.Stages.{AreAllUsed}
 
@@ -36,7 +36,7 @@ base_at shape v w number first second some =
 
 module _ (needs : Needs) (shape : Shape) (words : AllByRecursion HasWords needs.list) (carries : IsShapeFor needs shape) where
   -- where the inequalities have no solution no assignment fits and meets the needs
-  pub no_assignment : HasNoSolution (system_of needs shape) → HasNoAssignment needs shape
+  pub no_assignment : HasNoSolution (system_of needs shape) → (w : Assignment) → FitsAndMeets needs shape w → ⊥
   no_assignment none w is =
       let at = positions_law shape w carries.laid in
       none at.0 ((meeting_law needs shape w at.0 words carries is.fits at.1).0 is.meets)

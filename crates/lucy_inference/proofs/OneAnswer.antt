@@ -11,7 +11,7 @@ use Rattle.lucy_word.specs.declared.limit.Limit.{Limit}
 use Rattle.lucy_word.proofs.BitsLaws.{ones_to-more, period_some}
 use Rattle.lucy_word.proofs.IndexLaws.{IsIndex-behind, IsIndex-there}
 use Rattle.lucy_word.proofs.ShortLaws.{shortest_one}
-use Rattle.lucy_need.specs.Meeting.{Assignment, assigned}
+use Rattle.lucy_need.specs.Meeting.{Assignment, assigned, word_bits}
 use Rattle.lucy_need.specs.declared.need.Needs.{Needs}
 use Rattle.lucy_check.specs.Passing.{PassesAll, IsFirstRefusal}
 use Rattle.lucy_check.specs.declared.fault.CheckFault.TheVariants as check
@@ -20,7 +20,6 @@ use Rattle.lucy_shape.specs.declared.shape.Shape.{Shape}
 use Rattle.lucy_shape.specs.declared.shape.RateFault.TheVariants as fault
 use Rattle.lucy_shape.specs.Index.{index_of}
 use Rattle.lucy_shape.specs.Fitting.{clock_at}
-use Rattle.lucy_shape.specs.Writing.{word_bits}
 use Rattle.lucy_shape.proofs.WordIndex.{place_law}
 use Rattle.lucy_rates.specs.Trees.{IsFirstUnequal}
 use Rattle.lucy_rates.specs.Vectors.{IsShapeOf}

@@ -15,10 +15,6 @@ pub record FitsAndMeets (needs : Needs) (shape : Shape) (w : Assignment) : Type 
   pub fits : IsFitting shape w
   pub meets : MeetsAll w needs.list
 
--- there is none
-abbrev pub HasNoAssignment : Needs → Shape → Type 0
-HasNoAssignment needs shape = (w : Assignment) → FitsAndMeets needs shape w → ⊥
-
 -- the earliest: no other one has any one of any clock earlier
 pub record IsEarliestAssignment (needs : Needs) (shape : Shape) (w : Assignment) : Type 0 where
   pub is : FitsAndMeets needs shape w

@@ -3,7 +3,7 @@ use Rattle.std.specs.Prelude.{ℕ, ◌+◌, ◌-◌, ◌<◌, ◌≤◌, List, l
 use Rattle.lucy_word.specs.Bits.{Bits, most_bits}
 use Rattle.lucy_word.specs.Limits.{limit_number}
 use Rattle.lucy_word.specs.declared.limit.Limit.TheVariants as limit
-use Rattle.lucy_need.specs.Meeting.{Assignment, assigned}
+use Rattle.lucy_need.specs.Meeting.{Assignment, assigned, word_bits}
 use Rattle.lucy_need.specs.declared.need.Needs.{Needs}
 use Rattle.lucy_check.specs.Passing.{PassesAll}
 use Rattle.lucy_solve.specs.System.{most_inequalities}
@@ -11,7 +11,6 @@ use Rattle.lucy_shape.specs.declared.shape.Shape.{Shape}
 use Rattle.lucy_shape.specs.Index.{index_of}
 use Rattle.lucy_shape.specs.Fitting.{IsUsed, clock_at}
 use Rattle.lucy_shape.specs.Inequalities.{inequalities}
-use Rattle.lucy_shape.specs.Writing.{word_bits}
 use Rattle.lucy_rates.specs.Vectors.{IsShapeOf}
 use Rattle.lucy_inference.specs.Earliest.{AreEarliestWords}
 

@@ -5,7 +5,7 @@ use Rattle.lucy_word.specs.Bits.{Bits}
 use Rattle.lucy_word.specs.Limits.{limit_number}
 use Rattle.lucy_word.specs.declared.limit.Limit.{Limit}
 use Rattle.lucy_word.specs.declared.limit.Limit.TheVariants as limit
-use Rattle.lucy_need.specs.Meeting.{Assignment, assigned}
+use Rattle.lucy_need.specs.Meeting.{Assignment, assigned, word_bits}
 use Rattle.lucy_need.specs.declared.need.Needs.{Needs}
 use Rattle.lucy_check.specs.Passing.{IsFirstRefusal}
 use Rattle.lucy_check.specs.declared.fault.CheckFault.TheVariants as check
@@ -13,11 +13,10 @@ use Rattle.lucy_solve.specs.System.{IsNegativeCycle, most_inequalities}
 use Rattle.lucy_shape.specs.declared.shape.Shape.{Shape}
 use Rattle.lucy_shape.specs.declared.shape.RateFault.TheVariants as fault
 use Rattle.lucy_shape.specs.Inequalities.{inequalities, system_of}
-use Rattle.lucy_shape.specs.Writing.{word_bits}
 use Rattle.lucy_rates.specs.Vectors.{IsShapeOf, HasNoShape}
 use Rattle.lucy_inference.specs.declared.refusal.Uninferred.{Uninferred}
 use Rattle.lucy_inference.specs.declared.refusal.Uninferred.TheVariants.{Rates, Clocks, Limit as LimitPassed, OutOfMemory}
-use Rattle.lucy_inference.specs.Earliest.{HasNoAssignment, IsEarliestAssignment, AreEarliestWords}
+use Rattle.lucy_inference.specs.Earliest.{FitsAndMeets, IsEarliestAssignment, AreEarliestWords}
 use Rattle.lucy_inference.specs.Inference.{AreFewInequalities, HasLongClock, AreInferredWords}
 
 -- memory ran out, or else
@@ -58,7 +57,7 @@ PassesLimitIn needs shape l =
 pub record HasNoClocks (needs : Needs) (shape : Shape) (cycle : List ℕ) : Type 0 where
   pub inequalities : AreFewInequalities needs shape
   pub shown : IsNegativeCycle (system_of needs shape).list cycle
-  pub none : HasNoAssignment needs shape
+  pub none : (w : Assignment) → FitsAndMeets needs shape w → ⊥
 
 -- why there are no clocks in the shape
 abbrev pub RefusesIn : Needs → Shape → Uninferred → Type 0

@@ -22,10 +22,11 @@ Assignment = ℕ → Bits
 abbrev pub AreWordsIn : Assignment → ℕ → Type 0
 AreWordsIn w clocks = (c : ℕ) → c < clocks → IsWord (w c)
 
--- a clock on a word, and a clock alone, which is a term on (1)
+-- a clock on a word
 abbrev pub term : ℕ → Bits → Term
 term clock word = record { clock = clock; word = word }
 
+-- a clock alone: on (1)
 abbrev pub alone : ℕ → Term
 alone clock = term clock always
 
@@ -80,6 +81,10 @@ Agree v w clocks = (c : ℕ) → c < clocks → Same (v c) (w c)
 -- the assignment that a list of words is, by their numbers
 abbrev pub assigned : List Bits → Assignment
 assigned words c = slice_index_or words c always
+
+-- how many bits words have
+abbrev pub word_bits : List Bits → ℕ
+word_bits words = sum_by bit_count words
 
 -- how many bits the words of a need have
 abbrev pub need_bits : Need → ℕ

@@ -31,10 +31,11 @@ task_of instants actor = record { form = form_of actor.kind; takes = actor.takes
 abbrev pub link_of : RingSpec → Link
 link_of ring = record { from = ring.from; to = ring.to; size = ring.size }
 
--- the actor that gives to the ring of this number, and the one that takes from it
+-- the actor that gives to the ring of this number
 abbrev pub giver : Net → ℕ → ℕ
 giver net r = (slice_index_or (map link_of net.rings) r no_link).from
 
+-- the actor that takes from the ring of this number
 abbrev pub taker : Net → ℕ → ℕ
 taker net r = (slice_index_or (map link_of net.rings) r no_link).to
 

@@ -23,11 +23,12 @@ abbrev pub numbers_where : (ℕ → Bool) → ℕ → List ℕ
 numbers_where holds zero = []
 numbers_where holds (suc n) = numbers_where holds n ++ (if holds n then n ∷ [] else [])
 
--- the number of an input, and that of an output
+-- the number of an input
 abbrev pub input_of : ActorKind → List ℕ
 input_of (Input input) = input ∷ []
 input_of kind = []
 
+-- the number of an output
 abbrev pub output_of : ActorKind → List ℕ
 output_of (Output output) = output ∷ []
 output_of kind = []

@@ -7,6 +7,7 @@ use Rattle.lucy_word.specs.declared.limit.Limit.TheVariants as limit
 use Rattle.lucy_need.specs.declared.need.Need.{Need}
 use Rattle.lucy_rates.specs.Walks.{first_of, second_of, need_at, over, under, IsWalk, IsRoot}
 
+-- the need names the clock
 abbrev pub IsNamedBy : ℕ → Need → Type 0
 IsNamedBy c need = ((first_of need).clock ≡ c) ⊎ ((second_of need).clock ≡ c)
 
@@ -40,6 +41,7 @@ pub record IsTreeRate (needs : List Need) (c num den : ℕ) : Type 0 where
   pub same : num * b ≡ a * den
   pub lowest : IsGcd num den 1
 
+-- the greatest number that a rate may have above or below, in lowest terms
 abbrev pub most_rate : ℕ
 most_rate = limit_number limit.Rate
 
@@ -51,8 +53,10 @@ HasLargeRate needs clocks = (c : ℕ) × (num : ℕ) × (den : ℕ) × (c < cloc
 abbrev pub AreEven : Need → ℕ → ℕ → ℕ → ℕ → Type 0
 AreEven need num1 den1 num2 den2 = num1 * den2 * over need ≡ num2 * den1 * under need
 
+-- both sides of the need have one rate, by the rates that the trees give its clocks
 abbrev pub IsBalanced : List Need → Need → Type 0
-IsBalanced needs need = (num1 : ℕ) (den1 : ℕ) (num2 : ℕ) (den2 : ℕ) → IsTreeRate needs (first_of need).clock num1 den1 → IsTreeRate needs (second_of need).clock num2 den2 → AreEven need num1 den1 num2 den2
+IsBalanced needs need = (num1 den1 num2 den2 : ℕ) →
+    IsTreeRate needs (first_of need).clock num1 den1 → IsTreeRate needs (second_of need).clock num2 den2 → AreEven need num1 den1 num2 den2
 
 -- the walk that shows it: the first need that is not balanced, from its first clock to its second, and back along the tree
 pub record IsFirstUnequal (needs : List Need) (walk : List ℕ) : Type 0 where

@@ -9,10 +9,12 @@ use Rattle.lucy_need.specs.declared.need.Need.{Need}
 use Rattle.lucy_need.specs.declared.need.Need.TheVariants.{Equal, Adapt}
 use Rattle.lucy_shape.specs.Fitting.{HasWords}
 
+-- the first term of a need
 abbrev pub first_of : Need → Term
 first_of (Equal s t) = s
 first_of (Adapt s t) = s
 
+-- the second term of a need
 abbrev pub second_of : Need → Term
 second_of (Equal s t) = t
 second_of (Adapt s t) = t
@@ -21,13 +23,15 @@ second_of (Adapt s t) = t
 abbrev pub no_need : Need
 no_need = Equal (record { clock = 0; word = always }) (record { clock = 0; word = always })
 
+-- the need of a number, from 0
 abbrev pub need_at : List Need → ℕ → Need
 need_at needs k = slice_index_or needs k no_need
 
--- what a rate is multiplied by along a need, from its first clock to its second: the numerator, and the denominator
+-- what a rate is multiplied by along a need, from its first clock to its second
 abbrev pub over : Need → ℕ
 over need = ones_in (first_of need).word.period * length (second_of need).word.period
 
+-- and what it is divided by
 abbrev pub under : Need → ℕ
 under need = length (first_of need).word.period * ones_in (second_of need).word.period
 

@@ -1,11 +1,11 @@
 -- What positions are answered: the words of the clocks, or the limit that they pass.
-use Rattle.std.specs.Prelude.{ℕ, ◌<◌, ◌≤◌, ◌≡◌, ◌⊎◌, false, true, List, length, sum_by, ℤ}
+use Rattle.std.specs.Prelude.{ℕ, ◌<◌, ◌≤◌, ◌≡◌, ◌⊎◌, false, true, List, length, ℤ}
 use Rattle.lucy_word.specs.Bits.{Bits, bit_count, most_bits}
 use Rattle.lucy_word.specs.Shortest.{IsShortForm}
 use Rattle.lucy_word.specs.Always.{always}
 use Rattle.lucy_word.specs.Limits.{limit_number}
 use Rattle.lucy_word.specs.declared.limit.Limit.TheVariants as limit
-use Rattle.lucy_need.specs.Meeting.{assigned}
+use Rattle.lucy_need.specs.Meeting.{assigned, word_bits}
 use Rattle.lucy_shape.specs.declared.shape.ClockShape.{ClockShape}
 use Rattle.lucy_shape.specs.declared.shape.Shape.{Shape}
 use Rattle.lucy_shape.specs.declared.shape.RateFault.{RateFault}
@@ -34,10 +34,6 @@ HasLongWord shape xs = (c : ℕ) × IsUsed shape.clocks c × IsWrittenLong shape
 -- so many bits the words of a node's clocks have at most, in shortest form
 abbrev pub most_word_bits : ℕ
 most_word_bits = limit_number limit.Bits
-
--- how many bits they have
-abbrev pub word_bits : List Bits → ℕ
-word_bits words = sum_by bit_count words
 
 -- the words, none of which is written too long, with no more bits than are allowed
 pub record AreAnswered (shape : Shape) (xs : List ℤ) (words : List Bits) : Type 0 where

@@ -3,13 +3,13 @@ ghost use Rattle.std.specs.Prelude.{ℕ, List, ◌≡◌, ◌⊎◌, ◌+◌, �
 ghost use Rattle.lucy_word.specs.Shortest.{IsShortForm};
 ghost use Rattle.lucy_word.specs.Stored.{IsStored};
 ghost use Rattle.lucy_word.specs.declared.limit.Limit.TheVariants as limit;
-ghost use Rattle.lucy_need.specs.Meeting.{assigned};
+ghost use Rattle.lucy_need.specs.Meeting.{assigned, word_bits};
 ghost use Rattle.lucy_shape.specs.declared.shape.RateFault.TheVariants as fault;
 ghost use Rattle.lucy_shape.specs.Fitting.{IsLaidOut, IsFitting, ArePositions};
 ghost use Rattle.lucy_shape.specs.Rows.{SolvesClock};
 ghost use Rattle.lucy_shape.specs.Inequalities.{SolvesShape};
 ghost use Rattle.lucy_shape.specs.WordOf.{written_word};
-ghost use Rattle.lucy_shape.specs.Writing.{IsWordOf, IsWrittenLong, word_bits, most_word_bits, AreAnswered, AreRefused};
+ghost use Rattle.lucy_shape.specs.Writing.{IsWordOf, IsWrittenLong, most_word_bits, AreAnswered, AreRefused};
 ghost use Rattle.lucy_shape.specs.Marking.{IsSolved};
 
 use crate::grow::push;

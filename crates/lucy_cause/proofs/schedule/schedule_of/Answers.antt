@@ -37,11 +37,11 @@ returns-in_default-clause-only c = λ e why. one_refusal c.args.net.now e (fault
 
 pub returns-then-operations_in-number-clause-scheduled : goal.returns-then-operations_in-number-clause-scheduled
 returns-then-operations_in-number-clause-scheduled c = λ s is. never_both c.args.net.now s (fault.Limit limit.Events) is
-    (inr (record { prefix = c.in-Some.lengths.prefix; period = c.in-Some.lengths.period; lengths = c.in-Some.ensures.some; short = c.in-Some.ensures.short; many = omega (arith, c.operations_in.ensures, c.number.ensures, c.if-operations_in-number.true) }, refl))
+    (inr ((c.in-Some.lengths.prefix, c.in-Some.lengths.period, c.in-Some.ensures.some, c.in-Some.ensures.short, omega (arith, c.operations_in.ensures, c.number.ensures, c.if-operations_in-number.true)), refl))
 
 pub returns-then-operations_in-number-clause-only : goal.returns-then-operations_in-number-clause-only
 returns-then-operations_in-number-clause-only c = λ e why. one_refusal c.args.net.now e (fault.Limit limit.Events) why
-    (inr (record { prefix = c.in-Some.lengths.prefix; period = c.in-Some.lengths.period; lengths = c.in-Some.ensures.some; short = c.in-Some.ensures.short; many = omega (arith, c.operations_in.ensures, c.number.ensures, c.if-operations_in-number.true) }, refl))
+    (inr ((c.in-Some.lengths.prefix, c.in-Some.lengths.period, c.in-Some.ensures.some, c.in-Some.ensures.short, omega (arith, c.operations_in.ensures, c.number.ensures, c.if-operations_in-number.true)), refl))
 
 pub returns-in_err-orders-clause-scheduled : goal.returns-in_err-orders-clause-scheduled
 returns-in_err-orders-clause-scheduled c =

@@ -14,5 +14,5 @@ pub returns-clause-ok : goal.returns-clause-ok
 returns-clause-ok c = record {
   first = c.in_ok-a.ensures.ok;
   second = c.in_ok-b.ensures.ok;
-  compare = λ n is. omega (arith, horizon_one (seen c.in_ok-a.a) (seen c.in_ok-b.b) n c.horizon_of.result is (looked c), c.if-horizon_of-number.false, c.number.ensures);
+  near = λ f. omega (arith, horizon_one (seen c.in_ok-a.a) (seen c.in_ok-b.b) f.0 c.horizon_of.result f.1 (looked c), c.if-horizon_of-number.false, c.number.ensures, f.2);
 }

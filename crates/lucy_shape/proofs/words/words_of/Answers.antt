@@ -10,7 +10,8 @@ use Rattle.lucy_shape.proofs.Writings.{so_far_more, so_far_all, so_far_short, cl
 use Rattle.lucy_shape.proofs.words.words_of.Goals as goal
 use Rattle.lucy_shape.specs.Fitting.{clock_at}
 use Rattle.lucy_shape.specs.Marking.{IsSolved}
-use Rattle.lucy_shape.specs.Writing.{IsWordOf, IsWrittenLong, AreRefused, word_bits, most_word_bits}
+use Rattle.lucy_need.specs.Meeting.{word_bits}
+use Rattle.lucy_shape.specs.Writing.{IsWordOf, IsWrittenLong, AreRefused, most_word_bits}
 
 pub clock_word-requires : goal.clock_word-requires
 clock_word-requires c =
