@@ -3,7 +3,7 @@ use Rattle.std.proofs.Common.{◌≡◌, ℕ, ◌+◌, ◌<◌, ◌≤◌, Bool,
 use Rattle.std.specs.Prelude.{ℤ, ◌-◌, ◌⊎◌, IsTrue, take, slice_set, slice_index_or}
 use Rattle.std.specs.Int.{w64}
 use mir.Val.{SFits as FitsSigned}
-use Rattle.lucy_text.specs.Outside.{AtEnd, Rose, NoneFollows}
+use Rattle.lucy_text.specs.Outside.{SeenSource, HasEnded, Rose, NoneFollows}
 use Rattle.lucy_text.proofs.OutsideLaws.{followed_more, followed-nil, still_none}
 use Rattle.lucy_lines.specs.declared.input.InputSpec.{InputSpec}
 use Rattle.lucy_lines.specs.declared.reader.Line as line_type
@@ -16,7 +16,7 @@ use Rattle.lucy_lines.specs.Reading.{ReaderState, new_reader, Took, Asked, Blame
 use Rattle.lucy_lines.proofs.CutLaws.{turns_cut}
 use Rattle.lucy_lines.proofs.Exists.{some_cut}
 use Rattle.lucy_lines.proofs.ReaderLaws.{kind_fits}
-use Rattle.lucy_feed.specs.Sources.{Stop, Ended, Failed, Open, Drained, SeenSource, seen_source}
+use Rattle.lucy_feed.specs.Sources.{Stop, Ended, Failed, Open, Drained}
 use Rattle.lucy_feed.specs.Feeding.{StopsFor, IsAsked}
 use Rattle.lucy_feed.specs.Going.{Leads, Behind, CanGoOn, CanCount}
 use Rattle.lucy_feed.specs.Resuming.{AreCounts, BeginCut, IsOpen, IsStopped}
@@ -38,29 +38,24 @@ lead_on inputs items taken bytes held next was now i leads quiet n shut late oth
 
 -- what a call of the reader tells
 pub record Called (old new : ReaderState) (before after : SeenSource) (result : Result line_type.Line TextFault) (bytes : List ℕ) : Type 0 where
-  pub took : Took old new before.left after.left result bytes
+  pub took : Took old new before after result bytes
   pub inputs : new.inputs ≡ old.inputs
   pub within : bytes_taken new.held ≤ most_taken result
   pub unread : old.closed ≡ true → after ≡ before
-  pub at_end : old.closed ≡ false → new.closed ≡ true → AtEnd after.left × IsTrue after.ended
+  pub at_end : old.closed ≡ false → new.closed ≡ true → HasEnded after
   pub goes_on : new.closed ≡ false → GoesOn before.since_stop after.since_stop result
   pub none_follows : NoneFollows before.since_stop after.since_stop
   pub cause : Blames before.faults after.faults result
 
--- a source as contracts see it
-abbrev pub seen : {S : Type 0} (left : S → Option (List ℕ)) (ended : S → Bool) (faults : S → ℕ) (since_stop : S → Option ℕ) → S → SeenSource
-seen left ended faults since_stop source = seen_source (left source) (ended source) (faults source) (since_stop source)
-
-pub called : {S : Type 0} (left : S → Option (List ℕ)) (ended : S → Bool) (faults : S → ℕ) (since_stop : S → Option ℕ) (old new : ReaderState) (before after : S) (result : Result line_type.Line TextFault) (bytes : List ℕ) →
-    Took old new (left before) (left after) result bytes → new.inputs ≡ old.inputs → bytes_taken new.held ≤ most_taken result → (IsTrue old.closed → after ≡ before) →
-    (old.closed ≡ false → new.closed ≡ true → AtEnd (left after) × IsTrue (ended after)) → (new.closed ≡ false → GoesOn (since_stop before) (since_stop after) result) →
-    NoneFollows (since_stop before) (since_stop after) → Blames (faults before) (faults after) result →
-    Called old new (seen left ended faults since_stop before) (seen left ended faults since_stop after) result bytes
-called left ended faults since_stop old new before after result bytes t i w u e g n c = record {
+pub called : {S : Type 0} (seen : S → SeenSource) (old new : ReaderState) (before after : S) (result : Result line_type.Line TextFault) (bytes : List ℕ) →
+    Took old new (seen before) (seen after) result bytes → new.inputs ≡ old.inputs → bytes_taken new.held ≤ most_taken result → (IsTrue old.closed → after ≡ before) →
+    (old.closed ≡ false → new.closed ≡ true → HasEnded (seen after)) → (new.closed ≡ false → GoesOn (seen before).since_stop (seen after).since_stop result) →
+    NoneFollows (seen before).since_stop (seen after).since_stop → Blames (seen before).faults (seen after).faults result → Called old new (seen before) (seen after) result bytes
+called seen old new before after result bytes t i w u e g n c = record {
   took = t;
   inputs = i;
   within = w;
-  unread = λ shut. ap (seen left ended faults since_stop) (u shut);
+  unread = λ shut. ap seen (u shut);
   at_end = e;
   goes_on = g;
   none_follows = n;
@@ -128,7 +123,7 @@ asked_now : (inputs : List InputSpec) (items : List ItemOf) (taken bytes : List 
 asked_now inputs items taken bytes held closed leads open_yet early late h e few n =
     inr (taken ++ early, late, items ++ [], h, ap (λ u. taken ++ u) e ∙ sym (append_assoc taken early late), few, leads false early [] (Before h) (λ t. let no_more : true ≡ false = sym t ∙ open_yet in cc) (undecided n))
 
-asked_so : (inputs : List InputSpec) (old new : ReaderState) (before after : Option (List ℕ)) (result : Result line_type.Line TextFault) (items : List ItemOf) (taken bytes : List ℕ) → old.inputs ≡ inputs →
+asked_so : (inputs : List InputSpec) (old new : ReaderState) (before after : SeenSource) (result : Result line_type.Line TextFault) (items : List ItemOf) (taken bytes : List ℕ) → old.inputs ≡ inputs →
     Leads inputs items taken old.held old.closed → IsAsked inputs taken → Took old new before after result bytes → (bytes ≡ []) ⊎ Asked old bytes → (old.closed ≡ true) ⊎ (old.closed ≡ false) → IsAsked inputs (taken ++ bytes)
 asked_so inputs old new before after result items taken bytes same leads asked t (inl none) closed = asked_before inputs taken bytes none asked
 asked_so inputs old new before after result items taken bytes same leads asked t (inr now) (inl shut) = let q = t.quiet shut in asked_before inputs taken bytes q.0 asked
@@ -143,14 +138,14 @@ behind_call inputs old new before between after result items taken bytes s c = r
   took = followed_more before.left between.left after.left taken bytes s.behind.took c.took.bytes;
   counted = let a = s.behind.counted in let b = c.took.counted in let l = length-append taken bytes in omega arith;
   met_end = λ e. elim (either old.closed) [
-    | inl shut ↦ let P : SeenSource → Type 0 = λ u. AtEnd u.left × IsTrue u.ended in subst P (sym (c.unread shut)) (s.behind.met_end shut)
+    | inl shut ↦ subst HasEnded (sym (c.unread shut)) (s.behind.met_end shut)
     | inr open_yet ↦ c.at_end open_yet e
   ];
   none_follows = elim (either old.closed) [
     | inl shut ↦ let P : SeenSource → Type 0 = λ u. NoneFollows before.since_stop u.since_stop in subst P (sym (c.unread shut)) s.behind.none_follows
     | inr open_yet ↦ λ none. c.none_follows (s.going open_yet none)
   ];
-  asked = asked_so inputs old new between.left after.left result items taken bytes s.kept s.leads s.behind.asked c.took c.took.needed (either old.closed);
+  asked = asked_so inputs old new between after result items taken bytes s.kept s.leads s.behind.asked c.took c.took.needed (either old.closed);
 }
 
 -- what a call that gave an item goes on from
@@ -211,7 +206,7 @@ ended inputs old new counts fault before between after items taken bytes o c shu
         ended = shut;
         kept = c.inputs ∙ s.kept;
         counted = o.counted;
-        read = record { took = b.took; stopped = (omega arith, met.0, met.1, c.cause ∙ s.calm); none_follows = b.none_follows };
+        read = record { took = b.took; stopped = (omega arith, met, c.cause ∙ s.calm); none_follows = b.none_follows };
         asked = b.asked;
         feed = record { cut = subst R (append-nil items) cut; lists = refl; fault = none; stopped = subst T (sym none) refl };
       },
@@ -266,7 +261,7 @@ line_refused inputs old new counts before between after items taken bytes f o c 
         ended = ended_now;
         kept = c.inputs ∙ s.kept;
         counted = o.counted;
-        read = record { took = b.took; stopped = (omega arith, met.0, met.1, calm ∙ s.calm); none_follows = b.none_follows };
+        read = record { took = b.took; stopped = (omega arith, met, calm ∙ s.calm); none_follows = b.none_follows };
         asked = b.asked;
         feed = record { cut = subst T (append-nil items) cut; lists = refl; fault = refl; stopped = stops Drained (inl refl) };
       },

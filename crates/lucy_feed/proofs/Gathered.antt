@@ -3,8 +3,8 @@ use Rattle.std.proofs.Common.{ℕ, ◌+◌, ◌≤◌, ◌≡◌, List, length, 
 use Rattle.std.specs.Prelude.{IsErrAnd}
 use Rattle.std.specs.declared.alloc.Global.{Global}
 use Rattle.std.specs.declared.vec.Vec.{Vec}
-use Rattle.lucy_text.specs.Outside.{followed, NoneFollows}
-use Rattle.lucy_feed.specs.Sources.{Stop, Open, SeenSource, Read, IsGathered}
+use Rattle.lucy_text.specs.Outside.{SeenSource, GaveBytes, NoneFollows}
+use Rattle.lucy_feed.specs.Sources.{Stop, Open, Read, IsGathered}
 use Rattle.lucy_feed.specs.declared.read.ReadError.{ReadError}
 use Rattle.lucy_feed.specs.declared.read.ReadError.TheVariants.{OutOfMemory}
 
@@ -14,7 +14,7 @@ Gives most before after r = (taken : List ℕ) × (stop : Stop) × Read most bef
 
 -- all that was taken up to now
 pub record Took (before after : SeenSource) (taken : List ℕ) : Type 0 where
-  pub took : before.left ≡ followed taken after.left
+  pub took : GaveBytes before after taken
   pub none_follows : NoneFollows before.since_stop after.since_stop
 
 -- memory ran out behind these bytes

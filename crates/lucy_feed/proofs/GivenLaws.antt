@@ -8,7 +8,8 @@ use Rattle.lucy_word.specs.declared.error.OutOfMemory.{OutOfMemory}
 use Rattle.lucy_text.proofs.OutsideLaws.{followed-nil, still_none}
 use Rattle.std.proofs.lemmas.List.FromFn.{length-map-range_with_len}
 use Rattle.lucy_feed.specs.declared.feeds.Feed.{Feed}
-use Rattle.lucy_feed.specs.Sources.{SeenSource, Stop, Open, Read}
+use Rattle.lucy_text.specs.Outside.{SeenSource}
+use Rattle.lucy_feed.specs.Sources.{Stop, Open, Read}
 use Rattle.lucy_feed.specs.Feeding.{values_of, IsAsked, IsFeed, IsFeedOf}
 use Rattle.lucy_feed.specs.Resuming.{FeedState, HasRead, AreFresh, ReadsMore, GivesUp}
 

@@ -4,7 +4,8 @@ use Rattle.std.specs.Prelude.{ℤ, ◌⊎◌, slice_set, slice_index_or, IfSome,
 use Rattle.lucy_lines.specs.declared.input.InputSpec.{InputSpec}
 use Rattle.lucy_lines.specs.Cuts.{ItemOf, Stop as Halt, Cut, input_of}
 use Rattle.lucy_lines.specs.Reading.{ReaderState}
-use Rattle.lucy_feed.specs.Sources.{SeenSource, Stop}
+use Rattle.lucy_text.specs.Outside.{SeenSource}
+use Rattle.lucy_feed.specs.Sources.{Stop}
 use Rattle.lucy_feed.specs.Resuming.{FeedState, BeginCut, IsOpen, IsStopped, HasRead, IsGivenUp, AreFresh, ReadsMore, PassesMore, GivesUp}
 use Rattle.lucy_feed.proofs.ListLaws.{item_pushed}
 

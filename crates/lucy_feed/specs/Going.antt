@@ -1,12 +1,11 @@
 -- What the reading of an input keeps from call to call.
-use Rattle.std.specs.Prelude.{ℕ, ◌+◌, ◌≤◌, ◌≡◌, Bool, true, false, IsTrue, List, [], ◌++◌, length, slice_index_or, Option, Some, None}
-use Rattle.lucy_text.specs.Outside.{followed, AtEnd, NoneFollows}
+use Rattle.std.specs.Prelude.{ℕ, ◌+◌, ◌≤◌, ◌≡◌, Bool, true, false, List, [], ◌++◌, length, slice_index_or, Option, Some, None}
+use Rattle.lucy_text.specs.Outside.{SeenSource, GaveBytes, HasEnded, NoneFollows}
 use Rattle.lucy_lines.specs.declared.input.InputSpec.{InputSpec}
 use Rattle.lucy_lines.specs.declared.reader.TextFault.{TextFault}
 use Rattle.lucy_lines.specs.Fronts.{most_bytes}
 use Rattle.lucy_lines.specs.Cuts.{Held, bytes_taken, ItemOf, with_more, Stop as Halt, Cut, input_of}
 use Rattle.lucy_lines.specs.Reading.{ReaderState}
-use Rattle.lucy_feed.specs.Sources.{SeenSource}
 use Rattle.lucy_feed.specs.Feeding.{IsAsked}
 
 -- A cut of what is held, with the bytes that are still to be taken, goes on behind these items, for which those bytes were taken.
@@ -16,9 +15,9 @@ Leads inputs items taken held closed = (shut : Bool) (late : List ℕ) (others :
 
 -- what holds of the bytes taken so far, whatever was answered
 pub record Behind (inputs : List InputSpec) (reader : ReaderState) (before after : SeenSource) (taken : List ℕ) : Type 0 where
-  pub took : before.left ≡ followed taken after.left
+  pub took : GaveBytes before after taken
   pub counted : bytes_taken reader.held ≡ length taken
-  pub met_end : reader.closed ≡ true → AtEnd after.left × IsTrue after.ended
+  pub met_end : reader.closed ≡ true → HasEnded after
   pub none_follows : NoneFollows before.since_stop after.since_stop
   pub asked : IsAsked inputs taken
 

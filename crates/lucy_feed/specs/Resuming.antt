@@ -6,7 +6,8 @@ use Rattle.lucy_lines.specs.declared.reader.TextFault.{TextFault}
 use Rattle.lucy_lines.specs.Fronts.{most_bytes}
 use Rattle.lucy_lines.specs.Cuts.{ItemOf, Stop as Halt, Cut, input_of}
 use Rattle.lucy_lines.specs.Reading.{ReaderState}
-use Rattle.lucy_feed.specs.Sources.{SeenSource, Stop, Open, Read}
+use Rattle.lucy_text.specs.Outside.{SeenSource}
+use Rattle.lucy_feed.specs.Sources.{Stop, Open, Read}
 use Rattle.lucy_feed.specs.Feeding.{values_by_stream, IsAsked, IsFeedOf}
 use Rattle.lucy_feed.specs.Going.{CanGoOn}
 

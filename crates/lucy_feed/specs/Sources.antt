@@ -1,20 +1,10 @@
--- A source as contracts see it, and what the reading of it has met.
-use Rattle.std.specs.Prelude.{ℕ, ◌+◌, ◌<◌, ◌≤◌, ◌≡◌, ◌⊎◌, Bool, IsTrue, List, [], length, Option, Result, MatchResult}
+-- What the reading of a source has met.
+use Rattle.std.specs.Prelude.{ℕ, ◌+◌, ◌<◌, ◌≤◌, ◌≡◌, ◌⊎◌, List, [], length, Result, MatchResult}
 use Rattle.std.specs.declared.alloc.Global.{Global}
 use Rattle.std.specs.declared.vec.Vec.{Vec}
-use Rattle.lucy_text.specs.Outside.{followed, AtEnd, Rose, NoneFollows}
+use Rattle.lucy_text.specs.Outside.{SeenSource, GaveBytes, HasEnded, Rose, NoneFollows}
 use Rattle.lucy_feed.specs.declared.read.ReadError.{ReadError}
 use Rattle.lucy_feed.specs.declared.read.ReadError.TheVariants as read_error
-
--- a source: the bytes left, whether it has met its end, how often it failed, and the calls since it first met the end or failed
-pub record SeenSource : Type 0 where
-  pub left : Option (List ℕ)
-  pub ended : Bool
-  pub faults : ℕ
-  pub since_stop : Option ℕ
-
-abbrev pub seen_source : (left : Option (List ℕ)) (ended : Bool) (faults : ℕ) (since_stop : Option ℕ) → SeenSource
-seen_source left ended faults since_stop = record { left = left; ended = ended; faults = faults; since_stop = since_stop }
 
 -- how the reading of a source stopped: nothing was read, it met the end, a read failed, a byte past the limit was taken, reading
 -- ended before any of these, or at the end, behind a byte past the limit, if need be
@@ -24,15 +14,15 @@ pub data Stop : Type 0 where
 -- the reading of at most so many bytes, and one more, stopped so; memory may run out behind that one too
 abbrev pub StoppedAt : (most : ℕ) (before after : SeenSource) (taken : List ℕ) → Stop → Type 0
 StoppedAt most before after taken Unread = (taken ≡ []) × (after ≡ before)
-StoppedAt most before after taken Ended = (length taken ≤ most) × AtEnd after.left × IsTrue after.ended × (after.faults ≡ before.faults)
+StoppedAt most before after taken Ended = (length taken ≤ most) × HasEnded after × (after.faults ≡ before.faults)
 StoppedAt most before after taken Failed = (length taken ≤ most) × Rose before.faults after.faults
 StoppedAt most before after taken Passed = (length taken ≡ most + 1) × (after.faults ≡ before.faults)
 StoppedAt most before after taken Open = (length taken ≤ most + 1) × (after.faults ≡ before.faults)
-StoppedAt most before after taken Drained = (length taken ≤ most + 1) × AtEnd after.left × IsTrue after.ended × (after.faults ≡ before.faults)
+StoppedAt most before after taken Drained = (length taken ≤ most + 1) × HasEnded after × (after.faults ≡ before.faults)
 
 -- these bytes were taken, and then reading stopped so
 pub record Read (most : ℕ) (before after : SeenSource) (taken : List ℕ) (stop : Stop) : Type 0 where
-  pub took : before.left ≡ followed taken after.left
+  pub took : GaveBytes before after taken
   pub stopped : StoppedAt most before after taken stop
   pub none_follows : NoneFollows before.since_stop after.since_stop
 

@@ -1,6 +1,6 @@
 // All bytes of a source, up to a limit.
 ghost use Rattle.std.specs.Prelude.{◌+◌, ◌<◌, ◌≤◌, ◌≡◌, ◌^◌, ℕ, List};
-ghost use Rattle.lucy_feed.specs.Sources.{Stop, seen_source, Read, IsGathered};
+ghost use Rattle.lucy_feed.specs.Sources.{Stop, Read, IsGathered};
 
 use lucy_text::Source;
 use std::alloc::{AllocError, Global};
@@ -41,11 +41,9 @@ pub fn read_up_to<I: Source>(
     limit: usize,
 ) -> Result<Vec<u8>, ReadError>
     requires { limit < 2 ^ 32 }
-    ensures read { (taken : List ℕ) × (stop : Stop) × Read limit
-        (seen_source (I.left input.old) (I.ended input.old) (I.faults input.old) (I.since_stop input.old))
-        (seen_source (I.left input.new) (I.ended input.new) (I.faults input.new) (I.since_stop input.new))
+    ensures read { (taken : List ℕ) × (stop : Stop) × Read limit (I.seen input.old) (I.seen input.new)
         taken stop × IsGathered limit taken stop result }
-    ensures count { I.faults input.old ≤ I.faults input.new }
+    ensures count { (I.seen input.old).faults ≤ (I.seen input.new).faults }
 {
     let mut bytes = Vec::new(alloc);
     let mut buffer = [0u8; 4_096];

@@ -5,7 +5,8 @@ ghost use mir.Val.{SFits as FitsSigned};
 ghost use Rattle.lucy_lines.specs.declared.input.InputSpec.{InputSpec as Spec};
 ghost use Rattle.lucy_lines.specs.Fronts.{most_bytes};
 ghost use Rattle.lucy_lines.specs.Cuts.{ItemOf, Stop as Halt};
-ghost use Rattle.lucy_feed.specs.Sources.{SeenSource, Stop, seen_source};
+ghost use Rattle.lucy_text.specs.Outside.{SeenSource};
+ghost use Rattle.lucy_feed.specs.Sources.{Stop};
 ghost use Rattle.lucy_feed.specs.Feeding.{values_by_stream};
 ghost use Rattle.lucy_feed.specs.Resuming.{AreMet, IsOpen, IsStopped, HasRead, AreFresh, ReadsMore, PassesMore, GivesUp};
 
@@ -109,22 +110,19 @@ impl FeedReader {
     fn next_item<I: Source>(&mut self, source: &mut I) -> Option<(u32, i64)>
         requires { self.old.reader.ended ≡ false }
         ensures item { IfSome result (λ i. (inputs : List Spec) (first : SeenSource) (items : List ItemOf) (taken : List ℕ) → IsOpen inputs first
-            (seen_source (I.left source.old) (I.ended source.old) (I.faults source.old) (I.since_stop source.old)) self.old.reader self.old.counts items taken →
-            (bytes : List ℕ) × IsOpen inputs first
-            (seen_source (I.left source.new) (I.ended source.new) (I.faults source.new) (I.since_stop source.new)) self.new.reader self.new.counts
-            (items ++ record { stream = i.0; value = i.1 } ∷ []) (taken ++ bytes)) }
+            (I.seen source.old) self.old.reader self.old.counts items taken → (bytes : List ℕ) × IsOpen inputs first
+            (I.seen source.new) self.new.reader self.new.counts (items ++ record { stream = i.0; value = i.1 } ∷ []) (taken ++ bytes)) }
         ensures stop { MatchOption result ((inputs : List Spec) (first : SeenSource) (items : List ItemOf) (taken : List ℕ) → IsOpen inputs first
-            (seen_source (I.left source.old) (I.ended source.old) (I.faults source.old) (I.since_stop source.old)) self.old.reader self.old.counts items taken →
+            (I.seen source.old) self.old.reader self.old.counts items taken →
             (bytes : List ℕ) × (stop : Stop) × (halt : Halt) × IsStopped inputs first
-            (seen_source (I.left source.new) (I.ended source.new) (I.faults source.new) (I.since_stop source.new)) self.new.reader self.new.counts self.new.fault
-            items (taken ++ bytes) stop halt) (λ i. Unit {0}) }
+            (I.seen source.new) self.new.reader self.new.counts self.new.fault items (taken ++ bytes) stop halt) (λ i. Unit {0}) }
         ensures known { IfSome result (λ i. i.0 < length self.old.reader.inputs) }
         ensures fits { IfSome result (λ i. FitsSigned w64 i.1) }
         ensures progress { MatchOption result (self.new.reader.ended ≡ true) (λ i. (self.new.reader.ended ≡ false) × (self.old.reader.held.used < self.new.reader.held.used) × (self.new.reader.held.used ≤ most_bytes + 1)) }
         ensures fresh { self.new.fresh ≡ self.old.fresh }
         ensures risen { AreMet self.old.counts self.new.counts }
         ensures inputs { self.new.reader.inputs ≡ self.old.reader.inputs }
-        ensures count { I.faults source.old ≤ I.faults source.new }
+        ensures count { (I.seen source.old).faults ≤ (I.seen source.new).faults }
     {
         match self.reader.next_line(source) {
             Ok(Line::Item { stream, value }) => {
@@ -142,16 +140,12 @@ impl FeedReader {
     // Reads a line and keeps its item, if it has one.
     fn keep_item<I: Source>(&mut self, alloc: Global, source: &mut I) -> Result<(), OutOfMemory>
         requires { self.old.reader.ended ≡ false }
-        ensures reads { OnOk result (ReadsMore
-            (seen_source (I.left source.old) (I.ended source.old) (I.faults source.old) (I.since_stop source.old))
-            (seen_source (I.left source.new) (I.ended source.new) (I.faults source.new) (I.since_stop source.new)) self.old self.new) }
-        ensures gives_up { OnErr result (GivesUp
-            (seen_source (I.left source.old) (I.ended source.old) (I.faults source.old) (I.since_stop source.old))
-            (seen_source (I.left source.new) (I.ended source.new) (I.faults source.new) (I.since_stop source.new)) self.old) }
+        ensures reads { OnOk result (ReadsMore (I.seen source.old) (I.seen source.new) self.old self.new) }
+        ensures gives_up { OnErr result (GivesUp (I.seen source.old) (I.seen source.new) self.old) }
         ensures progress { OnOk result ((self.new.reader.ended ≡ true) ⊎ ((self.new.reader.ended ≡ false) × (self.old.reader.held.used < self.new.reader.held.used) × (self.new.reader.held.used ≤ most_bytes + 1))) }
         ensures risen { AreMet self.old.counts self.new.counts }
         ensures inputs { self.new.reader.inputs ≡ self.old.reader.inputs }
-        ensures count { I.faults source.old ≤ I.faults source.new }
+        ensures count { (I.seen source.old).faults ≤ (I.seen source.new).faults }
     {
         match self.next_item(source) {
             Some((stream, value)) => match self.fresh.push(alloc, stream, value) {
@@ -180,17 +174,13 @@ impl FeedReader {
         source: &mut I,
     ) -> Result<(), OutOfMemory>
         requires { stream < length self.old.reader.inputs }
-        ensures reads { OnOk result (ReadsMore
-            (seen_source (I.left source.old) (I.ended source.old) (I.faults source.old) (I.since_stop source.old))
-            (seen_source (I.left source.new) (I.ended source.new) (I.faults source.new) (I.since_stop source.new)) self.old self.new) }
-        ensures gives_up { OnErr result (GivesUp
-            (seen_source (I.left source.old) (I.ended source.old) (I.faults source.old) (I.since_stop source.old))
-            (seen_source (I.left source.new) (I.ended source.new) (I.faults source.new) (I.since_stop source.new)) self.old) }
+        ensures reads { OnOk result (ReadsMore (I.seen source.old) (I.seen source.new) self.old self.new) }
+        ensures gives_up { OnErr result (GivesUp (I.seen source.old) (I.seen source.new) self.old) }
         ensures enough { OnOk result ((self.new.reader.ended ≡ true) ⊎ (least ≤ slice_index_or self.new.counts stream 0)) }
         ensures unread { (self.old.reader.ended ≡ true) ⊎ (least ≤ slice_index_or self.old.counts stream 0) → (result ≡ Ok tt) × (source.new ≡ source.old) × (self.new ≡ self.old) }
         ensures risen { AreMet self.old.counts self.new.counts }
         ensures inputs { self.new.reader.inputs ≡ self.old.reader.inputs }
-        ensures count { I.faults source.old ≤ I.faults source.new }
+        ensures count { (I.seen source.old).faults ≤ (I.seen source.new).faults }
     {
         'lines: while self.lacks(stream, least) {
             self.keep_item(alloc, source)?;
@@ -208,17 +198,13 @@ impl FeedReader {
         source: &mut I,
     ) -> Result<(), OutOfMemory>
         requires { length wanted.now ≡ length self.old.reader.inputs }
-        ensures reads { OnOk result (ReadsMore
-            (seen_source (I.left source.old) (I.ended source.old) (I.faults source.old) (I.since_stop source.old))
-            (seen_source (I.left source.new) (I.ended source.new) (I.faults source.new) (I.since_stop source.new)) self.old self.new) }
-        ensures gives_up { OnErr result (GivesUp
-            (seen_source (I.left source.old) (I.ended source.old) (I.faults source.old) (I.since_stop source.old))
-            (seen_source (I.left source.new) (I.ended source.new) (I.faults source.new) (I.since_stop source.new)) self.old) }
+        ensures reads { OnOk result (ReadsMore (I.seen source.old) (I.seen source.new) self.old self.new) }
+        ensures gives_up { OnErr result (GivesUp (I.seen source.old) (I.seen source.new) self.old) }
         ensures enough { OnOk result ((self.new.reader.ended ≡ true) ⊎ AreMet wanted.now self.new.counts) }
         ensures unread { (self.old.reader.ended ≡ true) ⊎ AreMet wanted.now self.old.counts → (result ≡ Ok tt) × (source.new ≡ source.old) × (self.new ≡ self.old) }
         ensures risen { AreMet self.old.counts self.new.counts }
         ensures inputs { self.new.reader.inputs ≡ self.old.reader.inputs }
-        ensures count { I.faults source.old ≤ I.faults source.new }
+        ensures count { (I.seen source.old).faults ≤ (I.seen source.new).faults }
     {
         for (stream, least) in wanted.iter().enumerate() {
             self.read_until(alloc, stream, *least, source)?;
@@ -228,17 +214,13 @@ impl FeedReader {
 
     /// Reads on until reading stops, and keeps all values. Where memory runs out, it is as with `read_to`.
     pub fn read_on<I: Source>(&mut self, alloc: Global, source: &mut I) -> Result<(), OutOfMemory>
-        ensures reads { OnOk result (ReadsMore
-            (seen_source (I.left source.old) (I.ended source.old) (I.faults source.old) (I.since_stop source.old))
-            (seen_source (I.left source.new) (I.ended source.new) (I.faults source.new) (I.since_stop source.new)) self.old self.new) }
-        ensures gives_up { OnErr result (GivesUp
-            (seen_source (I.left source.old) (I.ended source.old) (I.faults source.old) (I.since_stop source.old))
-            (seen_source (I.left source.new) (I.ended source.new) (I.faults source.new) (I.since_stop source.new)) self.old) }
+        ensures reads { OnOk result (ReadsMore (I.seen source.old) (I.seen source.new) self.old self.new) }
+        ensures gives_up { OnErr result (GivesUp (I.seen source.old) (I.seen source.new) self.old) }
         ensures stopped { OnOk result (self.new.reader.ended ≡ true) }
         ensures unread { self.old.reader.ended ≡ true → (result ≡ Ok tt) × (source.new ≡ source.old) × (self.new ≡ self.old) }
         ensures risen { AreMet self.old.counts self.new.counts }
         ensures inputs { self.new.reader.inputs ≡ self.old.reader.inputs }
-        ensures count { I.faults source.old ≤ I.faults source.new }
+        ensures count { (I.seen source.old).faults ≤ (I.seen source.new).faults }
     {
         'lines: while !self.stopped() {
             self.keep_item(alloc, source)?;
@@ -248,15 +230,13 @@ impl FeedReader {
 
     /// Reads on until reading stops, and counts the values that come without keeping any. It takes no memory.
     pub fn pass_rest<I: Source>(&mut self, source: &mut I)
-        ensures reads { PassesMore
-            (seen_source (I.left source.old) (I.ended source.old) (I.faults source.old) (I.since_stop source.old))
-            (seen_source (I.left source.new) (I.ended source.new) (I.faults source.new) (I.since_stop source.new)) self.old self.new }
+        ensures reads { PassesMore (I.seen source.old) (I.seen source.new) self.old self.new }
         ensures stopped { self.new.reader.ended ≡ true }
         ensures fresh { self.new.fresh ≡ self.old.fresh }
         ensures unread { self.old.reader.ended ≡ true → (source.new ≡ source.old) × (self.new ≡ self.old) }
         ensures risen { AreMet self.old.counts self.new.counts }
         ensures inputs { self.new.reader.inputs ≡ self.old.reader.inputs }
-        ensures count { I.faults source.old ≤ I.faults source.new }
+        ensures count { (I.seen source.old).faults ≤ (I.seen source.new).faults }
     {
         'lines: while !self.stopped() {
             let _ = self.next_item(source);

@@ -1,6 +1,6 @@
 -- What comes next where bytes are read as long as nothing is decided.
-use Rattle.std.proofs.Common.{◌≡◌, ℕ, ◌+◌, ◌-◌, ◌<◌, ◌≤◌, Bool, true, false, List, [], ◌∷◌, ◌++◌, length, Option, Some, None, Result, Ok, Err, refl, ap, sym, ◌∙◌, subst, inl, inr, arith, append_assoc, append-nil, length-append, length-drop}
-use Rattle.std.specs.Prelude.{ℤ, ◌⊎◌, IsTrue, take}
+use Rattle.std.proofs.Common.{◌≡◌, ℕ, ◌+◌, ◌-◌, ◌<◌, ◌≤◌, Bool, true, false, List, [], ◌∷◌, ◌++◌, length, Some, None, Result, Ok, Err, refl, ap, sym, ◌∙◌, subst, inl, inr, arith, append_assoc, append-nil, length-append, length-drop}
+use Rattle.std.specs.Prelude.{ℤ, ◌⊎◌, take}
 use Rattle.std.proofs.lemmas.Option.{slice_get_within}
 use Rattle.lucy_lines.specs.declared.input.InputSpec.{InputSpec}
 use Rattle.lucy_lines.specs.declared.front.Front.TheVariants as front
@@ -10,8 +10,8 @@ use Rattle.lucy_lines.specs.declared.reader.Line as line_type
 use Rattle.lucy_lines.specs.declared.reader.Line.TheVariants.{Item, End}
 use Rattle.lucy_lines.specs.declared.reader.TextFault.{TextFault}
 use Rattle.lucy_lines.specs.declared.reader.TextFault.TheVariants.{BadLine, UnknownStream, BadValue, ReadFault, TooLong}
-use Rattle.lucy_text.specs.Outside.{followed, AtEnd}
-use Rattle.lucy_text.proofs.OutsideLaws.{followed_more}
+use Rattle.lucy_text.specs.Outside.{SeenSource, GaveBytes, HasEnded}
+use Rattle.lucy_text.proofs.OutsideLaws.{followed, followed_more, followed-nil}
 use Rattle.lucy_lines.specs.Fronts.{most_bytes, front_of}
 use Rattle.lucy_lines.specs.Fields.{fields}
 use Rattle.lucy_lines.specs.Kinds.{FieldsSay}
@@ -182,9 +182,9 @@ may_end true = 0
 may_end false = 1
 
 -- a read uses up what may still be read
-pub read_smaller : (now mid new : ReaderState) (before after : Option (List ℕ)) (ended : Bool) (bytes : List ℕ) → HeldAnswers now mid.held None → Reads mid new before after ended bytes →
+pub read_smaller : (now mid new : ReaderState) (before after : SeenSource) (bytes : List ℕ) → HeldAnswers now mid.held None → Reads mid new before after bytes →
     most_bytes + 1 - bytes_taken new.held + may_end new.closed < most_bytes + 1 - bytes_taken now.held + may_end now.closed
-read_smaller now mid new before after ended bytes w r =
+read_smaller now mid new before after bytes w r =
     let o = open_within false mid.held.used mid.held.rest (wants_open (Wants mid.held) refl w.1) in
     let room : bytes_taken mid.held ≤ most_bytes = o.room in
     let same : bytes_taken mid.held ≡ bytes_taken now.held = wants_taken (Wants mid.held) refl w.1 in
@@ -196,31 +196,27 @@ read_smaller now mid new before after ended bytes w r =
       | inr p ↦ let q : may_end new.closed ≡ 0 = ap may_end p.0 in omega arith
     ]
 
-pub read_end : (mid new : ReaderState) (before after : Option (List ℕ)) (ended : Bool) (bytes : List ℕ) → Reads mid new before after ended bytes → new.closed ≡ true → AtEnd after × IsTrue ended
-read_end mid new before after ended bytes r e =
+pub read_end : (mid new : ReaderState) (before after : SeenSource) (bytes : List ℕ) → Reads mid new before after bytes → new.closed ≡ true → HasEnded after
+read_end mid new before after bytes r e =
     elim r.progress [
       | inl p ↦ let no_more : true ≡ false = sym e ∙ p.0 in cc
-      | inr p ↦ (p.1, p.2)
+      | inr p ↦ p.1
     ]
 
 -- what a call took so far
-pub record SoFar (was now : ReaderState) (before after : Option (List ℕ)) (taken : List ℕ) : Type 0 where
-  pub bytes : before ≡ followed taken after
+pub record SoFar (was now : ReaderState) (before after : SeenSource) (taken : List ℕ) : Type 0 where
+  pub bytes : GaveBytes before after taken
   pub follows : Follows was.inputs was.held taken now.held
   pub quiet : was.closed ≡ true → taken ≡ []
   pub needed : (taken ≡ []) ⊎ Asked was taken
   pub counted : bytes_taken now.held ≡ bytes_taken was.held + length taken
 
-pub nothing_yet : (was : ReaderState) (before : Option (List ℕ)) → SoFar was was before before []
-nothing_yet was before = record { bytes = sym (nothing_followed before); follows = follows_none was.inputs was.held; quiet = λ e. refl; needed = inl refl; counted = omega arith }
-  where
-    nothing_followed : (o : Option (List ℕ)) → followed [] o ≡ o
-    nothing_followed None = refl
-    nothing_followed (Some b) = refl
+pub nothing_yet : (was : ReaderState) (before : SeenSource) → SoFar was was before before []
+nothing_yet was before = record { bytes = sym (followed-nil before.left); follows = follows_none was.inputs was.held; quiet = λ e. refl; needed = inl refl; counted = omega arith }
 
-counted_read : (was now mid new : ReaderState) (before after : Option (List ℕ)) (ended : Bool) (taken bytes : List ℕ) → bytes_taken now.held ≡ bytes_taken was.held + length taken →
-    HeldAnswers now mid.held None → Reads mid new before after ended bytes → bytes_taken new.held ≡ bytes_taken was.held + length (taken ++ bytes)
-counted_read was now mid new before after ended taken bytes c w r =
+counted_read : (was now mid new : ReaderState) (before after : SeenSource) (taken bytes : List ℕ) → bytes_taken now.held ≡ bytes_taken was.held + length taken →
+    HeldAnswers now mid.held None → Reads mid new before after bytes → bytes_taken new.held ≡ bytes_taken was.held + length (taken ++ bytes)
+counted_read was now mid new before after taken bytes c w r =
     let same : bytes_taken mid.held ≡ bytes_taken now.held = wants_taken (Wants mid.held) refl w.1 in
     let held : bytes_taken new.held ≡ mid.held.used + length (mid.held.rest ++ bytes) = ap (λ u. bytes_taken u.held) r.held in
     let long = length-append mid.held.rest bytes in
@@ -228,19 +224,19 @@ counted_read was now mid new before after ended taken bytes c w r =
     omega arith
 
 -- the bytes of a call so far, one read on
-pub read_on : {S : Type 0} (was now mid new : ReaderState) (source left : S) (before between after : Option (List ℕ)) (ended : Bool) (taken bytes : List ℕ) → Kept was now → Fresh was now source left →
-    SoFar was now before between taken → HeldAnswers now mid.held None → Reads mid new between after ended bytes → SoFar was new before after (taken ++ bytes)
-read_on was now mid new source left before between after ended taken bytes k f s w r =
+pub read_on : {S : Type 0} (was now mid new : ReaderState) (source left : S) (before between after : SeenSource) (taken bytes : List ℕ) → Kept was now → Fresh was now source left →
+    SoFar was now before between taken → HeldAnswers now mid.held None → Reads mid new between after bytes → SoFar was new before after (taken ++ bytes)
+read_on was now mid new source left before between after taken bytes k f s w r =
     let open_call = (asks was now source left mid.held f w).0 in
     record {
-      bytes = followed_more before between after taken bytes s.bytes r.bytes;
+      bytes = followed_more before.left between.left after.left taken bytes s.bytes r.bytes;
       follows = follows_read was now mid new taken bytes k s.follows w (ap (λ u. u.held) r.held);
       quiet = λ e. let no_more : true ≡ false = sym e ∙ open_call in cc;
       needed = inr (taken, bytes, mid.held, refl, r.few, follows_now was.inputs was.held now.held taken false (Wants mid.held) s.follows (wants_call was now mid.held k w));
-      counted = counted_read was now mid new between after ended taken bytes s.counted w r;
+      counted = counted_read was now mid new between after taken bytes s.counted w r;
     }
 
-pub took_line : {S : Type 0} (was now new : ReaderState) (source left : S) (before after : Option (List ℕ)) (taken : List ℕ) (result : Result line_type.Line TextFault) → Kept was now → Fresh was now source left →
+pub took_line : {S : Type 0} (was now new : ReaderState) (source left : S) (before after : SeenSource) (taken : List ℕ) (result : Result line_type.Line TextFault) → Kept was now → Fresh was now source left →
     SoFar was now before after taken → new ≡ record now { held = new.held } → bytes_taken new.held ≡ bytes_taken now.held → HeldAnswers now new.held (Some result) → Took was new before after result taken
 took_line was now new source left before after taken result k f s e c h = record {
   bytes = s.bytes;
@@ -250,8 +246,8 @@ took_line was now new source left before after taken result k f s e c h = record
   answer = answers_call was now new taken result k e s.follows h;
 }
 
-pub took_fault : {S : Type 0} (was now mid new : ReaderState) (source left : S) (before between after : Option (List ℕ)) (taken : List ℕ) → Kept was now → Fresh was now source left →
-    SoFar was now before between taken → HeldAnswers now mid.held None → mid ≡ record now { held = mid.held } → new ≡ mid → after ≡ between → Took was new before after (Err ReadFault) taken
+pub took_fault : {S : Type 0} (was now mid new : ReaderState) (source left : S) (before between after : SeenSource) (taken : List ℕ) → Kept was now → Fresh was now source left →
+    SoFar was now before between taken → HeldAnswers now mid.held None → mid ≡ record now { held = mid.held } → new ≡ mid → after.left ≡ between.left → Took was new before after (Err ReadFault) taken
 took_fault was now mid new source left before between after taken k f s w e d b =
     let open_call = (asks was now source left mid.held f w).0 in
     record {
@@ -272,7 +268,7 @@ within_answer inputs closed was now (Err (BadValue k)) a w = w
 within_answer inputs closed was now (Err TooLong) a w = w
 
 -- no byte past an input's limit is taken where no line is decided
-pub took_within : (was now : ReaderState) (before after : Option (List ℕ)) (result : Result line_type.Line TextFault) (taken : List ℕ) → Took was now before after result taken → bytes_taken now.held ≤ most_bytes + 1 →
+pub took_within : (was now : ReaderState) (before after : SeenSource) (result : Result line_type.Line TextFault) (taken : List ℕ) → Took was now before after result taken → bytes_taken now.held ≤ most_bytes + 1 →
     bytes_taken now.held ≤ most_taken result
 took_within was now before after result taken t w = within_answer was.inputs now.closed (with_more was.held taken) now.held result t.answer w
 
@@ -309,7 +305,7 @@ gives_line a e (too_long f) = cc
 gives_line a e (wants f) = cc
 
 -- what a call that took bytes tells of its item
-took_item : (was now : ReaderState) (before after : Option (List ℕ)) (result : Result line_type.Line TextFault) (taken : List ℕ) → Took was now before after result taken → OfItem (OfLine was.inputs was.held now.held) result
+took_item : (was now : ReaderState) (before after : SeenSource) (result : Result line_type.Line TextFault) (taken : List ℕ) → Took was now before after result taken → OfItem (OfLine was.inputs was.held now.held) result
 took_item was now before after (Ok (Item s v)) taken t = let l = gives_line (Gives (record { stream = s; value = v }) now.held) refl t.answer in record { known = l.known; uses = l.uses }
 took_item was now before after (Ok End) taken t = tt
 took_item was now before after (Err f) taken t = tt
@@ -319,14 +315,14 @@ of_item P Q f (Ok (Item s v)) p = f s p
 of_item P Q f (Ok End) p = tt
 of_item P Q f (Err e) p = tt
 
-pub took_stream : (was now : ReaderState) (before after : Option (List ℕ)) (result : Result line_type.Line TextFault) (taken : List ℕ) → Took was now before after result taken → OfItem (λ stream. stream < length was.inputs) result
+pub took_stream : (was now : ReaderState) (before after : SeenSource) (result : Result line_type.Line TextFault) (taken : List ℕ) → Took was now before after result taken → OfItem (λ stream. stream < length was.inputs) result
 took_stream was now before after result taken t =
     let P : ℕ → Type 0 = OfLine was.inputs was.held now.held in
     let Q : ℕ → Type 0 = λ stream. stream < length was.inputs in
     let f : (s : ℕ) → P s → Q s = λ s of. of.known in
     of_item P Q f result (took_item was now before after result taken t)
 
-pub took_line_bytes : (was now : ReaderState) (used : ℕ) (before after : Option (List ℕ)) (result : Result line_type.Line TextFault) (taken : List ℕ) → now.held.used ≡ used → Took was now before after result taken →
+pub took_line_bytes : (was now : ReaderState) (used : ℕ) (before after : SeenSource) (result : Result line_type.Line TextFault) (taken : List ℕ) → now.held.used ≡ used → Took was now before after result taken →
     OfItem (λ _. was.held.used < used) result
 took_line_bytes was now used before after result taken same t =
     let P : ℕ → Type 0 = OfLine was.inputs was.held now.held in

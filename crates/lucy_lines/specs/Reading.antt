@@ -1,6 +1,6 @@
 -- What a reader of an input is seen as, and what a call of it answers.
 use Rattle.std.specs.Prelude.{ℕ, ◌+◌, ◌≤◌, ◌≡◌, ◌⊎◌, Bool, true, false, List, [], ◌++◌, length, Option, Some, Result, Ok, Err}
-use Rattle.lucy_text.specs.Outside.{followed, Rose}
+use Rattle.lucy_text.specs.Outside.{SeenSource, GaveBytes, Rose}
 use Rattle.lucy_lines.specs.declared.input.InputSpec.{InputSpec}
 use Rattle.lucy_lines.specs.declared.reader.Line as line_type
 use Rattle.lucy_lines.specs.declared.reader.Line.TheVariants.{Item, End}
@@ -40,8 +40,8 @@ Asked was taken = (early late : List ℕ) × (h : Held) × (taken ≡ early ++ l
 
 -- A call took these bytes, all of which are counted, and answered by what was held with them. Once the end was met a call takes
 -- none.
-pub record Took (was now : ReaderState) (before after : Option (List ℕ)) (result : Result line_type.Line TextFault) (taken : List ℕ) : Type 0 where
-  pub bytes : before ≡ followed taken after
+pub record Took (was now : ReaderState) (before after : SeenSource) (result : Result line_type.Line TextFault) (taken : List ℕ) : Type 0 where
+  pub bytes : GaveBytes before after taken
   pub quiet : was.closed ≡ true → (taken ≡ []) × (now.closed ≡ true)
   pub needed : (taken ≡ []) ⊎ Asked was taken
   pub counted : bytes_taken now.held ≡ bytes_taken was.held + length taken

@@ -1,6 +1,6 @@
 -- The parts of a call of a reader: what the line at the front of what is held gives, what is held answers, and one read.
-use Rattle.std.specs.Prelude.{ℕ, ◌≤◌, ◌≡◌, ◌⊎◌, Bool, true, false, List, length, take, Option, Some, None, Result, Ok, Err}
-use Rattle.lucy_text.specs.Outside.{followed, AtEnd}
+use Rattle.std.specs.Prelude.{ℕ, ◌≤◌, ◌≡◌, ◌⊎◌, true, false, List, length, take, Option, Some, None, Result, Ok, Err}
+use Rattle.lucy_text.specs.Outside.{SeenSource, GaveBytes, HasEnded}
 use Rattle.lucy_lines.specs.declared.front.Front.TheVariants as front
 use Rattle.lucy_lines.specs.declared.kind.Kind as kind_type
 use Rattle.lucy_lines.specs.declared.kind.Kind.TheVariants as kind
@@ -47,8 +47,8 @@ HeldAnswers r h (Some (Ok End)) = (r.closed ≡ true) × Next r.inputs true r.he
 HeldAnswers r h (Some (Err f)) = Next r.inputs r.closed r.held (Refuses f)
 
 -- One read: it took these bytes behind those that were held, or none at the end, which is noted then.
-pub record Reads (old new : ReaderState) (before after : Option (List ℕ)) (ended : Bool) (taken : List ℕ) : Type 0 where
-  pub bytes : before ≡ followed taken after
+pub record Reads (old new : ReaderState) (before after : SeenSource) (taken : List ℕ) : Type 0 where
+  pub bytes : GaveBytes before after taken
   pub few : length taken ≤ most_read
   pub held : new ≡ record old { held = with_more old.held taken; closed = new.closed }
-  pub progress : (new.closed ≡ false) × (1 ≤ length taken) ⊎ ((new.closed ≡ true) × AtEnd after × (ended ≡ true))
+  pub progress : (new.closed ≡ false) × (1 ≤ length taken) ⊎ ((new.closed ≡ true) × HasEnded after)

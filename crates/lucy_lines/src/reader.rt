@@ -1,5 +1,5 @@
 ghost use Rattle.std.specs.Prelude.{◌≡◌, ◌+◌, ◌<◌, ◌≤◌, ◌^◌, ◌↔◌, ℕ, Bool, List, [], ◌++◌, Some, Ok, true, false, length, IfOk, IfSome, OnOk, OnErr, IsTrue};
-ghost use Rattle.lucy_text.specs.Outside.{followed, AtEnd, HasCause, Rose, NoneFollows};
+ghost use Rattle.lucy_text.specs.Outside.{HasEnded, HasCause, NoneFollows};
 ghost use Rattle.lucy_lines.specs.Fronts.{most_bytes, run, front_of};
 ghost use Rattle.lucy_lines.specs.Cuts.{Held, bytes_taken, with_more, past, Answer, Next};
 ghost use Rattle.lucy_lines.specs.Reading.{ReaderState, new_reader, Took, Blames, GoesOn, most_taken, OfItem, IsDecided, IsLast};
@@ -164,11 +164,11 @@ impl InputReader {
     // Takes bytes by one read.
     fn take<I: Source>(&mut self, source: &mut I) -> Result<(), Failed>
         requires { front_of false self.old.held.used self.old.held.rest ≡ Front.Open }
-        ensures ok { IfOk result (λ _. (taken : List ℕ) × Reads self.old self.new (I.left source.old) (I.left source.new) (I.ended source.new) taken) }
-        ensures err { OnErr result ((self.new ≡ self.old) × (I.left source.new ≡ I.left source.old)) }
-        ensures goes_on { OnOk result (self.new.closed ≡ false → I.since_stop source.old ≡ Some 0 → I.since_stop source.new ≡ Some 0) }
-        ensures none_follows { NoneFollows (I.since_stop source.old) (I.since_stop source.new) }
-        ensures cause { HasCause (I.faults source.old) (I.faults source.new) result }
+        ensures ok { IfOk result (λ _. (taken : List ℕ) × Reads self.old self.new (I.seen source.old) (I.seen source.new) taken) }
+        ensures err { OnErr result ((self.new ≡ self.old) × ((I.seen source.new).left ≡ (I.seen source.old).left)) }
+        ensures goes_on { OnOk result (self.new.closed ≡ false → (I.seen source.old).since_stop ≡ Some 0 → (I.seen source.new).since_stop ≡ Some 0) }
+        ensures none_follows { NoneFollows (I.seen source.old).since_stop (I.seen source.new).since_stop }
+        ensures cause { HasCause (I.seen source.old).faults (I.seen source.new).faults result }
     {
         let held = self.buffer.rest().len();
         let left = most_bytes() + 1 - self.used - held as u64;
@@ -180,15 +180,15 @@ impl InputReader {
 
     // The next answer, for which it reads as long as none is decided.
     fn read_line<I: Source>(&mut self, source: &mut I) -> Result<Line, TextFault>
-        ensures answer { (taken : List ℕ) × Took self.old self.new (I.left source.old) (I.left source.new) result taken }
+        ensures answer { (taken : List ℕ) × Took self.old self.new (I.seen source.old) (I.seen source.new) result taken }
         ensures kept { self.new ≡ record self.old { held = self.new.held; closed = self.new.closed } }
         ensures unread { IsTrue self.old.closed → source.new ≡ source.old }
         ensures needed { (a : Answer) → Next self.old.inputs self.old.closed self.old.held a → IsDecided a → source.new ≡ source.old }
-        ensures at_end { self.old.closed ≡ false → self.new.closed ≡ true → AtEnd (I.left source.new) × IsTrue (I.ended source.new) }
-        ensures goes_on { self.new.closed ≡ false → GoesOn (I.since_stop source.old) (I.since_stop source.new) result }
-        ensures none_follows { NoneFollows (I.since_stop source.old) (I.since_stop source.new) }
-        ensures cause { Blames (I.faults source.old) (I.faults source.new) result }
-        ensures count { I.faults source.old ≤ I.faults source.new }
+        ensures at_end { self.old.closed ≡ false → self.new.closed ≡ true → HasEnded (I.seen source.new) }
+        ensures goes_on { self.new.closed ≡ false → GoesOn (I.seen source.old).since_stop (I.seen source.new).since_stop result }
+        ensures none_follows { NoneFollows (I.seen source.old).since_stop (I.seen source.new).since_stop }
+        ensures cause { Blames (I.seen source.old).faults (I.seen source.new).faults result }
+        ensures count { (I.seen source.old).faults ≤ (I.seen source.new).faults }
     {
         loop {
             match self.held_line() {
@@ -210,7 +210,7 @@ impl InputReader {
     /// may have. `ReadFault` comes where a read failed before another line was decided.
     pub fn next_line<I: Source>(&mut self, source: &mut I) -> Result<Line, TextFault>
         requires { self.old.ended ≡ false }
-        ensures answer { (taken : List ℕ) × Took self.old self.new (I.left source.old) (I.left source.new) result taken }
+        ensures answer { (taken : List ℕ) × Took self.old self.new (I.seen source.old) (I.seen source.new) result taken }
         ensures inputs { self.new.inputs ≡ self.old.inputs }
         ensures within { bytes_taken self.new.held ≤ most_taken result }
         ensures stream { OfItem (λ stream. stream < length self.old.inputs) result }
@@ -218,11 +218,11 @@ impl InputReader {
         ensures ended { IsTrue self.new.ended ↔ IsLast result }
         ensures unread { IsTrue self.old.closed → source.new ≡ source.old }
         ensures needed { (a : Answer) → Next self.old.inputs self.old.closed self.old.held a → IsDecided a → source.new ≡ source.old }
-        ensures at_end { self.old.closed ≡ false → self.new.closed ≡ true → AtEnd (I.left source.new) × IsTrue (I.ended source.new) }
-        ensures goes_on { self.new.closed ≡ false → GoesOn (I.since_stop source.old) (I.since_stop source.new) result }
-        ensures none_follows { NoneFollows (I.since_stop source.old) (I.since_stop source.new) }
-        ensures cause { Blames (I.faults source.old) (I.faults source.new) result }
-        ensures count { I.faults source.old ≤ I.faults source.new }
+        ensures at_end { self.old.closed ≡ false → self.new.closed ≡ true → HasEnded (I.seen source.new) }
+        ensures goes_on { self.new.closed ≡ false → GoesOn (I.seen source.old).since_stop (I.seen source.new).since_stop result }
+        ensures none_follows { NoneFollows (I.seen source.old).since_stop (I.seen source.new).since_stop }
+        ensures cause { Blames (I.seen source.old).faults (I.seen source.new).faults result }
+        ensures count { (I.seen source.old).faults ≤ (I.seen source.new).faults }
     {
         let answer = self.read_line(source);
         self.ended = !matches!(answer, Ok(Line::Item { .. }));

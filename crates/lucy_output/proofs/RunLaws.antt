@@ -3,7 +3,7 @@ use Rattle.std.proofs.Common.{ℕ, Bool, false, ◌+◌, ◌≤◌, ◌≡◌, �
 use Rattle.lucy_lines.specs.Written.{LinesState}
 use Rattle.lucy_output.specs.declared.output.OutputSpec.{OutputSpec}
 use Rattle.lucy_output.specs.Outputs.{more_lines}
-use Rattle.lucy_output.specs.Sinks.{SeenSink, Fails}
+use Rattle.lucy_text.specs.Outside.{SeenSink, Fails}
 use Rattle.lucy_output.specs.Walks.{WalkState, next_lines, AreAt, AreWalked, Gathers, Stands}
 use Rattle.lucy_output.proofs.OutputLaws.{one_instant_on, more_lines-grow}
 use Rattle.lucy_output.proofs.SinkLaws.{front_empty, back_empty, gathered_empty, fails_longer, gathers_more, gathered_fails}

@@ -2,10 +2,9 @@
 use Rattle.std.proofs.Common.{IsTrue, Result, Ok, Err, OnErr, Bool, true, false, if◌then◌else◌, ℕ, ◌+◌, ◌≤◌, ◌≡◌, List, [], ◌∷◌, ◌++◌, length, take, refl, ap, sym, subst, ◌∙◌, arith, append_assoc, length-append}
 use Rattle.std.proofs.Math.Seq.{take-append-add}
 use Rattle.std.proofs.lemmas.List.{take-append-le}
-use Rattle.lucy_text.specs.Outside.{appended, Rose}
+use Rattle.lucy_text.specs.Outside.{appended, Rose, SeenSink, Writes, Fails}
 use Rattle.lucy_text.proofs.OutsideLaws.{appended-nil, appended_more}
 use Rattle.lucy_lines.specs.Written.{LinesState}
-use Rattle.lucy_output.specs.Sinks.{SeenSink, Writes, Fails}
 use Rattle.lucy_output.specs.Walks.{Gathers}
 
 -- a text without bytes has no bytes in front

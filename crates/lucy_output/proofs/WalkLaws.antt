@@ -11,7 +11,7 @@ use Rattle.lucy_host.specs.declared.data_type.DataType.TheVariants as kind
 use Rattle.lucy_lines.specs.Written.{LinesState, value_text, line_of}
 use Rattle.lucy_output.specs.declared.output.OutputSpec.{OutputSpec}
 use Rattle.lucy_output.specs.Outputs.{line_with_value, value_after, instant_after}
-use Rattle.lucy_output.specs.Sinks.{SeenSink, Fails}
+use Rattle.lucy_text.specs.Outside.{SeenSink, Fails}
 use Rattle.lucy_output.specs.Walks.{WalkState, next_value, next_lines, IsStepped, AreStepped, AreSteppedTo, IsAt, AreAt, IsWalked, AreWalked, FitsRoom, FitRoom, Gathers}
 use Rattle.lucy_output.proofs.SinkLaws.{front_empty, fails_longer, gathers_more, gathered_fails}
 

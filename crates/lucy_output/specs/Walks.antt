@@ -4,7 +4,7 @@ use Rattle.lucy_word.specs.Bits.{Bits, bit_at, ones_to, one_if}
 use Rattle.lucy_lines.specs.Written.{LinesState}
 use Rattle.lucy_output.specs.declared.output.OutputSpec.{OutputSpec}
 use Rattle.lucy_output.specs.Outputs.{line_with_value}
-use Rattle.lucy_output.specs.Sinks.{SeenSink, Writes}
+use Rattle.lucy_text.specs.Outside.{SeenSink, Writes}
 
 -- an output with what is left of its word, and how many items of its list are behind
 pub record WalkState : Type 0 where

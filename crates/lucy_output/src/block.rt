@@ -2,15 +2,14 @@
 ghost use Rattle.std.specs.Prelude.{◌≡◌, ◌+◌, ◌≤◌, ◌<◌, ◌^◌, ℕ, List, [], length, OnOk, OnErr, Some, slice_get};
 ghost use Rattle.lucy_output.specs.declared.output.OutputSpec.{OutputSpec as Output};
 ghost use Rattle.lucy_output.specs.Outputs.{more_lines};
-ghost use Rattle.lucy_output.specs.Sinks.{seen_sink, Writes, Fails};
+ghost use Rattle.lucy_text.specs.Outside.{Writes, Fails};
 ghost use Rattle.lucy_output.specs.Walks.{WalkState, AreAt, FitRoom};
 
 use crate::instant::put_instant;
 use crate::walk::OutputWalk;
-use crate::write_text;
 use lucy_host::Inputs;
 use lucy_lines::ValueLines;
-use lucy_text::{Failed, Sink};
+use lucy_text::{Failed, Sink, write_all};
 
 // From the front of the next lists on.
 fn begin_lists(walks: &mut [OutputWalk<'_>])
@@ -34,22 +33,20 @@ pub(crate) fn put_block<K: Sink>(
     requires lists { length walks.old ≤ length lists.now }
     requires none { lines.old.bytes ≡ [] }
     ensures ok { OnOk result ((before : ℕ) (outputs : List Output) → AreAt before outputs walks.old → Writes
-        (seen_sink (K.written sink.old) (K.faults sink.old) (K.since_stop sink.old))
-        (seen_sink (K.written sink.new) (K.faults sink.new) (K.since_stop sink.new)) (more_lines outputs lists.now before more)) }
+        (K.seen sink.old) (K.seen sink.new) (more_lines outputs lists.now before more)) }
     ensures at { OnOk result ((before : ℕ) (outputs : List Output) → AreAt before outputs walks.old → AreAt (before + more) outputs walks.new) }
     ensures fit { OnOk result (FitRoom walks.new lines.new.room) }
     ensures none { OnOk result (lines.new.bytes ≡ []) }
     ensures failed { OnErr result ((before : ℕ) (outputs : List Output) → AreAt before outputs walks.old → Fails
-        (seen_sink (K.written sink.old) (K.faults sink.old) (K.since_stop sink.old))
-        (seen_sink (K.written sink.new) (K.faults sink.new) (K.since_stop sink.new)) (more_lines outputs lists.now before more)) }
-    ensures count { K.faults sink.old ≤ K.faults sink.new }
+        (K.seen sink.old) (K.seen sink.new) (more_lines outputs lists.now before more)) }
+    ensures count { (K.seen sink.old).faults ≤ (K.seen sink.new).faults }
     ensures untouched { (before : ℕ) (outputs : List Output) → AreAt before outputs walks.old → more_lines outputs lists.now before more ≡ [] → sink.new ≡ sink.old }
 {
     begin_lists(walks);
     'instants: for _ in 0..more {
         put_instant(walks, lists, lines, sink)?;
     }
-    write_text(sink, lines.bytes())?;
+    write_all(sink, lines.bytes())?;
     lines.clear();
     Ok(())
 }

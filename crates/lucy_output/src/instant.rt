@@ -2,14 +2,13 @@
 ghost use Rattle.std.specs.Prelude.{◌≡◌, ◌+◌, ◌≤◌, ◌<◌, ◌^◌, ◌++◌, [], length, OnOk, OnErr};
 ghost use Rattle.lucy_lines.specs.Written.{line_of};
 ghost use Rattle.lucy_output.specs.Outputs.{line_with_value};
-ghost use Rattle.lucy_output.specs.Sinks.{seen_sink, Fails};
+ghost use Rattle.lucy_text.specs.Outside.{Fails};
 ghost use Rattle.lucy_output.specs.Walks.{next_value, next_lines, IsStepped, AreStepped, FitsRoom, FitRoom, Gathers};
 
 use crate::walk::OutputWalk;
-use crate::write_text;
 use lucy_host::{DataType, Inputs};
 use lucy_lines::ValueLines;
-use lucy_text::{Failed, Sink};
+use lucy_text::{Failed, Sink, write_all};
 
 // Puts a line behind the others, which are written first where there is no room for it.
 fn put_line<K: Sink>(
@@ -21,17 +20,14 @@ fn put_line<K: Sink>(
 ) -> Result<(), Failed>
     requires { length name.now + 22 ≤ lines.old.room }
     ensures ok { OnOk result (Gathers sink.old sink.new
-        (seen_sink (K.written sink.old) (K.faults sink.old) (K.since_stop sink.old))
-        (seen_sink (K.written sink.new) (K.faults sink.new) (K.since_stop sink.new)) lines.new (lines.old.bytes ++ line_of name.now holds value)) }
-    ensures failed { OnErr result (Fails
-        (seen_sink (K.written sink.old) (K.faults sink.old) (K.since_stop sink.old))
-        (seen_sink (K.written sink.new) (K.faults sink.new) (K.since_stop sink.new)) (lines.old.bytes ++ line_of name.now holds value)) }
+        (K.seen sink.old) (K.seen sink.new) lines.new (lines.old.bytes ++ line_of name.now holds value)) }
+    ensures failed { OnErr result (Fails (K.seen sink.old) (K.seen sink.new) (lines.old.bytes ++ line_of name.now holds value)) }
     ensures room { lines.new.room ≡ lines.old.room }
-    ensures count { K.faults sink.old ≤ K.faults sink.new }
+    ensures count { (K.seen sink.old).faults ≤ (K.seen sink.new).faults }
     ensures untouched { lines.old.bytes ≡ [] → sink.new ≡ sink.old }
 {
     if !lines.push(name, holds, value) {
-        write_text(sink, lines.bytes())?;
+        write_all(sink, lines.bytes())?;
         lines.clear();
         lines.push(name, holds, value);
     }
@@ -47,14 +43,12 @@ fn put_next<K: Sink>(
 ) -> Result<(), Failed>
     requires { FitsRoom walk.old.output lines.old.room }
     ensures ok { OnOk result (Gathers sink.old sink.new
-        (seen_sink (K.written sink.old) (K.faults sink.old) (K.since_stop sink.old))
-        (seen_sink (K.written sink.new) (K.faults sink.new) (K.since_stop sink.new)) lines.new (lines.old.bytes ++ line_with_value walk.old.output (next_value walk.old items.now))) }
+        (K.seen sink.old) (K.seen sink.new) lines.new (lines.old.bytes ++ line_with_value walk.old.output (next_value walk.old items.now))) }
     ensures step { IsStepped items.now walk.old walk.new }
     ensures failed { OnErr result (Fails
-        (seen_sink (K.written sink.old) (K.faults sink.old) (K.since_stop sink.old))
-        (seen_sink (K.written sink.new) (K.faults sink.new) (K.since_stop sink.new)) (lines.old.bytes ++ line_with_value walk.old.output (next_value walk.old items.now))) }
+        (K.seen sink.old) (K.seen sink.new) (lines.old.bytes ++ line_with_value walk.old.output (next_value walk.old items.now))) }
     ensures room { lines.new.room ≡ lines.old.room }
-    ensures count { K.faults sink.old ≤ K.faults sink.new }
+    ensures count { (K.seen sink.old).faults ≤ (K.seen sink.new).faults }
     ensures untouched { lines.old.bytes ≡ [] → sink.new ≡ sink.old }
 {
     match walk.step(items) {
@@ -74,14 +68,11 @@ pub(crate) fn put_instant<K: Sink>(
     requires few { length walks.old < 2 ^ 32 }
     requires lists { length walks.old ≤ length lists.now }
     ensures ok { OnOk result (Gathers sink.old sink.new
-        (seen_sink (K.written sink.old) (K.faults sink.old) (K.since_stop sink.old))
-        (seen_sink (K.written sink.new) (K.faults sink.new) (K.since_stop sink.new)) lines.new (lines.old.bytes ++ next_lines walks.old lists.now)) }
+        (K.seen sink.old) (K.seen sink.new) lines.new (lines.old.bytes ++ next_lines walks.old lists.now)) }
     ensures steps { OnOk result (AreStepped lists.now walks.old walks.new) }
-    ensures failed { OnErr result (Fails
-        (seen_sink (K.written sink.old) (K.faults sink.old) (K.since_stop sink.old))
-        (seen_sink (K.written sink.new) (K.faults sink.new) (K.since_stop sink.new)) (lines.old.bytes ++ next_lines walks.old lists.now)) }
+    ensures failed { OnErr result (Fails (K.seen sink.old) (K.seen sink.new) (lines.old.bytes ++ next_lines walks.old lists.now)) }
     ensures room { lines.new.room ≡ lines.old.room }
-    ensures count { K.faults sink.old ≤ K.faults sink.new }
+    ensures count { (K.seen sink.old).faults ≤ (K.seen sink.new).faults }
     ensures untouched { lines.old.bytes ++ next_lines walks.old lists.now ≡ [] → sink.new ≡ sink.old }
 {
     for i in 0..walks.len() {

@@ -1,6 +1,6 @@
 ghost use Rattle.std.specs.Prelude.{◌≡◌, ◌≤◌, [], length, OnOk, Err};
 ghost use Rattle.lucy_output.specs.Outputs.{output_text};
-ghost use Rattle.lucy_output.specs.Sinks.{seen_sink, Writes, Fails};
+ghost use Rattle.lucy_text.specs.Outside.{Writes, Fails};
 
 use crate::{OutputError, OutputSpec, OutputWriter};
 use lucy_host::Inputs;
@@ -19,14 +19,11 @@ pub fn write_outputs<K: Sink>(
     sink: &mut K,
 ) -> Result<(), OutputError>
     requires { length outputs.now ≤ length lists.now }
-    ensures ok { OnOk result (Writes
-        (seen_sink (K.written sink.old) (K.faults sink.old) (K.since_stop sink.old))
-        (seen_sink (K.written sink.new) (K.faults sink.new) (K.since_stop sink.new)) (output_text outputs.now lists.now instants)) }
+    ensures ok { OnOk result (Writes (K.seen sink.old) (K.seen sink.new) (output_text outputs.now lists.now instants)) }
     ensures failed { result ≡ Err OutputError.Failed → Fails
-        (seen_sink (K.written sink.old) (K.faults sink.old) (K.since_stop sink.old))
-        (seen_sink (K.written sink.new) (K.faults sink.new) (K.since_stop sink.new)) (output_text outputs.now lists.now instants) }
+        (K.seen sink.old) (K.seen sink.new) (output_text outputs.now lists.now instants) }
     ensures out_of_memory { result ≡ Err OutputError.OutOfMemory → sink.new ≡ sink.old }
-    ensures count { K.faults sink.old ≤ K.faults sink.new }
+    ensures count { (K.seen sink.old).faults ≤ (K.seen sink.new).faults }
     ensures untouched { output_text outputs.now lists.now instants ≡ [] → sink.new ≡ sink.old }
 {
     let mut writer = OutputWriter::new(alloc, outputs)?;

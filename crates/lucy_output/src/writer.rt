@@ -2,7 +2,7 @@
 ghost use Rattle.std.specs.Prelude.{◌≡◌, ◌≤◌, [], ℕ, length, OnOk, OnErr, IfOk, Err, Some, slice_get, false};
 ghost use Rattle.lucy_output.specs.declared.output.OutputSpec.{OutputSpec as Output};
 ghost use Rattle.lucy_output.specs.Outputs.{lines_after};
-ghost use Rattle.lucy_output.specs.Sinks.{seen_sink, Writes, Fails};
+ghost use Rattle.lucy_text.specs.Outside.{Writes, Fails};
 ghost use Rattle.lucy_output.specs.Writing.{new_writer};
 ghost use Rattle.lucy_output.specs.Walks.{AreAt, FitsRoom};
 
@@ -105,14 +105,12 @@ impl<'a> OutputWriter<'a> {
         requires lists { length self.old.outputs ≤ length lists.now }
         requires later { self.old.instants ≤ instants }
         ensures ok { OnOk result (Writes
-            (seen_sink (K.written sink.old) (K.faults sink.old) (K.since_stop sink.old))
-            (seen_sink (K.written sink.new) (K.faults sink.new) (K.since_stop sink.new)) (lines_after self.old.outputs lists.now self.old.instants instants)) }
+            (K.seen sink.old) (K.seen sink.new) (lines_after self.old.outputs lists.now self.old.instants instants)) }
         ensures failed { OnErr result (Fails
-            (seen_sink (K.written sink.old) (K.faults sink.old) (K.since_stop sink.old))
-            (seen_sink (K.written sink.new) (K.faults sink.new) (K.since_stop sink.new)) (lines_after self.old.outputs lists.now self.old.instants instants)) }
+            (K.seen sink.old) (K.seen sink.new) (lines_after self.old.outputs lists.now self.old.instants instants)) }
         ensures state { OnOk result (self.new ≡ record self.old { instants = instants }) }
         ensures outputs { self.new.outputs ≡ self.old.outputs }
-        ensures count { K.faults sink.old ≤ K.faults sink.new }
+        ensures count { (K.seen sink.old).faults ≤ (K.seen sink.new).faults }
         ensures untouched { lines_after self.old.outputs lists.now self.old.instants instants ≡ [] → sink.new ≡ sink.old }
     {
         self.broken = true;

@@ -1,8 +1,16 @@
 -- Laws of bytes that are read and written one part after another.
 use Rattle.std.proofs.Common.{ℕ, zero, suc, ◌≡◌, ◌≤◌, Bool, true, false, List, [], ◌++◌, Option, Some, None, Ok, refl, ap, sym, subst, ◌∙◌, arith, append_assoc, append-nil}
-use Rattle.std.specs.Prelude.{IsSomeAnd}
+use Rattle.std.specs.Prelude.{IfSome, IsSomeAnd}
 use Rattle.std.specs.Option.{option_map}
-use Rattle.lucy_text.specs.Outside.{followed, appended, WritesFront, gives_nothing, after_call, NoneFollows}
+use Rattle.lucy_text.specs.Outside.{appended, gives_nothing, after_call, NoneFollows}
+
+-- bytes that stand before the rest, where the rest is told
+abbrev pub followed : List ℕ → Option (List ℕ) → Option (List ℕ)
+followed bytes left = option_map (λ rest. bytes ++ rest) left
+
+-- nothing is left, where that is told
+abbrev pub AtEnd : Option (List ℕ) → Type 0
+AtEnd left = IfSome left (λ bytes. bytes ≡ [])
 
 pub appended-appended : (o : Option (List ℕ)) (a b : List ℕ) → appended (appended o a) b ≡ appended o (a ++ b)
 appended-appended None a b = refl
@@ -29,10 +37,6 @@ appended_more was now new a b e f = f ∙ ap (λ o. appended o b) e ∙ appended
 pub followed_more : (was now new : Option (List ℕ)) (a b : List ℕ) →
     was ≡ followed a now → now ≡ followed b new → was ≡ followed (a ++ b) new
 followed_more was now new a b e f = e ∙ ap (followed a) f ∙ followed-followed a b new
-
--- where nothing was written, that is a front of any bytes
-pub no_front : (was : Option (List ℕ)) (bytes : List ℕ) → WritesFront was was bytes
-no_front was bytes = (0, omega arith, sym (appended-nil was))
 
 -- a call that goes on is not counted where none has stopped
 pub goes_on : (before now : Option ℕ) (stops : Bool) → now ≡ option_map (after_call stops) before → stops ≡ false → before ≡ Some 0 → now ≡ Some 0

@@ -1,24 +1,34 @@
--- What calls of a source and of a sink do to bytes, where those are told, and when they may fail.
-use Rattle.std.specs.Prelude.{ℕ, zero, suc, ◌+◌, ◌-◌, ◌^◌, ◌≤◌, ◌≡◌, min, Bool, true, false, List, [], ◌++◌, length, take, Option, Some, None, IsSomeAnd, Result, Ok, Err, OnOk, OnErr}
+-- What a source and a sink are seen as, what calls of them do to bytes, where those are told, and when they may fail.
+use Rattle.std.specs.Prelude.{ℕ, zero, suc, ◌+◌, ◌-◌, ◌^◌, ◌≤◌, ◌≡◌, min, Bool, true, false, IsTrue, List, [], ◌++◌, length, take, Option, Some, None, IfSome, IsSomeAnd, Result, Ok, Err, OnOk, OnErr}
+use Rattle.std.specs.Option.{option_map}
 
--- bytes that stand before the rest, where the rest is told
-abbrev pub followed : List ℕ → Option (List ℕ) → Option (List ℕ)
-followed bytes None = None
-followed bytes (Some rest) = Some (bytes ++ rest)
+-- a source: the bytes left, where it tells them; whether it has met its end; how often it failed; and the calls from the first on
+-- that met the end or failed, where it counts them
+pub record SeenSource : Type 0 where
+  pub left : Option (List ℕ)
+  pub ended : Bool
+  pub faults : ℕ
+  pub since_stop : Option ℕ
+
+-- a sink: the bytes written, where it tells them; how often it failed; and the calls from the first failed one on, where it counts
+-- them
+pub record SeenSink : Type 0 where
+  pub written : Option (List ℕ)
+  pub faults : ℕ
+  pub since_stop : Option ℕ
 
 -- what was written, where it is told, and then more bytes
 abbrev pub appended : Option (List ℕ) → List ℕ → Option (List ℕ)
 appended None more = None
 appended (Some written) more = Some (written ++ more)
 
--- nothing is left, where that is told
-abbrev pub AtEnd : Option (List ℕ) → Type 0
-AtEnd None = Unit {0}
-AtEnd (Some bytes) = bytes ≡ []
+-- the source gave these bytes, which stood before what is left
+abbrev pub GaveBytes : (before after : SeenSource) (bytes : List ℕ) → Type 0
+GaveBytes before after bytes = before.left ≡ option_map (λ rest. bytes ++ rest) after.left
 
--- a front of the bytes was written, and no more
-abbrev pub WritesFront : (was now : Option (List ℕ)) (bytes : List ℕ) → Type 0
-WritesFront was now bytes = (n : ℕ) × (n ≤ length bytes) × (now ≡ appended was (take n bytes))
+-- the source has met its end, and nothing is left
+abbrev pub HasEnded : SeenSource → Type 0
+HasEnded source = IfSome source.left (λ bytes. bytes ≡ []) × IsTrue source.ended
 
 -- one more, but no more than the greatest 64-bit number
 abbrev pub one_more : ℕ → ℕ
@@ -49,3 +59,16 @@ pub record HasCause {T E : Type 0} (before now : ℕ) (result : Result T E) : Ty
   pub later : before ≤ now
   pub kept : OnOk result (now ≡ before)
   pub failed : OnErr result (Rose before now)
+
+-- the bytes were written, whole; where there are none the sink is as it was
+pub record Writes (before after : SeenSink) (bytes : List ℕ) : Type 0 where
+  pub written : after.written ≡ appended before.written bytes
+  pub faults : after.faults ≡ before.faults
+  pub goes_on : before.since_stop ≡ Some 0 → after.since_stop ≡ Some 0
+  pub untouched : bytes ≡ [] → after ≡ before
+
+-- a write failed, and a front of the bytes stands there, and no more
+pub record Fails (before after : SeenSink) (bytes : List ℕ) : Type 0 where
+  pub front : (n : ℕ) × (n ≤ length bytes) × (after.written ≡ appended before.written (take n bytes))
+  pub faults : Rose before.faults after.faults
+  pub none_follows : NoneFollows before.since_stop after.since_stop

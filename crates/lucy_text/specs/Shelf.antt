@@ -1,4 +1,4 @@
--- What a fetch answers by the files that a shelf tells, and when it may fail.
+-- What a shelf is seen as, what a fetch answers by the files that it tells, and when it may fail.
 use Rattle.std.specs.Prelude.{ℕ, ◌<◌, ◌≡◌, ◌⊎◌, List, length, Option, Some, None, IfSome, IsSomeAnd, Result, Err}
 use Rattle.lucy_text.specs.Outside.{Rose}
 use Rattle.lucy_text.specs.declared.shelf.ShelfError.{ShelfError}
@@ -7,6 +7,12 @@ use Rattle.lucy_text.specs.declared.shelf.ShelfError.TheVariants.{Failed, OutOfM
 -- the bytes of the file of each name, where there is one; names are bytes too
 abbrev pub Files : Type 0
 Files = List ℕ → Option (List ℕ)
+
+-- a shelf: its files, where it tells them; how often it failed; and how often it was called, where it counts that
+pub record SeenShelf : Type 0 where
+  pub files : Option Files
+  pub faults : ℕ
+  pub fetches : Option ℕ
 
 -- the bytes are those of the file of the name, where the files are told
 abbrev pub IsHeld : Option Files → (name bytes : List ℕ) → Type 0

@@ -56,13 +56,12 @@ impl MemSource {
 }
 
 impl Source for MemSource {
-    ghost left = { λ s. Some s.left };
-
-    ghost faults = { λ s. s.faults };
-
-    ghost ended = { λ s. nat_eq (length s.left) 0 };
-
-    ghost since_stop = { λ s. Some s.since_stop };
+    ghost seen = { λ s. record {
+      left = Some s.left;
+      ended = nat_eq (length s.left) 0;
+      faults = s.faults;
+      since_stop = Some s.since_stop;
+    } };
 
     fn read(&mut self, into: &mut [u8]) -> Result<usize, Failed>
         requires { 0 < length into.old }
@@ -145,11 +144,7 @@ impl MemSink {
 }
 
 impl Sink for MemSink {
-    ghost written = { λ s. Some s.written };
-
-    ghost faults = { λ s. s.faults };
-
-    ghost since_stop = { λ s. Some s.since_stop };
+    ghost seen = { λ s. record { written = Some s.written; faults = s.faults; since_stop = Some s.since_stop } };
 
     fn write(&mut self, from: &[u8]) -> Result<usize, Failed>
         requires { 0 < length from.now }

@@ -43,11 +43,7 @@ impl MemShelf {
 }
 
 impl Shelf for MemShelf {
-    ghost files = { λ s. Some (held s.files) };
-
-    ghost faults = { λ s. s.faults };
-
-    ghost fetches = { λ s. Some s.calls };
+    ghost seen = { λ s. record { files = Some (held s.files); faults = s.faults; fetches = Some s.calls } };
 
     fn fetch(&mut self, alloc: Global, name: &str, limit: u64) -> Result<Vec<u8>, ShelfError>
         ensures fails { (result ≡ Err ShelfError.Failed)
@@ -94,11 +90,7 @@ impl SteadyShelf {
 }
 
 impl Shelf for SteadyShelf {
-    ghost files = { λ s. Some (held s) };
-
-    ghost faults = { λ _. 0 };
-
-    ghost fetches = { λ _. None };
+    ghost seen = { λ s. record { files = Some (held s); faults = 0; fetches = None } };
 
     fn fetch(&mut self, alloc: Global, name: &str, limit: u64) -> Result<Vec<u8>, ShelfError>
         ensures ok { IfOk result (λ bytes. held self.old name.now ≡ Some bytes.items) }

@@ -33,13 +33,7 @@ impl<R: Read> RealSource<R> {
 impl<R: Read> Source for RealSource<R> {
     ghost use Rattle.lucy_text.specs.Real.{reader_of, has_ended, read_faults};
 
-    ghost left = { λ _. None };
-
-    ghost faults = { read_faults };
-
-    ghost ended = { has_ended };
-
-    ghost since_stop = { λ _. None };
+    ghost seen = { λ s. record { left = None; ended = has_ended s; faults = read_faults s; since_stop = None } };
 
     /// One call of the reader. Any error of it is a fault, an interrupted call too.
     fn read(&mut self, into: &mut [u8]) -> Result<usize, Failed>
@@ -92,11 +86,7 @@ impl<W: Write> RealSink<W> {
 impl<W: Write> Sink for RealSink<W> {
     ghost use Rattle.lucy_text.specs.Real.{writer_of, write_faults};
 
-    ghost written = { λ _. None };
-
-    ghost faults = { write_faults };
-
-    ghost since_stop = { λ _. None };
+    ghost seen = { λ s. record { written = None; faults = write_faults s; since_stop = None } };
 
     /// One call of the writer. Any error of it is a fault, an interrupted call too. Nothing is
     /// flushed: take a writer that holds nothing back, as std's standard output and files are.

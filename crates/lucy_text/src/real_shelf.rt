@@ -53,11 +53,7 @@ fn read_file<R: Files>(
 impl<'a, R: Files> Shelf for RealShelf<'a, R> {
     ghost use Rattle.lucy_text.specs.RealShelf.{fetch_faults};
 
-    ghost files = { λ _. None };
-
-    ghost faults = { fetch_faults };
-
-    ghost fetches = { λ _. None };
+    ghost seen = { λ s. record { files = None; faults = fetch_faults s; fetches = None } };
 
     /// The bytes of the file at the path. Any error of the file system but want of memory is a fault,
     /// also that there is no such file.

@@ -1,7 +1,7 @@
-ghost use Rattle.std.specs.Prelude.{◌≡◌, ◌≢◌, ◌≤◌, ◌↔◌, ℕ, Option, length, IfSome, IfOk};
+ghost use Rattle.std.specs.Prelude.{◌≡◌, ◌≢◌, ◌≤◌, ◌↔◌, length, IfSome, IfOk};
 ghost use Rattle.std.specs.Option.{option_map};
 ghost use Rattle.lucy_text.specs.Outside.{one_more};
-ghost use Rattle.lucy_text.specs.Shelf.{Files, IsHeld, Lacks, IsLonger, IsCut, CountsFaults};
+ghost use Rattle.lucy_text.specs.Shelf.{SeenShelf, IsHeld, Lacks, IsLonger, IsCut, CountsFaults};
 
 use std::alloc::{AllocError, Global};
 
@@ -31,26 +31,20 @@ impl From<AllocError> for ShelfError {
 
 /// Where files are kept by their names.
 pub trait Shelf {
-    /// The bytes of the file of each name, where the shelf tells its files.
-    ghost files: { Self → Option Files };
-
-    /// How many fetches have failed. A count at the greatest u64 stays there.
-    ghost faults: { Self → ℕ };
-
-    /// How many fetches there were, where the shelf counts them. A count at the greatest u64 stays there.
-    ghost fetches: { Self → Option ℕ };
+    /// What contracts see of the shelf. A count at the greatest u64 stays there.
+    ghost seen: { Self → SeenShelf };
 
     /// All bytes of the file of the name, of which there are at most `limit`. A shelf that doesn't
     /// tell its files has taken `limit` + 1 bytes where it answers `TooLong`.
     fn fetch(&mut self, alloc: Global, name: &str, limit: u64) -> Result<Vec<u8>, ShelfError>
-        ensures files { files self.new ≡ files self.old }
-        ensures ok { IfOk result (λ bytes. IsHeld (files self.old) name.now bytes.items) }
+        ensures files { (seen self.new).files ≡ (seen self.old).files }
+        ensures ok { IfOk result (λ bytes. IsHeld (seen self.old).files name.now bytes.items) }
         ensures within { IfOk result (λ bytes. length bytes.items ≤ limit) }
         ensures missing { (result ≡ Err ShelfError.Missing)
-            ↔ (Lacks (files self.old) name.now × (result ≢ Err ShelfError.OutOfMemory)) }
-        ensures too_long { IfSome (files self.old) (λ held. (result ≡ Err ShelfError.TooLong)
+            ↔ (Lacks (seen self.old).files name.now × (result ≢ Err ShelfError.OutOfMemory)) }
+        ensures too_long { IfSome (seen self.old).files (λ held. (result ≡ Err ShelfError.TooLong)
             ↔ (IsLonger (held name.now) limit × ¬ IsCut result)) }
-        ensures counted { fetches self.new ≡ option_map one_more (fetches self.old) }
-        ensures never_falls { faults self.old ≤ faults self.new }
-        ensures cause { CountsFaults (faults self.old) (faults self.new) result };
+        ensures counted { (seen self.new).fetches ≡ option_map one_more (seen self.old).fetches }
+        ensures never_falls { (seen self.old).faults ≤ (seen self.new).faults }
+        ensures cause { CountsFaults (seen self.old).faults (seen self.new).faults result };
 }

@@ -28,13 +28,7 @@ impl SteadySource {
 }
 
 impl Source for SteadySource {
-    ghost left = { λ s. Some s };
-
-    ghost faults = { λ _. 0 };
-
-    ghost ended = { λ s. nat_eq (length s) 0 };
-
-    ghost since_stop = { λ _. None };
+    ghost seen = { λ s. record { left = Some s; ended = nat_eq (length s) 0; faults = 0; since_stop = None } };
 
     fn read(&mut self, into: &mut [u8]) -> Result<usize, Failed>
         requires { 0 < length into.old }
@@ -61,11 +55,7 @@ impl SteadySink {
 }
 
 impl Sink for SteadySink {
-    ghost written = { λ _. None };
-
-    ghost faults = { λ _. 0 };
-
-    ghost since_stop = { λ _. None };
+    ghost seen = { λ _. record { written = None; faults = 0; since_stop = None } };
 
     fn write(&mut self, from: &[u8]) -> Result<usize, Failed>
         requires { 0 < length from.now }

@@ -1,4 +1,3 @@
-use Rattle.lucy_feed.specs.Sources.{seen_source}
 use Rattle.lucy_feed.proofs.GivenLaws.{nothing_read, none_read_on, all_read, as_many}
 use Rattle.lucy_feed.proofs.feeds.read_feed.Goals as goal
 
@@ -13,5 +12,5 @@ returns-clause-fed g c = all_read c.args.inputs.items _ _ c.in_ok-reader.reader 
     c.in_ok-read_on.ensures.reads c.in_ok-read_on.ensures.stopped c.into_feed.ensures
 
 pub returns-clause-lists : goal.returns-clause-lists
-returns-clause-lists g c = as_many c.args.inputs.items _ _ c.in_ok-reader.reader c.read_on.new.self c.into_feed.result (c.in_ok-reader.ensures.begun (seen_source _ _ _ _)) c.in_ok-reader.ensures.fresh
+returns-clause-lists g c = as_many c.args.inputs.items _ _ c.in_ok-reader.reader c.read_on.new.self c.into_feed.result (c.in_ok-reader.ensures.begun _) c.in_ok-reader.ensures.fresh
     c.in_ok-read_on.ensures.reads c.into_feed.ensures

@@ -11,8 +11,8 @@ returns-in_err-extend_from_slice-clause-read g c =
     let more = followed_more _ _ _ _ _ c.loop-buffer.invariant.took c.in_ok-n.ensures.bytes in
     let short : length part ≤ c.in_ok-n.n = omega (arith, length-take c.in_ok-n.n c.read.new.into) in
     let window : length (take c.min-room.result c.loop-buffer.buffer) ≤ c.min-room.result = omega (arith, length-take c.min-room.result c.loop-buffer.buffer) in
-    let start = g.I.Source.since_stop c.args.input.now in
-    let going : start ≡ Some 0 → g.I.Source.since_stop c.read.new.self ≡ Some 0 =
+    let start = (g.I.Source.seen c.args.input.now).since_stop in
+    let going : start ≡ Some 0 → (g.I.Source.seen c.read.new.self).since_stop ≡ Some 0 =
     λ none. goes_on _ _ _ c.in_ok-n.ensures.counted (some_is_no_stop Failed c.in_ok-n.n c.if-n-eq0.false) (c.loop-buffer.invariant.going none) in
     ran_out _ _ _ (c.loop-buffer.bytes.items ++ part) _ (record { took = more; none_follows = λ none. still_none _ (going none) })
     (omega (arith, length-append c.loop-buffer.bytes.items part, c.in_ok-n.ensures.within)) (c.in_ok-n.ensures.cause.kept ∙ c.loop-buffer.invariant.calm) c.from_residual-in_err-extend_from_slice.ensures.1

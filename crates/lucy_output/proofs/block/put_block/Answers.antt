@@ -1,6 +1,6 @@
 use Rattle.std.proofs.Common.{ℕ, ◌≡◌, ◌+◌, List, ap, sym, subst, ◌∙◌, arith}
 use Rattle.lucy_output.specs.Outputs.{more_lines}
-use Rattle.lucy_output.specs.Sinks.{seen_sink, Writes, Fails}
+use Rattle.lucy_text.specs.Outside.{Writes, Fails}
 use Rattle.lucy_output.specs.Walks.{AreAt, AreWalked, FitRoom}
 use Rattle.lucy_output.proofs.OutputLaws.{no_more_lines}
 use Rattle.lucy_output.proofs.SinkLaws.{on_err, nothing_gathered, gathered_untouched, gathered_empty, waiting_fails, gathered_written}
@@ -58,35 +58,27 @@ instants-preserved g c =
       count = omega (arith, e.count, i.count);
     }
 
-pub returns-in_err-write_text-clause-failed : goal.returns-in_err-write_text-clause-failed
-returns-in_err-write_text-clause-failed g c = on_err c.from_residual-in_err-write_text.result _ (λ before outputs at.
+pub returns-in_err-write_all-clause-failed : goal.returns-in_err-write_all-clause-failed
+returns-in_err-write_all-clause-failed g c = on_err c.from_residual-in_err-write_all.result _ (λ before outputs at.
     let end : c.instants.counter ≡ c.args.more = omega arith in
-    let P : ℕ → Type 0 = λ n. Fails
-    (seen_sink (g.K.Sink.written c.args.sink.now) (g.K.Sink.faults c.args.sink.now) (g.K.Sink.since_stop c.args.sink.now))
-    (seen_sink (g.K.Sink.written c.write_text.new.sink) (g.K.Sink.faults c.write_text.new.sink) (g.K.Sink.since_stop c.write_text.new.sink))
+    let P : ℕ → Type 0 = λ n. Fails (g.K.Sink.seen c.args.sink.now) (g.K.Sink.seen c.write_all.new.sink)
     (more_lines outputs c.args.lists.now before n) in
-    let Q : List ℕ → Type 0 = λ bytes. Fails
-    (seen_sink (g.K.Sink.written c.instants.sink) (g.K.Sink.faults c.instants.sink) (g.K.Sink.since_stop c.instants.sink))
-    (seen_sink (g.K.Sink.written c.write_text.new.sink) (g.K.Sink.faults c.write_text.new.sink) (g.K.Sink.since_stop c.write_text.new.sink)) bytes in
-    subst P end (waiting_fails _ _ _ _ _ c.instants.lines _ (c.instants.invariant.gathered before outputs at) (subst Q c.bytes.ensures c.in_err-write_text.ensures.failed)))
+    let Q : List ℕ → Type 0 = λ bytes. Fails (g.K.Sink.seen c.instants.sink) (g.K.Sink.seen c.write_all.new.sink) bytes in
+    subst P end (waiting_fails _ _ _ _ _ c.instants.lines _ (c.instants.invariant.gathered before outputs at) (subst Q c.bytes.ensures c.in_err-write_all.ensures.failed)))
 
-pub returns-in_err-write_text-clause-untouched : goal.returns-in_err-write_text-clause-untouched
-returns-in_err-write_text-clause-untouched g c = λ before outputs at empty.
+pub returns-in_err-write_all-clause-untouched : goal.returns-in_err-write_all-clause-untouched
+returns-in_err-write_all-clause-untouched g c = λ before outputs at empty.
     let none = empty_before outputs c.args.lists.now before c.instants.counter c.args.more (omega arith) empty in
-    c.in_err-write_text.ensures.untouched (c.bytes.ensures ∙ gathered_empty _ _ _ _ _ _ (c.instants.invariant.gathered before outputs at) none)
+    c.in_err-write_all.ensures.untouched (c.bytes.ensures ∙ gathered_empty _ _ _ _ _ _ (c.instants.invariant.gathered before outputs at) none)
     ∙ gathered_untouched _ _ _ _ _ _ (c.instants.invariant.gathered before outputs at) none
 
 pub returns-clause-ok : goal.returns-clause-ok
 returns-clause-ok g c = λ before outputs at.
     let end : c.instants.counter ≡ c.args.more = omega arith in
-    let P : ℕ → Type 0 = λ n. Writes
-    (seen_sink (g.K.Sink.written c.args.sink.now) (g.K.Sink.faults c.args.sink.now) (g.K.Sink.since_stop c.args.sink.now))
-    (seen_sink (g.K.Sink.written c.write_text.new.sink) (g.K.Sink.faults c.write_text.new.sink) (g.K.Sink.since_stop c.write_text.new.sink))
+    let P : ℕ → Type 0 = λ n. Writes (g.K.Sink.seen c.args.sink.now) (g.K.Sink.seen c.write_all.new.sink)
     (more_lines outputs c.args.lists.now before n) in
-    let Q : List ℕ → Type 0 = λ bytes. Writes
-    (seen_sink (g.K.Sink.written c.instants.sink) (g.K.Sink.faults c.instants.sink) (g.K.Sink.since_stop c.instants.sink))
-    (seen_sink (g.K.Sink.written c.write_text.new.sink) (g.K.Sink.faults c.write_text.new.sink) (g.K.Sink.since_stop c.write_text.new.sink)) bytes in
-    subst P end (gathered_written _ _ _ _ _ c.instants.lines _ (c.instants.invariant.gathered before outputs at) (subst Q c.bytes.ensures c.in_ok-write_text.ensures.ok))
+    let Q : List ℕ → Type 0 = λ bytes. Writes (g.K.Sink.seen c.instants.sink) (g.K.Sink.seen c.write_all.new.sink) bytes in
+    subst P end (gathered_written _ _ _ _ _ c.instants.lines _ (c.instants.invariant.gathered before outputs at) (subst Q c.bytes.ensures c.in_ok-write_all.ensures.ok))
 
 pub returns-clause-at : goal.returns-clause-at
 returns-clause-at g c = λ before outputs at.
@@ -102,5 +94,5 @@ returns-clause-fit g c =
 pub returns-clause-untouched : goal.returns-clause-untouched
 returns-clause-untouched g c = λ before outputs at empty.
     let none = empty_before outputs c.args.lists.now before c.instants.counter c.args.more (omega arith) empty in
-    c.in_ok-write_text.ensures.untouched (c.bytes.ensures ∙ gathered_empty _ _ _ _ _ _ (c.instants.invariant.gathered before outputs at) none)
+    c.in_ok-write_all.ensures.untouched (c.bytes.ensures ∙ gathered_empty _ _ _ _ _ _ (c.instants.invariant.gathered before outputs at) none)
     ∙ gathered_untouched _ _ _ _ _ _ (c.instants.invariant.gathered before outputs at) none

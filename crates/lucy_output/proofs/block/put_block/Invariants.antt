@@ -1,7 +1,6 @@
 use Rattle.std.proofs.Common.{ℕ, ◌+◌, ◌≡◌, ◌≤◌, List, length}
 use Rattle.lucy_output.specs.declared.output.OutputSpec.{OutputSpec as Output}
 use Rattle.lucy_output.specs.Outputs.{more_lines}
-use Rattle.lucy_output.specs.Sinks.{seen_sink}
 use Rattle.lucy_output.specs.Walks.{AreAt, AreWalked, FitRoom, Gathers}
 use Rattle.lucy_output.proofs.block.put_block.Given as goal
 
@@ -11,7 +10,6 @@ invariant-instants g l = record {
   left : (before : ℕ) (outputs : List Output) → AreAt before outputs l.fn.walks → AreWalked before (before + l.counter) outputs l.lists l.walks;
   fit : FitRoom l.walks l.lines.room;
   gathered : (before : ℕ) (outputs : List Output) → AreAt before outputs l.fn.walks → Gathers l.initial.sink l.sink
-      (seen_sink (g.K.Sink.written l.initial.sink) (g.K.Sink.faults l.initial.sink) (g.K.Sink.since_stop l.initial.sink))
-      (seen_sink (g.K.Sink.written l.sink) (g.K.Sink.faults l.sink) (g.K.Sink.since_stop l.sink)) l.lines (more_lines outputs l.lists before l.counter);
-  count : g.K.Sink.faults l.initial.sink ≤ g.K.Sink.faults l.sink;
+      (g.K.Sink.seen l.initial.sink) (g.K.Sink.seen l.sink) l.lines (more_lines outputs l.lists before l.counter);
+  count : (g.K.Sink.seen l.initial.sink).faults ≤ (g.K.Sink.seen l.sink).faults;
 }

@@ -1,6 +1,6 @@
 use Rattle.std.proofs.Common.{ℕ, ◌≤◌, List, length, ap, sym, subst, ◌∙◌, arith}
 use Rattle.lucy_output.specs.Outputs.{lines_after}
-use Rattle.lucy_output.specs.Sinks.{seen_sink, Writes, Fails}
+use Rattle.lucy_text.specs.Outside.{Writes, Fails}
 use Rattle.lucy_output.specs.Writing.{WriterState}
 use Rattle.lucy_output.proofs.OutputLaws.{lines_from_first}
 use Rattle.lucy_output.proofs.write.write_outputs.Goals as goal
@@ -17,17 +17,13 @@ write-requires g c =
 
 pub returns-clause-ok : goal.returns-clause-ok
 returns-clause-ok g c =
-    let P : List ℕ → Type 0 = λ text. Writes
-    (seen_sink (g.K.Sink.written c.args.sink.now) (g.K.Sink.faults c.args.sink.now) (g.K.Sink.since_stop c.args.sink.now))
-    (seen_sink (g.K.Sink.written c.write.new.sink) (g.K.Sink.faults c.write.new.sink) (g.K.Sink.since_stop c.write.new.sink)) text in
+    let P : List ℕ → Type 0 = λ text. Writes (g.K.Sink.seen c.args.sink.now) (g.K.Sink.seen c.write.new.sink) text in
     let f : WriterState → List ℕ = λ s. lines_after s.outputs c.args.lists.now s.instants c.args.instants in
     subst P (ap f c.in_ok-writer.ensures.new ∙ lines_from_first c.args.outputs.now c.args.lists.now c.args.instants) c.in_ok-write.ensures.ok
 
 pub returns-in_err-write-clause-failed : goal.returns-in_err-write-clause-failed
 returns-in_err-write-clause-failed g c = λ failed.
-    let P : List ℕ → Type 0 = λ text. Fails
-    (seen_sink (g.K.Sink.written c.args.sink.now) (g.K.Sink.faults c.args.sink.now) (g.K.Sink.since_stop c.args.sink.now))
-    (seen_sink (g.K.Sink.written c.write.new.sink) (g.K.Sink.faults c.write.new.sink) (g.K.Sink.since_stop c.write.new.sink)) text in
+    let P : List ℕ → Type 0 = λ text. Fails (g.K.Sink.seen c.args.sink.now) (g.K.Sink.seen c.write.new.sink) text in
     let f : WriterState → List ℕ = λ s. lines_after s.outputs c.args.lists.now s.instants c.args.instants in
     subst P (ap f c.in_ok-writer.ensures.new ∙ lines_from_first c.args.outputs.now c.args.lists.now c.args.instants) c.in_err-write.ensures.failed
 

@@ -1,7 +1,7 @@
 use Rattle.std.proofs.Common.{◌≡◌, ℕ, ◌+◌, ◌-◌, ◌≤◌, List, length, drop, take, ◌++◌, refl, ap, sym, ◌∙◌, arith, false, length-drop}
 use Rattle.std.proofs.lemmas.List.{take_rest}
 use Rattle.std.proofs.Math.Seq.{take-add}
-use Rattle.lucy_text.proofs.OutsideLaws.{appended_more, goes_on, none_follows, still_none}
+use Rattle.lucy_text.proofs.OutsideLaws.{appended_more, goes_on}
 use Rattle.lucy_text.specs.Outside.{appended}
 use Rattle.lucy_text.proofs.outside.write_all.Goals as goal
 
@@ -19,7 +19,7 @@ pub loop-done-preserved : goal.loop-done-preserved
 loop-done-preserved g c =
     let before = c.loop-done.invariant in
     let taken = c.in_ok-done.ensures in
-    let start = g.K.Sink.written c.args.sink.now in
+    let start = (g.K.Sink.seen c.args.sink.now).written in
     record {
       within = fits _ _ _ before.within taken.within;
       written = appended_more _ _ _ _ _ before.written taken.bytes ∙ ap (appended start) (fronts _ _ _);
@@ -27,15 +27,3 @@ loop-done-preserved g c =
       going = λ none. goes_on _ _ false taken.counted refl (before.going none);
       untouched = λ zero. absurd (omega (arith, taken.some, zero));
     }
-
-pub returns-in_err-done-clause-none_follows : goal.returns-in_err-done-clause-none_follows
-returns-in_err-done-clause-none_follows g c none = none_follows _ _ _ c.write.ensures.counted (c.loop-done.invariant.going none)
-
-pub returns-clause-goes_on : goal.returns-clause-goes_on
-returns-clause-goes_on g c = c.loop-done.invariant.going
-
-pub returns-clause-none_follows : goal.returns-clause-none_follows
-returns-clause-none_follows g c none = still_none _ (c.loop-done.invariant.going none)
-
-pub returns-clause-untouched : goal.returns-clause-untouched
-returns-clause-untouched g c none = c.loop-done.invariant.untouched (omega (arith, c.loop-done-test.false, ap length none, c.loop-done.invariant.within))

@@ -6,9 +6,9 @@ use Rattle.lucy_text.proofs.outside.write_all.Given as goal
 abbrev pub invariant-loop-done : goal.invariant-loop-done
 invariant-loop-done g l = record {
   within : l.done ≤ length l.bytes;
-  written : g.K.Sink.written l.sink ≡ appended (g.K.Sink.written l.initial.sink) (take l.done l.bytes);
-  kept : g.K.Sink.faults l.sink ≡ g.K.Sink.faults l.initial.sink;
-  going : g.K.Sink.since_stop l.initial.sink ≡ Some 0 → g.K.Sink.since_stop l.sink ≡ Some 0;
+  written : (g.K.Sink.seen l.sink).written ≡ appended (g.K.Sink.seen l.initial.sink).written (take l.done l.bytes);
+  kept : (g.K.Sink.seen l.sink).faults ≡ (g.K.Sink.seen l.initial.sink).faults;
+  going : (g.K.Sink.seen l.initial.sink).since_stop ≡ Some 0 → (g.K.Sink.seen l.sink).since_stop ≡ Some 0;
   untouched : l.done ≡ 0 → l.sink ≡ l.initial.sink;
 }
 

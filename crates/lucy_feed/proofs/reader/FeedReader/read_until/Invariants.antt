@@ -1,19 +1,16 @@
 use Rattle.std.proofs.Common.{◌≡◌, ◌≤◌, true}
 use Rattle.std.specs.Prelude.{◌⊎◌, slice_index_or}
-use Rattle.lucy_feed.specs.Sources.{seen_source}
 use Rattle.lucy_feed.specs.Resuming.{AreMet, ReadsMore}
 use Rattle.lucy_feed.proofs.WantedLaws.{lines_left}
 use Rattle.lucy_feed.proofs.reader.FeedReader.read_until.Given as goal
 
 abbrev pub invariant-lines : goal.invariant-lines
 invariant-lines g l = record {
-  reads : ReadsMore
-      (seen_source (g.I.Source.left l.initial.source) (g.I.Source.ended l.initial.source) (g.I.Source.faults l.initial.source) (g.I.Source.since_stop l.initial.source))
-      (seen_source (g.I.Source.left l.source) (g.I.Source.ended l.source) (g.I.Source.faults l.source) (g.I.Source.since_stop l.source)) l.initial.self l.self;
+  reads : ReadsMore (g.I.Source.seen l.initial.source) (g.I.Source.seen l.source) l.initial.self l.self;
   unread : (l.initial.self.reader.ended ≡ true) ⊎ (l.least ≤ slice_index_or l.initial.self.counts l.stream 0) → (l.source ≡ l.initial.source) × (l.self ≡ l.initial.self);
   risen : AreMet l.initial.self.counts l.self.counts;
   inputs : l.self.reader.inputs ≡ l.initial.self.reader.inputs;
-  count : g.I.Source.faults l.initial.source ≤ g.I.Source.faults l.source;
+  count : (g.I.Source.seen l.initial.source).faults ≤ (g.I.Source.seen l.source).faults;
 }
 
 abbrev pub decreases-lines : goal.decreases-lines

@@ -1,7 +1,7 @@
 use Rattle.std.proofs.Common.{ℕ, ◌≡◌, ◌+◌, ◌-◌, ◌++◌, List, length, take, drop, ap, sym, subst, ◌∙◌, arith}
 use Rattle.std.proofs.lemmas.List.{take_at}
 use Rattle.lucy_output.specs.Outputs.{lines_after}
-use Rattle.lucy_output.specs.Sinks.{seen_sink, Writes, Fails}
+use Rattle.lucy_text.specs.Outside.{Writes, Fails}
 use Rattle.lucy_output.specs.Writing.{WriterState}
 use Rattle.lucy_output.specs.Walks.{WalkState, AreAt, FitRoom, Stands}
 use Rattle.lucy_output.proofs.SinkLaws.{on_err}
@@ -25,9 +25,8 @@ returns-clause-ok g c =
     let stands = standing c.self.inside.broken _ _ _ _ (ap (λ s. s.broken) c.self.view_is ∙ c.requires.whole) c.self.invariant.1 in
     let P : List WalkState → Type 0 = λ walks. AreAt c.self.inside.instants c.self.inside.outputs.now walks in
     let at = subst P (sym c.deref_mut.ensures.value) stands.at in
-    let Q : WriterState → Type 0 = λ s. Writes
-    (seen_sink (g.K.Sink.written c.args.sink.now) (g.K.Sink.faults c.args.sink.now) (g.K.Sink.since_stop c.args.sink.now))
-    (seen_sink (g.K.Sink.written c.put_block.new.sink) (g.K.Sink.faults c.put_block.new.sink) (g.K.Sink.since_stop c.put_block.new.sink)) (lines_after s.outputs c.args.lists.now s.instants c.args.instants) in
+    let Q : WriterState → Type 0 = λ s. Writes (g.K.Sink.seen c.args.sink.now)
+    (g.K.Sink.seen c.put_block.new.sink) (lines_after s.outputs c.args.lists.now s.instants c.args.instants) in
     subst Q c.self.view_is (c.in_ok-put_block.ensures.ok c.self.inside.instants c.self.inside.outputs.now at)
 
 pub returns-in_err-put_block-clause-failed : goal.returns-in_err-put_block-clause-failed
@@ -35,9 +34,8 @@ returns-in_err-put_block-clause-failed g c =
     let stands = standing c.self.inside.broken _ _ _ _ (ap (λ s. s.broken) c.self.view_is ∙ c.requires.whole) c.self.invariant.1 in
     let P : List WalkState → Type 0 = λ walks. AreAt c.self.inside.instants c.self.inside.outputs.now walks in
     let at = subst P (sym c.deref_mut.ensures.value) stands.at in
-    let Q : WriterState → Type 0 = λ s. Fails
-    (seen_sink (g.K.Sink.written c.args.sink.now) (g.K.Sink.faults c.args.sink.now) (g.K.Sink.since_stop c.args.sink.now))
-    (seen_sink (g.K.Sink.written c.put_block.new.sink) (g.K.Sink.faults c.put_block.new.sink) (g.K.Sink.since_stop c.put_block.new.sink)) (lines_after s.outputs c.args.lists.now s.instants c.args.instants) in
+    let Q : WriterState → Type 0 = λ s. Fails (g.K.Sink.seen c.args.sink.now)
+    (g.K.Sink.seen c.put_block.new.sink) (lines_after s.outputs c.args.lists.now s.instants c.args.instants) in
     on_err c.from_residual.result _ (subst Q c.self.view_is (c.in_err-put_block.ensures.failed c.self.inside.instants c.self.inside.outputs.now at))
 
 pub invariant_of-self-2 : goal.invariant_of-self-2
