@@ -1,6 +1,6 @@
 -- The drafts of an instance and of those inside it, call by call.
 use Rattle.std.proofs.Common.{ℕ, suc, zero, ◌+◌, ◌-◌, ◌<◌, ◌≤◌, ◌≡◌, List, [], ◌∷◌, ◌++◌, Option, Some, None, length, map, take, get_or, ap, sym, refl, ◌∙◌, subst, inl, inr, arith, append_assoc, length-append}
-use Rattle.std.specs.Prelude.{◌⊎◌, sum_by, slice_get, slice_index_or}
+use Rattle.std.specs.Prelude.{◌⊎◌, sum_by, slice_get, slice_index, slice_index_or}
 use Rattle.std.specs.List.{range_with_len}
 use Rattle.std.proofs.lemmas.Bool.{cases_lt}
 use Rattle.std.proofs.lemmas.List.{append-nil, length-map, map-append, take_all}
@@ -18,50 +18,37 @@ use Rattle.lucy_meaning.specs.Spots.{node_from}
 use Rattle.lucy_clock.specs.Clocks.{clocks_of}
 use Rattle.lucy_clock.specs.declared.node_clock.NodeClock.{NodeClock}
 use Rattle.lucy_flat.specs.declared.draft.Draft.{Draft}
-use Rattle.lucy_flat.specs.declared.extent.Extent.{Extent}
 use Rattle.lucy_flat.specs.declared.instance.Caller.{Caller}
 use Rattle.lucy_flat.specs.declared.instance.Instance.{Instance}
 use Rattle.lucy_meaning.specs.Spots.{main_of, Spot, at, site_in, callee_in, node_at}
-use Rattle.lucy_flat.specs.Extents.{Below, AreExtents, actors_in_extent, actors_at, actors_in, AreSumsOf}
-use Rattle.lucy_meaning.specs.Sizes.{own_places, size_of}
+use Rattle.lucy_meaning.specs.Below.{Below}
+use Rattle.lucy_flat.specs.Extents.{actors_in, AreSumsOf}
+use Rattle.lucy_meaning.specs.Sizes.{AreCapped, own_places, size_of}
 use Rattle.lucy_meaning.specs.Numbers.{begin_from, call_offset}
 use Rattle.lucy_flat.specs.Instances.{called, index_at, word_at, base_clock}
-use Rattle.lucy_meaning.proofs.Tables.{calls_below, total_law}
+use Rattle.lucy_meaning.proofs.Tables.{below_take, calls_below, total_law}
+use Rattle.lucy_meaning.proofs.SizeLaws.{below_more}
 use Rattle.lucy_meaning.proofs.Lists.{there}
 use Rattle.lucy_flat.specs.Clocked.{AreClocked}
 use Rattle.lucy_flat.proofs.InstanceLaws.{word_is}
 use Rattle.lucy_flat.specs.Drafts.{inside, AreMade, own_spots, calls_spots, instance_spots, IsFit, AreFit, ArePut, IsProgram, IsAt, IsInstance, AreBegins, ArePlacesPut, ArePutSoFar}
 use Rattle.lucy_flat.proofs.ProperLaws.{length_row}
-use Rattle.lucy_flat.proofs.ExtentLaws.{got}
 use Rattle.lucy_flat.proofs.MadeLaws.{made_length, made_append}
 
--- calls below a number are below a greater one
-pub below_later : (i j : ℕ) (sites : List CallSite) → i ≤ j → Below i sites → Below j sites
-below_later i j [] l all = tt
-below_later i j (s ∷ sites) l all = (omega (arith, all.0, l), below_later i j sites l all.1)
-
 -- how many actors the instances of calls have, by the table
-pub actors_exact : (nodes : List PlacedNode) (clocks : List NodeClock) (extents : List Extent) → AreExtents nodes clocks (length nodes) extents → (sites : List CallSite) → Below (length extents) sites →
-    sum_by (λ (s : CallSite). size_of nodes s.node) sites < 4294967296 → actors_in extents sites ≡ sum_by (λ (s : CallSite). size_of nodes s.node) sites
-actors_exact nodes clocks extents are [] below few = refl
-actors_exact nodes clocks extents are (s ∷ sites) below few =
-    let zero_extent : Extent = record { actors = 0; rings = 0; sizes = 0 } in
-    let there = got extents s.node zero_extent below.0 in
-    let here : actors_at extents s.node ≡ (get_or extents s.node zero_extent).actors = ap actors_in_extent there in
-    let exact = (are.each s.node (get_or extents s.node zero_extent) there).actors in
+pub actors_exact : (nodes : List PlacedNode) (sizes : List ℕ) → AreCapped (size_of nodes) (length nodes) sizes → (sites : List CallSite) → Below (length nodes) sites →
+    sum_by (λ (s : CallSite). size_of nodes s.node) sites < 4294967296 → actors_in sizes sites ≡ sum_by (λ (s : CallSite). size_of nodes s.node) sites
+actors_exact nodes sizes are [] below few = refl
+actors_exact nodes sizes are (s ∷ sites) below few =
+    let exact = are s.node below.0 in
     let sum = sum_by-cons (λ (t : CallSite). size_of nodes t.node) s sites in
-    let rest = actors_exact nodes clocks extents are sites below.1 (omega (arith, sum, few)) in
-    omega (arith, here, exact, sum, few, rest, sum_by-cons (λ (t : CallSite). actors_at extents t.node) s sites)
-
-pub below_take : (i : ℕ) (k : ℕ) (sites : List CallSite) → Below i sites → Below i (take k sites)
-below_take i zero sites all = tt
-below_take i (suc k) [] all = tt
-below_take i (suc k) (s ∷ sites) all = (all.0, below_take i k sites all.1)
+    let rest = actors_exact nodes sizes are sites below.1 (omega (arith, sum, few)) in
+    omega (arith, exact, sum, few, rest, sum_by-cons (λ (t : CallSite). slice_index sizes t.node) s sites)
 
 -- where the instances of calls begin
-pub begins_are : (nodes : List PlacedNode) (clocks : List NodeClock) (extents : List Extent) → AreExtents nodes clocks (length nodes) extents → (n : PlacedNode) (begin first : ℕ) (begins : List ℕ) →
-    Below (length extents) n.calls → sum_by (λ (s : CallSite). size_of nodes s.node) n.calls < 4294967296 → first ≡ begin + length n.places → AreSumsOf extents n.calls first (length n.calls) begins → AreBegins nodes n begin begins
-begins_are nodes clocks extents are n begin first begins below few first_is sums = record {
+pub begins_are : (nodes : List PlacedNode) (sizes : List ℕ) → AreCapped (size_of nodes) (length nodes) sizes → (n : PlacedNode) (begin first : ℕ) (begins : List ℕ) →
+    Below (length nodes) n.calls → sum_by (λ (s : CallSite). size_of nodes s.node) n.calls < 4294967296 → first ≡ begin + length n.places → AreSumsOf sizes n.calls first (length n.calls) begins → AreBegins nodes n begin begins
+begins_are nodes sizes are n begin first begins below few first_is sums = record {
   count = sums.count;
   each = λ j l. each_at j l;
 }
@@ -71,7 +58,7 @@ begins_are nodes clocks extents are n begin first begins below few first_is sums
         let back : j + 1 - 1 ≡ j = omega arith in
         let offset = ap (λ k. sum_by (λ (s : CallSite). size_of nodes s.node) (take k n.calls)) back in
         let part = sum_by-take-le (λ (s : CallSite). size_of nodes s.node) n.calls j in
-        let exact = actors_exact nodes clocks extents are (take j n.calls) (below_take (length extents) j n.calls below) (omega (arith, part, few)) in
+        let exact = actors_exact nodes sizes are (take j n.calls) (below_take (length nodes) n.calls j below) (omega (arith, part, few)) in
         omega (arith, sums.each j (omega (arith, l, sums.count)), exact, first_is, offset)
 
 -- how many instance places an instance has
@@ -119,7 +106,7 @@ module _ (nodes : List PlacedNode) (proper : AreProper nodes) where
       length (own_spots path n ++ calls_spots (instance_spots nodes) path 1 (take i n.calls)) ≡ length n.places + sum_by (λ (s : CallSite). size_of nodes s.node) (take i n.calls)
   front_length path node n i e =
       let within = slice_get_within nodes node n e in
-      let below = below_take node i n.calls (calls_below nodes node n (proper node n e)) in
+      let below = below_take node n.calls i (calls_below nodes node n (proper node n e)) in
       let inner = inner_length nodes (instance_spots nodes) node path 1 (take i n.calls) (λ p j h. instance_length p j (omega (arith, h, within))) below in
       length-append (own_spots path n) (calls_spots (instance_spots nodes) path 1 (take i n.calls)) ∙ (omega (arith, own_length path n, inner))
 
@@ -233,10 +220,10 @@ module _ (nodes : List PlacedNode) (clocks : List NodeClock) where
       ap length are.grown ∙ length-append old are.more ∙ (omega (arith, count, front, offset))
 
 -- the instance that the code has at hand
-pub instance_is : (nodes : List PlacedNode) (clocks : List NodeClock) (extents : List Extent) → IsProgram nodes clocks extents → (path : List ℕ) (node begin first : ℕ) (of : Instance) (sites : List CallSite) →
+pub instance_is : (nodes : List PlacedNode) (clocks : List NodeClock) (sizes : List ℕ) → IsProgram nodes clocks sizes → (path : List ℕ) (node begin first : ℕ) (of : Instance) (sites : List CallSite) →
     slice_get nodes node ≡ Some of.node.now → slice_get clocks node ≡ Some of.clock.now → IsAt nodes clocks path node begin of.base.now of.caller → of.begin ≡ begin → begin + size_of nodes node < 4294967296 →
-    sites ≡ of.node.now.calls → first ≡ of.begin + length of.node.now.places → AreSumsOf extents sites first (length sites) of.inner.now → IsInstance nodes clocks path of
-instance_is nodes clocks extents program path node begin first of sites e f is begin_is few sites_are first_is sums =
+    sites ≡ of.node.now.calls → first ≡ of.begin + length of.node.now.places → AreSumsOf sizes sites first (length sites) of.inner.now → IsInstance nodes clocks path of
+instance_is nodes clocks sizes program path node begin first of sites e f is begin_is few sites_are first_is sums =
     let n : PlacedNode = of.node.now in
     let inside = slice_get_within nodes node n e in
     let below = calls_below nodes node n (program.proper node n e) in
@@ -246,8 +233,8 @@ instance_is nodes clocks extents program path node begin first of sites e f is b
       at = subst (λ b. IsAt nodes clocks path node b of.base.now of.caller) (sym begin_is) is;
       node = e;
       clock = f;
-      inner = begins_are nodes clocks extents program.sizes n of.begin first of.inner.now (below_later node (length extents) n.calls (omega (arith, inside, program.sizes.count)) below) (omega (arith, whole, few)) first_is
-          (subst (λ s. AreSumsOf extents s first (length s) of.inner.now) sites_are sums);
+      inner = begins_are nodes sizes program.sizes n of.begin first of.inner.now (below_more node (length nodes) n.calls (omega (arith, inside)) below) (omega (arith, whole, few)) first_is
+          (subst (λ s. AreSumsOf sizes s first (length s) of.inner.now) sites_are sums);
       few = omega (arith, few, begin_is);
     }
 

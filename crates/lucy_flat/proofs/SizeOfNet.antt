@@ -191,33 +191,41 @@ module _ (nodes : List PlacedNode) (clocks : List NodeClock) (proper : AreProper
       each ∙ ap (λ n. n * (size + 1)) is.reads ∙ kind_slots nodes clocks (index_at nodes s.path) s.path s.place is.kind
       ∙ sym (ap (λ o. reads_by nodes s o + size_by nodes clocks s o) is.stands)
 
+  -- the ring from which an output takes has size 0: it takes on the word on which its place gives
+  output_empty : (i : ℕ) (x : Actor) → IsOutputActor x i → (k r : ℕ) (ring : RingSpec) → slice_get x.takes k ≡ Some r → slice_get net.rings r ≡ Some ring → ring.to ≡ all_places nodes + i → ring.size ≡ 0
+  output_empty i x is k r ring f g to =
+      let u = flat.proper.rings r ring g in
+      let spot = main_spot nodes proper i is.place is.result in
+      let a = flat.actors (at [] is.place) spot.0 spot.1 in
+      let from : ring.from ≡ number nodes (at [] is.place) = sym (from_here net r ring g) ∙ sym (only_one (number nodes (at [] is.place)) k (giver net r) (ap (λ t. slice_get t k) (sym is.reads) ∙ slice_get-map (giver net) x.takes k ∙ ap (option_map (giver net)) f)) in
+      let giver_is : a.actor ≡ u.giver = same_Some a.actor u.giver (sym a.there ∙ ap (slice_get net.actors) (sym from) ∙ u.gives_here) in
+      let taker_is : u.taker ≡ x = same_Some u.taker x (sym u.takes_here ∙ ap (slice_get net.actors) to ∙ is.there) in
+      let form : form_of a.actor.kind ≡ spot_form (at [] is.place) spot.0 = ap form_of a.does ∙ form_back (spot_form (at [] is.place) spot.0) in
+      let written : IsWriteWord (spot_form (at [] is.place) spot.0) a.actor.firing ring.write =
+      subst (λ t. IsWriteWord t a.actor.firing ring.write) form (subst (λ (t : Actor). IsWriteWord (form_of t.kind) t.firing ring.write) (sym giver_is) u.write) in
+      let st = standing nodes (at [] is.place) spot.0 spot.1 in
+      let write : Same ring.write x.firing =
+      write_own nodes clocks [] is.place spot.0 a.actor.firing ring.write x.firing a.firing is.firing
+      (λ q p e s. feeds nodes clocks proper clocked [] st.node is.place (When q p) st.found (st.stands.0, st.stands.1, st.stands.2 ∙ e) 0 (at [] q) a.actor.firing x.firing refl s is.firing) written in
+      let here : k < length u.taker.takes = subst (λ (t : Actor). k < length t.takes) (sym taker_is) (slice_get_within x.takes k r f) in
+      let mine : get_or u.taker.takes k 0 ≡ r = ap (λ (t : Actor). get_or t.takes k 0) taker_is ∙ get_or_from_slice_get x.takes k r 0 f in
+      let read : Same x.firing ring.read = subst (λ t. IsReadWord t x.firing k ring.read) is.form (subst (λ (t : Actor). IsReadWord (form_of t.kind) t.firing k ring.read) taker_is (u.read k here mine)) in
+      one_size ring.write ring.read ring.size 0 u.size (size_self ring.write ring.read (same_trans ring.write x.firing ring.read write read))
+
   output_slots : (i : ℕ) (x : Actor) → IsOutputActor x i → sum_by (λ r. slots_in (slice_get net.rings r)) x.takes ≡ 1
   output_slots i x is =
       let each = sum_alike (λ r. slots_in (slice_get net.rings r)) 1 x.takes (λ k r f. (
       let ring = taken_ring (all_places nodes + i) k r x is.there f in
-      ap slots_in ring.there ∙ ap (λ n. n + 1) (empty k r ring.ring f ring.there ring.to)
+      ap slots_in ring.there ∙ ap (λ n. n + 1) (output_empty i x is k r ring.ring f ring.there ring.to)
       )) in
       each ∙ ap (λ n. n * 1) (one_taken x i is)
-    where
-      empty : (k r : ℕ) (ring : RingSpec) → slice_get x.takes k ≡ Some r → slice_get net.rings r ≡ Some ring → ring.to ≡ all_places nodes + i → ring.size ≡ 0
-      empty k r ring f g to =
-          let u = flat.proper.rings r ring g in
-          let spot = main_spot nodes proper i is.place is.result in
-          let a = flat.actors (at [] is.place) spot.0 spot.1 in
-          let from : ring.from ≡ number nodes (at [] is.place) = sym (from_here net r ring g) ∙ sym (only_one (number nodes (at [] is.place)) k (giver net r) (ap (λ t. slice_get t k) (sym is.reads) ∙ slice_get-map (giver net) x.takes k ∙ ap (option_map (giver net)) f)) in
-          let giver_is : a.actor ≡ u.giver = same_Some a.actor u.giver (sym a.there ∙ ap (slice_get net.actors) (sym from) ∙ u.gives_here) in
-          let taker_is : u.taker ≡ x = same_Some u.taker x (sym u.takes_here ∙ ap (slice_get net.actors) to ∙ is.there) in
-          let form : form_of a.actor.kind ≡ spot_form (at [] is.place) spot.0 = ap form_of a.does ∙ form_back (spot_form (at [] is.place) spot.0) in
-          let written : IsWriteWord (spot_form (at [] is.place) spot.0) a.actor.firing ring.write =
-          subst (λ t. IsWriteWord t a.actor.firing ring.write) form (subst (λ (t : Actor). IsWriteWord (form_of t.kind) t.firing ring.write) (sym giver_is) u.write) in
-          let st = standing nodes (at [] is.place) spot.0 spot.1 in
-          let write : Same ring.write x.firing =
-          write_own nodes clocks [] is.place spot.0 a.actor.firing ring.write x.firing a.firing is.firing
-          (λ q p e s. feeds nodes clocks proper clocked [] st.node is.place (When q p) st.found (st.stands.0, st.stands.1, st.stands.2 ∙ e) 0 (at [] q) a.actor.firing x.firing refl s is.firing) written in
-          let here : k < length u.taker.takes = subst (λ (t : Actor). k < length t.takes) (sym taker_is) (slice_get_within x.takes k r f) in
-          let mine : get_or u.taker.takes k 0 ≡ r = ap (λ (t : Actor). get_or t.takes k 0) taker_is ∙ get_or_from_slice_get x.takes k r 0 f in
-          let read : Same x.firing ring.read = subst (λ t. IsReadWord t x.firing k ring.read) is.form (subst (λ (t : Actor). IsReadWord (form_of t.kind) t.firing k ring.read) taker_is (u.read k here mine)) in
-          one_size ring.write ring.read ring.size 0 u.size (size_self ring.write ring.read (same_trans ring.write x.firing ring.read write read))
+
+  -- the same of the actor that stands at the number of an output
+  pub output_ring_empty : (i k r : ℕ) (x : Actor) (ring : RingSpec) → slice_get net.actors (all_places nodes + i) ≡ Some x →
+      slice_get x.takes k ≡ Some r → slice_get net.rings r ≡ Some ring → ring.to ≡ all_places nodes + i → ring.size ≡ 0
+  output_ring_empty i k r x ring e f g to =
+      let at_i : length places + i ≡ all_places nodes + i = ap (λ n. n + i) (whole_length nodes proper) in
+      output_empty i x (output_actor i x (ap (slice_get net.actors) at_i ∙ e)) k r ring f g to
 
   pub slots_count : sum_by (λ ring. ring.size + 1) net.rings ≡ slots_of nodes clocks
   slots_count =

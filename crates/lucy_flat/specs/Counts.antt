@@ -21,6 +21,7 @@ read_count kind = length (operands_of kind)
 abbrev pub own_rings : ℕ → PlacedNode → ℕ
 own_rings i node = sum_by (λ entry. read_count entry.kind) node.places + sum_by (λ site. length site.args) node.calls
 
+-- the sizes of a node's own buffers together
 abbrev pub own_sizes : List NodeClock → ℕ → PlacedNode → ℕ
 own_sizes clocks i node = sum (sizes_in (slice_get clocks i))
 
@@ -28,12 +29,15 @@ own_sizes clocks i node = sum (sizes_in (slice_get clocks i))
 abbrev pub last_of : List PlacedNode → ℕ
 last_of nodes = length nodes - 1
 
+-- the Output actors: one for each result of main
 abbrev pub outputs_of : List PlacedNode → ℕ
 outputs_of nodes = length (results_in (main_of nodes))
 
+-- an actor for each instance place, and the Output actors
 abbrev pub actors_of : List PlacedNode → ℕ
 actors_of nodes = all_places nodes + outputs_of nodes
 
+-- the rings from which places take, with calls written out, and one for each Output actor
 abbrev pub rings_of : List PlacedNode → ℕ
 rings_of nodes = total_of own_rings nodes (last_of nodes) + outputs_of nodes
 
@@ -45,6 +49,7 @@ slots_of nodes clocks = rings_of nodes + total_of (own_sizes clocks) nodes (last
 abbrev pub IsKeptBy : ℕ → ℕ → ℕ → Type 0
 IsKeptBy actors rings slots = (actors ≤ limit_number limit.Actors) × (rings ≤ limit_number limit.Rings) × (slots ≤ limit_number limit.Slots)
 
+-- the net of the program keeps them
 abbrev pub IsSmall : List PlacedNode → List NodeClock → Type 0
 IsSmall nodes clocks = IsKeptBy (actors_of nodes) (rings_of nodes) (slots_of nodes clocks)
 
@@ -55,5 +60,6 @@ IsPassedBy actors rings slots l =
     ⊎ ((l ≡ limit.Rings) × (actors ≤ limit_number limit.Actors) × (limit_number limit.Rings < rings))
     ⊎ ((l ≡ limit.Slots) × (actors ≤ limit_number limit.Actors) × (rings ≤ limit_number limit.Rings) × (limit_number limit.Slots < slots))
 
+-- the first of them that the net of the program passes
 abbrev pub IsPassed : List PlacedNode → List NodeClock → Limit → Type 0
 IsPassed nodes clocks l = IsPassedBy (actors_of nodes) (rings_of nodes) (slots_of nodes clocks) l

@@ -15,12 +15,10 @@ use Rattle.lucy_clock.specs.declared.node_clock.NodeClock.{NodeClock}
 use Rattle.lucy_flat.specs.declared.draft.Draft.{Draft}
 use Rattle.lucy_flat.specs.declared.instance.Caller.{Caller}
 use Rattle.lucy_flat.specs.declared.instance.Instance.{Instance}
-use Rattle.lucy_flat.specs.declared.extent.Extent.{Extent}
 use Rattle.lucy_flat.specs.Clocked.{AreClocked}
-use Rattle.lucy_flat.specs.Extents.{AreExtents}
 use Rattle.lucy_flat.specs.Counts.{own_rings, own_sizes, last_of, rings_of, slots_of}
 use Rattle.lucy_meaning.specs.Spots.{Spot, at, node_from, main_of, site_in, node_at, kind_at, spot_form, spot_reads, results_in}
-use Rattle.lucy_meaning.specs.Sizes.{size_of, total_of, all_places}
+use Rattle.lucy_meaning.specs.Sizes.{AreCapped, size_of, total_of, all_places}
 use Rattle.lucy_meaning.specs.Numbers.{begin_from, call_offset, number, spots_of}
 use Rattle.lucy_flat.specs.Instances.{index_at, word_at, IsBase, IsSpotWord}
 use Rattle.lucy_flat.specs.Flat.{actor_of, ring_size}
@@ -159,10 +157,11 @@ pub record AreDraftsSoFar (nodes : List PlacedNode) (clocks : List NodeClock) (u
   pub slots : sum_by draft_slots drafts ≡ total_of own_rings nodes (last_of nodes) + upto + total_of (own_sizes clocks) nodes (last_of nodes)
 
 -- what flattening a program rests on
-pub record IsProgram (nodes : List PlacedNode) (clocks : List NodeClock) (extents : List Extent) : Type 0 where
+pub record IsProgram (nodes : List PlacedNode) (clocks : List NodeClock) (counts : List ℕ) : Type 0 where
   pub proper : AreProper nodes
   pub clocked : AreClocked nodes clocks
-  pub sizes : AreExtents nodes clocks (length nodes) extents
+  pub room : length nodes ≤ length counts
+  pub sizes : AreCapped (size_of nodes) (length nodes) counts
 
 -- where the instances of an instance's calls begin
 pub record AreBegins (nodes : List PlacedNode) (node : PlacedNode) (begin : ℕ) (begins : List ℕ) : Type 0 where

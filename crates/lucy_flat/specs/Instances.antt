@@ -9,20 +9,22 @@ use Rattle.lucy_clock.specs.declared.node_clock.NodeClock.{NodeClock}
 use Rattle.lucy_clock.specs.Clocks.{call_clock}
 use Rattle.lucy_meaning.specs.Spots.{Spot, site_in, node_at}
 
--- the number of the node that a path of calls leads to from main
+-- the number of the node that a call calls
 abbrev pub called : Option CallSite → ℕ
 called None = 0
 called (Some site) = site.node
 
+-- the number of the node that a path of calls leads to from main
 abbrev pub index_at : List PlacedNode → List ℕ → ℕ
 index_at nodes [] = length nodes - 1
 index_at nodes (call ∷ path) = called (site_in (node_at nodes path) call)
 
--- the words of a node's clocks, and the sizes of its buffers
+-- the words of a node's clocks
 abbrev pub words_in : Option NodeClock → List Bits
 words_in None = []
 words_in (Some clock) = clock.words
 
+-- the sizes of a node's buffers
 abbrev pub sizes_in : Option NodeClock → List ℕ
 sizes_in None = []
 sizes_in (Some clock) = clock.sizes

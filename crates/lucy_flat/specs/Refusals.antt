@@ -50,6 +50,7 @@ pub record IsMergeTooLong (nodes : List PlacedNode) (clocks : List NodeClock) : 
   pub shortest : IsShortest own
   pub too_long : IsOnTooLong own p ⊎ IsOnTooLong own (turned p)
 
+-- one of these words is too long
 abbrev pub IsWordTooLong : List PlacedNode → List NodeClock → Type 0
 IsWordTooLong nodes clocks = IsClockTooLong nodes clocks ⊎ IsMergeTooLong nodes clocks
 

@@ -1,36 +1,14 @@
-// How much of a net the instance of a node is.
-ghost use Rattle.std.specs.Prelude.{List, ◌≡◌, ◌+◌, ◌≤◌, ◌<◌, Some, None, length, sum, sum_by, slice_get, IfOk, IfErr};
-ghost use Rattle.lucy_place.specs.declared.placed.PlacedNode.{PlacedNode as Node};
+// How large the net of a program is, and which limit it passes first.
+ghost use Rattle.std.specs.Prelude.{◌≡◌, ◌≤◌, Some, None, length, sum, sum_by};
+ghost use Rattle.lucy_place.specs.declared.entry.CallSite.{CallSite as Site};
 ghost use Rattle.lucy_word.specs.declared.limit.Limit.{Limit as Named};
-ghost use Rattle.lucy_flat.specs.declared.error.FlatError.TheVariants as err;
-ghost use Rattle.lucy_clock.specs.declared.node_clock.NodeClock.{NodeClock as Clock};
-ghost use Rattle.lucy_flat.specs.Extents.{Below, capped, IsExtent, AreExtents};
-ghost use Rattle.lucy_flat.specs.Counts.{read_count, IsPassedBy, IsKeptBy};
+ghost use Rattle.lucy_meaning.specs.Sizes.{capped, AreCapped, size_of, total_of};
+ghost use Rattle.lucy_flat.specs.Counts.{read_count, own_rings, own_sizes, last_of, IsPassedBy, IsKeptBy, IsPassed, IsSmall};
 
-use crate::error::FlatError;
-use crate::grow::push;
 use lucy_clock::NodeClock;
-use lucy_place::{PlaceEntry, PlaceKind, Placed, PlacedNode};
+use lucy_meaning::add_calls;
+use lucy_place::{CallSite, PlaceEntry, PlaceKind, Placed, PlacedNode};
 use lucy_word::Limit;
-use std::alloc::Global;
-
-/// More than each limit of a net.
-pub const PAST: u64 = 1 << 32;
-
-/// The actors, the rings that they take from and the sizes of these, of an instance with those inside it. The rings of its
-/// own parameters are left to the caller. A number that is more than `PAST` stands as `PAST`.
-#[derive(Clone, Copy, Debug)]
-pub struct Extent {
-    pub actors: u64,
-    pub rings: u64,
-    pub sizes: u64,
-}
-
-fn capped(number: u64) -> u64
-    ensures { result ≡ capped number }
-{
-    number.min(PAST)
-}
 
 // How many operands a place of the kind has; those of a parameter are its caller's.
 fn operands(kind: &PlaceKind) -> u64
@@ -49,7 +27,17 @@ fn all_operands(places: &[PlaceEntry]) -> u64
 {
     let mut all = 0u64;
     'each: for place in places {
-        all = capped(all + capped(operands(&place.kind)));
+        all = all.saturating_add(operands(&place.kind));
+    }
+    all
+}
+
+fn all_arguments(sites: &[CallSite]) -> u64
+    ensures { result ≡ capped (sum_by (λ (site : Site). length site.args) sites.now) }
+{
+    let mut all = 0u64;
+    'each: for site in sites {
+        all = all.saturating_add(site.args.list().len() as u64);
     }
     all
 }
@@ -59,70 +47,70 @@ fn all_sizes(sizes: &[u64]) -> u64
 {
     let mut all = 0u64;
     'each: for size in sizes {
-        all = capped(all + capped(*size));
+        all = all.saturating_add(*size);
     }
     all
 }
 
-// That of a node, by those of the nodes above it.
-fn extent_of(known: &[Extent], node: &PlacedNode, clock: &NodeClock) -> Extent
-    requires above { Below (length known.now) node.now.calls }
-    requires few { length node.now.places < 4294967296 }
-    requires known { (nodes : List Node) × (clocks : List Clock) × AreExtents nodes clocks (length known.now) known.now }
-    ensures { (nodes : List Node) (clocks : List Clock) → AreExtents nodes clocks (length known.now) known.now → slice_get nodes (length known.now) ≡ Some node.now →
-        slice_get clocks (length known.now) ≡ Some clock.now → IsExtent nodes clocks (length known.now) result }
+fn rings_in(node: &PlacedNode) -> u64
+    ensures { result ≡ capped (own_rings 0 node.now) }
 {
-    let places = node.places.list();
-    let mut all = Extent {
-        actors: places.len() as u64,
-        rings: all_operands(places),
-        sizes: all_sizes(clock.sizes.list()),
-    };
-    let sites = node.calls.list();
-    'calls: for site in sites {
-        let inner = known[site.node as usize];
-        all = Extent {
-            actors: capped(all.actors + inner.actors),
-            rings: capped(all.rings + capped(site.args.list().len() as u64) + inner.rings),
-            sizes: capped(all.sizes + inner.sizes),
-        };
-    }
-    all
+    all_operands(node.places.list()).saturating_add(all_arguments(node.calls.list()))
 }
 
-/// Those of the nodes of a program in order.
-pub fn extents(
-    alloc: Global,
-    placed: &Placed,
-    clocks: &[NodeClock],
-) -> Result<Vec<Extent>, FlatError>
+// How many rings the instance of main takes from, with those inside it.
+fn rings(placed: &Placed) -> u64
+    ensures { result ≡ capped (total_of own_rings placed.now.nodes (last_of placed.now.nodes)) }
+{
+    let mut counts = [0; 256];
+    'each: for node in 0..placed.nodes() {
+        counts[node as usize] = rings_in(placed.node(node));
+    }
+    add_calls(placed, &mut counts);
+    counts[placed.nodes() as usize - 1]
+}
+
+// The sizes of its buffers together.
+fn buffers(placed: &Placed, clocks: &[NodeClock]) -> u64
     requires { length clocks.now ≡ length placed.now.nodes }
-    ensures ok { IfOk result (λ v. AreExtents placed.now.nodes clocks.now (length placed.now.nodes) v.items) }
-    ensures refused { IfErr result (λ e. e ≡ err.OutOfMemory) }
+    ensures { result ≡ capped (total_of (own_sizes clocks.now) placed.now.nodes (last_of placed.now.nodes)) }
 {
-    let mut known = Vec::new(alloc);
-    'nodes: for node in 0..placed.nodes() {
-        let next = extent_of(&known, placed.node(node), &clocks[node as usize]);
-        push(&mut known, next)?;
+    let mut counts = [0; 256];
+    'each: for node in 0..placed.nodes() {
+        counts[node as usize] = all_sizes(clocks[node as usize].sizes.list());
     }
-    Ok(known)
+    add_calls(placed, &mut counts);
+    counts[placed.nodes() as usize - 1]
 }
 
-/// The first limit that the net of main passes, which has so many results.
-pub fn passed(main: Extent, results: u64) -> Option<Limit>
-    requires main { (main.actors ≤ 4294967296) × (main.rings ≤ 4294967296) × (main.sizes ≤ 4294967296) }
-    ensures passed { (limit : Named) → result ≡ Some limit → IsPassedBy (main.actors + results) (main.rings + results) (main.rings + results + main.sizes) limit }
-    ensures kept { result ≡ None → IsKeptBy (main.actors + results) (main.rings + results) (main.rings + results + main.sizes) }
+// The first of the limits that these numbers pass.
+fn first_passed(actors: u64, rings: u64, slots: u64) -> Option<Limit>
+    ensures passed { (limit : Named) → result ≡ Some limit → IsPassedBy actors rings slots limit }
+    ensures kept { result ≡ None → IsKeptBy actors rings slots }
 {
-    let results = capped(results);
-    let rings = main.rings + results;
-    if main.actors + results > Limit::Actors.number() {
+    if actors > Limit::Actors.number() {
         Some(Limit::Actors)
     } else if rings > Limit::Rings.number() {
         Some(Limit::Rings)
-    } else if rings + main.sizes > Limit::Slots.number() {
+    } else if slots > Limit::Slots.number() {
         Some(Limit::Slots)
     } else {
         None
     }
+}
+
+/// The first limit that the net of a program passes, where the sizes of its nodes are known.
+pub fn passed(placed: &Placed, clocks: &[NodeClock], sizes: &[u64]) -> Option<Limit>
+    requires clocks { length clocks.now ≡ length placed.now.nodes }
+    requires room { length placed.now.nodes ≤ length sizes.now }
+    requires sizes { AreCapped (size_of placed.now.nodes) (length placed.now.nodes) sizes.now }
+    ensures passed { (limit : Named) → result ≡ Some limit → IsPassed placed.now.nodes clocks.now limit }
+    ensures kept { result ≡ None → IsSmall placed.now.nodes clocks.now }
+{
+    let main = placed.nodes() - 1;
+    let results = placed.node(main).results.list().len() as u64;
+    let actors = sizes[main as usize].saturating_add(results);
+    let rings = rings(placed).saturating_add(results);
+    let slots = rings.saturating_add(buffers(placed, clocks));
+    first_passed(actors, rings, slots)
 }

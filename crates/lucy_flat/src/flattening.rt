@@ -16,11 +16,12 @@ ghost use Rattle.lucy_flat.specs.Refusals.{IsClockTooLong, IsFlatNet, RefusesFla
 use crate::assemble::assemble;
 use crate::draft::Draft;
 use crate::error::FlatError;
-use crate::extent::{extents, passed};
+use crate::extent::passed;
 use crate::grow::push;
 use crate::instance::{Program, put_instance};
 use crate::words::copied;
 use lucy_clock::NodeClock;
+use lucy_meaning::sizes;
 use lucy_need::always;
 use lucy_net::{ActorKind, Net, net_words_are_stored};
 use lucy_place::Placed;
@@ -94,7 +95,7 @@ fn all_bits(net: &Net) -> u64
 fn drafts(alloc: Global, program: Program<'_>, main: u32) -> Result<Vec<Draft>, FlatError>
     requires some { 0 < length program.placed.now.nodes }
     requires main { main ≡ last_of program.placed.now.nodes }
-    requires program { IsProgram program.placed.now.nodes program.clocks.now program.extents.now }
+    requires program { IsProgram program.placed.now.nodes program.clocks.now program.sizes.now }
     requires small { IsSmall program.placed.now.nodes program.clocks.now }
     ensures ok { IfOk result (λ v. AreDrafts program.entry.placed.now.nodes program.entry.clocks.now v.items) }
     ensures small { IfOk result (λ v. IsSmall program.entry.placed.now.nodes program.entry.clocks.now) }
@@ -118,15 +119,14 @@ fn made(alloc: Global, placed: &Placed, clocks: &[NodeClock]) -> Result<Net, Fla
     ensures refused { IfErr result (RefusesFlat placed.now.nodes clocks.now) }
 {
     let main = placed.nodes() - 1;
-    let extents = extents(alloc, placed, clocks)?;
-    let results = placed.node(main).results.list().len() as u64;
-    if let Some(limit) = passed(extents[main as usize], results) {
+    let sizes = sizes(placed);
+    if let Some(limit) = passed(placed, clocks, &sizes) {
         return Err(FlatError::Limit(limit));
     }
     let program = Program {
         placed,
         clocks,
-        extents: &extents,
+        sizes: &sizes,
     };
     let net = assemble(alloc, drafts(alloc, program, main)?)?;
     net_words_are_stored(&net);

@@ -6,7 +6,8 @@ ghost use Rattle.lucy_word.specs.declared.limit.Limit.TheVariants as lim;
 ghost use Rattle.lucy_place.specs.Proper.{Stands};
 ghost use Rattle.lucy_flat.specs.declared.error.FlatError.TheVariants as err;
 ghost use Rattle.lucy_meaning.specs.Spots.{at, spot_form, spot_reads, kind_at};
-ghost use Rattle.lucy_flat.specs.Extents.{Below, actors_in, AreSumsOf, HasSize, size_in};
+ghost use Rattle.lucy_meaning.specs.Below.{Below};
+ghost use Rattle.lucy_flat.specs.Extents.{actors_in, AreSumsOf, HasSize, size_in};
 ghost use Rattle.lucy_meaning.specs.Numbers.{number};
 ghost use Rattle.lucy_meaning.specs.Sizes.{size_of};
 ghost use Rattle.lucy_flat.specs.Flat.{actor_of};
@@ -16,7 +17,6 @@ ghost use Rattle.lucy_place.specs.declared.entry.PlaceKind.{PlaceKind as Kind};
 
 use crate::draft::Draft;
 use crate::error::FlatError;
-use crate::extent::Extent;
 use crate::grow::push;
 use crate::words::{copied, sampled};
 use lucy_clock::NodeClock;
@@ -25,12 +25,12 @@ use lucy_place::{CallSite, PlaceKind, Placed, PlacedNode, literal_value};
 use lucy_word::Word;
 use std::alloc::Global;
 
-/// A program with its words, and the extents of its nodes.
+/// A program with its words, and the sizes of its nodes.
 #[derive(Clone, Copy)]
 pub struct Program<'a> {
     pub placed: &'a Placed,
     pub clocks: &'a [NodeClock],
-    pub extents: &'a [Extent],
+    pub sizes: &'a [u64],
 }
 
 /// Where the caller of an instance begins, and the places of the arguments there.
@@ -118,7 +118,7 @@ fn reads(
     place: u32,
     kind: &PlaceKind,
 ) -> Result<Vec<u32>, FlatError>
-    requires program { IsProgram program.placed.now.nodes program.clocks.now program.extents.now }
+    requires program { IsProgram program.placed.now.nodes program.clocks.now program.sizes.now }
     requires of { (path : List ℕ) × IsInstance program.placed.now.nodes program.clocks.now path of }
     requires stands { Stands of.node.now place kind.now }
     ensures ok { (path : List ℕ) → IsInstance program.entry.placed.now.nodes program.entry.clocks.now path of.entry →
@@ -166,7 +166,7 @@ fn draft_of(
     of: Instance<'_>,
     place: u32,
 ) -> Result<Draft, FlatError>
-    requires program { IsProgram program.placed.now.nodes program.clocks.now program.extents.now }
+    requires program { IsProgram program.placed.now.nodes program.clocks.now program.sizes.now }
     requires of { (path : List ℕ) × IsInstance program.placed.now.nodes program.clocks.now path of }
     requires base { IsShortest of.base.now }
     requires place { (1 ≤ place) × (place ≤ length of.node.now.places) }
@@ -189,20 +189,20 @@ fn draft_of(
 // Where the instances of a node's calls begin, the first of them there.
 fn begins(
     alloc: Global,
-    extents: &[Extent],
+    sizes: &[u64],
     first: u32,
     sites: &[CallSite],
 ) -> Result<Vec<u32>, FlatError>
-    requires below { Below (length extents.now) sites.now }
-    requires few { first + actors_in extents.now sites.now < 2 ^ 32 }
-    ensures ok { IfOk result (λ v. AreSumsOf extents.now sites.now first (length sites.now) v.items) }
+    requires below { Below (length sizes.now) sites.now }
+    requires few { first + actors_in sizes.now sites.now < 2 ^ 32 }
+    ensures ok { IfOk result (λ v. AreSumsOf sizes.now sites.now first (length sites.now) v.items) }
     ensures refused { IfErr result (λ e. e ≡ err.OutOfMemory) }
 {
     let mut begins = Vec::new(alloc);
     let mut next = first;
     'each: for site in sites {
         push(&mut begins, next)?;
-        next += extents[site.node as usize].actors as u32;
+        next += sizes[site.node as usize] as u32;
     }
     Ok(begins)
 }
@@ -214,7 +214,7 @@ fn put_places(
     of: Instance<'_>,
     drafts: &mut Vec<Draft>,
 ) -> Result<(), FlatError>
-    requires program { IsProgram program.placed.now.nodes program.clocks.now program.extents.now }
+    requires program { IsProgram program.placed.now.nodes program.clocks.now program.sizes.now }
     requires of { (path : List ℕ) × IsInstance program.placed.now.nodes program.clocks.now path of }
     requires base { IsShortest of.base.now }
     ensures ok { (path : List ℕ) → IsInstance program.entry.placed.now.nodes program.entry.clocks.now path of.entry →
@@ -238,7 +238,7 @@ pub fn put_instance(
     caller: Option<Caller<'_>>,
     drafts: &mut Vec<Draft>,
 ) -> Result<(), FlatError>
-    requires program { IsProgram program.placed.now.nodes program.clocks.now program.extents.now }
+    requires program { IsProgram program.placed.now.nodes program.clocks.now program.sizes.now }
     requires node { node < length program.placed.now.nodes }
     requires at { (path : List ℕ) × IsAt program.placed.now.nodes program.clocks.now path node (length drafts.old.items) base.now caller }
     requires base { IsShortest base.now }
@@ -252,7 +252,7 @@ pub fn put_instance(
     let begin = drafts.len() as u32;
     let places = found.places.list().len();
     let sites = found.calls.list();
-    let inner = begins(alloc, program.extents, begin + places as u32, sites)?;
+    let inner = begins(alloc, program.sizes, begin + places as u32, sites)?;
     let of = Instance {
         node: found,
         clock,

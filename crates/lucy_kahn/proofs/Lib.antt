@@ -1,6 +1,5 @@
 mod ListSteps
 mod InstanceLaws
-mod CountLaws
 mod TurnLaws
 mod OwnLaws
 mod RunLaws

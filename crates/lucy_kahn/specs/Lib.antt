@@ -1,6 +1,5 @@
--- What callers believe, in the order to read it: what an interpretation comes to, how many places it may have, and what a turn gives.
+-- What callers believe, in the order to read it: what an interpretation comes to, and what a turn gives.
 pub mod Outcomes
-pub mod Counts
 pub mod Turns
 -- what only serves the proofs
 pub mod Instances

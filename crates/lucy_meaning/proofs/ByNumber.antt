@@ -1,12 +1,11 @@
 -- By their numbers, instance places are places of lucy_stream.
-use Rattle.std.proofs.Common.{ℕ, suc, zero, ◌<◌, ◌≤◌, ◌≡◌, List, [], ◌∷◌, Option, Some, None, length, map, ap, sym, refl, ◌∙◌, subst, arith}
-use Rattle.std.specs.Prelude.{ℤ, slice_get, option_map, All}
+use Rattle.std.proofs.Common.{ℕ, suc, ◌<◌, ◌≤◌, ◌≡◌, List, [], ◌∷◌, Some, length, map, ap, sym, refl, ◌∙◌, subst, arith}
+use Rattle.std.specs.Prelude.{ℤ, slice_get, option_map}
 use Rattle.std.proofs.lemmas.Option.{same_Some, slice_get_within, slice_get-map}
 use Rattle.lucy_host.specs.declared.kind.HostKind.{HostKind}
 use Rattle.lucy_stream.specs.Items.{list_at}
 use Rattle.lucy_stream.specs.Fronts.{IsFront, AreFronts}
-use Rattle.lucy_stream.specs.Forms.{Form, operands}
-use Rattle.lucy_stream.specs.Lists.{form_list}
+use Rattle.lucy_stream.specs.Forms.{operands}
 use Rattle.lucy_stream.specs.Iterates.{Place, iterate}
 use Rattle.lucy_stream.specs.Needs.{IsNeed, Item, Needs, IsWalk, IsCausal}
 use Rattle.lucy_stream.specs.Names.{Named, AreIterates, AreNumbered}
@@ -18,11 +17,10 @@ use Rattle.lucy_place.specs.Proper.{AreProper}
 use Rattle.lucy_meaning.specs.Spots.{Spot, IsSpot, form_at, reads_at}
 use Rattle.lucy_meaning.specs.Kahn.{kahn}
 use Rattle.lucy_meaning.specs.Items.{SpotItem, DependsOn, Leads, IsCausalProgram}
-use Rattle.lucy_meaning.specs.Sizes.{all_places}
 use Rattle.lucy_meaning.specs.Numbers.{number, numbered_place, numbered_places}
 use Rattle.lucy_meaning.proofs.Lists.{mapped}
 use Rattle.lucy_meaning.proofs.Closed.{closed, all_of, each_of}
-use Rattle.lucy_meaning.proofs.Numbered.{place_there, number_below, number_own, number_reached, count_places}
+use Rattle.lucy_meaning.proofs.Numbered.{place_there, number_own, number_reached, count_places}
 
 -- the instance places of a program, by themselves
 pub named_places : List PlacedNode → Named Spot

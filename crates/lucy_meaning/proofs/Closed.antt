@@ -1,16 +1,15 @@
 -- What an instance place reads is an instance place.
-use Rattle.std.proofs.Common.{ℕ, suc, zero, ◌+◌, ◌-◌, ◌<◌, ◌≤◌, ◌≡◌, List, [], ◌∷◌, Option, Some, None, length, map, take, ap, sym, refl, ◌∙◌, subst, arith}
+use Rattle.std.proofs.Common.{ℕ, suc, zero, ◌-◌, ◌<◌, ◌≤◌, ◌≡◌, List, [], ◌∷◌, Option, Some, None, length, map, take, ap, sym, refl, ◌∙◌, subst, arith}
 use Rattle.std.specs.Prelude.{slice_get, slice_index_or, All}
 use Rattle.std.specs.List.{AllByRecursion}
 use Rattle.std.proofs.lemmas.Option.{same_Some}
 use Rattle.lucy_place.specs.declared.placed.PlacedNode.{PlacedNode}
-use Rattle.lucy_place.specs.declared.entry.PlaceEntry.{PlaceEntry}
 use Rattle.lucy_place.specs.declared.entry.CallSite.{CallSite}
 use Rattle.lucy_place.specs.declared.entry.PlaceKind.{PlaceKind}
 use Rattle.lucy_place.specs.declared.entry.PlaceKind.TheVariants.{Param, Defined, Lit, Op, Host, When, Merge, Fby, Buffer, Result}
-use Rattle.lucy_place.specs.Proper.{at_one, Stands, IsPlace, ArePlaces, IsProperCall, IsProperKind, IsProperNode, AreProper}
+use Rattle.lucy_place.specs.Proper.{at_one, Stands, IsPlace, ArePlaces, IsProperKind, AreProper}
 use Rattle.lucy_meaning.specs.Spots.{Spot, at, site_in, callee_in, node_at, kind_in, kind_at, IsSpot, argument, result_place, param_reads, spot_reads, reads_if, reads_at}
-use Rattle.lucy_meaning.proofs.Paths.{low_of, IsCalled, called, IsAt, is_at, kind_there, proper_at}
+use Rattle.lucy_meaning.proofs.Paths.{low_of, IsCalled, called, is_at, kind_there, proper_at}
 
 pub get_take : {A : Type 0} (xs : List A) (i j : ℕ) (x : A) → slice_get (take i xs) j ≡ Some x → slice_get xs j ≡ Some x
 get_take [] zero j x e = absurd (cc e)

@@ -1,5 +1,6 @@
 pub mod Lists
 pub mod Tables
+pub mod SizeLaws
 pub mod Paths
 pub mod SpotLists
 pub mod Numbered

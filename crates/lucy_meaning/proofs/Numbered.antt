@@ -1,12 +1,11 @@
 -- Instance places and their numbers.
-use Rattle.std.proofs.Common.{ℕ, suc, zero, ◌+◌, ◌-◌, ◌<◌, ◌≤◌, ◌≡◌, List, [], ◌∷◌, Option, Some, None, length, map, ap, sym, refl, ◌∙◌, subst, arith}
+use Rattle.std.proofs.Common.{ℕ, suc, ◌-◌, ◌<◌, ◌≡◌, List, [], ◌∷◌, Option, Some, None, length, ap, sym, refl, ◌∙◌, arith}
 use Rattle.std.specs.Prelude.{slice_get, option_map}
 use Rattle.std.proofs.lemmas.List.{length-map}
 use Rattle.std.proofs.lemmas.Option.{same_Some, slice_get_within, slice_get-map}
 use Rattle.lucy_place.specs.declared.placed.PlacedNode.{PlacedNode}
-use Rattle.lucy_place.specs.declared.entry.PlaceKind.{PlaceKind}
 use Rattle.lucy_place.specs.Proper.{AreProper}
-use Rattle.lucy_meaning.specs.Spots.{Spot, at, main_of, node_from, node_at, kind_in, kind_at, IsSpot}
+use Rattle.lucy_meaning.specs.Spots.{Spot, main_of, node_from, node_at, kind_in, IsSpot}
 use Rattle.lucy_meaning.specs.Sizes.{all_places}
 use Rattle.lucy_meaning.specs.Numbers.{number_from, number, spots, numbered_place, numbered_places}
 use Rattle.lucy_meaning.proofs.Lists.{there}

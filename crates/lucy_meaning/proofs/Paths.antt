@@ -1,13 +1,13 @@
 -- Paths of calls, from main or from another node.
-use Rattle.std.proofs.Common.{ℕ, suc, zero, ◌+◌, ◌-◌, ◌<◌, ◌≤◌, ◌≡◌, ◌⊎◌, inl, inr, List, [], ◌∷◌, ◌++◌, Option, Some, None, length, take, ap, sym, refl, ◌∙◌, subst, arith}
+use Rattle.std.proofs.Common.{ℕ, suc, zero, ◌+◌, ◌-◌, ◌≤◌, ◌≡◌, ◌⊎◌, inl, inr, List, [], ◌∷◌, ◌++◌, Option, Some, None, length, take, ap, refl, ◌∙◌, arith}
 use Rattle.std.specs.Prelude.{slice_get}
 use Rattle.lucy_place.specs.declared.placed.PlacedNode.{PlacedNode}
 use Rattle.lucy_place.specs.declared.entry.PlaceEntry.{PlaceEntry}
 use Rattle.lucy_place.specs.declared.entry.CallSite.{CallSite}
 use Rattle.lucy_place.specs.declared.entry.PlaceKind.{PlaceKind}
-use Rattle.lucy_place.specs.Proper.{at_one, Stands, IsPlace, IsProperNode, AreProper}
-use Rattle.lucy_meaning.specs.Spots.{Spot, at, site_in, callee_in, node_from, node_at, main_of, kind_of, kind_in, kind_at, IsSpot}
-use Rattle.lucy_meaning.specs.Numbers.{call_offset, begin_from, number_from}
+use Rattle.lucy_place.specs.Proper.{at_one, IsPlace, IsProperNode, AreProper}
+use Rattle.lucy_meaning.specs.Spots.{site_in, callee_in, node_from, node_at, kind_of, kind_in}
+use Rattle.lucy_meaning.specs.Numbers.{call_offset, begin_from}
 use Rattle.lucy_meaning.proofs.Lists.{there}
 
 -- an element of a list that counts from 1

@@ -1,5 +1,5 @@
 -- The definitions, run on small programs.
-use Rattle.std.proofs.Common.{ℕ, ◌≡◌, true, false, List, [], ◌∷◌, Some, None, refl, map}
+use Rattle.std.proofs.Common.{ℕ, ◌≡◌, true, false, List, [], ◌∷◌, None, refl, map}
 use Rattle.std.specs.Prelude.{codes, pos}
 use Rattle.std.specs.Int.{int_wrap}
 use Rattle.lucy_word.specs.Bits.{Bits, bit_at, ones_to}
@@ -11,7 +11,7 @@ use Rattle.lucy_place.specs.declared.entry.PlaceKind.{PlaceKind}
 use Rattle.lucy_place.specs.declared.entry.PlaceKind.TheVariants as kind
 use Rattle.lucy_place.specs.declared.entry.CallSite.{CallSite}
 use Rattle.lucy_place.specs.declared.placed.PlacedNode.{PlacedNode}
-use Rattle.lucy_meaning.specs.Spots.{Spot, at, reads_at, results_of}
+use Rattle.lucy_meaning.specs.Spots.{at, reads_at, results_of}
 use Rattle.lucy_meaning.specs.Sizes.{all_places}
 use Rattle.lucy_meaning.specs.Kahn.{kahn, stream_to}
 use Rattle.lucy_meaning.specs.Numbers.{number, spots}
@@ -21,7 +21,7 @@ entry k = record { name = None; holds = None; word = None; kind = k }
 
 -- a node with one parameter, and with its result at the second place
 abbrev node : List PlaceEntry → List CallSite → PlacedNode
-node places calls = record { name = record { text = codes "n"; span = record { from = 0; to = 1 } }; params = 1; places = places; results = 2 ∷ []; buffers = []; calls = calls }
+node places calls = record { name = record { text = codes "n"; span = record { from = 0; to = 1 } }; params = 1; places = places; results = 2 ∷ []; buffers = []; bounds = []; calls = calls }
 
 abbrev calls : ℕ → ℕ → ℕ → CallSite
 calls callee first argument = record { node = callee; at = None; first = first; args = argument ∷ [] }

@@ -11,12 +11,13 @@ use Rattle.lucy_place.specs.declared.placed.PlacedNode.{PlacedNode}
 use Rattle.lucy_place.specs.declared.entry.CallSite.{CallSite}
 use Rattle.lucy_place.specs.declared.entry.PlaceKind.{PlaceKind}
 use Rattle.lucy_place.specs.Proper.{at_one, AreProper}
-use Rattle.lucy_meaning.specs.Spots.{Spot, at, site_in, callee_in, node_from, kind_of, kind_in}
-use Rattle.lucy_meaning.specs.Sizes.{entry_of, own_places, size_of}
+use Rattle.lucy_meaning.specs.Spots.{Spot, at, site_in, callee_in, node_from, kind_in}
+use Rattle.lucy_meaning.specs.Below.{Below}
+use Rattle.lucy_meaning.specs.Sizes.{own_places, size_of}
 use Rattle.lucy_meaning.specs.Numbers.{call_offset, begin_from, number_from, within_call, inner_spots, spots_in, spots_of}
 use Rattle.lucy_meaning.proofs.Lists.{there, get_left, get_right, get_range, mapped}
-use Rattle.lucy_meaning.proofs.Tables.{Below, IsLocal, calls_below, below_take, sum_same, entry_law, total_law}
-use Rattle.lucy_meaning.proofs.Paths.{low_of, none_from, node_inside, begin_inside, begins_with, IsCalled, called, IsAt, is_at, kind_there}
+use Rattle.lucy_meaning.proofs.Tables.{IsLocal, calls_below, below_take, sum_same, entry_law, total_law}
+use Rattle.lucy_meaning.proofs.Paths.{low_of, none_from, node_inside, begin_inside, begins_with, called, is_at, kind_there}
 
 inner_same : (f g : ℕ → List Spot) (k call : ℕ) (sites : List CallSite) → ((j : ℕ) → j < k → f j ≡ g j) → Below k sites → inner_spots f call sites ≡ inner_spots g call sites
 inner_same f g k call [] h all = refl

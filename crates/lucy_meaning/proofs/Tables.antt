@@ -1,18 +1,14 @@
 -- Tables over the nodes of a program: an entry is made of the entries of the nodes above.
-use Rattle.std.proofs.Common.{ℕ, suc, zero, ◌+◌, ◌<◌, ◌≤◌, ◌≡◌, List, [], ◌∷◌, ◌++◌, Option, Some, length, get_or, take, ap, sym, refl, ◌∙◌, subst, arith}
+use Rattle.std.proofs.Common.{ℕ, suc, zero, ◌+◌, ◌<◌, ◌≡◌, List, [], ◌∷◌, ◌++◌, Some, length, get_or, take, ap, sym, refl, ◌∙◌, subst, arith}
 use Rattle.std.specs.Prelude.{sum_by, slice_get, slice_index_or}
-use Rattle.std.specs.List.{AllByRecursion}
 use Rattle.std.proofs.lemmas.List.{get_or_append_left, get_or_push, length_push, length-take}
 use Rattle.std.proofs.lemmas.List.Sums.{sum_by-cons}
 use Rattle.std.proofs.lemmas.Option.{same_Some, slice_get_within}
 use Rattle.lucy_place.specs.declared.placed.PlacedNode.{PlacedNode}
 use Rattle.lucy_place.specs.declared.entry.CallSite.{CallSite}
-use Rattle.lucy_place.specs.Proper.{at_one, IsProperNode}
+use Rattle.lucy_place.specs.Proper.{IsProperNode}
+use Rattle.lucy_meaning.specs.Below.{Below}
 use Rattle.lucy_meaning.specs.Sizes.{table_past, entry_of, total_in, total_of}
-
--- the calls are of nodes below this number
-abbrev pub Below : ℕ → List CallSite → Type 0
-Below k sites = AllByRecursion (λ (s : CallSite). s.node < k) sites
 
 below_from : (k : ℕ) (sites : List CallSite) → ((i : ℕ) (s : CallSite) → slice_get sites i ≡ Some s → s.node < k) → Below k sites
 below_from k [] h = tt

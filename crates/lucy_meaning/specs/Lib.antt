@@ -6,3 +6,5 @@ pub mod Kahn
 pub mod Items
 pub mod Horizons
 pub mod Numbers
+-- Below this line stands what only serves the proofs of the bodies.
+pub mod Below

@@ -18,6 +18,7 @@ abbrev pub begin_from : List PlacedNode → Option PlacedNode → List ℕ → �
 begin_from nodes begin [] = 0
 begin_from nodes begin (call ∷ path) = begin_from nodes begin path + call_offset nodes (node_from nodes begin path) call
 
+-- the number of an instance place, counted from the begin of an instance of the node at which its path begins
 abbrev pub number_from : List PlacedNode → Option PlacedNode → Spot → ℕ
 number_from nodes begin spot = begin_from nodes begin spot.path + (spot.place - 1)
 
@@ -38,6 +39,7 @@ inner_spots known call (site ∷ sites) = map (within_call call) (known site.nod
 abbrev pub spots_in : (ℕ → List Spot) → ℕ → PlacedNode → List Spot
 spots_in known i node = map (at []) (range_with_len 1 (length node.places)) ++ inner_spots known 1 node.calls
 
+-- the same, of a node by its number
 abbrev pub spots_of : List PlacedNode → ℕ → List Spot
 spots_of nodes node = entry_of [] spots_in nodes node
 
@@ -49,5 +51,6 @@ spots nodes = spots_of nodes (length nodes - 1)
 abbrev pub numbered_place : List PlacedNode → Spot → Place
 numbered_place nodes spot = record { form = form_at nodes spot; reads = map (number nodes) (reads_at nodes spot) }
 
+-- all instance places so, in order of their numbers
 abbrev pub numbered_places : List PlacedNode → List Place
 numbered_places nodes = map (numbered_place nodes) (spots nodes)

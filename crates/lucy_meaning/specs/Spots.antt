@@ -16,14 +16,16 @@ pub record Spot : Type 0 where
   pub path : List ℕ
   pub place : ℕ
 
+-- the instance place with this path and this place
 abbrev pub at : List ℕ → ℕ → Spot
 at path place = record { path = path; place = place }
 
--- the call of a number in a node, and the node that a call calls
+-- the call of a number in a node
 abbrev pub site_in : Option PlacedNode → ℕ → Option CallSite
 site_in None call = None
 site_in (Some n) call = at_one n.calls call
 
+-- the node that a call calls
 abbrev pub callee_in : List PlacedNode → Option CallSite → Option PlacedNode
 callee_in nodes None = None
 callee_in nodes (Some site) = slice_get nodes site.node
@@ -46,6 +48,7 @@ abbrev pub kind_of : Option PlaceEntry → Option PlaceKind
 kind_of None = None
 kind_of (Some entry) = Some entry.kind
 
+-- what stands at a place of the node, if both are there
 abbrev pub kind_in : Option PlacedNode → ℕ → Option PlaceKind
 kind_in None place = None
 kind_in (Some n) place = kind_of (at_one n.places place)
@@ -54,23 +57,26 @@ kind_in (Some n) place = kind_of (at_one n.places place)
 abbrev pub kind_at : List PlacedNode → Spot → Option PlaceKind
 kind_at nodes spot = kind_in (node_at nodes spot.path) spot.place
 
+-- it is an instance place: something stands there
 abbrev pub IsSpot : List PlacedNode → Spot → Type 0
 IsSpot nodes spot = (kind : PlaceKind) × (kind_at nodes spot ≡ Some kind)
 
--- the place of a call's argument, in the caller, and of a result, in the node that is called
+-- the place of a call's argument in the caller
 abbrev pub argument : Option CallSite → ℕ → ℕ
 argument None place = 0
 argument (Some site) place = slice_index_or site.args (place - 1) 0
 
+-- the place of a result in the node that is called
 abbrev pub result_place : Option PlacedNode → ℕ → ℕ
 result_place None number = 0
 result_place (Some n) number = slice_index_or n.results number 0
 
--- a parameter of main has an input of its own; that of a call is the call's argument
+-- a parameter of main has an input of its own, that of a call hands on
 abbrev pub param_form : List ℕ → ℕ → Form
 param_form [] place = Given (place - 1)
 param_form (call ∷ path) place = Same
 
+-- a parameter of main reads nothing, that of a call the call's argument
 abbrev pub param_reads : List PlacedNode → List ℕ → ℕ → List Spot
 param_reads nodes [] place = []
 param_reads nodes (call ∷ path) place = at path (argument (site_in (node_at nodes path) call) place) ∷ []
@@ -100,20 +106,24 @@ abbrev pub form_if : Spot → Option PlaceKind → Form
 form_if spot None = Same
 form_if spot (Some kind) = spot_form spot kind
 
+-- the form of an instance place
 abbrev pub form_at : List PlacedNode → Spot → Form
 form_at nodes spot = form_if spot (kind_at nodes spot)
 
+-- what an instance place reads, where this stands there
 abbrev pub reads_if : List PlacedNode → Spot → Option PlaceKind → List Spot
 reads_if nodes spot None = []
 reads_if nodes spot (Some kind) = spot_reads nodes spot kind
 
+-- the instance places that an instance place reads
 abbrev pub reads_at : List PlacedNode → Spot → List Spot
 reads_at nodes spot = reads_if nodes spot (kind_at nodes spot)
 
--- the instance places of main's results, in order
+-- the places of a node's results
 abbrev pub results_in : Option PlacedNode → List ℕ
 results_in None = []
 results_in (Some n) = n.results
 
+-- the instance places of main's results, in order
 abbrev pub results_of : List PlacedNode → List Spot
 results_of nodes = map (at []) (results_in (main_of nodes))

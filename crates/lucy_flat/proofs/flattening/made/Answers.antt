@@ -1,10 +1,6 @@
-use Rattle.std.proofs.Common.{◌≡◌, ◌-◌, ◌<◌, ap, sym, refl, ◌∙◌, subst, length, inl, inr, arith}
-use Rattle.std.specs.Prelude.{slice_get}
-use Rattle.std.proofs.lemmas.Option.{slice_get_read}
+use Rattle.std.proofs.Common.{◌≡◌, refl, inl, inr, arith}
 use Rattle.lucy_flat.specs.declared.error.FlatError.TheVariants as err
 use Rattle.lucy_word.specs.declared.limit.Limit.TheVariants as lim
-use Rattle.lucy_flat.specs.Counts.{last_of}
-use Rattle.lucy_flat.specs.Extents.{IsExtent}
 use Rattle.lucy_flat.specs.Refusals.{RefusesFlat, IsClockTooLong}
 use Rattle.std.specs.Prelude.{◌⊎◌}
 use Rattle.lucy_flat.specs.Assembly.{IsReadTooLong}
@@ -12,48 +8,18 @@ use Rattle.lucy_flat.proofs.AssemblyLaws.{leaves}
 use Rattle.lucy_flat.proofs.FlatLaws.{ready}
 use Rattle.lucy_flat.proofs.NetLaws.{flat_net, actors_few, rings_few}
 use Rattle.lucy_flat.proofs.TopLaws.{refuses_clock, refuses_read}
-use Rattle.lucy_flat.proofs.ExtentLaws.{main_passed, main_kept}
 use Rattle.lucy_flat.proofs.flattening.made.Goals as goal
 
 pub returns-in-Some-clause-refused : goal.returns-in-Some-clause-refused
-returns-in-Some-clause-refused c =
-    let nodes = c.args.placed.now.nodes in
-    let all = c.in_ok-extents.ensures.ok in
-    let main : c.nodes-main.result - 1 ≡ last_of nodes = ap (λ n. n - 1) c.nodes-main.ensures.count in
-    let some = c.nodes-main.ensures.some in
-    let low : c.nodes-main.result - 1 < length c.in_ok-extents.extents.items = omega (arith, c.nodes-main.ensures.count, all.count, some) in
-    let there = slice_get_read c.in_ok-extents.extents.items (length c.in_ok-extents.extents.items) (c.nodes-main.result - 1) c.index.result.now refl low c.index.ensures in
-    let is : IsExtent nodes c.args.clocks.now (last_of nodes) c.index.result.now = subst (λ k. IsExtent nodes c.args.clocks.now k c.index.result.now) main (all.each (c.nodes-main.result - 1) c.index.result.now there) in
-    let found = ap (slice_get nodes) (sym main) ∙ c.node.ensures.is in
-    inl (main_passed nodes c.args.clocks.now c.index.result.now c.node.result.now (length c.list.result.now) is found (ap length c.list.ensures) c.in-Some.limit (c.passed.ensures.passed c.in-Some.limit c.in-Some.is))
-
-pub drafts-requires-clause-small : goal.drafts-requires-clause-small
-drafts-requires-clause-small c =
-    let nodes = c.args.placed.now.nodes in
-    let all = c.in_ok-extents.ensures.ok in
-    let main : c.nodes-main.result - 1 ≡ last_of nodes = ap (λ n. n - 1) c.nodes-main.ensures.count in
-    let some = c.nodes-main.ensures.some in
-    let low : c.nodes-main.result - 1 < length c.in_ok-extents.extents.items = omega (arith, c.nodes-main.ensures.count, all.count, some) in
-    let there = slice_get_read c.in_ok-extents.extents.items (length c.in_ok-extents.extents.items) (c.nodes-main.result - 1) c.index.result.now refl low c.index.ensures in
-    let is : IsExtent nodes c.args.clocks.now (last_of nodes) c.index.result.now = subst (λ k. IsExtent nodes c.args.clocks.now k c.index.result.now) main (all.each (c.nodes-main.result - 1) c.index.result.now there) in
-    let found = ap (slice_get nodes) (sym main) ∙ c.node.ensures.is in
-    main_kept nodes c.args.clocks.now c.index.result.now c.node.result.now (length c.list.result.now) is found (ap length c.list.ensures) (c.passed.ensures.kept c.in_default.is)
+returns-in-Some-clause-refused c = inl (c.passed.ensures.passed c.in-Some.limit c.in-Some.is)
 
 pub returns-in_err-drafts-clause-refused : goal.returns-in_err-drafts-clause-refused
 returns-in_err-drafts-clause-refused c =
     let nodes = c.args.placed.now.nodes in
     let clocks = c.args.clocks.now in
-    let all = c.in_ok-extents.ensures.ok in
-    let main : c.nodes-main.result - 1 ≡ last_of nodes = ap (λ n. n - 1) c.nodes-main.ensures.count in
-    let some = c.nodes-main.ensures.some in
-    let low : c.nodes-main.result - 1 < length c.in_ok-extents.extents.items = omega (arith, c.nodes-main.ensures.count, all.count, some) in
-    let there = slice_get_read c.in_ok-extents.extents.items (length c.in_ok-extents.extents.items) (c.nodes-main.result - 1) c.index.result.now refl low c.index.ensures in
-    let is : IsExtent nodes clocks (last_of nodes) c.index.result.now = subst (λ k. IsExtent nodes clocks k c.index.result.now) main (all.each (c.nodes-main.result - 1) c.index.result.now there) in
-    let found = ap (slice_get nodes) (sym main) ∙ c.node.ensures.is in
-    let small = main_kept nodes clocks c.index.result.now c.node.result.now (length c.list.result.now) is found (ap length c.list.ensures) (c.passed.ensures.kept c.in_default.is) in
     leaves (λ e. (e ≡ err.OutOfMemory) ⊎ ((e ≡ err.Limit lim.Word) × IsClockTooLong nodes clocks)) (RefusesFlat nodes clocks) _
-    c.from_residual-in_err-drafts.result c.from_residual-in_err-drafts.ensures.1 c.in_err-drafts.ensures.refused
-    (λ e why. refuses_clock nodes clocks e small why)
+    c.from_residual.result c.from_residual.ensures.1 c.in_err-drafts.ensures.refused
+    (λ e why. refuses_clock nodes clocks e (c.passed.ensures.kept c.in_default.is) why)
 
 pub assemble-requires : goal.assemble-requires
 assemble-requires c = ready c.args.placed.now.nodes c.args.clocks.now c.nodes-main.ensures.proper c.requires c.in_ok-drafts.field-0.items c.in_ok-drafts.ensures.ok c.in_ok-drafts.ensures.small

@@ -5,7 +5,8 @@ use Rattle.lucy_word.specs.Sampling.{IsOn, IsOnTooLong}
 use Rattle.lucy_word.specs.declared.limit.Limit.TheVariants as lim
 use Rattle.lucy_place.specs.declared.placed.PlacedNode.{PlacedNode}
 use Rattle.lucy_flat.specs.declared.error.FlatError.TheVariants as err
-use Rattle.lucy_flat.specs.Extents.{Below, actors_in, AreSumsOf}
+use Rattle.lucy_meaning.specs.Below.{Below}
+use Rattle.lucy_flat.specs.Extents.{actors_in, AreSumsOf}
 use Rattle.lucy_meaning.specs.Sizes.{own_places}
 use Rattle.lucy_meaning.specs.Numbers.{call_offset}
 use Rattle.lucy_meaning.proofs.Tables.{calls_below, total_law}
@@ -15,7 +16,8 @@ use Rattle.lucy_flat.specs.Refusals.{IsClockTooLong}
 use Rattle.lucy_flat.proofs.AssemblyLaws.{leaves}
 use Rattle.lucy_flat.proofs.ExtentLaws.{got, call_above}
 use Rattle.lucy_flat.proofs.InstanceLaws.{places_within, call_within, fit_here}
-use Rattle.lucy_flat.proofs.PutLaws.{below_later, actors_exact, so_far_first, so_far_more, so_far_whole, so_far_length, at_call, instance_is, call_bound, call_word, site_at}
+use Rattle.lucy_meaning.proofs.SizeLaws.{below_more}
+use Rattle.lucy_flat.proofs.PutLaws.{actors_exact, so_far_first, so_far_more, so_far_whole, so_far_length, at_call, instance_is, call_bound, call_word, site_at}
 use Rattle.lucy_flat.proofs.instance.+put_instance.Goals as goal
 
 pub overflow_add-begin : goal.overflow_add-begin
@@ -29,24 +31,24 @@ overflow_add-begin t c =
 pub begins-requires-clause-below : goal.begins-requires-clause-below
 begins-requires-clause-below t c =
     let nodes = c.args.program.placed.now.nodes in
-    let extents = c.args.program.extents.now in
+    let sizes = c.args.program.sizes.now in
     let n : PlacedNode = c.node-found.result.now in
-    let count = c.requires.program.sizes.count in
+    let room = c.requires.program.room in
     let node = c.requires.node in
-    subst (Below (length extents)) (sym c.list-sites.ensures) (below_later c.args.node (length extents) n.calls (omega arith) (calls_below nodes c.args.node n (c.requires.program.proper c.args.node n c.node-found.ensures.is)))
+    subst (Below (length sizes)) (sym c.list-sites.ensures) (below_more c.args.node (length sizes) n.calls (omega arith) (calls_below nodes c.args.node n (c.requires.program.proper c.args.node n c.node-found.ensures.is)))
 
 pub begins-requires-clause-few : goal.begins-requires-clause-few
 begins-requires-clause-few t c =
     let nodes = c.args.program.placed.now.nodes in
-    let extents = c.args.program.extents.now in
+    let sizes = c.args.program.sizes.now in
     let n : PlacedNode = c.node-found.result.now in
-    let count = c.requires.program.sizes.count in
+    let room = c.requires.program.room in
     let node = c.requires.node in
     let below = calls_below nodes c.args.node n (c.requires.program.proper c.args.node n c.node-found.ensures.is) in
     let whole = total_law own_places nodes c.args.node n c.node-found.ensures.is below in
     let few = c.requires.few in
-    let exact = actors_exact nodes c.args.program.clocks.now extents c.requires.program.sizes n.calls (below_later c.args.node (length extents) n.calls (omega arith) below) (omega arith) in
-    let sites = ap (actors_in extents) c.list-sites.ensures in
+    let exact = actors_exact nodes sizes c.requires.program.sizes n.calls (below_more c.args.node (length nodes) n.calls (omega arith) below) (omega arith) in
+    let sites = ap (actors_in sizes) c.list-sites.ensures in
     let places = ap length c.list-places.ensures in
     let len = c.len-begin.ensures in
     omega arith
@@ -58,9 +60,9 @@ put_places-requires-clause-of t c =
     let places = ap length c.list-places.ensures in
     let len = c.len-begin.ensures in (
       c.requires.at.0,
-      instance_is c.args.program.placed.now.nodes c.args.program.clocks.now c.args.program.extents.now c.requires.program c.requires.at.0 c.args.node (length c.args.drafts.now.items) (c.len-begin.result + length c.list-places.result.now) _ c.list-sites.result.now
+      instance_is c.args.program.placed.now.nodes c.args.program.clocks.now c.args.program.sizes.now c.requires.program c.requires.at.0 c.args.node (length c.args.drafts.now.items) (c.len-begin.result + length c.list-places.result.now) _ c.list-sites.result.now
           c.node-found.ensures.is (got c.args.program.clocks.now c.args.node c.index-program-node.result (omega arith)) c.requires.at.1 (omega arith) c.requires.few c.list-sites.ensures (omega arith)
-          (subst (AreSumsOf c.args.program.extents.now c.list-sites.result.now (c.len-begin.result + length c.list-places.result.now) (length c.list-sites.result.now)) (sym c.deref.ensures.value) c.in_ok-inner.ensures.ok),
+          (subst (AreSumsOf c.args.program.sizes.now c.list-sites.result.now (c.len-begin.result + length c.list-places.result.now) (length c.list-sites.result.now)) (sym c.deref.ensures.value) c.in_ok-inner.ensures.ok),
     )
 
 pub calls-init : goal.calls-init
@@ -76,9 +78,9 @@ calls-init t c = λ path n is e.
     let places = ap length c.list-places.ensures in
     let len = c.len-begin.ensures in
     let same : found ≡ n = same_Some found n (sym at_node ∙ e) in
-    let put = c.in_ok-put_places.ensures.ok path (instance_is nodes clocks c.args.program.extents.now c.requires.program path c.args.node (length c.args.drafts.now.items) (c.len-begin.result + length c.list-places.result.now) _ c.list-sites.result.now
+    let put = c.in_ok-put_places.ensures.ok path (instance_is nodes clocks c.args.program.sizes.now c.requires.program path c.args.node (length c.args.drafts.now.items) (c.len-begin.result + length c.list-places.result.now) _ c.list-sites.result.now
     at_node at_clock is (omega arith) c.requires.few c.list-sites.ensures (omega arith)
-    (subst (AreSumsOf c.args.program.extents.now c.list-sites.result.now (c.len-begin.result + length c.list-places.result.now) (length c.list-sites.result.now)) (sym c.deref.ensures.value) c.in_ok-inner.ensures.ok)) in
+    (subst (AreSumsOf c.args.program.sizes.now c.list-sites.result.now (c.len-begin.result + length c.list-places.result.now) (length c.list-sites.result.now)) (sym c.deref.ensures.value) c.in_ok-inner.ensures.ok)) in
     subst (λ m. ArePutSoFar nodes clocks path m 0 c.args.drafts.now.items c.put_places.new.drafts.items) same (so_far_first nodes clocks path found c.args.drafts.now.items c.put_places.new.drafts.items put)
 
 pub bounds-list-places : goal.bounds-list-places

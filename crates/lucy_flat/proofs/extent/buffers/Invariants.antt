@@ -1,0 +1,9 @@
+use Rattle.std.proofs.Common.{ℕ, ◌≡◌, ◌<◌, length}
+use Rattle.std.specs.Prelude.{slice_index, slice_get, Some}
+use Rattle.lucy_place.specs.declared.placed.PlacedNode.{PlacedNode}
+use Rattle.lucy_meaning.specs.Sizes.{capped}
+use Rattle.lucy_flat.specs.Counts.{own_sizes}
+use Rattle.lucy_flat.proofs.extent.buffers.Given as goal
+
+abbrev pub invariant-each : goal.invariant-each
+invariant-each l = (length l.counts ≡ 256) × ((i : ℕ) (n : PlacedNode) → i < l.node → slice_get l.placed.nodes i ≡ Some n → slice_index l.counts i ≡ capped (own_sizes l.clocks i n))
