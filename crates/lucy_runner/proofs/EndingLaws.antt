@@ -9,7 +9,7 @@ use Rattle.lucy_ring.specs.Views.{GiverView, TakerView}
 use Rattle.lucy_worker.specs.declared.part.Part.{Part}
 use Rattle.lucy_runner.specs.declared.place.Ends.{Ends}
 use Rattle.lucy_runner.specs.Making.{AreNewEnds, HasGained, HaveJoined, end_for}
-use Rattle.lucy_runner.proofs.PlacingLaws.{get_set}
+use Rattle.lucy_worker.proofs.WithinLaws.{get_set}
 
 -- no end more
 none_gained : (p : Part) → HasGained p [] [] p

@@ -7,13 +7,14 @@ use Rattle.lucy_net.specs.declared.net.RingSpec.{RingSpec}
 use Rattle.lucy_ring.specs.Views.{GiverView, TakerView}
 use Rattle.lucy_worker.specs.declared.part.Part.{Part}
 use Rattle.lucy_worker.specs.declared.place.EndPlace.{EndPlace}
-use Rattle.lucy_worker.specs.Meets.{HasGiver, HasTaker, AreOfOneRing, HaveMet, giver_at, taker_at, with_giver, with_taker}
+use Rattle.lucy_worker.specs.Meets.{HasGiver, HasTaker, AreOfOneRing, HaveMet, with_giver, with_taker}
+use Rattle.lucy_worker.proofs.MeetLaws.{have_met}
 use Rattle.lucy_runner.specs.declared.place.Place.{Place}
 use Rattle.lucy_runner.specs.declared.place.Ends.{Ends}
 use Rattle.lucy_runner.specs.Crews.{placed_in, IsJoined, AreJoined}
 use Rattle.lucy_runner.specs.Turns.{AreButEnds, HasMet, HaveAllMet}
-use Rattle.lucy_runner.specs.Seats.{parts_at, with_giver_at, with_taker_at, HaveMetAt}
-use Rattle.lucy_runner.proofs.MeetingLaws.{set_part, part_here, part_read, IsGiverEnd, IsTakerEnd, StandsAt, stands_at, seat_there, part_there, still_but_ends, all_but_ends, giver_rest, giver_other, giver_taker, giver_new, taker_rest, taker_other, taker_giver, taker_new}
+use Rattle.lucy_runner.specs.Seats.{parts_at, with_giver_at, HaveMetAt}
+use Rattle.lucy_runner.proofs.MeetingLaws.{set_part, part_here, part_get, IsGiverEnd, IsTakerEnd, StandsAt, stands_at, seat_there, still_but_ends, all_but_ends, giver_rest, giver_other, giver_taker, giver_new, taker_rest, taker_other, taker_giver, taker_new}
 
 -- the ends of a ring apart
 giver_of : (crew : List (List Part)) (places : List Place) (ends : List Ends) (r : ℕ) (ring : RingSpec) (j : IsJoined crew places ends r ring) → IsGiverEnd crew places j.at.giver r ring.from j.g
@@ -50,6 +51,9 @@ joined_by crew places ends r ring at g t e x y same = record {
   taker = refl;
 }
 
+same_got : {X : Type 0} (xs : List X) (k : ℕ) (x y : X) → slice_get xs k ≡ Some x → slice_get xs k ≡ Some y → x ≡ y
+same_got xs k x y e f = (let one : Some x ≡ Some y = sym e ∙ f in cc)
+
 -- one meeting: of the ring's ends, and of nothing else
 pub record MeetsAt (crew next : List (List Part)) (places : List Place) (ends : List Ends) (r : ℕ) (ring : RingSpec) (g : GiverView) (t : TakerView) : Type 0 where
   pub h : GiverView
@@ -69,19 +73,27 @@ meets_at crew next places ends r ring j from to from_is to_is m =
     let tp : EndPlace = record { part = to.part; number = k } in
     let p_here : part_here crew from.seat from.part ≡ Some p = sym (ap (placed_in crew) from_is) ∙ j.giver_is in
     let t_here : part_here crew to.seat to.part ≡ Some j.taker = sym (ap (placed_in crew) to_is) ∙ j.taker_is in
+    let g_part : m.g.part ≡ p = same_got (parts_at crew from.seat) from.part m.g.part p m.g.part_is
+    (part_get crew from.seat from.part p p_here) in
+    let g_is : m.g.end ≡ j.g = same_got p.givers.items n m.g.end j.g
+    (sym (ap (λ (x : Part). slice_get x.givers.items n) g_part) ∙ m.g.end_is) j.giver_end in
+    let t_part : m.t.part ≡ j.taker = same_got (parts_at crew to.seat) to.part m.t.part j.taker m.t.part_is
+    (part_get crew to.seat to.part j.taker t_here) in
+    let t_is : m.t.end ≡ j.t = same_got j.taker.takers.items k m.t.end j.t
+    (sym (ap (λ (x : Part). slice_get x.takers.items k) t_part) ∙ m.t.end_is) j.taker_end in
+    let met : HaveMet j.g j.t m.h m.u = have_met m.g.end j.g m.t.end j.t m.h m.u g_is t_is m.met in
+    let given : List (List Part) = with_giver_at crew from.seat gp m.g m.h in
     let mid : List (List Part) = set_part crew from.seat from.part (with_giver p n m.h) in
-    let mid_is : with_giver_at crew from.seat gp p m.h ≡ mid = ap (λ (x : Part). set_part crew from.seat from.part (with_giver x n m.h)) (part_read crew from.seat from.part p p p_here) in
+    let mid_is : given ≡ mid = ap (λ (x : Part). set_part crew from.seat from.part (with_giver x n m.h)) g_part in
     let middle : IsTakerEnd mid places k r ring.to j.t = giver_taker crew mid places from p n r ring.from j.g m.h from_is p_here j.gives j.giver_end refl k r ring.to j.t (taker_of crew places ends r ring j) in
     let q : Part = middle.part in
     let q_here : part_here mid to.seat to.part ≡ Some q = sym (ap (placed_in mid) to_is) ∙ middle.is in
+    let q_is : m.then.part ≡ q = same_got (parts_at mid to.seat) to.part m.then.part q
+    (sym (ap (λ (c : List (List Part)). slice_get (parts_at c to.seat) to.part) mid_is) ∙ m.then.part_is)
+    (part_get mid to.seat to.part q q_here) in
     let next_is : next ≡ set_part mid to.seat to.part (with_taker q k m.u) =
-    m.after p ∙ ap (λ (c : List (List Part)). with_taker_at c to.seat tp p m.u) mid_is ∙ ap (λ (x : Part). set_part mid to.seat to.part (with_taker x k m.u)) (part_read mid to.seat to.part q p q_here) in
-    let g_is : giver_at (parts_at crew from.seat) gp p j.g ≡ j.g =
-    ap (λ (x : Part). get_or x.givers.items n j.g) (part_read crew from.seat from.part p p p_here) ∙ get_or_from_slice_get p.givers.items n j.g j.g j.giver_end in
-    let t_is : taker_at (parts_at crew to.seat) tp p j.t ≡ j.t =
-    ap (λ (x : Part). get_or x.takers.items k j.t) (part_read crew to.seat to.part j.taker p t_here) ∙ get_or_from_slice_get j.taker.takers.items k j.t j.t j.taker_end in
-    let met : HaveMet j.g j.t m.h m.u =
-    subst (λ (x : GiverView). HaveMet x j.t m.h m.u) g_is (subst (λ (x : TakerView). HaveMet (giver_at (parts_at crew from.seat) gp p j.g) x m.h m.u) t_is (m.ends p p j.g j.t)) in
+    m.after ∙ ap (λ (c : List (List Part)). set_part c to.seat to.part (with_taker m.then.part k m.u)) mid_is ∙ ap
+    (λ (x : Part). set_part mid to.seat to.part (with_taker x k m.u)) q_is in
     let first : AreButEnds crew mid = giver_rest crew mid places from p n r ring.from j.g m.h from_is p_here j.gives j.giver_end refl in
     let second : AreButEnds mid next = taker_rest mid next places to q k r ring.to j.t m.u to_is q_here middle.takes middle.end next_is in
     let over : (a b c : ℕ) (f : GiverView) → IsGiverEnd mid places a b c f → IsGiverEnd next places a b c f = taker_giver mid next places to q k r ring.to j.t m.u to_is q_here middle.takes middle.end next_is in
@@ -179,18 +191,20 @@ can_meet_at now places ends n ring p j =
     let to_is : y.place ≡ to = sym (get_or_from_slice_get places ring.to y.place p y.at) in
     let g_here : part_here now from.seat from.part ≡ Some j.giver = subst (λ (v : Place). part_here now v.seat v.part ≡ Some j.giver) from_is x.here in
     let t_here : part_here now to.seat to.part ≡ Some j.taker = subst (λ (v : Place). part_here now v.seat v.part ≡ Some j.taker) to_is y.here in
-    let g_part : (d : Part) → get_or (parts_at now from.seat) from.part d ≡ j.giver = λ (d : Part). part_read now from.seat from.part j.giver d g_here in
-    let t_part : (d : Part) → get_or (parts_at now to.seat) to.part d ≡ j.taker = λ (d : Part). part_read now to.seat to.part j.taker d t_here in
-    let g_end : j.at.giver < length j.giver.givers.items = slice_get_within j.giver.givers.items j.at.giver j.g j.giver_end in
-    let t_end : j.at.taker < length j.taker.takers.items = slice_get_within j.taker.takers.items j.at.taker j.t j.taker_end in
+    let g_part : slice_get (parts_at now from.seat) from.part ≡ Some j.giver = part_get now from.seat from.part j.giver g_here in
+    let t_part : slice_get (parts_at now to.seat) to.part ≡ Some j.taker = part_get now to.seat to.part j.taker t_here in
     record {
       seats = (seat_there now from.seat from.part j.giver g_here, seat_there now to.seat to.part j.taker t_here);
-      giver = (part_there now from.seat from.part j.giver g_here, λ d. subst (λ (v : Part). j.at.giver < length v.givers.items) (sym (g_part d)) g_end);
-      taker = (part_there now to.seat to.part j.taker t_here, λ d. subst (λ (v : Part). j.at.taker < length v.takers.items) (sym (t_part d)) t_end);
-      one = λ d e g t.
-          (let a : get_or (get_or (parts_at now from.seat) from.part d).givers.items j.at.giver g ≡ j.g = ap (λ (v : Part). get_or v.givers.items j.at.giver g) (g_part d) ∙ get_or_from_slice_get j.giver.givers.items j.at.giver j.g g j.giver_end in
-          let b : get_or (get_or (parts_at now to.seat) to.part e).takers.items j.at.taker t ≡ j.t = ap (λ (v : Part). get_or v.takers.items j.at.taker t) (t_part e) ∙ get_or_from_slice_get j.taker.takers.items j.at.taker j.t t j.taker_end in
-          ap (λ (v : GiverView). v.ring) a ∙ j.ring_is ∙ sym (ap (λ (v : TakerView). v.ring) b));
+      giver = record { part = j.giver; part_is = g_part; end = j.g; end_is = j.giver_end };
+      taker = record { part = j.taker; part_is = t_part; end = j.t; end_is = j.taker_end };
+      one = λ g t.
+          (let p_is : g.part ≡ j.giver = same_got (parts_at now from.seat) from.part g.part j.giver g.part_is g_part in
+          let g_is : g.end ≡ j.g = same_got j.giver.givers.items j.at.giver g.end j.g
+          (sym (ap (λ (x : Part). slice_get x.givers.items j.at.giver) p_is) ∙ g.end_is) j.giver_end in
+          let q_is : t.part ≡ j.taker = same_got (parts_at now to.seat) to.part t.part j.taker t.part_is t_part in
+          let t_is : t.end ≡ j.t = same_got j.taker.takers.items j.at.taker t.end j.t
+          (sym (ap (λ (x : Part). slice_get x.takers.items j.at.taker) q_is) ∙ t.end_is) j.taker_end in
+          ap (λ (v : GiverView). v.ring) g_is ∙ j.ring_is ∙ sym (ap (λ (v : TakerView). v.ring) t_is));
     }
 
 pub can_meet : (now : List (List Part)) (places : List Place) (ends : List Ends) (n : ℕ) (ring : RingSpec) (p : Place) (e : Ends) → IsJoined now places ends n ring → CanMeet now places ring p (get_or ends n e)

@@ -1,58 +1,65 @@
 -- Other ends at places of the workers' parts, and what stays.
-use Rattle.std.proofs.Common.{ℕ, suc, zero, ◌-◌, ◌<◌, ◌≡◌, ◌⊎◌, List, [], ◌∷◌, ◌++◌, length, get_or, set, ap, sym, refl, ◌∙◌, subst, inl, inr, arith}
+use Rattle.std.proofs.Common.{ℕ, suc, zero, ◌<◌, ◌≡◌, ◌⊎◌, List, [], ◌∷◌, length, get_or, set, ap, sym, refl, ◌∙◌, subst, inl, inr, arith}
 use Rattle.std.specs.Prelude.{Option, Some, None, slice_get}
 use Rattle.std.proofs.lemmas.Bool.{cases_eq}
-use Rattle.std.proofs.lemmas.Option.{slice_get-get_or, slice_get_within, get_or_from_slice_get}
-use Rattle.std.proofs.lemmas.List.{get_or-set_same, get_or-set_other, set-set, set-append_left, set-append_right, length-set}
+use Rattle.std.proofs.lemmas.Option.{slice_get-get_or, slice_get_within}
+use Rattle.std.proofs.lemmas.List.{get_or-set_same, get_or-set_other, set-set, length-set}
 use Rattle.lucy_net.specs.declared.net.Actor.{Actor}
 use Rattle.lucy_ring.specs.Views.{GiverView, TakerView}
 use Rattle.lucy_worker.specs.declared.part.Part.{Part}
 use Rattle.lucy_worker.specs.declared.place.EndPlace.{EndPlace}
 use Rattle.lucy_worker.specs.Meets.{MetBetween, MetWithin, set_giver, set_taker, with_giver, with_taker}
+use Rattle.lucy_worker.proofs.WithinLaws.{get_set}
 use Rattle.lucy_core.proofs.ListLaws.{get_set_other}
 use Rattle.lucy_runner.specs.declared.place.Place.{Place}
 use Rattle.lucy_runner.specs.Crews.{part_in, placed_in, part_of}
 use Rattle.lucy_runner.specs.Turns.{IsButEnds, AreButEnds}
 use Rattle.lucy_runner.specs.Seats.{parts_at, HaveMetAt}
 
--- two elements of a list that was cut in two
-pub both_set : {X : Type 0} (xs l r : List X) (i t : ℕ) (a b : X) → xs ≡ l ++ r → length l ≡ t → i < t → set l i a ++ set r 0 b ≡ set (set xs i a) t b
-both_set xs l r i t a b e len before =
-    let zero_it : t - t ≡ 0 = omega arith in
-    sym (ap (λ ys. set (set ys i a) t b) e ∙ ap (λ ys. set ys t b) (set-append_left l r i a (omega arith)) ∙ set-append_right (set l i a) r t t b (length-set l i a ∙ len) (omega arith) ∙ ap (λ k. set l i a ++ set r k b) zero_it)
-
-pub set_apart : {X : Type 0} (xs : List X) (i t : ℕ) (a b : X) → (i ≡ t → ⊥) → set (set xs i a) t b ≡ set (set xs t b) i a
-set_apart [] i t a b ne = refl
-set_apart (x ∷ xs) zero zero a b ne = absurd (ne refl)
-set_apart (x ∷ xs) zero (suc t) a b ne = refl
-set_apart (x ∷ xs) (suc i) zero a b ne = refl
-set_apart (x ∷ xs) (suc i) (suc t) a b ne = ap (λ ys. x ∷ ys) (set_apart xs i t a b (λ (e : i ≡ t). ne (ap suc e)))
-
 -- ends of one worker that met, among all
 pub within_all : (crew : List (List Part)) (s : ℕ) (giver taker : EndPlace) (ps : List Part) → s < length crew → MetWithin (parts_at crew s) giver taker ps → HaveMetAt crew s giver s taker (set crew s ps)
-within_all crew s giver taker ps l is = record {
-  h = is.h;
-  u = is.u;
-  ends = is.met;
-  after = λ d.
-      (let first : List Part = set_giver (parts_at crew s) giver d is.h in
-      ap (set crew s) (is.parts d)
-      ∙ sym (set-set crew s first (set_taker first taker d is.u))
-      ∙ ap (λ (xs : List Part). set (set crew s first) s (set_taker xs taker d is.u)) (sym (get_or-set_same crew s first [] l)));
-}
+within_all crew s giver taker ps l is =
+    let first : List Part = set_giver (parts_at crew s) giver is.g is.h in
+    let e : parts_at (set crew s first) s ≡ first = get_or-set_same crew s first [] l in
+    record {
+      g = is.g;
+      t = is.t;
+      h = is.h;
+      u = is.u;
+      met = is.met;
+      then = record {
+        part = is.then.part;
+        part_is = ap (λ (xs : List Part). slice_get xs taker.part) e ∙ is.then.part_is;
+        end =
+            is.then.end;
+        end_is = is.then.end_is;
+      };
+      after = ap (set crew s) is.parts
+          ∙ sym (set-set crew s first (set_taker first taker is.then is.u))
+          ∙ ap (λ (xs : List Part). set (set crew s first) s (set xs taker.part (with_taker is.then.part taker.number is.u))) (sym e);
+    }
 
 -- ends of two workers
 pub between_all : (crew : List (List Part)) (s t : ℕ) (giver taker : EndPlace) (ps qs : List Part) → (s ≡ t → ⊥) → MetBetween (parts_at crew s) giver (parts_at crew t) taker ps qs → HaveMetAt crew s giver t taker (set (set crew s ps) t qs)
-between_all crew s t giver taker ps qs ne is = record {
-  h = is.h;
-  u = is.u;
-  ends = is.met;
-  after = λ d.
-      (let first : List Part = set_giver (parts_at crew s) giver d is.h in
-      ap (λ (xs : List Part). set (set crew s xs) t qs) (is.givers d)
-      ∙ ap (λ (xs : List Part). set (set crew s first) t xs) (is.takers d)
-      ∙ ap (λ (xs : List Part). set (set crew s first) t (set_taker xs taker d is.u)) (sym (get_or-set_other crew s t first [] (λ (e : t ≡ s). ne (sym e)))));
-}
+between_all crew s t giver taker ps qs ne is =
+    let first : List Part = set_giver (parts_at crew s) giver is.g is.h in
+    let e : parts_at (set crew s first) t ≡ parts_at crew t = get_or-set_other crew s t first [] (λ (e : t ≡ s). ne (sym e)) in
+    record {
+      g = is.g;
+      t = is.t;
+      h = is.h;
+      u = is.u;
+      met = is.met;
+      then = record {
+        part = is.t.part;
+        part_is = ap (λ (xs : List Part). slice_get xs taker.part) e ∙ is.t.part_is;
+        end = is.t.end;
+        end_is = is.t.end_is;
+      };
+      after = ap (λ (xs : List Part). set (set crew s xs) t qs) is.givers
+          ∙ ap (λ (xs : List Part). set (set crew s first) t xs) is.takers
+          ∙ ap (λ (xs : List Part). set (set crew s first) t (set xs taker.part (with_taker is.t.part taker.number is.u))) (sym e);
+    }
 
 -- another part at a place
 abbrev pub set_part : List (List Part) → ℕ → ℕ → Part → List (List Part)
@@ -61,14 +68,9 @@ set_part crew s k p = set crew s (set (parts_at crew s) k p)
 abbrev pub part_here : List (List Part) → ℕ → ℕ → Option Part
 part_here crew s k = part_in (slice_get crew s) k
 
-pub get_set_at : {X : Type 0} (xs : List X) (i : ℕ) (x y : X) → slice_get xs i ≡ Some x → slice_get (set xs i y) i ≡ Some y
-get_set_at [] i x y e = absurd (cc)
-get_set_at (z ∷ xs) zero x y e = refl
-get_set_at (z ∷ xs) (suc i) x y e = get_set_at xs i x y e
-
 part_same : (crew : List (List Part)) (s k : ℕ) (p q : Part) → part_here crew s k ≡ Some p → part_here (set_part crew s k q) s k ≡ Some q
 part_same [] s k p q e = absurd (cc)
-part_same (ps ∷ crew) zero k p q e = get_set_at ps k p q e
+part_same (ps ∷ crew) zero k p q e = get_set ps k p q e
 part_same (ps ∷ crew) (suc s) k p q e = part_same crew s k p q e
 
 part_other : (crew : List (List Part)) (s k : ℕ) (q : Part) (t j : ℕ) → (s ≡ t → k ≡ j → ⊥) → part_here (set_part crew s k q) t j ≡ part_here crew t j
@@ -232,21 +234,16 @@ taker_over crew places s k p q n r to t e actor same is =
       | inr w ↦ record { part = is.part; is = kept.is ∙ ap Some w; takes = is.takes; end = is.end }
     ]
 
--- an element of a list read at its place
-pub part_read : (crew : List (List Part)) (s k : ℕ) (p d : Part) → part_here crew s k ≡ Some p → get_or (parts_at crew s) k d ≡ p
-part_read [] s k p d e = absurd (cc)
-part_read (ps ∷ crew) zero k p d e = get_or_from_slice_get ps k p d e
-part_read (ps ∷ crew) (suc s) k p d e = part_read crew s k p d e
+-- the part at its place among those of its worker
+pub part_get : (crew : List (List Part)) (s k : ℕ) (p : Part) → part_here crew s k ≡ Some p → slice_get (parts_at crew s) k ≡ Some p
+part_get [] s k p e = absurd (cc)
+part_get (ps ∷ crew) zero k p e = e
+part_get (ps ∷ crew) (suc s) k p e = part_get crew s k p e
 
 pub seat_there : (crew : List (List Part)) (s k : ℕ) (p : Part) → part_here crew s k ≡ Some p → s < length crew
 seat_there [] s k p e = absurd (cc)
 seat_there (ps ∷ crew) zero k p e = omega arith
 seat_there (ps ∷ crew) (suc s) k p e = omega (arith, seat_there crew s k p e)
-
-pub part_there : (crew : List (List Part)) (s k : ℕ) (p : Part) → part_here crew s k ≡ Some p → k < length (parts_at crew s)
-part_there [] s k p e = absurd (cc)
-part_there (ps ∷ crew) zero k p e = slice_get_within ps k p e
-part_there (ps ∷ crew) (suc s) k p e = part_there crew s k p e
 
 -- the ends of a part with another end
 giver_ends : (p : Part) (n : ℕ) (h : GiverView) → IsButEnds p (with_giver p n h)
@@ -277,7 +274,7 @@ module _ (crew next : List (List Part)) (places : List Place) (x : Place) (p : P
     part = with_giver p n h;
     is = ap (λ (c : List (List Part)). part_of c places from) is ∙ ap (placed_in (set_part crew x.seat x.part (with_giver p n h))) place ∙ part_same crew x.seat x.part p (with_giver p n h) here;
     gives = gives;
-    end = get_set_at p.givers.items n g h end;
+    end = get_set p.givers.items n g h end;
   }
 
 -- another taker
@@ -299,5 +296,5 @@ module _ (crew next : List (List Part)) (places : List Place) (x : Place) (p : P
     part = with_taker p n u;
     is = ap (λ (c : List (List Part)). part_of c places to) is ∙ ap (placed_in (set_part crew x.seat x.part (with_taker p n u))) place ∙ part_same crew x.seat x.part p (with_taker p n u) here;
     takes = takes;
-    end = get_set_at p.takers.items n t u end;
+    end = get_set p.takers.items n t u end;
   }

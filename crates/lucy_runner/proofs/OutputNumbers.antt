@@ -7,7 +7,7 @@ use Rattle.lucy_net.specs.declared.kind.ActorKind.{ActorKind}
 use Rattle.lucy_net.specs.declared.kind.ActorKind.TheVariants.{Output}
 use Rattle.lucy_net.specs.declared.net.Actor.{Actor}
 use Rattle.lucy_core.proofs.ListLaws.{get_set_other, some_same}
-use Rattle.lucy_runner.proofs.MeetingLaws.{get_set_at}
+use Rattle.lucy_worker.proofs.WithinLaws.{get_set}
 
 -- the outputs among the first actors, so many of them
 abbrev pub AreNumbered : List Actor → List ℕ → ℕ → Type 0
@@ -24,7 +24,7 @@ numbered_more actors outputs a output actor there kind room apart old n i x l e 
       let it : x ≡ actor = some_same (slice_get actors i) x actor e (ap (slice_get actors) here ∙ there) in
       let same : ◌≡◌ {A = ActorKind} (Output n) (Output output) = sym k ∙ ap (λ (y : Actor). y.kind) it ∙ kind in
       let at : n ≡ output = cc in
-      ap (slice_get (set outputs output a)) at ∙ get_set_at outputs output _ a (slice_get-get_or outputs output 0 room) ∙ ap Some (sym here)
+      ap (slice_get (set outputs output a)) at ∙ get_set outputs output _ a (slice_get-get_or outputs output 0 room) ∙ ap Some (sym here)
   | inr ne ↦ get_set_other outputs output n a (λ (same : output ≡ n). ne (apart i a n x actor e there k (kind ∙ ap Output same))) ∙ old n i x (omega (arith, ne)) e k
 ]
 

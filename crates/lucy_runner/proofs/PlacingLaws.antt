@@ -8,6 +8,7 @@ use Rattle.std.proofs.lemmas.List.Elements.{All-head, All-tail, All-get_or}
 use Rattle.lucy_event.specs.Totals.{total}
 use Rattle.lucy_core.proofs.ListLaws.{get_set_same, get_set_other, get_push, some_same}
 use Rattle.lucy_worker.specs.declared.part.Part.{Part}
+use Rattle.lucy_worker.proofs.WithinLaws.{get_set}
 use Rattle.lucy_runner.specs.declared.place.Place.{Place}
 use Rattle.lucy_runner.specs.Crews.{part_in, placed_in, part_of, number_of, sum_seated, AreShared}
 use Rattle.lucy_runner.specs.Standing.{AreCovered}
@@ -22,11 +23,6 @@ get_left (z ∷ zs) ys (suc i) x e = get_left zs ys i x e
 pub get_last : {X : Type 0} (xs : List X) (x : X) → slice_get (xs ++ x ∷ []) (length xs) ≡ Some x
 get_last [] x = refl
 get_last (z ∷ zs) x = get_last zs x
-
-pub get_set : {X : Type 0} (xs : List X) (i : ℕ) (x y : X) → slice_get xs i ≡ Some x → slice_get (set xs i y) i ≡ Some y
-get_set [] i x y e = absurd (cc)
-get_set (z ∷ zs) zero x y e = refl
-get_set (z ∷ zs) (suc i) x y e = get_set zs i x y e
 
 -- what is below a length is there
 pub get_there : {X : Type 0} (xs : List X) (i : ℕ) → i < length xs → (x : X) × (slice_get xs i ≡ Some x)

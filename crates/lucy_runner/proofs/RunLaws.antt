@@ -23,7 +23,8 @@ none_run kinds crew = record {
 }
 
 -- the parts of one more worker
-pub one_run : (kinds : List HostKind) (seats : List Seat) (s moves : ℕ) (d y : Seat) → s < length seats → HaveRun kinds (seated (get_or seats s d)) (seated y) → done_by (seated y) ≡ done_by (seated (get_or seats s d)) + moves →
+one_run : (kinds : List HostKind) (seats : List Seat) (s moves : ℕ) (d y : Seat) → s < length seats → HaveRun kinds
+    (seated (get_or seats s d)) (seated y) → done_by (seated y) ≡ done_by (seated (get_or seats s d)) + moves →
     HaveAllRun kinds (crew_of seats) (crew_of (set seats s y)) moves
 one_run kinds seats s moves d y l run counted = record {
   as_many = length-map (set seats s y) seated ∙ length-set seats s y ∙ sym (length-map seats seated);
@@ -56,6 +57,23 @@ runs_on kinds crew next last moves more one two = record {
   counted = omega (arith, one.counted, two.counted);
 }
 
+-- the same by other names
+pub still_run : (kinds : List HostKind) (before seats after : List Seat) (moves all : ℕ) → HaveAllRun kinds (crew_of before) (crew_of seats)
+    moves → after ≡ seats → all ≡ moves → HaveAllRun kinds (crew_of before) (crew_of after) all
+still_run kinds before seats after moves all run after_is all_is =
+    subst (λ (xs : List Seat). HaveAllRun kinds (crew_of before) (crew_of xs) all) (sym after_is)
+    (subst (λ (n : ℕ). HaveAllRun kinds (crew_of before) (crew_of seats) n) (sym all_is) run)
+
+-- and one more worker
+pub runs_more : (kinds : List HostKind) (before seats after : List Seat) (s moves more all : ℕ) (d y : Seat) → HaveAllRun kinds
+    (crew_of before) (crew_of seats) moves → s < length seats → HaveRun kinds (seated (get_or seats s d)) (seated y) →
+    done_by (seated y) ≡ done_by (seated (get_or seats s d)) + more → after ≡ set seats s y → all ≡ moves + more → HaveAllRun kinds
+    (crew_of before) (crew_of after) all
+runs_more kinds before seats after s moves more all d y run l one counted after_is all_is =
+    still_run kinds before (set seats s y) after (moves + more) all
+    (runs_on kinds (crew_of before) (crew_of seats) (crew_of (set seats s y)) moves more run
+    (one_run kinds seats s more d y l one counted)) after_is all_is
+
 -- and one behind a turn, in which what moved has moved
 pub turned_on : (kinds : List HostKind) (crew turned last : List (List Part)) (moves more : ℕ) → HaveTurned kinds crew turned moves → HaveAllRun kinds turned last more → HaveTurned kinds crew last (moves + more)
 turned_on kinds crew turned last moves more one two = record {
@@ -69,6 +87,13 @@ turned_on kinds crew turned last moves more one two = record {
       record { run = run_on kinds ps qs rs first.run rest; moved = moved_on kinds ps qs rs first.run first.moved rest });
   counted = omega (arith, one.counted, two.counted);
 }
+
+-- by other names
+pub turned_as : (kinds : List HostKind) (before turned after : List Seat) (moves all : ℕ) → HaveTurned kinds (crew_of before)
+    (crew_of turned) moves → after ≡ turned → all ≡ moves → HaveTurned kinds (crew_of before) (crew_of after) all
+turned_as kinds before turned after moves all turns after_is all_is =
+    subst (λ (xs : List Seat). HaveTurned kinds (crew_of before) (crew_of xs) all) (sym after_is)
+    (subst (λ (n : ℕ). HaveTurned kinds (crew_of before) (crew_of turned) n) (sym all_is) turns)
 
 -- a turn is a run
 pub turned_run : (kinds : List HostKind) (crew turned : List (List Part)) (moves : ℕ) → HaveTurned kinds crew turned moves → HaveAllRun kinds crew turned moves

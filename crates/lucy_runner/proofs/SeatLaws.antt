@@ -5,11 +5,12 @@ use Rattle.std.proofs.lemmas.List.{map-set, length-map, get_or_append_left, get_
 use Rattle.lucy_worker.specs.declared.part.Part.{Part}
 use Rattle.lucy_worker.specs.declared.place.EndPlace.{EndPlace}
 use Rattle.lucy_worker.specs.Meets.{HasGiver, HasTaker, AreOfOneRing, MetBetween, MetWithin}
+use Rattle.lucy_worker.proofs.WithinLaws.{set_two, set_apart}
 use Rattle.lucy_runner.specs.declared.seat.Seat.{Seat}
 use Rattle.lucy_runner.specs.Crews.{seated, crew_of}
 use Rattle.lucy_runner.specs.Seats.{parts_at, HaveMetAt}
 use Rattle.lucy_runner.proofs.TurningLaws.{crew_at}
-use Rattle.lucy_runner.proofs.MeetingLaws.{both_set, set_apart, within_all, between_all}
+use Rattle.lucy_runner.proofs.MeetingLaws.{within_all, between_all}
 
 -- the parts of the worker of a seat
 pub parts_are : (seats : List Seat) (s : ℕ) (d : Seat) → s < length seats → parts_at (crew_of seats) s ≡ seated (get_or seats s d)
@@ -59,11 +60,11 @@ pub left_met : (seats l r : List Seat) (s t : ℕ) (giver taker : EndPlace) (d e
     HaveMetAt (crew_of seats) s giver t taker (crew_of (set l s x ++ set r 0 y))
 left_met seats l r s t giver taker d e x y cut len less there met =
     two_met seats (set l s x ++ set r 0 y) s t giver taker (get_or l s d) (get_or r 0 e) x y (λ (same : s ≡ t). absurd (omega arith))
-    (left_parts seats l r s d cut (omega arith)) (right_parts seats l r t e cut len there) met (both_set seats l r s t x y cut len less)
+    (left_parts seats l r s d cut (omega arith)) (right_parts seats l r t e cut len there) met (set_two seats l r s t x y cut len less)
 
 pub right_met : (seats l r : List Seat) (s t : ℕ) (giver taker : EndPlace) (d e x y : Seat) → seats ≡ l ++ r → length l ≡ s → t < s → s < length seats → MetBetween (seated (get_or r 0 d)) giver (seated (get_or l t e)) taker (seated x) (seated y) →
     HaveMetAt (crew_of seats) s giver t taker (crew_of (set l t y ++ set r 0 x))
 right_met seats l r s t giver taker d e x y cut len less there met =
     two_met seats (set l t y ++ set r 0 x) s t giver taker (get_or r 0 d) (get_or l t e) x y (λ (same : s ≡ t). absurd (omega arith))
     (right_parts seats l r s d cut len there) (left_parts seats l r t e cut (omega arith)) met
-    (both_set seats l r t s y x cut len less ∙ set_apart seats t s y x (λ (same : t ≡ s). absurd (omega arith)))
+    (set_two seats l r t s y x cut len less ∙ set_apart seats t s y x (λ (same : t ≡ s). absurd (omega arith)))

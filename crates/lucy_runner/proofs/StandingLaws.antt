@@ -26,7 +26,8 @@ use Rattle.lucy_runner.proofs.TurningLaws.{crew_get}
 use Rattle.lucy_runner.proofs.RoundLaws.{joined, round_stands}
 
 -- the operators suffice for all parts
-pub served : (seen : Seen) (before count : ℕ) (crew : List (List Part)) (places : List Place) (ends : List Ends) → IsStanding seen before crew places ends → length seen.operators ≡ count → AreServed count crew
+served : (seen : Seen) (before count : ℕ) (crew : List (List Part)) (places : List Place) (ends : List Ends) → IsStanding seen before crew
+    places ends → length seen.operators ≡ count → AreServed count crew
 served seen before count crew places ends standing enough s k parts p e f =
     let place : slice_get places p.number ≡ Some (record { seat = s; part = k }) = standing.covered s k parts p e f in
     let l : p.number < length seen.net.actors = omega (arith, slice_get_within places p.number _ place, standing.placed) in
@@ -38,11 +39,21 @@ served seen before count crew places ends standing enough s k parts p e f =
     subst (λ (x : Part). KnowsOperator x.actor.kind count) same (subst (λ (n : ℕ). KnowsOperator is.part.actor.kind n) enough known)
 
 -- as many operators are of the same kinds
-pub as_many_kinds : (xs ys : List Operator) → kinds_of xs ≡ kinds_of ys → length xs ≡ length ys
+as_many_kinds : (xs ys : List Operator) → kinds_of xs ≡ kinds_of ys → length xs ≡ length ys
 as_many_kinds xs ys same =
     let a : length (kinds_of xs) ≡ length xs = length-map xs (λ (o : Operator). o.kind) in
     let b : length (kinds_of ys) ≡ length ys = length-map ys (λ (o : Operator). o.kind) in
     omega (arith, a, b, ap (λ (ks : List HostKind). length ks) same)
+
+-- the operators of a runner's actors are those of a host, seat by seat
+pub served_in : (net : Net) (schedule : Timetable) (ops operators : List Operator) (instants before : ℕ) (seats entry : List Seat)
+    (places : List Place) (ends : List Ends) →
+    IsStanding (seen_by net schedule ops instants (crew_of seats) places) before (crew_of seats) places ends → kinds_of ops ≡ kinds_of
+    operators → entry ≡ seats → AreServed (length operators) (crew_of entry)
+served_in net schedule ops operators instants before seats entry places ends standing same entry_is =
+    subst (λ (xs : List Seat). AreServed (length operators) (crew_of xs)) (sym entry_is)
+    (served (seen_by net schedule ops instants (crew_of seats) places) before (length operators) (crew_of seats) places ends standing
+    (as_many_kinds ops operators same))
 
 -- what a list of so many holds after a slice of it was written back
 abbrev pub back_in : ℕ → List Seat → List Seat → List Seat
@@ -56,35 +67,36 @@ pub record IsRoundOver (net : Net) (schedule : Timetable) (ops : List Operator) 
   pub stands : IsStanding (seen_by net schedule ops instants (crew_of met) places) before (crew_of met) places ends
   pub leads : IsRoundTo (seen_by net schedule ops instants (crew_of seats) places) (seen_by net schedule ops instants (crew_of met) places) moves
 
--- the steps of a round over lists that were read and written back
-module _ (net : Net) (schedule : Timetable) (ops : List Operator) (instants before moves n : ℕ) (kinds : List HostKind) (seats entry turned exit : List Seat) (places list : List Place) (ends others : List Ends) (rings : List RingSpec)
-    (standing : IsStanding (seen_by net schedule ops instants (crew_of seats) places) before (crew_of seats) places ends) (same : kinds_of ops ≡ kinds) (entry_is : entry ≡ seats) (entry_len : length entry ≡ n) (turned_len : length turned ≡ length entry)
-    (exit_is : exit ≡ back_in n turned seats) (list_is : list ≡ places) (others_are : others ≡ ends) (rings_are : rings ≡ net.rings) (turns : HaveTurned kinds (crew_of entry) (crew_of turned) moves) where
-  exit_there : exit ≡ turned
-  exit_there = exit_is ∙ written_back n turned seats (turned_len ∙ entry_len)
-
+-- the steps of a round over a slice that is written back
+module _ (net : Net) (schedule : Timetable) (ops : List Operator) (instants before moves n : ℕ) (kinds : List HostKind)
+    (seats entry turned : List Seat) (places list : List Place) (ends others : List Ends) (rings : List RingSpec)
+    (standing : IsStanding (seen_by net schedule ops instants (crew_of seats) places) before (crew_of seats) places ends)
+    (same : kinds_of ops ≡ kinds) (entry_is : entry ≡ seats) (list_is : list ≡ places) (others_are : others ≡ ends)
+    (rings_are : rings ≡ net.rings)
+    (turns : HaveTurned kinds (crew_of entry) (crew_of turned) moves) where
   -- after a turn of the seats' workers the ends of every ring can meet
-  pub joined_here : AreJoined (crew_of exit) list others rings
+  pub joined_here : AreJoined (crew_of turned) list others rings
   joined_here =
       let here : HaveTurned kinds (crew_of seats) (crew_of turned) moves = subst (λ (xs : List Seat). HaveTurned kinds (crew_of xs) (crew_of turned) moves) entry_is turns in
       let all : AreJoined (crew_of turned) places ends net.rings = joined net schedule ops kinds instants before moves (crew_of seats) (crew_of turned) places ends standing here in
-      subst (λ (xs : List Seat). AreJoined (crew_of xs) list others rings) (sym exit_there)
-      (subst (λ (ps : List Place). AreJoined (crew_of turned) ps others rings) (sym list_is)
-      (subst (λ (es : List Ends). AreJoined (crew_of turned) places es rings) (sym others_are) (subst (λ (rs : List RingSpec). AreJoined (crew_of turned) places ends rs) (sym rings_are) all)))
+      subst (λ (ps : List Place). AreJoined (crew_of turned) ps others rings) (sym list_is)
+      (subst (λ (es : List Ends). AreJoined (crew_of turned) places es rings) (sym others_are)
+      (subst (λ (rs : List RingSpec). AreJoined (crew_of turned) places ends rs) (sym rings_are) all))
 
   -- and after the meetings a round is over
-  pub round_here : (met : List Seat) → length met ≡ length exit → HaveAllMet (crew_of exit) (crew_of met) list others rings → IsRoundOver net schedule ops instants before moves seats (back_in n met (back_in n turned seats)) places ends
+  pub round_here : (met : List Seat) → length met ≡ n → HaveAllMet (crew_of turned) (crew_of met) list others rings → IsRoundOver net
+      schedule ops instants before moves seats (back_in n met seats) places ends
   round_here met met_len meets =
       let here : HaveTurned (kinds_of ops) (crew_of seats) (crew_of turned) moves =
       subst (λ (ks : List HostKind). HaveTurned ks (crew_of seats) (crew_of turned) moves) (sym same) (subst (λ (xs : List Seat). HaveTurned kinds (crew_of xs) (crew_of turned) moves) entry_is turns) in
       let all : HaveAllMet (crew_of turned) (crew_of met) places ends net.rings =
       subst (λ (rs : List RingSpec). HaveAllMet (crew_of turned) (crew_of met) places ends rs) rings_are
       (subst (λ (es : List Ends). HaveAllMet (crew_of turned) (crew_of met) places es rings) others_are
-      (subst (λ (ps : List Place). HaveAllMet (crew_of turned) (crew_of met) ps others rings) list_is (subst (λ (xs : List Seat). HaveAllMet (crew_of xs) (crew_of met) list others rings) exit_there meets))) in
+      (subst (λ (ps : List Place). HaveAllMet (crew_of turned) (crew_of met) ps others rings) list_is meets)) in
       let over : IsStanding (seen_by net schedule ops instants (crew_of met) places) before (crew_of met) places ends × IsRoundTo (seen_by net schedule ops instants (crew_of seats) places) (seen_by net schedule ops instants (crew_of met) places) moves =
       round_stands net schedule ops instants before moves (crew_of seats) (crew_of turned) (crew_of met) places ends standing here all in
-      let left : back_in n met (back_in n turned seats) ≡ met = written_back n met (back_in n turned seats) (met_len ∙ ap (λ (xs : List Seat). length xs) exit_there ∙ turned_len ∙ entry_len) in
-      subst (λ (xs : List Seat). IsRoundOver net schedule ops instants before moves seats xs places ends) (sym left) (record { stands = over.0; leads = over.1 })
+      subst (λ (xs : List Seat). IsRoundOver net schedule ops instants before moves seats xs places ends)
+      (sym (written_back n met seats met_len)) (record { stands = over.0; leads = over.1 })
 
 -- what is read where an output is: its part
 pub record IsReadAs (seats : List Seat) (places : List Place) (a : ℕ) (w : Place) (parts : List Part) : Type 0 where

@@ -30,6 +30,11 @@ served_at seats count k d served l = λ j e m.
     let parts : List Part = (get_or seats k d).worker.parts in
     served k j parts (get_or parts j e) (crew_at seats k d l) (slice_get-get_or parts j e m)
 
+-- those of all seats
+pub served_each : (seats : List Seat) (count : ℕ) → AreServed count (crew_of seats) → All (λ seat. All (IsServed count) seat.worker.parts)
+    seats
+served_each seats count served = λ k d l. served_at seats count k d served l
+
 sums : (kinds : List HostKind) (before after : List Seat) → length after ≡ length before → ((k : ℕ) (d : Seat) → k < length before → IsTurned kinds (get_or before k d) (get_or after k d)) →
     sum_by done_by (crew_of after) ≡ sum_by done_by (crew_of before) + sum_by moves_of after
 sums kinds [] [] len each = refl
@@ -72,7 +77,9 @@ pub rest_more : (before now : List Seat) (i : ℕ) (y : Seat) → ((k : ℕ) (e 
 rest_more before now i y same k e l = get_or-set_other now i k y e (λ (here : k ≡ i). absurd (omega arith)) ∙ same k e (omega arith)
 
 -- no worker made many moves
-pub turned_few : (kinds : List HostKind) (before after : List Seat) → length after ≡ length before → ((k : ℕ) (d : Seat) → k < length before → IsTurned kinds (get_or before k d) (get_or after k d)) → All (λ seat. seat.moves ≤ 68719476736) after
+pub turned_few : (kinds : List HostKind) (before after : List Seat) → length after ≡ length before →
+    ((k : ℕ) (d : Seat) → k < length before → IsTurned kinds (get_or before k d) (get_or after k d)) → All
+    (λ seat. seat.last.moves ≤ 68719476736) after
 turned_few kinds before after len each = λ k d l. (each k d (omega arith)).few
 
 -- all parts are done where those of each seat are

@@ -1,8 +1,9 @@
 // A route over all parts, and passes along it by one thread.
-ghost use Rattle.std.specs.Prelude.{◌≤◌, length};
+ghost use Rattle.std.specs.Prelude.{◌<◌, ◌≤◌, IsTrue, length, slice_index_or};
 ghost use Rattle.lucy_host.specs.Host.{Serves, lent};
 ghost use Rattle.lucy_host.specs.Operators.{kinds_of};
-ghost use Rattle.lucy_runner.specs.Crews.{crew_of};
+ghost use Rattle.lucy_runner.specs.declared.seat.Seat.{Seat};
+ghost use Rattle.lucy_runner.specs.Crews.{seated, crew_of};
 ghost use Rattle.lucy_runner.specs.Turns.{AreServed, HaveAllRun};
 
 use crate::lists::push;
@@ -144,27 +145,19 @@ fn pass_along<F: Fn(u32, i64, i64) -> i64 + Sync>(
     let mut moves = 0;
     for k in 0..count {
         let at = if back { count - 1 - k } else { k };
-        moves += go_on_at(seats, route[at], host);
+        let place = route[at];
+        if is_there(seats, place) {
+            moves += seats[place.seat as usize].worker.go_on(host, place.part);
+        }
     }
     moves
 }
 
-// Moves the part at a place as long as it can, where there is one.
+// Whether there is a part at a place.
 #[inline]
-fn go_on_at<F: Fn(u32, i64, i64) -> i64 + Sync>(
-    seats: &mut [Seat],
-    place: Place,
-    host: &Host<F>,
-) -> u64
-    requires serves { Serves F.pre F.post host.now }
-    requires served { AreServed (length (lent host.now)) (crew_of seats.old) }
-    ensures run { HaveAllRun (kinds_of (lent host.now)) (crew_of seats.old) (crew_of seats.new) result }
-    ensures few { result ≤ 68719476736 }
+fn is_there(seats: &[Seat], place: Place) -> bool
+    ensures { IsTrue result → (place.seat < length seats.now) × ((d : Seat) → place.part < length (seated (slice_index_or seats.now place.seat d))) }
 {
     let seat = place.seat as usize;
-    if seat < seats.len() {
-        seats[seat].go_on(host, place.part)
-    } else {
-        0
-    }
+    seat < seats.len() && (place.part as usize) < seats[seat].worker.parts().len()
 }

@@ -5,8 +5,8 @@ use crate::making::{Crew, seat_all};
 use crate::meeting::meet_all;
 use crate::outputs::outputs_of;
 use crate::place::{Ends, Place};
-use crate::route::route_of;
-use crate::seat::{Seat, all_done, looks_in, turn_all};
+use crate::route::{go_along, route_of};
+use crate::seat::{Seat, all_done, looks_in, turn_apart, turn_in_place};
 use lucy_cause::Schedule;
 use lucy_core::{Core, CoreParts};
 use lucy_host::{Host, Inputs, Ops};
@@ -51,6 +51,15 @@ impl Model for Runner {
 
     ghost invariant = { λ r. IsStanding (seen_by r.net r.schedule r.ops r.instants (crew_of r.seats.items) r.places.items) r.before (crew_of r.seats.items) r.places.items r.ends.items
         × AreOutputs r.net.actors r.outputs.items };
+}
+
+// Who moves the actors of a round.
+#[derive(Clone, Copy, PartialEq, Eq)]
+enum Threading {
+    // Each worker its own, in a thread of its own, where there are several workers.
+    Each,
+    // One thread those of all workers: each worker passes over its own, and then passes go along the route until none can move.
+    One,
 }
 
 // After so many lean rounds in a row `go` starts no more threads.
@@ -145,33 +154,30 @@ impl Runner {
         ensures round { IsRoundTo self.old.seen self.new.seen result }
         ensures before { self.new.before ≡ self.old.before }
     {
-        self.round_in(rt, host, gate, true)
+        self.round_by(rt, host, gate, Threading::Each)
     }
 
-    // A round, in which several workers each have a thread of their own or, if not `apart`, one thread moves all actors until none
-    // can, as it does where there is one worker.
-    fn round_in<R: Threads + Sync, F: Fn(u32, i64, i64) -> i64 + Sync, G: Gate + Sync>(
+    // A round in which so many threads move the actors.
+    fn round_by<R: Threads + Sync, F: Fn(u32, i64, i64) -> i64 + Sync, G: Gate + Sync>(
         &mut self,
         rt: &R,
         host: &Host<F>,
         gate: &G,
-        apart: bool,
+        threading: Threading,
     ) -> u64
         requires serves { Serves F.pre F.post host.now }
         requires kinds { kinds_of (lent host.now) ≡ kinds_of self.old.seen.operators }
         ensures round { IsRoundTo self.old.seen self.new.seen result }
         ensures before { self.new.before ≡ self.old.before }
     {
-        let moves = turn_all(
-            rt,
-            self.seats.as_mut_slice(),
-            self.route.as_slice(),
-            host,
-            gate,
-            apart,
-        );
+        let seats = self.seats.as_mut_slice();
+        let moves = if threading == Threading::Each && seats.len() > 1 {
+            turn_apart(rt, seats, host, gate)
+        } else {
+            turn_in_place(seats, host, gate) + go_along(seats, self.route.as_slice(), host)
+        };
         meet_all(
-            self.seats.as_mut_slice(),
+            seats,
             self.net.rings.list(),
             self.places.as_slice(),
             self.ends.as_slice(),
@@ -194,30 +200,17 @@ impl Runner {
         ensures before { self.new.before ≡ self.old.before }
         ensures finished { IsOver self.new.seen }
     {
-        let lean = self.lean;
-        self.lean = self.go_from(rt, host, gate, lean);
-    }
-
-    // Makes rounds until every actor has done its list, behind so many in a row that were lean. Answers how many these then are.
-    fn go_from<R: Threads + Sync, F: Fn(u32, i64, i64) -> i64 + Sync, G: Gate + Sync>(
-        &mut self,
-        rt: &R,
-        host: &Host<F>,
-        gate: &G,
-        mut lean: u32,
-    ) -> u32
-        requires serves { Serves F.pre F.post host.now }
-        requires kinds { kinds_of (lent host.now) ≡ kinds_of self.old.seen.operators }
-        ensures run { (picks : List ℕ) × CanRun self.old.seen picks × (self.new.seen ≡ after_picks self.old.seen picks) }
-        ensures before { self.new.before ≡ self.old.before }
-        ensures finished { IsOver self.new.seen }
-    {
-        let _ = &self.net;
+        let mut lean = self.lean;
         while !self.finished() {
-            let moves = self.round_in(rt, host, gate, lean < MOST_LEAN_ROUNDS);
+            let threading = if lean < MOST_LEAN_ROUNDS {
+                Threading::Each
+            } else {
+                Threading::One
+            };
+            let moves = self.round_by(rt, host, gate, threading);
             lean = self.lean_after(lean, moves);
         }
-        lean
+        self.lean = lean;
     }
 
     // How many rounds in a row were lean, after one more of so many moves. Once they are `MOST_LEAN_ROUNDS` it stays so.

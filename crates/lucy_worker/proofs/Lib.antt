@@ -9,3 +9,4 @@ pub mod WithinLaws
 pub mod RoundLaws
 pub mod GrowLaws
 pub mod GoLaws
+pub mod TurnLaws

@@ -1,7 +1,8 @@
 -- Parts whose ends meet.
 use Rattle.std.proofs.Common.{ℕ, ◌+◌, ◌<◌, ◌≤◌, ◌≡◌, List, [], length, get_or, set, ap, sym, ◌∙◌, subst, arith}
-use Rattle.std.specs.Prelude.{slice_set}
-use Rattle.std.proofs.lemmas.List.{get_or_default, length-set}
+use Rattle.std.specs.Prelude.{Some, slice_get}
+use Rattle.std.proofs.lemmas.Option.{slice_get_within, get_or_from_slice_get}
+use Rattle.std.proofs.lemmas.List.{length-set}
 use Rattle.std.proofs.lemmas.List.Elements.{All-set, All-get_or}
 use Rattle.std.proofs.lemmas.List.Sums.{sum_by-set}
 use Rattle.lucy_ring.specs.Views.{GiverView, TakerView}
@@ -9,8 +10,8 @@ use Rattle.lucy_worker.specs.declared.part.Part.{Part}
 use Rattle.lucy_worker.specs.declared.place.EndPlace.{EndPlace}
 use Rattle.lucy_worker.specs.Parts.{done_of}
 use Rattle.lucy_worker.specs.News.{ends_of}
-use Rattle.lucy_worker.specs.Meets.{HaveMet, with_giver, with_taker, giver_at, taker_at, HasGiver, HasTaker, MetBetween}
-use Rattle.lucy_worker.specs.Readiness.{IsReady, AreReady}
+use Rattle.lucy_worker.specs.Meets.{HaveMet, with_giver, with_taker, set_giver, set_taker, HasGiver, HasTaker}
+use Rattle.lucy_worker.specs.Readiness.{IsReady, AreReady, AreTwoEnds}
 
 pub ends_giver : (p : Part) (n : ℕ) (h : GiverView) → ends_of (with_giver p n h) ≡ ends_of p
 ends_giver p n h = (let l : length (set p.givers.items n h) ≡ length p.givers.items = length-set p.givers.items n h in omega arith)
@@ -50,6 +51,17 @@ ready_taker p n u ready none =
       took_few = All-set (λ (e : TakerView). length e.taken ≤ 1048576 + done_of p) p.takers.items n u (omega arith) ready.took_few;
     }
 
+-- what is read from a list at a place, where it is known by another name
+pub read_is : {X : Type 0} (xs ys : List X) (k : ℕ) (x y d : X) → xs ≡ ys → slice_get ys k ≡ Some x → y ≡ get_or xs k d → y ≡ x
+read_is xs ys k x y d same at is = is ∙ get_or_from_slice_get xs k x d (ap (λ zs. slice_get zs k) same ∙ at)
+
+pub read_at : {X : Type 0} (xs ys : List X) (k : ℕ) (x y d : X) → xs ≡ ys → slice_get ys k ≡ Some x → y ≡ get_or xs k d → slice_get xs k ≡
+    Some y
+read_at xs ys k x y d same at is = ap (λ zs. slice_get zs k) same ∙ at ∙ ap Some (sym (read_is xs ys k x y d same at is))
+
+pub read_within : {X : Type 0} (xs ys : List X) (k : ℕ) (x : X) → xs ≡ ys → slice_get ys k ≡ Some x → k < length xs
+read_within xs ys k x same at = slice_get_within xs k x (ap (λ zs. slice_get zs k) same ∙ at)
+
 -- a part for another that is ready and has as many ends
 pub set_ready : (ps : List Part) (k : ℕ) (d q : Part) → AreReady ps → k < length ps → IsReady q → ends_of q ≡ ends_of (get_or ps k d) → AreReady (set ps k q)
 set_ready ps k d q ready l is same = record {
@@ -57,31 +69,65 @@ set_ready ps k d q ready l is same = record {
   few = (let e = sum_by-set ends_of ps k q d l in let f = ready.few in omega arith);
 }
 
-pub giver_set : (ps : List Part) (k n : ℕ) (p d : Part) (h : GiverView) → AreReady ps → k < length ps → p ≡ get_or ps k d → h.given ≡ [] → AreReady (set ps k (with_giver p n h))
-giver_set ps k n p d h ready l at none =
-    let is : IsReady p = subst IsReady (sym at) (All-get_or IsReady ps k d l ready.each) in
-    set_ready ps k d (with_giver p n h) ready l (ready_giver p n h is none) (ends_giver p n h ∙ ap ends_of at)
+set_at : (ps : List Part) (k : ℕ) (p q : Part) → AreReady ps → slice_get ps k ≡ Some p → (IsReady p → IsReady q) → ends_of q ≡ ends_of p →
+    AreReady (set ps k q)
+set_at ps k p q ready at is same =
+    let l : k < length ps = slice_get_within ps k p at in
+    let here : get_or ps k p ≡ p = get_or_from_slice_get ps k p p at in
+    set_ready ps k p q ready l (is (subst IsReady here (All-get_or IsReady ps k p l ready.each))) (same ∙ ap ends_of (sym here))
 
-pub taker_set : (ps : List Part) (k n : ℕ) (p d : Part) (u : TakerView) → AreReady ps → k < length ps → p ≡ get_or ps k d → u.taken ≡ [] → AreReady (set ps k (with_taker p n u))
-taker_set ps k n p d u ready l at none =
-    let is : IsReady p = subst IsReady (sym at) (All-get_or IsReady ps k d l ready.each) in
-    set_ready ps k d (with_taker p n u) ready l (ready_taker p n u is none) (ends_taker p n u ∙ ap ends_of at)
+-- parts with another giver, another taker, and both at one part
+pub giver_set : (ps : List Part) (k n : ℕ) (p : Part) (h : GiverView) → AreReady ps → slice_get ps k ≡ Some p → h.given ≡ [] → AreReady
+    (set ps k (with_giver p n h))
+giver_set ps k n p h ready at none = set_at ps k p (with_giver p n h) ready at (λ is. ready_giver p n h is none) (ends_giver p n h)
 
--- the ends that were found are those at the places
-pub met_between : (ps ps0 qs qs0 : List Part) (giver taker : EndPlace) (p d q e : Part) (g c : GiverView) (t b : TakerView) (h : GiverView) (u : TakerView) → ps0 ≡ ps → qs0 ≡ qs →
-    HasGiver ps giver → HasTaker qs taker → p ≡ get_or ps0 giver.part d → q ≡ get_or qs0 taker.part e → g ≡ get_or p.givers.items giver.number c → t ≡ get_or q.takers.items taker.number b → HaveMet g t h u →
-    MetBetween ps giver qs taker (slice_set ps0 giver.part (with_giver p giver.number h)) (slice_set qs0 taker.part (with_taker q taker.number u))
-met_between ps ps0 qs qs0 giver taker p d q e g c t b h u same alike has_giver has_taker is_p is_q is_g is_t met =
-    let any_p : (x : Part) → p ≡ get_or ps giver.part x = λ (x : Part). is_p ∙ ap (λ (xs : List Part). get_or xs giver.part d) same ∙ get_or_default ps giver.part d x has_giver.0 in
-    let any_q : (x : Part) → q ≡ get_or qs taker.part x = λ (x : Part). is_q ∙ ap (λ (xs : List Part). get_or xs taker.part e) alike ∙ get_or_default qs taker.part e x has_taker.0 in
-    let l : giver.number < length p.givers.items = subst (λ (x : Part). giver.number < length x.givers.items) (sym (any_p d)) (has_giver.1 d) in
-    let m : taker.number < length q.takers.items = subst (λ (x : Part). taker.number < length x.takers.items) (sym (any_q e)) (has_taker.1 e) in
-    let any_g : (x : Part) (y : GiverView) → g ≡ giver_at ps giver x y = λ (x : Part) (y : GiverView). is_g ∙ get_or_default p.givers.items giver.number c y l ∙ ap (λ (z : Part). get_or z.givers.items giver.number y) (any_p x) in
-    let any_t : (x : Part) (y : TakerView) → t ≡ taker_at qs taker x y = λ (x : Part) (y : TakerView). is_t ∙ get_or_default q.takers.items taker.number b y m ∙ ap (λ (z : Part). get_or z.takers.items taker.number y) (any_q x) in
-    record {
-      h = h;
-      u = u;
-      met = λ x y z w. subst (λ (k : GiverView). HaveMet k (taker_at qs taker y w) h u) (any_g x z) (subst (λ (k : TakerView). HaveMet g k h u) (any_t y w) met);
-      givers = λ x. ap (λ (xs : List Part). set xs giver.part (with_giver p giver.number h)) same ∙ ap (λ (z : Part). set ps giver.part (with_giver z giver.number h)) (any_p x);
-      takers = λ x. ap (λ (xs : List Part). set xs taker.part (with_taker q taker.number u)) alike ∙ ap (λ (z : Part). set qs taker.part (with_taker z taker.number u)) (any_q x);
-    }
+pub taker_set : (ps : List Part) (k n : ℕ) (p : Part) (u : TakerView) → AreReady ps → slice_get ps k ≡ Some p → u.taken ≡ [] → AreReady
+    (set ps k (with_taker p n u))
+taker_set ps k n p u ready at none = set_at ps k p (with_taker p n u) ready at (λ is. ready_taker p n u is none) (ends_taker p n u)
+
+pub both_set : (ps : List Part) (k n m : ℕ) (p : Part) (h : GiverView) (u : TakerView) → AreReady ps → slice_get ps k ≡ Some p → h.given ≡
+    [] → u.taken ≡ [] → AreReady (set ps k (with_taker (with_giver p n h) m u))
+both_set ps k n m p h u ready at none no_more =
+    set_at ps k p (with_taker (with_giver p n h) m u) ready at
+    (λ is. ready_taker (with_giver p n h) m u (ready_giver p n h is none) no_more)
+    (ends_taker (with_giver p n h) m u ∙ ends_giver p n h)
+
+-- a place of an end is one of a part
+pub giver_within : (ps : List Part) (giver : EndPlace) → HasGiver ps giver → giver.part < length ps
+giver_within ps giver g = slice_get_within ps giver.part g.part g.part_is
+
+pub taker_within : (ps : List Part) (taker : EndPlace) → HasTaker ps taker → taker.part < length ps
+taker_within ps taker t = slice_get_within ps taker.part t.part t.part_is
+
+-- two ends of one ring at different parts
+pub two_ends : (ps qs : List Part) (giver taker : EndPlace) (p q : Part) (g : HasGiver ps giver) (t : HasTaker qs taker) → p ≡ g.part → q ≡
+    t.part → g.end.ring ≡ t.end.ring → AreTwoEnds p giver.number q taker.number g.end t.end
+two_ends ps qs giver taker p q g t is_p is_q ring = record {
+  giver_is = ap (λ (x : Part). slice_get x.givers.items giver.number) is_p ∙ g.end_is;
+  taker_is = ap (λ (x : Part). slice_get x.takers.items taker.number) is_q ∙ t.end_is;
+  ring = ring;
+}
+
+-- an end that was read at a place, and parts with another there
+pub giver_is : (ps : List Part) (giver : EndPlace) (p : Part) (e d : GiverView) (g : HasGiver ps giver) → p ≡ g.part → e ≡ get_or
+    p.givers.items giver.number d → e ≡ g.end
+giver_is ps giver p e d g same is = read_is p.givers.items g.part.givers.items giver.number g.end e d
+    (ap (λ (x : Part). x.givers.items) same) g.end_is is
+
+pub taker_is : (ps : List Part) (taker : EndPlace) (p : Part) (e d : TakerView) (t : HasTaker ps taker) → p ≡ t.part → e ≡ get_or
+    p.takers.items taker.number d → e ≡ t.end
+taker_is ps taker p e d t same is = read_is p.takers.items t.part.takers.items taker.number t.end e d
+    (ap (λ (x : Part). x.takers.items) same) t.end_is is
+
+pub have_met : (g g' : GiverView) (t t' : TakerView) (h : GiverView) (u : TakerView) → g ≡ g' → t ≡ t' → HaveMet g t h u → HaveMet g' t' h u
+have_met g g' t t' h u e f met = subst (λ (x : GiverView). HaveMet x t' h u) e (subst (λ (x : TakerView). HaveMet g x h u) f met)
+
+pub given_at : (ps ps0 : List Part) (giver : EndPlace) (p : Part) (h : GiverView) (g : HasGiver ps giver) → ps0 ≡ ps → p ≡ g.part → set ps0
+    giver.part (with_giver p giver.number h) ≡ set_giver ps giver g h
+given_at ps ps0 giver p h g same is = ap (λ (xs : List Part). set xs giver.part (with_giver p giver.number h)) same ∙ ap
+    (λ (x : Part). set ps giver.part (with_giver x giver.number h)) is
+
+pub taken_at : (ps ps0 : List Part) (taker : EndPlace) (p : Part) (u : TakerView) (t : HasTaker ps taker) → ps0 ≡ ps → p ≡ t.part → set ps0
+    taker.part (with_taker p taker.number u) ≡ set_taker ps taker t u
+taken_at ps ps0 taker p u t same is = ap (λ (xs : List Part). set xs taker.part (with_taker p taker.number u)) same ∙ ap
+    (λ (x : Part). set ps taker.part (with_taker x taker.number u)) is

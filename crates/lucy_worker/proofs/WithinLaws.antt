@@ -1,100 +1,153 @@
 -- Ends of one list of parts that meet.
-use Rattle.std.proofs.Common.{ℕ, ◌-◌, ◌<◌, ◌≡◌, List, ◌++◌, length, get_or, set, ap, sym, ◌∙◌, subst, arith, length-append}
-use Rattle.std.proofs.lemmas.List.{get_or_default, get_or_append_left, get_or-append_right, get_or-set_same, get_or-set_other, set-set, set-append_left, set-append_right, length-set}
-use Rattle.std.proofs.lemmas.List.Elements.{All-get_or}
+use Rattle.std.proofs.Common.{ℕ, suc, zero, ◌-◌, ◌<◌, ◌≡◌, List, [], ◌∷◌, ◌++◌, length, get_or, set, ap, sym, refl, ◌∙◌, subst, arith}
+use Rattle.std.specs.Prelude.{Some, slice_get}
+use Rattle.std.proofs.lemmas.Option.{get_or_from_slice_get}
+use Rattle.std.proofs.lemmas.List.{set-set, set-append_left, set-append_right, length-set}
 use Rattle.lucy_ring.specs.Views.{GiverView, TakerView}
 use Rattle.lucy_worker.specs.declared.part.Part.{Part}
 use Rattle.lucy_worker.specs.declared.place.EndPlace.{EndPlace}
-use Rattle.lucy_worker.specs.Meets.{HaveMet, with_giver, with_taker, giver_at, taker_at, set_giver, HasGiver, HasTaker, MetWithin}
-use Rattle.lucy_worker.specs.Readiness.{IsReady, AreReady}
-use Rattle.lucy_worker.proofs.MeetLaws.{ends_giver, ends_taker, ready_giver, ready_taker, set_ready, giver_set, taker_set}
+use Rattle.lucy_worker.specs.Meets.{HaveMet, with_giver, with_taker, set_giver, HasGiver, HasTaker, MetWithin}
+use Rattle.lucy_worker.specs.Readiness.{AreReady}
+use Rattle.lucy_worker.proofs.MeetLaws.{giver_set, taker_set, both_set, giver_is, taker_is}
+
+-- an element of a list beside one that was set, and that one
+pub get_beside : {X : Type 0} (xs : List X) (i j : ℕ) (y : X) → (j ≡ i → ⊥) → slice_get (set xs i y) j ≡ slice_get xs j
+get_beside [] i j y ne = refl
+get_beside (x ∷ xs) zero zero y ne = absurd (ne refl)
+get_beside (x ∷ xs) zero (suc j) y ne = refl
+get_beside (x ∷ xs) (suc i) zero y ne = refl
+get_beside (x ∷ xs) (suc i) (suc j) y ne = get_beside xs i j y (λ (e : j ≡ i). ne (ap suc e))
+
+pub get_set : {X : Type 0} (xs : List X) (i : ℕ) (x y : X) → slice_get xs i ≡ Some x → slice_get (set xs i y) i ≡ Some y
+get_set [] i x y e = absurd (cc)
+get_set (z ∷ xs) zero x y e = refl
+get_set (z ∷ xs) (suc i) x y e = get_set xs i x y e
+
+-- elements of a list that was cut in two
+pub get_left : {X : Type 0} (l r : List X) (i : ℕ) → i < length l → slice_get (l ++ r) i ≡ slice_get l i
+get_left [] r i less = absurd (omega arith)
+get_left (x ∷ l) r zero less = refl
+get_left (x ∷ l) r (suc i) less = get_left l r i (omega arith)
+
+pub get_right : {X : Type 0} (l r : List X) (t : ℕ) → length l ≡ t → slice_get (l ++ r) t ≡ slice_get r 0
+get_right [] r zero len = refl
+get_right [] r (suc t) len = absurd (omega arith)
+get_right (x ∷ l) r zero len = absurd (omega arith)
+get_right (x ∷ l) r (suc t) len = get_right l r t (omega arith)
+
+pub set_two : {X : Type 0} (xs l r : List X) (i t : ℕ) (a b : X) → xs ≡ l ++ r → length l ≡ t → i < t → set l i a ++ set r 0 b ≡ set
+    (set xs i a) t b
+set_two xs l r i t a b e len before =
+    let zero_it : t - t ≡ 0 = omega arith in
+    sym (ap (λ ys. set (set ys i a) t b) e ∙ ap (λ ys. set ys t b) (set-append_left l r i a (omega arith)) ∙ set-append_right (set l i a) r
+    t t b (length-set l i a ∙ len) (omega arith) ∙ ap (λ k. set l i a ++ set r k b) zero_it)
+
+pub set_apart : {X : Type 0} (xs : List X) (i t : ℕ) (a b : X) → (i ≡ t → ⊥) → set (set xs i a) t b ≡ set (set xs t b) i a
+set_apart [] i t a b ne = refl
+set_apart (x ∷ xs) zero zero a b ne = absurd (ne refl)
+set_apart (x ∷ xs) zero (suc t) a b ne = refl
+set_apart (x ∷ xs) (suc i) zero a b ne = refl
+set_apart (x ∷ xs) (suc i) (suc t) a b ne = ap (λ ys. x ∷ ys) (set_apart xs i t a b (λ (e : i ≡ t). ne (ap suc e)))
+
+pub left_read : {X : Type 0} (xs l r : List X) (i : ℕ) (x d : X) → xs ≡ l ++ r → i < length l → slice_get xs i ≡ Some x → get_or l i d ≡ x
+left_read xs l r i x d cut less at = get_or_from_slice_get l i x d (sym (ap (λ ys. slice_get ys i) cut ∙ get_left l r i less) ∙ at)
+
+pub right_read : {X : Type 0} (xs l r : List X) (t : ℕ) (x d : X) → xs ≡ l ++ r → length l ≡ t → slice_get xs t ≡ Some x → get_or r 0 d ≡ x
+right_read xs l r t x d cut len at = get_or_from_slice_get r 0 x d (sym (ap (λ ys. slice_get ys t) cut ∙ get_right l r t len) ∙ at)
+
+-- the parts are ready after a meeting of two of their ends
+abbrev pub IsMet : List Part → EndPlace → EndPlace → List Part → Type 0
+IsMet ps giver taker met = AreReady met × MetWithin ps giver taker met
 
 -- ends of different parts
-far : (ps L : List Part) (giver taker : EndPlace) (p q : Part) (h : GiverView) (u : TakerView) → AreReady ps → HasGiver ps giver → HasTaker ps taker → (taker.part ≡ giver.part → ⊥) →
-    ((d : Part) → p ≡ get_or ps giver.part d) → ((d : Part) → q ≡ get_or ps taker.part d) →
-    ((g : GiverView) (t : TakerView) → HaveMet (get_or p.givers.items giver.number g) (get_or q.takers.items taker.number t) h u) →
-    L ≡ set (set ps giver.part (with_giver p giver.number h)) taker.part (with_taker q taker.number u) → AreReady L × MetWithin ps giver taker L
-far ps L giver taker p q h u ready has_giver has_taker other is_p is_q met e =
-    let one : HaveMet (get_or p.givers.items giver.number h) (get_or q.takers.items taker.number u) h u = met h u in
-    let ps1 : List Part = set ps giver.part (with_giver p giver.number h) in
-    let first : AreReady ps1 = giver_set ps giver.part giver.number p p h ready has_giver.0 (is_p p) one.anew.0 in
-    let still : q ≡ get_or ps1 taker.part q = is_q q ∙ sym (get_or-set_other ps giver.part taker.part (with_giver p giver.number h) q other) in
-    let len : length ps1 ≡ length ps = length-set ps giver.part (with_giver p giver.number h) in
-    let there : taker.part < length ps = has_taker.0 in
-    let all : AreReady (set ps1 taker.part (with_taker q taker.number u)) = taker_set ps1 taker.part taker.number q q u first (omega arith) still one.anew.1 in
-    let within : MetWithin ps giver taker L = record {
-      h = h;
-      u = u;
-      met = λ d f g t. subst (λ (x : Part). HaveMet (get_or x.givers.items giver.number g) (taker_at ps taker f t) h u) (is_p d) (subst (λ (x : Part). HaveMet (get_or p.givers.items giver.number g) (get_or x.takers.items taker.number t) h u) (is_q f) (met g t));
-      parts = λ d. e
-          ∙ ap (λ (x : Part). set (set ps giver.part (with_giver x giver.number h)) taker.part (with_taker q taker.number u)) (is_p d)
-          ∙ ap (λ (x : Part). set (set_giver ps giver d h) taker.part (with_taker x taker.number u))
-          (is_q d ∙ sym (get_or-set_other ps giver.part taker.part (with_giver (get_or ps giver.part d) giver.number h) d other));
-    } in
-    (subst (λ (xs : List Part). AreReady xs) (sym e) all, within)
+far : (ps met : List Part) (giver taker : EndPlace) (a b : Part) (g : HasGiver ps giver) (t : HasTaker ps taker) (h : GiverView)
+    (u : TakerView) → AreReady ps → (taker.part ≡ giver.part → ⊥) → HaveMet g.end t.end h u →
+    a ≡ with_giver g.part giver.number h → b ≡ with_taker t.part taker.number u → met ≡ set (set ps giver.part a) taker.part b → IsMet ps
+    giver taker met
+far ps met giver taker a b g t h u ready other meets is_a is_b e =
+    let mid : List Part = set_giver ps giver g h in
+    let still : slice_get mid taker.part ≡ Some t.part = get_beside ps giver.part taker.part (with_giver g.part giver.number h) other ∙
+    t.part_is in
+    let is : met ≡ set mid taker.part (with_taker t.part taker.number u) = e ∙ ap (λ (x : Part). set (set ps giver.part x) taker.part b)
+    is_a ∙ ap (λ (x : Part). set mid taker.part x) is_b in
+    let first : AreReady mid = giver_set ps giver.part giver.number g.part h ready g.part_is meets.anew.0 in (
+      subst (λ (xs : List Part). AreReady xs) (sym is) (taker_set mid taker.part taker.number t.part u first still meets.anew.1),
+      record {
+        g = g;
+        t = t;
+        h = h;
+        u = u;
+        met = meets;
+        then = record { part = t.part; part_is = still; end = t.end; end_is = t.end_is };
+        parts = is;
+      },
+    )
 
-pub far_left : (ps l r : List Part) (giver taker : EndPlace) (dp dq a b : Part) (h : GiverView) (u : TakerView) → AreReady ps → HasGiver ps giver → HasTaker ps taker → ps ≡ l ++ r → length l ≡ taker.part → giver.part < taker.part →
-    ((g : GiverView) (t : TakerView) → HaveMet (get_or (get_or l giver.part dp).givers.items giver.number g) (get_or (get_or r 0 dq).takers.items taker.number t) h u) →
-    a ≡ with_giver (get_or l giver.part dp) giver.number h → b ≡ with_taker (get_or r 0 dq) taker.number u →
-    AreReady (set l giver.part a ++ set r 0 b) × MetWithin ps giver taker (set l giver.part a ++ set r 0 b)
-far_left ps l r giver taker dp dq a b h u ready has_giver has_taker e len before met is_a is_b =
-    let i : ℕ = giver.part in
-    let t : ℕ = taker.part in
-    let p : Part = get_or l i dp in
-    let q : Part = get_or r 0 dq in
-    let zero_it : t - t ≡ 0 = omega arith in
-    let some : 0 < length r = omega (arith, has_taker.0, ap (λ (xs : List Part). length xs) e, length-append l r) in
-    let is_p : (d : Part) → p ≡ get_or ps i d = λ (d : Part). (get_or_default l i dp d (omega arith) ∙ sym (get_or_append_left l r d i (omega arith)) ∙ ap (λ (xs : List Part). get_or xs i d) (sym e)) in
-    let is_q : (d : Part) → q ≡ get_or ps t d = λ (d : Part). (get_or_default r 0 dq d some ∙ ap (λ (k : ℕ). get_or r k d) (sym zero_it) ∙ sym (get_or-append_right l r t t d len (omega arith)) ∙ ap (λ (xs : List Part). get_or xs t d) (sym e)) in
-    let both : set l i a ++ set r 0 b ≡ set (set ps i a) t b =
-    sym (ap (λ (xs : List Part). set (set xs i a) t b) e ∙ ap (λ (xs : List Part). set xs t b) (set-append_left l r i a (omega arith)) ∙ set-append_right (set l i a) r t t b (length-set l i a ∙ len) (omega arith) ∙ ap (λ (k : ℕ). set l i a ++ set r k b) zero_it) in
-    far ps (set l i a ++ set r 0 b) giver taker p q h u ready has_giver has_taker (λ (x : t ≡ i). absurd (omega arith)) is_p is_q met
-    (both ∙ ap (λ (x : Part). set (set ps i x) t b) is_a ∙ ap (λ (x : Part). set (set ps i (with_giver p giver.number h)) t x) is_b)
+-- what two parts that were cut from each other are after a meeting
+abbrev pub HaveMetTwo : Part → ℕ → Part → ℕ → GiverView → TakerView → Part → Part → Type 0
+HaveMetTwo p n q m g t a b = (h : GiverView) × (u : TakerView) × HaveMet g t h u × (a ≡ with_giver p n h) × (b ≡ with_taker q m u)
 
-pub far_right : (ps l r : List Part) (giver taker : EndPlace) (dp dq a b : Part) (h : GiverView) (u : TakerView) → AreReady ps → HasGiver ps giver → HasTaker ps taker → ps ≡ l ++ r → length l ≡ giver.part → taker.part < giver.part →
-    ((g : GiverView) (t : TakerView) → HaveMet (get_or (get_or r 0 dp).givers.items giver.number g) (get_or (get_or l taker.part dq).takers.items taker.number t) h u) →
-    a ≡ with_giver (get_or r 0 dp) giver.number h → b ≡ with_taker (get_or l taker.part dq) taker.number u →
-    AreReady (set l taker.part b ++ set r 0 a) × MetWithin ps giver taker (set l taker.part b ++ set r 0 a)
-far_right ps l r giver taker dp dq a b h u ready has_giver has_taker e len before met is_a is_b =
-    let i : ℕ = giver.part in
-    let t : ℕ = taker.part in
-    let p : Part = get_or r 0 dp in
-    let q : Part = get_or l t dq in
-    let zero_it : i - i ≡ 0 = omega arith in
-    let some : 0 < length r = omega (arith, has_giver.0, ap (λ (xs : List Part). length xs) e, length-append l r) in
-    let is_q : (d : Part) → q ≡ get_or ps t d = λ (d : Part). (get_or_default l t dq d (omega arith) ∙ sym (get_or_append_left l r d t (omega arith)) ∙ ap (λ (xs : List Part). get_or xs t d) (sym e)) in
-    let is_p : (d : Part) → p ≡ get_or ps i d = λ (d : Part). (get_or_default r 0 dp d some ∙ ap (λ (k : ℕ). get_or r k d) (sym zero_it) ∙ sym (get_or-append_right l r i i d len (omega arith)) ∙ ap (λ (xs : List Part). get_or xs i d) (sym e)) in
-    let both : set l t b ++ set r 0 a ≡ set (set ps i a) t b =
-    sym (ap (λ (xs : List Part). set (set xs i a) t b) e ∙ ap (λ (xs : List Part). set xs t b) (set-append_right l r i i a len (omega arith) ∙ ap (λ (k : ℕ). l ++ set r k a) zero_it) ∙ set-append_left l (set r 0 a) t b (omega arith)) in
-    far ps (set l t b ++ set r 0 a) giver taker p q h u ready has_giver has_taker (λ (x : t ≡ i). absurd (omega arith)) is_p is_q met
-    (both ∙ ap (λ (x : Part). set (set ps i x) t b) is_a ∙ ap (λ (x : Part). set (set ps i (with_giver p giver.number h)) t x) is_b)
+pub far_left : (ps l r : List Part) (giver taker : EndPlace) (d e a b : Part) (g : HasGiver ps giver) (t : HasTaker ps taker) → AreReady
+    ps → ps ≡ l ++ r → length l ≡ taker.part → giver.part < taker.part →
+    HaveMetTwo (get_or l giver.part d) giver.number (get_or r 0 e) taker.number g.end t.end a b → IsMet ps giver taker
+    (set l giver.part a ++ set r 0 b)
+far_left ps l r giver taker d e a b g t ready cut len less m =
+    far ps (set l giver.part a ++ set r 0 b) giver taker a b g t m.0 m.1 ready (λ same. absurd (omega arith)) m.2
+    (m.3 ∙ ap (λ (x : Part). with_giver x giver.number m.0) (left_read ps l r giver.part g.part d cut (omega arith) g.part_is))
+    (m.4 ∙ ap (λ (x : Part). with_taker x taker.number m.1) (right_read ps l r taker.part t.part e cut len t.part_is))
+    (set_two ps l r giver.part taker.part a b cut len less)
 
--- ends of one part
-pub near : (ps : List Part) (giver taker : EndPlace) (dp : Part) (g0 c : GiverView) (t0 b : TakerView) (h : GiverView) (u : TakerView) → AreReady ps → HasGiver ps giver → HasTaker ps taker → giver.part ≡ taker.part →
-    g0 ≡ get_or (get_or ps giver.part dp).givers.items giver.number c → t0 ≡ get_or (get_or ps giver.part dp).takers.items taker.number b → HaveMet g0 t0 h u →
-    AreReady (set ps giver.part (with_taker (with_giver (get_or ps giver.part dp) giver.number h) taker.number u)) × MetWithin ps giver taker (set ps giver.part (with_taker (with_giver (get_or ps giver.part dp) giver.number h) taker.number u))
-near ps giver taker dp g0 c t0 b h u ready has_giver has_taker same is_g is_t met =
-    let i : ℕ = giver.part in
-    let p : Part = get_or ps i dp in
-    let l : giver.number < length p.givers.items = has_giver.1 dp in
-    let m : taker.number < length p.takers.items = subst (λ (k : ℕ). taker.number < length (get_or ps k dp).takers.items) (sym same) (has_taker.1 dp) in
-    let ready_p : IsReady p = All-get_or IsReady ps i dp has_giver.0 ready.each in
-    let is_p : (d : Part) → p ≡ get_or ps i d = λ (d : Part). get_or_default ps i dp d has_giver.0 in
-    let all : AreReady (set ps i (with_taker (with_giver p giver.number h) taker.number u)) =
-    set_ready ps i dp (with_taker (with_giver p giver.number h) taker.number u) ready has_giver.0 (ready_taker (with_giver p giver.number h) taker.number u (ready_giver p giver.number h ready_p met.anew.0) met.anew.1)
-    (ends_taker (with_giver p giver.number h) taker.number u ∙ ends_giver p giver.number h) in
-    let within : MetWithin ps giver taker (set ps i (with_taker (with_giver p giver.number h) taker.number u)) = record {
-      h = h;
-      u = u;
-      met = λ d f g t.
-          (let ge : g0 ≡ giver_at ps giver d g = is_g ∙ get_or_default p.givers.items giver.number c g l ∙ ap (λ (x : Part). get_or x.givers.items giver.number g) (is_p d) in
-          let te : t0 ≡ taker_at ps taker f t = is_t ∙ get_or_default p.takers.items taker.number b t m ∙ ap (λ (x : Part). get_or x.takers.items taker.number t) (is_p f) ∙ ap (λ (k : ℕ). get_or (get_or ps k f).takers.items taker.number t) same in
-          subst (λ (x : GiverView). HaveMet x (taker_at ps taker f t) h u) ge (subst (λ (x : TakerView). HaveMet g0 x h u) te met));
-      parts = λ d.
-          (let a : Part = with_giver (get_or ps i d) giver.number h in
-          ap (λ (x : Part). set ps i (with_taker (with_giver x giver.number h) taker.number u)) (is_p d)
-          ∙ sym (set-set ps i a (with_taker a taker.number u))
-          ∙ ap (λ (x : Part). set (set ps i a) i (with_taker x taker.number u)) (sym (get_or-set_same ps i a d has_giver.0))
-          ∙ ap (λ (k : ℕ). set (set ps i a) k (with_taker (get_or (set ps i a) k d) taker.number u)) same);
-    } in
-    (all, within)
+pub far_right : (ps l r : List Part) (giver taker : EndPlace) (d e a b : Part) (g : HasGiver ps giver) (t : HasTaker ps taker) → AreReady
+    ps → ps ≡ l ++ r → length l ≡ giver.part → taker.part < giver.part →
+    HaveMetTwo (get_or r 0 d) giver.number (get_or l taker.part e) taker.number g.end t.end a b → IsMet ps giver taker
+    (set l taker.part b ++ set r 0 a)
+far_right ps l r giver taker d e a b g t ready cut len less m =
+    far ps (set l taker.part b ++ set r 0 a) giver taker a b g t m.0 m.1 ready (λ same. absurd (omega arith)) m.2
+    (m.3 ∙ ap (λ (x : Part). with_giver x giver.number m.0) (right_read ps l r giver.part g.part d cut len g.part_is))
+    (m.4 ∙ ap (λ (x : Part). with_taker x taker.number m.1) (left_read ps l r taker.part t.part e cut (omega arith) t.part_is))
+    (set_two ps l r taker.part giver.part b a cut len less ∙ set_apart ps taker.part giver.part b a (λ same. absurd (omega arith)))
+
+-- ends of one part: those that were read of it
+pub near_ends : (ps : List Part) (giver taker : EndPlace) (d : Part) (g0 c : GiverView) (t0 b : TakerView) (g : HasGiver ps giver)
+    (t : HasTaker ps taker) → giver.part ≡ taker.part →
+    g0 ≡ get_or (get_or ps giver.part d).givers.items giver.number c → t0 ≡ get_or (get_or ps giver.part d).takers.items taker.number b →
+    (g0 ≡ g.end) × (t0 ≡ t.end)
+near_ends ps giver taker d g0 c t0 b g t same is_g is_t =
+    let p : Part = get_or ps giver.part d in (
+      giver_is ps giver p g0 c g (get_or_from_slice_get ps giver.part g.part d g.part_is) is_g,
+      taker_is ps taker p t0 b t (get_or_from_slice_get ps giver.part t.part d (ap (slice_get ps) same ∙ t.part_is)) is_t,
+    )
+
+-- after their meeting
+pub near : (ps : List Part) (giver taker : EndPlace) (d : Part) (g : HasGiver ps giver) (t : HasTaker ps taker) (h : GiverView)
+    (u : TakerView) → AreReady ps → giver.part ≡ taker.part → HaveMet g.end t.end h u →
+    IsMet ps giver taker (set ps giver.part (with_taker (with_giver (get_or ps giver.part d) giver.number h) taker.number u))
+near ps giver taker d g t h u ready same meets =
+    let p : Part = with_giver g.part giver.number h in
+    let met : List Part = set ps giver.part (with_taker (with_giver (get_or ps giver.part d) giver.number h) taker.number u) in
+    let one : Some g.part ≡ Some t.part = sym g.part_is ∙ ap (slice_get ps) same ∙ t.part_is in
+    let it : t.part ≡ g.part = cc in
+    let mid : List Part = set_giver ps giver g h in
+    let still : slice_get mid taker.part ≡ Some p = ap (slice_get mid) (sym same) ∙ get_set ps giver.part g.part p g.part_is in
+    let is : met ≡ set ps giver.part (with_taker p taker.number u) =
+    ap (λ (x : Part). set ps giver.part (with_taker (with_giver x giver.number h) taker.number u))
+    (get_or_from_slice_get ps giver.part g.part d g.part_is) in (
+      subst (λ (xs : List Part). AreReady xs) (sym is)
+          (both_set ps giver.part giver.number taker.number g.part h u ready g.part_is meets.anew.0 meets.anew.1),
+      record {
+        g = g;
+        t = t;
+        h = h;
+        u = u;
+        met = meets;
+        then = record {
+          part = p;
+          part_is = still;
+          end = t.end;
+          end_is = ap (λ (x : Part). slice_get x.takers.items taker.number) (sym it) ∙
+              t.end_is;
+        };
+        parts = is ∙ sym (set-set ps giver.part p (with_taker p taker.number u)) ∙ ap (λ (k : ℕ). set mid k (with_taker p taker.number u))
+            same;
+      },
+    )

@@ -1,5 +1,5 @@
 -- What a meeting of two ends leaves.
-use Rattle.std.specs.Prelude.{ℕ, ◌+◌, ◌<◌, ◌≤◌, ◌≡◌, List, [], ◌++◌, length, slice_index_or, slice_set}
+use Rattle.std.specs.Prelude.{ℕ, ◌+◌, ◌≤◌, ◌≡◌, List, [], ◌++◌, length, slice_get, slice_set, Some}
 use Rattle.std.specs.Vec.{with_item}
 use Rattle.lucy_ring.specs.Views.{GiverView, TakerView}
 use Rattle.lucy_worker.specs.declared.part.Part.{Part}
@@ -15,48 +15,54 @@ pub record HaveMet (g : GiverView) (t : TakerView) (h : GiverView) (u : TakerVie
   pub anew : (h.given ≡ []) × (u.taken ≡ []) × (u.returned ≡ 0)
   pub capacity : (h.ring.capacity ≡ g.ring.capacity) × (h.ring.numbers_capacity ≡ g.ring.numbers_capacity)
 
--- the end at a place
-abbrev pub giver_at : List Part → EndPlace → Part → GiverView → GiverView
-giver_at ps place d g = slice_index_or (slice_index_or ps place.part d).givers.items place.number g
+-- the part and the giver at a place
+pub record HasGiver (ps : List Part) (place : EndPlace) : Type 0 where
+  pub part : Part
+  pub part_is : slice_get ps place.part ≡ Some part
+  pub end : GiverView
+  pub end_is : slice_get part.givers.items place.number ≡ Some end
 
-abbrev pub taker_at : List Part → EndPlace → Part → TakerView → TakerView
-taker_at ps place d t = slice_index_or (slice_index_or ps place.part d).takers.items place.number t
-
-abbrev pub HasGiver : List Part → EndPlace → Type 0
-HasGiver ps place = (place.part < length ps) × ((d : Part) → place.number < length (slice_index_or ps place.part d).givers.items)
-
-abbrev pub HasTaker : List Part → EndPlace → Type 0
-HasTaker ps place = (place.part < length ps) × ((d : Part) → place.number < length (slice_index_or ps place.part d).takers.items)
+-- the part and the taker at a place
+pub record HasTaker (ps : List Part) (place : EndPlace) : Type 0 where
+  pub part : Part
+  pub part_is : slice_get ps place.part ≡ Some part
+  pub end : TakerView
+  pub end_is : slice_get part.takers.items place.number ≡ Some end
 
 -- the ends at the two places are those of one ring
 abbrev pub AreOfOneRing : List Part → EndPlace → List Part → EndPlace → Type 0
-AreOfOneRing ps giver qs taker = (d e : Part) (g : GiverView) (t : TakerView) → (giver_at ps giver d g).ring ≡ (taker_at qs taker e t).ring
+AreOfOneRing ps giver qs taker = (g : HasGiver ps giver) (t : HasTaker qs taker) → g.end.ring ≡ t.end.ring
 
 -- the part with another end
 abbrev pub with_giver : Part → ℕ → GiverView → Part
-with_giver p n g = record p { givers = with_item p.givers n g }
+with_giver p n h = record p { givers = with_item p.givers n h }
 
 abbrev pub with_taker : Part → ℕ → TakerView → Part
-with_taker p n t = record p { takers = with_item p.takers n t }
+with_taker p n u = record p { takers = with_item p.takers n u }
 
--- a list of parts with another end at a place
-abbrev pub set_giver : List Part → EndPlace → Part → GiverView → List Part
-set_giver ps place d h = slice_set ps place.part (with_giver (slice_index_or ps place.part d) place.number h)
+-- the parts with another end at a place
+abbrev pub set_giver : (ps : List Part) (place : EndPlace) → HasGiver ps place → GiverView → List Part
+set_giver ps place g h = slice_set ps place.part (with_giver g.part place.number h)
 
-abbrev pub set_taker : List Part → EndPlace → Part → TakerView → List Part
-set_taker ps place d u = slice_set ps place.part (with_taker (slice_index_or ps place.part d) place.number u)
+abbrev pub set_taker : (ps : List Part) (place : EndPlace) → HasTaker ps place → TakerView → List Part
+set_taker ps place t u = slice_set ps place.part (with_taker t.part place.number u)
 
 -- the giver of one list of parts and the taker of another met, and nothing else changed
 pub record MetBetween (ps : List Part) (giver : EndPlace) (qs : List Part) (taker : EndPlace) (ps' qs' : List Part) : Type 0 where
+  pub g : HasGiver ps giver
+  pub t : HasTaker qs taker
   pub h : GiverView
   pub u : TakerView
-  pub met : (d e : Part) (g : GiverView) (t : TakerView) → HaveMet (giver_at ps giver d g) (taker_at qs taker e t) h u
-  pub givers : (d : Part) → ps' ≡ set_giver ps giver d h
-  pub takers : (d : Part) → qs' ≡ set_taker qs taker d u
+  pub met : HaveMet g.end t.end h u
+  pub givers : ps' ≡ set_giver ps giver g h
+  pub takers : qs' ≡ set_taker qs taker t u
 
 -- two ends of one list of parts met, and nothing else changed
 pub record MetWithin (ps : List Part) (giver taker : EndPlace) (ps' : List Part) : Type 0 where
+  pub g : HasGiver ps giver
+  pub t : HasTaker ps taker
   pub h : GiverView
   pub u : TakerView
-  pub met : (d e : Part) (g : GiverView) (t : TakerView) → HaveMet (giver_at ps giver d g) (taker_at ps taker e t) h u
-  pub parts : (d : Part) → ps' ≡ set_taker (set_giver ps giver d h) taker d u
+  pub met : HaveMet g.end t.end h u
+  pub then : HasTaker (set_giver ps giver g h) taker
+  pub parts : ps' ≡ set_taker (set_giver ps giver g h) taker then u

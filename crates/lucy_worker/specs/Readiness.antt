@@ -1,5 +1,5 @@
 -- What a worker keeps of its parts from one call to the next.
-use Rattle.std.specs.Prelude.{ℕ, ◌+◌, ◌-◌, ◌<◌, ◌≤◌, ◌≡◌, List, [], ◌∷◌, ◌++◌, ℤ, length, All, sum_by, vec_capacity}
+use Rattle.std.specs.Prelude.{ℕ, ◌+◌, ◌-◌, ◌<◌, ◌≤◌, ◌≡◌, List, [], ◌∷◌, ◌++◌, ℤ, length, All, slice_get, sum_by, Some, vec_capacity}
 use Rattle.lucy_host.specs.declared.kind.HostKind.{HostKind}
 use Rattle.lucy_event.specs.Firings.{ops_of}
 use Rattle.lucy_net.specs.declared.kind.ActorKind.{ActorKind}
@@ -8,6 +8,7 @@ use Rattle.lucy_net.specs.declared.net.Actor.{Actor}
 use Rattle.lucy_net.specs.declared.state.ActorState.{ActorState}
 use Rattle.lucy_net.specs.Plans.{form_of}
 use Rattle.lucy_net.specs.States.{IsUsable, IsOfActor}
+use Rattle.lucy_ring.specs.Views.{GiverView, TakerView}
 use Rattle.lucy_worker.specs.declared.part.Part.{Part}
 use Rattle.lucy_worker.specs.Parts.{done_at, done_of}
 use Rattle.lucy_worker.specs.Turns.{IsServed, HaveRun, done_by}
@@ -62,3 +63,9 @@ pub record HavePassed (kinds : List HostKind) (count : ℕ) (ps qs : List Part) 
   pub run : HaveRun kinds ps qs
   pub done : done_by qs ≡ done_by ps + moves
   pub left : left_by qs + moves ≡ left_by ps
+
+-- an end of one part and one of another, of one ring
+pub record AreTwoEnds (p : Part) (giver : ℕ) (q : Part) (taker : ℕ) (g : GiverView) (t : TakerView) : Type 0 where
+  pub giver_is : slice_get p.givers.items giver ≡ Some g
+  pub taker_is : slice_get q.takers.items taker ≡ Some t
+  pub ring : g.ring ≡ t.ring

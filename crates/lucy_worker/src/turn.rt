@@ -1,5 +1,5 @@
-// A turn over the actors of one thread.
-ghost use Rattle.std.specs.Prelude.{◌≡◌, ◌↔◌, ◌<◌, All, IsTrue, length};
+// A pass over the actors of one thread, and what came of a turn.
+ghost use Rattle.std.specs.Prelude.{◌≡◌, ◌↔◌, All, IsTrue, length};
 ghost use Rattle.lucy_host.specs.Host.{Serves, lent};
 ghost use Rattle.lucy_host.specs.Operators.{kinds_of};
 ghost use Rattle.lucy_worker.specs.Parts.{IsDone};
@@ -19,12 +19,13 @@ pub struct Progress {
     pub looks: u64,
 }
 
-// Behind so many looks a turn begins no pass, so that its caller soon sees how much they find. In vain so many last some 0.7 ms, five times
-// as long as four threads take to start for another round.
-const MOST_LOOKS: u64 = 65_536;
-
-// All possible moves of each part, from the first part to the last; how many they are.
-fn pass<F: Fn(u32, i64, i64) -> i64 + Sync>(parts: &mut [Part], host: &Host<F>) -> u64
+// All possible moves of each part, from the first part to the last; how many they are. The gate was passed once before.
+pub(crate) fn pass<F: Fn(u32, i64, i64) -> i64 + Sync>(
+    parts: &mut [Part],
+    host: &Host<F>,
+    passages: &Passages,
+) -> u64
+    requires once { passages.now.count ≡ 1 }
     requires ready { AreReady parts.old }
     requires serves { Serves F.pre F.post host.now }
     requires served { All (IsServed (length (lent host.now))) parts.old }
@@ -32,6 +33,7 @@ fn pass<F: Fn(u32, i64, i64) -> i64 + Sync>(parts: &mut [Part], host: &Host<F>) 
     ensures moved { HaveMoved parts.old parts.new }
     ensures rests { NoneCan parts.new }
 {
+    let _ = passages;
     let mut moves = 0;
     for part in parts.iter_mut() {
         moves += part.go_on(host);
@@ -46,30 +48,4 @@ pub(crate) fn all_done(parts: &[Part]) -> bool
     parts
         .iter()
         .all(|part| part.state.quota <= part.state.fired)
-}
-
-// Passes over the parts until all are done or it looked often enough; of a worker that moves alone there is the first pass only. The gate
-// was passed once before.
-pub(crate) fn turn<F: Fn(u32, i64, i64) -> i64 + Sync>(
-    parts: &mut [Part],
-    host: &Host<F>,
-    passages: Passages,
-    alone: bool,
-) -> Progress
-    requires once { passages.count ≡ 1 }
-    requires ready { AreReady parts.old }
-    requires serves { Serves F.pre F.post host.now }
-    requires served { All (IsServed (length (lent host.now))) parts.old }
-    ensures passed { HavePassed (kinds_of (lent host.now)) (length (lent host.now)) parts.old parts.new result.moves }
-    ensures moved { HaveMoved parts.old parts.new }
-    ensures rests { NoneCan parts.new }
-{
-    let mut moves = pass(parts, host);
-    let mut looks = parts.len() as u64;
-    while !alone && looks < MOST_LOOKS && !all_done(parts) {
-        let more = pass(parts, host);
-        moves += more;
-        looks += parts.len() as u64;
-    }
-    Progress { moves, looks }
 }

@@ -1,21 +1,21 @@
 // Ends of one list of parts.
-ghost use Rattle.std.specs.Prelude.{◌≡◌, ◌<◌, length, slice_index_or};
+ghost use Rattle.std.specs.Prelude.{◌≡◌};
 ghost use Rattle.lucy_ring.specs.Views.{GiverView, TakerView};
 ghost use Rattle.lucy_worker.specs.Meets.{HasGiver, HasTaker, AreOfOneRing, HaveMet, MetWithin, with_giver, with_taker};
-ghost use Rattle.lucy_worker.specs.Readiness.{AreReady};
+ghost use Rattle.lucy_worker.specs.Readiness.{AreReady, AreTwoEnds};
 
 use crate::part::Part;
 use crate::place::EndPlace;
 use lucy_ring::meet;
 
 // Lets a giver and a taker of these parts meet.
+#[tactic(auto, using(crate::proofs::MeetLaws::giver_within, crate::proofs::MeetLaws::taker_within))]
 pub(crate) fn meet_within(parts: &mut [Part], giver: EndPlace, taker: EndPlace)
     requires ready { AreReady parts.old }
     requires giver { HasGiver parts.old giver }
     requires taker { HasTaker parts.old taker }
     requires ring { AreOfOneRing parts.old giver parts.old taker }
-    ensures ready { AreReady parts.new }
-    ensures met { MetWithin parts.old giver taker parts.new }
+    ensures { AreReady parts.new × MetWithin parts.old giver taker parts.new }
 {
     let (from, to) = (giver.part as usize, taker.part as usize);
     if from == to {
@@ -33,12 +33,11 @@ pub(crate) fn meet_within(parts: &mut [Part], giver: EndPlace, taker: EndPlace)
     }
 }
 
+// Lets a giver of one part and a taker of another meet.
 fn meet_two(first: &mut Part, giver: u32, second: &mut Part, taker: u32)
-    requires giver { giver < length first.old.givers.items }
-    requires taker { taker < length second.old.takers.items }
-    requires ring { (g : GiverView) (t : TakerView) → (slice_index_or first.old.givers.items giver g).ring ≡ (slice_index_or second.old.takers.items taker t).ring }
-    ensures met { (h : GiverView) × (u : TakerView) × ((g : GiverView) (t : TakerView) → HaveMet (slice_index_or first.old.givers.items giver g) (slice_index_or second.old.takers.items taker t) h u)
-        × (first.new ≡ with_giver first.old giver h) × (second.new ≡ with_taker second.old taker u) }
+    requires { (g : GiverView) × (t : TakerView) × AreTwoEnds first.old giver second.old taker g t }
+    ensures { (g : GiverView) (t : TakerView) → AreTwoEnds first.old giver second.old taker g t →
+        (h : GiverView) × (u : TakerView) × HaveMet g t h u × (first.new ≡ with_giver first.old giver h) × (second.new ≡ with_taker second.old taker u) }
 {
     meet(
         &mut first.givers[giver as usize],

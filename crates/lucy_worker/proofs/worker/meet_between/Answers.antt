@@ -1,33 +1,67 @@
-use Rattle.std.proofs.Common.{◌≡◌, ◌<◌, List, length, ap, arith}
+use Rattle.std.proofs.Common.{◌≡◌, List, ap, sym, ◌∙◌}
+use Rattle.lucy_ring.specs.Views.{GiverView, TakerView}
 use Rattle.lucy_worker.specs.declared.part.Part.{Part}
 use Rattle.lucy_worker.specs.Views.{WorkerView}
-use Rattle.lucy_worker.proofs.MeetLaws.{giver_set, taker_set, met_between}
+use Rattle.lucy_worker.proofs.MeetLaws.{read_is, read_at, giver_set, taker_set, giver_is, taker_is, given_at, taken_at, have_met}
 use Rattle.lucy_worker.proofs.worker.meet_between.Goals as goal
+
+pub meet-requires : goal.meet-requires
+meet-requires c =
+    let ps : List Part = c.args.first.now.parts in
+    let qs : List Part = c.args.second.now.parts in
+    let g = c.requires.giver in
+    let t = c.requires.taker in
+    let p = read_is _ ps c.args.giver.part g.part c.index_mut-part.result.now _ (ap (λ (w : WorkerView). w.parts) c.first.view_is) g.part_is
+    c.index_mut-part.ensures.value in
+    let q = read_is _ qs c.args.taker.part t.part c.index_mut-other.result.now _ (ap (λ (w : WorkerView). w.parts) c.second.view_is)
+    t.part_is c.index_mut-other.ensures.value in
+    record {
+      ends = ap (λ (x : GiverView). x.ring) (giver_is ps c.args.giver _ c.index_mut.result.now _ g p c.index_mut.ensures.value) ∙
+          c.requires.ring g t
+          ∙ sym (ap (λ (x : TakerView). x.ring) (taker_is qs c.args.taker _ c.index_mut-2.result.now _ t q c.index_mut-2.ensures.value));
+    }
 
 pub invariant_of-first : goal.invariant_of-first
 invariant_of-first c =
-    let same : c.first.inside.parts.items ≡ c.args.first.now.parts = ap (λ (w : WorkerView). w.parts) c.first.view_is in
-    let l : c.args.giver.part < length c.first.inside.parts.items = omega (arith, c.requires.giver.0, ap (λ (xs : List Part). length xs) same) in
-    giver_set c.first.inside.parts.items c.args.giver.part c.args.giver.number c.index_mut-part.result.now _ c.meet.new.giver c.first.invariant l c.index_mut-part.ensures.value c.meet.ensures.anew.0
+    let g = c.requires.giver in
+    giver_set c.first.inside.parts.items c.args.giver.part c.args.giver.number c.index_mut-part.result.now c.meet.new.giver
+    c.first.invariant
+    (read_at _ c.args.first.now.parts c.args.giver.part g.part c.index_mut-part.result.now _
+    (ap (λ (w : WorkerView). w.parts) c.first.view_is) g.part_is c.index_mut-part.ensures.value) c.meet.ensures.anew.0
 
 pub invariant_of-second : goal.invariant_of-second
 invariant_of-second c =
-    let same : c.second.inside.parts.items ≡ c.args.second.now.parts = ap (λ (w : WorkerView). w.parts) c.second.view_is in
-    let l : c.args.taker.part < length c.second.inside.parts.items = omega (arith, c.requires.taker.0, ap (λ (xs : List Part). length xs) same) in
-    taker_set c.second.inside.parts.items c.args.taker.part c.args.taker.number c.index_mut-other.result.now _ c.meet.new.taker c.second.invariant l c.index_mut-other.ensures.value c.meet.ensures.anew.1
+    let t = c.requires.taker in
+    taker_set c.second.inside.parts.items c.args.taker.part c.args.taker.number c.index_mut-other.result.now c.meet.new.taker
+    c.second.invariant
+    (read_at _ c.args.second.now.parts c.args.taker.part t.part c.index_mut-other.result.now _
+    (ap (λ (w : WorkerView). w.parts) c.second.view_is) t.part_is c.index_mut-other.ensures.value) c.meet.ensures.anew.1
 
 pub returns-clause-met : goal.returns-clause-met
 returns-clause-met c =
-    met_between c.args.first.now.parts c.first.inside.parts.items c.args.second.now.parts c.second.inside.parts.items c.args.giver c.args.taker
-    c.index_mut-part.result.now _ c.index_mut-other.result.now _ c.index_mut.result.now _ c.index_mut-2.result.now _ c.meet.new.giver c.meet.new.taker
-    (ap (λ (w : WorkerView). w.parts) c.first.view_is) (ap (λ (w : WorkerView). w.parts) c.second.view_is) c.requires.giver c.requires.taker
-    c.index_mut-part.ensures.value c.index_mut-other.ensures.value c.index_mut.ensures.value c.index_mut-2.ensures.value
-    (record {
-      ends = c.meet.ensures.ends;
-      fifo = c.meet.ensures.fifo;
-      within = c.meet.ensures.within;
-      all_items = c.meet.ensures.all_items;
-      all_slots = c.meet.ensures.all_slots;
-      anew = c.meet.ensures.anew;
-      capacity = c.meet.ensures.capacity;
-    })
+    let ps : List Part = c.args.first.now.parts in
+    let qs : List Part = c.args.second.now.parts in
+    let g = c.requires.giver in
+    let t = c.requires.taker in
+    let first : c.first.inside.parts.items ≡ ps = ap (λ (w : WorkerView). w.parts) c.first.view_is in
+    let second : c.second.inside.parts.items ≡ qs = ap (λ (w : WorkerView). w.parts) c.second.view_is in
+    let p = read_is _ ps c.args.giver.part g.part c.index_mut-part.result.now _ first g.part_is c.index_mut-part.ensures.value in
+    let q = read_is _ qs c.args.taker.part t.part c.index_mut-other.result.now _ second t.part_is c.index_mut-other.ensures.value in
+    record {
+      g = g;
+      t = t;
+      h = c.meet.new.giver;
+      u = c.meet.new.taker;
+      met = have_met _ _ _ _ _ _ (giver_is ps c.args.giver _ c.index_mut.result.now _ g p c.index_mut.ensures.value)
+          (taker_is qs c.args.taker _ c.index_mut-2.result.now _ t q c.index_mut-2.ensures.value) (record {
+            ends = c.meet.ensures.ends;
+            fifo = c.meet.ensures.fifo;
+            within = c.meet.ensures.within;
+            all_items = c.meet.ensures.all_items;
+            all_slots = c.meet.ensures.all_slots;
+            anew = c.meet.ensures.anew;
+            capacity = c.meet.ensures.capacity;
+          });
+      givers = given_at ps _ c.args.giver c.index_mut-part.result.now c.meet.new.giver g first p;
+      takers = taken_at qs _ c.args.taker c.index_mut-other.result.now c.meet.new.taker t second q;
+    }
