@@ -13,12 +13,12 @@ use Rattle.lucy_place.specs.Placing.{Tells}
 use Rattle.lucy_place.specs.PlacedProgram.{PlacedProgram}
 use Rattle.lucy_types.specs.declared.ty.Ty.{Ty}
 use Rattle.lucy_front.specs.declared.options.Options.{Options}
-use Rattle.lucy_front.specs.declared.fault.NodeFault.{NodeFault}
-use Rattle.lucy_front.specs.declared.fault.NodeFault.TheVariants.{NotWritten, Rates, Clocks, Check, Limit, OutOfMemory}
-use Rattle.lucy_front.specs.declared.fault.Unclocked.{Unclocked as FirstUnclocked}
+use Rattle.lucy_front.specs.declared.fault.NoClocks.{NoClocks}
+use Rattle.lucy_front.specs.declared.fault.NoClocks.TheVariants.{Fault, Limit, OutOfMemory}
+use Rattle.lucy_front.specs.declared.fault.Unclocked.{Unclocked}
 use Rattle.lucy_front.specs.Clocked.{IsUnclocked}
 use Rattle.lucy_front.specs.Accepting.{IsTypedText, RefusesPhases, syntax_refusal, names_refusal}
-use Rattle.lucy_front.specs.Clocking.{Refused, TellsSpan, RefusesNodes, fault_refusal, clock_refusal}
+use Rattle.lucy_front.specs.Clocking.{HasNoClocks, IsFirstUnclocked, refusal_for, clock_refusal}
 
 pub syntax_refuses : (ops : List Operator) (o : Options) (text : List ℕ) (e : SyntaxError) → (e ≡ syntax.OutOfMemory) ⊎ IsRefused text e → RefusesPhases ops o text (syntax_refusal e)
 syntax_refuses ops o text (syntax.Unexpected place) (inl f) = absurd (cc f)
@@ -46,14 +46,13 @@ names_refuse ops o text p (names.TooMany l) read (inl f) = absurd (cc f)
 names_refuse ops o text p (names.TooMany l) read (inr h) = inr (inl (p, read, h))
 names_refuse ops o text p names.OutOfMemory read h = tt
 
-fault_refuses : (ops : List Operator) (o : Options) (text : List ℕ) (placed : PlacedProgram) (tables : List (List Ty)) (node : ℕ) (fault : NodeFault) → IsTypedText ops text placed tables → TellsSpan placed node fault →
-    IsUnclocked o placed.nodes node (Refused o fault) → RefusesPhases ops o text (fault_refusal placed node fault)
-fault_refuses ops o text placed tables node (NotWritten span) typed told is = (told, (tables, typed, is))
-fault_refuses ops o text placed tables node (Rates needs walk) typed told is = (tables, typed, is)
-fault_refuses ops o text placed tables node (Clocks needs shape diffs cycle) typed told is = (tables, typed, is)
-fault_refuses ops o text placed tables node (Check needs e) typed told is = (tables, typed, is)
-fault_refuses ops o text placed tables node (Limit l) typed told is = inr (inr (placed, node, (tables, typed, is)))
-fault_refuses ops o text placed tables node OutOfMemory typed told is = tt
+-- a program whose node has no clocks is refused
+why_refuses : (ops : List Operator) (o : Options) (text : List ℕ) (placed : PlacedProgram) (tables : List (List Ty)) (node : ℕ) (why : NoClocks) → IsTypedText ops text placed tables →
+    IsUnclocked o placed.nodes node (λ above n. HasNoClocks o placed node above n why) → RefusesPhases ops o text (refusal_for placed node why)
+why_refuses ops o text placed tables node (Fault f) typed is = (tables, typed, is)
+why_refuses ops o text placed tables node (Limit l) typed is = inr (inr (placed, tables, typed, node, is))
+why_refuses ops o text placed tables node OutOfMemory typed is = tt
 
-pub clocks_refuse : (ops : List Operator) (o : Options) (text : List ℕ) (placed : PlacedProgram) (tables : List (List Ty)) (u : FirstUnclocked) → IsTypedText ops text placed tables → RefusesNodes o placed u → RefusesPhases ops o text (clock_refusal placed u)
-clocks_refuse ops o text placed tables u typed h = fault_refuses ops o text placed tables u.node u.fault typed h.0 h.1
+pub clocks_refuse : (ops : List Operator) (o : Options) (text : List ℕ) (placed : PlacedProgram) (tables : List (List Ty)) (u : Unclocked) → IsTypedText ops text placed tables → IsFirstUnclocked o placed u →
+    RefusesPhases ops o text (clock_refusal placed u)
+clocks_refuse ops o text placed tables u typed h = why_refuses ops o text placed tables u.node u.why typed h

@@ -26,24 +26,26 @@ use Rattle.lucy_clock.proofs.WordLaws.{stored_at}
 use Rattle.lucy_check.specs.declared.fault.CheckFault.{CheckFault}
 use Rattle.lucy_check.specs.declared.fault.CheckFault.TheVariants as fault
 use Rattle.lucy_check.specs.Passing.{OrNoMemory, PassesAll, AllWithinLimits, IsFirstRefusal}
-use Rattle.lucy_front.specs.declared.fault.NodeFault.{NodeFault}
+use Rattle.lucy_front.specs.declared.fault.NoClocks.{NoClocks}
+use Rattle.lucy_front.specs.declared.fault.NoClocks.TheVariants.{Fault}
 use Rattle.lucy_front.specs.declared.fault.NodeFault.TheVariants.{NotWritten, Check}
 use Rattle.lucy_front.specs.declared.options.Options.{Options}
 use Rattle.lucy_front.specs.Inferring.{IsShut, node_needs}
 use Rattle.lucy_front.specs.Clocked.{AreFewNeeds, AreNodeWords, AreItsClocks, IsClocked, IsTold}
-use Rattle.lucy_front.specs.Clocking.{clock_fault, check_fault, RefusesNode}
-use Rattle.lucy_front.proofs.SizeLaws.{node_sized, sized_count, sized_at}
+use Rattle.lucy_front.specs.Clocking.{clock_fault, check_fault, HasNoClocks}
+use Rattle.lucy_front.specs.Sizes.{buffer_sizes}
+use Rattle.lucy_front.proofs.SizeLaws.{Sized, node_sized, sized_count, sized_at}
 
 -- the words of a node, as they are made
 pub words_of : (n : PlacedNode) (words : List Bits) → AreWordsOf n words → (IsWordTooLong n → ⊥) × (word_bits words ≤ limit_number limit.Bits) → AreNodeWords n words
-words_of n words of few = record { of = of; few = record { fit = few.0; bits = few.1 } }
+words_of n words of few = record { of = of; fit = few.0; bits = few.1 }
 
 module _ (o : Options) (nodes : List PlacedNode) (above : List Signature) (n : PlacedNode) (proper : IsProperNode nodes n) (ports : AreSignatures nodes above) where
   -- words that meet the needs within the limits, with what the checker tells of sizes, are clocks
-  pub clocked_by : (c : NodeClock) → AreFewNeeds above n → AreItsClocks o above n c → length c.words ≡ clocks_of n → AreWordsIn (assigned c.words) (clocks_of n) → Same (assigned c.words 0) always →
-      MeetsAll (assigned c.words) (needs_of above n) → AllWithinLimits (assigned c.words) (needs_of above n) → PassesAll (assigned c.words) (needs_of above n) c.sizes → IsClocked o above n c
-  clocked_by c few its count are_words base met within passes =
-      let sized = node_sized (assigned c.words) above n c.sizes proper.in_order passes in
+  pub clocked_by : (c : NodeClock) (sizes : List ℕ) → c.sizes ≡ buffer_sizes n.bounds sizes → AreFewNeeds above n → AreItsClocks o above n c → length c.words ≡ clocks_of n → AreWordsIn (assigned c.words) (clocks_of n) → Same (assigned c.words 0) always →
+      MeetsAll (assigned c.words) (needs_of above n) → AllWithinLimits (assigned c.words) (needs_of above n) → PassesAll (assigned c.words) (needs_of above n) sizes → IsClocked o above n c
+  clocked_by c sizes own few its count are_words base met within passes =
+      let sized = subst (Sized (assigned c.words) n n.buffers) (sym own) (node_sized (assigned c.words) nodes above n sizes proper passes) in
       record {
         needs = few;
         its = its;
@@ -56,28 +58,28 @@ module _ (o : Options) (nodes : List PlacedNode) (above : List Signature) (n : P
         };
       }
 
-  pub clocked : (c : NodeClock) → IsWritten n → AreFewNeeds above n → AreNodeWords n c.words → MeetsAll (assigned c.words) (needs_of above n) → AllWithinLimits (assigned c.words) (needs_of above n) →
-      PassesAll (assigned c.words) (needs_of above n) c.sizes → IsClocked o above n c
-  clocked c is_written few words met within passes =
-      clocked_by c few (inl (record { written = is_written; words = words })) words.of.count (λ i l. (stored_at c.words i words.of.stored).word) words.of.handed.places.base met within passes
+  pub clocked : (c : NodeClock) (sizes : List ℕ) → c.sizes ≡ buffer_sizes n.bounds sizes → IsWritten n → AreFewNeeds above n → AreNodeWords n c.words → MeetsAll (assigned c.words) (needs_of above n) → AllWithinLimits (assigned c.words) (needs_of above n) →
+      PassesAll (assigned c.words) (needs_of above n) sizes → IsClocked o above n c
+  clocked c sizes own is_written few words met within passes =
+      clocked_by c sizes own few (inl (is_written, words)) words.of.count (λ i l. (stored_at c.words i words.of.stored).word) words.of.handed.places.base met within passes
 
 -- a written node isn't refused for not being so
 pub unshut : (o : Options) (n : PlacedNode) → IsWritten n → IsShut o n → ⊥
-unshut o n is_written shut = shut.unwritten is_written
+unshut o n is_written shut = shut.1 is_written
 
 -- a span that keeps a node from being written
 pub unwritten : (o : Options) (placed : PlacedProgram) (node : ℕ) (above : List Signature) (n : PlacedNode) (span : Span) → slice_get placed.unwritten node ≡ Some (Some span) → o.written_only ≡ true → (IsWritten n → ⊥) →
-    RefusesNode o placed node above n (NotWritten span)
-unwritten o placed node above n span at asked is = (at, record { asked = asked; unwritten = is })
+    HasNoClocks o placed node above n (Fault (NotWritten span))
+unwritten o placed node above n span at asked is = (at, (asked, is))
 
 -- a limit of the needs, of the words and of the checker
-pub needs_refused : (o : Options) (placed : PlacedProgram) (node : ℕ) (above : List Signature) (n : PlacedNode) (e : ClockError) → (IsShut o n → ⊥) → RefusesNeeds (needs_of above n) e → RefusesNode o placed node above n (clock_fault e)
-needs_refused o placed node above n (error.Limit l) shut h = (tt, inl (shut, h))
-needs_refused o placed node above n error.OutOfMemory shut h = (tt, tt)
+pub needs_refused : (o : Options) (placed : PlacedProgram) (node : ℕ) (above : List Signature) (n : PlacedNode) (e : ClockError) → (IsShut o n → ⊥) → RefusesNeeds (needs_of above n) e → HasNoClocks o placed node above n (clock_fault e)
+needs_refused o placed node above n (error.Limit l) shut h = inl (shut, h)
+needs_refused o placed node above n error.OutOfMemory shut h = tt
 
-pub words_refused : (o : Options) (placed : PlacedProgram) (node : ℕ) (above : List Signature) (n : PlacedNode) (e : ClockError) → IsWritten n → AreFewNeeds above n → RefusesWords n e → RefusesNode o placed node above n (clock_fault e)
-words_refused o placed node above n (error.Limit l) is_written few h = (tt, inr (few, inl (is_written, inl h)))
-words_refused o placed node above n error.OutOfMemory is_written few h = (tt, tt)
+pub words_refused : (o : Options) (placed : PlacedProgram) (node : ℕ) (above : List Signature) (n : PlacedNode) (e : ClockError) → IsWritten n → AreFewNeeds above n → RefusesWords n e → HasNoClocks o placed node above n (clock_fault e)
+words_refused o placed node above n (error.Limit l) is_written few h = inr (few, inl (is_written, h))
+words_refused o placed node above n error.OutOfMemory is_written few h = tt
 
 -- needs by their clocks and their list
 pub needs_are : (above : List Signature) (n : PlacedNode) (needs : Needs) → needs.clocks ≡ clocks_of n → needs.list ≡ needs_of above n → needs ≡ node_needs above n
@@ -87,20 +89,20 @@ needs_are above n needs clocks list =
 
 module _ (o : Options) (placed : PlacedProgram) (node : ℕ) (above : List Signature) (n : PlacedNode) (words : List Bits) (needs : Needs) (is_written : IsWritten n) (are_needs : needs ≡ node_needs above n)
     (few : AreFewNeeds above n) (are : AreNodeWords n words) where
-  told_refused : (e : CheckFault) → IsTold e → OrNoMemory (IsFirstRefusal (assigned words) (needs_of above n)) e → RefusesNode o placed node above n (Check needs e)
+  told_refused : (e : CheckFault) → IsTold e → OrNoMemory (IsFirstRefusal (assigned words) (needs_of above n)) e → HasNoClocks o placed node above n (Fault (Check needs e))
   told_refused e told (inl none) = absurd (subst IsTold none told)
-  told_refused e told (inr first) = (tt, (are_needs, (few, is_written, words, are, first, told)))
+  told_refused e told (inr first) = ((are_needs, few), (is_written, words, are, first), told)
 
-  pub check_refused : (e : CheckFault) → OrNoMemory (IsFirstRefusal (assigned words) (needs_of above n)) e → RefusesNode o placed node above n (check_fault needs e)
+  pub check_refused : (e : CheckFault) → OrNoMemory (IsFirstRefusal (assigned words) (needs_of above n)) e → HasNoClocks o placed node above n (check_fault needs e)
   check_refused (fault.Limit need l) (inl none) = absurd (cc none)
-  check_refused (fault.Limit need l) (inr first) = (tt, inr (few, inl (is_written, inr (words, are, need, first))))
-  check_refused fault.OutOfMemory h = (tt, tt)
+  check_refused (fault.Limit need l) (inr first) = inr (few, inr (inl (need, (is_written, words, are, first))))
+  check_refused fault.OutOfMemory h = tt
   check_refused (fault.Differs need at) h = told_refused (fault.Differs need at) tt h
   check_refused (fault.Rates need) h = told_refused (fault.Rates need) tt h
   check_refused (fault.Late need at) h = told_refused (fault.Late need at) tt h
 
 -- what is refused for one reason
-pub refused_so : {A : Type 0} (r : Result A NodeFault) (f : NodeFault) (P : NodeFault → Type 0) → IsErrAnd r (λ e. e ≡ f) → P f → IfErr r P
+pub refused_so : {A : Type 0} (r : Result A NoClocks) (f : NoClocks) (P : NoClocks → Type 0) → IsErrAnd r (λ e. e ≡ f) → P f → IfErr r P
 refused_so (Ok a) f P is h = tt
 refused_so (Err e) f P is h = subst P (sym is) h
 

@@ -12,37 +12,22 @@ use Rattle.lucy_place.specs.declared.entry.CallSite.{CallSite}
 use Rattle.lucy_place.specs.Proper.{IsProperNode, AreProper}
 use Rattle.lucy_meaning.specs.Spots.{at as at_place, node_at, main_of, callee_in, site_in}
 use Rattle.lucy_meaning.specs.Numbers.{begin_from, call_offset}
-use Rattle.lucy_meaning.specs.Sizes.{own_places, size_of}
+use Rattle.lucy_meaning.specs.Sizes.{capped, own_places, size_of}
 use Rattle.lucy_meaning.proofs.Tables.{calls_below, total_law}
 use Rattle.lucy_meaning.proofs.Closed.{get_take, place_spot}
-use Rattle.lucy_flat.specs.Extents.{Below, capped}
+use Rattle.lucy_meaning.specs.Below.{Below}
 use Rattle.lucy_flat.proofs.AssemblyLaws.{get_left, get_last}
-use Rattle.lucy_flat.proofs.ExtentLaws.{got, sum_take, take_whole, cap_add}
+use Rattle.lucy_flat.proofs.ExtentLaws.{got, sum_take, take_whole}
 use Rattle.lucy_front.specs.Names.{place_name}
 use Rattle.lucy_front.specs.Items.{path_text, name_in, IsActorName}
 use Rattle.lucy_front.specs.Ends.{end_of, AreEndsTo, AreAllEnds}
 
--- the end of its own places
-pub ends_first : (nodes : List PlacedNode) (n : PlacedNode) (ends : List ℕ) (end : ℕ) → ends ≡ end ∷ [] → end ≡ length n.places → end < 4294967296 → AreEndsTo nodes n 0 ends
-ends_first nodes n ends end is own few = record {
-  count = ap length is;
-  each = λ j l.
-      let first : 0 ≡ j = omega (arith, l) in
-      ap (λ xs. slice_index xs j) is ∙ ap (λ i. slice_index (end ∷ []) i) (sym first) ∙ (let e = own in let f = few in omega (arith, e, f)) ∙ ap (λ i. capped (end_of nodes n i)) first;
-}
-
--- an instance ends where its last part does
-pub whole_is : (nodes : List PlacedNode) (m : PlacedNode) (k : ℕ) (inner : List ℕ) → slice_get nodes k ≡ Some m → Below k m.calls → AreEndsTo nodes m (length m.calls) inner →
-    slice_index inner (length inner - 1) ≡ capped (size_of nodes k)
-whole_is nodes m k inner found below are =
-    let last : length inner - 1 ≡ length m.calls = omega (arith, are.count) in
-    let all : end_of nodes m (length m.calls) ≡ size_of nodes k =
-    ap (λ sites. length m.places + sum_by (λ (site : CallSite). size_of nodes site.node) sites) (take_whole m.calls (length m.calls) (omega arith)) ∙ sym (total_law own_places nodes k m found below) in
-    ap (slice_index inner) last ∙ are.each (length m.calls) (omega arith) ∙ ap capped all
-
 -- one part more
 end_more : (nodes : List PlacedNode) (n : PlacedNode) (i : ℕ) (site : CallSite) → slice_get n.calls i ≡ Some site → end_of nodes n (i + 1) ≡ end_of nodes n i + size_of nodes site.node
 end_more nodes n i site e = omega (arith, sum_take (λ (s : CallSite). size_of nodes s.node) n.calls i site e)
+
+cap_add : (a b : ℕ) → capped (capped a + capped b) ≡ capped (a + b)
+cap_add a b = omega arith
 
 pub ends_more : (nodes : List PlacedNode) (n : PlacedNode) (i : ℕ) (site : CallSite) (ends : List ℕ) (end next : ℕ) → AreEndsTo nodes n i ends → end ≡ slice_index ends i → slice_get n.calls i ≡ Some site →
     next ≡ capped (end + capped (size_of nodes site.node)) → AreEndsTo nodes n (i + 1) (ends ++ next ∷ [])
@@ -107,24 +92,9 @@ ends_at nodes rows upto i n row ends are low found at is =
     let there : slice_get rows i ≡ Some row = got rows i row (omega (arith, low, are.count)) ∙ ap (λ r. Some r) (sym at) in
     subst (AreEndsTo nodes n (length n.calls)) (sym is) (are.each i n row found there)
 
--- a call in a loop over those of a node: the node that it calls has ends
-pub record HasEnds (nodes : List PlacedNode) (node : ℕ) (ends : List ℕ) : Type 0 where
-  pub some : 0 < length ends
-  pub whole : slice_index ends (length ends - 1) ≡ capped (size_of nodes node)
-
+-- a call in a loop over those of a node
 pub site_at : (sites calls : List CallSite) (j : ℕ) (s : CallSite) → sites ≡ calls → j < length sites → s ≡ get_or sites j s → slice_get calls j ≡ Some s
 site_at sites calls j s same l at = ap (λ ss. slice_get ss j) (sym same) ∙ got sites j s l ∙ ap (λ r. Some r) (sym at)
-
-pub inner_ends : (nodes : List PlacedNode) (node : ℕ) (n : PlacedNode) (rows : List (List ℕ)) (j : ℕ) (s : CallSite) (k : ℕ) (row ends : List ℕ) → AreProper nodes → IsProperNode (take node nodes) n → AreAllEnds nodes node rows →
-    slice_get n.calls j ≡ Some s → k ≡ s.node → row ≡ get_or rows k row → ends ≡ row → HasEnds nodes s.node ends
-inner_ends nodes node n rows j s k row ends proper is are stands of at same =
-    let call = is.calls (suc j) s stands in
-    let m : PlacedNode = call.callee in
-    let found : slice_get nodes s.node ≡ Some m = get_take nodes node s.node m call.found in
-    let low = slice_get_within (take node nodes) s.node m call.found in
-    let t = length-take node nodes in
-    let to = ends_at nodes rows node s.node m row ends are (omega arith) found (at ∙ ap (λ i. get_or rows i row) of) same in
-    record { some = omega (arith, to.count); whole = whole_is nodes m s.node ends found (calls_below nodes s.node m (proper s.node m found)) to }
 
 pub ends_step : (nodes : List PlacedNode) (n : PlacedNode) (i : ℕ) (site : CallSite) (ends : List ℕ) (end part next : ℕ) (new : List ℕ) → AreEndsTo nodes n i ends → end ≡ slice_index ends i → slice_get n.calls i ≡ Some site →
     part ≡ capped (size_of nodes site.node) → next ≡ capped (end + part) → new ≡ ends ++ next ∷ [] → AreEndsTo nodes n (i + 1) new × (next ≡ slice_index new (i + 1))

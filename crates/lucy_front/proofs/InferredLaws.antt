@@ -23,7 +23,8 @@ use Rattle.lucy_inference.specs.Refusals.{OrNoMemory, RefusesInference}
 use Rattle.lucy_front.specs.declared.options.Options.{Options}
 use Rattle.lucy_front.specs.Inferring.{IsShut, node_needs, IsOpen, IsInferred}
 use Rattle.lucy_front.specs.Clocked.{AreFewNeeds, IsClocked}
-use Rattle.lucy_front.specs.Clocking.{inference_fault, RefusesNode}
+use Rattle.lucy_front.specs.Clocking.{inference_fault, HasNoClocks}
+use Rattle.lucy_front.specs.Sizes.{buffer_sizes}
 use Rattle.lucy_front.proofs.ClockedLaws.{clocked_by}
 
 -- needs that words pass are within the limits
@@ -40,30 +41,32 @@ module _ (o : Options) (nodes : List PlacedNode) (above : List Signature) (n : P
     meets = (rules_law w nodes above n proper ports well.words well.base).1 well;
   }
 
-  pub inferred : (c : NodeClock) → IsOpen o n → AreFewNeeds above n → IsInference (node_needs above n) o.scale o.lead c.words c.sizes → IsClocked o above n c
-  inferred c is_open few is =
+  pub inferred : (c : NodeClock) (sizes : List ℕ) → c.sizes ≡ buffer_sizes n.bounds sizes → IsOpen o n → AreFewNeeds above n →
+      IsInference (node_needs above n) o.scale o.lead c.words sizes → IsClocked o above n c
+  inferred c sizes own is_open few is =
       let words = is.inferred.are in
       let earliest = words.earliest.earliest in
       let count : length is.shape.clocks ≡ clocks_of n = is.of_needs.wide.clocks in
       let its : IsInferred o above n c = record {
         is_open = is_open;
+        sizes = sizes;
         inferred = is;
         fits = earliest.is.fits.fits;
         earliest = λ other well fits clock number l. earliest.earliest other (fits_meets is.shape other count well fits) clock number l;
       } in
-      clocked_by o nodes above n proper ports c few (inr its) words.earliest.count (λ i l. earliest.is.fits.words i (subst (λ k. i < k) (sym count) l)) earliest.is.fits.base earliest.is.meets
-      (within_limits (assigned c.words) _ c.sizes is.inferred.passes) is.inferred.passes
+      clocked_by o nodes above n proper ports c sizes own few (inr its) words.earliest.count (λ i l. earliest.is.fits.words i (subst (λ k. i < k) (sym count) l)) earliest.is.fits.base earliest.is.meets
+      (within_limits (assigned c.words) _ sizes is.inferred.passes) is.inferred.passes
 
 -- a node that may be inferred needn't be written
 pub open_unshut : (o : Options) (n : PlacedNode) → IsOpen o n → IsShut o n → ⊥
-open_unshut o n is_open shut = let a = is_open.allowed in let b = shut.asked in cc
+open_unshut o n is_open shut = let a = is_open.0 in let b = shut.0 in cc
 
 pub inference_refused : (o : Options) (placed : PlacedProgram) (node : ℕ) (above : List Signature) (n : PlacedNode) (needs : Needs) (e : Uninferred) → needs ≡ node_needs above n → IsOpen o n → AreFewNeeds above n →
-    OrNoMemory (RefusesInference (node_needs above n) o.scale o.lead) e → RefusesNode o placed node above n (inference_fault needs e)
+    OrNoMemory (RefusesInference (node_needs above n) o.scale o.lead) e → HasNoClocks o placed node above n (inference_fault needs e)
 inference_refused o placed node above n needs (uninferred.Rates walk) same is_open few (inl none) = absurd (cc none)
-inference_refused o placed node above n needs (uninferred.Rates walk) same is_open few (inr h) = (tt, (same, few, (is_open, h)))
+inference_refused o placed node above n needs (uninferred.Rates walk) same is_open few (inr h) = ((same, few), (is_open, h))
 inference_refused o placed node above n needs (uninferred.Clocks shape diffs cycle) same is_open few (inl none) = absurd (cc none)
-inference_refused o placed node above n needs (uninferred.Clocks shape diffs cycle) same is_open few (inr h) = (tt, (same, few, (is_open, h)))
+inference_refused o placed node above n needs (uninferred.Clocks shape diffs cycle) same is_open few (inr h) = ((same, few), (is_open, h))
 inference_refused o placed node above n needs (uninferred.Limit l) same is_open few (inl none) = absurd (cc none)
-inference_refused o placed node above n needs (uninferred.Limit l) same is_open few (inr h) = (tt, inr (few, inr (is_open, h)))
-inference_refused o placed node above n needs uninferred.OutOfMemory same is_open few h = (tt, tt)
+inference_refused o placed node above n needs (uninferred.Limit l) same is_open few (inr h) = inr (few, inr (inr (is_open, h)))
+inference_refused o placed node above n needs uninferred.OutOfMemory same is_open few h = tt

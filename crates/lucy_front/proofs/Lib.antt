@@ -12,6 +12,7 @@ mod OneClock
 mod OneNode
 mod OneUnclocked
 pub mod OneAnswer
+mod BoundedLaws
 pub mod OneAccepted
 mod EndLaws
 mod ItemNames

@@ -1,6 +1,6 @@
 -- The lines of what shows that no clocks are inferred, one step on.
 use Rattle.std.proofs.Common.{ℕ, zero, suc, ◌+◌, ◌<◌, ◌≡◌, List, [], ◌∷◌, ◌++◌, map, length, drop, get_or, Some, refl, ap, sym, ◌∙◌, arith, append_assoc}
-use Rattle.std.specs.Prelude.{slice_get, sum_by}
+use Rattle.std.specs.Prelude.{slice_get, sum_by, codes}
 use Rattle.std.specs.List.{range_with_len}
 use Rattle.std.proofs.lemmas.List.{drop_more, length-append}
 use Rattle.std.proofs.lemmas.List.FromFn.{length-map-range_with_len}
@@ -10,8 +10,9 @@ use Rattle.lucy_need.specs.declared.need.Need.{Need}
 use Rattle.lucy_solve.specs.declared.diffs.Diff.{Diff}
 use Rattle.lucy_shape.specs.declared.shape.ClockShape.{ClockShape}
 use Rattle.lucy_shape.specs.Fitting.{position_count, variable_count}
-use Rattle.lucy_front.specs.Needs.{clock_name}
-use Rattle.lucy_front.specs.Evidence.{of_one, named, walk_line, walk_lines, position_name, position_names, variable_names, diff_line, cycle_lines}
+use Rattle.lucy_front.specs.Names.{of_one}
+use Rattle.lucy_front.specs.Needs.{clock_name, need_text}
+use Rattle.lucy_front.specs.Evidence.{named, walk_lines, position_name, position_names, variable_names, diff_line, cycle_lines}
 use Rattle.lucy_front.specs.Refusals.{AreBelow}
 use Rattle.lucy_front.proofs.ReportLaws.{line_more}
 
@@ -37,11 +38,12 @@ below_at count (x ∷ xs) (suc i) all l = below_at count xs i all.1 (omega (arit
 
 -- one more need
 pub walk_more : (n : PlacedNode) (needs : List Need) (walk : List ℕ) (i : ℕ) (need : Need) (a b all : List ℕ) → i < length walk → slice_get needs (get_or walk i 0) ≡ Some need →
-    b ≡ a ++ walk_line n need → a ++ walk_lines n needs (drop i walk) ≡ all → b ++ walk_lines n needs (drop (i + 1) walk) ≡ all
+    b ≡ a ++ (codes "  " ++ (need_text n need ++ codes "\n")) → a ++ walk_lines n needs (drop i walk) ≡ all → b ++ walk_lines n needs (drop (i + 1) walk) ≡ all
 walk_more n needs walk i need a b all h at more before =
+    let line : Need → List ℕ = λ x. codes "  " ++ (need_text n x ++ codes "\n") in
     let rest : List ℕ = walk_lines n needs (drop (i + 1) walk) in
-    let step : walk_lines n needs (drop i walk) ≡ walk_line n need ++ rest = ap (walk_lines n needs) (drop_more walk i 0 h) ∙ ap (λ o. of_one (walk_line n) o ++ rest) at in
-    line_more a b (walk_line n need) rest all more (ap (λ u. a ++ u) (sym step) ∙ before)
+    let step : walk_lines n needs (drop i walk) ≡ line need ++ rest = ap (walk_lines n needs) (drop_more walk i 0 h) ∙ ap (λ o. of_one line o ++ rest) at in
+    line_more a b (line need) rest all more (ap (λ u. a ++ u) (sym step) ∙ before)
 
 -- one more inequality
 pub cycle_more : (names : List (List ℕ)) (diffs : List Diff) (cycle : List ℕ) (i : ℕ) (d : Diff) (a b all : List ℕ) → i < length cycle → slice_get diffs (get_or cycle i 0) ≡ Some d →

@@ -14,7 +14,7 @@ use Rattle.lucy_cause.proofs.OneAnswer.{never_both as schedule_kept, one_refusal
 use Rattle.lucy_front.specs.declared.options.Options.{Options}
 use Rattle.lucy_front.specs.declared.accepted.Accepted.{Accepted}
 use Rattle.lucy_front.specs.declared.refusal.Refusal.{Refusal}
-use Rattle.lucy_front.specs.declared.refusal.Refusal.TheVariants.{Syntax, Names, Types, NotWritten, Rates, Clocks, Check, Cause, Limit as LimitPassed, OutOfMemory}
+use Rattle.lucy_front.specs.declared.refusal.Refusal.TheVariants.{Syntax, Names, Types, Node, Cause, Limit as LimitPassed, OutOfMemory}
 use Rattle.lucy_front.specs.Accepting.{IsAccepted, RefusesClocked, Refuses}
 use Rattle.lucy_front.specs.Scheduled.{IsNetOf, RefusesNet, inputs_of, outputs_of}
 use Rattle.lucy_front.specs.OneAnswer.{AreAlike}
@@ -35,11 +35,8 @@ module _ (nodes : List PlacedNode) (clocks : List NodeClock) (proper : AreProper
       let e : cause.Cycle instant items ≡ cause.OutOfMemory = fault_kept net other s (cause.Cycle instant items) x is h.0 h.1 in cc e
   net_refused net s (Syntax e) x is h = absurd h
   net_refused net s (Names e) x is h = absurd h
-  net_refused net s (Types placed clash) x is h = absurd h
-  net_refused net s (NotWritten placed node span) x is h = absurd h
-  net_refused net s (Rates placed node needs walk) x is h = absurd h
-  net_refused net s (Clocks placed node needs shape diffs cycle) x is h = absurd h
-  net_refused net s (Check placed node needs e) x is h = absurd h
+  net_refused net s (Types placed node path) x is h = absurd h
+  net_refused net s (Node placed node fault) x is h = absurd h
   net_refused net s OutOfMemory x is h = refl
 
   -- and is refused for them in one way
@@ -60,49 +57,40 @@ module _ (nodes : List PlacedNode) (clocks : List NodeClock) (proper : AreProper
       inr (inr (same, one_fault other (cause.Cycle instant items) (cause.Cycle at way) (subst (λ n. RefusesSchedule n (cause.Cycle instant items)) same h.1) k.1))
   nets_alike (Syntax e) s h k = absurd h
   nets_alike (Names e) s h k = absurd h
-  nets_alike (Types placed clash) s h k = absurd h
-  nets_alike (NotWritten placed node span) s h k = absurd h
-  nets_alike (Rates placed node needs walk) s h k = absurd h
-  nets_alike (Clocks placed node needs shape diffs cycle) s h k = absurd h
-  nets_alike (Check placed node needs e) s h k = absurd h
+  nets_alike (Types placed node path) s h k = absurd h
+  nets_alike (Node placed node fault) s h k = absurd h
   nets_alike OutOfMemory s h k = inl refl
   nets_alike (LimitPassed l) (Syntax e) h k = absurd k
   nets_alike (LimitPassed l) (Names e) h k = absurd k
-  nets_alike (LimitPassed l) (Types placed clash) h k = absurd k
-  nets_alike (LimitPassed l) (NotWritten placed node span) h k = absurd k
-  nets_alike (LimitPassed l) (Rates placed node needs walk) h k = absurd k
-  nets_alike (LimitPassed l) (Clocks placed node needs shape diffs cycle) h k = absurd k
-  nets_alike (LimitPassed l) (Check placed node needs e) h k = absurd k
+  nets_alike (LimitPassed l) (Types placed node path) h k = absurd k
+  nets_alike (LimitPassed l) (Node placed node fault) h k = absurd k
   nets_alike (LimitPassed l) OutOfMemory h k = inr (inl refl)
   nets_alike (Cause net names instant items) (Syntax e) h k = absurd k
   nets_alike (Cause net names instant items) (Names e) h k = absurd k
-  nets_alike (Cause net names instant items) (Types placed clash) h k = absurd k
-  nets_alike (Cause net names instant items) (NotWritten placed node span) h k = absurd k
-  nets_alike (Cause net names instant items) (Rates placed node needs walk) h k = absurd k
-  nets_alike (Cause net names instant items) (Clocks placed node needs shape diffs cycle) h k = absurd k
-  nets_alike (Cause net names instant items) (Check placed node needs e) h k = absurd k
+  nets_alike (Cause net names instant items) (Types placed node path) h k = absurd k
+  nets_alike (Cause net names instant items) (Node placed node fault) h k = absurd k
   nets_alike (Cause net names instant items) OutOfMemory h k = inr (inl refl)
 
 -- what is refused for its net has one program
-moved : (ops : List Operator) (o : Options) (text : List ℕ) (nodes : List PlacedNode) (clocks : List NodeClock) (r : Refusal) (x : RefusesClocked ops o text r) → x.placed.nodes ≡ nodes → x.node_clocks ≡ clocks → RefusesNet nodes clocks r
-moved ops o text nodes clocks r x e f = subst (λ ns. RefusesNet ns clocks r) e (subst (λ cs. RefusesNet x.placed.nodes cs r) f x.refused)
+moved : (ops : List Operator) (o : Options) (text : List ℕ) (nodes : List PlacedNode) (clocks : List NodeClock) (r : Refusal) (x : RefusesClocked ops o text r) → x.0.nodes ≡ nodes → x.2 ≡ clocks → RefusesNet nodes clocks r
+moved ops o text nodes clocks r x e f = subst (λ ns. RefusesNet ns clocks r) e (subst (λ cs. RefusesNet x.0.nodes cs r) f x.4)
 
 -- no text is accepted and refused, unless memory ran out
 pub accepted_kept : (ops : List Operator) (o : Options) (text : List ℕ) (a : Accepted) (r : Refusal) → IsAccepted ops o text a → Refuses ops o text r → r ≡ OutOfMemory
 accepted_kept ops o text a r is (inl h) = never_both ops o text a.placed a.typed a.clocks.items r is.clocked h
 accepted_kept ops o text a r is (inr h) =
-    let same = one_program ops o text h.placed a.placed h.tables a.typed h.node_clocks a.clocks.items h.clocked is.clocked in
+    let same = one_program ops o text h.0 a.placed h.1 a.typed h.2 a.clocks.items h.3 is.clocked in
     net_refused a.placed.nodes a.clocks.items (text_proper ops o text a.placed is.clocked.program.program) a.net a.schedule r is.net is.schedule
     (moved ops o text a.placed.nodes a.clocks.items r h (ap (λ p. p.nodes) same.0) same.2)
 
 -- and a text is refused in one way
 pub refused_alike : (ops : List Operator) (o : Options) (text : List ℕ) (r s : Refusal) → Refuses ops o text r → Refuses ops o text s → (r ≡ OutOfMemory) ⊎ (s ≡ OutOfMemory) ⊎ AreAlike r s
 refused_alike ops o text r s (inl h) (inl k) = one_refusal ops o text r s h k
-refused_alike ops o text r s (inl h) (inr k) = inl (never_both ops o text k.placed k.tables k.node_clocks r k.clocked h)
-refused_alike ops o text r s (inr h) (inl k) = inr (inl (never_both ops o text h.placed h.tables h.node_clocks s h.clocked k))
+refused_alike ops o text r s (inl h) (inr k) = inl (never_both ops o text k.0 k.1 k.2 r k.3 h)
+refused_alike ops o text r s (inr h) (inl k) = inr (inl (never_both ops o text h.0 h.1 h.2 s h.3 k))
 refused_alike ops o text r s (inr h) (inr k) =
-    let same = one_program ops o text h.placed k.placed h.tables k.tables h.node_clocks k.node_clocks h.clocked k.clocked in
-    nets_alike k.placed.nodes k.node_clocks (text_proper ops o text k.placed k.clocked.program.program) r s (moved ops o text k.placed.nodes k.node_clocks r h (ap (λ p. p.nodes) same.0) same.2) k.refused
+    let same = one_program ops o text h.0 k.0 h.1 k.1 h.2 k.2 h.3 k.3 in
+    nets_alike k.0.nodes k.2 (text_proper ops o text k.0 k.3.program.program) r s (moved ops o text k.0.nodes k.2 r h (ap (λ p. p.nodes) same.0) same.2) k.4
 
 -- and is accepted as one thing
 pub accepted_once : (ops : List Operator) (o : Options) (text : List ℕ) (a b : Accepted) → IsAccepted ops o text a → IsAccepted ops o text b →

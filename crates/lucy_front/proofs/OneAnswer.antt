@@ -1,6 +1,7 @@
 -- A text has one answer of the phases.
 use Rattle.std.proofs.Common.{ℕ, ◌≡◌, List, [], Option, Ok, Err, Result, refl, ap, sym, ◌∙◌, subst, inl, inr}
-use Rattle.std.specs.Prelude.{◌⊎◌, IfOk, IfErr, MatchResult}
+use Rattle.std.specs.Prelude.{◌⊎◌, IfOk, IfErr, MatchResult, Vec}
+use Rattle.std.specs.Global.{Global}
 use Rattle.lucy_tree.specs.declared.span.Span.{Span}
 use Rattle.lucy_host.specs.Operators.{Operator}
 use Rattle.lucy_tree.specs.View.{ProgramTree}
@@ -18,22 +19,22 @@ use Rattle.lucy_place.specs.Placing.{IsFirst, IsPlaced}
 use Rattle.lucy_place.specs.Proper.{AreProper}
 use Rattle.lucy_place.proofs.ProperPrograms.{nodes_proper}
 use Rattle.lucy_types.specs.declared.ty.Ty.{Ty}
-use Rattle.lucy_types.specs.declared.error.TypeError.{TypeError}
-use Rattle.lucy_types.specs.declared.error.TypeError.TheVariants as types
-use Rattle.lucy_types.specs.Programs.{IsTyped}
+use Rattle.lucy_types.specs.Programs.{IsTyped, IsClash}
 use Rattle.lucy_types.proofs.ProgramLaws.{typed_unique, clash_untyped, clash_unique}
 use Rattle.lucy_clock.specs.declared.node_clock.NodeClock.{NodeClock}
 use Rattle.lucy_front.specs.declared.options.Options.{Options}
 use Rattle.lucy_front.specs.declared.fault.NodeFault.{NodeFault}
-use Rattle.lucy_front.specs.declared.fault.NodeFault.TheVariants as node_fault
+use Rattle.lucy_front.specs.declared.fault.NodeFault.TheVariants.{NotWritten, Rates, Clocks, Check}
+use Rattle.lucy_front.specs.declared.fault.NoClocks.{NoClocks}
+use Rattle.lucy_front.specs.declared.fault.NoClocks.TheVariants as why
 use Rattle.lucy_front.specs.declared.refusal.Refusal.{Refusal}
-use Rattle.lucy_front.specs.declared.refusal.Refusal.TheVariants.{Syntax, Names, Types, NotWritten, Rates, Clocks, Check, Cause, Limit as LimitPassed, OutOfMemory}
-use Rattle.lucy_front.specs.Clocked.{AreClocksOf, IsUnclocked}
-use Rattle.lucy_front.specs.Accepting.{IsPlacedText, IsTypedText, IsClockedText, TellsClash, RefusesPhases, syntax_refusal, names_refusal}
-use Rattle.lucy_front.specs.Clocking.{Refused, TellsSpan, fault_refusal}
-use Rattle.lucy_front.specs.OneAnswer.{AreOfOneNode, AreAlike, HaveOneProgram, AreNotRefused, HaveOneRefusal}
-use Rattle.lucy_front.proofs.OneNode.{AreFaultsAlike}
-use Rattle.lucy_front.proofs.OneUnclocked.{clocks_one, clocked_all, unclocked_one}
+use Rattle.lucy_front.specs.declared.refusal.Refusal.TheVariants.{Syntax, Names, Types, Node, Cause, Limit as LimitPassed, OutOfMemory}
+use Rattle.lucy_front.specs.Clocked.{AreClocksOf}
+use Rattle.lucy_front.specs.Accepting.{IsPlacedText, IsTypedText, IsClockedText, RefusesPhases, syntax_refusal, names_refusal}
+use Rattle.lucy_front.specs.Clocking.{refusal_for}
+use Rattle.lucy_front.specs.OneAnswer.{AreFaultsAlike, AreAlike, HaveOneProgram, AreNotRefused, HaveOneRefusal}
+use Rattle.lucy_front.proofs.OneNode.{AreCausesAlike}
+use Rattle.lucy_front.proofs.OneUnclocked.{StandsUnclocked, clocks_one, clocked_all, unclocked_one}
 
 -- a tree has one list of places
 placed_one : (ops : List Operator) (p : ProgramTree) (v w : PlacedProgram) → IsPlaced ops p v → IsPlaced ops p w → v ≡ w
@@ -61,34 +62,36 @@ record OfNames (ops : List Operator) (text : List ℕ) (r : Refusal) : Type 0 wh
 
 record OfTypes (ops : List Operator) (text : List ℕ) (r : Refusal) : Type 0 where
   placed : PlacedProgram
-  clash : TypeError
+  node : ℕ
+  path : Vec ℕ Global
   program : IsPlacedText ops text placed
-  told : TellsClash placed.nodes clash
-  is : r ≡ Types placed clash
+  told : IsClash placed.nodes node path.items
+  is : r ≡ Types placed node path
 
 record OfNode (ops : List Operator) (o : Options) (text : List ℕ) (r : Refusal) : Type 0 where
   placed : PlacedProgram
   tables : List (List Ty)
   node : ℕ
-  fault : NodeFault
+  reason : NoClocks
   program : IsTypedText ops text placed tables
-  told : TellsSpan placed node fault
-  unclocked : IsUnclocked o placed.nodes node (Refused o fault)
-  is : r ≡ fault_refusal placed node fault
+  unclocked : StandsUnclocked o placed placed.nodes node reason
+  is : r ≡ refusal_for placed node reason
 
 abbrev OfPhase : List Operator → Options → List ℕ → Refusal → Type 0
 OfPhase ops o text r = OfSyntax text r ⊎ OfNames ops text r ⊎ OfTypes ops text r ⊎ OfNode ops o text r
 
--- a refusal is like itself
+-- a fault is like itself, and so is a refusal
+fault_self : (f : NodeFault) → AreFaultsAlike f f
+fault_self (NotWritten span) = refl
+fault_self (Rates needs walk) = (refl, refl)
+fault_self (Clocks needs shape diffs cycle) = (refl, refl, refl)
+fault_self (Check needs e) = refl
+
 alike_self : (r : Refusal) → AreAlike r r
-alike_self (Types placed (types.Clash node path)) = (refl, refl)
-alike_self (Types placed types.OutOfMemory) = (refl, refl)
+alike_self (Types placed node path) = (refl, refl)
 alike_self (Syntax e) = refl
 alike_self (Names e) = refl
-alike_self (NotWritten placed node span) = refl
-alike_self (Rates placed node needs walk) = (refl, refl, refl, refl)
-alike_self (Clocks placed node needs shape diffs cycle) = (refl, refl, refl, refl, refl)
-alike_self (Check placed node needs e) = refl
+alike_self (Node placed node fault) = (refl, refl, fault_self fault)
 alike_self (LimitPassed l) = refl
 alike_self (Cause net texts instant items) = (refl, refl)
 alike_self OutOfMemory = refl
@@ -96,27 +99,16 @@ alike_self OutOfMemory = refl
 pub equal_alike : (r s : Refusal) → r ≡ s → AreAlike r s
 equal_alike r s e = subst (AreAlike r) e (alike_self r)
 
--- faults of a node that are alike are refusals that are
-faults_equal : (placed : PlacedProgram) (node : ℕ) (f g : NodeFault) → f ≡ g → AreAlike (fault_refusal placed node f) (fault_refusal placed node g)
-faults_equal placed node f g e = equal_alike (fault_refusal placed node f) (fault_refusal placed node g) (ap (fault_refusal placed node) e)
+-- reasons that are alike are refusals that are
+reasons_equal : (placed : PlacedProgram) (node : ℕ) (f g : NoClocks) → f ≡ g → AreAlike (refusal_for placed node f) (refusal_for placed node g)
+reasons_equal placed node f g e = equal_alike (refusal_for placed node f) (refusal_for placed node g) (ap (refusal_for placed node) e)
 
-faults_alike : (placed : PlacedProgram) (node : ℕ) (f g : NodeFault) → AreFaultsAlike f g → AreAlike (fault_refusal placed node f) (fault_refusal placed node g)
-faults_alike placed node (node_fault.Rates needs walk) (node_fault.Rates those way) h = (refl, refl, h.0, h.1)
-faults_alike placed node (node_fault.Clocks needs shape diffs cycle) (node_fault.Clocks those like these round) h = (refl, refl, h.0, h.1, h.2)
-faults_alike placed node (node_fault.NotWritten span) g h = faults_equal placed node (node_fault.NotWritten span) g h
-faults_alike placed node (node_fault.Check needs e) g h = faults_equal placed node (node_fault.Check needs e) g h
-faults_alike placed node (node_fault.Limit l) g h = faults_equal placed node (node_fault.Limit l) g h
-faults_alike placed node node_fault.OutOfMemory g h = faults_equal placed node node_fault.OutOfMemory g h
-faults_alike placed node (node_fault.Rates needs walk) (node_fault.NotWritten span) h = absurd (cc h)
-faults_alike placed node (node_fault.Rates needs walk) (node_fault.Clocks those shape diffs cycle) h = absurd (cc h)
-faults_alike placed node (node_fault.Rates needs walk) (node_fault.Check those e) h = absurd (cc h)
-faults_alike placed node (node_fault.Rates needs walk) (node_fault.Limit l) h = absurd (cc h)
-faults_alike placed node (node_fault.Rates needs walk) node_fault.OutOfMemory h = absurd (cc h)
-faults_alike placed node (node_fault.Clocks needs shape diffs cycle) (node_fault.NotWritten span) h = absurd (cc h)
-faults_alike placed node (node_fault.Clocks needs shape diffs cycle) (node_fault.Rates those walk) h = absurd (cc h)
-faults_alike placed node (node_fault.Clocks needs shape diffs cycle) (node_fault.Check those e) h = absurd (cc h)
-faults_alike placed node (node_fault.Clocks needs shape diffs cycle) (node_fault.Limit l) h = absurd (cc h)
-faults_alike placed node (node_fault.Clocks needs shape diffs cycle) node_fault.OutOfMemory h = absurd (cc h)
+reasons_alike : (placed : PlacedProgram) (node : ℕ) (f g : NoClocks) → AreCausesAlike f g → AreAlike (refusal_for placed node f) (refusal_for placed node g)
+reasons_alike placed node (why.Fault f) (why.Fault g) h = (refl, refl, h)
+reasons_alike placed node (why.Fault f) (why.Limit l) h = absurd (cc h)
+reasons_alike placed node (why.Fault f) why.OutOfMemory h = absurd (cc h)
+reasons_alike placed node (why.Limit l) g h = reasons_equal placed node (why.Limit l) g h
+reasons_alike placed node why.OutOfMemory g h = reasons_equal placed node why.OutOfMemory g h
 
 module _ (ops : List Operator) (o : Options) (text : List ℕ) where
   of_syntax : (e : SyntaxError) → IsRefused text e → OfPhase ops o text (syntax_refusal e)
@@ -125,9 +117,9 @@ module _ (ops : List Operator) (o : Options) (text : List ℕ) where
   of_names : (p : ProgramTree) (e : NameError) → HasTree text p → IsFirst (faults ops p) e → OfPhase ops o text (names_refusal e)
   of_names p e read first = inr (inl (record { tree = p; error = e; read = read; first = first; is = refl }))
 
-  of_node : (placed : PlacedProgram) (tables : List (List Ty)) (node : ℕ) (fault : NodeFault) → IsTypedText ops text placed tables → TellsSpan placed node fault → IsUnclocked o placed.nodes node (Refused o fault) →
-      OfPhase ops o text (fault_refusal placed node fault)
-  of_node placed tables node fault program told unclocked = inr (inr (inr (record { placed = placed; tables = tables; node = node; fault = fault; program = program; told = told; unclocked = unclocked; is = refl })))
+  of_node : (placed : PlacedProgram) (tables : List (List Ty)) (node : ℕ) (reason : NoClocks) → IsTypedText ops text placed tables → StandsUnclocked o placed placed.nodes node reason →
+      OfPhase ops o text (refusal_for placed node reason)
+  of_node placed tables node reason program unclocked = inr (inr (inr (record { placed = placed; tables = tables; node = node; reason = reason; program = program; unclocked = unclocked; is = refl })))
 
   -- each refusal but want of memory is one of a phase
   phase : (r : Refusal) → RefusesPhases ops o text r → (r ≡ OutOfMemory → ⊥) → OfPhase ops o text r
@@ -143,14 +135,11 @@ module _ (ops : List Operator) (o : Options) (text : List ℕ) where
   phase (Names (names.LaterNode span)) h some = of_names h.0 (names.LaterNode span) h.1 h.2
   phase (Names (names.TooMany l)) h some = absurd h.3
   phase (Names names.OutOfMemory) h some = absurd h.3
-  phase (Types placed clash) h some = inr (inr (inl (record { placed = placed; clash = clash; program = h.0; told = h.1; is = refl })))
-  phase (NotWritten placed node span) h some = of_node placed h.1.0 node (node_fault.NotWritten span) h.1.1 h.0 h.1.2
-  phase (Rates placed node needs walk) h some = of_node placed h.0 node (node_fault.Rates needs walk) h.1 tt h.2
-  phase (Clocks placed node needs shape diffs cycle) h some = of_node placed h.0 node (node_fault.Clocks needs shape diffs cycle) h.1 tt h.2
-  phase (Check placed node needs e) h some = of_node placed h.0 node (node_fault.Check needs e) h.1 tt h.2
+  phase (Types placed node path) h some = inr (inr (inl (record { placed = placed; node = node; path = path; program = h.0; told = h.1; is = refl })))
+  phase (Node placed node fault) h some = of_node placed h.0 node (why.Fault fault) h.1 h.2
   phase (LimitPassed l) (inl h) some = of_syntax (syntax.TooLarge l) h
   phase (LimitPassed l) (inr (inl h)) some = of_names h.0 (names.TooMany l) h.1 h.2
-  phase (LimitPassed l) (inr (inr h)) some = of_node h.0 h.2.0 h.1 (node_fault.Limit l) h.2.1 tt h.2.2
+  phase (LimitPassed l) (inr (inr h)) some = of_node h.0 h.1 h.3 (why.Limit l) h.2 h.4
   phase (Cause net texts instant items) h some = absurd h
   phase OutOfMemory h some = absurd (some refl)
 
@@ -172,18 +161,14 @@ module _ (ops : List Operator) (o : Options) (text : List ℕ) where
       cc
 
   -- nor one that has types
-  clash_none : (nodes : List PlacedNode) (tables : List (List Ty)) (clash : TypeError) → IsTyped nodes tables → TellsClash nodes clash → ⊥
-  clash_none nodes tables (types.Clash node path) typed told = clash_untyped nodes tables node path.items told typed
-  clash_none nodes tables types.OutOfMemory typed told = told
-
   typed_kept : (v : PlacedProgram) (tables : List (List Ty)) (r : Refusal) → IsTypedText ops text v tables → OfTypes ops text r → ⊥
   typed_kept v tables r x a =
       let same : a.placed ≡ v = text_one a.placed v a.program x.program in
-      clash_none v.nodes tables a.clash x.typed (subst (λ w. TellsClash w.nodes a.clash) same a.told)
+      clash_untyped v.nodes tables a.node a.path.items (subst (λ w. IsClash w.nodes a.node a.path.items) same a.told) x.typed
 
   -- a node is refused for another cause than memory, where the text is
-  node_told : (r : Refusal) → (r ≡ OutOfMemory → ⊥) → (a : OfNode ops o text r) → a.fault ≡ node_fault.OutOfMemory → ⊥
-  node_told r some a e = some (a.is ∙ ap (fault_refusal a.placed a.node) e)
+  node_told : (r : Refusal) → (r ≡ OutOfMemory → ⊥) → (a : OfNode ops o text r) → a.reason ≡ why.OutOfMemory → ⊥
+  node_told r some a e = some (a.is ∙ ap (refusal_for a.placed a.node) e)
 
   -- no phase refuses a text that has clocks
   clocked_kept : (v : PlacedProgram) (tables : List (List Ty)) (clocks : List NodeClock) (r : Refusal) → IsClockedText ops o text v tables clocks → OfPhase ops o text r → (r ≡ OutOfMemory → ⊥) → ⊥
@@ -192,28 +177,23 @@ module _ (ops : List Operator) (o : Options) (text : List ℕ) where
   clocked_kept v tables clocks r x (inr (inr (inl a))) some = typed_kept v tables r x.program a
   clocked_kept v tables clocks r x (inr (inr (inr a))) some =
       let same : a.placed ≡ v = text_one a.placed v a.program.program x.program.program in
-      clocked_all v.nodes clocks a.node a.fault (text_proper v x.program.program) (node_told r some a) x.clocks (subst (λ w. IsUnclocked o w.nodes a.node (Refused o a.fault)) same a.unclocked)
-
-  -- clashes are of one node
-  clash_one : (nodes : List PlacedNode) (clash way : TypeError) → TellsClash nodes clash → TellsClash nodes way → AreOfOneNode clash way
-  clash_one nodes (types.Clash i path) (types.Clash j other) h k = clash_unique nodes i j path.items other.items h k
-  clash_one nodes types.OutOfMemory way h k = absurd h
-  clash_one nodes (types.Clash i path) types.OutOfMemory h k = absurd k
+      clocked_all v v.nodes clocks a.node a.reason (text_proper v x.program.program) (node_told r some a) x.clocks (subst (λ w. StandsUnclocked o w w.nodes a.node a.reason) same a.unclocked)
 
   -- refusals of one phase are alike
   types_alike : (r s : Refusal) → OfTypes ops text r → OfTypes ops text s → AreAlike r s
   types_alike r s a b =
       let same : a.placed ≡ b.placed = text_one a.placed b.placed a.program b.program in
-      let one : AreAlike (Types a.placed a.clash) (Types b.placed b.clash) = (same, clash_one b.placed.nodes a.clash b.clash (subst (λ w. TellsClash w.nodes a.clash) same a.told) b.told) in
-      subst (λ x. AreAlike x s) (sym a.is) (subst (AreAlike (Types a.placed a.clash)) (sym b.is) one)
+      let moved = subst (λ w. IsClash w.nodes a.node a.path.items) same a.told in
+      let one : AreAlike (Types a.placed a.node a.path) (Types b.placed b.node b.path) = (same, clash_unique b.placed.nodes a.node b.node a.path.items b.path.items moved b.told) in
+      subst (λ x. AreAlike x s) (sym a.is) (subst (AreAlike (Types a.placed a.node a.path)) (sym b.is) one)
 
   nodes_alike : (r s : Refusal) → (r ≡ OutOfMemory → ⊥) → (s ≡ OutOfMemory → ⊥) → OfNode ops o text r → OfNode ops o text s → AreAlike r s
   nodes_alike r s some other a b =
       let same : a.placed ≡ b.placed = text_one a.placed b.placed a.program.program b.program.program in
-      let one = unclocked_one b.placed a.node b.node a.fault b.fault (text_proper b.placed b.program.program) (node_told r some a) (node_told s other b)
-      (subst (λ w. TellsSpan w a.node a.fault) same a.told) b.told (subst (λ w. IsUnclocked o w.nodes a.node (Refused o a.fault)) same a.unclocked) b.unclocked in
-      let here : r ≡ fault_refusal b.placed b.node a.fault = a.is ∙ ap (λ w. fault_refusal w a.node a.fault) same ∙ ap (λ k. fault_refusal b.placed k a.fault) one.0 in
-      subst (λ x. AreAlike x s) (sym here) (subst (AreAlike (fault_refusal b.placed b.node a.fault)) (sym b.is) (faults_alike b.placed b.node a.fault b.fault one.1))
+      let one = unclocked_one b.placed (text_proper b.placed b.program.program) a.node b.node a.reason b.reason (node_told r some a) (node_told s other b)
+      (subst (λ w. StandsUnclocked o w w.nodes a.node a.reason) same a.unclocked) b.unclocked in
+      let here : r ≡ refusal_for b.placed b.node a.reason = a.is ∙ ap (λ w. refusal_for w a.node a.reason) same ∙ ap (λ k. refusal_for b.placed k a.reason) one.0 in
+      subst (λ x. AreAlike x s) (sym here) (subst (AreAlike (refusal_for b.placed b.node a.reason)) (sym b.is) (reasons_alike b.placed b.node a.reason b.reason one.1))
 
   names_equal : (r s : Refusal) → OfNames ops text r → OfNames ops text s → r ≡ s
   names_equal r s a b =
@@ -222,13 +202,10 @@ module _ (ops : List Operator) (o : Options) (text : List ℕ) where
 
 -- a refusal tells of memory or not
 pub of_memory : (r : Refusal) → (r ≡ OutOfMemory) ⊎ (r ≡ OutOfMemory → ⊥)
-of_memory (Types placed clash) = inr (λ e. cc e)
+of_memory (Types placed node path) = inr (λ e. cc e)
 of_memory (Syntax f) = inr (λ e. cc e)
 of_memory (Names f) = inr (λ e. cc e)
-of_memory (NotWritten placed node span) = inr (λ e. cc e)
-of_memory (Rates placed node needs walk) = inr (λ e. cc e)
-of_memory (Clocks placed node needs shape diffs cycle) = inr (λ e. cc e)
-of_memory (Check placed node needs f) = inr (λ e. cc e)
+of_memory (Node placed node fault) = inr (λ e. cc e)
 of_memory (LimitPassed l) = inr (λ e. cc e)
 of_memory (Cause net texts instant items) = inr (λ e. cc e)
 of_memory OutOfMemory = inl refl

@@ -71,10 +71,10 @@ module _ (nodes : List PlacedNode) (n : PlacedNode) (proper : IsProperNode nodes
     where
       by_kind : AreItsClocks o above n c → AreItsClocks o above n d → c ≡ d
       by_kind (inl h) (inl k) =
-          let words : c.words ≡ d.words = words_one h.written c.words d.words h.words.of k.words.of in
+          let words : c.words ≡ d.words = words_one h.0 c.words d.words h.1.of k.1.of in
           same_clock c d words (sizes_one c d words x.sizes y.sizes)
-      by_kind (inl h) (inr k) = absurd (k.is_open.unwritten h.written)
-      by_kind (inr h) (inl k) = absurd (h.is_open.unwritten k.written)
+      by_kind (inl h) (inr k) = absurd (k.is_open.1 h.0)
+      by_kind (inr h) (inl k) = absurd (h.is_open.1 k.0)
       by_kind (inr h) (inr k) =
-          let one = inference_one (node_needs above n) o.scale o.lead c.words d.words c.sizes d.sizes h.inferred k.inferred in
-          same_clock c d one.0 one.1
+          let one = inference_one (node_needs above n) o.scale o.lead c.words d.words h.sizes k.sizes h.inferred k.inferred in
+          same_clock c d one.0 (sizes_one c d one.0 x.sizes y.sizes)

@@ -9,15 +9,15 @@ use Rattle.lucy_place.specs.Proper.{AreProper}
 use Rattle.lucy_types.proofs.ListLaws.{get_there, get_take, taken}
 use Rattle.lucy_clock.specs.declared.signature.Signature.{Signature}
 use Rattle.lucy_clock.specs.declared.node_clock.NodeClock.{NodeClock}
-use Rattle.lucy_front.specs.declared.fault.NodeFault.{NodeFault}
-use Rattle.lucy_front.specs.declared.fault.NodeFault.TheVariants.{OutOfMemory}
+use Rattle.lucy_front.specs.declared.fault.NoClocks.{NoClocks}
+use Rattle.lucy_front.specs.declared.fault.NoClocks.TheVariants.{OutOfMemory}
 use Rattle.lucy_clock.specs.NodeClocks.{signatures}
 use Rattle.lucy_front.specs.declared.options.Options.{Options}
 use Rattle.lucy_front.specs.Clocked.{IsClocked, AreClocksOf, IsUnclocked}
-use Rattle.lucy_front.specs.Clocking.{Refused, TellsSpan}
+use Rattle.lucy_front.specs.Clocking.{HasNoClocks}
 use Rattle.lucy_front.proofs.MoreClocks.{signatures_are, proper_take}
 use Rattle.lucy_front.proofs.OneClock.{clock_one}
-use Rattle.lucy_front.proofs.OneNode.{AreFaultsAlike, refused_one, clocked_kept}
+use Rattle.lucy_front.proofs.OneNode.{AreCausesAlike, refused_one, clocked_kept}
 
 -- the clocks of the nodes above are the clocks of those
 clocked_above : {o : Options} (nodes : List PlacedNode) (clocks : List NodeClock) (m : ℕ) → m ≤ length nodes → AreClocksOf o nodes clocks → AreClocksOf o (take m nodes) (take m clocks)
@@ -51,16 +51,21 @@ clocks_one nodes xs ys proper x y =
     let yl : length ys ≡ length nodes = y.all in
     sym (take_all (length nodes) xs (omega arith)) ∙ front_one nodes xs ys proper x y (length nodes) (omega arith) ∙ take_all (length nodes) ys (omega arith)
 
+-- a node has no clocks, for this reason
+abbrev pub StandsUnclocked : Options → PlacedProgram → (nodes : List PlacedNode) (node : ℕ) → NoClocks → Type 0
+StandsUnclocked o placed nodes node f = IsUnclocked o nodes node (λ above n. HasNoClocks o placed node above n f)
+
 -- no node is refused where all have clocks
-pub clocked_all : {o : Options} (nodes : List PlacedNode) (clocks : List NodeClock) (node : ℕ) (f : NodeFault) → AreProper nodes → (f ≡ OutOfMemory → ⊥) → AreClocksOf o nodes clocks → IsUnclocked o nodes node (Refused o f) → ⊥
-clocked_all {o = o} nodes clocks node f proper some are u =
+pub clocked_all : {o : Options} (placed : PlacedProgram) (nodes : List PlacedNode) (clocks : List NodeClock) (node : ℕ) (f : NoClocks) → AreProper nodes → (f ≡ OutOfMemory → ⊥) → AreClocksOf o nodes clocks →
+    StandsUnclocked o placed nodes node f → ⊥
+clocked_all {o = o} placed nodes clocks node f proper some are u =
     let l : node < length nodes = slice_get_within nodes node u.n u.stands in
     let count : length clocks ≡ length nodes = are.all in
     let c = get_there clocks node (omega arith) in
     let front : AreProper (take node nodes) = proper_take nodes node proper in
     let e : take node clocks ≡ u.clocks = clocks_one (take node nodes) (take node clocks) u.clocks front (clocked_above nodes clocks node (omega arith) are) u.above in
     let clocked = subst (λ cs. IsClocked o (signatures (take node nodes) cs) u.n c.0) e (are.each node u.n c.0 u.stands c.1) in
-    clocked_kept (take node nodes) (signatures (take node nodes) u.clocks) u.n (proper node u.n u.stands) (signatures_are (take node nodes) u.clocks front u.above) _ f c.0 some u.refused clocked
+    clocked_kept (take node nodes) (signatures (take node nodes) u.clocks) u.n (proper node u.n u.stands) (signatures_are (take node nodes) u.clocks front u.above) _ placed node f c.0 some u.refused clocked
 
 -- a node that is refused is so among the first nodes
 unclocked_above : {o : Options} (nodes : List PlacedNode) (node m : ℕ) (P : List Signature → PlacedNode → Type 0) → node < m → IsUnclocked o nodes node P → IsUnclocked o (take m nodes) node P
@@ -72,30 +77,31 @@ unclocked_above {o = o} nodes node m P l u = record {
   refused = subst (λ ns. P (signatures ns u.clocks) u.n) (sym (take-take node m nodes (omega arith))) u.refused;
 }
 
--- one node is refused
-node_one : {o : Options} (nodes : List PlacedNode) (i j : ℕ) (f g : NodeFault) → AreProper nodes → (f ≡ OutOfMemory → ⊥) → (g ≡ OutOfMemory → ⊥) → IsUnclocked o nodes i (Refused o f) → IsUnclocked o nodes j (Refused o g) → i ≡ j
-node_one {o = o} nodes i j f g proper some other u v =
-    elim (cases_lt i j) [
-      | inl h ↦ absurd (clocked_all (take j nodes) v.clocks i f (proper_take nodes j proper) some v.above (unclocked_above nodes i j (Refused o f) h u))
-      | inr h ↦ elim (cases_lt j i) [
-        | inl k ↦ absurd (clocked_all (take i nodes) u.clocks j g (proper_take nodes i proper) other u.above (unclocked_above nodes j i (Refused o g) k v))
-        | inr k ↦ omega arith
+module _ {o : Options} (placed : PlacedProgram) (proper : AreProper placed.nodes) where
+  -- a node that has clocks has none for no reason
+  above_kept : (i j : ℕ) (f : NoClocks) → (f ≡ OutOfMemory → ⊥) → i < j → (clocks : List NodeClock) → AreClocksOf o (take j placed.nodes) clocks → StandsUnclocked o placed placed.nodes i f → ⊥
+  above_kept i j f some l clocks are u =
+      clocked_all placed (take j placed.nodes) clocks i f (proper_take placed.nodes j proper) some are (unclocked_above placed.nodes i j (λ above n. HasNoClocks o placed i above n f) l u)
+
+  -- one node is refused
+  node_one : (i j : ℕ) (f g : NoClocks) → (f ≡ OutOfMemory → ⊥) → (g ≡ OutOfMemory → ⊥) → StandsUnclocked o placed placed.nodes i f → StandsUnclocked o placed placed.nodes j g → i ≡ j
+  node_one i j f g some other u v =
+      elim (cases_lt i j) [
+        | inl h ↦ absurd (above_kept i j f some h v.clocks v.above u)
+        | inr h ↦ elim (cases_lt j i) [ inl k ↦ absurd (above_kept j i g other k u.clocks u.above v) | inr k ↦ omega arith ]
       ]
-    ]
 
-here_one : {o : Options} (placed : PlacedProgram) (node : ℕ) (f g : NodeFault) → AreProper placed.nodes → (f ≡ OutOfMemory → ⊥) → (g ≡ OutOfMemory → ⊥) → TellsSpan placed node f → TellsSpan placed node g →
-    IsUnclocked o placed.nodes node (Refused o f) → IsUnclocked o placed.nodes node (Refused o g) → AreFaultsAlike f g
-here_one {o = o} placed node f g proper some other told tells u v =
-    let front : AreProper (take node placed.nodes) = proper_take placed.nodes node proper in
-    let clocks : u.clocks ≡ v.clocks = clocks_one (take node placed.nodes) u.clocks v.clocks front u.above v.above in
-    let n : u.n ≡ v.n = same_Some u.n v.n (sym u.stands ∙ v.stands) in
-    let moved = subst (λ m. Refused o f (signatures (take node placed.nodes) v.clocks) m) n (subst (λ cs. Refused o f (signatures (take node placed.nodes) cs) u.n) clocks u.refused) in
-    refused_one (take node placed.nodes) (signatures (take node placed.nodes) v.clocks) v.n (proper node v.n v.stands) (signatures_are (take node placed.nodes) v.clocks front v.above) _
-    placed node f g some other told tells moved v.refused
+  here_one : (node : ℕ) (f g : NoClocks) → (f ≡ OutOfMemory → ⊥) → (g ≡ OutOfMemory → ⊥) → StandsUnclocked o placed placed.nodes node f → StandsUnclocked o placed placed.nodes node g → AreCausesAlike f g
+  here_one node f g some other u v =
+      let front : AreProper (take node placed.nodes) = proper_take placed.nodes node proper in
+      let clocks : u.clocks ≡ v.clocks = clocks_one (take node placed.nodes) u.clocks v.clocks front u.above v.above in
+      let n : u.n ≡ v.n = same_Some u.n v.n (sym u.stands ∙ v.stands) in
+      let moved = subst (λ m. HasNoClocks o placed node (signatures (take node placed.nodes) v.clocks) m f) n (subst (λ cs. HasNoClocks o placed node (signatures (take node placed.nodes) cs) u.n f) clocks u.refused) in
+      refused_one (take node placed.nodes) (signatures (take node placed.nodes) v.clocks) v.n (proper node v.n v.stands) (signatures_are (take node placed.nodes) v.clocks front v.above) _
+      placed node f g some other moved v.refused
 
--- in one way
-pub unclocked_one : {o : Options} (placed : PlacedProgram) (i j : ℕ) (f g : NodeFault) → AreProper placed.nodes → (f ≡ OutOfMemory → ⊥) → (g ≡ OutOfMemory → ⊥) → TellsSpan placed i f → TellsSpan placed j g →
-    IsUnclocked o placed.nodes i (Refused o f) → IsUnclocked o placed.nodes j (Refused o g) → (i ≡ j) × AreFaultsAlike f g
-unclocked_one {o = o} placed i j f g proper some other told tells u v =
-    let same : i ≡ j = node_one placed.nodes i j f g proper some other u v in
-    (same, here_one placed j f g proper some other (subst (λ k. TellsSpan placed k f) same told) tells (subst (λ k. IsUnclocked o placed.nodes k (Refused o f)) same u) v)
+  -- in one way
+  pub unclocked_one : (i j : ℕ) (f g : NoClocks) → (f ≡ OutOfMemory → ⊥) → (g ≡ OutOfMemory → ⊥) → StandsUnclocked o placed placed.nodes i f → StandsUnclocked o placed placed.nodes j g → (i ≡ j) × AreCausesAlike f g
+  unclocked_one i j f g some other u v =
+      let same : i ≡ j = node_one i j f g some other u v in
+      (same, here_one j f g some other (subst (λ k. StandsUnclocked o placed placed.nodes k f) same u) v)

@@ -1,27 +1,20 @@
 -- The inputs and outputs of main, place by place.
-use Rattle.std.proofs.Common.{ℕ, zero, suc, ◌+◌, ◌-◌, ◌<◌, ◌≤◌, ◌≡◌, List, map, length, Option, Some, None, ap, sym, ◌∙◌, arith}
-use Rattle.std.specs.Prelude.{slice_get, option_map}
+use Rattle.std.proofs.Common.{ℕ, zero, suc, ◌+◌, ◌-◌, ◌<◌, ◌≤◌, ◌≡◌, List, map, length, Some, ap, sym, ◌∙◌, arith}
+use Rattle.std.specs.Prelude.{slice_get}
 use Rattle.std.specs.List.{range_with_len}
-use Rattle.std.proofs.lemmas.Option.{same_Some}
-use Rattle.lucy_host.specs.declared.data_type.DataType.{DataType}
 use Rattle.lucy_place.specs.declared.placed.PlacedNode.{PlacedNode}
 use Rattle.lucy_place.specs.Proper.{ArePlaces}
 use Rattle.lucy_types.specs.declared.ty.Ty.{Ty}
-use Rattle.lucy_types.specs.Tables.{table_at, held}
+use Rattle.lucy_types.specs.Tables.{table_at}
 use Rattle.lucy_types.specs.Programs.{IsTyped}
 use Rattle.lucy_clock.specs.declared.node_clock.NodeClock.{NodeClock}
 use Rattle.lucy_meaning.specs.Spots.{main_of}
 use Rattle.lucy_flat.specs.Instances.{words_in}
 use Rattle.lucy_front.specs.declared.options.Options.{Options}
 use Rattle.lucy_front.specs.Clocked.{AreClocksOf}
-use Rattle.lucy_front.specs.Names.{param_places}
-use Rattle.lucy_front.specs.Scheduled.{held_if, input_of, output_of, inputs_in, outputs_in, inputs_of, outputs_of}
+use Rattle.lucy_front.specs.Names.{of_one, param_places}
+use Rattle.lucy_front.specs.Scheduled.{input_of, output_of, inputs_of, outputs_of}
 use Rattle.lucy_front.proofs.ReportLaws.{table_found}
-
--- what is told of a place that has a type
-pub holds_is : (o : Option Ty) (holds : DataType) → option_map held o ≡ Some holds → holds ≡ held_if o
-holds_is None holds e = absurd (cc e)
-holds_is (Some t) holds e = sym (same_Some (held t) holds e)
 
 -- the parameters are places of their node
 params_from : (n : PlacedNode) (first count : ℕ) → 1 ≤ first → first + count ≤ length n.places + 1 → ArePlaces n (range_with_len first count)
@@ -53,7 +46,7 @@ module _ (nodes : List PlacedNode) (tables : List (List Ty)) (last : ℕ) (main 
 
   pub inputs_are : (places : List ℕ) → places ≡ param_places main → map (input_of main (table_at tables (length tables - 1))) places ≡ inputs_of nodes tables
   inputs_are places is =
-      ap (λ t. map (input_of main t) places) table_is ∙ ap (map (input_of main (table_at tables (length nodes - 1)))) is ∙ ap (λ o. inputs_in o (table_at tables (length nodes - 1))) (sym main_is)
+      ap (λ t. map (input_of main t) places) table_is ∙ ap (map (input_of main (table_at tables (length nodes - 1)))) is ∙ ap (of_one (λ n. map (input_of n (table_at tables (length nodes - 1))) (param_places n))) (sym main_is)
 
   pub outputs_are : (clocks : List NodeClock) (clock : NodeClock) (places : List ℕ) → slice_get clocks last ≡ Some clock → places ≡ main.results →
       map (output_of main (table_at tables (length tables - 1)) clock.words) places ≡ outputs_of nodes tables clocks
@@ -61,7 +54,7 @@ module _ (nodes : List PlacedNode) (tables : List (List Ty)) (last : ℕ) (main 
       let words : words_in (slice_get clocks (length nodes - 1)) ≡ clock.words = ap (λ i. words_in (slice_get clocks i)) (sym last_is) ∙ ap words_in at in
       ap (λ t. map (output_of main t clock.words) places) table_is ∙ ap (map (output_of main (table_at tables (length nodes - 1)) clock.words)) is
       ∙ ap (λ w. map (output_of main (table_at tables (length nodes - 1)) w) main.results) (sym words)
-      ∙ ap (λ o. outputs_in o (table_at tables (length nodes - 1)) (words_in (slice_get clocks (length nodes - 1)))) (sym main_is)
+      ∙ ap (of_one (λ n. map (output_of n (table_at tables (length nodes - 1)) (words_in (slice_get clocks (length nodes - 1)))) n.results)) (sym main_is)
 
 -- each place of a clocked node has a word
 pub words_past : {o : Options} (nodes : List PlacedNode) (clocks : List NodeClock) (i : ℕ) (n : PlacedNode) (clock : NodeClock) → AreClocksOf o nodes clocks → slice_get nodes i ≡ Some n → slice_get clocks i ≡ Some clock →

@@ -1,6 +1,6 @@
 -- The texts of what shows that no clocks are inferred for a node: a walk along its needs, and a cycle of inequalities between
 -- the positions of its clocks.
-use Rattle.std.specs.Prelude.{ℕ, suc, ◌+◌, ℤ, pos, negsuc, List, [], ◌∷◌, ◌++◌, Option, Some, None, map, slice_get, codes}
+use Rattle.std.specs.Prelude.{ℕ, suc, ◌+◌, ℤ, pos, negsuc, List, [], ◌∷◌, ◌++◌, map, flat_map, slice_get, codes}
 use Rattle.std.specs.List.{range_with_len}
 use Rattle.std.specs.Fmt.{decimal}
 use Rattle.lucy_place.specs.declared.placed.PlacedNode.{PlacedNode}
@@ -8,20 +8,12 @@ use Rattle.lucy_need.specs.declared.need.Need.{Need}
 use Rattle.lucy_solve.specs.declared.diffs.Diff.{Diff}
 use Rattle.lucy_shape.specs.declared.shape.ClockShape.{ClockShape}
 use Rattle.lucy_shape.specs.Fitting.{position_count}
+use Rattle.lucy_front.specs.Names.{of_one}
 use Rattle.lucy_front.specs.Needs.{clock_name, need_text}
 
--- the text of one of a list, where it is there
-abbrev pub of_one : {A : Type 0} → (A → List ℕ) → Option A → List ℕ
-of_one text None = []
-of_one text (Some x) = text x
-
 -- the needs of these numbers, each on a line of its own behind two blanks
-abbrev pub walk_line : PlacedNode → Need → List ℕ
-walk_line n need = codes "  " ++ (need_text n need ++ codes "\n")
-
 abbrev pub walk_lines : PlacedNode → List Need → List ℕ → List ℕ
-walk_lines n needs [] = []
-walk_lines n needs (k ∷ walk) = of_one (walk_line n) (slice_get needs k) ++ walk_lines n needs walk
+walk_lines n needs walk = flat_map (λ k. of_one (λ need. codes "  " ++ (need_text n need ++ codes "\n")) (slice_get needs k)) walk
 
 -- a node whose rates don't agree, with the needs of the walk that shows it
 abbrev pub unequal_lines : PlacedNode → List Need → List ℕ → List ℕ
@@ -45,17 +37,17 @@ abbrev pub most_text : ℤ → List ℕ
 most_text (pos k) = codes " + " ++ decimal k
 most_text (negsuc k) = codes " - " ++ decimal (suc k)
 
--- `left <= right + most`
+-- the name of a variable
 abbrev pub named : List (List ℕ) → ℕ → List ℕ
 named names v = of_one (λ name. name) (slice_get names v)
 
+-- an inequality, as left <= right + most, on a line of its own behind two blanks
 abbrev pub diff_line : List (List ℕ) → Diff → List ℕ
 diff_line names d = codes "  " ++ (named names d.left ++ (codes " <= " ++ (named names d.right ++ (most_text d.most ++ codes "\n"))))
 
--- the inequalities at these positions, each on a line of its own behind two blanks
+-- the inequalities of these numbers, line by line
 abbrev pub cycle_lines : List (List ℕ) → List Diff → List ℕ → List ℕ
-cycle_lines names diffs [] = []
-cycle_lines names diffs (k ∷ cycle) = of_one (diff_line names) (slice_get diffs k) ++ cycle_lines names diffs cycle
+cycle_lines names diffs cycle = flat_map (λ k. of_one (diff_line names) (slice_get diffs k)) cycle
 
 -- a node without clocks in a shape of this period, with the inequalities of the cycle that shows it
 abbrev pub unclocked_lines : PlacedNode → (period : ℕ) → List ClockShape → List Diff → List ℕ → List ℕ

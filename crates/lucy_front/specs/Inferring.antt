@@ -32,20 +32,20 @@ abbrev pub node_needs : List Signature → PlacedNode → Needs
 node_needs above n = record { clocks = clocks_of n; list = needs_of above n }
 
 -- the node has to be written, and isn't
-pub record IsShut (o : Options) (n : PlacedNode) : Type 0 where
-  pub asked : o.written_only ≡ true
-  pub unwritten : IsWritten n → ⊥
+abbrev pub IsShut : Options → PlacedNode → Type 0
+IsShut o n = (o.written_only ≡ true) × (IsWritten n → ⊥)
 
 -- the clocks of the node are inferred: it isn't written, and needn't be
-pub record IsOpen (o : Options) (n : PlacedNode) : Type 0 where
-  pub allowed : o.written_only ≡ false
-  pub unwritten : IsWritten n → ⊥
+abbrev pub IsOpen : Options → PlacedNode → Type 0
+IsOpen o n = (o.written_only ≡ false) × (IsWritten n → ⊥)
 
--- They are inferred from its needs with the scale and the lead of the options: of the assignments by which it is well clocked
--- and which fit the shape of its needs, they are the earliest, for no other one has any one of any clock earlier.
+-- they are inferred from its needs with the scale and the lead of the options: of the assignments by which it is well clocked
+-- and which fit the shape of its needs, they are the earliest, for no other one has any one of any clock earlier. the needs have
+-- sizes, of which those of the buffers are some
 pub record IsInferred (o : Options) (above : List Signature) (n : PlacedNode) (c : NodeClock) : Type 0 where
   pub is_open : IsOpen o n
-  pub inferred : IsInference (node_needs above n) o.scale o.lead c.words c.sizes
+  pub sizes : List ℕ
+  pub inferred : IsInference (node_needs above n) o.scale o.lead c.words sizes
   pub fits : FitsShape (assigned c.words) inferred.shape
   pub earliest : (other : Assignment) → IsWellClocked above n other → FitsShape other inferred.shape →
       (clock number : ℕ) → clock < clocks_of n → index_of (assigned c.words clock) number ≤ index_of (other clock) number

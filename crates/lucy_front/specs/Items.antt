@@ -12,6 +12,7 @@ abbrev pub path_text : List ℕ → List ℕ
 path_text [] = []
 path_text (call ∷ path) = path_text path ++ (codes "call" ++ (decimal call ++ codes "."))
 
+-- the name of a place of the node, where there is one
 abbrev pub name_in : Option PlacedNode → ℕ → List ℕ
 name_in None place = []
 name_in (Some n) place = place_name n place

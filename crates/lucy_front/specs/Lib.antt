@@ -11,5 +11,6 @@ pub mod Needs
 pub mod Evidence
 pub mod Refusals
 -- Below this line stands what only serves the proofs of the bodies.
+pub mod Sizes
 pub mod Clocking
 pub mod Ends

@@ -1,40 +1,33 @@
 -- How places are named in print, and the line of a node.
-use Rattle.std.specs.Prelude.{ℕ, List, [], ◌∷◌, ◌++◌, Option, Some, None, map, codes}
+use Rattle.std.specs.Prelude.{ℕ, List, [], ◌∷◌, ◌++◌, Option, Some, None, map, flat_map, codes}
+use Rattle.std.specs.Option.{option_and_then, option_map, unwrap_or}
 use Rattle.std.specs.List.{range_with_len}
 use Rattle.std.specs.Fmt.{decimal}
 use Rattle.lucy_tree.specs.declared.span.Name.{Name}
-use Rattle.lucy_place.specs.declared.entry.PlaceEntry.{PlaceEntry}
 use Rattle.lucy_place.specs.declared.placed.PlacedNode.{PlacedNode}
 use Rattle.lucy_place.specs.Standing.{at_one}
 
--- the name of a place, where it has one
-abbrev pub entry_name : Option PlaceEntry → Option Name
-entry_name None = None
-entry_name (Some entry) = entry.name
+-- what is said of a thing, where it is there, or else nothing
+abbrev pub of_one : {A B : Type 0} → (A → List B) → Option A → List B
+of_one said None = []
+of_one said (Some x) = said x
 
+-- the written name of a place, where it has one
 abbrev pub name_at : PlacedNode → ℕ → Option Name
-name_at n place = entry_name (at_one n.places place)
+name_at n place = option_and_then (λ entry. entry.name) (at_one n.places place)
 
 -- a place is printed by its name, else as `#` and its number
-abbrev pub printed : ℕ → Option Name → List ℕ
-printed place None = codes "#" ++ decimal place
-printed place (Some name) = name.text
-
 abbrev pub place_name : PlacedNode → ℕ → List ℕ
-place_name n place = printed place (name_at n place)
+place_name n place = unwrap_or (option_map (λ name. name.text) (name_at n place)) (codes "#" ++ decimal place)
 
+-- the printed names of places
 abbrev pub place_names : PlacedNode → List ℕ → List (List ℕ)
 place_names n places = map (place_name n) places
-
--- with `, ` before each
-abbrev pub further : List (List ℕ) → List ℕ
-further [] = []
-further (x ∷ xs) = codes ", " ++ (x ++ further xs)
 
 -- parted by `, `
 abbrev pub listed : List (List ℕ) → List ℕ
 listed [] = []
-listed (x ∷ xs) = x ++ further xs
+listed (x ∷ xs) = x ++ flat_map (λ y. codes ", " ++ y) xs
 
 -- the places of the parameters: the first ones
 abbrev pub param_places : PlacedNode → List ℕ

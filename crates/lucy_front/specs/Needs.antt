@@ -13,13 +13,11 @@ abbrev pub clock_name : PlacedNode → ℕ → List ℕ
 clock_name n zero = codes "base"
 clock_name n (suc i) = if nat_le (suc i) (length n.places) then place_name n (suc i) else (codes "call" ++ decimal (suc i - length n.places))
 
--- ` on W`, but for the word (1)
-abbrev pub on_text : List ℕ → List ℕ
-on_text word = if bytes_eq word (codes "(1)") then [] else (codes " on " ++ word)
-
+-- a term: a clock, and the word that samples it, but for the word (1)
 abbrev pub term_text : PlacedNode → Term → List ℕ
-term_text n t = clock_name n t.clock ++ on_text (text_of t.word)
+term_text n t = clock_name n t.clock ++ (if bytes_eq (text_of t.word) (codes "(1)") then [] else (codes " on " ++ text_of t.word))
 
+-- a need: the two terms, with = or <: between them
 abbrev pub need_text : PlacedNode → Need → List ℕ
 need_text n (Equal s t) = term_text n s ++ (codes " = " ++ term_text n t)
 need_text n (Adapt s t) = term_text n s ++ (codes " <: " ++ term_text n t)

@@ -3,27 +3,27 @@ use Rattle.std.specs.Prelude.{ℕ, ◌≡◌, ◌⊎◌, List, slice_index}
 use Rattle.lucy_host.specs.Operators.{Operator}
 use Rattle.lucy_place.specs.PlacedProgram.{PlacedProgram}
 use Rattle.lucy_types.specs.declared.ty.Ty.{Ty}
-use Rattle.lucy_types.specs.declared.error.TypeError.{TypeError}
-use Rattle.lucy_types.specs.declared.error.TypeError.TheVariants.{Clash}
 use Rattle.lucy_clock.specs.declared.node_clock.NodeClock.{NodeClock}
 use Rattle.lucy_front.specs.declared.options.Options.{Options}
 use Rattle.lucy_front.specs.declared.refusal.Refusal.{Refusal}
-use Rattle.lucy_front.specs.declared.refusal.Refusal.TheVariants.{Types, Rates, Clocks, Cause, OutOfMemory}
+use Rattle.lucy_front.specs.declared.refusal.Refusal.TheVariants.{Types, Node, Cause, OutOfMemory}
+use Rattle.lucy_front.specs.declared.fault.NodeFault.{NodeFault}
+use Rattle.lucy_front.specs.declared.fault.NodeFault.TheVariants.{Rates, Clocks}
 use Rattle.lucy_front.specs.declared.accepted.Accepted.{Accepted}
 use Rattle.lucy_front.specs.Accepting.{IsClockedText, RefusesPhases, IsAccepted, Refuses}
 
--- the clashes are of one node, whatever paths show it
-abbrev pub AreOfOneNode : TypeError → TypeError → Type 0
-AreOfOneNode (Clash node path) (Clash other way) = node ≡ other
-AreOfOneNode e f = e ≡ f
+-- the faults tell the same of a node: they are equal, but that other inequalities may show that there are no clocks; of a walk the first
+-- need is compared alone
+abbrev pub AreFaultsAlike : NodeFault → NodeFault → Type 0
+AreFaultsAlike (Rates needs walk) (Rates those way) = (needs ≡ those) × (slice_index walk.items 0 ≡ slice_index way.items 0)
+AreFaultsAlike (Clocks needs shape diffs cycle) (Clocks those like these round) = (needs ≡ those) × (shape ≡ like) × (diffs ≡ these)
+AreFaultsAlike f g = f ≡ g
 
--- the refusals tell the same of a text: they are equal, but that other paths may show that a node has no typing, other
--- inequalities that there are no clocks, and other items that some of an instant depend on each other; of a walk the first need is
--- compared alone
+-- the refusals tell the same of a text: they are equal, but that faults of a node need only be alike, that other paths may show that a
+-- node has no typing, and other items that some of an instant depend on each other
 abbrev pub AreAlike : Refusal → Refusal → Type 0
-AreAlike (Types placed clash) (Types other way) = (placed ≡ other) × AreOfOneNode clash way
-AreAlike (Rates placed node needs walk) (Rates other at those way) = (placed ≡ other) × (node ≡ at) × (needs ≡ those) × (slice_index walk.items 0 ≡ slice_index way.items 0)
-AreAlike (Clocks placed node needs shape diffs cycle) (Clocks other at those like these round) = (placed ≡ other) × (node ≡ at) × (needs ≡ those) × (shape ≡ like) × (diffs ≡ these)
+AreAlike (Types placed node path) (Types other at way) = (placed ≡ other) × (node ≡ at)
+AreAlike (Node placed node fault) (Node other at flaw) = (placed ≡ other) × (node ≡ at) × AreFaultsAlike fault flaw
 AreAlike (Cause net names instant items) (Cause other texts at way) = (net ≡ other) × (instant ≡ at)
 AreAlike r s = r ≡ s
 

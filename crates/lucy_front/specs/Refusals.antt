@@ -1,5 +1,5 @@
 -- The texts of refusals.
-use Rattle.std.specs.Prelude.{ℕ, ◌<◌, ◌≡◌, List, [], ◌∷◌, ◌++◌, length, slice_get, codes}
+use Rattle.std.specs.Prelude.{ℕ, ◌<◌, ◌≡◌, List, [], ◌∷◌, ◌++◌, length, slice_get, flat_map, codes}
 use Rattle.std.specs.List.{AllByRecursion}
 use Rattle.std.specs.Fmt.{decimal}
 use Rattle.lucy_word.specs.declared.limit.Limit.{Limit}
@@ -9,23 +9,24 @@ use Rattle.lucy_token.specs.declared.stop.SyntaxError.TheVariants as syntax
 use Rattle.lucy_place.specs.declared.error.NameError.{NameError}
 use Rattle.lucy_place.specs.declared.error.NameError.TheVariants as names
 use Rattle.lucy_place.specs.declared.placed.PlacedNode.{PlacedNode}
-use Rattle.lucy_types.specs.declared.error.TypeError.{TypeError}
-use Rattle.lucy_types.specs.declared.error.TypeError.TheVariants as types
 use Rattle.lucy_need.specs.declared.need.Need.{Need}
 use Rattle.lucy_check.specs.declared.fault.CheckFault.{CheckFault}
 use Rattle.lucy_check.specs.declared.fault.CheckFault.TheVariants as fault
 use Rattle.lucy_cause.specs.declared.error.Item.{Item}
 use Rattle.lucy_front.specs.declared.refusal.Refusal.{Refusal}
-use Rattle.lucy_front.specs.declared.refusal.Refusal.TheVariants.{Syntax, Names, Types, NotWritten, Rates, Clocks, Check, Cause, Limit as LimitPassed, OutOfMemory}
+use Rattle.lucy_front.specs.declared.refusal.Refusal.TheVariants.{Syntax, Names, Types, Node, Cause, Limit as LimitPassed, OutOfMemory}
+use Rattle.lucy_front.specs.declared.fault.NodeFault.{NodeFault}
+use Rattle.lucy_front.specs.declared.fault.NodeFault.TheVariants.{NotWritten, Rates, Clocks, Check}
 use Rattle.lucy_shape.specs.Fitting.{variable_count}
-use Rattle.lucy_front.specs.Names.{place_names}
+use Rattle.lucy_front.specs.Names.{of_one, place_names}
 use Rattle.lucy_front.specs.Needs.{need_text}
-use Rattle.lucy_front.specs.Evidence.{of_one, unequal_lines, unclocked_lines}
+use Rattle.lucy_front.specs.Evidence.{unequal_lines, unclocked_lines}
 
--- the line where a limit is passed, and the one where memory ran out
+-- the line where a limit is passed
 abbrev pub limit_line : Limit → List ℕ
 limit_line l = codes "lucy: limit " ++ (limit_name l ++ (codes " " ++ (decimal (limit_number l) ++ codes "\n")))
 
+-- the line where memory ran out
 abbrev pub memory_line : List ℕ
 memory_line = codes "lucy: out of memory\n"
 
@@ -37,7 +38,7 @@ syntax_line (syntax.BadWord place) = codes "lucy: syntax: bad word at " ++ (deci
 syntax_line (syntax.TooLarge l) = limit_line l
 syntax_line syntax.OutOfMemory = memory_line
 
--- and of a name
+-- the line of a name
 abbrev pub name_fault_line : NameError → List ℕ
 name_fault_line (names.Unknown span) = codes "lucy: names: unknown at " ++ (decimal span.from ++ codes "\n")
 name_fault_line (names.Twice span) = codes "lucy: names: twice at " ++ (decimal span.from ++ codes "\n")
@@ -49,49 +50,38 @@ name_fault_line names.OutOfMemory = memory_line
 
 -- places, each on a line of its own behind two blanks
 abbrev pub place_lines : List (List ℕ) → List ℕ
-place_lines [] = []
-place_lines (name ∷ names) = codes "  " ++ (name ++ (codes "\n" ++ place_lines names))
+place_lines names = flat_map (λ name. codes "  " ++ (name ++ codes "\n")) names
 
 -- a clash of types in a node, with the places that show it
 abbrev pub path_lines : PlacedNode → List ℕ → List ℕ
 path_lines n path = codes "lucy: types: node " ++ (n.name.text ++ (codes ": int against bool\n" ++ place_lines (place_names n path)))
 
-abbrev pub clash_lines : List PlacedNode → TypeError → List ℕ
-clash_lines nodes (types.Clash node path) = of_one (λ n. path_lines n path.items) (slice_get nodes node)
-clash_lines nodes types.OutOfMemory = memory_line
-
--- a node isn't written
-abbrev pub unwritten_line : PlacedNode → ℕ → List ℕ
-unwritten_line n at = codes "lucy: check: node " ++ (n.name.text ++ (codes ": not written at " ++ (decimal at ++ codes "\n")))
-
 -- a need of a node isn't met, and what is wrong stands at the end
-abbrev pub need_line : PlacedNode → Need → (end : List ℕ) → List ℕ
-need_line n need end = codes "lucy: check: node " ++ (n.name.text ++ (codes ": " ++ (need_text n need ++ end)))
-
--- what is wrong
-abbrev pub differ_end : ℕ → List ℕ
-differ_end at = codes ": differ at " ++ (decimal at ++ codes "\n")
-
-abbrev pub rates_end : List ℕ
-rates_end = codes ": unequal rates\n"
-
-abbrev pub late_end : ℕ → List ℕ
-late_end at = codes ": late at " ++ (decimal at ++ codes "\n")
+abbrev pub need_line : PlacedNode → (end : List ℕ) → Need → List ℕ
+need_line n end need = codes "lucy: check: node " ++ (n.name.text ++ (codes ": " ++ (need_text n need ++ end)))
 
 -- what the checker says of the needs of a node
 abbrev pub check_line : PlacedNode → List Need → CheckFault → List ℕ
-check_line n needs (fault.Differs need at) = of_one (λ x. need_line n x (differ_end at)) (slice_get needs need)
-check_line n needs (fault.Rates need) = of_one (λ x. need_line n x rates_end) (slice_get needs need)
-check_line n needs (fault.Late need at) = of_one (λ x. need_line n x (late_end at)) (slice_get needs need)
+check_line n needs (fault.Differs need at) = of_one (need_line n (codes ": differ at " ++ (decimal at ++ codes "\n"))) (slice_get needs need)
+check_line n needs (fault.Rates need) = of_one (need_line n (codes ": unequal rates\n")) (slice_get needs need)
+check_line n needs (fault.Late need at) = of_one (need_line n (codes ": late at " ++ (decimal at ++ codes "\n"))) (slice_get needs need)
 check_line n needs (fault.Limit need l) = limit_line l
 check_line n needs fault.OutOfMemory = memory_line
 
+-- the lines of a fault of a node
+abbrev pub fault_lines : PlacedNode → NodeFault → List ℕ
+fault_lines n (NotWritten span) =
+    codes "lucy: check: node " ++ (n.name.text ++ (codes ": not written at " ++ (decimal span.from ++ codes "\n")))
+fault_lines n (Rates needs walk) = unequal_lines n needs.list walk.items
+fault_lines n (Clocks needs shape diffs cycle) = unclocked_lines n shape.period shape.clocks diffs.list cycle.items
+fault_lines n (Check needs e) = check_line n needs.list e
+
 -- items that depend on each other, each by the name of its actor and its number, on a line of its own
 abbrev pub item_lines : List (List ℕ) → List Item → List ℕ
-item_lines [] items = []
-item_lines (name ∷ names) [] = []
 item_lines (name ∷ names) (item ∷ items) = codes "  " ++ (name ++ (codes "[" ++ (decimal item.number ++ (codes "]\n" ++ item_lines names items))))
+item_lines names items = []
 
+-- items of one instant that depend on each other
 abbrev pub cause_lines : ℕ → List (List ℕ) → List Item → List ℕ
 cause_lines instant names items = codes "lucy: causality: instant " ++ (decimal instant ++ (codes "\n" ++ item_lines names items))
 
@@ -99,34 +89,33 @@ cause_lines instant names items = codes "lucy: causality: instant " ++ (decimal 
 abbrev pub refusal_text : Refusal → List ℕ
 refusal_text (Syntax e) = syntax_line e
 refusal_text (Names e) = name_fault_line e
-refusal_text (Types placed clash) = clash_lines placed.nodes clash
-refusal_text (NotWritten placed node span) = of_one (λ n. unwritten_line n span.from) (slice_get placed.nodes node)
-refusal_text (Rates placed node needs walk) = of_one (λ n. unequal_lines n needs.list walk.items) (slice_get placed.nodes node)
-refusal_text (Clocks placed node needs shape diffs cycle) = of_one (λ n. unclocked_lines n shape.period shape.clocks diffs.list cycle.items) (slice_get placed.nodes node)
-refusal_text (Check placed node needs e) = of_one (λ n. check_line n needs.list e) (slice_get placed.nodes node)
+refusal_text (Types placed node path) = of_one (λ n. path_lines n path.items) (slice_get placed.nodes node)
+refusal_text (Node placed node fault) = of_one (λ n. fault_lines n fault) (slice_get placed.nodes node)
 refusal_text (Cause net names instant items) = cause_lines instant names.items items.items
 refusal_text (LimitPassed l) = limit_line l
 refusal_text OutOfMemory = memory_line
 
--- a refusal names nodes, needs, inequalities and variables that are there, as those that `accept` gives do
-abbrev pub NamesNode : List PlacedNode → TypeError → Type 0
-NamesNode nodes (types.Clash node path) = node < length nodes
-NamesNode nodes types.OutOfMemory = Unit {0}
-
+-- the need of a fault is there
 abbrev pub NamesNeed : List Need → CheckFault → Type 0
 NamesNeed needs (fault.Differs need at) = need < length needs
 NamesNeed needs (fault.Rates need) = need < length needs
 NamesNeed needs (fault.Late need at) = need < length needs
 NamesNeed needs e = Unit {0}
 
+-- all these numbers are below the count
 abbrev pub AreBelow : ℕ → List ℕ → Type 0
 AreBelow count numbers = AllByRecursion (λ k. k < count) numbers
 
+-- the needs, inequalities and variables of a fault are there
+abbrev pub IsShown : NodeFault → Type 0
+IsShown (NotWritten span) = Unit {0}
+IsShown (Rates needs walk) = AreBelow (length needs.list) walk.items
+IsShown (Clocks needs shape diffs cycle) =
+    (length shape.clocks ≡ needs.clocks) × (diffs.count ≡ variable_count shape.clocks) × AreBelow (length diffs.list) cycle.items
+IsShown (Check needs e) = NamesNeed needs.list e
+
+-- a refusal names nodes, needs, inequalities and variables that are there, as those that accept gives do
 abbrev pub IsTellable : Refusal → Type 0
-IsTellable (Types placed clash) = NamesNode placed.nodes clash
-IsTellable (NotWritten placed node span) = node < length placed.nodes
-IsTellable (Rates placed node needs walk) = (node < length placed.nodes) × AreBelow (length needs.list) walk.items
-IsTellable (Clocks placed node needs shape diffs cycle) =
-    (node < length placed.nodes) × (length shape.clocks ≡ needs.clocks) × (diffs.count ≡ variable_count shape.clocks) × AreBelow (length diffs.list) cycle.items
-IsTellable (Check placed node needs e) = (node < length placed.nodes) × NamesNeed needs.list e
+IsTellable (Types placed node path) = node < length placed.nodes
+IsTellable (Node placed node fault) = (node < length placed.nodes) × IsShown fault
 IsTellable e = Unit {0}

@@ -1,6 +1,6 @@
 -- The report of an accepted program.
-use Rattle.std.specs.Prelude.{ℕ, ◌+◌, ◌≡◌, Bool, true, false, List, [], ◌∷◌, ◌++◌, Option, Some, None, length, slice_get, codes}
-use Rattle.std.specs.Option.{unwrap_or}
+use Rattle.std.specs.Prelude.{ℕ, ◌+◌, ◌≤◌, ◌≡◌, Bool, true, false, List, [], ◌∷◌, ◌++◌, Option, Some, None, length, slice_get, codes, if◌then◌else◌}
+use Rattle.std.specs.Option.{unwrap_or, option_and_then}
 use Rattle.std.specs.Fmt.{decimal}
 use Rattle.lucy_word.specs.Bits.{Bits}
 use Rattle.lucy_word.specs.Spelling.{text_of}
@@ -8,7 +8,7 @@ use Rattle.lucy_tree.specs.declared.span.Name.{Name}
 use Rattle.lucy_place.specs.declared.entry.PlaceEntry.{PlaceEntry}
 use Rattle.lucy_place.specs.declared.entry.CallSite.{CallSite}
 use Rattle.lucy_place.specs.declared.placed.PlacedNode.{PlacedNode}
-use Rattle.lucy_place.specs.Standing.{at_one}
+use Rattle.lucy_place.specs.Standing.{at_one, bound_of}
 use Rattle.lucy_place.specs.Reads.{operands_of}
 use Rattle.lucy_types.specs.declared.ty.Ty.{Ty}
 use Rattle.lucy_types.specs.declared.ty.Ty.TheVariants as ty
@@ -16,60 +16,54 @@ use Rattle.lucy_types.specs.Programs.{IsTyped}
 use Rattle.lucy_need.specs.Meeting.{Assignment, assigned}
 use Rattle.lucy_clock.specs.declared.node_clock.NodeClock.{NodeClock}
 use Rattle.lucy_clock.specs.Clocks.{call_clock}
-use Rattle.lucy_front.specs.Names.{node_line}
+use Rattle.lucy_front.specs.Names.{of_one, node_line}
 
 -- a type; one that is open is `int` in main, else `'` and the number of its class
 abbrev pub type_name : (main : Bool) → Ty → List ℕ
 type_name main ty.Int = codes "int"
 type_name main ty.Bool = codes "bool"
-type_name true (ty.Open class) = codes "int"
-type_name false (ty.Open class) = codes "'" ++ decimal class
+type_name main (ty.Open class) = if main then codes "int" else (codes "'" ++ decimal class)
 
 -- `  NAME : TYPE :: WORD`, for a place that has a name
 abbrev pub name_line : (main : Bool) → Option Name → Ty → Bits → List ℕ
-name_line main None t w = []
-name_line main (Some name) t w = codes "  " ++ (name.text ++ (codes " : " ++ (type_name main t ++ (codes " :: " ++ (text_of w ++ codes "\n")))))
+name_line main name t w =
+    of_one (λ x. codes "  " ++ (x.text ++ (codes " : " ++ (type_name main t ++ (codes " :: " ++ (text_of w ++ codes "\n")))))) name
 
 -- the lines of places from a number on
 abbrev pub name_lines : (main : Bool) → Assignment → ℕ → List PlaceEntry → List Ty → List ℕ
-name_lines main w place [] ts = []
-name_lines main w place (e ∷ es) [] = []
 name_lines main w place (e ∷ es) (t ∷ ts) = name_line main e.name t (w place) ++ name_lines main w (place + 1) es ts
+name_lines main w place es ts = []
 
--- the first operand of what stands at a place
-abbrev pub entry_operands : Option PlaceEntry → List ℕ
-entry_operands None = []
-entry_operands (Some entry) = operands_of entry.kind
-
+-- the first place that a place reads, if it reads any
 abbrev pub first_operand : PlacedNode → ℕ → Option ℕ
-first_operand n place = slice_get (entry_operands (at_one n.places place)) 0
-
-abbrev pub operand_of : PlacedNode → ℕ → ℕ
-operand_of n place = unwrap_or (first_operand n place) 0
+first_operand n place = option_and_then (λ entry. slice_get (operands_of entry.kind) 0) (at_one n.places place)
 
 -- `WORD1 <: WORD2`, with the words of two clocks
 abbrev pub adapted : Assignment → (from to : ℕ) → List ℕ
 adapted w from to = text_of (w from) ++ (codes " <: " ++ text_of (w to))
 
--- `  buffer N : WORD1 <: WORD2 size S`, with the words of its operand and of its place
+-- ` at most B`, where a bound is written
+abbrev pub bound_part : Option ℕ → List ℕ
+bound_part None = []
+bound_part (Some most) = codes " at most " ++ decimal most
+
+-- ` size S`, with its bound
+abbrev pub size_part : ℕ → Option ℕ → List ℕ
+size_part size most = codes " size " ++ (decimal size ++ bound_part most)
+
+-- `  buffer N : WORD1 <: WORD2 size S`, with the words of its operand and of its place, and with its bound
 abbrev pub buffer_line : PlacedNode → Assignment → (number place size : ℕ) → List ℕ
 buffer_line n w number place size =
-    codes "  buffer " ++ (decimal number ++ (codes " : " ++ (adapted w (operand_of n place) place ++ (codes " size " ++ (decimal size ++ codes "\n")))))
+    codes "  buffer " ++ (decimal number ++ (codes " : " ++ (adapted w (unwrap_or (first_operand n place) 0) place ++ (size_part size (bound_of n number) ++ codes "\n"))))
 
 -- the lines of buffers from a number on
 abbrev pub buffer_lines : PlacedNode → Assignment → ℕ → List ℕ → List ℕ → List ℕ
-buffer_lines n w number [] sizes = []
-buffer_lines n w number (p ∷ ps) [] = []
 buffer_lines n w number (p ∷ ps) (s ∷ ss) = buffer_line n w number p s ++ buffer_lines n w (number + 1) ps ss
-
--- the name of the node of a number
-abbrev pub node_name : Option PlacedNode → List ℕ
-node_name None = []
-node_name (Some n) = n.name.text
+buffer_lines n w number ps ss = []
 
 -- `  call N : NODE at WORD`, with the word of its base
 abbrev pub call_line : List PlacedNode → (number : ℕ) → CallSite → Bits → List ℕ
-call_line nodes number site w = codes "  call " ++ (decimal number ++ (codes " : " ++ (node_name (slice_get nodes site.node) ++ (codes " at " ++ (text_of w ++ codes "\n")))))
+call_line nodes number site w = codes "  call " ++ (decimal number ++ (codes " : " ++ (of_one (λ n. n.name.text) (slice_get nodes site.node) ++ (codes " at " ++ (text_of w ++ codes "\n")))))
 
 -- the lines of calls from a number on
 abbrev pub call_lines : List PlacedNode → PlacedNode → Assignment → ℕ → List CallSite → List ℕ
@@ -89,10 +83,8 @@ is_main (n ∷ ns) = false
 
 -- the lines of nodes, of all that there are
 abbrev pub lines_of : List PlacedNode → List PlacedNode → List (List Ty) → List NodeClock → List ℕ
-lines_of nodes [] tables clocks = []
-lines_of nodes (n ∷ ns) [] clocks = []
-lines_of nodes (n ∷ ns) (ts ∷ tables) [] = []
 lines_of nodes (n ∷ ns) (ts ∷ tables) (c ∷ clocks) = node_lines nodes (is_main ns) n ts c ++ lines_of nodes ns tables clocks
+lines_of nodes ns tables clocks = []
 
 -- the report of a program
 abbrev pub report : List PlacedNode → List (List Ty) → List NodeClock → List ℕ
@@ -103,3 +95,9 @@ pub record IsReportable (nodes : List PlacedNode) (tables : List (List Ty)) (clo
   pub typed : IsTyped nodes tables
   pub all : length clocks ≡ length nodes
   pub sizes : (i : ℕ) (n : PlacedNode) (c : NodeClock) → slice_get nodes i ≡ Some n → slice_get clocks i ≡ Some c → length c.sizes ≡ length n.buffers
+
+-- each buffer's size is at most its bound, where one is written
+abbrev pub AreBounded : List PlacedNode → List NodeClock → Type 0
+AreBounded nodes clocks =
+    (i k most size : ℕ) (n : PlacedNode) (c : NodeClock) → slice_get nodes i ≡ Some n → slice_get clocks i ≡ Some c
+    → bound_of n k ≡ Some most → at_one c.sizes k ≡ Some size → size ≤ most

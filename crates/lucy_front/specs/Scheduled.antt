@@ -1,7 +1,7 @@
 -- What a program with clocks comes to, its net, its schedule, its inputs and its outputs, and why it comes to none.
-use Rattle.std.specs.Prelude.{ℕ, ◌-◌, ◌≤◌, ◌⊎◌, List, [], Option, Some, None, map, length, slice_get}
+use Rattle.std.specs.Prelude.{ℕ, ◌-◌, ◌≤◌, ◌⊎◌, List, map, length, slice_get}
+use Rattle.std.specs.Option.{unwrap_or}
 use Rattle.lucy_host.specs.declared.data_type.DataType.{DataType}
-use Rattle.lucy_host.specs.declared.data_type.DataType.TheVariants.{Int}
 use Rattle.lucy_word.specs.Bits.{Bits}
 use Rattle.lucy_word.specs.Limits.{limit_number}
 use Rattle.lucy_word.specs.declared.limit.Limit.TheVariants as limit
@@ -10,6 +10,7 @@ use Rattle.lucy_output.specs.declared.output.OutputSpec.{OutputSpec}
 use Rattle.lucy_place.specs.declared.placed.PlacedNode.{PlacedNode}
 use Rattle.lucy_place.specs.Proper.{at_one}
 use Rattle.lucy_types.specs.declared.ty.Ty.{Ty}
+use Rattle.lucy_types.specs.declared.ty.Ty.TheVariants as ty
 use Rattle.lucy_types.specs.Tables.{table_at, held}
 use Rattle.lucy_need.specs.Meeting.{assigned}
 use Rattle.lucy_clock.specs.declared.node_clock.NodeClock.{NodeClock}
@@ -23,36 +24,30 @@ use Rattle.lucy_cause.specs.declared.error.CauseFault.TheVariants as cause
 use Rattle.lucy_cause.specs.Schedules.{Refuses as RefusesSchedule}
 use Rattle.lucy_front.specs.declared.refusal.Refusal.{Refusal}
 use Rattle.lucy_front.specs.declared.refusal.Refusal.TheVariants.{Cause, Limit as LimitPassed, OutOfMemory}
-use Rattle.lucy_front.specs.Names.{place_name, param_places}
+use Rattle.lucy_front.specs.Names.{of_one, place_name, param_places}
 use Rattle.lucy_front.specs.Items.{AreNamesOf}
 
 -- what a place of main holds, by the types of main's places: an open one holds numbers
-abbrev pub held_if : Option Ty → DataType
-held_if None = Int
-held_if (Some t) = held t
+abbrev pub held_at : List Ty → ℕ → DataType
+held_at types place = held (unwrap_or (at_one types place) ty.Int)
 
--- an input and an output of main: the place's name, the type of its values, and of an output its word
+-- an input of main: the place's name and the type of its values
 abbrev pub input_of : PlacedNode → List Ty → ℕ → InputSpec
-input_of main types place = record { name = place_name main place; holds = held_if (at_one types place) }
+input_of main types place = record { name = place_name main place; holds = held_at types place }
 
+-- an output of main: the place's name, the type of its values, and its word
 abbrev pub output_of : PlacedNode → List Ty → List Bits → ℕ → OutputSpec
-output_of main types words place = record { name = place_name main place; holds = held_if (at_one types place); word = assigned words place }
+output_of main types words place = record { name = place_name main place; holds = held_at types place; word = assigned words place }
 
--- one for each parameter of main, and one for each result, in order
-abbrev pub inputs_in : Option PlacedNode → List Ty → List InputSpec
-inputs_in None types = []
-inputs_in (Some main) types = map (input_of main types) (param_places main)
-
-abbrev pub outputs_in : Option PlacedNode → List Ty → List Bits → List OutputSpec
-outputs_in None types words = []
-outputs_in (Some main) types words = map (output_of main types words) main.results
-
--- main is the last node
+-- the inputs of a program: one for each parameter of main, its last node, in order
 abbrev pub inputs_of : List PlacedNode → List (List Ty) → List InputSpec
-inputs_of nodes tables = inputs_in (main_of nodes) (table_at tables (length nodes - 1))
+inputs_of nodes tables = of_one (λ main. map (input_of main (table_at tables (length nodes - 1))) (param_places main)) (main_of nodes)
 
+-- the outputs of a program: one for each result of main, in order
 abbrev pub outputs_of : List PlacedNode → List (List Ty) → List NodeClock → List OutputSpec
-outputs_of nodes tables clocks = outputs_in (main_of nodes) (table_at tables (length nodes - 1)) (words_in (slice_get clocks (length nodes - 1)))
+outputs_of nodes tables clocks =
+    let last = length nodes - 1 in
+    of_one (λ main. map (output_of main (table_at tables last) (words_in (slice_get clocks last))) main.results) (main_of nodes)
 
 -- the program's flat net, within its limits
 pub record IsNetOf (nodes : List PlacedNode) (clocks : List NodeClock) (net : Net) : Type 0 where

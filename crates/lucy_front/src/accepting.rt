@@ -7,13 +7,13 @@ ghost use Rattle.lucy_flat.specs.Clocked.{AreClocked};
 ghost use Rattle.lucy_front.specs.Accepting.{IsClockedText, IsAccepted, RefusesPhases, Refuses};
 ghost use Rattle.lucy_front.specs.Inferring.{AreOptions};
 ghost use Rattle.lucy_front.specs.OneAnswer.{AreAlike};
-ghost use Rattle.lucy_front.specs.Report.{IsReportable};
+ghost use Rattle.lucy_front.specs.Report.{IsReportable, AreBounded};
 ghost use Rattle.lucy_front.specs.Refusals.{IsTellable};
 ghost use Rattle.lucy_front.specs.Clocking.{clock_refusal};
 
 use crate::accepted::{Accepted, Clocked};
 use crate::clocking::node_clocks;
-use crate::fault::{NodeFault, Unclocked};
+use crate::fault::{NoClocks, Unclocked};
 use crate::options::Options;
 use crate::refusal::Refusal;
 use crate::scheduling::scheduled;
@@ -28,35 +28,14 @@ fn refusal(placed: Placed, unclocked: Unclocked) -> Refusal
     ensures { result ≡ clock_refusal placed unclocked }
 {
     let node = unclocked.node;
-    match unclocked.fault {
-        NodeFault::NotWritten(span) => Refusal::NotWritten { placed, node, span },
-        NodeFault::Rates { needs, walk } => Refusal::Rates {
+    match unclocked.why {
+        NoClocks::Fault(fault) => Refusal::Node {
             placed,
             node,
-            needs,
-            walk,
-        },
-        NodeFault::Clocks {
-            needs,
-            shape,
-            diffs,
-            cycle,
-        } => Refusal::Clocks {
-            placed,
-            node,
-            needs,
-            shape,
-            diffs,
-            cycle,
-        },
-        NodeFault::Check { needs, fault } => Refusal::Check {
-            placed,
-            node,
-            needs,
             fault,
         },
-        NodeFault::Limit(limit) => Refusal::Limit(limit),
-        NodeFault::OutOfMemory => Refusal::OutOfMemory,
+        NoClocks::Limit(limit) => Refusal::Limit(limit),
+        NoClocks::OutOfMemory => Refusal::OutOfMemory,
     }
 }
 
@@ -71,7 +50,9 @@ fn phases(alloc: Global, text: &[u8], ops: &Ops, options: &Options) -> Result<Cl
     let typed = match types(alloc, &placed) {
         Ok(typed) => typed,
         Err(TypeError::OutOfMemory) => return Err(Refusal::OutOfMemory),
-        Err(clash) => return Err(Refusal::Types { placed, clash }),
+        Err(TypeError::Clash { node, path }) => {
+            return Err(Refusal::Types { placed, node, path });
+        }
     };
     match node_clocks(alloc, &placed, options) {
         Ok(clocks) => Ok(Clocked {
@@ -110,6 +91,7 @@ pub fn accept(alloc: Global, text: &[u8], ops: &Ops, options: &Options) -> Resul
     ensures rejected { (r : Reason) → Refuses ops.now options.now text.now r → (r ≡ OutOfMemory → ⊥) → MatchResult result (λ _. ⊥) (λ e. (e ≡ OutOfMemory) ⊎ AreAlike r e) }
     ensures clocked { IfOk result (λ a. AreClocked a.placed.nodes a.clocks.items) }
     ensures reportable { IfOk result (λ a. IsReportable a.placed.nodes a.typed a.clocks.items) }
+    ensures bounded { IfOk result (λ a. AreBounded a.placed.nodes a.clocks.items) }
     ensures tellable { IfErr result IsTellable }
 {
     planned(alloc, text, ops, options)

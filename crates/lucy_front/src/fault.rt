@@ -1,7 +1,8 @@
-// Why a node has no clocks.
+// Why a node is refused, and why it has no clocks.
 ghost use Rattle.std.specs.Prelude.{◌≡◌};
 ghost use Rattle.lucy_front.specs.Clocking as spec;
-ghost use Rattle.lucy_front.specs.declared.fault.NodeFault.TheVariants.{OutOfMemory as NoMemory};
+ghost use Rattle.lucy_front.specs.declared.fault.NoClocks.TheVariants.{Fault, OutOfMemory as NoMemory};
+ghost use Rattle.lucy_front.specs.declared.fault.NodeFault.TheVariants.{Check};
 
 use lucy_check::CheckFault;
 use lucy_clock::ClockError;
@@ -13,28 +14,37 @@ use lucy_tree::Span;
 use lucy_word::{Limit, OutOfMemory};
 use std::alloc::AllocError;
 
-/// Why a node has no clocks.
+/// Why a node is refused. Its needs, and inequalities, count from 0.
 #[derive(Drop)]
-pub(crate) enum NodeFault {
+pub enum NodeFault {
     /// It has to be written and isn't, and this is the first span that keeps it from being so.
     NotWritten(Span),
-    /// Its rates don't agree along these needs.
+    /// It isn't written, and its rates don't agree: these needs lead from a clock back to it, the first of them from its first
+    /// clock to its second, and multiply the clock's rate by another number than 1.
     Rates {
         needs: Needs,
         walk: Vec<u32>,
     },
-    /// It has no clocks of this shape, as this cycle of inequalities shows.
+    /// It isn't written, and no clocks of this shape meet its needs: of the inequalities between their positions, those at the
+    /// positions of the cycle follow one another in a circle, and their constants sum below 0.
     Clocks {
         needs: Needs,
         shape: Shape,
         diffs: Diffs,
         cycle: Vec<u32>,
     },
-    /// The words that it hands down don't meet a need.
+    /// It is written and not well clocked: the words that it hands down don't meet a need.
     Check {
         needs: Needs,
         fault: CheckFault,
     },
+}
+
+/// Why a node has no clocks.
+#[derive(Drop)]
+pub(crate) enum NoClocks {
+    /// It is refused.
+    Fault(NodeFault),
     /// It passes a limit.
     Limit(Limit),
     /// Memory ran out.
@@ -45,75 +55,76 @@ pub(crate) enum NodeFault {
 #[derive(Drop)]
 pub(crate) struct Unclocked {
     pub node: u32,
-    pub fault: NodeFault,
+    pub why: NoClocks,
 }
 
-impl From<ClockError> for NodeFault {
+impl From<ClockError> for NoClocks {
     ghost from_gives = { λ error e. e ≡ spec.clock_fault error };
 
     fn from(error: ClockError) -> Self {
         match error {
-            ClockError::Limit(limit) => NodeFault::Limit(limit),
-            ClockError::OutOfMemory => NodeFault::OutOfMemory,
+            ClockError::Limit(limit) => NoClocks::Limit(limit),
+            ClockError::OutOfMemory => NoClocks::OutOfMemory,
         }
     }
 }
 
-impl From<AllocError> for NodeFault {
+impl From<AllocError> for NoClocks {
     ghost from_gives = { λ _ e. e ≡ NoMemory };
 
     fn from(_: AllocError) -> Self {
-        NodeFault::OutOfMemory
+        NoClocks::OutOfMemory
     }
 }
 
-impl From<OutOfMemory> for NodeFault {
+impl From<OutOfMemory> for NoClocks {
     ghost from_gives = { λ _ e. e ≡ NoMemory };
 
     fn from(_: OutOfMemory) -> Self {
-        NodeFault::OutOfMemory
+        NoClocks::OutOfMemory
     }
 }
 
 /// Why a node with these needs has no clocks where none are inferred.
-pub(crate) fn inference_fault(needs: Needs, why: Uninferred) -> NodeFault
+pub(crate) fn inference_fault(needs: Needs, why: Uninferred) -> NoClocks
     ensures { result ≡ spec.inference_fault needs why }
 {
     match why {
-        Uninferred::Rates(walk) => NodeFault::Rates { needs, walk },
+        Uninferred::Rates(walk) => NoClocks::Fault(NodeFault::Rates { needs, walk }),
         Uninferred::Clocks {
             shape,
             diffs,
             cycle,
-        } => NodeFault::Clocks {
+        } => NoClocks::Fault(NodeFault::Clocks {
             needs,
             shape,
             diffs,
             cycle,
-        },
-        Uninferred::Limit(limit) => NodeFault::Limit(limit),
-        Uninferred::OutOfMemory => NodeFault::OutOfMemory,
+        }),
+        Uninferred::Limit(limit) => NoClocks::Limit(limit),
+        Uninferred::OutOfMemory => NoClocks::OutOfMemory,
     }
 }
 
+// The words of a node with these needs don't meet one.
+fn unmet(needs: Needs, fault: CheckFault) -> NoClocks
+    ensures { result ≡ Fault (Check needs fault) }
+{
+    NoClocks::Fault(NodeFault::Check { needs, fault })
+}
+
 /// Why a node has no clocks where the checker refuses its words.
-pub(crate) fn check_fault(needs: Needs, fault: CheckFault) -> NodeFault
+pub(crate) fn check_fault(needs: Needs, fault: CheckFault) -> NoClocks
     ensures { result ≡ spec.check_fault needs fault }
 {
     match fault {
-        CheckFault::Limit { limit, .. } => NodeFault::Limit(limit),
-        CheckFault::OutOfMemory => NodeFault::OutOfMemory,
-        CheckFault::Differs { need, instant } => NodeFault::Check {
+        CheckFault::Limit { limit, .. } => NoClocks::Limit(limit),
+        CheckFault::OutOfMemory => NoClocks::OutOfMemory,
+        CheckFault::Differs { need, instant } => unmet(
             needs,
-            fault: CheckFault::Differs { need, instant },
-        },
-        CheckFault::Rates { need } => NodeFault::Check {
-            needs,
-            fault: CheckFault::Rates { need },
-        },
-        CheckFault::Late { need, instant } => NodeFault::Check {
-            needs,
-            fault: CheckFault::Late { need, instant },
-        },
+            CheckFault::Differs { need, instant },
+        ),
+        CheckFault::Rates { need } => unmet(needs, CheckFault::Rates { need }),
+        CheckFault::Late { need, instant } => unmet(needs, CheckFault::Late { need, instant }),
     }
 }

@@ -3,11 +3,9 @@ ghost use Rattle.std.specs.Prelude.{ℕ, List, ◌≡◌, ◌+◌, ◌-◌, ◌<
 ghost use Rattle.std.specs.List.{AllByRecursion};
 ghost use Rattle.std.specs.List.Sorted.{IsNonDecreasing};
 ghost use Rattle.lucy_place.specs.declared.placed.PlacedNode.{PlacedNode as Node};
-ghost use Rattle.lucy_place.specs.Proper.{AreProper};
 ghost use Rattle.lucy_meaning.specs.Spots.{node_at, main_of};
 ghost use Rattle.lucy_meaning.specs.Numbers.{begin_from};
-ghost use Rattle.lucy_meaning.specs.Sizes.{size_of, all_places};
-ghost use Rattle.lucy_flat.specs.Extents.{capped};
+ghost use Rattle.lucy_meaning.specs.Sizes.{AreCapped, size_of, all_places};
 ghost use Rattle.lucy_front.specs.Items.{path_text, IsActorName, AreNamesOf};
 ghost use Rattle.lucy_front.specs.Ends.{AreEndsTo, AreAllEnds};
 
@@ -15,33 +13,23 @@ use crate::clocking::push;
 use crate::names::{bytes, place_name};
 use lucy_cause::Item;
 use lucy_clock::Numbers64;
+use lucy_meaning::sizes;
 use lucy_place::Placed;
 use lucy_text::Text;
 use lucy_word::OutOfMemory;
 use std::alloc::Global;
 
-// More than each number of actors that a net may have.
-const PAST: u64 = 1 << 32;
-
-// Where an instance ends, by the ends of its parts.
-fn whole(ends: &[u64]) -> u64
-    requires { 0 < length ends.now }
-    ensures { result ≡ slice_index ends.now (length ends.now - 1) }
-{
-    ends[ends.len() - 1]
-}
-
 // How far behind its begin each part of an instance of the node ends: its own places, and then the instance of each of its
-// calls. `PAST` stands for itself and for any greater number.
+// calls.
 fn ends_of(
     alloc: Global,
     placed: &Placed,
+    sizes: &[u64],
     node: u32,
-    above: &[Numbers64],
 ) -> Result<Vec<u64>, OutOfMemory>
-    requires proper { AreProper placed.now.nodes }
+    requires room { length placed.now.nodes ≤ length sizes.now }
+    requires sizes { AreCapped (size_of placed.now.nodes) (length placed.now.nodes) sizes.now }
     requires node { node < length placed.now.nodes }
-    requires above { AreAllEnds placed.now.nodes node above.now }
     ensures { (n : Node) → slice_get placed.now.nodes node ≡ Some n → IfOk result (λ v. AreEndsTo placed.now.nodes n (length n.calls) v.items) }
 {
     let found = placed.node(node);
@@ -49,8 +37,8 @@ fn ends_of(
     let mut ends = Vec::new(alloc);
     push(&mut ends, end)?;
     let sites = found.calls.list();
-    'calls: for i in 0..sites.len() {
-        end = (end + whole(above[sites[i].node as usize].list())).min(PAST);
+    'calls: for site in sites {
+        end = end.saturating_add(sizes[site.node as usize]);
         push(&mut ends, end)?;
     }
     Ok(ends)
@@ -60,9 +48,10 @@ fn ends_of(
 fn all_ends(alloc: Global, placed: &Placed) -> Result<Vec<Numbers64>, OutOfMemory>
     ensures { IfOk result (λ v. AreAllEnds placed.now.nodes (length placed.now.nodes) v.items) }
 {
+    let sizes = sizes(placed);
     let mut all = Vec::new(alloc);
     'nodes: for node in 0..placed.nodes() {
-        let ends = ends_of(alloc, placed, node, &all)?;
+        let ends = ends_of(alloc, placed, &sizes, node)?;
         push(&mut all, Numbers64::new(ends))?;
     }
     Ok(all)

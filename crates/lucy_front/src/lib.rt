@@ -25,6 +25,7 @@ mod texts;
 
 pub use accepted::Accepted;
 pub use accepting::accept;
+pub use fault::NodeFault;
 pub use laws::{texts_have_one_answer, texts_have_one_program, texts_have_one_refusal};
 pub use names::node_line;
 pub use options::Options;

@@ -3,6 +3,7 @@ ghost use Rattle.std.specs.Prelude.{◌≡◌, ◌+◌, ◌<◌, ◌≤◌, ◌+
 ghost use Rattle.std.specs.List.{AllByRecursion};
 ghost use Rattle.lucy_word.specs.Spelling.{text_of};
 ghost use Rattle.lucy_place.specs.Faults.{most_places};
+ghost use Rattle.lucy_place.specs.Standing.{bound_of};
 ghost use Rattle.lucy_types.specs.Tables.{table_at};
 ghost use Rattle.lucy_need.specs.Meeting.{assigned};
 ghost use Rattle.lucy_place.specs.declared.placed.PlacedNode.{PlacedNode as Node};
@@ -117,7 +118,39 @@ fn adapted(
     clock_word(alloc, words, to, out)
 }
 
-// `  buffer N : WORD1 <: WORD2 size S`
+// The bound of the buffer of a number, where one is written.
+fn bound_of(node: &PlacedNode, buffer: u64) -> Option<u64>
+    ensures { result ≡ bound_of node.now buffer }
+{
+    *node.bounds.list().get(buffer.checked_sub(1)? as usize)?
+}
+
+// ` at most B`, where a bound is written.
+fn bound_part(alloc: Global, most: Option<u64>, out: &mut Vec<u8>) -> Result<(), OutOfMemory>
+    ensures { OnOk result (out.new.items ≡ out.old.items ++ spec.bound_part most) }
+{
+    let Some(most) = most else {
+        return Ok(());
+    };
+    bytes(b" at most ", out)?;
+    number(alloc, most, out)
+}
+
+// ` size S`, with its bound.
+fn size_part(
+    alloc: Global,
+    size: u64,
+    most: Option<u64>,
+    out: &mut Vec<u8>,
+) -> Result<(), OutOfMemory>
+    ensures { OnOk result (out.new.items ≡ out.old.items ++ spec.size_part size most) }
+{
+    bytes(b" size ", out)?;
+    number(alloc, size, out)?;
+    bound_part(alloc, most, out)
+}
+
+// `  buffer N : WORD1 <: WORD2 size S`, with its bound.
 fn buffer_line(
     alloc: Global,
     node: &PlacedNode,
@@ -134,8 +167,7 @@ fn buffer_line(
     number(alloc, of, out)?;
     bytes(b" : ", out)?;
     adapted(alloc, words, operand, place, out)?;
-    bytes(b" size ", out)?;
-    number(alloc, size, out)?;
+    size_part(alloc, size, bound_of(node, of), out)?;
     bytes(b"\n", out)
 }
 
@@ -245,7 +277,7 @@ fn all_lines(
 }
 
 /// The report: for each node its name, parameters and results, then each parameter and defined name with its type and its
-/// word, each buffer with the words that it is written and read on and its size in items, and each call with the word of its
+/// word, each buffer with the words that it is written and read on, its size in items and its bound, where one is written, and each call with the word of its
 /// base. Open types are `int` in main, the last node.
 pub fn report(alloc: Global, accepted: &Accepted) -> Result<Vec<u8>, OutOfMemory>
     requires { IsReportable accepted.now.placed.nodes accepted.now.typed accepted.now.clocks.items }

@@ -4,62 +4,33 @@ ghost use Rattle.lucy_front.specs.declared.refusal.Refusal.TheVariants.{OutOfMem
 ghost use Rattle.lucy_front.specs.Scheduled.{flat_refusal};
 ghost use Rattle.lucy_front.specs.Accepting.{syntax_refusal, names_refusal};
 
+use crate::fault::NodeFault;
 use lucy_cause::Item;
-use lucy_check::CheckFault;
 use lucy_flat::FlatError;
-use lucy_need::Needs;
 use lucy_net::Net;
 use lucy_place::{NameError, Placed};
-use lucy_shape::Shape;
-use lucy_solve::Diffs;
 use lucy_syntax::SyntaxError;
 use lucy_text::Text;
-use lucy_tree::Span;
-use lucy_types::TypeError;
 use lucy_word::{Limit, OutOfMemory};
 
-/// Why a program text is refused. Nodes, needs and inequalities count from 0.
+/// Why a program text is refused. Nodes count from 0.
 #[derive(Drop)]
 pub enum Refusal {
     /// The text is no program, for another cause than a limit.
     Syntax(SyntaxError),
     /// A name is not good.
     Names(NameError),
-    /// A node has no types.
+    /// A node has no types, as this path of its places shows.
     Types {
         placed: Placed,
-        clash: TypeError,
+        node: u32,
+        path: Vec<u32>,
     },
-    /// The node has to be written and isn't, and this is the first span that keeps it from being so.
-    NotWritten {
+    /// A node has no clocks, and those above it have.
+    Node {
         placed: Placed,
         node: u32,
-        span: Span,
-    },
-    /// The node isn't written, and its rates don't agree: these needs lead from a clock back to it, the first of them from its
-    /// first clock to its second, and multiply the clock's rate by another number than 1.
-    Rates {
-        placed: Placed,
-        node: u32,
-        needs: Needs,
-        walk: Vec<u32>,
-    },
-    /// The node isn't written, and no clocks of this shape meet its needs: of the inequalities between their positions, those at
-    /// the positions of the cycle follow one another in a circle, and their constants sum below 0.
-    Clocks {
-        placed: Placed,
-        node: u32,
-        needs: Needs,
-        shape: Shape,
-        diffs: Diffs,
-        cycle: Vec<u32>,
-    },
-    /// The node is written and not well clocked: the words that it hands down don't meet a need.
-    Check {
-        placed: Placed,
-        node: u32,
-        needs: Needs,
-        fault: CheckFault,
+        fault: NodeFault,
     },
     /// Items of the flat net depend on each other: each on the next one, and the last one on the first, which is of the least
     /// actor. They are of this instant, which counts from 1, and no item of an earlier one reaches itself. There is a name for

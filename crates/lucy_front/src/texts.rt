@@ -1,18 +1,20 @@
 // The texts of refusals.
 ghost use Rattle.std.specs.Prelude.{◌≡◌, ◌<◌, ◌++◌, IfOk, OnOk, length};
+ghost use Rattle.lucy_front.specs.declared.fault.NodeFault.TheVariants.{NotWritten};
 ghost use Rattle.lucy_front.specs.Refusals as spec;
 
 use crate::evidence::{unclocked_lines, unequal_lines};
+use crate::fault::NodeFault;
 use crate::names::{bytes, number, place_names};
 use crate::refusal::Refusal;
 use crate::terms::need_text;
 use lucy_cause::Item;
 use lucy_check::CheckFault;
 use lucy_need::Need;
-use lucy_place::{NameError, Placed, PlacedNode};
+use lucy_place::{NameError, PlacedNode};
 use lucy_syntax::SyntaxError;
 use lucy_text::Text;
-use lucy_types::TypeError;
+use lucy_tree::Span;
 use lucy_word::{Limit, OutOfMemory};
 use std::alloc::Global;
 
@@ -86,26 +88,15 @@ fn path_lines(alloc: Global, node: &PlacedNode, path: &[u32]) -> Result<Vec<u8>,
     Ok(lines)
 }
 
-// The lines of a clash of types.
-fn clash_lines(alloc: Global, placed: &Placed, clash: &TypeError) -> Result<Vec<u8>, OutOfMemory>
-    requires { spec.NamesNode placed.now.nodes clash.now }
-    ensures { IfOk result (λ v. v.items ≡ spec.clash_lines placed.now.nodes clash.now) }
-{
-    match clash {
-        TypeError::Clash { node, path } => { path_lines(alloc, placed.node(*node), path) }
-        TypeError::OutOfMemory => memory_line(alloc),
-    }
-}
-
 // The line where a node isn't written.
-fn unwritten_line(alloc: Global, node: &PlacedNode, at: u64) -> Result<Vec<u8>, OutOfMemory>
-    ensures { IfOk result (λ v. v.items ≡ spec.unwritten_line node.now at) }
+fn unwritten_line(alloc: Global, node: &PlacedNode, span: Span) -> Result<Vec<u8>, OutOfMemory>
+    ensures { IfOk result (λ v. v.items ≡ spec.fault_lines node.now (NotWritten span)) }
 {
     let mut line = Vec::new(alloc);
     bytes(b"lucy: check: node ", &mut line)?;
     bytes(node.name.text.bytes(), &mut line)?;
     bytes(b": not written at ", &mut line)?;
-    number(alloc, at, &mut line)?;
+    number(alloc, u64::from(span.from), &mut line)?;
     bytes(b"\n", &mut line)?;
     Ok(line)
 }
@@ -117,7 +108,7 @@ fn need_line(
     need: &Need,
     end: &[u8],
 ) -> Result<Vec<u8>, OutOfMemory>
-    ensures { IfOk result (λ v. v.items ≡ spec.need_line node.now need.now end.now) }
+    ensures { IfOk result (λ v. v.items ≡ spec.need_line node.now end.now need.now) }
 {
     let mut line = Vec::new(alloc);
     bytes(b"lucy: check: node ", &mut line)?;
@@ -152,6 +143,24 @@ fn check_line(
         }
         CheckFault::Limit { limit, .. } => limit_line(alloc, limit),
         CheckFault::OutOfMemory => memory_line(alloc),
+    }
+}
+
+// The lines of a fault of a node.
+fn fault_lines(alloc: Global, node: &PlacedNode, fault: &NodeFault) -> Result<Vec<u8>, OutOfMemory>
+    requires { spec.IsShown fault.now }
+    ensures { IfOk result (λ v. v.items ≡ spec.fault_lines node.now fault.now) }
+{
+    match fault {
+        NodeFault::NotWritten(span) => unwritten_line(alloc, node, *span),
+        NodeFault::Rates { needs, walk } => unequal_lines(alloc, node, needs.list.list(), walk),
+        NodeFault::Clocks {
+            needs,
+            shape,
+            diffs,
+            cycle,
+        } => unclocked_lines(alloc, node, needs.clocks, shape, diffs, cycle),
+        NodeFault::Check { needs, fault } => check_line(alloc, node, needs.list.list(), *fault),
     }
 }
 
@@ -201,33 +210,12 @@ pub fn refusal_text(alloc: Global, refusal: &Refusal) -> Result<Vec<u8>, OutOfMe
     match refusal {
         Refusal::Syntax(error) => syntax_line(alloc, *error),
         Refusal::Names(error) => name_line(alloc, *error),
-        Refusal::Types { placed, clash } => clash_lines(alloc, placed, clash),
-        Refusal::NotWritten { placed, node, span } => {
-            unwritten_line(alloc, placed.node(*node), u64::from(span.from))
-        }
-        Refusal::Rates {
+        Refusal::Types { placed, node, path } => path_lines(alloc, placed.node(*node), path),
+        Refusal::Node {
             placed,
             node,
-            needs,
-            walk,
-        } => unequal_lines(alloc, placed.node(*node), needs.list.list(), walk),
-        Refusal::Clocks {
-            placed,
-            node,
-            needs,
-            shape,
-            diffs,
-            cycle,
-        } => {
-            let node = placed.node(*node);
-            unclocked_lines(alloc, node, needs.clocks, shape, diffs, cycle)
-        }
-        Refusal::Check {
-            placed,
-            node,
-            needs,
             fault,
-        } => check_line(alloc, placed.node(*node), needs.list.list(), *fault),
+        } => fault_lines(alloc, placed.node(*node), fault),
         Refusal::Cause {
             names,
             instant,

@@ -4,6 +4,7 @@ use Rattle.lucy_front.proofs.TellableLaws.{reportable, tellable}
 use Rattle.lucy_front.proofs.ScheduledLaws.{clocked}
 use Rattle.lucy_front.proofs.OneAnswer.{only_refusal}
 use Rattle.lucy_front.proofs.OneAccepted.{accepted_kept, refused_alike}
+use Rattle.lucy_front.proofs.BoundedLaws.{bounded}
 use Rattle.lucy_front.proofs.accepting.accept.Goals as goal
 
 pub returns-clause-accepted : goal.returns-clause-accepted
@@ -20,6 +21,9 @@ returns-clause-clocked c = IfOk-weaker c.planned.result _ _ (λ a is. clocked a.
 
 pub returns-clause-reportable : goal.returns-clause-reportable
 returns-clause-reportable c = IfOk-weaker c.planned.result _ _ (λ a is. reportable c.args.ops.now c.args.options.now c.args.text.now a is) c.planned.ensures.ok
+
+pub returns-clause-bounded : goal.returns-clause-bounded
+returns-clause-bounded c = IfOk-weaker c.planned.result _ _ (λ a is. bounded c.args.ops.now c.args.options.now c.args.text.now a is) c.planned.ensures.ok
 
 pub returns-clause-tellable : goal.returns-clause-tellable
 returns-clause-tellable c = IfErr-weaker c.planned.result _ _ (λ e is. tellable c.args.ops.now c.args.options.now c.args.text.now e is) c.planned.ensures.refused

@@ -1,5 +1,5 @@
 use Rattle.std.proofs.Common.{subst, arith}
-use Rattle.lucy_front.specs.Clocking.{Refused}
+use Rattle.lucy_front.specs.Clocking.{HasNoClocks}
 use Rattle.lucy_front.proofs.ClockedLaws.{there}
 use Rattle.lucy_front.proofs.clocking.node_clocks.Goals as goal
 
@@ -8,13 +8,10 @@ returns-in-Err-clause-refused c =
     let count = c.nodes-nodes.ensures.count in
     let test = c.each-test.true in
     let n = there c.args.placed.now.nodes c.each.node (omega arith) in
-    let refused = c.in-Err.ensures.refused n.0 n.1 in (
-      refused.0,
-      record {
-        clocks = c.each.clocks.items;
-        above = c.each.invariant.0;
-        n = n.0;
-        stands = n.1;
-        refused = subst (λ s. Refused c.args.options.now c.in-Err.fault s n.0) c.each.invariant.1 refused.1;
-      },
-    )
+    record {
+      clocks = c.each.clocks.items;
+      above = c.each.invariant.0;
+      n = n.0;
+      stands = n.1;
+      refused = subst (λ s. HasNoClocks c.args.options.now c.args.placed.now c.each.node s n.0 c.in-Err.why) c.each.invariant.1 (c.in-Err.ensures.refused n.0 n.1);
+    }
