@@ -1,51 +1,74 @@
 -- What is owed where a text, or an input, came out so.
-use Rattle.std.proofs.Common.{ℕ, ◌≤◌, ◌<◌, ◌≡◌, ◌⊎◌, List, Result, Ok, Err, refl, ap, sym, ◌∙◌, subst, inl, inr, arith}
+use Rattle.std.proofs.Common.{ℕ, ◌≤◌, ◌<◌, ◌≡◌, ◌⊎◌, List, [], ◌∷◌, Result, Ok, Err, refl, ap, sym, ◌∙◌, subst, inl, inr, arith}
 use Rattle.std.specs.Prelude.{length, IfOk, IfErr}
 use Rattle.std.specs.declared.alloc.Global.{Global}
 use Rattle.std.specs.declared.vec.Vec.{Vec}
 use Rattle.lucy_word.specs.declared.limit.Limit.TheVariants as limit
 use Rattle.lucy_text.specs.declared.shelf.ShelfError.{ShelfError}
 use Rattle.lucy_text.specs.declared.shelf.ShelfError.TheVariants as shelf
-use Rattle.lucy_feed.specs.Sources.{Stop, Ended, Failed, Passed, Open, IsGathered}
+use Rattle.lucy_feed.specs.Sources.{Stop, Unread, Ended, Failed, Passed, Open, IsGathered}
 use Rattle.lucy_feed.specs.declared.read.ReadError.{ReadError}
 use Rattle.lucy_feed.specs.declared.read.ReadError.TheVariants as read
-use Rattle.lucy_app.specs.Answers.{limit_passed}
+use Rattle.lucy_app.specs.Answers.{Answer, limit_passed}
 use Rattle.lucy_app.specs.Fields.{fields}
+use Rattle.lucy_host.specs.Operators.{Operator}
+use Rattle.lucy_front.specs.declared.options.Options.{Options}
+use Rattle.lucy_app.specs.Types.{IsReportOf, RefusesText}
+use Rattle.lucy_app.specs.Check.{IsCheckOf, RefusesCheck}
 use Rattle.lucy_app.specs.Order.{IsVerdictLine, RefusesFields}
 use Rattle.lucy_app.specs.Owes.{OwesOrder}
-use Rattle.lucy_app.specs.Programs.{OwesProgram}
+use Rattle.lucy_app.specs.Programs.{OwesText, OwesPrint}
 use Rattle.lucy_app.specs.Outcomes.{bytes_of, refusal_answer, fetch_refusal, RefusesProgram, RefusesInput, IsOutcome, read_refusal}
 use Rattle.lucy_front.specs.declared.refusal.Refusal.{Refusal as Reason}
 use Rattle.lucy_app.specs.declared.refusal.Refusal.{Refusal}
 use Rattle.lucy_app.specs.declared.refusal.Refusal.TheVariants.{OutOfMemory}
 
+-- what a text that was fetched came out as is owed
 pub program_owed : (Prints : List ℕ → List ℕ → Type 0) (Refuses : List ℕ → Reason → Type 0) (text : List ℕ) (r : Result (Vec ℕ Global) Refusal) →
-    IfOk r (λ v. Prints text v.items) → IfErr r (RefusesProgram (Refuses text)) → IsOutcome (OwesProgram Prints Refuses (Ok text)) r
-program_owed Prints Refuses text (Ok print) is why = inl (print.items, is, refl)
+    IfOk r (λ v. Prints text v.items) → IfErr r (RefusesProgram (Refuses text)) → IsOutcome (OwesText Refuses (OwesPrint Prints) Unread (Ok text ∷ [])) r
+program_owed Prints Refuses text (Ok print) is why = inr (print.items, is, refl)
 program_owed Prints Refuses text (Err e) is (inl out) = inl out
-program_owed Prints Refuses text (Err e) is (inr why) = inr (inr (why.0, why.1, ap refusal_answer why.2))
+program_owed Prints Refuses text (Err e) is (inr why) = inr (inl ((why.0, why.1, ap refusal_answer why.2), refl))
 
 -- the text that a fetch gave came out so
-pub program_outcome : (Prints : List ℕ → List ℕ → Type 0) (Refuses : List ℕ → Reason → Type 0) (fetched : Result (Vec ℕ Global) ShelfError) (text : Vec ℕ Global) (r : Result (Vec ℕ Global) Refusal) →
-    fetched ≡ Ok text → IfOk r (λ v. Prints text.items v.items) → IfErr r (RefusesProgram (Refuses text.items)) → IsOutcome (OwesProgram Prints Refuses (bytes_of fetched)) r
+pub program_outcome : (Prints : List ℕ → List ℕ → Type 0) (Refuses : List ℕ → Reason → Type 0) (fetched : Result (Vec ℕ Global) ShelfError) (text : Vec ℕ Global)
+    (r : Result (Vec ℕ Global) Refusal) → fetched ≡ Ok text → IfOk r (λ v. Prints text.items v.items) → IfErr r (RefusesProgram (Refuses text.items)) →
+    IsOutcome (OwesText Refuses (OwesPrint Prints) Unread (bytes_of fetched ∷ [])) r
 program_outcome Prints Refuses fetched text r gave is why =
-    let P : Result (Vec ℕ Global) ShelfError → Type 0 = λ f. IsOutcome (OwesProgram Prints Refuses (bytes_of f)) r in
+    let P : Result (Vec ℕ Global) ShelfError → Type 0 = λ f. IsOutcome (OwesText Refuses (OwesPrint Prints) Unread (bytes_of f ∷ [])) r in
     subst P (sym gave) (program_owed Prints Refuses text.items r is why)
 
-pub fetch_owed : (Prints : List ℕ → List ℕ → Type 0) (Refuses : List ℕ → Reason → Type 0) (e : ShelfError) →
-    (fetch_refusal e ≡ OutOfMemory) ⊎ OwesProgram Prints Refuses (Err e) (refusal_answer (fetch_refusal e))
-fetch_owed Prints Refuses shelf.Failed = inr refl
-fetch_owed Prints Refuses shelf.Missing = inr refl
-fetch_owed Prints Refuses shelf.TooLong = inr refl
-fetch_owed Prints Refuses shelf.OutOfMemory = inl refl
+-- a fetch that gave no text is refused
+pub fetch_owed : (Refuses : List ℕ → Reason → Type 0) (Owed : List ℕ → Answer → Type 0) (e : ShelfError) →
+    (fetch_refusal e ≡ OutOfMemory) ⊎ OwesText Refuses Owed Unread (Err e ∷ []) (refusal_answer (fetch_refusal e))
+fetch_owed Refuses Owed shelf.Failed = inr (inl (refl, refl))
+fetch_owed Refuses Owed shelf.Missing = inr (inl (refl, refl))
+fetch_owed Refuses Owed shelf.TooLong = inr (inl (refl, refl))
+fetch_owed Refuses Owed shelf.OutOfMemory = inl refl
 
 -- a fetch gave no text
-pub fetch_outcome : (Prints : List ℕ → List ℕ → Type 0) (Refuses : List ℕ → Reason → Type 0) (fetched : Result (Vec ℕ Global) ShelfError) (e : ShelfError) (r : Result (Vec ℕ Global) Refusal) (refusal : Refusal) →
-    fetched ≡ Err e → r ≡ Err refusal → refusal ≡ fetch_refusal e → IsOutcome (OwesProgram Prints Refuses (bytes_of fetched)) r
+pub fetch_outcome : (Prints : List ℕ → List ℕ → Type 0) (Refuses : List ℕ → Reason → Type 0) (fetched : Result (Vec ℕ Global) ShelfError) (e : ShelfError)
+    (r : Result (Vec ℕ Global) Refusal) (refusal : Refusal) → fetched ≡ Err e → r ≡ Err refusal → refusal ≡ fetch_refusal e →
+    IsOutcome (OwesText Refuses (OwesPrint Prints) Unread (bytes_of fetched ∷ [])) r
 fetch_outcome Prints Refuses fetched e r refusal gave is so =
-    let P : Result (Vec ℕ Global) ShelfError → Type 0 = λ f. IsOutcome (OwesProgram Prints Refuses (bytes_of f)) r in
-    let Q : Result (Vec ℕ Global) Refusal → Type 0 = λ x. IsOutcome (OwesProgram Prints Refuses (Err e)) x in
-    subst P (sym gave) (subst Q (sym (is ∙ ap Err so)) (fetch_owed Prints Refuses e))
+    let P : Result (Vec ℕ Global) ShelfError → Type 0 = λ f. IsOutcome (OwesText Refuses (OwesPrint Prints) Unread (bytes_of f ∷ [])) r in
+    let Q : Result (Vec ℕ Global) Refusal → Type 0 = λ x. IsOutcome (OwesText Refuses (OwesPrint Prints) Unread (Err e ∷ [])) x in
+    subst P (sym gave) (subst Q (sym (is ∙ ap Err so)) (fetch_owed Refuses (OwesPrint Prints) e))
+
+-- what is owed where the host has these operators
+pub report_met : (ops lends : List Operator) (fetched : List (Result (List ℕ) ShelfError)) (r : Result (Vec ℕ Global) Refusal) → ops ≡ lends →
+    IsOutcome (OwesText (RefusesText ops) (OwesPrint (IsReportOf ops)) Unread fetched) r → IsOutcome (OwesText (RefusesText lends) (OwesPrint (IsReportOf lends)) Unread fetched) r
+report_met ops lends fetched r same is =
+    let P : List Operator → Type 0 = λ u. IsOutcome (OwesText (RefusesText u) (OwesPrint (IsReportOf u)) Unread fetched) r in
+    subst P same is
+
+-- and clocks are found so
+pub check_met : (ops lends : List Operator) (found o : Options) (fetched : List (Result (List ℕ) ShelfError)) (r : Result (Vec ℕ Global) Refusal) → ops ≡ lends → found ≡ o →
+    IsOutcome (OwesText (RefusesCheck ops found) (OwesPrint (IsCheckOf ops found)) Unread fetched) r → IsOutcome (OwesText (RefusesCheck lends o) (OwesPrint (IsCheckOf lends o)) Unread fetched) r
+check_met ops lends found o fetched r same is_o is =
+    let P : List Operator → Type 0 = λ u. IsOutcome (OwesText (RefusesCheck u found) (OwesPrint (IsCheckOf u found)) Unread fetched) r in
+    let Q : Options → Type 0 = λ u. IsOutcome (OwesText (RefusesCheck lends u) (OwesPrint (IsCheckOf lends u)) Unread fetched) r in
+    subst Q is_o (subst P same is)
 
 -- an input that was read to its end came out so
 order_owed : (text : List ℕ) (r : Result (Vec ℕ Global) Refusal) → IfOk r (λ v. IsVerdictLine text v.items) → IfErr r (RefusesInput (RefusesFields (fields text))) →

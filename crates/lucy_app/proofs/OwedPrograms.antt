@@ -1,19 +1,49 @@
--- What a command owes that prints the text of a program, or refuses it, is one answer, but for the evidence of a refusal.
-use Rattle.std.proofs.Common.{ℕ, List, Result, Ok, Err, ap, sym, ◌∙◌, inl, inr}
+-- What a command owes of a text is one answer, but for the evidence of a refusal.
+use Rattle.std.proofs.Common.{ℕ, ◌≡◌, List, [], ◌∷◌, Result, Ok, Err, ap, sym, ◌∙◌, inl, inr}
 use Rattle.lucy_text.specs.declared.shelf.ShelfError.{ShelfError}
 use Rattle.lucy_text.specs.declared.shelf.ShelfError.TheVariants as shelf
+use Rattle.lucy_feed.specs.Sources.{Stop}
 use Rattle.lucy_front.specs.declared.refusal.Refusal.{Refusal}
+use Rattle.lucy_front.specs.OneAnswer.{AreAlike}
+use Rattle.lucy_app.specs.Commands.{HasText}
 use Rattle.lucy_app.specs.Answers.{Answer, Alike, printed}
-use Rattle.lucy_app.specs.Programs.{OwesProgram}
+use Rattle.lucy_app.specs.Programs.{OwesRefusal, OwesText, OwesPrint}
 use Rattle.lucy_app.proofs.Verdicts.{IsVerdict}
 
-pub program_owes_one : (Prints : List ℕ → List ℕ → Type 0) (Refuses : List ℕ → Refusal → Type 0) → IsVerdict Prints Refuses → (fetched : Result (List ℕ) ShelfError) (a b : Answer) →
-    OwesProgram Prints Refuses fetched a → OwesProgram Prints Refuses fetched b → Alike a b
-program_owes_one Prints Refuses v (Ok text) a b (inl is) (inl also) = inl (is.2 ∙ ap printed (v.one text is.0 also.0 is.1 also.1) ∙ sym also.2)
-program_owes_one Prints Refuses v (Ok text) a b (inl is) (inr also) = absurd (v.apart text is.0 also.0 is.1 also.1)
-program_owes_one Prints Refuses v (Ok text) a b (inr is) (inl also) = absurd (v.apart text also.0 is.0 also.1 is.1)
-program_owes_one Prints Refuses v (Ok text) a b (inr is) (inr also) = inr (is.0, also.0, v.same text is.0 also.0 is.1 also.1, is.2, also.2)
-program_owes_one Prints Refuses v (Err shelf.Failed) a b is also = inl (is ∙ sym also)
-program_owes_one Prints Refuses v (Err shelf.Missing) a b is also = inl (is ∙ sym also)
-program_owes_one Prints Refuses v (Err shelf.TooLong) a b is also = inl (is ∙ sym also)
-program_owes_one Prints Refuses v (Err shelf.OutOfMemory) a b is also = absurd is
+-- of a text one answer is owed, or refusals that are alike
+pub record IsDecided (Refuses : List ℕ → Refusal → Type 0) (Owed : List ℕ → Answer → Type 0) : Type 0 where
+  pub one : (text : List ℕ) (a b : Answer) → Owed text a → Owed text b → a ≡ b
+  pub apart : (text : List ℕ) (a : Answer) (refusal : Refusal) → Owed text a → Refuses text refusal → ⊥
+  pub same : (text : List ℕ) (refusal other : Refusal) → Refuses text refusal → Refuses text other → AreAlike refusal other
+
+pub print_decided : (Prints : List ℕ → List ℕ → Type 0) (Refuses : List ℕ → Refusal → Type 0) → IsVerdict Prints Refuses → IsDecided Refuses (OwesPrint Prints)
+print_decided Prints Refuses v = record {
+  one = λ text a b is also. is.2 ∙ ap printed (v.one text is.0 also.0 is.1 also.1) ∙ sym also.2;
+  apart = λ text a r is bad. v.apart text is.0 r is.1 bad;
+  same = v.same;
+}
+
+module _ (Refuses : List ℕ → Refusal → Type 0) (Owed : List ℕ → Answer → Type 0) (d : IsDecided Refuses Owed) where
+  refusals_alike : (fetched : List (Result (List ℕ) ShelfError)) (a b : Answer) → OwesRefusal Refuses fetched a → OwesRefusal Refuses fetched b → Alike a b
+  refusals_alike [] a b h k = absurd h
+  refusals_alike (Ok text ∷ more) a b h k = inr (h.0, k.0, d.same text h.0 k.0 h.1 k.1, h.2, k.2)
+  refusals_alike (Err shelf.Failed ∷ more) a b h k = inl (h ∙ sym k)
+  refusals_alike (Err shelf.Missing ∷ more) a b h k = inl (h ∙ sym k)
+  refusals_alike (Err shelf.TooLong ∷ more) a b h k = inl (h ∙ sym k)
+  refusals_alike (Err shelf.OutOfMemory ∷ more) a b h k = absurd h
+
+  pub unrefused : (fetched : List (Result (List ℕ) ShelfError)) (a b : Answer) → HasText fetched (λ text. Owed text a) → OwesRefusal Refuses fetched b → ⊥
+  unrefused [] a b h k = h
+  unrefused (Ok text ∷ more) a b h k = d.apart text a k.0 h k.1
+  unrefused (Err e ∷ more) a b h k = h
+
+  pub owed_one : (fetched : List (Result (List ℕ) ShelfError)) (a b : Answer) → HasText fetched (λ text. Owed text a) → HasText fetched (λ text. Owed text b) → a ≡ b
+  owed_one [] a b h k = absurd h
+  owed_one (Ok text ∷ more) a b h k = d.one text a b h k
+  owed_one (Err e ∷ more) a b h k = absurd h
+
+  pub text_owes_one : (stop : Stop) (fetched : List (Result (List ℕ) ShelfError)) (a b : Answer) → OwesText Refuses Owed stop fetched a → OwesText Refuses Owed stop fetched b → Alike a b
+  text_owes_one stop fetched a b (inl h) (inl k) = refusals_alike fetched a b h.0 k.0
+  text_owes_one stop fetched a b (inl h) (inr k) = absurd (unrefused fetched b a k h.0)
+  text_owes_one stop fetched a b (inr h) (inl k) = absurd (unrefused fetched a b h k.0)
+  text_owes_one stop fetched a b (inr h) (inr k) = inl (owed_one fetched a b h k)

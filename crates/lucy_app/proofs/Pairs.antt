@@ -3,8 +3,13 @@ use Rattle.std.proofs.Common.{ℕ, ◌≤◌, ◌<◌, ◌≡◌, List, [], ◌�
 use Rattle.std.specs.Prelude.{IfErr, IsErrAnd}
 use Rattle.lucy_word.specs.Bits.{Bits}
 use Rattle.lucy_word.specs.Reading.{IsReadable}
+use Rattle.lucy_word.specs.Limits.{limit_number}
+use Rattle.lucy_word.specs.declared.limit.Limit.TheVariants as limit
+use Rattle.lucy_order.specs.Horizon.{IsHorizon, AreFar}
+use Rattle.lucy_check.proofs.CheckLaws.{horizon_one}
 use Rattle.lucy_app.specs.Fields.{fields}
 use Rattle.lucy_app.specs.Order.{IsPair, RefusesWord, RefusesFields}
+use Rattle.lucy_app.specs.declared.input_refusal.InputCause.TheVariants.{Limit}
 use Rattle.lucy_app.specs.declared.refusal.Refusal.{Refusal}
 use Rattle.lucy_app.specs.Outcomes.{RefusesInput}
 
@@ -32,7 +37,20 @@ pub second_refused : {X : Type 0} (f : X → List ℕ) (xs : List X) (d : X) (te
     IsReadable (f (get_or xs 0 d)) a → RefusesInput (λ cause. RefusesWord 2 (f (get_or xs 1 d)) cause) e → RefusesInput (λ cause. RefusesFields (fields text) cause) e
 second_refused f xs d text a e cut some few first (inl h) = inl h
 second_refused f xs d text a e cut some few first (inr h) =
-    inr (h.0, inr (inr (f (get_or xs 0 d), f (get_or xs 1 d), a, sym cut ∙ pair_of f xs d d some few, first, h.1)), h.2)
+    inr (h.0, inr (inr (inl (f (get_or xs 0 d), f (get_or xs 1 d), a, sym cut ∙ pair_of f xs d d some few, first, h.1))), h.2)
+
+-- two fields that are read, about which too many instants decide
+pub far_refused : {X : Type 0} (f : X → List ℕ) (xs : List X) (d : X) (text : List ℕ) (a b : Bits) → map f xs ≡ fields text → 2 ≤ length xs → length xs < 3 →
+    IsReadable (f (get_or xs 0 d)) a → IsReadable (f (get_or xs 1 d)) b → AreFar a b → RefusesFields (fields text) (Limit limit.Compare)
+far_refused f xs d text a b cut some few first second far =
+    inr (inr (inr (f (get_or xs 0 d), f (get_or xs 1 d), a, b, sym cut ∙ pair_of f xs d d some few, first, second, far, refl)))
+
+-- so many instants decide
+pub is_far : (a b : Bits) (n : ℕ) → IsHorizon a b n → limit_number limit.Compare < n → AreFar a b
+is_far a b n is past = (n, is, past)
+
+pub is_near : (a b : Bits) (n : ℕ) → IsHorizon a b n → n ≤ limit_number limit.Compare → AreFar a b → ⊥
+is_near a b n is within far = omega (arith, horizon_one a b n far.0 is far.1, far.2, within)
 
 -- an error that is passed on
 pub passed_on : {T E : Type 0} (P : E → Type 0) (r : Result T E) (e : E) → IsErrAnd r (λ y. y ≡ e) → P e → IfErr r P

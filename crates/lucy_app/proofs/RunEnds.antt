@@ -1,23 +1,31 @@
 -- How a command ends that runs a program, by what has been read.
 use Rattle.lucy_front.specs.declared.options.Options.{Options}
 use Rattle.std.proofs.Common.{ℕ, ◌≡◌, ◌⊎◌, List, [], ◌∷◌, Result, Ok, Err, refl, ap, sym, subst, inl, inr}
-use Rattle.std.specs.Prelude.{Option, ◌≢◌, IsOkAnd}
+use Rattle.std.specs.Prelude.{Option, ◌≢◌}
 use Rattle.lucy_word.specs.Limits.{limit_number}
 use Rattle.lucy_word.specs.declared.limit.Limit.TheVariants as limit
 use Rattle.lucy_host.specs.Operators.{Operator}
 use Rattle.lucy_text.specs.declared.shelf.ShelfError.{ShelfError}
 use Rattle.lucy_text.proofs.OutsideLaws.{followed-nil, still_none}
-use Rattle.lucy_feed.specs.Sources.{Stop, Unread, SeenSource, Read}
-use Rattle.lucy_output.specs.Sinks.{SeenSink}
+use Rattle.lucy_text.specs.Outside.{SeenSource, SeenSink}
+use Rattle.lucy_feed.specs.Sources.{Stop, Unread, Read}
 use Rattle.lucy_front.specs.declared.accepted.Accepted.{Accepted}
 use Rattle.lucy_run.specs.declared.ending.Ending.{Ending}
 use Rattle.lucy_run.specs.Ends.{EndsWith}
 use Rattle.lucy_lines.specs.declared.input.InputSpec.{InputSpec}
-use Rattle.lucy_app.specs.Commands.{TakesInput}
+use Rattle.lucy_host.specs.Operators.{kinds_of}
+use Rattle.lucy_run.specs.Feeds.{CountsAs}
+use Rattle.lucy_run.specs.Owes.{OwesRun, OwesKahn}
+use Rattle.lucy_command.specs.Commands.{RunWords, KahnWords, Run, Kahn}
+use Rattle.lucy_app.specs.Commands.{inferring_options, HasText, TakesInput}
+use Rattle.lucy_app.specs.World.{Given}
+use Rattle.lucy_app.specs.Answers.{Answer}
+use Rattle.lucy_app.specs.Owes.{Owes, OwesOutput}
+use Rattle.lucy_app.specs.Ends.{EndsBy}
 use Rattle.lucy_app.specs.Running.{IsRunnable}
 use Rattle.lucy_app.specs.Outcomes.{IsAccepting, EndsRun, TellsEnding, TellsRefusal}
 use Rattle.lucy_app.specs.declared.refusal.Refusal.{Refusal}
-use Rattle.lucy_app.proofs.Runs.{ok_more, ends_unrun, ends_run}
+use Rattle.lucy_app.proofs.Runs.{text_more, ends_unrun, ends_run}
 
 some_or_none : (inputs : List InputSpec) → (inputs ≡ []) ⊎ (inputs ≢ [])
 some_or_none [] = inl refl
@@ -28,33 +36,60 @@ pub seen_alone : {S T P : Type 0} (see : S → T) (was now : S) → (now ≡ was
 seen_alone see was now (inl e) = inl (ap see e)
 seen_alone see was now (inr p) = inr p
 
-module _ (Owed : List ℕ → Stop → Accepted → List ℕ → Ending → Type 0) (OwedOutput : List ℕ → Stop → Accepted → List ℕ → Type 0) (ops lends : List Operator) (o : Options) (instants : Option ℕ)
-    (fetched : Result (List ℕ) ShelfError) (answer : Result Accepted Refusal) (same : ops ≡ lends) (accepting : IsAccepting ops o instants fetched answer) where
+module _ (Owed : List ℕ → Stop → Accepted → List ℕ → Ending → Type 0) (Counts : Stop → Stop → Type 0) (same_counts : (stop : Stop) → Counts stop stop) (ops lends : List Operator) (found o : Options)
+    (instants : Option ℕ) (fetched : List (Result (List ℕ) ShelfError)) (answer : Result Accepted Refusal) (same : ops ≡ lends) (is_o : found ≡ o) (accepting : IsAccepting ops found instants fetched answer) where
   accepting_so : IsAccepting lends o instants fetched answer
-  accepting_so = (let P : List Operator → Type 0 = λ u. IsAccepting u o instants fetched answer in subst P same accepting)
+  accepting_so =
+      let P : List Operator → Type 0 = λ u. IsAccepting u found instants fetched answer in
+      let Q : Options → Type 0 = λ u. IsAccepting lends u instants fetched answer in
+      subst Q is_o (subst P same accepting)
 
   -- the program was not run
   pub unrun : (s : SeenSource) (out err err' : SeenSink) (status : ℕ) (e : Refusal) → answer ≡ Err e → TellsRefusal e err err' status →
-      (taken : List ℕ) × (stop : Stop) × Read (limit_number limit.Input) s s taken stop × EndsRun (Owed taken stop) (OwedOutput taken stop) lends o instants stop fetched out out err err' status
+      (taken : List ℕ) × (stop : Stop) × Read (limit_number limit.Input) s s taken stop × EndsRun (Owed taken) (Counts stop) lends o instants stop fetched out out err err' status
   unrun s out err err' status e is told =
       let P : Result Accepted Refusal → Type 0 = λ r. IsAccepting lends o instants fetched r in (
         [],
         Unread,
         record { took = sym (followed-nil s.left); stopped = (refl, refl); none_follows = still_none s.since_stop },
-        ends_unrun (Owed [] Unread) (OwedOutput [] Unread) lends o instants fetched e out out err err' status (subst P is accepting_so) refl told,
+        ends_unrun (Owed []) (Counts Unread) lends o instants fetched e out out err err' status (subst P is accepting_so) refl told,
       )
 
   -- the program was run
   pub ran : (before after : SeenSource) (out out' err err' : SeenSink) (status : ℕ) (a : Accepted) (end : Ending) → answer ≡ Ok a →
-      (taken : List ℕ) × (stop : Stop) × Read (limit_number limit.Input) before after taken stop × EndsWith (Owed taken stop a) (OwedOutput taken stop a) out out' end → TellsEnding end err err' status →
-      (taken : List ℕ) × (stop : Stop) × Read (limit_number limit.Input) before after taken stop × EndsRun (Owed taken stop) (OwedOutput taken stop) lends o instants stop fetched out out' err err' status
+      (taken : List ℕ) × (stop : Stop) × Read (limit_number limit.Input) before after taken stop × EndsWith (λ counted. Owed taken counted a) (Counts stop) stop out out' end → TellsEnding end err err' status →
+      (taken : List ℕ) × (stop : Stop) × Read (limit_number limit.Input) before after taken stop × EndsRun (Owed taken) (Counts stop) lends o instants stop fetched out out' err err' status
   ran before after out out' err err' status a end is (taken, stop, read, left) told =
       let P : Result Accepted Refusal → Type 0 = λ r. IsAccepting lends o instants fetched r in
-      (taken, stop, read, ends_run (Owed taken stop) (OwedOutput taken stop) lends o instants fetched stop a (subst P is accepting_so) end out out' err err' status left told)
+      (taken, stop, read, ends_run (Owed taken) (Counts stop) lends o instants fetched stop (same_counts stop) a (subst P is accepting_so) end out out' err err' status left told)
 
   -- a program without inputs leaves the source alone
   pub left_alone : {S : Type 0} (was now : S) (a : Accepted) → answer ≡ Ok a → (a.inputs.items ≡ [] → now ≡ was) → (now ≡ was) ⊎ TakesInput lends o fetched
   left_alone was now a is alone =
       let P : Result Accepted Refusal → Type 0 = λ r. IsAccepting lends o instants fetched r in
-      let runnable : IsOkAnd fetched (λ text. IsRunnable lends o instants text a) = subst P is accepting_so in
-      elim (some_or_none a.inputs.items) [ inl none ↦ inl (alone none) | inr some ↦ inr (ok_more fetched _ _ (λ text can. (a, can.0, some)) runnable) ]
+      let runnable : HasText fetched (λ text. IsRunnable lends o instants text a) = subst P is accepting_so in
+      elim (some_or_none a.inputs.items) [ inl none ↦ inl (alone none) | inr some ↦ inr (text_more fetched _ _ (λ text can. (a, can.0, some)) runnable) ]
+
+-- a command that ends so with outputs that are owed ends so with others that are
+pub ends_more : (Owed : Answer → Type 0) (A B : List ℕ → Type 0) → ((output : List ℕ) → A output → B output) → (out out' err err' : SeenSink) (status : ℕ) → EndsBy Owed A out out' err err' status →
+    EndsBy Owed B out out' err err' status
+ends_more Owed A B more out out' err err' status (inl (answer, inl owed, answers)) = inl (answer, inl owed, answers)
+ends_more Owed A B more out out' err err' status (inl (answer, inr (front, inl none, is), answers)) = inl (answer, inr (front, inl none, is), answers)
+ends_more Owed A B more out out' err err' status (inl (answer, inr (front, inr (output, n, owed, e), is), answers)) = inl (answer, inr (front, inr (output, n, more output owed, e), is), answers)
+ends_more Owed A B more out out' err err' status (inr (output, owed, breaks)) = inr (output, more output owed, breaks)
+
+-- `run` that has met this ends so
+pub run_met : (words : RunWords) (given : Given) (out out' err err' : SeenSink) (status : ℕ) →
+    EndsRun (λ counted a. OwesRun (kinds_of given.operators) a words.instants given.taken counted) (CountsAs given.stop) given.operators (inferring_options words.scale words.lead) words.instants given.stop given.fetched
+    out out' err err' status → EndsBy (Owes (Run words) given) (OwesOutput (Run words) given) out out' err err' status
+run_met words given out out' err err' status ends =
+    ends_more (Owes (Run words) given) _ (OwesOutput (Run words) given)
+    (λ output (counted, answer, counts, owed, is). (record given { stop = counted }, answer, (counted, counts, refl), owed, is)) out out' err err' status ends
+
+-- and `kahn`
+pub kahn_met : (words : KahnWords) (given : Given) (out out' err err' : SeenSink) (status : ℕ) →
+    EndsRun (λ counted a. OwesKahn (kinds_of given.operators) a words.instants given.taken counted) (λ counted. counted ≡ given.stop) given.operators (inferring_options words.scale words.lead) words.instants given.stop
+    given.fetched out out' err err' status → EndsBy (Owes (Kahn words) given) (OwesOutput (Kahn words) given) out out' err err' status
+kahn_met words given out out' err err' status ends =
+    ends_more (Owes (Kahn words) given) _ (OwesOutput (Kahn words) given)
+    (λ output (counted, answer, same, owed, is). (given, answer, refl, subst (λ s. Owes (Kahn words) (record given { stop = s }) answer) same owed, is)) out out' err err' status ends

@@ -1,21 +1,22 @@
 -- How a command ends that runs a program.
 use Rattle.lucy_front.specs.declared.options.Options.{Options}
-use Rattle.std.proofs.Common.{ℕ, ◌≡◌, ◌⊎◌, List, length, Option, Result, Ok, Err, refl, sym, inl, inr, arith}
+use Rattle.std.proofs.Common.{ℕ, ◌≡◌, ◌⊎◌, List, [], ◌∷◌, length, Option, Result, Ok, Err, refl, sym, inl, inr, arith}
 use Rattle.std.specs.Prelude.{IsOkAnd}
 use Rattle.std.proofs.lemmas.List.{take_all}
 use Rattle.lucy_host.specs.Operators.{Operator}
 use Rattle.lucy_text.specs.declared.shelf.ShelfError.{ShelfError}
 use Rattle.lucy_feed.specs.Sources.{Stop, Unread}
-use Rattle.lucy_output.specs.Sinks.{SeenSink, Writes}
+use Rattle.lucy_text.specs.Outside.{SeenSink, Writes}
 use Rattle.lucy_front.specs.declared.accepted.Accepted.{Accepted}
 use Rattle.lucy_run.specs.declared.ending.Ending.{Ending}
 use Rattle.lucy_run.specs.declared.ending.Ending.TheVariants.{Done, Input, Limit, WriteFault, OutOfMemory}
-use Rattle.lucy_run.specs.Ends.{IsFrontOf, EndsWith}
+use Rattle.lucy_run.specs.Ends.{IsFrontOf, Outputs, EndsWith}
 use Rattle.lucy_app.specs.Answers.{Answer, out_of_memory}
 use Rattle.lucy_app.specs.Endings.{ended}
-use Rattle.lucy_app.specs.Running.{IsRunnable, OwesRefusal, OwesRunning, OwesRunningOutput}
+use Rattle.lucy_app.specs.Commands.{HasText}
+use Rattle.lucy_app.specs.Running.{IsRunnable, OwesEnded, OwesRunning}
 use Rattle.lucy_app.specs.Ends.{Tells}
-use Rattle.lucy_app.specs.Outcomes.{refusal_answer, TellsRefusal, TellsEnding, EndsRun}
+use Rattle.lucy_app.specs.Outcomes.{refusal_answer, NoRun, TellsRefusal, TellsEnding, RunOutputs, EndsRun}
 use Rattle.lucy_app.specs.declared.refusal.Refusal.{Refusal}
 use Rattle.lucy_app.specs.declared.refusal.Refusal.TheVariants as refusal
 use Rattle.lucy_app.proofs.Sinks.{ends_refused}
@@ -24,43 +25,56 @@ pub ok_more : {T E : Type 0} (r : Result T E) (P Q : T → Type 0) → ((x : T) 
 ok_more (Ok x) P Q more h = more x h
 ok_more (Err e) P Q more h = h
 
-module _ (Owed : Accepted → List ℕ → Ending → Type 0) (OwedOutput : Accepted → List ℕ → Type 0) (ops : List Operator) (o : Options) (instants : Option ℕ) (fetched : Result (List ℕ) ShelfError) where
+-- what is known of a text that was fetched
+pub text_more : (fetched : List (Result (List ℕ) ShelfError)) (P Q : List ℕ → Type 0) → ((text : List ℕ) → P text → Q text) → HasText fetched P → HasText fetched Q
+text_more [] P Q more h = h
+text_more (r ∷ others) P Q more h = ok_more r P Q more h
+
+module _ (Owed : Stop → Accepted → List ℕ → Ending → Type 0) (Counts : Stop → Type 0) (ops : List Operator) (o : Options) (instants : Option ℕ) (fetched : List (Result (List ℕ) ShelfError)) where
+  lacking_owed : (a : Accepted) (x : Answer) → OwesEnded (NoRun a) instants Unread a x → OwesEnded (Owed Unread a) instants Unread a x
+  lacking_owed a x (inl h) = inl h
+  lacking_owed a x (inr h) = absurd h.3
+
+  unrun_owed : (x : Answer) → OwesRunning NoRun ops o instants Unread fetched x → OwesRunning (Owed Unread) ops o instants Unread fetched x
+  unrun_owed x (inl refused) = inl refused
+  unrun_owed x (inr h) = inr (text_more fetched _ _ (λ text is. (is.0, is.1, lacking_owed is.0 x is.2)) h)
+
   -- the program is not run, and why was told
-  pub ends_unrun : (e : Refusal) (out out' err err' : SeenSink) (status : ℕ) → (e ≡ refusal.OutOfMemory) ⊎ OwesRefusal ops o instants fetched (refusal_answer e) → out' ≡ out →
-      TellsRefusal e err err' status → EndsRun Owed OwedOutput ops o instants Unread fetched out out' err err' status
+  pub ends_unrun : (e : Refusal) (out out' err err' : SeenSink) (status : ℕ) → (e ≡ refusal.OutOfMemory) ⊎ OwesRunning NoRun ops o instants Unread fetched (refusal_answer e) → out' ≡ out →
+      TellsRefusal e err err' status → EndsRun Owed Counts ops o instants Unread fetched out out' err err' status
   ends_unrun e out out' err err' status (inl is) same told = ends_refused _ _ e out out' err err' status (inl is) same told
-  ends_unrun e out out' err err' status (inr owed) same told = ends_refused _ _ e out out' err err' status (inr (inl (owed, refl))) same told
+  ends_unrun e out out' err err' status (inr owed) same told = ends_refused _ _ e out out' err err' status (inr (unrun_owed (refusal_answer e) owed)) same told
 
-  module _ (stop : Stop) (a : Accepted) (runnable : IsOkAnd fetched (λ text. IsRunnable ops o instants text a)) where
-    answer_owed : (output : List ℕ) (end : Ending) → Owed a output end → OwesRunning Owed ops o instants stop fetched (ended output end)
-    answer_owed output end owed = inr (ok_more fetched _ _ (λ text is. (a, is, output, end, owed, refl)) runnable)
+  module _ (stop : Stop) (counts : Counts stop) (a : Accepted) (runnable : HasText fetched (λ text. IsRunnable ops o instants text a)) where
+    answer_owed : (counted : Stop) (output : List ℕ) (end : Ending) → Owed counted a output end → OwesRunning (Owed counted) ops o instants counted fetched (ended output end)
+    answer_owed counted output end owed = inr (text_more fetched _ _ (λ text is. (a, is.0, inr (is.1, output, end, owed, refl))) runnable)
 
-    output_owed : (output : List ℕ) → OwedOutput a output → OwesRunningOutput OwedOutput ops o instants fetched output
-    output_owed output owed = ok_more fetched _ _ (λ text is. (a, is, owed)) runnable
+    output_owed : (output : List ℕ) → Outputs Counts (λ counted. Owed counted a) output → RunOutputs Counts Owed ops o instants fetched output
+    output_owed output (counted, end, counting, owed) = (counted, ended output end, counting, answer_owed counted output end owed, refl)
 
-    front_owed : (front : List ℕ) → IsFrontOf (OwedOutput a) front →
-        IsFrontOf (λ output. ((answer : Answer) × OwesRunning Owed ops o instants stop fetched answer × (output ≡ answer.out)) ⊎ OwesRunningOutput OwedOutput ops o instants fetched output) front
+    front_owed : (front : List ℕ) → IsFrontOf (Outputs Counts (λ counted. Owed counted a)) front → IsFrontOf (RunOutputs Counts Owed ops o instants fetched) front
     front_owed front (inl none) = inl none
-    front_owed front (inr is) = inr (is.0, is.1, inr (output_owed is.0 is.2), is.3)
+    front_owed front (inr is) = inr (is.0, is.1, output_owed is.0 is.2, is.3)
 
     -- the output stands, and its ending was told
-    whole : (output : List ℕ) (end : Ending) (out out' err err' : SeenSink) (status : ℕ) → Owed a output end → Writes out out' output → Tells (ended output end).status (ended output end).err err err' status →
-        EndsRun Owed OwedOutput ops o instants stop fetched out out' err err' status
-    whole output end out out' err err' status owed writes told = inl (ended output end, inl (answer_owed output end owed), record { printed = writes; told = told })
+    whole : (output : List ℕ) (end : Ending) (out out' err err' : SeenSink) (status : ℕ) → Owed stop a output end → Writes out out' output → Tells (ended output end).status (ended output end).err err err' status →
+        EndsRun Owed Counts ops o instants stop fetched out out' err err' status
+    whole output end out out' err err' status owed writes told = inl (ended output end, inl (answer_owed stop output end owed), record { printed = writes; told = told })
 
     -- or there was no memory for that
-    untold : (output : List ℕ) (end : Ending) (out out' err err' : SeenSink) (status : ℕ) → Owed a output end → Writes out out' output → Tells 7 (out_of_memory output).err err err' status →
-        EndsRun Owed OwedOutput ops o instants stop fetched out out' err err' status
+    untold : (output : List ℕ) (end : Ending) (out out' err err' : SeenSink) (status : ℕ) → Owed stop a output end → Writes out out' output → Tells 7 (out_of_memory output).err err err' status →
+        EndsRun Owed Counts ops o instants stop fetched out out' err err' status
     untold output end out out' err err' status owed writes told =
-        inl (out_of_memory output, inr (output, inr (output, length output, inl (ended output end, answer_owed output end owed, refl), sym (take_all (length output) output (omega arith))), refl), record { printed = writes; told = told })
+        let front = inr (output, length output, output_owed output (stop, end, counts, owed), sym (take_all (length output) output (omega arith))) in
+        inl (out_of_memory output, inr (output, front, refl), record { printed = writes; told = told })
 
     -- the program is run, and how that ended was told
-    pub ends_run : (end : Ending) (out out' err err' : SeenSink) (status : ℕ) → EndsWith (Owed a) (OwedOutput a) out out' end → TellsEnding end err err' status →
-        EndsRun Owed OwedOutput ops o instants stop fetched out out' err err' status
+    pub ends_run : (end : Ending) (out out' err err' : SeenSink) (status : ℕ) → EndsWith (λ counted. Owed counted a) Counts stop out out' end → TellsEnding end err err' status →
+        EndsRun Owed Counts ops o instants stop fetched out out' err err' status
     ends_run Done out out' err err' status left told = whole left.0 Done out out' err err' status left.1 left.2 told
     ends_run (Input fault) out out' err err' status left (inl told) = whole left.0 (Input fault) out out' err err' status left.1 left.2 told
     ends_run (Input fault) out out' err err' status left (inr told) = untold left.0 (Input fault) out out' err err' status left.1 left.2 told
     ends_run (Limit passed) out out' err err' status left (inl told) = whole left.0 (Limit passed) out out' err err' status left.1 left.2 told
     ends_run (Limit passed) out out' err err' status left (inr told) = untold left.0 (Limit passed) out out' err err' status left.1 left.2 told
-    ends_run WriteFault out out' err err' status left told = inr (left.0, inr (output_owed left.0 left.1), record { failed = left.2; told = told })
+    ends_run WriteFault out out' err err' status left told = inr (left.0, output_owed left.0 left.1, record { failed = left.2; told = told })
     ends_run OutOfMemory out out' err err' status left told = inl (out_of_memory left.0, inr (left.0, front_owed left.0 left.1, refl), record { printed = left.2; told = told })

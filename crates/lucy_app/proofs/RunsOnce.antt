@@ -1,7 +1,7 @@
 -- What a command owes that runs a program is one answer, but for the evidence of a refusal.
 use Rattle.lucy_front.specs.declared.options.Options.{Options}
-use Rattle.std.proofs.Common.{ℕ, ◌≡◌, List, Option, Some, None, Result, Ok, Err, ap, sym, ◌∙◌, subst, inl, inr}
-use Rattle.std.specs.Prelude.{IsSomeAnd, ◌++◌, codes}
+use Rattle.std.proofs.Common.{ℕ, ◌≡◌, List, Option, Result, ap, sym, ◌∙◌, subst, inl, inr}
+use Rattle.std.specs.Prelude.{◌++◌, codes}
 use Rattle.lucy_host.specs.Operators.{Operator}
 use Rattle.lucy_host.specs.declared.kind.HostKind.{HostKind}
 use Rattle.lucy_text.specs.declared.shelf.ShelfError.{ShelfError}
@@ -24,10 +24,9 @@ use Rattle.lucy_run.specs.Laws.{OneRun, OneInterpretation}
 use Rattle.lucy_app.specs.Answers.{Answer, Alike}
 use Rattle.lucy_app.specs.Check.{RefusesCheck}
 use Rattle.lucy_app.specs.Endings.{ended}
-use Rattle.lucy_app.specs.Running.{LacksInstants, NoPrint, OwesRefusal, OwesRunning}
-use Rattle.lucy_app.proofs.Verdicts.{IsVerdict}
+use Rattle.lucy_app.specs.Running.{LacksInstants, OwesEnded, OwesRunning}
 use Rattle.lucy_app.proofs.Checked.{checks_apart, checks_alike}
-use Rattle.lucy_app.proofs.OwedPrograms.{program_owes_one}
+use Rattle.lucy_app.proofs.OwedPrograms.{IsDecided, text_owes_one}
 
 -- what two programs of one text have in common: all that is run
 pub record AreSame (a b : Accepted) : Type 0 where
@@ -91,46 +90,29 @@ module _ (kinds : List HostKind) (a b : Accepted) (same : AreSame a b) (instants
 abbrev pub OwesOnce : (Owed : Accepted → List ℕ → Ending → Type 0) → Type 0
 OwesOnce Owed = (a b : Accepted) (output other : List ℕ) (end way : Ending) → AreSame a b → Owed a output end → Owed b other way → (output ≡ other) × (end ≡ way)
 
-no_print : (ops : List Operator) (o : Options) → IsVerdict NoPrint (RefusesCheck ops o)
-no_print ops o = record {
-  one = λ text x y is also. absurd is;
-  apart = λ text x r is bad. is;
-  same = λ text r s h k. checks_alike ops o text r s h k;
-}
-
 module _ (Owed : Accepted → List ℕ → Ending → Type 0) (once : OwesOnce Owed) (ops : List Operator) (o : Options) (instants : Option ℕ) (stop : Stop) where
-  -- a text that is accepted is not refused
-  pub accepted_unrefused : (text : List ℕ) (a : Accepted) (x : Answer) → IsAccepted ops o text a → (LacksInstants a instants → ⊥) → OwesRefusal ops o instants (Ok text) x → ⊥
-  accepted_unrefused text a x is given (inl (inl none)) = none.1
-  accepted_unrefused text a x is given (inl (inr refused)) = checks_apart ops o text a refused.0 is refused.1
-  accepted_unrefused text a x is given (inr lacks) =
-      let same : AreSame lacks.0 a = accepted_same ops o text lacks.0 a lacks.1 is in
-      given (sym same.inputs ∙ lacks.2.0, lacks.2.1)
+  -- where main of one program lacks the instants, that of the other does
+  lacks_too : (text : List ℕ) (a b : Accepted) → IsAccepted ops o text a → IsAccepted ops o text b → LacksInstants a instants → LacksInstants b instants
+  lacks_too text a b is also lacks = (sym (accepted_same ops o text a b is also).inputs ∙ lacks.0, lacks.1)
 
-  refusals_alike : (fetched : Result (List ℕ) ShelfError) (x y : Answer) → OwesRefusal ops o instants fetched x → OwesRefusal ops o instants fetched y → Alike x y
-  refusals_alike fetched x y (inl h) (inl k) = program_owes_one NoPrint (RefusesCheck ops o) (no_print ops o) fetched x y h k
-  refusals_alike (Ok text) x y (inl (inl h)) (inr k) = absurd h.1
-  refusals_alike (Ok text) x y (inl (inr h)) (inr k) = absurd (checks_apart ops o text k.0 h.0 k.1 h.1)
-  refusals_alike (Ok text) x y (inr h) (inl (inl k)) = absurd k.1
-  refusals_alike (Ok text) x y (inr h) (inl (inr k)) = absurd (checks_apart ops o text h.0 k.0 h.1 k.1)
-  refusals_alike (Ok text) x y (inr h) (inr k) = inl (h.3 ∙ sym k.3)
-  refusals_alike (Err e) x y (inl h) (inr k) = absurd k
-  refusals_alike (Err e) x y (inr h) k = absurd h
+  ended_one : (text : List ℕ) (a b : Accepted) (x y : Answer) → IsAccepted ops o text a → IsAccepted ops o text b → OwesEnded (Owed a) instants stop a x → OwesEnded (Owed b) instants stop b y → x ≡ y
+  ended_one text a b x y is also (inl h) (inl k) = h.1 ∙ sym k.1
+  ended_one text a b x y is also (inl h) (inr k) = absurd (k.0 (lacks_too text a b is also h.0))
+  ended_one text a b x y is also (inr h) (inl k) = absurd (h.0 (lacks_too text b a also is k.0))
+  ended_one text a b x y is also (inr h) (inr k) =
+      let one = once a b h.1 k.1 h.2 k.2 (accepted_same ops o text a b is also) h.3 k.3 in
+      h.4 ∙ ap (λ o. ended o h.2) one.0 ∙ ap (ended k.1) one.1 ∙ sym k.4
 
-  running_alike : (fetched : Result (List ℕ) ShelfError) (x y : Answer) → OwesRunning Owed ops o instants stop fetched x → OwesRunning Owed ops o instants stop fetched y → Alike x y
-  running_alike fetched x y (inl h) (inl k) = refusals_alike fetched x y h.0 k.0
-  running_alike (Ok text) x y (inl h) (inr k) = absurd (accepted_unrefused text k.0 x k.1.0 k.1.1 h.0)
-  running_alike (Ok text) x y (inr h) (inl k) = absurd (accepted_unrefused text h.0 y h.1.0 h.1.1 k.0)
-  running_alike (Ok text) x y (inr h) (inr k) =
-      let one = once h.0 k.0 h.2 k.2 h.3 k.3 (accepted_same ops o text h.0 k.0 h.1.0 k.1.0) h.4 k.4 in
-      inl (h.5 ∙ ap (λ o. ended o h.3) one.0 ∙ ap (ended k.2) one.1 ∙ sym k.5)
-  running_alike (Err e) x y (inl h) (inr k) = absurd k
-  running_alike (Err e) x y (inr h) k = absurd h
+  run_decided : IsDecided (RefusesCheck ops o) (λ text told. (a : Accepted) × IsAccepted ops o text a × OwesEnded (Owed a) instants stop a told)
+  run_decided = record {
+    one = λ text x y h k. ended_one text h.0 k.0 x y h.1 k.1 h.2 k.2;
+    apart = λ text x r h bad. checks_apart ops o text h.0 r h.1 bad;
+    same = λ text r s h k. checks_alike ops o text r s h k;
+  }
 
-  pub runs_alike : (fetched : Option (Result (List ℕ) ShelfError)) (x y : Answer) → IsSomeAnd fetched (λ r. OwesRunning Owed ops o instants stop r x) →
-      IsSomeAnd fetched (λ r. OwesRunning Owed ops o instants stop r y) → Alike x y
-  runs_alike None x y h k = absurd h
-  runs_alike (Some fetched) x y h k = running_alike fetched x y h k
+  pub runs_alike : (fetched : List (Result (List ℕ) ShelfError)) (x y : Answer) → OwesRunning Owed ops o instants stop fetched x → OwesRunning Owed ops o instants stop fetched y → Alike x y
+  runs_alike fetched x y h k =
+      text_owes_one (RefusesCheck ops o) (λ text told. (a : Accepted) × IsAccepted ops o text a × OwesEnded (Owed a) instants stop a told) run_decided stop fetched x y h k
 
 -- by the laws of one run and one interpretation
 pub run_once : OneRun → (kinds : List HostKind) (instants : Option ℕ) (taken : List ℕ) (stop : Stop) → OwesOnce (λ a. OwesRun kinds a instants taken stop)

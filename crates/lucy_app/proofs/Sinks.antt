@@ -3,13 +3,13 @@ use Rattle.std.proofs.Common.{ℕ, ◌≡◌, ◌⊎◌, List, [], Option, Some,
 use Rattle.std.specs.declared.alloc.Global.{Global}
 use Rattle.std.specs.declared.vec.Vec.{Vec}
 use Rattle.lucy_text.proofs.OutsideLaws.{appended-nil}
-use Rattle.lucy_command.specs.Commands.{Command}
-use Rattle.lucy_output.specs.Sinks.{SeenSink, Writes}
+use Rattle.lucy_command.specs.Commands.{Command, Order, Show, Types, Check, Clocks, Run, Kahn, Make}
+use Rattle.lucy_text.specs.Outside.{SeenSink, Writes}
 use Rattle.lucy_app.specs.World.{World, Given, Meets}
 use Rattle.lucy_app.specs.Lines.{words_line, read_fault_line, instants_line, write_fault_line}
 use Rattle.lucy_front.specs.Refusals.{memory_line}
 use Rattle.lucy_app.specs.Answers.{Answer, printed, no_command, out_of_memory}
-use Rattle.lucy_app.specs.Owes.{Owes, OwesOutput}
+use Rattle.lucy_app.specs.Owes.{Owes, MayCount, OwesOutput}
 use Rattle.lucy_app.specs.Ends.{Tells, MayAnswer, EndsBy, EndsWith, Declines, EndsSo, Ends}
 use Rattle.lucy_run.specs.declared.ending.Ending.{Ending}
 use Rattle.lucy_run.specs.declared.ending.Ending.TheVariants as ending
@@ -50,11 +50,22 @@ module _ (Owed : Answer → Type 0) (OwedOutput : List ℕ → Type 0) where
   ends_refused e out out' err err' status owed same (inr line) =
       inl (out_of_memory [], inr ([], inl refl, refl), record { printed = nothing_written out out' [] same refl; told = line })
 
+-- what a command has met counts as it is
+counts_itself : (command : Command) (given : Given) → MayCount command given given
+counts_itself (Run words) given = (given.stop, inl refl, refl)
+counts_itself Order given = refl
+counts_itself (Show file) given = refl
+counts_itself (Types file) given = refl
+counts_itself (Check file) given = refl
+counts_itself (Clocks words) given = refl
+counts_itself (Kahn words) given = refl
+counts_itself (Make words) given = refl
+
 -- a command that came out so, and whose outcome was delivered
 ends_so : (command : Command) (given : Given) (outcome : Result (Vec ℕ Global) Refusal) (before after : World) (status : ℕ) → IsOutcome (Owes command given) outcome →
     Delivers outcome before.out after.out before.err after.err status → EndsWith command given before after status
 ends_so command given (Ok print) before after status owed (inl answers) = inl (printed print.items, inl owed, answers)
-ends_so command given (Ok print) before after status owed (inr breaks) = inr (print.items, inl (printed print.items, owed, refl), breaks)
+ends_so command given (Ok print) before after status owed (inr breaks) = inr (print.items, (given, printed print.items, counts_itself command given, owed, refl), breaks)
 ends_so command given (Err e) before after status owed told = ends_refused (Owes command given) (OwesOutput command given) e before.out after.out before.err after.err status owed told.0 told.1
 
 -- a read fault was told

@@ -1,13 +1,12 @@
 -- Every status is at most 7.
 use Rattle.lucy_front.specs.declared.options.Options.{Options}
-use Rattle.std.proofs.Common.{ℕ, ◌≤◌, ◌≡◌, List, Option, Some, None, Result, Ok, Err, inl, inr, ap, arith}
-use Rattle.std.specs.Prelude.{IsSomeAnd}
+use Rattle.std.proofs.Common.{ℕ, ◌≤◌, ◌≡◌, List, [], ◌∷◌, Option, Some, None, Result, Ok, Err, inl, inr, ap, arith}
 use Rattle.lucy_text.specs.declared.shelf.ShelfError.{ShelfError}
 use Rattle.lucy_text.specs.declared.shelf.ShelfError.TheVariants as shelf
 use Rattle.lucy_command.specs.Commands.{Command, Order, Show, Types, Check, Clocks, Run, Kahn, Make}
-use Rattle.lucy_app.specs.Commands.{written_options, inferring_options}
+use Rattle.lucy_app.specs.Commands.{written_options, inferring_options, HasText}
 use Rattle.lucy_feed.specs.Sources.{Stop, Ended, Failed, Passed}
-use Rattle.lucy_output.specs.Sinks.{SeenSink}
+use Rattle.lucy_text.specs.Outside.{SeenSink}
 use Rattle.lucy_app.specs.World.{World, Given}
 use Rattle.lucy_app.specs.ProgramRefusals.{program_status}
 use Rattle.lucy_app.specs.InputRefusals.{input_status}
@@ -16,13 +15,14 @@ use Rattle.lucy_app.specs.Show.{IsPrintOf, RefusesSyntax}
 use Rattle.lucy_app.specs.Types.{IsReportOf, RefusesText}
 use Rattle.lucy_app.specs.Check.{IsCheckOf, RefusesCheck}
 use Rattle.lucy_app.specs.Owes.{OwesOrder, Owes, OwesOutput}
-use Rattle.lucy_app.specs.Programs.{OwesProgram}
+use Rattle.lucy_app.specs.Programs.{OwesRefusal, OwesText, OwesPrint}
 use Rattle.lucy_app.specs.Endings.{fault_status, ending_status}
-use Rattle.lucy_app.specs.Running.{NoPrint, OwesRunning}
+use Rattle.lucy_app.specs.Running.{OwesEnded, OwesRunning}
 use Rattle.lucy_host.specs.Operators.{Operator, kinds_of}
 use Rattle.lucy_lines.specs.declared.reader.TextFault.{TextFault}
 use Rattle.lucy_lines.specs.declared.reader.TextFault.TheVariants as fault
 use Rattle.lucy_front.specs.declared.accepted.Accepted.{Accepted}
+use Rattle.lucy_front.specs.Accepting.{IsAccepted}
 use Rattle.lucy_run.specs.declared.ending.Ending.{Ending}
 use Rattle.lucy_run.specs.declared.ending.Ending.TheVariants as ending
 use Rattle.lucy_run.specs.Owes.{OwesRun, OwesKahn}
@@ -54,18 +54,28 @@ order_within taken Failed a is = same_within a _ is (omega arith)
 order_within taken Passed a is = same_within a _ is (omega arith)
 order_within taken stop a is = absurd is
 
-file_within : (Prints : List ℕ → List ℕ → Type 0) (Refuses : List ℕ → Refusal → Type 0) (fetched : Result (List ℕ) ShelfError) (a : Answer) → OwesProgram Prints Refuses fetched a → a.status ≤ 7
-file_within Prints Refuses (Ok text) a (inl is) = same_within a _ is.2 (omega arith)
-file_within Prints Refuses (Ok text) a (inr is) = same_within a _ is.2 (program_within is.0)
-file_within Prints Refuses (Err shelf.Failed) a is = same_within a _ is (omega arith)
-file_within Prints Refuses (Err shelf.Missing) a is = same_within a _ is (omega arith)
-file_within Prints Refuses (Err shelf.TooLong) a is = same_within a _ is (omega arith)
-file_within Prints Refuses (Err shelf.OutOfMemory) a is = absurd is
+refusal_within : (Refuses : List ℕ → Refusal → Type 0) (fetched : List (Result (List ℕ) ShelfError)) (a : Answer) → OwesRefusal Refuses fetched a → a.status ≤ 7
+refusal_within Refuses [] a is = absurd is
+refusal_within Refuses (Ok text ∷ more) a is = same_within a _ is.2 (program_within is.0)
+refusal_within Refuses (Err shelf.Failed ∷ more) a is = same_within a _ is (omega arith)
+refusal_within Refuses (Err shelf.Missing ∷ more) a is = same_within a _ is (omega arith)
+refusal_within Refuses (Err shelf.TooLong ∷ more) a is = same_within a _ is (omega arith)
+refusal_within Refuses (Err shelf.OutOfMemory ∷ more) a is = absurd is
 
-fetched_within : (Prints : List ℕ → List ℕ → Type 0) (Refuses : List ℕ → Refusal → Type 0) (fetched : Option (Result (List ℕ) ShelfError)) (a : Answer) →
-    IsSomeAnd fetched (λ r. OwesProgram Prints Refuses r a) → a.status ≤ 7
-fetched_within Prints Refuses None a is = absurd is
-fetched_within Prints Refuses (Some fetched) a is = file_within Prints Refuses fetched a is
+owed_so : (Owed : List ℕ → Answer → Type 0) → ((text : List ℕ) (a : Answer) → Owed text a → a.status ≤ 7) → (fetched : List (Result (List ℕ) ShelfError)) (a : Answer) →
+    HasText fetched (λ text. Owed text a) → a.status ≤ 7
+owed_so Owed within [] a is = absurd is
+owed_so Owed within (Ok text ∷ more) a is = within text a is
+owed_so Owed within (Err e ∷ more) a is = absurd is
+
+text_within : (Refuses : List ℕ → Refusal → Type 0) (Owed : List ℕ → Answer → Type 0) → ((text : List ℕ) (a : Answer) → Owed text a → a.status ≤ 7) → (stop : Stop)
+    (fetched : List (Result (List ℕ) ShelfError)) (a : Answer) → OwesText Refuses Owed stop fetched a → a.status ≤ 7
+text_within Refuses Owed within stop fetched a (inl is) = refusal_within Refuses fetched a is.0
+text_within Refuses Owed within stop fetched a (inr is) = owed_so Owed within fetched a is
+
+print_within : (Prints : List ℕ → List ℕ → Type 0) (Refuses : List ℕ → Refusal → Type 0) (stop : Stop) (fetched : List (Result (List ℕ) ShelfError)) (a : Answer) →
+    OwesText Refuses (OwesPrint Prints) stop fetched a → a.status ≤ 7
+print_within Prints Refuses stop fetched a is = text_within Refuses (OwesPrint Prints) (λ text x h. same_within x _ h.2 (omega arith)) stop fetched a is
 
 fault_within : (e : TextFault) → fault_status e ≤ 7
 fault_within (fault.BadLine number) = omega arith
@@ -81,32 +91,30 @@ ending_within (ending.Limit passed) = omega arith
 ending_within ending.WriteFault = omega arith
 ending_within ending.OutOfMemory = omega arith
 
-running_within : (Owed : Accepted → List ℕ → Ending → Type 0) (ops : List Operator) (o : Options) (instants : Option ℕ) (stop : Stop) (fetched : Result (List ℕ) ShelfError) (a : Answer) →
-    OwesRunning Owed ops o instants stop fetched a → a.status ≤ 7
-running_within Owed ops o instants stop fetched a (inl (inl is, read)) = file_within NoPrint (RefusesCheck ops o) fetched a is
-running_within Owed ops o instants stop (Ok text) a (inl (inr is, read)) = same_within a _ is.3 (omega arith)
-running_within Owed ops o instants stop (Err e) a (inl (inr is, read)) = absurd is
-running_within Owed ops o instants stop (Ok text) a (inr is) = same_within a _ is.5 (ending_within is.3)
-running_within Owed ops o instants stop (Err e) a (inr is) = absurd is
+ended_within : (Owed : List ℕ → Ending → Type 0) (instants : Option ℕ) (stop : Stop) (p : Accepted) (a : Answer) → OwesEnded Owed instants stop p a → a.status ≤ 7
+ended_within Owed instants stop p a (inl is) = same_within a _ is.1 (omega arith)
+ended_within Owed instants stop p a (inr is) = same_within a _ is.4 (ending_within is.2)
 
-run_within : (Owed : Accepted → List ℕ → Ending → Type 0) (ops : List Operator) (o : Options) (instants : Option ℕ) (stop : Stop) (fetched : Option (Result (List ℕ) ShelfError)) (a : Answer) →
-    IsSomeAnd fetched (λ r. OwesRunning Owed ops o instants stop r a) → a.status ≤ 7
-run_within Owed ops o instants stop None a is = absurd is
-run_within Owed ops o instants stop (Some fetched) a is = running_within Owed ops o instants stop fetched a is
+running_within : (Owed : Accepted → List ℕ → Ending → Type 0) (ops : List Operator) (o : Options) (instants : Option ℕ) (stop : Stop) (fetched : List (Result (List ℕ) ShelfError)) (a : Answer) →
+    OwesRunning Owed ops o instants stop fetched a → a.status ≤ 7
+running_within Owed ops o instants stop fetched a is =
+    text_within (RefusesCheck ops o) (λ text told. (p : Accepted) × IsAccepted ops o text p × OwesEnded (Owed p) instants stop p told)
+    (λ text x h. ended_within (Owed h.0) instants stop h.0 x h.2) stop fetched a is
 
 owed_within : (command : Command) (given : Given) (a : Answer) → Owes command given a → a.status ≤ 7
 owed_within Order given a is = order_within given.taken given.stop a is
-owed_within (Show file) given a is = fetched_within IsPrintOf RefusesSyntax given.fetched a is
-owed_within (Types file) given a is = fetched_within (IsReportOf given.operators) (RefusesText given.operators) given.fetched a is
-owed_within (Check file) given a is = fetched_within (IsCheckOf given.operators written_options) (RefusesCheck given.operators written_options) given.fetched a is
-owed_within (Clocks file scale lead) given a is =
-    fetched_within (IsCheckOf given.operators (inferring_options scale lead)) (RefusesCheck given.operators (inferring_options scale lead)) given.fetched a is
-owed_within (Run file scale lead instants workers block) given a is =
-    run_within (λ p. OwesRun (kinds_of given.operators) p instants given.taken given.stop) given.operators (inferring_options scale lead) instants given.stop given.fetched a is
-owed_within (Kahn file scale lead instants) given a is =
-    run_within (λ p. OwesKahn (kinds_of given.operators) p instants given.taken given.stop) given.operators (inferring_options scale lead) instants given.stop given.fetched a is
-owed_within (Make stages workers block) given a is =
-    running_within (λ p. OwesSummary stages (kinds_of given.operators) p) given.operators (inferring_options 1 1) None given.stop (Ok (made_text stages)) a is
+owed_within (Show file) given a is = print_within IsPrintOf RefusesSyntax given.stop given.fetched a is
+owed_within (Types file) given a is = print_within (IsReportOf given.operators) (RefusesText given.operators) given.stop given.fetched a is
+owed_within (Check file) given a is = print_within (IsCheckOf given.operators written_options) (RefusesCheck given.operators written_options) given.stop given.fetched a is
+owed_within (Clocks words) given a is =
+    let o = inferring_options words.scale words.lead in
+    print_within (IsCheckOf given.operators o) (RefusesCheck given.operators o) given.stop given.fetched a is
+owed_within (Run words) given a is =
+    running_within (λ p. OwesRun (kinds_of given.operators) p words.instants given.taken given.stop) given.operators (inferring_options words.scale words.lead) words.instants given.stop given.fetched a is
+owed_within (Kahn words) given a is =
+    running_within (λ p. OwesKahn (kinds_of given.operators) p words.instants given.taken given.stop) given.operators (inferring_options words.scale words.lead) words.instants given.stop given.fetched a is
+owed_within (Make words) given a is =
+    running_within (OwesSummary words.stages (kinds_of given.operators)) given.operators (inferring_options 1 1) None given.stop (Ok (made_text words.stages) ∷ []) a is
 
 answer_within : (command : Command) (given : Given) (a : Answer) → MayAnswer (Owes command given) (OwesOutput command given) a → a.status ≤ 7
 answer_within command given a (inl is) = owed_within command given a is

@@ -7,47 +7,49 @@ use Rattle.lucy_word.specs.Bits.{Bits}
 use Rattle.lucy_word.specs.declared.limit.Limit.TheVariants as limit
 use Rattle.lucy_host.specs.Operators.{Operator, kinds_of}
 use Rattle.lucy_host.specs.declared.kind.HostKind.{HostKind}
-use Rattle.lucy_text.specs.Outside.{followed, Rose}
-use Rattle.lucy_text.specs.Shelf.{Files, IsHeld, Lacks, IsLonger, IsCut}
+use Rattle.lucy_text.proofs.OutsideLaws.{followed}
+use Rattle.lucy_text.specs.Outside.{Rose, SeenSource}
+use Rattle.lucy_text.specs.Shelf.{Files, IsHeld, Lacks, IsLonger, IsCut, SeenShelf}
 use Rattle.lucy_text.specs.declared.shelf.ShelfError.{ShelfError}
 use Rattle.lucy_text.specs.declared.shelf.ShelfError.TheVariants as shelf
 use Rattle.lucy_lines.specs.Laws.{OneCut}
 use Rattle.lucy_lines.specs.declared.input.InputSpec.{InputSpec}
 use Rattle.lucy_lines.specs.declared.reader.TextFault.{TextFault}
-use Rattle.lucy_feed.specs.Sources.{Stop, Ended, Drained, Failed, Passed, SeenSource, Read, StoppedAt}
+use Rattle.lucy_feed.specs.Sources.{Stop, Ended, Drained, Failed, Passed, Read, StoppedAt}
 use Rattle.lucy_front.specs.declared.options.Options.{Options}
 use Rattle.lucy_front.specs.declared.accepted.Accepted.{Accepted}
 use Rattle.lucy_front.specs.declared.refusal.Refusal.{Refusal}
+use Rattle.lucy_front.specs.Accepting.{IsAccepted}
 use Rattle.lucy_run.specs.declared.ending.Ending.{Ending}
 use Rattle.lucy_run.specs.declared.ending.Ending.TheVariants as ending
 use Rattle.lucy_run.specs.Feeds.{Feeds, IsInput}
 use Rattle.lucy_run.specs.Owes.{most_instants, input_words, heading, lines_to, IsHorizonOf, EndsFor, OwesRun, OwesKahn}
-use Rattle.lucy_run.specs.Laws.{OneRun, OneInterpretation, IsFedWell, CompleteRun, CompleteInterpretation}
+use Rattle.lucy_run.specs.Laws.{IsFedWell, CompleteRun, CompleteInterpretation}
 use Rattle.lucy_run.proofs.OwesLaws.{OneHorizon, done_for}
 use Rattle.lucy_run.proofs.WholeLaws.{taken_front, taken_all}
 use Rattle.lucy_make.specs.Text.{made_text, made_input}
 use Rattle.lucy_make.specs.Figures.{figures}
 use Rattle.lucy_make.specs.Owes.{OwesSummary, printed_values, where_done}
 use Rattle.lucy_command.specs.Commands.{Command, Order, Show, Types, Check, Clocks, Run, Kahn, Make}
-use Rattle.lucy_app.specs.Commands.{written_options, inferring_options}
-use Rattle.lucy_app.specs.World.{SeenShelf, World, Given, Fetched, Meets, MeetsShelf}
+use Rattle.lucy_app.specs.Commands.{written_options, inferring_options, program_of}
+use Rattle.lucy_app.specs.World.{World, Given, Fetched, Fetches, Meets}
 use Rattle.lucy_app.specs.Answers.{Answer, printed, out_of_memory}
 use Rattle.lucy_app.specs.Order.{IsVerdictLine}
 use Rattle.lucy_app.specs.Show.{IsPrintOf, RefusesSyntax}
 use Rattle.lucy_app.specs.Types.{IsReportOf, RefusesText}
 use Rattle.lucy_app.specs.Check.{IsCheckOf, RefusesCheck}
 use Rattle.lucy_app.specs.Endings.{ended}
-use Rattle.lucy_app.specs.Programs.{OwesProgram}
-use Rattle.lucy_app.specs.Running.{IsRunnable, LacksInstants, OwesRunning}
+use Rattle.lucy_app.specs.Programs.{OwesText, OwesPrint}
+use Rattle.lucy_app.specs.Running.{IsRunnable, LacksInstants, OwesEnded, OwesRunning}
 use Rattle.lucy_app.specs.Owes.{OwesOrder, Owes}
 use Rattle.lucy_app.specs.Ends.{Answers, EndsWith, Declines}
-use Rattle.lucy_app.specs.Complete.{IsFaultless, Holds, Suits, Completes}
+use Rattle.lucy_app.specs.Complete.{IsFaultless, Holds, MayPrint, Completes}
 use Rattle.lucy_app.proofs.Owed.{order_owes_one}
 use Rattle.lucy_app.proofs.Verdicts.{IsVerdict, show_verdict}
 use Rattle.lucy_app.proofs.Typed.{types_verdict}
-use Rattle.lucy_app.proofs.Checked.{check_verdict}
-use Rattle.lucy_app.proofs.RunsOnce.{AreSame, OwesOnce, accepted_same, accepted_unrefused, run_moves, kahn_moves, run_once, kahn_once}
-use Rattle.lucy_app.proofs.MakesOnce.{whole_feeds, summary_moves, summary_once}
+use Rattle.lucy_app.proofs.Checked.{checks_apart, check_verdict}
+use Rattle.lucy_app.proofs.RunsOnce.{AreSame, accepted_same, run_moves, kahn_moves}
+use Rattle.lucy_app.proofs.MakesOnce.{whole_feeds, summary_moves}
 
 -- the command is done and this stands, or memory ran out
 abbrev Finishes : (output : List ℕ) (before after : World) (status : ℕ) → Type 0
@@ -73,7 +75,7 @@ module _ (before after : SeenSource) (bytes taken output : List ℕ) (took : Som
     (is : IsVerdictLine bytes output) (few : length bytes ≤ limit_number limit.OrderInput) where
   order_owed : (stop : Stop) → StoppedAt (limit_number limit.OrderInput) before after taken stop → (answer : Answer) → OwesOrder taken stop answer → answer ≡ printed output
   order_owed Ended stopped answer owed =
-      let all : taken ≡ bytes = taken_all bytes taken after.left took stopped.1 in
+      let all : taken ≡ bytes = taken_all bytes taken after.left took stopped.1.0 in
       order_owes_one bytes Ended answer (printed output) (subst (λ bs. OwesOrder bs Ended answer) all owed) (inl (output, is, refl))
   order_owed Failed stopped answer owed = absurd (well stopped.1)
   order_owed Passed stopped answer owed =
@@ -90,16 +92,18 @@ order_done before after taken output stop None e read well none answer owed = ab
 order_done before after taken output stop (Some bytes) e read well (is, few) answer owed = order_owed before after bytes taken output (sym e ∙ read.took) well is few stop read.stopped answer owed
 
 -- a text that is accepted is run to its end, where what that owes is this output
-ran_done : (Owed : Accepted → List ℕ → Ending → Type 0) (once : OwesOnce Owed) (ops : List Operator) (o : Options) (instants : Option ℕ) (stop : Stop) (text : List ℕ) (a : Accepted) (output : List ℕ) → IsRunnable ops o instants text a →
-    ((b : Accepted) (out : List ℕ) (end : Ending) → AreSame b a → Owed b out end → ended out end ≡ printed output) → (answer : Answer) → OwesRunning Owed ops o instants stop (Ok text) answer → answer ≡ printed output
-ran_done Owed once ops o instants stop text a output is ends answer (inl refused) = absurd (accepted_unrefused Owed once ops o instants stop text a answer is.0 is.1 refused.0)
-ran_done Owed once ops o instants stop text a output is ends answer (inr ran) =
-    ran.5 ∙ ends ran.0 ran.2 ran.3 (accepted_same ops o text ran.0 a ran.1.0 is.0) ran.4
+ran_done : (Owed : Accepted → List ℕ → Ending → Type 0) (ops : List Operator) (o : Options) (instants : Option ℕ) (stop : Stop) (text : List ℕ) (more : List (Result (List ℕ) ShelfError)) (a : Accepted) (output : List ℕ) →
+    IsRunnable ops o instants text a → ((b : Accepted) (out : List ℕ) (end : Ending) → AreSame b a → Owed b out end → ended out end ≡ printed output) → (answer : Answer) →
+    OwesRunning Owed ops o instants stop (Ok text ∷ more) answer → answer ≡ printed output
+ran_done Owed ops o instants stop text more a output is ends answer (inl refused) = absurd (checks_apart ops o text a refused.0.0 is.0 refused.0.1)
+ran_done Owed ops o instants stop text more a output is ends answer (inr (b, also, inl lacks)) =
+    absurd (is.1 (sym (accepted_same ops o text b a also is.0).inputs ∙ lacks.0.0, lacks.0.1))
+ran_done Owed ops o instants stop text more a output is ends answer (inr (b, also, inr ran)) = ran.4 ∙ ends b ran.1 ran.2 (accepted_same ops o text b a also is.0) ran.3
 
 -- what the fetch of a file that is held gave, where no count rose
 module _ (before after : SeenShelf) (file text : List ℕ) where
   fetched_so : (files : Option Files) (fetched : Result (List ℕ) ShelfError) → before.files ≡ files → IsSomeAnd files (λ held. held file ≡ Some text) → length text ≤ limit_number limit.Text →
-      (Rose before.faults after.faults → ⊥) → Fetched before after file fetched → (fetched ≡ Ok text) ⊎ (fetched ≡ Err shelf.OutOfMemory)
+      (Rose before.faults after.faults → ⊥) → Fetched (program_of file) before after fetched → (fetched ≡ Ok text) ⊎ (fetched ≡ Err shelf.OutOfMemory)
   fetched_so None fetched is holds few well f = absurd holds
   fetched_so (Some files) (Ok t) is holds few well f =
       let P : Option Files → Type 0 = λ fs. IsHeld fs file t in
@@ -121,28 +125,38 @@ module _ (before after : SeenShelf) (file text : List ℕ) where
       absurd (omega (arith, long, few))
   fetched_so (Some files) (Err shelf.OutOfMemory) is holds few well f = inr refl
 
-  -- a command that prints the text's program
-  print_done : (Prints : List ℕ → List ℕ → Type 0) (Refuses : List ℕ → Refusal → Type 0) → IsVerdict Prints Refuses → (print : List ℕ) → Prints text print → Holds before file text → (Rose before.faults after.faults → ⊥) →
-      (fetched : Option (Result (List ℕ) ShelfError)) → MeetsShelf (Some file) before after fetched → (answer : Answer) → IsSomeAnd fetched (λ r. OwesProgram Prints Refuses r answer) → answer ≡ printed print
-  print_done Prints Refuses v print is holds well None met answer owed = absurd met
-  print_done Prints Refuses v print is holds well (Some r) met answer owed =
-      let P : Result (List ℕ) ShelfError → Type 0 = λ f. OwesProgram Prints Refuses f answer in
-      elim (fetched_so before.files r refl holds.0 holds.1 well met) [
-        | inl e ↦ elim (subst P e owed) [ inl prints ↦ prints.2 ∙ ap printed (v.one text prints.0 print prints.1 is) | inr refused ↦ absurd (v.apart text print refused.0 is refused.1) ]
-        | inr e ↦ absurd (subst P e owed)
+  -- what a file that is held owes is this, where its text owes it
+  text_done : (Refuses : List ℕ → Refusal → Type 0) (Owed : List ℕ → Answer → Type 0) (stop : Stop) (output : List ℕ) →
+      ((more : List (Result (List ℕ) ShelfError)) (answer : Answer) → OwesText Refuses Owed stop (Ok text ∷ more) answer → answer ≡ printed output) → Holds before file text →
+      (Rose before.faults after.faults → ⊥) → (fetched : List (Result (List ℕ) ShelfError)) → Fetches (program_of file ∷ []) before after fetched → (answer : Answer) →
+      OwesText Refuses Owed stop fetched answer → answer ≡ printed output
+  text_done Refuses Owed stop output same holds well [] met answer (inl owed) = absurd owed.0
+  text_done Refuses Owed stop output same holds well [] met answer (inr owed) = absurd owed
+  text_done Refuses Owed stop output same holds well (r ∷ other ∷ more) met answer owed = absurd met.2
+  text_done Refuses Owed stop output same holds well (r ∷ []) (between, met, e) answer owed =
+      let P : Result (List ℕ) ShelfError → Type 0 = λ f. OwesText Refuses Owed stop (f ∷ []) answer in
+      let Q : SeenShelf → Type 0 = λ s. Fetched (program_of file) before s r in
+      elim (fetched_so before.files r refl holds.0 holds.1 well (subst Q (sym e) met)) [
+        | inl is ↦ same [] answer (subst P is owed)
+        | inr is ↦ elim (subst P is owed) [ inl none ↦ absurd none.0 | inr none ↦ absurd none ]
       ]
 
+  -- a command that prints the text's program
+  print_done : (Prints : List ℕ → List ℕ → Type 0) (Refuses : List ℕ → Refusal → Type 0) → IsVerdict Prints Refuses → (stop : Stop) (print : List ℕ) → Prints text print → Holds before file text →
+      (Rose before.faults after.faults → ⊥) → (fetched : List (Result (List ℕ) ShelfError)) → Fetches (program_of file ∷ []) before after fetched → (answer : Answer) →
+      OwesText Refuses (OwesPrint Prints) stop fetched answer → answer ≡ printed print
+  print_done Prints Refuses v stop print is holds well fetched met answer owed =
+      text_done Refuses (OwesPrint Prints) stop print
+      (λ more x h. elim h [ inl refused ↦ absurd (v.apart text print refused.0.0 is refused.0.1) | inr prints ↦ prints.2 ∙ ap printed (v.one text prints.0 print prints.1 is) ])
+      holds well fetched met answer owed
+
   -- one that runs it
-  run_done : (Owed : Accepted → List ℕ → Ending → Type 0) (once : OwesOnce Owed) (ops : List Operator) (o : Options) (instants : Option ℕ) (stop : Stop) (a : Accepted) (output : List ℕ) → IsRunnable ops o instants text a →
+  run_done : (Owed : Accepted → List ℕ → Ending → Type 0) (ops : List Operator) (o : Options) (instants : Option ℕ) (stop : Stop) (a : Accepted) (output : List ℕ) → IsRunnable ops o instants text a →
       ((b : Accepted) (out : List ℕ) (end : Ending) → AreSame b a → Owed b out end → ended out end ≡ printed output) → Holds before file text → (Rose before.faults after.faults → ⊥) →
-      (fetched : Option (Result (List ℕ) ShelfError)) → MeetsShelf (Some file) before after fetched → (answer : Answer) → IsSomeAnd fetched (λ r. OwesRunning Owed ops o instants stop r answer) → answer ≡ printed output
-  run_done Owed once ops o instants stop a output is ends holds well None met answer owed = absurd met
-  run_done Owed once ops o instants stop a output is ends holds well (Some r) met answer owed =
-      let P : Result (List ℕ) ShelfError → Type 0 = λ f. OwesRunning Owed ops o instants stop f answer in
-      elim (fetched_so before.files r refl holds.0 holds.1 well met) [
-        | inl e ↦ ran_done Owed once ops o instants stop text a output is ends answer (subst P e owed)
-        | inr e ↦ elim (subst P e owed) [ inl refused ↦ elim refused.0 [ inl none ↦ absurd none | inr none ↦ absurd none ] | inr none ↦ absurd none ]
-      ]
+      (fetched : List (Result (List ℕ) ShelfError)) → Fetches (program_of file ∷ []) before after fetched → (answer : Answer) → OwesRunning Owed ops o instants stop fetched answer → answer ≡ printed output
+  run_done Owed ops o instants stop a output is ends holds well fetched met answer owed =
+      text_done (RefusesCheck ops o) (λ text told. (b : Accepted) × IsAccepted ops o text b × OwesEnded (Owed b) instants stop b told) stop output
+      (λ more x h. ran_done Owed ops o instants stop text more a output is ends x h) holds well fetched met answer owed
 
 -- the input that `make` generates is what it runs on
 made_fed : OneCut → (inputs : List InputSpec) (stop : Stop) (lists others : List (List ℤ)) (fault : Option TextFault) → (inputs ≡ [] → ⊥) → (stop ≡ Ended) ⊎ (stop ≡ Drained) →
@@ -164,54 +178,68 @@ made_ends cut horizons stages kinds a lists horizon output end runs fed (others,
     ∙ ap (λ ls. figures stages a.net other (printed_values kinds a ls other)) same ∙ ap (λ t. figures stages a.net t (printed_values kinds a lists t)) last)
 
 -- what suits a command in a world suits it with the operators that it has met
-met_suits : (command : Command) (before : World) (ops : List Operator) (output : List ℕ) → ops ≡ before.operators → Suits command before output → Suits command (record before { operators = ops }) output
+met_suits : (command : Command) (before : World) (ops : List Operator) (output : List ℕ) → ops ≡ before.operators → MayPrint command before output → MayPrint command (record before { operators = ops }) output
 met_suits command before ops output e suits =
-    let P : List Operator → Type 0 = λ os. Suits command (record before { operators = os }) output in
+    let P : List Operator → Type 0 = λ os. MayPrint command (record before { operators = os }) output in
     subst P (sym e) suits
 
 -- what is owed with this ending is what is printed
 ended_printed : (out output : List ℕ) (end : Ending) → (out ≡ output) × (end ≡ ending.Done) → ended out end ≡ printed output
 ended_printed out output end (same, over) = ap (λ e. ended out e) over ∙ ap printed same
 
-module _ (cut : OneCut) (horizons : OneHorizon) (one_run : OneRun) (one_kahn : OneInterpretation) (run : CompleteRun) (kahn : CompleteInterpretation) (before after : World) (output : List ℕ) (status : ℕ) (well : IsFaultless before after) where
-  carried_out : (command : Command) (given : Given) → Meets command before after given → EndsWith command given before after status → Suits command (record before { operators = given.operators }) output →
+module _ (cut : OneCut) (horizons : OneHorizon) (run : CompleteRun) (kahn : CompleteInterpretation) (before after : World) (output : List ℕ) (status : ℕ) (well : IsFaultless before after) where
+  carried_out : (command : Command) (given : Given) → Meets command before after given → EndsWith command given before after status → MayPrint command (record before { operators = given.operators }) output →
       Finishes output before after status
   carried_out Order given met ends suits = done Order before after given output status (order_done before.source after.source given.taken output given.stop before.source.left refl met.source well.source suits) well ends
   carried_out (Show file) given met ends (text, holds, is) =
-      done (Show file) before after given output status (print_done before.shelf after.shelf file text IsPrintOf RefusesSyntax show_verdict output is holds well.shelf given.fetched met.shelf) well ends
+      done (Show file) before after given output status (print_done before.shelf after.shelf file text IsPrintOf RefusesSyntax show_verdict given.stop output is holds well.shelf given.fetched met.shelf) well ends
   carried_out (Types file) given met ends (text, holds, is) =
       let ops : List Operator = given.operators in
-      done (Types file) before after given output status (print_done before.shelf after.shelf file text (IsReportOf ops) (RefusesText ops) (types_verdict ops) output is holds well.shelf given.fetched met.shelf) well ends
+      done (Types file) before after given output status
+      (print_done before.shelf after.shelf file text (IsReportOf ops) (RefusesText ops) (types_verdict ops) given.stop output is holds well.shelf given.fetched met.shelf) well ends
   carried_out (Check file) given met ends (text, holds, is) =
       let ops : List Operator = given.operators in
       done (Check file) before after given output status
-      (print_done before.shelf after.shelf file text (IsCheckOf ops written_options) (RefusesCheck ops written_options) (check_verdict ops written_options) output is holds well.shelf given.fetched met.shelf) well ends
-  carried_out (Clocks file scale lead) given met ends (text, holds, is) =
+      (print_done before.shelf after.shelf file text (IsCheckOf ops written_options) (RefusesCheck ops written_options) (check_verdict ops written_options) given.stop output is holds well.shelf given.fetched met.shelf) well ends
+  carried_out (Clocks words) given met ends (text, holds, is) =
       let ops : List Operator = given.operators in
-      let o : Options = inferring_options scale lead in
-      done (Clocks file scale lead) before after given output status
-      (print_done before.shelf after.shelf file text (IsCheckOf ops o) (RefusesCheck ops o) (check_verdict ops o) output is holds well.shelf given.fetched met.shelf) well ends
-  carried_out (Run file scale lead instants workers block) given met ends (a, lists, horizon, (text, holds, is), fed, lines) =
+      let o : Options = inferring_options words.scale words.lead in
+      done (Clocks words) before after given output status
+      (print_done before.shelf after.shelf words.file text (IsCheckOf ops o) (RefusesCheck ops o) (check_verdict ops o) given.stop output is holds well.shelf given.fetched met.shelf) well ends
+  carried_out (Run words) given met ends (a, lists, horizon, (text, holds, is), fed, lines) =
       let ops : List Operator = given.operators in
       let kinds : List HostKind = kinds_of ops in
-      done (Run file scale lead instants workers block) before after given output status
-      (run_done before.shelf after.shelf file text (λ p. OwesRun kinds p instants given.taken given.stop) (run_once one_run kinds instants given.taken given.stop) ops (inferring_options scale lead) instants given.stop a output is
+      let instants : Option ℕ = words.instants in
+      done (Run words) before after given output status
+      (run_done before.shelf after.shelf words.file text (λ p. OwesRun kinds p instants given.taken given.stop) ops (inferring_options words.scale words.lead) instants given.stop a output is
       (λ b out end same owed. ended_printed out (heading a ++ lines_to kinds a lists horizon) end (run kinds a instants before.source after.source given.taken given.stop lists horizon out end met.source well.source fed
       (run_moves kinds b a same instants given.taken given.stop out end owed)) ∙ ap printed (sym lines)) holds well.shelf given.fetched met.shelf) well ends
-  carried_out (Kahn file scale lead instants) given met ends (a, lists, horizon, (text, holds, is), fed, turns, items, lines) =
+  carried_out (Kahn words) given met ends (a, lists, horizon, (text, holds, is), fed, turns, items, lines) =
       let ops : List Operator = given.operators in
       let kinds : List HostKind = kinds_of ops in
-      done (Kahn file scale lead instants) before after given output status
-      (run_done before.shelf after.shelf file text (λ p. OwesKahn kinds p instants given.taken given.stop) (kahn_once one_kahn kinds instants given.taken given.stop) ops (inferring_options scale lead) instants given.stop a output is
+      let instants : Option ℕ = words.instants in
+      done (Kahn words) before after given output status
+      (run_done before.shelf after.shelf words.file text (λ p. OwesKahn kinds p instants given.taken given.stop) ops (inferring_options words.scale words.lead) instants given.stop a output is
       (λ b out end same owed. ended_printed out (lines_to kinds a lists horizon) end (kahn kinds a instants before.source after.source given.taken given.stop lists horizon out end met.source well.source fed turns items
       (kahn_moves kinds b a same instants given.taken given.stop out end owed)) ∙ ap printed (sym lines)) holds well.shelf given.fetched met.shelf) well ends
-  carried_out (Make stages workers block) given met ends (a, lists, horizon, is, fed, lines) =
+  carried_out (Make words) given met ends (a, lists, horizon, is, fed, lines) =
       let kinds : List HostKind = kinds_of given.operators in
-      done (Make stages workers block) before after given output status
-      (ran_done (λ p. OwesSummary stages kinds p) (summary_once cut horizons stages kinds) given.operators (inferring_options 1 1) None given.stop (made_text stages) a output is
+      let stages : ℕ = words.stages in
+      done (Make words) before after given output status
+      (ran_done (λ p. OwesSummary stages kinds p) given.operators (inferring_options 1 1) None given.stop (made_text stages) [] a output is
       (λ b out end same owed. made_ends cut horizons stages kinds a lists horizon out end is.1 fed (summary_moves stages kinds b a same out end owed) ∙ ap printed (sym lines))) well ends
 
-pub suited_done : OneCut → OneHorizon → OneRun → OneInterpretation → CompleteRun → CompleteInterpretation → Completes
-suited_done cut horizons one_run one_kahn run kahn command before after output status (inl (given, met, ends)) well suits =
-    carried_out cut horizons one_run one_kahn run kahn before after output status well command given met ends (met_suits command before given.operators output met.operators suits)
-suited_done cut horizons one_run one_kahn run kahn command before after output status (inr declines) well suits = declined before after output status well declines
+-- where each of these outputs stands, or memory ran out, all stand or it did
+finishes_all : (before after : World) (status : ℕ) (May : List ℕ → Type 0) → ((output : List ℕ) → May output → Finishes output before after status) → (output : List ℕ) → May output →
+    ((status ≡ 0) × ((other : List ℕ) → May other → Answers (printed other) before.out after.out before.err after.err status)) ⊎ (status ≡ 7)
+finishes_all before after status May each output may = elim (each output may) [
+  | inl whole ↦ inl (whole.0, λ other m. elim (each other m) [ inl stands ↦ stands.1 | inr short ↦ absurd (omega (arith, whole.0, short)) ])
+  | inr short ↦ inr short
+]
+
+pub suited_done : OneCut → OneHorizon → CompleteRun → CompleteInterpretation → Completes
+suited_done cut horizons run kahn command before after status (inl (given, met, ends)) well (output, may) =
+    finishes_all before after status (MayPrint command before)
+    (λ o m. carried_out cut horizons run kahn before after o status well command given met ends (met_suits command before given.operators o met.operators m)) output may
+suited_done cut horizons run kahn command before after status (inr declines) well (output, may) =
+    finishes_all before after status (MayPrint command before) (λ o m. declined before after o status well declines) output may

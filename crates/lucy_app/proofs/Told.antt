@@ -59,11 +59,8 @@ names_told ops text p names.OutOfMemory tree (inr is) = inl refl
 pub check_told : (ops : List Operator) (o : Options) (text : List ℕ) (r : Reason) → Refuses ops o text r → RefusesProgram (RefusesCheck ops o text) (program_refusal r)
 check_told ops o text (front.Syntax e) h = inr (_, (h, λ is. cc is), refl)
 check_told ops o text (front.Names e) h = inr (_, (h, λ is. cc is), refl)
-check_told ops o text (front.Types placed clash) h = inr (_, (h, λ is. cc is), refl)
-check_told ops o text (front.NotWritten placed node span) h = inr (_, (h, λ is. cc is), refl)
-check_told ops o text (front.Rates placed node needs walk) h = inr (_, (h, λ is. cc is), refl)
-check_told ops o text (front.Clocks placed node needs shape diffs cycle) h = inr (_, (h, λ is. cc is), refl)
-check_told ops o text (front.Check placed node needs e) h = inr (_, (h, λ is. cc is), refl)
+check_told ops o text (front.Types placed node path) h = inr (_, (h, λ is. cc is), refl)
+check_told ops o text (front.Node placed node fault) h = inr (_, (h, λ is. cc is), refl)
 check_told ops o text (front.Cause net names instant items) h = inr (_, (h, λ is. cc is), refl)
 check_told ops o text (front.Limit l) h = inr (_, (h, λ is. cc is), refl)
 check_told ops o text front.OutOfMemory h = inl refl

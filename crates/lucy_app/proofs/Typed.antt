@@ -7,19 +7,16 @@ use Rattle.lucy_grammar.specs.Texts.{HasTree}
 use Rattle.lucy_grammar.proofs.TextLaws.{one_program, tree_or_error}
 use Rattle.lucy_place.specs.declared.error.NameError.{NameError}
 use Rattle.lucy_place.specs.declared.error.NameError.TheVariants as names
-use Rattle.lucy_place.specs.declared.placed.PlacedNode.{PlacedNode}
 use Rattle.lucy_place.specs.Faults.{faults, verdict}
 use Rattle.lucy_place.specs.Nodes.{placed_nodes}
 use Rattle.lucy_place.specs.PlacedProgram.{PlacedProgram}
 use Rattle.lucy_place.specs.Placing.{IsFirst}
 use Rattle.lucy_types.specs.declared.ty.Ty.{Ty}
-use Rattle.lucy_types.specs.declared.error.TypeError.{TypeError}
-use Rattle.lucy_types.specs.declared.error.TypeError.TheVariants as types
-use Rattle.lucy_types.specs.Programs.{IsTyped}
+use Rattle.lucy_types.specs.Programs.{IsTyped, IsClash}
 use Rattle.lucy_types.proofs.ProgramLaws.{typed_unique, clash_untyped}
 use Rattle.lucy_front.specs.declared.refusal.Refusal.{Refusal}
 use Rattle.lucy_front.specs.declared.refusal.Refusal.TheVariants.{Syntax, Names, Types, Limit as LimitPassed}
-use Rattle.lucy_front.specs.Accepting.{IsPlacedText, TellsClash, RefusesPhases}
+use Rattle.lucy_front.specs.Accepting.{IsPlacedText, RefusesPhases}
 use Rattle.lucy_app.specs.Commands.{written_options}
 use Rattle.lucy_app.specs.Report.{report}
 use Rattle.lucy_app.specs.Types.{IsReportOf, RefusesText}
@@ -28,11 +25,6 @@ use Rattle.lucy_app.proofs.Verdicts.{IsVerdict, phases_alike}
 -- no first fault without faults
 no_first : (fs : List NameError) (e : NameError) → fs ≡ [] → IsFirst fs e → ⊥
 no_first fs e none is = let same : verdict [] ≡ Err e = sym (ap verdict none) ∙ is in cc
-
--- a typing leaves no clash
-clash_none : (nodes : List PlacedNode) (tables : List (List Ty)) (clash : TypeError) → IsTyped nodes tables → TellsClash nodes clash → ⊥
-clash_none nodes tables (types.Clash node path) typed told = clash_untyped nodes tables node path.items told typed
-clash_none nodes tables types.OutOfMemory typed told = told
 
 module _ (ops : List Operator) (text : List ℕ) where
   -- a text has one list of nodes
@@ -52,9 +44,9 @@ module _ (ops : List Operator) (text : List ℕ) where
   report_apart : (x : List ℕ) (r : Refusal) → IsReportOf ops text x → RefusesText ops text r → ⊥
   report_apart x (Syntax e) is bad = tree_or_error text is.2.program.tree e is.2.program.read bad.0
   report_apart x (Names e) is bad = good_names is.0 bad.0 e is.2.program bad.1 bad.2
-  report_apart x (Types placed clash) is bad =
+  report_apart x (Types placed node path) is bad =
       let same : placed.nodes ≡ is.0.nodes = nodes_one placed is.0 bad.0 is.2.program in
-      clash_none is.0.nodes is.1 clash is.2.typed (subst (λ ns. TellsClash ns clash) same bad.1)
+      clash_untyped is.0.nodes is.1 node path.items (subst (λ ns. IsClash ns node path.items) same bad.1) is.2.typed
   report_apart x (LimitPassed l) is (inl bad) = tree_or_error text is.2.program.tree (syntax.TooLarge l) is.2.program.read bad
   report_apart x (LimitPassed l) is (inr bad) = good_names is.0 bad.0 (names.TooMany l) is.2.program bad.1 bad.2
   report_apart x r is bad = absurd bad
@@ -62,7 +54,7 @@ module _ (ops : List Operator) (text : List ℕ) where
   pub text_phases : (r : Refusal) → RefusesText ops text r → RefusesPhases ops written_options text r
   text_phases (Syntax e) h = h
   text_phases (Names e) h = h
-  text_phases (Types placed clash) h = h
+  text_phases (Types placed node path) h = h
   text_phases (LimitPassed l) (inl h) = inl h
   text_phases (LimitPassed l) (inr h) = inr (inl h)
   text_phases r h = absurd h

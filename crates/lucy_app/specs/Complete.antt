@@ -1,13 +1,12 @@
 -- When a command is done, unless memory runs out, and what then stands on the output: nothing that it is handed refuses it, no limit
 -- is passed, and no count has risen.
-use Rattle.std.specs.Prelude.{ℕ, ℤ, ◌≤◌, ◌≡◌, ◌⊎◌, List, ◌++◌, length, Option, None, Some, IsSomeAnd}
+use Rattle.std.specs.Prelude.{ℕ, ℤ, ◌≤◌, ◌≡◌, ◌⊎◌, List, ◌++◌, length, None, Some, IsSomeAnd}
 use Rattle.lucy_word.specs.Limits.{limit_number}
 use Rattle.lucy_word.specs.declared.limit.Limit.TheVariants as limit
-use Rattle.lucy_host.specs.Operators.{Operator, kinds_of}
+use Rattle.lucy_host.specs.Operators.{kinds_of}
 use Rattle.lucy_text.specs.Outside.{Rose}
 use Rattle.lucy_execution.specs.Running.{HasManyTurns, HasManyItems}
 use Rattle.lucy_front.specs.declared.accepted.Accepted.{Accepted}
-use Rattle.lucy_front.specs.declared.options.Options.{Options}
 use Rattle.lucy_run.specs.Owes.{heading, lines_to}
 use Rattle.lucy_run.specs.Laws.{IsFedWell}
 use Rattle.lucy_make.specs.Text.{made_text, made_input}
@@ -15,7 +14,8 @@ use Rattle.lucy_make.specs.Figures.{figures}
 use Rattle.lucy_make.specs.Owes.{printed_values}
 use Rattle.lucy_command.specs.Commands.{Command, Order, Show, Types, Check, Clocks, Run, Kahn, Make}
 use Rattle.lucy_app.specs.Commands.{written_options, inferring_options}
-use Rattle.lucy_app.specs.World.{SeenShelf, World}
+use Rattle.lucy_text.specs.Shelf.{SeenShelf}
+use Rattle.lucy_app.specs.World.{World}
 use Rattle.lucy_app.specs.Answers.{printed}
 use Rattle.lucy_app.specs.Order.{IsVerdictLine}
 use Rattle.lucy_app.specs.Show.{IsPrintOf}
@@ -35,33 +35,35 @@ pub record IsFaultless (before after : World) : Type 0 where
 abbrev pub Holds : SeenShelf → (file text : List ℕ) → Type 0
 Holds shelf file text = IsSomeAnd shelf.files (λ files. files file ≡ Some text) × (length text ≤ limit_number limit.Text)
 
--- it tells one of which this is printed
-abbrev pub HoldsPrintable : (Prints : List ℕ → List ℕ → Type 0) → SeenShelf → (file print : List ℕ) → Type 0
-HoldsPrintable Prints shelf file print = (text : List ℕ) × Holds shelf file text × Prints text print
+-- it tells one of which this holds
+abbrev pub HoldsSuch : (Such : List ℕ → Type 0) → SeenShelf → (file : List ℕ) → Type 0
+HoldsSuch Such shelf file = (text : List ℕ) × Holds shelf file text × Such text
 
--- it tells one that is accepted as this program, which can be run
-abbrev pub HoldsRunnable : List Operator → Options → (instants : Option ℕ) → SeenShelf → (file : List ℕ) → Accepted → Type 0
-HoldsRunnable ops o instants shelf file a = (text : List ℕ) × Holds shelf file text × IsRunnable ops o instants text a
-
--- nothing that a command is handed refuses it, no limit is passed, and this is its output
-abbrev pub Suits : Command → World → (output : List ℕ) → Type 0
-Suits Order before output = IsSomeAnd before.source.left (λ bytes. IsVerdictLine bytes output × (length bytes ≤ limit_number limit.OrderInput))
-Suits (Show file) before output = HoldsPrintable IsPrintOf before.shelf file output
-Suits (Types file) before output = HoldsPrintable (IsReportOf before.operators) before.shelf file output
-Suits (Check file) before output = HoldsPrintable (IsCheckOf before.operators written_options) before.shelf file output
-Suits (Clocks file scale lead) before output = HoldsPrintable (IsCheckOf before.operators (inferring_options scale lead)) before.shelf file output
-Suits (Run file scale lead instants workers block) before output =
-    (a : Accepted) × (lists : List (List ℤ)) × (horizon : ℕ) × HoldsRunnable before.operators (inferring_options scale lead) instants before.shelf file a
-    × IsFedWell a instants before.source.left lists horizon × (output ≡ heading a ++ lines_to (kinds_of before.operators) a lists horizon)
-Suits (Kahn file scale lead instants) before output =
-    (a : Accepted) × (lists : List (List ℤ)) × (horizon : ℕ) × HoldsRunnable before.operators (inferring_options scale lead) instants before.shelf file a
-    × IsFedWell a instants before.source.left lists horizon × (HasManyTurns a.placed.nodes horizon → ⊥)
+-- nothing that a command is handed refuses it, no limit is passed, and this may stand on the output
+abbrev pub MayPrint : Command → World → (output : List ℕ) → Type 0
+MayPrint Order before output = IsSomeAnd before.source.left (λ bytes. IsVerdictLine bytes output × (length bytes ≤ limit_number limit.OrderInput))
+MayPrint (Show file) before output = HoldsSuch (λ text. IsPrintOf text output) before.shelf file
+MayPrint (Types file) before output = HoldsSuch (λ text. IsReportOf before.operators text output) before.shelf file
+MayPrint (Check file) before output = HoldsSuch (λ text. IsCheckOf before.operators written_options text output) before.shelf file
+MayPrint (Clocks words) before output = HoldsSuch (λ text. IsCheckOf before.operators (inferring_options words.scale words.lead) text output) before.shelf words.file
+MayPrint (Run words) before output =
+    (a : Accepted) × (lists : List (List ℤ)) × (horizon : ℕ)
+    × HoldsSuch (λ text. IsRunnable before.operators (inferring_options words.scale words.lead) words.instants text a) before.shelf words.file
+    × IsFedWell a words.instants before.source.left lists horizon × (output ≡ heading a ++ lines_to (kinds_of before.operators) a lists horizon)
+MayPrint (Kahn words) before output =
+    (a : Accepted) × (lists : List (List ℤ)) × (horizon : ℕ)
+    × HoldsSuch (λ text. IsRunnable before.operators (inferring_options words.scale words.lead) words.instants text a) before.shelf words.file
+    × IsFedWell a words.instants before.source.left lists horizon × (HasManyTurns a.placed.nodes horizon → ⊥)
     × (HasManyItems (kinds_of before.operators) lists a.placed.nodes a.clocks.items horizon → ⊥) × (output ≡ lines_to (kinds_of before.operators) a lists horizon)
-Suits (Make stages workers block) before output =
-    (a : Accepted) × (lists : List (List ℤ)) × (horizon : ℕ) × IsRunnable before.operators (inferring_options 1 1) None (made_text stages) a
-    × IsFedWell a None (Some made_input) lists horizon × (output ≡ figures stages a.net horizon (printed_values (kinds_of before.operators) a lists horizon))
+MayPrint (Make words) before output =
+    (a : Accepted) × (lists : List (List ℤ)) × (horizon : ℕ) × IsRunnable before.operators (inferring_options 1 1) None (made_text words.stages) a
+    × IsFedWell a None (Some made_input) lists horizon × (output ≡ figures words.stages a.net horizon (printed_values (kinds_of before.operators) a lists horizon))
 
--- then the command is done and its whole output stands, or memory runs out
+-- nothing refuses it, and no limit is passed
+abbrev pub Suits : Command → World → Type 0
+Suits command before = (output : List ℕ) × MayPrint command before output
+
+-- then the command is done and the output that may stand does, whole, or memory runs out
 abbrev pub Completes : Type 0
-Completes = (command : Command) (before after : World) (output : List ℕ) (status : ℕ) → Ends (Some command) before after status → IsFaultless before after → Suits command before output →
-    ((status ≡ 0) × Answers (printed output) before.out after.out before.err after.err status) ⊎ (status ≡ 7)
+Completes = (command : Command) (before after : World) (status : ℕ) → Ends (Some command) before after status → IsFaultless before after → Suits command before →
+    ((status ≡ 0) × ((output : List ℕ) → MayPrint command before output → Answers (printed output) before.out after.out before.err after.err status)) ⊎ (status ≡ 7)

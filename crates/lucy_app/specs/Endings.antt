@@ -10,17 +10,17 @@ use Rattle.lucy_run.specs.declared.ending.Ending.TheVariants.{Done, Input, Limit
 use Rattle.lucy_app.specs.Lines.{read_fault_line, write_fault_line}
 use Rattle.lucy_app.specs.Answers.{Answer}
 
--- the status, and the line, of a fault of the input
+-- the status of a fault of the input
 abbrev pub fault_status : TextFault → ℕ
-fault_status (BadLine number) = 3
-fault_status (UnknownStream number) = 3
-fault_status (BadValue number) = 3
 fault_status ReadFault = 4
 fault_status TooLong = 6
+fault_status fault = 3
 
+-- the line of a number, of which this is said
 abbrev pub input_line_with : (number : ℕ) (what : List ℕ) → List ℕ
 input_line_with number what = codes "lucy: input line " ++ (decimal number ++ what)
 
+-- the line of a fault of the input
 abbrev pub fault_line : TextFault → List ℕ
 fault_line (BadLine number) = input_line_with number (codes ": not a name and a value\n")
 fault_line (UnknownStream number) = input_line_with number (codes ": unknown stream\n")
@@ -28,7 +28,7 @@ fault_line (BadValue number) = input_line_with number (codes ": bad value\n")
 fault_line ReadFault = read_fault_line
 fault_line TooLong = limit_line limit.Input
 
--- and of the end of a run
+-- the status of the end of a run
 abbrev pub ending_status : Ending → ℕ
 ending_status Done = 0
 ending_status (Input fault) = fault_status fault
@@ -36,6 +36,7 @@ ending_status (Limit passed) = 6
 ending_status WriteFault = 5
 ending_status OutOfMemory = 7
 
+-- and its line
 abbrev pub ending_line : Ending → List ℕ
 ending_line Done = []
 ending_line (Input fault) = fault_line fault

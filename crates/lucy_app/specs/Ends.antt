@@ -1,6 +1,6 @@
 -- How a command ends: its status, and what it leaves of what it was lent.
 use Rattle.std.specs.Prelude.{ℕ, ◌≡◌, ◌⊎◌, List, [], Option, None, Some}
-use Rattle.lucy_output.specs.Sinks.{SeenSink, Writes, Fails}
+use Rattle.lucy_text.specs.Outside.{SeenSink, Writes, Fails}
 use Rattle.lucy_run.specs.Ends.{IsFrontOf}
 use Rattle.lucy_command.specs.Commands.{Command}
 use Rattle.lucy_app.specs.World.{World, Given, Meets}

@@ -7,10 +7,8 @@ use Rattle.lucy_app.specs.declared.input_refusal.InputCause.TheVariants.{Count, 
 
 -- the status where an input is refused for this cause
 abbrev pub input_status : InputCause → ℕ
-input_status (Count count) = 3
-input_status (BadWord number place) = 3
-input_status (NoOne number) = 3
 input_status (Limit passed) = 6
+input_status cause = 3
 
 -- the line of this cause
 abbrev pub input_line : InputCause → List ℕ

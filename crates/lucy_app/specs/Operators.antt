@@ -4,6 +4,7 @@ use Rattle.lucy_host.specs.Operators.{Operator}
 use Rattle.lucy_host.specs.declared.kind.HostKind.{HostKind}
 use Rattle.lucy_host.specs.declared.kind.HostKind.TheVariants.{Min, Max, AbsDiff, SatAdd, SatSub, Shift}
 
+-- the operator of this name
 abbrev operator : List ℕ → HostKind → Operator
 operator name kind = record { name = name; kind = kind }
 

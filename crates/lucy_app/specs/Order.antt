@@ -5,6 +5,7 @@ use Rattle.lucy_word.specs.Bits.{Bits}
 use Rattle.lucy_word.specs.Reading.{IsReadable, Refuses}
 use Rattle.lucy_word.specs.declared.error.WordError.TheVariants as word
 use Rattle.lucy_word.specs.declared.limit.Limit.TheVariants as limit
+use Rattle.lucy_order.specs.Horizon.{AreFar}
 use Rattle.lucy_order.specs.Verdicts.{IsVerdict}
 use Rattle.lucy_order.specs.declared.verdict.Verdict.{Verdict}
 use Rattle.lucy_order.specs.declared.verdict.Verdict.TheVariants.{Adaptable, Rates, Late}
@@ -22,9 +23,9 @@ verdict_line (Adaptable size) = codes "adaptable size " ++ (decimal size ++ code
 verdict_line Rates = codes "unequal rates\n"
 verdict_line (Late at) = codes "late at " ++ (decimal at ++ codes "\n")
 
--- the line is that of the verdict which holds of the text's two words
+-- the line is that of the verdict which holds of the text's two words, about which not too many instants decide
 abbrev pub IsVerdictLine : (text line : List ℕ) → Type 0
-IsVerdictLine text line = (a : Bits) × (b : Bits) × (v : Verdict) × IsPair text a b × IsVerdict a b v × (line ≡ verdict_line v)
+IsVerdictLine text line = (a : Bits) × (b : Bits) × (v : Verdict) × IsPair text a b × IsVerdict a b v × (line ≡ verdict_line v) × (AreFar a b → ⊥)
 
 -- the field with this number, from 1, is refused for this cause
 abbrev pub RefusesWord : ℕ → List ℕ → InputCause → Type 0
@@ -33,9 +34,11 @@ RefusesWord number text (NoOne which) = (which ≡ number) × Refuses text word.
 RefusesWord number text (Limit passed) = (passed ≡ limit.Written) × Refuses text word.TooLong
 RefusesWord number text (Count count) = ⊥
 
--- the fields are refused for this cause: their count, else the first word that is refused
+-- the fields are refused for this cause: their count, else the first word that is refused, else that too many instants decide
 abbrev pub RefusesFields : List (List ℕ) → InputCause → Type 0
 RefusesFields texts cause =
     ((length texts ≡ 2 → ⊥) × (cause ≡ Count (length texts)))
     ⊎ (((u : List ℕ) × (v : List ℕ) × (texts ≡ u ∷ v ∷ []) × RefusesWord 1 u cause)
-    ⊎ ((u : List ℕ) × (v : List ℕ) × (a : Bits) × (texts ≡ u ∷ v ∷ []) × IsReadable u a × RefusesWord 2 v cause))
+    ⊎ (((u : List ℕ) × (v : List ℕ) × (a : Bits) × (texts ≡ u ∷ v ∷ []) × IsReadable u a × RefusesWord 2 v cause)
+    ⊎ ((u : List ℕ) × (v : List ℕ) × (a : Bits) × (b : Bits) × (texts ≡ u ∷ v ∷ []) × IsReadable u a × IsReadable v b × AreFar a b
+    × (cause ≡ Limit limit.Compare))))

@@ -1,5 +1,5 @@
 -- What the parts of the body hand on: what a fetch gave, and how a command came out before anything is written.
-use Rattle.std.specs.Prelude.{ℕ, ◌≡◌, ◌⊎◌, ◌≤◌, List, [], Option, None, Result, Ok, Err, MatchResult, IsOkAnd}
+use Rattle.std.specs.Prelude.{ℕ, ◌≡◌, ◌⊎◌, List, [], Option, Result, Ok, Err, MatchResult}
 use Rattle.std.specs.declared.alloc.Global.{Global}
 use Rattle.std.specs.declared.vec.Vec.{Vec}
 use Rattle.lucy_word.specs.declared.limit.Limit.TheVariants as limit
@@ -8,19 +8,20 @@ use Rattle.lucy_text.specs.declared.shelf.ShelfError.TheVariants as shelf
 use Rattle.lucy_front.specs.declared.refusal.Refusal.{Refusal as Reason}
 use Rattle.lucy_front.specs.declared.refusal.Refusal.TheVariants as front
 use Rattle.lucy_front.specs.declared.options.Options.{Options}
-use Rattle.lucy_command.specs.Commands.{Make, most_stages}
-use Rattle.lucy_front.specs.Inferring.{most_scale}
+use Rattle.lucy_command.specs.declared.words.MakeWords.{MakeWords}
+use Rattle.lucy_command.specs.Commands.{Make}
 use Rattle.lucy_front.specs.Refusals.{limit_line, memory_line, IsTellable}
 use Rattle.lucy_feed.specs.declared.read.ReadError.{ReadError}
 use Rattle.lucy_feed.specs.declared.read.ReadError.TheVariants as read
-use Rattle.lucy_output.specs.Sinks.{SeenSink}
+use Rattle.lucy_text.specs.Outside.{SeenSink}
 use Rattle.lucy_host.specs.Operators.{Operator}
 use Rattle.lucy_front.specs.declared.accepted.Accepted.{Accepted}
 use Rattle.lucy_run.specs.declared.ending.Ending.{Ending}
 use Rattle.lucy_run.specs.declared.ending.Ending.TheVariants as ending
 use Rattle.lucy_app.specs.Answers.{Answer, printed, read_fault, no_instants, program_refused, input_refused, out_of_memory}
 use Rattle.lucy_app.specs.Endings.{fault_status, fault_line, ending_status, ending_line}
-use Rattle.lucy_app.specs.Running.{IsRunnable, OwesRefusal, OwesRunning, OwesRunningOutput}
+use Rattle.lucy_app.specs.Commands.{HasText}
+use Rattle.lucy_app.specs.Running.{IsRunnable, OwesRunning}
 use Rattle.lucy_feed.specs.Sources.{Stop, Unread}
 use Rattle.lucy_app.specs.World.{Given}
 use Rattle.lucy_app.specs.Owes.{Owes, OwesOutput}
@@ -28,22 +29,6 @@ use Rattle.lucy_app.specs.Ends.{Tells, Answers, Breaks, EndsBy}
 use Rattle.lucy_app.specs.declared.input_refusal.InputCause.{InputCause}
 use Rattle.lucy_app.specs.declared.refusal.Refusal.{Refusal}
 use Rattle.lucy_app.specs.declared.refusal.Refusal.TheVariants.{Program, Input, NoInstants, ReadFault, OutOfMemory}
-
--- a scale, or a lead, is within its limits
-abbrev pub IsScale : ℕ → Type 0
-IsScale n = (1 ≤ n) × (n ≤ most_scale)
-
--- so are stages
-abbrev pub AreStages : ℕ → Type 0
-AreStages stages = (1 ≤ stages) × (stages ≤ most_stages)
-
--- so are workers
-abbrev pub AreWorkers : ℕ → Type 0
-AreWorkers workers = (1 ≤ workers) × (workers ≤ 64)
-
--- and so are the instants of a block
-abbrev pub IsBlock : ℕ → Type 0
-IsBlock block = (1 ≤ block) × (block ≤ 1048576)
 
 -- the bytes that a fetch gave
 abbrev pub bytes_of : Result (Vec ℕ Global) ShelfError → Result (List ℕ) ShelfError
@@ -90,13 +75,14 @@ abbrev pub Delivers : Result (Vec ℕ Global) Refusal → (out out' err err' : S
 Delivers (Ok print) out out' err err' status = Prints print.items out out' err err' status
 Delivers (Err e) out out' err err' status = (out' ≡ out) × TellsRefusal e err err' status
 
--- why a command has no answer where a fetch failed so, or a phase refused the text
+-- why a command has no answer where a fetch failed so
 abbrev pub fetch_refusal : ShelfError → Refusal
 fetch_refusal shelf.Failed = ReadFault
 fetch_refusal shelf.Missing = ReadFault
 fetch_refusal shelf.TooLong = Program (front.Limit limit.Text)
 fetch_refusal shelf.OutOfMemory = OutOfMemory
 
+-- and where a phase refused the text
 abbrev pub program_refusal : Reason → Refusal
 program_refusal front.OutOfMemory = OutOfMemory
 program_refusal reason = Program reason
@@ -106,10 +92,15 @@ abbrev pub read_refusal : ReadError → Refusal
 read_refusal read.Failed = ReadFault
 read_refusal read.OutOfMemory = OutOfMemory
 
+-- nothing is owed of a run
+abbrev pub NoRun : Accepted → (output : List ℕ) → Ending → Type 0
+NoRun a output end = ⊥
+
 -- what was fetched is a program that can be run, or is refused, but for want of memory
-abbrev pub IsAccepting : List Operator → Options → (instants : Option ℕ) → Result (List ℕ) ShelfError → Result Accepted Refusal → Type 0
+abbrev pub IsAccepting : List Operator → Options → (instants : Option ℕ) → List (Result (List ℕ) ShelfError) → Result Accepted Refusal → Type 0
 IsAccepting ops o instants fetched accepted =
-    MatchResult accepted (λ a. IsOkAnd fetched (λ text. IsRunnable ops o instants text a)) (λ e. (e ≡ OutOfMemory) ⊎ OwesRefusal ops o instants fetched (refusal_answer e))
+    MatchResult accepted (λ a. HasText fetched (λ text. IsRunnable ops o instants text a))
+    (λ e. (e ≡ OutOfMemory) ⊎ OwesRunning NoRun ops o instants Unread fetched (refusal_answer e))
 
 -- how a run ended was told; of a fault or a limit, or else that memory ran out
 abbrev pub TellsEnding : Ending → (err err' : SeenSink) (status : ℕ) → Type 0
@@ -117,18 +108,22 @@ TellsEnding (ending.Input fault) err err' status = Tells (fault_status fault) (f
 TellsEnding (ending.Limit passed) err err' status = Tells 6 (limit_line passed) err err' status ⊎ Tells 7 memory_line err err' status
 TellsEnding end err err' status = Tells (ending_status end) (ending_line end) err err' status
 
+-- an output that a run of what was fetched owes where the bytes taken count as read in one of these ways
+abbrev pub RunOutputs : (Counts : Stop → Type 0) (Owed : Stop → Accepted → List ℕ → Ending → Type 0) → List Operator → Options → (instants : Option ℕ) → List (Result (List ℕ) ShelfError) →
+    (output : List ℕ) → Type 0
+RunOutputs Counts Owed ops o instants fetched output =
+    (counted : Stop) × (answer : Answer) × Counts counted × OwesRunning (Owed counted) ops o instants counted fetched answer × (output ≡ answer.out)
+
 -- how a command ends that runs what was fetched
-abbrev pub EndsRun : (Owed : Accepted → List ℕ → Ending → Type 0) (OwedOutput : Accepted → List ℕ → Type 0) → List Operator → Options → (instants : Option ℕ) → Stop → Result (List ℕ) ShelfError →
+abbrev pub EndsRun : (Owed : Stop → Accepted → List ℕ → Ending → Type 0) (Counts : Stop → Type 0) → List Operator → Options → (instants : Option ℕ) → Stop → List (Result (List ℕ) ShelfError) →
     (out out' err err' : SeenSink) (status : ℕ) → Type 0
-EndsRun Owed OwedOutput ops o instants stop fetched out out' err err' status =
-    EndsBy (OwesRunning Owed ops o instants stop fetched)
-    (λ output. ((answer : Answer) × OwesRunning Owed ops o instants stop fetched answer × (output ≡ answer.out)) ⊎ OwesRunningOutput OwedOutput ops o instants fetched output)
-    out out' err err' status
+EndsRun Owed Counts ops o instants stop fetched out out' err err' status =
+    EndsBy (OwesRunning (Owed stop) ops o instants stop fetched) (RunOutputs Counts Owed ops o instants fetched) out out' err err' status
 
 -- what `make` has met
 abbrev pub made_given : List Operator → Given
-made_given ops = record { fetched = None; taken = []; stop = Unread; operators = ops }
+made_given ops = record { fetched = []; taken = []; stop = Unread; operators = ops }
 
 -- how it ends
-abbrev pub EndsMake : (stages workers block : ℕ) → List Operator → (out out' err err' : SeenSink) (status : ℕ) → Type 0
-EndsMake stages workers block ops out out' err err' status = EndsBy (Owes (Make stages workers block) (made_given ops)) (OwesOutput (Make stages workers block) (made_given ops)) out out' err err' status
+abbrev pub EndsMake : MakeWords → List Operator → (out out' err err' : SeenSink) (status : ℕ) → Type 0
+EndsMake words ops out out' err err' status = EndsBy (Owes (Make words) (made_given ops)) (OwesOutput (Make words) (made_given ops)) out out' err err' status

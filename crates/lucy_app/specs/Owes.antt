@@ -1,9 +1,10 @@
 -- What each command owes, by what it has met.
-use Rattle.std.specs.Prelude.{ℕ, ◌≡◌, ◌⊎◌, List, None, Ok, IsSomeAnd}
+use Rattle.std.specs.Prelude.{ℕ, ◌≡◌, ◌⊎◌, List, [], ◌∷◌, None, Ok}
 use Rattle.lucy_word.specs.declared.limit.Limit.TheVariants as limit
 use Rattle.lucy_host.specs.Operators.{kinds_of}
 use Rattle.lucy_feed.specs.Sources.{Stop, Ended, Failed, Passed}
-use Rattle.lucy_run.specs.Owes.{OwesRun, OwesRunOutput, OwesKahn, OwesKahnOutput}
+use Rattle.lucy_run.specs.Feeds.{CountsAs}
+use Rattle.lucy_run.specs.Owes.{OwesRun, OwesKahn}
 use Rattle.lucy_make.specs.Text.{made_text}
 use Rattle.lucy_make.specs.Owes.{OwesSummary}
 use Rattle.lucy_command.specs.Commands.{Command, Order, Show, Types, Check, Clocks, Run, Kahn, Make}
@@ -15,8 +16,8 @@ use Rattle.lucy_app.specs.Order.{IsVerdictLine, RefusesFields}
 use Rattle.lucy_app.specs.Show.{IsPrintOf, RefusesSyntax}
 use Rattle.lucy_app.specs.Types.{IsReportOf, RefusesText}
 use Rattle.lucy_app.specs.Check.{IsCheckOf, RefusesCheck}
-use Rattle.lucy_app.specs.Programs.{OwesProgram}
-use Rattle.lucy_app.specs.Running.{OwesRunning, OwesRunningOutput}
+use Rattle.lucy_app.specs.Programs.{OwesText, OwesPrint}
+use Rattle.lucy_app.specs.Running.{OwesRunning}
 use Rattle.lucy_app.specs.declared.input_refusal.InputCause.{InputCause}
 
 -- `order`, by the bytes taken and how reading stopped
@@ -31,26 +32,28 @@ OwesOrder taken stop answer = ⊥
 -- a command owes this answer
 abbrev pub Owes : Command → Given → Answer → Type 0
 Owes Order given answer = OwesOrder given.taken given.stop answer
-Owes (Show file) given answer = IsSomeAnd given.fetched (λ fetched. OwesProgram IsPrintOf RefusesSyntax fetched answer)
-Owes (Types file) given answer = IsSomeAnd given.fetched (λ fetched. OwesProgram (IsReportOf given.operators) (RefusesText given.operators) fetched answer)
-Owes (Check file) given answer = IsSomeAnd given.fetched (λ fetched. OwesProgram (IsCheckOf given.operators written_options) (RefusesCheck given.operators written_options) fetched answer)
-Owes (Clocks file scale lead) given answer =
-    IsSomeAnd given.fetched (λ fetched. OwesProgram (IsCheckOf given.operators (inferring_options scale lead)) (RefusesCheck given.operators (inferring_options scale lead)) fetched answer)
-Owes (Run file scale lead instants workers block) given answer =
-    IsSomeAnd given.fetched (λ fetched. OwesRunning (λ a. OwesRun (kinds_of given.operators) a instants given.taken given.stop) given.operators (inferring_options scale lead) instants given.stop fetched answer)
-Owes (Kahn file scale lead instants) given answer =
-    IsSomeAnd given.fetched (λ fetched. OwesRunning (λ a. OwesKahn (kinds_of given.operators) a instants given.taken given.stop) given.operators (inferring_options scale lead) instants given.stop fetched answer)
-Owes (Make stages workers block) given answer =
-    OwesRunning (λ a. OwesSummary stages (kinds_of given.operators) a) given.operators (inferring_options 1 1) None given.stop (Ok (made_text stages)) answer
+Owes (Show file) given answer = OwesText RefusesSyntax (OwesPrint IsPrintOf) given.stop given.fetched answer
+Owes (Types file) given answer = OwesText (RefusesText given.operators) (OwesPrint (IsReportOf given.operators)) given.stop given.fetched answer
+Owes (Check file) given answer =
+    OwesText (RefusesCheck given.operators written_options) (OwesPrint (IsCheckOf given.operators written_options)) given.stop given.fetched answer
+Owes (Clocks words) given answer =
+    let o = inferring_options words.scale words.lead in
+    OwesText (RefusesCheck given.operators o) (OwesPrint (IsCheckOf given.operators o)) given.stop given.fetched answer
+Owes (Run words) given answer =
+    OwesRunning (λ a. OwesRun (kinds_of given.operators) a words.instants given.taken given.stop) given.operators
+    (inferring_options words.scale words.lead) words.instants given.stop given.fetched answer
+Owes (Kahn words) given answer =
+    OwesRunning (λ a. OwesKahn (kinds_of given.operators) a words.instants given.taken given.stop) given.operators
+    (inferring_options words.scale words.lead) words.instants given.stop given.fetched answer
+Owes (Make words) given answer =
+    OwesRunning (OwesSummary words.stages (kinds_of given.operators)) given.operators (inferring_options 1 1) None given.stop
+    (Ok (made_text words.stages) ∷ []) answer
 
--- a command that runs a program owes this output, also where reading was given up
-abbrev pub OwesLines : Command → Given → (output : List ℕ) → Type 0
-OwesLines (Run file scale lead instants workers block) given output =
-    IsSomeAnd given.fetched (λ fetched. OwesRunningOutput (λ a. OwesRunOutput (kinds_of given.operators) a instants given.taken given.stop) given.operators (inferring_options scale lead) instants fetched output)
-OwesLines (Kahn file scale lead instants) given output =
-    IsSomeAnd given.fetched (λ fetched. OwesRunningOutput (λ a. OwesKahnOutput (kinds_of given.operators) a instants given.taken given.stop) given.operators (inferring_options scale lead) instants fetched output)
-OwesLines command given output = ⊥
+-- what a command has met may count as this: as it is, or, where `run` gave up reading, as if the bytes taken were all
+abbrev pub MayCount : Command → (given counted : Given) → Type 0
+MayCount (Run words) given counted = (stop : Stop) × CountsAs given.stop stop × (counted ≡ record given { stop = stop })
+MayCount command given counted = counted ≡ given
 
--- a command owes this output
+-- a command owes this output, of which a front may stand where it breaks off
 abbrev pub OwesOutput : Command → Given → (output : List ℕ) → Type 0
-OwesOutput command given output = ((answer : Answer) × Owes command given answer × (output ≡ answer.out)) ⊎ OwesLines command given output
+OwesOutput command given output = (counted : Given) × (answer : Answer) × MayCount command given counted × Owes command counted answer × (output ≡ answer.out)

@@ -1,17 +1,25 @@
--- What a command owes that prints something of the program of a file.
-use Rattle.std.specs.Prelude.{ℕ, ◌≡◌, ◌⊎◌, List, Result, Ok, Err}
+-- What a command owes of the text of a file, by what was fetched and how the source was read.
+use Rattle.std.specs.Prelude.{ℕ, ◌≡◌, ◌⊎◌, List, ◌∷◌, Result, Ok, Err}
 use Rattle.lucy_word.specs.declared.limit.Limit.TheVariants as limit
 use Rattle.lucy_text.specs.declared.shelf.ShelfError.{ShelfError}
 use Rattle.lucy_text.specs.declared.shelf.ShelfError.TheVariants as shelf
+use Rattle.lucy_feed.specs.Sources.{Stop, Unread}
 use Rattle.lucy_front.specs.declared.refusal.Refusal.{Refusal}
+use Rattle.lucy_app.specs.Commands.{HasText}
 use Rattle.lucy_app.specs.Answers.{Answer, printed, read_fault, limit_passed, program_refused}
 
--- a command that prints the text of a program so, and refuses it so, by what the fetch gave
-abbrev pub OwesProgram : (Prints : List ℕ → List ℕ → Type 0) (Refuses : List ℕ → Refusal → Type 0) → Result (List ℕ) ShelfError → Answer → Type 0
-OwesProgram Prints Refuses (Ok text) answer =
-    ((print : List ℕ) × Prints text print × (answer ≡ printed print))
-    ⊎ ((refusal : Refusal) × Refuses text refusal × (answer ≡ program_refused refusal))
-OwesProgram Prints Refuses (Err shelf.Failed) answer = answer ≡ read_fault
-OwesProgram Prints Refuses (Err shelf.Missing) answer = answer ≡ read_fault
-OwesProgram Prints Refuses (Err shelf.TooLong) answer = answer ≡ limit_passed limit.Text
-OwesProgram Prints Refuses (Err shelf.OutOfMemory) answer = ⊥
+-- the text was not fetched, or is refused so
+abbrev pub OwesRefusal : (Refuses : List ℕ → Refusal → Type 0) → (fetched : List (Result (List ℕ) ShelfError)) → Answer → Type 0
+OwesRefusal Refuses (Ok text ∷ more) answer = (refusal : Refusal) × Refuses text refusal × (answer ≡ program_refused refusal)
+OwesRefusal Refuses (Err shelf.Failed ∷ more) answer = answer ≡ read_fault
+OwesRefusal Refuses (Err shelf.Missing ∷ more) answer = answer ≡ read_fault
+OwesRefusal Refuses (Err shelf.TooLong ∷ more) answer = answer ≡ limit_passed limit.Text
+OwesRefusal Refuses fetched answer = ⊥
+
+-- such a refusal, where nothing is read, or what is owed of the text that was fetched
+abbrev pub OwesText : (Refuses : List ℕ → Refusal → Type 0) (Owed : List ℕ → Answer → Type 0) → Stop → (fetched : List (Result (List ℕ) ShelfError)) → Answer → Type 0
+OwesText Refuses Owed stop fetched answer = (OwesRefusal Refuses fetched answer × (stop ≡ Unread)) ⊎ HasText fetched (λ text. Owed text answer)
+
+-- what is printed so of a text
+abbrev pub OwesPrint : (Prints : List ℕ → List ℕ → Type 0) → (text : List ℕ) → Answer → Type 0
+OwesPrint Prints text answer = (print : List ℕ) × Prints text print × (answer ≡ printed print)

@@ -1,11 +1,8 @@
 // A command that was read is carried out.
-ghost use Rattle.std.specs.Prelude.{◌≡◌, ◌≤◌, None, Some};
+ghost use Rattle.std.specs.Prelude.{◌≡◌, ◌≤◌, [], None, Some};
 ghost use Rattle.lucy_host.specs.Host.{Serves, lent};
-ghost use Rattle.lucy_feed.specs.Sources.{seen_source};
-ghost use Rattle.lucy_output.specs.Sinks.{seen_sink};
 ghost use Rattle.lucy_command.specs.Named.{named, IsWithin};
-ghost use Rattle.lucy_app.specs.Commands.{file_of, input_of};
-ghost use Rattle.lucy_app.specs.World.{seen_shelf};
+ghost use Rattle.lucy_app.specs.Commands.{files_of, input_of};
 ghost use Rattle.lucy_app.specs.Ends.{EndsSo};
 
 use crate::fetch::fetch;
@@ -43,27 +40,27 @@ pub(crate) fn carry_out<
     requires within { IsWithin (named command) }
     ensures ends { EndsSo (named command.entry)
         (record {
-          shelf = seen_shelf (S.files shelf.old) (S.faults shelf.old) (S.fetches shelf.old);
-          source = seen_source (I.left input.old) (I.ended input.old) (I.faults input.old) (I.since_stop input.old);
-          out = seen_sink (O.written out.old) (O.faults out.old) (O.since_stop out.old);
-          err = seen_sink (E.written err.old) (E.faults err.old) (E.since_stop err.old);
+          shelf = S.seen shelf.old;
+          source = I.seen input.old;
+          out = O.seen out.old;
+          err = E.seen err.old;
           operators = lent host.now;
         })
         (record {
-          shelf = seen_shelf (S.files shelf.new) (S.faults shelf.new) (S.fetches shelf.new);
-          source = seen_source (I.left input.new) (I.ended input.new) (I.faults input.new) (I.since_stop input.new);
-          out = seen_sink (O.written out.new) (O.faults out.new) (O.since_stop out.new);
-          err = seen_sink (E.written err.new) (E.faults err.new) (E.since_stop err.new);
+          shelf = S.seen shelf.new;
+          source = I.seen input.new;
+          out = O.seen out.new;
+          err = E.seen err.new;
           operators = lent host.now;
         })
         result }
-    ensures shelf { file_of (Some (named command.entry)) ≡ None → shelf.new ≡ shelf.old }
+    ensures shelf { files_of (Some (named command.entry)) ≡ [] → shelf.new ≡ shelf.old }
     ensures source { input_of (Some (named command.entry)) ≡ None → input.new ≡ input.old }
     ensures quiet { result ≡ 0 → err.new ≡ err.old }
-    ensures shelf_count { S.faults shelf.old ≤ S.faults shelf.new }
-    ensures source_count { I.faults input.old ≤ I.faults input.new }
-    ensures out_count { O.faults out.old ≤ O.faults out.new }
-    ensures err_count { E.faults err.old ≤ E.faults err.new }
+    ensures shelf_count { (S.seen shelf.old).faults ≤ (S.seen shelf.new).faults }
+    ensures source_count { (I.seen input.old).faults ≤ (I.seen input.new).faults }
+    ensures out_count { (O.seen out.old).faults ≤ (O.seen out.new).faults }
+    ensures err_count { (E.seen err.old).faults ≤ (E.seen err.new).faults }
 {
     match command {
         Command::Order => {
@@ -84,40 +81,20 @@ pub(crate) fn carry_out<
             let outcome = check::answer(alloc, fetched, host.ops(), &written());
             finish(alloc, out, err, outcome)
         }
-        Command::Clocks { file, scale, lead } => {
-            let fetched = fetch(alloc, shelf, file);
-            let options = inferring(scale, lead);
+        Command::Clocks(words) => {
+            let fetched = fetch(alloc, shelf, words.file);
+            let options = inferring(words.scale, words.lead);
             let outcome = check::answer(alloc, fetched, host.ops(), &options);
             finish(alloc, out, err, outcome)
         }
-        Command::Run {
-            file,
-            scale,
-            lead,
-            instants,
-            workers,
-            block,
-        } => {
-            let fetched = fetch(alloc, shelf, file);
-            let options = inferring(scale, lead);
-            running::run(
-                rt, alloc, fetched, &options, instants, workers, block, input, out, err, gate, host,
-            )
+        Command::Run(words) => {
+            let fetched = fetch(alloc, shelf, words.file);
+            running::run(rt, alloc, fetched, words, input, out, err, gate, host)
         }
-        Command::Kahn {
-            file,
-            scale,
-            lead,
-            instants,
-        } => {
-            let fetched = fetch(alloc, shelf, file);
-            let options = inferring(scale, lead);
-            running::kahn(alloc, fetched, &options, instants, input, out, err, host)
+        Command::Kahn(words) => {
+            let fetched = fetch(alloc, shelf, words.file);
+            running::kahn(alloc, fetched, words, input, out, err, host)
         }
-        Command::Make {
-            stages,
-            workers,
-            block,
-        } => { making::make(rt, alloc, stages, workers, block, out, err, gate, host) }
+        Command::Make(words) => making::make(rt, alloc, words, out, err, gate, host),
     }
 }

@@ -1,8 +1,9 @@
 // The commands `check` and `clocks`: the clocks and the sizes of buffers of the program of a file.
-ghost use Rattle.std.specs.Prelude.{IfOk, IfErr};
+ghost use Rattle.std.specs.Prelude.{◌∷◌, [], IfOk, IfErr};
+ghost use Rattle.lucy_feed.specs.Sources.{Unread};
 ghost use Rattle.lucy_front.specs.Inferring.{AreOptions};
 ghost use Rattle.lucy_app.specs.Check.{IsCheckOf, RefusesCheck};
-ghost use Rattle.lucy_app.specs.Programs.{OwesProgram};
+ghost use Rattle.lucy_app.specs.Programs.{OwesText, OwesPrint};
 ghost use Rattle.lucy_app.specs.Outcomes.{bytes_of, RefusesProgram, IsOutcome, Tellable};
 
 use crate::refusal::Refusal;
@@ -30,7 +31,7 @@ pub(crate) fn answer(
     options: &Options,
 ) -> Result<Vec<u8>, Refusal>
     requires { AreOptions options.now }
-    ensures outcome { IsOutcome (OwesProgram (IsCheckOf ops.now options.now) (RefusesCheck ops.now options.now) (bytes_of fetched)) result }
+    ensures outcome { IsOutcome (OwesText (RefusesCheck ops.now options.now) (OwesPrint (IsCheckOf ops.now options.now)) Unread (bytes_of fetched ∷ [])) result }
     ensures tellable { IfErr result Tellable }
 {
     let text = fetched?;

@@ -1,6 +1,7 @@
 // The text of a file.
 ghost use Rattle.std.specs.Prelude.{◌≤◌};
-ghost use Rattle.lucy_app.specs.World.{seen_shelf, Fetched};
+ghost use Rattle.lucy_app.specs.Commands.{program_of};
+ghost use Rattle.lucy_app.specs.World.{Fetched};
 ghost use Rattle.lucy_app.specs.Outcomes.{bytes_of};
 
 use lucy_text::{Shelf, ShelfError};
@@ -13,10 +14,8 @@ pub(crate) fn fetch<S: Shelf>(
     shelf: &mut S,
     file: &str,
 ) -> Result<Vec<u8>, ShelfError>
-    ensures fetched { Fetched
-        (seen_shelf (S.files shelf.old) (S.faults shelf.old) (S.fetches shelf.old))
-        (seen_shelf (S.files shelf.new) (S.faults shelf.new) (S.fetches shelf.new)) file.now (bytes_of result) }
-    ensures count { S.faults shelf.old ≤ S.faults shelf.new }
+    ensures fetched { Fetched (program_of file.now) (S.seen shelf.old) (S.seen shelf.new) (bytes_of result) }
+    ensures count { (S.seen shelf.old).faults ≤ (S.seen shelf.new).faults }
 {
     shelf.fetch(alloc, file, Limit::Text.number())
 }

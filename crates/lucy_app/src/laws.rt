@@ -30,7 +30,5 @@ pub fn suited_commands_are_done()
 {
     one_cut();
     one_horizon();
-    one_run();
-    one_interpretation();
     faultless_runs_are_done();
 }

@@ -1,13 +1,15 @@
 // The command `make`: a generated program and its input, and the figures of their run.
 ghost use Rattle.std.specs.Prelude.{◌≡◌, ◌≤◌};
 ghost use Rattle.lucy_host.specs.Host.{Serves, lent};
-ghost use Rattle.lucy_output.specs.Sinks.{seen_sink};
-ghost use Rattle.lucy_app.specs.Outcomes.{AreStages, AreWorkers, IsBlock, EndsMake};
+ghost use Rattle.lucy_command.specs.Commands as names;
+ghost use Rattle.lucy_command.specs.Named.{IsWithin};
+ghost use Rattle.lucy_app.specs.Outcomes.{EndsMake};
 
 use crate::options::inferring;
 use crate::output::{conclude, print, refuse};
 use crate::refusal::Refusal;
 use crate::running::accepted;
+use lucy_command::{MakeWords, block_or_default};
 use lucy_host::Host;
 use lucy_make::{made_text, summary};
 use lucy_text::Sink;
@@ -15,39 +17,23 @@ use lucy_worker::Gate;
 use std::alloc::Global;
 use std::thread::Threads;
 
-/// Runs the program of so many stages by so many workers, in blocks of so many instants, on its input: the figures of that run. No byte
-/// depends on the block.
+/// Runs the program of so many stages by so many workers, in blocks of so many instants, on its input: the figures of that run. No
+/// byte depends on the block.
 pub(crate) fn make<
     R: Threads + Sync,
     O: Sink,
     E: Sink,
     G: Gate + Sync,
     F: Fn(u32, i64, i64) -> i64 + Sync,
->(
-    rt: &R,
-    alloc: Global,
-    stages: u64,
-    workers: u32,
-    block: u64,
-    out: &mut O,
-    err: &mut E,
-    gate: &G,
-    host: &Host<F>,
-) -> u8
+>(rt: &R, alloc: Global, words: MakeWords, out: &mut O, err: &mut E, gate: &G, host: &Host<F>) -> u8
     requires serves { Serves F.pre F.post host.now }
-    requires stages { AreStages stages }
-    requires workers { AreWorkers workers }
-    requires block { IsBlock block }
-    ensures ends { EndsMake stages workers block (lent host.now)
-        (seen_sink (O.written out.old) (O.faults out.old) (O.since_stop out.old))
-        (seen_sink (O.written out.new) (O.faults out.new) (O.since_stop out.new))
-        (seen_sink (E.written err.old) (E.faults err.old) (E.since_stop err.old))
-        (seen_sink (E.written err.new) (E.faults err.new) (E.since_stop err.new)) result }
+    requires within { IsWithin (names.Make words) }
+    ensures ends { EndsMake words (lent host.now) (O.seen out.old) (O.seen out.new) (E.seen err.old) (E.seen err.new) result }
     ensures quiet { result ≡ 0 → err.new ≡ err.old }
-    ensures out_count { O.faults out.old ≤ O.faults out.new }
-    ensures err_count { E.faults err.old ≤ E.faults err.new }
+    ensures out_count { (O.seen out.old).faults ≤ (O.seen out.new).faults }
+    ensures err_count { (E.seen err.old).faults ≤ (E.seen err.new).faults }
 {
-    let text = match made_text(alloc, stages) {
+    let text = match made_text(alloc, words.stages) {
         Ok(text) => text,
         Err(_) => return refuse(alloc, err, Refusal::OutOfMemory),
     };
@@ -55,7 +41,17 @@ pub(crate) fn make<
         Ok(program) => program,
         Err(refusal) => return refuse(alloc, err, refusal),
     };
-    match summary(rt, alloc, stages, program, host, gate, workers, block) {
+    let block = block_or_default(words.block);
+    match summary(
+        rt,
+        alloc,
+        words.stages,
+        program,
+        host,
+        gate,
+        words.workers,
+        block,
+    ) {
         Ok(figures) => print(out, err, &figures),
         Err(ending) => conclude(alloc, err, ending),
     }

@@ -1,8 +1,8 @@
 // How the clocks of a program are found.
 ghost use Rattle.std.specs.Prelude.{◌≡◌};
 ghost use Rattle.lucy_front.specs.Inferring.{AreOptions};
+ghost use Rattle.lucy_command.specs.Named.{IsScale};
 ghost use Rattle.lucy_app.specs.Commands.{written_options, inferring_options};
-ghost use Rattle.lucy_app.specs.Outcomes.{IsScale};
 
 use lucy_front::Options;
 

@@ -5,7 +5,7 @@ ghost use Rattle.lucy_word.specs.Reading.{IsReadable};
 ghost use Rattle.lucy_word.specs.declared.limit.Limit.TheVariants as limit;
 ghost use Rattle.lucy_app.specs.Fields.{fields};
 ghost use Rattle.lucy_app.specs.Order.{IsVerdictLine, RefusesWord, RefusesFields, verdict_line};
-ghost use Rattle.lucy_feed.specs.Sources.{Stop, seen_source, Read};
+ghost use Rattle.lucy_feed.specs.Sources.{Stop, Read};
 ghost use Rattle.lucy_app.specs.Owes.{OwesOrder};
 ghost use Rattle.lucy_app.specs.Outcomes.{RefusesInput, IsOutcome, Tellable};
 
@@ -13,13 +13,10 @@ use crate::cut::fields;
 use crate::input_refusal::InputCause;
 use crate::refusal::Refusal;
 use lucy_feed::read_up_to;
-use lucy_order::{Verdict, adapt};
+use lucy_order::{Verdict, adapt, horizon_of};
 use lucy_text::Source;
 use lucy_word::{Limit, Word, WordError};
 use std::alloc::{AllocError, Global};
-
-// Bytes that the input may have.
-const INPUT: usize = 16_384;
 
 fn line(alloc: Global, verdict: Verdict) -> Result<Vec<u8>, AllocError>
     ensures { IfOk result (λ v. v.items ≡ verdict_line verdict) }
@@ -47,7 +44,7 @@ fn word(alloc: Global, number: u64, field: &[u8]) -> Result<Word, Refusal>
     Err(Refusal::Input(cause))
 }
 
-// The line on the two words that the text is.
+// The line on the two words that the text is, unless too many instants decide about them.
 fn verdict_on(alloc: Global, text: &[u8]) -> Result<Vec<u8>, Refusal>
     ensures ok { IfOk result (λ v. IsVerdictLine text.now v.items) }
     ensures refused { IfErr result (RefusesInput (RefusesFields (fields text.now))) }
@@ -58,20 +55,23 @@ fn verdict_on(alloc: Global, text: &[u8]) -> Result<Vec<u8>, Refusal>
     };
     let first = word(alloc, 1, first)?;
     let second = word(alloc, 2, second)?;
+    let most = Limit::Compare.number();
+    if horizon_of(&first, &second) > most {
+        return Err(Refusal::Input(InputCause::Limit(Limit::Compare)));
+    }
     Ok(line(alloc, adapt(&first, &second))?)
 }
 
 /// The line on all bytes of the source, read to its end or to one byte past the limit, or why there is none.
 pub(crate) fn answer<I: Source>(alloc: Global, input: &mut I) -> Result<Vec<u8>, Refusal>
-    ensures outcome { (taken : List ℕ) × (stop : Stop) × Read (limit_number limit.OrderInput)
-        (seen_source (I.left input.old) (I.ended input.old) (I.faults input.old) (I.since_stop input.old))
-        (seen_source (I.left input.new) (I.ended input.new) (I.faults input.new) (I.since_stop input.new))
+    ensures outcome { (taken : List ℕ) × (stop : Stop) × Read (limit_number limit.OrderInput) (I.seen input.old) (I.seen input.new)
         taken stop × IsOutcome (OwesOrder taken stop) result }
     ensures tellable { IfErr result Tellable }
-    ensures count { I.faults input.old ≤ I.faults input.new }
+    ensures count { (I.seen input.old).faults ≤ (I.seen input.new).faults }
 {
-    let bytes = read_up_to(alloc, input, INPUT)?;
-    if bytes.len() > INPUT {
+    let most = Limit::OrderInput.number() as usize;
+    let bytes = read_up_to(alloc, input, most)?;
+    if bytes.len() > most {
         return Err(Refusal::Input(InputCause::Limit(Limit::OrderInput)));
     }
     verdict_on(alloc, &bytes)

@@ -1,6 +1,5 @@
 // What goes out at the end of a command, and the status that tells how it went.
 ghost use Rattle.std.specs.Prelude.{◌≡◌, ◌≢◌, ◌≤◌, IfOk, IfErr, OnErr};
-ghost use Rattle.lucy_output.specs.Sinks.{seen_sink};
 ghost use Rattle.lucy_front.specs.Refusals.{memory_line};
 ghost use Rattle.lucy_app.specs.Ends.{Tells};
 ghost use Rattle.lucy_app.specs.Outcomes.{TellsRefusal, Prints, Delivers, Tellable, TellsEnding};
@@ -18,10 +17,8 @@ const WRITE_FAULT: u8 = 5;
 
 /// Writes the lines that go with a status. The answer is this status, or that of a write fault.
 pub(crate) fn tell<E: Sink>(err: &mut E, lines: &[u8], status: u8) -> u8
-    ensures told { Tells status lines.now
-        (seen_sink (E.written err.old) (E.faults err.old) (E.since_stop err.old))
-        (seen_sink (E.written err.new) (E.faults err.new) (E.since_stop err.new)) result }
-    ensures count { E.faults err.old ≤ E.faults err.new }
+    ensures told { Tells status lines.now (E.seen err.old) (E.seen err.new) result }
+    ensures count { (E.seen err.old).faults ≤ (E.seen err.new).faults }
 {
     match write_all(err, lines) {
         Ok(()) => status,
@@ -31,13 +28,9 @@ pub(crate) fn tell<E: Sink>(err: &mut E, lines: &[u8], status: u8) -> u8
 
 // Says why there is no answer or, where there is no memory for that, that it ran out.
 fn explain<E: Sink>(err: &mut E, lines: Result<Vec<u8>, OutOfMemory>, status: u8) -> u8
-    ensures ok { IfOk lines (λ v. Tells status v.items
-        (seen_sink (E.written err.old) (E.faults err.old) (E.since_stop err.old))
-        (seen_sink (E.written err.new) (E.faults err.new) (E.since_stop err.new)) result) }
-    ensures err { OnErr lines (Tells 7 memory_line
-        (seen_sink (E.written err.old) (E.faults err.old) (E.since_stop err.old))
-        (seen_sink (E.written err.new) (E.faults err.new) (E.since_stop err.new)) result) }
-    ensures count { E.faults err.old ≤ E.faults err.new }
+    ensures ok { IfOk lines (λ v. Tells status v.items (E.seen err.old) (E.seen err.new) result) }
+    ensures err { OnErr lines (Tells 7 memory_line (E.seen err.old) (E.seen err.new) result) }
+    ensures count { (E.seen err.old).faults ≤ (E.seen err.new).faults }
 {
     match lines {
         Ok(lines) => tell(err, &lines, status),
@@ -48,11 +41,9 @@ fn explain<E: Sink>(err: &mut E, lines: Result<Vec<u8>, OutOfMemory>, status: u8
 /// Says why a command has no answer.
 pub(crate) fn refuse<E: Sink>(alloc: Global, err: &mut E, refusal: Refusal) -> u8
     requires { Tellable refusal }
-    ensures told { TellsRefusal refusal
-        (seen_sink (E.written err.old) (E.faults err.old) (E.since_stop err.old))
-        (seen_sink (E.written err.new) (E.faults err.new) (E.since_stop err.new)) result }
+    ensures told { TellsRefusal refusal (E.seen err.old) (E.seen err.new) result }
     ensures fails { result ≢ 0 }
-    ensures count { E.faults err.old ≤ E.faults err.new }
+    ensures count { (E.seen err.old).faults ≤ (E.seen err.new).faults }
 {
     match refusal {
         Refusal::Program(reason) => {
@@ -71,14 +62,10 @@ pub(crate) fn refuse<E: Sink>(alloc: Global, err: &mut E, refusal: Refusal) -> u
 
 /// Writes what a command prints. Where that fails, the fault is told on `err`, if it can be.
 pub(crate) fn print<O: Sink, E: Sink>(out: &mut O, err: &mut E, text: &[u8]) -> u8
-    ensures prints { Prints text.now
-        (seen_sink (O.written out.old) (O.faults out.old) (O.since_stop out.old))
-        (seen_sink (O.written out.new) (O.faults out.new) (O.since_stop out.new))
-        (seen_sink (E.written err.old) (E.faults err.old) (E.since_stop err.old))
-        (seen_sink (E.written err.new) (E.faults err.new) (E.since_stop err.new)) result }
+    ensures prints { Prints text.now (O.seen out.old) (O.seen out.new) (E.seen err.old) (E.seen err.new) result }
     ensures quiet { result ≡ 0 → err.new ≡ err.old }
-    ensures out_count { O.faults out.old ≤ O.faults out.new }
-    ensures err_count { E.faults err.old ≤ E.faults err.new }
+    ensures out_count { (O.seen out.old).faults ≤ (O.seen out.new).faults }
+    ensures err_count { (E.seen err.old).faults ≤ (E.seen err.new).faults }
 {
     match write_all(out, text) {
         Ok(()) => 0,
@@ -94,14 +81,10 @@ pub(crate) fn finish<O: Sink, E: Sink>(
     outcome: Result<Vec<u8>, Refusal>,
 ) -> u8
     requires { IfErr outcome Tellable }
-    ensures delivers { Delivers outcome
-        (seen_sink (O.written out.old) (O.faults out.old) (O.since_stop out.old))
-        (seen_sink (O.written out.new) (O.faults out.new) (O.since_stop out.new))
-        (seen_sink (E.written err.old) (E.faults err.old) (E.since_stop err.old))
-        (seen_sink (E.written err.new) (E.faults err.new) (E.since_stop err.new)) result }
+    ensures delivers { Delivers outcome (O.seen out.old) (O.seen out.new) (E.seen err.old) (E.seen err.new) result }
     ensures quiet { result ≡ 0 → err.new ≡ err.old }
-    ensures out_count { O.faults out.old ≤ O.faults out.new }
-    ensures err_count { E.faults err.old ≤ E.faults err.new }
+    ensures out_count { (O.seen out.old).faults ≤ (O.seen out.new).faults }
+    ensures err_count { (E.seen err.old).faults ≤ (E.seen err.new).faults }
 {
     match outcome {
         Ok(text) => print(out, err, &text),
@@ -111,11 +94,9 @@ pub(crate) fn finish<O: Sink, E: Sink>(
 
 /// Says how a run ended, where there is something to say.
 pub(crate) fn conclude<E: Sink>(alloc: Global, err: &mut E, ending: Ending) -> u8
-    ensures told { TellsEnding ending
-        (seen_sink (E.written err.old) (E.faults err.old) (E.since_stop err.old))
-        (seen_sink (E.written err.new) (E.faults err.new) (E.since_stop err.new)) result }
+    ensures told { TellsEnding ending (E.seen err.old) (E.seen err.new) result }
     ensures quiet { result ≡ 0 → err.new ≡ err.old }
-    ensures count { E.faults err.old ≤ E.faults err.new }
+    ensures count { (E.seen err.old).faults ≤ (E.seen err.new).faults }
 {
     match ending {
         Ending::Done => 0,

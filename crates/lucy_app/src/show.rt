@@ -1,7 +1,8 @@
 // The command `show`: the program of a file, in print.
-ghost use Rattle.std.specs.Prelude.{IfOk, IfErr};
+ghost use Rattle.std.specs.Prelude.{◌∷◌, [], IfOk, IfErr};
+ghost use Rattle.lucy_feed.specs.Sources.{Unread};
 ghost use Rattle.lucy_app.specs.Show.{IsPrintOf, RefusesSyntax};
-ghost use Rattle.lucy_app.specs.Programs.{OwesProgram};
+ghost use Rattle.lucy_app.specs.Programs.{OwesText, OwesPrint};
 ghost use Rattle.lucy_app.specs.Outcomes.{bytes_of, RefusesProgram, IsOutcome, Tellable};
 
 use crate::refusal::Refusal;
@@ -23,7 +24,7 @@ pub(crate) fn answer(
     alloc: Global,
     fetched: Result<Vec<u8>, ShelfError>,
 ) -> Result<Vec<u8>, Refusal>
-    ensures outcome { IsOutcome (OwesProgram IsPrintOf RefusesSyntax (bytes_of fetched)) result }
+    ensures outcome { IsOutcome (OwesText RefusesSyntax (OwesPrint IsPrintOf) Unread (bytes_of fetched ∷ [])) result }
     ensures tellable { IfErr result Tellable }
 {
     let text = fetched?;

@@ -1,11 +1,8 @@
 // The one call that the program makes.
-ghost use Rattle.std.specs.Prelude.{◌≡◌, ◌⊎◌, ◌≤◌, None, map, string_bytes};
+ghost use Rattle.std.specs.Prelude.{◌≡◌, ◌⊎◌, ◌≤◌, [], None, map, string_bytes};
 ghost use Rattle.lucy_host.specs.Host.{Serves, lent};
 ghost use Rattle.lucy_command.specs.Commands.{command_of};
-ghost use Rattle.lucy_app.specs.Commands.{file_of, input_of};
-ghost use Rattle.lucy_feed.specs.Sources.{seen_source};
-ghost use Rattle.lucy_output.specs.Sinks.{seen_sink};
-ghost use Rattle.lucy_app.specs.World.{seen_shelf};
+ghost use Rattle.lucy_app.specs.Commands.{files_of, input_of};
 ghost use Rattle.lucy_app.specs.Ends.{Ends};
 
 use crate::carrying::carry_out;
@@ -31,8 +28,8 @@ use std::thread::Threads;
 ///   what the items before it allow stand on `out`.
 /// - 5: a write to `out` or to `err` failed. A front of the answer may stand on `out`; where `out` failed, the line
 ///   `lucy: write fault` is tried on `err`. A front of a line may stand on `err`.
-/// - 6: a limit is passed: the input of `order` has more than 16,384 bytes, or the first of its two words that is refused has more
-///   than 4,096 bits; the text of FILE has more than 1,048,576 bytes, or passes a limit of programs at the first token that is
+/// - 6: a limit is passed: the input of `order` has more than 262,144 bytes, or the first of its two words that is refused has more
+///   than 65,536 bits, or more than 16,777,216 instants decide about the two; the text of FILE has more than 1,048,576 bytes, or passes a limit of programs at the first token that is
 ///   refused; for all but `show` also, one of its nodes has more than 4,096 places, and no name up to its end is refused; for
 ///   `check`, `clocks`, `run` and `kahn` also, the needs of a node, its rates, positions, inequalities or words or their
 ///   comparison, the net or its schedule pass a limit, and nothing before that is refused. Where `run` or `kahn` pass the limit of the input or of the instants of a run, the lines
@@ -80,17 +77,17 @@ pub fn lucy<
     // How the call ends, by the command that the words name, where they name one.
     ensures ends { Ends (command_of (map string_bytes words.now))
         (record {
-          shelf = seen_shelf (S.files shelf.old) (S.faults shelf.old) (S.fetches shelf.old);
-          source = seen_source (I.left input.old) (I.ended input.old) (I.faults input.old) (I.since_stop input.old);
-          out = seen_sink (O.written out.old) (O.faults out.old) (O.since_stop out.old);
-          err = seen_sink (E.written err.old) (E.faults err.old) (E.since_stop err.old);
+          shelf = S.seen shelf.old;
+          source = I.seen input.old;
+          out = O.seen out.old;
+          err = E.seen err.old;
           operators = lent host.now;
         })
         (record {
-          shelf = seen_shelf (S.files shelf.new) (S.faults shelf.new) (S.fetches shelf.new);
-          source = seen_source (I.left input.new) (I.ended input.new) (I.faults input.new) (I.since_stop input.new);
-          out = seen_sink (O.written out.new) (O.faults out.new) (O.since_stop out.new);
-          err = seen_sink (E.written err.new) (E.faults err.new) (E.since_stop err.new);
+          shelf = S.seen shelf.new;
+          source = I.seen input.new;
+          out = O.seen out.new;
+          err = E.seen err.new;
           operators = lent host.now;
         })
         result }
@@ -100,14 +97,14 @@ pub fn lucy<
     ensures other_words_out { command_of (map string_bytes words.now) ≡ None → out.new ≡ out.old }
     // What isn't called is left alone: the shelf where no FILE is fetched, the source where the command reads none. Of `run` and `kahn`
     // that need not read it `Ends` says so, by `Meets`.
-    ensures shelf { file_of (command_of (map string_bytes words.now)) ≡ None → shelf.new ≡ shelf.old }
+    ensures shelf { files_of (command_of (map string_bytes words.now)) ≡ [] → shelf.new ≡ shelf.old }
     ensures source { input_of (command_of (map string_bytes words.now)) ≡ None → input.new ≡ input.old }
     ensures quiet { result ≡ 0 → err.new ≡ err.old }
     // No count falls.
-    ensures shelf_count { S.faults shelf.old ≤ S.faults shelf.new }
-    ensures source_count { I.faults input.old ≤ I.faults input.new }
-    ensures out_count { O.faults out.old ≤ O.faults out.new }
-    ensures err_count { E.faults err.old ≤ E.faults err.new }
+    ensures shelf_count { (S.seen shelf.old).faults ≤ (S.seen shelf.new).faults }
+    ensures source_count { (I.seen input.old).faults ≤ (I.seen input.new).faults }
+    ensures out_count { (O.seen out.old).faults ≤ (O.seen out.new).faults }
+    ensures err_count { (E.seen err.old).faults ≤ (E.seen err.new).faults }
 {
     let mut spelled = Vec::new(alloc);
     match read(alloc, words, &mut spelled) {

@@ -1,7 +1,8 @@
 // The command `types`: the data types of the program of a file.
-ghost use Rattle.std.specs.Prelude.{IfOk, IfErr};
+ghost use Rattle.std.specs.Prelude.{◌∷◌, [], IfOk, IfErr};
+ghost use Rattle.lucy_feed.specs.Sources.{Unread};
 ghost use Rattle.lucy_app.specs.Types.{IsReportOf, RefusesText};
-ghost use Rattle.lucy_app.specs.Programs.{OwesProgram};
+ghost use Rattle.lucy_app.specs.Programs.{OwesText, OwesPrint};
 ghost use Rattle.lucy_app.specs.Outcomes.{bytes_of, RefusesProgram, IsOutcome, Tellable};
 
 use crate::refusal::Refusal;
@@ -23,7 +24,11 @@ fn report_of(alloc: Global, text: &[u8], ops: &Ops) -> Result<Vec<u8>, Refusal>
     match types(alloc, &placed) {
         Ok(typed) => Ok(report(alloc, &placed, &typed)?),
         Err(TypeError::OutOfMemory) => Err(Refusal::OutOfMemory),
-        Err(clash) => Err(Refusal::Program(lucy_front::Refusal::Types { placed, clash })),
+        Err(TypeError::Clash { node, path }) => Err(Refusal::Program(lucy_front::Refusal::Types {
+            placed,
+            node,
+            path,
+        })),
     }
 }
 
@@ -33,7 +38,7 @@ pub(crate) fn answer(
     fetched: Result<Vec<u8>, ShelfError>,
     ops: &Ops,
 ) -> Result<Vec<u8>, Refusal>
-    ensures outcome { IsOutcome (OwesProgram (IsReportOf ops.now) (RefusesText ops.now) (bytes_of fetched)) result }
+    ensures outcome { IsOutcome (OwesText (RefusesText ops.now) (OwesPrint (IsReportOf ops.now)) Unread (bytes_of fetched ∷ [])) result }
     ensures tellable { IfErr result Tellable }
 {
     let text = fetched?;

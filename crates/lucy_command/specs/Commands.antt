@@ -7,26 +7,49 @@ use Rattle.lucy_command.specs.declared.names.Name.{Name}
 use Rattle.lucy_command.specs.declared.names.Name.TheVariants as name
 use Rattle.lucy_command.specs.declared.names.Setting.{Setting}
 use Rattle.lucy_command.specs.declared.names.Setting.TheVariants as setting
-use Rattle.lucy_command.specs.Names.{name_of, least_of, most_of}
+use Rattle.lucy_command.specs.declared.words.MakeWords.{MakeWords}
+use Rattle.lucy_command.specs.Names.{name_of, least_of, most_of, most_stages}
 use Rattle.lucy_command.specs.Parts.{Texts, texts_of}
+
+-- what `clocks` works on: FILE, and the scale and the lead of clocks that are found
+pub record ClocksWords : Type 0 where
+  pub file : List ℕ
+  pub scale : ℕ
+  pub lead : ℕ
+
+-- what `kahn` works on: also the instants, where they stand
+pub record KahnWords : Type 0 where
+  pub file : List ℕ
+  pub scale : ℕ
+  pub lead : ℕ
+  pub instants : Option ℕ
+
+-- what `run` works on: also the workers, and the instants of a block, where they stand
+pub record RunWords : Type 0 where
+  pub file : List ℕ
+  pub scale : ℕ
+  pub lead : ℕ
+  pub instants : Option ℕ
+  pub workers : ℕ
+  pub block : Option ℕ
 
 -- a command, with what it works on
 pub data Command : Type 0 where
   Order : Command
-  Show : (file : List ℕ) → Command
-  Types : (file : List ℕ) → Command
-  Check : (file : List ℕ) → Command
-  Clocks : (file : List ℕ) (scale lead : ℕ) → Command
-  Run : (file : List ℕ) (scale lead : ℕ) (instants : Option ℕ) (workers block : ℕ) → Command
-  Kahn : (file : List ℕ) (scale lead : ℕ) (instants : Option ℕ) → Command
-  Make : (stages workers block : ℕ) → Command
+  Show Types Check : (file : List ℕ) → Command
+  Clocks : ClocksWords → Command
+  Run : RunWords → Command
+  Kahn : KahnWords → Command
+  Make : MakeWords → Command
 
--- a number: one to seven digits, between these
+-- a number of one to seven digits, between these
 abbrev pub is_number : (least most : ℕ) → List ℕ → Bool
 is_number least most [] = false
 is_number least most (digit ∷ more) =
-    nat_le (length (digit ∷ more)) 7 && (all_ascii_digits (digit ∷ more) && (nat_le least (digits_value 10 (digit ∷ more)) && nat_le (digits_value 10 (digit ∷ more)) most))
+    nat_le (length (digit ∷ more)) 7 && (all_ascii_digits (digit ∷ more)
+    && (nat_le least (digits_value 10 (digit ∷ more)) && nat_le (digits_value 10 (digit ∷ more)) most))
 
+-- the number that a text is, where it is one
 abbrev pub number_of : (least most : ℕ) → (text : List ℕ) → Option ℕ
 number_of least most text = if is_number least most text then Some (digits_value 10 text) else None
 
@@ -35,15 +58,12 @@ abbrev pub given : Setting → (text : Option (List ℕ)) → Option (Option ℕ
 given setting None = Some None
 given setting (Some text) = option_map Some (number_of (least_of setting) (most_of setting) text)
 
--- or else this one
+-- its number, or else this one
 abbrev pub given_or : (otherwise : ℕ) → Setting → (text : Option (List ℕ)) → Option ℕ
 given_or otherwise setting None = Some otherwise
 given_or otherwise setting (Some text) = number_of (least_of setting) (most_of setting) text
 
--- the stages of a program that is made, at most so many
-abbrev pub most_stages : ℕ
-most_stages = 256
-
+-- the stages of a program that is made
 abbrev pub stages_of : (operand : Option (List ℕ)) → Option ℕ
 stages_of operand = option_and_then (number_of 1 most_stages) operand
 
@@ -53,22 +73,30 @@ alone command None = Some command
 alone command (Some text) = None
 
 -- FILE, the scale and the lead, each of which is 1 where it doesn't stand
-pub record Inference : Type 0 where
-  pub file : List ℕ
-  pub scale : ℕ
-  pub lead : ℕ
+abbrev pub clocks_words : Texts → Option ClocksWords
+clocks_words t =
+    option_and_then (λ file. option_and_then (λ scale. option_map (λ lead. record { file = file; scale = scale; lead = lead })
+    (given_or 1 setting.Lead t.lead)) (given_or 1 setting.Scale t.scale)) t.operand
 
-abbrev pub inference_of : Texts → Option Inference
-inference_of t =
-    option_and_then (λ file. option_and_then (λ scale. option_map (λ lead. record { file = file; scale = scale; lead = lead }) (given_or 1 setting.Lead t.lead)) (given_or 1 setting.Scale t.scale)) t.operand
+-- and the instants
+abbrev pub kahn_words : Texts → Option KahnWords
+kahn_words t =
+    option_and_then (λ c. option_map (λ instants. record { file = c.file; scale = c.scale; lead = c.lead; instants = instants })
+    (given setting.Instants t.instants)) (clocks_words t)
 
--- and the instants, where they stand
-abbrev pub running_of : Texts → Option (Inference × Option ℕ)
-running_of t = option_and_then (λ i. option_map (λ n. (i, n)) (given setting.Instants t.instants)) (inference_of t)
+-- the workers, which are 4 where they don't stand, and the instants of a block
+abbrev pub playing_of : Texts → Option (ℕ × Option ℕ)
+playing_of t = option_and_then (λ workers. option_map (λ block. (workers, block)) (given setting.Block t.block)) (given_or 4 setting.Workers t.workers)
 
--- and the workers and the instants of a block, which are 4 and 4,096 where they don't stand
-abbrev pub playing_of : Texts → Option (ℕ × ℕ)
-playing_of t = option_and_then (λ workers. option_map (λ block. (workers, block)) (given_or 4096 setting.Block t.block)) (given_or 4 setting.Workers t.workers)
+-- what `run` works on
+abbrev pub run_words : Texts → Option RunWords
+run_words t =
+    option_and_then (λ k. option_map (λ p. record { file = k.file; scale = k.scale; lead = k.lead; instants = k.instants; workers = p.0; block = p.1 })
+    (playing_of t)) (kahn_words t)
+
+-- what `make` works on
+abbrev pub make_words : Texts → Option MakeWords
+make_words t = option_and_then (λ stages. option_map (λ p. record { stages = stages; workers = p.0; block = p.1 }) (playing_of t)) (stages_of t.operand)
 
 -- the command of this name with these texts, where they fit it
 abbrev pub command_with : Name → Texts → Option Command
@@ -76,10 +104,10 @@ command_with name.Order t = alone Order t.operand
 command_with name.Show t = option_map Show t.operand
 command_with name.Types t = option_map Types t.operand
 command_with name.Check t = option_map Check t.operand
-command_with name.Clocks t = option_map (λ i. Clocks i.file i.scale i.lead) (inference_of t)
-command_with name.Run t = option_and_then (λ r. option_map (λ p. Run r.0.file r.0.scale r.0.lead r.1 p.0 p.1) (playing_of t)) (running_of t)
-command_with name.Kahn t = option_map (λ r. Kahn r.0.file r.0.scale r.0.lead r.1) (running_of t)
-command_with name.Make t = option_and_then (λ n. option_map (λ p. Make n p.0 p.1) (playing_of t)) (stages_of t.operand)
+command_with name.Clocks t = option_map Clocks (clocks_words t)
+command_with name.Run t = option_map Run (run_words t)
+command_with name.Kahn t = option_map Kahn (kahn_words t)
+command_with name.Make t = option_map Make (make_words t)
 
 -- the command that the words name, where they name one
 abbrev pub command_of : (words : List (List ℕ)) → Option Command

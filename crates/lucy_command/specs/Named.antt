@@ -1,11 +1,26 @@
 -- A command as the call gives it: what it stands for, and that its numbers are within their limits.
-use Rattle.std.specs.Prelude.{ℕ, ◌≤◌, Option, IfSome}
+use Rattle.std.specs.Prelude.{ℕ, ◌≤◌, Option, Some, None, IfSome}
 use Rattle.lucy_command.specs.declared.names.Setting.{Setting}
 use Rattle.lucy_command.specs.declared.names.Setting.TheVariants.{Scale, Lead, Instants, Workers, Block}
-use Rattle.lucy_command.specs.Names.{least_of, most_of}
+use Rattle.lucy_command.specs.Names.{least_of, most_of, most_stages, default_block}
 use Rattle.lucy_command.specs.Commands as names
+use Rattle.lucy_command.specs.declared.words.ClocksWords.{ClocksWords}
+use Rattle.lucy_command.specs.declared.words.RunWords.{RunWords}
+use Rattle.lucy_command.specs.declared.words.KahnWords.{KahnWords}
 use Rattle.lucy_command.specs.declared.command.Command.{Command}
 use Rattle.lucy_command.specs.declared.command.Command.TheVariants.{Order, Show, Types, Check, Clocks, Run, Kahn, Make}
+
+-- what these words of `clocks` stand for
+abbrev pub clocks_named : ClocksWords → names.ClocksWords
+clocks_named w = record { file = w.file.now; scale = w.scale; lead = w.lead }
+
+-- and these of `kahn`
+abbrev pub kahn_named : KahnWords → names.KahnWords
+kahn_named w = record { file = w.file.now; scale = w.scale; lead = w.lead; instants = w.instants }
+
+-- and these of `run`
+abbrev pub run_named : RunWords → names.RunWords
+run_named w = record { file = w.file.now; scale = w.scale; lead = w.lead; instants = w.instants; workers = w.workers; block = w.block }
 
 -- the command that it stands for
 abbrev pub named : Command → names.Command
@@ -13,14 +28,30 @@ named Order = names.Order
 named (Show file) = names.Show file.now
 named (Types file) = names.Types file.now
 named (Check file) = names.Check file.now
-named (Clocks file scale lead) = names.Clocks file.now scale lead
-named (Run file scale lead instants workers block) = names.Run file.now scale lead instants workers block
-named (Kahn file scale lead instants) = names.Kahn file.now scale lead instants
-named (Make stages workers block) = names.Make stages workers block
+named (Clocks words) = names.Clocks (clocks_named words)
+named (Run words) = names.Run (run_named words)
+named (Kahn words) = names.Kahn (kahn_named words)
+named (Make words) = names.Make words
 
 -- a number of this option
 abbrev pub IsOf : Setting → ℕ → Type 0
 IsOf setting n = (least_of setting ≤ n) × (n ≤ most_of setting)
+
+-- a scale, or a lead
+abbrev pub IsScale : ℕ → Type 0
+IsScale n = IsOf Scale n
+
+-- workers
+abbrev pub AreWorkers : ℕ → Type 0
+AreWorkers n = IsOf Workers n
+
+-- the instants of a block
+abbrev pub IsBlock : ℕ → Type 0
+IsBlock n = IsOf Block n
+
+-- so many stages may be made
+abbrev pub AreStages : ℕ → Type 0
+AreStages stages = (1 ≤ stages) × (stages ≤ most_stages)
 
 -- instants that are given are within their limit
 abbrev pub AreFew : Option ℕ → Type 0
@@ -28,8 +59,13 @@ AreFew instants = IfSome instants (λ given. given ≤ most_of Instants)
 
 -- the numbers of a command are those of its options
 abbrev pub IsWithin : names.Command → Type 0
-IsWithin (names.Clocks file scale lead) = IsOf Scale scale × IsOf Lead lead
-IsWithin (names.Run file scale lead instants workers block) = IsOf Scale scale × IsOf Lead lead × AreFew instants × IsOf Workers workers × IsOf Block block
-IsWithin (names.Kahn file scale lead instants) = IsOf Scale scale × IsOf Lead lead × AreFew instants
-IsWithin (names.Make stages workers block) = (1 ≤ stages) × (stages ≤ names.most_stages) × IsOf Workers workers × IsOf Block block
+IsWithin (names.Clocks w) = IsScale w.scale × IsScale w.lead
+IsWithin (names.Run w) = IsScale w.scale × IsScale w.lead × AreFew w.instants × AreWorkers w.workers × IfSome w.block IsBlock
+IsWithin (names.Kahn w) = IsScale w.scale × IsScale w.lead × AreFew w.instants
+IsWithin (names.Make w) = AreStages w.stages × AreWorkers w.workers × IfSome w.block IsBlock
 IsWithin command = Unit {0}
+
+-- the block that is given, or else the default
+abbrev pub block_or_default : Option ℕ → ℕ
+block_or_default None = default_block
+block_or_default (Some given) = given

@@ -32,20 +32,26 @@ setting_of word =
     else (if bytes_eq word (codes "--block") then Some Block
     else None))))
 
--- the least number of an option, and the greatest
+-- the least number of an option
 abbrev pub least_of : Setting → ℕ
-least_of Scale = 1
-least_of Lead = 1
 least_of Instants = 0
-least_of Workers = 1
-least_of Block = 1
+least_of setting = 1
 
+-- its greatest number
 abbrev pub most_of : Setting → ℕ
 most_of Scale = 64
 most_of Lead = 64
 most_of Instants = limit_number limit.Instants
 most_of Workers = 64
 most_of Block = limit_number limit.Instants
+
+-- the most stages of a program that is made, of which there is one at least
+abbrev pub most_stages : ℕ
+most_stages = 256
+
+-- the instants of a block, where none are given
+abbrev pub default_block : ℕ
+default_block = 4096
 
 -- the command takes this option
 abbrev pub allows : Name → Setting → Bool

@@ -36,6 +36,7 @@ abbrev pub apart : Name → (option : List ℕ) (rest : List (List ℕ)) → (be
 apart name option [] beyond = None
 apart name option (text ∷ more) beyond = joined name option text beyond
 
+-- the parts of a word that is an option of the command, as one word or two
 abbrev pub option_parts : Name → (word : List ℕ) → Option (List ℕ × List ℕ) → (rest : List (List ℕ)) → (behind beyond : Option (List Part)) → Option (List Part)
 option_parts name word None rest behind beyond = apart name word rest beyond
 option_parts name word (Some (option, text)) rest behind beyond = joined name option text behind
@@ -63,6 +64,7 @@ pub record Texts : Type 0 where
   pub block : Option (List ℕ)
   pub operand : Option (List ℕ)
 
+-- those of no parts
 abbrev pub no_texts : Texts
 no_texts = record { scale = None; lead = None; instants = None; workers = None; block = None; operand = None }
 

@@ -11,9 +11,11 @@ use Rattle.lucy_command.specs.Names.{allowed}
 use Rattle.lucy_command.specs.Parts.{Operand, Given, is_dashed, halves, parts, Texts, with_part, with_parts}
 use Rattle.lucy_command.specs.declared.texts.Texts as found
 
+-- a text that the body has found
 abbrev pub seen_text : Option (Bor (List ℕ)) → Option (List ℕ)
 seen_text text = option_map (λ t. t.now) text
 
+-- these texts
 abbrev pub texts : (scale lead instants workers block operand : Option (List ℕ)) → Texts
 texts scale lead instants workers block operand = record { scale = scale; lead = lead; instants = instants; workers = workers; block = block; operand = operand }
 
@@ -44,6 +46,7 @@ abbrev pub IsFull : List ℕ → Type 0
 IsFull [] = ⊥
 IsFull (byte ∷ more) = Unit {0}
 
+-- no text is empty
 pub record AreFull (t : Texts) : Type 0 where
   pub scale : IfSome t.scale IsFull
   pub lead : IfSome t.lead IsFull
@@ -57,6 +60,7 @@ abbrev pub or_empty : Option (List ℕ) → List ℕ
 or_empty None = []
 or_empty (Some text) = text
 
+-- the text, where it is not empty
 abbrev pub if_full : List ℕ → Option (List ℕ)
 if_full [] = None
 if_full (byte ∷ more) = Some (byte ∷ more)

@@ -13,6 +13,8 @@ mod numbers;
 mod reading;
 mod spelling;
 mod texts;
+mod words;
 
 pub use command::Command;
 pub use reading::read;
+pub use words::{ClocksWords, KahnWords, MakeWords, RunWords, block_or_default};

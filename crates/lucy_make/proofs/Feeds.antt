@@ -3,7 +3,8 @@ use Rattle.std.proofs.Common.{ℕ, ◌≡◌, ◌⊎◌, true, List, [], ◌++�
 use Rattle.std.specs.Prelude.{IfOk}
 use Rattle.std.proofs.lemmas.List.{append-nil}
 use Rattle.std.proofs.lemmas.Option.{same_Some}
-use Rattle.lucy_text.specs.Outside.{followed, AtEnd}
+use Rattle.lucy_text.proofs.OutsideLaws.{followed, AtEnd}
+use Rattle.lucy_text.specs.Outside.{SeenSource}
 use Rattle.lucy_lines.specs.Cuts.{ItemOf, Stop as Halt, At, Before, Cut, input_of}
 use Rattle.lucy_lines.specs.Laws.{CutInPieces}
 use Rattle.lucy_lines.specs.Fronts.{most_bytes}
@@ -11,7 +12,7 @@ use Rattle.lucy_lines.specs.declared.input.InputSpec.{InputSpec}
 use Rattle.lucy_lines.specs.declared.reader.TextFault.{TextFault}
 use Rattle.lucy_lines.specs.declared.reader.TextFault.TheVariants.{BadLine, UnknownStream, BadValue, ReadFault, TooLong}
 use Rattle.lucy_feed.specs.declared.feeds.Feed.{Feed}
-use Rattle.lucy_feed.specs.Sources.{Stop, Ended, Failed, Open, Drained, SeenSource, StoppedAt, Read}
+use Rattle.lucy_feed.specs.Sources.{Stop, Ended, Failed, Open, Drained, StoppedAt, Read}
 use Rattle.lucy_feed.specs.Feeding.{StopsFor, IsFeedOf, IsFeed}
 use Rattle.lucy_word.specs.declared.error.OutOfMemory.{OutOfMemory}
 use Rattle.lucy_make.specs.Owes.{IsWhole}
@@ -54,7 +55,7 @@ module _ (law : CutInPieces) (inputs : List InputSpec) (input rest taken : List 
   refused fault stop items halt feed read stops e is (inl drained) =
       let P : Stop → Type 0 = λ s. StoppedAt most_bytes before after taken s in
       let so : StoppedAt most_bytes before after taken Drained = subst P drained read.stopped in
-      (Drained, inr refl, (items, halt, moved stop Drained items halt feed drained (at_end read.took so.1) is))
+      (Drained, inr refl, (items, halt, moved stop Drained items halt feed drained (at_end read.took so.1.0) is))
   refused fault stop items halt feed read stops e is (inr given_up) =
       let P : Stop → Type 0 = λ s. IsFeedOf inputs taken s items halt feed in
       (Drained, inr refl, (items, halt, open_fed fault items halt feed (all_taken read.took) stops e (subst P given_up is)))
@@ -68,7 +69,7 @@ module _ (law : CutInPieces) (inputs : List InputSpec) (input rest taken : List 
       let ended : stop ≡ Ended = stopped_for feed None stop e is.stopped in
       let P : Stop → Type 0 = λ s. StoppedAt most_bytes before after taken s in
       let so : StoppedAt most_bytes before after taken Ended = subst P ended read.stopped in
-      (Ended, inl refl, (items, halt, moved stop Ended items halt feed ended (at_end read.took so.1) is))
+      (Ended, inl refl, (items, halt, moved stop Ended items halt feed ended (at_end read.took so.1.0) is))
   whole_for (Some ReadFault) stop items halt feed e read is =
       let failed : stop ≡ Failed = stopped_for feed (Some ReadFault) stop e is.stopped in
       let P : Stop → Type 0 = λ s. StoppedAt most_bytes before after taken s in

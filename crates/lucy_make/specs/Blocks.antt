@@ -8,10 +8,11 @@ use Rattle.lucy_execution.specs.Playing.{PlayerView}
 use Rattle.lucy_make.specs.Figures.{sum_of}
 use Rattle.lucy_make.specs.Owes.{first_of}
 
--- the values of main's first result up to a horizon, and those past an earlier one
+-- the values of main's first result up to a horizon
 abbrev pub first_to : PlayerView → (instants : ℕ) → List ℤ
 first_to p instants = first_of (main_streams p.kinds p.inputs p.nodes p.clocks instants)
 
+-- and those past an earlier one
 abbrev pub first_after : PlayerView → (before instants : ℕ) → List ℤ
 first_after p before instants = first_of (later_streams p.kinds p.inputs p.nodes p.clocks before instants)
 

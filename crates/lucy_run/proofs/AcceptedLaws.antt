@@ -21,20 +21,22 @@ use Rattle.lucy_run.specs.Courses.{CanRun}
 use Rattle.lucy_front.specs.declared.accepted.Accepted.{Accepted}
 use Rattle.lucy_front.specs.declared.options.Options.{Options}
 use Rattle.lucy_front.specs.Accepting.{IsAccepted}
-use Rattle.lucy_front.specs.Scheduled.{input_of, output_of, inputs_in, outputs_in}
+use Rattle.lucy_front.specs.Names.{of_one, param_places}
+use Rattle.lucy_front.specs.Scheduled.{input_of, output_of}
 use Rattle.lucy_front.proofs.OneAnswer.{text_proper}
 use Rattle.std.proofs.lemmas.List.FromFn.{length-map-range_with_len}
 
-inputs_counted : (main : Option PlacedNode) (types : List Ty) → length (inputs_in main types) ≡ params_in main
+inputs_counted : (main : Option PlacedNode) (types : List Ty) → length (of_one (λ n. map (input_of n types) (param_places n)) main) ≡ params_in main
 inputs_counted None types = refl
 inputs_counted (Some n) types = length-map-range_with_len (input_of n types) 1 n.params
 
-outputs_counted : (main : Option PlacedNode) (types : List Ty) (words : List Bits) → length (outputs_in main types words) ≡ length (results_in main)
+outputs_counted : (main : Option PlacedNode) (types : List Ty) (words : List Bits) → length (of_one (λ n. map (output_of n types words) n.results) main) ≡ length (results_in main)
 outputs_counted None types words = refl
 outputs_counted (Some n) types words = length-map n.results (output_of n types words)
 
 -- of which each has the word of its result
-outputs_words : (main : Option PlacedNode) (types : List Ty) (words : List Bits) → map (λ (o : OutputSpec). o.word) (outputs_in main types words) ≡ map (assigned words) (results_in main)
+outputs_words : (main : Option PlacedNode) (types : List Ty) (words : List Bits) →
+    map (λ (o : OutputSpec). o.word) (of_one (λ n. map (output_of n types words) n.results) main) ≡ map (assigned words) (results_in main)
 outputs_words None types words = refl
 outputs_words (Some n) types words = map-map (λ (o : OutputSpec). o.word) (output_of n types words) n.results
 

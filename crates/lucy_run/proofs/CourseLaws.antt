@@ -10,12 +10,11 @@ use Rattle.lucy_word.proofs.BitsLaws.{ones_to-none}
 use Rattle.lucy_stream.specs.Items.{list_at}
 use Rattle.lucy_stream.specs.Fronts.{AreFronts}
 use Rattle.lucy_lines.specs.Cuts.{ItemOf}
-use Rattle.lucy_feed.specs.Sources.{SeenSource}
+use Rattle.lucy_text.specs.Outside.{SeenSource, SeenSink, Writes, Fails}
 use Rattle.lucy_feed.specs.Feeding.{values_by_stream}
 use Rattle.lucy_feed.specs.Resuming.{FeedState, AreMet, HasRead, AreFresh, ValuesInTurn}
 use Rattle.lucy_output.specs.Outputs.{lines_after}
 use Rattle.lucy_output.specs.declared.error.OutputError.TheVariants as error
-use Rattle.lucy_output.specs.Sinks.{SeenSink, Writes, Fails}
 use Rattle.lucy_output.specs.Laws.{InstantByInstant}
 use Rattle.lucy_output.specs.Writing.{WriterState, new_writer}
 use Rattle.lucy_output.proofs.SinkLaws.{unwritten, writes_more, fails_behind}

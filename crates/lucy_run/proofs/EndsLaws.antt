@@ -14,11 +14,11 @@ use Rattle.lucy_lines.specs.Fronts.{most_bytes}
 use Rattle.lucy_lines.specs.declared.reader.TextFault.{TextFault}
 use Rattle.lucy_feed.specs.declared.feeds.Feed.{Feed}
 use Rattle.lucy_word.specs.declared.error.OutOfMemory.{OutOfMemory}
-use Rattle.lucy_feed.specs.Sources.{Stop, Unread, SeenSource, Read}
+use Rattle.lucy_text.specs.Outside.{SeenSource, SeenSink, Writes, Fails}
+use Rattle.lucy_feed.specs.Sources.{Stop, Unread, Read}
 use Rattle.lucy_output.specs.declared.output.OutputSpec.{OutputSpec}
 use Rattle.lucy_output.specs.Outputs.{output_text}
 use Rattle.lucy_output.specs.declared.error.OutputError.TheVariants.{Failed, OutOfMemory as Memory}
-use Rattle.lucy_output.specs.Sinks.{SeenSink, Writes, Fails}
 use Rattle.lucy_output.proofs.SinkLaws.{unwritten, writes_more, fails_behind, fails_longer}
 use Rattle.lucy_meaning.specs.Horizons.{Suffice}
 use Rattle.lucy_place.specs.declared.placed.PlacedNode.{PlacedNode}
@@ -28,14 +28,14 @@ use Rattle.lucy_execution.specs.Streams.{param_words, main_streams}
 use Rattle.lucy_front.specs.declared.accepted.Accepted.{Accepted}
 use Rattle.lucy_run.specs.declared.ending.Ending.{Ending}
 use Rattle.lucy_run.specs.declared.ending.Ending.TheVariants as ending
-use Rattle.lucy_run.specs.Feeds.{Feeds, IsMainFeed}
-use Rattle.lucy_run.specs.Owes.{most_instants, input_words, lines_to, heading, EndsFor, IsFed, Interprets, OwesRun, OwesRunOutput, OwesKahn, OwesKahnOutput, IsHorizonOf}
+use Rattle.lucy_run.specs.Feeds.{Feeds, CountsAs, IsMainFeed}
+use Rattle.lucy_run.specs.Owes.{most_instants, input_words, lines_to, heading, EndsFor, IsFed, Interprets, OwesRun, OwesKahn, IsHorizonOf}
 use Rattle.lucy_lines.specs.Cuts.{ItemOf}
 use Rattle.lucy_feed.specs.Resuming.{FeedState}
 use Rattle.lucy_output.specs.Writing.{WriterState}
 use Rattle.lucy_execution.specs.Playing.{PlayerView}
 use Rattle.lucy_run.specs.Courses.{Program, CanRun, IsFedSoFar, IsAlong, IsOver, BreaksOff, LinesByBlock}
-use Rattle.lucy_run.specs.Ends.{EndsWith, FailsInOrder}
+use Rattle.lucy_run.specs.Ends.{EndsWith, Outputs, FailsInOrder}
 use Rattle.lucy_run.specs.Steps.{LeavesOwed, IsWhole, refusal_ending}
 use Rattle.lucy_run.proofs.FedLaws.{read_nothing, fed_not_yet}
 use Rattle.lucy_run.proofs.HorizonLaws.{some_horizon, suffice_either}
@@ -152,22 +152,23 @@ module _ (kinds : List HostKind) (a : Accepted) (given : Option ℕ) where
   -- what a call of `run` leaves
   abbrev pub RunGives : (before after : SeenSource) (was now : SeenSink) → Ending → Type 0
   RunGives before after was now result = (taken : List ℕ) × (stop : Stop) × Read most_bytes before after taken stop
-      × EndsWith (OwesRun kinds a given taken stop) (OwesRunOutput kinds a given taken stop) was now result
+      × EndsWith (OwesRun kinds a given taken) (CountsAs stop) stop was now result
 
   abbrev pub KahnGives : (before after : SeenSource) (was now : SeenSink) → Ending → Type 0
   KahnGives before after was now result = (taken : List ℕ) × (stop : Stop) × Read most_bytes before after taken stop
-      × EndsWith (OwesKahn kinds a given taken stop) (OwesKahnOutput kinds a given taken stop) was now result
+      × EndsWith (OwesKahn kinds a given taken) (λ counted. counted ≡ stop) stop was now result
 
   -- memory ran out before anything was done
   pub run_unbegun : (s : SeenSource) (o : SeenSink) → RunGives s s o o ending.OutOfMemory
   run_unbegun s o = ([], Unread, read_nothing s, ([], inl refl, unwritten o))
 
   -- an output where nothing was read yet
-  output_not_yet : (lines : List ℕ) × OwesRunOutput kinds a given [] Unread (heading a ++ lines)
+  output_not_yet : (lines : List ℕ) × Outputs (CountsAs Unread) (OwesRun kinds a given []) (heading a ++ lines)
   output_not_yet =
-      let (lists, fed) = fed_not_yet a.inputs.items in
+      let (counted, counts, lists, fault, feeds) = fed_not_yet a.inputs.items in
       let (horizon, is) = some_horizon (input_words a) lists (most_instants given) in
-      (lines_to kinds a lists horizon, inr (lists, horizon, fed, is, refl))
+      let (end, ends) = some_ending (input_words a) given lists fault in
+      (lines_to kinds a lists horizon, (counted, end, counts, (lists, fault, horizon, record { feeds = feeds; horizon_is = is }, refl, ends)))
 
   -- the heading could not be written
   pub run_broken : (s : SeenSource) (was now : SeenSink) (text : List ℕ) → text ≡ heading a → Fails was now text → RunGives s s was now ending.WriteFault
@@ -204,11 +205,11 @@ module _ (kinds : List HostKind) (a : Accepted) (given : Option ℕ) where
       output : List ℕ
       output = heading a ++ lines_to kinds a over.lists over.horizon
 
-      whole_with : (end : Ending) → EndsFor (input_words a) given over.lists over.fault end → Writes was between (heading a) → EndsWith (OwesRun kinds a given over.taken over.stop) (OwesRunOutput kinds a given over.taken over.stop) was now end
+      whole_with : (end : Ending) → EndsFor (input_words a) given over.lists over.fault end → Writes was between (heading a) → EndsWith (OwesRun kinds a given over.taken) (CountsAs over.stop) over.stop was now end
       whole_with end ends head = ends_with end (ends_whole (input_words a) given over.lists over.fault end ends)
           (over.lists, over.fault, over.horizon, record { feeds = over.feeds; horizon_is = over.horizon_is }, refl, ends) (writes_more was between now (heading a) (lines_to kinds a over.lists over.horizon) head over.lines)
         where
-          ends_with : (end : Ending) → IsWhole end → OwesRun kinds a given over.taken over.stop output end → Writes was now output → EndsWith (OwesRun kinds a given over.taken over.stop) (OwesRunOutput kinds a given over.taken over.stop) was now end
+          ends_with : (end : Ending) → IsWhole end → OwesRun kinds a given over.taken over.stop output end → Writes was now output → EndsWith (OwesRun kinds a given over.taken) (CountsAs over.stop) over.stop was now end
           ends_with ending.WriteFault whole owes all = absurd whole
           ends_with ending.OutOfMemory whole owes all = absurd whole
           ends_with ending.Done whole owes all = (output, owes, all)
@@ -218,20 +219,16 @@ module _ (kinds : List HostKind) (a : Accepted) (given : Option ℕ) where
   -- an output of which the lines so far are a front
   module _ (blocks : LinesByBlock) (can : CanRun program) (before after : SeenSource) (lists : List (List ℤ)) (horizon : ℕ) (within : horizon ≤ most_instants given) (suffice : Suffice (input_words a) lists horizon)
       (fed : IsFedSoFar a.inputs.items before after lists) where
-    owed_beyond : (output rest : List ℕ) × OwesRunOutput kinds a given fed.taken fed.stop output × (output ≡ (heading a ++ lines_to kinds a lists horizon) ++ rest)
+    owed_beyond : (output rest : List ℕ) × Outputs (CountsAs fed.stop) (OwesRun kinds a given fed.taken) output × (output ≡ (heading a ++ lines_to kinds a lists horizon) ++ rest)
     owed_beyond =
         let (last, is) = some_horizon (input_words a) fed.others (most_instants given) in
         let later : horizon ≤ last = is.greatest horizon within (suffice_longer (input_words a) lists fed.others horizon fed.fronts suffice) in
         let text = blocks program lists fed.others horizon last can fed.fronts later suffice in
-        let lines : List ℕ = lines_to kinds a fed.others last in (
+        let lines : List ℕ = lines_to kinds a fed.others last in
+        let (end, ends) = some_ending (input_words a) given fed.others fed.fault in (
           heading a ++ lines,
           _,
-          elim fed.fed [
-            | inl whole ↦
-                let (end, ends) = some_ending (input_words a) given fed.others whole.0 in
-                inl (end, (fed.others, whole.0, last, record { feeds = whole.1; horizon_is = is }, refl, ends))
-            | inr front ↦ inr (fed.others, last, front, is, refl)
-          ],
+          (fed.counted, end, fed.counts, (fed.others, fed.fault, last, record { feeds = fed.fed; horizon_is = is }, refl, ends)),
           ap (λ xs. heading a ++ xs) text ∙ sym (append_assoc (heading a) (lines_to kinds a lists horizon) _),
         )
 
@@ -263,8 +260,8 @@ module _ (kinds : List HostKind) (a : Accepted) (given : Option ℕ) where
     fed = record { feeds = feeds; horizon_is = horizon_is }
 
     kahn_ends : (was now : SeenSink) (result : Ending) → LeavesOwed (Interprets kinds a.placed.nodes a.clocks.items a.outputs.items given lists fault horizon) was now result →
-        EndsWith (OwesKahn kinds a given taken stop) (OwesKahnOutput kinds a given taken stop) was now result
-    kahn_ends was now ending.WriteFault (output, end, owed, f) = (output, (end, (lists, fault, horizon, fed, owed)), f)
+        EndsWith (OwesKahn kinds a given taken) (λ counted. counted ≡ stop) stop was now result
+    kahn_ends was now ending.WriteFault (output, end, owed, f) = (output, (stop, end, refl, (lists, fault, horizon, fed, owed)), f)
     kahn_ends was now ending.OutOfMemory left = ([], inl refl, subst (λ u. Writes was u []) (sym left) (unwritten was))
     kahn_ends was now ending.Done (output, owed, w) = (output, (lists, fault, horizon, fed, owed), w)
     kahn_ends was now (ending.Input f) (output, owed, w) = (output, (lists, fault, horizon, fed, owed), w)

@@ -9,11 +9,11 @@ use Rattle.lucy_stream.specs.Fronts.{AreFronts}
 use Rattle.lucy_lines.specs.Cuts.{ItemOf}
 use Rattle.lucy_lines.specs.Fronts.{most_bytes}
 use Rattle.lucy_lines.specs.declared.input.InputSpec.{InputSpec}
-use Rattle.lucy_feed.specs.Sources.{SeenSource, Unread, Read}
+use Rattle.lucy_text.specs.Outside.{SeenSource, SeenSink, Writes}
+use Rattle.lucy_feed.specs.Sources.{Unread, Read}
 use Rattle.lucy_feed.specs.Feeding.{values_by_stream}
 use Rattle.lucy_feed.specs.Resuming.{FeedState, HasRead, PassesMore, ValuesInTurn}
 use Rattle.lucy_output.specs.declared.error.OutputError.{OutputError}
-use Rattle.lucy_output.specs.Sinks.{SeenSink, Writes}
 use Rattle.lucy_output.specs.Writing.{WriterState}
 use Rattle.lucy_meaning.specs.Horizons.{Suffice, IsHorizon}
 use Rattle.lucy_execution.specs.Playing.{PlayerView}

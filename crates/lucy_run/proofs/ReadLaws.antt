@@ -10,14 +10,15 @@ use Rattle.lucy_stream.proofs.FrontLaws.{IsFront-refl, IsFront-trans, IsFront-ap
 use Rattle.lucy_lines.specs.Cuts.{ItemOf}
 use Rattle.lucy_lines.specs.Fronts.{most_bytes}
 use Rattle.lucy_lines.specs.declared.input.InputSpec.{InputSpec}
-use Rattle.lucy_feed.specs.Sources.{SeenSource, Unread, Open, Read}
+use Rattle.lucy_text.specs.Outside.{SeenSource}
+use Rattle.lucy_feed.specs.Sources.{Unread, Open, Read}
 use Rattle.lucy_feed.specs.Feeding.{values_of, values_by_stream}
 use Rattle.lucy_feed.specs.Resuming.{FeedState, AreCounts, AreMet, HasRead, IsGivenUp, AreFresh, ReadsMore, GivesUp, ValuesInTurn}
 use Rattle.lucy_meaning.specs.Horizons.{Suffice}
 use Rattle.lucy_execution.specs.Playing.{joined}
 use Rattle.lucy_execution.proofs.LaterLaws.{joined_count, joined_at}
 use Rattle.lucy_run.specs.Courses.{HasFed, IsFedSoFar, ReadsOn, GivesUpBehind}
-use Rattle.lucy_run.proofs.FedLaws.{read_nothing}
+use Rattle.lucy_run.proofs.FedLaws.{read_nothing, fed_by_all}
 
 pub fronts_same : (lists : List (List ℤ)) → AreFronts lists lists
 fronts_same lists i = IsFront-refl (list_at lists i)
@@ -49,21 +50,28 @@ module _ (turn : ValuesInTurn) where
   -- what was read feeds main so far
   read_feeds : (input : InputSpec) (inputs : List InputSpec) (first now : SeenSource) (reader : FeedState) (items : List ItemOf) (taken : List ℕ) → HasRead (input ∷ inputs) first now reader items taken →
       IsFedSoFar (input ∷ inputs) first now (values_by_stream (length (input ∷ inputs)) items)
-  read_feeds input inputs first now reader items taken (inl going) = record {
-    taken = taken;
-    stop = Open;
-    read = going.read;
-    others = values_by_stream (length (input ∷ inputs)) (items ++ going.begin.0);
-    fronts = values_front (length (input ∷ inputs)) items going.begin.0;
-    fed = inr (tt, items ++ going.begin.0, going.begin.1, going.begin.2, refl);
-  }
+  read_feeds input inputs first now reader items taken (inl going) =
+      let (counted, closed, fault, feeds) = fed_by_all input inputs taken (items ++ going.begin.0) going.begin.1 going.begin.2 in record {
+        taken = taken;
+        stop = Open;
+        read = going.read;
+        others = values_by_stream (length (input ∷ inputs)) (items ++ going.begin.0);
+        fronts = values_front (length (input ∷ inputs)) items going.begin.0;
+        counted = counted;
+        counts = inr (tt, closed);
+        fault = fault;
+        fed = feeds;
+      }
   read_feeds input inputs first now reader items taken (inr (stop, halt, stopped)) = record {
     taken = taken;
     stop = stop;
     read = stopped.read;
     others = values_by_stream (length (input ∷ inputs)) items;
     fronts = fronts_same (values_by_stream (length (input ∷ inputs)) items);
-    fed = inl (reader.fault, (items, halt, stopped.feed));
+    counted = stop;
+    counts = inl refl;
+    fault = reader.fault;
+    fed = (items, halt, stopped.feed);
   }
 
   pub fed_feeds : (inputs : List InputSpec) (first now : SeenSource) (reader : FeedState) (items : List ItemOf) → HasFed inputs first now reader items → IsFedSoFar inputs first now (values_by_stream (length inputs) items)
@@ -73,20 +81,27 @@ module _ (turn : ValuesInTurn) where
     read = subst (λ u. Read most_bytes first u [] Unread) (sym e) (read_nothing first);
     others = [];
     fronts = λ i. tt;
-    fed = inl (None, (refl, refl, refl, refl));
+    counted = Unread;
+    counts = inl refl;
+    fault = None;
+    fed = (refl, refl, refl, refl);
   }
   fed_feeds (input ∷ inputs) first now reader items (taken, has) = read_feeds input inputs first now reader items taken has
 
   given_up_feeds : (input : InputSpec) (inputs : List InputSpec) (first now : SeenSource) (items : List ItemOf) (taken : List ℕ) → IsGivenUp (input ∷ inputs) first now items taken →
       IsFedSoFar (input ∷ inputs) first now (values_by_stream (length (input ∷ inputs)) items)
-  given_up_feeds input inputs first now items taken given_up = record {
-    taken = taken;
-    stop = Open;
-    read = given_up.read;
-    others = values_by_stream (length (input ∷ inputs)) (items ++ given_up.begin.0);
-    fronts = values_front (length (input ∷ inputs)) items given_up.begin.0;
-    fed = inr (tt, items ++ given_up.begin.0, given_up.begin.1, given_up.begin.2, refl);
-  }
+  given_up_feeds input inputs first now items taken given_up =
+      let (counted, closed, fault, feeds) = fed_by_all input inputs taken (items ++ given_up.begin.0) given_up.begin.1 given_up.begin.2 in record {
+        taken = taken;
+        stop = Open;
+        read = given_up.read;
+        others = values_by_stream (length (input ∷ inputs)) (items ++ given_up.begin.0);
+        fronts = values_front (length (input ∷ inputs)) items given_up.begin.0;
+        counted = counted;
+        counts = inr (tt, closed);
+        fault = fault;
+        fed = feeds;
+      }
 
   -- reading is given up behind what was read
   pub gives_up : (before after : SeenSource) (old : FeedState) → (old.reader.inputs ≡ [] → ⊥) → GivesUp before after old → GivesUpBehind before after old
@@ -97,7 +112,17 @@ module _ (turn : ValuesInTurn) where
 
 -- less is fed so far too
 pub feeds_less : (inputs : List InputSpec) (first now : SeenSource) (lists more : List (List ℤ)) → AreFronts lists more → IsFedSoFar inputs first now more → IsFedSoFar inputs first now lists
-feeds_less inputs first now lists more f fed = record { taken = fed.taken; stop = fed.stop; read = fed.read; others = fed.others; fronts = fronts_longer lists more fed.others f fed.fronts; fed = fed.fed }
+feeds_less inputs first now lists more f fed = record {
+  taken = fed.taken;
+  stop = fed.stop;
+  read = fed.read;
+  others = fed.others;
+  fronts = fronts_longer lists more fed.others f fed.fronts;
+  counted = fed.counted;
+  counts = fed.counts;
+  fault = fed.fault;
+  fed = fed.fed;
+}
 
 -- how many items there are is counted
 pub fed_counts : (inputs : List InputSpec) (first now : SeenSource) (reader : FeedState) (items : List ItemOf) → HasFed inputs first now reader items → AreCounts inputs reader.counts items

@@ -2,14 +2,15 @@
 use Rattle.std.proofs.Common.{ℕ, ◌≡◌, ◌⊎◌, true, false, List, [], ◌∷◌, ◌++◌, length, Option, None, Some, refl, ap, sym, ◌∙◌, subst, inl, inr}
 use Rattle.std.specs.Prelude.{ℤ}
 use Rattle.std.proofs.lemmas.List.{append-nil}
-use Rattle.lucy_text.specs.Outside.{followed, AtEnd, Rose}
+use Rattle.lucy_text.proofs.OutsideLaws.{followed, AtEnd}
+use Rattle.lucy_text.specs.Outside.{Rose, SeenSource}
 use Rattle.lucy_lines.specs.Cuts.{ItemOf, Held, Stop as Halt, At, Before, Cut, input_of}
 use Rattle.lucy_lines.specs.Laws.{OneCut, CutInPieces}
 use Rattle.lucy_lines.specs.Fronts.{most_bytes}
 use Rattle.lucy_lines.specs.declared.input.InputSpec.{InputSpec}
 use Rattle.lucy_lines.specs.declared.reader.TextFault.{TextFault}
 use Rattle.lucy_lines.specs.declared.reader.TextFault.TheVariants as text_fault
-use Rattle.lucy_feed.specs.Sources.{Stop, Unread, Ended, Failed, Passed, Open, Drained, SeenSource, StoppedAt, Read}
+use Rattle.lucy_feed.specs.Sources.{Stop, Unread, Ended, Failed, Passed, Open, Drained, StoppedAt, Read}
 use Rattle.lucy_feed.specs.Feeding.{values_by_stream, is_closed, fault_of, StopsFor}
 use Rattle.lucy_host.specs.declared.kind.HostKind.{HostKind}
 use Rattle.lucy_execution.specs.Running.{HasManyTurns, HasManyItems}
@@ -68,7 +69,7 @@ module _ (cut : OneCut) (pieces : CutInPieces) (inputs : List InputSpec) (before
       Cut inputs (is_closed stop) (input_of taken) others halt → Some f ≡ fault_of stop halt → ⊥
   unstopped Drained others halt f so stopped is told =
       let at : halt ≡ At f = refused_at Drained halt f (λ e. cc e) told in
-      let all : taken ≡ bytes = taken_all bytes taken after.left took stopped.1 in
+      let all : taken ≡ bytes = taken_all bytes taken after.left took stopped.1.0 in
       none_refused others f (subst (λ bs. Cut inputs true (input_of bs) others (At f)) all (subst (λ h. Cut inputs true (input_of taken) others h) at is))
   unstopped Open others halt f so stopped is told =
       let at : halt ≡ At f = refused_at Open halt f (λ e. cc e) told in
@@ -82,7 +83,7 @@ module _ (cut : OneCut) (pieces : CutInPieces) (inputs : List InputSpec) (before
   ended_so : (fault : Option TextFault) (stop : Stop) (others : List ItemOf) (halt : Halt) → StopsFor fault stop → StoppedAt most_bytes before after taken stop →
       Cut inputs (is_closed stop) (input_of taken) others halt → fault ≡ fault_of stop halt → (others ≡ items) × (fault ≡ None)
   ended_so None Ended others halt so stopped is told =
-      let all : taken ≡ bytes = taken_all bytes taken after.left took stopped.1 in
+      let all : taken ≡ bytes = taken_all bytes taken after.left took stopped.1.0 in
       let same = cut inputs true (input_of bytes) others items halt (Before held) (subst (λ bs. Cut inputs true (input_of bs) others halt) all is) whole in
       (same.0, refl)
   ended_so None Unread others halt so stopped is told = absurd (cc so)

@@ -7,13 +7,13 @@ use Rattle.lucy_lines.specs.Cuts.{ItemOf}
 use Rattle.lucy_lines.specs.Fronts.{most_bytes}
 use Rattle.lucy_lines.specs.declared.input.InputSpec.{InputSpec}
 use Rattle.lucy_lines.specs.declared.reader.TextFault.{TextFault}
-use Rattle.lucy_feed.specs.Sources.{SeenSource, Stop, Read}
+use Rattle.lucy_text.specs.Outside.{SeenSource, SeenSink, Writes, Fails}
+use Rattle.lucy_feed.specs.Sources.{Stop, Read}
 use Rattle.lucy_feed.specs.Feeding.{values_by_stream}
 use Rattle.lucy_feed.specs.Resuming.{FeedState, AreCounts, HasRead, AreFresh}
 use Rattle.lucy_output.specs.declared.output.OutputSpec.{OutputSpec}
 use Rattle.lucy_output.specs.declared.error.OutputError.{OutputError}
 use Rattle.lucy_output.specs.declared.error.OutputError.TheVariants.{Failed, OutOfMemory}
-use Rattle.lucy_output.specs.Sinks.{SeenSink, Writes, Fails}
 use Rattle.lucy_output.specs.Outputs.{lines_after}
 use Rattle.lucy_output.specs.Writing.{WriterState}
 use Rattle.lucy_place.specs.declared.placed.PlacedNode.{PlacedNode}
@@ -26,7 +26,7 @@ use Rattle.lucy_execution.specs.Streams.{param_words, result_words, later_stream
 use Rattle.lucy_execution.specs.Running.{HasSchedule}
 use Rattle.lucy_execution.specs.Playing.{PlayerView, joined}
 use Rattle.lucy_run.specs.declared.ending.Ending.{Ending}
-use Rattle.lucy_run.specs.Feeds.{Feeds, FeedsSoFar}
+use Rattle.lucy_run.specs.Feeds.{Feeds, CountsAs}
 use Rattle.lucy_run.specs.Owes.{stream_lines, IsHorizonOf, EndsFor}
 
 -- what is run: the kinds of the host's operators, the nodes with their clocks, and main's inputs and outputs
@@ -48,10 +48,11 @@ pub record CanRun (p : Program) : Type 0 where
 abbrev pub words_of : Program → List Bits
 words_of p = param_words p.nodes p.clocks
 
--- the values of items, list by list, and the lines that they allow
+-- the values of items, list by list
 abbrev pub values : Program → List ItemOf → List (List ℤ)
 values p items = values_by_stream (length p.inputs) items
 
+-- the lines that lists allow
 abbrev pub lines_of : Program → List (List ℤ) → ℕ → List ℕ
 lines_of p lists horizon = stream_lines p.kinds p.nodes p.clocks p.outputs lists horizon
 
@@ -67,7 +68,10 @@ pub record IsFedSoFar (inputs : List InputSpec) (first now : SeenSource) (lists 
   pub read : Read most_bytes first now taken stop
   pub others : List (List ℤ)
   pub fronts : AreFronts lists others
-  pub fed : ((fault : Option TextFault) × Feeds inputs taken stop others fault) ⊎ FeedsSoFar inputs taken stop others
+  pub counted : Stop
+  pub counts : CountsAs stop counted
+  pub fault : Option TextFault
+  pub fed : Feeds inputs taken counted others fault
 
 -- a program that was run to the horizon on these lists
 pub record IsRunTo (p : Program) (lists : List (List ℤ)) (horizon : ℕ) (player : PlayerView) : Type 0 where
@@ -110,11 +114,12 @@ pub record BreaksOff (p : Program) (first : SeenSource) (was : SeenSink) (most :
   pub fed : IsFedSoFar p.inputs first now lists
   pub left : LeavesFront (lines_of p lists horizon) was written e
 
--- More is read behind what was read, whatever that is, and kept; or reading is given up behind it.
+-- More is read behind what was read, whatever that is, and kept.
 abbrev pub ReadsOn : (before after : SeenSource) (old new : FeedState) → Type 0
 ReadsOn before after old new = (inputs : List InputSpec) (first : SeenSource) (items : List ItemOf) → HasFed inputs first before old items → AreFresh inputs old [] →
     old.reader.inputs ≡ inputs → (more : List ItemOf) × HasFed inputs first after new (items ++ more) × AreFresh inputs new more × (new.reader.inputs ≡ inputs)
 
+-- Reading is given up behind what was read, whatever that is.
 abbrev pub GivesUpBehind : (before after : SeenSource) (old : FeedState) → Type 0
 GivesUpBehind before after old = (inputs : List InputSpec) (first : SeenSource) (items : List ItemOf) → HasFed inputs first before old items → AreFresh inputs old [] →
     old.reader.inputs ≡ inputs → IsFedSoFar inputs first after (values_by_stream (length inputs) items)

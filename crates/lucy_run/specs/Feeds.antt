@@ -1,12 +1,12 @@
 -- What main is fed by the bytes that were taken from a source.
-use Rattle.std.specs.Prelude.{ℕ, ℤ, ◌≡◌, true, List, [], ◌∷◌, length, Option, None, Result, Ok, Err, IsSomeAnd}
+use Rattle.std.specs.Prelude.{ℕ, ℤ, ◌≡◌, ◌⊎◌, IsTrue, List, [], ◌∷◌, Option, None, Result, Ok, Err, IsSomeAnd}
 use Rattle.lucy_word.specs.declared.error.OutOfMemory.{OutOfMemory}
-use Rattle.lucy_lines.specs.Cuts.{ItemOf, Stop as Halt, Cut, input_of}
+use Rattle.lucy_lines.specs.Cuts.{ItemOf, Stop as Halt}
 use Rattle.lucy_lines.specs.declared.input.InputSpec.{InputSpec}
 use Rattle.lucy_lines.specs.declared.reader.TextFault.{TextFault}
 use Rattle.lucy_feed.specs.declared.feeds.Feed.{Feed}
 use Rattle.lucy_feed.specs.Sources.{Stop, Unread, Ended, Open}
-use Rattle.lucy_feed.specs.Feeding.{values_by_stream, IsFeedOf}
+use Rattle.lucy_feed.specs.Feeding.{is_closed, IsFeedOf}
 
 -- the items of each input, and why they stop before the end of what was to be read; where main has no inputs nothing is read
 abbrev pub Feeds : List InputSpec → (taken : List ℕ) → Stop → (lists : List (List ℤ)) → Option TextFault → Type 0
@@ -25,11 +25,9 @@ IsUnfinished Unread = Unit {0}
 IsUnfinished Open = Unit {0}
 IsUnfinished stop = ⊥
 
--- then the bytes taken count as the whole input; where main has no inputs nothing is read
-abbrev pub FeedsSoFar : List InputSpec → (taken : List ℕ) → Stop → (lists : List (List ℤ)) → Type 0
-FeedsSoFar [] taken stop lists = (taken ≡ []) × (stop ≡ Unread) × (lists ≡ [])
-FeedsSoFar (input ∷ inputs) taken stop lists =
-    IsUnfinished stop × (items : List ItemOf) × (halt : Halt) × Cut (input ∷ inputs) true (input_of taken) items halt × (lists ≡ values_by_stream (length (input ∷ inputs)) items)
+-- the bytes taken count as read so: as they were, or, where reading is unfinished, as all that there are
+abbrev pub CountsAs : (stop counted : Stop) → Type 0
+CountsAs stop counted = (counted ≡ stop) ⊎ (IsUnfinished stop × IsTrue (is_closed counted))
 
 -- main was fed so; or memory ran out, and reading was given up
 abbrev pub IsMainFeed : List InputSpec → (taken : List ℕ) → Stop → Result Feed OutOfMemory → Type 0

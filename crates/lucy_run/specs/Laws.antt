@@ -2,9 +2,9 @@
 use Rattle.std.specs.Prelude.{ℕ, ℤ, ◌≡◌, ◌⊎◌, List, ◌++◌, Option, None}
 use Rattle.lucy_word.specs.declared.limit.Limit.TheVariants as limit
 use Rattle.lucy_host.specs.declared.kind.HostKind.{HostKind}
-use Rattle.lucy_text.specs.Outside.{Rose}
+use Rattle.lucy_text.specs.Outside.{Rose, SeenSource}
 use Rattle.lucy_lines.specs.Fronts.{most_bytes}
-use Rattle.lucy_feed.specs.Sources.{Stop, SeenSource, Read}
+use Rattle.lucy_feed.specs.Sources.{Stop, Read}
 use Rattle.lucy_execution.specs.Running.{HasManyTurns, HasManyItems}
 use Rattle.lucy_front.specs.declared.accepted.Accepted.{Accepted}
 use Rattle.lucy_run.specs.declared.ending.Ending.{Ending}

@@ -17,7 +17,7 @@ use Rattle.lucy_front.specs.declared.accepted.Accepted.{Accepted}
 use Rattle.lucy_front.specs.Report.{report}
 use Rattle.lucy_run.specs.declared.ending.Ending.{Ending}
 use Rattle.lucy_run.specs.declared.ending.Ending.TheVariants as ending
-use Rattle.lucy_run.specs.Feeds.{Feeds, FeedsSoFar}
+use Rattle.lucy_run.specs.Feeds.{Feeds}
 
 -- the instants that are given, or else the most that a run may have
 abbrev pub most_instants : (given : Option ℕ) → ℕ
@@ -32,10 +32,11 @@ input_words a = param_words a.placed.nodes a.clocks.items
 abbrev pub IsHorizonOf : (words : List Bits) → (given : Option ℕ) → (lists : List (List ℤ)) → (horizon : ℕ) → Type 0
 IsHorizonOf words given lists horizon = IsHorizon words lists (most_instants given) horizon
 
--- the lines of main's results up to the horizon, with the values of their Kahn streams
+-- the lines of results up to the horizon, with the values of their Kahn streams
 abbrev pub stream_lines : List HostKind → List PlacedNode → List NodeClock → List OutputSpec → (lists : List (List ℤ)) → (horizon : ℕ) → List ℕ
 stream_lines kinds nodes clocks outputs lists horizon = output_text outputs (main_streams kinds lists nodes clocks horizon) horizon
 
+-- those of main's results
 abbrev pub lines_to : List HostKind → Accepted → (lists : List (List ℤ)) → (horizon : ℕ) → List ℕ
 lines_to kinds a lists horizon = stream_lines kinds a.placed.nodes a.clocks.items a.outputs.items lists horizon
 
@@ -64,13 +65,6 @@ OwesRun kinds a given taken stop output end =
     (lists : List (List ℤ)) × (fault : Option TextFault) × (horizon : ℕ) × IsFed a given taken stop lists fault horizon
     × (output ≡ heading a ++ lines_to kinds a lists horizon) × EndsFor (input_words a) given lists fault end
 
--- the output of `run`, also where reading was given up
-abbrev pub OwesRunOutput : List HostKind → Accepted → (given : Option ℕ) → (taken : List ℕ) → Stop → (output : List ℕ) → Type 0
-OwesRunOutput kinds a given taken stop output =
-    ((end : Ending) × OwesRun kinds a given taken stop output end)
-    ⊎ ((lists : List (List ℤ)) × (horizon : ℕ) × FeedsSoFar a.inputs.items taken stop lists × IsHorizonOf (input_words a) given lists horizon
-    × (output ≡ heading a ++ lines_to kinds a lists horizon))
-
 -- what the plain interpreter comes to up to the horizon: a limit that it passes, and no line, or the lines
 abbrev pub Interprets : List HostKind → List PlacedNode → List NodeClock → List OutputSpec → (given : Option ℕ) → (lists : List (List ℤ)) → Option TextFault → (horizon : ℕ) →
     (output : List ℕ) → Ending → Type 0
@@ -85,6 +79,3 @@ abbrev pub OwesKahn : List HostKind → Accepted → (given : Option ℕ) → (t
 OwesKahn kinds a given taken stop output end =
     (lists : List (List ℤ)) × (fault : Option TextFault) × (horizon : ℕ) × IsFed a given taken stop lists fault horizon
     × Interprets kinds a.placed.nodes a.clocks.items a.outputs.items given lists fault horizon output end
-
-abbrev pub OwesKahnOutput : List HostKind → Accepted → (given : Option ℕ) → (taken : List ℕ) → Stop → (output : List ℕ) → Type 0
-OwesKahnOutput kinds a given taken stop output = (end : Ending) × OwesKahn kinds a given taken stop output end

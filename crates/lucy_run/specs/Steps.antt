@@ -1,6 +1,6 @@
 -- What the parts of a call leave on the sink.
 use Rattle.std.specs.Prelude.{ℕ, ◌≡◌, List}
-use Rattle.lucy_output.specs.Sinks.{SeenSink, Writes, Fails}
+use Rattle.lucy_text.specs.Outside.{SeenSink, Writes, Fails}
 use Rattle.lucy_kahn.specs.declared.error.KahnError.{KahnError}
 use Rattle.lucy_kahn.specs.declared.error.KahnError.TheVariants as error
 use Rattle.lucy_run.specs.declared.ending.Ending.{Ending}

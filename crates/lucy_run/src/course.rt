@@ -9,10 +9,9 @@ ghost use Rattle.lucy_flat.specs.Flat.{IsFlat};
 ghost use Rattle.lucy_meaning.specs.Spots.{main_of};
 ghost use Rattle.lucy_kahn.specs.Turns.{params_in};
 ghost use Rattle.lucy_lines.specs.Cuts.{ItemOf};
-ghost use Rattle.lucy_feed.specs.Sources.{SeenSource, seen_source};
+ghost use Rattle.lucy_text.specs.Outside.{SeenSource, SeenSink};
 ghost use Rattle.lucy_feed.specs.Resuming.{AreMet};
 ghost use Rattle.lucy_output.specs.declared.error.OutputError.TheVariants as OutputError;
-ghost use Rattle.lucy_output.specs.Sinks.{SeenSink, seen_sink};
 ghost use Rattle.lucy_run.specs.Owes as owes;
 ghost use Rattle.lucy_run.specs.Courses.{Program, CanRun, words_of, IsAlong, IsLast, IsOver, BreaksOff, ReadsOn, GivesUpBehind, CanGoOn, HasGoneOn};
 
@@ -101,17 +100,13 @@ impl<'a> Course<'a> {
         source: &mut I,
     ) -> Result<(), OutOfMemory>
         requires { length words.now ≡ length self.old.reader.reader.inputs }
-        ensures reads { OnOk result (ReadsOn
-            (seen_source (I.left source.old) (I.ended source.old) (I.faults source.old) (I.since_stop source.old))
-            (seen_source (I.left source.new) (I.ended source.new) (I.faults source.new) (I.since_stop source.new)) self.old.reader self.new.reader) }
-        ensures gives_up { OnErr result (GivesUpBehind
-            (seen_source (I.left source.old) (I.ended source.old) (I.faults source.old) (I.since_stop source.old))
-            (seen_source (I.left source.new) (I.ended source.new) (I.faults source.new) (I.since_stop source.new)) self.old.reader) }
+        ensures reads { OnOk result (ReadsOn (I.seen source.old) (I.seen source.new) self.old.reader self.new.reader) }
+        ensures gives_up { OnErr result (GivesUpBehind (I.seen source.old) (I.seen source.new) self.old.reader) }
         ensures enough { OnOk result ((self.new.reader.reader.ended ≡ true) ⊎ AreMet (map (λ word. ones_to word instants) words.now) self.new.reader.counts) }
         ensures player { self.new.player ≡ self.old.player }
         ensures writer { self.new.writer ≡ self.old.writer }
         ensures unread { words.now ≡ [] → source.new ≡ source.old }
-        ensures count { I.faults source.old ≤ I.faults source.new }
+        ensures count { (I.seen source.old).faults ≤ (I.seen source.new).faults }
     {
         values_in_turn();
         let wanted = wanted_at(alloc, words, instants)?;
@@ -169,21 +164,16 @@ impl<'a> Course<'a> {
         requires serves { Serves F.pre F.post host.now }
         requires kinds { kinds_of (lent host.now) ≡ self.old.player.kinds }
         requires along { (p : Program) × (first : SeenSource) × (was : SeenSink) × (items : List ItemOf) × (done : ℕ) × CanRun p × (words.now ≡ words_of p) × (done ≤ instants) × IsAlong p first was items done
-            (seen_source (I.left source.old) (I.ended source.old) (I.faults source.old) (I.since_stop source.old))
-            (seen_sink (O.written out.old) (O.faults out.old) (O.since_stop out.old)) self.old.reader self.old.player self.old.writer }
+            (I.seen source.old) (O.seen out.old) self.old.reader self.old.player self.old.writer }
         requires early { instants ≤ 1048576 }
         ensures goes_on { (p : Program) (first : SeenSource) (was : SeenSink) (items : List ItemOf) (done : ℕ) → CanRun p → words.now ≡ words_of p → done ≤ instants → IsAlong p first was items done
-            (seen_source (I.left source.old) (I.ended source.old) (I.faults source.old) (I.since_stop source.old))
-            (seen_sink (O.written out.old) (O.faults out.old) (O.since_stop out.old)) self.old.reader self.old.player self.old.writer →
+            (I.seen source.old) (O.seen out.old) self.old.reader self.old.player self.old.writer →
             MatchResult result (λ horizon. (more : List ItemOf) × IsLast p (items ++ more) instants horizon self.new.reader × IsAlong p first was (items ++ more) horizon
-            (seen_source (I.left source.new) (I.ended source.new) (I.faults source.new) (I.since_stop source.new))
-            (seen_sink (O.written out.new) (O.faults out.new) (O.since_stop out.new)) self.new.reader self.new.player self.new.writer)
-            (BreaksOff p first was instants
-            (seen_source (I.left source.new) (I.ended source.new) (I.faults source.new) (I.since_stop source.new))
-            (seen_sink (O.written out.new) (O.faults out.new) (O.since_stop out.new))) }
+            (I.seen source.new) (O.seen out.new) self.new.reader self.new.player self.new.writer)
+            (BreaksOff p first was instants (I.seen source.new) (O.seen out.new)) }
         ensures unread { words.now ≡ [] → source.new ≡ source.old }
-        ensures source_count { I.faults source.old ≤ I.faults source.new }
-        ensures out_count { O.faults out.old ≤ O.faults out.new }
+        ensures source_count { (I.seen source.old).faults ≤ (I.seen source.new).faults }
+        ensures out_count { (O.seen out.old).faults ≤ (O.seen out.new).faults }
     {
         lines_go_on();
         values_in_turn();
@@ -216,22 +206,17 @@ impl<'a> Course<'a> {
         requires serves { Serves F.pre F.post host.now }
         requires kinds { kinds_of (lent host.now) ≡ self.old.player.kinds }
         requires along { (p : Program) × (first : SeenSource) × (was : SeenSink) × CanRun p × (words.now ≡ words_of p) × IsAlong p first was [] 0
-            (seen_source (I.left source.old) (I.ended source.old) (I.faults source.old) (I.since_stop source.old))
-            (seen_sink (O.written out.old) (O.faults out.old) (O.since_stop out.old)) self.old.reader self.old.player self.old.writer }
+            (I.seen source.old) (O.seen out.old) self.old.reader self.old.player self.old.writer }
         requires early { most ≤ 1048576 }
         requires block { (1 ≤ block) × (block ≤ 1048576) }
         ensures played { (p : Program) (first : SeenSource) (was : SeenSink) → CanRun p → words.now ≡ words_of p → IsAlong p first was [] 0
-            (seen_source (I.left source.old) (I.ended source.old) (I.faults source.old) (I.since_stop source.old))
-            (seen_sink (O.written out.old) (O.faults out.old) (O.since_stop out.old)) self.old.reader self.old.player self.old.writer →
+            (I.seen source.old) (O.seen out.old) self.old.reader self.old.player self.old.writer →
             MatchResult result (λ _. (items : List ItemOf) × (horizon : ℕ) × IsLast p items most horizon self.new.reader × IsAlong p first was items horizon
-            (seen_source (I.left source.new) (I.ended source.new) (I.faults source.new) (I.since_stop source.new))
-            (seen_sink (O.written out.new) (O.faults out.new) (O.since_stop out.new)) self.new.reader self.new.player self.new.writer)
-            (BreaksOff p first was most
-            (seen_source (I.left source.new) (I.ended source.new) (I.faults source.new) (I.since_stop source.new))
-            (seen_sink (O.written out.new) (O.faults out.new) (O.since_stop out.new))) }
+            (I.seen source.new) (O.seen out.new) self.new.reader self.new.player self.new.writer)
+            (BreaksOff p first was most (I.seen source.new) (O.seen out.new)) }
         ensures unread { words.now ≡ [] → source.new ≡ source.old }
-        ensures source_count { I.faults source.old ≤ I.faults source.new }
-        ensures out_count { O.faults out.old ≤ O.faults out.new }
+        ensures source_count { (I.seen source.old).faults ≤ (I.seen source.new).faults }
+        ensures out_count { (O.seen out.old).faults ≤ (O.seen out.new).faults }
     {
         let mut target = 0;
         'blocks: loop {
@@ -251,14 +236,13 @@ impl<'a> Course<'a> {
         source: &mut I,
     ) -> Ending
         requires over { (p : Program) × (first : SeenSource) × (was : SeenSink) × (sink : SeenSink) × (items : List ItemOf) × (horizon : ℕ) × CanRun p × (words.now ≡ words_of p) × IsAlong p first was items horizon
-            (seen_source (I.left source.old) (I.ended source.old) (I.faults source.old) (I.since_stop source.old)) sink self.reader self.player self.writer }
+            (I.seen source.old) sink self.reader self.player self.writer }
         requires given { words.now ≡ [] → given ≢ None }
         ensures over { (p : Program) (first : SeenSource) (was sink : SeenSink) (items : List ItemOf) (horizon : ℕ) → CanRun p → words.now ≡ words_of p → IsAlong p first was items horizon
-            (seen_source (I.left source.old) (I.ended source.old) (I.faults source.old) (I.since_stop source.old)) sink self.entry.reader self.entry.player self.entry.writer →
-            IsLast p items (owes.most_instants given) horizon self.entry.reader → IsOver p first was given
-            (seen_source (I.left source.new) (I.ended source.new) (I.faults source.new) (I.since_stop source.new)) sink result }
+            (I.seen source.old) sink self.entry.reader self.entry.player self.entry.writer →
+            IsLast p items (owes.most_instants given) horizon self.entry.reader → IsOver p first was given (I.seen source.new) sink result }
         ensures unread { words.now ≡ [] → source.new ≡ source.old }
-        ensures count { I.faults source.old ≤ I.faults source.new }
+        ensures count { (I.seen source.old).faults ≤ (I.seen source.new).faults }
     {
         if words.is_empty() {
             return Ending::Done;

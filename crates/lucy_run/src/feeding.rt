@@ -1,7 +1,7 @@
 // What main is fed.
 ghost use Rattle.std.specs.Prelude.{◌≡◌, ◌<◌, ◌≤◌, ◌^◌, ℕ, List, [], length, IfOk};
 ghost use Rattle.lucy_lines.specs.Fronts.{most_bytes};
-ghost use Rattle.lucy_feed.specs.Sources.{Stop, seen_source, Read};
+ghost use Rattle.lucy_feed.specs.Sources.{Stop, Read};
 ghost use Rattle.lucy_run.specs.Feeds.{IsMainFeed};
 
 use lucy_feed::{Feed, read_feed};
@@ -18,13 +18,11 @@ pub(crate) fn main_feed<I: Source>(
     source: &mut I,
 ) -> Result<Feed, OutOfMemory>
     requires { length inputs.items < 2 ^ 32 }
-    ensures fed { (taken : List ℕ) × (stop : Stop) × Read most_bytes
-        (seen_source (I.left source.old) (I.ended source.old) (I.faults source.old) (I.since_stop source.old))
-        (seen_source (I.left source.new) (I.ended source.new) (I.faults source.new) (I.since_stop source.new))
+    ensures fed { (taken : List ℕ) × (stop : Stop) × Read most_bytes (I.seen source.old) (I.seen source.new)
         taken stop × IsMainFeed inputs.items taken stop result }
     ensures lists { IfOk result (λ feed. length feed.items ≡ length inputs.items) }
     ensures unread { inputs.items ≡ [] → source.new ≡ source.old }
-    ensures count { I.faults source.old ≤ I.faults source.new }
+    ensures count { (I.seen source.old).faults ≤ (I.seen source.new).faults }
 {
     if inputs.is_empty() {
         return Ok(Feed {

@@ -5,8 +5,7 @@ ghost use Rattle.lucy_word.specs.declared.limit.Limit.TheVariants as limit;
 ghost use Rattle.lucy_host.specs.Host.{Serves, lent};
 ghost use Rattle.lucy_host.specs.Operators.{kinds_of};
 ghost use Rattle.lucy_lines.specs.Fronts.{most_bytes};
-ghost use Rattle.lucy_feed.specs.Sources.{Stop, seen_source, Read};
-ghost use Rattle.lucy_output.specs.Sinks.{seen_sink};
+ghost use Rattle.lucy_feed.specs.Sources.{Stop, Read};
 ghost use Rattle.lucy_meaning.specs.Spots.{main_of, results_in};
 ghost use Rattle.lucy_kahn.specs.Turns.{params_in};
 ghost use Rattle.lucy_flat.specs.Clocked.{AreClocked};
@@ -14,7 +13,7 @@ ghost use Rattle.lucy_execution.specs.Streams.{param_words};
 ghost use Rattle.lucy_execution.specs.Running.{HasSchedule};
 ghost use Rattle.lucy_front.specs.declared.options.Options.{Options};
 ghost use Rattle.lucy_front.specs.Accepting.{IsAccepted};
-ghost use Rattle.lucy_run.specs.Owes.{IsHorizonOf, Interprets, OwesKahn, OwesKahnOutput};
+ghost use Rattle.lucy_run.specs.Owes.{IsHorizonOf, Interprets, OwesKahn};
 ghost use Rattle.lucy_run.specs.Ends.{EndsWith};
 ghost use Rattle.lucy_run.specs.Steps.{refusal_ending, LeavesOwed};
 
@@ -63,9 +62,8 @@ fn write_interpreted<F: Fn(u32, i64, i64) -> i64 + Sync, O: Sink>(
     requires few { IfSome given (λ most. most ≤ limit_number limit.Instants) }
     ensures ends { (horizon : ℕ) × IsHorizonOf (param_words placed.now.nodes clocks.now) given feed.items horizon
         × LeavesOwed (Interprets (kinds_of (lent host.now)) placed.now.nodes clocks.now outputs.now given feed.items feed.stop horizon)
-        (seen_sink (O.written out.old) (O.faults out.old) (O.since_stop out.old))
-        (seen_sink (O.written out.new) (O.faults out.new) (O.since_stop out.new)) result }
-    ensures count { O.faults out.old ≤ O.faults out.new }
+        (O.seen out.old) (O.seen out.new) result }
+    ensures count { (O.seen out.old).faults ≤ (O.seen out.new).faults }
 {
     let Feed { items, stop } = feed;
     let words = param_words(placed, clocks);
@@ -101,15 +99,12 @@ pub fn kahn<F: Fn(u32, i64, i64) -> i64 + Sync, I: Source, O: Sink>(
     requires clocked { AreClocked accepted.placed.nodes accepted.clocks.items }
     requires few { IfSome instants (λ given. given ≤ limit_number limit.Instants) }
     requires given { accepted.inputs.items ≡ [] → instants ≢ None }
-    ensures ends { (taken : List ℕ) × (stop : Stop) × Read most_bytes
-        (seen_source (I.left source.old) (I.ended source.old) (I.faults source.old) (I.since_stop source.old))
-        (seen_source (I.left source.new) (I.ended source.new) (I.faults source.new) (I.since_stop source.new)) taken stop
-        × EndsWith (OwesKahn (kinds_of (lent host.now)) accepted instants taken stop) (OwesKahnOutput (kinds_of (lent host.now)) accepted instants taken stop)
-        (seen_sink (O.written out.old) (O.faults out.old) (O.since_stop out.old))
-        (seen_sink (O.written out.new) (O.faults out.new) (O.since_stop out.new)) result }
+    ensures ends { (taken : List ℕ) × (stop : Stop) × Read most_bytes (I.seen source.old) (I.seen source.new) taken stop
+        × EndsWith (OwesKahn (kinds_of (lent host.now)) accepted instants taken) (λ counted. counted ≡ stop) stop
+        (O.seen out.old) (O.seen out.new) result }
     ensures unread { accepted.inputs.items ≡ [] → source.new ≡ source.old }
-    ensures source_count { I.faults source.old ≤ I.faults source.new }
-    ensures out_count { O.faults out.old ≤ O.faults out.new }
+    ensures source_count { (I.seen source.old).faults ≤ (I.seen source.new).faults }
+    ensures out_count { (O.seen out.old).faults ≤ (O.seen out.new).faults }
 {
     let Accepted {
         placed,

@@ -5,14 +5,14 @@ ghost use Rattle.lucy_word.specs.declared.limit.Limit.TheVariants as limit;
 ghost use Rattle.lucy_host.specs.Host.{Serves, lent};
 ghost use Rattle.lucy_host.specs.Operators.{kinds_of};
 ghost use Rattle.lucy_lines.specs.Fronts.{most_bytes};
-ghost use Rattle.lucy_feed.specs.Sources.{Stop, seen_source, Read};
-ghost use Rattle.lucy_output.specs.Sinks.{seen_sink};
+ghost use Rattle.lucy_feed.specs.Sources.{Stop, Read};
 ghost use Rattle.lucy_flat.specs.Clocked.{AreClocked};
 ghost use Rattle.lucy_front.specs.declared.options.Options.{Options};
 ghost use Rattle.lucy_front.specs.Accepting.{IsAccepted};
 ghost use Rattle.lucy_front.specs.Report.{IsReportable};
 ghost use Rattle.lucy_run.specs.Owes as owes;
-ghost use Rattle.lucy_run.specs.Owes.{OwesRun, OwesRunOutput};
+ghost use Rattle.lucy_run.specs.Owes.{OwesRun};
+ghost use Rattle.lucy_run.specs.Feeds.{CountsAs};
 ghost use Rattle.lucy_run.specs.declared.ending.Ending.TheVariants as ending;
 ghost use Rattle.lucy_run.specs.Ends.{EndsWith, FailsInOrder};
 
@@ -23,8 +23,8 @@ use crate::laws::lines_go_on;
 use lucy_execution::param_words;
 use lucy_front::{Accepted, report};
 use lucy_host::Host;
-use lucy_output::{OutputError, write_text};
-use lucy_text::{Sink, Source};
+use lucy_output::OutputError;
+use lucy_text::{Sink, Source, write_all};
 use lucy_word::OutOfMemory;
 use lucy_worker::Gate;
 use std::alloc::Global;
@@ -74,24 +74,20 @@ pub fn run<
     requires given { accepted.inputs.items ≡ [] → instants ≢ None }
     requires workers { (1 ≤ workers) × (workers ≤ 64) }
     requires block { (1 ≤ block) × (block ≤ 1048576) }
-    ensures ends { (taken : List ℕ) × (stop : Stop) × Read most_bytes
-        (seen_source (I.left source.old) (I.ended source.old) (I.faults source.old) (I.since_stop source.old))
-        (seen_source (I.left source.new) (I.ended source.new) (I.faults source.new) (I.since_stop source.new)) taken stop
-        × EndsWith (OwesRun (kinds_of (lent host.now)) accepted instants taken stop) (OwesRunOutput (kinds_of (lent host.now)) accepted instants taken stop)
-        (seen_sink (O.written out.old) (O.faults out.old) (O.since_stop out.old))
-        (seen_sink (O.written out.new) (O.faults out.new) (O.since_stop out.new)) result }
+    ensures ends { (taken : List ℕ) × (stop : Stop) × Read most_bytes (I.seen source.old) (I.seen source.new) taken stop
+        × EndsWith (OwesRun (kinds_of (lent host.now)) accepted instants taken) (CountsAs stop) stop
+        (O.seen out.old) (O.seen out.new) result }
     ensures in_order { result ≡ ending.WriteFault → FailsInOrder (owes.heading accepted)
-        (seen_sink (O.written out.old) (O.faults out.old) (O.since_stop out.old))
-        (seen_sink (O.written out.new) (O.faults out.new) (O.since_stop out.new)) source.old source.new }
+        (O.seen out.old) (O.seen out.new) source.old source.new }
     ensures unread { accepted.inputs.items ≡ [] → source.new ≡ source.old }
-    ensures source_count { I.faults source.old ≤ I.faults source.new }
-    ensures out_count { O.faults out.old ≤ O.faults out.new }
+    ensures source_count { (I.seen source.old).faults ≤ (I.seen source.new).faults }
+    ensures out_count { (O.seen out.old).faults ≤ (O.seen out.new).faults }
 {
     let text = match heading(alloc, &accepted) {
         Ok(text) => text,
         Err(_) => return Ending::OutOfMemory,
     };
-    match write_text(out, &text) {
+    match write_all(out, &text) {
         Ok(()) => {}
         Err(_) => return Ending::WriteFault,
     }

@@ -8,4 +8,4 @@ pub returns-clause-order : goal.returns-clause-order
 returns-clause-order c given a b is also = order_owes_one given.taken given.stop a b is also
 
 pub returns-clause-show : goal.returns-clause-show
-returns-clause-show c file given a b is also = show_owes_one given.fetched a b is also
+returns-clause-show c file given a b is also = show_owes_one given.stop given.fetched a b is also

@@ -1,24 +1,26 @@
+use Rattle.std.proofs.Common.{◌≡◌, refl, ◌∷◌, []}
 use Rattle.lucy_host.specs.Host.{lent}
 use Rattle.lucy_host.specs.Operators.{kinds_of}
-use Rattle.lucy_run.specs.Owes.{OwesKahn, OwesKahnOutput}
+use Rattle.lucy_run.specs.Owes.{OwesKahn}
+use Rattle.lucy_app.specs.Commands.{inferring_options}
 use Rattle.lucy_app.specs.Outcomes.{bytes_of}
 use Rattle.lucy_app.proofs.RunEnds.{unrun, ran, left_alone}
 use Rattle.lucy_app.proofs.running.kahn.Goals as goal
 
 pub returns-in-Ok-clause-ends : goal.returns-in-Ok-clause-ends
 returns-in-Ok-clause-ends g c =
-    let kinds = kinds_of (lent c.args.host.now) in
-    ran (λ taken stop a. OwesKahn kinds a c.args.instants taken stop) (λ taken stop a. OwesKahnOutput kinds a c.args.instants taken stop) c.ops.result.now (lent c.args.host.now) c.args.options.now c.args.instants
-    (bytes_of c.args.fetched) c.accepted.result c.ops.ensures c.accepted.ensures.accepting _ _ _ _ _ _ _ c.in-Ok.accepted _ c.in-Ok.is c.kahn-ending.ensures.ends c.conclude.ensures.told
+    ran (λ taken stop a. OwesKahn (kinds_of (lent c.args.host.now)) a c.args.words.instants taken stop) (λ stop counted. counted ≡ stop) (λ stop. refl) c.ops.result.now (lent c.args.host.now) c.inferring-options.result
+    (inferring_options c.args.words.scale c.args.words.lead) c.args.words.instants (bytes_of c.args.fetched ∷ []) c.accepted.result c.ops.ensures c.inferring-options.ensures.is c.accepted.ensures.accepting
+    _ _ _ _ _ _ _ c.in-Ok.accepted _ c.in-Ok.is c.kahn-ending.ensures.ends c.conclude.ensures.told
 
 pub returns-in-Err-clause-ends : goal.returns-in-Err-clause-ends
 returns-in-Err-clause-ends g c =
-    let kinds = kinds_of (lent c.args.host.now) in
-    unrun (λ taken stop a. OwesKahn kinds a c.args.instants taken stop) (λ taken stop a. OwesKahnOutput kinds a c.args.instants taken stop) c.ops.result.now (lent c.args.host.now) c.args.options.now c.args.instants
-    (bytes_of c.args.fetched) c.accepted.result c.ops.ensures c.accepted.ensures.accepting _ _ _ _ _ c.in-Err.refusal c.in-Err.is c.refuse.ensures.told
+    unrun (λ taken stop a. OwesKahn (kinds_of (lent c.args.host.now)) a c.args.words.instants taken stop) (λ stop counted. counted ≡ stop) (λ stop. refl) c.ops.result.now (lent c.args.host.now) c.inferring-options.result
+    (inferring_options c.args.words.scale c.args.words.lead) c.args.words.instants (bytes_of c.args.fetched ∷ []) c.accepted.result c.ops.ensures c.inferring-options.ensures.is c.accepted.ensures.accepting
+    _ _ _ _ _ c.in-Err.refusal c.in-Err.is c.refuse.ensures.told
 
 pub returns-in-Ok-clause-unread : goal.returns-in-Ok-clause-unread
 returns-in-Ok-clause-unread g c =
-    let kinds = kinds_of (lent c.args.host.now) in
-    left_alone (λ taken stop a. OwesKahn kinds a c.args.instants taken stop) (λ taken stop a. OwesKahnOutput kinds a c.args.instants taken stop) c.ops.result.now (lent c.args.host.now) c.args.options.now c.args.instants
-    (bytes_of c.args.fetched) c.accepted.result c.ops.ensures c.accepted.ensures.accepting _ _ c.in-Ok.accepted c.in-Ok.is c.kahn-ending.ensures.unread
+    left_alone (λ taken stop a. OwesKahn (kinds_of (lent c.args.host.now)) a c.args.words.instants taken stop) (λ stop counted. counted ≡ stop) (λ stop. refl) c.ops.result.now (lent c.args.host.now) c.inferring-options.result
+    (inferring_options c.args.words.scale c.args.words.lead) c.args.words.instants (bytes_of c.args.fetched ∷ []) c.accepted.result c.ops.ensures c.inferring-options.ensures.is c.accepted.ensures.accepting
+    _ _ c.in-Ok.accepted c.in-Ok.is c.kahn-ending.ensures.unread

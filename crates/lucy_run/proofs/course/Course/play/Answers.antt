@@ -1,6 +1,4 @@
 use Rattle.std.proofs.Common.{◌≡◌, ◌⊎◌, ◌<◌, ◌≤◌, ◌++◌, inl, inr, sym, ◌∙◌, subst, arith}
-use Rattle.lucy_feed.specs.Sources.{seen_source}
-use Rattle.lucy_output.specs.Sinks.{seen_sink}
 use Rattle.lucy_run.specs.Courses.{IsAlong, BreaksOff}
 use Rattle.lucy_run.proofs.CourseLaws.{breaks_so}
 use Rattle.lucy_run.proofs.OverLaws.{last_for, breaks_later}
@@ -26,8 +24,8 @@ returns-in_err-horizon-clause-played g c = λ p first was can same along.
     let le : c.blocks-2.target ≤ c.min-target.result = omega (arith, c.min-target.ensures, c.blocks-2.invariant.early) in
     let off = c.in_err-horizon.ensures.goes_on p first was items c.blocks-2.target can same le now in
     let early : c.min-target.result ≤ c.args.most = omega (arith, c.min-target.ensures) in
-    breaks_so c.from_residual.result c.in_err-horizon.field-0.0 _ (BreaksOff p first was c.args.most (seen_source (g.I.Source.left c.next_block.new.source) (g.I.Source.ended c.next_block.new.source) (g.I.Source.faults c.next_block.new.source) (g.I.Source.since_stop c.next_block.new.source)) (seen_sink (g.O.Sink.written c.next_block.new.out) (g.O.Sink.faults c.next_block.new.out) (g.O.Sink.since_stop c.next_block.new.out))) c.from_residual.ensures.1
-    (breaks_later p first was c.min-target.result c.args.most (seen_source (g.I.Source.left c.next_block.new.source) (g.I.Source.ended c.next_block.new.source) (g.I.Source.faults c.next_block.new.source) (g.I.Source.since_stop c.next_block.new.source)) (seen_sink (g.O.Sink.written c.next_block.new.out) (g.O.Sink.faults c.next_block.new.out) (g.O.Sink.since_stop c.next_block.new.out)) c.in_err-horizon.field-0.0 early off)
+    breaks_so c.from_residual.result c.in_err-horizon.field-0.0 _ (BreaksOff p first was c.args.most (g.I.Source.seen c.next_block.new.source) (g.O.Sink.seen c.next_block.new.out)) c.from_residual.ensures.1
+    (breaks_later p first was c.min-target.result c.args.most (g.I.Source.seen c.next_block.new.source) (g.O.Sink.seen c.next_block.new.out) c.in_err-horizon.field-0.0 early off)
 
 pub returns-then-horizon-target-clause-played : goal.returns-then-horizon-target-clause-played
 returns-then-horizon-target-clause-played g c = λ p first was can same along.
@@ -49,7 +47,7 @@ blocks-2-preserved g c = record {
       let le : c.blocks-2.target ≤ c.min-target.result = omega (arith, c.min-target.ensures, c.blocks-2.invariant.early) in
       let (more, last, on) = c.in_ok-horizon.ensures.goes_on p first was items c.blocks-2.target can same le now in
       let reached : c.in_ok-horizon.horizon ≡ c.min-target.result = omega (arith, last.within) in
-      (items ++ more, subst (λ n. IsAlong p first was (items ++ more) n (seen_source (g.I.Source.left c.next_block.new.source) (g.I.Source.ended c.next_block.new.source) (g.I.Source.faults c.next_block.new.source) (g.I.Source.since_stop c.next_block.new.source)) (seen_sink (g.O.Sink.written c.next_block.new.out) (g.O.Sink.faults c.next_block.new.out) (g.O.Sink.since_stop c.next_block.new.out)) c.next_block.new.self.reader c.next_block.new.self.player c.next_block.new.self.writer) reached on);
+      (items ++ more, subst (λ n. IsAlong p first was (items ++ more) n (g.I.Source.seen c.next_block.new.source) (g.O.Sink.seen c.next_block.new.out) c.next_block.new.self.reader c.next_block.new.self.player c.next_block.new.self.writer) reached on);
   unread = λ none. c.next_block.ensures.unread none ∙ c.blocks-2.invariant.unread none;
   source_count = omega (arith, c.next_block.ensures.source_count, c.blocks-2.invariant.source_count);
   out_count = omega (arith, c.next_block.ensures.out_count, c.blocks-2.invariant.out_count);

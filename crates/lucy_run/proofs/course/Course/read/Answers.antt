@@ -1,5 +1,4 @@
 use Rattle.std.proofs.Common.{◌≡◌, [], ap, ◌∙◌, inr}
-use Rattle.lucy_feed.specs.Sources.{seen_source}
 use Rattle.lucy_feed.specs.Resuming.{AreMet}
 use Rattle.lucy_output.proofs.SinkLaws.{on_err}
 use Rattle.lucy_run.specs.Courses.{GivesUpBehind}
@@ -8,7 +7,7 @@ use Rattle.lucy_run.proofs.course.Course.read.Goals as goal
 
 pub returns-in_err-wanted-clause-gives_up : goal.returns-in_err-wanted-clause-gives_up
 returns-in_err-wanted-clause-gives_up g c =
-    let given_up : GivesUpBehind (seen_source (g.I.Source.left c.args.source.now) (g.I.Source.ended c.args.source.now) (g.I.Source.faults c.args.source.now) (g.I.Source.since_stop c.args.source.now)) (seen_source (g.I.Source.left c.args.source.now) (g.I.Source.ended c.args.source.now) (g.I.Source.faults c.args.source.now) (g.I.Source.since_stop c.args.source.now)) c.args.self.now.reader = λ inputs first items fed fresh kept. fed_feeds c.values_in_turn.ensures inputs first (seen_source (g.I.Source.left c.args.source.now) (g.I.Source.ended c.args.source.now) (g.I.Source.faults c.args.source.now) (g.I.Source.since_stop c.args.source.now)) c.args.self.now.reader items fed in
+    let given_up : GivesUpBehind (g.I.Source.seen c.args.source.now) (g.I.Source.seen c.args.source.now) c.args.self.now.reader = λ inputs first items fed fresh kept. fed_feeds c.values_in_turn.ensures inputs first (g.I.Source.seen c.args.source.now) c.args.self.now.reader items fed in
     on_err _ _ given_up
 
 pub returns-in_err-read_to-clause-gives_up : goal.returns-in_err-read_to-clause-gives_up
@@ -25,5 +24,5 @@ returns-clause-reads g c =
     (λ empty.
     let met : AreMet c.deref.result.now c.args.self.now.reader.counts = met_none c.args.words.now c.args.self.now.reader.reader.inputs c.deref.result.now c.args.self.now.reader.counts c.args.instants (c.deref.ensures.value ∙ c.in_ok-wanted.ensures) c.requires empty in
     let told = c.in_ok-read_to.ensures.unread (inr met) in
-    (ap (λ s. seen_source (g.I.Source.left s) (g.I.Source.ended s) (g.I.Source.faults s) (g.I.Source.since_stop s)) told.1, told.2))
+    (ap g.I.Source.seen told.1, told.2))
     c.in_ok-read_to.ensures.inputs c.in_ok-read_to.ensures.reads
