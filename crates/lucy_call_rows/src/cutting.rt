@@ -1,21 +1,27 @@
 // Texts, cut into tokens.
 use lucy_token::{Stop, SyntaxError, Tokens, What, tokens};
+use lucy_word::Word;
 use std::alloc::{AllocError, Global};
 use std::{io, str};
+
+fn print_word(rt: &(impl Print + AllocGlobal), word: &Word) -> io::Result<()> {
+    let mut bytes = Vec::new(rt.alloc());
+    let text = match word.print(rt.alloc(), &mut bytes) {
+        Ok(()) => str::from_utf8(&bytes).unwrap_or("?"),
+        Err(_) => "no memory",
+    };
+    print!(rt; "word {text}")
+}
 
 fn print_what(rt: &(impl Print + AllocGlobal), what: &What<'_>) -> io::Result<()> {
     match what {
         What::Mark(mark) => print!(rt; "{}", mark.text()),
         What::Name(name) => print!(rt; "name {}", str::from_utf8(name.bytes()).unwrap_or("?")),
         What::Number(n) => print!(rt; "number {n}"),
-        What::Word(word) => {
-            let mut bytes = Vec::new(rt.alloc());
-            let text = match word.print(rt.alloc(), &mut bytes) {
-                Ok(()) => str::from_utf8(&bytes).unwrap_or("?"),
-                Err(_) => "no memory",
-            };
-            print!(rt; "word {text}")
-        }
+        What::Word(word) => match word.word(rt.alloc()) {
+            Ok(word) => print_word(rt, &word),
+            Err(_) => print!(rt; "word no memory"),
+        },
     }
 }
 
