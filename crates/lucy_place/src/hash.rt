@@ -12,7 +12,7 @@ pub struct NameHash {
 
 impl NameHash {
     /// Behind the names of these nodes, of their parameters and of what they define.
-    pub fn of(nodes: &[Node]) -> NameHash {
+    pub(crate) fn of(nodes: &[Node]) -> NameHash {
         let mut hash = NameHash {
             behind: DefaultHasher::new(),
         };
