@@ -211,6 +211,22 @@ reading_more items rest bits is c behind n after new k e t few made =
           ∙ ap (λ (u : List Item). bits ++ items_bits u) (sym x.whole) ∙ k.whole;
     }
 
+-- there is room for the bits of the next item
+pub reading_room : (items rest : List ℕ) (bits : List Bool) (is : List Item) (c : ℕ) (behind : List ℕ) (n : ℕ) (after : List ℕ) → Reading items rest bits is → rest ≡ c ∷ behind → IsTimes behind n after →
+    length (items_bits is) < most_count → length bits + n < most_count
+reading_room items rest bits is c behind n after k e t few =
+    let x = takes_item c behind n after k.others k.are (sym e ∙ k.left) t in
+    omega (
+      arith,
+      x.many,
+      few,
+      length_item x.first (eqb c 49) x.bits,
+      ap length (sym k.whole),
+      length-append bits (items_bits k.others),
+      ap (λ (u : List Item). length (items_bits u)) x.whole,
+      length-append (item_bits x.first) (items_bits x.others),
+    )
+
 pub reading_ends : (items rest : List ℕ) (bits : List Bool) (is : List Item) → Reading items rest bits is → length rest ≡ 0 →
     bits ≡ items_bits is
 reading_ends items rest bits is k none = go k.others refl

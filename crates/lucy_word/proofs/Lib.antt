@@ -10,6 +10,9 @@ pub mod SpellingLaws
 mod Repeats
 pub mod ShortLaws
 mod CountedLaws
+mod LimbLaws
+mod LimbWalk
+mod PackedLaws
 mod MakingLaws
 pub mod ComplementLaws
 mod ShortTurn

@@ -1,5 +1,5 @@
 -- A word is spelled by the greatest runs of its bits, and is read again from them.
-use Rattle.std.proofs.Common.{ℕ, suc, zero, ◌+◌, ◌^◌, ◌<◌, ◌≡◌, Bool, true, false, cond, List, [], ◌∷◌, ◌++◌, length, map, replicate, nat_le, ap, sym, refl, ◌∙◌, subst, arith, append_assoc}
+use Rattle.std.proofs.Common.{ℕ, suc, zero, ◌+◌, ◌^◌, ◌<◌, ◌≤◌, ◌≡◌, get_or, drop, drop-cons, not, Bool, true, false, cond, List, [], ◌∷◌, ◌++◌, length, map, replicate, nat_le, ap, sym, refl, ◌∙◌, subst, arith, append_assoc}
 use Rattle.std.specs.List.{AllByRecursion}
 use Rattle.std.specs.Fmt.{decimal}
 use Rattle.std.specs.Str.Parse.{digits_value}
@@ -118,3 +118,51 @@ digits_spell w some = both_spell w (map digit_of w.prefix) (map digit_of w.perio
 -- and by its text
 pub text_spells : (w : Bits) → length w.prefix < 2 ^ 64 → length w.period < 2 ^ 64 → 0 < length w.period → Spells (text_of w) w
 text_spells w h k some = both_spell w (spelled w.prefix) (spelled w.period) (spelled_runs w.prefix h) (spelled_runs w.period k) some
+
+-- bits of a run are counted in it
+pub run_counted : (bit : Bool) (n m : ℕ) (bits : List Bool) (at : ℕ) → at + m ≤ length bits → ((k : ℕ) → k < m → get_or bits (at + k) false ≡ bit) →
+    runs_text bit n (drop at bits) ≡ runs_text bit (n + m) (drop (at + m) bits)
+run_counted bit n zero bits at within same =
+    ap (λ k. runs_text bit k (drop at bits)) (let e : n ≡ n + 0 = omega arith in e) ∙ ap (λ k. runs_text bit (n + 0) (drop k bits)) (let e : at ≡ at + 0 = omega arith in e)
+run_counted bit n (suc m) bits at within same =
+    let here : drop at bits ≡ get_or bits at false ∷ drop (suc at) bits = drop-cons bits at false (omega arith) in
+    let first : get_or bits at false ≡ bit = ap (λ k. get_or bits k false) (let e : at ≡ at + 0 = omega arith in e) ∙ same 0 (omega arith) in
+    let next : suc at ≡ at + 1 = omega arith in
+    ap (runs_text bit n) (here ∙ ap (λ b. b ∷ drop (suc at) bits) first ∙ ap (λ k. bit ∷ drop k bits) next) ∙ run_on bit n (drop (at + 1) bits)
+    ∙ run_counted bit (n + 1) m bits (at + 1) (omega arith) (λ k h. ap (λ j. get_or bits j false) (let e : at + 1 + k ≡ at + (k + 1) = omega arith in e) ∙ same (k + 1) (omega arith))
+    ∙ ap (λ k. runs_text bit k (drop (at + 1 + m) bits)) (let e : n + 1 + m ≡ n + suc m = omega arith in e)
+    ∙ ap (λ k. runs_text bit (n + suc m) (drop k bits)) (let e : at + 1 + m ≡ at + suc m = omega arith in e)
+  where
+    run_on : (bit : Bool) (n : ℕ) (bits : List Bool) → runs_text bit n (bit ∷ bits) ≡ runs_text bit (n + 1) bits
+    run_on true n bits = refl
+    run_on false n bits = refl
+
+-- another bit begins a run
+pub run_ended : (bit : Bool) (n : ℕ) (bits : List Bool) (at : ℕ) → at < length bits → get_or bits at false ≡ not bit →
+    runs_text bit n (drop at bits) ≡ run_text bit n ++ runs_text (not bit) 1 (drop (at + 1) bits)
+run_ended bit n bits at within other =
+    let here : drop at bits ≡ get_or bits at false ∷ drop (suc at) bits = drop-cons bits at false within in
+    let next : suc at ≡ at + 1 = omega arith in
+    ap (runs_text bit n) (here ∙ ap (λ b. b ∷ drop (suc at) bits) other ∙ ap (λ k. not bit ∷ drop k bits) next) ∙ go bit (drop (at + 1) bits)
+  where
+    go : (bit : Bool) (rest : List Bool) → runs_text bit n (not bit ∷ rest) ≡ run_text bit n ++ runs_text (not bit) 1 rest
+    go true rest = refl
+    go false rest = refl
+
+-- the first bit begins the first run
+pub run_first : (bits : List Bool) → 0 < length bits → runs_text (get_or bits 0 false) 1 (drop 1 bits) ≡ spelled bits
+run_first [] some = absurd (omega arith)
+run_first (b ∷ bits) some = refl
+
+-- a bit that is not among the others
+pub not_other : (bit b x : Bool) → x ≡ cond bit (not b) b → x ≡ false → b ≡ bit
+not_other true true x e h = refl
+not_other true false x e h = cc
+not_other false true x e h = cc
+not_other false false x e h = refl
+
+pub other_bit : (bit b x : Bool) → x ≡ cond bit (not b) b → x ≡ true → b ≡ not bit
+other_bit true true x e h = cc
+other_bit true false x e h = refl
+other_bit false true x e h = refl
+other_bit false false x e h = cc

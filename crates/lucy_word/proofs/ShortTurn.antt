@@ -1,7 +1,8 @@
 -- The shortest turn of a period is found by leaving out its factors one after another.
-use Rattle.std.proofs.Common.{ℕ, suc, zero, ◌+◌, ◌-◌, ◌*◌, ◌%◌, ◌/◌, ◌<◌, ◌≤◌, ◌≡◌, Bool, false, List, length, get_or, ap, sym, ◌∙◌, subst, inl, inr, lit≤, arith}
+use Rattle.std.proofs.Common.{ℕ, suc, zero, ◌+◌, ◌-◌, ◌*◌, ◌%◌, ◌/◌, ◌<◌, ◌≤◌, ◌≡◌, Bool, false, List, length, take, get_or, ap, sym, ◌∙◌, subst, inl, inr, lit≤, arith}
 use Rattle.std.proofs.Math.Nat.{div-mul_cancel, div-add-mod, mod-lt, mod-eq_of_lt, add-mod_right, add-mul-mod_self_left, dvd_refl, dvd_trans, dvd-mul_left, dvd-mul_right, dvd-mul_right_of_dvd, dvd_of_mul-dvd-mul_right, dvd_of_mod-eq-zero, mod-eq-zero_of_dvd, le_of_dvd, pos_of_dvd_of_pos, eq_of_mul-eq-mul_right, mul-le-mul_right}
 use Rattle.std.proofs.lemmas.Bool.{cases_lt, cases_eq}
+use Rattle.std.proofs.lemmas.List.{length-take, get_or-take}
 use Prim.Native.Nat.{◌∣◌}
 use Rattle.lucy_word.specs.Bits.{bit_at}
 use Rattle.lucy_word.specs.Turns.{Repeats, turning}
@@ -205,3 +206,16 @@ part_of_turn v turn rest factor h even = quotient_divides factor turn (dvd_trans
 
 pub part_divides : (v : List Bool) (turn rest factor : ℕ) → Reducing v turn rest factor → rest % factor ≡ 0 → turn / factor ∣ length v
 part_divides v turn rest factor h even = dvd_trans (turn / factor) (part_of_turn v turn rest factor h even) h.whole
+
+-- the same of the first turn of a period
+pub repeats_cut : (v : List Bool) (turn d : ℕ) → turn ≤ length v → 0 < turn → 0 < d → d ∣ turn → ((i : ℕ) → i + d < turn → get_or v (i + d) false ≡ get_or v i false) →
+    Repeats (bit_at (turning (take turn v))) 0 d
+repeats_cut v turn d within some_turn some whole same =
+    let size : length (take turn v) ≡ turn = omega (arith, length-take turn v) in
+    let P : ℕ → Type 0 = λ n. d ∣ n in
+    repeats_within (take turn v) d some (omega arith) (subst P (sym size) whole) (λ i h.
+    get_or-take turn v (i + d) false (omega arith) ∙ same i (omega arith) ∙ sym (get_or-take turn v i false (omega arith)))
+
+pub cut_repeats : (v : List Bool) (turn d i : ℕ) → turn ≤ length v → Repeats (bit_at (turning (take turn v))) 0 d → i + d < turn → get_or v (i + d) false ≡ get_or v i false
+cut_repeats v turn d i within again h =
+    sym (get_or-take turn v (i + d) false h) ∙ within_repeats (take turn v) d i again (omega (arith, length-take turn v)) ∙ get_or-take turn v i false (omega arith)

@@ -18,6 +18,7 @@ pub mod Always
 pub mod Adaptable
 -- what follows only serves proofs of bodies
 pub mod Counting
+pub mod Packing
 pub mod SamplingSteps
 pub mod Turns
 pub mod Partials

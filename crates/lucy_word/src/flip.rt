@@ -1,17 +1,11 @@
-ghost use Rattle.std.specs.Prelude.{◌≡◌, ◌⊎◌, ◌↔◌, length, map, not, IfOk, IfErr};
+ghost use Rattle.std.specs.Prelude.{◌≡◌, ◌⊎◌, ◌↔◌, length, IfOk, IfErr};
 ghost use Rattle.lucy_word.specs.Bits.{ones_in};
 ghost use Rattle.lucy_word.specs.Shortest.{IsShortest};
 ghost use Rattle.lucy_word.specs.Stored.{IsStored};
 ghost use Rattle.lucy_word.specs.Complement.{IsComplement, turned};
 
 use crate::{Word, WordError};
-use std::alloc::{AllocError, Global};
-
-fn turned_bits(alloc: Global, bits: &[bool]) -> Result<Vec<bool>, AllocError>
-    ensures { IfOk result (λ v. v.items ≡ map not bits.now) }
-{
-    bits.iter().map(|bit| !*bit).collect(alloc)
-}
+use std::alloc::Global;
 
 /// The word `not a`, with every bit turned. `NoOne` comes where the period of `a` has no zero. It never answers `BadWord`
 /// or `TooLong`.
@@ -26,7 +20,7 @@ pub fn complement(alloc: Global, a: &Word) -> Result<Word, WordError>
     if a.period.total() == a.period.len() as u64 {
         return Err(WordError::NoOne);
     }
-    let prefix = turned_bits(alloc, a.prefix.bits())?;
-    let period = turned_bits(alloc, a.period.bits())?;
-    Ok(Word::shortest(alloc, prefix, period)?)
+    let prefix = a.prefix.turned(alloc)?;
+    let period = a.period.turned(alloc)?;
+    Ok(Word { prefix, period })
 }

@@ -1,9 +1,11 @@
 // The text of a word.
-ghost use Rattle.std.specs.Prelude.{◌≡◌, ◌++◌, ◌≤◌, ℕ, length, replicate, IfOk, OnOk, OnErr};
+ghost use Rattle.std.specs.Prelude.{◌≡◌, ◌++◌, ◌+◌, ◌<◌, ◌≤◌, ℕ, length, replicate, not, false, slice_index_or, if◌then◌else◌, IfOk, OnOk, OnErr};
 ghost use Rattle.lucy_word.specs.Bits.{most_bits};
 ghost use Rattle.lucy_word.specs.Items.{digit_of};
+ghost use Rattle.lucy_word.specs.Packing.{is_set};
 ghost use Rattle.lucy_word.specs.Spelling.{run_text, spelled, text_of};
 
+use crate::limbs::{Limbs, WIDTH};
 use crate::{OutOfMemory, Word};
 use std::alloc::{AllocError, Global};
 
@@ -38,23 +40,49 @@ fn push_run(alloc: Global, bit: bool, n: usize, text: &mut Vec<u8>) -> Result<()
     Ok(())
 }
 
+// The bits of a limb that are not this one, as ones.
+fn others(limb: u64, bit: bool) -> u64
+    ensures { (i : ℕ) → i < 64 → is_set result i ≡ (if bit then not (is_set limb i) else is_set limb i) }
+{
+    if bit { !limb } else { limb }
+}
+
+// How many of the bits from a place on are this one, at most a limb of them.
+fn alike(bits: &Limbs, at: usize, bit: bool) -> usize
+    requires { at ≤ length bits.now }
+    ensures within { at + result ≤ length bits.now }
+    ensures alike { (k : ℕ) → k < result → slice_index_or bits.now (at + k) false ≡ bit }
+    ensures stops { result ≡ 0 → at < length bits.now → slice_index_or bits.now at false ≡ not bit }
+{
+    let n = WIDTH.min(bits.len() - at);
+    let others = others(bits.part(at, n), bit);
+    if others == 0 {
+        return n;
+    }
+    n.min(others.trailing_zeros() as usize)
+}
+
 // The text of the bits, each of their greatest runs in its place.
-fn digits(alloc: Global, bits: &[bool]) -> Result<Vec<u8>, AllocError>
+fn digits(alloc: Global, bits: &Limbs) -> Result<Vec<u8>, AllocError>
     ensures { IfOk result (λ v. v.items ≡ spelled bits.now) }
 {
     let mut text = Vec::new(alloc);
-    let Some((first, more)) = bits.split_first() else {
+    if bits.len() == 0 {
         return Ok(text);
-    };
-    let mut bit = *first;
+    }
+    let mut bit = bits.bit(0);
     let mut n = 1;
-    'bits: for next in more {
-        if *next == bit {
-            n += 1;
-        } else {
+    let mut at = 1;
+    'bits: while at < bits.len() {
+        let more = alike(bits, at, bit);
+        if more == 0 {
             push_run(alloc, bit, n, &mut text)?;
-            bit = *next;
+            bit = !bit;
             n = 1;
+            at += 1;
+        } else {
+            n += more;
+            at += more;
         }
     }
     push_run(alloc, bit, n, &mut text)?;
@@ -64,9 +92,9 @@ fn digits(alloc: Global, bits: &[bool]) -> Result<Vec<u8>, AllocError>
 fn text(alloc: Global, word: &Word) -> Result<Vec<u8>, AllocError>
     ensures { IfOk result (λ v. v.items ≡ text_of word.now) }
 {
-    let mut text = digits(alloc, word.prefix.bits())?;
+    let mut text = digits(alloc, &word.prefix)?;
     text.push(b'(')?;
-    text.extend_from_slice(&digits(alloc, word.period.bits())?)?;
+    text.extend_from_slice(&digits(alloc, &word.period)?)?;
     text.push(b')')?;
     Ok(text)
 }

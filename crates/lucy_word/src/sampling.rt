@@ -1,11 +1,14 @@
-// A clock on a clock, made bit by bit from two walks.
-ghost use Rattle.std.specs.Prelude.{◌≡◌, ◌⊎◌, ◌↔◌, ◌+◌, ◌<◌, ◌≤◌, length, IfSome, IfNone, IfOk, IfErr, IsErrAnd};
+// A clock on a clock, made a limb at a time from two walks.
+ghost use Rattle.std.specs.Prelude.{◌≡◌, ◌⊎◌, ◌↔◌, ℕ, ◌+◌, ◌^◌, ◌<◌, ◌≤◌, length, IfSome, IfNone, IfOk, IfErr, IsErrAnd};
 ghost use Rattle.lucy_word.specs.Bits.{IsWord, ones_in, most_bits};
 ghost use Rattle.lucy_word.specs.Sampling.{IsOn, bit_on, AreComputedLengths, IsOnTooLong};
 ghost use Rattle.lucy_word.specs.Shortest.{IsShortest};
 ghost use Rattle.lucy_word.specs.Stored.{IsStored};
 ghost use Rattle.lucy_word.specs.SamplingSteps.{IsLeft, AreFirstOn};
+ghost use Rattle.lucy_word.specs.Packing.{is_set, deposit_bit};
 
+use crate::limbs::{Limbs, WIDTH};
+use crate::packed::Packed;
 use crate::{Limit, Walk, Word, WordError, lcm};
 use std::alloc::{AllocError, Global};
 
@@ -31,34 +34,59 @@ fn computed_lengths(a: &Word, b: &Word) -> Option<(u64, u64)>
     }
 }
 
-// The next bit of `a on b`: the second walk goes on only where the first has a one.
-fn step(a: &mut Walk, b: &mut Walk) -> bool
-    ensures bit { result ≡ bit_on a.old b.old 1 }
-    ensures left { IsLeft a.old b.old 1 a.new b.new }
+// The next bits of the second where the first has ones.
+fn deposit(first: u64, next: u64) -> u64
+    ensures { (i : ℕ) → i < 64 → is_set result i ≡ deposit_bit first next i }
 {
-    a.step() && b.step()
+    let mut kept = 0u64;
+    let mut bits = next;
+    let mut rest = first;
+    let mut at = 0u32;
+    while rest != 0 {
+        let skip = rest.trailing_zeros();
+        at += skip;
+        kept |= (bits & 1) << at;
+        bits >>= 1;
+        rest = rest >> skip >> 1;
+        at += 1;
+    }
+    kept
 }
 
-// The next bits of `a on b`.
-fn steps(alloc: Global, a: &mut Walk, b: &mut Walk, count: u64) -> Result<Vec<bool>, AllocError>
-    ensures count { IfOk result (λ bits. length bits.items ≡ count) }
-    ensures bits { IfOk result (λ bits. AreFirstOn a.old b.old bits.items) }
-    ensures left { IfOk result (λ _. IsLeft a.old b.old count a.new b.new) }
+// The next bits of `a on b`, no more than a limb has: the second walk goes on by the ones of the first.
+fn step(a: &mut Walk, b: &mut Walk, count: usize) -> u64
+    requires { count ≤ 64 }
+    ensures below { result < 2 ^ count }
+    ensures bits { (i : ℕ) → i < count → is_set result i ≡ bit_on a.old b.old (i + 1) }
+    ensures left { IsLeft a.old b.old count a.new b.new }
 {
-    let mut bits = Vec::with_capacity(alloc, count as usize)?;
-    for _ in 0..count {
-        bits.push(step(a, b))?;
+    let first = a.next(count);
+    let next = b.next(first.count_ones() as usize);
+    deposit(first, next)
+}
+
+// The next bits of `a on b`, no more than a word may have.
+fn steps(alloc: Global, a: &mut Walk, b: &mut Walk, len: usize) -> Result<Limbs, AllocError>
+    requires { len ≤ most_bits }
+    ensures count { IfOk result (λ bits. length bits ≡ len) }
+    ensures bits { IfOk result (λ bits. AreFirstOn a.old b.old bits) }
+    ensures left { IfOk result (λ _. IsLeft a.old b.old len a.new b.new) }
+{
+    let mut made = Packed::new(alloc);
+    'limbs: while made.len() < len {
+        let some = WIDTH.min(len - made.len());
+        made.push(step(a, b, some), some)?;
     }
-    Ok(bits)
+    Ok(Limbs::count(alloc, made)?)
 }
 
 // The prefix and the period of `a on b`, as long as they are computed and not yet in shortest form.
-fn on_bits(alloc: Global, a: &Word, b: &Word) -> Result<(Vec<bool>, Vec<bool>), WordError>
-    ensures on { IfOk result (λ w. IsOn a.now b.now (record { prefix = w.0.items; period = w.1.items })) }
-    ensures has_one { IfOk result (λ w. 0 < ones_in w.1.items) }
-    ensures nonempty { IfOk result (λ w. 0 < length w.1.items) }
-    ensures lengths { IfOk result (λ w. AreComputedLengths a.now b.now (length w.0.items) (length w.1.items)) }
-    ensures short { IfOk result (λ w. length w.0.items + length w.1.items ≤ most_bits) }
+fn on_bits(alloc: Global, a: &Word, b: &Word) -> Result<(Limbs, Limbs), WordError>
+    ensures on { IfOk result (λ w. IsOn a.now b.now (record { prefix = w.0; period = w.1 })) }
+    ensures has_one { IfOk result (λ w. 0 < ones_in w.1) }
+    ensures nonempty { IfOk result (λ w. 0 < length w.1) }
+    ensures lengths { IfOk result (λ w. AreComputedLengths a.now b.now (length w.0) (length w.1)) }
+    ensures short { IfOk result (λ w. length w.0 + length w.1 ≤ most_bits) }
     ensures too_long { IsErrAnd result (λ e. e ≡ WordError.TooLong) ↔ IsOnTooLong a.now b.now }
     ensures refused { IfErr result (λ e. (e ≡ WordError.OutOfMemory) ⊎ (e ≡ WordError.TooLong)) }
 {
@@ -67,8 +95,8 @@ fn on_bits(alloc: Global, a: &Word, b: &Word) -> Result<(Vec<bool>, Vec<bool>), 
     };
     let mut kept = a.walk();
     let mut read = b.walk();
-    let prefix = steps(alloc, &mut kept, &mut read, prefix_len)?;
-    let period = steps(alloc, &mut kept, &mut read, period_len)?;
+    let prefix = steps(alloc, &mut kept, &mut read, prefix_len as usize)?;
+    let period = steps(alloc, &mut kept, &mut read, period_len as usize)?;
     Ok((prefix, period))
 }
 

@@ -1,11 +1,13 @@
 // The bits that the text of a word stands for, where it is a form's.
-ghost use Rattle.std.specs.Prelude.{◌≡◌, ◌++◌, ◌∷◌, ◌<◌, ◌≤◌, ℕ, List, length, replicate, IfOk, IfSome, OnOk, MatchOption};
+ghost use Rattle.std.specs.Prelude.{◌≡◌, ◌++◌, ◌∷◌, ◌<◌, ◌≤◌, ℕ, List, length, IfOk, IfSome, MatchOption};
 ghost use Rattle.lucy_word.specs.Bits.{ones_in};
 ghost use Rattle.std.specs.List.{prefix_len, AllByRecursion};
 ghost use Rattle.lucy_word.specs.Items.{Item, Form, IsItem, IsForm, form_text, items_text, items_bits};
 ghost use Rattle.lucy_word.specs.Cutting.{IsSplit, IsCounted, IsTimes, is_no_open, most_count};
 
 use crate::Limit;
+use crate::limbs::Limbs;
+use crate::packed::Packed;
 use std::alloc::{AllocError, Global};
 
 fn prefix_len(text: &[u8]) -> usize
@@ -58,16 +60,6 @@ fn times(text: &[u8]) -> (u64, &[u8])
     }
 }
 
-// So many times the bit more.
-fn push_times(bits: &mut Vec<bool>, bit: bool, n: u64) -> Result<(), AllocError>
-    ensures { OnOk result (bits.new.items ≡ bits.old.items ++ replicate n bit) }
-{
-    'times: for _ in 0..n {
-        bits.push(bit)?;
-    }
-    Ok(())
-}
-
 /// How many bits items stand for, and how many of them are ones.
 #[derive(Clone, Copy)]
 pub(crate) struct Sums {
@@ -98,15 +90,17 @@ pub(crate) fn add_up(items: &[u8], most: u64) -> Option<Sums>
 }
 
 // The bits that items stand for, where they are no more than a written word may have.
-pub(crate) fn bits(alloc: Global, items: &[u8]) -> Result<Vec<bool>, AllocError>
-    ensures { IfOk result (λ v. (is : List Item) → AllByRecursion IsItem is → items.now ≡ items_text is → length (items_bits is) < most_count → v.items ≡ items_bits is) }
+pub(crate) fn bits(alloc: Global, items: &[u8]) -> Result<Limbs, AllocError>
+    ensures { IfOk result (λ v. (is : List Item) → AllByRecursion IsItem is → items.now ≡ items_text is → length (items_bits is) < most_count → v ≡ items_bits is) }
 {
-    let mut bits = Vec::new(alloc);
+    let most = Limit::Written.number();
+    let mut bits = Packed::new(alloc);
     let mut rest = items;
     'items: while let Some((c, more)) = rest.split_first() {
         let (n, more) = times(more);
-        push_times(&mut bits, *c == b'1', n)?;
+        let room = most.saturating_sub(bits.len() as u64);
+        bits.push_run(*c == b'1', n.min(room) as usize)?;
         rest = more;
     }
-    Ok(bits)
+    Ok(Limbs::count(alloc, bits)?)
 }

@@ -3,7 +3,7 @@ ghost use Rattle.lucy_word.specs.Bits.{bit_at, ones_to, ones_in, bit_count, most
 ghost use Rattle.lucy_word.specs.Shortest.{Same, IsShortest, IsShortForm};
 ghost use Rattle.lucy_word.specs.Stored.{IsStored};
 
-use crate::counted::{Counted, count};
+use crate::limbs::Limbs;
 use crate::shortest::shorten;
 use crate::{Limit, OutOfMemory, Walk, WordError};
 use std::alloc::{AllocError, Global};
@@ -14,8 +14,8 @@ use std::marker::Model;
 /// shortest period, and then the shortest prefix. Instants count from 1.
 #[derive(Drop)]
 pub struct Word {
-    pub(crate) prefix: Counted,
-    pub(crate) period: Counted,
+    pub(crate) prefix: Limbs,
+    pub(crate) period: Limbs,
 }
 
 impl Model for Word {
@@ -43,18 +43,12 @@ impl Word {
     ghost use Rattle.lucy_word.specs.Making.{Unmakes, IsMade, OnlyMade};
 
     /// The word with these bits, brought into shortest form.
-    pub(crate) fn shortest(
-        alloc: Global,
-        prefix: Vec<bool>,
-        period: Vec<bool>,
-    ) -> Result<Word, AllocError>
-        requires has_one { 0 < ones_in period.items }
-        requires short { length prefix.items + length period.items ≤ most_bits }
-        ensures { IfOk result (IsShortForm (record { prefix = prefix.items; period = period.items })) }
+    pub(crate) fn shortest(alloc: Global, prefix: Limbs, period: Limbs) -> Result<Word, AllocError>
+        requires has_one { 0 < ones_in period }
+        requires short { length prefix + length period ≤ most_bits }
+        ensures { IfOk result (IsShortForm (record { prefix = prefix; period = period })) }
     {
-        let (prefix, period) = shorten(prefix, period);
-        let prefix = Counted::new(alloc, prefix)?;
-        let period = Counted::new(alloc, period)?;
+        let (prefix, period) = shorten(alloc, prefix, period)?;
         Ok(Word { prefix, period })
     }
 
@@ -71,11 +65,11 @@ impl Word {
         if prefix.len() as u64 > most || period.len() as u64 > most - prefix.len() as u64 {
             return Err(WordError::TooLong);
         }
-        if count(period) == 0 {
+        let prefix = Limbs::new(alloc, prefix)?;
+        let period = Limbs::new(alloc, period)?;
+        if period.total() == 0 {
             return Err(WordError::NoOne);
         }
-        let prefix = prefix.to_vec(alloc)?;
-        let period = period.to_vec(alloc)?;
         Ok(Word::shortest(alloc, prefix, period)?)
     }
 
@@ -96,9 +90,10 @@ impl Word {
     {
         let len = self.prefix.len() as u64;
         if i <= len {
-            self.prefix.bits()[(i - 1) as usize]
+            self.prefix.bit((i - 1) as usize)
         } else {
-            self.period.bits()[remainder(i - len - 1, self.period.len() as u64) as usize]
+            self.period
+                .bit(remainder(i - len - 1, self.period.len() as u64) as usize)
         }
     }
 
@@ -152,7 +147,7 @@ impl Word {
     pub fn walk(&self) -> Walk<'_>
         ensures { result ≡ self.now }
     {
-        Walk::new(self.prefix.bits(), self.period.bits())
+        Walk::new(&self.prefix, &self.period)
     }
 }
 

@@ -1,34 +1,39 @@
-use Rattle.std.proofs.Common.{◌≡◌, not, map, ap, sym, ◌∙◌, subst, arith}
+use Rattle.std.proofs.Common.{◌≡◌, ◌<◌, Bool, List, map, not, length, ap, sym, ◌∙◌, subst, arith}
 use Rattle.std.proofs.lemmas.List.Sums.{count_by-le-length}
 use Rattle.lucy_word.specs.Bits.{Bits, bit_at, ones_in}
+use Rattle.lucy_word.specs.Complement.{turned}
+use Rattle.lucy_word.specs.Stored.{IsStored}
 use Rattle.lucy_word.proofs.BitsLaws.{period_some}
-use Rattle.lucy_word.specs.Complement.{turned, IsComplement}
-use Rattle.lucy_word.proofs.ComplementLaws.{ones_in-turned, bit_at-turned, complement_one}
+use Rattle.lucy_word.proofs.ComplementLaws.{is_complement, turned_stored}
 use Rattle.lucy_word.proofs.flip.complement.Goals as goal
 
-pub shortest-requires-clause-has_one : goal.shortest-requires-clause-has_one
-shortest-requires-clause-has_one c =
-    let turned : c.in_ok-period.period.items ≡ map not c.a.inside.period = c.in_ok-period.ensures ∙ ap (map not) c.bits-2.ensures in
-    let ones : c.total.result ≡ ones_in c.a.inside.period = c.total.ensures in
-    omega (arith, ap ones_in turned, ones_in-turned c.a.inside.period, count_by-le-length (λ bit. bit) c.a.inside.period)
+stored_of : (v : Bits) (a b : List Bool) → a ≡ map not v.prefix → b ≡ map not v.period → IsStored (turned v) → IsStored (record { prefix = a; period = b })
+stored_of v a b e f h =
+    let P : List Bool → Type 0 = λ x. IsStored (record { prefix = x; period = map not v.period }) in
+    let Q : List Bool → Type 0 = λ x. IsStored (record { prefix = a; period = x }) in
+    subst Q (sym f) (subst P (sym e) h)
 
-is_complement : (c : goal.In_ok-shortest) → IsComplement c.args.a.now c.in_ok-shortest.field-0
-is_complement c i h =
+bit_of : (v : Bits) (a b : List Bool) → a ≡ map not v.prefix → b ≡ map not v.period → (n : _) → bit_at (record { prefix = a; period = b }) n ≡ bit_at (turned v) n
+bit_of v a b e f n =
+    ap (λ x. bit_at (record { prefix = x; period = b }) n) e ∙ ap (λ x. bit_at (record { prefix = map not v.prefix; period = x }) n) f
+
+stored : (c : goal.In_ok-period) → IsStored (record { prefix = c.in_ok-prefix.prefix; period = c.in_ok-period.period })
+stored c =
     let v : Bits = record { prefix = c.a.inside.prefix; period = c.a.inside.period } in
-    let prefix : c.in_ok-prefix.prefix.items ≡ map not v.prefix = c.in_ok-prefix.ensures ∙ ap (map not) c.bits.ensures in
-    let period : c.in_ok-period.period.items ≡ map not v.period = c.in_ok-period.ensures ∙ ap (map not) c.bits-2.ensures in
-    sym (c.in_ok-shortest.ensures.same i h)
-    ∙ ap (λ x. bit_at (record { prefix = x; period = c.in_ok-period.period.items }) i) prefix
-    ∙ ap (λ x. bit_at (record { prefix = map not v.prefix; period = x }) i) period
-    ∙ bit_at-turned v i h (period_some v c.a.invariant.0)
-    ∙ ap (λ u. not (bit_at u i)) c.a.view_is
+    let zero_there : ones_in v.period < length v.period = omega (arith, c.total.ensures, c.len.ensures.len, c.if-total-len.false, count_by-le-length (λ bit. bit) v.period) in
+    let is : IsStored v = record { word = c.a.invariant.0; nonempty = period_some v c.a.invariant.0; short = c.a.invariant.1; shortest = c.a.invariant.2 } in
+    stored_of v _ _ c.in_ok-prefix.ensures c.in_ok-period.ensures (turned_stored v zero_there is)
+
+pub invariant_of-result : goal.invariant_of-result
+invariant_of-result c = let s = stored c in (s.word, s.short, s.shortest)
 
 pub returns-clause-ok : goal.returns-clause-ok
-returns-clause-ok c = is_complement c
-
-pub returns-clause-exact : goal.returns-clause-exact
-returns-clause-exact c =
+returns-clause-ok c i h =
     let v : Bits = record { prefix = c.a.inside.prefix; period = c.a.inside.period } in
-    let P : Bits → Type 0 = λ u. IsComplement u c.in_ok-shortest.field-0 in
-    complement_one v c.in_ok-shortest.field-0 (period_some v c.a.invariant.0) c.in_ok-shortest.ensures.nonempty c.a.invariant.2 c.in_ok-shortest.ensures.shortest
-    (subst P (sym c.a.view_is) (is_complement c)) ∙ ap turned c.a.view_is
+    bit_of v _ _ c.in_ok-prefix.ensures c.in_ok-period.ensures i ∙ is_complement v (period_some v c.a.invariant.0) i h ∙ ap (λ w. not (bit_at w i)) c.a.view_is
+
+pub returns-clause-shortest : goal.returns-clause-shortest
+returns-clause-shortest c = (stored c).shortest
+
+pub returns-clause-stored : goal.returns-clause-stored
+returns-clause-stored c = stored c

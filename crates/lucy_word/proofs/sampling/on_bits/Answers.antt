@@ -6,13 +6,13 @@ use Rattle.lucy_word.proofs.SamplingLaws.{IsOn-from, IsWord-on, AreComputedLengt
 use Rattle.lucy_word.proofs.StepLaws.{bit_on-left}
 use Rattle.lucy_word.proofs.sampling.on_bits.Goals as goal
 
-lengths : (c : goal.In_ok-period) → AreComputedLengths c.args.a.now c.args.b.now (length c.in_ok-prefix.prefix.items) (length c.in_ok-period.period.items)
+lengths : (c : goal.In_ok-period) → AreComputedLengths c.args.a.now c.args.b.now (length c.in_ok-prefix.prefix) (length c.in_ok-period.period)
 lengths c =
     let P : ℕ → Type 0 = λ n. AreComputedLengths c.args.a.now c.args.b.now n c.in-Some.period_len in
-    let Q : ℕ → Type 0 = λ n. AreComputedLengths c.args.a.now c.args.b.now (length c.in_ok-prefix.prefix.items) n in
+    let Q : ℕ → Type 0 = λ n. AreComputedLengths c.args.a.now c.args.b.now (length c.in_ok-prefix.prefix) n in
     subst Q (sym c.in_ok-period.ensures.count) (subst P (sym c.in_ok-prefix.ensures.count) c.in-Some.ensures.lengths)
 
-nonempty : (c : goal.In_ok-period) → 0 < length c.in_ok-period.period.items
+nonempty : (c : goal.In_ok-period) → 0 < length c.in_ok-period.period
 nonempty c = AreComputedLengths-some c.args.a.now c.args.b.now _ _ (lengths c) c.computed_lengths.ensures.first
 
 -- the bits of both lists, from walks that began with a and b
@@ -27,7 +27,7 @@ whole a b x y u v w e f first left next lengths some =
     let S : Bits → Type 0 = λ k. IsOn a k w in
     subst S f (subst R e on)
 
-on : (c : goal.In_ok-period) → IsOn c.args.a.now c.args.b.now (record { prefix = c.in_ok-prefix.prefix.items; period = c.in_ok-period.period.items })
+on : (c : goal.In_ok-period) → IsOn c.args.a.now c.args.b.now (record { prefix = c.in_ok-prefix.prefix; period = c.in_ok-period.period })
 on c =
     let P : ℕ → Type 0 = λ n. IsLeft c.walk-kept.result c.walk-read.result n c.steps.new.a c.steps.new.b in
     whole c.args.a.now c.args.b.now c.walk-kept.result c.walk-read.result c.steps.new.a c.steps.new.b _ c.walk-kept.ensures c.walk-read.ensures
@@ -38,7 +38,7 @@ returns-clause-on c = on c
 
 pub returns-clause-has_one : goal.returns-clause-has_one
 returns-clause-has_one c =
-    (IsWord-on c.args.a.now c.args.b.now (record { prefix = c.in_ok-prefix.prefix.items; period = c.in_ok-period.period.items }) (on c)
+    (IsWord-on c.args.a.now c.args.b.now (record { prefix = c.in_ok-prefix.prefix; period = c.in_ok-period.period }) (on c)
     c.computed_lengths.ensures.first c.computed_lengths.ensures.second (nonempty c)).has_one
 
 pub returns-clause-nonempty : goal.returns-clause-nonempty

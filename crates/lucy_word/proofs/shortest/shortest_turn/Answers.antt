@@ -1,17 +1,18 @@
 use Rattle.std.proofs.Common.{ℕ, ◌+◌, ◌/◌, ◌<◌, ◌≤◌, ◌≡◌, length, take, List, Bool, refl, sym, ◌∙◌, subst, arith}
 use Rattle.std.proofs.Math.Nat.{pos_of_dvd_of_pos, le_of_dvd}
 use Rattle.std.proofs.lemmas.Bool.{false≢true}
-use Rattle.std.proofs.lemmas.List.{length-take}
-use Prim.Native.Nat.{◌∣◌}
 use Rattle.lucy_word.specs.Bits.{bit_at}
 use Rattle.lucy_word.specs.Turns.{Repeats, turning}
 use Rattle.lucy_word.proofs.ShortPrefix.{turn_bits}
 use Rattle.lucy_word.proofs.ShortTurn.{Reducing, reducing_start, reducing_next, reducing_hit, reducing_miss, reducing_done, factor_within, part_divides, part_of_turn}
 use Rattle.lucy_word.proofs.shortest.shortest_turn.Goals as goal
 
+start : (v : List Bool) (n : ℕ) → n ≡ length v → 0 < length v → Reducing v n n 2
+start v n e some = subst (λ k. Reducing v k k 2) (sym e) (reducing_start v some)
+
 pub loop-rest-init : goal.loop-rest-init
 loop-rest-init c = record {
-  reducing = reducing_start c.args.period.now c.requires.nonempty;
+  reducing = start c.args.period.now c.len-turn.result c.len-turn.ensures.len c.requires.nonempty;
   passed = omega arith;
   other = λ same. absurd (omega (arith, same));
 }
@@ -21,10 +22,6 @@ rest_within : (v : List Bool) (turn rest factor : ℕ) → Reducing v turn rest 
 rest_within v turn rest factor h some =
     let some_turn : 0 < turn = pos_of_dvd_of_pos h.whole some in
     omega (arith, le_of_dvd some h.whole, le_of_dvd some_turn h.rest_divides)
-
--- the turn has as many bits as it is long
-turn_length : (v : List Bool) (turn rest factor : ℕ) → Reducing v turn rest factor → 0 < length v → length (take turn v) ≡ turn
-turn_length v turn rest factor h some = omega (arith, length-take turn v, le_of_dvd some h.whole)
 
 -- its bits come again after a distance exactly where those of the period do
 of_turn : (v : List Bool) (turn rest factor d : ℕ) → Reducing v turn rest factor → 0 < length v →
@@ -60,25 +57,18 @@ loop-rest-preserved-then-rest-factor-ne0 c = record {
   other = λ same. absurd (omega (arith, same, c.loop-rest.invariant.passed));
 }
 
-pub slice_bounds-comes_again-end : goal.slice_bounds-comes_again-end
-slice_bounds-comes_again-end c =
-    sym (turn_length c.args.period.now c.loop-rest.turn c.loop-rest.rest c.loop-rest.factor c.loop-rest.invariant.reducing c.requires.nonempty)
+pub comes_again-requires-clause-within : goal.comes_again-requires-clause-within
+comes_again-requires-clause-within c = le_of_dvd c.requires.nonempty c.loop-rest.invariant.reducing.whole
 
 pub comes_again-requires-clause-nonempty : goal.comes_again-requires-clause-nonempty
-comes_again-requires-clause-nonempty c =
-    let same = turn_length c.args.period.now c.loop-rest.turn c.loop-rest.rest c.loop-rest.factor c.loop-rest.invariant.reducing c.requires.nonempty in
-    let some = pos_of_dvd_of_pos c.loop-rest.invariant.reducing.whole c.requires.nonempty in
-    omega (arith, same, some)
+comes_again-requires-clause-nonempty c = pos_of_dvd_of_pos c.loop-rest.invariant.reducing.whole c.requires.nonempty
 
 pub comes_again-requires-clause-some : goal.comes_again-requires-clause-some
 comes_again-requires-clause-some c =
     pos_of_dvd_of_pos (part_divides c.args.period.now c.loop-rest.turn c.loop-rest.rest c.loop-rest.factor c.loop-rest.invariant.reducing c.if-rest-factor-ne0.false) c.requires.nonempty
 
 pub comes_again-requires-clause-whole : goal.comes_again-requires-clause-whole
-comes_again-requires-clause-whole c =
-    let same = turn_length c.args.period.now c.loop-rest.turn c.loop-rest.rest c.loop-rest.factor c.loop-rest.invariant.reducing c.requires.nonempty in
-    let P : ℕ → Type 0 = λ n. c.loop-rest.turn / c.loop-rest.factor ∣ n in
-    subst P (sym same) (part_of_turn c.args.period.now c.loop-rest.turn c.loop-rest.rest c.loop-rest.factor c.loop-rest.invariant.reducing c.if-rest-factor-ne0.false)
+comes_again-requires-clause-whole c = part_of_turn c.args.period.now c.loop-rest.turn c.loop-rest.rest c.loop-rest.factor c.loop-rest.invariant.reducing c.if-rest-factor-ne0.false
 
 -- the factor that was refused is refused again
 pub loop-rest-preserved-then-factor-refused : goal.loop-rest-preserved-then-factor-refused

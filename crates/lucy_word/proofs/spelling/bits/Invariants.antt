@@ -6,7 +6,7 @@ use Rattle.lucy_word.proofs.CuttingLaws.{Reading}
 use Rattle.lucy_word.proofs.spelling.bits.Given as goal
 
 abbrev pub invariant-items : goal.invariant-items
-invariant-items l = (is : List Item) → AllByRecursion IsItem is → l.items ≡ items_text is → length (items_bits is) < most_count → Reading l.items l.rest l.bits.items is
+invariant-items l = (is : List Item) → AllByRecursion IsItem is → l.items ≡ items_text is → length (items_bits is) < most_count → Reading l.items l.rest l.bits is
 
 abbrev pub decreases-items : goal.decreases-items
 decreases-items l = length l.rest
