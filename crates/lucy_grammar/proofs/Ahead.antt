@@ -1,7 +1,8 @@
 -- The first token of what a derivation spells, and then of what may follow, is of a kind of the table.
 use Rattle.std.proofs.Common.{ℕ, ◌≡◌, true, List, [], ◌∷◌, ◌++◌, Some, refl, sym, subst, append_assoc}
+use Rattle.std.specs.List.{slice_get}
 use Rattle.lucy_token.specs.declared.token.Token.{Token}
-use Rattle.lucy_grammar.specs.Sets.{within, nth}
+use Rattle.lucy_grammar.specs.Sets.{within}
 use Rattle.lucy_grammar.specs.Kinds.{ahead}
 use Rattle.lucy_grammar.specs.Symbols.{Part, Sym, token, part, many, perhaps, Rule}
 use Rattle.lucy_grammar.specs.Grammar.{rules}
@@ -16,7 +17,7 @@ ahead_append [] y z e = e
 ahead_append (t ∷ front) y z e = refl
 
 -- tokens with a part in front begin with one of its kinds
-part_first : (Y : Part) (i : ℕ) (p : Rule Y) → nth (rules Y) i ≡ Some p → (a b tail : List Token) → within (ahead (a ++ (b ++ tail))) (look Y p.syms) ≡ true → within (ahead ((a ++ b) ++ tail)) (begins Y) ≡ true
+part_first : (Y : Part) (i : ℕ) (p : Rule Y) → slice_get (rules Y) i ≡ Some p → (a b tail : List Token) → within (ahead (a ++ (b ++ tail))) (look Y p.syms) ≡ true → within (ahead ((a ++ b) ++ tail)) (begins Y) ≡ true
 part_first Y i p e a b tail w =
     subst (λ (u : List Token). within (ahead u) (begins Y) ≡ true) (sym (append_assoc a b tail)) (within_subset (look Y p.syms) (begins Y) _ (rule_good Y i p e).1 w)
 
@@ -36,7 +37,7 @@ first_fits X (perhaps Y ∷ syms) g (present i p e a b) tail f =
     within_left (begins Y) (look X syms) _ (part_first Y i p e (spelled a) (spelled b) tail (first_fits Y p.syms (rule_good Y i p e).0 a (spelled b ++ tail) behind))
 
 -- a part that is there begins with one of its kinds
-pub begins_so : (Y : Part) (i : ℕ) (p : Rule Y) → nth (rules Y) i ≡ Some p → (d : Deriv p.syms) (t : List Token) → Follows Y t → within (ahead (spelled d ++ t)) (begins Y) ≡ true
+pub begins_so : (Y : Part) (i : ℕ) (p : Rule Y) → slice_get (rules Y) i ≡ Some p → (d : Deriv p.syms) (t : List Token) → Follows Y t → within (ahead (spelled d ++ t)) (begins Y) ≡ true
 begins_so Y i p e d t f = within_subset (look Y p.syms) (begins Y) _ (rule_good Y i p e).1 (first_fits Y p.syms (rule_good Y i p e).0 d t f)
 
 -- what comes after a part of the symbols may follow it

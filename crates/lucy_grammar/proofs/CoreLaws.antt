@@ -1,6 +1,7 @@
 -- A program's tokens are the printed ones but for parentheses.
 use Rattle.std.proofs.Common.{ℕ, zero, suc, ◌≡◌, List, [], ◌∷◌, ◌++◌, Some, map, refl, ap, sym, ◌∙◌, subst, append_assoc}
 use Rattle.std.proofs.lemmas.List.{append-nil, map-append}
+use Rattle.std.specs.List.{slice_get}
 use Rattle.lucy_tree.specs.View.{ProgramTree}
 use Rattle.lucy_token.specs.declared.token.Kind.{Kind}
 use Rattle.lucy_token.specs.declared.token.Kind.TheVariants as kind
@@ -9,7 +10,6 @@ use Rattle.lucy_token.specs.declared.token.What.TheVariants as what
 use Rattle.lucy_token.specs.declared.token.Token.{Token}
 use Rattle.lucy_token.specs.Tokens.{kind_of}
 use Rattle.lucy_token.specs.Spelled.{whats_of}
-use Rattle.lucy_grammar.specs.Sets.{nth}
 use Rattle.lucy_grammar.specs.Symbols.{Sym, token, part, many, perhaps, Rule, Part, Program}
 use Rattle.lucy_grammar.specs.Grammar.{rules}
 use Rattle.lucy_grammar.specs.Derivations.{Deriv, done, take, by_rule, enough, again, absent, present, spelled, value}
@@ -23,7 +23,7 @@ use Rattle.lucy_grammar.proofs.PrintableLaws.{goods, all_stand}
 use Rattle.lucy_grammar.proofs.Cores.{core, without-append, flat, token_of, all_flat, flats}
 use Rattle.lucy_grammar.proofs.CoreRules.{IsFlat, AreFlat, all_are_flat}
 
-flat_in : (X : Part) (ps : List (Rule X)) (i : ℕ) (p : Rule X) → AreFlat X ps → nth ps i ≡ Some p → IsFlat X p
+flat_in : (X : Part) (ps : List (Rule X)) (i : ℕ) (p : Rule X) → AreFlat X ps → slice_get ps i ≡ Some p → IsFlat X p
 flat_in X [] i p h e = absurd cc
 flat_in X (q ∷ ps) zero p h e =
     let same : q ≡ p = cc in

@@ -16,7 +16,8 @@ use Rattle.lucy_token.specs.declared.state.Side.{Side}
 use Rattle.lucy_token.specs.declared.state.Side.TheVariants as side
 use Rattle.lucy_token.specs.declared.state.Level.{Level}
 use Rattle.lucy_token.specs.Tokens.{kind_of}
-use Rattle.lucy_token.specs.States.{State, after, closed, side_after, side_defined, counted_after, nodes_after, past, past_tokens, limit_passed}
+use Rattle.lucy_token.specs.Before.{past}
+use Rattle.lucy_token.specs.States.{State, after, closed, side_after, side_defined, counted_after, nodes_after, past_tokens, limit_passed}
 use Rattle.lucy_grammar.specs.Parens.{without_parens}
 use Rattle.lucy_grammar.proofs.CutLimits.{AllPass}
 
@@ -70,6 +71,7 @@ head_defined before = refl
 pub same_head : (at : Side) (before k : Kind) → is_head (side_after at before k) ≡ head_after (is_head at) k
 same_head side.Left before (kind.Mark mark.Equals) = head_defined before
 same_head side.Left before k = refl
+same_head side.Called before (kind.Mark mark.Equals) = head_defined before
 same_head side.Called before (kind.Mark mark.Open) = refl
 same_head side.Called before k = refl
 same_head side.Head before (kind.Mark mark.Let) = refl

@@ -2,11 +2,11 @@
 use Rattle.std.proofs.Common.{ℕ, zero, suc, ◌≡◌, false, List, [], ◌∷◌, ◌++◌, Some, refl, sym, ◌∙◌, subst, append_assoc}
 use Rattle.std.proofs.lemmas.List.{append-nil}
 use Rattle.std.specs.List.{AllByRecursion}
+use Rattle.std.specs.List.{slice_get}
 use Rattle.lucy_tree.specs.View.{ProgramTree}
 use Rattle.lucy_token.specs.declared.token.Kind.{Kind}
 use Rattle.lucy_token.specs.declared.token.Token.{Token}
 use Rattle.lucy_token.specs.States.{State, after, is_past_last}
-use Rattle.lucy_grammar.specs.Sets.{nth}
 use Rattle.lucy_grammar.specs.Symbols.{Sym, token, part, many, perhaps, Rule, Part, Program}
 use Rattle.lucy_grammar.specs.Grammar.{rules}
 use Rattle.lucy_grammar.specs.Derivations.{Deriv, done, take, by_rule, enough, again, absent, present, spelled, value}
@@ -17,7 +17,7 @@ use Rattle.lucy_grammar.proofs.CutLimits.{AllPass}
 use Rattle.lucy_grammar.proofs.FewEntries.{IsFewNode, Spec, Behind, Makes, AllMake}
 use Rattle.lucy_grammar.proofs.FewRules.{all_make}
 
-makes_in : (X : Part) (ps : List (Rule X)) (i : ℕ) (p : Rule X) → AllMake X ps → nth ps i ≡ Some p → Makes X p
+makes_in : (X : Part) (ps : List (Rule X)) (i : ℕ) (p : Rule X) → AllMake X ps → slice_get ps i ≡ Some p → Makes X p
 makes_in X [] i p h e = absurd cc
 makes_in X (q ∷ ps) zero p h e =
     let same : q ≡ p = cc in

@@ -13,7 +13,7 @@ use Rattle.lucy_token.specs.declared.token.Token.{Token}
 use Rattle.lucy_token.specs.declared.state.Side.{Side}
 use Rattle.lucy_token.specs.declared.state.Side.TheVariants as side
 use Rattle.lucy_token.specs.States.{State, after, side_defined, begins_entry, is_past_last}
-use Rattle.lucy_token.proofs.WrittenLaws.{before_after}
+use Rattle.lucy_token.proofs.StateLaws.{before_after}
 use Rattle.lucy_grammar.specs.Symbols.{Val, Link, Body, Decls, Typing, ClockOf, Sampling, Followed, Held, Lit, Applied, Base, Args, MoreExpr}
 use Rattle.lucy_grammar.specs.Meanings.{linked, grouped, sampled_by, compared, literal_before, held, named, all_of, args_of}
 use Rattle.lucy_grammar.proofs.Levels.{Keeps, keeps_self, keeps_then, keeps_plain, is_plain, IsDue, due_right, opened, no_commas, opened_right, opened_still, IsStill, closed_after, keeps_parens, one_on, few_before}

@@ -13,9 +13,10 @@ use Rattle.lucy_token.specs.declared.token.What.TheVariants as what
 use Rattle.lucy_token.specs.declared.state.Side.{Side}
 use Rattle.lucy_token.specs.declared.state.Side.TheVariants as side
 use Rattle.lucy_token.specs.Tokens.{kind_of}
-use Rattle.lucy_token.specs.States.{State, served, after, side_defined, precedes_operand, begins_operand, is_past_last}
+use Rattle.lucy_token.specs.Before.{precedes_operand}
+use Rattle.lucy_token.specs.States.{State, served, after, side_defined, begins_operand, is_past_last}
 use Rattle.lucy_token.specs.Spelled.{is_negative, Printed, in_print, whats_of}
-use Rattle.lucy_token.proofs.WrittenLaws.{before_after}
+use Rattle.lucy_token.proofs.StateLaws.{before_after}
 use Rattle.lucy_grammar.specs.Print.{blank, the, after_commas, commas, parens}
 use Rattle.lucy_grammar.specs.Print as print
 use Rattle.lucy_grammar.proofs.FewEntries.{most}

@@ -15,9 +15,10 @@ use Rattle.lucy_token.specs.declared.token.What.{What}
 use Rattle.lucy_token.specs.declared.token.What.TheVariants as what
 use Rattle.lucy_token.specs.declared.state.Side.{Side}
 use Rattle.lucy_token.specs.declared.state.Side.TheVariants as side
-use Rattle.lucy_token.specs.States.{State, start, after, side_defined, precedes_operand}
+use Rattle.lucy_token.specs.Before.{precedes_operand}
+use Rattle.lucy_token.specs.States.{State, start, after, side_defined}
 use Rattle.lucy_token.specs.Spelled.{Printed, in_print, whats_of}
-use Rattle.lucy_token.proofs.WrittenLaws.{before_after}
+use Rattle.lucy_token.proofs.StateLaws.{before_after}
 use Rattle.lucy_tree.specs.Shaped.{IsCall, Defines}
 use Rattle.lucy_grammar.specs.Printable.{IsPrintableDef, IsPrintableNode, IsPrintableProgram, Anywhere}
 use Rattle.lucy_grammar.specs.Print.{blank, indent, line, the, spaced, words, commas, parens, name_token, printed, printed_decl, printed_left, printed_def, more_defs, printed_body, printed_node, more_nodes, printed_program}

@@ -16,7 +16,8 @@ use Rattle.lucy_token.specs.declared.token.Kind.TheVariants as kind
 use Rattle.lucy_token.specs.declared.token.What.TheVariants as what
 use Rattle.lucy_token.specs.declared.state.Side.{Side}
 use Rattle.lucy_token.specs.declared.state.Side.TheVariants as side
-use Rattle.lucy_token.specs.States.{after, precedes_operand}
+use Rattle.lucy_token.specs.Before.{precedes_operand}
+use Rattle.lucy_token.specs.States.{after}
 use Rattle.lucy_token.specs.Spelled.{Printed, in_print}
 use Rattle.lucy_grammar.specs.Parens.{kept}
 use Rattle.lucy_grammar.specs.Meanings.{two}

@@ -10,7 +10,8 @@ use Rattle.lucy_token.specs.declared.token.Kind.TheVariants as kind
 use Rattle.lucy_token.specs.declared.state.Side.{Side}
 use Rattle.lucy_token.specs.declared.state.Side.TheVariants as side
 use Rattle.lucy_token.specs.declared.state.Level.{Level}
-use Rattle.lucy_token.specs.States.{State, fresh, served, merging, after, closed, side_after, side_defined, is_comma, begins_entry, is_right, precedes_operand, begins_operand, is_past_last}
+use Rattle.lucy_token.specs.Before.{precedes_operand}
+use Rattle.lucy_token.specs.States.{State, fresh, served, merging, after, closed, side_after, side_defined, is_comma, begins_entry, is_right, begins_operand, is_past_last}
 
 pub record Keeps (s j : State) : Type 0 where
   pub at : j.side ≡ s.side

@@ -42,8 +42,3 @@ mod Fitting
 mod FittingTrees
 mod FittingPrograms
 pub mod RoundTrip
-mod PlainLimitsLaws
-mod PlainNames
-mod Balance
-mod Groups
-mod Sides

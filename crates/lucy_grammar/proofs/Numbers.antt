@@ -1,5 +1,6 @@
 -- The number of a kind is its own.
 use Rattle.std.proofs.Common.{ℕ, ◌≡◌, Bool, true, false, if◌then◌else◌, ◌&&◌, nat_le, ◌++◌, List, [], ◌∷◌, Some, map, refl, ap, sym, ◌∙◌, subst}
+use Rattle.std.specs.List.{slice_get}
 use Rattle.lucy_token.specs.declared.mark.Mark.{Mark}
 use Rattle.lucy_token.specs.declared.mark.Mark.TheVariants as mark
 use Rattle.lucy_token.specs.declared.token.Kind.{Kind}
@@ -10,7 +11,7 @@ use Rattle.lucy_token.specs.declared.token.What.{What}
 use Rattle.lucy_token.specs.declared.token.What.TheVariants as what
 use Rattle.lucy_token.specs.declared.token.Token.{Token}
 use Rattle.lucy_token.specs.Tokens.{kind_of, first}
-use Rattle.lucy_grammar.specs.Sets.{within, subset, nth}
+use Rattle.lucy_grammar.specs.Sets.{within, subset}
 use Rattle.lucy_grammar.specs.Kinds.{mark_number, number, class_number, kind_class, bound_class, what_number, ahead, kind_numbers, Sort, of, bound, unbound, sort_kind, sort_numbers, Fits}
 use Rattle.lucy_grammar.proofs.Sets.{within_cases, within_subset, within_one, within_either, same_number}
 
@@ -24,7 +25,7 @@ kinds : List Kind
 kinds = kind.End ∷ kind.Name ∷ kind.Number ∷ kind.Word ∷ (map (λ m. kind.Mark m) marks ++ kind.Number ∷ [])
 
 -- the kind at the place of its number is that kind
-at_number : (k : Kind) → nth kinds (number k) ≡ Some k
+at_number : (k : Kind) → slice_get kinds (number k) ≡ Some k
 unfolding kinds marks
 at_number kind.End = refl
 at_number kind.Name = refl
@@ -34,12 +35,12 @@ at_number (kind.Mark mark.Let) = refl
 at_number (kind.Mark _) = refl
 
 -- and that at the place of a token's number is the token's
-at_either : (b : Bool) → nth kinds (class_number (if b then bound_class else kind_class kind.Number)) ≡ Some kind.Number
+at_either : (b : Bool) → slice_get kinds (class_number (if b then bound_class else kind_class kind.Number)) ≡ Some kind.Number
 unfolding kinds marks
 at_either true = refl
 at_either false = refl
 
-at_what : (w : What) → nth kinds (what_number w) ≡ Some (kind_of w)
+at_what : (w : What) → slice_get kinds (what_number w) ≡ Some (kind_of w)
 unfolding kinds marks
 at_what (what.Mark m) = at_number (kind.Mark m)
 at_what (what.Name bytes) = refl
@@ -47,21 +48,21 @@ at_what (what.Word w) = refl
 at_what (what.Number (pos n)) = at_either (nat_le n most_bound)
 at_what (what.Number (negsuc n)) = refl
 
-at_ahead : (ts : List Token) → nth kinds (ahead ts) ≡ Some (first ts)
+at_ahead : (ts : List Token) → slice_get kinds (ahead ts) ≡ Some (first ts)
 unfolding kinds marks
 at_ahead [] = refl
 at_ahead (t ∷ ts) = at_what t.what
 
-at_one : (k : Kind) (n : ℕ) → within n (number k ∷ []) ≡ true → nth kinds n ≡ Some k
-at_one k n w = ap (nth kinds) (sym (within_one (number k) n w)) ∙ at_number k
+at_one : (k : Kind) (n : ℕ) → within n (number k ∷ []) ≡ true → slice_get kinds n ≡ Some k
+at_one k n w = ap (slice_get kinds) (sym (within_one (number k) n w)) ∙ at_number k
 
-at_kind : (k : Kind) (n : ℕ) → within n (kind_numbers k) ≡ true → nth kinds n ≡ Some k
+at_kind : (k : Kind) (n : ℕ) → within n (kind_numbers k) ≡ true → slice_get kinds n ≡ Some k
 unfolding kinds marks
 at_kind kind.End n w = at_one kind.End n w
 at_kind kind.Name n w = at_one kind.Name n w
 at_kind kind.Word n w = at_one kind.Word n w
 at_kind (kind.Mark m) n w = at_one (kind.Mark m) n w
-at_kind kind.Number n w = within_cases 2 n (43 ∷ []) _ w (λ e. ap (nth kinds) (sym e) ∙ at_number kind.Number) (λ v. ap (nth kinds) (sym (within_one 43 n v)) ∙ at_either true)
+at_kind kind.Number n w = within_cases 2 n (43 ∷ []) _ w (λ e. ap (slice_get kinds) (sym e) ∙ at_number kind.Number) (λ v. ap (slice_get kinds) (sym (within_one 43 n v)) ∙ at_either true)
 
 -- tokens whose first number is one of a kind begin with that kind
 pub ahead_kind : (ts : List Token) (k : Kind) → within (ahead ts) (kind_numbers k) ≡ true → first ts ≡ k

@@ -3,6 +3,7 @@ use Rattle.std.specs.Prelude.{pos, negsuc}
 use Rattle.std.proofs.lemmas.Bool.Decides.{nat_tests}
 use Rattle.std.proofs.Common.{◌≤◌, nat_le, true, arith, ℕ, zero, suc, ◌≡◌, Bool, List, [], ◌∷◌, ◌++◌, length, Option, Some, None, refl, sym, subst}
 use Rattle.std.specs.List.{AllByRecursion}
+use Rattle.std.specs.List.{slice_get}
 use Rattle.lucy_word.specs.Bits.{Bits}
 use Rattle.lucy_tree.specs.declared.decl.Decl as decl
 use Rattle.lucy_tree.specs.Tree.{Tree, Trees, trees_of, list_of}
@@ -14,7 +15,6 @@ use Rattle.lucy_token.specs.declared.token.What.{What}
 use Rattle.lucy_token.specs.declared.token.What.TheVariants as what
 use Rattle.lucy_token.specs.declared.token.Token.{Token}
 use Rattle.lucy_token.specs.Tokens.{kind_of}
-use Rattle.lucy_grammar.specs.Sets.{nth}
 use Rattle.lucy_grammar.specs.Kinds.{is_bound, Fits, bound, sort_kind}
 use Rattle.lucy_grammar.proofs.Numbers.{fits_kind}
 use Rattle.lucy_grammar.specs.Symbols.{Sym, token, part, many, perhaps, Rule, Val, Vals, Link, Part, Program, Node, Title, Params, Results, Names, Ident, MoreName, Body, Decls, MoreDecl, Decl, Typing, TypeName, ClockOf, Defs, Def, MoreDef, Lefts, Expr, Or, MoreAnd, And, MoreCmp, Cmp, Compared, CmpOp, Sum, MoreProd, SumOp, Prod, MoreSamp, ProdOp, Samp, Sampling, Pre, Followed, Form, Buffered, Held, Other, Atom, Small, Lit, Pair, Call, Applied, Base, Args, MoreExpr}
@@ -259,7 +259,7 @@ all_keep Q Base = (λ k vs (_, (_, (e, (q, _)))). word_from Q _ vs.1.0.what e q,
 all_keep Q Args = (λ k vs h. (h.0, trees_good Q vs.1.0 h.1.1.0), tt)
 all_keep Q MoreExpr = (λ k vs (_, (_, (e, _))). e, tt)
 
-keeps_in : (Q : Kind → What → Type 0) (X : Part) (ps : List (Rule X)) (i : ℕ) (p : Rule X) → Keep Q X ps → nth ps i ≡ Some p → Keeps Q X p
+keeps_in : (Q : Kind → What → Type 0) (X : Part) (ps : List (Rule X)) (i : ℕ) (p : Rule X) → Keep Q X ps → slice_get ps i ≡ Some p → Keeps Q X p
 keeps_in Q X [] i p h e = absurd cc
 keeps_in Q X (q ∷ ps) zero p h e =
     let same : q ≡ p = cc in

@@ -1,8 +1,9 @@
 -- A production, chosen by the first token.
 use Rattle.std.proofs.Common.{ℕ, zero, suc, ◌≡◌, true, List, [], ◌∷◌, ◌++◌, Some, refl, ap, sym, ◌∙◌, subst}
 use Rattle.std.proofs.lemmas.List.{append-nil}
+use Rattle.std.specs.List.{slice_get}
 use Rattle.lucy_token.specs.declared.token.Token.{Token}
-use Rattle.lucy_grammar.specs.Sets.{within, nth}
+use Rattle.lucy_grammar.specs.Sets.{within}
 use Rattle.lucy_grammar.specs.Kinds.{ahead}
 use Rattle.lucy_grammar.specs.Symbols.{Part, part, Rule, Vals}
 use Rattle.lucy_grammar.specs.Grammar.{rules}
@@ -15,9 +16,9 @@ use Rattle.lucy_grammar.proofs.Ahead.{ahead_append, first_fits}
 
 -- no other production fits the kind
 abbrev pub Alone : (X : Part) → Rule X → ℕ → Type 0
-Alone X p k = (j : ℕ) (q : Rule X) → nth (rules X) j ≡ Some q → within k (look X q.syms) ≡ true → q ≡ p
+Alone X p k = (j : ℕ) (q : Rule X) → slice_get (rules X) j ≡ Some q → within k (look X q.syms) ≡ true → q ≡ p
 
-pub by_first : (X : Part) (i : ℕ) (p : Rule X) (k : ℕ) → nth (rules X) i ≡ Some p → within k (look X p.syms) ≡ true → Alone X p k
+pub by_first : (X : Part) (i : ℕ) (p : Rule X) (k : ℕ) → slice_get (rules X) i ≡ Some p → within k (look X p.syms) ≡ true → Alone X p k
 by_first X i p k e l j q f m = rule_alone X j i q p k f e m l
 
 -- the kind begins none of the productions
@@ -25,7 +26,7 @@ abbrev pub NoneFits : (X : Part) → ℕ → List (Rule X) → Type 0
 NoneFits X k [] = Unit {0}
 NoneFits X k (q ∷ ps) = (within k (look X q.syms) ≡ true → ⊥) × NoneFits X k ps
 
-none_fits : (X : Part) (k : ℕ) (ps : List (Rule X)) (j : ℕ) (q : Rule X) → NoneFits X k ps → nth ps j ≡ Some q → within k (look X q.syms) ≡ true → ⊥
+none_fits : (X : Part) (k : ℕ) (ps : List (Rule X)) (j : ℕ) (q : Rule X) → NoneFits X k ps → slice_get ps j ≡ Some q → within k (look X q.syms) ≡ true → ⊥
 none_fits X k [] j q n f m = absurd cc
 none_fits X k (r ∷ ps) zero q n f m =
     let same : r ≡ q = cc in
@@ -38,8 +39,8 @@ Others X k [] i = Unit {0}
 Others X k (q ∷ ps) zero = NoneFits X k ps
 Others X k (q ∷ ps) (suc i) = (within k (look X q.syms) ≡ true → ⊥) × Others X k ps i
 
-by_others_in : (X : Part) (k : ℕ) (ps : List (Rule X)) (i : ℕ) (p : Rule X) → nth ps i ≡ Some p → Others X k ps i →
-    (j : ℕ) (q : Rule X) → nth ps j ≡ Some q → within k (look X q.syms) ≡ true → q ≡ p
+by_others_in : (X : Part) (k : ℕ) (ps : List (Rule X)) (i : ℕ) (p : Rule X) → slice_get ps i ≡ Some p → Others X k ps i →
+    (j : ℕ) (q : Rule X) → slice_get ps j ≡ Some q → within k (look X q.syms) ≡ true → q ≡ p
 by_others_in X k [] i p e o j q f m = absurd cc
 by_others_in X k (r ∷ ps) zero p e o zero q f m = cc
 by_others_in X k (r ∷ ps) zero p e o (suc j) q f m = absurd (none_fits X k ps j q o f m)
@@ -48,14 +49,14 @@ by_others_in X k (r ∷ ps) (suc i) p e o zero q f m =
     absurd (o.0 (subst (λ (s : Rule X). within k (look X s.syms) ≡ true) (sym same) m))
 by_others_in X k (r ∷ ps) (suc i) p e o (suc j) q f m = by_others_in X k ps i p e o.1 j q f m
 
-pub by_others : (X : Part) (i : ℕ) (p : Rule X) (k : ℕ) → nth (rules X) i ≡ Some p → Others X k (rules X) i → Alone X p k
+pub by_others : (X : Part) (i : ℕ) (p : Rule X) (k : ℕ) → slice_get (rules X) i ≡ Some p → Others X k (rules X) i → Alone X p k
 by_others X i p k e o j q f m = by_others_in X k (rules X) i p e o j q f m
 
 -- a production is chosen by the first token
 record Chosen (X : Part) (d : Deriv (part X ∷ [])) : Type 0 where
   place : ℕ
   rule : Rule X
-  there : nth (rules X) place ≡ Some rule
+  there : slice_get (rules X) place ≡ Some rule
   inner : Deriv rule.syms
   spells : spelled d ≡ spelled inner
   means : value d ≡ (rule.meaning (value inner), tt)
@@ -66,11 +67,11 @@ chosen X (by_rule i p e a done) = record { place = i; rule = p; there = e; inner
 -- the only production of a part
 pub only_one : (X : Part) (p : Rule X) (k : ℕ) → rules X ≡ p ∷ [] → Alone X p k
 only_one X p k e =
-    let at : nth (rules X) 0 ≡ Some p = ap (λ (ps : List (Rule X)). nth ps 0) e in
+    let at : slice_get (rules X) 0 ≡ Some p = ap (λ (ps : List (Rule X)). slice_get ps 0) e in
     by_others X 0 p k at (subst (λ (ps : List (Rule X)). Others X k ps 0) (sym e) tt)
 
 -- the production of any derivation whose tokens begin like these is this one
-the_rule : (X : Part) (i : ℕ) (p : Rule X) (ts front rest z : List Token) → nth (rules X) i ≡ Some p → Alone X p (ahead ts) → ts ≡ front ++ rest → ahead z ≡ ahead rest →
+the_rule : (X : Part) (i : ℕ) (p : Rule X) (ts front rest z : List Token) → slice_get (rules X) i ≡ Some p → Alone X p (ahead ts) → ts ≡ front ++ rest → ahead z ≡ ahead rest →
     (d : Deriv (part X ∷ [])) (tail : List Token) → Follows X tail → front ++ z ≡ spelled d ++ tail → (a : Deriv p.syms) × (spelled d ≡ spelled a) × (value d ≡ (p.meaning (value a), tt))
 the_rule X i p ts front rest z e l whole s d tail f same =
     let c = chosen X d in
@@ -81,7 +82,7 @@ the_rule X i p ts front rest z e l whole s d tail f same =
     let P : Rule X → Type 0 = λ q. (a : Deriv q.syms) × (spelled d ≡ spelled a) × (value d ≡ (q.meaning (value a), tt)) in
     subst P one (c.inner, c.spells, c.means)
 
-pub rule_taken : (X : Part) (i : ℕ) (p : Rule X) (ts : List Token) (vs : Vals p.syms) (rest : List Token) → nth (rules X) i ≡ Some p → Alone X p (ahead ts) →
+pub rule_taken : (X : Part) (i : ℕ) (p : Rule X) (ts : List Token) (vs : Vals p.syms) (rest : List Token) → slice_get (rules X) i ≡ Some p → Alone X p (ahead ts) →
     Takes X p.syms ts vs rest → Takes X (part X ∷ []) ts (p.meaning vs, tt) rest
 rule_taken X i p ts vs rest e l r = record {
   front = r.front;
@@ -95,7 +96,7 @@ rule_taken X i p ts vs rest e l r = record {
       (c.2 ∙ ap (λ (u : Vals p.syms). (p.meaning u, tt)) one.0, one.1);
 }
 
-pub rule_refused : (X : Part) (i : ℕ) (p : Rule X) (ts rest : List Token) → nth (rules X) i ≡ Some p → Alone X p (ahead ts) →
+pub rule_refused : (X : Part) (i : ℕ) (p : Rule X) (ts rest : List Token) → slice_get (rules X) i ≡ Some p → Alone X p (ahead ts) →
     Refuses X p.syms ts rest → Refuses X (part X ∷ []) ts rest
 rule_refused X i p ts rest e l r = record {
   front = r.front;

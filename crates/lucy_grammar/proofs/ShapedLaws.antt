@@ -17,7 +17,8 @@ use Rattle.lucy_token.specs.declared.token.Kind.TheVariants as kind
 use Rattle.lucy_token.specs.declared.token.What.{What}
 use Rattle.lucy_token.specs.declared.token.What.TheVariants as what
 use Rattle.lucy_token.specs.Tokens.{kind_of}
-use Rattle.lucy_token.specs.States.{start, nodes_after, wants_zero}
+use Rattle.lucy_token.specs.Before.{wants_zero}
+use Rattle.lucy_token.specs.States.{start, nodes_after}
 use Rattle.lucy_token.specs.Written.{IsWritten}
 use Rattle.lucy_token.specs.Spelled.{Printed, whats_of}
 use Rattle.lucy_grammar.specs.Print.{line, after, when_mark, printed_node, more_nodes, printed_program}

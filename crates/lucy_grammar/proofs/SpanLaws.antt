@@ -1,10 +1,10 @@
 -- What tokens are a program for doesn't depend on where they stand.
 use Rattle.std.proofs.Common.{ℕ, zero, suc, ◌≡◌, Bool, List, [], ◌∷◌, ◌++◌, Option, Some, None, map, refl, ap, sym, ◌∙◌, subst}
+use Rattle.std.specs.List.{slice_get}
 use Rattle.lucy_word.specs.Bits.{Bits}
 use Rattle.lucy_tree.specs.Tree.{Tree, Trees, trees_of, more}
 use Rattle.lucy_token.specs.declared.token.Token.{Token}
 use Rattle.lucy_grammar.specs.Kinds.{Fits}
-use Rattle.lucy_grammar.specs.Sets.{nth}
 use Rattle.lucy_grammar.specs.Symbols.{Part, Sym, token, part, many, perhaps, Rule, Val, Vals, Link, Program, Node, Title, Params, Results, Names, Ident, MoreName, Body, Decls, MoreDecl, Decl, Typing, TypeName, ClockOf, Defs, Def, MoreDef, Lefts, Expr, Or, MoreAnd, And, MoreCmp, Cmp, Compared, CmpOp, Sum, MoreProd, SumOp, Prod, MoreSamp, ProdOp, Samp, Sampling, Pre, Followed, Form, Buffered, Held, Other, Atom, Small, Lit, Pair, Call, Applied, Base, Args, MoreExpr}
 use Rattle.lucy_grammar.specs.Meanings.{linked, grouped, sampled_by, compared, literal_before, held, named, name_of, all_of, args_of}
 use Rattle.lucy_grammar.specs.Grammar.{rules}
@@ -194,14 +194,14 @@ rules_blind Base = (λ vs. refl, tt)
 rules_blind Args = (λ vs. ap (λ u. more (unplaced vs.0) u) (trees_bare vs.1.0), tt)
 rules_blind MoreExpr = (λ vs. refl, tt)
 
-blind_in : (X : Part) (ps : List (Rule X)) (i : ℕ) (p : Rule X) → AreBlind X ps → nth ps i ≡ Some p → IsBlind X p
+blind_in : (X : Part) (ps : List (Rule X)) (i : ℕ) (p : Rule X) → AreBlind X ps → slice_get ps i ≡ Some p → IsBlind X p
 blind_in X [] i p h e = absurd cc
 blind_in X (q ∷ ps) zero p h e =
     let same : q ≡ p = cc in
     subst (λ (r : Rule X). IsBlind X r) same h.0
 blind_in X (q ∷ ps) (suc i) p h e = blind_in X ps i p h.1 e
 
-pub rule_blind : (X : Part) (i : ℕ) (p : Rule X) → nth (rules X) i ≡ Some p → IsBlind X p
+pub rule_blind : (X : Part) (i : ℕ) (p : Rule X) → slice_get (rules X) i ≡ Some p → IsBlind X p
 rule_blind X i p e = blind_in X (rules X) i p (rules_blind X) e
 
 -- tokens that are two lists one after the other, but for places, are two lists

@@ -1,12 +1,12 @@
 -- How derivations of printed tokens are put together.
 use Rattle.std.proofs.Common.{ℕ, ◌≡◌, List, [], ◌∷◌, ◌++◌, Option, Some, None, map, refl, ap, sym, ◌∙◌, subst}
 use Rattle.std.proofs.lemmas.List.{append-nil, map-append}
+use Rattle.std.specs.List.{slice_get}
 use Rattle.lucy_token.specs.declared.token.Kind.{Kind}
 use Rattle.lucy_token.specs.declared.token.What.{What}
 use Rattle.lucy_token.specs.declared.token.Token.{Token}
 use Rattle.lucy_token.specs.Tokens.{kind_of}
 use Rattle.lucy_token.specs.Spelled.{Printed, in_print}
-use Rattle.lucy_grammar.specs.Sets.{nth}
 use Rattle.lucy_grammar.specs.Symbols.{Part, Sym, token, any, part, many, perhaps, Rule, Val, Vals}
 use Rattle.lucy_grammar.specs.Kinds.{Sort, of, Fits}
 use Rattle.lucy_grammar.specs.Grammar.{rules}
@@ -94,7 +94,7 @@ pub spell_only : {Y M : Part} {v : Val Y} {us : List Printed} → Is Y v us → 
 spell_only {Y = Y} {M = M} {v = v} {us = us} r = subst (λ (u : List Printed). Spells (part Y ∷ perhaps M ∷ []) (v, (None, tt)) u) (append-nil us) (spell_part r (spell_out spell_end))
 
 -- a part, by a production
-pub spell_rule : {X : Part} {p : Rule X} {vs : Vals p.syms} {ts : List Printed} (i : ℕ) → nth (rules X) i ≡ Some p → Spells p.syms vs ts → Is X (p.meaning vs) ts
+pub spell_rule : {X : Part} {p : Rule X} {vs : Vals p.syms} {ts : List Printed} (i : ℕ) → slice_get (rules X) i ≡ Some p → Spells p.syms vs ts → Is X (p.meaning vs) ts
 spell_rule {X = X} {p = p} i e s = record { deriv = by_rule i p e s.deriv done; spells = append-nil (spelled s.deriv) ∙ s.spells; means = ap (λ (u : Vals p.syms). (p.meaning u, tt)) s.means }
 
 -- a part alone, at the end

@@ -1,9 +1,10 @@
 -- The steps of a descent, as answers cite them: one for each symbol of a production, and each way out.
 use Rattle.std.proofs.Common.{ℕ, ◌≡◌, true, List, [], ◌∷◌, Option, Some, None, ap, sym, ◌∙◌, subst}
+use Rattle.std.specs.List.{slice_get}
 use Rattle.lucy_token.specs.declared.token.Kind.{Kind}
 use Rattle.lucy_token.specs.declared.token.Token.{Token}
 use Rattle.lucy_token.specs.Tokens.{first}
-use Rattle.lucy_grammar.specs.Sets.{within, subset, nth}
+use Rattle.lucy_grammar.specs.Sets.{within, subset}
 use Rattle.lucy_grammar.specs.Kinds.{ahead, kind_numbers, Sort, of, Fits, sort_numbers}
 use Rattle.lucy_grammar.specs.Symbols.{Part, Sym, token, any, part, perhaps, Rule, Val, Vals}
 use Rattle.lucy_grammar.specs.Grammar.{rules}
@@ -108,20 +109,20 @@ pub maybe_bad : {X Y : Part} {syms : List Sym} {ts rest : List Token} → good X
 maybe_bad g a = opt_bad g a.0 a.1
 
 -- a part is read by its production, or refused by it
-pub rule : {X : Part} {p : Rule X} {ts : List Token} {vs : Vals p.syms} {rest : List Token} (i : ℕ) → nth (rules X) i ≡ Some p → Alone X p (ahead ts) →
+pub rule : {X : Part} {p : Rule X} {ts : List Token} {vs : Vals p.syms} {rest : List Token} (i : ℕ) → slice_get (rules X) i ≡ Some p → Alone X p (ahead ts) →
     Takes X p.syms ts vs rest → Reads X ts (p.meaning vs) rest
 rule i e l r = rule_taken _ i _ _ _ _ e l r
 
-pub rule_no : {X : Part} {p : Rule X} {ts rest : List Token} (i : ℕ) → nth (rules X) i ≡ Some p → Alone X p (ahead ts) →
+pub rule_no : {X : Part} {p : Rule X} {ts rest : List Token} (i : ℕ) → slice_get (rules X) i ≡ Some p → Alone X p (ahead ts) →
     Refuses X p.syms ts rest → Unfit X ts rest
 rule_no i e l r = rule_refused _ i _ _ _ e l r
 
 -- by its only production
 pub sole : {X : Part} {p : Rule X} {ts : List Token} {vs : Vals p.syms} {rest : List Token} → rules X ≡ p ∷ [] → Takes X p.syms ts vs rest → Reads X ts (p.meaning vs) rest
-sole {X = X} {p = p} {ts = ts} e r = rule_taken X 0 p ts _ _ (ap (λ (ps : List (Rule X)). nth ps 0) e) (only_one X p (ahead ts) e) r
+sole {X = X} {p = p} {ts = ts} e r = rule_taken X 0 p ts _ _ (ap (λ (ps : List (Rule X)). slice_get ps 0) e) (only_one X p (ahead ts) e) r
 
 pub sole_no : {X : Part} {p : Rule X} {ts rest : List Token} → rules X ≡ p ∷ [] → Refuses X p.syms ts rest → Unfit X ts rest
-sole_no {X = X} {p = p} {ts = ts} e r = rule_refused X 0 p ts _ (ap (λ (ps : List (Rule X)). nth ps 0) e) (only_one X p (ahead ts) e) r
+sole_no {X = X} {p = p} {ts = ts} e r = rule_refused X 0 p ts _ (ap (λ (ps : List (Rule X)). slice_get ps 0) e) (only_one X p (ahead ts) e) r
 
 -- no production begins with what is ahead
 pub none : {X : Part} {ts rest : List Token} → rest ≡ ts → (IsBegun X ts → ⊥) → Unfit X ts rest
@@ -130,13 +131,13 @@ none {X = X} {ts = ts} e w =
     subst P (sym e) (no_rule X ts w)
 
 -- the production is the only one: it begins with the kind that is ahead, or none of the others does
-pub led : {X : Part} {p : Rule X} (ts : List Token) {k : Kind} (i : ℕ) → nth (rules X) i ≡ Some p → subset (kind_numbers k) (look X p.syms) ≡ true → first ts ≡ k → Alone X p (ahead ts)
+pub led : {X : Part} {p : Rule X} (ts : List Token) {k : Kind} (i : ℕ) → slice_get (rules X) i ≡ Some p → subset (kind_numbers k) (look X p.syms) ≡ true → first ts ≡ k → Alone X p (ahead ts)
 led {X = X} {p = p} ts i e l f = by_first X i p _ e (is_in ts (look X p.syms) f l)
 
-pub led_by : {X : Part} {p : Rule X} {ts : List Token} {t : Token} {k : Kind} {more : List Token} (i : ℕ) → nth (rules X) i ≡ Some p → subset (kind_numbers k) (look X p.syms) ≡ true → Begins ts t k more → Alone X p (ahead ts)
+pub led_by : {X : Part} {p : Rule X} {ts : List Token} {t : Token} {k : Kind} {more : List Token} (i : ℕ) → slice_get (rules X) i ≡ Some p → subset (kind_numbers k) (look X p.syms) ≡ true → Begins ts t k more → Alone X p (ahead ts)
 led_by {ts = ts} i e l b = led ts i e l (ap first b.0 ∙ b.1)
 
-pub others : {X : Part} {p : Rule X} (ts : List Token) (i : ℕ) → nth (rules X) i ≡ Some p → Others X (ahead ts) (rules X) i → Alone X p (ahead ts)
+pub others : {X : Part} {p : Rule X} (ts : List Token) (i : ℕ) → slice_get (rules X) i ≡ Some p → Others X (ahead ts) (rules X) i → Alone X p (ahead ts)
 others {X = X} {p = p} ts i e o = by_others X i p _ e o
 
 -- the same value
@@ -144,7 +145,7 @@ pub as_value : {X : Part} {ts : List Token} {v w : Val X} {rest : List Token} �
 as_value {X = X} {ts = ts} {rest = rest} e r = subst (λ (u : Val X). Reads X ts u rest) (sym e) r
 
 -- the production begins with a token of the sort that is ahead
-pub led_sort : {X : Part} {p : Rule X} {ts : List Token} {t : Token} {more : List Token} (s : Sort) (i : ℕ) → nth (rules X) i ≡ Some p → subset (sort_numbers s) (look X p.syms) ≡ true → ts ≡ t ∷ more → Fits s t.what → Alone X p (ahead ts)
+pub led_sort : {X : Part} {p : Rule X} {ts : List Token} {t : Token} {more : List Token} (s : Sort) (i : ℕ) → slice_get (rules X) i ≡ Some p → subset (sort_numbers s) (look X p.syms) ≡ true → ts ≡ t ∷ more → Fits s t.what → Alone X p (ahead ts)
 led_sort {X = X} {p = p} {ts = ts} {t = t} s i e l b f =
     let at : within (ahead ts) (sort_numbers s) ≡ true = subst (λ (u : List Token). within (ahead u) (sort_numbers s) ≡ true) (sym b) (fits_number s t.what f) in
     by_first X i p _ e (within_subset (sort_numbers s) (look X p.syms) (ahead ts) l at)

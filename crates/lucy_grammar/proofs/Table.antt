@@ -1,8 +1,9 @@
 -- The table of the grammar is LL(1): after each part comes only what may follow it, and no kind begins two productions.
 use Rattle.std.proofs.Common.{ℕ, zero, suc, ◌≡◌, Bool, true, false, List, [], ◌∷◌, ◌++◌, Some, ◌&&◌, refl, subst}
+use Rattle.std.specs.List.{slice_get}
 use Rattle.lucy_token.specs.declared.token.Kind.{Kind}
 use Rattle.lucy_token.specs.declared.token.Kind.TheVariants as kind
-use Rattle.lucy_grammar.specs.Sets.{within, subset, apart, nth}
+use Rattle.lucy_grammar.specs.Sets.{within, subset, apart}
 use Rattle.lucy_grammar.specs.Kinds.{Sort, sort_kind, sort_numbers}
 use Rattle.lucy_grammar.specs.Symbols.{Part, Sym, token, part, many, perhaps, Rule, Program}
 use Rattle.lucy_grammar.specs.Grammar.{rules}
@@ -83,7 +84,7 @@ unfolding rules follows begins
 all_apart Program = refl
 all_apart _ = refl
 
-good_from : (X : Part) (ps : List (Rule X)) (i : ℕ) (p : Rule X) → good_rules X ps ≡ true → nth ps i ≡ Some p →
+good_from : (X : Part) (ps : List (Rule X)) (i : ℕ) (p : Rule X) → good_rules X ps ≡ true → slice_get ps i ≡ Some p →
     (good X p.syms ≡ true) × (subset (look X p.syms) (begins X) ≡ true)
 good_from X [] i p g e = absurd cc
 good_from X (q ∷ ps) zero p g e =
@@ -92,17 +93,17 @@ good_from X (q ∷ ps) zero p g e =
     subst (λ (r : Rule X). (good X r.syms ≡ true) × (subset (look X r.syms) (begins X) ≡ true)) same (and_left _ _ h, and_right (good X q.syms) _ h)
 good_from X (q ∷ ps) (suc i) p g e = good_from X ps i p (and_right (good X q.syms && subset (look X q.syms) (begins X)) _ g) e
 
-pub rule_good : (X : Part) (i : ℕ) (p : Rule X) → nth (rules X) i ≡ Some p → (good X p.syms ≡ true) × (subset (look X p.syms) (begins X) ≡ true)
+pub rule_good : (X : Part) (i : ℕ) (p : Rule X) → slice_get (rules X) i ≡ Some p → (good X p.syms ≡ true) × (subset (look X p.syms) (begins X) ≡ true)
 rule_good X i p e = good_from X (rules X) i p (all_good X) e
 
-apart_one : (X : Part) (ks : List ℕ) (ps : List (Rule X)) (i : ℕ) (p : Rule X) → apart_all X ks ps ≡ true → nth ps i ≡ Some p → apart ks (look X p.syms) ≡ true
+apart_one : (X : Part) (ks : List ℕ) (ps : List (Rule X)) (i : ℕ) (p : Rule X) → apart_all X ks ps ≡ true → slice_get ps i ≡ Some p → apart ks (look X p.syms) ≡ true
 apart_one X ks [] i p g e = absurd cc
 apart_one X ks (q ∷ ps) zero p g e =
     let same : q ≡ p = cc in
     subst (λ (r : Rule X). apart ks (look X r.syms) ≡ true) same (and_left _ _ g)
 apart_one X ks (q ∷ ps) (suc i) p g e = apart_one X ks ps i p (and_right (apart ks (look X q.syms)) _ g) e
 
-alone_from : (X : Part) (ps : List (Rule X)) (i j : ℕ) (p q : Rule X) (k : ℕ) → apart_rules X ps ≡ true → nth ps i ≡ Some p → nth ps j ≡ Some q →
+alone_from : (X : Part) (ps : List (Rule X)) (i j : ℕ) (p q : Rule X) (k : ℕ) → apart_rules X ps ≡ true → slice_get ps i ≡ Some p → slice_get ps j ≡ Some q →
     within k (look X p.syms) ≡ true → within k (look X q.syms) ≡ true → p ≡ q
 alone_from X [] i j p q k g e f a b = absurd cc
 alone_from X (r ∷ ps) zero zero p q k g e f a b = cc
@@ -117,6 +118,6 @@ alone_from X (r ∷ ps) (suc i) zero p q k g e f a b =
 alone_from X (r ∷ ps) (suc i) (suc j) p q k g e f a b = alone_from X ps i j p q k (and_right (apart_all X (look X r.syms) ps) _ g) e f a b
 
 -- one production fits a first kind
-pub rule_alone : (X : Part) (i j : ℕ) (p q : Rule X) (k : ℕ) → nth (rules X) i ≡ Some p → nth (rules X) j ≡ Some q →
+pub rule_alone : (X : Part) (i j : ℕ) (p q : Rule X) (k : ℕ) → slice_get (rules X) i ≡ Some p → slice_get (rules X) j ≡ Some q →
     within k (look X p.syms) ≡ true → within k (look X q.syms) ≡ true → p ≡ q
 rule_alone X i j p q k e f a b = alone_from X (rules X) i j p q k (all_apart X) e f a b

@@ -8,7 +8,6 @@ use Rattle.lucy_token.specs.declared.stop.Stop.TheVariants.{End, Fault}
 use Rattle.lucy_token.specs.declared.stop.SyntaxError.{SyntaxError}
 use Rattle.lucy_token.specs.declared.stop.SyntaxError.TheVariants.{Unexpected, TooLarge}
 use Rattle.lucy_word.specs.declared.limit.Limit.TheVariants as limit
-use Rattle.lucy_token.specs.States.{start}
 use Rattle.lucy_token.specs.Cuts.{Cuts}
 use Rattle.lucy_token.proofs.OneCut.{one_cut}
 use Rattle.lucy_token.proofs.SomeCut.{no_third, some_cut}
@@ -27,7 +26,7 @@ pub begins_whole : (ts : List Token) (p : ProgramTree) → IsProgram ts p → Be
 begins_whole ts p h = (p, [], (let P : List Token → Type 0 = λ u. IsProgram u p in subst P (sym (append-nil ts)) h))
 
 -- a text whose tokens are a program has a tree
-pub has_tree : (text : List ℕ) (ts : List Token) (stop : Stop) (p : ProgramTree) → length text ≤ most_text → Cuts 0 start text ts stop → IsWhole ts stop p → HasTree text p
+pub has_tree : (text : List ℕ) (ts : List Token) (stop : Stop) (p : ProgramTree) → length text ≤ most_text → Cuts 0 [] text ts stop → IsWhole ts stop p → HasTree text p
 has_tree text ts (End n) p short cut h = record { short = short; tokens = ts; end = n; cut = cut; program = h }
 has_tree text ts (Fault e) p short cut h = absurd h
 
@@ -124,6 +123,6 @@ some_answer text tree error = no_third (length text ≤ most_text) by_length
   where
     by_length : (length text ≤ most_text) ⊎ (length text ≤ most_text → ⊥) → ⊥
     by_length (inr long) = error (TooLarge limit.Text) (inl (omega arith, refl))
-    by_length (inl short) = some_cut (length text) 0 start text (omega arith) (λ ts stop cut.
+    by_length (inl short) = some_cut (length text) 0 [] text (omega arith) (λ ts stop cut.
         some_why ts stop (λ p h. tree p (has_tree text ts stop p short cut h))
         (λ e why. error e (inr (record { short = short; tokens = ts; stop = stop; cut = cut; why = why }))))

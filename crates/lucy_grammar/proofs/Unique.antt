@@ -1,7 +1,8 @@
 -- Tokens have at most one derivation's meaning.
 use Rattle.std.proofs.Common.{ℕ, ◌≡◌, true, List, [], ◌∷◌, ◌++◌, Option, Some, None, refl, ap, sym, ◌∙◌, subst, append_assoc}
+use Rattle.std.specs.List.{slice_get}
 use Rattle.lucy_token.specs.declared.token.Token.{Token}
-use Rattle.lucy_grammar.specs.Sets.{within, nth}
+use Rattle.lucy_grammar.specs.Sets.{within}
 use Rattle.lucy_grammar.specs.Kinds.{ahead}
 use Rattle.lucy_grammar.specs.Symbols.{Part, Sym, token, part, many, perhaps, Rule, Val, Vals}
 use Rattle.lucy_grammar.specs.Grammar.{rules}
@@ -13,7 +14,7 @@ use Rattle.lucy_grammar.proofs.Tokens.{same_pair}
 use Rattle.lucy_grammar.proofs.Ahead.{first_fits, begins_so, follows_part, follows_many, follows_perhaps}
 
 -- two derivations by productions of one part, of tokens that begin alike, are by one production
-same_rule : (Y : Part) (i j : ℕ) (p q : Rule Y) → nth (rules Y) i ≡ Some p → nth (rules Y) j ≡ Some q → (d : Deriv p.syms) (e : Deriv q.syms) (t u : List Token) → Follows Y t → Follows Y u →
+same_rule : (Y : Part) (i j : ℕ) (p q : Rule Y) → slice_get (rules Y) i ≡ Some p → slice_get (rules Y) j ≡ Some q → (d : Deriv p.syms) (e : Deriv q.syms) (t u : List Token) → Follows Y t → Follows Y u →
     spelled d ++ t ≡ spelled e ++ u → (x : Deriv p.syms) × (spelled e ≡ spelled x) × (q.meaning (value e) ≡ p.meaning (value x))
 same_rule Y i j p q m n d e t u f h apart =
     let at_p = first_fits Y p.syms (rule_good Y i p m).0 d t f in

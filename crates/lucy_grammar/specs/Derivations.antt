@@ -1,7 +1,7 @@
 -- Derivations by the grammar: which tokens symbols spell, and what they then stand for.
 use Rattle.std.specs.Prelude.{ℕ, List, [], ◌∷◌, ◌++◌, ◌≡◌, Some, None}
+use Rattle.std.specs.List.{slice_get}
 use Rattle.lucy_token.specs.declared.token.Token.{Token}
-use Rattle.lucy_grammar.specs.Sets.{nth}
 use Rattle.lucy_grammar.specs.Kinds.{Sort, Fits}
 use Rattle.lucy_grammar.specs.Symbols.{Part, Sym, token, part, many, perhaps, Vals, Rule}
 use Rattle.lucy_grammar.specs.Grammar.{rules}
@@ -10,11 +10,11 @@ use Rattle.lucy_grammar.specs.Grammar.{rules}
 pub data Deriv : List Sym → Type 0 where
   done : Deriv []
   take : {s : Sort} {syms : List Sym} (t : Token) → Fits s t.what → Deriv syms → Deriv (token s ∷ syms)
-  by_rule : {X : Part} {syms : List Sym} (i : ℕ) (p : Rule X) → nth (rules X) i ≡ Some p → Deriv p.syms → Deriv syms → Deriv (part X ∷ syms)
+  by_rule : {X : Part} {syms : List Sym} (i : ℕ) (p : Rule X) → slice_get (rules X) i ≡ Some p → Deriv p.syms → Deriv syms → Deriv (part X ∷ syms)
   enough : {X : Part} {syms : List Sym} → Deriv syms → Deriv (many X ∷ syms)
-  again : {X : Part} {syms : List Sym} (i : ℕ) (p : Rule X) → nth (rules X) i ≡ Some p → Deriv p.syms → Deriv (many X ∷ syms) → Deriv (many X ∷ syms)
+  again : {X : Part} {syms : List Sym} (i : ℕ) (p : Rule X) → slice_get (rules X) i ≡ Some p → Deriv p.syms → Deriv (many X ∷ syms) → Deriv (many X ∷ syms)
   absent : {X : Part} {syms : List Sym} → Deriv syms → Deriv (perhaps X ∷ syms)
-  present : {X : Part} {syms : List Sym} (i : ℕ) (p : Rule X) → nth (rules X) i ≡ Some p → Deriv p.syms → Deriv syms → Deriv (perhaps X ∷ syms)
+  present : {X : Part} {syms : List Sym} (i : ℕ) (p : Rule X) → slice_get (rules X) i ≡ Some p → Deriv p.syms → Deriv syms → Deriv (perhaps X ∷ syms)
 
 -- the tokens that a derivation spells
 abbrev pub spelled : {syms : List Sym} → Deriv syms → List Token

@@ -1,5 +1,5 @@
 -- Kinds of tokens by numbers, so that sets of kinds compute.
-use Rattle.std.specs.Prelude.{ℕ, pos, negsuc, Bool, true, false, if◌then◌else◌, nat_le, ◌≡◌, List, [], ◌∷◌}
+use Rattle.std.specs.Prelude.{ℕ, pos, Bool, true, false, if◌then◌else◌, nat_le, ◌≡◌, List, [], ◌∷◌}
 use Rattle.lucy_tree.specs.Shaped.{most_bound}
 use Rattle.lucy_token.specs.declared.mark.Mark.{Mark}
 use Rattle.lucy_token.specs.declared.mark.Mark.TheVariants as mark
@@ -63,10 +63,7 @@ number (kind.Mark m) = mark_number m
 -- the token is a number that a buffer's bound may be
 abbrev pub is_bound : What → Bool
 is_bound (what.Number (pos n)) = nat_le n most_bound
-is_bound (what.Number (negsuc n)) = false
-is_bound (what.Mark m) = false
-is_bound (what.Name bytes) = false
-is_bound (what.Word w) = false
+is_bound w = false
 
 -- what one token ahead tells: its kind, or that it is a number that may be a bound
 pub data Class : Type 0 where

@@ -13,4 +13,3 @@ pub mod Spans
 pub mod Printable
 pub mod Parens
 pub mod Texts
-pub mod PlainLimits

@@ -1,5 +1,5 @@
 -- What tokens and their groups stand for.
-use Rattle.std.specs.Prelude.{ℕ, pos, negsuc, Bool, List, [], ◌∷◌, Option, Some, None}
+use Rattle.std.specs.Prelude.{ℕ, pos, Bool, List, [], ◌∷◌, Option, Some, None, fold}
 use Rattle.lucy_word.specs.Bits.{Bits}
 use Rattle.lucy_tree.specs.declared.span.Span.{Span}
 use Rattle.lucy_tree.specs.declared.span.Name.{Name}
@@ -15,9 +15,7 @@ use Rattle.lucy_grammar.specs.Symbols.{Link}
 -- the bytes of a name's token
 abbrev pub bytes_of : What → List ℕ
 bytes_of (what.Name bytes) = bytes
-bytes_of (what.Mark mark) = []
-bytes_of (what.Number n) = []
-bytes_of (what.Word w) = []
+bytes_of w = []
 
 -- the name that a token is
 abbrev pub name_of : Token → Name
@@ -26,24 +24,17 @@ name_of t = record { text = bytes_of t.what; span = t.span }
 -- the literal that a number's token is
 abbrev pub number_of : What → Lit
 number_of (what.Number n) = lit.Int n
-number_of (what.Mark mark) = lit.Int (pos 0)
-number_of (what.Name bytes) = lit.Int (pos 0)
-number_of (what.Word w) = lit.Int (pos 0)
+number_of w = lit.Int (pos 0)
 
 -- the bound that a number's token is
 abbrev pub bound_of : What → ℕ
 bound_of (what.Number (pos n)) = n
-bound_of (what.Number (negsuc n)) = 0
-bound_of (what.Mark mark) = 0
-bound_of (what.Name bytes) = 0
-bound_of (what.Word w) = 0
+bound_of w = 0
 
 -- the bits that a word's token stands for
 abbrev pub word_of : What → Bits
 word_of (what.Word w) = w
-word_of (what.Mark mark) = record { prefix = []; period = [] }
-word_of (what.Name bytes) = record { prefix = []; period = [] }
-word_of (what.Number n) = record { prefix = []; period = [] }
+word_of v = record { prefix = []; period = [] }
 
 -- a declaration of a name alone
 abbrev pub bare : Name → Decl
@@ -63,13 +54,11 @@ linked left link = operator link.op (two left link.right) link.span
 
 -- operands with operators between them: they group to the left
 abbrev pub grouped : Tree → List Link → Tree
-grouped left [] = left
-grouped left (link ∷ links) = grouped (linked left link) links
+grouped left links = fold linked left links
 
 -- an operand with its samplings, the first one innermost
 abbrev pub sampled_by : Tree → List (Bool × Bits) → Tree
-sampled_by operand [] = operand
-sampled_by operand ((flip, word) ∷ rest) = sampled_by (sampled flip operand word) rest
+sampled_by operand samplings = fold (λ e (flip, word). sampled flip e word) operand samplings
 
 -- one comparison, or none
 abbrev pub compared : Tree → Option Link → Tree

@@ -1,5 +1,5 @@
 -- How a program is printed: its tokens in order, each with the blanks before it.
-use Rattle.std.specs.Prelude.{ℕ, pos, Bool, true, false, List, [], ◌∷◌, ◌++◌, Option, Some, None, map}
+use Rattle.std.specs.Prelude.{ℕ, pos, Bool, true, false, List, [], ◌∷◌, ◌++◌, Option, Some, None, map, flat_map}
 use Rattle.lucy_word.specs.Bits.{Bits}
 use Rattle.lucy_host.specs.declared.op.Op.{Op}
 use Rattle.lucy_host.specs.declared.op.Op.TheVariants as op
@@ -44,8 +44,7 @@ after blanks (t ∷ ts) = in_print blanks t.what ∷ ts
 
 -- with a blank before each
 abbrev pub spaced : List (List Printed) → List Printed
-spaced [] = []
-spaced (x ∷ xs) = after blank x ++ spaced xs
+spaced xs = flat_map (after blank) xs
 
 -- with a blank between two
 abbrev pub words : List (List Printed) → List Printed
@@ -54,8 +53,7 @@ words (x ∷ xs) = x ++ spaced xs
 
 -- with `, ` before each
 abbrev pub after_commas : List (List Printed) → List Printed
-after_commas [] = []
-after_commas (x ∷ xs) = the mark.Comma ++ after blank x ++ after_commas xs
+after_commas xs = flat_map (λ x. the mark.Comma ++ after blank x) xs
 
 -- with `, ` between two
 abbrev pub commas : List (List Printed) → List Printed
@@ -177,8 +175,7 @@ printed_def d = words (printed_left d.left ∷ the mark.Equals ∷ printed d.rig
 
 -- each further definition on a line of its own
 abbrev pub more_defs : List DefTree → List Printed
-more_defs [] = []
-more_defs (d ∷ ds) = after indent (the mark.And) ++ after blank (printed_def d) ++ more_defs ds
+more_defs ds = flat_map (λ d. after indent (the mark.And) ++ after blank (printed_def d)) ds
 
 -- the definitions of a node behind `where rec`, the first on a line of its own, or nothing
 abbrev pub printed_body : List DefTree → List Printed
@@ -193,8 +190,7 @@ printed_node n =
 
 -- each further node on a line of its own
 abbrev pub more_nodes : List NodeTree → List Printed
-more_nodes [] = []
-more_nodes (n ∷ ns) = after line (printed_node n) ++ more_nodes ns
+more_nodes ns = flat_map (λ n. after line (printed_node n)) ns
 
 -- the nodes of a program
 abbrev pub printed_program : ProgramTree → List Printed

@@ -21,7 +21,7 @@ use Rattle.lucy_token.specs.declared.token.What.{What}
 use Rattle.lucy_token.specs.declared.token.What.TheVariants as what
 use Rattle.lucy_token.specs.declared.token.Token.{Token}
 use Rattle.lucy_token.specs.Tokens.{kind_of}
-use Rattle.lucy_token.specs.States.{wants_word}
+use Rattle.lucy_token.specs.Before.{wants_word}
 use Rattle.lucy_grammar.specs.Print.{when_mark}
 
 -- the name may stand somewhere

@@ -1,5 +1,5 @@
 -- Finite sets of numbers, as lists that compute.
-use Rattle.std.specs.Prelude.{ℕ, suc, zero, Bool, true, false, List, [], ◌∷◌, ◌==◌, ◌&&◌, ◌||◌, not, Option, Some, None}
+use Rattle.std.specs.Prelude.{ℕ, Bool, true, false, List, [], ◌∷◌, ◌==◌, ◌&&◌, ◌||◌, not}
 
 -- the number stands in the list
 abbrev pub within : ℕ → List ℕ → Bool
@@ -15,9 +15,3 @@ subset (x ∷ xs) ys = within x ys && subset xs ys
 abbrev pub apart : List ℕ → List ℕ → Bool
 apart [] ys = true
 apart (x ∷ xs) ys = not (within x ys) && apart xs ys
-
--- the element at a place, counted from 0
-abbrev pub nth : {A : Type 0} → List A → ℕ → Option A
-nth [] i = None
-nth (x ∷ xs) zero = Some x
-nth (x ∷ xs) (suc i) = nth xs i

@@ -8,7 +8,6 @@ use Rattle.lucy_token.specs.declared.stop.Stop.{Stop}
 use Rattle.lucy_token.specs.declared.stop.Stop.TheVariants.{End, Fault}
 use Rattle.lucy_token.specs.declared.stop.SyntaxError.{SyntaxError}
 use Rattle.lucy_token.specs.declared.stop.SyntaxError.TheVariants.{Unexpected, TooLarge}
-use Rattle.lucy_token.specs.States.{start}
 use Rattle.lucy_token.specs.Cuts.{Cuts}
 use Rattle.lucy_grammar.specs.Programs.{IsProgram, BeginsProgram}
 
@@ -21,7 +20,7 @@ pub record HasTree (text : List ℕ) (p : ProgramTree) : Type 0 where
   pub short : length text ≤ most_text
   pub tokens : List Token
   pub end : ℕ
-  pub cut : Cuts 0 start text tokens (End end)
+  pub cut : Cuts 0 [] text tokens (End end)
   pub program : IsProgram tokens p
 
 -- a token is the first that doesn't fit: the tokens before it begin a program, and with it they begin none
@@ -55,7 +54,7 @@ pub record IsUnfitText (text : List ℕ) (e : SyntaxError) : Type 0 where
   pub short : length text ≤ most_text
   pub tokens : List Token
   pub stop : Stop
-  pub cut : Cuts 0 start text tokens stop
+  pub cut : Cuts 0 [] text tokens stop
   pub why : IsUnexpected tokens e ⊎ IsStopped tokens stop e
 
 -- the text is refused so: it is too long, or else its tokens don't fit

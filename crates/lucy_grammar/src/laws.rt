@@ -1,14 +1,10 @@
-ghost use Rattle.std.specs.Prelude.{◌≡◌, ◌++◌, ℕ, List, length, map};
+ghost use Rattle.std.specs.Prelude.{◌≡◌, ◌++◌, ℕ, List, [], length, map};
 ghost use Rattle.lucy_tree.specs.View.{ProgramTree};
 ghost use Rattle.lucy_token.specs.declared.token.Token.{Token};
 ghost use Rattle.lucy_token.specs.declared.stop.Stop.TheVariants.{End};
 ghost use Rattle.lucy_token.specs.declared.stop.SyntaxError.{SyntaxError};
-ghost use Rattle.lucy_token.specs.declared.token.Kind.{Kind};
-ghost use Rattle.lucy_token.specs.Tokens.{kind_of};
-ghost use Rattle.lucy_token.specs.States.{start, limit_passed};
 ghost use Rattle.lucy_token.specs.Cuts.{Cuts};
-ghost use Rattle.lucy_token.specs.Spelled.{after_all, whats_of};
-ghost use Rattle.lucy_grammar.specs.PlainLimits.{plain_limit};
+ghost use Rattle.lucy_token.specs.Spelled.{whats_of};
 ghost use Rattle.lucy_grammar.specs.Parens.{without_parens};
 ghost use Rattle.lucy_grammar.specs.Print.{printed_program, program_text};
 ghost use Rattle.lucy_grammar.specs.Printable.{IsPrintableProgram, Anywhere};
@@ -40,7 +36,7 @@ pub fn printed_again()
 /// The text that is printed of a program read from a text is cut into tokens up to its end, and they are that program
 /// again, but for places.
 pub fn read_again()
-    ensures { (text : List ℕ) (ts : List Token) (n : ℕ) (p : ProgramTree) → Cuts 0 start text ts (End n) → IsProgram ts p → (us : List Token) × (q : ProgramTree) × Cuts 0 start (program_text p) us (End (length (program_text p))) × IsProgram us q × IsAlike q p }
+    ensures { (text : List ℕ) (ts : List Token) (n : ℕ) (p : ProgramTree) → Cuts 0 [] text ts (End n) → IsProgram ts p → (us : List Token) × (q : ProgramTree) × Cuts 0 [] (program_text p) us (End (length (program_text p))) × IsProgram us q × IsAlike q p }
 {}
 
 /// A text has at most one tree and at most one refusal, never both, and no text has neither.
@@ -49,11 +45,4 @@ pub fn texts_have_one_answer()
     ensures one_refusal { (text : List ℕ) (e f : SyntaxError) → IsRefused text e → IsRefused text f → e ≡ f }
     ensures never_both { (text : List ℕ) (p : ProgramTree) (e : SyntaxError) → HasTree text p → IsRefused text e → ⊥ }
     ensures never_neither { (text : List ℕ) → ((p : ProgramTree) → HasTree text p → ⊥) → ((e : SyntaxError) → IsRefused text e → ⊥) → ⊥ }
-{}
-
-/// Behind tokens that begin a program a token passes the limits of open parentheses, of nodes and of a definition's tokens where
-/// a count of the tokens before it says so.
-#[tactic(auto, using(crate::proofs::Balance::limits_so))]
-pub fn limits_are_counted()
-    ensures { (ts : List Token) (k : Kind) → BeginsProgram ts → limit_passed (after_all start (map (λ t. t.what) ts)) k ≡ plain_limit (map (λ t. kind_of t.what) ts) k }
 {}

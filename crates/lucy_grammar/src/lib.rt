@@ -7,6 +7,4 @@
 
 mod laws;
 
-pub use laws::{
-    limits_are_counted, one_refusal, one_tree, printed_again, read_again, texts_have_one_answer,
-};
+pub use laws::{one_refusal, one_tree, printed_again, read_again, texts_have_one_answer};

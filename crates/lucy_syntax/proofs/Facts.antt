@@ -18,7 +18,7 @@ use Rattle.std.specs.Prelude.{pos, negsuc, nat_le, if◌then◌else◌}
 use Rattle.lucy_host.specs.declared.op.Op.{Op}
 use Rattle.lucy_tree.specs.declared.span.Span.{Span}
 use Rattle.lucy_token.specs.declared.mark.Mark.{Mark}
-use Rattle.lucy_grammar.specs.Sets.{nth}
+use Rattle.std.specs.List.{slice_get}
 use Rattle.lucy_grammar.specs.Kinds.{mark_number}
 use Rattle.lucy_grammar.specs.Symbols.{Part, Val}
 use Rattle.lucy_grammar.specs.Grammar.{rules, says, sign}
@@ -60,7 +60,7 @@ pair_of {A = A} {B = B} {p = p} {a = a} {b = b} e f =
 
 -- an operator's sign is read
 pub signed : (X : Part) (made : Op × Span → Val X) (i : ℕ) (m : Mark) (o : Op) {ts more : List Token} {t : Token} {v : Op × Span} →
-    nth (rules X) i ≡ Some (says (sign m ∷ []) (λ (s, _). made (o, s.span))) → subset (mark_number m ∷ []) (begins X) ≡ true →
+    slice_get (rules X) i ≡ Some (says (sign m ∷ []) (λ (s, _). made (o, s.span))) → subset (mark_number m ∷ []) (begins X) ≡ true →
     Begins ts t (kind.Mark m) more → v.0 ≡ o → v.1 ≡ t.span → IsBegun X ts × Reads X ts (made v) more
 signed X made i m o {ts = ts} {t = t} {v = v} e w b one two = (
   is_in ts (begins X) (ap first b.0 ∙ b.1) w,

@@ -11,7 +11,6 @@ use Rattle.lucy_token.specs.declared.stop.Stop.{Stop}
 use Rattle.lucy_token.specs.declared.stop.Stop.TheVariants.{End, Fault}
 use Rattle.lucy_token.specs.declared.stop.SyntaxError.{SyntaxError}
 use Rattle.lucy_token.specs.declared.stop.SyntaxError.TheVariants.{OutOfMemory}
-use Rattle.lucy_token.specs.States.{start}
 use Rattle.lucy_token.specs.Cuts.{Cuts}
 use Rattle.lucy_grammar.specs.Programs.{IsProgram, BeginsProgram, IsFirstUnfit}
 use Rattle.lucy_grammar.specs.Texts.{HasTree, IsWhole, IsRefused, error_of, error_at, most_text}
@@ -47,7 +46,7 @@ refused_behind ts stop e p is h = inr (record {
 })
 
 -- an error that a text is refused with is the one that it is answered with
-pub rejected_so : (text : List ℕ) (ts : List Token) (stop : Stop) (x e : SyntaxError) (r : Result Program SyntaxError) → length text ≤ most_text → Cuts 0 start text ts stop →
+pub rejected_so : (text : List ℕ) (ts : List Token) (stop : Stop) (x e : SyntaxError) (r : Result Program SyntaxError) → length text ≤ most_text → Cuts 0 [] text ts stop →
     IsErrAnd r (λ y. y ≡ x) → (x ≡ OutOfMemory) ⊎ IsWhy ts stop x → IsRefused text e → (r ≡ Err OutOfMemory) ⊎ (r ≡ Err e)
 rejected_so text ts stop x e r short cut i (inl none) h =
     let p = err_from_is_err_and r i in
@@ -58,7 +57,7 @@ rejected_so text ts stop x e r short cut i (inr why) h =
     inr (p.1 ∙ ap Err (p.2 ∙ one_error text x e mine h))
 
 -- and no text with a tree is
-pub accepted_so : (text : List ℕ) (ts : List Token) (stop : Stop) (x : SyntaxError) (p : ProgramTree) (r : Result Program SyntaxError) (A : Type 0) → length text ≤ most_text → Cuts 0 start text ts stop →
+pub accepted_so : (text : List ℕ) (ts : List Token) (stop : Stop) (x : SyntaxError) (p : ProgramTree) (r : Result Program SyntaxError) (A : Type 0) → length text ≤ most_text → Cuts 0 [] text ts stop →
     IsErrAnd r (λ y. y ≡ x) → (x ≡ OutOfMemory) ⊎ IsWhy ts stop x → HasTree text p → (r ≡ Err OutOfMemory) ⊎ A
 accepted_so text ts stop x p r A short cut i (inl none) h =
     let q = err_from_is_err_and r i in

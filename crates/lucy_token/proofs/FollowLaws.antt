@@ -7,19 +7,19 @@ use Rattle.lucy_token.specs.declared.token.What.{What}
 use Rattle.lucy_token.specs.declared.token.What.TheVariants as what
 use Rattle.lucy_token.specs.declared.token.Token as token_type
 use Rattle.lucy_token.specs.Tokens.{kind_of}
-use Rattle.lucy_token.specs.States.{State, after}
+use Rattle.lucy_token.specs.declared.token.Kind.{Kind}
 use Rattle.lucy_token.specs.Cuts.{token_at}
 use Rattle.lucy_token.specs.Spelled.{text_of_what, Printed, bytes_of, whats_of, placed, all_blank, none_of, is_keyword, apart, apart_from, are_apart, joins, AllStand, after_all, Follows}
 use Rattle.lucy_token.proofs.PrintFronts.{keyword_end_is}
 use Rattle.lucy_token.proofs.PrintEnds.{sign_ends}
 
-pub after_all_append : (s : State) (ws vs : List What) → after_all s (ws ++ vs) ≡ after_all (after_all s ws) vs
-after_all_append s [] vs = refl
-after_all_append s (w ∷ ws) vs = after_all_append (after s (kind_of w)) ws vs
+pub after_all_append : (ks : List Kind) (ws vs : List What) → after_all ks (ws ++ vs) ≡ after_all (after_all ks ws) vs
+after_all_append ks [] vs = refl
+after_all_append ks (w ∷ ws) vs = after_all_append (kind_of w ∷ ks) ws vs
 
-pub stand_append : (s : State) (ws vs : List What) → AllStand s ws → AllStand (after_all s ws) vs → AllStand s (ws ++ vs)
-stand_append s [] vs h k = k
-stand_append s (w ∷ ws) vs h k = (h.0, stand_append (after s (kind_of w)) ws vs h.1 k)
+pub stand_append : (ks : List Kind) (ws vs : List What) → AllStand ks ws → AllStand (after_all ks ws) vs → AllStand ks (ws ++ vs)
+stand_append ks [] vs h k = k
+stand_append ks (w ∷ ws) vs h k = (h.0, stand_append (kind_of w ∷ ks) ws vs h.1 k)
 
 pub whats_append : (ps qs : List Printed) → whats_of (ps ++ qs) ≡ whats_of ps ++ whats_of qs
 whats_append [] qs = refl
@@ -35,9 +35,9 @@ apart_append (p ∷ (r ∷ ps)) qs h k j =
     and_from (all_blank p.blanks && apart_from p.what (r ∷ ps)) (are_apart ((r ∷ ps) ++ qs)) a.0 (apart_append (r ∷ ps) qs a.1 k j)
 
 -- what may stand so in print, and then goes on, may stand so as a whole
-pub follows_append : (s : State) (ps qs : List Printed) → Follows s ps → Follows (after_all s (whats_of ps)) qs → joins ps qs ≡ true → Follows s (ps ++ qs)
-follows_append s ps qs h k j = record {
-  stand = subst (AllStand s) (sym (whats_append ps qs)) (stand_append s (whats_of ps) (whats_of qs) h.stand k.stand);
+pub follows_append : (ks : List Kind) (ps qs : List Printed) → Follows ks ps → Follows (after_all ks (whats_of ps)) qs → joins ps qs ≡ true → Follows ks (ps ++ qs)
+follows_append ks ps qs h k j = record {
+  stand = subst (AllStand ks) (sym (whats_append ps qs)) (stand_append ks (whats_of ps) (whats_of qs) h.stand k.stand);
   apart = apart_append ps qs h.apart k.apart j;
 }
 

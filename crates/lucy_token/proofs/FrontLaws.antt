@@ -1,6 +1,7 @@
 -- What stands at the front of a text has a byte at least, and no more than the text.
 use Rattle.std.proofs.Common.{◌≡◌, ℕ, ◌+◌, ◌<◌, ◌≤◌, Bool, true, false, cond, List, [], ◌∷◌, length, take, drop, Option, Some, None, refl, ap, sym, subst, arith, eqb, leb, suc, length-drop, length-take}
-use Rattle.std.specs.Prelude.{IfSome, ◌&&◌}
+use Rattle.std.specs.Prelude.{IfSome, ◌&&◌, ◌==◌, if◌then◌else◌, option_map}
+use Rattle.std.specs.Option.{option_map_or}
 use Rattle.std.specs.List.{prefix_len}
 use Rattle.std.specs.Str.{bytes_eq}
 use Rattle.std.specs.Str.Parse.{IsNumeral, AllDigits, without_leading_sign}
@@ -15,9 +16,10 @@ use Rattle.lucy_token.specs.declared.token.Kind.TheVariants as kind
 use Rattle.lucy_token.specs.declared.front.Front.{Front}
 use Rattle.lucy_token.specs.declared.front.Front.TheVariants.{Gap, Token, Bad}
 use Rattle.lucy_token.specs.Marks.{spelling, keywords, signs}
-use Rattle.lucy_token.specs.States.{State, wants_word, begins_operand}
-use Rattle.lucy_token.specs.Fronts.{head, closes, close_of, one_more, begins_gap, gap_of, comment_of, word_front, plain_front, front_of, minus_of, begins_number, is_letter, is_decimal, is_name_byte, is_blank, sign_in, named_in}
-use Rattle.lucy_token.specs.Steps.{IsTokenOf}
+use Rattle.lucy_token.specs.Before.{nearest, wants_word, operand_begins}
+use Rattle.lucy_token.specs.Fronts.{head, close_of, begins_gap, gap_of, word_front, plain_front, front_of, minus_of, is_letter, is_decimal, is_name_byte, is_blank, sign_in, named_in}
+use Rattle.lucy_token.specs.States.{State, begins_operand}
+use Rattle.lucy_token.specs.Steps.{front_in, IsTokenOf}
 use Rattle.lucy_token.proofs.WordFronts.{IsBetween, front_is}
 
 -- what is known of the front of a text that is not empty
@@ -38,24 +40,24 @@ close_within : (u : List ℕ) → IfSome (close_of u) (λ n. (2 ≤ n) × (n ≤
 close_within [] = tt
 close_within (c ∷ u) =
     let P : Option ℕ → Type 0 = λ o. IfSome o (λ n. (2 ≤ n) × (n ≤ length (c ∷ u))) in
-    cond_both (closes c u) (Some 2) (one_more (close_of u)) P
+    cond_both (c == 42 && head u == 41) (Some 2) (option_map (λ n. n + 1) (close_of u)) P
     (λ e. (omega arith, let some : 0 < length u = head_is 41 u (and_parts (eqb c 42) (eqb (head u) 41) e).1 (omega arith) in omega arith))
     (λ e. later (close_of u) (close_within u))
   where
-    later : (o : Option ℕ) → IfSome o (λ n. (2 ≤ n) × (n ≤ length u)) → IfSome (one_more o) (λ n. (2 ≤ n) × (n ≤ length (c ∷ u)))
+    later : (o : Option ℕ) → IfSome o (λ n. (2 ≤ n) × (n ≤ length u)) → IfSome (option_map (λ n. n + 1) o) (λ n. (2 ≤ n) × (n ≤ length (c ∷ u)))
     later None h = tt
     later (Some n) h = (omega (arith, h.0), omega (arith, h.1))
 
-comment_front : (text : List ℕ) → IsFront text (comment_of (close_of (drop 2 text)))
+comment_front : (text : List ℕ) → IsFront text (option_map_or (λ n. Gap (n + 2)) (close_of (drop 2 text)) (Bad 0))
 comment_front text = of_close (close_of (drop 2 text)) (close_within (drop 2 text))
   where
-    of_close : (o : Option ℕ) → IfSome o (λ n. (2 ≤ n) × (n ≤ length (drop 2 text))) → IsFront text (comment_of o)
+    of_close : (o : Option ℕ) → IfSome o (λ n. (2 ≤ n) × (n ≤ length (drop 2 text))) → IsFront text (option_map_or (λ n. Gap (n + 2)) o (Bad 0))
     of_close None h = omega arith
     of_close (Some n) h = (omega arith, omega (arith, h.0, h.1, length-drop 2 text))
 
 gap_front : (text : List ℕ) → 0 < length text → IsFront text (gap_of text)
 unfolding gap_of
-gap_front text some = cond_both (is_blank (head text)) (Gap 1) (comment_of (close_of (drop 2 text))) (IsFront text) (λ e. (omega arith, omega (arith, some))) (λ e. comment_front text)
+gap_front text some = cond_both (is_blank (head text)) (Gap 1) (option_map_or (λ n. Gap (n + 2)) (close_of (drop 2 text)) (Bad 0)) (IsFront text) (λ e. (omega arith, omega (arith, some))) (λ e. comment_front text)
 
 word_front_front : (text : List ℕ) → IsFront text (word_front text)
 word_front_front text = go (word_front text) (front_is text)
@@ -125,7 +127,7 @@ minus_number c text is e =
     let Q : ℕ → Type 0 = λ b. IsNumeral 10 (without_leading_sign (b ∷ take k text)) in
     subst P (let q : suc k ≡ 1 + k = omega arith in q) (omega arith, omega arith, subst Q (sym (eqb-true c 45 is)) (long, digits_of text))
 
-number_front : (operand : Bool) (text : List ℕ) → begins_number operand text ≡ true → IsFront text (Token kind.Number (minus_of operand text + prefix_len is_decimal (drop (minus_of operand text) text)))
+number_front : (operand : Bool) (text : List ℕ) → is_decimal (head (drop (minus_of operand text) text)) ≡ true → IsFront text (Token kind.Number (minus_of operand text + prefix_len is_decimal (drop (minus_of operand text) text)))
 number_front operand text =
     cond_both ((operand && eqb (head text) 45) && is_decimal (head (drop 1 text))) 1 0 (λ m. is_decimal (head (drop m text)) ≡ true → IsFront text (Token kind.Number (m + prefix_len is_decimal (drop m text))))
     (λ e b. signed text (and_parts operand _ (and_parts _ _ e).0).1 b)
@@ -141,14 +143,22 @@ plain_front_front operand text =
     let n : ℕ = prefix_len is_name_byte text in
     cond_both (is_letter (head text)) (Token (named_in keywords (take n text)) n) _ (IsFront text)
     (λ e. (prefix_some is_name_byte text refl (or_left _ (is_decimal (head text)) e), prefix_len-le-length is_name_byte text, named_token keywords (take n text) (take n text)))
-    (λ e. cond_both (begins_number operand text) _ (sign_in signs text) (IsFront text) (λ f. number_front operand text f) (λ f. sign_front signs text refl))
+    (λ e. cond_both (is_decimal (head (drop (minus_of operand text) text))) _ (sign_in signs text) (IsFront text) (λ f. number_front operand text f) (λ f. sign_front signs text refl))
 
-pub front : (s : State) (text : List ℕ) → 0 < length text → IsFront text (front_of s text)
-unfolding front_of
-front s text some =
+by_parts : (wants operand : Bool) (text : List ℕ) → 0 < length text →
+    IsFront text (if begins_gap text then gap_of text else if wants then word_front text else plain_front operand text)
+by_parts wants operand text some =
     cond_both (begins_gap text) (gap_of text) _ (IsFront text) (λ e. gap_front text some)
-    (λ e. cond_both (wants_word s.before) (word_front text) (plain_front (begins_operand s) text) (IsFront text) (λ f. word_front_front text) (λ f. plain_front_front (begins_operand s) text))
+    (λ e. cond_both wants (word_front text) (plain_front operand text) (IsFront text) (λ f. word_front_front text) (λ f. plain_front_front operand text))
+
+pub front : (ks : List Kind) (text : List ℕ) → 0 < length text → IsFront text (front_of ks text)
+unfolding front_of
+front ks text some = by_parts (wants_word (nearest ks)) (operand_begins ks) text some
 
 -- the same of an answer that is the front
-pub of_front : (s : State) (text : List ℕ) (f : Front) → 0 < length text → f ≡ front_of s text → IsFront text f
-of_front s text f some e = subst (IsFront text) (sym e) (front s text some)
+pub of_front : (ks : List Kind) (text : List ℕ) (f : Front) → 0 < length text → f ≡ front_of ks text → IsFront text f
+of_front ks text f some e = subst (IsFront text) (sym e) (front ks text some)
+
+-- and of what stands there by the scanner's state
+pub of_front_in : (s : State) (text : List ℕ) (f : Front) → 0 < length text → f ≡ front_in s text → IsFront text f
+of_front_in s text f some e = subst (IsFront text) (sym e) (by_parts (wants_word s.before) (begins_operand s) text some)

@@ -17,3 +17,4 @@ pub mod PrintEnds
 pub mod PrintLaws
 mod Rows
 pub mod WordAgain
+pub mod StateLaws

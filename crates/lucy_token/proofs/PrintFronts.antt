@@ -12,7 +12,7 @@ use Rattle.lucy_token.specs.declared.mark.Mark.TheVariants as mark
 use Rattle.lucy_token.specs.declared.token.Kind.TheVariants as kind
 use Rattle.lucy_token.specs.declared.front.Front.TheVariants.{Token}
 use Rattle.lucy_token.specs.Marks.{spelling, keywords, signs}
-use Rattle.lucy_token.specs.Fronts.{head, is_blank, is_letter, is_decimal, is_name_byte, begins_gap, plain_front, minus_of, begins_number, sign_in, named_in}
+use Rattle.lucy_token.specs.Fronts.{head, is_blank, is_letter, is_decimal, is_name_byte, begins_gap, plain_front, minus_of, sign_in, named_in}
 use Rattle.lucy_token.specs.Written.{IsNameText}
 use Rattle.lucy_token.specs.Spelled.{is_keyword, mark_ends}
 
@@ -99,7 +99,7 @@ mark_no_gap mark.Open rest h = not-true (head rest == 42) h
 mark_no_gap m rest h = refl
 
 -- no number begins where the first byte is no digit and no minus before one
-no_number : (operand : Bool) (text : List ℕ) → ((head text == 45) ≡ false) ⊎ (is_decimal (head (drop 1 text)) ≡ false) → is_decimal (head text) ≡ false → begins_number operand text ≡ false
+no_number : (operand : Bool) (text : List ℕ) → ((head text == 45) ≡ false) ⊎ (is_decimal (head (drop 1 text)) ≡ false) → is_decimal (head text) ≡ false → is_decimal (head (drop (minus_of operand text) text)) ≡ false
 no_number operand text h k =
     let test : ((operand && (head text == 45)) && is_decimal (head (drop 1 text))) ≡ false =
     elim h [
@@ -127,7 +127,7 @@ sign_front operand m rest e h =
     let first : head text ≡ head (spelling m) = head_spelling m rest in
     let P : ℕ → Type 0 = λ c. ((c == 45) ≡ false) ⊎ (is_decimal (head (drop 1 text)) ≡ false) in
     cond-false (is_letter (head text)) _ _ (ap is_letter first ∙ e)
-    ∙ cond-false (begins_number operand text) _ (sign_in signs text) (no_number operand text (subst P (sym first) (minus_apart m rest h)) (ap is_decimal first ∙ no_digit m))
+    ∙ cond-false (is_decimal (head (drop (minus_of operand text) text))) _ (sign_in signs text) (no_number operand text (subst P (sym first) (minus_apart m rest h)) (ap is_decimal first ∙ no_digit m))
     ∙ sign_found m rest e h
 
 pub keyword_end_is : (m : Mark) (c : ℕ) → is_keyword m ≡ true → mark_ends m c ≡ not (is_name_byte c)
@@ -168,7 +168,7 @@ digits_front operand ds rest some all next =
     let reach : prefix_len is_decimal text ≡ length ds = prefix_through is_decimal ds rest (all_decimal ds all) (no_decimal (head rest) next) in
     let length_is : 0 + prefix_len is_decimal text ≡ length ds = omega (arith, reach) in
     cond-false (is_letter (head text)) _ _ (low_no_letter (head text) (omega (arith, range.1)))
-    ∙ cond-true (begins_number operand text) (Token kind.Number (minus_of operand text + prefix_len is_decimal (drop (minus_of operand text) text))) (sign_in signs text) (ap (λ m. is_decimal (head (drop m text))) none ∙ first)
+    ∙ cond-true (is_decimal (head (drop (minus_of operand text) text))) (Token kind.Number (minus_of operand text + prefix_len is_decimal (drop (minus_of operand text) text))) (sign_in signs text) (ap (λ m. is_decimal (head (drop m text))) none ∙ first)
     ∙ ap (λ m. Token kind.Number (m + prefix_len is_decimal (drop m text))) none
     ∙ ap (λ n. Token kind.Number n) length_is
 
@@ -180,7 +180,7 @@ minus_front ds rest some all next =
     let one : minus_of true (45 ∷ text) ≡ 1 = cond-true (is_decimal (head text)) 1 0 first in
     let reach : prefix_len is_decimal text ≡ length ds = prefix_through is_decimal ds rest (all_decimal ds all) (no_decimal (head rest) next) in
     let length_is : 1 + prefix_len is_decimal text ≡ suc (length ds) = omega (arith, reach) in
-    cond-true (begins_number true (45 ∷ text)) (Token kind.Number (minus_of true (45 ∷ text) + prefix_len is_decimal (drop (minus_of true (45 ∷ text)) (45 ∷ text)))) (sign_in signs (45 ∷ text)) (ap (λ m. is_decimal (head (drop m (45 ∷ text)))) one ∙ first)
+    cond-true (is_decimal (head (drop (minus_of true (45 ∷ text)) (45 ∷ text)))) (Token kind.Number (minus_of true (45 ∷ text) + prefix_len is_decimal (drop (minus_of true (45 ∷ text)) (45 ∷ text)))) (sign_in signs (45 ∷ text)) (ap (λ m. is_decimal (head (drop m (45 ∷ text)))) one ∙ first)
     ∙ ap (λ m. Token kind.Number (m + prefix_len is_decimal (drop m (45 ∷ text)))) one
     ∙ ap (λ n. Token kind.Number n) length_is
 

@@ -1,6 +1,7 @@
 -- Tokens in print are cut into the same tokens.
 use Rattle.std.proofs.Common.{◌≡◌, ℕ, suc, ◌+◌, ◌<◌, ◌≤◌, true, false, List, [], ◌∷◌, ◌++◌, length, drop, refl, ap, sym, ◌∙◌, subst, arith, eqb, length-append}
 use Rattle.std.specs.Prelude.{◌==◌, ◌&&◌, if◌then◌else◌, ℤ, pos, negsuc, neg_ℤ}
+use Rattle.std.specs.Option.{option_map_or}
 use Rattle.std.specs.Fmt.{decimal, signed_decimal}
 use Rattle.std.specs.Int.{w64}
 use mir.Val.{SFits as FitsSigned}
@@ -18,13 +19,13 @@ use Rattle.lucy_token.specs.declared.token.Kind.TheVariants as kind
 use Rattle.lucy_token.specs.declared.token.What.{What}
 use Rattle.lucy_token.specs.declared.token.What.TheVariants as what
 use Rattle.lucy_token.specs.declared.token.Token as token_type
-use Rattle.lucy_token.specs.declared.front.Front.TheVariants.{Gap, Token}
+use Rattle.lucy_token.specs.declared.front.Front.TheVariants.{Gap, Token, Bad}
 use Rattle.lucy_token.specs.declared.stop.Stop.{Stop}
 use Rattle.lucy_token.specs.declared.stop.Stop.TheVariants.{End}
 use Rattle.lucy_token.specs.Tokens.{kind_of}
 use Rattle.lucy_token.specs.Marks.{spelling}
-use Rattle.lucy_token.specs.States.{State, after, wants_word, begins_operand}
-use Rattle.lucy_token.specs.Fronts.{head, is_blank, is_name_byte, begins_gap, gap_of, comment_of, close_of, word_front, plain_front, front_of}
+use Rattle.lucy_token.specs.Before.{nearest, wants_word, operand_begins}
+use Rattle.lucy_token.specs.Fronts.{head, is_blank, is_name_byte, begins_gap, gap_of, close_of, word_front, plain_front, front_of}
 use Rattle.lucy_token.specs.Contents.{Contains}
 use Rattle.lucy_token.specs.Cuts.{Cuts, token_at, ends, gap, token}
 use Rattle.lucy_token.specs.Spelled.{text_of_what, Printed, bytes_of, whats_of, placed, all_blank, ends_before, are_apart, apart_from, IsSpelled, Stands, AllStand, Follows}
@@ -33,34 +34,34 @@ use Rattle.lucy_token.proofs.WordFronts.{form_no_gap, form_front}
 use Rattle.lucy_token.proofs.PrintEnds.{next_ends, blanks_end}
 
 -- the front of a text that begins neither with a blank nor with a comment
-front_plain : (s : State) (text : List ℕ) → begins_gap text ≡ false → wants_word s.before ≡ false → front_of s text ≡ plain_front (begins_operand s) text
+front_plain : (ks : List Kind) (text : List ℕ) → begins_gap text ≡ false → wants_word (nearest ks) ≡ false → front_of ks text ≡ plain_front (operand_begins ks) text
 unfolding front_of
-front_plain s text h k =
-    cond-false (begins_gap text) (gap_of text) (if wants_word s.before then word_front text else plain_front (begins_operand s) text) h
-    ∙ cond-false (wants_word s.before) (word_front text) (plain_front (begins_operand s) text) k
+front_plain ks text h k =
+    cond-false (begins_gap text) (gap_of text) (if wants_word (nearest ks) then word_front text else plain_front (operand_begins ks) text) h
+    ∙ cond-false (wants_word (nearest ks)) (word_front text) (plain_front (operand_begins ks) text) k
 
-front_word : (s : State) (text : List ℕ) → begins_gap text ≡ false → wants_word s.before ≡ true → front_of s text ≡ word_front text
+front_word : (ks : List Kind) (text : List ℕ) → begins_gap text ≡ false → wants_word (nearest ks) ≡ true → front_of ks text ≡ word_front text
 unfolding front_of
-front_word s text h k =
-    cond-false (begins_gap text) (gap_of text) (if wants_word s.before then word_front text else plain_front (begins_operand s) text) h
-    ∙ cond-true (wants_word s.before) (word_front text) (plain_front (begins_operand s) text) k
+front_word ks text h k =
+    cond-false (begins_gap text) (gap_of text) (if wants_word (nearest ks) then word_front text else plain_front (operand_begins ks) text) h
+    ∙ cond-true (wants_word (nearest ks)) (word_front text) (plain_front (operand_begins ks) text) k
 
 -- what a printed token is read as
-front_printed : (s : State) (w : What) (rest : List ℕ) → Stands s w → ends_before w (head rest) ≡ true → front_of s (text_of_what w ++ rest) ≡ Token (kind_of w) (length (text_of_what w))
-front_printed s (what.Mark m) rest h e = front_plain s (spelling m ++ rest) (mark_no_gap m rest e) h.word_here ∙ mark_front (begins_operand s) m rest e
-front_printed s (what.Name bytes) rest h e = front_plain s (bytes ++ rest) (name_no_gap bytes rest h.spelled) h.word_here ∙ name_text_front (begins_operand s) bytes rest h.spelled (not-true (is_name_byte (head rest)) e)
-front_printed s (what.Number (pos n)) rest h e =
+front_printed : (ks : List Kind) (w : What) (rest : List ℕ) → Stands ks w → ends_before w (head rest) ≡ true → front_of ks (text_of_what w ++ rest) ≡ Token (kind_of w) (length (text_of_what w))
+front_printed ks (what.Mark m) rest h e = front_plain ks (spelling m ++ rest) (mark_no_gap m rest e) h.word_here ∙ mark_front (operand_begins ks) m rest e
+front_printed ks (what.Name bytes) rest h e = front_plain ks (bytes ++ rest) (name_no_gap bytes rest h.spelled) h.word_here ∙ name_text_front (operand_begins ks) bytes rest h.spelled (not-true (is_name_byte (head rest)) e)
+front_printed ks (what.Number (pos n)) rest h e =
     let d = decimal_is_IsNumeral n (omega (arith, h.spelled.sfits)) in
-    front_plain s (decimal n ++ rest) (digits_no_gap (decimal n) rest d.0.0 d.0.1) h.word_here ∙ digits_front (begins_operand s) (decimal n) rest d.0.0 d.0.1 (not-true (is_name_byte (head rest)) e)
-front_printed s (what.Number (negsuc n)) rest h e =
+    front_plain ks (decimal n ++ rest) (digits_no_gap (decimal n) rest d.0.0 d.0.1) h.word_here ∙ digits_front (operand_begins ks) (decimal n) rest d.0.0 d.0.1 (not-true (is_name_byte (head rest)) e)
+front_printed ks (what.Number (negsuc n)) rest h e =
     let d = decimal_is_IsNumeral (suc n) (omega (arith, h.spelled.sfits)) in
     let text : List ℕ = 45 ∷ (decimal (suc n) ++ rest) in
-    front_plain s text (no_gap 45 (decimal (suc n) ++ rest) (omega arith)) h.word_here ∙ ap (λ operand. plain_front operand text) (h.operand_here refl)
+    front_plain ks text (no_gap 45 (decimal (suc n) ++ rest) (omega arith)) h.word_here ∙ ap (λ operand. plain_front operand text) (h.operand_here refl)
     ∙ minus_front (decimal (suc n)) rest d.0.0 d.0.1 (not-true (is_name_byte (head rest)) e)
-front_printed s (what.Word w) rest h e =
+front_printed ks (what.Word w) rest h e =
     let r = h.spelled.0.1 in
     let gap' : begins_gap (text_of w ++ rest) ≡ false = ap (λ x. begins_gap (x ++ rest)) r.shape ∙ form_no_gap r.form rest r.is_form.nonempty in
-    front_word s (text_of w ++ rest) gap' h.word_here ∙ ap (λ x. word_front (x ++ rest)) r.shape ∙ form_front r.form rest r.is_form ∙ ap (λ x. Token kind.Word (length x)) (sym r.shape)
+    front_word ks (text_of w ++ rest) gap' h.word_here ∙ ap (λ x. word_front (x ++ rest)) r.shape ∙ form_front r.form rest r.is_form ∙ ap (λ x. Token kind.Word (length x)) (sym r.shape)
 
 -- digits are their value
 plain_value : (ds : List ℕ) → AllDigits 10 ds → 0 < length ds → signed_digits_value 10 ds ≡ pos (digits_value 10 ds)
@@ -85,19 +86,19 @@ contains_printed before (what.Number n) h = (subst (FitsSigned w64) (sym (number
 contains_printed before (what.Word w) h = (w, h, refl)
 
 -- blanks are passed
-blank_front : (s : State) (c : ℕ) (text : List ℕ) → is_blank c ≡ true → front_of s (c ∷ text) ≡ Gap 1
+blank_front : (ks : List Kind) (c : ℕ) (text : List ℕ) → is_blank c ≡ true → front_of ks (c ∷ text) ≡ Gap 1
 unfolding front_of gap_of
-blank_front s c text h =
+blank_front ks c text h =
     cond-true (begins_gap (c ∷ text)) (gap_of (c ∷ text)) _ (or_left (is_blank c) ((c == 40) && (head text == 42)) h)
-    ∙ cond-true (is_blank c) (Gap 1) (comment_of (close_of (drop 2 (c ∷ text)))) h
+    ∙ cond-true (is_blank c) (Gap 1) (option_map_or (λ n. Gap (n + 2)) (close_of (drop 2 (c ∷ text))) (Bad 0)) h
 
-cut_blanks : (from : ℕ) (s : State) (blanks text : List ℕ) (ts : List token_type.Token) (stop : Stop) → all_blank blanks ≡ true → Cuts (from + length blanks) s text ts stop → Cuts from s (blanks ++ text) ts stop
-cut_blanks from s [] text ts stop h q = let P : ℕ → Type 0 = λ n. Cuts n s text ts stop in subst P (let e : from + 0 ≡ from = omega arith in e) q
-cut_blanks from s (c ∷ blanks) text ts stop h q =
+cut_blanks : (from : ℕ) (ks : List Kind) (blanks text : List ℕ) (ts : List token_type.Token) (stop : Stop) → all_blank blanks ≡ true → Cuts (from + length blanks) ks text ts stop → Cuts from ks (blanks ++ text) ts stop
+cut_blanks from ks [] text ts stop h q = let P : ℕ → Type 0 = λ n. Cuts n ks text ts stop in subst P (let e : from + 0 ≡ from = omega arith in e) q
+cut_blanks from ks (c ∷ blanks) text ts stop h q =
     let p = and_parts (is_blank c) (all_blank blanks) h in
-    let P : ℕ → Type 0 = λ n. Cuts n s text ts stop in
-    gap (omega arith) (blank_front s c (blanks ++ text) p.0)
-    (cut_blanks (from + 1) s blanks text ts stop p.1 (subst P (let e : from + suc (length blanks) ≡ from + 1 + length blanks = omega arith in e) q))
+    let P : ℕ → Type 0 = λ n. Cuts n ks text ts stop in
+    gap (omega arith) (blank_front ks c (blanks ++ text) p.0)
+    (cut_blanks (from + 1) ks blanks text ts stop p.1 (subst P (let e : from + suc (length blanks) ≡ from + 1 + length blanks = omega arith in e) q))
 
 -- a token in print has a byte
 spelling_some : (m : Mark) → 0 < length (spelling m)
@@ -112,36 +113,36 @@ printed_some before (what.Number (negsuc n)) h = omega arith
 printed_some before (what.Word w) h = omega (arith, length-append (spelled w.prefix) (40 ∷ (spelled w.period ++ 41 ∷ [])))
 
 -- one token in print
-cut_token : (from : ℕ) (s : State) (w : What) (text : List ℕ) (ts : List token_type.Token) (stop : Stop) → Stands s w → ends_before w (head text) ≡ true →
-    Cuts (from + length (text_of_what w)) (after s (kind_of w)) text ts stop → Cuts from s (text_of_what w ++ text) (token_at w from (length (text_of_what w)) ∷ ts) stop
-cut_token from s w text ts stop h e q =
-    let front : front_of s (text_of_what w ++ text) ≡ Token (kind_of w) (length (text_of_what w)) = front_printed s w text h e in
-    let P : List ℕ → Type 0 = λ u. Contains s.before (kind_of w) u w in
-    let Q : List ℕ → Type 0 = λ u. Cuts (from + length (text_of_what w)) (after s (kind_of w)) u ts stop in
-    token (omega (arith, printed_some s.before w h.spelled, length-append (text_of_what w) text)) front h.passes h.in_list (subst P (sym (take-append_seam (text_of_what w) text)) (contains_printed s.before w h.spelled)) (subst Q (sym (drop-append_seam (text_of_what w) text)) q)
+cut_token : (from : ℕ) (ks : List Kind) (w : What) (text : List ℕ) (ts : List token_type.Token) (stop : Stop) → Stands ks w → ends_before w (head text) ≡ true →
+    Cuts (from + length (text_of_what w)) (kind_of w ∷ ks) text ts stop → Cuts from ks (text_of_what w ++ text) (token_at w from (length (text_of_what w)) ∷ ts) stop
+cut_token from ks w text ts stop h e q =
+    let front : front_of ks (text_of_what w ++ text) ≡ Token (kind_of w) (length (text_of_what w)) = front_printed ks w text h e in
+    let P : List ℕ → Type 0 = λ u. Contains (nearest ks) (kind_of w) u w in
+    let Q : List ℕ → Type 0 = λ u. Cuts (from + length (text_of_what w)) (kind_of w ∷ ks) u ts stop in
+    token (omega (arith, printed_some (nearest ks) w h.spelled, length-append (text_of_what w) text)) front h.passes h.in_list (subst P (sym (take-append_seam (text_of_what w) text)) (contains_printed (nearest ks) w h.spelled)) (subst Q (sym (drop-append_seam (text_of_what w) text)) q)
 
-behind : (s : State) (w : What) (ps : List Printed) (rest : List ℕ) → AllStand s (whats_of ps) → apart_from w ps ≡ true → are_apart ps ≡ true → all_blank rest ≡ true → ends_before w (head (bytes_of ps rest)) ≡ true
-behind s w [] rest stand e apart blank = blanks_end w rest blank
-behind s w (p ∷ ps) rest stand e apart blank =
+behind : (ks : List Kind) (w : What) (ps : List Printed) (rest : List ℕ) → AllStand ks (whats_of ps) → apart_from w ps ≡ true → are_apart ps ≡ true → all_blank rest ≡ true → ends_before w (head (bytes_of ps rest)) ≡ true
+behind ks w [] rest stand e apart blank = blanks_end w rest blank
+behind ks w (p ∷ ps) rest stand e apart blank =
     let a = and_parts (all_blank p.blanks && apart_from p.what ps) (are_apart ps) apart in
-    next_ends s.before w p ps rest (and_parts (all_blank p.blanks) (apart_from p.what ps) a.0).0 stand.0.spelled e
+    next_ends (nearest ks) w p ps rest (and_parts (all_blank p.blanks) (apart_from p.what ps) a.0).0 stand.0.spelled e
 
-cut_from : (from : ℕ) (s : State) (ps : List Printed) (rest : List ℕ) → AllStand s (whats_of ps) → are_apart ps ≡ true → all_blank rest ≡ true →
-    Cuts from s (bytes_of ps rest) (placed from ps) (End (from + length (bytes_of ps rest)))
-cut_from from s [] rest stand apart blank =
-    let P : List ℕ → Type 0 = λ u. Cuts from s u [] (End (from + length rest)) in
-    subst P (append-nil rest) (cut_blanks from s rest [] [] (End (from + length rest)) blank ends)
-cut_from from s (p ∷ ps) rest stand apart blank =
+cut_from : (from : ℕ) (ks : List Kind) (ps : List Printed) (rest : List ℕ) → AllStand ks (whats_of ps) → are_apart ps ≡ true → all_blank rest ≡ true →
+    Cuts from ks (bytes_of ps rest) (placed from ps) (End (from + length (bytes_of ps rest)))
+cut_from from ks [] rest stand apart blank =
+    let P : List ℕ → Type 0 = λ u. Cuts from ks u [] (End (from + length rest)) in
+    subst P (append-nil rest) (cut_blanks from ks rest [] [] (End (from + length rest)) blank ends)
+cut_from from ks (p ∷ ps) rest stand apart blank =
     let a = and_parts (all_blank p.blanks && apart_from p.what ps) (are_apart ps) apart in
     let b = and_parts (all_blank p.blanks) (apart_from p.what ps) a.0 in
     let text : List ℕ = bytes_of ps rest in
     let at : ℕ = from + length p.blanks in
     let behind_it : ℕ = at + length (text_of_what p.what) in
-    let P : ℕ → Type 0 = λ to. Cuts from s (p.blanks ++ (text_of_what p.what ++ text)) (placed from (p ∷ ps)) (End to) in
+    let P : ℕ → Type 0 = λ to. Cuts from ks (p.blanks ++ (text_of_what p.what ++ text)) (placed from (p ∷ ps)) (End to) in
     subst P (let e : behind_it + length text ≡ from + length (p.blanks ++ (text_of_what p.what ++ text)) = omega (arith, length-append p.blanks (text_of_what p.what ++ text), length-append (text_of_what p.what) text) in e)
-    (cut_blanks from s p.blanks (text_of_what p.what ++ text) _ _ b.0
-    (cut_token at s p.what text _ _ stand.0 (behind (after s (kind_of p.what)) p.what ps rest stand.1 b.1 a.1 blank) (cut_from behind_it (after s (kind_of p.what)) ps rest stand.1 a.1 blank)))
+    (cut_blanks from ks p.blanks (text_of_what p.what ++ text) _ _ b.0
+    (cut_token at ks p.what text _ _ stand.0 (behind (kind_of p.what ∷ ks) p.what ps rest stand.1 b.1 a.1 blank) (cut_from behind_it (kind_of p.what ∷ ks) ps rest stand.1 a.1 blank)))
 
 -- Tokens that may stand so in print are cut into just these tokens, up to the end of the text.
-pub cut_printed : (from : ℕ) (s : State) (ps : List Printed) (rest : List ℕ) → Follows s ps → all_blank rest ≡ true → Cuts from s (bytes_of ps rest) (placed from ps) (End (from + length (bytes_of ps rest)))
-cut_printed from s ps rest h blank = cut_from from s ps rest h.stand h.apart blank
+pub cut_printed : (from : ℕ) (ks : List Kind) (ps : List Printed) (rest : List ℕ) → Follows ks ps → all_blank rest ≡ true → Cuts from ks (bytes_of ps rest) (placed from ps) (End (from + length (bytes_of ps rest)))
+cut_printed from ks ps rest h blank = cut_from from ks ps rest h.stand h.apart blank

@@ -9,7 +9,8 @@ use Rattle.lucy_token.specs.declared.token.What.{What}
 use Rattle.lucy_token.specs.declared.token.What.TheVariants as what
 use Rattle.lucy_token.specs.declared.stop.Stop.TheVariants.{End}
 use Rattle.lucy_token.specs.Tokens.{kind_of}
-use Rattle.lucy_token.specs.States.{State, start, after, limit_passed, is_past_last, wants_word, begins_operand}
+use Rattle.lucy_token.specs.declared.token.Kind.{Kind}
+use Rattle.lucy_token.specs.Before.{nearest, limit_at, is_entry_past, wants_word, operand_begins}
 use Rattle.lucy_token.specs.Fronts.{is_name_byte}
 use Rattle.lucy_token.specs.Written.{IsNameText}
 use Rattle.lucy_token.specs.Cuts.{Cuts}
@@ -36,11 +37,11 @@ unfolding row spaced bare
 row_text = rw (decimal_digit 3 (omega arith)) refl
 
 -- a token that is no number below 0
-plain : (s : State) (w : What) → limit_passed s (kind_of w) ≡ None → is_past_last s (kind_of w) ≡ false → wants_word s.before ≡ is_word w → is_negative w ≡ false → IsSpelled s.before w → Stands s w
-plain s w l p h n spelled = record { passes = l; in_list = p; word_here = h; operand_here = λ e. absurd (both_ways (is_negative w) n e); spelled = spelled }
+plain : (ks : List Kind) (w : What) → limit_at ks (kind_of w) ≡ None → is_entry_past ks (kind_of w) ≡ false → wants_word (nearest ks) ≡ is_word w → is_negative w ≡ false → IsSpelled (nearest ks) w → Stands ks w
+plain ks w l p h n spelled = record { passes = l; in_list = p; word_here = h; operand_here = λ e. absurd (both_ways (is_negative w) n e); spelled = spelled }
 
-row_follows : Follows start row
-unfolding row spaced bare after limit_passed is_past_last begins_operand
+row_follows : Follows [] row
+unfolding row spaced bare limit_at is_entry_past operand_begins
 row_follows = record {
   stand = (
     plain _ (what.Mark mark.Rec) refl refl refl refl tt,
@@ -64,5 +65,5 @@ row_follows = record {
   apart = refl;
 }
 
-row_cut : Cuts 0 start (bytes_of row (10 ∷ [])) (placed 0 row) (End (0 + length (bytes_of row (10 ∷ []))))
-row_cut = cut_printed 0 start row (10 ∷ []) row_follows refl
+row_cut : Cuts 0 [] (bytes_of row (10 ∷ [])) (placed 0 row) (End (0 + length (bytes_of row (10 ∷ []))))
+row_cut = cut_printed 0 [] row (10 ∷ []) row_follows refl

@@ -5,7 +5,7 @@ use Rattle.lucy_word.specs.Reading.{IsReadable, Refuses}
 use Rattle.lucy_word.specs.declared.error.WordError.{WordError}
 use Rattle.lucy_word.proofs.SpellingLaws.{reads_one}
 use Rattle.lucy_token.specs.declared.token.Kind.{Kind}
-use Rattle.lucy_token.specs.States.{wants_zero}
+use Rattle.lucy_token.specs.Before.{wants_zero}
 use Rattle.lucy_token.specs.Contents.{IsWordAfter}
 
 pub readable_one : (bytes : List ℕ) (v w : Bits) → IsReadable bytes v → IsReadable bytes w → v ≡ w

@@ -1,13 +1,12 @@
 -- What is known of the tokens of a text that is cut up to its end, and where they stand.
 use Rattle.std.proofs.Common.{◌≡◌, ℕ, zero, suc, ◌+◌, ◌<◌, ◌≤◌, Bool, true, List, [], ◌∷◌, length, drop, take, get_or, Option, Some, None, refl, ap, sym, ◌∙◌, subst, arith, length-drop}
+use Rattle.std.specs.Option.{option_map_or}
 use Rattle.std.specs.List.{prefix_len, AllPass}
 use Rattle.std.specs.Str.{bytes_eq}
 use Rattle.std.proofs.lemmas.Bool.{cond_both, or_left}
 use Rattle.std.proofs.lemmas.List.{get_or-take, length-take-le}
 use Rattle.std.proofs.lemmas.List.Sums.{prefix_len-le-length, prefix_len_passes}
 use Rattle.lucy_token.specs.declared.mark.Mark.{Mark}
-use Rattle.lucy_token.specs.declared.mark.Mark.TheVariants as mark
-use Rattle.lucy_token.specs.declared.state.Level.{Level}
 use Rattle.lucy_token.specs.declared.token.Kind.{Kind}
 use Rattle.lucy_token.specs.declared.token.Kind.TheVariants as kind
 use Rattle.lucy_token.specs.declared.token.What.{What}
@@ -17,8 +16,8 @@ use Rattle.lucy_token.specs.declared.front.Front.TheVariants.{Gap, Token, Bad}
 use Rattle.lucy_token.specs.declared.stop.Stop.{Stop}
 use Rattle.lucy_token.specs.declared.stop.Stop.TheVariants.{End}
 use Rattle.lucy_token.specs.Marks.{spelling, keywords, signs}
-use Rattle.lucy_token.specs.States.{State, after, closed, wants_word, begins_operand}
-use Rattle.lucy_token.specs.Fronts.{head, begins_gap, gap_of, comment_of, close_of, is_blank, word_front, plain_front, front_of, begins_number, is_letter, is_decimal, is_name_byte, sign_in, named_in}
+use Rattle.lucy_token.specs.Before.{nearest, wants_word, operand_begins}
+use Rattle.lucy_token.specs.Fronts.{head, begins_gap, gap_of, close_of, is_blank, word_front, plain_front, front_of, minus_of, is_letter, is_decimal, is_name_byte, sign_in, named_in}
 use Rattle.lucy_token.specs.Contents.{Contains}
 use Rattle.lucy_token.specs.Cuts.{Cuts, ends, gap, bad, passed, past_last, malformed, token}
 use Rattle.lucy_token.specs.Written.{IsNameText, IsWritten, AreWritten, InOrder}
@@ -45,9 +44,9 @@ FrontTells before text f = Unit {0}
 
 gap_tells : (before : Kind) (text : List ℕ) → FrontTells before text (gap_of text)
 unfolding gap_of
-gap_tells before text = cond_both (is_blank (head text)) (Gap 1) (comment_of (close_of (drop 2 text))) (FrontTells before text) (λ e. tt) (λ e. of_close (close_of (drop 2 text)))
+gap_tells before text = cond_both (is_blank (head text)) (Gap 1) (option_map_or (λ n. Gap (n + 2)) (close_of (drop 2 text)) (Bad 0)) (FrontTells before text) (λ e. tt) (λ e. of_close (close_of (drop 2 text)))
   where
-    of_close : (o : Option ℕ) → FrontTells before text (comment_of o)
+    of_close : (o : Option ℕ) → FrontTells before text (option_map_or (λ n. Gap (n + 2)) o (Bad 0))
     of_close None = tt
     of_close (Some n) = tt
 
@@ -96,13 +95,13 @@ unfolding plain_front
 plain_tells before operand text =
     cond_both (is_letter (head text)) (Token (named_in keywords (take (prefix_len is_name_byte text) text)) (prefix_len is_name_byte text)) _ (FrontTells before text)
     (λ e. named_tells before keywords (take (prefix_len is_name_byte text) text) (is_name text e))
-    (λ e. cond_both (begins_number operand text) (Token kind.Number _) (sign_in signs text) (FrontTells before text) (λ f. tt) (λ f. sign_tells before signs text))
+    (λ e. cond_both (is_decimal (head (drop (minus_of operand text) text))) (Token kind.Number _) (sign_in signs text) (FrontTells before text) (λ f. tt) (λ f. sign_tells before signs text))
 
-front_tells : (s : State) (text : List ℕ) → FrontTells s.before text (front_of s text)
+front_tells : (ks : List Kind) (text : List ℕ) → FrontTells (nearest ks) text (front_of ks text)
 unfolding front_of
-front_tells s text =
-    cond_both (begins_gap text) (gap_of text) _ (FrontTells s.before text) (λ e. gap_tells s.before text)
-    (λ e. cond_both (wants_word s.before) (word_front text) (plain_front (begins_operand s) text) (FrontTells s.before text) (λ f. word_front_tells s.before text f) (λ f. plain_tells s.before (begins_operand s) text))
+front_tells ks text =
+    cond_both (begins_gap text) (gap_of text) _ (FrontTells (nearest ks) text) (λ e. gap_tells (nearest ks) text)
+    (λ e. cond_both (wants_word (nearest ks)) (word_front text) (plain_front (operand_begins ks) text) (FrontTells (nearest ks) text) (λ f. word_front_tells (nearest ks) text f) (λ f. plain_tells (nearest ks) (operand_begins ks) text))
 
 is_written : (before k : Kind) (bytes : List ℕ) (w : What) → Tells before bytes k → Contains before k bytes w → IsWritten before w
 is_written before (kind.Mark m) bytes w t c = subst (IsWritten before) (sym c) tt
@@ -111,31 +110,20 @@ is_written before kind.Number bytes w t c = subst (IsWritten before) (sym c.1) c
 is_written before kind.Word bytes w t c = subst (IsWritten before) (sym c.2) (t, (bytes, c.1))
 is_written before kind.End bytes w t c = absurd c
 
-before_closed : (s : State) (outer : List Level) → (closed s outer).before ≡ kind.Mark mark.Close
-before_closed s [] = refl
-before_closed s (l ∷ outer) = refl
-
--- the token before is the one that was passed
-pub before_after : (s : State) (k : Kind) → (after s k).before ≡ k
-unfolding after
-before_after s (kind.Mark mark.Open) = refl
-before_after s (kind.Mark mark.Close) = before_closed s s.outer
-before_after s k = refl
-
-are_written : {from : ℕ} {s : State} {text : List ℕ} {ts : List token_type.Token} {stop : Stop} → Cuts from s text ts stop → (to : ℕ) → stop ≡ End to → AreWritten s.before ts
+are_written : {from : ℕ} {ks : List Kind} {text : List ℕ} {ts : List token_type.Token} {stop : Stop} → Cuts from ks text ts stop → (to : ℕ) → stop ≡ End to → AreWritten (nearest ks) ts
 are_written ends to e = tt
 are_written (gap h f q) to e = are_written q to e
 are_written (bad h f) to e = cc
 are_written (passed h f l) to e = cc
 are_written (past_last h f l p) to e = cc
 are_written (malformed h f l p m) to e = cc
-are_written {from} {s} {text} (token {n = n} {k = k} {w = w} {ts = ts} h f l p c q) to e =
-    let P : Front → Type 0 = FrontTells s.before text in
+are_written {from} {ks} {text} (token {n = n} {k = k} {w = w} {ts = ts} h f l p c q) to e =
+    let P : Front → Type 0 = FrontTells (nearest ks) text in
     let Q : Kind → Type 0 = λ b. AreWritten b ts in
-    (is_written s.before k (take n text) w (subst P f (front_tells s text)) c, subst Q (before_after s k ∙ sym (contains_kind s.before k (take n text) w c)) (are_written q to e))
+    (is_written (nearest ks) k (take n text) w (subst P f (front_tells ks text)) c, subst Q (sym (contains_kind (nearest ks) k (take n text) w c)) (are_written q to e))
 
 -- each token of a text without a fault is as it may be written
-pub tokens_written : {from to : ℕ} {s : State} {text : List ℕ} {ts : List token_type.Token} → Cuts from s text ts (End to) → AreWritten s.before ts
+pub tokens_written : {from to : ℕ} {ks : List Kind} {text : List ℕ} {ts : List token_type.Token} → Cuts from ks text ts (End to) → AreWritten (nearest ks) ts
 tokens_written {to = to} q = are_written q to refl
 
 -- spans may begin earlier and end later
@@ -144,36 +132,36 @@ earlier a b [] to h r = omega (arith, r)
 earlier a b (t ∷ ts) to h r = (omega (arith, r.0), r.1, r.2)
 
 -- the spans of tokens rise within the text
-pub spans_rise : {from : ℕ} {s : State} {text : List ℕ} {ts : List token_type.Token} {stop : Stop} → Cuts from s text ts stop → InOrder from ts (from + length text)
+pub spans_rise : {from : ℕ} {ks : List Kind} {text : List ℕ} {ts : List token_type.Token} {stop : Stop} → Cuts from ks text ts stop → InOrder from ts (from + length text)
 spans_rise ends = omega arith
-spans_rise {from} {s} {text} {ts} (gap {n = n} h e q) =
-    let f : IsFront text (Gap n) = of_front s text (Gap n) h (sym e) in
+spans_rise {from} {ks} {text} {ts} (gap {n = n} h e q) =
+    let f : IsFront text (Gap n) = of_front ks text (Gap n) h (sym e) in
     let P : ℕ → Type 0 = λ to. InOrder from ts to in
     subst P (let same : from + n + length (drop n text) ≡ from + length text = omega (arith, f.1, length-drop n text) in same) (earlier from (from + n) ts _ (omega arith) (spans_rise q))
 spans_rise (bad h e) = omega arith
 spans_rise (passed h e l) = omega arith
-spans_rise {from} {s} {text} (past_last {n = n} {k = k} h e l p) =
-    let f : IsFront text (Token k n) = of_front s text (Token k n) h (sym e) in
+spans_rise {from} {ks} {text} (past_last {n = n} {k = k} h e l p) =
+    let f : IsFront text (Token k n) = of_front ks text (Token k n) h (sym e) in
     (omega arith, omega (arith, f.0), omega (arith, f.1))
 spans_rise (malformed h e l p m) = omega arith
-spans_rise {from} {s} {text} (token {n = n} {k = k} {ts = ts} h e l p c q) =
-    let f : IsFront text (Token k n) = of_front s text (Token k n) h (sym e) in
+spans_rise {from} {ks} {text} (token {n = n} {k = k} {ts = ts} h e l p c q) =
+    let f : IsFront text (Token k n) = of_front ks text (Token k n) h (sym e) in
     let P : ℕ → Type 0 = λ to. InOrder (from + n) ts to in
     (omega arith, omega (arith, f.0), subst P (let same : from + n + length (drop n text) ≡ from + length text = omega (arith, f.1, length-drop n text) in same) (spans_rise q))
 
-end_is : {from : ℕ} {s : State} {text : List ℕ} {ts : List token_type.Token} {stop : Stop} → Cuts from s text ts stop → (to : ℕ) → stop ≡ End to → to ≡ from + length text
+end_is : {from : ℕ} {ks : List Kind} {text : List ℕ} {ts : List token_type.Token} {stop : Stop} → Cuts from ks text ts stop → (to : ℕ) → stop ≡ End to → to ≡ from + length text
 end_is {from} ends to e = let same : from ≡ to = cc in omega (arith, same)
-end_is {from} {s} {text} (gap {n = n} h f q) to e =
-    let g : IsFront text (Gap n) = of_front s text (Gap n) h (sym f) in
+end_is {from} {ks} {text} (gap {n = n} h f q) to e =
+    let g : IsFront text (Gap n) = of_front ks text (Gap n) h (sym f) in
     omega (arith, end_is q to e, g.1, length-drop n text)
 end_is (bad h f) to e = cc
 end_is (passed h f l) to e = cc
 end_is (past_last h f l p) to e = cc
 end_is (malformed h f l p m) to e = cc
-end_is {from} {s} {text} (token {n = n} {k = k} h f l p c q) to e =
-    let g : IsFront text (Token k n) = of_front s text (Token k n) h (sym f) in
+end_is {from} {ks} {text} (token {n = n} {k = k} h f l p c q) to e =
+    let g : IsFront text (Token k n) = of_front ks text (Token k n) h (sym f) in
     omega (arith, end_is q to e, g.1, length-drop n text)
 
 -- the end is that of the text
-pub end_of_text : {from to : ℕ} {s : State} {text : List ℕ} {ts : List token_type.Token} → Cuts from s text ts (End to) → to ≡ from + length text
+pub end_of_text : {from to : ℕ} {ks : List Kind} {text : List ℕ} {ts : List token_type.Token} → Cuts from ks text ts (End to) → to ≡ from + length text
 end_of_text {to = to} q = end_is q to refl

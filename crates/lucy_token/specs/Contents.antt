@@ -13,7 +13,7 @@ use Rattle.lucy_token.specs.declared.token.What.{What}
 use Rattle.lucy_token.specs.declared.token.What.TheVariants as what
 use Rattle.lucy_token.specs.declared.stop.SyntaxError.{SyntaxError}
 use Rattle.lucy_token.specs.declared.stop.SyntaxError.TheVariants.{BadNumber, BadWord, TooLarge}
-use Rattle.lucy_token.specs.States.{wants_zero}
+use Rattle.lucy_token.specs.Before.{wants_zero}
 
 -- the bytes are a word that may stand after a token of this kind, and w is its shortest form
 abbrev pub IsWordAfter : Kind → List ℕ → Bits → Type 0

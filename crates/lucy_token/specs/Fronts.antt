@@ -1,9 +1,10 @@
 -- What stands at the front of a text: blanks or a comment, a token, or a byte that can't stand there.
-use Rattle.std.specs.Prelude.{ℕ, ◌+◌, ◌≡◌, ◌≤◌, ◌<◌, Bool, List, [], ◌∷◌, length, take, drop, Option, Some, None, if◌then◌else◌, ◌==◌, ◌&&◌, ◌||◌, nat_le}
+use Rattle.std.specs.Prelude.{ℕ, ◌+◌, ◌≡◌, ◌≤◌, ◌<◌, Bool, List, [], ◌∷◌, length, take, drop, Option, Some, None, if◌then◌else◌, ◌==◌, ◌&&◌, ◌||◌, nat_le, option_map}
+use Rattle.std.specs.Option.{option_map_or}
 use Rattle.std.specs.List.{prefix_len}
 use Rattle.std.specs.Str.{bytes_eq}
 use Rattle.lucy_word.specs.declared.form.Stage.{Stage}
-use Rattle.lucy_word.specs.declared.form.Stage.TheVariants.{Item, Digit, Brace, Count, Closed}
+use Rattle.lucy_word.specs.declared.form.Stage.TheVariants.{Closed}
 use Rattle.lucy_word.specs.Stages.{begin, next}
 use Rattle.lucy_word.specs.Items.{Form, form_text, IsForm}
 use Rattle.lucy_word.specs.Forms.{BeginsForm}
@@ -13,7 +14,7 @@ use Rattle.lucy_token.specs.declared.token.Kind.TheVariants as kind
 use Rattle.lucy_token.specs.declared.front.Front.{Front}
 use Rattle.lucy_token.specs.declared.front.Front.TheVariants.{Gap, Token, Bad}
 use Rattle.lucy_token.specs.Marks.{spelling, keywords, signs}
-use Rattle.lucy_token.specs.States.{State, wants_word, begins_operand}
+use Rattle.lucy_token.specs.Before.{nearest, wants_word, operand_begins}
 
 -- space, tab, line feed or carriage return
 abbrev pub is_blank : ℕ → Bool
@@ -36,32 +37,18 @@ abbrev pub head : List ℕ → ℕ
 head [] = 0
 head (c ∷ text) = c
 
--- one more, where there is a number
-abbrev pub one_more : Option ℕ → Option ℕ
-one_more None = None
-one_more (Some n) = Some (n + 1)
-
--- the bytes `*)`
-abbrev pub closes : ℕ → List ℕ → Bool
-closes c text = c == 42 && head text == 41
-
 -- how many bytes there are to the end of the first `*)`
 abbrev pub close_of : List ℕ → Option ℕ
 close_of [] = None
-close_of (c ∷ text) = if closes c text then Some 2 else one_more (close_of text)
+close_of (c ∷ text) = if c == 42 && head text == 41 then Some 2 else option_map (λ n. n + 1) (close_of text)
 
 -- the text begins with a blank or opens a comment
 abbrev pub begins_gap : List ℕ → Bool
 begins_gap text = is_blank (head text) || (head text == 40 && head (drop 1 text) == 42)
 
--- a comment ends with the first `*)` behind its opening; without one it can't stand
-abbrev pub comment_of : Option ℕ → Front
-comment_of None = Bad 0
-comment_of (Some n) = Gap (n + 2)
-
--- a blank, or a comment
+-- a blank, or a comment, which ends with the first `*)` behind its opening: without one it can't stand
 unfoldable pub gap_of : List ℕ → Front
-gap_of text = if is_blank (head text) then Gap 1 else comment_of (close_of (drop 2 text))
+gap_of text = if is_blank (head text) then Gap 1 else option_map_or (λ n. Gap (n + 2)) (close_of (drop 2 text)) (Bad 0)
 
 -- the keyword that the bytes spell, else a name
 abbrev pub named_in : List Mark → List ℕ → Kind
@@ -76,10 +63,7 @@ sign_in (m ∷ ms) text = if bytes_eq (take (length (spelling m)) text) (spellin
 -- a word where all of its form was read, else what breaks the form, behind so many bytes
 abbrev pub word_end : ℕ → Stage → Front
 word_end n Closed = Token kind.Word n
-word_end n (Item inside some) = Bad n
-word_end n (Digit inside) = Bad n
-word_end n (Brace inside) = Bad n
-word_end n (Count inside) = Bad n
+word_end n s = Bad n
 
 -- a word, of whose form so many bytes are read up to a stage, and one more where it leads to another
 abbrev pub word_behind : ℕ → Stage → Option Stage → List ℕ → Front
@@ -107,17 +91,13 @@ IsWordFront text (Bad n) =
 abbrev pub minus_of : Bool → List ℕ → ℕ
 minus_of operand text = if operand && head text == 45 && is_decimal (head (drop 1 text)) then 1 else 0
 
--- a number begins here
-abbrev pub begins_number : Bool → List ℕ → Bool
-begins_number operand text = is_decimal (head (drop (minus_of operand text) text))
-
 -- a name or keyword, a number, or a sign
 unfoldable pub plain_front : Bool → List ℕ → Front
 plain_front operand text =
     if is_letter (head text) then Token (named_in keywords (take (prefix_len is_name_byte text) text)) (prefix_len is_name_byte text)
-    else if begins_number operand text then Token kind.Number (minus_of operand text + prefix_len is_decimal (drop (minus_of operand text) text))
+    else if is_decimal (head (drop (minus_of operand text) text)) then Token kind.Number (minus_of operand text + prefix_len is_decimal (drop (minus_of operand text) text))
     else sign_in signs text
 
--- what stands at the front of a text
-unfoldable pub front_of : State → List ℕ → Front
-front_of s text = if begins_gap text then gap_of text else if wants_word s.before then word_front text else plain_front (begins_operand s) text
+-- what stands at the front of a text, behind tokens of these kinds
+unfoldable pub front_of : List Kind → List ℕ → Front
+front_of ks text = if begins_gap text then gap_of text else if wants_word (nearest ks) then word_front text else plain_front (operand_begins ks) text

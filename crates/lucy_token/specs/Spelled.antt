@@ -12,7 +12,7 @@ use Rattle.lucy_token.specs.declared.token.What.TheVariants as what
 use Rattle.lucy_token.specs.declared.token.Token.{Token}
 use Rattle.lucy_token.specs.Tokens.{kind_of}
 use Rattle.lucy_token.specs.Marks.{spelling}
-use Rattle.lucy_token.specs.States.{State, after, limit_passed, is_past_last, wants_word, begins_operand}
+use Rattle.lucy_token.specs.Before.{nearest, wants_word, operand_begins, limit_at, is_entry_past}
 use Rattle.lucy_token.specs.Fronts.{head, is_blank, is_letter, is_decimal, is_name_byte}
 use Rattle.lucy_token.specs.Contents.{IsWordAfter}
 use Rattle.lucy_token.specs.Written.{IsNameText}
@@ -127,24 +127,24 @@ IsSpelled before (what.Word w) = IsWordAfter before (text_of w) w
 
 -- the token may stand here: no limit is passed, a word stands just where one must, and a number below 0 only where an
 -- operand begins
-pub record Stands (s : State) (w : What) : Type 0 where
-  pub passes : limit_passed s (kind_of w) ≡ None
-  pub in_list : is_past_last s (kind_of w) ≡ false
-  pub word_here : wants_word s.before ≡ is_word w
-  pub operand_here : is_negative w ≡ true → begins_operand s ≡ true
-  pub spelled : IsSpelled s.before w
+pub record Stands (ks : List Kind) (w : What) : Type 0 where
+  pub passes : limit_at ks (kind_of w) ≡ None
+  pub in_list : is_entry_past ks (kind_of w) ≡ false
+  pub word_here : wants_word (nearest ks) ≡ is_word w
+  pub operand_here : is_negative w ≡ true → operand_begins ks ≡ true
+  pub spelled : IsSpelled (nearest ks) w
 
 -- each of these tokens may stand where it stands
-abbrev pub AllStand : State → List What → Type 0
-AllStand s [] = Unit {0}
-AllStand s (w ∷ ws) = Stands s w × AllStand (after s (kind_of w)) ws
+abbrev pub AllStand : List Kind → List What → Type 0
+AllStand ks [] = Unit {0}
+AllStand ks (w ∷ ws) = Stands ks w × AllStand (kind_of w ∷ ks) ws
 
--- the state behind these tokens
-abbrev pub after_all : State → List What → State
-after_all s [] = s
-after_all s (w ∷ ws) = after_all (after s (kind_of w)) ws
+-- the kinds of these tokens before those before them
+abbrev pub after_all : List Kind → List What → List Kind
+after_all ks [] = ks
+after_all ks (w ∷ ws) = after_all (kind_of w ∷ ks) ws
 
--- from a state on these tokens may stand so in print
-pub record Follows (s : State) (ps : List Printed) : Type 0 where
-  pub stand : AllStand s (whats_of ps)
+-- behind tokens of these kinds these may stand so in print
+pub record Follows (ks : List Kind) (ps : List Printed) : Type 0 where
+  pub stand : AllStand ks (whats_of ps)
   pub apart : are_apart ps ≡ true

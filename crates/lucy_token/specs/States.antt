@@ -1,5 +1,5 @@
--- What is known of a text before a token: where in its node it stands, what is open, and what was counted.
-use Rattle.std.specs.Prelude.{ℕ, ◌+◌, ◌-◌, ◌<◌, Bool, true, false, List, [], ◌∷◌, length, Option, Some, None, if◌then◌else◌, nat_le, ◌&&◌, ◌||◌}
+-- The scanner's state: what it keeps of the tokens before, and how each token changes it.
+use Rattle.std.specs.Prelude.{ℕ, ◌+◌, ◌-◌, ◌<◌, Bool, true, false, List, [], ◌∷◌, length, Option, None, nat_le, ◌&&◌, ◌||◌}
 use Rattle.lucy_word.specs.Limits.{limit_number}
 use Rattle.lucy_word.specs.declared.limit.Limit.{Limit}
 use Rattle.lucy_word.specs.declared.limit.Limit.TheVariants as limit
@@ -9,6 +9,7 @@ use Rattle.lucy_token.specs.declared.token.Kind.TheVariants as kind
 use Rattle.lucy_token.specs.declared.state.Side.{Side}
 use Rattle.lucy_token.specs.declared.state.Side.TheVariants as side
 use Rattle.lucy_token.specs.declared.state.Level.{Level}
+use Rattle.lucy_token.specs.Before.{precedes_operand, past}
 
 -- the state before a token: the kind of the token before it; whether it stands in the head of a node, on the left or the
 -- right of a definition's `=`, or where a call of several results is due; the tokens of the definition so far, without parentheses; the nodes so far; what is
@@ -41,6 +42,7 @@ side_after at before (kind.Mark mark.Let) = side.Head
 side_after at before (kind.Mark mark.Rec) = side.Left
 side_after at before (kind.Mark mark.And) = side.Left
 side_after side.Left before (kind.Mark mark.Equals) = side_defined before
+side_after side.Called before (kind.Mark mark.Equals) = side_defined before
 side_after side.Called before (kind.Mark mark.Open) = side.Right
 side_after at before k = at
 
@@ -91,7 +93,7 @@ moved s k level outer = record {
 
 -- behind a `)` the parenthesis outside is the innermost again, and what was closed is an operand there
 abbrev pub closed : State → List Level → State
-closed s [] = moved s (kind.Mark mark.Close) s.level []
+closed s [] = moved s (kind.Mark mark.Close) fresh []
 closed s (l ∷ outer) = moved s (kind.Mark mark.Close) (served l) outer
 
 -- the state after a token of a kind
@@ -99,47 +101,6 @@ unfoldable pub after : State → Kind → State
 after s (kind.Mark mark.Open) = moved s (kind.Mark mark.Open) fresh (s.level ∷ s.outer)
 after s (kind.Mark mark.Close) = closed s s.outer
 after s k = moved s k (level_after s.before s.level k) s.outer
-
--- a word stands after these alone, and nothing else does
-abbrev pub wants_word : Kind → Bool
-wants_word (kind.Mark mark.When) = true
-wants_word (kind.Mark mark.Whenot) = true
-wants_word (kind.Mark mark.Merge) = true
-wants_word (kind.Mark mark.Colons) = true
-wants_word (kind.Mark mark.At) = true
-wants_word k = false
-
--- a word after these has its zeros kept apart from its ones
-abbrev pub wants_zero : Kind → Bool
-wants_zero (kind.Mark mark.Whenot) = true
-wants_zero (kind.Mark mark.Merge) = true
-wants_zero k = false
-
--- an operand may follow these on the right of a definition
-abbrev pub precedes_operand : Kind → Bool
-precedes_operand (kind.Mark mark.Equals) = true
-precedes_operand (kind.Mark mark.Open) = true
-precedes_operand (kind.Mark mark.Comma) = true
-precedes_operand (kind.Mark mark.If) = true
-precedes_operand (kind.Mark mark.Then) = true
-precedes_operand (kind.Mark mark.Else) = true
-precedes_operand (kind.Mark mark.Not) = true
-precedes_operand (kind.Mark mark.Buffer) = true
-precedes_operand (kind.Mark mark.Fby) = true
-precedes_operand (kind.Mark mark.Same) = true
-precedes_operand (kind.Mark mark.Differs) = true
-precedes_operand (kind.Mark mark.Less) = true
-precedes_operand (kind.Mark mark.AtMost) = true
-precedes_operand (kind.Mark mark.Greater) = true
-precedes_operand (kind.Mark mark.AtLeast) = true
-precedes_operand (kind.Mark mark.Plus) = true
-precedes_operand (kind.Mark mark.Minus) = true
-precedes_operand (kind.Mark mark.Star) = true
-precedes_operand (kind.Mark mark.Slash) = true
-precedes_operand (kind.Mark mark.Percent) = true
-precedes_operand (kind.Mark mark.Both) = true
-precedes_operand (kind.Mark mark.Either) = true
-precedes_operand k = false
 
 -- on the right of a definition
 abbrev pub is_right : Side → Bool
@@ -149,10 +110,6 @@ is_right at = false
 -- an operand begins here, if anything may: then a `-` directly before a digit belongs to a number
 unfoldable pub begins_operand : State → Bool
 begins_operand s = is_right s.side && (precedes_operand s.before || nat_le 1 s.level.wanted)
-
--- more than a limit allows
-abbrev pub past : Limit → ℕ → Option Limit
-past l n = if nat_le (limit_number l) n then Some l else None
 
 -- a definition's token, where so many of its tokens stand before it
 abbrev pub past_tokens : Side → ℕ → Option Limit
@@ -182,6 +139,11 @@ begins_entry at k = false
 -- the token is the first of an entry past the last one that a list may have
 unfoldable pub is_past_last : State → Kind → Bool
 is_past_last s k = is_comma s.before && nat_le (limit_number limit.Names) s.level.commas && begins_entry s.side k
+
+-- the state behind tokens of these kinds, the nearest first
+abbrev pub state_of : List Kind → State
+state_of [] = start
+state_of (k ∷ ks) = after (state_of ks) k
 
 -- what is counted may go one up
 abbrev pub HasRoom : State → Type 0

@@ -1,10 +1,11 @@
 -- What the scanner's pieces answer: one step in the cutting of a text.
-use Rattle.std.specs.Prelude.{ℕ, ◌≤◌, ◌≡◌, false, List, [], ◌∷◌, ◌++◌, take, None, Result, Ok, Err}
+use Rattle.std.specs.Prelude.{ℕ, ◌≤◌, ◌≡◌, false, List, [], ◌∷◌, ◌++◌, take, None, Result, Ok, Err, if◌then◌else◌}
 use Rattle.std.specs.Str.Parse.{IsNumeral, without_leading_sign}
 use Rattle.lucy_token.specs.declared.token.Kind.{Kind}
 use Rattle.lucy_token.specs.declared.token.Kind.TheVariants as kind
 use Rattle.lucy_token.specs.declared.token.What.{What}
 use Rattle.lucy_token.specs.declared.token.Token as token_type
+use Rattle.lucy_token.specs.declared.front.Front.{Front}
 use Rattle.lucy_token.specs.declared.front.Front.TheVariants as front
 use Rattle.lucy_token.specs.declared.scan.Step.{Step}
 use Rattle.lucy_token.specs.declared.scan.Step.TheVariants.{Gap, Token, Last, Stopped}
@@ -12,10 +13,15 @@ use Rattle.lucy_token.specs.declared.stop.Stop.{Stop}
 use Rattle.lucy_token.specs.declared.stop.Stop.TheVariants.{Fault}
 use Rattle.lucy_token.specs.declared.stop.SyntaxError.{SyntaxError}
 use Rattle.lucy_token.specs.declared.state.Level.{Level}
-use Rattle.lucy_token.specs.States.{State, start, limit_passed, is_past_last}
-use Rattle.lucy_token.specs.Fronts.{front_of}
+use Rattle.lucy_token.specs.Before.{nearest, wants_word, limit_at, is_entry_past}
+use Rattle.lucy_token.specs.States.{State, begins_operand}
+use Rattle.lucy_token.specs.Fronts.{begins_gap, gap_of, word_front, plain_front, front_of}
 use Rattle.lucy_token.specs.Contents.{Contains, IsMalformed}
 use Rattle.lucy_token.specs.Cuts.{Cuts, token_at}
+
+-- what stands at the front of a text, by the scanner's state
+abbrev pub front_in : State → List ℕ → Front
+front_in s text = if begins_gap text then gap_of text else if wants_word s.before then word_front text else plain_front (begins_operand s) text
 
 -- bytes that the front of a text can give as a token of the kind
 abbrev pub IsTokenOf : Kind → List ℕ → Type 0
@@ -28,24 +34,24 @@ abbrev pub IsContent : Kind → Kind → List ℕ → ℕ → Result What Syntax
 IsContent before k bytes from (Ok w) = Contains before k bytes w
 IsContent before k bytes from (Err e) = IsMalformed before k bytes from e
 
--- the front of the text, which begins at an offset in a state, is this token, which may stand there
-pub record IsRead (from : ℕ) (s : State) (text : List ℕ) (t : token_type.Token) (k : Kind) (n : ℕ) : Type 0 where
-  pub front : front_of s text ≡ front.Token k n
-  pub passes : limit_passed s k ≡ None
-  pub in_list : is_past_last s k ≡ false
-  pub stands_for : Contains s.before k (take n text) t.what
+-- the front of the text, which begins at an offset behind tokens of these kinds, is this token, which may stand there
+pub record IsRead (from : ℕ) (ks : List Kind) (text : List ℕ) (t : token_type.Token) (k : Kind) (n : ℕ) : Type 0 where
+  pub front : front_of ks text ≡ front.Token k n
+  pub passes : limit_at ks k ≡ None
+  pub in_list : is_entry_past ks k ≡ false
+  pub stands_for : Contains (nearest ks) k (take n text) t.what
   pub placed : t ≡ token_at t.what from n
 
 -- bytes between tokens; a token, after which the cutting goes on; one after which it stops; or why it stops here
-abbrev pub IsStep : ℕ → State → List ℕ → Step → Type 0
-IsStep from s text (Gap n) = front_of s text ≡ front.Gap n
-IsStep from s text (Token t k n) = IsRead from s text t k n
-IsStep from s text (Last t e) = Cuts from s text (t ∷ []) (Fault e)
-IsStep from s text (Stopped e) = Cuts from s text [] (Fault e)
+abbrev pub IsStep : ℕ → List Kind → List ℕ → Step → Type 0
+IsStep from ks text (Gap n) = front_of ks text ≡ front.Gap n
+IsStep from ks text (Token t k n) = IsRead from ks text t k n
+IsStep from ks text (Last t e) = Cuts from ks text (t ∷ []) (Fault e)
+IsStep from ks text (Stopped e) = Cuts from ks text [] (Fault e)
 
 -- Bytes that were passed stay passed: what cuts the rest cuts the whole, with these tokens before.
-abbrev pub CutsSoFar : List ℕ → List token_type.Token → ℕ → State → List ℕ → Type 0
-CutsSoFar text ts from s rest = (more : List token_type.Token) (stop : Stop) → Cuts from s rest more stop → Cuts 0 start text (ts ++ more) stop
+abbrev pub CutsSoFar : List ℕ → List token_type.Token → ℕ → List Kind → List ℕ → Type 0
+CutsSoFar text ts from ks rest = (more : List token_type.Token) (stop : Stop) → Cuts from ks rest more stop → Cuts 0 [] text (ts ++ more) stop
 
 -- none of these levels has more commas than so many
 abbrev pub FewCommas : ℕ → List Level → Type 0

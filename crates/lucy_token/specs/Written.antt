@@ -12,7 +12,7 @@ use Rattle.lucy_token.specs.declared.token.What.TheVariants as what
 use Rattle.lucy_token.specs.declared.token.Token.{Token}
 use Rattle.lucy_token.specs.Tokens.{kind_of}
 use Rattle.lucy_token.specs.Marks.{keywords}
-use Rattle.lucy_token.specs.States.{wants_word}
+use Rattle.lucy_token.specs.Before.{wants_word}
 use Rattle.lucy_token.specs.Fronts.{head, is_letter, is_name_byte, named_in}
 use Rattle.lucy_token.specs.Contents.{IsWordAfter}
 

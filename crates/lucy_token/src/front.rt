@@ -1,6 +1,7 @@
 // What stands at the front of a text.
-ghost use Rattle.std.specs.Prelude.{◌≡◌, ◌+◌, ◌<◌, ◌≤◌, length, drop, IfSome};
+ghost use Rattle.std.specs.Prelude.{◌≡◌, ◌==◌, ◌&&◌, ◌+◌, ◌<◌, ◌≤◌, length, drop, IfSome};
 ghost use Rattle.std.specs.List.{prefix_len};
+ghost use Rattle.lucy_token.specs.Steps.{front_in};
 ghost use Rattle.lucy_token.specs.Fronts as spec;
 
 use crate::mark::{KEYWORDS, Mark, SIGNS};
@@ -77,7 +78,7 @@ pub(crate) fn skip(text: &[u8], n: usize) -> &[u8]
 }
 
 fn closes(c: u8, more: &[u8]) -> bool
-    ensures { result ≡ spec.closes c more.now }
+    ensures { result ≡ (c == 42 && spec.head more.now == 41) }
 {
     c == b'*' && head(more) == b')'
 }
@@ -201,9 +202,8 @@ fn begins_gap(text: &[u8]) -> bool
 }
 
 // What stands at the front of a text that is not empty.
-#[tactic(auto, unfolding(crate::specs::Fronts::front_of))]
 pub(crate) fn at_front(context: &Context, text: &[u8]) -> Front
-    ensures { result ≡ spec.front_of context.now text.now }
+    ensures { result ≡ front_in context.now text.now }
 {
     if begins_gap(text) {
         gap(text)

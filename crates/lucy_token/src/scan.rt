@@ -1,8 +1,9 @@
 // A text cut into tokens.
-ghost use Rattle.std.specs.Prelude.{◌≡◌, ◌+◌, ◌<◌, ◌≤◌, [], ◌∷◌, ◌++◌, length, IfOk, OnOk};
+ghost use Rattle.std.specs.Prelude.{◌≡◌, ◌+◌, ◌<◌, ◌≤◌, List, [], ◌∷◌, ◌++◌, length, IfOk, OnOk};
 ghost use Rattle.lucy_word.specs.Limits.{limit_number};
 ghost use Rattle.lucy_token.specs.Contents as contents;
-ghost use Rattle.lucy_token.specs.States.{start};
+ghost use Rattle.lucy_token.specs.declared.token.Kind as kind;
+ghost use Rattle.lucy_token.specs.States.{state_of};
 ghost use Rattle.lucy_token.specs.Cuts.{Cuts};
 ghost use Rattle.lucy_token.specs.Steps.{IsStep};
 
@@ -39,7 +40,7 @@ fn unread<'a>(kind: Kind, bytes: &'a [u8]) -> What<'a>
 fn next_step<'a>(context: &Context, text: &'a [u8], from: usize) -> Step<'a>
     requires some { 0 < length text.now }
     requires short { from + length text.now ≤ limit_number Limit.Text }
-    ensures { IsStep from context.now text.now result }
+    ensures { (ks : List kind.Kind) → context.now ≡ state_of ks → IsStep from ks text.now result }
 {
     let (kind, n) = match at_front(context, text) {
         Front::Gap(n) => return Step::Gap(n),
@@ -78,7 +79,7 @@ fn add<'a>(list: &mut Vec<Token<'a>>, token: Token<'a>) -> Result<(), OutOfMemor
 /// byte or token that can't stand where it stands.
 pub fn tokens<'a>(alloc: Global, text: &'a [u8]) -> Result<Tokens<'a>, OutOfMemory>
     requires { length text.now ≤ limit_number Limit.Text }
-    ensures { IfOk result (λ t. Cuts 0 start text.now t.list.items t.stop) }
+    ensures { IfOk result (λ t. Cuts 0 [] text.now t.list.items t.stop) }
 {
     let mut list = Vec::new(alloc);
     let mut context = Context::start(alloc);

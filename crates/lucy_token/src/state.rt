@@ -1,5 +1,6 @@
 // What is known of a text before a token.
 ghost use Rattle.std.specs.Prelude.{◌≡◌, ◌<◌, OnOk};
+ghost use Rattle.lucy_token.specs.Before as before;
 ghost use Rattle.lucy_token.specs.States as spec;
 
 use crate::mark::Mark;
@@ -66,7 +67,7 @@ fn side_after(side: Side, before: Kind, kind: Kind) -> Side
     match (side, kind) {
         (_, Kind::Mark(Mark::Let)) => Side::Head,
         (_, Kind::Mark(Mark::Rec | Mark::And)) => Side::Left,
-        (Side::Left, Kind::Mark(Mark::Equals)) => side_defined(before),
+        (Side::Left | Side::Called, Kind::Mark(Mark::Equals)) => side_defined(before),
         (Side::Called, Kind::Mark(Mark::Open)) => Side::Right,
         (side, _) => side,
     }
@@ -132,7 +133,7 @@ fn level_after(before: Kind, level: Level, kind: Kind) -> Level
 
 // Whether a word stands behind a token of this kind, and nothing else.
 pub(crate) fn wants_word(kind: Kind) -> bool
-    ensures { result ≡ spec.wants_word kind }
+    ensures { result ≡ before.wants_word kind }
 {
     matches!(
         kind,
@@ -142,13 +143,13 @@ pub(crate) fn wants_word(kind: Kind) -> bool
 
 // Whether a word behind it wants a zero in its period.
 pub(crate) fn wants_zero(kind: Kind) -> bool
-    ensures { result ≡ spec.wants_zero kind }
+    ensures { result ≡ before.wants_zero kind }
 {
     matches!(kind, Kind::Mark(Mark::Whenot | Mark::Merge))
 }
 
 fn precedes_operand(kind: Kind) -> bool
-    ensures { result ≡ spec.precedes_operand kind }
+    ensures { result ≡ before.precedes_operand kind }
 {
     matches!(
         kind,
@@ -199,7 +200,7 @@ fn is_right(side: Side) -> bool
 }
 
 fn past(limit: Limit, n: u64) -> Option<Limit>
-    ensures { result ≡ spec.past limit n }
+    ensures { result ≡ before.past limit n }
 {
     if limit.number() <= n {
         Some(limit)
@@ -282,9 +283,10 @@ impl Context {
                 self.level = FRESH;
             }
             Kind::Mark(Mark::Close) => {
-                if let Some(level) = self.outer.pop() {
-                    self.level = served(level);
-                }
+                self.level = match self.outer.pop() {
+                    Some(level) => served(level),
+                    None => FRESH,
+                };
             }
             _ => self.level = level_after(self.before, self.level, kind),
         }

@@ -1,5 +1,4 @@
-use Rattle.std.proofs.Common.{ℕ, ◌+◌, ◌≡◌, length, subst, arith}
-use Rattle.lucy_token.specs.States.{start}
+use Rattle.std.proofs.Common.{[], ℕ, ◌+◌, ◌≡◌, length, subst, arith}
 use Rattle.lucy_token.specs.Written.{InOrder}
 use Rattle.lucy_token.proofs.OneCut.{one_cut}
 use Rattle.lucy_token.proofs.SomeCut.{some_cut}
@@ -10,7 +9,7 @@ pub returns-clause-one : goal.returns-clause-one
 returns-clause-one c text ts us a b p q = one_cut p q
 
 pub returns-clause-some : goal.returns-clause-some
-returns-clause-some c text none = some_cut (length text) 0 start text (omega arith) none
+returns-clause-some c text none = some_cut (length text) 0 [] text (omega arith) none
 
 pub returns-clause-rise : goal.returns-clause-rise
 returns-clause-rise c text ts a q =

@@ -1,11 +1,13 @@
-use Rattle.std.proofs.Common.{◌≤◌, ◌-◌, length, drop}
+use Rattle.std.proofs.Common.{◌≡◌, ◌≤◌, ◌-◌, List, length, drop}
+use Rattle.lucy_token.specs.declared.token.Kind.{Kind}
+use Rattle.lucy_token.specs.States.{state_of}
 use Rattle.lucy_token.specs.Steps.{CutsSoFar, IsBounded}
 use Rattle.lucy_token.proofs.scan.tokens.Given as goal
 
 abbrev pub invariant-text : goal.invariant-text
 invariant-text l = record {
   within : l.from ≤ length l.text;
-  passed : CutsSoFar l.text l.list.items l.from l.context (drop l.from l.text);
+  here : (ks : List Kind) × (l.context ≡ state_of ks) × CutsSoFar l.text l.list.items l.from ks (drop l.from l.text);
   bounded : IsBounded l.from l.context;
 }
 
