@@ -1,9 +1,12 @@
 // The needs of a node as a list of its own.
 ghost use Rattle.std.specs.Prelude.{◌≡◌, ◌⊎◌, ◌+◌, ◌<◌, ◌≤◌, ◌^◌, Some, length, take, map, slice_get, IfOk, IfErr};
+ghost use Rattle.std.specs.List.{AllByRecursion};
 ghost use Rattle.lucy_word.specs.declared.limit.Limit.TheVariants as lim;
 ghost use Rattle.lucy_word.specs.Limits.{limit_number};
+ghost use Rattle.lucy_word.specs.Stored.{IsStored};
 ghost use Rattle.lucy_place.specs.declared.placed.PlacedNode.{PlacedNode as Node};
 ghost use Rattle.lucy_need.specs.Meeting.{all_bits, most_needs, AreProperNeeds};
+ghost use Rattle.lucy_need.specs.Stored.{HasWords};
 ghost use Rattle.lucy_clock.specs.declared.error.ClockError.{ClockError as Fault};
 ghost use Rattle.lucy_clock.specs.declared.error.ClockError.TheVariants as err;
 ghost use Rattle.lucy_clock.specs.Clocks.{AreSignatures, clocks_of};
@@ -24,6 +27,7 @@ use std::alloc::Global;
 // The word of a side, as one of its own.
 fn word(alloc: Global, side: &Side<'_>) -> Result<Word, ClockError>
     ensures ok { IfOk result (λ w. w ≡ (side_term side.now).word) }
+    ensures stored { IfOk result IsStored }
     ensures refused { IfErr result (λ e. e ≡ err.OutOfMemory) }
 {
     match side.factor {
@@ -36,6 +40,7 @@ fn word(alloc: Global, side: &Side<'_>) -> Result<Word, ClockError>
 // The term of a side.
 fn term(alloc: Global, side: &Side<'_>) -> Result<Term, ClockError>
     ensures ok { IfOk result (λ t. t ≡ side_term side.now) }
+    ensures stored { IfOk result (λ t. IsStored t.word) }
     ensures refused { IfErr result (λ e. e ≡ err.OutOfMemory) }
 {
     Ok(Term {
@@ -47,6 +52,7 @@ fn term(alloc: Global, side: &Side<'_>) -> Result<Term, ClockError>
 // The need of a draft.
 fn need(alloc: Global, draft: &Draft<'_>) -> Result<Need, ClockError>
     ensures ok { IfOk result (λ n. n ≡ seen draft.now) }
+    ensures words { IfOk result HasWords }
     ensures refused { IfErr result (λ e. e ≡ err.OutOfMemory) }
 {
     let left = term(alloc, &draft.left)?;
@@ -61,6 +67,7 @@ fn need(alloc: Global, draft: &Draft<'_>) -> Result<Need, ClockError>
 // The needs of drafts.
 fn need_list(alloc: Global, drafts: &[Draft<'_>]) -> Result<Vec<Need>, ClockError>
     ensures ok { IfOk result (λ v. v.items ≡ map seen drafts.now) }
+    ensures words { IfOk result (λ v. AllByRecursion HasWords v.items) }
     ensures refused { IfErr result (λ e. e ≡ err.OutOfMemory) }
 {
     let mut list = Vec::new(alloc);
@@ -101,6 +108,6 @@ pub fn needs(
     let list = need_list(alloc, drafts.list())?;
     Ok(Needs {
         clocks: clocks as u32,
-        list: NeedList::new(list),
+        list: NeedList::of_stored(list),
     })
 }

@@ -24,6 +24,7 @@ pub(crate) fn copied(alloc: Global, word: &Word) -> Result<Word, ClockError>
 pub(crate) fn turned(alloc: Global, word: &Word) -> Result<Word, ClockError>
     requires { HasZero word.now }
     ensures ok { IfOk result (λ w. w ≡ turned word.now) }
+    ensures stored { IfOk result IsStored }
     ensures refused { IfErr result (λ e. e ≡ err.OutOfMemory) }
 {
     match complement(alloc, word) {
@@ -37,6 +38,7 @@ pub(crate) fn turned(alloc: Global, word: &Word) -> Result<Word, ClockError>
 pub(crate) fn delayed(alloc: Global, zeros: u64) -> Result<Word, ClockError>
     requires { zeros ≤ most_bound }
     ensures ok { IfOk result (λ w. w ≡ delayed zeros) }
+    ensures stored { IfOk result IsStored }
     ensures refused { IfErr result (λ e. e ≡ err.OutOfMemory) }
 {
     let mut prefix = Vec::new(alloc);
@@ -45,6 +47,7 @@ pub(crate) fn delayed(alloc: Global, zeros: u64) -> Result<Word, ClockError>
     }
     match Word::from_bits(alloc, &prefix, &[true]) {
         Ok(word) => Ok(word),
-        Err(_) => Err(ClockError::OutOfMemory),
+        Err(WordError::OutOfMemory) => Err(ClockError::OutOfMemory),
+        Err(WordError::BadWord(_) | WordError::TooLong | WordError::NoOne) => unreachable!(),
     }
 }

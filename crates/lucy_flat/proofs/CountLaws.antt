@@ -19,11 +19,13 @@ use Rattle.lucy_net.specs.Plans as plans
 use Rattle.lucy_net.specs.Proper.{input_of}
 use Rattle.lucy_clock.specs.declared.node_clock.NodeClock.{NodeClock}
 use Rattle.lucy_flat.specs.declared.draft.Draft.{Draft}
-use Rattle.lucy_meaning.specs.Spots.{Spot, at, node_at, kind_in, kind_of, kind_at, spot_form, spot_reads, site_in, callee_in}
+use Rattle.lucy_meaning.specs.Spots.{Spot, at, node_at, kind_at, spot_form, spot_reads, site_in}
+use Rattle.lucy_meaning.proofs.Parts.{kind_in, kind_of, callee_in}
 use Rattle.lucy_flat.specs.Extents.{size_in}
 use Rattle.lucy_meaning.specs.Sizes.{total_of}
 use Rattle.lucy_meaning.specs.Numbers.{number}
-use Rattle.lucy_flat.specs.Instances.{index_at, sizes_in, called}
+use Rattle.lucy_flat.specs.Instances.{index_at, sizes_in}
+use Rattle.lucy_flat.proofs.Parts.{called}
 use Rattle.lucy_flat.specs.Flat.{ring_size}
 use Rattle.lucy_flat.specs.Counts.{read_count, own_rings, own_sizes}
 use Rattle.lucy_meaning.proofs.Tables.{calls_below, total_law}

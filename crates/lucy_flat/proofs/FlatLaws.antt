@@ -20,7 +20,8 @@ use Rattle.lucy_net.specs.Plans as plans
 use Rattle.lucy_clock.specs.declared.node_clock.NodeClock.{NodeClock}
 use Rattle.lucy_flat.specs.declared.draft.Draft.{Draft}
 use Rattle.lucy_net.specs.Plans.{giver}
-use Rattle.lucy_meaning.specs.Spots.{main_of, Spot, at, node_at, kind_in, kind_of, kind_at, spot_reads, IsSpot, results_in}
+use Rattle.lucy_meaning.specs.Spots.{main_of, Spot, at, node_at, kind_at, spot_reads, IsSpot, results_in}
+use Rattle.lucy_meaning.proofs.Parts.{kind_in, kind_of}
 use Rattle.lucy_meaning.specs.Sizes.{all_places}
 use Rattle.lucy_meaning.specs.Numbers.{number}
 use Rattle.lucy_flat.specs.Instances.{sizes_in, word_at, index_at, IsSpotWord}

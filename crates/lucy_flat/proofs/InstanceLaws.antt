@@ -18,7 +18,8 @@ use Rattle.lucy_net.specs.declared.kind.ActorKind.{ActorKind}
 use Rattle.std.proofs.lemmas.List.{get_or_read}
 use Rattle.lucy_flat.specs.Clocked.{AreClocked}
 use Rattle.lucy_flat.specs.Extents.{HasSize, size_in}
-use Rattle.lucy_meaning.specs.Spots.{main_of, at, site_in, callee_in, node_at, kind_in, kind_of, kind_at, spot_form, result_place, spot_reads}
+use Rattle.lucy_meaning.specs.Spots.{main_of, at, site_in, node_at, kind_at, spot_form, result_place, spot_reads}
+use Rattle.lucy_meaning.proofs.Parts.{callee_in, kind_in, kind_of}
 use Rattle.lucy_meaning.specs.Sizes.{own_places, size_of}
 use Rattle.lucy_meaning.specs.Numbers.{begin_from, call_offset, number}
 use Rattle.lucy_flat.specs.Instances.{index_at, words_in, sizes_in, word_at, IsBase}

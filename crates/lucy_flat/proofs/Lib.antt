@@ -1,3 +1,4 @@
+pub mod Parts
 pub mod ExtentLaws
 pub mod AssemblyLaws
 pub mod GivingLaws

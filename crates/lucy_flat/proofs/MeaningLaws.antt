@@ -18,7 +18,8 @@ use Rattle.lucy_clock.specs.declared.node_clock.NodeClock.{NodeClock}
 use Rattle.lucy_net.specs.declared.net.Net.{Net}
 use Rattle.lucy_net.specs.Plans as plans
 use Rattle.lucy_net.specs.Causal.{actor_place, net_places}
-use Rattle.lucy_meaning.specs.Spots.{Spot, at, main_of, IsSpot, spot_form, form_if, form_at, reads_if, reads_at, results_in}
+use Rattle.lucy_meaning.specs.Spots.{Spot, at, main_of, IsSpot, spot_form, form_at, reads_at, results_in}
+use Rattle.lucy_meaning.proofs.Parts.{form_if, reads_if}
 use Rattle.lucy_meaning.specs.Sizes.{all_places}
 use Rattle.lucy_meaning.specs.Numbers.{number, numbered_place, numbered_places}
 use Rattle.lucy_meaning.specs.Kahn.{kahn}

@@ -20,12 +20,14 @@ use Rattle.lucy_clock.specs.declared.node_clock.NodeClock.{NodeClock}
 use Rattle.lucy_flat.specs.declared.draft.Draft.{Draft}
 use Rattle.lucy_flat.specs.declared.instance.Caller.{Caller}
 use Rattle.lucy_flat.specs.declared.instance.Instance.{Instance}
-use Rattle.lucy_meaning.specs.Spots.{main_of, Spot, at, site_in, callee_in, node_at}
+use Rattle.lucy_meaning.specs.Spots.{main_of, Spot, at, site_in, node_at}
+use Rattle.lucy_meaning.proofs.Parts.{callee_in}
 use Rattle.lucy_meaning.specs.Below.{Below}
 use Rattle.lucy_flat.specs.Extents.{actors_in, AreSumsOf}
 use Rattle.lucy_meaning.specs.Sizes.{AreCapped, own_places, size_of}
 use Rattle.lucy_meaning.specs.Numbers.{begin_from, call_offset}
-use Rattle.lucy_flat.specs.Instances.{called, index_at, word_at, base_clock}
+use Rattle.lucy_flat.specs.Instances.{index_at, word_at}
+use Rattle.lucy_flat.proofs.Parts.{called, base_clock}
 use Rattle.lucy_meaning.proofs.Tables.{below_take, calls_below, total_law}
 use Rattle.lucy_meaning.proofs.SizeLaws.{below_more}
 use Rattle.lucy_meaning.proofs.Lists.{there}

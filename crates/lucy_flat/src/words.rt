@@ -29,7 +29,8 @@ pub fn sampled(alloc: Global, own: &Word, word: &Word) -> Result<Word, FlatError
     match on(alloc, own, word) {
         Ok(word) => Ok(word),
         Err(WordError::TooLong) => Err(FlatError::Limit(Limit::Word)),
-        Err(_) => Err(FlatError::OutOfMemory),
+        Err(WordError::OutOfMemory) => Err(FlatError::OutOfMemory),
+        Err(WordError::BadWord(_) | WordError::NoOne) => unreachable!(),
     }
 }
 

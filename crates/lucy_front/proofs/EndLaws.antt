@@ -10,7 +10,8 @@ use Rattle.std.proofs.lemmas.Option.{same_Some, slice_get_within}
 use Rattle.lucy_place.specs.declared.placed.PlacedNode.{PlacedNode}
 use Rattle.lucy_place.specs.declared.entry.CallSite.{CallSite}
 use Rattle.lucy_place.specs.Proper.{IsProperNode, AreProper}
-use Rattle.lucy_meaning.specs.Spots.{at as at_place, node_at, main_of, callee_in, site_in}
+use Rattle.lucy_meaning.specs.Spots.{at as at_place, node_at, main_of, site_in}
+use Rattle.lucy_meaning.proofs.Parts.{callee_in}
 use Rattle.lucy_meaning.specs.Numbers.{begin_from, call_offset}
 use Rattle.lucy_meaning.specs.Sizes.{capped, own_places, size_of}
 use Rattle.lucy_meaning.proofs.Tables.{calls_below, total_law}

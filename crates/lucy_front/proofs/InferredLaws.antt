@@ -44,7 +44,7 @@ module _ (o : Options) (nodes : List PlacedNode) (above : List Signature) (n : P
   pub inferred : (c : NodeClock) (sizes : List ℕ) → c.sizes ≡ buffer_sizes n.bounds sizes → IsOpen o n → AreFewNeeds above n →
       IsInference (node_needs above n) o.scale o.lead c.words sizes → IsClocked o above n c
   inferred c sizes own is_open few is =
-      let words = is.inferred.are in
+      let words = is.are in
       let earliest = words.earliest.earliest in
       let count : length is.shape.clocks ≡ clocks_of n = is.of_needs.wide.clocks in
       let its : IsInferred o above n c = record {
@@ -55,7 +55,7 @@ module _ (o : Options) (nodes : List PlacedNode) (above : List Signature) (n : P
         earliest = λ other well fits clock number l. earliest.earliest other (fits_meets is.shape other count well fits) clock number l;
       } in
       clocked_by o nodes above n proper ports c sizes own few (inr its) words.earliest.count (λ i l. earliest.is.fits.words i (subst (λ k. i < k) (sym count) l)) earliest.is.fits.base earliest.is.meets
-      (within_limits (assigned c.words) _ sizes is.inferred.passes) is.inferred.passes
+      (within_limits (assigned c.words) _ sizes is.passes) is.passes
 
 -- a node that may be inferred needn't be written
 pub open_unshut : (o : Options) (n : PlacedNode) → IsOpen o n → IsShut o n → ⊥

@@ -1,7 +1,7 @@
 -- How places are named in print, and the line of a node.
-use Rattle.std.specs.Prelude.{ℕ, List, [], ◌∷◌, ◌++◌, Option, Some, None, map, flat_map, codes}
-use Rattle.std.specs.Option.{option_and_then, option_map, unwrap_or}
-use Rattle.std.specs.List.{range_with_len}
+use Rattle.std.specs.Prelude.{ℕ, List, [], ◌++◌, Option, map, codes}
+use Rattle.std.specs.Option.{option_and_then, option_map, option_map_or, unwrap_or}
+use Rattle.std.specs.List.{join_by, range_with_len}
 use Rattle.std.specs.Fmt.{decimal}
 use Rattle.lucy_tree.specs.declared.span.Name.{Name}
 use Rattle.lucy_place.specs.declared.placed.PlacedNode.{PlacedNode}
@@ -9,8 +9,7 @@ use Rattle.lucy_place.specs.Standing.{at_one}
 
 -- what is said of a thing, where it is there, or else nothing
 abbrev pub of_one : {A B : Type 0} → (A → List B) → Option A → List B
-of_one said None = []
-of_one said (Some x) = said x
+of_one said o = option_map_or said o []
 
 -- the written name of a place, where it has one
 abbrev pub name_at : PlacedNode → ℕ → Option Name
@@ -26,8 +25,7 @@ place_names n places = map (place_name n) places
 
 -- parted by `, `
 abbrev pub listed : List (List ℕ) → List ℕ
-listed [] = []
-listed (x ∷ xs) = x ++ flat_map (λ y. codes ", " ++ y) xs
+listed xs = join_by (λ x. x) (codes ", ") xs
 
 -- the places of the parameters: the first ones
 abbrev pub param_places : PlacedNode → List ℕ

@@ -1,5 +1,5 @@
 -- A text has one answer: what it is accepted as, or why it is refused.
-use Rattle.std.specs.Prelude.{ℕ, ◌≡◌, ◌⊎◌, List, slice_index}
+use Rattle.std.specs.Prelude.{ℕ, ◌≡◌, ◌⊎◌, List}
 use Rattle.lucy_host.specs.Operators.{Operator}
 use Rattle.lucy_place.specs.PlacedProgram.{PlacedProgram}
 use Rattle.lucy_types.specs.declared.ty.Ty.{Ty}
@@ -12,10 +12,9 @@ use Rattle.lucy_front.specs.declared.fault.NodeFault.TheVariants.{Rates, Clocks}
 use Rattle.lucy_front.specs.declared.accepted.Accepted.{Accepted}
 use Rattle.lucy_front.specs.Accepting.{IsClockedText, RefusesPhases, IsAccepted, Refuses}
 
--- the faults tell the same of a node: they are equal, but that other inequalities may show that there are no clocks; of a walk the first
--- need is compared alone
+-- the faults tell the same of a node: they are equal, but that other inequalities may show that there are no clocks
 abbrev pub AreFaultsAlike : NodeFault → NodeFault → Type 0
-AreFaultsAlike (Rates needs walk) (Rates those way) = (needs ≡ those) × (slice_index walk.items 0 ≡ slice_index way.items 0)
+AreFaultsAlike (Rates needs walk) (Rates those way) = (needs ≡ those) × (walk.items ≡ way.items)
 AreFaultsAlike (Clocks needs shape diffs cycle) (Clocks those like these round) = (needs ≡ those) × (shape ≡ like) × (diffs ≡ these)
 AreFaultsAlike f g = f ≡ g
 

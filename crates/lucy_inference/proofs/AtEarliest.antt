@@ -8,11 +8,12 @@ use Rattle.lucy_word.specs.Shortest.{Same}
 use Rattle.lucy_word.proofs.IndexLaws.{IsIndex-one, IsIndex-same}
 use Rattle.lucy_word.proofs.ShortLaws.{same_sym, same_trans}
 use Rattle.lucy_need.specs.Meeting.{Assignment}
+use Rattle.lucy_need.specs.Stored.{HasWords}
 use Rattle.lucy_need.specs.declared.need.Needs.{Needs}
 use Rattle.lucy_solve.specs.System.{IsEarliest, HasNoSolution}
 use Rattle.lucy_shape.specs.declared.shape.Shape.{Shape}
 use Rattle.lucy_shape.specs.Index.{index_of}
-use Rattle.lucy_shape.specs.Fitting.{IsLaidOut, IsShapeFor, IsFitting, HasWords, ArePositions}
+use Rattle.lucy_shape.specs.Fitting.{IsLaidOut, IsShapeFor, IsFitting, ArePositions}
 use Rattle.lucy_shape.specs.Inequalities.{system_of, SolvesShape}
 use Rattle.lucy_shape.specs.Writing.{HasLongWord}
 use Rattle.lucy_shape.proofs.WordIndex.{place_law}

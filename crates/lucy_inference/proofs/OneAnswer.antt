@@ -1,7 +1,5 @@
 -- Needs have one answer: words and sizes, or one reason why there are none.
 use Rattle.std.proofs.Common.{◌≡◌, ℕ, ◌+◌, ◌-◌, ◌<◌, ◌≤◌, true, false, Bool, length, List, inl, inr, sym, ap, ◌∙◌, subst, refl, arith}
-use Rattle.std.specs.Prelude.{slice_index}
-use Rattle.std.proofs.lemmas.Bool.{cases_order}
 use Rattle.std.proofs.lemmas.List.{ext_get_or}
 use Rattle.std.proofs.lemmas.List.Elements.{All-from_recursion}
 use Rattle.lucy_word.specs.Bits.{Bits, bit_at, one_if, ones_to, IsWord, most_bits}
@@ -21,13 +19,14 @@ use Rattle.lucy_shape.specs.declared.shape.RateFault.TheVariants as fault
 use Rattle.lucy_shape.specs.Index.{index_of}
 use Rattle.lucy_shape.specs.Fitting.{clock_at}
 use Rattle.lucy_shape.proofs.WordIndex.{place_law}
-use Rattle.lucy_rates.specs.Trees.{IsFirstUnequal}
 use Rattle.lucy_rates.specs.Vectors.{IsShapeOf}
+use Rattle.lucy_rates.proofs.OneWay.{one_walk_law}
 use Rattle.lucy_rates.proofs.OneShape.{one_shape, shape_or_none, one_limit, limit_or_walk}
 use Rattle.lucy_inference.specs.declared.refusal.Uninferred.{Uninferred}
 use Rattle.lucy_inference.specs.declared.refusal.Uninferred.TheVariants.{Rates, Clocks, Limit as LimitPassed, OutOfMemory}
 use Rattle.lucy_inference.specs.Earliest.{IsEarliestAssignment, AreEarliestWords}
-use Rattle.lucy_inference.specs.Inference.{HasLongClock, IsInferenceIn, IsInference}
+use Rattle.lucy_inference.specs.Inference.{HasLongClock, IsInference}
+use Rattle.lucy_inference.specs.Stages.{IsInferenceIn}
 use Rattle.lucy_inference.specs.Refusals.{PassesLimitIn, HasNoClocks, RefusesIn, RefusesShape, RefusesInference, AreAlike}
 
 -- words with the same places of ones are the same
@@ -157,18 +156,8 @@ shape_kept needs scale lead shape (LimitPassed l) p q = let e = shape_or_none ne
 shape_kept needs scale lead shape (Clocks told diffs cycle) p q = q
 shape_kept needs scale lead shape OutOfMemory p q = q
 
--- the first need that isn't balanced is one
-first_one : (needs : Needs) (one two : List ℕ) → IsFirstUnequal needs.list one → IsFirstUnequal needs.list two → slice_index one 0 ≡ slice_index two 0
-first_one needs one two p q =
-    let same : p.need ≡ q.need = elim (cases_order p.need q.need) [
-      | inl same ↦ same
-      | inr (inl less) ↦ absurd (p.uneven (q.before p.need less))
-      | inr (inr more) ↦ absurd (q.uneven (p.before q.need more))
-    ] in
-    ap (λ l. slice_index l 0) p.is ∙ same ∙ sym (ap (λ l. slice_index l 0) q.is)
-
 shapes_alike : (needs : Needs) (scale lead : ℕ) (e f : Uninferred) → RefusesShape needs scale lead e → RefusesShape needs scale lead f → AreAlike e f
-shapes_alike needs scale lead (Rates one) (Rates two) p q = first_one needs one.items two.items p.1 q.1
+shapes_alike needs scale lead (Rates one) (Rates two) p q = one_walk_law needs.list one.items two.items p.1 q.1
 shapes_alike needs scale lead (Rates walk) (LimitPassed l) p q = absurd (limit_or_walk needs scale lead l walk q p)
 shapes_alike needs scale lead (Rates walk) (Clocks told diffs cycle) p q = absurd q
 shapes_alike needs scale lead (Rates walk) OutOfMemory p q = absurd q
@@ -179,18 +168,21 @@ shapes_alike needs scale lead (LimitPassed l) OutOfMemory p q = absurd q
 shapes_alike needs scale lead (Clocks told diffs cycle) f p q = absurd p
 shapes_alike needs scale lead OutOfMemory f p q = absurd p
 
+in_shape : (needs : Needs) (scale lead : ℕ) (xs : List Bits) (ss : List ℕ) → (p : IsInference needs scale lead xs ss) → IsInferenceIn needs p.shape xs ss
+in_shape needs scale lead xs ss p = record { are = p.are; passes = p.passes }
+
 -- two inferences of the same needs are one
 pub inference_one : (needs : Needs) (scale lead : ℕ) (xs ys : List Bits) (ss ts : List ℕ) → IsInference needs scale lead xs ss → IsInference needs scale lead ys ts → (xs ≡ ys) × (ss ≡ ts)
 inference_one needs scale lead xs ys ss ts p q =
     let e = one_shape needs scale lead p.shape q.shape p.of_needs q.of_needs in
-    one_in needs q.shape q.of_needs.wide.clocks xs ys ss ts (subst (λ s. IsInferenceIn needs s xs ss) e p.inferred) q.inferred
+    one_in needs q.shape q.of_needs.wide.clocks xs ys ss ts (subst (λ s. IsInferenceIn needs s xs ss) e (in_shape needs scale lead xs ss p)) (in_shape needs scale lead ys ts q)
 
 -- where clocks are inferred there is no reason why none are
 pub inference_kept : (needs : Needs) (scale lead : ℕ) (xs : List Bits) (ss : List ℕ) (e : Uninferred) → IsInference needs scale lead xs ss → RefusesInference needs scale lead e → ⊥
 inference_kept needs scale lead xs ss e p (inl q) = shape_kept needs scale lead p.shape e p.of_needs q
 inference_kept needs scale lead xs ss e p (inr q) =
     let same = one_shape needs scale lead p.shape q.0 p.of_needs q.1 in
-    kept_in needs q.0 q.1.wide.clocks xs ss e (subst (λ s. IsInferenceIn needs s xs ss) same p.inferred) q.2
+    kept_in needs q.0 q.1.wide.clocks xs ss e (subst (λ s. IsInferenceIn needs s xs ss) same (in_shape needs scale lead xs ss p)) q.2
 
 -- and reasons tell the same
 pub refusals_alike : (needs : Needs) (scale lead : ℕ) (e f : Uninferred) → RefusesInference needs scale lead e → RefusesInference needs scale lead f → AreAlike e f

@@ -14,6 +14,7 @@ use Rattle.lucy_word.specs.declared.limit.Limit.TheVariants as limit
 use Rattle.lucy_word.proofs.BitsLaws.{period_some}
 use Rattle.lucy_word.proofs.ShortLaws.{shortest_one}
 use Rattle.lucy_need.specs.Meeting.{assigned, MeetsAll}
+use Rattle.lucy_need.specs.Stored.{HasWords}
 use Rattle.lucy_need.specs.declared.need.Needs.{Needs}
 use Rattle.lucy_check.specs.Passing.{AllWithinLimits, IsFirstRefusal, OrNoMemory as OrNoFault}
 use Rattle.lucy_check.specs.declared.fault.CheckFault.{CheckFault}
@@ -24,7 +25,7 @@ use Rattle.lucy_solve.specs.Outcomes.{IsRefutedBy}
 use Rattle.lucy_shape.specs.declared.shape.Shape.{Shape}
 use Rattle.lucy_shape.specs.declared.shape.RateFault.{RateFault}
 use Rattle.lucy_shape.specs.declared.shape.RateFault.TheVariants as fault
-use Rattle.lucy_shape.specs.Fitting.{IsShapeFor, HasWords}
+use Rattle.lucy_shape.specs.Fitting.{IsShapeFor}
 use Rattle.lucy_shape.specs.Inequalities.{inequalities, system_of, SolvesShape}
 use Rattle.lucy_shape.specs.Writing.{AreWordsOf, AreAnswered, AreRefused}
 use Rattle.lucy_shape.proofs.Writings.{words_law}
@@ -160,13 +161,13 @@ in_shape needs scale lead shape e is (inr refused) = inr (inr (shape, is, refuse
 
 -- what is inferred meets the needs within the limits
 pub inference_met : (needs : Needs) (scale lead : ℕ) (words : List Bits) (sizes : List ℕ) → IsInference needs scale lead words sizes → MeetsAll (assigned words) needs.list
-inference_met needs scale lead words sizes is = passes_all (assigned words) needs.list sizes is.inferred.passes
+inference_met needs scale lead words sizes is = passes_all (assigned words) needs.list sizes is.passes
 
 pub inference_within : (needs : Needs) (scale lead : ℕ) (words : List Bits) (sizes : List ℕ) → IsInference needs scale lead words sizes → AllWithinLimits (assigned words) needs.list
-inference_within needs scale lead words sizes is = all_within (assigned words) needs.list sizes is.inferred.passes
+inference_within needs scale lead words sizes is = all_within (assigned words) needs.list sizes is.passes
 
 pub inference_base : (needs : Needs) (scale lead : ℕ) (words : List Bits) (sizes : List ℕ) → IsInference needs scale lead words sizes → assigned words 0 ≡ always
-inference_base needs scale lead words sizes is = base_word needs is.shape words is.of_needs.wide.clocks is.inferred.are.earliest
+inference_base needs scale lead words sizes is = base_word needs is.shape words is.of_needs.wide.clocks is.are.earliest
 
 -- the answers of the laws, of one that is right
 pub accepted_as : (needs : Needs) (scale lead : ℕ) (words : List Bits) (sizes : List ℕ) → IsInference needs scale lead words sizes → (e : Uninferred) → OrNoMemory (RefusesInference needs scale lead) e → e ≡ OutOfMemory

@@ -33,13 +33,10 @@ pub record AreInferredWords (needs : Needs) (shape : Shape) (words : List Bits) 
   pub short : HasLongClock shape (assigned words) → ⊥
   pub few : word_bits words ≤ limit_number limit.Bits
 
--- with the sizes of the buffers, one for each adaptability in order, and within the limits of the checker
-pub record IsInferenceIn (needs : Needs) (shape : Shape) (words : List Bits) (sizes : List ℕ) : Type 0 where
-  pub are : AreInferredWords needs shape words
-  pub passes : PassesAll (assigned words) needs.list sizes
-
--- in the shape that the needs have with this scale and this lead
+-- these in the shape that the needs have with this scale and this lead, and the sizes of the buffers, one for each adaptability in
+-- order, within the limits of the checker
 pub record IsInference (needs : Needs) (scale lead : ℕ) (words : List Bits) (sizes : List ℕ) : Type 0 where
   pub shape : Shape
   pub of_needs : IsShapeOf needs scale lead shape
-  pub inferred : IsInferenceIn needs shape words sizes
+  pub are : AreInferredWords needs shape words
+  pub passes : PassesAll (assigned words) needs.list sizes

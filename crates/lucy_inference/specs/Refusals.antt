@@ -1,6 +1,6 @@
 -- Why no clocks are inferred. Limits are looked at in this order: Rate, Positions, Inequalities, Word, Bits, and then those of the
 -- checker, Word and Compare, need by need. What else is wrong with the needs comes between them.
-use Rattle.std.specs.Prelude.{ℕ, ◌<◌, ◌≡◌, ◌⊎◌, List, length, slice_index}
+use Rattle.std.specs.Prelude.{ℕ, ◌<◌, ◌≡◌, ◌⊎◌, List, length}
 use Rattle.lucy_word.specs.Bits.{Bits}
 use Rattle.lucy_word.specs.Limits.{limit_number}
 use Rattle.lucy_word.specs.declared.limit.Limit.{Limit}
@@ -76,10 +76,9 @@ abbrev pub RefusesInference : Needs → ℕ → ℕ → Uninferred → Type 0
 RefusesInference needs scale lead e =
     RefusesShape needs scale lead e ⊎ ((shape : Shape) × IsShapeOf needs scale lead shape × RefusesIn needs shape e)
 
--- the refusals tell the same: walks that begin with the same need, or the same shape and inequalities, whatever the cycle, or
--- the same limit
+-- the refusals tell the same: the same walk, or the same shape and inequalities, whatever the cycle, or the same limit
 abbrev pub AreAlike : Uninferred → Uninferred → Type 0
-AreAlike (Rates one) (Rates two) = slice_index one.items 0 ≡ slice_index two.items 0
+AreAlike (Rates one) (Rates two) = one.items ≡ two.items
 AreAlike (Clocks shape diffs cycle) (Clocks other others round) = (shape ≡ other) × (diffs ≡ others)
 AreAlike (LimitPassed one) (LimitPassed two) = one ≡ two
 AreAlike one two = ⊥

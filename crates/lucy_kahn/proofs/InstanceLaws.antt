@@ -8,7 +8,8 @@ use Rattle.std.proofs.lemmas.Option.{same_Some, slice_get_within, get_or_from_sl
 use Rattle.lucy_place.specs.declared.placed.PlacedNode.{PlacedNode}
 use Rattle.lucy_place.specs.declared.entry.CallSite.{CallSite}
 use Rattle.lucy_place.specs.Proper.{AreProper}
-use Rattle.lucy_meaning.specs.Spots.{node_at, callee_in, site_in}
+use Rattle.lucy_meaning.specs.Spots.{node_at, site_in}
+use Rattle.lucy_meaning.proofs.Parts.{callee_in}
 use Rattle.lucy_meaning.specs.Sizes.{total_of}
 use Rattle.lucy_meaning.proofs.Lists.{there, get_left, get_right}
 use Rattle.lucy_meaning.proofs.Tables.{calls_below, total_law}

@@ -4,7 +4,7 @@ ghost use Rattle.lucy_word.specs.declared.limit.Limit.TheVariants as limit;
 ghost use Rattle.lucy_host.specs.Host.{Serves, lent};
 ghost use Rattle.lucy_host.specs.Operators.{kinds_of};
 ghost use Rattle.lucy_host.specs.declared.kind.HostKind.{HostKind};
-ghost use Rattle.lucy_place.specs.Proper.{AreProper};
+ghost use Rattle.lucy_place.specs.Faults.{most_places};
 ghost use Rattle.lucy_meaning.specs.Spots.{main_of, results_of};
 ghost use Rattle.lucy_meaning.specs.Kahn as meaning;
 ghost use Rattle.lucy_kahn.specs.declared.error.KahnError.TheVariants as error;
@@ -64,16 +64,14 @@ fn add(alloc: Global, given: &mut Inputs, number: u32, list: &[i64]) -> Result<(
     Ok(())
 }
 
-// The lists of these places. Where there are more than can be numbered, memory is said to want.
+// The lists of these places.
 fn results(alloc: Global, own: &Lists, places: &[u32]) -> Result<Inputs, KahnError>
-    requires { AreThere own.now places.now }
+    requires there { AreThere own.now places.now }
+    requires few { length places.now ≤ most_places }
     ensures ok { IfOk result (λ given. given ≡ map (own_at own.now) places.now) }
     ensures refused { IfErr result (λ e. e ≡ error.OutOfMemory) }
 {
     let mut given = Inputs::new(alloc);
-    if places.len() >= u32::MAX as usize {
-        return Err(KahnError::OutOfMemory);
-    }
     'each: for (i, place) in places.iter().enumerate() {
         add(alloc, &mut given, i as u32, own.at(*place))?;
     }

@@ -8,7 +8,8 @@ use Rattle.lucy_place.specs.declared.entry.CallSite.{CallSite}
 use Rattle.lucy_place.specs.declared.entry.PlaceKind.{PlaceKind}
 use Rattle.lucy_place.specs.declared.entry.PlaceKind.TheVariants.{Param, Defined, Lit, Op, Host, When, Merge, Fby, Buffer, Result}
 use Rattle.lucy_place.specs.Proper.{at_one, Stands, IsPlace, ArePlaces, IsProperKind, AreProper}
-use Rattle.lucy_meaning.specs.Spots.{Spot, at, site_in, callee_in, node_at, kind_in, kind_at, IsSpot, argument, result_place, param_reads, spot_reads, reads_if, reads_at}
+use Rattle.lucy_meaning.specs.Spots.{Spot, at, site_in, node_at, kind_at, IsSpot, argument, result_place, param_reads, spot_reads, reads_at}
+use Rattle.lucy_meaning.proofs.Parts.{callee_in, kind_in, reads_if}
 use Rattle.lucy_meaning.proofs.Paths.{low_of, IsCalled, called, is_at, kind_there, proper_at}
 
 pub get_take : {A : Type 0} (xs : List A) (i j : ℕ) (x : A) → slice_get (take i xs) j ≡ Some x → slice_get xs j ≡ Some x

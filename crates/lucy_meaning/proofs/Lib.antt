@@ -1,3 +1,4 @@
+pub mod Parts
 pub mod Lists
 pub mod Tables
 pub mod SizeLaws

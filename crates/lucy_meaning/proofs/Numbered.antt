@@ -5,7 +5,8 @@ use Rattle.std.proofs.lemmas.List.{length-map}
 use Rattle.std.proofs.lemmas.Option.{same_Some, slice_get_within, slice_get-map}
 use Rattle.lucy_place.specs.declared.placed.PlacedNode.{PlacedNode}
 use Rattle.lucy_place.specs.Proper.{AreProper}
-use Rattle.lucy_meaning.specs.Spots.{Spot, main_of, node_from, node_at, kind_in, IsSpot}
+use Rattle.lucy_meaning.specs.Spots.{Spot, main_of, node_from, node_at, IsSpot}
+use Rattle.lucy_meaning.proofs.Parts.{kind_in}
 use Rattle.lucy_meaning.specs.Sizes.{all_places}
 use Rattle.lucy_meaning.specs.Numbers.{number_from, number, spots, numbered_place, numbered_places}
 use Rattle.lucy_meaning.proofs.Lists.{there}

@@ -6,7 +6,8 @@ use Rattle.lucy_place.specs.declared.entry.PlaceEntry.{PlaceEntry}
 use Rattle.lucy_place.specs.declared.entry.CallSite.{CallSite}
 use Rattle.lucy_place.specs.declared.entry.PlaceKind.{PlaceKind}
 use Rattle.lucy_place.specs.Proper.{at_one, IsPlace, IsProperNode, AreProper}
-use Rattle.lucy_meaning.specs.Spots.{site_in, callee_in, node_from, node_at, kind_of, kind_in}
+use Rattle.lucy_meaning.specs.Spots.{site_in, node_from, node_at}
+use Rattle.lucy_meaning.proofs.Parts.{callee_in, kind_of, kind_in}
 use Rattle.lucy_meaning.specs.Numbers.{call_offset, begin_from}
 use Rattle.lucy_meaning.proofs.Lists.{there}
 

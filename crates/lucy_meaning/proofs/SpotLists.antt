@@ -11,7 +11,8 @@ use Rattle.lucy_place.specs.declared.placed.PlacedNode.{PlacedNode}
 use Rattle.lucy_place.specs.declared.entry.CallSite.{CallSite}
 use Rattle.lucy_place.specs.declared.entry.PlaceKind.{PlaceKind}
 use Rattle.lucy_place.specs.Proper.{at_one, AreProper}
-use Rattle.lucy_meaning.specs.Spots.{Spot, at, site_in, callee_in, node_from, kind_in}
+use Rattle.lucy_meaning.specs.Spots.{Spot, at, site_in, node_from}
+use Rattle.lucy_meaning.proofs.Parts.{callee_in, kind_in}
 use Rattle.lucy_meaning.specs.Below.{Below}
 use Rattle.lucy_meaning.specs.Sizes.{own_places, size_of}
 use Rattle.lucy_meaning.specs.Numbers.{call_offset, begin_from, number_from, within_call, inner_spots, spots_in, spots_of}

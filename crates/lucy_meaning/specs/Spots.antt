@@ -1,8 +1,8 @@
 -- The instance places of a program: the places of main, and those of each instance that a call makes of the node it calls.
-use Rattle.std.specs.Prelude.{ℕ, ◌-◌, ◌≡◌, List, [], ◌∷◌, map, length, slice_get, slice_index_or, Option, Some, None}
+use Rattle.std.specs.Prelude.{ℕ, ◌-◌, ◌≡◌, List, [], ◌∷◌, map, length, slice_get, slice_index_or, Option, Some, option_map}
+use Rattle.std.specs.Option.{option_and_then, option_map_or}
 use Rattle.lucy_stream.specs.Forms.{Form, Given, Constant, Pointwise, Hosted, Kept, Merged, Delayed, Same}
 use Rattle.lucy_place.specs.declared.placed.PlacedNode.{PlacedNode}
-use Rattle.lucy_place.specs.declared.entry.PlaceEntry.{PlaceEntry}
 use Rattle.lucy_place.specs.declared.entry.CallSite.{CallSite}
 use Rattle.lucy_place.specs.declared.entry.PlaceKind.{PlaceKind}
 use Rattle.lucy_place.specs.declared.entry.PlaceKind.TheVariants.{Param, Defined, Lit, Op, Host, When, Merge, Fby, Buffer, Result}
@@ -22,18 +22,12 @@ at path place = record { path = path; place = place }
 
 -- the call of a number in a node
 abbrev pub site_in : Option PlacedNode → ℕ → Option CallSite
-site_in None call = None
-site_in (Some n) call = at_one n.calls call
-
--- the node that a call calls
-abbrev pub callee_in : List PlacedNode → Option CallSite → Option PlacedNode
-callee_in nodes None = None
-callee_in nodes (Some site) = slice_get nodes site.node
+site_in o call = option_and_then (λ n. at_one n.calls call) o
 
 -- the node that a path of calls leads to from a node
 abbrev pub node_from : List PlacedNode → Option PlacedNode → List ℕ → Option PlacedNode
 node_from nodes begin [] = begin
-node_from nodes begin (call ∷ path) = callee_in nodes (site_in (node_from nodes begin path) call)
+node_from nodes begin (call ∷ path) = option_and_then (λ site. slice_get nodes site.node) (site_in (node_from nodes begin path) call)
 
 -- main is the last node
 abbrev pub main_of : List PlacedNode → Option PlacedNode
@@ -43,19 +37,9 @@ main_of nodes = slice_get nodes (length nodes - 1)
 abbrev pub node_at : List PlacedNode → List ℕ → Option PlacedNode
 node_at nodes path = node_from nodes (main_of nodes) path
 
--- what stands at a place of a node, if it is one
-abbrev pub kind_of : Option PlaceEntry → Option PlaceKind
-kind_of None = None
-kind_of (Some entry) = Some entry.kind
-
--- what stands at a place of the node, if both are there
-abbrev pub kind_in : Option PlacedNode → ℕ → Option PlaceKind
-kind_in None place = None
-kind_in (Some n) place = kind_of (at_one n.places place)
-
 -- what stands at an instance place, if it is one
 abbrev pub kind_at : List PlacedNode → Spot → Option PlaceKind
-kind_at nodes spot = kind_in (node_at nodes spot.path) spot.place
+kind_at nodes spot = option_map (λ entry. entry.kind) (option_and_then (λ n. at_one n.places spot.place) (node_at nodes spot.path))
 
 -- it is an instance place: something stands there
 abbrev pub IsSpot : List PlacedNode → Spot → Type 0
@@ -63,13 +47,11 @@ IsSpot nodes spot = (kind : PlaceKind) × (kind_at nodes spot ≡ Some kind)
 
 -- the place of a call's argument in the caller
 abbrev pub argument : Option CallSite → ℕ → ℕ
-argument None place = 0
-argument (Some site) place = slice_index_or site.args (place - 1) 0
+argument o place = option_map_or (λ site. slice_index_or site.args (place - 1) 0) o 0
 
 -- the place of a result in the node that is called
 abbrev pub result_place : Option PlacedNode → ℕ → ℕ
-result_place None number = 0
-result_place (Some n) number = slice_index_or n.results number 0
+result_place o number = option_map_or (λ n. slice_index_or n.results number 0) o 0
 
 -- a parameter of main has an input of its own, that of a call hands on
 abbrev pub param_form : List ℕ → ℕ → Form
@@ -101,28 +83,17 @@ spot_reads nodes spot Param = param_reads nodes spot.path spot.place
 spot_reads nodes spot (Result call number) = at (call ∷ spot.path) (result_place (node_at nodes (call ∷ spot.path)) number) ∷ []
 spot_reads nodes spot kind = map (at spot.path) (operands_of kind)
 
--- the same, of an instance place (what isn't one reads nothing)
-abbrev pub form_if : Spot → Option PlaceKind → Form
-form_if spot None = Same
-form_if spot (Some kind) = spot_form spot kind
-
 -- the form of an instance place
 abbrev pub form_at : List PlacedNode → Spot → Form
-form_at nodes spot = form_if spot (kind_at nodes spot)
+form_at nodes spot = option_map_or (spot_form spot) (kind_at nodes spot) Same
 
--- what an instance place reads, where this stands there
-abbrev pub reads_if : List PlacedNode → Spot → Option PlaceKind → List Spot
-reads_if nodes spot None = []
-reads_if nodes spot (Some kind) = spot_reads nodes spot kind
-
--- the instance places that an instance place reads
+-- the instance places that an instance place reads; what isn't one reads nothing
 abbrev pub reads_at : List PlacedNode → Spot → List Spot
-reads_at nodes spot = reads_if nodes spot (kind_at nodes spot)
+reads_at nodes spot = option_map_or (spot_reads nodes spot) (kind_at nodes spot) []
 
 -- the places of a node's results
 abbrev pub results_in : Option PlacedNode → List ℕ
-results_in None = []
-results_in (Some n) = n.results
+results_in o = option_map_or (λ n. n.results) o []
 
 -- the instance places of main's results, in order
 abbrev pub results_of : List PlacedNode → List Spot

@@ -3,7 +3,7 @@ ghost use Rattle.std.specs.Prelude.{◌≡◌, IfOk};
 ghost use Rattle.lucy_word.specs.Always.{always};
 ghost use Rattle.lucy_word.specs.Stored.{IsStored};
 
-use lucy_word::{OutOfMemory, Word};
+use lucy_word::{OutOfMemory, Word, WordError};
 use std::alloc::Global;
 
 /// The word (1), which has a one at every instant: that of the base, and of a term that is a clock alone.
@@ -13,6 +13,7 @@ pub fn always(alloc: Global) -> Result<Word, OutOfMemory>
 {
     match Word::from_bits(alloc, &[], &[true]) {
         Ok(word) => Ok(word),
-        Err(_) => Err(OutOfMemory),
+        Err(WordError::OutOfMemory) => Err(OutOfMemory),
+        Err(WordError::BadWord(_) | WordError::TooLong | WordError::NoOne) => unreachable!(),
     }
 }

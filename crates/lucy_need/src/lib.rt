@@ -10,4 +10,4 @@ mod need;
 
 pub use base::always;
 pub use laws::{needs_are_of_bits, plain_needs};
-pub use need::{Need, NeedList, Needs, Term};
+pub use need::{Need, NeedList, Needs, Term, needs_have_words};

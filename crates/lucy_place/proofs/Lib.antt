@@ -20,6 +20,7 @@ mod ProperPhrases
 mod NodeParts
 mod NodeFaults
 mod NameLaws
+mod ResultLaws
 mod ProperNodes
 pub mod ProperPrograms
 mod OperatorLaws

@@ -99,7 +99,7 @@ neither true b h = cc
 neither false true h = cc
 neither false false h = (refl, refl)
 
-behind_one : (before : List (List ℕ)) (text own : List ℕ) → is_in (before ++ own ∷ []) text ≡ false → (is_in before text ≡ false) × (is_text text own ≡ false)
+pub behind_one : (before : List (List ℕ)) (text own : List ℕ) → is_in (before ++ own ∷ []) text ≡ false → (is_in before text ≡ false) × (is_text text own ≡ false)
 behind_one before text own h =
     let both = neither (is_in before text) (is_in (own ∷ []) text) (sym (list_any-append (is_text text) before (own ∷ [])) ∙ h) in
     (both.0, (neither (is_text text own) false both.1).0)

@@ -27,6 +27,7 @@ use Rattle.lucy_place.proofs.Good.{known_of, GoodPlace, GoodBuffer, GoodCall, Go
 use Rattle.lucy_place.proofs.ProperPhrases.{good_join, defs_good}
 use Rattle.lucy_place.proofs.NodeFaults.{defs_faultless, results_faultless, rooms_few}
 use Rattle.lucy_place.proofs.NameLaws.{distinct}
+use Rattle.lucy_place.proofs.ResultLaws as results
 use Rattle.lucy_place.proofs.ReadOrder.{read_once}
 use Rattle.lucy_place.proofs.NodeParts.{buffers_params, buffers_defined, reach_params, reach_defined, known, node_set, rights_lie}
 
@@ -139,6 +140,11 @@ module _ (ops : List Operator) (all above : ProgramTree) (t : NodeTree) (placed 
       let rooms = rooms_few ops all above t none in
       omega arith
 
+  results_few : length n.results ≤ most_places
+  results_few =
+      let few = results.few_results (map text_of (streams t)) t.results (results_faultless ops all above t none) in
+      omega (arith, few, rooms_few ops all above t none, length-map (streams t) text_of, length-map t.results (λ (r : Name). stream_place k r.text))
+
   reach_all : Reaches start (past_defs (first_next t) t.defs) (ps ++ (ds ++ rs)) cs
   reach_all =
       let end : Next = past_defs (first_next t) t.defs in
@@ -167,6 +173,7 @@ module _ (ops : List Operator) (all above : ProgramTree) (t : NodeTree) (placed 
         results = are_places n n.results named;
         named = named;
         few_calls = calls_few;
+        few_results = results_few;
         distinct = distinct ops all above t none;
         once = read_once ops all above t shape none;
       }

@@ -51,6 +51,7 @@ IsProperKind n p (Result c j) = (n.params < p) × (site : CallSite) × (at_one n
 pub record IsProperNode (above : List PlacedNode) (n : PlacedNode) : Type 0 where
   pub few : length n.places ≤ most_places
   pub few_calls : length n.calls ≤ most_places
+  pub few_results : length n.results ≤ most_places
   pub params : n.params ≤ length n.places
   pub labels : (p : ℕ) (entry : PlaceEntry) → at_one n.places p ≡ Some entry → IsLabelled entry.kind entry
   pub distinct : AreDistinct n

@@ -7,9 +7,9 @@ use Rattle.std.proofs.lemmas.Bool.{cases_lt}
 use Rattle.std.proofs.lemmas.Nat.{mul-le}
 use Rattle.std.proofs.Math.Nat.{eq_of_mul-eq-mul_right, le_of_dvd, dvd-mul_left}
 use Rattle.lucy_need.specs.Meeting.{IsWithin}
+use Rattle.lucy_need.specs.Stored.{HasWords}
 use Rattle.lucy_need.specs.declared.need.Need.{Need}
 use Rattle.lucy_need.specs.declared.need.Need.TheVariants.{Equal, Adapt}
-use Rattle.lucy_shape.specs.Fitting.{HasWords}
 use Rattle.lucy_rates.specs.declared.fraction.Fraction.{Fraction}
 use Rattle.lucy_rates.specs.Walks.{need_at, no_need, over, under, IsWalk, AreJoined, IsRoot}
 use Rattle.lucy_rates.specs.Trees.{IsTree, IsTreeRate}
@@ -59,7 +59,7 @@ not_both_zero num den h a b =
     let l : 2 ≤ 1 = le_of_dvd (omega arith) (h.2 2 (subst P (sym a) two) (subst P (sym b) two)) in
     omega arith
 
-some_den : (num den a b : ℕ) → IsGcd num den 1 → 0 < b → num * b ≡ a * den → 0 < den
+pub some_den : (num den a b : ℕ) → IsGcd num den 1 → 0 < b → num * b ≡ a * den → 0 < den
 some_den num den a b h some e = elim (cases_lt 0 den) [
   | inl l ↦ l
   | inr l ↦
@@ -69,7 +69,7 @@ some_den num den a b h some e = elim (cases_lt 0 den) [
 ]
 
 -- two fractions that a walk gives are one
-same_rate : (num den a b n d : ℕ) → IsGcd num den 1 → IsGcd n d 1 → 0 < b → 0 < d → num * b ≡ a * den → n * b ≡ d * a → (num ≡ n) × (den ≡ d)
+pub same_rate : (num den a b n d : ℕ) → IsGcd num den 1 → IsGcd n d 1 → 0 < b → 0 < d → num * b ≡ a * den → n * b ≡ d * a → (num ≡ n) × (den ≡ d)
 same_rate num den a b n d h k some_b some_d e f =
     let some = some_den num den a b h some_b e in
     let p : num * b * d ≡ a * den * d = ap (λ x. x * d) e in

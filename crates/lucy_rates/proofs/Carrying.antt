@@ -17,7 +17,7 @@ use Rattle.lucy_need.specs.declared.need.Need.TheVariants.{Equal, Adapt}
 use Rattle.lucy_need.specs.declared.need.Needs.{Needs}
 use Rattle.lucy_shape.specs.declared.shape.Shape.{Shape}
 use Rattle.lucy_shape.specs.Fitting.{unused, clock_at, IsUsed, AreCarried, IsCarried, IsLaidOut, variable_count, position_count}
-use Rattle.lucy_shape.specs.Fitting.{HasWords}
+use Rattle.lucy_need.specs.Stored.{HasWords}
 use Rattle.lucy_rates.specs.Walks.{first_of, second_of, no_need, need_at, over, under, Leads, IsWalk, AreJoined}
 use Rattle.lucy_rates.specs.Trees.{IsNamedBy}
 use Rattle.lucy_rates.specs.Vectors.{IsInUse, IsTop, IsWideShape}
@@ -171,8 +171,8 @@ module _ (needs : Needs) (scale lead : ℕ) (shape : Shape) (proper : AreProperN
       let top : wide.top s.clock ≡ wide.top t.clock = one_top needs r s.clock t.clock (wide.top s.clock) (wide.top t.clock) (joined_by needs.list k l) (joined_back needs.list k l) (wide.is_top s.clock us) (wide.is_top t.clock ut) in
       let ks = turns s.clock us in
       let kt = turns t.clock ut in
-      let fs = whole_ones (clock_at shape.clocks s.clock).ones (wide.top s.clock) (r s.clock) shape.period ks.0 (length s.word.period) (top_some s.clock us) (wide.ones s.clock us) ks.1 (wide.is_vector.is.whole s.clock s.word (k, l, inl (refl, refl))) in
-      let ft = whole_ones (clock_at shape.clocks t.clock).ones (wide.top t.clock) (r t.clock) shape.period kt.0 (length t.word.period) (top_some t.clock ut) (wide.ones t.clock ut) kt.1 (wide.is_vector.is.whole t.clock t.word (k, l, inr (refl, refl))) in
+      let fs = whole_ones (clock_at shape.clocks s.clock).ones (wide.top s.clock) (r s.clock) shape.period ks.0 (length s.word.period) (top_some s.clock us) (wide.ones s.clock us) ks.1 (wide.is_vector.is.whole s.clock s.word (k, l, inl refl)) in
+      let ft = whole_ones (clock_at shape.clocks t.clock).ones (wide.top t.clock) (r t.clock) shape.period kt.0 (length t.word.period) (top_some t.clock ut) (wide.ones t.clock ut) kt.1 (wide.is_vector.is.whole t.clock t.word (k, l, inr refl)) in
       let walk = wide.is_vector.is.proportion s.clock t.clock (over need) (under need) (k ∷ []) (walk_one needs.list k _ _ _ _ l (inl (refl, refl, refl, refl))) in
       let et : (clock_at shape.clocks t.clock).ones * wide.top s.clock ≡ r t.clock * shape.period = ap (λ z. (clock_at shape.clocks t.clock).ones * z) top ∙ wide.ones t.clock ut in
       record {

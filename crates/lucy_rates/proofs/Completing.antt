@@ -27,7 +27,7 @@ pub record IsWhole (needs : List Need) (root : ℕ) (tree : List ℕ) : Type 0 w
 unfolded : (needs : List Need) (root : ℕ) (tree : List ℕ) (m : ℕ) → IsWhole needs root (tree ++ m ∷ []) → IsWhole needs root tree
 unfolded needs root tree m w = record { all = w.all; is_tree = w.is_tree; has = λ k i. w.has k (Contains-append_left tree (m ∷ []) k i) }
 
-abbrev left : List ℕ → ℕ → ℕ → ℕ
+abbrev pub left : List ℕ → ℕ → ℕ → ℕ
 left roots n at = count_by (λ r. eqb r no_number) roots * (n + 1) + (n - at)
 
 -- a step, where the first of two clocks has a root and the second has none

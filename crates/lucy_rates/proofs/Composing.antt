@@ -7,10 +7,11 @@ use Rattle.std.proofs.lemmas.Nat.Gcd.{dvd_trans}
 use Rattle.std.proofs.lemmas.List.{get_or_default, get_or_past}
 use Rattle.std.proofs.lemmas.List.Elements.{All-from_recursion}
 use Rattle.lucy_need.specs.Meeting.{AreProperNeeds, IsWithin}
+use Rattle.lucy_need.specs.Stored.{HasWords}
 use Rattle.lucy_need.specs.declared.need.Need.{Need}
 use Rattle.lucy_need.specs.declared.need.Needs.{Needs}
 use Rattle.lucy_shape.specs.declared.shape.ClockShape.{ClockShape}
-use Rattle.lucy_shape.specs.Fitting.{variable_count, most_positions, HasWords}
+use Rattle.lucy_shape.specs.Fitting.{variable_count, most_positions}
 use Rattle.lucy_rates.specs.declared.fraction.Fraction.{Fraction}
 use Rattle.lucy_rates.specs.Trees.{HasLargeRate}
 use Rattle.lucy_rates.specs.Forests.{IsForest}

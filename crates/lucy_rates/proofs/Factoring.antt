@@ -11,17 +11,17 @@ use Rattle.std.proofs.lemmas.List.Elements.{All-get_or}
 use Rattle.lucy_word.specs.Bits.{Bits}
 use Rattle.lucy_word.specs.Stored.{IsStored}
 use Rattle.lucy_word.proofs.Multiples.{gauss}
-use Rattle.lucy_need.specs.Meeting.{IsWithin}
+use Rattle.lucy_need.specs.Meeting.{IsWithin, term}
+use Rattle.lucy_need.specs.Stored.{HasWords}
 use Rattle.lucy_need.specs.declared.need.Term.{Term}
 use Rattle.lucy_need.specs.declared.need.Need.{Need}
 use Rattle.lucy_need.specs.declared.need.Need.TheVariants.{Equal, Adapt}
 use Rattle.lucy_need.specs.declared.need.Needs.{Needs}
-use Rattle.lucy_shape.specs.Fitting.{HasWords}
 use Rattle.lucy_rates.specs.declared.fraction.Fraction.{Fraction}
 use Rattle.lucy_rates.specs.Walks.{first_of, second_of, no_need, need_at, over, under, IsWalk, AreJoined}
 use Rattle.lucy_rates.specs.Trees.{IsNamedBy}
 use Rattle.lucy_rates.specs.Forests.{rate_at, IsForest}
-use Rattle.lucy_rates.specs.Vectors.{AreBalanced, IsTermOf, StandsAfter, IsRateVector, IsLeastVector}
+use Rattle.lucy_rates.specs.Vectors.{AreBalanced, StandsAfter, IsRateVector, IsLeastVector}
 use Rattle.lucy_rates.specs.Laying.{AsksTerm, AsksUpto}
 use Rattle.lucy_rates.proofs.Balancing.{walks_balance}
 use Rattle.lucy_rates.proofs.Carrying.{joined_self, walk_back, walk_names, below}
@@ -43,11 +43,10 @@ stored_terms (Equal s t) h = h
 stored_terms (Adapt s t) h = h
 
 -- what a word asks of a factor
-asks_at : (roots : List ℕ) (rates : List Fraction) (t : Term) (c n : ℕ) (w : Bits) → IsTermOf c w t → AsksTerm roots rates (slice_index roots c) t n → (length w.period * (rate_at rates c).den) ∣ (n * (rate_at rates c).num)
+asks_at : (roots : List ℕ) (rates : List Fraction) (t : Term) (c n : ℕ) (w : Bits) → t ≡ term c w → AsksTerm roots rates (slice_index roots c) t n → (length w.period * (rate_at rates c).den) ∣ (n * (rate_at rates c).num)
 asks_at roots rates t c n w e ask =
-    let h = ask (ap (λ z. slice_index roots z) e.0) in
-    subst (λ (z : ℕ). (length w.period * (rate_at rates z).den) ∣ (n * (rate_at rates z).num)) e.0
-    (subst (λ (z : Bits). (length z.period * (rate_at rates t.clock).den) ∣ (n * (rate_at rates t.clock).num)) e.1 h)
+    let h = ask (ap (λ (z : Term). slice_index roots z.clock) e) in
+    subst (λ (z : Term). (length z.word.period * (rate_at rates z.clock).den) ∣ (n * (rate_at rates z.clock).num)) e h
 
 cross : (rc rr nc dc n m : ℕ) → 0 < n → rc * m ≡ rr * n → nc * m ≡ dc * n → rc * dc ≡ rr * nc
 cross rc rr nc dc n m some p b =
@@ -151,8 +150,8 @@ module _ (needs : Needs) (roots parents : List ℕ) (rates : List Fraction) (rat
   -- and each root's number has what the words of its component ask
   pub asked : (r : ℕ → ℕ) → IsRateVector needs r → (root : ℕ) → AsksUpto needs.list roots rates (length needs.list) root (r root)
   asked r v root = λ k l. (
-    asked_term r v root (first_of (need_at needs.list k)) (named_within k _ l (inl refl)) (v.whole _ _ (k, l, inl (refl, refl))),
-    asked_term r v root (second_of (need_at needs.list k)) (named_within k _ l (inr refl)) (v.whole _ _ (k, l, inr (refl, refl))),
+    asked_term r v root (first_of (need_at needs.list k)) (named_within k _ l (inl refl)) (v.whole (first_of (need_at needs.list k)).clock (first_of (need_at needs.list k)).word (k, l, inl refl)),
+    asked_term r v root (second_of (need_at needs.list k)) (named_within k _ l (inr refl)) (v.whole (second_of (need_at needs.list k)).clock (second_of (need_at needs.list k)).word (k, l, inr refl)),
   )
 
   module _ (factor : ℕ → ℕ) (some : (root : ℕ) → root < needs.clocks → 0 < factor root) (exact : (root n : ℕ) → root < needs.clocks → (factor root ∣ n ↔ AsksUpto needs.list roots rates (length needs.list) root n))
@@ -179,8 +178,8 @@ module _ (needs : Needs) (roots parents : List ℕ) (rates : List Fraction) (rat
         elim (walk_names needs.list back.0 c (slice_index roots c) back.1 back.2 back.3) [
           | inl e ↦ (let P : ℕ → Type 0 = λ z. z ∣ factor (slice_index roots c) in subst P (sym (rate_one c l (sym e)).1) (one-dvd (factor (slice_index roots c))))
           | inr w ↦ elim w.2 [
-            | inl e ↦ den_by_word c _ l (w.0, w.1, inl (e, refl))
-            | inr e ↦ den_by_word c _ l (w.0, w.1, inr (e, refl))
+            | inl e ↦ den_by_word c (first_of (need_at needs.list w.0)).word l (w.0, w.1, inl (ap (λ (z : ℕ). term z (first_of (need_at needs.list w.0)).word) e))
+            | inr e ↦ den_by_word c (second_of (need_at needs.list w.0)).word l (w.0, w.1, inr (ap (λ (z : ℕ). term z (second_of (need_at needs.list w.0)).word) e))
           ]
         ]
 
@@ -219,7 +218,10 @@ module _ (needs : Needs) (roots parents : List ℕ) (rates : List Fraction) (rat
         | inr l ↦ (let e = far walk c d n m l h in ap (λ z. r z * m) (sym e.0) ∙ ap (λ z. r c * z) (sym e.1))
       ];
       whole = λ c w s.
-          let l : c < needs.clocks = elim s.2 [ inl e ↦ named_within s.0 c s.1 (inl e.0) | inr e ↦ named_within s.0 c s.1 (inr e.0) ] in
+          let l : c < needs.clocks = elim s.2 [
+            | inl e ↦ named_within s.0 c s.1 (inl (ap (λ (t : Term). t.clock) e))
+            | inr e ↦ named_within s.0 c s.1 (inr (ap (λ (t : Term). t.clock) e))
+          ] in
           let P : ℕ → Type 0 = λ z. (length w.period * (rate_at rates c).den) ∣ z in
           dvd_of_mul-dvd-mul_right (length w.period) (forest.rate c l).den (subst P (sym (vector_eq c l)) (asked_at c w l s));
     }

@@ -3,10 +3,11 @@ use Rattle.std.proofs.Common.{◌≡◌, ℕ, ◌+◌, ◌*◌, ◌^◌, ◌<◌
 use Rattle.std.specs.Prelude.{slice_index}
 use Rattle.std.specs.List.{AllByRecursion}
 use Rattle.lucy_need.specs.Meeting.{AreProperNeeds}
+use Rattle.lucy_need.specs.Stored.{HasWords}
 use Rattle.lucy_need.specs.declared.need.Need.{Need}
 use Rattle.lucy_need.specs.declared.need.Needs.{Needs}
 use Rattle.lucy_shape.specs.declared.shape.ClockShape.{ClockShape}
-use Rattle.lucy_shape.specs.Fitting.{variable_count, most_positions, HasWords}
+use Rattle.lucy_shape.specs.Fitting.{variable_count, most_positions}
 use Rattle.lucy_rates.specs.declared.fraction.Fraction.{Fraction}
 use Rattle.lucy_rates.specs.Forests.{IsForest}
 use Rattle.lucy_rates.specs.Vectors.{IsNamed, IsShapeOf, IsTooWide}

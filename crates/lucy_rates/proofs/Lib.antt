@@ -2,10 +2,12 @@ pub mod Gauss
 pub mod Growing
 pub mod Walking
 pub mod OneTree
+pub mod OneWay
 pub mod RatedTree
 pub mod Completing
 pub mod Planting
 pub mod Assembling
+pub mod TreeRates
 pub mod Balancing
 pub mod Climbing
 pub mod Showing

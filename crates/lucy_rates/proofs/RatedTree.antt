@@ -184,7 +184,7 @@ pub record IsPath (needs : List Need) (root : ℕ) (tree : List ℕ) (c : ℕ) :
   pub along : IsWalk needs walk root c num den
   pub in_tree : All (Contains tree) walk
 
-path_on : (needs : List Need) (root : ℕ) (tree : List ℕ) (e c k a b : ℕ) → IsPath needs root tree e → k < length needs → Contains tree k → Leads (need_at needs k) e c a b → IsPath needs root tree c
+pub path_on : (needs : List Need) (root : ℕ) (tree : List ℕ) (e c k a b : ℕ) → IsPath needs root tree e → k < length needs → Contains tree k → Leads (need_at needs k) e c a b → IsPath needs root tree c
 path_on needs root tree e c k a b h l i leads = record {
   walk = h.walk ++ k ∷ [];
   num = h.num * a;

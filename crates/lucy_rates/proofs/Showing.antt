@@ -4,8 +4,8 @@ use Rattle.std.specs.List.{All}
 use Rattle.std.proofs.lemmas.List.Elements.{All-nil, All-cons, All-head, All-tail}
 use Rattle.std.proofs.Math.Nat.{eq_of_mul-eq-mul_right}
 use Rattle.lucy_need.specs.Meeting.{IsWithin}
+use Rattle.lucy_need.specs.Stored.{HasWords}
 use Rattle.lucy_need.specs.declared.need.Need.{Need}
-use Rattle.lucy_shape.specs.Fitting.{HasWords}
 use Rattle.lucy_rates.specs.declared.fraction.Fraction.{Fraction}
 use Rattle.lucy_rates.specs.Walks.{first_of, second_of, need_at, no_need, over, under, IsWalk, IsUnequalWalk, AreJoined, IsRoot}
 use Rattle.lucy_rates.specs.Trees.{IsBalanced, AreEven, IsFirstUnequal}

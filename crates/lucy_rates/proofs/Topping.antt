@@ -4,7 +4,7 @@ use Rattle.std.specs.Prelude.{slice_index}
 use Prim.Native.Nat.{◌∣◌}
 use Rattle.std.proofs.Math.Nat.{dvd_refl, le_of_dvd}
 use Rattle.std.proofs.lemmas.Bool.{cases_lt, cases_eq, cases_Bool, false≢true, and_parts, and_from, or_cases, eqb-true, eqb-false, ne_eqb, not-true}
-use Rattle.lucy_word.specs.Bits.{Bits}
+use Rattle.lucy_need.specs.Meeting.{term}
 use Rattle.lucy_need.specs.declared.need.Term.{Term}
 use Rattle.lucy_need.specs.declared.need.Need.{Need}
 use Rattle.lucy_need.specs.declared.need.Needs.{Needs}
@@ -192,14 +192,14 @@ is_longest needs c = record {
   passed = λ w s.
       let p = longest_passed needs.list c (length needs.list) s.0 s.1 in
       elim s.2 [
-        | inl e ↦ (let a = prefix_yes c (first_of (need_at needs.list s.0)) e.0 in let b : length (first_of (need_at needs.list s.0)).word.prefix ≡ length w.prefix = ap (λ (z : Bits). length z.prefix) e.1 in let d = p.0 in omega arith)
-        | inr e ↦ (let a = prefix_yes c (second_of (need_at needs.list s.0)) e.0 in let b : length (second_of (need_at needs.list s.0)).word.prefix ≡ length w.prefix = ap (λ (z : Bits). length z.prefix) e.1 in let d = p.1 in omega arith)
+        | inl e ↦ (let a = prefix_yes c (first_of (need_at needs.list s.0)) (ap (λ (z : Term). z.clock) e) in let b : length (first_of (need_at needs.list s.0)).word.prefix ≡ length w.prefix = ap (λ (z : Term). length z.word.prefix) e in let d = p.0 in omega arith)
+        | inr e ↦ (let a = prefix_yes c (second_of (need_at needs.list s.0)) (ap (λ (z : Term). z.clock) e) in let b : length (second_of (need_at needs.list s.0)).word.prefix ≡ length w.prefix = ap (λ (z : Term). length z.word.prefix) e in let d = p.1 in omega arith)
       ];
   reached = λ some.
       let r = longest_reached needs.list c (length needs.list) some in
       elim r.2 [
-        | inl e ↦ (let t = prefix_some c (first_of (need_at needs.list r.0)) (omega arith) in ((first_of (need_at needs.list r.0)).word, (r.0, r.1, inl (t.0, refl)), e ∙ t.1))
-        | inr e ↦ (let t = prefix_some c (second_of (need_at needs.list r.0)) (omega arith) in ((second_of (need_at needs.list r.0)).word, (r.0, r.1, inr (t.0, refl)), e ∙ t.1))
+        | inl e ↦ (let t = prefix_some c (first_of (need_at needs.list r.0)) (omega arith) in ((first_of (need_at needs.list r.0)).word, (r.0, r.1, inl (ap (λ (z : ℕ). term z (first_of (need_at needs.list r.0)).word) t.0)), e ∙ t.1))
+        | inr e ↦ (let t = prefix_some c (second_of (need_at needs.list r.0)) (omega arith) in ((second_of (need_at needs.list r.0)).word, (r.0, r.1, inr (ap (λ (z : ℕ). term z (second_of (need_at needs.list r.0)).word) t.0)), e ∙ t.1))
       ];
 }
 

@@ -12,10 +12,10 @@ use Rattle.lucy_word.proofs.SamplingLaws.{ones_to-on}
 use Rattle.lucy_word.proofs.OnLaws.{on_some}
 use Rattle.lucy_word.proofs.AdaptableLaws.{adaptable_self}
 use Rattle.lucy_need.specs.Meeting.{Assignment, AreWordsIn, IsWithin, Meets}
+use Rattle.lucy_need.specs.Stored.{HasWords}
 use Rattle.lucy_need.specs.declared.need.Term.{Term}
 use Rattle.lucy_need.specs.declared.need.Need.{Need}
 use Rattle.lucy_need.specs.declared.need.Need.TheVariants.{Equal, Adapt}
-use Rattle.lucy_shape.specs.Fitting.{HasWords}
 use Rattle.lucy_rates.specs.declared.fraction.Fraction.{Fraction}
 use Rattle.lucy_rates.specs.Walks.{first_of, second_of, need_at, no_need, IsWalk, UnmetLaw}
 use Rattle.lucy_rates.specs.Trees.{AreEven}

@@ -9,12 +9,13 @@ use Rattle.std.proofs.lemmas.Nat.Gcd.{dvd_trans}
 use Rattle.std.proofs.lemmas.Bool.{cases_lt, cases_eq, cases_Bool, false≢true, lt-ltb, le-ltb}
 use Rattle.lucy_word.proofs.Multiples.{gcd_exists}
 use Rattle.lucy_need.specs.Meeting.{AreProperNeeds}
+use Rattle.lucy_need.specs.Stored.{HasWords}
 use Rattle.lucy_need.specs.declared.need.Term.{Term}
 use Rattle.lucy_need.specs.declared.need.Need.{Need}
 use Rattle.lucy_need.specs.declared.need.Needs.{Needs}
 use Rattle.lucy_shape.specs.declared.shape.Shape.{Shape}
 use Rattle.lucy_shape.specs.declared.shape.ClockShape.{ClockShape}
-use Rattle.lucy_shape.specs.Fitting.{unused, clock_at, variable_count, most_positions, HasWords}
+use Rattle.lucy_shape.specs.Fitting.{unused, clock_at, variable_count, most_positions}
 use Rattle.lucy_rates.specs.declared.fraction.Fraction.{Fraction}
 use Rattle.lucy_rates.specs.Walks.{first_of, second_of, need_at, AreJoined}
 use Rattle.lucy_rates.specs.Trees.{IsNamedBy}

@@ -4,11 +4,12 @@ use Rattle.std.specs.Global.{Global}
 use Rattle.std.specs.List.{AllByRecursion}
 use Rattle.lucy_word.specs.declared.limit.Limit.{Limit}
 use Rattle.lucy_need.specs.Meeting.{AreProperNeeds}
+use Rattle.lucy_need.specs.Stored.{HasWords}
 use Rattle.lucy_need.specs.declared.need.Needs.{Needs}
 use Rattle.lucy_shape.specs.declared.shape.Shape.{Shape}
 use Rattle.lucy_shape.specs.declared.shape.RateFault.{RateFault}
 use Rattle.lucy_shape.specs.declared.shape.RateFault.TheVariants as fault
-use Rattle.lucy_shape.specs.Fitting.{IsShapeFor, HasWords}
+use Rattle.lucy_shape.specs.Fitting.{IsShapeFor}
 use Rattle.lucy_rates.specs.Vectors.{IsWideShape, IsShapeOf, HasNoShape}
 
 -- needs have one shape at most, however wide

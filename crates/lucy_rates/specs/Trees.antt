@@ -1,10 +1,13 @@
 -- The tree of a component, and the rates that it gives.
-use Rattle.std.specs.Prelude.{ℕ, ◌*◌, ◌<◌, ◌≡◌, ◌⊎◌, List, ◌∷◌, length, take, slice_index}
-use Rattle.std.specs.List.{Contains, All}
+use Rattle.std.specs.Prelude.{ℕ, ◌*◌, ◌^◌, ◌<◌, ◌≡◌, ◌⊎◌, List, ◌∷◌, length, take, slice_index}
+use Rattle.std.specs.List.{Contains, All, AllByRecursion}
 use Rattle.std.specs.Int.{IsGcd}
 use Rattle.lucy_word.specs.Limits.{limit_number}
 use Rattle.lucy_word.specs.declared.limit.Limit.TheVariants as limit
 use Rattle.lucy_need.specs.declared.need.Need.{Need}
+use Rattle.lucy_need.specs.declared.need.Needs.{Needs}
+use Rattle.lucy_need.specs.Meeting.{AreProperNeeds}
+use Rattle.lucy_need.specs.Stored.{HasWords}
 use Rattle.lucy_rates.specs.Walks.{first_of, second_of, need_at, over, under, IsWalk, IsRoot}
 
 -- the need names the clock
@@ -75,3 +78,13 @@ pub record IsFirstUnequal (needs : List Need) (walk : List ℕ) : Type 0 where
   pub den : ℕ
   pub returns : IsWalk needs back (second_of (need_at needs need)).clock (first_of (need_at needs need)).clock num den
   pub simple : (i j : ℕ) → i < j → j < length back → slice_index back i ≡ slice_index back j → ⊥
+
+-- each clock has a rate by its tree, and no other
+abbrev pub TreeRateLaw : Type 0
+TreeRateLaw =
+    (needs : Needs) (c : ℕ) → AreProperNeeds needs → AllByRecursion HasWords needs.list → needs.clocks < 2 ^ 32 → c < needs.clocks →
+    (num : ℕ) × (den : ℕ) × IsTreeRate needs.list c num den × ((n d : ℕ) → IsTreeRate needs.list c n d → (n ≡ num) × (d ≡ den))
+
+-- there is at most one first unequal walk
+abbrev pub OneWalkLaw : Type 0
+OneWalkLaw = (needs : List Need) (first second : List ℕ) → IsFirstUnequal needs first → IsFirstUnequal needs second → first ≡ second

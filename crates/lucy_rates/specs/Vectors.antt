@@ -3,7 +3,7 @@ use Rattle.std.specs.Prelude.{ℕ, ◌+◌, ◌*◌, ◌<◌, ◌≤◌, ◌≡�
 use Prim.Native.Nat.{◌∣◌}
 use Rattle.lucy_word.specs.Bits.{Bits}
 use Rattle.lucy_word.specs.declared.limit.Limit.TheVariants as limit
-use Rattle.lucy_need.specs.declared.need.Term.{Term}
+use Rattle.lucy_need.specs.Meeting.{term}
 use Rattle.lucy_need.specs.declared.need.Need.{Need}
 use Rattle.lucy_need.specs.declared.need.Needs.{Needs}
 use Rattle.lucy_shape.specs.declared.shape.Shape.{Shape}
@@ -21,13 +21,9 @@ IsNamed needs c = (k : ℕ) × (k < length needs) × IsNamedBy c (need_at needs 
 abbrev pub IsInUse : Needs → ℕ → Type 0
 IsInUse needs c = (c < needs.clocks) × ((0 < c) ⊎ IsNamed needs.list c)
 
--- the term is this clock on this word
-abbrev pub IsTermOf : ℕ → Bits → Term → Type 0
-IsTermOf c w t = (t.clock ≡ c) × (t.word ≡ w)
-
 -- the word stands after the clock in a need
 abbrev pub StandsAfter : List Need → ℕ → Bits → Type 0
-StandsAfter needs c w = (k : ℕ) × (k < length needs) × (IsTermOf c w (first_of (need_at needs k)) ⊎ IsTermOf c w (second_of (need_at needs k)))
+StandsAfter needs c w = (k : ℕ) × (k < length needs) × ((first_of (need_at needs k) ≡ term c w) ⊎ (second_of (need_at needs k) ≡ term c w))
 
 -- positive whole numbers in the proportion of the rates, each a multiple of the period length of every word after its clock
 pub record IsRateVector (needs : Needs) (vector : ℕ → ℕ) : Type 0 where

@@ -4,10 +4,10 @@ use Rattle.std.specs.List.{AllByRecursion}
 use Rattle.lucy_word.specs.Always.{always}
 use Rattle.lucy_word.specs.Bits.{ones_in}
 use Rattle.lucy_need.specs.Meeting.{Assignment, AreWordsIn, IsWithin, MeetsAll}
+use Rattle.lucy_need.specs.Stored.{HasWords}
 use Rattle.lucy_need.specs.declared.need.Term.{Term}
 use Rattle.lucy_need.specs.declared.need.Need.{Need}
 use Rattle.lucy_need.specs.declared.need.Need.TheVariants.{Equal, Adapt}
-use Rattle.lucy_shape.specs.Fitting.{HasWords}
 
 -- the first term of a need
 abbrev pub first_of : Need → Term

@@ -16,7 +16,7 @@ mod shaping;
 mod vector;
 mod walk;
 
-pub use laws::{walk_is_unmet, walks_balance};
+pub use laws::{one_unequal_walk, tree_rates, walk_is_unmet, walks_balance};
 pub use lucy_shape::{ClockShape, ClockShapes, RateFault, Shape, spread, words_of};
 pub use rating::rates;
 pub use shape_laws::{one_shape, one_verdict, shape_carries};

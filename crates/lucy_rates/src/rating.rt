@@ -4,8 +4,9 @@ ghost use Rattle.std.specs.Global.{Global};
 ghost use Rattle.std.specs.List.{AllByRecursion};
 ghost use Rattle.lucy_word.specs.declared.limit.Limit.TheVariants as limit;
 ghost use Rattle.lucy_need.specs.Meeting.{AreProperNeeds};
+ghost use Rattle.lucy_need.specs.Stored.{HasWords};
 ghost use Rattle.lucy_shape.specs.declared.shape.RateFault.TheVariants as fault;
-ghost use Rattle.lucy_shape.specs.Fitting.{IsShapeFor, HasWords};
+ghost use Rattle.lucy_shape.specs.Fitting.{IsShapeFor};
 ghost use Rattle.lucy_rates.specs.Walks.{IsUnequalWalk};
 ghost use Rattle.lucy_rates.specs.Trees.{HasLargeRate, IsFirstUnequal};
 ghost use Rattle.lucy_rates.specs.Forests.{IsForest};
@@ -15,8 +16,8 @@ ghost use Rattle.lucy_rates.specs.Growing.{ArePlanted, IsUnequal};
 use crate::forest::{Forest, first_needs, grow_all};
 use crate::shaping::shape_of;
 use crate::walk::{first_unbalanced, walk_of};
-use lucy_need::Needs;
-use lucy_shape::{RateFault, Shape, needs_have_words};
+use lucy_need::{Needs, needs_have_words};
+use lucy_shape::{RateFault, Shape};
 use std::alloc::Global;
 
 // The trees of the components of needs.

@@ -2,7 +2,7 @@
 ghost use Rattle.std.specs.Prelude.{ℕ, List, ◌≡◌, ◌↔◌, ◌<◌, ◌≤◌, ◌∷◌, ◌++◌, length, reverse, slice_index, IsTrue, IfSome, IfNone, IfOk};
 ghost use Rattle.std.specs.List.{All};
 ghost use Rattle.lucy_need.specs.Meeting.{IsWithin, most_needs};
-ghost use Rattle.lucy_shape.specs.Fitting.{HasWords};
+ghost use Rattle.lucy_need.specs.Stored.{HasWords};
 ghost use Rattle.lucy_rates.specs.Walks.{first_of, second_of, need_at, IsUnequalWalk};
 ghost use Rattle.lucy_rates.specs.Trees.{AreEven, IsBalanced, IsFirstUnequal};
 ghost use Rattle.lucy_rates.specs.Forests.{rate_at, IsForest, IsRateFraction};

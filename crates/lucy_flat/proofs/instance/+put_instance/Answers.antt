@@ -4,6 +4,7 @@ use Rattle.std.proofs.lemmas.Option.{same_Some}
 use Rattle.lucy_word.specs.Sampling.{IsOn, IsOnTooLong}
 use Rattle.lucy_word.specs.declared.limit.Limit.TheVariants as lim
 use Rattle.lucy_place.specs.declared.placed.PlacedNode.{PlacedNode}
+use Rattle.lucy_flat.specs.declared.error.FlatError.{FlatError}
 use Rattle.lucy_flat.specs.declared.error.FlatError.TheVariants as err
 use Rattle.lucy_meaning.specs.Below.{Below}
 use Rattle.lucy_flat.specs.Extents.{actors_in, AreSumsOf}
@@ -211,3 +212,8 @@ returns-clause-ok t c = λ path is.
     let count = ap length c.list-sites.ensures in
     let past = c.calls-test.false in
     so_far_whole c.args.program.placed.now.nodes c.args.program.clocks.now c.requires.program.proper path found c.args.node c.calls.i c.args.drafts.now.items c.calls.drafts.items c.node-found.ensures.is (omega arith) (c.calls.invariant path found is c.node-found.ensures.is)
+
+pub returns-in_err-put_instance-clause-refused : goal.returns-in_err-put_instance-clause-refused
+returns-in_err-put_instance-clause-refused t c =
+    let Why : FlatError → Type 0 = λ e. (e ≡ err.OutOfMemory) ⊎ ((e ≡ err.Limit lim.Word) × IsClockTooLong c.args.program.placed.now.nodes c.args.program.clocks.now) in
+    leaves Why Why _ c.from_residual-in_err-put_instance.result c.from_residual-in_err-put_instance.ensures.1 c.in_err-put_instance.ensures.refused (λ e why. why)

@@ -48,8 +48,8 @@ index-requires g c =
     let turn = turn_of kinds c.args.inputs.now nodes list inner c.turns.number c.turns.lists.items c.nodes.ensures.proper c.requires.inputs all.all run in
     omega (arith, count_of_iterate kinds c.args.inputs.now nodes list inner c.turns.number c.turns.lists.items run.paths turn, run.instances.some)
 
-pub results-requires : goal.results-requires
-results-requires g c =
+pub results-requires-clause-there : goal.results-requires-clause-there
+results-requires-clause-there g c =
     let kinds = kinds_of (lent c.args.host.now) in
     let nodes = c.args.placed.now.nodes in
     let list = c.in_ok-instances.instances.list.items in

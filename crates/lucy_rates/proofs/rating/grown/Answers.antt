@@ -2,8 +2,8 @@ use Rattle.std.proofs.Common.{List, length, subst, sym, ap, arith}
 use Rattle.std.specs.List.{AllByRecursion}
 use Rattle.std.proofs.lemmas.List.Elements.{All-from_recursion}
 use Rattle.lucy_need.specs.Meeting.{IsWithin}
+use Rattle.lucy_need.specs.Stored.{HasWords}
 use Rattle.lucy_need.specs.declared.need.Need.{Need}
-use Rattle.lucy_shape.specs.Fitting.{HasWords}
 use Rattle.lucy_rates.specs.Growing.{AreFirstNeeds}
 use Rattle.lucy_rates.proofs.rating.grown.Goals as goal
 
