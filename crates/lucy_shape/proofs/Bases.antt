@@ -14,7 +14,8 @@ use Rattle.lucy_shape.specs.declared.shape.ClockShape.{ClockShape}
 use Rattle.lucy_shape.specs.declared.shape.Shape.{Shape}
 use Rattle.std.proofs.lemmas.List.Elements.{All-from_recursion}
 use Rattle.lucy_shape.specs.Added.{IsPlaced, IsNeedSpreadable}
-use Rattle.lucy_shape.specs.Fitting.{variable_of, unused, clock_at, position_count, variable_count, IsUsed, IsLaidOut, IsCarried, HasWords}
+use Rattle.lucy_need.specs.Stored.{HasWords}
+use Rattle.lucy_shape.specs.Fitting.{variable_of, unused, clock_at, position_count, variable_count, IsUsed, IsLaidOut, IsCarried}
 use Rattle.lucy_shape.specs.Inequalities.{bound_rows, base_rows, neighbour_rows, period_row, clock_rows, shape_rows}
 
 abbrev Has : {A : Type 0} → A → (A → Type 0) → List A → Type 0

@@ -12,7 +12,9 @@ pub mod Places
 pub mod PositionWord
 pub mod RowCounts
 pub mod RowLaws
+pub mod SizeLaws
 pub mod Systems
 pub mod WordIndex
 pub mod WordOf
 pub mod Writings
+mod WorkedRows

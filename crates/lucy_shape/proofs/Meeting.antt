@@ -26,7 +26,8 @@ use Rattle.lucy_shape.proofs.RowLaws.{row_law}
 use Rattle.lucy_shape.proofs.Lists.{all_map, all_map_at, all_flat, all_flat_at}
 use Rattle.lucy_shape.proofs.Places.{index_rises, index_some, index_always, same_bits, same_counts, one_rate}
 use Rattle.lucy_need.specs.Meeting.{Assignment, Meets, MeetsAll, AreEqual, AreAdaptable}
-use Rattle.lucy_shape.specs.Fitting.{variable_of, clock_at, IsUsed, turn_instances, AreCarried, IsCarried, IsLaidOut, ArePositions, IsFitting, HasWords}
+use Rattle.lucy_need.specs.Stored.{HasWords}
+use Rattle.lucy_shape.specs.Fitting.{variable_of, clock_at, IsUsed, turn_instances, AreCarried, IsCarried, IsLaidOut, ArePositions, IsFitting}
 use Rattle.lucy_shape.specs.Index.{Fits, index_of}
 use Rattle.lucy_shape.specs.Inequalities.{lead_instances, bound_rows, base_rows, neighbour_rows, period_row, clock_rows, instances, instance_row, need_rows, shape_rows, inequalities}
 use Rattle.lucy_shape.specs.Laws.{IsSideOf, MeetingLaw}

@@ -28,7 +28,7 @@ index_most u p q k word past some whole =
     let i : ones_to u (p + k * t * l) ≡ ones_to u (p + k * q) = ap (λ n. ones_to u (p + n)) far in
     (word_index u word).first k (p + k * q) (omega arith)
 
-fold_most : (m n q M k P : ℕ) → 0 < q → m ≤ M + k * q → (m - n - 1) / q * P ≤ (M + k) * P
+pub fold_most : (m n q M k P : ℕ) → 0 < q → m ≤ M + k * q → (m - n - 1) / q * P ≤ (M + k) * P
 fold_most m n q M k P some h =
     let f = (m - n - 1) / q in
     let e = div-add-mod (m - n - 1) q in

@@ -9,8 +9,9 @@ use Rattle.lucy_shape.proofs.Bases.{base_of, has_left}
 use Rattle.lucy_shape.proofs.Meeting.{each_from, each_to, meeting_law}
 use Rattle.lucy_shape.proofs.Fitting.{fitting_law}
 use Rattle.lucy_need.specs.Meeting.{Assignment, MeetsAll}
+use Rattle.lucy_need.specs.Stored.{HasWords}
 use Rattle.lucy_shape.specs.Added.{with_rows}
-use Rattle.lucy_shape.specs.Fitting.{variable_count, IsShapeFor, ArePositions, IsFitting, HasWords}
+use Rattle.lucy_shape.specs.Fitting.{variable_count, IsShapeFor, ArePositions, IsFitting}
 use Rattle.lucy_shape.specs.Inequalities.{shape_rows, need_rows, inequalities, system_of, SolvesShape}
 use Rattle.lucy_shape.specs.Rows.{HoldsIn}
 

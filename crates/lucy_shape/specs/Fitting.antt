@@ -4,7 +4,6 @@ use Rattle.std.specs.List.{AllByRecursion}
 use Prim.Native.Nat.{◌∣◌}
 use Rattle.lucy_word.specs.Bits.{ones_in}
 use Rattle.lucy_word.specs.Shortest.{Same}
-use Rattle.lucy_word.specs.Stored.{IsStored}
 use Rattle.lucy_word.specs.Always.{always}
 use Rattle.lucy_word.specs.Limits.{limit_number}
 use Rattle.lucy_word.specs.declared.limit.Limit.TheVariants as limit
@@ -87,11 +86,6 @@ pub record IsShapeFor (needs : Needs) (shape : Shape) : Type 0 where
   pub clocks : length shape.clocks ≡ needs.clocks
   pub laid : IsLaidOut shape
   pub carried : AllByRecursion (IsCarried shape.clocks) needs.list
-
--- the words of a need are words as they lie in memory
-abbrev pub HasWords : Need → Type 0
-HasWords (Equal s t) = IsStored s.word × IsStored t.word
-HasWords (Adapt s t) = IsStored s.word × IsStored t.word
 
 -- at the variables of the clock's positions stand the instants of these ones
 pub record HasPositions (c : ClockShape) (index : ℕ → ℕ) (xs : List ℤ) : Type 0 where

@@ -5,12 +5,13 @@ use Rattle.lucy_word.specs.Bits.{Bits, bit_count, ones_to, ones_in, IsWord}
 use Rattle.lucy_word.specs.Index.{IsIndex}
 use Rattle.lucy_word.specs.Shortest.{IsShortest}
 use Rattle.lucy_need.specs.Meeting.{Assignment, MeetsAll, assigned}
+use Rattle.lucy_need.specs.Stored.{HasWords}
 use Rattle.lucy_need.specs.declared.need.Needs.{Needs}
 use Rattle.lucy_solve.specs.System.{Solves, value}
 use Rattle.lucy_shape.specs.declared.shape.ClockShape.{ClockShape}
 use Rattle.lucy_shape.specs.declared.shape.Shape.{Shape}
 use Rattle.lucy_shape.specs.Index.{index_of, Fits}
-use Rattle.lucy_shape.specs.Fitting.{clock_at, IsUsed, IsFitting, IsLaidOut, IsShapeFor, HasWords, HasPositions, ArePositions}
+use Rattle.lucy_shape.specs.Fitting.{clock_at, IsUsed, IsFitting, IsLaidOut, IsShapeFor, HasPositions, ArePositions}
 use Rattle.lucy_shape.specs.Rows.{turns_of, row, HoldsIn, SolvesClock}
 use Rattle.lucy_shape.specs.Inequalities.{lead_instances, system_of, SolvesShape}
 use Rattle.lucy_shape.specs.WordOf.{word_at, written_word}

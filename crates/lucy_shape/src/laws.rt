@@ -1,10 +1,9 @@
 // What shapes, inequalities and positions have to do with each other. The bodies of laws are empty.
-ghost use Rattle.std.specs.List.{AllByRecursion};
-ghost use Rattle.lucy_shape.specs.Fitting.{HasWords};
+ghost use Rattle.std.specs.Prelude.{ℕ, ◌≡◌, length};
+ghost use Rattle.lucy_need.specs.declared.need.Needs.{Needs};
+ghost use Rattle.lucy_shape.specs.declared.shape.Shape.{Shape};
 ghost use Rattle.lucy_shape.specs.Laws.{MeetingLaw, FittingLaw, PositionsLaw, EarlierLaw, WordsLaw, WrittenLaw, PlaceLaw, FoldLaw, InstancesLaw, NeedLaw, RowLaw, WordLaw, ClockLaw};
-
-use lucy_need::{Need, Needs};
-use lucy_word::words_are_stored;
+ghost use Rattle.lucy_shape.specs.Sized.{sized_inequalities, SizedLaw};
 
 /// An assignment that fits a shape meets the needs exactly where its positions solve the inequalities. Numbers that meet the
 /// bounds, the neighbours and the periods are the positions of one that fits, each has positions, and of two of them the one
@@ -29,27 +28,9 @@ pub fn index_laws()
     ensures clock { ClockLaw }
 {}
 
-// The words of a need are words as they lie in memory.
-fn has_words(need: &Need)
-    ensures { HasWords need.now }
-{
-    match need {
-        Need::Equal(s, t) => {
-            words_are_stored(&s.word);
-            words_are_stored(&t.word);
-        }
-        Need::Adapt(s, t) => {
-            words_are_stored(&s.word);
-            words_are_stored(&t.word);
-        }
-    }
-}
-
-/// The words of needs are words as they lie in memory, which a walk over the needs tells.
-pub fn needs_have_words(needs: &Needs)
-    ensures { AllByRecursion HasWords needs.now.list }
-{
-    for need in needs.list.list() {
-        has_words(need);
-    }
-}
+/// An assignment that fits a shape meets the needs with no more than so many items waiting in one buffer exactly where its
+/// positions solve the inequalities of that size, of which there are as many for every size.
+pub fn size_laws()
+    ensures sized { SizedLaw }
+    ensures count { (needs : Needs) (shape : Shape) (from to size other : ℕ) → length (sized_inequalities needs shape from to size) ≡ length (sized_inequalities needs shape from to other) }
+{}

@@ -1,0 +1,4 @@
+pub mod OneAnswer
+pub mod Refusing
+pub mod SizeLaws
+mod WorkedRows
