@@ -18,7 +18,7 @@ use Rattle.lucy_net.proofs.NetLaws.{only_first}
 use Rattle.lucy_cause.specs.Schedules.{Timetable}
 use Rattle.lucy_core.specs.Seen as core
 use Rattle.lucy_core.specs.Seen.{Seen, CanRun, IsOver, after_picks, machine_on}
-use Rattle.lucy_core.proofs.OpenLaws.{IsSound}
+use Rattle.lucy_core.proofs.OpenLaws.{IsSound, joined_picks}
 use Rattle.lucy_core.proofs.PickLaws.{more_after, more_length}
 use Rattle.lucy_core.proofs.SeenLaws.{machine_is}
 use Rattle.lucy_worker.specs.declared.part.Part.{Part}
@@ -137,3 +137,27 @@ less_left seen next moves all round going = elim (cases_eq moves 0) [
       let less : events_left (after_picks seen round.picks) < events_left seen = omega (arith, left_after seen round.picks all round.run, round.count, some) in
       subst (λ (s : Seen). events_left s < events_left seen) (sym round.is) less
 ]
+
+-- rounds have led from the one state to the other
+pub record HaveLed (first now : Seen) : Type 0 where
+  pub picks : List ℕ
+  pub sound : IsSound first
+  pub run : CanRun first picks
+  pub is : now ≡ after_picks first picks
+
+-- one round more
+pub one_more_round : (first now next : Seen) (moves : ℕ) → HaveLed first now → IsRoundTo now next moves → HaveLed first next
+one_more_round first now next moves led round =
+    let run : CanRun (after_picks first led.picks) round.picks = subst (λ (s : Seen). CanRun s round.picks) led.is round.run in
+    record {
+      picks = led.picks ++ round.picks;
+      sound = led.sound;
+      run = runs_join first led.picks round.picks led.sound led.run run;
+      is = round.is ∙ ap (λ (s : Seen). after_picks s round.picks) led.is ∙ joined_picks first led.picks round.picks;
+    }
+
+-- which leaves less to do
+pub round_left : (first now next : Seen) (moves : ℕ) → HaveLed first now → IsRoundTo now next moves → (IsOver now → ⊥) →
+    events_left next < events_left now
+round_left first now next moves led round going =
+    less_left now next moves (subst IsSound (sym led.is) (sound_later first led.picks led.sound led.run)) round going

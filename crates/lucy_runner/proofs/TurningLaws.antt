@@ -9,7 +9,7 @@ use Rattle.std.proofs.lemmas.List.Sums.{sum_by-cons}
 use Rattle.lucy_host.specs.declared.kind.HostKind.{HostKind}
 use Rattle.lucy_worker.specs.declared.part.Part.{Part}
 use Rattle.lucy_worker.specs.Parts.{IsDone}
-use Rattle.lucy_worker.specs.Turns.{IsServed, done_by}
+use Rattle.lucy_worker.specs.Turns.{IsServed, done_by, most_moves}
 use Rattle.lucy_runner.specs.declared.seat.Seat.{Seat}
 use Rattle.lucy_runner.specs.Crews.{seated, crew_of}
 use Rattle.lucy_runner.specs.Turns.{AreServed, HasTurned, HaveTurned}
@@ -79,7 +79,7 @@ rest_more before now i y same k e l = get_or-set_other now i k y e (λ (here : k
 -- no worker made many moves
 pub turned_few : (kinds : List HostKind) (before after : List Seat) → length after ≡ length before →
     ((k : ℕ) (d : Seat) → k < length before → IsTurned kinds (get_or before k d) (get_or after k d)) → All
-    (λ seat. seat.last.moves ≤ 68719476736) after
+    (λ seat. seat.moves ≤ most_moves) after
 turned_few kinds before after len each = λ k d l. (each k d (omega arith)).few
 
 -- all parts are done where those of each seat are

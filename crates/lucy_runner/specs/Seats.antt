@@ -4,20 +4,31 @@ use Rattle.lucy_host.specs.declared.kind.HostKind.{HostKind}
 use Rattle.lucy_ring.specs.Views.{GiverView, TakerView}
 use Rattle.lucy_worker.specs.declared.part.Part.{Part}
 use Rattle.lucy_worker.specs.declared.place.EndPlace.{EndPlace}
-use Rattle.lucy_worker.specs.Turns.{done_by}
+use Rattle.lucy_worker.specs.Turns.{done_by, most_moves}
 use Rattle.lucy_worker.specs.Meets.{HaveMet, HasGiver, HasTaker, set_giver, set_taker}
 use Rattle.lucy_runner.specs.declared.seat.Seat.{Seat}
 use Rattle.lucy_runner.specs.Turns.{HasTurned}
 
 -- how many moves its worker made in its last turn
 abbrev pub moves_of : Seat → ℕ
-moves_of seat = seat.last.moves
+moves_of seat = seat.moves
+
+-- the most moves of a turn of 64 workers, of a pass along 16,384 places of a route, and of passes up to the one in which there are
+-- 2^40 moves or more
+abbrev pub most_turned : ℕ
+most_turned = 4398046511104
+
+abbrev pub most_passed : ℕ
+most_passed = 1125899906842624
+
+abbrev pub most_along : ℕ
+most_along = 1126999418470400
 
 -- its worker had a turn, of so many moves
 pub record IsTurned (kinds : List HostKind) (before after : Seat) : Type 0 where
   pub turned : HasTurned kinds before.worker.parts after.worker.parts
-  pub counted : done_by after.worker.parts ≡ done_by before.worker.parts + after.last.moves
-  pub few : after.last.moves ≤ 68719476736
+  pub counted : done_by after.worker.parts ≡ done_by before.worker.parts + after.moves
+  pub few : after.moves ≤ most_moves
 
 -- the parts of the worker of a seat
 abbrev pub parts_at : List (List Part) → ℕ → List Part

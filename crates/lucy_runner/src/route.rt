@@ -5,6 +5,7 @@ ghost use Rattle.lucy_host.specs.Operators.{kinds_of};
 ghost use Rattle.lucy_runner.specs.declared.seat.Seat.{Seat};
 ghost use Rattle.lucy_runner.specs.Crews.{seated, crew_of};
 ghost use Rattle.lucy_runner.specs.Turns.{AreServed, HaveAllRun};
+ghost use Rattle.lucy_runner.specs.Seats.{most_passed, most_along};
 
 use crate::lists::push;
 use crate::place::Place;
@@ -12,6 +13,7 @@ use crate::seat::Seat;
 use lucy_cause::Schedule;
 use lucy_host::Host;
 use lucy_word::OutOfMemory;
+use lucy_worker::Heading;
 use std::alloc::Global;
 
 // Puts the place of an actor behind those that are there, if it is missing.
@@ -75,38 +77,6 @@ const MOST_MOVES: u64 = 1 << 40;
 // A route has no more places, as a net has no more actors.
 const MOST_PLACES: usize = 16_384;
 
-// After so many passes one in the other direction is tried.
-const TRIED_AFTER: u64 = 16;
-
-// The direction of the next pass. Nothing is claimed of it.
-#[derive(Clone, Copy)]
-struct Heading {
-    back: bool,
-    passes: u64,
-    before: u64,
-}
-
-impl Heading {
-    // Back: where items don't go round a loop, each part then moves what the others gave in the pass before, so that no move waits for
-    // another.
-    const FIRST: Heading = Heading {
-        back: true,
-        passes: 0,
-        before: 0,
-    };
-
-    // After a pass of so many moves it turns where that was less than half of the pass before, and once in so many passes.
-    fn after(self, moves: u64) -> Heading {
-        let passes = self.passes.wrapping_add(1);
-        let turns = passes % TRIED_AFTER == 0 || moves < self.before / 2;
-        Heading {
-            back: self.back != turns,
-            passes,
-            before: moves,
-        }
-    }
-}
-
 /// Passes over the route, back and on, until one moves nothing. Answers the number of moves.
 pub(crate) fn go_along<F: Fn(u32, i64, i64) -> i64 + Sync>(
     seats: &mut [Seat],
@@ -116,11 +86,11 @@ pub(crate) fn go_along<F: Fn(u32, i64, i64) -> i64 + Sync>(
     requires serves { Serves F.pre F.post host.now }
     requires served { AreServed (length (lent host.now)) (crew_of seats.old) }
     ensures run { HaveAllRun (kinds_of (lent host.now)) (crew_of seats.old) (crew_of seats.new) result }
-    ensures few { result ≤ 1126999418470400 }
+    ensures few { result ≤ most_along }
 {
     let mut moves = 0;
     let mut more = 1;
-    let mut heading = Heading::FIRST;
+    let mut heading = Heading::first();
     while more > 0 && moves < MOST_MOVES {
         more = pass_along(seats, route, host, heading.back);
         moves += more;
@@ -139,7 +109,7 @@ fn pass_along<F: Fn(u32, i64, i64) -> i64 + Sync>(
     requires serves { Serves F.pre F.post host.now }
     requires served { AreServed (length (lent host.now)) (crew_of seats.old) }
     ensures run { HaveAllRun (kinds_of (lent host.now)) (crew_of seats.old) (crew_of seats.new) result }
-    ensures few { result ≤ 1125899906842624 }
+    ensures few { result ≤ most_passed }
 {
     let count = route.len().min(MOST_PLACES);
     let mut moves = 0;

@@ -6,7 +6,7 @@ use crate::meeting::meet_all;
 use crate::outputs::outputs_of;
 use crate::place::{Ends, Place};
 use crate::route::{go_along, route_of};
-use crate::seat::{Seat, all_done, looks_in, turn_apart, turn_in_place};
+use crate::seat::{Seat, all_done, few_left, turn_apart, turn_in_place};
 use lucy_cause::Schedule;
 use lucy_core::{Core, CoreParts};
 use lucy_host::{Host, Inputs, Ops};
@@ -36,8 +36,8 @@ pub struct Runner {
     outputs: Vec<u32>,
     // all places, as one thread goes through them
     route: Vec<Place>,
-    // how many rounds in a row were lean, up to now
-    lean: u32,
+    // how many blocks have begun in which there was something to do
+    blocks: u32,
 }
 
 impl Model for Runner {
@@ -53,32 +53,17 @@ impl Model for Runner {
         × AreOutputs r.net.actors r.outputs.items };
 }
 
-// Who moves the actors of a round.
+// Who makes the turns of a round.
 #[derive(Clone, Copy, PartialEq, Eq)]
 enum Threading {
-    // Each worker its own, in a thread of its own, where there are several workers.
-    Each,
-    // One thread those of all workers: each worker passes over its own, and then passes go along the route until none can move.
-    One,
+    // Each worker its own, where there are several each in a thread of its own.
+    Apart,
+    // One thread those of all workers, each one pass that passes no gate.
+    InPlace,
 }
 
-// After so many lean rounds in a row `go` starts no more threads.
-const MOST_LEAN_ROUNDS: u32 = 16;
-
-// As many moves take about as long as threads take to start: a round of fewer moved little.
-const FEW_MOVES: u64 = 4_096;
-
-// A look at an actor whose neighbours move on other threads is taken to cost as much as five moves of one thread that moves all actors: an
-// estimate, looks were not timed by themselves. One at neighbours that rest costs less, and counts as much. Four in place of five: threads
-// stay where they take up to a quarter longer.
-const MOVES_OF_LOOK: u64 = 4;
-
-// Whether a round of so many workers, moves and looks for them moved little or mostly waited. The workers share moves and looks, so threads
-// are worth their looks where one thread would need longer for all moves alone.
-fn is_lean(workers: u64, moves: u64, looks: u64) -> bool {
-    let together = looks.saturating_mul(MOVES_OF_LOOK).saturating_add(moves);
-    moves < FEW_MOVES || moves.saturating_mul(workers) < together
-}
+// So many blocks have threads, however little they have to do.
+const THREADED_BLOCKS: u32 = 16;
 
 impl Runner {
     ghost use Rattle.lucy_host.specs.Host.{Serves, lent};
@@ -136,13 +121,13 @@ impl Runner {
             ends,
             outputs,
             route,
-            lean: 0,
+            blocks: 0,
         })
     }
 
-    /// A turn of every worker, each in a thread of its own where there are several, and then a meeting of the two ends of every
-    /// ring. Answers the number of moves, 0 exactly where every actor had done its list. It takes no memory, and returns if the
-    /// gate does.
+    /// A round: a turn of every worker, where there are several each in a thread of its own; then passes of one thread along all actors
+    /// until none can move; and then a meeting of the two ends of every ring. Answers the number of moves, 0 exactly where every actor
+    /// had done its list. It takes no memory, and returns if the gate does.
     pub fn round<R: Threads + Sync, F: Fn(u32, i64, i64) -> i64 + Sync, G: Gate + Sync>(
         &mut self,
         rt: &R,
@@ -154,10 +139,10 @@ impl Runner {
         ensures round { IsRoundTo self.old.seen self.new.seen result }
         ensures before { self.new.before ≡ self.old.before }
     {
-        self.round_by(rt, host, gate, Threading::Each)
+        self.round_by(rt, host, gate, Threading::Apart)
     }
 
-    // A round in which so many threads move the actors.
+    // A round whose turns are made so.
     fn round_by<R: Threads + Sync, F: Fn(u32, i64, i64) -> i64 + Sync, G: Gate + Sync>(
         &mut self,
         rt: &R,
@@ -171,11 +156,12 @@ impl Runner {
         ensures before { self.new.before ≡ self.old.before }
     {
         let seats = self.seats.as_mut_slice();
-        let moves = if threading == Threading::Each && seats.len() > 1 {
+        let turned = if threading == Threading::Apart {
             turn_apart(rt, seats, host, gate)
         } else {
-            turn_in_place(seats, host, gate) + go_along(seats, self.route.as_slice(), host)
+            turn_in_place(seats, host)
         };
+        let moves = turned + go_along(seats, self.route.as_slice(), host);
         meet_all(
             seats,
             self.net.rings.list(),
@@ -185,9 +171,9 @@ impl Runner {
         moves
     }
 
-    /// Makes rounds until every actor has done its list. Where many rounds in a row move little or mostly wait, as they do if rings are
-    /// short, one thread moves the actors of all workers from there on, also in later calls. It takes no memory, and returns if the
-    /// gate does.
+    /// Makes rounds until every actor has done its list. From the 17th call that finds something to do on they start no thread and pass no
+    /// gate where fewer than 4,096 operations can be left, counting one for each ring of an actor in each firing: these take less time
+    /// than threads do to start. It takes no memory, and returns if the gate does.
     pub fn go<R: Threads + Sync, F: Fn(u32, i64, i64) -> i64 + Sync, G: Gate + Sync>(
         &mut self,
         rt: &R,
@@ -200,28 +186,15 @@ impl Runner {
         ensures before { self.new.before ≡ self.old.before }
         ensures finished { IsOver self.new.seen }
     {
-        let mut lean = self.lean;
-        while !self.finished() {
-            let threading = if lean < MOST_LEAN_ROUNDS {
-                Threading::Each
-            } else {
-                Threading::One
-            };
-            let moves = self.round_by(rt, host, gate, threading);
-            lean = self.lean_after(lean, moves);
-        }
-        self.lean = lean;
-    }
-
-    // How many rounds in a row were lean, after one more of so many moves. Once they are `MOST_LEAN_ROUNDS` it stays so.
-    fn lean_after(&self, lean: u32, moves: u64) -> u32 {
-        let seats = self.seats.as_slice();
-        if lean >= MOST_LEAN_ROUNDS {
-            lean
-        } else if is_lean(seats.len() as u64, moves, looks_in(seats)) {
-            lean + 1
+        let threading = if self.blocks >= THREADED_BLOCKS && few_left(self.seats.as_slice()) {
+            Threading::InPlace
         } else {
-            0
+            Threading::Apart
+        };
+        let seats = self.seats.as_slice();
+        self.blocks = self.blocks.saturating_add(!all_done(seats) as u32);
+        while !self.finished() {
+            self.round_by(rt, host, gate, threading);
         }
     }
 

@@ -10,7 +10,7 @@ use crate::lists::push;
 use crate::place::Place;
 use crate::seat::Seat;
 use lucy_word::OutOfMemory;
-use lucy_worker::{Part, Progress, Worker};
+use lucy_worker::{Part, Worker};
 use std::alloc::Global;
 
 // What a worker is made of: its home, and its parts.
@@ -107,7 +107,7 @@ fn workers_of(alloc: Global, benches: Vec<Bench>) -> Result<Vec<Seat>, OutOfMemo
     for bench in benches {
         let seat = Seat {
             worker: Worker::new(bench.home, bench.parts),
-            last: Progress { moves: 0, looks: 0 },
+            moves: 0,
         };
         push(&mut seats, seat)?;
     }

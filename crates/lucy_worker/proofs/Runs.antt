@@ -168,6 +168,42 @@ come_more ps qs i p q l at moved rests so_far =
       later = λ k d b. same k d (λ (e : k ≡ i). absurd (omega arith)) ∙ so_far.later k d (omega arith);
     }
 
+-- a pass that came down to the part of number i
+pub record HasComeDown (ps qs : List Part) (i : ℕ) : Type 0 where
+  pub moved : (k : ℕ) (d : Part) → i ≤ k → k < length ps → CanMove (get_or ps k d) → done_of (get_or ps k d) < done_of (get_or qs k d)
+  pub rests : (k : ℕ) (d : Part) → i ≤ k → k < length ps → CanMove (get_or qs k d) → ⊥
+  pub earlier : (k : ℕ) (d : Part) → k < i → get_or qs k d ≡ get_or ps k d
+
+pub down_none : (ps : List Part) (n : ℕ) → length ps ≤ n → HasComeDown ps ps n
+down_none ps n past = record {
+  moved = λ k d l m. absurd (omega arith);
+  rests = λ k d l m. absurd (omega arith);
+  earlier = λ k d l. refl;
+}
+
+pub down_more : (ps qs : List Part) (i : ℕ) (p q : Part) → i < length qs → ((d : Part) → get_or qs i d ≡ p) →
+    (CanMove p → done_of p < done_of q) → (CanMove q → ⊥) → HasComeDown ps qs (i + 1) → HasComeDown ps (set qs i q) i
+down_more ps qs i p q l at moved rests so_far =
+    let old : (d : Part) → get_or ps i d ≡ p = λ (d : Part). (sym (so_far.earlier i d (omega arith)) ∙ at d) in
+    let new : (d : Part) → get_or (set qs i q) i d ≡ q = λ (d : Part). get_or-set_same qs i q d l in
+    let same : (k : ℕ) (d : Part) → (k ≡ i → ⊥) → get_or (set qs i q) k d ≡ get_or qs k d =
+    λ (k : ℕ) (d : Part) (ne : k ≡ i → ⊥). get_or-set_other qs i k q d ne in
+    record {
+      moved = λ k d b m. elim (cases_eq k i) [
+        | inl e ↦
+            subst (λ (n : ℕ). CanMove (get_or ps n d) → done_of (get_or ps n d) < done_of (get_or (set qs i q) n d)) (sym e)
+            (subst (λ (x : Part). CanMove x → done_of x < done_of (get_or (set qs i q) i d)) (sym (old d))
+            (subst (λ (x : Part). CanMove p → done_of p < done_of x) (sym (new d)) moved))
+        | inr ne ↦ subst (λ (x : Part). CanMove (get_or ps k d) → done_of (get_or ps k d) < done_of x) (sym (same k d ne))
+            (so_far.moved k d (omega (arith, ne)) m)
+      ];
+      rests = λ k d b m. elim (cases_eq k i) [
+        | inl e ↦ subst (λ (n : ℕ). CanMove (get_or (set qs i q) n d) → ⊥) (sym e) (subst (λ (x : Part). CanMove x → ⊥) (sym (new d)) rests)
+        | inr ne ↦ subst (λ (x : Part). CanMove x → ⊥) (sym (same k d ne)) (so_far.rests k d (omega (arith, ne)) m)
+      ];
+      earlier = λ k d b. same k d (λ (e : k ≡ i). absurd (omega arith)) ∙ so_far.earlier k d (omega arith);
+    }
+
 -- what has moved once has moved
 pub moved_on : (kinds : List HostKind) (ps qs rs : List Part) → HaveRun kinds ps qs → HaveMoved ps qs → HaveRun kinds qs rs → HaveMoved ps rs
 moved_on kinds ps qs rs run moved more k d l can =

@@ -3,16 +3,10 @@ use Rattle.std.proofs.Common.{ℕ, ◌+◌, ◌≤◌, ◌≡◌, List, ◌++◌
 use Rattle.std.proofs.lemmas.List.{take_at}
 use Rattle.lucy_host.specs.declared.kind.HostKind.{HostKind}
 use Rattle.lucy_worker.specs.declared.part.Part.{Part}
-use Rattle.lucy_worker.specs.Turns.{HaveMoved, NoneCan, IsTurnOf}
-use Rattle.lucy_worker.specs.Readiness.{AreReady, HavePassed}
+use Rattle.lucy_worker.specs.Turns.{IsTurnOf}
+use Rattle.lucy_worker.specs.Readiness.{AreReady, HavePassed, HaveTurned}
 use Rattle.lucy_worker.proofs.Runs.{none_could, passed_on, moved_on}
 use Rattle.lucy_worker.proofs.CountLaws.{left_by_few}
-
--- the parts passed, whoever could has moved, and none can now
-pub record HaveTurned (kinds : List HostKind) (count : ℕ) (ps qs : List Part) (moves : ℕ) : Type 0 where
-  pub passed : HavePassed kinds count ps qs moves
-  pub moved : HaveMoved ps qs
-  pub rests : NoneCan qs
 
 -- the first pass, over the slice of a worker's parts
 pub one_pass : (kinds : List HostKind) (count moves : ℕ) (ps inside before after : List Part) → inside ≡ ps → before ≡ inside → HaveTurned

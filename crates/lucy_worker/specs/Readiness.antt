@@ -11,7 +11,7 @@ use Rattle.lucy_net.specs.States.{IsUsable, IsOfActor}
 use Rattle.lucy_ring.specs.Views.{GiverView, TakerView}
 use Rattle.lucy_worker.specs.declared.part.Part.{Part}
 use Rattle.lucy_worker.specs.Parts.{done_at, done_of}
-use Rattle.lucy_worker.specs.Turns.{IsServed, HaveRun, done_by}
+use Rattle.lucy_worker.specs.Turns.{IsServed, HaveRun, HaveMoved, NoneCan, done_by}
 use Rattle.lucy_worker.specs.News.{HasItems, HasRoom, ends_of, ends_by}
 
 -- all operations of an actor, and those that are left to it
@@ -63,6 +63,12 @@ pub record HavePassed (kinds : List HostKind) (count : ℕ) (ps qs : List Part) 
   pub run : HaveRun kinds ps qs
   pub done : done_by qs ≡ done_by ps + moves
   pub left : left_by qs + moves ≡ left_by ps
+
+-- a pass, or some: whoever could at first has moved, and no part can in the end
+pub record HaveTurned (kinds : List HostKind) (count : ℕ) (ps qs : List Part) (moves : ℕ) : Type 0 where
+  pub passed : HavePassed kinds count ps qs moves
+  pub moved : HaveMoved ps qs
+  pub rests : NoneCan qs
 
 -- an end of one part and one of another, of one ring
 pub record AreTwoEnds (p : Part) (giver : ℕ) (q : Part) (taker : ℕ) (g : GiverView) (t : TakerView) : Type 0 where

@@ -60,12 +60,16 @@ HaveMoved ps qs = (k : ℕ) (d : Part) → k < length ps → CanMove (slice_inde
 abbrev pub NoneCan : List Part → Type 0
 NoneCan ps = (k : ℕ) (d : Part) → k < length ps → CanMove (slice_index_or ps k d) → ⊥
 
+-- the most operations of a worker's actors: 65,536 ends, each in 1,048,576 firings
+abbrev pub most_moves : ℕ
+most_moves = 68719476736
+
 -- a turn of so many moves: the parts have run, those that could move at first among them, there are none only where no part could
 -- move at first, and none can in the end
 pub record IsTurnOf (kinds : List HostKind) (ps qs : List Part) (moves : ℕ) : Type 0 where
   pub run : HaveRun kinds ps qs
   pub counted : done_by qs ≡ done_by ps + moves
-  pub few : moves ≤ 68719476736
+  pub few : moves ≤ most_moves
   pub moved : HaveMoved ps qs
   pub none : moves ≡ 0 → NoneCan ps
   pub rests : NoneCan qs

@@ -7,6 +7,7 @@
 
 mod gate;
 mod growing;
+mod heading;
 mod part;
 mod place;
 mod round;
@@ -15,8 +16,8 @@ mod within;
 mod worker;
 
 pub use gate::{Gate, OpenGate};
+pub use heading::Heading;
 pub use part::Part;
 pub use place::EndPlace;
 pub use round::rounds_are_runs;
-pub use turn::Progress;
 pub use worker::{Worker, meet_between};

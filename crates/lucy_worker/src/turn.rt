@@ -1,42 +1,69 @@
-// A pass over the actors of one thread, and what came of a turn.
-ghost use Rattle.std.specs.Prelude.{◌≡◌, ◌↔◌, All, IsTrue, length};
+// A pass over the actors of one thread, and when a turn makes another.
+ghost use Rattle.std.specs.Prelude.{◌↔◌, ◌<◌, All, IsTrue, length};
 ghost use Rattle.lucy_host.specs.Host.{Serves, lent};
 ghost use Rattle.lucy_host.specs.Operators.{kinds_of};
 ghost use Rattle.lucy_worker.specs.Parts.{IsDone};
-ghost use Rattle.lucy_worker.specs.Turns.{IsServed, HaveMoved, NoneCan};
-ghost use Rattle.lucy_worker.specs.Readiness.{AreReady, HavePassed};
+ghost use Rattle.lucy_worker.specs.Turns.{IsServed};
+ghost use Rattle.lucy_worker.specs.Readiness.{AreReady, HaveTurned};
 
-use crate::gate::Passages;
 use crate::part::Part;
 use lucy_host::Host;
 
-/// What came of a turn.
-#[derive(Clone, Copy, Debug)]
-pub struct Progress {
-    /// The number of moves.
-    pub moves: u64,
-    /// How often it looked for a part's moves: a measure of what the turn cost. Nothing is claimed of it.
-    pub looks: u64,
+// A pass that made fewer moves than this for each of its parts was mostly in vain: a part that could move mostly takes and gives.
+const MOVES_OF_LOOK: u64 = 1;
+
+// Whether a turn makes another pass behind one of so many moves over so many parts: not where that moved nothing, nor where it was mostly
+// in vain, so that the rest is left to the route. No more is claimed of it.
+pub(crate) fn goes_on(moves: u64, parts: u64) -> bool
+    ensures { IsTrue result → 0 < moves }
+{
+    moves > 0 && moves >= parts.saturating_mul(MOVES_OF_LOOK)
 }
 
-// All possible moves of each part, from the first part to the last; how many they are. The gate was passed once before.
+// All possible moves of each part, from the first part to the last or, if `back`, from the last to the first; how many they are.
 pub(crate) fn pass<F: Fn(u32, i64, i64) -> i64 + Sync>(
     parts: &mut [Part],
     host: &Host<F>,
-    passages: &Passages,
+    back: bool,
 ) -> u64
-    requires once { passages.now.count ≡ 1 }
     requires ready { AreReady parts.old }
     requires serves { Serves F.pre F.post host.now }
     requires served { All (IsServed (length (lent host.now))) parts.old }
-    ensures passed { HavePassed (kinds_of (lent host.now)) (length (lent host.now)) parts.old parts.new result }
-    ensures moved { HaveMoved parts.old parts.new }
-    ensures rests { NoneCan parts.new }
+    ensures { HaveTurned (kinds_of (lent host.now)) (length (lent host.now)) parts.old parts.new result }
 {
-    let _ = passages;
+    if back {
+        pass_back(parts, host)
+    } else {
+        pass_on(parts, host)
+    }
+}
+
+// Those from the first part to the last.
+pub(crate) fn pass_on<F: Fn(u32, i64, i64) -> i64 + Sync>(parts: &mut [Part], host: &Host<F>) -> u64
+    requires ready { AreReady parts.old }
+    requires serves { Serves F.pre F.post host.now }
+    requires served { All (IsServed (length (lent host.now))) parts.old }
+    ensures { HaveTurned (kinds_of (lent host.now)) (length (lent host.now)) parts.old parts.new result }
+{
     let mut moves = 0;
     for part in parts.iter_mut() {
         moves += part.go_on(host);
+    }
+    moves
+}
+
+// Those from the last part to the first.
+fn pass_back<F: Fn(u32, i64, i64) -> i64 + Sync>(parts: &mut [Part], host: &Host<F>) -> u64
+    requires ready { AreReady parts.old }
+    requires serves { Serves F.pre F.post host.now }
+    requires served { All (IsServed (length (lent host.now))) parts.old }
+    ensures { HaveTurned (kinds_of (lent host.now)) (length (lent host.now)) parts.old parts.new result }
+{
+    let mut moves = 0;
+    let mut at = parts.len();
+    while at > 0 {
+        at -= 1;
+        moves += parts[at].go_on(host);
     }
     moves
 }

@@ -4,25 +4,22 @@ ghost use Rattle.lucy_host.specs.Host.{Serves, lent};
 ghost use Rattle.lucy_host.specs.Operators.{kinds_of};
 ghost use Rattle.lucy_worker.specs.declared.part.Part.{Part};
 ghost use Rattle.lucy_worker.specs.Parts.{IsDone};
-ghost use Rattle.lucy_worker.specs.Turns.{IsServed, IsTurnOf, HaveRun, HasGoneOn, done_by};
+ghost use Rattle.lucy_worker.specs.Turns.{most_moves, IsServed, IsTurnOf, HaveRun, HasGoneOn, done_by};
 ghost use Rattle.lucy_worker.specs.News.{IsNew, ends_by};
 ghost use Rattle.lucy_worker.specs.Meets.{HasGiver, HasTaker, AreOfOneRing, MetBetween, MetWithin};
 ghost use Rattle.lucy_worker.specs.Growing.{HasSpared, HasSpare, CanExtend, IsExtended};
 
 use crate::gate::{Gate, Passages};
+use crate::heading::Heading;
 use crate::part::Part;
 use crate::place::EndPlace;
-use crate::turn::{Progress, all_done, pass};
+use crate::turn::{all_done, goes_on, pass, pass_on};
 use crate::within::meet_within;
 use lucy_host::Host;
 use lucy_ring::meet;
 use lucy_word::OutOfMemory;
 use std::alloc::Global;
 use std::marker::Model;
-
-// Behind so many looks a turn begins no pass, so that its caller soon sees how much they find. In vain so many last some 0.7 ms, five times
-// as long as four threads take to start for another round.
-const MOST_LOOKS: u64 = 65_536;
 
 /// The actors that one thread moves.
 #[derive(Drop)]
@@ -60,49 +57,42 @@ impl Worker {
         self.parts.as_slice()
     }
 
-    /// Passes the gate once, and then goes over the actors again and again and moves each as long as it can, until all are done or it
-    /// has looked for moves a number of times; then no one can move on what its ends know. It takes no memory, and returns if the gate
-    /// does.
+    /// Passes the gate once, and then goes over the actors again and again and moves each as long as it can, until a pass moves nothing or
+    /// finds little to move; then no one can move on what its ends know. Answers the number of moves. It takes no memory, and returns
+    /// if the gate does.
     pub fn advance<F: Fn(u32, i64, i64) -> i64 + Sync, G: Gate + Sync>(
         &mut self,
         host: &Host<F>,
         gate: &G,
-    ) -> Progress
+    ) -> u64
         requires serves { Serves F.pre F.post host.now }
         requires served { All (IsServed (length (lent host.now))) self.old.parts }
         ensures number { self.new.number ≡ self.old.number }
         ensures passed { G.passed gate.now self.old.number }
-        ensures turned { IsTurnOf (kinds_of (lent host.now)) self.old.parts self.new.parts result.moves }
+        ensures turned { IsTurnOf (kinds_of (lent host.now)) self.old.parts self.new.parts result }
     {
-        let passages = self.enter(gate);
+        // that it passed once is said by `enter` alone
+        let _passages = self.enter(gate);
         let parts = self.parts.as_mut_slice();
-        let mut moves = pass(parts, host, &passages);
-        let mut looks = parts.len() as u64;
-        while looks < MOST_LOOKS && !all_done(parts) {
-            let more = pass(parts, host, &passages);
-            moves += more;
-            looks += parts.len() as u64;
+        let mut heading = Heading::first();
+        let mut found = pass(parts, host, heading.back);
+        let mut moves = found;
+        while goes_on(found, parts.len() as u64) {
+            heading = heading.after(found);
+            found = pass(parts, host, heading.back);
+            moves += found;
         }
-        Progress { moves, looks }
+        moves
     }
 
-    /// The same while no other worker moves, so that it waits for none: it is one pass over the actors.
-    pub fn advance_alone<F: Fn(u32, i64, i64) -> i64 + Sync, G: Gate + Sync>(
-        &mut self,
-        host: &Host<F>,
-        gate: &G,
-    ) -> Progress
+    /// One pass over the actors, while no other worker moves. Answers the number of moves. It passes no gate and takes no memory.
+    pub fn pass_over<F: Fn(u32, i64, i64) -> i64 + Sync>(&mut self, host: &Host<F>) -> u64
         requires serves { Serves F.pre F.post host.now }
         requires served { All (IsServed (length (lent host.now))) self.old.parts }
         ensures number { self.new.number ≡ self.old.number }
-        ensures passed { G.passed gate.now self.old.number }
-        ensures turned { IsTurnOf (kinds_of (lent host.now)) self.old.parts self.new.parts result.moves }
+        ensures turned { IsTurnOf (kinds_of (lent host.now)) self.old.parts self.new.parts result }
     {
-        let passages = self.enter(gate);
-        let parts = self.parts.as_mut_slice();
-        let moves = pass(parts, host, &passages);
-        let looks = parts.len() as u64;
-        Progress { moves, looks }
+        pass_on(self.parts.as_mut_slice(), host)
     }
 
     // Passes the gate.
@@ -125,7 +115,7 @@ impl Worker {
         ensures number { self.new.number ≡ self.old.number }
         ensures run { HaveRun (kinds_of (lent host.now)) self.old.parts self.new.parts }
         ensures counted { done_by self.new.parts ≡ done_by self.old.parts + result }
-        ensures few { result ≤ 68719476736 }
+        ensures few { result ≤ most_moves }
         ensures gone { (d : Part) → (q : Part) × HasGoneOn (kinds_of (lent host.now)) (slice_index_or self.old.parts part d) q result
             × (self.new.parts ≡ slice_set self.old.parts part q) }
     {

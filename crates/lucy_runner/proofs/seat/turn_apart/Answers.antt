@@ -16,8 +16,8 @@ moves_in-requires-clause-each g c =
     (subst (λ (y : Seat). IsTurned kinds m.argument.now y) {y = get_or c.for_each_mut.new.s k d} m.left m.call)) in
     turned_few kinds c.args.seats.now c.for_each_mut.new.s c.for_each_mut.auto.s each
 
-pub returns : goal.returns
-returns g c =
+pub returns-clause-turned : goal.returns-clause-turned
+returns-clause-turned g c =
     let kinds = kinds_of (lent c.args.host.now) in
     let each : (k : ℕ) (d : Seat) → k < length c.args.seats.now → IsTurned kinds (get_or c.args.seats.now k d)
     (get_or c.for_each_mut.new.s k d) = λ k d l.

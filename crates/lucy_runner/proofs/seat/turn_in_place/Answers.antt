@@ -7,8 +7,8 @@ use Rattle.lucy_runner.specs.declared.seat.Seat.{Seat}
 use Rattle.lucy_runner.proofs.TurningLaws.{turned_more, rest_more, all_turned, turned_few}
 use Rattle.lucy_runner.proofs.seat.turn_in_place.Goals as goal
 
-pub advance_alone-seat-requires-clause-served : goal.advance_alone-seat-requires-clause-served
-advance_alone-seat-requires-clause-served g c κs within =
+pub pass_over-seat-requires-clause-served : goal.pass_over-seat-requires-clause-served
+pass_over-seat-requires-clause-served g c κs within =
     let i : ℕ = c.loop-seat.seat-index in
     let item : Seat = c.seat-item.result in
     subst (λ (x : Seat). All (IsServed (length (lent c.args.host.now))) x.worker.parts) (sym (c.loop-seat.invariant.1 i item (omega arith)))
@@ -17,7 +17,7 @@ advance_alone-seat-requires-clause-served g c κs within =
 pub loop-seat-preserved : goal.loop-seat-preserved
 loop-seat-preserved g c =
     let so_far = c.loop-seat.invariant in
-    let e = c.advance_alone-seat.ensures.turned in (
+    let e = c.pass_over-seat.ensures.turned in (
       turned_more (kinds_of (lent c.args.host.now)) c.args.seats.now c.loop-seat.seats c.loop-seat.seat-index c.seat-item.result _
           (omega arith) so_far.0 so_far.1
           (record { turned = record { run = e.run; moved = e.moved }; counted = e.counted; few = e.few }),

@@ -8,7 +8,7 @@ use Rattle.lucy_worker.specs.Turns.{IsServed}
 use Rattle.lucy_worker.specs.Readiness.{left_by, HavePassed}
 use Rattle.lucy_worker.proofs.Runs.{passed_none, passed_on, passed_one, come_none, come_more}
 use Rattle.lucy_worker.proofs.CountLaws.{left_by_few}
-use Rattle.lucy_worker.proofs.turn.pass.Goals as goal
+use Rattle.lucy_worker.proofs.turn.pass_on.Goals as goal
 
 pub loop-part-init : goal.loop-part-init
 loop-part-init g c = (passed_none (kinds_of (lent c.args.host.now)) (length (lent c.args.host.now)) c.args.parts.now c.requires.ready c.requires.served, come_none c.args.parts.now)
@@ -47,3 +47,14 @@ loop-part-preserved g c =
           (passed_one kinds count c.loop-part.parts i p c.go_on-moves.new.self c.go_on-moves.result l at (record { ready = e.ready; run = e.run; done = e.moves; left = e.left }) serves so_far.ready so_far.served),
       come_more c.args.parts.now c.loop-part.parts i p c.go_on-moves.new.self l at (λ can. (let m = e.moved can in omega arith)) e.rests c.loop-part.invariant.1,
     )
+
+pub returns : goal.returns
+returns g c =
+    let come = c.loop-part.invariant.1 in
+    let same = c.loop-part.invariant.0.run.as_many in
+    let over = c.loop-part-test.false in
+    record {
+      passed = c.loop-part.invariant.0;
+      moved = λ k d l. come.moved k d (omega arith);
+      rests = λ k d l. come.rests k d (omega arith);
+    }
