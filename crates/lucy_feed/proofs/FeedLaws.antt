@@ -17,9 +17,9 @@ use Rattle.lucy_lines.proofs.CutLaws.{turns_cut}
 use Rattle.lucy_lines.proofs.Exists.{some_cut}
 use Rattle.lucy_lines.proofs.ReaderLaws.{kind_fits}
 use Rattle.lucy_feed.specs.Sources.{Stop, Ended, Failed, Open, Drained}
-use Rattle.lucy_feed.specs.Feeding.{StopsFor, IsAsked}
+use Rattle.lucy_feed.specs.Feeding.{StopsFor, IsAskedWhile}
 use Rattle.lucy_feed.specs.Going.{Leads, Behind, CanGoOn, CanCount}
-use Rattle.lucy_feed.specs.Resuming.{AreCounts, BeginCut, IsOpen, IsStopped}
+use Rattle.lucy_feed.specs.Resuming.{AreCounts, AsksWhile, BeginCut, IsOpen, IsStopped}
 use Rattle.lucy_feed.proofs.ListLaws.{counts_more, no_counts}
 
 -- one item on
@@ -110,26 +110,40 @@ either : (b : Bool) → (b ≡ true) ⊎ (b ≡ false)
 either true = inl refl
 either false = inr refl
 
--- bytes were asked for before, and not in this call
-asked_before : (inputs : List InputSpec) (taken bytes : List ℕ) → bytes ≡ [] → IsAsked inputs taken → IsAsked inputs (taken ++ bytes)
-asked_before inputs taken bytes none asked =
-    let P : List ℕ → Type 0 = λ u. IsAsked inputs (taken ++ u) in
-    let Q : List ℕ → Type 0 = λ u. IsAsked inputs u in
-    subst P (sym none) (subst Q (sym (append-nil taken)) asked)
-
 -- bytes were asked for in this call
 asked_now : (inputs : List InputSpec) (items : List ItemOf) (taken bytes : List ℕ) (held : Held) (closed : Bool) → Leads inputs items taken held closed → closed ≡ false →
-    (early late : List ℕ) (h : Held) → bytes ≡ early ++ late → length late ≤ most_read → Next inputs false (with_more held early) (Wants h) → IsAsked inputs (taken ++ bytes)
+    (early late : List ℕ) (h : Held) → bytes ≡ early ++ late → length late ≤ most_read → Next inputs false (with_more held early) (Wants h) →
+    IsAskedWhile (λ xs. xs ≡ items) inputs (taken ++ bytes)
 asked_now inputs items taken bytes held closed leads open_yet early late h e few n =
-    inr (taken ++ early, late, items ++ [], h, ap (λ u. taken ++ u) e ∙ sym (append_assoc taken early late), few, leads false early [] (Before h) (λ t. let no_more : true ≡ false = sym t ∙ open_yet in cc) (undecided n))
+    let cut = leads false early [] (Before h) (λ t. let no_more : true ≡ false = sym t ∙ open_yet in cc) (undecided n) in
+    inr (taken ++ early, late, items ++ [], h, ap (λ u. taken ++ u) e ∙ sym (append_assoc taken early late), few, cut, append-nil items)
 
-asked_so : (inputs : List InputSpec) (old new : ReaderState) (before after : SeenSource) (result : Result line_type.Line TextFault) (items : List ItemOf) (taken bytes : List ℕ) → old.inputs ≡ inputs →
-    Leads inputs items taken old.held old.closed → IsAsked inputs taken → Took old new before after result bytes → (bytes ≡ []) ⊎ Asked old bytes → (old.closed ≡ true) ⊎ (old.closed ≡ false) → IsAsked inputs (taken ++ bytes)
-asked_so inputs old new before after result items taken bytes same leads asked t (inl none) closed = asked_before inputs taken bytes none asked
-asked_so inputs old new before after result items taken bytes same leads asked t (inr now) (inl shut) = let q = t.quiet shut in asked_before inputs taken bytes q.0 asked
-asked_so inputs old new before after result items taken bytes same leads asked t (inr (early, late, h, e, few, n)) (inr open_yet) =
+-- bytes were asked for in this call, if at all, behind these items
+asks_so : (inputs : List InputSpec) (old new : ReaderState) (before after : SeenSource) (result : Result line_type.Line TextFault) (items : List ItemOf) (taken bytes : List ℕ) → old.inputs ≡ inputs →
+    Leads inputs items taken old.held old.closed → Took old new before after result bytes → (bytes ≡ []) ⊎ Asked old bytes → (old.closed ≡ true) ⊎ (old.closed ≡ false) →
+    AsksWhile (λ xs. xs ≡ items) inputs taken bytes
+asks_so inputs old new before after result items taken bytes same leads t (inl none) closed = inl none
+asks_so inputs old new before after result items taken bytes same leads t (inr now) (inl shut) = let q = t.quiet shut in inl q.0
+asks_so inputs old new before after result items taken bytes same leads t (inr (early, late, h, e, few, n)) (inr open_yet) =
     let P : List InputSpec → Type 0 = λ u. Next u false (with_more old.held early) (Wants h) in
-    asked_now inputs items taken bytes old.held old.closed leads open_yet early late h e few (subst P same n)
+    inr (asked_now inputs items taken bytes old.held old.closed leads open_yet early late h e few (subst P same n))
+
+-- what was wanting was wanting of more
+pub asked_as : (inputs : List InputSpec) (taken : List ℕ) (P Q : List ItemOf → Type 0) → ((xs : List ItemOf) → P xs → Q xs) → IsAskedWhile P inputs taken → IsAskedWhile Q inputs taken
+asked_as inputs taken P Q more (inl none) = inl none
+asked_as inputs taken P Q more (inr (early, late, items, held, e, few, cut, wanting)) = inr (early, late, items, held, e, few, cut, more items wanting)
+
+pub asks_as : (inputs : List InputSpec) (taken bytes : List ℕ) (P Q : List ItemOf → Type 0) → ((xs : List ItemOf) → P xs → Q xs) → AsksWhile P inputs taken bytes → AsksWhile Q inputs taken bytes
+asks_as inputs taken bytes P Q more (inl none) = inl none
+asks_as inputs taken bytes P Q more (inr asked) = inr (asked_as inputs (taken ++ bytes) P Q more asked)
+
+-- where it was asked before, it was asked behind more
+pub asked_still : (inputs : List InputSpec) (taken bytes : List ℕ) (P : List ItemOf → Type 0) → IsAskedWhile P inputs taken → AsksWhile P inputs taken bytes → IsAskedWhile P inputs (taken ++ bytes)
+asked_still inputs taken bytes P asked (inl none) =
+    let Q : List ℕ → Type 0 = λ u. IsAskedWhile P inputs u in
+    let R : List ℕ → Type 0 = λ u. IsAskedWhile P inputs (taken ++ u) in
+    subst R (sym none) (subst Q (sym (append-nil taken)) asked)
+asked_still inputs taken bytes P asked (inr now) = now
 
 -- what holds of the bytes taken behind a call, whatever it answered
 behind_call : (inputs : List InputSpec) (old new : ReaderState) (before between after : SeenSource) (result : Result line_type.Line TextFault) (items : List ItemOf) (taken bytes : List ℕ) →
@@ -145,8 +159,15 @@ behind_call inputs old new before between after result items taken bytes s c = r
     | inl shut ↦ let P : SeenSource → Type 0 = λ u. NoneFollows before.since_stop u.since_stop in subst P (sym (c.unread shut)) s.behind.none_follows
     | inr open_yet ↦ λ none. c.none_follows (s.going open_yet none)
   ];
-  asked = asked_so inputs old new between after result items taken bytes s.kept s.leads s.behind.asked c.took c.took.needed (either old.closed);
+  asked = asked_still inputs taken bytes _ s.behind.asked
+      (asks_as inputs taken bytes (λ xs. xs ≡ items) (λ xs. Unit {0}) (λ xs same. tt) (asks_so inputs old new between after result items taken bytes s.kept s.leads c.took c.took.needed (either old.closed)));
 }
+
+-- a call asks behind the items that were read before it
+pub asks_behind : (inputs : List InputSpec) (old new : ReaderState) (counts : List ℕ) (before between after : SeenSource) (result : Result line_type.Line TextFault) (items : List ItemOf) (taken bytes : List ℕ) →
+    IsOpen inputs before between old counts items taken → Called old new between after result bytes → AsksWhile (λ xs. xs ≡ items) inputs taken bytes
+asks_behind inputs old new counts before between after result items taken bytes o c =
+    asks_so inputs old new between after result items taken bytes o.goes_on.kept o.goes_on.leads c.took c.took.needed (either old.closed)
 
 -- what a call that gave an item goes on from
 item_more : (inputs : List InputSpec) (old new : ReaderState) (before between after : SeenSource) (items : List ItemOf) (taken bytes : List ℕ) (stream : ℕ) (value : ℤ) →
@@ -184,6 +205,7 @@ item_read inputs old new counts now before between after items taken bytes strea
 abbrev pub Stops : List InputSpec → (before after : SeenSource) → ReaderState → (counts : List ℕ) → Option TextFault → List ItemOf → (taken : List ℕ) → Type 0
 Stops inputs before after reader counts fault items taken =
     (bytes : List ℕ) × (stop : Stop) × (halt : Halt) × IsStopped inputs before after reader counts fault items (taken ++ bytes) stop halt
+    × AsksWhile (λ xs. xs ≡ items) inputs taken bytes
 
 -- the input was read to its end
 pub ended : (inputs : List InputSpec) (old new : ReaderState) (counts : List ℕ) (fault : Option TextFault) (before between after : SeenSource) (items : List ItemOf) (taken bytes : List ℕ) →
@@ -210,6 +232,7 @@ ended inputs old new counts fault before between after items taken bytes o c shu
         asked = b.asked;
         feed = record { cut = subst R (append-nil items) cut; lists = refl; fault = none; stopped = subst T (sym none) refl };
       },
+      asks_behind inputs old new counts before between after (Ok End) items taken bytes o c,
     )
 
 -- a read failed
@@ -237,6 +260,7 @@ failed inputs old new counts before between after items taken bytes o c shut =
         asked = b.asked;
         feed = record { cut = subst T (append-nil items) cut; lists = refl; fault = refl; stopped = refl };
       },
+      asks_behind inputs old new counts before between after (Err ReadFault) items taken bytes o c,
     )
 
 -- a line was refused
@@ -265,6 +289,7 @@ line_refused inputs old new counts before between after items taken bytes f o c 
         asked = b.asked;
         feed = record { cut = subst T (append-nil items) cut; lists = refl; fault = refl; stopped = stops Drained (inl refl) };
       },
+      asks_behind inputs old new counts before between after (Err f) items taken bytes o c,
     )
 line_refused inputs old new counts before between after items taken bytes f o c ended_now n most calm stops (inr open_yet) =
     let s = o.goes_on in
@@ -287,6 +312,7 @@ line_refused inputs old new counts before between after items taken bytes f o c 
         asked = b.asked;
         feed = record { cut = subst T (append-nil items) cut; lists = refl; fault = refl; stopped = stops Open (inr refl) };
       },
+      asks_behind inputs old new counts before between after (Err f) items taken bytes o c,
     )
 
 stopped_at : (inputs : List InputSpec) (old new : ReaderState) (counts : List ℕ) (before between after : SeenSource) (items : List ItemOf) (taken bytes : List ℕ) (f : TextFault) →

@@ -40,12 +40,12 @@ as_feed inputs first now s feed items taken ended (inr (stop, halt, stopped)) fr
 pub all_read : (inputs : List InputSpec) (first now : SeenSource) (s t : FeedState) (feed : Feed) → HasRead inputs first first s [] [] → AreFresh inputs s [] → ReadsMore first now s t →
     t.reader.ended ≡ true → feed ≡ record { items = t.fresh; stop = t.fault } → GivesFeed inputs first now (Ok feed)
 all_read inputs first now s t feed begun fresh reads ended is =
-    let (more, bytes, read, kept) = reads inputs first [] [] [] begun fresh in
+    let (more, bytes, read, kept, asks) = reads inputs first [] [] [] begun fresh in
     as_feed inputs first now t feed more bytes ended read kept is
 
 -- there is a list for each stream
 pub as_many : (inputs : List InputSpec) (first now : SeenSource) (s t : FeedState) (feed : Feed) → HasRead inputs first first s [] [] → AreFresh inputs s [] → ReadsMore first now s t →
     feed ≡ record { items = t.fresh; stop = t.fault } → length feed.items ≡ length inputs
 as_many inputs first now s t feed begun fresh reads is =
-    let (more, bytes, read, kept) = reads inputs first [] [] [] begun fresh in
+    let (more, bytes, read, kept, asks) = reads inputs first [] [] [] begun fresh in
     ap (λ f. length f.items) is ∙ ap length kept ∙ length-map-range_with_len (λ k. values_of k more) 0 (length inputs)

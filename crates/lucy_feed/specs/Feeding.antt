@@ -53,10 +53,15 @@ abbrev pub IsFeed : List InputSpec → (taken : List ℕ) → Stop → Result Fe
 IsFeed inputs taken stop (Ok feed) = (items : List ItemOf) × (halt : Halt) × IsFeedOf inputs taken stop items halt feed
 IsFeed inputs taken stop (Err e) = stop ≡ Open
 
+-- Bytes were asked for only as long as those taken before the last read refused no line, and something was wanting behind their
+-- items.
+abbrev pub IsAskedWhile : (Wanting : List ItemOf → Type 0) → List InputSpec → (taken : List ℕ) → Type 0
+IsAskedWhile Wanting inputs taken = (taken ≡ []) ⊎ ((early late : List ℕ) × (items : List ItemOf) × (held : Held) × (taken ≡ early ++ late) × (length late ≤ most_read) ×
+    Cut inputs false (input_of early) items (Before held) × Wanting items)
+
 -- Bytes were asked for only as long as those taken before the last read refused no line.
 abbrev pub IsAsked : List InputSpec → (taken : List ℕ) → Type 0
-IsAsked inputs taken = (taken ≡ []) ⊎ ((early late : List ℕ) × (items : List ItemOf) × (held : Held) × (taken ≡ early ++ late) × (length late ≤ most_read) ×
-    Cut inputs false (input_of early) items (Before held))
+IsAsked inputs taken = IsAskedWhile (λ items. Unit {0}) inputs taken
 
 -- the bytes taken, and how reading stopped, have one feed
 abbrev pub OneFeed : Type 0

@@ -1,6 +1,6 @@
 -- A reading of an input that stops where there are items enough and goes on from there: what it has come to, by the bytes taken
 -- since its source was seen first.
-use Rattle.std.specs.Prelude.{ℕ, ℤ, ◌≤◌, ◌≡◌, ◌⊎◌, true, false, List, [], ◌++◌, length, Option, slice_index_or}
+use Rattle.std.specs.Prelude.{ℕ, ℤ, ◌<◌, ◌≤◌, ◌≡◌, ◌⊎◌, true, false, List, [], ◌++◌, length, Option, slice_index_or}
 use Rattle.lucy_lines.specs.declared.input.InputSpec.{InputSpec}
 use Rattle.lucy_lines.specs.declared.reader.TextFault.{TextFault}
 use Rattle.lucy_lines.specs.Fronts.{most_bytes}
@@ -8,7 +8,7 @@ use Rattle.lucy_lines.specs.Cuts.{ItemOf, Stop as Halt, Cut, input_of}
 use Rattle.lucy_lines.specs.Reading.{ReaderState}
 use Rattle.lucy_text.specs.Outside.{SeenSource}
 use Rattle.lucy_feed.specs.Sources.{Stop, Open, Read}
-use Rattle.lucy_feed.specs.Feeding.{values_by_stream, IsAsked, IsFeedOf}
+use Rattle.lucy_feed.specs.Feeding.{values_by_stream, IsAskedWhile, IsAsked, IsFeedOf}
 use Rattle.lucy_feed.specs.Going.{CanGoOn}
 
 -- A reader of an input: what reads its lines, which has ended where reading stopped; the values that were not carried away yet and
@@ -27,6 +27,14 @@ pub record AreCounts (inputs : List InputSpec) (counts : List ℕ) (items : List
 -- each stream has at least as many values as are wanted
 abbrev pub AreMet : (wanted counts : List ℕ) → Type 0
 AreMet wanted counts = (i : ℕ) → slice_index_or wanted i 0 ≤ slice_index_or counts i 0
+
+-- some stream has fewer values among these items than are wanted
+abbrev pub IsShort : (wanted : List ℕ) → List InputSpec → List ItemOf → Type 0
+IsShort wanted inputs items = (i : ℕ) × (length (slice_index_or (values_by_stream (length inputs) items) i []) < slice_index_or wanted i 0)
+
+-- no byte was asked for behind those taken before, or only while something was wanting behind the items
+abbrev pub AsksWhile : (Wanting : List ItemOf → Type 0) → List InputSpec → (taken bytes : List ℕ) → Type 0
+AsksWhile Wanting inputs taken bytes = (bytes ≡ []) ⊎ IsAskedWhile Wanting inputs (taken ++ bytes)
 
 -- these items stand in front of those that the bytes taken have as a whole input
 abbrev pub BeginCut : List InputSpec → (taken : List ℕ) → List ItemOf → Type 0
@@ -66,11 +74,16 @@ pub record IsGivenUp (inputs : List InputSpec) (first now : SeenSource) (items :
 abbrev pub AreFresh : List InputSpec → FeedState → (recent : List ItemOf) → Type 0
 AreFresh inputs s recent = s.fresh ≡ values_by_stream (length inputs) recent
 
--- whatever was read before, more was read, and the values were kept
-abbrev pub ReadsMore : (before after : SeenSource) (old new : FeedState) → Type 0
-ReadsMore before after old new = (inputs : List InputSpec) (first : SeenSource) (items recent : List ItemOf) (taken : List ℕ) →
+-- whatever was read before, more was read while something was wanting, and the values were kept
+abbrev pub ReadsWhile : (Wanting : List InputSpec → List ItemOf → Type 0) → (before after : SeenSource) (old new : FeedState) → Type 0
+ReadsWhile Wanting before after old new = (inputs : List InputSpec) (first : SeenSource) (items recent : List ItemOf) (taken : List ℕ) →
     HasRead inputs first before old items taken → AreFresh inputs old recent →
     (more : List ItemOf) × (bytes : List ℕ) × HasRead inputs first after new (items ++ more) (taken ++ bytes) × AreFresh inputs new (recent ++ more)
+    × AsksWhile (Wanting inputs) inputs taken bytes
+
+-- more was read, up to the stop if need be
+abbrev pub ReadsMore : (before after : SeenSource) (old new : FeedState) → Type 0
+ReadsMore before after old new = ReadsWhile (λ inputs items. Unit {0}) before after old new
 
 -- whatever was read before, more was read, and the values were counted alone
 abbrev pub PassesMore : (before after : SeenSource) (old new : FeedState) → Type 0

@@ -8,7 +8,7 @@ ghost use Rattle.lucy_lines.specs.Cuts.{ItemOf, Stop as Halt};
 ghost use Rattle.lucy_text.specs.Outside.{SeenSource};
 ghost use Rattle.lucy_feed.specs.Sources.{Stop};
 ghost use Rattle.lucy_feed.specs.Feeding.{values_by_stream};
-ghost use Rattle.lucy_feed.specs.Resuming.{AreMet, IsOpen, IsStopped, HasRead, AreFresh, ReadsMore, PassesMore, GivesUp};
+ghost use Rattle.lucy_feed.specs.Resuming.{AreCounts, AreMet, AsksWhile, IsOpen, IsShort, IsStopped, HasRead, AreFresh, ReadsWhile, ReadsMore, PassesMore, GivesUp};
 
 use crate::feeds::{Feed, empty_lists};
 use lucy_host::Inputs;
@@ -111,11 +111,13 @@ impl FeedReader {
         requires { self.old.reader.ended ≡ false }
         ensures item { IfSome result (λ i. (inputs : List Spec) (first : SeenSource) (items : List ItemOf) (taken : List ℕ) → IsOpen inputs first
             (I.seen source.old) self.old.reader self.old.counts items taken → (bytes : List ℕ) × IsOpen inputs first
-            (I.seen source.new) self.new.reader self.new.counts (items ++ record { stream = i.0; value = i.1 } ∷ []) (taken ++ bytes)) }
+            (I.seen source.new) self.new.reader self.new.counts (items ++ record { stream = i.0; value = i.1 } ∷ []) (taken ++ bytes)
+            × AsksWhile (λ xs. xs ≡ items) inputs taken bytes) }
         ensures stop { MatchOption result ((inputs : List Spec) (first : SeenSource) (items : List ItemOf) (taken : List ℕ) → IsOpen inputs first
             (I.seen source.old) self.old.reader self.old.counts items taken →
             (bytes : List ℕ) × (stop : Stop) × (halt : Halt) × IsStopped inputs first
-            (I.seen source.new) self.new.reader self.new.counts self.new.fault items (taken ++ bytes) stop halt) (λ i. Unit {0}) }
+            (I.seen source.new) self.new.reader self.new.counts self.new.fault items (taken ++ bytes) stop halt
+            × AsksWhile (λ xs. xs ≡ items) inputs taken bytes) (λ i. Unit {0}) }
         ensures known { IfSome result (λ i. i.0 < length self.old.reader.inputs) }
         ensures fits { IfSome result (λ i. FitsSigned w64 i.1) }
         ensures progress { MatchOption result (self.new.reader.ended ≡ true) (λ i. (self.new.reader.ended ≡ false) × (self.old.reader.held.used < self.new.reader.held.used) × (self.new.reader.held.used ≤ most_bytes + 1)) }
@@ -140,7 +142,7 @@ impl FeedReader {
     // Reads a line and keeps its item, if it has one.
     fn keep_item<I: Source>(&mut self, alloc: Global, source: &mut I) -> Result<(), OutOfMemory>
         requires { self.old.reader.ended ≡ false }
-        ensures reads { OnOk result (ReadsMore (I.seen source.old) (I.seen source.new) self.old self.new) }
+        ensures reads { OnOk result (ReadsWhile (λ inputs items. AreCounts inputs self.old.counts items) (I.seen source.old) (I.seen source.new) self.old self.new) }
         ensures gives_up { OnErr result (GivesUp (I.seen source.old) (I.seen source.new) self.old) }
         ensures progress { OnOk result ((self.new.reader.ended ≡ true) ⊎ ((self.new.reader.ended ≡ false) × (self.old.reader.held.used < self.new.reader.held.used) × (self.new.reader.held.used ≤ most_bytes + 1))) }
         ensures risen { AreMet self.old.counts self.new.counts }
@@ -174,7 +176,7 @@ impl FeedReader {
         source: &mut I,
     ) -> Result<(), OutOfMemory>
         requires { stream < length self.old.reader.inputs }
-        ensures reads { OnOk result (ReadsMore (I.seen source.old) (I.seen source.new) self.old self.new) }
+        ensures reads { OnOk result (ReadsWhile (λ inputs items. length (slice_index_or (values_by_stream (length inputs) items) stream []) < least) (I.seen source.old) (I.seen source.new) self.old self.new) }
         ensures gives_up { OnErr result (GivesUp (I.seen source.old) (I.seen source.new) self.old) }
         ensures enough { OnOk result ((self.new.reader.ended ≡ true) ⊎ (least ≤ slice_index_or self.new.counts stream 0)) }
         ensures unread { (self.old.reader.ended ≡ true) ⊎ (least ≤ slice_index_or self.old.counts stream 0) → (result ≡ Ok tt) × (source.new ≡ source.old) × (self.new ≡ self.old) }
@@ -188,7 +190,7 @@ impl FeedReader {
         Ok(())
     }
 
-    /// Reads lines until each stream has, in all, as many values as are wanted of it, or until reading stops; no line is asked for
+    /// Reads lines until each stream has, in all, as many values as are wanted of it, or until reading stops; no byte is asked for
     /// when that is so. There is a number for each stream. Where memory runs out, the item that was read last is lost, and the
     /// reader is of no use any more.
     pub fn read_to<I: Source>(
@@ -198,7 +200,7 @@ impl FeedReader {
         source: &mut I,
     ) -> Result<(), OutOfMemory>
         requires { length wanted.now ≡ length self.old.reader.inputs }
-        ensures reads { OnOk result (ReadsMore (I.seen source.old) (I.seen source.new) self.old self.new) }
+        ensures reads { OnOk result (ReadsWhile (IsShort wanted.now) (I.seen source.old) (I.seen source.new) self.old self.new) }
         ensures gives_up { OnErr result (GivesUp (I.seen source.old) (I.seen source.new) self.old) }
         ensures enough { OnOk result ((self.new.reader.ended ≡ true) ⊎ AreMet wanted.now self.new.counts) }
         ensures unread { (self.old.reader.ended ≡ true) ⊎ AreMet wanted.now self.old.counts → (result ≡ Ok tt) × (source.new ≡ source.old) × (self.new ≡ self.old) }

@@ -1,5 +1,5 @@
-ghost use Rattle.std.specs.Prelude.{◌≡◌, ◌≢◌, ◌↔◌, ◌≤◌, None, length, IfOk, IfSome};
-ghost use Rattle.lucy_text.specs.RealShelf.{fetch_faults, IsReadOf, IsFetchOf};
+ghost use Rattle.std.specs.Prelude.{◌≡◌, ◌≢◌, ◌↔◌, ◌≤◌, ◌+◌, None, length, IfOk, IfSome};
+ghost use Rattle.lucy_text.specs.RealShelf.{fetch_faults, IsReadOf, TakesWithin, IsFetchOf};
 ghost use Rattle.lucy_text.specs.Shelf.{IsHeld, Lacks, CountsFaults};
 
 use crate::{Shelf, ShelfError};
@@ -23,19 +23,23 @@ impl<'a, R: Files> RealShelf<'a, R> {
     }
 }
 
-// All bytes that the reader gives, or nothing where there are more than the limit.
-fn read_within<R: Read + Drop>(reader: R, alloc: Global, limit: u64) -> io::Result<Option<Vec<u8>>>
+// All bytes that the reader gives, or nothing where there are more than the limit, of which it takes one.
+fn read_within<R: Read>(reader: &mut R, alloc: Global, limit: u64) -> io::Result<Option<Vec<u8>>>
     ensures within { IfOk result (λ read. IfSome read (λ bytes. length bytes.items ≤ limit)) }
-    ensures all { IfOk result (IsReadOf (R.remaining reader) limit) }
+    ensures all { IfOk result (IsReadOf (R.remaining reader.old) limit) }
+    ensures took { TakesWithin (limit + 1) (R.remaining reader.old) (R.remaining reader.new) }
 {
     let mut bytes = Vec::new(alloc);
-    reader
-        .take(limit.saturating_add(1))
-        .read_to_end(&mut bytes)?;
-    if bytes.len() as u64 > limit {
-        return Ok(None);
+    let mut buffer = [0u8; 4_096];
+    while bytes.len() as u64 <= limit {
+        let room = (limit - bytes.len() as u64).min(4_095) as usize + 1;
+        let n = reader.read(&mut buffer[..room])?;
+        if n == 0 {
+            return Ok(Some(bytes));
+        }
+        bytes.extend_from_slice(&buffer[..n])?;
     }
-    Ok(Some(bytes))
+    Ok(None)
 }
 
 fn read_file<R: Files>(
@@ -47,7 +51,8 @@ fn read_file<R: Files>(
     ensures within { IfOk result (λ read. IfSome read (λ bytes. length bytes.items ≤ limit)) }
     ensures all { IfOk result (λ read. (file : R.File) × IsReadOf (R.File.remaining file) limit read) }
 {
-    read_within(File::open(files, name)?, alloc, limit)
+    let mut file = File::open(files, name)?;
+    read_within(&mut file, alloc, limit)
 }
 
 impl<'a, R: Files> Shelf for RealShelf<'a, R> {
@@ -55,8 +60,8 @@ impl<'a, R: Files> Shelf for RealShelf<'a, R> {
 
     ghost seen = { λ s. record { files = None; faults = fetch_faults s; fetches = None } };
 
-    /// The bytes of the file at the path. Any error of the file system but want of memory is a fault,
-    /// also that there is no such file.
+    /// The bytes of the file at the path, of which at most `limit` + 1 are taken. Any error of the file
+    /// system but want of memory is a fault, an interrupted call too, and also that there is no such file.
     fn fetch(&mut self, alloc: Global, name: &str, limit: u64) -> Result<Vec<u8>, ShelfError>
         ensures read { IsFetchOf (λ read. (file : R.File) × IsReadOf (R.File.remaining file) limit read) result }
         ensures within { IfOk result (λ bytes. length bytes.items ≤ limit) }

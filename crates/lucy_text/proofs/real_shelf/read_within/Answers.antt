@@ -1,20 +1,14 @@
-use Rattle.std.proofs.Common.{ℕ, ◌≡◌, ◌<◌, Option, None, Some, List, [], ◌++◌, length, take, IfSome, ap, ◌∙◌, arith, length-take}
-use Rattle.std.proofs.lemmas.List.{take_all}
-use Rattle.std.specs.Option.{option_map}
+use Rattle.std.proofs.Common.{◌+◌, ◌≤◌, List, ℕ, length, take, arith, ◌++◌, length-append}
+use Rattle.std.proofs.lemmas.List.{length-take}
+use Rattle.std.proofs.KnownBytes.{Consumes-trans}
 use Rattle.lucy_text.proofs.real_shelf.read_within.Goals as goal
 
--- a front that is shorter than it might be is the whole
-whole : (left : Option (List ℕ)) (most : ℕ) (bytes start : List ℕ) → start ≡ [] →
-    IfSome (option_map (take most) left) (λ front. bytes ≡ start ++ front) → length bytes < most →
-    IfSome left (λ all. bytes ≡ all)
-whole None most bytes start none read short = tt
-whole (Some all) most bytes start none read short =
-    let front : bytes ≡ take most all = read ∙ ap (λ s. s ++ take most all) none in
-    front ∙ take_all most all (omega (arith, ap length front, length-take most all))
-
-pub returns-clause-all : goal.returns-clause-all
-returns-clause-all g c =
-    let bytes = c.read_to_end.new.buf in
-    let short : length bytes.items < c.take.result.limit =
-    omega (arith, bytes.ok, bytes.small, c.take.ensures.limit, c.saturating_add.ensures) in
-    rw c.take.ensures.inner at (whole _ _ _ _ c.new-bytes.ensures.items c.in_ok-read_to_end.ensures.bytes short)
+pub returns-in_err-extend_from_slice-clause-took : goal.returns-in_err-extend_from_slice-clause-took
+returns-in_err-extend_from_slice-clause-took g c =
+    let part : List ℕ = take c.in_ok-n.n c.read.new.buf in
+    let short : length part ≤ c.in_ok-n.n = omega (arith, length-take c.in_ok-n.n c.read.new.buf) in
+    let window : length (take (c.min.result + 1) c.loop-buffer.buffer) ≤ c.min.result + 1 = omega (arith, length-take (c.min.result + 1) c.loop-buffer.buffer) in (
+      c.loop-buffer.bytes.items ++ part,
+      Consumes-trans _ _ _ _ _ c.loop-buffer.invariant.took c.in_ok-n.ensures.bytes.0,
+      omega (arith, length-append c.loop-buffer.bytes.items part, c.in_ok-n.ensures.bound.0, c.read.auto.buf, window),
+    )

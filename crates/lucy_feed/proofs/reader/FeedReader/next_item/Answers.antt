@@ -7,7 +7,7 @@ use Rattle.lucy_lines.specs.Cuts.{ItemOf}
 use Rattle.lucy_feed.specs.Resuming.{FeedState, IsOpen}
 use Rattle.lucy_lines.specs.declared.reader.Line.TheVariants.{End}
 use Rattle.lucy_feed.proofs.ListLaws.{any_default}
-use Rattle.lucy_feed.proofs.FeedLaws.{item_read, ended, stopped, called, called_as, of_item, not_ended, has_ended, err_ended, no_fault, value_fits}
+use Rattle.lucy_feed.proofs.FeedLaws.{asks_behind, item_read, ended, stopped, called, called_as, of_item, not_ended, has_ended, err_ended, no_fault, value_fits}
 use Rattle.lucy_feed.proofs.reader.FeedReader.next_item.Goals as goal
 
 pub returns-in-Ok-Item-clause-item : goal.returns-in-Ok-Item-clause-item
@@ -33,6 +33,7 @@ returns-in-Ok-Item-clause-item g c = λ inputs first items taken o.
           (item_read inputs _ _ c.self.inside.counts.items _ _ _ _ items taken bytes c.in-Ok-Item.stream c.in-Ok-Item.value before same known
           (not_ended _ c.next_line.result c.in-Ok-Item.stream c.in-Ok-Item.value is e.ended.0)
           (ap (λ n. slice_set c.self.inside.counts.items c.in-Ok-Item.stream (n + 1)) counted)),
+      asks_behind inputs _ _ _ _ _ _ _ items taken bytes before same,
     )
 
 pub returns-in-Ok-End-clause-stop : goal.returns-in-Ok-End-clause-stop

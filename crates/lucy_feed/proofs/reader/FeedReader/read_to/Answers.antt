@@ -1,11 +1,11 @@
 use Rattle.std.proofs.Common.{length, ap, ◌∙◌, refl, inl, inr, arith}
-use Rattle.lucy_feed.proofs.ResumeLaws.{none_read, reads_on, given_up_later, on_err}
+use Rattle.lucy_feed.proofs.ResumeLaws.{none_read, reads_on, reads_as, given_up_later, on_err}
 use Rattle.lucy_feed.proofs.WantedLaws.{risen_more, has_one, enough_more, enough_all}
 use Rattle.lucy_feed.proofs.reader.FeedReader.read_to.Goals as goal
 
 pub loop-stream-init : goal.loop-stream-init
 loop-stream-init g c = record {
-  reads = none_read _ c.args.self.now;
+  reads = none_read _ _ c.args.self.now;
   enough = inr (λ k lt. absurd (omega arith));
   unread = λ has. (refl, refl);
   risen = λ k. omega arith;
@@ -21,7 +21,7 @@ loop-stream-preserved g c =
     let i = c.loop-stream.invariant in
     let e = c.in_ok-read_until.ensures in
     record {
-      reads = reads_on _ _ _ c.args.self.now c.loop-stream.self c.read_until.new.self i.reads e.reads;
+      reads = reads_on _ _ _ _ c.args.self.now c.loop-stream.self c.read_until.new.self i.reads (reads_as _ _ _ _ c.loop-stream.self c.read_until.new.self (λ inputs xs few. (c.loop-stream.stream, few)) e.reads);
       enough = enough_more c.loop-stream.self c.read_until.new.self c.args.wanted.now c.loop-stream.stream _ refl e.risen i.enough (λ ended. (e.unread (inl ended)).2) e.enough;
       unread = λ has.
           let before = i.unread has in
@@ -33,7 +33,7 @@ loop-stream-preserved g c =
     }
 
 pub returns-in_err-read_until-clause-gives_up : goal.returns-in_err-read_until-clause-gives_up
-returns-in_err-read_until-clause-gives_up g c = on_err _ _ (given_up_later _ _ _ c.args.self.now c.loop-stream.self c.loop-stream.invariant.reads c.in_err-read_until.ensures.gives_up)
+returns-in_err-read_until-clause-gives_up g c = on_err _ _ (given_up_later _ _ _ _ c.args.self.now c.loop-stream.self c.loop-stream.invariant.reads c.in_err-read_until.ensures.gives_up)
 
 pub returns-in_err-read_until-clause-unread : goal.returns-in_err-read_until-clause-unread
 returns-in_err-read_until-clause-unread g c = λ has.

@@ -1,11 +1,11 @@
 use Rattle.std.proofs.Common.{◌∙◌, refl, arith}
-use Rattle.lucy_feed.proofs.ResumeLaws.{none_read, reads_on, given_up_later, on_err}
+use Rattle.lucy_feed.proofs.ResumeLaws.{none_read, reads_on, reads_lacking, given_up_later, on_err}
 use Rattle.lucy_feed.proofs.WantedLaws.{fewer_left, still_lacks, risen_more}
 use Rattle.lucy_feed.proofs.reader.FeedReader.read_until.Goals as goal
 
 pub lines-init : goal.lines-init
 lines-init g c = record {
-  reads = none_read _ c.args.self.now;
+  reads = none_read _ _ c.args.self.now;
   unread = λ has. (refl, refl);
   risen = λ k. omega arith;
   inputs = refl;
@@ -18,7 +18,7 @@ lines-preserved g c =
     let e = c.in_ok-keep_item.ensures in
     let lacks = c.lacks.ensures.lacks c.lines-test.true in
     record {
-      reads = reads_on _ _ _ c.args.self.now c.lines.self c.keep_item.new.self i.reads e.reads;
+      reads = reads_on _ _ _ _ c.args.self.now c.lines.self c.keep_item.new.self i.reads (reads_lacking _ _ c.lines.self c.keep_item.new.self c.args.stream c.args.least lacks.1 e.reads);
       unread = λ has. absurd (still_lacks c.args.self.now c.lines.self c.args.stream c.args.least (i.unread has).1 lacks has);
       risen = risen_more _ _ _ i.risen e.risen;
       inputs = e.inputs ∙ i.inputs;
@@ -32,7 +32,7 @@ pub keep_item-requires : goal.keep_item-requires
 keep_item-requires g c = (c.lacks.ensures.lacks c.lines-test.true).0
 
 pub returns-in_err-keep_item-clause-gives_up : goal.returns-in_err-keep_item-clause-gives_up
-returns-in_err-keep_item-clause-gives_up g c = on_err _ _ (given_up_later _ _ _ c.args.self.now c.lines.self c.lines.invariant.reads c.in_err-keep_item.ensures.gives_up)
+returns-in_err-keep_item-clause-gives_up g c = on_err _ _ (given_up_later _ _ _ _ c.args.self.now c.lines.self c.lines.invariant.reads c.in_err-keep_item.ensures.gives_up)
 
 pub returns-in_err-keep_item-clause-unread : goal.returns-in_err-keep_item-clause-unread
 returns-in_err-keep_item-clause-unread g c = λ has.

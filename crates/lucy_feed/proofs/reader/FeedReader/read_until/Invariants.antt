@@ -1,12 +1,13 @@
-use Rattle.std.proofs.Common.{◌≡◌, ◌≤◌, true}
+use Rattle.std.proofs.Common.{◌≡◌, ◌<◌, ◌≤◌, true, [], length}
 use Rattle.std.specs.Prelude.{◌⊎◌, slice_index_or}
-use Rattle.lucy_feed.specs.Resuming.{AreMet, ReadsMore}
+use Rattle.lucy_feed.specs.Feeding.{values_by_stream}
+use Rattle.lucy_feed.specs.Resuming.{AreMet, ReadsWhile}
 use Rattle.lucy_feed.proofs.WantedLaws.{lines_left}
 use Rattle.lucy_feed.proofs.reader.FeedReader.read_until.Given as goal
 
 abbrev pub invariant-lines : goal.invariant-lines
 invariant-lines g l = record {
-  reads : ReadsMore (g.I.Source.seen l.initial.source) (g.I.Source.seen l.source) l.initial.self l.self;
+  reads : ReadsWhile (λ inputs items. length (slice_index_or (values_by_stream (length inputs) items) l.stream []) < l.least) (g.I.Source.seen l.initial.source) (g.I.Source.seen l.source) l.initial.self l.self;
   unread : (l.initial.self.reader.ended ≡ true) ⊎ (l.least ≤ slice_index_or l.initial.self.counts l.stream 0) → (l.source ≡ l.initial.source) × (l.self ≡ l.initial.self);
   risen : AreMet l.initial.self.counts l.self.counts;
   inputs : l.self.reader.inputs ≡ l.initial.self.reader.inputs;
