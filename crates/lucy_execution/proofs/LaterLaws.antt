@@ -64,6 +64,15 @@ module _ (nodes : List PlacedNode) (clocks : List NodeClock) (proper : AreProper
         cut_each s (main_word nodes clocks) (main_stream kinds more nodes clocks t) (results_in (main_of nodes))
         ∙ map_same (λ place. take (ones_to (main_word nodes clocks place) s) (main_stream kinds more nodes clocks t place)) (main_stream kinds inputs nodes clocks s) (results_in (main_of nodes)) stream_on
 
+-- inputs that go on give the same streams up to a horizon for which those before suffice
+pub streams_same : (nodes : List PlacedNode) (clocks : List NodeClock) → AreProper nodes → HasSchedule nodes clocks → (kinds : List HostKind) (inputs more : List (List ℤ)) → AreFronts inputs more → (t : ℕ) →
+    Suffice (param_words nodes clocks) inputs t → main_streams kinds more nodes clocks t ≡ main_streams kinds inputs nodes clocks t
+streams_same nodes clocks proper schedule kinds inputs more fronts t suffice =
+    map_same (main_stream kinds more nodes clocks t) (main_stream kinds inputs nodes clocks t) (results_in (main_of nodes))
+    (λ i place e.
+    sym (take-take (ones_to (main_word nodes clocks place) t) (ones_to (main_word nodes clocks place) t) (kahn kinds more nodes (t * all_places nodes) (at [] place)) (omega arith))
+    ∙ stream_on nodes clocks proper schedule kinds inputs more fronts t t (omega arith) suffice i place e)
+
 -- past no instant a stream is whole
 pub later_first : (kinds : List HostKind) (inputs : List (List ℤ)) (nodes : List PlacedNode) (clocks : List NodeClock) (t : ℕ) → later_streams kinds inputs nodes clocks 0 t ≡ main_streams kinds inputs nodes clocks t
 later_first kinds inputs nodes clocks t =

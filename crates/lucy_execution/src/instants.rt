@@ -4,7 +4,6 @@ ghost use Rattle.lucy_word.specs.Bits.{ones_to};
 ghost use Rattle.lucy_stream.specs.Items.{list_at};
 ghost use Rattle.lucy_meaning.specs.Horizons.{Suffice, IsHorizon};
 
-use lucy_host::Inputs;
 use lucy_word::Word;
 
 // The last instant, up to the most, up to which the word has no more ones than there are items.
@@ -21,22 +20,9 @@ fn last_within(word: &Word, items: u64, most: u64) -> u64
     }
 }
 
-/// The horizon: the greatest number of instants, up to the most, that the items of the inputs allow, an input for each word.
-/// It takes one step for each input.
-pub fn horizon(words: &[Word], inputs: &Inputs, most: u64) -> u64
-    requires inputs { length inputs.now ≡ length words.now }
-    requires few { length words.now < 2 ^ 32 }
-    ensures { IsHorizon words.now inputs.now most result }
-{
-    let mut last = most;
-    'each: for (i, word) in words.iter().enumerate() {
-        last = last_within(word, inputs.list(i as u32).len() as u64, last);
-    }
-    last
-}
-
-/// The horizon of inputs with so many items, a number for each word. It takes one step for each input.
-pub fn horizon_of_counts(words: &[Word], counts: &[u64], most: u64) -> u64
+/// The horizon: the greatest number of instants, up to the most, that inputs with so many items allow, a number for each word. It
+/// takes one step for each input.
+pub fn horizon(words: &[Word], counts: &[u64], most: u64) -> u64
     requires { length counts.now ≡ length words.now }
     ensures { (inputs : List (List ℤ)) → ((i : ℕ) → slice_index counts.now i ≡ length (list_at inputs i)) → IsHorizon words.now inputs most result }
 {
@@ -47,21 +33,11 @@ pub fn horizon_of_counts(words: &[Word], counts: &[u64], most: u64) -> u64
     last
 }
 
-/// Whether the items of the inputs, an input for each word, allow more instants than so many.
-pub fn allows_more(words: &[Word], inputs: &Inputs, most: u64) -> bool
-    requires inputs { length inputs.now ≡ length words.now }
-    requires few { length words.now < 2 ^ 32 }
-    requires most { most + 1 < 2 ^ 64 }
-    ensures { IsTrue result ↔ Suffice words.now inputs.now (most + 1) }
-{
-    horizon(words, inputs, most + 1) > most
-}
-
 /// Whether inputs with so many items, a number for each word, allow more instants than so many.
-pub fn counts_allow_more(words: &[Word], counts: &[u64], most: u64) -> bool
+pub fn allows_more(words: &[Word], counts: &[u64], most: u64) -> bool
     requires counts { length counts.now ≡ length words.now }
     requires most { most + 1 < 2 ^ 64 }
     ensures { (inputs : List (List ℤ)) → ((i : ℕ) → slice_index counts.now i ≡ length (list_at inputs i)) → (IsTrue result ↔ Suffice words.now inputs (most + 1)) }
 {
-    horizon_of_counts(words, counts, most + 1) > most
+    horizon(words, counts, most + 1) > most
 }

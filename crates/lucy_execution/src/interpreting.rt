@@ -1,6 +1,7 @@
 // The output streams by the plain interpreter.
 ghost use Rattle.std.specs.Prelude.{◌≡◌, ◌≤◌, ◌<◌, ◌-◌, ◌^◌, ◌⊎◌, ◌↔◌, Err, length, map, IfOk, IfErr};
 ghost use Rattle.lucy_word.specs.Bits.{ones_to};
+ghost use Rattle.lucy_word.specs.Limits.{limit_number};
 ghost use Rattle.lucy_word.specs.declared.limit.Limit.TheVariants as limit;
 ghost use Rattle.lucy_host.specs.Host.{Serves, lent};
 ghost use Rattle.lucy_host.specs.Operators.{kinds_of};
@@ -81,7 +82,7 @@ pub fn interpret<F: Fn(u32, i64, i64) -> i64 + Sync>(
     requires known { placed.now.operators ≤ length (lent host.now) }
     requires inputs { params_in (main_of placed.now.nodes) ≡ length inputs.now }
     requires suffice { Suffice (param_words placed.now.nodes clocks.now) inputs.now instants }
-    requires early { instants ≤ 1048576 }
+    requires early { instants ≤ limit_number limit.Instants }
     ensures ok { IfOk result (λ lists. lists ≡ main_streams (kinds_of (lent host.now)) inputs.now placed.now.nodes clocks.now instants) }
     ensures counts { IfOk result (λ lists. map length lists ≡ map (λ word. ones_to word instants) (result_words placed.now.nodes clocks.now)) }
     ensures refused { IfErr result (Refuses (kinds_of (lent host.now)) inputs.now placed.now.nodes clocks.now instants) }

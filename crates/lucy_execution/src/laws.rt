@@ -2,6 +2,8 @@
 // are laws.
 ghost use Rattle.std.specs.Prelude.{ℕ, ◌≡◌, ◌≤◌, List, [], ℤ, Some, length, map, take, slice_get};
 ghost use Rattle.lucy_word.specs.Bits.{ones_to};
+ghost use Rattle.lucy_word.specs.Limits.{limit_number};
+ghost use Rattle.lucy_word.specs.declared.limit.Limit.TheVariants as limit;
 ghost use Rattle.lucy_host.specs.declared.kind.HostKind.{HostKind};
 ghost use Rattle.lucy_host.specs.Operators.{Operator, kinds_of};
 ghost use Rattle.lucy_event.specs.Plans.{GiveBelow};
@@ -29,7 +31,7 @@ ghost use Rattle.lucy_execution.specs.Running.{HasSchedule, turns_of};
 pub fn nets_can_be_run()
     ensures fixed { (nodes : List Node) (clocks : List Clock) (net : Flat) (schedule : Timetable) (inputs : List (List ℤ)) (operators : List Operator) (instants : ℕ) →
         AreProper nodes → HaveOperators (length operators) nodes → IsFlat nodes clocks net → IsSound net (events_at schedule) →
-        Suffice (param_words nodes clocks) inputs instants → instants ≤ 1048576 →
+        Suffice (param_words nodes clocks) inputs instants → instants ≤ limit_number limit.Instants →
         IsFixed net schedule inputs operators instants }
     ensures givers { (nodes : List Node) (clocks : List Clock) (net : Flat) (instants : ℕ) → AreProper nodes → IsFlat nodes clocks net → GiveBelow (plan net instants) (all_places nodes) }
 {}
@@ -56,6 +58,13 @@ pub fn streams_go_on()
     ensures { (kinds : List HostKind) (inputs more : List (List ℤ)) (nodes : List Node) (clocks : List Clock) (s t : ℕ) →
         AreProper nodes → HasSchedule nodes clocks → AreFronts inputs more → s ≤ t → Suffice (param_words nodes clocks) inputs s →
         cut_to s (result_words nodes clocks) (main_streams kinds more nodes clocks t) ≡ main_streams kinds inputs nodes clocks s }
+{}
+
+/// Inputs that go on give the same output streams up to a horizon for which those before suffice.
+pub fn streams_agree()
+    ensures { (kinds : List HostKind) (inputs more : List (List ℤ)) (nodes : List Node) (clocks : List Clock) (instants : ℕ) →
+        AreProper nodes → HasSchedule nodes clocks → AreFronts inputs more → Suffice (param_words nodes clocks) inputs instants →
+        main_streams kinds more nodes clocks instants ≡ main_streams kinds inputs nodes clocks instants }
 {}
 
 /// The stream of an output of the flat net, cut at the horizon, is what the plain interpreter has of its result from the items

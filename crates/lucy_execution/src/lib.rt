@@ -15,10 +15,12 @@ mod player;
 mod running;
 
 pub use clocks::{param_words, result_word};
-pub use instants::{allows_more, counts_allow_more, horizon, horizon_of_counts};
+pub use instants::{allows_more, horizon};
 pub use interpreting::interpret;
 pub use laws::{
-    nets_can_be_run, streams_are_whole, streams_go_on, streams_need_no_more, two_ways_agree,
+    nets_can_be_run, streams_agree, streams_are_whole, streams_go_on, streams_need_no_more,
+    two_ways_agree,
 };
+pub use lists::lengths;
 pub use player::Player;
 pub use running::run_net;

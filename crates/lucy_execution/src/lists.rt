@@ -1,6 +1,7 @@
-// Lists that are put behind one another.
-ghost use Rattle.std.specs.Prelude.{◌≡◌, ◌-◌, ◌<◌, ◌^◌, ◌∷◌, ◌++◌, [], length, take, OnOk};
+// Lists that are put behind one another, and how long lists are.
+ghost use Rattle.std.specs.Prelude.{◌≡◌, ◌≤◌, ◌-◌, ◌<◌, ◌^◌, ◌∷◌, ◌++◌, [], ℕ, length, take, IfOk, OnOk, slice_index};
 ghost use Rattle.lucy_word.specs.Bits.{ones_to};
+ghost use Rattle.lucy_stream.specs.Items.{list_at};
 
 use lucy_host::{Inputs, OutOfMemory};
 use lucy_word::Word;
@@ -39,4 +40,18 @@ pub(crate) fn add_front(
 {
     let count = word.ones(instants).min(list.len() as u64);
     add(alloc, lists, number, &list[..count as usize])
+}
+
+/// How many items each of so many lists has.
+pub fn lengths(alloc: Global, lists: &Inputs, count: usize) -> Result<Vec<u64>, OutOfMemory>
+    requires lists { length lists.now ≡ count }
+    requires few { count < 2 ^ 32 }
+    ensures count { IfOk result (λ lengths. length lengths.items ≡ count) }
+    ensures each { IfOk result (λ lengths. (i : ℕ) → slice_index lengths.items i ≡ length (list_at lists.now i)) }
+{
+    let mut lengths = Vec::new(alloc);
+    'each: for i in 0..count {
+        lengths.push(lists.list(i as u32).len() as u64)?;
+    }
+    Ok(lengths)
 }

@@ -33,6 +33,8 @@ impl<'a> Model for Player<'a> {
 }
 
 impl<'a> Player<'a> {
+    ghost use Rattle.lucy_word.specs.Limits.{limit_number};
+    ghost use Rattle.lucy_word.specs.declared.limit.Limit.TheVariants as limit;
     ghost use Rattle.lucy_host.specs.Host.{Serves, lent};
     ghost use Rattle.lucy_host.specs.Operators.{kinds_of};
     ghost use Rattle.lucy_meaning.specs.Spots.{main_of};
@@ -42,6 +44,7 @@ impl<'a> Player<'a> {
     ghost use Rattle.lucy_cause.specs.Schedules.{events_at};
     ghost use Rattle.lucy_flat.specs.Flat.{IsFlat};
     ghost use Rattle.lucy_execution.specs.Streams.{param_words, later_streams};
+    ghost use Rattle.lucy_execution.specs.Running.{most_workers};
     ghost use Rattle.lucy_execution.specs.Playing.{joined};
 
     /// Runs a program from the beginning to a horizon of at most 1,048,576 instants, by its flat net, whose actors are moved by 1 to
@@ -66,8 +69,8 @@ impl<'a> Player<'a> {
         requires known { placed.now.operators ≤ length (lent host.now) }
         requires inputs { params_in (main_of placed.now.nodes) ≡ length inputs }
         requires suffice { Suffice (param_words placed.now.nodes clocks.now) inputs instants }
-        requires early { instants ≤ 1048576 }
-        requires workers { (1 ≤ workers) × (workers ≤ 64) }
+        requires early { instants ≤ limit_number limit.Instants }
+        requires workers { (1 ≤ workers) × (workers ≤ most_workers) }
         ensures { IfOk result (λ player. player
             ≡ record { nodes = placed.now.nodes; clocks = clocks.now; kinds = kinds_of (lent host.now); inputs = inputs; instants = instants; before = 0 }) }
     {
@@ -105,7 +108,7 @@ impl<'a> Player<'a> {
         requires serves { Serves F.pre F.post host.now }
         requires kinds { kinds_of (lent host.now) ≡ self.old.kinds }
         requires later { self.old.instants ≤ instants }
-        requires early { instants ≤ 1048576 }
+        requires early { instants ≤ limit_number limit.Instants }
         requires inputs { length added.now ≡ length self.old.inputs }
         requires suffice { Suffice (param_words self.old.nodes self.old.clocks) (joined self.old.inputs added.now) instants }
         ensures ok { IfOk result (λ _. self.new ≡ record self.old { inputs = joined self.old.inputs added.now; instants = instants; before = self.old.instants }) }

@@ -1,6 +1,8 @@
 // The output streams by the flat net.
-ghost use Rattle.std.specs.Prelude.{◌≡◌, ◌≤◌, ◌<◌, All, length, map, IfOk};
+ghost use Rattle.std.specs.Prelude.{◌≡◌, ◌≤◌, ◌<◌, ◌%◌, ℕ, Some, All, length, map, slice_get, IfOk};
 ghost use Rattle.lucy_word.specs.Bits.{ones_to};
+ghost use Rattle.lucy_word.specs.Limits.{limit_number};
+ghost use Rattle.lucy_word.specs.declared.limit.Limit.TheVariants as limit;
 ghost use Rattle.lucy_host.specs.Host.{Serves, lent};
 ghost use Rattle.lucy_host.specs.Operators.{kinds_of};
 ghost use Rattle.lucy_meaning.specs.Spots.{main_of};
@@ -12,6 +14,7 @@ ghost use Rattle.lucy_core.specs.Seen.{IsUnbegun, IsOver};
 ghost use Rattle.lucy_flat.specs.Flat.{IsFlat};
 ghost use Rattle.lucy_runner.specs.Views.{input_count, inputs_for};
 ghost use Rattle.lucy_execution.specs.Streams.{param_words, result_words, main_streams, later_streams};
+ghost use Rattle.lucy_execution.specs.Running.{most_workers};
 ghost use Rattle.lucy_execution.specs.Playing.{PlayerView, played, IsPlayed};
 
 use crate::lists::add;
@@ -47,17 +50,16 @@ pub(crate) fn outputs(
     Ok(lists)
 }
 
-/// The homes of so many actors: the workers in turn.
+/// The homes of so many actors: that of actor `a` is worker `a mod workers`.
 pub(crate) fn homes_of(alloc: Global, actors: usize, workers: u32) -> Result<Vec<u32>, AllocError>
     requires { 1 ≤ workers }
     ensures count { IfOk result (λ homes. length homes.items ≡ actors) }
+    ensures home { IfOk result (λ homes. (a : ℕ) → a < actors → slice_get homes.items a ≡ Some (a % workers)) }
     ensures each { IfOk result (λ homes. All (λ home. home < workers) homes.items) }
 {
     let mut homes = Vec::new(alloc);
-    let mut home = 0;
-    for _ in 0..actors {
-        homes.push(home)?;
-        home = if home + 1 < workers { home + 1 } else { 0 };
+    for actor in 0..actors {
+        homes.push((actor % workers as usize) as u32)?;
     }
     Ok(homes)
 }
@@ -78,7 +80,7 @@ pub(crate) fn run_core<R: Threads + Sync, F: Fn(u32, i64, i64) -> i64 + Sync, G:
     requires serves { Serves F.pre F.post host.now }
     requires kinds { kinds_of (lent host.now) ≡ kinds_of core.operators }
     requires unbegun { IsUnbegun core }
-    requires workers { (1 ≤ workers) × (workers ≤ 64) }
+    requires workers { (1 ≤ workers) × (workers ≤ most_workers) }
     requires homes { length homes.now ≡ length core.net.actors }
     requires each { All (λ home. home < workers) homes.now }
     requires counted { input_count core.net.actors ≤ length core.inputs }
@@ -120,8 +122,8 @@ pub fn run_net<R: Threads + Sync, F: Fn(u32, i64, i64) -> i64 + Sync, G: Gate + 
     requires known { placed.now.operators ≤ length (lent host.now) }
     requires inputs { params_in (main_of placed.now.nodes) ≡ length inputs }
     requires suffice { Suffice (param_words placed.now.nodes clocks.now) inputs instants }
-    requires early { instants ≤ 1048576 }
-    requires workers { (1 ≤ workers) × (workers ≤ 64) }
+    requires early { instants ≤ limit_number limit.Instants }
+    requires workers { (1 ≤ workers) × (workers ≤ most_workers) }
     ensures ok { IfOk result (λ lists. lists ≡ main_streams (kinds_of (lent host.now)) inputs placed.now.nodes clocks.now instants) }
     ensures counts { IfOk result (λ lists. map length lists ≡ map (λ word. ones_to word instants) (result_words placed.now.nodes clocks.now)) }
 {

@@ -1,6 +1,6 @@
 -- The feed of an input that a source holds which never fails.
-use Rattle.std.proofs.Common.{ℕ, ◌≡◌, ◌⊎◌, true, List, [], ◌++◌, Option, Some, None, Result, Ok, Err, refl, ap, sym, ◌∙◌, subst, inl, inr, arith}
-use Rattle.std.specs.Prelude.{IfOk}
+use Rattle.std.proofs.Common.{ℕ, ◌≡◌, ◌⊎◌, true, List, [], ◌∷◌, ◌++◌, Option, Some, None, Ok, refl, ap, sym, ◌∙◌, subst, inl, inr, arith}
+use Rattle.std.specs.Prelude.{ℤ}
 use Rattle.std.proofs.lemmas.List.{append-nil}
 use Rattle.std.proofs.lemmas.Option.{same_Some}
 use Rattle.lucy_text.proofs.OutsideLaws.{followed, AtEnd}
@@ -14,11 +14,11 @@ use Rattle.lucy_lines.specs.declared.reader.TextFault.TheVariants.{BadLine, Unkn
 use Rattle.lucy_feed.specs.declared.feeds.Feed.{Feed}
 use Rattle.lucy_feed.specs.Sources.{Stop, Ended, Failed, Open, Drained, StoppedAt, Read}
 use Rattle.lucy_feed.specs.Feeding.{StopsFor, IsFeedOf, IsFeed}
-use Rattle.lucy_word.specs.declared.error.OutOfMemory.{OutOfMemory}
+use Rattle.lucy_run.specs.Feeds.{Feeds}
 use Rattle.lucy_make.specs.Owes.{IsWhole}
 
 -- a feed of all of this input
-abbrev pub IsWholeFeed : List InputSpec → (input : List ℕ) → Feed → Type 0
+abbrev IsWholeFeed : List InputSpec → (input : List ℕ) → Feed → Type 0
 IsWholeFeed inputs input feed = (stop : Stop) × IsWhole stop × IsFeed inputs input stop (Ok feed)
 
 module _ (law : CutInPieces) (inputs : List InputSpec) (input rest taken : List ℕ) (before after : SeenSource) (held : before.left ≡ Some input) (left : after.left ≡ Some rest)
@@ -81,11 +81,14 @@ module _ (law : CutInPieces) (inputs : List InputSpec) (input rest taken : List 
   whole_for (Some (BadValue n)) stop items halt feed e read is = refused (BadValue n) stop items halt feed read (inl refl) e is (stopped_for feed (Some (BadValue n)) stop e is.stopped)
   whole_for (Some TooLong) stop items halt feed e read is = refused TooLong stop items halt feed read (inl refl) e is (stopped_for feed (Some TooLong) stop e is.stopped)
 
-  pub whole : (stop : Stop) (items : List ItemOf) (halt : Halt) (feed : Feed) → Read most_bytes before after taken stop → IsFeedOf inputs taken stop items halt feed → IsWholeFeed inputs input feed
+  whole : (stop : Stop) (items : List ItemOf) (halt : Halt) (feed : Feed) → Read most_bytes before after taken stop → IsFeedOf inputs taken stop items halt feed → IsWholeFeed inputs input feed
   whole stop items halt feed read is = whole_for feed.stop stop items halt feed refl read is
 
-pub whole_feed : CutInPieces → (inputs : List InputSpec) (input rest taken : List ℕ) (stop : Stop) (before after : SeenSource) (result : Result Feed OutOfMemory) → before.left ≡ Some input →
-    after.left ≡ Some rest → before.faults ≡ 0 → after.faults ≡ 0 → Read most_bytes before after taken stop → IsFeed inputs taken stop result → IfOk result (λ feed. IsWholeFeed inputs input feed)
-whole_feed law inputs input rest taken stop before after (Err e) held left steady still read is = tt
-whole_feed law inputs input rest taken stop before after (Ok feed) held left steady still read (items, halt, is) =
-    whole law inputs input rest taken before after held left steady still stop items halt feed read is
+-- what main is fed of the generated input, by a source that held it and never failed
+pub whole_feeds : CutInPieces → (inputs : List InputSpec) (input rest taken : List ℕ) (stop : Stop) (before after : SeenSource) (lists : List (List ℤ)) (fault : Option TextFault) → (inputs ≡ [] → ⊥) →
+    before.left ≡ Some input → after.left ≡ Some rest → before.faults ≡ 0 → after.faults ≡ 0 → Read most_bytes before after taken stop → Feeds inputs taken stop lists fault →
+    (other : Stop) × IsWhole other × Feeds inputs input other lists fault
+whole_feeds law [] input rest taken stop before after lists fault some held left steady still read feeds = absurd (some refl)
+whole_feeds law (i ∷ inputs) input rest taken stop before after lists fault some held left steady still read (items, halt, is) =
+    let (other, all, (found, at, fed)) = whole law (i ∷ inputs) input rest taken before after held left steady still stop items halt (record { items = lists; stop = fault }) read is in
+    (other, all, (found, at, fed))

@@ -1,49 +1,26 @@
--- The run on the generated input, and what is told of it.
-use Rattle.std.proofs.Common.{ℕ, ℤ, ◌≡◌, List, [], ◌∷◌, Option, Some, None, Ok, refl, sym, subst}
-use Rattle.lucy_word.specs.Bits.{Bits}
+-- The course of the generated program, from its begin to its end, and what is owed of it.
+use Rattle.std.proofs.Common.{ℕ, ◌≡◌, List, [], ◌∷◌, ◌++◌, Some, None, length, ap, sym, refl, ◌∙◌, subst, arith}
+use Rattle.std.specs.Prelude.{ℤ, nat_eq}
 use Rattle.lucy_host.specs.declared.kind.HostKind.{HostKind}
+use Rattle.lucy_lines.specs.Cuts.{ItemOf}
+use Rattle.lucy_lines.specs.Laws.{CutInPieces}
 use Rattle.lucy_lines.specs.declared.input.InputSpec.{InputSpec}
-use Rattle.lucy_lines.specs.declared.reader.TextFault.{TextFault}
-use Rattle.lucy_feed.specs.Sources.{Stop}
-use Rattle.lucy_feed.specs.Feeding.{IsFeed}
-use Rattle.lucy_feed.specs.declared.feeds.Feed.{Feed}
+use Rattle.lucy_text.specs.Outside.{SeenSource}
 use Rattle.lucy_clock.specs.declared.node_clock.NodeClock.{NodeClock}
-use Rattle.lucy_execution.specs.Streams.{param_words}
+use Rattle.lucy_meaning.specs.Spots.{main_of, results_in}
 use Rattle.lucy_front.specs.declared.accepted.Accepted.{Accepted}
+use Rattle.lucy_execution.proofs.StreamLaws.{params_count}
+use Rattle.lucy_run.specs.declared.pace.Pace.{Pace}
+use Rattle.lucy_run.specs.declared.course.Course.{Course}
 use Rattle.lucy_run.specs.declared.ending.Ending.{Ending}
 use Rattle.lucy_run.specs.declared.ending.Ending.TheVariants as ending
-use Rattle.lucy_run.specs.Feeds.{Feeds}
-use Rattle.lucy_run.specs.Owes.{IsHorizonOf, EndsFor}
+use Rattle.lucy_run.specs.Owes.{input_words}
+use Rattle.lucy_run.specs.Courses.{Program, CanRun, values, IsBegun, IsAlong, IsUnderWay, HasStopped, IsOver, EndsOver}
 use Rattle.lucy_make.specs.Text.{made_input}
-use Rattle.lucy_make.specs.Figures.{figures}
-use Rattle.lucy_make.specs.Owes.{IsWhole, IsMadeRun, printed_values, where_done, OwesSummary}
-
-made_feeds : (inputs : List InputSpec) (stop : Stop) (feed : Feed) → (inputs ≡ [] → ⊥) → IsFeed inputs made_input stop (Ok feed) → Feeds inputs made_input stop feed.items feed.stop
-made_feeds [] stop feed some fed = absurd (some refl)
-made_feeds (i ∷ more) stop feed some (items, halt, fed) = (items, halt, fed)
-
--- what the generated input was read to is a feed of it
-abbrev pub IsFedWhole : List InputSpec → Feed → Type 0
-IsFedWhole inputs feed = (stop : Stop) × IsWhole stop × IsFeed inputs made_input stop (Ok feed)
-
-module _ (inputs : List InputSpec) (words own : List Bits) (feed : Feed) (horizon : ℕ) (same : words ≡ own) (some : inputs ≡ [] → ⊥) (fed : IsFedWhole inputs feed)
-    (is : IsHorizonOf words None feed.items horizon) where
-  made : (end : Ending) → EndsFor words None feed.items feed.stop end → IsMadeRun inputs own feed.items horizon end
-  made end ends =
-      let P : List Bits → Type 0 = λ w. IsMadeRun inputs w feed.items horizon end in
-      subst P same (record { stop = fed.0; whole = fed.1; fault = feed.stop; feeds = made_feeds inputs fed.0 feed some fed.2; horizon_is = is; ends = ends })
-
-  -- it ends for a fault of the input
-  pub faulted : (fault : TextFault) → feed.stop ≡ Some fault → IsMadeRun inputs own feed.items horizon (ending.Input fault)
-  faulted fault e =
-      let P : Option TextFault → Type 0 = λ o. EndsFor words None feed.items o (ending.Input fault) in
-      made (ending.Input fault) (subst P (sym e) refl)
-
-  -- else past the limit of instants, or it is done
-  pub ended : (end : Ending) → feed.stop ≡ None → EndsFor words None feed.items None end → IsMadeRun inputs own feed.items horizon end
-  ended end e ends =
-      let P : Option TextFault → Type 0 = λ o. EndsFor words None feed.items o end in
-      made end (subst P (sym e) ends)
+use Rattle.lucy_make.specs.Figures.{sum_of, slots_of, net_lines, run_lines, figures}
+use Rattle.lucy_make.specs.Owes.{IsMadeRun, printed_values, where_done, OwesSummary}
+use Rattle.lucy_make.specs.Blocks.{first_to, IsTold, IsFirst, Tells, FirstAgrees}
+use Rattle.lucy_make.proofs.Feeds.{whole_feeds}
 
 -- where the run is refused nothing stands
 nothing : (end : Ending) (text : List ℕ) → (end ≡ ending.Done → ⊥) → [] ≡ where_done end text
@@ -53,8 +30,80 @@ nothing (ending.Limit limit) text no_end = refl
 nothing ending.WriteFault text no_end = refl
 nothing ending.OutOfMemory text no_end = refl
 
-pub refused : (stages : ℕ) (kinds : List HostKind) (a : Accepted) (clocks : List NodeClock) (lists : List (List ℤ)) (horizon : ℕ) (end : Ending) → clocks ≡ a.clocks.items →
-    (end ≡ ending.Done → ⊥) → IsMadeRun a.inputs.items (param_words a.placed.nodes clocks) lists horizon end → OwesSummary stages kinds a [] end
-refused stages kinds a clocks lists horizon end same no_end run =
-    let P : List NodeClock → Type 0 = λ u. IsMadeRun a.inputs.items (param_words a.placed.nodes u) lists horizon end in
-    (lists, horizon, subst P same run, nothing end (figures stages a.net horizon (printed_values kinds a lists horizon)) no_end)
+-- what is seen of a source that never fails, which holds these bytes
+abbrev pub steady : List ℕ → SeenSource
+steady bytes = record { left = Some bytes; ended = nat_eq (length bytes) 0; faults = 0; since_stop = None }
+
+none_of : (inputs : List InputSpec) → length inputs ≡ 0 → inputs ≡ []
+none_of [] e = refl
+none_of (i ∷ inputs) e = absurd (omega arith)
+
+module _ (kinds : List HostKind) (a : Accepted) where
+  -- the program that is run
+  abbrev pub made_program : Program
+  made_program = record { kinds = kinds; nodes = a.placed.nodes; clocks = a.clocks.items; inputs = a.inputs.items; outputs = a.outputs.items }
+
+  module _ (can : CanRun made_program) (clocks : List NodeClock) (e : clocks ≡ a.clocks.items) (pace : Pace) (endless : pace.instants ≡ None) (course : Course)
+      (begun : IsBegun kinds a.placed.nodes clocks a.inputs.items pace course) where
+    begun_here : IsBegun kinds a.placed.nodes a.clocks.items a.inputs.items pace course
+    begun_here = subst (λ cs. IsBegun kinds a.placed.nodes cs a.inputs.items pace course) e begun
+
+    begun_along : (source : SeenSource) → IsAlong made_program source [] source course
+    begun_along source = let (given_is, block_is, at, along) = begun_here in along source a.outputs.items
+
+    -- it is before its first block
+    pub is_first : (source : SeenSource) (results : ℕ) → length (results_in (main_of a.placed.nodes)) ≡ results → IsFirst kinds source course results
+    is_first source results many = let (given_is, block_is, at, along) = begun_here in (made_program, source, can, begun_along source, at, refl, many)
+
+    module _ (source now : SeenSource) (last : Course) (count : ℕ) (sum : ℤ) (tells : Tells source now course last count sum) (same : last.given ≡ course.given) where
+      told : (all : List ItemOf) × IsAlong made_program source all now last × HasStopped last × IsTold made_program all last.horizon count sum
+      told = let (given_is, block_is, at, along) = begun_here in tells made_program source can (begun_along source) at
+
+      pub under_way : IsUnderWay now last
+      under_way = let (all, along, stopped, is) = told in (made_program, source, all, can, along)
+
+      -- a main with inputs has words of them
+      pub some_words : (a.inputs.items ≡ [] → ⊥) → last.words.now ≡ [] → ⊥
+      some_words some none =
+          let (all, along, stopped, is) = told in
+          some (none_of a.inputs.items (can.inputs ∙ sym (params_count a.placed.nodes a.clocks.items) ∙ sym (ap length along.words) ∙ ap length none))
+
+      module _ (law : CutInPieces) (agrees : FirstAgrees) (some : a.inputs.items ≡ [] → ⊥) (rest : List ℕ) (end : Ending) (held : source.left ≡ Some made_input) (still : source.faults ≡ 0)
+          (over : EndsOver now (steady rest) last end) where
+        ended : (all : List ItemOf) × IsOver made_program source all None last.horizon (steady rest) end × IsTold made_program all last.horizon count sum
+        ended =
+            let (all, along, stopped, is) = told in
+            (all, subst (λ g. IsOver made_program source all g last.horizon (steady rest) end) (same ∙ begun_here.0 ∙ endless) (over made_program source all can along stopped), is)
+
+        -- the run that `run` owes, and main's first result there
+        made_run : (lists : List (List ℤ)) × IsMadeRun a.inputs.items (input_words a) lists last.horizon end × (count ≡ length (printed_values kinds a lists last.horizon)) × (sum ≡ sum_of (printed_values kinds a lists last.horizon))
+        made_run =
+            let (all, is_over, is) = ended in
+            let (stop, whole, feeds) = whole_feeds law a.inputs.items made_input rest is_over.taken is_over.stop source (steady rest) is_over.lists is_over.fault some held refl still refl is_over.read is_over.feeds in
+            let one : first_to made_program is_over.lists last.horizon ≡ first_to made_program (values made_program all) last.horizon =
+            agrees made_program (values made_program all) is_over.lists last.horizon can is_over.fronts is_over.suffice in (
+              is_over.lists,
+              record { stop = stop; whole = whole; fault = is_over.fault; feeds = feeds; horizon_is = is_over.horizon_is; ends = is_over.ends },
+              is.counted ∙ sym (ap length one),
+              is.summed ∙ sym (ap sum_of one),
+            )
+
+        -- where it isn't done, nothing stands
+        pub refused : (stages : ℕ) → (end ≡ ending.Done → ⊥) → OwesSummary stages kinds a [] end
+        refused stages no_end =
+            let (lists, run, counted, summed) = made_run in
+            (lists, last.horizon, run, nothing end (figures stages a.net last.horizon (printed_values kinds a lists last.horizon)) no_end)
+
+        -- where it is, its figures do
+        pub figured : (stages actors rings slots instants : ℕ) (text : List ℕ) → end ≡ ending.Done → actors ≡ length a.net.actors → rings ≡ length a.net.rings → slots ≡ slots_of a.net.rings → instants ≡ last.horizon →
+            text ≡ net_lines stages actors rings slots ++ run_lines instants count sum → OwesSummary stages kinds a text ending.Done
+        figured stages actors rings slots instants text done of_actors of_rings of_slots at is =
+            let (lists, run, counted, summed) = made_run in
+            let P : Ending → Type 0 = λ x. IsMadeRun a.inputs.items (input_words a) lists last.horizon x in
+            let of_net = ap (λ n. net_lines stages n rings slots) of_actors ∙ ap (λ n. net_lines stages (length a.net.actors) n slots) of_rings ∙ ap (net_lines stages (length a.net.actors) (length a.net.rings)) of_slots in
+            let of_run = ap (λ n. run_lines n count sum) at ∙ ap (λ n. run_lines last.horizon n sum) counted ∙ ap (run_lines last.horizon (length (printed_values kinds a lists last.horizon))) summed in (
+              lists,
+              last.horizon,
+              subst P done run,
+              is ∙ ap (λ xs. xs ++ run_lines instants count sum) of_net ∙ ap (λ xs. net_lines stages (length a.net.actors) (length a.net.rings) (slots_of a.net.rings) ++ xs) of_run,
+            )

@@ -1,41 +1,51 @@
--- What a run of the generated program keeps between blocks.
-use Rattle.std.specs.Prelude.{ℕ, ℤ, ◌≤◌, ◌≡◌, List, [], ◌++◌, length, replicate}
+-- What a course of the generated program tells of main's first result.
+use Rattle.std.specs.Prelude.{ℕ, ℤ, ◌≤◌, ◌≡◌, List, [], ◌++◌, length}
+use Rattle.lucy_host.specs.declared.kind.HostKind.{HostKind}
+use Rattle.lucy_stream.specs.Fronts.{AreFronts}
+use Rattle.lucy_lines.specs.Cuts.{ItemOf}
+use Rattle.lucy_text.specs.Outside.{SeenSource}
+use Rattle.lucy_meaning.specs.Spots.{main_of, results_in}
 use Rattle.lucy_meaning.specs.Horizons.{Suffice}
-use Rattle.lucy_place.specs.Proper.{AreProper}
-use Rattle.lucy_execution.specs.Streams.{param_words, main_streams, later_streams}
-use Rattle.lucy_execution.specs.Running.{HasSchedule}
-use Rattle.lucy_execution.specs.Playing.{PlayerView}
+use Rattle.lucy_execution.specs.Streams.{main_streams, later_streams}
+use Rattle.lucy_run.specs.declared.course.Course.{Course}
+use Rattle.lucy_run.specs.Courses.{Program, CanRun, words_of, values, IsAlong, HasStopped}
 use Rattle.lucy_make.specs.Figures.{sum_of}
 use Rattle.lucy_make.specs.Owes.{first_of}
 
--- the values of main's first result up to a horizon
-abbrev pub first_to : PlayerView → (instants : ℕ) → List ℤ
-first_to p instants = first_of (main_streams p.kinds p.inputs p.nodes p.clocks instants)
+-- by these lists the values of main's first result up to a horizon
+abbrev pub first_to : Program → (lists : List (List ℤ)) → (instants : ℕ) → List ℤ
+first_to p lists instants = first_of (main_streams p.kinds lists p.nodes p.clocks instants)
 
 -- and those past an earlier one
-abbrev pub first_after : PlayerView → (before instants : ℕ) → List ℤ
-first_after p before instants = first_of (later_streams p.kinds p.inputs p.nodes p.clocks before instants)
+abbrev pub first_after : Program → (lists : List (List ℤ)) → (before instants : ℕ) → List ℤ
+first_after p lists before instants = first_of (later_streams p.kinds lists p.nodes p.clocks before instants)
 
--- a program may be run to this horizon: its net has a sound schedule, and its inputs have the items
-pub record CanPlay (p : PlayerView) (instants : ℕ) : Type 0 where
-  pub proper : AreProper p.nodes
-  pub scheduled : HasSchedule p.nodes p.clocks
-  pub suffice : Suffice (param_words p.nodes p.clocks) p.inputs instants
+-- by the items that were read so many values has it up to the horizon, with this sum
+pub record IsTold (p : Program) (items : List ItemOf) (horizon count : ℕ) (sum : ℤ) : Type 0 where
+  pub counted : count ≡ length (first_to p (values p items) horizon)
+  pub summed : sum ≡ sum_of (first_to p (values p items) horizon)
 
--- it was run on to this horizon
-abbrev pub IsPlayedTo : (old new : PlayerView) → (instants : ℕ) → Type 0
-IsPlayedTo old new instants = (before : ℕ) × (new ≡ record old { instants = instants; before = before })
+-- a course before its first block, of some program that can be run by operators of these kinds and has so many results
+abbrev pub IsFirst : List HostKind → (now : SeenSource) → Course → (results : ℕ) → Type 0
+IsFirst kinds now c results =
+    (p : Program) × (first : SeenSource) × CanRun p × IsAlong p first [] now c × (c.horizon ≡ 0) × (kinds ≡ p.kinds) × (length (results_in (main_of p.nodes)) ≡ results)
 
--- Between blocks: no item follows those of the inputs, and so many values has main's first result, with this sum.
-pub record IsTold (p : PlayerView) (none : List (List ℤ)) (count : ℕ) (sum : ℤ) : Type 0 where
-  pub empty : none ≡ replicate (length p.inputs) []
-  pub counted : count ≡ length (first_to p p.instants)
-  pub summed : sum ≡ sum_of (first_to p p.instants)
+-- it was run to its last block, and main's first result was told
+abbrev pub Tells : (before now : SeenSource) (old new : Course) (count : ℕ) (sum : ℤ) → Type 0
+Tells before now old new count sum =
+    (p : Program) (first : SeenSource) → CanRun p → IsAlong p first [] before old → old.horizon ≡ 0 →
+    (all : List ItemOf) × IsAlong p first all now new × HasStopped new × IsTold p all new.horizon count sum
 
--- the values up to a later horizon are those up to an earlier one, and then those past it
+-- the values up to a later horizon are those up to an earlier one, and then those past it, by inputs that go on
 abbrev pub FirstGoesOn : Type 0
-FirstGoesOn = (p : PlayerView) (before instants : ℕ) → CanPlay p instants → before ≤ instants → first_to p instants ≡ first_to p before ++ first_after p before instants
+FirstGoesOn = (p : Program) (lists more : List (List ℤ)) (before instants : ℕ) → CanRun p → AreFronts lists more → before ≤ instants → Suffice (words_of p) lists before →
+    first_to p more instants ≡ first_to p lists before ++ first_after p more before instants
 
 -- there is at most one in an instant
 abbrev pub FirstIsShort : Type 0
-FirstIsShort = (p : PlayerView) (instants : ℕ) → CanPlay p instants → length (first_to p instants) ≤ instants
+FirstIsShort = (p : Program) (lists : List (List ℤ)) (instants : ℕ) → CanRun p → Suffice (words_of p) lists instants → length (first_to p lists instants) ≤ instants
+
+-- they are the same by inputs that go on past the items that the horizon needs
+abbrev pub FirstAgrees : Type 0
+FirstAgrees = (p : Program) (lists more : List (List ℤ)) (instants : ℕ) → CanRun p → AreFronts lists more → Suffice (words_of p) lists instants →
+    first_to p more instants ≡ first_to p lists instants

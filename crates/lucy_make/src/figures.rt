@@ -1,5 +1,7 @@
 // The figures of a run.
 ghost use Rattle.std.specs.Prelude.{ℤ, ◌≡◌, ◌≤◌, ◌<◌, ◌+◌, ◌^◌, List, ◌++◌, IfOk, length, string_bytes};
+ghost use Rattle.lucy_word.specs.Limits.{limit_number};
+ghost use Rattle.lucy_word.specs.declared.limit.Limit.TheVariants as limit;
 ghost use Rattle.lucy_make.specs.Figures as spec;
 
 use lucy_net::{Net, RingSpec};
@@ -46,7 +48,7 @@ impl Tally {
 
 // The slots of rings, of which each has one more than its size.
 fn slots_of(rings: &[RingSpec]) -> u64
-    requires { spec.slots_of rings.now ≤ 1048576 }
+    requires { spec.slots_of rings.now ≤ limit_number limit.Slots }
     ensures { result ≡ spec.slots_of rings.now }
 {
     let mut slots = 0;
@@ -58,7 +60,7 @@ fn slots_of(rings: &[RingSpec]) -> u64
 
 /// Those of this net, which has at most 1,048,576 slots.
 pub(crate) fn counts_of(net: &Net) -> Counts
-    requires { spec.slots_of net.now.rings ≤ 1048576 }
+    requires { spec.slots_of net.now.rings ≤ limit_number limit.Slots }
     ensures actors { result.actors ≡ length net.now.actors }
     ensures rings { result.rings ≡ length net.now.rings }
     ensures slots { result.slots ≡ spec.slots_of net.now.rings }

@@ -1,12 +1,7 @@
-// The generated input, and what main is fed of it.
-ghost use Rattle.std.specs.Prelude.{◌≡◌, ◌<◌, ◌^◌, ◌++◌, Ok, IfOk, OnOk, length};
-ghost use Rattle.lucy_feed.specs.Sources.{Stop};
-ghost use Rattle.lucy_feed.specs.Feeding.{IsFeed};
+// The generated input.
+ghost use Rattle.std.specs.Prelude.{◌≡◌, ◌++◌, IfOk, OnOk};
 ghost use Rattle.lucy_make.specs.Text as spec;
-ghost use Rattle.lucy_make.specs.Owes.{IsWhole};
 
-use lucy_feed::{Feed, read_feed};
-use lucy_lines::{InputSpec, cut_in_pieces};
 use lucy_text::SteadySource;
 use lucy_word::OutOfMemory;
 use std::alloc::Global;
@@ -34,26 +29,9 @@ fn made_input(alloc: Global) -> Result<Vec<u8>, OutOfMemory>
     Ok(text)
 }
 
-// Reads a source that never fails: its feed is that of all its bytes.
-fn steady_feed(
-    alloc: Global,
-    inputs: Vec<InputSpec>,
-    mut source: SteadySource,
-) -> Result<Feed, OutOfMemory>
-    requires { length inputs.items < 2 ^ 32 }
-    ensures fed { IfOk result (λ feed. (stop : Stop) × IsWhole stop × IsFeed inputs.items source stop (Ok feed)) }
-    ensures lists { IfOk result (λ feed. length feed.items ≡ length inputs.items) }
+/// A source of the generated input, which never fails.
+pub(crate) fn made_source(alloc: Global) -> Result<SteadySource, OutOfMemory>
+    ensures { IfOk result (λ source. source ≡ spec.made_input) }
 {
-    cut_in_pieces();
-    read_feed(alloc, inputs, &mut source)
-}
-
-/// The items of main's inputs in the generated input.
-pub(crate) fn made_feed(alloc: Global, inputs: Vec<InputSpec>) -> Result<Feed, OutOfMemory>
-    requires { length inputs.items < 2 ^ 32 }
-    ensures fed { IfOk result (λ feed. (stop : Stop) × IsWhole stop × IsFeed inputs.items spec.made_input stop (Ok feed)) }
-    ensures lists { IfOk result (λ feed. length feed.items ≡ length inputs.items) }
-{
-    let source = SteadySource::new(made_input(alloc)?);
-    steady_feed(alloc, inputs, source)
+    Ok(SteadySource::new(made_input(alloc)?))
 }

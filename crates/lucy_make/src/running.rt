@@ -1,72 +1,25 @@
 // The run of the generated program.
-ghost use Rattle.std.specs.Prelude.{◌≡◌, ◌≢◌, ◌≤◌, ◌<◌, ◌^◌, ◌⊎◌, ℕ, ℤ, List, [], length, IfOk, IfErr};
+ghost use Rattle.std.specs.Prelude.{◌≡◌, ◌≢◌, ◌⊎◌, ℕ, List, [], IfOk, IfErr};
 ghost use Rattle.lucy_host.specs.Host.{Serves, lent};
 ghost use Rattle.lucy_host.specs.Operators.{kinds_of};
-ghost use Rattle.lucy_meaning.specs.Spots.{main_of};
-ghost use Rattle.lucy_meaning.specs.Horizons.{Suffice};
-ghost use Rattle.lucy_kahn.specs.Turns.{params_in};
 ghost use Rattle.lucy_flat.specs.Clocked.{AreClocked};
-ghost use Rattle.lucy_execution.specs.Streams.{param_words};
 ghost use Rattle.lucy_front.specs.declared.options.Options.{Options};
 ghost use Rattle.lucy_front.specs.Accepting.{IsAccepted};
+ghost use Rattle.lucy_run.specs.Paces.{AreWorkers, IsBlock};
 ghost use Rattle.lucy_run.specs.declared.ending.Ending.TheVariants as ending;
-ghost use Rattle.lucy_make.specs.Owes.{IsMadeRun, OwesSummary};
+ghost use Rattle.lucy_make.specs.Owes.{OwesSummary};
 
-use crate::blocks::Course;
+use crate::blocks::tell;
 use crate::figures::{counts_of, print};
-use crate::input::made_feed;
-use lucy_clock::NodeClock;
-use lucy_execution::{allows_more, horizon, param_words};
-use lucy_feed::Feed;
+use crate::input::made_source;
+use crate::laws::first_goes_on;
 use lucy_front::Accepted;
-use lucy_host::{Host, Inputs};
-use lucy_lines::InputSpec;
-use lucy_place::Placed;
-use lucy_run::Ending;
-use lucy_word::Limit;
+use lucy_host::Host;
+use lucy_lines::cut_in_pieces;
+use lucy_run::{Course, Ending, Pace};
 use lucy_worker::Gate;
 use std::alloc::Global;
 use std::thread::Threads;
-
-// What main is fed of the generated input, and how many instants that allows.
-#[derive(Drop)]
-struct Fed {
-    items: Inputs,
-    instants: u64,
-}
-
-// What a run without instants comes to where it is done, and how it ends where it isn't.
-fn made_run(
-    alloc: Global,
-    placed: &Placed,
-    clocks: &[NodeClock],
-    inputs: Vec<InputSpec>,
-) -> Result<Fed, Ending>
-    requires clocked { AreClocked placed.now.nodes clocks.now }
-    requires some { inputs.items ≢ [] }
-    requires few { length inputs.items < 2 ^ 32 }
-    requires params { length inputs.items ≡ params_in (main_of placed.now.nodes) }
-    ensures ok { IfOk result (λ fed. IsMadeRun inputs.items (param_words placed.now.nodes clocks.now) fed.items fed.instants ending.Done) }
-    ensures suffice { IfOk result (λ fed. Suffice (param_words placed.now.nodes clocks.now) fed.items fed.instants) }
-    ensures lists { IfOk result (λ fed. params_in (main_of placed.now.nodes) ≡ length fed.items) }
-    ensures early { IfOk result (λ fed. fed.instants ≤ 1048576) }
-    ensures err { IfErr result (λ end. (end ≡ ending.OutOfMemory) ⊎ ((end ≢ ending.Done) × (lists : List (List ℤ)) × (horizon : ℕ) × IsMadeRun inputs.items (param_words placed.now.nodes clocks.now) lists horizon end)) }
-{
-    let Feed { items, stop } = match made_feed(alloc, inputs) {
-        Ok(feed) => feed,
-        Err(_) => return Err(Ending::OutOfMemory),
-    };
-    let words = param_words(placed, clocks);
-    let most = Limit::Instants.number();
-    let instants = horizon(words, &items, most);
-    if let Some(fault) = stop {
-        return Err(Ending::Input(fault));
-    }
-    if allows_more(words, &items, most) {
-        return Err(Ending::Limit(Limit::Instants));
-    }
-    Ok(Fed { items, instants })
-}
 
 /// The figures of the run of an accepted program of so many stages on the generated input, in seven lines, by 1 to 64 workers and
 /// in blocks of so many instants, on which no byte depends. Where that run isn't done, how it ends: for a fault of its input, or past
@@ -86,8 +39,8 @@ pub fn summary<R: Threads + Sync, F: Fn(u32, i64, i64) -> i64 + Sync, G: Gate + 
     requires accepted { (text : List ℕ) × (options : Options) × IsAccepted (lent host.now) options text accepted }
     requires clocked { AreClocked accepted.placed.nodes accepted.clocks.items }
     requires inputs { accepted.inputs.items ≢ [] }
-    requires workers { (1 ≤ workers) × (workers ≤ 64) }
-    requires block { (1 ≤ block) × (block ≤ 1048576) }
+    requires workers { AreWorkers workers }
+    requires block { IsBlock block }
     ensures ok { IfOk result (λ v. OwesSummary stages (kinds_of (lent host.now)) accepted v.items ending.Done) }
     ensures err { IfErr result (λ end. (end ≡ ending.OutOfMemory) ⊎ ((end ≢ ending.Done) × OwesSummary stages (kinds_of (lent host.now)) accepted [] end)) }
 {
@@ -100,21 +53,41 @@ pub fn summary<R: Threads + Sync, F: Fn(u32, i64, i64) -> i64 + Sync, G: Gate + 
         outputs,
         ..
     } = accepted;
+    cut_in_pieces();
+    first_goes_on();
     let counts = counts_of(&net);
-    let Fed { items, instants } = match made_run(alloc, &placed, &clocks, inputs) {
-        Ok(fed) => fed,
-        Err(end) => return Err(end),
+    let pace = Pace {
+        instants: None,
+        workers,
+        block,
+    };
+    let mut source = match made_source(alloc) {
+        Ok(source) => source,
+        Err(_) => return Err(Ending::OutOfMemory),
     };
     let mut course = match Course::new(
-        rt, alloc, &placed, &clocks, net, schedule, host, gate, items, workers,
+        rt, alloc, &placed, &clocks, net, schedule, inputs, host, gate, pace,
     ) {
         Ok(course) => course,
         Err(_) => return Err(Ending::OutOfMemory),
     };
-    let tally = match course.play(rt, alloc, host, gate, outputs.len(), instants, block) {
+    let tally = match tell(
+        rt,
+        alloc,
+        host,
+        gate,
+        outputs.len(),
+        &mut course,
+        &mut source,
+    ) {
         Ok(tally) => tally,
         Err(_) => return Err(Ending::OutOfMemory),
     };
+    let instants = course.horizon();
+    match course.finish(&mut source) {
+        Ending::Done => {}
+        end => return Err(end),
+    }
     match print(alloc, stages, counts, instants, tally) {
         Ok(lines) => Ok(lines),
         Err(_) => Err(Ending::OutOfMemory),

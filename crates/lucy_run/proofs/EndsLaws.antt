@@ -1,6 +1,6 @@
 -- How a call ends, from what its parts leave.
 use Rattle.std.proofs.Common.{◌≡◌, ℕ, ◌+◌, ◌≤◌, ◌⊎◌, List, [], ◌∷◌, ◌++◌, length, take, append_assoc, Option, Some, None, Result, Ok, Err, OnOk, OnErr, refl, ap, sym, ◌∙◌, subst, inl, inr, arith}
-use Rattle.std.specs.Prelude.{ℤ, IfOk, IfSome, MatchResult}
+use Rattle.std.specs.Prelude.{ℤ, IfOk, MatchResult}
 use Rattle.std.proofs.lemmas.List.{take-append-le}
 use Rattle.std.proofs.Math.Seq.{take-length}
 use Rattle.std.proofs.lemmas.Result.{IfOk-at_ok}
@@ -28,18 +28,18 @@ use Rattle.lucy_execution.specs.Streams.{param_words, main_streams}
 use Rattle.lucy_front.specs.declared.accepted.Accepted.{Accepted}
 use Rattle.lucy_run.specs.declared.ending.Ending.{Ending}
 use Rattle.lucy_run.specs.declared.ending.Ending.TheVariants as ending
-use Rattle.lucy_run.specs.Feeds.{Feeds, CountsAs, IsMainFeed}
+use Rattle.lucy_run.specs.Feeds.{Feeds, CountsAs, IsNeededFor, IsMainFeed}
 use Rattle.lucy_run.specs.Owes.{most_instants, input_words, lines_to, heading, EndsFor, IsFed, Interprets, OwesRun, OwesKahn, IsHorizonOf}
 use Rattle.lucy_lines.specs.Cuts.{ItemOf}
-use Rattle.lucy_feed.specs.Resuming.{FeedState}
 use Rattle.lucy_output.specs.Writing.{WriterState}
-use Rattle.lucy_execution.specs.Playing.{PlayerView}
-use Rattle.lucy_run.specs.Courses.{Program, CanRun, IsFedSoFar, IsAlong, IsOver, BreaksOff, LinesByBlock}
-use Rattle.lucy_run.specs.Ends.{EndsWith, Outputs, FailsInOrder}
+use Rattle.lucy_run.specs.Courses.{Program, CanRun, values, IsFedSoFar, HasWritten, IsOver, FailsBehind, wanting_at, BreaksOff, LinesAgree, LinesByBlock}
+use Rattle.lucy_feed.specs.Feeding.{IsAsked}
+use Rattle.lucy_feed.proofs.FeedLaws.{asked_as}
+use Rattle.lucy_run.specs.Ends.{EndsWith, EndsRun, Outputs, FailsInBlock}
 use Rattle.lucy_run.specs.Steps.{LeavesOwed, IsWhole, refusal_ending}
 use Rattle.lucy_run.proofs.FedLaws.{read_nothing, fed_not_yet}
 use Rattle.lucy_run.proofs.HorizonLaws.{some_horizon, suffice_either}
-use Rattle.lucy_run.proofs.ReadLaws.{suffice_longer}
+use Rattle.lucy_run.proofs.ReadLaws.{suffice_longer, suffice_earlier}
 
 -- a run that comes to its end so has the whole output
 pub ends_whole : (words : List Bits) (given : Option ℕ) (lists : List (List ℤ)) (fault : Option TextFault) (end : Ending) → EndsFor words given lists fault end → IsWhole end
@@ -137,11 +137,6 @@ pub empty_of : {A : Type 0} (xs : List A) → length xs ≡ 0 → xs ≡ []
 empty_of [] l = refl
 empty_of (x ∷ xs) l = absurd (omega arith)
 
--- the most instants of a run are few
-pub few_most : (given : Option ℕ) → IfSome given (λ n. n ≤ limit_number limit.Instants) → most_instants given ≤ limit_number limit.Instants
-few_most None few = omega arith
-few_most (Some n) few = few
-
 pub on_err : {T E P : Type 0} (r : Result T E) (y : E) → r ≡ Err y → OnErr r P → P
 on_err {P = P} r y e h = subst (λ u. OnErr u P) e h
 
@@ -150,17 +145,17 @@ take_front a b = sym (take-append-le (length a) a b (omega arith) ∙ take-lengt
 
 module _ (kinds : List HostKind) (a : Accepted) (given : Option ℕ) where
   -- what a call of `run` leaves
-  abbrev pub RunGives : (before after : SeenSource) (was now : SeenSink) → Ending → Type 0
-  RunGives before after was now result = (taken : List ℕ) × (stop : Stop) × Read most_bytes before after taken stop
-      × EndsWith (OwesRun kinds a given taken) (CountsAs stop) stop was now result
+  abbrev pub RunGives : (block : ℕ) (before after : SeenSource) (was now : SeenSink) → Ending → Type 0
+  RunGives block before after was now result = (taken : List ℕ) × (stop : Stop) × Read most_bytes before after taken stop
+      × EndsRun kinds a given block taken stop was now result
 
   abbrev pub KahnGives : (before after : SeenSource) (was now : SeenSink) → Ending → Type 0
   KahnGives before after was now result = (taken : List ℕ) × (stop : Stop) × Read most_bytes before after taken stop
-      × EndsWith (OwesKahn kinds a given taken) (λ counted. counted ≡ stop) stop was now result
+      × IsAsked a.inputs.items taken × EndsWith (OwesKahn kinds a given taken) (λ counted. counted ≡ stop) stop was now result
 
   -- memory ran out before anything was done
-  pub run_unbegun : (s : SeenSource) (o : SeenSink) → RunGives s s o o ending.OutOfMemory
-  run_unbegun s o = ([], Unread, read_nothing s, ([], inl refl, unwritten o))
+  pub run_unbegun : (block : ℕ) (s : SeenSource) (o : SeenSink) → RunGives block s s o o ending.OutOfMemory
+  run_unbegun block s o = ([], Unread, read_nothing s, record { asked = inl refl; output = ([], inl refl, unwritten o); in_order = λ fault. cc })
 
   -- an output where nothing was read yet
   output_not_yet : (lines : List ℕ) × Outputs (CountsAs Unread) (OwesRun kinds a given []) (heading a ++ lines)
@@ -171,43 +166,54 @@ module _ (kinds : List HostKind) (a : Accepted) (given : Option ℕ) where
       (lines_to kinds a lists horizon, (counted, end, counts, (lists, fault, horizon, record { feeds = feeds; horizon_is = is }, refl, ends)))
 
   -- the heading could not be written
-  pub run_broken : (s : SeenSource) (was now : SeenSink) (text : List ℕ) → text ≡ heading a → Fails was now text → RunGives s s was now ending.WriteFault
-  run_broken s was now text e f =
+  pub run_broken : (block : ℕ) (s : SeenSource) (was now : SeenSink) (text : List ℕ) → text ≡ heading a → Fails was now text → RunGives block s s was now ending.WriteFault
+  run_broken block s was now text e f =
       let (lines, owed) = output_not_yet in
-      ([], Unread, read_nothing s, (heading a ++ lines, owed, fails_longer was now (heading a) lines (subst (Fails was now) e f)))
+      let head : Fails was now (heading a) = subst (Fails was now) e f in
+      ([], Unread, read_nothing s, record { asked = inl refl; output = (heading a ++ lines, owed, fails_longer was now (heading a) lines head); in_order = λ fault. inl (head, refl) })
 
   -- memory ran out behind the heading, before anything was read
-  pub run_unplayed : (s : SeenSource) (was now : SeenSink) (text : List ℕ) → text ≡ heading a → Writes was now text → RunGives s s was now ending.OutOfMemory
-  run_unplayed s was now text e w =
+  pub run_unplayed : (block : ℕ) (s : SeenSource) (was now : SeenSink) (text : List ℕ) → text ≡ heading a → Writes was now text → RunGives block s s was now ending.OutOfMemory
+  run_unplayed block s was now text e w =
       let (lines, owed) = output_not_yet in
-      ([], Unread, read_nothing s, (heading a, inr (heading a ++ lines, length (heading a), owed, take_front (heading a) lines), subst (Writes was now) e w))
+      let head : Writes was now (heading a) = subst (Writes was now) e w in (
+        [],
+        Unread,
+        read_nothing s,
+        record {
+          asked = inl refl;
+          output = (heading a, inr (heading a ++ lines, length (heading a), owed, take_front (heading a) lines), head);
+          in_order = λ fault. cc;
+        },
+      )
 
   -- the program that is run
   abbrev pub program : Program
   program = record { kinds = kinds; nodes = a.placed.nodes; clocks = a.clocks.items; inputs = a.inputs.items; outputs = a.outputs.items }
 
-  -- its clocks and outputs, as they lie
-  pub along_here : (clocks : List NodeClock) (outputs : List OutputSpec) → clocks ≡ a.clocks.items → outputs ≡ a.outputs.items → (first : SeenSource) (was : SeenSink) (items : List ItemOf) (horizon : ℕ) (now : SeenSource) (written : SeenSink)
-      (reader : FeedState) (player : PlayerView) (writer : WriterState) →
-      IsAlong (record { kinds = kinds; nodes = a.placed.nodes; clocks = clocks; inputs = a.inputs.items; outputs = outputs }) first was items horizon now written reader player writer →
-      IsAlong program first was items horizon now written reader player writer
-  along_here clocks outputs e f first was items horizon now written reader player writer along =
-      let P : List NodeClock → Type 0 = λ cs. IsAlong (record { kinds = kinds; nodes = a.placed.nodes; clocks = cs; inputs = a.inputs.items; outputs = outputs }) first was items horizon now written reader player writer in
-      let Q : List OutputSpec → Type 0 = λ os. IsAlong (record { kinds = kinds; nodes = a.placed.nodes; clocks = a.clocks.items; inputs = a.inputs.items; outputs = os }) first was items horizon now written reader player writer in
-      subst Q f (subst P e along)
-
   -- it was run to its end
-  pub run_whole : (before after : SeenSource) (was between now : SeenSink) (text : List ℕ) (result : Ending) → text ≡ heading a → Writes was between text → IsOver program before between given after now result →
-      RunGives before after was now result
-  run_whole before after was between now text result e w over =
-      (over.taken, over.stop, over.read, whole_with result over.ends (subst (Writes was between) e w))
+  pub run_whole : LinesAgree → CanRun program → (block : ℕ) (before after : SeenSource) (was between now : SeenSink) (text : List ℕ) (items : List ItemOf) (horizon : ℕ) (writer : WriterState) (result : Ending) → text ≡ heading a → Writes was between text →
+      IsOver program before items given horizon after result → HasWritten program between items horizon now writer → RunGives block before after was now result
+  run_whole agree can block before after was between now text items horizon writer result e w over has = (
+    over.taken,
+    over.stop,
+    over.read,
+    record {
+      asked = over.asked;
+      output = whole_with result over.ends (subst (Writes was between) e w);
+      in_order = λ fault. absurd (subst IsWhole fault (ends_whole (input_words a) given over.lists over.fault result over.ends));
+    },
+  )
     where
+      lines : Writes between now (lines_to kinds a over.lists horizon)
+      lines = subst (Writes between now) (sym (agree program (values program items) over.lists horizon can over.fronts over.suffice)) has.lines
+
       output : List ℕ
-      output = heading a ++ lines_to kinds a over.lists over.horizon
+      output = heading a ++ lines_to kinds a over.lists horizon
 
       whole_with : (end : Ending) → EndsFor (input_words a) given over.lists over.fault end → Writes was between (heading a) → EndsWith (OwesRun kinds a given over.taken) (CountsAs over.stop) over.stop was now end
       whole_with end ends head = ends_with end (ends_whole (input_words a) given over.lists over.fault end ends)
-          (over.lists, over.fault, over.horizon, record { feeds = over.feeds; horizon_is = over.horizon_is }, refl, ends) (writes_more was between now (heading a) (lines_to kinds a over.lists over.horizon) head over.lines)
+          (over.lists, over.fault, horizon, record { feeds = over.feeds; horizon_is = over.horizon_is }, refl, ends) (writes_more was between now (heading a) (lines_to kinds a over.lists horizon) head lines)
         where
           ends_with : (end : Ending) → IsWhole end → OwesRun kinds a given over.taken over.stop output end → Writes was now output → EndsWith (OwesRun kinds a given over.taken) (CountsAs over.stop) over.stop was now end
           ends_with ending.WriteFault whole owes all = absurd whole
@@ -217,8 +223,11 @@ module _ (kinds : List HostKind) (a : Accepted) (given : Option ℕ) where
           ends_with (ending.Limit l) whole owes all = (output, owes, all)
 
   -- an output of which the lines so far are a front
-  module _ (blocks : LinesByBlock) (can : CanRun program) (before after : SeenSource) (lists : List (List ℤ)) (horizon : ℕ) (within : horizon ≤ most_instants given) (suffice : Suffice (input_words a) lists horizon)
-      (fed : IsFedSoFar a.inputs.items before after lists) where
+  module _ (Wanting : List ItemOf → Type 0) (blocks : LinesByBlock) (can : CanRun program) (before after : SeenSource) (lists : List (List ℤ)) (horizon : ℕ) (within : horizon ≤ most_instants given) (suffice : Suffice (input_words a) lists horizon)
+      (fed : IsFedSoFar Wanting a.inputs.items before after lists) where
+    asked_so : IsAsked a.inputs.items fed.taken
+    asked_so = asked_as a.inputs.items fed.taken Wanting (λ xs. Unit {0}) (λ xs wanting. tt) fed.asked
+
     owed_beyond : (output rest : List ℕ) × Outputs (CountsAs fed.stop) (OwesRun kinds a given fed.taken) output × (output ≡ (heading a ++ lines_to kinds a lists horizon) ++ rest)
     owed_beyond =
         let (last, is) = some_horizon (input_words a) fed.others (most_instants given) in
@@ -232,27 +241,68 @@ module _ (kinds : List HostKind) (a : Accepted) (given : Option ℕ) where
           ap (λ xs. heading a ++ xs) text ∙ sym (append_assoc (heading a) (lines_to kinds a lists horizon) _),
         )
 
-    pub broken_lines : (was between now : SeenSink) → Writes was between (heading a) → Fails between now (lines_to kinds a lists horizon) → RunGives before after was now ending.WriteFault
-    broken_lines was between now w f =
-        let (output, rest, owed, is) = owed_beyond in
-        (fed.taken, fed.stop, fed.read, (output, owed, subst (Fails was now) (sym is) (fails_longer was now (heading a ++ lines_to kinds a lists horizon) rest (fails_behind was between now (heading a) (lines_to kinds a lists horizon) w f))))
+    -- the lines up to an instant were written, and then a write failed
+    pub failed_block : (agree : LinesAgree) (block done aim : ℕ) → done ≤ horizon → aim ≤ done + block → IsNeededFor (input_words a) aim a.inputs.items fed.taken →
+        (was between now : SeenSink) → Writes was between (heading a) → FailsBehind program lists done horizon between now → FailsInBlock kinds a given block fed.taken fed.stop was now
+    failed_block agree block done aim later near needed was between now w behind =
+        let (last, is) = some_horizon (input_words a) fed.others (most_instants given) in
+        let beyond : horizon ≤ last = is.greatest horizon within (suffice_longer (input_words a) lists fed.others horizon fed.fronts suffice) in
+        let same : lines_to kinds a fed.others done ≡ lines_to kinds a lists done = agree program lists fed.others done can fed.fronts (suffice_earlier (input_words a) lists done horizon later suffice) in
+        record {
+          counted = fed.counted;
+          counts = fed.counts;
+          lists = fed.others;
+          fault = fed.fault;
+          horizon = last;
+          fed = record { feeds = fed.fed; horizon_is = is };
+          done = done;
+          early = omega arith;
+          between = behind.between;
+          rest = behind.rest;
+          written = subst (λ ls. Writes was behind.between (heading a ++ ls)) (sym same) (writes_more was between behind.between (heading a) (lines_to kinds a lists done) w behind.lines);
+          failed = behind.failed;
+          aim = aim;
+          near = near;
+          needed = needed;
+        }
 
-    pub lines_without_memory : (was between now : SeenSink) → Writes was between (heading a) → Writes between now (lines_to kinds a lists horizon) → RunGives before after was now ending.OutOfMemory
-    lines_without_memory was between now w v =
+    pub broken_lines : (block : ℕ) (was between now : SeenSink) → Writes was between (heading a) → Fails between now (lines_to kinds a lists horizon) → FailsInBlock kinds a given block fed.taken fed.stop was now →
+        RunGives block before after was now ending.WriteFault
+    broken_lines block was between now w f in_block =
+        let (output, rest, owed, is) = owed_beyond in
+        let failed = subst (Fails was now) (sym is) (fails_longer was now (heading a ++ lines_to kinds a lists horizon) rest (fails_behind was between now (heading a) (lines_to kinds a lists horizon) w f)) in
+        (fed.taken, fed.stop, fed.read, record { asked = asked_so; output = (output, owed, failed); in_order = λ fault. inr in_block })
+
+    pub lines_without_memory : (block : ℕ) (was between now : SeenSink) → Writes was between (heading a) → Writes between now (lines_to kinds a lists horizon) → RunGives block before after was now ending.OutOfMemory
+    lines_without_memory block was between now w v =
         let (output, rest, owed, is) = owed_beyond in
         let front : List ℕ = heading a ++ lines_to kinds a lists horizon in
-        (fed.taken, fed.stop, fed.read, (front, inr (output, length front, owed, take_front front rest ∙ ap (take (length front)) (sym is)), writes_more was between now (heading a) (lines_to kinds a lists horizon) w v))
+        let owes_front : front ≡ take (length front) output = take_front front rest ∙ ap (take (length front)) (sym is) in (
+          fed.taken,
+          fed.stop,
+          fed.read,
+          record {
+            asked = asked_so;
+            output = (front, inr (output, length front, owed, owes_front), writes_more was between now (heading a) (lines_to kinds a lists horizon) w v);
+            in_order = λ fault. cc;
+          },
+        )
 
   -- it was broken off
-  pub run_failed : LinesByBlock → CanRun program → (before after : SeenSource) (was between now : SeenSink) (text : List ℕ) (most : ℕ) → most ≡ most_instants given → text ≡ heading a → Writes was between text →
-      BreaksOff program before between most after now Failed → RunGives before after was now ending.WriteFault
-  run_failed blocks can before after was between now text most m e w off =
-      broken_lines blocks can before after off.lists off.horizon (omega (arith, off.within)) off.suffice off.fed was between now (subst (Writes was between) e w) off.left
+  pub run_failed : LinesByBlock → LinesAgree → CanRun program → (block : ℕ) (before after : SeenSource) (was between now : SeenSink) (text : List ℕ) (most : ℕ) → most ≡ most_instants given → text ≡ heading a →
+      Writes was between text → BreaksOff program before between block most after now Failed → RunGives block before after was now ending.WriteFault
+  run_failed blocks agree can block before after was between now text most m e w off =
+      let head : Writes was between (heading a) = subst (Writes was between) e w in
+      let within : off.horizon ≤ most_instants given = omega (arith, off.within) in
+      let fails = subst (Fails between now) (sym off.left.all) (fails_behind between off.left.between now (lines_to kinds a off.lists off.done) off.left.rest off.left.lines off.left.failed) in
+      let Wanting : List ItemOf → Type 0 = wanting_at program off.aim Failed in
+      broken_lines Wanting blocks can before after off.lists off.horizon within off.suffice off.fed block was between now head fails
+      (failed_block Wanting blocks can before after off.lists off.horizon within off.suffice off.fed agree block off.done off.aim off.later off.near off.fed.asked was between now head off.left)
 
-  pub run_out_of_memory : LinesByBlock → CanRun program → (before after : SeenSource) (was between now : SeenSink) (text : List ℕ) (most : ℕ) → most ≡ most_instants given → text ≡ heading a → Writes was between text →
-      BreaksOff program before between most after now Memory → RunGives before after was now ending.OutOfMemory
-  run_out_of_memory blocks can before after was between now text most m e w off =
-      lines_without_memory blocks can before after off.lists off.horizon (omega (arith, off.within)) off.suffice off.fed was between now (subst (Writes was between) e w) off.left
+  pub run_out_of_memory : LinesByBlock → CanRun program → (block : ℕ) (before after : SeenSource) (was between now : SeenSink) (text : List ℕ) (most : ℕ) → most ≡ most_instants given → text ≡ heading a →
+      Writes was between text → BreaksOff program before between block most after now Memory → RunGives block before after was now ending.OutOfMemory
+  run_out_of_memory blocks can block before after was between now text most m e w off =
+      lines_without_memory (wanting_at program off.aim Memory) blocks can before after off.lists off.horizon (omega (arith, off.within)) off.suffice off.fed block was between now (subst (Writes was between) e w) off.left
 
   module _ (taken : List ℕ) (stop : Stop) (lists : List (List ℤ)) (fault : Option TextFault) (horizon : ℕ) (feeds : Feeds a.inputs.items taken stop lists fault)
       (horizon_is : IsHorizonOf (input_words a) given lists horizon) where
@@ -267,31 +317,23 @@ module _ (kinds : List HostKind) (a : Accepted) (given : Option ℕ) where
     kahn_ends was now (ending.Input f) (output, owed, w) = (output, (lists, fault, horizon, fed, owed), w)
     kahn_ends was now (ending.Limit l) (output, owed, w) = (output, (lists, fault, horizon, fed, owed), w)
 
-    pub kahn_over : (before after : SeenSource) (was now : SeenSink) (result : Ending) → Read most_bytes before after taken stop →
+    pub kahn_over : (before after : SeenSource) (was now : SeenSink) (result : Ending) → Read most_bytes before after taken stop → IsAsked a.inputs.items taken →
         LeavesOwed (Interprets kinds a.placed.nodes a.clocks.items a.outputs.items given lists fault horizon) was now result → KahnGives before after was now result
-    kahn_over before after was now result read left = (taken, stop, read, kahn_ends was now result left)
+    kahn_over before after was now result read asked left = (taken, stop, read, asked, kahn_ends was now result left)
 
   -- memory ran out while the input was read
-  pub kahn_given_up : (before after : SeenSource) (taken : List ℕ) (stop : Stop) (o : SeenSink) → Read most_bytes before after taken stop → KahnGives before after o o ending.OutOfMemory
-  kahn_given_up before after taken stop o read = (taken, stop, read, ([], inl refl, unwritten o))
+  pub kahn_given_up : (before after : SeenSource) (taken : List ℕ) (stop : Stop) (o : SeenSink) → Read most_bytes before after taken stop → IsAsked a.inputs.items taken → KahnGives before after o o ending.OutOfMemory
+  kahn_given_up before after taken stop o read asked = (taken, stop, read, asked, ([], inl refl, unwritten o))
 
   -- main was fed, and the lines were written or not
   pub kahn_done : (before after : SeenSource) (was now : SeenSink) (result : Ending) (feed : Feed) (answer : Result Feed OutOfMemory) (clocks : List NodeClock) (outputs : List OutputSpec) (taken : List ℕ) (stop : Stop) →
-      Read most_bytes before after taken stop → IsMainFeed a.inputs.items taken stop answer → answer ≡ Ok feed → clocks ≡ a.clocks.items → outputs ≡ a.outputs.items →
+      Read most_bytes before after taken stop → IsAsked a.inputs.items taken → IsMainFeed a.inputs.items taken stop answer → answer ≡ Ok feed → clocks ≡ a.clocks.items → outputs ≡ a.outputs.items →
       (horizon : ℕ) × IsHorizonOf (param_words a.placed.nodes clocks) given feed.items horizon × LeavesOwed (Interprets kinds a.placed.nodes clocks outputs given feed.items feed.stop horizon) was now result →
       KahnGives before after was now result
-  kahn_done before after was now result feed answer clocks outputs taken stop read fed_so is e f left =
+  kahn_done before after was now result feed answer clocks outputs taken stop read asked fed_so is e f left =
       let P : List NodeClock → Type 0 = λ u. (horizon : ℕ) × IsHorizonOf (param_words a.placed.nodes u) given feed.items horizon
       × LeavesOwed (Interprets kinds a.placed.nodes u outputs given feed.items feed.stop horizon) was now result in
       let Q : List OutputSpec → Type 0 = λ u. (horizon : ℕ) × IsHorizonOf (param_words a.placed.nodes a.clocks.items) given feed.items horizon
       × LeavesOwed (Interprets kinds a.placed.nodes a.clocks.items u given feed.items feed.stop horizon) was now result in
       let (horizon, horizon_is, moved) = subst Q f (subst P e left) in
-      kahn_over taken stop feed.items feed.stop horizon (subst (IsMainFeed a.inputs.items taken stop) is fed_so) horizon_is before after was now result read moved
-
-  -- a write of the lines failed behind the heading
-  pub lines_failed : {S : Type 0} (source left : S) (was between now : SeenSink) (text lines : List ℕ) → text ≡ heading a → Writes was between text → Fails between now lines → FailsInOrder (heading a) was now source left
-  lines_failed source left was between now text lines e w fails = inr (between, lines, subst (Writes was between) e w, fails)
-
-  -- the heading could not be written, and nothing was read
-  pub heading_failed : {S : Type 0} (source : S) (was now : SeenSink) (text : List ℕ) → text ≡ heading a → Fails was now text → FailsInOrder (heading a) was now source source
-  heading_failed source was now text e f = inl (subst (Fails was now) e f, refl)
+      kahn_over taken stop feed.items feed.stop horizon (subst (IsMainFeed a.inputs.items taken stop) is fed_so) horizon_is before after was now result read asked moved

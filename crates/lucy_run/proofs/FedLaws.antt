@@ -11,7 +11,7 @@ use Rattle.lucy_lines.specs.Fronts.{most_bytes}
 use Rattle.lucy_lines.proofs.Exists.{some_cut}
 use Rattle.lucy_text.specs.Outside.{SeenSource}
 use Rattle.lucy_feed.specs.Sources.{Stop, Unread, Ended, Drained, Read}
-use Rattle.lucy_feed.specs.Feeding.{is_closed, values_by_stream}
+use Rattle.lucy_feed.specs.Feeding.{is_closed, values_by_stream, IsAsked}
 use Rattle.lucy_run.specs.Feeds.{Feeds, CountsAs}
 
 -- a source that was left alone
@@ -20,8 +20,8 @@ read_nothing s = record { took = sym (followed-nil s.left); stopped = (refl, ref
 
 -- main has no inputs
 pub fed_nothing : (inputs : List InputSpec) (s : SeenSource) (lists : List (List ℤ)) → length inputs ≡ 0 → lists ≡ [] →
-    (taken : List ℕ) × (stop : Stop) × Read most_bytes s s taken stop × Feeds inputs taken stop lists None
-fed_nothing [] s lists none e = ([], Unread, read_nothing s, (refl, refl, e, refl))
+    (taken : List ℕ) × (stop : Stop) × Read most_bytes s s taken stop × IsAsked inputs taken × Feeds inputs taken stop lists None
+fed_nothing [] s lists none e = ([], Unread, read_nothing s, inl refl, (refl, refl, e, refl))
 fed_nothing (input ∷ inputs) s lists none e = absurd (omega arith)
 
 -- no item stops before a failed read

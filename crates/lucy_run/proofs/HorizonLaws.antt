@@ -1,12 +1,15 @@
 -- Inputs have a horizon.
 use Rattle.std.proofs.Common.{◌≡◌, ℕ, suc, zero, ◌<◌, ◌≤◌, ◌⊎◌, List, Option, Some, None, refl, ap, sym, ◌∙◌, subst, inl, inr, arith}
-use Rattle.std.specs.Prelude.{ℤ, length, slice_get}
+use Rattle.std.specs.Prelude.{ℤ, Bool, ◌+◌, ◌↔◌, IsTrue, length, slice_get, slice_index, IfSome}
 use Rattle.std.proofs.lemmas.Bool.{cases_lt}
 use Rattle.std.proofs.lemmas.Option.{same_Some, slice_get_within}
 use Rattle.lucy_word.specs.Bits.{Bits, ones_to}
+use Rattle.lucy_word.specs.Limits.{limit_number}
+use Rattle.lucy_word.specs.declared.limit.Limit.TheVariants as limit
 use Rattle.lucy_word.proofs.BitsLaws.{ones_to-none}
 use Rattle.lucy_stream.specs.Items.{list_at}
 use Rattle.lucy_meaning.specs.Horizons.{Suffice, IsHorizon}
+use Rattle.lucy_run.specs.Owes.{most_instants, IsHorizonOf, AllowsMore}
 
 -- the inputs of the first so many words suffice
 abbrev SufficeTo : List Bits → List (List ℤ) → (instants count : ℕ) → Type 0
@@ -71,3 +74,23 @@ some_horizon words inputs (suc m) = elim (suffice_either words inputs (suc m)) [
         },
       )
 ]
+
+-- the most instants of a run are few
+pub few_most : (given : Option ℕ) → IfSome given (λ n. n ≤ limit_number limit.Instants) → most_instants given ≤ limit_number limit.Instants
+few_most None few = omega arith
+few_most (Some n) few = few
+
+-- the horizon of lists whose lengths are counted
+pub horizon_at : (words : List Bits) (counts held : List ℕ) (lists : List (List ℤ)) (given : Option ℕ) (most horizon : ℕ) → held ≡ counts → most ≡ most_instants given →
+    ((i : ℕ) → slice_index counts i ≡ length (list_at lists i)) → ((xs : List (List ℤ)) → ((i : ℕ) → slice_index held i ≡ length (list_at xs i)) → IsHorizon words xs most horizon) →
+    IsHorizonOf words given lists horizon
+horizon_at words counts held lists given most horizon same e are allow =
+    subst (λ n. IsHorizon words lists n horizon) e (allow lists (subst (λ (ks : List ℕ). (i : ℕ) → slice_index ks i ≡ length (list_at lists i)) (sym same) are))
+
+-- whether they allow more instants than a run may have
+pub more_at : (words : List Bits) (counts held : List ℕ) (lists : List (List ℤ)) (most : ℕ) (more : Bool) → held ≡ counts → most ≡ limit_number limit.Instants →
+    ((i : ℕ) → slice_index counts i ≡ length (list_at lists i)) → ((xs : List (List ℤ)) → ((i : ℕ) → slice_index held i ≡ length (list_at xs i)) → (IsTrue more ↔ Suffice words xs (most + 1))) →
+    IsTrue more ↔ AllowsMore words lists
+more_at words counts held lists most more same e are allow =
+    let P : ℕ → Type 0 = λ n. IsTrue more ↔ Suffice words lists (n + 1) in
+    subst P e (allow lists (subst (λ (ks : List ℕ). (i : ℕ) → slice_index ks i ≡ length (list_at lists i)) (sym same) are))

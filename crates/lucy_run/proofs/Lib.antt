@@ -5,6 +5,8 @@ pub mod WholeLaws
 mod LinesLaws
 mod ReadLaws
 mod CourseLaws
+mod WriteLaws
 mod OverLaws
 pub mod AcceptedLaws
 mod EndsLaws
+mod RunLaws

@@ -1,9 +1,15 @@
 -- What a call that runs a program leaves on the sink.
-use Rattle.std.specs.Prelude.{ℕ, ◌≡◌, ◌⊎◌, List, [], take}
-use Rattle.lucy_feed.specs.Sources.{Stop}
+use Rattle.std.specs.Prelude.{ℕ, ℤ, ◌+◌, ◌≤◌, ◌≡◌, ◌⊎◌, List, [], ◌++◌, take, Option}
+use Rattle.lucy_host.specs.declared.kind.HostKind.{HostKind}
+use Rattle.lucy_lines.specs.declared.reader.TextFault.{TextFault}
+use Rattle.lucy_feed.specs.Sources.{Stop, Unread}
+use Rattle.lucy_feed.specs.Feeding.{IsAsked}
 use Rattle.lucy_text.specs.Outside.{SeenSink, Writes, Fails}
 use Rattle.lucy_run.specs.declared.ending.Ending.{Ending}
 use Rattle.lucy_run.specs.declared.ending.Ending.TheVariants as ending
+use Rattle.lucy_front.specs.declared.accepted.Accepted.{Accepted}
+use Rattle.lucy_run.specs.Feeds.{CountsAs, IsNeededFor}
+use Rattle.lucy_run.specs.Owes.{IsFed, OwesRun, heading, input_words, lines_to}
 
 -- a front of an output that is owed; nothing is one, also where none is owed yet
 abbrev pub IsFrontOf : (OwesOutput : List ℕ → Type 0) → (front : List ℕ) → Type 0
@@ -20,7 +26,31 @@ EndsWith Owes Counts stop before after ending.WriteFault = (output : List ℕ) �
 EndsWith Owes Counts stop before after ending.OutOfMemory = (front : List ℕ) × IsFrontOf (Outputs Counts Owes) front × Writes before after front
 EndsWith Owes Counts stop before after end = (output : List ℕ) × Owes stop output end × Writes before after output
 
--- a write of the heading failed, and nothing was read; or the heading was written, and then a write of the lines failed
-abbrev pub FailsInOrder : {S : Type 0} → (heading : List ℕ) (was now : SeenSink) (source left : S) → Type 0
-FailsInOrder heading was now source left =
-    (Fails was now heading × (left ≡ source)) ⊎ ((between : SeenSink) × (lines : List ℕ) × Writes was between heading × Fails between now lines)
+-- The heading and the lines of so many instants were written, and then a write of lines failed. Bytes were asked for only as long as
+-- their items were too few for an instant that is a block later at most.
+pub record FailsInBlock (kinds : List HostKind) (a : Accepted) (given : Option ℕ) (block : ℕ) (taken : List ℕ) (stop : Stop) (was now : SeenSink) : Type 0 where
+  pub counted : Stop
+  pub counts : CountsAs stop counted
+  pub lists : List (List ℤ)
+  pub fault : Option TextFault
+  pub horizon : ℕ
+  pub fed : IsFed a given taken counted lists fault horizon
+  pub done : ℕ
+  pub early : done ≤ horizon
+  pub between : SeenSink
+  pub rest : List ℕ
+  pub written : Writes was between (heading a ++ lines_to kinds a lists done)
+  pub failed : Fails between now rest
+  pub aim : ℕ
+  pub near : aim ≤ done + block
+  pub needed : IsNeededFor (input_words a) aim a.inputs.items taken
+
+-- where a write failed nothing more was read: nothing at all where it was a write of the heading, and else no more than its block needs
+abbrev pub FailsInOrder : List HostKind → Accepted → (given : Option ℕ) (block : ℕ) (taken : List ℕ) → Stop → (was now : SeenSink) → Type 0
+FailsInOrder kinds a given block taken stop was now = (Fails was now (heading a) × (stop ≡ Unread)) ⊎ FailsInBlock kinds a given block taken stop was now
+
+-- how `run` ends, by the bytes taken and how reading stopped
+pub record EndsRun (kinds : List HostKind) (a : Accepted) (given : Option ℕ) (block : ℕ) (taken : List ℕ) (stop : Stop) (before after : SeenSink) (end : Ending) : Type 0 where
+  pub asked : IsAsked a.inputs.items taken
+  pub output : EndsWith (OwesRun kinds a given taken) (CountsAs stop) stop before after end
+  pub in_order : end ≡ ending.WriteFault → FailsInOrder kinds a given block taken stop before after

@@ -2,6 +2,7 @@
 ghost use Rattle.std.specs.Prelude.{◌≡◌, ◌<◌, ◌≤◌, ◌^◌, ℕ, List, [], length, IfOk};
 ghost use Rattle.lucy_lines.specs.Fronts.{most_bytes};
 ghost use Rattle.lucy_feed.specs.Sources.{Stop, Read};
+ghost use Rattle.lucy_feed.specs.Feeding.{IsAsked};
 ghost use Rattle.lucy_run.specs.Feeds.{IsMainFeed};
 
 use lucy_feed::{Feed, read_feed};
@@ -19,7 +20,7 @@ pub(crate) fn main_feed<I: Source>(
 ) -> Result<Feed, OutOfMemory>
     requires { length inputs.items < 2 ^ 32 }
     ensures fed { (taken : List ℕ) × (stop : Stop) × Read most_bytes (I.seen source.old) (I.seen source.new)
-        taken stop × IsMainFeed inputs.items taken stop result }
+        taken stop × IsAsked inputs.items taken × IsMainFeed inputs.items taken stop result }
     ensures lists { IfOk result (λ feed. length feed.items ≡ length inputs.items) }
     ensures unread { inputs.items ≡ [] → source.new ≡ source.old }
     ensures count { (I.seen source.old).faults ≤ (I.seen source.new).faults }

@@ -1,14 +1,10 @@
 // The horizon of a run, and how it ends.
-ghost use Rattle.std.specs.Prelude.{◌≡◌, ◌≤◌, ◌^◌, ◌<◌, ◌↔◌, ℕ, ℤ, List, Some, length, IsTrue};
+ghost use Rattle.std.specs.Prelude.{◌≡◌, ◌↔◌, ℕ, ℤ, List, IsTrue};
 ghost use Rattle.lucy_word.specs.Bits.{Bits};
-ghost use Rattle.lucy_word.specs.Limits.{limit_number};
-ghost use Rattle.lucy_word.specs.declared.limit.Limit.TheVariants as limit;
 ghost use Rattle.lucy_run.specs.Owes as owes;
-ghost use Rattle.lucy_run.specs.Owes.{AllowsMore, EndsFor, IsHorizonOf};
+ghost use Rattle.lucy_run.specs.Owes.{AllowsMore, EndsFor};
 
 use crate::ending::Ending;
-use lucy_execution::horizon;
-use lucy_host::Inputs;
 use lucy_lines::TextFault;
 use lucy_word::{Limit, Word};
 
@@ -20,15 +16,6 @@ pub(crate) fn most_instants(given: Option<u64>) -> u64
         Some(given) => given,
         None => Limit::Instants.number(),
     }
-}
-
-/// The horizon of a run where these instants are given, for inputs of these words with these items.
-pub(crate) fn horizon_of(words: &[Word], given: Option<u64>, items: &Inputs) -> u64
-    requires inputs { length items.now ≡ length words.now }
-    requires few { length words.now < 2 ^ 32 }
-    ensures { IsHorizonOf words.now given items.now result }
-{
-    horizon(words, items, most_instants(given))
 }
 
 /// How the run ends where its output is whole, by whether the items allow more instants than a run may have.

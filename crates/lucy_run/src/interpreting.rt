@@ -6,6 +6,7 @@ ghost use Rattle.lucy_host.specs.Host.{Serves, lent};
 ghost use Rattle.lucy_host.specs.Operators.{kinds_of};
 ghost use Rattle.lucy_lines.specs.Fronts.{most_bytes};
 ghost use Rattle.lucy_feed.specs.Sources.{Stop, Read};
+ghost use Rattle.lucy_feed.specs.Feeding.{IsAsked};
 ghost use Rattle.lucy_meaning.specs.Spots.{main_of, results_in};
 ghost use Rattle.lucy_kahn.specs.Turns.{params_in};
 ghost use Rattle.lucy_flat.specs.Clocked.{AreClocked};
@@ -19,9 +20,9 @@ ghost use Rattle.lucy_run.specs.Steps.{refusal_ending, LeavesOwed};
 
 use crate::ending::Ending;
 use crate::feeding::main_feed;
-use crate::horizons::{ending_for, horizon_of};
+use crate::horizons::{ending_for, most_instants};
 use lucy_clock::NodeClock;
-use lucy_execution::{allows_more, interpret, param_words};
+use lucy_execution::{allows_more, horizon, interpret, lengths, param_words};
 use lucy_feed::Feed;
 use lucy_front::Accepted;
 use lucy_host::Host;
@@ -67,8 +68,12 @@ fn write_interpreted<F: Fn(u32, i64, i64) -> i64 + Sync, O: Sink>(
 {
     let Feed { items, stop } = feed;
     let words = param_words(placed, clocks);
-    let horizon = horizon_of(words, given, &items);
-    let more = allows_more(words, &items, Limit::Instants.number());
+    let counts = match lengths(alloc, &items, words.len()) {
+        Ok(counts) => counts,
+        Err(_) => return Ending::OutOfMemory,
+    };
+    let horizon = horizon(words, &counts, most_instants(given));
+    let more = allows_more(words, &counts, Limit::Instants.number());
     let ending = ending_for(given, more, stop);
     let streams = match interpret(alloc, placed, clocks, host, &items, horizon) {
         Ok(streams) => streams,
@@ -100,7 +105,7 @@ pub fn kahn<F: Fn(u32, i64, i64) -> i64 + Sync, I: Source, O: Sink>(
     requires few { IfSome instants (λ given. given ≤ limit_number limit.Instants) }
     requires given { accepted.inputs.items ≡ [] → instants ≢ None }
     ensures ends { (taken : List ℕ) × (stop : Stop) × Read most_bytes (I.seen source.old) (I.seen source.new) taken stop
-        × EndsWith (OwesKahn (kinds_of (lent host.now)) accepted instants taken) (λ counted. counted ≡ stop) stop
+        × IsAsked accepted.inputs.items taken × EndsWith (OwesKahn (kinds_of (lent host.now)) accepted instants taken) (λ counted. counted ≡ stop) stop
         (O.seen out.old) (O.seen out.new) result }
     ensures unread { accepted.inputs.items ≡ [] → source.new ≡ source.old }
     ensures source_count { (I.seen source.old).faults ≤ (I.seen source.new).faults }

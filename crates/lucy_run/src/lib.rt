@@ -2,8 +2,9 @@
 //! a sink.
 //!
 //! It stands on `lucy_front` for accepted programs and their report, on `lucy_feed` for the items of the input, on `lucy_execution`
-//! for the streams of the results and on `lucy_output` for their lines. `course.rt` takes these through the blocks of a run. Begin with `specs/Owes.antt`, which says what stands on
-//! the output and how a run ends, and with `run` in `running.rt`.
+//! for the streams of the results and on `lucy_output` for their lines. `course.rt` takes the input and the program through the blocks
+//! of a run, whatever becomes of the results. Begin with `specs/Owes.antt`, which says what stands on the output and how a run ends,
+//! and with `run` in `running.rt`.
 #![tactic(auto)]
 
 mod course;
@@ -12,9 +13,12 @@ mod feeding;
 mod horizons;
 mod interpreting;
 mod laws;
+mod pace;
 mod running;
 
+pub use course::Course;
 pub use ending::Ending;
 pub use interpreting::kahn;
 pub use laws::{faultless_runs_are_done, one_interpretation, one_run, runs_print_what_kahn_prints};
+pub use pace::Pace;
 pub use running::run;

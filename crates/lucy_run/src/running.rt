@@ -1,7 +1,5 @@
 // The command `run` on an accepted program.
-ghost use Rattle.std.specs.Prelude.{◌≡◌, ◌≢◌, ◌≤◌, ℕ, List, [], None, Some, IfOk, IfSome};
-ghost use Rattle.lucy_word.specs.Limits.{limit_number};
-ghost use Rattle.lucy_word.specs.declared.limit.Limit.TheVariants as limit;
+ghost use Rattle.std.specs.Prelude.{◌≡◌, ◌≢◌, ◌≤◌, ℕ, List, [], None, IfOk};
 ghost use Rattle.lucy_host.specs.Host.{Serves, lent};
 ghost use Rattle.lucy_host.specs.Operators.{kinds_of};
 ghost use Rattle.lucy_lines.specs.Fronts.{most_bytes};
@@ -11,19 +9,18 @@ ghost use Rattle.lucy_front.specs.declared.options.Options.{Options};
 ghost use Rattle.lucy_front.specs.Accepting.{IsAccepted};
 ghost use Rattle.lucy_front.specs.Report.{IsReportable};
 ghost use Rattle.lucy_run.specs.Owes as owes;
-ghost use Rattle.lucy_run.specs.Owes.{OwesRun};
-ghost use Rattle.lucy_run.specs.Feeds.{CountsAs};
-ghost use Rattle.lucy_run.specs.declared.ending.Ending.TheVariants as ending;
-ghost use Rattle.lucy_run.specs.Ends.{EndsWith, FailsInOrder};
+ghost use Rattle.lucy_run.specs.Paces.{IsPace};
+ghost use Rattle.lucy_run.specs.Courses.{IsWritten, Plays};
+ghost use Rattle.lucy_run.specs.Ends.{EndsRun};
 
 use crate::course::Course;
 use crate::ending::Ending;
-use crate::horizons::most_instants;
 use crate::laws::lines_go_on;
-use lucy_execution::param_words;
+use crate::pace::Pace;
+use lucy_feed::values_in_turn;
 use lucy_front::{Accepted, report};
 use lucy_host::Host;
-use lucy_output::OutputError;
+use lucy_output::{OutputError, OutputWriter, instant_by_instant};
 use lucy_text::{Sink, Source, write_all};
 use lucy_word::OutOfMemory;
 use lucy_worker::Gate;
@@ -40,14 +37,43 @@ fn heading(alloc: Global, accepted: &Accepted) -> Result<Vec<u8>, OutOfMemory>
     Ok(text)
 }
 
-/// Runs an accepted program: its report and the line `run` are written, and then the lines of its results up to the horizon, at
-/// most as many instants as are given, or 1,048,576 where none are. It goes by blocks of so many instants: lines of the input are
+// Runs a course to its last block, and writes the lines of each.
+fn play<R: Threads + Sync, F: Fn(u32, i64, i64) -> i64 + Sync, G: Gate + Sync, I: Source, O: Sink>(
+    rt: &R,
+    alloc: Global,
+    host: &Host<F>,
+    gate: &G,
+    course: &mut Course<'_>,
+    writer: &mut OutputWriter<'_>,
+    source: &mut I,
+    out: &mut O,
+) -> Result<(), OutputError>
+    requires serves { Serves F.pre F.post host.now }
+    requires kinds { kinds_of (lent host.now) ≡ course.old.player.kinds }
+    requires written { IsWritten (I.seen source.old) (O.seen out.old) course.old writer.old }
+    ensures plays { Plays (I.seen source.old) (I.seen source.new) (O.seen out.old) (O.seen out.new) course.old course.new writer.old writer.new result }
+    ensures given { course.new.given ≡ course.old.given }
+    ensures unread { course.old.words.now ≡ [] → source.new ≡ source.old }
+    ensures source_count { (I.seen source.old).faults ≤ (I.seen source.new).faults }
+    ensures out_count { (O.seen out.old).faults ≤ (O.seen out.new).faults }
+{
+    lines_go_on();
+    values_in_turn();
+    'blocks: while course.goes_on() {
+        let streams = course.next_block(rt, alloc, host, gate, source)?;
+        writer.write(&streams, course.horizon(), out)?;
+    }
+    Ok(())
+}
+
+/// Runs an accepted program at a pace: its report and the line `run` are written, and then the lines of its results up to the horizon,
+/// at most as many instants as are given, or 1,048,576 where none are. It goes by blocks of so many instants: lines of the input are
 /// read until there are the items that the block needs, and then the block is run, and its lines are written. Behind the last
 /// block the input is read on to its end or its first fault. A main without inputs reads nothing, and runs so many instants. No
 /// byte of the output depends on the block.
 ///
-/// After a failed write nothing more is written. Where that is a write of the report or of the line `run`, nothing is read
-/// (`in_order`); that nothing is read after a failed write of a line is tested, and no clause says it.
+/// After a failed write nothing more is written and nothing more is read: where that is a write of the report or of the line
+/// `run`, nothing was, and else no more than the block of the line needs.
 pub fn run<
     R: Threads + Sync,
     F: Fn(u32, i64, i64) -> i64 + Sync,
@@ -60,9 +86,7 @@ pub fn run<
     accepted: Accepted,
     host: &Host<F>,
     gate: &G,
-    instants: Option<u64>,
-    workers: u32,
-    block: u64,
+    pace: Pace,
     source: &mut I,
     out: &mut O,
 ) -> Ending
@@ -70,15 +94,10 @@ pub fn run<
     requires accepted { (text : List ℕ) × (options : Options) × IsAccepted (lent host.now) options text accepted }
     requires reportable { IsReportable accepted.placed.nodes accepted.typed accepted.clocks.items }
     requires clocked { AreClocked accepted.placed.nodes accepted.clocks.items }
-    requires few { IfSome instants (λ given. given ≤ limit_number limit.Instants) }
-    requires given { accepted.inputs.items ≡ [] → instants ≢ None }
-    requires workers { (1 ≤ workers) × (workers ≤ 64) }
-    requires block { (1 ≤ block) × (block ≤ 1048576) }
+    requires pace { IsPace pace }
+    requires given { accepted.inputs.items ≡ [] → pace.instants ≢ None }
     ensures ends { (taken : List ℕ) × (stop : Stop) × Read most_bytes (I.seen source.old) (I.seen source.new) taken stop
-        × EndsWith (OwesRun (kinds_of (lent host.now)) accepted instants taken) (CountsAs stop) stop
-        (O.seen out.old) (O.seen out.new) result }
-    ensures in_order { result ≡ ending.WriteFault → FailsInOrder (owes.heading accepted)
-        (O.seen out.old) (O.seen out.new) source.old source.new }
+        × EndsRun (kinds_of (lent host.now)) accepted pace.instants pace.block taken stop (O.seen out.old) (O.seen out.new) result }
     ensures unread { accepted.inputs.items ≡ [] → source.new ≡ source.old }
     ensures source_count { (I.seen source.old).faults ≤ (I.seen source.new).faults }
     ensures out_count { (O.seen out.old).faults ≤ (O.seen out.new).faults }
@@ -101,16 +120,19 @@ pub fn run<
         ..
     } = accepted;
     lines_go_on();
-    let words = param_words(&placed, &clocks);
+    instant_by_instant();
     let mut course = match Course::new(
-        rt, alloc, &placed, &clocks, net, schedule, inputs, &outputs, host, gate, workers,
+        rt, alloc, &placed, &clocks, net, schedule, inputs, host, gate, pace,
     ) {
         Ok(course) => course,
         Err(_) => return Ending::OutOfMemory,
     };
-    let most = most_instants(instants);
-    match course.play(rt, alloc, host, gate, words, most, block, source, out) {
-        Ok(()) => course.finish(words, instants, source),
+    let mut writer = match OutputWriter::new(alloc, &outputs) {
+        Ok(writer) => writer,
+        Err(_) => return Ending::OutOfMemory,
+    };
+    match play(rt, alloc, host, gate, &mut course, &mut writer, source, out) {
+        Ok(()) => course.finish(source),
         Err(OutputError::Failed) => Ending::WriteFault,
         Err(OutputError::OutOfMemory) => Ending::OutOfMemory,
     }

@@ -1,41 +1,66 @@
-use Rattle.std.proofs.Common.{length, ap, subst, inl, inr, arith}
+use Rattle.std.proofs.Common.{Some, None, refl, ap, inr, arith}
 use Rattle.lucy_host.specs.Host.{lent}
 use Rattle.lucy_host.specs.Operators.{kinds_of}
-use Rattle.lucy_meaning.specs.Spots.{main_of, results_in}
-use Rattle.lucy_meaning.specs.Horizons.{Suffice}
-use Rattle.lucy_execution.specs.Streams.{param_words}
-use Rattle.lucy_execution.specs.Playing.{PlayerView}
+use Rattle.lucy_run.specs.declared.pace.Pace.{Pace}
 use Rattle.lucy_run.proofs.AcceptedLaws.{few_inputs, inputs_count, outputs_count, can_run}
-use Rattle.lucy_make.proofs.Runs.{refused}
-use Rattle.lucy_make.proofs.FirstLaws.{can_play}
+use Rattle.lucy_make.proofs.Runs.{steady, is_first, under_way, some_words, refused, figured}
 use Rattle.lucy_make.proofs.running.summary.Goals as goal
 
 pub counts_of-counts-requires : goal.counts_of-counts-requires
 counts_of-counts-requires g c = c.requires.accepted.2.net.flat.flat.proper.few_slots
 
-pub made_run-requires-clause-few : goal.made_run-requires-clause-few
-made_run-requires-clause-few g c = few_inputs _ c.requires.accepted.0 c.requires.accepted.1 c.args.accepted c.requires.accepted.2
+pub new-requires-clause-inputs : goal.new-requires-clause-inputs
+new-requires-clause-inputs g c κs within = inputs_count _ c.requires.accepted.0 c.requires.accepted.1 c.args.accepted c.requires.accepted.2
 
-pub made_run-requires-clause-params : goal.made_run-requires-clause-params
-made_run-requires-clause-params g c = inputs_count _ c.requires.accepted.0 c.requires.accepted.1 c.args.accepted c.requires.accepted.2
+pub new-requires-clause-few : goal.new-requires-clause-few
+new-requires-clause-few g c κs within = few_inputs _ c.requires.accepted.0 c.requires.accepted.1 c.args.accepted c.requires.accepted.2
 
-pub returns-in-Err-clause-err : goal.returns-in-Err-clause-err
-returns-in-Err-clause-err g c =
-    elim c.in-Err.ensures.err [
-      | inl e ↦ inl e
-      | inr r ↦ inr (r.0, refused c.args.stages (kinds_of (lent c.args.host.now)) c.args.accepted c.deref.result.now r.1 r.2 c.in-Err.end c.deref.ensures.value r.0 r.3)
-    ]
+pub new-requires-clause-pace : goal.new-requires-clause-pace
+new-requires-clause-pace g c κs within = record { few = tt; workers = c.requires.workers; block = c.requires.block }
 
-pub play-requires-clause-can : goal.play-requires-clause-can
-play-requires-clause-can g c κs within =
-    let a = c.args.accepted in
-    let kinds = kinds_of (lent c.args.host.now) in
-    let can = can_run _ c.requires.accepted.0 c.requires.accepted.1 a c.requires.accepted.2 kinds in
-    let suffice = subst (λ cs. Suffice (param_words a.placed.nodes cs) c.in-Ok.fed.items c.in-Ok.fed.instants) c.deref.ensures.value c.in-Ok.ensures.suffice in
-    can_play a.placed.nodes c.deref-2.result.now a.clocks.items kinds c.in-Ok.fed.items c.in-Ok-new.course.player c.in-Ok.fed.instants can.proper can.scheduled c.deref-2.ensures.value suffice c.in-Ok-new.ensures.begun
-
-pub play-requires-clause-results : goal.play-requires-clause-results
-play-requires-clause-results g c κs within =
+pub tell-requires-clause-first : goal.tell-requires-clause-first
+tell-requires-clause-first g c κs within =
     let count = outputs_count _ c.requires.accepted.0 c.requires.accepted.1 c.args.accepted c.requires.accepted.2 in
-    let here = ap (λ (p : PlayerView). length (results_in (main_of p.nodes))) c.in-Ok-new.ensures.begun in
-    omega (arith, here, count, c.len.ensures)
+    let pace : Pace = record { instants = None; workers = c.args.workers; block = c.args.block } in
+    let can = can_run _ c.requires.accepted.0 c.requires.accepted.1 c.args.accepted c.requires.accepted.2 (kinds_of (lent c.args.host.now)) in
+    is_first (kinds_of (lent c.args.host.now)) c.args.accepted can c.deref.result.now c.deref.ensures.value pace refl c.in-Ok-new.course c.in-Ok-new.ensures.begun
+    (steady c.in-Ok.source) c.len.result (omega (arith, count, c.len.ensures))
+
+pub finish-requires-clause-under_way : goal.finish-requires-clause-under_way
+finish-requires-clause-under_way g c =
+    let pace : Pace = record { instants = None; workers = c.args.workers; block = c.args.block } in
+    let can = can_run _ c.requires.accepted.0 c.requires.accepted.1 c.args.accepted c.requires.accepted.2 (kinds_of (lent c.args.host.now)) in
+    under_way (kinds_of (lent c.args.host.now)) c.args.accepted can c.deref.result.now c.deref.ensures.value pace refl c.in-Ok-new.course c.in-Ok-new.ensures.begun
+    (steady c.in-Ok.source) (steady c.tell.new.source) c.tell.new.course c.in-Ok-tell.tally.count c.in-Ok-tell.tally.sum
+    c.in-Ok-tell.ensures.tells c.in-Ok-tell.ensures.given
+
+pub finish-requires-clause-given : goal.finish-requires-clause-given
+finish-requires-clause-given g c = λ none.
+    let pace : Pace = record { instants = None; workers = c.args.workers; block = c.args.block } in
+    let can = can_run _ c.requires.accepted.0 c.requires.accepted.1 c.args.accepted c.requires.accepted.2 (kinds_of (lent c.args.host.now)) in
+    absurd (some_words (kinds_of (lent c.args.host.now)) c.args.accepted can c.deref.result.now c.deref.ensures.value pace refl c.in-Ok-new.course c.in-Ok-new.ensures.begun
+    (steady c.in-Ok.source) (steady c.tell.new.source) c.tell.new.course c.in-Ok-tell.tally.count c.in-Ok-tell.tally.sum
+    c.in-Ok-tell.ensures.tells c.in-Ok-tell.ensures.given c.requires.inputs none)
+
+pub returns-in_default-clause-err : goal.returns-in_default-clause-err
+returns-in_default-clause-err g c =
+    let pace : Pace = record { instants = None; workers = c.args.workers; block = c.args.block } in
+    let can = can_run _ c.requires.accepted.0 c.requires.accepted.1 c.args.accepted c.requires.accepted.2 (kinds_of (lent c.args.host.now)) in
+    inr (
+      c.in_default.not-Done,
+      refused (kinds_of (lent c.args.host.now)) c.args.accepted can c.deref.result.now c.deref.ensures.value pace refl c.in-Ok-new.course c.in-Ok-new.ensures.begun
+          (steady c.in-Ok.source) (steady c.tell.new.source) c.tell.new.course c.in-Ok-tell.tally.count c.in-Ok-tell.tally.sum
+          c.in-Ok-tell.ensures.tells c.in-Ok-tell.ensures.given
+          c.cut_in_pieces.ensures c.first_goes_on.ensures.agrees c.requires.inputs c.finish.new.source c.finish.result (ap (λ s. Some s) c.in-Ok.ensures) refl c.finish.ensures.over c.args.stages c.in_default.not-Done,
+    )
+
+pub returns-in-Ok-print-clause-ok : goal.returns-in-Ok-print-clause-ok
+returns-in-Ok-print-clause-ok g c =
+    let pace : Pace = record { instants = None; workers = c.args.workers; block = c.args.block } in
+    let can = can_run _ c.requires.accepted.0 c.requires.accepted.1 c.args.accepted c.requires.accepted.2 (kinds_of (lent c.args.host.now)) in
+    figured (kinds_of (lent c.args.host.now)) c.args.accepted can c.deref.result.now c.deref.ensures.value pace refl c.in-Ok-new.course c.in-Ok-new.ensures.begun
+    (steady c.in-Ok.source) (steady c.tell.new.source) c.tell.new.course c.in-Ok-tell.tally.count c.in-Ok-tell.tally.sum
+    c.in-Ok-tell.ensures.tells c.in-Ok-tell.ensures.given
+    c.cut_in_pieces.ensures c.first_goes_on.ensures.agrees c.requires.inputs c.finish.new.source c.finish.result (ap (λ s. Some s) c.in-Ok.ensures) refl c.finish.ensures.over
+    c.args.stages c.counts_of-counts.result.actors c.counts_of-counts.result.rings c.counts_of-counts.result.slots c.horizon-instants.result c.in-Ok-print.lines.items c.in-Done.is
+    c.counts_of-counts.ensures.actors c.counts_of-counts.ensures.rings c.counts_of-counts.ensures.slots c.horizon-instants.ensures c.in-Ok-print.ensures

@@ -15,8 +15,8 @@ main_feed-requires g c = few_inputs _ c.requires.accepted.0 c.requires.accepted.
 
 pub returns-in-Err-clause-ends : goal.returns-in-Err-clause-ends
 returns-in-Err-clause-ends g c =
-    let (taken, stop, read, fed) = c.main_feed.ensures.fed in
-    kahn_given_up (kinds_of (lent c.args.host.now)) c.args.accepted c.args.instants _ _ taken stop _ read
+    let (taken, stop, read, asked, fed) = c.main_feed.ensures.fed in
+    kahn_given_up (kinds_of (lent c.args.host.now)) c.args.accepted c.args.instants _ _ taken stop _ read asked
 
 pub write_interpreted-requires-clause-scheduled : goal.write_interpreted-requires-clause-scheduled
 write_interpreted-requires-clause-scheduled g c = λ κs within.
@@ -30,6 +30,6 @@ write_interpreted-requires-clause-inputs g c = λ κs within.
 
 pub returns-clause-ends : goal.returns-clause-ends
 returns-clause-ends g c =
-    let (taken, stop, read, fed) = c.main_feed.ensures.fed in
-    kahn_done (kinds_of (lent c.args.host.now)) c.args.accepted c.args.instants _ _ _ _ c.write_interpreted.result c.in-Ok.feed c.main_feed.result c.deref.result.now c.deref-2.result.now taken stop read fed c.in-Ok.is
+    let (taken, stop, read, asked, fed) = c.main_feed.ensures.fed in
+    kahn_done (kinds_of (lent c.args.host.now)) c.args.accepted c.args.instants _ _ _ _ c.write_interpreted.result c.in-Ok.feed c.main_feed.result c.deref.result.now c.deref-2.result.now taken stop read asked fed c.in-Ok.is
     c.deref.ensures.value c.deref-2.ensures.value c.write_interpreted.ensures.ends

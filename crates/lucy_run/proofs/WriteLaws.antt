@@ -1,0 +1,117 @@
+-- The lines of a course, block by block.
+use Rattle.std.proofs.Common.{ℕ, ◌≤◌, ◌≡◌, List, [], ◌++◌, length, ap, sym, ◌∙◌, subst, arith}
+use Rattle.std.specs.Prelude.{ℤ, Result, Ok, Err, MatchResult, IsErrAnd}
+use Rattle.std.proofs.lemmas.List.{length-map}
+use Rattle.lucy_lines.specs.Cuts.{ItemOf}
+use Rattle.lucy_text.specs.Outside.{SeenSource, SeenSink, Writes, Fails}
+use Rattle.lucy_feed.specs.Resuming.{ValuesInTurn}
+use Rattle.lucy_output.specs.declared.output.OutputSpec.{OutputSpec}
+use Rattle.lucy_output.specs.declared.error.OutputError.{OutputError}
+use Rattle.lucy_output.specs.declared.error.OutputError.TheVariants as error
+use Rattle.lucy_output.specs.Outputs.{lines_after}
+use Rattle.lucy_output.specs.Laws.{InstantByInstant}
+use Rattle.lucy_output.specs.Writing.{WriterState, new_writer}
+use Rattle.lucy_output.proofs.SinkLaws.{unwritten, writes_more}
+use Rattle.lucy_meaning.specs.Spots.{main_of, results_in}
+use Rattle.lucy_execution.specs.Streams.{main_word, main_streams, later_stream}
+use Rattle.lucy_run.specs.declared.course.Course.{Course}
+use Rattle.lucy_run.specs.Owes.{most_instants}
+use Rattle.lucy_run.specs.Courses.{Program, CanRun, words_of, values, lines_of, IsAlong, IsNext, HasWritten, BreaksOff, GivesUpBehind, LinesAgree, LinesByBlock}
+use Rattle.lucy_run.proofs.ReadLaws.{fed_feeds}
+
+-- of an answer that is an error
+pub breaks_so : {T : Type 0} (r : Result T OutputError) (e : OutputError) (A : T → Type 0) (B : OutputError → Type 0) → IsErrAnd r (λ f. f ≡ e) → B e → MatchResult r A B
+breaks_so (Ok x) e A B is b = absurd is
+breaks_so (Err f) e A B is b = subst B (sym is) b
+
+-- no line was written yet
+pub written_first : InstantByInstant → (p : Program) (writer : WriterState) (horizon : ℕ) → writer ≡ new_writer p.outputs → horizon ≡ 0 → (sink : SeenSink) → HasWritten p sink [] horizon sink writer
+written_first first_text p writer horizon new at sink =
+    let none : HasWritten p sink [] 0 sink writer = record {
+      outputs = ap (λ (w : WriterState). w.outputs) new;
+      instants = ap (λ (w : WriterState). w.instants) new;
+      whole = ap (λ (w : WriterState). w.broken) new;
+      lines = subst (Writes sink sink) (sym (first_text p.outputs (main_streams p.kinds (values p []) p.nodes p.clocks 0)).0) (unwritten sink);
+    } in
+    subst (λ n. HasWritten p sink [] n sink writer) (sym at) none
+
+module _ (p : Program) (first : SeenSource) (was : SeenSink) (items : List ItemOf) (before : SeenSource) (old : Course) (along : IsAlong p first items before old) (written : SeenSink) (writer : WriterState)
+    (has : HasWritten p was items old.horizon written writer) where
+  -- memory ran out before the next lines
+  pub broken_off : (now : SeenSource) (block most : ℕ) → most_instants old.given ≡ most → GivesUpBehind old.words.now old.target before now old.reader → BreaksOff p first was block most now written error.OutOfMemory
+  broken_off now block most same given_up = record {
+    lists = values p items;
+    done = old.horizon;
+    horizon = old.horizon;
+    aim = old.horizon;
+    later = omega arith;
+    near = omega arith;
+    within = omega (arith, along.last.within, along.early);
+    suffice = along.suffice;
+    fed = subst (λ ws. GivesUpBehind ws old.target before now old.reader) along.words given_up p.inputs first items along.fed along.fresh along.kept;
+    left = has.lines;
+  }
+
+  module _ (turn : ValuesInTurn) (blocks : LinesByBlock) (can : CanRun p) (now : SeenSource) (new : Course) (streams : List (List ℤ)) (next : IsNext p first items now old new streams) where
+    -- there are lists enough
+    pub lists_enough : length writer.outputs ≤ length streams
+    lists_enough =
+        let of_words = ap length can.words in
+        let of_streams = ap length next.streams_are in
+        let of_outputs = ap length has.outputs in
+        omega (
+          arith,
+          of_words,
+          of_streams,
+          of_outputs,
+          length-map p.outputs (λ (o : OutputSpec). o.word),
+          length-map (results_in (main_of p.nodes)) (main_word p.nodes p.clocks),
+          length-map (results_in (main_of p.nodes)) (later_stream p.kinds (values p (items ++ next.more)) p.nodes p.clocks old.horizon new.horizon),
+        )
+
+    pub later_lines : writer.instants ≤ new.horizon
+    later_lines = omega (arith, has.instants, next.later)
+
+    lines_are : lines_of p (values p (items ++ next.more)) new.horizon ≡ lines_of p (values p items) old.horizon ++ lines_after writer.outputs streams writer.instants new.horizon
+    lines_are =
+        blocks p (values p items) (values p (items ++ next.more)) old.horizon new.horizon can next.fronts next.later along.suffice
+        ∙ ap (λ xs. lines_of p (values p items) old.horizon ++ lines_after p.outputs xs old.horizon new.horizon) (sym next.streams_are)
+        ∙ ap (λ os. lines_of p (values p items) old.horizon ++ lines_after os streams old.horizon new.horizon) (sym has.outputs)
+        ∙ ap (λ n. lines_of p (values p items) old.horizon ++ lines_after writer.outputs streams n new.horizon) (sym has.instants)
+
+    -- a write of the lines failed
+    pub writing_broken : LinesAgree → (sink : SeenSink) (block most : ℕ) → old.block ≡ block → most_instants new.given ≡ most → Fails written sink (lines_after writer.outputs streams writer.instants new.horizon) →
+        BreaksOff p first was block most now sink error.Failed
+    writing_broken agree sink block most paced same fails =
+        let rest : List ℕ = lines_after writer.outputs streams writer.instants new.horizon in
+        let before_it : lines_of p (values p (items ++ next.more)) old.horizon ≡ lines_of p (values p items) old.horizon =
+        agree p (values p items) (values p (items ++ next.more)) old.horizon can next.fronts along.suffice in
+        record {
+          lists = values p (items ++ next.more);
+          done = old.horizon;
+          horizon = new.horizon;
+          aim = new.target;
+          later = next.later;
+          near = omega (arith, next.near, paced);
+          within = omega (arith, next.along.last.within, next.along.early);
+          suffice = next.along.suffice;
+          fed = fed_feeds turn (words_of p) new.target p.inputs first now new.reader (items ++ next.more) next.along.fed;
+          left = record {
+            between = written;
+            rest = rest;
+            lines = subst (Writes was written) (sym before_it) has.lines;
+            all = lines_are ∙ ap (λ xs. xs ++ rest) (sym before_it);
+            failed = fails;
+          };
+        }
+
+    -- they were written
+    pub written_on : (sink : SeenSink) (end : WriterState) → end ≡ record writer { instants = new.horizon } → Writes written sink (lines_after writer.outputs streams writer.instants new.horizon) →
+        HasWritten p was (items ++ next.more) new.horizon sink end
+    written_on sink end is writes = record {
+      outputs = ap (λ (w : WriterState). w.outputs) is ∙ has.outputs;
+      instants = ap (λ (w : WriterState). w.instants) is;
+      whole = ap (λ (w : WriterState). w.broken) is ∙ has.whole;
+      lines = subst (Writes was sink) (sym lines_are)
+          (writes_more was written sink (lines_of p (values p items) old.horizon) (lines_after writer.outputs streams writer.instants new.horizon) has.lines writes);
+    }
