@@ -1,6 +1,6 @@
 -- How a command ends that runs a program, by what has been read.
 use Rattle.lucy_front.specs.declared.options.Options.{Options}
-use Rattle.std.proofs.Common.{ℕ, ◌≡◌, ◌⊎◌, List, [], ◌∷◌, Result, Ok, Err, refl, ap, sym, subst, inl, inr}
+use Rattle.std.proofs.Common.{ℕ, ◌≡◌, ◌⊎◌, List, [], ◌∷◌, Result, Ok, Err, refl, sym, subst, inl, inr}
 use Rattle.std.specs.Prelude.{Option, ◌≢◌}
 use Rattle.lucy_word.specs.Limits.{limit_number}
 use Rattle.lucy_word.specs.declared.limit.Limit.TheVariants as limit
@@ -11,7 +11,7 @@ use Rattle.lucy_text.specs.Outside.{SeenSource, SeenSink}
 use Rattle.lucy_feed.specs.Sources.{Stop, Unread, Read}
 use Rattle.lucy_front.specs.declared.accepted.Accepted.{Accepted}
 use Rattle.lucy_run.specs.declared.ending.Ending.{Ending}
-use Rattle.lucy_run.specs.Ends.{EndsWith}
+use Rattle.lucy_run.specs.Ends.{IsFrontOf, EndsWith, FailsInOrder}
 use Rattle.lucy_lines.specs.declared.input.InputSpec.{InputSpec}
 use Rattle.lucy_host.specs.Operators.{kinds_of}
 use Rattle.lucy_run.specs.Feeds.{CountsAs}
@@ -21,9 +21,12 @@ use Rattle.lucy_app.specs.Commands.{inferring_options, HasText, TakesInput}
 use Rattle.lucy_app.specs.World.{Given}
 use Rattle.lucy_app.specs.Answers.{Answer}
 use Rattle.lucy_app.specs.Owes.{Owes, OwesOutput}
-use Rattle.lucy_app.specs.Ends.{EndsBy}
+use Rattle.lucy_app.specs.Ends.{EndsBy, MayStand, MayFail}
 use Rattle.lucy_app.specs.Running.{IsRunnable}
-use Rattle.lucy_app.specs.Outcomes.{IsAccepting, EndsRun, TellsEnding, TellsRefusal}
+use Rattle.lucy_app.specs.Outcomes.{IsAccepting, EndsRun, OfProgram, TellsEnding, TellsRefusal}
+use Rattle.lucy_feed.specs.Feeding.{IsAsked}
+use Rattle.lucy_command.specs.Named.{block_or_default}
+use Rattle.lucy_run.specs.declared.ending.Ending.TheVariants.{WriteFault}
 use Rattle.lucy_app.specs.declared.refusal.Refusal.{Refusal}
 use Rattle.lucy_app.proofs.Runs.{text_more, ends_unrun, ends_run}
 
@@ -31,12 +34,11 @@ some_or_none : (inputs : List InputSpec) → (inputs ≡ []) ⊎ (inputs ≢ [])
 some_or_none [] = inl refl
 some_or_none (input ∷ inputs) = inr (λ e. cc e)
 
--- what is left alone is seen as it was
-pub seen_alone : {S T P : Type 0} (see : S → T) (was now : S) → (now ≡ was) ⊎ P → (see now ≡ see was) ⊎ P
-seen_alone see was now (inl e) = inl (ap see e)
-seen_alone see was now (inr p) = inr p
+-- what is read of a source, or that it was left alone
+abbrev pub ReadsSo : List Operator → Options → List (Result (List ℕ) ShelfError) → (before after : SeenSource) (taken : List ℕ) → Type 0
+ReadsSo ops o fetched before after taken = (after ≡ before) ⊎ TakesInput ops o fetched taken
 
-module _ (Owed : List ℕ → Stop → Accepted → List ℕ → Ending → Type 0) (Counts : Stop → Stop → Type 0) (same_counts : (stop : Stop) → Counts stop stop) (ops lends : List Operator) (found o : Options)
+module _ (Owed : List ℕ → Stop → Accepted → List ℕ → Ending → Type 0) (Counts : Stop → Stop → Type 0) (Order : List ℕ → Stop → Accepted → (out out' : SeenSink) → Type 0) (same_counts : (stop : Stop) → Counts stop stop) (ops lends : List Operator) (found o : Options)
     (instants : Option ℕ) (fetched : List (Result (List ℕ) ShelfError)) (answer : Result Accepted Refusal) (same : ops ≡ lends) (is_o : found ≡ o) (accepting : IsAccepting ops found instants fetched answer) where
   accepting_so : IsAccepting lends o instants fetched answer
   accepting_so =
@@ -46,50 +48,55 @@ module _ (Owed : List ℕ → Stop → Accepted → List ℕ → Ending → Type
 
   -- the program was not run
   pub unrun : (s : SeenSource) (out err err' : SeenSink) (status : ℕ) (e : Refusal) → answer ≡ Err e → TellsRefusal e err err' status →
-      (taken : List ℕ) × (stop : Stop) × Read (limit_number limit.Input) s s taken stop × EndsRun (Owed taken) (Counts stop) lends o instants stop fetched out out err err' status
+      (taken : List ℕ) × (stop : Stop) × Read (limit_number limit.Input) s s taken stop × ReadsSo lends o fetched s s taken
+      × EndsRun (Owed taken) (Counts stop) (OfProgram (λ a. Order taken stop a out out) lends o fetched) lends o instants stop fetched out out err err' status
   unrun s out err err' status e is told =
       let P : Result Accepted Refusal → Type 0 = λ r. IsAccepting lends o instants fetched r in (
         [],
         Unread,
         record { took = sym (followed-nil s.left); stopped = (refl, refl); none_follows = still_none s.since_stop },
-        ends_unrun (Owed []) (Counts Unread) lends o instants fetched e out out err err' status (subst P is accepting_so) refl told,
+        inl refl,
+        ends_unrun (Owed []) (Counts Unread) _ lends o instants fetched e out out err err' status (subst P is accepting_so) refl told,
       )
 
   -- the program was run
-  pub ran : (before after : SeenSource) (out out' err err' : SeenSink) (status : ℕ) (a : Accepted) (end : Ending) → answer ≡ Ok a →
-      (taken : List ℕ) × (stop : Stop) × Read (limit_number limit.Input) before after taken stop × EndsWith (λ counted. Owed taken counted a) (Counts stop) stop out out' end → TellsEnding end err err' status →
-      (taken : List ℕ) × (stop : Stop) × Read (limit_number limit.Input) before after taken stop × EndsRun (Owed taken) (Counts stop) lends o instants stop fetched out out' err err' status
-  ran before after out out' err err' status a end is (taken, stop, read, left) told =
-      let P : Result Accepted Refusal → Type 0 = λ r. IsAccepting lends o instants fetched r in
-      (taken, stop, read, ends_run (Owed taken) (Counts stop) lends o instants fetched stop (same_counts stop) a (subst P is accepting_so) end out out' err err' status left told)
-
-  -- a program without inputs leaves the source alone
-  pub left_alone : {S : Type 0} (was now : S) (a : Accepted) → answer ≡ Ok a → (a.inputs.items ≡ [] → now ≡ was) → (now ≡ was) ⊎ TakesInput lends o fetched
-  left_alone was now a is alone =
+  pub ran : (before after : SeenSource) (out out' err err' : SeenSink) (status : ℕ) (a : Accepted) (end : Ending) → answer ≡ Ok a → (a.inputs.items ≡ [] → after ≡ before) →
+      (taken : List ℕ) (stop : Stop) → Read (limit_number limit.Input) before after taken stop → IsAsked a.inputs.items taken →
+      EndsWith (λ counted. Owed taken counted a) (Counts stop) stop out out' end → (end ≡ WriteFault → Order taken stop a out out') → TellsEnding end err err' status →
+      (others : List ℕ) × (halt : Stop) × Read (limit_number limit.Input) before after others halt × ReadsSo lends o fetched before after others
+      × EndsRun (Owed others) (Counts halt) (OfProgram (λ b. Order others halt b out out') lends o fetched) lends o instants halt fetched out out' err err' status
+  ran before after out out' err err' status a end is alone taken stop read asked left order told =
       let P : Result Accepted Refusal → Type 0 = λ r. IsAccepting lends o instants fetched r in
       let runnable : HasText fetched (λ text. IsRunnable lends o instants text a) = subst P is accepting_so in
-      elim (some_or_none a.inputs.items) [ inl none ↦ inl (alone none) | inr some ↦ inr (text_more fetched _ _ (λ text can. (a, can.0, some)) runnable) ]
+      let reads : ReadsSo lends o fetched before after taken = elim (some_or_none a.inputs.items) [
+        | inl none ↦ inl (alone none)
+        | inr some ↦ inr (text_more fetched _ _ (λ text can. (a, can.0, some, asked)) runnable)
+      ] in
+      let in_order : end ≡ WriteFault → OfProgram (λ b. Order taken stop b out out') lends o fetched = λ fault. text_more fetched _ _ (λ text can. (a, can.0, order fault)) runnable in
+      (taken, stop, read, reads, ends_run (Owed taken) (Counts stop) _ lends o instants fetched stop (same_counts stop) a runnable end out out' err err' status left in_order told)
 
 -- a command that ends so with outputs that are owed ends so with others that are
-pub ends_more : (Owed : Answer → Type 0) (A B : List ℕ → Type 0) → ((output : List ℕ) → A output → B output) → (out out' err err' : SeenSink) (status : ℕ) → EndsBy Owed A out out' err err' status →
-    EndsBy Owed B out out' err err' status
-ends_more Owed A B more out out' err err' status (inl (answer, inl owed, answers)) = inl (answer, inl owed, answers)
-ends_more Owed A B more out out' err err' status (inl (answer, inr (front, inl none, is), answers)) = inl (answer, inr (front, inl none, is), answers)
-ends_more Owed A B more out out' err err' status (inl (answer, inr (front, inr (output, n, owed, e), is), answers)) = inl (answer, inr (front, inr (output, n, more output owed, e), is), answers)
-ends_more Owed A B more out out' err err' status (inr (output, owed, breaks)) = inr (output, more output owed, breaks)
+pub ends_more : (Owed : Answer → Type 0) (A B : List ℕ → Type 0) (P Q : Type 0) → ((output : List ℕ) → A output → B output) → (P → Q) → (out out' err err' : SeenSink) (status : ℕ) →
+    EndsBy Owed (IsFrontOf A) (λ output. A output × P) out out' err err' status → EndsBy Owed (IsFrontOf B) (λ output. B output × Q) out out' err err' status
+ends_more Owed A B P Q more order out out' err err' status (inl (answer, inl owed, answers)) = inl (answer, inl owed, answers)
+ends_more Owed A B P Q more order out out' err err' status (inl (answer, inr (front, inl none, is), answers)) = inl (answer, inr (front, inl none, is), answers)
+ends_more Owed A B P Q more order out out' err err' status (inl (answer, inr (front, inr (output, n, owed, e), is), answers)) = inl (answer, inr (front, inr (output, n, more output owed, e), is), answers)
+ends_more Owed A B P Q more order out out' err err' status (inr (output, (owed, in_order), breaks)) = inr (output, (more output owed, order in_order), breaks)
 
 -- `run` that has met this ends so
 pub run_met : (words : RunWords) (given : Given) (out out' err err' : SeenSink) (status : ℕ) →
-    EndsRun (λ counted a. OwesRun (kinds_of given.operators) a words.instants given.taken counted) (CountsAs given.stop) given.operators (inferring_options words.scale words.lead) words.instants given.stop given.fetched
-    out out' err err' status → EndsBy (Owes (Run words) given) (OwesOutput (Run words) given) out out' err err' status
+    EndsRun (λ counted a. OwesRun (kinds_of given.operators) a words.instants given.taken counted) (CountsAs given.stop)
+    (OfProgram (λ a. FailsInOrder (kinds_of given.operators) a words.instants (block_or_default words.block) given.taken given.stop out out') given.operators (inferring_options words.scale words.lead) given.fetched)
+    given.operators (inferring_options words.scale words.lead) words.instants given.stop given.fetched
+    out out' err err' status → EndsBy (Owes (Run words) given) (MayStand (Run words) given) (MayFail (Run words) given out out') out out' err err' status
 run_met words given out out' err err' status ends =
-    ends_more (Owes (Run words) given) _ (OwesOutput (Run words) given)
-    (λ output (counted, answer, counts, owed, is). (record given { stop = counted }, answer, (counted, counts, refl), owed, is)) out out' err err' status ends
+    ends_more (Owes (Run words) given) _ (OwesOutput (Run words) given) _ _
+    (λ output (counted, answer, counts, owed, is). (record given { stop = counted }, answer, (counted, counts, refl), owed, is)) (λ order. order) out out' err err' status ends
 
 -- and `kahn`
-pub kahn_met : (words : KahnWords) (given : Given) (out out' err err' : SeenSink) (status : ℕ) →
-    EndsRun (λ counted a. OwesKahn (kinds_of given.operators) a words.instants given.taken counted) (λ counted. counted ≡ given.stop) given.operators (inferring_options words.scale words.lead) words.instants given.stop
-    given.fetched out out' err err' status → EndsBy (Owes (Kahn words) given) (OwesOutput (Kahn words) given) out out' err err' status
-kahn_met words given out out' err err' status ends =
-    ends_more (Owes (Kahn words) given) _ (OwesOutput (Kahn words) given)
-    (λ output (counted, answer, same, owed, is). (given, answer, refl, subst (λ s. Owes (Kahn words) (record given { stop = s }) answer) same owed, is)) out out' err err' status ends
+pub kahn_met : (Nothing : Type 0) (words : KahnWords) (given : Given) (out out' err err' : SeenSink) (status : ℕ) →
+    EndsRun (λ counted a. OwesKahn (kinds_of given.operators) a words.instants given.taken counted) (λ counted. counted ≡ given.stop) Nothing given.operators (inferring_options words.scale words.lead) words.instants given.stop
+    given.fetched out out' err err' status → EndsBy (Owes (Kahn words) given) (MayStand (Kahn words) given) (MayFail (Kahn words) given out out') out out' err err' status
+kahn_met Nothing words given out out' err err' status ends =
+    ends_more (Owes (Kahn words) given) _ (OwesOutput (Kahn words) given) _ _
+    (λ output (counted, answer, same, owed, is). (given, answer, refl, subst (λ s. Owes (Kahn words) (record given { stop = s }) answer) same owed, is)) (λ order. tt) out out' err err' status ends

@@ -30,20 +30,20 @@ pub text_more : (fetched : List (Result (List ℕ) ShelfError)) (P Q : List ℕ 
 text_more [] P Q more h = h
 text_more (r ∷ others) P Q more h = ok_more r P Q more h
 
-module _ (Owed : Stop → Accepted → List ℕ → Ending → Type 0) (Counts : Stop → Type 0) (ops : List Operator) (o : Options) (instants : Option ℕ) (fetched : List (Result (List ℕ) ShelfError)) where
+module _ (Owed : Stop → Accepted → List ℕ → Ending → Type 0) (Counts : Stop → Type 0) (InOrder : Type 0) (ops : List Operator) (o : Options) (instants : Option ℕ) (fetched : List (Result (List ℕ) ShelfError)) where
   lacking_owed : (a : Accepted) (x : Answer) → OwesEnded (NoRun a) instants Unread a x → OwesEnded (Owed Unread a) instants Unread a x
   lacking_owed a x (inl h) = inl h
   lacking_owed a x (inr h) = absurd h.3
 
-  unrun_owed : (x : Answer) → OwesRunning NoRun ops o instants Unread fetched x → OwesRunning (Owed Unread) ops o instants Unread fetched x
+  pub unrun_owed : (x : Answer) → OwesRunning NoRun ops o instants Unread fetched x → OwesRunning (Owed Unread) ops o instants Unread fetched x
   unrun_owed x (inl refused) = inl refused
   unrun_owed x (inr h) = inr (text_more fetched _ _ (λ text is. (is.0, is.1, lacking_owed is.0 x is.2)) h)
 
   -- the program is not run, and why was told
   pub ends_unrun : (e : Refusal) (out out' err err' : SeenSink) (status : ℕ) → (e ≡ refusal.OutOfMemory) ⊎ OwesRunning NoRun ops o instants Unread fetched (refusal_answer e) → out' ≡ out →
-      TellsRefusal e err err' status → EndsRun Owed Counts ops o instants Unread fetched out out' err err' status
-  ends_unrun e out out' err err' status (inl is) same told = ends_refused _ _ e out out' err err' status (inl is) same told
-  ends_unrun e out out' err err' status (inr owed) same told = ends_refused _ _ e out out' err err' status (inr (unrun_owed (refusal_answer e) owed)) same told
+      TellsRefusal e err err' status → EndsRun Owed Counts InOrder ops o instants Unread fetched out out' err err' status
+  ends_unrun e out out' err err' status (inl is) same told = ends_refused _ _ _ (inl refl) e out out' err err' status (inl is) same told
+  ends_unrun e out out' err err' status (inr owed) same told = ends_refused _ _ _ (inl refl) e out out' err err' status (inr (unrun_owed (refusal_answer e) owed)) same told
 
   module _ (stop : Stop) (counts : Counts stop) (a : Accepted) (runnable : HasText fetched (λ text. IsRunnable ops o instants text a)) where
     answer_owed : (counted : Stop) (output : List ℕ) (end : Ending) → Owed counted a output end → OwesRunning (Owed counted) ops o instants counted fetched (ended output end)
@@ -58,23 +58,23 @@ module _ (Owed : Stop → Accepted → List ℕ → Ending → Type 0) (Counts :
 
     -- the output stands, and its ending was told
     whole : (output : List ℕ) (end : Ending) (out out' err err' : SeenSink) (status : ℕ) → Owed stop a output end → Writes out out' output → Tells (ended output end).status (ended output end).err err err' status →
-        EndsRun Owed Counts ops o instants stop fetched out out' err err' status
+        EndsRun Owed Counts InOrder ops o instants stop fetched out out' err err' status
     whole output end out out' err err' status owed writes told = inl (ended output end, inl (answer_owed stop output end owed), record { printed = writes; told = told })
 
     -- or there was no memory for that
     untold : (output : List ℕ) (end : Ending) (out out' err err' : SeenSink) (status : ℕ) → Owed stop a output end → Writes out out' output → Tells 7 (out_of_memory output).err err err' status →
-        EndsRun Owed Counts ops o instants stop fetched out out' err err' status
+        EndsRun Owed Counts InOrder ops o instants stop fetched out out' err err' status
     untold output end out out' err err' status owed writes told =
         let front = inr (output, length output, output_owed output (stop, end, counts, owed), sym (take_all (length output) output (omega arith))) in
         inl (out_of_memory output, inr (output, front, refl), record { printed = writes; told = told })
 
     -- the program is run, and how that ended was told
-    pub ends_run : (end : Ending) (out out' err err' : SeenSink) (status : ℕ) → EndsWith (λ counted. Owed counted a) Counts stop out out' end → TellsEnding end err err' status →
-        EndsRun Owed Counts ops o instants stop fetched out out' err err' status
-    ends_run Done out out' err err' status left told = whole left.0 Done out out' err err' status left.1 left.2 told
-    ends_run (Input fault) out out' err err' status left (inl told) = whole left.0 (Input fault) out out' err err' status left.1 left.2 told
-    ends_run (Input fault) out out' err err' status left (inr told) = untold left.0 (Input fault) out out' err err' status left.1 left.2 told
-    ends_run (Limit passed) out out' err err' status left (inl told) = whole left.0 (Limit passed) out out' err err' status left.1 left.2 told
-    ends_run (Limit passed) out out' err err' status left (inr told) = untold left.0 (Limit passed) out out' err err' status left.1 left.2 told
-    ends_run WriteFault out out' err err' status left told = inr (left.0, output_owed left.0 left.1, record { failed = left.2; told = told })
-    ends_run OutOfMemory out out' err err' status left told = inl (out_of_memory left.0, inr (left.0, front_owed left.0 left.1, refl), record { printed = left.2; told = told })
+    pub ends_run : (end : Ending) (out out' err err' : SeenSink) (status : ℕ) → EndsWith (λ counted. Owed counted a) Counts stop out out' end → (end ≡ WriteFault → InOrder) → TellsEnding end err err' status →
+        EndsRun Owed Counts InOrder ops o instants stop fetched out out' err err' status
+    ends_run Done out out' err err' status left order told = whole left.0 Done out out' err err' status left.1 left.2 told
+    ends_run (Input fault) out out' err err' status left order (inl told) = whole left.0 (Input fault) out out' err err' status left.1 left.2 told
+    ends_run (Input fault) out out' err err' status left order (inr told) = untold left.0 (Input fault) out out' err err' status left.1 left.2 told
+    ends_run (Limit passed) out out' err err' status left order (inl told) = whole left.0 (Limit passed) out out' err err' status left.1 left.2 told
+    ends_run (Limit passed) out out' err err' status left order (inr told) = untold left.0 (Limit passed) out out' err err' status left.1 left.2 told
+    ends_run WriteFault out out' err err' status left order told = inr (left.0, (output_owed left.0 left.1, order refl), record { failed = left.2; told = told })
+    ends_run OutOfMemory out out' err err' status left order told = inl (out_of_memory left.0, inr (left.0, front_owed left.0 left.1, refl), record { printed = left.2; told = told })

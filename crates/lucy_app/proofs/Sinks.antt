@@ -9,8 +9,8 @@ use Rattle.lucy_app.specs.World.{World, Given, Meets}
 use Rattle.lucy_app.specs.Lines.{words_line, read_fault_line, instants_line, write_fault_line}
 use Rattle.lucy_front.specs.Refusals.{memory_line}
 use Rattle.lucy_app.specs.Answers.{Answer, printed, no_command, out_of_memory}
-use Rattle.lucy_app.specs.Owes.{Owes, MayCount, OwesOutput}
-use Rattle.lucy_app.specs.Ends.{Tells, MayAnswer, EndsBy, EndsWith, Declines, EndsSo, Ends}
+use Rattle.lucy_app.specs.Owes.{Owes, MayCount}
+use Rattle.lucy_app.specs.Ends.{Tells, MayAnswer, EndsBy, MayStand, StopsInOrder, MayFail, EndsWith, Declines, EndsSo, Ends}
 use Rattle.lucy_run.specs.declared.ending.Ending.{Ending}
 use Rattle.lucy_run.specs.declared.ending.Ending.TheVariants as ending
 use Rattle.lucy_app.specs.Outcomes.{refusal_answer, IsOutcome, TellsRefusal, Delivers, TellsEnding}
@@ -35,20 +35,20 @@ prints_nothing NoInstants = refl
 prints_nothing ReadFault = refl
 prints_nothing OutOfMemory = refl
 
-module _ (Owed : Answer → Type 0) (OwedOutput : List ℕ → Type 0) where
-  may_refuse : (e : Refusal) → (e ≡ OutOfMemory) ⊎ Owed (refusal_answer e) → MayAnswer Owed OwedOutput (refusal_answer e)
+module _ (Owed : Answer → Type 0) (Stands Failing : List ℕ → Type 0) (nothing : Stands []) where
+  may_refuse : (e : Refusal) → (e ≡ OutOfMemory) ⊎ Owed (refusal_answer e) → MayAnswer Owed Stands (refusal_answer e)
   may_refuse e (inl out) =
-      let P : Refusal → Type 0 = λ r. MayAnswer Owed OwedOutput (refusal_answer r) in
-      subst P (sym out) (inr ([], inl refl, refl))
+      let P : Refusal → Type 0 = λ r. MayAnswer Owed Stands (refusal_answer r) in
+      subst P (sym out) (inr ([], nothing, refl))
   may_refuse e (inr owed) = inl owed
 
   -- a command that is refused, and this was told
   pub ends_refused : (e : Refusal) (out out' err err' : SeenSink) (status : ℕ) → (e ≡ OutOfMemory) ⊎ Owed (refusal_answer e) → out' ≡ out → TellsRefusal e err err' status →
-      EndsBy Owed OwedOutput out out' err err' status
+      EndsBy Owed Stands Failing out out' err err' status
   ends_refused e out out' err err' status owed same (inl line) =
       inl (refusal_answer e, may_refuse e owed, record { printed = nothing_written out out' (refusal_answer e).out same (prints_nothing e); told = line })
   ends_refused e out out' err err' status owed same (inr line) =
-      inl (out_of_memory [], inr ([], inl refl, refl), record { printed = nothing_written out out' [] same refl; told = line })
+      inl (out_of_memory [], inr ([], nothing, refl), record { printed = nothing_written out out' [] same refl; told = line })
 
 -- what a command has met counts as it is
 counts_itself : (command : Command) (given : Given) → MayCount command given given
@@ -62,11 +62,12 @@ counts_itself (Kahn words) given = refl
 counts_itself (Make words) given = refl
 
 -- a command that came out so, and whose outcome was delivered
-ends_so : (command : Command) (given : Given) (outcome : Result (Vec ℕ Global) Refusal) (before after : World) (status : ℕ) → IsOutcome (Owes command given) outcome →
-    Delivers outcome before.out after.out before.err after.err status → EndsWith command given before after status
-ends_so command given (Ok print) before after status owed (inl answers) = inl (printed print.items, inl owed, answers)
-ends_so command given (Ok print) before after status owed (inr breaks) = inr (print.items, (given, printed print.items, counts_itself command given, owed, refl), breaks)
-ends_so command given (Err e) before after status owed told = ends_refused (Owes command given) (OwesOutput command given) e before.out after.out before.err after.err status owed told.0 told.1
+ends_so : (command : Command) (given : Given) (outcome : Result (Vec ℕ Global) Refusal) (before after : World) (status : ℕ) → MayStand command given [] → StopsInOrder command given before.out after.out →
+    IsOutcome (Owes command given) outcome → Delivers outcome before.out after.out before.err after.err status → EndsWith command given before after status
+ends_so command given (Ok print) before after status nothing order owed (inl answers) = inl (printed print.items, inl owed, answers)
+ends_so command given (Ok print) before after status nothing order owed (inr breaks) = inr (print.items, ((given, printed print.items, counts_itself command given, owed, refl), order), breaks)
+ends_so command given (Err e) before after status nothing order owed told =
+    ends_refused (Owes command given) (MayStand command given) (MayFail command given before.out after.out) nothing e before.out after.out before.err after.err status owed told.0 told.1
 
 -- a read fault was told
 pub tells_fault : (e : Refusal) (err err' : SeenSink) (status : ℕ) → e ≡ ReadFault → Tells 4 read_fault_line err err' status → TellsRefusal e err err' status
@@ -112,10 +113,10 @@ ends_begun found command before after status is ends =
 
 -- a command that was carried out, and came out so
 pub ends_some : (found command : Command) (given : Given) (outcome : Result (Vec ℕ Global) Refusal) (before after : World) (status : ℕ) → command ≡ found → Meets command before after given →
-    IsOutcome (Owes command given) outcome → Delivers outcome before.out after.out before.err after.err status → EndsSo found before after status
-ends_some found command given outcome before after status is met owed told =
+    MayStand command given [] → StopsInOrder command given before.out after.out → IsOutcome (Owes command given) outcome → Delivers outcome before.out after.out before.err after.err status → EndsSo found before after status
+ends_some found command given outcome before after status is met nothing order owed told =
     let P : Command → Type 0 = λ c. EndsSo c before after status in
-    subst P is (given, met, ends_so command given outcome before after status owed told)
+    subst P is (given, met, ends_so command given outcome before after status nothing order owed told)
 
 -- and that ends so
 pub ends_with : (found command : Command) (given : Given) (before after : World) (status : ℕ) → command ≡ found → Meets command before after given → EndsWith command given before after status →

@@ -14,7 +14,7 @@ use Rattle.lucy_app.specs.Answers.{Answer, no_command}
 use Rattle.lucy_app.specs.Show.{IsPrintOf, RefusesSyntax}
 use Rattle.lucy_app.specs.Types.{IsReportOf, RefusesText}
 use Rattle.lucy_app.specs.Check.{IsCheckOf, RefusesCheck}
-use Rattle.lucy_app.specs.Owes.{OwesOrder, Owes, OwesOutput}
+use Rattle.lucy_app.specs.Owes.{OwesOrder, Owes}
 use Rattle.lucy_app.specs.Programs.{OwesRefusal, OwesText, OwesPrint}
 use Rattle.lucy_app.specs.Endings.{fault_status, ending_status}
 use Rattle.lucy_app.specs.Running.{OwesEnded, OwesRunning}
@@ -28,7 +28,7 @@ use Rattle.lucy_run.specs.declared.ending.Ending.TheVariants as ending
 use Rattle.lucy_run.specs.Owes.{OwesRun, OwesKahn}
 use Rattle.lucy_make.specs.Text.{made_text}
 use Rattle.lucy_make.specs.Owes.{OwesSummary}
-use Rattle.lucy_app.specs.Ends.{Tells, MayAnswer, EndsWith, Ends}
+use Rattle.lucy_app.specs.Ends.{Tells, MayAnswer, MayStand, EndsWith, Ends}
 use Rattle.lucy_front.specs.Refusals.{memory_line}
 use Rattle.lucy_front.specs.declared.refusal.Refusal.{Refusal}
 use Rattle.lucy_front.specs.declared.refusal.Refusal.TheVariants as program
@@ -116,7 +116,7 @@ owed_within (Kahn words) given a is =
 owed_within (Make words) given a is =
     running_within (OwesSummary words.stages (kinds_of given.operators)) given.operators (inferring_options 1 1) None given.stop (Ok (made_text words.stages) ∷ []) a is
 
-answer_within : (command : Command) (given : Given) (a : Answer) → MayAnswer (Owes command given) (OwesOutput command given) a → a.status ≤ 7
+answer_within : (command : Command) (given : Given) (a : Answer) → MayAnswer (Owes command given) (MayStand command given) a → a.status ≤ 7
 answer_within command given a (inl is) = owed_within command given a is
 answer_within command given a (inr is) = same_within a _ is.2 (omega arith)
 

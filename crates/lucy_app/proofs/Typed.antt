@@ -11,7 +11,6 @@ use Rattle.lucy_place.specs.Faults.{faults, verdict}
 use Rattle.lucy_place.specs.Nodes.{placed_nodes}
 use Rattle.lucy_place.specs.PlacedProgram.{PlacedProgram}
 use Rattle.lucy_place.specs.Placing.{IsFirst}
-use Rattle.lucy_types.specs.declared.ty.Ty.{Ty}
 use Rattle.lucy_types.specs.Programs.{IsTyped, IsClash}
 use Rattle.lucy_types.proofs.ProgramLaws.{typed_unique, clash_untyped}
 use Rattle.lucy_front.specs.declared.refusal.Refusal.{Refusal}

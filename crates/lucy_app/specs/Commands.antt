@@ -4,6 +4,7 @@ use Rattle.lucy_word.specs.Limits.{limit_number}
 use Rattle.lucy_word.specs.declared.limit.Limit.TheVariants as limit
 use Rattle.lucy_host.specs.Operators.{Operator}
 use Rattle.lucy_text.specs.declared.shelf.ShelfError.{ShelfError}
+use Rattle.lucy_feed.specs.Feeding.{IsAsked}
 use Rattle.lucy_front.specs.declared.accepted.Accepted.{Accepted}
 use Rattle.lucy_front.specs.declared.options.Options.{Options}
 use Rattle.lucy_front.specs.Accepting.{IsAccepted}
@@ -48,13 +49,13 @@ abbrev pub HasText : List (Result (List ℕ) ShelfError) → (Holds : List ℕ �
 HasText [] Holds = ⊥
 HasText (fetched ∷ more) Holds = IsOkAnd fetched Holds
 
--- it is accepted as a program with inputs
-abbrev pub TakesInput : List Operator → Options → (fetched : List (Result (List ℕ) ShelfError)) → Type 0
-TakesInput ops o fetched = HasText fetched (λ text. (a : Accepted) × IsAccepted ops o text a × (a.inputs.items ≢ []))
+-- it is accepted as a program with inputs, and these bytes of its input were asked for
+abbrev pub TakesInput : List Operator → Options → (fetched : List (Result (List ℕ) ShelfError)) → (taken : List ℕ) → Type 0
+TakesInput ops o fetched taken = HasText fetched (λ text. (a : Accepted) × IsAccepted ops o text a × (a.inputs.items ≢ []) × IsAsked a.inputs.items taken)
 
--- a command reads the source where the host has these operators and this was fetched
-abbrev pub ReadsSource : Command → List Operator → (fetched : List (Result (List ℕ) ShelfError)) → Type 0
-ReadsSource Order ops fetched = Unit {0}
-ReadsSource (Run words) ops fetched = TakesInput ops (inferring_options words.scale words.lead) fetched
-ReadsSource (Kahn words) ops fetched = TakesInput ops (inferring_options words.scale words.lead) fetched
-ReadsSource command ops fetched = ⊥
+-- a command takes these bytes from the source where the host has these operators and this was fetched
+abbrev pub ReadsSource : Command → List Operator → (fetched : List (Result (List ℕ) ShelfError)) → (taken : List ℕ) → Type 0
+ReadsSource Order ops fetched taken = Unit {0}
+ReadsSource (Run words) ops fetched taken = TakesInput ops (inferring_options words.scale words.lead) fetched taken
+ReadsSource (Kahn words) ops fetched taken = TakesInput ops (inferring_options words.scale words.lead) fetched taken
+ReadsSource command ops fetched taken = ⊥

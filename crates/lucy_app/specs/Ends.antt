@@ -1,8 +1,13 @@
 -- How a command ends: its status, and what it leaves of what it was lent.
 use Rattle.std.specs.Prelude.{ℕ, ◌≡◌, ◌⊎◌, List, [], Option, None, Some}
 use Rattle.lucy_text.specs.Outside.{SeenSink, Writes, Fails}
-use Rattle.lucy_run.specs.Ends.{IsFrontOf}
-use Rattle.lucy_command.specs.Commands.{Command}
+use Rattle.lucy_host.specs.Operators.{kinds_of}
+use Rattle.lucy_front.specs.declared.accepted.Accepted.{Accepted}
+use Rattle.lucy_front.specs.Accepting.{IsAccepted}
+use Rattle.lucy_run.specs.Ends.{IsFrontOf, FailsInOrder}
+use Rattle.lucy_command.specs.Commands.{Command, Run, Kahn}
+use Rattle.lucy_command.specs.Named.{block_or_default}
+use Rattle.lucy_app.specs.Commands.{inferring_options, HasText}
 use Rattle.lucy_app.specs.World.{World, Given, Meets}
 use Rattle.lucy_app.specs.Lines.{write_fault_line}
 use Rattle.lucy_app.specs.Answers.{Answer, no_command, out_of_memory}
@@ -22,19 +27,37 @@ pub record Breaks (output : List ℕ) (out out' err err' : SeenSink) (status : �
   pub failed : Fails out out' output
   pub told : Tells 5 write_fault_line err err' status
 
--- what is owed may be answered; or memory runs out, when a front of an output that is owed stands there
-abbrev pub MayAnswer : (Owed : Answer → Type 0) (OwedOutput : List ℕ → Type 0) → Answer → Type 0
-MayAnswer Owed OwedOutput answer = Owed answer ⊎ ((front : List ℕ) × IsFrontOf OwedOutput front × (answer ≡ out_of_memory front))
+-- what is owed may be answered; or memory runs out, when such a front stands there
+abbrev pub MayAnswer : (Owed : Answer → Type 0) (Stands : List ℕ → Type 0) → Answer → Type 0
+MayAnswer Owed Stands answer = Owed answer ⊎ ((front : List ℕ) × Stands front × (answer ≡ out_of_memory front))
 
--- how a command ends that owes such answers and such outputs
-abbrev pub EndsBy : (Owed : Answer → Type 0) (OwedOutput : List ℕ → Type 0) → (out out' err err' : SeenSink) (status : ℕ) → Type 0
-EndsBy Owed OwedOutput out out' err err' status =
-    ((answer : Answer) × MayAnswer Owed OwedOutput answer × Answers answer out out' err err' status)
-    ⊎ ((output : List ℕ) × OwedOutput output × Breaks output out out' err err' status)
+-- how a command ends that owes such answers, of which such a front may stand, and such an output may fail
+abbrev pub EndsBy : (Owed : Answer → Type 0) (Stands MayFail : List ℕ → Type 0) → (out out' err err' : SeenSink) (status : ℕ) → Type 0
+EndsBy Owed Stands MayFail out out' err err' status =
+    ((answer : Answer) × MayAnswer Owed Stands answer × Answers answer out out' err err' status)
+    ⊎ ((output : List ℕ) × MayFail output × Breaks output out out' err err' status)
+
+-- where memory runs out a front of an output that is owed stands of `run` and `kahn`, and nothing of the other commands
+abbrev pub MayStand : Command → Given → (front : List ℕ) → Type 0
+MayStand (Run words) given front = IsFrontOf (OwesOutput (Run words) given) front
+MayStand (Kahn words) given front = IsFrontOf (OwesOutput (Kahn words) given) front
+MayStand command given front = front ≡ []
+
+-- where the output fails nothing more is read: `run` has read nothing behind a report that failed, and no more than its block needs
+-- behind a line that did; the others read before they write
+abbrev pub StopsInOrder : Command → Given → (out out' : SeenSink) → Type 0
+StopsInOrder (Run words) given out out' = HasText given.fetched (λ text. (a : Accepted) × IsAccepted given.operators (inferring_options words.scale words.lead) text a
+    × FailsInOrder (kinds_of given.operators) a words.instants (block_or_default words.block) given.taken given.stop out out')
+StopsInOrder command given out out' = Unit {0}
+
+-- an output that is owed may fail, in order
+abbrev pub MayFail : Command → Given → (out out' : SeenSink) → (output : List ℕ) → Type 0
+MayFail command given out out' output = OwesOutput command given output × StopsInOrder command given out out'
 
 -- how a command ends, by what it has met
 abbrev pub EndsWith : Command → Given → (before after : World) (status : ℕ) → Type 0
-EndsWith command given before after status = EndsBy (Owes command given) (OwesOutput command given) before.out after.out before.err after.err status
+EndsWith command given before after status =
+    EndsBy (Owes command given) (MayStand command given) (MayFail command given before.out after.out) before.out after.out before.err after.err status
 
 -- nothing is called and nothing is printed, and this is answered
 abbrev pub Declines : Answer → (before after : World) (status : ℕ) → Type 0

@@ -16,6 +16,8 @@ use Rattle.lucy_feed.specs.declared.read.ReadError.TheVariants as read
 use Rattle.lucy_text.specs.Outside.{SeenSink}
 use Rattle.lucy_host.specs.Operators.{Operator}
 use Rattle.lucy_front.specs.declared.accepted.Accepted.{Accepted}
+use Rattle.lucy_front.specs.Accepting.{IsAccepted}
+use Rattle.lucy_run.specs.Ends.{IsFrontOf}
 use Rattle.lucy_run.specs.declared.ending.Ending.{Ending}
 use Rattle.lucy_run.specs.declared.ending.Ending.TheVariants as ending
 use Rattle.lucy_app.specs.Answers.{Answer, printed, read_fault, no_instants, program_refused, input_refused, out_of_memory}
@@ -24,8 +26,8 @@ use Rattle.lucy_app.specs.Commands.{HasText}
 use Rattle.lucy_app.specs.Running.{IsRunnable, OwesRunning}
 use Rattle.lucy_feed.specs.Sources.{Stop, Unread}
 use Rattle.lucy_app.specs.World.{Given}
-use Rattle.lucy_app.specs.Owes.{Owes, OwesOutput}
-use Rattle.lucy_app.specs.Ends.{Tells, Answers, Breaks, EndsBy}
+use Rattle.lucy_app.specs.Owes.{Owes}
+use Rattle.lucy_app.specs.Ends.{Tells, Answers, Breaks, EndsBy, MayStand, MayFail}
 use Rattle.lucy_app.specs.declared.input_refusal.InputCause.{InputCause}
 use Rattle.lucy_app.specs.declared.refusal.Refusal.{Refusal}
 use Rattle.lucy_app.specs.declared.refusal.Refusal.TheVariants.{Program, Input, NoInstants, ReadFault, OutOfMemory}
@@ -114,11 +116,16 @@ abbrev pub RunOutputs : (Counts : Stop → Type 0) (Owed : Stop → Accepted →
 RunOutputs Counts Owed ops o instants fetched output =
     (counted : Stop) × (answer : Answer) × Counts counted × OwesRunning (Owed counted) ops o instants counted fetched answer × (output ≡ answer.out)
 
--- how a command ends that runs what was fetched
-abbrev pub EndsRun : (Owed : Stop → Accepted → List ℕ → Ending → Type 0) (Counts : Stop → Type 0) → List Operator → Options → (instants : Option ℕ) → Stop → List (Result (List ℕ) ShelfError) →
-    (out out' err err' : SeenSink) (status : ℕ) → Type 0
-EndsRun Owed Counts ops o instants stop fetched out out' err err' status =
-    EndsBy (OwesRunning (Owed stop) ops o instants stop fetched) (RunOutputs Counts Owed ops o instants fetched) out out' err err' status
+-- how a command ends that runs what was fetched, where this holds of an output that failed
+abbrev pub EndsRun : (Owed : Stop → Accepted → List ℕ → Ending → Type 0) (Counts : Stop → Type 0) (InOrder : Type 0) → List Operator → Options → (instants : Option ℕ) → Stop →
+    List (Result (List ℕ) ShelfError) → (out out' err err' : SeenSink) (status : ℕ) → Type 0
+EndsRun Owed Counts InOrder ops o instants stop fetched out out' err err' status =
+    EndsBy (OwesRunning (Owed stop) ops o instants stop fetched) (IsFrontOf (RunOutputs Counts Owed ops o instants fetched))
+    (λ output. RunOutputs Counts Owed ops o instants fetched output × InOrder) out out' err err' status
+
+-- a program that is run, of which this holds
+abbrev pub OfProgram : (Holds : Accepted → Type 0) → List Operator → Options → List (Result (List ℕ) ShelfError) → Type 0
+OfProgram Holds ops o fetched = HasText fetched (λ text. (a : Accepted) × IsAccepted ops o text a × Holds a)
 
 -- what `make` has met
 abbrev pub made_given : List Operator → Given
@@ -126,4 +133,5 @@ made_given ops = record { fetched = []; taken = []; stop = Unread; operators = o
 
 -- how it ends
 abbrev pub EndsMake : MakeWords → List Operator → (out out' err err' : SeenSink) (status : ℕ) → Type 0
-EndsMake words ops out out' err err' status = EndsBy (Owes (Make words) (made_given ops)) (OwesOutput (Make words) (made_given ops)) out out' err err' status
+EndsMake words ops out out' err err' status =
+    EndsBy (Owes (Make words) (made_given ops)) (MayStand (Make words) (made_given ops)) (MayFail (Make words) (made_given ops) out out') out out' err err' status

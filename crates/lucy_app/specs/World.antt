@@ -46,9 +46,9 @@ abbrev pub MeetsSource : (most : Option ℕ) (before after : SeenSource) (taken 
 MeetsSource None before after taken stop = (taken ≡ []) × (stop ≡ Unread) × (after ≡ before)
 MeetsSource (Some most) before after taken stop = Read most before after taken stop
 
--- this is what a command has met; the source is as it was where the command need not read it
+-- this is what a command has met; the source is as it was where the command need not read it, and else no byte more was asked for
 pub record Meets (command : Command) (before after : World) (given : Given) : Type 0 where
   pub shelf : Fetches (files_of (Some command)) before.shelf after.shelf given.fetched
   pub source : MeetsSource (input_of (Some command)) before.source after.source given.taken given.stop
-  pub unread : (after.source ≡ before.source) ⊎ ReadsSource command before.operators given.fetched
+  pub unread : (after.source ≡ before.source) ⊎ ReadsSource command before.operators given.fetched given.taken
   pub operators : given.operators ≡ before.operators

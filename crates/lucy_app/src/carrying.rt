@@ -12,6 +12,7 @@ use crate::{check, making, order, running, show, types};
 use lucy_command::Command;
 use lucy_host::Host;
 use lucy_text::{Shelf, Sink, Source};
+use lucy_word::Limit;
 use lucy_worker::Gate;
 use std::alloc::Global;
 use std::thread::Threads;
@@ -68,31 +69,31 @@ pub(crate) fn carry_out<
             finish(alloc, out, err, outcome)
         }
         Command::Show(file) => {
-            let fetched = fetch(alloc, shelf, file);
+            let fetched = fetch(alloc, shelf, file, Limit::Text);
             finish(alloc, out, err, show::answer(alloc, fetched))
         }
         Command::Types(file) => {
-            let fetched = fetch(alloc, shelf, file);
+            let fetched = fetch(alloc, shelf, file, Limit::Text);
             let outcome = types::answer(alloc, fetched, host.ops());
             finish(alloc, out, err, outcome)
         }
         Command::Check(file) => {
-            let fetched = fetch(alloc, shelf, file);
+            let fetched = fetch(alloc, shelf, file, Limit::Text);
             let outcome = check::answer(alloc, fetched, host.ops(), &written());
             finish(alloc, out, err, outcome)
         }
         Command::Clocks(words) => {
-            let fetched = fetch(alloc, shelf, words.file);
+            let fetched = fetch(alloc, shelf, words.file, Limit::Text);
             let options = inferring(words.scale, words.lead);
             let outcome = check::answer(alloc, fetched, host.ops(), &options);
             finish(alloc, out, err, outcome)
         }
         Command::Run(words) => {
-            let fetched = fetch(alloc, shelf, words.file);
+            let fetched = fetch(alloc, shelf, words.file, Limit::Text);
             running::run(rt, alloc, fetched, words, input, out, err, gate, host)
         }
         Command::Kahn(words) => {
-            let fetched = fetch(alloc, shelf, words.file);
+            let fetched = fetch(alloc, shelf, words.file, Limit::Text);
             running::kahn(alloc, fetched, words, input, out, err, host)
         }
         Command::Make(words) => making::make(rt, alloc, words, out, err, gate, host),

@@ -1,6 +1,6 @@
 // The text of a file.
 ghost use Rattle.std.specs.Prelude.{◌≤◌};
-ghost use Rattle.lucy_app.specs.Commands.{program_of};
+ghost use Rattle.lucy_word.specs.Limits.{limit_number};
 ghost use Rattle.lucy_app.specs.World.{Fetched};
 ghost use Rattle.lucy_app.specs.Outcomes.{bytes_of};
 
@@ -8,14 +8,15 @@ use lucy_text::{Shelf, ShelfError};
 use lucy_word::Limit;
 use std::alloc::Global;
 
-/// What the one fetch of the file gives, of at most as many bytes as a program may have.
+/// What one fetch of the file gives, of at most as many bytes as the limit allows.
 pub(crate) fn fetch<S: Shelf>(
     alloc: Global,
     shelf: &mut S,
     file: &str,
+    limit: Limit,
 ) -> Result<Vec<u8>, ShelfError>
-    ensures fetched { Fetched (program_of file.now) (S.seen shelf.old) (S.seen shelf.new) (bytes_of result) }
+    ensures fetched { Fetched (record { file = file.now; most = limit_number limit }) (S.seen shelf.old) (S.seen shelf.new) (bytes_of result) }
     ensures count { (S.seen shelf.old).faults ≤ (S.seen shelf.new).faults }
 {
-    shelf.fetch(alloc, file, Limit::Text.number())
+    shelf.fetch(alloc, file, limit.number())
 }

@@ -10,10 +10,11 @@ ghost use Rattle.lucy_front.specs.Inferring.{AreOptions};
 ghost use Rattle.lucy_front.specs.Report.{IsReportable};
 ghost use Rattle.lucy_run.specs.Feeds.{CountsAs};
 ghost use Rattle.lucy_run.specs.Owes.{OwesRun, OwesKahn};
+ghost use Rattle.lucy_run.specs.Ends.{FailsInOrder};
 ghost use Rattle.lucy_command.specs.Commands as names;
-ghost use Rattle.lucy_command.specs.Named.{run_named, kahn_named, IsWithin};
+ghost use Rattle.lucy_command.specs.Named.{run_named, kahn_named, IsWithin, block_or_default};
 ghost use Rattle.lucy_app.specs.Commands.{inferring_options, TakesInput};
-ghost use Rattle.lucy_app.specs.Outcomes.{bytes_of, IsAccepting, EndsRun, Tellable};
+ghost use Rattle.lucy_app.specs.Outcomes.{bytes_of, IsAccepting, EndsRun, OfProgram, Tellable};
 
 use crate::options::inferring;
 use crate::output::{conclude, refuse};
@@ -21,6 +22,7 @@ use crate::refusal::Refusal;
 use lucy_command::{KahnWords, RunWords, block_or_default};
 use lucy_front::{Accepted, Options, accept};
 use lucy_host::{Host, Ops};
+use lucy_run::Pace;
 use lucy_text::{ShelfError, Sink, Source};
 use lucy_worker::Gate;
 use std::alloc::Global;
@@ -79,32 +81,26 @@ pub(crate) fn run<
     requires serves { Serves F.pre F.post host.now }
     requires within { IsWithin (names.Run (run_named words)) }
     ensures ends { (taken : List ℕ) × (stop : Stop) × Read (limit_number limit.Input) (I.seen input.old) (I.seen input.new) taken stop
+        × ((I.seen input.new ≡ I.seen input.old) ⊎ TakesInput (lent host.now) (inferring_options words.entry.scale words.entry.lead) (bytes_of fetched ∷ []) taken)
         × EndsRun (λ counted a. OwesRun (kinds_of (lent host.now)) a words.entry.instants taken counted) (CountsAs stop)
+        (OfProgram (λ a. FailsInOrder (kinds_of (lent host.now)) a words.entry.instants (block_or_default words.entry.block) taken stop
+        (O.seen out.old) (O.seen out.new)) (lent host.now) (inferring_options words.entry.scale words.entry.lead) (bytes_of fetched ∷ []))
         (lent host.now) (inferring_options words.entry.scale words.entry.lead) words.entry.instants stop (bytes_of fetched ∷ [])
         (O.seen out.old) (O.seen out.new) (E.seen err.old) (E.seen err.new) result }
-    ensures unread { (input.new ≡ input.old)
-        ⊎ TakesInput (lent host.now) (inferring_options words.entry.scale words.entry.lead) (bytes_of fetched ∷ []) }
     ensures quiet { result ≡ 0 → err.new ≡ err.old }
     ensures source_count { (I.seen input.old).faults ≤ (I.seen input.new).faults }
     ensures out_count { (O.seen out.old).faults ≤ (O.seen out.new).faults }
     ensures err_count { (E.seen err.old).faults ≤ (E.seen err.new).faults }
 {
     let options = inferring(words.scale, words.lead);
-    let block = block_or_default(words.block);
+    let pace = Pace {
+        instants: words.instants,
+        workers: words.workers,
+        block: block_or_default(words.block),
+    };
     match accepted(alloc, fetched, &options, words.instants, host.ops()) {
         Ok(accepted) => {
-            let ending = lucy_run::run(
-                rt,
-                alloc,
-                accepted,
-                host,
-                gate,
-                words.instants,
-                words.workers,
-                block,
-                input,
-                out,
-            );
+            let ending = lucy_run::run(rt, alloc, accepted, host, gate, pace, input, out);
             conclude(alloc, err, ending)
         }
         Err(refusal) => refuse(alloc, err, refusal),
@@ -124,11 +120,11 @@ pub(crate) fn kahn<I: Source, O: Sink, E: Sink, F: Fn(u32, i64, i64) -> i64 + Sy
     requires serves { Serves F.pre F.post host.now }
     requires within { IsWithin (names.Kahn (kahn_named words)) }
     ensures ends { (taken : List ℕ) × (stop : Stop) × Read (limit_number limit.Input) (I.seen input.old) (I.seen input.new) taken stop
+        × ((I.seen input.new ≡ I.seen input.old) ⊎ TakesInput (lent host.now) (inferring_options words.entry.scale words.entry.lead) (bytes_of fetched ∷ []) taken)
         × EndsRun (λ counted a. OwesKahn (kinds_of (lent host.now)) a words.entry.instants taken counted) (λ counted. counted ≡ stop)
+        (OfProgram (λ a. Unit {0}) (lent host.now) (inferring_options words.entry.scale words.entry.lead) (bytes_of fetched ∷ []))
         (lent host.now) (inferring_options words.entry.scale words.entry.lead) words.entry.instants stop (bytes_of fetched ∷ [])
         (O.seen out.old) (O.seen out.new) (E.seen err.old) (E.seen err.new) result }
-    ensures unread { (input.new ≡ input.old)
-        ⊎ TakesInput (lent host.now) (inferring_options words.entry.scale words.entry.lead) (bytes_of fetched ∷ []) }
     ensures quiet { result ≡ 0 → err.new ≡ err.old }
     ensures source_count { (I.seen input.old).faults ≤ (I.seen input.new).faults }
     ensures out_count { (O.seen out.old).faults ≤ (O.seen out.new).faults }

@@ -29,12 +29,14 @@ use std::thread::Threads;
 /// - 5: a write to `out` or to `err` failed. A front of the answer may stand on `out`; where `out` failed, the line
 ///   `lucy: write fault` is tried on `err`. A front of a line may stand on `err`.
 /// - 6: a limit is passed: the input of `order` has more than 262,144 bytes, or the first of its two words that is refused has more
-///   than 65,536 bits, or more than 16,777,216 instants decide about the two; the text of FILE has more than 1,048,576 bytes, or passes a limit of programs at the first token that is
-///   refused; for all but `show` also, one of its nodes has more than 4,096 places, and no name up to its end is refused; for
-///   `check`, `clocks`, `run` and `kahn` also, the needs of a node, its rates, positions, inequalities or words or their
-///   comparison, the net or its schedule pass a limit, and nothing before that is refused. Where `run` or `kahn` pass the limit of the input or of the instants of a run, the lines
-///   up to there stand on `out`, and nothing where `kahn` passes one of its own.
-/// - 7: memory ran out. Of `run` and `kahn` a front of the answer may stand on `out`. Words that name no command never end so.
+///   than 65,536 bits, or more than 16,777,216 instants decide about the two; the text of FILE has more than 1,048,576 bytes, or
+///   passes a limit of programs at the first token that is refused; for all but `show` also, one of its nodes has more than 4,096
+///   places, and no name up to its end is refused; for `check`, `clocks`, `run` and `kahn` also, the needs of a node, its rates,
+///   positions, inequalities or words or their comparison, the net or its schedule pass a limit, and nothing before that is refused.
+///   Where `run` or `kahn` pass the limit of the input or of the instants of a run, the lines up to there stand on `out`, and nothing
+///   where `kahn` passes one of its own.
+/// - 7: memory ran out. Of `run` and `kahn` a front of the answer may stand on `out`, of the others nothing does. Words that name no
+///   command never end so.
 ///
 /// With 1, 2, 3, 4, 6 and 7 the line that says so stands on `err`. The words are looked at first. Then `order` reads the
 /// input, to its end or to one byte past its limit, and judges its length, the count of its words, and the words in turn,
@@ -47,8 +49,9 @@ use std::thread::Threads;
 /// line `run`. Both read the input to its end or to its first fault, where main has inputs, and print the output lines; where main has
 /// none, or nothing is run, they leave the source alone, with every status. The host
 /// lends programs its operators, by their names. `make` judges the program that it generates as `run` does, and prints the figures of
-/// its run on the input that it generates; it calls neither the shelf nor the source. No read follows the end of the input or a failed read, and no write to a sink
-/// follows one that failed.
+/// its run on the input that it generates; it calls neither the shelf nor the source. No read follows the end of the input or a failed
+/// read, no byte is asked for behind a refused line, and no write to a sink follows one that failed. Nothing is read behind a write to
+/// `out` that failed: behind one of the report nothing was, and behind one of a line no more than its block needs.
 ///
 /// `Ends` says all this, by the command that the words name.
 ///

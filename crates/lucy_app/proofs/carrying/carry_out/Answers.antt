@@ -5,7 +5,7 @@ use Rattle.lucy_command.specs.Named.{named, run_named, kahn_named}
 use Rattle.lucy_app.specs.Outcomes.{bytes_of, made_given}
 use Rattle.lucy_app.specs.World.{Given}
 use Rattle.lucy_app.proofs.Outcomes.{report_met, check_met}
-use Rattle.lucy_app.proofs.RunEnds.{seen_alone, run_met, kahn_met}
+use Rattle.lucy_app.proofs.RunEnds.{run_met, kahn_met}
 use Rattle.lucy_app.proofs.Sinks.{ends_some, ends_with}
 use Rattle.lucy_app.proofs.carrying.carry_out.Goals as goal
 
@@ -13,45 +13,43 @@ pub returns-in-Order-clause-ends : goal.returns-in-Order-clause-ends
 returns-in-Order-clause-ends g c =
     let read = c.answer-outcome.ensures.outcome in
     ends_some _ _ (record { fetched = []; taken = read.0; stop = read.1; operators = lent c.args.host.now }) c.answer-outcome.result _ _ _ (ap named (sym c.in-Order.is))
-    (record { shelf = refl; source = read.2; unread = inr tt; operators = refl }) read.3 c.finish.ensures.delivers
+    (record { shelf = refl; source = read.2; unread = inr tt; operators = refl }) refl tt read.3 c.finish.ensures.delivers
 
 pub returns-in-Show-clause-ends : goal.returns-in-Show-clause-ends
 returns-in-Show-clause-ends g c =
     ends_some _ _ (record { fetched = bytes_of c.fetch-fetched.result ∷ []; taken = []; stop = Unread; operators = lent c.args.host.now }) c.answer.result _ _ _ (ap named (sym c.in-Show.is))
-    (record { shelf = (_, c.fetch-fetched.ensures.fetched, refl); source = (refl, refl, refl); unread = inl refl; operators = refl }) c.answer.ensures.outcome c.finish-in-Show.ensures.delivers
+    (record { shelf = (_, c.fetch-fetched.ensures.fetched, refl); source = (refl, refl, refl); unread = inl refl; operators = refl }) refl tt c.answer.ensures.outcome c.finish-in-Show.ensures.delivers
 
 pub returns-in-Types-clause-ends : goal.returns-in-Types-clause-ends
 returns-in-Types-clause-ends g c =
     ends_some _ _ (record { fetched = bytes_of c.fetch-fetched-in-Types.result ∷ []; taken = []; stop = Unread; operators = lent c.args.host.now }) c.answer-outcome-in-Types.result _ _ _ (ap named (sym c.in-Types.is))
-    (record { shelf = (_, c.fetch-fetched-in-Types.ensures.fetched, refl); source = (refl, refl, refl); unread = inl refl; operators = refl }) (report_met _ _ (bytes_of c.fetch-fetched-in-Types.result ∷ []) _ c.ops.ensures c.answer-outcome-in-Types.ensures.outcome) c.finish-in-Types.ensures.delivers
+    (record { shelf = (_, c.fetch-fetched-in-Types.ensures.fetched, refl); source = (refl, refl, refl); unread = inl refl; operators = refl }) refl tt (report_met _ _ (bytes_of c.fetch-fetched-in-Types.result ∷ []) _ c.ops.ensures c.answer-outcome-in-Types.ensures.outcome) c.finish-in-Types.ensures.delivers
 
 pub returns-in-Check-clause-ends : goal.returns-in-Check-clause-ends
 returns-in-Check-clause-ends g c =
     ends_some _ _ (record { fetched = bytes_of c.fetch-fetched-in-Check.result ∷ []; taken = []; stop = Unread; operators = lent c.args.host.now }) c.answer-outcome-in-Check.result _ _ _ (ap named (sym c.in-Check.is))
-    (record { shelf = (_, c.fetch-fetched-in-Check.ensures.fetched, refl); source = (refl, refl, refl); unread = inl refl; operators = refl }) (check_met _ _ _ _ (bytes_of c.fetch-fetched-in-Check.result ∷ []) _ c.ops-in-Check.ensures c.written.ensures.is c.answer-outcome-in-Check.ensures.outcome)
+    (record { shelf = (_, c.fetch-fetched-in-Check.ensures.fetched, refl); source = (refl, refl, refl); unread = inl refl; operators = refl }) refl tt (check_met _ _ _ _ (bytes_of c.fetch-fetched-in-Check.result ∷ []) _ c.ops-in-Check.ensures c.written.ensures.is c.answer-outcome-in-Check.ensures.outcome)
     c.finish-in-Check.ensures.delivers
 
 pub returns-in-Clocks-clause-ends : goal.returns-in-Clocks-clause-ends
 returns-in-Clocks-clause-ends g c =
     ends_some _ _ (record { fetched = bytes_of c.fetch-fetched-in-Clocks.result ∷ []; taken = []; stop = Unread; operators = lent c.args.host.now }) c.answer-outcome-in-Clocks.result _ _ _ (ap named (sym c.in-Clocks.is))
     (record { shelf = (_, c.fetch-fetched-in-Clocks.ensures.fetched, refl); source = (refl, refl, refl); unread = inl refl; operators = refl })
-    (check_met _ _ _ _ (bytes_of c.fetch-fetched-in-Clocks.result ∷ []) _ c.ops-in-Clocks.ensures c.inferring-options.ensures.is c.answer-outcome-in-Clocks.ensures.outcome) c.finish-in-Clocks.ensures.delivers
+    refl tt (check_met _ _ _ _ (bytes_of c.fetch-fetched-in-Clocks.result ∷ []) _ c.ops-in-Clocks.ensures c.inferring-options.ensures.is c.answer-outcome-in-Clocks.ensures.outcome) c.finish-in-Clocks.ensures.delivers
 
 pub returns-in-Run-clause-ends : goal.returns-in-Run-clause-ends
 returns-in-Run-clause-ends g c =
     let read = c.run.ensures.ends in
-    let alone = c.run.ensures.unread in
     let given : Given = record { fetched = bytes_of c.fetch-fetched-in-Run.result ∷ []; taken = read.0; stop = read.1; operators = lent c.args.host.now } in
     ends_with _ _ given _ _ _ (ap named (sym c.in-Run.is))
-    (record { shelf = (_, c.fetch-fetched-in-Run.ensures.fetched, refl); source = read.2; unread = seen_alone g.I.Source.seen _ _ alone; operators = refl }) (run_met (run_named c.in-Run.words) given _ _ _ _ _ read.3)
+    (record { shelf = (_, c.fetch-fetched-in-Run.ensures.fetched, refl); source = read.2; unread = read.3; operators = refl }) (run_met (run_named c.in-Run.words) given _ _ _ _ _ read.4)
 
 pub returns-in-Kahn-clause-ends : goal.returns-in-Kahn-clause-ends
 returns-in-Kahn-clause-ends g c =
     let read = c.kahn.ensures.ends in
-    let alone = c.kahn.ensures.unread in
     let given : Given = record { fetched = bytes_of c.fetch-fetched-in-Kahn.result ∷ []; taken = read.0; stop = read.1; operators = lent c.args.host.now } in
     ends_with _ _ given _ _ _ (ap named (sym c.in-Kahn.is))
-    (record { shelf = (_, c.fetch-fetched-in-Kahn.ensures.fetched, refl); source = read.2; unread = seen_alone g.I.Source.seen _ _ alone; operators = refl }) (kahn_met (kahn_named c.in-Kahn.words) given _ _ _ _ _ read.3)
+    (record { shelf = (_, c.fetch-fetched-in-Kahn.ensures.fetched, refl); source = read.2; unread = read.3; operators = refl }) (kahn_met _ (kahn_named c.in-Kahn.words) given _ _ _ _ _ read.4)
 
 pub returns-in-Make-clause-ends : goal.returns-in-Make-clause-ends
 returns-in-Make-clause-ends g c =
