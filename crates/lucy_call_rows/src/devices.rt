@@ -9,6 +9,9 @@ use std::fs::{self, Files};
 use std::io::{self, ErrorKind, Read, Write};
 use std::str;
 
+// Of longer files the number of bytes is shown.
+const MOST_SHOWN: usize = 64;
+
 /// Gives bytes, then an error, then the end, and then bytes again.
 #[derive(Drop)]
 struct Revives {
@@ -78,6 +81,9 @@ fn show_file<S: Shelf>(
     limit: u64,
 ) -> io::Result<()> {
     match shelf.fetch(rt.alloc(), name, limit) {
+        Ok(bytes) if bytes.len() > MOST_SHOWN => {
+            println!(rt; "'{name}' {limit}: {} bytes", bytes.len())
+        }
         Ok(bytes) => println!(rt;
             "'{name}' {limit}: {}",
             str::from_utf8(&bytes).unwrap_or("?")
@@ -108,17 +114,23 @@ pub(crate) fn show<R: Print + AllocGlobal + Files>(rt: &R) -> io::Result<()> {
     }
     fs::write(rt, "file", "one")?;
     fs::write(rt, "file ", "another")?;
+    fs::write(rt, "long", &vec![in rt.alloc(); b'l'; 70_000]?)?;
     let cases = [
         ("file", 3),
         ("file", 2),
         ("file ", 7),
         ("file ", 6),
+        ("long", 70_000),
+        ("long", 69_999),
+        ("long", 65_535),
+        ("long", 3),
         ("no file", 9),
         (".", 9),
     ];
     for (name, limit) in cases {
         show_file(rt, &mut RealShelf::new(rt), name, limit)?;
     }
+    fs::remove_file(rt, "long")?;
     fs::remove_file(rt, "file ")?;
     fs::remove_file(rt, "file")
 }

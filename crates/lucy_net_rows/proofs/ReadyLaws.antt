@@ -4,7 +4,9 @@ use Rattle.std.specs.Prelude.{replicate, slice_get, slice_index}
 use Rattle.std.proofs.lemmas.List.{length-replicate, get_or-replicate, get_or_past}
 use Rattle.std.proofs.lemmas.Bool.{cases_lt}
 use Rattle.std.proofs.lemmas.Option.{slice_get-get_or}
+use Rattle.lucy_word.specs.Bits.{Bits}
 use Rattle.lucy_host.specs.Operators.{Operator}
+use Rattle.lucy_stream.specs.Items.{list_at}
 use Rattle.lucy_place.specs.declared.placed.PlacedNode.{PlacedNode}
 use Rattle.lucy_place.specs.Proper.{HaveOperators}
 use Rattle.lucy_clock.specs.declared.node_clock.NodeClock.{NodeClock}
@@ -14,6 +16,7 @@ use Rattle.lucy_cause.specs.Schedules.{Timetable}
 use Rattle.lucy_core.specs.Seen.{Seen, IsUnbegun, IsOutputOf, done_of, first_seen}
 use Rattle.lucy_meaning.specs.Spots.{main_of, results_in}
 use Rattle.lucy_meaning.specs.Sizes.{all_places}
+use Rattle.lucy_meaning.specs.Horizons.{Suffice, IsHorizon}
 use Rattle.lucy_flat.specs.Flat.{IsFlat}
 use Rattle.lucy_net_rows.specs.Ready.{IsReady}
 
@@ -57,3 +60,11 @@ pub output_there : (nodes : List PlacedNode) (clocks : List NodeClock) (net : Ne
 output_there nodes clocks net flat i l =
     let of = flat.outputs i (get_or (results_in (main_of nodes)) i 0) (slice_get-get_or (results_in (main_of nodes)) i 0 l) in
     (all_places nodes + i, of.actor, record { there = of.there; kind = of.kind })
+
+-- lists whose lengths are counted have the items of the horizon that the counts allow
+pub counted_suffice : (words own : List Bits) (counts held : List ℕ) (lists : List (List ℤ)) (most horizon : ℕ) → words ≡ own → held ≡ counts →
+    ((i : ℕ) → slice_index counts i ≡ length (list_at lists i)) →
+    ((xs : List (List ℤ)) → ((i : ℕ) → slice_index held i ≡ length (list_at xs i)) → IsHorizon words xs most horizon) → Suffice own lists horizon
+counted_suffice words own counts held lists most horizon same e are allow =
+    let counted = subst (λ (ks : List ℕ). (i : ℕ) → slice_index ks i ≡ length (list_at lists i)) (sym e) are in
+    subst (λ ws. Suffice ws lists horizon) same (allow lists counted).suffice

@@ -1,21 +1,25 @@
-// Rows of a runner of a net that is made by hand: its input is put out, by workers on threads. Printed is whether a round of two
-// workers moved anything, and what is put out by 1, 2, 3 and 64 workers, in one piece and in blocks of one instant.
+// Rows of a runner of a net that is made by hand: its input is put out, by workers on threads. Printed is whether in each round two
+// workers are there at the same time, and what is put out by 1, 2, 3 and 64 workers, in one piece and in blocks of one instant.
 ghost use Rattle.std.specs.Prelude.{◌≡◌, ◌+◌, ◌<◌, ◌≤◌, [], IfOk};
 ghost use Rattle.lucy_host.specs.Host.{Serves, lent};
 ghost use Rattle.lucy_core.specs.Seen.{IsOver};
 ghost use Rattle.lucy_net_rows.specs.Echo.{IsAt};
 
 use crate::echo;
+use crate::pair::Pair;
 use crate::show::no_memory;
 use lucy_host::{Host, Ops};
 use lucy_runner::Runner;
 use lucy_word::Word;
-use lucy_worker::OpenGate;
+use lucy_worker::{Gate, OpenGate};
 use std::io;
 use std::thread::Threads;
 
 // What comes in, one item an instant.
 const ITEMS: [i64; 3] = [5, 6, 7];
+
+// Each item is given and taken.
+const EVENTS: u32 = 6;
 
 // Prints what was put out since it was carried away last.
 fn print_output(rt: &impl Print, runner: &Runner, word: &Word, instants: u64) -> io::Result<()>
@@ -28,8 +32,35 @@ fn print_output(rt: &impl Print, runner: &Runner, word: &Word, instants: u64) ->
     println!(rt; "")
 }
 
-// Prints whether one round of two workers moved anything, and what is put out in the end.
-fn print_round<R: Print + AllocGlobal + Threads + Sync, F: Fn(u32, i64, i64) -> i64 + Sync>(
+// Makes rounds until all is done, of which there are no more than events, since each moves something. Answers how many there were.
+fn make_rounds<R: Threads + Sync, F: Fn(u32, i64, i64) -> i64 + Sync, G: Gate + Sync>(
+    rt: &R,
+    host: &Host<F>,
+    word: &Word,
+    runner: &mut Runner,
+    gate: &G,
+    instants: u64,
+) -> u64
+    requires serves { Serves F.pre F.post host.now }
+    requires none { lent host.now ≡ [] }
+    requires at { IsAt word.now instants runner.old.seen }
+    ensures at { IsAt word.now instants runner.new.seen }
+{
+    let _ = (word.lengths(), instants);
+    let mut rounds = 0u64;
+    'rounds: for _ in 0..EVENTS {
+        if runner.finished() {
+            break;
+        }
+        let _ = runner.round(rt, host, gate);
+        rounds = rounds.saturating_add(1);
+    }
+    rounds
+}
+
+// Prints whether each of two workers that wait for each other comes to the gate once a round, whether one looked for the other in
+// vain, and what is put out.
+fn print_rounds<R: Print + AllocGlobal + Threads + Sync, F: Fn(u32, i64, i64) -> i64 + Sync>(
     rt: &R,
     host: &Host<F>,
     word: &Word,
@@ -40,9 +71,13 @@ fn print_round<R: Print + AllocGlobal + Threads + Sync, F: Fn(u32, i64, i64) -> 
     let Ok(mut runner) = echo::runner(rt.alloc(), word, &ITEMS, 2) else {
         return Err(no_memory());
     };
-    let moves = runner.round(rt, host, &OpenGate);
-    println!(rt; "a round moved {}", moves > 0)?;
-    runner.go(rt, host, &OpenGate);
+    let gate = Pair::new();
+    let rounds = make_rounds(rt, host, word, &mut runner, &gate, 3);
+    let once = gate.passes(0) == rounds && gate.passes(1) == rounds;
+    println!(rt;
+        "two workers that wait for each other: each once a round {once}, late {}",
+        gate.is_late()
+    )?;
     print!(rt; "then")?;
     print_output(rt, &runner, word, 3)
 }
@@ -121,7 +156,7 @@ pub(crate) fn print_echoed<R: Print + AllocGlobal + Threads + Sync>(rt: &R) -> i
     };
     let host = Host::new(Ops::new(alloc), |_: u32, a: i64, _: i64| a);
     println!(rt; "= net by hand")?;
-    print_round(rt, &host, &word)?;
+    print_rounds(rt, &host, &word)?;
     for workers in [1, 2, 3, 64] {
         print_run(rt, &host, &word, workers)?;
     }

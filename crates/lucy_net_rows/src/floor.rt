@@ -12,7 +12,7 @@ use crate::programs::SUM;
 use crate::ready::OPTIONS;
 use crate::rounds::{MOST, events_to};
 use crate::show::{counted, no_memory};
-use lucy_execution::{horizon, param_words};
+use lucy_execution::{horizon, lengths, param_words};
 use lucy_front::{Accepted, accept};
 use lucy_host::{Inputs, Ops};
 use std::io;
@@ -40,7 +40,10 @@ fn drive_accepted(
     if words.len() != 1 {
         return Err(no_memory());
     }
-    let instants = horizon(words, inputs, MOST);
+    let Ok(counts) = lengths(rt.alloc(), inputs, words.len()) else {
+        return Err(no_memory());
+    };
+    let instants = horizon(words, &counts, MOST);
     let events = events_to(&accepted.schedule, instants);
     let moves = Moves::new(rt.alloc(), &accepted.net, &accepted.schedule, instants)?;
     let Ok(mut bare) = Bare::new(rt.alloc(), accepted.net.rings.list()) else {

@@ -14,6 +14,7 @@ mod echoed;
 mod floor;
 mod interpreted;
 mod moves;
+mod pair;
 mod programs;
 mod ready;
 mod rounds;

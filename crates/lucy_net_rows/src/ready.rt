@@ -14,7 +14,7 @@ ghost use Rattle.lucy_net_rows.specs.Ready.{IsReady};
 use lucy_cause::Schedule;
 use lucy_clock::NodeClock;
 use lucy_core::Core;
-use lucy_execution::{horizon, nets_can_be_run, param_words};
+use lucy_execution::{horizon, lengths, nets_can_be_run, param_words};
 use lucy_front::{Accepted, Options, accept};
 use lucy_host::{Inputs, Ops, OutOfMemory};
 use lucy_net::Net;
@@ -111,7 +111,10 @@ fn make_ready(
     if words.len() != count {
         return None;
     }
-    let instants = horizon(words, &inputs, most);
+    let Ok(counts) = lengths(alloc, &inputs, words.len()) else {
+        return None;
+    };
+    let instants = horizon(words, &counts, most);
     match core_of(
         alloc, &placed, &clocks, net, schedule, ops, inputs, instants,
     ) {

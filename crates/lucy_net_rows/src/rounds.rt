@@ -10,7 +10,7 @@ use crate::ready::OPTIONS;
 use crate::running::main_node;
 use crate::show::{counted, no_memory, print_list};
 use lucy_cause::Schedule;
-use lucy_execution::{horizon, param_words, run_net};
+use lucy_execution::{horizon, lengths, param_words, run_net};
 use lucy_front::{Accepted, accept};
 use lucy_host::{Host, Inputs};
 use lucy_worker::Gate;
@@ -94,7 +94,10 @@ fn run_accepted<
     if words.len() != 1 {
         return Err(no_memory());
     }
-    let instants = horizon(words, &inputs, MOST);
+    let Ok(counts) = lengths(rt.alloc(), &inputs, words.len()) else {
+        return Err(no_memory());
+    };
+    let instants = horizon(words, &counts, MOST);
     let events = events_to(&schedule, instants);
     let results = main_node(&placed).results.list().len();
     let gate = Rounds {

@@ -1,12 +1,13 @@
-// A gate at which two workers wait for each other, and one that tells who came.
+// A gate at which two workers wait for each other, one that tells who came, and one that holds a worker back.
 use lucy_worker::Gate;
+use std::io;
 use std::sync::atomic::{AtomicU64, Ordering};
 
-// How often a worker looks for the other one: ten million turns of a hundred looks. That is a second or so, since threads may
+// How often a worker looks for another one: ten million turns of a hundred looks. That is a second or so, since threads may
 // begin late where processors are busy.
 const MOST_LOOKS: u64 = 1_000_000_000;
 
-/// It lets a worker pass once the other one has come to it as often, or after so many looks in vain.
+/// It lets a worker pass once the other one has come to it as often, or after so many looks in vain. Then nobody waits any more.
 #[derive(Drop)]
 pub(crate) struct Both {
     first: AtomicU64,
@@ -45,7 +46,9 @@ impl Gate for Both {
     fn pass(&self, worker: u32) {
         let before = self.mark(worker).fetch_add(1, Ordering::SeqCst);
         for _ in 0..MOST_LOOKS {
-            if self.mark(1 - worker.min(1)).load(Ordering::SeqCst) > before {
+            if self.mark(1 - worker.min(1)).load(Ordering::SeqCst) > before
+                || self.late.load(Ordering::SeqCst) > 0
+            {
                 return;
             }
         }
@@ -66,14 +69,57 @@ impl Came {
         }
     }
 
-    /// How many of 64 workers came.
-    pub(crate) fn count(&self) -> u32 {
-        self.workers.load(Ordering::SeqCst).count_ones()
+    /// Prints the numbers of those of 64 workers that came.
+    pub(crate) fn print(&self, rt: &impl Print) -> io::Result<()> {
+        let workers = self.workers.load(Ordering::SeqCst);
+        for worker in 0..64u32 {
+            if workers >> worker & 1 == 1 {
+                print!(rt; " {worker}")?;
+            }
+        }
+        println!(rt;)
     }
 }
 
 impl Gate for Came {
     fn pass(&self, worker: u32) {
         self.workers.fetch_or(1 << (worker % 64), Ordering::SeqCst);
+    }
+}
+
+/// It holds one worker back until the mark is set, or after so many looks in vain.
+#[derive(Drop)]
+pub(crate) struct Held<'a> {
+    held: u32,
+    mark: &'a AtomicU64,
+    late: AtomicU64,
+}
+
+impl<'a> Held<'a> {
+    pub(crate) fn new(held: u32, mark: &'a AtomicU64) -> Held<'a> {
+        Held {
+            held,
+            mark,
+            late: AtomicU64::new(0),
+        }
+    }
+
+    /// Whether it looked in vain.
+    pub(crate) fn is_late(&self) -> bool {
+        self.late.load(Ordering::SeqCst) > 0
+    }
+}
+
+impl<'a> Gate for Held<'a> {
+    fn pass(&self, worker: u32) {
+        if worker != self.held {
+            return;
+        }
+        for _ in 0..MOST_LOOKS / 4 {
+            if self.mark.load(Ordering::SeqCst) > 0 {
+                return;
+            }
+        }
+        self.late.store(1, Ordering::SeqCst);
     }
 }

@@ -1,7 +1,10 @@
-// Runs by workers that come to a gate. Two wait for each other there each time: each of them comes, in three blocks at least three
-// times, and neither looks for the other in vain. So `run` goes by workers on threads that are there at the same time, and by
-// blocks, which no contract says. Of 64 workers five come, since the other 59 have no actor; and where there are no instants
-// nobody comes, since there is no round.
+// Runs by workers that come to a gate. Two wait for each other there each time, and neither looks for the other in vain: so `run` goes
+// by workers on threads that are there at the same time, and by blocks, which no contract says. A worker comes exactly where it has
+// an actor: of 64 workers five, and where there are no instants nobody comes, since there is no round.
+//
+// By hand: a round ends once no actor can move, so a block is one round, in which each worker comes once. An instant has ten
+// operations, 410 instants have 4,100, and 40 blocks of these 40 rounds. Of blocks of one instant the first 16 are rounds, and the
+// later ones are too small for threads.
 ghost use Rattle.lucy_host.specs.Host.{Serves};
 
 use crate::gate::{Both, Came};
@@ -19,21 +22,32 @@ const BY_TWO: &str = "words \"run\" \"p\" \"--workers\" \"2\"";
 
 const BY_BLOCKS: &str = "words \"run\" \"p\" \"--workers\" \"2\" \"--block\" \"1\"";
 
+const BY_LONG_BLOCKS: &str = "words \"run\" \"p\" \"--workers\" \"2\" \"--block\" \"410\"";
+
+const FORTY_LINES: &str = "input 40 * \"x 1\\n\"";
+
+const LONG_INPUT: &str = "input 16400 * \"x 1\\n\"";
+
+const LONG_ROOM: &str = "room 131072";
+
+const BY_THREE: &str = "words \"run\" \"p\" \"--workers\" \"3\"";
+
+const BY_FIVE: &str = "words \"run\" \"p\" \"--workers\" \"5\"";
+
 const BY_64: &str = "words \"run\" \"p\" \"--workers\" \"64\"";
 
 const NO_INSTANTS: &str = "words \"run\" \"p\" \"--instants\" \"0\"";
 
-// The status of a run of the program on these words, whose workers come to the gate.
-fn run<R: AllocGlobal + Threads + Sync, F: Fn(u32, i64, i64) -> i64 + Sync, G: Gate + Sync>(
-    rt: &R,
-    host: &Host<F>,
-    words: &str,
-    gate: &G,
-) -> io::Result<u8>
+/// The status of a run on these lines of a row, whose workers come to the gate.
+pub(crate) fn run<
+    R: AllocGlobal + Threads + Sync,
+    F: Fn(u32, i64, i64) -> i64 + Sync,
+    G: Gate + Sync,
+>(rt: &R, host: &Host<F>, lines: &[&str], gate: &G) -> io::Result<u8>
     requires { Serves F.pre F.post host.now }
 {
     let mut row = Row::new(rt.alloc());
-    for line in [words, PROGRAM, INPUT] {
+    for line in lines {
         if row.take(rt.alloc(), line).is_err() {
             return Err(ErrorKind::InvalidData.into());
         }
@@ -41,24 +55,19 @@ fn run<R: AllocGlobal + Threads + Sync, F: Fn(u32, i64, i64) -> i64 + Sync, G: G
     Ok(row.run(rt, rt.alloc(), gate, host)?.status)
 }
 
-// Two workers that wait for each other, each of which comes at least so often.
+// Two workers that wait for each other: how often each of them comes, and whether one looks in vain.
 fn show_both<F: Fn(u32, i64, i64) -> i64 + Sync>(
     rt: &(impl Print + AllocGlobal + Threads + Sync),
     host: &Host<F>,
-    words: &str,
-    times: u64,
+    lines: &[&str],
 ) -> io::Result<()>
     requires { Serves F.pre F.post host.now }
 {
     let gate = Both::new();
-    let status = run(rt, host, words, &gate)?;
+    let status = run(rt, host, lines, &gate)?;
     let (first, second, late) = gate.marks();
     println!(rt; "status {status}")?;
-    println!(rt;
-        "entered {} {}, late {late}",
-        first.min(times),
-        second.min(times)
-    )
+    println!(rt; "entered {first} {second}, late {late}")
 }
 
 /// Prints what comes of them.
@@ -69,12 +78,15 @@ pub(crate) fn show<F: Fn(u32, i64, i64) -> i64 + Sync>(
     requires { Serves F.pre F.post host.now }
 {
     println!(rt; "= workers that come to a gate")?;
-    show_both(rt, host, BY_TWO, 1)?;
-    show_both(rt, host, BY_BLOCKS, 3)?;
-    for words in [BY_64, NO_INSTANTS] {
+    show_both(rt, host, &[BY_TWO, PROGRAM, INPUT])?;
+    show_both(rt, host, &[BY_BLOCKS, PROGRAM, INPUT])?;
+    show_both(rt, host, &[BY_LONG_BLOCKS, PROGRAM, LONG_INPUT, LONG_ROOM])?;
+    show_both(rt, host, &[BY_BLOCKS, PROGRAM, FORTY_LINES])?;
+    for words in [BY_THREE, BY_FIVE, BY_64, NO_INSTANTS] {
         let gate = Came::new();
-        let status = run(rt, host, words, &gate)?;
-        println!(rt; "status {status}, workers {}", gate.count())?;
+        let status = run(rt, host, &[words, PROGRAM, INPUT], &gate)?;
+        print!(rt; "status {status}, workers")?;
+        gate.print(rt)?;
     }
     Ok(())
 }

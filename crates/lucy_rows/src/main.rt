@@ -6,13 +6,14 @@
 //! A row is printed as `= NAME`, `status N`, `left N` with the number of bytes left in its source, each line of its
 //! output behind `> ` and each line of its faults behind `! `. Behind `>|` or `!|` it is said that the last line has no
 //! end. A line of a list that isn't read is printed behind `? `, with its list and its number. Behind the lists stand runs whose
-//! workers come to a gate.
+//! workers come to a gate, and where actors are at home.
 #![tactic(auto)]
 
 ghost use Rattle.lucy_host.specs.Host.{Serves};
 
 mod gate;
 mod gated;
+mod homes;
 mod piece;
 mod row;
 mod take;
@@ -108,5 +109,6 @@ fn main(rt: HostRuntime) -> io::Result<()> {
             Err(_) => println!(rt; "? {list} 0: not read")?,
         }
     }
-    gated::show(&rt, &host)
+    gated::show(&rt, &host)?;
+    homes::show(&rt)
 }

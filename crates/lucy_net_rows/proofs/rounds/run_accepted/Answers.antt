@@ -4,6 +4,7 @@ use Rattle.lucy_word.specs.Bits.{Bits}
 use Rattle.lucy_meaning.specs.Spots.{main_of}
 use Rattle.lucy_kahn.specs.Turns.{params_in}
 use Rattle.lucy_execution.specs.Streams.{main_word, param_words}
+use Rattle.lucy_net_rows.proofs.ReadyLaws.{counted_suffice}
 use Rattle.lucy_net_rows.proofs.rounds.run_accepted.Goals as goal
 
 pub run_net-streams-requires-clause-inputs : goal.run_net-streams-requires-clause-inputs
@@ -14,3 +15,9 @@ run_net-streams-requires-clause-inputs g c κs within =
     let one : length c.param_words-words.result.now ≡ 1 = omega (arith, c.if-words-ne1.false) in
     let counted : length (param_words nodes clocks) ≡ params_in (main_of nodes) = length-map-range_with_len (main_word nodes clocks) 1 (params_in (main_of nodes)) in
     sym counted ∙ sym (ap (λ (ws : List Bits). length ws) words) ∙ one ∙ sym c.requires.count
+
+pub run_net-streams-requires-clause-suffice : goal.run_net-streams-requires-clause-suffice
+run_net-streams-requires-clause-suffice g c κs within =
+    let clocks = c.deref.ensures.value ∙ sym c.deref-3.ensures.value in
+    let words = c.param_words-words.ensures.words ∙ ap (param_words c.args.accepted.placed.nodes) clocks in
+    counted_suffice _ _ _ _ c.args.inputs _ c.horizon-instants.result words c.deref-2.ensures.value c.in-Ok.ensures.each c.horizon-instants.ensures

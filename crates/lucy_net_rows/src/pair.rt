@@ -1,0 +1,44 @@
+// A gate at which two workers wait for each other.
+use lucy_worker::Gate;
+use std::sync::atomic::{AtomicU64, Ordering};
+
+// How often a worker looks for the other one: ten million turns of a hundred looks, since threads may begin late.
+const MOST_LOOKS: u64 = 1_000_000_000;
+
+/// It lets a worker pass once the other one has come to it as often, or after so many looks in vain. Then nobody waits any more.
+#[derive(Drop)]
+pub(crate) struct Pair {
+    passes: [AtomicU64; 2],
+    late: AtomicU64,
+}
+
+impl Pair {
+    pub(crate) fn new() -> Pair {
+        Pair {
+            passes: [AtomicU64::new(0), AtomicU64::new(0)],
+            late: AtomicU64::new(0),
+        }
+    }
+
+    /// How often the worker of this number, 0 or else 1, came.
+    pub(crate) fn passes(&self, worker: u32) -> u64 {
+        self.passes[worker.min(1) as usize].load(Ordering::SeqCst)
+    }
+
+    /// Whether one looked in vain.
+    pub(crate) fn is_late(&self) -> bool {
+        self.late.load(Ordering::SeqCst) > 0
+    }
+}
+
+impl Gate for Pair {
+    fn pass(&self, worker: u32) {
+        let before = self.passes[worker.min(1) as usize].fetch_add(1, Ordering::SeqCst);
+        for _ in 0..MOST_LOOKS {
+            if self.passes(1 - worker.min(1)) > before || self.is_late() {
+                return;
+            }
+        }
+        self.late.store(1, Ordering::SeqCst);
+    }
+}
