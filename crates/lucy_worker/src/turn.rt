@@ -1,5 +1,5 @@
-// A pass over the actors of one thread, and when a turn makes another.
-ghost use Rattle.std.specs.Prelude.{◌↔◌, ◌<◌, All, IsTrue, length};
+// A pass over the actors of one thread.
+ghost use Rattle.std.specs.Prelude.{◌↔◌, All, IsTrue, length};
 ghost use Rattle.lucy_host.specs.Host.{Serves, lent};
 ghost use Rattle.lucy_host.specs.Operators.{kinds_of};
 ghost use Rattle.lucy_worker.specs.Parts.{IsDone};
@@ -8,17 +8,6 @@ ghost use Rattle.lucy_worker.specs.Readiness.{AreReady, HaveTurned};
 
 use crate::part::Part;
 use lucy_host::Host;
-
-// A pass that made fewer moves than this for each of its parts was mostly in vain: a part that could move mostly takes and gives.
-const MOVES_OF_LOOK: u64 = 1;
-
-// Whether a turn makes another pass behind one of so many moves over so many parts: not where that moved nothing, nor where it was mostly
-// in vain, so that the rest is left to the route. No more is claimed of it.
-pub(crate) fn goes_on(moves: u64, parts: u64) -> bool
-    ensures { IsTrue result → 0 < moves }
-{
-    moves > 0 && moves >= parts.saturating_mul(MOVES_OF_LOOK)
-}
 
 // All possible moves of each part, from the first part to the last or, if `back`, from the last to the first; how many they are.
 pub(crate) fn pass<F: Fn(u32, i64, i64) -> i64 + Sync>(

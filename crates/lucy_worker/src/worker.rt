@@ -13,7 +13,7 @@ use crate::gate::{Gate, Passages};
 use crate::heading::Heading;
 use crate::part::Part;
 use crate::place::EndPlace;
-use crate::turn::{all_done, goes_on, pass, pass_on};
+use crate::turn::{all_done, pass, pass_on};
 use crate::within::meet_within;
 use lucy_host::Host;
 use lucy_ring::meet;
@@ -57,9 +57,8 @@ impl Worker {
         self.parts.as_slice()
     }
 
-    /// Passes the gate once, and then goes over the actors again and again and moves each as long as it can, until a pass moves nothing or
-    /// finds little to move; then no one can move on what its ends know. Answers the number of moves. It takes no memory, and returns
-    /// if the gate does.
+    /// Passes the gate once, and then goes over the actors again and again and moves each as long as it can, until a pass moves nothing.
+    /// Answers the number of moves. It takes no memory, and returns if the gate does.
     pub fn advance<F: Fn(u32, i64, i64) -> i64 + Sync, G: Gate + Sync>(
         &mut self,
         host: &Host<F>,
@@ -77,7 +76,7 @@ impl Worker {
         let mut heading = Heading::first();
         let mut found = pass(parts, host, heading.back);
         let mut moves = found;
-        while goes_on(found, parts.len() as u64) {
+        while found > 0 {
             heading = heading.after(found);
             found = pass(parts, host, heading.back);
             moves += found;
