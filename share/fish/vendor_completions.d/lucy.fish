@@ -1,0 +1,16 @@
+# Completion of the words of lucy for fish.
+complete -c lucy -f
+complete -c lucy -n __fish_use_subcommand -a order -d 'judge two words'
+complete -c lucy -n __fish_use_subcommand -a show -d 'print a program'
+complete -c lucy -n __fish_use_subcommand -a types -d 'print data types'
+complete -c lucy -n __fish_use_subcommand -a check -d 'check written clocks'
+complete -c lucy -n __fish_use_subcommand -a clocks -d 'find clocks and buffer sizes'
+complete -c lucy -n __fish_use_subcommand -a run -d 'run a program'
+complete -c lucy -n __fish_use_subcommand -a kahn -d 'run by the plain interpreter'
+complete -c lucy -n __fish_use_subcommand -a make -d 'run a generated program'
+complete -c lucy -n '__fish_seen_subcommand_from show types check clocks run kahn' -k -a '(__fish_complete_suffix .lucy)'
+complete -c lucy -n '__fish_seen_subcommand_from clocks run kahn' -l scale -x -d 'periods as one'
+complete -c lucy -n '__fish_seen_subcommand_from clocks run kahn' -l lead -x -d 'free periods'
+complete -c lucy -n '__fish_seen_subcommand_from run kahn' -l instants -x -d 'at most so many'
+complete -c lucy -n '__fish_seen_subcommand_from run make' -l workers -x -d 'threads'
+complete -c lucy -n '__fish_seen_subcommand_from run make' -l block -x -d 'instants between two writes'
