@@ -1,0 +1,2 @@
+-- What callers believe.
+pub mod Logs
