@@ -43,8 +43,10 @@ pub fn check(alloc: Global, needs: &Needs, words: &[Word]) -> Result<Vec<u64>, C
 {
     let list = needs.list.list();
     let mut sizes = Vec::new(alloc);
+    let mut kept = None;
     'each: for (i, need) in list.iter().enumerate() {
-        let size = check_need(alloc, i as u32, need, words)?;
+        let (size, next) = check_need(alloc, i as u32, need, words, kept)?;
+        kept = next;
         put(&mut sizes, size)?;
     }
     Ok(sizes)

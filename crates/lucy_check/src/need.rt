@@ -1,11 +1,11 @@
 // One need: the words of its terms, and how they stand to each other.
 ghost use Rattle.std.specs.Prelude.{◌≡◌, ◌⊎◌, ◌<◌, ◌≤◌, length, IsTrue, IfOk, IfErr};
 ghost use Rattle.lucy_word.specs.declared.limit.Limit.TheVariants as lim;
-ghost use Rattle.lucy_need.specs.Meeting.{assigned, IsTermWord, IsWithin};
+ghost use Rattle.lucy_need.specs.Meeting.{Assignment, assigned, IsTermWord, IsWithin};
 ghost use Rattle.lucy_word.specs.Always.{always};
 ghost use Rattle.lucy_word.specs.Stored.{IsStored};
 ghost use Rattle.lucy_check.specs.Passing.{AreWithinLimits, OrNoMemory, PassesWord, PassesLimit, Passes, Refuses, IsTermPassing};
-ghost use Rattle.lucy_check.specs.Lent.{seen};
+ghost use Rattle.lucy_check.specs.Lent.{seen, IsKept};
 ghost use Rattle.lucy_check.specs.declared.fault.CheckFault.TheVariants as fault;
 
 use crate::fault::CheckFault;
@@ -71,6 +71,51 @@ fn word_of<'w>(
     }
 }
 
+// The word that was made for a term of a need, kept for needs after it.
+#[derive(Drop)]
+pub(crate) struct Kept<'w> {
+    term: &'w Term,
+    word: Word,
+}
+
+// Whether two terms are the same clock on the same word.
+fn is_same(first: &Term, second: &Term) -> bool
+    ensures { IsTrue result → first.now ≡ second.now }
+{
+    first.clock == second.clock && first.word.same(&second.word)
+}
+
+// The word of a term of the need, or the kept one where that is the word of the same term.
+fn word_again<'w>(
+    alloc: Global,
+    need: u32,
+    term: &'w Term,
+    words: &'w [Word],
+    kept: Option<Kept<'w>>,
+) -> Result<Sampled<'w>, CheckFault>
+    requires clock { term.now.clock < length words.now }
+    requires kept { IsKept (assigned words.now) kept }
+    ensures ok { IfOk result (λ w. IsTermPassing (assigned words.now) term.now (seen w)) }
+    ensures refused { IfErr result (OrNoMemory (PassesWord (assigned words.now) term.now need)) }
+{
+    if let Some(Kept { term: other, word }) = kept {
+        if is_same(other, term) {
+            return Ok(Sampled::Made(word));
+        }
+    }
+    word_of(alloc, need, term, words)
+}
+
+// What is kept of the word of a term: one that was made.
+fn kept_of<'w>(term: &'w Term, word: Sampled<'w>) -> Option<Kept<'w>>
+    ensures { (w : Assignment) → IsTermPassing w term.now (seen word.entry) → IsKept w result }
+{
+    match word {
+        Sampled::Lent(_) => None,
+        Sampled::Made(word) => Some(Kept { term, word }),
+    }
+}
+
 // The words of both terms of the need, where no limit is passed.
 fn words_within<'w>(
     alloc: Global,
@@ -78,14 +123,16 @@ fn words_within<'w>(
     first: &'w Term,
     second: &'w Term,
     words: &'w [Word],
+    kept: Option<Kept<'w>>,
 ) -> Result<(Sampled<'w>, Sampled<'w>), CheckFault>
     requires first { first.now.clock < length words.now }
     requires second { second.now.clock < length words.now }
+    requires kept { IsKept (assigned words.now) kept }
     ensures ok { IfOk result (λ p. AreWithinLimits (assigned words.now) first.now second.now (seen p.0) (seen p.1)) }
     ensures refused { IfErr result (OrNoMemory (PassesLimit (assigned words.now) first.now second.now need)) }
 {
     let a = word_of(alloc, need, first, words)?;
-    let b = word_of(alloc, need, second, words)?;
+    let b = word_again(alloc, need, second, words, kept)?;
     if horizon_of(a.word(), b.word()) > Limit::Compare.number() {
         return Err(CheckFault::Limit {
             need,
@@ -95,22 +142,26 @@ fn words_within<'w>(
     Ok((a, b))
 }
 
-/// Checks the need of a number: the size of the buffer, where it is one of a buffer.
-pub(crate) fn check_need(
+/// Checks the need of a number: the size of the buffer, where it is one of a buffer, and what is kept of the word of its second
+/// term for the next need. Needs that name the same clock on the same word one after the other share it.
+pub(crate) fn check_need<'w>(
     alloc: Global,
     number: u32,
-    need: &Need,
-    words: &[Word],
-) -> Result<Option<u64>, CheckFault>
-    requires { IsWithin (length words.now) need.now }
-    ensures ok { IfOk result (Passes (assigned words.now) need.now) }
+    need: &'w Need,
+    words: &'w [Word],
+    kept: Option<Kept<'w>>,
+) -> Result<(Option<u64>, Option<Kept<'w>>), CheckFault>
+    requires within { IsWithin (length words.now) need.now }
+    requires kept { IsKept (assigned words.now) kept }
+    ensures ok { IfOk result (λ p. Passes (assigned words.now) need.now p.0) }
+    ensures kept { IfOk result (λ p. IsKept (assigned words.now) p.1) }
     ensures refused { IfErr result (OrNoMemory (Refuses (assigned words.now) number need.now)) }
 {
     match need {
         Need::Equal(first, second) => {
-            let (a, b) = words_within(alloc, number, first, second, words)?;
+            let (a, b) = words_within(alloc, number, first, second, words, kept)?;
             match first_difference(a.word(), b.word()) {
-                None => Ok(None),
+                None => Ok((None, kept_of(second, b))),
                 Some(instant) => Err(CheckFault::Differs {
                     need: number,
                     instant,
@@ -118,9 +169,9 @@ pub(crate) fn check_need(
             }
         }
         Need::Adapt(first, second) => {
-            let (a, b) = words_within(alloc, number, first, second, words)?;
+            let (a, b) = words_within(alloc, number, first, second, words, kept)?;
             match adapt(a.word(), b.word()) {
-                Verdict::Adaptable(size) => Ok(Some(size)),
+                Verdict::Adaptable(size) => Ok((Some(size), kept_of(second, b))),
                 Verdict::Rates => Err(CheckFault::Rates { need: number }),
                 Verdict::Late(instant) => Err(CheckFault::Late {
                     need: number,
