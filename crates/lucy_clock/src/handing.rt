@@ -1,7 +1,8 @@
 // What a place hands down to an operand.
-ghost use Rattle.std.specs.Prelude.{ℕ, ◌≡◌, ◌⊎◌, ◌<◌, not, true, Some, length, slice_get, IfOk, IfErr, OnOk};
+ghost use Rattle.std.specs.Prelude.{ℕ, ◌≡◌, ◌⊎◌, ◌↔◌, ◌+◌, ◌<◌, not, true, Some, length, slice_get, IsTrue, IfOk, IfErr, OnOk};
 ghost use Rattle.lucy_tree.specs.Shaped.{HasZero};
 ghost use Rattle.lucy_word.specs.Stored.{IsStored};
+ghost use Rattle.lucy_word.specs.Bits.{most_bits};
 ghost use Rattle.lucy_word.specs.Sampling.{IsOn, IsOnTooLong};
 ghost use Rattle.lucy_word.specs.declared.limit.Limit.TheVariants as lim;
 ghost use Rattle.lucy_place.specs.Numbering.{sampling_word};
@@ -14,7 +15,7 @@ ghost use Rattle.lucy_clock.specs.Reading.{IsAmong, HasTurned};
 use crate::error::ClockError;
 use crate::own_words::{copied, turned};
 use lucy_place::PlaceKind;
-use lucy_word::{Limit, Word, WordError, on};
+use lucy_word::{Limit, Word, WordError, lcm, on};
 use std::alloc::Global;
 
 // A clock on a word.
@@ -65,24 +66,47 @@ pub(crate) fn handed(
     }
 }
 
-// One of the words that a merge hands down is made, to see that it isn't too long: the other is computed with as many bits.
-fn test_merge(alloc: Global, word: &Word, own: &Word) -> Result<(), ClockError>
+// Whether a prefix and a period of these lengths are together too long.
+fn is_past(prefix: u64, period: u64) -> bool
+    ensures { IsTrue result ↔ (most_bits < prefix + period) }
+{
+    let most = Limit::Word.number();
+    prefix > most || period > most - prefix
+}
+
+// Whether a clock on a word is computed with too many bits, which is known before any is made.
+fn is_too_long(own: &Word, word: &Word) -> bool
+    ensures { IsTrue result ↔ IsOnTooLong own.now word.now }
+{
+    let (prefix, _) = own.lengths();
+    let (read, period) = word.lengths();
+    let (ones, turn) = own.rate();
+    match own.index(read) {
+        None => true,
+        Some(place) => is_past(prefix.max(place), lcm(ones, period) / ones * turn),
+    }
+}
+
+// What a merge hands down to one operand is computed with as many bits as what it hands down to the other.
+fn test_merge(word: &Word, own: &Word) -> Result<(), ClockError>
     ensures first { OnOk result (IsOnTooLong own.now word.now → ⊥) }
     ensures second { OnOk result (IsOnTooLong own.now (turned word.now) → ⊥) }
-    ensures refused { IfErr result (λ e. (e ≡ err.OutOfMemory) ⊎ ((e ≡ err.Limit lim.Word) × (IsOnTooLong own.now word.now ⊎ IsOnTooLong own.now (turned word.now)))) }
+    ensures refused { IfErr result (λ e. (e ≡ err.Limit lim.Word) × (IsOnTooLong own.now word.now ⊎ IsOnTooLong own.now (turned word.now))) }
 {
-    sampled(alloc, own, word)?;
+    if is_too_long(own, word) {
+        return Err(ClockError::Limit(Limit::Word));
+    }
     Ok(())
 }
 
 /// Tests that what a place of a kind hands down, with its own word, isn't too long. An operand may be a name that has a word
 /// of its own: what would be handed down to it is looked at all the same.
-pub(crate) fn test_handed(alloc: Global, kind: &PlaceKind, own: &Word) -> Result<(), ClockError>
+pub(crate) fn test_handed(kind: &PlaceKind, own: &Word) -> Result<(), ClockError>
     ensures ok { OnOk result (HandsTooLong kind.now own.now → ⊥) }
-    ensures refused { IfErr result (λ e. (e ≡ err.OutOfMemory) ⊎ ((e ≡ err.Limit lim.Word) × HandsTooLong kind.now own.now)) }
+    ensures refused { IfErr result (λ e. (e ≡ err.Limit lim.Word) × HandsTooLong kind.now own.now) }
 {
     match kind {
-        PlaceKind::Merge(word, _, _) => test_merge(alloc, word, own),
+        PlaceKind::Merge(word, _, _) => test_merge(word, own),
         _ => Ok(()),
     }
 }

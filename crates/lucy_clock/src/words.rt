@@ -73,12 +73,12 @@ fn next_word(
 }
 
 // Tests that what a place hands down, with its own word, isn't too long.
-fn test_place(alloc: Global, node: &PlacedNode, place: u32, own: &Word) -> Result<(), ClockError>
+fn test_place(node: &PlacedNode, place: u32, own: &Word) -> Result<(), ClockError>
     requires { (1 ≤ place) × (place ≤ length node.now.places) }
     ensures ok { OnOk result (NextHandsTooLong node.now place own.now → ⊥) }
-    ensures refused { IfErr result (λ e. (e ≡ err.OutOfMemory) ⊎ ((e ≡ err.Limit lim.Word) × NextHandsTooLong node.now place own.now)) }
+    ensures refused { IfErr result (λ e. (e ≡ err.Limit lim.Word) × NextHandsTooLong node.now place own.now) }
 {
-    test_handed(alloc, &node.places.list()[place as usize - 1].kind, own)
+    test_handed(&node.places.list()[place as usize - 1].kind, own)
 }
 
 /// The words of the base and of the places.
@@ -102,7 +102,7 @@ pub(crate) fn place_words(
     let count = node.places.list().len();
     'each: for i in 0..count {
         let word = next_word(alloc, node, readers, &words, i as u32 + 1)?;
-        test_place(alloc, node, i as u32 + 1, &word)?;
+        test_place(node, i as u32 + 1, &word)?;
         push(&mut words, word)?;
     }
     Ok(words)

@@ -1,5 +1,5 @@
 use Rattle.std.proofs.Common.{◌≡◌, sym, subst, inl, inr}
-use Rattle.std.specs.Prelude.{IfErr, OnOk, ◌⊎◌}
+use Rattle.std.specs.Prelude.{IfErr, OnOk}
 use Rattle.lucy_word.specs.declared.limit.Limit.TheVariants as lim
 use Rattle.lucy_place.specs.declared.entry.PlaceKind.{PlaceKind}
 use Rattle.lucy_clock.specs.declared.error.ClockError.TheVariants as err
@@ -14,4 +14,4 @@ returns-in-Merge-clause-ok c =
 
 pub returns-in-Merge-clause-refused : goal.returns-in-Merge-clause-refused
 returns-in-Merge-clause-refused c =
-    subst (λ (kind : PlaceKind). IfErr c.test_merge.result (λ e. (e ≡ err.OutOfMemory) ⊎ ((e ≡ err.Limit lim.Word) × HandsTooLong kind c.args.own.now))) (sym c.in-Merge.is) c.test_merge.ensures.refused
+    subst (λ (kind : PlaceKind). IfErr c.test_merge.result (λ e. (e ≡ err.Limit lim.Word) × HandsTooLong kind c.args.own.now)) (sym c.in-Merge.is) c.test_merge.ensures.refused

@@ -19,16 +19,13 @@ returns-in_err-word-clause-refused c =
 
 pub returns-in_err-test_place-clause-refused : goal.returns-in_err-test_place-clause-refused
 returns-in_err-test_place-clause-refused c =
-    leaves (λ e. (e ≡ err.OutOfMemory) ⊎ ((e ≡ err.Limit lim.Word) × NextHandsTooLong c.args.node.now (c.each.i + 1) c.in_ok-word.word)) _ _
+    leaves (λ e. (e ≡ err.Limit lim.Word) × NextHandsTooLong c.args.node.now (c.each.i + 1) c.in_ok-word.word) _ _
     c.from_residual-in_err-test_place.result c.from_residual-in_err-test_place.ensures.1 c.in_err-test_place.ensures.refused
-    (λ y h. elim h [
-      | inl none ↦ inl none
-      | inr long ↦ inr (
-        long.0,
-        last_long c.args.node.now c.requires.once c.each.i c.each.words.items (c.each.words.items ++ c.in_ok-word.word ∷ []) c.in_ok-word.word c.each.invariant
-            (subst (λ ws. IsNextWord c.args.node.now (c.each.i + 1) (assigned ws) c.in_ok-word.word) c.deref.ensures.value c.in_ok-word.ensures.ok) refl long.1,
-      )
-    ])
+    (λ y long. inr (
+      long.0,
+      last_long c.args.node.now c.requires.once c.each.i c.each.words.items (c.each.words.items ++ c.in_ok-word.word ∷ []) c.in_ok-word.word c.each.invariant
+          (subst (λ ws. IsNextWord c.args.node.now (c.each.i + 1) (assigned ws) c.in_ok-word.word) c.deref.ensures.value c.in_ok-word.ensures.ok) refl long.1,
+    ))
 
 pub each-preserved : goal.each-preserved
 each-preserved c =

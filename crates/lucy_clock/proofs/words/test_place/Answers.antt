@@ -1,4 +1,4 @@
-use Rattle.std.proofs.Common.{sym, ◌∙◌, subst, inl, inr}
+use Rattle.std.proofs.Common.{sym, ◌∙◌, subst}
 use Rattle.std.proofs.lemmas.Option.{same_Some}
 use Rattle.std.proofs.lemmas.Result.{IfErr-weaker, on_ok_weaker}
 use Rattle.lucy_place.specs.declared.entry.PlaceEntry.{PlaceEntry}
@@ -17,8 +17,5 @@ pub returns-clause-refused : goal.returns-clause-refused
 returns-clause-refused c =
     let here = one_at c.list.result.now c.args.node.now.places c.args.place c.index-list-place.result c.list.ensures c.requires.0 c.requires.1 c.index-list-place.is in
     IfErr-weaker c.test_handed.result _ _
-    (λ e h. elim h [
-      | inl none ↦ inl none
-      | inr long ↦ inr (long.0, (_, here, long.1))
-    ])
+    (λ e long. (long.0, (_, here, long.1)))
     c.test_handed.ensures.refused
