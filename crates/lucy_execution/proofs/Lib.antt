@@ -5,4 +5,7 @@ pub mod ClockLaws
 pub mod OutputLaws
 pub mod InputLaws
 pub mod LaterLaws
+pub mod WholeLaws
+mod TaskLaws
+mod EnoughLaws
 mod PlayLaws

@@ -184,7 +184,7 @@ module _ (nodes : List PlacedNode) (clocks : List NodeClock) (proper : AreProper
     }
 
     -- the ring from which the output of a result takes comes from its place
-    first_from : (f : ℕ → ℕ) (xs : List ℕ) (x : ℕ) → map f xs ≡ x ∷ [] → f (slice_index_or xs 0 0) ≡ x
+    pub first_from : (f : ℕ → ℕ) (xs : List ℕ) (x : ℕ) → map f xs ≡ x ∷ [] → f (slice_index_or xs 0 0) ≡ x
     first_from f [] x e = absurd (cc e)
     first_from f (y ∷ ys) x e = cc
 
@@ -213,37 +213,3 @@ module _ (nodes : List PlacedNode) (clocks : List NodeClock) (proper : AreProper
         ap (λ k. take k (kahn_list kinds inputs (plan net t) (all_places nodes * t) (first_ring of.actor))) (main_counts nodes clocks place t of.actor.firing of.firing)
         ∙ ap (take (ones_to (main_word nodes clocks place) t)) (ring_iterates kinds inputs t (all_places nodes * t) i place e)
         ∙ ap (λ n. take (ones_to (main_word nodes clocks place) t) (kahn kinds inputs nodes n (at [] place))) (turns_are t)
-
-    -- the ring has the items that the output takes
-    pub enough : (kinds : List HostKind) (inputs : List (List ℤ)) (t : ℕ) (order : List ℕ) → Suffice (param_words nodes clocks) inputs t → IsWhole (net_system net t) order →
-        (i place : ℕ) (e : slice_get (results_in (main_of nodes)) i ≡ Some place) →
-        ones_to (main_word nodes clocks place) t ≤ length (kahn kinds inputs nodes (t * all_places nodes) (at [] place))
-    unfolding net_system
-    enough kinds inputs t order suffice whole i place e =
-        let of = flat.outputs i place e in
-        let a : ℕ = all_places nodes + i in
-        let r : ℕ = first_ring of.actor in
-        let is_proper = flat.proper.actors a of.actor of.there in
-        let same : form_of of.actor.kind ≡ Same = ap form_of of.kind in
-        let one : operands (form_of of.actor.kind) ≡ 1 = ap operands same in
-        let takes_one : 0 < length of.actor.takes = omega (arith, is_proper.arity, one) in
-        let within : r < length net.rings = All-get_or (λ q. q < length net.rings) of.actor.takes 0 0 takes_one (takes_there net a of.actor is_proper) in
-        let ring = there net.rings r within in
-        let is_ring : IsProperRing net r ring.0 = flat.proper.rings r ring.0 ring.1 in
-        let to : ring.0.to ≡ a = sym (to_here net r ring.0 ring.1) ∙ All-get_or (λ q. (link_at (plan net t) q).to ≡ a) of.actor.takes 0 0 takes_one (plugged net t flat.proper a (task_of t of.actor) (task_at net t a of.actor of.there)).takes in
-        let taker : is_ring.taker ≡ of.actor = same_Some is_ring.taker of.actor (sym is_ring.takes_here ∙ ap (slice_get net.actors) to ∙ of.there) in
-        let read : IsReadWord (form_of of.actor.kind) of.actor.firing 0 ring.0.read =
-        subst (λ (x : Actor). IsReadWord (form_of x.kind) x.firing 0 ring.0.read) taker
-        (is_ring.read 0 (omega (arith, takes_one, ap (λ (x : Actor). length x.takes) taker)) (ap (λ (x : Actor). slice_index_or x.takes 0 0) taker)) in
-        let reads : ones_to of.actor.firing t ≡ ones_to ring.0.read t = ap (λ f. took_in f (ones_to of.actor.firing t) 0) (sym same) ∙ read_counts (form_of of.actor.kind) of.actor.firing ring.0.read 0 t read in
-        let writes : gave_in (form_of is_ring.giver.kind) (ones_to is_ring.giver.firing t) ≡ ones_to ring.0.write t = write_counts (form_of is_ring.giver.kind) is_ring.giver.firing ring.0.write t is_ring.write in
-        let leads : ones_to ring.0.read t ≤ ones_to ring.0.write t = is_ring.adaptable.1 t in
-        let from : giver net r ≡ ring.0.from = from_here net r ring.0 ring.1 in
-        let task = ap (slice_get (plan net t).tasks) from ∙ task_at net t ring.0.from is_ring.giver is_ring.gives_here in
-        let once = given_times net r ring.0.from ring.0 is_ring.giver (flat.proper.actors ring.0.from is_ring.giver is_ring.gives_here) ring.1 refl in
-        let long : gave_in (form_of is_ring.giver.kind) (ones_to is_ring.giver.firing t) ≤ length (kahn_list kinds inputs (plan net t) (all_places nodes * t) r) =
-        (kahn_whole kinds inputs (plan net t) (all_places nodes) t order (runnable inputs t suffice) whole r (task_of t is_ring.giver) task once).1 in
-        let list : length (kahn_list kinds inputs (plan net t) (all_places nodes * t) r) ≡ length (kahn kinds inputs nodes (t * all_places nodes) (at [] place)) =
-        ap length (ring_iterates kinds inputs t (all_places nodes * t) i place e) ∙ ap (λ n. length (kahn kinds inputs nodes n (at [] place))) (turns_are t) in
-        let counts : ones_to of.actor.firing t ≡ ones_to (main_word nodes clocks place) t = main_counts nodes clocks place t of.actor.firing of.firing in
-        omega (arith, reads, writes, leads, long, list, counts)

@@ -30,7 +30,8 @@ use Rattle.lucy_flat.specs.Flat.{IsFlat}
 use Rattle.lucy_flat.proofs.FlatLaws.{main_spot}
 use Rattle.lucy_execution.specs.Streams.{main_word, param_words, result_words, main_stream, main_streams, cut_to, cut_inputs}
 use Rattle.lucy_execution.specs.Running.{HasSchedule}
-use Rattle.lucy_execution.proofs.NetLaws.{enough, output_stream}
+use Rattle.lucy_execution.proofs.NetLaws.{output_stream}
+use Rattle.lucy_execution.proofs.WholeLaws.{enough}
 
 -- a list that is cut
 pub cut_at : (t : ℕ) (words : List Bits) (lists : List (List ℤ)) (i : ℕ) (word : Bits) → length words ≡ length lists → slice_get words i ≡ Some word → list_at (cut_to t words lists) i ≡ take (ones_to word t) (list_at lists i)

@@ -1,7 +1,7 @@
 // What holds of the output streams of every program whose flat net has a sound schedule. The bodies are empty: the contracts
 // are laws.
 ghost use Rattle.std.specs.Prelude.{ℕ, ◌≡◌, ◌≤◌, List, [], ℤ, Some, length, map, take, slice_get};
-ghost use Rattle.lucy_word.specs.Bits.{ones_to};
+ghost use Rattle.lucy_word.specs.Bits.{Bits, ones_to};
 ghost use Rattle.lucy_word.specs.Limits.{limit_number};
 ghost use Rattle.lucy_word.specs.declared.limit.Limit.TheVariants as limit;
 ghost use Rattle.lucy_host.specs.declared.kind.HostKind.{HostKind};
@@ -16,11 +16,13 @@ ghost use Rattle.lucy_net.specs.Plans.{plan};
 ghost use Rattle.lucy_net.specs.Schedules.{IsSound};
 ghost use Rattle.lucy_cause.specs.Schedules.{Timetable, events_at};
 ghost use Rattle.lucy_core.specs.Seen.{Seen, IsFixed, IsOutputOf, first_ring, stream_of};
-ghost use Rattle.lucy_meaning.specs.Spots.{at, main_of, results_in};
+ghost use Rattle.lucy_meaning.specs.Spots.{Spot, at, main_of, IsSpot, results_in};
 ghost use Rattle.lucy_meaning.specs.Sizes.{all_places};
 ghost use Rattle.lucy_meaning.specs.Horizons.{Suffice};
 ghost use Rattle.lucy_meaning.specs.Kahn.{kahn};
 ghost use Rattle.lucy_kahn.specs.Turns.{params_in};
+ghost use Rattle.lucy_flat.specs.Clocked.{AreClocked};
+ghost use Rattle.lucy_flat.specs.Instances.{IsSpotWord};
 ghost use Rattle.lucy_flat.specs.Flat.{IsFlat};
 ghost use Rattle.lucy_stream.specs.Fronts.{AreFronts};
 ghost use Rattle.lucy_execution.specs.Streams.{main_word, param_words, result_words, main_streams, cut_to, cut_inputs};
@@ -36,7 +38,19 @@ pub fn nets_can_be_run()
     ensures givers { (nodes : List Node) (clocks : List Clock) (net : Flat) (instants : ℕ) → AreProper nodes → IsFlat nodes clocks net → GiveBelow (plan net instants) (all_places nodes) }
 {}
 
-/// Each output stream has as many items as its word has ones up to the horizon.
+/// Each place of the program with its calls written out has a word, and in the iterate of the horizon at least as many items as the
+/// word has ones up to there, also where nothing reads the place.
+pub fn places_are_whole()
+    ensures words { (nodes : List Node) (clocks : List Clock) (spot : Spot) →
+        AreProper nodes → AreClocked nodes clocks → HasSchedule nodes clocks → IsSpot nodes spot →
+        (word : Bits) × IsSpotWord nodes clocks spot word }
+    ensures whole { (kinds : List HostKind) (inputs : List (List ℤ)) (nodes : List Node) (clocks : List Clock) (spot : Spot) (word : Bits) (instants : ℕ) →
+        AreProper nodes → AreClocked nodes clocks → HasSchedule nodes clocks → Suffice (param_words nodes clocks) inputs instants →
+        IsSpot nodes spot → IsSpotWord nodes clocks spot word →
+        ones_to word instants ≤ length (kahn kinds inputs nodes (turns_of nodes instants) spot) }
+{}
+
+/// So each output stream has as many items as its word has ones up to the horizon.
 pub fn streams_are_whole()
     ensures { (kinds : List HostKind) (inputs : List (List ℤ)) (nodes : List Node) (clocks : List Clock) (instants : ℕ) →
         AreProper nodes → HasSchedule nodes clocks → Suffice (param_words nodes clocks) inputs instants →

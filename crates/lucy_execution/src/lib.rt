@@ -18,8 +18,8 @@ pub use clocks::{param_words, result_word};
 pub use instants::{allows_more, horizon};
 pub use interpreting::interpret;
 pub use laws::{
-    nets_can_be_run, streams_agree, streams_are_whole, streams_go_on, streams_need_no_more,
-    two_ways_agree,
+    nets_can_be_run, places_are_whole, streams_agree, streams_are_whole, streams_go_on,
+    streams_need_no_more, two_ways_agree,
 };
 pub use lists::lengths;
 pub use player::Player;
