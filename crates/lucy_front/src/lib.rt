@@ -4,7 +4,7 @@
 //! It stands on all phases: `lucy_syntax`, `lucy_place`, `lucy_types`, `lucy_clock`, `lucy_check`, `lucy_inference`, `lucy_flat`
 //! and `lucy_cause`. Begin with `accept` in `accepting.rt` and with `specs/Inferring.antt`, `specs/Clocked.antt`,
 //! `specs/Scheduled.antt` and `specs/Accepting.antt`; that a text has one answer stands in `specs/OneAnswer.antt`, with the laws
-//! of `laws.rt`.
+//! of `laws.rt`, and `laws_accepted.rt` has what holds of every accepted program.
 #![tactic(auto)]
 
 mod accepted;
@@ -14,6 +14,7 @@ mod evidence;
 mod fault;
 mod items;
 mod laws;
+mod laws_accepted;
 mod names;
 mod options;
 mod printing;
@@ -27,6 +28,7 @@ pub use accepted::Accepted;
 pub use accepting::accept;
 pub use fault::NodeFault;
 pub use laws::{texts_have_one_answer, texts_have_one_program, texts_have_one_refusal};
+pub use laws_accepted::accepted_programs_are_clocked;
 pub use names::node_line;
 pub use options::Options;
 pub use printing::{report, type_name};

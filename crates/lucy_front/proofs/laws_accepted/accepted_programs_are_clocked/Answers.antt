@@ -1,0 +1,17 @@
+use Rattle.lucy_front.proofs.BoundedLaws.{bounded}
+use Rattle.lucy_front.proofs.OneAnswer.{text_proper}
+use Rattle.lucy_front.proofs.ScheduledLaws.{clocked}
+use Rattle.lucy_front.proofs.TellableLaws.{reportable}
+use Rattle.lucy_front.proofs.laws_accepted.accepted_programs_are_clocked.Goals as goal
+
+pub returns-clause-proper : goal.returns-clause-proper
+returns-clause-proper c = λ ops o text a is. text_proper ops o text a.placed is.clocked.program.program
+
+pub returns-clause-clocked : goal.returns-clause-clocked
+returns-clause-clocked c = λ ops o text a is. clocked a.placed.nodes a.clocks.items is.clocked.clocks
+
+pub returns-clause-reportable : goal.returns-clause-reportable
+returns-clause-reportable c = λ ops o text a is. reportable ops o text a is
+
+pub returns-clause-bounded : goal.returns-clause-bounded
+returns-clause-bounded c = λ ops o text a is. bounded ops o text a is
