@@ -5,7 +5,7 @@ use Rattle.std.proofs.lemmas.Bool.{cases_Bool, cases_lt}
 use Rattle.std.proofs.lemmas.List.{length-replicate}
 use Rattle.std.proofs.lemmas.List.FromFn.{length-map-range_with_len}
 use Rattle.lucy_word.specs.Bits.{Bits, bit_at, one_if, ones_to}
-use Rattle.lucy_word.proofs.BitsLaws.{ones_to-none, ones_to-more, ones_to-le}
+use Rattle.lucy_word.proofs.BitsLaws.{ones_to-more, ones_to-le}
 use Rattle.lucy_word.proofs.IndexLaws.{ones_to-rises}
 use Rattle.lucy_host.specs.OpValue.{op_value}
 use Rattle.lucy_host.specs.Arity.{arity}

@@ -1,9 +1,8 @@
 -- What the flat net of a program is up to a horizon: which inputs it wants, which operators it knows, which actors give, and
 -- what its outputs take.
-use Rattle.std.proofs.Common.{ℕ, ◌+◌, ◌-◌, ◌*◌, ◌<◌, ◌≤◌, ◌≡◌, List, [], ◌∷◌, Some, length, map, take, ap, sym, refl, ◌∙◌, subst, inl, inr, arith}
+use Rattle.std.proofs.Common.{ℕ, ◌+◌, ◌-◌, ◌*◌, ◌<◌, ◌≤◌, ◌≡◌, List, [], ◌∷◌, Some, length, map, take, ap, sym, ◌∙◌, subst, inl, inr, arith}
 use Rattle.std.specs.Prelude.{ℤ, slice_get, slice_index_or}
 use Rattle.std.proofs.lemmas.Bool.{cases_lt}
-use Rattle.std.proofs.lemmas.List.Elements.{All-get_or}
 use Rattle.std.proofs.lemmas.Option.{same_Some, slice_get_within, slice_get-map}
 use Rattle.lucy_word.specs.Bits.{Bits, ones_to}
 use Rattle.lucy_word.specs.Always.{always}
@@ -13,12 +12,8 @@ use Rattle.lucy_word.proofs.SamplingLaws.{ones_to-on}
 use Rattle.lucy_host.specs.declared.kind.HostKind.{HostKind}
 use Rattle.lucy_host.specs.Operators.{Operator}
 use Rattle.lucy_stream.specs.Items.{list_at}
-use Rattle.lucy_stream.specs.Forms.{Same, operands}
-use Rattle.lucy_stream.specs.Firings.{gave_in, took_in}
 use Rattle.lucy_stream.specs.Iterates.{iterate}
-use Rattle.lucy_event.specs.Runs.{IsWhole}
-use Rattle.lucy_event.specs.Plans.{Task, link_at, HasInput, GiveBelow, IsRunnable, kahn_list}
-use Rattle.lucy_event.proofs.KahnLaws.{kahn_whole}
+use Rattle.lucy_event.specs.Plans.{Task, HasInput, GiveBelow, IsRunnable, kahn_list}
 use Rattle.lucy_place.specs.declared.placed.PlacedNode.{PlacedNode}
 use Rattle.lucy_place.specs.declared.entry.PlaceKind.{PlaceKind}
 use Rattle.lucy_place.specs.declared.entry.PlaceKind.TheVariants as place_kind
@@ -27,11 +22,11 @@ use Rattle.lucy_clock.specs.declared.node_clock.NodeClock.{NodeClock}
 use Rattle.lucy_net.specs.declared.kind.ActorKind.TheVariants.{Output}
 use Rattle.lucy_net.specs.declared.net.Actor.{Actor}
 use Rattle.lucy_net.specs.declared.net.Net.{Net}
-use Rattle.lucy_net.specs.Plans.{form_of, task_of, giver, plan, net_system}
-use Rattle.lucy_net.specs.Proper.{IsProperRing, IsReadWord, IsSupplied}
+use Rattle.lucy_net.specs.Plans.{form_of, task_of, giver, plan}
+use Rattle.lucy_net.specs.Proper.{IsSupplied}
 use Rattle.lucy_net.specs.States.{GivesNone, KnowsOperator}
 use Rattle.lucy_net.specs.Causal.{net_places}
-use Rattle.lucy_net.proofs.NetLaws.{task_at, plugged, write_counts, read_counts, from_here, to_here, given_times, takes_there}
+use Rattle.lucy_net.proofs.NetLaws.{plugged}
 use Rattle.lucy_net.proofs.BackLaws.{same_places, quotas, fed}
 use Rattle.lucy_net.specs.Schedules.{IsSound}
 use Rattle.lucy_cause.specs.Schedules.{Timetable, events_at}

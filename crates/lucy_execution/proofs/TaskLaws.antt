@@ -13,15 +13,15 @@ use Rattle.std.proofs.lemmas.Option.{slice_get-map}
 use Rattle.lucy_host.specs.declared.kind.HostKind.{HostKind}
 use Rattle.lucy_stream.specs.Items.{list_at}
 use Rattle.lucy_stream.specs.Fronts.{IsFront}
-use Rattle.lucy_stream.specs.Forms.{Form, Given, operands}
+use Rattle.lucy_stream.specs.Forms.{operands}
 use Rattle.lucy_stream.specs.Lists.{form_list}
-use Rattle.lucy_stream.specs.Iterates.{Place, lists_of, iterate}
+use Rattle.lucy_stream.specs.Iterates.{lists_of, iterate}
 use Rattle.lucy_stream.specs.Firings.{gave_in, took_in}
 use Rattle.lucy_stream.proofs.FrontLaws.{IsFront-length}
 use Rattle.lucy_stream.proofs.IterateLaws.{iterate-at, iterate-fronts}
 use Rattle.lucy_execution.proofs.EnoughLaws.{form_list-enough, gave_in-le}
 use Rattle.lucy_event.specs.Systems.{RingOp, Takes, Gives, is_give, is_take, taken}
-use Rattle.lucy_event.specs.Runs.{none_done, IsRun, after, IsFinished, IsWhole}
+use Rattle.lucy_event.specs.Runs.{none_done, after, IsFinished, IsWhole}
 use Rattle.lucy_event.specs.States.{Machine, State, start, events, IsState}
 use Rattle.lucy_event.proofs.GiveCounts.{gives_in_ops}
 use Rattle.lucy_event.proofs.TakeCounts.{takes_in_ops}
