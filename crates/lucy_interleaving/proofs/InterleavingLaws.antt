@@ -53,9 +53,7 @@ use Rattle.lucy_execution.specs.Streams.{param_words}
 use Rattle.lucy_execution.proofs.NetLaws.{runnable, turns_are}
 use Rattle.lucy_front.specs.declared.accepted.Accepted.{Accepted}
 use Rattle.lucy_front.specs.declared.options.Options.{Options}
-use Rattle.lucy_front.specs.Clocked.{AreClocksOf}
 use Rattle.lucy_front.specs.Accepting.{IsAccepted}
-use Rattle.lucy_front.proofs.OneAnswer.{text_proper}
 use Rattle.lucy_interleaving.specs.Interleavings.{machine_for, IsBuffer, printed_size, stream_for, IsSafe, IsFedText}
 
 -- what stands at a place of a list
@@ -159,23 +157,23 @@ module _ (nodes : List PlacedNode) (clocks : List NodeClock) (proper : AreProper
       next_by (Some a) e left = (a, first_left-some (system (plan net t)) s.done order a (IsWired-plan (plan net t) (plugged net t flat.proper)) whole e)
       next_by None e left = absurd (left (first_left-none (system (plan net t)) s.done order (IsWired-plan (plan net t) (plugged net t flat.proper)) whole state.within.listed e))
 
--- the clocks of nodes are those by which a program is flattened
-flattened : {o : Options} (nodes : List PlacedNode) (clocks : List NodeClock) → AreClocksOf o nodes clocks → AreClocked nodes clocks
-flattened nodes clocks are = record {
-  count = are.all;
-  each = λ i n clock e f. (let is = are.each i n clock e f in record { count = is.count; well = is.well; sizes = is.sizes });
-}
+-- what acceptance gives
+abbrev pub AreAcceptedProper : Type 0
+AreAcceptedProper = (ops : List Operator) (o : Options) (text : List ℕ) (a : Accepted) → IsAccepted ops o text a → AreProper a.placed.nodes
+
+abbrev pub AreAcceptedClocked : Type 0
+AreAcceptedClocked = (ops : List Operator) (o : Options) (text : List ℕ) (a : Accepted) → IsAccepted ops o text a → AreClocked a.placed.nodes a.clocks.items
 
 -- every state is safe
-pub states_safe : (ops : List Operator) (o : Options) (text : List ℕ) (a : Accepted) (inputs : List (List ℤ)) (t : ℕ) (s : State) →
+pub states_safe : AreAcceptedProper → AreAcceptedClocked → (ops : List Operator) (o : Options) (text : List ℕ) (a : Accepted) (inputs : List (List ℤ)) (t : ℕ) (s : State) →
     IsFedText ops o text a inputs t → IsState (machine_for (kinds_of ops) a inputs t) s → IsSafe (kinds_of ops) a inputs t s
 unfolding machine_on net_system
-states_safe ops o text a inputs t s fed state =
+states_safe proper_of clocked_of ops o text a inputs t s fed state =
     let nodes : List PlacedNode = a.placed.nodes in
     let clocks : List NodeClock = a.clocks.items in
     let kinds : List HostKind = kinds_of ops in
-    let proper : AreProper nodes = text_proper ops o text a.placed fed.accepted.clocked.program.program in
-    let clocked : AreClocked nodes clocks = flattened nodes clocks fed.accepted.clocked.clocks in
+    let proper : AreProper nodes = proper_of ops o text a fed.accepted in
+    let clocked : AreClocked nodes clocks = clocked_of ops o text a fed.accepted in
     let flat : IsFlat nodes clocks a.net = fed.accepted.net.flat.flat in
     let order : List ℕ = events_to (events_at a.schedule) t in
     let sound : IsSound a.net (events_at a.schedule) = fed.accepted.schedule.sound in
@@ -189,12 +187,12 @@ states_safe ops o text a inputs t s fed state =
     }
 
 -- and every run leads to one
-pub runs_safe : (ops : List Operator) (o : Options) (text : List ℕ) (a : Accepted) (inputs : List (List ℤ)) (t : ℕ) (picks : List ℕ) →
+pub runs_safe : AreAcceptedProper → AreAcceptedClocked → (ops : List Operator) (o : Options) (text : List ℕ) (a : Accepted) (inputs : List (List ℤ)) (t : ℕ) (picks : List ℕ) →
     IsFedText ops o text a inputs t → IsRun (machine_for (kinds_of ops) a inputs t).sys none_done picks →
     IsSafe (kinds_of ops) a inputs t (events (machine_for (kinds_of ops) a inputs t) start picks)
 unfolding machine_on
-runs_safe ops o text a inputs t picks fed run =
+runs_safe proper_of clocked_of ops o text a inputs t picks fed run =
     let m = machine (kinds_of ops) inputs (plan a.net t) in
     let plugs : IsPlugged (plan a.net t) = plugged a.net t fed.accepted.net.flat.flat.proper in
-    states_safe ops o text a inputs t (events m start picks) fed
+    states_safe proper_of clocked_of ops o text a inputs t (events m start picks) fed
     (IsState-events m start picks (IsWired-plan (plan a.net t) plugs) (IsLocal-plan (kinds_of ops) inputs (plan a.net t) plugs) run (IsState-start m))

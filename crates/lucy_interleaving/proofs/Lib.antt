@@ -1,1 +1,2 @@
 mod InterleavingLaws
+mod WholenessLaws

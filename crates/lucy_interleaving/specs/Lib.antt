@@ -1,2 +1,3 @@
 -- What callers believe.
 pub mod Interleavings
+pub mod Wholeness

@@ -3,9 +3,10 @@
 //! unfinished is stuck.
 //!
 //! It stands on `lucy_front`, which says what a text is accepted as, and on the theory of events. It has no code: the body of each
-//! public function is empty, and its contract is a law. Begin with `specs/Interleavings.antt`.
+//! public function is empty, or calls laws alone, and its contract is a law. Begin with `specs/Interleavings.antt`; `specs/Wholeness.antt`
+//! says that the streams have every item and that no line is missing.
 #![tactic(auto)]
 
 mod laws;
 
-pub use laws::{every_interleaving_is_safe, every_state_is_safe};
+pub use laws::{every_interleaving_is_safe, every_state_is_safe, streams_have_every_item};
