@@ -3,12 +3,14 @@
 //!
 //! It stands on the placed nodes of `lucy_place` and the needs of `lucy_need`. Begin with `specs/WellClocked.antt`, which says
 //! what the rules are, `specs/Listing.antt`, the list of a node's needs, and the laws of `laws.rt`. Then `specs/HandedDown.antt`
-//! says which words a written node hands down; the calls are `needs` in `node_needs.rt` and `written` in `written_words.rt`.
+//! says which words a written node hands down; the calls are `needs` in `node_needs.rt` and `written` in `written_words.rt`. What
+//! the callers of a node need of its clocks is made in `callers.rt`.
 //!
 //! Needs are first listed with words that are lent (`draft.rt`, `listing.rt`), and copied once they are known to be few. The
 //! words of a written node are made in the order of its places (`words.rt`), each by the place that reads it (`reading.rt`).
 #![tactic(auto)]
 
+mod callers;
 mod draft;
 mod error;
 mod grow;
@@ -24,6 +26,7 @@ mod signature;
 mod words;
 mod written_words;
 
+pub use callers::{ports, signatures};
 pub use error::ClockError;
 pub use laws::{needs_are_the_rules, written_nodes_have_one};
 pub use node_clock::{NodeClock, Numbers64};
