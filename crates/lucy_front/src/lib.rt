@@ -31,6 +31,6 @@ pub use laws::{texts_have_one_answer, texts_have_one_program, texts_have_one_ref
 pub use laws_accepted::accepted_programs_are_clocked;
 pub use names::node_line;
 pub use options::Options;
-pub use printing::{report, type_name};
+pub use printing::{first_operand, report, type_name};
 pub use refusal::Refusal;
 pub use texts::refusal_text;

@@ -95,8 +95,8 @@ fn name_lines(
     Ok(())
 }
 
-// The first operand of what stands at a place.
-fn first_operand(node: &PlacedNode, place: u32) -> Option<u32>
+/// The first place that a place of a node reads, if it reads any.
+pub fn first_operand(node: &PlacedNode, place: u32) -> Option<u32>
     ensures { result ≡ spec.first_operand node.now place }
 {
     let entry = node.places.list().get(place.checked_sub(1)? as usize)?;

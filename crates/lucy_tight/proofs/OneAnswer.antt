@@ -1,4 +1,4 @@
--- A buffer has one least size, one answer but for the cycle, or one reason why it isn't told.
+-- Between two clocks of a shape there is one least size, with one answer but for the cycle, or one reason why it isn't told.
 use Rattle.std.proofs.Common.{◌≡◌, ℕ, ◌-◌, List, ℤ, pos, inl, inr, sym, ap, ◌∙◌, subst, arith}
 use Rattle.std.proofs.lemmas.Int.{ints}
 use Rattle.std.proofs.lemmas.Bool.{cases_Bool}
@@ -16,10 +16,9 @@ use Rattle.lucy_shape.specs.Fitting.{clock_at}
 use Rattle.lucy_shape.specs.Sized.{sized_system}
 use Rattle.lucy_shape.specs.WordOf.{written_word}
 use Rattle.lucy_shape.specs.Writing.{AreWordsOf, AreAnswered, AreRefused}
-use Rattle.lucy_tight.specs.declared.answer.Least.{Least}
 use Rattle.lucy_tight.specs.declared.answer.TightError.{TightError}
-use Rattle.lucy_tight.specs.declared.answer.TightError.TheVariants.{Limit as LimitPassed, OutOfMemory}
-use Rattle.lucy_tight.specs.Least.{IsEarliestAtLeast, IsTightest, RefusesTightest, AreAlike}
+use Rattle.lucy_tight.specs.declared.answer.TightError.TheVariants.{Fixed, Limit as LimitPassed, OutOfMemory}
+use Rattle.lucy_tight.specs.Least.{IsEarliestAtLeast, IsTightest, RefusesTightest}
 use Rattle.lucy_tight.proofs.SizeLaws.{least_one}
 
 -- a system has one earliest solution
@@ -47,15 +46,14 @@ module _ (needs : Needs) (shape : Shape) (from to : ℕ) where
       let e = least_one needs shape from to one two first.is second.is in
       earliest_one (sized_system needs shape from to two) xs ys (subst (λ n. IsEarliest (sized_system needs shape from to n) xs) e first.earliest) second.earliest
 
-  pub alike : (one two : Least) → IsTightest needs shape from to one → IsTightest needs shape from to two → AreAlike one two
-  alike one two first second =
-      let e = least_one needs shape from to one.least two.least first.at.is second.at.is in
-      let same = positions_one one.least two.least first.positions second.positions first.at second.at in
-      record {
-        least = e;
-        words = words_one shape second.positions one.words.items two.words.items (subst (λ (xs : List ℤ). AreWordsOf shape xs one.words.items) same first.words.each) second.words.each;
-        diffs = first.diffs ∙ ap (λ n. sized_system needs shape from to (n - 1)) e ∙ sym second.diffs;
-      }
+  pub alike : (l m : ℕ) (ws vs : List Bits) (d e : System) (xs ys : List ℕ) → IsTightest needs shape from to l ws d xs → IsTightest needs shape from to m vs e ys → (l ≡ m) × (ws ≡ vs) × (d ≡ e)
+  alike l m ws vs d e xs ys first second =
+      let same = least_one needs shape from to l m first.at.is second.at.is in
+      let at = positions_one l m first.positions second.positions first.at second.at in (
+        same,
+        words_one shape second.positions ws vs (subst (λ (zs : List ℤ). AreWordsOf shape zs ws) at first.answered.each) second.answered.each,
+        first.less ∙ ap (λ n. sized_system needs shape from to (n - 1)) same ∙ sym second.less,
+      )
 
   -- words that are answered pass no limit
   answered_kept : (xs : List ℤ) (words : List Bits) (l : Limit) → AreAnswered shape xs words → AreRefused shape xs (fault.Limit l) → ⊥
@@ -78,17 +76,20 @@ module _ (needs : Needs) (shape : Shape) (from to : ℕ) where
 
   pub answered_or_refused : (least : ℕ) (xs : List ℤ) (words : List Bits) (e : TightError) → IsEarliestAtLeast needs shape from to least xs → AreAnswered shape xs words → RefusesTightest needs shape from to e → ⊥
   answered_or_refused least xs words OutOfMemory at answered refused = refused
+  answered_or_refused least xs words (Fixed size) at answered refused = refused
   answered_or_refused least xs words (LimitPassed l) at answered (inl p) = at.few p.1
   answered_or_refused least xs words (LimitPassed l) at answered (inr p) =
       let same = positions_one p.0 least p.1 xs p.2 at in
       answered_kept xs words l answered (subst (λ (ys : List ℤ). AreRefused shape ys (fault.Limit l)) same p.3)
 
-  pub kept : (t : Least) (e : TightError) → IsTightest needs shape from to t → RefusesTightest needs shape from to e → ⊥
-  kept t e is refused = answered_or_refused t.least is.positions t.words.items e is.at is.words refused
+  pub kept : (l : ℕ) (ws : List Bits) (d : System) (xs : List ℕ) (e : TightError) → IsTightest needs shape from to l ws d xs → RefusesTightest needs shape from to e → ⊥
+  kept l ws d xs e is refused = answered_or_refused l is.positions ws e is.at is.answered refused
 
   pub only : (e f : TightError) → RefusesTightest needs shape from to e → RefusesTightest needs shape from to f → e ≡ f
   only OutOfMemory f p q = absurd p
+  only (Fixed size) f p q = absurd p
   only (LimitPassed l) OutOfMemory p q = absurd q
+  only (LimitPassed l) (Fixed size) p q = absurd q
   only (LimitPassed l) (LimitPassed m) (inl p) (inl q) = ap LimitPassed (p.0 ∙ sym q.0)
   only (LimitPassed l) (LimitPassed m) (inl p) (inr q) = absurd (q.2.few p.1)
   only (LimitPassed l) (LimitPassed m) (inr p) (inl q) = absurd (p.2.few q.1)

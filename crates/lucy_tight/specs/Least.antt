@@ -2,15 +2,15 @@
 -- in its need. The search for it is this project's own; sizes of buffers are those of Mandel, Plateau and Pouzet 2010.
 use Rattle.std.specs.Prelude.{ℕ, ◌-◌, ◌<◌, ◌≡◌, ◌⊎◌, List, [], length, ℤ}
 use Rattle.lucy_word.specs.declared.limit.Limit.TheVariants as limit
+use Rattle.lucy_word.specs.Bits.{Bits}
 use Rattle.lucy_need.specs.declared.need.Needs.{Needs}
-use Rattle.lucy_solve.specs.System.{Solves, HasNoSolution, IsEarliest, IsNegativeCycle, most_inequalities}
+use Rattle.lucy_solve.specs.System.{System, Solves, HasNoSolution, IsEarliest, IsNegativeCycle, most_inequalities}
 use Rattle.lucy_shape.specs.declared.shape.Shape.{Shape}
 use Rattle.lucy_shape.specs.declared.shape.RateFault.TheVariants as fault
 use Rattle.lucy_shape.specs.Writing.{AreAnswered, AreRefused}
 use Rattle.lucy_shape.specs.Sized.{sized_inequalities, sized_system}
-use Rattle.lucy_tight.specs.declared.answer.Least.{Least}
 use Rattle.lucy_tight.specs.declared.answer.TightError.{TightError}
-use Rattle.lucy_tight.specs.declared.answer.TightError.TheVariants.{Limit as LimitPassed, OutOfMemory}
+use Rattle.lucy_tight.specs.declared.answer.TightError.TheVariants.{Fixed, Limit as LimitPassed, OutOfMemory}
 
 -- the least size for which the inequalities have a solution
 pub record IsLeast (needs : Needs) (shape : Shape) (from to least : ℕ) : Type 0 where
@@ -29,23 +29,18 @@ pub record IsEarliestAtLeast (needs : Needs) (shape : Shape) (from to least : �
 
 -- the least size, the words of the earliest solution for it, and a negative cycle of the inequalities for one less: for size 0 those
 -- for 0, and no cycle
-pub record IsTightest (needs : Needs) (shape : Shape) (from to : ℕ) (t : Least) : Type 0 where
+pub record IsTightest (needs : Needs) (shape : Shape) (from to least : ℕ) (words : List Bits) (diffs : System) (cycle : List ℕ) : Type 0 where
   pub positions : List ℤ
-  pub at : IsEarliestAtLeast needs shape from to t.least positions
-  pub words : AreAnswered shape positions t.words.items
-  pub diffs : t.diffs ≡ sized_system needs shape from to (t.least - 1)
-  pub cycle : 0 < t.least → IsNegativeCycle t.diffs.list t.cycle.items
-  pub none : t.least ≡ 0 → t.cycle.items ≡ []
+  pub at : IsEarliestAtLeast needs shape from to least positions
+  pub answered : AreAnswered shape positions words
+  pub less : diffs ≡ sized_system needs shape from to (least - 1)
+  pub shown : 0 < least → IsNegativeCycle diffs.list cycle
+  pub none : least ≡ 0 → cycle ≡ []
 
 -- why nothing is told: the inequalities are too many, else the words of the earliest solution for the least size pass a limit, Word
 -- before Bits
 abbrev pub RefusesTightest : Needs → Shape → (from to : ℕ) → TightError → Type 0
 RefusesTightest needs shape from to OutOfMemory = ⊥
+RefusesTightest needs shape from to (Fixed size) = ⊥
 RefusesTightest needs shape from to (LimitPassed l) = ((l ≡ limit.Inequalities) × HasTooMany needs shape from to)
     ⊎ ((least : ℕ) × (xs : List ℤ) × IsEarliestAtLeast needs shape from to least xs × AreRefused shape xs (fault.Limit l))
-
--- two answers tell the same but for the cycle
-pub record AreAlike (one two : Least) : Type 0 where
-  pub least : one.least ≡ two.least
-  pub words : one.words.items ≡ two.words.items
-  pub diffs : one.diffs ≡ two.diffs

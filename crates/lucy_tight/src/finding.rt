@@ -18,7 +18,7 @@ ghost use Rattle.lucy_tight.specs.declared.answer.TightError.TheVariants as erro
 
 use crate::search::search;
 use crate::sizes::{Trial, try_size};
-use crate::{Least, TightError};
+use crate::{TightError, Tightest};
 use lucy_need::{Needs, needs_have_words};
 use lucy_shape::{RateFault, Shape, words_of};
 use lucy_solve::{Diffs, Outcome};
@@ -117,12 +117,12 @@ pub fn least_size(
     from: u32,
     to: u32,
     printed: u64,
-) -> Result<Least, TightError>
+) -> Result<Tightest, TightError>
     requires shape { IsShapeFor needs.now shape.now }
     requires buffer { Contains needs.now.list (Adapt (alone from) (alone to)) }
     requires size { printed ≤ most_bits }
     requires kept { (w : Assignment) × IsFitting shape.now w × MeetsWithin needs.now from to printed w }
-    ensures tightest { IfOk result (IsTightest needs.now shape.now from to) }
+    ensures tightest { IfOk result (λ t. IsTightest needs.now shape.now from to t.least t.words.items t.diffs t.cycle.items) }
     ensures within { IfOk result (λ t. t.least ≤ printed) }
     ensures reached { IfOk result (λ t. IsFitting shape.now (assigned t.words.items) × MeetsAll (assigned t.words.items) needs.now.list × IsSize (assigned t.words.items from) (assigned t.words.items to) t.least) }
     ensures smallest { IfOk result (λ t. (w : Assignment) (size : ℕ) → IsFitting shape.now w → MeetsWithin needs.now from to size w → t.least ≤ size) }
@@ -133,7 +133,7 @@ pub fn least_size(
     let least = search(alloc, needs, shape, from, to, printed)?;
     let words = earliest(alloc, needs, shape, from, to, least)?;
     let (diffs, cycle) = evidence(alloc, needs, shape, from, to, least)?;
-    Ok(Least {
+    Ok(Tightest {
         least,
         words,
         diffs,

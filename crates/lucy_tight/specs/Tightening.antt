@@ -1,0 +1,62 @@
+-- What is told of one buffer of an accepted program, by the number of its node from 0 and its own from 1, and why nothing is.
+use Rattle.std.specs.Prelude.{ℕ, ◌≡◌, Some, take, slice_get}
+use Rattle.lucy_place.specs.declared.entry.PlaceKind.TheVariants.{Buffer}
+use Rattle.lucy_place.specs.declared.placed.PlacedNode.{PlacedNode}
+use Rattle.lucy_place.specs.Standing.{at_one, Stands}
+use Rattle.lucy_place.specs.WrittenNodes.{IsWritten}
+use Rattle.lucy_need.specs.declared.need.Needs.{Needs}
+use Rattle.lucy_clock.specs.declared.node_clock.NodeClock.{NodeClock}
+use Rattle.lucy_clock.specs.NodeClocks.{signatures, AreSizes}
+use Rattle.lucy_shape.specs.declared.shape.Shape.{Shape}
+use Rattle.lucy_rates.specs.Vectors.{IsShapeOf}
+use Rattle.lucy_front.specs.declared.accepted.Accepted.{Accepted}
+use Rattle.lucy_front.specs.declared.options.Options.{Options}
+use Rattle.lucy_front.specs.Inferring.{node_needs}
+use Rattle.lucy_tight.specs.declared.answer.Least.{Least}
+use Rattle.lucy_tight.specs.declared.answer.TightError.{TightError}
+use Rattle.lucy_tight.specs.declared.answer.TightError.TheVariants.{Fixed}
+use Rattle.lucy_tight.specs.Least.{IsTightest, RefusesTightest}
+
+-- the needs of a node with the printed clocks of the nodes above it
+abbrev pub needs_at : Accepted → (node : ℕ) → PlacedNode → Needs
+needs_at a node n = node_needs (signatures (take node a.placed.nodes) (take node a.clocks.items)) n
+
+-- the buffer: its node with the printed clocks, the place that it reads, its own place, and its printed size
+pub record TheBuffer (a : Accepted) (node buffer : ℕ) : Type 0 where
+  pub n : PlacedNode
+  pub stands : slice_get a.placed.nodes node ≡ Some n
+  pub c : NodeClock
+  pub clocked : slice_get a.clocks.items node ≡ Some c
+  pub from : ℕ
+  pub to : ℕ
+  pub place : at_one n.buffers buffer ≡ Some to
+  pub reads : Stands n to (Buffer buffer from)
+  pub size : ℕ
+  pub printed : at_one c.sizes buffer ≡ Some size
+
+-- the node isn't written. its printed size is told, and in the shape of the node's needs the least size, the earliest clocks of the
+-- node for it with the sizes of all its buffers, and why one less is too small
+pub record IsTightened (a : Accepted) (o : Options) (node buffer : ℕ) (t : Least) : Type 0 where
+  pub of : TheBuffer a node buffer
+  pub unwritten : IsWritten of.n → ⊥
+  pub printed : t.printed ≡ of.size
+  pub needs : t.needs ≡ needs_at a node of.n
+  pub shape : IsShapeOf t.needs o.scale o.lead t.shape
+  pub tightest : IsTightest t.needs t.shape of.from of.to t.least t.clocks.words t.diffs t.cycle.items
+  pub sizes : AreSizes of.n t.clocks
+
+-- why nothing is told: the node is written, and its size with it; else a limit is passed in the shape of its needs
+abbrev pub RefusesTight : Accepted → Options → (node buffer : ℕ) → TightError → Type 0
+RefusesTight a o node buffer (Fixed size) = (of : TheBuffer a node buffer) × IsWritten of.n × (size ≡ of.size)
+RefusesTight a o node buffer e =
+    (of : TheBuffer a node buffer) × (IsWritten of.n → ⊥)
+    × (shape : Shape) × IsShapeOf (needs_at a node of.n) o.scale o.lead shape × RefusesTightest (needs_at a node of.n) shape of.from of.to e
+
+-- two answers tell the same but for the cycle
+pub record AreAlike (one two : Least) : Type 0 where
+  pub printed : one.printed ≡ two.printed
+  pub least : one.least ≡ two.least
+  pub clocks : one.clocks ≡ two.clocks
+  pub needs : one.needs ≡ two.needs
+  pub shape : one.shape ≡ two.shape
+  pub diffs : one.diffs ≡ two.diffs
