@@ -1,10 +1,10 @@
 mod SizeLaws
 mod ClockedLaws
 mod InferredLaws
-mod EvidenceLaws
+pub mod EvidenceLaws
 mod LineLaws
 mod MoreClocks
-mod ReportLaws
+pub mod ReportLaws
 mod ItemLaws
 mod AcceptLaws
 pub mod TellableLaws

@@ -79,7 +79,7 @@ calls_more nodes n w sites i clock site a b all h is at more before =
     line_more a b (call_line nodes (i + 1) site (w clock)) rest all more (ap (λ u. a ++ u) (sym step) ∙ before)
 
 -- a node is main where none is behind it
-main_is : (nodes rest : List PlacedNode) (i count : ℕ) → drop (i + 1) nodes ≡ rest → count ≡ length nodes → i < length nodes → nat_eq (i + 1) count ≡ is_main rest
+pub main_is : (nodes rest : List PlacedNode) (i count : ℕ) → drop (i + 1) nodes ≡ rest → count ≡ length nodes → i < length nodes → nat_eq (i + 1) count ≡ is_main rest
 main_is nodes [] i count is all h = eq-eqb (i + 1) count (omega (arith, length-drop (i + 1) nodes, ap length is))
 main_is nodes (n ∷ ns) i count is all h = ne_eqb (i + 1) count (λ e. omega (arith, length-drop (i + 1) nodes, ap length is, e))
 

@@ -1,5 +1,5 @@
 -- The report of an accepted program.
-use Rattle.std.specs.Prelude.{ℕ, ◌+◌, ◌≤◌, ◌≡◌, Bool, true, false, List, [], ◌∷◌, ◌++◌, Option, Some, None, length, slice_get, codes, if◌then◌else◌}
+use Rattle.std.specs.Prelude.{ℕ, ◌+◌, ◌≤◌, ◌≡◌, Bool, true, false, List, [], ◌∷◌, ◌++◌, Option, Some, None, length, drop, slice_get, codes, if◌then◌else◌}
 use Rattle.std.specs.Option.{unwrap_or, option_and_then}
 use Rattle.std.specs.Fmt.{decimal}
 use Rattle.lucy_word.specs.Bits.{Bits}
@@ -13,6 +13,7 @@ use Rattle.lucy_place.specs.Reads.{operands_of}
 use Rattle.lucy_types.specs.declared.ty.Ty.{Ty}
 use Rattle.lucy_types.specs.declared.ty.Ty.TheVariants as ty
 use Rattle.lucy_types.specs.Programs.{IsTyped}
+use Rattle.lucy_types.specs.Tables.{table_at}
 use Rattle.lucy_need.specs.Meeting.{Assignment, assigned}
 use Rattle.lucy_clock.specs.declared.node_clock.NodeClock.{NodeClock}
 use Rattle.lucy_clock.specs.Clocks.{call_clock}
@@ -80,6 +81,10 @@ node_lines nodes main n ts c =
 abbrev pub is_main : (behind : List PlacedNode) → Bool
 is_main [] = true
 is_main (n ∷ ns) = false
+
+-- the lines of the node of this number, at these clocks
+abbrev pub node_report : List PlacedNode → List (List Ty) → (node : ℕ) → PlacedNode → NodeClock → List ℕ
+node_report nodes tables node n c = node_lines nodes (is_main (drop (node + 1) nodes)) n (table_at tables node) c
 
 -- the lines of nodes, of all that there are
 abbrev pub lines_of : List PlacedNode → List PlacedNode → List (List Ty) → List NodeClock → List ℕ

@@ -1,10 +1,13 @@
 // The texts of what shows that no clocks are inferred for a node.
-ghost use Rattle.std.specs.Prelude.{◌≡◌, ◌<◌, ◌++◌, length, map, IfOk, OnOk};
+ghost use Rattle.std.specs.Prelude.{◌≡◌, ◌<◌, ◌++◌, Some, length, map, slice_get, IfOk, OnOk};
 ghost use Rattle.std.specs.List.{range_with_len};
+ghost use Rattle.lucy_place.specs.declared.placed.PlacedNode.{PlacedNode as Node};
+ghost use Rattle.lucy_clock.specs.Clocks.{clocks_of};
 ghost use Rattle.lucy_shape.specs.Fitting.{variable_count};
 ghost use Rattle.lucy_front.specs.Refusals.{AreBelow};
 ghost use Rattle.lucy_front.specs.Evidence as spec;
 
+use crate::accepted::Accepted;
 use crate::clocking::push;
 use crate::names::{bytes, number};
 use crate::terms::{clock_name, need_text};
@@ -151,6 +154,25 @@ fn cycle_lines(
     Ok(())
 }
 
+// Puts the inequalities of a cycle last, between the positions of so many clocks of a node in a shape.
+fn put_cycle(
+    alloc: Global,
+    node: &PlacedNode,
+    clocks: u32,
+    shape: &Shape,
+    diffs: &Diffs,
+    cycle: &[u32],
+    lines: &mut Vec<u8>,
+) -> Result<(), OutOfMemory>
+    requires clocks { length shape.now.clocks ≡ clocks }
+    requires variables { diffs.now.count ≡ variable_count shape.now.clocks }
+    requires there { AreBelow (length diffs.now.list) cycle.now }
+    ensures { OnOk result (lines.new.items ≡ lines.old.items ++ spec.cycle_lines (spec.variable_names node.now shape.now.clocks) diffs.now.list cycle.now) }
+{
+    let names = variable_names(alloc, node, clocks, shape.clocks.list(), diffs.count())?;
+    cycle_lines(alloc, &names, diffs, cycle, lines)
+}
+
 /// The lines of a node of so many clocks that has none in a shape, as this cycle of inequalities shows.
 pub(crate) fn unclocked_lines(
     alloc: Global,
@@ -165,13 +187,36 @@ pub(crate) fn unclocked_lines(
     requires there { AreBelow (length diffs.now.list) cycle.now }
     ensures { IfOk result (λ v. v.items ≡ spec.unclocked_lines node.now shape.now.period shape.now.clocks diffs.now.list cycle.now) }
 {
-    let names = variable_names(alloc, node, clocks, shape.clocks.list(), diffs.count())?;
     let mut lines = Vec::new(alloc);
     bytes(b"lucy: clocks: node ", &mut lines)?;
     bytes(node.name.text.bytes(), &mut lines)?;
     bytes(b": no clocks of period ", &mut lines)?;
     number(alloc, shape.period, &mut lines)?;
     bytes(b"\n", &mut lines)?;
-    cycle_lines(alloc, &names, diffs, cycle, &mut lines)?;
+    put_cycle(alloc, node, clocks, shape, diffs, cycle, &mut lines)?;
+    Ok(lines)
+}
+
+/// The inequalities of a cycle, one a line behind two blanks, between the positions of the clocks of a node, by number from 0, in
+/// a shape of its needs.
+pub fn cycle_text(
+    alloc: Global,
+    accepted: &Accepted,
+    node: u32,
+    shape: &Shape,
+    diffs: &Diffs,
+    cycle: &[u32],
+) -> Result<Vec<u8>, OutOfMemory>
+    requires node { node < length accepted.now.placed.nodes }
+    requires clocks { (n : Node) → slice_get accepted.now.placed.nodes node ≡ Some n → length shape.now.clocks ≡ clocks_of n }
+    requires variables { diffs.now.count ≡ variable_count shape.now.clocks }
+    requires there { AreBelow (length diffs.now.list) cycle.now }
+    ensures { (n : Node) → slice_get accepted.now.placed.nodes node ≡ Some n →
+        IfOk result (λ v. v.items ≡ spec.cycle_lines (spec.variable_names n shape.now.clocks) diffs.now.list cycle.now) }
+{
+    let mut lines = Vec::new(alloc);
+    let node = accepted.placed.node(node);
+    let clocks = shape.clocks.list().len() as u32;
+    put_cycle(alloc, node, clocks, shape, diffs, cycle, &mut lines)?;
     Ok(lines)
 }

@@ -26,11 +26,12 @@ mod texts;
 
 pub use accepted::Accepted;
 pub use accepting::accept;
+pub use evidence::cycle_text;
 pub use fault::NodeFault;
 pub use laws::{texts_have_one_answer, texts_have_one_program, texts_have_one_refusal};
 pub use laws_accepted::accepted_programs_are_clocked;
 pub use names::node_line;
 pub use options::Options;
-pub use printing::{first_operand, report, type_name};
+pub use printing::{first_operand, report, report_node, type_name};
 pub use refusal::Refusal;
 pub use texts::refusal_text;

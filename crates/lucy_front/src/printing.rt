@@ -285,3 +285,24 @@ pub fn report(alloc: Global, accepted: &Accepted) -> Result<Vec<u8>, OutOfMemory
 {
     all_lines(alloc, &accepted.placed, &accepted.typed, &accepted.clocks)
 }
+
+/// The lines of a node of the report, by number from 0, at these clocks, which have a size for each of its buffers.
+pub fn report_node(
+    alloc: Global,
+    accepted: &Accepted,
+    node: u32,
+    clocks: &NodeClock,
+) -> Result<Vec<u8>, OutOfMemory>
+    requires node { node < length accepted.now.placed.nodes }
+    requires typed { IsTyped accepted.now.placed.nodes accepted.now.typed }
+    requires sizes { (n : Node) → slice_get accepted.now.placed.nodes node ≡ Some n → length clocks.now.sizes ≡ length n.buffers }
+    ensures { (n : Node) → slice_get accepted.now.placed.nodes node ≡ Some n →
+        IfOk result (λ v. v.items ≡ spec.node_report accepted.now.placed.nodes accepted.now.typed node n clocks.now) }
+{
+    let mut out = Vec::new(alloc);
+    let placed = &accepted.placed;
+    let nodes = placed.nodes();
+    let main = node + 1 == nodes;
+    node_lines(alloc, placed, &accepted.typed, node, main, clocks, &mut out)?;
+    Ok(out)
+}
