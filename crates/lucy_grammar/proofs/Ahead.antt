@@ -6,7 +6,7 @@ use Rattle.lucy_grammar.specs.Sets.{within}
 use Rattle.lucy_grammar.specs.Kinds.{ahead}
 use Rattle.lucy_grammar.specs.Symbols.{Part, Sym, token, part, many, perhaps, Rule}
 use Rattle.lucy_grammar.specs.Grammar.{rules}
-use Rattle.lucy_grammar.specs.Derivations.{Deriv, done, take, by_rule, enough, again, absent, present, spelled}
+use Rattle.lucy_grammar.specs.Deriving.{Deriv, done, take, by_rule, enough, again, absent, present, spelled}
 use Rattle.lucy_grammar.specs.Reading.{follows, begins, Follows}
 use Rattle.lucy_grammar.proofs.Sets.{within_subset, within_left, within_right}
 use Rattle.lucy_grammar.proofs.Numbers.{fits_number}

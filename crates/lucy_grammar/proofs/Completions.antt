@@ -9,7 +9,7 @@ use Rattle.lucy_token.specs.declared.token.What.TheVariants as what
 use Rattle.lucy_grammar.specs.Kinds.{Sort, of, bound, unbound, sort_kind, Fits}
 use Rattle.lucy_grammar.specs.Symbols.{Part, Sym, token, any, part, many, perhaps, Program, Node, Title, Params, Results, Names, Ident, MoreName, Body, Decls, MoreDecl, Decl, Typing, TypeName, ClockOf, Defs, Def, MoreDef, Lefts, Expr, Or, MoreAnd, And, MoreCmp, Cmp, Compared, CmpOp, Sum, MoreProd, SumOp, Prod, MoreSamp, ProdOp, Samp, Sampling, Pre, Followed, Form, Buffered, Held, Other, Atom, Small, Lit, Pair, Call, Applied, Base, Args, MoreExpr}
 use Rattle.lucy_grammar.specs.Grammar.{rules, sign}
-use Rattle.lucy_grammar.specs.Derivations.{Deriv, done, take, by_rule, enough, absent}
+use Rattle.lucy_grammar.specs.Deriving.{Deriv, done, take, by_rule, enough, absent}
 use Rattle.lucy_grammar.proofs.Table.{is_kind, good, token_kind, past_token, past_part, past_many, past_perhaps}
 
 -- a derivation of a part, and then one of what comes after it

@@ -12,12 +12,13 @@ use Rattle.lucy_token.specs.Tokens.{kind_of}
 use Rattle.lucy_token.specs.Spelled.{whats_of}
 use Rattle.lucy_grammar.specs.Symbols.{Sym, token, part, many, perhaps, Rule, Part, Program}
 use Rattle.lucy_grammar.specs.Grammar.{rules}
-use Rattle.lucy_grammar.specs.Derivations.{Deriv, done, take, by_rule, enough, again, absent, present, spelled, value}
+use Rattle.lucy_grammar.specs.Deriving.{Deriv, done, take, by_rule, enough, again, absent, present, spelled, value}
 use Rattle.lucy_grammar.specs.Programs.{IsProgram}
 use Rattle.lucy_grammar.specs.Parens.{kept, without_parens}
 use Rattle.lucy_grammar.specs.Print.{printed_program}
 use Rattle.lucy_grammar.specs.Printable.{Anywhere}
 use Rattle.lucy_grammar.specs.Kinds.{sort_kind}
+use Rattle.lucy_grammar.proofs.Deriving.{derived}
 use Rattle.lucy_grammar.proofs.Numbers.{fits_kind}
 use Rattle.lucy_grammar.proofs.PrintableLaws.{goods, all_stand}
 use Rattle.lucy_grammar.proofs.Cores.{core, without-append, flat, token_of, all_flat, flats}
@@ -66,5 +67,6 @@ flats_are (perhaps X ∷ syms) (present i p m a b) =
     core_of-append (spelled a) (spelled b) ∙ ap (λ u. u ++ core_of (spelled b)) one ∙ ap (λ u. flat X (p.meaning (value a)) ++ u) (flats_are syms b)
 
 pub same_core : (ts : List Token) (p : ProgramTree) → IsProgram ts p → without_parens (map (λ t. t.what) ts) ≡ without_parens (whats_of (printed_program p))
-same_core ts p d =
+same_core ts p h =
+    let d = derived h in
     ap core_of (sym d.1) ∙ flats_are (part Program ∷ []) d.0 ∙ append-nil (core (printed_program (value d.0).0)) ∙ ap (λ (u : ProgramTree × Unit {0}). core (printed_program u.0)) d.2

@@ -9,9 +9,10 @@ use Rattle.lucy_token.specs.declared.token.Token.{Token}
 use Rattle.lucy_token.specs.States.{State, after, is_past_last}
 use Rattle.lucy_grammar.specs.Symbols.{Sym, token, part, many, perhaps, Rule, Part, Program}
 use Rattle.lucy_grammar.specs.Grammar.{rules}
-use Rattle.lucy_grammar.specs.Derivations.{Deriv, done, take, by_rule, enough, again, absent, present, spelled, value}
+use Rattle.lucy_grammar.specs.Deriving.{Deriv, done, take, by_rule, enough, again, absent, present, spelled, value}
 use Rattle.lucy_grammar.specs.Programs.{IsProgram}
 use Rattle.lucy_grammar.specs.Kinds.{sort_kind}
+use Rattle.lucy_grammar.proofs.Deriving.{derived}
 use Rattle.lucy_grammar.proofs.Numbers.{fits_kind}
 use Rattle.lucy_grammar.proofs.CutLimits.{AllPass}
 use Rattle.lucy_grammar.proofs.FewEntries.{IsFewNode, Spec, Behind, Makes, AllMake}
@@ -49,7 +50,8 @@ reads (perhaps X ∷ syms) (present i p m a b) s rest h K w =
     reads syms b r.0 rest r.2 K (w r.0 r.1)
 
 pub few_entries : (s : State) (ts : List Token) (p : ProgramTree) → IsProgram ts p → AllPass s ts → AllByRecursion IsFewNode p
-few_entries s ts p d h =
+few_entries s ts p program h =
+    let d = derived program in
     let all : AllPass s (spelled d.0 ++ []) = subst (AllPass s) (sym (append-nil (spelled d.0) ∙ d.1)) h in
     let r = reads (part Program ∷ []) d.0 s [] all (λ j. AllByRecursion IsFewNode (value d.0).0) (λ j x. x) in
     subst (λ (v : ProgramTree × Unit {0}). AllByRecursion IsFewNode v.0) d.2 r.1

@@ -5,7 +5,7 @@ use Rattle.lucy_token.specs.declared.token.Token.{Token}
 use Rattle.lucy_grammar.specs.Sets.{within}
 use Rattle.lucy_grammar.specs.Kinds.{ahead}
 use Rattle.lucy_grammar.specs.Symbols.{Part, Sym, part, many, perhaps, Val, Vals}
-use Rattle.lucy_grammar.specs.Derivations.{Deriv, done, by_rule, enough, again, absent, present, spelled, value}
+use Rattle.lucy_grammar.specs.Deriving.{Deriv, done, by_rule, enough, again, absent, present, spelled, value}
 use Rattle.lucy_grammar.specs.Reading.{begins, Follows}
 use Rattle.lucy_grammar.proofs.Sets.{within_apart}
 use Rattle.lucy_grammar.proofs.Table.{look, good, past_part, many_apart, past_many, perhaps_apart, past_perhaps}

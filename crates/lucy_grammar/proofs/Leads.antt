@@ -3,7 +3,7 @@ use Rattle.std.proofs.Common.{ℕ, ◌≡◌, List, [], ◌∷◌, ◌++◌, ap,
 use Rattle.lucy_token.specs.declared.token.Token.{Token}
 use Rattle.lucy_grammar.specs.Kinds.{ahead}
 use Rattle.lucy_grammar.specs.Symbols.{Part, Sym, part, Val, Vals}
-use Rattle.lucy_grammar.specs.Derivations.{Deriv, spelled, value}
+use Rattle.lucy_grammar.specs.Deriving.{Deriv, spelled, value}
 use Rattle.lucy_grammar.specs.Reading.{Follows, Takes, Refuses}
 use Rattle.lucy_grammar.proofs.Ahead.{ahead_append}
 

@@ -1,3 +1,4 @@
+pub mod Deriving
 pub mod Sets
 pub mod Numbers
 pub mod Table

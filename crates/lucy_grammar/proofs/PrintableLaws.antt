@@ -20,12 +20,13 @@ use Rattle.lucy_grammar.proofs.Numbers.{fits_kind}
 use Rattle.lucy_grammar.specs.Symbols.{Sym, token, part, many, perhaps, Rule, Val, Vals, Link, Part, Program, Node, Title, Params, Results, Names, Ident, MoreName, Body, Decls, MoreDecl, Decl, Typing, TypeName, ClockOf, Defs, Def, MoreDef, Lefts, Expr, Or, MoreAnd, And, MoreCmp, Cmp, Compared, CmpOp, Sum, MoreProd, SumOp, Prod, MoreSamp, ProdOp, Samp, Sampling, Pre, Followed, Form, Buffered, Held, Other, Atom, Small, Lit, Pair, Call, Applied, Base, Args, MoreExpr}
 use Rattle.lucy_grammar.specs.Meanings.{bytes_of, name_of, number_of, word_of, bound_of, linked, grouped, sampled_by, compared, literal_before, held, named, all_of, args_of}
 use Rattle.lucy_grammar.specs.Grammar.{rules}
-use Rattle.lucy_grammar.specs.Derivations.{Deriv, done, take, by_rule, enough, again, absent, present, spelled, value}
+use Rattle.lucy_grammar.specs.Deriving.{Deriv, done, take, by_rule, enough, again, absent, present, spelled, value}
 use Rattle.lucy_grammar.specs.Programs.{IsProgram}
 use Rattle.lucy_grammar.specs.Print.{when_mark}
 use Rattle.lucy_host.specs.Arity.{arity}
 use Rattle.lucy_tree.specs.Shaped.{most_bound, IsCall, Defines}
 use Rattle.lucy_grammar.specs.Printable.{IsNamed, IsLit, IsHeld, IsWordBehind, IsPrintable, ArePrintable, AllOfSome, IsPrintableDecl, IsPrintableDef, IsPrintableNode, IsPrintableProgram, StandAfter, Anywhere}
+use Rattle.lucy_grammar.proofs.Deriving.{derived}
 
 -- an operator and its right operand, a list of two or more, and an entry that may be missing
 abbrev pub IsLink : (Kind → What → Type 0) → Link → Type 0
@@ -289,7 +290,8 @@ goods Q k (perhaps X ∷ syms) (present i p m a b) h =
 
 -- every program of the grammar can be printed
 pub printable : (Q : Kind → What → Type 0) (k : Kind) (ts : List Token) (p : ProgramTree) → IsProgram ts p → StandAfter Q k ts → IsPrintableProgram Q p
-printable Q k ts p d h =
+printable Q k ts p program h =
+    let d = derived program in
     let g = goods Q k (part Program ∷ []) d.0 (subst (λ (u : List Token). StandAfter Q k u) (sym d.1) h) in
     subst (λ (v : ProgramTree × Unit {0}). IsPrintableProgram Q v.0) d.2 g.0
 

@@ -18,12 +18,13 @@ use Rattle.lucy_token.specs.Spelled.{Printed, in_print, whats_of}
 use Rattle.lucy_grammar.specs.Symbols.{part, many, perhaps, Program, Node, Title, Params, Results, MoreName, Body, Decls, MoreDecl, Decl, Typing, ClockOf, Def, MoreDef, Lefts, Call}
 use Rattle.lucy_grammar.specs.Meanings.{all_of}
 use Rattle.lucy_grammar.specs.Grammar.{rules}
-use Rattle.lucy_grammar.specs.Derivations.{value}
+use Rattle.lucy_grammar.specs.Deriving.{value}
 use Rattle.lucy_grammar.specs.Programs.{IsProgram}
 use Rattle.lucy_grammar.specs.Print.{blank, indent, line, the, after, after_commas, commas, parens, name_token, printed, type_mark, printed_decl, printed_left, printed_def, more_defs, printed_body, printed_node, more_nodes, printed_program}
 use Rattle.lucy_grammar.specs.Spans.{unplaced_token, unplaced_name, unplaced_decl, unplaced, unplaced_def, unplaced_node, unplaced_program, IsAlike}
 use Rattle.lucy_tree.specs.Shaped.{IsCall, Defines}
 use Rattle.lucy_grammar.specs.Printable.{IsNamed, AllOfSome, IsPrintable, IsPrintableDef, IsPrintableNode, IsPrintableProgram}
+use Rattle.lucy_grammar.proofs.Deriving.{of_derivation}
 use Rattle.lucy_grammar.proofs.SpanLaws.{placed}
 use Rattle.lucy_grammar.proofs.Spelling.{plain, plains, Spells, Is, spell_end, spell_token, spell_after, spell_part, spell_again, spell_there, spell_none, spell_out, spell_given, spell_rule}
 use Rattle.lucy_grammar.proofs.PrintedCalls.{printed_is, all_are, the_call}
@@ -170,4 +171,4 @@ pub printed_again : (Q : Kind → What → Type 0) (p : ProgramTree) (ts : List 
 printed_again Q p ts h e =
     let s = the_program Q p h in
     let d = placed (part Program ∷ []) s.deriv ts (s.spells ∙ same_tokens ts (printed_program p) e) in
-    ((value d.deriv).0, (d.deriv, d.spells, refl), ap (λ (u : ProgramTree × Unit {0}). u.0) (d.means ∙ s.means))
+    ((value d.deriv).0, of_derivation (d.deriv, d.spells, refl), ap (λ (u : ProgramTree × Unit {0}). u.0) (d.means ∙ s.means))

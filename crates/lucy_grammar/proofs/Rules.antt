@@ -7,7 +7,7 @@ use Rattle.lucy_grammar.specs.Sets.{within}
 use Rattle.lucy_grammar.specs.Kinds.{ahead}
 use Rattle.lucy_grammar.specs.Symbols.{Part, part, Rule, Vals}
 use Rattle.lucy_grammar.specs.Grammar.{rules}
-use Rattle.lucy_grammar.specs.Derivations.{Deriv, done, by_rule, spelled, value}
+use Rattle.lucy_grammar.specs.Deriving.{Deriv, done, by_rule, spelled, value}
 use Rattle.lucy_grammar.specs.Reading.{begins, Follows, Takes, Refuses}
 use Rattle.lucy_grammar.proofs.Sets.{within_subset}
 use Rattle.lucy_grammar.proofs.Table.{look, rule_good, rule_alone}

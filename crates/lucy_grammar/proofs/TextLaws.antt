@@ -7,26 +7,25 @@ use Rattle.lucy_token.specs.declared.stop.Stop.{Stop}
 use Rattle.lucy_token.specs.declared.stop.Stop.TheVariants.{End, Fault}
 use Rattle.lucy_token.specs.declared.stop.SyntaxError.{SyntaxError}
 use Rattle.lucy_token.specs.declared.stop.SyntaxError.TheVariants.{Unexpected, TooLarge}
+use Rattle.lucy_word.specs.Limits.{limit_number}
 use Rattle.lucy_word.specs.declared.limit.Limit.TheVariants as limit
 use Rattle.lucy_token.specs.Cuts.{Cuts}
 use Rattle.lucy_token.proofs.OneCut.{one_cut}
 use Rattle.lucy_token.proofs.SomeCut.{no_third, some_cut}
 use Rattle.lucy_grammar.specs.Symbols.{part, Program, Vals}
-use Rattle.lucy_grammar.specs.Derivations.{value, spelled}
+use Rattle.lucy_grammar.specs.Deriving.{value, spelled}
 use Rattle.lucy_grammar.specs.Programs.{IsProgram, BeginsProgram}
-use Rattle.lucy_grammar.specs.Texts.{HasTree, IsUnexpected, IsStopped, IsWhole, IsRefused, error_of, most_text}
+use Rattle.lucy_grammar.specs.Texts.{HasTree, IsUnfitText, IsRefused, error_at}
+use Rattle.lucy_grammar.specs.Why.{IsUnexpected, IsStopped, IsWhole, IsWhy}
+use Rattle.lucy_grammar.proofs.Deriving.{of_derivation}
 use Rattle.lucy_grammar.proofs.Completions.{some_part}
 use Rattle.lucy_grammar.proofs.Whole.{one_tree, front_begins, Longer, compared}
-
--- why tokens are refused, that stop here
-abbrev pub IsWhy : List Token → Stop → SyntaxError → Type 0
-IsWhy ts stop e = IsUnexpected ts e ⊎ IsStopped ts stop e
 
 pub begins_whole : (ts : List Token) (p : ProgramTree) → IsProgram ts p → BeginsProgram ts
 begins_whole ts p h = (p, [], (let P : List Token → Type 0 = λ u. IsProgram u p in subst P (sym (append-nil ts)) h))
 
 -- a text whose tokens are a program has a tree
-pub has_tree : (text : List ℕ) (ts : List Token) (stop : Stop) (p : ProgramTree) → length text ≤ most_text → Cuts 0 [] text ts stop → IsWhole ts stop p → HasTree text p
+pub has_tree : (text : List ℕ) (ts : List Token) (stop : Stop) (p : ProgramTree) → length text ≤ limit_number limit.Text → Cuts 0 [] text ts stop → IsWhole ts stop p → HasTree text p
 has_tree text ts (End n) p short cut h = record { short = short; tokens = ts; end = n; cut = cut; program = h }
 has_tree text ts (Fault e) p short cut h = absurd h
 
@@ -70,6 +69,56 @@ one_why ts stop e f (inl a) (inr b) = absurd (never_unexpected ts e a b.fits)
 one_why ts stop e f (inr a) (inl b) = absurd (never_unexpected ts f b a.fits)
 one_why ts stop e f (inr a) (inr b) = a.error ∙ sym b.error
 
+-- a text that is refused is so for its tokens
+why_of : (text : List ℕ) (e : SyntaxError) (u : IsUnfitText text e) → IsWhy (u.front ++ u.rest) u.stop e
+why_of text e u = by_rest u.rest refl
+  where
+    by_rest : (rest : List Token) → rest ≡ u.rest → IsWhy (u.front ++ u.rest) u.stop e
+    by_rest [] is =
+        let whole : u.front ≡ u.front ++ u.rest = sym (append-nil u.front) ∙ ap (λ r. u.front ++ r) is in
+        inr (record {
+          fits = subst BeginsProgram whole u.fits;
+          none = λ p h. u.none p (has_tree text (u.front ++ u.rest) u.stop p u.short u.cut h);
+          error = u.error ∙ ap (λ r. error_at r u.stop) (sym is);
+        })
+    by_rest (t ∷ more) is = inl (record {
+      front = u.front;
+      at = t;
+      more = more;
+      whole = ap (λ r. u.front ++ r) (sym is);
+      fits = u.fits;
+      stops = u.stops t more (sym is);
+      error = u.error ∙ ap (λ r. error_at r u.stop) (sym is);
+    })
+
+-- and one whose tokens are refused is refused so
+pub unfit_text : (text : List ℕ) (ts : List Token) (stop : Stop) (e : SyntaxError) → length text ≤ limit_number limit.Text → Cuts 0 [] text ts stop → IsWhy ts stop e → IsUnfitText text e
+unfit_text text ts stop e short cut (inl a) = record {
+  short = short;
+  front = a.front;
+  rest = a.at ∷ a.more;
+  stop = stop;
+  cut = subst (λ u. Cuts 0 [] text u stop) a.whole cut;
+  fits = a.fits;
+  stops = λ t more is b. (let same : a.at ≡ t = head_of is in a.stops (subst (λ u. BeginsProgram (a.front ++ u ∷ [])) (sym same) b));
+  none = λ p h. never_unexpected ts e a (begins_whole ts p (subst (λ u. IsProgram u p) (one_cut h.cut cut).0 h.program));
+  error = a.error;
+}
+  where
+    head_of : {t u : Token} {x y : List Token} → t ∷ x ≡ u ∷ y → t ≡ u
+    head_of h = cc
+unfit_text text ts stop e short cut (inr s) = record {
+  short = short;
+  front = ts;
+  rest = [];
+  stop = stop;
+  cut = subst (λ u. Cuts 0 [] text u stop) (sym (append-nil ts)) cut;
+  fits = s.fits;
+  stops = λ t more is b. absurd cc;
+  none = λ p h. s.none p (subst (λ u. IsWhole ts u p) (one_cut h.cut cut).1 (subst (λ u. IsProgram u p) (one_cut h.cut cut).0 h.program));
+  error = s.error;
+}
+
 pub one_error : (text : List ℕ) (e f : SyntaxError) → IsRefused text e → IsRefused text f → e ≡ f
 one_error text e f (inl a) (inl b) = a.1 ∙ sym b.1
 one_error text e f (inl a) (inr b) = absurd (omega (arith, a.0, b.short))
@@ -77,27 +126,19 @@ one_error text e f (inr a) (inl b) = absurd (omega (arith, b.0, a.short))
 one_error text e f (inr a) (inr b) =
     let same = one_cut a.cut b.cut in
     let P : List Token → Type 0 = λ u. IsWhy u b.stop f in
-    let Q : Stop → Type 0 = λ s. IsWhy a.tokens s f in
-    one_why a.tokens a.stop e f a.why (subst Q (sym same.1) (subst P (sym same.0) b.why))
+    let Q : Stop → Type 0 = λ s. IsWhy (a.front ++ a.rest) s f in
+    one_why (a.front ++ a.rest) a.stop e f (why_of text e a) (subst Q (sym same.1) (subst P (sym same.0) (why_of text f b)))
 
 pub tree_or_error : (text : List ℕ) (p : ProgramTree) (e : SyntaxError) → HasTree text p → IsRefused text e → ⊥
 tree_or_error text p e a (inl b) = omega (arith, a.short, b.0)
-tree_or_error text p e a (inr b) =
-    let same = one_cut a.cut b.cut in
-    let P : List Token → Type 0 = λ u. IsWhy u b.stop e in
-    let Q : Stop → Type 0 = λ s. IsWhy a.tokens s e in
-    against (subst Q (sym same.1) (subst P (sym same.0) b.why))
-  where
-    against : IsWhy a.tokens (End a.end) e → ⊥
-    against (inl u) = never_unexpected a.tokens e u (begins_whole a.tokens p a.program)
-    against (inr s) = s.none p a.program
+tree_or_error text p e a (inr b) = b.none p a
 
 -- no tokens at all begin a program
 nothing_begins : BeginsProgram []
 nothing_begins =
     let d = some_part Program in
     let whole : (vs : Vals (part Program ∷ [])) → vs ≡ (vs.0, tt) = λ vs. refl in
-    ((value d).0, spelled d, (d, refl, whole (value d)))
+    ((value d).0, spelled d, of_derivation (d, refl, whole (value d)))
 
 -- behind tokens that begin a program, either all that follow begin one too, or there is a first that doesn't
 first_unfit : (stop : Stop) (front back ts : List Token) → ts ≡ front ++ back → BeginsProgram front →
@@ -115,14 +156,14 @@ first_unfit stop front (t ∷ back) ts is fits all none =
 -- tokens that stop here are a program, or are refused
 some_why : (ts : List Token) (stop : Stop) → ((p : ProgramTree) → IsWhole ts stop p → ⊥) → ((e : SyntaxError) → IsWhy ts stop e → ⊥) → ⊥
 some_why ts stop whole none =
-    first_unfit stop [] ts ts refl nothing_begins (λ fits. none (error_of stop) (inr (record { fits = fits; none = whole; error = refl }))) none
+    first_unfit stop [] ts ts refl nothing_begins (λ fits. none (error_at [] stop) (inr (record { fits = fits; none = whole; error = refl }))) none
 
 -- no text has neither a tree nor an error
 pub some_answer : (text : List ℕ) → ((p : ProgramTree) → HasTree text p → ⊥) → ((e : SyntaxError) → IsRefused text e → ⊥) → ⊥
-some_answer text tree error = no_third (length text ≤ most_text) by_length
+some_answer text tree error = no_third (length text ≤ limit_number limit.Text) by_length
   where
-    by_length : (length text ≤ most_text) ⊎ (length text ≤ most_text → ⊥) → ⊥
+    by_length : (length text ≤ limit_number limit.Text) ⊎ (length text ≤ limit_number limit.Text → ⊥) → ⊥
     by_length (inr long) = error (TooLarge limit.Text) (inl (omega arith, refl))
     by_length (inl short) = some_cut (length text) 0 [] text (omega arith) (λ ts stop cut.
         some_why ts stop (λ p h. tree p (has_tree text ts stop p short cut h))
-        (λ e why. error e (inr (record { short = short; tokens = ts; stop = stop; cut = cut; why = why }))))
+        (λ e why. error e (inr (unfit_text text ts stop e short cut why))))

@@ -3,7 +3,7 @@ use Rattle.std.proofs.Common.{ℕ, ◌≡◌, true, List, [], ◌∷◌, ◌++�
 use Rattle.lucy_token.specs.declared.token.Token.{Token}
 use Rattle.lucy_grammar.specs.Kinds.{ahead, Sort, Fits, sort_numbers}
 use Rattle.lucy_grammar.specs.Symbols.{Part, Sym, token, Vals}
-use Rattle.lucy_grammar.specs.Derivations.{Deriv, done, take, spelled, value}
+use Rattle.lucy_grammar.specs.Deriving.{Deriv, done, take, spelled, value}
 use Rattle.lucy_grammar.specs.Reading.{Takes, Refuses}
 use Rattle.lucy_grammar.specs.Sets.{within}
 use Rattle.lucy_grammar.proofs.Numbers.{fits_number}

@@ -6,7 +6,7 @@ use Rattle.lucy_grammar.specs.Sets.{within}
 use Rattle.lucy_grammar.specs.Kinds.{ahead}
 use Rattle.lucy_grammar.specs.Symbols.{Part, Sym, token, part, many, perhaps, Rule, Val, Vals}
 use Rattle.lucy_grammar.specs.Grammar.{rules}
-use Rattle.lucy_grammar.specs.Derivations.{Deriv, done, take, by_rule, enough, again, absent, present, spelled, value}
+use Rattle.lucy_grammar.specs.Deriving.{Deriv, done, take, by_rule, enough, again, absent, present, spelled, value}
 use Rattle.lucy_grammar.specs.Reading.{begins, Follows}
 use Rattle.lucy_grammar.proofs.Sets.{within_apart}
 use Rattle.lucy_grammar.proofs.Table.{look, good, rule_good, rule_alone, past_token, past_part, many_apart, past_many, perhaps_apart, past_perhaps}

@@ -5,9 +5,10 @@ use Rattle.lucy_tree.specs.View.{ProgramTree}
 use Rattle.lucy_token.specs.declared.token.Token.{Token}
 use Rattle.lucy_grammar.specs.Kinds.{ahead}
 use Rattle.lucy_grammar.specs.Symbols.{part, Program}
-use Rattle.lucy_grammar.specs.Derivations.{spelled, value}
+use Rattle.lucy_grammar.specs.Deriving.{spelled, value}
 use Rattle.lucy_grammar.specs.Programs.{IsProgram, BeginsProgram, IsFirstUnfit}
 use Rattle.lucy_grammar.specs.Reading.{follows, begins, Follows, Reads, Unfit}
+use Rattle.lucy_grammar.proofs.Deriving.{derived, of_derivation}
 use Rattle.lucy_grammar.proofs.Table.{good}
 use Rattle.lucy_grammar.proofs.Unique.{unique}
 
@@ -22,26 +23,28 @@ program_good = refl
 -- tokens are at most one program
 pub one_tree : (ts : List Token) (p q : ProgramTree) → IsProgram ts p → IsProgram ts q → p ≡ q
 one_tree ts p q a b =
-    let same = unique Program (part Program ∷ []) program_good a.0 b.0 [] [] ends ends (ap (λ u. u ++ []) (a.1 ∙ sym b.1)) in
-    ap (λ (u : ProgramTree × Unit {0}). u.0) (sym a.2 ∙ same.0 ∙ b.2)
+    let c = derived a in
+    let d = derived b in
+    let same = unique Program (part Program ∷ []) program_good c.0 d.0 [] [] ends ends (ap (λ u. u ++ []) (c.1 ∙ sym d.1)) in
+    ap (λ (u : ProgramTree × Unit {0}). u.0) (sym c.2 ∙ same.0 ∙ d.2)
 
 -- a program is read to the end
 pub is_program : {ts : List Token} {p : ProgramTree} → Reads Program ts p [] → IsProgram ts p
-is_program r = (r.deriv, r.spells ∙ sym (append-nil r.front) ∙ sym r.whole, r.means)
+is_program r = of_derivation (r.deriv, r.spells ∙ sym (append-nil r.front) ∙ sym r.whole, r.means)
 
 -- a program is read, and something follows it
 pub is_followed : {ts : List Token} {p : ProgramTree} {rest : List Token} → Reads Program ts p rest → (rest ≡ [] → ⊥) → IsFirstUnfit ts rest
 is_followed {p = p} {rest = rest} r more = record {
   front = r.front;
   whole = r.whole;
-  fits = (p, [], (r.deriv, r.spells ∙ sym (append-nil r.front), r.means));
+  fits = (p, [], of_derivation (r.deriv, r.spells ∙ sym (append-nil r.front), r.means));
   stops = λ t after e b.
-      let q = b.2 in
+      let q = derived b.2 in
       let same : r.front ++ (t ∷ b.1) ≡ spelled q.0 ++ [] = sym (append_assoc r.front (t ∷ []) b.1) ∙ sym q.1 ∙ sym (append-nil (spelled q.0)) in
       let only = r.only (t ∷ b.1) (sym (ap ahead e)) q.0 [] ends same in
       let no_end : [] ≡ t ∷ b.1 = only.1 in
       cc;
-  none = λ other q. more (sym (r.only rest refl q.0 [] ends (sym r.whole ∙ sym q.1 ∙ sym (append-nil (spelled q.0)))).1);
+  none = λ other h. let q = derived h in more (sym (r.only rest refl q.0 [] ends (sym r.whole ∙ sym q.1 ∙ sym (append-nil (spelled q.0)))).1);
 }
 
 -- no program is read
@@ -49,11 +52,11 @@ pub is_unfit : {ts rest : List Token} → Unfit Program ts rest → IsFirstUnfit
 is_unfit {rest = rest} r = record {
   front = r.front;
   whole = r.whole;
-  fits = ((value r.completes.0).0, r.completes.1, (r.completes.0, r.completes.2, refl));
+  fits = ((value r.completes.0).0, r.completes.1, of_derivation (r.completes.0, r.completes.2, refl));
   stops = λ t after e b.
-      let q = b.2 in
+      let q = derived b.2 in
       r.never (t ∷ b.1) (sym (ap ahead e)) q.0 [] ends (sym (append_assoc r.front (t ∷ []) b.1) ∙ sym q.1 ∙ sym (append-nil (spelled q.0)));
-  none = λ other q. r.never rest refl q.0 [] ends (sym r.whole ∙ sym q.1 ∙ sym (append-nil (spelled q.0)));
+  none = λ other h. let q = derived h in r.never rest refl q.0 [] ends (sym r.whole ∙ sym q.1 ∙ sym (append-nil (spelled q.0)));
 }
 
 -- the front of what begins a program begins one

@@ -1,37 +1,19 @@
--- Derivations by the grammar: which tokens symbols spell, and what they then stand for.
+-- Which tokens the symbols of the grammar spell, and what these then stand for.
 use Rattle.std.specs.Prelude.{ℕ, List, [], ◌∷◌, ◌++◌, ◌≡◌, Some, None}
 use Rattle.std.specs.List.{slice_get}
 use Rattle.lucy_token.specs.declared.token.Token.{Token}
 use Rattle.lucy_grammar.specs.Kinds.{Sort, Fits}
-use Rattle.lucy_grammar.specs.Symbols.{Part, Sym, token, part, many, perhaps, Vals, Rule}
+use Rattle.lucy_grammar.specs.Symbols.{Part, Sym, token, part, many, perhaps, Val, Vals, Rule}
 use Rattle.lucy_grammar.specs.Grammar.{rules}
 
--- a derivation of symbols: a token for each token, and for each part one of its productions with a derivation of its own
-pub data Deriv : List Sym → Type 0 where
-  done : Deriv []
-  take : {s : Sort} {syms : List Sym} (t : Token) → Fits s t.what → Deriv syms → Deriv (token s ∷ syms)
-  by_rule : {X : Part} {syms : List Sym} (i : ℕ) (p : Rule X) → slice_get (rules X) i ≡ Some p → Deriv p.syms → Deriv syms → Deriv (part X ∷ syms)
-  enough : {X : Part} {syms : List Sym} → Deriv syms → Deriv (many X ∷ syms)
-  again : {X : Part} {syms : List Sym} (i : ℕ) (p : Rule X) → slice_get (rules X) i ≡ Some p → Deriv p.syms → Deriv (many X ∷ syms) → Deriv (many X ∷ syms)
-  absent : {X : Part} {syms : List Sym} → Deriv syms → Deriv (perhaps X ∷ syms)
-  present : {X : Part} {syms : List Sym} (i : ℕ) (p : Rule X) → slice_get (rules X) i ≡ Some p → Deriv p.syms → Deriv syms → Deriv (perhaps X ∷ syms)
-
--- the tokens that a derivation spells
-abbrev pub spelled : {syms : List Sym} → Deriv syms → List Token
-spelled done = []
-spelled (take t e d) = t ∷ spelled d
-spelled (by_rule i p e d rest) = spelled d ++ spelled rest
-spelled (enough d) = spelled d
-spelled (again i p e d rest) = spelled d ++ spelled rest
-spelled (absent d) = spelled d
-spelled (present i p e d rest) = spelled d ++ spelled rest
-
--- what its symbols stand for
-abbrev pub value : {syms : List Sym} → Deriv syms → Vals syms
-value done = tt
-value (take t e d) = (t, value d)
-value (by_rule i p e d rest) = (p.meaning (value d), value rest)
-value (enough d) = ([], value d)
-value (again i p e d rest) = (p.meaning (value d) ∷ (value rest).0, (value rest).1)
-value (absent d) = (None, value d)
-value (present i p e d rest) = (Some (p.meaning (value d)), value rest)
+-- the symbols spell these tokens and stand for this: a token for each token, for each part what one of its productions spells
+pub data Derives : (syms : List Sym) → List Token → Vals syms → Type 0 where
+  done : Derives [] [] tt
+  take : {s : Sort} {syms : List Sym} {ts : List Token} {vs : Vals syms} (t : Token) → Fits s t.what → Derives syms ts vs → Derives (token s ∷ syms) (t ∷ ts) (t, vs)
+  by_rule : {X : Part} {syms : List Sym} {us ts : List Token} {vs : Vals syms} (i : ℕ) (p : Rule X) (ws : Vals p.syms) → slice_get (rules X) i ≡ Some p →
+      Derives p.syms us ws → Derives syms ts vs → Derives (part X ∷ syms) (us ++ ts) (p.meaning ws, vs)
+  enough : {X : Part} {syms : List Sym} {ts : List Token} {vs : Vals syms} → Derives syms ts vs → Derives (many X ∷ syms) ts ([], vs)
+  again : {X : Part} {syms : List Sym} {ts : List Token} {v : Val X} {more : List (Val X)} {vs : Vals syms} →
+      Derives (part X ∷ many X ∷ syms) ts (v, (more, vs)) → Derives (many X ∷ syms) ts (v ∷ more, vs)
+  absent : {X : Part} {syms : List Sym} {ts : List Token} {vs : Vals syms} → Derives syms ts vs → Derives (perhaps X ∷ syms) ts (None, vs)
+  present : {X : Part} {syms : List Sym} {ts : List Token} {v : Val X} {vs : Vals syms} → Derives (part X ∷ syms) ts (v, vs) → Derives (perhaps X ∷ syms) ts (Some v, vs)

@@ -1,5 +1,5 @@
 -- What callers believe, in the order to read it: sets and kinds of tokens, the symbols of the grammar, what a derivation means, the
--- grammar, programs, how tokens are read by one token ahead, and the printed text of a tree. Nothing here serves proofs alone.
+-- grammar, programs, how tokens are read by one token ahead, and the printed text of a tree.
 pub mod Sets
 pub mod Kinds
 pub mod Symbols
@@ -13,3 +13,6 @@ pub mod Spans
 pub mod Printable
 pub mod Parens
 pub mod Texts
+-- what only serves the proofs
+pub mod Deriving
+pub mod Why

@@ -3,11 +3,11 @@ use Rattle.std.specs.Prelude.{List, [], ◌∷◌, ◌++◌, ◌≡◌}
 use Rattle.lucy_tree.specs.View.{ProgramTree}
 use Rattle.lucy_token.specs.declared.token.Token.{Token}
 use Rattle.lucy_grammar.specs.Symbols.{part, Program}
-use Rattle.lucy_grammar.specs.Derivations.{Deriv, spelled, value}
+use Rattle.lucy_grammar.specs.Derivations.{Derives}
 
 -- the tokens are a program, and this is its tree
 abbrev pub IsProgram : List Token → ProgramTree → Type 0
-IsProgram ts p = (d : Deriv (part Program ∷ [])) × (spelled d ≡ ts) × (value d ≡ (p, tt))
+IsProgram ts p = Derives (part Program ∷ []) ts (p, tt)
 
 -- some tokens after these make them a program
 abbrev pub BeginsProgram : List Token → Type 0

@@ -8,7 +8,7 @@ use Rattle.lucy_token.specs.Tokens.{kind_of, first}
 use Rattle.lucy_grammar.specs.Sets.{within}
 use Rattle.lucy_grammar.specs.Kinds.{mark_number, ahead}
 use Rattle.lucy_grammar.specs.Symbols.{Part, Sym, part, Val, Vals, Program, Node, Title, Params, Results, Names, Ident, MoreName, Body, Decls, MoreDecl, Decl, Typing, TypeName, ClockOf, Defs, Def, MoreDef, Lefts, Expr, Or, MoreAnd, And, MoreCmp, Cmp, Compared, CmpOp, Sum, MoreProd, SumOp, Prod, MoreSamp, ProdOp, Samp, Sampling, Pre, Followed, Form, Buffered, Held, Other, Atom, Small, Lit, Pair, Call, Applied, Base, Args, MoreExpr}
-use Rattle.lucy_grammar.specs.Derivations.{Deriv, spelled, value}
+use Rattle.lucy_grammar.specs.Deriving.{Deriv, spelled, value}
 
 -- the numbers of marks
 abbrev pub numbers : List Mark → List ℕ

@@ -1,9 +1,11 @@
 // Prints a program.
 ghost use Rattle.std.specs.Prelude.{◌≡◌, ◌≤◌, ℕ, List, IfOk, length};
+ghost use Rattle.lucy_word.specs.Limits.{limit_number};
+ghost use Rattle.lucy_word.specs.declared.limit.Limit.TheVariants as limit;
 ghost use Rattle.lucy_tree.specs.View.{ProgramTree, program_tree};
 ghost use Rattle.lucy_grammar.specs.Print.{program_text};
 ghost use Rattle.lucy_grammar.specs.Spans.{IsAlike};
-ghost use Rattle.lucy_grammar.specs.Texts.{HasTree, most_text};
+ghost use Rattle.lucy_grammar.specs.Texts.{HasTree};
 
 use crate::program::{line, nodes};
 use lucy_tree::Program;
@@ -27,7 +29,7 @@ pub fn print(alloc: Global, program: &Program) -> Result<Vec<u8>, OutOfMemory>
 
     // The text of a program that was read, where it is no longer than a program may be, is read as that program again, but
     // for places.
-    ensures again { (from : List ℕ) → HasTree from (program_tree program.now) → IfOk result (λ text. length text.items ≤ most_text →
+    ensures again { (from : List ℕ) → HasTree from (program_tree program.now) → IfOk result (λ text. length text.items ≤ limit_number limit.Text →
         (q : ProgramTree) × HasTree text.items q × IsAlike q (program_tree program.now)) }
 {
     written(alloc, program)

@@ -4,6 +4,8 @@ use Rattle.std.proofs.lemmas.List.{append-nil}
 use Rattle.std.specs.Prelude.{Result, Err}
 use Rattle.std.specs.Result.{IsErrAnd}
 use Rattle.std.proofs.lemmas.Result.{err_from_is_err_and}
+use Rattle.lucy_word.specs.Limits.{limit_number}
+use Rattle.lucy_word.specs.declared.limit.Limit.TheVariants as limit
 use Rattle.lucy_tree.specs.declared.program.Program.{Program}
 use Rattle.lucy_tree.specs.View.{ProgramTree}
 use Rattle.lucy_token.specs.declared.token.Token.{Token}
@@ -13,8 +15,9 @@ use Rattle.lucy_token.specs.declared.stop.SyntaxError.{SyntaxError}
 use Rattle.lucy_token.specs.declared.stop.SyntaxError.TheVariants.{OutOfMemory}
 use Rattle.lucy_token.specs.Cuts.{Cuts}
 use Rattle.lucy_grammar.specs.Programs.{IsProgram, BeginsProgram, IsFirstUnfit}
-use Rattle.lucy_grammar.specs.Texts.{HasTree, IsWhole, IsRefused, error_of, error_at, most_text}
-use Rattle.lucy_grammar.proofs.TextLaws.{IsWhy, begins_whole, one_error, tree_or_error}
+use Rattle.lucy_grammar.specs.Texts.{HasTree, IsRefused, error_at}
+use Rattle.lucy_grammar.specs.Why.{IsWhole, IsWhy}
+use Rattle.lucy_grammar.proofs.TextLaws.{begins_whole, one_error, tree_or_error, unfit_text}
 
 -- no program stops where no program is
 none_there : (ts : List Token) (stop : Stop) → ((p : ProgramTree) → IsProgram ts p → ⊥) → (p : ProgramTree) → IsWhole ts stop p → ⊥
@@ -42,25 +45,25 @@ pub refused_behind : (ts : List Token) (stop : Stop) (e : SyntaxError) (p : Prog
 refused_behind ts stop e p is h = inr (record {
   fits = begins_whole ts p h;
   none = λ q k. (let P : Stop → Type 0 = λ s. IsWhole ts s q in subst P is k);
-  error = sym (ap error_of is);
+  error = sym (ap (λ s. error_at [] s) is);
 })
 
 -- an error that a text is refused with is the one that it is answered with
-pub rejected_so : (text : List ℕ) (ts : List Token) (stop : Stop) (x e : SyntaxError) (r : Result Program SyntaxError) → length text ≤ most_text → Cuts 0 [] text ts stop →
+pub rejected_so : (text : List ℕ) (ts : List Token) (stop : Stop) (x e : SyntaxError) (r : Result Program SyntaxError) → length text ≤ limit_number limit.Text → Cuts 0 [] text ts stop →
     IsErrAnd r (λ y. y ≡ x) → (x ≡ OutOfMemory) ⊎ IsWhy ts stop x → IsRefused text e → (r ≡ Err OutOfMemory) ⊎ (r ≡ Err e)
 rejected_so text ts stop x e r short cut i (inl none) h =
     let p = err_from_is_err_and r i in
     inl (p.1 ∙ ap Err (p.2 ∙ none))
 rejected_so text ts stop x e r short cut i (inr why) h =
     let p = err_from_is_err_and r i in
-    let mine : IsRefused text x = inr (record { short = short; tokens = ts; stop = stop; cut = cut; why = why }) in
+    let mine : IsRefused text x = inr (unfit_text text ts stop x short cut why) in
     inr (p.1 ∙ ap Err (p.2 ∙ one_error text x e mine h))
 
 -- and no text with a tree is
-pub accepted_so : (text : List ℕ) (ts : List Token) (stop : Stop) (x : SyntaxError) (p : ProgramTree) (r : Result Program SyntaxError) (A : Type 0) → length text ≤ most_text → Cuts 0 [] text ts stop →
+pub accepted_so : (text : List ℕ) (ts : List Token) (stop : Stop) (x : SyntaxError) (p : ProgramTree) (r : Result Program SyntaxError) (A : Type 0) → length text ≤ limit_number limit.Text → Cuts 0 [] text ts stop →
     IsErrAnd r (λ y. y ≡ x) → (x ≡ OutOfMemory) ⊎ IsWhy ts stop x → HasTree text p → (r ≡ Err OutOfMemory) ⊎ A
 accepted_so text ts stop x p r A short cut i (inl none) h =
     let q = err_from_is_err_and r i in
     inl (q.1 ∙ ap Err (q.2 ∙ none))
 accepted_so text ts stop x p r A short cut i (inr why) h =
-    absurd (tree_or_error text p x h (inr (record { short = short; tokens = ts; stop = stop; cut = cut; why = why })))
+    absurd (tree_or_error text p x h (inr (unfit_text text ts stop x short cut why)))

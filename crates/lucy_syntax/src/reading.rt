@@ -6,7 +6,8 @@ ghost use Rattle.lucy_tree.specs.Shaped.{IsShapedProgram};
 ghost use Rattle.lucy_tree.specs.View.{ProgramTree, program_tree, node_tree};
 ghost use Rattle.lucy_token.specs.declared.stop.SyntaxError.TheVariants as error;
 ghost use Rattle.lucy_grammar.specs.Texts as spec;
-ghost use Rattle.lucy_grammar.specs.Texts.{HasTree, IsRefused, IsUnexpected, IsStopped, IsWhole, most_text};
+ghost use Rattle.lucy_grammar.specs.Texts.{HasTree, IsRefused};
+ghost use Rattle.lucy_grammar.specs.Why.{IsUnexpected, IsStopped, IsWhole};
 
 use crate::program::nodes;
 use crate::refusal::Refusal;

@@ -8,7 +8,7 @@ use Rattle.lucy_grammar.proofs.Whole.{is_program, is_followed, is_unfit}
 use Rattle.lucy_syntax.specs.Refusals.{RefusedBy}
 use Rattle.lucy_syntax.specs.declared.refusal.Refusal.{Refusal}
 use Rattle.lucy_syntax.proofs.Facts.{is_none, is_some}
-use Rattle.lucy_grammar.proofs.TextLaws.{IsWhy}
+use Rattle.lucy_grammar.specs.Why.{IsWhy}
 use Rattle.lucy_syntax.proofs.TextLaws.{refused_at, refused_behind}
 use Rattle.lucy_syntax.proofs.reading.whole.Goals as goal
 
