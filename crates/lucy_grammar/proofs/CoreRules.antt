@@ -1,5 +1,6 @@
 -- Each production keeps its tokens but for parentheses when what it stands for is printed.
-use Rattle.std.specs.Prelude.{pos, negsuc}
+use Rattle.std.specs.Prelude.{pos, negsuc, unwrap_or}
+use Rattle.std.specs.Option.{option_map_or}
 use Rattle.lucy_tree.specs.declared.span.Span.{Span}
 use Rattle.lucy_token.specs.declared.token.Kind.TheVariants as kind
 use Rattle.lucy_token.specs.declared.token.Token.{Token}
@@ -10,7 +11,7 @@ use Rattle.lucy_word.specs.Bits.{Bits}
 use Rattle.lucy_host.specs.declared.data_type.DataType.TheVariants as holds
 use Rattle.lucy_tree.specs.declared.span.Name as name
 use Rattle.lucy_tree.specs.declared.decl.Decl as decl
-use Rattle.lucy_tree.specs.Tree.{Tree, Trees, sampled, buffered, call, trees_of}
+use Rattle.lucy_tree.specs.Tree.{Tree, Trees, sampled, buffered, call, trees_of, no_more}
 use Rattle.lucy_tree.specs.View.{DefTree, NodeTree}
 use Rattle.lucy_token.specs.declared.mark.Mark.TheVariants as mark
 use Rattle.lucy_token.specs.declared.token.Kind.{Kind}
@@ -21,7 +22,7 @@ use Rattle.lucy_grammar.specs.Printable.{IsPrintableDef, IsPrintableDecl, AllOfS
 use Rattle.lucy_grammar.proofs.PrintableLaws.{Goods}
 use Rattle.lucy_grammar.proofs.Cores.{core, core-append, core-parens, put, put_after, put_operand, put_later, put_parens, first_defs, flat_link, flat, token_of, all_flat, some_flat, flats}
 use Rattle.lucy_grammar.specs.Symbols.{Rule, Val, Vals, Link, Part, Program, Node, Title, Params, Results, Names, Ident, MoreName, Body, Decls, MoreDecl, Decl, Typing, TypeName, ClockOf, Defs, Def, MoreDef, Lefts, Expr, Or, MoreAnd, And, MoreCmp, Cmp, Compared, CmpOp, Sum, MoreProd, SumOp, Prod, MoreSamp, ProdOp, Samp, Sampling, Pre, Followed, Form, Buffered, Held, Other, Atom, Small, Lit, Pair, Call, Applied, Base, Args, MoreExpr}
-use Rattle.lucy_grammar.specs.Meanings.{bytes_of, name_of, number_of, word_of, bound_of, linked, grouped, sampled_by, compared, literal_before, held, named, all_of, args_of}
+use Rattle.lucy_grammar.specs.Meanings.{bytes_of, name_of, number_of, word_of, bound_of, linked, grouped, sampled_by, literal_before, held, named}
 use Rattle.lucy_grammar.specs.Grammar.{rules}
 use Rattle.lucy_grammar.specs.Parens.{kept}
 use Rattle.lucy_grammar.specs.Print.{blank, indent, line, after, after_commas, commas, parens, name_token, lit_token, op_mark, when_mark, operand, printed, all_printed, printed_decl, printed_left, printed_def, more_defs, printed_body, printed_node, more_nodes}
@@ -69,7 +70,7 @@ sampled_flat e ((flip, w) ∷ ws) =
 grouped_rule : (e : Tree) (ls : List Link) → core (printed (grouped e ls)) ≡ core (printed e) ++ (all_flat flat_link ls ++ [])
 grouped_rule e ls = grouped_flat e ls ∙ ap (λ u. core (printed e) ++ u) (plus (all_flat flat_link ls))
 
-compared_rule : (e : Tree) (o : Option Link) → core (printed (compared e o)) ≡ core (printed e) ++ (some_flat flat_link o ++ [])
+compared_rule : (e : Tree) (o : Option Link) → core (printed (option_map_or (linked e) o e)) ≡ core (printed e) ++ (some_flat flat_link o ++ [])
 compared_rule e None = plus (core (printed e))
 compared_rule e (Some l) = linked_flat e l ∙ ap (λ u. core (printed e) ++ u) (plus (flat_link l))
 
@@ -127,29 +128,29 @@ body_rule : (ds : List DefTree) → AllOfSome (IsPrintableDef Anywhere) ds → c
 body_rule [] h = absurd h
 body_rule (d ∷ ds) h = ap (λ u. what.Mark mark.Where ∷ what.Mark mark.Rec ∷ u) (put_after indent (printed_def d) (more_defs ds) _ refl ∙ plus (first_defs (d ∷ ds)))
 
-bodies_flat : (o : Option (List DefTree)) → core (printed_body (all_of o)) ≡ some_flat (flat Body) o ++ []
+bodies_flat : (o : Option (List DefTree)) → core (printed_body (unwrap_or o [])) ≡ some_flat (flat Body) o ++ []
 bodies_flat None = refl
 bodies_flat (Some ds) = plus (core (printed_body ds))
 
-params_rule : (o : Option (List decl.Decl)) → core (commas (map printed_decl (all_of o))) ≡ some_flat (flat Decls) o ++ []
+params_rule : (o : Option (List decl.Decl)) → core (commas (map printed_decl (unwrap_or o []))) ≡ some_flat (flat Decls) o ++ []
 params_rule None = refl
 params_rule (Some ds) = plus (flat Decls ds)
 
-applied_rule : (at : Option Bits) (o : Option Trees) → flat Applied (at, args_of o) ≡ some_flat (flat Base) at ++ (some_flat (flat Args) o ++ [])
+applied_rule : (at : Option Bits) (o : Option Trees) → flat Applied (at, unwrap_or o no_more) ≡ some_flat (flat Base) at ++ (some_flat (flat Args) o ++ [])
 applied_rule None None = refl
 applied_rule None (Some ts) = plus (flat Args ts)
 applied_rule (Some w) None = refl
 applied_rule (Some w) (Some ts) = ap (λ u. what.Mark mark.At ∷ what.Word w ∷ u) (plus (flat Args ts))
 
-node_rule : (n : name.Name) (ps : List decl.Decl) (rs : List name.Name) (o : Option (List DefTree)) → core (printed_node (record { name = n; params = ps; results = rs; defs = all_of o }))
+node_rule : (n : name.Name) (ps : List decl.Decl) (rs : List name.Name) (o : Option (List DefTree)) → core (printed_node (record { name = n; params = ps; results = rs; defs = unwrap_or o [] }))
     ≡ what.Mark mark.Let ∷ what.Mark mark.Node ∷ what.Name n.text ∷ (flat Params ps ++ (what.Mark mark.Equals ∷ (flat Results rs ++ (some_flat (flat Body) o ++ []))))
 node_rule n ps rs o =
     let head = commas (map printed_decl ps) in
     let tail = commas (map name_token rs) in
     let both : List Printed = after blank (parens head) ++ (in_print blank (what.Mark mark.Equals) ∷ (after blank (parens tail) ++ [])) in
     let first : core both ≡ core head ++ (what.Mark mark.Equals ∷ (core tail ++ [])) = put_parens head _ _ (ap (λ u. what.Mark mark.Equals ∷ u) (put_parens tail [] [] refl)) in
-    let whole : core (both ++ printed_body (all_of o)) ≡ (core head ++ (what.Mark mark.Equals ∷ (core tail ++ []))) ++ (some_flat (flat Body) o ++ []) =
-    put both (printed_body (all_of o)) _ (bodies_flat o) ∙ ap (λ u. u ++ (some_flat (flat Body) o ++ [])) first in
+    let whole : core (both ++ printed_body (unwrap_or o [])) ≡ (core head ++ (what.Mark mark.Equals ∷ (core tail ++ []))) ++ (some_flat (flat Body) o ++ []) =
+    put both (printed_body (unwrap_or o [])) _ (bodies_flat o) ∙ ap (λ u. u ++ (some_flat (flat Body) o ++ [])) first in
     let last : (core head ++ (what.Mark mark.Equals ∷ (core tail ++ []))) ++ (some_flat (flat Body) o ++ []) ≡ core head ++ (what.Mark mark.Equals ∷ (core tail ++ (some_flat (flat Body) o ++ []))) =
     append_assoc (core head) (what.Mark mark.Equals ∷ (core tail ++ [])) (some_flat (flat Body) o ++ []) ∙ ap (λ u. core head ++ (what.Mark mark.Equals ∷ (u ++ (some_flat (flat Body) o ++ [])))) (append-nil (core tail)) in
     ap (λ u. what.Mark mark.Let ∷ what.Mark mark.Node ∷ what.Name n.text ∷ u) (whole ∙ last)

@@ -1,8 +1,8 @@
 -- What symbols spell and stand for, by a derivation.
-use Rattle.std.proofs.Common.{ℕ, ◌≡◌, List, [], ◌∷◌, ◌++◌, Some, None, refl, ap, sym, ◌∙◌, subst}
+use Rattle.std.proofs.Common.{◌≡◌, List, [], ◌∷◌, ◌++◌, Some, None, refl, ap, ◌∙◌, subst}
 use Rattle.lucy_tree.specs.View.{ProgramTree}
 use Rattle.lucy_token.specs.declared.token.Token.{Token}
-use Rattle.lucy_grammar.specs.Symbols.{Part, Sym, token, part, many, perhaps, Program, Val, Vals, Rule}
+use Rattle.lucy_grammar.specs.Symbols.{Part, Sym, part, many, perhaps, Program, Val, Vals}
 use Rattle.lucy_grammar.specs.Deriving.{Deriv, done, take, by_rule, enough, again, absent, present, spelled, value}
 use Rattle.lucy_grammar.specs.Derivations as sense
 use Rattle.lucy_grammar.specs.Derivations.{Derives}

@@ -1,10 +1,12 @@
 -- What the parts of productions leave behind, one after the other, in a text with no fault.
 use Rattle.std.proofs.Common.{◌≡◌, ℕ, suc, ◌+◌, ◌<◌, ◌≤◌, Bool, true, false, List, [], ◌∷◌, length, Option, Some, None, refl, ap, sym, ◌∙◌, subst, arith}
+use Rattle.std.specs.Option.{option_map_or}
+use Rattle.std.specs.Prelude.{unwrap_or}
 use Rattle.std.specs.List.{AllByRecursion}
 use Rattle.lucy_word.specs.Bits.{Bits}
 use Rattle.lucy_tree.specs.declared.span.Name as name
 use Rattle.lucy_tree.specs.declared.decl.Decl as decl
-use Rattle.lucy_tree.specs.Tree.{Tree, Trees, sampled, trees_of, list_of}
+use Rattle.lucy_tree.specs.Tree.{Tree, Trees, sampled, trees_of, list_of, no_more}
 use Rattle.lucy_tree.specs.View.{DefTree}
 use Rattle.lucy_token.specs.declared.mark.Mark.TheVariants as mark
 use Rattle.lucy_token.specs.declared.token.Kind.{Kind}
@@ -15,7 +17,7 @@ use Rattle.lucy_token.specs.declared.state.Side.TheVariants as side
 use Rattle.lucy_token.specs.States.{State, after, side_defined, begins_entry, is_past_last}
 use Rattle.lucy_token.proofs.StateLaws.{before_after}
 use Rattle.lucy_grammar.specs.Symbols.{Val, Link, Body, Decls, Typing, ClockOf, Sampling, Followed, Held, Lit, Applied, Base, Args, MoreExpr}
-use Rattle.lucy_grammar.specs.Meanings.{linked, grouped, sampled_by, compared, literal_before, held, named, all_of, args_of}
+use Rattle.lucy_grammar.specs.Meanings.{linked, grouped, sampled_by, literal_before, held, named}
 use Rattle.lucy_grammar.proofs.Levels.{Keeps, keeps_self, keeps_then, keeps_plain, is_plain, IsDue, due_right, opened, no_commas, opened_right, opened_still, IsStill, closed_after, keeps_parens, one_on, few_before}
 use Rattle.lucy_grammar.proofs.FewEntries.{most, IsFew, AreFew, IsFewDef, ReadsExpr, ExprSpec, LinkSpec, ReadsArgs, ReadsCall, ReadsDecl, ReadsMore, ReadsList, ReadsLefts, Spec, Chain, Maybe}
 
@@ -62,11 +64,11 @@ pub few_opened : (s : State) → (after s (kind.Mark mark.Open)).level.commas < 
 few_opened s = omega (arith, no_commas (opened s))
 
 -- heads
-pub params_few : (s : State) (o : Option (List decl.Decl)) (j : State) → Maybe (Spec Decls) (after s (kind.Mark mark.Open)) o j → length (all_of o) ≤ most
+pub params_few : (s : State) (o : Option (List decl.Decl)) (j : State) → Maybe (Spec Decls) (after s (kind.Mark mark.Open)) o j → length (unwrap_or o []) ≤ most
 params_few s None j c = omega arith
 params_few s (Some ds) j c = omega (arith, (c (few_opened s)).few)
 
-pub body_few : (s : State) (o : Option (List DefTree)) (j : State) → Maybe (Spec Body) s o j → AllByRecursion IsFewDef (all_of o)
+pub body_few : (s : State) (o : Option (List DefTree)) (j : State) → Maybe (Spec Body) s o j → AllByRecursion IsFewDef (unwrap_or o [])
 body_few s None j c = tt
 body_few s (Some ds) j c = c
 
@@ -120,7 +122,7 @@ grouped_read s m j e (l ∷ ls) r x c =
     let y = c.1 (x.keeps.at ∙ r) in
     grouped_read s c.0 j (linked e l) ls r (record { first = x.first; keeps = keeps_then x.keeps y.0; few = (x.few, (y.1, tt)) }) c.2
 
-pub compared_read : (s m j : State) (e : Tree) (o : Option Link) → s.side ≡ side.Right → ReadsExpr s e m → Maybe LinkSpec m o j → ReadsExpr s (compared e o) j
+pub compared_read : (s m j : State) (e : Tree) (o : Option Link) → s.side ≡ side.Right → ReadsExpr s e m → Maybe LinkSpec m o j → ReadsExpr s (option_map_or (linked e) o e) j
 compared_read s m j e None r x c = subst (ReadsExpr s e) (sym c) x
 compared_read s m j e (Some l) r x c =
     let y = c (x.keeps.at ∙ r) in
@@ -168,9 +170,9 @@ args_read s m j e es r z x c =
     let rest : ReadsRest m (length es) j = more_entries (Spec MoreExpr) side.Right (λ s v j f g. (g f).0) m es j (x.keeps.at ∙ r) (omega (arith, x.keeps.commas, z)) c in
     (rest.at ∙ x.keeps.at ∙ r, rest.outer ∙ x.keeps.outer, omega (arith, rest.few, x.keeps.commas, z), exprs_few m es j (x.keeps.at ∙ r) c)
 
-maybe_args : (s : State) (o : Option Trees) (j : State) → s.side ≡ side.Right → s.level.commas ≡ 0 → Maybe (Spec Args) s o j → ReadsArgs s (args_of o) j
+maybe_args : (s : State) (o : Option Trees) (j : State) → s.side ≡ side.Right → s.level.commas ≡ 0 → Maybe (Spec Args) s o j → ReadsArgs s (unwrap_or o no_more) j
 maybe_args s None j r z c =
-    let P : State → Type 0 = λ q. ReadsArgs s (args_of None) q in
+    let P : State → Type 0 = λ q. ReadsArgs s (unwrap_or None no_more) q in
     subst P (sym c) (record { at = r; outer = refl; length = omega arith; few = tt })
 maybe_args s (Some ts) j r z c = c r z
 
@@ -180,7 +182,7 @@ maybe_base s None j c =
     subst P (sym c) (keeps_self s)
 maybe_base s (Some w) j c = c
 
-pub applied_read : (s m j : State) (at : Option Bits) (o : Option Trees) → IsDue s.side → Maybe (Spec Base) s at m → Maybe (Spec Args) (after m (kind.Mark mark.Open)) o j → ReadsCall s (args_of o) (after j (kind.Mark mark.Close))
+pub applied_read : (s m j : State) (at : Option Bits) (o : Option Trees) → IsDue s.side → Maybe (Spec Base) s at m → Maybe (Spec Args) (after m (kind.Mark mark.Open)) o j → ReadsCall s (unwrap_or o no_more) (after j (kind.Mark mark.Close))
 applied_read s m j at o h b c =
     let k = maybe_base s at m b in
     let due : IsDue m.side = subst IsDue (sym k.at) h in

@@ -1,6 +1,7 @@
 -- The productions of nodes, declarations and definitions, as a descent cites them. NAME reads a part by its production, and
 -- NAME_n refuses the part where the n-th symbol is the first that doesn't fit.
 use Rattle.std.proofs.Common.{◌≡◌, List, [], ◌∷◌, Option, refl}
+use Rattle.std.specs.Prelude.{None, unwrap_or}
 use Rattle.lucy_host.specs.declared.data_type.DataType.TheVariants as holds
 use Rattle.lucy_token.specs.declared.mark.Mark.TheVariants as mark
 use Rattle.lucy_token.specs.declared.token.Kind.TheVariants as kind
@@ -8,7 +9,7 @@ use Rattle.lucy_token.specs.declared.token.Token.{Token}
 use Rattle.lucy_token.specs.Tokens.{first}
 use Rattle.lucy_grammar.specs.Symbols.{Val, Node, Title, Params, Results, Names, Ident, MoreName, Body, Decls, MoreDecl, Decl, Typing, TypeName, ClockOf, Defs, Def, MoreDef, Lefts, Expr, Call}
 use Rattle.lucy_grammar.specs.Grammar.{rules}
-use Rattle.lucy_grammar.specs.Meanings.{name_of, word_of, bare, all_of}
+use Rattle.lucy_grammar.specs.Meanings.{name_of, word_of}
 use Rattle.lucy_grammar.specs.Reading.{follows, begins, Reads, Unfit, Begins, IsOther, ReadsOptional, UnfitOptional}
 use Rattle.lucy_grammar.proofs.Numbers.{IsNone, not_in}
 use Rattle.lucy_grammar.proofs.Steps.{end, tok, tok_no, tok_bad, sub, sub_no, sub_bad, maybe, maybe_no, maybe_bad, rule, rule_no, led, led_by, others}
@@ -29,7 +30,7 @@ pub title_3 : {ts m1 m2 rest : List Token} {l d : Token} → Begins ts l (kind.M
 unfolding rules follows begins
 title_3 {ts = ts} h1 h2 u = rule_no 0 refl (others ts 0 refl tt) (tok_no h1 (tok_no h2 (tok_bad refl u)))
 
-pub node : {ts m1 m2 m3 m4 rest : List Token} {q : Token} {n : Val Title} {ps : Val Params} {rs : Val Results} (ds : Option (Val Body)) → Reads Title ts n m1 → Reads Params m1 ps m2 → Begins m2 q (kind.Mark mark.Equals) m3 → Reads Results m3 rs m4 → ReadsOptional Body m4 ds rest → Reads Node ts (record { name = n; params = ps; results = rs; defs = all_of ds }) rest
+pub node : {ts m1 m2 m3 m4 rest : List Token} {q : Token} {n : Val Title} {ps : Val Params} {rs : Val Results} (ds : Option (Val Body)) → Reads Title ts n m1 → Reads Params m1 ps m2 → Begins m2 q (kind.Mark mark.Equals) m3 → Reads Results m3 rs m4 → ReadsOptional Body m4 ds rest → Reads Node ts (record { name = n; params = ps; results = rs; defs = unwrap_or ds [] }) rest
 unfolding rules follows begins
 node {ts = ts} ds h1 h2 h3 h4 h5 = rule 0 refl (others ts 0 refl tt) (sub refl h1 (sub refl h2 (tok h3 (sub refl h4 (maybe ds refl h5 (end _))))))
 
@@ -53,11 +54,11 @@ pub node_5 : {ts m1 m2 m3 m4 rest : List Token} {q : Token} {n : Val Title} {ps 
 unfolding rules follows begins
 node_5 {ts = ts} h1 h2 h3 h4 u = rule_no 0 refl (others ts 0 refl tt) (sub_no refl h1 (sub_no refl h2 (tok_no h3 (sub_no refl h4 (maybe_bad refl u)))))
 
-pub param : {ts rest : List Token} {n : Token} → Begins ts n kind.Name rest → Reads Params ts (bare (name_of n) ∷ []) rest
+pub param : {ts rest : List Token} {n : Token} → Begins ts n kind.Name rest → Reads Params ts (record { name = name_of n; holds = None; word = None } ∷ []) rest
 unfolding rules follows begins
 param h1 = rule 0 refl (led_by 0 refl refl h1) (tok h1 (end _))
 
-pub params : {ts m1 m2 rest : List Token} {o s : Token} (ds : Option (Val Decls)) → Begins ts o (kind.Mark mark.Open) m1 → ReadsOptional Decls m1 ds m2 → Begins m2 s (kind.Mark mark.Close) rest → Reads Params ts (all_of ds) rest
+pub params : {ts m1 m2 rest : List Token} {o s : Token} (ds : Option (Val Decls)) → Begins ts o (kind.Mark mark.Open) m1 → ReadsOptional Decls m1 ds m2 → Begins m2 s (kind.Mark mark.Close) rest → Reads Params ts (unwrap_or ds []) rest
 unfolding rules follows begins
 params ds h1 h2 h3 = rule 1 refl (led_by 1 refl refl h1) (tok h1 (maybe ds refl h2 (tok h3 (end _))))
 

@@ -1,12 +1,13 @@
 -- Every program of the grammar can be printed.
-use Rattle.std.specs.Prelude.{pos, negsuc}
+use Rattle.std.specs.Prelude.{pos, negsuc, unwrap_or}
+use Rattle.std.specs.Option.{option_map_or}
 use Rattle.std.proofs.lemmas.Bool.Decides.{nat_tests}
 use Rattle.std.proofs.Common.{◌≤◌, nat_le, true, arith, ℕ, zero, suc, ◌≡◌, Bool, List, [], ◌∷◌, ◌++◌, length, Option, Some, None, refl, sym, subst}
 use Rattle.std.specs.List.{AllByRecursion}
 use Rattle.std.specs.List.{slice_get}
 use Rattle.lucy_word.specs.Bits.{Bits}
 use Rattle.lucy_tree.specs.declared.decl.Decl as decl
-use Rattle.lucy_tree.specs.Tree.{Tree, Trees, trees_of, list_of}
+use Rattle.lucy_tree.specs.Tree.{Tree, Trees, trees_of, list_of, no_more}
 use Rattle.lucy_tree.specs.View.{ProgramTree}
 use Rattle.lucy_token.specs.declared.mark.Mark.TheVariants as mark
 use Rattle.lucy_token.specs.declared.token.Kind.{Kind}
@@ -18,7 +19,7 @@ use Rattle.lucy_token.specs.Tokens.{kind_of}
 use Rattle.lucy_grammar.specs.Kinds.{is_bound, Fits, bound, sort_kind}
 use Rattle.lucy_grammar.proofs.Numbers.{fits_kind}
 use Rattle.lucy_grammar.specs.Symbols.{Sym, token, part, many, perhaps, Rule, Val, Vals, Link, Part, Program, Node, Title, Params, Results, Names, Ident, MoreName, Body, Decls, MoreDecl, Decl, Typing, TypeName, ClockOf, Defs, Def, MoreDef, Lefts, Expr, Or, MoreAnd, And, MoreCmp, Cmp, Compared, CmpOp, Sum, MoreProd, SumOp, Prod, MoreSamp, ProdOp, Samp, Sampling, Pre, Followed, Form, Buffered, Held, Other, Atom, Small, Lit, Pair, Call, Applied, Base, Args, MoreExpr}
-use Rattle.lucy_grammar.specs.Meanings.{bytes_of, name_of, number_of, word_of, bound_of, linked, grouped, sampled_by, compared, literal_before, held, named, all_of, args_of}
+use Rattle.lucy_grammar.specs.Meanings.{bytes_of, name_of, number_of, word_of, bound_of, linked, grouped, sampled_by, literal_before, held, named}
 use Rattle.lucy_grammar.specs.Grammar.{rules}
 use Rattle.lucy_grammar.specs.Deriving.{Deriv, done, take, by_rule, enough, again, absent, present, spelled, value}
 use Rattle.lucy_grammar.specs.Programs.{IsProgram}
@@ -130,7 +131,7 @@ word_from Q k (what.Name bytes) e q = absurd cc
 word_from Q k (what.Number n) e q = absurd cc
 
 -- lists, options and groups
-all_good : {A : Type 0} (P : A → Type 0) (o : Option (List A)) → InOption (AllOfSome P) o → AllByRecursion P (all_of o)
+all_good : {A : Type 0} (P : A → Type 0) (o : Option (List A)) → InOption (AllOfSome P) o → AllByRecursion P (unwrap_or o [])
 all_good P None h = tt
 all_good P (Some []) h = absurd h
 all_good P (Some (x ∷ xs)) h = h
@@ -143,7 +144,7 @@ base_good : (Q : Kind → What → Type 0) (o : Option Bits) → InOption (Good 
 base_good Q None h = tt
 base_good Q (Some w) h = h
 
-args_good : (Q : Kind → What → Type 0) (o : Option Trees) → InOption (Good Q Args) o → ArePrintable Q (args_of o)
+args_good : (Q : Kind → What → Type 0) (o : Option Trees) → InOption (Good Q Args) o → ArePrintable Q (unwrap_or o no_more)
 args_good Q None h = tt
 args_good Q (Some ts) h = h
 
@@ -159,7 +160,7 @@ sampled_good : (Q : Kind → What → Type 0) (e : Tree) (ws : List (Bool × Bit
 sampled_good Q e [] g h = g
 sampled_good Q e ((flip, w) ∷ ws) g h = sampled_good Q _ ws (g, h.0) h.1
 
-compared_good : (Q : Kind → What → Type 0) (e : Tree) (o : Option Link) → IsPrintable Q e → InOption (IsLink Q) o → IsPrintable Q (compared e o)
+compared_good : (Q : Kind → What → Type 0) (e : Tree) (o : Option Link) → IsPrintable Q e → InOption (IsLink Q) o → IsPrintable Q (option_map_or (linked e) o e)
 compared_good Q e None g h = g
 compared_good Q e (Some l) g h = (h.0, (g, (h.1, tt)))
 

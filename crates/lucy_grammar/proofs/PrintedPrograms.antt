@@ -1,5 +1,6 @@
 -- A printed program is read again as the same program, but for places.
 use Rattle.std.proofs.Common.{ℕ, ◌≡◌, List, [], ◌∷◌, ◌++◌, Option, Some, None, map, refl, ap, sym, ◌∙◌, subst, append_assoc}
+use Rattle.std.specs.Prelude.{unwrap_or}
 use Rattle.std.proofs.lemmas.List.{append-nil}
 use Rattle.std.specs.List.{AllByRecursion}
 use Rattle.lucy_word.specs.Bits.{Bits}
@@ -16,7 +17,6 @@ use Rattle.lucy_token.specs.declared.token.What.TheVariants as what
 use Rattle.lucy_token.specs.declared.token.Token.{Token}
 use Rattle.lucy_token.specs.Spelled.{Printed, in_print, whats_of}
 use Rattle.lucy_grammar.specs.Symbols.{part, many, perhaps, Program, Node, Title, Params, Results, MoreName, Body, Decls, MoreDecl, Decl, Typing, ClockOf, Def, MoreDef, Lefts, Call}
-use Rattle.lucy_grammar.specs.Meanings.{all_of}
 use Rattle.lucy_grammar.specs.Grammar.{rules}
 use Rattle.lucy_grammar.specs.Deriving.{value}
 use Rattle.lucy_grammar.specs.Programs.{IsProgram}
@@ -112,7 +112,7 @@ further_defs Q (d ∷ ds) h = spell_again (spell_rule 0 refl (spell_token indent
 node_pieces : (a b c d : List Printed) → (a ++ (b ++ (c ++ []))) ++ d ≡ a ++ (b ++ (c ++ d))
 node_pieces a b c d = append_assoc a (b ++ (c ++ [])) d ∙ ap (λ u. a ++ u) (append_assoc b (c ++ []) d) ∙ ap (λ u. a ++ (b ++ (u ++ d))) (append-nil c)
 
-the_body : (Q : Kind → What → Type 0) (ds : List DefTree) → AllByRecursion (IsPrintableDef Q) ds → (body : Option (List DefTree)) × Spells (perhaps Body ∷ []) (body, tt) (printed_body ds) × (all_of body ≡ map unplaced_def ds)
+the_body : (Q : Kind → What → Type 0) (ds : List DefTree) → AllByRecursion (IsPrintableDef Q) ds → (body : Option (List DefTree)) × Spells (perhaps Body ∷ []) (body, tt) (printed_body ds) × (unwrap_or body [] ≡ map unplaced_def ds)
 unfolding rules
 the_body Q [] h = (None, spell_out spell_end, refl)
 the_body Q (d ∷ ds) h = (
@@ -133,9 +133,9 @@ a_node_of Q n ps r rs ds h =
     let head = after blank (parens (commas (map printed_decl ps))) in
     let tail = after blank (parens (commas (map name_token (r ∷ rs)))) in
     let V : List DefTree → NodeTree = λ u. record { name = unplaced_name n; params = map unplaced_decl ps; results = unplaced_name r ∷ map unplaced_name rs; defs = u } in
-    let P : List Printed → Type 0 = λ u. Is Node (V (all_of body.0)) (in_print [] (what.Mark mark.Let) ∷ in_print blank (what.Mark mark.Node) ∷ in_print blank (what.Name n.text) ∷ u) in
+    let P : List Printed → Type 0 = λ u. Is Node (V (unwrap_or body.0 [])) (in_print [] (what.Mark mark.Let) ∷ in_print blank (what.Mark mark.Node) ∷ in_print blank (what.Name n.text) ∷ u) in
     let R : List DefTree → Type 0 = λ u. Is Node (V u) (printed_node (record { name = n; params = ps; results = r ∷ rs; defs = ds })) in
-    let whole : Is Node (V (all_of body.0)) (in_print [] (what.Mark mark.Let) ∷ in_print blank (what.Mark mark.Node) ∷ in_print blank (what.Name n.text) ∷ (head ++ (in_print blank (what.Mark mark.Equals) ∷ (tail ++ printed_body ds)))) =
+    let whole : Is Node (V (unwrap_or body.0 [])) (in_print [] (what.Mark mark.Let) ∷ in_print blank (what.Mark mark.Node) ∷ in_print blank (what.Name n.text) ∷ (head ++ (in_print blank (what.Mark mark.Equals) ∷ (tail ++ printed_body ds)))) =
     spell_rule 0 refl (spell_part (a_title n) (spell_part (the_params ps) (spell_token blank (what.Mark mark.Equals) refl (spell_part (the_results r rs) body.1)))) in
     subst R body.2 (subst P (sym (node_pieces head (in_print blank (what.Mark mark.Equals) ∷ []) tail (printed_body ds))) whole)
 

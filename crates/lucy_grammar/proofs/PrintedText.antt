@@ -15,7 +15,7 @@ use Rattle.lucy_tree.specs.View.{DefTree, NodeTree}
 use Rattle.lucy_token.specs.declared.mark.Mark.TheVariants as mark
 use Rattle.lucy_token.specs.declared.token.What.TheVariants as what
 use Rattle.lucy_token.specs.Spelled.{Printed, text_of_what}
-use Rattle.lucy_grammar.specs.Meanings.{two, three}
+use Rattle.lucy_grammar.specs.Meanings.{two}
 use Rattle.lucy_grammar.specs.Print.{blank, indent, line, one, the, after, spaced, words, after_commas, commas, parens, name_token, word_token, lit_token, op_mark, when_mark, operated, called, operand, printed, all_printed, operands, typing, clock, printed_decl, printed_left, printed_def, more_defs, printed_body, printed_node, more_nodes, spaced_text, program_text}
 
 pub text-append : (a b : List Printed) → spaced_text (a ++ b) ≡ spaced_text a ++ spaced_text b
@@ -121,7 +121,7 @@ text_one o a s = text_words (the (op_mark o)) (operand a (printed a) ∷ []) (ti
 pub text_two : (o : Op) (a b : Tree) (s : Span) → text_of_tree (operator o (two a b) s) ≡ text_of_operand a ++ (32 ∷ (spaced_text (the (op_mark o)) ++ (32 ∷ (text_of_operand b ++ []))))
 text_two o a b s = text_words (operand a (printed a)) (the (op_mark o) ∷ operand b (printed b) ∷ []) (refl, (tight_operand b, tt))
 
-pub text_three : (o : Op) (a b c : Tree) (s : Span) → text_of_tree (operator o (three a b c) s)
+pub text_three : (o : Op) (a b c : Tree) (s : Span) → text_of_tree (operator o (more a (two b c)) s)
     ≡ spaced_text (the (op_mark o)) ++ (32 ∷ (text_of_operand a ++ (32 ∷ (spaced_text (the mark.Then) ++ (32 ∷ (text_of_operand b ++ (32 ∷ (spaced_text (the mark.Else) ++ (32 ∷ (text_of_operand c ++ []))))))))))
 text_three o a b c s = text_words (the (op_mark o)) (operand a (printed a) ∷ the mark.Then ∷ operand b (printed b) ∷ the mark.Else ∷ operand c (printed c) ∷ []) (tight_operand a, (refl, (tight_operand b, (refl, (tight_operand c, tt)))))
 

@@ -15,7 +15,7 @@ use Rattle.lucy_token.specs.declared.mark.Mark.TheVariants as mark
 use Rattle.lucy_token.specs.declared.token.What.TheVariants as what
 use Rattle.lucy_token.specs.Spelled.{Printed, in_print}
 use Rattle.lucy_grammar.specs.Symbols.{Expr, Or, And, Cmp, CmpOp, Sum, SumOp, Prod, ProdOp, Samp, Sampling, Pre, Form, Buffered, Held, Atom, Small, Lit}
-use Rattle.lucy_grammar.specs.Meanings.{two, three}
+use Rattle.lucy_grammar.specs.Meanings.{two}
 use Rattle.lucy_grammar.specs.Grammar.{rules}
 use Rattle.lucy_grammar.specs.Print.{blank, parens, name_token, lit_token, op_mark, when_mark, operated, operand, printed, operands}
 use Rattle.lucy_grammar.specs.Spans.{nowhere, unplaced_name, unplaced, all_unplaced}
@@ -116,7 +116,7 @@ two_of P f (more a no_more) e = absurd cc
 two_of P f (more a (more b no_more)) e = f a b
 two_of P f (more a (more b (more c ts))) e = absurd cc
 
-three_of : (P : Trees → Type 0) → ((a b c : Tree) → P (three a b c)) → (args : Trees) → length (list_of args) ≡ 3 → P args
+three_of : (P : Trees → Type 0) → ((a b c : Tree) → P (more a (two b c))) → (args : Trees) → length (list_of args) ≡ 3 → P args
 three_of P f no_more e = absurd cc
 three_of P f (more a no_more) e = absurd cc
 three_of P f (more a (more b no_more)) e = absurd cc
@@ -131,7 +131,7 @@ a_not : (a : Tree) → Operated op.Not (more a no_more)
 unfolding rules
 a_not a (r, _) = from_pre (from_form (spell_rule 0 refl (spell_token [] (what.Mark mark.Not) refl (spell_part (spell_after blank (an_operand a r)) spell_end))))
 
-an_if : (a b c : Tree) → Operated op.If (three a b c)
+an_if : (a b c : Tree) → Operated op.If (more a (two b c))
 unfolding rules
 an_if a b c (r, (s, (q, _))) =
     spell_rule 0 refl (spell_token [] (what.Mark mark.If) refl (spell_part (spell_after blank (from_pre (an_operand a r))) (spell_token blank (what.Mark mark.Then) refl (spell_part (spell_after blank (from_pre (an_operand b s))) (spell_token blank (what.Mark mark.Else) refl (spell_part (spell_after blank (from_pre (an_operand c q))) spell_end))))))

@@ -1,6 +1,8 @@
 -- The productions of expressions, as a descent cites them. NAME reads a part by its production, whose symbols are read one
 -- after the other, and NAME_n refuses the part where the n-th of them is the first that doesn't fit.
 use Rattle.std.proofs.Common.{ℕ, ◌≡◌, true, subst, List, [], ◌∷◌, Option, Some, None, refl, ap, ◌∙◌}
+use Rattle.std.specs.Option.{option_map_or}
+use Rattle.std.specs.Prelude.{unwrap_or}
 use Rattle.lucy_host.specs.declared.op.Op.TheVariants as op
 use Rattle.lucy_tree.specs.Tree.{operator, host, buffered, merged, call, literal, variable, no_more, more}
 use Rattle.lucy_token.specs.declared.mark.Mark.TheVariants as mark
@@ -9,7 +11,7 @@ use Rattle.lucy_token.specs.declared.token.Token.{Token}
 use Rattle.lucy_token.specs.Tokens.{first}
 use Rattle.lucy_grammar.specs.Symbols.{Val, Expr, Or, MoreAnd, And, MoreCmp, Cmp, Compared, CmpOp, Sum, MoreProd, SumOp, Prod, MoreSamp, ProdOp, Samp, Pre, Followed, Form, Buffered, Held, Other, Atom, Small, Lit, Pair, Call, Applied, Base, Args, MoreExpr}
 use Rattle.lucy_grammar.specs.Grammar.{rules}
-use Rattle.lucy_grammar.specs.Meanings.{name_of, word_of, two, three, compared, literal_before, held_by, held, named, args_of}
+use Rattle.lucy_grammar.specs.Meanings.{name_of, word_of, two, literal_before, held_by, held, named, linked}
 use Rattle.lucy_grammar.specs.Reading.{follows, begins, IsBoundAhead, Reads, Unfit, IsBegun, Begins, IsOther, ReadsOptional, UnfitOptional}
 use Rattle.lucy_grammar.specs.Sets.{within}
 use Rattle.lucy_grammar.specs.Kinds.{ahead, is_bound, bound}
@@ -18,7 +20,7 @@ use Rattle.lucy_grammar.proofs.Numbers.{IsNone, is_in, not_in}
 use Rattle.lucy_grammar.proofs.Rules.{by_first}
 use Rattle.lucy_grammar.proofs.Steps.{end, tok, tok_no, tok_bad, sub, sub_no, sub_bad, maybe, maybe_no, maybe_bad, rule, rule_no, sort_tok, sort_tok_no, led_by, led_sort, others}
 
-pub choice : {ts m1 m2 m3 m4 m5 rest : List Token} {i t l : Token} {c : Val Expr} {a : Val Expr} {b : Val Expr} → Begins ts i (kind.Mark mark.If) m1 → Reads Expr m1 c m2 → Begins m2 t (kind.Mark mark.Then) m3 → Reads Expr m3 a m4 → Begins m4 l (kind.Mark mark.Else) m5 → Reads Expr m5 b rest → Reads Expr ts (operator op.If (three c a b) i.span) rest
+pub choice : {ts m1 m2 m3 m4 m5 rest : List Token} {i t l : Token} {c : Val Expr} {a : Val Expr} {b : Val Expr} → Begins ts i (kind.Mark mark.If) m1 → Reads Expr m1 c m2 → Begins m2 t (kind.Mark mark.Then) m3 → Reads Expr m3 a m4 → Begins m4 l (kind.Mark mark.Else) m5 → Reads Expr m5 b rest → Reads Expr ts (operator op.If (more c (two a b)) i.span) rest
 unfolding rules follows begins
 choice h1 h2 h3 h4 h5 h6 = rule 0 refl (led_by 0 refl refl h1) (tok h1 (sub refl h2 (tok h3 (sub refl h4 (tok h5 (sub refl h6 (end _)))))))
 
@@ -58,7 +60,7 @@ pub more_cmp_2 : {ts m1 rest : List Token} {o : Token} → Begins ts o (kind.Mar
 unfolding rules follows begins
 more_cmp_2 {ts = ts} h1 u = rule_no 0 refl (others ts 0 refl tt) (tok_no h1 (sub_bad refl u))
 
-pub cmp : {ts m1 rest : List Token} {e : Val Sum} (l : Option (Val Compared)) → Reads Sum ts e m1 → ReadsOptional Compared m1 l rest → Reads Cmp ts (compared e l) rest
+pub cmp : {ts m1 rest : List Token} {e : Val Sum} (l : Option (Val Compared)) → Reads Sum ts e m1 → ReadsOptional Compared m1 l rest → Reads Cmp ts (option_map_or (linked e) l e) rest
 unfolding rules follows begins
 cmp {ts = ts} l h1 h2 = rule 0 refl (others ts 0 refl tt) (sub refl h1 (maybe l refl h2 (end _)))
 
@@ -246,7 +248,7 @@ pub called_2 : {ts m1 rest : List Token} {n : Token} → Begins ts n kind.Name m
 unfolding rules follows begins
 called_2 {ts = ts} h1 u = rule_no 0 refl (others ts 0 refl tt) (tok_no h1 (sub_bad refl u))
 
-pub applied : {ts m1 m2 m3 rest : List Token} {o s : Token} (w : Option (Val Base)) (a : Option (Val Args)) → ReadsOptional Base ts w m1 → Begins m1 o (kind.Mark mark.Open) m2 → ReadsOptional Args m2 a m3 → Begins m3 s (kind.Mark mark.Close) rest → Reads Applied ts (w, args_of a) rest
+pub applied : {ts m1 m2 m3 rest : List Token} {o s : Token} (w : Option (Val Base)) (a : Option (Val Args)) → ReadsOptional Base ts w m1 → Begins m1 o (kind.Mark mark.Open) m2 → ReadsOptional Args m2 a m3 → Begins m3 s (kind.Mark mark.Close) rest → Reads Applied ts (w, unwrap_or a no_more) rest
 unfolding rules follows begins
 applied {ts = ts} w a h1 h2 h3 h4 = rule 0 refl (others ts 0 refl tt) (maybe w refl h1 (tok h2 (maybe a refl h3 (tok h4 (end _)))))
 

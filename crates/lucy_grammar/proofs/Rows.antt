@@ -16,10 +16,11 @@ use Rattle.lucy_token.specs.declared.token.What.{What}
 use Rattle.lucy_token.specs.declared.token.What.TheVariants as what
 use Rattle.lucy_token.specs.declared.token.Token.{Token}
 use Rattle.lucy_token.specs.Tokens.{first}
+use Rattle.lucy_tree.specs.declared.decl.Decl as decl
 use Rattle.lucy_grammar.specs.Symbols.{Body, Decl, Typing, ClockOf, Expr, MoreAnd, MoreCmp, Compared, Sum, MoreProd, Prod, MoreSamp, Sampling, Pre}
 use Rattle.lucy_grammar.specs.Kinds.{is_bound}
 use Rattle.lucy_grammar.specs.Grammar.{rules}
-use Rattle.lucy_grammar.specs.Meanings.{bare, two, three, grouped}
+use Rattle.lucy_grammar.specs.Meanings.{two, grouped}
 use Rattle.lucy_grammar.specs.Print.{printed, spaced_text, program_text}
 use Rattle.lucy_grammar.specs.Programs.{IsProgram, IsFirstUnfit}
 use Rattle.lucy_grammar.specs.Reading.{follows, begins, Reads, IsBegun}
@@ -37,6 +38,10 @@ x = called (codes "x")
 
 o : name.Name
 o = called (codes "o")
+
+-- a declaration of a name alone
+abbrev bare : name.Name → decl.Decl
+bare n = record { name = n; holds = None; word = None }
 
 -- let node sum x = o where rec o = x + (0 fby o)
 sum : ProgramTree
@@ -74,8 +79,8 @@ rich_text = refl
 
 -- operators: the text of `if not x then x - y - y else x`, which groups to the left
 choice : Tree
-choice = operator op.If (three (operator op.Not (more (variable x) no_more) nowhere)
-    (grouped (variable x) (record { op = op.Sub; span = nowhere; right = variable y } ∷ record { op = op.Sub; span = nowhere; right = variable y } ∷ [])) (variable x)) nowhere
+choice = operator op.If (more (operator op.Not (more (variable x) no_more) nowhere)
+    (two (grouped (variable x) (record { op = op.Sub; span = nowhere; right = variable y } ∷ record { op = op.Sub; span = nowhere; right = variable y } ∷ [])) (variable x))) nowhere
 
 choice_text : spaced_text (printed choice) ≡ codes "if (not x) then ((x - y) - y) else x"
 unfolding choice called x y

@@ -1,12 +1,14 @@
 -- What tokens are a program for doesn't depend on where they stand.
 use Rattle.std.proofs.Common.{ℕ, zero, suc, ◌≡◌, Bool, List, [], ◌∷◌, ◌++◌, Option, Some, None, map, refl, ap, sym, ◌∙◌, subst}
+use Rattle.std.specs.Option.{option_map_or}
+use Rattle.std.specs.Prelude.{unwrap_or}
 use Rattle.std.specs.List.{slice_get}
 use Rattle.lucy_word.specs.Bits.{Bits}
-use Rattle.lucy_tree.specs.Tree.{Tree, Trees, trees_of, more}
+use Rattle.lucy_tree.specs.Tree.{Tree, Trees, trees_of, more, no_more}
 use Rattle.lucy_token.specs.declared.token.Token.{Token}
 use Rattle.lucy_grammar.specs.Kinds.{Fits}
 use Rattle.lucy_grammar.specs.Symbols.{Part, Sym, token, part, many, perhaps, Rule, Val, Vals, Link, Program, Node, Title, Params, Results, Names, Ident, MoreName, Body, Decls, MoreDecl, Decl, Typing, TypeName, ClockOf, Defs, Def, MoreDef, Lefts, Expr, Or, MoreAnd, And, MoreCmp, Cmp, Compared, CmpOp, Sum, MoreProd, SumOp, Prod, MoreSamp, ProdOp, Samp, Sampling, Pre, Followed, Form, Buffered, Held, Other, Atom, Small, Lit, Pair, Call, Applied, Base, Args, MoreExpr}
-use Rattle.lucy_grammar.specs.Meanings.{linked, grouped, sampled_by, compared, literal_before, held, named, name_of, all_of, args_of}
+use Rattle.lucy_grammar.specs.Meanings.{linked, grouped, sampled_by, literal_before, held, named, name_of}
 use Rattle.lucy_grammar.specs.Grammar.{rules}
 use Rattle.lucy_grammar.specs.Deriving.{Deriv, done, take, by_rule, enough, again, absent, present, spelled, value}
 use Rattle.lucy_grammar.proofs.Tokens.{same_pair}
@@ -100,7 +102,7 @@ trees_bare : (es : List Tree) → all_unplaced (trees_of es) ≡ trees_of (map u
 trees_bare [] = refl
 trees_bare (e ∷ es) = ap (λ u. more (unplaced e) u) (trees_bare es)
 
-compared_blind : (e : Tree) (l : Option Link) → unplaced (compared e l) ≡ compared (unplaced e) (in_option unplaced_link l)
+compared_blind : (e : Tree) (l : Option Link) → unplaced (option_map_or (linked e) l e) ≡ option_map_or (linked (unplaced e)) (in_option unplaced_link l) (unplaced e)
 compared_blind e None = refl
 compared_blind e (Some l) = refl
 
@@ -117,7 +119,7 @@ named_blind : (n : Val Title) (a : Option (Val Applied)) → unplaced (named n a
 named_blind n None = refl
 named_blind n (Some a) = refl
 
-all_blind : {A : Type 0} (f : A → A) (o : Option (List A)) → map f (all_of o) ≡ all_of (in_option (map f) o)
+all_blind : {A : Type 0} (f : A → A) (o : Option (List A)) → map f (unwrap_or o []) ≡ unwrap_or (in_option (map f) o) []
 all_blind f None = refl
 all_blind f (Some l) = refl
 
@@ -129,12 +131,12 @@ decl_blind n (Some t) None = refl
 decl_blind n (Some t) (Some w) = refl
 
 node_blind : (name : Val Title) (params : Val Params) (results : Val Results) (body : Option (Val Body)) →
-    unplaced_node (record { name = name; params = params; results = results; defs = all_of body })
-    ≡ record { name = unplaced_name name; params = map unplaced_decl params; results = map unplaced_name results; defs = all_of (in_option (bare Body) body) }
+    unplaced_node (record { name = name; params = params; results = results; defs = unwrap_or body [] })
+    ≡ record { name = unplaced_name name; params = map unplaced_decl params; results = map unplaced_name results; defs = unwrap_or (in_option (bare Body) body) [] }
 node_blind name params results None = refl
 node_blind name params results (Some body) = refl
 
-applied_blind : (at : Option (Val Base)) (args : Option Trees) → ◌≡◌ {A = Val Applied} (at, all_unplaced (args_of args)) (in_option (bare Base) at, args_of (in_option all_unplaced args))
+applied_blind : (at : Option (Val Base)) (args : Option Trees) → ◌≡◌ {A = Val Applied} (at, all_unplaced (unwrap_or args no_more)) (in_option (bare Base) at, unwrap_or (in_option all_unplaced args) no_more)
 applied_blind None None = refl
 applied_blind None (Some ts) = refl
 applied_blind (Some w) None = refl

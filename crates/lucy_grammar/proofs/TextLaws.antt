@@ -16,7 +16,7 @@ use Rattle.lucy_grammar.specs.Symbols.{part, Program, Vals}
 use Rattle.lucy_grammar.specs.Deriving.{value, spelled}
 use Rattle.lucy_grammar.specs.Programs.{IsProgram, BeginsProgram}
 use Rattle.lucy_grammar.specs.Texts.{HasTree, IsUnfitText, IsRefused, error_at}
-use Rattle.lucy_grammar.specs.Why.{IsUnexpected, IsStopped, IsWhole, IsWhy}
+use Rattle.lucy_grammar.specs.Why.{IsUnexpected, IsWhole, IsWhy}
 use Rattle.lucy_grammar.proofs.Deriving.{of_derivation}
 use Rattle.lucy_grammar.proofs.Completions.{some_part}
 use Rattle.lucy_grammar.proofs.Whole.{one_tree, front_begins, Longer, compared}

@@ -31,7 +31,8 @@
 --
 -- with atom but for its `lit`, where a bound is a number from 0 to 4,095 and other is any other literal: behind `buffer` the
 -- first literal alone tells whether a `(` may follow it.
-use Rattle.std.specs.Prelude.{true, false, List, [], ◌∷◌, Some, None}
+use Rattle.std.specs.Prelude.{true, false, List, [], ◌∷◌, Some, None, unwrap_or}
+use Rattle.std.specs.Option.{option_map_or}
 use Rattle.lucy_host.specs.declared.op.Op.TheVariants as op
 use Rattle.lucy_host.specs.declared.data_type.DataType.TheVariants as holds
 use Rattle.lucy_tree.specs.declared.expr.Lit.TheVariants as lit
@@ -41,7 +42,7 @@ use Rattle.lucy_token.specs.declared.mark.Mark.TheVariants as mark
 use Rattle.lucy_token.specs.declared.token.Kind.TheVariants as kind
 use Rattle.lucy_grammar.specs.Kinds.{bound, unbound}
 use Rattle.lucy_grammar.specs.Symbols.{Part, Sym, token, any, part, many, perhaps, Val, Vals, Rule, Program, Node, Title, Params, Results, Names, Ident, MoreName, Body, Decls, MoreDecl, Decl, Typing, TypeName, ClockOf, Defs, Def, MoreDef, Lefts, Expr, Or, MoreAnd, And, MoreCmp, Cmp, Compared, CmpOp, Sum, MoreProd, SumOp, Prod, MoreSamp, ProdOp, Samp, Sampling, Pre, Followed, Form, Buffered, Held, Other, Atom, Small, Lit, Pair, Call, Applied, Base, Args, MoreExpr}
-use Rattle.lucy_grammar.specs.Meanings.{name_of, number_of, word_of, bare, two, three, grouped, sampled_by, compared, literal_before, held, named, all_of, args_of}
+use Rattle.lucy_grammar.specs.Meanings.{name_of, number_of, word_of, two, grouped, sampled_by, literal_before, held, named, linked}
 
 -- a keyword or a sign
 abbrev pub sign : Mark → Sym
@@ -55,10 +56,10 @@ says syms meaning = record { syms = syms; meaning = meaning }
 unfoldable pub rules : (X : Part) → List (Rule X)
 rules Program = says (part Node ∷ many Node ∷ []) (λ (n, (ns, _)). n ∷ ns) ∷ []
 rules Node = says (part Title ∷ part Params ∷ sign mark.Equals ∷ part Results ∷ perhaps Body ∷ [])
-    (λ (name, (params, (_, (results, (body, _))))). record { name = name; params = params; results = results; defs = all_of body }) ∷ []
+    (λ (name, (params, (_, (results, (body, _))))). record { name = name; params = params; results = results; defs = unwrap_or body [] }) ∷ []
 rules Title = says (sign mark.Let ∷ sign mark.Node ∷ any kind.Name ∷ []) (λ (_, (_, (n, _))). name_of n) ∷ []
-rules Params = says (any kind.Name ∷ []) (λ (n, _). bare (name_of n) ∷ [])
-    ∷ says (sign mark.Open ∷ perhaps Decls ∷ sign mark.Close ∷ []) (λ (_, (ds, _)). all_of ds) ∷ []
+rules Params = says (any kind.Name ∷ []) (λ (n, _). record { name = name_of n; holds = None; word = None } ∷ [])
+    ∷ says (sign mark.Open ∷ perhaps Decls ∷ sign mark.Close ∷ []) (λ (_, (ds, _)). unwrap_or ds []) ∷ []
 rules Results = says (any kind.Name ∷ []) (λ (n, _). name_of n ∷ [])
     ∷ says (sign mark.Open ∷ part Names ∷ sign mark.Close ∷ []) (λ (_, (ns, _)). ns) ∷ []
 rules Names = says (part Ident ∷ many MoreName ∷ []) (λ (n, (ns, _)). n ∷ ns) ∷ []
@@ -77,13 +78,13 @@ rules Def = says (part Decl ∷ sign mark.Equals ∷ part Expr ∷ []) (λ (d, (
 rules MoreDef = says (sign mark.And ∷ part Def ∷ []) (λ (_, (d, _)). d) ∷ []
 rules Lefts = says (sign mark.Open ∷ part Decl ∷ sign mark.Comma ∷ part Decls ∷ sign mark.Close ∷ []) (λ (_, (d, (_, (ds, _)))). d ∷ ds) ∷ []
 rules Expr = says (sign mark.If ∷ part Expr ∷ sign mark.Then ∷ part Expr ∷ sign mark.Else ∷ part Expr ∷ [])
-    (λ (i, (c, (_, (a, (_, (b, _)))))). operator op.If (three c a b) i.span)
+    (λ (i, (c, (_, (a, (_, (b, _)))))). operator op.If (more c (two a b)) i.span)
     ∷ says (part Or ∷ []) (λ (e, _). e) ∷ []
 rules Or = says (part And ∷ many MoreAnd ∷ []) (λ (e, (ls, _)). grouped e ls) ∷ []
 rules MoreAnd = says (sign mark.Either ∷ part And ∷ []) (λ (o, (e, _)). record { op = op.Or; span = o.span; right = e }) ∷ []
 rules And = says (part Cmp ∷ many MoreCmp ∷ []) (λ (e, (ls, _)). grouped e ls) ∷ []
 rules MoreCmp = says (sign mark.Both ∷ part Cmp ∷ []) (λ (o, (e, _)). record { op = op.And; span = o.span; right = e }) ∷ []
-rules Cmp = says (part Sum ∷ perhaps Compared ∷ []) (λ (e, (l, _)). compared e l) ∷ []
+rules Cmp = says (part Sum ∷ perhaps Compared ∷ []) (λ (e, (l, _)). option_map_or (linked e) l e) ∷ []
 rules Compared = says (part CmpOp ∷ part Sum ∷ []) (λ ((o, s), (e, _)). record { op = o; span = s; right = e }) ∷ []
 rules CmpOp = says (sign mark.Same ∷ []) (λ (o, _). (op.Eq, o.span))
     ∷ says (sign mark.Differs ∷ []) (λ (o, _). (op.Ne, o.span))
@@ -128,7 +129,7 @@ rules Lit = says (any kind.Number ∷ []) (λ (n, _). (number_of n.what, n.span)
     ∷ says (sign mark.False ∷ []) (λ (t, _). (lit.Bool false, t.span)) ∷ []
 rules Pair = says (sign mark.Open ∷ part Expr ∷ sign mark.Comma ∷ part Expr ∷ sign mark.Close ∷ []) (λ (_, (a, (_, (b, _)))). two a b) ∷ []
 rules Call = says (any kind.Name ∷ part Applied ∷ []) (λ (n, (a, _)). call (name_of n) a.0 a.1) ∷ []
-rules Applied = says (perhaps Base ∷ sign mark.Open ∷ perhaps Args ∷ sign mark.Close ∷ []) (λ (at, (_, (args, _))). (at, args_of args)) ∷ []
+rules Applied = says (perhaps Base ∷ sign mark.Open ∷ perhaps Args ∷ sign mark.Close ∷ []) (λ (at, (_, (args, _))). (at, unwrap_or args no_more)) ∷ []
 rules Base = says (sign mark.At ∷ any kind.Word ∷ []) (λ (_, (w, _)). word_of w.what) ∷ []
 rules Args = says (part Expr ∷ many MoreExpr ∷ []) (λ (e, (es, _)). more e (trees_of es)) ∷ []
 rules MoreExpr = says (sign mark.Comma ∷ part Expr ∷ []) (λ (_, (e, _)). e) ∷ []

@@ -1,9 +1,9 @@
 -- What tokens and their groups stand for.
-use Rattle.std.specs.Prelude.{ℕ, pos, Bool, List, [], ◌∷◌, Option, Some, None, fold}
+use Rattle.std.specs.Prelude.{ℕ, pos, Bool, List, [], Option, Some, None, fold}
+use Rattle.std.specs.Option.{option_map_or}
 use Rattle.lucy_word.specs.Bits.{Bits}
 use Rattle.lucy_tree.specs.declared.span.Span.{Span}
 use Rattle.lucy_tree.specs.declared.span.Name.{Name}
-use Rattle.lucy_tree.specs.declared.decl.Decl.{Decl}
 use Rattle.lucy_tree.specs.declared.expr.Lit.{Lit}
 use Rattle.lucy_tree.specs.declared.expr.Lit.TheVariants as lit
 use Rattle.lucy_tree.specs.Tree.{Tree, Trees, literal, variable, operator, sampled, followed, call, no_more, more}
@@ -36,17 +36,9 @@ abbrev pub word_of : What → Bits
 word_of (what.Word w) = w
 word_of v = record { prefix = []; period = [] }
 
--- a declaration of a name alone
-abbrev pub bare : Name → Decl
-bare name = record { name = name; holds = None; word = None }
-
 -- two operands
 abbrev pub two : Tree → Tree → Trees
 two a b = more a (more b no_more)
-
--- three operands
-abbrev pub three : Tree → Tree → Tree → Trees
-three a b c = more a (two b c)
 
 -- an operator between two operands
 abbrev pub linked : Tree → Link → Tree
@@ -60,15 +52,9 @@ grouped left links = fold linked left links
 abbrev pub sampled_by : Tree → List (Bool × Bits) → Tree
 sampled_by operand samplings = fold (λ e (flip, word). sampled flip e word) operand samplings
 
--- one comparison, or none
-abbrev pub compared : Tree → Option Link → Tree
-compared left None = left
-compared left (Some link) = linked left link
-
 -- a literal alone, or before an operand
 abbrev pub literal_before : Lit × Span → Option (Span × Tree) → Tree
-literal_before (l, span) None = literal l span
-literal_before (l, span) (Some (fby, operand)) = followed l operand fby
+literal_before (l, span) f = option_map_or (λ (fby, operand). followed l operand fby) f (literal l span)
 
 -- a number behind `buffer`: alone, before `fby` and an operand, or as the bound of an expression
 abbrev pub held_by : ℕ → Lit × Span → Option (Option Span × Tree) → Option ℕ × Tree
@@ -82,15 +68,4 @@ held n h = held_by (bound_of n.what) (number_of n.what, n.span) h
 
 -- a name alone, or a call
 abbrev pub named : Name → Option (Option Bits × Trees) → Tree
-named name None = variable name
-named name (Some (at, args)) = call name at args
-
--- the list behind a pair of parentheses, or nothing
-abbrev pub all_of : {A : Type 0} → Option (List A) → List A
-all_of None = []
-all_of (Some list) = list
-
--- the arguments of a call, of which there may be none
-abbrev pub args_of : Option Trees → Trees
-args_of None = no_more
-args_of (Some args) = args
+named name c = option_map_or (λ (at, args). call name at args) c (variable name)

@@ -1,5 +1,6 @@
 -- How a program is printed: its tokens in order, each with the blanks before it.
 use Rattle.std.specs.Prelude.{ℕ, pos, Bool, true, false, List, [], ◌∷◌, ◌++◌, Option, Some, None, map, flat_map}
+use Rattle.std.specs.Option.{option_map_or}
 use Rattle.lucy_word.specs.Bits.{Bits}
 use Rattle.lucy_host.specs.declared.op.Op.{Op}
 use Rattle.lucy_host.specs.declared.op.Op.TheVariants as op
@@ -151,13 +152,11 @@ type_mark holds.Bool = mark.Bool
 
 -- a written type: `:` and its keyword, or nothing
 abbrev pub typing : Option DataType → List (List Printed)
-typing None = []
-typing (Some t) = the mark.Colon ∷ the (type_mark t) ∷ []
+typing t = option_map_or (λ t. the mark.Colon ∷ the (type_mark t) ∷ []) t []
 
 -- a written clock: `::` and its word, or nothing
 abbrev pub clock : Option Bits → List (List Printed)
-clock None = []
-clock (Some w) = the mark.Colons ∷ word_token w ∷ []
+clock w = option_map_or (λ w. the mark.Colons ∷ word_token w ∷ []) w []
 
 -- a declaration: a name, then its type and its clock where they are written
 abbrev pub printed_decl : Decl → List Printed

@@ -1,13 +1,14 @@
 -- Productions that two functions read, one the first symbols and the other those behind them.
 use Rattle.std.proofs.Common.{◌∷◌, List, Option, refl}
+use Rattle.std.specs.Prelude.{unwrap_or}
 use Rattle.lucy_host.specs.declared.op.Op.TheVariants as op
-use Rattle.lucy_tree.specs.Tree.{operator}
+use Rattle.lucy_tree.specs.Tree.{operator, no_more, more}
 use Rattle.lucy_token.specs.declared.mark.Mark.TheVariants as mark
 use Rattle.lucy_token.specs.declared.token.Kind.TheVariants as kind
 use Rattle.lucy_token.specs.declared.token.Token.{Token}
 use Rattle.lucy_grammar.specs.Symbols.{Part, Val}
 use Rattle.lucy_grammar.specs.Grammar.{rules}
-use Rattle.lucy_grammar.specs.Meanings.{name_of, three, args_of}
+use Rattle.lucy_grammar.specs.Meanings.{name_of, two}
 use Rattle.lucy_grammar.specs.Reading.{follows, begins, Takes, Refuses, Reads, Unfit, Begins, IsOther, ReadsOptional, UnfitOptional}
 use Rattle.lucy_grammar.proofs.Steps.{end, tok, tok_no, tok_bad, sub, sub_no, sub_bad, maybe, maybe_no, maybe_bad, rule, rule_no, led_by, others}
 use Rattle.lucy_syntax.specs.Refusals.{behind_name, behind_first, behind_test, behind_base}
@@ -56,7 +57,7 @@ pub behind_first_3 : {ts m1 m2 rest : List Token} {c : Token} {ds : Val Part.Dec
 unfolding rules follows begins
 behind_first_3 h1 h2 u = tok_no h1 (sub_no refl h2 (tok_bad refl u))
 
-pub choice : {ts m1 m2 rest : List Token} {i t e : Token} {c a b : Val Part.Expr} → Begins ts i (kind.Mark mark.If) m1 → Reads Part.Expr m1 c m2 → Takes Part.Expr behind_test m2 (t, (a, (e, (b, tt)))) rest → Reads Part.Expr ts (operator op.If (three c a b) i.span) rest
+pub choice : {ts m1 m2 rest : List Token} {i t e : Token} {c a b : Val Part.Expr} → Begins ts i (kind.Mark mark.If) m1 → Reads Part.Expr m1 c m2 → Takes Part.Expr behind_test m2 (t, (a, (e, (b, tt)))) rest → Reads Part.Expr ts (operator op.If (more c (two a b)) i.span) rest
 unfolding rules follows begins
 choice h1 h2 r = rule 0 refl (led_by 0 refl refl h1) (tok h1 (sub refl h2 r))
 
@@ -84,7 +85,7 @@ pub behind_test_4 : {ts m1 m2 m3 rest : List Token} {t e : Token} {a : Val Part.
 unfolding rules follows begins
 behind_test_4 h1 h2 h3 u = tok_no h1 (sub_no refl h2 (tok_no h3 (sub_bad refl u)))
 
-pub applied : {ts m1 rest : List Token} {o s : Token} (at : Option (Val Part.Base)) {args : Option (Val Part.Args)} → ReadsOptional Part.Base ts at m1 → Takes Part.Applied behind_base m1 (o, (args, (s, tt))) rest → Reads Part.Applied ts (at, args_of args) rest
+pub applied : {ts m1 rest : List Token} {o s : Token} (at : Option (Val Part.Base)) {args : Option (Val Part.Args)} → ReadsOptional Part.Base ts at m1 → Takes Part.Applied behind_base m1 (o, (args, (s, tt))) rest → Reads Part.Applied ts (at, unwrap_or args no_more) rest
 unfolding rules follows begins
 applied {ts = ts} at h1 r = rule 0 refl (others ts 0 refl tt) (maybe at refl h1 r)
 

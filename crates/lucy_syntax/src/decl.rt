@@ -1,7 +1,6 @@
 // Reads declarations, parameters and results.
-ghost use Rattle.std.specs.Prelude.{◌≡◌, ◌<◌, ◌≤◌, IfOk, IfErr, List, Option, length};
+ghost use Rattle.std.specs.Prelude.{◌≡◌, ◌<◌, ◌≤◌, IfOk, IfErr, List, Option, length, unwrap_or, []};
 ghost use Rattle.lucy_tree.specs.declared.decl.Decl.{Decl};
-ghost use Rattle.lucy_grammar.specs.Meanings.{all_of};
 ghost use Rattle.lucy_grammar.specs.Symbols.{Part};
 ghost use Rattle.lucy_grammar.specs.Reading.{Takes, Refuses, Reads, Unfit, ReadsOptional, UnfitOptional};
 ghost use Rattle.lucy_syntax.specs.Refusals.{RefusedBy, behind_name};
@@ -137,7 +136,7 @@ fn given_decls<'a, 't>(
     alloc: Global,
     ts: &'a [Token<'t>],
 ) -> Result<(Vec<Decl>, &'a [Token<'t>]), Refusal<'a, 't>>
-    ensures ok { IfOk result (λ p. (o : Option (List Decl)) × ReadsOptional Part.Decls ts.now o p.1.now × (p.0.items ≡ all_of o)) }
+    ensures ok { IfOk result (λ p. (o : Option (List Decl)) × ReadsOptional Part.Decls ts.now o p.1.now × (p.0.items ≡ unwrap_or o [])) }
     ensures refused { IfErr result (RefusedBy (UnfitOptional Part.Decls ts.now)) }
     ensures shorter { IfOk result (λ p. length p.1.now ≤ length ts.now) }
 {

@@ -1,13 +1,13 @@
 // Reads expressions by descent: a function for each part of the grammar, and one for the operators of all levels.
-ghost use Rattle.std.specs.Prelude.{◌≡◌, ◌<◌, ◌≤◌, IfOk, IfErr, Option, length};
+ghost use Rattle.std.specs.Prelude.{◌≡◌, ◌<◌, ◌≤◌, IfOk, IfErr, Option, length, unwrap_or};
 ghost use Rattle.lucy_token.specs.Tokens.{first};
 ghost use Rattle.lucy_token.specs.declared.mark.Mark.TheVariants as mark;
 ghost use Rattle.lucy_token.specs.declared.token.Kind.TheVariants as kind;
 ghost use Rattle.lucy_token.specs.declared.token.Token.{Token};
-ghost use Rattle.lucy_tree.specs.Tree.{Trees};
+ghost use Rattle.lucy_tree.specs.Tree.{Trees, no_more};
 ghost use Rattle.lucy_tree.specs.View.{tree_of};
 ghost use Rattle.lucy_grammar.specs.Symbols.{Part};
-ghost use Rattle.lucy_grammar.specs.Meanings.{args_of, two};
+ghost use Rattle.lucy_grammar.specs.Meanings.{two};
 ghost use Rattle.lucy_grammar.specs.Reading.{Takes, Refuses, Reads, Unfit, ReadsOptional, UnfitOptional, IsBegun};
 ghost use Rattle.lucy_syntax.specs.Levels.{ReadsAt, UnfitAt};
 ghost use Rattle.lucy_syntax.specs.Refusals.{RefusedBy, IsFollowed, IsHeldBy, IsApplied, IsSampled, behind_test, behind_base};
@@ -445,7 +445,7 @@ fn enclosed<'a, 't>(
     alloc: Global,
     ts: &'a [Token<'t>],
 ) -> Result<(Vec<Expr>, &'a [Token<'t>]), Refusal<'a, 't>>
-    ensures ok { IfOk result (λ p. (o : Token) × (given : Option Trees) × (s : Token) × Takes Part.Applied behind_base ts.now (o, (given, (s, tt))) p.1.now × (all_trees p.0.items ≡ args_of given)) }
+    ensures ok { IfOk result (λ p. (o : Token) × (given : Option Trees) × (s : Token) × Takes Part.Applied behind_base ts.now (o, (given, (s, tt))) p.1.now × (all_trees p.0.items ≡ unwrap_or given no_more)) }
     ensures refused { IfErr result (RefusedBy (Refuses Part.Applied behind_base ts.now)) }
     ensures shorter { IfOk result (λ p. length p.1.now < length ts.now) }
 {
@@ -461,7 +461,7 @@ fn given<'a, 't>(
     alloc: Global,
     ts: &'a [Token<'t>],
 ) -> Result<(Vec<Expr>, &'a [Token<'t>]), Refusal<'a, 't>>
-    ensures ok { IfOk result (λ p. (o : Option Trees) × ReadsOptional Part.Args ts.now o p.1.now × (all_trees p.0.items ≡ args_of o)) }
+    ensures ok { IfOk result (λ p. (o : Option Trees) × ReadsOptional Part.Args ts.now o p.1.now × (all_trees p.0.items ≡ unwrap_or o no_more)) }
     ensures refused { IfErr result (RefusedBy (UnfitOptional Part.Args ts.now)) }
     ensures shorter { IfOk result (λ p. length p.1.now ≤ length ts.now) }
 {

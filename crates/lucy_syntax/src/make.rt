@@ -64,7 +64,7 @@ pub fn choice(
     other: Box<Expr>,
     span: Span,
 ) -> Result<Box<Expr>, AllocError>
-    ensures { IfOk result (λ e. tree_of e.value ≡ operator op.If (meaning.three (tree_of test.value) (tree_of then.value) (tree_of other.value)) span) }
+    ensures { IfOk result (λ e. tree_of e.value ≡ operator op.If (more (tree_of test.value) (meaning.two (tree_of then.value) (tree_of other.value))) span) }
 {
     let mut args = one_boxed(alloc, test)?;
     push_boxed(&mut args, then)?;

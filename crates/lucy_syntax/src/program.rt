@@ -1,9 +1,8 @@
 // Reads definitions, nodes and programs.
-ghost use Rattle.std.specs.Prelude.{◌≡◌, ◌<◌, ◌≤◌, ◌∷◌, IfOk, IfErr, List, Option, length, map};
+ghost use Rattle.std.specs.Prelude.{◌≡◌, ◌<◌, ◌≤◌, ◌∷◌, IfOk, IfErr, List, Option, length, map, unwrap_or, []};
 ghost use Rattle.lucy_tree.specs.View.{DefTree, tree_of, def_tree, node_tree};
 ghost use Rattle.lucy_token.specs.declared.token.Token.{Token};
 ghost use Rattle.lucy_grammar.specs.Symbols.{Part};
-ghost use Rattle.lucy_grammar.specs.Meanings.{all_of};
 ghost use Rattle.lucy_grammar.specs.Reading.{Takes, Refuses, Reads, Unfit, ReadsOptional, UnfitOptional};
 ghost use Rattle.lucy_syntax.specs.Refusals.{RefusedBy, behind_first};
 
@@ -106,7 +105,7 @@ fn body<'a, 't>(
     alloc: Global,
     ts: &'a [Token<'t>],
 ) -> Result<(Vec<Def>, &'a [Token<'t>]), Refusal<'a, 't>>
-    ensures ok { IfOk result (λ p. (o : Option (List DefTree)) × ReadsOptional Part.Body ts.now o p.1.now × (map def_tree p.0.items ≡ all_of o)) }
+    ensures ok { IfOk result (λ p. (o : Option (List DefTree)) × ReadsOptional Part.Body ts.now o p.1.now × (map def_tree p.0.items ≡ unwrap_or o [])) }
     ensures refused { IfErr result (RefusedBy (UnfitOptional Part.Body ts.now)) }
     ensures shorter { IfOk result (λ p. length p.1.now ≤ length ts.now) }
 {

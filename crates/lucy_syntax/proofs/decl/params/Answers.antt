@@ -1,6 +1,6 @@
-use Rattle.std.proofs.Common.{◌∷◌, [], ap, ◌∙◌}
+use Rattle.std.proofs.Common.{◌∷◌, [], None, ap, ◌∙◌}
+use Rattle.lucy_tree.specs.declared.decl.Decl as decl
 use Rattle.lucy_grammar.specs.Symbols.{Part}
-use Rattle.lucy_grammar.specs.Meanings.{bare}
 use Rattle.lucy_grammar.specs.Reading.{IsOther, UnfitOptional}
 use Rattle.lucy_grammar.proofs.Steps.{as_value}
 use Rattle.lucy_syntax.proofs.Leaving.{leaves}
@@ -12,7 +12,7 @@ use Rattle.lucy_grammar.proofs.NodeProductions as by
 use Rattle.lucy_syntax.proofs.decl.params.Goals as goal
 
 pub returns-then-at-clause-ok : goal.returns-then-at-clause-ok
-returns-then-at-clause-ok c = as_value (c.in_ok-list.ensures ∙ ap (λ (x : name.Name). bare x ∷ []) c.in_ok-name.ensures.ok.2) (by.param c.in_ok-name.ensures.ok.1)
+returns-then-at-clause-ok c = as_value (c.in_ok-list.ensures ∙ ap (λ (x : name.Name). let d : decl.Decl = record { name = x; holds = None; word = None } in d ∷ []) c.in_ok-name.ensures.ok.2) (by.param c.in_ok-name.ensures.ok.1)
 
 pub returns-in_err-ts-clause-refused : goal.returns-in_err-ts-clause-refused
 returns-in_err-ts-clause-refused c =

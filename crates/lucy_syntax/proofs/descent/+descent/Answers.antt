@@ -1,4 +1,5 @@
 use Rattle.std.proofs.Common.{ℕ, Some, None, refl, ap, sym, arith, ◌∙◌}
+use Rattle.std.specs.Prelude.{unwrap_or}
 use Rattle.std.proofs.lemmas.Result.{IfOk-weaker}
 use Rattle.lucy_word.specs.Bits.{Bits}
 use Rattle.lucy_host.specs.declared.op.Op.TheVariants as op
@@ -8,7 +9,7 @@ use Rattle.lucy_tree.specs.View.{tree_of}
 use Rattle.lucy_token.specs.declared.mark.Mark.TheVariants as mark
 use Rattle.lucy_token.specs.declared.token.Kind.TheVariants as kind
 use Rattle.lucy_grammar.specs.Symbols.{Part, Val}
-use Rattle.lucy_grammar.specs.Meanings.{word_of, bound_of, held_by, two, three, args_of}
+use Rattle.lucy_grammar.specs.Meanings.{word_of, bound_of, held_by, two}
 use Rattle.lucy_grammar.specs.Reading.{Refuses, Unfit, IsOther, UnfitOptional}
 use Rattle.lucy_grammar.proofs.Steps.{as_value}
 use Rattle.lucy_grammar.proofs.Growing.{grown_first, grown_more, grown_bad, grown_refused, grown_ended, samps, args}
@@ -38,7 +39,7 @@ choice-returns-in_err-then-clause-refused t c =
     leaves (Refuses Part.Expr behind_test c.in_ok-test.ts.now) _ c.from_residual-in_err-then.result c.from_residual-in_err-then.ensures.1 c.in_err-then.ensures.refused (λ rest u. parts.choice_no c.in_ok-span.ensures.ok.1 c.in_ok-test.ensures.ok u)
 
 pub choice-returns-clause-ok : goal.choice-returns-clause-ok
-choice-returns-clause-ok t c = as_value (c.in_ok-choice.ensures ∙ ap (operator op.If (three (tree_of c.in_ok-test.test.value) (tree_of c.in_ok-then.then.value) (tree_of c.in_ok-then.other.value))) c.in_ok-span.ensures.ok.2) (parts.choice c.in_ok-span.ensures.ok.1 c.in_ok-test.ensures.ok c.in_ok-then.ensures.ok.2)
+choice-returns-clause-ok t c = as_value (c.in_ok-choice.ensures ∙ ap (operator op.If (more (tree_of c.in_ok-test.test.value) (two (tree_of c.in_ok-then.then.value) (tree_of c.in_ok-then.other.value)))) c.in_ok-span.ensures.ok.2) (parts.choice c.in_ok-span.ensures.ok.1 c.in_ok-test.ensures.ok c.in_ok-then.ensures.ok.2)
 
 pub branches-returns-in_err-ts-clause-refused : goal.branches-returns-in_err-ts-clause-refused
 branches-returns-in_err-ts-clause-refused t c =
@@ -302,7 +303,7 @@ applied-returns-in_err-args-clause-refused t c =
     leaves (Refuses Part.Applied behind_base c.in_ok-base.ts.now) _ c.from_residual-in_err-args.result c.from_residual-in_err-args.ensures.1 c.in_err-args.ensures.refused (λ rest u. parts.applied_no _ c.in_ok-base.ensures.ok u)
 
 pub applied-returns-clause-ok : goal.applied-returns-clause-ok
-applied-returns-clause-ok t c = ((c.in_ok-base.base, args_of c.in_ok-args.ensures.ok.1), parts.applied _ c.in_ok-base.ensures.ok c.in_ok-args.ensures.ok.3, c.in_ok-called.ensures ∙ ap (call c.args.name c.in_ok-base.base) c.in_ok-args.ensures.ok.4)
+applied-returns-clause-ok t c = ((c.in_ok-base.base, unwrap_or c.in_ok-args.ensures.ok.1 no_more), parts.applied _ c.in_ok-base.ensures.ok c.in_ok-args.ensures.ok.3, c.in_ok-called.ensures ∙ ap (call c.args.name c.in_ok-base.base) c.in_ok-args.ensures.ok.4)
 
 pub enclosed-returns-in_err-ts-clause-refused : goal.enclosed-returns-in_err-ts-clause-refused
 enclosed-returns-in_err-ts-clause-refused t c =
