@@ -11,8 +11,10 @@ use Rattle.lucy_lines.specs.declared.reader.Line.TheVariants.{Item, End}
 use Rattle.lucy_lines.specs.declared.reader.TextFault.{TextFault}
 use Rattle.lucy_lines.specs.declared.reader.TextFault.TheVariants.{BadLine, UnknownStream, BadValue, ReadFault, TooLong}
 use Rattle.lucy_lines.specs.Fronts.{most_bytes}
-use Rattle.lucy_lines.specs.Cuts.{Held, bytes_taken, ItemOf, Answer, Gives, Refuses, Wants, Next, blank, item, refused, long, too_long, wants, with_more, Stop as Halt, At, Before, Cut, refused_line, undecided, first, turn, input_of}
+use Rattle.lucy_lines.specs.Cuts.{Held, bytes_taken, ItemOf, with_more, Stop as Halt, At, Before, Cut, input_of}
+use Rattle.lucy_lines.specs.Nexts.{Answer, Gives, Refuses, Wants, Next, blank, item, refused, long, too_long, wants, first, turn}
 use Rattle.lucy_lines.specs.Reading.{ReaderState, new_reader, Took, Asked, Blames, GoesOn, OfItem, IsLast, most_taken, most_read}
+use Rattle.lucy_lines.proofs.Answered.{refused_line, undecided, cut_of}
 use Rattle.lucy_lines.proofs.CutLaws.{turns_cut}
 use Rattle.lucy_lines.proofs.Exists.{some_cut}
 use Rattle.lucy_lines.proofs.ReaderLaws.{kind_fits}
@@ -115,7 +117,7 @@ asked_now : (inputs : List InputSpec) (items : List ItemOf) (taken bytes : List 
     (early late : List ℕ) (h : Held) → bytes ≡ early ++ late → length late ≤ most_read → Next inputs false (with_more held early) (Wants h) →
     IsAskedWhile (λ xs. xs ≡ items) inputs (taken ++ bytes)
 asked_now inputs items taken bytes held closed leads open_yet early late h e few n =
-    let cut = leads false early [] (Before h) (λ t. let no_more : true ≡ false = sym t ∙ open_yet in cc) (undecided n) in
+    let cut = leads false early [] (Before h) (λ t. let no_more : true ≡ false = sym t ∙ open_yet in cc) (cut_of (undecided n)) in
     inr (taken ++ early, late, items ++ [], h, ap (λ u. taken ++ u) e ∙ sym (append_assoc taken early late), few, cut, append-nil items)
 
 -- bytes were asked for in this call, if at all, behind these items
@@ -220,7 +222,7 @@ ended inputs old new counts fault before between after items taken bytes o c shu
     let Q : Bool → Type 0 = λ u. Next old.inputs u (with_more old.held bytes) (Wants new.held) in
     let R : List ItemOf → Type 0 = λ u. Cut inputs true (input_of (taken ++ bytes)) u (Before new.held) in
     let T : Option TextFault → Type 0 = λ u. StopsFor u Ended in
-    let cut = s.leads true bytes [] (Before new.held) (λ e. let q = c.took.quiet e in (q.0, refl)) (undecided (subst P s.kept (subst Q c.took.answer.0 c.took.answer.1))) in (
+    let cut = s.leads true bytes [] (Before new.held) (λ e. let q = c.took.quiet e in (q.0, refl)) (cut_of (undecided (subst P s.kept (subst Q c.took.answer.0 c.took.answer.1)))) in (
       bytes,
       Ended,
       Before new.held,
@@ -248,7 +250,7 @@ failed inputs old new counts before between after items taken bytes o c shut =
     let R : ℕ → Type 0 = λ u. Rose u after.faults in
     let T : List ItemOf → Type 0 = λ u. Cut inputs false (input_of (taken ++ bytes)) u (Before new.held) in
     let cut = s.leads false bytes [] (Before new.held) (λ e. let q = c.took.quiet e in let no_more : true ≡ false = sym q.1 ∙ c.took.answer.0 in cc)
-    (undecided (subst P s.kept (subst Q c.took.answer.0 c.took.answer.1))) in (
+    (cut_of (undecided (subst P s.kept (subst Q c.took.answer.0 c.took.answer.1)))) in (
       bytes,
       Failed,
       Before new.held,
@@ -277,7 +279,7 @@ line_refused inputs old new counts before between after items taken bytes f o c 
     let P : List InputSpec → Type 0 = λ u. Next u true (with_more old.held bytes) (Refuses f) in
     let Q : Bool → Type 0 = λ u. Next old.inputs u (with_more old.held bytes) (Refuses f) in
     let T : List ItemOf → Type 0 = λ u. Cut inputs true (input_of (taken ++ bytes)) u (At f) in
-    let cut = s.leads true bytes [] (At f) (λ e. let q = c.took.quiet e in (q.0, refl)) (refused_line (subst P s.kept (subst Q shut n))) in (
+    let cut = s.leads true bytes [] (At f) (λ e. let q = c.took.quiet e in (q.0, refl)) (cut_of (refused_line (subst P s.kept (subst Q shut n)))) in (
       bytes,
       Drained,
       At f,
@@ -300,7 +302,7 @@ line_refused inputs old new counts before between after items taken bytes f o c 
     let Q : Bool → Type 0 = λ u. Next old.inputs u (with_more old.held bytes) (Refuses f) in
     let T : List ItemOf → Type 0 = λ u. Cut inputs false (input_of (taken ++ bytes)) u (At f) in
     let cut = s.leads false bytes [] (At f) (λ e. let q = c.took.quiet e in let no_more : true ≡ false = sym q.1 ∙ open_yet in cc)
-    (refused_line (subst P s.kept (subst Q open_yet n))) in (
+    (cut_of (refused_line (subst P s.kept (subst Q open_yet n)))) in (
       bytes,
       Open,
       At f,

@@ -15,7 +15,8 @@ use Rattle.lucy_text.proofs.OutsideLaws.{followed, followed_more, followed-nil}
 use Rattle.lucy_lines.specs.Fronts.{most_bytes, front_of}
 use Rattle.lucy_lines.specs.Fields.{fields}
 use Rattle.lucy_lines.specs.Kinds.{FieldsSay}
-use Rattle.lucy_lines.specs.Cuts.{Held, bytes_taken, with_more, ItemOf, Answer, Gives, Refuses, Wants, refusal, Next, blank, item, refused, long, too_long, wants}
+use Rattle.lucy_lines.specs.Cuts.{Held, bytes_taken, with_more, ItemOf, refusal}
+use Rattle.lucy_lines.specs.Nexts.{Answer, Gives, Refuses, Wants, Next, blank, item, refused, long, too_long, wants}
 use Rattle.lucy_lines.specs.Reading.{ReaderState, Answers, Asked, Took, most_taken, OfItem, Blames, IsDecided}
 use Rattle.lucy_lines.specs.Steps.{HeldAnswers, Reads}
 use Rattle.lucy_lines.proofs.FrontLaws.{line_within, open_within}

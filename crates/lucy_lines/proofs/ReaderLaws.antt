@@ -16,7 +16,8 @@ use Rattle.lucy_lines.specs.Fronts.{front_of}
 use Rattle.lucy_lines.specs.Values.{Spells}
 use Rattle.lucy_lines.specs.Fields.{fields}
 use Rattle.lucy_lines.specs.Kinds.{IsKind, FieldsSay}
-use Rattle.lucy_lines.specs.Cuts.{Held, Answer, Gives, Wants, Next, blank, item, refused, wants}
+use Rattle.lucy_lines.specs.Cuts.{Held}
+use Rattle.lucy_lines.specs.Nexts.{Answer, Gives, Wants, Next, blank, item, refused, wants}
 use Rattle.lucy_lines.proofs.FrontLaws.{line_within}
 use Rattle.lucy_lines.specs.Reading.{ReaderState}
 use Rattle.lucy_lines.specs.Steps.{Steps, step_at, behind}

@@ -6,6 +6,7 @@ pub mod Fields
 pub mod Values
 pub mod Kinds
 pub mod Cuts
+pub mod Nexts
 pub mod Reading
 pub mod Laws
 pub mod Judged

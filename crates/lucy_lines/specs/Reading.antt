@@ -7,7 +7,8 @@ use Rattle.lucy_lines.specs.declared.reader.Line.TheVariants.{Item, End}
 use Rattle.lucy_lines.specs.declared.reader.TextFault.{TextFault}
 use Rattle.lucy_lines.specs.declared.reader.TextFault.TheVariants.{BadLine, UnknownStream, BadValue, ReadFault, TooLong}
 use Rattle.lucy_lines.specs.Fronts.{most_bytes}
-use Rattle.lucy_lines.specs.Cuts.{Held, bytes_taken, Answer, Gives, Refuses, Wants, Next, with_more}
+use Rattle.lucy_lines.specs.Cuts.{Held, bytes_taken, with_more}
+use Rattle.lucy_lines.specs.Nexts.{Answer, Gives, Refuses, Wants, Next}
 
 -- A reader of these inputs: the bytes that it holds, whether a read has met their end, and whether there is nothing more to ask for.
 pub record ReaderState : Type 0 where

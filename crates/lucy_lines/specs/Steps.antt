@@ -12,7 +12,8 @@ use Rattle.lucy_lines.specs.declared.reader.TextFault.{TextFault}
 use Rattle.lucy_lines.specs.declared.reader.TextFault.TheVariants.{BadLine, UnknownStream, BadValue}
 use Rattle.lucy_lines.specs.Fronts.{front_of}
 use Rattle.lucy_lines.specs.Kinds.{IsKind}
-use Rattle.lucy_lines.specs.Cuts.{Held, Gives, Refuses, Wants, Next, past, with_more}
+use Rattle.lucy_lines.specs.Cuts.{Held, past, with_more}
+use Rattle.lucy_lines.specs.Nexts.{Gives, Refuses, Wants, Next}
 use Rattle.lucy_lines.specs.Reading.{ReaderState, most_read}
 
 -- the step of the line of the number, which says this

@@ -1,7 +1,8 @@
 ghost use Rattle.std.specs.Prelude.{◌≡◌, ◌+◌, ◌<◌, ◌≤◌, ◌^◌, ◌↔◌, ℕ, Bool, List, [], ◌++◌, Some, Ok, true, false, length, IfOk, IfSome, OnOk, OnErr, IsTrue};
 ghost use Rattle.lucy_text.specs.Outside.{HasEnded, HasCause, NoneFollows};
 ghost use Rattle.lucy_lines.specs.Fronts.{most_bytes, run, front_of};
-ghost use Rattle.lucy_lines.specs.Cuts.{Held, bytes_taken, with_more, past, Answer, Next};
+ghost use Rattle.lucy_lines.specs.Cuts.{Held, bytes_taken, with_more, past};
+ghost use Rattle.lucy_lines.specs.Nexts.{Answer, Next};
 ghost use Rattle.lucy_lines.specs.Reading.{ReaderState, new_reader, Took, Blames, GoesOn, most_taken, OfItem, IsDecided, IsLast};
 ghost use Rattle.lucy_lines.specs.Steps.{step_at, Steps, Says, HeldAnswers, Reads};
 

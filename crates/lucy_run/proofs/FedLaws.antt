@@ -3,9 +3,11 @@ use Rattle.std.proofs.Common.{◌≡◌, ℕ, Bool, List, [], ◌∷◌, Option,
 use Rattle.std.specs.Prelude.{ℤ, length, IsTrue}
 use Rattle.lucy_text.proofs.OutsideLaws.{followed-nil, still_none}
 use Rattle.lucy_lines.specs.declared.input.InputSpec.{InputSpec}
-use Rattle.lucy_lines.specs.Cuts.{Held, ItemOf, Refuses, Stop as Halt, At, Before, Cut, refused_line, undecided, more, input_of}
+use Rattle.lucy_lines.specs.Cuts.{Held, ItemOf, Stop as Halt, At, Before, Cut, input_of}
+use Rattle.lucy_lines.specs.Nexts.{Refuses}
 use Rattle.lucy_lines.specs.declared.reader.TextFault.{TextFault}
 use Rattle.lucy_lines.specs.declared.reader.TextFault.TheVariants.{BadLine, UnknownStream, BadValue, ReadFault, TooLong}
+use Rattle.lucy_lines.proofs.Answered.{Answered, refused_line, undecided, more, answered}
 use Rattle.lucy_lines.proofs.ReadLaws.{refuses_read}
 use Rattle.lucy_lines.specs.Fronts.{most_bytes}
 use Rattle.lucy_lines.proofs.Exists.{some_cut}
@@ -25,10 +27,13 @@ fed_nothing [] s lists none e = ([], Unread, read_nothing s, inl refl, (refl, re
 fed_nothing (input ∷ inputs) s lists none e = absurd (omega arith)
 
 -- no item stops before a failed read
+answered_read : {inputs : List InputSpec} {closed : Bool} {h : Held} {items : List ItemOf} (halt : Halt) → halt ≡ At ReadFault → Answered inputs closed h items halt → ⊥
+answered_read halt e (refused_line {f = f} n) = let same : f ≡ ReadFault = cc in refuses_read (Refuses f) (ap Refuses same) n
+answered_read halt e (undecided n) = cc
+answered_read halt e (more n cut) = answered_read halt e cut
+
 cut_read : {inputs : List InputSpec} {closed : Bool} {h : Held} {items : List ItemOf} (halt : Halt) → halt ≡ At ReadFault → Cut inputs closed h items halt → ⊥
-cut_read halt e (refused_line {f = f} n) = let same : f ≡ ReadFault = cc in refuses_read (Refuses f) (ap Refuses same) n
-cut_read halt e (undecided n) = cc
-cut_read halt e (more n cut) = cut_read halt e cut
+cut_read halt e c = answered_read halt e (answered c)
 
 -- what main is fed by bytes that are all that there are, where these are their items
 pub fed_by_all : (input : InputSpec) (inputs : List InputSpec) (taken : List ℕ) (items : List ItemOf) (halt : Halt) → Cut (input ∷ inputs) true (input_of taken) items halt →

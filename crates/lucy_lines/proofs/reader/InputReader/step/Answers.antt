@@ -5,7 +5,7 @@ use Rattle.lucy_lines.specs.Reading.{ReaderState}
 use Rattle.lucy_lines.specs.Steps.{Steps}
 use Rattle.lucy_lines.specs.declared.reader.Step.TheVariants as step
 use Rattle.lucy_lines.specs.declared.reader.TextFault.TheVariants.{BadLine, TooLong}
-use Rattle.lucy_lines.specs.Cuts.{long, too_long}
+use Rattle.lucy_lines.specs.Nexts.{long, too_long}
 use Rattle.lucy_lines.proofs.reader.InputReader.step.Goals as goal
 
 -- a line that is too long, of readers that are seen alike
