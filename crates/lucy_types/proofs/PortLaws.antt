@@ -15,8 +15,8 @@ use Rattle.lucy_types.specs.declared.ty.Ty.{Ty}
 use Rattle.lucy_types.specs.declared.ty.Ty.TheVariants as ty
 use Rattle.lucy_types.specs.declared.rule.Rule.{Rule}
 use Rattle.lucy_types.specs.declared.rule.Rule.TheVariants.{Is, Alike}
-use Rattle.lucy_types.specs.Rules.{Joins, Carries, as_ty}
-use Rattle.lucy_types.specs.Typing.{Typing, IsTyping}
+use Rattle.lucy_types.specs.Rules.{Joins, Carries}
+use Rattle.lucy_types.specs.Typing.{Typing, IsTyping, as_ty}
 use Rattle.lucy_types.specs.Ports.{ArePlacesOf, port_types, port_rule, joined_rules, counted, HaveClasses, AreHeads}
 use Rattle.lucy_types.proofs.ListLaws.{none_some, get_there, get_take, taken, get_left, get_right, contains_head, contains_tail, contains_cons, contains_none}
 use Rattle.lucy_types.proofs.CallLaws.{length_counted, get_counted, counted_get}

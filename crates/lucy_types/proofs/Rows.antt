@@ -16,7 +16,7 @@ use Rattle.lucy_types.specs.declared.ty.Ty.{Ty}
 use Rattle.lucy_types.specs.declared.ty.Ty.TheVariants as ty
 use Rattle.lucy_types.specs.declared.rule.Rule.TheVariants.{Is, Alike}
 use Rattle.lucy_types.specs.Rules.{IsRule}
-use Rattle.lucy_types.specs.Typing.{Typing, Meets, IsTyping, Says, AreTypes}
+use Rattle.lucy_types.specs.Typing.{Typing, Meets, IsTyping, Says, AreTypes, as_ty}
 use Rattle.lucy_types.specs.Gathered.{own_rules}
 use Rattle.lucy_types.specs.Programs.{IsClash}
 use Rattle.lucy_types.proofs.ListLaws.{none_some, contains_at}
@@ -86,16 +86,18 @@ id_fixed (suc zero) u e = cc
 id_fixed (suc (suc zero)) u e = cc
 id_fixed (suc (suc (suc p))) u e = absurd (none_some u e)
 
+id_untold : (p : ℕ) (t : DataType) → at_one id_types p ≡ Some (as_ty t) → ⊥
+id_untold p Int e = let h : ty.Int ≡ ty.Open 1 = id_fixed p ty.Int e in cc
+id_untold p Bool e = let h : ty.Bool ≡ ty.Open 1 = id_fixed p ty.Bool e in cc
+
 -- x : '1, y : '1
 id_typed : AreTypes (IsRule [] [] id) 2 id_types
 id_typed = record {
   typing = λ p. Int;
   meets = id_meets Int;
   all = refl;
-  int = λ p e. absurd (let h : ty.Int ≡ ty.Open 1 = id_fixed p ty.Int e in cc);
-  bool = λ p e. absurd (let h : ty.Bool ≡ ty.Open 1 = id_fixed p ty.Bool e in cc);
-  open_int = λ p k e. ((λ q. Int), id_meets Int, refl);
-  open_bool = λ p k e. ((λ q. Bool), id_meets Bool, refl);
+  told = λ p t e. absurd (id_untold p t e);
+  untold = λ p k t e. ((λ q. t), id_meets t, refl);
   classes = λ p q k l e f. ((λ h a m. (id_open p k e).1 a m ∙ sym ((id_open q l f).1 a m)), (λ h. (id_open p k e).0 ∙ sym (id_open q l f).0));
   numbered = record {
     from_one = λ p e. let h : 0 ≡ 1 = (id_open p 0 e).0 in absurd (omega arith);

@@ -14,7 +14,7 @@ use Rattle.lucy_types.specs.declared.flood.Flood.{Flood}
 use Rattle.lucy_types.specs.declared.flood.Reached.{Reached}
 use Rattle.lucy_types.specs.declared.rule.Rule.{Rule}
 use Rattle.lucy_types.specs.declared.rule.Rule.TheVariants.{Is, Alike}
-use Rattle.lucy_types.specs.Typing.{Typing, IsTyping, Says, Agree, AreTypes}
+use Rattle.lucy_types.specs.Typing.{Typing, IsTyping, Says, Agree, AreTypes, as_ty}
 use Rattle.lucy_types.specs.Clash.{Touch, IsClashPath}
 use Rattle.lucy_types.specs.Graphs.{HasTrue, GraphRule, IsDrawn, IsGraph}
 use Rattle.lucy_types.specs.Flooding.{mark, reached, marked, MayBegin, IsFixed, IsFlood, IsSettled, IsReached, IsTorn, HaveOrder, FloodsForced, FloodsAll}
@@ -122,16 +122,18 @@ agree_class g f s p q k l m n a =
     let e : value_of v (mark f p) ≡ value_of v (mark f q) = a (λ z. value_of v (mark f z)) (meets g f s v) in
     one_other k l (sym (ap (value_of v) n) ∙ sym e ∙ ap (value_of v) m ∙ one_itself k)
 
+says_told : (g : Graph) (f : Flood) → IsFlood g f → (p : ℕ) (t : DataType) → mark f p ≡ Some (as_ty t) → Says (GraphRule g) p t
+says_told g f s p Int h = says_int g f s p h
+says_told g f s p Bool h = says_bool g f s p h
+
 -- the types of a flood
 pub types_of_flood : (g : Graph) (f : Flood) (n : ℕ) (tys : List Ty) → IsSolved g f → length tys ≡ n → ((p : ℕ) → at_one tys p ≡ mark f p) → AreTypes (GraphRule g) n tys
 types_of_flood g f n tys s l e = record {
   typing = λ p. value_of (λ k. Int) (mark f p);
   meets = meets g f s (λ k. Int);
   all = l;
-  int = λ p h. says_int g f s.settled.flood p (sym (e p) ∙ h);
-  bool = λ p h. says_bool g f s.settled.flood p (sym (e p) ∙ h);
-  open_int = λ p k h. ((λ q. value_of (λ m. Int) (mark f q)), meets g f s (λ m. Int), ap (value_of (λ m. Int)) (sym (e p) ∙ h));
-  open_bool = λ p k h. ((λ q. value_of (λ m. Bool) (mark f q)), meets g f s (λ m. Bool), ap (value_of (λ m. Bool)) (sym (e p) ∙ h));
+  told = λ p t h. says_told g f s.settled.flood p t (sym (e p) ∙ h);
+  untold = λ p k t h. ((λ q. value_of (λ m. t) (mark f q)), meets g f s (λ m. t), ap (value_of (λ m. t)) (sym (e p) ∙ h));
   classes = λ p q k m h i. (
     (λ same. class_agrees g f s.settled.flood p q m (sym (e p) ∙ h ∙ ap (λ x. Some (ty.Open x)) same) (sym (e q) ∙ i)),
     (λ a. agree_class g f s p q k m (sym (e p) ∙ h) (sym (e q) ∙ i) a),

@@ -50,10 +50,8 @@ same_typings R S to from n tys t = record {
   typing = t.typing;
   meets = to t.typing t.meets;
   all = t.all;
-  int = λ p e a m. t.int p e a (from a m);
-  bool = λ p e a m. t.bool p e a (from a m);
-  open_int = λ p k e. let o = t.open_int p k e in (o.0, to o.0 o.1, o.2);
-  open_bool = λ p k e. let o = t.open_bool p k e in (o.0, to o.0 o.1, o.2);
+  told = λ p u e a m. t.told p u e a (from a m);
+  untold = λ p k u e. let o = t.untold p k u e in (o.0, to o.0 o.1, o.2);
   classes = λ p q k l e f. let c = t.classes p q k l e f in ((λ g a m. c.0 g a (from a m)), (λ g. c.1 (λ a m. g a (to a m))));
   numbered = t.numbered;
 }
@@ -94,13 +92,13 @@ same_class R n xs ys x y p k l same e f =
 same_ty : (R : Rule → Type 0) (n : ℕ) (xs ys : List Ty) → AreTypes R n xs → AreTypes R n ys → (p : ℕ)
     → ((q : ℕ) → q < p → at_one xs q ≡ at_one ys q) → (s t : Ty) → at_one xs p ≡ Some s → at_one ys p ≡ Some t → s ≡ t
 same_ty R n xs ys x y p same ty.Int ty.Int e f = refl
-same_ty R n xs ys x y p same ty.Int ty.Bool e f = absurd (int_no_bool (sym (x.int p e x.typing x.meets) ∙ y.bool p f x.typing x.meets))
-same_ty R n xs ys x y p same ty.Int (ty.Open l) e f = let o = y.open_bool p l f in absurd (int_no_bool (sym (x.int p e o.0 o.1) ∙ o.2))
-same_ty R n xs ys x y p same ty.Bool ty.Int e f = absurd (int_no_bool (sym (y.int p f x.typing x.meets) ∙ x.bool p e x.typing x.meets))
+same_ty R n xs ys x y p same ty.Int ty.Bool e f = absurd (int_no_bool (sym (x.told p Int e x.typing x.meets) ∙ y.told p Bool f x.typing x.meets))
+same_ty R n xs ys x y p same ty.Int (ty.Open l) e f = let o = y.untold p l Bool f in absurd (int_no_bool (sym (x.told p Int e o.0 o.1) ∙ o.2))
+same_ty R n xs ys x y p same ty.Bool ty.Int e f = absurd (int_no_bool (sym (y.told p Int f x.typing x.meets) ∙ x.told p Bool e x.typing x.meets))
 same_ty R n xs ys x y p same ty.Bool ty.Bool e f = refl
-same_ty R n xs ys x y p same ty.Bool (ty.Open l) e f = let o = y.open_int p l f in absurd (int_no_bool (sym o.2 ∙ x.bool p e o.0 o.1))
-same_ty R n xs ys x y p same (ty.Open k) ty.Int e f = let o = x.open_bool p k e in absurd (int_no_bool (sym (y.int p f o.0 o.1) ∙ o.2))
-same_ty R n xs ys x y p same (ty.Open k) ty.Bool e f = let o = x.open_int p k e in absurd (int_no_bool (sym o.2 ∙ y.bool p f o.0 o.1))
+same_ty R n xs ys x y p same ty.Bool (ty.Open l) e f = let o = y.untold p l Int f in absurd (int_no_bool (sym o.2 ∙ x.told p Bool e o.0 o.1))
+same_ty R n xs ys x y p same (ty.Open k) ty.Int e f = let o = x.untold p k Bool e in absurd (int_no_bool (sym (y.told p Int f o.0 o.1) ∙ o.2))
+same_ty R n xs ys x y p same (ty.Open k) ty.Bool e f = let o = x.untold p k Int e in absurd (int_no_bool (sym o.2 ∙ y.told p Bool f o.0 o.1))
 same_ty R n xs ys x y p same (ty.Open k) (ty.Open l) e f = ap ty.Open (same_class R n xs ys x y p k l same e f)
 
 same_there : (R : Rule → Type 0) (n : ℕ) (xs ys : List Ty) → AreTypes R n xs → AreTypes R n ys → (p : ℕ)

@@ -9,14 +9,16 @@ use Rattle.lucy_tree.specs.declared.expr.Lit.{Lit as Literal}
 use Rattle.lucy_tree.specs.declared.expr.Lit.TheVariants as lit
 use Rattle.lucy_place.specs.declared.entry.PlaceEntry.{PlaceEntry}
 use Rattle.lucy_place.specs.declared.entry.PlaceKind.{PlaceKind}
-use Rattle.lucy_place.specs.declared.entry.PlaceKind.TheVariants.{Param, Defined, Lit, Op as Operator, Host, When, Merge, Fby, Buffer, Result}
+use Rattle.lucy_place.specs.declared.entry.PlaceKind.TheVariants.{Lit, Op as Operator, Host, Fby, Result}
 use Rattle.lucy_place.specs.declared.entry.CallSite.{CallSite}
 use Rattle.lucy_place.specs.declared.placed.PlacedNode.{PlacedNode}
 use Rattle.lucy_place.specs.Proper.{at_one, Stands}
+use Rattle.lucy_place.specs.Reads.{operands_of}
 use Rattle.lucy_types.specs.declared.ty.Ty.{Ty}
 use Rattle.lucy_types.specs.declared.ty.Ty.TheVariants as ty
 use Rattle.lucy_types.specs.declared.rule.Rule.{Rule}
 use Rattle.lucy_types.specs.declared.rule.Rule.TheVariants.{Is, Alike}
+use Rattle.lucy_types.specs.Typing.{as_ty}
 
 -- the type of a literal
 abbrev pub lit_type : Literal → DataType
@@ -43,18 +45,13 @@ op_rules If p args =
     ∷ Alike p (slice_index args 2) ∷ []
 op_rules op p args = all_are Int args ++ Is p Int ∷ []
 
--- what stands at a place says of it and of the places that it reads
+-- what stands at a place says of it and of the places that it reads: where nothing else is said, they are alike
 abbrev pub kind_rules : ℕ → PlaceKind → List Rule
-kind_rules p Param = []
-kind_rules p (Defined e) = Alike p e ∷ []
 kind_rules p (Lit l) = Is p (lit_type l) ∷ []
 kind_rules p (Operator op args) = op_rules op p args
 kind_rules p (Host op a b) = Is a Int ∷ Is b Int ∷ Is p Int ∷ []
-kind_rules p (When e w) = Alike p e ∷ []
-kind_rules p (Merge w a b) = Alike p a ∷ Alike p b ∷ []
 kind_rules p (Fby l e) = Alike p e ∷ Is p (lit_type l) ∷ []
-kind_rules p (Buffer k e) = Alike p e ∷ []
-kind_rules p (Result call j) = []
+kind_rules p kind = map (λ e. Alike p e) (operands_of kind)
 
 -- a type that is written at a place is the place's
 abbrev pub written_rules : ℕ → Option DataType → List Rule
@@ -78,11 +75,6 @@ abbrev pub Joins : PlacedNode → PlacedNode → ℕ → CallSite → ℕ → �
 Joins callee n call site inner outer =
     (at_one site.args inner ≡ Some outer)
     ⊎ ((j : ℕ) × (slice_get callee.results j ≡ Some inner) × Stands n outer (Result call j))
-
--- a type as that of a place
-abbrev pub as_ty : DataType → Ty
-as_ty Int = ty.Int
-as_ty Bool = ty.Bool
 
 -- by the types of a callee's places, and the places that are joined: what is int or bool there is so here, and what is of
 -- one open class there is alike here

@@ -12,6 +12,11 @@ use Rattle.lucy_types.specs.declared.rule.Rule.TheVariants.{Is, Alike}
 abbrev pub Typing : Type 0
 Typing = ℕ → DataType
 
+-- a type as that of a place
+abbrev pub as_ty : DataType → Ty
+as_ty Int = ty.Int
+as_ty Bool = ty.Bool
+
 -- a typing meets a rule: the place is of the type, or the two places are of one type
 abbrev pub Meets : Typing → Rule → Type 0
 Meets a (Is p t) = a p ≡ t
@@ -38,15 +43,13 @@ pub record AreNumbered (tys : List Ty) : Type 0 where
   pub from_one : (p : ℕ) → at_one tys p ≡ Some (ty.Open 0) → ⊥
   pub in_order : (p k : ℕ) → at_one tys p ≡ Some (ty.Open (suc (suc k))) → (q : ℕ) × (q < p) × (at_one tys q ≡ Some (ty.Open (suc k)))
 
--- Some typing meets the rules, and these are the types of so many places: int or bool where every typing says so, else
--- open. Two open places are of one class exactly where every typing gives them one type.
+-- Some typing meets the rules, and these are the types of so many places: int or bool where every typing says so, and
+-- open where some typing says each. Two open places are of one class exactly where every typing gives them one type.
 pub record AreTypes (Rules : Rule → Type 0) (places : ℕ) (tys : List Ty) : Type 0 where
   pub typing : Typing
   pub meets : IsTyping Rules typing
   pub all : length tys ≡ places
-  pub int : (p : ℕ) → at_one tys p ≡ Some ty.Int → Says Rules p Int
-  pub bool : (p : ℕ) → at_one tys p ≡ Some ty.Bool → Says Rules p Bool
-  pub open_int : (p k : ℕ) → at_one tys p ≡ Some (ty.Open k) → Allows Rules p Int
-  pub open_bool : (p k : ℕ) → at_one tys p ≡ Some (ty.Open k) → Allows Rules p Bool
+  pub told : (p : ℕ) (t : DataType) → at_one tys p ≡ Some (as_ty t) → Says Rules p t
+  pub untold : (p k : ℕ) (t : DataType) → at_one tys p ≡ Some (ty.Open k) → Allows Rules p t
   pub classes : (p q k l : ℕ) → at_one tys p ≡ Some (ty.Open k) → at_one tys q ≡ Some (ty.Open l) → (k ≡ l) ↔ Agree Rules p q
   pub numbered : AreNumbered tys
