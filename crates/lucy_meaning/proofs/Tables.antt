@@ -8,7 +8,7 @@ use Rattle.lucy_place.specs.declared.placed.PlacedNode.{PlacedNode}
 use Rattle.lucy_place.specs.declared.entry.CallSite.{CallSite}
 use Rattle.lucy_place.specs.Proper.{IsProperNode}
 use Rattle.lucy_meaning.specs.Below.{Below}
-use Rattle.lucy_meaning.specs.Sizes.{table_past, entry_of, total_in, total_of}
+use Rattle.lucy_meaning.specs.Sizes.{table_past, entry_of, total_of}
 
 below_from : (k : ℕ) (sites : List CallSite) → ((i : ℕ) (s : CallSite) → slice_get sites i ≡ Some s → s.node < k) → Below k sites
 below_from k [] h = tt
@@ -73,6 +73,10 @@ module _ {A : Type 0} (none : A) (make : (ℕ → A) → ℕ → PlacedNode → 
       let z : 0 + i ≡ i = omega arith in
       ap (λ k. get_or (table_past none make [] nodes) k none) (sym z) ∙ table_at [] nodes i node e (subst (λ k. Below k node.calls) (sym z) below)
       ∙ ap (λ k. make (λ j. get_or (table_past none make [] nodes) j none) k node) z
+
+-- what a node counts, by what each node counts by itself
+abbrev total_in : (ℕ → PlacedNode → ℕ) → (ℕ → ℕ) → ℕ → PlacedNode → ℕ
+total_in own total i n = own i n + sum_by (λ site. total site.node) n.calls
 
 total_local : (own : ℕ → PlacedNode → ℕ) → IsLocal (total_in own)
 total_local own f g i node below h = ap (λ t. own i node + t) (sum_same (λ s. f s.node) (λ s. g s.node) i node.calls (λ s l. h s.node l) below)

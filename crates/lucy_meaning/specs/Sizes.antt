@@ -12,13 +12,9 @@ table_past none make known (node ∷ nodes) = table_past none make (known ++ mak
 abbrev pub entry_of : {A : Type 0} → A → ((ℕ → A) → ℕ → PlacedNode → A) → List PlacedNode → ℕ → A
 entry_of none make nodes node = slice_index_or (table_past none make [] nodes) node none
 
--- what a node counts with its calls written out, by what each node counts by itself
-abbrev pub total_in : (ℕ → PlacedNode → ℕ) → (ℕ → ℕ) → ℕ → PlacedNode → ℕ
-total_in own total i node = own i node + sum_by (λ site. total site.node) node.calls
-
--- the same for a node of a program
+-- what a node of a program counts with its calls written out, by what each node counts by itself
 abbrev pub total_of : (ℕ → PlacedNode → ℕ) → List PlacedNode → ℕ → ℕ
-total_of own nodes node = entry_of 0 (total_in own) nodes node
+total_of own nodes node = entry_of 0 (λ total i n. own i n + sum_by (λ site. total site.node) n.calls) nodes node
 
 -- the places of a node
 abbrev pub own_places : ℕ → PlacedNode → ℕ

@@ -5,7 +5,7 @@ use Rattle.lucy_stream.specs.Forms.{Form, Given, Constant, Pointwise, Hosted, Ke
 use Rattle.lucy_place.specs.declared.placed.PlacedNode.{PlacedNode}
 use Rattle.lucy_place.specs.declared.entry.CallSite.{CallSite}
 use Rattle.lucy_place.specs.declared.entry.PlaceKind.{PlaceKind}
-use Rattle.lucy_place.specs.declared.entry.PlaceKind.TheVariants.{Param, Defined, Lit, Op, Host, When, Merge, Fby, Buffer, Result}
+use Rattle.lucy_place.specs.declared.entry.PlaceKind.TheVariants.{Param, Lit, Op, Host, When, Merge, Fby, Result}
 use Rattle.lucy_place.specs.Proper.{at_one}
 use Rattle.lucy_place.specs.Literals.{literal_value}
 use Rattle.lucy_place.specs.Reads.{operands_of}
@@ -67,14 +67,12 @@ param_reads nodes (call ∷ path) place = at path (argument (site_in (node_at no
 abbrev pub spot_form : Spot → PlaceKind → Form
 spot_form spot Param = param_form spot.path spot.place
 spot_form spot (Lit l) = Constant (literal_value l)
-spot_form spot (Defined e) = Same
-spot_form spot (Buffer k e) = Same
 spot_form spot (Op op args) = Pointwise op
 spot_form spot (Host op a b) = Hosted op
 spot_form spot (When e word) = Kept word
 spot_form spot (Merge word a b) = Merged word
 spot_form spot (Fby l e) = Delayed (literal_value l)
-spot_form spot (Result call number) = Same
+spot_form spot kind = Same
 
 -- The instance places that it reads, in the order of its operands: a parameter of a call reads in the caller, a result of a
 -- call in the instance that the call makes, and any other place in its own instance.
