@@ -6,7 +6,8 @@ use Rattle.lucy_token.specs.declared.token.What.{What}
 use Rattle.lucy_token.specs.declared.token.What.TheVariants as what
 use Rattle.lucy_token.specs.declared.stop.SyntaxError.{SyntaxError}
 use Rattle.lucy_token.specs.Tokens.{kind_of}
-use Rattle.lucy_token.specs.Contents.{Contains, IsMalformed}
+use Rattle.lucy_token.specs.Contents.{Contains}
+use Rattle.lucy_token.specs.Scans.{IsMalformed}
 use Rattle.lucy_token.proofs.WordLaws.{readable_one}
 
 pub contains_one : (before k : Kind) (bytes : List ℕ) (v w : What) → Contains before k bytes v → Contains before k bytes w → v ≡ w

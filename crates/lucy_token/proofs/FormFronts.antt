@@ -8,7 +8,8 @@ use Rattle.lucy_word.specs.Stages.{next}
 use Rattle.lucy_word.proofs.PartialLaws.{ran, run_append, form_runs, begins_read, read_begins}
 use Rattle.lucy_word.proofs.Checking.{stage_of, staged, step_stage}
 use Rattle.lucy_token.specs.declared.front.Front.TheVariants.{Bad}
-use Rattle.lucy_token.specs.Fronts.{IsWordFront, word_end, word_from, word_front}
+use Rattle.lucy_token.specs.Fronts.{IsWordFront}
+use Rattle.lucy_token.specs.Scans.{word_end, word_from, word_front}
 use Rattle.lucy_token.proofs.WordFronts.{word_more, word_stops}
 
 -- the bytes that were read are the front of the text

@@ -17,7 +17,8 @@ use Rattle.lucy_token.specs.declared.front.Front.{Front}
 use Rattle.lucy_token.specs.declared.front.Front.TheVariants.{Gap, Token, Bad}
 use Rattle.lucy_token.specs.Marks.{spelling, keywords, signs}
 use Rattle.lucy_token.specs.Before.{nearest, wants_word, operand_begins}
-use Rattle.lucy_token.specs.Fronts.{head, close_of, begins_gap, gap_of, word_front, plain_front, front_of, minus_of, is_letter, is_decimal, is_name_byte, is_blank, sign_in, named_in}
+use Rattle.lucy_token.specs.Fronts.{head, close_of, begins_gap, gap_of, plain_front, front_of, minus_of, is_letter, is_decimal, is_name_byte, is_blank, sign_in, named_in}
+use Rattle.lucy_token.specs.Scans.{word_front, scanned_front}
 use Rattle.lucy_token.specs.States.{State, begins_operand}
 use Rattle.lucy_token.specs.Steps.{front_in, IsTokenOf}
 use Rattle.lucy_token.proofs.WordFronts.{IsBetween, front_is}
@@ -151,12 +152,12 @@ by_parts wants operand text some =
     cond_both (begins_gap text) (gap_of text) _ (IsFront text) (λ e. gap_front text some)
     (λ e. cond_both wants (word_front text) (plain_front operand text) (IsFront text) (λ f. word_front_front text) (λ f. plain_front_front operand text))
 
-pub front : (ks : List Kind) (text : List ℕ) → 0 < length text → IsFront text (front_of ks text)
+pub front : (ks : List Kind) (text : List ℕ) → 0 < length text → IsFront text (scanned_front ks text)
 unfolding front_of
 front ks text some = by_parts (wants_word (nearest ks)) (operand_begins ks) text some
 
 -- the same of an answer that is the front
-pub of_front : (ks : List Kind) (text : List ℕ) (f : Front) → 0 < length text → f ≡ front_of ks text → IsFront text f
+pub of_front : (ks : List Kind) (text : List ℕ) (f : Front) → 0 < length text → f ≡ scanned_front ks text → IsFront text f
 of_front ks text f some e = subst (IsFront text) (sym e) (front ks text some)
 
 -- and of what stands there by the scanner's state

@@ -1,6 +1,7 @@
 mod Bounds
 mod Comments
 pub mod ContentLaws
+pub mod ScanLaws
 mod CutSteps
 pub mod FollowLaws
 pub mod FrontLaws

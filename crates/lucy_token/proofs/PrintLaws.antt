@@ -25,29 +25,32 @@ use Rattle.lucy_token.specs.declared.stop.Stop.TheVariants.{End}
 use Rattle.lucy_token.specs.Tokens.{kind_of}
 use Rattle.lucy_token.specs.Marks.{spelling}
 use Rattle.lucy_token.specs.Before.{nearest, wants_word, operand_begins}
-use Rattle.lucy_token.specs.Fronts.{head, is_blank, is_name_byte, begins_gap, gap_of, close_of, word_front, plain_front, front_of}
+use Rattle.lucy_token.specs.Fronts.{head, is_blank, is_name_byte, begins_gap, gap_of, close_of, plain_front, front_of}
+use Rattle.lucy_token.specs.Scans.{word_front, scanned_front, Scans, ends, gap, token}
 use Rattle.lucy_token.specs.Contents.{Contains}
-use Rattle.lucy_token.specs.Cuts.{Cuts, token_at, ends, gap, token}
+use Rattle.lucy_token.specs.Cuts.{token_at}
 use Rattle.lucy_token.specs.Spelled.{text_of_what, Printed, bytes_of, whats_of, placed, all_blank, ends_before, are_apart, apart_from, IsSpelled, Stands, AllStand, Follows}
 use Rattle.lucy_token.proofs.PrintFronts.{no_gap, mark_no_gap, mark_front, digits_front, minus_front, digits_no_gap, name_text_front, name_no_gap}
 use Rattle.lucy_token.proofs.WordFronts.{form_no_gap, form_front}
 use Rattle.lucy_token.proofs.PrintEnds.{next_ends, blanks_end}
+use Rattle.lucy_token.specs.Cuts.{Cuts}
+use Rattle.lucy_token.proofs.ScanLaws.{cut_of}
 
 -- the front of a text that begins neither with a blank nor with a comment
-front_plain : (ks : List Kind) (text : List ℕ) → begins_gap text ≡ false → wants_word (nearest ks) ≡ false → front_of ks text ≡ plain_front (operand_begins ks) text
+front_plain : (ks : List Kind) (text : List ℕ) → begins_gap text ≡ false → wants_word (nearest ks) ≡ false → scanned_front ks text ≡ plain_front (operand_begins ks) text
 unfolding front_of
 front_plain ks text h k =
     cond-false (begins_gap text) (gap_of text) (if wants_word (nearest ks) then word_front text else plain_front (operand_begins ks) text) h
     ∙ cond-false (wants_word (nearest ks)) (word_front text) (plain_front (operand_begins ks) text) k
 
-front_word : (ks : List Kind) (text : List ℕ) → begins_gap text ≡ false → wants_word (nearest ks) ≡ true → front_of ks text ≡ word_front text
+front_word : (ks : List Kind) (text : List ℕ) → begins_gap text ≡ false → wants_word (nearest ks) ≡ true → scanned_front ks text ≡ word_front text
 unfolding front_of
 front_word ks text h k =
     cond-false (begins_gap text) (gap_of text) (if wants_word (nearest ks) then word_front text else plain_front (operand_begins ks) text) h
     ∙ cond-true (wants_word (nearest ks)) (word_front text) (plain_front (operand_begins ks) text) k
 
 -- what a printed token is read as
-front_printed : (ks : List Kind) (w : What) (rest : List ℕ) → Stands ks w → ends_before w (head rest) ≡ true → front_of ks (text_of_what w ++ rest) ≡ Token (kind_of w) (length (text_of_what w))
+front_printed : (ks : List Kind) (w : What) (rest : List ℕ) → Stands ks w → ends_before w (head rest) ≡ true → scanned_front ks (text_of_what w ++ rest) ≡ Token (kind_of w) (length (text_of_what w))
 front_printed ks (what.Mark m) rest h e = front_plain ks (spelling m ++ rest) (mark_no_gap m rest e) h.word_here ∙ mark_front (operand_begins ks) m rest e
 front_printed ks (what.Name bytes) rest h e = front_plain ks (bytes ++ rest) (name_no_gap bytes rest h.spelled) h.word_here ∙ name_text_front (operand_begins ks) bytes rest h.spelled (not-true (is_name_byte (head rest)) e)
 front_printed ks (what.Number (pos n)) rest h e =
@@ -86,17 +89,17 @@ contains_printed before (what.Number n) h = (subst (FitsSigned w64) (sym (number
 contains_printed before (what.Word w) h = (w, h, refl)
 
 -- blanks are passed
-blank_front : (ks : List Kind) (c : ℕ) (text : List ℕ) → is_blank c ≡ true → front_of ks (c ∷ text) ≡ Gap 1
+blank_front : (ks : List Kind) (c : ℕ) (text : List ℕ) → is_blank c ≡ true → scanned_front ks (c ∷ text) ≡ Gap 1
 unfolding front_of gap_of
 blank_front ks c text h =
     cond-true (begins_gap (c ∷ text)) (gap_of (c ∷ text)) _ (or_left (is_blank c) ((c == 40) && (head text == 42)) h)
     ∙ cond-true (is_blank c) (Gap 1) (option_map_or (λ n. Gap (n + 2)) (close_of (drop 2 (c ∷ text))) (Bad 0)) h
 
-cut_blanks : (from : ℕ) (ks : List Kind) (blanks text : List ℕ) (ts : List token_type.Token) (stop : Stop) → all_blank blanks ≡ true → Cuts (from + length blanks) ks text ts stop → Cuts from ks (blanks ++ text) ts stop
-cut_blanks from ks [] text ts stop h q = let P : ℕ → Type 0 = λ n. Cuts n ks text ts stop in subst P (let e : from + 0 ≡ from = omega arith in e) q
+cut_blanks : (from : ℕ) (ks : List Kind) (blanks text : List ℕ) (ts : List token_type.Token) (stop : Stop) → all_blank blanks ≡ true → Scans (from + length blanks) ks text ts stop → Scans from ks (blanks ++ text) ts stop
+cut_blanks from ks [] text ts stop h q = let P : ℕ → Type 0 = λ n. Scans n ks text ts stop in subst P (let e : from + 0 ≡ from = omega arith in e) q
 cut_blanks from ks (c ∷ blanks) text ts stop h q =
     let p = and_parts (is_blank c) (all_blank blanks) h in
-    let P : ℕ → Type 0 = λ n. Cuts n ks text ts stop in
+    let P : ℕ → Type 0 = λ n. Scans n ks text ts stop in
     gap (omega arith) (blank_front ks c (blanks ++ text) p.0)
     (cut_blanks (from + 1) ks blanks text ts stop p.1 (subst P (let e : from + suc (length blanks) ≡ from + 1 + length blanks = omega arith in e) q))
 
@@ -114,11 +117,11 @@ printed_some before (what.Word w) h = omega (arith, length-append (spelled w.pre
 
 -- one token in print
 cut_token : (from : ℕ) (ks : List Kind) (w : What) (text : List ℕ) (ts : List token_type.Token) (stop : Stop) → Stands ks w → ends_before w (head text) ≡ true →
-    Cuts (from + length (text_of_what w)) (kind_of w ∷ ks) text ts stop → Cuts from ks (text_of_what w ++ text) (token_at w from (length (text_of_what w)) ∷ ts) stop
+    Scans (from + length (text_of_what w)) (kind_of w ∷ ks) text ts stop → Scans from ks (text_of_what w ++ text) (token_at w from (length (text_of_what w)) ∷ ts) stop
 cut_token from ks w text ts stop h e q =
-    let front : front_of ks (text_of_what w ++ text) ≡ Token (kind_of w) (length (text_of_what w)) = front_printed ks w text h e in
+    let front : scanned_front ks (text_of_what w ++ text) ≡ Token (kind_of w) (length (text_of_what w)) = front_printed ks w text h e in
     let P : List ℕ → Type 0 = λ u. Contains (nearest ks) (kind_of w) u w in
-    let Q : List ℕ → Type 0 = λ u. Cuts (from + length (text_of_what w)) (kind_of w ∷ ks) u ts stop in
+    let Q : List ℕ → Type 0 = λ u. Scans (from + length (text_of_what w)) (kind_of w ∷ ks) u ts stop in
     token (omega (arith, printed_some (nearest ks) w h.spelled, length-append (text_of_what w) text)) front h.passes h.in_list (subst P (sym (take-append_seam (text_of_what w) text)) (contains_printed (nearest ks) w h.spelled)) (subst Q (sym (drop-append_seam (text_of_what w) text)) q)
 
 behind : (ks : List Kind) (w : What) (ps : List Printed) (rest : List ℕ) → AllStand ks (whats_of ps) → apart_from w ps ≡ true → are_apart ps ≡ true → all_blank rest ≡ true → ends_before w (head (bytes_of ps rest)) ≡ true
@@ -128,9 +131,9 @@ behind ks w (p ∷ ps) rest stand e apart blank =
     next_ends (nearest ks) w p ps rest (and_parts (all_blank p.blanks) (apart_from p.what ps) a.0).0 stand.0.spelled e
 
 cut_from : (from : ℕ) (ks : List Kind) (ps : List Printed) (rest : List ℕ) → AllStand ks (whats_of ps) → are_apart ps ≡ true → all_blank rest ≡ true →
-    Cuts from ks (bytes_of ps rest) (placed from ps) (End (from + length (bytes_of ps rest)))
+    Scans from ks (bytes_of ps rest) (placed from ps) (End (from + length (bytes_of ps rest)))
 cut_from from ks [] rest stand apart blank =
-    let P : List ℕ → Type 0 = λ u. Cuts from ks u [] (End (from + length rest)) in
+    let P : List ℕ → Type 0 = λ u. Scans from ks u [] (End (from + length rest)) in
     subst P (append-nil rest) (cut_blanks from ks rest [] [] (End (from + length rest)) blank ends)
 cut_from from ks (p ∷ ps) rest stand apart blank =
     let a = and_parts (all_blank p.blanks && apart_from p.what ps) (are_apart ps) apart in
@@ -138,11 +141,11 @@ cut_from from ks (p ∷ ps) rest stand apart blank =
     let text : List ℕ = bytes_of ps rest in
     let at : ℕ = from + length p.blanks in
     let behind_it : ℕ = at + length (text_of_what p.what) in
-    let P : ℕ → Type 0 = λ to. Cuts from ks (p.blanks ++ (text_of_what p.what ++ text)) (placed from (p ∷ ps)) (End to) in
+    let P : ℕ → Type 0 = λ to. Scans from ks (p.blanks ++ (text_of_what p.what ++ text)) (placed from (p ∷ ps)) (End to) in
     subst P (let e : behind_it + length text ≡ from + length (p.blanks ++ (text_of_what p.what ++ text)) = omega (arith, length-append p.blanks (text_of_what p.what ++ text), length-append (text_of_what p.what) text) in e)
     (cut_blanks from ks p.blanks (text_of_what p.what ++ text) _ _ b.0
     (cut_token at ks p.what text _ _ stand.0 (behind (kind_of p.what ∷ ks) p.what ps rest stand.1 b.1 a.1 blank) (cut_from behind_it (kind_of p.what ∷ ks) ps rest stand.1 a.1 blank)))
 
 -- Tokens that may stand so in print are cut into just these tokens, up to the end of the text.
 pub cut_printed : (from : ℕ) (ks : List Kind) (ps : List Printed) (rest : List ℕ) → Follows ks ps → all_blank rest ≡ true → Cuts from ks (bytes_of ps rest) (placed from ps) (End (from + length (bytes_of ps rest)))
-cut_printed from ks ps rest h blank = cut_from from ks ps rest h.stand h.apart blank
+cut_printed from ks ps rest h blank = cut_of (cut_from from ks ps rest h.stand h.apart blank)

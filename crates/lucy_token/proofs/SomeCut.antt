@@ -20,11 +20,12 @@ use Rattle.lucy_token.specs.declared.stop.Stop.TheVariants.{End}
 use Rattle.lucy_token.specs.declared.stop.SyntaxError.{SyntaxError}
 use Rattle.lucy_token.specs.declared.stop.SyntaxError.TheVariants.{BadNumber, BadWord, TooLarge}
 use Rattle.lucy_token.specs.Before.{nearest, limit_at, is_entry_past}
-use Rattle.lucy_token.specs.Fronts.{front_of}
-use Rattle.lucy_token.specs.Contents.{Contains, IsMalformed, IsWordAfter}
-use Rattle.lucy_token.specs.Cuts.{Cuts, ends, gap, bad, passed, past_last, malformed, token}
+use Rattle.lucy_token.specs.Contents.{Contains, IsWordAfter}
+use Rattle.lucy_token.specs.Scans.{IsMalformed, scanned_front, Scans, ends, gap, bad, passed, past_last, malformed, token}
 use Rattle.lucy_token.specs.Steps.{IsTokenOf}
 use Rattle.lucy_token.proofs.FrontLaws.{IsFront, of_front}
+use Rattle.lucy_token.specs.Cuts.{Cuts}
+use Rattle.lucy_token.proofs.ScanLaws.{cut_of}
 
 -- what neither holds nor fails to hold holds nowhere
 pub no_third : (A : Type 0) → (A ⊎ (A → ⊥) → ⊥) → ⊥
@@ -56,12 +57,12 @@ content_some before kind.Word bytes from t f =
     either (inr h) = inr (BadWord from, (λ v i. h (v, i), refl))
 content_some before kind.End bytes from t f = t
 
-abbrev NoCut : ℕ → List Kind → List ℕ → Type 0
-NoCut from ks text = (ts : List token_type.Token) (stop : Stop) → Cuts from ks text ts stop → ⊥
+abbrev NoScan : ℕ → List Kind → List ℕ → Type 0
+NoScan from ks text = (ts : List token_type.Token) (stop : Stop) → Scans from ks text ts stop → ⊥
 
 -- a token at the front, where what follows it has a cut
-token_some : (from : ℕ) (ks : List Kind) (text : List ℕ) (k : Kind) (n : ℕ) → 0 < length text → front_of ks text ≡ Token k n → IsTokenOf k (take n text) →
-    (NoCut (from + n) (k ∷ ks) (drop n text) → ⊥) → (o : Option Limit) → limit_at ks k ≡ o → (p : Bool) → is_entry_past ks k ≡ p → NoCut from ks text → ⊥
+token_some : (from : ℕ) (ks : List Kind) (text : List ℕ) (k : Kind) (n : ℕ) → 0 < length text → scanned_front ks text ≡ Token k n → IsTokenOf k (take n text) →
+    (NoScan (from + n) (k ∷ ks) (drop n text) → ⊥) → (o : Option Limit) → limit_at ks k ≡ o → (p : Bool) → is_entry_past ks k ≡ p → NoScan from ks text → ⊥
 token_some from ks text k n some e is rest (Some l) h p i none = none _ _ (passed some e h)
 token_some from ks text k n some e is rest None h true i none = none _ _ (past_last some e h i)
 token_some from ks text k n some e is rest None h false i none = content_some (nearest ks) k (take n text) from is by_content
@@ -72,17 +73,21 @@ token_some from ks text k n some e is rest None h false i none = content_some (n
 
 -- a text that isn't empty, where all shorter ones have a cut
 front_some : (most from : ℕ) (ks : List Kind) (text : List ℕ) → 0 < length text → length text ≤ suc most →
-    ((later : ℕ) (js : List Kind) (rest : List ℕ) → length rest ≤ most → NoCut later js rest → ⊥) → NoCut from ks text → ⊥
-front_some most from ks text some short shorter none = by_front (front_of ks text) refl (of_front ks text (front_of ks text) some refl)
+    ((later : ℕ) (js : List Kind) (rest : List ℕ) → length rest ≤ most → NoScan later js rest → ⊥) → NoScan from ks text → ⊥
+front_some most from ks text some short shorter none = by_front (scanned_front ks text) refl (of_front ks text (scanned_front ks text) some refl)
   where
-    by_front : (f : Front) → front_of ks text ≡ f → IsFront text f → ⊥
+    by_front : (f : Front) → scanned_front ks text ≡ f → IsFront text f → ⊥
     by_front (Gap n) e is = shorter (from + n) ks (drop n text) (omega (arith, is.0, is.1, length-drop n text)) (λ ts stop q. none ts stop (gap some e q))
     by_front (Bad n) e is = none _ _ (bad some e)
     by_front (Token k n) e is =
         token_some from ks text k n some e is.2 (shorter (from + n) (k ∷ ks) (drop n text) (omega (arith, is.0, is.1, length-drop n text)))
         (limit_at ks k) refl (is_entry_past ks k) refl none
 
-pub some_cut : (most from : ℕ) (ks : List Kind) (text : List ℕ) → length text ≤ most → NoCut from ks text → ⊥
-some_cut most from ks [] short none = none [] (End from) ends
-some_cut zero from ks (c ∷ text) short none = omega arith
-some_cut (suc most) from ks (c ∷ text) short none = front_some most from ks (c ∷ text) (omega arith) short (some_cut most) none
+some_scan : (most from : ℕ) (ks : List Kind) (text : List ℕ) → length text ≤ most → NoScan from ks text → ⊥
+some_scan most from ks [] short none = none [] (End from) ends
+some_scan zero from ks (c ∷ text) short none = omega arith
+some_scan (suc most) from ks (c ∷ text) short none = front_some most from ks (c ∷ text) (omega arith) short (some_scan most) none
+
+-- no text is without a cut
+pub some_cut : (most from : ℕ) (ks : List Kind) (text : List ℕ) → length text ≤ most → ((ts : List token_type.Token) (stop : Stop) → Cuts from ks text ts stop → ⊥) → ⊥
+some_cut most from ks text short none = some_scan most from ks text short (λ ts stop q. none ts stop (cut_of q))

@@ -15,7 +15,8 @@ use Rattle.lucy_token.specs.declared.state.Side.{Side}
 use Rattle.lucy_token.specs.declared.state.Side.TheVariants as side
 use Rattle.lucy_token.specs.declared.state.Level.{Level}
 use Rattle.lucy_token.specs.Before.{is_one_of, nearest, wants_word, precedes_operand, definition, is_behind_equals, on_right, depth, inside, wanted, operand_begins, past, limit_at, is_name, is_entry_past}
-use Rattle.lucy_token.specs.Fronts.{begins_gap, gap_of, word_front, plain_front, front_of}
+use Rattle.lucy_token.specs.Fronts.{begins_gap, gap_of, plain_front, front_of}
+use Rattle.lucy_token.specs.Scans.{word_front, scanned_front}
 use Rattle.lucy_token.specs.Steps.{front_in}
 use Rattle.lucy_token.specs.States.{State, fresh, side_defined, side_after, counted_after, nodes_after, served, merging, level_after, closed, after, is_right, begins_operand, past_tokens, limit_passed, is_comma, begins_entry, is_past_last, state_of}
 
@@ -318,14 +319,14 @@ entry_past_same ks k =
     ∙ ap (λ b. is_one_of (mark.Comma ∷ []) (nearest ks) && nat_le (limit_number limit.Names) (count_by (is_one_of (mark.Comma ∷ [])) (inside 0 ks)) && b)
     (entry_same s.side k ∙ ap (λ b. b || is_name k) (right_is ks))
 
-pub front_same : (ks : List Kind) (text : List ℕ) → front_in (state_of ks) text ≡ front_of ks text
+pub front_same : (ks : List Kind) (text : List ℕ) → front_in (state_of ks) text ≡ scanned_front ks text
 unfolding front_of
 front_same ks text =
     ap (λ k. if begins_gap text then gap_of text else if wants_word k then word_front text else plain_front (begins_operand (state_of ks)) text) (before_is ks)
     ∙ ap (λ b. if begins_gap text then gap_of text else if wants_word (nearest ks) then word_front text else plain_front b text) (operand_same ks)
 
 -- the same of a state that is the one behind these kinds
-pub front_at : (s : State) (ks : List Kind) (text : List ℕ) (f : Front) → s ≡ state_of ks → f ≡ front_in s text → front_of ks text ≡ f
+pub front_at : (s : State) (ks : List Kind) (text : List ℕ) (f : Front) → s ≡ state_of ks → f ≡ front_in s text → scanned_front ks text ≡ f
 front_at s ks text f e h = sym (h ∙ ap (λ t. front_in t text) e ∙ front_same ks text)
 
 pub limit_there : (s : State) (ks : List Kind) (k : Kind) (o : Option Limit) → s ≡ state_of ks → o ≡ limit_passed s k → limit_at ks k ≡ o

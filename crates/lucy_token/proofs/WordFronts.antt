@@ -8,7 +8,8 @@ use Rattle.lucy_word.proofs.Checking.{form_closes}
 use Rattle.lucy_token.specs.declared.token.Kind.TheVariants as kind
 use Rattle.lucy_token.specs.declared.front.Front.{Front}
 use Rattle.lucy_token.specs.declared.front.Front.TheVariants.{Gap, Token, Bad}
-use Rattle.lucy_token.specs.Fronts.{head, begins_gap, word_end, word_behind, word_from, word_front}
+use Rattle.lucy_token.specs.Fronts.{head, begins_gap}
+use Rattle.lucy_token.specs.Scans.{word_end, word_behind, word_from, word_front}
 
 -- one byte more
 pub word_more : (n : ℕ) (s t : Stage) (c : ℕ) (text : List ℕ) → next s c ≡ Some t → word_from n s (c ∷ text) ≡ word_from (n + 1) t text

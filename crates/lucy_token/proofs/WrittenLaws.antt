@@ -17,13 +17,15 @@ use Rattle.lucy_token.specs.declared.stop.Stop.{Stop}
 use Rattle.lucy_token.specs.declared.stop.Stop.TheVariants.{End}
 use Rattle.lucy_token.specs.Marks.{spelling, keywords, signs}
 use Rattle.lucy_token.specs.Before.{nearest, wants_word, operand_begins}
-use Rattle.lucy_token.specs.Fronts.{head, begins_gap, gap_of, close_of, is_blank, word_front, plain_front, front_of, minus_of, is_letter, is_decimal, is_name_byte, sign_in, named_in}
+use Rattle.lucy_token.specs.Fronts.{head, begins_gap, gap_of, close_of, is_blank, plain_front, front_of, minus_of, is_letter, is_decimal, is_name_byte, sign_in, named_in}
+use Rattle.lucy_token.specs.Scans.{word_front, scanned_front, Scans, ends, gap, bad, passed, past_last, malformed, token}
 use Rattle.lucy_token.specs.Contents.{Contains}
-use Rattle.lucy_token.specs.Cuts.{Cuts, ends, gap, bad, passed, past_last, malformed, token}
 use Rattle.lucy_token.specs.Written.{IsNameText, IsWritten, AreWritten, InOrder}
 use Rattle.lucy_token.proofs.ContentLaws.{contains_kind}
 use Rattle.lucy_token.proofs.WordFronts.{IsBetween, front_is}
 use Rattle.lucy_token.proofs.FrontLaws.{IsFront, of_front, prefix_some}
+use Rattle.lucy_token.specs.Cuts.{Cuts}
+use Rattle.lucy_token.proofs.ScanLaws.{scan_of}
 
 -- the shape of a name
 record IsName (bytes : List ℕ) : Type 0 where
@@ -97,7 +99,7 @@ plain_tells before operand text =
     (λ e. named_tells before keywords (take (prefix_len is_name_byte text) text) (is_name text e))
     (λ e. cond_both (is_decimal (head (drop (minus_of operand text) text))) (Token kind.Number _) (sign_in signs text) (FrontTells before text) (λ f. tt) (λ f. sign_tells before signs text))
 
-front_tells : (ks : List Kind) (text : List ℕ) → FrontTells (nearest ks) text (front_of ks text)
+front_tells : (ks : List Kind) (text : List ℕ) → FrontTells (nearest ks) text (scanned_front ks text)
 unfolding front_of
 front_tells ks text =
     cond_both (begins_gap text) (gap_of text) _ (FrontTells (nearest ks) text) (λ e. gap_tells (nearest ks) text)
@@ -110,7 +112,7 @@ is_written before kind.Number bytes w t c = subst (IsWritten before) (sym c.1) c
 is_written before kind.Word bytes w t c = subst (IsWritten before) (sym c.2) (t, (bytes, c.1))
 is_written before kind.End bytes w t c = absurd c
 
-are_written : {from : ℕ} {ks : List Kind} {text : List ℕ} {ts : List token_type.Token} {stop : Stop} → Cuts from ks text ts stop → (to : ℕ) → stop ≡ End to → AreWritten (nearest ks) ts
+are_written : {from : ℕ} {ks : List Kind} {text : List ℕ} {ts : List token_type.Token} {stop : Stop} → Scans from ks text ts stop → (to : ℕ) → stop ≡ End to → AreWritten (nearest ks) ts
 are_written ends to e = tt
 are_written (gap h f q) to e = are_written q to e
 are_written (bad h f) to e = cc
@@ -124,7 +126,7 @@ are_written {from} {ks} {text} (token {n = n} {k = k} {w = w} {ts = ts} h f l p 
 
 -- each token of a text without a fault is as it may be written
 pub tokens_written : {from to : ℕ} {ks : List Kind} {text : List ℕ} {ts : List token_type.Token} → Cuts from ks text ts (End to) → AreWritten (nearest ks) ts
-tokens_written {to = to} q = are_written q to refl
+tokens_written {to = to} q = are_written (scan_of q) to refl
 
 -- spans may begin earlier and end later
 earlier : (a b : ℕ) (ts : List token_type.Token) (to : ℕ) → a ≤ b → InOrder b ts to → InOrder a ts to
@@ -132,24 +134,27 @@ earlier a b [] to h r = omega (arith, r)
 earlier a b (t ∷ ts) to h r = (omega (arith, r.0), r.1, r.2)
 
 -- the spans of tokens rise within the text
-pub spans_rise : {from : ℕ} {ks : List Kind} {text : List ℕ} {ts : List token_type.Token} {stop : Stop} → Cuts from ks text ts stop → InOrder from ts (from + length text)
-spans_rise ends = omega arith
-spans_rise {from} {ks} {text} {ts} (gap {n = n} h e q) =
+scan_rises : {from : ℕ} {ks : List Kind} {text : List ℕ} {ts : List token_type.Token} {stop : Stop} → Scans from ks text ts stop → InOrder from ts (from + length text)
+scan_rises ends = omega arith
+scan_rises {from} {ks} {text} {ts} (gap {n = n} h e q) =
     let f : IsFront text (Gap n) = of_front ks text (Gap n) h (sym e) in
     let P : ℕ → Type 0 = λ to. InOrder from ts to in
-    subst P (let same : from + n + length (drop n text) ≡ from + length text = omega (arith, f.1, length-drop n text) in same) (earlier from (from + n) ts _ (omega arith) (spans_rise q))
-spans_rise (bad h e) = omega arith
-spans_rise (passed h e l) = omega arith
-spans_rise {from} {ks} {text} (past_last {n = n} {k = k} h e l p) =
+    subst P (let same : from + n + length (drop n text) ≡ from + length text = omega (arith, f.1, length-drop n text) in same) (earlier from (from + n) ts _ (omega arith) (scan_rises q))
+scan_rises (bad h e) = omega arith
+scan_rises (passed h e l) = omega arith
+scan_rises {from} {ks} {text} (past_last {n = n} {k = k} h e l p) =
     let f : IsFront text (Token k n) = of_front ks text (Token k n) h (sym e) in
     (omega arith, omega (arith, f.0), omega (arith, f.1))
-spans_rise (malformed h e l p m) = omega arith
-spans_rise {from} {ks} {text} (token {n = n} {k = k} {ts = ts} h e l p c q) =
+scan_rises (malformed h e l p m) = omega arith
+scan_rises {from} {ks} {text} (token {n = n} {k = k} {ts = ts} h e l p c q) =
     let f : IsFront text (Token k n) = of_front ks text (Token k n) h (sym e) in
     let P : ℕ → Type 0 = λ to. InOrder (from + n) ts to in
-    (omega arith, omega (arith, f.0), subst P (let same : from + n + length (drop n text) ≡ from + length text = omega (arith, f.1, length-drop n text) in same) (spans_rise q))
+    (omega arith, omega (arith, f.0), subst P (let same : from + n + length (drop n text) ≡ from + length text = omega (arith, f.1, length-drop n text) in same) (scan_rises q))
 
-end_is : {from : ℕ} {ks : List Kind} {text : List ℕ} {ts : List token_type.Token} {stop : Stop} → Cuts from ks text ts stop → (to : ℕ) → stop ≡ End to → to ≡ from + length text
+pub spans_rise : {from : ℕ} {ks : List Kind} {text : List ℕ} {ts : List token_type.Token} {stop : Stop} → Cuts from ks text ts stop → InOrder from ts (from + length text)
+spans_rise q = scan_rises (scan_of q)
+
+end_is : {from : ℕ} {ks : List Kind} {text : List ℕ} {ts : List token_type.Token} {stop : Stop} → Scans from ks text ts stop → (to : ℕ) → stop ≡ End to → to ≡ from + length text
 end_is {from} ends to e = let same : from ≡ to = cc in omega (arith, same)
 end_is {from} {ks} {text} (gap {n = n} h f q) to e =
     let g : IsFront text (Gap n) = of_front ks text (Gap n) h (sym f) in
@@ -164,4 +169,4 @@ end_is {from} {ks} {text} (token {n = n} {k = k} h f l p c q) to e =
 
 -- the end is that of the text
 pub end_of_text : {from to : ℕ} {ks : List Kind} {text : List ℕ} {ts : List token_type.Token} → Cuts from ks text ts (End to) → to ≡ from + length text
-end_of_text {to = to} q = end_is q to refl
+end_of_text {to = to} q = end_is (scan_of q) to refl

@@ -27,13 +27,11 @@ Contains before kind.Number bytes w = FitsSigned w64 (signed_digits_value 10 byt
 Contains before kind.Word bytes w = (v : Bits) × IsWordAfter before bytes v × (w ≡ what.Word v)
 Contains before kind.End bytes w = ⊥
 
--- the bytes of a token of a kind, which begin at an offset, are malformed
-abbrev pub IsMalformed : Kind → Kind → List ℕ → ℕ → SyntaxError → Type 0
-IsMalformed before (kind.Mark m) bytes from e = ⊥
-IsMalformed before kind.Name bytes from e = (limit_number limit.Name < length bytes) × (e ≡ TooLarge limit.Name)
-IsMalformed before kind.Number bytes from e = (FitsSigned w64 (signed_digits_value 10 bytes) → ⊥) × (e ≡ BadNumber from)
-IsMalformed before kind.Word bytes from e = ((v : Bits) → IsWordAfter before bytes v → ⊥) × (e ≡ BadWord from)
-IsMalformed before kind.End bytes from e = ⊥
+-- the error of bytes that stand for nothing, by the kind of their token, which begins at an offset
+abbrev pub fault_of : Kind → ℕ → SyntaxError
+fault_of kind.Number from = BadNumber from
+fault_of kind.Word from = BadWord from
+fault_of k from = TooLarge limit.Name
 
 -- a token past the last entry of a list: only its kind counts
 abbrev pub unread : Kind → List ℕ → What

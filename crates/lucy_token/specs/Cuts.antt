@@ -1,5 +1,5 @@
 -- A text cut into tokens, up to its end or to the first fault.
-use Rattle.std.specs.Prelude.{ℕ, ◌+◌, ◌<◌, ◌≡◌, true, false, List, [], ◌∷◌, length, take, drop, Some, None}
+use Rattle.std.specs.Prelude.{ℕ, ◌+◌, ◌≡◌, true, false, List, [], ◌∷◌, take, drop, Some, None}
 use Rattle.lucy_word.specs.declared.limit.Limit.{Limit}
 use Rattle.lucy_word.specs.declared.limit.Limit.TheVariants as limit
 use Rattle.lucy_token.specs.declared.token.Kind.{Kind}
@@ -11,8 +11,8 @@ use Rattle.lucy_token.specs.declared.stop.Stop.TheVariants.{End, Fault}
 use Rattle.lucy_token.specs.declared.stop.SyntaxError.{SyntaxError}
 use Rattle.lucy_token.specs.declared.stop.SyntaxError.TheVariants.{Unexpected, TooLarge}
 use Rattle.lucy_token.specs.Before.{nearest, limit_at, is_entry_past}
-use Rattle.lucy_token.specs.Fronts.{front_of}
-use Rattle.lucy_token.specs.Contents.{Contains, IsMalformed, unread}
+use Rattle.lucy_token.specs.Fronts.{HasFront}
+use Rattle.lucy_token.specs.Contents.{Contains, fault_of, unread}
 
 -- a token of so many bytes
 abbrev pub token_at : What → ℕ → ℕ → token_type.Token
@@ -23,15 +23,15 @@ token_at w from n = record { what = w; span = record { from = from; to = from + 
 -- only one that may begin an entry passes the limit. Then comes what is malformed.
 pub data Cuts : ℕ → List Kind → List ℕ → List token_type.Token → Stop → Type 0 where
   ends : {from : ℕ} {ks : List Kind} → Cuts from ks [] [] (End from)
-  gap : {from n : ℕ} {ks : List Kind} {text : List ℕ} {ts : List token_type.Token} {stop : Stop} → 0 < length text → front_of ks text ≡ Gap n →
+  gap : {from n : ℕ} {ks : List Kind} {text : List ℕ} {ts : List token_type.Token} {stop : Stop} → HasFront ks text (Gap n) →
       Cuts (from + n) ks (drop n text) ts stop → Cuts from ks text ts stop
-  bad : {from n : ℕ} {ks : List Kind} {text : List ℕ} → 0 < length text → front_of ks text ≡ Bad n → Cuts from ks text [] (Fault (Unexpected (from + n)))
-  passed : {from n : ℕ} {ks : List Kind} {text : List ℕ} {k : Kind} {l : Limit} → 0 < length text → front_of ks text ≡ Token k n →
+  bad : {from n : ℕ} {ks : List Kind} {text : List ℕ} → HasFront ks text (Bad n) → Cuts from ks text [] (Fault (Unexpected (from + n)))
+  passed : {from n : ℕ} {ks : List Kind} {text : List ℕ} {k : Kind} {l : Limit} → HasFront ks text (Token k n) →
       limit_at ks k ≡ Some l → Cuts from ks text [] (Fault (TooLarge l))
-  past_last : {from n : ℕ} {ks : List Kind} {text : List ℕ} {k : Kind} → 0 < length text → front_of ks text ≡ Token k n →
+  past_last : {from n : ℕ} {ks : List Kind} {text : List ℕ} {k : Kind} → HasFront ks text (Token k n) →
       limit_at ks k ≡ None → is_entry_past ks k ≡ true → Cuts from ks text (token_at (unread k (take n text)) from n ∷ []) (Fault (TooLarge limit.Names))
-  malformed : {from n : ℕ} {ks : List Kind} {text : List ℕ} {k : Kind} {e : SyntaxError} → 0 < length text → front_of ks text ≡ Token k n →
-      limit_at ks k ≡ None → is_entry_past ks k ≡ false → IsMalformed (nearest ks) k (take n text) from e → Cuts from ks text [] (Fault e)
-  token : {from n : ℕ} {ks : List Kind} {text : List ℕ} {k : Kind} {w : What} {ts : List token_type.Token} {stop : Stop} → 0 < length text → front_of ks text ≡ Token k n →
+  malformed : {from n : ℕ} {ks : List Kind} {text : List ℕ} {k : Kind} → HasFront ks text (Token k n) →
+      limit_at ks k ≡ None → is_entry_past ks k ≡ false → ((w : What) → Contains (nearest ks) k (take n text) w → ⊥) → Cuts from ks text [] (Fault (fault_of k from))
+  token : {from n : ℕ} {ks : List Kind} {text : List ℕ} {k : Kind} {w : What} {ts : List token_type.Token} {stop : Stop} → HasFront ks text (Token k n) →
       limit_at ks k ≡ None → is_entry_past ks k ≡ false → Contains (nearest ks) k (take n text) w →
       Cuts (from + n) (k ∷ ks) (drop n text) ts stop → Cuts from ks text (token_at w from n ∷ ts) stop

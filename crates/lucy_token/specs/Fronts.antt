@@ -3,9 +3,6 @@ use Rattle.std.specs.Prelude.{ℕ, ◌+◌, ◌≡◌, ◌≤◌, ◌<◌, Bool,
 use Rattle.std.specs.Option.{option_map_or}
 use Rattle.std.specs.List.{prefix_len}
 use Rattle.std.specs.Str.{bytes_eq}
-use Rattle.lucy_word.specs.declared.form.Stage.{Stage}
-use Rattle.lucy_word.specs.declared.form.Stage.TheVariants.{Closed}
-use Rattle.lucy_word.specs.Stages.{begin, next}
 use Rattle.lucy_word.specs.Items.{Form, form_text, IsForm}
 use Rattle.lucy_word.specs.Forms.{BeginsForm}
 use Rattle.lucy_token.specs.declared.mark.Mark.{Mark}
@@ -60,27 +57,7 @@ abbrev pub sign_in : List Mark → List ℕ → Front
 sign_in [] text = Bad 0
 sign_in (m ∷ ms) text = if bytes_eq (take (length (spelling m)) text) (spelling m) then Token (kind.Mark m) (length (spelling m)) else sign_in ms text
 
--- a word where all of its form was read, else what breaks the form, behind so many bytes
-abbrev pub word_end : ℕ → Stage → Front
-word_end n Closed = Token kind.Word n
-word_end n s = Bad n
-
--- a word, of whose form so many bytes are read up to a stage, and one more where it leads to another
-abbrev pub word_behind : ℕ → Stage → Option Stage → List ℕ → Front
-word_behind n last None text = word_end n last
-word_behind n last (Some s) [] = word_end (n + 1) s
-word_behind n last (Some s) (c ∷ text) = word_behind (n + 1) s (next s c) text
-
--- a word, of whose form so many bytes are read, up to this stage
-abbrev pub word_from : ℕ → Stage → List ℕ → Front
-word_from n s [] = word_end n s
-word_from n s (c ∷ text) = word_behind n s (next s c) text
-
--- a word at the front, its form whole, or the byte that breaks it
-unfoldable pub word_front : List ℕ → Front
-word_front text = word_from 0 begin text
-
--- what stands there, by the form: a word whose form is whole, or the first byte that can't follow those before it in any form
+-- a word stands there, its form whole, or the first byte that can't follow those before it in any form
 abbrev pub IsWordFront : List ℕ → Front → Type 0
 IsWordFront text (Gap n) = ⊥
 IsWordFront text (Token k n) = (k ≡ kind.Word) × (n ≤ length text) × (f : Form) × IsForm f × (take n text ≡ form_text f)
@@ -98,6 +75,10 @@ plain_front operand text =
     else if is_decimal (head (drop (minus_of operand text) text)) then Token kind.Number (minus_of operand text + prefix_len is_decimal (drop (minus_of operand text) text))
     else sign_in signs text
 
--- what stands at the front of a text, behind tokens of these kinds
-unfoldable pub front_of : List Kind → List ℕ → Front
-front_of ks text = if begins_gap text then gap_of text else if wants_word (nearest ks) then word_front text else plain_front (operand_begins ks) text
+-- what stands at the front of a text, behind tokens of these kinds, where a word's front is this one
+unfoldable pub front_of : List Kind → Front → List ℕ → Front
+front_of ks word text = if begins_gap text then gap_of text else if wants_word (nearest ks) then word else plain_front (operand_begins ks) text
+
+-- the text has a byte, and this stands at its front
+abbrev pub HasFront : List Kind → List ℕ → Front → Type 0
+HasFront ks text front = (0 < length text) × (word : Front) × IsWordFront text word × (front ≡ front_of ks word text)

@@ -9,5 +9,6 @@ pub mod Cuts
 pub mod Written
 pub mod Spelled
 -- what only serves the proofs: the scanner's states and steps, and what stands in print by them
+pub mod Scans
 pub mod States
 pub mod Steps

@@ -15,9 +15,10 @@ use Rattle.lucy_token.specs.declared.stop.SyntaxError.{SyntaxError}
 use Rattle.lucy_token.specs.declared.state.Level.{Level}
 use Rattle.lucy_token.specs.Before.{nearest, wants_word, limit_at, is_entry_past}
 use Rattle.lucy_token.specs.States.{State, begins_operand}
-use Rattle.lucy_token.specs.Fronts.{begins_gap, gap_of, word_front, plain_front, front_of}
-use Rattle.lucy_token.specs.Contents.{Contains, IsMalformed}
-use Rattle.lucy_token.specs.Cuts.{Cuts, token_at}
+use Rattle.lucy_token.specs.Fronts.{begins_gap, gap_of, plain_front}
+use Rattle.lucy_token.specs.Scans.{word_front, scanned_front, IsMalformed, Scans}
+use Rattle.lucy_token.specs.Contents.{Contains}
+use Rattle.lucy_token.specs.Cuts.{token_at}
 
 -- what stands at the front of a text, by the scanner's state
 abbrev pub front_in : State → List ℕ → Front
@@ -36,7 +37,7 @@ IsContent before k bytes from (Err e) = IsMalformed before k bytes from e
 
 -- the front of the text, which begins at an offset behind tokens of these kinds, is this token, which may stand there
 pub record IsRead (from : ℕ) (ks : List Kind) (text : List ℕ) (t : token_type.Token) (k : Kind) (n : ℕ) : Type 0 where
-  pub front : front_of ks text ≡ front.Token k n
+  pub front : scanned_front ks text ≡ front.Token k n
   pub passes : limit_at ks k ≡ None
   pub in_list : is_entry_past ks k ≡ false
   pub stands_for : Contains (nearest ks) k (take n text) t.what
@@ -44,14 +45,14 @@ pub record IsRead (from : ℕ) (ks : List Kind) (text : List ℕ) (t : token_typ
 
 -- bytes between tokens; a token, after which the cutting goes on; one after which it stops; or why it stops here
 abbrev pub IsStep : ℕ → List Kind → List ℕ → Step → Type 0
-IsStep from ks text (Gap n) = front_of ks text ≡ front.Gap n
+IsStep from ks text (Gap n) = scanned_front ks text ≡ front.Gap n
 IsStep from ks text (Token t k n) = IsRead from ks text t k n
-IsStep from ks text (Last t e) = Cuts from ks text (t ∷ []) (Fault e)
-IsStep from ks text (Stopped e) = Cuts from ks text [] (Fault e)
+IsStep from ks text (Last t e) = Scans from ks text (t ∷ []) (Fault e)
+IsStep from ks text (Stopped e) = Scans from ks text [] (Fault e)
 
 -- Bytes that were passed stay passed: what cuts the rest cuts the whole, with these tokens before.
 abbrev pub CutsSoFar : List ℕ → List token_type.Token → ℕ → List Kind → List ℕ → Type 0
-CutsSoFar text ts from ks rest = (more : List token_type.Token) (stop : Stop) → Cuts from ks rest more stop → Cuts 0 [] text (ts ++ more) stop
+CutsSoFar text ts from ks rest = (more : List token_type.Token) (stop : Stop) → Scans from ks rest more stop → Scans 0 [] text (ts ++ more) stop
 
 -- none of these levels has more commas than so many
 abbrev pub FewCommas : ℕ → List Level → Type 0

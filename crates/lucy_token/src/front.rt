@@ -3,6 +3,7 @@ ghost use Rattle.std.specs.Prelude.{◌≡◌, ◌==◌, ◌&&◌, ◌+◌, ◌<
 ghost use Rattle.std.specs.List.{prefix_len};
 ghost use Rattle.lucy_token.specs.Steps.{front_in};
 ghost use Rattle.lucy_token.specs.Fronts as spec;
+ghost use Rattle.lucy_token.specs.Scans as scan;
 
 use crate::mark::{KEYWORDS, Mark, SIGNS};
 use crate::state::{Context, wants_word};
@@ -140,7 +141,7 @@ fn sign_in(marks: &[Mark], text: &[u8]) -> Front
 
 // A word where all of its form was read, else what breaks the form, behind so many bytes.
 fn word_end(n: usize, stage: Stage) -> Front
-    ensures { result ≡ spec.word_end n stage }
+    ensures { result ≡ scan.word_end n stage }
 {
     match stage {
         Stage::Closed => Front::Token(Kind::Word, n),
@@ -148,9 +149,9 @@ fn word_end(n: usize, stage: Stage) -> Front
     }
 }
 
-#[tactic(auto, unfolding(crate::specs::Fronts::word_front))]
+#[tactic(auto, unfolding(crate::specs::Scans::word_front))]
 fn word(text: &[u8]) -> Front
-    ensures { result ≡ spec.word_front text.now }
+    ensures { result ≡ scan.word_front text.now }
 {
     let mut stage = Stage::begin();
     let mut rest = text;

@@ -3,7 +3,8 @@ ghost use Rattle.lucy_token.specs.declared.token.Token as token;
 ghost use Rattle.lucy_token.specs.declared.token.Kind.TheVariants as kind;
 ghost use Rattle.lucy_token.specs.declared.stop.Stop as stop;
 ghost use Rattle.lucy_token.specs.declared.stop.Stop.TheVariants.{End};
-ghost use Rattle.lucy_token.specs.Fronts.{IsWordFront, word_front};
+ghost use Rattle.lucy_token.specs.Fronts.{IsWordFront};
+ghost use Rattle.lucy_token.specs.Scans.{word_front};
 ghost use Rattle.lucy_token.specs.Cuts.{Cuts};
 ghost use Rattle.lucy_token.specs.Written.{AreWritten, InOrder};
 

@@ -1,5 +1,5 @@
 use Rattle.std.proofs.Common.{◌≡◌, ◌≤◌, ◌+◌, length}
-use Rattle.lucy_token.specs.Fronts.{word_front, word_from}
+use Rattle.lucy_token.specs.Scans.{word_front, word_from}
 use Rattle.lucy_token.proofs.front.word.Given as goal
 
 abbrev pub invariant-bytes : goal.invariant-bytes

@@ -8,7 +8,8 @@ use Rattle.lucy_word.specs.declared.limit.Limit.TheVariants as limit
 use Rattle.lucy_token.specs.Before.{limit_at, is_entry_past}
 use Rattle.lucy_token.proofs.CutSteps.{read_step, fault_step}
 use Rattle.lucy_token.proofs.StateLaws.{front_at, limit_there, entry_there, nearest_there}
-use Rattle.lucy_token.specs.Cuts as cuts
+use Rattle.lucy_token.specs.Cuts.{token_at}
+use Rattle.lucy_token.specs.Scans as scans
 use Rattle.lucy_token.proofs.FrontLaws.{IsFront, of_front_in}
 use Rattle.lucy_token.proofs.scan.next_step.Goals as goal
 
@@ -18,10 +19,10 @@ overflow_add-result c =
     omega (arith, f, c.requires.short)
 
 pub returns-in-Bad : goal.returns-in-Bad
-returns-in-Bad c ks e = cuts.bad c.requires.some (front_at _ ks _ _ e c.in-Bad.ensures)
+returns-in-Bad c ks e = scans.bad c.requires.some (front_at _ ks _ _ e c.in-Bad.ensures)
 
 pub returns-in-Some : goal.returns-in-Some
-returns-in-Some c ks e = cuts.passed c.requires.some (front_at _ ks _ _ e c.in-Token.ensures) (limit_there _ ks _ _ e c.in-Some.ensures)
+returns-in-Some c ks e = scans.passed c.requires.some (front_at _ ks _ _ e c.in-Token.ensures) (limit_there _ ks _ _ e c.in-Some.ensures)
 
 pub slice_bounds-bytes-end : goal.slice_bounds-bytes-end
 slice_bounds-bytes-end c =
@@ -45,9 +46,9 @@ content-requires c =
 
 pub returns-then-is_past_last : goal.returns-then-is_past_last
 returns-then-is_past_last c ks e =
-    let P : What → Type 0 = λ w. cuts.Cuts c.args.from ks c.args.text.now (cuts.token_at w c.args.from c.in-Token.n ∷ []) (Fault (TooLarge limit.Names)) in
+    let P : What → Type 0 = λ w. scans.Scans c.args.from ks c.args.text.now (token_at w c.args.from c.in-Token.n ∷ []) (Fault (TooLarge limit.Names)) in
     subst P (sym c.unread-what.ensures)
-    (cuts.past_last c.requires.some (front_at _ ks _ _ e c.in-Token.ensures) (limit_there _ ks _ _ e (sym (sym c.limit_passed.ensures ∙ c.in_default.is)))
+    (scans.past_last c.requires.some (front_at _ ks _ _ e c.in-Token.ensures) (limit_there _ ks _ _ e (sym (sym c.limit_passed.ensures ∙ c.in_default.is)))
     (entry_there _ ks _ _ e (sym (sym c.is_past_last.ensures ∙ c.if-is_past_last.true))))
 
 pub returns-in-Err : goal.returns-in-Err

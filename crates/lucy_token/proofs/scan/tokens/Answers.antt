@@ -1,8 +1,8 @@
 use Rattle.std.proofs.Common.{◌≡◌, ◌+◌, ◌∷◌, drop, arith, ap, ◌∙◌, sym, subst}
 use Rattle.lucy_token.specs.declared.front.Front.TheVariants.{Gap}
 use Rattle.lucy_token.specs.States.{State, after}
-use Rattle.lucy_token.specs.Fronts.{front_of}
 use Rattle.lucy_token.specs.Steps.{IsRead, IsBounded}
+use Rattle.lucy_token.specs.Scans.{scanned_front}
 use Rattle.lucy_token.proofs.CutSteps.{at_rest, rest_some, gap_bounds, token_bounds, passed_gap, passed_token, passed_all}
 use Rattle.lucy_token.proofs.Bounds.{after_bounded, bounded_more}
 use Rattle.lucy_token.proofs.scan.tokens.Goals as goal
@@ -10,21 +10,21 @@ use Rattle.lucy_token.proofs.scan.tokens.Goals as goal
 pub overflow_add-from : goal.overflow_add-from
 overflow_add-from c =
     let k = c.text.invariant.here in
-    let h : front_of k.0 (drop c.text.from c.args.text.now) ≡ Gap c.in-Gap.n = at_rest _ _ _ _ _ _ c.skip.ensures c.in-Gap.is (c.next_step.ensures k.0 k.1) in
+    let h : scanned_front k.0 (drop c.text.from c.args.text.now) ≡ Gap c.in-Gap.n = at_rest _ _ _ _ _ _ c.skip.ensures c.in-Gap.is (c.next_step.ensures k.0 k.1) in
     let b = gap_bounds c.text.from k.0 c.args.text.now c.in-Gap.n c.text-test.true h in
     omega (arith, b.1, c.requires)
 
 pub text-smaller-in-Gap : goal.text-smaller-in-Gap
 text-smaller-in-Gap c =
     let k = c.text.invariant.here in
-    let h : front_of k.0 (drop c.text.from c.args.text.now) ≡ Gap c.in-Gap.n = at_rest _ _ _ _ _ _ c.skip.ensures c.in-Gap.is (c.next_step.ensures k.0 k.1) in
+    let h : scanned_front k.0 (drop c.text.from c.args.text.now) ≡ Gap c.in-Gap.n = at_rest _ _ _ _ _ _ c.skip.ensures c.in-Gap.is (c.next_step.ensures k.0 k.1) in
     let b = gap_bounds c.text.from k.0 c.args.text.now c.in-Gap.n c.text-test.true h in
     omega (arith, b.0, b.1)
 
 pub text-preserved-in-Gap : goal.text-preserved-in-Gap
 text-preserved-in-Gap c =
     let k = c.text.invariant.here in
-    let h : front_of k.0 (drop c.text.from c.args.text.now) ≡ Gap c.in-Gap.n = at_rest _ _ _ _ _ _ c.skip.ensures c.in-Gap.is (c.next_step.ensures k.0 k.1) in
+    let h : scanned_front k.0 (drop c.text.from c.args.text.now) ≡ Gap c.in-Gap.n = at_rest _ _ _ _ _ _ c.skip.ensures c.in-Gap.is (c.next_step.ensures k.0 k.1) in
     let b = gap_bounds c.text.from k.0 c.args.text.now c.in-Gap.n c.text-test.true h in
     record {
       within = b.1;
