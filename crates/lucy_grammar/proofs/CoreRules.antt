@@ -22,7 +22,7 @@ use Rattle.lucy_grammar.specs.Printable.{IsPrintableDef, IsPrintableDecl, AllOfS
 use Rattle.lucy_grammar.proofs.PrintableLaws.{Goods}
 use Rattle.lucy_grammar.proofs.Cores.{core, core-append, core-parens, put, put_after, put_operand, put_later, put_parens, first_defs, flat_link, flat, token_of, all_flat, some_flat, flats}
 use Rattle.lucy_grammar.specs.Symbols.{Rule, Val, Vals, Link, Part, Program, Node, Title, Params, Results, Names, Ident, MoreName, Body, Decls, MoreDecl, Decl, Typing, TypeName, ClockOf, Defs, Def, MoreDef, Lefts, Expr, Or, MoreAnd, And, MoreCmp, Cmp, Compared, CmpOp, Sum, MoreProd, SumOp, Prod, MoreSamp, ProdOp, Samp, Sampling, Pre, Followed, Form, Buffered, Held, Other, Atom, Small, Lit, Pair, Call, Applied, Base, Args, MoreExpr}
-use Rattle.lucy_grammar.specs.Meanings.{bytes_of, name_of, number_of, word_of, bound_of, linked, grouped, sampled_by, literal_before, held, named}
+use Rattle.lucy_grammar.specs.Meanings.{bytes_of, name_of, number_of, word_of, bound_of, linked, grouped, sampled_by, literal_before, named, held_by}
 use Rattle.lucy_grammar.specs.Grammar.{rules}
 use Rattle.lucy_grammar.specs.Parens.{kept}
 use Rattle.lucy_grammar.specs.Print.{blank, indent, line, after, after_commas, commas, parens, name_token, lit_token, op_mark, when_mark, operand, printed, all_printed, printed_decl, printed_left, printed_def, more_defs, printed_body, printed_node, more_nodes}
@@ -90,7 +90,7 @@ bound_token (what.Mark m) e = absurd cc
 bound_token (what.Name bytes) e = absurd cc
 bound_token (what.Word w) e = absurd cc
 
-held_rule : (n : Token) (o : Option (Val Held)) → is_bound n.what ≡ true → flat Buffered (held n o) ≡ token_of kind.Number n.what ++ (some_flat (flat Held) o ++ [])
+held_rule : (n : Token) (o : Option (Val Held)) → is_bound n.what ≡ true → flat Buffered (held_by (bound_of n.what) (number_of n.what, n.span) o) ≡ token_of kind.Number n.what ++ (some_flat (flat Held) o ++ [])
 held_rule n None e = plus (core (lit_token (number_of n.what)))
 held_rule n (Some (Some fby, t)) e = literal_rule (number_of n.what, n.span) (Some (fby, t))
 held_rule n (Some (None, t)) e = ap (λ u. u ++ core (printed t)) (bound_token n.what e) ∙ ap (λ u. token_of kind.Number n.what ++ u) (plus (core (printed t)))

@@ -19,7 +19,7 @@ use Rattle.lucy_token.specs.Tokens.{kind_of}
 use Rattle.lucy_grammar.specs.Kinds.{is_bound, Fits, bound, sort_kind}
 use Rattle.lucy_grammar.proofs.Numbers.{fits_kind}
 use Rattle.lucy_grammar.specs.Symbols.{Sym, token, part, many, perhaps, Rule, Val, Vals, Link, Part, Program, Node, Title, Params, Results, Names, Ident, MoreName, Body, Decls, MoreDecl, Decl, Typing, TypeName, ClockOf, Defs, Def, MoreDef, Lefts, Expr, Or, MoreAnd, And, MoreCmp, Cmp, Compared, CmpOp, Sum, MoreProd, SumOp, Prod, MoreSamp, ProdOp, Samp, Sampling, Pre, Followed, Form, Buffered, Held, Other, Atom, Small, Lit, Pair, Call, Applied, Base, Args, MoreExpr}
-use Rattle.lucy_grammar.specs.Meanings.{bytes_of, name_of, number_of, word_of, bound_of, linked, grouped, sampled_by, literal_before, held, named}
+use Rattle.lucy_grammar.specs.Meanings.{bytes_of, name_of, number_of, word_of, bound_of, linked, grouped, sampled_by, literal_before, named, held_by}
 use Rattle.lucy_grammar.specs.Grammar.{rules}
 use Rattle.lucy_grammar.specs.Deriving.{Deriv, done, take, by_rule, enough, again, absent, present, spelled, value}
 use Rattle.lucy_grammar.specs.Programs.{IsProgram}
@@ -178,7 +178,7 @@ bound_from Q k (what.Mark m) e q = absurd cc
 bound_from Q k (what.Name bytes) e q = absurd cc
 bound_from Q k (what.Word w) e q = absurd cc
 
-held_good : (Q : Kind → What → Type 0) (k : Kind) (n : Token) (o : Option (Val Held)) → is_bound n.what ≡ true → Q k n.what → InOption (Good Q Held) o → Good Q Buffered (held n o)
+held_good : (Q : Kind → What → Type 0) (k : Kind) (n : Token) (o : Option (Val Held)) → is_bound n.what ≡ true → Q k n.what → InOption (Good Q Held) o → Good Q Buffered (held_by (bound_of n.what) (number_of n.what, n.span) o)
 held_good Q k n None e q h = (tt, lit_from Q k n.what (fits_kind bound n.what e) q)
 held_good Q k n (Some (Some fby, t)) e q h = (tt, (lit_from Q k n.what (fits_kind bound n.what e) q, h))
 held_good Q k n (Some (None, t)) e q h = (bound_from Q k n.what e q, h)

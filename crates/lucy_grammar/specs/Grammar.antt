@@ -42,7 +42,7 @@ use Rattle.lucy_token.specs.declared.mark.Mark.TheVariants as mark
 use Rattle.lucy_token.specs.declared.token.Kind.TheVariants as kind
 use Rattle.lucy_grammar.specs.Kinds.{bound, unbound}
 use Rattle.lucy_grammar.specs.Symbols.{Part, Sym, token, any, part, many, perhaps, Val, Vals, Rule, Program, Node, Title, Params, Results, Names, Ident, MoreName, Body, Decls, MoreDecl, Decl, Typing, TypeName, ClockOf, Defs, Def, MoreDef, Lefts, Expr, Or, MoreAnd, And, MoreCmp, Cmp, Compared, CmpOp, Sum, MoreProd, SumOp, Prod, MoreSamp, ProdOp, Samp, Sampling, Pre, Followed, Form, Buffered, Held, Other, Atom, Small, Lit, Pair, Call, Applied, Base, Args, MoreExpr}
-use Rattle.lucy_grammar.specs.Meanings.{name_of, number_of, word_of, two, grouped, sampled_by, literal_before, held, named, linked}
+use Rattle.lucy_grammar.specs.Meanings.{name_of, number_of, word_of, two, grouped, sampled_by, literal_before, held_by, named, linked, bound_of}
 
 -- a keyword or a sign
 abbrev pub sign : Mark → Sym
@@ -110,7 +110,7 @@ rules Form = says (sign mark.Not ∷ part Pre ∷ []) (λ (o, (e, _)). operator 
     ∷ says (sign mark.Buffer ∷ part Buffered ∷ []) (λ (o, ((most, e), _)). buffered most e o.span)
     ∷ says (sign mark.Merge ∷ any kind.Word ∷ part Small ∷ part Small ∷ []) (λ (o, (w, (a, (b, _)))). merged (word_of w.what) a b o.span)
     ∷ says (part Atom ∷ []) (λ (e, _). e) ∷ []
-rules Buffered = says (token bound ∷ perhaps Held ∷ []) (λ (n, (h, _)). held n h)
+rules Buffered = says (token bound ∷ perhaps Held ∷ []) (λ (n, (h, _)). held_by (bound_of n.what) (number_of n.what, n.span) h)
     ∷ says (part Other ∷ perhaps Followed ∷ []) (λ (l, (f, _)). (None, literal_before l f))
     ∷ says (part Form ∷ []) (λ (e, _). (None, e)) ∷ []
 rules Held = says (part Followed ∷ []) (λ ((fby, e), _). (Some fby, e))

@@ -62,10 +62,6 @@ held_by n (l, span) None = (None, literal l span)
 held_by n (l, span) (Some (Some fby, operand)) = (None, followed l operand fby)
 held_by n (l, span) (Some (None, e)) = (Some n, e)
 
--- the same, of a number's token
-abbrev pub held : Token → Option (Option Span × Tree) → Option ℕ × Tree
-held n h = held_by (bound_of n.what) (number_of n.what, n.span) h
-
 -- a name alone, or a call
 abbrev pub named : Name → Option (Option Bits × Trees) → Tree
 named name c = option_map_or (λ (at, args). call name at args) c (variable name)

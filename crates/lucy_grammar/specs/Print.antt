@@ -164,9 +164,8 @@ printed_decl d = words (name_token d.name ∷ (typing d.holds ++ clock d.word))
 
 -- the left side of a definition: one name without parentheses
 abbrev pub printed_left : List Decl → List Printed
-printed_left [] = parens []
 printed_left (d ∷ []) = printed_decl d
-printed_left (d ∷ e ∷ ds) = parens (commas (map printed_decl (d ∷ e ∷ ds)))
+printed_left ds = parens (commas (map printed_decl ds))
 
 -- a definition: its left side, `=`, and its right side
 abbrev pub printed_def : DefTree → List Printed
