@@ -3,7 +3,7 @@ use Rattle.lucy_token.specs.declared.front.Front.TheVariants.{Gap}
 use Rattle.lucy_token.specs.States.{State, after}
 use Rattle.lucy_token.specs.Steps.{IsRead, IsBounded}
 use Rattle.lucy_token.specs.Scans.{scanned_front}
-use Rattle.lucy_token.proofs.CutSteps.{at_rest, rest_some, gap_bounds, token_bounds, passed_gap, passed_token, passed_all}
+use Rattle.lucy_token.proofs.CutSteps.{at_rest, rest_some, gap_bounds, token_bounds, passed_gap, passed_token, passed_last, passed_fault, passed_all}
 use Rattle.lucy_token.proofs.Bounds.{after_bounded, bounded_more}
 use Rattle.lucy_token.proofs.scan.tokens.Goals as goal
 
@@ -58,3 +58,15 @@ text-preserved c =
 
 pub returns : goal.returns
 returns c = let k = c.text.invariant.here in passed_all c.args.text.now c.text.list.items c.text.from k.0 k.2 c.text-test.false
+
+pub returns-in-Last : goal.returns-in-Last
+returns-in-Last c =
+    let k = c.text.invariant.here in
+    passed_last c.args.text.now c.text.list.items c.add-in-Last.new.list.items c.text.from k.0 c.in-Last.token c.in-Last.error k.2
+    (at_rest _ _ _ _ _ _ c.skip.ensures c.in-Last.is (c.next_step.ensures k.0 k.1)) c.in_ok-add-in-Last.ensures
+
+pub returns-in-Stopped : goal.returns-in-Stopped
+returns-in-Stopped c =
+    let k = c.text.invariant.here in
+    passed_fault c.args.text.now c.text.list.items c.text.from k.0 c.in-Stopped.error k.2
+    (at_rest _ _ _ _ _ _ c.skip.ensures c.in-Stopped.is (c.next_step.ensures k.0 k.1))
