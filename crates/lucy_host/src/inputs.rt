@@ -57,4 +57,13 @@ impl Inputs {
     {
         &self.lists[list as usize]
     }
+    /// The list of this number, an empty one where there is none.
+    pub fn get(&self, list: u32) -> &[i64]
+        ensures { result.now ≡ slice_index_or self.now list [] }
+    {
+        match self.lists.get(list as usize) {
+            Some(numbers) => numbers.as_slice(),
+            None => &[],
+        }
+    }
 }
