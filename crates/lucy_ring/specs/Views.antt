@@ -1,6 +1,6 @@
 -- What a contract sees of the two ends of a ring. Lists have the oldest item first. Before the first meeting the making of
 -- the ring stands for the last one.
-use Rattle.std.specs.Prelude.{ℕ, ℤ, List}
+use Rattle.std.specs.Prelude.{ℕ, ◌^◌, ℤ, List}
 use denote.RawPtr.{Ptr}
 use Rattle.std.specs.declared.alloc.Global.{Global}
 use Rattle.rtrb.specs.Shared.{Names}
@@ -20,6 +20,10 @@ pub record RingName : Type 0 where
   pub held : ℕ
   pub capacity : ℕ
   pub numbers_capacity : ℕ
+
+-- from one meeting to the next an end moves at most so many items
+abbrev pub most_between : ℕ
+most_between = 2 ^ 40
 
 -- the giver's ring, what it gave since the last meeting, and how many slots it knows to be free
 pub record GiverView : Type 0 where

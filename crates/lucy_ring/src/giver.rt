@@ -1,4 +1,5 @@
-ghost use Rattle.std.specs.Prelude.{◌≡◌, ◌+◌, ◌^◌, ◌<◌, ◌≤◌, ◌++◌, ◌∷◌, [], length, IfErr, OnOk, OnErr, IsOk};
+ghost use Rattle.std.specs.Prelude.{◌≡◌, ◌+◌, ◌<◌, ◌≤◌, ◌++◌, ◌∷◌, [], length, IfErr, OnOk, OnErr, IsOk};
+ghost use Rattle.lucy_ring.specs.Views.{most_between};
 
 use crate::giver_end::GiverEnd;
 use std::marker::Model;
@@ -23,7 +24,7 @@ impl Model for Giver {
 impl Giver {
     /// Gives an item, or hands it back where no free slot is found. A slot that is not known yet may be found here.
     pub fn give(&mut self, item: i64) -> Result<(), i64>
-        requires few { length self.old.given < 2 ^ 40 }
+        requires few { length self.old.given < most_between }
         ensures ring { self.new.ring ≡ self.old.ring }
         ensures given { OnOk result (self.new.given ≡ self.old.given ++ item ∷ []) }
         ensures slots { OnOk result (self.old.slots ≤ self.new.slots + 1) }

@@ -28,11 +28,12 @@ pub(crate) struct GiverEnd {
 }
 
 impl GiverEnd {
-    ghost use Rattle.std.specs.Prelude.{◌≡◌, ◌+◌, ◌^◌, ◌<◌, ◌≤◌, [], ◌∷◌, ◌++◌, length, vec_len, vec_capacity, IfErr, OnOk, OnErr, IsOk};
+    ghost use Rattle.std.specs.Prelude.{◌≡◌, ◌+◌, ◌<◌, ◌≤◌, [], ◌∷◌, ◌++◌, length, vec_len, vec_capacity, IfErr, OnOk, OnErr, IsOk};
     ghost use Rattle.rtrb.specs.Ring.{sent, producer_capacity, received, IsPair, SameProducer, SameConsumer};
     ghost use Rattle.lucy_word.specs.Limits.{limit_number};
     ghost use Rattle.lucy_word.specs.declared.limit.Limit.TheVariants as limit;
     ghost use Rattle.lucy_ring.specs.Ring.{given, known_slots, ring_of_giver, giver_view};
+    ghost use Rattle.lucy_ring.specs.Views.{most_between};
 
     pub(crate) fn new(items: Producer<i64>, numbers: Consumer<u8>, side: Vec<i64>) -> GiverEnd
         requires capacity { (1 ≤ producer_capacity items) × (producer_capacity items ≤ limit_number limit.Slots) }
@@ -53,7 +54,7 @@ impl GiverEnd {
     }
 
     pub(crate) fn give(&mut self, item: i64) -> Result<(), i64>
-        requires few { length (given self.old) < 2 ^ 40 }
+        requires few { length (given self.old) < most_between }
         ensures ring { ring_of_giver self.new ≡ ring_of_giver self.old }
         ensures given { OnOk result (given self.new ≡ given self.old ++ item ∷ []) }
         ensures slots { OnOk result (known_slots self.old ≤ known_slots self.new + 1) }
@@ -76,7 +77,7 @@ impl GiverEnd {
     #[tactic(auto, using(crate::proofs::Names::giver_keeps))]
     fn fetch(&mut self)
         requires none { known_slots self.old ≡ 0 }
-        requires few { length (given self.old) < 2 ^ 40 }
+        requires few { length (given self.old) < most_between }
         ensures ring { ring_of_giver self.new ≡ ring_of_giver self.old }
         ensures given { given self.new ≡ given self.old }
     {
@@ -89,7 +90,7 @@ impl GiverEnd {
     #[tactic(auto, using(crate::proofs::Names::giver_keeps))]
     fn put(&mut self, item: i64)
         requires some { 0 < known_slots self.old }
-        requires few { length (given self.old) < 2 ^ 40 }
+        requires few { length (given self.old) < most_between }
         ensures ring { ring_of_giver self.new ≡ ring_of_giver self.old }
         ensures given { given self.new ≡ given self.old ++ item ∷ [] }
         ensures slots { known_slots self.old ≡ known_slots self.new + 1 }

@@ -1,5 +1,6 @@
-ghost use Rattle.std.specs.Prelude.{◌≡◌, ◌⊎◌, ◌+◌, ◌^◌, ◌<◌, ◌++◌, ◌∷◌, [], length, IfSome, IfNone, IsSome};
+ghost use Rattle.std.specs.Prelude.{◌≡◌, ◌⊎◌, ◌+◌, ◌<◌, ◌++◌, ◌∷◌, [], length, IfSome, IfNone, IsSome};
 ghost use mathlib.Core.List.{IsPrefix};
+ghost use Rattle.lucy_ring.specs.Views.{most_between};
 
 use crate::taker_end::TakerEnd;
 use std::marker::Model;
@@ -25,7 +26,7 @@ impl Taker {
     /// Takes the oldest item, or answers None where none is found. An item that is not known yet may be found here. For an
     /// item that is taken a number goes back, unless no slot for one is found.
     pub fn take(&mut self) -> Option<i64>
-        requires few { length self.old.taken < 2 ^ 40 }
+        requires few { length self.old.taken < most_between }
         ensures ring { self.new.ring ≡ self.old.ring }
         ensures held { self.new.held ≡ self.old.held }
         ensures taken { IfSome result (λ x. self.new.taken ≡ self.old.taken ++ x ∷ []) }

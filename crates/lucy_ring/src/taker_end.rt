@@ -26,12 +26,13 @@ pub(crate) struct TakerEnd {
 }
 
 impl TakerEnd {
-    ghost use Rattle.std.specs.Prelude.{◌≡◌, ◌⊎◌, ◌+◌, ◌-◌, ◌^◌, ◌<◌, ◌≤◌, [], ◌∷◌, ◌++◌, length, take, drop, vec_len, vec_capacity, IfSome, IfNone, IsSome};
+    ghost use Rattle.std.specs.Prelude.{◌≡◌, ◌⊎◌, ◌+◌, ◌-◌, ◌<◌, ◌≤◌, [], ◌∷◌, ◌++◌, length, take, drop, vec_len, vec_capacity, IfSome, IfNone, IsSome};
     ghost use mathlib.Core.List.{IsPrefix};
     ghost use Rattle.rtrb.specs.Ring.{sent, received, known_items, consumer_capacity, IsPair, SameProducer, SameConsumer};
     ghost use Rattle.lucy_word.specs.Limits.{limit_number};
     ghost use Rattle.lucy_word.specs.declared.limit.Limit.TheVariants as limit;
     ghost use Rattle.lucy_ring.specs.Ring.{taken, held, known, return_slots, popped_before, ring_of_taker, taker_view};
+    ghost use Rattle.lucy_ring.specs.Views.{most_between};
 
     pub(crate) fn new(items: Consumer<i64>, numbers: Producer<u8>, side: Vec<i64>) -> TakerEnd
         requires capacity { (1 ≤ consumer_capacity items) × (consumer_capacity items ≤ limit_number limit.Slots) }
@@ -50,7 +51,7 @@ impl TakerEnd {
     }
 
     pub(crate) fn take(&mut self) -> Option<i64>
-        requires few { length (taken self.old) < 2 ^ 40 }
+        requires few { length (taken self.old) < most_between }
         ensures ring { ring_of_taker self.new ≡ ring_of_taker self.old }
         ensures held { held self.new ≡ held self.old }
         ensures taken { IfSome result (λ x. taken self.new ≡ taken self.old ++ x ∷ []) }
@@ -87,7 +88,7 @@ impl TakerEnd {
     #[tactic(auto, using(crate::proofs::Names::taker_keeps, crate::proofs::Lengths::taken_length))]
     fn pop(&mut self) -> Option<i64>
         requires in_turn { self.old.place ≡ vec_len self.old.side }
-        requires few { length (taken self.old) < 2 ^ 40 }
+        requires few { length (taken self.old) < most_between }
         ensures ring { ring_of_taker self.new ≡ ring_of_taker self.old }
         ensures held { held self.new ≡ held self.old }
         ensures taken { IfSome result (λ x. taken self.new ≡ taken self.old ++ x ∷ []) }
@@ -111,7 +112,7 @@ impl TakerEnd {
     #[tactic(auto, using(crate::proofs::Names::taker_keeps, crate::proofs::Lengths::taken_length))]
     fn send_back(&mut self)
         requires owed { self.old.returned < self.old.place + self.old.popped }
-        requires few { length (taken self.old) ≤ 2 ^ 40 }
+        requires few { length (taken self.old) ≤ most_between }
         ensures ring { ring_of_taker self.new ≡ ring_of_taker self.old }
         ensures held { held self.new ≡ held self.old }
         ensures taken { taken self.new ≡ taken self.old }
