@@ -3,11 +3,11 @@ use Rattle.std.proofs.Common.{ℕ, ◌+◌, ◌<◌, ◌≤◌, ◌≡◌, Bool,
 use Rattle.std.specs.Prelude.{ℤ, pos, ◌^◌, ◌-◌, not, IsTrue, Option, Some, None, slice_get, slice_index}
 use Rattle.std.proofs.lemmas.Bool.{cases_eq, cases_lt}
 use Rattle.std.proofs.lemmas.Option.{slice_get-get_or, get_or_from_slice_get, slice_get_within, slice_get_past, slice_get_read}
-use Rattle.std.proofs.lemmas.List.{length-set, get_or_past}
+use Rattle.std.proofs.lemmas.List.{length-set}
 use Rattle.std.proofs.lemmas.List.Elements.{All-get_or}
 use Rattle.lucy_word.specs.Bits.{ones_to}
 use Rattle.lucy_host.specs.declared.kind.HostKind.{HostKind}
-use Rattle.lucy_stream.specs.Items.{item_at, list_at}
+use Rattle.lucy_stream.specs.Items.{item_at}
 use Rattle.lucy_stream.specs.Forms.{Form, Same, operands}
 use Rattle.lucy_stream.specs.Firings.{took_in}
 use Rattle.lucy_event.specs.Systems.{RingOp, Takes, Gives, op_at, given, taken}
@@ -69,12 +69,7 @@ to_not : (b : Bool) → (IsTrue b → ⊥) → IsTrue (not b)
 to_not true h = absurd (h refl)
 to_not false h = refl
 
--- the items of an input are there
-pub input_there : (what : ActorKind) (inputs : List (List ℤ)) (quota fired n : ℕ) → HasInput inputs (form_of what) quota → fired < quota → what ≡ Input n → n < length inputs
-input_there what inputs quota fired n has l e =
-    let many : quota ≤ length (list_at inputs n) = subst (λ (w : ActorKind). HasInput inputs (form_of w) quota) e has in
-    elim (cases_lt n (length inputs)) [ inl in_it ↦ in_it | inr past ↦ absurd (omega (arith, ap length (get_or_past inputs n [] past))) ]
-
+-- an input has an item for its next firing
 pub has_item : (what : ActorKind) (inputs : List (List ℤ)) (items : List ℤ) (quota fired : ℕ) → HasInput inputs (form_of what) quota → ReadsInput what inputs items → fired < quota → HasItem what fired items
 has_item (Input n) inputs items quota fired has reads l = omega (arith, ap length reads)
 has_item (Host n) inputs items quota fired has reads l = tt

@@ -1,5 +1,7 @@
 -- What contracts see of a core, and the state of the net that it is. Actors and rings count from 0, instants from 1.
 use Rattle.std.specs.Prelude.{ℕ, ◌+◌, ◌*◌, ◌≤◌, ◌≡◌, ℤ, List, [], ◌∷◌, length, replicate, slice_get, slice_set, slice_index, slice_index_or, Some}
+use Rattle.lucy_word.specs.Limits.{limit_number}
+use Rattle.lucy_word.specs.declared.limit.Limit.TheVariants as limit
 use Rattle.lucy_host.specs.declared.kind.HostKind.{HostKind}
 use Rattle.lucy_host.specs.Operators.{Operator, kinds_of}
 use Rattle.lucy_event.specs.Runs.{IsPossible, IsRun, IsFinished}
@@ -89,7 +91,7 @@ IsOver seen = IsFinished (machine_of seen).sys (done_of seen.done)
 pub record IsFixed (net : Net) (schedule : Timetable) (inputs : List (List ℤ)) (operators : List Operator) (instants : ℕ) : Type 0 where
   pub proper : IsProper net
   pub sound : IsSound net (events_at schedule)
-  pub early : instants ≤ 1048576
+  pub early : instants ≤ limit_number limit.Instants
   pub supplied : IsSupplied inputs net instants
   pub known : (a : ℕ) (actor : Actor) → slice_get net.actors a ≡ Some actor → KnowsOperator actor.kind (length operators)
 

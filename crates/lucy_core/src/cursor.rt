@@ -1,5 +1,7 @@
 // Where a core stands in the schedule's order.
 ghost use Rattle.std.specs.Prelude.{ℕ, ◌≡◌, ◌≤◌, ◌<◌, ◌+◌, [], List, Option, Some, None, false, length, drop, replicate, slice_get, slice_index_or, IsTrue, IfOk, IfSome};
+ghost use Rattle.lucy_word.specs.Limits.{limit_number};
+ghost use Rattle.lucy_word.specs.declared.limit.Limit.TheVariants as limit;
 ghost use Rattle.lucy_event.specs.Runs.{first_left};
 ghost use Rattle.lucy_core.specs.Seen.{done_of, one_more, order_on};
 ghost use Rattle.lucy_core.specs.Cursors.{row_at, IsIn, HasPassed};
@@ -59,7 +61,7 @@ impl Cursor {
         instants: u64,
         done: &[u64],
     ) -> Result<Cursor, AllocError>
-        requires early { instants ≤ 1048576 }
+        requires early { instants ≤ limit_number limit.Instants }
         requires none { (n : ℕ) × (done.now ≡ replicate n 0) }
         ensures within { IfOk result (IsIn schedule.now instants done.now) }
         ensures next { IfOk result (λ c. c.next ≡ first_left (done_of done.now) (order_on schedule.now instants)) }
@@ -86,7 +88,7 @@ impl Cursor {
 
     // Goes on to the next instant.
     fn turn(&mut self, schedule: &Schedule)
-        requires { self.old.instant < 1048576 }
+        requires { self.old.instant < limit_number limit.Instants }
         ensures instant { self.new.instant ≡ self.old.instant + 1 }
         ensures within { (instants : ℕ) (done : List ℕ) → self.old.instant < instants → drop self.old.index (row_at schedule.now self.old) ≡ [] → IsIn schedule.now instants done self.old →
             IsIn schedule.now instants done self.new }
@@ -119,7 +121,7 @@ impl Cursor {
 
     /// Goes over the events that are done.
     pub fn go_on(&mut self, schedule: &Schedule, instants: u64, done: &[u64])
-        requires early { instants ≤ 1048576 }
+        requires early { instants ≤ limit_number limit.Instants }
         requires within { IsIn schedule.now instants done.now self.old }
         ensures within { IsIn schedule.now instants done.now self.new }
         ensures next { self.new.next ≡ first_left (done_of done.now) (order_on schedule.now instants) }

@@ -1,6 +1,6 @@
 // Where a net's items come from and where they go.
 ghost use Rattle.std.specs.Prelude.{ℕ, ◌≡◌, ◌<◌, length, slice_index_or};
-ghost use Rattle.lucy_net.specs.declared.kind.ActorKind.TheVariants.{Input, Output};
+ghost use Rattle.lucy_net.specs.declared.kind.ActorKind.TheVariants.{Output};
 ghost use Rattle.lucy_net.specs.States.{ReadsInput};
 ghost use Rattle.lucy_core.specs.Inside.{no_held, put_out};
 
@@ -10,11 +10,10 @@ use lucy_net::ActorKind;
 
 /// The list that an actor of this kind gives, an empty one where it is no input.
 pub(crate) fn input_for<'a>(inputs: &'a Inputs, kind: &ActorKind) -> &'a [i64]
-    requires { (n : ℕ) → kind.now ≡ Input n → n < length inputs.now }
     ensures { ReadsInput kind.now inputs.now result.now }
 {
     match kind {
-        ActorKind::Input(input) => inputs.list(*input),
+        ActorKind::Input(input) => inputs.get(*input),
         _ => &[],
     }
 }

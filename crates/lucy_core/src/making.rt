@@ -3,6 +3,8 @@ ghost use Rattle.std.specs.Prelude.{ℕ, ◌≡◌, ◌<◌, ◌≤◌, ◌+◌,
 ghost use Rattle.lucy_net.specs.declared.kind.ActorKind.TheVariants.{Output};
 ghost use Rattle.lucy_net.specs.declared.net.Actor.{Actor};
 ghost use Rattle.lucy_net.specs.declared.net.RingSpec.{RingSpec};
+ghost use Rattle.lucy_word.specs.Limits.{limit_number};
+ghost use Rattle.lucy_word.specs.declared.limit.Limit.TheVariants as limit;
 ghost use Rattle.lucy_word.specs.Bits.{ones_to};
 ghost use Rattle.lucy_net.specs.States.{IsUsable};
 ghost use Rattle.lucy_core.specs.Inside.{going_in, AreFirst, AreEmpty, HaveTrays, with_tray};
@@ -45,7 +47,7 @@ pub(crate) fn going_count(states: &[ActorState]) -> u64
 
 /// A circle of the ring's size and one slot more for each ring.
 pub(crate) fn empty_circles(alloc: Global, rings: &[RingSpec]) -> Result<Vec<Circle>, AllocError>
-    requires { All (λ ring. ring.size + 1 ≤ 1048577) rings.now }
+    requires { All (λ ring. ring.size + 1 ≤ limit_number limit.Slots) rings.now }
     ensures { IfOk result (λ circles. AreEmpty rings.now circles.items) }
 {
     let mut circles = Vec::new(alloc);

@@ -19,7 +19,7 @@ use Rattle.lucy_core.specs.Inside.{left_in, IsKept}
 use Rattle.lucy_event.specs.Runs.{first_left}
 use Rattle.lucy_core.proofs.CursorLaws.{step_in}
 use Rattle.lucy_core.proofs.InsideLaws.{at_hand, actor_at, state_at, circle_at, is_next, of_actor, few_at, some_going, going_after, as_many}
-use Rattle.lucy_core.proofs.StepLaws.{no_state, state_of_actor, input_there, has_item, gave_room, room_is, kept_gave}
+use Rattle.lucy_core.proofs.StepLaws.{no_state, state_of_actor, has_item, gave_room, room_is, kept_gave}
 use Rattle.lucy_core.proofs.machine.Core.give.Goals as goal
 
 pub offset_bounds-list-actor : goal.offset_bounds-list-actor
@@ -33,16 +33,6 @@ bounds-list-actor g c =
     let x = c.self.inside in
     let h = at_hand x c.args.self.now c.args.actor (Gives c.args.ring) c.self.invariant c.self.view_is c.requires.can c.requires.op in
     omega (arith, ap length c.list.ensures, h.actor_in)
-
-pub input_for-input-requires : goal.input_for-input-requires
-input_for-input-requires g c =
-    let x = c.self.inside in
-    let h = at_hand x c.args.self.now c.args.actor (Gives c.args.ring) c.self.invariant c.self.view_is c.requires.can c.requires.op in
-    let there = actor_at x c.args.actor (Gives c.args.ring) h c.list.result.now c.index-list-actor.result c.list.ensures c.index-list-actor.is in
-    let s : ActorState = get_or x.states.items c.args.actor no_state in
-    let state = state_of_actor x.net _ _ x.inputs (kinds_of x.ops) x.instants _ _ _ _ h.machine h.kept c.args.actor h.actor_in in
-    let at = is_next x c.args.actor (Gives c.args.ring) h c.index-list-actor.result s there state in
-    λ n k. input_there c.index-list-actor.result.kind x.inputs (ones_to c.index-list-actor.result.firing x.instants) s.fired n (h.machine.fed c.args.actor c.index-list-actor.result there) (omega (arith, at.going, (of_actor x c.args.actor (Gives c.args.ring) h c.index-list-actor.result s there state).quota)) k
 
 pub index-requires : goal.index-requires
 index-requires g c =
