@@ -18,7 +18,8 @@ use Rattle.lucy_net.specs.States.{IsUsable, IsOfActor, IsActorState, GivesNone}
 use Rattle.lucy_net.proofs.FiringLaws.{firing_few}
 use Rattle.lucy_worker.specs.declared.part.Part.{Part}
 use Rattle.lucy_worker.specs.Parts.{done_at, done_of}
-use Rattle.lucy_worker.specs.News.{IsNew, HasRoom, ends_of, ends_by}
+use Rattle.lucy_worker.specs.News.{IsNew, HasRoom, ends_of, ends_by, most_ends}
+use Rattle.lucy_worker.specs.Turns.{most_moves}
 use Rattle.lucy_worker.specs.Readiness.{all_at, left_at, left_of, left_by, IsReady, AreReady}
 
 -- no firing has more operations than the actor has rings
@@ -70,11 +71,11 @@ pub left_few : (p : Part) → IsReady p → left_of p ≤ 1048576 * ends_of p
 unfolding left_at
 left_few p ready = omega (arith, all_few p ready.usable ready.givers ready.takers ready.quota)
 
-pub done_few : (p : Part) → IsReady p → done_of p ≤ 68719476736
+pub done_few : (p : Part) → IsReady p → done_of p ≤ most_moves
 done_few p ready =
     let a : all_at p.actor p.state ≤ 1048576 * ends_of p = all_few p ready.usable ready.givers ready.takers ready.quota in
     let b : done_of p ≤ all_at p.actor p.state = done_within p.actor p.state ready.state in
-    let c : ends_of p ≤ 65536 = ready.few in
+    let c : ends_of p ≤ most_ends = ready.few in
     omega arith
 
 each_few : (parts : List Part) → All IsReady parts → left_by parts ≤ 1048576 * ends_by parts
@@ -86,10 +87,10 @@ each_few (p ∷ parts) ready =
     let rest : left_by parts ≤ 1048576 * ends_by parts = each_few parts (All-tail IsReady p parts ready) in
     omega arith
 
-pub left_by_few : (parts : List Part) → AreReady parts → left_by parts ≤ 68719476736
+pub left_by_few : (parts : List Part) → AreReady parts → left_by parts ≤ most_moves
 left_by_few parts ready =
     let a : left_by parts ≤ 1048576 * ends_by parts = each_few parts ready.each in
-    let b : ends_by parts ≤ 65536 = ready.few in
+    let b : ends_by parts ≤ most_ends = ready.few in
     omega arith
 
 -- what an output has left to take
@@ -116,7 +117,7 @@ unfolding left_at
 room_by_firings actor s items room usable has = room_for actor.kind actor.takes actor.gives s.quota s.fired s.step items room usable.arity usable.gives_none has
 
 -- new parts are ready
-new_ready : (p : Part) → IsNew p → ends_of p ≤ 65536 → IsReady p
+new_ready : (p : Part) → IsNew p → ends_of p ≤ most_ends → IsReady p
 new_ready p new few = record {
   usable = new.usable;
   state = new.state;
@@ -130,11 +131,11 @@ new_ready p new few = record {
   took_few = All-weaker (λ (t : TakerView). length t.taken ≤ 1048576) (λ (t : TakerView). length t.taken ≤ 1048576 + done_of p) (λ t l. omega arith) p.takers.items new.took_few;
 }
 
-each_ready : (parts : List Part) → All IsNew parts → ends_by parts ≤ 65536 → All IsReady parts
+each_ready : (parts : List Part) → All IsNew parts → ends_by parts ≤ most_ends → All IsReady parts
 each_ready [] new few = All-nil IsReady
 each_ready (p ∷ parts) new few =
     let b : ends_by (p ∷ parts) ≡ ends_of p + ends_by parts = sum_by-cons ends_of p parts in
     All-cons IsReady p parts (new_ready p (All-head IsNew p parts new) (omega arith)) (each_ready parts (All-tail IsNew p parts new) (omega arith))
 
-pub all_ready : (parts : List Part) → All IsNew parts → ends_by parts ≤ 65536 → AreReady parts
+pub all_ready : (parts : List Part) → All IsNew parts → ends_by parts ≤ most_ends → AreReady parts
 all_ready parts new few = record { each = each_ready parts new few; few = few }

@@ -8,7 +8,7 @@ use Rattle.std.proofs.lemmas.List.{map-set, get_or-map, get_or_default, get_or-s
 use Rattle.std.proofs.lemmas.List.Elements.{All-set, All-weaker, All-get_or}
 use Rattle.lucy_host.specs.declared.kind.HostKind.{HostKind}
 use Rattle.lucy_word.specs.Bits.{ones_to}
-use Rattle.lucy_ring.specs.Views.{RingName, GiverView, TakerView}
+use Rattle.lucy_ring.specs.Views.{RingName, GiverView, TakerView, most_between}
 use Rattle.lucy_stream.specs.Items.{list_at}
 use Rattle.lucy_stream.specs.Fronts.{IsFront}
 use Rattle.lucy_stream.specs.Firings.{fire_value}
@@ -30,7 +30,7 @@ use Rattle.lucy_net.specs.declared.kind.ActorKind.TheVariants as kind
 use Rattle.lucy_net.proofs.NetLaws.{task_at}
 use Rattle.lucy_worker.specs.declared.part.Part.{Part}
 use Rattle.lucy_worker.specs.Parts.{done_of, list_on, given_on, state_of, IsPartAt, IsKnown, CanMove}
-use Rattle.lucy_worker.specs.Turns.{HasRun, giver_name}
+use Rattle.lucy_worker.specs.Turns.{HasRun, giver_name, most_moves}
 use Rattle.lucy_worker.specs.News.{HasItems}
 use Rattle.lucy_worker.specs.Meets.{with_giver}
 use Rattle.lucy_worker.specs.Readiness.{left_at, left_of, IsReady}
@@ -215,11 +215,11 @@ kept_ready p j h g ready was same =
       took_few = ready.took_few;
     }
 
-pub give_few : (p : Part) (r j : ℕ) (h : GiverView) → IsReady p → slice_get p.actor.gives j ≡ Some r → h ≡ get_or p.givers.items j h → length h.given < 1099511627776
+pub give_few : (p : Part) (r j : ℕ) (h : GiverView) → IsReady p → slice_get p.actor.gives j ≡ Some r → h ≡ get_or p.givers.items j h → length h.given < most_between
 give_few p r j h ready end was =
     let few : length h.given ≤ 1048576 + done_of p =
     subst (λ (e : GiverView). length e.given ≤ 1048576 + done_of p) (sym was) (All-get_or (λ (e : GiverView). length e.given ≤ 1048576 + done_of p) p.givers.items j h (give_inside p r j ready end) ready.gave_few) in
-    let most : done_of p ≤ 68719476736 = done_few p ready in
+    let most : done_of p ≤ most_moves = done_few p ready in
     omega arith
 
 -- an input has an item for its next firing

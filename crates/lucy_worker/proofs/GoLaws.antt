@@ -4,8 +4,8 @@ use Rattle.std.proofs.lemmas.List.{get_or_default}
 use Rattle.std.proofs.lemmas.List.Elements.{All-get_or}
 use Rattle.lucy_host.specs.declared.kind.HostKind.{HostKind}
 use Rattle.lucy_worker.specs.declared.part.Part.{Part}
-use Rattle.lucy_worker.specs.Turns.{IsServed}
-use Rattle.lucy_worker.specs.Readiness.{IsReady, AreReady, HavePassed}
+use Rattle.lucy_worker.specs.Turns.{IsServed, most_moves}
+use Rattle.lucy_worker.specs.Readiness.{IsReady, AreReady, HaveRunBy}
 use Rattle.lucy_worker.proofs.CountLaws.{left_by_few}
 use Rattle.lucy_worker.proofs.Runs.{GoesOn, passed_one}
 
@@ -20,10 +20,10 @@ served_at count inside ps k d p same served l at = subst (IsServed count) (sym (
 
 -- all parts have passed, by few moves
 pub one_passed : (kinds : List HostKind) (count : ℕ) (inside ps : List Part) (k : ℕ) (d p q : Part) (moves : ℕ) → inside ≡ ps → AreReady inside → All (IsServed count) ps → k < length ps → p ≡ get_or inside k d → GoesOn kinds p q moves →
-    HavePassed kinds count ps (set inside k q) moves × (moves ≤ 68719476736)
+    HaveRunBy kinds count ps (set inside k q) moves × (moves ≤ most_moves)
 one_passed kinds count inside ps k d p q moves same ready served l at on =
     let m : k < length inside = omega (arith, l, ap (λ (xs : List Part). length xs) same) in
     let is : (e : Part) → get_or inside k e ≡ p = λ (e : Part). (get_or_default inside k e d m ∙ sym at) in
-    let passed : HavePassed kinds count inside (set inside k q) moves =
+    let passed : HaveRunBy kinds count inside (set inside k q) moves =
     passed_one kinds count inside k p q moves m is on (served_at count inside ps k d p same served l at) ready (subst (All (IsServed count)) (sym same) served) in
-    (subst (λ (xs : List Part). HavePassed kinds count xs (set inside k q) moves) same passed, omega (arith, passed.left, left_by_few inside ready))
+    (subst (λ (xs : List Part). HaveRunBy kinds count xs (set inside k q) moves) same passed, omega (arith, passed.left, left_by_few inside ready))

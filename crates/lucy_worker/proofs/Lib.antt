@@ -10,3 +10,4 @@ pub mod RoundLaws
 pub mod GrowLaws
 pub mod GoLaws
 pub mod TurnLaws
+pub mod EndLaws

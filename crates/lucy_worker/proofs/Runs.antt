@@ -15,7 +15,7 @@ use Rattle.lucy_worker.specs.declared.part.Part.{Part}
 use Rattle.lucy_worker.specs.Parts.{done_of, CanMove}
 use Rattle.lucy_worker.specs.Turns.{IsServed, PutsMore, HasRun, HaveRun, HaveMoved, NoneCan, done_by, giver_name, taker_name}
 use Rattle.lucy_worker.specs.News.{ends_of}
-use Rattle.lucy_worker.specs.Readiness.{left_of, IsReady, AreReady, HavePassed}
+use Rattle.lucy_worker.specs.Readiness.{left_of, IsReady, AreReady, HaveRunBy}
 
 pub puts_none : (what : ActorKind) (items : List ℤ) → PutsMore what items items
 puts_none (kind.Output output) items = IsFront-refl items
@@ -88,7 +88,7 @@ same_ends kinds p q run =
 pub still_served : (kinds : List HostKind) (count : ℕ) (p q : Part) → HasRun kinds p q → IsServed count p → IsServed count q
 still_served kinds count p q run served = subst (λ (x : Actor). KnowsOperator x.kind count) (sym run.actor) served
 
-pub passed_none : (kinds : List HostKind) (count : ℕ) (ps : List Part) → AreReady ps → All (IsServed count) ps → HavePassed kinds count ps ps 0
+pub passed_none : (kinds : List HostKind) (count : ℕ) (ps : List Part) → AreReady ps → All (IsServed count) ps → HaveRunBy kinds count ps ps 0
 passed_none kinds count ps ready served = record {
   ready = ready;
   served = served;
@@ -97,7 +97,7 @@ passed_none kinds count ps ready served = record {
   left = omega arith;
 }
 
-pub passed_on : (kinds : List HostKind) (count : ℕ) (ps qs rs : List Part) (moves more : ℕ) → HavePassed kinds count ps qs moves → HavePassed kinds count qs rs more → HavePassed kinds count ps rs (moves + more)
+pub passed_on : (kinds : List HostKind) (count : ℕ) (ps qs rs : List Part) (moves more : ℕ) → HaveRunBy kinds count ps qs moves → HaveRunBy kinds count qs rs more → HaveRunBy kinds count ps rs (moves + more)
 passed_on kinds count ps qs rs moves more a b = record {
   ready = b.ready;
   served = b.served;
@@ -124,7 +124,7 @@ one_ran kinds qs i p q l at run = record {
 }
 
 pub passed_one : (kinds : List HostKind) (count : ℕ) (qs : List Part) (i : ℕ) (p q : Part) (more : ℕ) → i < length qs → ((d : Part) → get_or qs i d ≡ p) → GoesOn kinds p q more → IsServed count p → AreReady qs → All (IsServed count) qs →
-    HavePassed kinds count qs (set qs i q) more
+    HaveRunBy kinds count qs (set qs i q) more
 passed_one kinds count qs i p q more l at on serves ready served = record {
   ready = record {
     each = All-set IsReady qs i q on.ready ready.each;

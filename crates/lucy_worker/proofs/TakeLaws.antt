@@ -9,7 +9,7 @@ use Rattle.std.proofs.lemmas.Option.{slice_get_within, slice_get_read}
 use Rattle.std.proofs.lemmas.List.{map-set, get_or-map, get_or_default, get_or-set_same, get_or-set_other, length-map, length-set, length_push, set-get_or}
 use Rattle.std.proofs.lemmas.List.Elements.{All-set, All-weaker, All-get_or}
 use Rattle.lucy_host.specs.declared.kind.HostKind.{HostKind}
-use Rattle.lucy_ring.specs.Views.{RingName, GiverView, TakerView}
+use Rattle.lucy_ring.specs.Views.{RingName, GiverView, TakerView, most_between}
 use Rattle.lucy_stream.specs.Items.{list_at}
 use Rattle.lucy_stream.specs.Forms.{operands}
 use Rattle.lucy_stream.specs.Fronts.{IsFront}
@@ -32,7 +32,7 @@ use Rattle.lucy_net.proofs.NetLaws.{task_at}
 use Rattle.lucy_net.proofs.OperandLaws.{there, operand_ring, operand_more, ring_more}
 use Rattle.lucy_worker.specs.declared.part.Part.{Part}
 use Rattle.lucy_worker.specs.Parts.{done_of, list_on, taken_on, state_of, PutsOut, IsPartAt, IsKnown, CanMove}
-use Rattle.lucy_worker.specs.Turns.{PutsMore, HasRun, taker_name}
+use Rattle.lucy_worker.specs.Turns.{PutsMore, HasRun, taker_name, most_moves}
 use Rattle.lucy_worker.specs.News.{HasItems, HasRoom}
 use Rattle.lucy_worker.specs.Meets.{with_taker}
 use Rattle.lucy_worker.specs.Readiness.{all_at, left_at, left_of, IsReady, HasSlot, out_after}
@@ -315,11 +315,11 @@ kept_ready p j h t ready was same =
       took_few = subst (λ (xs : List TakerView). All (λ (y : TakerView). length y.taken ≤ 1048576 + done_of p) xs) e ready.took_few;
     }
 
-pub take_few : (p : Part) (r j : ℕ) (h : TakerView) → IsReady p → slice_get p.actor.takes j ≡ Some r → h ≡ get_or p.takers.items j h → length h.taken < 1099511627776
+pub take_few : (p : Part) (r j : ℕ) (h : TakerView) → IsReady p → slice_get p.actor.takes j ≡ Some r → h ≡ get_or p.takers.items j h → length h.taken < most_between
 take_few p r j h ready end was =
     let few : length h.taken ≤ 1048576 + done_of p =
     subst (λ (e : TakerView). length e.taken ≤ 1048576 + done_of p) (sym was) (All-get_or (λ (e : TakerView). length e.taken ≤ 1048576 + done_of p) p.takers.items j h (take_inside p r j ready end) ready.took_few) in
-    let most : done_of p ≤ 68719476736 = done_few p ready in
+    let most : done_of p ≤ most_moves = done_few p ready in
     omega arith
 
 -- a part that can move knows an item to take

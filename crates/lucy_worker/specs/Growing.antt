@@ -1,6 +1,8 @@
 -- More room, more items and a larger horizon for a part.
 use Rattle.std.specs.Prelude.{ℕ, ◌+◌, ◌-◌, ◌≤◌, ◌≡◌, List, [], ◌++◌, ℤ, length, vec_capacity}
 use Rattle.lucy_word.specs.Bits.{ones_to}
+use Rattle.lucy_word.specs.Limits.{limit_number}
+use Rattle.lucy_word.specs.declared.limit.Limit.TheVariants as limit
 use Rattle.lucy_net.specs.States.{IsActorState}
 use Rattle.lucy_worker.specs.declared.part.Part.{Part}
 use Rattle.lucy_worker.specs.Parts.{IsDone}
@@ -23,7 +25,7 @@ HasSpare items room p = (length p.input.items + items ≤ vec_capacity p.input) 
 pub record CanExtend (p : Part) (added : List ℤ) (instants : ℕ) : Type 0 where
   pub done : IsDone p
   pub more : p.state.quota ≤ ones_to p.actor.firing instants
-  pub early : instants ≤ 1048576
+  pub early : instants ≤ limit_number limit.Instants
   pub input_room : length p.input.items + length added ≤ vec_capacity p.input
   pub output_room : HasRoom p.actor.kind (ones_to p.actor.firing instants - p.state.quota) 0 (vec_capacity p.output)
   pub items : HasItems p.actor.kind (ones_to p.actor.firing instants) (length p.input.items + length added)

@@ -33,17 +33,19 @@ pub record HasTaker (ps : List Part) (place : EndPlace) : Type 0 where
 abbrev pub AreOfOneRing : List Part → EndPlace → List Part → EndPlace → Type 0
 AreOfOneRing ps giver qs taker = (g : HasGiver ps giver) (t : HasTaker qs taker) → g.end.ring ≡ t.end.ring
 
--- the part with another end
+-- the part with another giver at this number
 abbrev pub with_giver : Part → ℕ → GiverView → Part
 with_giver p n h = record p { givers = with_item p.givers n h }
 
+-- the part with another taker at this number
 abbrev pub with_taker : Part → ℕ → TakerView → Part
 with_taker p n u = record p { takers = with_item p.takers n u }
 
--- the parts with another end at a place
+-- the parts with another giver at a place
 abbrev pub set_giver : (ps : List Part) (place : EndPlace) → HasGiver ps place → GiverView → List Part
 set_giver ps place g h = slice_set ps place.part (with_giver g.part place.number h)
 
+-- the parts with another taker at a place
 abbrev pub set_taker : (ps : List Part) (place : EndPlace) → HasTaker ps place → TakerView → List Part
 set_taker ps place t u = slice_set ps place.part (with_taker t.part place.number u)
 

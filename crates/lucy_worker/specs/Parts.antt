@@ -16,10 +16,11 @@ use Rattle.lucy_net.specs.Plans.{form_of, plan}
 use Rattle.lucy_net.specs.States.{IsActorState, IsNext, ReadsInput}
 use Rattle.lucy_worker.specs.declared.part.Part.{Part}
 
--- how many operations an actor has done
+-- how many operations an actor has done in this state
 abbrev pub done_at : Actor → ActorState → ℕ
 done_at actor s = length (ops_of (form_of actor.kind) actor.takes actor.gives s.fired) + s.step
 
+-- how many the actor of a part has done
 abbrev pub done_of : Part → ℕ
 done_of p = done_at p.actor p.state
 
@@ -33,10 +34,11 @@ list_on [] lists r = []
 list_on (q ∷ rings) [] r = []
 list_on (q ∷ rings) (list ∷ lists) r = if nat_eq q r then list else list_on rings lists r
 
--- what the part's ends gave and took since the last meeting
+-- what the part's end of a ring gave since the last meeting
 abbrev pub given_on : Part → ℕ → List ℤ
 given_on p r = list_on p.actor.gives (map (λ g. g.given) p.givers.items) r
 
+-- what its end of a ring took since then
 abbrev pub taken_on : Part → ℕ → List ℤ
 taken_on p r = list_on p.actor.takes (map (λ t. t.taken) p.takers.items) r
 

@@ -1,5 +1,7 @@
 -- What a turn does to a part, and to all of a worker.
-use Rattle.std.specs.Prelude.{ℕ, ◌+◌, ◌<◌, ◌≤◌, ◌≡◌, List, ℤ, length, map, sum_by, slice_index_or}
+use Rattle.std.specs.Prelude.{ℕ, ◌+◌, ◌*◌, ◌<◌, ◌≤◌, ◌≡◌, List, ℤ, length, map, sum_by, slice_index_or}
+use Rattle.lucy_word.specs.Limits.{limit_number}
+use Rattle.lucy_word.specs.declared.limit.Limit.TheVariants as limit
 use Rattle.lucy_host.specs.declared.kind.HostKind.{HostKind}
 use Rattle.lucy_ring.specs.Views.{RingName, GiverView, TakerView}
 use Rattle.lucy_stream.specs.Fronts.{IsFront}
@@ -10,15 +12,17 @@ use Rattle.lucy_net.specs.declared.net.Net.{Net}
 use Rattle.lucy_net.specs.States.{KnowsOperator}
 use Rattle.lucy_worker.specs.declared.part.Part.{Part}
 use Rattle.lucy_worker.specs.Parts.{done_of, IsPartAt, CanMove}
+use Rattle.lucy_worker.specs.News.{most_ends}
 
 -- the operator of a host's actor is one of the first, so many of them
 abbrev pub IsServed : ℕ → Part → Type 0
 IsServed count p = KnowsOperator p.actor.kind count
 
--- what no move changes of an end
+-- what no move changes of a giver
 abbrev pub giver_name : GiverView → RingName
 giver_name g = g.ring
 
+-- what no move changes of a taker
 abbrev pub taker_name : TakerView → RingName × List ℤ
 taker_name t = (t.ring, t.held)
 
@@ -60,9 +64,9 @@ HaveMoved ps qs = (k : ℕ) (d : Part) → k < length ps → CanMove (slice_inde
 abbrev pub NoneCan : List Part → Type 0
 NoneCan ps = (k : ℕ) (d : Part) → k < length ps → CanMove (slice_index_or ps k d) → ⊥
 
--- the most operations of a worker's actors: 65,536 ends, each in 1,048,576 firings
+-- the most moves of a worker's actors: each of their ends moves an item at most once in a firing, and there is a firing an instant at most
 abbrev pub most_moves : ℕ
-most_moves = 68719476736
+most_moves = most_ends * limit_number limit.Instants
 
 -- a turn of so many moves: the parts have run, those that could move at first among them, there are none only where no part could
 -- move at first, and none can in the end

@@ -1,35 +1,44 @@
 // The directions of passes.
+ghost use Rattle.std.specs.Prelude.{◌≡◌, ◌⊎◌, ◌/◌, ◌<◌, ◌≤◌, true, not};
 
-/// The direction of the next pass over a list of actors. Nothing is claimed of it.
+/// The direction of the next pass over a list of actors, and what it is chosen by.
 #[derive(Clone, Copy, Debug)]
 pub struct Heading {
     /// Whether it goes from the last to the first.
     pub back: bool,
-    passes: u64,
-    before: u64,
+    /// How many passes are made before one is tried in the other direction.
+    pub untried: u64,
+    /// How many moves the pass before made, 0 before the first.
+    pub before: u64,
 }
 
-// After so many passes one in the other direction is tried.
-const TRIED_AFTER: u64 = 16;
+// So many passes are made before one is tried in the other direction.
+const UNTRIED: u64 = 15;
 
 impl Heading {
     /// That of the first pass: back, where an order goes along the items' way. Where they don't go round a loop, each actor then moves what
     /// the others gave in the pass before, so that no move waits for another.
-    pub fn first() -> Heading {
+    pub fn first() -> Heading
+        ensures { result.back ≡ true }
+    {
         Heading {
             back: true,
-            passes: 0,
+            untried: UNTRIED,
             before: 0,
         }
     }
 
-    /// After a pass of so many moves it turns where that was less than half of the pass before, and once in so many passes.
-    pub fn after(self, moves: u64) -> Heading {
-        let passes = self.passes.wrapping_add(1);
-        let turns = passes % TRIED_AFTER == 0 || moves < self.before / 2;
+    /// After a pass of so many moves it turns where that was less than half of the pass before, or where one is tried.
+    pub fn after(self, moves: u64) -> Heading
+        ensures turned { (self.untried ≡ 0) ⊎ (moves < self.before / 2) → result.back ≡ not self.back }
+        ensures kept { 0 < self.untried → self.before / 2 ≤ moves → result.back ≡ self.back }
+        ensures before { result.before ≡ moves }
+    {
+        let tries = self.untried == 0;
+        let turns = tries || moves < self.before / 2;
         Heading {
-            back: self.back != turns,
-            passes,
+            back: if turns { !self.back } else { self.back },
+            untried: if tries { UNTRIED } else { self.untried - 1 },
             before: moves,
         }
     }

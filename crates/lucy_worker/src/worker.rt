@@ -5,15 +5,15 @@ ghost use Rattle.lucy_host.specs.Operators.{kinds_of};
 ghost use Rattle.lucy_worker.specs.declared.part.Part.{Part};
 ghost use Rattle.lucy_worker.specs.Parts.{IsDone};
 ghost use Rattle.lucy_worker.specs.Turns.{most_moves, IsServed, IsTurnOf, HaveRun, HasGoneOn, done_by};
-ghost use Rattle.lucy_worker.specs.News.{IsNew, ends_by};
+ghost use Rattle.lucy_worker.specs.News.{IsNew, ends_by, most_ends};
 ghost use Rattle.lucy_worker.specs.Meets.{HasGiver, HasTaker, AreOfOneRing, MetBetween, MetWithin};
 ghost use Rattle.lucy_worker.specs.Growing.{HasSpared, HasSpare, CanExtend, IsExtended};
 
 use crate::gate::{Gate, Passages};
 use crate::heading::Heading;
 use crate::part::Part;
+use crate::passing::{all_done, pass, pass_on};
 use crate::place::EndPlace;
-use crate::turn::{all_done, pass, pass_on};
 use crate::within::meet_within;
 use lucy_host::Host;
 use lucy_ring::meet;
@@ -44,7 +44,7 @@ impl Worker {
     /// A worker of this number with these actors, which have at most 65,536 ends. It takes no memory.
     pub fn new(number: u32, parts: Vec<Part>) -> Worker
         requires new { All IsNew parts.items }
-        requires few { ends_by parts.items ≤ 65536 }
+        requires few { ends_by parts.items ≤ most_ends }
         ensures { result ≡ record { number = number; parts = parts.items } }
     {
         Worker { number, parts }

@@ -3,7 +3,7 @@ use Rattle.std.specs.Prelude.{length}
 use Rattle.lucy_host.specs.Host.{lent}
 use Rattle.lucy_host.specs.Operators.{kinds_of}
 use Rattle.lucy_worker.specs.Parts.{done_of}
-use Rattle.lucy_worker.specs.News.{ends_of}
+use Rattle.lucy_worker.specs.News.{ends_of, most_ends}
 use Rattle.lucy_worker.specs.Readiness.{left_of}
 use Rattle.lucy_worker.proofs.Runs.{stays, goes_on, still_served}
 use Rattle.lucy_worker.proofs.CountLaws.{left_few}
@@ -16,7 +16,7 @@ pub overflow_add-moves : goal.overflow_add-moves
 overflow_add-moves g c =
     let left : left_of c.loop-moves.self + c.loop-moves.moves ≡ left_of c.args.self.now = c.loop-moves.invariant.4 in
     let most : left_of c.args.self.now ≤ 1048576 * ends_of c.args.self.now = left_few c.args.self.now c.requires.ready in
-    let few : ends_of c.args.self.now ≤ 65536 = c.requires.ready.few in
+    let few : ends_of c.args.self.now ≤ most_ends = c.requires.ready.few in
     omega arith
 
 pub loop-moves-preserved : goal.loop-moves-preserved

@@ -4,6 +4,7 @@ use Rattle.lucy_host.specs.Operators.{kinds_of}
 use Rattle.lucy_worker.specs.declared.part.Part.{Part}
 use Rattle.lucy_worker.specs.Views.{WorkerView}
 use Rattle.lucy_worker.proofs.TurnLaws.{one_pass, more_passes, few_moves, turned_back}
+use Rattle.lucy_worker.specs.Turns.{most_moves}
 use Rattle.lucy_worker.proofs.worker.Worker.advance.Goals as goal
 
 pub loop-found-init : goal.loop-found-init
@@ -15,10 +16,10 @@ loop-found-init g c =
 
 pub overflow_add-moves : goal.overflow_add-moves
 overflow_add-moves g c =
-    let few : c.loop-found.moves + c.pass-found-in-loop-found.result ≤ 68719476736 =
+    let few : c.loop-found.moves + c.pass-found-in-loop-found.result ≤ most_moves =
     few_moves (kinds_of (lent c.args.host.now)) (length (lent c.args.host.now)) c.loop-found.moves
     c.pass-found-in-loop-found.result c.args.self.now.parts c.self.inside.parts.items c.loop-found.parts c.pass-found-in-loop-found.new.parts
-    (ap (λ (w : WorkerView). w.parts) c.self.view_is) c.self.invariant c.loop-found.invariant c.pass-found-in-loop-found.ensures.passed in
+    (ap (λ (w : WorkerView). w.parts) c.self.view_is) c.self.invariant c.loop-found.invariant c.pass-found-in-loop-found.ensures.run_by in
     omega arith
 
 pub loop-found-preserved : goal.loop-found-preserved

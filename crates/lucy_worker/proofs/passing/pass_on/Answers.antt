@@ -4,11 +4,11 @@ use Rattle.std.proofs.lemmas.List.Elements.{All-get_or}
 use Rattle.lucy_host.specs.Host.{lent}
 use Rattle.lucy_host.specs.Operators.{kinds_of}
 use Rattle.lucy_worker.specs.declared.part.Part.{Part}
-use Rattle.lucy_worker.specs.Turns.{IsServed}
-use Rattle.lucy_worker.specs.Readiness.{left_by, HavePassed}
+use Rattle.lucy_worker.specs.Turns.{IsServed, most_moves}
+use Rattle.lucy_worker.specs.Readiness.{left_by, HaveRunBy}
 use Rattle.lucy_worker.proofs.Runs.{passed_none, passed_on, passed_one, come_none, come_more}
 use Rattle.lucy_worker.proofs.CountLaws.{left_by_few}
-use Rattle.lucy_worker.proofs.turn.pass_on.Goals as goal
+use Rattle.lucy_worker.proofs.passing.pass_on.Goals as goal
 
 pub loop-part-init : goal.loop-part-init
 loop-part-init g c = (passed_none (kinds_of (lent c.args.host.now)) (length (lent c.args.host.now)) c.args.parts.now c.requires.ready c.requires.served, come_none c.args.parts.now)
@@ -24,9 +24,9 @@ overflow_add-moves g c =
     let at : (d : Part) → get_or c.loop-part.parts i d ≡ p = λ (d : Part). get_or_default c.loop-part.parts i d c.part-item.result l in
     let so_far = c.loop-part.invariant.0 in
     let serves : IsServed count p = All-get_or (IsServed count) c.loop-part.parts i c.part-item.result l so_far.served in
-    let one : HavePassed kinds count c.loop-part.parts (set c.loop-part.parts i c.go_on-moves.new.self) c.go_on-moves.result =
+    let one : HaveRunBy kinds count c.loop-part.parts (set c.loop-part.parts i c.go_on-moves.new.self) c.go_on-moves.result =
     passed_one kinds count c.loop-part.parts i p c.go_on-moves.new.self c.go_on-moves.result l at (record { ready = e.ready; run = e.run; done = e.moves; left = e.left }) serves so_far.ready so_far.served in
-    let most : left_by c.args.parts.now ≤ 68719476736 = left_by_few c.args.parts.now c.requires.ready in
+    let most : left_by c.args.parts.now ≤ most_moves = left_by_few c.args.parts.now c.requires.ready in
     let before = so_far.left in
     let now = one.left in
     omega arith
@@ -54,7 +54,7 @@ returns g c =
     let same = c.loop-part.invariant.0.run.as_many in
     let over = c.loop-part-test.false in
     record {
-      passed = c.loop-part.invariant.0;
+      run_by = c.loop-part.invariant.0;
       moved = λ k d l. come.moved k d (omega arith);
       rests = λ k d l. come.rests k d (omega arith);
     }

@@ -4,7 +4,7 @@ ghost use Rattle.lucy_host.specs.Host.{Serves, lent};
 ghost use Rattle.lucy_host.specs.Operators.{kinds_of};
 ghost use Rattle.lucy_worker.specs.Parts.{IsDone};
 ghost use Rattle.lucy_worker.specs.Turns.{IsServed};
-ghost use Rattle.lucy_worker.specs.Readiness.{AreReady, HaveTurned};
+ghost use Rattle.lucy_worker.specs.Readiness.{AreReady, HavePassed};
 
 use crate::part::Part;
 use lucy_host::Host;
@@ -18,7 +18,7 @@ pub(crate) fn pass<F: Fn(u32, i64, i64) -> i64 + Sync>(
     requires ready { AreReady parts.old }
     requires serves { Serves F.pre F.post host.now }
     requires served { All (IsServed (length (lent host.now))) parts.old }
-    ensures { HaveTurned (kinds_of (lent host.now)) (length (lent host.now)) parts.old parts.new result }
+    ensures { HavePassed (kinds_of (lent host.now)) (length (lent host.now)) parts.old parts.new result }
 {
     if back {
         pass_back(parts, host)
@@ -32,7 +32,7 @@ pub(crate) fn pass_on<F: Fn(u32, i64, i64) -> i64 + Sync>(parts: &mut [Part], ho
     requires ready { AreReady parts.old }
     requires serves { Serves F.pre F.post host.now }
     requires served { All (IsServed (length (lent host.now))) parts.old }
-    ensures { HaveTurned (kinds_of (lent host.now)) (length (lent host.now)) parts.old parts.new result }
+    ensures { HavePassed (kinds_of (lent host.now)) (length (lent host.now)) parts.old parts.new result }
 {
     let mut moves = 0;
     for part in parts.iter_mut() {
@@ -46,7 +46,7 @@ fn pass_back<F: Fn(u32, i64, i64) -> i64 + Sync>(parts: &mut [Part], host: &Host
     requires ready { AreReady parts.old }
     requires serves { Serves F.pre F.post host.now }
     requires served { All (IsServed (length (lent host.now))) parts.old }
-    ensures { HaveTurned (kinds_of (lent host.now)) (length (lent host.now)) parts.old parts.new result }
+    ensures { HavePassed (kinds_of (lent host.now)) (length (lent host.now)) parts.old parts.new result }
 {
     let mut moves = 0;
     let mut at = parts.len();

@@ -1,9 +1,0 @@
-use Rattle.std.proofs.Common.{length}
-use Rattle.lucy_host.specs.Host.{lent}
-use Rattle.lucy_host.specs.Operators.{kinds_of}
-use Rattle.lucy_worker.specs.Readiness.{HavePassed}
-use Rattle.lucy_worker.proofs.Runs.{HasComeTo}
-use Rattle.lucy_worker.proofs.turn.pass_on.Given as goal
-
-abbrev pub invariant-loop-part : goal.invariant-loop-part
-invariant-loop-part g l = HavePassed (kinds_of (lent l.host)) (length (lent l.host)) l.fn.parts l.parts l.moves × HasComeTo l.fn.parts l.parts l.part-index
