@@ -1,5 +1,6 @@
 pub mod Adding
 pub mod Bases
+pub mod Completing
 pub mod Earlier
 pub mod Firsts
 pub mod Fitting

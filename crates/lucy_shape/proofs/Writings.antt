@@ -80,7 +80,8 @@ clock_solved shape xs laid solves c u =
 has_one : (v w : Bits) → IsWord v → IsShortForm v w → IsWord w
 has_one v w of_v form = IsWord-on v always w (λ i h. sym (form.same i h) ∙ sym (on_always v i h)) of_v always_word form.nonempty
 
-turn_some : (P : ℕ) (c : ClockShape) (xs : List ℤ) → 0 < c.ones → AreRising P c xs → 0 < P
+-- a word with a one in each turn has a turn
+pub turn_some : (P : ℕ) (c : ClockShape) (xs : List ℤ) → 0 < c.ones → AreRising P c xs → 0 < P
 turn_some P c xs some r =
     let d = climbs (positions_of P c xs) r.up (c.lead + 1) c.ones in
     let g = r.fits (c.lead + 1) (omega arith) in

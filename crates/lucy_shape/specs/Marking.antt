@@ -1,5 +1,5 @@
 -- Bits that are ones at given positions, and the words of the first clocks.
-use Rattle.std.specs.Prelude.{ℕ, ◌+◌, ◌<◌, ◌≤◌, ◌≡◌, ◌↔◌, Bool, true, false, List, length, slice_index_or, ℤ, pos, ◌≤ℤ◌, ◌<ℤ◌}
+use Rattle.std.specs.Prelude.{ℕ, ◌+◌, ◌<◌, ◌≤◌, ◌≡◌, ◌⊎◌, ◌↔◌, Bool, true, false, List, length, slice_index_or, ℤ, pos, ◌≤ℤ◌, ◌<ℤ◌}
 use Rattle.lucy_word.specs.Bits.{Bits}
 use Rattle.lucy_word.specs.Stored.{IsStored}
 use Rattle.lucy_need.specs.Meeting.{assigned}
@@ -8,7 +8,9 @@ use Rattle.lucy_shape.specs.declared.shape.ClockShape.{ClockShape}
 use Rattle.lucy_shape.specs.declared.shape.Shape.{Shape}
 use Rattle.lucy_shape.specs.Fitting.{clock_at}
 use Rattle.lucy_shape.specs.Rows.{SolvesClock}
-use Rattle.lucy_shape.specs.Writing.{IsWordOf, IsWrittenLong}
+use Rattle.lucy_word.specs.declared.limit.Limit.{Limit}
+use Rattle.lucy_word.specs.declared.limit.Limit.TheVariants as limit
+use Rattle.lucy_shape.specs.Writing.{IsWordOf, IsWrittenLong, HasLongWord}
 
 -- the number is one of so many from `from` on
 abbrev pub IsBetween : ℕ → ℕ → ℤ → Type 0
@@ -39,3 +41,7 @@ pub record AreWordsSoFar (shape : Shape) (xs : List ℤ) (upto : ℕ) (words : L
   pub each : (c : ℕ) → c < upto → IsWordOf shape.period (clock_at shape.clocks c) xs (assigned words c)
   pub short : (c : ℕ) → c < upto → (clock_at shape.clocks c).used ≡ true → IsWrittenLong shape.period (clock_at shape.clocks c) xs → ⊥
   pub stored : (c : ℕ) → c < upto → IsStored (assigned words c)
+
+-- the limit Word where some clock's word is written too long, else Bits
+abbrev pub PassesFirst : Shape → List ℤ → Limit → Type 0
+PassesFirst shape xs passed = ((passed ≡ limit.Word) × HasLongWord shape xs) ⊎ ((passed ≡ limit.Bits) × (HasLongWord shape xs → ⊥))

@@ -3,14 +3,14 @@ ghost use Rattle.std.specs.Prelude.{ℕ, List, ◌≡◌, ◌⊎◌, ◌+◌, �
 ghost use Rattle.lucy_word.specs.Shortest.{IsShortForm};
 ghost use Rattle.lucy_word.specs.Stored.{IsStored};
 ghost use Rattle.lucy_word.specs.declared.limit.Limit.TheVariants as limit;
-ghost use Rattle.lucy_need.specs.Meeting.{assigned, word_bits};
+ghost use Rattle.lucy_need.specs.Meeting.{assigned};
 ghost use Rattle.lucy_shape.specs.declared.shape.RateFault.TheVariants as fault;
 ghost use Rattle.lucy_shape.specs.Fitting.{IsLaidOut, IsFitting, ArePositions};
 ghost use Rattle.lucy_shape.specs.Rows.{SolvesClock};
 ghost use Rattle.lucy_shape.specs.Inequalities.{SolvesShape};
 ghost use Rattle.lucy_shape.specs.WordOf.{written_word};
-ghost use Rattle.lucy_shape.specs.Writing.{IsWordOf, IsWrittenLong, most_word_bits, AreAnswered, AreRefused};
-ghost use Rattle.lucy_shape.specs.Marking.{IsSolved};
+ghost use Rattle.lucy_shape.specs.Writing.{IsWordOf, IsWrittenLong, AreAnswered, AreRefused};
+ghost use Rattle.lucy_shape.specs.Marking.{IsSolved, PassesFirst};
 
 use crate::grow::push;
 use crate::marking::{marks, part, start_of};
@@ -19,6 +19,17 @@ use lucy_need::always;
 use lucy_word::{Limit, Word};
 use std::alloc::Global;
 
+// Whether a clock's word is written with more bits than a word may have.
+fn is_long(clock: &ClockShape, period: u64, positions: &[i64]) -> bool
+    requires { IsSolved period clock.now positions.now }
+    ensures { IsTrue result ↔ IsWrittenLong period clock.now positions.now }
+{
+    let turn = part(positions, clock.first as usize + clock.lead as usize, 1);
+    let before = start_of(turn) - 1;
+    let most = Limit::Word.number();
+    before > most || period > most - before
+}
+
 // The word of a clock that has positions.
 fn written(
     alloc: Global,
@@ -26,25 +37,21 @@ fn written(
     period: u64,
     positions: &[i64],
 ) -> Result<Word, RateFault>
-    requires some { 0 < clock.now.ones }
-    requires first { 0 < clock.now.first }
-    requires inside { clock.now.first + clock.now.lead + clock.now.ones ≤ length positions.now }
-    requires solves { SolvesClock period clock.now positions.now }
+    requires { IsSolved period clock.now positions.now }
     ensures ok { IfOk result (IsShortForm (written_word period clock.now positions.now)) }
     ensures stored { IfOk result IsStored }
     ensures short { IfOk result (λ _. IsWrittenLong period clock.now positions.now → ⊥) }
     ensures refused { IfErr result (λ e. (e ≡ fault.OutOfMemory) ⊎ ((e ≡ fault.Limit limit.Word) × IsWrittenLong period clock.now positions.now)) }
 {
+    if is_long(clock, period, positions) {
+        return Err(RateFault::Limit(Limit::Word));
+    }
     let first = clock.first as usize;
     let lead = clock.lead as usize;
     let low = part(positions, first, lead);
     let high = part(positions, first + lead, clock.ones as usize);
     let start = start_of(high);
     let before = start - 1;
-    let most = Limit::Word.number();
-    if before > most || period > most - before {
-        return Err(RateFault::Limit(Limit::Word));
-    }
     let prefix = marks(alloc, before, low, 1)?;
     let turn = marks(alloc, period, high, start)?;
     // Its bits are few and its period has a one, so that only memory can be wanting.
@@ -76,25 +83,24 @@ fn clock_word(
     }
 }
 
-// Whether the words have no more bits than are allowed.
-fn are_few(words: &[Word]) -> bool
-    ensures { IsTrue result ↔ (word_bits words.now ≤ most_word_bits) }
+// The limit that is passed where the words have too many bits together: `Word` where one of them is written too long.
+fn limit_of(shape: &Shape, positions: &[i64]) -> Limit
+    requires laid { IsLaidOut shape.now }
+    requires solves { SolvesShape shape.now positions.now }
+    ensures { PassesFirst shape.now positions.now result }
 {
-    let mut left = Limit::Bits.number();
-    for word in words {
-        let (prefix, period) = word.lengths();
-        if prefix + period > left {
-            return false;
+    for clock in shape.clocks.list() {
+        if clock.used && is_long(clock, shape.period, positions) {
+            return Limit::Word;
         }
-        left -= prefix + period;
     }
-    true
+    Limit::Bits
 }
 
 /// The words of the clocks of a shape, by their numbers, from numbers that meet its bounds, neighbours and periods: the k-th
 /// one of a clock stands at its k-th position. `Limit(Word)` comes exactly where a clock's word, as it is written before it is
 /// brought into shortest form, has more bits than that limit allows; else `Limit(Bits)` exactly where the words, in shortest
-/// form, have more together than that limit allows. It never answers `Unequal`.
+/// form, have more together than that limit allows. No more words are made than have so many bits. It never answers `Unequal`.
 pub fn words_of(alloc: Global, shape: &Shape, positions: &[i64]) -> Result<Vec<Word>, RateFault>
     requires laid { IsLaidOut shape.now }
     requires solves { SolvesShape shape.now positions.now }
@@ -105,12 +111,15 @@ pub fn words_of(alloc: Global, shape: &Shape, positions: &[i64]) -> Result<Vec<W
     ensures positions { IfOk result (λ words. ArePositions shape.now (assigned words.items) positions.now) }
 {
     let mut words = Vec::new(alloc);
+    let mut left = Limit::Bits.number();
     for clock in shape.clocks.list() {
         let word = clock_word(alloc, clock, shape.period, positions)?;
+        let (prefix, period) = word.lengths();
+        if prefix + period > left {
+            return Err(RateFault::Limit(limit_of(shape, positions)));
+        }
+        left -= prefix + period;
         push(&mut words, word)?;
-    }
-    if !are_few(&words) {
-        return Err(RateFault::Limit(Limit::Bits));
     }
     Ok(words)
 }

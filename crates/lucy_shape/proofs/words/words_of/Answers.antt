@@ -1,12 +1,13 @@
-use Rattle.std.proofs.Common.{◌≡◌, ◌≤◌, ◌<◌, ◌⊎◌, List, true, length, inl, inr, sym, refl, ap, ◌∙◌, subst, arith}
-use Rattle.std.proofs.lemmas.Bool.{cases_lt, false≢true}
+use Rattle.std.proofs.Common.{◌≡◌, ℕ, ◌+◌, ◌-◌, ◌≤◌, ◌<◌, ◌⊎◌, List, ◌∷◌, ◌++◌, [], true, length, inl, inr, sym, ap, subst, arith}
+use Rattle.std.proofs.lemmas.List.Sums.{sum_by-append}
 use Rattle.std.proofs.lemmas.Result.{err_from_is_err_and}
-use Rattle.lucy_word.specs.Bits.{Bits}
+use Rattle.lucy_word.specs.Bits.{Bits, bit_count}
 use Rattle.lucy_word.specs.declared.limit.Limit.TheVariants as limit
 use Rattle.lucy_shape.specs.declared.shape.ClockShape.{ClockShape}
 use Rattle.lucy_shape.specs.declared.shape.RateFault.{RateFault}
 use Rattle.lucy_shape.specs.declared.shape.RateFault.TheVariants as fault
 use Rattle.lucy_shape.proofs.Writings.{so_far_more, so_far_all, so_far_short, clock_solved, words_fitting, words_at}
+use Rattle.lucy_shape.proofs.Completing.{too_many}
 use Rattle.lucy_shape.proofs.words.words_of.Goals as goal
 use Rattle.lucy_shape.specs.Fitting.{clock_at}
 use Rattle.lucy_shape.specs.Marking.{IsSolved}
@@ -33,33 +34,60 @@ returns-in_err-word-clause-refused c =
     ] in
     let p = err_from_is_err_and c.from_residual.result c.from_residual.ensures.1 in rw (p.1, p.2) r
 
+-- what is left of the bits with one word more
+left_more : (words more : List Bits) (word : Bits) (left p q : ℕ) → more ≡ words ++ word ∷ [] → p ≡ length word.prefix → q ≡ length word.period → p + q ≤ left →
+    left + word_bits words ≡ most_word_bits → left - (p + q) + word_bits more ≡ most_word_bits
+left_more words more word left p q e is_p is_q within before =
+    let sum = sum_by-append bit_count words (word ∷ []) in
+    let all : word_bits more ≡ word_bits (words ++ word ∷ []) = ap word_bits e in
+    omega arith
+
 pub loop-clock-preserved : goal.loop-clock-preserved
 loop-clock-preserved c =
     let i = c.loop-clock.clock-index in
     let P : List ClockShape → Type 0 = λ l. IsWordOf c.args.shape.now.period (clock_at l i) c.args.positions.now c.in_ok-word.word in
-    let Q : List ClockShape → Type 0 = λ l. (clock_at l i).used ≡ true → IsWrittenLong c.args.shape.now.period (clock_at l i) c.args.positions.now → ⊥ in
-    so_far_more c.args.shape.now c.args.positions.now i c.loop-clock.words.items c.push.new.list.items c.in_ok-word.word c.loop-clock.invariant c.in_ok-push.ensures.ok c.in_ok-word.ensures.stored
-    (subst P c.list-clock-items.ensures c.in_ok-word.ensures.ok) (subst Q c.list-clock-items.ensures c.in_ok-word.ensures.short)
+    let Q : List ClockShape → Type 0 = λ l. (clock_at l i).used ≡ true → IsWrittenLong c.args.shape.now.period (clock_at l i) c.args.positions.now → ⊥ in (
+      so_far_more c.args.shape.now c.args.positions.now i c.loop-clock.words.items c.push.new.list.items c.in_ok-word.word c.loop-clock.invariant.0 c.in_ok-push.ensures.ok c.in_ok-word.ensures.stored
+          (subst P c.list-clock-items.ensures c.in_ok-word.ensures.ok) (subst Q c.list-clock-items.ensures c.in_ok-word.ensures.short),
+      left_more c.loop-clock.words.items c.push.new.list.items c.in_ok-word.word c.loop-clock.left c.lengths-prefix.result.0 c.lengths-prefix.result.1 c.in_ok-push.ensures.ok
+          c.lengths-prefix.ensures.prefix c.lengths-prefix.ensures.period (omega arith) c.loop-clock.invariant.1,
+    )
 
-pub returns-then-not-are_few-clause-refused : goal.returns-then-not-are_few-clause-refused
-returns-then-not-are_few-clause-refused c =
+pub returns-then-prefix-period-clause-refused : goal.returns-then-prefix-period-clause-refused
+returns-then-prefix-period-clause-refused c =
+    let i = c.loop-clock.clock-index in
+    let P : List ClockShape → Type 0 = λ l. IsWordOf c.args.shape.now.period (clock_at l i) c.args.positions.now c.in_ok-word.word in
+    let t = c.loop-clock-test.true in
+    let n = ap length c.list-clock-items.ensures in
+    let many : most_word_bits < word_bits c.loop-clock.words.items + bit_count c.in_ok-word.word =
+    (let u = c.lengths-prefix.ensures.prefix in let v = c.lengths-prefix.ensures.period in let b = c.loop-clock.invariant.1 in let f = c.if-prefix-period.true in omega arith) in
+    elim c.limit_of.ensures [
+      | inl w ↦ inr (inl (ap (λ l. fault.Limit l) w.0, w.1))
+      | inr w ↦ inr (inr (
+        ap (λ l. fault.Limit l) w.0,
+        w.1,
+        too_many c.args.shape.now c.args.positions.now c.requires.laid c.requires.solves i c.loop-clock.words.items c.in_ok-word.word c.loop-clock.invariant.0
+            (subst P c.list-clock-items.ensures c.in_ok-word.ensures.ok) (omega arith) many,
+      ))
+    ]
+
+pub returns-clause-words : goal.returns-clause-words
+returns-clause-words c =
     let end = (let t = c.loop-clock-test.false in let e = ap length c.list-clock-items.ensures in let y : length c.args.shape.now.clocks ≤ c.loop-clock.clock-index = omega arith in y) in
     let most = (let t = c.loop-clock.auto.clock-index-end in let e = ap length c.list-clock-items.ensures in let y : c.loop-clock.clock-index ≤ length c.args.shape.now.clocks = omega arith in y) in
-    let few : (word_bits c.loop-clock.words.items ≤ most_word_bits → ⊥) = λ h. absurd (false≢true (sym c.if-not-are_few.true ∙ c.are_few.ensures.1 (subst (λ (l : List Bits). word_bits l ≤ most_word_bits) (sym c.deref.ensures.value) h))) in
-    let many : most_word_bits < word_bits c.loop-clock.words.items = elim (cases_lt most_word_bits (word_bits c.loop-clock.words.items)) [ inl m ↦ m | inr m ↦ absurd (few m) ] in
-    inr (inr (
-      refl,
-      so_far_short c.args.shape.now c.args.positions.now c.loop-clock.clock-index c.loop-clock.words.items c.loop-clock.invariant end,
-      (c.loop-clock.words.items, so_far_all _ _ c.loop-clock.clock-index _ c.loop-clock.invariant end most, many),
-    ))
+    record {
+      each = so_far_all _ _ c.loop-clock.clock-index _ c.loop-clock.invariant.0 end most;
+      short = so_far_short c.args.shape.now c.args.positions.now c.loop-clock.clock-index c.loop-clock.words.items c.loop-clock.invariant.0 end;
+      few = (let l = c.loop-clock.invariant.1 in omega arith);
+    }
 
 pub returns-clause-fitting : goal.returns-clause-fitting
 returns-clause-fitting c = words_fitting c.args.shape.now c.args.positions.now c.loop-clock.words.items c.requires.laid c.requires.solves
-    (so_far_all _ _ c.loop-clock.clock-index _ c.loop-clock.invariant (let t = c.loop-clock-test.false in let e = ap length c.list-clock-items.ensures in omega arith) (let t = c.loop-clock.auto.clock-index-end in let e = ap length c.list-clock-items.ensures in omega arith))
+    (so_far_all _ _ c.loop-clock.clock-index _ c.loop-clock.invariant.0 (let t = c.loop-clock-test.false in let e = ap length c.list-clock-items.ensures in omega arith) (let t = c.loop-clock.auto.clock-index-end in let e = ap length c.list-clock-items.ensures in omega arith))
 
 pub returns-clause-positions : goal.returns-clause-positions
 returns-clause-positions c = words_at c.args.shape.now c.args.positions.now c.loop-clock.words.items c.requires.laid c.requires.solves
-    (so_far_all _ _ c.loop-clock.clock-index _ c.loop-clock.invariant (let t = c.loop-clock-test.false in let e = ap length c.list-clock-items.ensures in omega arith) (let t = c.loop-clock.auto.clock-index-end in let e = ap length c.list-clock-items.ensures in omega arith))
+    (so_far_all _ _ c.loop-clock.clock-index _ c.loop-clock.invariant.0 (let t = c.loop-clock-test.false in let e = ap length c.list-clock-items.ensures in omega arith) (let t = c.loop-clock.auto.clock-index-end in let e = ap length c.list-clock-items.ensures in omega arith))
 
 pub returns-clause-stored : goal.returns-clause-stored
-returns-clause-stored c = λ i within. c.loop-clock.invariant.stored i (let s = c.loop-clock.invariant.size in omega arith)
+returns-clause-stored c = λ i within. c.loop-clock.invariant.0.stored i (let s = c.loop-clock.invariant.0.size in omega arith)

@@ -1,27 +1,13 @@
-use Rattle.std.proofs.Common.{List, Bool, length, inr, sym, refl, ap, subst, arith}
+use Rattle.std.proofs.Common.{List, Bool, length, inr, sym, refl, ap, ◌∙◌, subst, arith}
+use Rattle.std.proofs.lemmas.Bool.{false≢true}
 use Rattle.lucy_word.specs.Bits.{Bits}
 use Rattle.lucy_word.specs.Shortest.{IsShortForm}
-use Rattle.lucy_shape.proofs.WordOf.{written_bits}
-use Rattle.lucy_shape.proofs.Marks.{parts_are, start_some, start_is, low_between, high_between, period_more, parts_written}
+use Rattle.lucy_shape.proofs.Marks.{parts_are, start_some, low_between, high_between, period_more, parts_written}
 use Rattle.lucy_shape.proofs.words.written.Goals as goal
-use Rattle.lucy_shape.proofs.words.written.Goals.{then-before-most-via-then-before-most, then-before-most-via-else-before-most+then-period-most}
 
 pub start_of-start-requires-clause-at : goal.start_of-start-requires-clause-at
 start_of-start-requires-clause-at c = start_some c.args.period c.args.clock.now c.args.positions.now c.part-low.result.now c.part-high.result.now
     (parts_are c.args.period c.args.clock.now c.args.positions.now c.part-low.result.now c.part-high.result.now c.requires.some c.requires.first c.requires.solves c.part-low.ensures.size c.part-low.ensures.at c.part-high.ensures.size c.part-high.ensures.at)
-
-pub returns-then-before-most-clause-refused :
-    goal.returns-then-before-most-clause-refused
-returns-then-before-most-clause-refused c =
-    let s = start_is c.args.period c.args.clock.now c.args.positions.now c.part-low.result.now c.part-high.result.now
-    (parts_are c.args.period c.args.clock.now c.args.positions.now c.part-low.result.now c.part-high.result.now c.requires.some c.requires.first c.requires.solves c.part-low.ensures.size c.part-low.ensures.at c.part-high.ensures.size c.part-high.ensures.at) c.start_of-start.result c.start_of-start.ensures in
-    inr (
-      refl,
-      elim c.then-before-most.branch [
-        | then-before-most-via-then-before-most w ↦ (let b = written_bits c.args.period c.args.clock.now c.args.positions.now in omega arith)
-        | then-before-most-via-else-before-most+then-period-most w ↦ (let b = written_bits c.args.period c.args.clock.now c.args.positions.now in omega arith)
-      ],
-    )
 
 pub marks-requires : goal.marks-requires
 marks-requires c = low_between c.args.period c.args.clock.now c.args.positions.now c.part-low.result.now c.part-high.result.now
@@ -45,6 +31,8 @@ returns-in-Ok-clause-ok c =
     let R : Bits → Type 0 = λ b. IsShortForm b c.in-Ok.word in
     subst R (sym e) (subst Q c.deref-2.ensures.value (subst P c.deref.ensures.value made.form))
 
+pub returns-then-is_long-clause-refused : goal.returns-then-is_long-clause-refused
+returns-then-is_long-clause-refused c = inr (refl, c.is_long.ensures.0 c.if-is_long.true)
+
 pub returns-in-Ok-clause-short : goal.returns-in-Ok-clause-short
-returns-in-Ok-clause-short c = λ long. (let size = written_bits c.args.period c.args.clock.now c.args.positions.now in let s = start_is c.args.period c.args.clock.now c.args.positions.now c.part-low.result.now c.part-high.result.now
-    (parts_are c.args.period c.args.clock.now c.args.positions.now c.part-low.result.now c.part-high.result.now c.requires.some c.requires.first c.requires.solves c.part-low.ensures.size c.part-low.ensures.at c.part-high.ensures.size c.part-high.ensures.at) c.start_of-start.result c.start_of-start.ensures in let a = c.if-before-most.false in let b = c.if-period-most.false in omega arith)
+returns-in-Ok-clause-short c = λ long. false≢true (sym c.if-is_long.false ∙ c.is_long.ensures.1 long)
