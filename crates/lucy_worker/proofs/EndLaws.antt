@@ -1,6 +1,6 @@
 -- Ends that stay where they are.
-use Rattle.std.proofs.Common.{ℕ, ◌<◌, ◌≡◌, List, map, length, get_or, set, ap, sym, refl, ◌∙◌, subst, inl, inr, arith}
-use Rattle.std.specs.Prelude.{Option, Some, slice_get}
+use Rattle.std.proofs.Common.{ℕ, ◌<◌, ◌≡◌, List, map, length, get_or, ap, sym, refl, ◌∙◌, subst, inl, inr, arith}
+use Rattle.std.specs.Prelude.{Some, slice_get}
 use Rattle.std.specs.Option.{option_map}
 use Rattle.std.proofs.lemmas.Bool.{cases_eq}
 use Rattle.std.proofs.lemmas.Option.{slice_get-map, slice_get-get_or, slice_get_within, get_or_from_slice_get}
@@ -11,7 +11,7 @@ use Rattle.lucy_worker.specs.declared.part.Part.{Part}
 use Rattle.lucy_worker.specs.declared.place.EndPlace.{EndPlace}
 use Rattle.lucy_worker.specs.Turns.{HasRun, HaveRun, giver_name, taker_name}
 use Rattle.lucy_worker.specs.Meets.{HasGiver, HasTaker, MetBetween, MetWithin, set_giver, set_taker, with_giver, with_taker}
-use Rattle.lucy_worker.specs.Laws.{KeepsGiver, KeepsTaker, GiverStays, TakerStays, IsPlace, OthersStay, AreEndsAt}
+use Rattle.lucy_worker.specs.Laws.{KeepsGiver, KeepsTaker, IsPlace, OthersStay, AreEndsAt}
 use Rattle.lucy_worker.proofs.WithinLaws.{get_beside, get_set}
 
 -- there is one end at a place
