@@ -1,5 +1,5 @@
 -- Laws of what fields are read as, for whoever reads them one after the other.
-use Rattle.std.proofs.Common.{ℕ, ◌≡◌, List, [], ◌∷◌, ◌++◌, map, Option, Some, None, Result, Ok, Err, append-nil, refl, ap, sym, ◌∙◌}
+use Rattle.std.proofs.Common.{ℕ, ◌≡◌, List, [], ◌∷◌, ◌++◌, map, Option, Some, None, Result, Ok, Err, append-nil, drop, refl, ap, sym, ◌∙◌}
 use Rattle.std.specs.Prelude.{ok_or}
 use Rattle.std.proofs.lemmas.List.{append_assoc}
 use Rattle.lucy_fields.specs.Readings.{reading}
@@ -34,3 +34,18 @@ module _ {A : Type 0} (value : List ℕ → Option A) (all : List (Result A ℕ)
   -- where none is left all are read
   pub read_all : (left : List (ℕ × List ℕ)) → all ≡ good front ++ map (reading value) left → left ≡ [] → all ≡ good front
   read_all left e l = e ∙ ap (λ fs. good front ++ map (reading value) fs) l ∙ append-nil (good front)
+
+-- values only, and a first field that has none, never stand together
+pub never_both : {A : Type 0} (values front : List A) (place : ℕ) (rest : List (Result A ℕ)) → good values ≡ good front ++ (Err place ∷ rest) → ⊥
+never_both [] [] place rest e = cc e
+never_both [] (f ∷ front) place rest e = cc e
+never_both (v ∷ values) [] place rest e = cc e
+never_both (v ∷ values) (f ∷ front) place rest e = never_both values front place rest (ap (drop 1) e)
+
+-- there is one first field that has no value
+pub one_place : {A : Type 0} (front other : List A) (place more : ℕ) (rest left : List (Result A ℕ)) →
+    good front ++ (Err place ∷ rest) ≡ good other ++ (Err more ∷ left) → place ≡ more
+one_place [] [] place more rest left e = cc e
+one_place [] (g ∷ other) place more rest left e = cc e
+one_place (f ∷ front) [] place more rest left e = cc e
+one_place (f ∷ front) (g ∷ other) place more rest left e = one_place front other place more rest left (ap (drop 1) e)

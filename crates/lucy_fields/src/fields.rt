@@ -70,7 +70,7 @@ impl<'a> Fields<'a> {
     /// The next field, with the offset of its first byte. It takes a step for each byte that it passes, and no memory.
     pub fn next(&mut self) -> Option<(u64, &'a [u8])>
         ensures some { IfSome result (λ f. self.old ≡ (f.0, f.1.now) ∷ self.new) }
-        ensures none { result ≡ None → self.old ≡ [] }
+        ensures none { result ≡ None → (self.old ≡ []) × (self.new ≡ []) }
     {
         let from = past_blanks(self.text, self.at);
         let end = past_field(self.text, from);

@@ -11,7 +11,7 @@ use Rattle.lucy_trace.specs.declared.error.TraceError.TheVariants.{NotPossible}
 abbrev pub pick_of : (field : List ℕ) → Option ℕ
 pick_of field = number_of 10 0 (2 ^ 32 - 1) field
 
--- what the fields of a log name
+-- for each field of a log, in order, the actor that it names, or its offset where it names none
 abbrev pub picks_of : (text : List ℕ) → List (Result ℕ ℕ)
 picks_of text = readings pick_of text
 

@@ -1,5 +1,5 @@
 // The numbers of a log.
-ghost use Rattle.std.specs.Prelude.{◌≡◌, ◌⊎◌, ℕ, IfOk, IfErr, OnOk, ◌++◌, ◌∷◌, []};
+ghost use Rattle.std.specs.Prelude.{◌≡◌, ◌⊎◌, ℕ, IfOk, IfErr, OnOk, MatchResult, ◌++◌, ◌∷◌, []};
 ghost use Rattle.lucy_fields.specs.Readings.{AreRead, IsFirstBad};
 ghost use Rattle.lucy_trace.specs.Logs.{pick_of, picks_of};
 ghost use Rattle.lucy_trace.specs.declared.error.TraceError.TheVariants.{BadNumber, OutOfMemory};
@@ -28,6 +28,7 @@ fn push(picks: &mut Vec<u32>, pick: u32) -> Result<(), AllocError>
 pub fn read_log(alloc: Global, text: &[u8]) -> Result<Vec<u32>, TraceError>
     ensures ok { IfOk result (λ v. AreRead (picks_of text.now) v.items) }
     ensures refused { IfErr result (λ e. (e ≡ OutOfMemory) ⊎ ((place : ℕ) × (e ≡ BadNumber place) × IsFirstBad (picks_of text.now) place)) }
+    ensures only { (place : ℕ) → IsFirstBad (picks_of text.now) place → MatchResult result (λ _. ⊥) (λ e. (e ≡ OutOfMemory) ⊎ (e ≡ BadNumber place)) }
 {
     let mut fields = Fields::new(text);
     let mut picks = Vec::new(alloc);
