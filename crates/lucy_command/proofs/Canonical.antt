@@ -27,9 +27,13 @@ pub block_is : (t : Texts) → first_of (codes "block") (matches_of app (canonic
 unfolding clap_on_literals
 block_is t = refl
 
-pub operand_is : (t : Texts) → first_of (codes "operand") (matches_of app (canonical t)) ≡ Some (or_empty t.operand)
+pub first_is : (t : Texts) → first_of (codes "first") (matches_of app (canonical t)) ≡ Some (or_empty t.first)
 unfolding clap_on_literals
-operand_is t = refl
+first_is t = refl
+
+pub second_is : (t : Texts) → first_of (codes "second") (matches_of app (canonical t)) ≡ Some (or_empty t.second)
+unfolding clap_on_literals
+second_is t = refl
 
 pub taken : (t : Texts) → takes app (canonical t) ≡ true
 unfolding clap_on_literals

@@ -10,7 +10,8 @@ full_is (Some []) full = absurd full
 full_is (Some (byte ∷ more)) full = refl
 
 -- texts that are those of this record
-pub texts_are : (t : Texts) (a b c d e f : Option (List ℕ)) → a ≡ t.scale → b ≡ t.lead → c ≡ t.instants → d ≡ t.workers → e ≡ t.block → f ≡ t.operand → texts a b c d e f ≡ t
-texts_are t a b c d e f scale lead instants workers block operand =
-    ap (λ x. texts x b c d e f) scale ∙ ap (λ x. texts t.scale x c d e f) lead ∙ ap (λ x. texts t.scale t.lead x d e f) instants ∙ ap (λ x. texts t.scale t.lead t.instants x e f) workers
-    ∙ ap (λ x. texts t.scale t.lead t.instants t.workers x f) block ∙ ap (λ x. texts t.scale t.lead t.instants t.workers t.block x) operand
+pub texts_are : (t : Texts) (a b c d e f g : Option (List ℕ)) → a ≡ t.scale → b ≡ t.lead → c ≡ t.instants → d ≡ t.workers → e ≡ t.block → f ≡ t.first → g ≡ t.second → texts a b c d e f g ≡ t
+texts_are t a b c d e f g scale lead instants workers block first second =
+    ap (λ x. texts x b c d e f g) scale ∙ ap (λ x. texts t.scale x c d e f g) lead ∙ ap (λ x. texts t.scale t.lead x d e f g) instants ∙ ap (λ x. texts t.scale t.lead t.instants x e f g) workers
+    ∙ ap (λ x. texts t.scale t.lead t.instants t.workers x f g) block ∙ ap (λ x. texts t.scale t.lead t.instants t.workers t.block x g) first
+    ∙ ap (λ x. texts t.scale t.lead t.instants t.workers t.block t.first x) second

@@ -67,6 +67,15 @@ given_or otherwise setting (Some text) = number_of (least_of setting) (most_of s
 abbrev pub stages_of : (operand : Option (List ℕ)) → Option ℕ
 stages_of operand = option_and_then (number_of 1 most_stages) operand
 
+-- the operand, where there is no second one
+abbrev pub one_of : (first second : Option (List ℕ)) → Option (List ℕ)
+one_of first None = first
+one_of first (Some text) = None
+
+-- that of these texts
+abbrev pub operand_of : Texts → Option (List ℕ)
+operand_of t = one_of t.first t.second
+
 -- the command that has no operand
 abbrev pub alone : Command → (operand : Option (List ℕ)) → Option Command
 alone command None = Some command
@@ -76,7 +85,7 @@ alone command (Some text) = None
 abbrev pub clocks_words : Texts → Option ClocksWords
 clocks_words t =
     option_and_then (λ file. option_and_then (λ scale. option_map (λ lead. record { file = file; scale = scale; lead = lead })
-    (given_or 1 setting.Lead t.lead)) (given_or 1 setting.Scale t.scale)) t.operand
+    (given_or 1 setting.Lead t.lead)) (given_or 1 setting.Scale t.scale)) (operand_of t)
 
 -- and the instants
 abbrev pub kahn_words : Texts → Option KahnWords
@@ -96,14 +105,14 @@ run_words t =
 
 -- what `make` works on
 abbrev pub make_words : Texts → Option MakeWords
-make_words t = option_and_then (λ stages. option_map (λ p. record { stages = stages; workers = p.0; block = p.1 }) (playing_of t)) (stages_of t.operand)
+make_words t = option_and_then (λ stages. option_map (λ p. record { stages = stages; workers = p.0; block = p.1 }) (playing_of t)) (stages_of (operand_of t))
 
 -- the command of this name with these texts, where they fit it
 abbrev pub command_with : Name → Texts → Option Command
-command_with name.Order t = alone Order t.operand
-command_with name.Show t = option_map Show t.operand
-command_with name.Types t = option_map Types t.operand
-command_with name.Check t = option_map Check t.operand
+command_with name.Order t = alone Order t.first
+command_with name.Show t = option_map Show (operand_of t)
+command_with name.Types t = option_map Types (operand_of t)
+command_with name.Check t = option_map Check (operand_of t)
 command_with name.Clocks t = option_map Clocks (clocks_words t)
 command_with name.Run t = option_map Run (run_words t)
 command_with name.Kahn t = option_map Kahn (kahn_words t)

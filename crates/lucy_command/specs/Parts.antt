@@ -8,7 +8,7 @@ use Rattle.lucy_command.specs.declared.names.Setting.{Setting}
 use Rattle.lucy_command.specs.declared.names.Setting.TheVariants.{Scale, Lead, Instants, Workers, Block}
 use Rattle.lucy_command.specs.Names.{allowed}
 
--- a FILE or a number of stages, or an option with its text
+-- an operand, such as FILE or a number of stages, or an option with its text
 pub data Part : Type 0 where
   Operand : (text : List ℕ) → Part
   Given : (setting : Setting) (text : List ℕ) → Part
@@ -55,18 +55,19 @@ parts name [] = Some []
 parts name (word ∷ []) = parts_from name word [] (Some []) None
 parts name (word ∷ (text ∷ more)) = parts_from name word (text ∷ more) (parts name (text ∷ more)) (parts name more)
 
--- the texts of parts: that of each option, and of the operand
+-- the texts of parts: that of each option, and of each operand
 pub record Texts : Type 0 where
   pub scale : Option (List ℕ)
   pub lead : Option (List ℕ)
   pub instants : Option (List ℕ)
   pub workers : Option (List ℕ)
   pub block : Option (List ℕ)
-  pub operand : Option (List ℕ)
+  pub first : Option (List ℕ)
+  pub second : Option (List ℕ)
 
 -- those of no parts
 abbrev pub no_texts : Texts
-no_texts = record { scale = None; lead = None; instants = None; workers = None; block = None; operand = None }
+no_texts = record { scale = None; lead = None; instants = None; workers = None; block = None; first = None; second = None }
 
 -- a text that is not empty, where none has stood before
 abbrev pub once : (before : Option (List ℕ)) (text : List ℕ) → Option (List ℕ)
@@ -74,9 +75,14 @@ once None [] = None
 once None (byte ∷ more) = Some (byte ∷ more)
 once (Some other) text = None
 
--- the texts with that of one part more, which has not stood before
+-- the texts with that of one operand more: the first, or the second where there is a first
+abbrev pub with_operand : Texts → (first : Option (List ℕ)) → (text : List ℕ) → Option Texts
+with_operand t None text = option_map (λ found. record t { first = Some found }) (once None text)
+with_operand t (Some first) text = option_map (λ found. record t { second = Some found }) (once t.second text)
+
+-- the texts with that of one part more: an operand where one is free, or an option that has not stood before
 abbrev pub with_part : Texts → Part → Option Texts
-with_part t (Operand text) = option_map (λ found. record t { operand = Some found }) (once t.operand text)
+with_part t (Operand text) = with_operand t t.first text
 with_part t (Given Scale text) = option_map (λ found. record t { scale = Some found }) (once t.scale text)
 with_part t (Given Lead text) = option_map (λ found. record t { lead = Some found }) (once t.lead text)
 with_part t (Given Instants text) = option_map (λ found. record t { instants = Some found }) (once t.instants text)
@@ -88,6 +94,6 @@ abbrev pub with_parts : Texts → List Part → Option Texts
 with_parts t [] = Some t
 with_parts t (part ∷ more) = option_and_then (λ u. with_parts u more) (with_part t part)
 
--- the texts of words behind the name of a command, each of which stands once at most
+-- the texts of words behind the name of a command: each option once at most, and at most two operands
 abbrev pub texts_of : Name → (words : List (List ℕ)) → Option Texts
 texts_of name words = option_and_then (with_parts no_texts) (parts name words)

@@ -16,12 +16,12 @@ abbrev pub seen_text : Option (Bor (List ℕ)) → Option (List ℕ)
 seen_text text = option_map (λ t. t.now) text
 
 -- these texts
-abbrev pub texts : (scale lead instants workers block operand : Option (List ℕ)) → Texts
-texts scale lead instants workers block operand = record { scale = scale; lead = lead; instants = instants; workers = workers; block = block; operand = operand }
+abbrev pub texts : (scale lead instants workers block first second : Option (List ℕ)) → Texts
+texts scale lead instants workers block first second = record { scale = scale; lead = lead; instants = instants; workers = workers; block = block; first = first; second = second }
 
 -- the texts that the body has found
 abbrev pub seen : found.Texts → Texts
-seen t = texts (seen_text t.scale) (seen_text t.lead) (seen_text t.instants) (seen_text t.workers) (seen_text t.block) (seen_text t.operand)
+seen t = texts (seen_text t.scale) (seen_text t.lead) (seen_text t.instants) (seen_text t.workers) (seen_text t.block) (seen_text t.first) (seen_text t.second)
 
 -- the texts with those of the words
 abbrev pub texts_with : Name → Texts → (words : List (List ℕ)) → Option Texts
@@ -53,7 +53,8 @@ pub record AreFull (t : Texts) : Type 0 where
   pub instants : IfSome t.instants IsFull
   pub workers : IfSome t.workers IsFull
   pub block : IfSome t.block IsFull
-  pub operand : IfSome t.operand IsFull
+  pub first : IfSome t.first IsFull
+  pub second : IfSome t.second IsFull
 
 -- the text in a word that is empty where there is none
 abbrev pub or_empty : Option (List ℕ) → List ℕ
@@ -69,16 +70,16 @@ if_full (byte ∷ more) = Some (byte ∷ more)
 abbrev pub canonical : Texts → List (List ℕ)
 canonical t =
     codes "lucy" ∷ (codes "--scale=" ++ or_empty t.scale) ∷ (codes "--lead=" ++ or_empty t.lead) ∷ (codes "--instants=" ++ or_empty t.instants) ∷ (codes "--workers=" ++ or_empty t.workers)
-    ∷ (codes "--block=" ++ or_empty t.block) ∷ codes "--" ∷ or_empty t.operand ∷ []
+    ∷ (codes "--block=" ++ or_empty t.block) ∷ codes "--" ∷ or_empty t.first ∷ or_empty t.second ∷ []
 
 -- an option of this name, as `clap` reads it
 abbrev pub option_rule : (name : List ℕ) → Rule
 option_rule name = record (new_rule name) { long = Some name }
 
--- the command whose words are all options and the operand
+-- the command whose words are all options and both operands
 abbrev pub app : App
-app = with_rule (with_rule (with_rule (with_rule (with_rule (with_rule (new_app (codes "lucy")) (option_rule (codes "scale"))) (option_rule (codes "lead"))) (option_rule (codes "instants"))) (option_rule (codes "workers")))
-    (option_rule (codes "block"))) (new_rule (codes "operand"))
+app = with_rule (with_rule (with_rule (with_rule (with_rule (with_rule (with_rule (new_app (codes "lucy")) (option_rule (codes "scale"))) (option_rule (codes "lead"))) (option_rule (codes "instants"))) (option_rule (codes "workers")))
+    (option_rule (codes "block"))) (new_rule (codes "first"))) (new_rule (codes "second"))
 
 -- `clap` has found these texts
 pub record Holds (m : ArgMatches) (t : Texts) : Type 0 where
@@ -87,4 +88,5 @@ pub record Holds (m : ArgMatches) (t : Texts) : Type 0 where
   pub instants : first_value (found_of m) (codes "instants") ≡ Some (or_empty t.instants)
   pub workers : first_value (found_of m) (codes "workers") ≡ Some (or_empty t.workers)
   pub block : first_value (found_of m) (codes "block") ≡ Some (or_empty t.block)
-  pub operand : first_value (found_of m) (codes "operand") ≡ Some (or_empty t.operand)
+  pub first : first_value (found_of m) (codes "first") ≡ Some (or_empty t.first)
+  pub second : first_value (found_of m) (codes "second") ≡ Some (or_empty t.second)

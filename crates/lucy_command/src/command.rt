@@ -91,12 +91,22 @@ fn stages_of(operand: Option<&str>) -> Option<u64>
     number(operand?, 1, MOST_STAGES)
 }
 
+// The operand, where there is no second one.
+fn operand_of<'a>(texts: &Texts<'a>) -> Option<&'a str>
+    ensures { seen_text result ≡ spec.operand_of (seen texts.now) }
+{
+    match texts.second {
+        None => texts.first,
+        Some(_) => None,
+    }
+}
+
 // What `clocks` works on.
 fn clocks_words<'a>(texts: &Texts<'a>) -> Option<ClocksWords<'a>>
     ensures is { option_map clocks_named result ≡ spec.clocks_words (seen texts.now) }
     ensures within { IfSome result (λ w. IsOf Setting.Scale w.scale × IsOf Setting.Lead w.lead) }
 {
-    let file = texts.operand?;
+    let file = operand_of(texts)?;
     let scale = scale_of(Setting::Scale, texts.scale)?;
     let lead = scale_of(Setting::Lead, texts.lead)?;
     Some(ClocksWords { file, scale, lead })
@@ -144,7 +154,7 @@ fn make_words(texts: &Texts<'_>) -> Option<MakeWords>
     ensures is { result ≡ spec.make_words (seen texts.now) }
     ensures within { IfSome result (λ w. IsWithin (spec.Make w)) }
 {
-    let stages = stages_of(texts.operand)?;
+    let stages = stages_of(operand_of(texts))?;
     let (workers, block) = playing_of(texts)?;
     Some(MakeWords {
         stages,
@@ -159,13 +169,13 @@ pub(crate) fn command_with<'a>(name: Name, texts: &Texts<'a>) -> Option<Command<
     ensures within { IfSome result (λ command. IsWithin (named command)) }
 {
     match name {
-        Name::Order => match texts.operand {
+        Name::Order => match texts.first {
             None => Some(Command::Order),
             Some(_) => None,
         },
-        Name::Show => Some(Command::Show(texts.operand?)),
-        Name::Types => Some(Command::Types(texts.operand?)),
-        Name::Check => Some(Command::Check(texts.operand?)),
+        Name::Show => Some(Command::Show(operand_of(texts)?)),
+        Name::Types => Some(Command::Types(operand_of(texts)?)),
+        Name::Check => Some(Command::Check(operand_of(texts)?)),
         Name::Clocks => Some(Command::Clocks(clocks_words(texts)?)),
         Name::Run => Some(Command::Run(run_words(texts)?)),
         Name::Kahn => Some(Command::Kahn(kahn_words(texts)?)),

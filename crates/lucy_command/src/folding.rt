@@ -48,18 +48,27 @@ impl<'a> Texts<'a> {
             instants: None,
             workers: None,
             block: None,
-            operand: None,
+            first: None,
+            second: None,
         }
     }
 
-    // With the text of an operand.
+    // With the text of an operand, where one is free.
     fn with_operand(self, text: &'a str) -> Option<Texts<'a>>
         requires { AreFull (seen self) }
         ensures is { option_map seen result ≡ spec.with_part (seen self.entry) (spec.Operand text.now) }
         ensures full { IfSome result (λ t. AreFull (seen t)) }
     {
-        let operand = Some(once(self.operand, text)?);
-        Some(Texts { operand, ..self })
+        match self.first {
+            None => {
+                let first = Some(once(None, text)?);
+                Some(Texts { first, ..self })
+            }
+            Some(_) => {
+                let second = Some(once(self.second, text)?);
+                Some(Texts { second, ..self })
+            }
+        }
     }
 
     // With the text of an option.
@@ -157,7 +166,7 @@ fn with_first<'a>(
     }
 }
 
-/// The texts of the words behind the name of a command, each of which stands once at most and is not empty.
+/// The texts of the words behind the name of a command: each option once at most, at most two operands, and none is empty.
 pub(crate) fn texts_of(name: Name, words: &[String]) -> Option<Texts<'_>>
     ensures is { option_map seen result ≡ spec.texts_of name (map string_bytes words.now) }
     ensures full { IfSome result (λ t. AreFull (seen t)) }

@@ -21,7 +21,7 @@ fn option<'a>(alloc: Global, name: &'a str) -> Arg<'a>
     Arg::new(alloc, name).long(name)
 }
 
-// All options, and the operand.
+// All options, and both operands.
 fn command_line<'a>(alloc: Global) -> Result<Command<'a>, AllocError>
     ensures { IfOk result (λ command. app_of command ≡ app) }
 {
@@ -30,17 +30,19 @@ fn command_line<'a>(alloc: Global) -> Result<Command<'a>, AllocError>
     let instants = option(alloc, "instants");
     let workers = option(alloc, "workers");
     let block = option(alloc, "block");
-    let operand = Arg::new(alloc, "operand");
+    let first = Arg::new(alloc, "first");
+    let second = Arg::new(alloc, "second");
     Command::new(alloc, "lucy")
         .arg(scale)?
         .arg(lead)?
         .arg(instants)?
         .arg(workers)?
         .arg(block)?
-        .arg(operand)
+        .arg(first)?
+        .arg(second)
 }
 
-// What `clap` finds: each option has a text, and the operand too.
+// What `clap` finds: each option has a text, and each operand too.
 fn matches_of(alloc: Global, words: &[String]) -> Result<ArgMatches<'_>, Error>
     ensures found { (t : parts.Texts) → map string_bytes words.entry.now ≡ canonical t → IfOk result (λ m. Holds m t) }
     // Only memory can be wanting.
@@ -72,6 +74,7 @@ pub(crate) fn texts_in(alloc: Global, words: &[String]) -> Result<Texts<'_>, Out
         instants: text(&matches, "instants"),
         workers: text(&matches, "workers"),
         block: text(&matches, "block"),
-        operand: text(&matches, "operand"),
+        first: text(&matches, "first"),
+        second: text(&matches, "second"),
     })
 }

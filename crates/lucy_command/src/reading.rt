@@ -30,7 +30,7 @@ fn judged(words: &[String]) -> Option<(Name, Texts<'_>)>
 }
 
 /// The command that the words name, or none. The words are judged first, so that those that name none are never refused for want of
-/// memory. Where they name one, the texts of its options and of its operand are spelled into the list `spelled`, which is empty
+/// memory. Where they name one, the texts of its options and of its operands are spelled into the list `spelled`, which is empty
 /// before, and `clap` reads them there.
 pub fn read<'a>(
     alloc: Global,

@@ -1,4 +1,4 @@
-// The one list of words that has these texts: every option as one word, in order, and then the operand.
+// The one list of words that has these texts: every option as one word, in order, and then both operands.
 ghost use Rattle.std.specs.Prelude.{◌≡◌, ◌++◌, ◌∷◌, [], OnOk, map, string_bytes};
 ghost use Rattle.lucy_command.specs.Seen as spec;
 ghost use Rattle.lucy_command.specs.Seen.{seen, seen_text};
@@ -48,6 +48,7 @@ pub(crate) fn spell(
     add(words, format!(in alloc; "--workers={workers}")?)?;
     add(words, format!(in alloc; "--block={block}")?)?;
     add(words, format!(in alloc; "--")?)?;
-    add(words, format!(in alloc; "{}", or_empty(texts.operand))?)?;
+    add(words, format!(in alloc; "{}", or_empty(texts.first))?)?;
+    add(words, format!(in alloc; "{}", or_empty(texts.second))?)?;
     Ok(())
 }

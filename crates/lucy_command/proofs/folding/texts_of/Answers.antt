@@ -15,7 +15,7 @@ at_word words at word low is = drop_more words at word low ∙ ap (λ w. w ∷ d
 pub returns-then-eq-clause-is : goal.returns-then-eq-clause-is
 returns-then-eq-clause-is c =
     let word = c.index-words-at.result in
-    let t = texts (seen_text c.each.texts.0) (seen_text c.each.texts.1.0) (seen_text c.each.texts.1.1.0) (seen_text c.each.texts.1.1.1.0) (seen_text c.each.texts.1.1.1.1.0) (seen_text c.each.texts.1.1.1.1.1.0) in
+    let t = texts (seen_text c.each.texts.0) (seen_text c.each.texts.1.0) (seen_text c.each.texts.1.1.0) (seen_text c.each.texts.1.1.1.0) (seen_text c.each.texts.1.1.1.1.0) (seen_text c.each.texts.1.1.1.1.1.0) (seen_text c.each.texts.1.1.1.1.1.1.0) in
     let rest = take_rest c.args.words.now (c.each.at + 1) in
     let is : get_or c.args.words.now c.each.at word ≡ word = search rules in
     let here = at_word c.args.words.now c.each.at word (omega (arith, c.each-test.true)) is in
@@ -25,7 +25,7 @@ returns-then-eq-clause-is c =
 pub returns-in_err-more-clause-is : goal.returns-in_err-more-clause-is
 returns-in_err-more-clause-is c =
     let word = c.index-words-at.result in
-    let t = texts (seen_text c.each.texts.0) (seen_text c.each.texts.1.0) (seen_text c.each.texts.1.1.0) (seen_text c.each.texts.1.1.1.0) (seen_text c.each.texts.1.1.1.1.0) (seen_text c.each.texts.1.1.1.1.1.0) in
+    let t = texts (seen_text c.each.texts.0) (seen_text c.each.texts.1.0) (seen_text c.each.texts.1.1.0) (seen_text c.each.texts.1.1.1.0) (seen_text c.each.texts.1.1.1.1.0) (seen_text c.each.texts.1.1.1.1.1.0) (seen_text c.each.texts.1.1.1.1.1.1.0) in
     let rest = take_rest c.args.words.now (c.each.at + 1) in
     let is : get_or c.args.words.now c.each.at word ≡ word = search rules in
     let here = at_word c.args.words.now c.each.at word (omega (arith, c.each-test.true)) is in
@@ -38,7 +38,7 @@ returns-in_err-more-clause-is c =
 pub each-preserved : goal.each-preserved
 each-preserved c =
     let word = c.index-words-at.result in
-    let t = texts (seen_text c.each.texts.0) (seen_text c.each.texts.1.0) (seen_text c.each.texts.1.1.0) (seen_text c.each.texts.1.1.1.0) (seen_text c.each.texts.1.1.1.1.0) (seen_text c.each.texts.1.1.1.1.1.0) in
+    let t = texts (seen_text c.each.texts.0) (seen_text c.each.texts.1.0) (seen_text c.each.texts.1.1.0) (seen_text c.each.texts.1.1.1.0) (seen_text c.each.texts.1.1.1.1.0) (seen_text c.each.texts.1.1.1.1.1.0) (seen_text c.each.texts.1.1.1.1.1.1.0) in
     let rest = take_rest c.args.words.now (c.each.at + 1) in
     let is : get_or c.args.words.now c.each.at word ≡ word = search rules in
     let here = at_word c.args.words.now c.each.at word (omega (arith, c.each-test.true)) is in

@@ -5,7 +5,7 @@ use Rattle.lucy_command.proofs.folding.texts_of.Given as goal
 
 abbrev pub invariant-each : goal.invariant-each
 invariant-each l =
-    let t = texts (seen_text l.texts.0) (seen_text l.texts.1.0) (seen_text l.texts.1.1.0) (seen_text l.texts.1.1.1.0) (seen_text l.texts.1.1.1.1.0) (seen_text l.texts.1.1.1.1.1.0) in
+    let t = texts (seen_text l.texts.0) (seen_text l.texts.1.0) (seen_text l.texts.1.1.0) (seen_text l.texts.1.1.1.0) (seen_text l.texts.1.1.1.1.0) (seen_text l.texts.1.1.1.1.1.0) (seen_text l.texts.1.1.1.1.1.1.0) in
     (texts_with l.name t (map string_bytes (drop l.at l.words)) ≡ texts_of l.name (map string_bytes l.words)) × AreFull t × (l.at ≤ length l.words)
 
 abbrev pub decreases-each : goal.decreases-each

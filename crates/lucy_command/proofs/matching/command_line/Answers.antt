@@ -10,4 +10,5 @@ returns c =
     let three = c.in_ok-arg-3.ensures.shape c.option-instants.ensures.local ∙ ap₂ with_rule two c.option-instants.ensures.rule in
     let four = c.in_ok-arg-4.ensures.shape c.option-workers.ensures.local ∙ ap₂ with_rule three c.option-workers.ensures.rule in
     let five = c.in_ok-arg-5.ensures.shape c.option-block.ensures.local ∙ ap₂ with_rule four c.option-block.ensures.rule in
-    IfOk-weaker c.arg-6.result _ _ (λ command h. h.shape c.new-operand.ensures.optional.1 ∙ ap₂ with_rule five c.new-operand.ensures.rule) c.arg-6.ensures
+    let six = c.in_ok-arg-6.ensures.shape c.new-first.ensures.optional.1 ∙ ap₂ with_rule five c.new-first.ensures.rule in
+    IfOk-weaker c.arg-7.result _ _ (λ command h. h.shape c.new-second.ensures.optional.1 ∙ ap₂ with_rule six c.new-second.ensures.rule) c.arg-7.ensures

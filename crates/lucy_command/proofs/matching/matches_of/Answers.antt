@@ -5,7 +5,7 @@ use Rattle.clap.specs.Matches.{found_of}
 use Rattle.clap.specs.Simple.{is_simple, matches_of}
 use Rattle.clap.specs.Takes.{takes}
 use Rattle.clap.proofs.WalkLemmas.{first_value-rows}
-use Rattle.lucy_command.proofs.Canonical.{scale_is, lead_is, instants_is, workers_is, block_is, operand_is, taken}
+use Rattle.lucy_command.proofs.Canonical.{scale_is, lead_is, instants_is, workers_is, block_is, first_is, second_is, taken}
 use Rattle.lucy_command.proofs.matching.matches_of.Goals as goal
 
 pub returns : goal.returns
@@ -20,7 +20,8 @@ returns c =
             instants = first_value-rows (found_of m) (codes "instants") ∙ ap (first_of (codes "instants")) rows ∙ instants_is t;
             workers = first_value-rows (found_of m) (codes "workers") ∙ ap (first_of (codes "workers")) rows ∙ workers_is t;
             block = first_value-rows (found_of m) (codes "block") ∙ ap (first_of (codes "block")) rows ∙ block_is t;
-            operand = first_value-rows (found_of m) (codes "operand") ∙ ap (first_of (codes "operand")) rows ∙ operand_is t;
+            first = first_value-rows (found_of m) (codes "first") ∙ ap (first_of (codes "first")) rows ∙ first_is t;
+            second = first_value-rows (found_of m) (codes "second") ∙ ap (first_of (codes "second")) rows ∙ second_is t;
           }) parse.ensures.matches;
       err = λ t e. IfErr-weaker parse.result _ _ (λ x h. h (ap₂ takes app_is e ∙ taken t)) parse.ensures.passes;
     }
