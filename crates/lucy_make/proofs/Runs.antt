@@ -11,11 +11,10 @@ use Rattle.lucy_meaning.specs.Spots.{main_of, results_in}
 use Rattle.lucy_front.specs.declared.accepted.Accepted.{Accepted}
 use Rattle.lucy_execution.proofs.StreamLaws.{params_count}
 use Rattle.lucy_run.specs.declared.pace.Pace.{Pace}
-use Rattle.lucy_run.specs.declared.course.Course.{Course}
 use Rattle.lucy_run.specs.declared.ending.Ending.{Ending}
 use Rattle.lucy_run.specs.declared.ending.Ending.TheVariants as ending
 use Rattle.lucy_run.specs.Owes.{input_words}
-use Rattle.lucy_run.specs.Courses.{Program, CanRun, values, IsBegun, IsAlong, IsUnderWay, HasStopped, IsOver, EndsOver}
+use Rattle.lucy_run.specs.Courses.{CourseView, Program, CanRun, values, IsBegun, IsAlong, IsUnderWay, HasStopped, IsOver, EndsOver}
 use Rattle.lucy_make.specs.Text.{made_input}
 use Rattle.lucy_make.specs.Figures.{sum_of, slots_of, net_lines, run_lines, figures}
 use Rattle.lucy_make.specs.Owes.{IsMadeRun, printed_values, where_done, OwesSummary}
@@ -43,7 +42,7 @@ module _ (kinds : List HostKind) (a : Accepted) where
   abbrev pub made_program : Program
   made_program = record { kinds = kinds; nodes = a.placed.nodes; clocks = a.clocks.items; inputs = a.inputs.items; outputs = a.outputs.items }
 
-  module _ (can : CanRun made_program) (clocks : List NodeClock) (e : clocks ≡ a.clocks.items) (pace : Pace) (endless : pace.instants ≡ None) (course : Course)
+  module _ (can : CanRun made_program) (clocks : List NodeClock) (e : clocks ≡ a.clocks.items) (pace : Pace) (endless : pace.instants ≡ None) (course : CourseView)
       (begun : IsBegun kinds a.placed.nodes clocks a.inputs.items pace course) where
     begun_here : IsBegun kinds a.placed.nodes a.clocks.items a.inputs.items pace course
     begun_here = subst (λ cs. IsBegun kinds a.placed.nodes cs a.inputs.items pace course) e begun
@@ -55,7 +54,7 @@ module _ (kinds : List HostKind) (a : Accepted) where
     pub is_first : (source : SeenSource) (results : ℕ) → length (results_in (main_of a.placed.nodes)) ≡ results → IsFirst kinds source course results
     is_first source results many = let (given_is, block_is, at, along) = begun_here in (made_program, source, can, begun_along source, at, refl, many)
 
-    module _ (source now : SeenSource) (last : Course) (count : ℕ) (sum : ℤ) (tells : Tells source now course last count sum) (same : last.given ≡ course.given) where
+    module _ (source now : SeenSource) (last : CourseView) (count : ℕ) (sum : ℤ) (tells : Tells source now course last count sum) (same : last.given ≡ course.given) where
       told : (all : List ItemOf) × IsAlong made_program source all now last × HasStopped last × IsTold made_program all last.horizon count sum
       told = let (given_is, block_is, at, along) = begun_here in tells made_program source can (begun_along source) at
 
@@ -63,7 +62,7 @@ module _ (kinds : List HostKind) (a : Accepted) where
       under_way = let (all, along, stopped, is) = told in (made_program, source, all, can, along)
 
       -- a main with inputs has words of them
-      pub some_words : (a.inputs.items ≡ [] → ⊥) → last.words.now ≡ [] → ⊥
+      pub some_words : (a.inputs.items ≡ [] → ⊥) → last.words ≡ [] → ⊥
       some_words some none =
           let (all, along, stopped, is) = told in
           some (none_of a.inputs.items (can.inputs ∙ sym (params_count a.placed.nodes a.clocks.items) ∙ sym (ap length along.words) ∙ ap length none))

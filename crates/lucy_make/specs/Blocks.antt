@@ -7,8 +7,7 @@ use Rattle.lucy_text.specs.Outside.{SeenSource}
 use Rattle.lucy_meaning.specs.Spots.{main_of, results_in}
 use Rattle.lucy_meaning.specs.Horizons.{Suffice}
 use Rattle.lucy_execution.specs.Streams.{main_streams, later_streams}
-use Rattle.lucy_run.specs.declared.course.Course.{Course}
-use Rattle.lucy_run.specs.Courses.{Program, CanRun, words_of, values, IsAlong, HasStopped}
+use Rattle.lucy_run.specs.Courses.{CourseView, Program, CanRun, words_of, values, IsAlong, HasStopped}
 use Rattle.lucy_make.specs.Figures.{sum_of}
 use Rattle.lucy_make.specs.Owes.{first_of}
 
@@ -26,12 +25,12 @@ pub record IsTold (p : Program) (items : List ItemOf) (horizon count : ℕ) (sum
   pub summed : sum ≡ sum_of (first_to p (values p items) horizon)
 
 -- a course before its first block, of some program that can be run by operators of these kinds and has so many results
-abbrev pub IsFirst : List HostKind → (now : SeenSource) → Course → (results : ℕ) → Type 0
+abbrev pub IsFirst : List HostKind → (now : SeenSource) → CourseView → (results : ℕ) → Type 0
 IsFirst kinds now c results =
     (p : Program) × (first : SeenSource) × CanRun p × IsAlong p first [] now c × (c.horizon ≡ 0) × (kinds ≡ p.kinds) × (length (results_in (main_of p.nodes)) ≡ results)
 
 -- it was run to its last block, and main's first result was told
-abbrev pub Tells : (before now : SeenSource) (old new : Course) (count : ℕ) (sum : ℤ) → Type 0
+abbrev pub Tells : (before now : SeenSource) (old new : CourseView) (count : ℕ) (sum : ℤ) → Type 0
 Tells before now old new count sum =
     (p : Program) (first : SeenSource) → CanRun p → IsAlong p first [] before old → old.horizon ≡ 0 →
     (all : List ItemOf) × IsAlong p first all now new × HasStopped new × IsTold p all new.horizon count sum

@@ -1,7 +1,7 @@
 -- A block more.
 use Rattle.std.proofs.Common.{ℕ, ◌+◌, ◌≤◌, ◌≡◌, ◌⊎◌, true, List, [], ◌++◌, length, map, ap, sym, ◌∙◌, subst, inl, inr, arith}
 use Rattle.std.specs.Prelude.{ℤ, slice_index}
-use Rattle.lucy_word.specs.Bits.{Bits, ones_to}
+use Rattle.lucy_word.specs.Bits.{ones_to}
 use Rattle.lucy_word.specs.Limits.{limit_number}
 use Rattle.lucy_word.specs.declared.limit.Limit.TheVariants as limit
 use Rattle.lucy_word.proofs.BitsLaws.{ones_to-none}
@@ -14,15 +14,15 @@ use Rattle.lucy_feed.specs.Resuming.{FeedState, AreMet, HasRead, AreFresh, Value
 use Rattle.lucy_meaning.specs.Horizons.{Suffice, IsHorizon}
 use Rattle.lucy_execution.specs.Streams.{param_words, later_streams}
 use Rattle.lucy_execution.specs.Playing.{PlayerView, joined}
-use Rattle.lucy_run.specs.declared.course.Course.{Course}
 use Rattle.lucy_run.specs.Owes.{most_instants}
-use Rattle.lucy_run.specs.Courses.{Program, words_of, values, HasFed, IsAlong, IsLast, IsRunTo, IsNext, ReadsOn, CanGoOn, HasGoneOn}
+use Rattle.lucy_run.specs.Courses.{CourseView, Program, words_of, values, HasFed, IsAlong, IsLast, IsRunTo, IsNext}
+use Rattle.lucy_run.specs.Played.{ReadsOn, CountsAllow, CanGoOn, HasGoneOn}
 use Rattle.lucy_run.specs.Paces.{IsBlock}
 use Rattle.lucy_run.proofs.ReadLaws.{suffice_longer, values_count, values_front, values_joined, fed_counts, fed_carried, fed_none, met_suffices}
 
 -- a run before its first instant
-pub begin : (p : Program) (c : Course) (none : List (List ℤ)) → ((s : SeenSource) → HasRead p.inputs s s c.reader [] []) → c.reader.reader.inputs ≡ p.inputs → AreFresh p.inputs c.reader [] →
-    none ≡ values p [] → c.player ≡ record { nodes = p.nodes; clocks = p.clocks; kinds = p.kinds; inputs = none; instants = 0; before = 0 } → c.words.now ≡ words_of p → c.target ≡ 0 → c.horizon ≡ 0 →
+pub begin : (p : Program) (c : CourseView) (none : List (List ℤ)) → ((s : SeenSource) → HasRead p.inputs s s c.reader [] []) → c.reader.reader.inputs ≡ p.inputs → AreFresh p.inputs c.reader [] →
+    none ≡ values p [] → c.player ≡ record { nodes = p.nodes; clocks = p.clocks; kinds = p.kinds; inputs = none; instants = 0; before = 0 } → c.words ≡ words_of p → c.target ≡ 0 → c.horizon ≡ 0 →
     most_instants c.given ≤ limit_number limit.Instants → IsBlock c.block → (source : SeenSource) → IsAlong p source [] source c
 begin p c none begun kept fresh empty is words target horizon few block source = record {
   fed = fed_none (words_of p) c.target p.inputs source c.reader begun;
@@ -43,21 +43,17 @@ begin p c none begun kept fresh empty is words target horizon few block source =
   block = block;
 }
 
--- the horizon of lists with these counts
-abbrev pub CountsAllow : (words : List Bits) (counts : List ℕ) (most horizon : ℕ) → Type 0
-CountsAllow words counts most horizon = (lists : List (List ℤ)) → ((i : ℕ) → slice_index counts i ≡ length (list_at lists i)) → IsHorizon words lists most horizon
-
 -- more was read behind what was read
-pub read_behind : (p : Program) (first : SeenSource) (items : List ItemOf) (before : SeenSource) (c : Course) → IsAlong p first items before c → (now : SeenSource) (read : FeedState) (target : ℕ) → c.target ≤ target →
-    ReadsOn c.words.now target before now c.reader read →
+pub read_behind : (p : Program) (first : SeenSource) (items : List ItemOf) (before : SeenSource) (c : CourseView) → IsAlong p first items before c → (now : SeenSource) (read : FeedState) (target : ℕ) → c.target ≤ target →
+    ReadsOn c.words target before now c.reader read →
     (more : List ItemOf) × HasFed (words_of p) target p.inputs first now read (items ++ more) × AreFresh p.inputs read more × (read.reader.inputs ≡ p.inputs)
 read_behind p first items before c along now read target ahead reads =
     let here : ReadsOn (words_of p) target before now c.reader read = subst (λ ws. ReadsOn ws target before now c.reader read) along.words reads in
     here p.inputs first items c.target ahead along.fed along.fresh along.kept
 
-module _ (turn : ValuesInTurn) (p : Program) (first : SeenSource) (items : List ItemOf) (before : SeenSource) (c : Course) (along : IsAlong p first items before c) (now : SeenSource) (read : FeedState) (more : List ItemOf)
+module _ (turn : ValuesInTurn) (p : Program) (first : SeenSource) (items : List ItemOf) (before : SeenSource) (c : CourseView) (along : IsAlong p first items before c) (now : SeenSource) (read : FeedState) (more : List ItemOf)
     (target : ℕ) (fed : HasFed (words_of p) target p.inputs first now read (items ++ more)) (fresh : AreFresh p.inputs read more) (kept : read.reader.inputs ≡ p.inputs) (horizon : ℕ) (ahead : c.target ≤ target)
-    (allow : CountsAllow c.words.now read.counts target horizon) where
+    (allow : CountsAllow c.words read.counts target horizon) where
   counted : (i : ℕ) → slice_index read.counts i ≡ length (list_at (values p (items ++ more)) i)
   counted = (fed_counts (words_of p) target p.inputs first now read (items ++ more) fed).each
 
@@ -95,13 +91,13 @@ module _ (turn : ValuesInTurn) (p : Program) (first : SeenSource) (items : List 
         ∙ ap (λ cs. later_streams p.kinds (values p (items ++ more)) p.nodes cs c.player.instants horizon) along.run.clocks
         ∙ ap (λ n. later_streams p.kinds (values p (items ++ more)) p.nodes p.clocks n horizon) along.run.instants
 
-    block_last : (read.reader.ended ≡ true) ⊎ AreMet (map (λ word. ones_to word target) c.words.now) read.counts → IsLast p (items ++ more) target horizon last
+    block_last : (read.reader.ended ≡ true) ⊎ AreMet (map (λ word. ones_to word target) c.words) read.counts → IsLast p (items ++ more) target horizon last
     block_last (inl ended) = record {
       within = is_horizon.within;
       last = inr (ap (λ (r : FeedState). r.reader.ended) gone.reader_is ∙ ended, is_horizon.greatest);
     }
     block_last (inr met) =
-        let all = met_suffices c.words.now read.counts (values p (items ++ more)) target met counted in
+        let all = met_suffices c.words read.counts (values p (items ++ more)) target met counted in
         let reached : target ≤ horizon = is_horizon.greatest target (omega arith) (subst (λ ws. Suffice ws (values p (items ++ more)) target) along.words all) in
         record { within = is_horizon.within; last = inl (omega (arith, is_horizon.within)) }
 
@@ -115,7 +111,7 @@ module _ (turn : ValuesInTurn) (p : Program) (first : SeenSource) (items : List 
     }
 
     -- the block was run
-    pub next : (read.reader.ended ≡ true) ⊎ AreMet (map (λ word. ones_to word target) c.words.now) read.counts → target ≤ most_instants c.given → target ≤ c.horizon + c.block →
+    pub next : (read.reader.ended ≡ true) ⊎ AreMet (map (λ word. ones_to word target) c.words) read.counts → target ≤ most_instants c.given → target ≤ c.horizon + c.block →
         IsNext p first items now c (record c { reader = last; player = on; target = target; horizon = horizon }) lists
     next enough early near = record {
       more = more;

@@ -32,7 +32,8 @@ use Rattle.lucy_run.specs.Feeds.{Feeds, CountsAs, IsNeededFor, IsMainFeed}
 use Rattle.lucy_run.specs.Owes.{most_instants, input_words, lines_to, heading, EndsFor, IsFed, Interprets, OwesRun, OwesKahn, IsHorizonOf}
 use Rattle.lucy_lines.specs.Cuts.{ItemOf}
 use Rattle.lucy_output.specs.Writing.{WriterState}
-use Rattle.lucy_run.specs.Courses.{Program, CanRun, values, IsFedSoFar, HasWritten, IsOver, FailsBehind, wanting_at, BreaksOff, LinesAgree, LinesByBlock}
+use Rattle.lucy_run.specs.Courses.{Program, CanRun, values, IsFedSoFar, IsOver}
+use Rattle.lucy_run.specs.Played.{HasWritten, FailsBehind, wanting_at, BreaksOff, LinesAgree, LinesByBlock}
 use Rattle.lucy_feed.specs.Feeding.{IsAsked}
 use Rattle.lucy_feed.proofs.FeedLaws.{asked_as}
 use Rattle.lucy_run.specs.Ends.{EndsWith, EndsRun, Outputs, FailsInBlock}

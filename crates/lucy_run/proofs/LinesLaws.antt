@@ -19,7 +19,8 @@ use Rattle.lucy_meaning.proofs.Lists.{mapped}
 use Rattle.lucy_execution.specs.Streams.{main_word, param_words, result_words, main_stream, main_streams, later_stream, later_streams, cut_to}
 use Rattle.lucy_execution.specs.Running.{HasSchedule}
 use Rattle.lucy_execution.proofs.StreamLaws.{cut_at}
-use Rattle.lucy_run.specs.Courses.{Program, CanRun, LinesAgree, LinesByBlock}
+use Rattle.lucy_run.specs.Courses.{Program, CanRun}
+use Rattle.lucy_run.specs.Played.{LinesAgree, LinesByBlock}
 
 -- the streams of more instants, from inputs that go on, begin with those of fewer
 abbrev pub StreamsGoOn : Type 0

@@ -14,12 +14,11 @@ use Rattle.lucy_feed.specs.Feeding.{values_by_stream, IsAsked}
 use Rattle.lucy_feed.specs.Resuming.{FeedState, HasRead, PassesMore, ValuesInTurn}
 use Rattle.lucy_meaning.specs.Horizons.{Suffice, IsHorizon}
 use Rattle.lucy_execution.proofs.StreamLaws.{params_count}
-use Rattle.lucy_run.specs.declared.course.Course.{Course}
 use Rattle.lucy_run.specs.declared.ending.Ending.{Ending}
 use Rattle.lucy_run.specs.declared.ending.Ending.TheVariants as ending
 use Rattle.lucy_run.specs.Feeds.{Feeds}
 use Rattle.lucy_run.specs.Owes.{most_instants, EndsFor}
-use Rattle.lucy_run.specs.Courses.{Program, CanRun, words_of, values, HasFed, IsAlong, IsLast, HasStopped, IsOver}
+use Rattle.lucy_run.specs.Courses.{CourseView, Program, CanRun, words_of, values, HasFed, IsAlong, IsLast, HasStopped, IsOver}
 use Rattle.lucy_run.proofs.FedLaws.{read_nothing}
 use Rattle.lucy_run.proofs.ReadLaws.{fronts_same, suffice_longer, suffice_earlier, values_front, read_counts, fed_counts}
 
@@ -45,7 +44,7 @@ last_for p items block most horizon reader l (inl short) last = record {
 }
 
 -- the last horizon of a course is that of the run
-pub last_of : (p : Program) (first : SeenSource) (items : List ItemOf) (now : SeenSource) (c : Course) → IsAlong p first items now c → HasStopped c → IsLast p items (most_instants c.given) c.horizon c.reader
+pub last_of : (p : Program) (first : SeenSource) (items : List ItemOf) (now : SeenSource) (c : CourseView) → IsAlong p first items now c → HasStopped c → IsLast p items (most_instants c.given) c.horizon c.reader
 last_of p first items now c along (inl short) =
     last_for p items c.target (most_instants c.given) c.horizon c.reader along.early (inl (omega (arith, along.last.within, short))) along.last
 last_of p first items now c along (inr all) =
@@ -84,7 +83,7 @@ passed_many p can aim first before now reader new items fed passes some = many_a
         let counts = read_counts (input ∷ inputs) first now new (items ++ others) (has.0 ++ bytes) read in
         counts.many ∙ sym (ap length e) ∙ words_count p can
 
-module _ (p : Program) (can : CanRun p) (first : SeenSource) (items : List ItemOf) (before : SeenSource) (c : Course) (along : IsAlong p first items before c) (stopped : HasStopped c) where
+module _ (p : Program) (can : CanRun p) (first : SeenSource) (items : List ItemOf) (before : SeenSource) (c : CourseView) (along : IsAlong p first items before c) (stopped : HasStopped c) where
   last : IsLast p items (most_instants c.given) c.horizon c.reader
   last = last_of p first items before c along stopped
 

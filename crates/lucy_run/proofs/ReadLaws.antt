@@ -19,7 +19,8 @@ use Rattle.lucy_feed.proofs.FeedLaws.{asked_as, asks_as, asked_still}
 use Rattle.lucy_meaning.specs.Horizons.{Suffice}
 use Rattle.lucy_execution.specs.Playing.{joined}
 use Rattle.lucy_execution.proofs.LaterLaws.{joined_count, joined_at}
-use Rattle.lucy_run.specs.Courses.{HasFed, IsFedSoFar, ReadsOn, GivesUpBehind}
+use Rattle.lucy_run.specs.Courses.{HasFed, IsFedSoFar, GivesUpBehind}
+use Rattle.lucy_run.specs.Played.{ReadsOn}
 use Rattle.lucy_run.specs.Feeds.{IsShortOf}
 use Rattle.lucy_run.proofs.FedLaws.{read_nothing, fed_by_all}
 

@@ -10,16 +10,16 @@ use Rattle.lucy_output.specs.Writing.{WriterState, new_writer}
 use Rattle.lucy_clock.specs.declared.node_clock.NodeClock.{NodeClock}
 use Rattle.lucy_front.specs.declared.accepted.Accepted.{Accepted}
 use Rattle.lucy_run.specs.declared.pace.Pace.{Pace}
-use Rattle.lucy_run.specs.declared.course.Course.{Course}
 use Rattle.lucy_run.specs.declared.ending.Ending.{Ending}
 use Rattle.lucy_run.specs.declared.ending.Ending.TheVariants as ending
 use Rattle.lucy_run.specs.Owes.{most_instants, heading}
-use Rattle.lucy_run.specs.Courses.{CanRun, IsBegun, IsAlong, IsUnderWay, HasWritten, IsWritten, IsOver, BreaksOff, EndsOver, Plays, LinesAgree, LinesByBlock}
+use Rattle.lucy_run.specs.Courses.{CourseView, CanRun, IsBegun, IsAlong, IsUnderWay, IsOver, EndsOver}
+use Rattle.lucy_run.specs.Played.{HasWritten, IsWritten, BreaksOff, Plays, LinesAgree, LinesByBlock}
 use Rattle.lucy_run.proofs.OverLaws.{words_count}
 use Rattle.lucy_run.proofs.WriteLaws.{written_first}
 use Rattle.lucy_run.proofs.EndsLaws.{at_ok, at_err, empty_of, program, RunGives, run_whole, run_failed, run_out_of_memory}
 
-module _ (kinds : List HostKind) (a : Accepted) (pace : Pace) (can : CanRun (program kinds a pace.instants)) (source : SeenSource) (clocks : List NodeClock) (e : clocks ≡ a.clocks.items) (course : Course)
+module _ (kinds : List HostKind) (a : Accepted) (pace : Pace) (can : CanRun (program kinds a pace.instants)) (source : SeenSource) (clocks : List NodeClock) (e : clocks ≡ a.clocks.items) (course : CourseView)
     (begun : IsBegun kinds a.placed.nodes clocks a.inputs.items pace course) where
   begun_here : IsBegun kinds a.placed.nodes a.clocks.items a.inputs.items pace course
   begun_here = subst (λ cs. IsBegun kinds a.placed.nodes cs a.inputs.items pace course) e begun
@@ -28,8 +28,8 @@ module _ (kinds : List HostKind) (a : Accepted) (pace : Pace) (can : CanRun (pro
   begun_along = let (given_is, block_is, at, along) = begun_here in along source a.outputs.items
 
   -- of no inputs there are no words
-  pub no_inputs : a.inputs.items ≡ [] → course.words.now ≡ []
-  no_inputs none = empty_of course.words.now (ap length begun_along.words ∙ sym (words_count (program kinds a pace.instants) can) ∙ ap length none)
+  pub no_inputs : a.inputs.items ≡ [] → course.words ≡ []
+  no_inputs none = empty_of course.words (ap length begun_along.words ∙ sym (words_count (program kinds a pace.instants) can) ∙ ap length none)
 
   module _ (first_text : InstantByInstant) (outputs : List OutputSpec) (f : outputs ≡ a.outputs.items) (writer : WriterState) (new : writer ≡ new_writer outputs) (between : SeenSink) where
     begun_written : HasWritten (program kinds a pace.instants) between [] course.horizon between writer
@@ -38,7 +38,7 @@ module _ (kinds : List HostKind) (a : Accepted) (pace : Pace) (can : CanRun (pro
     pub written : IsWritten source between course writer
     written = (program kinds a pace.instants, source, between, [], can, begun_along, begun_written)
 
-    module _ (now : SeenSource) (out : SeenSink) (last : Course) (end : WriterState) (result : Result (Unit {0}) OutputError) (plays : Plays source now between out course last writer end result) (same : last.given ≡ course.given) where
+    module _ (now : SeenSource) (out : SeenSink) (last : CourseView) (end : WriterState) (result : Result (Unit {0}) OutputError) (plays : Plays source now between out course last writer end result) (same : last.given ≡ course.given) where
       -- the course came to its last block
       pub under_way : result ≡ Ok tt → IsUnderWay now last
       under_way is =
@@ -48,12 +48,12 @@ module _ (kinds : List HostKind) (a : Accepted) (pace : Pace) (can : CanRun (pro
       same_given : last.given ≡ pace.instants
       same_given = same ∙ begun_here.0
 
-      pub last_words : result ≡ Ok tt → a.inputs.items ≡ [] → last.words.now ≡ []
+      pub last_words : result ≡ Ok tt → a.inputs.items ≡ [] → last.words ≡ []
       last_words is none =
           let (items, on, stopped, lines) = at_ok result tt _ _ is (plays (program kinds a pace.instants) source between [] can begun_along begun_written) in
-          empty_of last.words.now (ap length on.words ∙ sym (words_count (program kinds a pace.instants) can) ∙ ap length none)
+          empty_of last.words (ap length on.words ∙ sym (words_count (program kinds a pace.instants) can) ∙ ap length none)
 
-      pub some_given : result ≡ Ok tt → (a.inputs.items ≡ [] → pace.instants ≡ None → ⊥) → last.words.now ≡ [] → last.given ≡ None → ⊥
+      pub some_given : result ≡ Ok tt → (a.inputs.items ≡ [] → pace.instants ≡ None → ⊥) → last.words ≡ [] → last.given ≡ None → ⊥
       some_given is some none absent =
           let (items, on, stopped, lines) = at_ok result tt _ _ is (plays (program kinds a pace.instants) source between [] can begun_along begun_written) in
           some (empty_of a.inputs.items (words_count (program kinds a pace.instants) can ∙ ap length (sym on.words ∙ none))) (sym same_given ∙ absent)

@@ -14,9 +14,9 @@ use Rattle.lucy_output.specs.Writing.{WriterState, new_writer}
 use Rattle.lucy_output.proofs.SinkLaws.{unwritten, writes_more}
 use Rattle.lucy_meaning.specs.Spots.{main_of, results_in}
 use Rattle.lucy_execution.specs.Streams.{main_word, main_streams, later_stream}
-use Rattle.lucy_run.specs.declared.course.Course.{Course}
 use Rattle.lucy_run.specs.Owes.{most_instants}
-use Rattle.lucy_run.specs.Courses.{Program, CanRun, words_of, values, lines_of, IsAlong, IsNext, HasWritten, BreaksOff, GivesUpBehind, LinesAgree, LinesByBlock}
+use Rattle.lucy_run.specs.Courses.{CourseView, Program, CanRun, words_of, values, IsAlong, IsNext, GivesUpBehind}
+use Rattle.lucy_run.specs.Played.{lines_of, HasWritten, BreaksOff, LinesAgree, LinesByBlock}
 use Rattle.lucy_run.proofs.ReadLaws.{fed_feeds}
 
 -- of an answer that is an error
@@ -35,10 +35,10 @@ written_first first_text p writer horizon new at sink =
     } in
     subst (λ n. HasWritten p sink [] n sink writer) (sym at) none
 
-module _ (p : Program) (first : SeenSource) (was : SeenSink) (items : List ItemOf) (before : SeenSource) (old : Course) (along : IsAlong p first items before old) (written : SeenSink) (writer : WriterState)
+module _ (p : Program) (first : SeenSource) (was : SeenSink) (items : List ItemOf) (before : SeenSource) (old : CourseView) (along : IsAlong p first items before old) (written : SeenSink) (writer : WriterState)
     (has : HasWritten p was items old.horizon written writer) where
   -- memory ran out before the next lines
-  pub broken_off : (now : SeenSource) (block most : ℕ) → most_instants old.given ≡ most → GivesUpBehind old.words.now old.target before now old.reader → BreaksOff p first was block most now written error.OutOfMemory
+  pub broken_off : (now : SeenSource) (block most : ℕ) → most_instants old.given ≡ most → GivesUpBehind old.words old.target before now old.reader → BreaksOff p first was block most now written error.OutOfMemory
   broken_off now block most same given_up = record {
     lists = values p items;
     done = old.horizon;
@@ -52,7 +52,7 @@ module _ (p : Program) (first : SeenSource) (was : SeenSink) (items : List ItemO
     left = has.lines;
   }
 
-  module _ (turn : ValuesInTurn) (blocks : LinesByBlock) (can : CanRun p) (now : SeenSource) (new : Course) (streams : List (List ℤ)) (next : IsNext p first items now old new streams) where
+  module _ (turn : ValuesInTurn) (blocks : LinesByBlock) (can : CanRun p) (now : SeenSource) (new : CourseView) (streams : List (List ℤ)) (next : IsNext p first items now old new streams) where
     -- there are lists enough
     pub lists_enough : length writer.outputs ≤ length streams
     lists_enough =

@@ -1,5 +1,5 @@
 // A run from block to block.
-ghost use Rattle.std.specs.Prelude.{◌≡◌, ◌≢◌, ◌≤◌, ◌<◌, ◌^◌, ◌⊎◌, [], None, true, false, map, length, IfOk, OnOk, OnErr};
+ghost use Rattle.std.specs.Prelude.{◌≡◌, ◌≢◌, ◌≤◌, ◌<◌, ◌+◌, ◌^◌, ◌⊎◌, [], None, true, false, map, length, IfOk, OnOk, OnErr};
 ghost use Rattle.lucy_word.specs.Bits.{ones_to};
 ghost use Rattle.lucy_host.specs.Host.{Serves, lent};
 ghost use Rattle.lucy_host.specs.Operators.{kinds_of};
@@ -11,7 +11,9 @@ ghost use Rattle.lucy_meaning.specs.Spots.{main_of};
 ghost use Rattle.lucy_kahn.specs.Turns.{params_in};
 ghost use Rattle.lucy_feed.specs.Resuming.{AreMet};
 ghost use Rattle.lucy_run.specs.Paces.{IsPace};
-ghost use Rattle.lucy_run.specs.Courses.{IsBegun, IsUnderWay, HasMore, HasStopped, ReadsOn, GivesUpBehind, CanGoOn, HasGoneOn, GoesOn, EndsOver};
+ghost use Rattle.lucy_run.specs.Owes as owes;
+ghost use Rattle.lucy_run.specs.Courses.{IsBegun, IsUnderWay, HasMore, HasStopped, GivesUpBehind, GoesOn, EndsOver};
+ghost use Rattle.lucy_run.specs.Played.{ReadsOn, CountsAllow, CanGoOn, HasGoneOn};
 
 use crate::ending::Ending;
 use crate::horizons::{ending_for, most_instants};
@@ -28,6 +30,7 @@ use lucy_text::Source;
 use lucy_word::{Limit, OutOfMemory, Word};
 use lucy_worker::Gate;
 use std::alloc::Global;
+use std::marker::Model;
 use std::thread::Threads;
 
 /// A run between blocks: what reads the items of main's inputs, and what runs the program from horizon to horizon.
@@ -43,6 +46,14 @@ pub struct Course<'a> {
     // to which instant the last block was to go, and to which it went
     target: u64,
     horizon: u64,
+}
+
+impl<'a> Model for Course<'a> {
+    ghost use Rattle.lucy_run.specs.Courses.{CourseView};
+
+    ghost Value = { CourseView };
+
+    ghost view = { λ c. record { words = c.words.now; reader = c.reader; player = c.player; given = c.given; block = c.block; target = c.target; horizon = c.horizon } };
 }
 
 // How many items of each input, of these words, so many instants need.
@@ -120,6 +131,32 @@ impl<'a> Course<'a> {
         self.horizon == self.target && self.target < most_instants(self.given)
     }
 
+    // To which instant the next block is to go.
+    fn next_target(&self) -> u64
+        requires { self.now.target + self.now.block < 2 ^ 64 }
+        ensures most { result ≤ owes.most_instants self.now.given }
+        ensures near { result ≤ self.now.target + self.now.block }
+        ensures least { (result ≡ owes.most_instants self.now.given) ⊎ (result ≡ self.now.target + self.now.block) }
+    {
+        most_instants(self.given).min(self.target + self.block)
+    }
+
+    // To which instant the items that were read allow, up to this one.
+    fn allowed(&self, target: u64) -> u64
+        requires { length self.now.reader.counts ≡ length self.now.words }
+        ensures { CountsAllow self.now.words self.now.reader.counts target result }
+    {
+        horizon(self.words, self.reader.counts(), target)
+    }
+
+    // The last block was to go to this instant, and went to this one.
+    fn stand_at(&mut self, target: u64, horizon: u64)
+        ensures { self.new ≡ record self.old { target = target; horizon = horizon } }
+    {
+        self.target = target;
+        self.horizon = horizon;
+    }
+
     // Reads until there are the items that so many instants need, or reading stops.
     fn read<I: Source>(
         &mut self,
@@ -127,12 +164,12 @@ impl<'a> Course<'a> {
         instants: u64,
         source: &mut I,
     ) -> Result<(), OutOfMemory>
-        requires { length self.old.words.now ≡ length self.old.reader.reader.inputs }
-        ensures reads { OnOk result (ReadsOn self.old.words.now instants (I.seen source.old) (I.seen source.new) self.old.reader self.new.reader) }
-        ensures gives_up { OnErr result (GivesUpBehind self.old.words.now self.old.target (I.seen source.old) (I.seen source.new) self.old.reader) }
-        ensures enough { OnOk result ((self.new.reader.reader.ended ≡ true) ⊎ AreMet (map (λ word. ones_to word instants) self.old.words.now) self.new.reader.counts) }
+        requires { length self.old.words ≡ length self.old.reader.reader.inputs }
+        ensures reads { OnOk result (ReadsOn self.old.words instants (I.seen source.old) (I.seen source.new) self.old.reader self.new.reader) }
+        ensures gives_up { OnErr result (GivesUpBehind self.old.words self.old.target (I.seen source.old) (I.seen source.new) self.old.reader) }
+        ensures enough { OnOk result ((self.new.reader.reader.ended ≡ true) ⊎ AreMet (map (λ word. ones_to word instants) self.old.words) self.new.reader.counts) }
         ensures rest { self.new ≡ record self.old { reader = self.new.reader } }
-        ensures unread { self.old.words.now ≡ [] → source.new ≡ source.old }
+        ensures unread { self.old.words ≡ [] → source.new ≡ source.old }
         ensures count { (I.seen source.old).faults ≤ (I.seen source.new).faults }
     {
         values_in_turn();
@@ -190,29 +227,28 @@ impl<'a> Course<'a> {
         requires under_way { IsUnderWay (I.seen source.old) self.old }
         requires more { HasMore self.old }
         ensures goes_on { IfOk result (GoesOn (I.seen source.old) (I.seen source.new) self.old self.new) }
-        ensures gives_up { OnErr result (GivesUpBehind self.old.words.now self.old.target (I.seen source.old) (I.seen source.new) self.old.reader) }
+        ensures gives_up { OnErr result (GivesUpBehind self.old.words self.old.target (I.seen source.old) (I.seen source.new) self.old.reader) }
         ensures ahead { OnOk result (self.old.target < self.new.target) }
         ensures given { self.new.given ≡ self.old.given }
         ensures block { self.new.block ≡ self.old.block }
-        ensures unread { self.old.words.now ≡ [] → source.new ≡ source.old }
+        ensures unread { self.old.words ≡ [] → source.new ≡ source.old }
         ensures count { (I.seen source.old).faults ≤ (I.seen source.new).faults }
     {
         values_in_turn();
-        let target = most_instants(self.given).min(self.target + self.block);
+        let target = self.next_target();
         self.read(alloc, target, source)?;
-        let horizon = horizon(self.words, self.reader.counts(), target);
+        let horizon = self.allowed(target);
         let streams = self.go_on(rt, alloc, host, gate, horizon)?;
-        self.target = target;
-        self.horizon = horizon;
+        self.stand_at(target, horizon);
         Ok(streams)
     }
 
     /// Reads the input on to its stop. How the run ends.
     pub fn finish<I: Source>(mut self, source: &mut I) -> Ending
         requires under_way { IsUnderWay (I.seen source.old) self }
-        requires given { self.words.now ≡ [] → self.given ≢ None }
+        requires given { self.words ≡ [] → self.given ≢ None }
         ensures over { EndsOver (I.seen source.old) (I.seen source.new) self.entry result }
-        ensures unread { self.entry.words.now ≡ [] → source.new ≡ source.old }
+        ensures unread { self.entry.words ≡ [] → source.new ≡ source.old }
         ensures count { (I.seen source.old).faults ≤ (I.seen source.new).faults }
     {
         if self.words.is_empty() {

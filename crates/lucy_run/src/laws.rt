@@ -1,5 +1,5 @@
 // Laws of what is owed, on functions that call the laws of feeds and horizons alone.
-ghost use Rattle.lucy_run.specs.Courses.{LinesAgree, LinesByBlock};
+ghost use Rattle.lucy_run.specs.Played.{LinesAgree, LinesByBlock};
 ghost use Rattle.lucy_run.specs.Laws.{OneRun, OneInterpretation, SameLines, CompleteRun, CompleteInterpretation};
 
 use lucy_execution::streams_go_on;

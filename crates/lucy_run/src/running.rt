@@ -10,7 +10,7 @@ ghost use Rattle.lucy_front.specs.Accepting.{IsAccepted};
 ghost use Rattle.lucy_front.specs.Report.{IsReportable};
 ghost use Rattle.lucy_run.specs.Owes as owes;
 ghost use Rattle.lucy_run.specs.Paces.{IsPace};
-ghost use Rattle.lucy_run.specs.Courses.{IsWritten, Plays};
+ghost use Rattle.lucy_run.specs.Played.{IsWritten, Plays};
 ghost use Rattle.lucy_run.specs.Ends.{EndsRun};
 
 use crate::course::Course;
@@ -53,7 +53,7 @@ fn play<R: Threads + Sync, F: Fn(u32, i64, i64) -> i64 + Sync, G: Gate + Sync, I
     requires written { IsWritten (I.seen source.old) (O.seen out.old) course.old writer.old }
     ensures plays { Plays (I.seen source.old) (I.seen source.new) (O.seen out.old) (O.seen out.new) course.old course.new writer.old writer.new result }
     ensures given { course.new.given ≡ course.old.given }
-    ensures unread { course.old.words.now ≡ [] → source.new ≡ source.old }
+    ensures unread { course.old.words ≡ [] → source.new ≡ source.old }
     ensures source_count { (I.seen source.old).faults ≤ (I.seen source.new).faults }
     ensures out_count { (O.seen out.old).faults ≤ (O.seen out.new).faults }
 {

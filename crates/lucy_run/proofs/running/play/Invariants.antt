@@ -2,7 +2,8 @@ use Rattle.std.proofs.Common.{◌-◌, ◌≤◌, ◌≡◌, List, []}
 use Rattle.lucy_lines.specs.Cuts.{ItemOf}
 use Rattle.lucy_text.specs.Outside.{SeenSource, SeenSink}
 use Rattle.lucy_run.specs.Owes.{most_instants}
-use Rattle.lucy_run.specs.Courses.{Program, CanRun, IsAlong, HasWritten}
+use Rattle.lucy_run.specs.Courses.{Program, CanRun, IsAlong}
+use Rattle.lucy_run.specs.Played.{HasWritten}
 use Rattle.lucy_run.proofs.running.play.Given as goal
 
 -- the lines so far stand there
@@ -13,7 +14,7 @@ invariant-blocks-2 g l = record {
       (all : List ItemOf) × IsAlong p first all (g.I.Source.seen l.source) l.course × HasWritten p was all l.course.horizon (g.O.Sink.seen l.out) l.writer;
   given : l.course.given ≡ l.fn.course.given;
   block : l.course.block ≡ l.fn.course.block;
-  unread : l.fn.course.words.now ≡ [] → l.source ≡ l.fn.source;
+  unread : l.fn.course.words ≡ [] → l.source ≡ l.fn.source;
   source_count : (g.I.Source.seen l.fn.source).faults ≤ (g.I.Source.seen l.source).faults;
   out_count : (g.O.Sink.seen l.fn.out).faults ≤ (g.O.Sink.seen l.out).faults;
 }

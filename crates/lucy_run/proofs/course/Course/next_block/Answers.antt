@@ -1,11 +1,11 @@
 use Rattle.std.proofs.Common.{◌+◌, ◌≤◌, length, ap, sym, ◌∙◌, subst, arith}
-use Rattle.lucy_run.specs.declared.course.Course.{Course}
-use Rattle.lucy_run.specs.Courses.{words_of, CanGoOn, HasGoneOn, IsNext}
+use Rattle.lucy_run.specs.Courses.{CourseView, words_of, IsNext}
+use Rattle.lucy_run.specs.Played.{CountsAllow, CanGoOn, HasGoneOn}
 use Rattle.lucy_run.specs.Owes.{most_instants}
 use Rattle.lucy_output.proofs.SinkLaws.{on_err}
 use Rattle.lucy_run.proofs.ReadLaws.{fed_counts, gives_up_on}
 use Rattle.lucy_run.proofs.OverLaws.{words_count}
-use Rattle.lucy_run.proofs.CourseLaws.{CountsAllow, read_behind, can_go_on, next}
+use Rattle.lucy_run.proofs.CourseLaws.{read_behind, can_go_on, next}
 use Rattle.lucy_run.proofs.course.Course.next_block.Goals as goal
 
 pub read-requires : goal.read-requires
@@ -13,53 +13,57 @@ read-requires g c =
     let (p, first, items, can, along) = c.requires.under_way in
     ap length along.words ∙ sym (words_count p can) ∙ sym (ap length along.kept)
 
-pub horizon-horizon-requires : goal.horizon-horizon-requires
-horizon-horizon-requires g c =
+pub next_target-target-requires : goal.next_target-target-requires
+next_target-target-requires g c =
     let (p, first, items, can, along) = c.requires.under_way in
-    let ahead : c.args.self.now.target ≤ c.min-target.result = omega (arith, c.min-target.ensures, c.most_instants.ensures, along.early) in
+    omega (arith, along.early, along.few, along.block.1)
+
+pub allowed-horizon-requires : goal.allowed-horizon-requires
+allowed-horizon-requires g c =
+    let (p, first, items, can, along) = c.requires.under_way in
+    let ahead : c.args.self.now.target ≤ c.next_target-target.result = omega (arith, c.next_target-target.ensures.least, along.early) in
     let (more, fed, fresh, kept) = read_behind p first items (g.I.Source.seen c.args.source.now) c.args.self.now along (g.I.Source.seen c.read.new.source) c.read.new.self.reader
-    c.min-target.result ahead c.in_ok-read.ensures.reads in
-    let many = (fed_counts (words_of p) c.min-target.result p.inputs first (g.I.Source.seen c.read.new.source) c.read.new.self.reader _ fed).many in
-    ap length c.counts.ensures ∙ many ∙ words_count p can ∙ sym (ap length along.words) ∙ sym (ap (λ (x : Course). length x.words.now) c.in_ok-read.ensures.rest)
+    c.next_target-target.result ahead c.in_ok-read.ensures.reads in
+    let many = (fed_counts (words_of p) c.next_target-target.result p.inputs first (g.I.Source.seen c.read.new.source) c.read.new.self.reader _ fed).many in
+    many ∙ words_count p can ∙ sym (ap length along.words) ∙ sym (ap (λ (x : CourseView). length x.words) c.in_ok-read.ensures.rest)
 
 pub go_on-requires-clause-kinds : goal.go_on-requires-clause-kinds
-go_on-requires-clause-kinds g c κs within = c.requires.kinds ∙ sym (ap (λ (x : Course). x.player.kinds) c.in_ok-read.ensures.rest)
+go_on-requires-clause-kinds g c κs within = c.requires.kinds ∙ sym (ap (λ (x : CourseView). x.player.kinds) c.in_ok-read.ensures.rest)
 
 pub go_on-requires-clause-can : goal.go_on-requires-clause-can
 go_on-requires-clause-can g c κs within =
     let (p, first, items, can, along) = c.requires.under_way in
-    let ahead : c.args.self.now.target ≤ c.min-target.result = omega (arith, c.min-target.ensures, c.most_instants.ensures, along.early) in
+    let ahead : c.args.self.now.target ≤ c.next_target-target.result = omega (arith, c.next_target-target.ensures.least, along.early) in
     let (more, fed, fresh, kept) = read_behind p first items (g.I.Source.seen c.args.source.now) c.args.self.now along (g.I.Source.seen c.read.new.source) c.read.new.self.reader
-    c.min-target.result ahead c.in_ok-read.ensures.reads in
-    let early : c.min-target.result ≤ most_instants c.args.self.now.given = omega (arith, c.min-target.ensures, c.most_instants.ensures) in
-    let words = ap (λ (x : Course). x.words.now) c.in_ok-read.ensures.rest in
-    let allow : CountsAllow c.args.self.now.words.now c.read.new.self.reader.counts c.min-target.result c.horizon-horizon.result =
-    subst (λ ws. CountsAllow ws c.read.new.self.reader.counts c.min-target.result c.horizon-horizon.result) words
-    (subst (λ ks. CountsAllow c.read.new.self.words.now ks c.min-target.result c.horizon-horizon.result) c.counts.ensures c.horizon-horizon.ensures) in
-    subst (λ v. CanGoOn v c.read.new.self.reader.fresh c.horizon-horizon.result) (sym (ap (λ (x : Course). x.player) c.in_ok-read.ensures.rest))
+    c.next_target-target.result ahead c.in_ok-read.ensures.reads in
+    let early : c.next_target-target.result ≤ most_instants c.args.self.now.given = c.next_target-target.ensures.most in
+    let words = ap (λ (x : CourseView). x.words) c.in_ok-read.ensures.rest in
+    let allow : CountsAllow c.args.self.now.words c.read.new.self.reader.counts c.next_target-target.result c.allowed-horizon.result =
+    subst (λ ws. CountsAllow ws c.read.new.self.reader.counts c.next_target-target.result c.allowed-horizon.result) words c.allowed-horizon.ensures in
+    subst (λ v. CanGoOn v c.read.new.self.reader.fresh c.allowed-horizon.result) (sym (ap (λ (x : CourseView). x.player) c.in_ok-read.ensures.rest))
     (can_go_on c.values_in_turn.ensures p first items (g.I.Source.seen c.args.source.now) c.args.self.now along (g.I.Source.seen c.read.new.source) c.read.new.self.reader more
-    c.min-target.result fed fresh kept c.horizon-horizon.result ahead allow early)
+    c.next_target-target.result fed fresh kept c.allowed-horizon.result ahead allow early)
 
 pub returns-in_err-streams-clause-gives_up : goal.returns-in_err-streams-clause-gives_up
 returns-in_err-streams-clause-gives_up g c =
-    let ahead : c.args.self.now.target ≤ c.min-target.result = omega (arith, c.min-target.ensures, c.most_instants.ensures, c.requires.more.1) in
-    on_err _ _ (gives_up_on c.values_in_turn.ensures c.args.self.now.words.now c.args.self.now.target c.min-target.result ahead _ _ c.args.self.now.reader c.read.new.self.reader c.in_ok-read.ensures.reads)
+    let ahead : c.args.self.now.target ≤ c.next_target-target.result = omega (arith, c.next_target-target.ensures.least, c.requires.more.1) in
+    on_err _ _ (gives_up_on c.values_in_turn.ensures c.args.self.now.words c.args.self.now.target c.next_target-target.result ahead _ _ c.args.self.now.reader c.read.new.self.reader c.in_ok-read.ensures.reads)
 
 pub returns-clause-goes_on : goal.returns-clause-goes_on
 returns-clause-goes_on g c = λ p first items can along.
-    let ahead : c.args.self.now.target ≤ c.min-target.result = omega (arith, c.min-target.ensures, c.most_instants.ensures, along.early) in
+    let ahead : c.args.self.now.target ≤ c.next_target-target.result = omega (arith, c.next_target-target.ensures.least, along.early) in
     let (more, fed, fresh, kept) = read_behind p first items (g.I.Source.seen c.args.source.now) c.args.self.now along (g.I.Source.seen c.read.new.source) c.read.new.self.reader
-    c.min-target.result ahead c.in_ok-read.ensures.reads in
-    let early : c.min-target.result ≤ most_instants c.args.self.now.given = omega (arith, c.min-target.ensures, c.most_instants.ensures) in
-    let near : c.min-target.result ≤ c.args.self.now.horizon + c.args.self.now.block = omega (arith, c.min-target.ensures, c.requires.more.0) in
-    let words = ap (λ (x : Course). x.words.now) c.in_ok-read.ensures.rest in
-    let allow : CountsAllow c.args.self.now.words.now c.read.new.self.reader.counts c.min-target.result c.horizon-horizon.result =
-    subst (λ ws. CountsAllow ws c.read.new.self.reader.counts c.min-target.result c.horizon-horizon.result) words
-    (subst (λ ks. CountsAllow c.read.new.self.words.now ks c.min-target.result c.horizon-horizon.result) c.counts.ensures c.horizon-horizon.ensures) in
-    let gone : HasGoneOn c.read.new.self.reader c.args.self.now.player c.go_on.new.self.reader c.go_on.new.self.player c.horizon-horizon.result c.in_ok-streams.streams =
-    subst (λ v. HasGoneOn c.read.new.self.reader v c.go_on.new.self.reader c.go_on.new.self.player c.horizon-horizon.result c.in_ok-streams.streams)
-    (ap (λ (x : Course). x.player) c.in_ok-read.ensures.rest) c.in_ok-streams.ensures.gone in
-    let all = c.in_ok-streams.ensures.rest ∙ ap (λ (x : Course). record x { reader = c.go_on.new.self.reader; player = c.go_on.new.self.player }) c.in_ok-read.ensures.rest in
-    subst (λ (x : Course). IsNext p first items (g.I.Source.seen c.read.new.source) c.args.self.now (record x { target = c.min-target.result; horizon = c.horizon-horizon.result }) c.in_ok-streams.streams) (sym all)
+    c.next_target-target.result ahead c.in_ok-read.ensures.reads in
+    let early : c.next_target-target.result ≤ most_instants c.args.self.now.given = c.next_target-target.ensures.most in
+    let near : c.next_target-target.result ≤ c.args.self.now.horizon + c.args.self.now.block = omega (arith, c.next_target-target.ensures.near, c.requires.more.0) in
+    let words = ap (λ (x : CourseView). x.words) c.in_ok-read.ensures.rest in
+    let allow : CountsAllow c.args.self.now.words c.read.new.self.reader.counts c.next_target-target.result c.allowed-horizon.result =
+    subst (λ ws. CountsAllow ws c.read.new.self.reader.counts c.next_target-target.result c.allowed-horizon.result) words c.allowed-horizon.ensures in
+    let gone : HasGoneOn c.read.new.self.reader c.args.self.now.player c.go_on.new.self.reader c.go_on.new.self.player c.allowed-horizon.result c.in_ok-streams.streams =
+    subst (λ v. HasGoneOn c.read.new.self.reader v c.go_on.new.self.reader c.go_on.new.self.player c.allowed-horizon.result c.in_ok-streams.streams)
+    (ap (λ (x : CourseView). x.player) c.in_ok-read.ensures.rest) c.in_ok-streams.ensures.gone in
+    let all = c.in_ok-streams.ensures.rest ∙ ap (λ (x : CourseView). record x { reader = c.go_on.new.self.reader; player = c.go_on.new.self.player }) c.in_ok-read.ensures.rest in
+    subst (λ (x : CourseView). IsNext p first items (g.I.Source.seen c.read.new.source) c.args.self.now x c.in_ok-streams.streams)
+    (sym (c.stand_at.ensures ∙ ap (λ (x : CourseView). record x { target = c.next_target-target.result; horizon = c.allowed-horizon.result }) all))
     (next c.values_in_turn.ensures p first items (g.I.Source.seen c.args.source.now) c.args.self.now along (g.I.Source.seen c.read.new.source) c.read.new.self.reader more
-    c.min-target.result fed fresh kept c.horizon-horizon.result ahead allow c.go_on.new.self.reader c.go_on.new.self.player c.in_ok-streams.streams gone c.in_ok-read.ensures.enough early near)
+    c.next_target-target.result fed fresh kept c.allowed-horizon.result ahead allow c.go_on.new.self.reader c.go_on.new.self.player c.in_ok-streams.streams gone c.in_ok-read.ensures.enough early near)
