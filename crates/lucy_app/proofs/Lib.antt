@@ -16,4 +16,5 @@ mod RunEnds
 mod Accepting
 mod Statuses
 mod Suited
+mod OneOutput
 mod Reports

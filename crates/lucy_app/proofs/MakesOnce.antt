@@ -58,11 +58,11 @@ made_one cut horizons inputs words lists others horizon last end other p q =
     )
 
 module _ (stages : ℕ) (kinds : List HostKind) (a b : Accepted) (same : AreSame a b) where
-  values_same : (lists : List (List ℤ)) (horizon : ℕ) → printed_values kinds a lists horizon ≡ printed_values kinds b lists horizon
+  pub values_same : (lists : List (List ℤ)) (horizon : ℕ) → printed_values kinds a lists horizon ≡ printed_values kinds b lists horizon
   values_same lists horizon =
       ap (λ ns. first_of (main_streams kinds lists ns a.clocks.items horizon)) same.nodes ∙ ap (λ cs. first_of (main_streams kinds lists b.placed.nodes cs horizon)) same.clocks
 
-  words_same : input_words a ≡ input_words b
+  pub words_same : input_words a ≡ input_words b
   words_same = ap (λ ns. param_words ns a.clocks.items) same.nodes ∙ ap (λ cs. param_words b.placed.nodes cs) same.clocks
 
   pub summary_moves : (output : List ℕ) (end : Ending) → OwesSummary stages kinds a output end → OwesSummary stages kinds b output end

@@ -229,17 +229,15 @@ module _ (cut : OneCut) (horizons : OneHorizon) (run : CompleteRun) (kahn : Comp
       (ran_done (λ p. OwesSummary stages kinds p) given.operators (inferring_options 1 1) None given.stop (made_text stages) [] a output is
       (λ b out end same owed. made_ends cut horizons stages kinds a lists horizon out end is.1 fed (summary_moves stages kinds b a same out end owed) ∙ ap printed (sym lines))) well ends
 
--- where each of these outputs stands, or memory ran out, all stand or it did
-finishes_all : (before after : World) (status : ℕ) (May : List ℕ → Type 0) → ((output : List ℕ) → May output → Finishes output before after status) → (output : List ℕ) → May output →
-    ((status ≡ 0) × ((other : List ℕ) → May other → Answers (printed other) before.out after.out before.err after.err status)) ⊎ (status ≡ 7)
-finishes_all before after status May each output may = elim (each output may) [
-  | inl whole ↦ inl (whole.0, λ other m. elim (each other m) [ inl stands ↦ stands.1 | inr short ↦ absurd (omega (arith, whole.0, short)) ])
-  | inr short ↦ inr short
-]
+-- an output that may stand does, or memory ran out
+stands : (command : Command) (before after : World) (output : List ℕ) (status : ℕ) → MayPrint command before output → Finishes output before after status →
+    ((status ≡ 0) × (other : List ℕ) × MayPrint command before other × Answers (printed other) before.out after.out before.err after.err status) ⊎ (status ≡ 7)
+stands command before after output status may (inl whole) = inl (whole.0, output, may, whole.1)
+stands command before after output status may (inr short) = inr short
 
 pub suited_done : OneCut → OneHorizon → CompleteRun → CompleteInterpretation → Completes
 suited_done cut horizons run kahn command before after status (inl (given, met, ends)) well (output, may) =
-    finishes_all before after status (MayPrint command before)
-    (λ o m. carried_out cut horizons run kahn before after o status well command given met ends (met_suits command before given.operators o met.operators m)) output may
+    stands command before after output status may
+    (carried_out cut horizons run kahn before after output status well command given met ends (met_suits command before given.operators output met.operators may))
 suited_done cut horizons run kahn command before after status (inr declines) well (output, may) =
-    finishes_all before after status (MayPrint command before) (λ o m. declined before after o status well declines) output may
+    stands command before after output status may (declined before after output status well declines)

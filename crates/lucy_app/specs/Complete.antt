@@ -63,7 +63,7 @@ MayPrint (Make words) before output =
 abbrev pub Suits : Command → World → Type 0
 Suits command before = (output : List ℕ) × MayPrint command before output
 
--- then the command is done and the output that may stand does, whole, or memory runs out
+-- then the command is done and an output that may stand does, whole, or memory runs out
 abbrev pub Completes : Type 0
 Completes = (command : Command) (before after : World) (status : ℕ) → Ends (Some command) before after status → IsFaultless before after → Suits command before →
-    ((status ≡ 0) × ((output : List ℕ) → MayPrint command before output → Answers (printed output) before.out after.out before.err after.err status)) ⊎ (status ≡ 7)
+    ((status ≡ 0) × (output : List ℕ) × MayPrint command before output × Answers (printed output) before.out after.out before.err after.err status) ⊎ (status ≡ 7)

@@ -1,10 +1,10 @@
 // Laws of what commands owe.
 ghost use Rattle.std.specs.Prelude.{◌≡◌, ℕ, List};
 ghost use Rattle.lucy_command.specs.Commands.{Command, Order, Show};
-ghost use Rattle.lucy_app.specs.World.{Given};
+ghost use Rattle.lucy_app.specs.World.{World, Given};
 ghost use Rattle.lucy_app.specs.Answers.{Answer, Alike};
 ghost use Rattle.lucy_app.specs.Owes.{Owes};
-ghost use Rattle.lucy_app.specs.Complete.{Completes};
+ghost use Rattle.lucy_app.specs.Complete.{MayPrint, Completes};
 
 use lucy_lines::one_cut;
 use lucy_meaning::one_horizon;
@@ -21,6 +21,14 @@ pub fn one_answer()
     one_horizon();
     one_run();
     one_interpretation();
+}
+
+/// Of a command that nothing refuses one output may stand.
+pub fn one_output()
+    ensures { (command : Command) (before : World) (a b : List ℕ) → MayPrint command before a → MayPrint command before b → a ≡ b }
+{
+    one_cut();
+    one_horizon();
 }
 
 /// A command that nothing refuses is done, and its whole output stands, or memory runs out: its FILE is told and is a program that

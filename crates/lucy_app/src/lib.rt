@@ -28,6 +28,6 @@ mod top;
 mod types;
 
 pub use input_refusal::InputCause;
-pub use laws::{one_answer, suited_commands_are_done};
+pub use laws::{one_answer, one_output, suited_commands_are_done};
 pub use operators::program_operators;
 pub use top::lucy;

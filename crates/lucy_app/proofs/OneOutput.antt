@@ -1,0 +1,124 @@
+-- At most one output may stand for a command.
+use Rattle.std.proofs.Common.{ℕ, ◌≡◌, ◌≤◌, List, [], ◌∷◌, ◌++◌, length, Option, Some, None, refl, ap, sym, ◌∙◌, subst, inl}
+use Rattle.std.specs.Prelude.{ℤ, IsSomeAnd, codes}
+use Rattle.lucy_word.specs.Bits.{Bits}
+use Rattle.lucy_word.specs.Limits.{limit_number}
+use Rattle.lucy_word.specs.declared.limit.Limit.TheVariants as limit
+use Rattle.lucy_host.specs.Operators.{Operator, kinds_of}
+use Rattle.lucy_host.specs.declared.kind.HostKind.{HostKind}
+use Rattle.lucy_text.specs.Shelf.{Files, SeenShelf}
+use Rattle.lucy_lines.specs.Laws.{OneCut}
+use Rattle.lucy_lines.specs.declared.input.InputSpec.{InputSpec}
+use Rattle.lucy_feed.specs.Sources.{Ended}
+use Rattle.lucy_front.specs.declared.options.Options.{Options}
+use Rattle.lucy_front.specs.declared.accepted.Accepted.{Accepted}
+use Rattle.lucy_front.specs.declared.refusal.Refusal.{Refusal}
+use Rattle.lucy_front.specs.Accepting.{IsAccepted}
+use Rattle.lucy_front.specs.Report.{report}
+use Rattle.lucy_run.specs.Feeds.{IsInput}
+use Rattle.lucy_run.specs.Owes.{most_instants, input_words, heading, lines_to, stream_lines, IsHorizonOf}
+use Rattle.lucy_run.specs.Laws.{IsFedWell}
+use Rattle.lucy_run.proofs.OwesLaws.{OneHorizon}
+use Rattle.lucy_make.specs.Text.{made_text, made_input}
+use Rattle.lucy_make.specs.Figures.{figures}
+use Rattle.lucy_make.specs.Owes.{printed_values}
+use Rattle.lucy_command.specs.Commands.{Command, Order, Show, Types, Check, Clocks, Run, Kahn, Make}
+use Rattle.lucy_app.specs.Commands.{written_options, inferring_options}
+use Rattle.lucy_app.specs.World.{World}
+use Rattle.lucy_app.specs.Order.{IsVerdictLine}
+use Rattle.lucy_app.specs.Show.{IsPrintOf, RefusesSyntax}
+use Rattle.lucy_app.specs.Types.{IsReportOf, RefusesText}
+use Rattle.lucy_app.specs.Check.{IsCheckOf, RefusesCheck}
+use Rattle.lucy_app.specs.Running.{IsRunnable}
+use Rattle.lucy_app.specs.Complete.{Holds, HoldsSuch, MayPrint}
+use Rattle.lucy_app.proofs.Causes.{one_line}
+use Rattle.lucy_app.proofs.Verdicts.{IsVerdict, show_verdict}
+use Rattle.lucy_app.proofs.Typed.{types_verdict}
+use Rattle.lucy_app.proofs.Checked.{check_verdict}
+use Rattle.lucy_app.proofs.RunsOnce.{AreSame, accepted_same}
+use Rattle.lucy_app.proofs.MakesOnce.{whole_feeds, values_same, words_same}
+
+-- a shelf tells one text under a name
+told_one : (files : Option Files) (file text other : List ℕ) → IsSomeAnd files (λ held. held file ≡ Some text) → IsSomeAnd files (λ held. held file ≡ Some other) → text ≡ other
+told_one None file text other is also = absurd is
+told_one (Some files) file text other is also = let e : Some text ≡ Some other = sym is ∙ also in cc e
+
+pub held_one : (shelf : SeenShelf) (file text other : List ℕ) → Holds shelf file text → Holds shelf file other → text ≡ other
+held_one shelf file text other is also = told_one shelf.files file text other is.0 also.0
+
+-- a text has one print
+print_one : (Prints : List ℕ → List ℕ → Type 0) (Refuses : List ℕ → Refusal → Type 0) → IsVerdict Prints Refuses → (shelf : SeenShelf) (file a b : List ℕ) →
+    HoldsSuch (λ text. Prints text a) shelf file → HoldsSuch (λ text. Prints text b) shelf file → a ≡ b
+print_one Prints Refuses v shelf file a b (text, holds, is) (other, held, also) =
+    v.one other a b (subst (λ t. Prints t a) (held_one shelf file text other holds held) is) also
+
+-- and is one program
+program_one : (ops : List Operator) (o : Options) (instants : Option ℕ) (shelf : SeenShelf) (file : List ℕ) (a b : Accepted) →
+    HoldsSuch (λ text. IsRunnable ops o instants text a) shelf file → HoldsSuch (λ text. IsRunnable ops o instants text b) shelf file → AreSame a b
+program_one ops o instants shelf file a b (text, holds, is) (other, held, also) =
+    accepted_same ops o other a b (subst (λ t. IsAccepted ops o t a) (held_one shelf file text other holds held) is.0) also.0
+
+-- `order` prints one line
+line_one : (left : Option (List ℕ)) (a b : List ℕ) → IsSomeAnd left (λ bytes. IsVerdictLine bytes a × (length bytes ≤ limit_number limit.OrderInput)) →
+    IsSomeAnd left (λ bytes. IsVerdictLine bytes b × (length bytes ≤ limit_number limit.OrderInput)) → a ≡ b
+line_one None a b is also = absurd is
+line_one (Some bytes) a b is also = one_line bytes a b is.0 also.0
+
+-- an input that is told feeds main one list of lists
+input_one : OneCut → (inputs : List InputSpec) (left : Option (List ℕ)) (lists others : List (List ℤ)) → IsInput inputs left lists → IsInput inputs left others → lists ≡ others
+input_one cut [] left lists others is also = is ∙ sym also
+input_one cut (input ∷ inputs) None lists others is also = absurd is
+input_one cut (input ∷ inputs) (Some bytes) lists others is also =
+    (whole_feeds cut (input ∷ inputs) bytes Ended Ended lists others None None (inl refl) (inl refl) is also).0
+
+module _ (cut : OneCut) (horizons : OneHorizon) (kinds : List HostKind) (a b : Accepted) (same : AreSame a b) (given : Option ℕ) (left : Option (List ℕ)) (lists others : List (List ℤ)) (horizon last : ℕ)
+    (fed : IsFedWell a given left lists horizon) (also : IsFedWell b given left others last) where
+  lists_same : lists ≡ others
+  lists_same = input_one cut b.inputs.items left lists others (subst (λ ins. IsInput ins left lists) same.inputs fed.input) also.input
+
+  horizon_same : horizon ≡ last
+  horizon_same =
+      let P : List Bits → Type 0 = λ ws. IsHorizonOf ws given lists horizon in
+      let Q : List (List ℤ) → Type 0 = λ ls. IsHorizonOf (input_words b) given ls horizon in
+      horizons (input_words b) others (most_instants given) horizon last (subst Q lists_same (subst P (words_same 0 kinds a b same) fed.horizon_is)) also.horizon_is
+
+  -- its lines are the same
+  lines_same : lines_to kinds a lists horizon ≡ lines_to kinds b others last
+  lines_same =
+      ap (λ ns. stream_lines kinds ns a.clocks.items a.outputs.items lists horizon) same.nodes ∙ ap (λ cs. stream_lines kinds b.placed.nodes cs a.outputs.items lists horizon) same.clocks
+      ∙ ap (λ os. stream_lines kinds b.placed.nodes b.clocks.items os lists horizon) same.outputs ∙ ap (λ ls. stream_lines kinds b.placed.nodes b.clocks.items b.outputs.items ls horizon) lists_same
+      ∙ ap (λ t. stream_lines kinds b.placed.nodes b.clocks.items b.outputs.items others t) horizon_same
+
+  -- with the report before them too
+  run_same : heading a ++ lines_to kinds a lists horizon ≡ heading b ++ lines_to kinds b others last
+  run_same =
+      let head : heading a ≡ heading b =
+      ap (λ ns. report ns a.typed a.clocks.items ++ codes "run\n") same.nodes ∙ ap (λ ts. report b.placed.nodes ts a.clocks.items ++ codes "run\n") same.typed
+      ∙ ap (λ cs. report b.placed.nodes b.typed cs ++ codes "run\n") same.clocks in
+      ap (λ h. h ++ lines_to kinds a lists horizon) head ∙ ap (λ ls. heading b ++ ls) lines_same
+
+  -- and so are the figures
+  figures_same : (stages : ℕ) → figures stages a.net horizon (printed_values kinds a lists horizon) ≡ figures stages b.net last (printed_values kinds b others last)
+  figures_same stages =
+      ap (λ net. figures stages net horizon (printed_values kinds a lists horizon)) same.net ∙ ap (λ vs. figures stages b.net horizon vs) (values_same stages kinds a b same lists horizon)
+      ∙ ap (λ ls. figures stages b.net horizon (printed_values kinds b ls horizon)) lists_same ∙ ap (λ t. figures stages b.net t (printed_values kinds b others t)) horizon_same
+
+pub output_one : OneCut → OneHorizon → (command : Command) (before : World) (a b : List ℕ) → MayPrint command before a → MayPrint command before b → a ≡ b
+output_one cut horizons Order before a b is also = line_one before.source.left a b is also
+output_one cut horizons (Show file) before a b is also = print_one IsPrintOf RefusesSyntax show_verdict before.shelf file a b is also
+output_one cut horizons (Types file) before a b is also =
+    print_one (IsReportOf before.operators) (RefusesText before.operators) (types_verdict before.operators) before.shelf file a b is also
+output_one cut horizons (Check file) before a b is also =
+    print_one (IsCheckOf before.operators written_options) (RefusesCheck before.operators written_options) (check_verdict before.operators written_options) before.shelf file a b is also
+output_one cut horizons (Clocks words) before a b is also =
+    let o : Options = inferring_options words.scale words.lead in
+    print_one (IsCheckOf before.operators o) (RefusesCheck before.operators o) (check_verdict before.operators o) before.shelf words.file a b is also
+output_one cut horizons (Run words) before a b (p, lists, horizon, held, fed, is) (q, others, last, holds, feeds, also) =
+    let same = program_one before.operators (inferring_options words.scale words.lead) words.instants before.shelf words.file p q held holds in
+    is ∙ run_same cut horizons (kinds_of before.operators) p q same words.instants before.source.left lists others horizon last fed feeds ∙ sym also
+output_one cut horizons (Kahn words) before a b (p, lists, horizon, held, fed, turns, items, is) (q, others, last, holds, feeds, few, short, also) =
+    let same = program_one before.operators (inferring_options words.scale words.lead) words.instants before.shelf words.file p q held holds in
+    is ∙ lines_same cut horizons (kinds_of before.operators) p q same words.instants before.source.left lists others horizon last fed feeds ∙ sym also
+output_one cut horizons (Make words) before a b (p, lists, horizon, runs, fed, is) (q, others, last, run, feeds, also) =
+    let same = accepted_same before.operators (inferring_options 1 1) (made_text words.stages) p q runs.0 run.0 in
+    is ∙ figures_same cut horizons (kinds_of before.operators) p q same None (Some made_input) lists others horizon last fed feeds words.stages ∙ sym also
