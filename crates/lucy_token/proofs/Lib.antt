@@ -6,6 +6,7 @@ mod CutSteps
 pub mod FollowLaws
 pub mod FrontLaws
 mod MarkSteps
+mod NameLaws
 mod Numbers
 pub mod OneCut
 pub mod SomeCut

@@ -1,6 +1,6 @@
 -- What is known of the tokens of a text that is cut up to its end.
-use Rattle.std.specs.Prelude.{ℕ, ◌<◌, ◌≤◌, ◌≡◌, true, List, [], ◌∷◌, length}
-use Rattle.std.specs.List.{AllPass}
+use Rattle.std.specs.Prelude.{ℕ, ◌<◌, ◌≤◌, ◌≡◌, Bool, true, ◌==◌, ◌&&◌, nat_le, List, [], ◌∷◌, length}
+use Rattle.std.specs.List.{AllPass, prefix_len}
 use Rattle.std.specs.Int.{w64}
 use mir.Val.{SFits as FitsSigned}
 use Rattle.lucy_word.specs.Limits.{limit_number}
@@ -12,7 +12,7 @@ use Rattle.lucy_token.specs.declared.token.What.TheVariants as what
 use Rattle.lucy_token.specs.declared.token.Token.{Token}
 use Rattle.lucy_token.specs.Tokens.{kind_of}
 use Rattle.lucy_token.specs.Marks.{keywords}
-use Rattle.lucy_token.specs.Before.{wants_word}
+use Rattle.lucy_token.specs.Before.{wants_word, is_name}
 use Rattle.lucy_token.specs.Fronts.{head, is_letter, is_name_byte, named_in}
 use Rattle.lucy_token.specs.Contents.{IsWordAfter}
 
@@ -23,6 +23,11 @@ pub record IsNameText (bytes : List ℕ) : Type 0 where
   pub begins : is_letter (head bytes) ≡ true
   pub name_bytes : AllPass is_name_byte bytes
   pub no_keyword : named_in keywords bytes ≡ kind.Name
+
+-- whether bytes are a name
+abbrev pub is_name_text : List ℕ → Bool
+is_name_text bytes =
+    is_letter (head bytes) && (prefix_len is_name_byte bytes == length bytes && (nat_le (length bytes) (limit_number limit.Name) && is_name (named_in keywords bytes)))
 
 -- what a token is that stands behind one of this kind
 abbrev pub IsWritten : Kind → What → Type 0

@@ -25,7 +25,8 @@ fn is_blank(c: u8) -> bool
     c == b' ' || c == b'\t' || c == b'\n' || c == b'\r'
 }
 
-fn is_letter(c: u8) -> bool
+/// Whether it is a letter or `_`.
+pub(crate) fn is_letter(c: u8) -> bool
     ensures { result ≡ spec.is_letter c }
 {
     (b'a' <= c && c <= b'z') || (b'A' <= c && c <= b'Z') || c == b'_'
@@ -43,7 +44,8 @@ fn is_name_byte(c: u8) -> bool
     is_letter(c) || is_decimal(c)
 }
 
-fn name_len(text: &[u8]) -> usize
+/// How many bytes at the front a name may have.
+pub(crate) fn name_len(text: &[u8]) -> usize
     ensures value { result ≡ prefix_len spec.is_name_byte text.now }
     ensures within { result ≤ length text.now }
 {
@@ -57,8 +59,8 @@ fn number_len(text: &[u8]) -> usize
     text.iter().take_while(|c| is_decimal(**c)).count()
 }
 
-// The first byte, 0 where there is none.
-fn head(text: &[u8]) -> u8
+/// The first byte, 0 where there is none.
+pub(crate) fn head(text: &[u8]) -> u8
     ensures { result ≡ spec.head text.now }
 {
     match text.first() {
@@ -114,8 +116,8 @@ fn gap(text: &[u8]) -> Front
     }
 }
 
-// The one of these that the bytes spell, else a name.
-fn named_in(marks: &[Mark], bytes: &[u8]) -> Kind
+/// The one of these that the bytes spell, else a name.
+pub(crate) fn named_in(marks: &[Mark], bytes: &[u8]) -> Kind
     ensures { result ≡ spec.named_in marks.now bytes.now }
 {
     for mark in marks {

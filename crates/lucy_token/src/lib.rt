@@ -2,13 +2,14 @@
 //!
 //! It stands on `lucy_word` and `lucy_tree`. Begin with `Token` in `token.rt` and `tokens` in `scan.rt`, and with
 //! `specs/Cuts.antt`, which says what it is to cut a text into tokens. `specs/Written.antt` says what is known of the
-//! tokens of a text without a fault, and `specs/Spelled.antt` how tokens stand in print.
+//! tokens of a text without a fault, and `specs/Spelled.antt` how tokens stand in print. `name.rt` tells whether bytes are a name.
 #![tactic(auto)]
 
 mod content;
 mod front;
 mod laws;
 mod mark;
+mod name;
 mod scan;
 mod state;
 mod stop;
@@ -17,6 +18,7 @@ mod token;
 pub use front::Front;
 pub use laws::{texts_have_one_cut, words_end_with_their_form};
 pub use mark::Mark;
+pub use name::is_name;
 pub use scan::tokens;
 pub use state::{Level, Side};
 pub use stop::{Stop, SyntaxError};
