@@ -14,10 +14,6 @@ use Rattle.lucy_kahn.specs.Turns.{IsPassed}
 use Rattle.lucy_flat.specs.Flat.{IsFlat}
 use Rattle.lucy_execution.specs.Streams.{cut_inputs}
 
--- how many workers may move the actors of a program, at most
-abbrev pub most_workers : ℕ
-most_workers = 64
-
 -- a flat net of the program has a sound schedule, as that of every accepted program has
 pub record HasSchedule (nodes : List PlacedNode) (clocks : List NodeClock) : Type 0 where
   pub net : Net

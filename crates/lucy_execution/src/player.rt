@@ -44,7 +44,7 @@ impl<'a> Player<'a> {
     ghost use Rattle.lucy_cause.specs.Schedules.{events_at};
     ghost use Rattle.lucy_flat.specs.Flat.{IsFlat};
     ghost use Rattle.lucy_execution.specs.Streams.{param_words, later_streams};
-    ghost use Rattle.lucy_execution.specs.Running.{most_workers};
+    ghost use Rattle.lucy_runner.specs.Views.{most_workers};
     ghost use Rattle.lucy_execution.specs.Playing.{joined};
 
     /// Runs a program from the beginning to a horizon of at most 1,048,576 instants, by its flat net, whose actors are moved by 1 to

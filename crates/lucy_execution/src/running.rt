@@ -12,9 +12,8 @@ ghost use Rattle.lucy_net.specs.Schedules.{IsSound};
 ghost use Rattle.lucy_cause.specs.Schedules.{events_at};
 ghost use Rattle.lucy_core.specs.Seen.{IsUnbegun, IsOver};
 ghost use Rattle.lucy_flat.specs.Flat.{IsFlat};
-ghost use Rattle.lucy_runner.specs.Views.{input_count, inputs_for};
+ghost use Rattle.lucy_runner.specs.Views.{inputs_for, most_workers};
 ghost use Rattle.lucy_execution.specs.Streams.{param_words, result_words, main_streams, later_streams};
-ghost use Rattle.lucy_execution.specs.Running.{most_workers};
 ghost use Rattle.lucy_execution.specs.Playing.{PlayerView, played, IsPlayed};
 
 use crate::lists::add;
@@ -83,7 +82,6 @@ pub(crate) fn run_core<R: Threads + Sync, F: Fn(u32, i64, i64) -> i64 + Sync, G:
     requires workers { (1 ≤ workers) × (workers ≤ most_workers) }
     requires homes { length homes.now ≡ length core.net.actors }
     requires each { All (λ home. home < workers) homes.now }
-    requires counted { input_count core.net.actors ≤ length core.inputs }
     requires inputs { inputs_for core.net core.inputs ≡ core.inputs }
     requires params { params_in (main_of placed.now.nodes) ≡ length core.inputs }
     ensures played { IfOk result (λ runner. IsPlayed placed.now.nodes clocks.now runner) }

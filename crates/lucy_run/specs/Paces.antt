@@ -2,7 +2,7 @@
 use Rattle.std.specs.Prelude.{ℕ, ◌≤◌, IfSome}
 use Rattle.lucy_word.specs.Limits.{limit_number}
 use Rattle.lucy_word.specs.declared.limit.Limit.TheVariants as limit
-use Rattle.lucy_execution.specs.Running.{most_workers}
+use Rattle.lucy_runner.specs.Views.{most_workers}
 use Rattle.lucy_run.specs.declared.pace.Pace.{Pace}
 
 -- so many workers may run a program

@@ -4,6 +4,8 @@ use Rattle.std.specs.Prelude.{ℤ, Some, All, slice_get, replicate, vec_capacity
 use Rattle.std.proofs.lemmas.Option.{slice_get-get_or}
 use Rattle.lucy_word.specs.Bits.{ones_to}
 use Rattle.lucy_word.proofs.BitsLaws.{ones_to-le}
+use Rattle.lucy_word.specs.Limits.{limit_number}
+use Rattle.lucy_word.specs.declared.limit.Limit.TheVariants as limit
 use Rattle.lucy_stream.specs.Forms.{operands}
 use Rattle.lucy_event.specs.Plans.{HasInput}
 use Rattle.lucy_net.specs.declared.kind.ActorKind.{ActorKind}
@@ -14,7 +16,7 @@ use Rattle.lucy_net.specs.States.{IsUsable, IsActorState, ReadsInput}
 use Rattle.lucy_ring.specs.Views.{GiverView, TakerView}
 use Rattle.lucy_worker.specs.declared.part.Part.{Part}
 use Rattle.lucy_worker.specs.Parts.{done_of, list_on, PutsOut}
-use Rattle.lucy_worker.specs.News.{HasItems, HasRoom, IsNew}
+use Rattle.lucy_worker.specs.News.{HasItems, HasRoom, IsNew, few_moved}
 use Rattle.lucy_worker.proofs.PartLaws.{room_less}
 use Rattle.lucy_core.proofs.ListLaws.{get_push, some_same}
 use Rattle.lucy_runner.specs.Making.{IsBegun, IsFirstPart, HasEndsOf}
@@ -52,10 +54,10 @@ all_from P xs h = λ k d l. h k (get_or xs k d) (slice_get-get_or xs k d l)
 
 -- a worker can be made of it
 pub begun_new : (inputs : List (List ℤ)) (instants number : ℕ) (actor : Actor) (givers : List GiverView) (takers : List TakerView) (p q : Part) → IsFirstPart inputs instants number actor p → HasEndsOf givers takers actor.gives actor.takes p q →
-    IsUsable actor → HasInput inputs (form_of actor.kind) (ones_to actor.firing instants) → instants ≤ 1048576 → ((r : ℕ) (g : GiverView) → slice_get givers r ≡ Some g → g.given ≡ []) → ((r : ℕ) (t : TakerView) → slice_get takers r ≡ Some t → t.taken ≡ []) → IsNew q
+    IsUsable actor → HasInput inputs (form_of actor.kind) (ones_to actor.firing instants) → instants ≤ limit_number limit.Instants → ((r : ℕ) (g : GiverView) → slice_get givers r ≡ Some g → g.given ≡ []) → ((r : ℕ) (t : TakerView) → slice_get takers r ≡ Some t → t.taken ≡ []) → IsNew q
 begun_new inputs instants number actor givers takers p q first ends usable fed early no_given no_taken =
     let is : IsBegun inputs instants number actor q = begun_still inputs instants number actor givers takers actor.gives actor.takes p q first ends in
-    let none : (xs : List ℤ) → xs ≡ [] → length xs ≤ 1048576 = λ (xs : List ℤ) (e : xs ≡ []). (let l : length xs ≡ 0 = ap length e in omega arith) in
+    let none : (xs : List ℤ) → xs ≡ [] → length xs ≤ few_moved = λ (xs : List ℤ) (e : xs ≡ []). (let l : length xs ≡ 0 = ap length e in omega arith) in
     let quota : q.state.quota ≡ ones_to actor.firing instants = is.begins.quota in
     let least : HasRoom actor.kind (q.state.quota - q.state.fired) 0 (vec_capacity q.output) = room_less actor.kind (ones_to actor.firing instants) (q.state.quota - q.state.fired) 0 (vec_capacity q.output) (omega arith) is.room in
     let empty : 0 ≡ length q.output.items = sym (ap length is.empty) in
@@ -69,8 +71,8 @@ begun_new inputs instants number actor givers takers p q first ends usable fed e
           (subst (λ (k : ℕ). HasItems actor.kind k (length q.input.items)) (sym quota) (has_items actor.kind inputs (ones_to actor.firing instants) q.input.items is.reads fed));
       room = subst (λ (y : Actor). HasRoom y.kind (q.state.quota - q.state.fired) (length q.output.items) (vec_capacity q.output)) (sym is.of_actor)
           (subst (λ (k : ℕ). HasRoom actor.kind (q.state.quota - q.state.fired) k (vec_capacity q.output)) empty least);
-      gave_few = all_from (λ (g : GiverView). length g.given ≤ 1048576) q.givers.items (row_all (λ (g : GiverView). length g.given ≤ 1048576) givers actor.gives q.givers.items ends.givers_are (λ r g e. none g.given (no_given r g e)));
-      took_few = all_from (λ (t : TakerView). length t.taken ≤ 1048576) q.takers.items (row_all (λ (t : TakerView). length t.taken ≤ 1048576) takers actor.takes q.takers.items ends.takers_are (λ r t e. none t.taken (no_taken r t e)));
+      gave_few = all_from (λ (g : GiverView). length g.given ≤ few_moved) q.givers.items (row_all (λ (g : GiverView). length g.given ≤ few_moved) givers actor.gives q.givers.items ends.givers_are (λ r g e. none g.given (no_given r g e)));
+      took_few = all_from (λ (t : TakerView). length t.taken ≤ few_moved) q.takers.items (row_all (λ (t : TakerView). length t.taken ≤ few_moved) takers actor.takes q.takers.items ends.takers_are (λ r t e. none t.taken (no_taken r t e)));
     }
 
 -- on lists that are empty nothing is on a ring

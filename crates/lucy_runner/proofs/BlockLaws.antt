@@ -3,6 +3,8 @@ use Rattle.std.proofs.Common.{ℕ, ◌≤◌, ◌≡◌, List, length, get_or, a
 use Rattle.std.specs.Prelude.{ℤ, Some, slice_get}
 use Rattle.std.specs.List.{range_with_len}
 use Rattle.std.proofs.lemmas.Option.{slice_get_within}
+use Rattle.lucy_word.specs.Limits.{limit_number}
+use Rattle.lucy_word.specs.declared.limit.Limit.TheVariants as limit
 use Rattle.lucy_host.specs.Operators.{Operator}
 use Rattle.lucy_net.specs.declared.net.Net.{Net}
 use Rattle.lucy_net.specs.declared.net.RingSpec.{RingSpec}
@@ -93,7 +95,7 @@ inputs_then b =
 -- the block of a runner's parts
 abbrev pub block_of : (net : Net) (schedule : Timetable) (ops : List Operator) (before old instants : ℕ) (crew grown : List (List Part)) (places : List Place) (ends : List Ends) (added : List (List ℤ)) →
     IsStanding (seen_by net schedule ops old crew places) before crew places ends → IsOver (seen_by net schedule ops old crew places) → HaveGrown crew grown added instants →
-    old ≤ instants → instants ≤ 1048576 → IsSupplied (longer_inputs net (inputs_of net crew places) added) net instants → Block
+    old ≤ instants → instants ≤ limit_number limit.Instants → IsSupplied (longer_inputs net (inputs_of net crew places) added) net instants → Block
 block_of net schedule ops before old instants crew grown places ends added standing over grows later early supplied = record {
   seen = seen_by net schedule ops old crew places;
   before = before;
@@ -116,7 +118,7 @@ block_of net schedule ops before old instants crew grown places ends added stand
 -- what stood and was finished stands with more to do, and is seen with the longer inputs and the later horizon
 pub block_stands : (net : Net) (schedule : Timetable) (ops : List Operator) (before old instants : ℕ) (crew grown : List (List Part)) (places : List Place) (ends : List Ends) (added : List (List ℤ)) →
     IsStanding (seen_by net schedule ops old crew places) before crew places ends → IsOver (seen_by net schedule ops old crew places) → HaveGrown crew grown added instants →
-    old ≤ instants → instants ≤ 1048576 → IsSupplied (longer_inputs net (inputs_of net crew places) added) net instants →
+    old ≤ instants → instants ≤ limit_number limit.Instants → IsSupplied (longer_inputs net (inputs_of net crew places) added) net instants →
     IsStanding (seen_by net schedule ops instants grown places) old grown places ends × (seen_by net schedule ops instants grown places ≡ grown_seen (seen_by net schedule ops old crew places) added instants)
 block_stands net schedule ops before old instants crew grown places ends added standing over grows later early supplied =
     let b : Block = block_of net schedule ops before old instants crew grown places ends added standing over grows later early supplied in

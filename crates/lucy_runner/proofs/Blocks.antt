@@ -3,6 +3,8 @@ use Rattle.std.proofs.Common.{ℕ, ◌<◌, ◌≤◌, ◌≡◌, cond, List, []
 use Rattle.std.specs.Prelude.{ℤ, Some, slice_get}
 use Rattle.std.proofs.lemmas.Bool.{cases_lt}
 use Rattle.std.proofs.lemmas.Option.{slice_get_within, slice_get-get_or}
+use Rattle.lucy_word.specs.Limits.{limit_number}
+use Rattle.lucy_word.specs.declared.limit.Limit.TheVariants as limit
 use Rattle.lucy_host.specs.Operators.{kinds_of}
 use Rattle.lucy_net.specs.declared.kind.ActorKind.{ActorKind}
 use Rattle.lucy_net.specs.declared.kind.ActorKind.TheVariants as kind
@@ -41,7 +43,7 @@ pub record Block : Type 0 where
   pub over : IsOver seen
   pub grows : HaveGrown crew grown added instants
   pub later : seen.instants ≤ instants
-  pub early : instants ≤ 1048576
+  pub early : instants ≤ limit_number limit.Instants
   pub supplied : IsSupplied (longer_inputs seen.net seen.inputs added) seen.net instants
 
 -- what is seen then

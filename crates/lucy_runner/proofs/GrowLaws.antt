@@ -1,5 +1,5 @@
 -- Room and more to do, part by part and seat by seat.
-use Rattle.std.proofs.Common.{ℕ, ◌+◌, ◌-◌, ◌<◌, ◌≤◌, ◌≡◌, List, [], ◌∷◌, ◌++◌, length, get_or, set, ap, sym, refl, ◌∙◌, subst, arith}
+use Rattle.std.proofs.Common.{ℕ, ◌+◌, ◌-◌, ◌<◌, ◌≤◌, ◌≡◌, List, [], ◌∷◌, ◌++◌, length, get_or, set, ap, sym, refl, ◌∙◌, subst, arith, ◌^◌}
 use Rattle.std.specs.Prelude.{ℤ, All, Some, slice_get, vec_capacity}
 use Rattle.std.proofs.lemmas.Option.{slice_get_within, slice_get-get_or, get_or_from_slice_get}
 use Rattle.std.proofs.lemmas.List.{length-map, length-set, get_or_default}
@@ -102,7 +102,7 @@ of_seat has seats s d each l = λ k e m.
     (let ps : List Part = seated (get_or seats s d) in
     each s k ps (get_or ps k e) (crew_at seats s d l) (slice_get-get_or ps k e m))
 
-pub few_seated : (seats : List Seat) (s : ℕ) (d : Seat) → AreFew (crew_of seats) → s < length seats → length (get_or seats s d).worker.parts < 4294967296
+pub few_seated : (seats : List Seat) (s : ℕ) (d : Seat) → AreFew (crew_of seats) → s < length seats → length (get_or seats s d).worker.parts < 2 ^ 32
 few_seated seats s d few l = few s (seated (get_or seats s d)) (crew_at seats s d l)
 
 -- what holds of the seats before and after holds of their parts
@@ -174,7 +174,6 @@ may_still added instants crew spared h may s k qs q f d =
     let one : MayGrow added instants p = may s k w.parts p w.seat w.there in
     let count : length q.input.items ≡ length p.input.items = ap (λ (xs : List ℤ). length xs) w.has.input in
     subst (MayGrow added instants) (sym w.has.rest) (record {
-      list = one.list;
       done = one.done;
       more = one.more;
       early = one.early;

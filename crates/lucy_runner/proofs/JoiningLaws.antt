@@ -6,6 +6,8 @@ use Rattle.std.proofs.lemmas.Bool.{cases_eq}
 use Rattle.std.proofs.lemmas.Option.{slice_get-map, slice_get_within, get_or_from_slice_get}
 use Rattle.std.proofs.lemmas.List.{map-append, length-map}
 use Rattle.std.proofs.lemmas.List.Elements.{All-head, All-tail, All-get_or}
+use Rattle.lucy_word.specs.Limits.{limit_number}
+use Rattle.lucy_word.specs.declared.limit.Limit.TheVariants as limit
 use Rattle.lucy_event.specs.Plans.{Link, no_link}
 use Rattle.lucy_net.specs.declared.net.RingSpec.{RingSpec}
 use Rattle.lucy_net.specs.Plans.{link_of}
@@ -167,14 +169,14 @@ join_none rings parts ends none e = record {
 }
 
 -- there are few ends on the way
-pub few_on_the_way : (rings : List RingSpec) (n : ℕ) (before now : List Part) (ends : List Ends) → HaveAllJoined rings n before now ends → n ≤ 32768 → All HasFewEnds now
+pub few_on_the_way : (rings : List RingSpec) (n : ℕ) (before now : List Part) (ends : List Ends) → HaveAllJoined rings n before now ends → n ≤ limit_number limit.Rings → All HasFewEnds now
 few_on_the_way rings n before now ends all few = λ a d l.
     let c : length now ≡ length before = all.count in
     let (m, m_is) = get_there now a l in
     let (p, p_is) = get_there before a (omega arith) in
     let have = all.each a p m p_is m_is in
-    let from : length m.givers.items ≤ 32768 = omega (arith, row_length all.givers (rings_from rings a n) m.givers.items have.givers_are, where_length (λ r. eqb (slice_index_or (map link_of rings) r no_link).from a) n) in
-    let to : length m.takers.items ≤ 32768 = omega (arith, row_length all.takers (rings_to rings a n) m.takers.items have.takers_are, where_length (λ r. eqb (slice_index_or (map link_of rings) r no_link).to a) n) in
+    let from : length m.givers.items ≤ limit_number limit.Rings = omega (arith, row_length all.givers (rings_from rings a n) m.givers.items have.givers_are, where_length (λ r. eqb (slice_index_or (map link_of rings) r no_link).from a) n) in
+    let to : length m.takers.items ≤ limit_number limit.Rings = omega (arith, row_length all.takers (rings_to rings a n) m.takers.items have.takers_are, where_length (λ r. eqb (slice_index_or (map link_of rings) r no_link).to a) n) in
     subst HasFewEnds (sym (get_or_from_slice_get now a m d m_is)) (from, to)
 
 -- of the numbers where a test holds, one stands behind those below it

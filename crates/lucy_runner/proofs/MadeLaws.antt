@@ -3,6 +3,8 @@ use Rattle.std.proofs.Common.{ℕ, suc, zero, ◌+◌, ◌<◌, ◌≤◌, ◌�
 use Rattle.std.specs.Prelude.{ℤ, Some, All, slice_get, slice_index_or}
 use Rattle.std.proofs.lemmas.Bool.{cases_eq, eq-eqb, ne_eqb}
 use Rattle.std.proofs.lemmas.Option.{slice_get_within, slice_get-get_or}
+use Rattle.lucy_word.specs.Limits.{limit_number}
+use Rattle.lucy_word.specs.declared.limit.Limit.TheVariants as limit
 use Rattle.lucy_event.specs.Totals.{total}
 use Rattle.lucy_event.specs.Plans.{no_link}
 use Rattle.lucy_net.specs.declared.net.Actor.{Actor}
@@ -13,7 +15,7 @@ use Rattle.lucy_net.specs.Proper.{numbers_where, IsProper, IsProperActor, IsSupp
 use Rattle.lucy_net.proofs.NetLaws.{usable}
 use Rattle.lucy_ring.specs.Views.{GiverView, TakerView}
 use Rattle.lucy_worker.specs.declared.part.Part.{Part}
-use Rattle.lucy_worker.specs.News.{IsNew, ends_of, ends_by}
+use Rattle.lucy_worker.specs.News.{IsNew, ends_of, ends_by, most_ends}
 use Rattle.lucy_runner.specs.declared.place.Ends.{Ends}
 use Rattle.lucy_runner.specs.Making.{rings_from, rings_to, IsBegun, IsFirstPart, AreFirstParts, HasEndsOf, HaveAllJoined, AreNumbered, CanWork}
 use Rattle.lucy_runner.proofs.PlacingLaws.{get_there}
@@ -102,7 +104,7 @@ rows_total f k (suc n) =
     omega (arith, more, total_both k (λ a. length (numbers_where (λ r. eqb (f r) a) n)) (λ a. one (eqb (f n) a)), rows_total f k n, one_most k (f n))
 
 -- all parts together have two ends for each ring
-few_ends : (net : Net) (inputs : List (List ℤ)) (instants : ℕ) (alone parts : List Part) (ends : List Ends) → IsProper net → AreFirstParts inputs instants net.actors alone → HaveAllJoined net.rings (length net.rings) alone parts ends → ends_by parts ≤ 65536
+few_ends : (net : Net) (inputs : List (List ℤ)) (instants : ℕ) (alone parts : List Part) (ends : List Ends) → IsProper net → AreFirstParts inputs instants net.actors alone → HaveAllJoined net.rings (length net.rings) alone parts ends → ends_by parts ≤ most_ends
 few_ends net inputs instants alone parts ends proper first joined =
     let count : length alone ≡ length net.actors = first.count in
     let same : length parts ≡ length alone = joined.count in
@@ -118,11 +120,11 @@ few_ends net inputs instants alone parts ends proper first joined =
     let sum : total (length parts) (λ a. value_in ends_of (slice_get parts a)) ≡ total (length parts) (λ a. from a + to a) = total_same (length parts) (λ a. value_in ends_of (slice_get parts a)) (λ a. from a + to a) each in
     let most_from : total (length parts) from ≤ n = rows_total (λ r. (slice_index_or (map link_of net.rings) r no_link).from) (length parts) n in
     let most_to : total (length parts) to ≤ n = rows_total (λ r. (slice_index_or (map link_of net.rings) r no_link).to) (length parts) n in
-    let few : n ≤ 32768 = proper.few_rings in
+    let few : n ≤ limit_number limit.Rings = proper.few_rings in
     omega (arith, sum, total_both (length parts) from to, most_from, most_to, few, sum_all ends_of parts)
 
 -- workers can be made of the parts
-pub works_all : (net : Net) (inputs : List (List ℤ)) (instants : ℕ) (alone parts : List Part) (ends : List Ends) → IsProper net → IsSupplied inputs net instants → instants ≤ 1048576 → AreFirstParts inputs instants net.actors alone →
+pub works_all : (net : Net) (inputs : List (List ℤ)) (instants : ℕ) (alone parts : List Part) (ends : List Ends) → IsProper net → IsSupplied inputs net instants → instants ≤ limit_number limit.Instants → AreFirstParts inputs instants net.actors alone →
     HaveAllJoined net.rings (length net.rings) alone parts ends → CanWork parts
 works_all net inputs instants alone parts ends proper supplied early first joined = (
   λ k d l.

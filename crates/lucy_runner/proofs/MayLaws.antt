@@ -4,6 +4,8 @@ use Rattle.std.specs.Prelude.{ℤ, Some, slice_get, sum_by}
 use Rattle.std.proofs.lemmas.Option.{slice_get_within, get_or_from_slice_get}
 use Rattle.std.proofs.lemmas.List.Sums.{sum_by-cons, get_or-le-sum_by}
 use Rattle.lucy_word.specs.Bits.{Bits, ones_to}
+use Rattle.lucy_word.specs.Limits.{limit_number}
+use Rattle.lucy_word.specs.declared.limit.Limit.TheVariants as limit
 use Rattle.lucy_word.proofs.ShortLaws.{ones_to-later}
 use Rattle.lucy_host.specs.Operators.{Operator, kinds_of}
 use Rattle.lucy_stream.specs.Items.{list_at}
@@ -27,7 +29,7 @@ use Rattle.lucy_runner.specs.Views.{input_count}
 use Rattle.lucy_runner.specs.Crews.{part_of, seen_by, number_of, sum_seated}
 use Rattle.lucy_runner.specs.Standing.{carried, IsPartOf, IsStanding}
 use Rattle.lucy_runner.specs.Blocks.{longer_for, longer_inputs}
-use Rattle.lucy_runner.specs.Growths.{added_for, HasList, MayGrow, OfEach, AreFew}
+use Rattle.lucy_runner.specs.Growths.{added_for, MayGrow, OfEach, AreFew}
 use Rattle.lucy_runner.proofs.PlaceLaws.{same_part}
 use Rattle.lucy_runner.proofs.ReachLaws.{at_number}
 use Rattle.lucy_runner.proofs.FinishedLaws.{finished_is}
@@ -37,8 +39,7 @@ use Rattle.lucy_runner.proofs.InputLaws.{read_here, counted_here, numbered}
 pub record IsAsked (old : Seen) (instants : ℕ) (added : List (List ℤ)) : Type 0 where
   pub finished : IsOver old
   pub later : old.instants ≤ instants
-  pub early : instants ≤ 1048576
-  pub inputs : input_count old.net.actors ≤ length added
+  pub early : instants ≤ limit_number limit.Instants
   pub supplied : IsSupplied (longer_inputs old.net old.inputs added) old.net instants
 
 -- as many parts as actors
@@ -73,10 +74,6 @@ part_here seen before s k crew places ends ps p standing e f =
 more_ones : (w : Bits) (n m : ℕ) → n ≤ m → ones_to w n ≤ ones_to w m
 more_ones w n m l = (let e : ones_to w (n + (m - n)) ≡ ones_to w m = ap (ones_to w) (omega arith) in omega (arith, ones_to-later w n (m - n)))
 
-has_list : (what : ActorKind) (count : ℕ) → ((n : ℕ) → what ≡ kind.Input n → n < count) → HasList what count
-has_list (kind.Input n) count h = h n refl
-has_list what count h = tt
-
 has_items : (what : ActorKind) (quota items : ℕ) → ((n : ℕ) → what ≡ kind.Input n → quota ≤ items) → HasItems what quota items
 has_items (kind.Input n) quota items h = h n refl
 has_items what quota items h = tt
@@ -90,7 +87,6 @@ may_grow net schedule ops old before instants crew places ends added standing as
     let quota : ℕ = ones_to p.actor.firing instants in
     let counted : (n : ℕ) → p.actor.kind ≡ kind.Input n → n < input_count net.actors = λ n is. counted_here net.actors p.number n p.actor here.there is in
     record {
-      list = has_list p.actor.kind (length added) (λ n is. omega (arith, counted n is, asked.inputs));
       done = (finished_is net schedule ops old before crew places ends standing).1 asked.finished s k ps p e f;
       more = omega (arith, here.state.quota, more_ones p.actor.firing old instants asked.later);
       early = asked.early;

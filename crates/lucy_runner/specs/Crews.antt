@@ -15,10 +15,11 @@ use Rattle.lucy_runner.specs.declared.place.Place.{Place}
 use Rattle.lucy_runner.specs.declared.place.Ends.{Ends}
 use Rattle.lucy_runner.specs.declared.seat.Seat.{Seat}
 
--- the parts of a seat's worker, and those of all seats
+-- the parts of a seat's worker
 abbrev pub seated : Seat → List Part
 seated seat = seat.worker.parts
 
+-- the parts of the workers of all seats
 abbrev pub crew_of : List Seat → List (List Part)
 crew_of seats = map seated seats
 
@@ -45,6 +46,7 @@ abbrev pub done_in : Option Part → ℕ
 done_in None = 0
 done_in (Some p) = done_of p
 
+-- how many the part at a place has done
 abbrev pub done_at_place : List (List Part) → Place → ℕ
 done_at_place crew place = done_in (part_at crew place)
 
@@ -71,10 +73,11 @@ abbrev pub seen_by : Net → Timetable → List Operator → ℕ → List (List 
 seen_by net schedule operators instants crew places =
     record { net = net; schedule = schedule; inputs = inputs_of net crew places; operators = operators; instants = instants; done = done_list crew places }
 
--- the sum of numbers of the parts' actors, seat by seat
+-- a number of the actor of a part
 abbrev pub number_of : (ℕ → ℕ) → Part → ℕ
 number_of g p = g p.number
 
+-- the sum of those of a worker's parts
 abbrev pub sum_seated : (ℕ → ℕ) → List Part → ℕ
 sum_seated g parts = sum_by (number_of g) parts
 

@@ -1,6 +1,8 @@
 -- What the two steps of a block more do to the parts: room for it, and then more to do.
-use Rattle.std.specs.Prelude.{ℕ, ◌+◌, ◌-◌, ◌<◌, ◌≤◌, ◌≡◌, List, [], ℤ, length, slice_get, slice_index_or, Some}
+use Rattle.std.specs.Prelude.{ℕ, ◌+◌, ◌-◌, ◌^◌, ◌<◌, ◌≤◌, ◌≡◌, List, [], ℤ, length, slice_get, slice_index_or, Some}
 use Rattle.lucy_word.specs.Bits.{ones_to}
+use Rattle.lucy_word.specs.Limits.{limit_number}
+use Rattle.lucy_word.specs.declared.limit.Limit.TheVariants as limit
 use Rattle.lucy_stream.specs.Items.{list_at}
 use Rattle.lucy_net.specs.declared.kind.ActorKind.{ActorKind}
 use Rattle.lucy_net.specs.declared.kind.ActorKind.TheVariants.{Input, Output}
@@ -14,23 +16,17 @@ abbrev pub added_for : ActorKind → List (List ℤ) → List ℤ
 added_for (Input input) added = list_at added input
 added_for kind added = []
 
--- the list of an input is one of the first, so many of them
-abbrev pub HasList : ActorKind → ℕ → Type 0
-HasList (Input input) count = input < count
-HasList kind count = Unit {0}
-
 -- an output puts out so many items more, all others none
 abbrev pub room_for : ActorKind → ℕ → ℕ
 room_for (Output output) firings = firings
 room_for kind firings = 0
 
--- the part is done, its actor fires no less often in so many instants, the items that follow are there if it is an input, and it
--- then has one for each firing
+-- the part is done, its actor fires no less often in so many instants, and an input has with the items that follow one for each
+-- firing
 pub record MayGrow (added : List (List ℤ)) (instants : ℕ) (p : Part) : Type 0 where
-  pub list : HasList p.actor.kind (length added)
   pub done : IsDone p
   pub more : p.state.quota ≤ ones_to p.actor.firing instants
-  pub early : instants ≤ 1048576
+  pub early : instants ≤ limit_number limit.Instants
   pub items : HasItems p.actor.kind (ones_to p.actor.firing instants) (length p.input.items + length (added_for p.actor.kind added))
 
 -- there is room for the items that follow and for what the actor puts out in the new firings
@@ -53,7 +49,7 @@ OfEach has crew = (s k : ℕ) (ps : List Part) (p : Part) → slice_get crew s �
 
 -- each worker has so few parts that their places are numbers of 32 bits
 abbrev pub AreFew : List (List Part) → Type 0
-AreFew crew = (s : ℕ) (ps : List Part) → slice_get crew s ≡ Some ps → length ps < 4294967296
+AreFew crew = (s : ℕ) (ps : List Part) → slice_get crew s ≡ Some ps → length ps < 2 ^ 32
 
 -- the same parts of all workers, perhaps with more room
 pub record HaveSpared (crew spared : List (List Part)) : Type 0 where

@@ -1,6 +1,8 @@
 -- How a runner is made: the parts of all actors, then the ends of all rings, then the seats.
 use Rattle.std.specs.Prelude.{ℕ, ◌+◌, ◌<◌, ◌≤◌, ◌≡◌, Bool, true, List, [], ◌∷◌, ◌++◌, ℤ, All, length, map, nat_eq, replicate, slice_get, slice_index, slice_index_or, vec_capacity, if◌then◌else◌, Some}
 use Rattle.lucy_word.specs.Bits.{ones_to}
+use Rattle.lucy_word.specs.Limits.{limit_number}
+use Rattle.lucy_word.specs.declared.limit.Limit.TheVariants as limit
 use Rattle.lucy_stream.specs.Forms.{operands}
 use Rattle.lucy_event.specs.Plans.{no_link}
 use Rattle.lucy_net.specs.declared.net.Actor.{Actor}
@@ -11,11 +13,12 @@ use Rattle.lucy_net.specs.Proper.{numbers_where}
 use Rattle.lucy_net.specs.States.{IsActorState, ReadsInput}
 use Rattle.lucy_ring.specs.Views.{GiverView, TakerView}
 use Rattle.lucy_worker.specs.declared.part.Part.{Part}
-use Rattle.lucy_worker.specs.News.{HasRoom, IsNew, ends_by}
+use Rattle.lucy_worker.specs.News.{HasRoom, IsNew, ends_by, most_ends}
 use Rattle.lucy_runner.specs.declared.place.Place.{Place}
 use Rattle.lucy_runner.specs.declared.place.Ends.{Ends}
 use Rattle.lucy_runner.specs.declared.sitting.Bench.{Bench}
 use Rattle.lucy_runner.specs.declared.sitting.Hall.{Hall}
+use Rattle.lucy_runner.specs.Views.{most_workers}
 use Rattle.lucy_runner.specs.Crews.{part_of, AreShared}
 use Rattle.lucy_runner.specs.Standing.{AreCovered}
 
@@ -39,10 +42,11 @@ pub record AreFirstParts (inputs : List (List ℤ)) (instants : ℕ) (actors : L
   pub count : length parts ≡ length actors
   pub each : (a : ℕ) (actor : Actor) (p : Part) → slice_get actors a ≡ Some actor → slice_get parts a ≡ Some p → IsFirstPart inputs instants a actor p
 
--- of the first rings, so many of them, those from an actor and those to it
+-- of the first rings, so many of them, those from an actor
 abbrev pub rings_from : List RingSpec → ℕ → ℕ → List ℕ
 rings_from rings a n = numbers_where (λ r. nat_eq (slice_index_or (map link_of rings) r no_link).from a) n
 
+-- of the first rings those to an actor
 abbrev pub rings_to : List RingSpec → ℕ → ℕ → List ℕ
 rings_to rings a n = numbers_where (λ r. nat_eq (slice_index_or (map link_of rings) r no_link).to a) n
 
@@ -100,7 +104,7 @@ pub record HaveAllJoined (rings : List RingSpec) (n : ℕ) (before after : List 
 
 -- few ends, as long as rings are made
 abbrev pub HasFewEnds : Part → Type 0
-HasFewEnds p = (length p.givers.items ≤ 32768) × (length p.takers.items ≤ 32768)
+HasFewEnds p = (length p.givers.items ≤ limit_number limit.Rings) × (length p.takers.items ≤ limit_number limit.Rings)
 
 -- the parts of benches
 abbrev pub benched : Bench → List Part
@@ -126,13 +130,13 @@ AreNumbered parts = (a : ℕ) (p : Part) → slice_get parts a ≡ Some p → p.
 
 -- a worker can be made of the parts
 abbrev pub CanWork : List Part → Type 0
-CanWork parts = All IsNew parts × (ends_by parts ≤ 65536)
+CanWork parts = All IsNew parts × (ends_by parts ≤ most_ends)
 
--- the actors of a net, with the items of the inputs, in at most 64 seats at their beginning
+-- the actors of a net, with the items of the inputs, in at most so many seats at their beginning
 pub record AreMade (net : Net) (inputs : List (List ℤ)) (instants : ℕ) (crew : List (List Part)) (places : List Place) (ends : List Ends) : Type 0 where
   pub alone : List Part
   pub parts : List Part
   pub first : AreFirstParts inputs instants net.actors alone
   pub joined : HaveAllJoined net.rings (length net.rings) alone parts ends
   pub seated : ArePlaced parts (length net.actors) crew places
-  pub few : length crew ≤ 64
+  pub few : length crew ≤ most_workers

@@ -14,6 +14,7 @@ use Rattle.lucy_worker.specs.declared.part.Part.{Part}
 use Rattle.lucy_worker.specs.Parts.{IsPartAt}
 use Rattle.lucy_runner.specs.declared.place.Place.{Place}
 use Rattle.lucy_runner.specs.declared.place.Ends.{Ends}
+use Rattle.lucy_runner.specs.Views.{most_workers}
 use Rattle.lucy_runner.specs.Crews.{part_of, AreShared, IsJoined}
 
 -- what the actor of a part took from its first operand
@@ -47,6 +48,7 @@ pub record IsHeld (seen : Seen) (r : ℕ) (ring : RingSpec) (g : GiverView) (t :
   pub slots : g.slots + length t.held ≡ ring.size + 1
   pub capacity : g.ring.capacity ≡ ring.size + 1
 
+-- a ring has its two ends at the places where they were joined, and they have met
 pub record HasEnds (seen : Seen) (crew : List (List Part)) (places : List Place) (ends : List Ends) (r : ℕ) (ring : RingSpec) : Type 0 where
   pub joined : IsJoined crew places ends r ring
   pub holds : IsHeld seen r ring joined.g joined.t
@@ -61,7 +63,7 @@ pub record IsStanding (seen : Seen) (before : ℕ) (crew : List (List Part)) (pl
   pub fixed : IsFixed seen.net seen.schedule seen.inputs seen.operators seen.instants
   pub within : IsWithin (machine_of seen).sys (done_of seen.done)
   pub early : before ≤ seen.instants
-  pub few : length crew ≤ 64
+  pub few : length crew ≤ most_workers
   pub placed : length places ≡ length seen.net.actors
   pub ended : length ends ≡ length seen.net.rings
   pub shared : AreShared crew (length seen.net.actors)

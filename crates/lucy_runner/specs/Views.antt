@@ -14,6 +14,10 @@ pub record RunnerView : Type 0 where
   pub seen : Seen
   pub before : ℕ
 
+-- the most workers that move the actors of a net
+abbrev pub most_workers : ℕ
+most_workers = 64
+
 -- the actor is the input of this number
 abbrev pub is_input : ℕ → ActorKind → Bool
 is_input i (Input n) = nat_eq n i

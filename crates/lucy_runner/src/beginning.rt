@@ -1,9 +1,7 @@
 // Actors that have done nothing.
-ghost use Rattle.std.specs.Prelude.{ℕ, ◌≡◌, ◌<◌, ◌≤◌, [], All, length, slice_get, vec_capacity, Some, IfOk};
+ghost use Rattle.std.specs.Prelude.{◌≡◌, ◌≤◌, [], All, length, vec_capacity, IfOk};
 ghost use Rattle.lucy_word.specs.Limits.{limit_number};
 ghost use Rattle.lucy_word.specs.declared.limit.Limit.TheVariants as limit;
-ghost use Rattle.lucy_net.specs.declared.kind.ActorKind.TheVariants.{Input};
-ghost use Rattle.lucy_net.specs.declared.net.Actor.{Actor};
 ghost use Rattle.lucy_net.specs.States.{IsUsable, ReadsInput};
 ghost use Rattle.lucy_worker.specs.News.{HasRoom};
 ghost use Rattle.lucy_runner.specs.Making.{IsFirstPart, AreFirstParts};
@@ -15,13 +13,12 @@ use lucy_word::OutOfMemory;
 use lucy_worker::Part;
 use std::alloc::Global;
 
-// The list of an input.
+// The list of an input, an empty one where there is none.
 fn input_of(alloc: Global, inputs: &Inputs, kind: &ActorKind) -> Result<Vec<i64>, OutOfMemory>
-    requires { (n : ℕ) → kind.now ≡ Input n → n < length inputs.now }
     ensures { IfOk result (λ list. ReadsInput kind.now inputs.now list.items) }
 {
     match kind {
-        ActorKind::Input(input) => Ok(inputs.list(*input).to_vec(alloc)?),
+        ActorKind::Input(input) => Ok(inputs.get(*input).to_vec(alloc)?),
         _ => Ok(Vec::new(alloc)),
     }
 }
@@ -46,7 +43,6 @@ fn first_part(
     instants: u64,
 ) -> Result<Part, OutOfMemory>
     requires usable { IsUsable actor.now }
-    requires inputs { (n : ℕ) → actor.now.kind ≡ Input n → n < length inputs.now }
     ensures { IfOk result (λ part. IsFirstPart inputs.now instants number actor.now part) }
 {
     let state = first_state(actor, instants);
@@ -73,7 +69,6 @@ pub(crate) fn first_parts(
 ) -> Result<Vec<Part>, OutOfMemory>
     requires few { length actors.now ≤ limit_number limit.Actors }
     requires usable { All IsUsable actors.now }
-    requires inputs { (a n : ℕ) (actor : Actor) → slice_get actors.now a ≡ Some actor → actor.kind ≡ Input n → n < length inputs.now }
     ensures { IfOk result (λ parts. AreFirstParts inputs.now instants actors.now parts.items) }
 {
     let mut parts = Vec::new(alloc);

@@ -1,8 +1,8 @@
 // A block more for the parts of all workers: first room for it, and then more to do.
-ghost use Rattle.std.specs.Prelude.{◌≡◌, ◌-◌, ◌<◌, ◌≤◌, All, length, OnOk, OnErr};
+ghost use Rattle.std.specs.Prelude.{◌≡◌, ◌-◌, ◌^◌, ◌<◌, ◌≤◌, All, length, OnOk, OnErr};
 ghost use Rattle.lucy_word.specs.Bits.{ones_to};
 ghost use Rattle.lucy_runner.specs.Crews.{crew_of};
-ghost use Rattle.lucy_runner.specs.Growths.{added_for, HaveGrown, HasList, room_for, MayGrow, HasSpace, AreSpared, AreExtended, OfEach, AreFew, HaveSpared};
+ghost use Rattle.lucy_runner.specs.Growths.{added_for, HaveGrown, room_for, MayGrow, HasSpace, AreSpared, AreExtended, OfEach, AreFew, HaveSpared};
 
 use crate::seat::Seat;
 use lucy_host::Inputs;
@@ -13,11 +13,10 @@ use std::alloc::Global;
 
 // The items that follow those of an input's actor, none for any other.
 fn added_to<'a>(kind: &ActorKind, inputs: &'a Inputs) -> &'a [i64]
-    requires { HasList kind.now (length inputs.now) }
     ensures { result.now ≡ added_for kind.now inputs.now }
 {
     match kind {
-        ActorKind::Input(input) => inputs.list(*input),
+        ActorKind::Input(input) => inputs.get(*input),
         _ => &[],
     }
 }
@@ -36,7 +35,7 @@ fn room_of(part: &Part, instants: u64) -> u64
 impl Seat {
     // Makes room for what each part gets.
     fn reserve(&mut self, alloc: Global, inputs: &Inputs, instants: u64) -> Result<(), OutOfMemory>
-        requires few { length self.old.worker.parts < 4294967296 }
+        requires few { length self.old.worker.parts < 2 ^ 32 }
         requires may { All (MayGrow inputs.now instants) self.old.worker.parts }
         ensures spared { AreSpared self.old.worker.parts self.new.worker.parts }
         ensures ok { OnOk result (All (HasSpace inputs.now instants) self.new.worker.parts) }
@@ -52,7 +51,7 @@ impl Seat {
 
     // Gives each part what it gets.
     fn extend(&mut self, inputs: &Inputs, instants: u64)
-        requires few { length self.old.worker.parts < 4294967296 }
+        requires few { length self.old.worker.parts < 2 ^ 32 }
         requires may { All (MayGrow inputs.now instants) self.old.worker.parts }
         requires space { All (HasSpace inputs.now instants) self.old.worker.parts }
         ensures { AreExtended inputs.now instants self.old.worker.parts self.new.worker.parts }

@@ -25,7 +25,7 @@ fn ends_of(alloc: Global, spec: &RingSpec) -> Result<(Giver, Taker), OutOfMemory
 
 // One giver more; it is the one of the number that is answered.
 fn add_giver(part: &mut Part, giver: Giver) -> Result<u32, OutOfMemory>
-    requires { length part.old.givers.items ≤ 32768 }
+    requires { length part.old.givers.items ≤ limit_number limit.Rings }
     ensures at { IfOk result (λ at. at ≡ length part.old.givers.items) }
     ensures gained { IfOk result (λ _. HasGained part.old (giver ∷ []) [] part.new) }
 {
@@ -36,7 +36,7 @@ fn add_giver(part: &mut Part, giver: Giver) -> Result<u32, OutOfMemory>
 
 // One taker more.
 fn add_taker(part: &mut Part, taker: Taker) -> Result<u32, OutOfMemory>
-    requires { length part.old.takers.items ≤ 32768 }
+    requires { length part.old.takers.items ≤ limit_number limit.Rings }
     ensures at { IfOk result (λ at. at ≡ length part.old.takers.items) }
     ensures gained { IfOk result (λ _. HasGained part.old [] (taker ∷ []) part.new) }
 {

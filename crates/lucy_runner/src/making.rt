@@ -1,7 +1,9 @@
 // What a runner is made of.
 ghost use Rattle.std.specs.Prelude.{◌≡◌, ◌≤◌, ◌<◌, length, All, IfOk};
+ghost use Rattle.lucy_word.specs.Limits.{limit_number};
+ghost use Rattle.lucy_word.specs.declared.limit.Limit.TheVariants as limit;
 ghost use Rattle.lucy_net.specs.Proper.{IsProper, IsSupplied};
-ghost use Rattle.lucy_runner.specs.Views.{input_count};
+ghost use Rattle.lucy_runner.specs.Views.{most_workers};
 ghost use Rattle.lucy_runner.specs.Crews.{crew_of};
 ghost use Rattle.lucy_runner.specs.Making.{AreMade};
 
@@ -35,9 +37,8 @@ pub(crate) fn seat_all(
 ) -> Result<Crew, OutOfMemory>
     requires proper { IsProper net.now }
     requires supplied { IsSupplied inputs.now net.now instants }
-    requires lists { input_count net.now.actors ≤ length inputs.now }
-    requires early { instants ≤ 1048576 }
-    requires workers { workers ≤ 64 }
+    requires early { instants ≤ limit_number limit.Instants }
+    requires workers { workers ≤ most_workers }
     requires homes { length homes.now ≡ length net.now.actors }
     requires each { All (λ home. home < workers) homes.now }
     ensures { IfOk result (λ crew. AreMade net.now inputs.now instants (crew_of crew.seats.items) crew.places.items crew.ends.items) }

@@ -1,5 +1,5 @@
 // Where the outputs of a net are.
-ghost use Rattle.std.specs.Prelude.{ℕ, ◌≡◌, ◌<◌, Some, length, slice_get, IfOk};
+ghost use Rattle.std.specs.Prelude.{ℕ, ◌≡◌, ◌^◌, ◌<◌, Some, length, slice_get, IfOk};
 ghost use Rattle.lucy_net.specs.declared.kind.ActorKind.TheVariants.{Output};
 ghost use Rattle.lucy_net.specs.declared.net.Actor.{Actor};
 ghost use Rattle.lucy_runner.specs.Standing.{AreOutputs};
@@ -22,7 +22,7 @@ fn output_count(actors: &[Actor]) -> usize
 
 /// The actor of each output, in order of the outputs' numbers.
 pub(crate) fn outputs_of(alloc: Global, actors: &[Actor]) -> Result<Vec<u32>, AllocError>
-    requires few { length actors.now < 4294967296 }
+    requires few { length actors.now < 2 ^ 32 }
     requires apart { (a b n : ℕ) (x y : Actor) → slice_get actors.now a ≡ Some x → slice_get actors.now b ≡ Some y → x.kind ≡ Output n → y.kind ≡ Output n → a ≡ b }
     ensures { IfOk result (λ outputs. AreOutputs actors.now outputs.items) }
 {

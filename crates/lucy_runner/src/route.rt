@@ -71,14 +71,14 @@ pub(crate) fn route_of(
     Ok(route)
 }
 
-// A round makes no pass more behind so many moves.
-const MOST_MOVES: u64 = 1 << 40;
+// Behind so many moves along the route a round makes no pass more.
+const FULL_ROUND: u64 = 1 << 40;
 
 // A route has no more places, as a net has no more actors.
 const MOST_PLACES: usize = 16_384;
 
 /// Passes over the route, back and on, until one moves nothing. Answers the number of moves.
-pub(crate) fn go_along<F: Fn(u32, i64, i64) -> i64 + Sync>(
+pub(crate) fn passes_along<F: Fn(u32, i64, i64) -> i64 + Sync>(
     seats: &mut [Seat],
     route: &[Place],
     host: &Host<F>,
@@ -91,7 +91,7 @@ pub(crate) fn go_along<F: Fn(u32, i64, i64) -> i64 + Sync>(
     let mut moves = 0;
     let mut more = 1;
     let mut heading = Heading::first();
-    while more > 0 && moves < MOST_MOVES {
+    while more > 0 && moves < FULL_ROUND {
         more = pass_along(seats, route, host, heading.back);
         moves += more;
         heading = heading.after(more);

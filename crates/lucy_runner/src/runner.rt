@@ -5,8 +5,8 @@ use crate::making::{Crew, seat_all};
 use crate::meeting::meet_all;
 use crate::outputs::outputs_of;
 use crate::place::{Ends, Place};
-use crate::route::{go_along, route_of};
-use crate::seat::{Seat, all_done, few_left, turn_apart, turn_in_place};
+use crate::route::{passes_along, route_of};
+use crate::seat::{Seat, all_done, few_left, pass_in_place, turn_apart};
 use lucy_cause::Schedule;
 use lucy_core::{Core, CoreParts};
 use lucy_host::{Host, Inputs, Ops};
@@ -69,6 +69,8 @@ impl Runner {
     ghost use Rattle.lucy_host.specs.Host.{Serves, lent};
     ghost use Rattle.lucy_host.specs.Operators.{kinds_of};
     ghost use Rattle.lucy_word.specs.Bits.{ones_to};
+    ghost use Rattle.lucy_word.specs.Limits.{limit_number};
+    ghost use Rattle.lucy_word.specs.declared.limit.Limit.TheVariants as limit;
     ghost use Rattle.lucy_stream.specs.Fronts.{IsFront};
     ghost use Rattle.lucy_event.specs.Runs.{none_done, IsRun, between, first_left};
     ghost use Rattle.lucy_event.specs.States.{State, held, events, IsSame, IsState, Reaches};
@@ -77,12 +79,12 @@ impl Runner {
     ghost use Rattle.lucy_net.specs.declared.net.RingSpec.{RingSpec};
     ghost use Rattle.lucy_net.specs.Proper.{IsSupplied};
     ghost use Rattle.lucy_core.specs.Seen.{plan_of, machine_of, order_of, state_of, done_of, after_picks, CanStep, CanRun, IsOver, IsUnbegun, IsOutputOf, first_ring, stream_of};
-    ghost use Rattle.lucy_runner.specs.Views.{first_runner, input_count};
+    ghost use Rattle.lucy_runner.specs.Views.{first_runner, most_workers};
     ghost use Rattle.lucy_runner.specs.Blocks.{longer_inputs, grown_seen};
     ghost use Rattle.lucy_runner.specs.Rounds.{IsRoundTo};
 
-    /// A runner of a core without an event so far, with a list for each input of the net, by 1 to 64 workers: the actor of a number
-    /// is in the worker that is its home. Each ring gets its size and one slot more. All memory that rounds use is made here.
+    /// A runner of a core without an event so far, by 1 to 64 workers: the actor of a number is in the worker that is its home. The list
+    /// of an input that doesn't fire may be missing; it is an empty one. Each ring gets its size and one slot more. All memory that rounds use is made here.
     pub fn new(
         alloc: Global,
         core: Core,
@@ -90,8 +92,7 @@ impl Runner {
         homes: &[u32],
     ) -> Result<Runner, OutOfMemory>
         requires unbegun { IsUnbegun core }
-        requires inputs { input_count core.net.actors ≤ length core.inputs }
-        requires workers { (1 ≤ workers) × (workers ≤ 64) }
+        requires workers { (1 ≤ workers) × (workers ≤ most_workers) }
         requires homes { length homes.now ≡ length core.net.actors }
         requires each { All (λ home. home < workers) homes.now }
         ensures { IfOk result (λ runner. runner ≡ first_runner core) }
@@ -159,9 +160,9 @@ impl Runner {
         let turned = if threading == Threading::Apart {
             turn_apart(rt, seats, host, gate)
         } else {
-            turn_in_place(seats, host)
+            pass_in_place(seats, host)
         };
-        let moves = turned + go_along(seats, self.route.as_slice(), host);
+        let moves = turned + passes_along(seats, self.route.as_slice(), host);
         meet_all(
             seats,
             self.net.rings.list(),
@@ -223,13 +224,12 @@ impl Runner {
     }
 
     /// Moves the horizon of a finished runner on, to at most 1,048,576 instants, and appends to each input the items that follow its
-    /// own: it then needs an item for each firing up to the new horizon. Rings and actors stay as they are, and the outputs' items
+    /// own, none where their list is missing: it then needs an item for each firing up to the new horizon. Rings and actors stay as they are, and the outputs' items
     /// count as carried away. All memory that rounds use is made here, before anything else is done, so a refusal changes nothing.
     pub fn more(&mut self, alloc: Global, inputs: &Inputs, instants: u64) -> Result<(), OutOfMemory>
         requires finished { IsOver self.old.seen }
         requires later { self.old.seen.instants ≤ instants }
-        requires early { instants ≤ 1048576 }
-        requires inputs { input_count self.old.seen.net.actors ≤ length inputs.now }
+        requires early { instants ≤ limit_number limit.Instants }
         requires supplied { IsSupplied (longer_inputs self.old.seen.net self.old.seen.inputs inputs.now) self.old.seen.net instants }
         ensures ok { IfOk result (λ _. self.new ≡ record { seen = grown_seen self.old.seen inputs.now instants; before = self.old.seen.instants }) }
         ensures refused { OnErr result (self.new ≡ self.old) }

@@ -4,6 +4,7 @@ ghost use Rattle.lucy_host.specs.Host.{Serves, lent};
 ghost use Rattle.lucy_host.specs.Operators.{kinds_of};
 ghost use Rattle.lucy_worker.specs.Parts.{IsDone};
 ghost use Rattle.lucy_worker.specs.Turns.{IsServed, most_moves};
+ghost use Rattle.lucy_runner.specs.Views.{most_workers};
 ghost use Rattle.lucy_runner.specs.Crews.{crew_of};
 ghost use Rattle.lucy_runner.specs.Turns.{HaveTurned};
 ghost use Rattle.lucy_runner.specs.Seats.{IsTurned, moves_of, most_turned};
@@ -29,7 +30,7 @@ pub(crate) fn turn_apart<R: Threads + Sync, F: Fn(u32, i64, i64) -> i64 + Sync, 
 ) -> u64
     requires serves { Serves F.pre F.post host.now }
     requires served { All (λ seat. All (IsServed (length (lent host.now))) seat.worker.parts) seats.old }
-    requires few { length seats.old ≤ 64 }
+    requires few { length seats.old ≤ most_workers }
     ensures turned { HaveTurned (kinds_of (lent host.now)) (crew_of seats.old) (crew_of seats.new) result }
     ensures few { result ≤ most_turned }
 {
@@ -49,13 +50,13 @@ pub(crate) fn turn_apart<R: Threads + Sync, F: Fn(u32, i64, i64) -> i64 + Sync, 
 }
 
 /// A pass of one worker after the other over its actors, by one thread. It passes no gate. Answers the number of moves.
-pub(crate) fn turn_in_place<F: Fn(u32, i64, i64) -> i64 + Sync>(
+pub(crate) fn pass_in_place<F: Fn(u32, i64, i64) -> i64 + Sync>(
     seats: &mut [Seat],
     host: &Host<F>,
 ) -> u64
     requires serves { Serves F.pre F.post host.now }
     requires served { All (λ seat. All (IsServed (length (lent host.now))) seat.worker.parts) seats.old }
-    requires few { length seats.old ≤ 64 }
+    requires few { length seats.old ≤ most_workers }
     ensures turned { HaveTurned (kinds_of (lent host.now)) (crew_of seats.old) (crew_of seats.new) result }
     ensures few { result ≤ most_turned }
 {
@@ -74,7 +75,7 @@ pub(crate) fn all_done(seats: &[Seat]) -> bool
 
 // The moves of the last turn of each.
 fn moves_in(seats: &[Seat]) -> u64
-    requires few { length seats.now ≤ 64 }
+    requires few { length seats.now ≤ most_workers }
     requires each { All (λ seat. seat.moves ≤ most_moves) seats.now }
     ensures sum { result ≡ sum_by moves_of seats.now }
     ensures few { result ≤ most_turned }

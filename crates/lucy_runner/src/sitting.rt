@@ -3,6 +3,7 @@ ghost use Rattle.std.specs.Prelude.{ℕ, ◌≡◌, ◌+◌, ◌<◌, ◌≤◌,
 ghost use Rattle.lucy_word.specs.Limits.{limit_number};
 ghost use Rattle.lucy_word.specs.declared.limit.Limit.TheVariants as limit;
 ghost use Rattle.lucy_worker.specs.News.{IsNew, ends_by};
+ghost use Rattle.lucy_runner.specs.Views.{most_workers};
 ghost use Rattle.lucy_runner.specs.Crews.{crew_of};
 ghost use Rattle.lucy_runner.specs.Making.{benched, ArePlaced, AreNumbered, CanWork, HaveSeats};
 
@@ -42,7 +43,7 @@ fn used_homes(alloc: Global, workers: u32, homes: &[u32]) -> Result<Vec<bool>, O
 
 // The benches of these homes.
 fn hall_of(alloc: Global, used: &[bool]) -> Result<Hall, OutOfMemory>
-    requires { length used.now ≤ 64 }
+    requires { length used.now ≤ most_workers }
     ensures { IfOk result (λ hall. HaveSeats used.now hall) }
 {
     let mut numbers = Vec::new(alloc);
@@ -124,11 +125,11 @@ pub(crate) fn seat_parts(
     requires numbered { AreNumbered parts.items }
     requires few { length parts.items ≤ limit_number limit.Actors }
     requires can { CanWork parts.items }
-    requires workers { workers ≤ 64 }
+    requires workers { workers ≤ most_workers }
     requires homes { length homes.now ≡ length parts.items }
     requires each { All (λ home. home < workers) homes.now }
     ensures placed { IfOk result (λ r. ArePlaced parts.items (length parts.items) (crew_of r.0.items) r.1.items) }
-    ensures few { IfOk result (λ r. length (crew_of r.0.items) ≤ 64) }
+    ensures few { IfOk result (λ r. length (crew_of r.0.items) ≤ most_workers) }
 {
     let used = used_homes(alloc, workers, homes)?;
     let Hall {

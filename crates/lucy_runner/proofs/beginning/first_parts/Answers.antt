@@ -4,11 +4,6 @@ use Rattle.std.proofs.lemmas.Option.{slice_get_read}
 use Rattle.lucy_runner.proofs.BegunLaws.{parts_more}
 use Rattle.lucy_runner.proofs.beginning.first_parts.Goals as goal
 
-pub first_part-requires-clause-inputs : goal.first_part-requires-clause-inputs
-first_part-requires-clause-inputs c =
-    let at = slice_get_read c.args.actors.now (length c.args.actors.now) c.loop-number.number c.index-actors-number.result refl c.loop-number-test.true c.index-actors-number.is in
-    λ n k. c.requires.inputs c.loop-number.number n c.index-actors-number.result at k
-
 pub loop-number-preserved : goal.loop-number-preserved
 loop-number-preserved c =
     let at = slice_get_read c.args.actors.now (length c.args.actors.now) c.loop-number.number c.index-actors-number.result refl c.loop-number-test.true c.index-actors-number.is in

@@ -1,4 +1,4 @@
-use Rattle.std.proofs.Common.{ℕ, ◌<◌, ◌≤◌, List, length, set, sym, ◌∙◌, subst, arith}
+use Rattle.std.proofs.Common.{ℕ, ◌<◌, ◌≤◌, List, length, set, sym, ◌∙◌, subst, arith, ◌^◌}
 use Rattle.std.specs.Prelude.{All}
 use Rattle.std.proofs.lemmas.List.{length-set}
 use Rattle.lucy_runner.specs.declared.seat.Seat.{Seat}
@@ -12,7 +12,7 @@ reserve-requires-clause-few c =
     let i : ℕ = c.loop-seat.seat-index in
     let d : Seat = c.seat-item.result in
     let l : i < length c.args.seats.now = omega arith in
-    subst (λ (s : Seat). length s.worker.parts < 4294967296) (sym (c.loop-seat.invariant.rest i d (omega arith))) (few_seated c.args.seats.now i d c.requires.few l)
+    subst (λ (s : Seat). length s.worker.parts < 2 ^ 32) (sym (c.loop-seat.invariant.rest i d (omega arith))) (few_seated c.args.seats.now i d c.requires.few l)
 
 pub reserve-requires-clause-may : goal.reserve-requires-clause-may
 reserve-requires-clause-may c =

@@ -8,7 +8,6 @@ use Rattle.lucy_worker.specs.declared.part.Part.{Part}
 use Rattle.lucy_runner.specs.Crews.{crew_of}
 use Rattle.lucy_runner.specs.Making.{AreNumbered, CanWork, ArePlaced}
 use Rattle.lucy_runner.proofs.BenchLaws.{slice_back}
-use Rattle.lucy_runner.proofs.InputLaws.{counted_here}
 use Rattle.lucy_runner.proofs.MadeLaws.{rings_within, alone_none, first_of, joined_of, numbered_all, works_all}
 use Rattle.lucy_runner.proofs.making.seat_all.Goals as goal
 
@@ -16,9 +15,6 @@ pub first_parts-requires-clause-usable : goal.first_parts-requires-clause-usable
 first_parts-requires-clause-usable c =
     let n = c.args.net.now in
     subst (All IsUsable) (sym c.list.ensures) (λ k d l. usable n k (get_or n.actors k d) c.requires.proper (slice_get-get_or n.actors k d l))
-
-pub first_parts-requires-clause-inputs : goal.first_parts-requires-clause-inputs
-first_parts-requires-clause-inputs c = λ a n actor e k. omega (arith, counted_here c.args.net.now.actors a n actor (ap (λ xs. slice_get xs a) (sym c.list.ensures) ∙ e) k, c.requires.lists)
 
 pub join_all-requires-clause-actors : goal.join_all-requires-clause-actors
 join_all-requires-clause-actors c =

@@ -1,17 +1,9 @@
-use Rattle.std.proofs.Common.{◌≡◌, ◌≤◌, length, ap, sym, ◌∙◌, subst, arith}
+use Rattle.std.proofs.Common.{◌≡◌, length, ap, sym, ◌∙◌, subst}
 use Rattle.lucy_meaning.specs.Horizons.{Suffice}
 use Rattle.lucy_execution.specs.Streams.{param_words}
 use Rattle.lucy_execution.specs.Playing.{PlayerView, joined}
-use Rattle.lucy_execution.proofs.InputLaws.{inputs_counted}
 use Rattle.lucy_execution.proofs.PlayLaws.{supplied_on, played_on, on_is}
 use Rattle.lucy_execution.proofs.player.Player.go_on.Goals as goal
-
-pub more-requires-clause-inputs : goal.more-requires-clause-inputs
-more-requires-clause-inputs g c =
-    let x = c.self.inside in
-    let count = inputs_counted x.placed.now.nodes x.clocks.now c.nodes.ensures.proper x.runner.seen.net c.self.invariant.flat in
-    let same = ap (λ (v : PlayerView). length v.inputs) c.self.view_is in
-    omega (arith, count, same, c.self.invariant.inputs, c.requires.inputs)
 
 pub more-requires-clause-supplied : goal.more-requires-clause-supplied
 more-requires-clause-supplied g c =

@@ -1,13 +1,13 @@
-use Rattle.std.proofs.Common.{◌≤◌, ◌≡◌, List, length, ap, sym, subst, ◌∙◌, arith}
+use Rattle.std.proofs.Common.{◌≡◌, List, length, ap, sym, subst, ◌∙◌}
 use Rattle.lucy_host.specs.Host.{lent}
 use Rattle.lucy_host.specs.Operators.{Operator, kinds_of}
 use Rattle.lucy_meaning.specs.Spots.{main_of}
 use Rattle.lucy_kahn.specs.Turns.{params_in}
 use Rattle.lucy_core.specs.Seen.{Seen, IsFixed, done_of}
 use Rattle.lucy_flat.specs.Flat.{IsFlat}
-use Rattle.lucy_runner.specs.Views.{input_count, inputs_for}
+use Rattle.lucy_runner.specs.Views.{inputs_for}
 use Rattle.lucy_execution.proofs.NetLaws.{fixed}
-use Rattle.lucy_execution.proofs.InputLaws.{inputs_counted, inputs_same}
+use Rattle.lucy_execution.proofs.InputLaws.{inputs_same}
 use Rattle.lucy_execution.proofs.OutputLaws.{first_unbegun}
 use Rattle.lucy_execution.proofs.player.Player.new.Goals as goal
 
@@ -24,11 +24,6 @@ run_core-requires-clause-unbegun g c κs within = λ a.
 pub run_core-requires-clause-flat : goal.run_core-requires-clause-flat
 run_core-requires-clause-flat g c κs within =
     subst (λ (s : Seen). IsFlat c.args.placed.now.nodes c.args.clocks.now s.net) (sym c.in-Ok-new.ensures) c.requires.flat
-
-pub run_core-requires-clause-counted : goal.run_core-requires-clause-counted
-run_core-requires-clause-counted g c κs within =
-    let count = inputs_counted c.args.placed.now.nodes c.args.clocks.now c.nodes.ensures.proper c.args.net c.requires.flat in
-    subst (λ (s : Seen). input_count s.net.actors ≤ length s.inputs) (sym c.in-Ok-new.ensures) (omega (arith, count, c.requires.inputs))
 
 pub run_core-requires-clause-inputs : goal.run_core-requires-clause-inputs
 run_core-requires-clause-inputs g c κs within =

@@ -23,7 +23,7 @@ grow_all-requires-clause-may c =
     let x = c.self.inside in
     let was : Seen = seen_by x.net x.schedule x.ops x.instants (crew_of x.seats.items) x.places.items in
     let view : was ≡ c.args.self.now.seen = ap (λ (v : RunnerView). v.seen) c.self.view_is in
-    let all : IsAsked c.args.self.now.seen c.args.instants c.args.inputs.now = record { finished = c.requires.finished; later = c.requires.later; early = c.requires.early; inputs = c.requires.inputs; supplied = c.requires.supplied } in
+    let all : IsAsked c.args.self.now.seen c.args.instants c.args.inputs.now = record { finished = c.requires.finished; later = c.requires.later; early = c.requires.early; supplied = c.requires.supplied } in
     let asked : IsAsked was c.args.instants c.args.inputs.now = subst (λ (s : Seen). IsAsked s c.args.instants c.args.inputs.now) (sym view) all in
     subst (λ (xs : List Seat). OfEach (MayGrow c.args.inputs.now c.args.instants) (crew_of xs)) (sym c.as_mut_slice.ensures.value)
     (may_grow x.net x.schedule x.ops x.instants x.before c.args.instants (crew_of x.seats.items) x.places.items x.ends.items c.args.inputs.now c.self.invariant.0 asked)
@@ -53,7 +53,7 @@ invariant_of-self-2 c =
     let x = c.self.inside in
     let was : Seen = seen_by x.net x.schedule x.ops x.instants (crew_of x.seats.items) x.places.items in
     let view : was ≡ c.args.self.now.seen = ap (λ (v : RunnerView). v.seen) c.self.view_is in
-    let all : IsAsked c.args.self.now.seen c.args.instants c.args.inputs.now = record { finished = c.requires.finished; later = c.requires.later; early = c.requires.early; inputs = c.requires.inputs; supplied = c.requires.supplied } in
+    let all : IsAsked c.args.self.now.seen c.args.instants c.args.inputs.now = record { finished = c.requires.finished; later = c.requires.later; early = c.requires.early; supplied = c.requires.supplied } in
     let asked : IsAsked was c.args.instants c.args.inputs.now = subst (λ (s : Seen). IsAsked s c.args.instants c.args.inputs.now) (sym view) all in
     let grown : List Seat = c.grow_all.new.seats in
     let last : List Seat = (with_items x.seats grown).items in
@@ -69,7 +69,7 @@ returns-clause-ok c =
     let x = c.self.inside in
     let was : Seen = seen_by x.net x.schedule x.ops x.instants (crew_of x.seats.items) x.places.items in
     let view : was ≡ c.args.self.now.seen = ap (λ (v : RunnerView). v.seen) c.self.view_is in
-    let all : IsAsked c.args.self.now.seen c.args.instants c.args.inputs.now = record { finished = c.requires.finished; later = c.requires.later; early = c.requires.early; inputs = c.requires.inputs; supplied = c.requires.supplied } in
+    let all : IsAsked c.args.self.now.seen c.args.instants c.args.inputs.now = record { finished = c.requires.finished; later = c.requires.later; early = c.requires.early; supplied = c.requires.supplied } in
     let asked : IsAsked was c.args.instants c.args.inputs.now = subst (λ (s : Seen). IsAsked s c.args.instants c.args.inputs.now) (sym view) all in
     let grown : List Seat = c.grow_all.new.seats in
     let last : List Seat = (with_items x.seats grown).items in
@@ -86,7 +86,7 @@ returns-clause-same c =
     let x = c.self.inside in
     let was : Seen = seen_by x.net x.schedule x.ops x.instants (crew_of x.seats.items) x.places.items in
     let view : was ≡ c.args.self.now.seen = ap (λ (v : RunnerView). v.seen) c.self.view_is in
-    let all : IsAsked c.args.self.now.seen c.args.instants c.args.inputs.now = record { finished = c.requires.finished; later = c.requires.later; early = c.requires.early; inputs = c.requires.inputs; supplied = c.requires.supplied } in
+    let all : IsAsked c.args.self.now.seen c.args.instants c.args.inputs.now = record { finished = c.requires.finished; later = c.requires.later; early = c.requires.early; supplied = c.requires.supplied } in
     let asked : IsAsked was c.args.instants c.args.inputs.now = subst (λ (s : Seen). IsAsked s c.args.instants c.args.inputs.now) (sym view) all in
     let grown : List Seat = c.grow_all.new.seats in
     let last : List Seat = (with_items x.seats grown).items in
@@ -102,7 +102,7 @@ returns-clause-joined c =
     let x = c.self.inside in
     let was : Seen = seen_by x.net x.schedule x.ops x.instants (crew_of x.seats.items) x.places.items in
     let view : was ≡ c.args.self.now.seen = ap (λ (v : RunnerView). v.seen) c.self.view_is in
-    let all : IsAsked c.args.self.now.seen c.args.instants c.args.inputs.now = record { finished = c.requires.finished; later = c.requires.later; early = c.requires.early; inputs = c.requires.inputs; supplied = c.requires.supplied } in
+    let all : IsAsked c.args.self.now.seen c.args.instants c.args.inputs.now = record { finished = c.requires.finished; later = c.requires.later; early = c.requires.early; supplied = c.requires.supplied } in
     let asked : IsAsked was c.args.instants c.args.inputs.now = subst (λ (s : Seen). IsAsked s c.args.instants c.args.inputs.now) (sym view) all in
     let grown : List Seat = c.grow_all.new.seats in
     let last : List Seat = (with_items x.seats grown).items in

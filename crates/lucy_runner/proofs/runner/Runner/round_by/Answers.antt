@@ -22,8 +22,8 @@ turn_apart-turned-requires-clause-served g c κs within =
     (served_in x.net x.schedule x.ops (lent c.args.host.now) x.instants x.before x.seats.items c.as_mut_slice-seats.result.now
     x.places.items x.ends.items c.self.invariant.0 kinds c.as_mut_slice-seats.ensures.value)
 
-pub turn_in_place-turned-requires-clause-served : goal.turn_in_place-turned-requires-clause-served
-turn_in_place-turned-requires-clause-served g c κs within =
+pub pass_in_place-turned-requires-clause-served : goal.pass_in_place-turned-requires-clause-served
+pass_in_place-turned-requires-clause-served g c κs within =
     let x = c.self.inside in
     let kinds : kinds_of x.ops ≡ kinds_of (lent c.args.host.now) = ap (λ (v : RunnerView). kinds_of v.seen.operators) c.self.view_is ∙ sym
     c.requires.kinds in
@@ -31,8 +31,8 @@ turn_in_place-turned-requires-clause-served g c κs within =
     (served_in x.net x.schedule x.ops (lent c.args.host.now) x.instants x.before x.seats.items c.as_mut_slice-seats.result.now
     x.places.items x.ends.items c.self.invariant.0 kinds c.as_mut_slice-seats.ensures.value)
 
-pub go_along-requires-clause-served : goal.go_along-requires-clause-served
-go_along-requires-clause-served g c κs within =
+pub passes_along-requires-clause-served : goal.passes_along-requires-clause-served
+passes_along-requires-clause-served g c κs within =
     let x = c.self.inside in
     let kinds : kinds_of x.ops ≡ kinds_of (lent c.args.host.now) = ap (λ (v : RunnerView). kinds_of v.seen.operators) c.self.view_is ∙ sym
     c.requires.kinds in
@@ -41,8 +41,8 @@ go_along-requires-clause-served g c κs within =
     let turn : HaveTurned ks (crew_of entry) (crew_of c.if-eq.seats) c.if-eq.turned = elim c.if-eq.branch [
       | then-eq w ↦ turned_as ks entry w.turn_apart-turned.new.seats c.if-eq.seats w.turn_apart-turned.result c.if-eq.turned
           w.turn_apart-turned.ensures.turned w.seats-is w.turned-is
-      | else-eq w ↦ turned_as ks entry w.turn_in_place-turned.new.seats c.if-eq.seats w.turn_in_place-turned.result c.if-eq.turned
-          w.turn_in_place-turned.ensures.turned w.seats-is w.turned-is
+      | else-eq w ↦ turned_as ks entry w.pass_in_place-turned.new.seats c.if-eq.seats w.pass_in_place-turned.result c.if-eq.turned
+          w.pass_in_place-turned.ensures.turned w.seats-is w.turned-is
     ] in
     served_on ks (length (lent c.args.host.now)) (crew_of entry) (crew_of c.if-eq.seats) c.if-eq.turned
     (turned_run ks (crew_of entry) (crew_of c.if-eq.seats) c.if-eq.turned turn)
@@ -58,15 +58,15 @@ meet_all-requires g c =
     let turn : HaveTurned ks (crew_of entry) (crew_of c.if-eq.seats) c.if-eq.turned = elim c.if-eq.branch [
       | then-eq w ↦ turned_as ks entry w.turn_apart-turned.new.seats c.if-eq.seats w.turn_apart-turned.result c.if-eq.turned
           w.turn_apart-turned.ensures.turned w.seats-is w.turned-is
-      | else-eq w ↦ turned_as ks entry w.turn_in_place-turned.new.seats c.if-eq.seats w.turn_in_place-turned.result c.if-eq.turned
-          w.turn_in_place-turned.ensures.turned w.seats-is w.turned-is
+      | else-eq w ↦ turned_as ks entry w.pass_in_place-turned.new.seats c.if-eq.seats w.pass_in_place-turned.result c.if-eq.turned
+          w.pass_in_place-turned.ensures.turned w.seats-is w.turned-is
     ] in
-    let turned : HaveTurned ks (crew_of entry) (crew_of c.go_along.new.seats) (c.if-eq.turned + c.go_along.result) =
-    turned_on ks (crew_of entry) (crew_of c.if-eq.seats) (crew_of c.go_along.new.seats) c.if-eq.turned c.go_along.result turn
-    c.go_along.ensures.run in
+    let turned : HaveTurned ks (crew_of entry) (crew_of c.passes_along.new.seats) (c.if-eq.turned + c.passes_along.result) =
+    turned_on ks (crew_of entry) (crew_of c.if-eq.seats) (crew_of c.passes_along.new.seats) c.if-eq.turned c.passes_along.result turn
+    c.passes_along.ensures.run in
     record {
-      joined = joined_here x.net x.schedule x.ops x.instants x.before (c.if-eq.turned + c.go_along.result) x.seats.len ks
-          x.seats.items entry c.go_along.new.seats
+      joined = joined_here x.net x.schedule x.ops x.instants x.before (c.if-eq.turned + c.passes_along.result) x.seats.len ks
+          x.seats.items entry c.passes_along.new.seats
           x.places.items c.as_slice-2.result.now x.ends.items c.as_slice-3.result.now c.list.result.now
           c.self.invariant.0 kinds c.as_mut_slice-seats.ensures.value c.as_slice-2.ensures.value c.as_slice-3.ensures.value c.list.ensures
           turned;
@@ -81,18 +81,18 @@ invariant_of-self g c =
     let turn : HaveTurned ks (crew_of entry) (crew_of c.if-eq.seats) c.if-eq.turned = elim c.if-eq.branch [
       | then-eq w ↦ turned_as ks entry w.turn_apart-turned.new.seats c.if-eq.seats w.turn_apart-turned.result c.if-eq.turned
           w.turn_apart-turned.ensures.turned w.seats-is w.turned-is
-      | else-eq w ↦ turned_as ks entry w.turn_in_place-turned.new.seats c.if-eq.seats w.turn_in_place-turned.result c.if-eq.turned
-          w.turn_in_place-turned.ensures.turned w.seats-is w.turned-is
+      | else-eq w ↦ turned_as ks entry w.pass_in_place-turned.new.seats c.if-eq.seats w.pass_in_place-turned.result c.if-eq.turned
+          w.pass_in_place-turned.ensures.turned w.seats-is w.turned-is
     ] in
-    let turned : HaveTurned ks (crew_of entry) (crew_of c.go_along.new.seats) (c.if-eq.turned + c.go_along.result) =
-    turned_on ks (crew_of entry) (crew_of c.if-eq.seats) (crew_of c.go_along.new.seats) c.if-eq.turned c.go_along.result turn
-    c.go_along.ensures.run in
-    let over = round_here x.net x.schedule x.ops x.instants x.before (c.if-eq.turned + c.go_along.result) x.seats.len ks
-    x.seats.items entry c.go_along.new.seats
+    let turned : HaveTurned ks (crew_of entry) (crew_of c.passes_along.new.seats) (c.if-eq.turned + c.passes_along.result) =
+    turned_on ks (crew_of entry) (crew_of c.if-eq.seats) (crew_of c.passes_along.new.seats) c.if-eq.turned c.passes_along.result turn
+    c.passes_along.ensures.run in
+    let over = round_here x.net x.schedule x.ops x.instants x.before (c.if-eq.turned + c.passes_along.result) x.seats.len ks
+    x.seats.items entry c.passes_along.new.seats
     x.places.items c.as_slice-2.result.now x.ends.items c.as_slice-3.result.now c.list.result.now
     c.self.invariant.0 kinds c.as_mut_slice-seats.ensures.value c.as_slice-2.ensures.value c.as_slice-3.ensures.value c.list.ensures turned
     c.meet_all.new.seats
-    (c.meet_all.auto.seats ∙ c.go_along.auto.seats ∙ c.if-eq.auto.seats ∙ c.as_mut_slice-seats.ensures.len) c.meet_all.ensures in
+    (c.meet_all.auto.seats ∙ c.passes_along.auto.seats ∙ c.if-eq.auto.seats ∙ c.as_mut_slice-seats.ensures.len) c.meet_all.ensures in
     (over.stands, c.self.invariant.1)
 
 pub returns-clause-round : goal.returns-clause-round
@@ -104,18 +104,18 @@ returns-clause-round g c =
     let turn : HaveTurned ks (crew_of entry) (crew_of c.if-eq.seats) c.if-eq.turned = elim c.if-eq.branch [
       | then-eq w ↦ turned_as ks entry w.turn_apart-turned.new.seats c.if-eq.seats w.turn_apart-turned.result c.if-eq.turned
           w.turn_apart-turned.ensures.turned w.seats-is w.turned-is
-      | else-eq w ↦ turned_as ks entry w.turn_in_place-turned.new.seats c.if-eq.seats w.turn_in_place-turned.result c.if-eq.turned
-          w.turn_in_place-turned.ensures.turned w.seats-is w.turned-is
+      | else-eq w ↦ turned_as ks entry w.pass_in_place-turned.new.seats c.if-eq.seats w.pass_in_place-turned.result c.if-eq.turned
+          w.pass_in_place-turned.ensures.turned w.seats-is w.turned-is
     ] in
-    let turned : HaveTurned ks (crew_of entry) (crew_of c.go_along.new.seats) (c.if-eq.turned + c.go_along.result) =
-    turned_on ks (crew_of entry) (crew_of c.if-eq.seats) (crew_of c.go_along.new.seats) c.if-eq.turned c.go_along.result turn
-    c.go_along.ensures.run in
-    let over = round_here x.net x.schedule x.ops x.instants x.before (c.if-eq.turned + c.go_along.result) x.seats.len ks
-    x.seats.items entry c.go_along.new.seats
+    let turned : HaveTurned ks (crew_of entry) (crew_of c.passes_along.new.seats) (c.if-eq.turned + c.passes_along.result) =
+    turned_on ks (crew_of entry) (crew_of c.if-eq.seats) (crew_of c.passes_along.new.seats) c.if-eq.turned c.passes_along.result turn
+    c.passes_along.ensures.run in
+    let over = round_here x.net x.schedule x.ops x.instants x.before (c.if-eq.turned + c.passes_along.result) x.seats.len ks
+    x.seats.items entry c.passes_along.new.seats
     x.places.items c.as_slice-2.result.now x.ends.items c.as_slice-3.result.now c.list.result.now
     c.self.invariant.0 kinds c.as_mut_slice-seats.ensures.value c.as_slice-2.ensures.value c.as_slice-3.ensures.value c.list.ensures turned
     c.meet_all.new.seats
-    (c.meet_all.auto.seats ∙ c.go_along.auto.seats ∙ c.if-eq.auto.seats ∙ c.as_mut_slice-seats.ensures.len) c.meet_all.ensures in
+    (c.meet_all.auto.seats ∙ c.passes_along.auto.seats ∙ c.if-eq.auto.seats ∙ c.as_mut_slice-seats.ensures.len) c.meet_all.ensures in
     let next : Seen = seen_by x.net x.schedule x.ops x.instants (crew_of (back_in x.seats.len c.meet_all.new.seats x.seats.items))
     x.places.items in
-    subst (λ (v : RunnerView). IsRoundTo v.seen next (c.if-eq.turned + c.go_along.result)) c.self.view_is over.leads
+    subst (λ (v : RunnerView). IsRoundTo v.seen next (c.if-eq.turned + c.passes_along.result)) c.self.view_is over.leads

@@ -3,7 +3,7 @@ use Rattle.lucy_host.specs.Host.{lent}
 use Rattle.lucy_host.specs.Operators.{kinds_of}
 use Rattle.lucy_runner.specs.declared.seat.Seat.{Seat}
 use Rattle.lucy_runner.specs.Seats.{IsTurned}
-use Rattle.lucy_runner.proofs.seat.turn_in_place.Given as goal
+use Rattle.lucy_runner.proofs.seat.pass_in_place.Given as goal
 
 abbrev pub invariant-loop-seat : goal.invariant-loop-seat
 invariant-loop-seat g l =

@@ -5,7 +5,7 @@ use Rattle.lucy_host.specs.Operators.{kinds_of}
 use Rattle.lucy_worker.specs.Turns.{IsServed}
 use Rattle.lucy_runner.specs.declared.seat.Seat.{Seat}
 use Rattle.lucy_runner.proofs.TurningLaws.{turned_more, rest_more, all_turned, turned_few}
-use Rattle.lucy_runner.proofs.seat.turn_in_place.Goals as goal
+use Rattle.lucy_runner.proofs.seat.pass_in_place.Goals as goal
 
 pub pass_over-seat-requires-clause-served : goal.pass_over-seat-requires-clause-served
 pass_over-seat-requires-clause-served g c κs within =

@@ -3,7 +3,7 @@ use Rattle.lucy_host.specs.Host.{lent}
 use Rattle.lucy_host.specs.Operators.{kinds_of}
 use Rattle.lucy_runner.specs.Crews.{crew_of}
 use Rattle.lucy_runner.proofs.RunLaws.{none_run, runs_on, served_on}
-use Rattle.lucy_runner.proofs.route.go_along.Goals as goal
+use Rattle.lucy_runner.proofs.route.passes_along.Goals as goal
 
 pub loop-more-init : goal.loop-more-init
 loop-more-init g c = (none_run (kinds_of (lent c.args.host.now)) (crew_of c.args.seats.now), omega arith)
