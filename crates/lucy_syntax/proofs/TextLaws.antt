@@ -2,7 +2,7 @@
 use Rattle.std.proofs.Common.{ℕ, ◌≡◌, ◌≤◌, ◌⊎◌, inl, inr, List, [], ◌∷◌, length, refl, ap, sym, ◌∙◌, subst}
 use Rattle.std.proofs.lemmas.List.{append-nil}
 use Rattle.std.specs.Prelude.{Result, Err}
-use Rattle.std.specs.Result.{IsErrAnd}
+use Rattle.std.specs.Result.{IsErrAnd, IfErr}
 use Rattle.std.proofs.lemmas.Result.{err_from_is_err_and}
 use Rattle.lucy_word.specs.Limits.{limit_number}
 use Rattle.lucy_word.specs.declared.limit.Limit.TheVariants as limit
@@ -58,6 +58,17 @@ rejected_so text ts stop x e r short cut i (inr why) h =
     let p = err_from_is_err_and r i in
     let mine : IsRefused text x = inr (unfit_text text ts stop x short cut why) in
     inr (p.1 ∙ ap Err (p.2 ∙ one_error text x e mine h))
+
+-- what is answered is want of memory, or an error that the text is refused with
+pub refused_so : (text : List ℕ) (ts : List Token) (stop : Stop) (x : SyntaxError) (r : Result Program SyntaxError) → length text ≤ limit_number limit.Text →
+    Cuts 0 [] text ts stop → IsErrAnd r (λ y. y ≡ x) → (x ≡ OutOfMemory) ⊎ IsWhy ts stop x → IfErr r (λ e. (e ≡ OutOfMemory) ⊎ IsRefused text e)
+refused_so text ts stop x r short cut i why =
+    let p = err_from_is_err_and r i in
+    subst (λ (s : Result Program SyntaxError). IfErr s (λ e. (e ≡ OutOfMemory) ⊎ IsRefused text e)) (sym (p.1 ∙ ap Err p.2)) (told why)
+  where
+    told : (x ≡ OutOfMemory) ⊎ IsWhy ts stop x → (x ≡ OutOfMemory) ⊎ IsRefused text x
+    told (inl none) = inl none
+    told (inr w) = inr (inr (unfit_text text ts stop x short cut w))
 
 -- and no text with a tree is
 pub accepted_so : (text : List ℕ) (ts : List Token) (stop : Stop) (x : SyntaxError) (p : ProgramTree) (r : Result Program SyntaxError) (A : Type 0) → length text ≤ limit_number limit.Text → Cuts 0 [] text ts stop →

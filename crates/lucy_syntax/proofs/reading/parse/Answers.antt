@@ -6,8 +6,14 @@ use Rattle.lucy_token.specs.Cuts.{Cuts}
 use Rattle.lucy_grammar.specs.Texts.{HasTree}
 use Rattle.lucy_grammar.proofs.ShapedLaws.{shaped}
 use Rattle.lucy_grammar.proofs.TextLaws.{has_tree, one_program, tree_or_error}
-use Rattle.lucy_syntax.proofs.TextLaws.{rejected_so, accepted_so}
+use Rattle.lucy_syntax.proofs.TextLaws.{refused_so, rejected_so, accepted_so}
 use Rattle.lucy_syntax.proofs.reading.parse.Goals as goal
+
+pub returns-in_err-list-clause-refused : goal.returns-in_err-list-clause-refused
+returns-in_err-list-clause-refused c =
+    let P : List Token → Type 0 = λ ts. Cuts 0 [] c.args.text.now ts c.in-Ok.cut.stop in
+    refused_so c.args.text.now _ c.in-Ok.cut.stop _ c.from_residual.result (omega (arith, c.if-text-number.false))
+    (subst P (sym c.deref.ensures.value) c.in-Ok.ensures) c.from_residual.ensures.1 c.in_err-list.ensures.refused
 
 pub returns-in_err-list-clause-accepted : goal.returns-in_err-list-clause-accepted
 returns-in_err-list-clause-accepted c p h =
