@@ -8,3 +8,4 @@ mod OneTightening
 mod PrintedLaws
 mod WellLaws
 mod TellLaws
+mod ReportLaws

@@ -1,0 +1,37 @@
+use Rattle.std.proofs.Common.{◌++◌, ap, sym, ◌∙◌}
+use Rattle.lucy_front.specs.Names.{of_one}
+use Rattle.lucy_front.specs.Report.{node_report}
+use Rattle.lucy_front.proofs.ReportLaws.{four_new}
+use Rattle.lucy_tight.specs.Report.{printed_size, least_size, less_lines}
+use Rattle.lucy_tight.proofs.ReportLaws.{told_sizes, told_clocks, told_variables, told_there}
+use Rattle.lucy_tight.proofs.report.report_tight.Goals as goal
+
+pub report_node-requires-clause-sizes : goal.report_node-requires-clause-sizes
+report_node-requires-clause-sizes c = λ n at.
+    told_sizes c.args.accepted.now c.requires.tightened.0 c.args.node c.args.buffer c.args.tight.now c.requires.tightened.1 n at
+
+pub put_evidence-requires-clause-clocks : goal.put_evidence-requires-clause-clocks
+put_evidence-requires-clause-clocks c = λ n at.
+    told_clocks c.args.accepted.now c.requires.tightened.0 c.args.node c.args.buffer c.args.tight.now c.requires.tightened.1 n at
+
+pub put_evidence-requires-clause-variables : goal.put_evidence-requires-clause-variables
+put_evidence-requires-clause-variables c =
+    told_variables c.args.accepted.now c.requires.tightened.0 c.args.node c.args.buffer c.args.tight.now c.requires.tightened.1
+
+pub put_evidence-requires-clause-there : goal.put_evidence-requires-clause-there
+put_evidence-requires-clause-there c =
+    told_there c.args.accepted.now c.requires.tightened.0 c.args.node c.args.buffer c.args.tight.now c.requires.tightened.1
+
+pub returns : goal.returns
+returns c =
+    let a = c.args.accepted.now in
+    let t = c.args.tight.now in
+    let n = c.node-found.result.now in
+    let is = c.node-found.ensures.is in
+    let lines = c.deref.ensures.value ∙ c.in_ok-lines.ensures n is in
+    four_new (printed_size n c.args.buffer t.printed) (least_size t.least) (node_report a.placed.nodes a.typed c.args.node n t.clocks)
+    (less_lines n t.least t) c.new-out.result.items c.put_size.new.out.items c.put_least.new.out.items c.bytes.new.out.items
+    c.put_evidence.new.out.items c.new-out.ensures.items c.in_ok-put_size.ensures c.in_ok-put_least.ensures
+    (c.in_ok-bytes.ensures ∙ ap (λ l. c.put_least.new.out.items ++ l) lines) (c.in_ok-put_evidence.ensures n is)
+    ∙ sym (ap (of_one (λ m. printed_size m c.args.buffer t.printed ++ (least_size t.least
+    ++ (node_report a.placed.nodes a.typed c.args.node m t.clocks ++ less_lines m t.least t)))) is)
