@@ -7,6 +7,9 @@ mod Told
 mod OwedPrograms
 mod RunsOnce
 mod MakesOnce
+mod TightOnce
+mod Named
+mod TightOut
 mod Makes
 mod Owed
 mod Outcomes

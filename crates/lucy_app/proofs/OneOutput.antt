@@ -22,7 +22,7 @@ use Rattle.lucy_run.proofs.OwesLaws.{OneHorizon}
 use Rattle.lucy_make.specs.Text.{made_text, made_input}
 use Rattle.lucy_make.specs.Figures.{figures}
 use Rattle.lucy_make.specs.Owes.{printed_values}
-use Rattle.lucy_command.specs.Commands.{Command, Order, Show, Types, Check, Clocks, Run, Kahn, Make}
+use Rattle.lucy_command.specs.Commands.{TightenWords, Command, Order, Show, Types, Check, Clocks, Run, Kahn, Make, Tighten}
 use Rattle.lucy_app.specs.Commands.{written_options, inferring_options}
 use Rattle.lucy_app.specs.World.{World}
 use Rattle.lucy_app.specs.Order.{IsVerdictLine}
@@ -36,6 +36,9 @@ use Rattle.lucy_app.proofs.Verdicts.{IsVerdict, show_verdict}
 use Rattle.lucy_app.proofs.Typed.{types_verdict}
 use Rattle.lucy_app.proofs.Checked.{check_verdict}
 use Rattle.lucy_app.proofs.RunsOnce.{AreSame, accepted_same}
+use Rattle.lucy_app.specs.Answers.{Alike, printed}
+use Rattle.lucy_app.specs.Tighten.{IsTightOf}
+use Rattle.lucy_app.proofs.TightOnce.{OneTight, prints_alike}
 use Rattle.lucy_app.proofs.MakesOnce.{whole_feeds, values_same, words_same}
 
 -- a shelf tells one text under a name
@@ -103,22 +106,32 @@ module _ (cut : OneCut) (horizons : OneHorizon) (kinds : List HostKind) (a b : A
       ap (λ net. figures stages net horizon (printed_values kinds a lists horizon)) same.net ∙ ap (λ vs. figures stages b.net horizon vs) (values_same stages kinds a b same lists horizon)
       ∙ ap (λ ls. figures stages b.net horizon (printed_values kinds b ls horizon)) lists_same ∙ ap (λ t. figures stages b.net t (printed_values kinds b others t)) horizon_same
 
-pub output_one : OneCut → OneHorizon → (command : Command) (before : World) (a b : List ℕ) → MayPrint command before a → MayPrint command before b → a ≡ b
-output_one cut horizons Order before a b is also = line_one before.source.left a b is also
-output_one cut horizons (Show file) before a b is also = print_one IsPrintOf RefusesSyntax show_verdict before.shelf file a b is also
-output_one cut horizons (Types file) before a b is also =
+pub output_one : OneCut → OneHorizon → (command : Command) (before : World) (a b : List ℕ) →
+    ((words : TightenWords) → command ≡ Tighten words → ⊥) → MayPrint command before a → MayPrint command before b → a ≡ b
+output_one cut horizons Order before a b other is also = line_one before.source.left a b is also
+output_one cut horizons (Show file) before a b other is also = print_one IsPrintOf RefusesSyntax show_verdict before.shelf file a b is also
+output_one cut horizons (Types file) before a b other is also =
     print_one (IsReportOf before.operators) (RefusesText before.operators) (types_verdict before.operators) before.shelf file a b is also
-output_one cut horizons (Check file) before a b is also =
+output_one cut horizons (Check file) before a b other is also =
     print_one (IsCheckOf before.operators written_options) (RefusesCheck before.operators written_options) (check_verdict before.operators written_options) before.shelf file a b is also
-output_one cut horizons (Clocks words) before a b is also =
+output_one cut horizons (Clocks words) before a b other is also =
     let o : Options = inferring_options words.scale words.lead in
     print_one (IsCheckOf before.operators o) (RefusesCheck before.operators o) (check_verdict before.operators o) before.shelf words.file a b is also
-output_one cut horizons (Run words) before a b (p, lists, horizon, held, fed, is) (q, others, last, holds, feeds, also) =
+output_one cut horizons (Run words) before a b other (p, lists, horizon, held, fed, is) (q, others, last, holds, feeds, also) =
     let same = program_one before.operators (inferring_options words.scale words.lead) words.instants before.shelf words.file p q held holds in
     is ∙ run_same cut horizons (kinds_of before.operators) p q same words.instants before.source.left lists others horizon last fed feeds ∙ sym also
-output_one cut horizons (Kahn words) before a b (p, lists, horizon, held, fed, turns, items, is) (q, others, last, holds, feeds, few, short, also) =
+output_one cut horizons (Kahn words) before a b other (p, lists, horizon, held, fed, turns, items, is) (q, others, last, holds, feeds, few, short, also) =
     let same = program_one before.operators (inferring_options words.scale words.lead) words.instants before.shelf words.file p q held holds in
     is ∙ lines_same cut horizons (kinds_of before.operators) p q same words.instants before.source.left lists others horizon last fed feeds ∙ sym also
-output_one cut horizons (Make words) before a b (p, lists, horizon, runs, fed, is) (q, others, last, run, feeds, also) =
+output_one cut horizons (Make words) before a b other (p, lists, horizon, runs, fed, is) (q, others, last, run, feeds, also) =
     let same = accepted_same before.operators (inferring_options 1 1) (made_text words.stages) p q runs.0 run.0 in
     is ∙ figures_same cut horizons (kinds_of before.operators) p q same None (Some made_input) lists others horizon last fed feeds words.stages ∙ sym also
+output_one cut horizons (Tighten words) before a b other is also = absurd (other words refl)
+
+-- and of `tighten` outputs that are alike
+pub outputs_alike : OneTight → (words : TightenWords) (before : World) (a b : List ℕ) → MayPrint (Tighten words) before a →
+    MayPrint (Tighten words) before b → Alike (printed a) (printed b)
+outputs_alike law words before a b (text, holds, is) (other, held, also) =
+    let o : Options = inferring_options words.scale words.lead in
+    let same : text ≡ other = held_one before.shelf words.file text other holds held in
+    prints_alike law before.operators o words other a b (subst (λ t. IsTightOf before.operators o words t a) same is) also

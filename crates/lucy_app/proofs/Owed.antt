@@ -2,7 +2,7 @@
 use Rattle.std.proofs.Common.{ℕ, ◌≡◌, List, [], ◌∷◌, None, Result, Ok, Err, ap, sym, ◌∙◌, inl, inr}
 use Rattle.lucy_text.specs.declared.shelf.ShelfError.{ShelfError}
 use Rattle.lucy_text.specs.declared.shelf.ShelfError.TheVariants as shelf
-use Rattle.lucy_command.specs.Commands.{Command, Order, Show, Types, Check, Clocks, Run, Kahn, Make}
+use Rattle.lucy_command.specs.Commands.{Command, Order, Show, Types, Check, Clocks, Run, Kahn, Make, Tighten}
 use Rattle.lucy_app.specs.Commands.{written_options, inferring_options}
 use Rattle.lucy_feed.specs.Sources.{Stop, Ended, Failed, Passed}
 use Rattle.lucy_app.specs.World.{Given}
@@ -16,7 +16,7 @@ use Rattle.lucy_app.specs.Programs.{OwesRefusal, OwesText, OwesPrint}
 use Rattle.lucy_host.specs.Operators.{kinds_of}
 use Rattle.lucy_run.specs.Owes.{OwesRun, OwesKahn}
 use Rattle.lucy_run.specs.Laws.{OneRun, OneInterpretation}
-use Rattle.lucy_app.proofs.OwedPrograms.{print_decided, unrefused, owed_one, text_owes_one}
+use Rattle.lucy_app.proofs.OwedPrograms.{print_decided, same_alike, unrefused, owed_one, text_owes_one}
 use Rattle.lucy_make.specs.Text.{made_text}
 use Rattle.lucy_make.specs.Owes.{OwesSummary}
 use Rattle.lucy_lines.specs.Laws.{OneCut}
@@ -27,6 +27,8 @@ use Rattle.lucy_app.proofs.Causes.{one_line, one_cause_of_fields, pair_is_not_re
 use Rattle.lucy_app.proofs.Verdicts.{show_verdict, one_syntax}
 use Rattle.lucy_app.proofs.Typed.{types_verdict}
 use Rattle.lucy_app.proofs.Checked.{check_verdict}
+use Rattle.lucy_app.specs.Tighten.{OwesTight}
+use Rattle.lucy_app.proofs.TightOnce.{OneTight, tight_decided}
 
 pub order_owes_one : (taken : List ℕ) (stop : Stop) (a b : Answer) → OwesOrder taken stop a → OwesOrder taken stop b → a ≡ b
 order_owes_one taken Ended a b (inl is) (inl also) = is.2 ∙ ap printed (one_line taken is.0 also.0 is.1 also.1) ∙ sym also.2
@@ -37,30 +39,40 @@ order_owes_one taken Failed a b is also = is ∙ sym also
 order_owes_one taken Passed a b is also = is ∙ sym also
 order_owes_one taken stop a b is also = absurd is
 
-pub owes_one : OneCut → OneHorizon → OneRun → OneInterpretation → (command : Command) (given : Given) (a b : Answer) → Owes command given a → Owes command given b → Alike a b
-owes_one cut horizon run kahn Order given a b is also = inl (order_owes_one given.taken given.stop a b is also)
-owes_one cut horizon run kahn (Show file) given a b is also =
-    text_owes_one RefusesSyntax (OwesPrint IsPrintOf) (print_decided IsPrintOf RefusesSyntax show_verdict) given.stop given.fetched a b is also
-owes_one cut horizon run kahn (Types file) given a b is also =
+pub owes_one : OneCut → OneHorizon → OneRun → OneInterpretation → OneTight → (command : Command) (given : Given) (a b : Answer) →
+    Owes command given a → Owes command given b → Alike a b
+owes_one cut horizon run kahn tight Order given a b is also = inl (order_owes_one given.taken given.stop a b is also)
+owes_one cut horizon run kahn tight (Show file) given a b is also =
+    text_owes_one (λ x y. x ≡ y) RefusesSyntax (OwesPrint IsPrintOf) (print_decided IsPrintOf RefusesSyntax show_verdict)
+    same_alike given.stop given.fetched a b is also
+owes_one cut horizon run kahn tight (Types file) given a b is also =
     let ops = given.operators in
-    text_owes_one (RefusesText ops) (OwesPrint (IsReportOf ops)) (print_decided (IsReportOf ops) (RefusesText ops) (types_verdict ops)) given.stop given.fetched a b is also
-owes_one cut horizon run kahn (Check file) given a b is also =
+    text_owes_one (λ x y. x ≡ y) (RefusesText ops) (OwesPrint (IsReportOf ops))
+    (print_decided (IsReportOf ops) (RefusesText ops) (types_verdict ops)) same_alike given.stop given.fetched a b is also
+owes_one cut horizon run kahn tight (Check file) given a b is also =
     let ops = given.operators in
-    text_owes_one (RefusesCheck ops written_options) (OwesPrint (IsCheckOf ops written_options))
-    (print_decided (IsCheckOf ops written_options) (RefusesCheck ops written_options) (check_verdict ops written_options)) given.stop given.fetched a b is also
-owes_one cut horizon run kahn (Clocks words) given a b is also =
+    text_owes_one (λ x y. x ≡ y) (RefusesCheck ops written_options) (OwesPrint (IsCheckOf ops written_options))
+    (print_decided (IsCheckOf ops written_options) (RefusesCheck ops written_options) (check_verdict ops written_options))
+    same_alike given.stop given.fetched a b is also
+owes_one cut horizon run kahn tight (Clocks words) given a b is also =
     let ops = given.operators in
     let o = inferring_options words.scale words.lead in
-    text_owes_one (RefusesCheck ops o) (OwesPrint (IsCheckOf ops o)) (print_decided (IsCheckOf ops o) (RefusesCheck ops o) (check_verdict ops o)) given.stop given.fetched a b is also
-owes_one cut horizon run kahn (Run words) given a b is also =
+    text_owes_one (λ x y. x ≡ y) (RefusesCheck ops o) (OwesPrint (IsCheckOf ops o))
+    (print_decided (IsCheckOf ops o) (RefusesCheck ops o) (check_verdict ops o)) same_alike given.stop given.fetched a b is also
+owes_one cut horizon run kahn tight (Run words) given a b is also =
     runs_alike (λ p. OwesRun (kinds_of given.operators) p words.instants given.taken given.stop) (run_once run (kinds_of given.operators) words.instants given.taken given.stop) given.operators
     (inferring_options words.scale words.lead) words.instants given.stop given.fetched a b is also
-owes_one cut horizon run kahn (Kahn words) given a b is also =
+owes_one cut horizon run kahn tight (Kahn words) given a b is also =
     runs_alike (λ p. OwesKahn (kinds_of given.operators) p words.instants given.taken given.stop) (kahn_once kahn (kinds_of given.operators) words.instants given.taken given.stop) given.operators
     (inferring_options words.scale words.lead) words.instants given.stop given.fetched a b is also
-owes_one cut horizon run kahn (Make words) given a b is also =
+owes_one cut horizon run kahn tight (Make words) given a b is also =
     runs_alike (λ p. OwesSummary words.stages (kinds_of given.operators) p) (summary_once cut horizon words.stages (kinds_of given.operators)) given.operators (inferring_options 1 1) None given.stop
     (Ok (made_text words.stages) ∷ []) a b is also
+owes_one cut horizon run kahn tight (Tighten words) given a b is also =
+    let ops = given.operators in
+    let o = inferring_options words.scale words.lead in
+    text_owes_one Alike (RefusesCheck ops o) (OwesTight ops o words) (tight_decided tight ops o words) (λ x y h. h)
+    given.stop given.fetched a b is also
 
 -- `show` refuses a text with one answer
 show_refusal_one : (fetched : List (Result (List ℕ) ShelfError)) (a b : Answer) → OwesRefusal RefusesSyntax fetched a → OwesRefusal RefusesSyntax fetched b → a ≡ b
@@ -75,6 +87,11 @@ show_refusal_one (Err shelf.OutOfMemory ∷ more) a b is also = absurd is
 pub show_owes_one : (stop : Stop) (fetched : List (Result (List ℕ) ShelfError)) (a b : Answer) → OwesText RefusesSyntax (OwesPrint IsPrintOf) stop fetched a →
     OwesText RefusesSyntax (OwesPrint IsPrintOf) stop fetched b → a ≡ b
 show_owes_one stop fetched a b (inl is) (inl also) = show_refusal_one fetched a b is.0 also.0
-show_owes_one stop fetched a b (inl is) (inr also) = absurd (unrefused RefusesSyntax (OwesPrint IsPrintOf) (print_decided IsPrintOf RefusesSyntax show_verdict) fetched b a also is.0)
-show_owes_one stop fetched a b (inr is) (inl also) = absurd (unrefused RefusesSyntax (OwesPrint IsPrintOf) (print_decided IsPrintOf RefusesSyntax show_verdict) fetched a b is also.0)
-show_owes_one stop fetched a b (inr is) (inr also) = owed_one RefusesSyntax (OwesPrint IsPrintOf) (print_decided IsPrintOf RefusesSyntax show_verdict) fetched a b is also
+show_owes_one stop fetched a b (inl is) (inr also) =
+    absurd (unrefused (λ x y. x ≡ y) RefusesSyntax (OwesPrint IsPrintOf) (print_decided IsPrintOf RefusesSyntax show_verdict)
+    fetched b a also is.0)
+show_owes_one stop fetched a b (inr is) (inl also) =
+    absurd (unrefused (λ x y. x ≡ y) RefusesSyntax (OwesPrint IsPrintOf) (print_decided IsPrintOf RefusesSyntax show_verdict)
+    fetched a b is also.0)
+show_owes_one stop fetched a b (inr is) (inr also) =
+    owed_one (λ x y. x ≡ y) RefusesSyntax (OwesPrint IsPrintOf) (print_decided IsPrintOf RefusesSyntax show_verdict) fetched a b is also

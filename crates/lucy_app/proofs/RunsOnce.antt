@@ -26,7 +26,7 @@ use Rattle.lucy_app.specs.Check.{RefusesCheck}
 use Rattle.lucy_app.specs.Endings.{ended}
 use Rattle.lucy_app.specs.Running.{LacksInstants, OwesEnded, OwesRunning}
 use Rattle.lucy_app.proofs.Checked.{checks_apart, checks_alike}
-use Rattle.lucy_app.proofs.OwedPrograms.{IsDecided, text_owes_one}
+use Rattle.lucy_app.proofs.OwedPrograms.{IsDecided, same_alike, text_owes_one}
 
 -- what two programs of one text have in common: all that is run
 pub record AreSame (a b : Accepted) : Type 0 where
@@ -103,7 +103,8 @@ module _ (Owed : Accepted → List ℕ → Ending → Type 0) (once : OwesOnce O
       let one = once a b h.1 k.1 h.2 k.2 (accepted_same ops o text a b is also) h.3 k.3 in
       h.4 ∙ ap (λ o. ended o h.2) one.0 ∙ ap (ended k.1) one.1 ∙ sym k.4
 
-  run_decided : IsDecided (RefusesCheck ops o) (λ text told. (a : Accepted) × IsAccepted ops o text a × OwesEnded (Owed a) instants stop a told)
+  run_decided : IsDecided (λ x y. x ≡ y) (RefusesCheck ops o)
+      (λ text told. (a : Accepted) × IsAccepted ops o text a × OwesEnded (Owed a) instants stop a told)
   run_decided = record {
     one = λ text x y h k. ended_one text h.0 k.0 x y h.1 k.1 h.2 k.2;
     apart = λ text x r h bad. checks_apart ops o text h.0 r h.1 bad;
@@ -112,7 +113,9 @@ module _ (Owed : Accepted → List ℕ → Ending → Type 0) (once : OwesOnce O
 
   pub runs_alike : (fetched : List (Result (List ℕ) ShelfError)) (x y : Answer) → OwesRunning Owed ops o instants stop fetched x → OwesRunning Owed ops o instants stop fetched y → Alike x y
   runs_alike fetched x y h k =
-      text_owes_one (RefusesCheck ops o) (λ text told. (a : Accepted) × IsAccepted ops o text a × OwesEnded (Owed a) instants stop a told) run_decided stop fetched x y h k
+      text_owes_one (λ x y. x ≡ y) (RefusesCheck ops o)
+      (λ text told. (a : Accepted) × IsAccepted ops o text a × OwesEnded (Owed a) instants stop a told)
+      run_decided same_alike stop fetched x y h k
 
 -- by the laws of one run and one interpretation
 pub run_once : OneRun → (kinds : List HostKind) (instants : Option ℕ) (taken : List ℕ) (stop : Stop) → OwesOnce (λ a. OwesRun kinds a instants taken stop)

@@ -3,10 +3,10 @@ use Rattle.std.proofs.Common.{ℕ, ◌≡◌, ◌⊎◌, List, [], Option, Some,
 use Rattle.std.specs.declared.alloc.Global.{Global}
 use Rattle.std.specs.declared.vec.Vec.{Vec}
 use Rattle.lucy_text.proofs.OutsideLaws.{appended-nil}
-use Rattle.lucy_command.specs.Commands.{Command, Order, Show, Types, Check, Clocks, Run, Kahn, Make}
+use Rattle.lucy_command.specs.Commands.{Command, Order, Show, Types, Check, Clocks, Run, Kahn, Make, Tighten}
 use Rattle.lucy_text.specs.Outside.{SeenSink, Writes}
 use Rattle.lucy_app.specs.World.{World, Given, Meets}
-use Rattle.lucy_app.specs.Lines.{words_line, read_fault_line, instants_line, write_fault_line}
+use Rattle.lucy_app.specs.Lines.{words_line, read_fault_line, instants_line, no_buffer_line, write_fault_line}
 use Rattle.lucy_front.specs.Refusals.{memory_line}
 use Rattle.lucy_app.specs.Answers.{Answer, printed, no_command, out_of_memory}
 use Rattle.lucy_app.specs.Owes.{Owes, MayCount}
@@ -15,7 +15,7 @@ use Rattle.lucy_run.specs.declared.ending.Ending.{Ending}
 use Rattle.lucy_run.specs.declared.ending.Ending.TheVariants as ending
 use Rattle.lucy_app.specs.Outcomes.{refusal_answer, IsOutcome, TellsRefusal, Delivers, TellsEnding}
 use Rattle.lucy_app.specs.declared.refusal.Refusal.{Refusal}
-use Rattle.lucy_app.specs.declared.refusal.Refusal.TheVariants.{Program, Input, NoInstants, ReadFault, OutOfMemory}
+use Rattle.lucy_app.specs.declared.refusal.Refusal.TheVariants.{Program, Input, NoInstants, NoBuffer, ReadFault, OutOfMemory}
 
 -- a sink that is as it was has no more bytes
 pub unwritten : (s : SeenSink) → Writes s s []
@@ -32,6 +32,7 @@ prints_nothing : (e : Refusal) → (refusal_answer e).out ≡ []
 prints_nothing (Program reason) = refl
 prints_nothing (Input cause) = refl
 prints_nothing NoInstants = refl
+prints_nothing NoBuffer = refl
 prints_nothing ReadFault = refl
 prints_nothing OutOfMemory = refl
 
@@ -60,6 +61,7 @@ counts_itself (Check file) given = refl
 counts_itself (Clocks words) given = refl
 counts_itself (Kahn words) given = refl
 counts_itself (Make words) given = refl
+counts_itself (Tighten words) given = refl
 
 -- a command that came out so, and whose outcome was delivered
 ends_so : (command : Command) (given : Given) (outcome : Result (Vec ℕ Global) Refusal) (before after : World) (status : ℕ) → MayStand command given [] → StopsInOrder command given before.out after.out →
@@ -78,6 +80,13 @@ tells_fault e err err' status is told =
 -- or that the instants are missing
 pub tells_missing : (e : Refusal) (err err' : SeenSink) (status : ℕ) → e ≡ NoInstants → Tells 2 instants_line err err' status → TellsRefusal e err err' status
 tells_missing e err err' status is told =
+    let P : Refusal → Type 0 = λ r. TellsRefusal r err err' status in
+    subst P (sym is) (inl told)
+
+-- or that the buffer isn't there
+pub tells_lost : (e : Refusal) (err err' : SeenSink) (status : ℕ) → e ≡ NoBuffer → Tells 2 no_buffer_line err err' status →
+    TellsRefusal e err err' status
+tells_lost e err err' status is told =
     let P : Refusal → Type 0 = λ r. TellsRefusal r err err' status in
     subst P (sym is) (inl told)
 

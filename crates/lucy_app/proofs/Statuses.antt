@@ -3,7 +3,7 @@ use Rattle.lucy_front.specs.declared.options.Options.{Options}
 use Rattle.std.proofs.Common.{ℕ, ◌≤◌, ◌≡◌, List, [], ◌∷◌, Option, Some, None, Result, Ok, Err, inl, inr, ap, arith}
 use Rattle.lucy_text.specs.declared.shelf.ShelfError.{ShelfError}
 use Rattle.lucy_text.specs.declared.shelf.ShelfError.TheVariants as shelf
-use Rattle.lucy_command.specs.Commands.{Command, Order, Show, Types, Check, Clocks, Run, Kahn, Make}
+use Rattle.lucy_command.specs.Commands.{Command, Order, Show, Types, Check, Clocks, Run, Kahn, Make, Tighten}
 use Rattle.lucy_app.specs.Commands.{written_options, inferring_options, HasText}
 use Rattle.lucy_feed.specs.Sources.{Stop, Ended, Failed, Passed}
 use Rattle.lucy_text.specs.Outside.{SeenSink}
@@ -16,6 +16,7 @@ use Rattle.lucy_app.specs.Types.{IsReportOf, RefusesText}
 use Rattle.lucy_app.specs.Check.{IsCheckOf, RefusesCheck}
 use Rattle.lucy_app.specs.Owes.{OwesOrder, Owes}
 use Rattle.lucy_app.specs.Programs.{OwesRefusal, OwesText, OwesPrint}
+use Rattle.lucy_app.specs.Tighten.{OwesSize, OwesBuffer, OwesTight}
 use Rattle.lucy_app.specs.Endings.{fault_status, ending_status}
 use Rattle.lucy_app.specs.Running.{OwesEnded, OwesRunning}
 use Rattle.lucy_host.specs.Operators.{Operator, kinds_of}
@@ -101,6 +102,14 @@ running_within Owed ops o instants stop fetched a is =
     text_within (RefusesCheck ops o) (λ text told. (p : Accepted) × IsAccepted ops o text p × OwesEnded (Owed p) instants stop p told)
     (λ text x h. ended_within (Owed h.0) instants stop h.0 x h.2) stop fetched a is
 
+size_within : (p : Accepted) (o : Options) (node buffer : ℕ) (a : Answer) → OwesSize p o node buffer a → a.status ≤ 7
+size_within p o node buffer a (inl is) = same_within a _ is.2 (omega arith)
+size_within p o node buffer a (inr is) = same_within a _ is.2 (omega arith)
+
+buffer_within : (p : Accepted) (o : Options) (name : List ℕ) (buffer : ℕ) (a : Answer) → OwesBuffer p o name buffer a → a.status ≤ 7
+buffer_within p o name buffer a (inl is) = same_within a _ is.1 (omega arith)
+buffer_within p o name buffer a (inr is) = size_within p o _ buffer a is.1
+
 owed_within : (command : Command) (given : Given) (a : Answer) → Owes command given a → a.status ≤ 7
 owed_within Order given a is = order_within given.taken given.stop a is
 owed_within (Show file) given a is = print_within IsPrintOf RefusesSyntax given.stop given.fetched a is
@@ -115,6 +124,10 @@ owed_within (Kahn words) given a is =
     running_within (λ p. OwesKahn (kinds_of given.operators) p words.instants given.taken given.stop) given.operators (inferring_options words.scale words.lead) words.instants given.stop given.fetched a is
 owed_within (Make words) given a is =
     running_within (OwesSummary words.stages (kinds_of given.operators)) given.operators (inferring_options 1 1) None given.stop (Ok (made_text words.stages) ∷ []) a is
+owed_within (Tighten words) given a is =
+    let o = inferring_options words.scale words.lead in
+    text_within (RefusesCheck given.operators o) (OwesTight given.operators o words)
+    (λ text x h. buffer_within h.0 o words.node words.buffer x h.2) given.stop given.fetched a is
 
 answer_within : (command : Command) (given : Given) (a : Answer) → MayAnswer (Owes command given) (MayStand command given) a → a.status ≤ 7
 answer_within command given a (inl is) = owed_within command given a is

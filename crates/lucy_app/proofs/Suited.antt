@@ -30,7 +30,7 @@ use Rattle.lucy_run.proofs.WholeLaws.{taken_front, taken_all}
 use Rattle.lucy_make.specs.Text.{made_text, made_input}
 use Rattle.lucy_make.specs.Figures.{figures}
 use Rattle.lucy_make.specs.Owes.{OwesSummary, printed_values, where_done}
-use Rattle.lucy_command.specs.Commands.{Command, Order, Show, Types, Check, Clocks, Run, Kahn, Make}
+use Rattle.lucy_command.specs.Commands.{Command, Order, Show, Types, Check, Clocks, Run, Kahn, Make, Tighten}
 use Rattle.lucy_app.specs.Commands.{written_options, inferring_options, program_of}
 use Rattle.lucy_app.specs.World.{World, Given, Fetched, Fetches, Meets}
 use Rattle.lucy_app.specs.Answers.{Answer, printed, out_of_memory}
@@ -48,27 +48,46 @@ use Rattle.lucy_app.proofs.Owed.{order_owes_one}
 use Rattle.lucy_app.proofs.Verdicts.{IsVerdict, show_verdict}
 use Rattle.lucy_app.proofs.Typed.{types_verdict}
 use Rattle.lucy_app.proofs.Checked.{checks_apart, check_verdict}
+use Rattle.lucy_app.specs.Tighten.{OwesTight}
+use Rattle.lucy_app.proofs.TightOnce.{OneTight, tight_unrefused, tight_printed}
 use Rattle.lucy_app.proofs.RunsOnce.{AreSame, accepted_same, run_moves, kahn_moves}
 use Rattle.lucy_app.proofs.MakesOnce.{whole_feeds, summary_moves}
 
--- the command is done and this stands, or memory ran out
-abbrev Finishes : (output : List ℕ) (before after : World) (status : ℕ) → Type 0
-Finishes output before after status = ((status ≡ 0) × Answers (printed output) before.out after.out before.err after.err status) ⊎ (status ≡ 7)
+-- it prints such an output
+abbrev IsSuch : (May : List ℕ → Type 0) → Answer → Type 0
+IsSuch May answer = (output : List ℕ) × May output × (answer ≡ printed output)
 
--- where each answer that is owed is this output, the command is done
-done : (command : Command) (before after : World) (given : Given) (output : List ℕ) (status : ℕ) → ((answer : Answer) → Owes command given answer → answer ≡ printed output) → IsFaultless before after →
-    EndsWith command given before after status → Finishes output before after status
-done command before after given output status same well (inl (answer, inl owed, answers)) =
+-- the command is done and such an output stands, or memory ran out
+abbrev Finishes : (May : List ℕ → Type 0) (before after : World) (status : ℕ) → Type 0
+Finishes May before after status =
+    ((status ≡ 0) × (output : List ℕ) × May output × Answers (printed output) before.out after.out before.err after.err status)
+    ⊎ (status ≡ 7)
+
+-- where each answer that is owed prints such an output, the command is done
+such_done : (May : List ℕ → Type 0) (command : Command) (before after : World) (given : Given) (status : ℕ) →
+    ((answer : Answer) → Owes command given answer → IsSuch May answer) → IsFaultless before after →
+    EndsWith command given before after status → Finishes May before after status
+such_done May command before after given status same well (inl (answer, inl owed, answers)) =
+    let (output, may, is) = same answer owed in
     let P : Answer → Type 0 = λ a. Answers a before.out after.out before.err after.err status in
-    let whole : Answers (printed output) before.out after.out before.err after.err status = subst P (same answer owed) answers in
-    elim whole.told [ inl told ↦ inl (told.0, whole) | inr told ↦ absurd (well.err told.1.faults) ]
-done command before after given output status same well (inl (answer, inr short, answers)) =
+    let whole : Answers (printed output) before.out after.out before.err after.err status = subst P is answers in
+    elim whole.told [ inl told ↦ inl (told.0, output, may, whole) | inr told ↦ absurd (well.err told.1.faults) ]
+such_done May command before after given status same well (inl (answer, inr short, answers)) =
     elim answers.told [ inl told ↦ inr (told.0 ∙ ap (λ a. a.status) short.2) | inr told ↦ absurd (well.err told.1.faults) ]
-done command before after given output status same well (inr (printing, owed, breaks)) = absurd (well.out breaks.failed.faults)
+such_done May command before after given status same well (inr (printing, owed, breaks)) = absurd (well.out breaks.failed.faults)
+
+-- so where each is this output
+done : (May : List ℕ → Type 0) (command : Command) (before after : World) (given : Given) (output : List ℕ) (status : ℕ) → May output →
+    ((answer : Answer) → Owes command given answer → answer ≡ printed output) → IsFaultless before after →
+    EndsWith command given before after status → Finishes May before after status
+done May command before after given output status may same well ends =
+    such_done May command before after given status (λ answer owed. (output, may, same answer owed)) well ends
 
 -- where memory ran out before the command was carried out
-declined : (before after : World) (output : List ℕ) (status : ℕ) → IsFaultless before after → Declines (out_of_memory []) before after status → Finishes output before after status
-declined before after output status well (shelf, source, answers) = elim answers.told [ inl told ↦ inr told.0 | inr told ↦ absurd (well.err told.1.faults) ]
+declined : (May : List ℕ → Type 0) (before after : World) (status : ℕ) → IsFaultless before after →
+    Declines (out_of_memory []) before after status → Finishes May before after status
+declined May before after status well (shelf, source, answers) =
+    elim answers.told [ inl told ↦ inr told.0 | inr told ↦ absurd (well.err told.1.faults) ]
 
 -- `order` of two words that are told
 module _ (before after : SeenSource) (bytes taken output : List ℕ) (took : Some bytes ≡ followed taken after.left) (well : Rose before.faults after.faults → ⊥)
@@ -125,15 +144,16 @@ module _ (before after : SeenShelf) (file text : List ℕ) where
       absurd (omega (arith, long, few))
   fetched_so (Some files) (Err shelf.OutOfMemory) is holds few well f = inr refl
 
-  -- what a file that is held owes is this, where its text owes it
-  text_done : (Refuses : List ℕ → Refusal → Type 0) (Owed : List ℕ → Answer → Type 0) (stop : Stop) (output : List ℕ) →
-      ((more : List (Result (List ℕ) ShelfError)) (answer : Answer) → OwesText Refuses Owed stop (Ok text ∷ more) answer → answer ≡ printed output) → Holds before file text →
+  -- what a file that is held owes is such an answer, where its text owes one
+  text_done : (Refuses : List ℕ → Refusal → Type 0) (Owed : List ℕ → Answer → Type 0) (stop : Stop) (Such : Answer → Type 0) →
+      ((more : List (Result (List ℕ) ShelfError)) (answer : Answer) → OwesText Refuses Owed stop (Ok text ∷ more) answer → Such answer) →
+      Holds before file text →
       (Rose before.faults after.faults → ⊥) → (fetched : List (Result (List ℕ) ShelfError)) → Fetches (program_of file ∷ []) before after fetched → (answer : Answer) →
-      OwesText Refuses Owed stop fetched answer → answer ≡ printed output
-  text_done Refuses Owed stop output same holds well [] met answer (inl owed) = absurd owed.0
-  text_done Refuses Owed stop output same holds well [] met answer (inr owed) = absurd owed
-  text_done Refuses Owed stop output same holds well (r ∷ other ∷ more) met answer owed = absurd met.2
-  text_done Refuses Owed stop output same holds well (r ∷ []) (between, met, e) answer owed =
+      OwesText Refuses Owed stop fetched answer → Such answer
+  text_done Refuses Owed stop Such same holds well [] met answer (inl owed) = absurd owed.0
+  text_done Refuses Owed stop Such same holds well [] met answer (inr owed) = absurd owed
+  text_done Refuses Owed stop Such same holds well (r ∷ other ∷ more) met answer owed = absurd met.2
+  text_done Refuses Owed stop Such same holds well (r ∷ []) (between, met, e) answer owed =
       let P : Result (List ℕ) ShelfError → Type 0 = λ f. OwesText Refuses Owed stop (f ∷ []) answer in
       let Q : SeenShelf → Type 0 = λ s. Fetched (program_of file) before s r in
       elim (fetched_so before.files r refl holds.0 holds.1 well (subst Q (sym e) met)) [
@@ -146,7 +166,7 @@ module _ (before after : SeenShelf) (file text : List ℕ) where
       (Rose before.faults after.faults → ⊥) → (fetched : List (Result (List ℕ) ShelfError)) → Fetches (program_of file ∷ []) before after fetched → (answer : Answer) →
       OwesText Refuses (OwesPrint Prints) stop fetched answer → answer ≡ printed print
   print_done Prints Refuses v stop print is holds well fetched met answer owed =
-      text_done Refuses (OwesPrint Prints) stop print
+      text_done Refuses (OwesPrint Prints) stop (λ a. a ≡ printed print)
       (λ more x h. elim h [ inl refused ↦ absurd (v.apart text print refused.0.0 is refused.0.1) | inr prints ↦ prints.2 ∙ ap printed (v.one text prints.0 print prints.1 is) ])
       holds well fetched met answer owed
 
@@ -155,7 +175,8 @@ module _ (before after : SeenShelf) (file text : List ℕ) where
       ((b : Accepted) (out : List ℕ) (end : Ending) → AreSame b a → Owed b out end → ended out end ≡ printed output) → Holds before file text → (Rose before.faults after.faults → ⊥) →
       (fetched : List (Result (List ℕ) ShelfError)) → Fetches (program_of file ∷ []) before after fetched → (answer : Answer) → OwesRunning Owed ops o instants stop fetched answer → answer ≡ printed output
   run_done Owed ops o instants stop a output is ends holds well fetched met answer owed =
-      text_done (RefusesCheck ops o) (λ text told. (b : Accepted) × IsAccepted ops o text b × OwesEnded (Owed b) instants stop b told) stop output
+      text_done (RefusesCheck ops o) (λ text told. (b : Accepted) × IsAccepted ops o text b × OwesEnded (Owed b) instants stop b told) stop
+      (λ a. a ≡ printed output)
       (λ more x h. ran_done Owed ops o instants stop text more a output is ends x h) holds well fetched met answer owed
 
 -- the input that `make` generates is what it runs on
@@ -177,67 +198,100 @@ made_ends cut horizons stages kinds a lists horizon output end runs fed (others,
     ∙ ap printed (is ∙ ap (λ e. where_done e (figures stages a.net other (printed_values kinds a others other))) over
     ∙ ap (λ ls. figures stages a.net other (printed_values kinds a ls other)) same ∙ ap (λ t. figures stages a.net t (printed_values kinds a lists t)) last)
 
--- what suits a command in a world suits it with the operators that it has met
-met_suits : (command : Command) (before : World) (ops : List Operator) (output : List ℕ) → ops ≡ before.operators → MayPrint command before output → MayPrint command (record before { operators = ops }) output
+-- this may stand by these operators in place of the world's
+abbrev MayWith : List Operator → Command → World → (output : List ℕ) → Type 0
+MayWith ops command before output = MayPrint command (record before { operators = ops }) output
+
+-- what may stand by the operators of the world may stand by those that a command has met
+met_suits : (command : Command) (before : World) (ops : List Operator) (output : List ℕ) → ops ≡ before.operators →
+    MayPrint command before output → MayWith ops command before output
 met_suits command before ops output e suits =
-    let P : List Operator → Type 0 = λ os. MayPrint command (record before { operators = os }) output in
+    let P : List Operator → Type 0 = λ os. MayWith os command before output in
     subst P (sym e) suits
 
 -- what is owed with this ending is what is printed
 ended_printed : (out output : List ℕ) (end : Ending) → (out ≡ output) × (end ≡ ending.Done) → ended out end ≡ printed output
 ended_printed out output end (same, over) = ap (λ e. ended out e) over ∙ ap printed same
 
-module _ (cut : OneCut) (horizons : OneHorizon) (run : CompleteRun) (kahn : CompleteInterpretation) (before after : World) (output : List ℕ) (status : ℕ) (well : IsFaultless before after) where
-  carried_out : (command : Command) (given : Given) → Meets command before after given → EndsWith command given before after status → MayPrint command (record before { operators = given.operators }) output →
-      Finishes output before after status
-  carried_out Order given met ends suits = done Order before after given output status (order_done before.source after.source given.taken output given.stop before.source.left refl met.source well.source suits) well ends
-  carried_out (Show file) given met ends (text, holds, is) =
-      done (Show file) before after given output status (print_done before.shelf after.shelf file text IsPrintOf RefusesSyntax show_verdict given.stop output is holds well.shelf given.fetched met.shelf) well ends
-  carried_out (Types file) given met ends (text, holds, is) =
+module _ (cut : OneCut) (horizons : OneHorizon) (run : CompleteRun) (kahn : CompleteInterpretation) (tight : OneTight)
+    (before after : World) (output : List ℕ) (status : ℕ) (well : IsFaultless before after) where
+  carried_out : (command : Command) (given : Given) → Meets command before after given → EndsWith command given before after status →
+      MayWith given.operators command before output → Finishes (MayWith given.operators command before) before after status
+  carried_out Order given met ends suits =
+      done (MayWith given.operators Order before) Order before after given output status suits
+      (order_done before.source after.source given.taken output given.stop before.source.left refl met.source well.source suits) well ends
+  carried_out (Show file) given met ends suits =
+      let (text, holds, is) = suits in
+      done (MayWith given.operators (Show file) before) (Show file) before after given output status suits
+      (print_done before.shelf after.shelf file text IsPrintOf RefusesSyntax show_verdict given.stop output is holds
+      well.shelf given.fetched met.shelf) well ends
+  carried_out (Types file) given met ends suits =
+      let (text, holds, is) = suits in
       let ops : List Operator = given.operators in
-      done (Types file) before after given output status
+      done (MayWith given.operators (Types file) before) (Types file) before after given output status suits
       (print_done before.shelf after.shelf file text (IsReportOf ops) (RefusesText ops) (types_verdict ops) given.stop output is holds well.shelf given.fetched met.shelf) well ends
-  carried_out (Check file) given met ends (text, holds, is) =
+  carried_out (Check file) given met ends suits =
+      let (text, holds, is) = suits in
       let ops : List Operator = given.operators in
-      done (Check file) before after given output status
+      done (MayWith given.operators (Check file) before) (Check file) before after given output status suits
       (print_done before.shelf after.shelf file text (IsCheckOf ops written_options) (RefusesCheck ops written_options) (check_verdict ops written_options) given.stop output is holds well.shelf given.fetched met.shelf) well ends
-  carried_out (Clocks words) given met ends (text, holds, is) =
+  carried_out (Clocks words) given met ends suits =
+      let (text, holds, is) = suits in
       let ops : List Operator = given.operators in
       let o : Options = inferring_options words.scale words.lead in
-      done (Clocks words) before after given output status
+      done (MayWith given.operators (Clocks words) before) (Clocks words) before after given output status suits
       (print_done before.shelf after.shelf words.file text (IsCheckOf ops o) (RefusesCheck ops o) (check_verdict ops o) given.stop output is holds well.shelf given.fetched met.shelf) well ends
-  carried_out (Run words) given met ends (a, lists, horizon, (text, holds, is), fed, lines) =
+  carried_out (Run words) given met ends suits =
+      let (a, lists, horizon, (text, holds, is), fed, lines) = suits in
       let ops : List Operator = given.operators in
       let kinds : List HostKind = kinds_of ops in
       let instants : Option ℕ = words.instants in
-      done (Run words) before after given output status
+      done (MayWith given.operators (Run words) before) (Run words) before after given output status suits
       (run_done before.shelf after.shelf words.file text (λ p. OwesRun kinds p instants given.taken given.stop) ops (inferring_options words.scale words.lead) instants given.stop a output is
       (λ b out end same owed. ended_printed out (heading a ++ lines_to kinds a lists horizon) end (run kinds a instants before.source after.source given.taken given.stop lists horizon out end met.source well.source fed
       (run_moves kinds b a same instants given.taken given.stop out end owed)) ∙ ap printed (sym lines)) holds well.shelf given.fetched met.shelf) well ends
-  carried_out (Kahn words) given met ends (a, lists, horizon, (text, holds, is), fed, turns, items, lines) =
+  carried_out (Kahn words) given met ends suits =
+      let (a, lists, horizon, (text, holds, is), fed, turns, items, lines) = suits in
       let ops : List Operator = given.operators in
       let kinds : List HostKind = kinds_of ops in
       let instants : Option ℕ = words.instants in
-      done (Kahn words) before after given output status
+      done (MayWith given.operators (Kahn words) before) (Kahn words) before after given output status suits
       (run_done before.shelf after.shelf words.file text (λ p. OwesKahn kinds p instants given.taken given.stop) ops (inferring_options words.scale words.lead) instants given.stop a output is
       (λ b out end same owed. ended_printed out (lines_to kinds a lists horizon) end (kahn kinds a instants before.source after.source given.taken given.stop lists horizon out end met.source well.source fed turns items
       (kahn_moves kinds b a same instants given.taken given.stop out end owed)) ∙ ap printed (sym lines)) holds well.shelf given.fetched met.shelf) well ends
-  carried_out (Make words) given met ends (a, lists, horizon, is, fed, lines) =
+  carried_out (Make words) given met ends suits =
+      let (a, lists, horizon, is, fed, lines) = suits in
       let kinds : List HostKind = kinds_of given.operators in
       let stages : ℕ = words.stages in
-      done (Make words) before after given output status
+      done (MayWith given.operators (Make words) before) (Make words) before after given output status suits
       (ran_done (λ p. OwesSummary stages kinds p) given.operators (inferring_options 1 1) None given.stop (made_text stages) [] a output is
       (λ b out end same owed. made_ends cut horizons stages kinds a lists horizon out end is.1 fed (summary_moves stages kinds b a same out end owed) ∙ ap printed (sym lines))) well ends
+  carried_out (Tighten words) given met ends suits =
+      let ops : List Operator = given.operators in
+      let o : Options = inferring_options words.scale words.lead in
+      let (text, holds, is) = suits in
+      such_done (MayWith ops (Tighten words) before) (Tighten words) before after given status
+      (text_done before.shelf after.shelf words.file text (RefusesCheck ops o) (OwesTight ops o words) given.stop
+      (IsSuch (MayWith ops (Tighten words) before))
+      (λ more answer h. elim h [
+        | inl refused ↦ absurd (tight_unrefused ops o words text output refused.0.0 is refused.0.1)
+        | inr owed ↦ (
+            let (print, prints, told) = tight_printed tight ops o words text output answer is owed in
+            (print, (text, holds, prints), told))
+      ]) holds well.shelf given.fetched met.shelf) well ends
 
--- an output that may stand does, or memory ran out
-stands : (command : Command) (before after : World) (output : List ℕ) (status : ℕ) → MayPrint command before output → Finishes output before after status →
-    ((status ≡ 0) × (other : List ℕ) × MayPrint command before other × Answers (printed other) before.out after.out before.err after.err status) ⊎ (status ≡ 7)
-stands command before after output status may (inl whole) = inl (whole.0, output, may, whole.1)
-stands command before after output status may (inr short) = inr short
+-- what may stand by the operators that a command has met may stand by those of its world
+unmet : (command : Command) (before : World) (ops : List Operator) (status : ℕ) (after : World) → ops ≡ before.operators →
+    Finishes (MayWith ops command before) before after status →
+    Finishes (MayPrint command before) before after status
+unmet command before ops status after e finishes =
+    let P : List Operator → Type 0 = λ os. Finishes (MayWith os command before) before after status in
+    subst P e finishes
 
-pub suited_done : OneCut → OneHorizon → CompleteRun → CompleteInterpretation → Completes
-suited_done cut horizons run kahn command before after status (inl (given, met, ends)) well (output, may) =
-    stands command before after output status may
-    (carried_out cut horizons run kahn before after output status well command given met ends (met_suits command before given.operators output met.operators may))
-suited_done cut horizons run kahn command before after status (inr declines) well (output, may) =
-    stands command before after output status may (declined before after output status well declines)
+pub suited_done : OneCut → OneHorizon → CompleteRun → CompleteInterpretation → OneTight → Completes
+suited_done cut horizons run kahn tight command before after status (inl (given, met, ends)) well (output, may) =
+    unmet command before given.operators status after met.operators
+    (carried_out cut horizons run kahn tight before after output status well command given met ends
+    (met_suits command before given.operators output met.operators may))
+suited_done cut horizons run kahn tight command before after status (inr declines) well (output, may) =
+    declined (MayPrint command before) before after status well declines

@@ -4,7 +4,11 @@ use Rattle.lucy_word.specs.declared.limit.Limit.{Limit}
 use Rattle.lucy_front.specs.declared.refusal.Refusal.{Refusal}
 use Rattle.lucy_front.specs.Refusals.{limit_line, memory_line, refusal_text}
 use Rattle.lucy_front.specs.OneAnswer.{AreAlike}
-use Rattle.lucy_app.specs.Lines.{instants_line, read_fault_line, words_line}
+use Rattle.lucy_front.specs.declared.accepted.Accepted.{Accepted}
+use Rattle.lucy_tight.specs.declared.answer.Least.{Least}
+use Rattle.lucy_tight.specs.Tightening as tight
+use Rattle.lucy_tight.specs.Report.{tight_lines}
+use Rattle.lucy_app.specs.Lines.{instants_line, no_buffer_line, read_fault_line, words_line}
 use Rattle.lucy_app.specs.ProgramRefusals.{program_status}
 use Rattle.lucy_app.specs.InputRefusals.{input_status, input_line}
 use Rattle.lucy_app.specs.declared.input_refusal.InputCause.{InputCause}
@@ -31,6 +35,10 @@ no_command = refused 2 words_line
 abbrev pub no_instants : Answer
 no_instants = refused 2 instants_line
 
+-- the program has no such buffer
+abbrev pub no_buffer : Answer
+no_buffer = refused 2 no_buffer_line
+
 -- a fetch or a read failed, or no file has the name
 abbrev pub read_fault : Answer
 read_fault = refused 4 read_fault_line
@@ -51,6 +59,17 @@ input_refused cause = refused (input_status cause) (input_line cause)
 abbrev pub out_of_memory : (out : List ℕ) → Answer
 out_of_memory out = record { status = 7; out = out; err = memory_line }
 
--- two answers are one, but that both may tell of refusals of a program that are alike, each with evidence of its own
+-- two answers tell of refusals of a program that are alike
+abbrev pub AreRefusedAlike : Answer → Answer → Type 0
+AreRefusedAlike a b =
+    (refusal : Refusal) × (other : Refusal) × AreAlike refusal other × (a ≡ program_refused refusal) × (b ≡ program_refused other)
+
+-- two answers tell of one buffer's least size, of which they tell the same but for the cycle
+abbrev pub AreTightAlike : Answer → Answer → Type 0
+AreTightAlike a b =
+    (p : Accepted) × (node : ℕ) × (buffer : ℕ) × (t : Least) × (u : Least) × tight.AreAlike t u
+    × (a ≡ printed (tight_lines p node buffer t)) × (b ≡ printed (tight_lines p node buffer u))
+
+-- two answers are one, but for the evidence of a refusal, or of a least size
 abbrev pub Alike : Answer → Answer → Type 0
-Alike a b = (a ≡ b) ⊎ ((refusal other : Refusal) × AreAlike refusal other × (a ≡ program_refused refusal) × (b ≡ program_refused other))
+Alike a b = (a ≡ b) ⊎ (AreRefusedAlike a b ⊎ AreTightAlike a b)

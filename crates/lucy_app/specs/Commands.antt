@@ -8,7 +8,7 @@ use Rattle.lucy_feed.specs.Feeding.{IsAsked}
 use Rattle.lucy_front.specs.declared.accepted.Accepted.{Accepted}
 use Rattle.lucy_front.specs.declared.options.Options.{Options}
 use Rattle.lucy_front.specs.Accepting.{IsAccepted}
-use Rattle.lucy_command.specs.Commands.{Command, Order, Show, Types, Check, Clocks, Run, Kahn}
+use Rattle.lucy_command.specs.Commands.{Command, Order, Show, Types, Check, Clocks, Run, Kahn, Tighten}
 
 -- each node has to be written
 abbrev pub written_options : Options
@@ -35,6 +35,7 @@ files_of (Some (Check file)) = program_of file ∷ []
 files_of (Some (Clocks words)) = program_of words.file ∷ []
 files_of (Some (Run words)) = program_of words.file ∷ []
 files_of (Some (Kahn words)) = program_of words.file ∷ []
+files_of (Some (Tighten words)) = program_of words.file ∷ []
 files_of other = []
 
 -- how many bytes may be taken from the source, and one more, where the words name a command that may read it

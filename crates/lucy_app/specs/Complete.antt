@@ -12,7 +12,7 @@ use Rattle.lucy_run.specs.Laws.{IsFedWell}
 use Rattle.lucy_make.specs.Text.{made_text, made_input}
 use Rattle.lucy_make.specs.Figures.{figures}
 use Rattle.lucy_make.specs.Owes.{printed_values}
-use Rattle.lucy_command.specs.Commands.{Command, Order, Show, Types, Check, Clocks, Run, Kahn, Make}
+use Rattle.lucy_command.specs.Commands.{Command, Order, Show, Types, Check, Clocks, Run, Kahn, Make, Tighten}
 use Rattle.lucy_app.specs.Commands.{written_options, inferring_options}
 use Rattle.lucy_text.specs.Shelf.{SeenShelf}
 use Rattle.lucy_app.specs.World.{World}
@@ -21,6 +21,7 @@ use Rattle.lucy_app.specs.Order.{IsVerdictLine}
 use Rattle.lucy_app.specs.Show.{IsPrintOf}
 use Rattle.lucy_app.specs.Types.{IsReportOf}
 use Rattle.lucy_app.specs.Check.{IsCheckOf}
+use Rattle.lucy_app.specs.Tighten.{IsTightOf}
 use Rattle.lucy_app.specs.Running.{IsRunnable}
 use Rattle.lucy_app.specs.Ends.{Answers, Ends}
 
@@ -58,6 +59,8 @@ MayPrint (Kahn words) before output =
 MayPrint (Make words) before output =
     (a : Accepted) × (lists : List (List ℤ)) × (horizon : ℕ) × IsRunnable before.operators (inferring_options 1 1) None (made_text words.stages) a
     × IsFedWell a None (Some made_input) lists horizon × (output ≡ figures words.stages a.net horizon (printed_values (kinds_of before.operators) a lists horizon))
+MayPrint (Tighten words) before output =
+    HoldsSuch (λ text. IsTightOf before.operators (inferring_options words.scale words.lead) words text output) before.shelf words.file
 
 -- nothing refuses it, and no limit is passed
 abbrev pub Suits : Command → World → Type 0

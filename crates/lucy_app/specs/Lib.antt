@@ -12,6 +12,7 @@ pub mod Report
 pub mod Types
 pub mod Check
 pub mod Programs
+pub mod Tighten
 pub mod Endings
 pub mod Running
 pub mod Owes

@@ -9,6 +9,10 @@ words_line = codes "lucy: words\n"
 abbrev pub instants_line : List ℕ
 instants_line = codes "lucy: words: main has no inputs, give --instants\n"
 
+-- the program has no such buffer
+abbrev pub no_buffer_line : List ℕ
+no_buffer_line = codes "lucy: words: no such buffer\n"
+
 -- a fetch or a read failed, or no file has the name
 abbrev pub read_fault_line : List ℕ
 read_fault_line = codes "lucy: read fault\n"

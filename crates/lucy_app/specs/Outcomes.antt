@@ -20,7 +20,7 @@ use Rattle.lucy_front.specs.Accepting.{IsAccepted}
 use Rattle.lucy_run.specs.Ends.{IsFrontOf}
 use Rattle.lucy_run.specs.declared.ending.Ending.{Ending}
 use Rattle.lucy_run.specs.declared.ending.Ending.TheVariants as ending
-use Rattle.lucy_app.specs.Answers.{Answer, printed, read_fault, no_instants, program_refused, input_refused, out_of_memory}
+use Rattle.lucy_app.specs.Answers.{Answer, printed, read_fault, no_instants, no_buffer, program_refused, input_refused, out_of_memory}
 use Rattle.lucy_app.specs.Endings.{fault_status, fault_line, ending_status, ending_line}
 use Rattle.lucy_app.specs.Commands.{HasText}
 use Rattle.lucy_app.specs.Running.{IsRunnable, OwesRunning}
@@ -30,7 +30,7 @@ use Rattle.lucy_app.specs.Owes.{Owes}
 use Rattle.lucy_app.specs.Ends.{Tells, Answers, Breaks, EndsBy, MayStand, MayFail}
 use Rattle.lucy_app.specs.declared.input_refusal.InputCause.{InputCause}
 use Rattle.lucy_app.specs.declared.refusal.Refusal.{Refusal}
-use Rattle.lucy_app.specs.declared.refusal.Refusal.TheVariants.{Program, Input, NoInstants, ReadFault, OutOfMemory}
+use Rattle.lucy_app.specs.declared.refusal.Refusal.TheVariants.{Program, Input, NoInstants, NoBuffer, ReadFault, OutOfMemory}
 
 -- the bytes that a fetch gave
 abbrev pub bytes_of : Result (Vec ℕ Global) ShelfError → Result (List ℕ) ShelfError
@@ -42,6 +42,7 @@ abbrev pub refusal_answer : Refusal → Answer
 refusal_answer (Program reason) = program_refused reason
 refusal_answer (Input cause) = input_refused cause
 refusal_answer NoInstants = no_instants
+refusal_answer NoBuffer = no_buffer
 refusal_answer ReadFault = read_fault
 refusal_answer OutOfMemory = out_of_memory []
 

@@ -7,7 +7,7 @@ use Rattle.lucy_run.specs.Feeds.{CountsAs}
 use Rattle.lucy_run.specs.Owes.{OwesRun, OwesKahn}
 use Rattle.lucy_make.specs.Text.{made_text}
 use Rattle.lucy_make.specs.Owes.{OwesSummary}
-use Rattle.lucy_command.specs.Commands.{Command, Order, Show, Types, Check, Clocks, Run, Kahn, Make}
+use Rattle.lucy_command.specs.Commands.{Command, Order, Show, Types, Check, Clocks, Run, Kahn, Make, Tighten}
 use Rattle.lucy_app.specs.Commands.{written_options, inferring_options}
 use Rattle.lucy_app.specs.World.{Given}
 use Rattle.lucy_app.specs.Answers.{Answer, printed, read_fault, limit_passed, input_refused}
@@ -17,6 +17,7 @@ use Rattle.lucy_app.specs.Show.{IsPrintOf, RefusesSyntax}
 use Rattle.lucy_app.specs.Types.{IsReportOf, RefusesText}
 use Rattle.lucy_app.specs.Check.{IsCheckOf, RefusesCheck}
 use Rattle.lucy_app.specs.Programs.{OwesText, OwesPrint}
+use Rattle.lucy_app.specs.Tighten.{OwesTight}
 use Rattle.lucy_app.specs.Running.{OwesRunning}
 use Rattle.lucy_app.specs.declared.input_refusal.InputCause.{InputCause}
 
@@ -48,6 +49,9 @@ Owes (Kahn words) given answer =
 Owes (Make words) given answer =
     OwesRunning (OwesSummary words.stages (kinds_of given.operators)) given.operators (inferring_options 1 1) None given.stop
     (Ok (made_text words.stages) ∷ []) answer
+Owes (Tighten words) given answer =
+    let o = inferring_options words.scale words.lead in
+    OwesText (RefusesCheck given.operators o) (OwesTight given.operators o words) given.stop given.fetched answer
 
 -- what a command has met may count as this: as it is, or, where `run` gave up reading, as if the bytes taken were all
 abbrev pub MayCount : Command → (given counted : Given) → Type 0

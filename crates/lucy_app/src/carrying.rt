@@ -8,7 +8,7 @@ ghost use Rattle.lucy_app.specs.Ends.{EndsSo};
 use crate::fetch::fetch;
 use crate::options::{inferring, written};
 use crate::output::finish;
-use crate::{check, making, order, running, show, types};
+use crate::{check, making, order, running, show, tightening, types};
 use lucy_command::Command;
 use lucy_host::Host;
 use lucy_text::{Shelf, Sink, Source};
@@ -97,5 +97,10 @@ pub(crate) fn carry_out<
             running::kahn(alloc, fetched, words, input, out, err, host)
         }
         Command::Make(words) => making::make(rt, alloc, words, out, err, gate, host),
+        Command::Tighten(words) => {
+            let fetched = fetch(alloc, shelf, words.file, Limit::Text);
+            let outcome = tightening::answer(alloc, fetched, host.ops(), words);
+            finish(alloc, out, err, outcome)
+        }
     }
 }

@@ -1,17 +1,18 @@
 // Laws of what commands owe.
 ghost use Rattle.std.specs.Prelude.{◌≡◌, ℕ, List};
-ghost use Rattle.lucy_command.specs.Commands.{Command, Order, Show};
+ghost use Rattle.lucy_command.specs.Commands.{Command, Order, Show, Tighten, TightenWords};
 ghost use Rattle.lucy_app.specs.World.{World, Given};
-ghost use Rattle.lucy_app.specs.Answers.{Answer, Alike};
+ghost use Rattle.lucy_app.specs.Answers.{Answer, Alike, printed};
 ghost use Rattle.lucy_app.specs.Owes.{Owes};
 ghost use Rattle.lucy_app.specs.Complete.{MayPrint, Completes};
 
 use lucy_lines::one_cut;
 use lucy_meaning::one_horizon;
 use lucy_run::{faultless_runs_are_done, one_interpretation, one_run};
+use lucy_tight::one_tightest;
 
 /// A command that has met the same things owes one answer. Only the evidence for which a program is refused is left
-/// open, such as the path of a clash of types.
+/// open, such as the path of a clash of types; and of the least size of a buffer the cycle that shows it.
 pub fn one_answer()
     ensures alike { (command : Command) (given : Given) (a b : Answer) → Owes command given a → Owes command given b → Alike a b }
     ensures order { (given : Given) (a b : Answer) → Owes Order given a → Owes Order given b → a ≡ b }
@@ -21,14 +22,19 @@ pub fn one_answer()
     one_horizon();
     one_run();
     one_interpretation();
+    one_tightest();
 }
 
-/// Of a command that nothing refuses one output may stand.
+/// Of a command that nothing refuses one output may stand; of `tighten` one but for the cycle.
 pub fn one_output()
-    ensures { (command : Command) (before : World) (a b : List ℕ) → MayPrint command before a → MayPrint command before b → a ≡ b }
+    ensures one { (command : Command) (before : World) (a b : List ℕ) → ((words : TightenWords) → command ≡ Tighten words → ⊥) →
+        MayPrint command before a → MayPrint command before b → a ≡ b }
+    ensures alike { (words : TightenWords) (before : World) (a b : List ℕ) → MayPrint (Tighten words) before a →
+        MayPrint (Tighten words) before b → Alike (printed a) (printed b) }
 {
     one_cut();
     one_horizon();
+    one_tightest();
 }
 
 /// A command that nothing refuses is done, and its whole output stands, or memory runs out: its FILE is told and is a program that
@@ -39,4 +45,5 @@ pub fn suited_commands_are_done()
     one_cut();
     one_horizon();
     faultless_runs_are_done();
+    one_tightest();
 }

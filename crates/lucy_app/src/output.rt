@@ -55,6 +55,7 @@ pub(crate) fn refuse<E: Sink>(alloc: Global, err: &mut E, refusal: Refusal) -> u
             b"lucy: words: main has no inputs, give --instants\n",
             2,
         ),
+        Refusal::NoBuffer => tell(err, b"lucy: words: no such buffer\n", 2),
         Refusal::ReadFault => tell(err, b"lucy: read fault\n", 4),
         Refusal::OutOfMemory => tell(err, b"lucy: out of memory\n", 7),
     }

@@ -22,6 +22,8 @@ pub(crate) enum Refusal {
     Input(InputCause),
     /// The program's main has no inputs, and the words give no instants.
     NoInstants,
+    /// The program has no buffer that is named so.
+    NoBuffer,
     /// A fetch or a read failed, or no file has the name.
     ReadFault,
     /// Memory ran out.

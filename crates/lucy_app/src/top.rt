@@ -18,10 +18,11 @@ use std::thread::Threads;
 ///
 /// - 0: the answer of the command stands on `out`, and nothing more on `err`.
 /// - 1: the text of FILE is no program; for all but `show` also, one of its names is refused, or one of its nodes has no types;
-///   for `check`, `clocks`, `run` and `kahn` also, a written node hands down words that don't meet its needs, or items of its net
-///   depend on each other; for `check` one of its nodes isn't written; for the others a node that isn't has no clocks, as its
-///   rates don't agree or none of the shape meet its needs.
-/// - 2: the words name no command; or main has no inputs and `run` or `kahn` is given no instants.
+///   for `check`, `clocks`, `tighten`, `run` and `kahn` also, a written node hands down words that don't meet its needs, or items of
+///   its net depend on each other; for `check` one of its nodes isn't written; for the others a node that isn't has no clocks, as
+///   its rates don't agree or none of the shape meet its needs.
+/// - 2: the words name no command; or main has no inputs and `run` or `kahn` is given no instants; or the buffer of `tighten` isn't
+///   there.
 /// - 3: the input of `order` is not two words, or the first of them that is refused is badly spelled or has no one in its period;
 ///   or a line of the input of `run` or `kahn` is refused: the lines of what the items before it allow stand on `out`.
 /// - 4: the shelf tells its files and has no FILE, or a fetch or a read failed; where a read of `run` or `kahn` did, the lines of
@@ -31,8 +32,9 @@ use std::thread::Threads;
 /// - 6: a limit is passed: the input of `order` has more than 262,144 bytes, or the first of its two words that is refused has more
 ///   than 65,536 bits, or more than 16,777,216 instants decide about the two; the text of FILE has more than 1,048,576 bytes, or
 ///   passes a limit of programs at the first token that is refused; for all but `show` also, one of its nodes has more than 4,096
-///   places, and no name up to its end is refused; for `check`, `clocks`, `run` and `kahn` also, the needs of a node, its rates,
+///   places, and no name up to its end is refused; for `check`, `clocks`, `tighten`, `run` and `kahn` also, the needs of a node, its rates,
 ///   positions, inequalities or words or their comparison, the net or its schedule pass a limit, and nothing before that is refused.
+///   For `tighten` also, the inequalities of a size of the buffer pass a limit, or the words of its least size.
 ///   Where `run` or `kahn` pass the limit of the input or of the instants of a run, the lines up to there stand on `out`, and nothing
 ///   where `kahn` passes one of its own.
 /// - 7: memory ran out. Of `run` and `kahn` a front of the answer may stand on `out`, of the others nothing does. Words that name no
@@ -44,9 +46,11 @@ use std::thread::Threads;
 /// of a program's text, and judge the text. Then `show` prints the program. `types` judges the names of all nodes, and then the
 /// types of each node in turn; it prints each node with the types of its parameters and defined names. `check` judges these too,
 /// then the clocks of each node in turn, each of which must be written, and then the net; it prints the report: types, words, and
-/// the sizes of buffers. `clocks` does the same, but infers the clocks of nodes that aren't written. `run` and `kahn` judge as
-/// `clocks` does, and then look for missing instants. `run` prints the report and the
-/// line `run`. Both read the input to its end or to its first fault, where main has inputs, and print the output lines; where main has
+/// the sizes of buffers. `clocks` does the same, but infers the clocks of nodes that aren't written. `tighten` judges as `clocks`
+/// does, then looks for the buffer, and prints its size, the least size that any clocks of its node's shape reach, the node's lines
+/// at the earliest of these clocks, and a cycle that shows that one less is too small; of a written node it prints the size, which
+/// is fixed. `run` and `kahn` judge as `clocks` does, and then look for missing instants. `run` prints the report and the line `run`.
+/// Both read the input to its end or to its first fault, where main has inputs, and print the output lines; where main has
 /// none, or nothing is run, they leave the source alone, with every status. The host
 /// lends programs its operators, by their names. `make` judges the program that it generates as `run` does, and prints the figures of
 /// its run on the input that it generates; it calls neither the shelf nor the source. No read follows the end of the input or a failed

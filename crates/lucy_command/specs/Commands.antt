@@ -8,8 +8,9 @@ use Rattle.lucy_command.specs.declared.names.Name.TheVariants as name
 use Rattle.lucy_command.specs.declared.names.Setting.{Setting}
 use Rattle.lucy_command.specs.declared.names.Setting.TheVariants as setting
 use Rattle.lucy_command.specs.declared.words.MakeWords.{MakeWords}
-use Rattle.lucy_command.specs.Names.{name_of, least_of, most_of, most_stages}
-use Rattle.lucy_command.specs.Parts.{Texts, texts_of}
+use Rattle.lucy_token.specs.Written.{is_name_text}
+use Rattle.lucy_command.specs.Names.{name_of, least_of, most_of, most_stages, most_buffer}
+use Rattle.lucy_command.specs.Parts.{halves_at, Texts, texts_of}
 
 -- what `clocks` works on: FILE, and the scale and the lead of clocks that are found
 pub record ClocksWords : Type 0 where
@@ -33,6 +34,14 @@ pub record RunWords : Type 0 where
   pub workers : ℕ
   pub block : Option ℕ
 
+-- what `tighten` works on: FILE, the name of a node and the number of a buffer, and the scale and the lead
+pub record TightenWords : Type 0 where
+  pub file : List ℕ
+  pub node : List ℕ
+  pub buffer : ℕ
+  pub scale : ℕ
+  pub lead : ℕ
+
 -- a command, with what it works on
 pub data Command : Type 0 where
   Order : Command
@@ -41,6 +50,7 @@ pub data Command : Type 0 where
   Run : RunWords → Command
   Kahn : KahnWords → Command
   Make : MakeWords → Command
+  Tighten : TightenWords → Command
 
 -- a number of one to seven digits, between these
 abbrev pub is_number : (least most : ℕ) → List ℕ → Bool
@@ -82,10 +92,14 @@ alone command None = Some command
 alone command (Some text) = None
 
 -- FILE, the scale and the lead, each of which is 1 where it doesn't stand
-abbrev pub clocks_words : Texts → Option ClocksWords
-clocks_words t =
+abbrev pub clocks_with : (file : Option (List ℕ)) → Texts → Option ClocksWords
+clocks_with operand t =
     option_and_then (λ file. option_and_then (λ scale. option_map (λ lead. record { file = file; scale = scale; lead = lead })
-    (given_or 1 setting.Lead t.lead)) (given_or 1 setting.Scale t.scale)) (operand_of t)
+    (given_or 1 setting.Lead t.lead)) (given_or 1 setting.Scale t.scale)) operand
+
+-- what `clocks` works on
+abbrev pub clocks_words : Texts → Option ClocksWords
+clocks_words t = clocks_with (operand_of t) t
 
 -- and the instants
 abbrev pub kahn_words : Texts → Option KahnWords
@@ -107,6 +121,17 @@ run_words t =
 abbrev pub make_words : Texts → Option MakeWords
 make_words t = option_and_then (λ stages. option_map (λ p. record { stages = stages; workers = p.0; block = p.1 }) (playing_of t)) (stages_of (operand_of t))
 
+-- the name of a node and the number of one of its buffers, which are parted by a text's first `.`
+abbrev pub buffer_of : (text : List ℕ) → Option (List ℕ × ℕ)
+buffer_of text =
+    option_and_then (λ h. if is_name_text h.0 then option_map (λ number. (h.0, number)) (number_of 0 most_buffer h.1) else None) (halves_at 46 text)
+
+-- what `tighten` works on
+abbrev pub tighten_words : Texts → Option TightenWords
+tighten_words t =
+    option_and_then (λ c. option_map (λ b. record { file = c.file; node = b.0; buffer = b.1; scale = c.scale; lead = c.lead })
+    (option_and_then buffer_of t.second)) (clocks_with t.first t)
+
 -- the command of this name with these texts, where they fit it
 abbrev pub command_with : Name → Texts → Option Command
 command_with name.Order t = alone Order t.first
@@ -117,6 +142,7 @@ command_with name.Clocks t = option_map Clocks (clocks_words t)
 command_with name.Run t = option_map Run (run_words t)
 command_with name.Kahn t = option_map Kahn (kahn_words t)
 command_with name.Make t = option_map Make (make_words t)
+command_with name.Tighten t = option_map Tighten (tighten_words t)
 
 -- the command that the words name, where they name one
 abbrev pub command_of : (words : List (List ℕ)) → Option Command

@@ -1,14 +1,15 @@
 -- A command as the call gives it: what it stands for, and that its numbers are within their limits.
 use Rattle.std.specs.Prelude.{ℕ, ◌≤◌, Option, Some, None, IfSome}
 use Rattle.lucy_command.specs.declared.names.Setting.{Setting}
-use Rattle.lucy_command.specs.declared.names.Setting.TheVariants.{Scale, Lead, Instants, Workers, Block}
+use Rattle.lucy_command.specs.declared.names.Setting.TheVariants.{Scale, Instants, Workers, Block}
 use Rattle.lucy_command.specs.Names.{least_of, most_of, most_stages, default_block}
 use Rattle.lucy_command.specs.Commands as names
 use Rattle.lucy_command.specs.declared.words.ClocksWords.{ClocksWords}
 use Rattle.lucy_command.specs.declared.words.RunWords.{RunWords}
 use Rattle.lucy_command.specs.declared.words.KahnWords.{KahnWords}
+use Rattle.lucy_command.specs.declared.words.TightenWords.{TightenWords}
 use Rattle.lucy_command.specs.declared.command.Command.{Command}
-use Rattle.lucy_command.specs.declared.command.Command.TheVariants.{Order, Show, Types, Check, Clocks, Run, Kahn, Make}
+use Rattle.lucy_command.specs.declared.command.Command.TheVariants.{Order, Show, Types, Check, Clocks, Run, Kahn, Make, Tighten}
 
 -- what these words of `clocks` stand for
 abbrev pub clocks_named : ClocksWords → names.ClocksWords
@@ -22,6 +23,10 @@ kahn_named w = record { file = w.file.now; scale = w.scale; lead = w.lead; insta
 abbrev pub run_named : RunWords → names.RunWords
 run_named w = record { file = w.file.now; scale = w.scale; lead = w.lead; instants = w.instants; workers = w.workers; block = w.block }
 
+-- and these of `tighten`
+abbrev pub tighten_named : TightenWords → names.TightenWords
+tighten_named w = record { file = w.file.now; node = w.node.now; buffer = w.buffer; scale = w.scale; lead = w.lead }
+
 -- the command that it stands for
 abbrev pub named : Command → names.Command
 named Order = names.Order
@@ -32,6 +37,7 @@ named (Clocks words) = names.Clocks (clocks_named words)
 named (Run words) = names.Run (run_named words)
 named (Kahn words) = names.Kahn (kahn_named words)
 named (Make words) = names.Make words
+named (Tighten words) = names.Tighten (tighten_named words)
 
 -- a number of this option
 abbrev pub IsOf : Setting → ℕ → Type 0
@@ -63,6 +69,7 @@ IsWithin (names.Clocks w) = IsScale w.scale × IsScale w.lead
 IsWithin (names.Run w) = IsScale w.scale × IsScale w.lead × AreFew w.instants × AreWorkers w.workers × IfSome w.block IsBlock
 IsWithin (names.Kahn w) = IsScale w.scale × IsScale w.lead × AreFew w.instants
 IsWithin (names.Make w) = AreStages w.stages × AreWorkers w.workers × IfSome w.block IsBlock
+IsWithin (names.Tighten w) = IsScale w.scale × IsScale w.lead
 IsWithin command = Unit {0}
 
 -- the block that is given, or else the default

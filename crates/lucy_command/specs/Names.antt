@@ -5,7 +5,7 @@ use Rattle.std.specs.Str.{bytes_eq}
 use Rattle.lucy_word.specs.Limits.{limit_number}
 use Rattle.lucy_word.specs.declared.limit.Limit.TheVariants as limit
 use Rattle.lucy_command.specs.declared.names.Name.{Name}
-use Rattle.lucy_command.specs.declared.names.Name.TheVariants.{Order, Show, Types, Check, Clocks, Run, Kahn, Make}
+use Rattle.lucy_command.specs.declared.names.Name.TheVariants.{Order, Show, Types, Check, Clocks, Run, Kahn, Make, Tighten}
 use Rattle.lucy_command.specs.declared.names.Setting.{Setting}
 use Rattle.lucy_command.specs.declared.names.Setting.TheVariants.{Scale, Lead, Instants, Workers, Block}
 
@@ -20,7 +20,8 @@ name_of word =
     else (if bytes_eq word (codes "run") then Some Run
     else (if bytes_eq word (codes "kahn") then Some Kahn
     else (if bytes_eq word (codes "make") then Some Make
-    else None)))))))
+    else (if bytes_eq word (codes "tighten") then Some Tighten
+    else None))))))))
 
 -- the option that a word is
 abbrev pub setting_of : (word : List ℕ) → Option Setting
@@ -49,6 +50,10 @@ most_of Block = limit_number limit.Instants
 abbrev pub most_stages : ℕ
 most_stages = 256
 
+-- the greatest number of a buffer that is spelled in seven digits
+abbrev pub most_buffer : ℕ
+most_buffer = 9999999
+
 -- the instants of a block, where none are given
 abbrev pub default_block : ℕ
 default_block = 4096
@@ -63,6 +68,8 @@ allows Kahn Lead = true
 allows Kahn Instants = true
 allows Make Workers = true
 allows Make Block = true
+allows Tighten Scale = true
+allows Tighten Lead = true
 allows name setting = false
 
 -- the option of the command that a word is

@@ -19,9 +19,13 @@ is_dashed [] = false
 is_dashed (byte ∷ []) = false
 is_dashed (byte ∷ (other ∷ more)) = byte == 45
 
--- what stands before the first `=` of a word, and behind it, where it has one
+-- what stands before the first such byte of a word, and behind it, where it has one
+abbrev pub halves_at : (sign : ℕ) (word : List ℕ) → Option (List ℕ × List ℕ)
+halves_at sign word = if position_or_len (λ byte. byte == sign) word == length word then None else Some (before_first (λ byte. byte == sign) word, after_first (λ byte. byte == sign) word)
+
+-- so with the first `=`
 abbrev pub halves : (word : List ℕ) → Option (List ℕ × List ℕ)
-halves word = if position_or_len (λ byte. byte == 61) word == length word then None else Some (before_first (λ byte. byte == 61) word, after_first (λ byte. byte == 61) word)
+halves word = halves_at 61 word
 
 -- the parts with one before them
 abbrev pub cons : Part → Option (List Part) → Option (List Part)

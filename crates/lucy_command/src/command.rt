@@ -3,13 +3,16 @@ ghost use Rattle.std.specs.Prelude.{◌≡◌, ◌≤◌, IfSome};
 ghost use Rattle.std.specs.Option.{option_map};
 ghost use Rattle.lucy_command.specs.Commands as spec;
 ghost use Rattle.lucy_command.specs.declared.names.Name.TheVariants as Name;
-ghost use Rattle.lucy_command.specs.Named.{named, clocks_named, kahn_named, run_named, AreStages, IsOf, IsWithin};
+ghost use Rattle.lucy_command.specs.Named.{named, clocks_named, kahn_named, run_named, tighten_named, AreStages, IsOf, IsWithin};
+ghost use Rattle.lucy_command.specs.Names.{most_buffer};
+ghost use Rattle.lucy_command.specs.Parts.{halves_at};
 ghost use Rattle.lucy_command.specs.Seen.{seen, seen_text};
 
 use crate::names::{Name, Setting};
 use crate::numbers::number;
 use crate::texts::Texts;
-use crate::words::{ClocksWords, KahnWords, MakeWords, RunWords};
+use crate::words::{ClocksWords, KahnWords, MakeWords, RunWords, TightenWords};
+use lucy_token::is_name;
 
 /// A command, with what it works on.
 #[derive(Clone, Copy)]
@@ -25,10 +28,14 @@ pub enum Command<'a> {
     Run(RunWords<'a>),
     Kahn(KahnWords<'a>),
     Make(MakeWords),
+    Tighten(TightenWords<'a>),
 }
 
 /// The most stages.
 const MOST_STAGES: u64 = 256;
+
+/// The greatest number of a buffer: that of seven digits.
+const MOST_BUFFER: u64 = 9_999_999;
 
 /// The scale, and the lead, where none is given.
 const SCALE: u64 = 1;
@@ -101,15 +108,23 @@ fn operand_of<'a>(texts: &Texts<'a>) -> Option<&'a str>
     }
 }
 
+// The file, and the scale and the lead.
+fn clocks_with<'a>(operand: Option<&'a str>, texts: &Texts<'a>) -> Option<ClocksWords<'a>>
+    ensures is { option_map clocks_named result ≡ spec.clocks_with (seen_text operand.entry) (seen texts.now) }
+    ensures within { IfSome result (λ w. IsOf Setting.Scale w.scale × IsOf Setting.Lead w.lead) }
+{
+    let file = operand?;
+    let scale = scale_of(Setting::Scale, texts.scale)?;
+    let lead = scale_of(Setting::Lead, texts.lead)?;
+    Some(ClocksWords { file, scale, lead })
+}
+
 // What `clocks` works on.
 fn clocks_words<'a>(texts: &Texts<'a>) -> Option<ClocksWords<'a>>
     ensures is { option_map clocks_named result ≡ spec.clocks_words (seen texts.now) }
     ensures within { IfSome result (λ w. IsOf Setting.Scale w.scale × IsOf Setting.Lead w.lead) }
 {
-    let file = operand_of(texts)?;
-    let scale = scale_of(Setting::Scale, texts.scale)?;
-    let lead = scale_of(Setting::Lead, texts.lead)?;
-    Some(ClocksWords { file, scale, lead })
+    clocks_with(operand_of(texts), texts)
 }
 
 // What `kahn` works on.
@@ -163,6 +178,42 @@ fn make_words(texts: &Texts<'_>) -> Option<MakeWords>
     })
 }
 
+// What stands before the first `.` of a text, and behind it.
+fn parted(text: &str) -> Option<(&str, &str)>
+    ensures { option_map (λ h. (h.0.now, h.1.now)) result ≡ halves_at 46 text.now }
+{
+    text.split_once('.')
+}
+
+// The name of a node and the number of a buffer.
+fn buffer_of(text: &str) -> Option<(&str, u32)>
+    ensures is { option_map (λ b. (b.0.now, b.1)) result ≡ spec.buffer_of text.now }
+    ensures within { IfSome result (λ b. b.1 ≤ most_buffer) }
+{
+    let (node, number_text) = parted(text)?;
+    if !is_name(node.as_bytes()) {
+        return None;
+    }
+    let buffer = number(number_text, 0, MOST_BUFFER)? as u32;
+    Some((node, buffer))
+}
+
+// What `tighten` works on.
+fn tighten_words<'a>(texts: &Texts<'a>) -> Option<TightenWords<'a>>
+    ensures is { option_map tighten_named result ≡ spec.tighten_words (seen texts.now) }
+    ensures within { IfSome result (λ w. IsWithin (spec.Tighten (tighten_named w))) }
+{
+    let ClocksWords { file, scale, lead } = clocks_with(texts.first, texts)?;
+    let (node, buffer) = buffer_of(texts.second?)?;
+    Some(TightenWords {
+        file,
+        node,
+        buffer,
+        scale,
+        lead,
+    })
+}
+
 /// The command of this name with these texts, where they fit it.
 pub(crate) fn command_with<'a>(name: Name, texts: &Texts<'a>) -> Option<Command<'a>>
     ensures is { option_map named result ≡ spec.command_with name (seen texts.now) }
@@ -180,5 +231,6 @@ pub(crate) fn command_with<'a>(name: Name, texts: &Texts<'a>) -> Option<Command<
         Name::Run => Some(Command::Run(run_words(texts)?)),
         Name::Kahn => Some(Command::Kahn(kahn_words(texts)?)),
         Name::Make => Some(Command::Make(make_words(texts)?)),
+        Name::Tighten => Some(Command::Tighten(tighten_words(texts)?)),
     }
 }

@@ -15,6 +15,7 @@ pub(crate) enum Name {
     Run,
     Kahn,
     Make,
+    Tighten,
 }
 
 /// An option. Each takes a number.
@@ -54,6 +55,9 @@ pub(crate) fn name_of(word: &str) -> Option<Name>
     }
     if word == "make" {
         return Some(Name::Make);
+    }
+    if word == "tighten" {
+        return Some(Name::Tighten);
     }
     None
 }
@@ -127,6 +131,8 @@ fn allows(name: Name, setting: Setting) -> bool
         (Name::Kahn, Setting::Instants) => true,
         (Name::Make, Setting::Workers) => true,
         (Name::Make, Setting::Block) => true,
+        (Name::Tighten, Setting::Scale) => true,
+        (Name::Tighten, Setting::Lead) => true,
         _ => false,
     }
 }

@@ -47,6 +47,18 @@ pub struct MakeWords {
     pub block: Option<u64>,
 }
 
+/// What `tighten` works on: likewise.
+#[derive(Clone, Copy)]
+pub struct TightenWords<'a> {
+    pub file: &'a str,
+    /// The name of a node.
+    pub node: &'a str,
+    /// The number of one of its buffers, up to 9,999,999; it counts from 1, so that none has number 0.
+    pub buffer: u32,
+    pub scale: u64,
+    pub lead: u64,
+}
+
 /// The instants of a block where none are given.
 const BLOCK: u64 = 4_096;
 

@@ -1,10 +1,10 @@
 use Rattle.std.proofs.Common.{[], ◌∷◌, refl, ap, sym, inl, inr}
 use Rattle.lucy_host.specs.Host.{lent}
 use Rattle.lucy_feed.specs.Sources.{Unread}
-use Rattle.lucy_command.specs.Named.{named, run_named, kahn_named}
+use Rattle.lucy_command.specs.Named.{named, run_named, kahn_named, tighten_named}
 use Rattle.lucy_app.specs.Outcomes.{bytes_of, made_given}
 use Rattle.lucy_app.specs.World.{Given}
-use Rattle.lucy_app.proofs.Outcomes.{report_met, check_met}
+use Rattle.lucy_app.proofs.Outcomes.{report_met, check_met, tight_met}
 use Rattle.lucy_app.proofs.RunEnds.{run_met, kahn_met}
 use Rattle.lucy_app.proofs.Sinks.{ends_some, ends_with}
 use Rattle.lucy_app.proofs.carrying.carry_out.Goals as goal
@@ -54,3 +54,18 @@ returns-in-Kahn-clause-ends g c =
 pub returns-in-Make-clause-ends : goal.returns-in-Make-clause-ends
 returns-in-Make-clause-ends g c =
     ends_with _ _ (made_given (lent c.args.host.now)) _ _ _ (ap named (sym c.in-Make.is)) (record { shelf = refl; source = (refl, refl, refl); unread = inl refl; operators = refl }) c.make.ensures.ends
+
+pub returns-in-Tighten-clause-ends : goal.returns-in-Tighten-clause-ends
+returns-in-Tighten-clause-ends g c =
+    let fetched = bytes_of c.fetch-fetched-in-Tighten.result ∷ [] in
+    let given : Given = record { fetched = fetched; taken = []; stop = Unread; operators = lent c.args.host.now } in
+    ends_some _ _ given c.answer-outcome-in-Tighten.result _ _ _ (ap named (sym c.in-Tighten.is))
+    (record {
+      shelf = (_, c.fetch-fetched-in-Tighten.ensures.fetched, refl);
+      source = (refl, refl, refl);
+      unread = inl refl;
+      operators = refl;
+    })
+    refl tt
+    (tight_met _ _ _ (tighten_named c.in-Tighten.words) fetched _ c.ops-in-Tighten.ensures c.answer-outcome-in-Tighten.ensures.outcome)
+    c.finish-in-Tighten.ensures.delivers
