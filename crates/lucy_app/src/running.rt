@@ -5,9 +5,7 @@ ghost use Rattle.lucy_word.specs.declared.limit.Limit.TheVariants as limit;
 ghost use Rattle.lucy_host.specs.Host.{Serves, lent};
 ghost use Rattle.lucy_host.specs.Operators.{kinds_of};
 ghost use Rattle.lucy_feed.specs.Sources.{Stop, Read};
-ghost use Rattle.lucy_flat.specs.Clocked.{AreClocked};
 ghost use Rattle.lucy_front.specs.Inferring.{AreOptions};
-ghost use Rattle.lucy_front.specs.Report.{IsReportable};
 ghost use Rattle.lucy_run.specs.Feeds.{CountsAs};
 ghost use Rattle.lucy_run.specs.Owes.{OwesRun, OwesKahn};
 ghost use Rattle.lucy_run.specs.Ends.{FailsInOrder};
@@ -39,8 +37,6 @@ pub(crate) fn accepted(
 ) -> Result<Accepted, Refusal>
     requires { AreOptions options.now }
     ensures accepting { IsAccepting ops.now options.now instants (bytes_of fetched ∷ []) result }
-    ensures reportable { IfOk result (λ a. IsReportable a.placed.nodes a.typed a.clocks.items) }
-    ensures clocked { IfOk result (λ a. AreClocked a.placed.nodes a.clocks.items) }
     ensures given { IfOk result (λ a. a.inputs.items ≡ [] → instants ≢ None) }
     ensures tellable { IfErr result Tellable }
 {

@@ -3,11 +3,9 @@ ghost use Rattle.std.specs.Prelude.{◌≡◌, ◌⊎◌, ◌<◌, length, IfOk,
 ghost use Rattle.lucy_front.specs.declared.accepted.Accepted.{Accepted as Program};
 ghost use Rattle.lucy_front.specs.declared.refusal.Refusal.{Refusal as Reason};
 ghost use Rattle.lucy_front.specs.declared.refusal.Refusal.TheVariants.{OutOfMemory};
-ghost use Rattle.lucy_flat.specs.Clocked.{AreClocked};
 ghost use Rattle.lucy_front.specs.Accepting.{IsClockedText, IsAccepted, RefusesPhases, Refuses};
 ghost use Rattle.lucy_front.specs.Inferring.{AreOptions};
 ghost use Rattle.lucy_front.specs.OneAnswer.{AreAlike};
-ghost use Rattle.lucy_front.specs.Report.{IsReportable, AreBounded};
 ghost use Rattle.lucy_front.specs.Refusals.{IsTellable};
 ghost use Rattle.lucy_front.specs.Clocking.{clock_refusal};
 
@@ -89,9 +87,6 @@ pub fn accept(alloc: Global, text: &[u8], ops: &Ops, options: &Options) -> Resul
     ensures refused { IfErr result (Refuses ops.now options.now text.now) }
     ensures accepted { (a : Program) → IsAccepted ops.now options.now text.now a → IfErr result (λ e. e ≡ OutOfMemory) }
     ensures rejected { (r : Reason) → Refuses ops.now options.now text.now r → (r ≡ OutOfMemory → ⊥) → MatchResult result (λ _. ⊥) (λ e. (e ≡ OutOfMemory) ⊎ AreAlike r e) }
-    ensures clocked { IfOk result (λ a. AreClocked a.placed.nodes a.clocks.items) }
-    ensures reportable { IfOk result (λ a. IsReportable a.placed.nodes a.typed a.clocks.items) }
-    ensures bounded { IfOk result (λ a. AreBounded a.placed.nodes a.clocks.items) }
     ensures tellable { IfErr result IsTellable }
 {
     planned(alloc, text, ops, options)

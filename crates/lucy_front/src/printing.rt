@@ -1,13 +1,16 @@
 // Prints the nodes of an accepted program with their types, words and sizes.
-ghost use Rattle.std.specs.Prelude.{◌≡◌, ◌+◌, ◌<◌, ◌≤◌, ◌++◌, Some, IfOk, OnOk, length, slice_get};
+ghost use Rattle.std.specs.Prelude.{◌≡◌, ◌+◌, ◌<◌, ◌≤◌, ◌++◌, ℕ, List, Some, IfOk, OnOk, length, slice_get};
 ghost use Rattle.std.specs.List.{AllByRecursion};
 ghost use Rattle.lucy_word.specs.Spelling.{text_of};
+ghost use Rattle.lucy_host.specs.Operators.{Operator};
 ghost use Rattle.lucy_place.specs.Faults.{most_places};
 ghost use Rattle.lucy_place.specs.Standing.{bound_of};
 ghost use Rattle.lucy_types.specs.Tables.{table_at};
 ghost use Rattle.lucy_need.specs.Meeting.{assigned};
 ghost use Rattle.lucy_place.specs.declared.placed.PlacedNode.{PlacedNode as Node};
 ghost use Rattle.lucy_types.specs.Programs.{IsTyped};
+ghost use Rattle.lucy_front.specs.declared.options.Options.{Options as Choices};
+ghost use Rattle.lucy_front.specs.Accepting.{IsAccepted};
 ghost use Rattle.lucy_front.specs.Report.{IsReportable};
 ghost use Rattle.lucy_front.specs.Report as spec;
 
@@ -280,7 +283,7 @@ fn all_lines(
 /// word, each buffer with the words that it is written and read on, its size in items and its bound, where one is written, and each call with the word of its
 /// base. Open types are `int` in main, the last node.
 pub fn report(alloc: Global, accepted: &Accepted) -> Result<Vec<u8>, OutOfMemory>
-    requires { IsReportable accepted.now.placed.nodes accepted.now.typed accepted.now.clocks.items }
+    requires { (ops : List Operator) × (text : List ℕ) × (options : Choices) × IsAccepted ops options text accepted.now }
     ensures { IfOk result (λ v. v.items ≡ spec.report accepted.now.placed.nodes accepted.now.typed accepted.now.clocks.items) }
 {
     all_lines(alloc, &accepted.placed, &accepted.typed, &accepted.clocks)

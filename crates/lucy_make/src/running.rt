@@ -2,7 +2,6 @@
 ghost use Rattle.std.specs.Prelude.{◌≡◌, ◌≢◌, ◌⊎◌, ℕ, List, [], IfOk, IfErr};
 ghost use Rattle.lucy_host.specs.Host.{Serves, lent};
 ghost use Rattle.lucy_host.specs.Operators.{kinds_of};
-ghost use Rattle.lucy_flat.specs.Clocked.{AreClocked};
 ghost use Rattle.lucy_front.specs.declared.options.Options.{Options};
 ghost use Rattle.lucy_front.specs.Accepting.{IsAccepted};
 ghost use Rattle.lucy_run.specs.Paces.{AreWorkers, IsBlock};
@@ -13,7 +12,7 @@ use crate::blocks::tell;
 use crate::figures::{counts_of, print};
 use crate::input::made_source;
 use crate::laws::first_goes_on;
-use lucy_front::Accepted;
+use lucy_front::{Accepted, accepted_programs_are_clocked};
 use lucy_host::Host;
 use lucy_lines::cut_in_pieces;
 use lucy_run::{Course, Ending, Pace};
@@ -37,7 +36,6 @@ pub fn summary<R: Threads + Sync, F: Fn(u32, i64, i64) -> i64 + Sync, G: Gate + 
 ) -> Result<Vec<u8>, Ending>
     requires serves { Serves F.pre F.post host.now }
     requires accepted { (text : List ℕ) × (options : Options) × IsAccepted (lent host.now) options text accepted }
-    requires clocked { AreClocked accepted.placed.nodes accepted.clocks.items }
     requires inputs { accepted.inputs.items ≢ [] }
     requires workers { AreWorkers workers }
     requires block { IsBlock block }
@@ -53,6 +51,7 @@ pub fn summary<R: Threads + Sync, F: Fn(u32, i64, i64) -> i64 + Sync, G: Gate + 
         outputs,
         ..
     } = accepted;
+    accepted_programs_are_clocked();
     cut_in_pieces();
     first_goes_on();
     let counts = counts_of(&net);

@@ -2,7 +2,6 @@
 // through these rings.
 ghost use Rattle.std.specs.Prelude.{ℕ, ◌≡◌, List, length};
 ghost use Rattle.lucy_host.specs.Operators.{Operator};
-ghost use Rattle.lucy_flat.specs.Clocked.{AreClocked};
 ghost use Rattle.lucy_front.specs.declared.options.Options.{Options as Clocking};
 ghost use Rattle.lucy_front.specs.Accepting.{IsAccepted};
 
@@ -13,7 +12,7 @@ use crate::ready::OPTIONS;
 use crate::rounds::{MOST, events_to};
 use crate::show::{counted, no_memory};
 use lucy_execution::{horizon, lengths, param_words};
-use lucy_front::{Accepted, accept};
+use lucy_front::{Accepted, accept, accepted_programs_are_clocked};
 use lucy_host::{Inputs, Ops};
 use std::io;
 use std::time::{Clock, Instant};
@@ -33,9 +32,9 @@ fn drive_accepted(
     inputs: &Inputs,
 ) -> io::Result<Driven>
     requires accepted { (operators : List Operator) × (text : List ℕ) × (o : Clocking) × IsAccepted operators o text accepted.now }
-    requires clocked { AreClocked accepted.now.placed.nodes accepted.now.clocks.items }
     requires count { length inputs.now ≡ 1 }
 {
+    accepted_programs_are_clocked();
     let words = param_words(&accepted.placed, &accepted.clocks);
     if words.len() != 1 {
         return Err(no_memory());

@@ -4,7 +4,6 @@ ghost use Rattle.lucy_meaning.specs.Horizons.{Suffice};
 ghost use Rattle.lucy_net.specs.Schedules.{IsSound};
 ghost use Rattle.lucy_cause.specs.Schedules.{events_at};
 ghost use Rattle.lucy_core.specs.Seen.{first_seen};
-ghost use Rattle.lucy_flat.specs.Clocked.{AreClocked};
 ghost use Rattle.lucy_flat.specs.Flat.{IsFlat};
 ghost use Rattle.lucy_execution.specs.Streams.{param_words};
 ghost use Rattle.lucy_front.specs.declared.options.Options.{Options as Clocking};
@@ -15,7 +14,7 @@ use lucy_cause::Schedule;
 use lucy_clock::NodeClock;
 use lucy_core::Core;
 use lucy_execution::{horizon, lengths, nets_can_be_run, param_words};
-use lucy_front::{Accepted, Options, accept};
+use lucy_front::{Accepted, Options, accept, accepted_programs_are_clocked};
 use lucy_host::{Inputs, Ops, OutOfMemory};
 use lucy_net::Net;
 use lucy_place::Placed;
@@ -94,7 +93,6 @@ fn make_ready(
     most: u64,
 ) -> Option<Ready>
     requires accepted { (text : List ℕ) × (o : Clocking) × IsAccepted ops.now o text accepted }
-    requires clocked { AreClocked accepted.placed.nodes accepted.clocks.items }
     requires count { length inputs ≡ count }
     requires most { most ≤ 1048576 }
     ensures { IfSome result (λ r. IsReady ops.now r.placed.nodes r.clocks.items r.core r.actors) }
@@ -106,6 +104,7 @@ fn make_ready(
         schedule,
         ..
     } = accepted;
+    accepted_programs_are_clocked();
     let actors = count_actors(&net);
     let words = param_words(&placed, &clocks);
     if words.len() != count {

@@ -1,7 +1,6 @@
 // The events of a net, by workers on threads: their rounds are counted, and they are timed.
 ghost use Rattle.std.specs.Prelude.{ℕ, ◌≡◌, ◌≤◌, List, length, IfOk};
 ghost use Rattle.lucy_host.specs.Host.{Serves, lent};
-ghost use Rattle.lucy_flat.specs.Clocked.{AreClocked};
 ghost use Rattle.lucy_front.specs.declared.options.Options.{Options as Clocking};
 ghost use Rattle.lucy_front.specs.Accepting.{IsAccepted};
 
@@ -11,7 +10,7 @@ use crate::running::main_node;
 use crate::show::{counted, no_memory, print_list};
 use lucy_cause::Schedule;
 use lucy_execution::{horizon, lengths, param_words, run_net};
-use lucy_front::{Accepted, accept};
+use lucy_front::{Accepted, accept, accepted_programs_are_clocked};
 use lucy_host::{Host, Inputs};
 use lucy_worker::Gate;
 use std::io;
@@ -78,7 +77,6 @@ fn run_accepted<
 >(rt: &R, host: &Host<F>, workers: u32, accepted: Accepted, inputs: Inputs) -> io::Result<Ran>
     requires serves { Serves F.pre F.post host.now }
     requires accepted { (text : List ℕ) × (o : Clocking) × IsAccepted (lent host.now) o text accepted }
-    requires clocked { AreClocked accepted.placed.nodes accepted.clocks.items }
     requires count { length inputs ≡ 1 }
     requires workers { (1 ≤ workers) × (workers ≤ 64) }
     ensures { IfOk result (λ ran. length ran.lists ≡ ran.results) }
@@ -90,6 +88,7 @@ fn run_accepted<
         schedule,
         ..
     } = accepted;
+    accepted_programs_are_clocked();
     let words = param_words(&placed, &clocks);
     if words.len() != 1 {
         return Err(no_memory());

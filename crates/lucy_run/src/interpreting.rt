@@ -24,7 +24,7 @@ use crate::horizons::{ending_for, most_instants};
 use lucy_clock::NodeClock;
 use lucy_execution::{allows_more, horizon, interpret, lengths, param_words};
 use lucy_feed::Feed;
-use lucy_front::Accepted;
+use lucy_front::{Accepted, accepted_programs_are_clocked};
 use lucy_host::Host;
 use lucy_kahn::KahnError;
 use lucy_output::{OutputError, OutputSpec, write_outputs};
@@ -101,7 +101,6 @@ pub fn kahn<F: Fn(u32, i64, i64) -> i64 + Sync, I: Source, O: Sink>(
 ) -> Ending
     requires serves { Serves F.pre F.post host.now }
     requires accepted { (text : List ℕ) × (options : Options) × IsAccepted (lent host.now) options text accepted }
-    requires clocked { AreClocked accepted.placed.nodes accepted.clocks.items }
     requires few { IfSome instants (λ given. given ≤ limit_number limit.Instants) }
     requires given { accepted.inputs.items ≡ [] → instants ≢ None }
     ensures ends { (taken : List ℕ) × (stop : Stop) × Read most_bytes (I.seen source.old) (I.seen source.new) taken stop
@@ -118,6 +117,7 @@ pub fn kahn<F: Fn(u32, i64, i64) -> i64 + Sync, I: Source, O: Sink>(
         outputs,
         ..
     } = accepted;
+    accepted_programs_are_clocked();
     let feed = match main_feed(alloc, inputs, source) {
         Ok(feed) => feed,
         Err(_) => return Ending::OutOfMemory,

@@ -1,13 +1,11 @@
 // The command `run` on an accepted program.
 ghost use Rattle.std.specs.Prelude.{◌≡◌, ◌≢◌, ◌≤◌, ℕ, List, [], None, IfOk};
 ghost use Rattle.lucy_host.specs.Host.{Serves, lent};
-ghost use Rattle.lucy_host.specs.Operators.{kinds_of};
+ghost use Rattle.lucy_host.specs.Operators.{Operator, kinds_of};
 ghost use Rattle.lucy_lines.specs.Fronts.{most_bytes};
 ghost use Rattle.lucy_feed.specs.Sources.{Stop, Read};
-ghost use Rattle.lucy_flat.specs.Clocked.{AreClocked};
 ghost use Rattle.lucy_front.specs.declared.options.Options.{Options};
 ghost use Rattle.lucy_front.specs.Accepting.{IsAccepted};
-ghost use Rattle.lucy_front.specs.Report.{IsReportable};
 ghost use Rattle.lucy_run.specs.Owes as owes;
 ghost use Rattle.lucy_run.specs.Paces.{IsPace};
 ghost use Rattle.lucy_run.specs.Played.{IsWritten, Plays};
@@ -18,7 +16,7 @@ use crate::ending::Ending;
 use crate::laws::lines_go_on;
 use crate::pace::Pace;
 use lucy_feed::values_in_turn;
-use lucy_front::{Accepted, report};
+use lucy_front::{Accepted, accepted_programs_are_clocked, report};
 use lucy_host::Host;
 use lucy_output::{OutputError, OutputWriter, instant_by_instant};
 use lucy_text::{Sink, Source, write_all};
@@ -29,7 +27,7 @@ use std::thread::Threads;
 
 // The report and the line `run`.
 fn heading(alloc: Global, accepted: &Accepted) -> Result<Vec<u8>, OutOfMemory>
-    requires { IsReportable accepted.now.placed.nodes accepted.now.typed accepted.now.clocks.items }
+    requires { (ops : List Operator) × (text : List ℕ) × (options : Options) × IsAccepted ops options text accepted.now }
     ensures { IfOk result (λ v. v.items ≡ owes.heading accepted.now) }
 {
     let mut text = report(alloc, accepted)?;
@@ -92,8 +90,6 @@ pub fn run<
 ) -> Ending
     requires serves { Serves F.pre F.post host.now }
     requires accepted { (text : List ℕ) × (options : Options) × IsAccepted (lent host.now) options text accepted }
-    requires reportable { IsReportable accepted.placed.nodes accepted.typed accepted.clocks.items }
-    requires clocked { AreClocked accepted.placed.nodes accepted.clocks.items }
     requires pace { IsPace pace }
     requires given { accepted.inputs.items ≡ [] → pace.instants ≢ None }
     ensures ends { (taken : List ℕ) × (stop : Stop) × Read most_bytes (I.seen source.old) (I.seen source.new) taken stop
@@ -119,6 +115,7 @@ pub fn run<
         outputs,
         ..
     } = accepted;
+    accepted_programs_are_clocked();
     lines_go_on();
     instant_by_instant();
     let mut course = match Course::new(

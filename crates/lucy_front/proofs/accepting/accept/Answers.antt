@@ -1,10 +1,8 @@
-use Rattle.std.proofs.lemmas.Result.{IfOk-weaker, IfErr-weaker}
+use Rattle.std.proofs.lemmas.Result.{IfErr-weaker}
 use Rattle.lucy_front.specs.Accepting.{IsAccepted, Refuses}
-use Rattle.lucy_front.proofs.TellableLaws.{reportable, tellable}
-use Rattle.lucy_front.proofs.ScheduledLaws.{clocked}
+use Rattle.lucy_front.proofs.TellableLaws.{tellable}
 use Rattle.lucy_front.proofs.OneAnswer.{only_refusal}
 use Rattle.lucy_front.proofs.OneAccepted.{accepted_kept, refused_alike}
-use Rattle.lucy_front.proofs.BoundedLaws.{bounded}
 use Rattle.lucy_front.proofs.accepting.accept.Goals as goal
 
 pub returns-clause-accepted : goal.returns-clause-accepted
@@ -15,15 +13,6 @@ returns-clause-rejected c = λ r h some.
     only_refusal c.planned.result (IsAccepted c.args.ops.now c.args.options.now c.args.text.now) (Refuses c.args.ops.now c.args.options.now c.args.text.now) r some
     (λ a is. accepted_kept c.args.ops.now c.args.options.now c.args.text.now a r is h) (λ e k. refused_alike c.args.ops.now c.args.options.now c.args.text.now r e h k)
     c.planned.ensures.ok c.planned.ensures.refused
-
-pub returns-clause-clocked : goal.returns-clause-clocked
-returns-clause-clocked c = IfOk-weaker c.planned.result _ _ (λ a is. clocked a.placed.nodes a.clocks.items is.clocked.clocks) c.planned.ensures.ok
-
-pub returns-clause-reportable : goal.returns-clause-reportable
-returns-clause-reportable c = IfOk-weaker c.planned.result _ _ (λ a is. reportable c.args.ops.now c.args.options.now c.args.text.now a is) c.planned.ensures.ok
-
-pub returns-clause-bounded : goal.returns-clause-bounded
-returns-clause-bounded c = IfOk-weaker c.planned.result _ _ (λ a is. bounded c.args.ops.now c.args.options.now c.args.text.now a is) c.planned.ensures.ok
 
 pub returns-clause-tellable : goal.returns-clause-tellable
 returns-clause-tellable c = IfErr-weaker c.planned.result _ _ (λ e is. tellable c.args.ops.now c.args.options.now c.args.text.now e is) c.planned.ensures.refused

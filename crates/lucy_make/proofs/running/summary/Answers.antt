@@ -1,6 +1,7 @@
-use Rattle.std.proofs.Common.{Some, None, refl, ap, inr, arith}
+use Rattle.std.proofs.Common.{Some, None, refl, ap, sym, subst, inr, arith}
 use Rattle.lucy_host.specs.Host.{lent}
 use Rattle.lucy_host.specs.Operators.{kinds_of}
+use Rattle.lucy_flat.specs.Clocked.{AreClocked}
 use Rattle.lucy_run.specs.declared.pace.Pace.{Pace}
 use Rattle.lucy_run.proofs.AcceptedLaws.{few_inputs, inputs_count, outputs_count, can_run}
 use Rattle.lucy_make.proofs.Runs.{steady, is_first, under_way, some_words, refused, figured}
@@ -11,6 +12,11 @@ counts_of-counts-requires g c = c.requires.accepted.2.net.flat.flat.proper.few_s
 
 pub new-requires-clause-inputs : goal.new-requires-clause-inputs
 new-requires-clause-inputs g c κs within = inputs_count _ c.requires.accepted.0 c.requires.accepted.1 c.args.accepted c.requires.accepted.2
+
+pub new-requires-clause-clocked : goal.new-requires-clause-clocked
+new-requires-clause-clocked g c κs within =
+    subst (AreClocked c.args.accepted.placed.nodes) (sym c.deref.ensures.value)
+    (c.accepted_programs_are_clocked.ensures.clocked (lent c.args.host.now) c.requires.accepted.1 c.requires.accepted.0 c.args.accepted c.requires.accepted.2)
 
 pub new-requires-clause-few : goal.new-requires-clause-few
 new-requires-clause-few g c κs within = few_inputs _ c.requires.accepted.0 c.requires.accepted.1 c.args.accepted c.requires.accepted.2

@@ -1,10 +1,16 @@
-use Rattle.std.proofs.Common.{ap, sym, ◌∙◌}
+use Rattle.std.proofs.Common.{ap, sym, ◌∙◌, subst}
+use Rattle.lucy_flat.specs.Clocked.{AreClocked}
 use Rattle.lucy_execution.specs.Streams.{param_words}
 use Rattle.lucy_net_rows.proofs.ReadyLaws.{few_actors, made_ready, counted_suffice}
 use Rattle.lucy_net_rows.proofs.ready.make_ready.Goals as goal
 
 pub count_actors-actors-requires : goal.count_actors-actors-requires
 count_actors-actors-requires c = few_actors c.args.accepted.placed.nodes c.args.accepted.clocks.items c.args.accepted.net c.requires.accepted.2.net.flat.flat
+
+pub param_words-words-requires : goal.param_words-words-requires
+param_words-words-requires c =
+    subst (AreClocked c.args.accepted.placed.nodes) (sym c.deref.ensures.value)
+    (c.accepted_programs_are_clocked.ensures.clocked c.args.ops.now c.requires.accepted.1 c.requires.accepted.0 c.args.accepted c.requires.accepted.2)
 
 pub core_of-requires-clause-suffice : goal.core_of-requires-clause-suffice
 core_of-requires-clause-suffice c =

@@ -1,11 +1,18 @@
-use Rattle.std.proofs.Common.{◌≡◌, ◌∙◌, List, length, ap, sym, arith}
+use Rattle.std.proofs.Common.{◌≡◌, ◌∙◌, List, length, ap, sym, subst, arith}
 use Rattle.std.proofs.lemmas.List.FromFn.{length-map-range_with_len}
 use Rattle.lucy_word.specs.Bits.{Bits}
+use Rattle.lucy_host.specs.Host.{lent}
+use Rattle.lucy_flat.specs.Clocked.{AreClocked}
 use Rattle.lucy_meaning.specs.Spots.{main_of}
 use Rattle.lucy_kahn.specs.Turns.{params_in}
 use Rattle.lucy_execution.specs.Streams.{main_word, param_words}
 use Rattle.lucy_net_rows.proofs.ReadyLaws.{counted_suffice}
 use Rattle.lucy_net_rows.proofs.rounds.run_accepted.Goals as goal
+
+pub param_words-words-requires : goal.param_words-words-requires
+param_words-words-requires g c =
+    subst (AreClocked c.args.accepted.placed.nodes) (sym c.deref.ensures.value)
+    (c.accepted_programs_are_clocked.ensures.clocked (lent c.args.host.now) c.requires.accepted.1 c.requires.accepted.0 c.args.accepted c.requires.accepted.2)
 
 pub run_net-streams-requires-clause-inputs : goal.run_net-streams-requires-clause-inputs
 run_net-streams-requires-clause-inputs g c κs within =

@@ -5,6 +5,7 @@ use Rattle.lucy_clock.specs.declared.node_clock.NodeClock.{NodeClock}
 use Rattle.lucy_feed.specs.declared.feeds.Feed.{Feed}
 use Rattle.lucy_host.specs.Host.{lent}
 use Rattle.lucy_host.specs.Operators.{kinds_of}
+use Rattle.lucy_flat.specs.Clocked.{AreClocked}
 use Rattle.lucy_execution.specs.Running.{HasSchedule}
 use Rattle.lucy_run.proofs.AcceptedLaws.{few_inputs, inputs_count, scheduled}
 use Rattle.lucy_run.proofs.EndsLaws.{kahn_given_up, kahn_done}
@@ -17,6 +18,11 @@ pub returns-in-Err-clause-ends : goal.returns-in-Err-clause-ends
 returns-in-Err-clause-ends g c =
     let (taken, stop, read, asked, fed) = c.main_feed.ensures.fed in
     kahn_given_up (kinds_of (lent c.args.host.now)) c.args.accepted c.args.instants _ _ taken stop _ read asked
+
+pub write_interpreted-requires-clause-clocked : goal.write_interpreted-requires-clause-clocked
+write_interpreted-requires-clause-clocked g c = λ κs within.
+    subst (AreClocked c.args.accepted.placed.nodes) (sym c.deref.ensures.value)
+    (c.accepted_programs_are_clocked.ensures.clocked (lent c.args.host.now) c.requires.accepted.1 c.requires.accepted.0 c.args.accepted c.requires.accepted.2)
 
 pub write_interpreted-requires-clause-scheduled : goal.write_interpreted-requires-clause-scheduled
 write_interpreted-requires-clause-scheduled g c = λ κs within.

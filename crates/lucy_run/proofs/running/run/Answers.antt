@@ -1,14 +1,18 @@
-use Rattle.std.proofs.Common.{◌≡◌, ℕ, Err, ap, sym, ◌∙◌}
+use Rattle.std.proofs.Common.{◌≡◌, ℕ, Err, ap, sym, ◌∙◌, subst}
 use Rattle.std.proofs.lemmas.Result.{IfOk-at_ok}
 use Rattle.std.specs.declared.alloc.Global.{Global}
 use Rattle.std.specs.declared.vec.Vec.{Vec}
 use Rattle.lucy_host.specs.Host.{lent}
 use Rattle.lucy_host.specs.Operators.{kinds_of}
+use Rattle.lucy_flat.specs.Clocked.{AreClocked}
 use Rattle.lucy_run.specs.Owes.{heading}
 use Rattle.lucy_run.proofs.AcceptedLaws.{inputs_count, few_inputs, can_run}
 use Rattle.lucy_run.proofs.EndsLaws.{on_ok, on_err, run_unbegun, run_broken, run_unplayed}
 use Rattle.lucy_run.proofs.RunLaws.{begun_along, no_inputs, written, under_way, last_words, some_given, whole, failed, out_of_memory}
 use Rattle.lucy_run.proofs.running.run.Goals as goal
+
+pub heading-requires : goal.heading-requires
+heading-requires g c = (lent c.args.host.now, c.requires.accepted.0, c.requires.accepted.1, c.requires.accepted.2)
 
 pub returns-in-Err-clause-ends : goal.returns-in-Err-clause-ends
 returns-in-Err-clause-ends g c = run_unbegun (kinds_of (lent c.args.host.now)) c.args.accepted c.args.pace.instants c.args.pace.block _ _
@@ -20,6 +24,11 @@ returns-in-Err-write_all-clause-ends g c =
 
 pub new-requires-clause-inputs : goal.new-requires-clause-inputs
 new-requires-clause-inputs g c κs within = inputs_count _ c.requires.accepted.0 c.requires.accepted.1 c.args.accepted c.requires.accepted.2
+
+pub new-requires-clause-clocked : goal.new-requires-clause-clocked
+new-requires-clause-clocked g c κs within =
+    subst (AreClocked c.args.accepted.placed.nodes) (sym c.deref-2.ensures.value)
+    (c.accepted_programs_are_clocked.ensures.clocked (lent c.args.host.now) c.requires.accepted.1 c.requires.accepted.0 c.args.accepted c.requires.accepted.2)
 
 pub new-requires-clause-few : goal.new-requires-clause-few
 new-requires-clause-few g c κs within = few_inputs _ c.requires.accepted.0 c.requires.accepted.1 c.args.accepted c.requires.accepted.2
