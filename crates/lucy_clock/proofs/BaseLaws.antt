@@ -1,9 +1,11 @@
 -- The words of a written node, its calls' bases among them.
-use Rattle.std.proofs.Common.{ℕ, zero, suc, ◌+◌, ◌<◌, ◌≤◌, ◌≡◌, List, [], ◌∷◌, ◌++◌, Some, None, length, get_or, take, drop, ap, sym, refl, ◌∙◌, subst, inl, inr, arith}
-use Rattle.std.specs.Prelude.{slice_get, ◌⊎◌}
-use Rattle.std.proofs.lemmas.List.{take_more, take_all, drop_all, append-nil, length_push}
+use Rattle.std.proofs.Common.{ℕ, zero, suc, ◌+◌, ◌<◌, ◌≤◌, ◌≡◌, List, [], ◌∷◌, ◌++◌, Some, None, length, get_or, take, drop, ap, sym, refl, ◌∙◌, subst, arith, append_assoc, length-append}
+use Rattle.std.specs.Prelude.{slice_get}
+use Rattle.std.specs.Option.{option_map_or}
+use Rattle.std.proofs.lemmas.List.{take_more, take_all, drop_all, append-nil, map-append, length-map}
+use Rattle.std.proofs.lemmas.List.Sums.{sum_by-cons, sum_by-append}
 use Rattle.std.proofs.lemmas.Option.{same_Some, slice_get_within, slice_get-get_or, get_or_from_slice_get}
-use Rattle.lucy_word.specs.Bits.{Bits}
+use Rattle.lucy_word.specs.Bits.{Bits, bit_count}
 use Rattle.std.specs.List.{AllByRecursion}
 use Rattle.lucy_word.specs.Shortest.{Same}
 use Rattle.lucy_word.specs.Stored.{IsStored}
@@ -17,10 +19,10 @@ use Rattle.lucy_place.specs.declared.entry.CallSite.{CallSite}
 use Rattle.lucy_place.specs.declared.placed.PlacedNode.{PlacedNode}
 use Rattle.lucy_place.specs.Proper.{at_one, IsLabelled, IsProperNode}
 use Rattle.lucy_place.specs.WrittenNodes.{IsWritten}
-use Rattle.lucy_need.specs.Meeting.{assigned}
+use Rattle.lucy_need.specs.Meeting.{assigned, word_bits}
 use Rattle.lucy_clock.specs.Clocks.{clocks_of, call_clock}
 use Rattle.lucy_clock.specs.HandedDown.{AreHandedWords, AreWordsOf, Hands}
-use Rattle.lucy_clock.specs.Reading.{AreHandedSoFar, AreLabelled, HaveBases, HasBases}
+use Rattle.lucy_clock.specs.Reading.{AreHandedSoFar, AreLabelled, HaveBases, base_word, base_words}
 
 -- in a proper node only places with names have words
 label_named : (kind : PlaceKind) (entry : PlaceEntry) (word : Bits) → IsLabelled kind entry → entry.word ≡ Some word → (name : Name) × (entry.name ≡ Some name)
@@ -34,45 +36,65 @@ labelled nodes n proper p entry word here e = let l = label_named entry.kind ent
 pub bases_of : (n : PlacedNode) → IsWritten n → HaveBases n.calls
 bases_of n is_written i site e = is_written.bases (suc i) site e
 
--- one base more
-pub bases_none : (old : List Bits) → HasBases old old []
-bases_none old = record { count = omega arith; kept = λ i l. refl; stored = λ all. all; bases = λ i site e. absurd (cc e) }
+-- the bits of one word more
+pub bits_push : (words : List Bits) (next : Bits) → word_bits (words ++ next ∷ []) ≡ word_bits words + bit_count next
+bits_push words next =
+    let a = sum_by-append bit_count words (next ∷ []) in
+    let b = sum_by-cons bit_count next [] in
+    omega arith
 
-site_push : (sites : List CallSite) (s : CallSite) (i : ℕ) (site : CallSite) → slice_get (sites ++ s ∷ []) i ≡ Some site → (slice_get sites i ≡ Some site) ⊎ ((i ≡ length sites) × (s ≡ site))
-site_push [] s zero site e = inr (refl, same_Some s site e)
-site_push [] s (suc i) site e = absurd (cc e)
-site_push (x ∷ sites) s zero site e = inl e
-site_push (x ∷ sites) s (suc i) site e = elim (site_push sites s i site e) [ inl f ↦ inl f | inr f ↦ inr (ap suc f.0, f.1) ]
+-- the word of a base, and one base more
+pub base_is : (site : CallSite) (word : Bits) → site.at ≡ Some word → base_word site ≡ word
+base_is site word e = ap (λ o. option_map_or (λ (w : Bits). w) o always) e
 
-get_left : (xs : List Bits) (x : Bits) (i : ℕ) → i < length xs → slice_get (xs ++ x ∷ []) i ≡ slice_get xs i
-get_left [] x i l = absurd (omega arith)
-get_left (y ∷ xs) x zero l = refl
-get_left (y ∷ xs) x (suc i) l = get_left xs x i (omega (arith, l))
+module _ (sites : List CallSite) (i : ℕ) (site : CallSite) (word : Bits) (l : i < length sites) (at : site ≡ get_or sites i site) (is : site.at ≡ Some word) where
+  bases_next : base_words (take (i + 1) sites) ≡ base_words (take i sites) ++ word ∷ []
+  bases_next =
+      ap base_words (take_more sites i site l ∙ ap (λ x. take i sites ++ x ∷ []) (sym at)) ∙ map-append base_word (take i sites) (site ∷ [])
+      ∙ ap (λ w. base_words (take i sites) ++ w ∷ []) (base_is site word is)
 
-get_last : (xs : List Bits) (x : Bits) → slice_get (xs ++ x ∷ []) (length xs) ≡ Some x
-get_last [] x = refl
-get_last (y ∷ xs) x = get_last xs x
+  pub bases_push : (old mid new : List Bits) → mid ≡ old ++ base_words (take i sites) → new ≡ mid ++ word ∷ [] → new ≡ old ++ base_words (take (i + 1) sites)
+  bases_push old mid new m e =
+      e ∙ ap (λ t. t ++ word ∷ []) m ∙ append_assoc old (base_words (take i sites)) (word ∷ []) ∙ ap (λ t. old ++ t) (sym bases_next)
 
-pub bases_push : (old mid new : List Bits) (sites : List CallSite) (i : ℕ) (s : CallSite) (w : Bits) → i < length sites → s ≡ get_or sites i s → HasBases old mid (take i sites) → s.at ≡ Some w → IsStored w → new ≡ mid ++ w ∷ [] →
-    HasBases old new (take (i + 1) sites)
-bases_push old mid new sites i s w l at has is stored e = subst (HasBases old new) (sym next) (record {
-  count = (let c = has.count in let a = length_push mid w in let b : length new ≡ length (mid ++ w ∷ []) = ap length e in let d = length_push (take i sites) s in omega arith);
-  kept = λ k h. (let c = has.count in ap (λ xs. slice_get xs k) e ∙ get_left mid w k (omega arith) ∙ has.kept k h);
-  stored = λ all. subst (AllByRecursion IsStored) (sym e) (all_join IsStored mid (w ∷ []) (has.stored all) (stored, tt));
-  bases = λ k site f. elim (site_push (take i sites) s k site f) [
-    | inl g ↦
-        let c = has.count in
-        let m = slice_get_within (take i sites) k site g in
-        ap (λ xs. slice_get xs (length old + k)) e ∙ get_left mid w (length old + k) (omega arith) ∙ has.bases k site g
-    | inr g ↦
-        let c = has.count in
-        let z : length old + k ≡ length mid = (let q = g.0 in omega arith) in
-        ap (λ xs. slice_get xs (length old + k)) e ∙ ap (slice_get (mid ++ w ∷ [])) z ∙ get_last mid w ∙ sym is ∙ ap (λ (x : CallSite). x.at) g.1
-  ];
-})
-  where
-    next : take (i + 1) sites ≡ take i sites ++ s ∷ []
-    next = take_more sites i s l ∙ ap (λ x. take i sites ++ x ∷ []) (sym at)
+  pub bases_stored : AllByRecursion IsStored (base_words (take i sites)) → IsStored word → AllByRecursion IsStored (base_words (take (i + 1) sites))
+  bases_stored all stored = subst (AllByRecursion IsStored) (sym bases_next) (all_join IsStored (base_words (take i sites)) (word ∷ []) all (stored, tt))
+
+  pub bases_bits : word_bits (base_words (take (i + 1) sites)) ≡ word_bits (base_words (take i sites)) + bit_count word
+  bases_bits = ap word_bits bases_next ∙ bits_push (base_words (take i sites)) word
+
+-- the words of the bases behind others
+record HasBases (old new : List Bits) (sites : List CallSite) : Type 0 where
+  count : length new ≡ length old + length sites
+  kept : (i : ℕ) → i < length old → slice_get new i ≡ slice_get old i
+  stored : AllByRecursion IsStored old → AllByRecursion IsStored new
+  bases : (i : ℕ) (site : CallSite) → slice_get sites i ≡ Some site → slice_get new (length old + i) ≡ site.at
+
+get_front : (xs ys : List Bits) (i : ℕ) → i < length xs → slice_get (xs ++ ys) i ≡ slice_get xs i
+get_front [] ys i l = absurd (omega (arith, l))
+get_front (x ∷ xs) ys zero l = refl
+get_front (x ∷ xs) ys (suc i) l = get_front xs ys i (omega (arith, l))
+
+get_behind : (xs ys : List Bits) (i : ℕ) → slice_get (xs ++ ys) (length xs + i) ≡ slice_get ys i
+get_behind [] ys i = let z : 0 + i ≡ i = omega arith in ap (λ k. slice_get ys k) z
+get_behind (x ∷ xs) ys i =
+    let z : suc (length xs) + i ≡ suc (length xs + i) = omega arith in
+    ap (λ k. slice_get (x ∷ (xs ++ ys)) k) z ∙ get_behind xs ys i
+
+get_base : (sites : List CallSite) → HaveBases sites → (i : ℕ) (site : CallSite) → slice_get sites i ≡ Some site → slice_get (base_words sites) i ≡ site.at
+get_base [] have i site e = absurd (cc e)
+get_base (s ∷ sites) have zero site e =
+    let word = have 0 s refl in
+    ap (λ w. Some w) (base_is s word.0 word.1) ∙ sym word.1 ∙ ap (λ (x : CallSite). x.at) (same_Some s site e)
+get_base (s ∷ sites) have (suc i) site e = get_base sites (λ j other f. have (suc j) other f) i site e
+
+bases_behind : (old : List Bits) (sites : List CallSite) → HaveBases sites → AllByRecursion IsStored (base_words sites) → HasBases old (old ++ base_words sites) sites
+bases_behind old sites have stored = record {
+  count = (let a = length-append old (base_words sites) in let b = length-map sites base_word in omega arith);
+  kept = λ i l. get_front old (base_words sites) i l;
+  stored = λ all. all_join IsStored old (base_words sites) all stored;
+  bases = λ i site e. get_behind old (base_words sites) i ∙ get_base sites have i site e;
+}
 
 -- a list behind a slice of all of it
 pub whole : (len : ℕ) (new items : List ℕ) → length new ≡ length items → len ≡ length items → take len (new ++ drop (length new) items) ≡ new
@@ -80,7 +102,10 @@ whole len new items e f =
     ap (λ l. take len (new ++ l)) (drop_all (length new) items (omega arith)) ∙ ap (take len) (append-nil new) ∙ take_all len new (omega arith)
 
 -- all words of a written node
-module _ (n : PlacedNode) (old new : List Bits) (far : AreHandedSoFar n (length n.places) old) (has : HasBases old new n.calls) where
+module _ (n : PlacedNode) (is_written : IsWritten n) (old new : List Bits) (far : AreHandedSoFar n (length n.places) old) (stored : AllByRecursion IsStored (base_words n.calls)) (e : new ≡ old ++ base_words n.calls) where
+  has : HasBases old new n.calls
+  has = subst (λ ws. HasBases old ws n.calls) (sym e) (bases_behind old n.calls (bases_of n is_written) stored)
+
   same_word : (p : ℕ) → p ≤ length n.places → assigned old p ≡ assigned new p
   same_word p l =
       let c = far.count in

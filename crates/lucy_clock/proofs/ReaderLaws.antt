@@ -17,7 +17,8 @@ use Rattle.lucy_clock.specs.Reading.{IsAmong, AreReadersUpto, AreLabelled, IsNex
 use Rattle.lucy_clock.proofs.HandLaws.{unnamed_named, named_or}
 use Rattle.lucy_clock.proofs.MarkLaws.{unnamed_among, among_reads}
 
-one_bounds : {A : Type 0} (xs : List A) (p : ℕ) (x : A) → at_one xs p ≡ Some x → (1 ≤ p) × (p ≤ length xs)
+-- a number at which something stands
+pub one_bounds : {A : Type 0} (xs : List A) (p : ℕ) (x : A) → at_one xs p ≡ Some x → (1 ≤ p) × (p ≤ length xs)
 one_bounds xs zero x e = absurd (cc)
 one_bounds xs (suc i) x e = let l = slice_get_within xs i x e in (omega arith, omega arith)
 
@@ -88,7 +89,10 @@ module _ (n : PlacedNode) (is_written : IsWritten n) (once : AreReadOnce n) (pla
   pub reader_long : (w : Assignment) (entry : PlaceEntry) (own : Bits) → entry ≡ one.reads.entry → own ≡ w one.reader → HandsTooLong entry.kind own → IsTooLongBefore n place w
   reader_long w entry own e f long = record {
     reader = one.reader;
+    operand = one.operand;
     before = one.before;
+    unnamed = un;
+    reads = one.reads;
     hands = (one.reads.entry, one.reads.stands, subst (λ (x : PlaceEntry). HandsTooLong x.kind (w one.reader)) e (subst (HandsTooLong entry.kind) f long));
   }
 

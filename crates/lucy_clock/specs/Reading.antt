@@ -1,7 +1,9 @@
 -- How words are handed down place after place.
-use Rattle.std.specs.Prelude.{ℕ, ◌+◌, ◌-◌, ◌<◌, ◌≤◌, ◌≡◌, ◌⊎◌, List, length, Some, slice_get, slice_index}
+use Rattle.std.specs.Prelude.{ℕ, ◌+◌, ◌-◌, ◌<◌, ◌≤◌, ◌≡◌, ◌⊎◌, List, length, map, Some, slice_get, slice_index}
+use Rattle.std.specs.Option.{option_map_or}
 use Rattle.std.specs.List.{AllByRecursion}
 use Rattle.lucy_word.specs.Bits.{Bits}
+use Rattle.lucy_word.specs.Always.{always}
 use Rattle.lucy_word.specs.Shortest.{Same}
 use Rattle.lucy_word.specs.Stored.{IsStored}
 use Rattle.lucy_tree.specs.Shaped.{HasZero}
@@ -12,7 +14,9 @@ use Rattle.lucy_place.specs.declared.entry.CallSite.{CallSite}
 use Rattle.lucy_place.specs.declared.placed.PlacedNode.{PlacedNode}
 use Rattle.lucy_place.specs.Standing.{at_one, IsPlace, IsNamed, IsUnnamed}
 use Rattle.lucy_place.specs.Reads.{operands_of, Reads}
-use Rattle.lucy_need.specs.Meeting.{Assignment, assigned}
+use Rattle.lucy_need.specs.Meeting.{Assignment, assigned, word_bits}
+use Rattle.lucy_word.specs.Limits.{limit_number}
+use Rattle.lucy_word.specs.declared.limit.Limit.TheVariants as limit
 use Rattle.lucy_clock.specs.HandedDown.{Hands, HandsTooLong, AreHandedDown}
 
 -- a number stands in a list
@@ -62,11 +66,41 @@ pub record IsNextWord (n : PlacedNode) (place : ℕ) (w : Assignment) (next : Bi
 abbrev pub NextHandsTooLong : PlacedNode → ℕ → Bits → Type 0
 NextHandsTooLong n place next = (entry : PlaceEntry) × (at_one n.places place ≡ Some entry) × HandsTooLong entry.kind next
 
--- a place before this one hands down a word that is too long
+-- the place before this one that reads it hands down a word that is too long
 pub record IsTooLongBefore (n : PlacedNode) (place : ℕ) (w : Assignment) : Type 0 where
   pub reader : ℕ
+  pub operand : ℕ
   pub before : reader < place
+  pub unnamed : IsUnnamed n place
+  pub reads : Reads n reader operand place
   pub hands : NextHandsTooLong n reader (w reader)
+
+-- the words of the first places: of all of them, or until they have too many bits
+pub record AreFirstWords (n : PlacedNode) (words : List Bits) : Type 0 where
+  pub upto : ℕ
+  pub within : upto ≤ length n.places
+  pub far : AreHandedSoFar n upto words
+  pub past : upto < length n.places → limit_number limit.Bits < word_bits words
+
+-- beside each place stands the last place without a name that it reads, or a later one
+abbrev pub AreLasts : PlacedNode → List ℕ → Type 0
+AreLasts n lasts = (p k q : ℕ) → IsUnnamed n q → Reads n p k q → q ≤ slice_index lasts (p - 1)
+
+-- words that places behind a number are handed down stand in the second list as in the first
+pub record AreKept (n : PlacedNode) (upto : ℕ) (words kept : List Bits) : Type 0 where
+  pub count : length kept ≡ length words
+  pub waiting : (p k q : ℕ) → upto < q → IsUnnamed n q → Reads n p k q → assigned kept p ≡ assigned words p
+
+-- what is kept of the words of the first places, which have together at least so many bits
+pub record AreKeptSoFar (n : PlacedNode) (upto least : ℕ) (kept : List Bits) : Type 0 where
+  pub words : List Bits
+  pub far : AreHandedSoFar n upto words
+  pub are : AreKept n upto words kept
+  pub most : least ≤ word_bits words
+
+-- the words of all places have together at least as many bits as these
+abbrev pub AreContinued : PlacedNode → List Bits → Type 0
+AreContinued n first = (words : List Bits) × AreHandedSoFar n (length n.places) words × (word_bits first ≤ word_bits words)
 
 -- a place whose word is written has a name
 abbrev pub AreLabelled : PlacedNode → Type 0
@@ -76,9 +110,10 @@ AreLabelled n = (p : ℕ) (entry : PlaceEntry) (word : Bits) → at_one n.places
 abbrev pub HaveBases : List CallSite → Type 0
 HaveBases sites = (i : ℕ) (site : CallSite) → slice_get sites i ≡ Some site → (word : Bits) × (site.at ≡ Some word)
 
--- the words of the calls' bases stand behind others
-pub record HasBases (old new : List Bits) (sites : List CallSite) : Type 0 where
-  pub count : length new ≡ length old + length sites
-  pub kept : (i : ℕ) → i < length old → slice_get new i ≡ slice_get old i
-  pub stored : AllByRecursion IsStored old → AllByRecursion IsStored new
-  pub bases : (i : ℕ) (site : CallSite) → slice_get sites i ≡ Some site → slice_get new (length old + i) ≡ site.at
+-- the word of a call's base
+abbrev pub base_word : CallSite → Bits
+base_word site = option_map_or (λ (word : Bits). word) site.at always
+
+-- the words of the calls' bases, in order
+abbrev pub base_words : List CallSite → List Bits
+base_words sites = map base_word sites

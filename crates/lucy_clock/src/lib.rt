@@ -7,7 +7,8 @@
 //! the callers of a node need of its clocks is made in `callers.rt`.
 //!
 //! Needs are first listed with words that are lent (`draft.rt`, `listing.rt`), and copied once they are known to be few. The
-//! words of a written node are made in the order of its places (`words.rt`), each by the place that reads it (`reading.rt`).
+//! words of a written node are made in the order of its places (`words.rt`), each by the place that reads it (`reading.rt`). Once
+//! they have too many bits, only those are kept of them that a further place is handed.
 #![tactic(auto)]
 
 mod callers;

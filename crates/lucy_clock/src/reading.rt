@@ -3,7 +3,7 @@ ghost use Rattle.std.specs.Prelude.{ℕ, ◌≡◌, ◌+◌, ◌≤◌, ◌<◌,
 ghost use Rattle.lucy_place.specs.Reads.{AreReadOnce, operands_of};
 ghost use Rattle.lucy_place.specs.WrittenNodes.{IsWritten};
 ghost use Rattle.lucy_clock.specs.declared.error.ClockError.TheVariants as err;
-ghost use Rattle.lucy_clock.specs.Reading.{IsAmong, Marks, AreInside, AreReadersUpto};
+ghost use Rattle.lucy_clock.specs.Reading.{IsAmong, Marks, AreInside, AreReadersUpto, AreLasts};
 
 use crate::error::ClockError;
 use lucy_place::{PlaceKind, PlacedNode};
@@ -66,5 +66,41 @@ pub(crate) fn readers(alloc: Global, node: &PlacedNode) -> Result<Vec<u32>, Cloc
 {
     let mut list = vec![in alloc; 0u32; node.places.list().len()]?;
     mark_all(&mut list, node);
+    Ok(list)
+}
+
+// Writes each place without a name beside the place that hands down its word.
+fn mark_lasts(lasts: &mut [u32], node: &PlacedNode, readers: &[u32])
+    requires few { length node.now.places < 2 ^ 32 }
+    requires size { length lasts.old ≡ length node.now.places }
+    requires readers { AreReadersUpto node.now (length node.now.places) readers.now }
+    requires all { length readers.now ≡ length node.now.places }
+    ensures size { length lasts.new ≡ length node.now.places }
+    ensures lasts { AreLasts node.now lasts.new }
+{
+    let places = node.places.list();
+    'each: for (i, entry) in places.iter().enumerate() {
+        let reader = readers[i] as usize;
+        if entry.name.is_none() && 1 <= reader && reader <= lasts.len() {
+            lasts[reader - 1] = i as u32 + 1;
+        }
+    }
+}
+
+/// For each place the last place without a name that it hands down a word to, or 0.
+pub(crate) fn lasts(
+    alloc: Global,
+    node: &PlacedNode,
+    readers: &[u32],
+) -> Result<Vec<u32>, ClockError>
+    requires few { length node.now.places < 2 ^ 32 }
+    requires readers { AreReadersUpto node.now (length node.now.places) readers.now }
+    requires all { length readers.now ≡ length node.now.places }
+    ensures all { IfOk result (λ v. length v.items ≡ length node.now.places) }
+    ensures lasts { IfOk result (λ v. AreLasts node.now v.items) }
+    ensures refused { IfErr result (λ e. e ≡ err.OutOfMemory) }
+{
+    let mut list = vec![in alloc; 0u32; node.places.list().len()]?;
+    mark_lasts(&mut list, node, readers);
     Ok(list)
 }

@@ -10,16 +10,16 @@ ghost use Rattle.lucy_need.specs.Meeting.{assigned};
 ghost use Rattle.lucy_clock.specs.declared.error.ClockError.TheVariants as err;
 ghost use Rattle.lucy_clock.specs.Clocks.{clocks_of};
 ghost use Rattle.lucy_clock.specs.HandedDown.{Hands, IsWordTooLong};
-ghost use Rattle.lucy_clock.specs.Reading.{AreReadersUpto, AreHandedSoFar, AreLabelled, HaveTurned, IsNextWord, IsTooLongBefore, NextHandsTooLong};
+ghost use Rattle.lucy_clock.specs.Reading.{AreReadersUpto, AreLasts, AreFirstWords, AreKept, AreKeptSoFar, AreContinued, AreLabelled, HaveTurned, IsNextWord, IsTooLongBefore, NextHandsTooLong};
 
 use crate::error::ClockError;
 use crate::grow::push;
 use crate::handing::{handed, test_handed};
 use crate::own_words::copied;
-use crate::reading::readers;
+use crate::reading::lasts;
 use lucy_need::always;
 use lucy_place::PlacedNode;
-use lucy_word::Word;
+use lucy_word::{Limit, Word};
 use std::alloc::Global;
 
 // The word that the reader of a place without a name hands down to it.
@@ -81,8 +81,8 @@ fn test_place(node: &PlacedNode, place: u32, own: &Word) -> Result<(), ClockErro
     test_handed(&node.places.list()[place as usize - 1].kind, own)
 }
 
-/// The words of the base and of the places.
-pub(crate) fn place_words(
+/// The words of the base and of the places in turn, until they have together more bits than are allowed.
+pub(crate) fn first_words(
     alloc: Global,
     node: &PlacedNode,
     readers: &[u32],
@@ -94,16 +94,99 @@ pub(crate) fn place_words(
     requires labels { AreLabelled node.now }
     requires written { IsWritten node.now }
     requires once { AreReadOnce node.now }
-    ensures ok { IfOk result (λ v. AreHandedSoFar node.now (length node.now.places) v.items) }
+    ensures ok { IfOk result (λ v. AreFirstWords node.now v.items) }
     ensures refused { IfErr result (λ e. (e ≡ err.OutOfMemory) ⊎ ((e ≡ err.Limit lim.Word) × IsWordTooLong node.now)) }
 {
     let mut words = Vec::new(alloc);
     push(&mut words, always(alloc)?)?;
+    let mut bits = 1u64;
     let count = node.places.list().len();
     'each: for i in 0..count {
+        if bits > Limit::Bits.number() {
+            return Ok(words);
+        }
         let word = next_word(alloc, node, readers, &words, i as u32 + 1)?;
         test_place(node, i as u32 + 1, &word)?;
+        let (prefix, period) = word.lengths();
+        bits += prefix + period;
         push(&mut words, word)?;
     }
     Ok(words)
+}
+
+// Lets go of the word of a clock that hands it down to no place behind the first ones: (1) stands for it.
+fn let_go(
+    alloc: Global,
+    words: &mut Vec<Word>,
+    lasts: &[u32],
+    clock: usize,
+    upto: usize,
+) -> Result<(), ClockError>
+    requires { length words.old.items ≤ length lasts.now + 1 }
+    ensures ok { (n : Node) → AreLasts n lasts.now → OnOk result (AreKept n upto words.old.items words.new.items) }
+    ensures refused { IfErr result (λ e. e ≡ err.OutOfMemory) }
+{
+    if 1 <= clock && clock < words.len() && lasts[clock - 1] as usize <= upto {
+        words[clock] = always(alloc)?;
+    }
+    Ok(())
+}
+
+// Tests what the next place hands down, and keeps its word if a place further on is handed it.
+fn test_next(
+    alloc: Global,
+    node: &PlacedNode,
+    readers: &[u32],
+    lasts: &[u32],
+    words: &mut Vec<Word>,
+    i: u32,
+) -> Result<(), ClockError>
+    requires within { i < length node.now.places }
+    requires few { length node.now.places < 2 ^ 32 }
+    requires readers { AreReadersUpto node.now (length node.now.places) readers.now }
+    requires all { length readers.now ≡ length node.now.places }
+    requires turned { HaveTurned node.now }
+    requires labels { AreLabelled node.now }
+    requires written { IsWritten node.now }
+    requires once { AreReadOnce node.now }
+    requires size { length lasts.now ≡ length node.now.places }
+    requires lasts { AreLasts node.now lasts.now }
+    requires kept { (least : ℕ) × AreKeptSoFar node.now i least words.old.items }
+    ensures ok { (least : ℕ) → AreKeptSoFar node.now i least words.old.items → OnOk result (AreKeptSoFar node.now (i + 1) least words.new.items) }
+    ensures refused { IfErr result (λ e. (e ≡ err.OutOfMemory) ⊎ ((e ≡ err.Limit lim.Word) × IsWordTooLong node.now)) }
+{
+    let word = next_word(alloc, node, readers, words, i + 1)?;
+    test_place(node, i + 1, &word)?;
+    push(words, word)?;
+    let place = i as usize + 1;
+    let_go(alloc, words, lasts, place, place)?;
+    let_go(alloc, words, lasts, readers[i as usize] as usize, place)?;
+    Ok(())
+}
+
+/// Tests what the places behind the first ones hand down, of which no more words are kept than are handed down further on.
+pub(crate) fn test_others(
+    alloc: Global,
+    node: &PlacedNode,
+    readers: &[u32],
+    first: Vec<Word>,
+) -> Result<(), ClockError>
+    requires few { length node.now.places < 2 ^ 32 }
+    requires readers { AreReadersUpto node.now (length node.now.places) readers.now }
+    requires all { length readers.now ≡ length node.now.places }
+    requires turned { HaveTurned node.now }
+    requires labels { AreLabelled node.now }
+    requires written { IsWritten node.now }
+    requires once { AreReadOnce node.now }
+    requires first { AreFirstWords node.now first.items }
+    ensures ok { OnOk result (AreContinued node.now first.items) }
+    ensures refused { IfErr result (λ e. (e ≡ err.OutOfMemory) ⊎ ((e ≡ err.Limit lim.Word) × IsWordTooLong node.now)) }
+{
+    let lasts = lasts(alloc, node, readers)?;
+    let mut words = first;
+    let count = node.places.list().len();
+    'each: for i in words.len() - 1..count {
+        test_next(alloc, node, readers, &lasts, &mut words, i as u32)?;
+    }
+    Ok(())
 }

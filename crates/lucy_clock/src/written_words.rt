@@ -1,36 +1,40 @@
 // The words of a written node.
-ghost use Rattle.std.specs.Prelude.{ℕ, List, ◌≡◌, ◌⊎◌, ◌++◌, ◌∷◌, [], ◌+◌, ◌≤◌, ◌<◌, ◌^◌, Some, length, slice_get, OnOk, IfOk, IfErr};
+ghost use Rattle.std.specs.Prelude.{ℕ, List, ◌≡◌, ◌⊎◌, ◌++◌, ◌∷◌, [], ◌+◌, ◌*◌, ◌≤◌, ◌<◌, ◌^◌, Some, length, slice_get, OnOk, IfOk, IfErr};
 ghost use Rattle.std.specs.List.{AllByRecursion};
+ghost use Rattle.lucy_word.specs.Bits.{bit_count};
 ghost use Rattle.lucy_word.specs.Limits.{limit_number};
 ghost use Rattle.lucy_word.specs.Stored.{IsStored};
 ghost use Rattle.lucy_word.specs.declared.limit.Limit.TheVariants as lim;
 ghost use Rattle.lucy_place.specs.declared.placed.PlacedNode.{PlacedNode as Node};
+ghost use Rattle.lucy_place.specs.Proper.{AreReadOnce};
 ghost use Rattle.lucy_place.specs.WrittenNodes.{IsWritten};
 ghost use Rattle.lucy_need.specs.Meeting.{assigned};
 ghost use Rattle.lucy_clock.specs.declared.error.ClockError.TheVariants as err;
 ghost use Rattle.lucy_clock.specs.Clocks.{clocks_of};
 ghost use Rattle.lucy_clock.specs.HandedDown.{AreWordsOf, IsWordTooLong, RefusesWords};
 ghost use Rattle.lucy_need.specs.Meeting.{word_bits};
-ghost use Rattle.lucy_clock.specs.Reading.{HaveBases, HasBases};
+ghost use Rattle.lucy_clock.specs.Reading.{HaveBases, base_words, AreReadersUpto, AreFirstWords, AreLabelled, HaveTurned};
 
 use crate::error::ClockError;
 use crate::grow::push;
 use crate::own_words::copied;
 use crate::reading::readers;
-use crate::words::place_words;
-use lucy_place::{CallSite, Placed};
-use lucy_word::{Limit, Word};
+use crate::words::{first_words, test_others};
+use lucy_place::{CallSite, Placed, PlacedNode};
+use lucy_word::{Limit, Word, words_are_stored};
 use std::alloc::Global;
 
 // The word of a call's base.
-fn base_word(alloc: Global, site: &CallSite) -> Result<Word, ClockError>
+fn base_of(site: &CallSite) -> &Word
     requires { HaveBases (site.now ∷ []) }
-    ensures ok { IfOk result (λ w. site.now.at ≡ Some w) }
-    ensures stored { IfOk result IsStored }
-    ensures refused { IfErr result (λ e. e ≡ err.OutOfMemory) }
+    ensures is { site.now.at ≡ Some result.now }
+    ensures stored { IsStored result.now }
 {
     match &site.at {
-        Some(word) => copied(alloc, word),
+        Some(word) => {
+            words_are_stored(word);
+            word
+        }
         None => unreachable!(),
     }
 }
@@ -38,27 +42,71 @@ fn base_word(alloc: Global, site: &CallSite) -> Result<Word, ClockError>
 // Puts the words of the calls' bases behind others.
 fn put_bases(alloc: Global, words: &mut Vec<Word>, sites: &[CallSite]) -> Result<(), ClockError>
     requires { HaveBases sites.now }
-    ensures ok { OnOk result (HasBases words.old.items words.new.items sites.now) }
+    ensures ok { OnOk result (words.new.items ≡ words.old.items ++ base_words sites.now) }
     ensures refused { IfErr result (λ e. e ≡ err.OutOfMemory) }
 {
     'each: for site in sites {
-        let word = base_word(alloc, site)?;
+        let word = copied(alloc, base_of(site))?;
         push(words, word)?;
     }
     Ok(())
 }
 
+// How many bits a word has.
+fn bits_of(word: &Word) -> u64
+    ensures is { result ≡ bit_count word.now }
+    ensures few { result ≤ 1048576 }
+{
+    let (prefix, period) = word.lengths();
+    prefix + period
+}
+
 // How many bits the words have together.
 fn bits(words: &[Word]) -> u64
     requires { length words.now < 2 ^ 32 }
-    ensures { result ≡ word_bits words.now }
+    ensures is { result ≡ word_bits words.now }
+    ensures few { result ≤ 1048576 * length words.now }
 {
     let mut bits = 0u64;
     'each: for word in words {
-        let (prefix, period) = word.lengths();
-        bits += prefix + period;
+        bits += bits_of(word);
     }
     bits
+}
+
+// How many bits the words of the calls' bases have together.
+fn base_bits(sites: &[CallSite]) -> u64
+    requires bases { HaveBases sites.now }
+    requires few { length sites.now < 2 ^ 32 }
+    ensures is { result ≡ word_bits (base_words sites.now) }
+    ensures few { result ≤ 1048576 * length sites.now }
+    ensures stored { AllByRecursion IsStored (base_words sites.now) }
+{
+    let mut bits = 0u64;
+    'each: for site in sites {
+        bits += bits_of(base_of(site));
+    }
+    bits
+}
+
+// Why a node has no words whose first words have too many bits: that the bits are too many, unless a word behind them is too long.
+fn past_bits(alloc: Global, node: &PlacedNode, readers: &[u32], first: Vec<Word>) -> ClockError
+    requires few { length node.now.places < 2 ^ 32 }
+    requires readers { AreReadersUpto node.now (length node.now.places) readers.now }
+    requires all { length readers.now ≡ length node.now.places }
+    requires turned { HaveTurned node.now }
+    requires labels { AreLabelled node.now }
+    requires written { IsWritten node.now }
+    requires once { AreReadOnce node.now }
+    requires first { AreFirstWords node.now first.items }
+    requires past { length first.items ≤ length node.now.places }
+    requires stored { AllByRecursion IsStored (base_words node.now.calls) }
+    ensures { RefusesWords node.now result }
+{
+    match test_others(alloc, node, readers, first) {
+        Ok(()) => ClockError::Limit(Limit::Bits),
+        Err(why) => why,
+    }
 }
 
 /// The words of a written node's clocks, by their numbers, as its written words hand them down: no other words can keep the
@@ -72,11 +120,16 @@ pub fn written(alloc: Global, placed: &Placed, node: u32) -> Result<Vec<Word>, C
     ensures refused { (n : Node) → slice_get placed.now.nodes node ≡ Some n → IfErr result (RefusesWords n) }
 {
     let found = placed.node(node);
+    let sites = found.calls.list();
+    let behind = base_bits(sites);
     let readers = readers(alloc, found)?;
-    let mut words = place_words(alloc, found, &readers)?;
-    put_bases(alloc, &mut words, found.calls.list())?;
-    if bits(&words) > Limit::Bits.number() {
+    let mut words = first_words(alloc, found, &readers)?;
+    if words.len() <= found.places.list().len() {
+        return Err(past_bits(alloc, found, &readers, words));
+    }
+    if bits(&words) + behind > Limit::Bits.number() {
         return Err(ClockError::Limit(Limit::Bits));
     }
+    put_bases(alloc, &mut words, sites)?;
     Ok(words)
 }
