@@ -1,57 +1,22 @@
 -- The clocks of one node more.
-use Rattle.std.proofs.Common.{ℕ, zero, suc, ◌+◌, ◌<◌, ◌≤◌, ◌≡◌, List, [], ◌∷◌, ◌++◌, length, take, drop, Some, ap, sym, refl, ◌∙◌, subst, inl, inr, arith, length-drop}
+use Rattle.std.proofs.Common.{ℕ, zero, suc, ◌+◌, ◌<◌, ◌≤◌, ◌≡◌, List, [], ◌∷◌, ◌++◌, length, take, Some, ap, sym, refl, ◌∙◌, subst, inl, inr, arith}
 use Rattle.std.specs.Prelude.{slice_get, ◌⊎◌}
 use Rattle.std.proofs.Math.Nat.{min-le_left}
-use Rattle.std.proofs.lemmas.List.{take-take, take-append-le, take_more, length-take-le, length-map, length_push, take_all, length-take}
-use Rattle.std.specs.List.{AllByRecursion}
-use Rattle.lucy_place.specs.Standing.{ArePlaces}
+use Rattle.std.proofs.lemmas.List.{take-take, take-append-le, take_more, length-take-le, length_push, take_all, length-take}
 use Rattle.std.proofs.lemmas.Option.{same_Some, slice_get_within, get_or_from_slice_get}
 use Rattle.lucy_types.proofs.ListLaws.{get_take}
 use Rattle.lucy_place.specs.declared.placed.PlacedNode.{PlacedNode}
 use Rattle.lucy_place.specs.Proper.{IsProperNode, AreProper}
-use Rattle.lucy_clock.specs.declared.signature.Signature.{Signature}
 use Rattle.lucy_clock.specs.declared.node_clock.NodeClock.{NodeClock}
 use Rattle.lucy_clock.specs.Clocks.{AreSignatures}
 use Rattle.lucy_clock.specs.NodeClocks.{ports, signatures}
+use Rattle.lucy_clock.proofs.CallerLaws.{signatures_fit, signatures_join}
 use Rattle.lucy_front.specs.declared.options.Options.{Options}
 use Rattle.lucy_front.specs.Clocked.{IsClocked, AreClocksOf}
 
 -- the signatures are those of the nodes
-pub signatures_count : (nodes : List PlacedNode) (clocks : List NodeClock) → length clocks ≡ length nodes → length (signatures nodes clocks) ≡ length nodes
-signatures_count [] clocks same = refl
-signatures_count (n ∷ nodes) [] same = absurd (omega (arith, same))
-signatures_count (n ∷ nodes) (c ∷ clocks) same = ap suc (signatures_count nodes clocks (omega (arith, same)))
-
-signature_at : (nodes : List PlacedNode) (clocks : List NodeClock) (i : ℕ) (n : PlacedNode) (s : Signature) → slice_get nodes i ≡ Some n → slice_get (signatures nodes clocks) i ≡ Some s →
-    (c : NodeClock) × (slice_get clocks i ≡ Some c) × (ports n c ≡ s)
-signature_at [] clocks i n s at of = absurd (cc at)
-signature_at (m ∷ nodes) [] i n s at of = absurd (cc of)
-signature_at (m ∷ nodes) (c ∷ clocks) zero n s at of = (c, refl, ap (λ x. ports x c) (sym (same_Some m n at)) ∙ same_Some (ports m c) s of)
-signature_at (m ∷ nodes) (c ∷ clocks) (suc i) n s at of = signature_at nodes clocks i n s at of
-
 pub signatures_are : {o : Options} (nodes : List PlacedNode) (clocks : List NodeClock) → AreProper nodes → AreClocksOf o nodes clocks → AreSignatures nodes (signatures nodes clocks)
-signatures_are nodes clocks proper are = record {
-  all = signatures_count nodes clocks are.all;
-  params = λ i n s at of.
-      let found = signature_at nodes clocks i n s at of in
-      let c : NodeClock = found.0 in
-      let clocked = are.each i n c at found.1 in
-      let count = clocked.count in
-      let few = (proper i n at).params in
-      let left = length-drop 1 c.words in
-      let long : n.params ≤ length (drop 1 c.words) = omega arith in
-      ap (λ (x : Signature). length x.params) (sym found.2) ∙ length-take-le n.params (drop 1 c.words) long;
-  results = λ i n s at of.
-      let found = signature_at nodes clocks i n s at of in
-      ap (λ (x : Signature). length x.results) (sym found.2) ∙ length-map n.results _;
-}
-
-signatures_join : (nodes : List PlacedNode) (clocks : List NodeClock) (n : PlacedNode) (c : NodeClock) → length clocks ≡ length nodes →
-    signatures (nodes ++ n ∷ []) (clocks ++ c ∷ []) ≡ signatures nodes clocks ++ ports n c ∷ []
-signatures_join [] [] n c same = refl
-signatures_join [] (d ∷ clocks) n c same = absurd (omega (arith, same))
-signatures_join (m ∷ nodes) [] n c same = absurd (omega (arith, same))
-signatures_join (m ∷ nodes) (d ∷ clocks) n c same = ap (λ l. ports m d ∷ l) (signatures_join nodes clocks n c (omega (arith, same)))
+signatures_are nodes clocks proper are = signatures_fit nodes clocks proper are.all (λ i n c at of. (are.each i n c at of).count)
 
 pub get_back : {A : Type 0} (xs : List A) (x : A) (i : ℕ) (y : A) → slice_get (xs ++ x ∷ []) i ≡ Some y → (slice_get xs i ≡ Some y) ⊎ ((i ≡ length xs) × (x ≡ y))
 get_back [] x zero y e = inr (refl, same_Some x y e)
@@ -119,8 +84,3 @@ proper_take nodes node proper i n at =
     let most = length-take node nodes in
     let l : i < node = omega (arith, min-le_left node (length nodes)) in
     subst (λ above. IsProperNode above n) (sym (take-take i node nodes (omega (arith, l)))) (proper i n (sym (get_take node nodes i l) ∙ at))
-
--- the places of results have words
-pub places_within : (n : PlacedNode) (ps : List ℕ) (count : ℕ) → length n.places < count → ArePlaces n ps → AllByRecursion (λ place. place < count) ps
-places_within n [] count l all = tt
-places_within n (p ∷ ps) count l all = ((let h = all.0.1 in omega (arith, l)), places_within n ps count l all.1)

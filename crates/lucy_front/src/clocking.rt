@@ -1,12 +1,10 @@
 // The clocks of nodes, one by one.
-ghost use Rattle.std.specs.Prelude.{◌≡◌, ◌⊎◌, ◌+◌, ◌<◌, ◌≤◌, ◌∷◌, ◌++◌, [], ℕ, Some, false, length, map, take, drop, slice_get, IfOk, IfErr, OnOk};
-ghost use Rattle.std.specs.List.{AllByRecursion};
+ghost use Rattle.std.specs.Prelude.{◌≡◌, ◌⊎◌, ◌+◌, ◌<◌, ◌≤◌, ◌∷◌, ◌++◌, [], ℕ, Some, false, length, take, drop, slice_get, IfOk, IfErr, OnOk};
 ghost use Rattle.lucy_word.specs.Stored.{IsStored};
 ghost use Rattle.lucy_place.specs.declared.placed.PlacedNode.{PlacedNode as Node};
 ghost use Rattle.lucy_place.specs.Proper.{AreProper};
-ghost use Rattle.lucy_need.specs.Meeting.{assigned};
 ghost use Rattle.lucy_clock.specs.Clocks.{AreSignatures};
-ghost use Rattle.lucy_clock.specs.NodeClocks.{ports, signatures};
+ghost use Rattle.lucy_clock.specs.NodeClocks.{signatures};
 ghost use Rattle.lucy_place.specs.WrittenNodes.{IsWritten};
 ghost use Rattle.lucy_front.specs.declared.options.Options.{Options as Choices};
 ghost use Rattle.lucy_front.specs.Inferring.{AreOptions};
@@ -17,7 +15,7 @@ ghost use Rattle.lucy_front.specs.Clocking.{HasNoClocks, IsFirstUnclocked};
 use crate::fault::{NoClocks, NodeFault, Unclocked, check_fault, inference_fault};
 use crate::options::Options;
 use lucy_check::check;
-use lucy_clock::{NodeClock, Numbers64, Signature, Words, needs, written};
+use lucy_clock::{NodeClock, Numbers64, Signature, Words, needs, ports, written};
 use lucy_inference::infer;
 use lucy_place::{Placed, PlacedNode};
 use lucy_word::{OutOfMemory, Word};
@@ -153,42 +151,6 @@ fn node_clock(
     }
 }
 
-// Words as a list of one's own.
-fn copies(alloc: Global, words: &[Word]) -> Result<Words, OutOfMemory>
-    ensures { IfOk result (λ v. v ≡ words.now) }
-{
-    let mut list = Vec::new(alloc);
-    'each: for word in words {
-        push(&mut list, word.copy(alloc)?)?;
-    }
-    Ok(Words::new(list))
-}
-
-// The words of places as a list of one's own.
-fn copies_at(alloc: Global, words: &[Word], places: &[u32]) -> Result<Words, OutOfMemory>
-    requires { AllByRecursion (λ place. place < length words.now) places.now }
-    ensures { IfOk result (λ v. v ≡ map (assigned words.now) places.now) }
-{
-    let mut list = Vec::new(alloc);
-    'each: for place in places {
-        push(&mut list, words[*place as usize].copy(alloc)?)?;
-    }
-    Ok(Words::new(list))
-}
-
-// What the callers of a node need of its clocks.
-fn ports_of(alloc: Global, node: &PlacedNode, clock: &NodeClock) -> Result<Signature, OutOfMemory>
-    requires params { node.now.params < length clock.now.words }
-    requires results { AllByRecursion (λ place. place < length clock.now.words) node.now.results }
-    ensures { IfOk result (λ s. s ≡ ports node.now clock.now) }
-{
-    let words = clock.words.list();
-    Ok(Signature {
-        params: copies(alloc, &words[1..node.params as usize + 1])?,
-        results: copies_at(alloc, words, node.results.list())?,
-    })
-}
-
 // The clocks of the next node, put behind those of the nodes above it.
 fn next_clock(
     alloc: Global,
@@ -208,7 +170,7 @@ fn next_clock(
     ensures refused { (n : Node) → slice_get placed.now.nodes node ≡ Some n → IfErr result (HasNoClocks options.now placed.now node above.old.items n) }
 {
     let clock = node_clock(alloc, placed, node, above, options)?;
-    let ports = ports_of(alloc, placed.node(node), &clock)?;
+    let ports = ports(alloc, placed.node(node), &clock)?;
     push(above, ports)?;
     push(clocks, clock)?;
     Ok(())

@@ -2,7 +2,8 @@ use Rattle.std.proofs.Common.{◌++◌, ◌∷◌, [], length, take, ap, sym, �
 use Rattle.lucy_clock.specs.Clocks.{AreSignatures}
 use Rattle.lucy_clock.specs.NodeClocks.{signatures}
 use Rattle.lucy_front.specs.Clocked.{IsClocked}
-use Rattle.lucy_front.proofs.MoreClocks.{signatures_are, proper_take, places_within, clocked_push, signatures_push}
+use Rattle.lucy_clock.proofs.CallerLaws.{places_within}
+use Rattle.lucy_front.proofs.MoreClocks.{signatures_are, proper_take, clocked_push, signatures_push}
 use Rattle.lucy_front.proofs.clocking.next_clock.Goals as goal
 
 pub node_clock-requires-clause-signatures : goal.node_clock-requires-clause-signatures
@@ -10,8 +11,8 @@ node_clock-requires-clause-signatures c =
     subst (AreSignatures (take c.args.node c.args.placed.now.nodes)) (sym (c.deref.ensures.value ∙ c.requires.signatures))
     (signatures_are (take c.args.node c.args.placed.now.nodes) c.args.clocks.now.items (proper_take c.args.placed.now.nodes c.args.node c.requires.proper) c.requires.clocked)
 
-pub ports_of-requires-clause-results : goal.ports_of-requires-clause-results
-ports_of-requires-clause-results c =
+pub ports-requires-clause-results : goal.ports-requires-clause-results
+ports-requires-clause-results c =
     let clocked = c.in_ok-clock.ensures.ok c.node.result.now c.node.ensures.is in
     let count = clocked.count in
     places_within c.node.result.now c.node.result.now.results (length c.in_ok-clock.clock.words) (omega arith) c.node.ensures.proper.results
