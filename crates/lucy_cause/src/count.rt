@@ -1,13 +1,14 @@
 // How many operations there are.
-ghost use Rattle.std.specs.Prelude.{◌≡◌, ◌+◌, ◌<◌, ◌≤◌, length, Some};
+ghost use Rattle.std.specs.Prelude.{◌≡◌, ◌+◌, ◌<◌, ◌≤◌, ◌^◌, length, Some};
 ghost use Rattle.lucy_stream.specs.Forms.{operands};
+ghost use Rattle.lucy_event.specs.Firings.{ops_of};
 ghost use Rattle.lucy_event.specs.Plans.{task_ops};
 ghost use Rattle.lucy_net.specs.Plans.{form_of, task_of};
 ghost use Rattle.lucy_net.specs.Proper.{IsProper};
 ghost use Rattle.lucy_word.specs.Limits.{limit_number};
 ghost use Rattle.lucy_cause.specs.Lengths.{takes_each, operations_by};
 
-use crate::cycle::items_by;
+use crate::cycle::gave;
 use lucy_net::{Actor, ActorKind, Net};
 use lucy_word::Limit;
 
@@ -23,16 +24,26 @@ fn takes_each(actor: &Actor) -> u64
     }
 }
 
-// How many ring operations an actor has in the first instants.
+/// How many ring operations an actor has in its first firings, of which there are at most 1,048,576.
+pub fn operations(actor: &Actor, fired: u64) -> u64
+    requires arity { length actor.now.takes ≡ operands (form_of actor.now.kind) }
+    requires gives { length actor.now.gives ≤ limit_number Limit.Rings }
+    requires early { fired ≤ limit_number Limit.Instants }
+    ensures count { result ≡ length (ops_of (form_of actor.now.kind) actor.now.takes actor.now.gives fired) }
+    ensures few { result ≤ 2 ^ 36 }
+{
+    fired * takes_each(actor) + gave(actor, fired) * actor.gives.list().len() as u64
+}
+
+// How many it has in the first instants.
 fn operations_of(actor: &Actor, instants: u64) -> u64
     requires arity { length actor.now.takes ≡ operands (form_of actor.now.kind) }
-    requires gives { length actor.now.gives ≤ 32768 }
+    requires gives { length actor.now.gives ≤ limit_number Limit.Rings }
     requires early { instants ≤ limit_number Limit.Schedule }
     ensures count { result ≡ length (task_ops (Some (task_of instants actor.now))) }
-    ensures few { result ≤ 34363932672 }
+    ensures few { result ≤ 2 ^ 36 }
 {
-    let fired = actor.firing.ones(instants);
-    fired * takes_each(actor) + items_by(actor, instants) * actor.gives.list().len() as u64
+    operations(actor, actor.firing.ones(instants))
 }
 
 /// How many ring operations the actors of a net have in the first instants.
