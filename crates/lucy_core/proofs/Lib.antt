@@ -6,6 +6,7 @@ pub mod CountingLaws
 pub mod StepLaws
 pub mod PickLaws
 pub mod OpenLaws
+pub mod OnwardLaws
 pub mod MakeLaws
 pub mod InsideLaws
 mod Rows

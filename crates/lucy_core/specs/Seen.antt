@@ -1,5 +1,5 @@
 -- What contracts see of a core, and the state of the net that it is. Actors and rings count from 0, instants from 1.
-use Rattle.std.specs.Prelude.{ℕ, ◌+◌, ◌*◌, ◌≤◌, ◌≡◌, ℤ, List, [], ◌∷◌, length, replicate, slice_get, slice_set, slice_index, slice_index_or, Some}
+use Rattle.std.specs.Prelude.{ℕ, ◌+◌, ◌*◌, ◌<◌, ◌≤◌, ◌≡◌, ℤ, List, [], ◌∷◌, length, replicate, slice_get, slice_set, slice_index, slice_index_or, Some}
 use Rattle.lucy_word.specs.Limits.{limit_number}
 use Rattle.lucy_word.specs.declared.limit.Limit.TheVariants as limit
 use Rattle.lucy_host.specs.declared.kind.HostKind.{HostKind}
@@ -85,6 +85,16 @@ CanRun seen picks = IsRun (machine_of seen).sys (done_of seen.done) picks
 -- every actor has done its list
 abbrev pub IsOver : Seen → Type 0
 IsOver seen = IsFinished (machine_of seen).sys (done_of seen.done)
+
+-- no actor has done more than so many operations, a number for each
+abbrev pub HasDoneAtMost : Seen → (counts : List ℕ) → Type 0
+HasDoneAtMost seen counts = (a : ℕ) → done_of seen.done a ≤ done_of counts a
+
+-- an actor that has done fewer operations than its number can do the next one
+pub record CanGoOn (seen : Seen) (counts : List ℕ) : Type 0 where
+  pub actor : ℕ
+  pub can : CanStep seen actor
+  pub fewer : done_of seen.done actor < done_of counts actor
 
 -- what a core may be made of: a proper net, a schedule that is sound for it, for each input the items that its actor gives up
 -- to the horizon, and operators with the numbers that the net has

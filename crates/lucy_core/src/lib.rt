@@ -8,9 +8,11 @@
 mod circle;
 mod cursor;
 mod ends;
+mod laws;
 mod machine;
 mod making;
 mod steps;
 mod tray;
 
+pub use laws::events_go_by_the_net;
 pub use machine::{Core, CoreParts};

@@ -1,4 +1,4 @@
-ghost use Rattle.std.specs.Prelude.{ℕ, ◌≡◌, ◌↔◌, ◌≤◌, ◌<◌, ◌+◌, take, length, slice_get, slice_index, slice_index_or, [], List, Some, IsTrue, IfOk, IfSome, None};
+ghost use Rattle.std.specs.Prelude.{ℕ, ◌≡◌, ◌↔◌, ◌≤◌, ◌<◌, ◌+◌, ◌++◌, ◌⊎◌, All, take, length, slice_get, slice_index, slice_index_or, [], List, Some, IsTrue, IfOk, IfSome, None};
 
 use crate::circle::Circle;
 use crate::cursor::Cursor;
@@ -66,17 +66,19 @@ impl Core {
     ghost use Rattle.lucy_host.specs.Host.{Serves, lent};
     ghost use Rattle.lucy_host.specs.Operators.{kinds_of};
     ghost use Rattle.lucy_word.specs.Bits.{ones_to};
+    ghost use Rattle.lucy_word.specs.Limits.{limit_number};
+    ghost use Rattle.lucy_word.specs.declared.limit.Limit.TheVariants as limit;
     ghost use Rattle.lucy_stream.specs.Fronts.{IsFront};
     ghost use Rattle.lucy_event.specs.Systems.{Takes, Gives, op_at};
     ghost use Rattle.lucy_event.specs.Deciding.{run_length};
-    ghost use Rattle.lucy_event.specs.Runs.{none_done, IsRun, between, first_left};
+    ghost use Rattle.lucy_event.specs.Runs.{none_done, after, IsRun, between, first_left};
     ghost use Rattle.lucy_event.specs.States.{State, held, events, IsSame, IsState, Reaches};
     ghost use Rattle.lucy_event.specs.Plans.{GiveBelow};
     ghost use Rattle.lucy_net.specs.declared.net.Actor.{Actor};
     ghost use Rattle.lucy_net.specs.declared.net.RingSpec.{RingSpec};
     ghost use Rattle.lucy_net.specs.Moves.{move_of};
     ghost use Rattle.lucy_cause.specs.Schedules.{events_at};
-    ghost use Rattle.lucy_core.specs.Seen.{Seen, plan_of, machine_of, order_of, state_of, done_of, stepped, after_picks, CanStep, CanRun, IsOver, IsFixed, IsUnbegun, IsOutputOf, first_ring, first_seen, stream_of};
+    ghost use Rattle.lucy_core.specs.Seen.{Seen, plan_of, machine_of, order_of, state_of, done_of, stepped, after_picks, CanStep, CanRun, IsOver, HasDoneAtMost, CanGoOn, IsFixed, IsUnbegun, IsOutputOf, first_ring, first_seen, stream_of};
 
     /// A core of a proper net with a sound schedule, without an event so far; the operators are copied. The inputs have an item
     /// for each firing of their actors up to the horizon, which is at most 1,048,576 instants. All memory is made here: no
@@ -314,6 +316,22 @@ impl Core {
         ensures events { (picks : List ℕ) → CanRun self.now picks → IsSame (state_of (after_picks self.now picks)) (events (machine_of self.now) (state_of self.now) picks) }
         ensures converse { (s : State) → IsState (machine_of self.now) s → ((a : ℕ) → done_of self.now.done a ≤ s.done a) →
             Reaches (machine_of self.now) (state_of self.now) (between (state_of self.now).done s.done (order_of self.now)) s }
+    {
+        let _ = &self.net;
+    }
+
+    /// How runs go on from a core. There is a number of operations done for each actor, also after events, which count for their
+    /// actors, and only actors have events. A run, and then a run from where it leads, are one run. A run that has done no more for
+    /// any actor than another leads to the same core, or an actor that has done fewer can go on. Some run leads to the end.
+    pub fn runs_go_on(&self)
+        ensures counted { (picks : List ℕ) → length (after_picks self.now picks).done ≡ length self.now.net.actors }
+        ensures counts { (picks : List ℕ) → CanRun self.now picks → (b : ℕ) → done_of (after_picks self.now picks).done b ≡ after (done_of self.now.done) picks b }
+        ensures actors { (picks : List ℕ) → CanRun self.now picks → All (λ a. a < length self.now.net.actors) picks }
+        ensures few { length self.now.net.actors ≤ limit_number limit.Actors }
+        ensures joined { (picks more : List ℕ) → CanRun self.now picks → CanRun (after_picks self.now picks) more → CanRun self.now (picks ++ more) }
+        ensures towards { (picks other : List ℕ) → CanRun self.now picks → CanRun self.now other → HasDoneAtMost (after_picks self.now picks) (after_picks self.now other).done →
+            (after_picks self.now picks ≡ after_picks self.now other) ⊎ CanGoOn (after_picks self.now picks) (after_picks self.now other).done }
+        ensures end { (picks : List ℕ) × CanRun self.now picks × IsOver (after_picks self.now picks) }
     {
         let _ = &self.net;
     }
