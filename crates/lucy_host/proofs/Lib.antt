@@ -1,6 +1,5 @@
 pub mod NumberLaws
 pub mod OpLaws
-pub mod HostLaws
 pub mod OpsLaws
 pub mod Answering
 pub mod ListsLaws

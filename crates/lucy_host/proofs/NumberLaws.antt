@@ -1,17 +1,13 @@
--- What is wrapped or cut is a number of 64 bits.
+-- What is wrapped is a number of 64 bits.
 use Rattle.std.proofs.Common.{ℕ, ℤ, pos, negsuc, ◌+ℤ◌, ◌*◌, ◌%◌, ◌/◌, ◌+◌, ◌-◌, ◌^◌, suc, ap, ◌∙◌, ◌<◌, ◌≡◌, Bool, true, false, cond, FitsSigned, to_z, w64, inl, inr, refl, lit<, arith, mod-lt, div-add-mod'}
 use Rattle.std.proofs.lemmas.Bool.{cases_lt}
 use Rattle.std.proofs.Math.Facts.{to_z-neg}
 use Rattle.std.proofs.lemmas.Int.{ints, SFits-int_wrap}
 use Rattle.std.specs.Int.{int_wrap}
-use Rattle.lucy_host.specs.Numbers.{wrapped, cut}
+use Rattle.lucy_host.specs.Numbers.{wrapped}
 
 pub wrapped_fits : (z : ℤ) → FitsSigned w64 (wrapped z)
 wrapped_fits z = SFits-int_wrap w64 z
-
-pub cut_fits : (z : ℤ) → FitsSigned w64 (cut z)
-cut_fits (pos n) = record { sfits = omega arith }
-cut_fits (negsuc n) = record { sfits = omega arith }
 
 -- the signed reading of 64 bits, which lies one turn below their number or none
 turned : (n : ℕ) → n < 2 ^ 64 → (j : ℕ) × (to_z w64 n +ℤ pos (j * 2 ^ 64) ≡ pos n)

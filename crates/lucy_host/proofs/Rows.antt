@@ -5,7 +5,7 @@ use Rattle.lucy_host.specs.Numbers.{least, minus_one}
 use Rattle.lucy_host.specs.OpValue.{op_value}
 use Rattle.lucy_host.specs.HostValue.{host_value}
 use Rattle.lucy_host.specs.declared.op.Op.TheVariants.{Add, Div, Rem}
-use Rattle.lucy_host.specs.declared.kind.HostKind.TheVariants.{Min, Max, AbsDiff, SatAdd, SatSub, Shift}
+use Rattle.lucy_host.specs.declared.kind.HostKind.TheVariants.{Min, Max, AbsDiff, SatAdd, SatSub, Shift, Table}
 
 greatest : ℤ
 greatest = pos 9223372036854775807
@@ -61,3 +61,15 @@ shifts_below_zero = refl
 shifts_of_7 : shifts (pos 7) (pos 0 ∷ minus_one ∷ neg_ℤ (pos 63) ∷ neg_ℤ (pos 64) ∷ []) ≡ pos 7 ∷ pos 3 ∷ pos 0 ∷ pos 0 ∷ []
 unfolding shifts host_value int_wrap
 shifts_of_7 = refl
+
+-- what a table answers at places, and -1 where it has none
+looked : (table places : List ℤ) → List ℤ
+looked table places = map (λ a. host_value (Table table) a minus_one) places
+
+looked_up_in_three : looked (pos 10 ∷ pos 20 ∷ pos 30 ∷ []) (pos 0 ∷ pos 2 ∷ pos 3 ∷ minus_one ∷ greatest ∷ least ∷ []) ≡ pos 10 ∷ pos 30 ∷ minus_one ∷ minus_one ∷ minus_one ∷ minus_one ∷ []
+unfolding looked greatest host_value
+looked_up_in_three = refl
+
+looked_up_in_none : looked [] (pos 0 ∷ pos 5 ∷ []) ≡ minus_one ∷ minus_one ∷ []
+unfolding looked host_value
+looked_up_in_none = refl

@@ -1,10 +1,13 @@
-ghost use Rattle.std.specs.Prelude.{◌≡◌, ◌<◌, ◌^◌, ◌*ℤ◌, pos};
+ghost use Rattle.std.specs.Prelude.{◌≡◌, ◌<◌, ◌^◌, ◌*ℤ◌, pos, IfOk};
 ghost use Rattle.lucy_host.specs.Numbers.{wrapped};
 ghost use Rattle.lucy_host.specs.HostValue.{host_value, shifted};
 
+use crate::{OutOfMemory, Table};
+use std::alloc::Global;
+
 /// The kinds of operators that a host can lend a program. Each has two numbers as operands, and gives one.
 ///
-/// A kind is not copied but handed on by reference, so that one may hold a table of its own.
+/// A kind is handed on by reference, since one may hold a table.
 #[derive(Drop)]
 pub enum HostKind {
     /// The smaller.
@@ -20,21 +23,24 @@ pub enum HostKind {
     /// The first shifted by as many bits as the second says: to the left and wrapped, or for a second below 0 to the
     /// right and rounded down. Past 63 bits it is 0, or to the right -1 where the first is below 0.
     Shift,
+    /// The item of the table with the number of the first, counted from 0, or the second where there is none.
+    Table(Table),
 }
 
 impl HostKind {
     /// The same kind once more.
-    pub(crate) fn copy(&self) -> HostKind
-        ensures { result ≡ self.now }
+    pub(crate) fn copy(&self, alloc: Global) -> Result<HostKind, OutOfMemory>
+        ensures { IfOk result (λ kind. kind ≡ self.now) }
     {
-        match self {
+        Ok(match self {
             HostKind::Min => HostKind::Min,
             HostKind::Max => HostKind::Max,
             HostKind::AbsDiff => HostKind::AbsDiff,
             HostKind::SatAdd => HostKind::SatAdd,
             HostKind::SatSub => HostKind::SatSub,
             HostKind::Shift => HostKind::Shift,
-        }
+            HostKind::Table(table) => HostKind::Table(table.copy(alloc)?),
+        })
     }
 }
 
@@ -75,5 +81,6 @@ pub fn host_value(kind: &HostKind, a: i64, b: i64) -> i64
         HostKind::SatAdd => a.saturating_add(b),
         HostKind::SatSub => a.saturating_sub(b),
         HostKind::Shift => shifted(a, b),
+        HostKind::Table(table) => table.look_up(a, b),
     }
 }

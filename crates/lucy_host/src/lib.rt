@@ -12,6 +12,7 @@ mod inputs;
 mod kind;
 mod op;
 mod ops;
+mod table;
 
 pub use data_type::DataType;
 pub use error::{OpsError, OutOfMemory};
@@ -20,3 +21,4 @@ pub use inputs::Inputs;
 pub use kind::{HostKind, host_value};
 pub use op::{Op, op_value};
 pub use ops::Ops;
+pub use table::Table;

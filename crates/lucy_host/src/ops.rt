@@ -21,7 +21,7 @@ impl Entry {
     {
         Ok(Entry {
             name: self.name.to_vec(alloc)?,
-            kind: self.kind.copy(),
+            kind: self.kind.copy(alloc)?,
         })
     }
 }
