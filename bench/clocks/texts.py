@@ -11,11 +11,11 @@ def node(name, params, result, definitions):
 
 
 def calls():
-    """As many inequalities as are allowed: 59 calls of a node with 64 parameters."""
+    """As many inequalities as are allowed: 58 calls of a node with 64 parameters, and a buffer."""
     names = [f"a{i}" for i in range(64)]
     wide = node("wide", f"({', '.join(names)})", "a0", [])
     given = ", ".join(["x"] * 64)
-    return [wide, node("top", "x", "x", [f"y{i} = wide ({given})" for i in range(int(59 * part))])]
+    return [wide, node("top", "x", "b", ["b = buffer x"] + [f"y{i} = wide ({given})" for i in range(int(58 * part))])]
 
 
 def chain(order):
