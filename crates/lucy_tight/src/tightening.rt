@@ -44,6 +44,7 @@ fn tighten_inferred(
     ensures reached { IfOk result (λ t. at_one t.clocks.sizes buffer ≡ Some t.least) }
     ensures clocked { (n : Node) → slice_get accepted.now.placed.nodes node ≡ Some n →
         IfOk result (λ t. IsWellClocked (signatures (take node accepted.now.placed.nodes) (take node accepted.now.clocks.items)) n (assigned t.clocks.words)) }
+    ensures fits { IfOk result (λ t. FitsShape (assigned t.clocks.words) t.shape) }
     ensures smallest { (n : Node) → slice_get accepted.now.placed.nodes node ≡ Some n →
         IfOk result (λ t. (w : Assignment) (from to size : ℕ) → at_one n.buffers buffer ≡ Some to → Stands n to (Buffer buffer from) →
         IsWellClocked (signatures (take node accepted.now.placed.nodes) (take node accepted.now.clocks.items)) n w → FitsShape w t.shape → IsSize (w from) (w to) size → t.least ≤ size) }
@@ -85,6 +86,7 @@ pub fn tighten(
     ensures reached { IfOk result (λ t. at_one t.clocks.sizes buffer ≡ Some t.least) }
     ensures clocked { (n : Node) → slice_get accepted.now.placed.nodes node ≡ Some n →
         IfOk result (λ t. IsWellClocked (signatures (take node accepted.now.placed.nodes) (take node accepted.now.clocks.items)) n (assigned t.clocks.words)) }
+    ensures fits { IfOk result (λ t. FitsShape (assigned t.clocks.words) t.shape) }
     ensures smallest { (n : Node) → slice_get accepted.now.placed.nodes node ≡ Some n →
         IfOk result (λ t. (w : Assignment) (from to size : ℕ) → at_one n.buffers buffer ≡ Some to → Stands n to (Buffer buffer from) →
         IsWellClocked (signatures (take node accepted.now.placed.nodes) (take node accepted.now.clocks.items)) n w → FitsShape w t.shape → IsSize (w from) (w to) size → t.least ≤ size) }

@@ -10,6 +10,7 @@ use Rattle.lucy_need.specs.declared.need.Needs.{Needs}
 use Rattle.lucy_clock.specs.Clocks.{clocks_of}
 use Rattle.lucy_clock.specs.NodeClocks.{signatures, AreSizes}
 use Rattle.lucy_clock.specs.WellClocked.{IsWellClocked}
+use Rattle.lucy_shape.specs.Fitting.{FitsShape}
 use Rattle.lucy_shape.specs.Sized.{HasSizeWithin}
 use Rattle.lucy_tight.specs.Least.{IsTightest}
 use Rattle.lucy_tight.specs.Tightening.{needs_at, TheBuffer}
@@ -136,6 +137,10 @@ returns-clause-clocked c = λ n there.
     let accepted = c.args.accepted.now in
     subst (λ (ws : List Bits). IsWellClocked (signatures (take c.args.node accepted.placed.nodes) (take c.args.node accepted.clocks.items)) n (assigned ws)) (sym c.in_ok-clocks.ensures.words)
     (fits_well a.0 o a.1 accepted a.2 c.args.node n there made.needs made.shape found.words.items own shaped.clocks reached.0 reached.1)
+
+pub returns-clause-fits : goal.returns-clause-fits
+returns-clause-fits c =
+    subst (λ (ws : List Bits). FitsShape (assigned ws) c.in_ok-made.made.shape) (sym c.in_ok-clocks.ensures.words) c.in_ok-found.ensures.reached.0.fits
 
 pub returns-clause-smallest : goal.returns-clause-smallest
 returns-clause-smallest c = λ n there w from to size place reads well fits is.
