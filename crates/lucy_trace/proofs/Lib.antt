@@ -1,1 +1,3 @@
+pub mod CatchingLaws
 pub mod RunLaws
+pub mod TraceLaws
