@@ -11,6 +11,7 @@ pub mod HomeLaws
 pub mod PlaceLaws
 pub mod EndLaws
 pub mod CrewLaws
+pub mod DoneLaws
 pub mod JoinLaws
 pub mod OwnLaws
 pub mod Rounds

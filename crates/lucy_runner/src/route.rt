@@ -5,7 +5,7 @@ ghost use Rattle.lucy_host.specs.Operators.{kinds_of};
 ghost use Rattle.lucy_runner.specs.declared.seat.Seat.{Seat};
 ghost use Rattle.lucy_runner.specs.Crews.{seated, crew_of};
 ghost use Rattle.lucy_runner.specs.Turns.{AreServed, HaveAllRun};
-ghost use Rattle.lucy_runner.specs.Seats.{most_passed, most_along};
+ghost use Rattle.lucy_runner.specs.Seats.{full_round, most_passed, most_along};
 
 use crate::lists::push;
 use crate::place::Place;
@@ -71,19 +71,21 @@ pub(crate) fn route_of(
     Ok(route)
 }
 
-// Behind so many moves along the route a round makes no pass more.
-const FULL_ROUND: u64 = 1 << 40;
+/// Behind so many moves along the route a round makes no pass more.
+pub(crate) const FULL_ROUND: u64 = 1 << 40;
 
 // A route has no more places, as a net has no more actors.
 const MOST_PLACES: usize = 16_384;
 
-/// Passes over the route, back and on, until one moves nothing. Answers the number of moves.
+/// Passes over the route, back and on, until one moves nothing, or so many moves are made. Answers the number of moves.
 pub(crate) fn passes_along<F: Fn(u32, i64, i64) -> i64 + Sync>(
     seats: &mut [Seat],
     route: &[Place],
     host: &Host<F>,
+    most: u64,
 ) -> u64
     requires serves { Serves F.pre F.post host.now }
+    requires most { most ≤ full_round }
     requires served { AreServed (length (lent host.now)) (crew_of seats.old) }
     ensures run { HaveAllRun (kinds_of (lent host.now)) (crew_of seats.old) (crew_of seats.new) result }
     ensures few { result ≤ most_along }
@@ -91,7 +93,7 @@ pub(crate) fn passes_along<F: Fn(u32, i64, i64) -> i64 + Sync>(
     let mut moves = 0;
     let mut more = 1;
     let mut heading = Heading::first();
-    while more > 0 && moves < FULL_ROUND {
+    while more > 0 && moves < most {
         more = pass_along(seats, route, host, heading.back);
         moves += more;
         heading = heading.after(more);

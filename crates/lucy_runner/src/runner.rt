@@ -5,8 +5,8 @@ use crate::making::{Crew, seat_all};
 use crate::meeting::meet_all;
 use crate::outputs::outputs_of;
 use crate::place::{Ends, Place};
-use crate::route::{passes_along, route_of};
-use crate::seat::{Seat, all_done, few_left, pass_in_place, turn_apart};
+use crate::route::{FULL_ROUND, passes_along, route_of};
+use crate::seat::{Seat, all_done, few_left, operations_done, pass_in_place, turn_apart};
 use lucy_cause::Schedule;
 use lucy_core::{Core, CoreParts};
 use lucy_host::{Host, Inputs, Ops};
@@ -140,7 +140,36 @@ impl Runner {
         ensures round { IsRoundTo self.old.seen self.new.seen result }
         ensures before { self.new.before ≡ self.old.before }
     {
-        self.round_by(rt, host, gate, Threading::Apart)
+        let seats = self.seats.as_mut_slice();
+        let turned = turn_apart(rt, seats, host, gate);
+        let moves = turned + passes_along(seats, self.route.as_slice(), host, FULL_ROUND);
+        meet_all(
+            seats,
+            self.net.rings.list(),
+            self.places.as_slice(),
+            self.ends.as_slice(),
+        );
+        moves
+    }
+
+    /// A round by one thread: in place of its turn each worker goes over its actors once and passes no gate, and behind so many moves,
+    /// of at most 2^40 that count, there is no pass along the actors more.
+    pub fn round_in_place<F: Fn(u32, i64, i64) -> i64 + Sync>(
+        &mut self,
+        host: &Host<F>,
+        most: u64,
+    ) -> u64
+        requires serves { Serves F.pre F.post host.now }
+        requires kinds { kinds_of (lent host.now) ≡ kinds_of self.old.seen.operators }
+        ensures round { IsRoundTo self.old.seen self.new.seen result }
+        ensures before { self.new.before ≡ self.old.before }
+    {
+        let seats = self.seats.as_mut_slice();
+        let turned = pass_in_place(seats, host);
+        let moves = turned + passes_along(seats, self.route.as_slice(), host, most.min(FULL_ROUND));
+        let rings = self.net.rings.list();
+        meet_all(seats, rings, self.places.as_slice(), self.ends.as_slice());
+        moves
     }
 
     // A round whose turns are made so.
@@ -156,20 +185,11 @@ impl Runner {
         ensures round { IsRoundTo self.old.seen self.new.seen result }
         ensures before { self.new.before ≡ self.old.before }
     {
-        let seats = self.seats.as_mut_slice();
-        let turned = if threading == Threading::Apart {
-            turn_apart(rt, seats, host, gate)
+        if threading == Threading::Apart {
+            self.round(rt, host, gate)
         } else {
-            pass_in_place(seats, host)
-        };
-        let moves = turned + passes_along(seats, self.route.as_slice(), host);
-        meet_all(
-            seats,
-            self.net.rings.list(),
-            self.places.as_slice(),
-            self.ends.as_slice(),
-        );
-        moves
+            self.round_in_place(host, FULL_ROUND)
+        }
     }
 
     /// Makes rounds until every actor has done its list. From the 17th call that finds something to do on they start no thread and pass no
@@ -204,6 +224,23 @@ impl Runner {
         ensures { IsTrue result ↔ IsOver self.now.seen }
     {
         all_done(self.seats.as_slice())
+    }
+
+    /// How many actors there are.
+    pub fn actors(&self) -> usize
+        ensures { result ≡ length self.now.seen.net.actors }
+    {
+        self.places.len()
+    }
+
+    /// How many operations the actor, which is there, has done. It takes no memory.
+    pub fn done(&self, actor: u32) -> u64
+        requires { actor < length self.now.seen.net.actors }
+        ensures { result ≡ done_of self.now.seen.done actor }
+    {
+        let place = self.places[actor as usize];
+        let parts = self.seats[place.seat as usize].worker.parts();
+        operations_done(&parts[place.part as usize])
     }
 
     /// What the output of this number took since its items were carried away last, oldest first: in every state a front of its

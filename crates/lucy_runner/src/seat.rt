@@ -2,13 +2,18 @@
 ghost use Rattle.std.specs.Prelude.{◌≡◌, ◌↔◌, ◌≤◌, All, IsTrue, length, sum_by};
 ghost use Rattle.lucy_host.specs.Host.{Serves, lent};
 ghost use Rattle.lucy_host.specs.Operators.{kinds_of};
-ghost use Rattle.lucy_worker.specs.Parts.{IsDone};
+ghost use Rattle.lucy_word.specs.Limits.{limit_number};
+ghost use Rattle.lucy_word.specs.declared.limit.Limit.TheVariants as limit;
+ghost use Rattle.lucy_stream.specs.Forms.{operands};
+ghost use Rattle.lucy_net.specs.Plans.{form_of};
+ghost use Rattle.lucy_worker.specs.Parts.{done_of, IsDone};
 ghost use Rattle.lucy_worker.specs.Turns.{IsServed, most_moves};
 ghost use Rattle.lucy_runner.specs.Views.{most_workers};
 ghost use Rattle.lucy_runner.specs.Crews.{crew_of};
 ghost use Rattle.lucy_runner.specs.Turns.{HaveTurned};
 ghost use Rattle.lucy_runner.specs.Seats.{IsTurned, moves_of, most_turned};
 
+use lucy_cause::operations;
 use lucy_host::Host;
 use lucy_worker::{Gate, Part, Worker};
 use std::thread;
@@ -64,6 +69,16 @@ pub(crate) fn pass_in_place<F: Fn(u32, i64, i64) -> i64 + Sync>(
         seat.moves = seat.worker.pass_over(host);
     }
     moves_in(seats)
+}
+
+/// How many operations an actor of a net has done.
+pub(crate) fn operations_done(part: &Part) -> u64
+    requires arity { length part.now.actor.takes ≡ operands (form_of part.now.actor.kind) }
+    requires gives { length part.now.actor.gives ≤ limit_number limit.Rings }
+    requires fired { part.now.state.fired ≤ limit_number limit.Instants }
+    ensures { result ≡ done_of part.now }
+{
+    operations(&part.actor, part.state.fired) + u64::from(part.state.step)
 }
 
 /// Whether every actor has done its list.

@@ -3,7 +3,7 @@ use Rattle.lucy_host.specs.Host.{lent}
 use Rattle.lucy_host.specs.Operators.{kinds_of}
 use Rattle.lucy_runner.specs.Crews.{crew_of}
 use Rattle.lucy_runner.specs.Turns.{HaveAllRun}
-use Rattle.lucy_runner.specs.Seats.{most_along, full_round}
+use Rattle.lucy_runner.specs.Seats.{most_along}
 use Rattle.lucy_runner.proofs.route.passes_along.Given as goal
 
 abbrev pub invariant-loop-more : goal.invariant-loop-more
@@ -12,4 +12,4 @@ invariant-loop-more g l =
     × (l.moves ≤ most_along)
 
 abbrev pub decreases-loop-more : goal.decreases-loop-more
-decreases-loop-more g l = (full_round - l.moves) * 2 + (1 - (1 - l.more))
+decreases-loop-more g l = (l.most - l.moves) * 2 + (1 - (1 - l.more))
