@@ -9,3 +9,4 @@ pub mod WholeLaws
 mod TaskLaws
 mod EnoughLaws
 mod PlayLaws
+pub mod TakenLaws

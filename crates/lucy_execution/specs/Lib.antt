@@ -1,4 +1,6 @@
--- What callers believe, in the order to read it: the output streams of a program, how a program is run, and how it goes on.
+-- What callers believe, in the order to read it: the output streams of a program, how a program is run, how it
+-- goes on, and what its outputs took.
 pub mod Streams
 pub mod Running
 pub mod Playing
+pub mod Taking

@@ -2,7 +2,7 @@
 //!
 //! Begin with `specs/Streams.antt`, which says what the output streams are, by `lucy_meaning` and the nodes' clocks alone. The
 //! horizon that the items of the inputs allow is in `instants.rt`. `player.rt` runs the flat net of `lucy_flat` on the runner of
-//! `lucy_runner`, from horizon to horizon; `interpreting.rt` goes by the plain interpreter of `lucy_kahn`. Both answer what the one definition says.
+//! `lucy_runner`, from horizon to horizon, and `taken.rt` asks what the outputs of a core took; `interpreting.rt` goes by the plain interpreter of `lucy_kahn`. Both answer what the one definition says.
 //! `laws.rt` has what holds of these streams.
 #![tactic(auto)]
 
@@ -13,6 +13,7 @@ mod laws;
 mod lists;
 mod player;
 mod running;
+mod taken;
 
 pub use clocks::{param_words, result_word};
 pub use instants::{allows_more, horizon};
@@ -24,3 +25,4 @@ pub use laws::{
 pub use lists::lengths;
 pub use player::Player;
 pub use running::run_net;
+pub use taken::outputs_so_far;
