@@ -147,11 +147,10 @@ module _ (nodes : List PlacedNode) (clocks : List NodeClock) (proper : AreProper
         (λ i a actor kind e. subst (λ k. KnowsOperator k count) (sym kind) tt)
 
     -- a core can be made of the net
-    pub fixed : (schedule : Timetable) (inputs : List (List ℤ)) (operators : List Operator) (count t : ℕ) → HaveOperators count nodes → count ≤ length operators → IsSound net (events_at schedule) →
+    pub fixed : (schedule : Timetable) (inputs : List (List ℤ)) (operators : List Operator) (t : ℕ) → HaveOperators (length operators) nodes → IsSound net (events_at schedule) →
         Suffice (param_words nodes clocks) inputs t → t ≤ 1048576 → IsFixed net schedule inputs operators t
-    fixed schedule inputs operators count t have within sound suffice early =
-        let more : HaveOperators (length operators) nodes = λ i n p op a b e stands. (let low = have i n p op a b e stands in omega arith) in
-        record { proper = flat.proper; sound = sound; early = early; supplied = supplied inputs t suffice; known = knows (length operators) more }
+    fixed schedule inputs operators t have sound suffice early =
+        record { proper = flat.proper; sound = sound; early = early; supplied = supplied inputs t suffice; known = knows (length operators) have }
 
     -- outputs give on no ring, and stand behind all others
     output_gives : (a : ℕ) (actor : Actor) → slice_get net.actors a ≡ Some actor → all_places nodes ≤ a → actor.gives ≡ []

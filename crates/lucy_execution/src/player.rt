@@ -37,6 +37,7 @@ impl<'a> Player<'a> {
     ghost use Rattle.lucy_word.specs.declared.limit.Limit.TheVariants as limit;
     ghost use Rattle.lucy_host.specs.Host.{Serves, lent};
     ghost use Rattle.lucy_host.specs.Operators.{kinds_of};
+    ghost use Rattle.lucy_place.specs.Proper.{HaveOperators};
     ghost use Rattle.lucy_meaning.specs.Spots.{main_of};
     ghost use Rattle.lucy_meaning.specs.Horizons.{Suffice};
     ghost use Rattle.lucy_kahn.specs.Turns.{params_in};
@@ -66,7 +67,7 @@ impl<'a> Player<'a> {
         requires flat { IsFlat placed.now.nodes clocks.now net }
         requires sound { IsSound net (events_at schedule) }
         requires serves { Serves F.pre F.post host.now }
-        requires known { placed.now.operators ≤ length (lent host.now) }
+        requires known { HaveOperators (length (lent host.now)) placed.now.nodes }
         requires inputs { params_in (main_of placed.now.nodes) ≡ length inputs }
         requires suffice { Suffice (param_words placed.now.nodes clocks.now) inputs instants }
         requires early { instants ≤ limit_number limit.Instants }

@@ -1,6 +1,6 @@
 -- A text has one answer of the phases.
 use Rattle.std.proofs.Common.{ℕ, ◌≡◌, List, [], Option, Ok, Err, Result, refl, ap, sym, ◌∙◌, subst, inl, inr}
-use Rattle.std.specs.Prelude.{◌⊎◌, IfOk, IfErr, MatchResult, Vec}
+use Rattle.std.specs.Prelude.{◌⊎◌, IfOk, IfErr, MatchResult, Vec, length}
 use Rattle.std.specs.Global.{Global}
 use Rattle.lucy_tree.specs.declared.span.Span.{Span}
 use Rattle.lucy_host.specs.Operators.{Operator}
@@ -16,7 +16,8 @@ use Rattle.lucy_place.specs.declared.placed.PlacedNode.{PlacedNode}
 use Rattle.lucy_place.specs.Faults.{faults, verdict}
 use Rattle.lucy_place.specs.PlacedProgram.{PlacedProgram}
 use Rattle.lucy_place.specs.Placing.{IsFirst, IsPlaced}
-use Rattle.lucy_place.specs.Proper.{AreProper}
+use Rattle.lucy_place.specs.Proper.{AreProper, HaveOperators}
+use Rattle.lucy_place.proofs.OperatorLaws.{operators_below}
 use Rattle.lucy_place.proofs.ProperPrograms.{nodes_proper}
 use Rattle.lucy_types.specs.declared.ty.Ty.{Ty}
 use Rattle.lucy_types.specs.Programs.{IsTyped, IsClash}
@@ -39,9 +40,8 @@ use Rattle.lucy_front.proofs.OneUnclocked.{StandsUnclocked, clocks_one, clocked_
 -- a tree has one list of places
 placed_one : (ops : List Operator) (p : ProgramTree) (v w : PlacedProgram) → IsPlaced ops p v → IsPlaced ops p w → v ≡ w
 placed_one ops p v w x y =
-    ap (λ (ns : List PlacedNode). let r : PlacedProgram = record { nodes = ns; unwritten = v.unwritten; operators = v.operators } in r) (x.nodes ∙ sym y.nodes)
-    ∙ ap (λ (ss : List (Option Span)). let r : PlacedProgram = record { nodes = w.nodes; unwritten = ss; operators = v.operators } in r) (x.unwritten ∙ sym y.unwritten)
-    ∙ ap (λ (k : ℕ). let r : PlacedProgram = record { nodes = w.nodes; unwritten = w.unwritten; operators = k } in r) (x.operators ∙ sym y.operators)
+    ap (λ (ns : List PlacedNode). let r : PlacedProgram = record { nodes = ns; unwritten = v.unwritten } in r) (x.nodes ∙ sym y.nodes)
+    ∙ ap (λ (ss : List (Option Span)). let r : PlacedProgram = record { nodes = w.nodes; unwritten = ss } in r) (x.unwritten ∙ sym y.unwritten)
 
 -- faults have one that is the first
 first_one : (fs : List NameError) (e f : NameError) → IsFirst fs e → IsFirst fs f → e ≡ f
@@ -149,6 +149,10 @@ module _ (ops : List Operator) (o : Options) (text : List ℕ) where
 
   pub text_proper : (v : PlacedProgram) → IsPlacedText ops text v → AreProper v.nodes
   text_proper v x = subst AreProper (sym x.is_placed.nodes) (nodes_proper ops x.tree (shaped text x.tree x.read) x.is_placed.good)
+
+  -- and name operators of the host alone
+  pub text_operators : (v : PlacedProgram) → IsPlacedText ops text v → HaveOperators (length ops) v.nodes
+  text_operators v x = subst (HaveOperators (length ops)) (sym x.is_placed.nodes) (operators_below ops x.tree x.is_placed.good)
 
   -- no phase before refuses a text that has places
   placed_read : (v : PlacedProgram) (r : Refusal) → IsPlacedText ops text v → OfSyntax text r → ⊥

@@ -12,7 +12,7 @@ use Rattle.lucy_host.specs.declared.kind.HostKind.{HostKind}
 use Rattle.lucy_place.specs.declared.placed.PlacedNode.{PlacedNode}
 use Rattle.lucy_place.specs.declared.entry.PlaceEntry.{PlaceEntry}
 use Rattle.lucy_place.specs.declared.entry.PlaceKind.{PlaceKind}
-use Rattle.lucy_place.specs.Proper.{at_one, Stands, ArePlaces, AreProper, HaveOperators}
+use Rattle.lucy_place.specs.Proper.{at_one, Stands, ArePlaces, AreProper}
 use Rattle.lucy_meaning.specs.Spots.{at, node_at, main_of, results_in, results_of}
 use Rattle.lucy_meaning.specs.Kahn.{kahn}
 use Rattle.lucy_kahn.specs.declared.error.KahnError.{KahnError}
@@ -45,9 +45,6 @@ entry_stands nodes list instance i x n entry e f at y m g h =
     let same : x ≡ y = same_Some x y (sym e ∙ g) in
     let node : n ≡ m = same_Some n m (sym f ∙ ap (λ (t : Instance). slice_get nodes t.node) same ∙ h) in
     (entry, ap (λ (t : PlacedNode). at_one t.places (i + 1)) (sym node) ∙ at, refl)
-
-pub more_operators : (few many : ℕ) (nodes : List PlacedNode) → few ≤ many → HaveOperators few nodes → HaveOperators many nodes
-more_operators few many nodes l h i n p op a b e s = let k = h i n p op a b e s in omega arith
 
 module _ (kinds : List HostKind) (inputs : List (List ℤ)) (nodes : List PlacedNode) (list : List Instance) (inner : List ℕ) where
   -- a list of an instance is too long

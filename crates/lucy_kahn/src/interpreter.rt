@@ -5,6 +5,7 @@ ghost use Rattle.lucy_host.specs.Host.{Serves, lent};
 ghost use Rattle.lucy_host.specs.Operators.{kinds_of};
 ghost use Rattle.lucy_host.specs.declared.kind.HostKind.{HostKind};
 ghost use Rattle.lucy_place.specs.Faults.{most_places};
+ghost use Rattle.lucy_place.specs.Proper.{HaveOperators};
 ghost use Rattle.lucy_meaning.specs.Spots.{main_of, results_of};
 ghost use Rattle.lucy_meaning.specs.Kahn as meaning;
 ghost use Rattle.lucy_kahn.specs.declared.error.KahnError.TheVariants as error;
@@ -89,7 +90,7 @@ pub fn kahn<F: Fn(u32, i64, i64) -> i64 + Sync>(
     inputs: &Inputs,
 ) -> Result<Inputs, KahnError>
     requires serves { Serves F.pre F.post host.now }
-    requires known { placed.now.operators ≤ length (lent host.now) }
+    requires known { HaveOperators (length (lent host.now)) placed.now.nodes }
     requires inputs { params_in (main_of placed.now.nodes) ≡ length inputs.now }
     ensures ok { IfOk result (λ lists. lists ≡ map (meaning.kahn (kinds_of (lent host.now)) inputs.now placed.now.nodes turns) (results_of placed.now.nodes)) }
     ensures limit { IfErr result (λ e. (e ≡ error.OutOfMemory) ⊎ ((e ≡ error.Limit limit.KahnItems) × IsPassed (kinds_of (lent host.now)) inputs.now placed.now.nodes turns)) }

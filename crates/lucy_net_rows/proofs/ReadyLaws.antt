@@ -8,7 +8,6 @@ use Rattle.lucy_word.specs.Bits.{Bits}
 use Rattle.lucy_host.specs.Operators.{Operator}
 use Rattle.lucy_stream.specs.Items.{list_at}
 use Rattle.lucy_place.specs.declared.placed.PlacedNode.{PlacedNode}
-use Rattle.lucy_place.specs.Proper.{HaveOperators}
 use Rattle.lucy_clock.specs.declared.node_clock.NodeClock.{NodeClock}
 use Rattle.lucy_net.specs.declared.net.Actor.{Actor}
 use Rattle.lucy_net.specs.declared.net.Net.{Net}
@@ -43,10 +42,6 @@ made_ready operators nodes clocks net schedule inputs instants core actors flat 
 -- a net has few actors
 pub few_actors : (nodes : List PlacedNode) (clocks : List NodeClock) (net : Net) → IsFlat nodes clocks net → length net.actors ≤ 16384
 few_actors nodes clocks net flat = flat.proper.few_actors
-
--- a program names operators among so many
-pub same_operators : (operators : List Operator) (nodes : List PlacedNode) (known : ℕ) → known ≡ length operators → HaveOperators known nodes → HaveOperators (length operators) nodes
-same_operators operators nodes known e have = subst (λ (n : ℕ). HaveOperators n nodes) e have
 
 -- main is the last node
 pub main_here : (nodes : List PlacedNode) (count main : ℕ) (node : PlacedNode) → count ≡ length nodes → main ≡ count - 1 → slice_get nodes main ≡ Some node → main_of nodes ≡ Some node

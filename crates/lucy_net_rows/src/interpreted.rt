@@ -1,6 +1,7 @@
 // The rows of the plain interpreter.
 ghost use Rattle.std.specs.Prelude.{◌≡◌, ◌≤◌, ◌<◌, ◌^◌, ◌-◌, length, IfSome};
 ghost use Rattle.lucy_host.specs.Host.{Serves, lent};
+ghost use Rattle.lucy_place.specs.Proper.{HaveOperators};
 ghost use Rattle.lucy_meaning.specs.Spots.{main_of};
 ghost use Rattle.lucy_kahn.specs.Turns.{params_in};
 
@@ -24,7 +25,7 @@ fn placed_text<F: Fn(u32, i64, i64) -> i64 + Sync>(
     host: &Host<F>,
     text: &str,
 ) -> Option<Placed>
-    ensures { IfSome result (λ placed. placed.operators ≡ length (lent host.now)) }
+    ensures { IfSome result (λ placed. HaveOperators (length (lent host.now)) placed.nodes) }
 {
     match parse(alloc, text.as_bytes()) {
         Ok(program) => match place(alloc, &program, host.ops()) {
@@ -57,7 +58,7 @@ fn print_iterate<F: Fn(u32, i64, i64) -> i64 + Sync>(
     inputs: &Inputs,
 ) -> io::Result<()>
     requires serves { Serves F.pre F.post host.now }
-    requires known { placed.now.operators ≤ length (lent host.now) }
+    requires known { HaveOperators (length (lent host.now)) placed.now.nodes }
     requires inputs { params_in (main_of placed.now.nodes) ≡ length inputs.now }
 {
     let results = main_node(placed).results.list().len();

@@ -1,5 +1,6 @@
 // Accepted programs, made ready to be run.
 ghost use Rattle.std.specs.Prelude.{ℕ, ◌≡◌, ◌≤◌, ◌∷◌, [], List, length, IfOk, IfSome};
+ghost use Rattle.lucy_place.specs.Proper.{HaveOperators};
 ghost use Rattle.lucy_meaning.specs.Horizons.{Suffice};
 ghost use Rattle.lucy_net.specs.Schedules.{IsSound};
 ghost use Rattle.lucy_cause.specs.Schedules.{events_at};
@@ -69,7 +70,7 @@ fn core_of(
 ) -> Result<Core, OutOfMemory>
     requires flat { IsFlat placed.now.nodes clocks.now net }
     requires sound { IsSound net (events_at schedule) }
-    requires operators { placed.now.operators ≡ length ops.now }
+    requires operators { HaveOperators (length ops.now) placed.now.nodes }
     requires suffice { Suffice (param_words placed.now.nodes clocks.now) inputs instants }
     requires early { instants ≤ 1048576 }
     ensures { IfOk result (λ core. core ≡ first_seen net schedule inputs ops.now instants) }

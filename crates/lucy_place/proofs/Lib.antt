@@ -23,7 +23,7 @@ mod NameLaws
 mod ResultLaws
 mod ProperNodes
 pub mod ProperPrograms
-mod OperatorLaws
+pub mod OperatorLaws
 mod WrittenPhrases
 mod NamedPhrases
 mod WrittenDefs

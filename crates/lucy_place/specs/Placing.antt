@@ -1,5 +1,5 @@
 -- What is told of a program: its places, or what is wrong with its names.
-use Rattle.std.specs.Prelude.{◌≡◌, ◌⊎◌, List, [], Err, length, map}
+use Rattle.std.specs.Prelude.{◌≡◌, ◌⊎◌, List, [], Err, map}
 use Rattle.lucy_host.specs.Operators.{Operator}
 use Rattle.lucy_tree.specs.View.{ProgramTree}
 use Rattle.lucy_place.specs.declared.error.NameError.{NameError}
@@ -22,4 +22,3 @@ pub record IsPlaced (ops : List Operator) (p : ProgramTree) (v : PlacedProgram) 
   pub good : faults ops p ≡ []
   pub nodes : v.nodes ≡ placed_nodes ops p
   pub unwritten : v.unwritten ≡ map first_unwritten p
-  pub operators : v.operators ≡ length ops

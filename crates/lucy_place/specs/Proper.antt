@@ -65,7 +65,7 @@ pub record IsProperNode (above : List PlacedNode) (n : PlacedNode) : Type 0 wher
   pub results : ArePlaces n n.results
   pub named : AreNamed n n.results
 
--- the numbers of operators of the host are below this one
+-- the operators of the host that the nodes name have numbers below this one
 abbrev pub HaveOperators : ℕ → List PlacedNode → Type 0
 HaveOperators count nodes = (i : ℕ) (n : PlacedNode) (p op a b : ℕ) → slice_get nodes i ≡ Some n → Stands n p (Host op a b) → op < count
 

@@ -2,7 +2,7 @@
 ghost use Rattle.std.specs.Prelude.{◌≡◌, ◌<◌, ◌≤◌, ◌↔◌, length, slice_get, take, IsTrue, Some, None};
 ghost use Rattle.lucy_word.specs.Limits.{limit_number};
 ghost use Rattle.lucy_word.specs.declared.limit.Limit.TheVariants as limit;
-ghost use Rattle.lucy_place.specs.Proper.{IsProperNode, AreProper, HaveOperators};
+ghost use Rattle.lucy_place.specs.Proper.{IsProperNode, AreProper};
 ghost use Rattle.lucy_place.specs.WrittenNodes.{IsWritten, TellWritten};
 
 use crate::lists::{Bounds, Calls, Numbers, Places};
@@ -22,14 +22,12 @@ pub struct PlacedNode {
     pub calls: Calls,
 }
 
-/// A program whose names are good, as numbered places. Nodes count from 0. Contracts see the list of its nodes, for each the
-/// first span that keeps it from being written, and how many operators the host has.
+/// A program whose names are good, as numbered places. Nodes count from 0. Contracts see the list of its nodes, and for each the
+/// first span that keeps it from being written.
 #[derive(Drop)]
 pub struct Placed {
     pub(crate) list: Vec<PlacedNode>,
     pub(crate) spans: Vec<Option<Span>>,
-    // How many operators the host has, to whose numbers all in the nodes are below.
-    pub(crate) operators: u32,
 }
 
 impl Model for Placed {
@@ -37,14 +35,14 @@ impl Model for Placed {
     ghost use Rattle.lucy_word.specs.Limits.{limit_number};
     ghost use Rattle.lucy_word.specs.declared.limit.Limit.TheVariants as limit;
     ghost use Rattle.lucy_place.specs.PlacedProgram.{PlacedProgram};
-    ghost use Rattle.lucy_place.specs.Proper.{AreProper, HaveOperators};
+    ghost use Rattle.lucy_place.specs.Proper.{AreProper};
     ghost use Rattle.lucy_place.specs.WrittenNodes.{TellWritten};
 
     ghost Value = { PlacedProgram };
 
-    ghost view = { λ placed. record { nodes = placed.list.items; unwritten = placed.spans.items; operators = placed.operators } };
+    ghost view = { λ placed. record { nodes = placed.list.items; unwritten = placed.spans.items } };
 
-    ghost invariant = { λ placed. (length placed.spans.items ≡ length placed.list.items) × (0 < length placed.list.items) × (length placed.list.items < 2 ^ 32) × (length placed.list.items ≤ limit_number limit.Nodes) × AreProper placed.list.items × TellWritten placed.list.items placed.spans.items × HaveOperators placed.operators placed.list.items };
+    ghost invariant = { λ placed. (length placed.spans.items ≡ length placed.list.items) × (0 < length placed.list.items) × (length placed.list.items < 2 ^ 32) × (length placed.list.items ≤ limit_number limit.Nodes) × AreProper placed.list.items × TellWritten placed.list.items placed.spans.items };
 }
 
 impl Placed {
@@ -55,7 +53,6 @@ impl Placed {
         ensures few { result ≤ limit_number limit.Nodes }
         ensures proper { AreProper self.now.nodes }
         ensures written { TellWritten self.now.nodes self.now.unwritten }
-        ensures operators { HaveOperators self.now.operators self.now.nodes }
     {
         self.list.len() as u32
     }

@@ -7,6 +7,7 @@ ghost use Rattle.lucy_place.specs.Streams.{text_of, streams, node_names};
 ghost use Rattle.lucy_place.specs.Faults.{verdict, def_faults, node_faults, nodes_faults, faults};
 ghost use Rattle.lucy_place.specs.Nodes.{placed_node, placed_below};
 ghost use Rattle.lucy_place.specs.Placing.{Tells, IsFirst, IsPlaced};
+ghost use Rattle.lucy_place.specs.Proper.{HaveOperators};
 ghost use Rattle.lucy_place.specs.Views.{within_of};
 
 use crate::error::NameError;
@@ -77,6 +78,7 @@ fn next_node<'p>(
 pub fn place(alloc: Global, program: &Program, ops: &Ops) -> Result<Placed, NameError>
     requires shaped { IsShapedProgram (program_tree program.now) }
     ensures ok { IfOk result (IsPlaced ops.now (program_tree program.now)) }
+    ensures operators { IfOk result (λ placed. HaveOperators (length ops.now) placed.nodes) }
     ensures refused { IfErr result (Tells (faults ops.now (program_tree program.now))) }
     ensures accepted { faults ops.now (program_tree program.now) ≡ [] → (result ≡ Err error.OutOfMemory) ⊎ IsOk result }
     ensures rejected { (e : NameError) → IsFirst (faults ops.now (program_tree program.now)) e → (result ≡ Err error.OutOfMemory) ⊎ (result ≡ Err e) }
@@ -94,9 +96,5 @@ pub fn place(alloc: Global, program: &Program, ops: &Ops) -> Result<Placed, Name
         push(&mut spans, first_unwritten(node))?;
         scope.add(node.name.text.bytes())?;
     }
-    Ok(Placed {
-        list,
-        spans,
-        operators: ops.count(),
-    })
+    Ok(Placed { list, spans })
 }

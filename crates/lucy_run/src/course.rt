@@ -3,6 +3,7 @@ ghost use Rattle.std.specs.Prelude.{◌≡◌, ◌≢◌, ◌≤◌, ◌<◌, �
 ghost use Rattle.lucy_word.specs.Bits.{ones_to};
 ghost use Rattle.lucy_host.specs.Host.{Serves, lent};
 ghost use Rattle.lucy_host.specs.Operators.{kinds_of};
+ghost use Rattle.lucy_place.specs.Proper.{HaveOperators};
 ghost use Rattle.lucy_net.specs.Schedules.{IsSound};
 ghost use Rattle.lucy_cause.specs.Schedules.{events_at};
 ghost use Rattle.lucy_flat.specs.Clocked.{AreClocked};
@@ -81,7 +82,7 @@ impl<'a> Course<'a> {
         requires flat { IsFlat placed.now.nodes clocks.now net }
         requires sound { IsSound net (events_at schedule) }
         requires serves { Serves F.pre F.post host.now }
-        requires known { placed.now.operators ≤ length (lent host.now) }
+        requires known { HaveOperators (length (lent host.now)) placed.now.nodes }
         requires inputs { length inputs.items ≡ params_in (main_of placed.now.nodes) }
         requires few { length inputs.items < 2 ^ 32 }
         requires pace { IsPace pace }

@@ -7,6 +7,7 @@ ghost use Rattle.lucy_host.specs.Operators.{kinds_of};
 ghost use Rattle.lucy_lines.specs.Fronts.{most_bytes};
 ghost use Rattle.lucy_feed.specs.Sources.{Stop, Read};
 ghost use Rattle.lucy_feed.specs.Feeding.{IsAsked};
+ghost use Rattle.lucy_place.specs.Proper.{HaveOperators};
 ghost use Rattle.lucy_meaning.specs.Spots.{main_of, results_in};
 ghost use Rattle.lucy_kahn.specs.Turns.{params_in};
 ghost use Rattle.lucy_flat.specs.Clocked.{AreClocked};
@@ -58,7 +59,7 @@ fn write_interpreted<F: Fn(u32, i64, i64) -> i64 + Sync, O: Sink>(
     requires scheduled { HasSchedule placed.now.nodes clocks.now }
     requires outputs { length outputs.now ≡ length (results_in (main_of placed.now.nodes)) }
     requires serves { Serves F.pre F.post host.now }
-    requires known { placed.now.operators ≤ length (lent host.now) }
+    requires known { HaveOperators (length (lent host.now)) placed.now.nodes }
     requires inputs { params_in (main_of placed.now.nodes) ≡ length feed.items }
     requires few { IfSome given (λ most. most ≤ limit_number limit.Instants) }
     ensures ends { (horizon : ℕ) × IsHorizonOf (param_words placed.now.nodes clocks.now) given feed.items horizon

@@ -1,11 +1,14 @@
 use Rattle.lucy_front.proofs.BoundedLaws.{bounded}
-use Rattle.lucy_front.proofs.OneAnswer.{text_proper}
+use Rattle.lucy_front.proofs.OneAnswer.{text_proper, text_operators}
 use Rattle.lucy_front.proofs.ScheduledLaws.{clocked}
 use Rattle.lucy_front.proofs.TellableLaws.{reportable}
 use Rattle.lucy_front.proofs.laws_accepted.accepted_programs_are_clocked.Goals as goal
 
 pub returns-clause-proper : goal.returns-clause-proper
 returns-clause-proper c = λ ops o text a is. text_proper ops o text a.placed is.clocked.program.program
+
+pub returns-clause-operators : goal.returns-clause-operators
+returns-clause-operators c = λ ops o text a is. text_operators ops o text a.placed is.clocked.program.program
 
 pub returns-clause-clocked : goal.returns-clause-clocked
 returns-clause-clocked c = λ ops o text a is. clocked a.placed.nodes a.clocks.items is.clocked.clocks

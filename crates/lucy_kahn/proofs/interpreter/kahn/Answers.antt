@@ -8,7 +8,7 @@ use Rattle.lucy_meaning.specs.Spots.{results_of}
 use Rattle.lucy_meaning.specs.Kahn.{kahn}
 use Rattle.lucy_kahn.specs.Turns.{AreThere, IsTurn, own_at}
 use Rattle.lucy_kahn.proofs.TurnLaws.{count_of_iterate, count_of_lists, places_there}
-use Rattle.lucy_kahn.proofs.RunLaws.{err_exit, more_operators, turn_of, run_first, run_more, passed_of, main_lists, main_results}
+use Rattle.lucy_kahn.proofs.RunLaws.{err_exit, turn_of, run_first, run_more, passed_of, main_lists, main_results}
 use Rattle.lucy_kahn.proofs.interpreter.kahn.Goals as goal
 
 pub turns-init : goal.turns-init
@@ -18,7 +18,7 @@ turns-init g c =
     run_first (kinds_of (lent c.args.host.now)) c.args.inputs.now c.args.placed.now.nodes _ _ all.paths _ all.instances (first (kinds_of (lent c.args.host.now)) c.args.inputs.now all.paths all.instances)
 
 pub next-requires-clause-known : goal.next-requires-clause-known
-next-requires-clause-known g c = λ κs h. more_operators c.args.placed.now.operators (length (lent c.args.host.now)) c.args.placed.now.nodes c.requires.known c.nodes.ensures.operators
+next-requires-clause-known g c = λ κs h. c.requires.known
 
 pub returns-in_err-lists-2-clause-limit : goal.returns-in_err-lists-2-clause-limit
 returns-in_err-lists-2-clause-limit g c =

@@ -12,6 +12,10 @@ param_words-words-requires c =
     subst (AreClocked c.args.accepted.placed.nodes) (sym c.deref.ensures.value)
     (c.accepted_programs_are_clocked.ensures.clocked c.args.ops.now c.requires.accepted.1 c.requires.accepted.0 c.args.accepted c.requires.accepted.2)
 
+pub core_of-requires-clause-operators : goal.core_of-requires-clause-operators
+core_of-requires-clause-operators c =
+    c.accepted_programs_are_clocked.ensures.operators c.args.ops.now c.requires.accepted.1 c.requires.accepted.0 c.args.accepted c.requires.accepted.2
+
 pub core_of-requires-clause-suffice : goal.core_of-requires-clause-suffice
 core_of-requires-clause-suffice c =
     let clocks = c.deref.ensures.value ∙ sym c.deref-3.ensures.value in

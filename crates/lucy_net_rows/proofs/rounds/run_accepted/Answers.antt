@@ -23,6 +23,10 @@ run_net-streams-requires-clause-inputs g c κs within =
     let counted : length (param_words nodes clocks) ≡ params_in (main_of nodes) = length-map-range_with_len (main_word nodes clocks) 1 (params_in (main_of nodes)) in
     sym counted ∙ sym (ap (λ (ws : List Bits). length ws) words) ∙ one ∙ sym c.requires.count
 
+pub run_net-streams-requires-clause-known : goal.run_net-streams-requires-clause-known
+run_net-streams-requires-clause-known g c κs within =
+    c.accepted_programs_are_clocked.ensures.operators (lent c.args.host.now) c.requires.accepted.1 c.requires.accepted.0 c.args.accepted c.requires.accepted.2
+
 pub run_net-streams-requires-clause-suffice : goal.run_net-streams-requires-clause-suffice
 run_net-streams-requires-clause-suffice g c κs within =
     let clocks = c.deref.ensures.value ∙ sym c.deref-3.ensures.value in

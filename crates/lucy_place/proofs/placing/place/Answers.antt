@@ -6,7 +6,6 @@ use Rattle.lucy_place.specs.Texts.{is_in}
 use Rattle.lucy_place.specs.Faults.{faults}
 use Rattle.lucy_word.specs.Limits.{limit_number}
 use Rattle.lucy_word.specs.declared.limit.Limit.TheVariants as limit
-use Rattle.lucy_place.specs.Proper.{HaveOperators}
 use Rattle.lucy_place.specs.Placing.{Tells}
 use Rattle.lucy_place.proofs.ListLaws.{drop_next, take_next}
 use Rattle.lucy_place.proofs.VerdictLaws.{leaves, accepted_by, rejected_by, out_of}
@@ -78,5 +77,13 @@ invariant_of-result c =
       omega (arith, l.0, m, few, same, k),
       sound.0,
       sound.1,
-      subst (λ most. HaveOperators most c.each.list.items) (sym c.count.ensures) sound.2,
     )
+
+pub returns-clause-operators : goal.returns-clause-operators
+returns-clause-operators c =
+    let nodes = c.list-nodes.result.now in
+    let i = c.each.i in
+    let inv = subst (λ r. NodesPlaced c.args.ops.now (map node_tree nodes) (map node_tree (take i nodes)) r c.each.scope c.each.list.items c.each.spans.items)
+    (ap (map node_tree) (drop_all i nodes c.each-test.false)) c.each.invariant in
+    let shape = subst (λ ns. IsShapedProgram (map node_tree ns)) (sym c.list-nodes.ensures) c.requires.shaped in
+    (placed_sound c.args.ops.now (map node_tree nodes) (map node_tree (take i nodes)) c.each.scope c.each.list.items c.each.spans.items inv shape).2

@@ -24,6 +24,10 @@ write_interpreted-requires-clause-clocked g c = λ κs within.
     subst (AreClocked c.args.accepted.placed.nodes) (sym c.deref.ensures.value)
     (c.accepted_programs_are_clocked.ensures.clocked (lent c.args.host.now) c.requires.accepted.1 c.requires.accepted.0 c.args.accepted c.requires.accepted.2)
 
+pub write_interpreted-requires-clause-known : goal.write_interpreted-requires-clause-known
+write_interpreted-requires-clause-known g c = λ κs within.
+    c.accepted_programs_are_clocked.ensures.operators (lent c.args.host.now) c.requires.accepted.1 c.requires.accepted.0 c.args.accepted c.requires.accepted.2
+
 pub write_interpreted-requires-clause-scheduled : goal.write_interpreted-requires-clause-scheduled
 write_interpreted-requires-clause-scheduled g c = λ κs within.
     let P : List NodeClock → Type 0 = λ u. HasSchedule c.args.accepted.placed.nodes u in

@@ -30,6 +30,10 @@ new-requires-clause-clocked g c κs within =
     subst (AreClocked c.args.accepted.placed.nodes) (sym c.deref-2.ensures.value)
     (c.accepted_programs_are_clocked.ensures.clocked (lent c.args.host.now) c.requires.accepted.1 c.requires.accepted.0 c.args.accepted c.requires.accepted.2)
 
+pub new-requires-clause-known : goal.new-requires-clause-known
+new-requires-clause-known g c κs within =
+    c.accepted_programs_are_clocked.ensures.operators (lent c.args.host.now) c.requires.accepted.1 c.requires.accepted.0 c.args.accepted c.requires.accepted.2
+
 pub new-requires-clause-few : goal.new-requires-clause-few
 new-requires-clause-few g c κs within = few_inputs _ c.requires.accepted.0 c.requires.accepted.1 c.args.accepted c.requires.accepted.2
 

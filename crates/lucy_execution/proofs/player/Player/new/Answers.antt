@@ -15,7 +15,7 @@ pub new-requires : goal.new-requires
 new-requires g c =
     let r = c.requires in
     subst (λ (ops : List Operator). IsFixed c.args.net c.args.schedule c.args.inputs ops c.args.instants) (sym c.ops.ensures)
-    (fixed c.args.placed.now.nodes c.args.clocks.now c.nodes.ensures.proper c.args.net r.flat c.args.schedule c.args.inputs (lent c.args.host.now) c.args.placed.now.operators c.args.instants c.nodes.ensures.operators r.known r.sound r.suffice r.early)
+    (fixed c.args.placed.now.nodes c.args.clocks.now c.nodes.ensures.proper c.args.net r.flat c.args.schedule c.args.inputs (lent c.args.host.now) c.args.instants r.known r.sound r.suffice r.early)
 
 pub run_core-requires-clause-unbegun : goal.run_core-requires-clause-unbegun
 run_core-requires-clause-unbegun g c κs within = λ a.

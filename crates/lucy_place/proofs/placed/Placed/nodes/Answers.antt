@@ -1,5 +1,5 @@
 use Rattle.std.proofs.Common.{ap, subst}
-use Rattle.lucy_place.specs.Proper.{AreProper, HaveOperators}
+use Rattle.lucy_place.specs.Proper.{AreProper}
 use Rattle.lucy_place.specs.WrittenNodes.{TellWritten}
 use Rattle.lucy_place.proofs.placed.Placed.nodes.Goals as goal
 
@@ -8,6 +8,3 @@ returns-clause-proper c = subst AreProper (ap (λ v. v.nodes) c.self.view_is) c.
 
 pub returns-clause-written : goal.returns-clause-written
 returns-clause-written c = subst (λ v. TellWritten v.nodes v.unwritten) c.self.view_is c.self.invariant.5
-
-pub returns-clause-operators : goal.returns-clause-operators
-returns-clause-operators c = subst (λ v. HaveOperators v.operators v.nodes) c.self.view_is c.self.invariant.6
