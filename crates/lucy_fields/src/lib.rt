@@ -7,4 +7,4 @@ mod fields;
 mod numbers;
 
 pub use fields::Fields;
-pub use numbers::number;
+pub use numbers::{int, number};

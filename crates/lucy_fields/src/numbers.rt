@@ -1,7 +1,7 @@
 // Numbers in decimal digits.
 ghost use Rattle.std.specs.Prelude.{◌≡◌};
 ghost use Rattle.std.specs.Str.{all_ascii_digits};
-ghost use Rattle.lucy_fields.specs.Numbers.{number_of};
+ghost use Rattle.lucy_fields.specs.Numbers.{number_of, negative_of, positive_of, int_of};
 
 use std::str;
 
@@ -35,4 +35,28 @@ pub fn number(bytes: &[u8], digits: usize, least: u64, most: u64) -> Option<u64>
         return None;
     }
     Some(number)
+}
+
+// The number that digits spell behind a `-`.
+fn negative(digits: &[u8]) -> Option<i64>
+    ensures { result ≡ negative_of digits.now }
+{
+    0i64.checked_sub_unsigned(number(digits, digits.len(), 0, 1 << 63)?)
+}
+
+// The number that digits spell.
+fn positive(digits: &[u8]) -> Option<i64>
+    ensures { result ≡ positive_of digits.now }
+{
+    Some(number(digits, digits.len(), 0, (1 << 63) - 1)? as i64)
+}
+
+/// The number of 64 bits that bytes spell: an optional `-`, and digits, of which there is one at least; leading zeros are fine.
+pub fn int(bytes: &[u8]) -> Option<i64>
+    ensures { result ≡ int_of bytes.now }
+{
+    match bytes.strip_prefix(b"-") {
+        Some(digits) => negative(digits),
+        None => positive(bytes),
+    }
 }
