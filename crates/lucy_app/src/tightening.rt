@@ -109,7 +109,8 @@ fn text_of(
     buffer: u32,
 ) -> Result<Vec<u8>, Refusal>
     requires { AreOptions options.now }
-    ensures outcome { IsOutcome (OwesText (RefusesCheck ops.now options.now) (OwesNamed ops.now options.now name.now buffer) Unread (Ok text.now ∷ [])) result }
+    ensures outcome { IsOutcome (OwesText (RefusesCheck ops.now options.now)
+        (OwesNamed ops.now options.now name.now buffer) Unread (Ok text.now ∷ [])) result }
     ensures tellable { IfErr result Tellable }
 {
     let accepted = match accept(alloc, text, ops, options) {
@@ -128,7 +129,8 @@ pub(crate) fn answer(
 ) -> Result<Vec<u8>, Refusal>
     requires { IsWithin (names.Tighten (tighten_named words)) }
     ensures outcome { IsOutcome (OwesText (RefusesCheck ops.now (inferring_options words.entry.scale words.entry.lead))
-        (OwesTight ops.now (inferring_options words.entry.scale words.entry.lead) (tighten_named words.entry)) Unread (bytes_of fetched ∷ [])) result }
+        (OwesTight ops.now (inferring_options words.entry.scale words.entry.lead) (tighten_named words.entry))
+        Unread (bytes_of fetched ∷ [])) result }
     ensures tellable { IfErr result Tellable }
 {
     let text = match fetched {
