@@ -7,6 +7,7 @@ pub mod RingWords
 pub mod ProperLaws
 pub mod FlatLaws
 pub mod NetLaws
+pub mod HeldLaws
 pub mod TopLaws
 pub mod InstanceLaws
 pub mod MadeLaws

@@ -11,9 +11,10 @@ use Rattle.lucy_flat.specs.declared.draft.Draft.{Draft}
 use Rattle.lucy_flat.specs.Clocked.{AreClocked}
 use Rattle.lucy_flat.specs.Counts.{IsSmall}
 use Rattle.lucy_flat.specs.Drafts.{AreDrafts}
-use Rattle.lucy_flat.specs.Assembly.{IsReadTooLong}
+use Rattle.lucy_flat.specs.Assembly.{IsReadTooLong, IsNetPast}
 use Rattle.lucy_flat.specs.Refusals.{IsWordTooLong, IsClockTooLong, RefusesFlat}
 use Rattle.lucy_flat.proofs.FlatLaws.{read_long}
+use Rattle.lucy_flat.proofs.NetLaws.{flat_net}
 
 refuses_word : (nodes : List PlacedNode) (clocks : List NodeClock) → IsSmall nodes clocks → IsWordTooLong nodes clocks → RefusesFlat nodes clocks (err.Limit lim.Word)
 refuses_word nodes clocks small long = inr (inl (refl, small, long))
@@ -25,10 +26,11 @@ refuses_clock nodes clocks e small why =
       | inr r ↦ subst (RefusesFlat nodes clocks) (sym r.0) (refuses_word nodes clocks small (inl r.1))
     ]
 
-pub refuses_read : (nodes : List PlacedNode) (clocks : List NodeClock) → AreProper nodes → AreClocked nodes clocks → (drafts : List Draft) → AreDrafts nodes clocks drafts → (e : FlatError) → IsSmall nodes clocks →
-    (e ≡ err.OutOfMemory) ⊎ ((e ≡ err.Limit lim.Word) × IsReadTooLong drafts) → RefusesFlat nodes clocks e
-refuses_read nodes clocks proper clocked drafts are e small why =
-    elim why [
-      | inl l ↦ subst (RefusesFlat nodes clocks) (sym l) tt
-      | inr r ↦ subst (RefusesFlat nodes clocks) (sym r.0) (refuses_word nodes clocks small (inr (read_long nodes clocks proper clocked drafts are r.1)))
-    ]
+pub refuses_net : (nodes : List PlacedNode) (clocks : List NodeClock) → AreProper nodes → AreClocked nodes clocks → (drafts : List Draft) → AreDrafts nodes clocks drafts → (e : FlatError) → IsSmall nodes clocks → (IsClockTooLong nodes clocks → ⊥) →
+    (e ≡ err.OutOfMemory) ⊎ ((e ≡ err.Limit lim.Word) × IsReadTooLong drafts) ⊎ ((e ≡ err.Limit lim.Bits) × IsNetPast drafts) → RefusesFlat nodes clocks e
+refuses_net nodes clocks proper clocked drafts are e small fits (inl none) = subst (RefusesFlat nodes clocks) (sym none) tt
+refuses_net nodes clocks proper clocked drafts are e small fits (inr (inl long)) =
+    subst (RefusesFlat nodes clocks) (sym long.0) (refuses_word nodes clocks small (inr (read_long nodes clocks proper clocked drafts are long.1)))
+refuses_net nodes clocks proper clocked drafts are e small fits (inr (inr past)) =
+    let p = past.1 in
+    subst (RefusesFlat nodes clocks) (sym past.0) (inr (inr (refl, p.net, flat_net nodes clocks proper clocked drafts p.net are p.is p.stored small fits p.fits, p.past)))

@@ -1,9 +1,12 @@
 -- The net of drafts: a ring for each operand, numbered by the taking actor and then by operand.
-use Rattle.std.specs.Prelude.{ℕ, zero, suc, ◌+◌, ◌<◌, ◌≡◌, ◌^◌, List, [], length, take, Option, Some, None, slice_get, nat_eq, sum_by}
+use Rattle.std.specs.Prelude.{ℕ, zero, suc, ◌+◌, ◌<◌, ◌≤◌, ◌≡◌, ◌^◌, List, [], All, length, take, Option, Some, None, slice_get, nat_eq, sum_by}
 use Rattle.std.specs.List.{range_with_len}
 use Rattle.lucy_tree.specs.Shaped.{HasZero}
 use Rattle.lucy_word.specs.Bits.{Bits}
+use Rattle.lucy_word.specs.Limits.{limit_number}
+use Rattle.lucy_word.specs.declared.limit.Limit.TheVariants as limit
 use Rattle.lucy_word.specs.Shortest.{IsShortest}
+use Rattle.lucy_word.specs.Stored.{IsStored}
 use Rattle.lucy_word.specs.Sampling.{IsOn, IsOnTooLong}
 use Rattle.lucy_word.specs.Complement.{turned}
 use Rattle.lucy_net.specs.declared.kind.ActorKind.{ActorKind}
@@ -12,7 +15,11 @@ use Rattle.lucy_net.specs.declared.net.Actor.{Actor}
 use Rattle.lucy_net.specs.declared.net.RingSpec.{RingSpec}
 use Rattle.lucy_net.specs.declared.net.Net.{Net}
 use Rattle.lucy_net.specs.Proper.{numbers_where}
+use Rattle.lucy_net.specs.Words.{ring_words, net_words}
 use Rattle.lucy_flat.specs.declared.draft.Draft.{Draft}
+use Rattle.lucy_flat.specs.declared.held.Held.{Held}
+use Rattle.lucy_flat.specs.Extents.{ring_bits}
+use Rattle.lucy_flat.specs.Refusals.{net_bits}
 
 abbrev pub reads_count : Draft → ℕ
 reads_count draft = length draft.reads.items
@@ -140,3 +147,31 @@ pub record AreRingsSoFar (drafts : List Draft) (to upto : ℕ) (rings : List Rin
       (ring : RingSpec) × (slice_get rings (first_ring drafts a + k) ≡ Some ring) × IsRingOf drafts a k from draft ring
   pub here : (k from : ℕ) (draft : Draft) → k < upto → slice_get drafts to ≡ Some draft → slice_get draft.reads.items k ≡ Some from →
       (ring : RingSpec) × (slice_get rings (first_ring drafts to + k) ≡ Some ring) × IsRingOf drafts to k from draft ring
+
+-- of these rings those are held whose words have together no more bits than are allowed: all, unless all have more
+pub record AreHeld (rings : List RingSpec) (held : Held) : Type 0 where
+  pub stored : All IsStored (ring_words rings)
+  pub most : held.bits ≤ sum_by ring_bits rings
+  pub all : held.bits ≤ limit_number limit.Bits → (held.rings.items ≡ rings) × (held.bits ≡ sum_by ring_bits rings)
+  pub few : sum_by ring_bits held.rings.items ≤ limit_number limit.Bits
+
+-- of the rings of the first drafts
+pub record AreRingsHeld (drafts : List Draft) (upto : ℕ) (held : Held) : Type 0 where
+  pub rings : List RingSpec
+  pub are : AreRingsOf drafts upto rings
+  pub holds : AreHeld rings held
+  pub words : (a : ℕ) (draft : Draft) → a < upto → slice_get drafts a ≡ Some draft → IsStored draft.word
+
+-- and of those of the first operands of the next one
+pub record AreRingsHeldSoFar (drafts : List Draft) (to upto : ℕ) (held : Held) : Type 0 where
+  pub rings : List RingSpec
+  pub are : AreRingsSoFar drafts to upto rings
+  pub holds : AreHeld rings held
+
+-- no word of the drafts' net is too long, and together they have more bits than are allowed
+pub record IsNetPast (drafts : List Draft) : Type 0 where
+  pub net : Net
+  pub is : IsAssembled drafts net
+  pub stored : All IsStored (net_words net)
+  pub fits : IsReadTooLong drafts → ⊥
+  pub past : limit_number limit.Bits < net_bits net

@@ -5,14 +5,15 @@ ghost use Rattle.lucy_word.specs.Shortest.{IsShortest};
 ghost use Rattle.lucy_word.specs.declared.limit.Limit.TheVariants as lim;
 ghost use Rattle.lucy_flat.specs.declared.error.FlatError.TheVariants as err;
 ghost use Rattle.lucy_flat.specs.declared.draft.Draft.{Draft as One};
-ghost use Rattle.lucy_flat.specs.Assembly.{reads_count, all_reads, IsReadOn, ReadsTooLong, HasKind, IsReady, IsRingOf, AreRingsOf, IsAssembled, IsReadTooLong, AreGiven, IsActorOf, AreActorsOf, IsFiring, IsSampling};
+ghost use Rattle.lucy_flat.specs.Assembly.{reads_count, all_reads, IsReadOn, ReadsTooLong, HasKind, IsReady, IsRingOf, AreRingsOf, AreRingsHeld, IsAssembled, IsReadTooLong, IsNetPast, AreGiven, IsActorOf, AreActorsOf, IsFiring, IsSampling};
 
 use crate::draft::Draft;
 use crate::error::FlatError;
 use crate::grow::push;
+use crate::held::{Held, hold};
 use crate::words::{copied, sampled, turned};
 use lucy_net::{Actor, ActorKind, Actors, Net, Numbers, RingSpec, Rings};
-use lucy_word::Word;
+use lucy_word::{Limit, Word, words_are_stored};
 use std::alloc::Global;
 
 // The word on which an actor takes an operand: a sampling when it is written, a merge where its word says so.
@@ -61,38 +62,38 @@ fn ring_of(
     })
 }
 
-// Puts the rings of an actor's operands.
-fn put_rings(
-    alloc: Global,
-    drafts: &[Draft],
-    to: usize,
-    rings: &mut Vec<RingSpec>,
-) -> Result<(), FlatError>
+// Holds the rings of an actor's operands.
+fn hold_rings(alloc: Global, drafts: &[Draft], to: usize, held: &mut Held) -> Result<(), FlatError>
     requires ready { IsReady drafts.now }
     requires to { to < length drafts.now }
-    requires before { AreRingsOf drafts.now to rings.old.items }
-    ensures ok { OnOk result (AreRingsOf drafts.now (to + 1) rings.new.items) }
+    requires before { AreRingsHeld drafts.now to held.old }
+    ensures ok { OnOk result (AreRingsHeld drafts.now (to + 1) held.new) }
     ensures refused { IfErr result (λ e. (e ≡ err.OutOfMemory) ⊎ ((e ≡ err.Limit lim.Word) × IsReadTooLong drafts.now)) }
 {
-    let count = drafts[to].reads.len();
+    let taker = &drafts[to];
+    words_are_stored(&taker.word);
+    let count = taker.reads.len();
     'each: for operand in 0..count {
         let next = ring_of(alloc, drafts, to, operand)?;
-        push(rings, next)?;
+        hold(held, next)?;
     }
     Ok(())
 }
 
-fn all_rings(alloc: Global, drafts: &[Draft]) -> Result<Vec<RingSpec>, FlatError>
+fn all_rings(alloc: Global, drafts: &[Draft]) -> Result<Held, FlatError>
     requires ready { IsReady drafts.now }
-    ensures ok { IfOk result (λ v. AreRingsOf drafts.now (length drafts.now) v.items) }
+    ensures ok { IfOk result (AreRingsHeld drafts.now (length drafts.now)) }
     ensures refused { IfErr result (λ e. (e ≡ err.OutOfMemory) ⊎ ((e ≡ err.Limit lim.Word) × IsReadTooLong drafts.now)) }
 {
-    let mut rings = Vec::new(alloc);
+    let mut held = Held {
+        rings: Vec::new(alloc),
+        bits: 0,
+    };
     let count = drafts.len();
     'each: for to in 0..count {
-        put_rings(alloc, drafts, to, &mut rings)?;
+        hold_rings(alloc, drafts, to, &mut held)?;
     }
-    Ok(rings)
+    Ok(held)
 }
 
 // Gives each ring to the draft from which it comes.
@@ -184,18 +185,32 @@ fn actors(alloc: Global, drafts: Vec<Draft>, rings: &[RingSpec]) -> Result<Vec<A
     Ok(actors)
 }
 
-/// The net of drafts: a ring for each operand, in order.
-pub fn assemble(alloc: Global, mut drafts: Vec<Draft>) -> Result<Net, FlatError>
-    requires { IsReady drafts.items }
+// The net of drafts with their rings.
+fn joined(alloc: Global, mut drafts: Vec<Draft>, rings: Vec<RingSpec>) -> Result<Net, FlatError>
+    requires ready { IsReady drafts.items }
+    requires rings { AreRingsOf drafts.items (length drafts.items) rings.items }
     ensures ok { IfOk result (IsAssembled drafts.items) }
-    ensures fits { IfOk result (λ net. IsReadTooLong drafts.items → ⊥) }
-    ensures refused { IfErr result (λ e. (e ≡ err.OutOfMemory) ⊎ ((e ≡ err.Limit lim.Word) × IsReadTooLong drafts.items)) }
+    ensures refused { IfErr result (λ e. e ≡ err.OutOfMemory) }
 {
-    let rings = all_rings(alloc, &drafts)?;
     hand_out(&mut drafts, &rings)?;
     let actors = actors(alloc, drafts, &rings)?;
     Ok(Net {
         actors: Actors::new(actors),
         rings: Rings::new(rings),
     })
+}
+
+/// The net of drafts: a ring for each operand, in order. `Limit(Bits)` comes where the words of the rings have together more bits
+/// than are allowed, and no word is too long; no more of these words are kept than are allowed.
+pub fn assemble(alloc: Global, drafts: Vec<Draft>) -> Result<Net, FlatError>
+    requires { IsReady drafts.items }
+    ensures ok { IfOk result (IsAssembled drafts.items) }
+    ensures fits { IfOk result (λ net. IsReadTooLong drafts.items → ⊥) }
+    ensures refused { IfErr result (λ e. (e ≡ err.OutOfMemory) ⊎ ((e ≡ err.Limit lim.Word) × IsReadTooLong drafts.items) ⊎ ((e ≡ err.Limit lim.Bits) × IsNetPast drafts.items)) }
+{
+    let Held { rings, bits } = all_rings(alloc, &drafts)?;
+    if bits > Limit::Bits.number() {
+        return Err(FlatError::Limit(Limit::Bits));
+    }
+    joined(alloc, drafts, rings)
 }

@@ -1,6 +1,5 @@
 // The flat net of a program.
 ghost use Rattle.std.specs.Prelude.{[], ◌≡◌, ◌⊎◌, ◌+◌, ◌<◌, ◌≤◌, ◌^◌, Some, length, OnOk, IfOk, IfErr, MatchResult};
-ghost use Rattle.lucy_word.specs.Bits.{bit_count};
 ghost use Rattle.lucy_word.specs.declared.limit.Limit.{Limit as Which};
 ghost use Rattle.lucy_word.specs.declared.limit.Limit.TheVariants as lim;
 ghost use Rattle.lucy_net.specs.declared.net.Net.{Net as Flat};
@@ -19,13 +18,13 @@ use crate::error::FlatError;
 use crate::extent::passed;
 use crate::grow::push;
 use crate::instance::{Program, put_instance};
-use crate::words::copied;
+use crate::words::{bits, copied};
 use lucy_clock::NodeClock;
 use lucy_meaning::sizes;
 use lucy_need::always;
 use lucy_net::{ActorKind, Net, net_words_are_stored};
 use lucy_place::Placed;
-use lucy_word::{Limit, Word};
+use lucy_word::Limit;
 use std::alloc::Global;
 
 // Puts the drafts of the outputs.
@@ -63,14 +62,6 @@ fn put_outputs(
         )?;
     }
     Ok(())
-}
-
-fn bits(word: &Word) -> u64
-    ensures is { result ≡ bit_count word.now }
-    ensures few { result ≤ 1048576 }
-{
-    let (prefix, period) = word.lengths();
-    prefix + period
 }
 
 // How many bits the words of a net have together.

@@ -6,7 +6,8 @@
 //! program is, it is the only one, and it is as large as its program says.
 //!
 //! First the net is counted (`extent.rt`), so that nothing is built past a limit. Then each instance in order puts the drafts of
-//! its actors (`instance.rt`, by a recursion on nodes), and the drafts are assembled to actors and rings (`assemble.rt`).
+//! its actors (`instance.rt`, by a recursion on nodes), and the drafts are assembled to actors and rings (`assemble.rt`), of
+//! which no more are held than are allowed (`held.rt`).
 #![tactic(auto)]
 
 mod assemble;
@@ -15,6 +16,7 @@ mod error;
 mod extent;
 mod flattening;
 mod grow;
+mod held;
 mod instance;
 mod laws;
 mod words;

@@ -1,6 +1,7 @@
 // Words on words.
-ghost use Rattle.std.specs.Prelude.{◌≡◌, ◌⊎◌, IfOk, IfErr};
+ghost use Rattle.std.specs.Prelude.{◌≡◌, ◌⊎◌, ◌≤◌, IfOk, IfErr};
 ghost use Rattle.lucy_tree.specs.Shaped.{HasZero};
+ghost use Rattle.lucy_word.specs.Bits.{bit_count};
 ghost use Rattle.lucy_word.specs.Complement.{turned as turned_word};
 ghost use Rattle.lucy_word.specs.Stored.{IsStored};
 ghost use Rattle.lucy_word.specs.Sampling.{IsOn, IsOnTooLong};
@@ -45,4 +46,13 @@ pub fn turned(alloc: Global, word: &Word) -> Result<Word, FlatError>
         Err(WordError::OutOfMemory) => Err(FlatError::OutOfMemory),
         Err(_) => unreachable!(),
     }
+}
+
+/// How many bits the word has.
+pub fn bits(word: &Word) -> u64
+    ensures is { result ≡ bit_count word.now }
+    ensures few { result ≤ 1048576 }
+{
+    let (prefix, period) = word.lengths();
+    prefix + period
 }

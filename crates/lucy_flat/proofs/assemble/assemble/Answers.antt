@@ -1,32 +1,24 @@
-use Rattle.std.proofs.Common.{ap, sym, ◌∙◌, subst, length}
-use Rattle.lucy_net.specs.declared.net.Net.{Net}
-use Rattle.lucy_flat.specs.Assembly.{AreRingsOf, AreGiven, AreActorsOf, IsAssembled}
-use Rattle.lucy_flat.proofs.GivingLaws.{count_all, given_kinds, given_all, assembled, rings_fit}
+use Rattle.std.proofs.Common.{length, subst, refl, inr, arith}
+use Rattle.std.proofs.lemmas.Result.{IfOk-weaker}
+use Rattle.lucy_flat.specs.Assembly.{AreRingsHeld}
+use Rattle.lucy_flat.proofs.HeldLaws.{net_past, all_held, held_fit}
 use Rattle.lucy_flat.proofs.assemble.assemble.Goals as goal
 
-pub actors-requires-clause-kinds : goal.actors-requires-clause-kinds
-actors-requires-clause-kinds c = given_kinds c.args.drafts.items c.hand_out.new.drafts.items c.deref-2.result.now c.in_ok-hand_out.ensures.ok c.requires
+pub returns-then-bits-number-clause-refused : goal.returns-then-bits-number-clause-refused
+returns-then-bits-number-clause-refused c =
+    let are = subst (λ t. AreRingsHeld t (length t) c.in_ok-rings.field-0) c.deref.ensures.value c.in_ok-rings.ensures.ok in
+    let past = c.if-bits-number.true in
+    let number = c.number.ensures in
+    inr (inr (refl, net_past c.args.drafts.items c.in_ok-rings.field-0 c.requires are (omega arith)))
 
-pub actors-requires-clause-all : goal.actors-requires-clause-all
-actors-requires-clause-all c =
-    let old = c.args.drafts.items in
-    let rings = c.in_ok-rings.rings.items in
-    let are = subst (λ t. AreRingsOf t (length t) rings) c.deref.ensures.value c.in_ok-rings.ensures.ok in
-    given_all old c.hand_out.new.drafts.items c.deref-2.result.now c.in_ok-hand_out.ensures.ok ∙ sym (count_all old) ∙ sym are.count ∙ ap length (sym c.deref-3.ensures.value)
-
-pub returns-clause-ok : goal.returns-clause-ok
-returns-clause-ok c =
-    let old = c.args.drafts.items in
-    let rings = c.in_ok-rings.rings.items in
-    let drafts = c.hand_out.new.drafts.items in
-    let actors = c.in_ok-actors.actors.items in
-    let are = subst (λ t. AreRingsOf t (length t) rings) c.deref.ensures.value c.in_ok-rings.ensures.ok in
-    let given = subst (λ t. AreGiven old t (length t) drafts) c.deref-2.ensures.value c.in_ok-hand_out.ensures.ok in
-    let all = subst (λ t. AreActorsOf t drafts actors) c.deref-3.ensures.value c.in_ok-actors.ensures.ok in
-    subst (λ t. let net : Net = record { actors = c.new.result; rings = t } in IsAssembled old net) (sym c.new-2.ensures)
-    (subst (λ t. let net : Net = record { actors = t; rings = rings } in IsAssembled old net) (sym c.new.ensures) (assembled old drafts rings given actors are all))
+pub joined-requires-clause-rings : goal.joined-requires-clause-rings
+joined-requires-clause-rings c =
+    let are = subst (λ t. AreRingsHeld t (length t) c.in_ok-rings.field-0) c.deref.ensures.value c.in_ok-rings.ensures.ok in
+    let few = c.if-bits-number.false in
+    let number = c.number.ensures in
+    all_held c.args.drafts.items c.in_ok-rings.field-0 are (omega arith)
 
 pub returns-clause-fits : goal.returns-clause-fits
 returns-clause-fits c =
-    let rings = c.in_ok-rings.rings.items in
-    rings_fit c.args.drafts.items rings (subst (λ t. AreRingsOf t (length t) rings) c.deref.ensures.value c.in_ok-rings.ensures.ok)
+    let are = subst (λ t. AreRingsHeld t (length t) c.in_ok-rings.field-0) c.deref.ensures.value c.in_ok-rings.ensures.ok in
+    IfOk-weaker c.joined.result _ _ (λ net is. held_fit c.args.drafts.items c.in_ok-rings.field-0 are) c.joined.ensures.ok

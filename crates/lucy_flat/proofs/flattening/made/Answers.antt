@@ -3,11 +3,11 @@ use Rattle.lucy_flat.specs.declared.error.FlatError.TheVariants as err
 use Rattle.lucy_word.specs.declared.limit.Limit.TheVariants as lim
 use Rattle.lucy_flat.specs.Refusals.{RefusesFlat, IsClockTooLong}
 use Rattle.std.specs.Prelude.{◌⊎◌}
-use Rattle.lucy_flat.specs.Assembly.{IsReadTooLong}
+use Rattle.lucy_flat.specs.Assembly.{IsReadTooLong, IsNetPast}
 use Rattle.lucy_flat.proofs.AssemblyLaws.{leaves}
 use Rattle.lucy_flat.proofs.FlatLaws.{ready}
 use Rattle.lucy_flat.proofs.NetLaws.{flat_net, actors_few, rings_few}
-use Rattle.lucy_flat.proofs.TopLaws.{refuses_clock, refuses_read}
+use Rattle.lucy_flat.proofs.TopLaws.{refuses_clock, refuses_net}
 use Rattle.lucy_flat.proofs.flattening.made.Goals as goal
 
 pub returns-in-Some-clause-refused : goal.returns-in-Some-clause-refused
@@ -28,9 +28,10 @@ pub returns-in_err-net-clause-refused : goal.returns-in_err-net-clause-refused
 returns-in_err-net-clause-refused c =
     let nodes = c.args.placed.now.nodes in
     let clocks = c.args.clocks.now in
-    leaves (λ e. (e ≡ err.OutOfMemory) ⊎ ((e ≡ err.Limit lim.Word) × IsReadTooLong c.in_ok-drafts.field-0.items)) (RefusesFlat nodes clocks) _
+    let drafts = c.in_ok-drafts.field-0.items in
+    leaves (λ e. (e ≡ err.OutOfMemory) ⊎ ((e ≡ err.Limit lim.Word) × IsReadTooLong drafts) ⊎ ((e ≡ err.Limit lim.Bits) × IsNetPast drafts)) (RefusesFlat nodes clocks) _
     c.from_residual-in_err-net.result c.from_residual-in_err-net.ensures.1 c.in_err-net.ensures.refused
-    (λ e why. refuses_read nodes clocks c.nodes-main.ensures.proper c.requires c.in_ok-drafts.field-0.items c.in_ok-drafts.ensures.ok e c.in_ok-drafts.ensures.small why)
+    (λ e why. refuses_net nodes clocks c.nodes-main.ensures.proper c.requires drafts c.in_ok-drafts.ensures.ok e c.in_ok-drafts.ensures.small c.in_ok-drafts.ensures.fits why)
 
 pub all_bits-requires-clause-actors : goal.all_bits-requires-clause-actors
 all_bits-requires-clause-actors c = actors_few c.args.placed.now.nodes c.args.clocks.now c.nodes-main.ensures.proper c.requires c.in_ok-drafts.field-0.items c.in_ok-net.net c.in_ok-drafts.ensures.ok c.in_ok-net.ensures.ok c.in_ok-drafts.ensures.small
