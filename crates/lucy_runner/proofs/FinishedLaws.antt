@@ -52,7 +52,7 @@ abbrev pub AreDone : List (List Part) → Type 0
 AreDone crew = (s k : ℕ) (parts : List Part) (p : Part) → slice_get crew s ≡ Some parts → slice_get parts k ≡ Some p → IsDone p
 
 -- then every actor has done its list
-over : (net : Net) (schedule : Timetable) (ops : List Operator) (instants before : ℕ) (crew : List (List Part)) (places : List Place) (ends : List Ends) →
+pub over : (net : Net) (schedule : Timetable) (ops : List Operator) (instants before : ℕ) (crew : List (List Part)) (places : List Place) (ends : List Ends) →
     IsStanding (seen_by net schedule ops instants crew places) before crew places ends → AreDone crew → IsOver (seen_by net schedule ops instants crew places)
 unfolding machine_on
 over net schedule ops instants before crew places ends standing done a =

@@ -27,6 +27,7 @@ pub mod BlockParts
 pub mod BlockLaws
 pub mod RoundLaws
 pub mod FinishedLaws
+mod FinishingLaws
 pub mod OutputLaws
 pub mod TurningLaws
 pub mod RunLaws

@@ -59,7 +59,7 @@ served_in net schedule ops operators instants before seats entry places ends sta
 abbrev pub back_in : ℕ → List Seat → List Seat → List Seat
 back_in n xs ys = take n (xs ++ drop (length xs) ys)
 
-written_back : (n : ℕ) (xs ys : List Seat) → length xs ≡ n → back_in n xs ys ≡ xs
+pub written_back : (n : ℕ) (xs ys : List Seat) → length xs ≡ n → back_in n xs ys ≡ xs
 written_back n xs ys e = take-append-le n xs (drop (length xs) ys) (omega arith) ∙ take_all n xs (omega arith)
 
 -- a round is over

@@ -1,7 +1,9 @@
--- What callers believe: a runner as contracts see it, and what a round and a block make of it.
+-- What callers believe: a runner as contracts see it, and what a round and a block make of it; and, for turns that a caller makes, what
+-- they leave of the workers.
 pub mod Views
 pub mod Rounds
 pub mod Blocks
+pub mod Finishing
 -- what only serves the proofs
 pub mod Crews
 pub mod Standing

@@ -19,3 +19,4 @@ mod seat;
 mod sitting;
 
 pub use runner::Runner;
+pub use seat::Seat;

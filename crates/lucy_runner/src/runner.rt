@@ -82,6 +82,9 @@ impl Runner {
     ghost use Rattle.lucy_runner.specs.Views.{first_runner, most_workers};
     ghost use Rattle.lucy_runner.specs.Blocks.{longer_inputs, grown_seen};
     ghost use Rattle.lucy_runner.specs.Rounds.{IsRoundTo};
+    ghost use Rattle.lucy_runner.specs.Crews.{crew_of};
+    ghost use Rattle.lucy_runner.specs.Turns.{AreServed};
+    ghost use Rattle.lucy_runner.specs.Finishing.{HaveFinished};
 
     /// A runner of a core without an event so far, by 1 to 64 workers: the actor of a number is in the worker that is its home. The list
     /// of an input that doesn't fire may be missing; it is an empty one. Each ring gets its size and one slot more. All memory that rounds use is made here.
@@ -170,6 +173,22 @@ impl Runner {
         let rings = self.net.rings.list();
         meet_all(seats, rings, self.places.as_slice(), self.ends.as_slice());
         moves
+    }
+
+    /// A round whose turns a closure makes, which lasts until every actor has done its list, and then a meeting of the two ends of every
+    /// ring. It takes no memory, and returns if the closure does.
+    pub fn round_by_turns<T: FnOnce(&mut [Seat])>(&mut self, turns: T)
+        requires { (seats : _) → AreServed (length self.old.seen.operators) (crew_of seats.now) → T.pre turns seats
+            × ((none : _) (after : _) → T.post turns seats none after →
+            HaveFinished (kinds_of self.old.seen.operators) seats.now after.now) }
+        ensures round { (moves : ℕ) × IsRoundTo self.old.seen self.new.seen moves }
+        ensures before { self.new.before ≡ self.old.before }
+        ensures finished { IsOver self.new.seen }
+    {
+        let seats = self.seats.as_mut_slice();
+        turns(seats);
+        let (places, ends) = (self.places.as_slice(), self.ends.as_slice());
+        meet_all(seats, self.net.rings.list(), places, ends);
     }
 
     // A round whose turns are made so.

@@ -21,9 +21,9 @@ use std::thread::Threads;
 
 /// A worker, and how many moves it made in its last turn.
 #[derive(Drop)]
-pub(crate) struct Seat {
+pub struct Seat {
     pub worker: Worker,
-    pub moves: u64,
+    pub(crate) moves: u64,
 }
 
 /// A turn of each worker, where there are several each in a thread of its own. Answers the number of moves.
