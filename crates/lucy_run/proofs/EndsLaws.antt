@@ -50,7 +50,7 @@ ends_whole words None lists None end (inl e) = subst IsWhole (sym e.0) tt
 ends_whole words None lists None end (inr e) = subst IsWhole (sym e.0) tt
 
 -- a run ends in some way
-some_ending : (words : List Bits) (given : Option ℕ) (lists : List (List ℤ)) (fault : Option TextFault) → (end : Ending) × EndsFor words given lists fault end
+pub some_ending : (words : List Bits) (given : Option ℕ) (lists : List (List ℤ)) (fault : Option TextFault) → (end : Ending) × EndsFor words given lists fault end
 some_ending words given lists (Some fault) = (ending.Input fault, refl)
 some_ending words (Some n) lists None = (ending.Done, refl)
 some_ending words None lists None = elim (suffice_either words lists (limit_number limit.Instants + 1)) [
@@ -141,7 +141,7 @@ empty_of (x ∷ xs) l = absurd (omega arith)
 pub on_err : {T E P : Type 0} (r : Result T E) (y : E) → r ≡ Err y → OnErr r P → P
 on_err {P = P} r y e h = subst (λ u. OnErr u P) e h
 
-take_front : (a b : List ℕ) → a ≡ take (length a) (a ++ b)
+pub take_front : (a b : List ℕ) → a ≡ take (length a) (a ++ b)
 take_front a b = sym (take-append-le (length a) a b (omega arith) ∙ take-length a)
 
 module _ (kinds : List HostKind) (a : Accepted) (given : Option ℕ) where

@@ -9,4 +9,5 @@ mod WriteLaws
 mod OverLaws
 pub mod AcceptedLaws
 mod EndsLaws
+mod EngineLaws
 mod RunLaws

@@ -1,9 +1,10 @@
 -- What a run owes, in the order to read it: how it goes, what main is fed, what stands on the output and how a run ends, what a call
--- leaves, laws, and a run from block to block.
+-- leaves, what an engine plays, laws, and a run from block to block.
 pub mod Paces
 pub mod Feeds
 pub mod Owes
 pub mod Ends
+pub mod Engines
 pub mod Laws
 pub mod Courses
 -- Below this line stands what only serves the proofs of the bodies.

@@ -1,10 +1,16 @@
 -- What the parts of a call leave on the sink.
-use Rattle.std.specs.Prelude.{ℕ, ◌≡◌, List}
+use Rattle.std.specs.Prelude.{ℕ, ℤ, ◌≡◌, ◌⊎◌, List, Option}
+use Rattle.lucy_host.specs.declared.kind.HostKind.{HostKind}
+use Rattle.lucy_lines.specs.declared.reader.TextFault.{TextFault}
 use Rattle.lucy_text.specs.Outside.{SeenSink, Writes, Fails}
 use Rattle.lucy_kahn.specs.declared.error.KahnError.{KahnError}
 use Rattle.lucy_kahn.specs.declared.error.KahnError.TheVariants as error
+use Rattle.lucy_execution.specs.Streams.{main_streams}
+use Rattle.lucy_front.specs.declared.accepted.Accepted.{Accepted}
 use Rattle.lucy_run.specs.declared.ending.Ending.{Ending}
 use Rattle.lucy_run.specs.declared.ending.Ending.TheVariants as ending
+use Rattle.lucy_run.specs.declared.playing.Played.{Played}
+use Rattle.lucy_run.specs.Owes.{input_words, EndsFor, IsHorizonOf}
 
 -- the output that is owed with this ending was written; or a write of an output that is owed failed; or memory ran out before that
 abbrev pub LeavesOwed : (Owes : List ℕ → Ending → Type 0) → (before after : SeenSink) → (result : Ending) → Type 0
@@ -22,3 +28,16 @@ IsWhole end = Unit {0}
 abbrev pub refusal_ending : KahnError → Ending
 refusal_ending (error.Limit l) = ending.Limit l
 refusal_ending error.OutOfMemory = ending.OutOfMemory
+
+-- an engine has played what main is fed up to its horizon, and the run ends so once the lines are written
+pub record HasPlayed (kinds : List HostKind) (a : Accepted) (given : Option ℕ) (lists : List (List ℤ)) (fault : Option TextFault)
+    (played : Played) : Type 0 where
+  pub horizon_is : IsHorizonOf (input_words a) given lists played.horizon
+  pub streams_are : played.streams ≡ main_streams kinds lists a.placed.nodes a.clocks.items played.horizon
+  pub ends : EndsFor (input_words a) given lists fault played.ending
+
+-- these lines were written, and the run ends so; or a write of them failed; or memory ran out before that
+abbrev pub LeavesWritten : (lines : List ℕ) → Ending → (before after : SeenSink) → (result : Ending) → Type 0
+LeavesWritten lines end before after result =
+    ((result ≡ end) × Writes before after lines) ⊎ ((result ≡ ending.WriteFault) × Fails before after lines)
+    ⊎ ((result ≡ ending.OutOfMemory) × (after ≡ before))

@@ -9,16 +9,20 @@
 
 mod course;
 mod ending;
+mod engine;
 mod feeding;
 mod horizons;
 mod interpreting;
 mod laws;
 mod pace;
+mod playing;
 mod running;
 
 pub use course::Course;
 pub use ending::Ending;
+pub use engine::{ClosureEngine, Engine};
 pub use interpreting::kahn;
 pub use laws::{faultless_runs_are_done, one_interpretation, one_run, runs_print_what_kahn_prints};
 pub use pace::Pace;
+pub use playing::run_by;
 pub use running::run;

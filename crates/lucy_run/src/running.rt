@@ -25,8 +25,8 @@ use lucy_worker::Gate;
 use std::alloc::Global;
 use std::thread::Threads;
 
-// The report and the line `run`.
-fn heading(alloc: Global, accepted: &Accepted) -> Result<Vec<u8>, OutOfMemory>
+/// The report and the line `run`.
+pub(crate) fn heading(alloc: Global, accepted: &Accepted) -> Result<Vec<u8>, OutOfMemory>
     requires { (ops : List Operator) × (text : List ℕ) × (options : Options) × IsAccepted ops options text accepted.now }
     ensures { IfOk result (λ v. v.items ≡ owes.heading accepted.now) }
 {

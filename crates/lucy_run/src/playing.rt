@@ -1,0 +1,178 @@
+// The command `run` on an accepted program, by an engine that is handed in.
+ghost use Rattle.std.specs.Prelude.{◌≡◌, ◌≢◌, ◌≤◌, ℕ, List, [], None, length, IfOk, IfSome};
+ghost use Rattle.lucy_word.specs.Limits.{limit_number};
+ghost use Rattle.lucy_word.specs.declared.limit.Limit.TheVariants as limit;
+ghost use Rattle.lucy_host.specs.Host.{lent};
+ghost use Rattle.lucy_host.specs.Operators.{kinds_of};
+ghost use Rattle.lucy_lines.specs.Fronts.{most_bytes};
+ghost use Rattle.lucy_feed.specs.Sources.{Stop, Read};
+ghost use Rattle.lucy_feed.specs.Feeding.{IsAsked};
+ghost use Rattle.lucy_meaning.specs.Spots.{main_of};
+ghost use Rattle.lucy_kahn.specs.Turns.{params_in};
+ghost use Rattle.lucy_output.specs.Outputs.{output_text};
+ghost use Rattle.lucy_flat.specs.Clocked.{AreClocked};
+ghost use Rattle.lucy_runner.specs.Views.{most_workers};
+ghost use Rattle.lucy_front.specs.declared.options.Options.{Options};
+ghost use Rattle.lucy_front.specs.Accepting.{IsAccepted};
+ghost use Rattle.lucy_front.specs.Report.{IsReportable};
+ghost use Rattle.lucy_run.specs.Feeds.{CountsAs};
+ghost use Rattle.lucy_run.specs.Owes.{OwesRun};
+ghost use Rattle.lucy_run.specs.Ends.{EndsWith};
+ghost use Rattle.lucy_run.specs.Steps.{HasPlayed, LeavesWritten};
+
+use crate::ending::Ending;
+use crate::engine::Engine;
+use crate::feeding::main_feed;
+use crate::horizons::{ending_for, most_instants};
+use crate::running::heading;
+use lucy_execution::{allows_more, horizon, lengths, param_words};
+use lucy_feed::Feed;
+use lucy_front::Accepted;
+use lucy_host::{Host, Inputs};
+use lucy_lines::InputSpec;
+use lucy_output::{OutputError, OutputSpec, write_outputs};
+use lucy_text::{Sink, Source, Text, write_all};
+use lucy_word::{Limit, OutOfMemory};
+use std::alloc::Global;
+
+/// What an engine has played: the streams of main's results up to a horizon, and how the run ends once their lines are written.
+#[derive(Drop)]
+pub(crate) struct Played {
+    pub streams: Inputs,
+    pub horizon: u64,
+    pub ending: Ending,
+}
+
+// A copy of an input.
+fn copied(alloc: Global, input: &InputSpec) -> Result<InputSpec, OutOfMemory>
+    ensures { IfOk result (λ copy. copy ≡ input.now) }
+{
+    let name = Text::new(alloc, input.name.bytes())?;
+    Ok(InputSpec {
+        name,
+        holds: input.holds,
+    })
+}
+
+// A copy of the inputs.
+fn copies(alloc: Global, inputs: &[InputSpec]) -> Result<Vec<InputSpec>, OutOfMemory>
+    ensures { IfOk result (λ copies. copies.items ≡ inputs.now) }
+{
+    let mut copies = Vec::new(alloc);
+    for input in inputs {
+        match copies.push(copied(alloc, input)?) {
+            Ok(()) => {}
+            Err(_) => return Err(OutOfMemory),
+        }
+    }
+    Ok(copies)
+}
+
+// Has the engine play the program on what main is fed, up to the horizon that its items allow, where these instants are given.
+fn play_by<N: Engine<F>, F>(
+    alloc: Global,
+    accepted: &Accepted,
+    host: &Host<F>,
+    given: Option<u64>,
+    workers: u32,
+    engine: &mut N,
+    feed: Feed,
+) -> Result<Played, OutOfMemory>
+    requires plays { N.plays engine.old host.now }
+    requires accepted { (text : List ℕ) × (options : Options) × IsAccepted (lent host.now) options text accepted.now }
+    requires clocked { AreClocked accepted.now.placed.nodes accepted.now.clocks.items }
+    requires inputs { params_in (main_of accepted.now.placed.nodes) ≡ length feed.items }
+    requires few { IfSome given (λ most. most ≤ limit_number limit.Instants) }
+    requires workers { (1 ≤ workers) × (workers ≤ most_workers) }
+    ensures { IfOk result (λ played. HasPlayed (kinds_of (lent host.now)) accepted.now given feed.items feed.stop played) }
+{
+    let Feed { items, stop } = feed;
+    let words = param_words(&accepted.placed, &accepted.clocks);
+    let counts = match lengths(alloc, &items, words.len()) {
+        Ok(counts) => counts,
+        Err(_) => return Err(OutOfMemory),
+    };
+    let horizon = horizon(words, &counts, most_instants(given));
+    let more = allows_more(words, &counts, Limit::Instants.number());
+    let streams = engine.play(alloc, accepted, host, items, horizon, workers)?;
+    Ok(Played {
+        streams,
+        horizon,
+        ending: ending_for(given, more, stop),
+    })
+}
+
+// Writes the lines of what was played.
+fn write_played<O: Sink>(
+    alloc: Global,
+    outputs: &[OutputSpec],
+    played: Played,
+    out: &mut O,
+) -> Ending
+    requires { length outputs.now ≤ length played.streams }
+    ensures written { LeavesWritten (output_text outputs.now played.streams played.horizon) played.ending
+        (O.seen out.old) (O.seen out.new) result }
+    ensures count { (O.seen out.old).faults ≤ (O.seen out.new).faults }
+{
+    let Played {
+        streams,
+        horizon,
+        ending,
+    } = played;
+    match write_outputs(alloc, outputs, &streams, horizon, out) {
+        Ok(()) => ending,
+        Err(OutputError::Failed) => Ending::WriteFault,
+        Err(OutputError::OutOfMemory) => Ending::OutOfMemory,
+    }
+}
+
+/// Runs an accepted program by an engine, as [`run`](crate::run) does, but in one piece: its report and the line `run` are written,
+/// then the input is read to its end or its first fault, then the engine plays the program by so many workers up to the horizon, and
+/// then the lines of its results are written. A main without inputs reads nothing. It returns if the engine does.
+///
+/// After a failed write nothing more is written, and nothing was read where it was a write of the report or of the line `run`.
+pub fn run_by<N: Engine<F>, F, I: Source, O: Sink>(
+    alloc: Global,
+    accepted: Accepted,
+    host: &Host<F>,
+    instants: Option<u64>,
+    workers: u32,
+    engine: &mut N,
+    source: &mut I,
+    out: &mut O,
+) -> Ending
+    requires plays { N.plays engine.old host.now }
+    requires accepted { (text : List ℕ) × (options : Options) × IsAccepted (lent host.now) options text accepted }
+    requires reportable { IsReportable accepted.placed.nodes accepted.typed accepted.clocks.items }
+    requires clocked { AreClocked accepted.placed.nodes accepted.clocks.items }
+    requires few { IfSome instants (λ given. given ≤ limit_number limit.Instants) }
+    requires workers { (1 ≤ workers) × (workers ≤ most_workers) }
+    requires given { accepted.inputs.items ≡ [] → instants ≢ None }
+    ensures ends { (taken : List ℕ) × (stop : Stop) × Read most_bytes (I.seen source.old) (I.seen source.new) taken stop
+        × IsAsked accepted.inputs.items taken × EndsWith (OwesRun (kinds_of (lent host.now)) accepted instants taken) (CountsAs stop) stop
+        (O.seen out.old) (O.seen out.new) result }
+    ensures unread { accepted.inputs.items ≡ [] → source.new ≡ source.old }
+    ensures source_count { (I.seen source.old).faults ≤ (I.seen source.new).faults }
+    ensures out_count { (O.seen out.old).faults ≤ (O.seen out.new).faults }
+{
+    let text = match heading(alloc, &accepted) {
+        Ok(text) => text,
+        Err(_) => return Ending::OutOfMemory,
+    };
+    let inputs = match copies(alloc, &accepted.inputs) {
+        Ok(inputs) => inputs,
+        Err(_) => return Ending::OutOfMemory,
+    };
+    match write_all(out, &text) {
+        Ok(()) => {}
+        Err(_) => return Ending::WriteFault,
+    }
+    let feed = match main_feed(alloc, inputs, source) {
+        Ok(feed) => feed,
+        Err(_) => return Ending::OutOfMemory,
+    };
+    match play_by(alloc, &accepted, host, instants, workers, engine, feed) {
+        Ok(played) => write_played(alloc, &accepted.outputs, played, out),
+        Err(_) => Ending::OutOfMemory,
+    }
+}
