@@ -14,6 +14,7 @@ mod lists;
 mod player;
 mod running;
 mod taken;
+mod turning;
 
 pub use clocks::{param_words, result_word};
 pub use instants::{allows_more, horizon};
@@ -26,3 +27,4 @@ pub use lists::lengths;
 pub use player::Player;
 pub use running::run_net;
 pub use taken::outputs_so_far;
+pub use turning::run_net_by_turns;
