@@ -18,6 +18,7 @@ mod Runs
 mod RunEnds
 mod Accepting
 mod Statuses
+mod Played
 mod Suited
 mod OneOutput
 mod Reports

@@ -97,7 +97,7 @@ tells_write_fault end err err' status is told =
     subst P (sym is) told
 
 -- nothing is called, and this is answered
-declines : (answer : Answer) (before after : World) (status : ℕ) → answer.out ≡ [] → after.shelf ≡ before.shelf → after.source ≡ before.source → after.out ≡ before.out →
+pub declines : (answer : Answer) (before after : World) (status : ℕ) → answer.out ≡ [] → after.shelf ≡ before.shelf → after.source ≡ before.source → after.out ≡ before.out →
     Tells answer.status answer.err before.err after.err status → Declines answer before after status
 declines answer before after status none shelf source out told = (shelf, source, record { printed = nothing_written before.out after.out answer.out out none; told = told })
 

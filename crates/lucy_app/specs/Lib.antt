@@ -18,6 +18,7 @@ pub mod Running
 pub mod Owes
 pub mod Ends
 pub mod Complete
+pub mod Engines
 pub mod Operators
 -- What only serves the proof of the body.
 pub mod Outcomes

@@ -5,6 +5,7 @@ ghost use Rattle.lucy_app.specs.World.{World, Given};
 ghost use Rattle.lucy_app.specs.Answers.{Answer, Alike, printed};
 ghost use Rattle.lucy_app.specs.Owes.{Owes};
 ghost use Rattle.lucy_app.specs.Complete.{MayPrint, Completes};
+ghost use Rattle.lucy_app.specs.Engines.{PlayingCompletes};
 
 use lucy_lines::one_cut;
 use lucy_meaning::one_horizon;
@@ -46,4 +47,11 @@ pub fn suited_commands_are_done()
     one_horizon();
     faultless_runs_are_done();
     one_tightest();
+}
+
+/// So is a run in one piece that an engine plays, if the call returns.
+pub fn suited_plays_are_done()
+    ensures { PlayingCompletes }
+{
+    suited_commands_are_done();
 }

@@ -19,6 +19,7 @@ mod operators;
 mod options;
 mod order;
 mod output;
+mod playing;
 mod refusal;
 mod report;
 mod running;
@@ -28,6 +29,8 @@ mod top;
 mod types;
 
 pub use input_refusal::InputCause;
-pub use laws::{one_answer, one_output, suited_commands_are_done};
+pub use laws::{one_answer, one_output, suited_commands_are_done, suited_plays_are_done};
+pub use lucy_run::{ClosureEngine, Engine};
 pub use operators::program_operators;
+pub use playing::run_with;
 pub use top::lucy;
