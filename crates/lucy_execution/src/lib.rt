@@ -2,7 +2,8 @@
 //!
 //! Begin with `specs/Streams.antt`, which says what the output streams are, by `lucy_meaning` and the nodes' clocks alone. The
 //! horizon that the items of the inputs allow is in `instants.rt`. `player.rt` runs the flat net of `lucy_flat` on the runner of
-//! `lucy_runner`, from horizon to horizon, and `taken.rt` asks what the outputs of a core took; `interpreting.rt` goes by the plain interpreter of `lucy_kahn`. Both answer what the one definition says.
+//! `lucy_runner`, from horizon to horizon, `turning.rt` once with the turns that a caller makes; `interpreting.rt` goes by the plain
+//! interpreter of `lucy_kahn`. All answer what the one definition says. `taken.rt` asks what the outputs of a core took so far, and
 //! `laws.rt` has what holds of these streams.
 #![tactic(auto)]
 

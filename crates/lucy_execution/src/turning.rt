@@ -3,6 +3,7 @@ ghost use Rattle.std.specs.Prelude.{◌≡◌, ◌≤◌, ◌<◌, All, length, 
 ghost use Rattle.lucy_word.specs.Limits.{limit_number};
 ghost use Rattle.lucy_word.specs.declared.limit.Limit.TheVariants as limit;
 ghost use Rattle.lucy_host.specs.Operators.{kinds_of};
+ghost use Rattle.lucy_place.specs.Proper.{HaveOperators};
 ghost use Rattle.lucy_meaning.specs.Spots.{main_of};
 ghost use Rattle.lucy_meaning.specs.Horizons.{Suffice};
 ghost use Rattle.lucy_kahn.specs.Turns.{params_in};
@@ -84,7 +85,7 @@ pub fn run_net_by_turns<T: FnOnce(&mut [Seat])>(
 ) -> Result<Inputs, OutOfMemory>
     requires flat { IsFlat placed.now.nodes clocks.now net }
     requires sound { IsSound net (events_at schedule) }
-    requires known { placed.now.operators ≤ length ops.now }
+    requires known { HaveOperators (length ops.now) placed.now.nodes }
     requires inputs { params_in (main_of placed.now.nodes) ≡ length inputs }
     requires suffice { Suffice (param_words placed.now.nodes clocks.now) inputs instants }
     requires early { instants ≤ limit_number limit.Instants }

@@ -10,11 +10,9 @@ ghost use Rattle.lucy_feed.specs.Feeding.{IsAsked};
 ghost use Rattle.lucy_meaning.specs.Spots.{main_of};
 ghost use Rattle.lucy_kahn.specs.Turns.{params_in};
 ghost use Rattle.lucy_output.specs.Outputs.{output_text};
-ghost use Rattle.lucy_flat.specs.Clocked.{AreClocked};
 ghost use Rattle.lucy_runner.specs.Views.{most_workers};
 ghost use Rattle.lucy_front.specs.declared.options.Options.{Options};
 ghost use Rattle.lucy_front.specs.Accepting.{IsAccepted};
-ghost use Rattle.lucy_front.specs.Report.{IsReportable};
 ghost use Rattle.lucy_run.specs.Feeds.{CountsAs};
 ghost use Rattle.lucy_run.specs.Owes.{OwesRun};
 ghost use Rattle.lucy_run.specs.Ends.{EndsWith};
@@ -27,7 +25,7 @@ use crate::horizons::{ending_for, most_instants};
 use crate::running::heading;
 use lucy_execution::{allows_more, horizon, lengths, param_words};
 use lucy_feed::Feed;
-use lucy_front::Accepted;
+use lucy_front::{Accepted, accepted_programs_are_clocked};
 use lucy_host::{Host, Inputs};
 use lucy_lines::InputSpec;
 use lucy_output::{OutputError, OutputSpec, write_outputs};
@@ -80,12 +78,12 @@ fn play_by<N: Engine<F>, F>(
 ) -> Result<Played, OutOfMemory>
     requires plays { N.plays engine.old host.now }
     requires accepted { (text : List ℕ) × (options : Options) × IsAccepted (lent host.now) options text accepted.now }
-    requires clocked { AreClocked accepted.now.placed.nodes accepted.now.clocks.items }
     requires inputs { params_in (main_of accepted.now.placed.nodes) ≡ length feed.items }
     requires few { IfSome given (λ most. most ≤ limit_number limit.Instants) }
     requires workers { (1 ≤ workers) × (workers ≤ most_workers) }
     ensures { IfOk result (λ played. HasPlayed (kinds_of (lent host.now)) accepted.now given feed.items feed.stop played) }
 {
+    accepted_programs_are_clocked();
     let Feed { items, stop } = feed;
     let words = param_words(&accepted.placed, &accepted.clocks);
     let counts = match lengths(alloc, &items, words.len()) {
@@ -143,8 +141,6 @@ pub fn run_by<N: Engine<F>, F, I: Source, O: Sink>(
 ) -> Ending
     requires plays { N.plays engine.old host.now }
     requires accepted { (text : List ℕ) × (options : Options) × IsAccepted (lent host.now) options text accepted }
-    requires reportable { IsReportable accepted.placed.nodes accepted.typed accepted.clocks.items }
-    requires clocked { AreClocked accepted.placed.nodes accepted.clocks.items }
     requires few { IfSome instants (λ given. given ≤ limit_number limit.Instants) }
     requires workers { (1 ≤ workers) × (workers ≤ most_workers) }
     requires given { accepted.inputs.items ≡ [] → instants ≢ None }

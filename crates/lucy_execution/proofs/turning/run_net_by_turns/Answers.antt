@@ -19,7 +19,7 @@ pub new-requires : goal.new-requires
 new-requires g c =
     let r = c.requires in
     fixed c.args.placed.now.nodes c.args.clocks.now c.nodes.ensures.proper c.args.net r.flat c.args.schedule c.args.inputs c.args.ops.now
-    c.args.placed.now.operators c.args.instants c.nodes.ensures.operators r.known r.sound r.suffice r.early
+    c.args.instants r.known r.sound r.suffice r.early
 
 pub turn_core-requires-clause-flat : goal.turn_core-requires-clause-flat
 turn_core-requires-clause-flat g c =
