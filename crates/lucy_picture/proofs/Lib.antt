@@ -1,0 +1,3 @@
+mod ChartLaws
+mod TurnLaws
+mod FillLaws

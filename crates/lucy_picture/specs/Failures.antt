@@ -1,0 +1,9 @@
+-- Why nothing is printed, as it can be told.
+use Rattle.lucy_front.specs.Refusals.{IsTellable}
+use Rattle.lucy_picture.specs.declared.view.failure.Failure.{Failure}
+use Rattle.lucy_picture.specs.declared.view.failure.Failure.TheVariants.{Program}
+
+-- a program is refused for a reason that has a text
+abbrev pub Tellable : Failure → Type 0
+Tellable (Program refusal) = IsTellable refusal
+Tellable failure = Unit {0}

@@ -1,0 +1,57 @@
+// Why nothing is printed.
+ghost use Rattle.std.specs.Prelude.{◌≡◌};
+ghost use Rattle.lucy_picture.specs.Failures.{Tellable};
+ghost use Rattle.lucy_picture.specs.declared.view.failure.Failure.TheVariants.{Program, OutOfMemory};
+
+use lucy_text::ShelfError;
+use lucy_word::{Limit, OutOfMemory};
+use std::alloc::AllocError;
+
+/// Why nothing is printed.
+#[derive(Drop)]
+pub(crate) enum Failure {
+    /// The program is refused.
+    Program(lucy_front::Refusal),
+    /// What the words ask for isn't there.
+    Words(&'static str),
+    /// A fetch failed, or no file has the name.
+    ReadFault,
+    /// Memory ran out.
+    OutOfMemory,
+}
+
+impl From<AllocError> for Failure {
+    ghost from_gives = { λ _ e. e ≡ OutOfMemory };
+
+    fn from(_: AllocError) -> Self {
+        Failure::OutOfMemory
+    }
+}
+
+impl From<OutOfMemory> for Failure {
+    ghost from_gives = { λ _ e. e ≡ OutOfMemory };
+
+    fn from(_: OutOfMemory) -> Self {
+        Failure::OutOfMemory
+    }
+}
+
+impl From<ShelfError> for Failure {
+    ghost from_gives = { λ _ e. Tellable e };
+
+    fn from(error: ShelfError) -> Self {
+        match error {
+            ShelfError::Failed | ShelfError::Missing => Failure::ReadFault,
+            ShelfError::TooLong => Failure::Program(lucy_front::Refusal::Limit(Limit::Text)),
+            ShelfError::OutOfMemory => Failure::OutOfMemory,
+        }
+    }
+}
+
+impl From<lucy_front::Refusal> for Failure {
+    ghost from_gives = { λ refusal e. e ≡ Program refusal };
+
+    fn from(refusal: lucy_front::Refusal) -> Self {
+        Failure::Program(refusal)
+    }
+}
