@@ -1,0 +1,48 @@
+//! The program: it hands its words, the files, the standard streams and the operators that `lucy` lends to the call that does all the
+//! work.
+#![tactic(auto)]
+
+use lucy_app::program_operators;
+use lucy_picture::look;
+use lucy_text::{RealShelf, RealSink};
+use std::alloc::Global;
+use std::env::{self, Env};
+use std::io::{self, ErrorKind};
+use std::process::ExitCode;
+
+// The words of the command line, the program's name first.
+fn words_of(rt: &(impl Env + AllocGlobal), alloc: Global) -> io::Result<Vec<String>> {
+    let mut words = Vec::new(alloc);
+    for word in env::args(rt)? {
+        words.push(word)?;
+    }
+    Ok(words)
+}
+
+// Says that memory ran out.
+fn out_of_memory(rt: &impl Eprint) -> ExitCode {
+    let _ = eprintln!(rt; "lucy: out of memory");
+    ExitCode::from(7)
+}
+
+fn main(rt: HostRuntime) -> ExitCode {
+    let alloc = rt.alloc();
+    let words = match words_of(&rt, alloc) {
+        Ok(words) => words,
+        Err(error) if error.kind() == ErrorKind::OutOfMemory => return out_of_memory(&rt),
+        // A word that is no text asks for nothing.
+        Err(_) => Vec::new(alloc),
+    };
+    let Ok(ops) = program_operators(alloc) else {
+        return out_of_memory(&rt);
+    };
+    let status = look(
+        alloc,
+        &words,
+        &ops,
+        &mut RealShelf::new(&rt),
+        &mut RealSink::new(rt.stdout()),
+        &mut RealSink::new(rt.stderr()),
+    );
+    ExitCode::from(status)
+}
