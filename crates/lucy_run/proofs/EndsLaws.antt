@@ -144,6 +144,22 @@ on_err {P = P} r y e h = subst (λ u. OnErr u P) e h
 pub take_front : (a b : List ℕ) → a ≡ take (length a) (a ++ b)
 take_front a b = sym (take-append-le (length a) a b (omega arith) ∙ take-length a)
 
+-- what is left of an output that is owed is left of one that is so too
+pub owed_more : (A B : List ℕ → Ending → Type 0) → ((output : List ℕ) (end : Ending) → A output end → B output end) → (was now : SeenSink) (result : Ending) → LeavesOwed A was now result → LeavesOwed B was now result
+owed_more A B more was now ending.WriteFault (output, end, owed, f) = (output, end, more output end owed, f)
+owed_more A B more was now ending.OutOfMemory left = left
+owed_more A B more was now ending.Done (output, owed, w) = (output, more output ending.Done owed, w)
+owed_more A B more was now (ending.Input f) (output, owed, w) = (output, more output (ending.Input f) owed, w)
+owed_more A B more was now (ending.Limit l) (output, owed, w) = (output, more output (ending.Limit l) owed, w)
+
+-- and so a call ends, of what is owed as reading stopped
+pub owed_ends : (Owes : Stop → List ℕ → Ending → Type 0) (stop : Stop) (was now : SeenSink) (result : Ending) → LeavesOwed (Owes stop) was now result → EndsWith Owes (λ counted. counted ≡ stop) stop was now result
+owed_ends Owes stop was now ending.WriteFault (output, end, owed, f) = (output, (stop, end, refl, owed), f)
+owed_ends Owes stop was now ending.OutOfMemory left = ([], inl refl, subst (λ u. Writes was u []) (sym left) (unwritten was))
+owed_ends Owes stop was now ending.Done left = left
+owed_ends Owes stop was now (ending.Input f) left = left
+owed_ends Owes stop was now (ending.Limit l) left = left
+
 module _ (kinds : List HostKind) (a : Accepted) (given : Option ℕ) where
   -- what a call of `run` leaves
   abbrev pub RunGives : (block : ℕ) (before after : SeenSource) (was now : SeenSink) → Ending → Type 0
@@ -310,17 +326,17 @@ module _ (kinds : List HostKind) (a : Accepted) (given : Option ℕ) where
     fed : IsFed a given taken stop lists fault horizon
     fed = record { feeds = feeds; horizon_is = horizon_is }
 
-    kahn_ends : (was now : SeenSink) (result : Ending) → LeavesOwed (Interprets kinds a.placed.nodes a.clocks.items a.outputs.items given lists fault horizon) was now result →
-        EndsWith (OwesKahn kinds a given taken) (λ counted. counted ≡ stop) stop was now result
-    kahn_ends was now ending.WriteFault (output, end, owed, f) = (output, (stop, end, refl, (lists, fault, horizon, fed, owed)), f)
-    kahn_ends was now ending.OutOfMemory left = ([], inl refl, subst (λ u. Writes was u []) (sym left) (unwritten was))
-    kahn_ends was now ending.Done (output, owed, w) = (output, (lists, fault, horizon, fed, owed), w)
-    kahn_ends was now (ending.Input f) (output, owed, w) = (output, (lists, fault, horizon, fed, owed), w)
-    kahn_ends was now (ending.Limit l) (output, owed, w) = (output, (lists, fault, horizon, fed, owed), w)
-
     pub kahn_over : (before after : SeenSource) (was now : SeenSink) (result : Ending) → Read most_bytes before after taken stop → IsAsked a.inputs.items taken →
         LeavesOwed (Interprets kinds a.placed.nodes a.clocks.items a.outputs.items given lists fault horizon) was now result → KahnGives before after was now result
-    kahn_over before after was now result read asked left = (taken, stop, read, asked, kahn_ends was now result left)
+    kahn_over before after was now result read asked left = (
+      taken,
+      stop,
+      read,
+      asked,
+      owed_ends (OwesKahn kinds a given taken) stop was now result
+          (owed_more (Interprets kinds a.placed.nodes a.clocks.items a.outputs.items given lists fault horizon) (OwesKahn kinds a given taken stop)
+          (λ output end owed. (lists, fault, horizon, fed, owed)) was now result left),
+    )
 
   -- memory ran out while the input was read
   pub kahn_given_up : (before after : SeenSource) (taken : List ℕ) (stop : Stop) (o : SeenSink) → Read most_bytes before after taken stop → IsAsked a.inputs.items taken → KahnGives before after o o ending.OutOfMemory

@@ -11,3 +11,4 @@ pub mod AcceptedLaws
 mod EndsLaws
 mod EngineLaws
 mod RunLaws
+mod ReplayLaws

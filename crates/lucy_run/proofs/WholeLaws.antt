@@ -120,7 +120,7 @@ feeds_whole cut pieces (input ∷ inputs) before after taken stop lists others f
 -- what is owed by such an input is owed by these lists, up to this horizon
 module _ (cut : OneCut) (pieces : CutInPieces) (horizons : OneHorizon) (a : Accepted) (given : Option ℕ) (before after : SeenSource) (taken : List ℕ) (stop : Stop) (lists : List (List ℤ)) (horizon : ℕ)
     (read : Read most_bytes before after taken stop) (well : Rose before.faults after.faults → ⊥) (fed : IsFedWell a given before.left lists horizon) where
-  owed_so : (P : List (List ℤ) → Option TextFault → ℕ → Type 0) (others : List (List ℤ)) (fault : Option TextFault) (last : ℕ) → IsFed a given taken stop others fault last → P others fault last → P lists None horizon
+  pub owed_so : (P : List (List ℤ) → Option TextFault → ℕ → Type 0) (others : List (List ℤ)) (fault : Option TextFault) (last : ℕ) → IsFed a given taken stop others fault last → P others fault last → P lists None horizon
   owed_so P others fault last is owed =
       let (same, none) = feeds_whole cut pieces a.inputs.items before after taken stop lists others fault read well fed.input is.feeds in
       let Q : List (List ℤ) → Type 0 = λ u. IsHorizonOf (input_words a) given u last in

@@ -1,6 +1,7 @@
 -- What a call that runs a program leaves on the sink.
-use Rattle.std.specs.Prelude.{ℕ, ℤ, ◌+◌, ◌≤◌, ◌≡◌, ◌⊎◌, List, [], ◌++◌, take, Option}
+use Rattle.std.specs.Prelude.{ℕ, ℤ, ◌+◌, ◌≤◌, ◌≡◌, ◌⊎◌, List, [], ◌++◌, take, Option, Result, Ok, Err}
 use Rattle.lucy_host.specs.declared.kind.HostKind.{HostKind}
+use Rattle.lucy_host.specs.Operators.{Operator}
 use Rattle.lucy_lines.specs.declared.reader.TextFault.{TextFault}
 use Rattle.lucy_feed.specs.Sources.{Stop, Unread}
 use Rattle.lucy_feed.specs.Feeding.{IsAsked}
@@ -9,6 +10,8 @@ use Rattle.lucy_run.specs.declared.ending.Ending.{Ending}
 use Rattle.lucy_run.specs.declared.ending.Ending.TheVariants as ending
 use Rattle.lucy_front.specs.declared.accepted.Accepted.{Accepted}
 use Rattle.lucy_run.specs.Feeds.{CountsAs, IsNeededFor}
+use Rattle.lucy_trace.specs.declared.error.TraceError.{TraceError}
+use Rattle.lucy_run.specs.Replays.{OwesReplay}
 use Rattle.lucy_run.specs.Owes.{IsFed, OwesRun, heading, input_words, lines_to}
 
 -- a front of an output that is owed; nothing is one, also where none is owed yet
@@ -54,3 +57,10 @@ pub record EndsRun (kinds : List HostKind) (a : Accepted) (given : Option ℕ) (
   pub asked : IsAsked a.inputs.items taken
   pub output : EndsWith (OwesRun kinds a given taken) (CountsAs stop) stop before after end
   pub in_order : end ≡ ending.WriteFault → FailsInOrder kinds a given block taken stop before after
+
+-- how `replay` ends: the output that is owed of the events stands there, or a front of it; or the first event that isn't possible is
+-- told, and nothing was written
+abbrev pub EndsReplay : List Operator → Accepted → (given : Option ℕ) → (picks taken : List ℕ) → Stop → (before after : SeenSink) → Result Ending TraceError → Type 0
+EndsReplay ops a given picks taken stop before after (Ok end) =
+    EndsWith (λ counted output way. OwesReplay ops a given picks taken counted output (Ok way)) (λ counted. counted ≡ stop) stop before after end
+EndsReplay ops a given picks taken stop before after (Err e) = OwesReplay ops a given picks taken stop [] (Err e) × (after ≡ before)

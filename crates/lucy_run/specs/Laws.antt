@@ -1,12 +1,16 @@
 -- Laws of what is owed.
-use Rattle.std.specs.Prelude.{ℕ, ℤ, ◌≡◌, ◌⊎◌, List, ◌++◌, Option, None}
+use Rattle.std.specs.Prelude.{ℕ, ℤ, ◌≡◌, ◌⊎◌, List, ◌++◌, Option, None, Result, Ok}
 use Rattle.lucy_word.specs.declared.limit.Limit.TheVariants as limit
 use Rattle.lucy_host.specs.declared.kind.HostKind.{HostKind}
+use Rattle.lucy_host.specs.Operators.{Operator}
 use Rattle.lucy_text.specs.Outside.{Rose, SeenSource}
 use Rattle.lucy_lines.specs.Fronts.{most_bytes}
 use Rattle.lucy_feed.specs.Sources.{Stop, Read}
 use Rattle.lucy_execution.specs.Running.{HasManyTurns, HasManyItems}
 use Rattle.lucy_front.specs.declared.accepted.Accepted.{Accepted}
+use Rattle.lucy_core.specs.Seen.{CanRun}
+use Rattle.lucy_trace.specs.declared.error.TraceError.{TraceError}
+use Rattle.lucy_run.specs.Replays.{first_core, IsReplayText, OwesReplay}
 use Rattle.lucy_run.specs.declared.ending.Ending.{Ending}
 use Rattle.lucy_run.specs.declared.ending.Ending.TheVariants as ending
 use Rattle.lucy_run.specs.Feeds.{IsInput}
@@ -45,3 +49,15 @@ abbrev pub CompleteInterpretation : Type 0
 CompleteInterpretation = (kinds : List HostKind) (a : Accepted) (given : Option ℕ) (before after : SeenSource) (taken : List ℕ) (stop : Stop) (lists : List (List ℤ)) (horizon : ℕ) (output : List ℕ) (end : Ending) →
     Read most_bytes before after taken stop → (Rose before.faults after.faults → ⊥) → IsFedWell a given before.left lists horizon → (HasManyTurns a.placed.nodes horizon → ⊥) →
     (HasManyItems kinds lists a.placed.nodes a.clocks.items horizon → ⊥) → OwesKahn kinds a given taken stop output end → (output ≡ lines_to kinds a lists horizon) × (end ≡ ending.Done)
+
+-- the bytes taken, how reading stopped and the events of a log owe one answer of `replay`
+abbrev pub OneReplay : Type 0
+OneReplay = (ops : List Operator) (a : Accepted) (given : Option ℕ) (picks taken : List ℕ) (stop : Stop) (output out : List ℕ) (result other : Result Ending TraceError) →
+    OwesReplay ops a given picks taken stop output result → OwesReplay ops a given picks taken stop out other → (output ≡ out) × (result ≡ other)
+
+-- By such an input, where the count of its source did not rise, events that are a run are replayed to their end, with the text of these
+-- events.
+abbrev pub CompleteReplay : Type 0
+CompleteReplay = (ops : List Operator) (a : Accepted) (given : Option ℕ) (before after : SeenSource) (picks taken : List ℕ) (stop : Stop) (lists : List (List ℤ)) (horizon : ℕ) (output : List ℕ) (result : Result Ending TraceError) →
+    Read most_bytes before after taken stop → (Rose before.faults after.faults → ⊥) → IsFedWell a given before.left lists horizon → CanRun (first_core ops a lists horizon) picks →
+    OwesReplay ops a given picks taken stop output result → IsReplayText (first_core ops a lists horizon) a.placed.nodes a.outputs.items picks output × (result ≡ Ok ending.Done)

@@ -1,5 +1,5 @@
 -- What the parts of a call leave on the sink.
-use Rattle.std.specs.Prelude.{ℕ, ℤ, ◌≡◌, ◌⊎◌, List, Option}
+use Rattle.std.specs.Prelude.{ℕ, ℤ, ◌≡◌, ◌⊎◌, List, Option, [], ◌++◌, Result, Ok, Err}
 use Rattle.lucy_host.specs.declared.kind.HostKind.{HostKind}
 use Rattle.lucy_lines.specs.declared.reader.TextFault.{TextFault}
 use Rattle.lucy_text.specs.Outside.{SeenSink, Writes, Fails}
@@ -7,6 +7,13 @@ use Rattle.lucy_kahn.specs.declared.error.KahnError.{KahnError}
 use Rattle.lucy_kahn.specs.declared.error.KahnError.TheVariants as error
 use Rattle.lucy_execution.specs.Streams.{main_streams}
 use Rattle.lucy_front.specs.declared.accepted.Accepted.{Accepted}
+use Rattle.lucy_place.specs.declared.placed.PlacedNode.{PlacedNode}
+use Rattle.lucy_core.specs.Seen.{Seen, state_of}
+use Rattle.lucy_execution.specs.Taking.{taken_lists}
+use Rattle.lucy_output.specs.declared.output.OutputSpec.{OutputSpec}
+use Rattle.lucy_output.specs.Outputs.{output_text}
+use Rattle.lucy_trace.specs.declared.error.TraceError.{TraceError}
+use Rattle.lucy_run.specs.Replays.{IsTally}
 use Rattle.lucy_run.specs.declared.ending.Ending.{Ending}
 use Rattle.lucy_run.specs.declared.ending.Ending.TheVariants as ending
 use Rattle.lucy_run.specs.declared.playing.Played.{Played}
@@ -41,3 +48,13 @@ abbrev pub LeavesWritten : (lines : List ℕ) → Ending → (before after : See
 LeavesWritten lines end before after result =
     ((result ≡ end) × Writes before after lines) ⊎ ((result ≡ ending.WriteFault) × Fails before after lines)
     ⊎ ((result ≡ ending.OutOfMemory) × (after ≡ before))
+
+-- what is judged was written; or an event isn't possible, and nothing was written
+abbrev pub LeavesJudged : (Judges : List ℕ → Result Ending TraceError → Type 0) → (before after : SeenSink) → Result Ending TraceError → Type 0
+LeavesJudged Judges before after (Ok end) = LeavesOwed (λ output way. Judges output (Ok way)) before after end
+LeavesJudged Judges before after (Err e) = Judges [] (Err e) × (after ≡ before)
+
+-- what a core prints that has done so many events: their tally, and the lines of the items that its outputs took
+abbrev pub IsPrinted : Seen → List PlacedNode → List OutputSpec → (count : ℕ) → (output : List ℕ) → Type 0
+IsPrinted core nodes outputs count output =
+    (tally : List ℕ) × IsTally core count tally × (output ≡ tally ++ output_text outputs (taken_lists nodes core.net (state_of core)) core.instants)

@@ -20,10 +20,10 @@ ghost use Rattle.lucy_run.specs.Ends.{EndsWith};
 ghost use Rattle.lucy_run.specs.Steps.{refusal_ending, LeavesOwed};
 
 use crate::ending::Ending;
+use crate::extent::extent_of;
 use crate::feeding::main_feed;
-use crate::horizons::{ending_for, most_instants};
 use lucy_clock::NodeClock;
-use lucy_execution::{allows_more, horizon, interpret, lengths, param_words};
+use lucy_execution::{interpret, param_words};
 use lucy_feed::Feed;
 use lucy_front::{Accepted, accepted_programs_are_clocked};
 use lucy_host::Host;
@@ -31,7 +31,6 @@ use lucy_kahn::KahnError;
 use lucy_output::{OutputError, OutputSpec, write_outputs};
 use lucy_place::Placed;
 use lucy_text::{Sink, Source};
-use lucy_word::Limit;
 use std::alloc::Global;
 
 // How the run ends where the interpreter gives no streams.
@@ -69,19 +68,16 @@ fn write_interpreted<F: Fn(u32, i64, i64) -> i64 + Sync, O: Sink>(
 {
     let Feed { items, stop } = feed;
     let words = param_words(placed, clocks);
-    let counts = match lengths(alloc, &items, words.len()) {
-        Ok(counts) => counts,
+    let extent = match extent_of(alloc, words, given, &items, stop) {
+        Ok(extent) => extent,
         Err(_) => return Ending::OutOfMemory,
     };
-    let horizon = horizon(words, &counts, most_instants(given));
-    let more = allows_more(words, &counts, Limit::Instants.number());
-    let ending = ending_for(given, more, stop);
-    let streams = match interpret(alloc, placed, clocks, host, &items, horizon) {
+    let streams = match interpret(alloc, placed, clocks, host, &items, extent.horizon) {
         Ok(streams) => streams,
         Err(error) => return refused(error),
     };
-    match write_outputs(alloc, outputs, &streams, horizon, out) {
-        Ok(()) => ending,
+    match write_outputs(alloc, outputs, &streams, extent.horizon, out) {
+        Ok(()) => extent.ending,
         Err(OutputError::Failed) => Ending::WriteFault,
         Err(OutputError::OutOfMemory) => Ending::OutOfMemory,
     }

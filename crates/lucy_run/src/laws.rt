@@ -1,6 +1,6 @@
 // Laws of what is owed, on functions that call the laws of feeds and horizons alone.
 ghost use Rattle.lucy_run.specs.Played.{LinesAgree, LinesByBlock};
-ghost use Rattle.lucy_run.specs.Laws.{OneRun, OneInterpretation, SameLines, CompleteRun, CompleteInterpretation};
+ghost use Rattle.lucy_run.specs.Laws.{OneRun, OneInterpretation, OneReplay, SameLines, CompleteRun, CompleteInterpretation, CompleteReplay};
 
 use lucy_execution::streams_go_on;
 use lucy_feed::one_feed;
@@ -24,6 +24,14 @@ pub fn one_interpretation()
     one_horizon();
 }
 
+/// They and the events of a log owe one answer of `replay`.
+pub fn one_replay()
+    ensures { OneReplay }
+{
+    one_feed();
+    one_horizon();
+}
+
 /// `run` and `kahn` owe the same lines and the same ending, unless the interpreter passes a limit of its own.
 pub fn runs_print_what_kahn_prints()
     ensures { SameLines }
@@ -33,10 +41,12 @@ pub fn runs_print_what_kahn_prints()
 }
 
 /// By an input that is told whole and has no fault, whose items allow no more instants than a run may have where none are given, a run
-/// is done and owes all its lines, where no count of its source rose; and so it is by the interpreter within its own limits.
+/// is done and owes all its lines, where no count of its source rose; and so it is by the interpreter within its own limits;
+/// and events that are a run are replayed to their end.
 pub fn faultless_runs_are_done()
     ensures run { CompleteRun }
     ensures interpretation { CompleteInterpretation }
+    ensures replay { CompleteReplay }
 {
     one_cut();
     cut_in_pieces();

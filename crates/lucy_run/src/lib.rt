@@ -1,4 +1,4 @@
-//! A program run from its input to its output lines: what the commands `run` and `kahn` do with an accepted program, a source and
+//! A program run from its input to its output lines: what the commands `run`, `kahn` and `replay` do with an accepted program, a source and
 //! a sink.
 //!
 //! It stands on `lucy_front` for accepted programs and their report, on `lucy_feed` for the items of the input, on `lucy_execution`
@@ -10,19 +10,24 @@
 mod course;
 mod ending;
 mod engine;
+mod extent;
 mod feeding;
 mod horizons;
 mod interpreting;
 mod laws;
 mod pace;
 mod playing;
+mod replaying;
 mod running;
 
 pub use course::Course;
 pub use ending::Ending;
 pub use engine::{ClosureEngine, Engine};
 pub use interpreting::kahn;
-pub use laws::{faultless_runs_are_done, one_interpretation, one_run, runs_print_what_kahn_prints};
+pub use laws::{
+    faultless_runs_are_done, one_interpretation, one_replay, one_run, runs_print_what_kahn_prints,
+};
 pub use pace::Pace;
 pub use playing::run_by;
+pub use replaying::replay;
 pub use running::run;

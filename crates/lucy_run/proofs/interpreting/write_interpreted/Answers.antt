@@ -6,12 +6,12 @@ use Rattle.lucy_execution.specs.Running.{Refuses}
 use Rattle.lucy_execution.specs.Streams.{param_words}
 use Rattle.lucy_execution.proofs.StreamLaws.{params_count}
 use Rattle.lucy_run.specs.Owes.{most_instants}
-use Rattle.lucy_run.proofs.HorizonLaws.{some_horizon, horizon_at, more_at}
+use Rattle.lucy_run.proofs.HorizonLaws.{some_horizon}
 use Rattle.lucy_run.proofs.EndsLaws.{on_ok, refused_ends, lines_interpreted, interpreted_failed}
 use Rattle.lucy_run.proofs.interpreting.write_interpreted.Goals as goal
 
-pub lengths-requires-clause-lists : goal.lengths-requires-clause-lists
-lengths-requires-clause-lists g c =
+pub extent_of-requires-clause-lists : goal.extent_of-requires-clause-lists
+extent_of-requires-clause-lists g c =
     sym (ap length c.param_words-words.ensures.words ∙ params_count c.args.placed.now.nodes c.args.clocks.now ∙ c.requires.inputs)
 
 pub returns-in-Err-clause-ends : goal.returns-in-Err-clause-ends
@@ -23,30 +23,28 @@ pub returns-in-Err-interpret-clause-ends : goal.returns-in-Err-interpret-clause-
 returns-in-Err-interpret-clause-ends g c =
     let kinds = kinds_of (lent c.args.host.now) in
     let words = c.param_words-words.result.now in
-    let refused = IfErr-at_err (Refuses kinds c.args.feed.items c.args.placed.now.nodes c.args.clocks.now c.horizon-horizon.result) c.in-Err-interpret.is c.interpret.ensures.refused in
-    let is = horizon_at words _ _ c.args.feed.items c.args.given _ c.horizon-horizon.result c.deref.ensures.value c.most_instants.ensures c.in-Ok.ensures.each c.horizon-horizon.ensures in
-    refused_ends kinds c.args.placed.now.nodes c.args.clocks.now c.args.outputs.now c.args.given c.args.feed.items c.args.feed.stop c.horizon-horizon.result words c.in-Err-interpret.error _
+    let refused = IfErr-at_err (Refuses kinds c.args.feed.items c.args.placed.now.nodes c.args.clocks.now c.in-Ok.extent.horizon) c.in-Err-interpret.is c.interpret.ensures.refused in
+    let is = c.in-Ok.ensures.horizon in
+    refused_ends kinds c.args.placed.now.nodes c.args.clocks.now c.args.outputs.now c.args.given c.args.feed.items c.args.feed.stop c.in-Ok.extent.horizon words c.in-Err-interpret.error _
     c.refused.result c.param_words-words.ensures.words is c.refused.ensures refused
 
 pub returns-in-Ok-write_outputs-clause-ends : goal.returns-in-Ok-write_outputs-clause-ends
 returns-in-Ok-write_outputs-clause-ends g c =
     let kinds = kinds_of (lent c.args.host.now) in
     let words = c.param_words-words.result.now in
-    let is = horizon_at words _ _ c.args.feed.items c.args.given _ c.horizon-horizon.result c.deref.ensures.value c.most_instants.ensures c.in-Ok.ensures.each c.horizon-horizon.ensures in
-    let more = more_at words _ _ c.args.feed.items _ c.allows_more-more.result c.deref-2.ensures.value c.number.ensures c.in-Ok.ensures.each c.allows_more-more.ensures in
-    lines_interpreted kinds c.args.placed.now.nodes c.args.clocks.now c.args.outputs.now c.args.given c.args.feed.items c.args.feed.stop c.horizon-horizon.result c.interpret.result
+    let is = c.in-Ok.ensures.horizon in
+    lines_interpreted kinds c.args.placed.now.nodes c.args.clocks.now c.args.outputs.now c.args.given c.args.feed.items c.args.feed.stop c.in-Ok.extent.horizon c.interpret.result
     c.in-Ok-interpret.streams c.in-Ok-interpret.is c.interpret.ensures.ok c.interpret.ensures.turns.1 c.interpret.ensures.items words c.param_words-words.ensures.words is
-    c.ending_for-ending.result _ _ (c.ending_for-ending.ensures words c.args.feed.items more) (on_ok _ _ c.in-Ok-write_outputs.is c.write_outputs.ensures.ok)
+    c.in-Ok.extent.ending _ _ c.in-Ok.ensures.ending (on_ok _ _ c.in-Ok-write_outputs.is c.write_outputs.ensures.ok)
 
 pub returns-in-Err-Failed-clause-ends : goal.returns-in-Err-Failed-clause-ends
 returns-in-Err-Failed-clause-ends g c =
     let kinds = kinds_of (lent c.args.host.now) in
     let words = c.param_words-words.result.now in
-    let is = horizon_at words _ _ c.args.feed.items c.args.given _ c.horizon-horizon.result c.deref.ensures.value c.most_instants.ensures c.in-Ok.ensures.each c.horizon-horizon.ensures in
-    let more = more_at words _ _ c.args.feed.items _ c.allows_more-more.result c.deref-2.ensures.value c.number.ensures c.in-Ok.ensures.each c.allows_more-more.ensures in
-    interpreted_failed kinds c.args.placed.now.nodes c.args.clocks.now c.args.outputs.now c.args.given c.args.feed.items c.args.feed.stop c.horizon-horizon.result c.interpret.result
+    let is = c.in-Ok.ensures.horizon in
+    interpreted_failed kinds c.args.placed.now.nodes c.args.clocks.now c.args.outputs.now c.args.given c.args.feed.items c.args.feed.stop c.in-Ok.extent.horizon c.interpret.result
     c.in-Ok-interpret.streams c.in-Ok-interpret.is c.interpret.ensures.ok c.interpret.ensures.turns.1 c.interpret.ensures.items words c.param_words-words.ensures.words is
-    c.ending_for-ending.result _ _ (c.ending_for-ending.ensures words c.args.feed.items more) (c.write_outputs.ensures.failed (c.in-Err-Failed.is ∙ ap Err c.in-Err-Failed.field-0-is))
+    c.in-Ok.extent.ending _ _ c.in-Ok.ensures.ending (c.write_outputs.ensures.failed (c.in-Err-Failed.is ∙ ap Err c.in-Err-Failed.field-0-is))
 
 pub returns-clause-ends : goal.returns-clause-ends
 returns-clause-ends g c =

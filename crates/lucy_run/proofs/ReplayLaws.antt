@@ -1,0 +1,220 @@
+-- What the replay of a log comes to.
+use Rattle.std.proofs.Common.{◌≡◌, ℕ, ◌+◌, ◌<◌, ◌≤◌, ◌⊎◌, Bool, true, false, List, [], ◌∷◌, ◌++◌, length, take, map, Option, Some, None, Result, Ok, Err, refl, ap, ap₂, sym, ◌∙◌, subst, inl, inr, arith}
+use Rattle.std.specs.Prelude.{ℤ, codes, nat_le, nat_lt, ◌&&◌, if◌then◌else◌, slice_get, decimal}
+use Rattle.std.proofs.lemmas.List.{take_all}
+use Rattle.std.proofs.lemmas.Option.{slice_get_within}
+use Rattle.std.proofs.lemmas.Bool.{ltb-true}
+use Rattle.lucy_word.specs.Bits.{Bits}
+use Rattle.lucy_word.specs.declared.error.OutOfMemory.{OutOfMemory}
+use Rattle.lucy_host.specs.Operators.{Operator}
+use Rattle.lucy_lines.specs.Fronts.{most_bytes}
+use Rattle.lucy_lines.specs.Laws.{OneCut, CutInPieces}
+use Rattle.lucy_lines.specs.declared.reader.TextFault.{TextFault}
+use Rattle.lucy_feed.specs.declared.feeds.Feed.{Feed}
+use Rattle.lucy_feed.specs.Sources.{Stop, Read}
+use Rattle.lucy_feed.specs.Feeding.{IsAsked, OneFeed}
+use Rattle.lucy_text.specs.Outside.{SeenSource, SeenSink, Writes, Fails}
+use Rattle.lucy_event.specs.Runs.{IsRun, none_done, step, between_from}
+use Rattle.lucy_event.specs.States.{State, IsSame, start, events}
+use Rattle.lucy_event.proofs.JoinedLaws.{length_longest}
+use Rattle.lucy_net.specs.declared.net.Actor.{Actor}
+use Rattle.lucy_core.specs.Seen.{Seen, CanRun, IsOver, IsUnbegun, after_picks, machine_of, order_of, done_of, state_of, state_on, first_ring, first_seen}
+use Rattle.lucy_trace.specs.Logs.{possible_of, IsFirstImpossible}
+use Rattle.lucy_trace.specs.declared.error.TraceError.{TraceError}
+use Rattle.lucy_trace.specs.declared.error.TraceError.TheVariants.{NotPossible}
+use Rattle.lucy_trace.proofs.RunLaws.{none_beyond}
+use Rattle.lucy_output.specs.declared.output.OutputSpec.{OutputSpec}
+use Rattle.lucy_output.specs.Outputs.{output_text, lines_after}
+use Rattle.lucy_output.specs.Writing.{WriterState, new_writer}
+use Rattle.lucy_output.proofs.OutputLaws.{lines_from_first}
+use Rattle.lucy_output.proofs.SinkLaws.{writes_more, fails_behind, fails_longer}
+use Rattle.lucy_place.specs.declared.placed.PlacedNode.{PlacedNode}
+use Rattle.lucy_place.specs.Proper.{HaveOperators}
+use Rattle.lucy_clock.specs.declared.node_clock.NodeClock.{NodeClock}
+use Rattle.lucy_execution.specs.Streams.{param_words}
+use Rattle.lucy_execution.specs.Taking.{taken_lists}
+use Rattle.lucy_front.specs.declared.accepted.Accepted.{Accepted}
+use Rattle.lucy_run.specs.declared.ending.Ending.{Ending}
+use Rattle.lucy_run.specs.declared.ending.Ending.TheVariants as ending
+use Rattle.lucy_run.specs.Feeds.{IsMainFeed}
+use Rattle.lucy_run.specs.Owes.{input_words, IsHorizonOf, EndsFor, IsFed}
+use Rattle.lucy_run.specs.Replays.{first_core, SaysOver, IsTally, IsReplayText, Judges, OwesReplay}
+use Rattle.lucy_run.specs.Ends.{EndsWith, EndsReplay}
+use Rattle.lucy_run.specs.Laws.{IsFedWell, CompleteReplay}
+use Rattle.lucy_run.specs.Steps.{IsWhole, LeavesOwed, LeavesJudged, IsPrinted}
+use Rattle.lucy_run.proofs.OwesLaws.{OneHorizon, fed_once, ends_once, carried, done_for}
+use Rattle.lucy_run.proofs.WholeLaws.{owed_so}
+use Rattle.lucy_run.proofs.EndsLaws.{owed_written, owed_more, owed_ends}
+
+if_neither : (b c : Bool) (xs ys : List ℕ) → c ≡ false → (if b && c then xs else ys) ≡ ys
+if_neither true true xs ys e = absurd (cc e)
+if_neither true false xs ys e = refl
+if_neither false c xs ys e = refl
+
+not_below : (n : ℕ) (b : Bool) → nat_lt n 0 ≡ b → b ≡ false
+not_below n false e = refl
+not_below n true e = let low : n < 0 = ltb-true n 0 e in absurd (omega arith)
+
+-- nothing is between where nothing is done
+none_between : (high begun : ℕ → ℕ) (order : List ℕ) → ((a : ℕ) → high a ≡ 0) → between_from none_done high begun order ≡ []
+none_between high begun [] none = refl
+none_between high begun (a ∷ order) none =
+    if_neither (nat_le (none_done a) (begun a)) (nat_lt (begun a) (high a)) _ _ (ap (nat_lt (begun a)) (none a) ∙ not_below (begun a) _ refl)
+    ∙ none_between high (step begun a) order none
+
+-- a core without an event so far is where events start
+unbegun_start : (first : Seen) → IsUnbegun first → state_of first ≡ start
+unfolding state_on
+unbegun_start first none = ap (events (machine_of first) start) (none_between (done_of first.done) none_done (order_of first) none)
+
+taken_same : (actors : List Actor) (s t : State) → ((r : ℕ) → s.took r ≡ t.took r) →
+    map (λ (actor : Actor). s.took (first_ring actor)) actors ≡ map (λ (actor : Actor). t.took (first_ring actor)) actors
+taken_same [] s t same = refl
+taken_same (actor ∷ actors) s t same = ap₂ (λ xs rest. xs ∷ rest) (same (first_ring actor)) (taken_same actors s t same)
+
+-- all events of a run are possible
+run_possible : (seen : Seen) (picks : List ℕ) → CanRun seen picks → take (possible_of seen picks) picks ≡ picks
+run_possible seen picks run =
+    let sys = (machine_of seen).sys in
+    let done : ℕ → ℕ = done_of seen.done in
+    let all : length picks ≤ possible_of seen picks =
+    length_longest sys done picks (length picks) (omega arith) (subst (IsRun sys done) (sym (take_all (length picks) picks (omega arith))) run) in
+    take_all (possible_of seen picks) picks all
+
+-- events with one that isn't possible are no run
+impossible_run : (seen : Seen) (picks : List ℕ) (e : TraceError) → IsFirstImpossible seen picks e → CanRun seen picks → ⊥
+impossible_run seen picks e (actor, is, at) run = none_beyond (machine_of seen).sys (done_of seen.done) picks (slice_get_within picks (possible_of seen picks) actor at) run
+
+module _ (first : Seen) (nodes : List PlacedNode) (outputs : List OutputSpec) (picks : List ℕ) where
+  -- what a core prints behind a run is the text of these events
+  pub printed_text : IsUnbegun first → IsSame (state_of (after_picks first picks)) (events (machine_of first) (state_of first) picks) → (output : List ℕ) →
+      IsPrinted (after_picks first picks) nodes outputs (length picks) output → IsReplayText first nodes outputs picks output
+  printed_text none same output (tally, is, text) =
+      let s : State = state_of (after_picks first picks) in
+      let t : State = events (machine_of first) start picks in
+      let took : (r : ℕ) → s.took r ≡ t.took r = λ r. same.took r ∙ ap (λ (u : State). (events (machine_of first) u picks).took r) (unbegun_start first none) in
+      (tally, is, text ∙ ap (λ lists. tally ++ output_text outputs lists first.instants) (taken_same _ s t took))
+
+  -- and so a core that did the events leaves what they come to
+  pub judged_run : (core : Seen) → IsUnbegun first → CanRun first picks → IsSame (state_of (after_picks first picks)) (events (machine_of first) (state_of first) picks) →
+      core ≡ after_picks first (take (possible_of first picks) picks) → (end result : Ending) (was now : SeenSink) →
+      LeavesOwed (λ output way. IsPrinted core nodes outputs (length picks) output × (way ≡ end)) was now result →
+      (words : List Bits) (given : Option ℕ) (lists : List (List ℤ)) (fault : Option TextFault) → EndsFor words given lists fault end →
+      LeavesJudged (Judges first nodes outputs words given lists fault picks) was now (Ok result)
+  judged_run core none run same done end result was now left words given lists fault ends =
+      let at : core ≡ after_picks first picks = done ∙ ap (after_picks first) (run_possible first picks run) in
+      let Prints : List ℕ → Ending → Type 0 = λ output way. IsPrinted core nodes outputs (length picks) output × (way ≡ end) in
+      owed_more Prints (λ output way. Judges first nodes outputs words given lists fault picks output (Ok way))
+      (λ output way printed. (
+        run,
+        printed_text none same output (subst (λ (c : Seen). IsPrinted c nodes outputs (length picks) output) at printed.0),
+        subst (EndsFor words given lists fault) (sym printed.1) ends,
+      )) was now result left
+
+-- what is printed of a core, from the parts that are written
+module _ (core : Seen) (nodes : List PlacedNode) (outputs : List OutputSpec) (count horizon : ℕ) (lists : List (List ℤ)) (text bytes : List ℕ) (writer : WriterState) (end : Ending)
+    (tally : IsTally core count text) (same : bytes ≡ text) (took : lists ≡ taken_lists nodes core.net (state_of core)) (at : horizon ≡ core.instants) (new : writer ≡ new_writer outputs) where
+  abbrev lines : List ℕ
+  lines = output_text outputs (taken_lists nodes core.net (state_of core)) core.instants
+
+  abbrev pub Prints : List ℕ → Ending → Type 0
+  Prints output way = IsPrinted core nodes outputs count output × (way ≡ end)
+
+  lines_are : lines_after writer.outputs lists writer.instants horizon ≡ lines
+  lines_are =
+      ap (λ (w : WriterState). lines_after w.outputs lists w.instants horizon) new ∙ lines_from_first outputs lists horizon
+      ∙ ap (λ ls. output_text outputs ls horizon) took ∙ ap (output_text outputs (taken_lists nodes core.net (state_of core))) at
+
+  prints : Prints (text ++ lines) end
+  prints = ((text, tally, refl), refl)
+
+  -- the tally could not be written
+  pub tally_failed : (was now : SeenSink) → Fails was now bytes → LeavesOwed Prints was now ending.WriteFault
+  tally_failed was now f = (text ++ lines, end, prints, fails_longer was now text lines (subst (Fails was now) same f))
+
+  module _ (was between now : SeenSink) (head : Writes was between bytes) where
+    -- the lines could not
+    pub lines_failed : Fails between now (lines_after writer.outputs lists writer.instants horizon) → LeavesOwed Prints was now ending.WriteFault
+    lines_failed f = (text ++ lines, end, prints, fails_behind was between now text lines (subst (Writes was between) same head) (subst (Fails between now) lines_are f))
+
+    -- all was written
+    pub all_printed : IsWhole end → Writes between now (lines_after writer.outputs lists writer.instants horizon) → LeavesOwed Prints was now end
+    all_printed whole w =
+        owed_written Prints (text ++ lines) end was now whole prints (writes_more was between now text lines (subst (Writes was between) same head) (subst (Writes between now) lines_are w))
+
+-- the line that says whether all is done is one
+says_once : (core : Seen) (line other : List ℕ) → SaysOver core line → SaysOver core other → line ≡ other
+says_once core line other (inl h) (inl k) = h.1 ∙ sym k.1
+says_once core line other (inl h) (inr k) = absurd (k.0 h.0)
+says_once core line other (inr h) (inl k) = absurd (h.0 k.0)
+says_once core line other (inr h) (inr k) = h.1 ∙ sym k.1
+
+text_once : (first : Seen) (nodes : List PlacedNode) (outputs : List OutputSpec) (picks output out : List ℕ) →
+    IsReplayText first nodes outputs picks output → IsReplayText first nodes outputs picks out → output ≡ out
+text_once first nodes outputs picks output out (tally, (line, says, is), text) (other, (word, said, also), same) =
+    let tallies : tally ≡ other = is ∙ ap (λ l. codes "events " ++ (decimal (length picks) ++ (codes "\n" ++ l))) (says_once (after_picks first picks) line word says said) ∙ sym also in
+    text ∙ ap (λ t. t ++ output_text outputs (taken_lists nodes first.net (events (machine_of first) start picks)) first.instants) tallies ∙ sym same
+
+impossible_once : (seen : Seen) (picks : List ℕ) (e f : TraceError) → IsFirstImpossible seen picks e → IsFirstImpossible seen picks f → e ≡ f
+impossible_once seen picks e f (actor, is, at) (other, also, there) =
+    let same : Some actor ≡ Some other = sym at ∙ there in
+    is ∙ ap (NotPossible (possible_of seen picks + 1)) (cc same) ∙ sym also
+
+-- events come to one thing
+judged_once : (first : Seen) (nodes : List PlacedNode) (outputs : List OutputSpec) (words : List Bits) (given : Option ℕ) (lists : List (List ℤ)) (fault : Option TextFault) (picks output out : List ℕ)
+    (result other : Result Ending TraceError) → Judges first nodes outputs words given lists fault picks output result → Judges first nodes outputs words given lists fault picks out other → (output ≡ out) × (result ≡ other)
+judged_once first nodes outputs words given lists fault picks output out (Ok end) (Ok way) (run, text, ends) (ran, said, past) =
+    (text_once first nodes outputs picks output out text said, ap Ok (ends_once words given lists fault end way ends past))
+judged_once first nodes outputs words given lists fault picks output out (Ok end) (Err e) (run, text, ends) (bad, none) = absurd (impossible_run first picks e bad run)
+judged_once first nodes outputs words given lists fault picks output out (Err e) (Ok way) (bad, none) (run, text, ends) = absurd (impossible_run first picks e bad run)
+judged_once first nodes outputs words given lists fault picks output out (Err e) (Err f) (bad, none) (worse, nothing) =
+    (none ∙ sym nothing, ap Err (impossible_once first picks e f bad worse))
+
+-- `replay` owes one answer
+pub replay_once : OneFeed → OneHorizon → (ops : List Operator) (a : Accepted) (given : Option ℕ) (picks taken : List ℕ) (stop : Stop) (output out : List ℕ) (result other : Result Ending TraceError) →
+    OwesReplay ops a given picks taken stop output result → OwesReplay ops a given picks taken stop out other → (output ≡ out) × (result ≡ other)
+replay_once one horizons ops a given picks taken stop output out result other (lists, fault, horizon, fed, does) (others, stops, last, so, did) =
+    let same = fed_once one horizons a given taken stop lists others fault stops horizon last fed so in
+    let P : List (List ℤ) → Option TextFault → ℕ → Type 0 = λ u f t. Judges (first_core ops a u t) a.placed.nodes a.outputs.items (input_words a) given u f picks output result in
+    judged_once (first_core ops a others last) a.placed.nodes a.outputs.items (input_words a) given others stops picks output out result other
+    (carried P lists others fault stops horizon last same.0 same.1 same.2 does) did
+
+judged_done : (first : Seen) (nodes : List PlacedNode) (outputs : List OutputSpec) (words : List Bits) (given : Option ℕ) (lists : List (List ℤ)) (picks output : List ℕ) (result : Result Ending TraceError) →
+    ((end : Ending) → EndsFor words given lists None end → end ≡ ending.Done) → CanRun first picks → Judges first nodes outputs words given lists None picks output result →
+    IsReplayText first nodes outputs picks output × (result ≡ Ok ending.Done)
+judged_done first nodes outputs words given lists picks output (Ok end) few run (ran, text, ends) = (text, ap Ok (few end ends))
+judged_done first nodes outputs words given lists picks output (Err e) few run (bad, none) = absurd (impossible_run first picks e bad run)
+
+-- by an input without a fault a run is replayed to its end
+pub replay_whole : OneCut → CutInPieces → OneHorizon → CompleteReplay
+replay_whole cut pieces horizons ops a given before after picks taken stop lists horizon output result read well fed run (others, fault, last, is, does) =
+    let P : List (List ℤ) → Option TextFault → ℕ → Type 0 = λ u f t. Judges (first_core ops a u t) a.placed.nodes a.outputs.items (input_words a) given u f picks output result in
+    judged_done (first_core ops a lists horizon) a.placed.nodes a.outputs.items (input_words a) given lists picks output result (λ end ends. done_for (input_words a) given lists end fed.few ends) run
+    (owed_so cut pieces horizons a given before after taken stop lists horizon read well fed P others fault last is does)
+
+-- the operators that a program names are among more
+pub more_operators : (nodes : List PlacedNode) (named count : ℕ) → HaveOperators named nodes → named ≤ count → HaveOperators count nodes
+more_operators nodes named count have many = λ i n p op a b e stands. omega (arith, have i n p op a b e stands, many)
+
+module _ (ops : List Operator) (a : Accepted) (given : Option ℕ) (picks taken : List ℕ) (stop : Stop) where
+  judged_ends : (lists : List (List ℤ)) (fault : Option TextFault) (horizon : ℕ) → IsFed a given taken stop lists fault horizon → (was now : SeenSink) (result : Result Ending TraceError) →
+      LeavesJudged (Judges (first_core ops a lists horizon) a.placed.nodes a.outputs.items (input_words a) given lists fault picks) was now result → EndsReplay ops a given picks taken stop was now result
+  judged_ends lists fault horizon fed was now (Ok end) left =
+      owed_ends (λ counted output way. OwesReplay ops a given picks taken counted output (Ok way)) stop was now end
+      (owed_more (λ output way. Judges (first_core ops a lists horizon) a.placed.nodes a.outputs.items (input_words a) given lists fault picks output (Ok way))
+      (λ output way. OwesReplay ops a given picks taken stop output (Ok way)) (λ output way judged. (lists, fault, horizon, fed, judged)) was now end left)
+  judged_ends lists fault horizon fed was now (Err e) (bad, same) = ((lists, fault, horizon, fed, bad), same)
+
+  -- main was fed, and its events were judged
+  pub replay_done : (was now : SeenSink) (result : Result Ending TraceError) (feed : Feed) (answer : Result Feed OutOfMemory) (clocks : List NodeClock) (outputs : List OutputSpec) →
+      IsMainFeed a.inputs.items taken stop answer → answer ≡ Ok feed → clocks ≡ a.clocks.items → outputs ≡ a.outputs.items →
+      (horizon : ℕ) × IsHorizonOf (param_words a.placed.nodes clocks) given feed.items horizon
+      × LeavesJudged (Judges (first_core ops a feed.items horizon) a.placed.nodes outputs (param_words a.placed.nodes clocks) given feed.items feed.stop picks) was now result →
+      EndsReplay ops a given picks taken stop was now result
+  replay_done was now result feed answer clocks outputs fed_so is e f left =
+      let P : List NodeClock → Type 0 = λ u. (horizon : ℕ) × IsHorizonOf (param_words a.placed.nodes u) given feed.items horizon
+      × LeavesJudged (Judges (first_core ops a feed.items horizon) a.placed.nodes outputs (param_words a.placed.nodes u) given feed.items feed.stop picks) was now result in
+      let Q : List OutputSpec → Type 0 = λ u. (horizon : ℕ) × IsHorizonOf (input_words a) given feed.items horizon
+      × LeavesJudged (Judges (first_core ops a feed.items horizon) a.placed.nodes u (input_words a) given feed.items feed.stop picks) was now result in
+      let (horizon, horizon_is, moved) = subst Q f (subst P e left) in
+      judged_ends feed.items feed.stop horizon (record { feeds = subst (IsMainFeed a.inputs.items taken stop) is fed_so; horizon_is = horizon_is }) was now result moved

@@ -1,0 +1,28 @@
+use Rattle.std.proofs.Common.{◌≡◌, [], length, sym, refl, inl, ◌∙◌}
+use Rattle.std.proofs.lemmas.Result.{IfOk-at_ok}
+use Rattle.lucy_host.specs.Host.{lent}
+use Rattle.lucy_output.proofs.SinkLaws.{unwritten}
+use Rattle.lucy_feed.specs.declared.feeds.Feed.{Feed}
+use Rattle.lucy_run.proofs.AcceptedLaws.{few_inputs, inputs_count}
+use Rattle.lucy_run.proofs.ReplayLaws.{replay_done}
+use Rattle.lucy_run.proofs.replaying.replay.Goals as goal
+
+pub main_feed-requires : goal.main_feed-requires
+main_feed-requires g c = few_inputs _ c.requires.accepted.0 c.requires.accepted.1 c.args.accepted c.requires.accepted.2
+
+pub returns-in-Err-clause-ends : goal.returns-in-Err-clause-ends
+returns-in-Err-clause-ends g c =
+    let (taken, stop, read, asked, fed) = c.main_feed.ensures.fed in
+    (taken, stop, read, asked, ([], inl refl, unwritten _))
+
+pub replay_feed-requires-clause-inputs : goal.replay_feed-requires-clause-inputs
+replay_feed-requires-clause-inputs g c = λ κs within.
+    let lists = IfOk-at_ok (λ (feed : Feed). length feed.items ≡ length c.args.accepted.inputs.items) c.in-Ok.is c.main_feed.ensures.lists in
+    sym (lists ∙ inputs_count _ c.requires.accepted.0 c.requires.accepted.1 c.args.accepted c.requires.accepted.2)
+
+pub returns-clause-ends : goal.returns-clause-ends
+returns-clause-ends g c =
+    let (taken, stop, read, asked, fed) = c.main_feed.ensures.fed in
+    let ends = replay_done (lent c.args.host.now) c.args.accepted c.args.instants c.args.picks.now taken stop _ _ c.replay_feed.result c.in-Ok.feed c.main_feed.result c.deref.result.now c.deref-2.result.now fed c.in-Ok.is
+    c.deref.ensures.value c.deref-2.ensures.value c.replay_feed.ensures.left in
+    (taken, stop, read, asked, ends)

@@ -1,0 +1,230 @@
+// The command `replay` on an accepted program.
+ghost use Rattle.std.specs.Prelude.{◌≡◌, ◌≢◌, ◌≤◌, ℕ, ℤ, List, [], Option, None, length, IfOk, IfSome};
+ghost use Rattle.lucy_word.specs.Bits.{Bits};
+ghost use Rattle.lucy_lines.specs.declared.reader.TextFault.{TextFault as Fault};
+ghost use Rattle.lucy_word.specs.Limits.{limit_number};
+ghost use Rattle.lucy_word.specs.declared.limit.Limit.TheVariants as limit;
+ghost use Rattle.lucy_host.specs.Host.{Serves, lent};
+ghost use Rattle.lucy_host.specs.Operators.{kinds_of};
+ghost use Rattle.lucy_lines.specs.Fronts.{most_bytes};
+ghost use Rattle.lucy_feed.specs.Sources.{Stop, Read};
+ghost use Rattle.lucy_feed.specs.Feeding.{IsAsked};
+ghost use Rattle.lucy_meaning.specs.Spots.{main_of, results_in};
+ghost use Rattle.lucy_kahn.specs.Turns.{params_in};
+ghost use Rattle.lucy_net.specs.Schedules.{IsSound};
+ghost use Rattle.lucy_cause.specs.Schedules.{events_at};
+ghost use Rattle.lucy_core.specs.Seen.{IsUnbegun, first_seen};
+ghost use Rattle.lucy_flat.specs.Clocked.{AreClocked};
+ghost use Rattle.lucy_flat.specs.Flat.{IsFlat};
+ghost use Rattle.lucy_execution.specs.Streams.{param_words};
+ghost use Rattle.lucy_front.specs.declared.options.Options.{Options};
+ghost use Rattle.lucy_front.specs.Accepting.{IsAccepted};
+ghost use Rattle.lucy_run.specs.Owes.{IsHorizonOf, EndsFor};
+ghost use Rattle.lucy_run.specs.Replays.{IsTally, Judges};
+ghost use Rattle.lucy_run.specs.Ends.{EndsReplay};
+ghost use Rattle.lucy_run.specs.Steps.{IsWhole, IsPrinted, LeavesOwed, LeavesJudged};
+
+use crate::ending::Ending;
+use crate::extent::extent_of;
+use crate::feeding::main_feed;
+use lucy_cause::Schedule;
+use lucy_clock::NodeClock;
+use lucy_core::Core;
+use lucy_execution::{nets_can_be_run, outputs_so_far, param_words};
+use lucy_feed::Feed;
+use lucy_front::Accepted;
+use lucy_host::Host;
+use lucy_net::Net;
+use lucy_output::{OutputSpec, OutputWriter};
+use lucy_place::Placed;
+use lucy_text::{Sink, Source, write_all};
+use lucy_trace::TraceError;
+use lucy_word::OutOfMemory;
+use std::alloc::Global;
+
+// How many events were done, and whether they are all that there are.
+fn tally(alloc: Global, core: &Core, count: usize) -> Result<Vec<u8>, OutOfMemory>
+    ensures { IfOk result (λ v. IsTally core.now count v.items) }
+{
+    let text = if core.finished() {
+        format!(in alloc; "events {count}\nfinished\n")
+    } else {
+        format!(in alloc; "events {count}\nunfinished\n")
+    };
+    Ok(text?.into_bytes())
+}
+
+// Writes what a core prints that has done so many events. All memory is taken before the first write.
+fn print<O: Sink>(
+    alloc: Global,
+    placed: &Placed,
+    clocks: &[NodeClock],
+    outputs: &[OutputSpec],
+    core: &Core,
+    count: usize,
+    horizon: u64,
+    ending: Ending,
+    out: &mut O,
+) -> Ending
+    requires flat { IsFlat placed.now.nodes clocks.now core.now.net }
+    requires outputs { length outputs.now ≡ length (results_in (main_of placed.now.nodes)) }
+    requires horizon { horizon ≡ core.now.instants }
+    requires whole { IsWhole ending }
+    ensures left { LeavesOwed (λ output way. IsPrinted core.now placed.now.nodes outputs.now count output × (way ≡ ending)) (O.seen out.old) (O.seen out.new) result }
+    ensures count { (O.seen out.old).faults ≤ (O.seen out.new).faults }
+{
+    let lists = match outputs_so_far(alloc, placed, clocks, core) {
+        Ok(lists) => lists,
+        Err(_) => return Ending::OutOfMemory,
+    };
+    let text = match tally(alloc, core, count) {
+        Ok(text) => text,
+        Err(_) => return Ending::OutOfMemory,
+    };
+    let mut writer = match OutputWriter::new(alloc, outputs) {
+        Ok(writer) => writer,
+        Err(_) => return Ending::OutOfMemory,
+    };
+    match write_all(out, &text) {
+        Ok(()) => {}
+        Err(_) => return Ending::WriteFault,
+    }
+    match writer.write(&lists, horizon, out) {
+        Ok(()) => ending,
+        Err(_) => Ending::WriteFault,
+    }
+}
+
+// Does events on a core without an event so far, and writes what they come to.
+fn judge<F: Fn(u32, i64, i64) -> i64 + Sync, O: Sink>(
+    alloc: Global,
+    placed: &Placed,
+    clocks: &[NodeClock],
+    outputs: &[OutputSpec],
+    core: &mut Core,
+    host: &Host<F>,
+    picks: &[u32],
+    horizon: u64,
+    ending: Ending,
+    out: &mut O,
+) -> Result<Ending, TraceError>
+    requires serves { Serves F.pre F.post host.now }
+    requires kinds { kinds_of (lent host.now) ≡ kinds_of core.old.operators }
+    requires unbegun { IsUnbegun core.old }
+    requires flat { IsFlat placed.now.nodes clocks.now core.old.net }
+    requires outputs { length outputs.now ≡ length (results_in (main_of placed.now.nodes)) }
+    requires horizon { horizon ≡ core.old.instants }
+    requires whole { IsWhole ending }
+    ensures left { (words : List Bits) (given : Option ℕ) (lists : List (List ℤ)) (fault : Option Fault) → EndsFor words given lists fault ending →
+        LeavesJudged (Judges core.old placed.now.nodes outputs.now words given lists fault picks.now) (O.seen out.old) (O.seen out.new) result }
+    ensures count { (O.seen out.old).faults ≤ (O.seen out.new).faults }
+{
+    core.is_reached();
+    lucy_trace::replay(core, host, picks)?;
+    Ok(print(
+        alloc,
+        placed,
+        clocks,
+        outputs,
+        core,
+        picks.len(),
+        horizon,
+        ending,
+        out,
+    ))
+}
+
+// Judges events over what main is fed, and writes what they come to.
+fn replay_feed<F: Fn(u32, i64, i64) -> i64 + Sync, O: Sink>(
+    alloc: Global,
+    placed: &Placed,
+    clocks: &[NodeClock],
+    net: Net,
+    schedule: Schedule,
+    outputs: &[OutputSpec],
+    host: &Host<F>,
+    given: Option<u64>,
+    picks: &[u32],
+    feed: Feed,
+    out: &mut O,
+) -> Result<Ending, TraceError>
+    requires clocked { AreClocked placed.now.nodes clocks.now }
+    requires flat { IsFlat placed.now.nodes clocks.now net }
+    requires sound { IsSound net (events_at schedule) }
+    requires outputs { length outputs.now ≡ length (results_in (main_of placed.now.nodes)) }
+    requires serves { Serves F.pre F.post host.now }
+    requires known { placed.now.operators ≤ length (lent host.now) }
+    requires inputs { params_in (main_of placed.now.nodes) ≡ length feed.items }
+    requires few { IfSome given (λ most. most ≤ limit_number limit.Instants) }
+    ensures left { (horizon : ℕ) × IsHorizonOf (param_words placed.now.nodes clocks.now) given feed.items horizon
+        × LeavesJudged (Judges (first_seen net schedule feed.items (lent host.now) horizon) placed.now.nodes outputs.now
+        (param_words placed.now.nodes clocks.now) given feed.items feed.stop picks.now) (O.seen out.old) (O.seen out.new) result }
+    ensures count { (O.seen out.old).faults ≤ (O.seen out.new).faults }
+{
+    let _ = placed.nodes();
+    nets_can_be_run();
+    let Feed { items, stop } = feed;
+    let words = param_words(placed, clocks);
+    let extent = match extent_of(alloc, words, given, &items, stop) {
+        Ok(extent) => extent,
+        Err(_) => return Ok(Ending::OutOfMemory),
+    };
+    match Core::new(alloc, net, schedule, items, host.ops(), extent.horizon) {
+        Ok(mut core) => judge(
+            alloc,
+            placed,
+            clocks,
+            outputs,
+            &mut core,
+            host,
+            picks,
+            extent.horizon,
+            extent.ending,
+            out,
+        ),
+        Err(_) => Ok(Ending::OutOfMemory),
+    }
+}
+
+/// Judges the events of these actors on an accepted program: its input is read to its end or its first fault, and then the events are
+/// done in turn, over the instants up to the horizon, which is that of [`run`](crate::run). Where they are a run, their number is
+/// written, then `finished` where every actor has done its list and else `unfinished`, and then the lines of the results whose items
+/// the outputs took. Else `NotPossible` tells the first event that isn't possible, and nothing is written. No other refusal is answered.
+pub fn replay<F: Fn(u32, i64, i64) -> i64 + Sync, I: Source, O: Sink>(
+    alloc: Global,
+    accepted: Accepted,
+    host: &Host<F>,
+    instants: Option<u64>,
+    picks: &[u32],
+    source: &mut I,
+    out: &mut O,
+) -> Result<Ending, TraceError>
+    requires serves { Serves F.pre F.post host.now }
+    requires accepted { (text : List ℕ) × (options : Options) × IsAccepted (lent host.now) options text accepted }
+    requires clocked { AreClocked accepted.placed.nodes accepted.clocks.items }
+    requires few { IfSome instants (λ given. given ≤ limit_number limit.Instants) }
+    requires given { accepted.inputs.items ≡ [] → instants ≢ None }
+    ensures ends { (taken : List ℕ) × (stop : Stop) × Read most_bytes (I.seen source.old) (I.seen source.new) taken stop
+        × IsAsked accepted.inputs.items taken × EndsReplay (lent host.now) accepted instants picks.now taken stop
+        (O.seen out.old) (O.seen out.new) result }
+    ensures unread { accepted.inputs.items ≡ [] → source.new ≡ source.old }
+    ensures source_count { (I.seen source.old).faults ≤ (I.seen source.new).faults }
+    ensures out_count { (O.seen out.old).faults ≤ (O.seen out.new).faults }
+{
+    let Accepted {
+        placed,
+        clocks,
+        net,
+        schedule,
+        inputs,
+        outputs,
+        ..
+    } = accepted;
+    let feed = match main_feed(alloc, inputs, source) {
+        Ok(feed) => feed,
+        Err(_) => return Ok(Ending::OutOfMemory),
+    };
+    replay_feed(
+        alloc, &placed, &clocks, net, schedule, &outputs, host, instants, picks, feed, out,
+    )
+}
