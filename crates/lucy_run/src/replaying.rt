@@ -9,6 +9,7 @@ ghost use Rattle.lucy_host.specs.Operators.{kinds_of};
 ghost use Rattle.lucy_lines.specs.Fronts.{most_bytes};
 ghost use Rattle.lucy_feed.specs.Sources.{Stop, Read};
 ghost use Rattle.lucy_feed.specs.Feeding.{IsAsked};
+ghost use Rattle.lucy_place.specs.Proper.{HaveOperators};
 ghost use Rattle.lucy_meaning.specs.Spots.{main_of, results_in};
 ghost use Rattle.lucy_kahn.specs.Turns.{params_in};
 ghost use Rattle.lucy_net.specs.Schedules.{IsSound};
@@ -32,7 +33,7 @@ use lucy_clock::NodeClock;
 use lucy_core::Core;
 use lucy_execution::{nets_can_be_run, outputs_so_far, param_words};
 use lucy_feed::Feed;
-use lucy_front::Accepted;
+use lucy_front::{Accepted, accepted_programs_are_clocked};
 use lucy_host::Host;
 use lucy_net::Net;
 use lucy_output::{OutputSpec, OutputWriter};
@@ -153,7 +154,7 @@ fn replay_feed<F: Fn(u32, i64, i64) -> i64 + Sync, O: Sink>(
     requires sound { IsSound net (events_at schedule) }
     requires outputs { length outputs.now ≡ length (results_in (main_of placed.now.nodes)) }
     requires serves { Serves F.pre F.post host.now }
-    requires known { placed.now.operators ≤ length (lent host.now) }
+    requires known { HaveOperators (length (lent host.now)) placed.now.nodes }
     requires inputs { params_in (main_of placed.now.nodes) ≡ length feed.items }
     requires few { IfSome given (λ most. most ≤ limit_number limit.Instants) }
     ensures left { (horizon : ℕ) × IsHorizonOf (param_words placed.now.nodes clocks.now) given feed.items horizon
@@ -201,7 +202,6 @@ pub fn replay<F: Fn(u32, i64, i64) -> i64 + Sync, I: Source, O: Sink>(
 ) -> Result<Ending, TraceError>
     requires serves { Serves F.pre F.post host.now }
     requires accepted { (text : List ℕ) × (options : Options) × IsAccepted (lent host.now) options text accepted }
-    requires clocked { AreClocked accepted.placed.nodes accepted.clocks.items }
     requires few { IfSome instants (λ given. given ≤ limit_number limit.Instants) }
     requires given { accepted.inputs.items ≡ [] → instants ≢ None }
     ensures ends { (taken : List ℕ) × (stop : Stop) × Read most_bytes (I.seen source.old) (I.seen source.new) taken stop
@@ -220,6 +220,7 @@ pub fn replay<F: Fn(u32, i64, i64) -> i64 + Sync, I: Source, O: Sink>(
         outputs,
         ..
     } = accepted;
+    accepted_programs_are_clocked();
     let feed = match main_feed(alloc, inputs, source) {
         Ok(feed) => feed,
         Err(_) => return Ok(Ending::OutOfMemory),

@@ -1,8 +1,9 @@
-use Rattle.std.proofs.Common.{◌≡◌, [], length, sym, refl, inl, ◌∙◌}
+use Rattle.std.proofs.Common.{◌≡◌, [], length, sym, refl, inl, ◌∙◌, subst}
 use Rattle.std.proofs.lemmas.Result.{IfOk-at_ok}
 use Rattle.lucy_host.specs.Host.{lent}
 use Rattle.lucy_output.proofs.SinkLaws.{unwritten}
 use Rattle.lucy_feed.specs.declared.feeds.Feed.{Feed}
+use Rattle.lucy_flat.specs.Clocked.{AreClocked}
 use Rattle.lucy_run.proofs.AcceptedLaws.{few_inputs, inputs_count}
 use Rattle.lucy_run.proofs.ReplayLaws.{replay_done}
 use Rattle.lucy_run.proofs.replaying.replay.Goals as goal
@@ -14,6 +15,15 @@ pub returns-in-Err-clause-ends : goal.returns-in-Err-clause-ends
 returns-in-Err-clause-ends g c =
     let (taken, stop, read, asked, fed) = c.main_feed.ensures.fed in
     (taken, stop, read, asked, ([], inl refl, unwritten _))
+
+pub replay_feed-requires-clause-clocked : goal.replay_feed-requires-clause-clocked
+replay_feed-requires-clause-clocked g c = λ κs within.
+    subst (AreClocked c.args.accepted.placed.nodes) (sym c.deref.ensures.value)
+    (c.accepted_programs_are_clocked.ensures.clocked (lent c.args.host.now) c.requires.accepted.1 c.requires.accepted.0 c.args.accepted c.requires.accepted.2)
+
+pub replay_feed-requires-clause-known : goal.replay_feed-requires-clause-known
+replay_feed-requires-clause-known g c = λ κs within.
+    c.accepted_programs_are_clocked.ensures.operators (lent c.args.host.now) c.requires.accepted.1 c.requires.accepted.0 c.args.accepted c.requires.accepted.2
 
 pub replay_feed-requires-clause-inputs : goal.replay_feed-requires-clause-inputs
 replay_feed-requires-clause-inputs g c = λ κs within.

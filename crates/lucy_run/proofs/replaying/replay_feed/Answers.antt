@@ -12,7 +12,6 @@ use Rattle.lucy_run.specs.Replays.{Judges}
 use Rattle.lucy_run.specs.Steps.{LeavesJudged}
 use Rattle.lucy_run.proofs.HorizonLaws.{some_horizon, few_most}
 use Rattle.lucy_run.proofs.EndsLaws.{ends_whole}
-use Rattle.lucy_run.proofs.ReplayLaws.{more_operators}
 use Rattle.lucy_run.proofs.replaying.replay_feed.Goals as goal
 
 pub extent_of-requires-clause-lists : goal.extent_of-requires-clause-lists
@@ -30,7 +29,7 @@ new-requires g c =
     let horizon_is = subst (λ (ws : List Bits). IsHorizonOf ws c.args.given c.args.feed.items c.in-Ok.extent.horizon) c.param_words-words.ensures.words c.in-Ok.ensures.horizon in
     let early : c.in-Ok.extent.horizon ≤ 1048576 = omega (arith, horizon_is.within, few_most c.args.given c.requires.few) in
     let fixed = c.nets_can_be_run.ensures.fixed nodes c.args.clocks.now c.args.net c.args.schedule c.args.feed.items (lent c.args.host.now) c.in-Ok.extent.horizon c.nodes.ensures.proper
-    (more_operators nodes c.args.placed.now.operators (length (lent c.args.host.now)) c.nodes.ensures.operators c.requires.known) c.requires.flat c.requires.sound horizon_is.suffice early in
+    c.requires.known c.requires.flat c.requires.sound horizon_is.suffice early in
     subst (λ (ops : List Operator). IsFixed c.args.net c.args.schedule c.args.feed.items ops c.in-Ok.extent.horizon) (sym c.ops.ensures) fixed
 
 pub judge-requires-clause-unbegun : goal.judge-requires-clause-unbegun
