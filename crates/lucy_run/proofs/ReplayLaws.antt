@@ -29,7 +29,6 @@ use Rattle.lucy_output.specs.Writing.{WriterState, new_writer}
 use Rattle.lucy_output.proofs.OutputLaws.{lines_from_first}
 use Rattle.lucy_output.proofs.SinkLaws.{writes_more, fails_behind, fails_longer}
 use Rattle.lucy_place.specs.declared.placed.PlacedNode.{PlacedNode}
-use Rattle.lucy_place.specs.Proper.{HaveOperators}
 use Rattle.lucy_clock.specs.declared.node_clock.NodeClock.{NodeClock}
 use Rattle.lucy_execution.specs.Streams.{param_words}
 use Rattle.lucy_execution.specs.Taking.{taken_lists}
@@ -191,10 +190,6 @@ replay_whole cut pieces horizons ops a given before after picks taken stop lists
     let P : List (List ℤ) → Option TextFault → ℕ → Type 0 = λ u f t. Judges (first_core ops a u t) a.placed.nodes a.outputs.items (input_words a) given u f picks output result in
     judged_done (first_core ops a lists horizon) a.placed.nodes a.outputs.items (input_words a) given lists picks output result (λ end ends. done_for (input_words a) given lists end fed.few ends) run
     (owed_so cut pieces horizons a given before after taken stop lists horizon read well fed P others fault last is does)
-
--- the operators that a program names are among more
-pub more_operators : (nodes : List PlacedNode) (named count : ℕ) → HaveOperators named nodes → named ≤ count → HaveOperators count nodes
-more_operators nodes named count have many = λ i n p op a b e stands. omega (arith, have i n p op a b e stands, many)
 
 module _ (ops : List Operator) (a : Accepted) (given : Option ℕ) (picks taken : List ℕ) (stop : Stop) where
   judged_ends : (lists : List (List ℤ)) (fault : Option TextFault) (horizon : ℕ) → IsFed a given taken stop lists fault horizon → (was now : SeenSink) (result : Result Ending TraceError) →
