@@ -1,0 +1,2 @@
+mod RoundLaws
+mod TracingLaws
