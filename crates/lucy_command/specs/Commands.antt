@@ -42,6 +42,14 @@ pub record TightenWords : Type 0 where
   pub scale : ℕ
   pub lead : ℕ
 
+-- what `replay` works on: FILE and LOG, the scale and the lead, and the instants, where they stand
+pub record ReplayWords : Type 0 where
+  pub file : List ℕ
+  pub log : List ℕ
+  pub scale : ℕ
+  pub lead : ℕ
+  pub instants : Option ℕ
+
 -- a command, with what it works on
 pub data Command : Type 0 where
   Order : Command
@@ -51,6 +59,7 @@ pub data Command : Type 0 where
   Kahn : KahnWords → Command
   Make : MakeWords → Command
   Tighten : TightenWords → Command
+  Replay : ReplayWords → Command
 
 -- a number of one to seven digits, between these
 abbrev pub is_number : (least most : ℕ) → List ℕ → Bool
@@ -132,6 +141,12 @@ tighten_words t =
     option_and_then (λ c. option_map (λ b. record { file = c.file; node = b.0; buffer = b.1; scale = c.scale; lead = c.lead })
     (option_and_then buffer_of t.second)) (clocks_with t.first t)
 
+-- what `replay` works on
+abbrev pub replay_words : Texts → Option ReplayWords
+replay_words t =
+    option_and_then (λ c. option_and_then (λ log. option_map (λ instants. record { file = c.file; log = log; scale = c.scale; lead = c.lead; instants = instants })
+    (given setting.Instants t.instants)) t.second) (clocks_with t.first t)
+
 -- the command of this name with these texts, where they fit it
 abbrev pub command_with : Name → Texts → Option Command
 command_with name.Order t = alone Order t.first
@@ -143,6 +158,7 @@ command_with name.Run t = option_map Run (run_words t)
 command_with name.Kahn t = option_map Kahn (kahn_words t)
 command_with name.Make t = option_map Make (make_words t)
 command_with name.Tighten t = option_map Tighten (tighten_words t)
+command_with name.Replay t = option_map Replay (replay_words t)
 
 -- the command that the words name, where they name one
 abbrev pub command_of : (words : List (List ℕ)) → Option Command

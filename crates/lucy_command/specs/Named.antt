@@ -8,8 +8,9 @@ use Rattle.lucy_command.specs.declared.words.ClocksWords.{ClocksWords}
 use Rattle.lucy_command.specs.declared.words.RunWords.{RunWords}
 use Rattle.lucy_command.specs.declared.words.KahnWords.{KahnWords}
 use Rattle.lucy_command.specs.declared.words.TightenWords.{TightenWords}
+use Rattle.lucy_command.specs.declared.words.ReplayWords.{ReplayWords}
 use Rattle.lucy_command.specs.declared.command.Command.{Command}
-use Rattle.lucy_command.specs.declared.command.Command.TheVariants.{Order, Show, Types, Check, Clocks, Run, Kahn, Make, Tighten}
+use Rattle.lucy_command.specs.declared.command.Command.TheVariants.{Order, Show, Types, Check, Clocks, Run, Kahn, Make, Tighten, Replay}
 
 -- what these words of `clocks` stand for
 abbrev pub clocks_named : ClocksWords → names.ClocksWords
@@ -27,6 +28,10 @@ run_named w = record { file = w.file.now; scale = w.scale; lead = w.lead; instan
 abbrev pub tighten_named : TightenWords → names.TightenWords
 tighten_named w = record { file = w.file.now; node = w.node.now; buffer = w.buffer; scale = w.scale; lead = w.lead }
 
+-- and these of `replay`
+abbrev pub replay_named : ReplayWords → names.ReplayWords
+replay_named w = record { file = w.file.now; log = w.log.now; scale = w.scale; lead = w.lead; instants = w.instants }
+
 -- the command that it stands for
 abbrev pub named : Command → names.Command
 named Order = names.Order
@@ -38,6 +43,7 @@ named (Run words) = names.Run (run_named words)
 named (Kahn words) = names.Kahn (kahn_named words)
 named (Make words) = names.Make words
 named (Tighten words) = names.Tighten (tighten_named words)
+named (Replay words) = names.Replay (replay_named words)
 
 -- a number of this option
 abbrev pub IsOf : Setting → ℕ → Type 0
@@ -70,6 +76,7 @@ IsWithin (names.Run w) = IsScale w.scale × IsScale w.lead × AreFew w.instants 
 IsWithin (names.Kahn w) = IsScale w.scale × IsScale w.lead × AreFew w.instants
 IsWithin (names.Make w) = AreStages w.stages × AreWorkers w.workers × IfSome w.block IsBlock
 IsWithin (names.Tighten w) = IsScale w.scale × IsScale w.lead
+IsWithin (names.Replay w) = IsScale w.scale × IsScale w.lead × AreFew w.instants
 IsWithin command = Unit {0}
 
 -- the block that is given, or else the default

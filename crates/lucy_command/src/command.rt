@@ -3,7 +3,7 @@ ghost use Rattle.std.specs.Prelude.{◌≡◌, ◌≤◌, IfSome};
 ghost use Rattle.std.specs.Option.{option_map};
 ghost use Rattle.lucy_command.specs.Commands as spec;
 ghost use Rattle.lucy_command.specs.declared.names.Name.TheVariants as Name;
-ghost use Rattle.lucy_command.specs.Named.{named, clocks_named, kahn_named, run_named, tighten_named, AreStages, IsOf, IsWithin};
+ghost use Rattle.lucy_command.specs.Named.{named, clocks_named, kahn_named, run_named, tighten_named, replay_named, AreStages, IsOf, IsWithin};
 ghost use Rattle.lucy_command.specs.Names.{most_buffer};
 ghost use Rattle.lucy_command.specs.Parts.{halves_at};
 ghost use Rattle.lucy_command.specs.Seen.{seen, seen_text};
@@ -11,7 +11,7 @@ ghost use Rattle.lucy_command.specs.Seen.{seen, seen_text};
 use crate::names::{Name, Setting};
 use crate::numbers::number;
 use crate::texts::Texts;
-use crate::words::{ClocksWords, KahnWords, MakeWords, RunWords, TightenWords};
+use crate::words::{ClocksWords, KahnWords, MakeWords, ReplayWords, RunWords, TightenWords};
 use lucy_token::is_name;
 
 /// A command, with what it works on.
@@ -29,6 +29,7 @@ pub enum Command<'a> {
     Kahn(KahnWords<'a>),
     Make(MakeWords),
     Tighten(TightenWords<'a>),
+    Replay(ReplayWords<'a>),
 }
 
 /// The most stages.
@@ -214,6 +215,23 @@ fn tighten_words<'a>(texts: &Texts<'a>) -> Option<TightenWords<'a>>
     })
 }
 
+// What `replay` works on.
+fn replay_words<'a>(texts: &Texts<'a>) -> Option<ReplayWords<'a>>
+    ensures is { option_map replay_named result ≡ spec.replay_words (seen texts.now) }
+    ensures within { IfSome result (λ w. IsWithin (spec.Replay (replay_named w))) }
+{
+    let ClocksWords { file, scale, lead } = clocks_with(texts.first, texts)?;
+    let log = texts.second?;
+    let instants = given(Setting::Instants, texts.instants)?;
+    Some(ReplayWords {
+        file,
+        log,
+        scale,
+        lead,
+        instants,
+    })
+}
+
 /// The command of this name with these texts, where they fit it.
 pub(crate) fn command_with<'a>(name: Name, texts: &Texts<'a>) -> Option<Command<'a>>
     ensures is { option_map named result ≡ spec.command_with name (seen texts.now) }
@@ -232,5 +250,6 @@ pub(crate) fn command_with<'a>(name: Name, texts: &Texts<'a>) -> Option<Command<
         Name::Kahn => Some(Command::Kahn(kahn_words(texts)?)),
         Name::Make => Some(Command::Make(make_words(texts)?)),
         Name::Tighten => Some(Command::Tighten(tighten_words(texts)?)),
+        Name::Replay => Some(Command::Replay(replay_words(texts)?)),
     }
 }

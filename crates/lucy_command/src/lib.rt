@@ -18,4 +18,6 @@ mod words;
 
 pub use command::Command;
 pub use reading::read;
-pub use words::{ClocksWords, KahnWords, MakeWords, RunWords, TightenWords, block_or_default};
+pub use words::{
+    ClocksWords, KahnWords, MakeWords, ReplayWords, RunWords, TightenWords, block_or_default,
+};

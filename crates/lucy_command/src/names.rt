@@ -16,6 +16,7 @@ pub(crate) enum Name {
     Kahn,
     Make,
     Tighten,
+    Replay,
 }
 
 /// An option. Each takes a number.
@@ -58,6 +59,9 @@ pub(crate) fn name_of(word: &str) -> Option<Name>
     }
     if word == "tighten" {
         return Some(Name::Tighten);
+    }
+    if word == "replay" {
+        return Some(Name::Replay);
     }
     None
 }
@@ -133,6 +137,9 @@ fn allows(name: Name, setting: Setting) -> bool
         (Name::Make, Setting::Block) => true,
         (Name::Tighten, Setting::Scale) => true,
         (Name::Tighten, Setting::Lead) => true,
+        (Name::Replay, Setting::Scale) => true,
+        (Name::Replay, Setting::Lead) => true,
+        (Name::Replay, Setting::Instants) => true,
         _ => false,
     }
 }

@@ -59,6 +59,18 @@ pub struct TightenWords<'a> {
     pub lead: u64,
 }
 
+/// What `replay` works on: likewise.
+#[derive(Clone, Copy)]
+pub struct ReplayWords<'a> {
+    pub file: &'a str,
+    /// The name of the file of its log.
+    pub log: &'a str,
+    pub scale: u64,
+    pub lead: u64,
+    /// The instants where they are given, up to 1,048,576.
+    pub instants: Option<u64>,
+}
+
 /// The instants of a block where none are given.
 const BLOCK: u64 = 4_096;
 
