@@ -26,16 +26,12 @@ use Rattle.lucy_app.specs.Commands.{HasText}
 use Rattle.lucy_app.specs.Running.{IsRunnable, OwesRunning}
 use Rattle.lucy_feed.specs.Sources.{Stop, Unread}
 use Rattle.lucy_app.specs.World.{Given}
+pub use Rattle.lucy_app.specs.World.{bytes_of}
 use Rattle.lucy_app.specs.Owes.{Owes}
 use Rattle.lucy_app.specs.Ends.{Tells, Answers, Breaks, EndsBy, MayStand, MayFail}
 use Rattle.lucy_app.specs.declared.input_refusal.InputCause.{InputCause}
 use Rattle.lucy_app.specs.declared.refusal.Refusal.{Refusal}
 use Rattle.lucy_app.specs.declared.refusal.Refusal.TheVariants.{Program, Input, NoInstants, NoBuffer, ReadFault, OutOfMemory}
-
--- the bytes that a fetch gave
-abbrev pub bytes_of : Result (Vec ℕ Global) ShelfError → Result (List ℕ) ShelfError
-bytes_of (Ok text) = Ok text.items
-bytes_of (Err e) = Err e
 
 -- the answer of a refusal
 abbrev pub refusal_answer : Refusal → Answer

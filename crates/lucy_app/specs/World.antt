@@ -1,6 +1,8 @@
 -- What the top call is lent, as contracts see it, and what a command has met there.
-use Rattle.std.specs.Prelude.{ℕ, ◌≤◌, ◌≡◌, ◌≢◌, ◌↔◌, ◌⊎◌, List, [], ◌∷◌, length, Option, Some, None, IfSome, IfOk, Result, Err}
+use Rattle.std.specs.Prelude.{ℕ, ◌≤◌, ◌≡◌, ◌≢◌, ◌↔◌, ◌⊎◌, List, [], ◌∷◌, length, Option, Some, None, IfSome, IfOk, Result, Ok, Err}
 use Rattle.std.specs.Option.{option_map}
+use Rattle.std.specs.declared.alloc.Global.{Global}
+use Rattle.std.specs.declared.vec.Vec.{Vec}
 use Rattle.lucy_host.specs.Operators.{Operator}
 use Rattle.lucy_text.specs.Outside.{one_more, SeenSource, SeenSink}
 use Rattle.lucy_text.specs.Shelf.{SeenShelf, IsHeld, Lacks, IsLonger, IsCut, CountsFaults}
@@ -25,6 +27,11 @@ pub record Given : Type 0 where
   pub taken : List ℕ
   pub stop : Stop
   pub operators : List Operator
+
+-- the bytes that a fetch gave
+abbrev pub bytes_of : Result (Vec ℕ Global) ShelfError → Result (List ℕ) ShelfError
+bytes_of (Ok text) = Ok text.items
+bytes_of (Err e) = Err e
 
 -- one fetch of what is wanted, which gave this
 pub record Fetched (wanted : Wanted) (before after : SeenShelf) (fetched : Result (List ℕ) ShelfError) : Type 0 where

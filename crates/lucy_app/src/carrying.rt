@@ -5,7 +5,7 @@ ghost use Rattle.lucy_command.specs.Named.{named, IsWithin};
 ghost use Rattle.lucy_app.specs.Commands.{files_of, input_of};
 ghost use Rattle.lucy_app.specs.Ends.{EndsSo};
 
-use crate::fetch::fetch;
+use crate::fetching::fetch;
 use crate::options::{inferring, written};
 use crate::output::finish;
 use crate::{check, making, order, running, show, tightening, types};

@@ -16,7 +16,7 @@ use std::alloc::Global;
 const WRITE_FAULT: u8 = 5;
 
 /// Writes the lines that go with a status. The answer is this status, or that of a write fault.
-pub(crate) fn tell<E: Sink>(err: &mut E, lines: &[u8], status: u8) -> u8
+pub fn tell<E: Sink>(err: &mut E, lines: &[u8], status: u8) -> u8
     ensures told { Tells status lines.now (E.seen err.old) (E.seen err.new) result }
     ensures count { (E.seen err.old).faults ≤ (E.seen err.new).faults }
 {
@@ -26,8 +26,8 @@ pub(crate) fn tell<E: Sink>(err: &mut E, lines: &[u8], status: u8) -> u8
     }
 }
 
-// Says why there is no answer or, where there is no memory for that, that it ran out.
-fn explain<E: Sink>(err: &mut E, lines: Result<Vec<u8>, OutOfMemory>, status: u8) -> u8
+/// Says why there is no answer or, where there is no memory for that, that it ran out.
+pub fn explain<E: Sink>(err: &mut E, lines: Result<Vec<u8>, OutOfMemory>, status: u8) -> u8
     ensures ok { IfOk lines (λ v. Tells status v.items (E.seen err.old) (E.seen err.new) result) }
     ensures err { OnErr lines (Tells 7 memory_line (E.seen err.old) (E.seen err.new) result) }
     ensures count { (E.seen err.old).faults ≤ (E.seen err.new).faults }

@@ -1,15 +1,14 @@
 // The text of a file.
 ghost use Rattle.std.specs.Prelude.{◌≤◌};
 ghost use Rattle.lucy_word.specs.Limits.{limit_number};
-ghost use Rattle.lucy_app.specs.World.{Fetched};
-ghost use Rattle.lucy_app.specs.Outcomes.{bytes_of};
+ghost use Rattle.lucy_app.specs.World.{bytes_of, Fetched};
 
 use lucy_text::{Shelf, ShelfError};
 use lucy_word::Limit;
 use std::alloc::Global;
 
 /// What one fetch of the file gives, of at most as many bytes as the limit allows.
-pub(crate) fn fetch<S: Shelf>(
+pub fn fetch<S: Shelf>(
     alloc: Global,
     shelf: &mut S,
     file: &str,
