@@ -11,4 +11,4 @@ pub mod AcceptedLaws
 mod EndsLaws
 mod EngineLaws
 mod RunLaws
-mod ReplayLaws
+pub mod ReplayLaws

@@ -148,7 +148,7 @@ says_once core line other (inl h) (inr k) = absurd (k.0 h.0)
 says_once core line other (inr h) (inl k) = absurd (h.0 k.0)
 says_once core line other (inr h) (inr k) = h.1 ∙ sym k.1
 
-text_once : (first : Seen) (nodes : List PlacedNode) (outputs : List OutputSpec) (picks output out : List ℕ) →
+pub text_once : (first : Seen) (nodes : List PlacedNode) (outputs : List OutputSpec) (picks output out : List ℕ) →
     IsReplayText first nodes outputs picks output → IsReplayText first nodes outputs picks out → output ≡ out
 text_once first nodes outputs picks output out (tally, (line, says, is), text) (other, (word, said, also), same) =
     let tallies : tally ≡ other = is ∙ ap (λ l. codes "events " ++ (decimal (length picks) ++ (codes "\n" ++ l))) (says_once (after_picks first picks) line word says said) ∙ sym also in
@@ -178,7 +178,7 @@ replay_once one horizons ops a given picks taken stop output out result other (l
     judged_once (first_core ops a others last) a.placed.nodes a.outputs.items (input_words a) given others stops picks output out result other
     (carried P lists others fault stops horizon last same.0 same.1 same.2 does) did
 
-judged_done : (first : Seen) (nodes : List PlacedNode) (outputs : List OutputSpec) (words : List Bits) (given : Option ℕ) (lists : List (List ℤ)) (picks output : List ℕ) (result : Result Ending TraceError) →
+pub judged_done : (first : Seen) (nodes : List PlacedNode) (outputs : List OutputSpec) (words : List Bits) (given : Option ℕ) (lists : List (List ℤ)) (picks output : List ℕ) (result : Result Ending TraceError) →
     ((end : Ending) → EndsFor words given lists None end → end ≡ ending.Done) → CanRun first picks → Judges first nodes outputs words given lists None picks output result →
     IsReplayText first nodes outputs picks output × (result ≡ Ok ending.Done)
 judged_done first nodes outputs words given lists picks output (Ok end) few run (ran, text, ends) = (text, ap Ok (few end ends))
