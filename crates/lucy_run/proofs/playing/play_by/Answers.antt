@@ -1,5 +1,6 @@
 use Rattle.std.proofs.Common.{List, length, ap, sym, ◌∙◌, subst, arith}
 use Rattle.lucy_word.specs.Bits.{Bits}
+use Rattle.lucy_host.specs.Host.{lent}
 use Rattle.lucy_clock.specs.declared.node_clock.NodeClock.{NodeClock}
 use Rattle.lucy_meaning.specs.Horizons.{Suffice}
 use Rattle.lucy_execution.specs.Streams.{param_words}
@@ -23,7 +24,8 @@ play-requires-clause-can g c =
     c.most_instants.ensures c.in-Ok.ensures.each c.horizon-horizon.ensures in
     record {
       accepted = c.requires.accepted;
-      clocked = c.requires.clocked;
+      clocked = c.accepted_programs_are_clocked.ensures.clocked (lent c.args.host.now) c.requires.accepted.1 c.requires.accepted.0 a
+          c.requires.accepted.2;
       lists = c.requires.inputs;
       suffice = subst (λ (u : List Bits). Suffice u c.args.feed.items c.horizon-horizon.result) same is.suffice;
       early = omega (arith, is.within, few_most c.args.given c.requires.few);
