@@ -2,12 +2,19 @@ use Rattle.std.proofs.Common.{List, length, ap, sym, ◌∙◌, subst, arith}
 use Rattle.lucy_word.specs.Bits.{Bits}
 use Rattle.lucy_host.specs.Host.{lent}
 use Rattle.lucy_clock.specs.declared.node_clock.NodeClock.{NodeClock}
+use Rattle.lucy_flat.specs.Clocked.{AreClocked}
 use Rattle.lucy_meaning.specs.Horizons.{Suffice}
 use Rattle.lucy_execution.specs.Streams.{param_words}
 use Rattle.lucy_execution.proofs.StreamLaws.{params_count}
 use Rattle.lucy_run.specs.Owes.{IsHorizonOf, EndsFor}
 use Rattle.lucy_run.proofs.HorizonLaws.{few_most, horizon_at, more_at}
 use Rattle.lucy_run.proofs.playing.play_by.Goals as goal
+
+pub param_words-words-requires : goal.param_words-words-requires
+param_words-words-requires g c =
+    subst (AreClocked c.args.accepted.now.placed.nodes) (sym c.deref.ensures.value)
+    (c.accepted_programs_are_clocked.ensures.clocked (lent c.args.host.now) c.requires.accepted.1 c.requires.accepted.0 c.args.accepted.now
+    c.requires.accepted.2)
 
 pub lengths-requires-clause-lists : goal.lengths-requires-clause-lists
 lengths-requires-clause-lists g c =
