@@ -15,7 +15,7 @@ ghost use Rattle.lucy_app.specs.Commands.{inferring_options, TakesInput};
 ghost use Rattle.lucy_app.specs.Outcomes.{bytes_of, EndsRun, OfProgram};
 ghost use Rattle.lucy_app.specs.Engines.{whole_run, EndsPlayed, EndsPlaying};
 
-use crate::fetch::fetch;
+use crate::fetching::fetch;
 use crate::options::inferring;
 use crate::output::{conclude, refuse, tell};
 use crate::running::accepted;
