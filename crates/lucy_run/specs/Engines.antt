@@ -7,7 +7,6 @@ use Rattle.lucy_host.specs.Operators.{Operator, kinds_of}
 use Rattle.lucy_meaning.specs.Spots.{main_of}
 use Rattle.lucy_meaning.specs.Horizons.{Suffice}
 use Rattle.lucy_kahn.specs.Turns.{params_in}
-use Rattle.lucy_flat.specs.Clocked.{AreClocked}
 use Rattle.lucy_runner.specs.Views.{most_workers}
 use Rattle.lucy_execution.specs.Streams.{param_words, main_streams}
 use Rattle.lucy_front.specs.declared.accepted.Accepted.{Accepted}
@@ -17,7 +16,6 @@ use Rattle.lucy_front.specs.Accepting.{IsAccepted}
 -- a program that is accepted for these operators can be played on these inputs up to a horizon, by so many workers
 pub record CanBePlayed (operators : List Operator) (a : Accepted) (inputs : List (List ℤ)) (instants workers : ℕ) : Type 0 where
   pub accepted : (text : List ℕ) × (options : Options) × IsAccepted operators options text a
-  pub clocked : AreClocked a.placed.nodes a.clocks.items
   pub lists : params_in (main_of a.placed.nodes) ≡ length inputs
   pub suffice : Suffice (param_words a.placed.nodes a.clocks.items) inputs instants
   pub early : instants ≤ limit_number limit.Instants

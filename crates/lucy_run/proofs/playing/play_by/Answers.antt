@@ -31,8 +31,6 @@ play-requires-clause-can g c =
     c.most_instants.ensures c.in-Ok.ensures.each c.horizon-horizon.ensures in
     record {
       accepted = c.requires.accepted;
-      clocked = c.accepted_programs_are_clocked.ensures.clocked (lent c.args.host.now) c.requires.accepted.1 c.requires.accepted.0 a
-          c.requires.accepted.2;
       lists = c.requires.inputs;
       suffice = subst (λ (u : List Bits). Suffice u c.args.feed.items c.horizon-horizon.result) same is.suffice;
       early = omega (arith, is.within, few_most c.args.given c.requires.few);
