@@ -1,0 +1,25 @@
+// An engine that always wants memory.
+use lucy_app::Engine;
+use lucy_front::Accepted;
+use lucy_host::{Host, Inputs};
+use lucy_word::OutOfMemory;
+use std::alloc::Global;
+
+#[derive(Clone, Copy)]
+pub(crate) struct Wanting;
+
+impl<F> Engine<F> for Wanting {
+    ghost plays = { λ _ _. Unit {0} };
+
+    fn play(
+        &mut self,
+        _alloc: Global,
+        _accepted: &Accepted,
+        _host: &Host<F>,
+        _inputs: Inputs,
+        _instants: u64,
+        _workers: u32,
+    ) -> Result<Inputs, OutOfMemory> {
+        Err(OutOfMemory)
+    }
+}

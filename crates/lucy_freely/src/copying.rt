@@ -1,0 +1,58 @@
+// An equal net.
+ghost use Rattle.std.specs.Prelude.{◌≡◌, IfOk};
+
+use lucy_net::{Actor, Actors, Net, RingSpec, Rings};
+use lucy_word::OutOfMemory;
+use std::alloc::Global;
+
+// Equal actors.
+fn copy_actors(alloc: Global, actors: &[Actor]) -> Result<Vec<Actor>, OutOfMemory>
+    ensures { IfOk result (λ copies. copies.items ≡ actors.now) }
+{
+    let mut copies = Vec::new(alloc);
+    for actor in actors {
+        match copies.push(actor.copy(alloc)?) {
+            Ok(()) => {}
+            Err(_) => return Err(OutOfMemory),
+        }
+    }
+    Ok(copies)
+}
+
+// An equal ring.
+fn copy_ring(alloc: Global, ring: &RingSpec) -> Result<RingSpec, OutOfMemory>
+    ensures { IfOk result (λ copy. copy ≡ ring.now) }
+{
+    let write = ring.write.copy(alloc)?;
+    let read = ring.read.copy(alloc)?;
+    Ok(RingSpec {
+        from: ring.from,
+        to: ring.to,
+        write,
+        read,
+        size: ring.size,
+    })
+}
+
+// Equal rings.
+fn copy_rings(alloc: Global, rings: &[RingSpec]) -> Result<Vec<RingSpec>, OutOfMemory>
+    ensures { IfOk result (λ copies. copies.items ≡ rings.now) }
+{
+    let mut copies = Vec::new(alloc);
+    for ring in rings {
+        match copies.push(copy_ring(alloc, ring)?) {
+            Ok(()) => {}
+            Err(_) => return Err(OutOfMemory),
+        }
+    }
+    Ok(copies)
+}
+
+/// An equal net.
+pub(crate) fn copy_net(alloc: Global, net: &Net) -> Result<Net, OutOfMemory>
+    ensures { IfOk result (λ copy. copy ≡ net.now) }
+{
+    let actors = Actors::new(copy_actors(alloc, net.actors.list())?);
+    let rings = Rings::new(copy_rings(alloc, net.rings.list())?);
+    Ok(Net { actors, rings })
+}
