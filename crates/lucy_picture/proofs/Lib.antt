@@ -1,3 +1,5 @@
 mod ChartLaws
 mod TurnLaws
 mod FillLaws
+mod FormLaws
+mod SeekLaws

@@ -65,7 +65,9 @@ pub record IsFill (n : PlacedNode) (c : NodeClock) (shown buffer : ℕ) (fill : 
   pub written : fill.written ≡ marks_of (assigned c.words fill.operand) shown
   pub read : fill.read ≡ marks_of (assigned c.words fill.place) shown
   pub waits : fill.waits ≡ map (waiting (assigned c.words fill.operand) (assigned c.words fill.place)) (instants shown)
-  pub counts : (i : ℕ) → ones_to (assigned c.words fill.operand) i ≡ ones_to (assigned c.words fill.place) i + waiting (assigned c.words fill.operand) (assigned c.words fill.place) i
+  pub counts : (i : ℕ) →
+      ones_to (assigned c.words fill.operand) i
+      ≡ ones_to (assigned c.words fill.place) i + waiting (assigned c.words fill.operand) (assigned c.words fill.place) i
   pub full : TellsFull (assigned c.words fill.operand) (assigned c.words fill.place) fill.size shown fill.full
 
 -- one for each buffer, in order

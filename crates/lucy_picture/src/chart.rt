@@ -54,10 +54,10 @@ pub fn chart_of(
 ) -> Result<Chart, OutOfMemory>
     requires accepted { (ops : List Operator) × (o : Choices) × (text : List ℕ) × IsAccepted ops o text accepted.now }
     requires node { node < length accepted.now.placed.nodes }
-    ensures rows { (n : Node) (c : Clock) → slice_get accepted.now.placed.nodes node ≡ Some n → slice_get accepted.now.clocks.items node ≡ Some c →
-        IfOk result (λ t. t.rows.items ≡ map (row_of (assigned c.words) shown) (named_places n)) }
-    ensures fills { (n : Node) (c : Clock) → slice_get accepted.now.placed.nodes node ≡ Some n → slice_get accepted.now.clocks.items node ≡ Some c →
-        IfOk result (λ t. AreFills n c shown t.fills.items) }
+    ensures rows { (n : Node) (c : Clock) → slice_get accepted.now.placed.nodes node ≡ Some n →
+        slice_get accepted.now.clocks.items node ≡ Some c → IfOk result (λ t. t.rows.items ≡ map (row_of (assigned c.words) shown) (named_places n)) }
+    ensures fills { (n : Node) (c : Clock) → slice_get accepted.now.placed.nodes node ≡ Some n →
+        slice_get accepted.now.clocks.items node ≡ Some c → IfOk result (λ t. AreFills n c shown t.fills.items) }
 {
     let clock = clocks_at(&accepted.clocks, node);
     drawn(alloc, accepted.placed.node(node), clock, shown)

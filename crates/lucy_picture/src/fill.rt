@@ -1,5 +1,5 @@
 // How full the buffers of a node are.
-ghost use Rattle.std.specs.Prelude.{ℕ, List, ◌≡◌, ◌≢◌, ◌<◌, ◌≤◌, ◌+◌, ◌∷◌, ◌++◌, [], Some, length, map, slice_index, MatchOption, IfOk, OnOk};
+ghost use Rattle.std.specs.Prelude.{List, ◌≡◌, ◌<◌, ◌+◌, ◌∷◌, ◌++◌, [], Some, length, map, IfOk, OnOk};
 ghost use Rattle.lucy_place.specs.declared.placed.PlacedNode.{PlacedNode as Node};
 ghost use Rattle.lucy_place.specs.Standing.{at_one};
 ghost use Rattle.lucy_place.specs.Proper.{IsProperNode};

@@ -1,12 +1,15 @@
-//! What pictures of a program show, as data whose contracts say what they are: the marks of streams and what waits in buffers,
-//! instant by instant, and where an offset stands in a text. Printing is another layer of modules, which is safe and tested.
+//! What pictures show of a program, as data whose contracts say what they are: the marks of streams and what waits in buffers,
+//! instant by instant, where an offset stands in a text, and which form stands at a place. Printing is another layer of modules, which
+//! is safe and tested.
 //!
-//! It stands on `lucy_front`, which accepts programs. Begin with `chart_of` in `chart.rt` and with `specs/Charts.antt`, and for texts with
-//! `spot_of` in `spot.rt` and `specs/Spots.antt`. Below `print` stands what only prints them.
+//! It stands on `lucy_front`, which accepts programs. Begin with `chart_of` in `chart.rt` and with `specs/Charts.antt`; for texts with
+//! `spot_of` in `spot.rt` and `specs/Spots.antt`; for forms with `form_of` in `forms.rt` and `specs/Forms.antt`. Below `print` stands
+//! what only prints them, and below `view` what the program `lucy_view` does.
 #![tactic(auto)]
 
 mod chart;
 mod fill;
+mod forms;
 mod marks;
 mod named;
 mod print;
@@ -18,6 +21,7 @@ mod words;
 
 pub use chart::{Chart, chart_of};
 pub use fill::Fill;
+pub use forms::{form_of, forms_stand_at_their_places};
 pub use marks::Marks;
 pub use print::{put_spot, put_time};
 pub use row::Row;

@@ -1,7 +1,9 @@
 // Printing: what pictures show, as text. It is safe, and the rows test it.
 mod columns;
+mod form;
 mod place;
 mod time;
 
+pub(crate) use form::put_entry;
 pub use place::put_spot;
 pub use time::put_time;

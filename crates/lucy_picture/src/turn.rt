@@ -1,5 +1,6 @@
 // After how many instants the streams of a node come again together.
-ghost use Rattle.std.specs.Prelude.{List, ℕ, ◌≡◌, ◌<◌, ◌≤◌, ◌+◌, ◌∷◌, ◌++◌, [], Some, max, length, map, slice_get, IfOk, IfSome, IfNone, OnOk};
+ghost use Rattle.std.specs.Prelude.{List, ℕ, ◌≡◌, ◌<◌, ◌≤◌, ◌+◌, ◌∷◌, ◌++◌, [], Some, max};
+ghost use Rattle.std.specs.Prelude.{length, map, slice_get, IfOk, IfSome, IfNone, OnOk};
 ghost use Rattle.std.specs.List.{AllByRecursion};
 ghost use Rattle.lucy_host.specs.Operators.{Operator};
 ghost use Rattle.lucy_word.specs.Limits.{limit_number};
@@ -44,7 +45,8 @@ fn with_word(so_far: Turn, word: &Word) -> Option<Turn>
     ensures period { IfSome result (λ t. IsLcm so_far.period (length word.now.period) t.period) }
     ensures short { IfSome result (λ t. t.prefix + t.period ≤ limit_number Limit.Schedule) }
     ensures nonempty { 0 < length word.now.period }
-    ensures none { IfNone result ((m : ℕ) × IsLcm so_far.period (length word.now.period) m × (limit_number Limit.Schedule < max so_far.prefix (length word.now.prefix) + m)) }
+    ensures none { IfNone result ((m : ℕ) × IsLcm so_far.period (length word.now.period) m ×
+        (limit_number Limit.Schedule < max so_far.prefix (length word.now.prefix) + m)) }
 {
     let (prefix, period) = word.lengths();
     let prefix = so_far.prefix.max(prefix);
@@ -98,10 +100,10 @@ fn shown_clocks(alloc: Global, node: &PlacedNode) -> Result<Vec<u32>, OutOfMemor
 pub fn turn_of(alloc: Global, accepted: &Accepted, node: u32) -> Result<Option<Turn>, OutOfMemory>
     requires accepted { (ops : List Operator) × (o : Choices) × (text : List ℕ) × IsAccepted ops o text accepted.now }
     requires node { node < length accepted.now.placed.nodes }
-    ensures some { (n : Node) (c : Clock) → slice_get accepted.now.placed.nodes node ≡ Some n → slice_get accepted.now.clocks.items node ≡ Some c →
-        IfOk result (λ turn. IfSome turn (λ t. AreLengths (map (assigned c.words) (shown_clocks n)) t.prefix t.period)) }
-    ensures none { (n : Node) (c : Clock) → slice_get accepted.now.placed.nodes node ≡ Some n → slice_get accepted.now.clocks.items node ≡ Some c →
-        IfOk result (λ turn. IfNone turn (AreTooLong (map (assigned c.words) (shown_clocks n)))) }
+    ensures some { (n : Node) (c : Clock) → slice_get accepted.now.placed.nodes node ≡ Some n →
+        slice_get accepted.now.clocks.items node ≡ Some c → IfOk result (λ turn. IfSome turn (λ t. AreLengths (map (assigned c.words) (shown_clocks n)) t.prefix t.period)) }
+    ensures none { (n : Node) (c : Clock) → slice_get accepted.now.placed.nodes node ≡ Some n →
+        slice_get accepted.now.clocks.items node ≡ Some c → IfOk result (λ turn. IfNone turn (AreTooLong (map (assigned c.words) (shown_clocks n)))) }
 {
     let clock = clocks_at(&accepted.clocks, node);
     let clocks = shown_clocks(alloc, accepted.placed.node(node))?;

@@ -12,7 +12,7 @@ use charts::charts;
 use failure::Failure;
 use lucy_host::Ops;
 use lucy_text::{Shelf, Sink};
-use places::place;
+use places::spots;
 use std::alloc::Global;
 use telling::{print, refuse, tell_words};
 use words::{Ask, read};
@@ -28,7 +28,7 @@ fn answer<S: Shelf>(
 {
     match ask {
         Ask::Time(words) => charts(alloc, words, ops, shelf),
-        Ask::Where(words) => place(alloc, words, shelf),
+        Ask::Where(words) => spots(alloc, words, ops, shelf),
     }
 }
 
@@ -37,7 +37,7 @@ fn answer<S: Shelf>(
 ///
 /// - 0: what was asked for stands on `out`: a picture, or the help or the version.
 /// - 1: the text of FILE is no program, and why is told as `lucy clocks` tells it.
-/// - 2: the words ask for nothing that there is; or the program has no such node, or the text no such offset.
+/// - 2: the words ask for nothing that there is; or the program has no such node, the node no such place, or the text no such offset.
 /// - 4: there is no FILE, or a fetch failed.
 /// - 5: a write to `out` or to `err` failed.
 /// - 6: a limit is passed, as `lucy clocks` tells it.

@@ -3,6 +3,8 @@ ghost use Rattle.std.specs.Prelude.{◌≡◌};
 ghost use Rattle.lucy_picture.specs.Failures.{Tellable};
 ghost use Rattle.lucy_picture.specs.declared.view.failure.Failure.TheVariants.{Program, OutOfMemory};
 
+use lucy_place::NameError;
+use lucy_syntax::SyntaxError;
 use lucy_text::ShelfError;
 use lucy_word::{Limit, OutOfMemory};
 use std::alloc::AllocError;
@@ -53,5 +55,29 @@ impl From<lucy_front::Refusal> for Failure {
 
     fn from(refusal: lucy_front::Refusal) -> Self {
         Failure::Program(refusal)
+    }
+}
+
+impl From<SyntaxError> for Failure {
+    ghost from_gives = { λ _ e. Tellable e };
+
+    fn from(error: SyntaxError) -> Self {
+        match error {
+            SyntaxError::OutOfMemory => Failure::OutOfMemory,
+            SyntaxError::TooLarge(limit) => Failure::Program(lucy_front::Refusal::Limit(limit)),
+            error => Failure::Program(lucy_front::Refusal::Syntax(error)),
+        }
+    }
+}
+
+impl From<NameError> for Failure {
+    ghost from_gives = { λ _ e. Tellable e };
+
+    fn from(error: NameError) -> Self {
+        match error {
+            NameError::OutOfMemory => Failure::OutOfMemory,
+            NameError::TooMany(limit) => Failure::Program(lucy_front::Refusal::Limit(limit)),
+            error => Failure::Program(lucy_front::Refusal::Names(error)),
+        }
     }
 }

@@ -19,7 +19,10 @@ pub(crate) struct TimeWords<'a> {
 #[derive(Clone, Copy)]
 pub(crate) struct WhereWords<'a> {
     pub file: &'a str,
-    pub offset: u64,
+    /// An offset, or `#` and the number of a place.
+    pub at: &'a str,
+    /// The name of the place's node, or main.
+    pub node: Option<&'a str>,
 }
 
 /// What the words ask for.
@@ -66,14 +69,15 @@ fn time<'a>(alloc: Global) -> Result<Command<'a>, AllocError> {
 
 // `where`
 fn place<'a>(alloc: Global) -> Result<Command<'a>, AllocError> {
-    let offset = Arg::new(alloc, "OFFSET")
-        .required(true)
-        .value_parser(value_parser!(u64))
-        .help("an offset in bytes from 0, as a refusal tells it");
+    let at = Arg::new(alloc, "AT").required(true).help(
+        "an offset in bytes from 0, or #N, as a refusal tells them",
+    );
+    let node = Arg::new(alloc, "NODE").help("the node of the place #N; else the last one");
     Command::new(alloc, "where")
-        .about("Shows the line and the column of an offset")
+        .about("Shows the line and the column of an offset, or of a place and what stands there")
         .arg(file(alloc))?
-        .arg(offset)
+        .arg(at)?
+        .arg(node)
 }
 
 // All commands.
@@ -103,7 +107,8 @@ fn time_words<'a>(matches: &ArgMatches<'a>) -> Option<TimeWords<'a>> {
 fn where_words<'a>(matches: &ArgMatches<'a>) -> Option<WhereWords<'a>> {
     Some(WhereWords {
         file: matches.get_str("FILE")?,
-        offset: matches.get_one::<u64>("OFFSET")?,
+        at: matches.get_str("AT")?,
+        node: matches.get_str("NODE"),
     })
 }
 
