@@ -16,6 +16,8 @@ mod Outcomes
 mod Sinks
 mod Runs
 mod RunEnds
+mod ReplaysOnce
+mod Replays
 mod Accepting
 mod Statuses
 mod Played

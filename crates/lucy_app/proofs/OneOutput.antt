@@ -18,12 +18,21 @@ use Rattle.lucy_front.specs.Report.{report}
 use Rattle.lucy_run.specs.Feeds.{IsInput}
 use Rattle.lucy_run.specs.Owes.{most_instants, input_words, heading, lines_to, stream_lines, IsHorizonOf}
 use Rattle.lucy_run.specs.Laws.{IsFedWell}
+use Rattle.lucy_run.specs.Replays.{first_core, IsReplayText}
+use Rattle.lucy_run.proofs.ReplayLaws.{text_once}
+use Rattle.lucy_fields.specs.Readings.{AreRead}
+use Rattle.lucy_trace.specs.Logs.{picks_of}
+use Rattle.lucy_net.specs.declared.net.Net.{Net}
+use Rattle.lucy_core.specs.Seen.{first_seen}
+use Rattle.lucy_place.specs.declared.placed.PlacedNode.{PlacedNode}
+use Rattle.lucy_output.specs.declared.output.OutputSpec.{OutputSpec}
+use Rattle.lucy_app.proofs.ReplaysOnce.{picks_one}
 use Rattle.lucy_run.proofs.OwesLaws.{OneHorizon}
 use Rattle.lucy_make.specs.Text.{made_text, made_input}
 use Rattle.lucy_make.specs.Figures.{figures}
 use Rattle.lucy_make.specs.Owes.{printed_values}
-use Rattle.lucy_command.specs.Commands.{TightenWords, Command, Order, Show, Types, Check, Clocks, Run, Kahn, Make, Tighten}
-use Rattle.lucy_app.specs.Commands.{written_options, inferring_options}
+use Rattle.lucy_command.specs.Commands.{TightenWords, Command, Order, Show, Types, Check, Clocks, Run, Kahn, Make, Tighten, Replay}
+use Rattle.lucy_app.specs.Commands.{written_options, inferring_options, Wanted, program_of, log_of}
 use Rattle.lucy_app.specs.World.{World}
 use Rattle.lucy_app.specs.Order.{IsVerdictLine}
 use Rattle.lucy_app.specs.Show.{IsPrintOf, RefusesSyntax}
@@ -46,17 +55,17 @@ told_one : (files : Option Files) (file text other : List ℕ) → IsSomeAnd fil
 told_one None file text other is also = absurd is
 told_one (Some files) file text other is also = let e : Some text ≡ Some other = sym is ∙ also in cc e
 
-pub held_one : (shelf : SeenShelf) (file text other : List ℕ) → Holds shelf file text → Holds shelf file other → text ≡ other
-held_one shelf file text other is also = told_one shelf.files file text other is.0 also.0
+pub held_one : (shelf : SeenShelf) (file : Wanted) (text other : List ℕ) → Holds shelf file text → Holds shelf file other → text ≡ other
+held_one shelf file text other is also = told_one shelf.files file.file text other is.0 also.0
 
 -- a text has one print
-print_one : (Prints : List ℕ → List ℕ → Type 0) (Refuses : List ℕ → Refusal → Type 0) → IsVerdict Prints Refuses → (shelf : SeenShelf) (file a b : List ℕ) →
+print_one : (Prints : List ℕ → List ℕ → Type 0) (Refuses : List ℕ → Refusal → Type 0) → IsVerdict Prints Refuses → (shelf : SeenShelf) (file : Wanted) (a b : List ℕ) →
     HoldsSuch (λ text. Prints text a) shelf file → HoldsSuch (λ text. Prints text b) shelf file → a ≡ b
 print_one Prints Refuses v shelf file a b (text, holds, is) (other, held, also) =
     v.one other a b (subst (λ t. Prints t a) (held_one shelf file text other holds held) is) also
 
 -- and is one program
-program_one : (ops : List Operator) (o : Options) (instants : Option ℕ) (shelf : SeenShelf) (file : List ℕ) (a b : Accepted) →
+program_one : (ops : List Operator) (o : Options) (instants : Option ℕ) (shelf : SeenShelf) (file : Wanted) (a b : Accepted) →
     HoldsSuch (λ text. IsRunnable ops o instants text a) shelf file → HoldsSuch (λ text. IsRunnable ops o instants text b) shelf file → AreSame a b
 program_one ops o instants shelf file a b (text, holds, is) (other, held, also) =
     accepted_same ops o other a b (subst (λ t. IsAccepted ops o t a) (held_one shelf file text other holds held) is.0) also.0
@@ -106,32 +115,54 @@ module _ (cut : OneCut) (horizons : OneHorizon) (kinds : List HostKind) (a b : A
       ap (λ net. figures stages net horizon (printed_values kinds a lists horizon)) same.net ∙ ap (λ vs. figures stages b.net horizon vs) (values_same stages kinds a b same lists horizon)
       ∙ ap (λ ls. figures stages b.net horizon (printed_values kinds b ls horizon)) lists_same ∙ ap (λ t. figures stages b.net t (printed_values kinds b others t)) horizon_same
 
+  -- and the text of a replay is one
+  replays_same : (ops : List Operator) (picks events output out : List ℕ) → picks ≡ events → IsReplayText (first_core ops a lists horizon) a.placed.nodes a.outputs.items picks output →
+      IsReplayText (first_core ops b others last) b.placed.nodes b.outputs.items events out → output ≡ out
+  replays_same ops picks events output out one text also =
+      let P : Net → Type 0 = λ net. IsReplayText (first_seen net a.schedule lists ops horizon) a.placed.nodes a.outputs.items picks output in
+      let Q : List PlacedNode → Type 0 = λ ns. IsReplayText (first_seen b.net a.schedule lists ops horizon) ns a.outputs.items picks output in
+      let R : List OutputSpec → Type 0 = λ os. IsReplayText (first_seen b.net a.schedule lists ops horizon) b.placed.nodes os picks output in
+      let S : List (List ℤ) → Type 0 = λ ls. IsReplayText (first_seen b.net a.schedule ls ops horizon) b.placed.nodes b.outputs.items picks output in
+      let T : ℕ → Type 0 = λ t. IsReplayText (first_seen b.net a.schedule others ops t) b.placed.nodes b.outputs.items picks output in
+      let U : List ℕ → Type 0 = λ ps. IsReplayText (first_seen b.net a.schedule others ops last) b.placed.nodes b.outputs.items ps output in
+      let moved = subst U one (subst T horizon_same (subst S lists_same (subst R same.outputs (subst Q same.nodes (subst P same.net text))))) in
+      text_once (first_core ops b others last) b.placed.nodes b.outputs.items events output out moved also
+
+-- a log that is held names one list of events
+log_one : (shelf : SeenShelf) (file : Wanted) (picks events : List ℕ) → HoldsSuch (λ log. AreRead (picks_of log) picks) shelf file → HoldsSuch (λ log. AreRead (picks_of log) events) shelf file → picks ≡ events
+log_one shelf file picks events (text, holds, is) (other, held, also) =
+    picks_one other picks events (subst (λ t. AreRead (picks_of t) picks) (held_one shelf file text other holds held) is) also
+
 pub output_one : OneCut → OneHorizon → (command : Command) (before : World) (a b : List ℕ) →
     ((words : TightenWords) → command ≡ Tighten words → ⊥) → MayPrint command before a → MayPrint command before b → a ≡ b
 output_one cut horizons Order before a b other is also = line_one before.source.left a b is also
-output_one cut horizons (Show file) before a b other is also = print_one IsPrintOf RefusesSyntax show_verdict before.shelf file a b is also
+output_one cut horizons (Show file) before a b other is also = print_one IsPrintOf RefusesSyntax show_verdict before.shelf (program_of file) a b is also
 output_one cut horizons (Types file) before a b other is also =
-    print_one (IsReportOf before.operators) (RefusesText before.operators) (types_verdict before.operators) before.shelf file a b is also
+    print_one (IsReportOf before.operators) (RefusesText before.operators) (types_verdict before.operators) before.shelf (program_of file) a b is also
 output_one cut horizons (Check file) before a b other is also =
-    print_one (IsCheckOf before.operators written_options) (RefusesCheck before.operators written_options) (check_verdict before.operators written_options) before.shelf file a b is also
+    print_one (IsCheckOf before.operators written_options) (RefusesCheck before.operators written_options) (check_verdict before.operators written_options) before.shelf (program_of file) a b is also
 output_one cut horizons (Clocks words) before a b other is also =
     let o : Options = inferring_options words.scale words.lead in
-    print_one (IsCheckOf before.operators o) (RefusesCheck before.operators o) (check_verdict before.operators o) before.shelf words.file a b is also
+    print_one (IsCheckOf before.operators o) (RefusesCheck before.operators o) (check_verdict before.operators o) before.shelf (program_of words.file) a b is also
 output_one cut horizons (Run words) before a b other (p, lists, horizon, held, fed, is) (q, others, last, holds, feeds, also) =
-    let same = program_one before.operators (inferring_options words.scale words.lead) words.instants before.shelf words.file p q held holds in
+    let same = program_one before.operators (inferring_options words.scale words.lead) words.instants before.shelf (program_of words.file) p q held holds in
     is ∙ run_same cut horizons (kinds_of before.operators) p q same words.instants before.source.left lists others horizon last fed feeds ∙ sym also
 output_one cut horizons (Kahn words) before a b other (p, lists, horizon, held, fed, turns, items, is) (q, others, last, holds, feeds, few, short, also) =
-    let same = program_one before.operators (inferring_options words.scale words.lead) words.instants before.shelf words.file p q held holds in
+    let same = program_one before.operators (inferring_options words.scale words.lead) words.instants before.shelf (program_of words.file) p q held holds in
     is ∙ lines_same cut horizons (kinds_of before.operators) p q same words.instants before.source.left lists others horizon last fed feeds ∙ sym also
 output_one cut horizons (Make words) before a b other (p, lists, horizon, runs, fed, is) (q, others, last, run, feeds, also) =
     let same = accepted_same before.operators (inferring_options 1 1) (made_text words.stages) p q runs.0 run.0 in
     is ∙ figures_same cut horizons (kinds_of before.operators) p q same None (Some made_input) lists others horizon last fed feeds words.stages ∙ sym also
 output_one cut horizons (Tighten words) before a b other is also = absurd (other words refl)
+output_one cut horizons (Replay words) before a b other (p, lists, horizon, picks, held, log, fed, run, is) (q, others, last, events, holds, logs, feeds, ran, also) =
+    let same = program_one before.operators (inferring_options words.scale words.lead) words.instants before.shelf (program_of words.file) p q held holds in
+    replays_same cut horizons (kinds_of before.operators) p q same words.instants before.source.left lists others horizon last fed feeds before.operators picks events a b
+    (log_one before.shelf (log_of words.log) picks events log logs) is also
 
 -- and of `tighten` outputs that are alike
 pub outputs_alike : OneTight → (words : TightenWords) (before : World) (a b : List ℕ) → MayPrint (Tighten words) before a →
     MayPrint (Tighten words) before b → Alike (printed a) (printed b)
 outputs_alike law words before a b (text, holds, is) (other, held, also) =
     let o : Options = inferring_options words.scale words.lead in
-    let same : text ≡ other = held_one before.shelf words.file text other holds held in
+    let same : text ≡ other = held_one before.shelf (program_of words.file) text other holds held in
     prints_alike law before.operators o words other a b (subst (λ t. IsTightOf before.operators o words t a) same is) also

@@ -2,7 +2,7 @@
 use Rattle.std.proofs.Common.{ℕ, ◌≡◌, List, [], ◌∷◌, None, Result, Ok, Err, ap, sym, ◌∙◌, inl, inr}
 use Rattle.lucy_text.specs.declared.shelf.ShelfError.{ShelfError}
 use Rattle.lucy_text.specs.declared.shelf.ShelfError.TheVariants as shelf
-use Rattle.lucy_command.specs.Commands.{Command, Order, Show, Types, Check, Clocks, Run, Kahn, Make, Tighten}
+use Rattle.lucy_command.specs.Commands.{Command, Order, Show, Types, Check, Clocks, Run, Kahn, Make, Tighten, Replay}
 use Rattle.lucy_app.specs.Commands.{written_options, inferring_options}
 use Rattle.lucy_feed.specs.Sources.{Stop, Ended, Failed, Passed}
 use Rattle.lucy_app.specs.World.{Given}
@@ -15,7 +15,7 @@ use Rattle.lucy_app.specs.Owes.{OwesOrder, Owes}
 use Rattle.lucy_app.specs.Programs.{OwesRefusal, OwesText, OwesPrint}
 use Rattle.lucy_host.specs.Operators.{kinds_of}
 use Rattle.lucy_run.specs.Owes.{OwesRun, OwesKahn}
-use Rattle.lucy_run.specs.Laws.{OneRun, OneInterpretation}
+use Rattle.lucy_run.specs.Laws.{OneRun, OneInterpretation, OneReplay}
 use Rattle.lucy_app.proofs.OwedPrograms.{print_decided, same_alike, unrefused, owed_one, text_owes_one}
 use Rattle.lucy_make.specs.Text.{made_text}
 use Rattle.lucy_make.specs.Owes.{OwesSummary}
@@ -23,6 +23,7 @@ use Rattle.lucy_lines.specs.Laws.{OneCut}
 use Rattle.lucy_run.proofs.OwesLaws.{OneHorizon}
 use Rattle.lucy_app.proofs.RunsOnce.{runs_alike, run_once, kahn_once}
 use Rattle.lucy_app.proofs.MakesOnce.{summary_once}
+use Rattle.lucy_app.proofs.ReplaysOnce.{logged_alike}
 use Rattle.lucy_app.proofs.Causes.{one_line, one_cause_of_fields, pair_is_not_refused}
 use Rattle.lucy_app.proofs.Verdicts.{show_verdict, one_syntax}
 use Rattle.lucy_app.proofs.Typed.{types_verdict}
@@ -39,40 +40,42 @@ order_owes_one taken Failed a b is also = is ∙ sym also
 order_owes_one taken Passed a b is also = is ∙ sym also
 order_owes_one taken stop a b is also = absurd is
 
-pub owes_one : OneCut → OneHorizon → OneRun → OneInterpretation → OneTight → (command : Command) (given : Given) (a b : Answer) →
+pub owes_one : OneCut → OneHorizon → OneRun → OneInterpretation → OneReplay → OneTight → (command : Command) (given : Given) (a b : Answer) →
     Owes command given a → Owes command given b → Alike a b
-owes_one cut horizon run kahn tight Order given a b is also = inl (order_owes_one given.taken given.stop a b is also)
-owes_one cut horizon run kahn tight (Show file) given a b is also =
+owes_one cut horizon run kahn again tight Order given a b is also = inl (order_owes_one given.taken given.stop a b is also)
+owes_one cut horizon run kahn again tight (Show file) given a b is also =
     text_owes_one (λ x y. x ≡ y) RefusesSyntax (OwesPrint IsPrintOf) (print_decided IsPrintOf RefusesSyntax show_verdict)
     same_alike given.stop given.fetched a b is also
-owes_one cut horizon run kahn tight (Types file) given a b is also =
+owes_one cut horizon run kahn again tight (Types file) given a b is also =
     let ops = given.operators in
     text_owes_one (λ x y. x ≡ y) (RefusesText ops) (OwesPrint (IsReportOf ops))
     (print_decided (IsReportOf ops) (RefusesText ops) (types_verdict ops)) same_alike given.stop given.fetched a b is also
-owes_one cut horizon run kahn tight (Check file) given a b is also =
+owes_one cut horizon run kahn again tight (Check file) given a b is also =
     let ops = given.operators in
     text_owes_one (λ x y. x ≡ y) (RefusesCheck ops written_options) (OwesPrint (IsCheckOf ops written_options))
     (print_decided (IsCheckOf ops written_options) (RefusesCheck ops written_options) (check_verdict ops written_options))
     same_alike given.stop given.fetched a b is also
-owes_one cut horizon run kahn tight (Clocks words) given a b is also =
+owes_one cut horizon run kahn again tight (Clocks words) given a b is also =
     let ops = given.operators in
     let o = inferring_options words.scale words.lead in
     text_owes_one (λ x y. x ≡ y) (RefusesCheck ops o) (OwesPrint (IsCheckOf ops o))
     (print_decided (IsCheckOf ops o) (RefusesCheck ops o) (check_verdict ops o)) same_alike given.stop given.fetched a b is also
-owes_one cut horizon run kahn tight (Run words) given a b is also =
+owes_one cut horizon run kahn again tight (Run words) given a b is also =
     runs_alike (λ p. OwesRun (kinds_of given.operators) p words.instants given.taken given.stop) (run_once run (kinds_of given.operators) words.instants given.taken given.stop) given.operators
     (inferring_options words.scale words.lead) words.instants given.stop given.fetched a b is also
-owes_one cut horizon run kahn tight (Kahn words) given a b is also =
+owes_one cut horizon run kahn again tight (Kahn words) given a b is also =
     runs_alike (λ p. OwesKahn (kinds_of given.operators) p words.instants given.taken given.stop) (kahn_once kahn (kinds_of given.operators) words.instants given.taken given.stop) given.operators
     (inferring_options words.scale words.lead) words.instants given.stop given.fetched a b is also
-owes_one cut horizon run kahn tight (Make words) given a b is also =
+owes_one cut horizon run kahn again tight (Make words) given a b is also =
     runs_alike (λ p. OwesSummary words.stages (kinds_of given.operators) p) (summary_once cut horizon words.stages (kinds_of given.operators)) given.operators (inferring_options 1 1) None given.stop
     (Ok (made_text words.stages) ∷ []) a b is also
-owes_one cut horizon run kahn tight (Tighten words) given a b is also =
+owes_one cut horizon run kahn again tight (Tighten words) given a b is also =
     let ops = given.operators in
     let o = inferring_options words.scale words.lead in
     text_owes_one Alike (RefusesCheck ops o) (OwesTight ops o words) (tight_decided tight ops o words) (λ x y h. h)
     given.stop given.fetched a b is also
+owes_one cut horizon run kahn again tight (Replay words) given a b is also =
+    logged_alike again given.operators words.instants given.taken given.stop (inferring_options words.scale words.lead) given.fetched a b is also
 
 -- `show` refuses a text with one answer
 show_refusal_one : (fetched : List (Result (List ℕ) ShelfError)) (a b : Answer) → OwesRefusal RefusesSyntax fetched a → OwesRefusal RefusesSyntax fetched b → a ≡ b

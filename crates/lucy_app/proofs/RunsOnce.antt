@@ -55,10 +55,10 @@ accepted_same ops o text a b is also =
 
 module _ (kinds : List HostKind) (a b : Accepted) (same : AreSame a b) (instants : Option ℕ) (taken : List ℕ) (stop : Stop) where
   -- what the nodes and the words say of one says it of the other
-  moves : (P : List PlacedNode → List NodeClock → Type 0) → P a.placed.nodes a.clocks.items → P b.placed.nodes b.clocks.items
+  pub moves : (P : List PlacedNode → List NodeClock → Type 0) → P a.placed.nodes a.clocks.items → P b.placed.nodes b.clocks.items
   moves P h = subst (λ cs. P b.placed.nodes cs) same.clocks (subst (λ ns. P ns a.clocks.items) same.nodes h)
 
-  fed_moves : (lists : List (List _)) (fault : Option _) (horizon : ℕ) → IsFed a instants taken stop lists fault horizon → IsFed b instants taken stop lists fault horizon
+  pub fed_moves : (lists : List (List _)) (fault : Option _) (horizon : ℕ) → IsFed a instants taken stop lists fault horizon → IsFed b instants taken stop lists fault horizon
   fed_moves lists fault horizon fed = record {
     feeds = subst (λ is. Feeds is taken stop lists fault) same.inputs fed.feeds;
     horizon_is = moves (λ ns cs. IsHorizon (param_words ns cs) lists (most_instants instants) horizon) fed.horizon_is;

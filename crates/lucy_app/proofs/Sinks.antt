@@ -3,7 +3,7 @@ use Rattle.std.proofs.Common.{ℕ, ◌≡◌, ◌⊎◌, List, [], Option, Some,
 use Rattle.std.specs.declared.alloc.Global.{Global}
 use Rattle.std.specs.declared.vec.Vec.{Vec}
 use Rattle.lucy_text.proofs.OutsideLaws.{appended-nil}
-use Rattle.lucy_command.specs.Commands.{Command, Order, Show, Types, Check, Clocks, Run, Kahn, Make, Tighten}
+use Rattle.lucy_command.specs.Commands.{Command, Order, Show, Types, Check, Clocks, Run, Kahn, Make, Tighten, Replay}
 use Rattle.lucy_text.specs.Outside.{SeenSink, Writes}
 use Rattle.lucy_app.specs.World.{World, Given, Meets}
 use Rattle.lucy_app.specs.Lines.{words_line, read_fault_line, instants_line, no_buffer_line, write_fault_line}
@@ -15,7 +15,7 @@ use Rattle.lucy_run.specs.declared.ending.Ending.{Ending}
 use Rattle.lucy_run.specs.declared.ending.Ending.TheVariants as ending
 use Rattle.lucy_app.specs.Outcomes.{refusal_answer, IsOutcome, TellsRefusal, Delivers, TellsEnding}
 use Rattle.lucy_app.specs.declared.refusal.Refusal.{Refusal}
-use Rattle.lucy_app.specs.declared.refusal.Refusal.TheVariants.{Program, Input, NoInstants, NoBuffer, ReadFault, OutOfMemory}
+use Rattle.lucy_app.specs.declared.refusal.Refusal.TheVariants.{Program, Input, NoInstants, NoBuffer, Log, ReadFault, OutOfMemory}
 
 -- a sink that is as it was has no more bytes
 pub unwritten : (s : SeenSink) → Writes s s []
@@ -33,6 +33,7 @@ prints_nothing (Program reason) = refl
 prints_nothing (Input cause) = refl
 prints_nothing NoInstants = refl
 prints_nothing NoBuffer = refl
+prints_nothing (Log e) = refl
 prints_nothing ReadFault = refl
 prints_nothing OutOfMemory = refl
 
@@ -62,6 +63,7 @@ counts_itself (Clocks words) given = refl
 counts_itself (Kahn words) given = refl
 counts_itself (Make words) given = refl
 counts_itself (Tighten words) given = refl
+counts_itself (Replay words) given = refl
 
 -- a command that came out so, and whose outcome was delivered
 ends_so : (command : Command) (given : Given) (outcome : Result (Vec ℕ Global) Refusal) (before after : World) (status : ℕ) → MayStand command given [] → StopsInOrder command given before.out after.out →
@@ -133,3 +135,9 @@ pub ends_with : (found command : Command) (given : Given) (before after : World)
 ends_with found command given before after status is met ends =
     let P : Command → Type 0 = λ c. EndsSo c before after status in
     subst P is (given, met, ends)
+
+-- and so where the command is told in other words
+pub ends_as : (found command : Command) (before after : World) (status : ℕ) → command ≡ found → EndsSo command before after status → EndsSo found before after status
+ends_as found command before after status is ends =
+    let P : Command → Type 0 = λ c. EndsSo c before after status in
+    subst P is ends

@@ -3,7 +3,7 @@ use Rattle.lucy_front.specs.declared.options.Options.{Options}
 use Rattle.std.proofs.Common.{ℕ, ◌≤◌, ◌≡◌, List, [], ◌∷◌, Option, Some, None, Result, Ok, Err, inl, inr, ap, arith}
 use Rattle.lucy_text.specs.declared.shelf.ShelfError.{ShelfError}
 use Rattle.lucy_text.specs.declared.shelf.ShelfError.TheVariants as shelf
-use Rattle.lucy_command.specs.Commands.{Command, Order, Show, Types, Check, Clocks, Run, Kahn, Make, Tighten}
+use Rattle.lucy_command.specs.Commands.{Command, Order, Show, Types, Check, Clocks, Run, Kahn, Make, Tighten, Replay}
 use Rattle.lucy_app.specs.Commands.{written_options, inferring_options, HasText}
 use Rattle.lucy_feed.specs.Sources.{Stop, Ended, Failed, Passed}
 use Rattle.lucy_text.specs.Outside.{SeenSink}
@@ -18,7 +18,9 @@ use Rattle.lucy_app.specs.Owes.{OwesOrder, Owes}
 use Rattle.lucy_app.specs.Programs.{OwesRefusal, OwesText, OwesPrint}
 use Rattle.lucy_app.specs.Tighten.{OwesSize, OwesBuffer, OwesTight}
 use Rattle.lucy_app.specs.Endings.{fault_status, ending_status}
-use Rattle.lucy_app.specs.Running.{OwesEnded, OwesRunning}
+use Rattle.lucy_app.specs.Running.{NoRun, OwesEnded, OwesRunning}
+use Rattle.lucy_app.specs.Replaying.{replayed, OwesEvents, OwesLog, OwesLogged}
+use Rattle.lucy_trace.specs.declared.error.TraceError.{TraceError}
 use Rattle.lucy_host.specs.Operators.{Operator, kinds_of}
 use Rattle.lucy_lines.specs.declared.reader.TextFault.{TextFault}
 use Rattle.lucy_lines.specs.declared.reader.TextFault.TheVariants as fault
@@ -110,6 +112,27 @@ buffer_within : (p : Accepted) (o : Options) (name : List ℕ) (buffer : ℕ) (a
 buffer_within p o name buffer a (inl is) = same_within a _ is.1 (omega arith)
 buffer_within p o name buffer a (inr is) = size_within p o _ buffer a is.1
 
+replayed_within : (output : List ℕ) (result : Result Ending TraceError) → (replayed output result).status ≤ 7
+replayed_within output (Ok end) = ending_within end
+replayed_within output (Err e) = omega arith
+
+log_within : (ops : List Operator) (p : Accepted) (instants : Option ℕ) (taken : List ℕ) (stop : Stop) (log : Result (List ℕ) ShelfError) (a : Answer) →
+    OwesLog (OwesEvents ops p instants taken stop) stop log a → a.status ≤ 7
+log_within ops p instants taken stop (Ok text) a (inl (place, bad, is, unread)) = same_within a _ is (omega arith)
+log_within ops p instants taken stop (Ok text) a (inr (picks, read, (output, result, owed, is))) = same_within a _ is (replayed_within output result)
+log_within ops p instants taken stop (Err shelf.Failed) a is = same_within a _ is.0 (omega arith)
+log_within ops p instants taken stop (Err shelf.Missing) a is = same_within a _ is.0 (omega arith)
+log_within ops p instants taken stop (Err shelf.TooLong) a is = same_within a _ is.0 (omega arith)
+log_within ops p instants taken stop (Err shelf.OutOfMemory) a is = absurd is
+
+logged_within : (ops : List Operator) (o : Options) (instants : Option ℕ) (taken : List ℕ) (stop : Stop) (fetched : List (Result (List ℕ) ShelfError)) (a : Answer) →
+    OwesLogged ops o instants taken stop fetched a → a.status ≤ 7
+logged_within ops o instants taken stop [] a is = absurd is
+logged_within ops o instants taken stop (file ∷ []) a is = running_within NoRun ops o instants stop (file ∷ []) a is
+logged_within ops o instants taken stop (Ok text ∷ (log ∷ [])) a (p, can, owed) = log_within ops p instants taken stop log a owed
+logged_within ops o instants taken stop (Err e ∷ (log ∷ [])) a is = absurd is
+logged_within ops o instants taken stop (file ∷ (log ∷ (other ∷ more))) a is = absurd is
+
 owed_within : (command : Command) (given : Given) (a : Answer) → Owes command given a → a.status ≤ 7
 owed_within Order given a is = order_within given.taken given.stop a is
 owed_within (Show file) given a is = print_within IsPrintOf RefusesSyntax given.stop given.fetched a is
@@ -128,6 +151,8 @@ owed_within (Tighten words) given a is =
     let o = inferring_options words.scale words.lead in
     text_within (RefusesCheck given.operators o) (OwesTight given.operators o words)
     (λ text x h. buffer_within h.0 o words.node words.buffer x h.2) given.stop given.fetched a is
+owed_within (Replay words) given a is =
+    logged_within given.operators (inferring_options words.scale words.lead) words.instants given.taken given.stop given.fetched a is
 
 answer_within : (command : Command) (given : Given) (a : Answer) → MayAnswer (Owes command given) (MayStand command given) a → a.status ≤ 7
 answer_within command given a (inl is) = owed_within command given a is

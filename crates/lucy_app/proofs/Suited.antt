@@ -24,14 +24,19 @@ use Rattle.lucy_run.specs.declared.ending.Ending.{Ending}
 use Rattle.lucy_run.specs.declared.ending.Ending.TheVariants as ending
 use Rattle.lucy_run.specs.Feeds.{Feeds, IsInput}
 use Rattle.lucy_run.specs.Owes.{most_instants, input_words, heading, lines_to, IsHorizonOf, EndsFor, OwesRun, OwesKahn}
-use Rattle.lucy_run.specs.Laws.{IsFedWell, CompleteRun, CompleteInterpretation}
+use Rattle.lucy_run.specs.Laws.{IsFedWell, CompleteRun, CompleteInterpretation, CompleteReplay}
+use Rattle.lucy_run.specs.Replays.{first_core, IsReplayText}
+use Rattle.lucy_fields.specs.Readings.{AreRead}
+use Rattle.lucy_fields.proofs.ReadingLaws.{never_both}
+use Rattle.lucy_trace.specs.Logs.{picks_of}
+use Rattle.lucy_core.specs.Seen.{CanRun}
 use Rattle.lucy_run.proofs.OwesLaws.{OneHorizon, done_for}
 use Rattle.lucy_run.proofs.WholeLaws.{taken_front, taken_all}
 use Rattle.lucy_make.specs.Text.{made_text, made_input}
 use Rattle.lucy_make.specs.Figures.{figures}
 use Rattle.lucy_make.specs.Owes.{OwesSummary, printed_values, where_done}
-use Rattle.lucy_command.specs.Commands.{Command, Order, Show, Types, Check, Clocks, Run, Kahn, Make, Tighten}
-use Rattle.lucy_app.specs.Commands.{written_options, inferring_options, program_of}
+use Rattle.lucy_command.specs.Commands.{ReplayWords, Command, Order, Show, Types, Check, Clocks, Run, Kahn, Make, Tighten, Replay}
+use Rattle.lucy_app.specs.Commands.{written_options, inferring_options, Wanted, program_of, log_of}
 use Rattle.lucy_app.specs.World.{World, Given, Fetched, Fetches, Meets}
 use Rattle.lucy_app.specs.Answers.{Answer, printed, out_of_memory}
 use Rattle.lucy_app.specs.Order.{IsVerdictLine}
@@ -40,10 +45,12 @@ use Rattle.lucy_app.specs.Types.{IsReportOf, RefusesText}
 use Rattle.lucy_app.specs.Check.{IsCheckOf, RefusesCheck}
 use Rattle.lucy_app.specs.Endings.{ended}
 use Rattle.lucy_app.specs.Programs.{OwesText, OwesPrint}
-use Rattle.lucy_app.specs.Running.{IsRunnable, LacksInstants, OwesEnded, OwesRunning}
+use Rattle.lucy_app.specs.Running.{NoRun, IsRunnable, LacksInstants, OwesEnded, OwesRunning}
 use Rattle.lucy_app.specs.Owes.{OwesOrder, Owes}
 use Rattle.lucy_app.specs.Ends.{Answers, EndsWith, Declines}
-use Rattle.lucy_app.specs.Complete.{IsFaultless, Holds, MayPrint, Completes}
+use Rattle.lucy_app.specs.Complete.{IsFaultless, Holds, HoldsSuch, MayPrint, Completes}
+use Rattle.lucy_app.specs.Replaying.{replayed, OwesEvents, OwesLog, OwesLogged}
+use Rattle.lucy_app.proofs.ReplaysOnce.{picks_one, replay_moves}
 use Rattle.lucy_app.proofs.Owed.{order_owes_one}
 use Rattle.lucy_app.proofs.Verdicts.{IsVerdict, show_verdict}
 use Rattle.lucy_app.proofs.Typed.{types_verdict}
@@ -120,27 +127,31 @@ ran_done Owed ops o instants stop text more a output is ends answer (inr (b, als
 ran_done Owed ops o instants stop text more a output is ends answer (inr (b, also, inr ran)) = ran.4 ∙ ends b ran.1 ran.2 (accepted_same ops o text b a also is.0) ran.3
 
 -- what the fetch of a file that is held gave, where no count rose
-module _ (before after : SeenShelf) (file text : List ℕ) where
-  fetched_so : (files : Option Files) (fetched : Result (List ℕ) ShelfError) → before.files ≡ files → IsSomeAnd files (λ held. held file ≡ Some text) → length text ≤ limit_number limit.Text →
-      (Rose before.faults after.faults → ⊥) → Fetched (program_of file) before after fetched → (fetched ≡ Ok text) ⊎ (fetched ≡ Err shelf.OutOfMemory)
-  fetched_so None fetched is holds few well f = absurd holds
-  fetched_so (Some files) (Ok t) is holds few well f =
-      let P : Option Files → Type 0 = λ fs. IsHeld fs file t in
-      let held : files file ≡ Some t = subst P is f.held.0 in
+module _ (before after : SeenShelf) (file : Wanted) (text : List ℕ) where
+  -- a text that was fetched is the one that is held
+  text_held : (files : Option Files) (t : List ℕ) → before.files ≡ files → IsSomeAnd files (λ held. held file.file ≡ Some text) → Fetched file before after (Ok t) → t ≡ text
+  text_held None t is holds f = absurd holds
+  text_held (Some files) t is holds f =
+      let P : Option Files → Type 0 = λ fs. IsHeld fs file.file t in
+      let held : files file.file ≡ Some t = subst P is f.held.0 in
       let same : Some t ≡ Some text = sym held ∙ holds in
-      let equal : t ≡ text = cc same in
-      inl (ap Ok equal)
+      cc same
+
+  fetched_so : (files : Option Files) (fetched : Result (List ℕ) ShelfError) → before.files ≡ files → IsSomeAnd files (λ held. held file.file ≡ Some text) → length text ≤ file.most →
+      (Rose before.faults after.faults → ⊥) → Fetched file before after fetched → (fetched ≡ Ok text) ⊎ (fetched ≡ Err shelf.OutOfMemory)
+  fetched_so None fetched is holds few well f = absurd holds
+  fetched_so (Some files) (Ok t) is holds few well f = inl (ap Ok (text_held (Some files) t is holds f))
   fetched_so (Some files) (Err shelf.Failed) is holds few well f = absurd (well f.faults)
   fetched_so (Some files) (Err shelf.Missing) is holds few well f =
-      let P : Option Files → Type 0 = λ fs. Lacks fs file in
-      let none : files file ≡ None = subst P is (f.missing.0 refl).0 in
+      let P : Option Files → Type 0 = λ fs. Lacks fs file.file in
+      let none : files file.file ≡ None = subst P is (f.missing.0 refl).0 in
       let e : Some text ≡ None = sym holds ∙ none in
       absurd (cc e)
   fetched_so (Some files) (Err shelf.TooLong) is holds few well f =
       let gave : Result (List ℕ) ShelfError = Err shelf.TooLong in
-      let P : Option Files → Type 0 = λ fs. IfSome fs (λ files. (gave ≡ Err shelf.TooLong) ↔ (IsLonger (files file) (limit_number limit.Text) × (IsCut gave → ⊥))) in
-      let Q : Option (List ℕ) → Type 0 = λ o. IsLonger o (limit_number limit.Text) in
-      let long : limit_number limit.Text < length text = subst Q holds ((subst P is f.too_long).0 refl).0 in
+      let P : Option Files → Type 0 = λ fs. IfSome fs (λ files. (gave ≡ Err shelf.TooLong) ↔ (IsLonger (files file.file) file.most × (IsCut gave → ⊥))) in
+      let Q : Option (List ℕ) → Type 0 = λ o. IsLonger o file.most in
+      let long : file.most < length text = subst Q holds ((subst P is f.too_long).0 refl).0 in
       absurd (omega (arith, long, few))
   fetched_so (Some files) (Err shelf.OutOfMemory) is holds few well f = inr refl
 
@@ -148,14 +159,14 @@ module _ (before after : SeenShelf) (file text : List ℕ) where
   text_done : (Refuses : List ℕ → Refusal → Type 0) (Owed : List ℕ → Answer → Type 0) (stop : Stop) (Such : Answer → Type 0) →
       ((more : List (Result (List ℕ) ShelfError)) (answer : Answer) → OwesText Refuses Owed stop (Ok text ∷ more) answer → Such answer) →
       Holds before file text →
-      (Rose before.faults after.faults → ⊥) → (fetched : List (Result (List ℕ) ShelfError)) → Fetches (program_of file ∷ []) before after fetched → (answer : Answer) →
+      (Rose before.faults after.faults → ⊥) → (fetched : List (Result (List ℕ) ShelfError)) → Fetches (file ∷ []) before after fetched → (answer : Answer) →
       OwesText Refuses Owed stop fetched answer → Such answer
   text_done Refuses Owed stop Such same holds well [] met answer (inl owed) = absurd owed.0
   text_done Refuses Owed stop Such same holds well [] met answer (inr owed) = absurd owed
   text_done Refuses Owed stop Such same holds well (r ∷ other ∷ more) met answer owed = absurd met.2
   text_done Refuses Owed stop Such same holds well (r ∷ []) (between, met, e) answer owed =
       let P : Result (List ℕ) ShelfError → Type 0 = λ f. OwesText Refuses Owed stop (f ∷ []) answer in
-      let Q : SeenShelf → Type 0 = λ s. Fetched (program_of file) before s r in
+      let Q : SeenShelf → Type 0 = λ s. Fetched file before s r in
       elim (fetched_so before.files r refl holds.0 holds.1 well (subst Q (sym e) met)) [
         | inl is ↦ same [] answer (subst P is owed)
         | inr is ↦ elim (subst P is owed) [ inl none ↦ absurd none.0 | inr none ↦ absurd none ]
@@ -163,7 +174,7 @@ module _ (before after : SeenShelf) (file text : List ℕ) where
 
   -- a command that prints the text's program
   print_done : (Prints : List ℕ → List ℕ → Type 0) (Refuses : List ℕ → Refusal → Type 0) → IsVerdict Prints Refuses → (stop : Stop) (print : List ℕ) → Prints text print → Holds before file text →
-      (Rose before.faults after.faults → ⊥) → (fetched : List (Result (List ℕ) ShelfError)) → Fetches (program_of file ∷ []) before after fetched → (answer : Answer) →
+      (Rose before.faults after.faults → ⊥) → (fetched : List (Result (List ℕ) ShelfError)) → Fetches (file ∷ []) before after fetched → (answer : Answer) →
       OwesText Refuses (OwesPrint Prints) stop fetched answer → answer ≡ printed print
   print_done Prints Refuses v stop print is holds well fetched met answer owed =
       text_done Refuses (OwesPrint Prints) stop (λ a. a ≡ printed print)
@@ -173,7 +184,7 @@ module _ (before after : SeenShelf) (file text : List ℕ) where
   -- one that runs it
   run_done : (Owed : Accepted → List ℕ → Ending → Type 0) (ops : List Operator) (o : Options) (instants : Option ℕ) (stop : Stop) (a : Accepted) (output : List ℕ) → IsRunnable ops o instants text a →
       ((b : Accepted) (out : List ℕ) (end : Ending) → AreSame b a → Owed b out end → ended out end ≡ printed output) → Holds before file text → (Rose before.faults after.faults → ⊥) →
-      (fetched : List (Result (List ℕ) ShelfError)) → Fetches (program_of file ∷ []) before after fetched → (answer : Answer) → OwesRunning Owed ops o instants stop fetched answer → answer ≡ printed output
+      (fetched : List (Result (List ℕ) ShelfError)) → Fetches (file ∷ []) before after fetched → (answer : Answer) → OwesRunning Owed ops o instants stop fetched answer → answer ≡ printed output
   run_done Owed ops o instants stop a output is ends holds well fetched met answer owed =
       text_done (RefusesCheck ops o) (λ text told. (b : Accepted) × IsAccepted ops o text b × OwesEnded (Owed b) instants stop b told) stop
       (λ a. a ≡ printed output)
@@ -213,7 +224,75 @@ met_suits command before ops output e suits =
 ended_printed : (out output : List ℕ) (end : Ending) → (out ≡ output) × (end ≡ ending.Done) → ended out end ≡ printed output
 ended_printed out output end (same, over) = ap (λ e. ended out e) over ∙ ap printed same
 
-module _ (cut : OneCut) (horizons : OneHorizon) (run : CompleteRun) (kahn : CompleteInterpretation) (tight : OneTight)
+-- a log of a program that can be run is replayed to its end, where nothing refuses it
+module _ (again : CompleteReplay) (ops : List Operator) (words : ReplayWords) (taken : List ℕ) (stop : Stop) (before after : World) (a : Accepted) (lists : List (List ℤ)) (horizon : ℕ) (picks : List ℕ)
+    (text log : List ℕ) (held : Holds before.shelf (program_of words.file) text) (can : IsRunnable ops (inferring_options words.scale words.lead) words.instants text a)
+    (logs : Holds before.shelf (log_of words.log) log) (reads : AreRead (picks_of log) picks) (fed : IsFedWell a words.instants before.source.left lists horizon)
+    (run : CanRun (first_core ops a lists horizon) picks) (well : IsFaultless before after) (source : Read (limit_number limit.Input) before.source after.source taken stop) where
+  -- it prints the text of these events
+  abbrev Prints : Answer → Type 0
+  Prints answer = (output : List ℕ) × IsReplayText (first_core ops a lists horizon) a.placed.nodes a.outputs.items picks output × (answer ≡ printed output)
+
+  events_done : (b : Accepted) → AreSame b a → (answer : Answer) → OwesEvents ops b words.instants taken stop picks answer → Prints answer
+  events_done b same answer (output, result, owed, is) =
+      let whole = again ops a words.instants before.source after.source picks taken stop lists horizon output result source well.source fed run
+      (replay_moves ops b a same words.instants picks taken stop output result owed) in
+      (output, whole.0, is ∙ ap (replayed output) whole.1)
+
+  log_done : (b : Accepted) → AreSame b a → (answer : Answer) → OwesLog (OwesEvents ops b words.instants taken stop) stop (Ok log) answer → Prints answer
+  log_done b same answer (inl (place, (front, rest, at), is, unread)) = absurd (never_both picks front place rest (sym reads ∙ at))
+  log_done b same answer (inr (events, read, owed)) =
+      events_done b same answer (subst (λ ps. OwesEvents ops b words.instants taken stop ps answer) (picks_one log events picks read reads) owed)
+
+  -- the fetches gave both texts, or memory ran out
+  second_done : (between middle : SeenShelf) (t : List ℕ) (second : Result (List ℕ) ShelfError) (answer : Answer) → Fetched (program_of words.file) before.shelf between (Ok t) →
+      Fetched (log_of words.log) between middle second → after.shelf ≡ middle →
+      OwesLogged ops (inferring_options words.scale words.lead) words.instants taken stop (Ok t ∷ (second ∷ [])) answer → Prints answer
+  second_done between middle t second answer first next e (b, runs, owed) =
+      let same_text : t ≡ text = text_held before.shelf between (program_of words.file) text before.shelf.files t refl held.0 first in
+      let same : AreSame b a = accepted_same ops (inferring_options words.scale words.lead) text b a (subst (λ u. IsAccepted ops (inferring_options words.scale words.lead) u b) same_text runs.0) can.0 in
+      let calm : Rose between.faults middle.faults → ⊥ = λ rose. well.shelf (subst (λ n. Rose n after.shelf.faults) first.faults (subst (λ (s : SeenShelf). Rose between.faults s.faults) (sym e) rose)) in
+      elim (fetched_so between middle (log_of words.log) log before.shelf.files second first.files logs.0 logs.1 calm next) [
+        | inl is ↦ log_done b same answer (subst (λ r. OwesLog (OwesEvents ops b words.instants taken stop) stop r answer) is owed)
+        | inr is ↦ absurd (let none : OwesLog (OwesEvents ops b words.instants taken stop) stop (Err shelf.OutOfMemory) answer = subst (λ r. OwesLog (OwesEvents ops b words.instants taken stop) stop r answer) is owed in none)
+      ]
+
+  first_done : (between : SeenShelf) (first : Result (List ℕ) ShelfError) (answer : Answer) → Fetched (program_of words.file) before.shelf between first → after.shelf ≡ between →
+      OwesRunning NoRun ops (inferring_options words.scale words.lead) words.instants stop (first ∷ []) answer → ⊥
+  first_done between first answer met e owed =
+      let o = inferring_options words.scale words.lead in
+      let calm : Rose before.shelf.faults between.faults → ⊥ = λ rose. well.shelf (subst (λ (s : SeenShelf). Rose before.shelf.faults s.faults) (sym e) rose) in
+      let P : Result (List ℕ) ShelfError → Type 0 = λ f. OwesRunning NoRun ops o words.instants stop (f ∷ []) answer in
+      elim (fetched_so before.shelf between (program_of words.file) text before.shelf.files first refl held.0 held.1 calm met) [
+        | inl is ↦ elim (subst P is owed) [
+          | inl refused ↦ checks_apart ops o text a refused.0.0 can.0 refused.0.1
+          | inr (b, also, inl lacks) ↦ can.1 (sym (accepted_same ops o text b a also can.0).inputs ∙ lacks.0.0, lacks.0.1)
+          | inr (b, also, inr ran) ↦ ran.3
+        ]
+        | inr is ↦ elim (subst P is owed) [ inl none ↦ none.0 | inr none ↦ none ]
+      ]
+
+  logged_so : (fetched : List (Result (List ℕ) ShelfError)) → Fetches (program_of words.file ∷ (log_of words.log ∷ [])) before.shelf after.shelf fetched → (answer : Answer) →
+      OwesLogged ops (inferring_options words.scale words.lead) words.instants taken stop fetched answer → Prints answer
+  logged_so [] met answer owed = absurd owed
+  logged_so (first ∷ []) (between, met, e) answer owed = absurd (first_done between first answer met e owed)
+  logged_so (Ok t ∷ (second ∷ [])) (between, met, (middle, next, e)) answer owed = second_done between middle t second answer met next e owed
+  logged_so (Err f ∷ (second ∷ [])) met answer owed = absurd owed
+  logged_so (first ∷ (second ∷ (third ∷ more))) met answer owed = absurd owed
+
+logged_done : CompleteReplay → (ops : List Operator) (words : ReplayWords) (taken : List ℕ) (stop : Stop) (before after : World) →
+    (suits : (a : Accepted) × (lists : List (List ℤ)) × (horizon : ℕ) × (picks : List ℕ)
+    × HoldsSuch (λ text. IsRunnable ops (inferring_options words.scale words.lead) words.instants text a) before.shelf (program_of words.file)
+    × HoldsSuch (λ log. AreRead (picks_of log) picks) before.shelf (log_of words.log)
+    × IsFedWell a words.instants before.source.left lists horizon × CanRun (first_core ops a lists horizon) picks) →
+    IsFaultless before after → Read (limit_number limit.Input) before.source after.source taken stop → (fetched : List (Result (List ℕ) ShelfError)) →
+    Fetches (program_of words.file ∷ (log_of words.log ∷ [])) before.shelf after.shelf fetched → (answer : Answer) →
+    OwesLogged ops (inferring_options words.scale words.lead) words.instants taken stop fetched answer →
+    (output : List ℕ) × IsReplayText (first_core ops suits.0 suits.1 suits.2) suits.0.placed.nodes suits.0.outputs.items suits.3 output × (answer ≡ printed output)
+logged_done again ops words taken stop before after (a, lists, horizon, picks, (text, held, can), (log, logs, reads), fed, run) well source fetched met answer owed =
+    logged_so again ops words taken stop before after a lists horizon picks text log held can logs reads fed run well source fetched met answer owed
+
+module _ (cut : OneCut) (horizons : OneHorizon) (run : CompleteRun) (kahn : CompleteInterpretation) (again : CompleteReplay) (tight : OneTight)
     (before after : World) (output : List ℕ) (status : ℕ) (well : IsFaultless before after) where
   carried_out : (command : Command) (given : Given) → Meets command before after given → EndsWith command given before after status →
       MayWith given.operators command before output → Finishes (MayWith given.operators command before) before after status
@@ -223,31 +302,31 @@ module _ (cut : OneCut) (horizons : OneHorizon) (run : CompleteRun) (kahn : Comp
   carried_out (Show file) given met ends suits =
       let (text, holds, is) = suits in
       done (MayWith given.operators (Show file) before) (Show file) before after given output status suits
-      (print_done before.shelf after.shelf file text IsPrintOf RefusesSyntax show_verdict given.stop output is holds
+      (print_done before.shelf after.shelf (program_of file) text IsPrintOf RefusesSyntax show_verdict given.stop output is holds
       well.shelf given.fetched met.shelf) well ends
   carried_out (Types file) given met ends suits =
       let (text, holds, is) = suits in
       let ops : List Operator = given.operators in
       done (MayWith given.operators (Types file) before) (Types file) before after given output status suits
-      (print_done before.shelf after.shelf file text (IsReportOf ops) (RefusesText ops) (types_verdict ops) given.stop output is holds well.shelf given.fetched met.shelf) well ends
+      (print_done before.shelf after.shelf (program_of file) text (IsReportOf ops) (RefusesText ops) (types_verdict ops) given.stop output is holds well.shelf given.fetched met.shelf) well ends
   carried_out (Check file) given met ends suits =
       let (text, holds, is) = suits in
       let ops : List Operator = given.operators in
       done (MayWith given.operators (Check file) before) (Check file) before after given output status suits
-      (print_done before.shelf after.shelf file text (IsCheckOf ops written_options) (RefusesCheck ops written_options) (check_verdict ops written_options) given.stop output is holds well.shelf given.fetched met.shelf) well ends
+      (print_done before.shelf after.shelf (program_of file) text (IsCheckOf ops written_options) (RefusesCheck ops written_options) (check_verdict ops written_options) given.stop output is holds well.shelf given.fetched met.shelf) well ends
   carried_out (Clocks words) given met ends suits =
       let (text, holds, is) = suits in
       let ops : List Operator = given.operators in
       let o : Options = inferring_options words.scale words.lead in
       done (MayWith given.operators (Clocks words) before) (Clocks words) before after given output status suits
-      (print_done before.shelf after.shelf words.file text (IsCheckOf ops o) (RefusesCheck ops o) (check_verdict ops o) given.stop output is holds well.shelf given.fetched met.shelf) well ends
+      (print_done before.shelf after.shelf (program_of words.file) text (IsCheckOf ops o) (RefusesCheck ops o) (check_verdict ops o) given.stop output is holds well.shelf given.fetched met.shelf) well ends
   carried_out (Run words) given met ends suits =
       let (a, lists, horizon, (text, holds, is), fed, lines) = suits in
       let ops : List Operator = given.operators in
       let kinds : List HostKind = kinds_of ops in
       let instants : Option ℕ = words.instants in
       done (MayWith given.operators (Run words) before) (Run words) before after given output status suits
-      (run_done before.shelf after.shelf words.file text (λ p. OwesRun kinds p instants given.taken given.stop) ops (inferring_options words.scale words.lead) instants given.stop a output is
+      (run_done before.shelf after.shelf (program_of words.file) text (λ p. OwesRun kinds p instants given.taken given.stop) ops (inferring_options words.scale words.lead) instants given.stop a output is
       (λ b out end same owed. ended_printed out (heading a ++ lines_to kinds a lists horizon) end (run kinds a instants before.source after.source given.taken given.stop lists horizon out end met.source well.source fed
       (run_moves kinds b a same instants given.taken given.stop out end owed)) ∙ ap printed (sym lines)) holds well.shelf given.fetched met.shelf) well ends
   carried_out (Kahn words) given met ends suits =
@@ -256,7 +335,7 @@ module _ (cut : OneCut) (horizons : OneHorizon) (run : CompleteRun) (kahn : Comp
       let kinds : List HostKind = kinds_of ops in
       let instants : Option ℕ = words.instants in
       done (MayWith given.operators (Kahn words) before) (Kahn words) before after given output status suits
-      (run_done before.shelf after.shelf words.file text (λ p. OwesKahn kinds p instants given.taken given.stop) ops (inferring_options words.scale words.lead) instants given.stop a output is
+      (run_done before.shelf after.shelf (program_of words.file) text (λ p. OwesKahn kinds p instants given.taken given.stop) ops (inferring_options words.scale words.lead) instants given.stop a output is
       (λ b out end same owed. ended_printed out (lines_to kinds a lists horizon) end (kahn kinds a instants before.source after.source given.taken given.stop lists horizon out end met.source well.source fed turns items
       (kahn_moves kinds b a same instants given.taken given.stop out end owed)) ∙ ap printed (sym lines)) holds well.shelf given.fetched met.shelf) well ends
   carried_out (Make words) given met ends suits =
@@ -271,7 +350,7 @@ module _ (cut : OneCut) (horizons : OneHorizon) (run : CompleteRun) (kahn : Comp
       let o : Options = inferring_options words.scale words.lead in
       let (text, holds, is) = suits in
       such_done (MayWith ops (Tighten words) before) (Tighten words) before after given status
-      (text_done before.shelf after.shelf words.file text (RefusesCheck ops o) (OwesTight ops o words) given.stop
+      (text_done before.shelf after.shelf (program_of words.file) text (RefusesCheck ops o) (OwesTight ops o words) given.stop
       (IsSuch (MayWith ops (Tighten words) before))
       (λ more answer h. elim h [
         | inl refused ↦ absurd (tight_unrefused ops o words text output refused.0.0 is refused.0.1)
@@ -279,6 +358,13 @@ module _ (cut : OneCut) (horizons : OneHorizon) (run : CompleteRun) (kahn : Comp
             let (print, prints, told) = tight_printed tight ops o words text output answer is owed in
             (print, (text, holds, prints), told))
       ]) holds well.shelf given.fetched met.shelf) well ends
+  carried_out (Replay words) given met ends suits =
+      such_done (MayWith given.operators (Replay words) before) (Replay words) before after given status
+      (λ answer owed. (
+      let (output, text, is) = logged_done again given.operators words given.taken given.stop before after (suits.0, suits.1, suits.2, suits.3, suits.4, suits.5, suits.6, suits.7) well met.source given.fetched met.shelf answer owed in
+      let (a, lists, horizon, picks, held, log, fed, run, old) = suits in
+      (output, (a, lists, horizon, picks, held, log, fed, run, text), is)
+      )) well ends
 
 -- what may stand by the operators that a command has met may stand by those of its world
 unmet : (command : Command) (before : World) (ops : List Operator) (status : ℕ) (after : World) → ops ≡ before.operators →
@@ -288,10 +374,10 @@ unmet command before ops status after e finishes =
     let P : List Operator → Type 0 = λ os. Finishes (MayWith os command before) before after status in
     subst P e finishes
 
-pub suited_done : OneCut → OneHorizon → CompleteRun → CompleteInterpretation → OneTight → Completes
-suited_done cut horizons run kahn tight command before after status (inl (given, met, ends)) well (output, may) =
+pub suited_done : OneCut → OneHorizon → CompleteRun → CompleteInterpretation → CompleteReplay → OneTight → Completes
+suited_done cut horizons run kahn again tight command before after status (inl (given, met, ends)) well (output, may) =
     unmet command before given.operators status after met.operators
-    (carried_out cut horizons run kahn tight before after output status well command given met ends
+    (carried_out cut horizons run kahn again tight before after output status well command given met ends
     (met_suits command before given.operators output met.operators may))
-suited_done cut horizons run kahn tight command before after status (inr declines) well (output, may) =
+suited_done cut horizons run kahn again tight command before after status (inr declines) well (output, may) =
     declined (MayPrint command before) before after status well declines

@@ -8,7 +8,8 @@ use Rattle.lucy_front.specs.declared.accepted.Accepted.{Accepted}
 use Rattle.lucy_tight.specs.declared.answer.Least.{Least}
 use Rattle.lucy_tight.specs.Tightening as tight
 use Rattle.lucy_tight.specs.Report.{tight_lines}
-use Rattle.lucy_app.specs.Lines.{instants_line, no_buffer_line, read_fault_line, words_line}
+use Rattle.lucy_trace.specs.declared.error.TraceError.{TraceError}
+use Rattle.lucy_app.specs.Lines.{instants_line, log_line, no_buffer_line, read_fault_line, words_line}
 use Rattle.lucy_app.specs.ProgramRefusals.{program_status}
 use Rattle.lucy_app.specs.InputRefusals.{input_status, input_line}
 use Rattle.lucy_app.specs.declared.input_refusal.InputCause.{InputCause}
@@ -54,6 +55,10 @@ program_refused refusal = refused (program_status refusal) (refusal_text refusal
 -- the input is refused for this cause
 abbrev pub input_refused : InputCause → Answer
 input_refused cause = refused (input_status cause) (input_line cause)
+
+-- a log is refused so
+abbrev pub log_refused : TraceError → Answer
+log_refused e = refused 3 (log_line e)
 
 -- memory ran out once this stood on the output
 abbrev pub out_of_memory : (out : List ℕ) → Answer

@@ -1,14 +1,17 @@
 -- What commands work with: how they find the clocks of a program, and what they call.
-use Rattle.std.specs.Prelude.{ℕ, ◌≢◌, false, true, List, [], ◌∷◌, Option, Some, None, Result, IsOkAnd}
+use Rattle.std.specs.Prelude.{ℕ, ◌≢◌, false, true, List, [], ◌∷◌, drop, Option, Some, None, Result, IsOkAnd}
 use Rattle.lucy_word.specs.Limits.{limit_number}
+use Rattle.lucy_word.specs.declared.limit.Limit.{Limit}
 use Rattle.lucy_word.specs.declared.limit.Limit.TheVariants as limit
+use Rattle.lucy_fields.specs.Readings.{AreRead}
+use Rattle.lucy_trace.specs.Logs.{picks_of}
 use Rattle.lucy_host.specs.Operators.{Operator}
 use Rattle.lucy_text.specs.declared.shelf.ShelfError.{ShelfError}
 use Rattle.lucy_feed.specs.Feeding.{IsAsked}
 use Rattle.lucy_front.specs.declared.accepted.Accepted.{Accepted}
 use Rattle.lucy_front.specs.declared.options.Options.{Options}
 use Rattle.lucy_front.specs.Accepting.{IsAccepted}
-use Rattle.lucy_command.specs.Commands.{Command, Order, Show, Types, Check, Clocks, Run, Kahn, Tighten}
+use Rattle.lucy_command.specs.Commands.{Command, Order, Show, Types, Check, Clocks, Run, Kahn, Tighten, Replay}
 
 -- each node has to be written
 abbrev pub written_options : Options
@@ -27,6 +30,14 @@ pub record Wanted : Type 0 where
 abbrev pub program_of : (file : List ℕ) → Wanted
 program_of file = record { file = file; most = limit_number limit.Text }
 
+-- the limit of the bytes of a log
+abbrev pub log_limit : Limit
+log_limit = limit.Compare
+
+-- the text of a log
+abbrev pub log_of : (file : List ℕ) → Wanted
+log_of file = record { file = file; most = limit_number log_limit }
+
 -- what the shelf is asked for in turn, where the words name this command or none
 abbrev pub files_of : Option Command → List Wanted
 files_of (Some (Show file)) = program_of file ∷ []
@@ -36,6 +47,7 @@ files_of (Some (Clocks words)) = program_of words.file ∷ []
 files_of (Some (Run words)) = program_of words.file ∷ []
 files_of (Some (Kahn words)) = program_of words.file ∷ []
 files_of (Some (Tighten words)) = program_of words.file ∷ []
+files_of (Some (Replay words)) = program_of words.file ∷ (log_of words.log ∷ [])
 files_of other = []
 
 -- how many bytes may be taken from the source, and one more, where the words name a command that may read it
@@ -43,6 +55,7 @@ abbrev pub input_of : Option Command → Option ℕ
 input_of (Some Order) = Some (limit_number limit.OrderInput)
 input_of (Some (Run words)) = Some (limit_number limit.Input)
 input_of (Some (Kahn words)) = Some (limit_number limit.Input)
+input_of (Some (Replay words)) = Some (limit_number limit.Input)
 input_of other = None
 
 -- what was fetched first is a text of which this holds
@@ -54,9 +67,14 @@ HasText (fetched ∷ more) Holds = IsOkAnd fetched Holds
 abbrev pub TakesInput : List Operator → Options → (fetched : List (Result (List ℕ) ShelfError)) → (taken : List ℕ) → Type 0
 TakesInput ops o fetched taken = HasText fetched (λ text. (a : Accepted) × IsAccepted ops o text a × (a.inputs.items ≢ []) × IsAsked a.inputs.items taken)
 
+-- what was fetched next is a log of numbers of actors
+abbrev pub HasLog : List (Result (List ℕ) ShelfError) → Type 0
+HasLog fetched = HasText (drop 1 fetched) (λ log. (picks : List ℕ) × AreRead (picks_of log) picks)
+
 -- a command takes these bytes from the source where the host has these operators and this was fetched
 abbrev pub ReadsSource : Command → List Operator → (fetched : List (Result (List ℕ) ShelfError)) → (taken : List ℕ) → Type 0
 ReadsSource Order ops fetched taken = Unit {0}
 ReadsSource (Run words) ops fetched taken = TakesInput ops (inferring_options words.scale words.lead) fetched taken
 ReadsSource (Kahn words) ops fetched taken = TakesInput ops (inferring_options words.scale words.lead) fetched taken
+ReadsSource (Replay words) ops fetched taken = TakesInput ops (inferring_options words.scale words.lead) fetched taken × HasLog fetched
 ReadsSource command ops fetched taken = ⊥

@@ -9,11 +9,15 @@ use Rattle.lucy_execution.specs.Running.{HasManyTurns, HasManyItems}
 use Rattle.lucy_front.specs.declared.accepted.Accepted.{Accepted}
 use Rattle.lucy_run.specs.Owes.{heading, lines_to}
 use Rattle.lucy_run.specs.Laws.{IsFedWell}
+use Rattle.lucy_fields.specs.Readings.{AreRead}
+use Rattle.lucy_core.specs.Seen.{CanRun}
+use Rattle.lucy_trace.specs.Logs.{picks_of}
+use Rattle.lucy_run.specs.Replays.{first_core, IsReplayText}
 use Rattle.lucy_make.specs.Text.{made_text, made_input}
 use Rattle.lucy_make.specs.Figures.{figures}
 use Rattle.lucy_make.specs.Owes.{printed_values}
-use Rattle.lucy_command.specs.Commands.{Command, Order, Show, Types, Check, Clocks, Run, Kahn, Make, Tighten}
-use Rattle.lucy_app.specs.Commands.{written_options, inferring_options}
+use Rattle.lucy_command.specs.Commands.{Command, Order, Show, Types, Check, Clocks, Run, Kahn, Make, Tighten, Replay}
+use Rattle.lucy_app.specs.Commands.{written_options, inferring_options, Wanted, program_of, log_of}
 use Rattle.lucy_text.specs.Shelf.{SeenShelf}
 use Rattle.lucy_app.specs.World.{World}
 use Rattle.lucy_app.specs.Answers.{printed}
@@ -32,35 +36,41 @@ pub record IsFaultless (before after : World) : Type 0 where
   pub out : Rose before.out.faults after.out.faults → ⊥
   pub err : Rose before.err.faults after.err.faults → ⊥
 
--- the shelf tells this text under the name, and it is no longer than a program may be
-abbrev pub Holds : SeenShelf → (file text : List ℕ) → Type 0
-Holds shelf file text = IsSomeAnd shelf.files (λ files. files file ≡ Some text) × (length text ≤ limit_number limit.Text)
+-- the shelf tells this text under the name that is wanted, and it is no longer than it may be
+abbrev pub Holds : SeenShelf → Wanted → (text : List ℕ) → Type 0
+Holds shelf wanted text = IsSomeAnd shelf.files (λ files. files wanted.file ≡ Some text) × (length text ≤ wanted.most)
 
 -- it tells one of which this holds
-abbrev pub HoldsSuch : (Such : List ℕ → Type 0) → SeenShelf → (file : List ℕ) → Type 0
-HoldsSuch Such shelf file = (text : List ℕ) × Holds shelf file text × Such text
+abbrev pub HoldsSuch : (Such : List ℕ → Type 0) → SeenShelf → Wanted → Type 0
+HoldsSuch Such shelf wanted = (text : List ℕ) × Holds shelf wanted text × Such text
 
 -- nothing that a command is handed refuses it, no limit is passed, and this may stand on the output
 abbrev pub MayPrint : Command → World → (output : List ℕ) → Type 0
 MayPrint Order before output = IsSomeAnd before.source.left (λ bytes. IsVerdictLine bytes output × (length bytes ≤ limit_number limit.OrderInput))
-MayPrint (Show file) before output = HoldsSuch (λ text. IsPrintOf text output) before.shelf file
-MayPrint (Types file) before output = HoldsSuch (λ text. IsReportOf before.operators text output) before.shelf file
-MayPrint (Check file) before output = HoldsSuch (λ text. IsCheckOf before.operators written_options text output) before.shelf file
-MayPrint (Clocks words) before output = HoldsSuch (λ text. IsCheckOf before.operators (inferring_options words.scale words.lead) text output) before.shelf words.file
+MayPrint (Show file) before output = HoldsSuch (λ text. IsPrintOf text output) before.shelf (program_of file)
+MayPrint (Types file) before output = HoldsSuch (λ text. IsReportOf before.operators text output) before.shelf (program_of file)
+MayPrint (Check file) before output = HoldsSuch (λ text. IsCheckOf before.operators written_options text output) before.shelf (program_of file)
+MayPrint (Clocks words) before output = HoldsSuch (λ text. IsCheckOf before.operators (inferring_options words.scale words.lead) text output) before.shelf (program_of words.file)
 MayPrint (Run words) before output =
     (a : Accepted) × (lists : List (List ℤ)) × (horizon : ℕ)
-    × HoldsSuch (λ text. IsRunnable before.operators (inferring_options words.scale words.lead) words.instants text a) before.shelf words.file
+    × HoldsSuch (λ text. IsRunnable before.operators (inferring_options words.scale words.lead) words.instants text a) before.shelf (program_of words.file)
     × IsFedWell a words.instants before.source.left lists horizon × (output ≡ heading a ++ lines_to (kinds_of before.operators) a lists horizon)
 MayPrint (Kahn words) before output =
     (a : Accepted) × (lists : List (List ℤ)) × (horizon : ℕ)
-    × HoldsSuch (λ text. IsRunnable before.operators (inferring_options words.scale words.lead) words.instants text a) before.shelf words.file
+    × HoldsSuch (λ text. IsRunnable before.operators (inferring_options words.scale words.lead) words.instants text a) before.shelf (program_of words.file)
     × IsFedWell a words.instants before.source.left lists horizon × (HasManyTurns a.placed.nodes horizon → ⊥)
     × (HasManyItems (kinds_of before.operators) lists a.placed.nodes a.clocks.items horizon → ⊥) × (output ≡ lines_to (kinds_of before.operators) a lists horizon)
 MayPrint (Make words) before output =
     (a : Accepted) × (lists : List (List ℤ)) × (horizon : ℕ) × IsRunnable before.operators (inferring_options 1 1) None (made_text words.stages) a
     × IsFedWell a None (Some made_input) lists horizon × (output ≡ figures words.stages a.net horizon (printed_values (kinds_of before.operators) a lists horizon))
 MayPrint (Tighten words) before output =
-    HoldsSuch (λ text. IsTightOf before.operators (inferring_options words.scale words.lead) words text output) before.shelf words.file
+    HoldsSuch (λ text. IsTightOf before.operators (inferring_options words.scale words.lead) words text output) before.shelf (program_of words.file)
+MayPrint (Replay words) before output =
+    (a : Accepted) × (lists : List (List ℤ)) × (horizon : ℕ) × (picks : List ℕ)
+    × HoldsSuch (λ text. IsRunnable before.operators (inferring_options words.scale words.lead) words.instants text a) before.shelf (program_of words.file)
+    × HoldsSuch (λ log. AreRead (picks_of log) picks) before.shelf (log_of words.log)
+    × IsFedWell a words.instants before.source.left lists horizon × CanRun (first_core before.operators a lists horizon) picks
+    × IsReplayText (first_core before.operators a lists horizon) a.placed.nodes a.outputs.items picks output
 
 -- nothing refuses it, and no limit is passed
 abbrev pub Suits : Command → World → Type 0

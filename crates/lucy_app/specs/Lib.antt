@@ -15,6 +15,7 @@ pub mod Programs
 pub mod Tighten
 pub mod Endings
 pub mod Running
+pub mod Replaying
 pub mod Owes
 pub mod Ends
 pub mod Complete

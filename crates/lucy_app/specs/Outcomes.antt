@@ -1,8 +1,13 @@
 -- What the parts of the body hand on: what a fetch gave, and how a command came out before anything is written.
-use Rattle.std.specs.Prelude.{ℕ, ◌≡◌, ◌⊎◌, List, [], Option, Result, Ok, Err, MatchResult}
+use Rattle.std.specs.Prelude.{ℕ, ◌≡◌, ◌⊎◌, List, [], ◌≢◌, Option, Result, Ok, Err, IsOkAnd, MatchResult}
 use Rattle.std.specs.declared.alloc.Global.{Global}
 use Rattle.std.specs.declared.vec.Vec.{Vec}
+use Rattle.lucy_word.specs.declared.limit.Limit.{Limit}
 use Rattle.lucy_word.specs.declared.limit.Limit.TheVariants as limit
+use Rattle.lucy_fields.specs.Readings.{AreRead}
+use Rattle.lucy_trace.specs.Logs.{picks_of}
+use Rattle.lucy_trace.specs.declared.error.TraceError.{TraceError}
+use Rattle.lucy_trace.specs.declared.error.TraceError.TheVariants as trace
 use Rattle.lucy_text.specs.declared.shelf.ShelfError.{ShelfError}
 use Rattle.lucy_text.specs.declared.shelf.ShelfError.TheVariants as shelf
 use Rattle.lucy_front.specs.declared.refusal.Refusal.{Refusal as Reason}
@@ -13,17 +18,19 @@ use Rattle.lucy_command.specs.Commands.{Make}
 use Rattle.lucy_front.specs.Refusals.{limit_line, memory_line, IsTellable}
 use Rattle.lucy_feed.specs.declared.read.ReadError.{ReadError}
 use Rattle.lucy_feed.specs.declared.read.ReadError.TheVariants as read
-use Rattle.lucy_text.specs.Outside.{SeenSink}
+use Rattle.lucy_text.specs.Outside.{SeenSource, SeenSink}
+use Rattle.lucy_feed.specs.Feeding.{IsAsked}
 use Rattle.lucy_host.specs.Operators.{Operator}
 use Rattle.lucy_front.specs.declared.accepted.Accepted.{Accepted}
 use Rattle.lucy_front.specs.Accepting.{IsAccepted}
 use Rattle.lucy_run.specs.Ends.{IsFrontOf}
 use Rattle.lucy_run.specs.declared.ending.Ending.{Ending}
 use Rattle.lucy_run.specs.declared.ending.Ending.TheVariants as ending
-use Rattle.lucy_app.specs.Answers.{Answer, printed, read_fault, no_instants, no_buffer, program_refused, input_refused, out_of_memory}
+use Rattle.lucy_app.specs.Answers.{Answer, printed, read_fault, no_instants, no_buffer, program_refused, input_refused, log_refused, out_of_memory}
 use Rattle.lucy_app.specs.Endings.{fault_status, fault_line, ending_status, ending_line}
 use Rattle.lucy_app.specs.Commands.{HasText}
-use Rattle.lucy_app.specs.Running.{IsRunnable, OwesRunning}
+use Rattle.lucy_app.specs.Running.{NoRun, IsRunnable, OwesRunning}
+use Rattle.lucy_app.specs.Replaying.{OwesEvents, OwesLog}
 use Rattle.lucy_feed.specs.Sources.{Stop, Unread}
 use Rattle.lucy_app.specs.World.{Given}
 pub use Rattle.lucy_app.specs.World.{bytes_of}
@@ -31,7 +38,7 @@ use Rattle.lucy_app.specs.Owes.{Owes}
 use Rattle.lucy_app.specs.Ends.{Tells, Answers, Breaks, EndsBy, MayStand, MayFail}
 use Rattle.lucy_app.specs.declared.input_refusal.InputCause.{InputCause}
 use Rattle.lucy_app.specs.declared.refusal.Refusal.{Refusal}
-use Rattle.lucy_app.specs.declared.refusal.Refusal.TheVariants.{Program, Input, NoInstants, NoBuffer, ReadFault, OutOfMemory}
+use Rattle.lucy_app.specs.declared.refusal.Refusal.TheVariants.{Program, Input, NoInstants, NoBuffer, Log, ReadFault, OutOfMemory}
 
 -- the answer of a refusal
 abbrev pub refusal_answer : Refusal → Answer
@@ -39,6 +46,7 @@ refusal_answer (Program reason) = program_refused reason
 refusal_answer (Input cause) = input_refused cause
 refusal_answer NoInstants = no_instants
 refusal_answer NoBuffer = no_buffer
+refusal_answer (Log e) = log_refused e
 refusal_answer ReadFault = read_fault
 refusal_answer OutOfMemory = out_of_memory []
 
@@ -74,12 +82,21 @@ abbrev pub Delivers : Result (Vec ℕ Global) Refusal → (out out' err err' : S
 Delivers (Ok print) out out' err err' status = Prints print.items out out' err err' status
 Delivers (Err e) out out' err err' status = (out' ≡ out) × TellsRefusal e err err' status
 
--- why a command has no answer where a fetch failed so
+-- why a command has no answer where the fetch of a file within this limit failed so
+abbrev pub fetch_refusal_within : Limit → ShelfError → Refusal
+fetch_refusal_within most shelf.Failed = ReadFault
+fetch_refusal_within most shelf.Missing = ReadFault
+fetch_refusal_within most shelf.TooLong = Program (front.Limit most)
+fetch_refusal_within most shelf.OutOfMemory = OutOfMemory
+
+-- that of a program
 abbrev pub fetch_refusal : ShelfError → Refusal
-fetch_refusal shelf.Failed = ReadFault
-fetch_refusal shelf.Missing = ReadFault
-fetch_refusal shelf.TooLong = Program (front.Limit limit.Text)
-fetch_refusal shelf.OutOfMemory = OutOfMemory
+fetch_refusal e = fetch_refusal_within limit.Text e
+
+-- and where a log is refused
+abbrev pub trace_refusal : TraceError → Refusal
+trace_refusal trace.OutOfMemory = OutOfMemory
+trace_refusal e = Log e
 
 -- and where a phase refused the text
 abbrev pub program_refusal : Reason → Refusal
@@ -90,10 +107,6 @@ program_refusal reason = Program reason
 abbrev pub read_refusal : ReadError → Refusal
 read_refusal read.Failed = ReadFault
 read_refusal read.OutOfMemory = OutOfMemory
-
--- nothing is owed of a run
-abbrev pub NoRun : Accepted → (output : List ℕ) → Ending → Type 0
-NoRun a output end = ⊥
 
 -- what was fetched is a program that can be run, or is refused, but for want of memory
 abbrev pub IsAccepting : List Operator → Options → (instants : Option ℕ) → List (Result (List ℕ) ShelfError) → Result Accepted Refusal → Type 0
@@ -132,3 +145,27 @@ made_given ops = record { fetched = []; taken = []; stop = Unread; operators = o
 abbrev pub EndsMake : MakeWords → List Operator → (out out' err err' : SeenSink) (status : ℕ) → Type 0
 EndsMake words ops out out' err err' status =
     EndsBy (Owes (Make words) (made_given ops)) (MayStand (Make words) (made_given ops)) (MayFail (Make words) (made_given ops) out out') out out' err err' status
+
+-- nothing is owed of events
+abbrev pub NoEvents : (picks : List ℕ) → Answer → Type 0
+NoEvents picks answer = ⊥
+
+-- what was fetched is a log with these events, or is refused, but for want of memory
+abbrev pub IsLogRead : (log : Result (List ℕ) ShelfError) → Result (Vec ℕ Global) Refusal → Type 0
+IsLogRead log read =
+    MatchResult read (λ picks. IsOkAnd log (λ text. AreRead (picks_of text) picks.items))
+    (λ e. (e ≡ OutOfMemory) ⊎ OwesLog NoEvents Unread log (refusal_answer e))
+
+-- the source is as it was, or bytes of the input of a program were asked for behind its log
+abbrev pub ReadsBehind : Accepted → (log : Result (List ℕ) ShelfError) → (before after : SeenSource) (taken : List ℕ) → Type 0
+ReadsBehind a log before after taken =
+    (after ≡ before) ⊎ ((a.inputs.items ≢ []) × IsAsked a.inputs.items taken × IsOkAnd log (λ text. (picks : List ℕ) × AreRead (picks_of text) picks))
+
+-- an output that is owed of a log
+abbrev pub LogOutputs : List Operator → Accepted → (instants : Option ℕ) → (taken : List ℕ) → Stop → (log : Result (List ℕ) ShelfError) → (output : List ℕ) → Type 0
+LogOutputs ops a instants taken stop log output = (answer : Answer) × OwesLog (OwesEvents ops a instants taken stop) stop log answer × (output ≡ answer.out)
+
+-- how a program ends whose log was fetched
+abbrev pub EndsLog : List Operator → Accepted → (instants : Option ℕ) → (taken : List ℕ) → Stop → (log : Result (List ℕ) ShelfError) → (out out' err err' : SeenSink) (status : ℕ) → Type 0
+EndsLog ops a instants taken stop log out out' err err' status =
+    EndsBy (OwesLog (OwesEvents ops a instants taken stop) stop log) (IsFrontOf (LogOutputs ops a instants taken stop log)) (LogOutputs ops a instants taken stop log) out out' err err' status

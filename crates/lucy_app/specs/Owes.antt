@@ -7,7 +7,7 @@ use Rattle.lucy_run.specs.Feeds.{CountsAs}
 use Rattle.lucy_run.specs.Owes.{OwesRun, OwesKahn}
 use Rattle.lucy_make.specs.Text.{made_text}
 use Rattle.lucy_make.specs.Owes.{OwesSummary}
-use Rattle.lucy_command.specs.Commands.{Command, Order, Show, Types, Check, Clocks, Run, Kahn, Make, Tighten}
+use Rattle.lucy_command.specs.Commands.{Command, Order, Show, Types, Check, Clocks, Run, Kahn, Make, Tighten, Replay}
 use Rattle.lucy_app.specs.Commands.{written_options, inferring_options}
 use Rattle.lucy_app.specs.World.{Given}
 use Rattle.lucy_app.specs.Answers.{Answer, printed, read_fault, limit_passed, input_refused}
@@ -19,6 +19,7 @@ use Rattle.lucy_app.specs.Check.{IsCheckOf, RefusesCheck}
 use Rattle.lucy_app.specs.Programs.{OwesText, OwesPrint}
 use Rattle.lucy_app.specs.Tighten.{OwesTight}
 use Rattle.lucy_app.specs.Running.{OwesRunning}
+use Rattle.lucy_app.specs.Replaying.{OwesLogged}
 use Rattle.lucy_app.specs.declared.input_refusal.InputCause.{InputCause}
 
 -- `order`, by the bytes taken and how reading stopped
@@ -52,6 +53,8 @@ Owes (Make words) given answer =
 Owes (Tighten words) given answer =
     let o = inferring_options words.scale words.lead in
     OwesText (RefusesCheck given.operators o) (OwesTight given.operators o words) given.stop given.fetched answer
+Owes (Replay words) given answer =
+    OwesLogged given.operators (inferring_options words.scale words.lead) words.instants given.taken given.stop given.fetched answer
 
 -- what a command has met may count as this: as it is, or, where `run` gave up reading, as if the bytes taken were all
 abbrev pub MayCount : Command → (given counted : Given) → Type 0

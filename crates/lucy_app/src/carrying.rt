@@ -8,7 +8,7 @@ ghost use Rattle.lucy_app.specs.Ends.{EndsSo};
 use crate::fetching::fetch;
 use crate::options::{inferring, written};
 use crate::output::finish;
-use crate::{check, making, order, running, show, tightening, types};
+use crate::{check, making, order, replaying, running, show, tightening, types};
 use lucy_command::Command;
 use lucy_host::Host;
 use lucy_text::{Shelf, Sink, Source};
@@ -102,5 +102,6 @@ pub(crate) fn carry_out<
             let outcome = tightening::answer(alloc, fetched, host.ops(), words);
             finish(alloc, out, err, outcome)
         }
+        Command::Replay(words) => { replaying::replay(alloc, words, shelf, input, out, err, host) }
     }
 }

@@ -9,7 +9,7 @@ ghost use Rattle.lucy_app.specs.Engines.{PlayingCompletes};
 
 use lucy_lines::one_cut;
 use lucy_meaning::one_horizon;
-use lucy_run::{faultless_runs_are_done, one_interpretation, one_run};
+use lucy_run::{faultless_runs_are_done, one_interpretation, one_replay, one_run};
 use lucy_tight::one_tightest;
 
 /// A command that has met the same things owes one answer. Only the evidence for which a program is refused is left
@@ -23,6 +23,7 @@ pub fn one_answer()
     one_horizon();
     one_run();
     one_interpretation();
+    one_replay();
     one_tightest();
 }
 

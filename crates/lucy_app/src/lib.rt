@@ -1,9 +1,9 @@
 //! All that the program does, over a shelf, a source and sinks that are handed in: one call, with a status as its answer.
 //!
 //! It stands on `lucy_word`, `lucy_host`, `lucy_order`, `lucy_text`, `lucy_syntax`, `lucy_place`, `lucy_types`, `lucy_front`,
-//! `lucy_command`, `lucy_feed`, `lucy_run`, `lucy_make` and `lucy_tight`. Begin with `lucy` in `top.rt`. What it promises is in
+//! `lucy_command`, `lucy_feed`, `lucy_trace`, `lucy_run`, `lucy_make` and `lucy_tight`. Begin with `lucy` in `top.rt`. What it promises is in
 //! `specs/`: `Commands` says what the commands that `lucy_command` reads call, `World` what a command is lent and meets, `Owes` which
-//! answer it owes by that, with `Order`, `Show`, `Types`, `Check`, `Tighten` and `Running` for what each prints and refuses, `Ends`
+//! answer it owes by that, with `Order`, `Show`, `Types`, `Check`, `Tighten`, `Running` and `Replaying` for what each prints and refuses, `Ends`
 //! what it leaves, and `Complete` when it is done.
 #![tactic(auto)]
 
@@ -14,6 +14,7 @@ mod ending;
 mod fetching;
 mod input_refusal;
 mod laws;
+mod log;
 mod making;
 mod operators;
 mod options;
@@ -21,6 +22,7 @@ mod order;
 mod output;
 mod playing;
 mod refusal;
+mod replaying;
 mod report;
 mod running;
 mod show;

@@ -5,6 +5,7 @@ ghost use Rattle.lucy_app.specs.Ends.{Tells};
 ghost use Rattle.lucy_app.specs.Outcomes.{TellsRefusal, Prints, Delivers, Tellable, TellsEnding};
 
 use crate::ending::{fault_line, fault_status};
+use crate::log::log_line;
 use crate::refusal::{Refusal, program_status};
 use lucy_front::refusal_text;
 use lucy_run::Ending;
@@ -56,6 +57,7 @@ pub(crate) fn refuse<E: Sink>(alloc: Global, err: &mut E, refusal: Refusal) -> u
             2,
         ),
         Refusal::NoBuffer => tell(err, b"lucy: words: no such buffer\n", 2),
+        Refusal::Log(error) => explain(err, log_line(alloc, error), 3),
         Refusal::ReadFault => tell(err, b"lucy: read fault\n", 4),
         Refusal::OutOfMemory => tell(err, b"lucy: out of memory\n", 7),
     }

@@ -2,7 +2,7 @@
 ghost use Rattle.std.specs.Prelude.{◌≡◌};
 ghost use Rattle.lucy_front.specs.Accepting.{syntax_refusal, names_refusal};
 ghost use Rattle.lucy_app.specs.ProgramRefusals.{program_status};
-ghost use Rattle.lucy_app.specs.Outcomes.{fetch_refusal, program_refusal, read_refusal};
+ghost use Rattle.lucy_app.specs.Outcomes.{fetch_refusal, fetch_refusal_within, program_refusal, read_refusal, trace_refusal};
 ghost use Rattle.lucy_app.specs.declared.refusal.Refusal.TheVariants.{OutOfMemory};
 
 use crate::input_refusal::InputCause;
@@ -10,6 +10,7 @@ use lucy_feed::ReadError;
 use lucy_place::NameError;
 use lucy_syntax::SyntaxError;
 use lucy_text::ShelfError;
+use lucy_trace::TraceError;
 use lucy_word::{Limit, OutOfMemory};
 use std::alloc::AllocError;
 
@@ -24,6 +25,8 @@ pub(crate) enum Refusal {
     NoInstants,
     /// The program has no buffer that is named so.
     NoBuffer,
+    /// The log is refused.
+    Log(TraceError),
     /// A fetch or a read failed, or no file has the name.
     ReadFault,
     /// Memory ran out.
@@ -42,6 +45,17 @@ pub(crate) fn program_status(refusal: &lucy_front::Refusal) -> u8
         lucy_front::Refusal::Cause { .. } => 1,
         lucy_front::Refusal::Limit(_) => 6,
         lucy_front::Refusal::OutOfMemory => 7,
+    }
+}
+
+/// Why there is no answer where the fetch of a file within this limit failed so.
+pub(crate) fn unfetched(error: ShelfError, limit: Limit) -> Refusal
+    ensures { result ≡ fetch_refusal_within limit error }
+{
+    match error {
+        ShelfError::Failed | ShelfError::Missing => Refusal::ReadFault,
+        ShelfError::TooLong => Refusal::Program(lucy_front::Refusal::Limit(limit)),
+        ShelfError::OutOfMemory => Refusal::OutOfMemory,
     }
 }
 
@@ -76,10 +90,17 @@ impl From<ShelfError> for Refusal {
     ghost from_gives = { λ error e. e ≡ fetch_refusal error };
 
     fn from(error: ShelfError) -> Self {
+        unfetched(error, Limit::Text)
+    }
+}
+
+impl From<TraceError> for Refusal {
+    ghost from_gives = { λ error e. e ≡ trace_refusal error };
+
+    fn from(error: TraceError) -> Self {
         match error {
-            ShelfError::Failed | ShelfError::Missing => Refusal::ReadFault,
-            ShelfError::TooLong => Refusal::Program(lucy_front::Refusal::Limit(Limit::Text)),
-            ShelfError::OutOfMemory => Refusal::OutOfMemory,
+            TraceError::OutOfMemory => Refusal::OutOfMemory,
+            error => Refusal::Log(error),
         }
     }
 }

@@ -6,7 +6,7 @@ use Rattle.lucy_app.specs.Outcomes.{bytes_of, made_given}
 use Rattle.lucy_app.specs.World.{Given}
 use Rattle.lucy_app.proofs.Outcomes.{report_met, check_met, tight_met}
 use Rattle.lucy_app.proofs.RunEnds.{run_met, kahn_met}
-use Rattle.lucy_app.proofs.Sinks.{ends_some, ends_with}
+use Rattle.lucy_app.proofs.Sinks.{ends_some, ends_with, ends_as}
 use Rattle.lucy_app.proofs.carrying.carry_out.Goals as goal
 
 pub returns-in-Order-clause-ends : goal.returns-in-Order-clause-ends
@@ -69,3 +69,6 @@ returns-in-Tighten-clause-ends g c =
     refl tt
     (tight_met _ _ _ (tighten_named c.in-Tighten.words) fetched _ c.ops-in-Tighten.ensures c.answer-outcome-in-Tighten.ensures.outcome)
     c.finish-in-Tighten.ensures.delivers
+
+pub returns-in-Replay-clause-ends : goal.returns-in-Replay-clause-ends
+returns-in-Replay-clause-ends g c = ends_as _ _ _ _ _ (ap named (sym c.in-Replay.is)) c.replay.ensures.ends
