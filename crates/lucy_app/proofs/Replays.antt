@@ -26,7 +26,7 @@ use Rattle.lucy_run.specs.declared.ending.Ending.TheVariants as ending
 use Rattle.lucy_run.specs.Replays.{OwesReplay}
 use Rattle.lucy_run.specs.Ends.{IsFrontOf, EndsReplay}
 use Rattle.lucy_command.specs.Commands.{ReplayWords, Replay}
-use Rattle.lucy_app.specs.Commands.{inferring_options, HasText, HasLog, TakesInput, log_limit}
+use Rattle.lucy_app.specs.Commands.{inferring_options, HasText, HasLog, TakesInput}
 use Rattle.lucy_app.specs.World.{Given}
 use Rattle.lucy_app.specs.Answers.{Answer, out_of_memory, log_refused}
 use Rattle.lucy_app.specs.Endings.{ended}
@@ -40,7 +40,7 @@ use Rattle.lucy_app.specs.declared.refusal.Refusal.TheVariants as refusal
 use Rattle.lucy_app.proofs.Sinks.{ends_refused}
 
 -- a fetch of a log gave none
-pub log_unfetched : (e : ShelfError) → (fetch_refusal_within log_limit e ≡ refusal.OutOfMemory) ⊎ OwesLog NoEvents Unread (Err e) (refusal_answer (fetch_refusal_within log_limit e))
+pub log_unfetched : (e : ShelfError) → (fetch_refusal_within limit.Log e ≡ refusal.OutOfMemory) ⊎ OwesLog NoEvents Unread (Err e) (refusal_answer (fetch_refusal_within limit.Log e))
 log_unfetched shelf.Failed = inr (refl, refl)
 log_unfetched shelf.Missing = inr (refl, refl)
 log_unfetched shelf.TooLong = inr (refl, refl)
@@ -60,7 +60,7 @@ picks_read log list picks same read = subst (λ ps. IsOkAnd log (λ text. AreRea
 
 module _ (fetched : Result (Vec ℕ Global) ShelfError) where
   -- so of what a fetch gave
-  pub unfetched_read : (e : ShelfError) (r : Refusal) → fetched ≡ Err e → r ≡ fetch_refusal_within log_limit e → (r ≡ refusal.OutOfMemory) ⊎ OwesLog NoEvents Unread (bytes_of fetched) (refusal_answer r)
+  pub unfetched_read : (e : ShelfError) (r : Refusal) → fetched ≡ Err e → r ≡ fetch_refusal_within limit.Log e → (r ≡ refusal.OutOfMemory) ⊎ OwesLog NoEvents Unread (bytes_of fetched) (refusal_answer r)
   unfetched_read e r gave is =
       let P : Refusal → Type 0 = λ x. (x ≡ refusal.OutOfMemory) ⊎ OwesLog NoEvents Unread (Err e) (refusal_answer x) in
       let Q : Result (Vec ℕ Global) ShelfError → Type 0 = λ f. (r ≡ refusal.OutOfMemory) ⊎ OwesLog NoEvents Unread (bytes_of f) (refusal_answer r) in

@@ -1,7 +1,6 @@
 -- What commands work with: how they find the clocks of a program, and what they call.
 use Rattle.std.specs.Prelude.{ℕ, ◌≢◌, false, true, List, [], ◌∷◌, drop, Option, Some, None, Result, IsOkAnd}
 use Rattle.lucy_word.specs.Limits.{limit_number}
-use Rattle.lucy_word.specs.declared.limit.Limit.{Limit}
 use Rattle.lucy_word.specs.declared.limit.Limit.TheVariants as limit
 use Rattle.lucy_fields.specs.Readings.{AreRead}
 use Rattle.lucy_trace.specs.Logs.{picks_of}
@@ -30,13 +29,9 @@ pub record Wanted : Type 0 where
 abbrev pub program_of : (file : List ℕ) → Wanted
 program_of file = record { file = file; most = limit_number limit.Text }
 
--- the limit of the bytes of a log
-abbrev pub log_limit : Limit
-log_limit = limit.Compare
-
 -- the text of a log
 abbrev pub log_of : (file : List ℕ) → Wanted
-log_of file = record { file = file; most = limit_number log_limit }
+log_of file = record { file = file; most = limit_number limit.Log }
 
 -- what the shelf is asked for in turn, where the words name this command or none
 abbrev pub files_of : Option Command → List Wanted

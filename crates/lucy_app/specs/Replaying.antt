@@ -1,5 +1,6 @@
 -- What `replay` owes: by what the two fetches gave, the bytes taken and how reading stopped.
 use Rattle.std.specs.Prelude.{ℕ, ◌≡◌, ◌⊎◌, List, [], ◌∷◌, Option, Result, Ok, Err, IsOkAnd}
+use Rattle.lucy_word.specs.declared.limit.Limit.TheVariants as limit
 use Rattle.lucy_host.specs.Operators.{Operator}
 use Rattle.lucy_text.specs.declared.shelf.ShelfError.{ShelfError}
 use Rattle.lucy_text.specs.declared.shelf.ShelfError.TheVariants as shelf
@@ -12,7 +13,6 @@ use Rattle.lucy_front.specs.declared.accepted.Accepted.{Accepted}
 use Rattle.lucy_front.specs.declared.options.Options.{Options}
 use Rattle.lucy_run.specs.declared.ending.Ending.{Ending}
 use Rattle.lucy_run.specs.Replays.{OwesReplay}
-use Rattle.lucy_app.specs.Commands.{log_limit}
 use Rattle.lucy_app.specs.Answers.{Answer, read_fault, limit_passed, log_refused}
 use Rattle.lucy_app.specs.Endings.{ended}
 use Rattle.lucy_app.specs.Running.{NoRun, IsRunnable, OwesRunning}
@@ -34,7 +34,7 @@ OwesLog Owed stop (Ok text) answer =
     ⊎ ((picks : List ℕ) × AreRead (picks_of text) picks × Owed picks answer)
 OwesLog Owed stop (Err shelf.Failed) answer = (answer ≡ read_fault) × (stop ≡ Unread)
 OwesLog Owed stop (Err shelf.Missing) answer = (answer ≡ read_fault) × (stop ≡ Unread)
-OwesLog Owed stop (Err shelf.TooLong) answer = (answer ≡ limit_passed log_limit) × (stop ≡ Unread)
+OwesLog Owed stop (Err shelf.TooLong) answer = (answer ≡ limit_passed limit.Log) × (stop ≡ Unread)
 OwesLog Owed stop (Err shelf.OutOfMemory) answer = ⊥
 
 -- `replay`: where FILE alone was fetched its refusal, or that the instants are missing; where LOG was fetched too the program can be

@@ -1,6 +1,5 @@
 // A log that was fetched: the events that it names, and the line of a log that is refused.
 ghost use Rattle.std.specs.Prelude.{◌≡◌, IfOk, IfErr};
-ghost use Rattle.lucy_app.specs.Commands.{log_limit};
 ghost use Rattle.lucy_app.specs.Lines as spec;
 ghost use Rattle.lucy_app.specs.Outcomes.{bytes_of, IsLogRead, Tellable};
 
@@ -9,9 +8,6 @@ use lucy_text::ShelfError;
 use lucy_trace::{TraceError, read_log};
 use lucy_word::{Limit, OutOfMemory};
 use std::alloc::Global;
-
-/// The limit of the bytes of a log.
-pub(crate) const LOG: Limit = Limit::Compare;
 
 /// The actors of the log that a fetch gave, in order, or why there are none.
 pub(crate) fn picks(
@@ -23,7 +19,7 @@ pub(crate) fn picks(
 {
     let text = match fetched {
         Ok(text) => text,
-        Err(error) => return Err(unfetched(error, LOG)),
+        Err(error) => return Err(unfetched(error, Limit::Log)),
     };
     match read_log(alloc, &text) {
         Ok(picks) => Ok(picks),

@@ -12,7 +12,7 @@ ghost use Rattle.lucy_app.specs.Ends.{EndsSo};
 ghost use Rattle.lucy_app.specs.Outcomes.{bytes_of, ReadsBehind, EndsLog};
 
 use crate::fetching::fetch;
-use crate::log::{LOG, picks};
+use crate::log::picks;
 use crate::options::inferring;
 use crate::output::{conclude, refuse};
 use crate::refusal::Refusal;
@@ -96,7 +96,7 @@ pub(crate) fn replay<S: Shelf, I: Source, O: Sink, E: Sink, F: Fn(u32, i64, i64)
     let file = fetch(alloc, shelf, words.file, Limit::Text);
     match accepted(alloc, file, &options, words.instants, host.ops()) {
         Ok(accepted) => {
-            let log = fetch(alloc, shelf, words.log, LOG);
+            let log = fetch(alloc, shelf, words.log, Limit::Log);
             replay_log(alloc, accepted, log, words.instants, input, out, err, host)
         }
         Err(refusal) => refuse(alloc, err, refusal),
