@@ -32,7 +32,8 @@ let node two z = (p, q) where rec p = pairs at (10) (z when (10)) and q = pairs 
 
 const PAIRS_INPUT: &str = "z 1\nz 2\nz 3\nz 4\nz 5\nz 6\nz 7\nz 8\n";
 
-const FILTER: &str = "let node fir x = o where rec d1 = 0 fby x and d2 = 0 fby d1 and s = (x + 2 * d1 + d2) / 4 and y = s when (10) and o = merge (10) y (buffer y)";
+const FILTER: &str =
+    "let node fir x = o where rec d1 = 0 fby x and d2 = 0 fby d1 and s = (x + 2 * d1 + d2) / 4 and y = s when (10) and o = merge (10) y (buffer y)";
 
 const FILTER_INPUT: &str = "x 4\nx 8\nx 12\nx 16\nx 20\n";
 
@@ -169,7 +170,14 @@ fn main(rt: HostRuntime) -> io::Result<()> {
         run_programs(&rt, &host, words)?;
     }
     let (file, input) = (SUM, SUM_INPUT);
-    for words in ["order", "run p --block 4096", "kahn p", "run", "run q", "run p --instants 2"] {
+    for words in [
+        "order",
+        "run p --block 4096",
+        "kahn p",
+        "run",
+        "run q",
+        "run p --instants 2",
+    ] {
         run_freely(&rt, &host, Row { words, file, input })?;
     }
     let (words, file, input) = ("run p", SEVEN, "");
