@@ -2,6 +2,7 @@ ghost use Rattle.lucy_host.specs.Host.{Serves};
 
 use lucy_app::lucy;
 use lucy_host::Host;
+use lucy_tables::lucy_table;
 use lucy_text::{MemShelf, MemSink, MemSource};
 use lucy_worker::Gate;
 use std::alloc::{AllocError, Global};
@@ -23,9 +24,11 @@ pub enum Open {
     Input,
 }
 
-/// One row: the words, the files and the input that are handed in, and how the shelf and the streams behave.
+/// One row: the program, the words, the files and the input that are handed in, and how the shelf and the streams behave.
 #[derive(Drop)]
 pub struct Row {
+    /// Whether the words may ask for lookup tables.
+    pub tables: bool,
     pub words: Vec<String>,
     /// The names and the bytes of what the shelf holds.
     pub files: Vec<(String, Vec<u8>)>,
@@ -66,6 +69,7 @@ impl Row {
     /// No words, no files and no input, and calls that never fail.
     pub(crate) fn new(alloc: Global) -> Row {
         Row {
+            tables: false,
             words: Vec::new(alloc),
             files: Vec::new(alloc),
             fetches: Vec::new(alloc),
@@ -78,7 +82,8 @@ impl Row {
         }
     }
 
-    /// Runs the program on the row's words, with the operators of the host and workers that come to the gate.
+    /// Runs the program on the row's words, with the operators of the host, unless it lends its own, and workers that come to the
+    /// gate.
     pub(crate) fn run<R: Threads + Sync, F: Fn(u32, i64, i64) -> i64 + Sync, G: Gate + Sync>(
         self,
         rt: &R,
@@ -92,17 +97,30 @@ impl Row {
         let mut input = MemSource::new(self.input, self.reads.most.max(1), self.reads.fails);
         let mut out = sink(alloc, self.room, self.writes)?;
         let mut err = sink(alloc, 256, self.tells)?;
-        let status = lucy(
-            rt,
-            alloc,
-            &self.words,
-            &mut shelf,
-            &mut input,
-            &mut out,
-            &mut err,
-            gate,
-            host,
-        );
+        let status = if self.tables {
+            lucy_table(
+                rt,
+                alloc,
+                &self.words,
+                &mut shelf,
+                &mut input,
+                &mut out,
+                &mut err,
+                gate,
+            )
+        } else {
+            lucy(
+                rt,
+                alloc,
+                &self.words,
+                &mut shelf,
+                &mut input,
+                &mut out,
+                &mut err,
+                gate,
+                host,
+            )
+        };
         Ok(End {
             status,
             input,

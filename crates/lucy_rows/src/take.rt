@@ -31,6 +31,15 @@ fn words(alloc: Global, line: &str) -> Result<Vec<String>, Unread> {
     Ok(words)
 }
 
+// Whether the program of this name has lookup tables.
+fn has_tables(name: &str) -> Result<bool, Unread> {
+    match name {
+        "lucy" => Ok(false),
+        "lucy_table" => Ok(true),
+        _ => Err(Unread),
+    }
+}
+
 impl Row {
     /// Takes in a line of a list.
     pub(crate) fn take(&mut self, alloc: Global, line: &str) -> Result<(), Unread> {
@@ -60,6 +69,7 @@ impl Row {
     fn set(&mut self, alloc: Global, key: &str, value: &str) -> Result<(), Unread> {
         self.open = Open::Nothing;
         match key {
+            "program" => self.tables = has_tables(value)?,
             "words" => self.words = words(alloc, value)?,
             "file" => return self.file(alloc, value),
             "input" => {
