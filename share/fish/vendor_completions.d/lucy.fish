@@ -16,3 +16,5 @@ complete -c lucy -n '__fish_seen_subcommand_from clocks tighten run kahn replay'
 complete -c lucy -n '__fish_seen_subcommand_from run kahn replay' -l instants -x -d 'at most so many'
 complete -c lucy -n '__fish_seen_subcommand_from run make' -l workers -x -d 'threads'
 complete -c lucy -n '__fish_seen_subcommand_from run make' -l block -x -d 'instants between two writes'
+complete -c lucy_table -w lucy
+complete -c lucy_table -n __fish_use_subcommand -l table -x -d 'a lookup table: NAME FILE'
