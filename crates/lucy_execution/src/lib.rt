@@ -24,8 +24,8 @@ pub use laws::{
     nets_can_be_run, places_are_whole, streams_agree, streams_are_whole, streams_go_on,
     streams_need_no_more, two_ways_agree,
 };
-pub use lists::lengths;
+pub use lists::{copy_lists, lengths};
 pub use player::Player;
-pub use running::run_net;
+pub use running::{homes_of, run_net};
 pub use taken::outputs_so_far;
 pub use turning::run_net_by_turns;

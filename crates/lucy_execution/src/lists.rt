@@ -1,4 +1,4 @@
-// Lists that are put behind one another, and how long lists are.
+// Lists that are put behind one another or copied, and how long lists are.
 ghost use Rattle.std.specs.Prelude.{◌≡◌, ◌≤◌, ◌-◌, ◌<◌, ◌^◌, ◌∷◌, ◌++◌, [], ℕ, length, take, IfOk, OnOk, slice_index};
 ghost use Rattle.lucy_word.specs.Bits.{ones_to};
 ghost use Rattle.lucy_stream.specs.Items.{list_at};
@@ -40,6 +40,20 @@ pub(crate) fn add_front(
 {
     let count = word.ones(instants).min(list.len() as u64);
     add(alloc, lists, number, &list[..count as usize])
+}
+
+/// The same lists, of which there are so many, in other memory.
+pub fn copy_lists(alloc: Global, lists: &Inputs, count: usize) -> Result<Inputs, OutOfMemory>
+    requires lists { length lists.now ≡ count }
+    requires few { count < 2 ^ 32 - 1 }
+    ensures { IfOk result (λ copies. copies ≡ lists.now) }
+{
+    let mut copies = Inputs::new(alloc);
+    'each: for i in 0..count {
+        let number = i as u32;
+        add(alloc, &mut copies, number, lists.list(number))?;
+    }
+    Ok(copies)
 }
 
 /// How many items each of so many lists has.

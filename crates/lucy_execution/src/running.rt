@@ -51,7 +51,7 @@ pub(crate) fn outputs(
 }
 
 /// The homes of so many actors: that of actor `a` is worker `a mod workers`.
-pub(crate) fn homes_of(alloc: Global, actors: usize, workers: u32) -> Result<Vec<u32>, AllocError>
+pub fn homes_of(alloc: Global, actors: usize, workers: u32) -> Result<Vec<u32>, AllocError>
     requires { 1 ≤ workers }
     ensures count { IfOk result (λ homes. length homes.items ≡ actors) }
     ensures home { IfOk result (λ homes. (a : ℕ) → a < actors → slice_get homes.items a ≡ Some (a % workers)) }

@@ -5,7 +5,6 @@
 //! `lucy_worker` for a turn. Begin with `lucy_free` in `top.rt`; `working.rt` has the loop of a worker. Nothing promises that it returns.
 #![tactic(auto)]
 
-mod copying;
 mod playing;
 mod resting;
 mod top;

@@ -7,13 +7,13 @@ ghost use Rattle.lucy_runner.specs.Turns.{AreServed};
 ghost use Rattle.lucy_runner.specs.Finishing.{HaveFinished};
 ghost use Rattle.lucy_run.specs.Engines.{CanBePlayed, IsPlayedTo};
 
-use crate::copying::copy_net;
 use crate::resting::Beds;
 use crate::working::work_all;
 use lucy_cause::schedule_of;
 use lucy_execution::run_net_by_turns;
 use lucy_front::{Accepted, accepted_programs_are_clocked};
 use lucy_host::{Host, Inputs};
+use lucy_run::copy_net;
 use lucy_runner::Seat;
 use lucy_word::OutOfMemory;
 use std::alloc::Global;

@@ -12,6 +12,7 @@ use Rattle.lucy_front.specs.declared.accepted.Accepted.{Accepted}
 use Rattle.lucy_run.specs.Feeds.{CountsAs, IsNeededFor}
 use Rattle.lucy_trace.specs.declared.error.TraceError.{TraceError}
 use Rattle.lucy_run.specs.Replays.{OwesReplay}
+use Rattle.lucy_run.specs.Tracing.{OwesTrace}
 use Rattle.lucy_run.specs.Owes.{IsFed, OwesRun, heading, input_words, lines_to}
 
 -- a front of an output that is owed; nothing is one, also where none is owed yet
@@ -64,3 +65,7 @@ abbrev pub EndsReplay : List Operator → Accepted → (given : Option ℕ) → 
 EndsReplay ops a given picks taken stop before after (Ok end) =
     EndsWith (λ counted output way. OwesReplay ops a given picks taken counted output (Ok way)) (λ counted. counted ≡ stop) stop before after end
 EndsReplay ops a given picks taken stop before after (Err e) = OwesReplay ops a given picks taken stop [] (Err e) × (after ≡ before)
+
+-- how `trace` ends: a trace stands there, or a front of one
+abbrev pub EndsTrace : Accepted → (given : Option ℕ) → (taken : List ℕ) → Stop → (before after : SeenSink) → Ending → Type 0
+EndsTrace a given taken stop before after end = EndsWith (OwesTrace a given taken) (λ counted. counted ≡ stop) stop before after end

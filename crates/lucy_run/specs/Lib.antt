@@ -1,9 +1,10 @@
 -- What a run owes, in the order to read it: how it goes, what main is fed, what stands on the output and how a run ends, what the replay of a
--- log owes, what a call leaves, what an engine plays, laws, and a run from block to block.
+-- log and a trace owe, what a call leaves, what an engine plays, laws, and a run from block to block.
 pub mod Paces
 pub mod Feeds
 pub mod Owes
 pub mod Replays
+pub mod Tracing
 pub mod Ends
 pub mod Engines
 pub mod Laws

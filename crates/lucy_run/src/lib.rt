@@ -1,12 +1,13 @@
-//! A program run from its input to its output lines: what the commands `run`, `kahn` and `replay` do with an accepted program, a source and
-//! a sink.
+//! A program run from its input to its output lines: what the commands `run`, `kahn`, `trace` and `replay` do with an accepted program, a
+//! source and a sink.
 //!
 //! It stands on `lucy_front` for accepted programs and their report, on `lucy_feed` for the items of the input, on `lucy_execution`
-//! for the streams of the results and on `lucy_output` for their lines. `course.rt` takes the input and the program through the blocks
+//! for the streams of the results, on `lucy_output` for their lines and on `lucy_tracing` for those of a trace. `course.rt` takes the input and the program through the blocks
 //! of a run, whatever becomes of the results. Begin with `specs/Owes.antt`, which says what stands on the output and how a run ends,
 //! and with `run` in `running.rt`.
 #![tactic(auto)]
 
+mod copying;
 mod course;
 mod ending;
 mod engine;
@@ -19,7 +20,9 @@ mod pace;
 mod playing;
 mod replaying;
 mod running;
+mod tracing;
 
+pub use copying::copy_net;
 pub use course::Course;
 pub use ending::Ending;
 pub use engine::{ClosureEngine, Engine};
@@ -31,3 +34,4 @@ pub use pace::Pace;
 pub use playing::run_by;
 pub use replaying::replay;
 pub use running::run;
+pub use tracing::trace;

@@ -1,5 +1,5 @@
 use Rattle.std.proofs.Common.{◌≡◌, take}
-use Rattle.lucy_freely.proofs.copying.copy_actors.Given as goal
+use Rattle.lucy_run.proofs.copying.copy_actors.Given as goal
 
 abbrev pub invariant-loop-actor : goal.invariant-loop-actor
 invariant-loop-actor l = l.copies.items ≡ take l.actor-index l.actors

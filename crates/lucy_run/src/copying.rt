@@ -48,8 +48,8 @@ fn copy_rings(alloc: Global, rings: &[RingSpec]) -> Result<Vec<RingSpec>, OutOfM
     Ok(copies)
 }
 
-/// An equal net.
-pub(crate) fn copy_net(alloc: Global, net: &Net) -> Result<Net, OutOfMemory>
+/// The same net in other memory.
+pub fn copy_net(alloc: Global, net: &Net) -> Result<Net, OutOfMemory>
     ensures { IfOk result (λ copy. copy ≡ net.now) }
 {
     let actors = Actors::new(copy_actors(alloc, net.actors.list())?);
