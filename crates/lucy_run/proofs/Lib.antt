@@ -12,3 +12,4 @@ mod EndsLaws
 mod EngineLaws
 mod RunLaws
 pub mod ReplayLaws
+mod TracingLaws

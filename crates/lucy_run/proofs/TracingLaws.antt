@@ -1,0 +1,146 @@
+-- What the trace of a run comes to.
+use Rattle.std.proofs.Common.{◌≡◌, ℕ, List, [], ◌++◌, length, Option, Result, Ok, refl, ap, sym, ◌∙◌, subst, inl, inr}
+use Rattle.std.specs.Prelude.{ℤ}
+use Rattle.lucy_word.specs.Bits.{Bits}
+use Rattle.lucy_word.specs.declared.error.OutOfMemory.{OutOfMemory}
+use Rattle.lucy_host.specs.Operators.{Operator}
+use Rattle.lucy_lines.specs.declared.reader.TextFault.{TextFault}
+use Rattle.lucy_feed.specs.declared.feeds.Feed.{Feed}
+use Rattle.lucy_feed.specs.Sources.{Stop}
+use Rattle.lucy_text.specs.Outside.{SeenSink, Writes, Fails}
+use Rattle.lucy_net.specs.declared.net.Net.{Net}
+use Rattle.lucy_cause.specs.Schedules.{Timetable, IsScheduleOf}
+use Rattle.lucy_core.specs.Seen.{Seen, IsFixed, first_seen}
+use Rattle.lucy_runner.specs.Views.{RunnerView, first_runner}
+use Rattle.lucy_trace.specs.Traces.{IsTraceText}
+use Rattle.lucy_tracing.specs.Together.{AreTogether}
+use Rattle.lucy_output.proofs.SinkLaws.{unwritten}
+use Rattle.lucy_clock.specs.declared.node_clock.NodeClock.{NodeClock}
+use Rattle.lucy_execution.specs.Streams.{param_words}
+use Rattle.lucy_front.specs.declared.accepted.Accepted.{Accepted}
+use Rattle.lucy_run.specs.declared.ending.Ending.{Ending}
+use Rattle.lucy_run.specs.declared.ending.Ending.TheVariants as ending
+use Rattle.lucy_run.specs.Feeds.{IsMainFeed}
+use Rattle.lucy_run.specs.Owes.{IsHorizonOf, EndsFor}
+use Rattle.lucy_run.specs.Tracing.{OwesTrace}
+use Rattle.lucy_run.specs.Ends.{EndsWith, EndsTrace, IsFrontOf, Outputs}
+use Rattle.lucy_run.specs.Steps.{IsWhole, LeavesFront}
+use Rattle.lucy_run.proofs.EndsLaws.{take_front}
+
+-- a core can be made of the copies of a net and of inputs, by another schedule of the net
+pub fixed_anew : (net copy : Net) (schedule anew : Timetable) (inputs lists : List (List ℤ)) (ops : List Operator) (instants : ℕ) →
+    copy ≡ net → lists ≡ inputs → IsScheduleOf copy anew → IsFixed net schedule inputs ops instants → IsFixed copy anew lists ops instants
+fixed_anew net copy schedule anew inputs lists ops instants e f is fixed =
+    let of_net : IsScheduleOf net anew = subst (λ (n : Net). IsScheduleOf n anew) e is in
+    let same : IsFixed net anew inputs ops instants =
+    record { proper = fixed.proper; sound = of_net.sound; early = fixed.early; supplied = fixed.supplied; known = fixed.known } in
+    subst (λ (n : Net). IsFixed n anew lists ops instants) (sym e) (subst (λ (ls : List (List ℤ)). IsFixed net anew ls ops instants) (sym f) same)
+
+pub seen_anew : (net copy : Net) (anew : Timetable) (inputs lists : List (List ℤ)) (ops : List Operator) (instants : ℕ) → copy ≡ net → lists ≡ inputs →
+    first_seen copy anew lists ops instants ≡ first_seen net anew inputs ops instants
+seen_anew net copy anew inputs lists ops instants e f =
+    ap (λ (n : Net). first_seen n anew lists ops instants) e ∙ ap (λ (ls : List (List ℤ)). first_seen net anew ls ops instants) f
+
+-- a core and a runner of one net, one horizon and without an event so far stand together
+pub stand_together : (core : Seen) (runner : RunnerView) (net : Net) (schedule anew : Timetable) (inputs : List (List ℤ)) (ops others : List Operator) (instants : ℕ) →
+    core ≡ first_seen net anew inputs ops instants → runner ≡ first_runner (first_seen net schedule inputs others instants) → AreTogether core runner.seen
+stand_together core runner net schedule anew inputs ops others instants is stands = record {
+  net = ap (λ (v : RunnerView). v.seen.net) stands ∙ sym (ap (λ (s : Seen). s.net) is);
+  instants = ap (λ (v : RunnerView). v.seen.instants) stands ∙ sym (ap (λ (s : Seen). s.instants) is);
+  done = ap (λ (v : RunnerView). v.seen.done) stands ∙ sym (ap (λ (s : Seen). s.done) is);
+}
+
+-- nothing is a front
+pub front_nothing : (Owes : List ℕ → Ending → Type 0) (s : SeenSink) → LeavesFront Owes s s ending.OutOfMemory
+front_nothing Owes s = ([], inl refl, unwritten s)
+
+front_written : (Owes : List ℕ → Ending → Type 0) (output : List ℕ) (end : Ending) (was now : SeenSink) → IsWhole end → Owes output end → Writes was now output →
+    LeavesFront Owes was now end
+front_written Owes output ending.Done was now whole owes w = (output, owes, w)
+front_written Owes output (ending.Input f) was now whole owes w = (output, owes, w)
+front_written Owes output (ending.Limit l) was now whole owes w = (output, owes, w)
+front_written Owes output ending.WriteFault was now whole owes w = absurd whole
+front_written Owes output ending.OutOfMemory was now whole owes w = absurd whole
+
+-- what a core and a runner leave that were traced, where the run then ends so
+module _ (net : Net) (horizon : ℕ) (end : Ending) (core : Seen) (schedule : Timetable) (inputs : List (List ℤ)) (ops : List Operator)
+    (is : core ≡ first_seen net schedule inputs ops horizon) (was now : SeenSink) where
+  abbrev Traces : List ℕ → Ending → Type 0
+  Traces output way = IsTraceText net horizon output × (way ≡ end)
+
+  of_net : (text : List ℕ) → IsTraceText core.net core.instants text → IsTraceText net horizon text
+  of_net text trace = subst (λ (s : Seen). IsTraceText s.net s.instants text) is trace
+
+  pub all_traced : IsWhole end → (text : List ℕ) × IsTraceText core.net core.instants text × Writes was now text → LeavesFront Traces was now end
+  all_traced whole (text, trace, w) = front_written Traces text end was now whole (of_net text trace, refl) w
+
+  pub trace_failed : (text : List ℕ) × IsTraceText core.net core.instants text × Fails was now text → LeavesFront Traces was now ending.WriteFault
+  trace_failed (text, trace, f) = (text, end, (of_net text trace, refl), f)
+
+  pub trace_stopped : (front : List ℕ) × (rest : List ℕ) × IsTraceText core.net core.instants (front ++ rest) × Writes was now front →
+      LeavesFront Traces was now ending.OutOfMemory
+  trace_stopped (front, rest, trace, w) =
+      (front, inr (front ++ rest, length front, (end, (of_net (front ++ rest) trace, refl)), take_front front rest), w)
+
+-- a front of an output that is owed is one of an output that is owed so too
+front_of_more : (A B : List ℕ → Type 0) → ((output : List ℕ) → A output → B output) → (front : List ℕ) → IsFrontOf A front → IsFrontOf B front
+front_of_more A B more front (inl none) = inl none
+front_of_more A B more front (inr (output, n, owed, is)) = inr (output, n, more output owed, is)
+
+pub front_more : (A B : List ℕ → Ending → Type 0) → ((output : List ℕ) (end : Ending) → A output end → B output end) → (was now : SeenSink) (result : Ending) →
+    LeavesFront A was now result → LeavesFront B was now result
+front_more A B more was now ending.WriteFault (output, end, owed, f) = (output, end, more output end owed, f)
+front_more A B more was now ending.OutOfMemory (front, owed, w) = (
+  front,
+  front_of_more (λ output. (end : Ending) × A output end) (λ output. (end : Ending) × B output end)
+      (λ output so. (so.0, more output so.0 so.1)) front owed,
+  w,
+)
+front_more A B more was now ending.Done (output, owed, w) = (output, more output ending.Done owed, w)
+front_more A B more was now (ending.Input f) (output, owed, w) = (output, more output (ending.Input f) owed, w)
+front_more A B more was now (ending.Limit l) (output, owed, w) = (output, more output (ending.Limit l) owed, w)
+
+-- and so a call ends, of what is owed as reading stopped
+front_ends : (Owes : Stop → List ℕ → Ending → Type 0) (stop : Stop) (was now : SeenSink) (result : Ending) → LeavesFront (Owes stop) was now result →
+    EndsWith Owes (λ counted. counted ≡ stop) stop was now result
+front_ends Owes stop was now ending.WriteFault (output, end, owed, f) = (output, (stop, end, refl, owed), f)
+front_ends Owes stop was now ending.OutOfMemory (front, owed, w) = (
+  front,
+  front_of_more (λ output. (end : Ending) × Owes stop output end) (Outputs (λ counted. counted ≡ stop) Owes)
+      (λ output so. (stop, so.0, refl, so.1)) front owed,
+  w,
+)
+front_ends Owes stop was now ending.Done left = left
+front_ends Owes stop was now (ending.Input f) left = left
+front_ends Owes stop was now (ending.Limit l) left = left
+
+-- what is left of a trace up to the horizon of what main is fed
+abbrev pub Leaves : Net → (words : List Bits) → (given : Option ℕ) → Feed → (was now : SeenSink) → Ending → Type 0
+Leaves net words given feed was now result = (horizon : ℕ) × IsHorizonOf words given feed.items horizon
+    × LeavesFront (λ output way. IsTraceText net horizon output × EndsFor words given feed.items feed.stop way) was now result
+
+pub left_so : (net : Net) (words same : List Bits) (given : Option ℕ) (feed : Feed) (horizon : ℕ) (end : Ending) (was now : SeenSink) (result : Ending) →
+    words ≡ same → IsHorizonOf words given feed.items horizon → EndsFor words given feed.items feed.stop end →
+    LeavesFront (λ output way. IsTraceText net horizon output × (way ≡ end)) was now result → Leaves net same given feed was now result
+left_so net words same given feed horizon end was now result e horizon_is ends left =
+    let P : List Bits → Type 0 = λ ws. Leaves net ws given feed was now result in
+    subst P e (
+      horizon,
+      horizon_is,
+      front_more (λ output way. IsTraceText net horizon output × (way ≡ end))
+          (λ output way. IsTraceText net horizon output × EndsFor words given feed.items feed.stop way)
+          (λ output way so. (so.0, subst (EndsFor words given feed.items feed.stop) (sym so.1) ends)) was now result left,
+    )
+
+-- main was fed, and its net was traced
+pub trace_done : (a : Accepted) (given : Option ℕ) (taken : List ℕ) (stop : Stop) (was now : SeenSink) (result : Ending) (feed : Feed) (answer : Result Feed OutOfMemory)
+    (clocks : List NodeClock) → IsMainFeed a.inputs.items taken stop answer → answer ≡ Ok feed → clocks ≡ a.clocks.items →
+    Leaves a.net (param_words a.placed.nodes clocks) given feed was now result → EndsTrace a given taken stop was now result
+trace_done a given taken stop was now result feed answer clocks fed_so is e left =
+    let P : List NodeClock → Type 0 = λ cs. Leaves a.net (param_words a.placed.nodes cs) given feed was now result in
+    let (horizon, horizon_is, moved) = subst P e left in
+    let feeds = subst (IsMainFeed a.inputs.items taken stop) is fed_so in
+    let words : List Bits = param_words a.placed.nodes a.clocks.items in
+    front_ends (OwesTrace a given taken) stop was now result
+    (front_more (λ output way. IsTraceText a.net horizon output × EndsFor words given feed.items feed.stop way) (OwesTrace a given taken stop)
+    (λ output way so. (feed.items, feed.stop, horizon, record { feeds = feeds; horizon_is = horizon_is }, so.0, so.1)) was now result moved)

@@ -1,0 +1,38 @@
+use Rattle.std.proofs.Common.{◌≡◌, length, [], sym, refl, inl, ◌∙◌, subst}
+use Rattle.std.proofs.lemmas.Result.{IfOk-at_ok}
+use Rattle.lucy_host.specs.Host.{lent}
+use Rattle.lucy_output.proofs.SinkLaws.{unwritten}
+use Rattle.lucy_feed.specs.declared.feeds.Feed.{Feed}
+use Rattle.lucy_flat.specs.Clocked.{AreClocked}
+use Rattle.lucy_run.proofs.AcceptedLaws.{few_inputs, inputs_count}
+use Rattle.lucy_run.proofs.TracingLaws.{trace_done}
+use Rattle.lucy_run.proofs.tracing.trace.Goals as goal
+
+pub main_feed-requires : goal.main_feed-requires
+main_feed-requires g c = few_inputs _ c.requires.accepted.0 c.requires.accepted.1 c.args.accepted c.requires.accepted.2
+
+pub returns-in-Err-clause-ends : goal.returns-in-Err-clause-ends
+returns-in-Err-clause-ends g c =
+    let (taken, stop, read, asked, fed) = c.main_feed.ensures.fed in
+    (taken, stop, read, asked, ([], inl refl, unwritten _))
+
+pub trace_feed-requires-clause-clocked : goal.trace_feed-requires-clause-clocked
+trace_feed-requires-clause-clocked g c =
+    subst (AreClocked c.args.accepted.placed.nodes) (sym c.deref.ensures.value)
+    (c.accepted_programs_are_clocked.ensures.clocked (lent c.args.host.now) c.requires.accepted.1 c.requires.accepted.0 c.args.accepted c.requires.accepted.2)
+
+pub trace_feed-requires-clause-known : goal.trace_feed-requires-clause-known
+trace_feed-requires-clause-known g c =
+    c.accepted_programs_are_clocked.ensures.operators (lent c.args.host.now) c.requires.accepted.1 c.requires.accepted.0 c.args.accepted c.requires.accepted.2
+
+pub trace_feed-requires-clause-inputs : goal.trace_feed-requires-clause-inputs
+trace_feed-requires-clause-inputs g c =
+    let lists = IfOk-at_ok (λ (feed : Feed). length feed.items ≡ length c.args.accepted.inputs.items) c.in-Ok.is c.main_feed.ensures.lists in
+    sym (lists ∙ inputs_count _ c.requires.accepted.0 c.requires.accepted.1 c.args.accepted c.requires.accepted.2)
+
+pub returns-clause-ends : goal.returns-clause-ends
+returns-clause-ends g c =
+    let (taken, stop, read, asked, fed) = c.main_feed.ensures.fed in
+    let ends = trace_done c.args.accepted c.args.instants taken stop _ _ c.trace_feed.result c.in-Ok.feed c.main_feed.result c.deref.result.now fed c.in-Ok.is
+    c.deref.ensures.value c.trace_feed.ensures.left in
+    (taken, stop, read, asked, ends)
