@@ -19,20 +19,20 @@ new_runner-requires-clause-fixed g c =
     subst (λ (ops : List Operator). IsFixed c.args.net c.args.schedule c.args.inputs ops c.args.extent.horizon) (sym c.ops-2.ensures) c.requires.fixed
 
 pub trace-requires-clause-kinds : goal.trace-requires-clause-kinds
-trace-requires-clause-kinds g c =
+trace-requires-clause-kinds g c κs within =
     sym (ap kinds_of (ap (λ (s : Seen). s.operators) c.in-Ok.ensures.1 ∙ c.ops.ensures))
 
 pub trace-requires-clause-runner_kinds : goal.trace-requires-clause-runner_kinds
-trace-requires-clause-runner_kinds g c =
+trace-requires-clause-runner_kinds g c κs within =
     sym (ap kinds_of (ap (λ (v : RunnerView). v.seen.operators) c.in-Ok-new_runner.ensures ∙ c.ops-2.ensures))
 
 pub trace-requires-clause-unbegun : goal.trace-requires-clause-unbegun
-trace-requires-clause-unbegun g c = λ a.
+trace-requires-clause-unbegun g c κs within = λ a.
     ap (λ (s : Seen). done_of s.done a) c.in-Ok.ensures.1
     ∙ first_unbegun c.args.net c.in-Ok.ensures.0 c.args.inputs c.ops.result.now c.args.extent.horizon a
 
 pub trace-requires-clause-together : goal.trace-requires-clause-together
-trace-requires-clause-together g c =
+trace-requires-clause-together g c κs within =
     stand_together c.in-Ok.core c.in-Ok-new_runner.runner c.args.net c.args.schedule c.in-Ok.ensures.0 c.args.inputs c.ops.result.now c.ops-2.result.now
     c.args.extent.horizon c.in-Ok.ensures.1 c.in-Ok-new_runner.ensures
 
