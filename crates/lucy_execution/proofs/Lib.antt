@@ -10,3 +10,4 @@ mod TaskLaws
 mod EnoughLaws
 mod PlayLaws
 pub mod TakenLaws
+pub mod WholeRunLaws

@@ -44,7 +44,7 @@ output_there nodes clocks net proper flat i l =
     (all_places nodes + i, (flat.outputs i place.0 place.1).actor, output_of nodes clocks proper net flat i place.0 place.1)
 
 -- the stream of a result, among those of all results
-stream_at : {A : Type 0} (f : ℕ → A) (xs : List ℕ) (i x : ℕ) (d : A) → slice_get xs i ≡ Some x → get_or (map f xs) i d ≡ f x
+pub stream_at : {A : Type 0} (f : ℕ → A) (xs : List ℕ) (i x : ℕ) (d : A) → slice_get xs i ≡ Some x → get_or (map f xs) i d ≡ f x
 stream_at f xs i x d e = get_or_from_slice_get (map f xs) i (f x) d (slice_get-map f xs i ∙ ap (option_map f) e)
 
 -- what is to be told of an output

@@ -18,7 +18,7 @@ use Rattle.lucy_execution.specs.Taking.{taken_lists}
 use Rattle.lucy_execution.proofs.NetLaws.{output_of}
 
 -- an item behind the first ones, of a list that was mapped
-mapped_at : {A B : Type 0} (f : A → B) (n : ℕ) (xs : List A) (i : ℕ) (x : A) (d : B) → slice_get xs (n + i) ≡ Some x → get_or (map f (drop n xs)) i d ≡ f x
+pub mapped_at : {A B : Type 0} (f : A → B) (n : ℕ) (xs : List A) (i : ℕ) (x : A) (d : B) → slice_get xs (n + i) ≡ Some x → get_or (map f (drop n xs)) i d ≡ f x
 mapped_at f n xs i x d e =
     ap (λ ys. get_or ys i d) (sym (drop-map f n xs)) ∙ get_or-drop n (map f xs) i d
     ∙ get_or_from_slice_get (map f xs) (n + i) (f x) d (slice_get-map f xs (n + i) ∙ ap (option_map f) e)

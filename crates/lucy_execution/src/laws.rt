@@ -1,5 +1,5 @@
-// What holds of the output streams of every program whose flat net has a sound schedule. The bodies are empty: the contracts
-// are laws.
+// What holds of the output streams of every program whose flat net has a sound schedule. The contracts are laws, on functions that are
+// empty or call laws of lower crates alone.
 ghost use Rattle.std.specs.Prelude.{ℕ, ◌≡◌, ◌≤◌, List, [], ℤ, Some, length, map, take, slice_get};
 ghost use Rattle.lucy_word.specs.Bits.{Bits, ones_to};
 ghost use Rattle.lucy_word.specs.Limits.{limit_number};
@@ -27,6 +27,9 @@ ghost use Rattle.lucy_flat.specs.Flat.{IsFlat};
 ghost use Rattle.lucy_stream.specs.Fronts.{AreFronts};
 ghost use Rattle.lucy_execution.specs.Streams.{main_word, param_words, result_words, main_streams, cut_to, cut_inputs};
 ghost use Rattle.lucy_execution.specs.Running.{HasSchedule, turns_of};
+ghost use Rattle.lucy_execution.specs.Taking.{WholeRunsLeadToStreams};
+
+use lucy_core::events_go_by_the_net;
 
 /// A core can be made of the flat net of a program with a sound schedule, of inputs with the items of the horizon and of the
 /// operators that the program names. Only the actors of its instance places give.
@@ -91,3 +94,11 @@ pub fn two_ways_agree()
         take (ones_to actor.firing seen.instants) (stream_of seen (all_places nodes) (first_ring actor))
         ≡ take (ones_to (main_word nodes clocks place) seen.instants) (kahn (kinds_of seen.operators) (cut_inputs nodes clocks seen.inputs seen.instants) nodes (turns_of nodes seen.instants) (at [] place)) }
 {}
+
+/// All events of a program's flat net up to a horizon, in whatever order they are possible, lead a core without an event so far to its
+/// end, and its outputs then took the output streams (Kahn 1974).
+pub fn whole_runs_lead_to_streams()
+    ensures { WholeRunsLeadToStreams }
+{
+    events_go_by_the_net();
+}

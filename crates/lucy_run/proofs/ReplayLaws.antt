@@ -32,6 +32,7 @@ use Rattle.lucy_place.specs.declared.placed.PlacedNode.{PlacedNode}
 use Rattle.lucy_clock.specs.declared.node_clock.NodeClock.{NodeClock}
 use Rattle.lucy_execution.specs.Streams.{param_words}
 use Rattle.lucy_execution.specs.Taking.{taken_lists}
+use Rattle.lucy_execution.proofs.WholeRunLaws.{unbegun_start, taken_same}
 use Rattle.lucy_front.specs.declared.accepted.Accepted.{Accepted}
 use Rattle.lucy_run.specs.declared.ending.Ending.{Ending}
 use Rattle.lucy_run.specs.declared.ending.Ending.TheVariants as ending
@@ -44,32 +45,6 @@ use Rattle.lucy_run.specs.Steps.{IsWhole, LeavesOwed, LeavesJudged, IsPrinted}
 use Rattle.lucy_run.proofs.OwesLaws.{OneHorizon, fed_once, ends_once, carried, done_for}
 use Rattle.lucy_run.proofs.WholeLaws.{owed_so}
 use Rattle.lucy_run.proofs.EndsLaws.{owed_written, owed_more, owed_ends}
-
-if_neither : (b c : Bool) (xs ys : List ℕ) → c ≡ false → (if b && c then xs else ys) ≡ ys
-if_neither true true xs ys e = absurd (cc e)
-if_neither true false xs ys e = refl
-if_neither false c xs ys e = refl
-
-not_below : (n : ℕ) (b : Bool) → nat_lt n 0 ≡ b → b ≡ false
-not_below n false e = refl
-not_below n true e = let low : n < 0 = ltb-true n 0 e in absurd (omega arith)
-
--- nothing is between where nothing is done
-none_between : (high begun : ℕ → ℕ) (order : List ℕ) → ((a : ℕ) → high a ≡ 0) → between_from none_done high begun order ≡ []
-none_between high begun [] none = refl
-none_between high begun (a ∷ order) none =
-    if_neither (nat_le (none_done a) (begun a)) (nat_lt (begun a) (high a)) _ _ (ap (nat_lt (begun a)) (none a) ∙ not_below (begun a) _ refl)
-    ∙ none_between high (step begun a) order none
-
--- a core without an event so far is where events start
-unbegun_start : (first : Seen) → IsUnbegun first → state_of first ≡ start
-unfolding state_on
-unbegun_start first none = ap (events (machine_of first) start) (none_between (done_of first.done) none_done (order_of first) none)
-
-taken_same : (actors : List Actor) (s t : State) → ((r : ℕ) → s.took r ≡ t.took r) →
-    map (λ (actor : Actor). s.took (first_ring actor)) actors ≡ map (λ (actor : Actor). t.took (first_ring actor)) actors
-taken_same [] s t same = refl
-taken_same (actor ∷ actors) s t same = ap₂ (λ xs rest. xs ∷ rest) (same (first_ring actor)) (taken_same actors s t same)
 
 -- all events of a run are possible
 run_possible : (seen : Seen) (picks : List ℕ) → CanRun seen picks → take (possible_of seen picks) picks ≡ picks
