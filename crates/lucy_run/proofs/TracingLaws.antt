@@ -1,9 +1,10 @@
 -- What the trace of a run comes to.
-use Rattle.std.proofs.Common.{◌≡◌, ℕ, List, [], ◌++◌, length, Option, Result, Ok, refl, ap, sym, ◌∙◌, subst, inl, inr}
-use Rattle.std.specs.Prelude.{ℤ}
+use Rattle.std.proofs.Common.{◌≡◌, ℕ, ◌<◌, ◌≤◌, ◌^◌, List, [], ◌++◌, length, Option, Result, Ok, refl, ap, sym, ◌∙◌, subst, inl, inr, arith}
+use Rattle.std.specs.Prelude.{ℤ, All, codes}
+use Rattle.std.specs.List.{concat}
 use Rattle.lucy_word.specs.Bits.{Bits}
 use Rattle.lucy_word.specs.declared.error.OutOfMemory.{OutOfMemory}
-use Rattle.lucy_host.specs.Operators.{Operator}
+use Rattle.lucy_host.specs.Operators.{Operator, kinds_of}
 use Rattle.lucy_lines.specs.declared.reader.TextFault.{TextFault}
 use Rattle.lucy_feed.specs.declared.feeds.Feed.{Feed}
 use Rattle.lucy_feed.specs.Sources.{Stop}
@@ -12,17 +13,22 @@ use Rattle.lucy_net.specs.declared.net.Net.{Net}
 use Rattle.lucy_cause.specs.Schedules.{Timetable, IsScheduleOf}
 use Rattle.lucy_core.specs.Seen.{Seen, IsFixed, first_seen}
 use Rattle.lucy_runner.specs.Views.{RunnerView, first_runner}
-use Rattle.lucy_trace.specs.Traces.{IsTraceText}
+use Rattle.lucy_fields.specs.Readings.{AreRead}
+use Rattle.lucy_trace.specs.Logs.{picks_of}
+use Rattle.lucy_trace.specs.Traces.{trace_text, IsTraceText, TracesAreLogs}
 use Rattle.lucy_tracing.specs.Together.{AreTogether}
+use Rattle.lucy_output.specs.Outputs.{output_text}
 use Rattle.lucy_output.proofs.SinkLaws.{unwritten}
 use Rattle.lucy_clock.specs.declared.node_clock.NodeClock.{NodeClock}
 use Rattle.lucy_execution.specs.Streams.{param_words}
+use Rattle.lucy_execution.specs.Taking.{LeadToStreams}
 use Rattle.lucy_front.specs.declared.accepted.Accepted.{Accepted}
 use Rattle.lucy_run.specs.declared.ending.Ending.{Ending}
 use Rattle.lucy_run.specs.declared.ending.Ending.TheVariants as ending
 use Rattle.lucy_run.specs.Feeds.{IsMainFeed}
-use Rattle.lucy_run.specs.Owes.{IsHorizonOf, EndsFor}
-use Rattle.lucy_run.specs.Tracing.{OwesTrace}
+use Rattle.lucy_run.specs.Owes.{input_words, lines_to, heading, IsHorizonOf, EndsFor, IsFed, OwesRun}
+use Rattle.lucy_run.specs.Replays.{first_core, IsReplayText, OwesReplay}
+use Rattle.lucy_run.specs.Tracing.{OwesTrace, finished_tally}
 use Rattle.lucy_run.specs.Ends.{EndsWith, EndsTrace, IsFrontOf, Outputs}
 use Rattle.lucy_run.specs.Steps.{IsWhole, LeavesFront}
 use Rattle.lucy_run.proofs.EndsLaws.{take_front}
@@ -144,3 +150,24 @@ trace_done a given taken stop was now result feed answer clocks fed_so is e left
     front_ends (OwesTrace a given taken) stop was now result
     (front_more (λ output way. IsTraceText a.net horizon output × EndsFor words given feed.items feed.stop way) (OwesTrace a given taken stop)
     (λ output way so. (feed.items, feed.stop, horizon, record { feeds = feeds; horizon_is = horizon_is }, so.0, so.1)) was now result moved)
+
+-- the replay of a trace, whose events lead to the streams
+pub replayed : (ops : List Operator) (a : Accepted) (given : Option ℕ) (taken : List ℕ) (stop : Stop) (output : List ℕ) (end : Ending)
+    (lists : List (List ℤ)) (fault : Option TextFault) (horizon : ℕ) (rounds : List (List ℕ)) → IsFed a given taken stop lists fault horizon →
+    output ≡ trace_text rounds → EndsFor (input_words a) given lists fault end → TracesAreLogs → length a.net.actors ≤ 16384 →
+    LeadToStreams a.placed.nodes a.clocks.items (first_core ops a lists horizon) (concat rounds) →
+    (picks : List ℕ) × (lines : List ℕ) × AreRead (picks_of output) picks × OwesRun (kinds_of ops) a given taken stop (heading a ++ lines) end
+    × OwesReplay ops a given picks taken stop (finished_tally (length picks) ++ lines) (Ok end)
+replayed ops a given taken stop output end lists fault horizon rounds fed is ends logs few leads =
+    let picks : List ℕ = concat rounds in
+    let lines : List ℕ = lines_to (kinds_of ops) a lists horizon in
+    let tally : List ℕ = finished_tally (length picks) in
+    let small : All (λ p. p < 2 ^ 32) picks = λ k d l. omega (arith, leads.actors k d l, few) in
+    let printed : IsReplayText (first_core ops a lists horizon) a.placed.nodes a.outputs.items picks (tally ++ lines) =
+    (tally, (codes "finished\n", inl (leads.over, refl), refl), ap (λ ls. tally ++ output_text a.outputs.items ls horizon) (sym leads.taken)) in (
+      picks,
+      lines,
+      subst (λ (t : List ℕ). AreRead (picks_of t) picks) (sym is) (logs rounds small),
+      (lists, fault, horizon, fed, refl, ends),
+      (lists, fault, horizon, fed, (leads.run, printed, ends)),
+    )

@@ -1,12 +1,15 @@
-// Laws of what is owed, on functions that call the laws of feeds and horizons alone.
+// Laws of what is owed, on functions that call laws of lower crates alone.
+ghost use Rattle.lucy_run.specs.Tracing.{TracesAreReplayed};
 ghost use Rattle.lucy_run.specs.Played.{LinesAgree, LinesByBlock};
 ghost use Rattle.lucy_run.specs.Laws.{OneRun, OneInterpretation, OneReplay, SameLines, CompleteRun, CompleteInterpretation, CompleteReplay};
 
-use lucy_execution::streams_go_on;
+use lucy_execution::{nets_can_be_run, streams_go_on, whole_runs_lead_to_streams};
 use lucy_feed::one_feed;
+use lucy_front::accepted_programs_are_clocked;
 use lucy_lines::{cut_in_pieces, one_cut};
 use lucy_meaning::one_horizon;
 use lucy_output::{block_by_block, fronts_suffice};
+use lucy_trace::traces_are_logs;
 
 /// The bytes taken, and how reading stopped, owe one output of `run`, with one ending.
 pub fn one_run()
@@ -51,6 +54,17 @@ pub fn faultless_runs_are_done()
     one_cut();
     cut_in_pieces();
     one_horizon();
+}
+
+/// A trace that is owed reads as a log, whose replay over the same input is finished, prints the lines that `run` owes, and ends as the
+/// trace does.
+pub fn traces_are_replayed()
+    ensures { TracesAreReplayed }
+{
+    accepted_programs_are_clocked();
+    nets_can_be_run();
+    whole_runs_lead_to_streams();
+    traces_are_logs();
 }
 
 // The lines up to an instant are those of fewer items, if they suffice, and then those of the instants after.
