@@ -65,7 +65,7 @@ same_items d (x ∷ xs) (y ∷ ys) e same =
 
 module _ (nodes : List PlacedNode) (clocks : List NodeClock) (net : Net) (schedule : Timetable) (inputs : List (List ℤ)) (operators : List Operator) (instants : ℕ)
     (proper : AreProper nodes) (flat : IsFlat nodes clocks net) (fixed : IsFixed net schedule inputs operators instants) where
-  first : Seen
+  abbrev first : Seen
   first = first_seen net schedule inputs operators instants
 
   unbegun : IsUnbegun first
@@ -83,7 +83,7 @@ module _ (nodes : List PlacedNode) (clocks : List NodeClock) (net : Net) (schedu
     can_run : CanRun first picks
     can_run = IsRun-same (machine_of first).sys none_done (done_of first.done) picks (λ b. sym (unbegun b)) whole.run
 
-    last : Seen
+    abbrev last : Seen
     last = after_picks first picks
 
     is_over : IsOver last
