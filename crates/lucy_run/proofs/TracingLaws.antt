@@ -30,7 +30,7 @@ use Rattle.lucy_run.specs.Owes.{input_words, lines_to, heading, IsHorizonOf, End
 use Rattle.lucy_run.specs.Replays.{first_core, IsReplayText, OwesReplay}
 use Rattle.lucy_run.specs.Tracing.{OwesTrace, finished_tally}
 use Rattle.lucy_run.specs.Ends.{EndsWith, EndsTrace, IsFrontOf, Outputs}
-use Rattle.lucy_run.specs.Steps.{IsWhole, LeavesFront}
+use Rattle.lucy_run.specs.Steps.{IsWhole, LeavesFront, OwesTraceOf}
 use Rattle.lucy_run.proofs.EndsLaws.{take_front}
 
 -- a core can be made of the copies of a net and of inputs, by another schedule of the net
@@ -68,25 +68,24 @@ front_written Owes output (ending.Limit l) was now whole owes w = (output, owes,
 front_written Owes output ending.WriteFault was now whole owes w = absurd whole
 front_written Owes output ending.OutOfMemory was now whole owes w = absurd whole
 
--- what a core and a runner leave that were traced, where the run then ends so
-module _ (net : Net) (horizon : ℕ) (end : Ending) (core : Seen) (schedule : Timetable) (inputs : List (List ℤ)) (ops : List Operator)
-    (is : core ≡ first_seen net schedule inputs ops horizon) (was now : SeenSink) where
-  abbrev Traces : List ℕ → Ending → Type 0
-  Traces output way = IsTraceText net horizon output × (way ≡ end)
+-- what is left where a net was traced up to a horizon, and the run then ends so
+module _ (net : Net) (horizon : ℕ) (end : Ending) (was now : SeenSink) where
+  pub all_traced : IsWhole end → (text : List ℕ) × IsTraceText net horizon text × Writes was now text → LeavesFront (OwesTraceOf net horizon end) was now end
+  all_traced whole (text, trace, w) = front_written (OwesTraceOf net horizon end) text end was now whole (trace, refl) w
 
-  of_net : (text : List ℕ) → IsTraceText core.net core.instants text → IsTraceText net horizon text
-  of_net text trace = subst (λ (s : Seen). IsTraceText s.net s.instants text) is trace
+  pub trace_failed : (text : List ℕ) × IsTraceText net horizon text × Fails was now text → LeavesFront (OwesTraceOf net horizon end) was now ending.WriteFault
+  trace_failed (text, trace, f) = (text, end, (trace, refl), f)
 
-  pub all_traced : IsWhole end → (text : List ℕ) × IsTraceText core.net core.instants text × Writes was now text → LeavesFront Traces was now end
-  all_traced whole (text, trace, w) = front_written Traces text end was now whole (of_net text trace, refl) w
+  pub trace_stopped : (front : List ℕ) × (rest : List ℕ) × IsTraceText net horizon (front ++ rest) × Writes was now front →
+      LeavesFront (OwesTraceOf net horizon end) was now ending.OutOfMemory
+  trace_stopped (front, rest, trace, w) = (front, inr (front ++ rest, length front, (end, (trace, refl)), take_front front rest), w)
 
-  pub trace_failed : (text : List ℕ) × IsTraceText core.net core.instants text × Fails was now text → LeavesFront Traces was now ending.WriteFault
-  trace_failed (text, trace, f) = (text, end, (of_net text trace, refl), f)
-
-  pub trace_stopped : (front : List ℕ) × (rest : List ℕ) × IsTraceText core.net core.instants (front ++ rest) × Writes was now front →
-      LeavesFront Traces was now ending.OutOfMemory
-  trace_stopped (front, rest, trace, w) =
-      (front, inr (front ++ rest, length front, (end, (of_net (front ++ rest) trace, refl)), take_front front rest), w)
+-- the net and the horizon are those of the core beside which it was traced
+pub traced_beside : (net : Net) (anew : Timetable) (inputs : List (List ℤ)) (ops : List Operator) (horizon : ℕ) (core : Seen) (end : Ending) (was now : SeenSink)
+    (result : Ending) → core ≡ first_seen net anew inputs ops horizon → LeavesFront (OwesTraceOf core.net core.instants end) was now result →
+    LeavesFront (OwesTraceOf net horizon end) was now result
+traced_beside net anew inputs ops horizon core end was now result is left =
+    subst (λ (s : Seen). LeavesFront (OwesTraceOf s.net s.instants end) was now result) is left
 
 -- a front of an output that is owed is one of an output that is owed so too
 front_of_more : (A B : List ℕ → Type 0) → ((output : List ℕ) → A output → B output) → (front : List ℕ) → IsFrontOf A front → IsFrontOf B front
@@ -127,13 +126,13 @@ Leaves net words given feed was now result = (horizon : ℕ) × IsHorizonOf word
 
 pub left_so : (net : Net) (words same : List Bits) (given : Option ℕ) (feed : Feed) (horizon : ℕ) (end : Ending) (was now : SeenSink) (result : Ending) →
     words ≡ same → IsHorizonOf words given feed.items horizon → EndsFor words given feed.items feed.stop end →
-    LeavesFront (λ output way. IsTraceText net horizon output × (way ≡ end)) was now result → Leaves net same given feed was now result
+    LeavesFront (OwesTraceOf net horizon end) was now result → Leaves net same given feed was now result
 left_so net words same given feed horizon end was now result e horizon_is ends left =
     let P : List Bits → Type 0 = λ ws. Leaves net ws given feed was now result in
     subst P e (
       horizon,
       horizon_is,
-      front_more (λ output way. IsTraceText net horizon output × (way ≡ end))
+      front_more (OwesTraceOf net horizon end)
           (λ output way. IsTraceText net horizon output × EndsFor words given feed.items feed.stop way)
           (λ output way so. (so.0, subst (EndsFor words given feed.items feed.stop) (sym so.1) ends)) was now result left,
     )

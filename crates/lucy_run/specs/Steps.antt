@@ -8,11 +8,13 @@ use Rattle.lucy_kahn.specs.declared.error.KahnError.TheVariants as error
 use Rattle.lucy_execution.specs.Streams.{main_streams}
 use Rattle.lucy_front.specs.declared.accepted.Accepted.{Accepted}
 use Rattle.lucy_place.specs.declared.placed.PlacedNode.{PlacedNode}
+use Rattle.lucy_net.specs.declared.net.Net.{Net}
 use Rattle.lucy_core.specs.Seen.{Seen, state_of}
 use Rattle.lucy_execution.specs.Taking.{taken_lists}
 use Rattle.lucy_output.specs.declared.output.OutputSpec.{OutputSpec}
 use Rattle.lucy_output.specs.Outputs.{output_text}
 use Rattle.lucy_trace.specs.declared.error.TraceError.{TraceError}
+use Rattle.lucy_trace.specs.Traces.{IsTraceText}
 use Rattle.lucy_run.specs.Replays.{IsTally}
 use Rattle.lucy_run.specs.declared.ending.Ending.{Ending}
 use Rattle.lucy_run.specs.declared.ending.Ending.TheVariants as ending
@@ -65,3 +67,7 @@ LeavesJudged Judges before after (Err e) = Judges [] (Err e) × (after ≡ befor
 abbrev pub IsPrinted : Seen → List PlacedNode → List OutputSpec → (count : ℕ) → (output : List ℕ) → Type 0
 IsPrinted core nodes outputs count output =
     (tally : List ℕ) × IsTally core count tally × (output ≡ tally ++ output_text outputs (taken_lists nodes core.net (state_of core)) core.instants)
+
+-- a trace of a net up to a horizon, where the run then ends so
+abbrev pub OwesTraceOf : Net → (horizon : ℕ) → Ending → (output : List ℕ) → Ending → Type 0
+OwesTraceOf net horizon end output way = IsTraceText net horizon output × (way ≡ end)

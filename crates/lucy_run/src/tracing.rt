@@ -3,6 +3,7 @@ ghost use Rattle.std.specs.Prelude.{◌≡◌, ◌≢◌, ◌≤◌, ◌<◌, �
 ghost use Rattle.lucy_word.specs.Limits.{limit_number};
 ghost use Rattle.lucy_word.specs.declared.limit.Limit.TheVariants as limit;
 ghost use Rattle.lucy_host.specs.Host.{Serves, lent};
+ghost use Rattle.lucy_host.specs.Operators.{kinds_of};
 ghost use Rattle.lucy_lines.specs.Fronts.{most_bytes};
 ghost use Rattle.lucy_feed.specs.Sources.{Stop, Read};
 ghost use Rattle.lucy_feed.specs.Feeding.{IsAsked};
@@ -11,9 +12,10 @@ ghost use Rattle.lucy_meaning.specs.Spots.{main_of};
 ghost use Rattle.lucy_kahn.specs.Turns.{params_in};
 ghost use Rattle.lucy_net.specs.Schedules.{IsSound};
 ghost use Rattle.lucy_cause.specs.Schedules.{Timetable, events_at};
-ghost use Rattle.lucy_core.specs.Seen.{IsFixed, first_seen};
+ghost use Rattle.lucy_core.specs.Seen.{IsFixed, IsUnbegun, first_seen};
 ghost use Rattle.lucy_runner.specs.Views.{first_runner};
 ghost use Rattle.lucy_trace.specs.Traces.{IsTraceText};
+ghost use Rattle.lucy_tracing.specs.Together.{AreTogether};
 ghost use Rattle.lucy_flat.specs.Clocked.{AreClocked};
 ghost use Rattle.lucy_flat.specs.Flat.{IsFlat};
 ghost use Rattle.lucy_execution.specs.Streams.{param_words};
@@ -22,7 +24,7 @@ ghost use Rattle.lucy_front.specs.Accepting.{IsAccepted};
 ghost use Rattle.lucy_run.specs.Paces.{AreWorkers};
 ghost use Rattle.lucy_run.specs.Owes.{IsHorizonOf, EndsFor};
 ghost use Rattle.lucy_run.specs.Ends.{EndsTrace};
-ghost use Rattle.lucy_run.specs.Steps.{IsWhole, LeavesFront};
+ghost use Rattle.lucy_run.specs.Steps.{IsWhole, LeavesFront, OwesTraceOf};
 
 use crate::copying::copy_net;
 use crate::ending::Ending;
@@ -92,8 +94,32 @@ fn new_runner(
     Runner::new(alloc, core, workers, &homes)
 }
 
-// Runs a net to a horizon, by so many workers, and writes its trace. Beside the runner stands a core. All memory but that of a round is
-// taken before the first write.
+// Runs a runner to its end, beside a core, and writes its trace. The run then ends so.
+fn trace_pair<F: Fn(u32, i64, i64) -> i64 + Sync, O: Sink>(
+    alloc: Global,
+    runner: &mut Runner,
+    core: &mut Core,
+    host: &Host<F>,
+    ending: Ending,
+    out: &mut O,
+) -> Ending
+    requires serves { Serves F.pre F.post host.now }
+    requires kinds { kinds_of (lent host.now) ≡ kinds_of core.old.operators }
+    requires runner_kinds { kinds_of (lent host.now) ≡ kinds_of runner.old.seen.operators }
+    requires unbegun { IsUnbegun core.old }
+    requires together { AreTogether core.old runner.old.seen }
+    requires whole { IsWhole ending }
+    ensures left { LeavesFront (OwesTraceOf core.old.net core.old.instants ending) (O.seen out.old) (O.seen out.new) result }
+    ensures count { (O.seen out.old).faults ≤ (O.seen out.new).faults }
+{
+    match lucy_tracing::trace(alloc, runner, core, host, out) {
+        Ok(()) => ending,
+        Err(OutputError::Failed) => Ending::WriteFault,
+        Err(OutputError::OutOfMemory) => Ending::OutOfMemory,
+    }
+}
+
+// Runs a net to a horizon, by so many workers, and writes its trace. All memory but that of a round is taken before the first write.
 fn trace_net<F: Fn(u32, i64, i64) -> i64 + Sync, O: Sink>(
     alloc: Global,
     net: Net,
@@ -111,7 +137,7 @@ fn trace_net<F: Fn(u32, i64, i64) -> i64 + Sync, O: Sink>(
     requires few { count < 2 ^ 32 - 1 }
     requires workers { AreWorkers workers }
     requires whole { IsWhole extent.ending }
-    ensures left { LeavesFront (λ output way. IsTraceText net extent.horizon output × (way ≡ extent.ending)) (O.seen out.old) (O.seen out.new) result }
+    ensures left { LeavesFront (OwesTraceOf net extent.horizon extent.ending) (O.seen out.old) (O.seen out.new) result }
     ensures count { (O.seen out.old).faults ≤ (O.seen out.new).faults }
 {
     let Extent { horizon, ending } = extent;
@@ -119,7 +145,7 @@ fn trace_net<F: Fn(u32, i64, i64) -> i64 + Sync, O: Sink>(
         Ok(core) => core,
         Err(_) => return Ending::OutOfMemory,
     };
-    let mut runner = match new_runner(
+    match new_runner(
         alloc,
         net,
         schedule,
@@ -128,13 +154,8 @@ fn trace_net<F: Fn(u32, i64, i64) -> i64 + Sync, O: Sink>(
         horizon,
         workers,
     ) {
-        Ok(runner) => runner,
-        Err(_) => return Ending::OutOfMemory,
-    };
-    match lucy_tracing::trace(alloc, &mut runner, &mut core, host, out) {
-        Ok(()) => ending,
-        Err(OutputError::Failed) => Ending::WriteFault,
-        Err(OutputError::OutOfMemory) => Ending::OutOfMemory,
+        Ok(mut runner) => trace_pair(alloc, &mut runner, &mut core, host, ending, out),
+        Err(_) => Ending::OutOfMemory,
     }
 }
 

@@ -5,13 +5,13 @@ use Rattle.lucy_runner.specs.Views.{RunnerView, first_runner}
 use Rattle.lucy_execution.proofs.OutputLaws.{first_unbegun}
 use Rattle.lucy_run.proofs.tracing.new_runner.Goals as goal
 
-pub new-requires-clause-unbegun : goal.new-requires-clause-unbegun
-new-requires-clause-unbegun c = λ a.
+pub new-requires-2-clause-unbegun : goal.new-requires-2-clause-unbegun
+new-requires-2-clause-unbegun c = λ a.
     ap (λ (s : Seen). done_of s.done a) c.in_ok-core.ensures
     ∙ first_unbegun c.args.net c.args.schedule c.args.inputs c.args.ops.now c.args.instants a
 
 pub returns : goal.returns
 returns c =
-    let core = first_seen c.args.net c.args.schedule c.args.inputs c.args.ops.now c.args.instants in
-    IfOk-weaker c.new.result (λ (runner : RunnerView). runner ≡ first_runner c.in_ok-core.core) (λ (runner : RunnerView). runner ≡ first_runner core)
-    (λ runner is. is ∙ ap first_runner c.in_ok-core.ensures) c.new.ensures
+    let core : Seen = first_seen c.args.net c.args.schedule c.args.inputs c.args.ops.now c.args.instants in
+    IfOk-weaker c.new-2.result (λ (runner : RunnerView). runner ≡ first_runner c.in_ok-core.core) (λ (runner : RunnerView). runner ≡ first_runner core)
+    (λ runner is. is ∙ ap first_runner c.in_ok-core.ensures) c.new-2.ensures

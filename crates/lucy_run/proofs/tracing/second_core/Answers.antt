@@ -16,8 +16,9 @@ new-requires c =
 
 pub returns : goal.returns
 returns c =
-    let anew = c.in-Ok-schedule_of.schedule in
-    let (net, inputs, ops, instants) = (c.args.net.now, c.args.inputs.now, c.args.ops.now, c.args.instants) in
-    IfOk-weaker c.new.result (λ (core : Seen). core ≡ first_seen c.in_ok-copy.copy anew c.in-Ok.lists ops instants)
-    (λ (core : Seen). (schedule : Timetable) × (core ≡ first_seen net schedule inputs ops instants))
-    (λ core is. (anew, is ∙ seen_anew net c.in_ok-copy.copy anew inputs c.in-Ok.lists ops instants c.in_ok-copy.ensures c.in-Ok.ensures)) c.new.ensures
+    let anew : Timetable = c.in-Ok-schedule_of.schedule in
+    let same = seen_anew c.args.net.now c.in_ok-copy.copy anew c.args.inputs.now c.in-Ok.lists c.args.ops.now c.args.instants c.in_ok-copy.ensures
+    c.in-Ok.ensures in
+    IfOk-weaker c.new.result (λ (core : Seen). core ≡ first_seen c.in_ok-copy.copy anew c.in-Ok.lists c.args.ops.now c.args.instants)
+    (λ (core : Seen). (schedule : Timetable) × (core ≡ first_seen c.args.net.now schedule c.args.inputs.now c.args.ops.now c.args.instants))
+    (λ core is. (anew, is ∙ same)) c.new.ensures

@@ -14,7 +14,7 @@ extent_of-requires-clause-lists g c =
     sym (ap length c.param_words-words.ensures.words ∙ params_count c.args.placed.now.nodes c.args.clocks.now ∙ c.requires.inputs)
 
 pub trace_net-requires-clause-fixed : goal.trace_net-requires-clause-fixed
-trace_net-requires-clause-fixed g c =
+trace_net-requires-clause-fixed g c κs within =
     let nodes = c.args.placed.now.nodes in
     let horizon_is =
     subst (λ (ws : List Bits). IsHorizonOf ws c.args.given c.args.feed.items c.in-Ok.extent.horizon) c.param_words-words.ensures.words c.in-Ok.ensures.horizon in
@@ -23,11 +23,11 @@ trace_net-requires-clause-fixed g c =
     c.nodes.ensures.proper c.requires.known c.requires.flat c.requires.sound horizon_is.suffice early
 
 pub trace_net-requires-clause-count : goal.trace_net-requires-clause-count
-trace_net-requires-clause-count g c =
+trace_net-requires-clause-count g c κs within =
     sym (ap length c.param_words-words.ensures.words ∙ params_count c.args.placed.now.nodes c.args.clocks.now ∙ c.requires.inputs)
 
 pub trace_net-requires-clause-whole : goal.trace_net-requires-clause-whole
-trace_net-requires-clause-whole g c =
+trace_net-requires-clause-whole g c κs within =
     ends_whole c.param_words-words.result.now c.args.given c.args.feed.items c.args.feed.stop c.in-Ok.extent.ending c.in-Ok.ensures.ending
 
 pub returns-in-Ok-clause-left : goal.returns-in-Ok-clause-left
