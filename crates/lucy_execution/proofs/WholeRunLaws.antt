@@ -41,7 +41,8 @@ not_below n true e = let low : n < 0 = ltb-true n 0 e in absurd (omega arith)
 none_between : (high begun : ℕ → ℕ) (order : List ℕ) → ((a : ℕ) → high a ≡ 0) → between_from none_done high begun order ≡ []
 none_between high begun [] none = refl
 none_between high begun (a ∷ order) none =
-    if_neither (nat_le (none_done a) (begun a)) (nat_lt (begun a) (high a)) _ _ (ap (nat_lt (begun a)) (none a) ∙ not_below (begun a) _ refl)
+    if_neither (nat_le (none_done a) (begun a)) (nat_lt (begun a) (high a)) _ _
+    (ap (nat_lt (begun a)) (none a) ∙ not_below (begun a) _ refl)
     ∙ none_between high (step begun a) order none
 
 -- a core without an event so far is where events start
@@ -56,14 +57,16 @@ taken_same [] s t same = refl
 taken_same (actor ∷ actors) s t same = ap₂ (λ xs rest. xs ∷ rest) (same (first_ring actor)) (taken_same actors s t same)
 
 -- lists of as many items that are the same
-same_items : {A : Type 0} (d : A) (xs ys : List A) → length xs ≡ length ys → ((i : ℕ) → i < length xs → get_or xs i d ≡ get_or ys i d) → xs ≡ ys
+same_items : {A : Type 0} (d : A) (xs ys : List A) → length xs ≡ length ys → ((i : ℕ) → i < length xs → get_or xs i d ≡ get_or ys i d) →
+    xs ≡ ys
 same_items d [] [] e same = refl
 same_items d [] (y ∷ ys) e same = absurd (omega arith)
 same_items d (x ∷ xs) [] e same = absurd (omega arith)
 same_items d (x ∷ xs) (y ∷ ys) e same =
     ap₂ (λ u us. u ∷ us) (same 0 (omega arith)) (same_items d xs ys (omega arith) (λ i l. same (suc i) (omega arith)))
 
-module _ (nodes : List PlacedNode) (clocks : List NodeClock) (net : Net) (schedule : Timetable) (inputs : List (List ℤ)) (operators : List Operator) (instants : ℕ)
+module _ (nodes : List PlacedNode) (clocks : List NodeClock) (net : Net) (schedule : Timetable) (inputs : List (List ℤ))
+    (operators : List Operator) (instants : ℕ)
     (proper : AreProper nodes) (flat : IsFlat nodes clocks net) (fixed : IsFixed net schedule inputs operators instants) where
   abbrev first : Seen
   first = first_seen net schedule inputs operators instants
@@ -100,7 +103,8 @@ module _ (nodes : List PlacedNode) (clocks : List NodeClock) (net : Net) (schedu
 
     took_end : (r : ℕ) → (events (machine_of first) start picks).took r ≡ (state_of last).took r
     took_end r =
-        sym ((events_lead first picks first_sound can_run).took r ∙ ap (λ (s : State). (events (machine_of first) s picks).took r) (unbegun_start first unbegun))
+        sym ((events_lead first picks first_sound can_run).took r ∙ ap (λ (s : State). (events (machine_of first) s picks).took r)
+        (unbegun_start first unbegun))
 
     -- an output took the stream of its result
     took_stream : (i : ℕ) → i < length (results_in (main_of nodes)) →

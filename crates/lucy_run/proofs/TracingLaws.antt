@@ -40,16 +40,20 @@ fixed_anew net copy schedule anew inputs lists ops instants e f is fixed =
     let of_net : IsScheduleOf net anew = subst (λ (n : Net). IsScheduleOf n anew) e is in
     let same : IsFixed net anew inputs ops instants =
     record { proper = fixed.proper; sound = of_net.sound; early = fixed.early; supplied = fixed.supplied; known = fixed.known } in
-    subst (λ (n : Net). IsFixed n anew lists ops instants) (sym e) (subst (λ (ls : List (List ℤ)). IsFixed net anew ls ops instants) (sym f) same)
+    subst (λ (n : Net). IsFixed n anew lists ops instants) (sym e) (subst (λ (ls : List (List ℤ)). IsFixed net anew ls ops instants)
+    (sym f) same)
 
-pub seen_anew : (net copy : Net) (anew : Timetable) (inputs lists : List (List ℤ)) (ops : List Operator) (instants : ℕ) → copy ≡ net → lists ≡ inputs →
+pub seen_anew : (net copy : Net) (anew : Timetable) (inputs lists : List (List ℤ)) (ops : List Operator) (instants : ℕ) → copy ≡ net →
+    lists ≡ inputs →
     first_seen copy anew lists ops instants ≡ first_seen net anew inputs ops instants
 seen_anew net copy anew inputs lists ops instants e f =
     ap (λ (n : Net). first_seen n anew lists ops instants) e ∙ ap (λ (ls : List (List ℤ)). first_seen net anew ls ops instants) f
 
 -- a core and a runner of one net, one horizon and without an event so far stand together
-pub stand_together : (core : Seen) (runner : RunnerView) (net : Net) (schedule anew : Timetable) (inputs : List (List ℤ)) (ops others : List Operator) (instants : ℕ) →
-    core ≡ first_seen net anew inputs ops instants → runner ≡ first_runner (first_seen net schedule inputs others instants) → AreTogether core runner.seen
+pub stand_together : (core : Seen) (runner : RunnerView) (net : Net) (schedule anew : Timetable) (inputs : List (List ℤ))
+    (ops others : List Operator) (instants : ℕ) →
+    core ≡ first_seen net anew inputs ops instants → runner ≡ first_runner (first_seen net schedule inputs others instants) →
+    AreTogether core runner.seen
 stand_together core runner net schedule anew inputs ops others instants is stands = record {
   net = ap (λ (v : RunnerView). v.seen.net) stands ∙ sym (ap (λ (s : Seen). s.net) is);
   instants = ap (λ (v : RunnerView). v.seen.instants) stands ∙ sym (ap (λ (s : Seen). s.instants) is);
@@ -60,7 +64,8 @@ stand_together core runner net schedule anew inputs ops others instants is stand
 pub front_nothing : (Owes : List ℕ → Ending → Type 0) (s : SeenSink) → LeavesFront Owes s s ending.OutOfMemory
 front_nothing Owes s = ([], inl refl, unwritten s)
 
-front_written : (Owes : List ℕ → Ending → Type 0) (output : List ℕ) (end : Ending) (was now : SeenSink) → IsWhole end → Owes output end → Writes was now output →
+front_written : (Owes : List ℕ → Ending → Type 0) (output : List ℕ) (end : Ending) (was now : SeenSink) → IsWhole end →
+    Owes output end → Writes was now output →
     LeavesFront Owes was now end
 front_written Owes output ending.Done was now whole owes w = (output, owes, w)
 front_written Owes output (ending.Input f) was now whole owes w = (output, owes, w)
@@ -70,10 +75,12 @@ front_written Owes output ending.OutOfMemory was now whole owes w = absurd whole
 
 -- what is left where a net was traced up to a horizon, and the run then ends so
 module _ (net : Net) (horizon : ℕ) (end : Ending) (was now : SeenSink) where
-  pub all_traced : IsWhole end → (text : List ℕ) × IsTraceText net horizon text × Writes was now text → LeavesFront (OwesTraceOf net horizon end) was now end
+  pub all_traced : IsWhole end → (text : List ℕ) × IsTraceText net horizon text × Writes was now text →
+      LeavesFront (OwesTraceOf net horizon end) was now end
   all_traced whole (text, trace, w) = front_written (OwesTraceOf net horizon end) text end was now whole (trace, refl) w
 
-  pub trace_failed : (text : List ℕ) × IsTraceText net horizon text × Fails was now text → LeavesFront (OwesTraceOf net horizon end) was now ending.WriteFault
+  pub trace_failed : (text : List ℕ) × IsTraceText net horizon text × Fails was now text →
+      LeavesFront (OwesTraceOf net horizon end) was now ending.WriteFault
   trace_failed (text, trace, f) = (text, end, (trace, refl), f)
 
   pub trace_stopped : (front : List ℕ) × (rest : List ℕ) × IsTraceText net horizon (front ++ rest) × Writes was now front →
@@ -81,18 +88,22 @@ module _ (net : Net) (horizon : ℕ) (end : Ending) (was now : SeenSink) where
   trace_stopped (front, rest, trace, w) = (front, inr (front ++ rest, length front, (end, (trace, refl)), take_front front rest), w)
 
 -- the net and the horizon are those of the core beside which it was traced
-pub traced_beside : (net : Net) (anew : Timetable) (inputs : List (List ℤ)) (ops : List Operator) (horizon : ℕ) (core : Seen) (end : Ending) (was now : SeenSink)
-    (result : Ending) → core ≡ first_seen net anew inputs ops horizon → LeavesFront (OwesTraceOf core.net core.instants end) was now result →
+pub traced_beside : (net : Net) (anew : Timetable) (inputs : List (List ℤ)) (ops : List Operator) (horizon : ℕ) (core : Seen)
+    (end : Ending) (was now : SeenSink)
+    (result : Ending) → core ≡ first_seen net anew inputs ops horizon →
+    LeavesFront (OwesTraceOf core.net core.instants end) was now result →
     LeavesFront (OwesTraceOf net horizon end) was now result
 traced_beside net anew inputs ops horizon core end was now result is left =
     subst (λ (s : Seen). LeavesFront (OwesTraceOf s.net s.instants end) was now result) is left
 
 -- a front of an output that is owed is one of an output that is owed so too
-front_of_more : (A B : List ℕ → Type 0) → ((output : List ℕ) → A output → B output) → (front : List ℕ) → IsFrontOf A front → IsFrontOf B front
+front_of_more : (A B : List ℕ → Type 0) → ((output : List ℕ) → A output → B output) → (front : List ℕ) → IsFrontOf A front →
+    IsFrontOf B front
 front_of_more A B more front (inl none) = inl none
 front_of_more A B more front (inr (output, n, owed, is)) = inr (output, n, more output owed, is)
 
-pub front_more : (A B : List ℕ → Ending → Type 0) → ((output : List ℕ) (end : Ending) → A output end → B output end) → (was now : SeenSink) (result : Ending) →
+pub front_more : (A B : List ℕ → Ending → Type 0) → ((output : List ℕ) (end : Ending) → A output end → B output end) →
+    (was now : SeenSink) (result : Ending) →
     LeavesFront A was now result → LeavesFront B was now result
 front_more A B more was now ending.WriteFault (output, end, owed, f) = (output, end, more output end owed, f)
 front_more A B more was now ending.OutOfMemory (front, owed, w) = (
@@ -106,7 +117,8 @@ front_more A B more was now (ending.Input f) (output, owed, w) = (output, more o
 front_more A B more was now (ending.Limit l) (output, owed, w) = (output, more output (ending.Limit l) owed, w)
 
 -- and so a call ends, of what is owed as reading stopped
-front_ends : (Owes : Stop → List ℕ → Ending → Type 0) (stop : Stop) (was now : SeenSink) (result : Ending) → LeavesFront (Owes stop) was now result →
+front_ends : (Owes : Stop → List ℕ → Ending → Type 0) (stop : Stop) (was now : SeenSink) (result : Ending) →
+    LeavesFront (Owes stop) was now result →
     EndsWith Owes (λ counted. counted ≡ stop) stop was now result
 front_ends Owes stop was now ending.WriteFault (output, end, owed, f) = (output, (stop, end, refl, owed), f)
 front_ends Owes stop was now ending.OutOfMemory (front, owed, w) = (
@@ -124,7 +136,8 @@ abbrev pub Leaves : Net → (words : List Bits) → (given : Option ℕ) → Fee
 Leaves net words given feed was now result = (horizon : ℕ) × IsHorizonOf words given feed.items horizon
     × LeavesFront (λ output way. IsTraceText net horizon output × EndsFor words given feed.items feed.stop way) was now result
 
-pub left_so : (net : Net) (words same : List Bits) (given : Option ℕ) (feed : Feed) (horizon : ℕ) (end : Ending) (was now : SeenSink) (result : Ending) →
+pub left_so : (net : Net) (words same : List Bits) (given : Option ℕ) (feed : Feed) (horizon : ℕ) (end : Ending) (was now : SeenSink)
+    (result : Ending) →
     words ≡ same → IsHorizonOf words given feed.items horizon → EndsFor words given feed.items feed.stop end →
     LeavesFront (OwesTraceOf net horizon end) was now result → Leaves net same given feed was now result
 left_so net words same given feed horizon end was now result e horizon_is ends left =
@@ -138,7 +151,8 @@ left_so net words same given feed horizon end was now result e horizon_is ends l
     )
 
 -- main was fed, and its net was traced
-pub trace_done : (a : Accepted) (given : Option ℕ) (taken : List ℕ) (stop : Stop) (was now : SeenSink) (result : Ending) (feed : Feed) (answer : Result Feed OutOfMemory)
+pub trace_done : (a : Accepted) (given : Option ℕ) (taken : List ℕ) (stop : Stop) (was now : SeenSink) (result : Ending) (feed : Feed)
+    (answer : Result Feed OutOfMemory)
     (clocks : List NodeClock) → IsMainFeed a.inputs.items taken stop answer → answer ≡ Ok feed → clocks ≡ a.clocks.items →
     Leaves a.net (param_words a.placed.nodes clocks) given feed was now result → EndsTrace a given taken stop was now result
 trace_done a given taken stop was now result feed answer clocks fed_so is e left =
@@ -147,15 +161,18 @@ trace_done a given taken stop was now result feed answer clocks fed_so is e left
     let feeds = subst (IsMainFeed a.inputs.items taken stop) is fed_so in
     let words : List Bits = param_words a.placed.nodes a.clocks.items in
     front_ends (OwesTrace a given taken) stop was now result
-    (front_more (λ output way. IsTraceText a.net horizon output × EndsFor words given feed.items feed.stop way) (OwesTrace a given taken stop)
+    (front_more (λ output way. IsTraceText a.net horizon output × EndsFor words given feed.items feed.stop way)
+    (OwesTrace a given taken stop)
     (λ output way so. (feed.items, feed.stop, horizon, record { feeds = feeds; horizon_is = horizon_is }, so.0, so.1)) was now result moved)
 
 -- the replay of a trace, whose events lead to the streams
 pub replayed : (ops : List Operator) (a : Accepted) (given : Option ℕ) (taken : List ℕ) (stop : Stop) (output : List ℕ) (end : Ending)
-    (lists : List (List ℤ)) (fault : Option TextFault) (horizon : ℕ) (rounds : List (List ℕ)) → IsFed a given taken stop lists fault horizon →
+    (lists : List (List ℤ)) (fault : Option TextFault) (horizon : ℕ) (rounds : List (List ℕ)) →
+    IsFed a given taken stop lists fault horizon →
     output ≡ trace_text rounds → EndsFor (input_words a) given lists fault end → TracesAreLogs → length a.net.actors ≤ 16384 →
     LeadToStreams a.placed.nodes a.clocks.items (first_core ops a lists horizon) (concat rounds) →
-    (picks : List ℕ) × (lines : List ℕ) × AreRead (picks_of output) picks × OwesRun (kinds_of ops) a given taken stop (heading a ++ lines) end
+    (picks : List ℕ) × (lines : List ℕ) × AreRead (picks_of output) picks × OwesRun (kinds_of ops) a given taken stop
+    (heading a ++ lines) end
     × OwesReplay ops a given picks taken stop (finished_tally (length picks) ++ lines) (Ok end)
 replayed ops a given taken stop output end lists fault horizon rounds fed is ends logs few leads =
     let picks : List ℕ = concat rounds in
@@ -163,7 +180,8 @@ replayed ops a given taken stop output end lists fault horizon rounds fed is end
     let tally : List ℕ = finished_tally (length picks) in
     let small : All (λ p. p < 2 ^ 32) picks = λ k d l. omega (arith, leads.actors k d l, few) in
     let printed : IsReplayText (first_core ops a lists horizon) a.placed.nodes a.outputs.items picks (tally ++ lines) =
-    (tally, (codes "finished\n", inl (leads.over, refl), refl), ap (λ ls. tally ++ output_text a.outputs.items ls horizon) (sym leads.taken)) in (
+    (tally, (codes "finished\n", inl (leads.over, refl), refl), ap (λ ls. tally ++ output_text a.outputs.items ls horizon)
+    (sym leads.taken)) in (
       picks,
       lines,
       subst (λ (t : List ℕ). AreRead (picks_of t) picks) (sym is) (logs rounds small),

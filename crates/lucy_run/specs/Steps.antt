@@ -28,10 +28,12 @@ LeavesOwed Owes before after ending.WriteFault = (output : List ℕ) × (end : E
 LeavesOwed Owes before after ending.OutOfMemory = after ≡ before
 LeavesOwed Owes before after result = (output : List ℕ) × Owes output result × Writes before after output
 
--- the output that is owed with this ending was written; or a write of one that is owed failed; or memory ran out, and a front of one was written
+-- the output that is owed with this ending was written; or a write of one that is owed failed; or memory ran out, and a front of one
+-- was written
 abbrev pub LeavesFront : (Owes : List ℕ → Ending → Type 0) → (before after : SeenSink) → (result : Ending) → Type 0
 LeavesFront Owes before after ending.WriteFault = (output : List ℕ) × (end : Ending) × Owes output end × Fails before after output
-LeavesFront Owes before after ending.OutOfMemory = (front : List ℕ) × IsFrontOf (λ output. (end : Ending) × Owes output end) front × Writes before after front
+LeavesFront Owes before after ending.OutOfMemory =
+    (front : List ℕ) × IsFrontOf (λ output. (end : Ending) × Owes output end) front × Writes before after front
 LeavesFront Owes before after result = (output : List ℕ) × Owes output result × Writes before after output
 
 -- the output is whole where a run ends so

@@ -29,7 +29,9 @@ finished_tally count = codes "events " ++ (decimal count ++ (codes "\n" ++ codes
 -- A trace that is owed reads as a log. Over the same input the replay of that log is finished, prints the lines that `run` owes, and ends
 -- as the trace does.
 abbrev pub TracesAreReplayed : Type 0
-TracesAreReplayed = (ops : List Operator) (o : Options) (text : List ℕ) (a : Accepted) (given : Option ℕ) (taken : List ℕ) (stop : Stop) (output : List ℕ)
-    (end : Ending) → IfSome given (λ n. n ≤ limit_number limit.Instants) → IsAccepted ops o text a → OwesTrace a given taken stop output end →
-    (picks : List ℕ) × (lines : List ℕ) × AreRead (picks_of output) picks × OwesRun (kinds_of ops) a given taken stop (heading a ++ lines) end
+TracesAreReplayed = (ops : List Operator) (o : Options) (text : List ℕ) (a : Accepted) (given : Option ℕ) (taken : List ℕ) (stop : Stop)
+    (output : List ℕ) (end : Ending) →
+    IfSome given (λ n. n ≤ limit_number limit.Instants) → IsAccepted ops o text a → OwesTrace a given taken stop output end →
+    (picks : List ℕ) × (lines : List ℕ) × AreRead (picks_of output) picks
+    × OwesRun (kinds_of ops) a given taken stop (heading a ++ lines) end
     × OwesReplay ops a given picks taken stop (finished_tally (length picks) ++ lines) (Ok end)

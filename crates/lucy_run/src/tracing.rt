@@ -181,7 +181,8 @@ fn trace_feed<F: Fn(u32, i64, i64) -> i64 + Sync, O: Sink>(
     requires few { IfSome given (λ most. most ≤ limit_number limit.Instants) }
     requires workers { AreWorkers workers }
     ensures left { (horizon : ℕ) × IsHorizonOf (param_words placed.now.nodes clocks.now) given feed.items horizon
-        × LeavesFront (λ output way. IsTraceText net horizon output × EndsFor (param_words placed.now.nodes clocks.now) given feed.items feed.stop way)
+        × LeavesFront (λ output way. IsTraceText net horizon output
+        × EndsFor (param_words placed.now.nodes clocks.now) given feed.items feed.stop way)
         (O.seen out.old) (O.seen out.new) result }
     ensures count { (O.seen out.old).faults ≤ (O.seen out.new).faults }
 {
@@ -205,10 +206,11 @@ fn trace_feed<F: Fn(u32, i64, i64) -> i64 + Sync, O: Sink>(
     }
 }
 
-/// Traces an accepted program: its input is read to its end or its first fault, and then its net is run in one piece, by so many workers,
+/// Traces an accepted program: its input is read to its end or its first fault, and then its net is run in one piece, by 1 to 64 workers,
 /// over the instants up to the horizon, which is that of [`run`](crate::run). In place of a report and of lines of results a line is
-/// written behind each round: the numbers of the actors of events that lead from where the run stood before the round to where it stands
-/// after it, in an order that is possible. All lines are a run of all its events. A main without inputs reads nothing, and runs so many instants.
+/// written behind each round: the actors, which count from 0, of events that lead from where the run stood before the round to where it
+/// stands after it, in an order that is possible. All lines are a run of all events of the net. A main without inputs reads nothing, and
+/// runs so many instants as are given.
 ///
 /// After a failed write nothing more is written. Where a write fails or memory runs out, a front of such lines was written.
 pub fn trace<F: Fn(u32, i64, i64) -> i64 + Sync, I: Source, O: Sink>(

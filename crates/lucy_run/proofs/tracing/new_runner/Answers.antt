@@ -13,5 +13,6 @@ new-requires-2-clause-unbegun c = λ a.
 pub returns : goal.returns
 returns c =
     let core : Seen = first_seen c.args.net c.args.schedule c.args.inputs c.args.ops.now c.args.instants in
-    IfOk-weaker c.new-2.result (λ (runner : RunnerView). runner ≡ first_runner c.in_ok-core.core) (λ (runner : RunnerView). runner ≡ first_runner core)
+    IfOk-weaker c.new-2.result (λ (runner : RunnerView). runner ≡ first_runner c.in_ok-core.core)
+    (λ (runner : RunnerView). runner ≡ first_runner core)
     (λ runner is. is ∙ ap first_runner c.in_ok-core.ensures) c.new-2.ensures

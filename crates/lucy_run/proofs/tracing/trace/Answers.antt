@@ -19,20 +19,24 @@ returns-in-Err-clause-ends g c =
 pub trace_feed-requires-clause-clocked : goal.trace_feed-requires-clause-clocked
 trace_feed-requires-clause-clocked g c κs within =
     subst (AreClocked c.args.accepted.placed.nodes) (sym c.deref.ensures.value)
-    (c.accepted_programs_are_clocked.ensures.clocked (lent c.args.host.now) c.requires.accepted.1 c.requires.accepted.0 c.args.accepted c.requires.accepted.2)
+    (c.accepted_programs_are_clocked.ensures.clocked (lent c.args.host.now) c.requires.accepted.1 c.requires.accepted.0 c.args.accepted
+    c.requires.accepted.2)
 
 pub trace_feed-requires-clause-known : goal.trace_feed-requires-clause-known
 trace_feed-requires-clause-known g c κs within =
-    c.accepted_programs_are_clocked.ensures.operators (lent c.args.host.now) c.requires.accepted.1 c.requires.accepted.0 c.args.accepted c.requires.accepted.2
+    c.accepted_programs_are_clocked.ensures.operators (lent c.args.host.now) c.requires.accepted.1 c.requires.accepted.0 c.args.accepted
+    c.requires.accepted.2
 
 pub trace_feed-requires-clause-inputs : goal.trace_feed-requires-clause-inputs
 trace_feed-requires-clause-inputs g c κs within =
-    let lists = IfOk-at_ok (λ (feed : Feed). length feed.items ≡ length c.args.accepted.inputs.items) c.in-Ok.is c.main_feed.ensures.lists in
+    let lists = IfOk-at_ok (λ (feed : Feed). length feed.items ≡ length c.args.accepted.inputs.items) c.in-Ok.is
+    c.main_feed.ensures.lists in
     sym (lists ∙ inputs_count _ c.requires.accepted.0 c.requires.accepted.1 c.args.accepted c.requires.accepted.2)
 
 pub returns-clause-ends : goal.returns-clause-ends
 returns-clause-ends g c =
     let (taken, stop, read, asked, fed) = c.main_feed.ensures.fed in
-    let ends = trace_done c.args.accepted c.args.instants taken stop _ _ c.trace_feed.result c.in-Ok.feed c.main_feed.result c.deref.result.now fed c.in-Ok.is
+    let ends = trace_done c.args.accepted c.args.instants taken stop _ _ c.trace_feed.result c.in-Ok.feed c.main_feed.result
+    c.deref.result.now fed c.in-Ok.is
     c.deref.ensures.value c.trace_feed.ensures.left in
     (taken, stop, read, asked, ends)

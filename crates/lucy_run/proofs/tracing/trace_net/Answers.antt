@@ -9,12 +9,14 @@ use Rattle.lucy_run.proofs.tracing.trace_net.Goals as goal
 pub second_core-requires-clause-fixed : goal.second_core-requires-clause-fixed
 second_core-requires-clause-fixed g c = (
   c.args.schedule,
-  subst (λ (ops : List Operator). IsFixed c.args.net c.args.schedule c.args.inputs ops c.args.extent.horizon) (sym c.ops.ensures) c.requires.fixed,
+  subst (λ (ops : List Operator). IsFixed c.args.net c.args.schedule c.args.inputs ops c.args.extent.horizon) (sym c.ops.ensures)
+      c.requires.fixed,
 )
 
 pub new_runner-requires-clause-fixed : goal.new_runner-requires-clause-fixed
 new_runner-requires-clause-fixed g c =
-    subst (λ (ops : List Operator). IsFixed c.args.net c.args.schedule c.args.inputs ops c.args.extent.horizon) (sym c.ops-2.ensures) c.requires.fixed
+    subst (λ (ops : List Operator). IsFixed c.args.net c.args.schedule c.args.inputs ops c.args.extent.horizon) (sym c.ops-2.ensures)
+    c.requires.fixed
 
 pub trace_pair-requires-clause-kinds : goal.trace_pair-requires-clause-kinds
 trace_pair-requires-clause-kinds g c κs within =
@@ -31,7 +33,8 @@ trace_pair-requires-clause-unbegun g c κs within = λ a.
 
 pub trace_pair-requires-clause-together : goal.trace_pair-requires-clause-together
 trace_pair-requires-clause-together g c κs within =
-    stand_together c.in-Ok.core c.in-Ok-new_runner.runner c.args.net c.args.schedule c.in-Ok.ensures.0 c.args.inputs c.ops.result.now c.ops-2.result.now
+    stand_together c.in-Ok.core c.in-Ok-new_runner.runner c.args.net c.args.schedule c.in-Ok.ensures.0 c.args.inputs c.ops.result.now
+    c.ops-2.result.now
     c.args.extent.horizon c.in-Ok.ensures.1 c.in-Ok-new_runner.ensures
 
 pub returns-in-Err-clause-left : goal.returns-in-Err-clause-left
