@@ -50,6 +50,14 @@ pub record ReplayWords : Type 0 where
   pub lead : ℕ
   pub instants : Option ℕ
 
+-- what `trace` works on: what `kahn` does, and the workers
+pub record TraceWords : Type 0 where
+  pub file : List ℕ
+  pub scale : ℕ
+  pub lead : ℕ
+  pub instants : Option ℕ
+  pub workers : ℕ
+
 -- a command, with what it works on
 pub data Command : Type 0 where
   Order : Command
@@ -60,6 +68,7 @@ pub data Command : Type 0 where
   Make : MakeWords → Command
   Tighten : TightenWords → Command
   Replay : ReplayWords → Command
+  Trace : TraceWords → Command
 
 -- a number of one to seven digits, between these
 abbrev pub is_number : (least most : ℕ) → List ℕ → Bool
@@ -116,9 +125,13 @@ kahn_words t =
     option_and_then (λ c. option_map (λ instants. record { file = c.file; scale = c.scale; lead = c.lead; instants = instants })
     (given setting.Instants t.instants)) (clocks_words t)
 
--- the workers, which are 4 where they don't stand, and the instants of a block
+-- the workers, which are 4 where they don't stand
+abbrev pub workers_of : Texts → Option ℕ
+workers_of t = given_or 4 setting.Workers t.workers
+
+-- and the instants of a block
 abbrev pub playing_of : Texts → Option (ℕ × Option ℕ)
-playing_of t = option_and_then (λ workers. option_map (λ block. (workers, block)) (given setting.Block t.block)) (given_or 4 setting.Workers t.workers)
+playing_of t = option_and_then (λ workers. option_map (λ block. (workers, block)) (given setting.Block t.block)) (workers_of t)
 
 -- what `run` works on
 abbrev pub run_words : Texts → Option RunWords
@@ -147,6 +160,12 @@ replay_words t =
     option_and_then (λ c. option_and_then (λ log. option_map (λ instants. record { file = c.file; log = log; scale = c.scale; lead = c.lead; instants = instants })
     (given setting.Instants t.instants)) t.second) (clocks_with t.first t)
 
+-- what `trace` works on
+abbrev pub trace_words : Texts → Option TraceWords
+trace_words t =
+    option_and_then (λ k. option_map (λ workers. record { file = k.file; scale = k.scale; lead = k.lead; instants = k.instants; workers = workers })
+    (workers_of t)) (kahn_words t)
+
 -- the command of this name with these texts, where they fit it
 abbrev pub command_with : Name → Texts → Option Command
 command_with name.Order t = alone Order t.first
@@ -159,6 +178,7 @@ command_with name.Kahn t = option_map Kahn (kahn_words t)
 command_with name.Make t = option_map Make (make_words t)
 command_with name.Tighten t = option_map Tighten (tighten_words t)
 command_with name.Replay t = option_map Replay (replay_words t)
+command_with name.Trace t = option_map Trace (trace_words t)
 
 -- the command that the words name, where they name one
 abbrev pub command_of : (words : List (List ℕ)) → Option Command

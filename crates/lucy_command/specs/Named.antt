@@ -9,8 +9,9 @@ use Rattle.lucy_command.specs.declared.words.RunWords.{RunWords}
 use Rattle.lucy_command.specs.declared.words.KahnWords.{KahnWords}
 use Rattle.lucy_command.specs.declared.words.TightenWords.{TightenWords}
 use Rattle.lucy_command.specs.declared.words.ReplayWords.{ReplayWords}
+use Rattle.lucy_command.specs.declared.words.TraceWords.{TraceWords}
 use Rattle.lucy_command.specs.declared.command.Command.{Command}
-use Rattle.lucy_command.specs.declared.command.Command.TheVariants.{Order, Show, Types, Check, Clocks, Run, Kahn, Make, Tighten, Replay}
+use Rattle.lucy_command.specs.declared.command.Command.TheVariants.{Order, Show, Types, Check, Clocks, Run, Kahn, Make, Tighten, Replay, Trace}
 
 -- what these words of `clocks` stand for
 abbrev pub clocks_named : ClocksWords → names.ClocksWords
@@ -32,6 +33,10 @@ tighten_named w = record { file = w.file.now; node = w.node.now; buffer = w.buff
 abbrev pub replay_named : ReplayWords → names.ReplayWords
 replay_named w = record { file = w.file.now; log = w.log.now; scale = w.scale; lead = w.lead; instants = w.instants }
 
+-- and these of `trace`
+abbrev pub trace_named : TraceWords → names.TraceWords
+trace_named w = record { file = w.file.now; scale = w.scale; lead = w.lead; instants = w.instants; workers = w.workers }
+
 -- the command that it stands for
 abbrev pub named : Command → names.Command
 named Order = names.Order
@@ -44,6 +49,7 @@ named (Kahn words) = names.Kahn (kahn_named words)
 named (Make words) = names.Make words
 named (Tighten words) = names.Tighten (tighten_named words)
 named (Replay words) = names.Replay (replay_named words)
+named (Trace words) = names.Trace (trace_named words)
 
 -- a number of this option
 abbrev pub IsOf : Setting → ℕ → Type 0
@@ -77,6 +83,7 @@ IsWithin (names.Kahn w) = IsScale w.scale × IsScale w.lead × AreFew w.instants
 IsWithin (names.Make w) = AreStages w.stages × AreWorkers w.workers × IfSome w.block IsBlock
 IsWithin (names.Tighten w) = IsScale w.scale × IsScale w.lead
 IsWithin (names.Replay w) = IsScale w.scale × IsScale w.lead × AreFew w.instants
+IsWithin (names.Trace w) = IsScale w.scale × IsScale w.lead × AreFew w.instants × AreWorkers w.workers
 IsWithin command = Unit {0}
 
 -- the block that is given, or else the default

@@ -5,7 +5,7 @@ use Rattle.std.specs.Str.{bytes_eq}
 use Rattle.lucy_word.specs.Limits.{limit_number}
 use Rattle.lucy_word.specs.declared.limit.Limit.TheVariants as limit
 use Rattle.lucy_command.specs.declared.names.Name.{Name}
-use Rattle.lucy_command.specs.declared.names.Name.TheVariants.{Order, Show, Types, Check, Clocks, Run, Kahn, Make, Tighten, Replay}
+use Rattle.lucy_command.specs.declared.names.Name.TheVariants.{Order, Show, Types, Check, Clocks, Run, Kahn, Make, Tighten, Replay, Trace}
 use Rattle.lucy_command.specs.declared.names.Setting.{Setting}
 use Rattle.lucy_command.specs.declared.names.Setting.TheVariants.{Scale, Lead, Instants, Workers, Block}
 
@@ -22,7 +22,8 @@ name_of word =
     else (if bytes_eq word (codes "make") then Some Make
     else (if bytes_eq word (codes "tighten") then Some Tighten
     else (if bytes_eq word (codes "replay") then Some Replay
-    else None)))))))))
+    else (if bytes_eq word (codes "trace") then Some Trace
+    else None))))))))))
 
 -- the option that a word is
 abbrev pub setting_of : (word : List ℕ) → Option Setting
@@ -74,6 +75,10 @@ allows Tighten Lead = true
 allows Replay Scale = true
 allows Replay Lead = true
 allows Replay Instants = true
+allows Trace Scale = true
+allows Trace Lead = true
+allows Trace Instants = true
+allows Trace Workers = true
 allows name setting = false
 
 -- the option of the command that a word is

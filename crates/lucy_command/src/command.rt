@@ -3,7 +3,7 @@ ghost use Rattle.std.specs.Prelude.{◌≡◌, ◌≤◌, IfSome};
 ghost use Rattle.std.specs.Option.{option_map};
 ghost use Rattle.lucy_command.specs.Commands as spec;
 ghost use Rattle.lucy_command.specs.declared.names.Name.TheVariants as Name;
-ghost use Rattle.lucy_command.specs.Named.{named, clocks_named, kahn_named, run_named, tighten_named, replay_named, AreStages, IsOf, IsWithin};
+ghost use Rattle.lucy_command.specs.Named.{named, clocks_named, kahn_named, run_named, tighten_named, replay_named, trace_named, AreStages, IsOf, IsWithin};
 ghost use Rattle.lucy_command.specs.Names.{most_buffer};
 ghost use Rattle.lucy_command.specs.Parts.{halves_at};
 ghost use Rattle.lucy_command.specs.Seen.{seen, seen_text};
@@ -11,7 +11,9 @@ ghost use Rattle.lucy_command.specs.Seen.{seen, seen_text};
 use crate::names::{Name, Setting};
 use crate::numbers::number;
 use crate::texts::Texts;
-use crate::words::{ClocksWords, KahnWords, MakeWords, ReplayWords, RunWords, TightenWords};
+use crate::words::{
+    ClocksWords, KahnWords, MakeWords, ReplayWords, RunWords, TightenWords, TraceWords,
+};
 use lucy_token::is_name;
 
 /// A command, with what it works on.
@@ -30,6 +32,7 @@ pub enum Command<'a> {
     Make(MakeWords),
     Tighten(TightenWords<'a>),
     Replay(ReplayWords<'a>),
+    Trace(TraceWords<'a>),
 }
 
 /// The most stages.
@@ -232,6 +235,27 @@ fn replay_words<'a>(texts: &Texts<'a>) -> Option<ReplayWords<'a>>
     })
 }
 
+// What `trace` works on.
+fn trace_words<'a>(texts: &Texts<'a>) -> Option<TraceWords<'a>>
+    ensures is { option_map trace_named result ≡ spec.trace_words (seen texts.now) }
+    ensures within { IfSome result (λ w. IsWithin (spec.Trace (trace_named w))) }
+{
+    let KahnWords {
+        file,
+        scale,
+        lead,
+        instants,
+    } = kahn_words(texts)?;
+    let workers = workers_of(texts.workers)?;
+    Some(TraceWords {
+        file,
+        scale,
+        lead,
+        instants,
+        workers,
+    })
+}
+
 /// The command of this name with these texts, where they fit it.
 pub(crate) fn command_with<'a>(name: Name, texts: &Texts<'a>) -> Option<Command<'a>>
     ensures is { option_map named result ≡ spec.command_with name (seen texts.now) }
@@ -251,5 +275,6 @@ pub(crate) fn command_with<'a>(name: Name, texts: &Texts<'a>) -> Option<Command<
         Name::Make => Some(Command::Make(make_words(texts)?)),
         Name::Tighten => Some(Command::Tighten(tighten_words(texts)?)),
         Name::Replay => Some(Command::Replay(replay_words(texts)?)),
+        Name::Trace => Some(Command::Trace(trace_words(texts)?)),
     }
 }

@@ -19,5 +19,6 @@ mod words;
 pub use command::Command;
 pub use reading::read;
 pub use words::{
-    ClocksWords, KahnWords, MakeWords, ReplayWords, RunWords, TightenWords, block_or_default,
+    ClocksWords, KahnWords, MakeWords, ReplayWords, RunWords, TightenWords, TraceWords,
+    block_or_default,
 };

@@ -17,6 +17,7 @@ pub(crate) enum Name {
     Make,
     Tighten,
     Replay,
+    Trace,
 }
 
 /// An option. Each takes a number.
@@ -62,6 +63,9 @@ pub(crate) fn name_of(word: &str) -> Option<Name>
     }
     if word == "replay" {
         return Some(Name::Replay);
+    }
+    if word == "trace" {
+        return Some(Name::Trace);
     }
     None
 }
@@ -140,6 +144,10 @@ fn allows(name: Name, setting: Setting) -> bool
         (Name::Replay, Setting::Scale) => true,
         (Name::Replay, Setting::Lead) => true,
         (Name::Replay, Setting::Instants) => true,
+        (Name::Trace, Setting::Scale) => true,
+        (Name::Trace, Setting::Lead) => true,
+        (Name::Trace, Setting::Instants) => true,
+        (Name::Trace, Setting::Workers) => true,
         _ => false,
     }
 }

@@ -71,6 +71,18 @@ pub struct ReplayWords<'a> {
     pub instants: Option<u64>,
 }
 
+/// What `trace` works on: likewise.
+#[derive(Clone, Copy)]
+pub struct TraceWords<'a> {
+    pub file: &'a str,
+    pub scale: u64,
+    pub lead: u64,
+    /// The instants where they are given, up to 1,048,576.
+    pub instants: Option<u64>,
+    /// The number of workers, from 1 to 64.
+    pub workers: u32,
+}
+
 /// The instants of a block where none are given.
 const BLOCK: u64 = 4_096;
 
