@@ -13,3 +13,4 @@ mod EngineLaws
 mod RunLaws
 pub mod ReplayLaws
 mod TracingLaws
+mod TraceOnce

@@ -9,8 +9,10 @@ use Rattle.lucy_feed.specs.Sources.{Stop, Read}
 use Rattle.lucy_execution.specs.Running.{HasManyTurns, HasManyItems}
 use Rattle.lucy_front.specs.declared.accepted.Accepted.{Accepted}
 use Rattle.lucy_core.specs.Seen.{CanRun}
+use Rattle.lucy_trace.specs.Traces.{IsTraceText}
 use Rattle.lucy_trace.specs.declared.error.TraceError.{TraceError}
 use Rattle.lucy_run.specs.Replays.{first_core, IsReplayText, OwesReplay}
+use Rattle.lucy_run.specs.Tracing.{OwesTrace}
 use Rattle.lucy_run.specs.declared.ending.Ending.{Ending}
 use Rattle.lucy_run.specs.declared.ending.Ending.TheVariants as ending
 use Rattle.lucy_run.specs.Feeds.{IsInput}
@@ -61,3 +63,15 @@ abbrev pub CompleteReplay : Type 0
 CompleteReplay = (ops : List Operator) (a : Accepted) (given : Option ℕ) (before after : SeenSource) (picks taken : List ℕ) (stop : Stop) (lists : List (List ℤ)) (horizon : ℕ) (output : List ℕ) (result : Result Ending TraceError) →
     Read most_bytes before after taken stop → (Rose before.faults after.faults → ⊥) → IsFedWell a given before.left lists horizon → CanRun (first_core ops a lists horizon) picks →
     OwesReplay ops a given picks taken stop output result → IsReplayText (first_core ops a lists horizon) a.placed.nodes a.outputs.items picks output × (result ≡ Ok ending.Done)
+
+-- the bytes taken and how reading stopped owe one ending of `trace`, and traces up to one horizon
+abbrev pub OneTrace : Type 0
+OneTrace = (a : Accepted) (given : Option ℕ) (taken : List ℕ) (stop : Stop) (output out : List ℕ) (end other : Ending) →
+    OwesTrace a given taken stop output end → OwesTrace a given taken stop out other →
+    (end ≡ other) × (horizon : ℕ) × IsTraceText a.net horizon output × IsTraceText a.net horizon out
+
+-- By such an input, where the count of its source did not rise, a run is traced to its end, over all those instants.
+abbrev pub CompleteTrace : Type 0
+CompleteTrace = (a : Accepted) (given : Option ℕ) (before after : SeenSource) (taken : List ℕ) (stop : Stop) (lists : List (List ℤ)) (horizon : ℕ) (output : List ℕ) (end : Ending) →
+    Read most_bytes before after taken stop → (Rose before.faults after.faults → ⊥) → IsFedWell a given before.left lists horizon → OwesTrace a given taken stop output end →
+    IsTraceText a.net horizon output × (end ≡ ending.Done)

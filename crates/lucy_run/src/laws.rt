@@ -1,7 +1,7 @@
 // Laws of what is owed, on functions that call laws of lower crates alone.
 ghost use Rattle.lucy_run.specs.Tracing.{TracesAreReplayed};
 ghost use Rattle.lucy_run.specs.Played.{LinesAgree, LinesByBlock};
-ghost use Rattle.lucy_run.specs.Laws.{OneRun, OneInterpretation, OneReplay, SameLines, CompleteRun, CompleteInterpretation, CompleteReplay};
+ghost use Rattle.lucy_run.specs.Laws.{OneRun, OneInterpretation, OneReplay, OneTrace, SameLines, CompleteRun, CompleteInterpretation, CompleteReplay, CompleteTrace};
 
 use lucy_execution::{nets_can_be_run, streams_go_on, whole_runs_lead_to_streams};
 use lucy_feed::one_feed;
@@ -35,6 +35,14 @@ pub fn one_replay()
     one_horizon();
 }
 
+/// They owe one ending of `trace`, and traces up to one horizon.
+pub fn one_trace()
+    ensures { OneTrace }
+{
+    one_feed();
+    one_horizon();
+}
+
 /// `run` and `kahn` owe the same lines and the same ending, unless the interpreter passes a limit of its own.
 pub fn runs_print_what_kahn_prints()
     ensures { SameLines }
@@ -45,11 +53,12 @@ pub fn runs_print_what_kahn_prints()
 
 /// By an input that is told whole and has no fault, whose items allow no more instants than a run may have where none are given, a run
 /// is done and owes all its lines, where no count of its source rose; and so it is by the interpreter within its own limits;
-/// and events that are a run are replayed to their end.
+/// events that are a run are replayed to their end, and a run is traced to its end.
 pub fn faultless_runs_are_done()
     ensures run { CompleteRun }
     ensures interpretation { CompleteInterpretation }
     ensures replay { CompleteReplay }
+    ensures trace { CompleteTrace }
 {
     one_cut();
     cut_in_pieces();

@@ -28,8 +28,8 @@ pub use ending::Ending;
 pub use engine::{ClosureEngine, Engine};
 pub use interpreting::kahn;
 pub use laws::{
-    faultless_runs_are_done, one_interpretation, one_replay, one_run, runs_print_what_kahn_prints,
-    traces_are_replayed,
+    faultless_runs_are_done, one_interpretation, one_replay, one_run, one_trace,
+    runs_print_what_kahn_prints, traces_are_replayed,
 };
 pub use pace::Pace;
 pub use playing::run_by;
