@@ -22,6 +22,7 @@ use Rattle.lucy_run.specs.Replays.{first_core, IsReplayText}
 use Rattle.lucy_run.proofs.ReplayLaws.{text_once}
 use Rattle.lucy_fields.specs.Readings.{AreRead}
 use Rattle.lucy_trace.specs.Logs.{picks_of}
+use Rattle.lucy_trace.specs.Traces.{IsTraceText}
 use Rattle.lucy_net.specs.declared.net.Net.{Net}
 use Rattle.lucy_core.specs.Seen.{first_seen}
 use Rattle.lucy_place.specs.declared.placed.PlacedNode.{PlacedNode}
@@ -31,7 +32,7 @@ use Rattle.lucy_run.proofs.OwesLaws.{OneHorizon}
 use Rattle.lucy_make.specs.Text.{made_text, made_input}
 use Rattle.lucy_make.specs.Figures.{figures}
 use Rattle.lucy_make.specs.Owes.{printed_values}
-use Rattle.lucy_command.specs.Commands.{TightenWords, Command, Order, Show, Types, Check, Clocks, Run, Kahn, Make, Tighten, Replay}
+use Rattle.lucy_command.specs.Commands.{Command, Order, Show, Types, Check, Clocks, Run, Kahn, Make, Tighten, Replay, Trace}
 use Rattle.lucy_app.specs.Commands.{written_options, inferring_options, Wanted, program_of, log_of}
 use Rattle.lucy_app.specs.World.{World}
 use Rattle.lucy_app.specs.Order.{IsVerdictLine}
@@ -45,7 +46,7 @@ use Rattle.lucy_app.proofs.Verdicts.{IsVerdict, show_verdict}
 use Rattle.lucy_app.proofs.Typed.{types_verdict}
 use Rattle.lucy_app.proofs.Checked.{check_verdict}
 use Rattle.lucy_app.proofs.RunsOnce.{AreSame, accepted_same}
-use Rattle.lucy_app.specs.Answers.{Alike, printed}
+use Rattle.lucy_app.specs.Answers.{Answer, AreOneBut, MayDiffer, printed}
 use Rattle.lucy_app.specs.Tighten.{IsTightOf}
 use Rattle.lucy_app.proofs.TightOnce.{OneTight, prints_alike}
 use Rattle.lucy_app.proofs.MakesOnce.{whole_feeds, values_same, words_same}
@@ -133,36 +134,54 @@ log_one : (shelf : SeenShelf) (file : Wanted) (picks events : List ℕ) → Hold
 log_one shelf file picks events (text, holds, is) (other, held, also) =
     picks_one other picks events (subst (λ t. AreRead (picks_of t) picks) (held_one shelf file text other holds held) is) also
 
-pub output_one : OneCut → OneHorizon → (command : Command) (before : World) (a b : List ℕ) →
-    ((words : TightenWords) → command ≡ Tighten words → ⊥) → MayPrint command before a → MayPrint command before b → a ≡ b
-output_one cut horizons Order before a b other is also = line_one before.source.left a b is also
-output_one cut horizons (Show file) before a b other is also = print_one IsPrintOf RefusesSyntax show_verdict before.shelf (program_of file) a b is also
-output_one cut horizons (Types file) before a b other is also =
-    print_one (IsReportOf before.operators) (RefusesText before.operators) (types_verdict before.operators) before.shelf (program_of file) a b is also
-output_one cut horizons (Check file) before a b other is also =
-    print_one (IsCheckOf before.operators written_options) (RefusesCheck before.operators written_options) (check_verdict before.operators written_options) before.shelf (program_of file) a b is also
-output_one cut horizons (Clocks words) before a b other is also =
-    let o : Options = inferring_options words.scale words.lead in
-    print_one (IsCheckOf before.operators o) (RefusesCheck before.operators o) (check_verdict before.operators o) before.shelf (program_of words.file) a b is also
-output_one cut horizons (Run words) before a b other (p, lists, horizon, held, fed, is) (q, others, last, holds, feeds, also) =
-    let same = program_one before.operators (inferring_options words.scale words.lead) words.instants before.shelf (program_of words.file) p q held holds in
-    is ∙ run_same cut horizons (kinds_of before.operators) p q same words.instants before.source.left lists others horizon last fed feeds ∙ sym also
-output_one cut horizons (Kahn words) before a b other (p, lists, horizon, held, fed, turns, items, is) (q, others, last, holds, feeds, few, short, also) =
-    let same = program_one before.operators (inferring_options words.scale words.lead) words.instants before.shelf (program_of words.file) p q held holds in
-    is ∙ lines_same cut horizons (kinds_of before.operators) p q same words.instants before.source.left lists others horizon last fed feeds ∙ sym also
-output_one cut horizons (Make words) before a b other (p, lists, horizon, runs, fed, is) (q, others, last, run, feeds, also) =
-    let same = accepted_same before.operators (inferring_options 1 1) (made_text words.stages) p q runs.0 run.0 in
-    is ∙ figures_same cut horizons (kinds_of before.operators) p q same None (Some made_input) lists others horizon last fed feeds words.stages ∙ sym also
-output_one cut horizons (Tighten words) before a b other is also = absurd (other words refl)
-output_one cut horizons (Replay words) before a b other (p, lists, horizon, picks, held, log, fed, run, is) (q, others, last, events, holds, logs, feeds, ran, also) =
-    let same = program_one before.operators (inferring_options words.scale words.lead) words.instants before.shelf (program_of words.file) p q held holds in
-    replays_same cut horizons (kinds_of before.operators) p q same words.instants before.source.left lists others horizon last fed feeds before.operators picks events a b
-    (log_one before.shelf (log_of words.log) picks events log logs) is also
+-- two outputs are one
+one_printed : (Differ : Answer → Answer → Type 0) (a b : List ℕ) → a ≡ b → AreOneBut Differ (printed a) (printed b)
+one_printed Differ a b e = inl (ap printed e)
 
--- and of `tighten` outputs that are alike
-pub outputs_alike : OneTight → (words : TightenWords) (before : World) (a b : List ℕ) → MayPrint (Tighten words) before a →
-    MayPrint (Tighten words) before b → Alike (printed a) (printed b)
-outputs_alike law words before a b (text, holds, is) (other, held, also) =
+pub output_one : OneCut → OneHorizon → OneTight → (command : Command) (before : World) (a b : List ℕ) → MayPrint command before a →
+    MayPrint command before b → AreOneBut (MayDiffer command) (printed a) (printed b)
+output_one cut horizons tight Order before a b is also = one_printed (MayDiffer Order) a b (line_one before.source.left a b is also)
+output_one cut horizons tight (Show file) before a b is also =
+    one_printed (MayDiffer (Show file)) a b (print_one IsPrintOf RefusesSyntax show_verdict before.shelf (program_of file) a b is also)
+output_one cut horizons tight (Types file) before a b is also =
+    let ops = before.operators in
+    one_printed (MayDiffer (Types file)) a b
+    (print_one (IsReportOf ops) (RefusesText ops) (types_verdict ops) before.shelf (program_of file) a b is also)
+output_one cut horizons tight (Check file) before a b is also =
+    let ops = before.operators in
+    one_printed (MayDiffer (Check file)) a b
+    (print_one (IsCheckOf ops written_options) (RefusesCheck ops written_options) (check_verdict ops written_options) before.shelf (program_of file)
+    a b is also)
+output_one cut horizons tight (Clocks words) before a b is also =
+    let ops = before.operators in
+    let o : Options = inferring_options words.scale words.lead in
+    one_printed (MayDiffer (Clocks words)) a b
+    (print_one (IsCheckOf ops o) (RefusesCheck ops o) (check_verdict ops o) before.shelf (program_of words.file) a b is also)
+output_one cut horizons tight (Run words) before a b (p, lists, horizon, held, fed, is) (q, others, last, holds, feeds, also) =
+    let kinds = kinds_of before.operators in
+    let same = program_one before.operators (inferring_options words.scale words.lead) words.instants before.shelf (program_of words.file) p q held holds in
+    one_printed (MayDiffer (Run words)) a b
+    (is ∙ run_same cut horizons kinds p q same words.instants before.source.left lists others horizon last fed feeds ∙ sym also)
+output_one cut horizons tight (Kahn words) before a b (p, lists, horizon, held, fed, turns, items, is) (q, others, last, holds, feeds, few, short, also) =
+    let kinds = kinds_of before.operators in
+    let same = program_one before.operators (inferring_options words.scale words.lead) words.instants before.shelf (program_of words.file) p q held holds in
+    one_printed (MayDiffer (Kahn words)) a b
+    (is ∙ lines_same cut horizons kinds p q same words.instants before.source.left lists others horizon last fed feeds ∙ sym also)
+output_one cut horizons tight (Make words) before a b (p, lists, horizon, runs, fed, is) (q, others, last, run, feeds, also) =
+    let kinds = kinds_of before.operators in
+    let same = accepted_same before.operators (inferring_options 1 1) (made_text words.stages) p q runs.0 run.0 in
+    one_printed (MayDiffer (Make words)) a b
+    (is ∙ figures_same cut horizons kinds p q same None (Some made_input) lists others horizon last fed feeds words.stages ∙ sym also)
+output_one cut horizons tight (Tighten words) before a b (text, holds, is) (other, held, also) =
     let o : Options = inferring_options words.scale words.lead in
     let same : text ≡ other = held_one before.shelf (program_of words.file) text other holds held in
-    prints_alike law before.operators o words other a b (subst (λ t. IsTightOf before.operators o words t a) same is) also
+    prints_alike tight before.operators o words other a b (subst (λ t. IsTightOf before.operators o words t a) same is) also
+output_one cut horizons tight (Replay words) before a b (p, lists, horizon, picks, held, log, fed, run, is) (q, others, last, events, holds, logs, feeds, ran, also) =
+    let same = program_one before.operators (inferring_options words.scale words.lead) words.instants before.shelf (program_of words.file) p q held holds in
+    one_printed (MayDiffer (Replay words)) a b
+    (replays_same cut horizons (kinds_of before.operators) p q same words.instants before.source.left lists others horizon last fed feeds before.operators picks events a b
+    (log_one before.shelf (log_of words.log) picks events log logs) is also)
+output_one cut horizons tight (Trace words) before a b (p, lists, horizon, held, fed, is) (q, others, last, holds, feeds, also) =
+    let same = program_one before.operators (inferring_options words.scale words.lead) words.instants before.shelf (program_of words.file) p q held holds in
+    let there = horizon_same cut horizons (kinds_of before.operators) p q same words.instants before.source.left lists others horizon last fed feeds in
+    inr (refl, refl, q.net, last, subst (λ t. IsTraceText q.net t a) there (subst (λ (net : Net). IsTraceText net horizon a) same.net is), also)

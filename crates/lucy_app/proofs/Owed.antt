@@ -2,11 +2,11 @@
 use Rattle.std.proofs.Common.{ℕ, ◌≡◌, List, [], ◌∷◌, None, Result, Ok, Err, ap, sym, ◌∙◌, inl, inr}
 use Rattle.lucy_text.specs.declared.shelf.ShelfError.{ShelfError}
 use Rattle.lucy_text.specs.declared.shelf.ShelfError.TheVariants as shelf
-use Rattle.lucy_command.specs.Commands.{Command, Order, Show, Types, Check, Clocks, Run, Kahn, Make, Tighten, Replay}
+use Rattle.lucy_command.specs.Commands.{Command, Order, Show, Types, Check, Clocks, Run, Kahn, Make, Tighten, Replay, Trace}
 use Rattle.lucy_app.specs.Commands.{written_options, inferring_options}
 use Rattle.lucy_feed.specs.Sources.{Stop, Ended, Failed, Passed}
 use Rattle.lucy_app.specs.World.{Given}
-use Rattle.lucy_app.specs.Answers.{Answer, Alike, printed, program_refused, input_refused}
+use Rattle.lucy_app.specs.Answers.{Answer, AreTightAlike, AreTracedAlike, MayDiffer, Alike, printed, program_refused, input_refused}
 use Rattle.lucy_app.specs.Fields.{fields}
 use Rattle.lucy_app.specs.Show.{IsPrintOf, RefusesSyntax}
 use Rattle.lucy_app.specs.Types.{IsReportOf, RefusesText}
@@ -14,14 +14,17 @@ use Rattle.lucy_app.specs.Check.{IsCheckOf, RefusesCheck}
 use Rattle.lucy_app.specs.Owes.{OwesOrder, Owes}
 use Rattle.lucy_app.specs.Programs.{OwesRefusal, OwesText, OwesPrint}
 use Rattle.lucy_host.specs.Operators.{kinds_of}
+use Rattle.lucy_front.specs.declared.accepted.Accepted.{Accepted}
+use Rattle.lucy_run.specs.declared.ending.Ending.{Ending}
 use Rattle.lucy_run.specs.Owes.{OwesRun, OwesKahn}
-use Rattle.lucy_run.specs.Laws.{OneRun, OneInterpretation, OneReplay}
-use Rattle.lucy_app.proofs.OwedPrograms.{print_decided, same_alike, unrefused, owed_one, text_owes_one}
+use Rattle.lucy_run.specs.Tracing.{OwesTrace}
+use Rattle.lucy_run.specs.Laws.{OneRun, OneInterpretation, OneReplay, OneTrace}
+use Rattle.lucy_app.proofs.OwedPrograms.{IsDecided, print_decided, unrefused, owed_one, text_owes_one}
 use Rattle.lucy_make.specs.Text.{made_text}
 use Rattle.lucy_make.specs.Owes.{OwesSummary}
 use Rattle.lucy_lines.specs.Laws.{OneCut}
 use Rattle.lucy_run.proofs.OwesLaws.{OneHorizon}
-use Rattle.lucy_app.proofs.RunsOnce.{runs_alike, run_once, kahn_once}
+use Rattle.lucy_app.proofs.RunsOnce.{once_but, runs_alike, run_once, kahn_once, trace_once}
 use Rattle.lucy_app.proofs.MakesOnce.{summary_once}
 use Rattle.lucy_app.proofs.ReplaysOnce.{logged_alike}
 use Rattle.lucy_app.proofs.Causes.{one_line, one_cause_of_fields, pair_is_not_refused}
@@ -40,42 +43,55 @@ order_owes_one taken Failed a b is also = is ∙ sym also
 order_owes_one taken Passed a b is also = is ∙ sym also
 order_owes_one taken stop a b is also = absurd is
 
-pub owes_one : OneCut → OneHorizon → OneRun → OneInterpretation → OneReplay → OneTight → (command : Command) (given : Given) (a b : Answer) →
-    Owes command given a → Owes command given b → Alike a b
-owes_one cut horizon run kahn again tight Order given a b is also = inl (order_owes_one given.taken given.stop a b is also)
-owes_one cut horizon run kahn again tight (Show file) given a b is also =
-    text_owes_one (λ x y. x ≡ y) RefusesSyntax (OwesPrint IsPrintOf) (print_decided IsPrintOf RefusesSyntax show_verdict)
-    same_alike given.stop given.fetched a b is also
-owes_one cut horizon run kahn again tight (Types file) given a b is also =
-    let ops = given.operators in
-    text_owes_one (λ x y. x ≡ y) (RefusesText ops) (OwesPrint (IsReportOf ops))
-    (print_decided (IsReportOf ops) (RefusesText ops) (types_verdict ops)) same_alike given.stop given.fetched a b is also
-owes_one cut horizon run kahn again tight (Check file) given a b is also =
-    let ops = given.operators in
-    text_owes_one (λ x y. x ≡ y) (RefusesCheck ops written_options) (OwesPrint (IsCheckOf ops written_options))
-    (print_decided (IsCheckOf ops written_options) (RefusesCheck ops written_options) (check_verdict ops written_options))
-    same_alike given.stop given.fetched a b is also
-owes_one cut horizon run kahn again tight (Clocks words) given a b is also =
-    let ops = given.operators in
-    let o = inferring_options words.scale words.lead in
-    text_owes_one (λ x y. x ≡ y) (RefusesCheck ops o) (OwesPrint (IsCheckOf ops o))
-    (print_decided (IsCheckOf ops o) (RefusesCheck ops o) (check_verdict ops o)) same_alike given.stop given.fetched a b is also
-owes_one cut horizon run kahn again tight (Run words) given a b is also =
-    runs_alike (λ p. OwesRun (kinds_of given.operators) p words.instants given.taken given.stop) (run_once run (kinds_of given.operators) words.instants given.taken given.stop) given.operators
-    (inferring_options words.scale words.lead) words.instants given.stop given.fetched a b is also
-owes_one cut horizon run kahn again tight (Kahn words) given a b is also =
-    runs_alike (λ p. OwesKahn (kinds_of given.operators) p words.instants given.taken given.stop) (kahn_once kahn (kinds_of given.operators) words.instants given.taken given.stop) given.operators
-    (inferring_options words.scale words.lead) words.instants given.stop given.fetched a b is also
-owes_one cut horizon run kahn again tight (Make words) given a b is also =
-    runs_alike (λ p. OwesSummary words.stages (kinds_of given.operators) p) (summary_once cut horizon words.stages (kinds_of given.operators)) given.operators (inferring_options 1 1) None given.stop
-    (Ok (made_text words.stages) ∷ []) a b is also
-owes_one cut horizon run kahn again tight (Tighten words) given a b is also =
-    let ops = given.operators in
-    let o = inferring_options words.scale words.lead in
-    text_owes_one Alike (RefusesCheck ops o) (OwesTight ops o words) (tight_decided tight ops o words) (λ x y h. h)
+pub owes_one : OneCut → OneHorizon → OneRun → OneInterpretation → OneReplay → OneTrace → OneTight → (command : Command) (given : Given) (a b : Answer) →
+    Owes command given a → Owes command given b → Alike command a b
+owes_one cut horizon run kahn again trace tight Order given a b is also = inl (inl (order_owes_one given.taken given.stop a b is also))
+owes_one cut horizon run kahn again trace tight (Show file) given a b is also =
+    let Differ = MayDiffer (Show file) in
+    text_owes_one Differ RefusesSyntax (OwesPrint IsPrintOf) (print_decided Differ IsPrintOf RefusesSyntax show_verdict)
     given.stop given.fetched a b is also
-owes_one cut horizon run kahn again tight (Replay words) given a b is also =
-    logged_alike again given.operators words.instants given.taken given.stop (inferring_options words.scale words.lead) given.fetched a b is also
+owes_one cut horizon run kahn again trace tight (Types file) given a b is also =
+    let ops = given.operators in
+    let Differ = MayDiffer (Types file) in
+    text_owes_one Differ (RefusesText ops) (OwesPrint (IsReportOf ops))
+    (print_decided Differ (IsReportOf ops) (RefusesText ops) (types_verdict ops)) given.stop given.fetched a b is also
+owes_one cut horizon run kahn again trace tight (Check file) given a b is also =
+    let ops = given.operators in
+    let Differ = MayDiffer (Check file) in
+    text_owes_one Differ (RefusesCheck ops written_options) (OwesPrint (IsCheckOf ops written_options))
+    (print_decided Differ (IsCheckOf ops written_options) (RefusesCheck ops written_options) (check_verdict ops written_options))
+    given.stop given.fetched a b is also
+owes_one cut horizon run kahn again trace tight (Clocks words) given a b is also =
+    let ops = given.operators in
+    let o = inferring_options words.scale words.lead in
+    let Differ = MayDiffer (Clocks words) in
+    text_owes_one Differ (RefusesCheck ops o) (OwesPrint (IsCheckOf ops o))
+    (print_decided Differ (IsCheckOf ops o) (RefusesCheck ops o) (check_verdict ops o)) given.stop given.fetched a b is also
+owes_one cut horizon run kahn again trace tight (Run words) given a b is also =
+    let Owed : Accepted → List ℕ → Ending → Type 0 = λ p. OwesRun (kinds_of given.operators) p words.instants given.taken given.stop in
+    let Differ = MayDiffer (Run words) in
+    runs_alike Differ Owed (once_but Differ Owed (run_once run (kinds_of given.operators) words.instants given.taken given.stop)) given.operators
+    (inferring_options words.scale words.lead) words.instants given.stop given.fetched a b is also
+owes_one cut horizon run kahn again trace tight (Kahn words) given a b is also =
+    let Owed : Accepted → List ℕ → Ending → Type 0 = λ p. OwesKahn (kinds_of given.operators) p words.instants given.taken given.stop in
+    let Differ = MayDiffer (Kahn words) in
+    runs_alike Differ Owed (once_but Differ Owed (kahn_once kahn (kinds_of given.operators) words.instants given.taken given.stop)) given.operators
+    (inferring_options words.scale words.lead) words.instants given.stop given.fetched a b is also
+owes_one cut horizon run kahn again trace tight (Make words) given a b is also =
+    let Owed : Accepted → List ℕ → Ending → Type 0 = λ p. OwesSummary words.stages (kinds_of given.operators) p in
+    let Differ = MayDiffer (Make words) in
+    runs_alike Differ Owed (once_but Differ Owed (summary_once cut horizon words.stages (kinds_of given.operators))) given.operators (inferring_options 1 1)
+    None given.stop (Ok (made_text words.stages) ∷ []) a b is also
+owes_one cut horizon run kahn again trace tight (Tighten words) given a b is also =
+    let ops = given.operators in
+    let o = inferring_options words.scale words.lead in
+    text_owes_one AreTightAlike (RefusesCheck ops o) (OwesTight ops o words) (tight_decided tight ops o words) given.stop given.fetched a b is also
+owes_one cut horizon run kahn again trace tight (Replay words) given a b is also =
+    logged_alike again given.operators words.instants given.taken given.stop (MayDiffer (Replay words)) (inferring_options words.scale words.lead)
+    given.fetched a b is also
+owes_one cut horizon run kahn again trace tight (Trace words) given a b is also =
+    runs_alike AreTracedAlike (λ p. OwesTrace p words.instants given.taken given.stop) (trace_once trace words.instants given.taken given.stop)
+    given.operators (inferring_options words.scale words.lead) words.instants given.stop given.fetched a b is also
 
 -- `show` refuses a text with one answer
 show_refusal_one : (fetched : List (Result (List ℕ) ShelfError)) (a b : Answer) → OwesRefusal RefusesSyntax fetched a → OwesRefusal RefusesSyntax fetched b → a ≡ b
@@ -86,15 +102,16 @@ show_refusal_one (Err shelf.Missing ∷ more) a b is also = is ∙ sym also
 show_refusal_one (Err shelf.TooLong ∷ more) a b is also = is ∙ sym also
 show_refusal_one (Err shelf.OutOfMemory ∷ more) a b is also = absurd is
 
+show_decided : IsDecided (λ x y. ⊥) RefusesSyntax (OwesPrint IsPrintOf)
+show_decided = print_decided (λ x y. ⊥) IsPrintOf RefusesSyntax show_verdict
+
 -- and owes one answer
 pub show_owes_one : (stop : Stop) (fetched : List (Result (List ℕ) ShelfError)) (a b : Answer) → OwesText RefusesSyntax (OwesPrint IsPrintOf) stop fetched a →
     OwesText RefusesSyntax (OwesPrint IsPrintOf) stop fetched b → a ≡ b
 show_owes_one stop fetched a b (inl is) (inl also) = show_refusal_one fetched a b is.0 also.0
 show_owes_one stop fetched a b (inl is) (inr also) =
-    absurd (unrefused (λ x y. x ≡ y) RefusesSyntax (OwesPrint IsPrintOf) (print_decided IsPrintOf RefusesSyntax show_verdict)
-    fetched b a also is.0)
+    absurd (unrefused (λ x y. ⊥) RefusesSyntax (OwesPrint IsPrintOf) show_decided fetched b a also is.0)
 show_owes_one stop fetched a b (inr is) (inl also) =
-    absurd (unrefused (λ x y. x ≡ y) RefusesSyntax (OwesPrint IsPrintOf) (print_decided IsPrintOf RefusesSyntax show_verdict)
-    fetched a b is also.0)
+    absurd (unrefused (λ x y. ⊥) RefusesSyntax (OwesPrint IsPrintOf) show_decided fetched a b is also.0)
 show_owes_one stop fetched a b (inr is) (inr also) =
-    owed_one (λ x y. x ≡ y) RefusesSyntax (OwesPrint IsPrintOf) (print_decided IsPrintOf RefusesSyntax show_verdict) fetched a b is also
+    elim (owed_one (λ x y. ⊥) RefusesSyntax (OwesPrint IsPrintOf) show_decided fetched a b is also) [ inl same ↦ same | inr none ↦ absurd none ]

@@ -6,37 +6,33 @@ use Rattle.lucy_feed.specs.Sources.{Stop}
 use Rattle.lucy_front.specs.declared.refusal.Refusal.{Refusal}
 use Rattle.lucy_front.specs.OneAnswer.{AreAlike}
 use Rattle.lucy_app.specs.Commands.{HasText}
-use Rattle.lucy_app.specs.Answers.{Answer, Alike, printed}
+use Rattle.lucy_app.specs.Answers.{Answer, AreOneBut, AlikeBut, printed}
 use Rattle.lucy_app.specs.Programs.{OwesRefusal, OwesText, OwesPrint}
 use Rattle.lucy_app.proofs.Verdicts.{IsVerdict}
 
--- of a text answers are owed that are the same, in some sense, or refusals that are alike
-pub record IsDecided (Same : Answer → Answer → Type 0) (Refuses : List ℕ → Refusal → Type 0)
+-- of a text one answer is owed, or answers that differ so, or refusals that are alike
+pub record IsDecided (Differ : Answer → Answer → Type 0) (Refuses : List ℕ → Refusal → Type 0)
     (Owed : List ℕ → Answer → Type 0) : Type 0 where
-  pub one : (text : List ℕ) (a b : Answer) → Owed text a → Owed text b → Same a b
+  pub one : (text : List ℕ) (a b : Answer) → Owed text a → Owed text b → AreOneBut Differ a b
   pub apart : (text : List ℕ) (a : Answer) (refusal : Refusal) → Owed text a → Refuses text refusal → ⊥
   pub same : (text : List ℕ) (refusal other : Refusal) → Refuses text refusal → Refuses text other → AreAlike refusal other
 
-pub print_decided : (Prints : List ℕ → List ℕ → Type 0) (Refuses : List ℕ → Refusal → Type 0) → IsVerdict Prints Refuses →
-    IsDecided (λ a b. a ≡ b) Refuses (OwesPrint Prints)
-print_decided Prints Refuses v = record {
-  one = λ text a b is also. is.2 ∙ ap printed (v.one text is.0 also.0 is.1 also.1) ∙ sym also.2;
+pub print_decided : (Differ : Answer → Answer → Type 0) (Prints : List ℕ → List ℕ → Type 0) (Refuses : List ℕ → Refusal → Type 0) →
+    IsVerdict Prints Refuses → IsDecided Differ Refuses (OwesPrint Prints)
+print_decided Differ Prints Refuses v = record {
+  one = λ text a b is also. inl (is.2 ∙ ap printed (v.one text is.0 also.0 is.1 also.1) ∙ sym also.2);
   apart = λ text a r is bad. v.apart text is.0 r is.1 bad;
   same = v.same;
 }
 
--- what is the same is alike
-pub same_alike : (a b : Answer) → a ≡ b → Alike a b
-same_alike a b e = inl e
-
-module _ (Same : Answer → Answer → Type 0) (Refuses : List ℕ → Refusal → Type 0) (Owed : List ℕ → Answer → Type 0)
-    (d : IsDecided Same Refuses Owed) where
-  refusals_alike : (fetched : List (Result (List ℕ) ShelfError)) (a b : Answer) → OwesRefusal Refuses fetched a → OwesRefusal Refuses fetched b → Alike a b
+module _ (Differ : Answer → Answer → Type 0) (Refuses : List ℕ → Refusal → Type 0) (Owed : List ℕ → Answer → Type 0)
+    (d : IsDecided Differ Refuses Owed) where
+  refusals_alike : (fetched : List (Result (List ℕ) ShelfError)) (a b : Answer) → OwesRefusal Refuses fetched a → OwesRefusal Refuses fetched b → AlikeBut Differ a b
   refusals_alike [] a b h k = absurd h
-  refusals_alike (Ok text ∷ more) a b h k = inr (inl (h.0, k.0, d.same text h.0 k.0 h.1 k.1, h.2, k.2))
-  refusals_alike (Err shelf.Failed ∷ more) a b h k = inl (h ∙ sym k)
-  refusals_alike (Err shelf.Missing ∷ more) a b h k = inl (h ∙ sym k)
-  refusals_alike (Err shelf.TooLong ∷ more) a b h k = inl (h ∙ sym k)
+  refusals_alike (Ok text ∷ more) a b h k = inr (h.0, k.0, d.same text h.0 k.0 h.1 k.1, h.2, k.2)
+  refusals_alike (Err shelf.Failed ∷ more) a b h k = inl (inl (h ∙ sym k))
+  refusals_alike (Err shelf.Missing ∷ more) a b h k = inl (inl (h ∙ sym k))
+  refusals_alike (Err shelf.TooLong ∷ more) a b h k = inl (inl (h ∙ sym k))
   refusals_alike (Err shelf.OutOfMemory ∷ more) a b h k = absurd h
 
   pub unrefused : (fetched : List (Result (List ℕ) ShelfError)) (a b : Answer) → HasText fetched (λ text. Owed text a) → OwesRefusal Refuses fetched b → ⊥
@@ -45,14 +41,14 @@ module _ (Same : Answer → Answer → Type 0) (Refuses : List ℕ → Refusal �
   unrefused (Err e ∷ more) a b h k = h
 
   pub owed_one : (fetched : List (Result (List ℕ) ShelfError)) (a b : Answer) → HasText fetched (λ text. Owed text a) →
-      HasText fetched (λ text. Owed text b) → Same a b
+      HasText fetched (λ text. Owed text b) → AreOneBut Differ a b
   owed_one [] a b h k = absurd h
   owed_one (Ok text ∷ more) a b h k = d.one text a b h k
   owed_one (Err e ∷ more) a b h k = absurd h
 
-  pub text_owes_one : ((a b : Answer) → Same a b → Alike a b) → (stop : Stop) (fetched : List (Result (List ℕ) ShelfError)) (a b : Answer) →
-      OwesText Refuses Owed stop fetched a → OwesText Refuses Owed stop fetched b → Alike a b
-  text_owes_one alike stop fetched a b (inl h) (inl k) = refusals_alike fetched a b h.0 k.0
-  text_owes_one alike stop fetched a b (inl h) (inr k) = absurd (unrefused fetched b a k h.0)
-  text_owes_one alike stop fetched a b (inr h) (inl k) = absurd (unrefused fetched a b h k.0)
-  text_owes_one alike stop fetched a b (inr h) (inr k) = alike a b (owed_one fetched a b h k)
+  pub text_owes_one : (stop : Stop) (fetched : List (Result (List ℕ) ShelfError)) (a b : Answer) →
+      OwesText Refuses Owed stop fetched a → OwesText Refuses Owed stop fetched b → AlikeBut Differ a b
+  text_owes_one stop fetched a b (inl h) (inl k) = refusals_alike fetched a b h.0 k.0
+  text_owes_one stop fetched a b (inl h) (inr k) = absurd (unrefused fetched b a k h.0)
+  text_owes_one stop fetched a b (inr h) (inl k) = absurd (unrefused fetched a b h k.0)
+  text_owes_one stop fetched a b (inr h) (inr k) = inl (owed_one fetched a b h k)

@@ -24,10 +24,10 @@ use Rattle.lucy_front.specs.declared.options.Options.{Options}
 use Rattle.lucy_run.specs.declared.ending.Ending.{Ending}
 use Rattle.lucy_run.specs.Replays.{first_core, Judges, OwesReplay}
 use Rattle.lucy_run.specs.Laws.{OneReplay}
-use Rattle.lucy_app.specs.Answers.{Answer, Alike, log_refused}
+use Rattle.lucy_app.specs.Answers.{Answer, AlikeBut, log_refused}
 use Rattle.lucy_app.specs.Running.{NoRun, OwesRunning}
 use Rattle.lucy_app.specs.Replaying.{replayed, OwesEvents, OwesLog, OwesLogged}
-use Rattle.lucy_app.proofs.RunsOnce.{AreSame, accepted_same, moves, fed_moves, OwesOnce, runs_alike}
+use Rattle.lucy_app.proofs.RunsOnce.{AreSame, accepted_same, moves, fed_moves, runs_alike}
 
 -- a log names one list of events
 good_once : (xs ys : List ℕ) → good xs ≡ good ys → xs ≡ ys
@@ -83,9 +83,12 @@ module _ (again : OneReplay) (ops : List Operator) (instants : Option ℕ) (take
   log_once a b same (Err shelf.OutOfMemory) x y h k = absurd h
 
   -- and so is what is owed of both files
-  pub logged_alike : (o : Options) (fetched : List (Result (List ℕ) ShelfError)) (x y : Answer) → OwesLogged ops o instants taken stop fetched x → OwesLogged ops o instants taken stop fetched y → Alike x y
-  logged_alike o [] x y h k = absurd h
-  logged_alike o (file ∷ []) x y h k = runs_alike NoRun (λ a b output other end way same p q. absurd p) ops o instants stop (file ∷ []) x y h k
-  logged_alike o (Ok text ∷ (log ∷ [])) x y (a, can, owed) (b, may, owes) = inl (log_once a b (accepted_same ops o text a b can.0 may.0) log x y owed owes)
-  logged_alike o (Err e ∷ (log ∷ [])) x y h k = absurd h
-  logged_alike o (file ∷ (log ∷ (other ∷ more))) x y h k = absurd h
+  pub logged_alike : (Differ : Answer → Answer → Type 0) (o : Options) (fetched : List (Result (List ℕ) ShelfError)) (x y : Answer) →
+      OwesLogged ops o instants taken stop fetched x → OwesLogged ops o instants taken stop fetched y → AlikeBut Differ x y
+  logged_alike Differ o [] x y h k = absurd h
+  logged_alike Differ o (file ∷ []) x y h k =
+      runs_alike Differ NoRun (λ a b output other end way same p q. absurd p) ops o instants stop (file ∷ []) x y h k
+  logged_alike Differ o (Ok text ∷ (log ∷ [])) x y (a, can, owed) (b, may, owes) =
+      inl (inl (log_once a b (accepted_same ops o text a b can.0 may.0) log x y owed owes))
+  logged_alike Differ o (Err e ∷ (log ∷ [])) x y h k = absurd h
+  logged_alike Differ o (file ∷ (log ∷ (other ∷ more))) x y h k = absurd h

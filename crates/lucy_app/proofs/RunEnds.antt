@@ -16,7 +16,8 @@ use Rattle.lucy_lines.specs.declared.input.InputSpec.{InputSpec}
 use Rattle.lucy_host.specs.Operators.{kinds_of}
 use Rattle.lucy_run.specs.Feeds.{CountsAs}
 use Rattle.lucy_run.specs.Owes.{OwesRun, OwesKahn}
-use Rattle.lucy_command.specs.Commands.{RunWords, KahnWords, Run, Kahn}
+use Rattle.lucy_run.specs.Tracing.{OwesTrace}
+use Rattle.lucy_command.specs.Commands.{RunWords, KahnWords, TraceWords, Run, Kahn, Trace}
 use Rattle.lucy_app.specs.Commands.{inferring_options, HasText, TakesInput}
 use Rattle.lucy_app.specs.World.{Given}
 use Rattle.lucy_app.specs.Answers.{Answer}
@@ -100,3 +101,13 @@ pub kahn_met : (Nothing : Type 0) (words : KahnWords) (given : Given) (out out' 
 kahn_met Nothing words given out out' err err' status ends =
     ends_more (Owes (Kahn words) given) _ (OwesOutput (Kahn words) given) _ _
     (λ output (counted, answer, same, owed, is). (given, answer, refl, subst (λ s. Owes (Kahn words) (record given { stop = s }) answer) same owed, is)) (λ order. tt) out out' err err' status ends
+
+-- and `trace`
+pub trace_met : (Nothing : Type 0) (words : TraceWords) (given : Given) (out out' err err' : SeenSink) (status : ℕ) →
+    EndsRun (λ counted a. OwesTrace a words.instants given.taken counted) (λ counted. counted ≡ given.stop) Nothing given.operators
+    (inferring_options words.scale words.lead) words.instants given.stop given.fetched out out' err err' status →
+    EndsBy (Owes (Trace words) given) (MayStand (Trace words) given) (MayFail (Trace words) given out out') out out' err err' status
+trace_met Nothing words given out out' err err' status ends =
+    ends_more (Owes (Trace words) given) _ (OwesOutput (Trace words) given) _ _
+    (λ output (counted, answer, same, owed, is). (given, answer, refl, subst (λ s. Owes (Trace words) (record given { stop = s }) answer) same owed, is))
+    (λ order. tt) out out' err err' status ends

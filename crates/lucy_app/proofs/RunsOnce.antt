@@ -1,6 +1,6 @@
 -- What a command owes that runs a program is one answer, but for the evidence of a refusal.
 use Rattle.lucy_front.specs.declared.options.Options.{Options}
-use Rattle.std.proofs.Common.{ℕ, ◌≡◌, List, Option, Result, ap, sym, ◌∙◌, subst, inl, inr}
+use Rattle.std.proofs.Common.{ℕ, ◌≡◌, List, [], Option, Result, ap, sym, ◌∙◌, subst, inl, inr}
 use Rattle.std.specs.Prelude.{◌++◌, codes}
 use Rattle.lucy_host.specs.Operators.{Operator}
 use Rattle.lucy_host.specs.declared.kind.HostKind.{HostKind}
@@ -17,16 +17,19 @@ use Rattle.lucy_front.specs.Scheduled.{inputs_of, outputs_of}
 use Rattle.lucy_front.proofs.OneAnswer.{text_proper, one_program}
 use Rattle.lucy_flat.specs.Refusals.{IsFlatNet}
 use Rattle.lucy_flat.proofs.OneNet.{one_net}
+use Rattle.lucy_net.specs.declared.net.Net.{Net}
+use Rattle.lucy_trace.specs.Traces.{IsTraceText}
 use Rattle.lucy_run.specs.declared.ending.Ending.{Ending}
 use Rattle.lucy_run.specs.Feeds.{Feeds}
 use Rattle.lucy_run.specs.Owes.{most_instants, stream_lines, EndsFor, Interprets, IsFed, OwesRun, OwesKahn}
-use Rattle.lucy_run.specs.Laws.{OneRun, OneInterpretation}
-use Rattle.lucy_app.specs.Answers.{Answer, Alike}
+use Rattle.lucy_run.specs.Tracing.{OwesTrace}
+use Rattle.lucy_run.specs.Laws.{OneRun, OneInterpretation, OneTrace}
+use Rattle.lucy_app.specs.Answers.{Answer, AreTracedAlike, AreOneBut, AlikeBut}
 use Rattle.lucy_app.specs.Check.{RefusesCheck}
-use Rattle.lucy_app.specs.Endings.{ended}
+use Rattle.lucy_app.specs.Endings.{ending_status, ending_line, ended}
 use Rattle.lucy_app.specs.Running.{LacksInstants, OwesEnded, OwesRunning}
 use Rattle.lucy_app.proofs.Checked.{checks_apart, checks_alike}
-use Rattle.lucy_app.proofs.OwedPrograms.{IsDecided, same_alike, text_owes_one}
+use Rattle.lucy_app.proofs.OwedPrograms.{IsDecided, text_owes_one}
 
 -- what two programs of one text have in common: all that is run
 pub record AreSame (a b : Accepted) : Type 0 where
@@ -86,24 +89,46 @@ module _ (kinds : List HostKind) (a b : Accepted) (same : AreSame a b) (instants
         (subst (λ os. Interprets kinds a.placed.nodes a.clocks.items os instants lists fault horizon output end) same.outputs is),
   )
 
+  pub trace_moves : (output : List ℕ) (end : Ending) → OwesTrace a instants taken stop output end → OwesTrace b instants taken stop output end
+  trace_moves output end (lists, fault, horizon, fed, traced, ends) = (
+    lists,
+    fault,
+    horizon,
+    fed_moves lists fault horizon fed,
+    subst (λ (net : Net). IsTraceText net horizon output) same.net traced,
+    moves (λ ns cs. EndsFor (param_words ns cs) instants lists fault end) ends,
+  )
+
 -- what programs of one text owe is one output and one ending
 abbrev pub OwesOnce : (Owed : Accepted → List ℕ → Ending → Type 0) → Type 0
 OwesOnce Owed = (a b : Accepted) (output other : List ℕ) (end way : Ending) → AreSame a b → Owed a output end → Owed b other way → (output ≡ other) × (end ≡ way)
 
-module _ (Owed : Accepted → List ℕ → Ending → Type 0) (once : OwesOnce Owed) (ops : List Operator) (o : Options) (instants : Option ℕ) (stop : Stop) where
+-- it comes to one answer, or to answers that differ so
+abbrev pub OwesOneBut : (Differ : Answer → Answer → Type 0) → (Owed : Accepted → List ℕ → Ending → Type 0) → Type 0
+OwesOneBut Differ Owed = (a b : Accepted) (output other : List ℕ) (end way : Ending) → AreSame a b → Owed a output end → Owed b other way →
+    AreOneBut Differ (ended output end) (ended other way)
+
+pub once_but : (Differ : Answer → Answer → Type 0) (Owed : Accepted → List ℕ → Ending → Type 0) → OwesOnce Owed → OwesOneBut Differ Owed
+once_but Differ Owed once a b output other end way same h k =
+    let one = once a b output other end way same h k in
+    inl (ap (λ o. ended o end) one.0 ∙ ap (ended other) one.1)
+
+module _ (Differ : Answer → Answer → Type 0) (Owed : Accepted → List ℕ → Ending → Type 0) (once : OwesOneBut Differ Owed) (ops : List Operator)
+    (o : Options) (instants : Option ℕ) (stop : Stop) where
   -- where main of one program lacks the instants, that of the other does
   lacks_too : (text : List ℕ) (a b : Accepted) → IsAccepted ops o text a → IsAccepted ops o text b → LacksInstants a instants → LacksInstants b instants
   lacks_too text a b is also lacks = (sym (accepted_same ops o text a b is also).inputs ∙ lacks.0, lacks.1)
 
-  ended_one : (text : List ℕ) (a b : Accepted) (x y : Answer) → IsAccepted ops o text a → IsAccepted ops o text b → OwesEnded (Owed a) instants stop a x → OwesEnded (Owed b) instants stop b y → x ≡ y
-  ended_one text a b x y is also (inl h) (inl k) = h.1 ∙ sym k.1
+  ended_one : (text : List ℕ) (a b : Accepted) (x y : Answer) → IsAccepted ops o text a → IsAccepted ops o text b → OwesEnded (Owed a) instants stop a x → OwesEnded (Owed b) instants stop b y → AreOneBut Differ x y
+  ended_one text a b x y is also (inl h) (inl k) = inl (h.1 ∙ sym k.1)
   ended_one text a b x y is also (inl h) (inr k) = absurd (k.0 (lacks_too text a b is also h.0))
   ended_one text a b x y is also (inr h) (inl k) = absurd (h.0 (lacks_too text b a also is k.0))
   ended_one text a b x y is also (inr h) (inr k) =
-      let one = once a b h.1 k.1 h.2 k.2 (accepted_same ops o text a b is also) h.3 k.3 in
-      h.4 ∙ ap (λ o. ended o h.2) one.0 ∙ ap (ended k.1) one.1 ∙ sym k.4
+      let P : Answer → Type 0 = λ u. AreOneBut Differ u y in
+      let Q : Answer → Type 0 = λ u. AreOneBut Differ (ended h.1 h.2) u in
+      subst P (sym h.4) (subst Q (sym k.4) (once a b h.1 k.1 h.2 k.2 (accepted_same ops o text a b is also) h.3 k.3))
 
-  run_decided : IsDecided (λ x y. x ≡ y) (RefusesCheck ops o)
+  run_decided : IsDecided Differ (RefusesCheck ops o)
       (λ text told. (a : Accepted) × IsAccepted ops o text a × OwesEnded (Owed a) instants stop a told)
   run_decided = record {
     one = λ text x y h k. ended_one text h.0 k.0 x y h.1 k.1 h.2 k.2;
@@ -111,11 +136,12 @@ module _ (Owed : Accepted → List ℕ → Ending → Type 0) (once : OwesOnce O
     same = λ text r s h k. checks_alike ops o text r s h k;
   }
 
-  pub runs_alike : (fetched : List (Result (List ℕ) ShelfError)) (x y : Answer) → OwesRunning Owed ops o instants stop fetched x → OwesRunning Owed ops o instants stop fetched y → Alike x y
+  pub runs_alike : (fetched : List (Result (List ℕ) ShelfError)) (x y : Answer) → OwesRunning Owed ops o instants stop fetched x →
+      OwesRunning Owed ops o instants stop fetched y → AlikeBut Differ x y
   runs_alike fetched x y h k =
-      text_owes_one (λ x y. x ≡ y) (RefusesCheck ops o)
+      text_owes_one Differ (RefusesCheck ops o)
       (λ text told. (a : Accepted) × IsAccepted ops o text a × OwesEnded (Owed a) instants stop a told)
-      run_decided same_alike stop fetched x y h k
+      run_decided stop fetched x y h k
 
 -- by the laws of one run and one interpretation
 pub run_once : OneRun → (kinds : List HostKind) (instants : Option ℕ) (taken : List ℕ) (stop : Stop) → OwesOnce (λ a. OwesRun kinds a instants taken stop)
@@ -123,3 +149,9 @@ run_once law kinds instants taken stop a b output other end way same h k = law k
 
 pub kahn_once : OneInterpretation → (kinds : List HostKind) (instants : Option ℕ) (taken : List ℕ) (stop : Stop) → OwesOnce (λ a. OwesKahn kinds a instants taken stop)
 kahn_once law kinds instants taken stop a b output other end way same h k = law kinds b instants taken stop output other end way (kahn_moves kinds a b same instants taken stop output end h) k
+
+-- traces of programs of one text end alike
+pub trace_once : OneTrace → (instants : Option ℕ) (taken : List ℕ) (stop : Stop) → OwesOneBut AreTracedAlike (λ a. OwesTrace a instants taken stop)
+trace_once law instants taken stop a b output other end way same h k =
+    let (ends, horizon, one, two) = law b instants taken stop output other end way (trace_moves [] a b same instants taken stop output end h) k in
+    inr (ap ending_status ends, ap ending_line ends, b.net, horizon, one, two)

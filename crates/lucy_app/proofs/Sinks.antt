@@ -3,7 +3,7 @@ use Rattle.std.proofs.Common.{ℕ, ◌≡◌, ◌⊎◌, List, [], Option, Some,
 use Rattle.std.specs.declared.alloc.Global.{Global}
 use Rattle.std.specs.declared.vec.Vec.{Vec}
 use Rattle.lucy_text.proofs.OutsideLaws.{appended-nil}
-use Rattle.lucy_command.specs.Commands.{Command, Order, Show, Types, Check, Clocks, Run, Kahn, Make, Tighten, Replay}
+use Rattle.lucy_command.specs.Commands.{Command, Order, Show, Types, Check, Clocks, Run, Kahn, Make, Tighten, Replay, Trace}
 use Rattle.lucy_text.specs.Outside.{SeenSink, Writes}
 use Rattle.lucy_app.specs.World.{World, Given, Meets}
 use Rattle.lucy_app.specs.Lines.{words_line, read_fault_line, instants_line, no_buffer_line, write_fault_line}
@@ -64,6 +64,7 @@ counts_itself (Kahn words) given = refl
 counts_itself (Make words) given = refl
 counts_itself (Tighten words) given = refl
 counts_itself (Replay words) given = refl
+counts_itself (Trace words) given = refl
 
 -- a command that came out so, and whose outcome was delivered
 ends_so : (command : Command) (given : Given) (outcome : Result (Vec ℕ Global) Refusal) (before after : World) (status : ℕ) → MayStand command given [] → StopsInOrder command given before.out after.out →

@@ -3,7 +3,7 @@ use Rattle.lucy_front.specs.declared.options.Options.{Options}
 use Rattle.std.proofs.Common.{ℕ, ◌≤◌, ◌≡◌, List, [], ◌∷◌, Option, Some, None, Result, Ok, Err, inl, inr, ap, arith}
 use Rattle.lucy_text.specs.declared.shelf.ShelfError.{ShelfError}
 use Rattle.lucy_text.specs.declared.shelf.ShelfError.TheVariants as shelf
-use Rattle.lucy_command.specs.Commands.{Command, Order, Show, Types, Check, Clocks, Run, Kahn, Make, Tighten, Replay}
+use Rattle.lucy_command.specs.Commands.{Command, Order, Show, Types, Check, Clocks, Run, Kahn, Make, Tighten, Replay, Trace}
 use Rattle.lucy_app.specs.Commands.{written_options, inferring_options, HasText}
 use Rattle.lucy_feed.specs.Sources.{Stop, Ended, Failed, Passed}
 use Rattle.lucy_text.specs.Outside.{SeenSink}
@@ -29,6 +29,7 @@ use Rattle.lucy_front.specs.Accepting.{IsAccepted}
 use Rattle.lucy_run.specs.declared.ending.Ending.{Ending}
 use Rattle.lucy_run.specs.declared.ending.Ending.TheVariants as ending
 use Rattle.lucy_run.specs.Owes.{OwesRun, OwesKahn}
+use Rattle.lucy_run.specs.Tracing.{OwesTrace}
 use Rattle.lucy_make.specs.Text.{made_text}
 use Rattle.lucy_make.specs.Owes.{OwesSummary}
 use Rattle.lucy_app.specs.Ends.{Tells, MayAnswer, MayStand, EndsWith, Ends}
@@ -153,6 +154,9 @@ owed_within (Tighten words) given a is =
     (λ text x h. buffer_within h.0 o words.node words.buffer x h.2) given.stop given.fetched a is
 owed_within (Replay words) given a is =
     logged_within given.operators (inferring_options words.scale words.lead) words.instants given.taken given.stop given.fetched a is
+owed_within (Trace words) given a is =
+    running_within (λ p. OwesTrace p words.instants given.taken given.stop) given.operators (inferring_options words.scale words.lead)
+    words.instants given.stop given.fetched a is
 
 answer_within : (command : Command) (given : Given) (a : Answer) → MayAnswer (Owes command given) (MayStand command given) a → a.status ≤ 7
 answer_within command given a (inl is) = owed_within command given a is

@@ -24,7 +24,8 @@ use Rattle.lucy_run.specs.declared.ending.Ending.{Ending}
 use Rattle.lucy_run.specs.declared.ending.Ending.TheVariants as ending
 use Rattle.lucy_run.specs.Feeds.{Feeds, IsInput}
 use Rattle.lucy_run.specs.Owes.{most_instants, input_words, heading, lines_to, IsHorizonOf, EndsFor, OwesRun, OwesKahn}
-use Rattle.lucy_run.specs.Laws.{IsFedWell, CompleteRun, CompleteInterpretation, CompleteReplay}
+use Rattle.lucy_run.specs.Tracing.{OwesTrace}
+use Rattle.lucy_run.specs.Laws.{IsFedWell, CompleteRun, CompleteInterpretation, CompleteReplay, CompleteTrace}
 use Rattle.lucy_run.specs.Replays.{first_core, IsReplayText}
 use Rattle.lucy_fields.specs.Readings.{AreRead}
 use Rattle.lucy_fields.proofs.ReadingLaws.{never_both}
@@ -35,7 +36,7 @@ use Rattle.lucy_run.proofs.WholeLaws.{taken_front, taken_all}
 use Rattle.lucy_make.specs.Text.{made_text, made_input}
 use Rattle.lucy_make.specs.Figures.{figures}
 use Rattle.lucy_make.specs.Owes.{OwesSummary, printed_values, where_done}
-use Rattle.lucy_command.specs.Commands.{ReplayWords, Command, Order, Show, Types, Check, Clocks, Run, Kahn, Make, Tighten, Replay}
+use Rattle.lucy_command.specs.Commands.{ReplayWords, Command, Order, Show, Types, Check, Clocks, Run, Kahn, Make, Tighten, Replay, Trace}
 use Rattle.lucy_app.specs.Commands.{written_options, inferring_options, Wanted, program_of, log_of}
 use Rattle.lucy_app.specs.World.{World, Given, Fetched, Fetches, Meets}
 use Rattle.lucy_app.specs.Answers.{Answer, printed, out_of_memory}
@@ -57,7 +58,7 @@ use Rattle.lucy_app.proofs.Typed.{types_verdict}
 use Rattle.lucy_app.proofs.Checked.{checks_apart, check_verdict}
 use Rattle.lucy_app.specs.Tighten.{OwesTight}
 use Rattle.lucy_app.proofs.TightOnce.{OneTight, tight_unrefused, tight_printed}
-use Rattle.lucy_app.proofs.RunsOnce.{AreSame, accepted_same, run_moves, kahn_moves}
+use Rattle.lucy_app.proofs.RunsOnce.{AreSame, accepted_same, run_moves, kahn_moves, trace_moves}
 use Rattle.lucy_app.proofs.MakesOnce.{whole_feeds, summary_moves}
 
 -- it prints such an output
@@ -117,14 +118,15 @@ order_done : (before after : SeenSource) (taken output : List ℕ) (stop : Stop)
 order_done before after taken output stop None e read well none answer owed = absurd none
 order_done before after taken output stop (Some bytes) e read well (is, few) answer owed = order_owed before after bytes taken output (sym e ∙ read.took) well is few stop read.stopped answer owed
 
--- a text that is accepted is run to its end, where what that owes is this output
-ran_done : (Owed : Accepted → List ℕ → Ending → Type 0) (ops : List Operator) (o : Options) (instants : Option ℕ) (stop : Stop) (text : List ℕ) (more : List (Result (List ℕ) ShelfError)) (a : Accepted) (output : List ℕ) →
-    IsRunnable ops o instants text a → ((b : Accepted) (out : List ℕ) (end : Ending) → AreSame b a → Owed b out end → ended out end ≡ printed output) → (answer : Answer) →
-    OwesRunning Owed ops o instants stop (Ok text ∷ more) answer → answer ≡ printed output
-ran_done Owed ops o instants stop text more a output is ends answer (inl refused) = absurd (checks_apart ops o text a refused.0.0 is.0 refused.0.1)
-ran_done Owed ops o instants stop text more a output is ends answer (inr (b, also, inl lacks)) =
+-- a text that is accepted is run to its end, where what that owes comes to such an answer
+ran_done : (Owed : Accepted → List ℕ → Ending → Type 0) (ops : List Operator) (o : Options) (instants : Option ℕ) (stop : Stop) (text : List ℕ) (more : List (Result (List ℕ) ShelfError)) (a : Accepted) (Such : Answer → Type 0) →
+    IsRunnable ops o instants text a → ((b : Accepted) (out : List ℕ) (end : Ending) → AreSame b a → Owed b out end → Such (ended out end)) → (answer : Answer) →
+    OwesRunning Owed ops o instants stop (Ok text ∷ more) answer → Such answer
+ran_done Owed ops o instants stop text more a Such is ends answer (inl refused) = absurd (checks_apart ops o text a refused.0.0 is.0 refused.0.1)
+ran_done Owed ops o instants stop text more a Such is ends answer (inr (b, also, inl lacks)) =
     absurd (is.1 (sym (accepted_same ops o text b a also is.0).inputs ∙ lacks.0.0, lacks.0.1))
-ran_done Owed ops o instants stop text more a output is ends answer (inr (b, also, inr ran)) = ran.4 ∙ ends b ran.1 ran.2 (accepted_same ops o text b a also is.0) ran.3
+ran_done Owed ops o instants stop text more a Such is ends answer (inr (b, also, inr ran)) =
+    subst Such (sym ran.4) (ends b ran.1 ran.2 (accepted_same ops o text b a also is.0) ran.3)
 
 -- what the fetch of a file that is held gave, where no count rose
 module _ (before after : SeenShelf) (file : Wanted) (text : List ℕ) where
@@ -182,13 +184,12 @@ module _ (before after : SeenShelf) (file : Wanted) (text : List ℕ) where
       holds well fetched met answer owed
 
   -- one that runs it
-  run_done : (Owed : Accepted → List ℕ → Ending → Type 0) (ops : List Operator) (o : Options) (instants : Option ℕ) (stop : Stop) (a : Accepted) (output : List ℕ) → IsRunnable ops o instants text a →
-      ((b : Accepted) (out : List ℕ) (end : Ending) → AreSame b a → Owed b out end → ended out end ≡ printed output) → Holds before file text → (Rose before.faults after.faults → ⊥) →
-      (fetched : List (Result (List ℕ) ShelfError)) → Fetches (file ∷ []) before after fetched → (answer : Answer) → OwesRunning Owed ops o instants stop fetched answer → answer ≡ printed output
-  run_done Owed ops o instants stop a output is ends holds well fetched met answer owed =
-      text_done (RefusesCheck ops o) (λ text told. (b : Accepted) × IsAccepted ops o text b × OwesEnded (Owed b) instants stop b told) stop
-      (λ a. a ≡ printed output)
-      (λ more x h. ran_done Owed ops o instants stop text more a output is ends x h) holds well fetched met answer owed
+  run_done : (Owed : Accepted → List ℕ → Ending → Type 0) (ops : List Operator) (o : Options) (instants : Option ℕ) (stop : Stop) (a : Accepted) (Such : Answer → Type 0) → IsRunnable ops o instants text a →
+      ((b : Accepted) (out : List ℕ) (end : Ending) → AreSame b a → Owed b out end → Such (ended out end)) → Holds before file text → (Rose before.faults after.faults → ⊥) →
+      (fetched : List (Result (List ℕ) ShelfError)) → Fetches (file ∷ []) before after fetched → (answer : Answer) → OwesRunning Owed ops o instants stop fetched answer → Such answer
+  run_done Owed ops o instants stop a Such is ends holds well fetched met answer owed =
+      text_done (RefusesCheck ops o) (λ text told. (b : Accepted) × IsAccepted ops o text b × OwesEnded (Owed b) instants stop b told) stop Such
+      (λ more x h. ran_done Owed ops o instants stop text more a Such is ends x h) holds well fetched met answer owed
 
 -- the input that `make` generates is what it runs on
 made_fed : OneCut → (inputs : List InputSpec) (stop : Stop) (lists others : List (List ℤ)) (fault : Option TextFault) → (inputs ≡ [] → ⊥) → (stop ≡ Ended) ⊎ (stop ≡ Drained) →
@@ -292,7 +293,7 @@ logged_done : CompleteReplay → (ops : List Operator) (words : ReplayWords) (ta
 logged_done again ops words taken stop before after (a, lists, horizon, picks, (text, held, can), (log, logs, reads), fed, run) well source fetched met answer owed =
     logged_so again ops words taken stop before after a lists horizon picks text log held can logs reads fed run well source fetched met answer owed
 
-module _ (cut : OneCut) (horizons : OneHorizon) (run : CompleteRun) (kahn : CompleteInterpretation) (again : CompleteReplay) (tight : OneTight)
+module _ (cut : OneCut) (horizons : OneHorizon) (run : CompleteRun) (kahn : CompleteInterpretation) (again : CompleteReplay) (trace : CompleteTrace) (tight : OneTight)
     (before after : World) (output : List ℕ) (status : ℕ) (well : IsFaultless before after) where
   carried_out : (command : Command) (given : Given) → Meets command before after given → EndsWith command given before after status →
       MayWith given.operators command before output → Finishes (MayWith given.operators command before) before after status
@@ -326,7 +327,7 @@ module _ (cut : OneCut) (horizons : OneHorizon) (run : CompleteRun) (kahn : Comp
       let kinds : List HostKind = kinds_of ops in
       let instants : Option ℕ = words.instants in
       done (MayWith given.operators (Run words) before) (Run words) before after given output status suits
-      (run_done before.shelf after.shelf (program_of words.file) text (λ p. OwesRun kinds p instants given.taken given.stop) ops (inferring_options words.scale words.lead) instants given.stop a output is
+      (run_done before.shelf after.shelf (program_of words.file) text (λ p. OwesRun kinds p instants given.taken given.stop) ops (inferring_options words.scale words.lead) instants given.stop a (λ x. x ≡ printed output) is
       (λ b out end same owed. ended_printed out (heading a ++ lines_to kinds a lists horizon) end (run kinds a instants before.source after.source given.taken given.stop lists horizon out end met.source well.source fed
       (run_moves kinds b a same instants given.taken given.stop out end owed)) ∙ ap printed (sym lines)) holds well.shelf given.fetched met.shelf) well ends
   carried_out (Kahn words) given met ends suits =
@@ -335,7 +336,7 @@ module _ (cut : OneCut) (horizons : OneHorizon) (run : CompleteRun) (kahn : Comp
       let kinds : List HostKind = kinds_of ops in
       let instants : Option ℕ = words.instants in
       done (MayWith given.operators (Kahn words) before) (Kahn words) before after given output status suits
-      (run_done before.shelf after.shelf (program_of words.file) text (λ p. OwesKahn kinds p instants given.taken given.stop) ops (inferring_options words.scale words.lead) instants given.stop a output is
+      (run_done before.shelf after.shelf (program_of words.file) text (λ p. OwesKahn kinds p instants given.taken given.stop) ops (inferring_options words.scale words.lead) instants given.stop a (λ x. x ≡ printed output) is
       (λ b out end same owed. ended_printed out (lines_to kinds a lists horizon) end (kahn kinds a instants before.source after.source given.taken given.stop lists horizon out end met.source well.source fed turns items
       (kahn_moves kinds b a same instants given.taken given.stop out end owed)) ∙ ap printed (sym lines)) holds well.shelf given.fetched met.shelf) well ends
   carried_out (Make words) given met ends suits =
@@ -343,7 +344,7 @@ module _ (cut : OneCut) (horizons : OneHorizon) (run : CompleteRun) (kahn : Comp
       let kinds : List HostKind = kinds_of given.operators in
       let stages : ℕ = words.stages in
       done (MayWith given.operators (Make words) before) (Make words) before after given output status suits
-      (ran_done (λ p. OwesSummary stages kinds p) given.operators (inferring_options 1 1) None given.stop (made_text stages) [] a output is
+      (ran_done (λ p. OwesSummary stages kinds p) given.operators (inferring_options 1 1) None given.stop (made_text stages) [] a (λ x. x ≡ printed output) is
       (λ b out end same owed. made_ends cut horizons stages kinds a lists horizon out end is.1 fed (summary_moves stages kinds b a same out end owed) ∙ ap printed (sym lines))) well ends
   carried_out (Tighten words) given met ends suits =
       let ops : List Operator = given.operators in
@@ -365,6 +366,18 @@ module _ (cut : OneCut) (horizons : OneHorizon) (run : CompleteRun) (kahn : Comp
       let (a, lists, horizon, picks, held, log, fed, run, old) = suits in
       (output, (a, lists, horizon, picks, held, log, fed, run, text), is)
       )) well ends
+  carried_out (Trace words) given met ends suits =
+      let (a, lists, horizon, (text, holds, is), fed, traced) = suits in
+      let ops : List Operator = given.operators in
+      let instants : Option ℕ = words.instants in
+      such_done (MayWith ops (Trace words) before) (Trace words) before after given status
+      (run_done before.shelf after.shelf (program_of words.file) text (λ p. OwesTrace p instants given.taken given.stop) ops
+      (inferring_options words.scale words.lead) instants given.stop a (IsSuch (MayWith ops (Trace words) before)) is
+      (λ b out end same owed. (
+          let whole = trace a instants before.source after.source given.taken given.stop lists horizon out end met.source well.source fed
+          (trace_moves [] b a same instants given.taken given.stop out end owed) in
+          (out, (a, lists, horizon, (text, holds, is), fed, whole.0), ended_printed out out end (refl, whole.1))
+      )) holds well.shelf given.fetched met.shelf) well ends
 
 -- what may stand by the operators that a command has met may stand by those of its world
 unmet : (command : Command) (before : World) (ops : List Operator) (status : ℕ) (after : World) → ops ≡ before.operators →
@@ -374,10 +387,10 @@ unmet command before ops status after e finishes =
     let P : List Operator → Type 0 = λ os. Finishes (MayWith os command before) before after status in
     subst P e finishes
 
-pub suited_done : OneCut → OneHorizon → CompleteRun → CompleteInterpretation → CompleteReplay → OneTight → Completes
-suited_done cut horizons run kahn again tight command before after status (inl (given, met, ends)) well (output, may) =
+pub suited_done : OneCut → OneHorizon → CompleteRun → CompleteInterpretation → CompleteReplay → CompleteTrace → OneTight → Completes
+suited_done cut horizons run kahn again trace tight command before after status (inl (given, met, ends)) well (output, may) =
     unmet command before given.operators status after met.operators
-    (carried_out cut horizons run kahn again tight before after output status well command given met ends
+    (carried_out cut horizons run kahn again trace tight before after output status well command given met ends
     (met_suits command before given.operators output met.operators may))
-suited_done cut horizons run kahn again tight command before after status (inr declines) well (output, may) =
+suited_done cut horizons run kahn again trace tight command before after status (inr declines) well (output, may) =
     declined (MayPrint command before) before after status well declines

@@ -19,7 +19,7 @@ use Rattle.lucy_tight.specs.Least.{RefusesTightest}
 use Rattle.lucy_tight.specs.Tightening.{needs_at, TheBuffer, IsTightened, RefusesTight, AreAlike}
 use Rattle.lucy_tight.specs.Report.{tight_lines, fixed_lines}
 use Rattle.lucy_command.specs.Commands.{TightenWords}
-use Rattle.lucy_app.specs.Answers.{Answer, Alike, printed, limit_passed}
+use Rattle.lucy_app.specs.Answers.{Answer, AreTightAlike, AreOneBut, printed, limit_passed}
 use Rattle.lucy_app.specs.Check.{RefusesCheck}
 use Rattle.lucy_app.specs.Tighten.{node_named, HasBuffer, IsTightPrint, OwesSize, OwesBuffer, OwesTight, IsTightOf}
 use Rattle.lucy_app.proofs.Checked.{checks_apart, checks_alike}
@@ -120,9 +120,9 @@ module _ (a b : Accepted) (same : AreSame a b) (o : Options) where
 module _ (law : OneTight) (ops : List Operator) (text : List ℕ) (a : Accepted) (o : Options) (is : IsAccepted ops o text a) where
   -- what is printed of a buffer is alike
   pub print_alike : (node buffer : ℕ) (x y : List ℕ) → IsTightPrint a o node buffer x → IsTightPrint a o node buffer y →
-      Alike (printed x) (printed y)
+      AreOneBut AreTightAlike (printed x) (printed y)
   print_alike node buffer x y (inl (t, tight, lines)) (inl (u, also, others)) =
-      inr (inr (a, node, buffer, t, u, law.alike ops text a o node buffer t u is tight also, ap printed lines, ap printed others))
+      inr (a, node, buffer, t, u, law.alike ops text a o node buffer t u is tight also, ap printed lines, ap printed others)
   print_alike node buffer x y (inl (t, tight, lines)) (inr (size, fixed, others)) =
       absurd (law.kept a o node buffer t (Fixed size) tight fixed)
   print_alike node buffer x y (inr (size, fixed, lines)) (inl (u, also, others)) =
@@ -139,10 +139,11 @@ module _ (law : OneTight) (ops : List Operator) (text : List ℕ) (a : Accepted)
       let e : Fixed size ≡ LimitPassed l = law.only a o node buffer (Fixed size) (LimitPassed l) fixed refused in
       cc e
 
-  size_alike : (node buffer : ℕ) (x y : Answer) → OwesSize a o node buffer x → OwesSize a o node buffer y → Alike x y
+  size_alike : (node buffer : ℕ) (x y : Answer) → OwesSize a o node buffer x → OwesSize a o node buffer y →
+      AreOneBut AreTightAlike x y
   size_alike node buffer x y (inl (print, prints, told)) (inl (other, also, tells)) =
-      let P : Answer → Type 0 = λ u. Alike u y in
-      let Q : Answer → Type 0 = λ u. Alike (printed print) u in
+      let P : Answer → Type 0 = λ u. AreOneBut AreTightAlike u y in
+      let Q : Answer → Type 0 = λ u. AreOneBut AreTightAlike (printed print) u in
       subst P (sym told) (subst Q (sym tells) (print_alike node buffer print other prints also))
   size_alike node buffer x y (inl (print, prints, told)) (inr (l, refused, tells)) = absurd (print_apart node buffer print l prints refused)
   size_alike node buffer x y (inr (l, refused, told)) (inl (other, also, tells)) = absurd (print_apart node buffer other l also refused)
@@ -151,15 +152,16 @@ module _ (law : OneTight) (ops : List Operator) (text : List ℕ) (a : Accepted)
       let same : l ≡ m = cc e in
       inl (told ∙ ap limit_passed same ∙ sym tells)
 
-  buffer_alike : (name : List ℕ) (buffer : ℕ) (x y : Answer) → OwesBuffer a o name buffer x → OwesBuffer a o name buffer y → Alike x y
+  buffer_alike : (name : List ℕ) (buffer : ℕ) (x y : Answer) → OwesBuffer a o name buffer x → OwesBuffer a o name buffer y →
+      AreOneBut AreTightAlike x y
   buffer_alike name buffer x y (inl (lacks, told)) (inl (lack, tells)) = inl (told ∙ sym tells)
   buffer_alike name buffer x y (inl (lacks, told)) (inr (has, owed)) = absurd (lacks has)
   buffer_alike name buffer x y (inr (has, owed)) (inl (lacks, told)) = absurd (lacks has)
   buffer_alike name buffer x y (inr (has, owed)) (inr (holds, owes)) = size_alike (node_named a.placed.nodes name) buffer x y owed owes
 
--- of a text answers that are alike are owed
+-- of a text answers are owed that tell the same of a buffer, but for the cycle
 pub tight_decided : OneTight → (ops : List Operator) (o : Options) (words : TightenWords) →
-    IsDecided Alike (RefusesCheck ops o) (OwesTight ops o words)
+    IsDecided AreTightAlike (RefusesCheck ops o) (OwesTight ops o words)
 tight_decided law ops o words = record {
   one = λ text x y h k.
       let same = accepted_same ops o text h.0 k.0 h.1 k.1 in
@@ -188,7 +190,7 @@ tight_printed law ops o words text print answer (a, is, has, prints) (b, also, i
 
 -- prints of one text are alike
 pub prints_alike : OneTight → (ops : List Operator) (o : Options) (words : TightenWords) (text x y : List ℕ) →
-    IsTightOf ops o words text x → IsTightOf ops o words text y → Alike (printed x) (printed y)
+    IsTightOf ops o words text x → IsTightOf ops o words text y → AreOneBut AreTightAlike (printed x) (printed y)
 prints_alike law ops o words text x y (a, is, has, prints) (b, also, holds, printing) =
     let same = accepted_same ops o text a b is also in
     print_alike law ops text b o also (node_named b.placed.nodes words.node) words.buffer x y

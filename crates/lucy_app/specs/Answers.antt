@@ -8,7 +8,10 @@ use Rattle.lucy_front.specs.declared.accepted.Accepted.{Accepted}
 use Rattle.lucy_tight.specs.declared.answer.Least.{Least}
 use Rattle.lucy_tight.specs.Tightening as tight
 use Rattle.lucy_tight.specs.Report.{tight_lines}
+use Rattle.lucy_net.specs.declared.net.Net.{Net}
+use Rattle.lucy_trace.specs.Traces.{IsTraceText}
 use Rattle.lucy_trace.specs.declared.error.TraceError.{TraceError}
+use Rattle.lucy_command.specs.Commands.{Command, Tighten, Trace}
 use Rattle.lucy_app.specs.Lines.{instants_line, log_line, no_buffer_line, read_fault_line, words_line}
 use Rattle.lucy_app.specs.ProgramRefusals.{program_status}
 use Rattle.lucy_app.specs.InputRefusals.{input_status, input_line}
@@ -75,6 +78,25 @@ AreTightAlike a b =
     (p : Accepted) × (node : ℕ) × (buffer : ℕ) × (t : Least) × (u : Least) × tight.AreAlike t u
     × (a ≡ printed (tight_lines p node buffer t)) × (b ≡ printed (tight_lines p node buffer u))
 
--- two answers are one, but for the evidence of a refusal, or of a least size
-abbrev pub Alike : Answer → Answer → Type 0
-Alike a b = (a ≡ b) ⊎ (AreRefusedAlike a b ⊎ AreTightAlike a b)
+-- two answers end alike, and traces of one net up to one horizon stand on the output
+abbrev pub AreTracedAlike : Answer → Answer → Type 0
+AreTracedAlike a b =
+    (a.status ≡ b.status) × (a.err ≡ b.err) × (net : Net) × (instants : ℕ) × IsTraceText net instants a.out × IsTraceText net instants b.out
+
+-- in what more than a refusal's evidence the answers of a command may differ: of `tighten` in the cycle, of `trace` in the events' order
+abbrev pub MayDiffer : Command → Answer → Answer → Type 0
+MayDiffer (Tighten words) a b = AreTightAlike a b
+MayDiffer (Trace words) a b = AreTracedAlike a b
+MayDiffer command a b = ⊥
+
+-- two answers are one, or such ones
+abbrev pub AreOneBut : (Differ : Answer → Answer → Type 0) → Answer → Answer → Type 0
+AreOneBut Differ a b = (a ≡ b) ⊎ Differ a b
+
+-- or they tell of refusals that are alike
+abbrev pub AlikeBut : (Differ : Answer → Answer → Type 0) → Answer → Answer → Type 0
+AlikeBut Differ a b = AreOneBut Differ a b ⊎ AreRefusedAlike a b
+
+-- two answers of a command are one, but for the evidence of a refusal and for that
+abbrev pub Alike : Command → Answer → Answer → Type 0
+Alike command a b = AlikeBut (MayDiffer command) a b

@@ -10,7 +10,7 @@ use Rattle.lucy_feed.specs.Feeding.{IsAsked}
 use Rattle.lucy_front.specs.declared.accepted.Accepted.{Accepted}
 use Rattle.lucy_front.specs.declared.options.Options.{Options}
 use Rattle.lucy_front.specs.Accepting.{IsAccepted}
-use Rattle.lucy_command.specs.Commands.{Command, Order, Show, Types, Check, Clocks, Run, Kahn, Tighten, Replay}
+use Rattle.lucy_command.specs.Commands.{Command, Order, Show, Types, Check, Clocks, Run, Kahn, Tighten, Replay, Trace}
 
 -- each node has to be written
 abbrev pub written_options : Options
@@ -43,6 +43,7 @@ files_of (Some (Run words)) = program_of words.file ∷ []
 files_of (Some (Kahn words)) = program_of words.file ∷ []
 files_of (Some (Tighten words)) = program_of words.file ∷ []
 files_of (Some (Replay words)) = program_of words.file ∷ (log_of words.log ∷ [])
+files_of (Some (Trace words)) = program_of words.file ∷ []
 files_of other = []
 
 -- how many bytes may be taken from the source, and one more, where the words name a command that may read it
@@ -51,6 +52,7 @@ input_of (Some Order) = Some (limit_number limit.OrderInput)
 input_of (Some (Run words)) = Some (limit_number limit.Input)
 input_of (Some (Kahn words)) = Some (limit_number limit.Input)
 input_of (Some (Replay words)) = Some (limit_number limit.Input)
+input_of (Some (Trace words)) = Some (limit_number limit.Input)
 input_of other = None
 
 -- what was fetched first is a text of which this holds
@@ -72,4 +74,5 @@ ReadsSource Order ops fetched taken = Unit {0}
 ReadsSource (Run words) ops fetched taken = TakesInput ops (inferring_options words.scale words.lead) fetched taken
 ReadsSource (Kahn words) ops fetched taken = TakesInput ops (inferring_options words.scale words.lead) fetched taken
 ReadsSource (Replay words) ops fetched taken = TakesInput ops (inferring_options words.scale words.lead) fetched taken × HasLog fetched
+ReadsSource (Trace words) ops fetched taken = TakesInput ops (inferring_options words.scale words.lead) fetched taken
 ReadsSource command ops fetched taken = ⊥

@@ -12,11 +12,12 @@ use Rattle.lucy_run.specs.Laws.{IsFedWell}
 use Rattle.lucy_fields.specs.Readings.{AreRead}
 use Rattle.lucy_core.specs.Seen.{CanRun}
 use Rattle.lucy_trace.specs.Logs.{picks_of}
+use Rattle.lucy_trace.specs.Traces.{IsTraceText}
 use Rattle.lucy_run.specs.Replays.{first_core, IsReplayText}
 use Rattle.lucy_make.specs.Text.{made_text, made_input}
 use Rattle.lucy_make.specs.Figures.{figures}
 use Rattle.lucy_make.specs.Owes.{printed_values}
-use Rattle.lucy_command.specs.Commands.{Command, Order, Show, Types, Check, Clocks, Run, Kahn, Make, Tighten, Replay}
+use Rattle.lucy_command.specs.Commands.{Command, Order, Show, Types, Check, Clocks, Run, Kahn, Make, Tighten, Replay, Trace}
 use Rattle.lucy_app.specs.Commands.{written_options, inferring_options, Wanted, program_of, log_of}
 use Rattle.lucy_text.specs.Shelf.{SeenShelf}
 use Rattle.lucy_app.specs.World.{World}
@@ -71,6 +72,10 @@ MayPrint (Replay words) before output =
     × HoldsSuch (λ log. AreRead (picks_of log) picks) before.shelf (log_of words.log)
     × IsFedWell a words.instants before.source.left lists horizon × CanRun (first_core before.operators a lists horizon) picks
     × IsReplayText (first_core before.operators a lists horizon) a.placed.nodes a.outputs.items picks output
+MayPrint (Trace words) before output =
+    (a : Accepted) × (lists : List (List ℤ)) × (horizon : ℕ)
+    × HoldsSuch (λ text. IsRunnable before.operators (inferring_options words.scale words.lead) words.instants text a) before.shelf (program_of words.file)
+    × IsFedWell a words.instants before.source.left lists horizon × IsTraceText a.net horizon output
 
 -- nothing refuses it, and no limit is passed
 abbrev pub Suits : Command → World → Type 0

@@ -5,7 +5,7 @@ use Rattle.lucy_host.specs.Operators.{kinds_of}
 use Rattle.lucy_front.specs.declared.accepted.Accepted.{Accepted}
 use Rattle.lucy_front.specs.Accepting.{IsAccepted}
 use Rattle.lucy_run.specs.Ends.{IsFrontOf, FailsInOrder}
-use Rattle.lucy_command.specs.Commands.{Command, Run, Kahn, Replay}
+use Rattle.lucy_command.specs.Commands.{Command, Run, Kahn, Replay, Trace}
 use Rattle.lucy_command.specs.Named.{block_or_default}
 use Rattle.lucy_app.specs.Commands.{inferring_options, HasText}
 use Rattle.lucy_app.specs.World.{World, Given, Meets}
@@ -37,11 +37,12 @@ EndsBy Owed Stands MayFail out out' err err' status =
     ((answer : Answer) × MayAnswer Owed Stands answer × Answers answer out out' err err' status)
     ⊎ ((output : List ℕ) × MayFail output × Breaks output out out' err err' status)
 
--- where memory runs out a front of an output that is owed stands of `run`, `kahn` and `replay`, and nothing of the other commands
+-- where memory runs out a front of an output that is owed stands of `run`, `kahn`, `trace` and `replay`, and nothing of the others
 abbrev pub MayStand : Command → Given → (front : List ℕ) → Type 0
 MayStand (Run words) given front = IsFrontOf (OwesOutput (Run words) given) front
 MayStand (Kahn words) given front = IsFrontOf (OwesOutput (Kahn words) given) front
 MayStand (Replay words) given front = IsFrontOf (OwesOutput (Replay words) given) front
+MayStand (Trace words) given front = IsFrontOf (OwesOutput (Trace words) given) front
 MayStand command given front = front ≡ []
 
 -- where the output fails nothing more is read: `run` has read nothing behind a report that failed, and no more than its block needs

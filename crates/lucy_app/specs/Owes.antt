@@ -5,9 +5,10 @@ use Rattle.lucy_host.specs.Operators.{kinds_of}
 use Rattle.lucy_feed.specs.Sources.{Stop, Ended, Failed, Passed}
 use Rattle.lucy_run.specs.Feeds.{CountsAs}
 use Rattle.lucy_run.specs.Owes.{OwesRun, OwesKahn}
+use Rattle.lucy_run.specs.Tracing.{OwesTrace}
 use Rattle.lucy_make.specs.Text.{made_text}
 use Rattle.lucy_make.specs.Owes.{OwesSummary}
-use Rattle.lucy_command.specs.Commands.{Command, Order, Show, Types, Check, Clocks, Run, Kahn, Make, Tighten, Replay}
+use Rattle.lucy_command.specs.Commands.{Command, Order, Show, Types, Check, Clocks, Run, Kahn, Make, Tighten, Replay, Trace}
 use Rattle.lucy_app.specs.Commands.{written_options, inferring_options}
 use Rattle.lucy_app.specs.World.{Given}
 use Rattle.lucy_app.specs.Answers.{Answer, printed, read_fault, limit_passed, input_refused}
@@ -55,6 +56,9 @@ Owes (Tighten words) given answer =
     OwesText (RefusesCheck given.operators o) (OwesTight given.operators o words) given.stop given.fetched answer
 Owes (Replay words) given answer =
     OwesLogged given.operators (inferring_options words.scale words.lead) words.instants given.taken given.stop given.fetched answer
+Owes (Trace words) given answer =
+    OwesRunning (λ a. OwesTrace a words.instants given.taken given.stop) given.operators (inferring_options words.scale words.lead)
+    words.instants given.stop given.fetched answer
 
 -- what a command has met may count as this: as it is, or, where `run` gave up reading, as if the bytes taken were all
 abbrev pub MayCount : Command → (given counted : Given) → Type 0

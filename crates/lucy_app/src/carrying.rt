@@ -8,7 +8,7 @@ ghost use Rattle.lucy_app.specs.Ends.{EndsSo};
 use crate::fetching::fetch;
 use crate::options::{inferring, written};
 use crate::output::finish;
-use crate::{check, making, order, replaying, running, show, tightening, types};
+use crate::{check, making, order, replaying, running, show, tightening, tracing, types};
 use lucy_command::Command;
 use lucy_host::Host;
 use lucy_text::{Shelf, Sink, Source};
@@ -103,5 +103,9 @@ pub(crate) fn carry_out<
             finish(alloc, out, err, outcome)
         }
         Command::Replay(words) => { replaying::replay(alloc, words, shelf, input, out, err, host) }
+        Command::Trace(words) => {
+            let fetched = fetch(alloc, shelf, words.file, Limit::Text);
+            tracing::trace(alloc, fetched, words, input, out, err, host)
+        }
     }
 }

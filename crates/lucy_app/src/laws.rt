@@ -1,21 +1,22 @@
 // Laws of what commands owe.
 ghost use Rattle.std.specs.Prelude.{◌≡◌, ℕ, List};
-ghost use Rattle.lucy_command.specs.Commands.{Command, Order, Show, Tighten, TightenWords};
+ghost use Rattle.lucy_command.specs.Commands.{Command, Order, Show};
 ghost use Rattle.lucy_app.specs.World.{World, Given};
-ghost use Rattle.lucy_app.specs.Answers.{Answer, Alike, printed};
+ghost use Rattle.lucy_app.specs.Answers.{Answer, AreOneBut, MayDiffer, Alike, printed};
 ghost use Rattle.lucy_app.specs.Owes.{Owes};
 ghost use Rattle.lucy_app.specs.Complete.{MayPrint, Completes};
 ghost use Rattle.lucy_app.specs.Engines.{PlayingCompletes};
 
 use lucy_lines::one_cut;
 use lucy_meaning::one_horizon;
-use lucy_run::{faultless_runs_are_done, one_interpretation, one_replay, one_run};
+use lucy_run::{faultless_runs_are_done, one_interpretation, one_replay, one_run, one_trace};
 use lucy_tight::one_tightest;
 
 /// A command that has met the same things owes one answer. Only the evidence for which a program is refused is left
-/// open, such as the path of a clash of types; and of the least size of a buffer the cycle that shows it.
+/// open, such as the path of a clash of types; of `tighten` the cycle that shows a least size; and of `trace` in which order the events
+/// of a run stand, and in which rounds.
 pub fn one_answer()
-    ensures alike { (command : Command) (given : Given) (a b : Answer) → Owes command given a → Owes command given b → Alike a b }
+    ensures alike { (command : Command) (given : Given) (a b : Answer) → Owes command given a → Owes command given b → Alike command a b }
     ensures order { (given : Given) (a b : Answer) → Owes Order given a → Owes Order given b → a ≡ b }
     ensures show { (file : List ℕ) (given : Given) (a b : Answer) → Owes (Show file) given a → Owes (Show file) given b → a ≡ b }
 {
@@ -24,15 +25,15 @@ pub fn one_answer()
     one_run();
     one_interpretation();
     one_replay();
+    one_trace();
     one_tightest();
 }
 
-/// Of a command that nothing refuses one output may stand; of `tighten` one but for the cycle.
+/// Of a command that nothing refuses one output may stand; of `tighten` one but for the cycle, and of `trace` the traces of one net up to
+/// one horizon.
 pub fn one_output()
-    ensures one { (command : Command) (before : World) (a b : List ℕ) → ((words : TightenWords) → command ≡ Tighten words → ⊥) →
-        MayPrint command before a → MayPrint command before b → a ≡ b }
-    ensures alike { (words : TightenWords) (before : World) (a b : List ℕ) → MayPrint (Tighten words) before a →
-        MayPrint (Tighten words) before b → Alike (printed a) (printed b) }
+    ensures { (command : Command) (before : World) (a b : List ℕ) → MayPrint command before a → MayPrint command before b →
+        AreOneBut (MayDiffer command) (printed a) (printed b) }
 {
     one_cut();
     one_horizon();

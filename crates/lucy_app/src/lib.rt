@@ -28,6 +28,7 @@ mod running;
 mod show;
 mod tightening;
 mod top;
+mod tracing;
 mod types;
 
 pub use fetching::fetch;

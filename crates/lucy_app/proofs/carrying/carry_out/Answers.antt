@@ -1,11 +1,11 @@
 use Rattle.std.proofs.Common.{[], ◌∷◌, refl, ap, sym, inl, inr}
 use Rattle.lucy_host.specs.Host.{lent}
 use Rattle.lucy_feed.specs.Sources.{Unread}
-use Rattle.lucy_command.specs.Named.{named, run_named, kahn_named, tighten_named}
+use Rattle.lucy_command.specs.Named.{named, run_named, kahn_named, tighten_named, trace_named}
 use Rattle.lucy_app.specs.Outcomes.{bytes_of, made_given}
 use Rattle.lucy_app.specs.World.{Given}
 use Rattle.lucy_app.proofs.Outcomes.{report_met, check_met, tight_met}
-use Rattle.lucy_app.proofs.RunEnds.{run_met, kahn_met}
+use Rattle.lucy_app.proofs.RunEnds.{run_met, kahn_met, trace_met}
 use Rattle.lucy_app.proofs.Sinks.{ends_some, ends_with, ends_as}
 use Rattle.lucy_app.proofs.carrying.carry_out.Goals as goal
 
@@ -72,3 +72,16 @@ returns-in-Tighten-clause-ends g c =
 
 pub returns-in-Replay-clause-ends : goal.returns-in-Replay-clause-ends
 returns-in-Replay-clause-ends g c = ends_as _ _ _ _ _ (ap named (sym c.in-Replay.is)) c.replay.ensures.ends
+
+pub returns-in-Trace-clause-ends : goal.returns-in-Trace-clause-ends
+returns-in-Trace-clause-ends g c =
+    let read = c.trace.ensures.ends in
+    let given : Given = record {
+      fetched = bytes_of c.fetch-fetched-in-Trace.result ∷ [];
+      taken = read.0;
+      stop = read.1;
+      operators = lent c.args.host.now;
+    } in
+    ends_with _ _ given _ _ _ (ap named (sym c.in-Trace.is))
+    (record { shelf = (_, c.fetch-fetched-in-Trace.ensures.fetched, refl); source = read.2; unread = read.3; operators = refl })
+    (trace_met _ (trace_named c.in-Trace.words) given _ _ _ _ _ read.4)
