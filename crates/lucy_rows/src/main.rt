@@ -5,7 +5,7 @@
 //!
 //! A row is printed as `= NAME`, `status N`, `left N` with the number of bytes left in its source, each line of its
 //! output behind `> ` and each line of its faults behind `! `. Behind `>|` or `!|` it is said that the last line has no
-//! end. A line of a list that isn't read is printed behind `? `, with its list and its number. Behind the lists stand runs whose
+//! end. Of a row with a second call the output of the first isn't printed, and what the second leaves is. A line of a list that isn't read is printed behind `? `, with its list and its number. Behind the lists stand runs whose
 //! workers come to a gate, and where actors are at home.
 #![tactic(auto)]
 
@@ -21,7 +21,7 @@ mod take;
 use lucy_app::program_operators;
 use lucy_host::Host;
 use lucy_worker::OpenGate;
-use row::Row;
+use row::{End, Row};
 use std::io::{self, ErrorKind};
 use std::thread::Threads;
 use std::{env, fs, str};
@@ -41,19 +41,11 @@ fn print_lines(rt: &impl Print, mark: char, bytes: &[u8]) -> io::Result<()> {
     Ok(())
 }
 
-fn run<F: Fn(u32, i64, i64) -> i64 + Sync>(
-    rt: &(impl Print + AllocGlobal + Threads + Sync),
-    host: &Host<F>,
-    name: &str,
-    row: Row,
-) -> io::Result<()>
-    requires { Serves F.pre F.post host.now }
-{
-    let end = row.run(rt, rt.alloc(), &OpenGate, host)?;
-    println!(rt; "= {name}")?;
+// Prints what a call left, with this of its output.
+fn print_end(rt: &impl Print, end: &End, output: &[u8]) -> io::Result<()> {
     println!(rt; "status {}", end.status)?;
     println!(rt; "left {}", end.input.left().len())?;
-    print_lines(rt, '>', end.out.bytes())?;
+    print_lines(rt, '>', output)?;
     print_lines(rt, '!', end.err.bytes())
 }
 
@@ -73,6 +65,20 @@ fn take_lines(
     Ok(())
 }
 
+// The row of these lines, of which the first has this number, below those that hold for each row.
+fn row_of(
+    rt: &(impl Print + AllocGlobal),
+    list: &str,
+    common: &str,
+    first: usize,
+    lines: &str,
+) -> io::Result<Row> {
+    let mut row = Row::new(rt.alloc());
+    take_lines(rt, list, 1, common, &mut row)?;
+    take_lines(rt, list, first, lines, &mut row)?;
+    Ok(row)
+}
+
 // Runs the rows of a list. What stands above the first of them holds for each.
 fn run_list<F: Fn(u32, i64, i64) -> i64 + Sync>(
     rt: &(impl Print + AllocGlobal + Threads + Sync),
@@ -88,10 +94,20 @@ fn run_list<F: Fn(u32, i64, i64) -> i64 + Sync>(
     let mut at = common.split('\n').count().saturating_add(1);
     for block in blocks {
         let (name, lines) = block.split_once('\n').unwrap_or((block, ""));
-        let mut row = Row::new(rt.alloc());
-        take_lines(rt, list, 1, common, &mut row)?;
-        take_lines(rt, list, at.saturating_add(1), lines, &mut row)?;
-        run(rt, host, name, row)?;
+        let first = at.saturating_add(1);
+        let row = row_of(rt, list, common, first, lines)?;
+        let is_alone = row.second.is_empty();
+        println!(rt; "= {name}")?;
+        let end = row.run(rt, rt.alloc(), &OpenGate, host)?;
+        if is_alone {
+            print_end(rt, &end, end.out.bytes())?;
+        } else {
+            print_end(rt, &end, b"")?;
+            let row = row_of(rt, list, common, first, lines)?;
+            let second = row.behind(rt.alloc(), end.out.bytes())?;
+            let last = second.run(rt, rt.alloc(), &OpenGate, host)?;
+            print_end(rt, &last, last.out.bytes())?;
+        }
         at = at.saturating_add(block.split('\n').count());
     }
     Ok(())

@@ -30,6 +30,8 @@ pub struct Row {
     /// Whether the words may ask for lookup tables.
     pub tables: bool,
     pub words: Vec<String>,
+    /// The words of a second call, which has what the first one printed as a file; none where there is one call alone.
+    pub second: Vec<String>,
     /// The names and the bytes of what the shelf holds.
     pub files: Vec<(String, Vec<u8>)>,
     /// The numbers, from 1, of the fetches that fail.
@@ -71,6 +73,7 @@ impl Row {
         Row {
             tables: false,
             words: Vec::new(alloc),
+            second: Vec::new(alloc),
             files: Vec::new(alloc),
             fetches: Vec::new(alloc),
             input: Vec::new(alloc),
@@ -80,6 +83,39 @@ impl Row {
             tells: steady(alloc),
             open: Open::Nothing,
         }
+    }
+
+    /// The row of the second call: what the first one printed is the file `trace`.
+    pub(crate) fn behind(self, alloc: Global, printed: &[u8]) -> Result<Row, AllocError> {
+        let Row {
+            tables,
+            second,
+            files,
+            fetches,
+            input,
+            reads,
+            writes,
+            room,
+            tells,
+            ..
+        } = self;
+        let mut held = files;
+        let mut text = Vec::with_capacity(alloc, printed.len())?;
+        text.extend_from_slice(printed)?;
+        held.push((format!(in alloc; "trace")?, text))?;
+        Ok(Row {
+            tables,
+            words: second,
+            second: Vec::new(alloc),
+            files: held,
+            fetches,
+            input,
+            reads,
+            writes,
+            room,
+            tells,
+            open: Open::Nothing,
+        })
     }
 
     /// Runs the program on the row's words, with the operators of the host, unless it lends its own, and workers that come to the

@@ -71,6 +71,7 @@ impl Row {
         match key {
             "program" => self.tables = has_tables(value)?,
             "words" => self.words = words(alloc, value)?,
+            "then" => self.second = words(alloc, value)?,
             "file" => return self.file(alloc, value),
             "input" => {
                 self.input = joined(alloc, &pieces(alloc, value)?)?;
