@@ -22,5 +22,6 @@ mod Accepting
 mod Statuses
 mod Played
 mod Suited
+mod Traceable
 mod OneOutput
 mod Reports

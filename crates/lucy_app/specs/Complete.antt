@@ -17,7 +17,7 @@ use Rattle.lucy_run.specs.Replays.{first_core, IsReplayText}
 use Rattle.lucy_make.specs.Text.{made_text, made_input}
 use Rattle.lucy_make.specs.Figures.{figures}
 use Rattle.lucy_make.specs.Owes.{printed_values}
-use Rattle.lucy_command.specs.Commands.{Command, Order, Show, Types, Check, Clocks, Run, Kahn, Make, Tighten, Replay, Trace}
+use Rattle.lucy_command.specs.Commands.{RunWords, TraceWords, Command, Order, Show, Types, Check, Clocks, Run, Kahn, Make, Tighten, Replay, Trace}
 use Rattle.lucy_app.specs.Commands.{written_options, inferring_options, Wanted, program_of, log_of}
 use Rattle.lucy_text.specs.Shelf.{SeenShelf}
 use Rattle.lucy_app.specs.World.{World}
@@ -80,6 +80,14 @@ MayPrint (Trace words) before output =
 -- nothing refuses it, and no limit is passed
 abbrev pub Suits : Command → World → Type 0
 Suits command before = (output : List ℕ) × MayPrint command before output
+
+-- the words of `trace` that say the same as these of `run`
+abbrev pub traced : RunWords → TraceWords
+traced words = record { file = words.file; scale = words.scale; lead = words.lead; instants = words.instants; workers = words.workers }
+
+-- where nothing refuses `run`, nothing refuses `trace`: some trace may stand
+abbrev pub TracesSuit : Type 0
+TracesSuit = (words : RunWords) (before : World) → Suits (Run words) before → Suits (Trace (traced words)) before
 
 -- then the command is done and an output that may stand does, whole, or memory runs out
 abbrev pub Completes : Type 0

@@ -4,7 +4,7 @@ ghost use Rattle.lucy_command.specs.Commands.{Command, Order, Show};
 ghost use Rattle.lucy_app.specs.World.{World, Given};
 ghost use Rattle.lucy_app.specs.Answers.{Answer, AreOneBut, MayDiffer, Alike, printed};
 ghost use Rattle.lucy_app.specs.Owes.{Owes};
-ghost use Rattle.lucy_app.specs.Complete.{MayPrint, Completes};
+ghost use Rattle.lucy_app.specs.Complete.{MayPrint, TracesSuit, Completes};
 ghost use Rattle.lucy_app.specs.Engines.{PlayingCompletes};
 
 use lucy_lines::one_cut;
@@ -50,6 +50,11 @@ pub fn suited_commands_are_done()
     faultless_runs_are_done();
     one_tightest();
 }
+
+/// What suits `run` suits `trace`, as every accepted program has a trace up to each horizon.
+pub fn traces_suit()
+    ensures { TracesSuit }
+{}
 
 /// So is a run in one piece that an engine plays, if the call returns.
 pub fn suited_plays_are_done()

@@ -33,7 +33,9 @@ mod types;
 
 pub use fetching::fetch;
 pub use input_refusal::InputCause;
-pub use laws::{one_answer, one_output, suited_commands_are_done, suited_plays_are_done};
+pub use laws::{
+    one_answer, one_output, suited_commands_are_done, suited_plays_are_done, traces_suit,
+};
 pub use lucy_run::{ClosureEngine, Engine};
 pub use operators::program_operators;
 pub use output::{explain, tell};

@@ -1,0 +1,39 @@
+-- An accepted program has a trace up to each horizon.
+use Rattle.std.proofs.Common.{ℕ, ◌≡◌, ◌<◌, List, [], ◌∷◌, length, refl, sym, subst, arith}
+use Rattle.std.specs.Prelude.{All}
+use Rattle.std.specs.List.{concat}
+use Rattle.std.proofs.lemmas.List.{append-nil}
+use Rattle.lucy_event.specs.Runs.{IsWhole}
+use Rattle.lucy_event.specs.Schedules.{events_to}
+use Rattle.lucy_net.specs.declared.net.Net.{Net}
+use Rattle.lucy_net.specs.Plans.{net_system}
+use Rattle.lucy_cause.specs.Schedules.{events_at}
+use Rattle.lucy_trace.specs.Traces.{trace_text, IsTraceText}
+use Rattle.lucy_app.specs.Complete.{TracesSuit}
+
+-- all events in one round, where there are any
+in_one_round : List ℕ → List (List ℕ)
+in_one_round [] = []
+in_one_round (pick ∷ picks) = (pick ∷ picks) ∷ []
+
+all_of : (picks : List ℕ) → concat (in_one_round picks) ≡ picks
+all_of [] = refl
+all_of (pick ∷ picks) = append-nil (pick ∷ picks)
+
+some_of : (picks : List ℕ) → All (λ round. 0 < length round) (in_one_round picks)
+some_of [] = tt
+some_of (pick ∷ picks) = (omega arith, tt)
+
+-- a run of all events is a trace
+has_trace : (net : Net) (horizon : ℕ) (picks : List ℕ) → IsWhole (net_system net horizon) picks → (output : List ℕ) × IsTraceText net horizon output
+has_trace net horizon picks whole = (
+  trace_text (in_one_round picks),
+  in_one_round picks,
+  record { whole = subst (IsWhole (net_system net horizon)) (sym (all_of picks)) whole; some = some_of picks },
+  refl,
+)
+
+pub run_suits : TracesSuit
+run_suits words before (printing, a, lists, horizon, (text, held, can), fed, is) =
+    let (output, traced) = has_trace a.net horizon (events_to (events_at a.schedule) horizon) (can.0.schedule.sound horizon) in
+    (output, a, lists, horizon, (text, held, can), fed, traced)
