@@ -3,6 +3,7 @@ use Rattle.std.proofs.Common.{ℕ, ◌≡◌, ◌<◌, List, [], ◌∷◌, leng
 use Rattle.std.specs.Prelude.{All}
 use Rattle.std.specs.List.{concat}
 use Rattle.std.proofs.lemmas.List.{append-nil}
+use Rattle.std.proofs.lemmas.List.Elements.{All-nil, All-cons}
 use Rattle.lucy_event.specs.Runs.{IsWhole}
 use Rattle.lucy_event.specs.Schedules.{events_to}
 use Rattle.lucy_net.specs.declared.net.Net.{Net}
@@ -12,7 +13,7 @@ use Rattle.lucy_trace.specs.Traces.{trace_text, IsTraceText}
 use Rattle.lucy_app.specs.Complete.{TracesSuit}
 
 -- all events in one round, where there are any
-in_one_round : List ℕ → List (List ℕ)
+abbrev in_one_round : List ℕ → List (List ℕ)
 in_one_round [] = []
 in_one_round (pick ∷ picks) = (pick ∷ picks) ∷ []
 
@@ -21,19 +22,16 @@ all_of [] = refl
 all_of (pick ∷ picks) = append-nil (pick ∷ picks)
 
 some_of : (picks : List ℕ) → All (λ round. 0 < length round) (in_one_round picks)
-some_of [] = tt
-some_of (pick ∷ picks) = (omega arith, tt)
+some_of [] = All-nil (λ (round : List ℕ). 0 < length round)
+some_of (pick ∷ picks) = All-cons (λ (round : List ℕ). 0 < length round) (pick ∷ picks) [] (omega arith) (All-nil (λ (round : List ℕ). 0 < length round))
 
 -- a run of all events is a trace
 has_trace : (net : Net) (horizon : ℕ) (picks : List ℕ) → IsWhole (net_system net horizon) picks → (output : List ℕ) × IsTraceText net horizon output
-has_trace net horizon picks whole = (
-  trace_text (in_one_round picks),
-  in_one_round picks,
-  record { whole = subst (IsWhole (net_system net horizon)) (sym (all_of picks)) whole; some = some_of picks },
-  refl,
-)
+has_trace net horizon picks whole =
+    let rounds = in_one_round picks in
+    (trace_text rounds, (rounds, record { whole = subst (IsWhole (net_system net horizon)) (sym (all_of picks)) whole; some = some_of picks }, refl))
 
 pub run_suits : TracesSuit
-run_suits words before (printing, a, lists, horizon, (text, held, can), fed, is) =
+run_suits words before (printing, (a, lists, horizon, (text, held, can), fed, is)) =
     let (output, traced) = has_trace a.net horizon (events_to (events_at a.schedule) horizon) (can.0.schedule.sound horizon) in
-    (output, a, lists, horizon, (text, held, can), fed, traced)
+    (output, (a, lists, horizon, (text, held, can), fed, traced))

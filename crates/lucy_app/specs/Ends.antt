@@ -4,6 +4,9 @@ use Rattle.lucy_text.specs.Outside.{SeenSink, Writes, Fails}
 use Rattle.lucy_host.specs.Operators.{kinds_of}
 use Rattle.lucy_front.specs.declared.accepted.Accepted.{Accepted}
 use Rattle.lucy_front.specs.Accepting.{IsAccepted}
+use Rattle.lucy_front.specs.Refusals.{limit_line, memory_line}
+use Rattle.lucy_run.specs.declared.ending.Ending.{Ending}
+use Rattle.lucy_run.specs.declared.ending.Ending.TheVariants as ending
 use Rattle.lucy_run.specs.Ends.{IsFrontOf, FailsInOrder}
 use Rattle.lucy_command.specs.Commands.{Command, Run, Kahn, Replay, Trace}
 use Rattle.lucy_command.specs.Named.{block_or_default}
@@ -11,11 +14,18 @@ use Rattle.lucy_app.specs.Commands.{inferring_options, HasText}
 use Rattle.lucy_app.specs.World.{World, Given, Meets}
 use Rattle.lucy_app.specs.Lines.{write_fault_line}
 use Rattle.lucy_app.specs.Answers.{Answer, no_command, out_of_memory}
+use Rattle.lucy_app.specs.Endings.{fault_status, fault_line, ending_status, ending_line}
 use Rattle.lucy_app.specs.Owes.{Owes, OwesOutput}
 
 -- the lines were told and the call ends with their status, or they failed
 abbrev pub Tells : (told : ℕ) (lines : List ℕ) (err err' : SeenSink) (status : ℕ) → Type 0
 Tells told lines err err' status = ((status ≡ told) × Writes err err' lines) ⊎ ((status ≡ 5) × Fails err err' lines)
+
+-- how a run ended was told; of a fault or a limit, or else that memory ran out
+abbrev pub TellsEnding : Ending → (err err' : SeenSink) (status : ℕ) → Type 0
+TellsEnding (ending.Input fault) err err' status = Tells (fault_status fault) (fault_line fault) err err' status ⊎ Tells 7 memory_line err err' status
+TellsEnding (ending.Limit passed) err err' status = Tells 6 (limit_line passed) err err' status ⊎ Tells 7 memory_line err err' status
+TellsEnding end err err' status = Tells (ending_status end) (ending_line end) err err' status
 
 -- the answer's output stands, and its lines were told
 pub record Answers (answer : Answer) (out out' err err' : SeenSink) (status : ℕ) : Type 0 where

@@ -15,7 +15,7 @@ use Rattle.lucy_front.specs.declared.refusal.Refusal.TheVariants as front
 use Rattle.lucy_front.specs.declared.options.Options.{Options}
 use Rattle.lucy_command.specs.declared.words.MakeWords.{MakeWords}
 use Rattle.lucy_command.specs.Commands.{Make}
-use Rattle.lucy_front.specs.Refusals.{limit_line, memory_line, IsTellable}
+use Rattle.lucy_front.specs.Refusals.{memory_line, IsTellable}
 use Rattle.lucy_feed.specs.declared.read.ReadError.{ReadError}
 use Rattle.lucy_feed.specs.declared.read.ReadError.TheVariants as read
 use Rattle.lucy_text.specs.Outside.{SeenSource, SeenSink}
@@ -25,9 +25,7 @@ use Rattle.lucy_front.specs.declared.accepted.Accepted.{Accepted}
 use Rattle.lucy_front.specs.Accepting.{IsAccepted}
 use Rattle.lucy_run.specs.Ends.{IsFrontOf}
 use Rattle.lucy_run.specs.declared.ending.Ending.{Ending}
-use Rattle.lucy_run.specs.declared.ending.Ending.TheVariants as ending
 use Rattle.lucy_app.specs.Answers.{Answer, printed, read_fault, no_instants, no_buffer, program_refused, input_refused, log_refused, out_of_memory}
-use Rattle.lucy_app.specs.Endings.{fault_status, fault_line, ending_status, ending_line}
 use Rattle.lucy_app.specs.Commands.{HasText}
 use Rattle.lucy_app.specs.Running.{NoRun, IsRunnable, OwesRunning}
 use Rattle.lucy_app.specs.Replaying.{OwesEvents, OwesLog}
@@ -36,6 +34,7 @@ use Rattle.lucy_app.specs.World.{Given}
 pub use Rattle.lucy_app.specs.World.{bytes_of}
 use Rattle.lucy_app.specs.Owes.{Owes}
 use Rattle.lucy_app.specs.Ends.{Tells, Answers, Breaks, EndsBy, MayStand, MayFail}
+pub use Rattle.lucy_app.specs.Ends.{TellsEnding}
 use Rattle.lucy_app.specs.declared.input_refusal.InputCause.{InputCause}
 use Rattle.lucy_app.specs.declared.refusal.Refusal.{Refusal}
 use Rattle.lucy_app.specs.declared.refusal.Refusal.TheVariants.{Program, Input, NoInstants, NoBuffer, Log, ReadFault, OutOfMemory}
@@ -113,12 +112,6 @@ abbrev pub IsAccepting : List Operator → Options → (instants : Option ℕ) �
 IsAccepting ops o instants fetched accepted =
     MatchResult accepted (λ a. HasText fetched (λ text. IsRunnable ops o instants text a))
     (λ e. (e ≡ OutOfMemory) ⊎ OwesRunning NoRun ops o instants Unread fetched (refusal_answer e))
-
--- how a run ended was told; of a fault or a limit, or else that memory ran out
-abbrev pub TellsEnding : Ending → (err err' : SeenSink) (status : ℕ) → Type 0
-TellsEnding (ending.Input fault) err err' status = Tells (fault_status fault) (fault_line fault) err err' status ⊎ Tells 7 memory_line err err' status
-TellsEnding (ending.Limit passed) err err' status = Tells 6 (limit_line passed) err err' status ⊎ Tells 7 memory_line err err' status
-TellsEnding end err err' status = Tells (ending_status end) (ending_line end) err err' status
 
 -- an output that a run of what was fetched owes where the bytes taken count as read in one of these ways
 abbrev pub RunOutputs : (Counts : Stop → Type 0) (Owed : Stop → Accepted → List ℕ → Ending → Type 0) → List Operator → Options → (instants : Option ℕ) → List (Result (List ℕ) ShelfError) →

@@ -38,6 +38,6 @@ pub use laws::{
 };
 pub use lucy_run::{ClosureEngine, Engine};
 pub use operators::program_operators;
-pub use output::{explain, tell};
+pub use output::{conclude, explain, tell};
 pub use playing::run_with;
 pub use top::lucy;

@@ -1,8 +1,8 @@
 // What goes out at the end of a command, and the status that tells how it went.
 ghost use Rattle.std.specs.Prelude.{◌≡◌, ◌≢◌, ◌≤◌, IfOk, IfErr, OnErr};
 ghost use Rattle.lucy_front.specs.Refusals.{memory_line};
-ghost use Rattle.lucy_app.specs.Ends.{Tells};
-ghost use Rattle.lucy_app.specs.Outcomes.{TellsRefusal, Prints, Delivers, Tellable, TellsEnding};
+ghost use Rattle.lucy_app.specs.Ends.{Tells, TellsEnding};
+ghost use Rattle.lucy_app.specs.Outcomes.{TellsRefusal, Prints, Delivers, Tellable};
 
 use crate::ending::{fault_line, fault_status};
 use crate::log::log_line;
@@ -96,7 +96,7 @@ pub(crate) fn finish<O: Sink, E: Sink>(
 }
 
 /// Says how a run ended, where there is something to say.
-pub(crate) fn conclude<E: Sink>(alloc: Global, err: &mut E, ending: Ending) -> u8
+pub fn conclude<E: Sink>(alloc: Global, err: &mut E, ending: Ending) -> u8
     ensures told { TellsEnding ending (E.seen err.old) (E.seen err.new) result }
     ensures quiet { result ≡ 0 → err.new ≡ err.old }
     ensures count { (E.seen err.old).faults ≤ (E.seen err.new).faults }
