@@ -6,5 +6,4 @@ pub mod Spots
 pub mod Forms
 -- Below this line stands what only serves the proofs of the bodies.
 pub mod Drawn
-pub mod Failures
 pub mod Seeking

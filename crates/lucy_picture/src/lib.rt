@@ -4,7 +4,7 @@
 //!
 //! It stands on `lucy_front`, which accepts programs. Begin with `chart_of` in `chart.rt` and with `specs/Charts.antt`; for texts with
 //! `spot_of` in `spot.rt` and `specs/Spots.antt`; for forms with `form_of` in `forms.rt` and `specs/Forms.antt`. Below `print` stands
-//! what only prints them, and below `view` what the program `lucy_view` does.
+//! what only prints them.
 #![tactic(auto)]
 
 mod chart;
@@ -14,17 +14,17 @@ mod marks;
 mod named;
 mod print;
 mod row;
+mod span;
 mod spot;
 mod turn;
-mod view;
 mod words;
 
 pub use chart::{Chart, chart_of};
 pub use fill::Fill;
 pub use forms::{form_of, forms_stand_at_their_places};
 pub use marks::Marks;
-pub use print::{put_spot, put_time};
+pub use print::{put_entry, put_spot, put_time};
 pub use row::Row;
+pub use span::offset_of;
 pub use spot::{Spot, spot_of};
 pub use turn::{Turn, turn_of};
-pub use view::look;

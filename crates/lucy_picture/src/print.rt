@@ -4,6 +4,6 @@ mod form;
 mod place;
 mod time;
 
-pub(crate) use form::put_entry;
+pub use form::put_entry;
 pub use place::put_spot;
 pub use time::put_time;

@@ -3,7 +3,7 @@
 #![tactic(auto)]
 
 use lucy_app::program_operators;
-use lucy_picture::look;
+use lucy_views::look;
 use lucy_text::{RealShelf, RealSink};
 use std::alloc::Global;
 use std::env::{self, Env};

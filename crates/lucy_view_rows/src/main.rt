@@ -7,7 +7,7 @@
 
 use lucy_app::program_operators;
 use lucy_host::Ops;
-use lucy_picture::look;
+use lucy_views::look;
 use lucy_text::{MemSink, RealShelf};
 use std::alloc::{AllocError, Global};
 use std::fs::Files;

@@ -251,7 +251,7 @@ pub(crate) fn put_kind(
 }
 
 /// Puts the first line of a place last: its number and its node, its name where it has one, and what stands there.
-pub(crate) fn put_entry(
+pub fn put_entry(
     alloc: Global,
     node: &PlacedNode,
     place: u32,

@@ -1,7 +1,7 @@
 // Why nothing is printed.
 ghost use Rattle.std.specs.Prelude.{◌≡◌};
-ghost use Rattle.lucy_picture.specs.Failures.{Tellable};
-ghost use Rattle.lucy_picture.specs.declared.view.failure.Failure.TheVariants.{Program, OutOfMemory};
+ghost use Rattle.lucy_views.specs.Failures.{Tellable};
+ghost use Rattle.lucy_views.specs.declared.failure.Failure.TheVariants.{Program, OutOfMemory};
 
 use lucy_place::NameError;
 use lucy_syntax::SyntaxError;

@@ -1,7 +1,7 @@
 -- Why nothing is printed, as it can be told.
 use Rattle.lucy_front.specs.Refusals.{IsTellable}
-use Rattle.lucy_picture.specs.declared.view.failure.Failure.{Failure}
-use Rattle.lucy_picture.specs.declared.view.failure.Failure.TheVariants.{Program}
+use Rattle.lucy_views.specs.declared.failure.Failure.{Failure}
+use Rattle.lucy_views.specs.declared.failure.Failure.TheVariants.{Program}
 
 -- a program is refused for a reason that has a text
 abbrev pub Tellable : Failure → Type 0

@@ -1,9 +1,9 @@
 // What goes out at the end, and the status that tells how it went.
 ghost use Rattle.std.specs.Prelude.{◌≤◌};
 ghost use Rattle.lucy_front.specs.Refusals.{IsTellable};
-ghost use Rattle.lucy_picture.specs.Failures.{Tellable};
+ghost use Rattle.lucy_views.specs.Failures.{Tellable};
 
-use crate::view::failure::Failure;
+use crate::failure::Failure;
 use clap::Error;
 use clap::error::ErrorKind;
 use lucy_front::{Refusal, refusal_text};

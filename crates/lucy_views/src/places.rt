@@ -1,16 +1,15 @@
 // The command `where`: where an offset stands, and what stands at a place.
 ghost use Rattle.std.specs.Prelude.{◌<◌, length, IfErr};
-ghost use Rattle.lucy_picture.specs.Failures.{Tellable};
+ghost use Rattle.lucy_views.specs.Failures.{Tellable};
 
-use crate::forms::form_of;
-use crate::print::{put_entry, put_spot};
-use crate::view::failure::Failure;
-use crate::view::words::WhereWords;
+use lucy_picture::{form_of, offset_of, put_entry, put_spot};
+use crate::failure::Failure;
+use crate::words::WhereWords;
 use lucy_host::Ops;
-use lucy_place::{PlaceEntry, Placed, place};
+use lucy_place::{Placed, place};
 use lucy_syntax::parse;
 use lucy_text::Shelf;
-use lucy_tree::{Expr, Program, Span};
+use lucy_tree::Program;
 use lucy_word::{Limit, OutOfMemory};
 use std::alloc::Global;
 
@@ -53,30 +52,6 @@ fn number_of(placed: &Placed, name: Option<&str>) -> Option<u32> {
         }
     }
     None
-}
-
-// The span of a form: of its operator, its literal or its name, and for `when` and `whenot` that of the operand.
-fn span_of(expr: &Expr) -> Span {
-    match expr {
-        Expr::Lit { span, .. } => *span,
-        Expr::Var { name } => name.span,
-        Expr::Op { span, .. } => *span,
-        Expr::Host { name, .. } => name.span,
-        Expr::When { operand, .. } => span_of(operand),
-        Expr::Merge { span, .. } => *span,
-        Expr::Fby { span, .. } => *span,
-        Expr::Buffer { span, .. } => *span,
-        Expr::Call { node, .. } => node.span,
-    }
-}
-
-// Where a place begins in the text: a stream with its name where it is declared, any other place with its form.
-fn offset_of(entry: &PlaceEntry, form: Option<&Expr>) -> u32 {
-    match (&entry.name, form) {
-        (Some(name), _) => name.span.from,
-        (None, Some(form)) => span_of(form).from,
-        (None, None) => 0,
-    }
 }
 
 // Puts last what stands at a place of a node of a program, and where; answers whether there is such a place.

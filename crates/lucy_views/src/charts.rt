@@ -4,13 +4,11 @@ ghost use Rattle.lucy_host.specs.Operators.{Operator};
 ghost use Rattle.lucy_front.specs.declared.options.Options.{Options as Choices};
 ghost use Rattle.lucy_front.specs.Accepting.{IsAccepted};
 ghost use Rattle.lucy_front.specs.Inferring.{AreOptions};
-ghost use Rattle.lucy_picture.specs.Failures.{Tellable};
+ghost use Rattle.lucy_views.specs.Failures.{Tellable};
 
-use crate::chart::chart_of;
-use crate::print::put_time;
-use crate::turn::{Turn, turn_of};
-use crate::view::failure::Failure;
-use crate::view::words::TimeWords;
+use lucy_picture::{Turn, chart_of, put_time, turn_of};
+use crate::failure::Failure;
+use crate::words::TimeWords;
 use lucy_front::{Accepted, Options, accept};
 use lucy_host::Ops;
 use lucy_text::Shelf;

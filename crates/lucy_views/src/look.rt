@@ -1,21 +1,16 @@
 // The one call that `lucy_view` makes.
 ghost use Rattle.std.specs.Prelude.{◌≤◌, IfErr};
-ghost use Rattle.lucy_picture.specs.Failures.{Tellable};
+ghost use Rattle.lucy_views.specs.Failures.{Tellable};
 
-mod charts;
-mod failure;
-mod places;
-mod telling;
-mod words;
 
-use charts::charts;
-use failure::Failure;
+use crate::charts::charts;
+use crate::failure::Failure;
 use lucy_host::Ops;
 use lucy_text::{Shelf, Sink};
-use places::spots;
+use crate::places::spots;
 use std::alloc::Global;
-use telling::{print, refuse, tell_words};
-use words::{Ask, read};
+use crate::telling::{print, refuse, tell_words};
+use crate::words::{Ask, read};
 
 // What is printed, or why nothing is.
 fn answer<S: Shelf>(

@@ -1,0 +1,27 @@
+// Where places begin in the text.
+use lucy_place::PlaceEntry;
+use lucy_tree::{Expr, Span};
+
+// The span of a form: of its operator, its literal or its name, and for `when` and `whenot` that of the operand.
+fn span_of(expr: &Expr) -> Span {
+    match expr {
+        Expr::Lit { span, .. } => *span,
+        Expr::Var { name } => name.span,
+        Expr::Op { span, .. } => *span,
+        Expr::Host { name, .. } => name.span,
+        Expr::When { operand, .. } => span_of(operand),
+        Expr::Merge { span, .. } => *span,
+        Expr::Fby { span, .. } => *span,
+        Expr::Buffer { span, .. } => *span,
+        Expr::Call { node, .. } => node.span,
+    }
+}
+
+/// Where a place begins in the text, in bytes from 0: a stream with its name where it is declared, any other place with its form.
+pub fn offset_of(entry: &PlaceEntry, form: Option<&Expr>) -> u32 {
+    match (&entry.name, form) {
+        (Some(name), _) => name.span.from,
+        (None, Some(form)) => span_of(form).from,
+        (None, None) => 0,
+    }
+}

@@ -1,0 +1,2 @@
+-- Below this line stands what only serves the proofs of the bodies.
+pub mod Failures
