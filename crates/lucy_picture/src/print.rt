@@ -4,6 +4,6 @@ mod form;
 mod place;
 mod time;
 
-pub use form::put_entry;
+pub use form::{put_entry, put_kind, put_place};
 pub use place::put_spot;
 pub use time::put_time;

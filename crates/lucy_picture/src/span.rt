@@ -2,8 +2,8 @@
 use lucy_place::PlaceEntry;
 use lucy_tree::{Expr, Span};
 
-// The span of a form: of its operator, its literal or its name, and for `when` and `whenot` that of the operand.
-fn span_of(expr: &Expr) -> Span {
+/// The span of a form: of its operator, its literal or its name, and for `when` and `whenot` that of the operand.
+pub fn span_of(expr: &Expr) -> Span {
     match expr {
         Expr::Lit { span, .. } => *span,
         Expr::Var { name } => name.span,

@@ -33,7 +33,7 @@ pub(crate) fn entry_of(node: &PlacedNode, place: u32) -> Option<&PlaceEntry> {
 }
 
 /// Puts a place last: its name, else `#` and its number.
-pub(crate) fn put_place(
+pub fn put_place(
     alloc: Global,
     node: &PlacedNode,
     place: u32,
@@ -224,7 +224,7 @@ fn put_host(
 
 /// Puts what stands at a place last, which is this form where it is none of the streams: nothing for a parameter, and for a defined name
 /// the place of its right side.
-pub(crate) fn put_kind(
+pub fn put_kind(
     alloc: Global,
     node: &PlacedNode,
     kind: &PlaceKind,
