@@ -3,8 +3,9 @@
 #![tactic(auto)]
 
 use lucy_app::program_operators;
+use lucy_host::Host;
+use lucy_text::{RealShelf, RealSink, RealSource};
 use lucy_views::look;
-use lucy_text::{RealShelf, RealSink};
 use std::alloc::Global;
 use std::env::{self, Env};
 use std::io::{self, ErrorKind};
@@ -33,14 +34,16 @@ fn main(rt: HostRuntime) -> ExitCode {
         // A word that is no text asks for nothing.
         Err(_) => Vec::new(alloc),
     };
-    let Ok(ops) = program_operators(alloc) else {
+    let (Ok(ops), Ok(kinds)) = (program_operators(alloc), program_operators(alloc)) else {
         return out_of_memory(&rt);
     };
+    let host = Host::new(ops, |op: u32, a: i64, b: i64| kinds.value(op, a, b));
     let status = look(
         alloc,
         &words,
-        &ops,
+        &host,
         &mut RealShelf::new(&rt),
+        &mut RealSource::new(rt.stdin()),
         &mut RealSink::new(rt.stdout()),
         &mut RealSink::new(rt.stderr()),
     );

@@ -1,14 +1,16 @@
 //! Rows of `lucy_view`: its words name lists in `data/`, each line of which has the words of a call behind the program's name, parted by
-//! blanks. The call fetches its file from `data/`, too.
+//! blanks, and where it reads an input, ` < ` and the input's file. The call fetches its file from `data/`, too.
 //!
 //! A row is printed as `$ WORDS`, each line of its output behind `> ` and each line of its faults behind `! `, and `status N` where that
 //! isn't 0. `stdout` has what the definitions say of the rows. An empty line, and one that begins with `#`, is no row.
 #![tactic(auto)]
 
+ghost use Rattle.lucy_host.specs.Host.{Serves};
+
 use lucy_app::program_operators;
-use lucy_host::Ops;
+use lucy_host::Host;
+use lucy_text::{MemSink, MemSource, RealShelf};
 use lucy_views::look;
-use lucy_text::{MemSink, RealShelf};
 use std::alloc::{AllocError, Global};
 use std::fs::Files;
 use std::io::{self, ErrorKind};
@@ -41,16 +43,38 @@ fn words_of(alloc: Global, line: &str) -> Result<Vec<String>, AllocError> {
     Ok(words)
 }
 
-fn show(rt: &(impl Print + AllocGlobal + Files), ops: &Ops, line: &str) -> io::Result<()> {
+// What a call reads.
+fn input_of(rt: &(impl AllocGlobal + Files), file: Option<&str>) -> io::Result<MemSource> {
+    let alloc = rt.alloc();
+    let text = match file {
+        Some(file) => fs::read(rt, file)?,
+        None => Vec::new(alloc),
+    };
+    Ok(MemSource::new(text, 4_096, Vec::new(alloc)))
+}
+
+fn show<F: Fn(u32, i64, i64) -> i64 + Sync>(
+    rt: &(impl Print + AllocGlobal + Files),
+    host: &Host<F>,
+    line: &str,
+) -> io::Result<()>
+    requires { Serves F.pre F.post host.now }
+{
     let alloc = rt.alloc();
     let mut out = sink(alloc, 65_536)?;
     let mut err = sink(alloc, 8_192)?;
-    let words = words_of(alloc, line)?;
+    let (call, file) = match line.split_once(" < ") {
+        Some((call, file)) => (call, Some(file)),
+        None => (line, None),
+    };
+    let words = words_of(alloc, call)?;
+    let mut input = input_of(rt, file)?;
     let status = look(
         alloc,
         &words,
-        ops,
+        host,
         &mut RealShelf::new(rt),
+        &mut input,
         &mut out,
         &mut err,
     );
@@ -64,14 +88,16 @@ fn show(rt: &(impl Print + AllocGlobal + Files), ops: &Ops, line: &str) -> io::R
 }
 
 fn main(rt: HostRuntime) -> io::Result<()> {
-    let Ok(ops) = program_operators(rt.alloc()) else {
+    let alloc = rt.alloc();
+    let (Ok(ops), Ok(kinds)) = (program_operators(alloc), program_operators(alloc)) else {
         return Err(ErrorKind::OutOfMemory.into());
     };
+    let host = Host::new(ops, |op: u32, a: i64, b: i64| kinds.value(op, a, b));
     for list in env::args(&rt)?.skip(1) {
         let text = fs::read_to_string(&rt, list.as_str())?;
         for line in text.lines() {
             if !line.is_empty() && !line.starts_with('#') {
-                show(&rt, &ops, line)?;
+                show(&rt, &host, line)?;
             }
         }
     }

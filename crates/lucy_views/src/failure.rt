@@ -16,6 +16,8 @@ pub(crate) enum Failure {
     Program(lucy_front::Refusal),
     /// What the words ask for isn't there.
     Words(&'static str),
+    /// A main without inputs is to be run, and the words give no instants.
+    NoInstants,
     /// A fetch failed, or no file has the name.
     ReadFault,
     /// Memory ran out.

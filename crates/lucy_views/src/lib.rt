@@ -1,13 +1,18 @@
 //! The program `lucy_view`: what its words ask for, and the pictures that it prints of a program.
 //!
-//! It stands on `lucy_picture`, which says what pictures show. Begin with `look` in `look.rt`. It is safe, and the rows test it.
+//! It stands on `lucy_picture`, `lucy_svg`, `lucy_diagram`, `lucy_wave` and `lucy_page`, which say what pictures show, and on `lucy_app` for
+//! how a run ends. Begin with `look` in `looking.rt`. It is safe, and the rows test it.
 #![tactic(auto)]
 
 mod charts;
 mod failure;
-mod look;
+mod looking;
+mod nets;
+mod pages;
 mod places;
+mod program;
 mod telling;
+mod waves;
 mod words;
 
-pub use look::look;
+pub use looking::look;

@@ -4,13 +4,14 @@ ghost use Rattle.lucy_views.specs.Failures.{Tellable};
 
 use lucy_picture::{form_of, offset_of, put_entry, put_spot};
 use crate::failure::Failure;
+use crate::program::{number_of, text_of};
 use crate::words::WhereWords;
 use lucy_host::Ops;
 use lucy_place::{Placed, place};
 use lucy_syntax::parse;
 use lucy_text::Shelf;
 use lucy_tree::Program;
-use lucy_word::{Limit, OutOfMemory};
+use lucy_word::OutOfMemory;
 use std::alloc::Global;
 
 /// What is looked for: an offset, or a place by its number from 1.
@@ -38,20 +39,6 @@ fn offset_text(alloc: Global, text: &[u8], offset: u64) -> Result<Vec<u8>, Failu
     let mut out = Vec::new(alloc);
     put_spot(alloc, text, offset as usize, &mut out)?;
     Ok(out)
-}
-
-// The number of a node by its name, or of main.
-fn number_of(placed: &Placed, name: Option<&str>) -> Option<u32> {
-    let nodes = placed.nodes();
-    let Some(name) = name else {
-        return nodes.checked_sub(1);
-    };
-    for number in 0..nodes {
-        if placed.node(number).name.text.bytes() == name.as_bytes() {
-            return Some(number);
-        }
-    }
-    None
 }
 
 // Puts last what stands at a place of a node of a program, and where; answers whether there is such a place.
@@ -116,7 +103,7 @@ pub(crate) fn spots<S: Shelf>(
 ) -> Result<Vec<u8>, Failure>
     ensures { IfErr result Tellable }
 {
-    let text = shelf.fetch(alloc, words.file, Limit::Text.number())?;
+    let text = text_of(alloc, words.file, shelf)?;
     match reading_of(words.at) {
         Some(Sought::Offset(offset)) => offset_text(alloc, &text, offset),
         Some(Sought::Place(number)) => place_text(alloc, &text, words.node, number, ops),

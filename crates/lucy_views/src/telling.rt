@@ -6,21 +6,10 @@ ghost use Rattle.lucy_views.specs.Failures.{Tellable};
 use crate::failure::Failure;
 use clap::Error;
 use clap::error::ErrorKind;
+use lucy_app::tell;
 use lucy_front::{Refusal, refusal_text};
 use lucy_text::{Sink, write_all};
-use lucy_word::OutOfMemory;
 use std::alloc::Global;
-
-// Writes the lines that go with a status.
-fn tell<E: Sink>(err: &mut E, lines: &[u8], status: u8) -> u8
-    requires { status ≤ 7 }
-    ensures { result ≤ 7 }
-{
-    match write_all(err, lines) {
-        Ok(()) => status,
-        Err(_) => 5,
-    }
-}
 
 /// Writes what is printed. Where that fails, the fault is told on `err`, if it can be.
 pub(crate) fn print<O: Sink, E: Sink>(out: &mut O, err: &mut E, text: &[u8]) -> u8
@@ -72,6 +61,11 @@ pub(crate) fn refuse<E: Sink>(alloc: Global, err: &mut E, failure: Failure) -> u
             Ok(line) => tell(err, line.as_bytes(), 2),
             Err(_) => tell_memory(err),
         },
+        Failure::NoInstants => tell(
+            err,
+            b"lucy: words: main has no inputs, give --instants\n",
+            2,
+        ),
         Failure::ReadFault => tell(err, b"lucy: read fault\n", 4),
         Failure::OutOfMemory => tell_memory(err),
     }

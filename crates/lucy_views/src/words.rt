@@ -1,18 +1,50 @@
 // The command line, which `clap` reads.
-use clap::{Arg, ArgMatches, Command, Error, value_parser};
+use clap::{Arg, ArgAction, ArgMatches, Command, Error, value_parser};
 use std::alloc::{AllocError, Global};
 
 const VERSION: &str = "0.1";
 
+/// A program, and how its clocks are found.
+#[derive(Clone, Copy)]
+pub(crate) struct FileWords<'a> {
+    pub file: &'a str,
+    pub scale: u64,
+    pub lead: u64,
+}
+
 /// What `time` works on.
 #[derive(Clone, Copy)]
 pub(crate) struct TimeWords<'a> {
-    pub file: &'a str,
+    pub program: FileWords<'a>,
     /// The name of a node, or all of them.
     pub node: Option<&'a str>,
     pub instants: Option<u64>,
-    pub scale: u64,
-    pub lead: u64,
+    /// Whether it is drawn as SVG.
+    pub svg: bool,
+}
+
+/// What `net` works on.
+#[derive(Clone, Copy)]
+pub(crate) struct NetWords<'a> {
+    pub program: FileWords<'a>,
+    /// The name of a node, or main.
+    pub node: Option<&'a str>,
+    /// Whether calls are written out.
+    pub flat: bool,
+}
+
+/// What `wave` works on.
+#[derive(Clone, Copy)]
+pub(crate) struct WaveWords<'a> {
+    pub program: FileWords<'a>,
+    pub instants: Option<u64>,
+}
+
+/// What `page` works on.
+#[derive(Clone, Copy)]
+pub(crate) struct PageWords<'a> {
+    pub program: FileWords<'a>,
+    pub instants: Option<u64>,
 }
 
 /// What `where` works on.
@@ -29,7 +61,10 @@ pub(crate) struct WhereWords<'a> {
 #[derive(Clone, Copy)]
 pub(crate) enum Ask<'a> {
     Time(TimeWords<'a>),
+    Net(NetWords<'a>),
+    Wave(WaveWords<'a>),
     Where(WhereWords<'a>),
+    Page(PageWords<'a>),
 }
 
 // The file that each command works on.
@@ -46,25 +81,71 @@ fn numeral<'a>(alloc: Global, name: &'a str, value: &'a str, most: i64, help: &'
         .help(help)
 }
 
-// `time`
-fn time<'a>(alloc: Global) -> Result<Command<'a>, AllocError> {
-    let node = Arg::new(alloc, "NODE").help("a node of the program; else all of them");
-    let instants = numeral(
+// A word that stands alone.
+fn flag<'a>(alloc: Global, name: &'a str, help: &'a str) -> Arg<'a> {
+    Arg::new(alloc, name)
+        .long(name)
+        .action(ArgAction::SetTrue)
+        .help(help)
+}
+
+// A command on a program, with the options that say how its clocks are found.
+fn on_program<'a>(alloc: Global, name: &'a str, about: &'a str) -> Result<Command<'a>, AllocError> {
+    let scale = numeral(alloc, "scale", "K", 64, "as that of `lucy clocks`");
+    let lead = numeral(alloc, "lead", "D", 64, "as that of `lucy clocks`");
+    Command::new(alloc, name)
+        .about(about)
+        .arg(file(alloc))?
+        .arg(scale)?
+        .arg(lead)
+}
+
+// How many instants are shown.
+fn shown_instants<'a>(alloc: Global) -> Arg<'a> {
+    numeral(
         alloc,
         "instants",
         "N",
         65_536,
         "how many instants; else the prefix and two periods, at most 200",
-    );
-    let scale = numeral(alloc, "scale", "K", 64, "as that of `lucy clocks`");
-    let lead = numeral(alloc, "lead", "D", 64, "as that of `lucy clocks`");
-    Command::new(alloc, "time")
-        .about("Shows when the streams of a node have items, and how many wait in its buffers")
-        .arg(file(alloc))?
+    )
+}
+
+// `time`
+fn time<'a>(alloc: Global) -> Result<Command<'a>, AllocError> {
+    let about = "Shows when the streams of a node have items, and how many wait in its buffers";
+    let node = Arg::new(alloc, "NODE").help("a node of the program; else all of them, or with --svg the last one");
+    on_program(alloc, "time", about)?
         .arg(node)?
+        .arg(shown_instants(alloc))?
+        .arg(flag(alloc, "svg", "draws it as SVG"))
+}
+
+// `net`
+fn net<'a>(alloc: Global) -> Result<Command<'a>, AllocError> {
+    let about = "Shows what feeds what in a node, for Graphviz";
+    let node = Arg::new(alloc, "NODE").help("a node of the program; else the last one");
+    on_program(alloc, "net", about)?
+        .arg(node)?
+        .arg(flag(alloc, "flat", "shows the whole program with its calls written out"))
+}
+
+// `wave`
+fn wave<'a>(alloc: Global) -> Result<Command<'a>, AllocError> {
+    let about = "Runs a program on its input, and shows all values as a value change dump";
+    let instants = numeral(alloc, "instants", "N", 1_048_576, "as that of `lucy run`");
+    let workers = numeral(alloc, "workers", "W", 64, "as that of `lucy run`; changes nothing");
+    let block = numeral(alloc, "block", "B", 1_048_576, "as that of `lucy run`; changes nothing");
+    on_program(alloc, "wave", about)?
         .arg(instants)?
-        .arg(scale)?
-        .arg(lead)
+        .arg(workers)?
+        .arg(block)
+}
+
+// `page`
+fn page<'a>(alloc: Global) -> Result<Command<'a>, AllocError> {
+    let about = "Shows the report, the chronograms, the buffers and the nets of a program on a page of HTML";
+    on_program(alloc, "page", about)?.arg(shown_instants(alloc))
 }
 
 // `where`
@@ -82,24 +163,50 @@ fn place<'a>(alloc: Global) -> Result<Command<'a>, AllocError> {
 
 // All commands.
 fn command<'a>(alloc: Global) -> Result<Command<'a>, AllocError> {
-    let time = time(alloc)?;
-    let place = place(alloc)?;
     Command::new(alloc, "lucy_view")
         .version(VERSION)
         .about("Shows programs of lucy")
         .subcommand_required(true)
-        .subcommand(time)?
-        .subcommand(place)
+        .subcommand(time(alloc)?)?
+        .subcommand(net(alloc)?)?
+        .subcommand(wave(alloc)?)?
+        .subcommand(place(alloc)?)?
+        .subcommand(page(alloc)?)
+}
+
+// What the words of a command on a program say.
+fn file_words<'a>(matches: &ArgMatches<'a>) -> Option<FileWords<'a>> {
+    Some(FileWords {
+        file: matches.get_str("FILE")?,
+        scale: matches.get_one::<u64>("scale").unwrap_or(1),
+        lead: matches.get_one::<u64>("lead").unwrap_or(1),
+    })
 }
 
 // What the words behind `time` say.
 fn time_words<'a>(matches: &ArgMatches<'a>) -> Option<TimeWords<'a>> {
     Some(TimeWords {
-        file: matches.get_str("FILE")?,
+        program: file_words(matches)?,
         node: matches.get_str("NODE"),
         instants: matches.get_one::<u64>("instants"),
-        scale: matches.get_one::<u64>("scale").unwrap_or(1),
-        lead: matches.get_one::<u64>("lead").unwrap_or(1),
+        svg: matches.get_flag("svg"),
+    })
+}
+
+// What those behind `net` say.
+fn net_words<'a>(matches: &ArgMatches<'a>) -> Option<NetWords<'a>> {
+    Some(NetWords {
+        program: file_words(matches)?,
+        node: matches.get_str("NODE"),
+        flat: matches.get_flag("flat"),
+    })
+}
+
+// What those behind `wave` say.
+fn wave_words<'a>(matches: &ArgMatches<'a>) -> Option<WaveWords<'a>> {
+    Some(WaveWords {
+        program: file_words(matches)?,
+        instants: matches.get_one::<u64>("instants"),
     })
 }
 
@@ -112,14 +219,31 @@ fn where_words<'a>(matches: &ArgMatches<'a>) -> Option<WhereWords<'a>> {
     })
 }
 
+// What those behind `page` say.
+fn page_words<'a>(matches: &ArgMatches<'a>) -> Option<PageWords<'a>> {
+    Some(PageWords {
+        program: file_words(matches)?,
+        instants: matches.get_one::<u64>("instants"),
+    })
+}
+
 // What `clap` has found.
 fn asked<'a>(matches: &ArgMatches<'a>) -> Option<Ask<'a>> {
     let (name, matches) = matches.subcommand()?;
     if name == "time" {
         return Some(Ask::Time(time_words(matches)?));
     }
+    if name == "net" {
+        return Some(Ask::Net(net_words(matches)?));
+    }
+    if name == "wave" {
+        return Some(Ask::Wave(wave_words(matches)?));
+    }
     if name == "where" {
         return Some(Ask::Where(where_words(matches)?));
+    }
+    if name == "page" {
+        return Some(Ask::Page(page_words(matches)?));
     }
     None
 }
