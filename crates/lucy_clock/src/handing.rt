@@ -101,7 +101,7 @@ fn test_merge(word: &Word, own: &Word) -> Result<(), ClockError>
 
 /// Tests that what a place of a kind hands down, with its own word, isn't too long. An operand may be a name that has a word
 /// of its own: what would be handed down to it is looked at all the same.
-pub(crate) fn test_handed(kind: &PlaceKind, own: &Word) -> Result<(), ClockError>
+pub fn test_handed(kind: &PlaceKind, own: &Word) -> Result<(), ClockError>
     ensures ok { OnOk result (HandsTooLong kind.now own.now → ⊥) }
     ensures refused { IfErr result (λ e. (e ≡ err.Limit lim.Word) × HandsTooLong kind.now own.now) }
 {
