@@ -29,7 +29,7 @@ words_push [] next = refl
 words_push (ring ∷ rings) next = ap (λ t. ring.write ∷ ring.read ∷ t) (words_push rings next)
 
 -- one ring more, which is held or not
-words_stored : (rings : List RingSpec) (next : RingSpec) → All IsStored (ring_words rings) → IsStored next.write → IsStored next.read → All IsStored (ring_words (rings ++ next ∷ []))
+pub words_stored : (rings : List RingSpec) (next : RingSpec) → All IsStored (ring_words rings) → IsStored next.write → IsStored next.read → All IsStored (ring_words (rings ++ next ∷ []))
 words_stored rings next all write read =
     subst (All IsStored) (sym (words_push rings next))
     (All-append IsStored (ring_words rings) (next.write ∷ next.read ∷ []) all (All-cons IsStored next.write (next.read ∷ []) write (All-cons IsStored next.read [] read (All-nil IsStored))))
@@ -150,7 +150,7 @@ module _ (drafts : List Draft) (rings : List RingSpec) where
       let z : suc a + i ≡ a + suc i = omega arith in
       actor_at (suc a) rest i draft e ∙ ap (λ k. Some (actor_of k draft)) z
 
-  net_of : Net
+  pub net_of : Net
   net_of = record { actors = actors_of 0 drafts; rings = rings }
 
   module _ (ready : IsReady drafts) (are : AreRingsOf drafts (length drafts) rings) where
@@ -167,7 +167,7 @@ module _ (drafts : List Draft) (rings : List RingSpec) where
         reads_some (When p) has is = has
         reads_some kind has is = absurd is
 
-    is_assembled : IsAssembled drafts net_of
+    pub is_assembled : IsAssembled drafts net_of
     unfolding net_of actor_of
     is_assembled = record {
       count = actors_count 0 drafts;
@@ -188,7 +188,7 @@ module _ (drafts : List Draft) (rings : List RingSpec) where
       (firing_stored draft.kind draft.word (slice_get rings (first_ring drafts a)) (words 0 draft refl) (λ ring e. written rings (first_ring drafts a) ring all e))
       (firings_stored (suc a) rest all (λ i d e. words (suc i) d e))
 
-  net_stored : All IsStored (ring_words rings) → ((i : ℕ) (draft : Draft) → slice_get drafts i ≡ Some draft → IsStored draft.word) → All IsStored (net_words net_of)
+  pub net_stored : All IsStored (ring_words rings) → ((i : ℕ) (draft : Draft) → slice_get drafts i ≡ Some draft → IsStored draft.word) → All IsStored (net_words net_of)
   unfolding net_of
   net_stored all words = All-append IsStored (map (λ (x : Actor). x.firing) (actors_of 0 drafts)) (ring_words rings) (firings_stored 0 drafts all words) all
 

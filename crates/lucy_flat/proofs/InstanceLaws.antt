@@ -16,6 +16,7 @@ use Rattle.lucy_word.proofs.BitsLaws.{period_some}
 use Rattle.lucy_word.proofs.ShortLaws.{shortest_one}
 use Rattle.lucy_net.specs.declared.kind.ActorKind.{ActorKind}
 use Rattle.std.proofs.lemmas.List.{get_or_read}
+use Rattle.lucy_clock.specs.HandedDown.{HandsTooLong}
 use Rattle.lucy_flat.specs.Clocked.{AreClocked}
 use Rattle.lucy_flat.specs.Extents.{HasSize, size_in}
 use Rattle.lucy_meaning.specs.Spots.{main_of, at, site_in, node_at, kind_at, spot_form, result_place, spot_reads}
@@ -32,7 +33,9 @@ use Rattle.lucy_clock.specs.declared.node_clock.NodeClock.{NodeClock}
 use Rattle.lucy_flat.specs.declared.instance.Caller.{Caller}
 use Rattle.lucy_flat.specs.declared.instance.Instance.{Instance}
 use Rattle.lucy_flat.specs.Drafts.{IsMade, IsFit, IsCaller, IsInstance}
+use Rattle.lucy_flat.specs.Refusals.{IsMergeTooLong}
 use Rattle.lucy_flat.proofs.ExtentLaws.{sum_part}
+use Rattle.lucy_flat.proofs.ProperLaws.{IsLongMerge}
 
 -- a node is no larger than it is with its calls
 pub places_within : (nodes : List PlacedNode) (i : ℕ) (n : PlacedNode) → AreProper nodes → slice_get nodes i ≡ Some n → length n.places ≤ size_of nodes i
@@ -206,9 +209,9 @@ module _ (nodes : List PlacedNode) (clocks : List NodeClock) (proper : AreProper
   -- the draft of a place there
   pub made_here : (place : ℕ) (entry : PlaceEntry) (kind : PlaceKind) (does : ActorKind) (word : Bits) (reads gives : Vec ℕ Global) (size : ℕ) → kind_at nodes (at path place) ≡ Some kind → at_one of.node.now.places place ≡ Some entry →
       does ≡ actor_of (spot_form (at path place) entry.kind) → IsOn of.base.now (word_at nodes clocks path place) word → IsWord word → IsShortest word →
-      reads.items ≡ map (number nodes) (spot_reads nodes (at path place) entry.kind) → size ≡ size_in of.clock.now.sizes entry.kind → gives.items ≡ [] →
+      reads.items ≡ map (number nodes) (spot_reads nodes (at path place) entry.kind) → size ≡ size_in of.clock.now.sizes entry.kind → gives.items ≡ [] → (HandsTooLong entry.kind word → ⊥) →
       IsMade nodes clocks (at path place) kind (record { kind = does; word = word; reads = reads; size = size; gives = gives })
-  made_here place entry kind does word reads gives size e f does_is on is_word short reads_are size_is none =
+  made_here place entry kind does word reads gives size e f does_is on is_word short reads_are size_is none fits =
       let same : entry.kind ≡ kind = same_Some entry.kind kind (sym (kind_is place entry f) ∙ e) in
       record {
         does = does_is ∙ ap (λ k. actor_of (spot_form (at path place) k)) same;
@@ -218,6 +221,7 @@ module _ (nodes : List PlacedNode) (clocks : List NodeClock) (proper : AreProper
         shortest = short;
         size = size_is ∙ size_there clocks is.index of.clock.now entry.kind is.clock ∙ ap (λ i. ring_size clocks i entry.kind) (sym is.at.index) ∙ ap (ring_size clocks (index_at nodes path)) same;
         gives = none;
+        fits = subst (λ k. HandsTooLong k word → ⊥) same fits;
       }
 
   -- main has no caller
@@ -290,3 +294,33 @@ argument_here nodes clocks proper (call ∷ path) of is place c e stands =
     place_low : (xs : List PlaceEntry) (p : ℕ) (entry : PlaceEntry) → at_one xs p ≡ Some entry → 1 ≤ p
     place_low xs zero entry f = absurd (cc f)
     place_low xs (suc i) entry f = omega arith
+
+-- a merge whose operand's word is too long
+pub long_merge : (kind : PlaceKind) (own : Bits) → HandsTooLong kind own → IsLongMerge kind own
+long_merge place_kind.Param own long = absurd long
+long_merge (place_kind.Defined q) own long = absurd long
+long_merge (place_kind.Lit l) own long = absurd long
+long_merge (place_kind.Op op args) own long = absurd long
+long_merge (place_kind.Host op a b) own long = absurd long
+long_merge (place_kind.When q p) own long = absurd long
+long_merge (place_kind.Merge p a b) own long = record { p = p; a = a; b = b; is = refl; long = long }
+long_merge (place_kind.Fby l q) own long = absurd long
+long_merge (place_kind.Buffer k q) own long = absurd long
+long_merge (place_kind.Result c j) own long = absurd long
+
+pub merge_here : (nodes : List PlacedNode) (clocks : List NodeClock) → AreProper nodes → (path : List ℕ) (of : Instance) → IsInstance nodes clocks path of → (place : ℕ) (entry : PlaceEntry) (word : Bits) → at_one of.node.now.places place ≡ Some entry →
+    IsOn of.base.now (word_at nodes clocks path place) word → IsWord word → IsShortest word → HandsTooLong entry.kind word → IsMergeTooLong nodes clocks
+merge_here nodes clocks proper path of is place entry word e on is_word short long =
+    let m = long_merge entry.kind word long in
+    record {
+      spot = at path place;
+      p = m.p;
+      a = m.a;
+      b = m.b;
+      stands = kind_is nodes clocks proper path of is place entry e ∙ ap (λ t. Some t) m.is;
+      own = word;
+      is = (of.base.now, is.at.is_base, on);
+      is_word = is_word;
+      shortest = short;
+      too_long = m.long;
+    }

@@ -8,6 +8,9 @@ pub mod ProperLaws
 pub mod FlatLaws
 pub mod NetLaws
 pub mod HeldLaws
+pub mod KeptLaws
+pub mod ReadLaws
+pub mod PastLaws
 pub mod TopLaws
 pub mod InstanceLaws
 pub mod MadeLaws

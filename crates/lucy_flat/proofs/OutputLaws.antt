@@ -1,5 +1,5 @@
 -- The drafts of a program: those of its instance places, and then those of the results of main.
-use Rattle.std.proofs.Common.{ℕ, ◌+◌, ◌*◌, ◌<◌, ◌≤◌, ◌≡◌, List, [], ◌∷◌, ◌++◌, Option, Some, None, length, ap, sym, refl, ◌∙◌, subst, inl, inr, arith}
+use Rattle.std.proofs.Common.{ℕ, ◌+◌, ◌*◌, ◌<◌, ◌≤◌, ◌≡◌, List, [], ◌∷◌, ◌++◌, Option, Some, None, length, get_or, ap, sym, refl, ◌∙◌, subst, inl, inr, arith}
 use Rattle.std.specs.Prelude.{◌⊎◌, sum_by, slice_get, slice_index_or}
 use Rattle.std.specs.List.{range_with_len}
 use Rattle.std.proofs.lemmas.Grind.{flat_map-append}
@@ -7,7 +7,7 @@ use Rattle.std.proofs.lemmas.Bool.{cases_lt}
 use Rattle.std.proofs.lemmas.List.{append-nil, length_push}
 use Rattle.std.proofs.lemmas.List.Sums.{sum_by_push}
 use Rattle.std.proofs.lemmas.Option.{same_Some, slice_get_within}
-use Rattle.lucy_word.specs.Bits.{IsWord}
+use Rattle.lucy_word.specs.Bits.{Bits, IsWord}
 use Rattle.lucy_word.specs.Shortest.{IsShortest}
 use Rattle.lucy_place.specs.declared.placed.PlacedNode.{PlacedNode}
 use Rattle.lucy_place.specs.declared.entry.PlaceKind.{PlaceKind}
@@ -29,6 +29,8 @@ use Rattle.lucy_flat.specs.Drafts.{IsMade, IsDraft, IsOutputDraft, IsOfSpot, ins
 use Rattle.lucy_flat.proofs.AssemblyLaws.{range_more, get_left, get_last, present}
 use Rattle.lucy_flat.proofs.MadeLaws.{made_length, made_at}
 use Rattle.lucy_flat.proofs.SpotLaws.{spot_at, whole_length}
+use Rattle.lucy_flat.proofs.InstanceLaws.{word_is}
+use Rattle.lucy_flat.proofs.DraftLaws.{main_word}
 use Rattle.lucy_meaning.proofs.Numbered.{number_below, number_reached}
 use Rattle.lucy_flat.proofs.CountLaws.{made_reads, made_slots, made_inputs, made_outputs, total_reads, total_sizes, total_inputs}
 
@@ -36,6 +38,7 @@ module _ (nodes : List PlacedNode) (clocks : List NodeClock) (proper : AreProper
   -- a result of main
   pub record IsMainResult (place : ℕ) : Type 0 where
     pub low : 1 ≤ place
+    pub high : (n : PlacedNode) → main_of nodes ≡ Some n → place ≤ length n.places
     pub kind : PlaceKind
     pub stands : kind_at nodes (at [] place) ≡ Some kind
 
@@ -50,7 +53,7 @@ module _ (nodes : List PlacedNode) (clocks : List NodeClock) (proper : AreProper
           let place_is : slice_index_or n.results i 0 ≡ place = same_Some (slice_index_or n.results i 0) place (sym (present n.results i within) ∙ g) in
           let stands = subst (IsPlace n) place_is (place_of n n.results i is.results within) in
           let spot = place_spot nodes [] n place f stands in
-          record { low = stands.0; kind = spot.0; stands = spot.1 }
+          record { low = stands.0; high = λ m h. (let same = ap (λ (t : PlacedNode). length t.places) (same_Some n m (sym f ∙ h)) in let l = stands.1 in omega arith); kind = spot.0; stands = spot.1 }
 
   -- the draft of a result of main comes next
   pub outputs_more : (i place : ℕ) (drafts : List Draft) (next : Draft) → AreDraftsSoFar nodes clocks i drafts → slice_get (results_in (main_of nodes)) i ≡ Some place → next.kind ≡ Output i → next.reads.items ≡ number nodes (at [] place) ∷ [] →
@@ -148,3 +151,22 @@ module _ (nodes : List PlacedNode) (clocks : List NodeClock) (proper : AreProper
     reads = omega (arith, are.reads, count);
     slots = omega (arith, are.slots, count);
   }
+
+-- the words of main's results, as the code has them at hand
+module _ (nodes : List PlacedNode) (clocks : List NodeClock) (proper : AreProper nodes) (clocked : AreClocked nodes clocks) (main : ℕ) (n : PlacedNode) (clock : NodeClock) (results : List ℕ) (words : List Bits)
+    (is_main : main ≡ last_of nodes) (at_node : slice_get nodes main ≡ Some n) (at_clock : slice_get clocks main ≡ Some clock) (results_are : results ≡ n.results) (words_are : words ≡ clock.words) where
+  pub main_results : results ≡ results_in (main_of nodes)
+  main_results = results_are ∙ sym (ap (λ k. results_in (slice_get nodes k)) (sym is_main) ∙ ap results_in at_node)
+
+  pub result_is : (i place : ℕ) → slice_get results i ≡ Some place → IsMainResult nodes clocks proper place
+  result_is i place e = main_result nodes clocks proper results i place main_results e
+
+  pub result_within : (i place : ℕ) → slice_get results i ≡ Some place → place < length words
+  result_within i place e =
+      let high = (result_is i place e).high n (ap (slice_get nodes) (sym is_main) ∙ at_node) in
+      let count = (clocked.each main n clock at_node at_clock).count in
+      let same = ap length words_are in
+      omega arith
+
+  pub result_word : (i place : ℕ) (w : Bits) → slice_get results i ≡ Some place → w ≡ get_or words place w → IsSpotWord nodes clocks (at [] place) w
+  result_word i place w e got = main_word nodes clocks place w (word_is nodes clocks [] main clock (sym is_main) at_clock place words w words_are (result_within i place e) got)

@@ -257,3 +257,12 @@ call_word nodes clocks clocked path node n clock i places words w index e f word
 -- a call among those of a node
 pub site_at : (n : PlacedNode) (sites : List CallSite) (i : ℕ) (site : CallSite) → sites ≡ n.calls → i < length sites → site ≡ get_or sites i site → slice_get n.calls i ≡ Some site
 site_at n sites i site e l f = ap (λ t. slice_get t i) (sym e) ∙ slice_get_read sites (length sites) i site refl l f
+
+-- where the instances of its calls begin, as the code has them at hand
+pub begins_there : (nodes : List PlacedNode) (clocks : List NodeClock) (sizes : List ℕ) → IsProgram nodes clocks sizes → (node begin first : ℕ) (n : PlacedNode) (sites : List CallSite) (inner : List ℕ) →
+    slice_get nodes node ≡ Some n → begin + size_of nodes node < 4294967296 → sites ≡ n.calls → first ≡ begin + length n.places → AreSumsOf sizes sites first (length sites) inner → AreBegins nodes n begin inner
+begins_there nodes clocks sizes program node begin first n sites inner e few sites_are first_is sums =
+    let inside = slice_get_within nodes node n e in
+    let below = calls_below nodes node n (program.proper node n e) in
+    let whole = total_law own_places nodes node n e below in
+    begins_are nodes sizes program.sizes n begin first inner (below_more node (length nodes) n.calls (omega (arith, inside)) below) (omega (arith, whole, few)) first_is (subst (λ s. AreSumsOf sizes s first (length s) inner) sites_are sums)

@@ -1,7 +1,10 @@
 -- Drafts of actors: those of the instance places of a program, and those of the results of main behind them.
-use Rattle.std.specs.Prelude.{ℕ, suc, ◌+◌, ◌*◌, sum_by, ◌<◌, ◌≤◌, ◌≡◌, ◌^◌, List, [], ◌∷◌, ◌++◌, map, length, Option, Some, None, slice_get, slice_index_or, take}
+use Rattle.std.specs.Prelude.{ℕ, suc, ◌+◌, ◌*◌, sum_by, ◌<◌, ◌≤◌, ◌≡◌, ◌⊎◌, ◌^◌, List, [], ◌∷◌, ◌++◌, All, map, length, Option, Some, None, slice_get, slice_index_or, take}
 use Rattle.std.specs.List.{flat_map, range_with_len}
-use Rattle.lucy_word.specs.Bits.{Bits, IsWord}
+use Rattle.lucy_word.specs.Bits.{Bits, IsWord, bit_count}
+use Rattle.lucy_word.specs.Limits.{limit_number}
+use Rattle.lucy_word.specs.declared.limit.Limit.TheVariants as limit
+use Rattle.lucy_word.specs.Stored.{IsStored}
 use Rattle.lucy_word.specs.Shortest.{IsShortest}
 use Rattle.lucy_word.specs.Sampling.{IsOnTooLong}
 use Rattle.lucy_place.specs.declared.placed.PlacedNode.{PlacedNode}
@@ -9,10 +12,14 @@ use Rattle.lucy_place.specs.declared.entry.PlaceKind.{PlaceKind}
 use Rattle.lucy_place.specs.declared.entry.CallSite.{CallSite}
 use Rattle.lucy_place.specs.Proper.{AreProper}
 use Rattle.lucy_clock.specs.Clocks.{clocks_of}
+use Rattle.lucy_clock.specs.HandedDown.{HandsTooLong}
 use Rattle.lucy_net.specs.declared.kind.ActorKind.TheVariants.{Output}
 use Rattle.lucy_net.specs.Proper as proper
 use Rattle.lucy_clock.specs.declared.node_clock.NodeClock.{NodeClock}
 use Rattle.lucy_flat.specs.declared.draft.Draft.{Draft}
+use Rattle.lucy_flat.specs.declared.kept.Kept.{Kept}
+use Rattle.lucy_flat.specs.declared.error.FlatError.{FlatError}
+use Rattle.lucy_flat.specs.declared.error.FlatError.TheVariants as error
 use Rattle.lucy_flat.specs.declared.instance.Caller.{Caller}
 use Rattle.lucy_flat.specs.declared.instance.Instance.{Instance}
 use Rattle.lucy_flat.specs.Clocked.{AreClocked}
@@ -22,7 +29,8 @@ use Rattle.lucy_meaning.specs.Sizes.{AreCapped, size_of, total_of, all_places}
 use Rattle.lucy_meaning.specs.Numbers.{begin_from, call_offset, number, spots_of}
 use Rattle.lucy_flat.specs.Instances.{index_at, word_at, IsBase, IsSpotWord}
 use Rattle.lucy_flat.specs.Flat.{actor_of, ring_size}
-use Rattle.lucy_flat.specs.Assembly.{reads_count, all_reads}
+use Rattle.lucy_flat.specs.Refusals.{IsClockTooLong, IsWordTooLong}
+use Rattle.lucy_flat.specs.Assembly.{reads_count, all_reads, IsNetPast}
 
 -- a draft made for an instance place
 pub record IsMade (nodes : List PlacedNode) (clocks : List NodeClock) (spot : Spot) (kind : PlaceKind) (draft : Draft) : Type 0 where
@@ -33,6 +41,7 @@ pub record IsMade (nodes : List PlacedNode) (clocks : List NodeClock) (spot : Sp
   pub shortest : IsShortest draft.word
   pub size : draft.size ≡ ring_size clocks (index_at nodes spot.path) kind
   pub gives : draft.gives.items ≡ []
+  pub fits : HandsTooLong kind draft.word → ⊥
 
 -- a draft of an instance place
 pub record IsSpotDraft (nodes : List PlacedNode) (clocks : List NodeClock) (spot : Spot) (draft : Draft) : Type 0 where
@@ -191,3 +200,56 @@ pub record ArePutSoFar (nodes : List PlacedNode) (clocks : List NodeClock) (path
   pub made : AreMade nodes clocks (own_spots path n ++ calls_spots (instance_spots nodes) path 1 (take upto n.calls)) more
   pub fit : (clock : ℕ) → 0 < clock → clock ≤ length n.places + upto → IsFit nodes clocks path clock
   pub inner_fit : (c : ℕ) (site : CallSite) → c < upto → slice_get n.calls c ≡ Some site → AreFit nodes clocks (suc c ∷ path) site.node
+
+-- the bits of a draft's word
+abbrev pub draft_bits : Draft → ℕ
+draft_bits draft = bit_count draft.word
+
+-- of these drafts those are kept whose words have together no more bits than are allowed: all, unless all have more
+pub record AreKept (drafts : List Draft) (kept : Kept) : Type 0 where
+  pub stored : All (λ (draft : Draft). IsStored draft.word) drafts
+  pub most : kept.bits ≤ sum_by draft_bits drafts
+  pub all : kept.bits ≤ limit_number limit.Bits → (kept.drafts.items ≡ drafts) × (kept.bits ≡ sum_by draft_bits drafts)
+  pub few : sum_by draft_bits kept.drafts.items ≤ limit_number limit.Bits
+
+-- the drafts of the first places of an instance come behind others, and some of all are kept
+pub record ArePlacesKept (nodes : List PlacedNode) (clocks : List NodeClock) (path : List ℕ) (upto : ℕ) (old : List Draft) (kept : Kept) : Type 0 where
+  pub new : List Draft
+  pub put : ArePlacesPut nodes clocks path upto old new
+  pub keeps : AreKept new kept
+
+-- so do those of its places and of the instances of its first calls
+pub record AreKeptSoFar (nodes : List PlacedNode) (clocks : List NodeClock) (path : List ℕ) (n : PlacedNode) (upto : ℕ) (old : List Draft) (kept : Kept) : Type 0 where
+  pub new : List Draft
+  pub put : ArePutSoFar nodes clocks path n upto old new
+  pub keeps : AreKept new kept
+
+-- so do those of the whole instance and of those inside it
+pub record IsInstanceKept (nodes : List PlacedNode) (clocks : List NodeClock) (path : List ℕ) (node : ℕ) (old : List Draft) (kept : Kept) : Type 0 where
+  pub new : List Draft
+  pub put : ArePut nodes clocks path node old new
+  pub keeps : AreKept new kept
+
+-- some of the drafts of the instance places, and of the first results of main, are kept
+pub record AreOutputsKept (nodes : List PlacedNode) (clocks : List NodeClock) (upto : ℕ) (kept : Kept) : Type 0 where
+  pub drafts : List Draft
+  pub are : AreDraftsSoFar nodes clocks upto drafts
+  pub keeps : AreKept drafts kept
+
+-- some of the drafts of a program are kept
+pub record AreDraftsKept (nodes : List PlacedNode) (clocks : List NodeClock) (kept : Kept) : Type 0 where
+  pub drafts : List Draft
+  pub are : AreDrafts nodes clocks drafts
+  pub keeps : AreKept drafts kept
+
+-- no word of a program is too long, and the net of its drafts has more bits than are allowed
+pub record AreDraftsPast (nodes : List PlacedNode) (clocks : List NodeClock) : Type 0 where
+  pub drafts : List Draft
+  pub are : AreDrafts nodes clocks drafts
+  pub fits : IsClockTooLong nodes clocks → ⊥
+  pub past : IsNetPast drafts
+
+-- why there are no drafts
+abbrev pub RefusesDrafts : List PlacedNode → List NodeClock → FlatError → Type 0
+RefusesDrafts nodes clocks e =
+    (e ≡ error.OutOfMemory) ⊎ ((e ≡ error.Limit limit.Word) × IsWordTooLong nodes clocks) ⊎ ((e ≡ error.Limit limit.Bits) × AreDraftsPast nodes clocks)

@@ -6,10 +6,9 @@ ghost use Rattle.lucy_net.specs.declared.net.Net.{Net as Flat};
 ghost use Rattle.lucy_word.specs.Limits.{limit_number};
 ghost use Rattle.lucy_place.specs.Proper.{AreProper};
 ghost use Rattle.lucy_flat.specs.declared.error.FlatError.TheVariants as err;
-ghost use Rattle.lucy_meaning.specs.Spots.{main_of, results_in};
-ghost use Rattle.lucy_flat.specs.Counts.{IsSmall, last_of};
+ghost use Rattle.lucy_flat.specs.Counts.{IsSmall, last_of, outputs_of};
 ghost use Rattle.lucy_flat.specs.Clocked.{AreClocked};
-ghost use Rattle.lucy_flat.specs.Drafts.{IsProgram, AreDrafts, ArePut};
+ghost use Rattle.lucy_flat.specs.Drafts.{IsProgram, AreDrafts, IsInstanceKept, AreDraftsKept, RefusesDrafts};
 ghost use Rattle.lucy_flat.specs.Refusals.{IsClockTooLong, IsFlatNet, RefusesFlat, net_bits};
 
 use crate::assemble::assemble;
@@ -18,48 +17,48 @@ use crate::error::FlatError;
 use crate::extent::passed;
 use crate::grow::push;
 use crate::instance::{Program, put_instance};
+use crate::kept::{Kept, keep};
 use crate::words::{bits, copied};
 use lucy_clock::NodeClock;
 use lucy_meaning::sizes;
 use lucy_need::always;
 use lucy_net::{ActorKind, Net, net_words_are_stored};
 use lucy_place::Placed;
-use lucy_word::Limit;
+use lucy_word::{Limit, words_are_stored};
 use std::alloc::Global;
 
-// Puts the drafts of the outputs.
+// Puts the drafts of the outputs. The base of main is (1), so a result has there the word that its place has in the node.
 fn put_outputs(
     alloc: Global,
-    placed: &Placed,
-    clocks: &[NodeClock],
-    results: &[u32],
-    drafts: &mut Vec<Draft>,
+    program: Program<'_>,
+    main: u32,
+    kept: &mut Kept,
 ) -> Result<(), FlatError>
-    requires some { 0 < length placed.now.nodes }
-    requires results { results.now ≡ results_in (main_of placed.now.nodes) }
-    requires proper { AreProper placed.now.nodes }
-    requires clocked { AreClocked placed.now.nodes clocks.now }
-    requires put { ArePut placed.now.nodes clocks.now [] (last_of placed.now.nodes) [] drafts.old.items }
-    requires few { length drafts.old.items + length results.now < 2 ^ 32 }
-    ensures ok { OnOk result (AreDrafts placed.now.nodes clocks.now drafts.new.items) }
+    requires some { 0 < length program.placed.now.nodes }
+    requires main { main ≡ last_of program.placed.now.nodes }
+    requires program { IsProgram program.placed.now.nodes program.clocks.now program.sizes.now }
+    requires put { IsInstanceKept program.placed.now.nodes program.clocks.now [] (last_of program.placed.now.nodes) [] kept.old }
+    requires few { outputs_of program.placed.now.nodes < 2 ^ 32 }
+    ensures ok { OnOk result (AreDraftsKept program.entry.placed.now.nodes program.entry.clocks.now kept.new) }
     ensures refused { IfErr result (λ e. e ≡ err.OutOfMemory) }
 {
+    let results = program.placed.node(main).results.list();
+    let words = program.clocks[main as usize].words.list();
     'each: for i in 0..results.len() {
-        let from = results[i] - 1;
-        let word = copied(alloc, &drafts[from as usize].word)?;
+        let place = results[i];
+        let word = &words[place as usize];
+        words_are_stored(word);
+        let word = copied(alloc, word)?;
         let mut reads = Vec::new(alloc);
-        push(&mut reads, from)?;
-        let kind = ActorKind::Output(i as u32);
-        push(
-            drafts,
-            Draft {
-                kind,
-                word,
-                reads,
-                size: 0,
-                gives: Vec::new(alloc),
-            },
-        )?;
+        push(&mut reads, place - 1)?;
+        let next = Draft {
+            kind: ActorKind::Output(i as u32),
+            word,
+            reads,
+            size: 0,
+            gives: Vec::new(alloc),
+        };
+        keep(kept, next)?;
     }
     Ok(())
 }
@@ -82,7 +81,7 @@ fn all_bits(net: &Net) -> u64
     all
 }
 
-// The drafts of a program.
+// The drafts of a program. No more of their words are kept than are allowed.
 fn drafts(alloc: Global, program: Program<'_>, main: u32) -> Result<Vec<Draft>, FlatError>
     requires some { 0 < length program.placed.now.nodes }
     requires main { main ≡ last_of program.placed.now.nodes }
@@ -91,13 +90,19 @@ fn drafts(alloc: Global, program: Program<'_>, main: u32) -> Result<Vec<Draft>, 
     ensures ok { IfOk result (λ v. AreDrafts program.entry.placed.now.nodes program.entry.clocks.now v.items) }
     ensures small { IfOk result (λ v. IsSmall program.entry.placed.now.nodes program.entry.clocks.now) }
     ensures fits { IfOk result (λ v. IsClockTooLong program.entry.placed.now.nodes program.entry.clocks.now → ⊥) }
-    ensures refused { IfErr result (λ e. (e ≡ err.OutOfMemory) ⊎ ((e ≡ err.Limit lim.Word) × IsClockTooLong program.entry.placed.now.nodes program.entry.clocks.now)) }
+    ensures refused { IfErr result (RefusesDrafts program.entry.placed.now.nodes program.entry.clocks.now) }
 {
-    let mut drafts = Vec::new(alloc);
+    let mut kept = Kept {
+        drafts: Vec::new(alloc),
+        bits: 0,
+    };
     let base = always(alloc)?;
-    put_instance(alloc, program, main, &base, None, &mut drafts)?;
-    let results = program.placed.node(main).results.list();
-    put_outputs(alloc, program.placed, program.clocks, results, &mut drafts)?;
+    put_instance(alloc, program, main, &base, None, 0, &mut kept)?;
+    put_outputs(alloc, program, main, &mut kept)?;
+    let Kept { drafts, bits } = kept;
+    if bits > Limit::Bits.number() {
+        return Err(FlatError::Limit(Limit::Bits));
+    }
     Ok(drafts)
 }
 

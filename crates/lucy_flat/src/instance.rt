@@ -11,14 +11,16 @@ ghost use Rattle.lucy_flat.specs.Extents.{actors_in, AreSumsOf, HasSize, size_in
 ghost use Rattle.lucy_meaning.specs.Numbers.{number};
 ghost use Rattle.lucy_meaning.specs.Sizes.{size_of};
 ghost use Rattle.lucy_flat.specs.Flat.{actor_of};
-ghost use Rattle.lucy_flat.specs.Drafts.{IsProgram, IsAt, IsInstance, IsMade, IsFit, ArePut, ArePlacesPut};
-ghost use Rattle.lucy_flat.specs.Refusals.{IsClockTooLong};
+ghost use Rattle.lucy_flat.specs.Drafts.{IsProgram, IsAt, IsInstance, IsMade, IsFit, AreKept, ArePlacesKept, IsInstanceKept};
+ghost use Rattle.lucy_flat.specs.Refusals.{IsWordTooLong};
+ghost use Rattle.lucy_flat.specs.declared.draft.Draft.{Draft as One};
 ghost use Rattle.lucy_place.specs.declared.entry.PlaceKind.{PlaceKind as Kind};
 
 use crate::draft::Draft;
 use crate::error::FlatError;
 use crate::grow::push;
-use crate::words::{copied, sampled};
+use crate::kept::{Kept, keep};
+use crate::words::{copied, sampled, test_reads};
 use lucy_clock::NodeClock;
 use lucy_net::ActorKind;
 use lucy_place::{CallSite, PlaceKind, Placed, PlacedNode, literal_value};
@@ -173,10 +175,11 @@ fn draft_of(
     ensures ok { (path : List ℕ) (kind : Kind) → IsInstance program.entry.placed.now.nodes program.entry.clocks.now path of.entry →
         kind_at program.entry.placed.now.nodes (at path place) ≡ Some kind → IfOk result (IsMade program.entry.placed.now.nodes program.entry.clocks.now (at path place) kind) }
     ensures fits { (path : List ℕ) → IsInstance program.entry.placed.now.nodes program.entry.clocks.now path of.entry → IfOk result (λ d. IsFit program.entry.placed.now.nodes program.entry.clocks.now path place) }
-    ensures refused { IfErr result (λ e. (e ≡ err.OutOfMemory) ⊎ ((e ≡ err.Limit lim.Word) × IsClockTooLong program.entry.placed.now.nodes program.entry.clocks.now)) }
+    ensures refused { IfErr result (λ e. (e ≡ err.OutOfMemory) ⊎ ((e ≡ err.Limit lim.Word) × IsWordTooLong program.entry.placed.now.nodes program.entry.clocks.now)) }
 {
     let entry = &of.node.places.list()[place as usize - 1];
     let word = sampled(alloc, of.base, &of.clock.words.list()[place as usize])?;
+    test_reads(&entry.kind, &word)?;
     Ok(Draft {
         kind: kind(alloc, &entry.kind, place, of.caller.is_none())?,
         word,
@@ -212,44 +215,44 @@ fn put_places(
     alloc: Global,
     program: Program<'_>,
     of: Instance<'_>,
-    drafts: &mut Vec<Draft>,
+    kept: &mut Kept,
 ) -> Result<(), FlatError>
     requires program { IsProgram program.placed.now.nodes program.clocks.now program.sizes.now }
     requires of { (path : List ℕ) × IsInstance program.placed.now.nodes program.clocks.now path of }
     requires base { IsShortest of.base.now }
-    ensures ok { (path : List ℕ) → IsInstance program.entry.placed.now.nodes program.entry.clocks.now path of.entry →
-        OnOk result (ArePlacesPut program.entry.placed.now.nodes program.entry.clocks.now path (length of.entry.node.now.places) drafts.old.items drafts.new.items) }
-    ensures refused { IfErr result (λ e. (e ≡ err.OutOfMemory) ⊎ ((e ≡ err.Limit lim.Word) × IsClockTooLong program.entry.placed.now.nodes program.entry.clocks.now)) }
+    ensures ok { (path : List ℕ) (old : List One) → IsInstance program.entry.placed.now.nodes program.entry.clocks.now path of.entry → AreKept old kept.old →
+        OnOk result (ArePlacesKept program.entry.placed.now.nodes program.entry.clocks.now path (length of.entry.node.now.places) old kept.new) }
+    ensures refused { IfErr result (λ e. (e ≡ err.OutOfMemory) ⊎ ((e ≡ err.Limit lim.Word) × IsWordTooLong program.entry.placed.now.nodes program.entry.clocks.now)) }
 {
     let count = of.node.places.list().len();
     'each: for i in 0..count {
         let next = draft_of(alloc, program, of, i as u32 + 1)?;
-        push(drafts, next)?;
+        keep(kept, next)?;
     }
     Ok(())
 }
 
-/// Puts the drafts of the instance of a node, and of those inside it.
+/// Puts the drafts of the instance of a node that begins there, and of those inside it.
 pub fn put_instance(
     alloc: Global,
     program: Program<'_>,
     node: u32,
     base: &Word,
     caller: Option<Caller<'_>>,
-    drafts: &mut Vec<Draft>,
+    begin: u32,
+    kept: &mut Kept,
 ) -> Result<(), FlatError>
     requires program { IsProgram program.placed.now.nodes program.clocks.now program.sizes.now }
     requires node { node < length program.placed.now.nodes }
-    requires at { (path : List ℕ) × IsAt program.placed.now.nodes program.clocks.now path node (length drafts.old.items) base.now caller }
+    requires at { (path : List ℕ) × IsAt program.placed.now.nodes program.clocks.now path node begin base.now caller }
     requires base { IsShortest base.now }
-    requires few { length drafts.old.items + size_of program.placed.now.nodes node < 2 ^ 32 }
-    ensures ok { (path : List ℕ) → IsAt program.entry.placed.now.nodes program.entry.clocks.now path node (length drafts.old.items) base.now caller.entry →
-        OnOk result (ArePut program.entry.placed.now.nodes program.entry.clocks.now path node drafts.old.items drafts.new.items) }
-    ensures refused { IfErr result (λ e. (e ≡ err.OutOfMemory) ⊎ ((e ≡ err.Limit lim.Word) × IsClockTooLong program.entry.placed.now.nodes program.entry.clocks.now)) }
+    requires few { begin + size_of program.placed.now.nodes node < 2 ^ 32 }
+    ensures ok { (path : List ℕ) (old : List One) → IsAt program.entry.placed.now.nodes program.entry.clocks.now path node begin base.now caller.entry → AreKept old kept.old →
+        OnOk result (IsInstanceKept program.entry.placed.now.nodes program.entry.clocks.now path node old kept.new) }
+    ensures refused { IfErr result (λ e. (e ≡ err.OutOfMemory) ⊎ ((e ≡ err.Limit lim.Word) × IsWordTooLong program.entry.placed.now.nodes program.entry.clocks.now)) }
 {
     let found = program.placed.node(node);
     let clock = &program.clocks[node as usize];
-    let begin = drafts.len() as u32;
     let places = found.places.list().len();
     let sites = found.calls.list();
     let inner = begins(alloc, program.sizes, begin + places as u32, sites)?;
@@ -261,7 +264,7 @@ pub fn put_instance(
         begin,
         inner: &inner,
     };
-    put_places(alloc, program, of, drafts)?;
+    put_places(alloc, program, of, kept)?;
     'calls: for i in 0..sites.len() {
         let site = &sites[i];
         let base = sampled(alloc, base, &clock.words.list()[places + 1 + i])?;
@@ -269,7 +272,7 @@ pub fn put_instance(
             begin,
             args: site.args.list(),
         });
-        put_instance(alloc, program, site.node, &base, caller, drafts)?;
+        put_instance(alloc, program, site.node, &base, caller, of.inner[i], kept)?;
     }
     Ok(())
 }

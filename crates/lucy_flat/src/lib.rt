@@ -6,8 +6,8 @@
 //! program is, it is the only one, and it is as large as its program says.
 //!
 //! First the net is counted (`extent.rt`), so that nothing is built past a limit. Then each instance in order puts the drafts of
-//! its actors (`instance.rt`, by a recursion on nodes), and the drafts are assembled to actors and rings (`assemble.rt`), of
-//! which no more are held than are allowed (`held.rt`).
+//! its actors (`instance.rt`, by a recursion on nodes), and the drafts are assembled to actors and rings (`assemble.rt`). Of
+//! drafts and of rings no more are in memory than Bits allows (`kept.rt`, `held.rt`).
 #![tactic(auto)]
 
 mod assemble;
@@ -18,6 +18,7 @@ mod flattening;
 mod grow;
 mod held;
 mod instance;
+mod kept;
 mod laws;
 mod words;
 

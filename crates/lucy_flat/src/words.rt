@@ -1,14 +1,17 @@
 // Words on words.
-ghost use Rattle.std.specs.Prelude.{◌≡◌, ◌⊎◌, ◌≤◌, IfOk, IfErr};
+ghost use Rattle.std.specs.Prelude.{◌≡◌, ◌⊎◌, ◌≤◌, IfOk, IfErr, OnOk};
 ghost use Rattle.lucy_tree.specs.Shaped.{HasZero};
 ghost use Rattle.lucy_word.specs.Bits.{bit_count};
 ghost use Rattle.lucy_word.specs.Complement.{turned as turned_word};
 ghost use Rattle.lucy_word.specs.Stored.{IsStored};
 ghost use Rattle.lucy_word.specs.Sampling.{IsOn, IsOnTooLong};
 ghost use Rattle.lucy_word.specs.declared.limit.Limit.TheVariants as lim;
+ghost use Rattle.lucy_clock.specs.HandedDown.{HandsTooLong};
 ghost use Rattle.lucy_flat.specs.declared.error.FlatError.TheVariants as err;
 
 use crate::error::FlatError;
+use lucy_clock::test_handed;
+use lucy_place::PlaceKind;
 use lucy_word::{Limit, Word, WordError, complement, on};
 use std::alloc::Global;
 
@@ -45,6 +48,17 @@ pub fn turned(alloc: Global, word: &Word) -> Result<Word, FlatError>
         Ok(turned) => Ok(turned),
         Err(WordError::OutOfMemory) => Err(FlatError::OutOfMemory),
         Err(_) => unreachable!(),
+    }
+}
+
+/// Tests that no word on which a place of a kind takes is too long, where this is its own; none is made.
+pub fn test_reads(kind: &PlaceKind, own: &Word) -> Result<(), FlatError>
+    ensures ok { OnOk result (HandsTooLong kind.now own.now → ⊥) }
+    ensures refused { IfErr result (λ e. (e ≡ err.Limit lim.Word) × HandsTooLong kind.now own.now) }
+{
+    match test_handed(kind, own) {
+        Ok(()) => Ok(()),
+        Err(_) => Err(FlatError::Limit(Limit::Word)),
     }
 }
 

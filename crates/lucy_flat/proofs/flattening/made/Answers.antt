@@ -1,13 +1,14 @@
 use Rattle.std.proofs.Common.{◌≡◌, refl, inl, inr, arith}
 use Rattle.lucy_flat.specs.declared.error.FlatError.TheVariants as err
 use Rattle.lucy_word.specs.declared.limit.Limit.TheVariants as lim
-use Rattle.lucy_flat.specs.Refusals.{RefusesFlat, IsClockTooLong}
+use Rattle.lucy_flat.specs.Refusals.{RefusesFlat}
+use Rattle.lucy_flat.specs.Drafts.{RefusesDrafts}
 use Rattle.std.specs.Prelude.{◌⊎◌}
 use Rattle.lucy_flat.specs.Assembly.{IsReadTooLong, IsNetPast}
 use Rattle.lucy_flat.proofs.AssemblyLaws.{leaves}
 use Rattle.lucy_flat.proofs.FlatLaws.{ready}
 use Rattle.lucy_flat.proofs.NetLaws.{flat_net, actors_few, rings_few}
-use Rattle.lucy_flat.proofs.TopLaws.{refuses_clock, refuses_net}
+use Rattle.lucy_flat.proofs.TopLaws.{refuses_drafts, refuses_net}
 use Rattle.lucy_flat.proofs.flattening.made.Goals as goal
 
 pub returns-in-Some-clause-refused : goal.returns-in-Some-clause-refused
@@ -17,9 +18,9 @@ pub returns-in_err-drafts-clause-refused : goal.returns-in_err-drafts-clause-ref
 returns-in_err-drafts-clause-refused c =
     let nodes = c.args.placed.now.nodes in
     let clocks = c.args.clocks.now in
-    leaves (λ e. (e ≡ err.OutOfMemory) ⊎ ((e ≡ err.Limit lim.Word) × IsClockTooLong nodes clocks)) (RefusesFlat nodes clocks) _
+    leaves (RefusesDrafts nodes clocks) (RefusesFlat nodes clocks) _
     c.from_residual.result c.from_residual.ensures.1 c.in_err-drafts.ensures.refused
-    (λ e why. refuses_clock nodes clocks e (c.passed.ensures.kept c.in_default.is) why)
+    (λ e why. refuses_drafts nodes clocks c.nodes-main.ensures.proper c.requires e (c.passed.ensures.kept c.in_default.is) why)
 
 pub assemble-requires : goal.assemble-requires
 assemble-requires c = ready c.args.placed.now.nodes c.args.clocks.now c.nodes-main.ensures.proper c.requires c.in_ok-drafts.field-0.items c.in_ok-drafts.ensures.ok c.in_ok-drafts.ensures.small

@@ -1,5 +1,5 @@
-use Rattle.std.proofs.Common.{◌≡◌, ◌+◌, ap, subst, length, arith}
-use Rattle.lucy_flat.specs.Drafts.{ArePlacesPut}
+use Rattle.std.proofs.Common.{◌≡◌, ◌+◌, ◌++◌, ◌∷◌, [], ap, refl, subst, length, arith}
+use Rattle.lucy_flat.specs.Drafts.{ArePlacesKept}
 use Rattle.lucy_meaning.proofs.Closed.{place_spot}
 use Rattle.lucy_flat.proofs.InstanceLaws.{found_at, places_few}
 use Rattle.lucy_flat.proofs.MadeLaws.{places_none, places_more}
@@ -13,7 +13,7 @@ overflow_cast-i c =
     omega arith
 
 pub each-init : goal.each-init
-each-init c = λ path is. places_none c.args.program.placed.now.nodes c.args.program.clocks.now path c.args.drafts.now.items
+each-init c = λ path old is keeps. record { new = old; put = places_none c.args.program.placed.now.nodes c.args.program.clocks.now path old; keeps = keeps }
 
 pub overflow_add-i : goal.overflow_add-i
 overflow_add-i c =
@@ -23,19 +23,25 @@ overflow_add-i c =
     omega arith
 
 pub each-preserved : goal.each-preserved
-each-preserved c = λ path is.
+each-preserved c = λ path old is keeps.
     let nodes = c.args.program.placed.now.nodes in
     let clocks = c.args.program.clocks.now in
     let low = c.each-test.true in
     let count = ap length c.list-count.ensures in
     let spot = place_spot nodes path c.args.of.node.now (c.each.i + 1) (found_at nodes clocks c.requires.program.proper path c.args.of is) (omega arith, omega arith) in
-    places_more nodes clocks path c.each.i c.args.drafts.now.items c.each.drafts.items c.push.new.list.items c.in_ok-next.next (c.each.invariant path is) c.in_ok-push.ensures.ok
-    (record { kind = spot.0; stands = spot.1; made = c.in_ok-next.ensures.ok path spot.0 is spot.1 }) (c.in_ok-next.ensures.fits path is)
+    let before = c.each.invariant path old is keeps in
+    let next = c.in_ok-next.next in
+    record {
+      new = before.new ++ next ∷ [];
+      put = places_more nodes clocks path c.each.i old before.new (before.new ++ next ∷ []) next before.put refl
+          (record { kind = spot.0; stands = spot.1; made = c.in_ok-next.ensures.ok path spot.0 is spot.1 }) (c.in_ok-next.ensures.fits path is);
+      keeps = c.in_ok-keep.ensures.ok before.new before.keeps;
+    }
 
 pub returns-clause-ok : goal.returns-clause-ok
-returns-clause-ok c = λ path is.
+returns-clause-ok c = λ path old is keeps.
     let count = ap length c.list-count.ensures in
     let high = c.each-test.false in
     let end = c.each.auto.i-end in
     let same : c.each.i ≡ length c.args.of.node.now.places = omega arith in
-    subst (λ n. ArePlacesPut c.args.program.placed.now.nodes c.args.program.clocks.now path n c.args.drafts.now.items c.each.drafts.items) same (c.each.invariant path is)
+    subst (λ n. ArePlacesKept c.args.program.placed.now.nodes c.args.program.clocks.now path n old c.each.kept) same (c.each.invariant path old is keeps)

@@ -1,0 +1,32 @@
+// Drafts of which no more are kept than are allowed.
+ghost use Rattle.std.specs.Prelude.{List, ◌≡◌, ◌∷◌, ◌++◌, [], OnOk, IfErr};
+ghost use Rattle.lucy_flat.specs.declared.draft.Draft.{Draft as One};
+ghost use Rattle.lucy_flat.specs.declared.error.FlatError.TheVariants as err;
+ghost use Rattle.lucy_flat.specs.Drafts.{AreKept};
+
+use crate::draft::Draft;
+use crate::error::FlatError;
+use crate::grow::push;
+use crate::words::bits;
+use lucy_word::{Limit, words_are_stored};
+
+/// Of the drafts of a program, in order, those that are kept: all, until the words of all have together more bits than are allowed.
+#[derive(Drop)]
+pub struct Kept {
+    pub drafts: Vec<Draft>,
+    /// The bits of the words of all drafts, those that aren't kept among them.
+    pub bits: u64,
+}
+
+/// Keeps one draft more, unless the words of all have with its own more bits than are allowed.
+pub fn keep(kept: &mut Kept, next: Draft) -> Result<(), FlatError>
+    ensures ok { (drafts : List One) → AreKept drafts kept.old → OnOk result (AreKept (drafts ++ next ∷ []) kept.new) }
+    ensures refused { IfErr result (λ e. e ≡ err.OutOfMemory) }
+{
+    words_are_stored(&next.word);
+    kept.bits = kept.bits.saturating_add(bits(&next.word));
+    if kept.bits > Limit::Bits.number() {
+        return Ok(());
+    }
+    push(&mut kept.drafts, next)
+}
