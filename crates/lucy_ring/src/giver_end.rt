@@ -28,7 +28,7 @@ pub(crate) struct GiverEnd {
 }
 
 impl GiverEnd {
-    ghost use Rattle.std.specs.Prelude.{◌≡◌, ◌+◌, ◌<◌, ◌≤◌, [], ◌∷◌, ◌++◌, length, vec_len, vec_capacity, IfErr, OnOk, OnErr, IsOk};
+    ghost use Rattle.std.specs.Prelude.{◌≡◌, ◌+◌, ◌<◌, ◌≤◌, [], ◌∷◌, ◌++◌, length, vec_len, vec_capacity, IfErr, OnOk, OnErr, IsOk, IsTrue};
     ghost use Rattle.rtrb.specs.Ring.{sent, producer_capacity, received, IsPair, SameProducer, SameConsumer};
     ghost use Rattle.lucy_word.specs.Limits.{limit_number};
     ghost use Rattle.lucy_word.specs.declared.limit.Limit.TheVariants as limit;
@@ -104,6 +104,13 @@ impl GiverEnd {
             Ok(()) => self.free -= 1,
             Err(_) => unreachable!(),
         }
+    }
+
+    // Whether nothing was given since the last meeting, and no number fetched.
+    pub(crate) fn is_still(&self) -> bool
+        ensures { IsTrue result → (self.now.pushed ≡ 0) × (self.now.fetched ≡ 0) × (self.now.side.items ≡ []) }
+    {
+        self.pushed == 0 && self.fetched == 0 && self.side.is_empty()
     }
 
     // Throws away the numbers that came back, and counts anew from what the taker holds.

@@ -8,7 +8,7 @@ use crate::taker::Taker;
 use crate::taker_end::TakerEnd;
 
 /// Lets the two ends of one ring see each other: both then know all items that are held and all slots that are free. It
-/// moves every held item once.
+/// moves every held item once, and none where nothing was given or taken since the last meeting.
 pub fn meet(giver: &mut Giver, taker: &mut Taker)
     requires ends { giver.old.ring ≡ taker.old.ring }
     ensures ends { giver.new.ring ≡ taker.new.ring }
@@ -46,6 +46,9 @@ fn bring_together(giver: &mut GiverEnd, taker: &mut TakerEnd)
     ensures anew { (given giver.new ≡ []) × (taken taker.new ≡ []) × (taker.new.returned ≡ 0) }
     ensures capacity { (producer_capacity giver.new.items ≡ producer_capacity giver.old.items) × (consumer_capacity giver.new.numbers ≡ consumer_capacity giver.old.numbers) }
 {
+    if giver.is_still() && taker.is_still() {
+        return;
+    }
     look(giver, taker);
     taker.gather(&mut giver.items, giver.side.as_slice());
     let held = taker.side.len() as u32;

@@ -23,10 +23,12 @@ pub(crate) struct TakerEnd {
     ghost stored: { (place ≤ vec_len side) × (vec_len side ≤ consumer_capacity items) × (consumer_capacity items ≤ vec_capacity side) },
     ghost in_turn: { place < vec_len side → popped ≡ 0 },
     ghost few: { returned ≤ place + popped },
+    // what is seen in the ring is taken at once, or held from the meeting on
+    ghost still: { place ≡ 0 → popped ≡ 0 → known_items items ≡ [] },
 }
 
 impl TakerEnd {
-    ghost use Rattle.std.specs.Prelude.{◌≡◌, ◌⊎◌, ◌+◌, ◌-◌, ◌<◌, ◌≤◌, [], ◌∷◌, ◌++◌, length, take, drop, vec_len, vec_capacity, IfSome, IfNone, IsSome};
+    ghost use Rattle.std.specs.Prelude.{◌≡◌, ◌⊎◌, ◌+◌, ◌-◌, ◌<◌, ◌≤◌, [], ◌∷◌, ◌++◌, length, take, drop, vec_len, vec_capacity, IfSome, IfNone, IsSome, IsTrue};
     ghost use mathlib.Core.List.{IsPrefix};
     ghost use Rattle.rtrb.specs.Ring.{sent, received, known_items, consumer_capacity, IsPair, SameProducer, SameConsumer};
     ghost use Rattle.lucy_word.specs.Limits.{limit_number};
@@ -37,6 +39,7 @@ impl TakerEnd {
     pub(crate) fn new(items: Consumer<i64>, numbers: Producer<u8>, side: Vec<i64>) -> TakerEnd
         requires capacity { (1 ≤ consumer_capacity items) × (consumer_capacity items ≤ limit_number limit.Slots) }
         requires side { (side.items ≡ []) × (vec_capacity side ≡ consumer_capacity items) }
+        requires none { known_items items ≡ [] }
         ensures parts { (result.items ≡ items) × (result.numbers ≡ numbers) × (result.side ≡ side) }
         ensures counts { (result.place ≡ 0) × (result.popped ≡ 0) × (result.returned ≡ 0) }
     {
@@ -122,6 +125,13 @@ impl TakerEnd {
         if self.numbers.push(0).is_ok() {
             self.returned += 1;
         }
+    }
+
+    // Whether nothing was taken since the last meeting.
+    pub(crate) fn is_still(&self) -> bool
+        ensures { IsTrue result → (self.now.place ≡ 0) × (self.now.popped ≡ 0) }
+    {
+        self.place == 0 && self.popped == 0
     }
 
     // Holds from now on what is left of what it held, then all that is in the ring, then `more`.
