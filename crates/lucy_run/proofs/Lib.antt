@@ -8,7 +8,7 @@ mod CourseLaws
 mod WriteLaws
 mod OverLaws
 pub mod AcceptedLaws
-mod EndsLaws
+pub mod EndsLaws
 mod EngineLaws
 mod RunLaws
 pub mod ReplayLaws

@@ -12,7 +12,7 @@ use std::alloc::Global;
 
 /// How many instants what main is fed allows, and how the run ends behind them.
 #[derive(Drop)]
-pub(crate) struct Extent {
+pub struct Extent {
     /// The horizon, in instants.
     pub horizon: u64,
     /// How the run ends where its output is whole.
@@ -20,7 +20,7 @@ pub(crate) struct Extent {
 }
 
 /// How far the items of main's inputs, of these words, carry a run for which these instants are given. Their reading stopped so.
-pub(crate) fn extent_of(
+pub fn extent_of(
     alloc: Global,
     words: &[Word],
     given: Option<u64>,

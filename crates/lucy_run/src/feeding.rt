@@ -13,7 +13,7 @@ use lucy_word::OutOfMemory;
 use std::alloc::Global;
 
 /// The items of main's inputs. Where it has none the source is left alone.
-pub(crate) fn main_feed<I: Source>(
+pub fn main_feed<I: Source>(
     alloc: Global,
     inputs: Vec<InputSpec>,
     source: &mut I,

@@ -2,9 +2,9 @@
 //! source and a sink.
 //!
 //! It stands on `lucy_front` for accepted programs and their report, on `lucy_feed` for the items of the input, on `lucy_execution`
-//! for the streams of the results, on `lucy_output` for their lines and on `lucy_tracing` for those of a trace. `course.rt` takes the input and the program through the blocks
-//! of a run, whatever becomes of the results. Begin with `specs/Owes.antt`, which says what stands on the output and how a run ends,
-//! and with `run` in `running.rt`.
+//! for the streams of the results, on `lucy_output` for their lines and on `lucy_tracing` for those of a trace. `course.rt` takes the
+//! input and the program through the blocks of a run, whatever becomes of the results. Begin with `specs/Owes.antt`, which says what
+//! stands on the output and how a run ends, and with `run` in `running.rt`.
 #![tactic(auto)]
 
 mod copying;
@@ -26,6 +26,8 @@ pub use copying::copy_net;
 pub use course::Course;
 pub use ending::Ending;
 pub use engine::{ClosureEngine, Engine};
+pub use extent::{Extent, extent_of};
+pub use feeding::main_feed;
 pub use interpreting::kahn;
 pub use laws::{
     faultless_runs_are_done, one_interpretation, one_replay, one_run, one_trace,
