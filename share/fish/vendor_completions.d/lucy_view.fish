@@ -1,0 +1,15 @@
+# Completion of the words of lucy_view for fish.
+complete -c lucy_view -f
+complete -c lucy_view -n __fish_use_subcommand -a time -d 'when streams have items'
+complete -c lucy_view -n __fish_use_subcommand -a net -d 'what feeds what'
+complete -c lucy_view -n __fish_use_subcommand -a wave -d 'a run as a value change dump'
+complete -c lucy_view -n __fish_use_subcommand -a where -d 'the line of an offset or of a place'
+complete -c lucy_view -n __fish_use_subcommand -a page -d 'all pictures on a page'
+complete -c lucy_view -n '__fish_seen_subcommand_from time net wave where page' -k -a '(__fish_complete_suffix .lucy)'
+complete -c lucy_view -n '__fish_seen_subcommand_from time net wave page' -l scale -x -d 'periods as one'
+complete -c lucy_view -n '__fish_seen_subcommand_from time net wave page' -l lead -x -d 'free periods'
+complete -c lucy_view -n '__fish_seen_subcommand_from time wave page' -l instants -x -d 'so many'
+complete -c lucy_view -n '__fish_seen_subcommand_from time' -l svg -d 'as SVG'
+complete -c lucy_view -n '__fish_seen_subcommand_from net' -l flat -d 'with calls written out'
+complete -c lucy_view -n '__fish_seen_subcommand_from wave' -l workers -x -d 'as run has it'
+complete -c lucy_view -n '__fish_seen_subcommand_from wave' -l block -x -d 'as run has it'
