@@ -1,7 +1,6 @@
 -- The inputs of a program's flat net are main's parameters.
-use Rattle.std.proofs.Common.{ℕ, suc, zero, ◌+◌, ◌-◌, ◌<◌, ◌≤◌, ◌≡◌, List, [], ◌∷◌, Option, Some, None, length, map, ap, sym, refl, ◌∙◌, subst, inl, inr, arith, cond}
+use Rattle.std.proofs.Common.{ℕ, suc, zero, ◌<◌, ◌≤◌, ◌≡◌, List, [], ◌∷◌, Option, Some, None, length, ap, sym, refl, ◌∙◌, subst, arith, cond}
 use Rattle.std.specs.Prelude.{ℤ, slice_get}
-use Rattle.std.specs.List.{range_with_len}
 use Rattle.std.proofs.lemmas.List.FromFn.{fill_by_all}
 use Rattle.std.proofs.lemmas.Option.{same_Some}
 use Rattle.lucy_stream.specs.Items.{list_at}
@@ -13,14 +12,14 @@ use Rattle.lucy_clock.specs.declared.node_clock.NodeClock.{NodeClock}
 use Rattle.lucy_net.specs.declared.kind.ActorKind.TheVariants as actor_kind
 use Rattle.lucy_net.specs.declared.net.Actor.{Actor}
 use Rattle.lucy_net.specs.declared.net.Net.{Net}
-use Rattle.lucy_meaning.specs.Spots.{Spot, at, main_of, kind_at, spot_form, param_form}
+use Rattle.lucy_meaning.specs.Spots.{Spot, at, main_of, kind_at, spot_form}
 use Rattle.lucy_meaning.proofs.Parts.{kind_in}
 use Rattle.lucy_meaning.proofs.Paths.{is_at, kind_there, proper_at}
 use Rattle.lucy_kahn.specs.Turns.{params_in}
 use Rattle.lucy_flat.specs.Flat.{actor_of, IsFlat}
 use Rattle.lucy_runner.specs.Views.{after_input, input_count, input_for, inputs_for}
 use Rattle.lucy_runner.proofs.InputLaws.{read_here, counted_here}
-use Rattle.lucy_execution.proofs.NetLaws.{IsParam, main_param, each_actor}
+use Rattle.lucy_execution.proofs.NetLaws.{main_param, each_actor}
 
 -- a kind that stands no later than the parameters is a parameter
 only_param : (n : PlacedNode) (p : ℕ) (kind : PlaceKind) → p ≤ n.params → IsProperKind n p kind → kind ≡ place_kind.Param

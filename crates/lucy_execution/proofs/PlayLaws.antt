@@ -1,5 +1,5 @@
 -- A program that is run from horizon to horizon.
-use Rattle.std.proofs.Common.{ℕ, ◌≤◌, ◌≡◌, List, length, ap, sym, ◌∙◌, subst, arith}
+use Rattle.std.proofs.Common.{ℕ, ◌≡◌, List, length, ap, sym, ◌∙◌, subst}
 use Rattle.std.specs.Prelude.{ℤ, Result, Ok, Err, IfOk}
 use Rattle.lucy_host.specs.declared.kind.HostKind.{HostKind}
 use Rattle.lucy_place.specs.declared.placed.PlacedNode.{PlacedNode}
@@ -13,7 +13,7 @@ use Rattle.lucy_net.specs.Proper.{IsSupplied}
 use Rattle.lucy_meaning.specs.Horizons.{Suffice}
 use Rattle.lucy_flat.specs.Flat.{IsFlat}
 use Rattle.lucy_core.specs.Seen.{Seen, IsOver, after_picks}
-use Rattle.lucy_runner.specs.Views.{RunnerView, first_runner, input_count, inputs_for}
+use Rattle.lucy_runner.specs.Views.{RunnerView, first_runner, inputs_for}
 use Rattle.lucy_runner.specs.Blocks.{longer_inputs, grown_seen}
 use Rattle.lucy_execution.specs.Streams.{param_words, main_streams, later_streams}
 use Rattle.lucy_execution.specs.Playing.{PlayerView, played, IsPlayed, joined}

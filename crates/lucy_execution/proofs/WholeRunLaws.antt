@@ -1,10 +1,10 @@
 -- What a run of all events of a program's flat net leads to.
-use Rattle.std.proofs.Common.{ℕ, suc, ◌+◌, ◌<◌, ◌≤◌, ◌≡◌, Bool, true, false, List, [], ◌∷◌, length, map, get_or, ap, ap₂, sym, refl, ◌∙◌, arith}
+use Rattle.std.proofs.Common.{ℕ, suc, ◌+◌, ◌<◌, ◌≡◌, Bool, true, false, List, [], ◌∷◌, length, map, get_or, ap, ap₂, sym, refl, ◌∙◌, arith}
 use Rattle.std.specs.Prelude.{ℤ, nat_le, nat_lt, ◌&&◌, if◌then◌else◌}
 use Rattle.std.proofs.lemmas.Bool.{ltb-true}
 use Rattle.std.proofs.lemmas.List.{length-map, length-replicate}
 use Rattle.lucy_host.specs.Operators.{Operator, kinds_of}
-use Rattle.lucy_event.specs.Runs.{step, none_done, after, between_from, IsWhole}
+use Rattle.lucy_event.specs.Runs.{step, none_done, between_from, IsWhole}
 use Rattle.lucy_event.specs.States.{State, start, events}
 use Rattle.lucy_event.proofs.AlikeLaws.{IsRun-same, after-same}
 use Rattle.lucy_event.proofs.CountedLaws.{within_later, none_within}

@@ -1,24 +1,21 @@
 -- What the replay of a log comes to.
-use Rattle.std.proofs.Common.{◌≡◌, ℕ, ◌+◌, ◌<◌, ◌≤◌, ◌⊎◌, Bool, true, false, List, [], ◌∷◌, ◌++◌, length, take, map, Option, Some, None, Result, Ok, Err, refl, ap, ap₂, sym, ◌∙◌, subst, inl, inr, arith}
-use Rattle.std.specs.Prelude.{ℤ, codes, nat_le, nat_lt, ◌&&◌, if◌then◌else◌, slice_get, decimal}
+use Rattle.std.proofs.Common.{◌≡◌, ℕ, ◌+◌, ◌≤◌, List, ◌++◌, length, take, Option, Some, None, Result, Ok, Err, refl, ap, sym, ◌∙◌, subst, inl, inr, arith}
+use Rattle.std.specs.Prelude.{ℤ, codes, decimal}
 use Rattle.std.proofs.lemmas.List.{take_all}
 use Rattle.std.proofs.lemmas.Option.{slice_get_within}
-use Rattle.std.proofs.lemmas.Bool.{ltb-true}
 use Rattle.lucy_word.specs.Bits.{Bits}
 use Rattle.lucy_word.specs.declared.error.OutOfMemory.{OutOfMemory}
 use Rattle.lucy_host.specs.Operators.{Operator}
-use Rattle.lucy_lines.specs.Fronts.{most_bytes}
 use Rattle.lucy_lines.specs.Laws.{OneCut, CutInPieces}
 use Rattle.lucy_lines.specs.declared.reader.TextFault.{TextFault}
 use Rattle.lucy_feed.specs.declared.feeds.Feed.{Feed}
-use Rattle.lucy_feed.specs.Sources.{Stop, Read}
-use Rattle.lucy_feed.specs.Feeding.{IsAsked, OneFeed}
-use Rattle.lucy_text.specs.Outside.{SeenSource, SeenSink, Writes, Fails}
-use Rattle.lucy_event.specs.Runs.{IsRun, none_done, step, between_from}
+use Rattle.lucy_feed.specs.Sources.{Stop}
+use Rattle.lucy_feed.specs.Feeding.{OneFeed}
+use Rattle.lucy_text.specs.Outside.{SeenSink, Writes, Fails}
+use Rattle.lucy_event.specs.Runs.{IsRun}
 use Rattle.lucy_event.specs.States.{State, IsSame, start, events}
 use Rattle.lucy_event.proofs.JoinedLaws.{length_longest}
-use Rattle.lucy_net.specs.declared.net.Actor.{Actor}
-use Rattle.lucy_core.specs.Seen.{Seen, CanRun, IsOver, IsUnbegun, after_picks, machine_of, order_of, done_of, state_of, state_on, first_ring, first_seen}
+use Rattle.lucy_core.specs.Seen.{Seen, CanRun, IsUnbegun, after_picks, machine_of, done_of, state_of}
 use Rattle.lucy_trace.specs.Logs.{possible_of, IsFirstImpossible}
 use Rattle.lucy_trace.specs.declared.error.TraceError.{TraceError}
 use Rattle.lucy_trace.specs.declared.error.TraceError.TheVariants.{NotPossible}
@@ -39,8 +36,8 @@ use Rattle.lucy_run.specs.declared.ending.Ending.TheVariants as ending
 use Rattle.lucy_run.specs.Feeds.{IsMainFeed}
 use Rattle.lucy_run.specs.Owes.{input_words, IsHorizonOf, EndsFor, IsFed}
 use Rattle.lucy_run.specs.Replays.{first_core, SaysOver, IsTally, IsReplayText, Judges, OwesReplay}
-use Rattle.lucy_run.specs.Ends.{EndsWith, EndsReplay}
-use Rattle.lucy_run.specs.Laws.{IsFedWell, CompleteReplay}
+use Rattle.lucy_run.specs.Ends.{EndsReplay}
+use Rattle.lucy_run.specs.Laws.{CompleteReplay}
 use Rattle.lucy_run.specs.Steps.{IsWhole, LeavesOwed, LeavesJudged, IsPrinted}
 use Rattle.lucy_run.proofs.OwesLaws.{OneHorizon, fed_once, ends_once, carried, done_for}
 use Rattle.lucy_run.proofs.WholeLaws.{owed_so}

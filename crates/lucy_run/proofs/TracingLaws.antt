@@ -179,9 +179,12 @@ replayed ops a given taken stop output end lists fault horizon rounds fed is end
     let lines : List ℕ = lines_to (kinds_of ops) a lists horizon in
     let tally : List ℕ = finished_tally (length picks) in
     let small : All (λ p. p < 2 ^ 32) picks = λ k d l. omega (arith, leads.actors k d l, few) in
-    let printed : IsReplayText (first_core ops a lists horizon) a.placed.nodes a.outputs.items picks (tally ++ lines) =
-    (tally, (codes "finished\n", inl (leads.over, refl), refl), ap (λ ls. tally ++ output_text a.outputs.items ls horizon)
-    (sym leads.taken)) in (
+    let printed : IsReplayText (first_core ops a lists horizon) a.placed.nodes a.outputs.items picks (tally ++ lines) = (
+      tally,
+      (codes "finished\n", inl (leads.over, refl), refl),
+      ap (λ ls. tally ++ output_text a.outputs.items ls horizon)
+          (sym leads.taken),
+    ) in (
       picks,
       lines,
       subst (λ (t : List ℕ). AreRead (picks_of t) picks) (sym is) (logs rounds small),

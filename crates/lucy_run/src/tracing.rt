@@ -145,15 +145,7 @@ fn trace_net<F: Fn(u32, i64, i64) -> i64 + Sync, O: Sink>(
         Ok(core) => core,
         Err(_) => return Ending::OutOfMemory,
     };
-    match new_runner(
-        alloc,
-        net,
-        schedule,
-        inputs,
-        host.ops(),
-        horizon,
-        workers,
-    ) {
+    match new_runner(alloc, net, schedule, inputs, host.ops(), horizon, workers) {
         Ok(mut runner) => trace_pair(alloc, &mut runner, &mut core, host, ending, out),
         Err(_) => Ending::OutOfMemory,
     }

@@ -1,6 +1,3 @@
-use Rattle.std.proofs.Common.{ap, ◌∙◌}
-use Rattle.lucy_host.specs.Operators.{kinds_of}
-use Rattle.lucy_runner.specs.Views.{RunnerView}
 use Rattle.lucy_execution.proofs.PlayLaws.{played_first, first_is}
 use Rattle.lucy_execution.proofs.running.run_core.Goals as goal
 

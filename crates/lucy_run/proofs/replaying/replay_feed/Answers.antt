@@ -1,5 +1,4 @@
-use Rattle.std.proofs.Common.{◌≡◌, ◌≤◌, ℕ, List, length, ap, sym, refl, ◌∙◌, subst, arith}
-use Rattle.std.specs.Prelude.{ℤ}
+use Rattle.std.proofs.Common.{◌≤◌, List, length, ap, sym, refl, ◌∙◌, subst, arith}
 use Rattle.lucy_word.specs.Bits.{Bits}
 use Rattle.lucy_host.specs.Host.{lent}
 use Rattle.lucy_host.specs.Operators.{Operator}
@@ -7,7 +6,7 @@ use Rattle.lucy_core.specs.Seen.{Seen, IsFixed, done_of, first_seen}
 use Rattle.lucy_execution.specs.Streams.{param_words}
 use Rattle.lucy_execution.proofs.StreamLaws.{params_count}
 use Rattle.lucy_execution.proofs.OutputLaws.{first_unbegun}
-use Rattle.lucy_run.specs.Owes.{most_instants, IsHorizonOf, EndsFor}
+use Rattle.lucy_run.specs.Owes.{most_instants, IsHorizonOf}
 use Rattle.lucy_run.specs.Replays.{Judges}
 use Rattle.lucy_run.specs.Steps.{LeavesJudged}
 use Rattle.lucy_run.proofs.HorizonLaws.{some_horizon, few_most}
