@@ -1,0 +1,47 @@
+-- What is known of the calls of a node.
+use Rattle.std.proofs.Common.{ℕ, ◌+◌, ◌≡◌, ◌<◌, List, Some, length, take, sym, ap, ◌∙◌, subst, arith}
+use Rattle.std.specs.Prelude.{slice_get}
+use Rattle.std.proofs.lemmas.Option.{slice_get_within}
+use Rattle.lucy_place.specs.declared.entry.CallSite.{CallSite}
+use Rattle.lucy_place.specs.declared.entry.PlaceKind.TheVariants.{Result}
+use Rattle.lucy_place.specs.declared.placed.PlacedNode.{PlacedNode}
+use Rattle.lucy_place.specs.Standing.{at_one, Stands}
+use Rattle.lucy_place.specs.Proper.{IsProperNode}
+use Rattle.lucy_types.proofs.ListLaws.{taken}
+use Rattle.lucy_clock.specs.Clocks.{call_clock}
+use Rattle.lucy_diagram.specs.declared.call.DrawnCall.{DrawnCall}
+use Rattle.lucy_diagram.specs.Diagrams.{IsDrawnCall}
+
+module _ (nodes : List PlacedNode) (i : ℕ) (n : PlacedNode) (k : ℕ) (site : CallSite) (proper : IsProperNode (take i nodes) n) (there : at_one n.calls k ≡ Some site) where
+  -- the callee
+  callee : PlacedNode
+  callee = (proper.calls k site there).callee
+
+  found : slice_get nodes site.node ≡ Some callee
+  unfolding callee
+  found = (taken i nodes site.node (proper.calls k site there).callee (proper.calls k site there).found).1
+
+  pub callee_within : site.node < length nodes
+  callee_within = slice_get_within nodes site.node callee found
+
+  -- a call by its parts
+  pub call_is : (call : DrawnCall) → call.number ≡ k → call.node ≡ site.node → call.base ≡ call_clock n k → call.first ≡ site.first →
+      ((m : PlacedNode) → slice_get nodes site.node ≡ Some m → call.results ≡ length m.results) → IsDrawnCall nodes n k call
+  unfolding callee
+  call_is call numbered node base first results =
+      let own = proper.calls k site there in
+      let count : call.results ≡ length own.callee.results = results own.callee found in record {
+        number = numbered;
+        site = site;
+        there = there;
+        node = node;
+        base = base;
+        callee = own.callee;
+        found = ap (slice_get nodes) node ∙ found;
+        count = count;
+        results = λ j h. subst (λ f. Stands n (f + j) (Result k j)) (sym first) (own.results j (omega arith));
+        only = λ p j s.
+            let o = own.only p j s in
+            let here : p ≡ site.first + j = o.0 in
+            let low : j < length own.callee.results = o.1 in (omega arith, omega arith);
+      }

@@ -1,0 +1,4 @@
+mod ListLaws
+mod EdgeLaws
+mod CallLaws
+mod QuoteLaws

@@ -1,0 +1,25 @@
+-- The edges of a drawing as a list: place by place, and for each in the order of its operands.
+use Rattle.std.specs.Prelude.{ℕ, ◌+◌, Bool, List, [], ◌∷◌, ◌++◌}
+use Rattle.lucy_place.specs.declared.entry.PlaceEntry.{PlaceEntry}
+use Rattle.lucy_place.specs.declared.placed.PlacedNode.{PlacedNode}
+use Rattle.lucy_place.specs.Reads.{reads_of}
+use Rattle.lucy_diagram.specs.declared.edge.Edge.{Edge}
+use Rattle.lucy_diagram.specs.Diagrams.{is_late}
+
+-- an edge to a place from one that it reads
+abbrev pub edge_to : (late : Bool) → (p k q : ℕ) → Edge
+edge_to late p k q = record { from = q; to = p; seat = k; late = late }
+
+-- those to a place from what it reads, from an operand on
+abbrev pub edges_at : (late : Bool) → (p k : ℕ) → List ℕ → List Edge
+edges_at late p k [] = []
+edges_at late p k (q ∷ qs) = edge_to late p k q ∷ edges_at late p (k + 1) qs
+
+-- those to places from a number on
+abbrev pub edges_from : PlacedNode → ℕ → List PlaceEntry → List Edge
+edges_from n p [] = []
+edges_from n p (e ∷ es) = edges_at (is_late e.kind) p 0 (reads_of n e.kind) ++ edges_from n (p + 1) es
+
+-- those of a node
+abbrev pub node_edges : PlacedNode → List Edge
+node_edges n = edges_from n 1 n.places
