@@ -1,13 +1,12 @@
 -- What is known of the edges of a node as a list.
-use Rattle.std.proofs.Common.{ℕ, zero, suc, ◌+◌, ◌≡◌, ◌<◌, Bool, List, [], ◌∷◌, ◌++◌, Option, Some, None, length, refl, sym, ap, ◌∙◌, subst, arith, inl, inr}
+use Rattle.std.proofs.Common.{ℕ, zero, suc, ◌+◌, ◌≡◌, ◌<◌, ◌≤◌, Bool, List, [], ◌∷◌, ◌++◌, Option, Some, None, length, refl, sym, ap, ◌∙◌, subst, arith, inl, inr}
 use Rattle.std.specs.Prelude.{slice_get}
-use Rattle.std.proofs.lemmas.List.{append-nil}
 use Rattle.std.proofs.lemmas.Option.{same_Some, slice_get_within}
 use Rattle.lucy_place.specs.declared.entry.PlaceEntry.{PlaceEntry}
 use Rattle.lucy_place.specs.declared.entry.PlaceKind.TheVariants.{Result}
 use Rattle.lucy_place.specs.declared.placed.PlacedNode.{PlacedNode}
 use Rattle.lucy_place.specs.Standing.{at_one}
-use Rattle.lucy_place.specs.Reads.{reads_of, Reads}
+use Rattle.lucy_place.specs.Reads.{arguments_of, reads_of, Reads}
 use Rattle.lucy_types.proofs.ListLaws.{none_some, get_left, get_right}
 use Rattle.lucy_diagram.specs.declared.edge.Edge.{Edge}
 use Rattle.lucy_diagram.specs.Diagrams.{is_late, IsEdge, HasEdge, AreEdges}
@@ -166,7 +165,11 @@ edges_are n edges is = subst (AreEdges n) (sym is) (record {
   once = from_once n 1 n.places;
 })
 
--- another result than the first reads nothing
-pub none_read : (n : PlacedNode) (late : Bool) (p call j : ℕ) (edges : List Edge) → 0 < j → edges ≡ edges ++ edges_at late p 0 (reads_of n (Result call j))
-none_read n late p call zero edges h = absurd (omega arith)
-none_read n late p call (suc j) edges h = sym (append-nil edges)
+-- the first result of a call reads its arguments, and another one nothing
+pub first_reads : (n : PlacedNode) (call j : ℕ) → j ≤ 0 → reads_of n (Result call j) ≡ arguments_of (at_one n.calls call)
+first_reads n call zero h = refl
+first_reads n call (suc j) h = absurd (omega arith)
+
+pub none_read : (n : PlacedNode) (call j : ℕ) → 0 < j → reads_of n (Result call j) ≡ []
+none_read n call zero h = absurd (omega arith)
+none_read n call (suc j) h = refl

@@ -22,7 +22,7 @@ by_cases P a b c d others byte =
         | inl e ↦ subst P (sym e) b
         | inr x ↦ elim (cases_eq byte 10) [
           | inl e ↦ subst P (sym e) c
-          | inr y ↦ elim (cases_eq byte 13) [ | inl e ↦ subst P (sym e) d | inr z ↦ others byte w x y z ]
+          | inr y ↦ elim (cases_eq byte 13) [ inl e ↦ subst P (sym e) d | inr z ↦ others byte w x y z ]
         ]
       ]
     ]

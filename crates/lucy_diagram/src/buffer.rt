@@ -3,10 +3,11 @@ ghost use Rattle.std.specs.Prelude.{◌≡◌, ◌<◌, ◌+◌, ◌∷◌, ◌+
 ghost use Rattle.lucy_place.specs.Standing.{at_one};
 ghost use Rattle.lucy_diagram.specs.Diagrams.{IsDrawnBuffer, AreDrawnBuffers};
 
+use crate::grow::push;
 use lucy_clock::NodeClock;
 use lucy_place::PlacedNode;
 use lucy_word::OutOfMemory;
-use std::alloc::{AllocError, Global};
+use std::alloc::Global;
 
 /// A buffer: its number and its place, each from 1, and its size and its written bound, each in items.
 #[derive(Clone, Copy, Debug, PartialEq, Eq)]
@@ -15,14 +16,6 @@ pub struct DrawnBuffer {
     pub place: u32,
     pub size: u64,
     pub bound: Option<u64>,
-}
-
-// One more buffer.
-fn push(buffers: &mut Vec<DrawnBuffer>, buffer: DrawnBuffer) -> Result<(), AllocError>
-    ensures { OnOk result (buffers.new.items ≡ buffers.old.items ++ buffer ∷ []) }
-{
-    buffers.push(buffer)?;
-    Ok(())
 }
 
 // The place of a buffer, by its number from 0.

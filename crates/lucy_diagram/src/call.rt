@@ -5,9 +5,10 @@ ghost use Rattle.lucy_place.specs.Standing.{at_one};
 ghost use Rattle.lucy_place.specs.Proper.{IsProperNode};
 ghost use Rattle.lucy_diagram.specs.Diagrams.{IsDrawnCall, AreDrawnCalls};
 
+use crate::grow::push;
 use lucy_place::{CallSite, Placed, PlacedNode};
 use lucy_word::OutOfMemory;
-use std::alloc::{AllocError, Global};
+use std::alloc::Global;
 
 /// A call: its number, from 1; the node that it calls, from 0; the clock of its base; the place of its first result, from 1, behind
 /// which the others stand, and how many results it has.
@@ -18,14 +19,6 @@ pub struct DrawnCall {
     pub base: u32,
     pub first: u32,
     pub results: u32,
-}
-
-// One more call.
-fn push(calls: &mut Vec<DrawnCall>, call: DrawnCall) -> Result<(), AllocError>
-    ensures { OnOk result (calls.new.items ≡ calls.old.items ++ call ∷ []) }
-{
-    calls.push(call)?;
-    Ok(())
 }
 
 // The call of a number from 0.

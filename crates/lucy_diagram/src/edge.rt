@@ -6,6 +6,7 @@ ghost use Rattle.lucy_place.specs.Reads.{arguments_of, reads_of};
 ghost use Rattle.lucy_diagram.specs.Diagrams.{is_late, AreEdges};
 ghost use Rattle.lucy_diagram.specs.Drawn.{edges_at, node_edges};
 
+use crate::grow::push;
 use lucy_place::{PlaceKind, PlacedNode};
 use lucy_word::OutOfMemory;
 use std::alloc::{AllocError, Global};
@@ -19,14 +20,6 @@ pub struct Edge {
     pub to: u32,
     pub seat: usize,
     pub late: bool,
-}
-
-// One more edge.
-fn push(edges: &mut Vec<Edge>, edge: Edge) -> Result<(), AllocError>
-    ensures { OnOk result (edges.new.items ≡ edges.old.items ++ edge ∷ []) }
-{
-    edges.push(edge)?;
-    Ok(())
 }
 
 // Puts the edges to a place last that come from its operands.

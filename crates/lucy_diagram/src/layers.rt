@@ -73,11 +73,7 @@ fn ways_of(alloc: Global, diagram: &Diagram) -> Result<Vec<Way>, AllocError> {
 
 // For each place the number, from 1, of the last way from it, and for each way that of the one before it from the same place; 0 where
 // there is none.
-fn chains(
-    alloc: Global,
-    ways: &[Way],
-    count: usize,
-) -> Result<(Vec<u32>, Vec<u32>), AllocError> {
+fn chains(alloc: Global, ways: &[Way], count: usize) -> Result<(Vec<u32>, Vec<u32>), AllocError> {
     let mut last = zeros(alloc, count)?;
     let mut before = Vec::new(alloc);
     for (i, way) in ways.iter().enumerate() {

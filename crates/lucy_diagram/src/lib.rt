@@ -12,6 +12,7 @@ mod buffer;
 mod call;
 mod diagram;
 mod edge;
+mod grow;
 mod layers;
 mod link;
 mod place;

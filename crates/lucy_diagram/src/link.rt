@@ -2,9 +2,10 @@
 ghost use Rattle.std.specs.Prelude.{◌≡◌, ◌∷◌, ◌++◌, [], IfOk, OnOk};
 ghost use Rattle.lucy_diagram.specs.Links.{link_of, links};
 
+use crate::grow::push;
 use lucy_net::{Net, RingSpec};
 use lucy_word::OutOfMemory;
-use std::alloc::{AllocError, Global};
+use std::alloc::Global;
 
 /// A ring: the actors that give to it and take from it, by their numbers from 0, and its size in items.
 #[derive(Clone, Copy, Debug, PartialEq, Eq)]
@@ -12,14 +13,6 @@ pub struct Link {
     pub from: u32,
     pub to: u32,
     pub size: u64,
-}
-
-// One more ring.
-fn push(links: &mut Vec<Link>, link: Link) -> Result<(), AllocError>
-    ensures { OnOk result (links.new.items ≡ links.old.items ++ link ∷ []) }
-{
-    links.push(link)?;
-    Ok(())
 }
 
 // A ring as it is drawn.

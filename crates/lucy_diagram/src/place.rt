@@ -3,9 +3,10 @@ ghost use Rattle.std.specs.Prelude.{◌≡◌, ◌≤◌, ◌∷◌, ◌++◌, [
 ghost use Rattle.lucy_place.specs.Faults.{most_places};
 ghost use Rattle.lucy_diagram.specs.Diagrams.{figure_of, drawn_places};
 
+use crate::grow::push;
 use lucy_place::{PlaceKind, PlacedNode};
 use lucy_word::OutOfMemory;
-use std::alloc::{AllocError, Global};
+use std::alloc::Global;
 
 /// As what a place is drawn.
 #[derive(Clone, Copy, Debug, PartialEq, Eq)]
@@ -50,14 +51,6 @@ fn figure_of(kind: &PlaceKind) -> Figure
         PlaceKind::Buffer(_, _) => Figure::Buffer,
         PlaceKind::Result(_, _) => Figure::CallResult,
     }
-}
-
-// One more place.
-fn push(places: &mut Vec<DrawnPlace>, place: DrawnPlace) -> Result<(), AllocError>
-    ensures { OnOk result (places.new.items ≡ places.old.items ++ place ∷ []) }
-{
-    places.push(place)?;
-    Ok(())
 }
 
 /// The places of a node, in order.

@@ -12,13 +12,12 @@ mod node;
 mod rings;
 
 use instances::put_program;
+pub use label::put_text;
 use lucy_front::Accepted;
 use lucy_tree::Program;
 use lucy_word::OutOfMemory;
 use node::put_node;
 use std::alloc::Global;
-
-pub use label::put_text;
 
 /// Puts a drawing last, as Graphviz reads it: of a node of a program, by its number from 0, or of main where none is given, with a box
 /// for each of its places, a cluster for each call, and an edge for all that a place reads; or, where it is flat, of the whole program's

@@ -29,7 +29,10 @@ fn put_callee(
     put(&mut at, label_at(labels, call.base))?;
     put_label(&at, out)?;
     let mut callee = Vec::new(alloc);
-    put(&mut callee, format!(in alloc; "call {number}: ")?.as_bytes())?;
+    put(
+        &mut callee,
+        format!(in alloc; "call {number}: ")?.as_bytes(),
+    )?;
     put_name(&accepted.placed, call.node, &mut callee)?;
     put(out, format!(in alloc; ";\n    c{number} [")?.as_bytes())?;
     put_label(&callee, out)?;

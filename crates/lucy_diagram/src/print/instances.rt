@@ -1,6 +1,7 @@
 // The drawing of a whole program's net: its instances, one in another, and its rings.
 ghost use Rattle.std.specs.Prelude.{◌<◌, length};
 
+use crate::grow::push;
 use crate::place::places;
 use crate::print::boxes::put_box;
 use crate::print::label::{label_at, put, put_label, put_name, word_labels};
@@ -42,19 +43,19 @@ fn put_own(
     Ok(actor)
 }
 
-// Puts the first lines of the cluster of an instance last: the calls that lead to it, its node, and `at` with the word of its base.
+// Puts the first lines of the cluster of an instance last: its call, by the number from 0, its node, and `at` with the word of its base.
 fn put_instance_head(
     alloc: Global,
     accepted: &Accepted,
     callee: u32,
     begin: u64,
-    path: &[u8],
+    call: usize,
     word: &[u8],
     out: &mut Vec<u8>,
 ) -> Result<(), AllocError> {
     let mut label = Vec::new(alloc);
-    put(&mut label, path)?;
-    put(&mut label, b" ")?;
+    let number = call.saturating_add(1);
+    put(&mut label, format!(in alloc; "call {number}: ")?.as_bytes())?;
     put_name(&accepted.placed, callee, &mut label)?;
     put(&mut label, b" at ")?;
     put(&mut label, word)?;
@@ -76,12 +77,7 @@ fn path_of(alloc: Global, path: &[u8], call: usize) -> Result<Vec<u8>, AllocErro
 }
 
 // The text of the word of a call's base, by the numbers of its node and of its own, each from 0.
-fn base_label<'a>(
-    accepted: &Accepted,
-    labels: &'a [Vec<Text>],
-    node: u32,
-    call: usize,
-) -> &'a [u8]
+fn base_label<'a>(accepted: &Accepted, labels: &'a [Vec<Text>], node: u32, call: usize) -> &'a [u8]
     requires { node < length accepted.now.placed.nodes }
 {
     let places = accepted.placed.node(node).places.list().len();
@@ -113,17 +109,8 @@ fn put_instance(
         if callee < node {
             let inner = path_of(alloc, path, i)?;
             let word = base_label(accepted, labels, node, i);
-            put_instance_head(alloc, accepted, callee, next, &inner, word, out)?;
-            next = put_instance(
-                alloc,
-                program,
-                accepted,
-                labels,
-                callee,
-                next,
-                &inner,
-                out,
-            )?;
+            put_instance_head(alloc, accepted, callee, next, i, word, out)?;
+            next = put_instance(alloc, program, accepted, labels, callee, next, &inner, out)?;
             put(out, b"  }\n")?;
         }
     }
@@ -134,7 +121,7 @@ fn put_instance(
 fn all_labels(alloc: Global, accepted: &Accepted) -> Result<Vec<Vec<Text>>, OutOfMemory> {
     let mut labels = Vec::new(alloc);
     for node in 0..accepted.placed.nodes() {
-        labels.push(word_labels(alloc, accepted, node)?)?;
+        push(&mut labels, word_labels(alloc, accepted, node)?)?;
     }
     Ok(labels)
 }
@@ -149,16 +136,7 @@ pub(crate) fn put_program(
     let main = accepted.placed.nodes() - 1;
     let labels = all_labels(alloc, accepted)?;
     put_head(accepted.placed.node(main).name.text.bytes(), out)?;
-    let next = put_instance(
-        alloc,
-        program,
-        accepted,
-        &labels,
-        main,
-        0,
-        b"",
-        out,
-    )?;
+    let next = put_instance(alloc, program, accepted, &labels, main, 0, b"", out)?;
     put_outputs(alloc, &accepted.outputs, next, out)?;
     put_rings(alloc, &accepted.net, out)?;
     put(out, b"}\n")?;

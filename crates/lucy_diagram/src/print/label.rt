@@ -1,6 +1,7 @@
 // The texts in a drawing.
 ghost use Rattle.std.specs.Prelude.{◌<◌, length};
 
+use crate::grow::push;
 use crate::quote::put_quoted;
 use lucy_clock::NodeClock;
 use lucy_front::Accepted;
@@ -20,6 +21,16 @@ pub(crate) fn put(out: &mut Vec<u8>, bytes: &[u8]) -> Result<(), AllocError> {
     Ok(())
 }
 
+// The front of a text that is shown, and what says that there is more.
+fn front_of(alloc: Global, text: &[u8]) -> Result<Vec<u8>, AllocError> {
+    let mut front = Vec::new(alloc);
+    for byte in text.iter().take(SHOWN) {
+        front.push(*byte)?;
+    }
+    put(&mut front, b"..")?;
+    Ok(front)
+}
+
 /// Puts a label last, as an attribute.
 pub(crate) fn put_label(label: &[u8], out: &mut Vec<u8>) -> Result<(), AllocError> {
     put(out, b"label=")?;
@@ -33,12 +44,7 @@ pub(crate) fn word_label(alloc: Global, word: &Word) -> Result<Text, OutOfMemory
     if text.len() <= SHOWN {
         return Text::new(alloc, &text);
     }
-    let mut short = Vec::new(alloc);
-    for byte in text.iter().take(SHOWN) {
-        short.push(*byte)?;
-    }
-    put(&mut short, b"..")?;
-    Text::new(alloc, &short)
+    Text::new(alloc, &front_of(alloc, &text)?)
 }
 
 /// The texts of the words of a node's clocks, by their numbers.
@@ -50,7 +56,7 @@ pub(crate) fn word_labels(
     let mut labels = Vec::new(alloc);
     if let Some(clock) = accepted.clocks.get(node as usize) {
         for word in clock.words.list() {
-            labels.push(word_label(alloc, word)?)?;
+            push(&mut labels, word_label(alloc, word)?)?;
         }
     }
     Ok(labels)
@@ -70,12 +76,7 @@ pub(crate) fn entry_at(node: &PlacedNode, place: u32) -> Option<&PlaceEntry> {
 }
 
 // The form that stands at a place, where its text says more than its kind.
-fn form_at<'a>(
-    program: &'a Program,
-    node: u32,
-    place: u32,
-    kind: &PlaceKind,
-) -> Option<&'a Expr> {
+fn form_at<'a>(program: &'a Program, node: u32, place: u32, kind: &PlaceKind) -> Option<&'a Expr> {
     match kind {
         PlaceKind::Host(_, _, _) | PlaceKind::When(_, _) => {
             form_of(program.nodes.list().get(node as usize)?, place)

@@ -48,7 +48,10 @@ fn put_ring(
     let mut label = Vec::new(alloc);
     put(&mut label, word_label(alloc, write)?.bytes())?;
     if link.size > 0 {
-        put(&mut label, format!(in alloc; "\nsize {}", link.size)?.as_bytes())?;
+        put(
+            &mut label,
+            format!(in alloc; "\nsize {}", link.size)?.as_bytes(),
+        )?;
     }
     put(
         out,
