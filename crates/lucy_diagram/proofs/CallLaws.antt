@@ -1,14 +1,19 @@
--- What is known of the calls of a node.
+-- What is known of the calls of a node, and of the sizes of its buffers.
 use Rattle.std.proofs.Common.{ℕ, ◌+◌, ◌≡◌, ◌<◌, List, Some, length, take, sym, ap, ◌∙◌, subst, arith}
 use Rattle.std.specs.Prelude.{slice_get}
 use Rattle.std.proofs.lemmas.Option.{slice_get_within}
+use Rattle.lucy_host.specs.Operators.{Operator}
 use Rattle.lucy_place.specs.declared.entry.CallSite.{CallSite}
 use Rattle.lucy_place.specs.declared.entry.PlaceKind.TheVariants.{Result}
 use Rattle.lucy_place.specs.declared.placed.PlacedNode.{PlacedNode}
 use Rattle.lucy_place.specs.Standing.{at_one, Stands}
 use Rattle.lucy_place.specs.Proper.{IsProperNode}
 use Rattle.lucy_types.proofs.ListLaws.{taken}
+use Rattle.lucy_clock.specs.declared.node_clock.NodeClock.{NodeClock}
 use Rattle.lucy_clock.specs.Clocks.{call_clock}
+use Rattle.lucy_front.specs.declared.accepted.Accepted.{Accepted}
+use Rattle.lucy_front.specs.declared.options.Options.{Options}
+use Rattle.lucy_front.specs.Accepting.{IsAccepted}
 use Rattle.lucy_diagram.specs.declared.call.DrawnCall.{DrawnCall}
 use Rattle.lucy_diagram.specs.Diagrams.{IsDrawnCall}
 
@@ -45,3 +50,8 @@ module _ (nodes : List PlacedNode) (i : ℕ) (n : PlacedNode) (k : ℕ) (site : 
             let here : p ≡ site.first + j = o.0 in
             let low : j < length own.callee.results = o.1 in (omega arith, omega arith);
       }
+
+-- each buffer of a node of an accepted program has a size
+pub sizes_count : (ops : List Operator) (o : Options) (text : List ℕ) (a : Accepted) → IsAccepted ops o text a → (node : ℕ) (n : PlacedNode) (c : NodeClock) → slice_get a.placed.nodes node ≡ Some n →
+    slice_get a.clocks.items node ≡ Some c → length c.sizes ≡ length n.buffers
+sizes_count ops o text a is node n c at of = (is.clocked.clocks.each node n c at of).sizes.count

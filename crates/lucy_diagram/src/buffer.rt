@@ -19,11 +19,10 @@ pub struct DrawnBuffer {
 }
 
 // The place of a buffer, by its number from 0.
-fn place_of(node: &PlacedNode, buffer: usize) -> u32
-    requires { buffer < length node.now.buffers }
-    ensures { at_one node.now.buffers (buffer + 1) ≡ Some result }
+fn place_of(buffers: &[u32], buffer: usize) -> u32
+    requires { buffer < length buffers.now }
+    ensures { at_one buffers.now (buffer + 1) ≡ Some result }
 {
-    let buffers = node.buffers.list();
     buffers[buffer]
 }
 
@@ -52,9 +51,10 @@ fn buffer_at(node: &PlacedNode, clock: &NodeClock, number: usize) -> DrawnBuffer
     requires sizes { length clock.now.sizes ≡ length node.now.buffers }
     ensures { IsDrawnBuffer node.now clock.now (number + 1) result }
 {
+    let buffers = node.buffers.list();
     DrawnBuffer {
         number: number as u64 + 1,
-        place: place_of(node, number),
+        place: place_of(buffers, number),
         size: size_of(clock, number),
         bound: bound_of(node, number),
     }

@@ -113,5 +113,6 @@ pub(crate) fn edges(alloc: Global, node: &PlacedNode) -> Result<Vec<Edge>, OutOf
     requires { length node.now.places ≤ most_places }
     ensures { IfOk result (λ v. AreEdges node.now v.items) }
 {
-    edge_list(alloc, node)
+    let edges = edge_list(alloc, node)?;
+    Ok(edges)
 }
