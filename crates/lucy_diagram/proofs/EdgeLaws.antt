@@ -1,12 +1,12 @@
 -- What is known of the edges of a node as a list.
-use Rattle.std.proofs.Common.{ℕ, zero, suc, ◌+◌, ◌≡◌, ◌<◌, ◌≤◌, Bool, List, [], ◌∷◌, ◌++◌, Option, Some, None, length, refl, sym, ap, ◌∙◌, subst, arith, inl, inr}
+use Rattle.std.proofs.Common.{ℕ, zero, suc, ◌+◌, ◌≡◌, ◌<◌, ◌≤◌, Bool, List, [], ◌∷◌, Some, length, refl, sym, ap, ◌∙◌, subst, arith, inl, inr}
 use Rattle.std.specs.Prelude.{slice_get}
 use Rattle.std.proofs.lemmas.Option.{same_Some, slice_get_within}
 use Rattle.lucy_place.specs.declared.entry.PlaceEntry.{PlaceEntry}
 use Rattle.lucy_place.specs.declared.entry.PlaceKind.TheVariants.{Result}
 use Rattle.lucy_place.specs.declared.placed.PlacedNode.{PlacedNode}
 use Rattle.lucy_place.specs.Standing.{at_one}
-use Rattle.lucy_place.specs.Reads.{arguments_of, reads_of, Reads}
+use Rattle.lucy_place.specs.Reads.{arguments_of, reads_of}
 use Rattle.lucy_types.proofs.ListLaws.{none_some, get_left, get_right}
 use Rattle.lucy_diagram.specs.declared.edge.Edge.{Edge}
 use Rattle.lucy_diagram.specs.Diagrams.{is_late, IsEdge, HasEdge, AreEdges}

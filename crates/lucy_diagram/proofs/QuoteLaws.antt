@@ -1,10 +1,9 @@
 -- A text between quotes reads back.
-use Rattle.std.proofs.Common.{ℕ, ◌+◌, ◌≡◌, ◌≢◌, Bool, true, false, List, [], ◌∷◌, ◌++◌, Some, refl, sym, ap, ◌∙◌, subst, arith, inl, inr, append_assoc, cond}
-use Rattle.std.specs.Prelude.{◌==◌, if◌then◌else◌}
+use Rattle.std.proofs.Common.{ℕ, ◌≡◌, ◌≢◌, false, List, [], ◌∷◌, ◌++◌, Some, refl, sym, ap, ◌∙◌, subst, arith, inl, inr, append_assoc}
 use Rattle.std.specs.List.{AllByRecursion}
 use Rattle.std.specs.Option.{option_map}
 use Rattle.std.proofs.lemmas.Bool.{cases_eq, ne_eqb}
-use Rattle.lucy_diagram.specs.Quotes.{escaped_byte, escaped, meant, Quoted, put_before, read_quoted}
+use Rattle.lucy_diagram.specs.Quotes.{escaped_byte, escaped, put_before, read_quoted}
 
 -- a byte that is none of the four stands for itself
 plain : (byte : ℕ) → byte ≢ 34 → byte ≢ 92 → byte ≢ 10 → byte ≢ 13 → escaped_byte byte ≡ byte ∷ []

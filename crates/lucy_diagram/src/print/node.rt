@@ -22,7 +22,7 @@ use std::alloc::{AllocError, Global};
 pub(crate) fn put_head(name: &[u8], out: &mut Vec<u8>) -> Result<(), AllocError> {
     put(out, b"digraph ")?;
     put_quoted(name, out)?;
-    put(out, b" {\n  node [shape=box];\n")
+    put(out, b" {\n  graph [labeljust=l];\n  node [shape=box];\n")
 }
 
 // Puts the boxes of places last, but for the results of calls.
