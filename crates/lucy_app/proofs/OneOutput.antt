@@ -150,7 +150,8 @@ output_one cut horizons tight (Types file) before a b is also =
 output_one cut horizons tight (Check file) before a b is also =
     let ops = before.operators in
     one_printed (MayDiffer (Check file)) a b
-    (print_one (IsCheckOf ops written_options) (RefusesCheck ops written_options) (check_verdict ops written_options) before.shelf (program_of file)
+    (print_one (IsCheckOf ops written_options) (RefusesCheck ops written_options) (check_verdict ops written_options) before.shelf
+    (program_of file)
     a b is also)
 output_one cut horizons tight (Clocks words) before a b is also =
     let ops = before.operators in
@@ -159,12 +160,15 @@ output_one cut horizons tight (Clocks words) before a b is also =
     (print_one (IsCheckOf ops o) (RefusesCheck ops o) (check_verdict ops o) before.shelf (program_of words.file) a b is also)
 output_one cut horizons tight (Run words) before a b (p, lists, horizon, held, fed, is) (q, others, last, holds, feeds, also) =
     let kinds = kinds_of before.operators in
-    let same = program_one before.operators (inferring_options words.scale words.lead) words.instants before.shelf (program_of words.file) p q held holds in
+    let same = program_one before.operators (inferring_options words.scale words.lead) words.instants before.shelf (program_of words.file)
+    p q held holds in
     one_printed (MayDiffer (Run words)) a b
     (is ∙ run_same cut horizons kinds p q same words.instants before.source.left lists others horizon last fed feeds ∙ sym also)
-output_one cut horizons tight (Kahn words) before a b (p, lists, horizon, held, fed, turns, items, is) (q, others, last, holds, feeds, few, short, also) =
+output_one cut horizons tight (Kahn words) before a b (p, lists, horizon, held, fed, turns, items, is)
+    (q, others, last, holds, feeds, few, short, also) =
     let kinds = kinds_of before.operators in
-    let same = program_one before.operators (inferring_options words.scale words.lead) words.instants before.shelf (program_of words.file) p q held holds in
+    let same = program_one before.operators (inferring_options words.scale words.lead) words.instants before.shelf (program_of words.file)
+    p q held holds in
     one_printed (MayDiffer (Kahn words)) a b
     (is ∙ lines_same cut horizons kinds p q same words.instants before.source.left lists others horizon last fed feeds ∙ sym also)
 output_one cut horizons tight (Make words) before a b (p, lists, horizon, runs, fed, is) (q, others, last, run, feeds, also) =
@@ -176,12 +180,18 @@ output_one cut horizons tight (Tighten words) before a b (text, holds, is) (othe
     let o : Options = inferring_options words.scale words.lead in
     let same : text ≡ other = held_one before.shelf (program_of words.file) text other holds held in
     prints_alike tight before.operators o words other a b (subst (λ t. IsTightOf before.operators o words t a) same is) also
-output_one cut horizons tight (Replay words) before a b (p, lists, horizon, picks, held, log, fed, run, is) (q, others, last, events, holds, logs, feeds, ran, also) =
-    let same = program_one before.operators (inferring_options words.scale words.lead) words.instants before.shelf (program_of words.file) p q held holds in
+output_one cut horizons tight (Replay words) before a b (p, lists, horizon, picks, held, log, fed, run, is)
+    (q, others, last, events, holds, logs, feeds, ran, also) =
+    let same = program_one before.operators (inferring_options words.scale words.lead) words.instants before.shelf (program_of words.file)
+    p q held holds in
     one_printed (MayDiffer (Replay words)) a b
-    (replays_same cut horizons (kinds_of before.operators) p q same words.instants before.source.left lists others horizon last fed feeds before.operators picks events a b
+    (replays_same cut horizons (kinds_of before.operators) p q same words.instants before.source.left lists others horizon last fed feeds
+    before.operators picks events a b
     (log_one before.shelf (log_of words.log) picks events log logs) is also)
 output_one cut horizons tight (Trace words) before a b (p, lists, horizon, held, fed, is) (q, others, last, holds, feeds, also) =
-    let same = program_one before.operators (inferring_options words.scale words.lead) words.instants before.shelf (program_of words.file) p q held holds in
-    let there = horizon_same cut horizons (kinds_of before.operators) p q same words.instants before.source.left lists others horizon last fed feeds in
-    inr (refl, refl, q.net, last, subst (λ t. IsTraceText q.net t a) there (subst (λ (net : Net). IsTraceText net horizon a) same.net is), also)
+    let same = program_one before.operators (inferring_options words.scale words.lead) words.instants before.shelf (program_of words.file)
+    p q held holds in
+    let there = horizon_same cut horizons (kinds_of before.operators) p q same words.instants before.source.left lists others horizon last
+    fed feeds in
+    let moved : IsTraceText q.net horizon a = subst (λ (net : Net). IsTraceText net horizon a) same.net is in
+    inr (refl, refl, q.net, last, subst (λ t. IsTraceText q.net t a) there moved, also)

@@ -43,7 +43,8 @@ order_owes_one taken Failed a b is also = is ∙ sym also
 order_owes_one taken Passed a b is also = is ∙ sym also
 order_owes_one taken stop a b is also = absurd is
 
-pub owes_one : OneCut → OneHorizon → OneRun → OneInterpretation → OneReplay → OneTrace → OneTight → (command : Command) (given : Given) (a b : Answer) →
+pub owes_one : OneCut → OneHorizon → OneRun → OneInterpretation → OneReplay → OneTrace → OneTight →
+    (command : Command) (given : Given) (a b : Answer) →
     Owes command given a → Owes command given b → Alike command a b
 owes_one cut horizon run kahn again trace tight Order given a b is also = inl (inl (order_owes_one given.taken given.stop a b is also))
 owes_one cut horizon run kahn again trace tight (Show file) given a b is also =
@@ -70,27 +71,33 @@ owes_one cut horizon run kahn again trace tight (Clocks words) given a b is also
 owes_one cut horizon run kahn again trace tight (Run words) given a b is also =
     let Owed : Accepted → List ℕ → Ending → Type 0 = λ p. OwesRun (kinds_of given.operators) p words.instants given.taken given.stop in
     let Differ = MayDiffer (Run words) in
-    runs_alike Differ Owed (once_but Differ Owed (run_once run (kinds_of given.operators) words.instants given.taken given.stop)) given.operators
+    runs_alike Differ Owed (once_but Differ Owed (run_once run (kinds_of given.operators) words.instants given.taken given.stop))
+    given.operators
     (inferring_options words.scale words.lead) words.instants given.stop given.fetched a b is also
 owes_one cut horizon run kahn again trace tight (Kahn words) given a b is also =
     let Owed : Accepted → List ℕ → Ending → Type 0 = λ p. OwesKahn (kinds_of given.operators) p words.instants given.taken given.stop in
     let Differ = MayDiffer (Kahn words) in
-    runs_alike Differ Owed (once_but Differ Owed (kahn_once kahn (kinds_of given.operators) words.instants given.taken given.stop)) given.operators
+    runs_alike Differ Owed (once_but Differ Owed (kahn_once kahn (kinds_of given.operators) words.instants given.taken given.stop))
+    given.operators
     (inferring_options words.scale words.lead) words.instants given.stop given.fetched a b is also
 owes_one cut horizon run kahn again trace tight (Make words) given a b is also =
     let Owed : Accepted → List ℕ → Ending → Type 0 = λ p. OwesSummary words.stages (kinds_of given.operators) p in
     let Differ = MayDiffer (Make words) in
-    runs_alike Differ Owed (once_but Differ Owed (summary_once cut horizon words.stages (kinds_of given.operators))) given.operators (inferring_options 1 1)
+    runs_alike Differ Owed (once_but Differ Owed (summary_once cut horizon words.stages (kinds_of given.operators))) given.operators
+    (inferring_options 1 1)
     None given.stop (Ok (made_text words.stages) ∷ []) a b is also
 owes_one cut horizon run kahn again trace tight (Tighten words) given a b is also =
     let ops = given.operators in
     let o = inferring_options words.scale words.lead in
-    text_owes_one AreTightAlike (RefusesCheck ops o) (OwesTight ops o words) (tight_decided tight ops o words) given.stop given.fetched a b is also
+    text_owes_one AreTightAlike (RefusesCheck ops o) (OwesTight ops o words) (tight_decided tight ops o words) given.stop given.fetched a b
+    is also
 owes_one cut horizon run kahn again trace tight (Replay words) given a b is also =
-    logged_alike again given.operators words.instants given.taken given.stop (MayDiffer (Replay words)) (inferring_options words.scale words.lead)
+    logged_alike again given.operators words.instants given.taken given.stop (MayDiffer (Replay words))
+    (inferring_options words.scale words.lead)
     given.fetched a b is also
 owes_one cut horizon run kahn again trace tight (Trace words) given a b is also =
-    runs_alike AreTracedAlike (λ p. OwesTrace p words.instants given.taken given.stop) (trace_once trace words.instants given.taken given.stop)
+    runs_alike AreTracedAlike (λ p. OwesTrace p words.instants given.taken given.stop)
+    (trace_once trace words.instants given.taken given.stop)
     given.operators (inferring_options words.scale words.lead) words.instants given.stop given.fetched a b is also
 
 -- `show` refuses a text with one answer
@@ -114,4 +121,5 @@ show_owes_one stop fetched a b (inl is) (inr also) =
 show_owes_one stop fetched a b (inr is) (inl also) =
     absurd (unrefused (λ x y. ⊥) RefusesSyntax (OwesPrint IsPrintOf) show_decided fetched a b is also.0)
 show_owes_one stop fetched a b (inr is) (inr also) =
-    elim (owed_one (λ x y. ⊥) RefusesSyntax (OwesPrint IsPrintOf) show_decided fetched a b is also) [ inl same ↦ same | inr none ↦ absurd none ]
+    let one = owed_one (λ x y. ⊥) RefusesSyntax (OwesPrint IsPrintOf) show_decided fetched a b is also in
+    elim one [ inl same ↦ same | inr none ↦ absurd none ]

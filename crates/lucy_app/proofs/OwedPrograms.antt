@@ -27,7 +27,8 @@ print_decided Differ Prints Refuses v = record {
 
 module _ (Differ : Answer → Answer → Type 0) (Refuses : List ℕ → Refusal → Type 0) (Owed : List ℕ → Answer → Type 0)
     (d : IsDecided Differ Refuses Owed) where
-  refusals_alike : (fetched : List (Result (List ℕ) ShelfError)) (a b : Answer) → OwesRefusal Refuses fetched a → OwesRefusal Refuses fetched b → AlikeBut Differ a b
+  refusals_alike : (fetched : List (Result (List ℕ) ShelfError)) (a b : Answer) → OwesRefusal Refuses fetched a →
+      OwesRefusal Refuses fetched b → AlikeBut Differ a b
   refusals_alike [] a b h k = absurd h
   refusals_alike (Ok text ∷ more) a b h k = inr (h.0, k.0, d.same text h.0 k.0 h.1 k.1, h.2, k.2)
   refusals_alike (Err shelf.Failed ∷ more) a b h k = inl (inl (h ∙ sym k))

@@ -109,5 +109,12 @@ pub trace_met : (Nothing : Type 0) (words : TraceWords) (given : Given) (out out
     EndsBy (Owes (Trace words) given) (MayStand (Trace words) given) (MayFail (Trace words) given out out') out out' err err' status
 trace_met Nothing words given out out' err err' status ends =
     ends_more (Owes (Trace words) given) _ (OwesOutput (Trace words) given) _ _
-    (λ output (counted, answer, same, owed, is). (given, answer, refl, subst (λ s. Owes (Trace words) (record given { stop = s }) answer) same owed, is))
+    (λ output (counted, answer, same, owed, is). (
+      given,
+      answer,
+      refl,
+      subst (λ s. Owes (Trace words) (record given { stop = s }) answer)
+          same owed,
+      is,
+    ))
     (λ order. tt) out out' err err' status ends

@@ -89,7 +89,8 @@ module _ (kinds : List HostKind) (a b : Accepted) (same : AreSame a b) (instants
         (subst (λ os. Interprets kinds a.placed.nodes a.clocks.items os instants lists fault horizon output end) same.outputs is),
   )
 
-  pub trace_moves : (output : List ℕ) (end : Ending) → OwesTrace a instants taken stop output end → OwesTrace b instants taken stop output end
+  pub trace_moves : (output : List ℕ) (end : Ending) → OwesTrace a instants taken stop output end →
+      OwesTrace b instants taken stop output end
   trace_moves output end (lists, fault, horizon, fed, traced, ends) = (
     lists,
     fault,
@@ -113,13 +114,15 @@ once_but Differ Owed once a b output other end way same h k =
     let one = once a b output other end way same h k in
     inl (ap (λ o. ended o end) one.0 ∙ ap (ended other) one.1)
 
-module _ (Differ : Answer → Answer → Type 0) (Owed : Accepted → List ℕ → Ending → Type 0) (once : OwesOneBut Differ Owed) (ops : List Operator)
+module _ (Differ : Answer → Answer → Type 0) (Owed : Accepted → List ℕ → Ending → Type 0) (once : OwesOneBut Differ Owed)
+    (ops : List Operator)
     (o : Options) (instants : Option ℕ) (stop : Stop) where
   -- where main of one program lacks the instants, that of the other does
   lacks_too : (text : List ℕ) (a b : Accepted) → IsAccepted ops o text a → IsAccepted ops o text b → LacksInstants a instants → LacksInstants b instants
   lacks_too text a b is also lacks = (sym (accepted_same ops o text a b is also).inputs ∙ lacks.0, lacks.1)
 
-  ended_one : (text : List ℕ) (a b : Accepted) (x y : Answer) → IsAccepted ops o text a → IsAccepted ops o text b → OwesEnded (Owed a) instants stop a x → OwesEnded (Owed b) instants stop b y → AreOneBut Differ x y
+  ended_one : (text : List ℕ) (a b : Accepted) (x y : Answer) → IsAccepted ops o text a → IsAccepted ops o text b →
+      OwesEnded (Owed a) instants stop a x → OwesEnded (Owed b) instants stop b y → AreOneBut Differ x y
   ended_one text a b x y is also (inl h) (inl k) = inl (h.1 ∙ sym k.1)
   ended_one text a b x y is also (inl h) (inr k) = absurd (k.0 (lacks_too text a b is also h.0))
   ended_one text a b x y is also (inr h) (inl k) = absurd (h.0 (lacks_too text b a also is k.0))
@@ -151,7 +154,9 @@ pub kahn_once : OneInterpretation → (kinds : List HostKind) (instants : Option
 kahn_once law kinds instants taken stop a b output other end way same h k = law kinds b instants taken stop output other end way (kahn_moves kinds a b same instants taken stop output end h) k
 
 -- traces of programs of one text end alike
-pub trace_once : OneTrace → (instants : Option ℕ) (taken : List ℕ) (stop : Stop) → OwesOneBut AreTracedAlike (λ a. OwesTrace a instants taken stop)
+pub trace_once : OneTrace → (instants : Option ℕ) (taken : List ℕ) (stop : Stop) →
+    OwesOneBut AreTracedAlike (λ a. OwesTrace a instants taken stop)
 trace_once law instants taken stop a b output other end way same h k =
-    let (ends, horizon, one, two) = law b instants taken stop output other end way (trace_moves [] a b same instants taken stop output end h) k in
+    let (ends, horizon, one, two) = law b instants taken stop output other end way
+    (trace_moves [] a b same instants taken stop output end h) k in
     inr (ap ending_status ends, ap ending_line ends, b.net, horizon, one, two)

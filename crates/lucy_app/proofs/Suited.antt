@@ -119,10 +119,13 @@ order_done before after taken output stop None e read well none answer owed = ab
 order_done before after taken output stop (Some bytes) e read well (is, few) answer owed = order_owed before after bytes taken output (sym e ∙ read.took) well is few stop read.stopped answer owed
 
 -- a text that is accepted is run to its end, where what that owes comes to such an answer
-ran_done : (Owed : Accepted → List ℕ → Ending → Type 0) (ops : List Operator) (o : Options) (instants : Option ℕ) (stop : Stop) (text : List ℕ) (more : List (Result (List ℕ) ShelfError)) (a : Accepted) (Such : Answer → Type 0) →
-    IsRunnable ops o instants text a → ((b : Accepted) (out : List ℕ) (end : Ending) → AreSame b a → Owed b out end → Such (ended out end)) → (answer : Answer) →
+ran_done : (Owed : Accepted → List ℕ → Ending → Type 0) (ops : List Operator) (o : Options) (instants : Option ℕ) (stop : Stop)
+    (text : List ℕ) (more : List (Result (List ℕ) ShelfError)) (a : Accepted) (Such : Answer → Type 0) →
+    IsRunnable ops o instants text a → ((b : Accepted) (out : List ℕ) (end : Ending) → AreSame b a → Owed b out end → Such (ended out end)) →
+    (answer : Answer) →
     OwesRunning Owed ops o instants stop (Ok text ∷ more) answer → Such answer
-ran_done Owed ops o instants stop text more a Such is ends answer (inl refused) = absurd (checks_apart ops o text a refused.0.0 is.0 refused.0.1)
+ran_done Owed ops o instants stop text more a Such is ends answer (inl refused) =
+    absurd (checks_apart ops o text a refused.0.0 is.0 refused.0.1)
 ran_done Owed ops o instants stop text more a Such is ends answer (inr (b, also, inl lacks)) =
     absurd (is.1 (sym (accepted_same ops o text b a also is.0).inputs ∙ lacks.0.0, lacks.0.1))
 ran_done Owed ops o instants stop text more a Such is ends answer (inr (b, also, inr ran)) =
@@ -184,11 +187,15 @@ module _ (before after : SeenShelf) (file : Wanted) (text : List ℕ) where
       holds well fetched met answer owed
 
   -- one that runs it
-  run_done : (Owed : Accepted → List ℕ → Ending → Type 0) (ops : List Operator) (o : Options) (instants : Option ℕ) (stop : Stop) (a : Accepted) (Such : Answer → Type 0) → IsRunnable ops o instants text a →
-      ((b : Accepted) (out : List ℕ) (end : Ending) → AreSame b a → Owed b out end → Such (ended out end)) → Holds before file text → (Rose before.faults after.faults → ⊥) →
-      (fetched : List (Result (List ℕ) ShelfError)) → Fetches (file ∷ []) before after fetched → (answer : Answer) → OwesRunning Owed ops o instants stop fetched answer → Such answer
+  run_done : (Owed : Accepted → List ℕ → Ending → Type 0) (ops : List Operator) (o : Options) (instants : Option ℕ) (stop : Stop)
+      (a : Accepted) (Such : Answer → Type 0) → IsRunnable ops o instants text a →
+      ((b : Accepted) (out : List ℕ) (end : Ending) → AreSame b a → Owed b out end → Such (ended out end)) → Holds before file text →
+      (Rose before.faults after.faults → ⊥) →
+      (fetched : List (Result (List ℕ) ShelfError)) → Fetches (file ∷ []) before after fetched → (answer : Answer) →
+      OwesRunning Owed ops o instants stop fetched answer → Such answer
   run_done Owed ops o instants stop a Such is ends holds well fetched met answer owed =
-      text_done (RefusesCheck ops o) (λ text told. (b : Accepted) × IsAccepted ops o text b × OwesEnded (Owed b) instants stop b told) stop Such
+      text_done (RefusesCheck ops o) (λ text told. (b : Accepted) × IsAccepted ops o text b × OwesEnded (Owed b) instants stop b told) stop
+      Such
       (λ more x h. ran_done Owed ops o instants stop text more a Such is ends x h) holds well fetched met answer owed
 
 -- the input that `make` generates is what it runs on
@@ -293,7 +300,8 @@ logged_done : CompleteReplay → (ops : List Operator) (words : ReplayWords) (ta
 logged_done again ops words taken stop before after (a, lists, horizon, picks, (text, held, can), (log, logs, reads), fed, run) well source fetched met answer owed =
     logged_so again ops words taken stop before after a lists horizon picks text log held can logs reads fed run well source fetched met answer owed
 
-module _ (cut : OneCut) (horizons : OneHorizon) (run : CompleteRun) (kahn : CompleteInterpretation) (again : CompleteReplay) (trace : CompleteTrace) (tight : OneTight)
+module _ (cut : OneCut) (horizons : OneHorizon) (run : CompleteRun) (kahn : CompleteInterpretation) (again : CompleteReplay)
+    (trace : CompleteTrace) (tight : OneTight)
     (before after : World) (output : List ℕ) (status : ℕ) (well : IsFaultless before after) where
   carried_out : (command : Command) (given : Given) → Meets command before after given → EndsWith command given before after status →
       MayWith given.operators command before output → Finishes (MayWith given.operators command before) before after status
@@ -327,7 +335,8 @@ module _ (cut : OneCut) (horizons : OneHorizon) (run : CompleteRun) (kahn : Comp
       let kinds : List HostKind = kinds_of ops in
       let instants : Option ℕ = words.instants in
       done (MayWith given.operators (Run words) before) (Run words) before after given output status suits
-      (run_done before.shelf after.shelf (program_of words.file) text (λ p. OwesRun kinds p instants given.taken given.stop) ops (inferring_options words.scale words.lead) instants given.stop a (λ x. x ≡ printed output) is
+      (run_done before.shelf after.shelf (program_of words.file) text (λ p. OwesRun kinds p instants given.taken given.stop) ops
+      (inferring_options words.scale words.lead) instants given.stop a (λ x. x ≡ printed output) is
       (λ b out end same owed. ended_printed out (heading a ++ lines_to kinds a lists horizon) end (run kinds a instants before.source after.source given.taken given.stop lists horizon out end met.source well.source fed
       (run_moves kinds b a same instants given.taken given.stop out end owed)) ∙ ap printed (sym lines)) holds well.shelf given.fetched met.shelf) well ends
   carried_out (Kahn words) given met ends suits =
@@ -336,7 +345,8 @@ module _ (cut : OneCut) (horizons : OneHorizon) (run : CompleteRun) (kahn : Comp
       let kinds : List HostKind = kinds_of ops in
       let instants : Option ℕ = words.instants in
       done (MayWith given.operators (Kahn words) before) (Kahn words) before after given output status suits
-      (run_done before.shelf after.shelf (program_of words.file) text (λ p. OwesKahn kinds p instants given.taken given.stop) ops (inferring_options words.scale words.lead) instants given.stop a (λ x. x ≡ printed output) is
+      (run_done before.shelf after.shelf (program_of words.file) text (λ p. OwesKahn kinds p instants given.taken given.stop) ops
+      (inferring_options words.scale words.lead) instants given.stop a (λ x. x ≡ printed output) is
       (λ b out end same owed. ended_printed out (lines_to kinds a lists horizon) end (kahn kinds a instants before.source after.source given.taken given.stop lists horizon out end met.source well.source fed turns items
       (kahn_moves kinds b a same instants given.taken given.stop out end owed)) ∙ ap printed (sym lines)) holds well.shelf given.fetched met.shelf) well ends
   carried_out (Make words) given met ends suits =
@@ -344,7 +354,8 @@ module _ (cut : OneCut) (horizons : OneHorizon) (run : CompleteRun) (kahn : Comp
       let kinds : List HostKind = kinds_of given.operators in
       let stages : ℕ = words.stages in
       done (MayWith given.operators (Make words) before) (Make words) before after given output status suits
-      (ran_done (λ p. OwesSummary stages kinds p) given.operators (inferring_options 1 1) None given.stop (made_text stages) [] a (λ x. x ≡ printed output) is
+      (ran_done (λ p. OwesSummary stages kinds p) given.operators (inferring_options 1 1) None given.stop (made_text stages) [] a
+      (λ x. x ≡ printed output) is
       (λ b out end same owed. made_ends cut horizons stages kinds a lists horizon out end is.1 fed (summary_moves stages kinds b a same out end owed) ∙ ap printed (sym lines))) well ends
   carried_out (Tighten words) given met ends suits =
       let ops : List Operator = given.operators in
@@ -374,9 +385,9 @@ module _ (cut : OneCut) (horizons : OneHorizon) (run : CompleteRun) (kahn : Comp
       (run_done before.shelf after.shelf (program_of words.file) text (λ p. OwesTrace p instants given.taken given.stop) ops
       (inferring_options words.scale words.lead) instants given.stop a (IsSuch (MayWith ops (Trace words) before)) is
       (λ b out end same owed. (
-          let whole = trace a instants before.source after.source given.taken given.stop lists horizon out end met.source well.source fed
-          (trace_moves [] b a same instants given.taken given.stop out end owed) in
-          (out, (a, lists, horizon, (text, holds, is), fed, whole.0), ended_printed out out end (refl, whole.1))
+      let whole = trace a instants before.source after.source given.taken given.stop lists horizon out end met.source well.source fed
+      (trace_moves [] b a same instants given.taken given.stop out end owed) in
+      (out, (a, lists, horizon, (text, holds, is), fed, whole.0), ended_printed out out end (refl, whole.1))
       )) holds well.shelf given.fetched met.shelf) well ends
 
 -- what may stand by the operators that a command has met may stand by those of its world

@@ -23,13 +23,16 @@ all_of (pick ∷ picks) = append-nil (pick ∷ picks)
 
 some_of : (picks : List ℕ) → All (λ round. 0 < length round) (in_one_round picks)
 some_of [] = All-nil (λ (round : List ℕ). 0 < length round)
-some_of (pick ∷ picks) = All-cons (λ (round : List ℕ). 0 < length round) (pick ∷ picks) [] (omega arith) (All-nil (λ (round : List ℕ). 0 < length round))
+some_of (pick ∷ picks) = All-cons (λ (round : List ℕ). 0 < length round) (pick ∷ picks) [] (omega arith)
+    (All-nil (λ (round : List ℕ). 0 < length round))
 
 -- a run of all events is a trace
-has_trace : (net : Net) (horizon : ℕ) (picks : List ℕ) → IsWhole (net_system net horizon) picks → (output : List ℕ) × IsTraceText net horizon output
+has_trace : (net : Net) (horizon : ℕ) (picks : List ℕ) → IsWhole (net_system net horizon) picks →
+    (output : List ℕ) × IsTraceText net horizon output
 has_trace net horizon picks whole =
     let rounds = in_one_round picks in
-    (trace_text rounds, (rounds, record { whole = subst (IsWhole (net_system net horizon)) (sym (all_of picks)) whole; some = some_of picks }, refl))
+    let all : IsWhole (net_system net horizon) (concat rounds) = subst (IsWhole (net_system net horizon)) (sym (all_of picks)) whole in
+    (trace_text rounds, (rounds, record { whole = all; some = some_of picks }, refl))
 
 pub run_suits : TracesSuit
 run_suits words before (printing, (a, lists, horizon, (text, held, can), fed, is)) =

@@ -23,7 +23,8 @@ Tells told lines err err' status = ((status ≡ told) × Writes err err' lines) 
 
 -- how a run ended was told; of a fault or a limit, or else that memory ran out
 abbrev pub TellsEnding : Ending → (err err' : SeenSink) (status : ℕ) → Type 0
-TellsEnding (ending.Input fault) err err' status = Tells (fault_status fault) (fault_line fault) err err' status ⊎ Tells 7 memory_line err err' status
+TellsEnding (ending.Input fault) err err' status =
+    Tells (fault_status fault) (fault_line fault) err err' status ⊎ Tells 7 memory_line err err' status
 TellsEnding (ending.Limit passed) err err' status = Tells 6 (limit_line passed) err err' status ⊎ Tells 7 memory_line err err' status
 TellsEnding end err err' status = Tells (ending_status end) (ending_line end) err err' status
 

@@ -163,8 +163,8 @@ replay_words t =
 -- what `trace` works on
 abbrev pub trace_words : Texts → Option TraceWords
 trace_words t =
-    option_and_then (λ k. option_map (λ workers. record { file = k.file; scale = k.scale; lead = k.lead; instants = k.instants; workers = workers })
-    (workers_of t)) (kahn_words t)
+    option_and_then (λ k. option_map (λ workers.
+    record { file = k.file; scale = k.scale; lead = k.lead; instants = k.instants; workers = workers }) (workers_of t)) (kahn_words t)
 
 -- the command of this name with these texts, where they fit it
 abbrev pub command_with : Name → Texts → Option Command

@@ -5,8 +5,9 @@
 //!
 //! A row is printed as `= NAME`, `status N`, `left N` with the number of bytes left in its source, each line of its
 //! output behind `> ` and each line of its faults behind `! `. Behind `>|` or `!|` it is said that the last line has no
-//! end. Of a row with a second call the output of the first isn't printed, and what the second leaves is. A line of a list that isn't read is printed behind `? `, with its list and its number. Behind the lists stand runs whose
-//! workers come to a gate, and where actors are at home.
+//! end. Of a row with a second call the output of the first isn't printed, and behind the rest stands what the second leaves. A line
+//! of a list that isn't read is printed behind `? `, with its list and its number. Behind the lists stand runs whose workers come to a
+//! gate, and where actors are at home.
 #![tactic(auto)]
 
 ghost use Rattle.lucy_host.specs.Host.{Serves};

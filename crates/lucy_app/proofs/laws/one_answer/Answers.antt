@@ -2,7 +2,8 @@ use Rattle.lucy_app.proofs.Owed.{owes_one, order_owes_one, show_owes_one}
 use Rattle.lucy_app.proofs.laws.one_answer.Goals as goal
 
 pub returns-clause-alike : goal.returns-clause-alike
-returns-clause-alike c = owes_one c.one_cut.ensures c.one_horizon.ensures c.one_run.ensures c.one_interpretation.ensures c.one_replay.ensures c.one_trace.ensures
+returns-clause-alike c = owes_one c.one_cut.ensures c.one_horizon.ensures c.one_run.ensures c.one_interpretation.ensures
+    c.one_replay.ensures c.one_trace.ensures
     (record { alike = c.one_tightest.ensures.alike; kept = c.one_tightest.ensures.kept; only = c.one_tightest.ensures.only })
 
 pub returns-clause-order : goal.returns-clause-order
