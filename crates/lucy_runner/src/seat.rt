@@ -118,9 +118,11 @@ pub(crate) fn few_left(seats: &[Seat]) -> bool {
 fn left_in(parts: &[Part]) -> u64 {
     let mut left = 0u64;
     for part in parts {
-        let rings = part.takers.len() as u64 + part.givers.len() as u64;
         let firings = part.state.quota.saturating_sub(part.state.fired);
-        left = left.saturating_add(firings.saturating_mul(rings));
+        if firings > 0 {
+            let rings = part.takers.len() as u64 + part.givers.len() as u64;
+            left = left.saturating_add(firings.saturating_mul(rings));
+        }
     }
     left
 }

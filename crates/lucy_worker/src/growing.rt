@@ -35,7 +35,7 @@ impl Part {
     }
 }
 
-// Gives an actor that is done more firings to do. An actor without rings stays at its end.
+// Gives an actor that is done more firings to do, if there are any. An actor without rings stays at its end.
 fn raise(actor: &Actor, state: &mut ActorState, quota: u64)
     requires usable { IsUsable actor.now }
     requires few { quota < 2 ^ 63 }
@@ -46,6 +46,9 @@ fn raise(actor: &Actor, state: &mut ActorState, quota: u64)
     ensures state { (before instants n : ℕ) (took : List (List ℤ)) → quota ≡ ones_to actor.now.firing instants → IsActorState actor.now before n took state.old →
         IsActorState actor.now instants n took state.new }
 {
+    if quota == state.quota {
+        return;
+    }
     let rings = actor.takes.list().len() as u64 + actor.gives.list().len() as u64;
     state.cursor = cursor_after(&actor.kind, state.fired);
     state.fired = fired_on(rings, state.fired, quota);
