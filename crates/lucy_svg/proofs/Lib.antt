@@ -1,0 +1,4 @@
+mod OneLaws
+mod JoinLaws
+mod FlowLaws
+mod EscapeLaws

@@ -1,0 +1,23 @@
+//! Chronograms as SVG. What they show beyond `lucy_picture`'s chronogram is data whose contracts say what it is: which instant reads an
+//! item of a buffer, and how many items have gone in and out; and no text can end the element that it stands in. The layout is safe and
+//! tested.
+//!
+//! It stands on `lucy_picture`. Begin with `drawing_of` in `drawing.rt` and with `specs/Joins.antt` and `specs/Flows.antt`; for texts with
+//! `put_escaped` in `escape.rt` and `specs/Escaping.antt`. Below `print` stands what only draws.
+#![tactic(auto)]
+
+mod drawing;
+mod escape;
+mod flow;
+mod join;
+mod ones;
+mod print;
+
+pub use drawing::{Drawing, drawing_of};
+pub use escape::{escaped_texts_are_read_back, put_escaped};
+pub use flow::{Flow, flow_of};
+pub use join::{Join, Joins};
+pub use print::{
+    Font, HEAD, NAME, SMALL, STYLE, Sheet, Told, put, put_label, put_time_svg, shown_of,
+    shown_text, turn_text, word_text,
+};

@@ -1,0 +1,90 @@
+// Stairs: how a number goes up and down from instant to instant.
+use crate::print::ink::put;
+use crate::print::lane::Lanes;
+use std::alloc::{AllocError, Global};
+
+/// A band that stairs stand in: its upper edge, its height, and the number that is as high.
+#[derive(Clone, Copy)]
+pub(crate) struct Band {
+    pub top: u64,
+    pub height: u64,
+    pub most: u64,
+}
+
+/// The greatest of numbers, or 0.
+pub(crate) fn most_of(numbers: &[u64]) -> u64 {
+    let mut most = 0;
+    for number in numbers {
+        most = most.max(*number);
+    }
+    most
+}
+
+impl Band {
+    /// Where it ends below.
+    pub(crate) fn bottom(&self) -> u64 {
+        self.top.saturating_add(self.height)
+    }
+
+    // How high a number stands, in tenths.
+    fn height_of(&self, number: u64) -> u64 {
+        let whole = number.saturating_mul(self.height).saturating_mul(10);
+        let most = self.most.max(1);
+        let bottom = self.bottom().saturating_mul(10);
+        bottom.saturating_sub(whole / most)
+    }
+
+    // Puts a step last, at this distance, to a number.
+    fn put_step(
+        &self,
+        alloc: Global,
+        x: u64,
+        number: u64,
+        out: &mut Vec<u8>,
+    ) -> Result<(), AllocError> {
+        let y = self.height_of(number);
+        let whole = y / 10;
+        let tenths = y % 10;
+        put(out, &format!(in alloc; "H{x}V{whole}.{tenths}")?)
+    }
+
+    // Puts the steps last.
+    fn put_steps(
+        &self,
+        alloc: Global,
+        lanes: &Lanes,
+        numbers: &[u64],
+        out: &mut Vec<u8>,
+    ) -> Result<(), AllocError> {
+        let mut last = 0;
+        for (i, number) in numbers.iter().enumerate() {
+            if *number != last {
+                self.put_step(alloc, lanes.end(i as u64), *number, out)?;
+                last = *number;
+            }
+        }
+        put(out, &format!(in alloc; "H{}", lanes.width())?)
+    }
+
+    /// Puts the stairs of numbers last, of this class, which begin on the ground and where it is said end there.
+    pub(crate) fn put_stairs(
+        &self,
+        alloc: Global,
+        lanes: &Lanes,
+        class: &str,
+        numbers: &[u64],
+        closed: bool,
+        out: &mut Vec<u8>,
+    ) -> Result<(), AllocError> {
+        let ground = self.bottom();
+        put(
+            out,
+            &format!(in alloc; "<path class=\"{class}\" d=\"M0 {ground}")?,
+        )?;
+        self.put_steps(alloc, lanes, numbers, out)?;
+        if closed {
+            put(out, &format!(in alloc; "V{ground}H0z")?)?;
+        }
+        put(out, "\"/>")
+    }
+}

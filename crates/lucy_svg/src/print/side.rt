@@ -1,0 +1,145 @@
+// What stands before the lanes: names and words.
+use crate::print::ink::{HEAD, NAME, SMALL, put, put_label};
+use crate::print::names::Told;
+use lucy_picture::{Fill, Row};
+use lucy_place::PlacedNode;
+use lucy_word::{OutOfMemory, Word};
+use std::alloc::{AllocError, Global};
+
+// How far the names stand from the edge.
+const EDGE: u64 = 8;
+
+/// The names of a chronogram: those of a node, with its words, each linked to where it is defined where a number of the node is given.
+#[derive(Drop)]
+pub(crate) struct Side<'a> {
+    pub node: &'a PlacedNode,
+    pub words: &'a [Word],
+    pub linked: Option<u32>,
+    pub told: Told,
+}
+
+/// The text of the word of a place, by its number.
+pub fn word_text(alloc: Global, words: &[Word], place: u32) -> Result<Vec<u8>, OutOfMemory> {
+    let mut text = Vec::new(alloc);
+    if let Some(word) = words.get(place as usize) {
+        word.print(alloc, &mut text)?;
+    }
+    Ok(text)
+}
+
+// How the size of a buffer is told, and when it is reached first.
+fn size_text(alloc: Global, fill: &Fill) -> Result<String, AllocError> {
+    let size = fill.size;
+    match fill.full {
+        Some(at) => format!(in alloc; "size {size}, first at {at}"),
+        None => format!(in alloc; "size {size}, not reached here"),
+    }
+}
+
+// How a buffer is told, with its bound where one is written.
+fn buffer_text(alloc: Global, node: &PlacedNode, fill: &Fill) -> Result<String, AllocError> {
+    let number = fill.buffer;
+    let index = number.saturating_sub(1);
+    match node.bounds.list().get(index as usize) {
+        Some(Some(most)) => format!(in alloc; "buffer {number} at most {most}"),
+        _ => format!(in alloc; "buffer {number}"),
+    }
+}
+
+impl<'a> Side<'a> {
+    // How wide the name and the word of a place are.
+    fn width_of(&self, alloc: Global, place: u32) -> Result<u64, OutOfMemory> {
+        let name = self.told.text(alloc, self.node, place)?;
+        let word = word_text(alloc, self.words, place)?;
+        let name = NAME.width(name.len().saturating_add(4));
+        Ok(name.max(SMALL.width(word.len())))
+    }
+
+    /// How wide they are, those of rows and of buffers.
+    pub(crate) fn width(
+        &self,
+        alloc: Global,
+        rows: &[Row],
+        fills: &[Fill],
+    ) -> Result<u64, OutOfMemory> {
+        let mut most = NAME.width(22);
+        for row in rows {
+            most = self.width_of(alloc, row.place)?.max(most);
+        }
+        for fill in fills {
+            let both = self
+                .width_of(alloc, fill.operand)?
+                .max(self.width_of(alloc, fill.place)?);
+            most = both.max(most);
+        }
+        Ok(most.saturating_add(EDGE).saturating_add(EDGE))
+    }
+
+    // Puts the begin of a link last, to where the stream is defined by which a place is told, if there is one; answers whether there is.
+    fn put_link(&self, alloc: Global, place: u32, out: &mut Vec<u8>) -> Result<bool, AllocError> {
+        let (Some(number), Some(stream)) = (self.linked, self.told.of(place)) else {
+            return Ok(false);
+        };
+        put(out, &format!(in alloc; "<a href=\"#d{number}-{stream}\">")?)?;
+        Ok(true)
+    }
+
+    /// Puts a place last, behind a text, with its word below.
+    pub(crate) fn put_name(
+        &self,
+        alloc: Global,
+        before: &str,
+        place: u32,
+        top: u64,
+        out: &mut Vec<u8>,
+    ) -> Result<(), OutOfMemory> {
+        let mut text = Vec::new(alloc);
+        put(&mut text, before)?;
+        text.extend_from_slice(&self.told.text(alloc, self.node, place)?)?;
+        let linked = self.put_link(alloc, place, out)?;
+        put_label(alloc, &NAME, (EDGE, top.saturating_add(13)), &text, out)?;
+        if linked {
+            put(out, "</a>")?;
+        }
+        let word = word_text(alloc, self.words, place)?;
+        put_label(alloc, &SMALL, (EDGE, top.saturating_add(26)), &word, out)?;
+        Ok(())
+    }
+
+    /// Puts what is told of a buffer last.
+    pub(crate) fn put_buffer(
+        &self,
+        alloc: Global,
+        fill: &Fill,
+        top: u64,
+        out: &mut Vec<u8>,
+    ) -> Result<(), AllocError> {
+        let name = buffer_text(alloc, self.node, fill)?;
+        let size = size_text(alloc, fill)?;
+        put_label(
+            alloc,
+            &HEAD,
+            (EDGE, top.saturating_add(16)),
+            name.as_bytes(),
+            out,
+        )?;
+        put_label(
+            alloc,
+            &SMALL,
+            (EDGE, top.saturating_add(28)),
+            size.as_bytes(),
+            out,
+        )
+    }
+
+    /// Puts what a band shows last.
+    pub(crate) fn put_note(
+        &self,
+        alloc: Global,
+        text: &str,
+        y: u64,
+        out: &mut Vec<u8>,
+    ) -> Result<(), AllocError> {
+        put_label(alloc, &SMALL, (EDGE, y), text.as_bytes(), out)
+    }
+}
