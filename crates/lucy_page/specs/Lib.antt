@@ -1,0 +1,1 @@
+-- What callers believe stands in the crates below: a page only arranges it.

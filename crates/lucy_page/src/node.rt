@@ -1,0 +1,74 @@
+// A node: its net, its chronogram and its buffers.
+ghost use Rattle.std.specs.Prelude.{List, ℕ, ◌<◌, length};
+ghost use Rattle.lucy_host.specs.Operators.{Operator};
+ghost use Rattle.lucy_front.specs.declared.options.Options.{Options as Choices};
+ghost use Rattle.lucy_front.specs.Accepting.{IsAccepted};
+
+use crate::buffers::put_buffers;
+use crate::net::put_net;
+use crate::part::{begin_svg, put_link};
+use lucy_front::Accepted;
+use lucy_picture::{Turn, turn_of};
+use lucy_svg::{Sheet, drawing_of, put, shown_of, shown_text, turn_text};
+use lucy_tree::Program;
+use lucy_word::OutOfMemory;
+use std::alloc::{AllocError, Global};
+
+// Puts the chronogram last: the names stay where they are, and the lanes are moved behind them.
+fn put_sheet(alloc: Global, sheet: &Sheet<'_>, out: &mut Vec<u8>) -> Result<(), OutOfMemory> {
+    put(out, "<div class=\"chart\">")?;
+    begin_svg(alloc, sheet.names, sheet.height, out)?;
+    sheet.put_names(alloc, out)?;
+    put(out, "</svg><div class=\"across\">")?;
+    begin_svg(alloc, sheet.width, sheet.height, out)?;
+    sheet.put_lanes(alloc, out)?;
+    put(out, "</svg></div></div>\n")?;
+    Ok(())
+}
+
+// Puts when all comes again together last, and how many instants are shown.
+fn put_turn(
+    alloc: Global,
+    turn: Option<Turn>,
+    shown: u64,
+    out: &mut Vec<u8>,
+) -> Result<(), AllocError> {
+    let again = turn_text(alloc, turn)?;
+    let text = shown_text(alloc, turn, shown)?;
+    put(
+        out,
+        &format!(in alloc; "<h3>Chronogram</h3>\n<p>{again}; {text}</p>\n")?,
+    )
+}
+
+/// Puts a node of an accepted program last, by its number from 0, at so many instants, or at as many as its own chronogram has.
+pub(crate) fn put_node(
+    alloc: Global,
+    program: &Program,
+    accepted: &Accepted,
+    number: u32,
+    instants: Option<u64>,
+    out: &mut Vec<u8>,
+) -> Result<(), OutOfMemory>
+    requires accepted { (ops : List Operator) × (o : Choices) × (text : List ℕ) × IsAccepted ops o text accepted.now }
+    requires node { number < length accepted.now.placed.nodes }
+{
+    let turn = turn_of(alloc, accepted, number)?;
+    let shown = shown_of(turn, instants);
+    let drawing = drawing_of(alloc, accepted, number, shown)?;
+    let node = accepted.placed.node(number);
+    let words = match accepted.clocks.get(number as usize) {
+        Some(clock) => clock.words.list(),
+        None => &[],
+    };
+    put(out, &format!(in alloc; "<section id=\"n{number}\"><h2>Node ")?)?;
+    put_link(alloc, &format!(in alloc; "t{number}")?, node.name.text.bytes(), out)?;
+    put(out, "</h2>\n")?;
+    put_net(alloc, program, accepted, number, out)?;
+    put_turn(alloc, turn, shown, out)?;
+    let sheet = Sheet::new(alloc, node, words, Some(number), turn, shown, &drawing)?;
+    put_sheet(alloc, &sheet, out)?;
+    put_buffers(alloc, number, node, &drawing.chart.fills, out)?;
+    put(out, "</section>\n")?;
+    Ok(())
+}
