@@ -1,0 +1,6 @@
+mod PieceLaws
+mod DumpLaws
+mod VariableLaws
+mod ReadLaws
+mod BackLaws
+mod WaveLaws

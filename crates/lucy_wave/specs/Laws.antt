@@ -1,0 +1,30 @@
+-- Laws of the dumps of runs.
+use Rattle.std.specs.Prelude.{ℕ, ◌≤◌, ◌≡◌, List, ◌++◌, Option, IfSome}
+use Rattle.lucy_word.specs.Limits.{limit_number}
+use Rattle.lucy_word.specs.declared.limit.Limit.TheVariants as limit
+use Rattle.lucy_host.specs.Operators.{Operator}
+use Rattle.lucy_host.specs.declared.kind.HostKind.{HostKind}
+use Rattle.lucy_feed.specs.Sources.{Stop}
+use Rattle.lucy_front.specs.declared.accepted.Accepted.{Accepted}
+use Rattle.lucy_front.specs.declared.options.Options.{Options}
+use Rattle.lucy_front.specs.Accepting.{IsAccepted}
+use Rattle.lucy_run.specs.declared.ending.Ending.{Ending}
+use Rattle.lucy_run.specs.Owes.{heading, OwesRun}
+use Rattle.lucy_wave.specs.Reading.{SaysOutput, ReadsFrom}
+use Rattle.lucy_wave.specs.Waves.{OwesWave}
+
+-- The dump that is owed of an accepted program says, read back, the output lines that `run` owes of the same input, and both end alike.
+abbrev pub WavesAreReadBack : Type 0
+WavesAreReadBack = (ops : List Operator) (o : Options) (text : List ℕ) (kinds : List HostKind) (a : Accepted) (given : Option ℕ) (taken : List ℕ) (stop : Stop) (dump printed : List ℕ) (end other : Ending) →
+    IsAccepted ops o text a → IfSome given (λ most. most ≤ limit_number limit.Instants) → OwesWave kinds a given taken stop dump end → OwesRun kinds a given taken stop printed other →
+    (count : ℕ) × (lines : List ℕ) × SaysOutput dump a.outputs.items count lines × (printed ≡ heading a ++ lines) × (end ≡ other)
+
+-- the bytes taken and how reading stopped owe one dump, with one ending
+abbrev pub OneWave : Type 0
+OneWave = (kinds : List HostKind) (a : Accepted) (given : Option ℕ) (taken : List ℕ) (stop : Stop) (output out : List ℕ) (end other : Ending) →
+    OwesWave kinds a given taken stop output end → OwesWave kinds a given taken stop out other → (output ≡ out) × (end ≡ other)
+
+-- a variable has one value at a step
+abbrev pub OneReading : Type 0
+OneReading = (code : List ℕ) (step : ℕ) (held : Option ℕ) (lines : List (List ℕ)) (value other : Option ℕ) →
+    ReadsFrom code step held lines value → ReadsFrom code step held lines other → value ≡ other

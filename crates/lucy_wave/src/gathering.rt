@@ -1,0 +1,217 @@
+// The variables of main.
+ghost use Rattle.std.specs.Prelude.{List, ◌≡◌, ◌≤◌, ◌<◌, ◌+◌, ◌-◌, ◌^◌, ◌∷◌, ◌++◌, [], length, OnOk, IfOk};
+ghost use Rattle.std.specs.List.{AllByRecursion};
+ghost use Rattle.lucy_place.specs.declared.placed.PlacedNode.{PlacedNode as Node};
+ghost use Rattle.lucy_place.specs.Proper.{IsProperNode};
+ghost use Rattle.lucy_need.specs.Meeting.{assigned};
+ghost use Rattle.lucy_clock.specs.Clocks.{clocks_of};
+ghost use Rattle.lucy_wave.specs.Waves as spec;
+ghost use Rattle.lucy_wave.specs.Waves.{Fit, written_name, is_outer, is_among};
+ghost use Rattle.lucy_wave.specs.Seen.{seen, all_seen};
+
+use crate::variable::Variable;
+use lucy_front::first_operand;
+use lucy_host::Inputs;
+use lucy_output::OutputSpec;
+use lucy_place::PlacedNode;
+use lucy_tree::Name;
+use lucy_word::{OutOfMemory, Word};
+use std::alloc::{AllocError, Global};
+
+// One more variable.
+fn push<'a>(variables: &mut Vec<Variable<'a>>, variable: Variable<'a>) -> Result<(), AllocError>
+    ensures { OnOk result (all_seen variables.new.items ≡ all_seen variables.old.items ++ seen variable.entry ∷ []) }
+{
+    variables.push(variable)?;
+    Ok(())
+}
+
+// What is shown of a stream with its items.
+fn put_stream<'a>(
+    name: &'a [u8],
+    word: &'a Word,
+    items: &'a [i64],
+    variables: &mut Vec<Variable<'a>>,
+) -> Result<(), AllocError>
+    ensures { OnOk result (all_seen variables.new.items ≡ all_seen variables.old.items ++ spec.stream name.now word.now items.now) }
+{
+    push(variables, Variable::There(name, word))?;
+    push(variables, Variable::Last(name, word, items))
+}
+
+// The items are numbers of 64 bits, one after another.
+fn are_numbers(items: &[i64])
+    ensures { Fit items.now }
+{
+    'each: for item in items {
+        let _number = *item;
+    }
+}
+
+// The results, with their streams.
+fn put_results<'a>(
+    outputs: &'a [OutputSpec],
+    streams: &'a Inputs,
+    variables: &mut Vec<Variable<'a>>,
+) -> Result<(), AllocError>
+    requires lists { length outputs.now ≡ length streams.now }
+    requires few { length outputs.now < 2 ^ 32 }
+    ensures shown { OnOk result (all_seen variables.new.items ≡ all_seen variables.old.items ++ spec.results outputs.now streams.now) }
+    ensures fit { OnOk result (AllByRecursion Fit streams.now) }
+{
+    'each: for (i, output) in outputs.iter().enumerate() {
+        let items = streams.list(i as u32);
+        are_numbers(items);
+        put_stream(output.name.bytes(), &output.word, items, variables)?;
+    }
+    Ok(())
+}
+
+// The word of a clock.
+fn word_of(words: &[Word], clock: u32) -> &Word
+    requires { clock < length words.now }
+    ensures { result.now ≡ assigned words.now clock }
+{
+    &words[clock as usize]
+}
+
+// The bytes of a name, where there is one.
+fn bytes_of(name: &Option<Name>) -> &[u8]
+    ensures { result.now ≡ spec.bytes_of name.now }
+{
+    match name {
+        None => &[],
+        Some(name) => name.text.bytes(),
+    }
+}
+
+// The written name of a place.
+fn written_name(node: &PlacedNode, place: u32) -> &[u8]
+    requires low { 1 ≤ place }
+    requires high { place ≤ length node.now.places }
+    ensures { result.now ≡ written_name node.now place }
+{
+    bytes_of(&node.places.list()[place as usize - 1].name)
+}
+
+// The inputs, with their items.
+fn put_inputs<'a>(
+    node: &'a PlacedNode,
+    words: &'a [Word],
+    lists: &'a Inputs,
+    variables: &mut Vec<Variable<'a>>,
+) -> Result<(), AllocError>
+    requires lists { length lists.now ≡ node.now.params }
+    requires places { node.now.params ≤ length node.now.places }
+    requires words { length node.now.places < length words.now }
+    ensures { OnOk result (all_seen variables.new.items ≡ all_seen variables.old.items ++ spec.inputs node.now (assigned words.now) 1 lists.now) }
+{
+    'each: for i in 0..node.params {
+        put_stream(
+            written_name(node, i + 1),
+            word_of(words, i + 1),
+            lists.list(i),
+            variables,
+        )?;
+    }
+    Ok(())
+}
+
+// Whether a number is among these.
+fn is_among(number: u32, numbers: &[u32]) -> bool
+    ensures { result ≡ is_among number numbers.now }
+{
+    'each: for n in numbers {
+        if *n == number {
+            return true;
+        }
+    }
+    false
+}
+
+// Whether a place is an input or a result.
+fn is_outer(node: &PlacedNode, place: u32) -> bool
+    ensures { result ≡ is_outer node.now place }
+{
+    place <= node.params || is_among(place, node.results.list())
+}
+
+// Any other place with a name.
+fn put_place<'a>(
+    node: &PlacedNode,
+    name: &'a Option<Name>,
+    word: &'a Word,
+    place: u32,
+    variables: &mut Vec<Variable<'a>>,
+) -> Result<(), AllocError>
+    ensures { OnOk result (all_seen variables.new.items ≡ all_seen variables.old.items ++ spec.inner_stream node.now word.now place name.now) }
+{
+    let Some(name) = name else {
+        return Ok(());
+    };
+    if is_outer(node, place) {
+        return Ok(());
+    }
+    push(variables, Variable::There(name.text.bytes(), word))
+}
+
+// The other streams.
+fn put_inner<'a>(
+    node: &'a PlacedNode,
+    words: &'a [Word],
+    variables: &mut Vec<Variable<'a>>,
+) -> Result<(), AllocError>
+    requires few { length node.now.places < 2 ^ 32 - 1 }
+    requires words { length node.now.places < length words.now }
+    ensures { OnOk result (all_seen variables.new.items ≡ all_seen variables.old.items ++ spec.inner node.now (assigned words.now) 1 node.now.places) }
+{
+    'each: for (i, entry) in node.places.list().iter().enumerate() {
+        let place = i as u32 + 1;
+        put_place(node, &entry.name, word_of(words, place), place, variables)?;
+    }
+    Ok(())
+}
+
+// The buffers.
+fn put_buffers<'a>(
+    node: &'a PlacedNode,
+    words: &'a [Word],
+    variables: &mut Vec<Variable<'a>>,
+) -> Result<(), AllocError>
+    requires proper { (above : List Node) × IsProperNode above node.now }
+    requires words { length words.now ≡ clocks_of node.now }
+    ensures { OnOk result (all_seen variables.new.items ≡ all_seen variables.old.items ++ spec.buffers node.now (assigned words.now) 1 node.now.buffers) }
+{
+    'each: for (i, place) in node.buffers.list().iter().enumerate() {
+        let operand = first_operand(node, *place).unwrap_or(0);
+        let write = word_of(words, operand);
+        let read = word_of(words, *place);
+        push(variables, Variable::Waiting(i as u64 + 1, write, read))?;
+    }
+    Ok(())
+}
+
+/// The variables of main: its results with their streams, its inputs with their items, its other streams and its buffers.
+pub(crate) fn variables<'a>(
+    alloc: Global,
+    node: &'a PlacedNode,
+    words: &'a [Word],
+    outputs: &'a [OutputSpec],
+    lists: &'a Inputs,
+    streams: &'a Inputs,
+) -> Result<Vec<Variable<'a>>, OutOfMemory>
+    requires proper { (above : List Node) × IsProperNode above node.now }
+    requires words { length words.now ≡ clocks_of node.now }
+    requires lists { length lists.now ≡ node.now.params }
+    requires streams { length outputs.now ≡ length streams.now }
+    requires few { length outputs.now < 2 ^ 32 }
+    ensures shown { IfOk result (λ v. all_seen v.items ≡ spec.variables node.now (assigned words.now) outputs.now lists.now streams.now) }
+    ensures fit { IfOk result (λ _. AllByRecursion Fit streams.now) }
+{
+    let mut variables = Vec::new(alloc);
+    put_results(outputs, streams, &mut variables)?;
+    put_inputs(node, words, lists, &mut variables)?;
+    put_inner(node, words, &mut variables)?;
+    put_buffers(node, words, &mut variables)?;
+    Ok(variables)
+}

@@ -1,0 +1,28 @@
+// Laws of the dumps of runs, on functions that call the laws of feeds, horizons and streams alone.
+ghost use Rattle.lucy_wave.specs.Laws.{WavesAreReadBack, OneWave, OneReading};
+
+use lucy_execution::streams_are_whole;
+use lucy_feed::one_feed;
+use lucy_meaning::one_horizon;
+
+/// The dump that is owed of an accepted program says, read back, the output lines that `run` owes of the same input, and both end alike.
+pub fn waves_are_read_back()
+    ensures { WavesAreReadBack }
+{
+    one_feed();
+    one_horizon();
+    streams_are_whole();
+}
+
+/// The bytes taken, and how reading stopped, owe one dump, with one ending.
+pub fn one_wave()
+    ensures { OneWave }
+{
+    one_feed();
+    one_horizon();
+}
+
+/// A variable of a dump has one value at a step.
+pub fn one_reading()
+    ensures { OneReading }
+{}

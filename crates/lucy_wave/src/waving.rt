@@ -1,0 +1,171 @@
+// The dump of a run of an accepted program.
+ghost use Rattle.std.specs.Prelude.{◌≡◌, ◌≢◌, ◌≤◌, ◌<◌, ◌-◌, ℕ, List, [], None, length, IfOk, IfSome, slice_get};
+ghost use Rattle.lucy_word.specs.Limits.{limit_number};
+ghost use Rattle.lucy_word.specs.declared.limit.Limit.TheVariants as limit;
+ghost use Rattle.lucy_host.specs.Host.{Serves, lent};
+ghost use Rattle.lucy_host.specs.Operators.{kinds_of};
+ghost use Rattle.lucy_lines.specs.Fronts.{most_bytes};
+ghost use Rattle.lucy_feed.specs.Sources.{Stop, Read};
+ghost use Rattle.lucy_feed.specs.Feeding.{IsAsked};
+ghost use Rattle.lucy_place.specs.Proper.{HaveOperators};
+ghost use Rattle.lucy_meaning.specs.Spots.{main_of, results_in};
+ghost use Rattle.lucy_kahn.specs.Turns.{params_in};
+ghost use Rattle.lucy_net.specs.Schedules.{IsSound};
+ghost use Rattle.lucy_cause.specs.Schedules.{events_at};
+ghost use Rattle.lucy_flat.specs.Clocked.{AreClocked};
+ghost use Rattle.lucy_flat.specs.Flat.{IsFlat};
+ghost use Rattle.lucy_flat.specs.Instances.{words_in};
+ghost use Rattle.lucy_execution.specs.Streams.{param_words, result_words};
+ghost use Rattle.lucy_front.specs.declared.options.Options.{Options};
+ghost use Rattle.lucy_front.specs.Accepting.{IsAccepted};
+ghost use Rattle.lucy_run.specs.Owes.{IsHorizonOf};
+ghost use Rattle.lucy_run.specs.Ends.{EndsWith};
+ghost use Rattle.lucy_run.specs.Steps.{LeavesOwed};
+ghost use Rattle.lucy_wave.specs.Waves.{IsWave, Waves, OwesWave};
+
+use crate::dumping::put_dump;
+use crate::gathering::variables;
+use crate::playing::{Played, play};
+use lucy_cause::Schedule;
+use lucy_clock::NodeClock;
+use lucy_execution::param_words;
+use lucy_feed::Feed;
+use lucy_front::{Accepted, accepted_programs_are_clocked};
+use lucy_host::Host;
+use lucy_net::Net;
+use lucy_output::OutputSpec;
+use lucy_place::Placed;
+use lucy_run::{Ending, extent_of, main_feed};
+use lucy_text::{Sink, Source, write_all};
+use lucy_word::{OutOfMemory, Word};
+use std::alloc::Global;
+
+// The words of main's clocks.
+fn main_words<'a>(placed: &Placed, clocks: &'a [NodeClock]) -> &'a [Word]
+    requires { AreClocked placed.now.nodes clocks.now }
+    ensures { result.now ≡ words_in (slice_get clocks.now (length placed.now.nodes - 1)) }
+{
+    let main = placed.nodes() - 1;
+    clocks[main as usize].words.list()
+}
+
+// The text of the dump of a run.
+fn wave_text(
+    alloc: Global,
+    placed: &Placed,
+    clocks: &[NodeClock],
+    outputs: &[OutputSpec],
+    played: &Played,
+    instants: u64,
+) -> Result<Vec<u8>, OutOfMemory>
+    requires clocked { AreClocked placed.now.nodes clocks.now }
+    requires outputs { length outputs.now ≡ length (results_in (main_of placed.now.nodes)) }
+    requires lists { params_in (main_of placed.now.nodes) ≡ length played.now.lists }
+    requires streams { length played.now.streams ≡ length (results_in (main_of placed.now.nodes)) }
+    requires early { instants ≤ limit_number limit.Instants }
+    ensures { IfOk result (λ v. IsWave placed.now.nodes clocks.now outputs.now played.now.lists played.now.streams instants v.items) }
+{
+    let main = placed.node(placed.nodes() - 1);
+    let words = main_words(placed, clocks);
+    let variables = variables(alloc, main, words, outputs, &played.lists, &played.streams)?;
+    let mut text = Vec::new(alloc);
+    put_dump(
+        alloc,
+        main.name.text.bytes(),
+        &variables,
+        instants,
+        &mut text,
+    )?;
+    Ok(text)
+}
+
+// Writes the dump of what main is fed, where these instants are given.
+fn wave_feed<F: Fn(u32, i64, i64) -> i64 + Sync, O: Sink>(
+    alloc: Global,
+    placed: &Placed,
+    clocks: &[NodeClock],
+    net: Net,
+    schedule: Schedule,
+    outputs: &[OutputSpec],
+    host: &Host<F>,
+    given: Option<u64>,
+    feed: Feed,
+    out: &mut O,
+) -> Ending
+    requires clocked { AreClocked placed.now.nodes clocks.now }
+    requires flat { IsFlat placed.now.nodes clocks.now net }
+    requires sound { IsSound net (events_at schedule) }
+    requires outputs { length outputs.now ≡ length (results_in (main_of placed.now.nodes)) }
+    requires serves { Serves F.pre F.post host.now }
+    requires known { HaveOperators (length (lent host.now)) placed.now.nodes }
+    requires inputs { params_in (main_of placed.now.nodes) ≡ length feed.items }
+    requires few { IfSome given (λ most. most ≤ limit_number limit.Instants) }
+    ensures left { (horizon : ℕ) × IsHorizonOf (param_words placed.now.nodes clocks.now) given feed.items horizon
+        × LeavesOwed (Waves (kinds_of (lent host.now)) placed.now.nodes clocks.now outputs.now given feed.items feed.stop horizon)
+        (O.seen out.old) (O.seen out.new) result }
+    ensures count { (O.seen out.old).faults ≤ (O.seen out.new).faults }
+{
+    let Feed { items, stop } = feed;
+    let words = param_words(placed, clocks);
+    let extent = match extent_of(alloc, words, given, &items, stop) {
+        Ok(extent) => extent,
+        Err(_) => return Ending::OutOfMemory,
+    };
+    let horizon = extent.horizon;
+    let played = match play(alloc, placed, clocks, net, schedule, host, items, horizon) {
+        Ok(played) => played,
+        Err(_) => return Ending::OutOfMemory,
+    };
+    let text = match wave_text(alloc, placed, clocks, outputs, &played, horizon) {
+        Ok(text) => text,
+        Err(_) => return Ending::OutOfMemory,
+    };
+    match write_all(out, &text) {
+        Ok(()) => extent.ending,
+        Err(_) => Ending::WriteFault,
+    }
+}
+
+/// Writes a run of an accepted program as a value change dump, an instant a step: its input is read to its end or its first fault, and
+/// then the dump is written up to the horizon, which is that of [`run`](lucy_run::run), and nothing else. Each stream of main with a
+/// name, `s`, has a bit `s$there` that tells whether an item comes, each input and each result its last item so far, 0 before the
+/// first, and buffer `k`, from 1, as `buffer$k` how many items wait in it.
+///
+/// All memory is taken before the first write.
+pub fn wave<F: Fn(u32, i64, i64) -> i64 + Sync, I: Source, O: Sink>(
+    alloc: Global,
+    accepted: Accepted,
+    host: &Host<F>,
+    instants: Option<u64>,
+    source: &mut I,
+    out: &mut O,
+) -> Ending
+    requires serves { Serves F.pre F.post host.now }
+    requires accepted { (text : List ℕ) × (options : Options) × IsAccepted (lent host.now) options text accepted }
+    requires few { IfSome instants (λ given. given ≤ limit_number limit.Instants) }
+    requires given { accepted.inputs.items ≡ [] → instants ≢ None }
+    ensures ends { (taken : List ℕ) × (stop : Stop) × Read most_bytes (I.seen source.old) (I.seen source.new) taken stop
+        × IsAsked accepted.inputs.items taken × EndsWith (OwesWave (kinds_of (lent host.now)) accepted instants taken) (λ counted. counted ≡ stop) stop
+        (O.seen out.old) (O.seen out.new) result }
+    ensures unread { accepted.inputs.items ≡ [] → source.new ≡ source.old }
+    ensures source_count { (I.seen source.old).faults ≤ (I.seen source.new).faults }
+    ensures out_count { (O.seen out.old).faults ≤ (O.seen out.new).faults }
+{
+    let Accepted {
+        placed,
+        clocks,
+        net,
+        schedule,
+        inputs,
+        outputs,
+        ..
+    } = accepted;
+    accepted_programs_are_clocked();
+    let feed = match main_feed(alloc, inputs, source) {
+        Ok(feed) => feed,
+        Err(_) => return Ending::OutOfMemory,
+    };
+    wave_feed(
+        alloc, &placed, &clocks, net, schedule, &outputs, host, instants, feed, out,
+    )
+}
