@@ -51,6 +51,14 @@ def merges():
     return [node(f"f{i}", "x :: (1)", "x", definitions) for i in range(int(4 * part))] + [node("top", "x :: (1)", "x", [])]
 
 
+def instances():
+    """A hundred calls of a node of eighty streams, each of whose words has a million bits in an instance: the net has too many."""
+    first, second, names, calls = "(" + "1" * 1023 + "0)", word(1024), 80, int(100 * part)
+    chain = [f"y1 :: {second} = 7"] + [f"y{i} :: {second} = y{i - 1}" for i in range(2, names + 1)]
+    uses = [f"z0 :: {first} = x when {first}"] + [f"z{i} :: {first} = f at {first} (z{i - 1})" for i in range(1, calls + 1)]
+    return [node("f", "x :: (1)", "x", chain), node("top", "x :: (1)", f"z{calls}", uses)]
+
+
 def events():
     """Four million events, of four thousand actors in 512 instants."""
     names = int(4088 * part)
@@ -72,4 +80,4 @@ def net():
     return nodes + [node("m", f"b :: {word}", "b", parts + [f"u :: {word} = {choices(84)}"])]
 
 
-print("\n".join({"words": words, "calls": calls, "doubled": doubled, "merges": merges, "net": net, "events": events}[sys.argv[1]]()))
+print("\n".join({"words": words, "calls": calls, "doubled": doubled, "merges": merges, "net": net, "events": events, "instances": instances}[sys.argv[1]]()))
