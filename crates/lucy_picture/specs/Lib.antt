@@ -1,9 +1,10 @@
 -- What callers believe, in the order to read it: what a chronogram shows of a node, after how many instants it comes again, where an
--- offset stands in a text, and which forms stand at the places of a node.
+-- offset stands in a text, which forms stand at the places of a node, and where these begin.
 pub mod Charts
 pub mod Turns
 pub mod Spots
 pub mod Forms
+pub mod Offsets
 -- Below this line stands what only serves the proofs of the bodies.
 pub mod Drawn
 pub mod Seeking
