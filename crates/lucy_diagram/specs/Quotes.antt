@@ -1,29 +1,28 @@
--- How a text stands between quotes in the language of Graphviz: a quote, a backslash, a line feed and a carriage return behind a
--- backslash, and any other byte as it is.
+-- How a text stands between the quotes of a label in the language of Graphviz: a quote, a backslash and a line feed behind a backslash,
+-- and any other byte as it is.
 use Rattle.std.specs.Prelude.{ℕ, ◌==◌, Bool, true, false, List, [], ◌∷◌, ◌++◌, Option, Some, None, if◌then◌else◌}
 use Rattle.std.specs.List.{flat_map}
 use Rattle.std.specs.Option.{option_map}
 
--- a byte between quotes: 34 is a quote, 92 a backslash, 10 a line feed, 13 a carriage return
-abbrev pub escaped_byte : ℕ → List ℕ
-escaped_byte byte =
+-- a byte between quotes: 34 is a quote, 92 a backslash, 10 a line feed
+abbrev pub byte_in_label : ℕ → List ℕ
+byte_in_label byte =
     if byte == 34 then 92 ∷ 34 ∷ []
     else (if byte == 92 then 92 ∷ 92 ∷ []
     else (if byte == 10 then 92 ∷ 110 ∷ []
-    else (if byte == 13 then 92 ∷ 114 ∷ []
-    else (byte ∷ []))))
+    else (byte ∷ [])))
 
 -- a text between quotes
-abbrev pub escaped : List ℕ → List ℕ
-escaped text = flat_map escaped_byte text
+abbrev pub in_label : List ℕ → List ℕ
+in_label text = flat_map byte_in_label text
 
 -- with both quotes
 abbrev pub quoted : List ℕ → List ℕ
-quoted text = 34 ∷ (escaped text ++ 34 ∷ [])
+quoted text = 34 ∷ (in_label text ++ 34 ∷ [])
 
 -- what a byte behind a backslash stands for
 abbrev pub meant : ℕ → ℕ
-meant byte = if byte == 110 then 10 else (if byte == 114 then 13 else byte)
+meant byte = if byte == 110 then 10 else byte
 
 -- a text, and what stands behind its closing quote
 pub record Quoted : Type 0 where

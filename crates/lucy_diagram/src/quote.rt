@@ -1,26 +1,25 @@
 // Texts between quotes, so that none of them ends its quotes.
 ghost use Rattle.std.specs.Prelude.{ℕ, List, ◌≡◌, ◌≢◌, ◌∷◌, ◌++◌, [], Some, false, OnOk};
 ghost use Rattle.std.specs.List.{AllByRecursion};
-ghost use Rattle.lucy_diagram.specs.Quotes.{escaped_byte, escaped, quoted, read_quoted};
+ghost use Rattle.lucy_diagram.specs.Quotes.{byte_in_label, in_label, quoted, read_quoted};
 
 use std::alloc::AllocError;
 
 // Puts a byte last as it stands between quotes.
 fn put_byte(byte: u8, out: &mut Vec<u8>) -> Result<(), AllocError>
-    ensures { OnOk result (out.new.items ≡ out.old.items ++ escaped_byte byte) }
+    ensures { OnOk result (out.new.items ≡ out.old.items ++ byte_in_label byte) }
 {
     match byte {
         b'"' => out.extend_from_slice(b"\\\""),
         b'\\' => out.extend_from_slice(b"\\\\"),
         b'\n' => out.extend_from_slice(b"\\n"),
-        b'\r' => out.extend_from_slice(b"\\r"),
         _ => out.extend_from_slice(&[byte]),
     }
 }
 
 // Puts a text last as it stands between quotes.
 fn put_escaped(text: &[u8], out: &mut Vec<u8>) -> Result<(), AllocError>
-    ensures { OnOk result (out.new.items ≡ out.old.items ++ escaped text.now) }
+    ensures { OnOk result (out.new.items ≡ out.old.items ++ in_label text.now) }
 {
     'each: for byte in text {
         put_byte(*byte, out)?;
@@ -37,9 +36,8 @@ pub fn put_quoted(text: &[u8], out: &mut Vec<u8>) -> Result<(), AllocError>
     out.extend_from_slice(b"\"")
 }
 
-/// What is quoted ends where it is closed, and reads as the text; and no line ends between the quotes.
+/// What is quoted ends where it is closed, and reads as the text of a label; and no line feed stands between the quotes.
 pub fn quoted_texts_read_back()
-    ensures reads { (text rest : List ℕ) → read_quoted false (escaped text ++ 34 ∷ rest) ≡ Some (record { text = text; rest = rest }) }
-    ensures line_feeds { (text : List ℕ) → AllByRecursion (λ byte. byte ≢ 10) (escaped text) }
-    ensures carriage_returns { (text : List ℕ) → AllByRecursion (λ byte. byte ≢ 13) (escaped text) }
+    ensures reads { (text rest : List ℕ) → read_quoted false (in_label text ++ 34 ∷ rest) ≡ Some (record { text = text; rest = rest }) }
+    ensures line_feeds { (text : List ℕ) → AllByRecursion (λ byte. byte ≢ 10) (in_label text) }
 {}
