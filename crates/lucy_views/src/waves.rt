@@ -18,7 +18,7 @@ use lucy_text::{Shelf, Sink, Source};
 use lucy_word::Limit;
 use std::alloc::Global;
 
-// How many instants are given.
+// How many instants are given, which the words keep within the limit.
 fn instants(words: WaveWords<'_>) -> Option<u64>
     ensures { IfSome result (λ given. given ≤ limit_number limit.Instants) }
 {

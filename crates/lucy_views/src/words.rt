@@ -72,12 +72,19 @@ fn file<'a>(alloc: Global) -> Arg<'a> {
     Arg::new(alloc, "FILE").required(true).help("a program")
 }
 
-// An option with a number.
-fn numeral<'a>(alloc: Global, name: &'a str, value: &'a str, most: i64, help: &'a str) -> Arg<'a> {
+// An option with a number between these.
+fn numeral<'a>(
+    alloc: Global,
+    name: &'a str,
+    value: &'a str,
+    least: i64,
+    most: i64,
+    help: &'a str,
+) -> Arg<'a> {
     Arg::new(alloc, name)
         .long(name)
         .value_name(value)
-        .value_parser(value_parser!(u64).range(1..=most))
+        .value_parser(value_parser!(u64).range(least..=most))
         .help(help)
 }
 
@@ -91,8 +98,8 @@ fn flag<'a>(alloc: Global, name: &'a str, help: &'a str) -> Arg<'a> {
 
 // A command on a program, with the options that say how its clocks are found.
 fn on_program<'a>(alloc: Global, name: &'a str, about: &'a str) -> Result<Command<'a>, AllocError> {
-    let scale = numeral(alloc, "scale", "K", 64, "as that of `lucy clocks`");
-    let lead = numeral(alloc, "lead", "D", 64, "as that of `lucy clocks`");
+    let scale = numeral(alloc, "scale", "K", 1, 64, "as that of `lucy clocks`");
+    let lead = numeral(alloc, "lead", "D", 1, 64, "as that of `lucy clocks`");
     Command::new(alloc, name)
         .about(about)
         .arg(file(alloc))?
@@ -106,6 +113,7 @@ fn shown_instants<'a>(alloc: Global) -> Arg<'a> {
         alloc,
         "instants",
         "N",
+        1,
         65_536,
         "how many instants; else the prefix and two periods, at most 200",
     )
@@ -132,10 +140,10 @@ fn net<'a>(alloc: Global) -> Result<Command<'a>, AllocError> {
 
 // `wave`
 fn wave<'a>(alloc: Global) -> Result<Command<'a>, AllocError> {
-    let about = "Runs a program on its input, and shows all values as a value change dump";
-    let instants = numeral(alloc, "instants", "N", 1_048_576, "as that of `lucy run`");
-    let workers = numeral(alloc, "workers", "W", 64, "as that of `lucy run`; changes nothing");
-    let block = numeral(alloc, "block", "B", 1_048_576, "as that of `lucy run`; changes nothing");
+    let about = "Runs a program on its input, and shows the run as a value change dump";
+    let instants = numeral(alloc, "instants", "N", 0, 1_048_576, "as that of `lucy run`");
+    let workers = numeral(alloc, "workers", "W", 1, 64, "as that of `lucy run`; changes nothing");
+    let block = numeral(alloc, "block", "B", 1, 1_048_576, "as that of `lucy run`; changes nothing");
     on_program(alloc, "wave", about)?
         .arg(instants)?
         .arg(workers)?
