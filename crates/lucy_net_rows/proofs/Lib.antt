@@ -2,3 +2,4 @@ mod BareLaws
 mod ReadyLaws
 mod EchoLaws
 mod RowLaws
+mod HandLaws

@@ -2,3 +2,4 @@
 pub mod Ready
 pub mod Bare
 pub mod Echo
+pub mod ByHand

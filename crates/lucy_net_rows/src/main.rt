@@ -8,13 +8,17 @@
 ghost use Rattle.lucy_host.specs.Host.{Serves};
 
 mod bare;
+mod by_hand;
+mod complete;
 mod cores;
 mod echo;
 mod echoed;
 mod floor;
+mod handed;
 mod interpreted;
 mod moves;
 mod pair;
+mod parity;
 mod programs;
 mod ready;
 mod rounds;
@@ -53,6 +57,7 @@ fn print_part<R: Print + Clock + AllocGlobal + Threads + Sync, F: Fn(u32, i64, i
         "cores" => cores::print_cores(rt, host),
         "workers" => {
             rounds::print_workers(rt, host)?;
+            handed::print_by_hand(rt, host)?;
             floor::print_floor(rt, host.ops())
         }
         "echo" => echoed::print_echoed(rt),

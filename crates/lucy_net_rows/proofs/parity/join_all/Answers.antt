@@ -1,0 +1,13 @@
+use Rattle.std.proofs.Common.{List, sym, subst}
+use Rattle.lucy_net_rows.specs.declared.parity.Link.{Link}
+use Rattle.lucy_net_rows.specs.ByHand.{AreJoined}
+use Rattle.lucy_net_rows.proofs.HandLaws.{none_joined, more_joined}
+use Rattle.lucy_net_rows.proofs.parity.join_all.Goals as goal
+
+pub loop-spec-init : goal.loop-spec-init
+loop-spec-init c = subst (AreJoined c.args.even.now c.args.odd.now) (sym c.new-links.ensures.items) (none_joined c.args.even.now c.args.odd.now c.requires)
+
+pub loop-spec-preserved : goal.loop-spec-preserved
+loop-spec-preserved c =
+    subst (AreJoined c.join.new.even c.join.new.odd) (sym c.in_ok-push.ensures)
+    (more_joined c.loop-spec.even c.loop-spec.odd c.join.new.even c.join.new.odd c.loop-spec.links.items c.in_ok-link.link c.ends_are_kept.ensures.rings c.loop-spec.invariant c.in_ok-link.ensures)
