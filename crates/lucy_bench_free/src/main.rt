@@ -3,8 +3,6 @@
 //! microsecond. `bench/run` times it.
 #![tactic(auto)]
 
-ghost use Rattle.lucy_host.specs.Host.{Serves};
-
 mod spin;
 
 use lucy_app::{lucy, program_operators};
@@ -44,30 +42,6 @@ fn words_of(rt: &(impl Env + AllocGlobal), alloc: Global) -> io::Result<Vec<Stri
     Ok(words)
 }
 
-// Calls what the words behind the way ask for.
-fn call<F: Fn(u32, i64, i64) -> i64 + Sync>(
-    rt: &HostRuntime,
-    way: Way,
-    words: &[String],
-    host: &Host<F>,
-) -> u8
-    requires { Serves F.pre F.post host.now }
-{
-    let mut shelf = RealShelf::new(rt);
-    let mut input = RealSource::new(rt.stdin());
-    let mut out = RealSink::new(rt.stdout());
-    let mut err = RealSink::new(rt.stderr());
-    let alloc = rt.alloc();
-    match way {
-        Way::Rounds => lucy(
-            rt, alloc, words, &mut shelf, &mut input, &mut out, &mut err, &OpenGate, host,
-        ),
-        Way::Free => lucy_free(
-            rt, alloc, words, &mut shelf, &mut input, &mut out, &mut err, host,
-        ),
-    }
-}
-
 fn main(rt: HostRuntime) -> io::Result<ExitCode> {
     let alloc = rt.alloc();
     let words = words_of(&rt, alloc)?;
@@ -83,7 +57,19 @@ fn main(rt: HostRuntime) -> io::Result<ExitCode> {
     let host = Host::new(ops, |op: u32, a: i64, b: i64| {
         behind_a_walk(kinds.value(op, a, b))
     });
-    Ok(ExitCode::from(call(&rt, way, rest, &host)))
+    let mut shelf = RealShelf::new(&rt);
+    let mut input = RealSource::new(rt.stdin());
+    let mut out = RealSink::new(rt.stdout());
+    let mut err = RealSink::new(rt.stderr());
+    let status = match way {
+        Way::Rounds => lucy(
+            &rt, alloc, rest, &mut shelf, &mut input, &mut out, &mut err, &OpenGate, &host,
+        ),
+        Way::Free => lucy_free(
+            &rt, alloc, rest, &mut shelf, &mut input, &mut out, &mut err, &host,
+        ),
+    };
+    Ok(ExitCode::from(status))
 }
 
 // Words that name no way.
