@@ -27,7 +27,7 @@ pub fn span_of(expr: &Expr) -> Span
 
 /// Where a place begins in the text, in bytes from 0: a stream with its name where it is declared, any other place with its form.
 pub fn offset_of(entry: &PlaceEntry, form: Option<&Expr>) -> u32
-    ensures { result ≡ offsets.offset_of entry.now (option_map (λ e. tree_of e.now) form) }
+    ensures { result ≡ offsets.offset_of entry.now (option_map (λ e. tree_of e.now) form.entry) }
 {
     match (&entry.name, form) {
         (Some(name), _) => name.span.from,
