@@ -44,7 +44,7 @@ module _ (write read : Bits) (shown : ℕ) (writes reads : List ℕ) (of_write :
             let within = slice_get_within joins k join at in
             let item : join ≡ join_at writes reads k =
             sym (get_or_from_slice_get joins k join join at) ∙ ap (λ l. get_or l k join) made
-                ∙ get_or-map-range_with_len (join_at writes reads) 0 both k k join (omega arith) (omega arith) in
+            ∙ get_or-map-range_with_len (join_at writes reads) 0 both k k join (omega arith) (omega arith) in
             join_is k join (omega arith) (omega arith) item;
         all = λ number join is.
             let some = is.some in

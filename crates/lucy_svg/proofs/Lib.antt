@@ -1,4 +1,5 @@
 mod OneLaws
 mod JoinLaws
 mod FlowLaws
+mod ToldLaws
 mod EscapeLaws

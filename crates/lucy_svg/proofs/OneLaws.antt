@@ -88,7 +88,7 @@ pub counts_more : (w : Bits) (i count next : ℕ) (mark : Bool) (old new : List 
     (next ≡ ones_to w (i + 1)) × (new ≡ counts_of w (i + 1))
 counts_more w i count next mark old new is before bit step more =
     let there : next ≡ ones_to w (i + 1) = step ∙ ap (λ n. n + one_if mark) is ∙ ap (λ b. ones_to w i + one_if b) bit
-        ∙ sym (ones_to-more w i) in (
+    ∙ sym (ones_to-more w i) in (
       there,
       more ∙ ap (λ l. l ++ next ∷ []) before ∙ ap (λ n. counts_of w i ++ n ∷ []) there
           ∙ sym (map-range_with_len_more (ones_to w) 1 i (i + 1) (omega arith)),

@@ -12,12 +12,14 @@ mod flow;
 mod join;
 mod ones;
 mod print;
+mod told;
 
 pub use drawing::{Drawing, drawing_of};
 pub use escape::{escaped_texts_are_read_back, put_escaped};
 pub use flow::{Flow, flow_of};
 pub use join::{Join, Joins};
 pub use print::{
-    Font, HEAD, NAME, SMALL, STYLE, Sheet, Told, put, put_label, put_time_svg, shown_of,
-    shown_text, turn_text, word_text,
+    Font, HEAD, NAME, SMALL, STYLE, Sheet, put, put_label, put_time_svg, shown_of, shown_text,
+    turn_text, word_text,
 };
+pub use told::Told;

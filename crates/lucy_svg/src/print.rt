@@ -2,14 +2,12 @@
 mod band;
 mod ink;
 mod lane;
-mod names;
 mod sheet;
 mod side;
 mod style;
 mod time;
 
 pub use ink::{Font, HEAD, NAME, SMALL, put, put_label};
-pub use names::Told;
 pub use sheet::Sheet;
 pub use side::word_text;
 pub use style::STYLE;

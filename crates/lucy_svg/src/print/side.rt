@@ -1,6 +1,6 @@
 // What stands before the lanes: names and words.
 use crate::print::ink::{HEAD, NAME, SMALL, put, put_label};
-use crate::print::names::Told;
+use crate::told::Told;
 use lucy_picture::{Fill, Row};
 use lucy_place::PlacedNode;
 use lucy_word::{OutOfMemory, Word};

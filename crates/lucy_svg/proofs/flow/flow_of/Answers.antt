@@ -10,7 +10,7 @@ returns c = λ write read shown of_write of_read.
     let writes = c.in_ok-writes.ensures write shown marks_in in
     let reads = c.in_ok-reads.ensures read shown marks_out in
     let joins = c.in_ok-new.ensures ∙ ap (λ l. joined l c.deref-2.result.now) c.deref.ensures.value
-        ∙ ap (joined c.in_ok-writes.writes.items) c.deref-2.ensures.value in
+    ∙ ap (joined c.in_ok-writes.writes.items) c.deref-2.ensures.value in
     record {
       joins = joins_are write read shown _ _ writes reads _ joins;
       goes_in = c.new-2.ensures ∙ c.in_ok-counts_in.ensures write shown marks_in;

@@ -7,4 +7,4 @@ pub each-preserved : goal.each-preserved
 each-preserved c =
     let f = join_at c.args.written.now c.args.read.now in
     c.in_ok-push.ensures ∙ ap (λ l. l ++ f c.each.i ∷ []) c.each.invariant
-        ∙ sym (map-range_with_len_more f 0 c.each.i c.each.i (omega arith))
+    ∙ sym (map-range_with_len_more f 0 c.each.i c.each.i (omega arith))
