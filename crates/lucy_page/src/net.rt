@@ -16,8 +16,11 @@ use std::alloc::{AllocError, Global};
 
 // How high a box is, and how far boxes stand from each other and from the edge.
 const HIGH: u64 = 36;
+
 const PITCH: u64 = 52;
+
 const GAP: u64 = 56;
+
 const EDGE: u64 = 12;
 
 /// What stands in a box: its label and the word of its clock.
@@ -84,7 +87,13 @@ fn label_of(
     };
     let mut text = Vec::new(alloc);
     put_text(alloc, program, &accepted.placed, number, place, &mut text)?;
-    put_size(alloc, accepted.placed.node(number), diagram, place, &mut text)?;
+    put_size(
+        alloc,
+        accepted.placed.node(number),
+        diagram,
+        place,
+        &mut text,
+    )?;
     let word = word_text(alloc, words, place)?;
     Ok(Label { text, word })
 }
@@ -120,11 +129,7 @@ fn width_of(label: &Label) -> u64 {
 }
 
 // How wide the boxes of each column are, where these stand.
-fn widths(
-    alloc: Global,
-    labels: &[Label],
-    spots: &[Spot],
-) -> Result<Vec<u64>, AllocError> {
+fn widths(alloc: Global, labels: &[Label], spots: &[Spot]) -> Result<Vec<u64>, AllocError> {
     let mut count = 0usize;
     for spot in spots {
         count = spot.column.saturating_add(1).max(count);
@@ -245,7 +250,9 @@ impl Net {
         let (low, deep) = (y.saturating_add(dip), down.saturating_add(dip));
         put(
             out,
-            &format!(in alloc; "<path class=\"{class}\" d=\"M{x} {y}C{bend} {low} {turn} {deep} {right} {down}\"/>")?,
+            &format!(in alloc;
+                "<path class=\"{class}\" d=\"M{x} {y}C{bend} {low} {turn} {deep} {right} {down}\"/>"
+            )?,
         )?;
         put_tip(alloc, (right.saturating_sub(6), down), right, out)
     }
@@ -266,7 +273,9 @@ impl Net {
         let down = self.middle(to).saturating_add(8);
         put(
             out,
-            &format!(in alloc; "<path class=\"{class}\" d=\"M{x} {y}C{bend} {y} {bend} {down} {x} {down}\"/>")?,
+            &format!(in alloc;
+                "<path class=\"{class}\" d=\"M{x} {y}C{bend} {y} {bend} {down} {x} {down}\"/>"
+            )?,
         )?;
         put_tip(alloc, (x.saturating_add(6), down), x, out)
     }
@@ -279,7 +288,11 @@ impl Net {
         if from.column == to.column {
             return self.put_loop(alloc, class, from, to, out);
         }
-        let dip = if from.column < to.column { 0 } else { PITCH - 10 };
+        let dip = if from.column < to.column {
+            0
+        } else {
+            PITCH - 10
+        };
         self.put_line(alloc, class, from, to, dip, out)
     }
 
@@ -298,7 +311,9 @@ impl Net {
         let round = if is_round(figure) { HIGH / 2 } else { 3 };
         put(
             out,
-            &format!(in alloc; "<rect class=\"{class}\" x=\"{left}\" y=\"{top}\" width=\"{width}\" height=\"{HIGH}\" rx=\"{round}\"/>")?,
+            &format!(in alloc;
+                "<rect class=\"{class}\" x=\"{left}\" y=\"{top}\" width=\"{width}\" height=\"{HIGH}\" rx=\"{round}\"/>"
+            )?,
         )
     }
 
@@ -315,8 +330,20 @@ impl Net {
         let left = self.column(spot).left.saturating_add(8);
         let top = self.top(spot);
         self.put_frame(alloc, figure, spot, self.column(spot).width, out)?;
-        put_label(alloc, &NAME, (left, top.saturating_add(15)), &label.text, out)?;
-        put_label(alloc, &SMALL, (left, top.saturating_add(29)), &label.word, out)
+        put_label(
+            alloc,
+            &NAME,
+            (left, top.saturating_add(15)),
+            &label.text,
+            out,
+        )?;
+        put_label(
+            alloc,
+            &SMALL,
+            (left, top.saturating_add(29)),
+            &label.word,
+            out,
+        )
     }
 
     // Puts the boxes last, those of streams linked to where these are defined.

@@ -61,8 +61,16 @@ pub(crate) fn put_node(
         Some(clock) => clock.words.list(),
         None => &[],
     };
-    put(out, &format!(in alloc; "<section id=\"n{number}\"><h2>Node ")?)?;
-    put_link(alloc, &format!(in alloc; "t{number}")?, node.name.text.bytes(), out)?;
+    put(
+        out,
+        &format!(in alloc; "<section id=\"n{number}\"><h2>Node ")?,
+    )?;
+    put_link(
+        alloc,
+        &format!(in alloc; "t{number}")?,
+        node.name.text.bytes(),
+        out,
+    )?;
     put(out, "</h2>\n")?;
     put_net(alloc, program, accepted, number, out)?;
     put_turn(alloc, turn, shown, out)?;

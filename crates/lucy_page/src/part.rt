@@ -41,7 +41,9 @@ pub(crate) fn begin_svg(
 ) -> Result<(), AllocError> {
     put(
         out,
-        &format!(in alloc; "<svg class=\"lucy\" width=\"{width}\" height=\"{height}\" viewBox=\"0 0 {width} {height}\">")?,
+        &format!(in alloc;
+            "<svg class=\"lucy\" width=\"{width}\" height=\"{height}\" viewBox=\"0 0 {width} {height}\">"
+        )?,
     )
 }
 

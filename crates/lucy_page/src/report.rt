@@ -85,7 +85,11 @@ fn put_node(
     let section = format!(in alloc; "n{number}")?;
     put_linked(alloc, line, 5, node.name.text.bytes().len(), &section, out)?;
     let at = put_streams(alloc, report, behind(at, line), number, node, out)?;
-    let rest = node.buffers.list().len().saturating_add(node.calls.list().len());
+    let rest = node
+        .buffers
+        .list()
+        .len()
+        .saturating_add(node.calls.list().len());
     put_lines(report, at, rest, out)
 }
 
@@ -101,7 +105,14 @@ pub(crate) fn put_report(
     let report = report(alloc, accepted)?;
     let mut at = 0;
     for number in 0..accepted.placed.nodes() {
-        at = put_node(alloc, &report, at, number, accepted.placed.node(number), out)?;
+        at = put_node(
+            alloc,
+            &report,
+            at,
+            number,
+            accepted.placed.node(number),
+            out,
+        )?;
     }
     put(out, "</pre></section>\n")?;
     Ok(())
