@@ -1,4 +1,5 @@
--- How a text stands in XML, in an element or between quotes, and what it is read as.
+-- How a text stands in XML, in an element or between quotes, and what its marks are read as. XML itself reads a carriage return as a line
+-- feed, and has no other control bytes; such ones are left as they are.
 use Rattle.std.specs.Prelude.{ℕ, ◌==◌, List, [], ◌∷◌, ◌++◌, Option, Some, None, codes, if◌then◌else◌}
 use Rattle.std.specs.List.{flat_map}
 use Rattle.std.specs.Option.{option_map, option_and_then}
@@ -42,7 +43,7 @@ abbrev pub plain : ℕ → (name : Option (List ℕ)) → (rest : Option (List �
 plain byte None rest = before byte rest
 plain byte (Some name) rest = None
 
--- what a text in XML is read as: outside of names a byte by itself, and what stands from `&` to `;` as the mark of that name, of which so
+-- what a text is read as by its marks: outside of names a byte by itself, and what stands from `&` to `;` as the mark of that name, of which so
 -- much is read. None, where a bare mark stands in it, a name is none of these or has no end
 abbrev pub read_on : (name : Option (List ℕ)) → List ℕ → Option (List ℕ)
 read_on None [] = Some []
