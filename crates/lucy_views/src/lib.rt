@@ -1,10 +1,11 @@
 //! The program `lucy_view`: what its words ask for, and the pictures that it prints of a program.
 //!
-//! It stands on `lucy_picture`, `lucy_svg`, `lucy_diagram`, `lucy_wave` and `lucy_page`, which say what pictures show, and on `lucy_app` for
+//! It stands on `lucy_picture`, `lucy_svg`, `lucy_diagram`, `lucy_wave`, `lucy_page` and `lucy_explain`, which say what is shown, and on `lucy_app` for
 //! how a run ends. Begin with `look` in `looking.rt`. It is safe, and the rows test it.
 #![tactic(auto)]
 
 mod charts;
+mod explains;
 mod failure;
 mod looking;
 mod nets;

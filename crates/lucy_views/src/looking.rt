@@ -4,6 +4,7 @@ ghost use Rattle.lucy_host.specs.Host.{Serves};
 ghost use Rattle.lucy_views.specs.Failures.{Tellable};
 
 use crate::charts::charts;
+use crate::explains::explains;
 use crate::failure::Failure;
 use crate::nets::nets;
 use crate::pages::pages;
@@ -29,13 +30,14 @@ fn picture<S: Shelf>(
         Ask::Net(words) => nets(alloc, words, ops, shelf),
         Ask::Where(words) => spots(alloc, words, ops, shelf),
         Ask::Page(words) => pages(alloc, words, ops, shelf),
+        Ask::Explain(words) => explains(alloc, words, ops, shelf),
         Ask::Wave(_) => Err(Failure::Words("no such picture")),
     }
 }
 
 /// All that the program does with its words, the first of which is its own name. The answer is the status that it ends with:
 ///
-/// - 0: what was asked for stands on `out`: a picture, or the help or the version.
+/// - 0: what was asked for stands on `out`: a picture, an explanation, or the help or the version.
 /// - 1: the text of FILE is no program, and why is told as `lucy clocks` tells it.
 /// - 2: the words ask for nothing that there is; or the program has no such node, the node no such place, or the text no such offset; or
 ///   a program without inputs is to be run, and no instants are given.

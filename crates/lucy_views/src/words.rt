@@ -65,6 +65,7 @@ pub(crate) enum Ask<'a> {
     Wave(WaveWords<'a>),
     Where(WhereWords<'a>),
     Page(PageWords<'a>),
+    Explain(FileWords<'a>),
 }
 
 // The file that each command works on.
@@ -156,6 +157,11 @@ fn page<'a>(alloc: Global) -> Result<Command<'a>, AllocError> {
     on_program(alloc, "page", about)?.arg(shown_instants(alloc))
 }
 
+// `explain`
+fn explain<'a>(alloc: Global) -> Result<Command<'a>, AllocError> {
+    on_program(alloc, "explain", "Says why a program is refused, and what helps")
+}
+
 // `where`
 fn place<'a>(alloc: Global) -> Result<Command<'a>, AllocError> {
     let at = Arg::new(alloc, "AT").required(true).help(
@@ -179,7 +185,8 @@ fn command<'a>(alloc: Global) -> Result<Command<'a>, AllocError> {
         .subcommand(net(alloc)?)?
         .subcommand(wave(alloc)?)?
         .subcommand(place(alloc)?)?
-        .subcommand(page(alloc)?)
+        .subcommand(page(alloc)?)?
+        .subcommand(explain(alloc)?)
 }
 
 // What the words of a command on a program say.
@@ -252,6 +259,9 @@ fn asked<'a>(matches: &ArgMatches<'a>) -> Option<Ask<'a>> {
     }
     if name == "page" {
         return Some(Ask::Page(page_words(matches)?));
+    }
+    if name == "explain" {
+        return Some(Ask::Explain(file_words(matches)?));
     }
     None
 }
