@@ -1,0 +1,4 @@
+mod TextLaws
+mod LineLaws
+mod FoldLaws
+mod StreamLaws

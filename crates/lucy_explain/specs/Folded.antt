@@ -1,0 +1,35 @@
+-- How a cycle of inequalities is folded.
+use Rattle.std.specs.Prelude.{ℕ, ◌<◌, ◌≤◌, ◌≡◌, List, [], ◌∷◌, ◌++◌, length, take, drop, slice_index}
+use Rattle.lucy_solve.specs.declared.diffs.Diff.{Diff}
+use Rattle.lucy_solve.specs.System.{diff_at}
+use Rattle.lucy_explain.specs.declared.line.Line.{Line}
+use Rattle.lucy_need.specs.declared.need.Needs.{Needs}
+use Rattle.lucy_shape.specs.declared.shape.Shape.{Shape}
+use Rattle.lucy_solve.specs.System.{System}
+use Rattle.lucy_explain.specs.declared.fold.Folded.{Folded}
+use Rattle.lucy_explain.specs.Folds.{Fold}
+use Rattle.lucy_explain.specs.Streams.{AreStreams, variable_streams}
+
+-- the same circle, begun at another place
+abbrev pub IsTurned : (cycle turned : List ℕ) → Type 0
+IsTurned cycle turned = (start : ℕ) × (start ≤ length cycle) × (turned ≡ drop start cycle ++ take start cycle)
+
+-- of several inequalities that a line stands for each is between variables of one stream
+abbrev pub IsOfOneStream : (streams : List ℕ) → List Diff → (positions : List ℕ) → Line → Type 0
+IsOfOneStream streams list positions line = 1 < line.count → (k : ℕ) → k < line.count →
+    (slice_index streams (diff_at list (slice_index positions k)).left ≡ slice_index streams line.left)
+    × (slice_index streams (diff_at list (slice_index positions k)).right ≡ slice_index streams line.left)
+
+-- so are those of each line
+abbrev pub AreOfOneStream : (streams : List ℕ) → List Diff → (positions : List ℕ) → List Line → Type 0
+AreOfOneStream streams list positions [] = Unit {0}
+AreOfOneStream streams list positions (line ∷ lines) = IsOfOneStream streams list positions line × AreOfOneStream streams list (drop line.count positions) lines
+
+-- the evidence of needs in a shape, folded: the cycle, begun at another place, and lines that stand for its inequalities, those of one stream
+-- together; the origin has a number that is none of a clock
+pub record IsFolded (needs : Needs) (shape : Shape) (diffs : System) (cycle : List ℕ) (told : Folded) : Type 0 where
+  pub streams : List ℕ
+  pub are : AreStreams needs.list needs.clocks streams
+  pub turned : IsTurned cycle told.cycle.items
+  pub fold : Fold diffs.list told.cycle.items told.lines.items
+  pub stream : AreOfOneStream (variable_streams needs.clocks streams shape.clocks) diffs.list told.cycle.items told.lines.items

@@ -1,0 +1,142 @@
+// A cycle of inequalities, told in a few lines.
+ghost use Rattle.std.specs.Prelude.{◌≡◌, ◌+◌, ◌≤◌, ◌++◌, length, take, drop, IfOk, OnOk};
+ghost use Rattle.lucy_front.specs.Refusals.{AreBelow};
+ghost use Rattle.lucy_explain.specs.Folds.{Fold};
+ghost use Rattle.lucy_shape.specs.Fitting.{variable_count};
+ghost use Rattle.lucy_explain.specs.Folded.{IsTurned, AreOfOneStream, IsFolded};
+ghost use Rattle.lucy_explain.specs.Joining.{AreThere};
+
+use crate::grow::push;
+use crate::line::{Line, line_of};
+use crate::streams::clock_streams;
+use crate::variables::variable_streams;
+use lucy_need::Needs;
+use lucy_shape::Shape;
+use lucy_solve::{Diff, Diffs};
+use lucy_word::OutOfMemory;
+use std::alloc::Global;
+
+/// A cycle of inequalities, begun where a line begins, and the lines that stand for it in order.
+#[derive(Drop)]
+pub struct Folded {
+    pub cycle: Vec<u32>,
+    pub lines: Vec<Line>,
+}
+
+// The circle, begun at another place.
+fn turned(alloc: Global, cycle: &[u32], start: usize) -> Result<Vec<u32>, OutOfMemory>
+    requires { start ≤ length cycle.now }
+    ensures { IfOk result (λ v. v.items ≡ drop start cycle.now ++ take start cycle.now) }
+{
+    let mut turned = cycle[start..].to_vec(alloc)?;
+    turned.extend_from_slice(&cycle[..start])?;
+    Ok(turned)
+}
+
+// What stands behind so many positions.
+fn behind(positions: &[u32], count: usize) -> &[u32]
+    requires { count ≤ length positions.now }
+    ensures { result.now ≡ drop count positions.now }
+{
+    &positions[count..]
+}
+
+/// The lines that stand for the inequalities at these positions, in order: each for one, or for as many of one stream as follow one
+/// another. A variable's stream is given by its number.
+pub(crate) fn lines_of(
+    alloc: Global,
+    diffs: &Diffs,
+    streams: &[u32],
+    positions: &[u32],
+) -> Result<Vec<Line>, OutOfMemory>
+    requires there { AreThere (length diffs.now.list) positions.now }
+    requires streams { length streams.now ≡ diffs.now.count }
+    ensures fold { IfOk result (λ v. Fold diffs.now.list positions.now v.items) }
+    ensures stream { IfOk result (λ v. AreOfOneStream streams.now diffs.now.list positions.now v.items) }
+{
+    let mut lines = Vec::new(alloc);
+    let mut rest = positions;
+    'each: while !rest.is_empty() {
+        let line = line_of(diffs, streams, rest);
+        let next = behind(rest, line.count);
+        push(&mut lines, line)?;
+        rest = next;
+    }
+    Ok(lines)
+}
+
+// Whether an inequality may be told together with others: both of its variables are of one stream, and it doesn't go back in time.
+fn is_within(streams: &[u32], diff: Diff) -> bool {
+    diff.most <= 0 && streams.get(diff.left as usize) == streams.get(diff.right as usize)
+}
+
+// Whether the last inequality of a circle is told alone.
+fn is_last_between(diffs: &Diffs, streams: &[u32], cycle: &[u32]) -> bool {
+    let Some(last) = cycle.last() else {
+        return false;
+    };
+    match diffs.list().get(*last as usize) {
+        Some(diff) => !is_within(streams, *diff),
+        None => false,
+    }
+}
+
+// A place in the circle at which a line begins that belongs to the line before it at no place: behind an inequality between two streams,
+// and of these the one from the least variable, so that the telling begins where the program does.
+fn start_of(diffs: &Diffs, streams: &[u32], cycle: &[u32]) -> usize
+    ensures { result ≤ length cycle.now }
+{
+    let list = diffs.list();
+    let mut found = 0;
+    let mut least = u32::MAX;
+    let mut parted = is_last_between(diffs, streams, cycle);
+    'each: for (k, position) in cycle.iter().enumerate() {
+        if let Some(diff) = list.get(*position as usize) {
+            if parted && diff.left < least {
+                found = k;
+                least = diff.left;
+            }
+            parted = !is_within(streams, *diff);
+        }
+    }
+    found
+}
+
+// A cycle of inequalities, folded. A variable's stream is given by its number.
+fn fold_cycle(
+    alloc: Global,
+    diffs: &Diffs,
+    streams: &[u32],
+    cycle: &[u32],
+) -> Result<Folded, OutOfMemory>
+    requires there { AreBelow (length diffs.now.list) cycle.now }
+    requires streams { length streams.now ≡ diffs.now.count }
+    ensures turned { IfOk result (λ f. IsTurned cycle.now f.cycle.items) }
+    ensures fold { IfOk result (λ f. Fold diffs.now.list f.cycle.items f.lines.items) }
+    ensures stream { IfOk result (λ f. AreOfOneStream streams.now diffs.now.list f.cycle.items f.lines.items) }
+{
+    let start = start_of(diffs, streams, cycle);
+    let cycle = turned(alloc, cycle, start)?;
+    let lines = lines_of(alloc, diffs, streams, &cycle)?;
+    Ok(Folded { cycle, lines })
+}
+
+/// The cycle of inequalities that shows that needs have no clocks in a shape, folded.
+pub fn fold_evidence(
+    alloc: Global,
+    needs: &Needs,
+    shape: &Shape,
+    diffs: &Diffs,
+    cycle: &[u32],
+) -> Result<Folded, OutOfMemory>
+    requires clocks { length shape.now.clocks ≡ needs.now.clocks }
+    requires variables { diffs.now.count ≡ variable_count shape.now.clocks }
+    requires there { AreBelow (length diffs.now.list) cycle.now }
+    ensures { IfOk result (IsFolded needs.now shape.now diffs.now cycle.now) }
+{
+    let clocks = clock_streams(alloc, needs)?;
+    let shapes = shape.clocks.list();
+    let streams = variable_streams(alloc, needs.clocks, &clocks, shapes, diffs.count())?;
+    let told = fold_cycle(alloc, diffs, &streams, cycle)?;
+    Ok(told)
+}

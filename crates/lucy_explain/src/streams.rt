@@ -1,0 +1,113 @@
+// Which clocks of a node are one stream's.
+ghost use Rattle.std.specs.Prelude.{ℕ, List, ◌≡◌, ◌↔◌, ◌<◌, ◌+◌, Some, length, map, slice_index, slice_get, IfOk, IsTrue, MatchOption};
+ghost use Rattle.std.specs.List.{range_with_len};
+ghost use Rattle.lucy_word.specs.Always.{always as ticking};
+ghost use Rattle.lucy_need.specs.Meeting.{alone};
+ghost use Rattle.lucy_need.specs.declared.need.Need.{Need as Wanted};
+ghost use Rattle.lucy_need.specs.declared.need.Need.TheVariants.{Equal};
+ghost use Rattle.lucy_explain.specs.Streams.{Ties, AreStreams};
+ghost use Rattle.lucy_explain.specs.Joining.{renamed, AreStreamsOf};
+
+use crate::grow::push;
+use lucy_need::{Need, Needs, Term, always};
+use lucy_word::{OutOfMemory, Word};
+use std::alloc::{AllocError, Global};
+
+// Whether a term is a clock alone.
+fn is_alone(term: &Term, always: &Word) -> bool
+    requires { always.now ≡ ticking }
+    ensures { IsTrue result ↔ (term.now.word ≡ ticking) }
+{
+    term.word.same(always)
+}
+
+// The clocks that a need ties, where it ties two.
+fn tied_clocks(need: &Need, always: &Word) -> Option<(u32, u32)>
+    requires { always.now ≡ ticking }
+    ensures { MatchOption result ((c d : ℕ) → Ties need.now c d → ⊥) (λ pair. need.now ≡ Equal (alone pair.0) (alone pair.1)) }
+{
+    match need {
+        Need::Equal(first, second) => {
+            if is_alone(first, always) && is_alone(second, always) {
+                Some((first.clock, second.clock))
+            } else {
+                None
+            }
+        }
+        Need::Adapt(_, _) => None,
+    }
+}
+
+// The streams with one number in place of another.
+fn with_number(alloc: Global, streams: &[u32], old: u32, new: u32) -> Result<Vec<u32>, AllocError>
+    ensures { IfOk result (λ v. v.items ≡ map (renamed old new) streams.now) }
+{
+    streams
+        .iter()
+        .map(|stream| if *stream == old { new } else { *stream })
+        .collect(alloc)
+}
+
+// The numbers of two clocks, the second one's first, where both are there and differ.
+fn apart(streams: &[u32], one: u32, two: u32) -> Option<(u32, u32)>
+    ensures { MatchOption result
+        (one < length streams.now → two < length streams.now → slice_index streams.now one ≡ slice_index streams.now two)
+        (λ pair. (one < length streams.now) × (two < length streams.now) × (pair.0 ≡ slice_index streams.now two) × (pair.1 ≡ slice_index streams.now one)) }
+{
+    let (one, two) = (one as usize, two as usize);
+    if one >= streams.len() || two >= streams.len() || streams[one] == streams[two] {
+        return None;
+    }
+    Some((streams[two], streams[one]))
+}
+
+// The streams, where two clocks are tied by a need that comes next.
+fn join(alloc: Global, streams: Vec<u32>, one: u32, two: u32) -> Result<Vec<u32>, OutOfMemory>
+    ensures { IfOk result (λ v. (needs : List Wanted) (clocks upto : ℕ) (need : Wanted) → AreStreamsOf needs clocks upto streams.items → slice_get needs upto ≡ Some need →
+        need ≡ Equal (alone one) (alone two) → AreStreamsOf needs clocks (upto + 1) v.items) }
+{
+    match apart(&streams, one, two) {
+        Some((old, new)) => Ok(with_number(alloc, &streams, old, new)?),
+        None => Ok(streams),
+    }
+}
+
+// The streams with a need that comes next.
+fn join_need(
+    alloc: Global,
+    streams: Vec<u32>,
+    always: &Word,
+    need: &Need,
+) -> Result<Vec<u32>, OutOfMemory>
+    requires { always.now ≡ ticking }
+    ensures { IfOk result (λ v. (needs : List Wanted) (clocks upto : ℕ) → AreStreamsOf needs clocks upto streams.items → slice_get needs upto ≡ Some need.now →
+        AreStreamsOf needs clocks (upto + 1) v.items) }
+{
+    match tied_clocks(need, always) {
+        Some((one, two)) => join(alloc, streams, one, two),
+        None => Ok(streams),
+    }
+}
+
+// Each clock by itself.
+fn numbered(alloc: Global, clocks: u32) -> Result<Vec<u32>, OutOfMemory>
+    ensures { IfOk result (λ v. v.items ≡ range_with_len 0 clocks) }
+{
+    let mut list = Vec::new(alloc);
+    'each: for clock in 0..clocks {
+        push(&mut list, clock)?;
+    }
+    Ok(list)
+}
+
+/// For each clock of needs the number of a clock with which it is one stream's, the same for clocks that needs tie.
+pub(crate) fn clock_streams(alloc: Global, needs: &Needs) -> Result<Vec<u32>, OutOfMemory>
+    ensures { IfOk result (λ v. AreStreams needs.now.list needs.now.clocks v.items) }
+{
+    let always = always(alloc)?;
+    let mut streams = numbered(alloc, needs.clocks)?;
+    'each: for need in needs.list.list() {
+        streams = join_need(alloc, streams, &always, need)?;
+    }
+    Ok(streams)
+}
