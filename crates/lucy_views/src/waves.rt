@@ -36,7 +36,8 @@ fn runnable<S: Shelf>(
     ensures told { IfErr result Tellable }
 {
     let text = text_of(alloc, words.program.file, shelf)?;
-    accepted(alloc, &text, words.program, ops)
+    let program = accepted(alloc, &text, words.program, ops)?;
+    Ok(program)
 }
 
 /// Runs a program on its input, and writes its dump. The answer is the status.
