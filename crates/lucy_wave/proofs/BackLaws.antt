@@ -2,18 +2,17 @@
 use Rattle.std.proofs.Common.{ℕ, suc, zero, ◌+◌, ◌-◌, ◌<◌, ◌≤◌, ◌^◌, ◌≡◌, ◌≢◌, Bool, true, false, List, [], ◌∷◌, ◌++◌, length, map, get_or, Option, Some, None, refl, ap, ap₂, sym, ◌∙◌, subst, arith}
 use Rattle.std.specs.Prelude.{ℤ, pos, negsuc, nat_eq, nat_le, not, ◌&&◌, slice_get, codes, if◌then◌else◌}
 use Rattle.std.specs.List.{AllByRecursion}
-use Rattle.std.specs.Int.{w64, cast_unsigned, cast_signed}
+use Rattle.std.specs.Int.{w64, cast_unsigned}
 use Rattle.std.specs.Int.RustNames.{FitsSigned}
 use Rattle.std.specs.Fmt.{decimal, digits}
 use Rattle.std.proofs.lemmas.Int.{to_z-of_z}
 use Rattle.std.proofs.lemmas.Option.{slice_get-get_or, same_Some}
-use Rattle.std.proofs.lemmas.List.{length-map}
 use Rattle.std.proofs.lemmas.Bool.{leb-true, eqb-false}
 use Rattle.std.proofs.lemmas.Simd.{map-map}
 use Rattle.lucy_word.specs.Bits.{Bits, bit_at, ones_to, one_if}
 use Rattle.lucy_word.proofs.IndexLaws.{ones_to-rises, ones_to-one}
 use Rattle.lucy_output.specs.declared.output.OutputSpec.{OutputSpec}
-use Rattle.lucy_output.specs.Outputs.{line_with_value, value_at, instant_text, output_text}
+use Rattle.lucy_output.specs.Outputs.{value_at, instant_text, output_text}
 use Rattle.lucy_host.specs.declared.kind.HostKind.{HostKind}
 use Rattle.lucy_tree.specs.declared.span.Name.{Name}
 use Rattle.lucy_place.specs.declared.entry.PlaceEntry.{PlaceEntry}
@@ -37,11 +36,11 @@ use Rattle.lucy_front.specs.declared.accepted.Accepted.{Accepted}
 use Rattle.lucy_front.specs.declared.options.Options.{Options}
 use Rattle.lucy_front.specs.Accepting.{IsAccepted}
 use Rattle.lucy_wave.specs.Laws.{WavesAreReadBack, OneWave}
-use Rattle.lucy_wave.specs.Names.{escaped_byte, escaped, there_name}
-use Rattle.lucy_wave.specs.Dumps.{Variable, code_of, kind_of, declaration, declarations, time_line, bit_digit, change_line, is_changed, change, changes, steps, header, dump, text_of}
+use Rattle.lucy_wave.specs.Names.{escaped, there_name}
+use Rattle.lucy_wave.specs.Dumps.{Variable, code_of, kind_of, declaration, declarations, time_line, change_line, is_changed, change, changes, steps, header, dump, text_of}
 use Rattle.lucy_wave.specs.Reading.{ReadsFrom, Says, SaysInstant, SaysTo, SaysOutput}
 use Rattle.lucy_wave.specs.Waves.{Fit, there, last, last_item, stream, results, inputs, written_name, is_outer, inner_stream, inner, buffers, variables, IsWave, Waves}
-use Rattle.lucy_wave.proofs.ReadLaws.{Free, MayBe, IsShown, shown_at, either, digits_free}
+use Rattle.lucy_wave.proofs.ReadLaws.{Free, IsShown, shown_at, either, digits_free}
 
 -- each output has the items of so many instants
 abbrev pub AreWhole : (instants : ℕ) → List OutputSpec → List (List ℤ) → Type 0

@@ -1,22 +1,22 @@
 -- The variables of main, one after another.
-use Rattle.std.proofs.Common.{ℕ, suc, zero, ◌+◌, ◌<◌, ◌≤◌, ◌^◌, ◌≡◌, Bool, true, false, List, [], ◌∷◌, ◌++◌, length, map, take, drop, get_or, Option, Some, None, refl, ap, ap₂, sym, ◌∙◌, subst, append_assoc, arith}
-use Rattle.std.specs.Prelude.{ℤ, pos, slice_get, if◌then◌else◌}
+use Rattle.std.proofs.Common.{ℕ, ◌+◌, ◌<◌, ◌≡◌, List, [], ◌∷◌, ◌++◌, length, take, drop, get_or, Some, ap, ap₂, sym, ◌∙◌, subst, arith}
+use Rattle.std.specs.Prelude.{ℤ, slice_get}
 use Rattle.std.specs.List.{AllByRecursion}
 use Rattle.std.specs.Option.{unwrap_or}
-use Rattle.std.proofs.lemmas.List.{drop_more, take_more, drop-map}
+use Rattle.std.proofs.lemmas.List.{drop_more, take_more}
 use Rattle.std.proofs.lemmas.Option.{get_or_from_slice_get}
 use Rattle.lucy_word.specs.Bits.{Bits}
 use Rattle.lucy_output.specs.declared.output.OutputSpec.{OutputSpec}
 use Rattle.lucy_place.specs.declared.entry.PlaceEntry.{PlaceEntry}
 use Rattle.lucy_place.specs.declared.entry.PlaceKind.TheVariants.{Buffer}
 use Rattle.lucy_place.specs.declared.placed.PlacedNode.{PlacedNode}
-use Rattle.lucy_place.specs.Proper.{IsProperNode, IsProperKind, Stands, IsPlace, at_one}
+use Rattle.lucy_place.specs.Proper.{IsProperNode, IsProperKind, Stands, IsPlace}
 use Rattle.lucy_types.proofs.ListLaws.{at_one_within}
 use Rattle.lucy_need.specs.Meeting.{Assignment}
 use Rattle.lucy_clock.specs.Clocks.{clocks_of}
 use Rattle.lucy_front.specs.Report.{first_operand}
 use Rattle.lucy_wave.specs.Dumps.{Variable}
-use Rattle.lucy_wave.specs.Waves.{Fit, there, waits, stream, results, inputs, written_name, inner_stream, inner, buffers}
+use Rattle.lucy_wave.specs.Waves.{Fit, waits, stream, results, inputs, written_name, inner_stream, inner, buffers}
 use Rattle.lucy_wave.proofs.PieceLaws.{pieces, item_split, items_split}
 
 -- one result more

@@ -1,5 +1,5 @@
 -- How a call that writes the dump of a run ends, from what its parts leave.
-use Rattle.std.proofs.Common.{◌≡◌, ℕ, ◌+◌, ◌-◌, ◌<◌, ◌≤◌, ◌^◌, List, [], ◌∷◌, ◌++◌, length, map, take, drop, Option, Some, None, Result, Ok, Err, refl, ap, sym, ◌∙◌, subst, inl, inr, arith}
+use Rattle.std.proofs.Common.{◌≡◌, ℕ, ◌+◌, ◌-◌, ◌<◌, ◌^◌, List, [], ◌∷◌, ◌++◌, length, take, drop, Option, Some, Result, Ok, refl, ap, sym, ◌∙◌, subst, inl}
 use Rattle.std.specs.Prelude.{ℤ, slice_get}
 use Rattle.std.specs.List.{AllByRecursion}
 use Rattle.lucy_word.specs.Bits.{Bits, ones_to}
@@ -23,7 +23,7 @@ use Rattle.lucy_net.specs.declared.net.Actor.{Actor}
 use Rattle.lucy_core.specs.Seen.{Seen, IsOver, IsOutputOf, first_ring, plan_of, stream_of}
 use Rattle.lucy_meaning.specs.Spots.{main_of, results_in}
 use Rattle.lucy_flat.specs.Flat.{IsFlat}
-use Rattle.lucy_execution.specs.Streams.{main_word, param_words, main_streams, later_streams}
+use Rattle.lucy_execution.specs.Streams.{main_word, param_words, main_streams}
 use Rattle.lucy_execution.proofs.LaterLaws.{later_first}
 use Rattle.lucy_execution.proofs.OutputLaws.{IsTold, next_output}
 use Rattle.lucy_front.specs.declared.accepted.Accepted.{Accepted}

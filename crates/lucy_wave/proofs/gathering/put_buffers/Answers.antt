@@ -1,4 +1,4 @@
-use Rattle.std.proofs.Common.{suc, ◌≡◌, ◌<◌, get_or, Some, subst, arith}
+use Rattle.std.proofs.Common.{suc, ◌≡◌, get_or, Some, subst, arith}
 use Rattle.std.specs.Prelude.{slice_get}
 use Rattle.std.proofs.lemmas.Option.{slice_get-get_or}
 use Rattle.lucy_wave.proofs.VariableLaws.{buffer_places}
