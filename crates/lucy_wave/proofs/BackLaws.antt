@@ -39,7 +39,7 @@ use Rattle.lucy_wave.specs.Laws.{WavesAreReadBack, OneWave}
 use Rattle.lucy_wave.specs.Names.{escaped, there_name}
 use Rattle.lucy_wave.specs.Dumps.{Variable, code_of, kind_of, declaration, declarations, time_line, change_line, is_changed, change, changes, steps, header, dump, text_of}
 use Rattle.lucy_wave.specs.Reading.{ReadsFrom, Says, SaysInstant, SaysTo, SaysOutput}
-use Rattle.lucy_wave.specs.Waves.{Fit, there, last, last_item, stream, results, inputs, written_name, is_outer, inner_stream, inner, buffers, variables, IsWave, Waves}
+use Rattle.lucy_wave.specs.Waves.{Fit, there, last, last_item, stream, results, is_among, input, inputs, written_name, is_outer, inner_stream, inner, buffers, variables, IsWave, Waves}
 use Rattle.lucy_wave.proofs.ReadLaws.{Free, IsShown, shown_at, either, digits_free}
 
 -- each output has the items of so many instants
@@ -196,9 +196,13 @@ results_named [] lists = tt
 results_named (o ∷ outputs) [] = tt
 results_named (o ∷ outputs) (items ∷ lists) = stream_named o.name o.word items (results outputs lists) (results_named outputs lists)
 
+input_named : (n : PlacedNode) (word : Bits) (place : ℕ) (items : List ℤ) → AreNamed (input n word place items)
+input_named n word place items = either AreNamed (is_among place n.results) [] (stream (written_name n place) word items) tt (stream_named (written_name n place) word items [] tt)
+
 inputs_named : (n : PlacedNode) (w : Assignment) (place : ℕ) (lists : List (List ℤ)) → AreNamed (inputs n w place lists)
 inputs_named n w place [] = tt
-inputs_named n w place (items ∷ lists) = stream_named (written_name n place) (w place) items (inputs n w (place + 1) lists) (inputs_named n w (place + 1) lists)
+inputs_named n w place (items ∷ lists) = all_join (λ (v : Variable). Free 10 v.name) (input n (w place) place items) (inputs n w (place + 1) lists)
+    (input_named n (w place) place items) (inputs_named n w (place + 1) lists)
 
 place_named : (n : PlacedNode) (word : Bits) (place : ℕ) (name : Option Name) → AreNamed (inner_stream n word place name)
 place_named n word place None = tt

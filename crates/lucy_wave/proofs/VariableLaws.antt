@@ -16,7 +16,7 @@ use Rattle.lucy_need.specs.Meeting.{Assignment}
 use Rattle.lucy_clock.specs.Clocks.{clocks_of}
 use Rattle.lucy_front.specs.Report.{first_operand}
 use Rattle.lucy_wave.specs.Dumps.{Variable}
-use Rattle.lucy_wave.specs.Waves.{Fit, waits, stream, results, inputs, written_name, inner_stream, inner, buffers}
+use Rattle.lucy_wave.specs.Waves.{Fit, waits, stream, results, input, inputs, inner_stream, inner, buffers}
 use Rattle.lucy_wave.proofs.PieceLaws.{pieces, item_split, items_split}
 
 -- one result more
@@ -37,17 +37,17 @@ fit_more streams i items k at all own =
     subst (AllByRecursion Fit) (sym (take_more streams i [] k ∙ ap (λ x. take i streams ++ x ∷ []) here)) (all_push Fit (take i streams) items all own)
 
 -- one input more
-pub inputs_more : (n : PlacedNode) (w : Assignment) (lists : List (List ℤ)) (i : ℕ) (name : List ℕ) (word : Bits) (items : List ℤ) (old new whole : List Variable) → slice_get lists i ≡ Some items → i < length lists →
-    name ≡ written_name n (i + 1) → word ≡ w (i + 1) → new ≡ old ++ stream name word items → old ++ inputs n w (1 + i) (drop i lists) ≡ whole → new ++ inputs n w (1 + (i + 1)) (drop (i + 1) lists) ≡ whole
-inputs_more n w lists i name word items old new whole at k named worded more before =
+pub inputs_more : (n : PlacedNode) (w : Assignment) (lists : List (List ℤ)) (i place : ℕ) (word : Bits) (items : List ℤ) (old new whole : List Variable) → slice_get lists i ≡ Some items → i < length lists →
+    place ≡ i + 1 → word ≡ w place → new ≡ old ++ input n word place items → old ++ inputs n w (1 + i) (drop i lists) ≡ whole → new ++ inputs n w (1 + (i + 1)) (drop (i + 1) lists) ≡ whole
+inputs_more n w lists i place word items old new whole at k is worded more before =
     let next : 1 + i + 1 ≡ 1 + (i + 1) = omega arith in
-    let place : 1 + i ≡ i + 1 = omega arith in
-    let own : stream (written_name n (1 + i)) (w (1 + i)) items ≡ stream name word items =
-    ap (λ p. stream (written_name n p) (w p) items) place ∙ ap₂ (λ x y. stream x y items) (sym named) (sym worded) in
-    let split : inputs n w (1 + i) (drop i lists) ≡ stream name word items ++ inputs n w (1 + (i + 1)) (drop (i + 1) lists) =
+    let here : 1 + i ≡ place = omega arith in
+    let own : input n (w (1 + i)) (1 + i) items ≡ input n word place items =
+    ap (λ p. input n (w p) p items) here ∙ ap (λ x. input n x place items) (sym worded) in
+    let split : inputs n w (1 + i) (drop i lists) ≡ input n word place items ++ inputs n w (1 + (i + 1)) (drop (i + 1) lists) =
     ap (inputs n w (1 + i)) (items_split lists i items at k)
     ∙ ap₂ (λ x p. x ++ inputs n w p (drop (i + 1) lists)) own next in
-    pieces old new whole (stream name word items) _ _ more split before
+    pieces old new whole (input n word place items) _ _ more split before
 
 -- one place more
 pub inner_more : (n : PlacedNode) (w : Assignment) (entries : List PlaceEntry) (i place : ℕ) (entry : PlaceEntry) (word : Bits) (old new whole : List Variable) → i < length entries → entry ≡ get_or entries i entry → place ≡ i + 1 →

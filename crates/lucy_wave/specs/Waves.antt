@@ -61,15 +61,19 @@ bytes_of (Some name) = name.text
 abbrev pub written_name : PlacedNode → (place : ℕ) → List ℕ
 written_name n place = bytes_of (name_at n place)
 
--- the inputs from a place on
-abbrev pub inputs : PlacedNode → Assignment → (place : ℕ) → (lists : List (List ℤ)) → List Variable
-inputs n w place [] = []
-inputs n w place (items ∷ lists) = stream (written_name n place) (w place) items ++ inputs n w (place + 1) lists
-
 -- a number is among these
 abbrev pub is_among : ℕ → List ℕ → Bool
 is_among number [] = false
 is_among number (n ∷ ns) = nat_eq n number || is_among number ns
+
+-- an input with its items; one that is also a result stands among the results alone
+abbrev pub input : PlacedNode → Bits → (place : ℕ) → (items : List ℤ) → List Variable
+input n word place items = if is_among place n.results then [] else stream (written_name n place) word items
+
+-- the inputs from a place on
+abbrev pub inputs : PlacedNode → Assignment → (place : ℕ) → (lists : List (List ℤ)) → List Variable
+inputs n w place [] = []
+inputs n w place (items ∷ lists) = input n (w place) place items ++ inputs n w (place + 1) lists
 
 -- a place is an input or a result
 abbrev pub is_outer : PlacedNode → (place : ℕ) → Bool
@@ -90,7 +94,7 @@ abbrev pub buffers : PlacedNode → Assignment → (number : ℕ) → (places : 
 buffers n w number [] = []
 buffers n w number (p ∷ places) = waits number (w (unwrap_or (first_operand n p) 0)) (w p) ∷ buffers n w (number + 1) places
 
--- all variables of main: its results, its inputs, its other streams and its buffers
+-- all variables of main: its results, its other inputs, its other streams and its buffers
 abbrev pub variables : PlacedNode → Assignment → List OutputSpec → (lists streams : List (List ℤ)) → List Variable
 variables n w outputs lists streams = results outputs streams ++ (inputs n w 1 lists ++ (inner n w 1 n.places ++ buffers n w 1 n.buffers))
 

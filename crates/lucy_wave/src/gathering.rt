@@ -94,7 +94,37 @@ fn written_name(node: &PlacedNode, place: u32) -> &[u8]
     bytes_of(&node.places.list()[place as usize - 1].name)
 }
 
-// The inputs, with their items.
+// Whether a number is among these.
+fn is_among(number: u32, numbers: &[u32]) -> bool
+    ensures { result ≡ is_among number numbers.now }
+{
+    'each: for n in numbers {
+        if *n == number {
+            return true;
+        }
+    }
+    false
+}
+
+// An input with its items, where it isn't a result too.
+fn put_input<'a>(
+    node: &'a PlacedNode,
+    word: &'a Word,
+    place: u32,
+    items: &'a [i64],
+    variables: &mut Vec<Variable<'a>>,
+) -> Result<(), AllocError>
+    requires low { 1 ≤ place }
+    requires high { place ≤ length node.now.places }
+    ensures { OnOk result (all_seen variables.new.items ≡ all_seen variables.old.items ++ spec.input node.now word.now place items.now) }
+{
+    if is_among(place, node.results.list()) {
+        return Ok(());
+    }
+    put_stream(written_name(node, place), word, items, variables)
+}
+
+// The inputs that aren't results too, with their items.
 fn put_inputs<'a>(
     node: &'a PlacedNode,
     words: &'a [Word],
@@ -107,26 +137,10 @@ fn put_inputs<'a>(
     ensures { OnOk result (all_seen variables.new.items ≡ all_seen variables.old.items ++ spec.inputs node.now (assigned words.now) 1 lists.now) }
 {
     'each: for i in 0..node.params {
-        put_stream(
-            written_name(node, i + 1),
-            word_of(words, i + 1),
-            lists.list(i),
-            variables,
-        )?;
+        let place = i + 1;
+        put_input(node, word_of(words, place), place, lists.list(i), variables)?;
     }
     Ok(())
-}
-
-// Whether a number is among these.
-fn is_among(number: u32, numbers: &[u32]) -> bool
-    ensures { result ≡ is_among number numbers.now }
-{
-    'each: for n in numbers {
-        if *n == number {
-            return true;
-        }
-    }
-    false
 }
 
 // Whether a place is an input or a result.
@@ -191,7 +205,7 @@ fn put_buffers<'a>(
     Ok(())
 }
 
-/// The variables of main: its results with their streams, its inputs with their items, its other streams and its buffers.
+/// The variables of main: its results with their streams, its other inputs with their items, its other streams and its buffers.
 pub(crate) fn variables<'a>(
     alloc: Global,
     node: &'a PlacedNode,
