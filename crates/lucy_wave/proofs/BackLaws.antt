@@ -40,6 +40,7 @@ use Rattle.lucy_wave.specs.Names.{escaped, there_name}
 use Rattle.lucy_wave.specs.Dumps.{Variable, code_of, kind_of, declaration, declarations, time_line, change_line, is_changed, change, changes, steps, header, dump, text_of}
 use Rattle.lucy_wave.specs.Reading.{ReadsFrom, Says, SaysInstant, SaysTo, SaysOutput}
 use Rattle.lucy_wave.specs.Waves.{Fit, there, last, last_item, stream, results, is_among, input, inputs, written_name, is_outer, inner_stream, inner, buffers, variables, IsWave, Waves}
+use Rattle.lucy_wave.proofs.StepLaws.{dump_steps}
 use Rattle.lucy_wave.proofs.ReadLaws.{Free, IsShown, shown_at, either, digits_free}
 
 -- each output has the items of so many instants
@@ -301,6 +302,7 @@ module _ (all : StreamsAreWhole) (ops : List Operator) (o : Options) (text : Lis
   said_back = (
     lines,
     (wave.text_is, dump_free wave.main.name.text vs horizon (variables_named wave.main (main_word a.placed.nodes a.clocks.items) a.outputs.items lists streams)),
+    dump_steps (escaped wave.main.name.text) vs horizon,
     to_said lines horizon horizon (omega arith) a.outputs.items streams
         (results_shown (escaped wave.main.name.text) vs horizon wave.few early a.outputs.items streams 0 wave.fit (first_results a.outputs.items streams _))
         (whole_of horizon a.outputs.items streams lengths) wave.fit,

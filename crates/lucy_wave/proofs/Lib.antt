@@ -2,5 +2,6 @@ mod PieceLaws
 mod DumpLaws
 mod VariableLaws
 mod ReadLaws
+mod StepLaws
 mod BackLaws
 mod WaveLaws

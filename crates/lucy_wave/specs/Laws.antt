@@ -5,6 +5,7 @@ use Rattle.lucy_word.specs.declared.limit.Limit.TheVariants as limit
 use Rattle.lucy_host.specs.Operators.{Operator}
 use Rattle.lucy_host.specs.declared.kind.HostKind.{HostKind}
 use Rattle.lucy_feed.specs.Sources.{Stop}
+use Rattle.lucy_output.specs.declared.output.OutputSpec.{OutputSpec}
 use Rattle.lucy_front.specs.declared.accepted.Accepted.{Accepted}
 use Rattle.lucy_front.specs.declared.options.Options.{Options}
 use Rattle.lucy_front.specs.Accepting.{IsAccepted}
@@ -28,3 +29,8 @@ OneWave = (kinds : List HostKind) (a : Accepted) (given : Option ℕ) (taken : L
 abbrev pub OneReading : Type 0
 OneReading = (code : List ℕ) (step : ℕ) (held : Option ℕ) (lines : List (List ℕ)) (value other : Option ℕ) →
     ReadsFrom code step held lines value → ReadsFrom code step held lines other → value ≡ other
+
+-- a text says the output lines of one count of instants
+abbrev pub OneCount : Type 0
+OneCount = (text : List ℕ) (outputs : List OutputSpec) (count other : ℕ) (output out : List ℕ) →
+    SaysOutput text outputs count output → SaysOutput text outputs other out → count ≡ other

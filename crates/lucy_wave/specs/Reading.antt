@@ -1,12 +1,12 @@
 -- What a value change dump says (IEEE 1364), by its lines.
-use Rattle.std.specs.Prelude.{ℕ, suc, zero, ◌+◌, ◌<◌, ◌≤◌, ◌^◌, ◌≡◌, ◌≢◌, ◌⊎◌, ℤ, Bool, true, false, List, [], ◌∷◌, ◌++◌, Option, Some, None, slice_get}
+use Rattle.std.specs.Prelude.{ℕ, suc, zero, ◌+◌, ◌<◌, ◌≤◌, ◌^◌, ◌≡◌, ◌≢◌, ◌⊎◌, ℤ, Bool, true, false, List, [], ◌∷◌, ◌++◌, Option, Some, None, slice_get, nat_eq, filter}
 use Rattle.std.specs.Int.{w64, cast_signed}
 use Rattle.std.specs.List.{AllByRecursion}
 use Rattle.std.specs.Fmt.{decimal}
 use Rattle.std.specs.Str.Parse.{IsNumeral, digits_value}
 use Rattle.lucy_output.specs.declared.output.OutputSpec.{OutputSpec}
 use Rattle.lucy_output.specs.Outputs.{line_with_value}
-use Rattle.lucy_wave.specs.Dumps.{declaration, text_of}
+use Rattle.lucy_wave.specs.Dumps.{declaration, time_line, text_of}
 use Rattle.lucy_wave.specs.Names.{escaped, there_name}
 
 -- these are the lines of a text: each ends with a line feed, and has none before
@@ -20,6 +20,20 @@ IsDeclared lines is_wide code name = (k : ℕ) × (slice_get lines k ≡ Some (d
 -- the line sets the time
 abbrev pub IsTime : (line : List ℕ) → (step : ℕ) → Type 0
 IsTime line t = (line ≡ 35 ∷ decimal t) × (t < 2 ^ 64)
+
+-- the line begins with `#`, as one that sets the time does
+abbrev pub sets_time : (line : List ℕ) → Bool
+sets_time [] = false
+sets_time (byte ∷ rest) = nat_eq byte 35
+
+-- the lines that set the times from 1 to a step
+abbrev pub time_lines : (step : ℕ) → List (List ℕ)
+time_lines zero = []
+time_lines (suc t) = time_lines t ++ time_line (suc t) ∷ []
+
+-- the dump has so many steps: its lines that set the time are those of the steps, in order, and one that ends the last
+abbrev pub HasSteps : (lines : List (List ℕ)) → (count : ℕ) → Type 0
+HasSteps lines count = filter sets_time lines ≡ time_lines (suc count)
 
 -- the line gives the variable of a code this value: one digit stands before the code, or `b`, binary digits and a blank
 abbrev pub IsChange : (line code : List ℕ) → (value : ℕ) → Type 0
@@ -56,6 +70,6 @@ SaysTo lines outputs zero text = text ≡ []
 SaysTo lines outputs (suc t) text =
     (front last : List ℕ) × SaysTo lines outputs t front × SaysInstant lines outputs (t + 1) last × (text ≡ front ++ last)
 
--- a text, read as a dump, says that these are the output lines of so many instants
+-- a text, read as a dump of so many steps, says that these are the output lines of so many instants
 abbrev pub SaysOutput : (text : List ℕ) → List OutputSpec → (count : ℕ) → (output : List ℕ) → Type 0
-SaysOutput text outputs count output = (lines : List (List ℕ)) × AreLines lines text × SaysTo lines outputs count output
+SaysOutput text outputs count output = (lines : List (List ℕ)) × AreLines lines text × HasSteps lines count × SaysTo lines outputs count output

@@ -1,5 +1,5 @@
 // Laws of the dumps of runs, on functions that call the laws of feeds, horizons and streams alone.
-ghost use Rattle.lucy_wave.specs.Laws.{WavesAreReadBack, OneWave, OneReading};
+ghost use Rattle.lucy_wave.specs.Laws.{WavesAreReadBack, OneWave, OneReading, OneCount};
 
 use lucy_execution::streams_are_whole;
 use lucy_feed::one_feed;
@@ -25,4 +25,9 @@ pub fn one_wave()
 /// A variable of a dump has one value at a step.
 pub fn one_reading()
     ensures { OneReading }
+{}
+
+/// A dump says the output lines of one count of instants.
+pub fn one_count()
+    ensures { OneCount }
 {}

@@ -14,5 +14,5 @@ mod playing;
 mod variable;
 mod waving;
 
-pub use laws::{one_reading, one_wave, waves_are_read_back};
+pub use laws::{one_count, one_reading, one_wave, waves_are_read_back};
 pub use waving::wave;
