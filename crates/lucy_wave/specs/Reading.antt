@@ -50,13 +50,13 @@ ReadsFrom code t held (line ∷ lines) value =
     ⊎ (((u : ℕ) → IsTime line u → u ≤ t) × ((new : ℕ) → IsChange line code new → ⊥) × ReadsFrom code t held lines value)
 
 -- the dump says that the variable of a name has this value at a step
-abbrev pub Reads : List (List ℕ) → (is_wide : Bool) → (name : List ℕ) → (step value : ℕ) → Type 0
-Reads lines is_wide name t value = (code : List ℕ) × IsDeclared lines is_wide code name × ReadsFrom code t None lines (Some value)
+abbrev pub HasValue : List (List ℕ) → (is_wide : Bool) → (name : List ℕ) → (step value : ℕ) → Type 0
+HasValue lines is_wide name t value = (code : List ℕ) × IsDeclared lines is_wide code name × ReadsFrom code t None lines (Some value)
 
 -- it says of the stream of a name which item comes at a step, if one does: its number is read in two's complement
 abbrev pub Says : List (List ℕ) → (name : List ℕ) → (step : ℕ) → Option ℤ → Type 0
-Says lines name t None = Reads lines false (there_name name) t 0
-Says lines name t (Some item) = Reads lines false (there_name name) t 1 × (value : ℕ) × Reads lines true (escaped name) t value × (item ≡ cast_signed w64 value)
+Says lines name t None = HasValue lines false (there_name name) t 0
+Says lines name t (Some item) = HasValue lines false (there_name name) t 1 × (value : ℕ) × HasValue lines true (escaped name) t value × (item ≡ cast_signed w64 value)
 
 -- the lines of an instant, by what the dump says of the outputs
 abbrev pub SaysInstant : List (List ℕ) → List OutputSpec → (step : ℕ) → (text : List ℕ) → Type 0
