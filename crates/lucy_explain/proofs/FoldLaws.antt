@@ -5,7 +5,7 @@ use Rattle.lucy_solve.specs.declared.diffs.Diff.{Diff}
 use Rattle.lucy_front.specs.Refusals.{AreBelow}
 use Rattle.lucy_explain.specs.declared.line.Line.{Line}
 use Rattle.lucy_explain.specs.Folds.{Folds, FoldTo}
-use Rattle.lucy_explain.specs.Folded.{IsOfOneStream, AreOfOneStream}
+use Rattle.lucy_explain.specs.Folded.{IsOfOneStream, AreOfOneStream, IsLongest, AreLongest}
 use Rattle.lucy_explain.specs.Joining.{AreThere}
 
 -- one line more
@@ -41,13 +41,20 @@ there_take count (suc n) [] there k l = absurd (omega (arith, l))
 there_take count (suc n) (x ∷ positions) there zero l = there 0 (omega arith)
 there_take count (suc n) (x ∷ positions) there (suc k) l = there_take count n positions (λ j m. there (suc j) (omega (arith, m))) k (omega (arith, l))
 
+longest_more : (streams : List ℕ) (list : List Diff) (positions : List ℕ) (lines : List Line) (rest : List ℕ) (line : Line) → FoldTo list positions lines rest →
+    AreLongest streams list positions lines → IsLongest streams list rest line → AreLongest streams list positions (lines ++ line ∷ [])
+longest_more streams list positions [] rest line is all one = (subst (λ ps. IsLongest streams list ps line) (sym is) one, tt)
+longest_more streams list positions (first ∷ lines) rest line (g, more) (head, all) one = (head, longest_more streams list (drop first.count positions) lines rest line more all one)
+
 -- one step of the telling
 pub lines_step : (list : List Diff) (streams positions : List ℕ) (lines : List Line) (rest : List ℕ) (line : Line) (told : List Line) (next : List ℕ) →
-    FoldTo list positions lines rest → AreOfOneStream streams list positions lines → AreThere (length list) rest → Folds list rest line → IsOfOneStream streams list rest line →
-    told ≡ lines ++ line ∷ [] → next ≡ drop line.count rest → FoldTo list positions told next × AreOfOneStream streams list positions told × AreThere (length list) next
-lines_step list streams positions lines rest line told next fold streamed there folds one is moved = (
+    FoldTo list positions lines rest → AreOfOneStream streams list positions lines → AreLongest streams list positions lines → AreThere (length list) rest → Folds list rest line →
+    IsOfOneStream streams list rest line → IsLongest streams list rest line → told ≡ lines ++ line ∷ [] → next ≡ drop line.count rest →
+    FoldTo list positions told next × AreOfOneStream streams list positions told × AreLongest streams list positions told × AreThere (length list) next
+lines_step list streams positions lines rest line told next fold streamed longest there folds one long is moved = (
   subst (λ (ls : List Line). FoldTo list positions ls next) (sym is)
       (subst (λ (ps : List ℕ). FoldTo list positions (lines ++ line ∷ []) ps) (sym moved) (fold_more list positions lines rest line fold folds)),
   subst (λ (ls : List Line). AreOfOneStream streams list positions ls) (sym is) (stream_more streams list positions lines rest line fold streamed one),
+  subst (λ (ls : List Line). AreLongest streams list positions ls) (sym is) (longest_more streams list positions lines rest line fold longest long),
   subst (λ (ps : List ℕ). AreThere (length list) ps) (sym moved) (there_drop (length list) line.count rest there),
 )

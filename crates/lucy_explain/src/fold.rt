@@ -3,7 +3,7 @@ ghost use Rattle.std.specs.Prelude.{◌≡◌, ◌+◌, ◌≤◌, ◌++◌, len
 ghost use Rattle.lucy_front.specs.Refusals.{AreBelow};
 ghost use Rattle.lucy_explain.specs.Folds.{Fold};
 ghost use Rattle.lucy_shape.specs.Fitting.{variable_count};
-ghost use Rattle.lucy_explain.specs.Folded.{IsTurned, AreOfOneStream, IsFolded};
+ghost use Rattle.lucy_explain.specs.Folded.{IsTurned, AreOfOneStream, AreLongest, IsFolded};
 ghost use Rattle.lucy_explain.specs.Joining.{AreThere};
 
 use crate::grow::push;
@@ -53,6 +53,7 @@ pub(crate) fn lines_of(
     requires streams { length streams.now ≡ diffs.now.count }
     ensures fold { IfOk result (λ v. Fold diffs.now.list positions.now v.items) }
     ensures stream { IfOk result (λ v. AreOfOneStream streams.now diffs.now.list positions.now v.items) }
+    ensures longest { IfOk result (λ v. AreLongest streams.now diffs.now.list positions.now v.items) }
 {
     let mut lines = Vec::new(alloc);
     let mut rest = positions;
@@ -114,6 +115,7 @@ fn fold_cycle(
     ensures turned { IfOk result (λ f. IsTurned cycle.now f.cycle.items) }
     ensures fold { IfOk result (λ f. Fold diffs.now.list f.cycle.items f.lines.items) }
     ensures stream { IfOk result (λ f. AreOfOneStream streams.now diffs.now.list f.cycle.items f.lines.items) }
+    ensures longest { IfOk result (λ f. AreLongest streams.now diffs.now.list f.cycle.items f.lines.items) }
 {
     let start = start_of(diffs, streams, cycle);
     let cycle = turned(alloc, cycle, start)?;

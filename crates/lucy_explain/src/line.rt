@@ -2,7 +2,7 @@
 ghost use Rattle.std.specs.Prelude.{◌≡◌, ◌+◌, ◌*◌, ◌^◌, ◌<◌, ◌≤◌, true, length, slice_index, ℤ, pos, neg_ℤ, ◌+ℤ◌, ◌≤ℤ◌};
 ghost use Rattle.lucy_solve.specs.System.{diff_at, most_inequalities};
 ghost use Rattle.lucy_explain.specs.Folds.{Folds};
-ghost use Rattle.lucy_explain.specs.Folded.{IsOfOneStream};
+ghost use Rattle.lucy_explain.specs.Folded.{IsOfOneStream, GoesOn, IsLongest};
 ghost use Rattle.lucy_explain.specs.Joining.{AreThere};
 
 use lucy_solve::{Diff, Diffs};
@@ -63,6 +63,7 @@ fn goes_on(streams: &[u32], line: Line, next: Diff) -> bool
     ensures joined { result ≡ true → line.right ≡ next.left }
     ensures within { result ≡ true → slice_index streams.now line.right ≡ slice_index streams.now line.left }
     ensures more { result ≡ true → slice_index streams.now next.right ≡ slice_index streams.now line.left }
+    ensures exact { GoesOn streams.now line next → result ≡ true }
 {
     let stream = streams[line.left as usize];
     line.right == next.left
@@ -80,6 +81,7 @@ pub(crate) fn line_of(diffs: &Diffs, streams: &[u32], positions: &[u32]) -> Line
     requires streams { length streams.now ≡ diffs.now.count }
     ensures folds { Folds diffs.now.list positions.now result }
     ensures stream { IsOfOneStream streams.now diffs.now.list positions.now result }
+    ensures longest { IsLongest streams.now diffs.now.list positions.now result }
 {
     let list = diffs.list();
     let end = positions.len().min(Limit::Inequalities.number() as usize);

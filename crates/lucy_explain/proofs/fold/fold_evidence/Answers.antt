@@ -1,5 +1,5 @@
 use Rattle.std.proofs.Common.{◌≡◌, ap, subst, ◌∙◌}
-use Rattle.lucy_explain.specs.Folded.{AreOfOneStream}
+use Rattle.lucy_explain.specs.Folded.{AreOfOneStream, AreLongest}
 use Rattle.lucy_explain.specs.Streams.{variable_streams}
 use Rattle.lucy_explain.proofs.fold.fold_evidence.Goals as goal
 
@@ -16,4 +16,5 @@ returns c =
       turned = c.in_ok-told.ensures.turned;
       fold = c.in_ok-told.ensures.fold;
       stream = subst (λ s. AreOfOneStream s c.args.diffs.now.list told.cycle.items told.lines.items) e c.in_ok-told.ensures.stream;
+      longest = subst (λ s. AreLongest s c.args.diffs.now.list told.cycle.items told.lines.items) e c.in_ok-told.ensures.longest;
     }
