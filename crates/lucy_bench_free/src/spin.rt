@@ -2,7 +2,7 @@
 ghost use Rattle.std.specs.Prelude.{◌≡◌, ◌<◌};
 
 // So many steps take about a microsecond.
-const STEPS: u32 = 400;
+const STEPS: u32 = 800;
 
 // The number behind this one in a walk by shifts (Marsaglia 2003). It is above 0 as well.
 fn next(x: u64) -> u64
