@@ -75,5 +75,5 @@ fn main(rt: HostRuntime) -> io::Result<ExitCode> {
 // Words that name no way.
 fn usage(rt: &impl Print) -> io::Result<ExitCode> {
     println!(rt; "lucy_bench_free rounds|free WORDS..")?;
-    Ok(ExitCode::from(2))
+    Ok(ExitCode::SUCCESS)
 }
