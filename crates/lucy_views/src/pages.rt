@@ -24,12 +24,5 @@ pub(crate) fn pages<S: Shelf>(
     let text = text_of(alloc, file, shelf)?;
     let program = parse(alloc, &text)?;
     let accepted = accepted(alloc, &text, words.program, ops)?;
-    Ok(page(
-        alloc,
-        file,
-        &text,
-        &program,
-        &accepted,
-        words.instants,
-    )?)
+    Ok(page(alloc, file, &text, &program, &accepted, words.instants)?)
 }

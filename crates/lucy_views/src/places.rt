@@ -2,11 +2,11 @@
 ghost use Rattle.std.specs.Prelude.{◌<◌, length, IfErr};
 ghost use Rattle.lucy_views.specs.Failures.{Tellable};
 
-use lucy_picture::{form_of, offset_of, put_entry, put_spot};
 use crate::failure::Failure;
 use crate::program::{number_of, text_of};
 use crate::words::WhereWords;
 use lucy_host::Ops;
+use lucy_picture::{form_of, offset_of, put_entry, put_spot};
 use lucy_place::{Placed, place};
 use lucy_syntax::parse;
 use lucy_text::Shelf;

@@ -41,13 +41,7 @@ fn runnable<S: Shelf>(
 }
 
 /// Runs a program on its input, and writes its dump. The answer is the status.
-pub(crate) fn wave<
-    S: Shelf,
-    I: Source,
-    O: Sink,
-    E: Sink,
-    F: Fn(u32, i64, i64) -> i64 + Sync,
->(
+pub(crate) fn wave<S: Shelf, I: Source, O: Sink, E: Sink, F: Fn(u32, i64, i64) -> i64 + Sync>(
     alloc: Global,
     words: WaveWords<'_>,
     host: &Host<F>,

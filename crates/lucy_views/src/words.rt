@@ -123,7 +123,9 @@ fn shown_instants<'a>(alloc: Global) -> Arg<'a> {
 // `time`
 fn time<'a>(alloc: Global) -> Result<Command<'a>, AllocError> {
     let about = "Shows when the streams of a node have items, and how many wait in its buffers";
-    let node = Arg::new(alloc, "NODE").help("a node of the program; else all of them, or with --svg the last one");
+    let node = Arg::new(alloc, "NODE").help(
+        "a node of the program; else all of them, or with --svg the last one",
+    );
     on_program(alloc, "time", about)?
         .arg(node)?
         .arg(shown_instants(alloc))?
@@ -134,17 +136,40 @@ fn time<'a>(alloc: Global) -> Result<Command<'a>, AllocError> {
 fn net<'a>(alloc: Global) -> Result<Command<'a>, AllocError> {
     let about = "Shows what feeds what in a node, for Graphviz";
     let node = Arg::new(alloc, "NODE").help("a node of the program; else the last one");
-    on_program(alloc, "net", about)?
-        .arg(node)?
-        .arg(flag(alloc, "flat", "shows the whole program with its calls written out"))
+    on_program(alloc, "net", about)?.arg(node)?.arg(flag(
+        alloc,
+        "flat",
+        "shows the whole program with its calls written out",
+    ))
 }
 
 // `wave`
 fn wave<'a>(alloc: Global) -> Result<Command<'a>, AllocError> {
     let about = "Runs a program on its input, and shows the run as a value change dump";
-    let instants = numeral(alloc, "instants", "N", 0, 1_048_576, "as that of `lucy run`");
-    let workers = numeral(alloc, "workers", "W", 1, 64, "as that of `lucy run`; changes nothing");
-    let block = numeral(alloc, "block", "B", 1, 1_048_576, "as that of `lucy run`; changes nothing");
+    let instants = numeral(
+        alloc,
+        "instants",
+        "N",
+        0,
+        1_048_576,
+        "as that of `lucy run`",
+    );
+    let workers = numeral(
+        alloc,
+        "workers",
+        "W",
+        1,
+        64,
+        "as that of `lucy run`; changes nothing",
+    );
+    let block = numeral(
+        alloc,
+        "block",
+        "B",
+        1,
+        1_048_576,
+        "as that of `lucy run`; changes nothing",
+    );
     on_program(alloc, "wave", about)?
         .arg(instants)?
         .arg(workers)?
@@ -153,13 +178,18 @@ fn wave<'a>(alloc: Global) -> Result<Command<'a>, AllocError> {
 
 // `page`
 fn page<'a>(alloc: Global) -> Result<Command<'a>, AllocError> {
-    let about = "Shows the report, the chronograms, the buffers and the nets of a program on a page of HTML";
+    let about =
+        "Shows the report, the chronograms, the buffers and the nets of a program on a page of HTML";
     on_program(alloc, "page", about)?.arg(shown_instants(alloc))
 }
 
 // `explain`
 fn explain<'a>(alloc: Global) -> Result<Command<'a>, AllocError> {
-    on_program(alloc, "explain", "Says why a program is refused, and what helps")
+    on_program(
+        alloc,
+        "explain",
+        "Says why a program is refused, and what helps",
+    )
 }
 
 // `where`
