@@ -11,7 +11,7 @@ use Rattle.std.proofs.lemmas.Bool.Decides.{nat_tests}
 use Rattle.std.proofs.lemmas.List.Sums.{sum_by-cons, sum_by-append}
 use Rattle.lucy_word.specs.Bits.{one_if, ones_in}
 use Rattle.lucy_word.specs.Items.{Item, alone, counted, digit_of, items_text, item_bits, items_bits, times, IsItem, Form, form_text, IsForm}
-use Rattle.lucy_word.specs.Cutting.{is_no_open, IsSplit, most_count, BeginsWithout, IsTimes}
+use Rattle.lucy_word.specs.Cutting.{is_no_open, IsSplit, most_count, BeginsWithout, IsTimes, ones_of, AddsUp}
 
 -- no item has a `(`
 AreNoOpen : List ℕ → Type 0
@@ -155,7 +155,7 @@ starts_digit (alone false ∷ is) = λ e. omega (arith, e)
 starts_digit (counted true ds ∷ is) = λ e. omega (arith, e)
 starts_digit (counted false ds ∷ is) = λ e. omega (arith, e)
 
-bit_again : (b : Bool) → eqb (digit_of b) 49 ≡ b
+pub bit_again : (b : Bool) → eqb (digit_of b) 49 ≡ b
 bit_again true = refl
 bit_again false = refl
 
@@ -247,10 +247,6 @@ pub record Summing (items rest : List ℕ) (bits ones : ℕ) (is : List Item) : 
 pub summing_first : (items : List ℕ) (is : List Item) → AllByRecursion IsItem is → items ≡ items_text is → Summing items items 0 0 is
 summing_first items is h e = record { others = is; are = h; left = e; bits_are = omega arith; ones_are = omega arith }
 
--- how many of a digit's bits are ones
-abbrev pub ones_of : ℕ → ℕ → ℕ
-ones_of c n = cond (eqb c 49) n 0
-
 ones_run : (n : ℕ) (b : Bool) → ones_in (replicate n b) ≡ cond b n 0
 ones_run zero true = refl
 ones_run zero false = refl
@@ -276,32 +272,44 @@ next c behind n after js h e t =
           ∙ ap (λ m. m + ones_in (items_bits x.others)) (ones_run (times x.first) (eqb c 49));
     }
 
-pub one_counts : (c n : ℕ) → c ≡ 49 → ones_of c n ≡ n
-one_counts c n h = ap (λ d. ones_of d n) h
-
-pub zero_counts : (c n : ℕ) → (c ≡ 49 → ⊥) → ones_of c n ≡ 0
-zero_counts c n h = let other : eqb c 49 ≡ false = grind (arith, nat_tests) in ap (λ t. cond t n 0) other
-
-pub summing_more : (items rest : List ℕ) (bits ones : ℕ) (is : List Item) (c : ℕ) (behind : List ℕ) (n : ℕ) (after : List ℕ) (m : ℕ) →
-    Summing items rest bits ones is →
-    rest ≡ c ∷ behind → IsTimes behind n after → n < most_count → m ≡ ones + ones_of c n → Summing items after (bits + n) m is
-summing_more items rest bits ones is c behind n after m k e t less f =
-    let x = next c behind n after k.others k.are (sym e ∙ k.left) t in
-    let count : n ≡ times x.item.first = omega (arith, x.item.many, less) in
+-- the next item adds up
+pub adds_item : (text : List ℕ) (c : ℕ) (behind : List ℕ) (n ones : ℕ) (after : List ℕ) → text ≡ c ∷ behind → IsTimes behind n after → ones ≡ ones_of c n → AddsUp text n ones after
+adds_item text c behind n ones after f t o js h e =
+    let x = next c behind n after js h (sym f ∙ e) t in
+    let count : n < most_count → n ≡ times x.item.first = λ less. omega (arith, x.item.many, less) in
     record {
       others = x.item.others;
       are = x.item.are;
       left = x.item.left;
-      bits_are = omega (arith, x.bits, count, k.bits_are);
-      ones_are = omega (arith, x.ones, ap (ones_of c) count, k.ones_are, f);
+      least = omega (arith, x.item.many, x.bits);
+      bits_are = λ less. omega (arith, count less, x.bits);
+      ones_are = λ less. omega (arith, o, ap (ones_of c) (count less), x.ones);
     }
 
-pub summing_long : (items rest : List ℕ) (bits ones : ℕ) (is : List Item) (c : ℕ) (behind : List ℕ) (n : ℕ) (after : List ℕ) (most : ℕ) →
-    Summing items rest bits ones is →
-    rest ≡ c ∷ behind → IsTimes behind n after → bits ≤ most → most - bits < n → most < length (items_bits is)
-summing_long items rest bits ones is c behind n after most k e t short more =
-    let x = next c behind n after k.others k.are (sym e ∙ k.left) t in
-    omega (arith, x.item.many, short, more, x.bits, k.bits_are)
+pub ones_within : (c n : ℕ) → ones_of c n ≤ n
+ones_within c n = go (eqb c 49)
+  where
+    go : (t : Bool) → cond t n 0 ≤ n
+    go true = omega arith
+    go false = omega arith
+
+pub summing_more : (items rest : List ℕ) (bits ones : ℕ) (is : List Item) (n m : ℕ) (after : List ℕ) → Summing items rest bits ones is → AddsUp rest n m after →
+    n < most_count → Summing items after (bits + n) (ones + m) is
+summing_more items rest bits ones is n m after k adds less =
+    let x = adds k.others k.are k.left in
+    record {
+      others = x.others;
+      are = x.are;
+      left = x.left;
+      bits_are = omega (arith, x.bits_are less, k.bits_are);
+      ones_are = omega (arith, x.ones_are less, k.ones_are);
+    }
+
+pub summing_long : (items rest : List ℕ) (bits ones : ℕ) (is : List Item) (n m : ℕ) (after : List ℕ) (most : ℕ) → Summing items rest bits ones is → AddsUp rest n m after →
+    bits ≤ most → most - bits < n → most < length (items_bits is)
+summing_long items rest bits ones is n m after most k adds short more =
+    let x = adds k.others k.are k.left in
+    omega (arith, x.least, short, more, k.bits_are)
 
 pub summing_ends : (items rest : List ℕ) (bits ones : ℕ) (is : List Item) → Summing items rest bits ones is → length rest ≡ 0 →
     (bits ≡ length (items_bits is)) × (ones ≡ ones_in (items_bits is))

@@ -21,5 +21,7 @@ mod Rows
 pub mod PartialLaws
 pub mod Checking
 mod CuttingLaws
+mod DigitLaws
+mod StayLaws
 pub mod RunLaws
 pub mod ShortenedLaws

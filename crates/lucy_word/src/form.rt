@@ -5,7 +5,11 @@ ghost use Rattle.lucy_word.specs.Forms.{IsBadAt};
 ghost use Rattle.lucy_word.specs.Spelling.{Spells};
 ghost use Rattle.lucy_word.specs.Spelling as spelling;
 ghost use Rattle.lucy_word.specs.Stages as spec;
+ghost use Rattle.lucy_word.specs.Cutting.{IsRun, Stays};
 ghost use Rattle.lucy_word.specs.Cutting as kept;
+
+use crate::digits::whole;
+use crate::limbs::WIDTH;
 
 /// How far the text of a word was read: behind whole items or at their beginning, behind a digit, behind a digit's `{`, in the
 /// digits of a count, or behind all. `inside` is whether its `(` was read, and `some` whether an item stands behind it.
@@ -18,7 +22,7 @@ pub enum Stage {
     Closed,
 }
 
-fn is_digit(c: u8) -> bool
+pub(crate) fn is_digit(c: u8) -> bool
     ensures { result ≡ spelling.is_digit c }
 {
     c == b'0' || c == b'1'
@@ -105,6 +109,13 @@ fn at_count(stage: Stage) -> bool
     matches!(stage, Stage::Brace { .. })
 }
 
+// Whether the last byte is a digit that may stand alone.
+fn at_digit(stage: Stage) -> bool
+    ensures { result ≡ kept.at_digit stage }
+{
+    matches!(stage, Stage::Digit { .. })
+}
+
 // Whether all was read.
 fn is_closed(stage: Stage) -> bool
     ensures { IsTrue result ↔ (stage ≡ Stage.Closed) }
@@ -137,6 +148,42 @@ fn is_zero(zeros: bool, c: u8) -> bool
     zeros && c == b'}'
 }
 
+// Behind the digits from a place on, as far as they fill limbs.
+pub(crate) fn limbs_end(text: &[u8], from: usize) -> usize
+    ensures { IsRun text.now from result }
+{
+    let mut i = from;
+    'limbs: while let Some(_) = whole(text, i) {
+        i += WIDTH;
+    }
+    i
+}
+
+// Behind the digits from a place on.
+fn digits_end(text: &[u8], from: usize) -> usize
+    ensures { IsRun text.now from result }
+{
+    let mut i = limbs_end(text, from);
+    'digits: while i < text.len() {
+        if !is_digit(text[i]) {
+            return i;
+        }
+        i += 1;
+    }
+    i
+}
+
+// Behind the bytes from a place on that leave the stage as it is: digits behind a digit.
+fn stay(text: &[u8], stage: Stage, from: usize) -> usize
+    ensures { Stays text.now stage from result }
+{
+    if at_digit(stage) {
+        digits_end(text, from)
+    } else {
+        from
+    }
+}
+
 // Whether the text spells a word; else the least place where its form breaks or the digits of a count begin that is 0.
 pub(crate) fn check(text: &[u8]) -> Result<(), u64>
     ensures { MatchResult result (λ _. (w : Bits) × Spells text.now w) (IsBadAt text.now) }
@@ -156,7 +203,7 @@ pub(crate) fn check(text: &[u8]) -> Result<(), u64>
         from = count_from(stage, i, from);
         zero = all_zeros(stage, zero, c);
         stage = then;
-        i += 1;
+        i = stay(text, stage, i + 1);
     }
     if is_closed(stage) {
         Ok(())

@@ -4,9 +4,10 @@
 //! word and their counts are. Then `specs/Shortest.antt` says which spelling of a word is the shortest, `specs/Stored.antt`
 //! what every word in memory is, `specs/Sampling.antt` what `on` gives, `specs/Complement.antt` what `complement` gives, and
 //! `specs/Items.antt` and `specs/Spelling.antt` how a word is spelled. `limit.rt` and `specs/Limits.antt` have the limits of all crates.
-//! How bits are kept, 64 to a number, is in `limbs.rt`, and how they are made in `packed.rt`.
+//! How bits are kept, 64 to a number, is in `limbs.rt`, how they are made in `packed.rt`, and how digits become 64 at once in `digits.rt`.
 #![tactic(auto)]
 
+mod digits;
 mod error;
 mod flip;
 mod form;

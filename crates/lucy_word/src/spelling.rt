@@ -3,10 +3,12 @@ ghost use Rattle.std.specs.Prelude.{◌≡◌, ◌++◌, ◌∷◌, ◌<◌, ◌
 ghost use Rattle.lucy_word.specs.Bits.{ones_in};
 ghost use Rattle.std.specs.List.{prefix_len, AllByRecursion};
 ghost use Rattle.lucy_word.specs.Items.{Item, Form, IsItem, IsForm, form_text, items_text, items_bits};
-ghost use Rattle.lucy_word.specs.Cutting.{IsSplit, IsCounted, IsTimes, is_no_open, most_count};
+ghost use Rattle.lucy_word.specs.Cutting.{IsSplit, IsCounted, IsTimes, AddsUp, ones_of, is_no_open, most_count};
 
 use crate::Limit;
-use crate::limbs::Limbs;
+use crate::digits::alone;
+use crate::form::limbs_end;
+use crate::limbs::{Limbs, WIDTH};
 use crate::packed::Packed;
 use std::alloc::{AllocError, Global};
 
@@ -17,11 +19,21 @@ fn prefix_len(text: &[u8]) -> usize
     text.iter().take_while(|c| **c != b'(').count()
 }
 
+// The same: digits that fill limbs have no `(`.
+fn prefix_end(text: &[u8]) -> usize
+    ensures value { result ≡ prefix_len is_no_open text.now }
+    ensures within { result ≤ length text.now }
+{
+    let from = limbs_end(text, 0);
+    let (_, rest) = text.split_at(from);
+    from + prefix_len(rest)
+}
+
 // The text of the prefix, and that of the period.
 pub(crate) fn parts(text: &[u8]) -> (&[u8], &[u8])
     ensures { (f : Form) → IsForm f → text.now ≡ form_text f → IsSplit result.0.now result.1.now f }
 {
-    let n = prefix_len(text);
+    let n = prefix_end(text);
     let (prefix, rest) = text.split_at(n);
     if rest.len() < 2 {
         return (prefix, rest);
@@ -67,6 +79,34 @@ pub(crate) struct Sums {
     pub(crate) ones: u64,
 }
 
+// How many ones a digit is that stands there so often.
+fn ones_of(c: u8, n: u64) -> u64
+    ensures { result ≡ ones_of c n }
+{
+    if c == b'1' { n } else { 0 }
+}
+
+// What the first items stand for, digits alone or one with its count, and what follows them; none where there are no items.
+fn first(items: &[u8]) -> Option<(Sums, &[u8])>
+    ensures sums { MatchOption result (length items.now ≡ 0) (λ r. AddsUp items.now r.0.bits r.0.ones r.1.now) }
+    ensures shorter { IfSome result (λ r. length r.1.now < length items.now) }
+    ensures within { IfSome result (λ r. r.0.ones ≤ r.0.bits) }
+{
+    let digits = alone(items, WIDTH);
+    if digits.n > 0 {
+        let (_, rest) = items.split_at(digits.n);
+        let bits = digits.n as u64;
+        let ones = u64::from(digits.limb.count_ones());
+        return Some((Sums { bits, ones }, rest));
+    }
+    let Some((c, more)) = items.split_first() else {
+        return None;
+    };
+    let (bits, rest) = times(more);
+    let ones = ones_of(*c, bits);
+    Some((Sums { bits, ones }, rest))
+}
+
 // What items stand for, counted; none where they are more bits than so many, which are no more than a written word may have.
 pub(crate) fn add_up(items: &[u8], most: u64) -> Option<Sums>
     requires { most < most_count }
@@ -75,16 +115,13 @@ pub(crate) fn add_up(items: &[u8], most: u64) -> Option<Sums>
 {
     let mut sums = Sums { bits: 0, ones: 0 };
     let mut rest = items;
-    'items: while let Some((c, more)) = rest.split_first() {
-        let (n, more) = times(more);
-        if n > most - sums.bits {
+    'items: while let Some((more, behind)) = first(rest) {
+        if more.bits > most - sums.bits {
             return None;
         }
-        sums.bits += n;
-        if *c == b'1' {
-            sums.ones += n;
-        }
-        rest = more;
+        sums.bits += more.bits;
+        sums.ones += more.ones;
+        rest = behind;
     }
     Some(sums)
 }
@@ -97,8 +134,15 @@ pub(crate) fn bits(alloc: Global, items: &[u8]) -> Result<Limbs, AllocError>
     let mut bits = Packed::new(alloc);
     let mut rest = items;
     'items: while let Some((c, more)) = rest.split_first() {
-        let (n, more) = times(more);
         let room = most.saturating_sub(bits.len() as u64);
+        let digits = alone(rest, room as usize);
+        if digits.n > 0 {
+            bits.push(digits.limb, digits.n)?;
+            let (_, behind) = rest.split_at(digits.n);
+            rest = behind;
+            continue;
+        }
+        let (n, more) = times(more);
         bits.push_run(*c == b'1', n.min(room) as usize)?;
         rest = more;
     }

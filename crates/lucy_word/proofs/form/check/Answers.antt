@@ -3,6 +3,7 @@ use Rattle.std.proofs.lemmas.Bool.{both_ways}
 use Rattle.lucy_word.specs.declared.form.Stage.TheVariants.{Closed}
 use Rattle.lucy_word.specs.Cutting.{count_from}
 use Rattle.lucy_word.proofs.Checking.{Checked, checked_first, checked_more, bad_byte, bad_end, bad_zero, good_text}
+use Rattle.lucy_word.proofs.StayLaws.{checked_stays}
 use Rattle.lucy_word.proofs.form.check.Goals as goal
 
 pub bytes-init : goal.bytes-init
@@ -22,8 +23,10 @@ bytes-preserved c =
     let T : List ℕ = c.args.text.now in
     let k = checked_more c.args.text.now c.bytes.i c.bytes.from c.bytes.zero c.bytes.stage c.in-Some.then c.bytes.invariant c.bytes-test.true (sym c.next.ensures ∙ c.in-Some.is)
     (λ a b. both_ways _ c.if-is_zero.false (c.is_zero.ensures.1 (a, b))) in
+    let one : Checked T (c.bytes.i + 1) c.count_from-from.result c.all_zeros-zero.result c.in-Some.then =
     subst (λ (n : ℕ). Checked T (c.bytes.i + 1) n c.all_zeros-zero.result c.in-Some.then) (sym c.count_from-from.ensures)
-    (subst (λ (b : Bool). Checked T (c.bytes.i + 1) (count_from c.bytes.stage c.bytes.i c.bytes.from) b c.in-Some.then) (sym c.all_zeros-zero.ensures) k)
+    (subst (λ (b : Bool). Checked T (c.bytes.i + 1) (count_from c.bytes.stage c.bytes.i c.bytes.from) b c.in-Some.then) (sym c.all_zeros-zero.ensures) k) in
+    checked_stays T (c.bytes.i + 1) c.stay-i.result c.count_from-from.result c.all_zeros-zero.result c.in-Some.then one c.stay-i.ensures
 
 pub returns-then-is_closed : goal.returns-then-is_closed
 returns-then-is_closed c =

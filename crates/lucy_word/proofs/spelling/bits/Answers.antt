@@ -1,6 +1,12 @@
 use Rattle.std.proofs.Common.{◌≡◌, ℕ, ◌++◌, eqb, replicate, ap, ◌∙◌, arith}
 use Rattle.lucy_word.proofs.CuttingLaws.{reading_more, reading_room, reading_ends}
+use Rattle.lucy_word.proofs.DigitLaws.{reading_digits}
 use Rattle.lucy_word.proofs.spelling.bits.Goals as goal
+
+pub items-preserved-then-digits-gt0 : goal.items-preserved-then-digits-gt0
+items-preserved-then-digits-gt0 c is h e few =
+    reading_digits c.args.items.now c.items.rest.now c.items.bits is c.alone-digits.result.n c.alone-digits.result.limb c.split_at.result.1.now c.push.new.self (c.items.invariant is h e few)
+    c.alone-digits.ensures.alone c.if-digits-gt0.true c.split_at.ensures.back c.in_ok-push.ensures
 
 pub items-preserved : goal.items-preserved
 items-preserved c is h e few =
