@@ -74,8 +74,8 @@ fn is_past(prefix: u64, period: u64) -> bool
     prefix > most || period > most - prefix
 }
 
-// Whether a clock on a word is computed with too many bits, which is known before any is made.
-fn is_too_long(own: &Word, word: &Word) -> bool
+/// Whether a clock on a word is computed with more bits than `Limit::Word` allows, which is known before any is made.
+pub fn is_too_long(own: &Word, word: &Word) -> bool
     ensures { IsTrue result ↔ IsOnTooLong own.now word.now }
 {
     let (prefix, _) = own.lengths();

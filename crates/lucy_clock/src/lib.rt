@@ -29,7 +29,7 @@ mod written_words;
 
 pub use callers::{ports, signatures};
 pub use error::ClockError;
-pub use handing::test_handed;
+pub use handing::{is_too_long, test_handed};
 pub use laws::{needs_are_the_rules, written_nodes_have_one};
 pub use node_clock::{NodeClock, Numbers64};
 pub use node_needs::needs;

@@ -9,10 +9,13 @@ pub mod FlatLaws
 pub mod NetLaws
 pub mod HeldLaws
 pub mod KeptLaws
+pub mod UnmadeRings
 pub mod ReadLaws
 pub mod PastLaws
 pub mod TopLaws
 pub mod InstanceLaws
+pub mod SampledLaws
+pub mod UnmadePlaces
 pub mod MadeLaws
 pub mod PutLaws
 pub mod SpotLaws

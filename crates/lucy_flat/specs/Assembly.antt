@@ -1,5 +1,5 @@
 -- The net of drafts: a ring for each operand, numbered by the taking actor and then by operand.
-use Rattle.std.specs.Prelude.{ℕ, zero, suc, ◌+◌, ◌<◌, ◌≤◌, ◌≡◌, ◌^◌, List, [], All, length, take, Option, Some, None, slice_get, nat_eq, sum_by}
+use Rattle.std.specs.Prelude.{ℕ, zero, suc, ◌+◌, ◌<◌, ◌≤◌, ◌≡◌, ◌^◌, List, [], ◌∷◌, ◌++◌, All, length, take, Option, Some, None, slice_get, nat_eq, sum_by}
 use Rattle.std.specs.List.{range_with_len}
 use Rattle.lucy_tree.specs.Shaped.{HasZero}
 use Rattle.lucy_word.specs.Bits.{Bits}
@@ -42,6 +42,13 @@ abbrev pub ReadsTooLong : ActorKind → ℕ → Bits → Type 0
 ReadsTooLong (Merge p) zero own = IsOnTooLong own p
 ReadsTooLong (Merge p) (suc k) own = IsOnTooLong own (turned p)
 ReadsTooLong kind k own = ⊥
+
+-- there is the word on which a draft takes an operand, as words are in memory, and it isn't too long
+pub record IsReadThere (kind : ActorKind) (k : ℕ) (own write : Bits) : Type 0 where
+  pub read : Bits
+  pub is : IsReadOn kind k own write read
+  pub stored : IsStored read
+  pub fits : ReadsTooLong kind k own → ⊥
 
 -- the ring of operand k of a draft
 pub record IsRingOf (drafts : List Draft) (a k source : ℕ) (draft : Draft) (ring : RingSpec) : Type 0 where
@@ -154,6 +161,12 @@ pub record AreHeld (rings : List RingSpec) (held : Held) : Type 0 where
   pub most : held.bits ≤ sum_by ring_bits rings
   pub all : held.bits ≤ limit_number limit.Bits → (held.rings.items ≡ rings) × (held.bits ≡ sum_by ring_bits rings)
   pub few : sum_by ring_bits held.rings.items ≤ limit_number limit.Bits
+
+-- the ring of an operand comes behind others, made or not, and some of all are held
+pub record IsRingHeld (drafts : List Draft) (to operand : ℕ) (rings : List RingSpec) (held : Held) : Type 0 where
+  pub ring : RingSpec
+  pub is : (from : ℕ) (draft : Draft) → slice_get drafts to ≡ Some draft → slice_get draft.reads.items operand ≡ Some from → IsRingOf drafts to operand from draft ring
+  pub holds : AreHeld (rings ++ ring ∷ []) held
 
 -- of the rings of the first drafts
 pub record AreRingsHeld (drafts : List Draft) (upto : ℕ) (held : Held) : Type 0 where

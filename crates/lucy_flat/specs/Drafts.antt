@@ -6,7 +6,7 @@ use Rattle.lucy_word.specs.Limits.{limit_number}
 use Rattle.lucy_word.specs.declared.limit.Limit.TheVariants as limit
 use Rattle.lucy_word.specs.Stored.{IsStored}
 use Rattle.lucy_word.specs.Shortest.{IsShortest}
-use Rattle.lucy_word.specs.Sampling.{IsOnTooLong}
+use Rattle.lucy_word.specs.Sampling.{IsOn, IsOnTooLong}
 use Rattle.lucy_place.specs.declared.placed.PlacedNode.{PlacedNode}
 use Rattle.lucy_place.specs.declared.entry.PlaceKind.{PlaceKind}
 use Rattle.lucy_place.specs.declared.entry.CallSite.{CallSite}
@@ -42,6 +42,11 @@ pub record IsMade (nodes : List PlacedNode) (clocks : List NodeClock) (spot : Sp
   pub size : draft.size ≡ ring_size clocks (index_at nodes spot.path) kind
   pub gives : draft.gives.items ≡ []
   pub fits : HandsTooLong kind draft.word → ⊥
+
+-- with this word in its node, a place of the kind has a word that is too long in an instance with this base: its own, or one on
+-- which it takes
+abbrev pub HasTooLong : PlaceKind → Bits → Bits → Type 0
+HasTooLong kind base word = IsOnTooLong base word ⊎ ((own : Bits) × IsOn base word own × IsStored own × HandsTooLong kind own)
 
 -- a draft of an instance place
 pub record IsSpotDraft (nodes : List PlacedNode) (clocks : List NodeClock) (spot : Spot) (draft : Draft) : Type 0 where
@@ -211,6 +216,13 @@ pub record AreKept (drafts : List Draft) (kept : Kept) : Type 0 where
   pub most : kept.bits ≤ sum_by draft_bits drafts
   pub all : kept.bits ≤ limit_number limit.Bits → (kept.drafts.items ≡ drafts) × (kept.bits ≡ sum_by draft_bits drafts)
   pub few : sum_by draft_bits kept.drafts.items ≤ limit_number limit.Bits
+
+-- the draft of a place of an instance comes behind others, made or not, and some of all are kept
+pub record IsPlaceKept (nodes : List PlacedNode) (clocks : List NodeClock) (path : List ℕ) (place : ℕ) (old : List Draft) (kept : Kept) : Type 0 where
+  pub draft : Draft
+  pub is : IsSpotDraft nodes clocks (at path place) draft
+  pub fit : IsFit nodes clocks path place
+  pub keeps : AreKept (old ++ draft ∷ []) kept
 
 -- the drafts of the first places of an instance come behind others, and some of all are kept
 pub record ArePlacesKept (nodes : List PlacedNode) (clocks : List NodeClock) (path : List ℕ) (upto : ℕ) (old : List Draft) (kept : Kept) : Type 0 where

@@ -1,17 +1,19 @@
 // Actors and rings out of drafts.
-ghost use Rattle.std.specs.Prelude.{ℕ, ◌≡◌, ◌⊎◌, ◌+◌, ◌<◌, ◌≤◌, ◌^◌, Some, length, slice_get, OnOk, IfOk, IfErr};
+ghost use Rattle.std.specs.Prelude.{ℕ, List, ◌≡◌, ◌⊎◌, ◌+◌, ◌<◌, ◌≤◌, ◌^◌, Some, length, slice_get, OnOk, IfOk, IfErr};
 ghost use Rattle.std.specs.List.{range_with_len};
 ghost use Rattle.lucy_word.specs.Shortest.{IsShortest};
+ghost use Rattle.lucy_word.specs.Stored.{IsStored};
 ghost use Rattle.lucy_word.specs.declared.limit.Limit.TheVariants as lim;
+ghost use Rattle.lucy_net.specs.declared.net.RingSpec.{RingSpec as Ring};
 ghost use Rattle.lucy_flat.specs.declared.error.FlatError.TheVariants as err;
 ghost use Rattle.lucy_flat.specs.declared.draft.Draft.{Draft as One};
-ghost use Rattle.lucy_flat.specs.Assembly.{reads_count, all_reads, IsReadOn, ReadsTooLong, HasKind, IsReady, IsRingOf, AreRingsOf, AreRingsHeld, IsAssembled, IsReadTooLong, IsNetPast, AreGiven, IsActorOf, AreActorsOf, IsFiring, IsSampling};
+ghost use Rattle.lucy_flat.specs.Assembly.{reads_count, all_reads, IsReadOn, ReadsTooLong, IsReadThere, HasKind, IsReady, IsRingOf, AreRingsOf, AreHeld, IsRingHeld, AreRingsHeld, IsAssembled, IsReadTooLong, IsNetPast, AreGiven, IsActorOf, AreActorsOf, IsFiring, IsSampling};
 
 use crate::draft::Draft;
 use crate::error::FlatError;
 use crate::grow::push;
-use crate::held::{Held, hold};
-use crate::words::{copied, sampled, turned};
+use crate::held::{Held, hold, is_past};
+use crate::words::{copied, sampled, test_sampled, turned};
 use lucy_net::{Actor, ActorKind, Actors, Net, Numbers, RingSpec, Rings};
 use lucy_word::{Limit, Word, words_are_stored};
 use std::alloc::Global;
@@ -34,6 +36,24 @@ fn read_word(alloc: Global, taker: &Draft, operand: usize, write: &Word) -> Resu
             sampled(alloc, &taker.word, &other)
         }
         _ => copied(alloc, &taker.word),
+    }
+}
+
+// Tests that the word on which an actor takes an operand isn't too long; it isn't made.
+fn test_read(taker: &Draft, operand: usize, write: &Word) -> Result<(), FlatError>
+    requires { HasKind taker.now.kind (reads_count taker.now) }
+    ensures ok { OnOk result (IsReadThere taker.now.kind operand taker.now.word write.now) }
+    ensures stored { IsStored write.now }
+    ensures refused { IfErr result (λ e. (e ≡ err.Limit lim.Word) × ReadsTooLong taker.now.kind operand taker.now.word) }
+{
+    words_are_stored(&taker.word);
+    words_are_stored(write);
+    match &taker.kind {
+        ActorKind::Merge(word) => {
+            words_are_stored(word);
+            test_sampled(&taker.word, word)
+        }
+        _ => Ok(()),
     }
 }
 
@@ -62,6 +82,29 @@ fn ring_of(
     })
 }
 
+// Holds the ring of an operand. Past Bits it is let go of unmade: that its words aren't too long is all that counts.
+fn hold_ring(
+    alloc: Global,
+    drafts: &[Draft],
+    to: usize,
+    operand: usize,
+    held: &mut Held,
+) -> Result<(), FlatError>
+    requires ready { IsReady drafts.now }
+    requires to { to < length drafts.now }
+    requires operand { (draft : One) → slice_get drafts.now to ≡ Some draft → operand < reads_count draft }
+    ensures ok { (rings : List Ring) → AreHeld rings held.old → OnOk result (IsRingHeld drafts.now to operand rings held.new) }
+    ensures refused { IfErr result (λ e. (e ≡ err.OutOfMemory) ⊎ ((e ≡ err.Limit lim.Word) × IsReadTooLong drafts.now)) }
+{
+    if is_past(held) {
+        let taker = &drafts[to];
+        let from = taker.reads[operand];
+        return test_read(taker, operand, &drafts[from as usize].word);
+    }
+    let next = ring_of(alloc, drafts, to, operand)?;
+    hold(held, next)
+}
+
 // Holds the rings of an actor's operands.
 fn hold_rings(alloc: Global, drafts: &[Draft], to: usize, held: &mut Held) -> Result<(), FlatError>
     requires ready { IsReady drafts.now }
@@ -74,8 +117,7 @@ fn hold_rings(alloc: Global, drafts: &[Draft], to: usize, held: &mut Held) -> Re
     words_are_stored(&taker.word);
     let count = taker.reads.len();
     'each: for operand in 0..count {
-        let next = ring_of(alloc, drafts, to, operand)?;
-        hold(held, next)?;
+        hold_ring(alloc, drafts, to, operand, held)?;
     }
     Ok(())
 }

@@ -1,5 +1,7 @@
 // Rings of which no more are held than are allowed.
-ghost use Rattle.std.specs.Prelude.{List, ◌≡◌, ◌∷◌, ◌++◌, [], OnOk, IfErr};
+ghost use Rattle.std.specs.Prelude.{List, ◌≡◌, ◌<◌, ◌↔◌, ◌∷◌, ◌++◌, [], IsTrue, OnOk, IfErr};
+ghost use Rattle.lucy_word.specs.Limits.{limit_number};
+ghost use Rattle.lucy_word.specs.declared.limit.Limit.TheVariants as lim;
 ghost use Rattle.lucy_net.specs.declared.net.RingSpec.{RingSpec as Ring};
 ghost use Rattle.lucy_flat.specs.declared.error.FlatError.TheVariants as err;
 ghost use Rattle.lucy_flat.specs.Assembly.{AreHeld};
@@ -14,8 +16,15 @@ use lucy_word::{Limit, words_are_stored};
 #[derive(Drop)]
 pub struct Held {
     pub rings: Vec<RingSpec>,
-    /// The bits of all rings, those that aren't kept among them.
+    /// The bits of all rings, those that aren't kept among them, and no more are counted once they are too many.
     pub bits: u64,
+}
+
+/// Whether all rings have together more bits than are allowed.
+pub fn is_past(held: &Held) -> bool
+    ensures { IsTrue result ↔ (limit_number lim.Bits < held.now.bits) }
+{
+    held.bits > Limit::Bits.number()
 }
 
 /// Keeps one ring more, unless all have with it more bits than are allowed.

@@ -11,7 +11,7 @@ ghost use Rattle.lucy_flat.specs.Extents.{actors_in, AreSumsOf, HasSize, size_in
 ghost use Rattle.lucy_meaning.specs.Numbers.{number};
 ghost use Rattle.lucy_meaning.specs.Sizes.{size_of};
 ghost use Rattle.lucy_flat.specs.Flat.{actor_of};
-ghost use Rattle.lucy_flat.specs.Drafts.{IsProgram, IsAt, IsInstance, IsMade, IsFit, AreKept, ArePlacesKept, IsInstanceKept};
+ghost use Rattle.lucy_flat.specs.Drafts.{IsProgram, IsAt, IsInstance, IsMade, IsFit, AreKept, IsPlaceKept, ArePlacesKept, IsInstanceKept};
 ghost use Rattle.lucy_flat.specs.Refusals.{IsWordTooLong};
 ghost use Rattle.lucy_flat.specs.declared.draft.Draft.{Draft as One};
 ghost use Rattle.lucy_place.specs.declared.entry.PlaceKind.{PlaceKind as Kind};
@@ -19,8 +19,8 @@ ghost use Rattle.lucy_place.specs.declared.entry.PlaceKind.{PlaceKind as Kind};
 use crate::draft::Draft;
 use crate::error::FlatError;
 use crate::grow::push;
-use crate::kept::{Kept, keep};
-use crate::words::{copied, sampled, test_reads};
+use crate::kept::{Kept, is_past, keep};
+use crate::words::{copied, sampled, test_place, test_reads};
 use lucy_clock::NodeClock;
 use lucy_net::ActorKind;
 use lucy_place::{CallSite, PlaceKind, Placed, PlacedNode, literal_value};
@@ -210,6 +210,31 @@ fn begins(
     Ok(begins)
 }
 
+// Puts the draft of a place of an instance. Past Bits it is let go of unmade: that its words aren't too long is all that counts.
+fn put_place(
+    alloc: Global,
+    program: Program<'_>,
+    of: Instance<'_>,
+    place: u32,
+    kept: &mut Kept,
+) -> Result<(), FlatError>
+    requires program { IsProgram program.placed.now.nodes program.clocks.now program.sizes.now }
+    requires of { (path : List ℕ) × IsInstance program.placed.now.nodes program.clocks.now path of }
+    requires base { IsShortest of.base.now }
+    requires place { (1 ≤ place) × (place ≤ length of.node.now.places) }
+    ensures ok { (path : List ℕ) (old : List One) → IsInstance program.entry.placed.now.nodes program.entry.clocks.now path of.entry → AreKept old kept.old →
+        OnOk result (IsPlaceKept program.entry.placed.now.nodes program.entry.clocks.now path place old kept.new) }
+    ensures refused { IfErr result (λ e. (e ≡ err.OutOfMemory) ⊎ ((e ≡ err.Limit lim.Word) × IsWordTooLong program.entry.placed.now.nodes program.entry.clocks.now)) }
+{
+    if is_past(kept) {
+        let entry = &of.node.places.list()[place as usize - 1];
+        let word = &of.clock.words.list()[place as usize];
+        return test_place(alloc, &entry.kind, of.base, word);
+    }
+    let next = draft_of(alloc, program, of, place)?;
+    keep(kept, next)
+}
+
 // Puts the drafts of the places of an instance.
 fn put_places(
     alloc: Global,
@@ -226,8 +251,7 @@ fn put_places(
 {
     let count = of.node.places.list().len();
     'each: for i in 0..count {
-        let next = draft_of(alloc, program, of, i as u32 + 1)?;
-        keep(kept, next)?;
+        put_place(alloc, program, of, i as u32 + 1, kept)?;
     }
     Ok(())
 }

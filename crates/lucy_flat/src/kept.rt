@@ -1,5 +1,7 @@
 // Drafts of which no more are kept than are allowed.
-ghost use Rattle.std.specs.Prelude.{List, ◌≡◌, ◌∷◌, ◌++◌, [], OnOk, IfErr};
+ghost use Rattle.std.specs.Prelude.{List, ◌≡◌, ◌<◌, ◌↔◌, ◌∷◌, ◌++◌, [], IsTrue, OnOk, IfErr};
+ghost use Rattle.lucy_word.specs.Limits.{limit_number};
+ghost use Rattle.lucy_word.specs.declared.limit.Limit.TheVariants as lim;
 ghost use Rattle.lucy_flat.specs.declared.draft.Draft.{Draft as One};
 ghost use Rattle.lucy_flat.specs.declared.error.FlatError.TheVariants as err;
 ghost use Rattle.lucy_flat.specs.Drafts.{AreKept};
@@ -14,8 +16,15 @@ use lucy_word::{Limit, words_are_stored};
 #[derive(Drop)]
 pub struct Kept {
     pub drafts: Vec<Draft>,
-    /// The bits of the words of all drafts, those that aren't kept among them.
+    /// The bits of the words of all drafts, those that aren't kept among them, and no more are counted once they are too many.
     pub bits: u64,
+}
+
+/// Whether the words of all drafts have together more bits than are allowed.
+pub fn is_past(kept: &Kept) -> bool
+    ensures { IsTrue result ↔ (limit_number lim.Bits < kept.now.bits) }
+{
+    kept.bits > Limit::Bits.number()
 }
 
 /// Keeps one draft more, unless the words of all have with its own more bits than are allowed.

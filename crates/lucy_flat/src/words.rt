@@ -8,9 +8,10 @@ ghost use Rattle.lucy_word.specs.Sampling.{IsOn, IsOnTooLong};
 ghost use Rattle.lucy_word.specs.declared.limit.Limit.TheVariants as lim;
 ghost use Rattle.lucy_clock.specs.HandedDown.{HandsTooLong};
 ghost use Rattle.lucy_flat.specs.declared.error.FlatError.TheVariants as err;
+ghost use Rattle.lucy_flat.specs.Drafts.{HasTooLong};
 
 use crate::error::FlatError;
-use lucy_clock::test_handed;
+use lucy_clock::{is_too_long, test_handed};
 use lucy_place::PlaceKind;
 use lucy_word::{Limit, Word, WordError, complement, on};
 use std::alloc::Global;
@@ -59,6 +60,43 @@ pub fn test_reads(kind: &PlaceKind, own: &Word) -> Result<(), FlatError>
     match test_handed(kind, own) {
         Ok(()) => Ok(()),
         Err(_) => Err(FlatError::Limit(Limit::Word)),
+    }
+}
+
+/// Tests that a clock on a word isn't too long; it isn't made.
+pub fn test_sampled(own: &Word, word: &Word) -> Result<(), FlatError>
+    ensures ok { OnOk result (IsOnTooLong own.now word.now → ⊥) }
+    ensures refused { IfErr result (λ e. (e ≡ err.Limit lim.Word) × IsOnTooLong own.now word.now) }
+{
+    if is_too_long(own, word) {
+        return Err(FlatError::Limit(Limit::Word));
+    }
+    Ok(())
+}
+
+// The same of the words on which a place of a kind takes too, for which its own is made.
+fn test_made(alloc: Global, kind: &PlaceKind, base: &Word, word: &Word) -> Result<(), FlatError>
+    ensures ok { OnOk result (HasTooLong kind.now base.now word.now → ⊥) }
+    ensures refused { IfErr result (λ e. (e ≡ err.OutOfMemory) ⊎ ((e ≡ err.Limit lim.Word) × HasTooLong kind.now base.now word.now)) }
+{
+    let own = sampled(alloc, base, word)?;
+    test_reads(kind, &own)
+}
+
+/// Tests that a place of a kind, with this word in its node, has no word that is too long in an instance with this base: its
+/// own, or one on which it takes. Only that of a merge is made, since how long it is in shortest form isn't known before.
+pub fn test_place(
+    alloc: Global,
+    kind: &PlaceKind,
+    base: &Word,
+    word: &Word,
+) -> Result<(), FlatError>
+    ensures ok { OnOk result (HasTooLong kind.now base.now word.now → ⊥) }
+    ensures refused { IfErr result (λ e. (e ≡ err.OutOfMemory) ⊎ ((e ≡ err.Limit lim.Word) × HasTooLong kind.now base.now word.now)) }
+{
+    match kind {
+        PlaceKind::Merge(..) => test_made(alloc, kind, base, word),
+        _ => test_sampled(base, word),
     }
 }
 

@@ -9,8 +9,8 @@ each-init c = held_first c.args.drafts.now c.args.to c.args.held.now c.requires.
 
 pub each-preserved : goal.each-preserved
 each-preserved c =
-    held_next c.args.drafts.now c.args.to c.each.operand c.each.held c.hold.new.held c.in_ok-next.next c.each.invariant (λ from draft e f. c.in_ok-next.ensures.ok draft from e f)
-    (c.in_ok-hold.ensures.ok c.each.invariant.rings c.each.invariant.holds)
+    let next = c.in_ok-hold_ring.ensures.ok c.each.invariant.rings c.each.invariant.holds in
+    held_next c.args.drafts.now c.args.to c.each.operand c.each.held c.hold_ring.new.held next.ring c.each.invariant next.is next.holds
 
 pub returns-clause-ok : goal.returns-clause-ok
 returns-clause-ok c =

@@ -1,7 +1,6 @@
-use Rattle.std.proofs.Common.{◌≡◌, ◌+◌, ◌++◌, ◌∷◌, [], ap, refl, subst, length, arith}
+use Rattle.std.proofs.Common.{◌≡◌, ◌++◌, ◌∷◌, [], ap, refl, subst, length, arith}
 use Rattle.lucy_flat.specs.Drafts.{ArePlacesKept}
-use Rattle.lucy_meaning.proofs.Closed.{place_spot}
-use Rattle.lucy_flat.proofs.InstanceLaws.{found_at, places_few}
+use Rattle.lucy_flat.proofs.InstanceLaws.{places_few}
 use Rattle.lucy_flat.proofs.MadeLaws.{places_none, places_more}
 use Rattle.lucy_flat.proofs.instance.put_places.Goals as goal
 
@@ -24,18 +23,12 @@ overflow_add-i c =
 
 pub each-preserved : goal.each-preserved
 each-preserved c = λ path old is keeps.
-    let nodes = c.args.program.placed.now.nodes in
-    let clocks = c.args.program.clocks.now in
-    let low = c.each-test.true in
-    let count = ap length c.list-count.ensures in
-    let spot = place_spot nodes path c.args.of.node.now (c.each.i + 1) (found_at nodes clocks c.requires.program.proper path c.args.of is) (omega arith, omega arith) in
     let before = c.each.invariant path old is keeps in
-    let next = c.in_ok-next.next in
+    let next = c.in_ok-put_place.ensures.ok path before.new is before.keeps in
     record {
-      new = before.new ++ next ∷ [];
-      put = places_more nodes clocks path c.each.i old before.new (before.new ++ next ∷ []) next before.put refl
-          (record { kind = spot.0; stands = spot.1; made = c.in_ok-next.ensures.ok path spot.0 is spot.1 }) (c.in_ok-next.ensures.fits path is);
-      keeps = c.in_ok-keep.ensures.ok before.new before.keeps;
+      new = before.new ++ next.draft ∷ [];
+      put = places_more c.args.program.placed.now.nodes c.args.program.clocks.now path c.each.i old before.new (before.new ++ next.draft ∷ []) next.draft before.put refl next.is next.fit;
+      keeps = next.keeps;
     }
 
 pub returns-clause-ok : goal.returns-clause-ok
