@@ -11,7 +11,7 @@ use Rattle.lucy_flat.specs.declared.draft.Draft.{Draft}
 use Rattle.lucy_flat.specs.declared.kept.Kept.{Kept}
 use Rattle.lucy_flat.specs.Drafts.{draft_bits, AreKept}
 
-abbrev HasStored : Draft → Type 0
+abbrev pub HasStored : Draft → Type 0
 HasStored draft = IsStored draft.word
 
 -- one draft more, which is kept or not

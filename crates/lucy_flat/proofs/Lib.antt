@@ -18,6 +18,7 @@ pub mod SampledLaws
 pub mod UnmadePlaces
 pub mod MadeLaws
 pub mod PutLaws
+pub mod AlikeLaws
 pub mod SpotLaws
 pub mod SizeLaws
 pub mod CountLaws

@@ -122,7 +122,7 @@ module _ (nodes : List PlacedNode) (clocks : List NodeClock) where
     inner_fit = λ c site l. absurd (omega (arith, l));
   }
 
-  inner_more : (known : List ℕ → ℕ → List Spot) (path : List ℕ) (call : ℕ) (sites : List CallSite) (i : ℕ) (site : CallSite) → slice_get sites i ≡ Some site →
+  pub inner_more : (known : List ℕ → ℕ → List Spot) (path : List ℕ) (call : ℕ) (sites : List CallSite) (i : ℕ) (site : CallSite) → slice_get sites i ≡ Some site →
       calls_spots known path call (take (suc i) sites) ≡ calls_spots known path call (take i sites) ++ known ((call + i) ∷ path) site.node
   inner_more known path call [] i site e = absurd (cc e)
   inner_more known path call (s ∷ sites) zero site e =

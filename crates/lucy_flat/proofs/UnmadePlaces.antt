@@ -33,7 +33,7 @@ use Rattle.lucy_flat.proofs.KeptLaws.{kept_past}
 use Rattle.lucy_flat.proofs.SampledLaws.{stored_on}
 
 -- a place reads few others
-reads_few : (nodes : List PlacedNode) (n : PlacedNode) (path : List ℕ) (place : ℕ) (kind : PlaceKind) → IsProperKind n place kind → length (spot_reads nodes (at path place) kind) ≤ 3
+pub reads_few : (nodes : List PlacedNode) (n : PlacedNode) (path : List ℕ) (place : ℕ) (kind : PlaceKind) → IsProperKind n place kind → length (spot_reads nodes (at path place) kind) ≤ 3
 reads_few nodes n [] place place_kind.Param is = omega arith
 reads_few nodes n (call ∷ path) place place_kind.Param is = omega arith
 reads_few nodes n path place (place_kind.Defined e) is = omega arith
@@ -46,14 +46,14 @@ reads_few nodes n path place (place_kind.Fby l e) is = omega arith
 reads_few nodes n path place (place_kind.Buffer k e) is = omega arith
 reads_few nodes n path place (place_kind.Result c j) is = omega arith
 
-within_self : (n : ℕ) → n ≤ n
+pub within_self : (n : ℕ) → n ≤ n
 within_self n = omega arith
 
-few_small : (n : ℕ) → n ≤ 3 → n < 9223372036854775808
+pub few_small : (n : ℕ) → n ≤ 3 → n < 9223372036854775808
 few_small n few = omega (arith, few)
 
 -- numbers, as they would stand in memory where other things do
-abbrev list_of : {X : Type 0} (there : Vec X Global) (numbers : List ℕ) → length numbers ≤ 3 → Vec ℕ Global
+abbrev pub list_of : {X : Type 0} (there : Vec X Global) (numbers : List ℕ) → length numbers ≤ 3 → Vec ℕ Global
 list_of there numbers few = record {
   ptr = there.ptr;
   len = length numbers;

@@ -2,6 +2,7 @@
 use Rattle.std.specs.Prelude.{ℕ, suc, ◌+◌, ◌*◌, sum_by, ◌<◌, ◌≤◌, ◌≡◌, ◌⊎◌, ◌^◌, List, [], ◌∷◌, ◌++◌, All, map, length, Option, Some, None, slice_get, slice_index_or, take}
 use Rattle.std.specs.List.{flat_map, range_with_len}
 use Rattle.lucy_word.specs.Bits.{Bits, IsWord, bit_count}
+use Rattle.lucy_word.specs.Always.{always}
 use Rattle.lucy_word.specs.Limits.{limit_number}
 use Rattle.lucy_word.specs.declared.limit.Limit.TheVariants as limit
 use Rattle.lucy_word.specs.Stored.{IsStored}
@@ -190,6 +191,13 @@ pub record IsInstance (nodes : List PlacedNode) (clocks : List NodeClock) (path 
   pub clock : slice_get clocks index ≡ Some of.clock.now
   pub inner : AreBegins nodes of.node.now of.begin of.inner.now
   pub few : of.begin + size_of nodes index < 2 ^ 32
+
+-- a call is of the node that the call before it calls, and its base has the same word
+pub record AreAlike (sites : List CallSite) (words : List Bits) (places i : ℕ) : Type 0 where
+  pub before : ℕ
+  pub next : i ≡ suc before
+  pub one_node : (first second : CallSite) → slice_get sites before ≡ Some first → slice_get sites i ≡ Some second → first.node ≡ second.node
+  pub one_word : slice_index_or words (places + i) always ≡ slice_index_or words (places + 1 + i) always
 
 -- the drafts of the first places of an instance come behind others
 pub record ArePlacesPut (nodes : List PlacedNode) (clocks : List NodeClock) (path : List ℕ) (upto : ℕ) (old new : List Draft) : Type 0 where

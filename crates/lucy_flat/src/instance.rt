@@ -1,6 +1,7 @@
 // The instances of a program in order, by a recursion from a node to the nodes that it calls, which stand above it.
 ghost use Rattle.std.specs.Prelude.{ℕ, List, ◌≡◌, ◌⊎◌, ◌+◌, ◌-◌, ◌<◌, ◌≤◌, ◌^◌, ◌∷◌, [], Some, None, length, map, OnOk, IfOk, IfErr, IsTrue};
 ghost use Rattle.std.specs.List.{AllByRecursion};
+ghost use Rattle.lucy_word.specs.Limits.{limit_number};
 ghost use Rattle.lucy_word.specs.Shortest.{IsShortest};
 ghost use Rattle.lucy_word.specs.declared.limit.Limit.TheVariants as lim;
 ghost use Rattle.lucy_place.specs.Proper.{Stands};
@@ -11,7 +12,7 @@ ghost use Rattle.lucy_flat.specs.Extents.{actors_in, AreSumsOf, HasSize, size_in
 ghost use Rattle.lucy_meaning.specs.Numbers.{number};
 ghost use Rattle.lucy_meaning.specs.Sizes.{size_of};
 ghost use Rattle.lucy_flat.specs.Flat.{actor_of};
-ghost use Rattle.lucy_flat.specs.Drafts.{IsProgram, IsAt, IsInstance, IsMade, IsFit, AreKept, IsPlaceKept, ArePlacesKept, IsInstanceKept};
+ghost use Rattle.lucy_flat.specs.Drafts.{IsProgram, IsAt, IsInstance, AreAlike, IsMade, IsFit, AreKept, IsPlaceKept, ArePlacesKept, IsInstanceKept};
 ghost use Rattle.lucy_flat.specs.Refusals.{IsWordTooLong};
 ghost use Rattle.lucy_flat.specs.declared.draft.Draft.{Draft as One};
 ghost use Rattle.lucy_place.specs.declared.entry.PlaceKind.{PlaceKind as Kind};
@@ -256,6 +257,28 @@ fn put_places(
     Ok(())
 }
 
+// Whether nothing is asked of the instance of a call that wasn't asked of that of the call before: past Bits that is so where
+// both are of one node and their bases have one word.
+fn comes_again(kept: &Kept, sites: &[CallSite], words: &[Word], places: usize, call: usize) -> bool
+    requires call { call < length sites.now }
+    requires word { places + 1 + call < length words.now }
+    ensures past { IsTrue result → limit_number lim.Bits < kept.now.bits }
+    ensures alike { IsTrue result → AreAlike sites.now words.now places call }
+{
+    if call == 0 {
+        return false;
+    }
+    if !is_past(kept) {
+        return false;
+    }
+    let before = sites[call - 1].node;
+    let node = sites[call].node;
+    if before != node {
+        return false;
+    }
+    words[places + call].same(&words[places + 1 + call])
+}
+
 /// Puts the drafts of the instance of a node that begins there, and of those inside it.
 pub fn put_instance(
     alloc: Global,
@@ -289,9 +312,13 @@ pub fn put_instance(
         inner: &inner,
     };
     put_places(alloc, program, of, kept)?;
+    let words = clock.words.list();
     'calls: for i in 0..sites.len() {
+        if comes_again(kept, sites, words, places, i) {
+            continue;
+        }
         let site = &sites[i];
-        let base = sampled(alloc, base, &clock.words.list()[places + 1 + i])?;
+        let base = sampled(alloc, base, &words[places + 1 + i])?;
         let caller = Some(Caller {
             begin,
             args: site.args.list(),

@@ -7,8 +7,8 @@
 //!
 //! First the net is counted (`extent.rt`), so that nothing is built past a limit. Then each instance in order puts the drafts of
 //! its actors (`instance.rt`, by a recursion on nodes), and the drafts are assembled to actors and rings (`assemble.rt`). Of
-//! drafts and of rings no more are in memory than Bits allows (`kept.rt`, `held.rt`), and past it none is made: that no word of
-//! them is too long is told by lengths alone (`words.rt`).
+//! drafts and of rings no more are in memory than Bits allows (`kept.rt`, `held.rt`). Past it none is made: that no word of them
+//! is too long is told by lengths alone, but for merges (`words.rt`), and of calls alike that follow one another it is asked once.
 #![tactic(auto)]
 
 mod assemble;

@@ -18,6 +18,7 @@ use Rattle.lucy_flat.proofs.AssemblyLaws.{leaves}
 use Rattle.lucy_flat.proofs.ExtentLaws.{got, call_above}
 use Rattle.lucy_flat.proofs.InstanceLaws.{places_within, call_within, fit_here}
 use Rattle.lucy_meaning.proofs.SizeLaws.{below_more}
+use Rattle.lucy_flat.proofs.AlikeLaws.{next_alike}
 use Rattle.lucy_flat.proofs.PutLaws.{actors_exact, so_far_first, so_far_more, so_far_whole, at_call, instance_is, call_bound, call_word, site_at, begins_there}
 use Rattle.lucy_flat.proofs.instance.+put_instance.Goals as goal
 
@@ -79,8 +80,37 @@ calls-init t c = λ path n old is e keeps.
     (subst (AreSumsOf c.args.program.sizes.now c.list-sites.result.now (c.args.begin + length c.list-places.result.now) (length c.list-sites.result.now)) (sym c.deref.ensures.value) c.in_ok-inner.ensures.ok)) keeps in
     subst (λ m. AreKeptSoFar nodes clocks path m 0 old c.put_places.new.kept) same (record { new = put.new; put = so_far_first nodes clocks path found old put.new put.put; keeps = put.keeps })
 
-pub bounds-list-places : goal.bounds-list-places
-bounds-list-places t c =
+pub comes_again-requires-clause-word : goal.comes_again-requires-clause-word
+comes_again-requires-clause-word t c =
+    let nodes = c.args.program.placed.now.nodes in
+    let clocks = c.args.program.clocks.now in
+    let found : PlacedNode = c.node-found.result.now in
+    let at_node = c.node-found.ensures.is in
+    let node = c.requires.node in
+    let clock_count = c.requires.program.clocked.count in
+    let at_clock = got clocks c.args.node c.index-program-node.result (omega arith) in
+    let count = ap length c.list-sites.ensures in
+    let few_calls = c.calls-test.true in
+    call_bound nodes clocks c.requires.program.clocked c.args.node found (get_or clocks c.args.node c.index-program-node.result) c.calls.i (length c.list-places.result.now) c.list-words.result.now at_node at_clock c.list-words.ensures (ap length c.list-places.ensures) (omega arith)
+
+pub calls-preserved-then-comes_again : goal.calls-preserved-then-comes_again
+calls-preserved-then-comes_again t c = λ path n old is e keeps.
+    let nodes = c.args.program.placed.now.nodes in
+    let clocks = c.args.program.clocks.now in
+    let found : PlacedNode = c.node-found.result.now in
+    let at_node = c.node-found.ensures.is in
+    let node = c.requires.node in
+    let clock_count = c.requires.program.clocked.count in
+    let at_clock = got clocks c.args.node c.index-program-node.result (omega arith) in
+    let count = ap length c.list-sites.ensures in
+    let few_calls = c.calls-test.true in
+    let same : found ≡ n = same_Some found n (sym at_node ∙ e) in
+    next_alike nodes clocks c.requires.program.proper c.requires.program.clocked path n c.args.node c.args.begin c.args.base.now c.args.caller c.calls.i (length c.list-places.result.now) c.list-sites.result.now c.list-words.result.now (get_or clocks c.args.node c.index-program-node.result) old c.calls.kept
+    is e at_clock c.requires.base (c.list-sites.ensures ∙ ap (λ (m : PlacedNode). m.calls) same) c.list-words.ensures (ap length c.list-places.ensures ∙ ap (λ (m : PlacedNode). length m.places) same) few_calls
+    (c.comes_again.ensures.alike c.if-comes_again.true) (c.comes_again.ensures.past c.if-comes_again.true) (c.calls.invariant path n old is e keeps)
+
+pub bounds-words-places : goal.bounds-words-places
+bounds-words-places t c =
     let nodes = c.args.program.placed.now.nodes in
     let clocks = c.args.program.clocks.now in
     let proper = c.requires.program.proper in
@@ -93,7 +123,7 @@ bounds-list-places t c =
     let sites = c.list-sites.result.now in
     let count = ap length c.list-sites.ensures in
     let few_calls = c.calls-test.true in
-    call_bound nodes clocks c.requires.program.clocked c.args.node found (get_or clocks c.args.node c.index-program-node.result) i (length c.list-places.result.now) c.list.result.now at_node at_clock c.list.ensures (ap length c.list-places.ensures) (omega arith)
+    call_bound nodes clocks c.requires.program.clocked c.args.node found (get_or clocks c.args.node c.index-program-node.result) i (length c.list-places.result.now) c.list-words.result.now at_node at_clock c.list-words.ensures (ap length c.list-places.ensures) (omega arith)
 
 pub returns-in_err-base-clause-refused : goal.returns-in_err-base-clause-refused
 returns-in_err-base-clause-refused t c =
@@ -111,9 +141,9 @@ returns-in_err-base-clause-refused t c =
     let few_calls = c.calls-test.true in
     let path = c.requires.at.0 in
     let is = c.requires.at.1 in
-    let word = call_word nodes clocks c.requires.program.clocked path c.args.node found (get_or clocks c.args.node c.index-program-node.result) i (length c.list-places.result.now) c.list.result.now c.index-list-places.result is.index at_node at_clock c.list.ensures
-    (ap length c.list-places.ensures) (omega arith) c.index-list-places.is in
-    leaves (λ e. (e ≡ err.OutOfMemory) ⊎ ((e ≡ err.Limit lim.Word) × IsOnTooLong c.args.base.now c.index-list-places.result))
+    let word = call_word nodes clocks c.requires.program.clocked path c.args.node found (get_or clocks c.args.node c.index-program-node.result) i (length c.list-places.result.now) c.list-words.result.now c.index-words-places.result is.index at_node at_clock c.list-words.ensures
+    (ap length c.list-places.ensures) (omega arith) c.index-words-places.is in
+    leaves (λ e. (e ≡ err.OutOfMemory) ⊎ ((e ≡ err.Limit lim.Word) × IsOnTooLong c.args.base.now c.index-words-places.result))
     (λ e. (e ≡ err.OutOfMemory) ⊎ ((e ≡ err.Limit lim.Word) × IsWordTooLong nodes clocks)) _
     c.from_residual-in_err-base.result c.from_residual-in_err-base.ensures.1 c.in_err-base.ensures.refused
     (λ e why. elim why [
@@ -172,17 +202,17 @@ put_instance-requires t c =
     let above = call_above nodes c.args.node found sites i site c.node-found.ensures.proper c.list-sites.ensures few_calls c.index-sites-i.is in
     let path = c.requires.at.0 in
     let is = c.requires.at.1 in
-    let word = call_word nodes clocks c.requires.program.clocked path c.args.node found (get_or clocks c.args.node c.index-program-node.result) i (length c.list-places.result.now) c.list.result.now c.index-list-places.result is.index at_node at_clock c.list.ensures
-    (ap length c.list-places.ensures) (omega arith) c.index-list-places.is in
+    let word = call_word nodes clocks c.requires.program.clocked path c.args.node found (get_or clocks c.args.node c.index-program-node.result) i (length c.list-places.result.now) c.list-words.result.now c.index-words-places.result is.index at_node at_clock c.list-words.ensures
+    (ap length c.list-places.ensures) (omega arith) c.index-words-places.is in
     let of = begins_there nodes clocks c.args.program.sizes.now c.requires.program c.args.node c.args.begin (c.args.begin + length c.list-places.result.now) found c.list-sites.result.now c.deref.result.now at_node c.requires.few c.list-sites.ensures (omega arith)
     (subst (AreSumsOf c.args.program.sizes.now c.list-sites.result.now (c.args.begin + length c.list-places.result.now) (length c.list-sites.result.now)) (sym c.deref.ensures.value) c.in_ok-inner.ensures.ok) in
     let next : i + 1 ≡ suc i = omega arith in
     let offset = ap (call_offset nodes (Some found)) next in
     let inner_count = of.count in
     let begins = of.each i (omega arith) in
-    let caller : Caller = record { begin = c.args.begin; args = c.list-in-calls.result } in
+    let caller : Caller = record { begin = c.args.begin; args = c.list.result } in
     let at_inner = at_call nodes clocks path found c.args.node c.args.begin c.args.base.now c.in_ok-base.base c.args.caller i (get_or c.deref.result.now i 0) site caller is at_node at_site c.in_ok-base.ensures.stored.word
-    (subst (λ v. IsOn c.args.base.now v c.in_ok-base.base) (sym word) c.in_ok-base.ensures.ok) refl c.list-in-calls.ensures (omega arith) in
+    (subst (λ v. IsOn c.args.base.now v c.in_ok-base.base) (sym word) c.in_ok-base.ensures.ok) refl c.list.ensures (omega arith) in
     let inside = call_within nodes c.args.node found i site proper at_node at_site in
     let few = c.requires.few in
     (omega arith, (c.requires.program, (omega arith, ((suc i ∷ path, at_inner), (c.in_ok-base.ensures.stored.shortest, omega arith)))))
@@ -205,21 +235,21 @@ calls-preserved t c = λ path n old is e keeps.
     let site = c.index-sites-i.result in
     let at_site = site_at found sites i site c.list-sites.ensures few_calls c.index-sites-i.is in
     let above = call_above nodes c.args.node found sites i site c.node-found.ensures.proper c.list-sites.ensures few_calls c.index-sites-i.is in
-    let word = call_word nodes clocks c.requires.program.clocked path c.args.node found (get_or clocks c.args.node c.index-program-node.result) i (length c.list-places.result.now) c.list.result.now c.index-list-places.result is.index at_node at_clock c.list.ensures
-    (ap length c.list-places.ensures) (omega arith) c.index-list-places.is in
+    let word = call_word nodes clocks c.requires.program.clocked path c.args.node found (get_or clocks c.args.node c.index-program-node.result) i (length c.list-places.result.now) c.list-words.result.now c.index-words-places.result is.index at_node at_clock c.list-words.ensures
+    (ap length c.list-places.ensures) (omega arith) c.index-words-places.is in
     let of = begins_there nodes clocks c.args.program.sizes.now c.requires.program c.args.node c.args.begin (c.args.begin + length c.list-places.result.now) found c.list-sites.result.now c.deref.result.now at_node c.requires.few c.list-sites.ensures (omega arith)
     (subst (AreSumsOf c.args.program.sizes.now c.list-sites.result.now (c.args.begin + length c.list-places.result.now) (length c.list-sites.result.now)) (sym c.deref.ensures.value) c.in_ok-inner.ensures.ok) in
     let next : i + 1 ≡ suc i = omega arith in
     let offset = ap (call_offset nodes (Some found)) next in
     let inner_count = of.count in
     let begins = of.each i (omega arith) in
-    let caller : Caller = record { begin = c.args.begin; args = c.list-in-calls.result } in
+    let caller : Caller = record { begin = c.args.begin; args = c.list.result } in
     let at_inner = at_call nodes clocks path found c.args.node c.args.begin c.args.base.now c.in_ok-base.base c.args.caller i (get_or c.deref.result.now i 0) site caller is at_node at_site c.in_ok-base.ensures.stored.word
-    (subst (λ v. IsOn c.args.base.now v c.in_ok-base.base) (sym word) c.in_ok-base.ensures.ok) refl c.list-in-calls.ensures (omega arith) in
+    (subst (λ v. IsOn c.args.base.now v c.in_ok-base.base) (sym word) c.in_ok-base.ensures.ok) refl c.list.ensures (omega arith) in
     let before = c.calls.invariant path found old is at_node keeps in
     let same : found ≡ n = same_Some found n (sym at_node ∙ e) in
     let put = c.in_ok-put_instance.ensures.ok (suc i ∷ path) before.new at_inner before.keeps in
-    let fits = fit_here nodes clocks proper c.requires.program.clocked path (length found.places + suc i) c.args.base.now c.index-list-places.result is.is_base c.requires.base word c.in_ok-base.ensures.fits in
+    let fits = fit_here nodes clocks proper c.requires.program.clocked path (length found.places + suc i) c.args.base.now c.index-words-places.result is.is_base c.requires.base word c.in_ok-base.ensures.fits in
     subst (λ m. AreKeptSoFar nodes clocks path m (i + 1) old c.put_instance.new.kept) same
     (record { new = put.new; put = so_far_more nodes clocks path found i old before.new put.new site before.put at_site put.put fits; keeps = put.keeps })
 
