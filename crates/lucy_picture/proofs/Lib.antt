@@ -3,3 +3,5 @@ mod TurnLaws
 mod FillLaws
 mod FormLaws
 mod SeekLaws
+pub mod TextLaws
+pub mod HoldLaws

@@ -1,5 +1,5 @@
 -- After how many instants the streams of a chronogram come again together.
-use Rattle.std.specs.Prelude.{ℕ, ◌+◌, ◌<◌, List, [], ◌∷◌, ◌++◌}
+use Rattle.std.specs.Prelude.{ℕ, ◌+◌, ◌*◌, ◌-◌, ◌^◌, ◌<◌, List, [], ◌∷◌, ◌++◌, min}
 use Rattle.std.specs.Option.{unwrap_or}
 use Rattle.lucy_word.specs.Bits.{Bits}
 use Rattle.lucy_word.specs.Limits.{limit_number}
@@ -7,6 +7,7 @@ use Rattle.lucy_word.specs.declared.limit.Limit.TheVariants as limit
 use Rattle.lucy_place.specs.declared.placed.PlacedNode.{PlacedNode}
 use Rattle.lucy_cause.specs.Lengths.{AreLengths}
 use Rattle.lucy_front.specs.Report.{first_operand}
+use Rattle.lucy_picture.specs.declared.turn.Turn.{Turn}
 use Rattle.lucy_picture.specs.Charts.{named_places}
 
 -- the clocks that buffers are written and read on, by the places of these
@@ -21,3 +22,7 @@ shown_clocks n = named_places n ++ buffer_clocks n n.buffers
 -- the greatest prefix and the common period of words have together more instants than a schedule may have
 abbrev pub AreTooLong : List Bits → Type 0
 AreTooLong words = (prefix period : ℕ) → AreLengths words prefix period → limit_number limit.Schedule < prefix + period
+
+-- how many instants there are up to the end of the second period, or the greatest number of 64 bits where they are more
+abbrev pub whole : Turn → ℕ
+whole turn = min (turn.prefix + 2 * turn.period) (2 ^ 64 - 1)

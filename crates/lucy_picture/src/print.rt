@@ -1,4 +1,4 @@
-// Printing: what pictures show, as text. It is safe, and the rows test it.
+// Printing: what pictures show, as text.
 mod columns;
 mod form;
 mod place;
@@ -6,4 +6,4 @@ mod time;
 
 pub use form::{put_entry, put_kind, put_place};
 pub use place::put_spot;
-pub use time::put_time;
+pub use time::{put_time, put_word};

@@ -12,7 +12,7 @@ ghost use Rattle.lucy_clock.specs.declared.node_clock.NodeClock.{NodeClock as Cl
 ghost use Rattle.lucy_cause.specs.Lengths.{AreLengths};
 ghost use Rattle.lucy_front.specs.declared.options.Options.{Options as Choices};
 ghost use Rattle.lucy_front.specs.Accepting.{IsAccepted};
-ghost use Rattle.lucy_picture.specs.Turns.{buffer_clocks, shown_clocks, AreTooLong};
+ghost use Rattle.lucy_picture.specs.Turns.{buffer_clocks, shown_clocks, whole, AreTooLong};
 
 use crate::named::{named_places, push};
 use crate::words::{clocks_at, word_of};
@@ -29,8 +29,10 @@ pub struct Turn {
 }
 
 impl Turn {
-    /// How many instants there are up to the end of the second period.
-    pub fn whole(&self) -> u64 {
+    /// How many instants there are up to the end of the second period, or the greatest number where they are more.
+    pub fn whole(&self) -> u64
+        ensures { result ≡ whole self.now }
+    {
         self.prefix
             .saturating_add(self.period)
             .saturating_add(self.period)

@@ -1,6 +1,7 @@
 // The clocks of nodes, and the words of these.
 ghost use Rattle.std.specs.Prelude.{◌≡◌, ◌<◌, Some, length, slice_get};
 ghost use Rattle.lucy_need.specs.Meeting.{assigned};
+ghost use Rattle.lucy_flat.specs.Instances.{words_in};
 
 use lucy_clock::NodeClock;
 use lucy_word::Word;
@@ -19,4 +20,14 @@ pub(crate) fn clocks_at(clocks: &[NodeClock], node: u32) -> &NodeClock
     ensures { slice_get clocks.now node ≡ Some result.now }
 {
     &clocks[node as usize]
+}
+
+/// The words of the clocks of a node, by its number from 0, and none where there is no such node.
+pub fn words_at(clocks: &[NodeClock], node: u32) -> &[Word]
+    ensures { result.now ≡ words_in (slice_get clocks.now node) }
+{
+    match clocks.get(node as usize) {
+        Some(clock) => clock.words.list(),
+        None => &[],
+    }
 }

@@ -1,29 +1,32 @@
 // A chronogram as text.
-ghost use Rattle.std.specs.Prelude.{◌<◌, length};
+ghost use Rattle.std.specs.Prelude.{ℕ, ◌≡◌, ◌<◌, ◌≤◌, ◌++◌, Some, length, flat_map, slice_get, OnOk};
+ghost use Rattle.lucy_place.specs.declared.placed.PlacedNode.{PlacedNode as Node};
+ghost use Rattle.lucy_place.specs.Faults.{most_places};
+ghost use Rattle.lucy_place.specs.Standing.{bound_of};
+ghost use Rattle.lucy_flat.specs.Instances.{words_in};
+ghost use Rattle.lucy_front.specs.Names.{of_one, name_at};
+ghost use Rattle.lucy_front.specs.Report.{size_part, bound_part};
+ghost use Rattle.lucy_picture.specs.Lines as spec;
 
 use crate::chart::Chart;
 use crate::fill::Fill;
 use crate::print::columns::{Columns, put};
+use crate::print::form::name_at;
 use crate::row::Row;
 use crate::turn::Turn;
+use crate::words::words_at;
 use lucy_front::{Accepted, node_line};
-use lucy_place::{PlaceEntry, PlacedNode};
+use lucy_place::PlacedNode;
 use lucy_word::{OutOfMemory, Word};
 use std::alloc::{AllocError, Global};
 
 // The name of a place, or nothing.
-fn name_of(node: &PlacedNode, place: u32) -> &[u8] {
-    let Some(index) = place.checked_sub(1) else {
-        return b"";
-    };
-    match node.places.list().get(index as usize) {
-        Some(
-            PlaceEntry {
-                name: Some(name),
-                ..
-            },
-        ) => name.text.bytes(),
-        _ => b"",
+fn name_of(node: &PlacedNode, place: u32) -> &[u8]
+    ensures { result.now ≡ of_one (λ name. name.text) (name_at node.now place) }
+{
+    match name_at(node, place) {
+        Some(name) => name.text.bytes(),
+        None => b"",
     }
 }
 
@@ -51,37 +54,44 @@ fn margin(node: &PlacedNode, chart: &Chart) -> usize {
 }
 
 // Puts a number of instants last.
-fn put_instants(alloc: Global, count: u64, out: &mut Vec<u8>) -> Result<(), AllocError> {
-    match count {
-        1 => put(out, b"1 instant"),
-        _ => put(out, format!(in alloc; "{count} instants")?.as_bytes()),
+fn put_instants(alloc: Global, count: u64, out: &mut Vec<u8>) -> Result<(), AllocError>
+    ensures { OnOk result (out.new.items ≡ out.old.items ++ spec.instants_text count) }
+{
+    if count == 1 {
+        return put(out, b"1 instant");
     }
+    put(out, format!(in alloc; "{count} instants")?.as_bytes())
 }
 
 // Puts how many instants there are until all comes again.
-fn put_turn(alloc: Global, turn: Option<Turn>, out: &mut Vec<u8>) -> Result<(), AllocError> {
+fn put_turn(alloc: Global, turn: Option<Turn>, out: &mut Vec<u8>) -> Result<(), AllocError>
+    ensures { OnOk result (out.new.items ≡ out.old.items ++ spec.turn_text turn) }
+{
+    let Some(turn) = turn else {
+        return put(out, b"  no period within the limit Schedule\n");
+    };
     put(out, b"  ")?;
-    match turn {
-        None => put(out, b"no period within the limit Schedule\n"),
-        Some(Turn { prefix: 0, period }) => {
-            put_instants(alloc, period, out)?;
-            put(out, b" again and again\n")
-        }
-        Some(Turn { prefix, period }) => {
-            put_instants(alloc, prefix, out)?;
-            let rest = format!(in alloc; ", then {period} again and again\n")?;
-            put(out, rest.as_bytes())
-        }
+    if turn.prefix == 0 {
+        put_instants(alloc, turn.period, out)?;
+        return put(out, b" again and again\n");
     }
+    put_instants(alloc, turn.prefix, out)?;
+    let period = turn.period;
+    put(
+        out,
+        format!(in alloc; ", then {period} again and again\n")?.as_bytes(),
+    )
 }
 
-// Puts the word of a place last.
-fn put_word(
+/// Puts the word of a place last, where there is one.
+pub fn put_word(
     alloc: Global,
     words: &[Word],
     place: u32,
     out: &mut Vec<u8>,
-) -> Result<(), OutOfMemory> {
+) -> Result<(), OutOfMemory>
+    ensures { OnOk result (out.new.items ≡ out.old.items ++ spec.word_text words.now place) }
+{
     match words.get(place as usize) {
         Some(word) => word.print(alloc, out),
         None => Ok(()),
@@ -96,7 +106,9 @@ fn put_row(
     words: &[Word],
     row: &Row,
     out: &mut Vec<u8>,
-) -> Result<(), OutOfMemory> {
+) -> Result<(), OutOfMemory>
+    ensures { OnOk result (out.new.items ≡ out.old.items ++ spec.row_text node.now words.now columns.now.turn columns.now.cell columns.now.margin row.now) }
+{
     columns.put_name(out, 2, name_of(node, row.place))?;
     columns.put_marks(out, row.marks.list())?;
     put(out, b"  ")?;
@@ -105,22 +117,136 @@ fn put_row(
     Ok(())
 }
 
+// Puts those of streams.
+fn put_rows(
+    alloc: Global,
+    columns: &Columns,
+    node: &PlacedNode,
+    words: &[Word],
+    rows: &[Row],
+    out: &mut Vec<u8>,
+) -> Result<(), OutOfMemory>
+    ensures { OnOk result (out.new.items ≡ out.old.items ++ flat_map (spec.row_text node.now words.now columns.now.turn columns.now.cell columns.now.margin) rows.now) }
+{
+    'each: for row in rows {
+        put_row(alloc, columns, node, words, row, out)?;
+    }
+    Ok(())
+}
+
+// The bound of the buffer of a number, where one is written.
+fn bound_of(node: &PlacedNode, buffer: u64) -> Option<u64>
+    ensures { result ≡ bound_of node.now buffer }
+{
+    *node.bounds.list().get(buffer.checked_sub(1)? as usize)?
+}
+
+// Puts the bound of a buffer last, where one is written.
+fn put_bound(alloc: Global, most: Option<u64>, out: &mut Vec<u8>) -> Result<(), AllocError>
+    ensures { OnOk result (out.new.items ≡ out.old.items ++ bound_part most) }
+{
+    match most {
+        None => Ok(()),
+        Some(most) => put(out, format!(in alloc; " at most {most}")?.as_bytes()),
+    }
+}
+
+// Puts when the size of a buffer is reached first.
+fn put_full(alloc: Global, full: Option<u64>, out: &mut Vec<u8>) -> Result<(), AllocError>
+    ensures { OnOk result (out.new.items ≡ out.old.items ++ spec.full_text full) }
+{
+    match full {
+        Some(at) => put(out, format!(in alloc; ", first at {at}\n")?.as_bytes()),
+        None => put(out, b", not reached at these instants\n"),
+    }
+}
+
 // Puts the end of the first line of a buffer: its size, its bound where one is written, and when it is reached first.
 fn put_size(
     alloc: Global,
     node: &PlacedNode,
     fill: &Fill,
     out: &mut Vec<u8>,
-) -> Result<(), AllocError> {
+) -> Result<(), AllocError>
+    ensures { OnOk result (out.new.items ≡ out.old.items ++ (size_part fill.now.size (bound_of node.now fill.now.buffer) ++ spec.full_text fill.now.full)) }
+{
     put(out, format!(in alloc; " size {}", fill.size)?.as_bytes())?;
-    let index = fill.buffer.saturating_sub(1);
-    if let Some(Some(most)) = node.bounds.list().get(index as usize) {
-        put(out, format!(in alloc; " at most {most}")?.as_bytes())?;
-    }
-    match fill.full {
-        Some(at) => put(out, format!(in alloc; ", first at {at}\n")?.as_bytes()),
-        None => put(out, b", not reached at these instants\n"),
-    }
+    put_bound(alloc, bound_of(node, fill.buffer), out)?;
+    put_full(alloc, fill.full, out)
+}
+
+// Puts the first line of a buffer.
+fn put_head(
+    alloc: Global,
+    node: &PlacedNode,
+    words: &[Word],
+    fill: &Fill,
+    out: &mut Vec<u8>,
+) -> Result<(), OutOfMemory>
+    ensures { OnOk result (out.new.items ≡ out.old.items ++ spec.buffer_head node.now words.now fill.now) }
+{
+    let buffer = fill.buffer;
+    put(out, format!(in alloc; "  buffer {buffer} : ")?.as_bytes())?;
+    put_word(alloc, words, fill.operand, out)?;
+    put(out, b" <: ")?;
+    put_word(alloc, words, fill.place, out)?;
+    put_size(alloc, node, fill, out)?;
+    Ok(())
+}
+
+// Puts a line of marks of a buffer.
+fn put_marks(
+    columns: &Columns,
+    name: &[u8],
+    marks: &[bool],
+    out: &mut Vec<u8>,
+) -> Result<(), AllocError>
+    ensures { OnOk result (out.new.items ≡ out.old.items ++ spec.buffer_line columns.now.margin name.now (spec.marks_text columns.now.turn columns.now.cell marks.now)) }
+{
+    columns.put_name(out, 4, name)?;
+    columns.put_marks(out, marks)?;
+    put(out, b"\n")
+}
+
+// Puts a line of numbers of a buffer.
+fn put_numbers(
+    alloc: Global,
+    columns: &Columns,
+    name: &[u8],
+    numbers: &[u64],
+    out: &mut Vec<u8>,
+) -> Result<(), AllocError>
+    ensures { OnOk result (out.new.items ≡ out.old.items ++ spec.buffer_line columns.now.margin name.now (spec.numbers_text columns.now.turn columns.now.cell numbers.now)) }
+{
+    columns.put_name(out, 4, name)?;
+    columns.put_numbers(alloc, out, numbers)?;
+    put(out, b"\n")
+}
+
+// Puts the line of what goes into a buffer.
+fn put_written(columns: &Columns, fill: &Fill, out: &mut Vec<u8>) -> Result<(), AllocError>
+    ensures { OnOk result (out.new.items ≡ out.old.items ++ spec.written_line columns.now.turn columns.now.cell columns.now.margin fill.now) }
+{
+    put_marks(columns, b"in", fill.written.list(), out)
+}
+
+// Puts that of what comes out of it.
+fn put_read(columns: &Columns, fill: &Fill, out: &mut Vec<u8>) -> Result<(), AllocError>
+    ensures { OnOk result (out.new.items ≡ out.old.items ++ spec.read_line columns.now.turn columns.now.cell columns.now.margin fill.now) }
+{
+    put_marks(columns, b"out", fill.read.list(), out)
+}
+
+// Puts that of how many items wait.
+fn put_waits(
+    alloc: Global,
+    columns: &Columns,
+    fill: &Fill,
+    out: &mut Vec<u8>,
+) -> Result<(), AllocError>
+    ensures { OnOk result (out.new.items ≡ out.old.items ++ spec.waits_line columns.now.turn columns.now.cell columns.now.margin fill.now) }
+{
+    put_numbers(alloc, columns, b"waiting", fill.waits.list(), out)
 }
 
 // Puts the lines of a buffer.
@@ -131,24 +257,38 @@ fn put_fill(
     words: &[Word],
     fill: &Fill,
     out: &mut Vec<u8>,
-) -> Result<(), OutOfMemory> {
-    put(
-        out,
-        format!(in alloc; "  buffer {} : ", fill.buffer)?.as_bytes(),
-    )?;
-    put_word(alloc, words, fill.operand, out)?;
-    put(out, b" <: ")?;
-    put_word(alloc, words, fill.place, out)?;
-    put_size(alloc, node, fill, out)?;
-    columns.put_name(out, 4, b"in")?;
-    columns.put_marks(out, fill.written.list())?;
-    put(out, b"\n")?;
-    columns.put_name(out, 4, b"out")?;
-    columns.put_marks(out, fill.read.list())?;
-    put(out, b"\n")?;
-    columns.put_name(out, 4, b"waiting")?;
-    columns.put_numbers(alloc, out, fill.waits.list())?;
-    put(out, b"\n")?;
+) -> Result<(), OutOfMemory>
+    ensures { OnOk result (out.new.items ≡ out.old.items ++ spec.fill_text node.now words.now columns.now.turn columns.now.cell columns.now.margin fill.now) }
+{
+    put_head(alloc, node, words, fill, out)?;
+    put_written(columns, fill, out)?;
+    put_read(columns, fill, out)?;
+    put_waits(alloc, columns, fill, out)?;
+    Ok(())
+}
+
+// The buffer of a number, from 0.
+fn fill_at(fills: &[Fill], number: usize) -> &Fill
+    requires { number < length fills.now }
+    ensures { slice_get fills.now number ≡ Some result.now }
+{
+    &fills[number]
+}
+
+// Puts those of buffers.
+fn put_fills(
+    alloc: Global,
+    columns: &Columns,
+    node: &PlacedNode,
+    words: &[Word],
+    fills: &[Fill],
+    out: &mut Vec<u8>,
+) -> Result<(), OutOfMemory>
+    ensures { OnOk result (out.new.items ≡ out.old.items ++ flat_map (spec.fill_text node.now words.now columns.now.turn columns.now.cell columns.now.margin) fills.now) }
+{
+    'each: for i in 0..fills.len() {
+        put_fill(alloc, columns, node, words, fill_at(fills, i), out)?;
+    }
     Ok(())
 }
 
@@ -158,7 +298,9 @@ fn put_more(
     turn: Option<Turn>,
     shown: u64,
     out: &mut Vec<u8>,
-) -> Result<(), AllocError> {
+) -> Result<(), AllocError>
+    ensures { OnOk result (out.new.items ≡ out.old.items ++ spec.more_text turn shown) }
+{
     let Some(turn) = turn else {
         return put(
             out,
@@ -167,11 +309,32 @@ fn put_more(
     };
     let all = turn.whole();
     if shown < all {
-        put(
+        return put(
             out,
             format!(in alloc; "  the first {shown} of {all} instants\n")?.as_bytes(),
-        )?;
+        );
     }
+    Ok(())
+}
+
+// Puts the chronogram of a node last, with the words of its clocks.
+fn put_chart(
+    alloc: Global,
+    node: &PlacedNode,
+    words: &[Word],
+    columns: &Columns,
+    chart: &Chart,
+    out: &mut Vec<u8>,
+) -> Result<(), OutOfMemory>
+    requires { node.now.params ≤ most_places }
+    ensures { OnOk result (spec.PutsChart node.now words.now columns.now.turn columns.now.shown chart.now out.old.items out.new.items) }
+{
+    node_line(alloc, node, out)?;
+    put_turn(alloc, columns.turn, out)?;
+    columns.put_ruler(alloc, out)?;
+    put_rows(alloc, columns, node, words, &chart.rows, out)?;
+    put_fills(alloc, columns, node, words, &chart.fills, out)?;
+    put_more(alloc, columns.turn, columns.shown, out)?;
     Ok(())
 }
 
@@ -187,27 +350,22 @@ pub fn put_time(
     out: &mut Vec<u8>,
 ) -> Result<(), OutOfMemory>
     requires { node < length accepted.now.placed.nodes }
+    ensures { (n : Node) → slice_get accepted.now.placed.nodes node ≡ Some n →
+        OnOk result (spec.PutsChart n (words_in (slice_get accepted.now.clocks.items node)) turn shown chart.now out.old.items out.new.items) }
 {
     let found = accepted.placed.node(node);
-    let words = match accepted.clocks.get(node as usize) {
-        Some(clock) => clock.words.list(),
-        None => &[],
-    };
     let columns = Columns {
         turn,
         shown,
         cell: cell_width(alloc, chart)?,
         margin: margin(found, chart),
     };
-    node_line(alloc, found, out)?;
-    put_turn(alloc, turn, out)?;
-    columns.put_ruler(alloc, out)?;
-    for row in &chart.rows {
-        put_row(alloc, &columns, found, words, row, out)?;
-    }
-    for fill in &chart.fills {
-        put_fill(alloc, &columns, found, words, fill, out)?;
-    }
-    put_more(alloc, turn, shown, out)?;
-    Ok(())
+    put_chart(
+        alloc,
+        found,
+        words_at(&accepted.clocks, node),
+        &columns,
+        chart,
+        out,
+    )
 }

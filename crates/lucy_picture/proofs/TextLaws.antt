@@ -1,0 +1,44 @@
+-- How texts grow piece by piece.
+use Rattle.std.proofs.Common.{ℕ, zero, suc, ◌+◌, ◌≡◌, List, [], ◌∷◌, ◌++◌, Some, drop, ap, sym, ◌∙◌, subst, append_assoc, append-nil, arith}
+use Rattle.std.specs.Prelude.{slice_get, flat_map}
+use Rattle.lucy_picture.specs.Holding.{Extends}
+
+pub extends_by : (old new more : List ℕ) → new ≡ old ++ more → Extends old new
+extends_by old new more e = record { more = more; puts = e }
+
+pub extends_same : (text : List ℕ) → Extends text text
+extends_same text = record { more = []; puts = sym (append-nil text) }
+
+pub extends_more : (a b c : List ℕ) → Extends a b → Extends b c → Extends a c
+extends_more a b c m n = record { more = m.more ++ n.more; puts = n.puts ∙ ap (λ t. t ++ n.more) m.puts ∙ append_assoc a m.more n.more }
+
+-- one piece more of a text that is put piece by piece
+pub piece_more : (old new whole piece rest : List ℕ) → new ≡ old ++ piece → old ++ (piece ++ rest) ≡ whole → new ++ rest ≡ whole
+piece_more old new whole piece rest more before = ap (λ t. t ++ rest) more ∙ append_assoc old piece rest ∙ before
+
+-- the rest of a list from an element on
+pub drop_suc : {A : Type 0} (xs : List A) (i : ℕ) (x : A) → slice_get xs i ≡ Some x → drop i xs ≡ x ∷ drop (suc i) xs
+drop_suc [] i x at = cc
+drop_suc (y ∷ xs) zero x at = let e : y ≡ x = cc in ap (λ z. z ∷ xs) e
+drop_suc (y ∷ xs) (suc i) x at = drop_suc xs i x at
+
+-- that of the next element
+pub element_more : {A : Type 0} (text : A → List ℕ) (xs : List A) (i : ℕ) (x : A) (old new whole : List ℕ) → slice_get xs i ≡ Some x → new ≡ old ++ text x →
+    old ++ flat_map text (drop i xs) ≡ whole → new ++ flat_map text (drop (i + 1) xs) ≡ whole
+element_more text xs i x old new whole at more before =
+    let next : suc i ≡ i + 1 = omega arith in
+    piece_more old new whole (text x) (flat_map text (drop (i + 1) xs)) more
+    (subst (λ l. old ++ flat_map text l ≡ whole) (drop_suc xs i x at ∙ ap (λ n. x ∷ drop n xs) next) before)
+
+-- four pieces
+pub four : (a b c d e p q r s : List ℕ) → b ≡ a ++ p → c ≡ b ++ q → d ≡ c ++ r → e ≡ d ++ s → e ≡ a ++ (p ++ (q ++ (r ++ s)))
+four a b c d e p q r s one two three last =
+    last ∙ ap (λ x. x ++ s) (three ∙ ap (λ x. x ++ r) (two ∙ ap (λ x. x ++ q) one))
+    ∙ append_assoc ((a ++ p) ++ q) r s ∙ append_assoc (a ++ p) q (r ++ s) ∙ append_assoc a p (q ++ (r ++ s))
+
+-- six pieces
+pub six : (a b c d e f g p q r s t u : List ℕ) → b ≡ a ++ p → c ≡ b ++ q → d ≡ c ++ r → e ≡ d ++ s → f ≡ e ++ t → g ≡ f ++ u → g ≡ a ++ (p ++ (q ++ (r ++ (s ++ (t ++ u)))))
+six a b c d e f g p q r s t u one two three four five last =
+    last ∙ ap (λ x. x ++ u) (five ∙ ap (λ x. x ++ t) (four ∙ ap (λ x. x ++ s) (three ∙ ap (λ x. x ++ r) (two ∙ ap (λ x. x ++ q) one))))
+    ∙ append_assoc ((((a ++ p) ++ q) ++ r) ++ s) t u ∙ append_assoc (((a ++ p) ++ q) ++ r) s (t ++ u) ∙ append_assoc ((a ++ p) ++ q) r (s ++ (t ++ u))
+    ∙ append_assoc (a ++ p) q (r ++ (s ++ (t ++ u))) ∙ append_assoc a p (q ++ (r ++ (s ++ (t ++ u))))
