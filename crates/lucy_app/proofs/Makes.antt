@@ -18,7 +18,7 @@ use Rattle.lucy_command.specs.declared.words.MakeWords.{MakeWords}
 use Rattle.lucy_command.specs.Commands.{Make}
 use Rattle.lucy_app.specs.Commands.{inferring_options}
 use Rattle.lucy_app.specs.Answers.{printed, out_of_memory}
-use Rattle.lucy_app.specs.Endings.{ending_status, ending_line, ended}
+use Rattle.lucy_app.specs.Endings.{ending_told, ended}
 use Rattle.lucy_front.specs.Refusals.{memory_line}
 use Rattle.lucy_app.specs.Ends.{Tells, MayStand, MayFail}
 use Rattle.lucy_app.specs.Owes.{Owes}
@@ -79,7 +79,7 @@ module _ (words : MakeWords) (lends : List Operator) where
       figured print out out' err err' status owed (inr breaks) = inr (print, ((made_given lends, printed print, refl, inr (a, runnable.0, inr (runnable.1, print, ending.Done, owed, refl)), refl), tt), breaks)
 
       -- nothing was printed, and why was told
-      told_so : (end : Ending) (out err err' : SeenSink) (status : ℕ) → Owed Unread a [] end → Tells (ending_status end) (ending_line end) err err' status → EndsMake words lends out out err err' status
+      told_so : (end : Ending) (out err err' : SeenSink) (status : ℕ) → Owed Unread a [] end → Tells (ending_told end).0 (ending_told end).1 err err' status → EndsMake words lends out out err err' status
       told_so end out err err' status owed told = inl (ended [] end, inl (inr (a, runnable.0, inr (runnable.1, [], end, owed, refl))), record { printed = unwritten out; told = told })
 
       -- or there was no memory for that
@@ -98,5 +98,5 @@ module _ (words : MakeWords) (lends : List Operator) where
       undone (ending.Limit passed) out err err' status (inr is) (inl told) = told_so (ending.Limit passed) out err err' status is.1 told
       undone (ending.Limit passed) out err err' status (inr is) (inr told) = short_of_memory out err err' status told
       undone ending.WriteFault out err err' status (inl e) told = absurd (cc e)
-      undone ending.WriteFault out err err' status (inr is) told = absurd (no_fault _ _ is.1.2.fault is.1.2.ends)
+      undone ending.WriteFault out err err' status (inr is) told = absurd (no_fault _ _ is.1.2 is.1.6)
       undone ending.OutOfMemory out err err' status is told = short_of_memory out err err' status told

@@ -40,7 +40,7 @@ use Rattle.lucy_app.specs.Show.{IsPrintOf, RefusesSyntax}
 use Rattle.lucy_app.specs.Types.{IsReportOf, RefusesText}
 use Rattle.lucy_app.specs.Check.{IsCheckOf, RefusesCheck}
 use Rattle.lucy_app.specs.Running.{IsRunnable}
-use Rattle.lucy_app.specs.Complete.{Holds, HoldsSuch, MayPrint}
+use Rattle.lucy_app.specs.Complete.{Holds, HoldsSuch, MayPrint, MayRun}
 use Rattle.lucy_app.proofs.Causes.{one_line}
 use Rattle.lucy_app.proofs.Verdicts.{IsVerdict, show_verdict}
 use Rattle.lucy_app.proofs.Typed.{types_verdict}
@@ -82,7 +82,7 @@ input_one : OneCut → (inputs : List InputSpec) (left : Option (List ℕ)) (lis
 input_one cut [] left lists others is also = is ∙ sym also
 input_one cut (input ∷ inputs) None lists others is also = absurd is
 input_one cut (input ∷ inputs) (Some bytes) lists others is also =
-    (whole_feeds cut (input ∷ inputs) bytes Ended Ended lists others None None (inl refl) (inl refl) is also).0
+    (whole_feeds cut (input ∷ inputs) bytes Ended Ended lists others None None refl refl is also).0
 
 module _ (cut : OneCut) (horizons : OneHorizon) (kinds : List HostKind) (a b : Accepted) (same : AreSame a b) (given : Option ℕ) (left : Option (List ℕ)) (lists others : List (List ℤ)) (horizon last : ℕ)
     (fed : IsFedWell a given left lists horizon) (also : IsFedWell b given left others last) where
@@ -139,59 +139,59 @@ one_printed : (Differ : Answer → Answer → Type 0) (a b : List ℕ) → a ≡
 one_printed Differ a b e = inl (ap printed e)
 
 pub output_one : OneCut → OneHorizon → OneTight → (command : Command) (before : World) (a b : List ℕ) → MayPrint command before a →
-    MayPrint command before b → AreOneBut (MayDiffer command) (printed a) (printed b)
-output_one cut horizons tight Order before a b is also = one_printed (MayDiffer Order) a b (line_one before.source.left a b is also)
+    MayPrint command before b → AreOneBut (MayDiffer (MayRun before) command) (printed a) (printed b)
+output_one cut horizons tight Order before a b is also = one_printed (MayDiffer (MayRun before) Order) a b (line_one before.source.left a b is also)
 output_one cut horizons tight (Show file) before a b is also =
-    one_printed (MayDiffer (Show file)) a b (print_one IsPrintOf RefusesSyntax show_verdict before.shelf (program_of file) a b is also)
+    one_printed (MayDiffer (MayRun before) (Show file)) a b (print_one IsPrintOf RefusesSyntax show_verdict before.shelf (program_of file) a b is also)
 output_one cut horizons tight (Types file) before a b is also =
     let ops = before.operators in
-    one_printed (MayDiffer (Types file)) a b
+    one_printed (MayDiffer (MayRun before) (Types file)) a b
     (print_one (IsReportOf ops) (RefusesText ops) (types_verdict ops) before.shelf (program_of file) a b is also)
 output_one cut horizons tight (Check file) before a b is also =
     let ops = before.operators in
-    one_printed (MayDiffer (Check file)) a b
+    one_printed (MayDiffer (MayRun before) (Check file)) a b
     (print_one (IsCheckOf ops written_options) (RefusesCheck ops written_options) (check_verdict ops written_options) before.shelf
     (program_of file)
     a b is also)
 output_one cut horizons tight (Clocks words) before a b is also =
     let ops = before.operators in
     let o : Options = inferring_options words.scale words.lead in
-    one_printed (MayDiffer (Clocks words)) a b
+    one_printed (MayDiffer (MayRun before) (Clocks words)) a b
     (print_one (IsCheckOf ops o) (RefusesCheck ops o) (check_verdict ops o) before.shelf (program_of words.file) a b is also)
-output_one cut horizons tight (Run words) before a b (p, lists, horizon, held, fed, is) (q, others, last, holds, feeds, also) =
+output_one cut horizons tight (Run words workers block) before a b (p, lists, horizon, held, fed, is) (q, others, last, holds, feeds, also) =
     let kinds = kinds_of before.operators in
     let same = program_one before.operators (inferring_options words.scale words.lead) words.instants before.shelf (program_of words.file)
     p q held holds in
-    one_printed (MayDiffer (Run words)) a b
+    one_printed (MayDiffer (MayRun before) (Run words workers block)) a b
     (is ∙ run_same cut horizons kinds p q same words.instants before.source.left lists others horizon last fed feeds ∙ sym also)
-output_one cut horizons tight (Kahn words) before a b (p, lists, horizon, held, fed, turns, items, is)
-    (q, others, last, holds, feeds, few, short, also) =
+output_one cut horizons tight (Kahn words) before a b (p, lists, horizon, held, fed, (turns, items, is))
+    (q, others, last, holds, feeds, (few, short, also)) =
     let kinds = kinds_of before.operators in
     let same = program_one before.operators (inferring_options words.scale words.lead) words.instants before.shelf (program_of words.file)
     p q held holds in
-    one_printed (MayDiffer (Kahn words)) a b
+    one_printed (MayDiffer (MayRun before) (Kahn words)) a b
     (is ∙ lines_same cut horizons kinds p q same words.instants before.source.left lists others horizon last fed feeds ∙ sym also)
 output_one cut horizons tight (Make words) before a b (p, lists, horizon, runs, fed, is) (q, others, last, run, feeds, also) =
     let kinds = kinds_of before.operators in
     let same = accepted_same before.operators (inferring_options 1 1) (made_text words.stages) p q runs.0 run.0 in
-    one_printed (MayDiffer (Make words)) a b
+    one_printed (MayDiffer (MayRun before) (Make words)) a b
     (is ∙ figures_same cut horizons kinds p q same None (Some made_input) lists others horizon last fed feeds words.stages ∙ sym also)
-output_one cut horizons tight (Tighten words) before a b (text, holds, is) (other, held, also) =
+output_one cut horizons tight (Tighten words node buffer) before a b (text, holds, is) (other, held, also) =
     let o : Options = inferring_options words.scale words.lead in
     let same : text ≡ other = held_one before.shelf (program_of words.file) text other holds held in
-    prints_alike tight before.operators o words other a b (subst (λ t. IsTightOf before.operators o words t a) same is) also
-output_one cut horizons tight (Replay words) before a b (p, lists, horizon, picks, held, log, fed, run, is)
-    (q, others, last, events, holds, logs, feeds, ran, also) =
+    prints_alike tight before.operators o node buffer other a b (subst (λ t. IsTightOf before.operators o node buffer t a) same is) also
+output_one cut horizons tight (Replay words name) before a b (p, lists, horizon, held, fed, (picks, log, run, is))
+    (q, others, last, holds, feeds, (events, logs, ran, also)) =
     let same = program_one before.operators (inferring_options words.scale words.lead) words.instants before.shelf (program_of words.file)
     p q held holds in
-    one_printed (MayDiffer (Replay words)) a b
+    one_printed (MayDiffer (MayRun before) (Replay words name)) a b
     (replays_same cut horizons (kinds_of before.operators) p q same words.instants before.source.left lists others horizon last fed feeds
     before.operators picks events a b
-    (log_one before.shelf (log_of words.log) picks events log logs) is also)
-output_one cut horizons tight (Trace words) before a b (p, lists, horizon, held, fed, is) (q, others, last, holds, feeds, also) =
+    (log_one before.shelf (log_of name) picks events log logs) is also)
+output_one cut horizons tight (Trace words workers) before a b (p, lists, horizon, held, fed, is) (q, others, last, holds, feeds, also) =
     let same = program_one before.operators (inferring_options words.scale words.lead) words.instants before.shelf (program_of words.file)
     p q held holds in
     let there = horizon_same cut horizons (kinds_of before.operators) p q same words.instants before.source.left lists others horizon last
     fed feeds in
     let moved : IsTraceText q.net horizon a = subst (λ (net : Net). IsTraceText net horizon a) same.net is in
-    inr (refl, refl, q.net, last, subst (λ t. IsTraceText q.net t a) there moved, also)
+    inr (refl, refl, q.net, last, (q, others, last, holds, feeds, (refl, refl)), subst (λ t. IsTraceText q.net t a) there moved, also)

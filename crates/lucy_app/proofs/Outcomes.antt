@@ -17,9 +17,8 @@ use Rattle.lucy_app.specs.Types.{IsReportOf, RefusesText}
 use Rattle.lucy_app.specs.Check.{IsCheckOf, RefusesCheck}
 use Rattle.lucy_app.specs.Order.{IsVerdictLine, RefusesFields}
 use Rattle.lucy_app.specs.Owes.{OwesOrder}
-use Rattle.lucy_command.specs.Commands.{TightenWords}
 use Rattle.lucy_app.specs.Programs.{OwesText, OwesPrint}
-use Rattle.lucy_app.specs.Tighten.{OwesTight}
+use Rattle.lucy_app.specs.Tighten.{OwesNamed}
 use Rattle.lucy_app.specs.Outcomes.{bytes_of, refusal_answer, fetch_refusal, RefusesProgram, RefusesInput, IsOutcome, read_refusal}
 use Rattle.lucy_front.specs.declared.refusal.Refusal.{Refusal as Reason}
 use Rattle.lucy_app.specs.declared.refusal.Refusal.{Refusal}
@@ -73,12 +72,12 @@ check_met ops lends found o fetched r same is_o is =
     subst Q is_o (subst P same is)
 
 -- and a buffer is looked for
-pub tight_met : (ops lends : List Operator) (o : Options) (words : TightenWords) (fetched : List (Result (List ℕ) ShelfError))
+pub tight_met : (ops lends : List Operator) (o : Options) (name : List ℕ) (buffer : ℕ) (fetched : List (Result (List ℕ) ShelfError))
     (r : Result (Vec ℕ Global) Refusal) → ops ≡ lends →
-    IsOutcome (OwesText (RefusesCheck ops o) (OwesTight ops o words) Unread fetched) r →
-    IsOutcome (OwesText (RefusesCheck lends o) (OwesTight lends o words) Unread fetched) r
-tight_met ops lends o words fetched r same is =
-    let P : List Operator → Type 0 = λ u. IsOutcome (OwesText (RefusesCheck u o) (OwesTight u o words) Unread fetched) r in
+    IsOutcome (OwesText (RefusesCheck ops o) (OwesNamed ops o name buffer) Unread fetched) r →
+    IsOutcome (OwesText (RefusesCheck lends o) (OwesNamed lends o name buffer) Unread fetched) r
+tight_met ops lends o name buffer fetched r same is =
+    let P : List Operator → Type 0 = λ u. IsOutcome (OwesText (RefusesCheck u o) (OwesNamed u o name buffer) Unread fetched) r in
     subst P same is
 
 -- an input that was read to its end came out so

@@ -6,32 +6,31 @@ use Rattle.lucy_command.specs.Commands.{Command, Order, Show, Types, Check, Cloc
 use Rattle.lucy_app.specs.Commands.{written_options, inferring_options}
 use Rattle.lucy_feed.specs.Sources.{Stop, Ended, Failed, Passed}
 use Rattle.lucy_app.specs.World.{Given}
-use Rattle.lucy_app.specs.Answers.{Answer, AreTightAlike, AreTracedAlike, MayDiffer, Alike, printed, program_refused, input_refused}
+use Rattle.lucy_app.specs.Answers.{Answer, AreTightAlike, MayDiffer, Alike, printed, program_refused, input_refused}
 use Rattle.lucy_app.specs.Fields.{fields}
 use Rattle.lucy_app.specs.Show.{IsPrintOf, RefusesSyntax}
 use Rattle.lucy_app.specs.Types.{IsReportOf, RefusesText}
 use Rattle.lucy_app.specs.Check.{IsCheckOf, RefusesCheck}
-use Rattle.lucy_app.specs.Owes.{OwesOrder, Owes}
+use Rattle.lucy_app.specs.Owes.{OwesOrder, Owes, HasRun}
 use Rattle.lucy_app.specs.Programs.{OwesRefusal, OwesText, OwesPrint}
 use Rattle.lucy_host.specs.Operators.{kinds_of}
 use Rattle.lucy_front.specs.declared.accepted.Accepted.{Accepted}
 use Rattle.lucy_run.specs.declared.ending.Ending.{Ending}
 use Rattle.lucy_run.specs.Owes.{OwesRun, OwesKahn}
-use Rattle.lucy_run.specs.Tracing.{OwesTrace}
 use Rattle.lucy_run.specs.Laws.{OneRun, OneInterpretation, OneReplay, OneTrace}
 use Rattle.lucy_app.proofs.OwedPrograms.{IsDecided, print_decided, unrefused, owed_one, text_owes_one}
 use Rattle.lucy_make.specs.Text.{made_text}
 use Rattle.lucy_make.specs.Owes.{OwesSummary}
 use Rattle.lucy_lines.specs.Laws.{OneCut}
 use Rattle.lucy_run.proofs.OwesLaws.{OneHorizon}
-use Rattle.lucy_app.proofs.RunsOnce.{once_but, runs_alike, run_once, kahn_once, trace_once}
+use Rattle.lucy_app.proofs.RunsOnce.{once_but, runs_alike, run_once, kahn_once, traces_alike}
 use Rattle.lucy_app.proofs.MakesOnce.{summary_once}
 use Rattle.lucy_app.proofs.ReplaysOnce.{logged_alike}
 use Rattle.lucy_app.proofs.Causes.{one_line, one_cause_of_fields, pair_is_not_refused}
 use Rattle.lucy_app.proofs.Verdicts.{show_verdict, one_syntax}
 use Rattle.lucy_app.proofs.Typed.{types_verdict}
 use Rattle.lucy_app.proofs.Checked.{check_verdict}
-use Rattle.lucy_app.specs.Tighten.{OwesTight}
+use Rattle.lucy_app.specs.Tighten.{OwesNamed}
 use Rattle.lucy_app.proofs.TightOnce.{OneTight, tight_decided}
 
 pub order_owes_one : (taken : List ℕ) (stop : Stop) (a b : Answer) → OwesOrder taken stop a → OwesOrder taken stop b → a ≡ b
@@ -45,60 +44,59 @@ order_owes_one taken stop a b is also = absurd is
 
 pub owes_one : OneCut → OneHorizon → OneRun → OneInterpretation → OneReplay → OneTrace → OneTight →
     (command : Command) (given : Given) (a b : Answer) →
-    Owes command given a → Owes command given b → Alike command a b
+    Owes command given a → Owes command given b → Alike (HasRun given) command a b
 owes_one cut horizon run kahn again trace tight Order given a b is also = inl (inl (order_owes_one given.taken given.stop a b is also))
 owes_one cut horizon run kahn again trace tight (Show file) given a b is also =
-    let Differ = MayDiffer (Show file) in
+    let Differ = MayDiffer (HasRun given) (Show file) in
     text_owes_one Differ RefusesSyntax (OwesPrint IsPrintOf) (print_decided Differ IsPrintOf RefusesSyntax show_verdict)
     given.stop given.fetched a b is also
 owes_one cut horizon run kahn again trace tight (Types file) given a b is also =
     let ops = given.operators in
-    let Differ = MayDiffer (Types file) in
+    let Differ = MayDiffer (HasRun given) (Types file) in
     text_owes_one Differ (RefusesText ops) (OwesPrint (IsReportOf ops))
     (print_decided Differ (IsReportOf ops) (RefusesText ops) (types_verdict ops)) given.stop given.fetched a b is also
 owes_one cut horizon run kahn again trace tight (Check file) given a b is also =
     let ops = given.operators in
-    let Differ = MayDiffer (Check file) in
+    let Differ = MayDiffer (HasRun given) (Check file) in
     text_owes_one Differ (RefusesCheck ops written_options) (OwesPrint (IsCheckOf ops written_options))
     (print_decided Differ (IsCheckOf ops written_options) (RefusesCheck ops written_options) (check_verdict ops written_options))
     given.stop given.fetched a b is also
 owes_one cut horizon run kahn again trace tight (Clocks words) given a b is also =
     let ops = given.operators in
     let o = inferring_options words.scale words.lead in
-    let Differ = MayDiffer (Clocks words) in
+    let Differ = MayDiffer (HasRun given) (Clocks words) in
     text_owes_one Differ (RefusesCheck ops o) (OwesPrint (IsCheckOf ops o))
     (print_decided Differ (IsCheckOf ops o) (RefusesCheck ops o) (check_verdict ops o)) given.stop given.fetched a b is also
-owes_one cut horizon run kahn again trace tight (Run words) given a b is also =
+owes_one cut horizon run kahn again trace tight (Run words workers block) given a b is also =
     let Owed : Accepted → List ℕ → Ending → Type 0 = λ p. OwesRun (kinds_of given.operators) p words.instants given.taken given.stop in
-    let Differ = MayDiffer (Run words) in
+    let Differ = MayDiffer (HasRun given) (Run words workers block) in
     runs_alike Differ Owed (once_but Differ Owed (run_once run (kinds_of given.operators) words.instants given.taken given.stop))
     given.operators
     (inferring_options words.scale words.lead) words.instants given.stop given.fetched a b is also
 owes_one cut horizon run kahn again trace tight (Kahn words) given a b is also =
     let Owed : Accepted → List ℕ → Ending → Type 0 = λ p. OwesKahn (kinds_of given.operators) p words.instants given.taken given.stop in
-    let Differ = MayDiffer (Kahn words) in
+    let Differ = MayDiffer (HasRun given) (Kahn words) in
     runs_alike Differ Owed (once_but Differ Owed (kahn_once kahn (kinds_of given.operators) words.instants given.taken given.stop))
     given.operators
     (inferring_options words.scale words.lead) words.instants given.stop given.fetched a b is also
 owes_one cut horizon run kahn again trace tight (Make words) given a b is also =
     let Owed : Accepted → List ℕ → Ending → Type 0 = λ p. OwesSummary words.stages (kinds_of given.operators) p in
-    let Differ = MayDiffer (Make words) in
+    let Differ = MayDiffer (HasRun given) (Make words) in
     runs_alike Differ Owed (once_but Differ Owed (summary_once cut horizon words.stages (kinds_of given.operators))) given.operators
     (inferring_options 1 1)
     None given.stop (Ok (made_text words.stages) ∷ []) a b is also
-owes_one cut horizon run kahn again trace tight (Tighten words) given a b is also =
+owes_one cut horizon run kahn again trace tight (Tighten words node buffer) given a b is also =
     let ops = given.operators in
     let o = inferring_options words.scale words.lead in
-    text_owes_one AreTightAlike (RefusesCheck ops o) (OwesTight ops o words) (tight_decided tight ops o words) given.stop given.fetched a b
+    text_owes_one AreTightAlike (RefusesCheck ops o) (OwesNamed ops o node buffer) (tight_decided tight ops o node buffer) given.stop given.fetched a b
     is also
-owes_one cut horizon run kahn again trace tight (Replay words) given a b is also =
-    logged_alike again given.operators words.instants given.taken given.stop (MayDiffer (Replay words))
+owes_one cut horizon run kahn again trace tight (Replay words log) given a b is also =
+    logged_alike again given.operators words.instants given.taken given.stop (MayDiffer (HasRun given) (Replay words log))
     (inferring_options words.scale words.lead)
     given.fetched a b is also
-owes_one cut horizon run kahn again trace tight (Trace words) given a b is also =
-    runs_alike AreTracedAlike (λ p. OwesTrace p words.instants given.taken given.stop)
-    (trace_once trace words.instants given.taken given.stop)
-    given.operators (inferring_options words.scale words.lead) words.instants given.stop given.fetched a b is also
+owes_one cut horizon run kahn again trace tight (Trace words workers) given a b is also =
+    traces_alike trace given.operators (inferring_options words.scale words.lead) words.instants given.taken given.stop given.fetched a b
+    is also
 
 -- `show` refuses a text with one answer
 show_refusal_one : (fetched : List (Result (List ℕ) ShelfError)) (a b : Answer) → OwesRefusal RefusesSyntax fetched a → OwesRefusal RefusesSyntax fetched b → a ≡ b

@@ -6,16 +6,15 @@ use Rattle.lucy_front.specs.Refusals.{memory_line}
 use Rattle.lucy_run.specs.Feeds.{CountsAs}
 use Rattle.lucy_run.specs.Owes.{OwesRun}
 use Rattle.lucy_run.specs.Ends.{IsFrontOf}
-use Rattle.lucy_command.specs.Commands.{RunWords, Run}
+use Rattle.lucy_command.specs.Commands.{ProgramWords, Command, Run}
 use Rattle.lucy_app.specs.Commands.{inferring_options}
 use Rattle.lucy_app.specs.World.{World, Given}
-use Rattle.lucy_app.specs.Lines.{words_line}
 use Rattle.lucy_app.specs.Answers.{Answer, no_command, out_of_memory}
 use Rattle.lucy_app.specs.Owes.{Owes, OwesOutput}
 use Rattle.lucy_app.specs.Ends.{Tells, EndsBy, MayStand, Ends}
 use Rattle.lucy_app.specs.Complete.{IsFaultless}
 use Rattle.lucy_app.specs.Engines.{EndsPlaying}
-use Rattle.lucy_app.specs.Outcomes.{EndsRun, OfProgram}
+use Rattle.lucy_app.specs.Outcomes.{EndsRunning, OfProgram}
 use Rattle.lucy_app.proofs.RunEnds.{ends_more}
 use Rattle.lucy_app.proofs.Sinks.{declines}
 
@@ -26,39 +25,39 @@ without_order Owed Stands MayFail Order out out' err err' status (inl answered) 
 without_order Owed Stands MayFail Order out out' err err' status (inr (output, may, breaks)) = inr (output, may.0, breaks)
 
 -- a run in one piece that has met this ends so
-pub played_met : (words : RunWords) (given : Given) (out out' err err' : SeenSink) (status : ℕ) →
-    EndsRun (λ counted a. OwesRun (kinds_of given.operators) a words.instants given.taken counted) (CountsAs given.stop)
+pub played_met : (words : ProgramWords) (workers : ℕ) (block : Option ℕ) (given : Given) (out out' err err' : SeenSink) (status : ℕ) →
+    EndsRunning (λ counted a. OwesRun (kinds_of given.operators) a words.instants given.taken counted) (CountsAs given.stop)
     (OfProgram (λ a. Unit {0}) given.operators (inferring_options words.scale words.lead) given.fetched)
     given.operators (inferring_options words.scale words.lead) words.instants given.stop given.fetched
-    out out' err err' status → EndsBy (Owes (Run words) given) (MayStand (Run words) given) (OwesOutput (Run words) given) out out' err
+    out out' err err' status → EndsBy (Owes (Run words workers block) given) (MayStand (Run words workers block) given) (OwesOutput (Run words workers block) given) out out' err
     err' status
-played_met words given out out' err err' status ends =
-    without_order (Owes (Run words) given) (IsFrontOf (OwesOutput (Run words) given)) (OwesOutput (Run words) given) (Unit {0}) out out'
+played_met words workers block given out out' err err' status ends =
+    without_order (Owes (Run words workers block) given) (IsFrontOf (OwesOutput (Run words workers block) given)) (OwesOutput (Run words workers block) given) (Unit {0}) out out'
     err err' status
-    (ends_more (Owes (Run words) given) _ (OwesOutput (Run words) given) _ (Unit {0})
+    (ends_more (Owes (Run words workers block) given) _ (OwesOutput (Run words workers block) given) _ (Unit {0})
     (λ output (counted, answer, counts, owed, is). (record given { stop = counted }, answer, (counted, counts, refl), owed, is)) (λ
     order. tt) out out' err err' status ends)
 
 -- words that name none
-pub plays_none : (found : Option RunWords) (before after : World) (status : ℕ) → None ≡ found → after.shelf ≡ before.shelf →
+pub plays_none : (found : Option Command) (before after : World) (status : ℕ) → None ≡ found → after.shelf ≡ before.shelf →
     after.source ≡ before.source → after.out ≡ before.out →
-    Tells 2 words_line before.err after.err status → EndsPlaying found before after status
+    Tells 2 no_command.err before.err after.err status → EndsPlaying found before after status
 plays_none found before after status is shelf source out told =
-    let P : Option RunWords → Type 0 = λ o. EndsPlaying o before after status in
+    let P : Option Command → Type 0 = λ o. EndsPlaying o before after status in
     subst P is (inl (declines no_command before after status refl shelf source out told))
 
 -- words that memory is too short to read
-pub plays_short : (found : Option RunWords) (before after : World) (status : ℕ) → after.shelf ≡ before.shelf →
+pub plays_short : (found : Option Command) (before after : World) (status : ℕ) → after.shelf ≡ before.shelf →
     after.source ≡ before.source → after.out ≡ before.out →
     Tells 7 memory_line before.err after.err status → EndsPlaying found before after status
 plays_short None before after status shelf source out told = inr (declines (out_of_memory []) before after status refl shelf source out
     told)
-plays_short (Some words) before after status shelf source out told = inr (declines (out_of_memory []) before after status refl shelf
+plays_short (Some command) before after status shelf source out told = inr (declines (out_of_memory []) before after status refl shelf
     source out told)
 
 -- where no count has risen, a run in one piece ends as `run` does
-pub plays_as_run : (words : RunWords) (before after : World) (status : ℕ) → EndsPlaying (Some words) before after status →
-    IsFaultless before after → Ends (Some (Run words)) before after status
-plays_as_run words before after status (inl (given, met, inl answered)) none = inl (given, met, inl answered)
-plays_as_run words before after status (inl (given, met, inr (output, may, breaks))) none = absurd (none.out breaks.failed.faults)
-plays_as_run words before after status (inr declined) none = inr declined
+pub plays_as_run : (command : Command) (before after : World) (status : ℕ) → EndsPlaying (Some command) before after status →
+    IsFaultless before after → Ends (Some command) before after status
+plays_as_run command before after status (inl (given, met, inl answered)) none = inl (given, met, inl answered)
+plays_as_run command before after status (inl (given, met, inr (output, may, breaks))) none = absurd (none.out breaks.failed.faults)
+plays_as_run command before after status (inr declined) none = inr declined

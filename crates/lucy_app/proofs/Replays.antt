@@ -25,7 +25,7 @@ use Rattle.lucy_run.specs.declared.ending.Ending.{Ending}
 use Rattle.lucy_run.specs.declared.ending.Ending.TheVariants as ending
 use Rattle.lucy_run.specs.Replays.{OwesReplay}
 use Rattle.lucy_run.specs.Ends.{IsFrontOf, EndsReplay}
-use Rattle.lucy_command.specs.Commands.{ReplayWords, Replay}
+use Rattle.lucy_command.specs.Commands.{ProgramWords, Replay}
 use Rattle.lucy_app.specs.Commands.{inferring_options, HasText, HasLog, TakesInput}
 use Rattle.lucy_app.specs.World.{Given}
 use Rattle.lucy_app.specs.Answers.{Answer, out_of_memory, log_refused}
@@ -194,15 +194,15 @@ accepting_moves ops lends found o instants fetched answer same is_o accepting =
     subst Q is_o (subst P same accepting)
 
 -- how `replay` ends that has met this
-abbrev pub EndsMet : Given → ReplayWords → (out out' err err' : SeenSink) (status : ℕ) → Type 0
-EndsMet given words out out' err err' status =
-    EndsBy (Owes (Replay words) given) (MayStand (Replay words) given) (MayFail (Replay words) given out out') out out' err err' status
+abbrev pub EndsMet : Given → ProgramWords → (name : List ℕ) → (out out' err err' : SeenSink) (status : ℕ) → Type 0
+EndsMet given words name out out' err err' status =
+    EndsBy (Owes (Replay words name) given) (MayStand (Replay words name) given) (MayFail (Replay words name) given out out') out out' err err' status
 
-module _ (words : ReplayWords) (ops : List Operator) (file : Result (List ℕ) ShelfError) (answer : Result Accepted Refusal)
+module _ (words : ProgramWords) (name : List ℕ) (ops : List Operator) (file : Result (List ℕ) ShelfError) (answer : Result Accepted Refusal)
     (accepting : IsAccepting ops (inferring_options words.scale words.lead) words.instants (file ∷ []) answer) where
   -- LOG wasn't asked for
   pub unlogged : (e : Refusal) → answer ≡ Err e → (out out' err err' : SeenSink) (status : ℕ) → out' ≡ out → TellsRefusal e err err' status →
-      EndsMet (record { fetched = file ∷ []; taken = []; stop = Unread; operators = ops }) words out out' err err' status
+      EndsMet (record { fetched = file ∷ []; taken = []; stop = Unread; operators = ops }) words name out out' err err' status
   unlogged e is out out' err err' status same told =
       ends_refused _ _ _ (inl refl) e out out' err err' status (subst (IsAccepting ops (inferring_options words.scale words.lead) words.instants (file ∷ [])) is accepting) same told
 
@@ -218,11 +218,11 @@ module _ (words : ReplayWords) (ops : List Operator) (file : Result (List ℕ) S
     abbrev pub met : Given
     met = record { fetched = file ∷ (log ∷ []); taken = taken; stop = stop; operators = ops }
 
-    printed_so : (output : List ℕ) → LogOutputs ops a words.instants taken stop log output → OwesOutput (Replay words) met output
+    printed_so : (output : List ℕ) → LogOutputs ops a words.instants taken stop log output → OwesOutput (Replay words name) met output
     printed_so output (x, owed, is) = (met, x, refl, logged file can x owed, is)
 
     -- LOG was fetched
-    pub logged_ends : (out out' err err' : SeenSink) (status : ℕ) → EndsLog ops a words.instants taken stop log out out' err err' status → EndsMet met words out out' err err' status
+    pub logged_ends : (out out' err err' : SeenSink) (status : ℕ) → EndsLog ops a words.instants taken stop log out out' err err' status → EndsMet met words name out out' err err' status
     logged_ends out out' err err' status (inl (x, inl owed, answers)) = inl (x, inl (logged file can x owed), answers)
     logged_ends out out' err err' status (inl (x, inr (front, inl none, is), answers)) = inl (x, inr (front, inl none, is), answers)
     logged_ends out out' err err' status (inl (x, inr (front, inr (output, n, owed, cut), is), answers)) = inl (x, inr (front, inr (output, n, printed_so output owed, cut), is), answers)

@@ -1,5 +1,5 @@
 -- What `replay` owes is one answer, but for the evidence of a refusal.
-use Rattle.std.proofs.Common.{ℕ, ◌+◌, ◌≡◌, List, [], ◌∷◌, ◌++◌, map, Option, Result, Ok, Err, refl, ap, sym, ◌∙◌, subst, inl, inr}
+use Rattle.std.proofs.Common.{ℕ, ◌+◌, ◌≡◌, ◌⊎◌, List, [], ◌∷◌, ◌++◌, map, Option, Result, Ok, Err, refl, ap, sym, ◌∙◌, subst, inl, inr}
 use Rattle.std.specs.Prelude.{ℤ}
 use Rattle.lucy_host.specs.Operators.{Operator, kinds_of}
 use Rattle.lucy_text.specs.declared.shelf.ShelfError.{ShelfError}
@@ -24,7 +24,7 @@ use Rattle.lucy_front.specs.declared.options.Options.{Options}
 use Rattle.lucy_run.specs.declared.ending.Ending.{Ending}
 use Rattle.lucy_run.specs.Replays.{first_core, Judges, OwesReplay}
 use Rattle.lucy_run.specs.Laws.{OneReplay}
-use Rattle.lucy_app.specs.Answers.{Answer, AlikeBut, log_refused}
+use Rattle.lucy_app.specs.Answers.{Answer, AreOneBut, AreRefusedAlike, log_refused}
 use Rattle.lucy_app.specs.Running.{NoRun, OwesRunning}
 use Rattle.lucy_app.specs.Replaying.{replayed, OwesEvents, OwesLog, OwesLogged}
 use Rattle.lucy_app.proofs.RunsOnce.{AreSame, accepted_same, moves, fed_moves, runs_alike}
@@ -84,7 +84,7 @@ module _ (again : OneReplay) (ops : List Operator) (instants : Option ℕ) (take
 
   -- and so is what is owed of both files
   pub logged_alike : (Differ : Answer → Answer → Type 0) (o : Options) (fetched : List (Result (List ℕ) ShelfError)) (x y : Answer) →
-      OwesLogged ops o instants taken stop fetched x → OwesLogged ops o instants taken stop fetched y → AlikeBut Differ x y
+      OwesLogged ops o instants taken stop fetched x → OwesLogged ops o instants taken stop fetched y → AreOneBut Differ x y ⊎ AreRefusedAlike x y
   logged_alike Differ o [] x y h k = absurd h
   logged_alike Differ o (file ∷ []) x y h k =
       runs_alike Differ NoRun (λ a b output other end way same p q. absurd p) ops o instants stop (file ∷ []) x y h k

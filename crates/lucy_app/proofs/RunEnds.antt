@@ -17,14 +17,14 @@ use Rattle.lucy_host.specs.Operators.{kinds_of}
 use Rattle.lucy_run.specs.Feeds.{CountsAs}
 use Rattle.lucy_run.specs.Owes.{OwesRun, OwesKahn}
 use Rattle.lucy_run.specs.Tracing.{OwesTrace}
-use Rattle.lucy_command.specs.Commands.{RunWords, KahnWords, TraceWords, Run, Kahn, Trace}
+use Rattle.lucy_command.specs.Commands.{ProgramWords, Run, Kahn, Trace}
 use Rattle.lucy_app.specs.Commands.{inferring_options, HasText, TakesInput}
 use Rattle.lucy_app.specs.World.{Given}
 use Rattle.lucy_app.specs.Answers.{Answer}
 use Rattle.lucy_app.specs.Owes.{Owes, OwesOutput}
 use Rattle.lucy_app.specs.Ends.{EndsBy, MayStand, MayFail}
 use Rattle.lucy_app.specs.Running.{IsRunnable}
-use Rattle.lucy_app.specs.Outcomes.{IsAccepting, EndsRun, OfProgram, TellsEnding, TellsRefusal}
+use Rattle.lucy_app.specs.Outcomes.{IsAccepting, EndsRunning, OfProgram, TellsEnding, TellsRefusal}
 use Rattle.lucy_feed.specs.Feeding.{IsAsked}
 use Rattle.lucy_command.specs.Named.{block_or_default}
 use Rattle.lucy_run.specs.declared.ending.Ending.TheVariants.{WriteFault}
@@ -50,7 +50,7 @@ module _ (Owed : List ℕ → Stop → Accepted → List ℕ → Ending → Type
   -- the program was not run
   pub unrun : (s : SeenSource) (out err err' : SeenSink) (status : ℕ) (e : Refusal) → answer ≡ Err e → TellsRefusal e err err' status →
       (taken : List ℕ) × (stop : Stop) × Read (limit_number limit.Input) s s taken stop × ReadsSo lends o fetched s s taken
-      × EndsRun (Owed taken) (Counts stop) (OfProgram (λ a. Order taken stop a out out) lends o fetched) lends o instants stop fetched out out err err' status
+      × EndsRunning (Owed taken) (Counts stop) (OfProgram (λ a. Order taken stop a out out) lends o fetched) lends o instants stop fetched out out err err' status
   unrun s out err err' status e is told =
       let P : Result Accepted Refusal → Type 0 = λ r. IsAccepting lends o instants fetched r in (
         [],
@@ -65,7 +65,7 @@ module _ (Owed : List ℕ → Stop → Accepted → List ℕ → Ending → Type
       (taken : List ℕ) (stop : Stop) → Read (limit_number limit.Input) before after taken stop → IsAsked a.inputs.items taken →
       EndsWith (λ counted. Owed taken counted a) (Counts stop) stop out out' end → (end ≡ WriteFault → Order taken stop a out out') → TellsEnding end err err' status →
       (others : List ℕ) × (halt : Stop) × Read (limit_number limit.Input) before after others halt × ReadsSo lends o fetched before after others
-      × EndsRun (Owed others) (Counts halt) (OfProgram (λ b. Order others halt b out out') lends o fetched) lends o instants halt fetched out out' err err' status
+      × EndsRunning (Owed others) (Counts halt) (OfProgram (λ b. Order others halt b out out') lends o fetched) lends o instants halt fetched out out' err err' status
   ran before after out out' err err' status a end is alone taken stop read asked left order told =
       let P : Result Accepted Refusal → Type 0 = λ r. IsAccepting lends o instants fetched r in
       let runnable : HasText fetched (λ text. IsRunnable lends o instants text a) = subst P is accepting_so in
@@ -85,35 +85,35 @@ ends_more Owed A B P Q more order out out' err err' status (inl (answer, inr (fr
 ends_more Owed A B P Q more order out out' err err' status (inr (output, (owed, in_order), breaks)) = inr (output, (more output owed, order in_order), breaks)
 
 -- `run` that has met this ends so
-pub run_met : (words : RunWords) (given : Given) (out out' err err' : SeenSink) (status : ℕ) →
-    EndsRun (λ counted a. OwesRun (kinds_of given.operators) a words.instants given.taken counted) (CountsAs given.stop)
-    (OfProgram (λ a. FailsInOrder (kinds_of given.operators) a words.instants (block_or_default words.block) given.taken given.stop out out') given.operators (inferring_options words.scale words.lead) given.fetched)
+pub run_met : (words : ProgramWords) (workers : ℕ) (block : Option ℕ) (given : Given) (out out' err err' : SeenSink) (status : ℕ) →
+    EndsRunning (λ counted a. OwesRun (kinds_of given.operators) a words.instants given.taken counted) (CountsAs given.stop)
+    (OfProgram (λ a. FailsInOrder (kinds_of given.operators) a words.instants (block_or_default block) given.taken given.stop out out') given.operators (inferring_options words.scale words.lead) given.fetched)
     given.operators (inferring_options words.scale words.lead) words.instants given.stop given.fetched
-    out out' err err' status → EndsBy (Owes (Run words) given) (MayStand (Run words) given) (MayFail (Run words) given out out') out out' err err' status
-run_met words given out out' err err' status ends =
-    ends_more (Owes (Run words) given) _ (OwesOutput (Run words) given) _ _
+    out out' err err' status → EndsBy (Owes (Run words workers block) given) (MayStand (Run words workers block) given) (MayFail (Run words workers block) given out out') out out' err err' status
+run_met words workers block given out out' err err' status ends =
+    ends_more (Owes (Run words workers block) given) _ (OwesOutput (Run words workers block) given) _ _
     (λ output (counted, answer, counts, owed, is). (record given { stop = counted }, answer, (counted, counts, refl), owed, is)) (λ order. order) out out' err err' status ends
 
 -- and `kahn`
-pub kahn_met : (Nothing : Type 0) (words : KahnWords) (given : Given) (out out' err err' : SeenSink) (status : ℕ) →
-    EndsRun (λ counted a. OwesKahn (kinds_of given.operators) a words.instants given.taken counted) (λ counted. counted ≡ given.stop) Nothing given.operators (inferring_options words.scale words.lead) words.instants given.stop
+pub kahn_met : (Nothing : Type 0) (words : ProgramWords) (given : Given) (out out' err err' : SeenSink) (status : ℕ) →
+    EndsRunning (λ counted a. OwesKahn (kinds_of given.operators) a words.instants given.taken counted) (λ counted. counted ≡ given.stop) Nothing given.operators (inferring_options words.scale words.lead) words.instants given.stop
     given.fetched out out' err err' status → EndsBy (Owes (Kahn words) given) (MayStand (Kahn words) given) (MayFail (Kahn words) given out out') out out' err err' status
 kahn_met Nothing words given out out' err err' status ends =
     ends_more (Owes (Kahn words) given) _ (OwesOutput (Kahn words) given) _ _
     (λ output (counted, answer, same, owed, is). (given, answer, refl, subst (λ s. Owes (Kahn words) (record given { stop = s }) answer) same owed, is)) (λ order. tt) out out' err err' status ends
 
 -- and `trace`
-pub trace_met : (Nothing : Type 0) (words : TraceWords) (given : Given) (out out' err err' : SeenSink) (status : ℕ) →
-    EndsRun (λ counted a. OwesTrace a words.instants given.taken counted) (λ counted. counted ≡ given.stop) Nothing given.operators
+pub trace_met : (Nothing : Type 0) (words : ProgramWords) (workers : ℕ) (given : Given) (out out' err err' : SeenSink) (status : ℕ) →
+    EndsRunning (λ counted a. OwesTrace a words.instants given.taken counted) (λ counted. counted ≡ given.stop) Nothing given.operators
     (inferring_options words.scale words.lead) words.instants given.stop given.fetched out out' err err' status →
-    EndsBy (Owes (Trace words) given) (MayStand (Trace words) given) (MayFail (Trace words) given out out') out out' err err' status
-trace_met Nothing words given out out' err err' status ends =
-    ends_more (Owes (Trace words) given) _ (OwesOutput (Trace words) given) _ _
+    EndsBy (Owes (Trace words workers) given) (MayStand (Trace words workers) given) (MayFail (Trace words workers) given out out') out out' err err' status
+trace_met Nothing words workers given out out' err err' status ends =
+    ends_more (Owes (Trace words workers) given) _ (OwesOutput (Trace words workers) given) _ _
     (λ output (counted, answer, same, owed, is). (
       given,
       answer,
       refl,
-      subst (λ s. Owes (Trace words) (record given { stop = s }) answer)
+      subst (λ s. Owes (Trace words workers) (record given { stop = s }) answer)
           same owed,
       is,
     ))

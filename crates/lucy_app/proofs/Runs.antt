@@ -16,7 +16,7 @@ use Rattle.lucy_app.specs.Endings.{ended}
 use Rattle.lucy_app.specs.Commands.{HasText}
 use Rattle.lucy_app.specs.Running.{NoRun, IsRunnable, OwesEnded, OwesRunning}
 use Rattle.lucy_app.specs.Ends.{Tells}
-use Rattle.lucy_app.specs.Outcomes.{refusal_answer, TellsRefusal, TellsEnding, RunOutputs, EndsRun}
+use Rattle.lucy_app.specs.Outcomes.{refusal_answer, TellsRefusal, TellsEnding, RunOutputs, EndsRunning}
 use Rattle.lucy_app.specs.declared.refusal.Refusal.{Refusal}
 use Rattle.lucy_app.specs.declared.refusal.Refusal.TheVariants as refusal
 use Rattle.lucy_app.proofs.Sinks.{ends_refused}
@@ -41,7 +41,7 @@ module _ (Owed : Stop → Accepted → List ℕ → Ending → Type 0) (Counts :
 
   -- the program is not run, and why was told
   pub ends_unrun : (e : Refusal) (out out' err err' : SeenSink) (status : ℕ) → (e ≡ refusal.OutOfMemory) ⊎ OwesRunning NoRun ops o instants Unread fetched (refusal_answer e) → out' ≡ out →
-      TellsRefusal e err err' status → EndsRun Owed Counts InOrder ops o instants Unread fetched out out' err err' status
+      TellsRefusal e err err' status → EndsRunning Owed Counts InOrder ops o instants Unread fetched out out' err err' status
   ends_unrun e out out' err err' status (inl is) same told = ends_refused _ _ _ (inl refl) e out out' err err' status (inl is) same told
   ends_unrun e out out' err err' status (inr owed) same told = ends_refused _ _ _ (inl refl) e out out' err err' status (inr (unrun_owed (refusal_answer e) owed)) same told
 
@@ -58,19 +58,19 @@ module _ (Owed : Stop → Accepted → List ℕ → Ending → Type 0) (Counts :
 
     -- the output stands, and its ending was told
     whole : (output : List ℕ) (end : Ending) (out out' err err' : SeenSink) (status : ℕ) → Owed stop a output end → Writes out out' output → Tells (ended output end).status (ended output end).err err err' status →
-        EndsRun Owed Counts InOrder ops o instants stop fetched out out' err err' status
+        EndsRunning Owed Counts InOrder ops o instants stop fetched out out' err err' status
     whole output end out out' err err' status owed writes told = inl (ended output end, inl (answer_owed stop output end owed), record { printed = writes; told = told })
 
     -- or there was no memory for that
     untold : (output : List ℕ) (end : Ending) (out out' err err' : SeenSink) (status : ℕ) → Owed stop a output end → Writes out out' output → Tells 7 (out_of_memory output).err err err' status →
-        EndsRun Owed Counts InOrder ops o instants stop fetched out out' err err' status
+        EndsRunning Owed Counts InOrder ops o instants stop fetched out out' err err' status
     untold output end out out' err err' status owed writes told =
         let front = inr (output, length output, output_owed output (stop, end, counts, owed), sym (take_all (length output) output (omega arith))) in
         inl (out_of_memory output, inr (output, front, refl), record { printed = writes; told = told })
 
     -- the program is run, and how that ended was told
     pub ends_run : (end : Ending) (out out' err err' : SeenSink) (status : ℕ) → EndsWith (λ counted. Owed counted a) Counts stop out out' end → (end ≡ WriteFault → InOrder) → TellsEnding end err err' status →
-        EndsRun Owed Counts InOrder ops o instants stop fetched out out' err err' status
+        EndsRunning Owed Counts InOrder ops o instants stop fetched out out' err err' status
     ends_run Done out out' err err' status left order told = whole left.0 Done out out' err err' status left.1 left.2 told
     ends_run (Input fault) out out' err err' status left order (inl told) = whole left.0 (Input fault) out out' err err' status left.1 left.2 told
     ends_run (Input fault) out out' err err' status left order (inr told) = untold left.0 (Input fault) out out' err err' status left.1 left.2 told

@@ -1,10 +1,11 @@
 -- What a command owes that runs a program is one answer, but for the evidence of a refusal.
 use Rattle.lucy_front.specs.declared.options.Options.{Options}
-use Rattle.std.proofs.Common.{ℕ, ◌≡◌, List, [], Option, Result, ap, sym, ◌∙◌, subst, inl, inr}
-use Rattle.std.specs.Prelude.{◌++◌, codes}
+use Rattle.std.proofs.Common.{ℕ, ◌≡◌, ◌⊎◌, List, [], ◌∷◌, Option, Result, Ok, Err, refl, ap, sym, ◌∙◌, subst, inl, inr}
+use Rattle.std.specs.Prelude.{ℤ, ◌++◌, codes}
 use Rattle.lucy_host.specs.Operators.{Operator}
 use Rattle.lucy_host.specs.declared.kind.HostKind.{HostKind}
 use Rattle.lucy_text.specs.declared.shelf.ShelfError.{ShelfError}
+use Rattle.lucy_lines.specs.declared.reader.TextFault.{TextFault}
 use Rattle.lucy_feed.specs.Sources.{Stop}
 use Rattle.lucy_meaning.specs.Horizons.{IsHorizon}
 use Rattle.lucy_place.specs.declared.placed.PlacedNode.{PlacedNode}
@@ -24,12 +25,13 @@ use Rattle.lucy_run.specs.Feeds.{Feeds}
 use Rattle.lucy_run.specs.Owes.{most_instants, stream_lines, EndsFor, Interprets, IsFed, OwesRun, OwesKahn}
 use Rattle.lucy_run.specs.Tracing.{OwesTrace}
 use Rattle.lucy_run.specs.Laws.{OneRun, OneInterpretation, OneTrace}
-use Rattle.lucy_app.specs.Answers.{Answer, AreTracedAlike, AreOneBut, AlikeBut}
+use Rattle.lucy_app.specs.Commands.{HasText}
+use Rattle.lucy_app.specs.Answers.{Answer, AreTracedAlike, AreOneBut, AreRefusedAlike}
 use Rattle.lucy_app.specs.Check.{RefusesCheck}
-use Rattle.lucy_app.specs.Endings.{ending_status, ending_line, ended}
+use Rattle.lucy_app.specs.Endings.{ending_told, ended}
 use Rattle.lucy_app.specs.Running.{LacksInstants, OwesEnded, OwesRunning}
 use Rattle.lucy_app.proofs.Checked.{checks_apart, checks_alike}
-use Rattle.lucy_app.proofs.OwedPrograms.{IsDecided, text_owes_one}
+use Rattle.lucy_app.proofs.OwedPrograms.{IsDecided, text_owes_one, text_owes_but}
 
 -- what two programs of one text have in common: all that is run
 pub record AreSame (a b : Accepted) : Type 0 where
@@ -140,7 +142,7 @@ module _ (Differ : Answer → Answer → Type 0) (Owed : Accepted → List ℕ �
   }
 
   pub runs_alike : (fetched : List (Result (List ℕ) ShelfError)) (x y : Answer) → OwesRunning Owed ops o instants stop fetched x →
-      OwesRunning Owed ops o instants stop fetched y → AlikeBut Differ x y
+      OwesRunning Owed ops o instants stop fetched y → AreOneBut Differ x y ⊎ AreRefusedAlike x y
   runs_alike fetched x y h k =
       text_owes_one Differ (RefusesCheck ops o)
       (λ text told. (a : Accepted) × IsAccepted ops o text a × OwesEnded (Owed a) instants stop a told)
@@ -154,9 +156,41 @@ pub kahn_once : OneInterpretation → (kinds : List HostKind) (instants : Option
 kahn_once law kinds instants taken stop a b output other end way same h k = law kinds b instants taken stop output other end way (kahn_moves kinds a b same instants taken stop output end h) k
 
 -- traces of programs of one text end alike
-pub trace_once : OneTrace → (instants : Option ℕ) (taken : List ℕ) (stop : Stop) →
-    OwesOneBut AreTracedAlike (λ a. OwesTrace a instants taken stop)
-trace_once law instants taken stop a b output other end way same h k =
-    let (ends, horizon, one, two) = law b instants taken stop output other end way
-    (trace_moves [] a b same instants taken stop output end h) k in
-    inr (ap ending_status ends, ap ending_line ends, b.net, horizon, one, two)
+module _ (law : OneTrace) (ops : List Operator) (o : Options) (instants : Option ℕ) (taken : List ℕ) (stop : Stop) where
+  -- the net and the horizon of the run of what was fetched
+  abbrev Runs : List (Result (List ℕ) ShelfError) → Net → (horizon : ℕ) → Type 0
+  Runs fetched net horizon = HasText fetched (λ text. (a : Accepted) × IsAccepted ops o text a × (a.net ≡ net)
+      × (lists : List (List ℤ)) × (fault : Option TextFault) × IsFed a instants taken stop lists fault horizon)
+
+  -- what is owed of a text
+  abbrev Owed : List ℕ → Answer → Type 0
+  Owed text told = (a : Accepted) × IsAccepted ops o text a × OwesEnded (OwesTrace a instants taken stop) instants stop a told
+
+  traced_one : (text : List ℕ) (more : List (Result (List ℕ) ShelfError)) (a b : Accepted) (x y : Answer) → IsAccepted ops o text a →
+      IsAccepted ops o text b → OwesEnded (OwesTrace a instants taken stop) instants stop a x →
+      OwesEnded (OwesTrace b instants taken stop) instants stop b y → AreOneBut (AreTracedAlike (Runs (Ok text ∷ more))) x y
+  traced_one text more a b x y is also (inl h) (inl k) = inl (h.1 ∙ sym k.1)
+  traced_one text more a b x y is also (inl h) (inr k) = absurd (k.0 (sym (accepted_same ops o text a b is also).inputs ∙ h.0.0, h.0.1))
+  traced_one text more a b x y is also (inr h) (inl k) = absurd (h.0 (sym (accepted_same ops o text b a also is).inputs ∙ k.0.0, k.0.1))
+  traced_one text more a b x y is also (inr h) (inr k) =
+      let (ends, lists, fault, horizon, fed, one, two) = law b instants taken stop h.1 k.1 h.2 k.2
+      (trace_moves [] a b (accepted_same ops o text a b is also) instants taken stop h.1 h.2 h.3) k.3 in
+      let P : Answer → Type 0 = λ u. AreOneBut (AreTracedAlike (Runs (Ok text ∷ more))) u y in
+      let Q : Answer → Type 0 = λ u. AreOneBut (AreTracedAlike (Runs (Ok text ∷ more))) (ended h.1 h.2) u in
+      subst P (sym h.4) (subst Q (sym k.4)
+      (inr (ap (λ e. (ending_told e).0) ends, ap (λ e. (ending_told e).1) ends, b.net, horizon, (b, also, refl, lists, fault, fed), one, two)))
+
+  fetched_one : (fetched : List (Result (List ℕ) ShelfError)) (x y : Answer) → HasText fetched (λ text. Owed text x) →
+      HasText fetched (λ text. Owed text y) → AreOneBut (AreTracedAlike (Runs fetched)) x y
+  fetched_one [] x y h k = absurd h
+  fetched_one (Ok text ∷ more) x y h k = traced_one text more h.0 k.0 x y h.1 k.1 h.2 k.2
+  fetched_one (Err e ∷ more) x y h k = absurd h
+
+  pub traces_alike : (fetched : List (Result (List ℕ) ShelfError)) (x y : Answer) →
+      OwesRunning (λ a. OwesTrace a instants taken stop) ops o instants stop fetched x →
+      OwesRunning (λ a. OwesTrace a instants taken stop) ops o instants stop fetched y →
+      AreOneBut (AreTracedAlike (Runs fetched)) x y ⊎ AreRefusedAlike x y
+  traces_alike fetched x y h k =
+      text_owes_but (λ u v. Unit {0}) (RefusesCheck ops o) Owed
+      (run_decided (λ u v. Unit {0}) (λ a. OwesTrace a instants taken stop) (λ a b out other end way same p q. inr tt) ops o instants stop)
+      (AreTracedAlike (Runs fetched)) stop fetched (fetched_one fetched) x y h k

@@ -6,11 +6,11 @@ use Rattle.lucy_text.proofs.OutsideLaws.{appended-nil}
 use Rattle.lucy_command.specs.Commands.{Command, Order, Show, Types, Check, Clocks, Run, Kahn, Make, Tighten, Replay, Trace}
 use Rattle.lucy_text.specs.Outside.{SeenSink, Writes}
 use Rattle.lucy_app.specs.World.{World, Given, Meets}
-use Rattle.lucy_app.specs.Lines.{words_line, read_fault_line, instants_line, no_buffer_line, write_fault_line}
+use Rattle.lucy_app.specs.Lines.{read_fault_line, write_fault_line}
 use Rattle.lucy_front.specs.Refusals.{memory_line}
-use Rattle.lucy_app.specs.Answers.{Answer, printed, no_command, out_of_memory}
+use Rattle.lucy_app.specs.Answers.{Answer, printed, no_command, no_instants, no_buffer, out_of_memory}
 use Rattle.lucy_app.specs.Owes.{Owes, MayCount}
-use Rattle.lucy_app.specs.Ends.{Tells, MayAnswer, EndsBy, MayStand, StopsInOrder, MayFail, EndsWith, Declines, EndsSo, Ends}
+use Rattle.lucy_app.specs.Ends.{Tells, MayAnswer, EndsBy, MayStand, StopsInOrder, MayFail, EndsGiven, Declines, EndsSo, Ends}
 use Rattle.lucy_run.specs.declared.ending.Ending.{Ending}
 use Rattle.lucy_run.specs.declared.ending.Ending.TheVariants as ending
 use Rattle.lucy_app.specs.Outcomes.{refusal_answer, IsOutcome, TellsRefusal, Delivers, TellsEnding}
@@ -54,7 +54,7 @@ module _ (Owed : Answer → Type 0) (Stands Failing : List ℕ → Type 0) (noth
 
 -- what a command has met counts as it is
 counts_itself : (command : Command) (given : Given) → MayCount command given given
-counts_itself (Run words) given = (given.stop, inl refl, refl)
+counts_itself (Run words workers block) given = (given.stop, inl refl, refl)
 counts_itself Order given = refl
 counts_itself (Show file) given = refl
 counts_itself (Types file) given = refl
@@ -62,13 +62,13 @@ counts_itself (Check file) given = refl
 counts_itself (Clocks words) given = refl
 counts_itself (Kahn words) given = refl
 counts_itself (Make words) given = refl
-counts_itself (Tighten words) given = refl
-counts_itself (Replay words) given = refl
-counts_itself (Trace words) given = refl
+counts_itself (Tighten words node buffer) given = refl
+counts_itself (Replay words log) given = refl
+counts_itself (Trace words workers) given = refl
 
 -- a command that came out so, and whose outcome was delivered
 ends_so : (command : Command) (given : Given) (outcome : Result (Vec ℕ Global) Refusal) (before after : World) (status : ℕ) → MayStand command given [] → StopsInOrder command given before.out after.out →
-    IsOutcome (Owes command given) outcome → Delivers outcome before.out after.out before.err after.err status → EndsWith command given before after status
+    IsOutcome (Owes command given) outcome → Delivers outcome before.out after.out before.err after.err status → EndsGiven command given before after status
 ends_so command given (Ok print) before after status nothing order owed (inl answers) = inl (printed print.items, inl owed, answers)
 ends_so command given (Ok print) before after status nothing order owed (inr breaks) = inr (print.items, ((given, printed print.items, counts_itself command given, owed, refl), order), breaks)
 ends_so command given (Err e) before after status nothing order owed told =
@@ -81,13 +81,13 @@ tells_fault e err err' status is told =
     subst P (sym is) (inl told)
 
 -- or that the instants are missing
-pub tells_missing : (e : Refusal) (err err' : SeenSink) (status : ℕ) → e ≡ NoInstants → Tells 2 instants_line err err' status → TellsRefusal e err err' status
+pub tells_missing : (e : Refusal) (err err' : SeenSink) (status : ℕ) → e ≡ NoInstants → Tells 2 no_instants.err err err' status → TellsRefusal e err err' status
 tells_missing e err err' status is told =
     let P : Refusal → Type 0 = λ r. TellsRefusal r err err' status in
     subst P (sym is) (inl told)
 
 -- or that the buffer isn't there
-pub tells_lost : (e : Refusal) (err err' : SeenSink) (status : ℕ) → e ≡ NoBuffer → Tells 2 no_buffer_line err err' status →
+pub tells_lost : (e : Refusal) (err err' : SeenSink) (status : ℕ) → e ≡ NoBuffer → Tells 2 no_buffer.err err err' status →
     TellsRefusal e err err' status
 tells_lost e err err' status is told =
     let P : Refusal → Type 0 = λ r. TellsRefusal r err err' status in
@@ -106,7 +106,7 @@ declines answer before after status none shelf source out told = (shelf, source,
 
 -- words that name no command
 pub ends_none : (found : Option Command) (before after : World) (status : ℕ) → None ≡ found → after.shelf ≡ before.shelf → after.source ≡ before.source → after.out ≡ before.out →
-    Tells 2 words_line before.err after.err status → Ends found before after status
+    Tells 2 no_command.err before.err after.err status → Ends found before after status
 ends_none found before after status is shelf source out told =
     let P : Option Command → Type 0 = λ o. Ends o before after status in
     subst P is (declines no_command before after status refl shelf source out told)
@@ -131,7 +131,7 @@ ends_some found command given outcome before after status is met nothing order o
     subst P is (given, met, ends_so command given outcome before after status nothing order owed told)
 
 -- and that ends so
-pub ends_with : (found command : Command) (given : Given) (before after : World) (status : ℕ) → command ≡ found → Meets command before after given → EndsWith command given before after status →
+pub ends_with : (found command : Command) (given : Given) (before after : World) (status : ℕ) → command ≡ found → Meets command before after given → EndsGiven command given before after status →
     EndsSo found before after status
 ends_with found command given before after status is met ends =
     let P : Command → Type 0 = λ c. EndsSo c before after status in

@@ -9,15 +9,15 @@ use Rattle.lucy_feed.specs.Sources.{Stop, Ended, Failed, Passed}
 use Rattle.lucy_text.specs.Outside.{SeenSink}
 use Rattle.lucy_app.specs.World.{World, Given}
 use Rattle.lucy_app.specs.ProgramRefusals.{program_status}
-use Rattle.lucy_app.specs.InputRefusals.{input_status}
+use Rattle.lucy_app.specs.InputRefusals.{input_told}
 use Rattle.lucy_app.specs.Answers.{Answer, no_command}
 use Rattle.lucy_app.specs.Show.{IsPrintOf, RefusesSyntax}
 use Rattle.lucy_app.specs.Types.{IsReportOf, RefusesText}
 use Rattle.lucy_app.specs.Check.{IsCheckOf, RefusesCheck}
 use Rattle.lucy_app.specs.Owes.{OwesOrder, Owes}
 use Rattle.lucy_app.specs.Programs.{OwesRefusal, OwesText, OwesPrint}
-use Rattle.lucy_app.specs.Tighten.{OwesSize, OwesBuffer, OwesTight}
-use Rattle.lucy_app.specs.Endings.{fault_status, ending_status}
+use Rattle.lucy_app.specs.Tighten.{OwesSize, OwesBuffer, OwesNamed}
+use Rattle.lucy_app.specs.Endings.{fault_told, ending_told}
 use Rattle.lucy_app.specs.Running.{NoRun, OwesEnded, OwesRunning}
 use Rattle.lucy_app.specs.Replaying.{replayed, OwesEvents, OwesLog, OwesLogged}
 use Rattle.lucy_trace.specs.declared.error.TraceError.{TraceError}
@@ -32,7 +32,7 @@ use Rattle.lucy_run.specs.Owes.{OwesRun, OwesKahn}
 use Rattle.lucy_run.specs.Tracing.{OwesTrace}
 use Rattle.lucy_make.specs.Text.{made_text}
 use Rattle.lucy_make.specs.Owes.{OwesSummary}
-use Rattle.lucy_app.specs.Ends.{Tells, MayAnswer, MayStand, EndsWith, Ends}
+use Rattle.lucy_app.specs.Ends.{Tells, MayAnswer, MayStand, EndsGiven, Ends}
 use Rattle.lucy_front.specs.Refusals.{memory_line}
 use Rattle.lucy_front.specs.declared.refusal.Refusal.{Refusal}
 use Rattle.lucy_front.specs.declared.refusal.Refusal.TheVariants as program
@@ -44,9 +44,11 @@ program_within (program.Limit passed) = omega arith
 program_within program.OutOfMemory = omega arith
 program_within refusal = omega arith
 
-input_within : (cause : InputCause) → input_status cause ≤ 7
+input_within : (cause : InputCause) → (input_told cause).0 ≤ 7
+input_within (input.Count count) = omega arith
+input_within (input.BadWord number place) = omega arith
+input_within (input.NoOne number) = omega arith
 input_within (input.Limit passed) = omega arith
-input_within cause = omega arith
 
 same_within : (a b : Answer) → a ≡ b → b.status ≤ 7 → a.status ≤ 7
 same_within a b same h = omega (arith, ap (λ x. x.status) same, h)
@@ -81,14 +83,14 @@ print_within : (Prints : List ℕ → List ℕ → Type 0) (Refuses : List ℕ �
     OwesText Refuses (OwesPrint Prints) stop fetched a → a.status ≤ 7
 print_within Prints Refuses stop fetched a is = text_within Refuses (OwesPrint Prints) (λ text x h. same_within x _ h.2 (omega arith)) stop fetched a is
 
-fault_within : (e : TextFault) → fault_status e ≤ 7
+fault_within : (e : TextFault) → (fault_told e).0 ≤ 7
 fault_within (fault.BadLine number) = omega arith
 fault_within (fault.UnknownStream number) = omega arith
 fault_within (fault.BadValue number) = omega arith
 fault_within fault.ReadFault = omega arith
 fault_within fault.TooLong = omega arith
 
-ending_within : (end : Ending) → ending_status end ≤ 7
+ending_within : (end : Ending) → (ending_told end).0 ≤ 7
 ending_within ending.Done = omega arith
 ending_within (ending.Input e) = fault_within e
 ending_within (ending.Limit passed) = omega arith
@@ -142,19 +144,19 @@ owed_within (Check file) given a is = print_within (IsCheckOf given.operators wr
 owed_within (Clocks words) given a is =
     let o = inferring_options words.scale words.lead in
     print_within (IsCheckOf given.operators o) (RefusesCheck given.operators o) given.stop given.fetched a is
-owed_within (Run words) given a is =
+owed_within (Run words workers block) given a is =
     running_within (λ p. OwesRun (kinds_of given.operators) p words.instants given.taken given.stop) given.operators (inferring_options words.scale words.lead) words.instants given.stop given.fetched a is
 owed_within (Kahn words) given a is =
     running_within (λ p. OwesKahn (kinds_of given.operators) p words.instants given.taken given.stop) given.operators (inferring_options words.scale words.lead) words.instants given.stop given.fetched a is
 owed_within (Make words) given a is =
     running_within (OwesSummary words.stages (kinds_of given.operators)) given.operators (inferring_options 1 1) None given.stop (Ok (made_text words.stages) ∷ []) a is
-owed_within (Tighten words) given a is =
+owed_within (Tighten words node buffer) given a is =
     let o = inferring_options words.scale words.lead in
-    text_within (RefusesCheck given.operators o) (OwesTight given.operators o words)
-    (λ text x h. buffer_within h.0 o words.node words.buffer x h.2) given.stop given.fetched a is
-owed_within (Replay words) given a is =
+    text_within (RefusesCheck given.operators o) (OwesNamed given.operators o node buffer)
+    (λ text x h. buffer_within h.0 o node buffer x h.2) given.stop given.fetched a is
+owed_within (Replay words log) given a is =
     logged_within given.operators (inferring_options words.scale words.lead) words.instants given.taken given.stop given.fetched a is
-owed_within (Trace words) given a is =
+owed_within (Trace words workers) given a is =
     running_within (λ p. OwesTrace p words.instants given.taken given.stop) given.operators (inferring_options words.scale words.lead)
     words.instants given.stop given.fetched a is
 
@@ -166,7 +168,7 @@ tells_within : (told : ℕ) (lines : List ℕ) (err err' : SeenSink) (status : �
 tells_within told lines err err' status h (inl is) = omega (arith, is.0, h)
 tells_within told lines err err' status h (inr is) = omega (arith, is.0)
 
-ends_with_within : (command : Command) (given : Given) (before after : World) (status : ℕ) → EndsWith command given before after status → status ≤ 7
+ends_with_within : (command : Command) (given : Given) (before after : World) (status : ℕ) → EndsGiven command given before after status → status ≤ 7
 ends_with_within command given before after status (inl is) = tells_within is.0.status is.0.err before.err after.err status (answer_within command given is.0 is.1) is.2.told
 ends_with_within command given before after status (inr is) = tells_within 5 _ before.err after.err status (omega arith) is.2.told
 

@@ -1,6 +1,6 @@
 -- A command that nothing refuses is done, and its whole output stands, or memory runs out.
 use Rattle.std.proofs.Common.{ℕ, ◌+◌, ◌≡◌, ◌≤◌, ◌<◌, ◌⊎◌, List, [], ◌∷◌, ◌++◌, length, Option, Some, None, Result, Ok, Err, refl, ap, sym, ◌∙◌, subst, inl, inr, arith}
-use Rattle.std.specs.Prelude.{ℤ, ◌↔◌, IsSomeAnd, IfSome}
+use Rattle.std.specs.Prelude.{ℤ, ◌↔◌, IsTrue, IsSomeAnd, IfSome}
 use Rattle.std.proofs.lemmas.List.{length-append}
 use Rattle.lucy_word.specs.Limits.{limit_number}
 use Rattle.lucy_word.specs.Bits.{Bits}
@@ -15,7 +15,8 @@ use Rattle.lucy_text.specs.declared.shelf.ShelfError.TheVariants as shelf
 use Rattle.lucy_lines.specs.Laws.{OneCut}
 use Rattle.lucy_lines.specs.declared.input.InputSpec.{InputSpec}
 use Rattle.lucy_lines.specs.declared.reader.TextFault.{TextFault}
-use Rattle.lucy_feed.specs.Sources.{Stop, Ended, Drained, Failed, Passed, Read, StoppedAt}
+use Rattle.lucy_feed.specs.Sources.{Stop, Ended, Failed, Passed, Read, StoppedAt}
+use Rattle.lucy_feed.specs.Feeding.{is_closed}
 use Rattle.lucy_front.specs.declared.options.Options.{Options}
 use Rattle.lucy_front.specs.declared.accepted.Accepted.{Accepted}
 use Rattle.lucy_front.specs.declared.refusal.Refusal.{Refusal}
@@ -36,7 +37,7 @@ use Rattle.lucy_run.proofs.WholeLaws.{taken_front, taken_all}
 use Rattle.lucy_make.specs.Text.{made_text, made_input}
 use Rattle.lucy_make.specs.Figures.{figures}
 use Rattle.lucy_make.specs.Owes.{OwesSummary, printed_values, where_done}
-use Rattle.lucy_command.specs.Commands.{ReplayWords, Command, Order, Show, Types, Check, Clocks, Run, Kahn, Make, Tighten, Replay, Trace}
+use Rattle.lucy_command.specs.Commands.{ProgramWords, Command, Order, Show, Types, Check, Clocks, Run, Kahn, Make, Tighten, Replay, Trace}
 use Rattle.lucy_app.specs.Commands.{written_options, inferring_options, Wanted, program_of, log_of}
 use Rattle.lucy_app.specs.World.{World, Given, Fetched, Fetches, Meets}
 use Rattle.lucy_app.specs.Answers.{Answer, printed, out_of_memory}
@@ -48,7 +49,7 @@ use Rattle.lucy_app.specs.Endings.{ended}
 use Rattle.lucy_app.specs.Programs.{OwesText, OwesPrint}
 use Rattle.lucy_app.specs.Running.{NoRun, IsRunnable, LacksInstants, OwesEnded, OwesRunning}
 use Rattle.lucy_app.specs.Owes.{OwesOrder, Owes}
-use Rattle.lucy_app.specs.Ends.{Answers, EndsWith, Declines}
+use Rattle.lucy_app.specs.Ends.{Answers, EndsGiven, Declines}
 use Rattle.lucy_app.specs.Complete.{IsFaultless, Holds, HoldsSuch, MayPrint, Completes}
 use Rattle.lucy_app.specs.Replaying.{replayed, OwesEvents, OwesLog, OwesLogged}
 use Rattle.lucy_app.proofs.ReplaysOnce.{picks_one, replay_moves}
@@ -56,7 +57,7 @@ use Rattle.lucy_app.proofs.Owed.{order_owes_one}
 use Rattle.lucy_app.proofs.Verdicts.{IsVerdict, show_verdict}
 use Rattle.lucy_app.proofs.Typed.{types_verdict}
 use Rattle.lucy_app.proofs.Checked.{checks_apart, check_verdict}
-use Rattle.lucy_app.specs.Tighten.{OwesTight}
+use Rattle.lucy_app.specs.Tighten.{OwesNamed}
 use Rattle.lucy_app.proofs.TightOnce.{OneTight, tight_unrefused, tight_printed}
 use Rattle.lucy_app.proofs.RunsOnce.{AreSame, accepted_same, run_moves, kahn_moves, trace_moves}
 use Rattle.lucy_app.proofs.MakesOnce.{whole_feeds, summary_moves}
@@ -74,7 +75,7 @@ Finishes May before after status =
 -- where each answer that is owed prints such an output, the command is done
 such_done : (May : List ℕ → Type 0) (command : Command) (before after : World) (given : Given) (status : ℕ) →
     ((answer : Answer) → Owes command given answer → IsSuch May answer) → IsFaultless before after →
-    EndsWith command given before after status → Finishes May before after status
+    EndsGiven command given before after status → Finishes May before after status
 such_done May command before after given status same well (inl (answer, inl owed, answers)) =
     let (output, may, is) = same answer owed in
     let P : Answer → Type 0 = λ a. Answers a before.out after.out before.err after.err status in
@@ -87,7 +88,7 @@ such_done May command before after given status same well (inr (printing, owed, 
 -- so where each is this output
 done : (May : List ℕ → Type 0) (command : Command) (before after : World) (given : Given) (output : List ℕ) (status : ℕ) → May output →
     ((answer : Answer) → Owes command given answer → answer ≡ printed output) → IsFaultless before after →
-    EndsWith command given before after status → Finishes May before after status
+    EndsGiven command given before after status → Finishes May before after status
 done May command before after given output status may same well ends =
     such_done May command before after given status (λ answer owed. (output, may, same answer owed)) well ends
 
@@ -199,20 +200,20 @@ module _ (before after : SeenShelf) (file : Wanted) (text : List ℕ) where
       (λ more x h. ran_done Owed ops o instants stop text more a Such is ends x h) holds well fetched met answer owed
 
 -- the input that `make` generates is what it runs on
-made_fed : OneCut → (inputs : List InputSpec) (stop : Stop) (lists others : List (List ℤ)) (fault : Option TextFault) → (inputs ≡ [] → ⊥) → (stop ≡ Ended) ⊎ (stop ≡ Drained) →
+made_fed : OneCut → (inputs : List InputSpec) (stop : Stop) (lists others : List (List ℤ)) (fault : Option TextFault) → (inputs ≡ [] → ⊥) → IsTrue (is_closed stop) →
     IsInput inputs (Some made_input) lists → Feeds inputs made_input stop others fault → (others ≡ lists) × (fault ≡ None)
 made_fed cut [] stop lists others fault some whole is fed = absurd (some refl)
-made_fed cut (input ∷ inputs) stop lists others fault some whole is fed = whole_feeds cut (input ∷ inputs) made_input stop Ended others lists fault None whole (inl refl) fed is
+made_fed cut (input ∷ inputs) stop lists others fault some whole is fed = whole_feeds cut (input ∷ inputs) made_input stop Ended others lists fault None whole refl fed is
 
 made_ends : OneCut → OneHorizon → (stages : ℕ) (kinds : List HostKind) (a : Accepted) (lists : List (List ℤ)) (horizon : ℕ) (output : List ℕ) (end : Ending) → (LacksInstants a None → ⊥) →
     IsFedWell a None (Some made_input) lists horizon → OwesSummary stages kinds a output end → ended output end ≡ printed (figures stages a.net horizon (printed_values kinds a lists horizon))
-made_ends cut horizons stages kinds a lists horizon output end runs fed (others, other, made, is) =
-    let (same, none) = made_fed cut a.inputs.items made.stop lists others made.fault (λ e. runs (e, refl)) made.whole fed.input made.feeds in
+made_ends cut horizons stages kinds a lists horizon output end runs fed (stop, others, fault, other, whole, made, ends, is) =
+    let (same, none) = made_fed cut a.inputs.items stop lists others fault (λ e. runs (e, refl)) whole fed.input made.feeds in
     let words : List Bits = input_words a in
     let last : other ≡ horizon = horizons words lists (most_instants None) other horizon (subst (λ ls. IsHorizonOf words None ls other) same made.horizon_is) fed.horizon_is in
     let P : Option TextFault → Type 0 = λ f. EndsFor words None lists f end in
-    let Q : List (List ℤ) → Type 0 = λ ls. EndsFor words None ls made.fault end in
-    let over : end ≡ ending.Done = done_for words None lists end fed.few (subst P none (subst Q same made.ends)) in
+    let Q : List (List ℤ) → Type 0 = λ ls. EndsFor words None ls fault end in
+    let over : end ≡ ending.Done = done_for words None lists end fed.few (subst P none (subst Q same ends)) in
     ap (λ e. ended output e) over
     ∙ ap printed (is ∙ ap (λ e. where_done e (figures stages a.net other (printed_values kinds a others other))) over
     ∙ ap (λ ls. figures stages a.net other (printed_values kinds a ls other)) same ∙ ap (λ t. figures stages a.net t (printed_values kinds a lists t)) last)
@@ -233,9 +234,9 @@ ended_printed : (out output : List ℕ) (end : Ending) → (out ≡ output) × (
 ended_printed out output end (same, over) = ap (λ e. ended out e) over ∙ ap printed same
 
 -- a log of a program that can be run is replayed to its end, where nothing refuses it
-module _ (again : CompleteReplay) (ops : List Operator) (words : ReplayWords) (taken : List ℕ) (stop : Stop) (before after : World) (a : Accepted) (lists : List (List ℤ)) (horizon : ℕ) (picks : List ℕ)
+module _ (again : CompleteReplay) (ops : List Operator) (words : ProgramWords) (name : List ℕ) (taken : List ℕ) (stop : Stop) (before after : World) (a : Accepted) (lists : List (List ℤ)) (horizon : ℕ) (picks : List ℕ)
     (text log : List ℕ) (held : Holds before.shelf (program_of words.file) text) (can : IsRunnable ops (inferring_options words.scale words.lead) words.instants text a)
-    (logs : Holds before.shelf (log_of words.log) log) (reads : AreRead (picks_of log) picks) (fed : IsFedWell a words.instants before.source.left lists horizon)
+    (logs : Holds before.shelf (log_of name) log) (reads : AreRead (picks_of log) picks) (fed : IsFedWell a words.instants before.source.left lists horizon)
     (run : CanRun (first_core ops a lists horizon) picks) (well : IsFaultless before after) (source : Read (limit_number limit.Input) before.source after.source taken stop) where
   -- it prints the text of these events
   abbrev Prints : Answer → Type 0
@@ -254,13 +255,13 @@ module _ (again : CompleteReplay) (ops : List Operator) (words : ReplayWords) (t
 
   -- the fetches gave both texts, or memory ran out
   second_done : (between middle : SeenShelf) (t : List ℕ) (second : Result (List ℕ) ShelfError) (answer : Answer) → Fetched (program_of words.file) before.shelf between (Ok t) →
-      Fetched (log_of words.log) between middle second → after.shelf ≡ middle →
+      Fetched (log_of name) between middle second → after.shelf ≡ middle →
       OwesLogged ops (inferring_options words.scale words.lead) words.instants taken stop (Ok t ∷ (second ∷ [])) answer → Prints answer
   second_done between middle t second answer first next e (b, runs, owed) =
       let same_text : t ≡ text = text_held before.shelf between (program_of words.file) text before.shelf.files t refl held.0 first in
       let same : AreSame b a = accepted_same ops (inferring_options words.scale words.lead) text b a (subst (λ u. IsAccepted ops (inferring_options words.scale words.lead) u b) same_text runs.0) can.0 in
       let calm : Rose between.faults middle.faults → ⊥ = λ rose. well.shelf (subst (λ n. Rose n after.shelf.faults) first.faults (subst (λ (s : SeenShelf). Rose between.faults s.faults) (sym e) rose)) in
-      elim (fetched_so between middle (log_of words.log) log before.shelf.files second first.files logs.0 logs.1 calm next) [
+      elim (fetched_so between middle (log_of name) log before.shelf.files second first.files logs.0 logs.1 calm next) [
         | inl is ↦ log_done b same answer (subst (λ r. OwesLog (OwesEvents ops b words.instants taken stop) stop r answer) is owed)
         | inr is ↦ absurd (let none : OwesLog (OwesEvents ops b words.instants taken stop) stop (Err shelf.OutOfMemory) answer = subst (λ r. OwesLog (OwesEvents ops b words.instants taken stop) stop r answer) is owed in none)
       ]
@@ -280,7 +281,7 @@ module _ (again : CompleteReplay) (ops : List Operator) (words : ReplayWords) (t
         | inr is ↦ elim (subst P is owed) [ inl none ↦ none.0 | inr none ↦ none ]
       ]
 
-  logged_so : (fetched : List (Result (List ℕ) ShelfError)) → Fetches (program_of words.file ∷ (log_of words.log ∷ [])) before.shelf after.shelf fetched → (answer : Answer) →
+  logged_so : (fetched : List (Result (List ℕ) ShelfError)) → Fetches (program_of words.file ∷ (log_of name ∷ [])) before.shelf after.shelf fetched → (answer : Answer) →
       OwesLogged ops (inferring_options words.scale words.lead) words.instants taken stop fetched answer → Prints answer
   logged_so [] met answer owed = absurd owed
   logged_so (first ∷ []) (between, met, e) answer owed = absurd (first_done between first answer met e owed)
@@ -288,22 +289,22 @@ module _ (again : CompleteReplay) (ops : List Operator) (words : ReplayWords) (t
   logged_so (Err f ∷ (second ∷ [])) met answer owed = absurd owed
   logged_so (first ∷ (second ∷ (third ∷ more))) met answer owed = absurd owed
 
-logged_done : CompleteReplay → (ops : List Operator) (words : ReplayWords) (taken : List ℕ) (stop : Stop) (before after : World) →
-    (suits : (a : Accepted) × (lists : List (List ℤ)) × (horizon : ℕ) × (picks : List ℕ)
+logged_done : CompleteReplay → (ops : List Operator) (words : ProgramWords) (name : List ℕ) (taken : List ℕ) (stop : Stop) (before after : World) →
+    (suits : (a : Accepted) × (lists : List (List ℤ)) × (horizon : ℕ)
     × HoldsSuch (λ text. IsRunnable ops (inferring_options words.scale words.lead) words.instants text a) before.shelf (program_of words.file)
-    × HoldsSuch (λ log. AreRead (picks_of log) picks) before.shelf (log_of words.log)
-    × IsFedWell a words.instants before.source.left lists horizon × CanRun (first_core ops a lists horizon) picks) →
+    × IsFedWell a words.instants before.source.left lists horizon × (picks : List ℕ)
+    × HoldsSuch (λ log. AreRead (picks_of log) picks) before.shelf (log_of name) × CanRun (first_core ops a lists horizon) picks) →
     IsFaultless before after → Read (limit_number limit.Input) before.source after.source taken stop → (fetched : List (Result (List ℕ) ShelfError)) →
-    Fetches (program_of words.file ∷ (log_of words.log ∷ [])) before.shelf after.shelf fetched → (answer : Answer) →
+    Fetches (program_of words.file ∷ (log_of name ∷ [])) before.shelf after.shelf fetched → (answer : Answer) →
     OwesLogged ops (inferring_options words.scale words.lead) words.instants taken stop fetched answer →
-    (output : List ℕ) × IsReplayText (first_core ops suits.0 suits.1 suits.2) suits.0.placed.nodes suits.0.outputs.items suits.3 output × (answer ≡ printed output)
-logged_done again ops words taken stop before after (a, lists, horizon, picks, (text, held, can), (log, logs, reads), fed, run) well source fetched met answer owed =
-    logged_so again ops words taken stop before after a lists horizon picks text log held can logs reads fed run well source fetched met answer owed
+    (output : List ℕ) × IsReplayText (first_core ops suits.0 suits.1 suits.2) suits.0.placed.nodes suits.0.outputs.items suits.5 output × (answer ≡ printed output)
+logged_done again ops words name taken stop before after (a, lists, horizon, (text, held, can), fed, picks, (log, logs, reads), run) well source fetched met answer owed =
+    logged_so again ops words name taken stop before after a lists horizon picks text log held can logs reads fed run well source fetched met answer owed
 
 module _ (cut : OneCut) (horizons : OneHorizon) (run : CompleteRun) (kahn : CompleteInterpretation) (again : CompleteReplay)
     (trace : CompleteTrace) (tight : OneTight)
     (before after : World) (output : List ℕ) (status : ℕ) (well : IsFaultless before after) where
-  carried_out : (command : Command) (given : Given) → Meets command before after given → EndsWith command given before after status →
+  carried_out : (command : Command) (given : Given) → Meets command before after given → EndsGiven command given before after status →
       MayWith given.operators command before output → Finishes (MayWith given.operators command before) before after status
   carried_out Order given met ends suits =
       done (MayWith given.operators Order before) Order before after given output status suits
@@ -329,18 +330,18 @@ module _ (cut : OneCut) (horizons : OneHorizon) (run : CompleteRun) (kahn : Comp
       let o : Options = inferring_options words.scale words.lead in
       done (MayWith given.operators (Clocks words) before) (Clocks words) before after given output status suits
       (print_done before.shelf after.shelf (program_of words.file) text (IsCheckOf ops o) (RefusesCheck ops o) (check_verdict ops o) given.stop output is holds well.shelf given.fetched met.shelf) well ends
-  carried_out (Run words) given met ends suits =
+  carried_out (Run words workers block) given met ends suits =
       let (a, lists, horizon, (text, holds, is), fed, lines) = suits in
       let ops : List Operator = given.operators in
       let kinds : List HostKind = kinds_of ops in
       let instants : Option ℕ = words.instants in
-      done (MayWith given.operators (Run words) before) (Run words) before after given output status suits
+      done (MayWith given.operators (Run words workers block) before) (Run words workers block) before after given output status suits
       (run_done before.shelf after.shelf (program_of words.file) text (λ p. OwesRun kinds p instants given.taken given.stop) ops
       (inferring_options words.scale words.lead) instants given.stop a (λ x. x ≡ printed output) is
       (λ b out end same owed. ended_printed out (heading a ++ lines_to kinds a lists horizon) end (run kinds a instants before.source after.source given.taken given.stop lists horizon out end met.source well.source fed
       (run_moves kinds b a same instants given.taken given.stop out end owed)) ∙ ap printed (sym lines)) holds well.shelf given.fetched met.shelf) well ends
   carried_out (Kahn words) given met ends suits =
-      let (a, lists, horizon, (text, holds, is), fed, turns, items, lines) = suits in
+      let (a, lists, horizon, (text, holds, is), fed, (turns, items, lines)) = suits in
       let ops : List Operator = given.operators in
       let kinds : List HostKind = kinds_of ops in
       let instants : Option ℕ = words.instants in
@@ -357,33 +358,33 @@ module _ (cut : OneCut) (horizons : OneHorizon) (run : CompleteRun) (kahn : Comp
       (ran_done (λ p. OwesSummary stages kinds p) given.operators (inferring_options 1 1) None given.stop (made_text stages) [] a
       (λ x. x ≡ printed output) is
       (λ b out end same owed. made_ends cut horizons stages kinds a lists horizon out end is.1 fed (summary_moves stages kinds b a same out end owed) ∙ ap printed (sym lines))) well ends
-  carried_out (Tighten words) given met ends suits =
+  carried_out (Tighten words node buffer) given met ends suits =
       let ops : List Operator = given.operators in
       let o : Options = inferring_options words.scale words.lead in
       let (text, holds, is) = suits in
-      such_done (MayWith ops (Tighten words) before) (Tighten words) before after given status
-      (text_done before.shelf after.shelf (program_of words.file) text (RefusesCheck ops o) (OwesTight ops o words) given.stop
-      (IsSuch (MayWith ops (Tighten words) before))
+      such_done (MayWith ops (Tighten words node buffer) before) (Tighten words node buffer) before after given status
+      (text_done before.shelf after.shelf (program_of words.file) text (RefusesCheck ops o) (OwesNamed ops o node buffer) given.stop
+      (IsSuch (MayWith ops (Tighten words node buffer) before))
       (λ more answer h. elim h [
-        | inl refused ↦ absurd (tight_unrefused ops o words text output refused.0.0 is refused.0.1)
+        | inl refused ↦ absurd (tight_unrefused ops o node buffer text output refused.0.0 is refused.0.1)
         | inr owed ↦ (
-            let (print, prints, told) = tight_printed tight ops o words text output answer is owed in
+            let (print, prints, told) = tight_printed tight ops o node buffer text output answer is owed in
             (print, (text, holds, prints), told))
       ]) holds well.shelf given.fetched met.shelf) well ends
-  carried_out (Replay words) given met ends suits =
-      such_done (MayWith given.operators (Replay words) before) (Replay words) before after given status
+  carried_out (Replay words name) given met ends suits =
+      such_done (MayWith given.operators (Replay words name) before) (Replay words name) before after given status
       (λ answer owed. (
-      let (output, text, is) = logged_done again given.operators words given.taken given.stop before after (suits.0, suits.1, suits.2, suits.3, suits.4, suits.5, suits.6, suits.7) well met.source given.fetched met.shelf answer owed in
-      let (a, lists, horizon, picks, held, log, fed, run, old) = suits in
-      (output, (a, lists, horizon, picks, held, log, fed, run, text), is)
+      let (output, text, is) = logged_done again given.operators words name given.taken given.stop before after (suits.0, suits.1, suits.2, suits.3, suits.4, suits.5.0, suits.5.1, suits.5.2) well met.source given.fetched met.shelf answer owed in
+      let (a, lists, horizon, held, fed, (picks, log, run, old)) = suits in
+      (output, (a, lists, horizon, held, fed, (picks, log, run, text)), is)
       )) well ends
-  carried_out (Trace words) given met ends suits =
+  carried_out (Trace words workers) given met ends suits =
       let (a, lists, horizon, (text, holds, is), fed, traced) = suits in
       let ops : List Operator = given.operators in
       let instants : Option ℕ = words.instants in
-      such_done (MayWith ops (Trace words) before) (Trace words) before after given status
+      such_done (MayWith ops (Trace words workers) before) (Trace words workers) before after given status
       (run_done before.shelf after.shelf (program_of words.file) text (λ p. OwesTrace p instants given.taken given.stop) ops
-      (inferring_options words.scale words.lead) instants given.stop a (IsSuch (MayWith ops (Trace words) before)) is
+      (inferring_options words.scale words.lead) instants given.stop a (IsSuch (MayWith ops (Trace words workers) before)) is
       (λ b out end same owed. (
       let whole = trace a instants before.source after.source given.taken given.stop lists horizon out end met.source well.source fed
       (trace_moves [] b a same instants given.taken given.stop out end owed) in

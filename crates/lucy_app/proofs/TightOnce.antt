@@ -18,10 +18,9 @@ use Rattle.lucy_tight.specs.declared.answer.TightError.TheVariants.{Fixed, Limit
 use Rattle.lucy_tight.specs.Least.{RefusesTightest}
 use Rattle.lucy_tight.specs.Tightening.{needs_at, TheBuffer, IsTightened, RefusesTight, AreAlike}
 use Rattle.lucy_tight.specs.Report.{tight_lines, fixed_lines}
-use Rattle.lucy_command.specs.Commands.{TightenWords}
 use Rattle.lucy_app.specs.Answers.{Answer, AreTightAlike, AreOneBut, printed, limit_passed}
 use Rattle.lucy_app.specs.Check.{RefusesCheck}
-use Rattle.lucy_app.specs.Tighten.{node_named, HasBuffer, IsTightPrint, OwesSize, OwesBuffer, OwesTight, IsTightOf}
+use Rattle.lucy_app.specs.Tighten.{node_named, HasBuffer, IsTightPrint, OwesSize, OwesBuffer, OwesNamed, IsTightOf}
 use Rattle.lucy_app.proofs.Checked.{checks_apart, checks_alike}
 use Rattle.lucy_app.proofs.OwedPrograms.{IsDecided}
 use Rattle.lucy_app.proofs.RunsOnce.{AreSame, accepted_same}
@@ -160,38 +159,38 @@ module _ (law : OneTight) (ops : List Operator) (text : List ℕ) (a : Accepted)
   buffer_alike name buffer x y (inr (has, owed)) (inr (holds, owes)) = size_alike (node_named a.placed.nodes name) buffer x y owed owes
 
 -- of a text answers are owed that tell the same of a buffer, but for the cycle
-pub tight_decided : OneTight → (ops : List Operator) (o : Options) (words : TightenWords) →
-    IsDecided AreTightAlike (RefusesCheck ops o) (OwesTight ops o words)
-tight_decided law ops o words = record {
+pub tight_decided : OneTight → (ops : List Operator) (o : Options) (name : List ℕ) (buffer : ℕ) →
+    IsDecided AreTightAlike (RefusesCheck ops o) (OwesNamed ops o name buffer)
+tight_decided law ops o name buffer = record {
   one = λ text x y h k.
       let same = accepted_same ops o text h.0 k.0 h.1 k.1 in
-      buffer_alike law ops text k.0 o k.1 words.node words.buffer x y (owes_moves h.0 k.0 same o words.node words.buffer x h.2) k.2;
+      buffer_alike law ops text k.0 o k.1 name buffer x y (owes_moves h.0 k.0 same o name buffer x h.2) k.2;
   apart = λ text x r h bad. checks_apart ops o text h.0 r h.1 bad;
   same = λ text r s h k. checks_alike ops o text r s h k;
 }
 
 -- a text of which something is printed isn't refused
-pub tight_unrefused : (ops : List Operator) (o : Options) (words : TightenWords) (text print : List ℕ) (r : Refusal) →
-    IsTightOf ops o words text print → RefusesCheck ops o text r → ⊥
-tight_unrefused ops o words text print r is bad = checks_apart ops o text is.0 r is.1 bad
+pub tight_unrefused : (ops : List Operator) (o : Options) (name : List ℕ) (buffer : ℕ) (text print : List ℕ) (r : Refusal) →
+    IsTightOf ops o name buffer text print → RefusesCheck ops o text r → ⊥
+tight_unrefused ops o name buffer text print r is bad = checks_apart ops o text is.0 r is.1 bad
 
 -- and what is owed of it may be printed
-pub tight_printed : OneTight → (ops : List Operator) (o : Options) (words : TightenWords) (text print : List ℕ) (answer : Answer) →
-    IsTightOf ops o words text print → OwesTight ops o words text answer →
-    (other : List ℕ) × IsTightOf ops o words text other × (answer ≡ printed other)
-tight_printed law ops o words text print answer (a, is, has, prints) (b, also, inl (lacks, told)) =
-    absurd (lacks (has_moves a b (accepted_same ops o text a b is also) o words.node words.buffer has))
-tight_printed law ops o words text print answer (a, is, has, prints) (b, also, inr (holds, inl (other, printing, told))) =
+pub tight_printed : OneTight → (ops : List Operator) (o : Options) (name : List ℕ) (buffer : ℕ) (text print : List ℕ) (answer : Answer) →
+    IsTightOf ops o name buffer text print → OwesNamed ops o name buffer text answer →
+    (other : List ℕ) × IsTightOf ops o name buffer text other × (answer ≡ printed other)
+tight_printed law ops o name buffer text print answer (a, is, has, prints) (b, also, inl (lacks, told)) =
+    absurd (lacks (has_moves a b (accepted_same ops o text a b is also) o name buffer has))
+tight_printed law ops o name buffer text print answer (a, is, has, prints) (b, also, inr (holds, inl (other, printing, told))) =
     (other, (b, also, holds, printing), told)
-tight_printed law ops o words text print answer (a, is, has, prints) (b, also, inr (holds, inr (l, refused, told))) =
+tight_printed law ops o name buffer text print answer (a, is, has, prints) (b, also, inr (holds, inr (l, refused, told))) =
     let same = accepted_same ops o text a b is also in
-    absurd (print_apart law ops text b o also (node_named b.placed.nodes words.node) words.buffer print l
-    (named_moves a b same o words.node words.buffer print prints) refused)
+    absurd (print_apart law ops text b o also (node_named b.placed.nodes name) buffer print l
+    (named_moves a b same o name buffer print prints) refused)
 
 -- prints of one text are alike
-pub prints_alike : OneTight → (ops : List Operator) (o : Options) (words : TightenWords) (text x y : List ℕ) →
-    IsTightOf ops o words text x → IsTightOf ops o words text y → AreOneBut AreTightAlike (printed x) (printed y)
-prints_alike law ops o words text x y (a, is, has, prints) (b, also, holds, printing) =
+pub prints_alike : OneTight → (ops : List Operator) (o : Options) (name : List ℕ) (buffer : ℕ) (text x y : List ℕ) →
+    IsTightOf ops o name buffer text x → IsTightOf ops o name buffer text y → AreOneBut AreTightAlike (printed x) (printed y)
+prints_alike law ops o name buffer text x y (a, is, has, prints) (b, also, holds, printing) =
     let same = accepted_same ops o text a b is also in
-    print_alike law ops text b o also (node_named b.placed.nodes words.node) words.buffer x y
-    (named_moves a b same o words.node words.buffer x prints) printing
+    print_alike law ops text b o also (node_named b.placed.nodes name) buffer x y
+    (named_moves a b same o name buffer x prints) printing

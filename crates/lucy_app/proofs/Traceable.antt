@@ -35,6 +35,6 @@ has_trace net horizon picks whole =
     (trace_text rounds, (rounds, record { whole = all; some = some_of picks }, refl))
 
 pub run_suits : TracesSuit
-run_suits words before (printing, (a, lists, horizon, (text, held, can), fed, is)) =
+run_suits words workers block before (printing, (a, lists, horizon, (text, held, can), fed, is)) =
     let (output, traced) = has_trace a.net horizon (events_to (events_at a.schedule) horizon) (can.0.schedule.sound horizon) in
     (output, (a, lists, horizon, (text, held, can), fed, traced))

@@ -1,5 +1,5 @@
 -- The answers of commands.
-use Rattle.std.specs.Prelude.{ℕ, ◌≡◌, ◌⊎◌, List, []}
+use Rattle.std.specs.Prelude.{ℕ, ◌≡◌, ◌⊎◌, List, [], codes}
 use Rattle.lucy_word.specs.declared.limit.Limit.{Limit}
 use Rattle.lucy_front.specs.declared.refusal.Refusal.{Refusal}
 use Rattle.lucy_front.specs.Refusals.{limit_line, memory_line, refusal_text}
@@ -11,10 +11,10 @@ use Rattle.lucy_tight.specs.Report.{tight_lines}
 use Rattle.lucy_net.specs.declared.net.Net.{Net}
 use Rattle.lucy_trace.specs.Traces.{IsTraceText}
 use Rattle.lucy_trace.specs.declared.error.TraceError.{TraceError}
-use Rattle.lucy_command.specs.Commands.{Command, Tighten, Trace}
-use Rattle.lucy_app.specs.Lines.{instants_line, log_line, no_buffer_line, read_fault_line, words_line}
+use Rattle.lucy_command.specs.Commands.{Command, ProgramWords, Tighten, Trace}
+use Rattle.lucy_app.specs.Lines.{log_line, read_fault_line}
 use Rattle.lucy_app.specs.ProgramRefusals.{program_status}
-use Rattle.lucy_app.specs.InputRefusals.{input_status, input_line}
+use Rattle.lucy_app.specs.InputRefusals.{input_told}
 use Rattle.lucy_app.specs.declared.input_refusal.InputCause.{InputCause}
 
 -- an answer: its status, what stands on the output, and what stands on the fault sink
@@ -33,15 +33,15 @@ refused status lines = record { status = status; out = []; err = lines }
 
 -- the words name no command
 abbrev pub no_command : Answer
-no_command = refused 2 words_line
+no_command = refused 2 (codes "lucy: words\n")
 
 -- the words lack the instants of a program without inputs
 abbrev pub no_instants : Answer
-no_instants = refused 2 instants_line
+no_instants = refused 2 (codes "lucy: words: main has no inputs, give --instants\n")
 
 -- the program has no such buffer
 abbrev pub no_buffer : Answer
-no_buffer = refused 2 no_buffer_line
+no_buffer = refused 2 (codes "lucy: words: no such buffer\n")
 
 -- a fetch or a read failed, or no file has the name
 abbrev pub read_fault : Answer
@@ -57,7 +57,7 @@ program_refused refusal = refused (program_status refusal) (refusal_text refusal
 
 -- the input is refused for this cause
 abbrev pub input_refused : InputCause → Answer
-input_refused cause = refused (input_status cause) (input_line cause)
+input_refused cause = refused (input_told cause).0 (input_told cause).1
 
 -- a log is refused so
 abbrev pub log_refused : TraceError → Answer
@@ -78,25 +78,22 @@ AreTightAlike a b =
     (p : Accepted) × (node : ℕ) × (buffer : ℕ) × (t : Least) × (u : Least) × tight.AreAlike t u
     × (a ≡ printed (tight_lines p node buffer t)) × (b ≡ printed (tight_lines p node buffer u))
 
--- two answers end alike, and traces of one net up to one horizon stand on the output
-abbrev pub AreTracedAlike : Answer → Answer → Type 0
-AreTracedAlike a b =
-    (a.status ≡ b.status) × (a.err ≡ b.err) × (net : Net) × (instants : ℕ) × IsTraceText net instants a.out × IsTraceText net instants b.out
+-- two answers end alike, and traces of one net up to one horizon, which such a run has, stand on the output
+abbrev pub AreTracedAlike : (Runs : Net → (horizon : ℕ) → Type 0) → Answer → Answer → Type 0
+AreTracedAlike Runs a b =
+    (a.status ≡ b.status) × (a.err ≡ b.err) × (net : Net) × (horizon : ℕ) × Runs net horizon × IsTraceText net horizon a.out × IsTraceText net horizon b.out
 
--- in what more than a refusal's evidence the answers of a command may differ: of `tighten` in the cycle, of `trace` in the events' order
-abbrev pub MayDiffer : Command → Answer → Answer → Type 0
-MayDiffer (Tighten words) a b = AreTightAlike a b
-MayDiffer (Trace words) a b = AreTracedAlike a b
-MayDiffer command a b = ⊥
+-- in what more than a refusal's evidence the answers of a command may differ: of `tighten` in the cycle, of `trace` in the order of the
+-- events of such a run
+abbrev pub MayDiffer : (Runs : ProgramWords → Net → (horizon : ℕ) → Type 0) → Command → Answer → Answer → Type 0
+MayDiffer Runs (Tighten words node buffer) a b = AreTightAlike a b
+MayDiffer Runs (Trace words workers) a b = AreTracedAlike (Runs words) a b
+MayDiffer Runs command a b = ⊥
 
 -- two answers are one, or such ones
 abbrev pub AreOneBut : (Differ : Answer → Answer → Type 0) → Answer → Answer → Type 0
 AreOneBut Differ a b = (a ≡ b) ⊎ Differ a b
 
--- or they tell of refusals that are alike
-abbrev pub AlikeBut : (Differ : Answer → Answer → Type 0) → Answer → Answer → Type 0
-AlikeBut Differ a b = AreOneBut Differ a b ⊎ AreRefusedAlike a b
-
--- two answers of a command are one, but for the evidence of a refusal and for that
-abbrev pub Alike : Command → Answer → Answer → Type 0
-Alike command a b = AlikeBut (MayDiffer command) a b
+-- two answers of a command are one, but for that, or they tell of refusals that are alike
+abbrev pub Alike : (Runs : ProgramWords → Net → (horizon : ℕ) → Type 0) → Command → Answer → Answer → Type 0
+Alike Runs command a b = AreOneBut (MayDiffer Runs command) a b ⊎ AreRefusedAlike a b

@@ -39,20 +39,20 @@ files_of (Some (Show file)) = program_of file ∷ []
 files_of (Some (Types file)) = program_of file ∷ []
 files_of (Some (Check file)) = program_of file ∷ []
 files_of (Some (Clocks words)) = program_of words.file ∷ []
-files_of (Some (Run words)) = program_of words.file ∷ []
+files_of (Some (Run words workers block)) = program_of words.file ∷ []
 files_of (Some (Kahn words)) = program_of words.file ∷ []
-files_of (Some (Tighten words)) = program_of words.file ∷ []
-files_of (Some (Replay words)) = program_of words.file ∷ (log_of words.log ∷ [])
-files_of (Some (Trace words)) = program_of words.file ∷ []
+files_of (Some (Tighten words node buffer)) = program_of words.file ∷ []
+files_of (Some (Replay words log)) = program_of words.file ∷ (log_of log ∷ [])
+files_of (Some (Trace words workers)) = program_of words.file ∷ []
 files_of other = []
 
 -- how many bytes may be taken from the source, and one more, where the words name a command that may read it
 abbrev pub input_of : Option Command → Option ℕ
 input_of (Some Order) = Some (limit_number limit.OrderInput)
-input_of (Some (Run words)) = Some (limit_number limit.Input)
+input_of (Some (Run words workers block)) = Some (limit_number limit.Input)
 input_of (Some (Kahn words)) = Some (limit_number limit.Input)
-input_of (Some (Replay words)) = Some (limit_number limit.Input)
-input_of (Some (Trace words)) = Some (limit_number limit.Input)
+input_of (Some (Replay words log)) = Some (limit_number limit.Input)
+input_of (Some (Trace words workers)) = Some (limit_number limit.Input)
 input_of other = None
 
 -- what was fetched first is a text of which this holds
@@ -71,8 +71,8 @@ HasLog fetched = HasText (drop 1 fetched) (λ log. (picks : List ℕ) × AreRead
 -- a command takes these bytes from the source where the host has these operators and this was fetched
 abbrev pub ReadsSource : Command → List Operator → (fetched : List (Result (List ℕ) ShelfError)) → (taken : List ℕ) → Type 0
 ReadsSource Order ops fetched taken = Unit {0}
-ReadsSource (Run words) ops fetched taken = TakesInput ops (inferring_options words.scale words.lead) fetched taken
+ReadsSource (Run words workers block) ops fetched taken = TakesInput ops (inferring_options words.scale words.lead) fetched taken
 ReadsSource (Kahn words) ops fetched taken = TakesInput ops (inferring_options words.scale words.lead) fetched taken
-ReadsSource (Replay words) ops fetched taken = TakesInput ops (inferring_options words.scale words.lead) fetched taken × HasLog fetched
-ReadsSource (Trace words) ops fetched taken = TakesInput ops (inferring_options words.scale words.lead) fetched taken
+ReadsSource (Replay words log) ops fetched taken = TakesInput ops (inferring_options words.scale words.lead) fetched taken × HasLog fetched
+ReadsSource (Trace words workers) ops fetched taken = TakesInput ops (inferring_options words.scale words.lead) fetched taken
 ReadsSource command ops fetched taken = ⊥

@@ -14,7 +14,7 @@ use Rattle.lucy_app.specs.Commands.{inferring_options, HasText}
 use Rattle.lucy_app.specs.World.{World, Given, Meets}
 use Rattle.lucy_app.specs.Lines.{write_fault_line}
 use Rattle.lucy_app.specs.Answers.{Answer, no_command, out_of_memory}
-use Rattle.lucy_app.specs.Endings.{fault_status, fault_line, ending_status, ending_line}
+use Rattle.lucy_app.specs.Endings.{fault_told, ending_told}
 use Rattle.lucy_app.specs.Owes.{Owes, OwesOutput}
 
 -- the lines were told and the call ends with their status, or they failed
@@ -24,9 +24,9 @@ Tells told lines err err' status = ((status ≡ told) × Writes err err' lines) 
 -- how a run ended was told; of a fault or a limit, or else that memory ran out
 abbrev pub TellsEnding : Ending → (err err' : SeenSink) (status : ℕ) → Type 0
 TellsEnding (ending.Input fault) err err' status =
-    Tells (fault_status fault) (fault_line fault) err err' status ⊎ Tells 7 memory_line err err' status
+    Tells (fault_told fault).0 (fault_told fault).1 err err' status ⊎ Tells 7 memory_line err err' status
 TellsEnding (ending.Limit passed) err err' status = Tells 6 (limit_line passed) err err' status ⊎ Tells 7 memory_line err err' status
-TellsEnding end err err' status = Tells (ending_status end) (ending_line end) err err' status
+TellsEnding end err err' status = Tells (ending_told end).0 (ending_told end).1 err err' status
 
 -- the answer's output stands, and its lines were told
 pub record Answers (answer : Answer) (out out' err err' : SeenSink) (status : ℕ) : Type 0 where
@@ -50,17 +50,17 @@ EndsBy Owed Stands MayFail out out' err err' status =
 
 -- where memory runs out a front of an output that is owed stands of `run`, `kahn`, `trace` and `replay`, and nothing of the others
 abbrev pub MayStand : Command → Given → (front : List ℕ) → Type 0
-MayStand (Run words) given front = IsFrontOf (OwesOutput (Run words) given) front
+MayStand (Run words workers block) given front = IsFrontOf (OwesOutput (Run words workers block) given) front
 MayStand (Kahn words) given front = IsFrontOf (OwesOutput (Kahn words) given) front
-MayStand (Replay words) given front = IsFrontOf (OwesOutput (Replay words) given) front
-MayStand (Trace words) given front = IsFrontOf (OwesOutput (Trace words) given) front
+MayStand (Replay words log) given front = IsFrontOf (OwesOutput (Replay words log) given) front
+MayStand (Trace words workers) given front = IsFrontOf (OwesOutput (Trace words workers) given) front
 MayStand command given front = front ≡ []
 
 -- where the output fails nothing more is read: `run` has read nothing behind a report that failed, and no more than its block needs
 -- behind a line that did; the others read before they write
 abbrev pub StopsInOrder : Command → Given → (out out' : SeenSink) → Type 0
-StopsInOrder (Run words) given out out' = HasText given.fetched (λ text. (a : Accepted) × IsAccepted given.operators (inferring_options words.scale words.lead) text a
-    × FailsInOrder (kinds_of given.operators) a words.instants (block_or_default words.block) given.taken given.stop out out')
+StopsInOrder (Run words workers block) given out out' = HasText given.fetched (λ text. (a : Accepted) × IsAccepted given.operators (inferring_options words.scale words.lead) text a
+    × FailsInOrder (kinds_of given.operators) a words.instants (block_or_default block) given.taken given.stop out out')
 StopsInOrder command given out out' = Unit {0}
 
 -- an output that is owed may fail, in order
@@ -68,8 +68,8 @@ abbrev pub MayFail : Command → Given → (out out' : SeenSink) → (output : L
 MayFail command given out out' output = OwesOutput command given output × StopsInOrder command given out out'
 
 -- how a command ends, by what it has met
-abbrev pub EndsWith : Command → Given → (before after : World) (status : ℕ) → Type 0
-EndsWith command given before after status =
+abbrev pub EndsGiven : Command → Given → (before after : World) (status : ℕ) → Type 0
+EndsGiven command given before after status =
     EndsBy (Owes command given) (MayStand command given) (MayFail command given before.out after.out) before.out after.out before.err after.err status
 
 -- nothing is called and nothing is printed, and this is answered
@@ -78,7 +78,7 @@ Declines answer before after status = (after.shelf ≡ before.shelf) × (after.s
 
 -- how the top call ends that carries out a command
 abbrev pub EndsSo : Command → (before after : World) (status : ℕ) → Type 0
-EndsSo command before after status = (given : Given) × Meets command before after given × EndsWith command given before after status
+EndsSo command before after status = (given : Given) × Meets command before after given × EndsGiven command given before after status
 
 -- how the top call ends, where the words name this command or none; memory may run out before the command is carried out
 abbrev pub Ends : Option Command → (before after : World) (status : ℕ) → Type 0

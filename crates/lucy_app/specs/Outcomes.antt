@@ -120,9 +120,9 @@ RunOutputs Counts Owed ops o instants fetched output =
     (counted : Stop) × (answer : Answer) × Counts counted × OwesRunning (Owed counted) ops o instants counted fetched answer × (output ≡ answer.out)
 
 -- how a command ends that runs what was fetched, where this holds of an output that failed
-abbrev pub EndsRun : (Owed : Stop → Accepted → List ℕ → Ending → Type 0) (Counts : Stop → Type 0) (InOrder : Type 0) → List Operator → Options → (instants : Option ℕ) → Stop →
+abbrev pub EndsRunning : (Owed : Stop → Accepted → List ℕ → Ending → Type 0) (Counts : Stop → Type 0) (InOrder : Type 0) → List Operator → Options → (instants : Option ℕ) → Stop →
     List (Result (List ℕ) ShelfError) → (out out' err err' : SeenSink) (status : ℕ) → Type 0
-EndsRun Owed Counts InOrder ops o instants stop fetched out out' err err' status =
+EndsRunning Owed Counts InOrder ops o instants stop fetched out out' err err' status =
     EndsBy (OwesRunning (Owed stop) ops o instants stop fetched) (IsFrontOf (RunOutputs Counts Owed ops o instants fetched))
     (λ output. RunOutputs Counts Owed ops o instants fetched output × InOrder) out out' err err' status
 

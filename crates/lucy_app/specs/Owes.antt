@@ -1,15 +1,19 @@
 -- What each command owes, by what it has met.
-use Rattle.std.specs.Prelude.{ℕ, ◌≡◌, ◌⊎◌, List, [], ◌∷◌, None, Ok}
+use Rattle.std.specs.Prelude.{ℕ, ℤ, ◌≡◌, ◌⊎◌, List, [], ◌∷◌, Option, None, Ok}
 use Rattle.lucy_word.specs.declared.limit.Limit.TheVariants as limit
 use Rattle.lucy_host.specs.Operators.{kinds_of}
+use Rattle.lucy_lines.specs.declared.reader.TextFault.{TextFault}
 use Rattle.lucy_feed.specs.Sources.{Stop, Ended, Failed, Passed}
+use Rattle.lucy_net.specs.declared.net.Net.{Net}
+use Rattle.lucy_front.specs.declared.accepted.Accepted.{Accepted}
+use Rattle.lucy_front.specs.Accepting.{IsAccepted}
 use Rattle.lucy_run.specs.Feeds.{CountsAs}
-use Rattle.lucy_run.specs.Owes.{OwesRun, OwesKahn}
+use Rattle.lucy_run.specs.Owes.{IsFed, OwesRun, OwesKahn}
 use Rattle.lucy_run.specs.Tracing.{OwesTrace}
 use Rattle.lucy_make.specs.Text.{made_text}
 use Rattle.lucy_make.specs.Owes.{OwesSummary}
-use Rattle.lucy_command.specs.Commands.{Command, Order, Show, Types, Check, Clocks, Run, Kahn, Make, Tighten, Replay, Trace}
-use Rattle.lucy_app.specs.Commands.{written_options, inferring_options}
+use Rattle.lucy_command.specs.Commands.{ProgramWords, Command, Order, Show, Types, Check, Clocks, Run, Kahn, Make, Tighten, Replay, Trace}
+use Rattle.lucy_app.specs.Commands.{written_options, inferring_options, HasText}
 use Rattle.lucy_app.specs.World.{Given}
 use Rattle.lucy_app.specs.Answers.{Answer, printed, read_fault, limit_passed, input_refused}
 use Rattle.lucy_app.specs.Fields.{fields}
@@ -18,7 +22,7 @@ use Rattle.lucy_app.specs.Show.{IsPrintOf, RefusesSyntax}
 use Rattle.lucy_app.specs.Types.{IsReportOf, RefusesText}
 use Rattle.lucy_app.specs.Check.{IsCheckOf, RefusesCheck}
 use Rattle.lucy_app.specs.Programs.{OwesText, OwesPrint}
-use Rattle.lucy_app.specs.Tighten.{OwesTight}
+use Rattle.lucy_app.specs.Tighten.{OwesNamed}
 use Rattle.lucy_app.specs.Running.{OwesRunning}
 use Rattle.lucy_app.specs.Replaying.{OwesLogged}
 use Rattle.lucy_app.specs.declared.input_refusal.InputCause.{InputCause}
@@ -42,7 +46,7 @@ Owes (Check file) given answer =
 Owes (Clocks words) given answer =
     let o = inferring_options words.scale words.lead in
     OwesText (RefusesCheck given.operators o) (OwesPrint (IsCheckOf given.operators o)) given.stop given.fetched answer
-Owes (Run words) given answer =
+Owes (Run words workers block) given answer =
     OwesRunning (λ a. OwesRun (kinds_of given.operators) a words.instants given.taken given.stop) given.operators
     (inferring_options words.scale words.lead) words.instants given.stop given.fetched answer
 Owes (Kahn words) given answer =
@@ -51,18 +55,24 @@ Owes (Kahn words) given answer =
 Owes (Make words) given answer =
     OwesRunning (OwesSummary words.stages (kinds_of given.operators)) given.operators (inferring_options 1 1) None given.stop
     (Ok (made_text words.stages) ∷ []) answer
-Owes (Tighten words) given answer =
+Owes (Tighten words node buffer) given answer =
     let o = inferring_options words.scale words.lead in
-    OwesText (RefusesCheck given.operators o) (OwesTight given.operators o words) given.stop given.fetched answer
-Owes (Replay words) given answer =
+    OwesText (RefusesCheck given.operators o) (OwesNamed given.operators o node buffer) given.stop given.fetched answer
+Owes (Replay words log) given answer =
     OwesLogged given.operators (inferring_options words.scale words.lead) words.instants given.taken given.stop given.fetched answer
-Owes (Trace words) given answer =
+Owes (Trace words workers) given answer =
     OwesRunning (λ a. OwesTrace a words.instants given.taken given.stop) given.operators (inferring_options words.scale words.lead)
     words.instants given.stop given.fetched answer
 
+-- the net and the horizon of the run whose trace `trace` owes, by what it has met
+abbrev pub HasRun : Given → ProgramWords → Net → (horizon : ℕ) → Type 0
+HasRun given words net horizon =
+    HasText given.fetched (λ text. (a : Accepted) × IsAccepted given.operators (inferring_options words.scale words.lead) text a × (a.net ≡ net)
+    × (lists : List (List ℤ)) × (fault : Option TextFault) × IsFed a words.instants given.taken given.stop lists fault horizon)
+
 -- what a command has met may count as this: as it is, or, where `run` gave up reading, as if the bytes taken were all
 abbrev pub MayCount : Command → (given counted : Given) → Type 0
-MayCount (Run words) given counted = (stop : Stop) × CountsAs given.stop stop × (counted ≡ record given { stop = stop })
+MayCount (Run words workers block) given counted = (stop : Stop) × CountsAs given.stop stop × (counted ≡ record given { stop = stop })
 MayCount command given counted = counted ≡ given
 
 -- a command owes this output, of which a front may stand where it breaks off

@@ -14,9 +14,8 @@ name_line main (Some name) t = codes "  " ++ (name.text ++ (codes " : " ++ (type
 
 -- the lines of places with these types, in order
 abbrev pub name_lines : (main : Bool) → List PlaceEntry → List Ty → List ℕ
-name_lines main [] ts = []
-name_lines main (e ∷ es) [] = []
 name_lines main (e ∷ es) (t ∷ ts) = name_line main e.name t ++ name_lines main es ts
+name_lines main es ts = []
 
 -- the lines of a node with these types of its places
 abbrev pub node_lines : (main : Bool) → PlacedNode → List Ty → List ℕ
@@ -24,6 +23,5 @@ node_lines main n ts = node_line n ++ name_lines main n.places ts
 
 -- the lines of nodes with these types of their places
 abbrev pub report : List PlacedNode → List (List Ty) → List ℕ
-report [] tables = []
-report (n ∷ ns) [] = []
 report (n ∷ ns) (ts ∷ tables) = node_lines (is_main ns) n ts ++ report ns tables
+report ns tables = []

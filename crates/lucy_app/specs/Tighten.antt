@@ -12,7 +12,6 @@ use Rattle.lucy_tight.specs.declared.answer.Least.{Least}
 use Rattle.lucy_tight.specs.declared.answer.TightError.TheVariants.{Fixed, Limit as LimitPassed}
 use Rattle.lucy_tight.specs.Tightening.{IsTightened, RefusesTight}
 use Rattle.lucy_tight.specs.Report.{tight_lines, fixed_lines}
-use Rattle.lucy_command.specs.Commands.{TightenWords}
 use Rattle.lucy_app.specs.Answers.{Answer, printed, no_buffer, limit_passed}
 
 -- the number of the first node of this name, from 0, or that of all nodes where none has it
@@ -45,11 +44,7 @@ OwesBuffer a o name buffer answer =
 abbrev pub OwesNamed : List Operator → Options → (name : List ℕ) → (buffer : ℕ) → (text : List ℕ) → Answer → Type 0
 OwesNamed ops o name buffer text answer = (a : Accepted) × IsAccepted ops o text a × OwesBuffer a o name buffer answer
 
--- so of the words
-abbrev pub OwesTight : List Operator → Options → TightenWords → (text : List ℕ) → Answer → Type 0
-OwesTight ops o words = OwesNamed ops o words.node words.buffer
-
 -- the text is accepted, and this is printed of the buffer
-abbrev pub IsTightOf : List Operator → Options → TightenWords → (text print : List ℕ) → Type 0
-IsTightOf ops o words text print =
-    (a : Accepted) × IsAccepted ops o text a × HasBuffer a.placed.nodes words.node words.buffer × IsTightPrint a o (node_named a.placed.nodes words.node) words.buffer print
+abbrev pub IsTightOf : List Operator → Options → (name : List ℕ) → (buffer : ℕ) → (text print : List ℕ) → Type 0
+IsTightOf ops o name buffer text print =
+    (a : Accepted) × IsAccepted ops o text a × HasBuffer a.placed.nodes name buffer × IsTightPrint a o (node_named a.placed.nodes name) buffer print

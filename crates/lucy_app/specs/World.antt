@@ -20,6 +20,10 @@ pub record World : Type 0 where
   pub err : SeenSink
   pub operators : List Operator
 
+-- these, with the operators of a host
+abbrev pub world : (shelf : SeenShelf) (source : SeenSource) (out err : SeenSink) (operators : List Operator) → World
+world shelf source out err operators = record { shelf = shelf; source = source; out = out; err = err; operators = operators }
+
 -- what a command has met: what the fetches gave in turn, the bytes taken from the source, how reading stopped, and the operators of
 -- the host
 pub record Given : Type 0 where

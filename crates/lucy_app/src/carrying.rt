@@ -3,6 +3,7 @@ ghost use Rattle.std.specs.Prelude.{◌≡◌, ◌≤◌, [], None, Some};
 ghost use Rattle.lucy_host.specs.Host.{Serves, lent};
 ghost use Rattle.lucy_command.specs.Named.{named, IsWithin};
 ghost use Rattle.lucy_app.specs.Commands.{files_of, input_of};
+ghost use Rattle.lucy_app.specs.World.{world};
 ghost use Rattle.lucy_app.specs.Ends.{EndsSo};
 
 use crate::fetching::fetch;
@@ -40,21 +41,8 @@ pub(crate) fn carry_out<
     requires serves { Serves F.pre F.post host.now }
     requires within { IsWithin (named command) }
     ensures ends { EndsSo (named command.entry)
-        (record {
-          shelf = S.seen shelf.old;
-          source = I.seen input.old;
-          out = O.seen out.old;
-          err = E.seen err.old;
-          operators = lent host.now;
-        })
-        (record {
-          shelf = S.seen shelf.new;
-          source = I.seen input.new;
-          out = O.seen out.new;
-          err = E.seen err.new;
-          operators = lent host.now;
-        })
-        result }
+        (world (S.seen shelf.old) (I.seen input.old) (O.seen out.old) (E.seen err.old) (lent host.now))
+        (world (S.seen shelf.new) (I.seen input.new) (O.seen out.new) (E.seen err.new) (lent host.now)) result }
     ensures shelf { files_of (Some (named command.entry)) ≡ [] → shelf.new ≡ shelf.old }
     ensures source { input_of (Some (named command.entry)) ≡ None → input.new ≡ input.old }
     ensures quiet { result ≡ 0 → err.new ≡ err.old }

@@ -1,6 +1,7 @@
 // The fields of a text, which blanks part.
 ghost use Rattle.std.specs.Prelude.{◌≡◌, IfOk, map};
-ghost use Rattle.lucy_app.specs.Fields.{fields, is_blank};
+ghost use Rattle.lucy_fields.specs.Fields.{is_blank};
+ghost use Rattle.lucy_app.specs.Fields.{fields};
 
 use std::alloc::{AllocError, Global};
 

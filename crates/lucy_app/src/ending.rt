@@ -9,7 +9,7 @@ use std::alloc::Global;
 
 /// The status that a run ends with.
 pub(crate) fn fault_status(fault: TextFault) -> u8
-    ensures { result ≡ spec.fault_status fault }
+    ensures { result ≡ (spec.fault_told fault).0 }
 {
     match fault {
         TextFault::BadLine(_) => 3,
@@ -22,7 +22,7 @@ pub(crate) fn fault_status(fault: TextFault) -> u8
 
 /// The line on the fault sink.
 pub(crate) fn fault_line(alloc: Global, fault: TextFault) -> Result<Vec<u8>, OutOfMemory>
-    ensures { IfOk result (λ v. v.items ≡ spec.fault_line fault) }
+    ensures { IfOk result (λ v. v.items ≡ (spec.fault_told fault).1) }
 {
     let line = match fault {
         TextFault::BadLine(number) => {

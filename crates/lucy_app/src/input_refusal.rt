@@ -1,6 +1,6 @@
 // Why the input of `order` has no answer: each cause with its status and its line.
 ghost use Rattle.std.specs.Prelude.{◌≡◌, IfOk};
-ghost use Rattle.lucy_app.specs.InputRefusals.{input_status, input_line};
+ghost use Rattle.lucy_app.specs.InputRefusals.{input_told};
 
 use lucy_front::refusal_text;
 use lucy_word::{Limit, OutOfMemory};
@@ -23,7 +23,7 @@ pub enum InputCause {
 impl InputCause {
     /// The status that the program ends with.
     pub fn status(&self) -> u8
-        ensures { result ≡ input_status self.now }
+        ensures { result ≡ (input_told self.now).0 }
     {
         match self {
             InputCause::Count(_) => 3,
@@ -35,7 +35,7 @@ impl InputCause {
 
     /// The line on the fault sink.
     pub fn line(&self, alloc: Global) -> Result<Vec<u8>, OutOfMemory>
-        ensures { IfOk result (λ v. v.items ≡ input_line self.now) }
+        ensures { IfOk result (λ v. v.items ≡ (input_told self.now).1) }
     {
         let line = match self {
             InputCause::Count(count) => format!(in alloc; "lucy: input: {count} words, 2 wanted\n"),

@@ -3,8 +3,8 @@ ghost use Rattle.std.specs.Prelude.{◌≡◌, ℕ, List};
 ghost use Rattle.lucy_command.specs.Commands.{Command, Order, Show};
 ghost use Rattle.lucy_app.specs.World.{World, Given};
 ghost use Rattle.lucy_app.specs.Answers.{Answer, AreOneBut, MayDiffer, Alike, printed};
-ghost use Rattle.lucy_app.specs.Owes.{Owes};
-ghost use Rattle.lucy_app.specs.Complete.{MayPrint, TracesSuit, Completes};
+ghost use Rattle.lucy_app.specs.Owes.{Owes, HasRun};
+ghost use Rattle.lucy_app.specs.Complete.{MayPrint, MayRun, TracesSuit, Completes};
 ghost use Rattle.lucy_app.specs.Engines.{PlayingCompletes};
 
 use lucy_lines::one_cut;
@@ -14,9 +14,9 @@ use lucy_tight::one_tightest;
 
 /// A command that has met the same things owes one answer. Only the evidence for which a program is refused is left
 /// open, such as the path of a clash of types; of `tighten` the cycle that shows a least size; and of `trace` in which order the events
-/// of a run stand, and in which rounds.
+/// of the one run stand that its input allows, and in which rounds.
 pub fn one_answer()
-    ensures alike { (command : Command) (given : Given) (a b : Answer) → Owes command given a → Owes command given b → Alike command a b }
+    ensures alike { (command : Command) (given : Given) (a b : Answer) → Owes command given a → Owes command given b → Alike (HasRun given) command a b }
     ensures order { (given : Given) (a b : Answer) → Owes Order given a → Owes Order given b → a ≡ b }
     ensures show { (file : List ℕ) (given : Given) (a b : Answer) → Owes (Show file) given a → Owes (Show file) given b → a ≡ b }
 {
@@ -30,10 +30,10 @@ pub fn one_answer()
 }
 
 /// Of a command that nothing refuses one output may stand; of `tighten` one but for the cycle, and of `trace` the traces of one net up to
-/// one horizon.
+/// the horizon that its input allows.
 pub fn one_output()
     ensures { (command : Command) (before : World) (a b : List ℕ) → MayPrint command before a → MayPrint command before b →
-        AreOneBut (MayDiffer command) (printed a) (printed b) }
+        AreOneBut (MayDiffer (MayRun before) command) (printed a) (printed b) }
 {
     one_cut();
     one_horizon();

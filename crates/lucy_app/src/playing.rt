@@ -8,11 +8,11 @@ ghost use Rattle.lucy_host.specs.Operators.{kinds_of};
 ghost use Rattle.lucy_feed.specs.Sources.{Stop, Read};
 ghost use Rattle.lucy_run.specs.Feeds.{CountsAs};
 ghost use Rattle.lucy_run.specs.Owes.{OwesRun};
-ghost use Rattle.lucy_command.specs.Commands as names;
 ghost use Rattle.lucy_command.specs.Commands.{command_of};
 ghost use Rattle.lucy_command.specs.Named.{named, run_named, IsWithin};
 ghost use Rattle.lucy_app.specs.Commands.{inferring_options, TakesInput};
-ghost use Rattle.lucy_app.specs.Outcomes.{bytes_of, EndsRun, OfProgram};
+ghost use Rattle.lucy_app.specs.World.{world};
+ghost use Rattle.lucy_app.specs.Outcomes.{bytes_of, EndsRunning, OfProgram};
 ghost use Rattle.lucy_app.specs.Engines.{whole_run, EndsPlayed, EndsPlaying};
 
 use crate::fetching::fetch;
@@ -29,7 +29,7 @@ use std::alloc::Global;
 // What the command works on, where it is `run` and no block is given.
 fn whole_run<'a>(command: Option<Command<'a>>) -> Option<RunWords<'a>>
     ensures is { option_map run_named result ≡ whole_run (option_map named command.entry) }
-    ensures within { IfSome command.entry (λ c. IsWithin (named c)) → IfSome result (λ words. IsWithin (names.Run (run_named words))) }
+    ensures within { IfSome command.entry (λ c. IsWithin (named c)) → IfSome result (λ words. IsWithin (run_named words)) }
 {
     match command {
         Some(Command::Run(words)) => match words.block {
@@ -53,11 +53,11 @@ fn play<I: Source, O: Sink, E: Sink, N: Engine<F>, F: Fn(u32, i64, i64) -> i64 +
     host: &Host<F>,
 ) -> u8
     requires plays { N.plays engine.old host.now }
-    requires within { IsWithin (names.Run (run_named words)) }
+    requires within { IsWithin (run_named words) }
     ensures ends { (taken : List ℕ) × (stop : Stop) × Read (limit_number limit.Input) (I.seen input.old) (I.seen input.new) taken stop
         × ((I.seen input.new ≡ I.seen input.old)
         ⊎ TakesInput (lent host.now) (inferring_options words.entry.scale words.entry.lead) (bytes_of fetched ∷ []) taken)
-        × EndsRun (λ counted a. OwesRun (kinds_of (lent host.now)) a words.entry.instants taken counted) (CountsAs stop)
+        × EndsRunning (λ counted a. OwesRun (kinds_of (lent host.now)) a words.entry.instants taken counted) (CountsAs stop)
         (OfProgram (λ a. Unit {0}) (lent host.now) (inferring_options words.entry.scale words.entry.lead) (bytes_of fetched ∷ []))
         (lent host.now) (inferring_options words.entry.scale words.entry.lead) words.entry.instants stop (bytes_of fetched ∷ [])
         (O.seen out.old) (O.seen out.new) (E.seen err.old) (E.seen err.new) result }
@@ -96,23 +96,10 @@ fn play_file<
     host: &Host<F>,
 ) -> u8
     requires plays { N.plays engine.old host.now }
-    requires within { IsWithin (names.Run (run_named words)) }
+    requires within { IsWithin (run_named words) }
     ensures ends { EndsPlayed (run_named words.entry)
-        (record {
-          shelf = S.seen shelf.old;
-          source = I.seen input.old;
-          out = O.seen out.old;
-          err = E.seen err.old;
-          operators = lent host.now;
-        })
-        (record {
-          shelf = S.seen shelf.new;
-          source = I.seen input.new;
-          out = O.seen out.new;
-          err = E.seen err.new;
-          operators = lent host.now;
-        })
-        result }
+        (world (S.seen shelf.old) (I.seen input.old) (O.seen out.old) (E.seen err.old) (lent host.now))
+        (world (S.seen shelf.new) (I.seen input.new) (O.seen out.new) (E.seen err.new) (lent host.now)) result }
     ensures quiet { result ≡ 0 → err.new ≡ err.old }
     ensures shelf_count { (S.seen shelf.old).faults ≤ (S.seen shelf.new).faults }
     ensures source_count { (I.seen input.old).faults ≤ (I.seen input.new).faults }
@@ -149,21 +136,8 @@ pub fn run_with<
     requires { N.plays engine.old host.now }
     // How the call ends, by what the words give `run`, where they name it and no block.
     ensures ends { EndsPlaying (whole_run (command_of (map string_bytes words.now)))
-        (record {
-          shelf = S.seen shelf.old;
-          source = I.seen input.old;
-          out = O.seen out.old;
-          err = E.seen err.old;
-          operators = lent host.now;
-        })
-        (record {
-          shelf = S.seen shelf.new;
-          source = I.seen input.new;
-          out = O.seen out.new;
-          err = E.seen err.new;
-          operators = lent host.now;
-        })
-        result }
+        (world (S.seen shelf.old) (I.seen input.old) (O.seen out.old) (E.seen err.old) (lent host.now))
+        (world (S.seen shelf.new) (I.seen input.new) (O.seen out.new) (E.seen err.new) (lent host.now)) result }
     ensures statuses { result ≤ 7 }
     // Other words are refused, and then nothing but `err` is touched.
     ensures other_words { whole_run (command_of (map string_bytes words.now)) ≡ None → (result ≡ 2) ⊎ (result ≡ 5) ⊎ (result ≡ 7) }

@@ -6,8 +6,8 @@ ghost use Rattle.lucy_host.specs.Host.{Serves, lent};
 ghost use Rattle.lucy_feed.specs.Sources.{Stop, Read};
 ghost use Rattle.lucy_front.specs.declared.options.Options.{Options};
 ghost use Rattle.lucy_front.specs.Accepting.{IsAccepted};
-ghost use Rattle.lucy_command.specs.Commands as names;
 ghost use Rattle.lucy_command.specs.Named.{replay_named, IsWithin};
+ghost use Rattle.lucy_app.specs.World.{world};
 ghost use Rattle.lucy_app.specs.Ends.{EndsSo};
 ghost use Rattle.lucy_app.specs.Outcomes.{bytes_of, ReadsBehind, EndsLog};
 
@@ -69,23 +69,10 @@ pub(crate) fn replay<S: Shelf, I: Source, O: Sink, E: Sink, F: Fn(u32, i64, i64)
     host: &Host<F>,
 ) -> u8
     requires serves { Serves F.pre F.post host.now }
-    requires within { IsWithin (names.Replay (replay_named words)) }
-    ensures ends { EndsSo (names.Replay (replay_named words.entry))
-        (record {
-          shelf = S.seen shelf.old;
-          source = I.seen input.old;
-          out = O.seen out.old;
-          err = E.seen err.old;
-          operators = lent host.now;
-        })
-        (record {
-          shelf = S.seen shelf.new;
-          source = I.seen input.new;
-          out = O.seen out.new;
-          err = E.seen err.new;
-          operators = lent host.now;
-        })
-        result }
+    requires within { IsWithin (replay_named words) }
+    ensures ends { EndsSo (replay_named words.entry)
+        (world (S.seen shelf.old) (I.seen input.old) (O.seen out.old) (E.seen err.old) (lent host.now))
+        (world (S.seen shelf.new) (I.seen input.new) (O.seen out.new) (E.seen err.new) (lent host.now)) result }
     ensures quiet { result ≡ 0 → err.new ≡ err.old }
     ensures shelf_count { (S.seen shelf.old).faults ≤ (S.seen shelf.new).faults }
     ensures source_count { (I.seen input.old).faults ≤ (I.seen input.new).faults }

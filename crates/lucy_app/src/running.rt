@@ -12,7 +12,7 @@ ghost use Rattle.lucy_run.specs.Ends.{FailsInOrder};
 ghost use Rattle.lucy_command.specs.Commands as names;
 ghost use Rattle.lucy_command.specs.Named.{run_named, kahn_named, IsWithin, block_or_default};
 ghost use Rattle.lucy_app.specs.Commands.{inferring_options, TakesInput};
-ghost use Rattle.lucy_app.specs.Outcomes.{bytes_of, IsAccepting, EndsRun, OfProgram, Tellable};
+ghost use Rattle.lucy_app.specs.Outcomes.{bytes_of, IsAccepting, EndsRunning, OfProgram, Tellable};
 
 use crate::options::inferring;
 use crate::output::{conclude, refuse};
@@ -75,10 +75,10 @@ pub(crate) fn run<
     host: &Host<F>,
 ) -> u8
     requires serves { Serves F.pre F.post host.now }
-    requires within { IsWithin (names.Run (run_named words)) }
+    requires within { IsWithin (run_named words) }
     ensures ends { (taken : List ℕ) × (stop : Stop) × Read (limit_number limit.Input) (I.seen input.old) (I.seen input.new) taken stop
         × ((I.seen input.new ≡ I.seen input.old) ⊎ TakesInput (lent host.now) (inferring_options words.entry.scale words.entry.lead) (bytes_of fetched ∷ []) taken)
-        × EndsRun (λ counted a. OwesRun (kinds_of (lent host.now)) a words.entry.instants taken counted) (CountsAs stop)
+        × EndsRunning (λ counted a. OwesRun (kinds_of (lent host.now)) a words.entry.instants taken counted) (CountsAs stop)
         (OfProgram (λ a. FailsInOrder (kinds_of (lent host.now)) a words.entry.instants (block_or_default words.entry.block) taken stop
         (O.seen out.old) (O.seen out.new)) (lent host.now) (inferring_options words.entry.scale words.entry.lead) (bytes_of fetched ∷ []))
         (lent host.now) (inferring_options words.entry.scale words.entry.lead) words.entry.instants stop (bytes_of fetched ∷ [])
@@ -117,7 +117,7 @@ pub(crate) fn kahn<I: Source, O: Sink, E: Sink, F: Fn(u32, i64, i64) -> i64 + Sy
     requires within { IsWithin (names.Kahn (kahn_named words)) }
     ensures ends { (taken : List ℕ) × (stop : Stop) × Read (limit_number limit.Input) (I.seen input.old) (I.seen input.new) taken stop
         × ((I.seen input.new ≡ I.seen input.old) ⊎ TakesInput (lent host.now) (inferring_options words.entry.scale words.entry.lead) (bytes_of fetched ∷ []) taken)
-        × EndsRun (λ counted a. OwesKahn (kinds_of (lent host.now)) a words.entry.instants taken counted) (λ counted. counted ≡ stop)
+        × EndsRunning (λ counted a. OwesKahn (kinds_of (lent host.now)) a words.entry.instants taken counted) (λ counted. counted ≡ stop)
         (OfProgram (λ a. Unit {0}) (lent host.now) (inferring_options words.entry.scale words.entry.lead) (bytes_of fetched ∷ []))
         (lent host.now) (inferring_options words.entry.scale words.entry.lead) words.entry.instants stop (bytes_of fetched ∷ [])
         (O.seen out.old) (O.seen out.new) (E.seen err.old) (E.seen err.new) result }

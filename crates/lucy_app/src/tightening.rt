@@ -5,13 +5,12 @@ ghost use Rattle.lucy_host.specs.Operators.{Operator};
 ghost use Rattle.lucy_feed.specs.Sources.{Unread};
 ghost use Rattle.lucy_front.specs.Inferring.{AreOptions};
 ghost use Rattle.lucy_front.specs.Accepting.{IsAccepted};
-ghost use Rattle.lucy_command.specs.Commands as names;
 ghost use Rattle.lucy_command.specs.Named.{tighten_named, IsWithin};
 ghost use Rattle.lucy_app.specs.Commands.{inferring_options};
 ghost use Rattle.lucy_app.specs.Check.{RefusesCheck};
 ghost use Rattle.lucy_app.specs.Programs.{OwesText};
 ghost use Rattle.lucy_app.specs.Tighten as spec;
-ghost use Rattle.lucy_app.specs.Tighten.{HasBuffer, OwesSize, OwesBuffer, OwesNamed, OwesTight};
+ghost use Rattle.lucy_app.specs.Tighten.{HasBuffer, OwesSize, OwesBuffer, OwesNamed};
 ghost use Rattle.lucy_app.specs.Outcomes.{bytes_of, IsOutcome, Tellable};
 
 use crate::options::inferring;
@@ -127,9 +126,9 @@ pub(crate) fn answer(
     ops: &Ops,
     words: TightenWords<'_>,
 ) -> Result<Vec<u8>, Refusal>
-    requires { IsWithin (names.Tighten (tighten_named words)) }
+    requires { IsWithin (tighten_named words) }
     ensures outcome { IsOutcome (OwesText (RefusesCheck ops.now (inferring_options words.entry.scale words.entry.lead))
-        (OwesTight ops.now (inferring_options words.entry.scale words.entry.lead) (tighten_named words.entry))
+        (OwesNamed ops.now (inferring_options words.entry.scale words.entry.lead) words.entry.node.now words.entry.buffer)
         Unread (bytes_of fetched ∷ [])) result }
     ensures tellable { IfErr result Tellable }
 {

@@ -1,4 +1,4 @@
-mod Digits
+mod Ranges
 mod Canonical
 mod Full
 mod Folds

@@ -1,8 +1,7 @@
 -- The commands, and which of them a list of words names.
-use Rattle.std.specs.Prelude.{ℕ, Bool, false, ◌&&◌, nat_le, List, [], ◌∷◌, length, Option, Some, None, if◌then◌else◌}
+use Rattle.std.specs.Prelude.{ℕ, List, [], ◌∷◌, Option, Some, None, if◌then◌else◌}
 use Rattle.std.specs.Option.{option_map, option_and_then}
-use Rattle.std.specs.Str.{all_ascii_digits}
-use Rattle.std.specs.Str.Parse.{digits_value}
+use Rattle.lucy_fields.specs.Numbers.{number_of}
 use Rattle.lucy_command.specs.declared.names.Name.{Name}
 use Rattle.lucy_command.specs.declared.names.Name.TheVariants as name
 use Rattle.lucy_command.specs.declared.names.Setting.{Setting}
@@ -18,82 +17,39 @@ pub record ClocksWords : Type 0 where
   pub scale : ℕ
   pub lead : ℕ
 
--- what `kahn` works on: also the instants, where they stand
-pub record KahnWords : Type 0 where
+-- what a command works on that runs a program: also the instants, where they stand
+pub record ProgramWords : Type 0 where
   pub file : List ℕ
   pub scale : ℕ
   pub lead : ℕ
   pub instants : Option ℕ
 
--- what `run` works on: also the workers, and the instants of a block, where they stand
-pub record RunWords : Type 0 where
-  pub file : List ℕ
-  pub scale : ℕ
-  pub lead : ℕ
-  pub instants : Option ℕ
-  pub workers : ℕ
-  pub block : Option ℕ
-
--- what `tighten` works on: FILE, the name of a node and the number of a buffer, and the scale and the lead
-pub record TightenWords : Type 0 where
-  pub file : List ℕ
-  pub node : List ℕ
-  pub buffer : ℕ
-  pub scale : ℕ
-  pub lead : ℕ
-
--- what `replay` works on: FILE and LOG, the scale and the lead, and the instants, where they stand
-pub record ReplayWords : Type 0 where
-  pub file : List ℕ
-  pub log : List ℕ
-  pub scale : ℕ
-  pub lead : ℕ
-  pub instants : Option ℕ
-
--- what `trace` works on: what `kahn` does, and the workers
-pub record TraceWords : Type 0 where
-  pub file : List ℕ
-  pub scale : ℕ
-  pub lead : ℕ
-  pub instants : Option ℕ
-  pub workers : ℕ
-
--- a command, with what it works on
+-- a command, with what it works on: `run` also the workers, and the instants of a block, where they stand; `tighten` the name of a node
+-- and the number of a buffer; `replay` LOG; and `trace` the workers
 pub data Command : Type 0 where
   Order : Command
   Show Types Check : (file : List ℕ) → Command
   Clocks : ClocksWords → Command
-  Run : RunWords → Command
-  Kahn : KahnWords → Command
+  Run : (words : ProgramWords) (workers : ℕ) (block : Option ℕ) → Command
+  Kahn : ProgramWords → Command
   Make : MakeWords → Command
-  Tighten : TightenWords → Command
-  Replay : ReplayWords → Command
-  Trace : TraceWords → Command
+  Tighten : (words : ClocksWords) (node : List ℕ) (buffer : ℕ) → Command
+  Replay : (words : ProgramWords) (log : List ℕ) → Command
+  Trace : (words : ProgramWords) (workers : ℕ) → Command
 
--- a number of one to seven digits, between these
-abbrev pub is_number : (least most : ℕ) → List ℕ → Bool
-is_number least most [] = false
-is_number least most (digit ∷ more) =
-    nat_le (length (digit ∷ more)) 7 && (all_ascii_digits (digit ∷ more)
-    && (nat_le least (digits_value 10 (digit ∷ more)) && nat_le (digits_value 10 (digit ∷ more)) most))
-
--- the number that a text is, where it is one
-abbrev pub number_of : (least most : ℕ) → (text : List ℕ) → Option ℕ
-number_of least most text = if is_number least most text then Some (digits_value 10 text) else None
-
--- the number of an option, where one stands there
+-- the number of an option, of at most seven digits, where one stands there
 abbrev pub given : Setting → (text : Option (List ℕ)) → Option (Option ℕ)
 given setting None = Some None
-given setting (Some text) = option_map Some (number_of (least_of setting) (most_of setting) text)
+given setting (Some text) = option_map Some (number_of 7 (least_of setting) (most_of setting) text)
 
 -- its number, or else this one
 abbrev pub given_or : (otherwise : ℕ) → Setting → (text : Option (List ℕ)) → Option ℕ
 given_or otherwise setting None = Some otherwise
-given_or otherwise setting (Some text) = number_of (least_of setting) (most_of setting) text
+given_or otherwise setting (Some text) = number_of 7 (least_of setting) (most_of setting) text
 
 -- the stages of a program that is made
 abbrev pub stages_of : (operand : Option (List ℕ)) → Option ℕ
-stages_of operand = option_and_then (number_of 1 most_stages) operand
+stages_of operand = option_and_then (number_of 7 1 most_stages) operand
 
 -- the operand, where there is no second one
 abbrev pub one_of : (first second : Option (List ℕ)) → Option (List ℕ)
@@ -119,11 +75,15 @@ clocks_with operand t =
 abbrev pub clocks_words : Texts → Option ClocksWords
 clocks_words t = clocks_with (operand_of t) t
 
--- and the instants
-abbrev pub kahn_words : Texts → Option KahnWords
-kahn_words t =
+-- and the instants, for this FILE
+abbrev pub program_with : (file : Option (List ℕ)) → Texts → Option ProgramWords
+program_with operand t =
     option_and_then (λ c. option_map (λ instants. record { file = c.file; scale = c.scale; lead = c.lead; instants = instants })
-    (given setting.Instants t.instants)) (clocks_words t)
+    (given setting.Instants t.instants)) (clocks_with operand t)
+
+-- what `kahn` works on
+abbrev pub program_words : Texts → Option ProgramWords
+program_words t = program_with (operand_of t) t
 
 -- the workers, which are 4 where they don't stand
 abbrev pub workers_of : Texts → Option ℕ
@@ -133,11 +93,9 @@ workers_of t = given_or 4 setting.Workers t.workers
 abbrev pub playing_of : Texts → Option (ℕ × Option ℕ)
 playing_of t = option_and_then (λ workers. option_map (λ block. (workers, block)) (given setting.Block t.block)) (workers_of t)
 
--- what `run` works on
-abbrev pub run_words : Texts → Option RunWords
-run_words t =
-    option_and_then (λ k. option_map (λ p. record { file = k.file; scale = k.scale; lead = k.lead; instants = k.instants; workers = p.0; block = p.1 })
-    (playing_of t)) (kahn_words t)
+-- `run` of these texts
+abbrev pub run_with : Texts → Option Command
+run_with t = option_and_then (λ k. option_map (λ p. Run k p.0 p.1) (playing_of t)) (program_words t)
 
 -- what `make` works on
 abbrev pub make_words : Texts → Option MakeWords
@@ -146,25 +104,19 @@ make_words t = option_and_then (λ stages. option_map (λ p. record { stages = s
 -- the name of a node and the number of one of its buffers, which are parted by a text's first `.`
 abbrev pub buffer_of : (text : List ℕ) → Option (List ℕ × ℕ)
 buffer_of text =
-    option_and_then (λ h. if is_name_text h.0 then option_map (λ number. (h.0, number)) (number_of 0 most_buffer h.1) else None) (halves_at 46 text)
+    option_and_then (λ h. if is_name_text h.0 then option_map (λ number. (h.0, number)) (number_of 7 0 most_buffer h.1) else None) (halves_at 46 text)
 
--- what `tighten` works on
-abbrev pub tighten_words : Texts → Option TightenWords
-tighten_words t =
-    option_and_then (λ c. option_map (λ b. record { file = c.file; node = b.0; buffer = b.1; scale = c.scale; lead = c.lead })
-    (option_and_then buffer_of t.second)) (clocks_with t.first t)
+-- `tighten` of these texts
+abbrev pub tighten_with : Texts → Option Command
+tighten_with t = option_and_then (λ c. option_map (λ b. Tighten c b.0 b.1) (option_and_then buffer_of t.second)) (clocks_with t.first t)
 
--- what `replay` works on
-abbrev pub replay_words : Texts → Option ReplayWords
-replay_words t =
-    option_and_then (λ c. option_and_then (λ log. option_map (λ instants. record { file = c.file; log = log; scale = c.scale; lead = c.lead; instants = instants })
-    (given setting.Instants t.instants)) t.second) (clocks_with t.first t)
+-- `replay` of these texts
+abbrev pub replay_with : Texts → Option Command
+replay_with t = option_and_then (λ k. option_map (λ log. Replay k log) t.second) (program_with t.first t)
 
--- what `trace` works on
-abbrev pub trace_words : Texts → Option TraceWords
-trace_words t =
-    option_and_then (λ k. option_map (λ workers.
-    record { file = k.file; scale = k.scale; lead = k.lead; instants = k.instants; workers = workers }) (workers_of t)) (kahn_words t)
+-- `trace` of these texts
+abbrev pub trace_with : Texts → Option Command
+trace_with t = option_and_then (λ k. option_map (λ workers. Trace k workers) (workers_of t)) (program_words t)
 
 -- the command of this name with these texts, where they fit it
 abbrev pub command_with : Name → Texts → Option Command
@@ -173,12 +125,12 @@ command_with name.Show t = option_map Show (operand_of t)
 command_with name.Types t = option_map Types (operand_of t)
 command_with name.Check t = option_map Check (operand_of t)
 command_with name.Clocks t = option_map Clocks (clocks_words t)
-command_with name.Run t = option_map Run (run_words t)
-command_with name.Kahn t = option_map Kahn (kahn_words t)
+command_with name.Run t = run_with t
+command_with name.Kahn t = option_map Kahn (program_words t)
 command_with name.Make t = option_map Make (make_words t)
-command_with name.Tighten t = option_map Tighten (tighten_words t)
-command_with name.Replay t = option_map Replay (replay_words t)
-command_with name.Trace t = option_map Trace (trace_words t)
+command_with name.Tighten t = tighten_with t
+command_with name.Replay t = replay_with t
+command_with name.Trace t = trace_with t
 
 -- the command that the words name, where they name one
 abbrev pub command_of : (words : List (List ℕ)) → Option Command

@@ -1,5 +1,6 @@
 -- A command as the call gives it: what it stands for, and that its numbers are within their limits.
-use Rattle.std.specs.Prelude.{ℕ, ◌≤◌, Option, Some, None, IfSome}
+use Rattle.std.specs.Prelude.{ℕ, ◌≤◌, Option, IfSome}
+use Rattle.std.specs.Option.{unwrap_or}
 use Rattle.lucy_command.specs.declared.names.Setting.{Setting}
 use Rattle.lucy_command.specs.declared.names.Setting.TheVariants.{Scale, Instants, Workers, Block}
 use Rattle.lucy_command.specs.Names.{least_of, most_of, most_stages, default_block}
@@ -18,24 +19,24 @@ abbrev pub clocks_named : ClocksWords → names.ClocksWords
 clocks_named w = record { file = w.file.now; scale = w.scale; lead = w.lead }
 
 -- and these of `kahn`
-abbrev pub kahn_named : KahnWords → names.KahnWords
+abbrev pub kahn_named : KahnWords → names.ProgramWords
 kahn_named w = record { file = w.file.now; scale = w.scale; lead = w.lead; instants = w.instants }
 
 -- and these of `run`
-abbrev pub run_named : RunWords → names.RunWords
-run_named w = record { file = w.file.now; scale = w.scale; lead = w.lead; instants = w.instants; workers = w.workers; block = w.block }
+abbrev pub run_named : RunWords → names.Command
+run_named w = names.Run (record { file = w.file.now; scale = w.scale; lead = w.lead; instants = w.instants }) w.workers w.block
 
 -- and these of `tighten`
-abbrev pub tighten_named : TightenWords → names.TightenWords
-tighten_named w = record { file = w.file.now; node = w.node.now; buffer = w.buffer; scale = w.scale; lead = w.lead }
+abbrev pub tighten_named : TightenWords → names.Command
+tighten_named w = names.Tighten (record { file = w.file.now; scale = w.scale; lead = w.lead }) w.node.now w.buffer
 
 -- and these of `replay`
-abbrev pub replay_named : ReplayWords → names.ReplayWords
-replay_named w = record { file = w.file.now; log = w.log.now; scale = w.scale; lead = w.lead; instants = w.instants }
+abbrev pub replay_named : ReplayWords → names.Command
+replay_named w = names.Replay (record { file = w.file.now; scale = w.scale; lead = w.lead; instants = w.instants }) w.log.now
 
 -- and these of `trace`
-abbrev pub trace_named : TraceWords → names.TraceWords
-trace_named w = record { file = w.file.now; scale = w.scale; lead = w.lead; instants = w.instants; workers = w.workers }
+abbrev pub trace_named : TraceWords → names.Command
+trace_named w = names.Trace (record { file = w.file.now; scale = w.scale; lead = w.lead; instants = w.instants }) w.workers
 
 -- the command that it stands for
 abbrev pub named : Command → names.Command
@@ -44,12 +45,12 @@ named (Show file) = names.Show file.now
 named (Types file) = names.Types file.now
 named (Check file) = names.Check file.now
 named (Clocks words) = names.Clocks (clocks_named words)
-named (Run words) = names.Run (run_named words)
+named (Run words) = run_named words
 named (Kahn words) = names.Kahn (kahn_named words)
 named (Make words) = names.Make words
-named (Tighten words) = names.Tighten (tighten_named words)
-named (Replay words) = names.Replay (replay_named words)
-named (Trace words) = names.Trace (trace_named words)
+named (Tighten words) = tighten_named words
+named (Replay words) = replay_named words
+named (Trace words) = trace_named words
 
 -- a number of this option
 abbrev pub IsOf : Setting → ℕ → Type 0
@@ -78,15 +79,14 @@ AreFew instants = IfSome instants (λ given. given ≤ most_of Instants)
 -- the numbers of a command are those of its options
 abbrev pub IsWithin : names.Command → Type 0
 IsWithin (names.Clocks w) = IsScale w.scale × IsScale w.lead
-IsWithin (names.Run w) = IsScale w.scale × IsScale w.lead × AreFew w.instants × AreWorkers w.workers × IfSome w.block IsBlock
+IsWithin (names.Run w workers block) = IsScale w.scale × IsScale w.lead × AreFew w.instants × AreWorkers workers × IfSome block IsBlock
 IsWithin (names.Kahn w) = IsScale w.scale × IsScale w.lead × AreFew w.instants
 IsWithin (names.Make w) = AreStages w.stages × AreWorkers w.workers × IfSome w.block IsBlock
-IsWithin (names.Tighten w) = IsScale w.scale × IsScale w.lead
-IsWithin (names.Replay w) = IsScale w.scale × IsScale w.lead × AreFew w.instants
-IsWithin (names.Trace w) = IsScale w.scale × IsScale w.lead × AreFew w.instants × AreWorkers w.workers
+IsWithin (names.Tighten w node buffer) = IsScale w.scale × IsScale w.lead
+IsWithin (names.Replay w log) = IsScale w.scale × IsScale w.lead × AreFew w.instants
+IsWithin (names.Trace w workers) = IsScale w.scale × IsScale w.lead × AreFew w.instants × AreWorkers workers
 IsWithin command = Unit {0}
 
 -- the block that is given, or else the default
 abbrev pub block_or_default : Option ℕ → ℕ
-block_or_default None = default_block
-block_or_default (Some given) = given
+block_or_default given = unwrap_or given default_block

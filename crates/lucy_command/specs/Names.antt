@@ -40,12 +40,20 @@ abbrev pub least_of : Setting → ℕ
 least_of Instants = 0
 least_of setting = 1
 
--- its greatest number
+-- the greatest scale, and the greatest lead
+abbrev pub most_scale : ℕ
+most_scale = 64
+
+-- the most workers
+abbrev pub most_workers : ℕ
+most_workers = 64
+
+-- the greatest number of an option
 abbrev pub most_of : Setting → ℕ
-most_of Scale = 64
-most_of Lead = 64
+most_of Scale = most_scale
+most_of Lead = most_scale
 most_of Instants = limit_number limit.Instants
-most_of Workers = 64
+most_of Workers = most_workers
 most_of Block = limit_number limit.Instants
 
 -- the most stages of a program that is made, of which there is one at least

@@ -131,12 +131,12 @@ fn clocks_words<'a>(texts: &Texts<'a>) -> Option<ClocksWords<'a>>
     clocks_with(operand_of(texts), texts)
 }
 
-// What `kahn` works on.
-fn kahn_words<'a>(texts: &Texts<'a>) -> Option<KahnWords<'a>>
-    ensures is { option_map kahn_named result ≡ spec.kahn_words (seen texts.now) }
+// The file, the scale and the lead, and the instants.
+fn program_with<'a>(operand: Option<&'a str>, texts: &Texts<'a>) -> Option<KahnWords<'a>>
+    ensures is { option_map kahn_named result ≡ spec.program_with (seen_text operand.entry) (seen texts.now) }
     ensures within { IfSome result (λ w. IsWithin (spec.Kahn (kahn_named w))) }
 {
-    let ClocksWords { file, scale, lead } = clocks_words(texts)?;
+    let ClocksWords { file, scale, lead } = clocks_with(operand, texts)?;
     let instants = given(Setting::Instants, texts.instants)?;
     Some(KahnWords {
         file,
@@ -146,10 +146,18 @@ fn kahn_words<'a>(texts: &Texts<'a>) -> Option<KahnWords<'a>>
     })
 }
 
+// What `kahn` works on.
+fn kahn_words<'a>(texts: &Texts<'a>) -> Option<KahnWords<'a>>
+    ensures is { option_map kahn_named result ≡ spec.program_words (seen texts.now) }
+    ensures within { IfSome result (λ w. IsWithin (spec.Kahn (kahn_named w))) }
+{
+    program_with(operand_of(texts), texts)
+}
+
 // What `run` works on.
 fn run_words<'a>(texts: &Texts<'a>) -> Option<RunWords<'a>>
-    ensures is { option_map run_named result ≡ spec.run_words (seen texts.now) }
-    ensures within { IfSome result (λ w. IsWithin (spec.Run (run_named w))) }
+    ensures is { option_map run_named result ≡ spec.run_with (seen texts.now) }
+    ensures within { IfSome result (λ w. IsWithin (run_named w)) }
 {
     let KahnWords {
         file,
@@ -204,8 +212,8 @@ fn buffer_of(text: &str) -> Option<(&str, u32)>
 
 // What `tighten` works on.
 fn tighten_words<'a>(texts: &Texts<'a>) -> Option<TightenWords<'a>>
-    ensures is { option_map tighten_named result ≡ spec.tighten_words (seen texts.now) }
-    ensures within { IfSome result (λ w. IsWithin (spec.Tighten (tighten_named w))) }
+    ensures is { option_map tighten_named result ≡ spec.tighten_with (seen texts.now) }
+    ensures within { IfSome result (λ w. IsWithin (tighten_named w)) }
 {
     let ClocksWords { file, scale, lead } = clocks_with(texts.first, texts)?;
     let (node, buffer) = buffer_of(texts.second?)?;
@@ -220,12 +228,16 @@ fn tighten_words<'a>(texts: &Texts<'a>) -> Option<TightenWords<'a>>
 
 // What `replay` works on.
 fn replay_words<'a>(texts: &Texts<'a>) -> Option<ReplayWords<'a>>
-    ensures is { option_map replay_named result ≡ spec.replay_words (seen texts.now) }
-    ensures within { IfSome result (λ w. IsWithin (spec.Replay (replay_named w))) }
+    ensures is { option_map replay_named result ≡ spec.replay_with (seen texts.now) }
+    ensures within { IfSome result (λ w. IsWithin (replay_named w)) }
 {
-    let ClocksWords { file, scale, lead } = clocks_with(texts.first, texts)?;
+    let KahnWords {
+        file,
+        scale,
+        lead,
+        instants,
+    } = program_with(texts.first, texts)?;
     let log = texts.second?;
-    let instants = given(Setting::Instants, texts.instants)?;
     Some(ReplayWords {
         file,
         log,
@@ -237,8 +249,8 @@ fn replay_words<'a>(texts: &Texts<'a>) -> Option<ReplayWords<'a>>
 
 // What `trace` works on.
 fn trace_words<'a>(texts: &Texts<'a>) -> Option<TraceWords<'a>>
-    ensures is { option_map trace_named result ≡ spec.trace_words (seen texts.now) }
-    ensures within { IfSome result (λ w. IsWithin (spec.Trace (trace_named w))) }
+    ensures is { option_map trace_named result ≡ spec.trace_with (seen texts.now) }
+    ensures within { IfSome result (λ w. IsWithin (trace_named w)) }
 {
     let KahnWords {
         file,

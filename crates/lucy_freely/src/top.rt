@@ -3,6 +3,7 @@ ghost use Rattle.std.specs.Prelude.{◌≡◌, ◌⊎◌, ◌≤◌, None, map, 
 ghost use Rattle.lucy_host.specs.Host.{Serves, lent};
 ghost use Rattle.lucy_command.specs.Commands.{command_of};
 ghost use Rattle.lucy_run.specs.Engines.{CanBePlayed, IsPlayedTo};
+ghost use Rattle.lucy_app.specs.World.{world};
 ghost use Rattle.lucy_app.specs.Engines.{whole_run, EndsPlaying};
 
 use crate::playing::play_freely;
@@ -40,21 +41,8 @@ pub fn lucy_free<
     requires { Serves F.pre F.post host.now }
     // How the call ends, by what the words give `run`, where they name it and no block.
     ensures ends { EndsPlaying (whole_run (command_of (map string_bytes words.now)))
-        (record {
-          shelf = S.seen shelf.old;
-          source = I.seen input.old;
-          out = O.seen out.old;
-          err = E.seen err.old;
-          operators = lent host.now;
-        })
-        (record {
-          shelf = S.seen shelf.new;
-          source = I.seen input.new;
-          out = O.seen out.new;
-          err = E.seen err.new;
-          operators = lent host.now;
-        })
-        result }
+        (world (S.seen shelf.old) (I.seen input.old) (O.seen out.old) (E.seen err.old) (lent host.now))
+        (world (S.seen shelf.new) (I.seen input.new) (O.seen out.new) (E.seen err.new) (lent host.now)) result }
     ensures statuses { result ≤ 7 }
     // Other words are refused, and then nothing but `err` is touched.
     ensures other_words { whole_run (command_of (map string_bytes words.now)) ≡ None → (result ≡ 2) ⊎ (result ≡ 5) ⊎ (result ≡ 7) }

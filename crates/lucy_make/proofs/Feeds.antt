@@ -1,6 +1,6 @@
 -- The feed of an input that a source holds which never fails.
 use Rattle.std.proofs.Common.{ℕ, ◌≡◌, ◌⊎◌, true, List, [], ◌∷◌, ◌++◌, Option, Some, None, Ok, refl, ap, sym, ◌∙◌, subst, inl, inr, arith}
-use Rattle.std.specs.Prelude.{ℤ}
+use Rattle.std.specs.Prelude.{ℤ, IsTrue}
 use Rattle.std.proofs.lemmas.List.{append-nil}
 use Rattle.std.proofs.lemmas.Option.{same_Some}
 use Rattle.lucy_text.proofs.OutsideLaws.{followed, AtEnd}
@@ -13,13 +13,12 @@ use Rattle.lucy_lines.specs.declared.reader.TextFault.{TextFault}
 use Rattle.lucy_lines.specs.declared.reader.TextFault.TheVariants.{BadLine, UnknownStream, BadValue, ReadFault, TooLong}
 use Rattle.lucy_feed.specs.declared.feeds.Feed.{Feed}
 use Rattle.lucy_feed.specs.Sources.{Stop, Ended, Failed, Open, Drained, StoppedAt, Read}
-use Rattle.lucy_feed.specs.Feeding.{StopsFor, IsFeedOf, IsFeed}
+use Rattle.lucy_feed.specs.Feeding.{is_closed, StopsFor, IsFeedOf, IsFeed}
 use Rattle.lucy_run.specs.Feeds.{Feeds}
-use Rattle.lucy_make.specs.Owes.{IsWhole}
 
 -- a feed of all of this input
 abbrev IsWholeFeed : List InputSpec → (input : List ℕ) → Feed → Type 0
-IsWholeFeed inputs input feed = (stop : Stop) × IsWhole stop × IsFeed inputs input stop (Ok feed)
+IsWholeFeed inputs input feed = (stop : Stop) × IsTrue (is_closed stop) × IsFeed inputs input stop (Ok feed)
 
 module _ (law : CutInPieces) (inputs : List InputSpec) (input rest taken : List ℕ) (before after : SeenSource) (held : before.left ≡ Some input) (left : after.left ≡ Some rest)
     (steady : before.faults ≡ 0) (still : after.faults ≡ 0) where
@@ -55,10 +54,10 @@ module _ (law : CutInPieces) (inputs : List InputSpec) (input rest taken : List 
   refused fault stop items halt feed read stops e is (inl drained) =
       let P : Stop → Type 0 = λ s. StoppedAt most_bytes before after taken s in
       let so : StoppedAt most_bytes before after taken Drained = subst P drained read.stopped in
-      (Drained, inr refl, (items, halt, moved stop Drained items halt feed drained (at_end read.took so.1.0) is))
+      (Drained, refl, (items, halt, moved stop Drained items halt feed drained (at_end read.took so.1.0) is))
   refused fault stop items halt feed read stops e is (inr given_up) =
       let P : Stop → Type 0 = λ s. IsFeedOf inputs taken s items halt feed in
-      (Drained, inr refl, (items, halt, open_fed fault items halt feed (all_taken read.took) stops e (subst P given_up is)))
+      (Drained, refl, (items, halt, open_fed fault items halt feed (all_taken read.took) stops e (subst P given_up is)))
 
   stopped_for : (feed : Feed) (fault : Option TextFault) (stop : Stop) → feed.stop ≡ fault → StopsFor feed.stop stop → StopsFor fault stop
   stopped_for feed fault stop e h = (let P : Option TextFault → Type 0 = λ o. StopsFor o stop in subst P e h)
@@ -69,7 +68,7 @@ module _ (law : CutInPieces) (inputs : List InputSpec) (input rest taken : List 
       let ended : stop ≡ Ended = stopped_for feed None stop e is.stopped in
       let P : Stop → Type 0 = λ s. StoppedAt most_bytes before after taken s in
       let so : StoppedAt most_bytes before after taken Ended = subst P ended read.stopped in
-      (Ended, inl refl, (items, halt, moved stop Ended items halt feed ended (at_end read.took so.1.0) is))
+      (Ended, refl, (items, halt, moved stop Ended items halt feed ended (at_end read.took so.1.0) is))
   whole_for (Some ReadFault) stop items halt feed e read is =
       let failed : stop ≡ Failed = stopped_for feed (Some ReadFault) stop e is.stopped in
       let P : Stop → Type 0 = λ s. StoppedAt most_bytes before after taken s in
@@ -87,7 +86,7 @@ module _ (law : CutInPieces) (inputs : List InputSpec) (input rest taken : List 
 -- what main is fed of the generated input, by a source that held it and never failed
 pub whole_feeds : CutInPieces → (inputs : List InputSpec) (input rest taken : List ℕ) (stop : Stop) (before after : SeenSource) (lists : List (List ℤ)) (fault : Option TextFault) → (inputs ≡ [] → ⊥) →
     before.left ≡ Some input → after.left ≡ Some rest → before.faults ≡ 0 → after.faults ≡ 0 → Read most_bytes before after taken stop → Feeds inputs taken stop lists fault →
-    (other : Stop) × IsWhole other × Feeds inputs input other lists fault
+    (other : Stop) × IsTrue (is_closed other) × Feeds inputs input other lists fault
 whole_feeds law [] input rest taken stop before after lists fault some held left steady still read feeds = absurd (some refl)
 whole_feeds law (i ∷ inputs) input rest taken stop before after lists fault some held left steady still read (items, halt, is) =
     let (other, all, (found, at, fed)) = whole law (i ∷ inputs) input rest taken before after held left steady still stop items halt (record { items = lists; stop = fault }) read is in

@@ -2,12 +2,13 @@
 use Rattle.std.proofs.Common.{ℕ, ◌≤◌, ◌≡◌, List, [], ◌∷◌, ◌++◌, ◌+◌, length, map, drop, get_or, pos, ap, sym, refl, ◌∙◌, arith}
 use Rattle.std.specs.Prelude.{ℤ}
 use Rattle.std.specs.Int.{int_wrap}
-use Rattle.std.proofs.lemmas.List.{take-append-drop, length-append, length-map}
+use Rattle.std.proofs.lemmas.List.{take-append-drop, length-append}
 use Rattle.lucy_word.specs.Bits.{Bits, ones_to}
 use Rattle.lucy_word.specs.Limits.{limit_number}
 use Rattle.lucy_word.specs.declared.limit.Limit.TheVariants as limit
 use Rattle.lucy_word.proofs.BitsLaws.{ones_to-le}
 use Rattle.lucy_host.specs.declared.kind.HostKind.{HostKind}
+use Rattle.lucy_stream.specs.Items.{list_at}
 use Rattle.lucy_stream.specs.Fronts.{AreFronts}
 use Rattle.lucy_lines.specs.Cuts.{ItemOf}
 use Rattle.lucy_text.specs.Outside.{SeenSource}
@@ -16,11 +17,10 @@ use Rattle.lucy_place.specs.Proper.{AreProper}
 use Rattle.lucy_clock.specs.declared.node_clock.NodeClock.{NodeClock}
 use Rattle.lucy_meaning.specs.Spots.{main_of, results_in}
 use Rattle.lucy_meaning.specs.Horizons.{Suffice}
-use Rattle.lucy_execution.specs.Streams.{main_word, param_words, result_words, main_stream, main_streams, later_stream, cut_to}
+use Rattle.lucy_execution.specs.Streams.{main_word, param_words, result_words, main_stream, main_streams, cut_to}
 use Rattle.lucy_execution.specs.Running.{HasSchedule}
 use Rattle.lucy_run.specs.Courses.{CourseView, Program, CanRun, values, IsAlong, IsNext}
 use Rattle.lucy_make.specs.Figures.{sum_of}
-use Rattle.lucy_make.specs.Owes.{first_of}
 use Rattle.lucy_make.specs.Blocks.{first_to, first_after, IsTold, FirstGoesOn, FirstIsShort, FirstAgrees}
 
 -- the laws of streams that this stands on
@@ -38,26 +38,26 @@ StreamsAgree = (kinds : List HostKind) (inputs more : List (List ℤ)) (nodes : 
 
 -- a first list is what it has up to a cut, and then the rest
 parted : (word : ℕ → Bits) (list : ℕ → List ℤ) (s : ℕ) (places : List ℕ) →
-    first_of (map list places) ≡ first_of (cut_to s (map word places) (map list places)) ++ first_of (map (λ place. drop (ones_to (word place) s) (list place)) places)
+    list_at (map list places) 0 ≡ list_at (cut_to s (map word places) (map list places)) 0 ++ list_at (map (λ place. drop (ones_to (word place) s) (list place)) places) 0
 parted word list s [] = refl
 parted word list s (place ∷ places) = sym (take-append-drop (ones_to (word place) s) (list place))
 
 pub goes_on : StreamsGoOn → FirstGoesOn
 goes_on law p lists more s t can fronts l suffice =
     parted (main_word p.nodes p.clocks) (main_stream p.kinds more p.nodes p.clocks t) s (results_in (main_of p.nodes))
-    ∙ ap (λ xs. first_of xs ++ first_after p more s t) (law p.kinds lists more p.nodes p.clocks s t can.proper can.scheduled fronts l suffice)
+    ∙ ap (λ xs. list_at xs 0 ++ first_after p more s t) (law p.kinds lists more p.nodes p.clocks s t can.proper can.scheduled fronts l suffice)
 
-first_short : (lists : List (List ℤ)) (words : List Bits) (t : ℕ) → map length lists ≡ map (λ word. ones_to word t) words → length (first_of lists) ≤ t
-first_short [] words t e = omega arith
+first_short : (lists : List (List ℤ)) (words : List Bits) (t : ℕ) → map length lists ≡ map (λ word. ones_to word t) words → length (list_at lists 0) ≤ t
+first_short [] words t e = let none : length (list_at [] 0) ≡ 0 = refl in omega (arith, none)
 first_short (xs ∷ lists) [] t e = let none = ap length e in absurd (omega (arith, none))
-first_short (xs ∷ lists) (word ∷ words) t e = let head : length xs ≡ ones_to word t = ap (λ ns. get_or ns 0 0) e in omega (arith, head, ones_to-le word t)
+first_short (xs ∷ lists) (word ∷ words) t e = let head : length (list_at (xs ∷ lists) 0) ≡ ones_to word t = ap (λ ns. get_or ns 0 0) e in omega (arith, head, ones_to-le word t)
 
 pub short : StreamsAreWhole → FirstIsShort
 short law p lists t can suffice =
     first_short (main_streams p.kinds lists p.nodes p.clocks t) (result_words p.nodes p.clocks) t (law p.kinds lists p.nodes p.clocks t can.proper can.scheduled suffice)
 
 pub agrees : StreamsAgree → FirstAgrees
-agrees law p lists more t can fronts suffice = ap first_of (law p.kinds lists more p.nodes p.clocks t can.proper can.scheduled fronts suffice)
+agrees law p lists more t can fronts suffice = ap (λ xs. list_at xs 0) (law p.kinds lists more p.nodes p.clocks t can.proper can.scheduled fronts suffice)
 
 -- nothing was told yet
 no_sum : pos 0 ≡ sum_of []
@@ -76,14 +76,10 @@ begin short p first now c can along at =
 
 module _ (goes : FirstGoesOn) (short : FirstIsShort) (p : Program) (can : CanRun p) (first : SeenSource) (items : List ItemOf) (before now : SeenSource) (old new : CourseView)
     (along : IsAlong p first items before old) (streams : List (List ℤ)) (next : IsNext p first items now old new streams) where
-  -- as many lists as results
-  pub lists_many : length streams ≡ length (results_in (main_of p.nodes))
-  lists_many = ap length next.streams_are ∙ length-map (results_in (main_of p.nodes)) (later_stream p.kinds (values p (items ++ next.more)) p.nodes p.clocks old.horizon new.horizon)
-
-  module _ (more : List ℤ) (more_are : more ≡ first_of streams) where
+  module _ (more : List ℤ) (more_are : more ≡ list_at streams 0) where
     all : first_to p (values p items) old.horizon ++ more ≡ first_to p (values p (items ++ next.more)) new.horizon
     all =
-        ap (λ xs. first_to p (values p items) old.horizon ++ xs) (more_are ∙ ap first_of next.streams_are)
+        ap (λ xs. first_to p (values p items) old.horizon ++ xs) (more_are ∙ ap (λ xs. list_at xs 0) next.streams_are)
         ∙ sym (goes p (values p items) (values p (items ++ next.more)) old.horizon new.horizon can next.fronts next.later along.suffice)
 
     pub within : (count : ℕ) → count ≡ length (first_to p (values p items) old.horizon) → count + length more ≤ limit_number limit.Instants

@@ -1,33 +1,31 @@
 -- What a course of the generated program tells of main's first result.
 use Rattle.std.specs.Prelude.{ℕ, ℤ, ◌≤◌, ◌≡◌, List, [], ◌++◌, length}
 use Rattle.lucy_host.specs.declared.kind.HostKind.{HostKind}
+use Rattle.lucy_stream.specs.Items.{list_at}
 use Rattle.lucy_stream.specs.Fronts.{AreFronts}
 use Rattle.lucy_lines.specs.Cuts.{ItemOf}
 use Rattle.lucy_text.specs.Outside.{SeenSource}
-use Rattle.lucy_meaning.specs.Spots.{main_of, results_in}
 use Rattle.lucy_meaning.specs.Horizons.{Suffice}
 use Rattle.lucy_execution.specs.Streams.{main_streams, later_streams}
 use Rattle.lucy_run.specs.Courses.{CourseView, Program, CanRun, words_of, values, IsAlong, HasStopped}
 use Rattle.lucy_make.specs.Figures.{sum_of}
-use Rattle.lucy_make.specs.Owes.{first_of}
 
 -- by these lists the values of main's first result up to a horizon
 abbrev pub first_to : Program → (lists : List (List ℤ)) → (instants : ℕ) → List ℤ
-first_to p lists instants = first_of (main_streams p.kinds lists p.nodes p.clocks instants)
+first_to p lists instants = list_at (main_streams p.kinds lists p.nodes p.clocks instants) 0
 
 -- and those past an earlier one
 abbrev pub first_after : Program → (lists : List (List ℤ)) → (before instants : ℕ) → List ℤ
-first_after p lists before instants = first_of (later_streams p.kinds lists p.nodes p.clocks before instants)
+first_after p lists before instants = list_at (later_streams p.kinds lists p.nodes p.clocks before instants) 0
 
 -- by the items that were read so many values has it up to the horizon, with this sum
 pub record IsTold (p : Program) (items : List ItemOf) (horizon count : ℕ) (sum : ℤ) : Type 0 where
   pub counted : count ≡ length (first_to p (values p items) horizon)
   pub summed : sum ≡ sum_of (first_to p (values p items) horizon)
 
--- a course before its first block, of some program that can be run by operators of these kinds and has so many results
-abbrev pub IsFirst : List HostKind → (now : SeenSource) → CourseView → (results : ℕ) → Type 0
-IsFirst kinds now c results =
-    (p : Program) × (first : SeenSource) × CanRun p × IsAlong p first [] now c × (c.horizon ≡ 0) × (kinds ≡ p.kinds) × (length (results_in (main_of p.nodes)) ≡ results)
+-- a course before its first block, of some program that can be run by operators of these kinds
+abbrev pub IsFirst : List HostKind → (now : SeenSource) → CourseView → Type 0
+IsFirst kinds now c = (p : Program) × (first : SeenSource) × CanRun p × IsAlong p first [] now c × (c.horizon ≡ 0) × (kinds ≡ p.kinds)
 
 -- it was run to its last block, and main's first result was told
 abbrev pub Tells : (before now : SeenSource) (old new : CourseView) (count : ℕ) (sum : ℤ) → Type 0

@@ -1,13 +1,12 @@
 // What a course of the generated program tells of main's first result.
-ghost use Rattle.std.specs.Prelude.{◌≡◌, length, IfOk};
+ghost use Rattle.std.specs.Prelude.{◌≡◌, IfOk};
 ghost use Rattle.lucy_host.specs.Host.{Serves, lent};
 ghost use Rattle.lucy_host.specs.Operators.{kinds_of};
-ghost use Rattle.lucy_make.specs.Owes.{first_of};
 ghost use Rattle.lucy_make.specs.Blocks.{IsFirst, Tells};
 
 use crate::figures::Tally;
 use crate::laws::first_goes_on;
-use lucy_host::{Host, Inputs};
+use lucy_host::Host;
 use lucy_run::Course;
 use lucy_text::Source;
 use lucy_word::OutOfMemory;
@@ -15,15 +14,7 @@ use lucy_worker::Gate;
 use std::alloc::Global;
 use std::thread::Threads;
 
-// The first of so many lists, or nothing where there is none.
-fn first<'a>(lists: &'a Inputs, count: usize) -> &'a [i64]
-    requires { length lists.now ≡ count }
-    ensures { result.now ≡ first_of lists.now }
-{
-    if count == 0 { &[] } else { lists.list(0) }
-}
-
-/// Runs a course from its first block to its last: the tally of main's first result, of so many results.
+/// Runs a course from its first block to its last: the tally of main's first result, where it has one.
 pub(crate) fn tell<
     R: Threads + Sync,
     F: Fn(u32, i64, i64) -> i64 + Sync,
@@ -34,12 +25,11 @@ pub(crate) fn tell<
     alloc: Global,
     host: &Host<F>,
     gate: &G,
-    results: usize,
     course: &mut Course<'_>,
     source: &mut I,
 ) -> Result<Tally, OutOfMemory>
     requires serves { Serves F.pre F.post host.now }
-    requires first { IsFirst (kinds_of (lent host.now)) (I.seen source.old) course.old results }
+    requires first { IsFirst (kinds_of (lent host.now)) (I.seen source.old) course.old }
     ensures tells { IfOk result (λ tally. Tells (I.seen source.old) (I.seen source.new) course.old course.new tally.count tally.sum) }
     ensures given { course.new.given ≡ course.old.given }
 {
@@ -47,7 +37,7 @@ pub(crate) fn tell<
     let mut tally = Tally { count: 0, sum: 0 };
     'blocks: while course.goes_on() {
         let streams = course.next_block(rt, alloc, host, gate, source)?;
-        tally.add(first(&streams, results));
+        tally.add(streams.get(0));
     }
     Ok(tally)
 }

@@ -48,7 +48,6 @@ pub fn summary<R: Threads + Sync, F: Fn(u32, i64, i64) -> i64 + Sync, G: Gate + 
         net,
         schedule,
         inputs,
-        outputs,
         ..
     } = accepted;
     accepted_programs_are_clocked();
@@ -70,15 +69,7 @@ pub fn summary<R: Threads + Sync, F: Fn(u32, i64, i64) -> i64 + Sync, G: Gate + 
         Ok(course) => course,
         Err(_) => return Err(Ending::OutOfMemory),
     };
-    let tally = match tell(
-        rt,
-        alloc,
-        host,
-        gate,
-        outputs.len(),
-        &mut course,
-        &mut source,
-    ) {
+    let tally = match tell(rt, alloc, host, gate, &mut course, &mut source) {
         Ok(tally) => tally,
         Err(_) => return Err(Ending::OutOfMemory),
     };

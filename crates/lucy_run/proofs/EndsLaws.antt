@@ -37,17 +37,17 @@ use Rattle.lucy_run.specs.Played.{HasWritten, FailsBehind, wanting_at, BreaksOff
 use Rattle.lucy_feed.specs.Feeding.{IsAsked}
 use Rattle.lucy_feed.proofs.FeedLaws.{asked_as}
 use Rattle.lucy_run.specs.Ends.{EndsWith, EndsRun, Outputs, FailsInBlock}
-use Rattle.lucy_run.specs.Steps.{LeavesOwed, IsWhole, refusal_ending}
+use Rattle.lucy_run.specs.Steps.{LeavesOwed, EndsWhole, refusal_ending}
 use Rattle.lucy_run.proofs.FedLaws.{read_nothing, fed_not_yet}
 use Rattle.lucy_run.proofs.HorizonLaws.{some_horizon, suffice_either}
 use Rattle.lucy_run.proofs.ReadLaws.{suffice_longer, suffice_earlier}
 
 -- a run that comes to its end so has the whole output
-pub ends_whole : (words : List Bits) (given : Option ℕ) (lists : List (List ℤ)) (fault : Option TextFault) (end : Ending) → EndsFor words given lists fault end → IsWhole end
-ends_whole words given lists (Some fault) end e = subst IsWhole (sym e) tt
-ends_whole words (Some n) lists None end e = subst IsWhole (sym e) tt
-ends_whole words None lists None end (inl e) = subst IsWhole (sym e.0) tt
-ends_whole words None lists None end (inr e) = subst IsWhole (sym e.0) tt
+pub ends_whole : (words : List Bits) (given : Option ℕ) (lists : List (List ℤ)) (fault : Option TextFault) (end : Ending) → EndsFor words given lists fault end → EndsWhole end
+ends_whole words given lists (Some fault) end e = subst EndsWhole (sym e) tt
+ends_whole words (Some n) lists None end e = subst EndsWhole (sym e) tt
+ends_whole words None lists None end (inl e) = subst EndsWhole (sym e.0) tt
+ends_whole words None lists None end (inr e) = subst EndsWhole (sym e.0) tt
 
 -- a run ends in some way
 pub some_ending : (words : List Bits) (given : Option ℕ) (lists : List (List ℤ)) (fault : Option TextFault) → (end : Ending) × EndsFor words given lists fault end
@@ -58,7 +58,7 @@ some_ending words None lists None = elim (suffice_either words lists (limit_numb
   | inr none ↦ (ending.Done, inr (refl, none))
 ]
 
-pub owed_written : (Owes : List ℕ → Ending → Type 0) (output : List ℕ) (end : Ending) (before after : SeenSink) → IsWhole end → Owes output end → Writes before after output →
+pub owed_written : (Owes : List ℕ → Ending → Type 0) (output : List ℕ) (end : Ending) (before after : SeenSink) → EndsWhole end → Owes output end → Writes before after output →
     LeavesOwed Owes before after end
 owed_written Owes output ending.Done before after whole o w = (output, o, w)
 owed_written Owes output (ending.Input f) before after whole o w = (output, o, w)
@@ -218,7 +218,7 @@ module _ (kinds : List HostKind) (a : Accepted) (given : Option ℕ) where
     record {
       asked = over.asked;
       output = whole_with result over.ends (subst (Writes was between) e w);
-      in_order = λ fault. absurd (subst IsWhole fault (ends_whole (input_words a) given over.lists over.fault result over.ends));
+      in_order = λ fault. absurd (subst EndsWhole fault (ends_whole (input_words a) given over.lists over.fault result over.ends));
     },
   )
     where
@@ -232,7 +232,7 @@ module _ (kinds : List HostKind) (a : Accepted) (given : Option ℕ) where
       whole_with end ends head = ends_with end (ends_whole (input_words a) given over.lists over.fault end ends)
           (over.lists, over.fault, horizon, record { feeds = over.feeds; horizon_is = over.horizon_is }, refl, ends) (writes_more was between now (heading a) (lines_to kinds a over.lists horizon) head lines)
         where
-          ends_with : (end : Ending) → IsWhole end → OwesRun kinds a given over.taken over.stop output end → Writes was now output → EndsWith (OwesRun kinds a given over.taken) (CountsAs over.stop) over.stop was now end
+          ends_with : (end : Ending) → EndsWhole end → OwesRun kinds a given over.taken over.stop output end → Writes was now output → EndsWith (OwesRun kinds a given over.taken) (CountsAs over.stop) over.stop was now end
           ends_with ending.WriteFault whole owes all = absurd whole
           ends_with ending.OutOfMemory whole owes all = absurd whole
           ends_with ending.Done whole owes all = (output, owes, all)

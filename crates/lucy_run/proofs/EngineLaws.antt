@@ -22,7 +22,7 @@ use Rattle.lucy_run.specs.declared.playing.Played.{Played}
 use Rattle.lucy_run.specs.Feeds.{Feeds, CountsAs, IsMainFeed}
 use Rattle.lucy_run.specs.Owes.{most_instants, input_words, lines_to, heading, OwesRun}
 use Rattle.lucy_run.specs.Ends.{EndsWith, Outputs}
-use Rattle.lucy_run.specs.Steps.{IsWhole, HasPlayed, LeavesWritten}
+use Rattle.lucy_run.specs.Steps.{EndsWhole, HasPlayed, LeavesWritten}
 use Rattle.lucy_run.proofs.EndsLaws.{RunGives, some_ending, take_front, ends_whole, run_unplayed}
 use Rattle.lucy_run.proofs.FedLaws.{fed_by_all}
 use Rattle.lucy_run.proofs.HorizonLaws.{some_horizon}
@@ -66,7 +66,7 @@ module _ (kinds : List HostKind) (a : Accepted) (given : Option ℕ) where
       let (counted, closed, fault, feeds) = fed_by_all input inputs taken items halt cut in
       let P : List InputSpec → Type 0 = λ u. Feeds u taken counted (values_by_stream (length (input ∷ inputs)) items) fault in
       let Q : Stop → Type 0 = λ u. CountsAs u counted in
-      let counts : CountsAs stop counted = subst Q (sym broken) (inr (tt, closed)) in (
+      let counts : CountsAs stop counted = subst Q (sym broken) (inr (inr refl, closed)) in (
         taken,
         stop,
         read,
@@ -104,7 +104,7 @@ module _ (kinds : List HostKind) (a : Accepted) (given : Option ℕ) where
       owes : OwesRun kinds a given taken stop output played.ending
       owes = (feed.items, feed.stop, played.horizon, record { feeds = feeds; horizon_is = has.horizon_is }, refl, has.ends)
 
-      whole : (end : Ending) (now : SeenSink) → IsWhole end → OwesRun kinds a given taken stop output end → Writes was now output →
+      whole : (end : Ending) (now : SeenSink) → EndsWhole end → OwesRun kinds a given taken stop output end → Writes was now output →
           EndsWith (OwesRun kinds a given taken) (CountsAs stop) stop was now end
       whole ending.WriteFault now all owed lines = absurd all
       whole ending.OutOfMemory now all owed lines = absurd all

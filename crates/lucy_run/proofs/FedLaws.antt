@@ -51,4 +51,4 @@ fed_not_yet [] = (Unread, inl refl, [], None, (refl, refl, refl, refl))
 fed_not_yet (input ∷ inputs) =
     let (items, halt, cut) = some_cut (input ∷ inputs) true (input_of []) in
     let (counted, closed, fault, feeds) = fed_by_all input inputs [] items halt cut in
-    (counted, inr (tt, closed), values_by_stream (length (input ∷ inputs)) items, fault, feeds)
+    (counted, inr (inl refl, closed), values_by_stream (length (input ∷ inputs)) items, fault, feeds)

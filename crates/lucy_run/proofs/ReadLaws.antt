@@ -63,7 +63,7 @@ module _ (turn : ValuesInTurn) where
         others = values_by_stream (length (input ∷ inputs)) (items ++ going.begin.0);
         fronts = values_front (length (input ∷ inputs)) items going.begin.0;
         counted = counted;
-        counts = inr (tt, closed);
+        counts = inr (inr refl, closed);
         fault = fault;
         fed = feeds;
       }
@@ -107,7 +107,7 @@ module _ (turn : ValuesInTurn) where
         others = values_by_stream (length (input ∷ inputs)) (items ++ given_up.begin.0);
         fronts = values_front (length (input ∷ inputs)) items given_up.begin.0;
         counted = counted;
-        counts = inr (tt, closed);
+        counts = inr (inr refl, closed);
         fault = fault;
         fed = feeds;
       }

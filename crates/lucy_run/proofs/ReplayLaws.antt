@@ -1,6 +1,6 @@
 -- What the replay of a log comes to.
 use Rattle.std.proofs.Common.{◌≡◌, ℕ, ◌+◌, ◌≤◌, List, ◌++◌, length, take, Option, Some, None, Result, Ok, Err, refl, ap, sym, ◌∙◌, subst, inl, inr, arith}
-use Rattle.std.specs.Prelude.{ℤ, codes, decimal}
+use Rattle.std.specs.Prelude.{ℤ, slice_get}
 use Rattle.std.proofs.lemmas.List.{take_all}
 use Rattle.std.proofs.lemmas.Option.{slice_get_within}
 use Rattle.lucy_word.specs.Bits.{Bits}
@@ -19,7 +19,7 @@ use Rattle.lucy_core.specs.Seen.{Seen, CanRun, IsUnbegun, after_picks, machine_o
 use Rattle.lucy_trace.specs.Logs.{possible_of, IsFirstImpossible}
 use Rattle.lucy_trace.specs.declared.error.TraceError.{TraceError}
 use Rattle.lucy_trace.specs.declared.error.TraceError.TheVariants.{NotPossible}
-use Rattle.lucy_trace.proofs.RunLaws.{none_beyond}
+use Rattle.lucy_trace.proofs.RunLaws.{none_longer}
 use Rattle.lucy_output.specs.declared.output.OutputSpec.{OutputSpec}
 use Rattle.lucy_output.specs.Outputs.{output_text, lines_after}
 use Rattle.lucy_output.specs.Writing.{WriterState, new_writer}
@@ -35,10 +35,10 @@ use Rattle.lucy_run.specs.declared.ending.Ending.{Ending}
 use Rattle.lucy_run.specs.declared.ending.Ending.TheVariants as ending
 use Rattle.lucy_run.specs.Feeds.{IsMainFeed}
 use Rattle.lucy_run.specs.Owes.{input_words, IsHorizonOf, EndsFor, IsFed}
-use Rattle.lucy_run.specs.Replays.{first_core, SaysOver, IsTally, IsReplayText, Judges, OwesReplay}
+use Rattle.lucy_run.specs.Replays.{first_core, SaysOver, tally, IsTally, IsReplayText, Judges, OwesReplay}
 use Rattle.lucy_run.specs.Ends.{EndsReplay}
 use Rattle.lucy_run.specs.Laws.{CompleteReplay}
-use Rattle.lucy_run.specs.Steps.{IsWhole, LeavesOwed, LeavesJudged, IsPrinted}
+use Rattle.lucy_run.specs.Steps.{EndsWhole, LeavesOwed, LeavesJudged, IsPrinted}
 use Rattle.lucy_run.proofs.OwesLaws.{OneHorizon, fed_once, ends_once, carried, done_for}
 use Rattle.lucy_run.proofs.WholeLaws.{owed_so}
 use Rattle.lucy_run.proofs.EndsLaws.{owed_written, owed_more, owed_ends}
@@ -54,17 +54,22 @@ run_possible seen picks run =
 
 -- events with one that isn't possible are no run
 impossible_run : (seen : Seen) (picks : List ℕ) (e : TraceError) → IsFirstImpossible seen picks e → CanRun seen picks → ⊥
-impossible_run seen picks e (actor, is, at) run = none_beyond (machine_of seen).sys (done_of seen.done) picks (slice_get_within picks (possible_of seen picks) actor at) run
+impossible_run seen picks e (count, actor, front, none, at, is) run =
+    let sys = (machine_of seen).sys in
+    let all : IsRun sys (done_of seen.done) (take (length picks) picks) =
+    subst (IsRun sys (done_of seen.done)) (sym (take_all (length picks) picks (omega arith))) run in
+    let few = none_longer sys (done_of seen.done) picks count (length picks) none all in
+    absurd (omega (arith, few, slice_get_within picks count actor at))
 
 module _ (first : Seen) (nodes : List PlacedNode) (outputs : List OutputSpec) (picks : List ℕ) where
   -- what a core prints behind a run is the text of these events
   pub printed_text : IsUnbegun first → IsSame (state_of (after_picks first picks)) (events (machine_of first) (state_of first) picks) → (output : List ℕ) →
       IsPrinted (after_picks first picks) nodes outputs (length picks) output → IsReplayText first nodes outputs picks output
-  printed_text none same output (tally, is, text) =
+  printed_text none same output (told, is, text) =
       let s : State = state_of (after_picks first picks) in
       let t : State = events (machine_of first) start picks in
       let took : (r : ℕ) → s.took r ≡ t.took r = λ r. same.took r ∙ ap (λ (u : State). (events (machine_of first) u picks).took r) (unbegun_start first none) in
-      (tally, is, text ∙ ap (λ lists. tally ++ output_text outputs lists first.instants) (taken_same _ s t took))
+      (told, is, text ∙ ap (λ lists. told ++ output_text outputs lists first.instants) (taken_same _ s t took))
 
   -- and so a core that did the events leaves what they come to
   pub judged_run : (core : Seen) → IsUnbegun first → CanRun first picks → IsSame (state_of (after_picks first picks)) (events (machine_of first) (state_of first) picks) →
@@ -84,7 +89,7 @@ module _ (first : Seen) (nodes : List PlacedNode) (outputs : List OutputSpec) (p
 
 -- what is printed of a core, from the parts that are written
 module _ (core : Seen) (nodes : List PlacedNode) (outputs : List OutputSpec) (count horizon : ℕ) (lists : List (List ℤ)) (text bytes : List ℕ) (writer : WriterState) (end : Ending)
-    (tally : IsTally core count text) (same : bytes ≡ text) (took : lists ≡ taken_lists nodes core.net (state_of core)) (at : horizon ≡ core.instants) (new : writer ≡ new_writer outputs) where
+    (told : IsTally core count text) (same : bytes ≡ text) (took : lists ≡ taken_lists nodes core.net (state_of core)) (at : horizon ≡ core.instants) (new : writer ≡ new_writer outputs) where
   abbrev lines : List ℕ
   lines = output_text outputs (taken_lists nodes core.net (state_of core)) core.instants
 
@@ -97,7 +102,7 @@ module _ (core : Seen) (nodes : List PlacedNode) (outputs : List OutputSpec) (co
       ∙ ap (λ ls. output_text outputs ls horizon) took ∙ ap (output_text outputs (taken_lists nodes core.net (state_of core))) at
 
   prints : Prints (text ++ lines) end
-  prints = ((text, tally, refl), refl)
+  prints = ((text, told, refl), refl)
 
   -- the tally could not be written
   pub tally_failed : (was now : SeenSink) → Fails was now bytes → LeavesOwed Prints was now ending.WriteFault
@@ -109,7 +114,7 @@ module _ (core : Seen) (nodes : List PlacedNode) (outputs : List OutputSpec) (co
     lines_failed f = (text ++ lines, end, prints, fails_behind was between now text lines (subst (Writes was between) same head) (subst (Fails between now) lines_are f))
 
     -- all was written
-    pub all_printed : IsWhole end → Writes between now (lines_after writer.outputs lists writer.instants horizon) → LeavesOwed Prints was now end
+    pub all_printed : EndsWhole end → Writes between now (lines_after writer.outputs lists writer.instants horizon) → LeavesOwed Prints was now end
     all_printed whole w =
         owed_written Prints (text ++ lines) end was now whole prints (writes_more was between now text lines (subst (Writes was between) same head) (subst (Writes between now) lines_are w))
 
@@ -122,14 +127,17 @@ says_once core line other (inr h) (inr k) = h.1 ∙ sym k.1
 
 pub text_once : (first : Seen) (nodes : List PlacedNode) (outputs : List OutputSpec) (picks output out : List ℕ) →
     IsReplayText first nodes outputs picks output → IsReplayText first nodes outputs picks out → output ≡ out
-text_once first nodes outputs picks output out (tally, (line, says, is), text) (other, (word, said, also), same) =
-    let tallies : tally ≡ other = is ∙ ap (λ l. codes "events " ++ (decimal (length picks) ++ (codes "\n" ++ l))) (says_once (after_picks first picks) line word says said) ∙ sym also in
+text_once first nodes outputs picks output out (told, (line, says, is), text) (other, (word, said, also), same) =
+    let tallies : told ≡ other = is ∙ ap (tally (length picks)) (says_once (after_picks first picks) line word says said) ∙ sym also in
     text ∙ ap (λ t. t ++ output_text outputs (taken_lists nodes first.net (events (machine_of first) start picks)) first.instants) tallies ∙ sym same
 
 impossible_once : (seen : Seen) (picks : List ℕ) (e f : TraceError) → IsFirstImpossible seen picks e → IsFirstImpossible seen picks f → e ≡ f
-impossible_once seen picks e f (actor, is, at) (other, also, there) =
-    let same : Some actor ≡ Some other = sym at ∙ there in
-    is ∙ ap (NotPossible (possible_of seen picks + 1)) (cc same) ∙ sym also
+impossible_once seen picks e f (count, actor, front, none, at, is) (last, other, back, never, there, also) =
+    let sys = (machine_of seen).sys in
+    let same : count ≡ last =
+    omega (arith, none_longer sys (done_of seen.done) picks count last none back, none_longer sys (done_of seen.done) picks last count never front) in
+    let one : Some actor ≡ Some other = sym at ∙ ap (slice_get picks) same ∙ there in
+    is ∙ ap (λ n. NotPossible (n + 1) actor) same ∙ ap (NotPossible (last + 1)) (cc one) ∙ sym also
 
 -- events come to one thing
 judged_once : (first : Seen) (nodes : List PlacedNode) (outputs : List OutputSpec) (words : List Bits) (given : Option ℕ) (lists : List (List ℤ)) (fault : Option TextFault) (picks output out : List ℕ)

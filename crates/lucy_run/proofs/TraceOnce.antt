@@ -1,4 +1,4 @@
--- What the trace of a run owes is one ending, and traces up to one horizon.
+-- What the trace of a run owes is one ending, and traces up to the horizon of what main is fed.
 use Rattle.std.proofs.Common.{◌≡◌, ℕ, List, Option}
 use Rattle.std.specs.Prelude.{ℤ}
 use Rattle.lucy_lines.specs.Laws.{OneCut, CutInPieces}
@@ -15,7 +15,7 @@ trace_once one horizons a given taken stop output out end other (lists, fault, h
     let same = fed_once one horizons a given taken stop lists others fault stops horizon last fed so in
     let P : List (List ℤ) → Option TextFault → ℕ → Type 0 = λ u f t. IsTraceText a.net t output × EndsFor (input_words a) given u f end in
     let moved = carried P lists others fault stops horizon last same.0 same.1 same.2 (traced, ends) in
-    (ends_once (input_words a) given others stops end other moved.1 past, last, moved.0, traces)
+    (ends_once (input_words a) given others stops end other moved.1 past, others, stops, last, so, moved.0, traces)
 
 -- by an input without a fault a run is traced to its end
 pub trace_whole : OneCut → CutInPieces → OneHorizon → CompleteTrace

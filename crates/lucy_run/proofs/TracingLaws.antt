@@ -27,10 +27,10 @@ use Rattle.lucy_run.specs.declared.ending.Ending.{Ending}
 use Rattle.lucy_run.specs.declared.ending.Ending.TheVariants as ending
 use Rattle.lucy_run.specs.Feeds.{IsMainFeed}
 use Rattle.lucy_run.specs.Owes.{input_words, lines_to, heading, IsHorizonOf, EndsFor, IsFed, OwesRun}
-use Rattle.lucy_run.specs.Replays.{first_core, IsReplayText, OwesReplay}
-use Rattle.lucy_run.specs.Tracing.{OwesTrace, finished_tally}
+use Rattle.lucy_run.specs.Replays.{first_core, tally, IsReplayText, OwesReplay}
+use Rattle.lucy_run.specs.Tracing.{OwesTrace}
 use Rattle.lucy_run.specs.Ends.{EndsWith, EndsTrace, IsFrontOf, Outputs}
-use Rattle.lucy_run.specs.Steps.{IsWhole, LeavesFront, OwesTraceOf}
+use Rattle.lucy_run.specs.Steps.{EndsWhole, LeavesFront, OwesTraceOf}
 use Rattle.lucy_run.proofs.EndsLaws.{take_front}
 
 -- a core can be made of the copies of a net and of inputs, by another schedule of the net
@@ -64,7 +64,7 @@ stand_together core runner net schedule anew inputs ops others instants is stand
 pub front_nothing : (Owes : List ℕ → Ending → Type 0) (s : SeenSink) → LeavesFront Owes s s ending.OutOfMemory
 front_nothing Owes s = ([], inl refl, unwritten s)
 
-front_written : (Owes : List ℕ → Ending → Type 0) (output : List ℕ) (end : Ending) (was now : SeenSink) → IsWhole end →
+front_written : (Owes : List ℕ → Ending → Type 0) (output : List ℕ) (end : Ending) (was now : SeenSink) → EndsWhole end →
     Owes output end → Writes was now output →
     LeavesFront Owes was now end
 front_written Owes output ending.Done was now whole owes w = (output, owes, w)
@@ -75,7 +75,7 @@ front_written Owes output ending.OutOfMemory was now whole owes w = absurd whole
 
 -- what is left where a net was traced up to a horizon, and the run then ends so
 module _ (net : Net) (horizon : ℕ) (end : Ending) (was now : SeenSink) where
-  pub all_traced : IsWhole end → (text : List ℕ) × IsTraceText net horizon text × Writes was now text →
+  pub all_traced : EndsWhole end → (text : List ℕ) × IsTraceText net horizon text × Writes was now text →
       LeavesFront (OwesTraceOf net horizon end) was now end
   all_traced whole (text, trace, w) = front_written (OwesTraceOf net horizon end) text end was now whole (trace, refl) w
 
@@ -173,16 +173,16 @@ pub replayed : (ops : List Operator) (a : Accepted) (given : Option ℕ) (taken 
     LeadToStreams a.placed.nodes a.clocks.items (first_core ops a lists horizon) (concat rounds) →
     (picks : List ℕ) × (lines : List ℕ) × AreRead (picks_of output) picks × OwesRun (kinds_of ops) a given taken stop
     (heading a ++ lines) end
-    × OwesReplay ops a given picks taken stop (finished_tally (length picks) ++ lines) (Ok end)
+    × OwesReplay ops a given picks taken stop (tally (length picks) (codes "finished\n") ++ lines) (Ok end)
 replayed ops a given taken stop output end lists fault horizon rounds fed is ends logs few leads =
     let picks : List ℕ = concat rounds in
     let lines : List ℕ = lines_to (kinds_of ops) a lists horizon in
-    let tally : List ℕ = finished_tally (length picks) in
+    let text : List ℕ = tally (length picks) (codes "finished\n") in
     let small : All (λ p. p < 2 ^ 32) picks = λ k d l. omega (arith, leads.actors k d l, few) in
-    let printed : IsReplayText (first_core ops a lists horizon) a.placed.nodes a.outputs.items picks (tally ++ lines) = (
-      tally,
+    let printed : IsReplayText (first_core ops a lists horizon) a.placed.nodes a.outputs.items picks (text ++ lines) = (
+      text,
       (codes "finished\n", inl (leads.over, refl), refl),
-      ap (λ ls. tally ++ output_text a.outputs.items ls horizon)
+      ap (λ ls. text ++ output_text a.outputs.items ls horizon)
           (sym leads.taken),
     ) in (
       picks,

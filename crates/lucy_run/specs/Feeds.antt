@@ -29,15 +29,9 @@ abbrev pub IsInput : List InputSpec → (left : Option (List ℕ)) → (lists : 
 IsInput [] left lists = lists ≡ []
 IsInput (input ∷ inputs) left lists = IsSomeAnd left (λ bytes. Feeds (input ∷ inputs) bytes Ended lists None)
 
--- reading was not begun, or given up before its stop
-abbrev pub IsUnfinished : Stop → Type 0
-IsUnfinished Unread = Unit {0}
-IsUnfinished Open = Unit {0}
-IsUnfinished stop = ⊥
-
--- the bytes taken count as read so: as they were, or, where reading is unfinished, as all that there are
+-- the bytes taken count as read so: as they were, or, where reading was not begun or was given up, as all that there are
 abbrev pub CountsAs : (stop counted : Stop) → Type 0
-CountsAs stop counted = (counted ≡ stop) ⊎ (IsUnfinished stop × IsTrue (is_closed counted))
+CountsAs stop counted = (counted ≡ stop) ⊎ (((stop ≡ Unread) ⊎ (stop ≡ Open)) × IsTrue (is_closed counted))
 
 -- main was fed so; or memory ran out, and reading was given up
 abbrev pub IsMainFeed : List InputSpec → (taken : List ℕ) → Stop → Result Feed OutOfMemory → Type 0

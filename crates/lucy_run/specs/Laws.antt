@@ -5,6 +5,7 @@ use Rattle.lucy_host.specs.declared.kind.HostKind.{HostKind}
 use Rattle.lucy_host.specs.Operators.{Operator}
 use Rattle.lucy_text.specs.Outside.{Rose, SeenSource}
 use Rattle.lucy_lines.specs.Fronts.{most_bytes}
+use Rattle.lucy_lines.specs.declared.reader.TextFault.{TextFault}
 use Rattle.lucy_feed.specs.Sources.{Stop, Read}
 use Rattle.lucy_execution.specs.Running.{HasManyTurns, HasManyItems}
 use Rattle.lucy_front.specs.declared.accepted.Accepted.{Accepted}
@@ -16,7 +17,7 @@ use Rattle.lucy_run.specs.Tracing.{OwesTrace}
 use Rattle.lucy_run.specs.declared.ending.Ending.{Ending}
 use Rattle.lucy_run.specs.declared.ending.Ending.TheVariants as ending
 use Rattle.lucy_run.specs.Feeds.{IsInput}
-use Rattle.lucy_run.specs.Owes.{input_words, IsHorizonOf, heading, lines_to, AllowsMore, OwesRun, OwesKahn}
+use Rattle.lucy_run.specs.Owes.{input_words, IsHorizonOf, heading, lines_to, AllowsMore, IsFed, OwesRun, OwesKahn}
 
 -- the bytes taken and how reading stopped owe one output of `run`, with one ending
 abbrev pub OneRun : Type 0
@@ -64,11 +65,12 @@ CompleteReplay = (ops : List Operator) (a : Accepted) (given : Option ℕ) (befo
     Read most_bytes before after taken stop → (Rose before.faults after.faults → ⊥) → IsFedWell a given before.left lists horizon → CanRun (first_core ops a lists horizon) picks →
     OwesReplay ops a given picks taken stop output result → IsReplayText (first_core ops a lists horizon) a.placed.nodes a.outputs.items picks output × (result ≡ Ok ending.Done)
 
--- the bytes taken and how reading stopped owe one ending of `trace`, and traces up to one horizon
+-- the bytes taken and how reading stopped owe one ending of `trace`, and traces up to one horizon: that of what main is fed
 abbrev pub OneTrace : Type 0
 OneTrace = (a : Accepted) (given : Option ℕ) (taken : List ℕ) (stop : Stop) (output out : List ℕ) (end other : Ending) →
     OwesTrace a given taken stop output end → OwesTrace a given taken stop out other →
-    (end ≡ other) × (horizon : ℕ) × IsTraceText a.net horizon output × IsTraceText a.net horizon out
+    (end ≡ other) × (lists : List (List ℤ)) × (fault : Option TextFault) × (horizon : ℕ) × IsFed a given taken stop lists fault horizon
+    × IsTraceText a.net horizon output × IsTraceText a.net horizon out
 
 -- By such an input, where the count of its source did not rise, a run is traced to its end, over all those instants.
 abbrev pub CompleteTrace : Type 0

@@ -46,9 +46,9 @@ pub record FailsBehind (p : Program) (lists : List (List ℤ)) (done horizon : �
   pub failed : Fails between after rest
 
 -- the lines were written; or a write of those after the first of them failed
-abbrev pub LeavesFront : Program → List (List ℤ) → (done horizon : ℕ) → (before after : SeenSink) → OutputError → Type 0
-LeavesFront p lists done horizon before after Failed = FailsBehind p lists done horizon before after
-LeavesFront p lists done horizon before after OutOfMemory = Writes before after (lines_of p lists horizon)
+abbrev pub LeavesLines : Program → List (List ℤ) → (done horizon : ℕ) → (before after : SeenSink) → OutputError → Type 0
+LeavesLines p lists done horizon before after Failed = FailsBehind p lists done horizon before after
+LeavesLines p lists done horizon before after OutOfMemory = Writes before after (lines_of p lists horizon)
 
 -- what was wanting where bytes were asked for: where a write failed, items for so many instants
 abbrev pub wanting_at : Program → (aim : ℕ) → OutputError → List ItemOf → Type 0
@@ -67,7 +67,7 @@ pub record BreaksOff (p : Program) (first : SeenSource) (was : SeenSink) (block 
   pub within : horizon ≤ most
   pub suffice : Suffice (words_of p) lists horizon
   pub fed : IsFedSoFar (wanting_at p aim e) p.inputs first now lists
-  pub left : LeavesFront p lists done horizon was written e
+  pub left : LeavesLines p lists done horizon was written e
 
 -- More is read behind what was read, whatever that is, for so many instants, and kept.
 abbrev pub ReadsOn : (words : List Bits) (instants : ℕ) → (before after : SeenSource) (old new : FeedState) → Type 0

@@ -25,15 +25,19 @@ first_core ops a lists horizon = first_seen a.net a.schedule lists ops horizon
 abbrev pub SaysOver : Seen → (line : List ℕ) → Type 0
 SaysOver core line = (IsOver core × (line ≡ codes "finished\n")) ⊎ ((IsOver core → ⊥) × (line ≡ codes "unfinished\n"))
 
--- the lines of a core that has done so many events: how many, and whether that is all
+-- the lines that tell of so many events, of which this is the second
+abbrev pub tally : (count : ℕ) (line : List ℕ) → List ℕ
+tally count line = codes "events " ++ (decimal count ++ (codes "\n" ++ line))
+
+-- those of a core that has done so many events: how many, and whether that is all
 abbrev pub IsTally : Seen → (count : ℕ) → (text : List ℕ) → Type 0
-IsTally core count text = (line : List ℕ) × SaysOver core line × (text ≡ codes "events " ++ (decimal count ++ (codes "\n" ++ line)))
+IsTally core count text = (line : List ℕ) × SaysOver core line × (text ≡ tally count line)
 
 -- what is printed of events from here on: their tally, and the lines of the items that the outputs then took
 abbrev pub IsReplayText : Seen → List PlacedNode → List OutputSpec → (picks output : List ℕ) → Type 0
 IsReplayText first nodes outputs picks output =
-    (tally : List ℕ) × IsTally (after_picks first picks) (length picks) tally
-    × (output ≡ tally ++ output_text outputs (taken_lists nodes first.net (events (machine_of first) start picks)) first.instants)
+    (text : List ℕ) × IsTally (after_picks first picks) (length picks) text
+    × (output ≡ text ++ output_text outputs (taken_lists nodes first.net (events (machine_of first) start picks)) first.instants)
 
 -- what events come to from a core without an event so far: where they are a run that text, and the ending of what main is fed, and
 -- else the first that isn't possible, without a text

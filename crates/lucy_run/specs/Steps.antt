@@ -37,10 +37,10 @@ LeavesFront Owes before after ending.OutOfMemory =
 LeavesFront Owes before after result = (output : List ℕ) × Owes output result × Writes before after output
 
 -- the output is whole where a run ends so
-abbrev pub IsWhole : Ending → Type 0
-IsWhole ending.WriteFault = ⊥
-IsWhole ending.OutOfMemory = ⊥
-IsWhole end = Unit {0}
+abbrev pub EndsWhole : Ending → Type 0
+EndsWhole ending.WriteFault = ⊥
+EndsWhole ending.OutOfMemory = ⊥
+EndsWhole end = Unit {0}
 
 -- how a run ends where the plain interpreter gives no streams
 abbrev pub refusal_ending : KahnError → Ending
@@ -68,7 +68,7 @@ LeavesJudged Judges before after (Err e) = Judges [] (Err e) × (after ≡ befor
 -- what a core prints that has done so many events: their tally, and the lines of the items that its outputs took
 abbrev pub IsPrinted : Seen → List PlacedNode → List OutputSpec → (count : ℕ) → (output : List ℕ) → Type 0
 IsPrinted core nodes outputs count output =
-    (tally : List ℕ) × IsTally core count tally × (output ≡ tally ++ output_text outputs (taken_lists nodes core.net (state_of core)) core.instants)
+    (text : List ℕ) × IsTally core count text × (output ≡ text ++ output_text outputs (taken_lists nodes core.net (state_of core)) core.instants)
 
 -- a trace of a net up to a horizon, where the run then ends so
 abbrev pub OwesTraceOf : Net → (horizon : ℕ) → Ending → (output : List ℕ) → Ending → Type 0

@@ -1,6 +1,5 @@
 -- What the trace of a run owes: whose rounds stand on the output, and how it ends.
 use Rattle.std.specs.Prelude.{ℕ, ℤ, ◌≤◌, List, ◌++◌, length, Option, IfSome, Ok, codes}
-use Rattle.std.specs.Fmt.{decimal}
 use Rattle.lucy_word.specs.Limits.{limit_number}
 use Rattle.lucy_word.specs.declared.limit.Limit.TheVariants as limit
 use Rattle.lucy_host.specs.Operators.{Operator, kinds_of}
@@ -14,17 +13,13 @@ use Rattle.lucy_front.specs.declared.options.Options.{Options}
 use Rattle.lucy_front.specs.Accepting.{IsAccepted}
 use Rattle.lucy_run.specs.declared.ending.Ending.{Ending}
 use Rattle.lucy_run.specs.Owes.{input_words, heading, EndsFor, IsFed, OwesRun}
-use Rattle.lucy_run.specs.Replays.{OwesReplay}
+use Rattle.lucy_run.specs.Replays.{tally, OwesReplay}
 
 -- `trace`: a trace of the program's net up to the horizon of what main is fed, whichever it is
 abbrev pub OwesTrace : Accepted → (given : Option ℕ) → (taken : List ℕ) → Stop → (output : List ℕ) → Ending → Type 0
 OwesTrace a given taken stop output end =
     (lists : List (List ℤ)) × (fault : Option TextFault) × (horizon : ℕ) × IsFed a given taken stop lists fault horizon
     × IsTraceText a.net horizon output × EndsFor (input_words a) given lists fault end
-
--- what `replay` prints above the lines of results where so many events are all that there are
-abbrev pub finished_tally : (count : ℕ) → List ℕ
-finished_tally count = codes "events " ++ (decimal count ++ (codes "\n" ++ codes "finished\n"))
 
 -- A trace that is owed reads as a log. Over the same input the replay of that log is finished, prints the lines that `run` owes, and ends
 -- as the trace does.
@@ -34,4 +29,4 @@ TracesAreReplayed = (ops : List Operator) (o : Options) (text : List ℕ) (a : A
     IfSome given (λ n. n ≤ limit_number limit.Instants) → IsAccepted ops o text a → OwesTrace a given taken stop output end →
     (picks : List ℕ) × (lines : List ℕ) × AreRead (picks_of output) picks
     × OwesRun (kinds_of ops) a given taken stop (heading a ++ lines) end
-    × OwesReplay ops a given picks taken stop (finished_tally (length picks) ++ lines) (Ok end)
+    × OwesReplay ops a given picks taken stop (tally (length picks) (codes "finished\n") ++ lines) (Ok end)

@@ -23,7 +23,7 @@ ghost use Rattle.lucy_front.specs.Accepting.{IsAccepted};
 ghost use Rattle.lucy_run.specs.Owes.{IsHorizonOf, EndsFor};
 ghost use Rattle.lucy_run.specs.Replays.{IsTally, Judges};
 ghost use Rattle.lucy_run.specs.Ends.{EndsReplay};
-ghost use Rattle.lucy_run.specs.Steps.{IsWhole, IsPrinted, LeavesOwed, LeavesJudged};
+ghost use Rattle.lucy_run.specs.Steps.{EndsWhole, IsPrinted, LeavesOwed, LeavesJudged};
 
 use crate::ending::Ending;
 use crate::extent::extent_of;
@@ -70,7 +70,7 @@ fn print<O: Sink>(
     requires flat { IsFlat placed.now.nodes clocks.now core.now.net }
     requires outputs { length outputs.now ≡ length (results_in (main_of placed.now.nodes)) }
     requires horizon { horizon ≡ core.now.instants }
-    requires whole { IsWhole ending }
+    requires whole { EndsWhole ending }
     ensures left { LeavesOwed (λ output way. IsPrinted core.now placed.now.nodes outputs.now count output × (way ≡ ending)) (O.seen out.old) (O.seen out.new) result }
     ensures count { (O.seen out.old).faults ≤ (O.seen out.new).faults }
 {
@@ -115,7 +115,7 @@ fn judge<F: Fn(u32, i64, i64) -> i64 + Sync, O: Sink>(
     requires flat { IsFlat placed.now.nodes clocks.now core.old.net }
     requires outputs { length outputs.now ≡ length (results_in (main_of placed.now.nodes)) }
     requires horizon { horizon ≡ core.old.instants }
-    requires whole { IsWhole ending }
+    requires whole { EndsWhole ending }
     ensures left { (words : List Bits) (given : Option ℕ) (lists : List (List ℤ)) (fault : Option Fault) → EndsFor words given lists fault ending →
         LeavesJudged (Judges core.old placed.now.nodes outputs.now words given lists fault picks.now) (O.seen out.old) (O.seen out.new) result }
     ensures count { (O.seen out.old).faults ≤ (O.seen out.new).faults }

@@ -24,7 +24,7 @@ ghost use Rattle.lucy_front.specs.Accepting.{IsAccepted};
 ghost use Rattle.lucy_run.specs.Paces.{AreWorkers};
 ghost use Rattle.lucy_run.specs.Owes.{IsHorizonOf, EndsFor};
 ghost use Rattle.lucy_run.specs.Ends.{EndsTrace};
-ghost use Rattle.lucy_run.specs.Steps.{IsWhole, LeavesFront, OwesTraceOf};
+ghost use Rattle.lucy_run.specs.Steps.{EndsWhole, LeavesFront, OwesTraceOf};
 
 use crate::copying::copy_net;
 use crate::ending::Ending;
@@ -108,7 +108,7 @@ fn trace_pair<F: Fn(u32, i64, i64) -> i64 + Sync, O: Sink>(
     requires runner_kinds { kinds_of (lent host.now) ≡ kinds_of runner.old.seen.operators }
     requires unbegun { IsUnbegun core.old }
     requires together { AreTogether core.old runner.old.seen }
-    requires whole { IsWhole ending }
+    requires whole { EndsWhole ending }
     ensures left { LeavesFront (OwesTraceOf core.old.net core.old.instants ending) (O.seen out.old) (O.seen out.new) result }
     ensures count { (O.seen out.old).faults ≤ (O.seen out.new).faults }
 {
@@ -136,7 +136,7 @@ fn trace_net<F: Fn(u32, i64, i64) -> i64 + Sync, O: Sink>(
     requires count { length inputs ≡ count }
     requires few { count < 2 ^ 32 - 1 }
     requires workers { AreWorkers workers }
-    requires whole { IsWhole extent.ending }
+    requires whole { EndsWhole extent.ending }
     ensures left { LeavesFront (OwesTraceOf net extent.horizon extent.ending) (O.seen out.old) (O.seen out.new) result }
     ensures count { (O.seen out.old).faults ≤ (O.seen out.new).faults }
 {

@@ -1,6 +1,6 @@
 -- The lines of rounds are a log of their events.
-use Rattle.std.proofs.Common.{ℕ, suc, zero, ◌+◌, ◌-◌, ◌%◌, ◌<◌, ◌≤◌, ◌≡◌, ◌^◌, Bool, true, false, eqb, List, [], ◌∷◌, ◌++◌, map, length, get_or, take, Ok, Some, refl, ap, sym, ◌∙◌, subst, arith, append_assoc}
-use Rattle.std.specs.Prelude.{All, Result, ◌&&◌, nat_le, None, if◌then◌else◌, ok_or}
+use Rattle.std.proofs.Common.{ℕ, ◌+◌, ◌-◌, ◌%◌, ◌<◌, ◌≤◌, ◌≡◌, ◌^◌, Bool, true, false, eqb, List, [], ◌∷◌, ◌++◌, map, length, get_or, take, Ok, Some, refl, ap, sym, ◌∙◌, subst, arith, append_assoc}
+use Rattle.std.specs.Prelude.{All, ◌&&◌, nat_le, None, if◌then◌else◌, ok_or}
 use Rattle.std.specs.Fmt.{decimal}
 use Rattle.std.specs.List.{concat, join_with_byte}
 use Rattle.std.specs.Str.{all_ascii_digits}

@@ -1,9 +1,9 @@
 -- The events that a log names, and the first that isn't possible.
-use Rattle.std.specs.Prelude.{ℕ, ◌+◌, ◌-◌, ◌^◌, ◌≡◌, List, Option, Some, Result, slice_get}
+use Rattle.std.specs.Prelude.{ℕ, ◌+◌, ◌-◌, ◌^◌, ◌≡◌, List, take, Option, Some, Result, slice_get}
 use Rattle.lucy_event.specs.Deciding.{run_length}
 use Rattle.lucy_fields.specs.Numbers.{number_of}
 use Rattle.lucy_fields.specs.Readings.{readings}
-use Rattle.lucy_core.specs.Seen.{Seen, machine_of, done_of}
+use Rattle.lucy_core.specs.Seen.{Seen, CanRun, machine_of, done_of}
 use Rattle.lucy_trace.specs.declared.error.TraceError.{TraceError}
 use Rattle.lucy_trace.specs.declared.error.TraceError.TheVariants.{NotPossible}
 
@@ -19,7 +19,8 @@ picks_of text = readings pick_of text
 abbrev pub possible_of : Seen → (picks : List ℕ) → ℕ
 possible_of seen picks = run_length (machine_of seen).sys (done_of seen.done) picks
 
--- the first event that isn't possible has this number, from 1, and is this actor's
+-- the first event that isn't possible has this number, from 1, and is this actor's: those before it are a run, and with it they are none
 abbrev pub IsFirstImpossible : Seen → (picks : List ℕ) → TraceError → Type 0
 IsFirstImpossible seen picks e =
-    (actor : ℕ) × (e ≡ NotPossible (possible_of seen picks + 1) actor) × (slice_get picks (possible_of seen picks) ≡ Some actor)
+    (count actor : ℕ) × CanRun seen (take count picks) × (CanRun seen (take (count + 1) picks) → ⊥) × (slice_get picks count ≡ Some actor)
+    × (e ≡ NotPossible (count + 1) actor)

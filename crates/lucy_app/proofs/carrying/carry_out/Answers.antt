@@ -1,7 +1,7 @@
 use Rattle.std.proofs.Common.{[], ◌∷◌, refl, ap, sym, inl, inr}
 use Rattle.lucy_host.specs.Host.{lent}
 use Rattle.lucy_feed.specs.Sources.{Unread}
-use Rattle.lucy_command.specs.Named.{named, run_named, kahn_named, tighten_named, trace_named}
+use Rattle.lucy_command.specs.Named.{named, kahn_named}
 use Rattle.lucy_app.specs.Outcomes.{bytes_of, made_given}
 use Rattle.lucy_app.specs.World.{Given}
 use Rattle.lucy_app.proofs.Outcomes.{report_met, check_met, tight_met}
@@ -42,7 +42,7 @@ returns-in-Run-clause-ends g c =
     let read = c.run.ensures.ends in
     let given : Given = record { fetched = bytes_of c.fetch-fetched-in-Run.result ∷ []; taken = read.0; stop = read.1; operators = lent c.args.host.now } in
     ends_with _ _ given _ _ _ (ap named (sym c.in-Run.is))
-    (record { shelf = (_, c.fetch-fetched-in-Run.ensures.fetched, refl); source = read.2; unread = read.3; operators = refl }) (run_met (run_named c.in-Run.words) given _ _ _ _ _ read.4)
+    (record { shelf = (_, c.fetch-fetched-in-Run.ensures.fetched, refl); source = read.2; unread = read.3; operators = refl }) (run_met (record { file = c.in-Run.words.file.now; scale = c.in-Run.words.scale; lead = c.in-Run.words.lead; instants = c.in-Run.words.instants }) c.in-Run.words.workers c.in-Run.words.block given _ _ _ _ _ read.4)
 
 pub returns-in-Kahn-clause-ends : goal.returns-in-Kahn-clause-ends
 returns-in-Kahn-clause-ends g c =
@@ -67,7 +67,7 @@ returns-in-Tighten-clause-ends g c =
       operators = refl;
     })
     refl tt
-    (tight_met _ _ _ (tighten_named c.in-Tighten.words) fetched _ c.ops-in-Tighten.ensures c.answer-outcome-in-Tighten.ensures.outcome)
+    (tight_met _ _ _ c.in-Tighten.words.node.now c.in-Tighten.words.buffer fetched _ c.ops-in-Tighten.ensures c.answer-outcome-in-Tighten.ensures.outcome)
     c.finish-in-Tighten.ensures.delivers
 
 pub returns-in-Replay-clause-ends : goal.returns-in-Replay-clause-ends
@@ -84,4 +84,4 @@ returns-in-Trace-clause-ends g c =
     } in
     ends_with _ _ given _ _ _ (ap named (sym c.in-Trace.is))
     (record { shelf = (_, c.fetch-fetched-in-Trace.ensures.fetched, refl); source = read.2; unread = read.3; operators = refl })
-    (trace_met _ (trace_named c.in-Trace.words) given _ _ _ _ _ read.4)
+    (trace_met _ (record { file = c.in-Trace.words.file.now; scale = c.in-Trace.words.scale; lead = c.in-Trace.words.lead; instants = c.in-Trace.words.instants }) c.in-Trace.words.workers given _ _ _ _ _ read.4)

@@ -1,6 +1,5 @@
 use Rattle.std.proofs.Common.{refl, [], ◌∷◌}
 use Rattle.lucy_host.specs.Host.{lent}
-use Rattle.lucy_command.specs.Named.{run_named}
 use Rattle.lucy_app.specs.World.{Given}
 use Rattle.lucy_app.specs.Outcomes.{bytes_of}
 use Rattle.lucy_app.proofs.Played.{played_met}
@@ -18,5 +17,5 @@ returns-clause-ends g c =
     } in (
       given,
       record { shelf = (_, c.fetch-fetched.ensures.fetched, refl); source = read.2; unread = read.3; operators = refl },
-      played_met (run_named c.args.words) given _ _ _ _ _ read.4,
+      played_met (record { file = c.args.words.file.now; scale = c.args.words.scale; lead = c.args.words.lead; instants = c.args.words.instants }) c.args.words.workers c.args.words.block given _ _ _ _ _ read.4,
     )

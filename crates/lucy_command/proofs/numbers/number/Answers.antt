@@ -1,9 +1,14 @@
-use Rattle.std.proofs.Common.{ap, sym, ◌∙◌}
-use Rattle.std.specs.Str.{all_ascii_digits}
-use Rattle.lucy_command.proofs.Digits.{unparsed}
+use Rattle.std.proofs.Common.{ℕ, ◌≤◌, Option, sym, subst}
+use Rattle.std.specs.Prelude.{IfSome}
+use Rattle.lucy_command.proofs.Ranges.{number_least, number_most}
 use Rattle.lucy_command.proofs.numbers.number.Goals as goal
 
-pub returns-in_err-number-clause-is : goal.returns-in_err-number-clause-is
-returns-in_err-number-clause-is c =
-    let digits = ap all_ascii_digits (sym c.as_bytes.ensures.value) ∙ sym c.are_digits.ensures ∙ c.if-not-are_digits.false in
-    absurd (unparsed c.args.text.now c.parse.result c.ok.result c.if-is_empty.ensures c.if-text-gt7.false digits c.parse.ensures.value.0 c.ok.ensures.value c.in_err-number.was)
+pub returns-clause-least : goal.returns-clause-least
+returns-clause-least c =
+    let P : Option ℕ → Type 0 = λ o. IfSome o (λ n. c.args.least ≤ n) in
+    subst P (sym c.number.ensures) (number_least 7 c.args.least c.args.most c.as_bytes.result.now)
+
+pub returns-clause-most : goal.returns-clause-most
+returns-clause-most c =
+    let P : Option ℕ → Type 0 = λ o. IfSome o (λ n. n ≤ c.args.most) in
+    subst P (sym c.number.ensures) (number_most 7 c.args.least c.args.most c.as_bytes.result.now)

@@ -1,6 +1,6 @@
 use Rattle.std.proofs.Common.{[], ◌++◌, refl, ap, sym, ◌∙◌, arith}
 use Rattle.lucy_run.specs.Owes.{most_instants}
-use Rattle.lucy_make.proofs.FirstLaws.{begin, lists_many, within, told_on}
+use Rattle.lucy_make.proofs.FirstLaws.{begin, within, told_on}
 use Rattle.lucy_make.proofs.blocks.tell.Goals as goal
 
 pub blocks-2-init : goal.blocks-2-init
@@ -11,30 +11,23 @@ blocks-2-init g c = record {
 
 pub next_block-requires-clause-kinds : goal.next_block-requires-clause-kinds
 next_block-requires-clause-kinds g c κs within =
-    let (p, first, can, along, at, kinds, many) = c.requires.first in
+    let (p, first, can, along, at, kinds) = c.requires.first in
     let (all, now, told) = c.blocks-2.invariant.follows p first can along at in
     kinds ∙ sym now.run.kinds
 
 pub next_block-requires-clause-under_way : goal.next_block-requires-clause-under_way
 next_block-requires-clause-under_way g c κs within =
-    let (p, first, can, along, at, kinds, many) = c.requires.first in
+    let (p, first, can, along, at, kinds) = c.requires.first in
     let (all, now, told) = c.blocks-2.invariant.follows p first can along at in
     (p, first, all, can, now)
 
-pub first-requires : goal.first-requires
-first-requires g c =
-    let (p, first, can, along, at, kinds, many) = c.requires.first in
-    let (all, now, told) = c.blocks-2.invariant.follows p first can along at in
-    let next = c.in_ok-streams.ensures.goes_on p first all can now in
-    lists_many c.first_goes_on.ensures.goes_on c.first_goes_on.ensures.short p can first all _ _ c.blocks-2.course c.next_block.new.self now c.in_ok-streams.streams next ∙ many
-
 pub add-requires : goal.add-requires
 add-requires g c =
-    let (p, first, can, along, at, kinds, many) = c.requires.first in
+    let (p, first, can, along, at, kinds) = c.requires.first in
     let (all, now, told) = c.blocks-2.invariant.follows p first can along at in
     let next = c.in_ok-streams.ensures.goes_on p first all can now in
     let few = within c.first_goes_on.ensures.goes_on c.first_goes_on.ensures.short p can first all _ _ c.blocks-2.course c.next_block.new.self now c.in_ok-streams.streams next
-    c.first.result.now c.first.ensures c.blocks-2.tally.count told.counted in
+    c.get.result.now c.get.ensures c.blocks-2.tally.count told.counted in
     omega (arith, few)
 
 pub blocks-2-smaller : goal.blocks-2-smaller
@@ -49,7 +42,7 @@ blocks-2-preserved g c = record {
       let next = c.in_ok-streams.ensures.goes_on p first all can now in (
         all ++ next.more,
         next.along,
-        told_on c.first_goes_on.ensures.goes_on c.first_goes_on.ensures.short p can first all _ _ c.blocks-2.course c.next_block.new.self now c.in_ok-streams.streams next c.first.result.now c.first.ensures
+        told_on c.first_goes_on.ensures.goes_on c.first_goes_on.ensures.short p can first all _ _ c.blocks-2.course c.next_block.new.self now c.in_ok-streams.streams next c.get.result.now c.get.ensures
             c.blocks-2.tally.count c.add.new.self.count c.blocks-2.tally.sum c.add.new.self.sum told c.add.ensures.count c.add.ensures.sum,
       );
   given = c.in_ok-streams.ensures.given ∙ c.blocks-2.invariant.given;

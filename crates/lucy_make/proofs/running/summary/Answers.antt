@@ -1,9 +1,9 @@
-use Rattle.std.proofs.Common.{Some, None, refl, ap, sym, subst, inr, arith}
+use Rattle.std.proofs.Common.{Some, None, refl, ap, sym, subst, inr}
 use Rattle.lucy_host.specs.Host.{lent}
 use Rattle.lucy_host.specs.Operators.{kinds_of}
 use Rattle.lucy_flat.specs.Clocked.{AreClocked}
 use Rattle.lucy_run.specs.declared.pace.Pace.{Pace}
-use Rattle.lucy_run.proofs.AcceptedLaws.{few_inputs, inputs_count, outputs_count, can_run}
+use Rattle.lucy_run.proofs.AcceptedLaws.{few_inputs, inputs_count, can_run}
 use Rattle.lucy_make.proofs.Runs.{steady, is_first, under_way, some_words, refused, figured}
 use Rattle.lucy_make.proofs.running.summary.Goals as goal
 
@@ -30,11 +30,10 @@ new-requires-clause-pace g c κs within = record { few = tt; workers = c.require
 
 pub tell-requires-clause-first : goal.tell-requires-clause-first
 tell-requires-clause-first g c κs within =
-    let count = outputs_count _ c.requires.accepted.0 c.requires.accepted.1 c.args.accepted c.requires.accepted.2 in
     let pace : Pace = record { instants = None; workers = c.args.workers; block = c.args.block } in
     let can = can_run _ c.requires.accepted.0 c.requires.accepted.1 c.args.accepted c.requires.accepted.2 (kinds_of (lent c.args.host.now)) in
     is_first (kinds_of (lent c.args.host.now)) c.args.accepted can c.deref.result.now c.deref.ensures.value pace refl c.in-Ok-new.course c.in-Ok-new.ensures.begun
-    (steady c.in-Ok.source) c.len.result (omega (arith, count, c.len.ensures))
+    (steady c.in-Ok.source)
 
 pub finish-requires-clause-under_way : goal.finish-requires-clause-under_way
 finish-requires-clause-under_way g c =

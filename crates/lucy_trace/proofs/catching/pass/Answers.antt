@@ -1,9 +1,8 @@
-use Rattle.std.proofs.Common.{ℕ, ◌+◌, ◌-◌, ◌<◌, ◌≤◌, ◌≡◌, true, false, cond, length, ap, sym, ◌∙◌, subst, inl, inr, arith}
+use Rattle.std.proofs.Common.{ℕ, ◌-◌, ◌<◌, ◌≡◌, cond, length, ap, sym, ◌∙◌, subst, inl, inr, arith}
 use Rattle.std.specs.Prelude.{[], ◌∷◌, vec_capacity}
 use Rattle.std.proofs.lemmas.Bool.{cases_eq}
 use Rattle.std.proofs.lemmas.List.Elements.{All-head}
 use Rattle.lucy_core.specs.Seen.{Seen, CanStep, done_of}
-use Rattle.lucy_trace.specs.Steps.{HasRoom}
 use Rattle.lucy_trace.proofs.CatchingLaws.{HasRuns, gone_further, gone_still, gone_length, room_left, back_in, back_there}
 use Rattle.lucy_trace.proofs.catching.pass.Goals as goal
 use Rattle.lucy_trace.proofs.catching.pass.Goals.{then-back, else-back}

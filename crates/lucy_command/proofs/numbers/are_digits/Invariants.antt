@@ -1,6 +1,0 @@
-use Rattle.std.proofs.Common.{◌≡◌, drop}
-use Rattle.std.specs.Str.{all_ascii_digits}
-use Rattle.lucy_command.proofs.numbers.are_digits.Given as goal
-
-abbrev pub invariant-each : goal.invariant-each
-invariant-each l = all_ascii_digits (drop l.byte-index l.word) ≡ all_ascii_digits l.word
