@@ -1,0 +1,5 @@
+pub mod TestLaws
+pub mod Leading
+pub mod KahnLaws
+pub mod StreamLaws
+pub mod ProgramLaws
