@@ -3,3 +3,4 @@ mod JoinLaws
 mod FlowLaws
 mod ToldLaws
 mod EscapeLaws
+mod SheetLaws

@@ -43,8 +43,8 @@ pub fn flow_of(alloc: Global, fill: &Fill) -> Result<Flow, OutOfMemory>
     })
 }
 
-// The buffer of a number, from 0.
-fn fill_at(fills: &[Fill], number: usize) -> &Fill
+/// The buffer of a number, from 0.
+pub(crate) fn fill_at(fills: &[Fill], number: usize) -> &Fill
     requires { number < length fills.now }
     ensures { slice_get fills.now number ≡ Some result.now }
 {

@@ -1,4 +1,4 @@
-// Printing: what is drawn, as SVG. It is safe, and its pictures are looked at.
+// Printing: what is drawn, as SVG. Where it stands is looked at.
 mod band;
 mod ink;
 mod lane;
@@ -8,7 +8,8 @@ mod style;
 mod time;
 
 pub use ink::{Font, HEAD, NAME, SMALL, put, put_label};
+pub use lane::Lanes;
 pub use sheet::Sheet;
-pub use side::word_text;
+pub use side::{Side, word_text};
 pub use style::STYLE;
 pub use time::{put_time_svg, shown_of, shown_text, turn_text};

@@ -4,7 +4,8 @@ ghost use Rattle.lucy_tree.specs.declared.span.Name.{Name as StreamName};
 ghost use Rattle.lucy_place.specs.declared.entry.PlaceKind.TheVariants.{Defined};
 ghost use Rattle.lucy_place.specs.declared.placed.PlacedNode.{PlacedNode as Node};
 ghost use Rattle.lucy_place.specs.Standing.{at_one};
-ghost use Rattle.lucy_svg.specs.Names.{AreTold};
+ghost use Rattle.lucy_front.specs.Names.{place_name};
+ghost use Rattle.lucy_svg.specs.Names.{stream_of, told_by, AreTold};
 ghost use Rattle.lucy_svg.specs.Telling.{Tells};
 
 use lucy_picture::put_place;
@@ -144,22 +145,15 @@ impl Told {
 
     /// The stream by which a place is told, if there is one.
     pub fn of(&self, place: u32) -> Option<u32>
-        ensures { IfSome result (λ s. at_one self.now place ≡ Some (Some s)) }
+        ensures { result ≡ stream_of self.now place }
     {
-        let index = place.checked_sub(1)?;
-        match self.streams.get(index as usize) {
-            Some(stream) => *stream,
-            None => None,
-        }
+        *self.streams.get(place.checked_sub(1)? as usize)?
     }
 
     /// The text by which a place of this node is told: the name of its stream, else `#` and its number.
-    pub fn text(
-        &self,
-        alloc: Global,
-        node: &PlacedNode,
-        place: u32,
-    ) -> Result<Vec<u8>, AllocError> {
+    pub fn text(&self, alloc: Global, node: &PlacedNode, place: u32) -> Result<Vec<u8>, AllocError>
+        ensures { IfOk result (λ v. v.items ≡ place_name node.now (told_by self.now place)) }
+    {
         let mut text = Vec::new(alloc);
         put_place(alloc, node, self.of(place).unwrap_or(place), &mut text)?;
         Ok(text)

@@ -1,4 +1,7 @@
 // Stairs: how a number goes up and down from instant to instant.
+ghost use Rattle.std.specs.Prelude.{OnOk};
+ghost use Rattle.lucy_picture.specs.Holding.{Extends};
+
 use crate::print::ink::put;
 use crate::print::lane::Lanes;
 use std::alloc::{AllocError, Global};
@@ -34,18 +37,25 @@ impl Band {
         bottom.saturating_sub(whole / most)
     }
 
-    // Puts a step last, at this distance, to a number.
+    // Puts a step last, at this distance, to a number, where the last one was another.
     fn put_step(
         &self,
         alloc: Global,
         x: u64,
+        last: u64,
         number: u64,
         out: &mut Vec<u8>,
-    ) -> Result<(), AllocError> {
+    ) -> Result<(), AllocError>
+        ensures { OnOk result (Extends out.old.items out.new.items) }
+    {
+        if number == last {
+            return Ok(());
+        }
         let y = self.height_of(number);
         let whole = y / 10;
         let tenths = y % 10;
-        put(out, &format!(in alloc; "H{x}V{whole}.{tenths}")?)
+        put(out, &format!(in alloc; "H{x}V{whole}.{tenths}")?)?;
+        Ok(())
     }
 
     // Puts the steps last.
@@ -55,15 +65,29 @@ impl Band {
         lanes: &Lanes,
         numbers: &[u64],
         out: &mut Vec<u8>,
-    ) -> Result<(), AllocError> {
+    ) -> Result<(), AllocError>
+        ensures { OnOk result (Extends out.old.items out.new.items) }
+    {
         let mut last = 0;
-        for (i, number) in numbers.iter().enumerate() {
-            if *number != last {
-                self.put_step(alloc, lanes.end(i as u64), *number, out)?;
-                last = *number;
-            }
+        'each: for (i, number) in numbers.iter().enumerate() {
+            self.put_step(alloc, lanes.end(i as u64), last, *number, out)?;
+            last = *number;
         }
-        put(out, &format!(in alloc; "H{}", lanes.width())?)
+        put(out, &format!(in alloc; "H{}", lanes.width())?)?;
+        Ok(())
+    }
+
+    // Puts the ends of stairs last, on the ground where it is said.
+    fn put_end(&self, alloc: Global, closed: bool, out: &mut Vec<u8>) -> Result<(), AllocError>
+        ensures { OnOk result (Extends out.old.items out.new.items) }
+    {
+        if closed {
+            let ground = self.bottom();
+            put(out, &format!(in alloc; "V{ground}H0z\"/>")?)?;
+            return Ok(());
+        }
+        put(out, "\"/>")?;
+        Ok(())
     }
 
     /// Puts the stairs of numbers last, of this class, which begin on the ground and where it is said end there.
@@ -75,16 +99,14 @@ impl Band {
         numbers: &[u64],
         closed: bool,
         out: &mut Vec<u8>,
-    ) -> Result<(), AllocError> {
+    ) -> Result<(), AllocError>
+        ensures { OnOk result (Extends out.old.items out.new.items) }
+    {
         let ground = self.bottom();
-        put(
-            out,
-            &format!(in alloc; "<path class=\"{class}\" d=\"M0 {ground}")?,
-        )?;
+        let begin = format!(in alloc; "<path class=\"{class}\" d=\"M0 {ground}")?;
+        put(out, &begin)?;
         self.put_steps(alloc, lanes, numbers, out)?;
-        if closed {
-            put(out, &format!(in alloc; "V{ground}H0z")?)?;
-        }
-        put(out, "\"/>")
+        self.put_end(alloc, closed, out)?;
+        Ok(())
     }
 }

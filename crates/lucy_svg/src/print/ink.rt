@@ -1,13 +1,16 @@
 // Texts and marks, as SVG. Lengths are in pixels.
+ghost use Rattle.std.specs.Prelude.{◌≡◌, ◌++◌, OnOk};
+ghost use Rattle.lucy_svg.specs.Labels.{width_of, front_of, label_begin, element_text, label_text, count_text, line_text};
+
 use crate::escape::put_escaped;
 use std::alloc::{AllocError, Global};
 
 /// How texts of a class are set: how wide a letter is, and how many letters are shown.
 #[derive(Clone, Copy)]
 pub struct Font {
-    class: &'static str,
-    letter: u64,
-    most: usize,
+    pub class: &'static str,
+    pub letter: u64,
+    pub most: usize,
 }
 
 /// That of first lines.
@@ -33,28 +36,66 @@ pub const SMALL: Font = Font {
 
 impl Font {
     /// How wide a text of so many letters is.
-    pub fn width(&self, letters: usize) -> u64 {
+    pub fn width(&self, letters: usize) -> u64
+        ensures { result ≡ width_of self.now letters }
+    {
         (letters.min(self.most) as u64).saturating_mul(self.letter)
     }
 }
 
 /// Puts this text last.
-pub fn put(out: &mut Vec<u8>, text: &str) -> Result<(), AllocError> {
+pub fn put(out: &mut Vec<u8>, text: &str) -> Result<(), AllocError>
+    ensures { OnOk result (out.new.items ≡ out.old.items ++ text.now) }
+{
     out.extend_from_slice(text.as_bytes())?;
     Ok(())
 }
 
 // Puts so many letters of a text last, where it has more the last two as dots.
-fn put_front(text: &[u8], most: usize, out: &mut Vec<u8>) -> Result<(), AllocError> {
+fn put_front(text: &[u8], most: usize, out: &mut Vec<u8>) -> Result<(), AllocError>
+    ensures { OnOk result (out.new.items ≡ out.old.items ++ front_of most text.now) }
+{
     if text.len() <= most {
         return put_escaped(text, out);
     }
-    for (i, byte) in text.iter().enumerate() {
-        if i.saturating_add(2) < most {
-            put_escaped(&[*byte], out)?;
-        }
-    }
+    put_escaped(&text[..most.saturating_sub(2)], out)?;
     put(out, "..")
+}
+
+// Puts the begin of the element of a text last that is so wide.
+fn put_begin(
+    alloc: Global,
+    font: &Font,
+    at: (u64, u64),
+    wide: u64,
+    out: &mut Vec<u8>,
+) -> Result<(), AllocError>
+    ensures { OnOk result (out.new.items ≡ out.old.items ++ label_begin font.now at.0 at.1 wide) }
+{
+    let (x, y) = at;
+    let class = font.class;
+    let begin = format!(in alloc;
+        "<text class=\"{class}\" x=\"{x}\" y=\"{y}\" textLength=\"{wide}\" lengthAdjust=\"spacingAndGlyphs\">"
+    )?;
+    put(out, &begin)
+}
+
+// Puts the element of a text last.
+fn put_element(
+    alloc: Global,
+    font: &Font,
+    at: (u64, u64),
+    text: &[u8],
+    out: &mut Vec<u8>,
+) -> Result<(), AllocError>
+    ensures { OnOk result (out.new.items ≡ out.old.items ++ element_text font.now at.0 at.1 text.now) }
+{
+    let letters = text.len();
+    let wide = font.width(letters);
+    put_begin(alloc, font, at, wide, out)?;
+    put_front(text, font.most, out)?;
+    put(out, "</text>")?;
+    Ok(())
 }
 
 /// Puts a text last that begins at a point.
@@ -64,21 +105,14 @@ pub fn put_label(
     at: (u64, u64),
     text: &[u8],
     out: &mut Vec<u8>,
-) -> Result<(), AllocError> {
-    if text.is_empty() {
+) -> Result<(), AllocError>
+    ensures { OnOk result (out.new.items ≡ out.old.items ++ label_text font.now at.0 at.1 text.now) }
+{
+    if text.len() == 0 {
         return Ok(());
     }
-    let (x, y) = at;
-    let class = font.class;
-    let wide = font.width(text.len());
-    put(
-        out,
-        &format!(in alloc;
-            "<text class=\"{class}\" x=\"{x}\" y=\"{y}\" textLength=\"{wide}\" lengthAdjust=\"spacingAndGlyphs\">"
-        )?,
-    )?;
-    put_front(text, font.most, out)?;
-    put(out, "</text>")
+    put_element(alloc, font, at, text, out)?;
+    Ok(())
 }
 
 /// Puts a number last whose middle is above or below a point.
@@ -88,11 +122,11 @@ pub(crate) fn put_count(
     y: u64,
     number: u64,
     out: &mut Vec<u8>,
-) -> Result<(), AllocError> {
-    put(
-        out,
-        &format!(in alloc; "<text class=\"count\" x=\"{x}\" y=\"{y}\">{number}</text>")?,
-    )
+) -> Result<(), AllocError>
+    ensures { OnOk result (out.new.items ≡ out.old.items ++ count_text x y number) }
+{
+    let text = format!(in alloc; "<text class=\"count\" x=\"{x}\" y=\"{y}\">{number}</text>")?;
+    put(out, &text)
 }
 
 /// Puts a line last.
@@ -102,11 +136,11 @@ pub(crate) fn put_line(
     from: (u64, u64),
     to: (u64, u64),
     out: &mut Vec<u8>,
-) -> Result<(), AllocError> {
+) -> Result<(), AllocError>
+    ensures { OnOk result (out.new.items ≡ out.old.items ++ line_text class.now from.0 from.1 to.0 to.1) }
+{
     let (x, y) = from;
     let (right, down) = to;
-    put(
-        out,
-        &format!(in alloc; "<path class=\"{class}\" d=\"M{x} {y}L{right} {down}\"/>")?,
-    )
+    let text = format!(in alloc; "<path class=\"{class}\" d=\"M{x} {y}L{right} {down}\"/>")?;
+    put(out, &text)
 }

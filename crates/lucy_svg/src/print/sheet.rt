@@ -1,12 +1,17 @@
 // How a chronogram is laid out: names at the left, and lanes behind them.
+ghost use Rattle.std.specs.Prelude.{◌≡◌, ◌-◌, ◌*◌, ◌<◌, ◌^◌, ◌∷◌, [], Some, length, map, min, slice_get, IfOk, OnOk};
+ghost use Rattle.lucy_picture.specs.Holding.{Extends, Puts};
+ghost use Rattle.lucy_svg.specs.Names.{AreTold};
+ghost use Rattle.lucy_svg.specs.Sheets.{of_marks, of_items, IsLaneName, IsLane, buffer_names, buffer_lanes, row_name, row_lane, fill_names, fill_lanes, names_of, lanes_of};
+
 use crate::drawing::Drawing;
-use crate::flow::Flow;
+use crate::flow::{Flow, fill_at};
 use crate::print::band::{Band, most_of};
 use crate::print::ink::put_line;
 use crate::print::lane::Lanes;
 use crate::print::side::Side;
 use crate::told::Told;
-use lucy_picture::{Fill, Turn};
+use lucy_picture::{Fill, Row, Turn};
 use lucy_place::PlacedNode;
 use lucy_word::{OutOfMemory, Word};
 use std::alloc::{AllocError, Global};
@@ -23,9 +28,12 @@ const GAP: u64 = 24;
 /// A chronogram that is laid out, in pixels.
 #[derive(Drop)]
 pub struct Sheet<'a> {
-    side: Side<'a>,
-    lanes: Lanes,
-    drawing: &'a Drawing,
+    /// What is told of its names.
+    pub side: Side<'a>,
+    /// Where its instants are.
+    pub lanes: Lanes,
+    /// What it shows.
+    pub drawing: &'a Drawing,
     turn: Option<Turn>,
     /// How wide the names are.
     pub names: u64,
@@ -96,7 +104,12 @@ impl<'a> Sheet<'a> {
         turn: Option<Turn>,
         shown: u64,
         drawing: &'a Drawing,
-    ) -> Result<Sheet<'a>, OutOfMemory> {
+    ) -> Result<Sheet<'a>, OutOfMemory>
+        ensures node { IfOk result (λ s. s.side.node.now ≡ node.now) }
+        ensures told { IfOk result (λ s. AreTold node.now s.side.told) }
+        ensures drawing { IfOk result (λ s. s.drawing.now ≡ drawing.now) }
+        ensures width { IfOk result (λ s. s.width ≡ min (shown * s.lanes.cell) (2 ^ 64 - 1)) }
+    {
         let side = Side {
             node,
             words,
@@ -125,32 +138,110 @@ impl<'a> Sheet<'a> {
         flow: &Flow,
         top: u64,
         out: &mut Vec<u8>,
-    ) -> Result<(), OutOfMemory> {
+    ) -> Result<(), OutOfMemory>
+        ensures { OnOk result (Puts (IsLaneName self.now.side.node.now self.now.side.told) (buffer_names fill.now) out.old.items out.new.items) }
+    {
+        let side = &self.side;
         let counts = counts_band(flow, top);
         let waits = waits_band(fill, &counts);
-        self.side.put_buffer(alloc, fill, top, out)?;
+        side.put_buffer(alloc, fill, top, out)?;
         let lane = top.saturating_add(HEAD);
-        self.side.put_name(alloc, "in ", fill.operand, lane, out)?;
+        side.put_name(alloc, "in ", fill.operand, lane, out)?;
         let lane = lane.saturating_add(ROW + GAP);
-        self.side.put_name(alloc, "out ", fill.place, lane, out)?;
-        self.side
-            .put_note(alloc, "gone in, come out", counts.bottom(), out)?;
-        self.side.put_note(alloc, "waiting", waits.bottom(), out)?;
+        side.put_name(alloc, "out ", fill.place, lane, out)?;
+        side.put_note(alloc, "gone in, come out", counts.bottom(), out)?;
+        side.put_note(alloc, "waiting", waits.bottom(), out)?;
+        Ok(())
+    }
+
+    // Puts the names of streams last; answers where they end.
+    fn put_row_names(&self, alloc: Global, out: &mut Vec<u8>) -> Result<u64, OutOfMemory>
+        ensures { OnOk result (Puts (IsLaneName self.now.side.node.now self.now.side.told) (map row_name self.now.drawing.now.chart.rows.items) out.old.items out.new.items) }
+    {
+        let mut top = RULER;
+        let rows = self.drawing.chart.rows.as_slice();
+        'each: for i in 0..rows.len() {
+            self.side
+                .put_name(alloc, "", row_at(rows, i).place, top, out)?;
+            top = top.saturating_add(ROW);
+        }
+        Ok(top)
+    }
+
+    // Puts those of buffers last, from where the streams end.
+    fn put_buffer_names(
+        &self,
+        alloc: Global,
+        begin: u64,
+        out: &mut Vec<u8>,
+    ) -> Result<(), OutOfMemory>
+        ensures { OnOk result (Puts (IsLaneName self.now.side.node.now self.now.side.told) (fill_names self.now.drawing.now.chart.fills.items self.now.drawing.now.flows.items) out.old.items out.new.items) }
+    {
+        let mut top = begin;
+        let fills = self.drawing.chart.fills.as_slice();
+        let flows = self.drawing.flows.as_slice();
+        let both = fills.len().min(flows.len());
+        'each: for i in 0..both {
+            let fill = fill_at(fills, i);
+            let flow = flow_at(flows, i);
+            self.put_fill_names(alloc, fill, flow, top, out)?;
+            top = fill_end(fill, flow, top);
+        }
         Ok(())
     }
 
     /// Puts the names last, as elements of an SVG whose left upper corner is theirs.
-    pub fn put_names(&self, alloc: Global, out: &mut Vec<u8>) -> Result<(), OutOfMemory> {
-        let mut top = RULER;
-        for row in &self.drawing.chart.rows {
-            self.side.put_name(alloc, "", row.place, top, out)?;
-            top = top.saturating_add(ROW);
-        }
-        let fills = self.drawing.chart.fills.iter();
-        for (fill, flow) in fills.zip(self.drawing.flows.iter()) {
-            self.put_fill_names(alloc, fill, flow, top, out)?;
-            top = fill_end(fill, flow, top);
-        }
+    pub fn put_names(&self, alloc: Global, out: &mut Vec<u8>) -> Result<(), OutOfMemory>
+        ensures { OnOk result (Puts (IsLaneName self.now.side.node.now self.now.side.told) (names_of self.now.drawing.now) out.old.items out.new.items) }
+    {
+        let begin = self.put_row_names(alloc, out)?;
+        self.put_buffer_names(alloc, begin, out)?;
+        Ok(())
+    }
+
+    // Puts what goes into a buffer last.
+    fn put_written(
+        &self,
+        alloc: Global,
+        fill: &Fill,
+        y: u64,
+        out: &mut Vec<u8>,
+    ) -> Result<(), AllocError>
+        ensures { OnOk result (Puts (IsLane self.now.lanes.cell) (of_marks fill.now.written ∷ []) out.old.items out.new.items) }
+    {
+        let marks = fill.written.list();
+        self.lanes.put_marks(alloc, "item in", marks, y, out)?;
+        Ok(())
+    }
+
+    // Puts what comes out of it last.
+    fn put_read(
+        &self,
+        alloc: Global,
+        fill: &Fill,
+        y: u64,
+        out: &mut Vec<u8>,
+    ) -> Result<(), AllocError>
+        ensures { OnOk result (Puts (IsLane self.now.lanes.cell) (of_marks fill.now.read ∷ []) out.old.items out.new.items) }
+    {
+        let marks = fill.read.list();
+        self.lanes.put_marks(alloc, "item out", marks, y, out)?;
+        Ok(())
+    }
+
+    // Puts its items last.
+    fn put_joins(
+        &self,
+        alloc: Global,
+        flow: &Flow,
+        from: u64,
+        to: u64,
+        out: &mut Vec<u8>,
+    ) -> Result<(), AllocError>
+        ensures { OnOk result (Puts (IsLane self.now.lanes.cell) (of_items flow.now.joins ∷ []) out.old.items out.new.items) }
+    {
+        let joins = flow.joins.list();
+        self.lanes.put_joins(alloc, joins, from, to, out)?;
         Ok(())
     }
 
@@ -162,14 +253,16 @@ impl<'a> Sheet<'a> {
         flow: &Flow,
         top: u64,
         out: &mut Vec<u8>,
-    ) -> Result<(), AllocError> {
-        let lanes = &self.lanes;
+    ) -> Result<(), AllocError>
+        ensures { OnOk result (Puts (IsLane self.now.lanes.cell) (buffer_lanes fill.now flow.now) out.old.items out.new.items) }
+    {
         let upper = top.saturating_add(HEAD + 14);
         let lower = upper.saturating_add(ROW + GAP);
-        lanes.put_marks(alloc, "item in", fill.written.list(), upper, out)?;
-        lanes.put_marks(alloc, "item out", fill.read.list(), lower, out)?;
+        self.put_written(alloc, fill, upper, out)?;
+        self.put_read(alloc, fill, lower, out)?;
         let from = upper.saturating_add(6);
-        lanes.put_joins(alloc, flow.joins.list(), from, lower.saturating_sub(6), out)
+        self.put_joins(alloc, flow, from, lower.saturating_sub(6), out)?;
+        Ok(())
     }
 
     // Puts the stairs of a buffer last: how many have gone in and come out, and below how many wait.
@@ -180,47 +273,109 @@ impl<'a> Sheet<'a> {
         flow: &Flow,
         top: u64,
         out: &mut Vec<u8>,
-    ) -> Result<(), AllocError> {
+    ) -> Result<(), AllocError>
+        ensures { OnOk result (Extends out.old.items out.new.items) }
+    {
         let lanes = &self.lanes;
         let counts = counts_band(flow, top);
         let waits = waits_band(fill, &counts);
-        let written = flow.written.list();
-        counts.put_stairs(alloc, lanes, "stairs in", written, false, out)?;
+        let below = waits.bottom().saturating_add(14);
+        let height = waits.height.saturating_add(18);
+        counts.put_stairs(alloc, lanes, "stairs in", flow.written.list(), false, out)?;
         counts.put_stairs(alloc, lanes, "stairs out", flow.read.list(), false, out)?;
         waits.put_stairs(alloc, lanes, "waits", fill.waits.list(), true, out)?;
-        let y = waits.bottom().saturating_add(14);
-        lanes.put_numbers(alloc, fill.waits.list(), y, out)?;
-        if let Some(at) = fill.full {
-            lanes.put_frame(alloc, at, waits.top, waits.height.saturating_add(18), out)?;
-        }
+        lanes.put_numbers(alloc, fill.waits.list(), below, out)?;
+        lanes.put_frame(alloc, fill.full, waits.top, height, out)?;
+        Ok(())
+    }
+
+    // Puts the lanes of a buffer last, and its stairs.
+    fn put_fill(
+        &self,
+        alloc: Global,
+        fill: &Fill,
+        flow: &Flow,
+        top: u64,
+        out: &mut Vec<u8>,
+    ) -> Result<(), AllocError>
+        ensures { OnOk result (Puts (IsLane self.now.lanes.cell) (buffer_lanes fill.now flow.now) out.old.items out.new.items) }
+    {
+        put_line(alloc, "rail", (0, top), (self.width, top), out)?;
+        self.put_items(alloc, fill, flow, top, out)?;
+        self.put_bands(alloc, fill, flow, top, out)?;
+        Ok(())
+    }
+
+    // Puts a stream last.
+    fn put_row(
+        &self,
+        alloc: Global,
+        row: &Row,
+        top: u64,
+        out: &mut Vec<u8>,
+    ) -> Result<(), AllocError>
+        ensures { OnOk result (Puts (IsLane self.now.lanes.cell) (row_lane row.now ∷ []) out.old.items out.new.items) }
+    {
+        let marks = row.marks.list();
+        self.lanes.put_marks(alloc, "item", marks, top.saturating_add(14), out)?;
         Ok(())
     }
 
     // Puts the streams last; answers where they end.
-    fn put_rows(&self, alloc: Global, out: &mut Vec<u8>) -> Result<u64, AllocError> {
+    fn put_rows(&self, alloc: Global, out: &mut Vec<u8>) -> Result<u64, AllocError>
+        ensures { OnOk result (Puts (IsLane self.now.lanes.cell) (map row_lane self.now.drawing.now.chart.rows.items) out.old.items out.new.items) }
+    {
         let mut top = RULER;
-        for row in &self.drawing.chart.rows {
-            let y = top.saturating_add(14);
-            self.lanes
-                .put_marks(alloc, "item", row.marks.list(), y, out)?;
+        let rows = self.drawing.chart.rows.as_slice();
+        'each: for i in 0..rows.len() {
+            self.put_row(alloc, row_at(rows, i), top, out)?;
             top = top.saturating_add(ROW);
         }
         Ok(top)
     }
 
-    /// Puts the lanes last, as elements of an SVG whose left upper corner is theirs.
-    pub fn put_lanes(&self, alloc: Global, out: &mut Vec<u8>) -> Result<(), OutOfMemory> {
-        self.lanes.put_ruler(alloc, 14, out)?;
-        self.lanes
-            .put_turns(alloc, self.turn, RULER, self.height, out)?;
-        let mut top = self.put_rows(alloc, out)?;
-        let fills = self.drawing.chart.fills.iter();
-        for (fill, flow) in fills.zip(self.drawing.flows.iter()) {
-            put_line(alloc, "rail", (0, top), (self.width, top), out)?;
-            self.put_items(alloc, fill, flow, top, out)?;
-            self.put_bands(alloc, fill, flow, top, out)?;
+    // Puts the buffers last, from where the streams end.
+    fn put_fills(&self, alloc: Global, begin: u64, out: &mut Vec<u8>) -> Result<(), AllocError>
+        ensures { OnOk result (Puts (IsLane self.now.lanes.cell) (fill_lanes self.now.drawing.now.chart.fills.items self.now.drawing.now.flows.items) out.old.items out.new.items) }
+    {
+        let mut top = begin;
+        let fills = self.drawing.chart.fills.as_slice();
+        let flows = self.drawing.flows.as_slice();
+        let both = fills.len().min(flows.len());
+        'each: for i in 0..both {
+            let fill = fill_at(fills, i);
+            let flow = flow_at(flows, i);
+            self.put_fill(alloc, fill, flow, top, out)?;
             top = fill_end(fill, flow, top);
         }
         Ok(())
     }
+
+    /// Puts the lanes last, as elements of an SVG whose left upper corner is theirs.
+    pub fn put_lanes(&self, alloc: Global, out: &mut Vec<u8>) -> Result<(), OutOfMemory>
+        ensures { OnOk result (Puts (IsLane self.now.lanes.cell) (lanes_of self.now.drawing.now) out.old.items out.new.items) }
+    {
+        let lanes = &self.lanes;
+        lanes.put_ruler(alloc, 14, out)?;
+        lanes.put_turns(alloc, self.turn, RULER, self.height, out)?;
+        let begin = self.put_rows(alloc, out)?;
+        self.put_fills(alloc, begin, out)?;
+        Ok(())
+    }
+}
+
+// The stream of a number, from 0.
+fn row_at(rows: &[Row], number: usize) -> &Row
+    requires { number < length rows.now }
+    ensures { slice_get rows.now number ≡ Some result.now }
+{
+    &rows[number]
+}
+
+// How items go through the buffer of a number, from 0.
+fn flow_at(flows: &[Flow], number: usize) -> &Flow
+    requires { number < length flows.now }
+    ensures { slice_get flows.now number ≡ Some result.now }
+{
+    &flows[number]
 }

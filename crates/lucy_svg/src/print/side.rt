@@ -1,7 +1,14 @@
 // What stands before the lanes: names and words.
+ghost use Rattle.std.specs.Prelude.{◌≡◌, ◌∷◌, ◌++◌, [], IfOk, OnOk};
+ghost use Rattle.lucy_front.specs.Names.{place_name};
+ghost use Rattle.lucy_picture.specs.Lines.{word_text};
+ghost use Rattle.lucy_picture.specs.Holding.{Extends, Puts};
+ghost use Rattle.lucy_svg.specs.Names.{told_by};
+ghost use Rattle.lucy_svg.specs.Sheets.{IsLaneName, lane_name};
+
 use crate::print::ink::{HEAD, NAME, SMALL, put, put_label};
 use crate::told::Told;
-use lucy_picture::{Fill, Row};
+use lucy_picture::{Fill, Row, put_place, put_word};
 use lucy_place::PlacedNode;
 use lucy_word::{OutOfMemory, Word};
 use std::alloc::{AllocError, Global};
@@ -11,7 +18,7 @@ const EDGE: u64 = 8;
 
 /// The names of a chronogram: those of a node, with its words, each linked to where it is defined where a number of the node is given.
 #[derive(Drop)]
-pub(crate) struct Side<'a> {
+pub struct Side<'a> {
     pub node: &'a PlacedNode,
     pub words: &'a [Word],
     pub linked: Option<u32>,
@@ -19,11 +26,11 @@ pub(crate) struct Side<'a> {
 }
 
 /// The text of the word of a place, by its number.
-pub fn word_text(alloc: Global, words: &[Word], place: u32) -> Result<Vec<u8>, OutOfMemory> {
+pub fn word_text(alloc: Global, words: &[Word], place: u32) -> Result<Vec<u8>, OutOfMemory>
+    ensures { IfOk result (λ v. v.items ≡ word_text words.now place) }
+{
     let mut text = Vec::new(alloc);
-    if let Some(word) = words.get(place as usize) {
-        word.print(alloc, &mut text)?;
-    }
+    put_word(alloc, words, place, &mut text)?;
     Ok(text)
 }
 
@@ -76,12 +83,64 @@ impl<'a> Side<'a> {
     }
 
     // Puts the begin of a link last, to where the stream is defined by which a place is told, if there is one; answers whether there is.
-    fn put_link(&self, alloc: Global, place: u32, out: &mut Vec<u8>) -> Result<bool, AllocError> {
-        let (Some(number), Some(stream)) = (self.linked, self.told.of(place)) else {
+    fn put_link(&self, alloc: Global, place: u32, out: &mut Vec<u8>) -> Result<bool, AllocError>
+        ensures { OnOk result (Extends out.old.items out.new.items) }
+    {
+        let Some(number) = self.linked else {
+            return Ok(false);
+        };
+        let Some(stream) = self.told.of(place) else {
             return Ok(false);
         };
         put(out, &format!(in alloc; "<a href=\"#d{number}-{stream}\">")?)?;
         Ok(true)
+    }
+
+    // How a place is told, behind a text.
+    fn name_text(
+        &self,
+        alloc: Global,
+        before: &str,
+        place: u32,
+    ) -> Result<Vec<u8>, AllocError>
+        ensures { IfOk result (λ v. v.items ≡ before.now ++ place_name self.now.node.now (told_by self.now.told place)) }
+    {
+        let mut text = Vec::new(alloc);
+        put(&mut text, before)?;
+        put_place(alloc, self.node, self.told.of(place).unwrap_or(place), &mut text)?;
+        Ok(text)
+    }
+
+    // Puts a place last, behind a text.
+    fn put_place(
+        &self,
+        alloc: Global,
+        before: &str,
+        place: u32,
+        top: u64,
+        out: &mut Vec<u8>,
+    ) -> Result<(), AllocError>
+        ensures { OnOk result (Puts (IsLaneName self.now.node.now self.now.told) (lane_name before.now place ∷ []) out.old.items out.new.items) }
+    {
+        let text = self.name_text(alloc, before, place)?;
+        let y = top.saturating_add(13);
+        put_label(alloc, &NAME, (EDGE, y), &text, out)?;
+        Ok(())
+    }
+
+    // Puts the word of a place last.
+    fn put_word(
+        &self,
+        alloc: Global,
+        place: u32,
+        top: u64,
+        out: &mut Vec<u8>,
+    ) -> Result<(), OutOfMemory>
+        ensures { OnOk result (Extends out.old.items out.new.items) }
+    {
+        let word = word_text(alloc, self.words, place)?;
+        put_label(alloc, &SMALL, (EDGE, top.saturating_add(26)), &word, out)?;
+        Ok(())
     }
 
     /// Puts a place last, behind a text, with its word below.
@@ -92,17 +151,13 @@ impl<'a> Side<'a> {
         place: u32,
         top: u64,
         out: &mut Vec<u8>,
-    ) -> Result<(), OutOfMemory> {
-        let mut text = Vec::new(alloc);
-        put(&mut text, before)?;
-        text.extend_from_slice(&self.told.text(alloc, self.node, place)?)?;
+    ) -> Result<(), OutOfMemory>
+        ensures { OnOk result (Puts (IsLaneName self.now.node.now self.now.told) (lane_name before.now place ∷ []) out.old.items out.new.items) }
+    {
         let linked = self.put_link(alloc, place, out)?;
-        put_label(alloc, &NAME, (EDGE, top.saturating_add(13)), &text, out)?;
-        if linked {
-            put(out, "</a>")?;
-        }
-        let word = word_text(alloc, self.words, place)?;
-        put_label(alloc, &SMALL, (EDGE, top.saturating_add(26)), &word, out)?;
+        self.put_place(alloc, before, place, top, out)?;
+        put(out, if linked { "</a>" } else { "" })?;
+        self.put_word(alloc, place, top, out)?;
         Ok(())
     }
 
@@ -113,23 +168,15 @@ impl<'a> Side<'a> {
         fill: &Fill,
         top: u64,
         out: &mut Vec<u8>,
-    ) -> Result<(), AllocError> {
+    ) -> Result<(), AllocError>
+        ensures { OnOk result (Extends out.old.items out.new.items) }
+    {
         let name = buffer_text(alloc, self.node, fill)?;
         let size = size_text(alloc, fill)?;
-        put_label(
-            alloc,
-            &HEAD,
-            (EDGE, top.saturating_add(16)),
-            name.as_bytes(),
-            out,
-        )?;
-        put_label(
-            alloc,
-            &SMALL,
-            (EDGE, top.saturating_add(28)),
-            size.as_bytes(),
-            out,
-        )
+        let (upper, lower) = (top.saturating_add(16), top.saturating_add(28));
+        put_label(alloc, &HEAD, (EDGE, upper), name.as_bytes(), out)?;
+        put_label(alloc, &SMALL, (EDGE, lower), size.as_bytes(), out)?;
+        Ok(())
     }
 
     /// Puts what a band shows last.
@@ -139,7 +186,10 @@ impl<'a> Side<'a> {
         text: &str,
         y: u64,
         out: &mut Vec<u8>,
-    ) -> Result<(), AllocError> {
-        put_label(alloc, &SMALL, (EDGE, y), text.as_bytes(), out)
+    ) -> Result<(), AllocError>
+        ensures { OnOk result (Extends out.old.items out.new.items) }
+    {
+        put_label(alloc, &SMALL, (EDGE, y), text.as_bytes(), out)?;
+        Ok(())
     }
 }

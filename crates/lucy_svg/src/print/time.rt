@@ -1,6 +1,10 @@
 // A chronogram as an SVG of its own.
-ghost use Rattle.std.specs.Prelude.{◌<◌, ◌≤◌, length};
+ghost use Rattle.std.specs.Prelude.{◌≡◌, ◌<◌, ◌≤◌, Some, length, slice_get, string_bytes, IfOk, OnOk};
 ghost use Rattle.lucy_place.specs.Faults.{most_places};
+ghost use Rattle.lucy_place.specs.declared.placed.PlacedNode.{PlacedNode as Node};
+ghost use Rattle.lucy_picture.specs.Holding.{Extends};
+ghost use Rattle.lucy_svg.specs.Sheets.{PutsSvg, PutsPicture};
+ghost use Rattle.lucy_svg.specs.Notes as spec;
 
 use crate::drawing::Drawing;
 use crate::escape::put_escaped;
@@ -8,9 +12,9 @@ use crate::print::ink::{HEAD, SMALL, put, put_label};
 use crate::print::sheet::Sheet;
 use crate::print::style::STYLE;
 use lucy_front::{Accepted, node_line};
-use lucy_picture::Turn;
+use lucy_picture::{Turn, words_at};
 use lucy_place::PlacedNode;
-use lucy_word::OutOfMemory;
+use lucy_word::{OutOfMemory, Word};
 use std::alloc::{AllocError, Global};
 
 // How many instants are shown where none are given: the prefix and two periods, but not more than these.
@@ -22,75 +26,74 @@ const ABOVE: u64 = 44;
 const BELOW: u64 = 28;
 
 /// How many instants are shown: as many as are given, else the prefix and two periods, at most 200.
-pub fn shown_of(turn: Option<Turn>, instants: Option<u64>) -> u64 {
-    match (instants, turn) {
-        (Some(instants), _) => instants,
-        (None, Some(turn)) => turn.whole().min(SHOWN),
-        (None, None) => SHOWN,
+pub fn shown_of(turn: Option<Turn>, instants: Option<u64>) -> u64
+    ensures { result ≡ spec.shown_of turn instants }
+{
+    match instants {
+        Some(instants) => instants,
+        None => match turn {
+            None => SHOWN,
+            Some(turn) => turn.whole().min(SHOWN),
+        },
     }
+}
+
+// When all comes again behind a prefix, as text.
+fn later_text(alloc: Global, prefix: u64, period: u64) -> Result<String, AllocError>
+    ensures { IfOk result (λ s. string_bytes s ≡ spec.later_text prefix period) }
+{
+    format!(in alloc; "{prefix} first, then again after {period}")
 }
 
 /// When all that is shown comes again together, as text.
-pub fn turn_text(alloc: Global, turn: Option<Turn>) -> Result<String, AllocError> {
-    match turn {
-        None => format!(in alloc; "no period within the limit Schedule"),
-        Some(Turn { prefix: 0, period }) => format!(in alloc; "again after {period}"),
-        Some(Turn { prefix, period }) => format!(in alloc;
-            "{prefix} first, then again after {period}"
-        ),
+pub fn turn_text(alloc: Global, turn: Option<Turn>) -> Result<String, AllocError>
+    ensures { IfOk result (λ s. string_bytes s ≡ spec.turn_text turn) }
+{
+    let Some(turn) = turn else {
+        return format!(in alloc; "no period within the limit Schedule");
+    };
+    if turn.prefix == 0 {
+        let period = turn.period;
+        return format!(in alloc; "again after {period}");
     }
+    later_text(alloc, turn.prefix, turn.period)
 }
 
 /// How many instants are shown, of those up to the end of the second period, as text.
-pub fn shown_text(alloc: Global, turn: Option<Turn>, shown: u64) -> Result<String, AllocError> {
-    match turn {
-        Some(turn) if shown < turn.whole() => {
-            let all = turn.whole();
-            format!(in alloc; "the first {shown} of {all} instants")
-        }
-        _ => format!(in alloc; "the first {shown} instants"),
+pub fn shown_text(alloc: Global, turn: Option<Turn>, shown: u64) -> Result<String, AllocError>
+    ensures { IfOk result (λ s. string_bytes s ≡ spec.shown_text turn shown) }
+{
+    let Some(turn) = turn else {
+        return format!(in alloc; "the first {shown} instants");
+    };
+    let all = turn.whole();
+    if shown < all {
+        return format!(in alloc; "the first {shown} of {all} instants");
     }
+    format!(in alloc; "the first {shown} instants")
 }
 
-// Puts the beginning last, for the name of a node and the size of the picture.
-fn put_begin(
+// Puts the size of a picture last, and the name of its node.
+fn put_frame(
     alloc: Global,
     name: &[u8],
     width: u64,
     height: u64,
     out: &mut Vec<u8>,
-) -> Result<(), AllocError> {
-    put(
-        out,
-        &format!(in alloc;
-            "<svg xmlns=\"http://www.w3.org/2000/svg\" class=\"lucy\" width=\"{width}\" height=\"{height}\" viewBox=\"0 0 {width} {height}\" role=\"img\" aria-label=\""
-        )?,
+) -> Result<(), AllocError>
+    ensures { OnOk result (Extends out.old.items out.new.items) }
+{
+    let size = format!(in alloc;
+        "class=\"lucy\" width=\"{width}\" height=\"{height}\" viewBox=\"0 0 {width} {height}\" role=\"img\" aria-label=\""
     )?;
+    put(out, &size)?;
     put_escaped(name, out)?;
     put(out, "\">\n<style>\n")?;
     put(out, STYLE)?;
-    put(
-        out,
-        &format!(in alloc;
-            "</style>\n<rect class=\"paper\" width=\"{width}\" height=\"{height}\"/>\n"
-        )?,
-    )
-}
-
-// Puts the names and the lanes last, below what stands above.
-fn put_sheet(alloc: Global, sheet: &Sheet<'_>, out: &mut Vec<u8>) -> Result<(), OutOfMemory> {
-    let names = sheet.names;
-    put(
-        out,
-        &format!(in alloc; "<g transform=\"translate(0 {ABOVE})\">")?,
+    let paper = format!(in alloc;
+        "</style>\n<rect class=\"paper\" width=\"{width}\" height=\"{height}\"/>\n"
     )?;
-    sheet.put_names(alloc, out)?;
-    put(
-        out,
-        &format!(in alloc; "</g>\n<g transform=\"translate({names} {ABOVE})\">")?,
-    )?;
-    sheet.put_lanes(alloc, out)?;
-    put(out, "</g>\n")?;
+    put(out, &paper)?;
     Ok(())
 }
 
@@ -102,6 +105,104 @@ fn head_of(alloc: Global, node: &PlacedNode) -> Result<Vec<u8>, OutOfMemory>
     node_line(alloc, node, &mut head)?;
     let _ = head.pop();
     Ok(head)
+}
+
+// How wide a picture is, for what stands above.
+fn width_of(sheet: &Sheet<'_>, head: &[u8]) -> u64 {
+    let text = HEAD.width(head.len()).saturating_add(16);
+    let both = sheet.names.saturating_add(sheet.width);
+    both.saturating_add(8).max(text).max(360)
+}
+
+// Puts what stands above the names last, and where they stand.
+fn put_above(
+    alloc: Global,
+    node: &PlacedNode,
+    sheet: &Sheet<'_>,
+    turn: Option<Turn>,
+    out: &mut Vec<u8>,
+) -> Result<(), OutOfMemory>
+    requires { node.now.params ≤ most_places }
+    ensures { OnOk result (Extends out.old.items out.new.items) }
+{
+    let head = head_of(alloc, node)?;
+    let height = sheet.height.saturating_add(ABOVE + BELOW);
+    let again = turn_text(alloc, turn)?;
+    put_frame(
+        alloc,
+        node.name.text.bytes(),
+        width_of(sheet, &head),
+        height,
+        out,
+    )?;
+    put_label(alloc, &HEAD, (8, 18), &head, out)?;
+    put_label(alloc, &SMALL, (8, 34), again.as_bytes(), out)?;
+    put(
+        out,
+        &format!(in alloc; "\n<g transform=\"translate(0 {ABOVE})\">")?,
+    )?;
+    Ok(())
+}
+
+// Puts what stands below the lanes last.
+fn put_below(
+    alloc: Global,
+    sheet: &Sheet<'_>,
+    turn: Option<Turn>,
+    shown: u64,
+    out: &mut Vec<u8>,
+) -> Result<(), AllocError>
+    ensures { OnOk result (Extends out.old.items out.new.items) }
+{
+    let below = sheet.height.saturating_add(ABOVE + BELOW - 10);
+    let text = shown_text(alloc, turn, shown)?;
+    put(out, "</g>\n")?;
+    put_label(alloc, &SMALL, (8, below), text.as_bytes(), out)?;
+    Ok(())
+}
+
+// Puts an SVG of a sheet last.
+fn put_svg(
+    alloc: Global,
+    node: &PlacedNode,
+    sheet: &Sheet<'_>,
+    turn: Option<Turn>,
+    shown: u64,
+    out: &mut Vec<u8>,
+) -> Result<(), OutOfMemory>
+    requires { node.now.params ≤ most_places }
+    ensures { OnOk result (PutsSvg sheet.now.side.node.now sheet.now.side.told sheet.now.drawing.now out.old.items out.new.items) }
+{
+    let names = sheet.names;
+    put(out, "<svg xmlns=\"http://www.w3.org/2000/svg\" ")?;
+    put_above(alloc, node, sheet, turn, out)?;
+    sheet.put_names(alloc, out)?;
+    put(
+        out,
+        &format!(in alloc; "</g>\n<g transform=\"translate({names} {ABOVE})\">")?,
+    )?;
+    sheet.put_lanes(alloc, out)?;
+    put_below(alloc, sheet, turn, shown, out)?;
+    put(out, "</svg>\n")?;
+    Ok(())
+}
+
+// Puts the chronogram of a node last, with the words of its clocks.
+fn put_picture(
+    alloc: Global,
+    node: &PlacedNode,
+    words: &[Word],
+    turn: Option<Turn>,
+    shown: u64,
+    drawing: &Drawing,
+    out: &mut Vec<u8>,
+) -> Result<(), OutOfMemory>
+    requires { node.now.params ≤ most_places }
+    ensures { OnOk result (PutsPicture node.now drawing.now out.old.items out.new.items) }
+{
+    let sheet = Sheet::new(alloc, node, words, None, turn, shown, drawing)?;
+    put_svg(alloc, node, &sheet, turn, shown, out)?;
+    Ok(())
 }
 
 /// Puts the chronogram of a node of an accepted program last, by its number from 0, as an SVG that stands alone: the marks of its streams; of
@@ -117,41 +218,9 @@ pub fn put_time_svg(
     out: &mut Vec<u8>,
 ) -> Result<(), OutOfMemory>
     requires { node < length accepted.now.placed.nodes }
+    ensures { (n : Node) → slice_get accepted.now.placed.nodes node ≡ Some n → OnOk result (PutsPicture n drawing.now out.old.items out.new.items) }
 {
     let found = accepted.placed.node(node);
-    let words = match accepted.clocks.get(node as usize) {
-        Some(clock) => clock.words.list(),
-        None => &[],
-    };
-    let sheet = Sheet::new(alloc, found, words, None, turn, shown, drawing)?;
-    let head = head_of(alloc, found)?;
-    let text = HEAD.width(head.len()).saturating_add(16);
-    let width = sheet
-        .names
-        .saturating_add(sheet.width)
-        .saturating_add(8)
-        .max(text)
-        .max(360);
-    let height = sheet.height.saturating_add(ABOVE + BELOW);
-    put_begin(alloc, found.name.text.bytes(), width, height, out)?;
-    put_label(alloc, &HEAD, (8, 18), &head, out)?;
-    put_label(
-        alloc,
-        &SMALL,
-        (8, 34),
-        turn_text(alloc, turn)?.as_bytes(),
-        out,
-    )?;
-    put(out, "\n")?;
-    put_sheet(alloc, &sheet, out)?;
-    let below = height.saturating_sub(10);
-    put_label(
-        alloc,
-        &SMALL,
-        (8, below),
-        shown_text(alloc, turn, shown)?.as_bytes(),
-        out,
-    )?;
-    put(out, "</svg>\n")?;
-    Ok(())
+    let words = words_at(&accepted.clocks, node);
+    put_picture(alloc, found, words, turn, shown, drawing, out)
 }

@@ -1,0 +1,5 @@
+use Rattle.lucy_picture.specs.Holding.{Extends}
+use Rattle.lucy_svg.proofs.print.band.Band.put_steps.Given as goal
+
+abbrev pub invariant-each : goal.invariant-each
+invariant-each l = Extends l.fn.out.items l.out.items

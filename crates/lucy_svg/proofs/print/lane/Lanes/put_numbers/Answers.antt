@@ -1,0 +1,8 @@
+use Rattle.lucy_picture.proofs.TextLaws.{extends_same, extends_by, extends_more}
+use Rattle.lucy_svg.proofs.print.lane.Lanes.put_numbers.Goals as goal
+
+pub each-init : goal.each-init
+each-init c = extends_same _
+
+pub each-preserved : goal.each-preserved
+each-preserved c = extends_more _ _ _ c.each.invariant (extends_by _ _ _ c.in_ok-put_count.ensures)

@@ -1,0 +1,5 @@
+use Rattle.lucy_picture.specs.Holding.{Extends}
+use Rattle.lucy_svg.proofs.print.lane.Lanes.put_ruler.Given as goal
+
+abbrev pub invariant-each : goal.invariant-each
+invariant-each l = Extends l.fn.out.items l.out.items
