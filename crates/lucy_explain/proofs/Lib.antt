@@ -2,3 +2,5 @@ mod TextLaws
 mod LineLaws
 mod FoldLaws
 mod StreamLaws
+mod ChainLaws
+mod WaitLaws

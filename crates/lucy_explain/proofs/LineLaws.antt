@@ -155,7 +155,7 @@ follows list positions line values f holds =
     omega (arith, ints)
 
 -- a sum that begins at another number
-sum_from : (list : List Diff) (a : ℤ) (positions : List ℕ) → fold (λ s i. s +ℤ (diff_at list i).most) a positions ≡ a +ℤ constants list positions
+pub sum_from : (list : List Diff) (a : ℤ) (positions : List ℕ) → fold (λ s i. s +ℤ (diff_at list i).most) a positions ≡ a +ℤ constants list positions
 sum_from list a [] = omega (arith, ints)
 sum_from list a (i ∷ positions) =
     let b = sum_from list (a +ℤ (diff_at list i).most) positions in

@@ -1,11 +1,7 @@
--- What only serves the proofs of the bodies: positions by their places in a list, and streams as far as some needs tell them.
+-- What only serves the proofs of the bodies: streams as far as some needs tell them.
 use Rattle.std.specs.Prelude.{ℕ, ◌<◌, ◌≡◌, ◌==◌, List, Some, length, slice_index, slice_get, cond}
 use Rattle.lucy_need.specs.declared.need.Need.{Need}
 use Rattle.lucy_explain.specs.Streams.{Ties, AreOne}
-
--- all these positions are below the count
-abbrev pub AreThere : (count : ℕ) → List ℕ → Type 0
-AreThere count positions = (k : ℕ) → k < length positions → slice_index positions k < count
 
 -- a number in place of another
 abbrev pub renamed : (old new : ℕ) → ℕ → ℕ

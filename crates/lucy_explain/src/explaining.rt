@@ -6,8 +6,10 @@ ghost use Rattle.lucy_front.specs.Accepting.{IsAccepted, Refuses};
 ghost use Rattle.lucy_front.specs.Inferring.{AreOptions};
 ghost use Rattle.lucy_front.specs.Refusals.{IsTellable, refusal_text};
 ghost use Rattle.lucy_explain.specs.Begins.{first_line, BeginsAs};
+ghost use Rattle.lucy_explain.specs.Spans.{AreWithin};
 
 use crate::grow::push;
+use crate::spans::within;
 use crate::tell::told;
 use lucy_front::{Options, Refusal, accept, refusal_text};
 use lucy_host::Ops;
@@ -16,7 +18,7 @@ use lucy_word::OutOfMemory;
 use std::alloc::Global;
 
 /// An explanation: the refusal, unless the program is accepted, what is told of it, line by line, and the spans of the text of which is
-/// told, in the order in which they are named.
+/// told, in the order in which they are named, as an editor marks them.
 #[derive(Drop)]
 pub struct Explained {
     pub refusal: Option<Refusal>,
@@ -67,20 +69,23 @@ fn refused(
     ensures refusal { IfOk result (λ e. IfSome e.refusal (λ r. r ≡ refusal)) }
     ensures some { IfOk result (λ e. IfNone e.refusal ⊥) }
     ensures begins { IfOk result (λ e. BeginsAs refusal e.text.items) }
+    ensures spans { IfOk result (λ e. AreWithin (length text.now) e.spans.items) }
 {
     let lines = refusal_text(alloc, &refusal)?;
     let (more, spans) = told(alloc, text, ops, &refusal)?;
-    let text = joined(alloc, first_line(&lines), &more)?;
+    let spans = within(alloc, &spans, text.len())?;
+    let told = joined(alloc, first_line(&lines), &more)?;
     Ok(Explained {
         refusal: Some(refusal),
-        text,
+        text: told,
         spans,
     })
 }
 
 // What is told of an accepted program.
 fn accepted(alloc: Global) -> Result<Explained, OutOfMemory>
-    ensures { IfOk result (λ e. IfSome e.refusal (λ r. ⊥)) }
+    ensures none { IfOk result (λ e. IfSome e.refusal (λ r. ⊥)) }
+    ensures spans { IfOk result (λ e. (bytes : ℕ) → AreWithin bytes e.spans.items) }
 {
     Ok(Explained {
         refusal: None,
@@ -102,6 +107,7 @@ pub fn explain(
     ensures accepted { IfOk result (λ e. IfNone e.refusal ((a : Program) × IsAccepted ops.now options.now text.now a)) }
     ensures refused { IfOk result (λ e. IfSome e.refusal (λ r. Refuses ops.now options.now text.now r)) }
     ensures begins { IfOk result (λ e. IfSome e.refusal (λ r. BeginsAs r e.text.items)) }
+    ensures spans { IfOk result (λ e. AreWithin (length text.now) e.spans.items) }
 {
     match accept(alloc, text, ops, options) {
         Ok(_) => accepted(alloc),

@@ -1,10 +1,12 @@
 // A cycle of inequalities, told in a few lines.
-ghost use Rattle.std.specs.Prelude.{◌≡◌, ◌+◌, ◌≤◌, ◌++◌, length, take, drop, IfOk, OnOk};
+ghost use Rattle.std.specs.Prelude.{ℕ, List, ◌≡◌, ◌<◌, ◌≤◌, ◌++◌, length, take, drop, IfOk};
+ghost use Rattle.std.specs.List.{All};
+ghost use Rattle.lucy_shape.specs.Fitting.{variable_count};
 ghost use Rattle.lucy_front.specs.Refusals.{AreBelow};
 ghost use Rattle.lucy_explain.specs.Folds.{Fold};
-ghost use Rattle.lucy_shape.specs.Fitting.{variable_count};
+ghost use Rattle.lucy_explain.specs.Streams as spec;
+ghost use Rattle.lucy_explain.specs.Streams.{AreStreams};
 ghost use Rattle.lucy_explain.specs.Folded.{IsTurned, AreOfOneStream, AreLongest, IsFolded};
-ghost use Rattle.lucy_explain.specs.Joining.{AreThere};
 
 use crate::grow::push;
 use crate::line::{Line, line_of};
@@ -33,6 +35,14 @@ fn turned(alloc: Global, cycle: &[u32], start: usize) -> Result<Vec<u32>, OutOfM
     Ok(turned)
 }
 
+// The same positions.
+fn copied(alloc: Global, positions: &[u32]) -> Result<Vec<u32>, OutOfMemory>
+    ensures { IfOk result (λ v. v.items ≡ positions.now) }
+{
+    let copy = positions.to_vec(alloc)?;
+    Ok(copy)
+}
+
 // What stands behind so many positions.
 fn behind(positions: &[u32], count: usize) -> &[u32]
     requires { count ≤ length positions.now }
@@ -49,7 +59,7 @@ pub(crate) fn lines_of(
     streams: &[u32],
     positions: &[u32],
 ) -> Result<Vec<Line>, OutOfMemory>
-    requires there { AreThere (length diffs.now.list) positions.now }
+    requires there { All (λ p. p < length diffs.now.list) positions.now }
     requires streams { length streams.now ≡ diffs.now.count }
     ensures fold { IfOk result (λ v. Fold diffs.now.list positions.now v.items) }
     ensures stream { IfOk result (λ v. AreOfOneStream streams.now diffs.now.list positions.now v.items) }
@@ -123,6 +133,25 @@ fn fold_cycle(
     Ok(Folded { cycle, lines })
 }
 
+// The streams of the variables of a shape.
+fn streams_of(
+    alloc: Global,
+    needs: &Needs,
+    shape: &Shape,
+    count: u32,
+) -> Result<Vec<u32>, OutOfMemory>
+    requires clocks { length shape.now.clocks ≡ needs.now.clocks }
+    requires variables { count ≡ variable_count shape.now.clocks }
+    ensures are { IfOk result (λ v. (streams : List ℕ) × AreStreams needs.now.list needs.now.clocks streams ×
+        (v.items ≡ spec.variable_streams needs.now.clocks streams shape.now.clocks)) }
+    ensures all { IfOk result (λ v. length v.items ≡ count) }
+{
+    let clocks = clock_streams(alloc, needs)?;
+    let shapes = shape.clocks.list();
+    let found = variable_streams(alloc, needs.clocks, &clocks, shapes, count)?;
+    Ok(found)
+}
+
 /// The cycle of inequalities that shows that needs have no clocks in a shape, folded.
 pub fn fold_evidence(
     alloc: Global,
@@ -136,9 +165,27 @@ pub fn fold_evidence(
     requires there { AreBelow (length diffs.now.list) cycle.now }
     ensures { IfOk result (IsFolded needs.now shape.now diffs.now cycle.now) }
 {
-    let clocks = clock_streams(alloc, needs)?;
-    let shapes = shape.clocks.list();
-    let streams = variable_streams(alloc, needs.clocks, &clocks, shapes, diffs.count())?;
+    let streams = streams_of(alloc, needs, shape, diffs.count())?;
     let told = fold_cycle(alloc, diffs, &streams, cycle)?;
     Ok(told)
+}
+
+/// Inequalities of needs in a shape that follow one another, folded: as a cycle, but begun where they begin.
+pub fn fold_chain(
+    alloc: Global,
+    needs: &Needs,
+    shape: &Shape,
+    diffs: &Diffs,
+    chain: &[u32],
+) -> Result<Folded, OutOfMemory>
+    requires clocks { length shape.now.clocks ≡ needs.now.clocks }
+    requires variables { diffs.now.count ≡ variable_count shape.now.clocks }
+    requires there { AreBelow (length diffs.now.list) chain.now }
+    ensures folded { IfOk result (IsFolded needs.now shape.now diffs.now chain.now) }
+    ensures same { IfOk result (λ f. f.cycle.items ≡ chain.now) }
+{
+    let streams = streams_of(alloc, needs, shape, diffs.count())?;
+    let lines = lines_of(alloc, diffs, &streams, chain)?;
+    let cycle = copied(alloc, chain)?;
+    Ok(Folded { cycle, lines })
 }

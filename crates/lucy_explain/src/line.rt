@@ -1,9 +1,9 @@
 // Inequalities that follow one another, told as one.
 ghost use Rattle.std.specs.Prelude.{◌≡◌, ◌+◌, ◌*◌, ◌^◌, ◌<◌, ◌≤◌, true, length, slice_index, ℤ, pos, neg_ℤ, ◌+ℤ◌, ◌≤ℤ◌};
+ghost use Rattle.std.specs.List.{All};
 ghost use Rattle.lucy_solve.specs.System.{diff_at, most_inequalities};
 ghost use Rattle.lucy_explain.specs.Folds.{Folds};
 ghost use Rattle.lucy_explain.specs.Folded.{IsOfOneStream, GoesOn, IsLongest};
-ghost use Rattle.lucy_explain.specs.Joining.{AreThere};
 
 use lucy_solve::{Diff, Diffs};
 use lucy_word::Limit;
@@ -77,7 +77,7 @@ fn goes_on(streams: &[u32], line: Line, next: Diff) -> bool
 /// stream.
 pub(crate) fn line_of(diffs: &Diffs, streams: &[u32], positions: &[u32]) -> Line
     requires some { 0 < length positions.now }
-    requires there { AreThere (length diffs.now.list) positions.now }
+    requires there { All (λ p. p < length diffs.now.list) positions.now }
     requires streams { length streams.now ≡ diffs.now.count }
     ensures folds { Folds diffs.now.list positions.now result }
     ensures stream { IsOfOneStream streams.now diffs.now.list positions.now result }

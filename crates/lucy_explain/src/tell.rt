@@ -4,6 +4,7 @@ ghost use Rattle.lucy_front.specs.Refusals.{IsTellable, IsShown};
 
 mod check;
 mod cycle;
+mod filling;
 mod items;
 mod limits;
 mod loops;
@@ -12,11 +13,13 @@ mod page;
 mod place;
 mod rates;
 mod row;
+mod sizes;
 mod syntax;
 mod types;
 
 use check::{put_check, put_unwritten};
 use cycle::{Evidence, put_cycle};
+pub(crate) use filling::filled;
 use items::put_items;
 use limits::put_limit;
 use lucy_cause::Item;
@@ -35,8 +38,8 @@ use std::alloc::Global;
 use syntax::put_syntax;
 use types::put_clash;
 
-// The tree of a text, where it has one.
-fn tree_of(alloc: Global, text: &[u8]) -> Result<Option<Program>, OutOfMemory> {
+/// The tree of a text, where it has one.
+pub(crate) fn tree_of(alloc: Global, text: &[u8]) -> Result<Option<Program>, OutOfMemory> {
     match parse(alloc, text) {
         Ok(program) => Ok(Some(program)),
         Err(SyntaxError::OutOfMemory) => Err(OutOfMemory),
@@ -44,8 +47,8 @@ fn tree_of(alloc: Global, text: &[u8]) -> Result<Option<Program>, OutOfMemory> {
     }
 }
 
-// A node with its tree.
-fn scene_of<'a>(placed: &'a Placed, program: &'a Option<Program>, node: u32) -> Scene<'a>
+/// A node with its tree.
+pub(crate) fn scene_of<'a>(placed: &'a Placed, program: &'a Option<Program>, node: u32) -> Scene<'a>
     requires { node < length placed.now.nodes }
 {
     let tree = match program {
@@ -141,15 +144,5 @@ pub(crate) fn told(
     let program = tree_of(alloc, text)?;
     let mut page = Page::new(alloc, text);
     put_refusal(&mut page, ops, &program, refusal)?;
-    let Page {
-        out,
-        spans,
-        full,
-        ..
-    } = page;
-    if full {
-        Err(OutOfMemory)
-    } else {
-        Ok((out, spans))
-    }
+    page.told()
 }

@@ -23,8 +23,8 @@ pub(crate) struct Evidence<'a> {
     pub diffs: &'a Diffs,
 }
 
-// Puts a position last, or the beginning.
-fn put_point(page: &mut Page<'_>, scene: Scene<'_>, point: Point) {
+/// Puts a position last, or the beginning.
+pub(crate) fn put_point(page: &mut Page<'_>, scene: Scene<'_>, point: Point) {
     if point.position == 0 {
         return page.put(b"0");
     }
@@ -115,6 +115,13 @@ fn put_single(
     page.put(b"\n")
 }
 
+// Keeps the clock of a position.
+fn name_point(page: &mut Page<'_>, point: Point) {
+    if point.position > 0 {
+        page.name(point.clock);
+    }
+}
+
 /// Puts folded lines last, which name their clocks.
 pub(crate) fn put_lines(page: &mut Page<'_>, about: Evidence<'_>, told: &Folded) {
     let mut at = 0usize;
@@ -127,11 +134,8 @@ pub(crate) fn put_lines(page: &mut Page<'_>, about: Evidence<'_>, told: &Folded)
         } else {
             put_several(page, about, *line, left, right);
         }
-        for point in [left, right] {
-            if point.position > 0 {
-                page.name(point.clock);
-            }
-        }
+        name_point(page, left);
+        name_point(page, right);
         at = at.saturating_add(line.count);
     }
 }

@@ -7,7 +7,10 @@ use lucy_need::{Need, Term};
 use lucy_place::PlaceKind;
 use lucy_solve::Diff;
 
-/// What a cycle goes through.
+/// What helps where a period is counted.
+pub(crate) const LONGER: &str = "where the clocks need longer until they are regular, a greater --lead or --scale";
+
+/// What inequalities go through.
 #[derive(Clone, Copy)]
 pub(crate) struct Passed {
     /// A place that reads several, and the one of them that it doesn't let wait.
@@ -19,7 +22,7 @@ pub(crate) struct Passed {
     /// A place with `fby`.
     delayed: Option<u32>,
     /// Whether a period is counted.
-    turned: bool,
+    pub turned: bool,
     /// A clock whose items fill a period.
     filled: Option<u32>,
     /// Whether it goes through a need.
@@ -126,7 +129,7 @@ fn passed_one(about: Evidence<'_>, passed: Passed, diff: Diff, position: u32) ->
     passed
 }
 
-/// What a cycle goes through.
+/// What inequalities go through.
 pub(crate) fn passed_by(about: Evidence<'_>, cycle: &[u32]) -> Passed {
     let list = about.diffs.list();
     let mut passed = Passed {
@@ -185,9 +188,7 @@ pub(crate) fn put_loop_helps(page: &mut Page<'_>, scene: Scene<'_>, passed: Pass
         );
     }
     if passed.turned {
-        return page.helps(
-            "where the clocks need longer until they are regular, a greater --lead or --scale",
-        );
+        return page.helps(LONGER);
     }
     page.say("no other --scale or --lead helps: the lines hold of all clocks\n")
 }

@@ -141,30 +141,52 @@ fn put_callee(page: &mut Page<'_>, callee: &Node) {
     page.keep(callee.name.span);
 }
 
-// Puts where a name stands first last.
-fn put_first(page: &mut Page<'_>, program: &Program, span: Span) {
-    let name = page.bytes(span);
-    let mut first = None;
+// Where one of these names is spelled so, before a span.
+fn declared_before(decls: &[Decl], name: &[u8], span: Span) -> Option<Span> {
+    for decl in decls {
+        if decl.name.text.bytes() == name && decl.name.span.from < span.from {
+            return Some(decl.name.span);
+        }
+    }
+    None
+}
+
+// Where a name on the left of a definition is.
+fn defined_before(node: &Node, name: &[u8], span: Span) -> Option<Span> {
+    for def in node.defs.list() {
+        if let Some(first) = declared_before(def.left.list(), name, span) {
+            return Some(first);
+        }
+    }
+    None
+}
+
+// Where a node has the name, before a span.
+fn named_before(program: &Program, name: &[u8], span: Span) -> Option<Span> {
     for node in program.nodes.list() {
         if node.name.text.bytes() == name && node.name.span.from < span.from {
-            first = Some(node.name.span);
+            return Some(node.name.span);
         }
     }
+    None
+}
+
+// Where a stream or a node stands first that is named as one at a span.
+fn first_of(program: &Program, name: &[u8], span: Span) -> Option<Span> {
     if let Some(node) = node_at(program, span) {
-        for decl in node.params.list() {
-            if decl.name.text.bytes() == name && decl.name.span.from < span.from {
-                first = Some(decl.name.span);
-            }
+        if let Some(first) = declared_before(node.params.list(), name, span) {
+            return Some(first);
         }
-        for def in node.defs.list() {
-            for decl in def.left.list() {
-                if decl.name.text.bytes() == name && decl.name.span.from < span.from {
-                    first = Some(decl.name.span);
-                }
-            }
+        if let Some(first) = defined_before(node, name, span) {
+            return Some(first);
         }
     }
-    if let Some(first) = first {
+    named_before(program, name, span)
+}
+
+// Puts where a name stands first last.
+fn put_first(page: &mut Page<'_>, program: &Program, span: Span) {
+    if let Some(first) = first_of(program, page.bytes(span), span) {
         page.say("the first one: ");
         page.at(first.from as usize);
         page.put(b"\n");

@@ -3,7 +3,7 @@ use crate::grow::push;
 use lucy_picture::{put_kind, put_place, put_spot, spot_of};
 use lucy_place::{PlaceKind, PlacedNode};
 use lucy_tree::{Expr, Span};
-use lucy_word::Word;
+use lucy_word::{OutOfMemory, Word};
 use std::alloc::Global;
 
 /// What is told of a text so far. Where memory runs out, it is full, and what comes then may be left out.
@@ -128,5 +128,20 @@ impl<'a> Page<'a> {
         self.say("what helps: ");
         self.say(text);
         self.say("\n");
+    }
+
+    /// What is told, and the spans of which is told.
+    pub(crate) fn told(self) -> Result<(Vec<u8>, Vec<Span>), OutOfMemory> {
+        let Page {
+            out,
+            spans,
+            full,
+            ..
+        } = self;
+        if full {
+            Err(OutOfMemory)
+        } else {
+            Ok((out, spans))
+        }
     }
 }

@@ -147,8 +147,8 @@ fn merges(scene: Scene<'_>, clock: u32) -> bool {
     }
 }
 
-// Puts what helps against a walk last.
-fn put_helps(page: &mut Page<'_>, scene: Scene<'_>, needs: &[Need], walk: &[u32]) {
+// Puts what a walk samples last, as what helps against it, and answers whether it goes through a buffer.
+fn put_words(page: &mut Page<'_>, scene: Scene<'_>, needs: &[Need], walk: &[u32]) -> bool {
     let mut begun = false;
     let mut buffered = false;
     for number in walk {
@@ -162,17 +162,30 @@ fn put_helps(page: &mut Page<'_>, scene: Scene<'_>, needs: &[Need], walk: &[u32]
     if begun {
         page.put(b"\n");
     }
-    if buffered {
+    buffered
+}
+
+// Whether one of the clocks that are named is that of a `merge`.
+fn has_merge(page: &Page<'_>, scene: Scene<'_>) -> bool {
+    for clock in &page.clocks {
+        if merges(scene, *clock) {
+            return true;
+        }
+    }
+    false
+}
+
+// Puts what helps against a walk last.
+fn put_helps(page: &mut Page<'_>, scene: Scene<'_>, needs: &[Need], walk: &[u32]) {
+    if put_words(page, scene, needs, walk) {
         page.helps(
             "as many items into a buffer as out of it: a buffer lets items wait, and changes no rate",
         );
     }
-    for clock in &page.clocks {
-        if merges(scene, *clock) {
-            return page.helps(
-                "an operand of `merge` comes at the ones of the word, or at its zeros: `when` and `whenot` make it so",
-            );
-        }
+    if has_merge(page, scene) {
+        page.helps(
+            "an operand of `merge` comes at the ones of the word, or at its zeros: `when` and `whenot` make it so",
+        );
     }
 }
 

@@ -103,17 +103,22 @@ fn row_of_clock(clock: u32, shape: &ClockShape, behind: u64) -> Result<Row, u64>
     }
 }
 
-/// What the inequality at a position says, which counts from 0.
-pub(crate) fn row_at(needs: &Needs, shape: &Shape, position: u32) -> Option<Row> {
-    let clocks = shape.clocks.list();
-    let mut behind = u64::from(position);
+// Which of the clocks' inequalities comes behind so many others, or how many come behind all of these.
+fn row_of_clocks(clocks: &[ClockShape], behind: u64) -> Result<Row, u64> {
+    let mut behind = behind;
     for (clock, shape) in clocks.iter().enumerate() {
         match row_of_clock(narrow(clock), shape, behind) {
-            Ok(row) => return Some(row),
+            Ok(row) => return Ok(row),
             Err(rows) => behind = behind.saturating_sub(rows),
         }
     }
-    for (number, need) in needs.list.list().iter().enumerate() {
+    Err(behind)
+}
+
+// Which of the needs' inequalities comes behind so many others of them.
+fn row_of_needs(clocks: &[ClockShape], needs: &[Need], behind: u64) -> Option<Row> {
+    let mut behind = behind;
+    for (number, need) in needs.iter().enumerate() {
         let rows = rows_of_need(clocks, need);
         if behind < rows {
             return Some(Row::Need(number));
@@ -121,4 +126,13 @@ pub(crate) fn row_at(needs: &Needs, shape: &Shape, position: u32) -> Option<Row>
         behind -= rows;
     }
     None
+}
+
+/// What the inequality at a position says, which counts from 0.
+pub(crate) fn row_at(needs: &Needs, shape: &Shape, position: u32) -> Option<Row> {
+    let clocks = shape.clocks.list();
+    match row_of_clocks(clocks, u64::from(position)) {
+        Ok(row) => Some(row),
+        Err(behind) => row_of_needs(clocks, needs.list.list(), behind),
+    }
 }

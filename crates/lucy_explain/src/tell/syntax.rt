@@ -2,7 +2,6 @@
 use crate::grow::push;
 use crate::tell::page::Page;
 use lucy_syntax::{SyntaxError, parse};
-use lucy_token::Mark;
 use lucy_word::{Limit, OutOfMemory, Word, WordError};
 use std::alloc::Global;
 
@@ -12,47 +11,8 @@ const TRIED: usize = 65_536;
 /// Tokens of a kind that have many spellings, with one that can be no other token.
 const KINDS: [(&str, &str); 3] = [("a name", "z"), ("a number", "7"), ("a word", "0{2}(1)")];
 
-const MARKS: [Mark; 39] = [
-    Mark::Let,
-    Mark::Node,
-    Mark::Where,
-    Mark::Rec,
-    Mark::And,
-    Mark::When,
-    Mark::Whenot,
-    Mark::Merge,
-    Mark::Fby,
-    Mark::Buffer,
-    Mark::At,
-    Mark::Host,
-    Mark::If,
-    Mark::Then,
-    Mark::Else,
-    Mark::Not,
-    Mark::True,
-    Mark::False,
-    Mark::Int,
-    Mark::Bool,
-    Mark::Open,
-    Mark::Close,
-    Mark::Comma,
-    Mark::Colon,
-    Mark::Colons,
-    Mark::Equals,
-    Mark::Same,
-    Mark::Differs,
-    Mark::Less,
-    Mark::AtMost,
-    Mark::Greater,
-    Mark::AtLeast,
-    Mark::Plus,
-    Mark::Minus,
-    Mark::Star,
-    Mark::Slash,
-    Mark::Percent,
-    Mark::Both,
-    Mark::Either,
-];
+// All other tokens: the keywords and the signs.
+const MARKS: &str = "let node where rec and when whenot merge fby buffer at host if then else not true false int bool ( ) , : :: = == != < <= > >= + - * / % && ||";
 
 // Whether a token may follow this front: then what is refused is no earlier than the end.
 fn may_follow(alloc: Global, front: &[u8], token: &[u8]) -> Result<bool, OutOfMemory> {
@@ -88,8 +48,8 @@ fn put_one(page: &mut Page<'_>, begun: bool, text: &str, quoted: bool) {
     }
 }
 
-// Puts the tokens last that may follow a front.
-fn put_followers(page: &mut Page<'_>, front: &[u8]) {
+// Puts those of many spellings last that may follow a front, and answers whether there are any.
+fn put_kinds(page: &mut Page<'_>, front: &[u8]) -> bool {
     let mut begun = false;
     for (name, spelling) in KINDS {
         if follows(page, front, spelling.as_bytes()) {
@@ -97,13 +57,25 @@ fn put_followers(page: &mut Page<'_>, front: &[u8]) {
             begun = true;
         }
     }
-    for mark in MARKS {
-        if follows(page, front, mark.text().as_bytes()) {
-            put_one(page, begun, mark.text(), true);
+    begun
+}
+
+// Puts the other tokens last that may, and answers whether there are any by now.
+fn put_marks(page: &mut Page<'_>, front: &[u8], begun: bool) -> bool {
+    let mut begun = begun;
+    for mark in MARKS.split(' ') {
+        if follows(page, front, mark.as_bytes()) {
+            put_one(page, begun, mark, true);
             begun = true;
         }
     }
-    if begun {
+    begun
+}
+
+// Puts the tokens last that may follow a front.
+fn put_followers(page: &mut Page<'_>, front: &[u8]) {
+    let begun = put_kinds(page, front);
+    if put_marks(page, front, begun) {
         page.put(b"\n");
     }
 }

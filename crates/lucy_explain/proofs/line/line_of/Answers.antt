@@ -17,7 +17,7 @@ pub more-preserved : goal.more-preserved
 more-preserved c =
     let ok : c.goes_on.result ≡ true = search (rules, not_false) in
     folding_step c.args.diffs.now c.args.streams.now c.args.positions.now c.more.k c.more.line c.longer-line.result c.list-list.result.now c.list-list.ensures.list c.list-list.ensures.proper
-    c.more.invariant (omega arith) (c.requires.there c.more.k (omega arith)) (c.goes_on.ensures.joined ok) (c.goes_on.ensures.within ok) (c.goes_on.ensures.more ok) c.longer-line.ensures.left
+    c.more.invariant (omega arith) (c.requires.there c.more.k 0 (omega arith)) (c.goes_on.ensures.joined ok) (c.goes_on.ensures.within ok) (c.goes_on.ensures.more ok) c.longer-line.ensures.left
     c.longer-line.ensures.right c.longer-line.ensures.most c.longer-line.ensures.count
 
 pub returns-then-not-goes_on-clause-longest : goal.returns-then-not-goes_on-clause-longest
