@@ -1,9 +1,10 @@
 // What goes out at the end, and the status that tells how it went.
-ghost use Rattle.std.specs.Prelude.{◌≤◌};
+ghost use Rattle.std.specs.Prelude.{◌≡◌, ◌<◌, ◌≤◌};
 ghost use Rattle.lucy_front.specs.Refusals.{IsTellable};
-ghost use Rattle.lucy_views.specs.Failures.{Tellable};
+ghost use Rattle.lucy_views.specs.Failures.{Tellable, IsTold};
 
 use crate::failure::Failure;
+use crate::shown::Shown;
 use clap::Error;
 use clap::error::ErrorKind;
 use lucy_app::tell;
@@ -11,9 +12,10 @@ use lucy_front::{Refusal, refusal_text};
 use lucy_text::{Sink, write_all};
 use std::alloc::Global;
 
-/// Writes what is printed. Where that fails, the fault is told on `err`, if it can be.
+/// Writes what is printed, of which nothing is told. Where that fails, the fault is told on `err`, if it can be.
 pub(crate) fn print<O: Sink, E: Sink>(out: &mut O, err: &mut E, text: &[u8]) -> u8
-    ensures { result ≤ 7 }
+    ensures known { result ≤ 7 }
+    ensures quiet { result ≡ 0 → err.new ≡ err.old }
 {
     match write_all(out, text) {
         Ok(()) => 0,
@@ -23,14 +25,16 @@ pub(crate) fn print<O: Sink, E: Sink>(out: &mut O, err: &mut E, text: &[u8]) -> 
 
 // Says that memory ran out.
 fn tell_memory<E: Sink>(err: &mut E) -> u8
-    ensures { result ≤ 7 }
+    ensures known { result ≤ 7 }
+    ensures fails { 0 < result }
 {
     tell(err, b"lucy: out of memory\n", 7)
 }
 
 // The status that `lucy` ends with where a program is refused so.
 fn status_of(refusal: &Refusal) -> u8
-    ensures { result ≤ 7 }
+    ensures known { result ≤ 7 }
+    ensures fails { 0 < result }
 {
     match refusal {
         Refusal::Limit(_) => 6,
@@ -42,7 +46,8 @@ fn status_of(refusal: &Refusal) -> u8
 // Says why a program is refused, as `lucy` does.
 fn tell_refusal<E: Sink>(alloc: Global, err: &mut E, refusal: &Refusal) -> u8
     requires { IsTellable refusal.now }
-    ensures { result ≤ 7 }
+    ensures known { result ≤ 7 }
+    ensures fails { 0 < result }
 {
     match refusal_text(alloc, refusal) {
         Ok(text) => tell(err, &text, status_of(refusal)),
@@ -53,7 +58,8 @@ fn tell_refusal<E: Sink>(alloc: Global, err: &mut E, refusal: &Refusal) -> u8
 /// Says why nothing is printed.
 pub(crate) fn refuse<E: Sink>(alloc: Global, err: &mut E, failure: Failure) -> u8
     requires { Tellable failure }
-    ensures { result ≤ 7 }
+    ensures known { result ≤ 7 }
+    ensures fails { 0 < result }
 {
     match failure {
         Failure::Program(refusal) => tell_refusal(alloc, err, &refusal),
@@ -71,6 +77,28 @@ pub(crate) fn refuse<E: Sink>(alloc: Global, err: &mut E, failure: Failure) -> u
     }
 }
 
+/// Writes what is printed, and says why the program is refused where it is.
+pub(crate) fn show<O: Sink, E: Sink>(
+    alloc: Global,
+    out: &mut O,
+    err: &mut E,
+    shown: Shown,
+) -> u8
+    requires { IsTold shown }
+    ensures known { result ≤ 7 }
+    ensures quiet { result ≡ 0 → err.new ≡ err.old }
+{
+    let Shown {
+        print: text,
+        failure,
+    } = shown;
+    let status = print(out, err, &text);
+    match failure {
+        Some(failure) if status == 0 => refuse(alloc, err, failure),
+        _ => status,
+    }
+}
+
 /// Writes what `clap` says of the words: the help, the version, or what is wrong with them.
 pub(crate) fn tell_words<O: Sink, E: Sink>(
     alloc: Global,
@@ -78,7 +106,8 @@ pub(crate) fn tell_words<O: Sink, E: Sink>(
     out: &mut O,
     err: &mut E,
 ) -> u8
-    ensures { result ≤ 7 }
+    ensures known { result ≤ 7 }
+    ensures quiet { result ≡ 0 → err.new ≡ err.old }
 {
     if error.kind() == ErrorKind::OutOfMemory {
         return tell_memory(err);

@@ -51,7 +51,8 @@ pub(crate) fn wave<S: Shelf, I: Source, O: Sink, E: Sink, F: Fn(u32, i64, i64) -
     err: &mut E,
 ) -> u8
     requires { Serves F.pre F.post host.now }
-    ensures { result ≤ 7 }
+    ensures known { result ≤ 7 }
+    ensures quiet { result ≡ 0 → err.new ≡ err.old }
 {
     let program = match runnable(alloc, words, host.ops(), shelf) {
         Ok(program) => program,

@@ -57,6 +57,14 @@ pub(crate) struct WhereWords<'a> {
     pub node: Option<&'a str>,
 }
 
+/// What `why` works on.
+#[derive(Clone, Copy)]
+pub(crate) struct WhyWords<'a> {
+    pub program: FileWords<'a>,
+    /// The name of a node and the number of one of its buffers, with a point between them.
+    pub buffer: &'a str,
+}
+
 /// What the words ask for.
 #[derive(Clone, Copy)]
 pub(crate) enum Ask<'a> {
@@ -66,6 +74,8 @@ pub(crate) enum Ask<'a> {
     Where(WhereWords<'a>),
     Page(PageWords<'a>),
     Explain(FileWords<'a>),
+    Why(WhyWords<'a>),
+    Freeze(FileWords<'a>),
 }
 
 // The file that each command works on.
@@ -192,6 +202,24 @@ fn explain<'a>(alloc: Global) -> Result<Command<'a>, AllocError> {
     )
 }
 
+// `why`
+fn why<'a>(alloc: Global) -> Result<Command<'a>, AllocError> {
+    let buffer = Arg::new(alloc, "BUFFER").required(true).help(
+        "a node and the number of its buffer, as f.1",
+    );
+    on_program(
+        alloc,
+        "why",
+        "Says why a buffer is as full as it is, and how long items wait in it",
+    )?
+        .arg(buffer)
+}
+
+// `freeze`
+fn freeze<'a>(alloc: Global) -> Result<Command<'a>, AllocError> {
+    on_program(alloc, "freeze", "Shows the program with every clock written out")
+}
+
 // `where`
 fn place<'a>(alloc: Global) -> Result<Command<'a>, AllocError> {
     let at = Arg::new(alloc, "AT").required(true).help(
@@ -216,7 +244,9 @@ fn command<'a>(alloc: Global) -> Result<Command<'a>, AllocError> {
         .subcommand(wave(alloc)?)?
         .subcommand(place(alloc)?)?
         .subcommand(page(alloc)?)?
-        .subcommand(explain(alloc)?)
+        .subcommand(explain(alloc)?)?
+        .subcommand(why(alloc)?)?
+        .subcommand(freeze(alloc)?)
 }
 
 // What the words of a command on a program say.
@@ -272,6 +302,14 @@ fn page_words<'a>(matches: &ArgMatches<'a>) -> Option<PageWords<'a>> {
     })
 }
 
+// What those behind `why` say.
+fn why_words<'a>(matches: &ArgMatches<'a>) -> Option<WhyWords<'a>> {
+    Some(WhyWords {
+        program: file_words(matches)?,
+        buffer: matches.get_str("BUFFER")?,
+    })
+}
+
 // What `clap` has found.
 fn asked<'a>(matches: &ArgMatches<'a>) -> Option<Ask<'a>> {
     let (name, matches) = matches.subcommand()?;
@@ -292,6 +330,12 @@ fn asked<'a>(matches: &ArgMatches<'a>) -> Option<Ask<'a>> {
     }
     if name == "explain" {
         return Some(Ask::Explain(file_words(matches)?));
+    }
+    if name == "why" {
+        return Some(Ask::Why(why_words(matches)?));
+    }
+    if name == "freeze" {
+        return Some(Ask::Freeze(file_words(matches)?));
     }
     None
 }
