@@ -1,25 +1,26 @@
 -- What the dump of a run says, read back.
 use Rattle.std.proofs.Common.{ℕ, suc, zero, ◌+◌, ◌-◌, ◌<◌, ◌≤◌, ◌^◌, ◌≡◌, ◌≢◌, Bool, true, false, List, [], ◌∷◌, ◌++◌, length, map, get_or, Option, Some, None, refl, ap, ap₂, sym, ◌∙◌, subst, arith}
-use Rattle.std.specs.Prelude.{ℤ, pos, negsuc, nat_eq, nat_le, not, ◌&&◌, slice_get, codes, if◌then◌else◌}
+use Rattle.std.specs.Prelude.{ℤ, pos, negsuc, nat_eq, not, ◌&&◌, slice_get, codes, if◌then◌else◌}
 use Rattle.std.specs.List.{AllByRecursion}
 use Rattle.std.specs.Int.{w64, cast_unsigned}
 use Rattle.std.specs.Int.RustNames.{FitsSigned}
 use Rattle.std.specs.Fmt.{decimal, digits}
 use Rattle.std.proofs.lemmas.Int.{to_z-of_z}
 use Rattle.std.proofs.lemmas.Option.{slice_get-get_or, same_Some}
-use Rattle.std.proofs.lemmas.Bool.{leb-true, eqb-false}
+use Rattle.std.proofs.lemmas.Bool.{eqb-false}
 use Rattle.std.proofs.lemmas.Simd.{map-map}
 use Rattle.lucy_word.specs.Bits.{Bits, bit_at, ones_to, one_if}
 use Rattle.lucy_word.proofs.IndexLaws.{ones_to-rises, ones_to-one}
 use Rattle.lucy_output.specs.declared.output.OutputSpec.{OutputSpec}
 use Rattle.lucy_output.specs.Outputs.{value_at, instant_text, output_text}
 use Rattle.lucy_host.specs.declared.kind.HostKind.{HostKind}
-use Rattle.lucy_tree.specs.declared.span.Name.{Name}
-use Rattle.lucy_place.specs.declared.entry.PlaceEntry.{PlaceEntry}
 use Rattle.lucy_place.specs.declared.placed.PlacedNode.{PlacedNode}
 use Rattle.lucy_place.specs.Proper.{AreProper}
 use Rattle.lucy_need.specs.Meeting.{Assignment}
 use Rattle.lucy_clock.specs.declared.node_clock.NodeClock.{NodeClock}
+use Rattle.lucy_token.specs.Fronts.{is_name_byte}
+use Rattle.lucy_net.specs.declared.net.Net.{Net}
+use Rattle.lucy_meaning.specs.Spots.{main_of}
 use Rattle.lucy_meaning.specs.Horizons.{Suffice}
 use Rattle.lucy_execution.specs.Streams.{main_word, param_words, result_words, main_streams}
 use Rattle.lucy_execution.specs.Running.{HasSchedule}
@@ -36,12 +37,12 @@ use Rattle.lucy_front.specs.declared.accepted.Accepted.{Accepted}
 use Rattle.lucy_front.specs.declared.options.Options.{Options}
 use Rattle.lucy_front.specs.Accepting.{IsAccepted}
 use Rattle.lucy_wave.specs.Laws.{WavesAreReadBack, OneWave}
-use Rattle.lucy_wave.specs.Names.{escaped, there_name}
+use Rattle.lucy_wave.specs.Names.{there_name}
 use Rattle.lucy_wave.specs.Dumps.{Variable, code_of, kind_of, declaration, declarations, time_line, change_line, is_changed, change, changes, steps, header, dump, text_of}
-use Rattle.lucy_wave.specs.Reading.{ReadsFrom, Says, SaysInstant, SaysTo, SaysOutput}
-use Rattle.lucy_wave.specs.Waves.{Fit, there, last, last_item, stream, results, is_among, input, inputs, written_name, is_outer, inner_stream, inner, buffers, variables, IsWave, Waves}
+use Rattle.lucy_wave.specs.Reading.{ReadsFrom, Says, SaysInstant, SaysTo, HasSteps, SaysOutput}
+use Rattle.lucy_wave.specs.Waves.{Fit, there, last, last_item, stream, results, is_among, input, inputs, written_name, inner_of, there_bits, with_items, inner, buffers, variables, notes, wave_lines, IsWave, AreInside, Waves}
 use Rattle.lucy_wave.proofs.StepLaws.{dump_steps}
-use Rattle.lucy_wave.proofs.ReadLaws.{Free, IsShown, shown_at, either, digits_free}
+use Rattle.lucy_wave.proofs.ReadLaws.{Free, IsShown, shown_at, either, digits_free, skip_dollar}
 
 -- each output has the items of so many instants
 abbrev pub AreWhole : (instants : ℕ) → List OutputSpec → List (List ℤ) → Type 0
@@ -152,7 +153,7 @@ free_append : (x : ℕ) (xs ys : List ℕ) → Free x xs → Free x ys → Free 
 free_append x [] ys f g = g
 free_append x (y ∷ xs) ys f g = (f.0, free_append x xs ys f.1 g)
 
-abbrev is_free : ℕ → List ℕ → Bool
+abbrev pub is_free : ℕ → List ℕ → Bool
 is_free x [] = true
 is_free x (y ∷ xs) = not (nat_eq y x) && is_free x xs
 
@@ -160,20 +161,23 @@ free_by : (x y : ℕ) (xs : List ℕ) (b : Bool) → nat_eq y x ≡ b → (not b
 free_by x y xs true t h rest = absurd (cc)
 free_by x y xs false t h rest = (eqb-false y x t, rest h)
 
-lit_free : (x : ℕ) (xs : List ℕ) → is_free x xs ≡ true → Free x xs
+pub lit_free : (x : ℕ) (xs : List ℕ) → is_free x xs ≡ true → Free x xs
 lit_free x [] e = tt
 lit_free x (y ∷ xs) e = free_by x y xs (nat_eq y x) refl e (lit_free x xs)
 
-escaped_by : (byte : ℕ) (b : Bool) → nat_le 33 byte ≡ b → (if b && (nat_le byte 126 && not (nat_eq byte 36)) then byte else 95) ≢ 10
-escaped_by byte false e = λ same. omega arith
-escaped_by byte true e = let low = leb-true 33 byte e in either (λ x. x ≢ 10) (nat_le byte 126 && not (nat_eq byte 36)) byte 95 (λ same. omega arith) (λ same. omega arith)
+-- a name of a program has name bytes alone
+abbrev pub IsPlain : List ℕ → Type 0
+IsPlain name = AllByRecursion (λ byte. is_name_byte byte ≡ true) name
 
-name_free : (name : List ℕ) → Free 10 (escaped name)
-name_free [] = tt
-name_free (byte ∷ name) = (escaped_by byte (nat_le 33 byte) refl, name_free name)
+pub plain_free : (x : ℕ) (name : List ℕ) → is_name_byte x ≡ false → IsPlain name → Free x name
+plain_free x [] other plain = tt
+plain_free x (byte ∷ name) other plain = ((λ e. (let never : true ≡ false = sym plain.0 ∙ ap is_name_byte e ∙ other in cc never)), plain_free x name other plain.1)
 
-there_free : (name : List ℕ) → Free 10 (there_name name)
-there_free name = free_append 10 (escaped name) (codes "$there") (name_free name) (lit_free 10 (codes "$there") refl)
+name_free : (name : List ℕ) → IsPlain name → Free 10 name
+name_free name plain = plain_free 10 name refl plain
+
+there_free : (name : List ℕ) → IsPlain name → Free 10 (there_name name)
+there_free name plain = free_append 10 name (codes "$there") (name_free name plain) (lit_free 10 (codes "$there") refl)
 
 decimal_free : (k : ℕ) → Free 10 (decimal k)
 decimal_free k = digits_free 10 10 k (omega arith)
@@ -189,40 +193,51 @@ all_join : {A : Type 0} (P : A → Type 0) (xs ys : List A) → AllByRecursion P
 all_join P [] ys all more = more
 all_join P (x ∷ xs) ys all more = (all.0, all_join P xs ys all.1 more)
 
-stream_named : (name : List ℕ) (word : Bits) (items : List ℤ) (others : List Variable) → AreNamed others → AreNamed (stream name word items ++ others)
-stream_named name word items others named = (there_free name, (name_free name, named))
+stream_named : (name : List ℕ) (word : Bits) (items : List ℤ) (others : List Variable) → IsPlain name → AreNamed others → AreNamed (stream name word items ++ others)
+stream_named name word items others plain named = (there_free name plain, (name_free name plain, named))
 
-results_named : (outputs : List OutputSpec) (lists : List (List ℤ)) → AreNamed (results outputs lists)
-results_named [] lists = tt
-results_named (o ∷ outputs) [] = tt
-results_named (o ∷ outputs) (items ∷ lists) = stream_named o.name o.word items (results outputs lists) (results_named outputs lists)
+results_named : (outputs : List OutputSpec) (lists : List (List ℤ)) → AllByRecursion (λ (o : OutputSpec). IsPlain o.name) outputs → AreNamed (results outputs lists)
+results_named [] lists plain = tt
+results_named (o ∷ outputs) [] plain = tt
+results_named (o ∷ outputs) (items ∷ lists) plain = stream_named o.name o.word items (results outputs lists) plain.0 (results_named outputs lists plain.1)
 
-input_named : (n : PlacedNode) (word : Bits) (place : ℕ) (items : List ℤ) → AreNamed (input n word place items)
-input_named n word place items = either AreNamed (is_among place n.results) [] (stream (written_name n place) word items) tt (stream_named (written_name n place) word items [] tt)
+-- the names of a node have name bytes alone
+pub record ArePlain (n : PlacedNode) (outputs : List OutputSpec) : Type 0 where
+  pub own : IsPlain n.name.text
+  pub places : (place : ℕ) → IsPlain (written_name n place)
+  pub outer : AllByRecursion (λ (o : OutputSpec). IsPlain o.name) outputs
 
-inputs_named : (n : PlacedNode) (w : Assignment) (place : ℕ) (lists : List (List ℤ)) → AreNamed (inputs n w place lists)
-inputs_named n w place [] = tt
-inputs_named n w place (items ∷ lists) = all_join (λ (v : Variable). Free 10 v.name) (input n (w place) place items) (inputs n w (place + 1) lists)
-    (input_named n (w place) place items) (inputs_named n w (place + 1) lists)
+module _ (n : PlacedNode) (w : Assignment) (plain : (place : ℕ) → IsPlain (written_name n place)) where
+  input_named : (word : Bits) (place : ℕ) (items : List ℤ) → AreNamed (input n word place items)
+  input_named word place items = either AreNamed (is_among place n.results) [] (stream (written_name n place) word items) tt (stream_named (written_name n place) word items [] (plain place) tt)
 
-place_named : (n : PlacedNode) (word : Bits) (place : ℕ) (name : Option Name) → AreNamed (inner_stream n word place name)
-place_named n word place None = tt
-place_named n word place (Some name) = either AreNamed (is_outer n place) [] (there name.text word ∷ []) tt (there_free name.text, tt)
+  inputs_named : (place : ℕ) (lists : List (List ℤ)) → AreNamed (inputs n w place lists)
+  inputs_named place [] = tt
+  inputs_named place (items ∷ lists) = all_join (λ (v : Variable). Free 10 v.name) (input n (w place) place items) (inputs n w (place + 1) lists)
+      (input_named (w place) place items) (inputs_named (place + 1) lists)
 
-inner_named : (n : PlacedNode) (w : Assignment) (place : ℕ) (entries : List PlaceEntry) → AreNamed (inner n w place entries)
-inner_named n w place [] = tt
-inner_named n w place (entry ∷ entries) = all_join (λ (v : Variable). Free 10 v.name) (inner_stream n (w place) place entry.name) (inner n w (place + 1) entries)
-    (place_named n (w place) place entry.name) (inner_named n w (place + 1) entries)
+  bits_named : (places : List ℕ) → AreNamed (there_bits n w places)
+  bits_named [] = tt
+  bits_named (p ∷ places) = (there_free (written_name n p) (plain p), bits_named places)
+
+  items_named : (places : List ℕ) (streams : List (List ℤ)) → AreNamed (with_items n w places streams)
+  items_named [] streams = tt
+  items_named (p ∷ places) [] = tt
+  items_named (p ∷ places) (items ∷ streams) = stream_named (written_name n p) (w p) items (with_items n w places streams) (plain p) (items_named places streams)
+
+  inner_named : (inside : Option (List (List ℤ))) → AreNamed (inner n w inside)
+  inner_named None = bits_named (inner_of n)
+  inner_named (Some streams) = items_named (inner_of n) streams
 
 buffers_named : (n : PlacedNode) (w : Assignment) (number : ℕ) (places : List ℕ) → AreNamed (buffers n w number places)
 buffers_named n w number [] = tt
 buffers_named n w number (p ∷ places) = (free_append 10 (codes "buffer$") (decimal number) (lit_free 10 (codes "buffer$") refl) (decimal_free number), buffers_named n w (number + 1) places)
 
-pub variables_named : (n : PlacedNode) (w : Assignment) (outputs : List OutputSpec) (lists streams : List (List ℤ)) → AreNamed (variables n w outputs lists streams)
-variables_named n w outputs lists streams =
+pub variables_named : (n : PlacedNode) (w : Assignment) (outputs : List OutputSpec) (lists streams : List (List ℤ)) (inside : Option (List (List ℤ))) → ArePlain n outputs → AreNamed (variables n w outputs lists streams inside)
+variables_named n w outputs lists streams inside plain =
     let P : Variable → Type 0 = λ (v : Variable). Free 10 v.name in
-    all_join P (results outputs streams) _ (results_named outputs streams)
-    (all_join P (inputs n w 1 lists) _ (inputs_named n w 1 lists) (all_join P (inner n w 1 n.places) _ (inner_named n w 1 n.places) (buffers_named n w 1 n.buffers)))
+    all_join P (results outputs streams) _ (results_named outputs streams plain.outer)
+    (all_join P (inputs n w 1 lists) _ (inputs_named n w plain.places 1 lists) (all_join P (inner n w inside) _ (inner_named n w plain.places inside) (buffers_named n w 1 n.buffers)))
 
 kind_free : (wide : Bool) → Free 10 (kind_of wide)
 kind_free true = lit_free 10 (codes "integer 64 ") refl
@@ -257,16 +272,42 @@ unfolding steps
 steps_free vs zero = tt
 steps_free vs (suc t) = all_join (Free 10) (steps vs t) _ (steps_free vs t) (time_free (suc t), changes_free vs 0 (suc t))
 
-pub dump_free : (name : List ℕ) (vs : List Variable) (t : ℕ) → AreNamed vs → AllFree (dump (escaped name) vs t)
-dump_free name vs t named =
-    all_join (Free 10) (header (escaped name) vs) _ (
+dump_free : (name : List ℕ) (vs : List Variable) (t : ℕ) → IsPlain name → AreNamed vs → AllFree (dump name vs t)
+dump_free name vs t plain named =
+    all_join (Free 10) (header name vs) _ (
       lit_free 10 (codes "$timescale 1 ns $end") refl,
       (
-        free_append 10 (codes "$scope module ") _ (lit_free 10 (codes "$scope module ") refl) (free_append 10 (escaped name) (codes " $end") (name_free name) (lit_free 10 (codes " $end") refl)),
+        free_append 10 (codes "$scope module ") _ (lit_free 10 (codes "$scope module ") refl) (free_append 10 name (codes " $end") (name_free name plain) (lit_free 10 (codes " $end") refl)),
         all_join (Free 10) (declarations 0 vs) _ (declarations_free vs 0 named) (lit_free 10 (codes "$upscope $end") refl, (lit_free 10 (codes "$enddefinitions $end") refl, tt)),
       ),
     )
     (all_join (Free 10) (steps vs t) _ (steps_free vs t) (time_free (suc t), tt))
+
+notes_free : (inside : Option (List (List ℤ))) → AllFree (notes inside)
+notes_free None = (lit_free 10 (codes "$comment A limit keeps the items of the inner streams out. $end") refl, tt)
+notes_free (Some streams) = tt
+
+-- nor has one of a wave
+pub wave_free : (n : PlacedNode) (w : Assignment) (outputs : List OutputSpec) (lists streams : List (List ℤ)) (inside : Option (List (List ℤ))) (t : ℕ) → ArePlain n outputs → AllFree (wave_lines n w outputs lists streams inside t)
+wave_free n w outputs lists streams inside t plain =
+    all_join (Free 10) (notes inside) _ (notes_free inside) (dump_free n.name.text (variables n w outputs lists streams inside) t plain.own (variables_named n w outputs lists streams inside plain))
+
+-- notes say nothing of values and times
+noted : (inside : Option (List (List ℤ))) (lines : List (List ℕ)) (H : ℕ) (v : Variable) → IsShown lines H v → IsShown (notes inside ++ lines) H v
+noted None lines H v shown = record {
+  code = shown.code;
+  declared = (suc shown.declared.0, shown.declared.1);
+  reads = λ t some within. skip_dollar shown.code t (Some (v.value t)) None _ lines (shown.reads t some within);
+}
+noted (Some streams) lines H v shown = shown
+
+all_noted : (inside : Option (List (List ℤ))) (lines : List (List ℕ)) (H : ℕ) (vs : List Variable) → AllByRecursion (IsShown lines H) vs → AllByRecursion (IsShown (notes inside ++ lines) H) vs
+all_noted inside lines H [] all = tt
+all_noted inside lines H (v ∷ vs) all = (noted inside lines H v all.0, all_noted inside lines H vs all.1)
+
+noted_steps : (inside : Option (List (List ℤ))) (lines : List (List ℕ)) (count : ℕ) → HasSteps lines count → HasSteps (notes inside ++ lines) count
+noted_steps None lines count has = has
+noted_steps (Some streams) lines count has = has
 
 -- each stream of a result has as many items as its word has ones
 abbrev pub StreamsAreWhole : Type 0
@@ -276,16 +317,20 @@ StreamsAreWhole = (kinds : List HostKind) (inputs : List (List ℤ)) (nodes : Li
 
 -- a dump, read back
 module _ (all : StreamsAreWhole) (ops : List Operator) (o : Options) (text : List ℕ) (kinds : List HostKind) (a : Accepted) (is : IsAccepted ops o text a) (lists : List (List ℤ)) (horizon : ℕ)
-    (within : horizon ≤ limit_number limit.Instants) (suffice : Suffice (input_words a) lists horizon) (dump_text : List ℕ)
-    (wave : IsWave a.placed.nodes a.clocks.items a.outputs.items lists (main_streams kinds lists a.placed.nodes a.clocks.items horizon) horizon dump_text) where
+    (within : horizon ≤ limit_number limit.Instants) (suffice : Suffice (input_words a) lists horizon) (inside : Option (List (List ℤ))) (dump_text : List ℕ)
+    (wave : IsWave a.placed.nodes a.clocks.items a.outputs.items lists (main_streams kinds lists a.placed.nodes a.clocks.items horizon) inside horizon dump_text)
+    (plain : ArePlain wave.main a.outputs.items) where
   abbrev streams : List (List ℤ)
   streams = main_streams kinds lists a.placed.nodes a.clocks.items horizon
 
+  abbrev w : Assignment
+  w = main_word a.placed.nodes a.clocks.items
+
   abbrev vs : List Variable
-  vs = variables wave.main (main_word a.placed.nodes a.clocks.items) a.outputs.items lists streams
+  vs = variables wave.main w a.outputs.items lists streams inside
 
   abbrev lines : List (List ℕ)
-  lines = dump (escaped wave.main.name.text) vs horizon
+  lines = wave_lines wave.main w a.outputs.items lists streams inside horizon
 
   early : suc horizon < 2 ^ 64
   early = omega (arith, within)
@@ -301,16 +346,21 @@ module _ (all : StreamsAreWhole) (ops : List Operator) (o : Options) (text : Lis
   pub said_back : SaysOutput dump_text a.outputs.items horizon (lines_to kinds a lists horizon)
   said_back = (
     lines,
-    (wave.text_is, dump_free wave.main.name.text vs horizon (variables_named wave.main (main_word a.placed.nodes a.clocks.items) a.outputs.items lists streams)),
-    dump_steps (escaped wave.main.name.text) vs horizon,
+    (wave.text_is, wave_free wave.main w a.outputs.items lists streams inside horizon plain),
+    noted_steps inside (dump wave.main.name.text vs horizon) horizon (dump_steps wave.main.name.text vs horizon),
     to_said lines horizon horizon (omega arith) a.outputs.items streams
-        (results_shown (escaped wave.main.name.text) vs horizon wave.few early a.outputs.items streams 0 wave.fit (first_results a.outputs.items streams _))
+        (all_noted inside (dump wave.main.name.text vs horizon) horizon (results a.outputs.items streams)
+        (results_shown wave.main.name.text vs horizon wave.few early a.outputs.items streams 0 wave.fit (first_results a.outputs.items streams _)))
         (whole_of horizon a.outputs.items streams lengths) wave.fit,
   )
 
+-- the names of accepted programs have name bytes alone
+abbrev pub NamesArePlain : Type 0
+NamesArePlain = (ops : List Operator) (o : Options) (text : List ℕ) (a : Accepted) (main : PlacedNode) → IsAccepted ops o text a → main_of a.placed.nodes ≡ Some main → ArePlain main a.outputs.items
+
 -- it says the lines of the run
-pub waves_back : StreamsAreWhole → OneFeed → OneHorizon → WavesAreReadBack
-waves_back all one horizons ops o text kinds a given taken stop dumped printed end other is few (lists, fault, horizon, fed, (wave, ends)) (others, stops, last, so, prints, past) =
+pub waves_back : StreamsAreWhole → OneFeed → OneHorizon → NamesArePlain → WavesAreReadBack
+waves_back all one horizons names ops o text kinds a given taken stop dumped printed end other is few (lists, fault, horizon, fed, (inside, within_is, wave, ends)) (others, stops, last, so, prints, past) =
     let most = few_most given few in
     let bound = fed.horizon_is.within in
     let within : horizon ≤ limit_number limit.Instants = omega arith in
@@ -319,22 +369,32 @@ waves_back all one horizons ops o text kinds a given taken stop dumped printed e
     let ending : EndsFor (input_words a) given others stops end = carried (λ u f t. EndsFor (input_words a) given u f end) lists others fault stops horizon last same.0 same.1 same.2 ends in (
       horizon,
       lines_to kinds a lists horizon,
-      said_back all ops o text kinds a is lists horizon within fed.horizon_is.suffice dumped wave,
+      said_back all ops o text kinds a is lists horizon within fed.horizon_is.suffice inside dumped wave (names ops o text a wave.main is wave.main_is),
       prints ∙ ap (λ ls. heading a ++ ls) alike,
       ends_once (input_words a) given others stops end other ending past,
     )
 
 -- one dump is owed
-text_once : (nodes : List PlacedNode) (clocks : List NodeClock) (outputs : List OutputSpec) (lists streams : List (List ℤ)) (horizon : ℕ) (output out : List ℕ) →
-    IsWave nodes clocks outputs lists streams horizon output → IsWave nodes clocks outputs lists streams horizon out → output ≡ out
-text_once nodes clocks outputs lists streams horizon output out wave other =
+inside_once : (kinds : List HostKind) (lists : List (List ℤ)) (nodes : List PlacedNode) (clocks : List NodeClock) (net : Net) (horizon : ℕ) (inside other : Option (List (List ℤ))) →
+    AreInside kinds lists nodes clocks net horizon inside → AreInside kinds lists nodes clocks net horizon other → inside ≡ other
+inside_once kinds lists nodes clocks net horizon None None is also = refl
+inside_once kinds lists nodes clocks net horizon None (Some streams) is also = absurd (is also.0)
+inside_once kinds lists nodes clocks net horizon (Some streams) None is also = absurd (also is.0)
+inside_once kinds lists nodes clocks net horizon (Some streams) (Some others) is also = ap (λ xs. Some xs) (is.1 ∙ sym also.1)
+
+text_once : (nodes : List PlacedNode) (clocks : List NodeClock) (outputs : List OutputSpec) (lists streams : List (List ℤ)) (inside : Option (List (List ℤ))) (horizon : ℕ) (output out : List ℕ) →
+    IsWave nodes clocks outputs lists streams inside horizon output → IsWave nodes clocks outputs lists streams inside horizon out → output ≡ out
+text_once nodes clocks outputs lists streams inside horizon output out wave other =
     let same : wave.main ≡ other.main = same_Some wave.main other.main (sym wave.main_is ∙ other.main_is) in
-    wave.text_is ∙ ap (λ (n : PlacedNode). text_of (dump (escaped n.name.text) (variables n (main_word nodes clocks) outputs lists streams) horizon)) same ∙ sym other.text_is
+    wave.text_is ∙ ap (λ (n : PlacedNode). text_of (wave_lines n (main_word nodes clocks) outputs lists streams inside horizon)) same ∙ sym other.text_is
 
 pub wave_once : OneFeed → OneHorizon → OneWave
-wave_once one horizons kinds a given taken stop output out end other (lists, fault, horizon, fed, both) (others, stops, last, so, (wave, past)) =
+wave_once one horizons kinds a given taken stop output out end other (lists, fault, horizon, fed, both) (others, stops, last, so, (inside, within, wave, past)) =
     let same = fed_once one horizons a given taken stop lists others fault stops horizon last fed so in
-    let moved = carried (λ u f t. Waves kinds a.placed.nodes a.clocks.items a.outputs.items given u f t output end) lists others fault stops horizon last same.0 same.1 same.2 both in (
-      text_once a.placed.nodes a.clocks.items a.outputs.items others (main_streams kinds others a.placed.nodes a.clocks.items last) last output out moved.0 wave,
-      ends_once (input_words a) given others stops end other moved.1 past,
+    let moved = carried (λ u f t. Waves kinds a.placed.nodes a.clocks.items a.net a.outputs.items given u f t output end) lists others fault stops horizon last same.0 same.1 same.2 both in
+    let alike : moved.0 ≡ inside = inside_once kinds others a.placed.nodes a.clocks.items a.net last moved.0 inside moved.1 within in
+    let streams : List (List ℤ) = main_streams kinds others a.placed.nodes a.clocks.items last in
+    let first = subst (λ x. IsWave a.placed.nodes a.clocks.items a.outputs.items others streams x last output) alike moved.2 in (
+      text_once a.placed.nodes a.clocks.items a.outputs.items others streams inside last output out first wave,
+      ends_once (input_words a) given others stops end other moved.3 past,
     )

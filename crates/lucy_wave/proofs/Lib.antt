@@ -4,4 +4,12 @@ mod VariableLaws
 mod ReadLaws
 mod StepLaws
 mod BackLaws
+mod GiveLaws
+mod ProperLaws
+mod FedLaws
+mod WatchLaws
+mod PlayLaws
+mod NameLaws
+mod DistinctLaws
+mod ResultLaws
 mod WaveLaws

@@ -116,7 +116,7 @@ unchanged value t e =
 
 -- past a line that says nothing of a code
 module _ (code : List ℕ) (T : ℕ) (value : Option ℕ) where
-  skip_dollar : (held : Option ℕ) (xs : List ℕ) (lines : List (List ℕ)) → ReadsFrom code T held lines value → ReadsFrom code T held ((36 ∷ xs) ∷ lines) value
+  pub skip_dollar : (held : Option ℕ) (xs : List ℕ) (lines : List (List ℕ)) → ReadsFrom code T held lines value → ReadsFrom code T held ((36 ∷ xs) ∷ lines) value
   skip_dollar held xs lines r = inr (inr (
     (λ u at. absurd (no_time 36 xs u (omega arith) at)),
     (λ new is. no_change 36 xs code new (omega arith) (omega arith) (omega arith) is),

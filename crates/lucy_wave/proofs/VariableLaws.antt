@@ -1,5 +1,5 @@
 -- The variables of main, one after another.
-use Rattle.std.proofs.Common.{ℕ, ◌+◌, ◌<◌, ◌≡◌, List, [], ◌∷◌, ◌++◌, length, take, drop, get_or, Some, ap, ap₂, sym, ◌∙◌, subst, arith}
+use Rattle.std.proofs.Common.{ℕ, suc, zero, ◌+◌, ◌<◌, ◌≤◌, ◌≡◌, List, [], ◌∷◌, ◌++◌, length, take, drop, get_or, Option, Some, None, ap, ap₂, sym, refl, ◌∙◌, subst, arith}
 use Rattle.std.specs.Prelude.{ℤ, slice_get}
 use Rattle.std.specs.List.{AllByRecursion}
 use Rattle.std.specs.Option.{unwrap_or}
@@ -10,13 +10,16 @@ use Rattle.lucy_output.specs.declared.output.OutputSpec.{OutputSpec}
 use Rattle.lucy_place.specs.declared.entry.PlaceEntry.{PlaceEntry}
 use Rattle.lucy_place.specs.declared.entry.PlaceKind.TheVariants.{Buffer}
 use Rattle.lucy_place.specs.declared.placed.PlacedNode.{PlacedNode}
-use Rattle.lucy_place.specs.Proper.{IsProperNode, IsProperKind, Stands, IsPlace}
+use Rattle.lucy_tree.specs.declared.span.Name.{Name}
+use Rattle.lucy_place.specs.Proper.{at_one, IsNamed, IsProperNode, IsProperKind, Stands, IsPlace}
 use Rattle.lucy_types.proofs.ListLaws.{at_one_within}
 use Rattle.lucy_need.specs.Meeting.{Assignment}
 use Rattle.lucy_clock.specs.Clocks.{clocks_of}
 use Rattle.lucy_front.specs.Report.{first_operand}
 use Rattle.lucy_wave.specs.Dumps.{Variable}
-use Rattle.lucy_wave.specs.Waves.{Fit, waits, stream, results, input, inputs, inner_stream, inner, buffers}
+use Rattle.lucy_wave.specs.Waves.{Fit, there, waits, stream, results, input, inputs, written_name, is_outer, inner_place, inner_places, inner_of, there_bits, with_items, buffers}
+use Rattle.lucy_wave.specs.Seen.{IsWithin}
+use Rattle.lucy_wave.proofs.ReadLaws.{either}
 use Rattle.lucy_wave.proofs.PieceLaws.{pieces, item_split, items_split}
 
 -- one result more
@@ -49,18 +52,80 @@ inputs_more n w lists i place word items old new whole at k is worded more befor
     ∙ ap₂ (λ x p. x ++ inputs n w p (drop (i + 1) lists)) own next in
     pieces old new whole (input n word place items) _ _ more split before
 
--- one place more
-pub inner_more : (n : PlacedNode) (w : Assignment) (entries : List PlaceEntry) (i place : ℕ) (entry : PlaceEntry) (word : Bits) (old new whole : List Variable) → i < length entries → entry ≡ get_or entries i entry → place ≡ i + 1 →
-    word ≡ w place → new ≡ old ++ inner_stream n word place entry.name → old ++ inner n w (1 + i) (drop i entries) ≡ whole → new ++ inner n w (1 + (i + 1)) (drop (i + 1) entries) ≡ whole
-inner_more n w entries i place entry word old new whole h is at worded more before =
+-- one inner place more
+pub places_more : (n : PlacedNode) (entries : List PlaceEntry) (i place : ℕ) (entry : PlaceEntry) (old new whole : List ℕ) → i < length entries → entry ≡ get_or entries i entry → place ≡ i + 1 →
+    new ≡ old ++ inner_place n place entry.name → old ++ inner_places n (1 + i) (drop i entries) ≡ whole → new ++ inner_places n (1 + (i + 1)) (drop (i + 1) entries) ≡ whole
+places_more n entries i place entry old new whole h is at more before =
     let next : 1 + i + 1 ≡ 1 + (i + 1) = omega arith in
     let here : 1 + i ≡ place = omega arith in
-    let own : inner_stream n (w (1 + i)) (1 + i) entry.name ≡ inner_stream n word place entry.name =
-    ap (λ p. inner_stream n (w p) p entry.name) here ∙ ap (λ x. inner_stream n x place entry.name) (sym worded) in
-    let split : inner n w (1 + i) (drop i entries) ≡ inner_stream n word place entry.name ++ inner n w (1 + (i + 1)) (drop (i + 1) entries) =
-    ap (inner n w (1 + i)) (item_split entries i entry h is)
-    ∙ ap₂ (λ x p. x ++ inner n w p (drop (i + 1) entries)) own next in
-    pieces old new whole (inner_stream n word place entry.name) _ _ more split before
+    let split : inner_places n (1 + i) (drop i entries) ≡ inner_place n place entry.name ++ inner_places n (1 + (i + 1)) (drop (i + 1) entries) =
+    ap (inner_places n (1 + i)) (item_split entries i entry h is)
+    ∙ ap₂ (λ x p. x ++ inner_places n p (drop (i + 1) entries)) (ap (λ p. inner_place n p entry.name) here) next in
+    pieces old new whole (inner_place n place entry.name) _ _ more split before
+
+-- a place has at most one
+pub one_place : (n : PlacedNode) (place : ℕ) (name : Option Name) → length (inner_place n place name) ≤ 1
+one_place n place None = omega arith
+one_place n place (Some name) = either (λ xs. length xs ≤ 1) (is_outer n place) [] (place ∷ []) (omega arith) (omega arith)
+
+-- the first of what is left of numbers
+pub number_split : (xs : List ℕ) (i x : ℕ) → i < length xs → x ≡ get_or xs i 0 → drop i xs ≡ x ∷ drop (i + 1) xs
+number_split xs i x h is = drop_more xs i 0 h ∙ ap (λ y. y ∷ drop (i + 1) xs) (sym is)
+
+-- one bit more
+pub bits_more : (n : PlacedNode) (w : Assignment) (places : List ℕ) (i place : ℕ) (name : List ℕ) (word : Bits) (old new whole : List Variable) → i < length places → place ≡ get_or places i 0 → name ≡ written_name n place → word ≡ w place →
+    new ≡ old ++ there name word ∷ [] → old ++ there_bits n w (drop i places) ≡ whole → new ++ there_bits n w (drop (i + 1) places) ≡ whole
+bits_more n w places i place name word old new whole h is named worded more before =
+    let split : there_bits n w (drop i places) ≡ (there name word ∷ []) ++ there_bits n w (drop (i + 1) places) =
+    ap (there_bits n w) (number_split places i place h is) ∙ ap₂ (λ x u. there x u ∷ there_bits n w (drop (i + 1) places)) (sym named) (sym worded) in
+    pieces old new whole (there name word ∷ []) _ _ more split before
+
+-- one stream more
+pub items_more : (n : PlacedNode) (w : Assignment) (places : List ℕ) (streams : List (List ℤ)) (i place : ℕ) (name : List ℕ) (word : Bits) (items : List ℤ) (old new whole : List Variable) → i < length places → place ≡ get_or places i 0 →
+    name ≡ written_name n place → word ≡ w place → slice_get streams i ≡ Some items → i < length streams → new ≡ old ++ stream name word items → old ++ with_items n w (drop i places) (drop i streams) ≡ whole →
+    new ++ with_items n w (drop (i + 1) places) (drop (i + 1) streams) ≡ whole
+items_more n w places streams i place name word items old new whole h is named worded at k more before =
+    let split : with_items n w (drop i places) (drop i streams) ≡ stream name word items ++ with_items n w (drop (i + 1) places) (drop (i + 1) streams) =
+    ap₂ (with_items n w) (number_split places i place h is) (items_split streams i items at k)
+    ∙ ap₂ (λ x u. stream x u items ++ with_items n w (drop (i + 1) places) (drop (i + 1) streams)) (sym named) (sym worded) in
+    pieces old new whole (stream name word items) _ _ more split before
+
+-- inner places are places with names, whose actors and words are there
+inner_of_name : (n : PlacedNode) (place : ℕ) (entry : PlaceEntry) → at_one n.places place ≡ Some entry → (name : Option Name) → entry.name ≡ name → AllByRecursion (IsNamed n) (inner_place n place name)
+inner_of_name n place entry e None f = tt
+inner_of_name n place entry e (Some name) f = either (AllByRecursion (IsNamed n)) (is_outer n place) [] (place ∷ []) tt ((entry, name, e, f), tt)
+
+all_joined : {A : Type 0} (P : A → Type 0) (xs ys : List A) → AllByRecursion P xs → AllByRecursion P ys → AllByRecursion P (xs ++ ys)
+all_joined P [] ys all more = more
+all_joined P (x ∷ xs) ys all more = (all.0, all_joined P xs ys all.1 more)
+
+inner_from : (n : PlacedNode) (place : ℕ) (entries : List PlaceEntry) → ((i : ℕ) (entry : PlaceEntry) → slice_get entries i ≡ Some entry → at_one n.places (place + i) ≡ Some entry) → AllByRecursion (IsNamed n) (inner_places n place entries)
+inner_from n place [] there_are = tt
+inner_from n place (entry ∷ entries) there_are =
+    let z : place + 0 ≡ place = omega arith in
+    let own : at_one n.places place ≡ Some entry = ap (at_one n.places) (sym z) ∙ there_are 0 entry refl in
+    all_joined (IsNamed n) (inner_place n place entry.name) (inner_places n (place + 1) entries) (inner_of_name n place entry own entry.name refl)
+    (inner_from n (place + 1) entries (λ i x e. (let s : place + 1 + i ≡ place + suc i = omega arith in ap (at_one n.places) s ∙ there_are (suc i) x e)))
+
+pub inner_named : (n : PlacedNode) → AllByRecursion (IsNamed n) (inner_of n)
+inner_named n = inner_from n 1 n.places (λ i entry e. (let s : 1 + i ≡ suc i = omega arith in ap (at_one n.places) s ∙ e))
+
+pub named_place : (n : PlacedNode) (p : ℕ) → IsNamed n p → IsPlace n p
+named_place n p named = let own = at_one_within n.places p named.0 named.2 in (own.0, own.1)
+
+pub named_within : (n : PlacedNode) (actors words : ℕ) (places : List ℕ) → length n.places ≤ actors → length n.places < words → AllByRecursion (IsNamed n) places → AllByRecursion (IsWithin actors words) places
+named_within n actors words [] few many all = tt
+named_within n actors words (p ∷ places) few many all =
+    let is = named_place n p all.0 in
+    let low = is.0 in
+    let high = is.1 in
+    ((low, omega arith, omega arith), named_within n actors words places few many all.1)
+
+-- one of numbers that are within bounds
+pub within_at : (actors words : ℕ) (places : List ℕ) (i : ℕ) → AllByRecursion (IsWithin actors words) places → i < length places → IsWithin actors words (get_or places i 0)
+within_at actors words [] i all h = absurd (omega arith)
+within_at actors words (p ∷ places) zero all h = all.0
+within_at actors words (p ∷ places) (suc i) all h = within_at actors words places i all.1 (omega arith)
 
 -- one buffer more
 pub buffers_more : (n : PlacedNode) (w : Assignment) (places : List ℕ) (i number p operand : ℕ) (write read : Bits) (old new whole : List Variable) → i < length places → p ≡ get_or places i 0 → number ≡ i + 1 →

@@ -1,12 +1,11 @@
 -- How a call that writes the dump of a run ends, from what its parts leave.
-use Rattle.std.proofs.Common.{◌≡◌, ℕ, ◌+◌, ◌-◌, ◌<◌, ◌^◌, List, [], ◌∷◌, ◌++◌, length, take, drop, Option, Some, Result, Ok, refl, ap, sym, ◌∙◌, subst, inl}
-use Rattle.std.specs.Prelude.{ℤ, slice_get}
+use Rattle.std.proofs.Common.{◌≡◌, ℕ, ◌-◌, ◌<◌, ◌^◌, List, [], ◌++◌, length, map, Option, Some, None, Result, Ok, refl, ap, sym, ◌∙◌, subst, inl}
+use Rattle.std.specs.Prelude.{ℤ, slice_get, IfSome}
+use Rattle.std.proofs.lemmas.List.{length-map}
 use Rattle.std.specs.List.{AllByRecursion}
-use Rattle.lucy_word.specs.Bits.{Bits, ones_to}
-use Rattle.lucy_word.proofs.BitsLaws.{ones_to-none}
+use Rattle.lucy_word.specs.Bits.{Bits}
 use Rattle.lucy_word.specs.declared.error.OutOfMemory.{OutOfMemory}
 use Rattle.lucy_host.specs.declared.kind.HostKind.{HostKind}
-use Rattle.lucy_host.specs.Operators.{kinds_of}
 use Rattle.lucy_lines.specs.Fronts.{most_bytes}
 use Rattle.lucy_lines.specs.declared.reader.TextFault.{TextFault}
 use Rattle.lucy_feed.specs.declared.feeds.Feed.{Feed}
@@ -16,16 +15,10 @@ use Rattle.lucy_text.specs.Outside.{SeenSource, SeenSink, Writes, Fails}
 use Rattle.lucy_output.specs.declared.output.OutputSpec.{OutputSpec}
 use Rattle.lucy_output.proofs.SinkLaws.{unwritten}
 use Rattle.lucy_place.specs.declared.placed.PlacedNode.{PlacedNode}
-use Rattle.lucy_place.specs.Proper.{AreProper}
 use Rattle.lucy_clock.specs.declared.node_clock.NodeClock.{NodeClock}
-use Rattle.lucy_event.specs.Plans.{GiveBelow}
-use Rattle.lucy_net.specs.declared.net.Actor.{Actor}
-use Rattle.lucy_core.specs.Seen.{Seen, IsOver, IsOutputOf, first_ring, plan_of, stream_of}
+use Rattle.lucy_net.specs.declared.net.Net.{Net}
 use Rattle.lucy_meaning.specs.Spots.{main_of, results_in}
-use Rattle.lucy_flat.specs.Flat.{IsFlat}
-use Rattle.lucy_execution.specs.Streams.{main_word, param_words, main_streams}
-use Rattle.lucy_execution.proofs.LaterLaws.{later_first}
-use Rattle.lucy_execution.proofs.OutputLaws.{IsTold, next_output}
+use Rattle.lucy_execution.specs.Streams.{main_word, param_words, main_stream, main_streams}
 use Rattle.lucy_front.specs.declared.accepted.Accepted.{Accepted}
 use Rattle.lucy_run.specs.declared.ending.Ending.{Ending}
 use Rattle.lucy_run.specs.declared.ending.Ending.TheVariants as ending
@@ -34,44 +27,29 @@ use Rattle.lucy_run.specs.Owes.{EndsFor, IsHorizonOf}
 use Rattle.lucy_run.specs.Ends.{EndsWith}
 use Rattle.lucy_run.specs.Steps.{LeavesOwed}
 use Rattle.lucy_run.proofs.EndsLaws.{ends_whole, owed_written, owed_more, owed_ends}
-use Rattle.lucy_runner.specs.Views.{RunnerView}
 use Rattle.lucy_need.specs.Meeting.{assigned}
 use Rattle.lucy_flat.specs.Instances.{words_in}
-use Rattle.lucy_wave.specs.Names.{escaped}
 use Rattle.lucy_wave.specs.Dumps.{Variable, dump, text_of}
-use Rattle.lucy_wave.specs.Waves.{Fit, variables, IsWave, Waves, OwesWave}
+use Rattle.lucy_wave.specs.Waves.{Fit, FitInside, inner_of, inner_in, notes, variables, IsWave, AreInside, Waves, OwesWave}
+use Rattle.lucy_wave.proofs.DumpLaws.{text_append}
 
--- what a core tells of an output once it is finished
-abbrev pub IsTaken : Seen → ℕ → List ℤ → Type 0
-IsTaken seen i list = (a givers : ℕ) (actor : Actor) → IsOutputOf seen.net i a actor → GiveBelow (plan_of seen) givers → IsOver seen →
-    list ≡ take (ones_to actor.firing seen.instants) (stream_of seen givers (first_ring actor))
-
--- the streams so far with the next one, of a core that is finished
-pub next_stream : (seen : Seen) (nodes : List PlacedNode) (clocks : List NodeClock) → AreProper nodes → IsFlat nodes clocks seen.net → IsOver seen → (i : ℕ) → i < length (results_in (main_of nodes)) → (list : List ℤ) → IsTaken seen i list →
-    take i (main_streams (kinds_of seen.operators) seen.inputs nodes clocks seen.instants) ++ list ∷ [] ≡ take (i + 1) (main_streams (kinds_of seen.operators) seen.inputs nodes clocks seen.instants)
-next_stream seen nodes clocks proper flat over i l list taken =
-    let view : RunnerView = record { seen = seen; before = 0 } in
-    let told : IsTold view i list = λ a givers actor out below finished.
-    taken a givers actor out below finished ∙ sym (ap (λ n. drop n (take (ones_to actor.firing seen.instants) (stream_of seen givers (first_ring actor)))) (ones_to-none actor.firing)) in
-    subst (λ xs. take i xs ++ list ∷ [] ≡ take (i + 1) xs) (later_first (kinds_of seen.operators) seen.inputs nodes clocks seen.instants)
-    (next_output view nodes clocks proper flat over i l list told)
-
-module _ (kinds : List HostKind) (nodes : List PlacedNode) (clocks : List NodeClock) (outputs : List OutputSpec) (given : Option ℕ) (lists : List (List ℤ)) (fault : Option TextFault) (horizon : ℕ)
-    (shown streams : List (List ℤ)) (text : List ℕ) (wave : IsWave nodes clocks outputs shown streams horizon text) (same : shown ≡ lists) (are : streams ≡ main_streams kinds lists nodes clocks horizon) where
-  is_wave : IsWave nodes clocks outputs lists (main_streams kinds lists nodes clocks horizon) horizon text
-  is_wave = subst (λ xs. IsWave nodes clocks outputs lists xs horizon text) are (subst (λ xs. IsWave nodes clocks outputs xs streams horizon text) same wave)
+module _ (kinds : List HostKind) (nodes : List PlacedNode) (clocks : List NodeClock) (net : Net) (outputs : List OutputSpec) (given : Option ℕ) (lists : List (List ℤ)) (fault : Option TextFault) (horizon : ℕ)
+    (shown streams : List (List ℤ)) (inside : Option (List (List ℤ))) (text : List ℕ) (wave : IsWave nodes clocks outputs shown streams inside horizon text) (same : shown ≡ lists)
+    (are : streams ≡ main_streams kinds lists nodes clocks horizon) (within : AreInside kinds lists nodes clocks net horizon inside) where
+  is_wave : IsWave nodes clocks outputs lists (main_streams kinds lists nodes clocks horizon) inside horizon text
+  is_wave = subst (λ xs. IsWave nodes clocks outputs lists xs inside horizon text) are (subst (λ xs. IsWave nodes clocks outputs xs streams inside horizon text) same wave)
 
   -- the dump was written
   pub wave_written : (words : List Bits) → words ≡ param_words nodes clocks → (end : Ending) → EndsFor words given lists fault end → (was now : SeenSink) → Writes was now text →
-      LeavesOwed (Waves kinds nodes clocks outputs given lists fault horizon) was now end
+      LeavesOwed (Waves kinds nodes clocks net outputs given lists fault horizon) was now end
   wave_written words of end ends was now w =
-      owed_written (Waves kinds nodes clocks outputs given lists fault horizon) text end was now (ends_whole words given lists fault end ends)
-      (is_wave, subst (λ ws. EndsFor ws given lists fault end) of ends) w
+      owed_written (Waves kinds nodes clocks net outputs given lists fault horizon) text end was now (ends_whole words given lists fault end ends)
+      (inside, within, is_wave, subst (λ ws. EndsFor ws given lists fault end) of ends) w
 
   -- it could not be
   pub wave_failed : (words : List Bits) → words ≡ param_words nodes clocks → (end : Ending) → EndsFor words given lists fault end → (was now : SeenSink) → Fails was now text →
-      LeavesOwed (Waves kinds nodes clocks outputs given lists fault horizon) was now ending.WriteFault
-  wave_failed words of end ends was now f = (text, end, (is_wave, subst (λ ws. EndsFor ws given lists fault end) of ends), f)
+      LeavesOwed (Waves kinds nodes clocks net outputs given lists fault horizon) was now ending.WriteFault
+  wave_failed words of end ends was now f = (text, end, (inside, within, is_wave, subst (λ ws. EndsFor ws given lists fault end) of ends), f)
 
 module _ (kinds : List HostKind) (a : Accepted) (given : Option ℕ) where
   -- what a call of `wave` leaves
@@ -86,13 +64,13 @@ module _ (kinds : List HostKind) (a : Accepted) (given : Option ℕ) where
   -- main was fed, and the dump was written or not
   pub wave_done : (before after : SeenSource) (was now : SeenSink) (result : Ending) (feed : Feed) (answer : Result Feed OutOfMemory) (clocks : List NodeClock) (outputs : List OutputSpec) (taken : List ℕ) (stop : Stop) →
       Read most_bytes before after taken stop → IsAsked a.inputs.items taken → IsMainFeed a.inputs.items taken stop answer → answer ≡ Ok feed → clocks ≡ a.clocks.items → outputs ≡ a.outputs.items →
-      (horizon : ℕ) × IsHorizonOf (param_words a.placed.nodes clocks) given feed.items horizon × LeavesOwed (Waves kinds a.placed.nodes clocks outputs given feed.items feed.stop horizon) was now result →
+      (horizon : ℕ) × IsHorizonOf (param_words a.placed.nodes clocks) given feed.items horizon × LeavesOwed (Waves kinds a.placed.nodes clocks a.net outputs given feed.items feed.stop horizon) was now result →
       WaveGives before after was now result
   wave_done before after was now result feed answer clocks outputs taken stop read asked fed_so is e f left =
       let P : List NodeClock → Type 0 = λ u. (horizon : ℕ) × IsHorizonOf (param_words a.placed.nodes u) given feed.items horizon
-      × LeavesOwed (Waves kinds a.placed.nodes u outputs given feed.items feed.stop horizon) was now result in
+      × LeavesOwed (Waves kinds a.placed.nodes u a.net outputs given feed.items feed.stop horizon) was now result in
       let Q : List OutputSpec → Type 0 = λ u. (horizon : ℕ) × IsHorizonOf (param_words a.placed.nodes a.clocks.items) given feed.items horizon
-      × LeavesOwed (Waves kinds a.placed.nodes a.clocks.items u given feed.items feed.stop horizon) was now result in
+      × LeavesOwed (Waves kinds a.placed.nodes a.clocks.items a.net u given feed.items feed.stop horizon) was now result in
       let (horizon, horizon_is, moved) = subst Q f (subst P e left) in
       let feeds = subst (IsMainFeed a.inputs.items taken stop) is fed_so in (
         taken,
@@ -100,20 +78,38 @@ module _ (kinds : List HostKind) (a : Accepted) (given : Option ℕ) where
         read,
         asked,
         owed_ends (OwesWave kinds a given taken) stop was now result
-            (owed_more (Waves kinds a.placed.nodes a.clocks.items a.outputs.items given feed.items feed.stop horizon) (OwesWave kinds a given taken stop)
+            (owed_more (Waves kinds a.placed.nodes a.clocks.items a.net a.outputs.items given feed.items feed.stop horizon) (OwesWave kinds a given taken stop)
             (λ output end owed. (feed.items, feed.stop, horizon, record { feeds = feeds; horizon_is = horizon_is }, owed)) was now result moved),
       )
 
 -- the text of the dump of a run
-pub wave_is : (nodes : List PlacedNode) (clocks : List NodeClock) (outputs : List OutputSpec) (lists streams : List (List ℤ)) (horizon : ℕ) (main : PlacedNode) (words : List Bits) (vs : List Variable) (text : List ℕ) →
-    main_of nodes ≡ Some main → words ≡ words_in (slice_get clocks (length nodes - 1)) → vs ≡ variables main (assigned words) outputs lists streams → length vs < 2 ^ 64 → AllByRecursion Fit streams →
-    text ≡ text_of (dump (escaped main.name.text) vs horizon) → IsWave nodes clocks outputs lists streams horizon text
-wave_is nodes clocks outputs lists streams horizon main words vs text main_is of shown few fit is =
-    let same : vs ≡ variables main (main_word nodes clocks) outputs lists streams = shown ∙ ap (λ ws. variables main (assigned ws) outputs lists streams) of in
+pub wave_is : (nodes : List PlacedNode) (clocks : List NodeClock) (outputs : List OutputSpec) (lists streams : List (List ℤ)) (inside : Option (List (List ℤ))) (horizon : ℕ) (main : PlacedNode) (words : List Bits) (vs : List Variable) (text : List ℕ) →
+    main_of nodes ≡ Some main → words ≡ words_in (slice_get clocks (length nodes - 1)) → vs ≡ variables main (assigned words) outputs lists streams inside → length vs < 2 ^ 64 → AllByRecursion Fit streams → FitInside inside →
+    text ≡ text_of (notes inside) ++ text_of (dump main.name.text vs horizon) → IsWave nodes clocks outputs lists streams inside horizon text
+wave_is nodes clocks outputs lists streams inside horizon main words vs text main_is of shown few fit fits is =
+    let same : vs ≡ variables main (main_word nodes clocks) outputs lists streams inside = shown ∙ ap (λ ws. variables main (assigned ws) outputs lists streams inside) of in
     record {
       main = main;
       main_is = main_is;
       few = subst (λ (us : List Variable). length us < 2 ^ 64) same few;
       fit = fit;
-      text_is = is ∙ ap (λ us. text_of (dump (escaped main.name.text) us horizon)) same;
+      fit_inside = fits;
+      text_is = is ∙ sym (text_append (notes inside) (dump main.name.text vs horizon)) ∙ ap (λ us. text_of (notes inside ++ dump main.name.text us horizon)) same;
     }
+
+-- the streams of main's results
+pub results_are : (kinds : List HostKind) (lists : List (List ℤ)) (nodes : List PlacedNode) (clocks : List NodeClock) (horizon : ℕ) (main : PlacedNode) (results : List ℕ) → main_of nodes ≡ Some main → results ≡ main.results →
+    map (main_stream kinds lists nodes clocks horizon) results ≡ main_streams kinds lists nodes clocks horizon
+results_are kinds lists nodes clocks horizon main results e f = ap (map (main_stream kinds lists nodes clocks horizon)) (f ∙ sym (ap results_in e))
+
+-- as many streams as inner places, where they are known
+pub inside_count : (kinds : List HostKind) (lists : List (List ℤ)) (nodes : List PlacedNode) (clocks : List NodeClock) (net : Net) (horizon : ℕ) (inside : Option (List (List ℤ))) → AreInside kinds lists nodes clocks net horizon inside →
+    IfSome inside (λ streams. length (inner_in (main_of nodes)) ≡ length streams)
+inside_count kinds lists nodes clocks net horizon None is = tt
+inside_count kinds lists nodes clocks net horizon (Some streams) is =
+    sym (ap length is.1 ∙ length-map (inner_in (main_of nodes)) (main_stream kinds lists nodes clocks horizon))
+
+-- so it is of the places of main
+pub main_inside : (nodes : List PlacedNode) (main : PlacedNode) (inside : Option (List (List ℤ))) → main_of nodes ≡ Some main → IfSome inside (λ streams. length (inner_in (main_of nodes)) ≡ length streams) →
+    IfSome inside (λ streams. length (inner_of main) ≡ length streams)
+main_inside nodes main inside e count = subst (λ m. IfSome inside (λ streams. length (inner_in m) ≡ length streams)) e count

@@ -1,18 +1,22 @@
 -- Laws of the dumps of runs.
-use Rattle.std.specs.Prelude.{ℕ, ◌≤◌, ◌≡◌, List, ◌++◌, Option, IfSome}
+use Rattle.std.specs.Prelude.{ℕ, ℤ, ◌≤◌, ◌≡◌, List, ◌++◌, length, Option, Some, IfSome, slice_get}
 use Rattle.lucy_word.specs.Limits.{limit_number}
 use Rattle.lucy_word.specs.declared.limit.Limit.TheVariants as limit
 use Rattle.lucy_host.specs.Operators.{Operator}
 use Rattle.lucy_host.specs.declared.kind.HostKind.{HostKind}
 use Rattle.lucy_feed.specs.Sources.{Stop}
 use Rattle.lucy_output.specs.declared.output.OutputSpec.{OutputSpec}
+use Rattle.lucy_meaning.specs.Spots.{main_of}
+use Rattle.lucy_kahn.specs.Turns.{params_in}
+use Rattle.lucy_execution.specs.Streams.{main_word}
 use Rattle.lucy_front.specs.declared.accepted.Accepted.{Accepted}
 use Rattle.lucy_front.specs.declared.options.Options.{Options}
 use Rattle.lucy_front.specs.Accepting.{IsAccepted}
 use Rattle.lucy_run.specs.declared.ending.Ending.{Ending}
 use Rattle.lucy_run.specs.Owes.{heading, OwesRun}
 use Rattle.lucy_wave.specs.Reading.{SaysOutput, ReadsFrom}
-use Rattle.lucy_wave.specs.Waves.{OwesWave}
+use Rattle.lucy_wave.specs.Dumps.{Variable}
+use Rattle.lucy_wave.specs.Waves.{variables, IsWave, OwesWave}
 
 -- The dump that is owed of an accepted program says, read back, the output lines that `run` owes of the same input, and both end alike.
 abbrev pub WavesAreReadBack : Type 0
@@ -34,3 +38,13 @@ OneReading = (code : List ℕ) (step : ℕ) (held : Option ℕ) (lines : List (L
 abbrev pub OneCount : Type 0
 OneCount = (text : List ℕ) (outputs : List OutputSpec) (count other : ℕ) (output out : List ℕ) →
     SaysOutput text outputs count output → SaysOutput text outputs other out → count ≡ other
+
+-- two variables of a list that have one name are one
+abbrev pub AreDistinct : List Variable → Type 0
+AreDistinct vs = (i j : ℕ) (v u : Variable) → slice_get vs i ≡ Some v → slice_get vs j ≡ Some u → v.name ≡ u.name → i ≡ j
+
+-- the variables in the dump of an accepted program have names of their own
+abbrev pub NamesAreDistinct : Type 0
+NamesAreDistinct = (ops : List Operator) (o : Options) (text : List ℕ) (a : Accepted) (lists streams : List (List ℤ)) (inside : Option (List (List ℤ))) (horizon : ℕ) (dump : List ℕ) →
+    IsAccepted ops o text a → (wave : IsWave a.placed.nodes a.clocks.items a.outputs.items lists streams inside horizon dump) → length lists ≡ params_in (main_of a.placed.nodes) →
+    AreDistinct (variables wave.main (main_word a.placed.nodes a.clocks.items) a.outputs.items lists streams inside)

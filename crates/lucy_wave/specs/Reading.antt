@@ -7,7 +7,7 @@ use Rattle.std.specs.Str.Parse.{IsNumeral, digits_value}
 use Rattle.lucy_output.specs.declared.output.OutputSpec.{OutputSpec}
 use Rattle.lucy_output.specs.Outputs.{line_with_value}
 use Rattle.lucy_wave.specs.Dumps.{declaration, time_line, text_of}
-use Rattle.lucy_wave.specs.Names.{escaped, there_name}
+use Rattle.lucy_wave.specs.Names.{there_name}
 
 -- these are the lines of a text: each ends with a line feed, and has none before
 abbrev pub AreLines : List (List ℕ) → (text : List ℕ) → Type 0
@@ -56,7 +56,7 @@ HasValue lines is_wide name t value = (code : List ℕ) × IsDeclared lines is_w
 -- it says of the stream of a name which item comes at a step, if one does: its number is read in two's complement
 abbrev pub Says : List (List ℕ) → (name : List ℕ) → (step : ℕ) → Option ℤ → Type 0
 Says lines name t None = HasValue lines false (there_name name) t 0
-Says lines name t (Some item) = HasValue lines false (there_name name) t 1 × (value : ℕ) × HasValue lines true (escaped name) t value × (item ≡ cast_signed w64 value)
+Says lines name t (Some item) = HasValue lines false (there_name name) t 1 × (value : ℕ) × HasValue lines true name t value × (item ≡ cast_signed w64 value)
 
 -- the lines of an instant, by what the dump says of the outputs
 abbrev pub SaysInstant : List (List ℕ) → List OutputSpec → (step : ℕ) → (text : List ℕ) → Type 0

@@ -1,12 +1,13 @@
 // The text of a dump.
 ghost use Rattle.std.specs.Prelude.{◌≡◌, ◌≤◌, ◌<◌, ◌-◌, ◌^◌, ◌++◌, ◌∷◌, [], suc, OnOk, codes};
-ghost use Rattle.lucy_wave.specs.Names.{escaped};
 ghost use Rattle.lucy_wave.specs.Dumps as spec;
 ghost use Rattle.lucy_wave.specs.Dumps.{code_of, text_of, dump};
+ghost use Rattle.lucy_wave.specs.Waves.{notes};
 ghost use Rattle.lucy_wave.specs.Seen.{seen, all_seen};
 
-use crate::naming::{put_bytes, put_escaped, put_name};
+use crate::naming::{put_bytes, put_name};
 use crate::variable::Variable;
+use lucy_host::Inputs;
 use lucy_word::OutOfMemory;
 use std::alloc::Global;
 
@@ -51,10 +52,10 @@ fn put_header(
     variables: &[Variable<'_>],
     out: &mut Vec<u8>,
 ) -> Result<(), OutOfMemory>
-    ensures { OnOk result (out.new.items ≡ out.old.items ++ text_of (spec.header (escaped scope.now) (all_seen variables.now))) }
+    ensures { OnOk result (out.new.items ≡ out.old.items ++ text_of (spec.header scope.now (all_seen variables.now))) }
 {
     put_bytes(b"$timescale 1 ns $end\n$scope module ", out)?;
-    put_escaped(scope, out)?;
+    put_bytes(scope, out)?;
     put_bytes(b" $end\n", out)?;
     put_declarations(alloc, variables, out)?;
     put_bytes(b"$upscope $end\n$enddefinitions $end\n", out)
@@ -145,9 +146,22 @@ pub(crate) fn put_dump(
     out: &mut Vec<u8>,
 ) -> Result<(), OutOfMemory>
     requires { count < 2 ^ 64 - 1 }
-    ensures { OnOk result (out.new.items ≡ out.old.items ++ text_of (dump (escaped scope.now) (all_seen variables.now) count)) }
+    ensures { OnOk result (out.new.items ≡ out.old.items ++ text_of (dump scope.now (all_seen variables.now) count)) }
 {
     put_header(alloc, scope, variables, out)?;
     put_steps(alloc, variables, count, out)?;
     put_time(alloc, count + 1, out)
+}
+
+/// Puts the line last that says that the items of inner streams are left out, unless they are known.
+pub(crate) fn put_notes(inside: &Option<Inputs>, out: &mut Vec<u8>) -> Result<(), OutOfMemory>
+    ensures { OnOk result (out.new.items ≡ out.old.items ++ text_of (notes inside.now)) }
+{
+    match inside {
+        Some(_) => Ok(()),
+        None => put_bytes(
+            b"$comment A limit keeps the items of the inner streams out. $end\n",
+            out,
+        ),
+    }
 }

@@ -1,19 +1,22 @@
 // The variables of main.
-ghost use Rattle.std.specs.Prelude.{List, ◌≡◌, ◌≤◌, ◌<◌, ◌+◌, ◌-◌, ◌^◌, ◌∷◌, ◌++◌, [], length, OnOk, IfOk};
+ghost use Rattle.std.specs.Prelude.{List, ◌≡◌, ◌≤◌, ◌<◌, ◌+◌, ◌-◌, ◌^◌, ◌∷◌, ◌++◌, [], length, slice_get, OnOk, IfOk, IfSome};
 ghost use Rattle.std.specs.List.{AllByRecursion};
 ghost use Rattle.lucy_place.specs.declared.placed.PlacedNode.{PlacedNode as Node};
 ghost use Rattle.lucy_place.specs.Proper.{IsProperNode};
 ghost use Rattle.lucy_need.specs.Meeting.{assigned};
 ghost use Rattle.lucy_clock.specs.Clocks.{clocks_of};
+ghost use Rattle.lucy_flat.specs.Clocked.{AreClocked};
+ghost use Rattle.lucy_flat.specs.Instances.{words_in};
 ghost use Rattle.lucy_wave.specs.Waves as spec;
-ghost use Rattle.lucy_wave.specs.Waves.{Fit, written_name, is_outer, is_among};
-ghost use Rattle.lucy_wave.specs.Seen.{seen, all_seen};
+ghost use Rattle.lucy_wave.specs.Waves.{Fit, FitInside, written_name, is_outer, is_among, inner_of};
+ghost use Rattle.lucy_wave.specs.Seen.{seen, all_seen, IsWithin};
 
 use crate::variable::Variable;
+use lucy_clock::NodeClock;
 use lucy_front::first_operand;
 use lucy_host::Inputs;
 use lucy_output::OutputSpec;
-use lucy_place::PlacedNode;
+use lucy_place::{Placed, PlacedNode};
 use lucy_tree::Name;
 use lucy_word::{OutOfMemory, Word};
 use std::alloc::{AllocError, Global};
@@ -67,8 +70,17 @@ fn put_results<'a>(
     Ok(())
 }
 
-// The word of a clock.
-fn word_of(words: &[Word], clock: u32) -> &Word
+/// The words of main's clocks.
+pub(crate) fn main_words<'a>(placed: &Placed, clocks: &'a [NodeClock]) -> &'a [Word]
+    requires { AreClocked placed.now.nodes clocks.now }
+    ensures { result.now ≡ words_in (slice_get clocks.now (length placed.now.nodes - 1)) }
+{
+    let main = placed.nodes() - 1;
+    clocks[main as usize].words.list()
+}
+
+/// The word of a clock.
+pub(crate) fn word_of(words: &[Word], clock: u32) -> &Word
     requires { clock < length words.now }
     ensures { result.now ≡ assigned words.now clock }
 {
@@ -150,40 +162,106 @@ fn is_outer(node: &PlacedNode, place: u32) -> bool
     place <= node.params || is_among(place, node.results.list())
 }
 
-// Any other place with a name.
-fn put_place<'a>(
-    node: &PlacedNode,
-    name: &'a Option<Name>,
-    word: &'a Word,
-    place: u32,
-    variables: &mut Vec<Variable<'a>>,
-) -> Result<(), AllocError>
-    ensures { OnOk result (all_seen variables.new.items ≡ all_seen variables.old.items ++ spec.inner_stream node.now word.now place name.now) }
+// One more number.
+fn add(numbers: &mut Vec<u32>, number: u32) -> Result<(), AllocError>
+    ensures { OnOk result (numbers.new.items ≡ numbers.old.items ++ number ∷ []) }
 {
-    let Some(name) = name else {
-        return Ok(());
-    };
-    if is_outer(node, place) {
-        return Ok(());
-    }
-    push(variables, Variable::There(name.text.bytes(), word))
+    numbers.push(number)?;
+    Ok(())
 }
 
-// The other streams.
+// The place, where it has a name and is neither an input nor a result.
+fn add_inner(
+    node: &PlacedNode,
+    name: &Option<Name>,
+    place: u32,
+    places: &mut Vec<u32>,
+) -> Result<(), AllocError>
+    ensures { OnOk result (places.new.items ≡ places.old.items ++ spec.inner_place node.now place name.now) }
+{
+    match name {
+        None => Ok(()),
+        Some(_) => {
+            if is_outer(node, place) {
+                return Ok(());
+            }
+            add(places, place)
+        }
+    }
+}
+
+/// The places of main's inner streams, in order.
+pub(crate) fn inner_places(alloc: Global, node: &PlacedNode) -> Result<Vec<u32>, OutOfMemory>
+    requires few { length node.now.places < 2 ^ 32 - 1 }
+    ensures places { IfOk result (λ v. v.items ≡ inner_of node.now) }
+    ensures few { IfOk result (λ v. length v.items ≤ length node.now.places) }
+{
+    let mut places = Vec::new(alloc);
+    'each: for (i, entry) in node.places.list().iter().enumerate() {
+        add_inner(node, &entry.name, i as u32 + 1, &mut places)?;
+    }
+    Ok(places)
+}
+
+// The bits of inner streams.
+fn put_bits<'a>(
+    node: &'a PlacedNode,
+    words: &'a [Word],
+    places: &[u32],
+    variables: &mut Vec<Variable<'a>>,
+) -> Result<(), AllocError>
+    requires within { AllByRecursion (IsWithin (length node.now.places) (length words.now)) places.now }
+    ensures { OnOk result (all_seen variables.new.items ≡ all_seen variables.old.items ++ spec.there_bits node.now (assigned words.now) places.now) }
+{
+    'each: for place in places {
+        let there = Variable::There(written_name(node, *place), word_of(words, *place));
+        push(variables, there)?;
+    }
+    Ok(())
+}
+
+// Inner streams with their items.
+fn put_streams<'a>(
+    node: &'a PlacedNode,
+    words: &'a [Word],
+    places: &[u32],
+    lists: &'a Inputs,
+    variables: &mut Vec<Variable<'a>>,
+) -> Result<(), AllocError>
+    requires within { AllByRecursion (IsWithin (length node.now.places) (length words.now)) places.now }
+    requires lists { length places.now ≡ length lists.now }
+    requires few { length places.now < 2 ^ 32 }
+    ensures shown { OnOk result (all_seen variables.new.items ≡ all_seen variables.old.items ++ spec.with_items node.now (assigned words.now) places.now lists.now) }
+    ensures fit { OnOk result (AllByRecursion Fit lists.now) }
+{
+    'each: for (i, place) in places.iter().enumerate() {
+        let items = lists.list(i as u32);
+        are_numbers(items);
+        let name = written_name(node, *place);
+        put_stream(name, word_of(words, *place), items, variables)?;
+    }
+    Ok(())
+}
+
+// The inner streams, with their items where these are known.
 fn put_inner<'a>(
     node: &'a PlacedNode,
     words: &'a [Word],
+    places: &[u32],
+    inside: &'a Option<Inputs>,
     variables: &mut Vec<Variable<'a>>,
 ) -> Result<(), AllocError>
-    requires few { length node.now.places < 2 ^ 32 - 1 }
-    requires words { length node.now.places < length words.now }
-    ensures { OnOk result (all_seen variables.new.items ≡ all_seen variables.old.items ++ spec.inner node.now (assigned words.now) 1 node.now.places) }
+    requires within { AllByRecursion (IsWithin (length node.now.places) (length words.now)) places.now }
+    requires inner { places.now ≡ inner_of node.now }
+    requires lists { IfSome inside.now (λ lists. length places.now ≡ length lists) }
+    requires few { length places.now < 2 ^ 32 }
+    ensures shown { OnOk result (all_seen variables.new.items ≡ all_seen variables.old.items ++ spec.inner node.now (assigned words.now) inside.now) }
+    ensures fit { OnOk result (FitInside inside.now) }
 {
-    'each: for (i, entry) in node.places.list().iter().enumerate() {
-        let place = i as u32 + 1;
-        put_place(node, &entry.name, word_of(words, place), place, variables)?;
+    match inside {
+        None => put_bits(node, words, places, variables),
+        Some(lists) => put_streams(node, words, places, lists, variables),
     }
-    Ok(())
 }
 
 // The buffers.
@@ -205,7 +283,7 @@ fn put_buffers<'a>(
     Ok(())
 }
 
-/// The variables of main: its results with their streams, its other inputs with their items, its other streams and its buffers.
+/// The variables of main: its results with their streams, its other inputs with their items, its inner streams and its buffers.
 pub(crate) fn variables<'a>(
     alloc: Global,
     node: &'a PlacedNode,
@@ -213,19 +291,23 @@ pub(crate) fn variables<'a>(
     outputs: &'a [OutputSpec],
     lists: &'a Inputs,
     streams: &'a Inputs,
+    inside: &'a Option<Inputs>,
 ) -> Result<Vec<Variable<'a>>, OutOfMemory>
     requires proper { (above : List Node) × IsProperNode above node.now }
     requires words { length words.now ≡ clocks_of node.now }
     requires lists { length lists.now ≡ node.now.params }
     requires streams { length outputs.now ≡ length streams.now }
+    requires inside { IfSome inside.now (λ lists. length (inner_of node.now) ≡ length lists) }
     requires few { length outputs.now < 2 ^ 32 }
-    ensures shown { IfOk result (λ v. all_seen v.items ≡ spec.variables node.now (assigned words.now) outputs.now lists.now streams.now) }
+    ensures shown { IfOk result (λ v. all_seen v.items ≡ spec.variables node.now (assigned words.now) outputs.now lists.now streams.now inside.now) }
     ensures fit { IfOk result (λ _. AllByRecursion Fit streams.now) }
+    ensures fit_inside { IfOk result (λ _. FitInside inside.now) }
 {
+    let places = inner_places(alloc, node)?;
     let mut variables = Vec::new(alloc);
     put_results(outputs, streams, &mut variables)?;
     put_inputs(node, words, lists, &mut variables)?;
-    put_inner(node, words, &mut variables)?;
+    put_inner(node, words, &places, inside, &mut variables)?;
     put_buffers(node, words, &mut variables)?;
     Ok(variables)
 }

@@ -1,17 +1,21 @@
 // Laws of the dumps of runs, on functions that call the laws of feeds, horizons and streams alone.
-ghost use Rattle.lucy_wave.specs.Laws.{WavesAreReadBack, OneWave, OneReading, OneCount};
+ghost use Rattle.lucy_wave.specs.Laws.{WavesAreReadBack, OneWave, OneReading, OneCount, NamesAreDistinct};
 
 use lucy_execution::streams_are_whole;
 use lucy_feed::one_feed;
+use lucy_front::accepted_programs_are_clocked;
 use lucy_meaning::one_horizon;
+use lucy_token::texts_have_one_cut;
 
 /// The dump that is owed of an accepted program says, read back, the output lines that `run` owes of the same input, and both end alike.
 pub fn waves_are_read_back()
     ensures { WavesAreReadBack }
 {
+    accepted_programs_are_clocked();
     one_feed();
     one_horizon();
     streams_are_whole();
+    texts_have_one_cut();
 }
 
 /// The bytes taken, and how reading stopped, owe one dump, with one ending.
@@ -31,3 +35,11 @@ pub fn one_reading()
 pub fn one_count()
     ensures { OneCount }
 {}
+
+/// No two variables in the dump of an accepted program have one name.
+pub fn names_are_distinct()
+    ensures { NamesAreDistinct }
+{
+    accepted_programs_are_clocked();
+    texts_have_one_cut();
+}

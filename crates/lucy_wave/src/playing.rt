@@ -1,19 +1,24 @@
 // The streams of a run.
-ghost use Rattle.std.specs.Prelude.{◌≡◌, ◌≤◌, ◌<◌, ◌-◌, ◌^◌, ◌∷◌, ◌++◌, [], length, IfOk, OnOk};
+ghost use Rattle.std.specs.Prelude.{◌≡◌, ◌≤◌, ◌<◌, ◌+◌, ◌-◌, ◌^◌, ◌∷◌, ◌++◌, [], Some, None, length, map, IfOk, OnOk};
 ghost use Rattle.lucy_word.specs.Limits.{limit_number};
 ghost use Rattle.lucy_word.specs.declared.limit.Limit.TheVariants as limit;
 ghost use Rattle.lucy_host.specs.Host.{Serves, lent};
 ghost use Rattle.lucy_host.specs.Operators.{kinds_of};
 ghost use Rattle.lucy_place.specs.Proper.{HaveOperators};
-ghost use Rattle.lucy_meaning.specs.Spots.{main_of, results_in};
+ghost use Rattle.lucy_meaning.specs.Spots.{main_of};
 ghost use Rattle.lucy_meaning.specs.Horizons.{Suffice};
 ghost use Rattle.lucy_kahn.specs.Turns.{params_in};
 ghost use Rattle.lucy_net.specs.Schedules.{IsSound};
 ghost use Rattle.lucy_cause.specs.Schedules.{events_at};
-ghost use Rattle.lucy_core.specs.Seen.{IsOver};
+ghost use Rattle.lucy_core.specs.Seen.{IsFixed, IsOver};
+ghost use Rattle.lucy_flat.specs.Clocked.{AreClocked};
 ghost use Rattle.lucy_flat.specs.Flat.{IsFlat};
-ghost use Rattle.lucy_execution.specs.Streams.{param_words, main_streams};
+ghost use Rattle.lucy_execution.specs.Streams.{param_words, main_stream, main_streams};
+ghost use Rattle.lucy_wave.specs.Waves.{AreInside};
+ghost use Rattle.lucy_wave.specs.Seen.{AreFed, IsGrown};
 
+use crate::gathering::{inner_places, main_words};
+use crate::watching::{Watched, watch};
 use lucy_cause::Schedule;
 use lucy_clock::NodeClock;
 use lucy_core::Core;
@@ -24,11 +29,12 @@ use lucy_place::Placed;
 use lucy_word::OutOfMemory;
 use std::alloc::Global;
 
-/// What a run has: the items of main's inputs, and the streams of its results.
+/// What a run has: the items of main's inputs, the streams of its results, and, where they are known, those of its inner places.
 #[derive(Drop)]
 pub(crate) struct Played {
     pub lists: Inputs,
     pub streams: Inputs,
+    pub inside: Option<Inputs>,
 }
 
 // One more list, under the next number.
@@ -49,26 +55,121 @@ fn add(
     Ok(())
 }
 
-// What the outputs of a finished core of a program's flat net took: the streams of main's results, in order.
+// What outputs of a finished core took, which are numbered from one on: the streams of these places of main, in order.
 fn streams_of(
     alloc: Global,
     placed: &Placed,
     clocks: &[NodeClock],
     core: &Core,
-) -> Result<Inputs, lucy_host::OutOfMemory>
-    requires flat { IsFlat placed.now.nodes clocks.now core.now.net }
+    first: u32,
+    places: &[u32],
+) -> Result<Inputs, OutOfMemory>
+    requires fed { AreFed placed.now.nodes clocks.now core.now.net first places.now }
+    requires grown { IsGrown placed.now.nodes core.now.net }
     requires over { IsOver core.now }
-    ensures { IfOk result (λ lists. lists ≡ main_streams (kinds_of core.now.operators) core.now.inputs placed.now.nodes clocks.now core.now.instants) }
+    requires few { first + length places.now < 2 ^ 32 - 1 }
+    ensures { IfOk result (λ lists. lists ≡ map (main_stream (kinds_of core.now.operators) core.now.inputs placed.now.nodes clocks.now core.now.instants) places.now) }
 {
-    let results = placed.node(placed.nodes() - 1).results.list().len();
     let mut lists = Inputs::new(alloc);
-    'each: for i in 0..results {
-        add(alloc, &mut lists, i as u32, core.output(i as u32))?;
+    'each: for i in 0..places.len() {
+        match add(alloc, &mut lists, i as u32, core.output(first + i as u32)) {
+            Ok(()) => {}
+            Err(_) => return Err(OutOfMemory),
+        }
     }
     Ok(lists)
 }
 
-/// The streams of a program's results up to a horizon of at most 1,048,576 instants, by its flat net in the order of its schedule.
+// A finished core of a net.
+fn finished<F: Fn(u32, i64, i64) -> i64 + Sync>(
+    alloc: Global,
+    net: Net,
+    schedule: Schedule,
+    host: &Host<F>,
+    lists: Inputs,
+    instants: u64,
+) -> Result<Core, OutOfMemory>
+    requires serves { Serves F.pre F.post host.now }
+    requires fixed { IsFixed net schedule lists (lent host.now) instants }
+    ensures over { IfOk result (λ core. IsOver core) }
+    ensures net { IfOk result (λ core. core.net ≡ net) }
+    ensures inputs { IfOk result (λ core. core.inputs ≡ lists) }
+    ensures operators { IfOk result (λ core. core.operators ≡ lent host.now) }
+    ensures instants { IfOk result (λ core. core.instants ≡ instants) }
+{
+    let mut core = Core::new(alloc, net, schedule, lists, host.ops(), instants)?;
+    core.run_static(host);
+    Ok(core)
+}
+
+// A run whose net puts out main's results alone.
+fn play_results<F: Fn(u32, i64, i64) -> i64 + Sync>(
+    alloc: Global,
+    placed: &Placed,
+    clocks: &[NodeClock],
+    net: Net,
+    schedule: Schedule,
+    host: &Host<F>,
+    lists: Inputs,
+    instants: u64,
+    results: &[u32],
+) -> Result<Played, OutOfMemory>
+    requires serves { Serves F.pre F.post host.now }
+    requires fixed { IsFixed net schedule lists (lent host.now) instants }
+    requires grown { IsGrown placed.now.nodes net }
+    requires fed { AreFed placed.now.nodes clocks.now net 0 results.now }
+    requires few { length results.now < 2 ^ 31 }
+    ensures lists { IfOk result (λ played. played.lists ≡ lists) }
+    ensures streams { IfOk result (λ played. played.streams ≡ map (main_stream (kinds_of (lent host.now)) lists placed.now.nodes clocks.now instants) results.now) }
+    ensures inside { IfOk result (λ played. played.inside ≡ None) }
+{
+    let core = finished(alloc, net, schedule, host, lists, instants)?;
+    let streams = streams_of(alloc, placed, clocks, &core, 0, results)?;
+    let lists = core.into_parts().inputs;
+    Ok(Played {
+        lists,
+        streams,
+        inside: None,
+    })
+}
+
+// One whose net puts out these places too, behind the results.
+fn play_all<F: Fn(u32, i64, i64) -> i64 + Sync>(
+    alloc: Global,
+    placed: &Placed,
+    clocks: &[NodeClock],
+    watched: Watched,
+    host: &Host<F>,
+    lists: Inputs,
+    instants: u64,
+    results: &[u32],
+    places: &[u32],
+) -> Result<Played, OutOfMemory>
+    requires serves { Serves F.pre F.post host.now }
+    requires fixed { IsFixed watched.net watched.schedule lists (lent host.now) instants }
+    requires grown { IsGrown placed.now.nodes watched.net }
+    requires fed { AreFed placed.now.nodes clocks.now watched.net 0 results.now }
+    requires fed_too { AreFed placed.now.nodes clocks.now watched.net (length results.now) places.now }
+    requires few { length results.now < 2 ^ 31 }
+    requires few_places { length places.now < 2 ^ 30 }
+    ensures lists { IfOk result (λ played. played.lists ≡ lists) }
+    ensures streams { IfOk result (λ played. played.streams ≡ map (main_stream (kinds_of (lent host.now)) lists placed.now.nodes clocks.now instants) results.now) }
+    ensures inside { IfOk result (λ played. played.inside ≡ Some (map (main_stream (kinds_of (lent host.now)) lists placed.now.nodes clocks.now instants) places.now)) }
+{
+    let Watched { net, schedule } = watched;
+    let core = finished(alloc, net, schedule, host, lists, instants)?;
+    let streams = streams_of(alloc, placed, clocks, &core, 0, results)?;
+    let inside = streams_of(alloc, placed, clocks, &core, results.len() as u32, places)?;
+    let lists = core.into_parts().inputs;
+    Ok(Played {
+        lists,
+        streams,
+        inside: Some(inside),
+    })
+}
+
+/// The streams of a program's results up to a horizon of at most 1,048,576 instants, and of its inner places where they are known, by
+/// its flat net, with outputs more where it can have them, in the order of a schedule.
 pub(crate) fn play<F: Fn(u32, i64, i64) -> i64 + Sync>(
     alloc: Global,
     placed: &Placed,
@@ -79,6 +180,7 @@ pub(crate) fn play<F: Fn(u32, i64, i64) -> i64 + Sync>(
     lists: Inputs,
     instants: u64,
 ) -> Result<Played, OutOfMemory>
+    requires clocked { AreClocked placed.now.nodes clocks.now }
     requires flat { IsFlat placed.now.nodes clocks.now net }
     requires sound { IsSound net (events_at schedule) }
     requires serves { Serves F.pre F.post host.now }
@@ -88,15 +190,19 @@ pub(crate) fn play<F: Fn(u32, i64, i64) -> i64 + Sync>(
     requires early { instants ≤ limit_number limit.Instants }
     ensures lists { IfOk result (λ played. played.lists ≡ lists) }
     ensures streams { IfOk result (λ played. played.streams ≡ main_streams (kinds_of (lent host.now)) lists placed.now.nodes clocks.now instants) }
+    ensures inside { IfOk result (λ played. AreInside (kinds_of (lent host.now)) lists placed.now.nodes clocks.now net instants played.inside) }
 {
-    let _ = placed.nodes();
     nets_can_be_run();
-    let mut core = Core::new(alloc, net, schedule, lists, host.ops(), instants)?;
-    core.run_static(host);
-    let streams = match streams_of(alloc, placed, clocks, &core) {
-        Ok(streams) => streams,
-        Err(_) => return Err(OutOfMemory),
-    };
-    let lists = core.into_parts().inputs;
-    Ok(Played { lists, streams })
+    let main = placed.node(placed.nodes() - 1);
+    let results = main.results.list();
+    let places = inner_places(alloc, main)?;
+    let words = main_words(placed, clocks);
+    match watch(alloc, &net, words, results.len() as u32, &places)? {
+        None => play_results(
+            alloc, placed, clocks, net, schedule, host, lists, instants, results,
+        ),
+        Some(watched) => play_all(
+            alloc, placed, clocks, watched, host, lists, instants, results, &places,
+        ),
+    }
 }

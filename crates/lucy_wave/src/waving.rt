@@ -21,10 +21,10 @@ ghost use Rattle.lucy_front.specs.Accepting.{IsAccepted};
 ghost use Rattle.lucy_run.specs.Owes.{IsHorizonOf};
 ghost use Rattle.lucy_run.specs.Ends.{EndsWith};
 ghost use Rattle.lucy_run.specs.Steps.{LeavesOwed};
-ghost use Rattle.lucy_wave.specs.Waves.{IsWave, Waves, OwesWave};
+ghost use Rattle.lucy_wave.specs.Waves.{IsWave, Waves, OwesWave, inner_in};
 
-use crate::dumping::put_dump;
-use crate::gathering::variables;
+use crate::dumping::{put_dump, put_notes};
+use crate::gathering::{main_words, variables};
 use crate::playing::{Played, play};
 use lucy_cause::Schedule;
 use lucy_clock::NodeClock;
@@ -37,17 +37,8 @@ use lucy_output::OutputSpec;
 use lucy_place::Placed;
 use lucy_run::{Ending, extent_of, main_feed};
 use lucy_text::{Sink, Source, write_all};
-use lucy_word::{OutOfMemory, Word};
+use lucy_word::OutOfMemory;
 use std::alloc::Global;
-
-// The words of main's clocks.
-fn main_words<'a>(placed: &Placed, clocks: &'a [NodeClock]) -> &'a [Word]
-    requires { AreClocked placed.now.nodes clocks.now }
-    ensures { result.now ≡ words_in (slice_get clocks.now (length placed.now.nodes - 1)) }
-{
-    let main = placed.nodes() - 1;
-    clocks[main as usize].words.list()
-}
 
 // The text of the dump of a run.
 fn wave_text(
@@ -62,13 +53,23 @@ fn wave_text(
     requires outputs { length outputs.now ≡ length (results_in (main_of placed.now.nodes)) }
     requires lists { params_in (main_of placed.now.nodes) ≡ length played.now.lists }
     requires streams { length played.now.streams ≡ length (results_in (main_of placed.now.nodes)) }
+    requires inside { IfSome played.now.inside (λ lists. length (inner_in (main_of placed.now.nodes)) ≡ length lists) }
     requires early { instants ≤ limit_number limit.Instants }
-    ensures { IfOk result (λ v. IsWave placed.now.nodes clocks.now outputs.now played.now.lists played.now.streams instants v.items) }
+    ensures { IfOk result (λ v. IsWave placed.now.nodes clocks.now outputs.now played.now.lists played.now.streams played.now.inside instants v.items) }
 {
     let main = placed.node(placed.nodes() - 1);
     let words = main_words(placed, clocks);
-    let variables = variables(alloc, main, words, outputs, &played.lists, &played.streams)?;
+    let variables = variables(
+        alloc,
+        main,
+        words,
+        outputs,
+        &played.lists,
+        &played.streams,
+        &played.inside,
+    )?;
     let mut text = Vec::new(alloc);
+    put_notes(&played.inside, &mut text)?;
     put_dump(
         alloc,
         main.name.text.bytes(),
@@ -101,7 +102,7 @@ fn wave_feed<F: Fn(u32, i64, i64) -> i64 + Sync, O: Sink>(
     requires inputs { params_in (main_of placed.now.nodes) ≡ length feed.items }
     requires few { IfSome given (λ most. most ≤ limit_number limit.Instants) }
     ensures left { (horizon : ℕ) × IsHorizonOf (param_words placed.now.nodes clocks.now) given feed.items horizon
-        × LeavesOwed (Waves (kinds_of (lent host.now)) placed.now.nodes clocks.now outputs.now given feed.items feed.stop horizon)
+        × LeavesOwed (Waves (kinds_of (lent host.now)) placed.now.nodes clocks.now net outputs.now given feed.items feed.stop horizon)
         (O.seen out.old) (O.seen out.new) result }
     ensures count { (O.seen out.old).faults ≤ (O.seen out.new).faults }
 {
@@ -128,8 +129,9 @@ fn wave_feed<F: Fn(u32, i64, i64) -> i64 + Sync, O: Sink>(
 
 /// Writes a run of an accepted program as a value change dump, an instant a step: its input is read to its end or its first fault, and
 /// then the dump is written up to the horizon, which is that of [`run`](lucy_run::run), and nothing else. Each stream of main with a
-/// name, `s`, has a bit `s$there` that tells whether an item comes, each input and each result its last item so far, 0 before the
-/// first, and buffer `k`, from 1, as `buffer$k` how many items wait in it.
+/// name, `s`, has a bit `s$there` that tells whether an item comes, and its last item so far, 0 before the first; and buffer `k`, from 1,
+/// as `buffer$k` how many items wait in it. Where the net with an output more for each stream that is neither an input nor a result
+/// passes a limit, these streams have their bits alone, and a comment of the dump says so.
 ///
 /// All memory is taken before the first write.
 pub fn wave<F: Fn(u32, i64, i64) -> i64 + Sync, I: Source, O: Sink>(

@@ -1,5 +1,4 @@
 use Rattle.std.proofs.Common.{◌+◌, ◌≡◌, suc, arith}
-use Rattle.lucy_wave.specs.Names.{escaped}
 use Rattle.lucy_wave.specs.Seen.{all_seen}
 use Rattle.lucy_wave.proofs.DumpLaws.{dump_text, ok_more}
 use Rattle.lucy_wave.proofs.dumping.put_dump.Goals as goal
@@ -9,6 +8,6 @@ returns c =
     let next : c.args.count + 1 ≡ suc c.args.count = omega arith in
     ok_more c.put_time.result
     (λ last.
-    dump_text (escaped c.args.scope.now) (all_seen c.args.variables.now) c.args.count (c.args.count + 1) c.args.out.now.items c.put_header.new.out.items c.put_steps.new.out.items c.put_time.new.out.items
+    dump_text c.args.scope.now (all_seen c.args.variables.now) c.args.count (c.args.count + 1) c.args.out.now.items c.put_header.new.out.items c.put_steps.new.out.items c.put_time.new.out.items
     next c.in_ok-put_header.ensures c.in_ok-put_steps.ensures last)
     c.put_time.ensures

@@ -1,20 +1,21 @@
-use Rattle.std.proofs.Common.{◌<◌, ◌-◌, ◌++◌, ◌∷◌, [], length, ap, refl, ◌∙◌, arith}
-use Rattle.lucy_meaning.specs.Spots.{main_of, results_in}
-use Rattle.lucy_execution.proofs.OutputLaws.{main_here, results_here, output_there}
-use Rattle.lucy_wave.proofs.WaveLaws.{next_stream}
+use Rattle.std.proofs.Common.{◌+◌, ◌++◌, ◌∷◌, [], ap, ◌∙◌}
+use Rattle.lucy_host.specs.Operators.{kinds_of}
+use Rattle.lucy_meaning.proofs.Lists.{there}
+use Rattle.lucy_execution.specs.Streams.{main_stream}
+use Rattle.lucy_wave.proofs.FedLaws.{stream_taken, streams_more}
 use Rattle.lucy_wave.proofs.playing.streams_of.Goals as goal
 
 pub output-requires : goal.output-requires
 output-requires c =
-    let nodes = c.args.placed.now.nodes in
-    let main = main_here nodes c.nodes.result (c.nodes.result - 1) c.node.result.now c.nodes.ensures.count refl c.node.ensures.is in
-    let within : c.each.i < length (results_in (main_of nodes)) = omega (arith, c.each-test.true, ap length c.list-results.ensures, results_here nodes c.node.result.now main) in
-    output_there nodes c.args.clocks.now c.args.core.now.net c.nodes.ensures.proper c.requires.flat c.each.i within
+    let place = there c.args.places.now c.each.i c.each-test.true in
+    let fed = c.requires.fed c.each.i place.0 place.1 in
+    (fed.index, fed.actor, fed.output)
 
 pub each-preserved : goal.each-preserved
 each-preserved c =
+    let seen = c.args.core.now in
     let nodes = c.args.placed.now.nodes in
-    let main = main_here nodes c.nodes.result (c.nodes.result - 1) c.node.result.now c.nodes.ensures.count refl c.node.ensures.is in
-    let within : c.each.i < length (results_in (main_of nodes)) = omega (arith, c.each-test.true, ap length c.list-results.ensures, results_here nodes c.node.result.now main) in
-    c.in_ok-add.ensures ∙ ap (λ ls. ls ++ c.output.result.now ∷ []) c.each.invariant
-    ∙ next_stream c.args.core.now nodes c.args.clocks.now c.nodes.ensures.proper c.requires.flat c.requires.over c.each.i within c.output.result.now c.output.ensures.finished
+    let place = there c.args.places.now c.each.i c.each-test.true in
+    let is = stream_taken seen nodes c.args.clocks.now (c.args.first + c.each.i) place.0 c.output.result.now c.requires.grown (c.requires.fed c.each.i place.0 place.1) c.requires.over c.output.ensures.finished in
+    c.in-Ok.ensures ∙ ap (λ ls. ls ++ c.output.result.now ∷ []) c.each.invariant
+    ∙ streams_more (main_stream (kinds_of seen.operators) seen.inputs nodes c.args.clocks.now seen.instants) c.args.places.now c.each.i place.0 c.output.result.now place.1 is

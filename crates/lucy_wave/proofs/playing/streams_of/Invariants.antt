@@ -1,8 +1,8 @@
-use Rattle.std.proofs.Common.{◌≡◌, take}
+use Rattle.std.proofs.Common.{◌≡◌, map, take}
 use Rattle.lucy_host.specs.Operators.{kinds_of}
-use Rattle.lucy_execution.specs.Streams.{main_streams}
+use Rattle.lucy_execution.specs.Streams.{main_stream}
 use Rattle.lucy_wave.proofs.playing.streams_of.Given as goal
 
--- the streams of the results so far
+-- the streams so far
 abbrev pub invariant-each : goal.invariant-each
-invariant-each l = l.lists ≡ take l.i (main_streams (kinds_of l.core.operators) l.core.inputs l.placed.nodes l.clocks l.core.instants)
+invariant-each l = l.lists ≡ take l.i (map (main_stream (kinds_of l.core.operators) l.core.inputs l.placed.nodes l.clocks l.core.instants) l.places)

@@ -10,7 +10,7 @@ use Rattle.lucy_execution.proofs.StreamLaws.{params_count}
 use Rattle.lucy_run.specs.Owes.{most_instants, IsHorizonOf}
 use Rattle.lucy_run.proofs.HorizonLaws.{some_horizon, few_most}
 use Rattle.lucy_run.proofs.EndsLaws.{on_ok, on_err}
-use Rattle.lucy_wave.proofs.WaveLaws.{wave_written, wave_failed}
+use Rattle.lucy_wave.proofs.WaveLaws.{inside_count, wave_written, wave_failed}
 use Rattle.lucy_wave.proofs.waving.wave_feed.Goals as goal
 
 pub extent_of-requires-clause-lists : goal.extent_of-requires-clause-lists
@@ -45,6 +45,10 @@ wave_text-requires-clause-streams g c =
     ap length c.in-Ok-play.ensures.streams
     ∙ length-map (results_in (main_of nodes)) (main_stream (kinds_of (lent c.args.host.now)) c.args.feed.items nodes c.args.clocks.now c.in-Ok.extent.horizon)
 
+pub wave_text-requires-clause-inside : goal.wave_text-requires-clause-inside
+wave_text-requires-clause-inside g c =
+    inside_count (kinds_of (lent c.args.host.now)) c.args.feed.items c.args.placed.now.nodes c.args.clocks.now c.args.net c.in-Ok.extent.horizon c.in-Ok-play.played.inside c.in-Ok-play.ensures.inside
+
 pub wave_text-requires-clause-early : goal.wave_text-requires-clause-early
 wave_text-requires-clause-early g c =
     let horizon_is = subst (λ (ws : List Bits). IsHorizonOf ws c.args.given c.args.feed.items c.in-Ok.extent.horizon) c.param_words-words.ensures.words c.in-Ok.ensures.horizon in
@@ -63,8 +67,8 @@ returns-in-Ok-write_all-clause-left g c =
     let written = subst (Writes _ _) c.deref.ensures.value (on_ok _ _ c.in-Ok-write_all.is c.write_all.ensures.ok) in (
       horizon,
       horizon_is,
-      wave_written (kinds_of (lent c.args.host.now)) c.args.placed.now.nodes c.args.clocks.now c.args.outputs.now c.args.given c.args.feed.items c.args.feed.stop horizon
-          c.in-Ok-play.played.lists c.in-Ok-play.played.streams c.in-Ok-wave_text.text.items c.in-Ok-wave_text.ensures c.in-Ok-play.ensures.lists c.in-Ok-play.ensures.streams
+      wave_written (kinds_of (lent c.args.host.now)) c.args.placed.now.nodes c.args.clocks.now c.args.net c.args.outputs.now c.args.given c.args.feed.items c.args.feed.stop horizon
+          c.in-Ok-play.played.lists c.in-Ok-play.played.streams c.in-Ok-play.played.inside c.in-Ok-wave_text.text.items c.in-Ok-wave_text.ensures c.in-Ok-play.ensures.lists c.in-Ok-play.ensures.streams c.in-Ok-play.ensures.inside
           c.param_words-words.result.now of c.in-Ok.extent.ending c.in-Ok.ensures.ending _ _ written,
     )
 
@@ -76,7 +80,7 @@ returns-clause-left g c =
     let failed = subst (Fails _ _) c.deref.ensures.value (on_err _ _ c.in-Err-write_all.is c.write_all.ensures.failed) in (
       horizon,
       horizon_is,
-      wave_failed (kinds_of (lent c.args.host.now)) c.args.placed.now.nodes c.args.clocks.now c.args.outputs.now c.args.given c.args.feed.items c.args.feed.stop horizon
-          c.in-Ok-play.played.lists c.in-Ok-play.played.streams c.in-Ok-wave_text.text.items c.in-Ok-wave_text.ensures c.in-Ok-play.ensures.lists c.in-Ok-play.ensures.streams
+      wave_failed (kinds_of (lent c.args.host.now)) c.args.placed.now.nodes c.args.clocks.now c.args.net c.args.outputs.now c.args.given c.args.feed.items c.args.feed.stop horizon
+          c.in-Ok-play.played.lists c.in-Ok-play.played.streams c.in-Ok-play.played.inside c.in-Ok-wave_text.text.items c.in-Ok-wave_text.ensures c.in-Ok-play.ensures.lists c.in-Ok-play.ensures.streams c.in-Ok-play.ensures.inside
           c.param_words-words.result.now of c.in-Ok.extent.ending c.in-Ok.ensures.ending _ _ failed,
     )

@@ -1,0 +1,19 @@
+use Rattle.std.proofs.Common.{◌-◌, ◌++◌, ◌∷◌, [], ◌≡◌, length, ap, ◌∙◌, arith}
+use Rattle.lucy_wave.specs.Watching.{give_at}
+use Rattle.lucy_wave.specs.Seen.{net_of}
+use Rattle.lucy_wave.proofs.GiveLaws.{give_length, output_made, written_back}
+use Rattle.lucy_wave.proofs.watching.add_output.Goals as goal
+
+pub returns : goal.returns
+returns c =
+    let draft = c.args.draft.now in
+    let actors = draft.actors in
+    let to : c.len-to.result ≡ length actors.items = omega (arith, c.len-to.ensures) in
+    let ring : c.len-ring.result ≡ length draft.rings.items = omega (arith, c.len-ring.ensures) in
+    let new = c.give.new.actors in
+    let given : new ≡ give_at (c.args.place - 1) c.len-ring.result actors.items = c.in_ok-give.ensures ∙ ap (give_at (c.args.place - 1) c.len-ring.result) c.deref_mut.ensures.value in
+    let long : length new ≡ length actors.items = ap length given ∙ give_length (c.args.place - 1) c.len-ring.result actors.items in
+    let pushed : c.push.new.list.items ≡ new ++ c.in_ok-actor.actor ∷ [] =
+    c.in_ok-push.ensures ∙ ap (λ xs. xs ++ c.in_ok-actor.actor ∷ []) (written_back new actors.items actors.len long (omega (arith, actors.ok))) in
+    output_made (net_of draft) c.len-to.result c.len-ring.result c.args.output c.args.place c.args.word.now c.in_ok-actor.actor c.in_ok-spec.spec new c.push.new.list.items c.push-2.new.list.items to ring
+    c.in_ok-actor.ensures c.in_ok-spec.ensures given pushed c.in_ok-push-2.ensures

@@ -1,0 +1,5 @@
+use Rattle.std.proofs.Common.{◌≡◌, take}
+use Rattle.lucy_wave.proofs.watching.copy_actors.Given as goal
+
+abbrev pub invariant-each : goal.invariant-each
+invariant-each l = l.copies.items ≡ take l.actor-index l.actors
