@@ -126,8 +126,8 @@ module _ (net : Net) (output place : ℕ) (word : Bits) (proper : IsProper net) 
     still_grown there_are = record {
       below = quiet;
       iterates = λ kinds inputs n p spot.
-      same_lists kinds inputs (net_places net) (net_places more) places_stay (reads_there net proper) n (p - 1) (let l = there_are p spot in omega (arith, length-map net.actors (actor_place net)))
-      ∙ grown.iterates kinds inputs n p spot;
+          same_lists kinds inputs (net_places net) (net_places more) places_stay (reads_there net proper) n (p - 1) (let l = there_are p spot in omega (arith, length-map net.actors (actor_place net)))
+          ∙ grown.iterates kinds inputs n p spot;
     }
 
   -- an output that was there takes what it took

@@ -93,7 +93,7 @@ module _ (texts : List (List ℕ)) where
       let own = no_fault _ _ _ _ (none_front (result_fault texts before r) (result_faults texts (before ++ r.text ∷ []) rs) h) in
       let rest = none_back (result_fault texts before r) (result_faults texts (before ++ r.text ∷ []) rs) h in (
         (λ e. (let at : place_in texts x.text ≡ place_in texts r.text = omega arith in
-        let never : true ≡ false = sym (same_text texts x.text r.text is own.0 at) ∙ out r.text own.1 in cc never)),
+            let never : true ≡ false = sym (same_text texts x.text r.text is own.0 at) ∙ out r.text own.1 in cc never)),
         later x (before ++ r.text ∷ []) rs is (λ y k. out y (behind_one before y r.text k).0) rest,
       )
 

@@ -119,9 +119,9 @@ module _ (nodes : List PlacedNode) (clocks : List NodeClock) (net : Net) (proper
   flat_grown = record {
     below = gives_below nodes clocks proper net flat;
     iterates = λ kinds inputs n place spot.
-    (let same : place - 1 ≡ number nodes (at [] place) = omega arith in
-    ap (λ a. list_at (iterate kinds inputs (net_places net) n) a) same
-    ∙ places_iterate nodes clocks net proper flat kinds inputs n (at [] place) spot);
+        (let same : place - 1 ≡ number nodes (at [] place) = omega arith in
+        ap (λ a. list_at (iterate kinds inputs (net_places net) n) a) same
+        ∙ places_iterate nodes clocks net proper flat kinds inputs n (at [] place) spot);
   }
 
   -- what the outputs of results take

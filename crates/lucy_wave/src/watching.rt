@@ -77,7 +77,12 @@ fn copy_rings(alloc: Global, rings: &[RingSpec]) -> Result<Vec<RingSpec>, OutOfM
     let mut copies = Vec::new(alloc);
     'each: for ring in rings {
         let copy = ring_of(
-            alloc, ring.from, ring.to, &ring.write, &ring.read, ring.size,
+            alloc,
+            ring.from,
+            ring.to,
+            &ring.write,
+            &ring.read,
+            ring.size,
         )?;
         push(&mut copies, copy)?;
     }

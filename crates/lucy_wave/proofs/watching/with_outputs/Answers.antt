@@ -10,9 +10,11 @@ each-preserved c =
     let l = c.each in
     let made = c.in_ok-add_output.ensures in
     let actors = ap (λ (n : Net). length n.actors) made ∙ actors_count (net_of l.draft) _ _ _ in
-    let rings = ap (λ (n : Net). length n.rings) made ∙ rings_count (net_of l.draft) _ _ _ in
-    (outputs_more (net_of l.draft) (net_of c.add_output.new.draft) _ (assigned c.args.words.now) c.args.first l.i _ c.word_of-word.result.now c.args.places.now c.each-test.true refl c.word_of-word.ensures made l.invariant.0,
-    omega (arith, actors, l.invariant.1), omega (arith, rings, l.invariant.2))
+    let rings = ap (λ (n : Net). length n.rings) made ∙ rings_count (net_of l.draft) _ _ _ in (
+      outputs_more (net_of l.draft) (net_of c.add_output.new.draft) _ (assigned c.args.words.now) c.args.first l.i _ c.word_of-word.result.now c.args.places.now c.each-test.true refl c.word_of-word.ensures made l.invariant.0,
+      omega (arith, actors, l.invariant.1),
+      omega (arith, rings, l.invariant.2),
+    )
 
 pub returns : goal.returns
 returns c =
