@@ -14,30 +14,33 @@ use lucy_text::Shelf;
 use std::alloc::Global;
 
 // The page of a program, or why it is refused.
-fn drawn(
-    alloc: Global,
-    words: PageWords<'_>,
-    ops: &Ops,
-    text: &[u8],
-) -> Result<Vec<u8>, Failure>
+fn drawn(alloc: Global, words: PageWords<'_>, ops: &Ops, text: &[u8]) -> Result<Vec<u8>, Failure>
     ensures { IfErr result Tellable }
 {
     let program = parse(alloc, text)?;
     let accepted = accepted(alloc, text, words.program, ops)?;
-    Ok(page(alloc, words.program.file, text, &program, &accepted, words.instants)?)
+    Ok(page(
+        alloc,
+        words.program.file,
+        text,
+        &program,
+        &accepted,
+        words.instants,
+    )?)
 }
 
 // The page of a program that is refused.
-fn refused(
-    alloc: Global,
-    words: PageWords<'_>,
-    ops: &Ops,
-    text: &[u8],
-) -> Result<Vec<u8>, Failure>
+fn refused(alloc: Global, words: PageWords<'_>, ops: &Ops, text: &[u8]) -> Result<Vec<u8>, Failure>
     ensures { IfErr result Tellable }
 {
     let explained = explain(alloc, text, ops, &options(words.program))?;
-    Ok(refused_page(alloc, words.program.file, text, &explained.text, &explained.spans)?)
+    Ok(refused_page(
+        alloc,
+        words.program.file,
+        text,
+        &explained.text,
+        &explained.spans,
+    )?)
 }
 
 /// What `page` prints, or why it prints nothing. A refusal has a page, and is told besides.

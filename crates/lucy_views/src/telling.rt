@@ -78,12 +78,7 @@ pub(crate) fn refuse<E: Sink>(alloc: Global, err: &mut E, failure: Failure) -> u
 }
 
 /// Writes what is printed, and says why the program is refused where it is.
-pub(crate) fn show<O: Sink, E: Sink>(
-    alloc: Global,
-    out: &mut O,
-    err: &mut E,
-    shown: Shown,
-) -> u8
+pub(crate) fn show<O: Sink, E: Sink>(alloc: Global, out: &mut O, err: &mut E, shown: Shown) -> u8
     requires { IsTold shown }
     ensures known { result ≤ 7 }
     ensures quiet { result ≡ 0 → err.new ≡ err.old }

@@ -204,20 +204,24 @@ fn explain<'a>(alloc: Global) -> Result<Command<'a>, AllocError> {
 
 // `why`
 fn why<'a>(alloc: Global) -> Result<Command<'a>, AllocError> {
-    let buffer = Arg::new(alloc, "BUFFER").required(true).help(
-        "a node and the number of its buffer, as f.1",
-    );
+    let buffer = Arg::new(alloc, "BUFFER")
+        .required(true)
+        .help("a node and the number of its buffer, as f.1");
     on_program(
         alloc,
         "why",
         "Says why a buffer is as full as it is, and how long items wait in it",
     )?
-        .arg(buffer)
+    .arg(buffer)
 }
 
 // `freeze`
 fn freeze<'a>(alloc: Global) -> Result<Command<'a>, AllocError> {
-    on_program(alloc, "freeze", "Shows the program with every clock written out")
+    on_program(
+        alloc,
+        "freeze",
+        "Shows the program with every clock written out",
+    )
 }
 
 // `where`

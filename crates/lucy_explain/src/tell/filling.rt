@@ -168,9 +168,7 @@ fn folded_item(shape: &Shape, clock: u32, number: u64) -> Option<FoldedItem> {
     let past = number.saturating_sub(found.lead.saturating_add(1));
     let turns = past.checked_div(found.ones)?;
     let folded = number.checked_sub(turns.checked_mul(found.ones)?)?;
-    let variable = u64::from(found.first)
-        .checked_add(folded)?
-        .checked_sub(1)?;
+    let variable = u64::from(found.first).checked_add(folded)?.checked_sub(1)?;
     Some(FoldedItem {
         number,
         variable: u32::try_from(variable).ok()?,
@@ -179,7 +177,13 @@ fn folded_item(shape: &Shape, clock: u32, number: u64) -> Option<FoldedItem> {
 }
 
 // Puts the end of a chain last: the position to which it leads, and the item periods behind it.
-fn put_end(page: &mut Page<'_>, about: Evidence<'_>, held: Held<'_>, item: FoldedItem, instant: u64) {
+fn put_end(
+    page: &mut Page<'_>,
+    about: Evidence<'_>,
+    held: Held<'_>,
+    item: FoldedItem,
+    instant: u64,
+) {
     page.say("  so ");
     put_point(page, about.scene, point_of(about.shape, item.variable));
     page.say(" is at instant ");

@@ -8,7 +8,8 @@ use lucy_place::PlaceKind;
 use lucy_solve::Diff;
 
 /// What helps where a period is counted.
-pub(crate) const LONGER: &str = "where the clocks need longer until they are regular, a greater --lead or --scale";
+pub(crate) const LONGER: &str =
+    "where the clocks need longer until they are regular, a greater --lead or --scale";
 
 /// What inequalities go through.
 #[derive(Clone, Copy)]

@@ -12,7 +12,8 @@ const TRIED: usize = 65_536;
 const KINDS: [(&str, &str); 3] = [("a name", "z"), ("a number", "7"), ("a word", "0{2}(1)")];
 
 // All other tokens: the keywords and the signs.
-const MARKS: &str = "let node where rec and when whenot merge fby buffer at host if then else not true false int bool ( ) , : :: = == != < <= > >= + - * / % && ||";
+const MARKS: &str =
+    "let node where rec and when whenot merge fby buffer at host if then else not true false int bool ( ) , : :: = == != < <= > >= + - * / % && ||";
 
 // Whether a token may follow this front: then what is refused is no earlier than the end.
 fn may_follow(alloc: Global, front: &[u8], token: &[u8]) -> Result<bool, OutOfMemory> {

@@ -317,7 +317,8 @@ impl<'a> Sheet<'a> {
         ensures { OnOk result (Puts (IsLane self.now.lanes.cell) (row_lane row.now ∷ []) out.old.items out.new.items) }
     {
         let marks = row.marks.list();
-        self.lanes.put_marks(alloc, "item", marks, top.saturating_add(14), out)?;
+        self.lanes
+            .put_marks(alloc, "item", marks, top.saturating_add(14), out)?;
         Ok(())
     }
 

@@ -97,17 +97,17 @@ impl<'a> Side<'a> {
     }
 
     // How a place is told, behind a text.
-    fn name_text(
-        &self,
-        alloc: Global,
-        before: &str,
-        place: u32,
-    ) -> Result<Vec<u8>, AllocError>
+    fn name_text(&self, alloc: Global, before: &str, place: u32) -> Result<Vec<u8>, AllocError>
         ensures { IfOk result (λ v. v.items ≡ before.now ++ place_name self.now.node.now (told_by self.now.told place)) }
     {
         let mut text = Vec::new(alloc);
         put(&mut text, before)?;
-        put_place(alloc, self.node, self.told.of(place).unwrap_or(place), &mut text)?;
+        put_place(
+            alloc,
+            self.node,
+            self.told.of(place).unwrap_or(place),
+            &mut text,
+        )?;
         Ok(text)
     }
 

@@ -9,5 +9,5 @@ returns-clause-are c =
       clocks,
       c.in_ok-clocks.ensures,
       c.in_ok-found.ensures.is ∙ ap (λ s. variable_streams n s c.list-shapes.result.now) c.deref.ensures.value
-      ∙ ap (λ cs. variable_streams n clocks cs) c.list-shapes.ensures,
+          ∙ ap (λ cs. variable_streams n clocks cs) c.list-shapes.ensures,
     )
