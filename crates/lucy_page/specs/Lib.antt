@@ -1,1 +1,5 @@
--- What callers believe stands in the crates below: a page only arranges it.
+-- What callers believe, in the order to read it. What pictures show is said by the crates below.
+pub mod Reading
+pub mod Pages
+-- Below this line stands what only serves the proofs of the bodies.
+pub mod Puts

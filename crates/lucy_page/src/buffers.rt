@@ -17,7 +17,7 @@ fn put_place(
     let text = told.text(alloc, node, place)?;
     put(out, "<td>")?;
     match told.of(place) {
-        Some(stream) => put_link(alloc, &definition(alloc, number, stream)?, &text, out)?,
+        Some(stream) => put_link(&definition(alloc, number, stream)?, &text, out)?,
         None => put_escaped(&text, out)?,
     }
     put(out, "</td>")

@@ -1,8 +1,10 @@
 // A node: its net, its chronogram and its buffers.
-ghost use Rattle.std.specs.Prelude.{List, ℕ, ◌<◌, length};
+ghost use Rattle.std.specs.Prelude.{List, ℕ, ◌≡◌, ◌<◌, ◌++◌, length, slice_get, OnOk};
 ghost use Rattle.lucy_host.specs.Operators.{Operator};
 ghost use Rattle.lucy_front.specs.declared.options.Options.{Options as Choices};
 ghost use Rattle.lucy_front.specs.Accepting.{IsAccepted};
+ghost use Rattle.lucy_page.specs.Pages.{node_begin};
+ghost use Rattle.lucy_page.specs.Puts.{PutsNode};
 
 use crate::buffers::put_buffers;
 use crate::net::put_net;
@@ -41,15 +43,14 @@ fn put_turn(
     )
 }
 
-/// Puts a node of an accepted program last, by its number from 0, at so many instants, or at as many as its own chronogram has.
-pub(crate) fn put_node(
+// What stands of a node behind its name: its net, its chronogram and its buffers.
+fn body_of(
     alloc: Global,
     program: &Program,
     accepted: &Accepted,
     number: u32,
     instants: Option<u64>,
-    out: &mut Vec<u8>,
-) -> Result<(), OutOfMemory>
+) -> Result<Vec<u8>, OutOfMemory>
     requires accepted { (ops : List Operator) × (o : Choices) × (text : List ℕ) × IsAccepted ops o text accepted.now }
     requires node { number < length accepted.now.placed.nodes }
 {
@@ -61,22 +62,49 @@ pub(crate) fn put_node(
         Some(clock) => clock.words.list(),
         None => &[],
     };
+    let mut out = Vec::new(alloc);
+    put_net(alloc, program, accepted, number, &mut out)?;
+    put_turn(alloc, turn, shown, &mut out)?;
+    let sheet = Sheet::new(alloc, node, words, Some(number), turn, shown, &drawing)?;
+    put_sheet(alloc, &sheet, &mut out)?;
+    put_buffers(alloc, number, node, &drawing.chart.fills, &mut out)?;
+    put(&mut out, "</section>\n")?;
+    Ok(out)
+}
+
+// Puts that with which the section of a node begins last, for its number from 0 and its name.
+fn put_begin(alloc: Global, number: u32, name: &[u8], out: &mut Vec<u8>) -> Result<(), AllocError>
+    ensures { OnOk result (out.new.items ≡ out.old.items ++ node_begin number name.now) }
+{
     put(
         out,
         &format!(in alloc; "<section id=\"n{number}\"><h2>Node ")?,
     )?;
-    put_link(
+    put_link(&format!(in alloc; "t{number}")?, name, out)?;
+    put(out, "</h2>\n")
+}
+
+/// Puts the section of a node of an accepted program last, by its number from 0, with its chronogram at so many instants, or at as many as
+/// that has itself.
+pub(crate) fn put_node(
+    alloc: Global,
+    program: &Program,
+    accepted: &Accepted,
+    number: u32,
+    instants: Option<u64>,
+    out: &mut Vec<u8>,
+) -> Result<(), OutOfMemory>
+    requires accepted { (ops : List Operator) × (o : Choices) × (text : List ℕ) × IsAccepted ops o text accepted.now }
+    requires node { number < length accepted.now.placed.nodes }
+    ensures { OnOk result (PutsNode number (slice_get accepted.now.placed.nodes number) out.old.items out.new.items) }
+{
+    let body = body_of(alloc, program, accepted, number, instants)?;
+    put_begin(
         alloc,
-        &format!(in alloc; "t{number}")?,
-        node.name.text.bytes(),
+        number,
+        accepted.placed.node(number).name.text.bytes(),
         out,
     )?;
-    put(out, "</h2>\n")?;
-    put_net(alloc, program, accepted, number, out)?;
-    put_turn(alloc, turn, shown, out)?;
-    let sheet = Sheet::new(alloc, node, words, Some(number), turn, shown, &drawing)?;
-    put_sheet(alloc, &sheet, out)?;
-    put_buffers(alloc, number, node, &drawing.chart.fills, out)?;
-    put(out, "</section>\n")?;
+    out.extend_from_slice(&body)?;
     Ok(())
 }

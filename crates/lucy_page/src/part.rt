@@ -1,33 +1,17 @@
-// Parts of texts.
+// Links and pictures.
+ghost use Rattle.std.specs.Prelude.{◌≡◌, ◌++◌, OnOk};
+ghost use Rattle.lucy_page.specs.Pages.{linked};
+
 use lucy_svg::{put, put_escaped};
 use std::alloc::{AllocError, Global};
 
-/// What stands in a text from an offset up to another, where it does.
-pub(crate) fn part(text: &[u8], from: usize, to: usize) -> &[u8] {
-    if from <= to && to <= text.len() {
-        &text[from..to]
-    } else {
-        b""
-    }
-}
-
-/// The line that begins at an offset, without its line feed.
-pub(crate) fn line_at(text: &[u8], from: usize) -> &[u8] {
-    let rest = part(text, from, text.len());
-    match rest.iter().position(|byte| *byte == b'\n') {
-        Some(end) => part(rest, 0, end),
-        None => rest,
-    }
-}
-
 /// Puts a text last that is linked to a place in the page.
-pub(crate) fn put_link(
-    alloc: Global,
-    place: &str,
-    text: &[u8],
-    out: &mut Vec<u8>,
-) -> Result<(), AllocError> {
-    put(out, &format!(in alloc; "<a href=\"#{place}\">")?)?;
+pub(crate) fn put_link(place: &str, text: &[u8], out: &mut Vec<u8>) -> Result<(), AllocError>
+    ensures { OnOk result (out.new.items ≡ out.old.items ++ linked place.now text.now) }
+{
+    put(out, "<a href=\"#")?;
+    put_escaped(place.as_bytes(), out)?;
+    put(out, "\">")?;
     put_escaped(text, out)?;
     put(out, "</a>")
 }

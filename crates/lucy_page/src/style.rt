@@ -10,6 +10,8 @@ nav a{margin-right:1rem}
 a{color:#0969da}
 pre{overflow-x:auto;padding:.75rem 1rem;border-radius:6px;background:#f6f8fa;font:13px/1.5 ui-monospace,SFMono-Regular,Menlo,Consolas,\"DejaVu Sans Mono\",monospace}
 pre .def{color:inherit;font-weight:bold}
+#text pre a{color:inherit;text-decoration-color:#8c959f;text-underline-offset:3px}
+mark{color:#82071e;background:#ffd7d5}
 :target{background:#fff8c5}
 section:target{background:inherit}
 .chart{display:flex;border:1px solid #d1d9e0;border-radius:6px}
@@ -30,6 +32,7 @@ body{color:#e6edf3;background:#0d1117}
 h2,.chart,.chart>svg,th,td{border-color:#3d444d}
 a,.lucy a{color:#58a6ff}
 pre{background:#161b22}
+mark{color:#ffdcd7;background:#8e1519}
 .lucy .box{fill:#0d1117;stroke:#9198a1}
 .lucy .stream{fill:#0b2a4a;stroke:#58a6ff}
 .lucy .buffer{fill:#271447;stroke:#bc8cff}

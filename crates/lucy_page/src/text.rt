@@ -1,66 +1,62 @@
-// The text of a program, with a mark where each stream is defined.
-use crate::part::{definition, part};
+// What is marked in the text of a program.
+use crate::mark::{Kind, Mark};
+use crate::uses::put_uses;
 use lucy_front::Accepted;
 use lucy_place::PlacedNode;
-use lucy_svg::{put, put_escaped};
-use lucy_tree::Span;
+use lucy_tree::{Program, Span};
 use std::alloc::{AllocError, Global};
 
-// Puts the text up to a span last, and then the span as what this begins and ends; answers where the text goes on. A span that isn't ahead is left out.
-fn put_span(
-    text: &[u8],
-    at: usize,
-    span: Span,
-    begin: &str,
-    out: &mut Vec<u8>,
-) -> Result<usize, AllocError> {
-    let from = span.from as usize;
-    let to = span.to as usize;
-    if from < at || to < from || to > text.len() {
-        return Ok(at);
+// A mark of a span.
+fn marked(span: Span, kind: Kind) -> Mark {
+    Mark {
+        from: span.from as usize,
+        to: span.to as usize,
+        kind,
     }
-    put_escaped(part(text, at, from), out)?;
-    put(out, begin)?;
-    put_escaped(part(text, from, to), out)?;
-    put(out, "</a>")?;
-    Ok(to)
 }
 
-// Puts the text last up to the last definition of a node.
-fn put_node(
-    alloc: Global,
-    text: &[u8],
-    at: usize,
+// Puts the name of a node and its streams last, each where it is defined.
+fn put_definitions(
     number: u32,
     node: &PlacedNode,
-    out: &mut Vec<u8>,
-) -> Result<usize, AllocError> {
-    let begin = format!(in alloc; "<a class=\"node\" id=\"t{number}\" href=\"#n{number}\">")?;
-    let mut at = put_span(text, at, node.name.span, &begin, out)?;
+    marks: &mut Vec<Mark>,
+) -> Result<(), AllocError> {
+    marks.push(marked(node.name.span, Kind::Node(number)))?;
     let mut place = 0u32;
     for entry in node.places.list() {
         place = place.saturating_add(1);
         if let Some(name) = &entry.name {
-            let id = definition(alloc, number, place)?;
-            let begin = format!(in alloc; "<a class=\"def\" id=\"{id}\">")?;
-            at = put_span(text, at, name.span, &begin, out)?;
+            marks.push(marked(name.span, Kind::Definition(number, place)))?;
         }
     }
-    Ok(at)
+    Ok(())
 }
 
-/// Puts the text of an accepted program last.
-pub(crate) fn put_program(
+/// What is marked in the text of an accepted program, whose tree this is, in order: the names of its nodes, and its streams where they are
+/// defined and where they are used.
+pub(crate) fn program_marks(
     alloc: Global,
-    text: &[u8],
+    program: &Program,
     accepted: &Accepted,
-    out: &mut Vec<u8>,
-) -> Result<(), AllocError> {
-    put(out, "<section id=\"text\"><h2>Program</h2>\n<pre>")?;
-    let mut at = 0;
+) -> Result<Vec<Mark>, AllocError> {
+    let mut marks = Vec::new(alloc);
     for number in 0..accepted.placed.nodes() {
-        at = put_node(alloc, text, at, number, accepted.placed.node(number), out)?;
+        let node = accepted.placed.node(number);
+        put_definitions(number, node, &mut marks)?;
+        if let Some(tree) = program.nodes.list().get(number as usize) {
+            put_uses(number, node, tree, &mut marks)?;
+        }
     }
-    put_escaped(part(text, at, text.len()), out)?;
-    put(out, "</pre></section>\n")
+    marks.sort_by_key(|mark| mark.from)?;
+    Ok(marks)
+}
+
+/// What is marked in the text of a program that is refused: these spans, in order.
+pub(crate) fn wrong_marks(alloc: Global, spans: &[Span]) -> Result<Vec<Mark>, AllocError> {
+    let mut marks = Vec::new(alloc);
+    for span in spans {
+        marks.push(marked(*span, Kind::Wrong))?;
+    }
+    marks.sort_by_key(|mark| mark.from)?;
+    Ok(marks)
 }
