@@ -31,9 +31,6 @@ step-other done a b h =
     let e : step done a b ≡ done b + 0 = ap (λ t. done b + cond t 1 0) (ne_eqb a b h) in
     omega arith
 
-pub step-le : (done : ℕ → ℕ) (a b : ℕ) → done b ≤ step done a b
-step-le done a b = omega arith
-
 pub given-le : (sys : System) (d e : ℕ → ℕ) (r : ℕ) → d (sys.from r) ≤ e (sys.from r) → given sys d r ≤ given sys e r
 unfolding given
 given-le sys d e r h = count_take-le (is_give r) (sys.ops (sys.from r)) (d (sys.from r)) (e (sys.from r)) h

@@ -332,19 +332,6 @@ stopped inputs old new counts fault before between after items taken bytes f s c
     let P : Option TextFault → Type 0 = λ u. Stops inputs before after new counts u items taken in
     subst P (sym is) (stopped_at inputs old new counts before between after items taken bytes f s c e)
 
-most_any : (result : Result line_type.Line TextFault) → most_taken result ≤ most_bytes + 1
-most_any (Ok (Item s v)) = omega arith
-most_any (Ok End) = omega arith
-most_any (Err ReadFault) = omega arith
-most_any (Err (BadLine k)) = omega arith
-most_any (Err (UnknownStream k)) = omega arith
-most_any (Err (BadValue k)) = omega arith
-most_any (Err TooLong) = omega arith
-
--- an item leaves fewer bytes
-pub item_smaller : (old new : Held) (result : Result line_type.Line TextFault) → old.used < new.used → bytes_taken new ≤ most_taken result → most_bytes + 1 - new.used < most_bytes + 1 - old.used
-item_smaller old new result uses within = let most = most_any result in omega arith
-
 -- a reader that gave an item has not ended
 pub not_ended : (ended : Bool) (result : Result line_type.Line TextFault) (stream : ℕ) (value : ℤ) → result ≡ Ok (Item stream value) → (IsTrue ended → IsLast result) → ended ≡ false
 not_ended true result stream value is last = let P : Result line_type.Line TextFault → Type 0 = λ r. IsLast r in absurd (subst P is (last refl))

@@ -9,7 +9,7 @@ use Rattle.std.proofs.lemmas.Bool.Decides.{eqb_tells}
 use Rattle.lucy_lines.specs.declared.input.InputSpec.{InputSpec}
 use Rattle.lucy_lines.specs.Cuts.{ItemOf}
 use Rattle.lucy_feed.specs.Feeding.{values_of, values_by_stream}
-use Rattle.lucy_feed.specs.Resuming.{AreCounts, AreMet, ValuesInTurn}
+use Rattle.lucy_feed.specs.Resuming.{AreCounts, ValuesInTurn}
 
 -- more items
 values_append : (stream : ℕ) (items others : List ItemOf) → values_of stream (items ++ others) ≡ values_of stream items ++ values_of stream others
@@ -112,17 +112,6 @@ pub any_default : (numbers : List ℕ) (i a b : ℕ) → i < length numbers → 
 any_default [] i a b there = absurd (omega arith)
 any_default (n ∷ numbers) zero a b there = refl
 any_default (n ∷ numbers) (suc i) a b there = any_default numbers i a b (omega arith)
-
--- no count falls where one rises
-pub counts_risen : (counts : List ℕ) (s n : ℕ) → s < length counts → slice_index_or counts s 0 ≤ n → AreMet counts (slice_set counts s n)
-counts_risen counts s n there more = λ k. elim (eqb_tells s k) [
-  | inl t ↦
-      let P : ℕ → Type 0 = λ m. slice_index_or counts m 0 ≤ slice_index_or (slice_set counts s n) m 0 in
-      let same = get_or-set_same counts s n 0 there in
-      let here : slice_index_or counts s 0 ≤ slice_index_or (slice_set counts s n) s 0 = omega arith in
-      subst P t.1 here
-  | inr t ↦ let same = get_or-set_other counts s k n 0 (λ e. t.1 (sym e)) in omega arith
-]
 
 -- one more 0
 pub zeros_more : (counts : List ℕ) → ((i : ℕ) → slice_index_or counts i 0 ≡ 0) → (i : ℕ) → slice_index_or (counts ++ 0 ∷ []) i 0 ≡ 0

@@ -24,10 +24,6 @@ is_closed Ended = true
 is_closed Drained = true
 is_closed stop = false
 
--- the items of the bytes taken, and where they stop
-abbrev pub IsCutOf : List InputSpec → (taken : List ℕ) → Stop → List ItemOf → Halt → Type 0
-IsCutOf inputs taken stop items halt = Cut inputs (is_closed stop) (input_of taken) items halt
-
 -- why the items stop before the end: at a refused line, or at a read that failed where no line is decided
 abbrev pub fault_of : Stop → Halt → Option TextFault
 fault_of stop (At fault) = Some fault
@@ -43,7 +39,7 @@ StopsFor (Some fault) stop = (stop ≡ Drained) ⊎ (stop ≡ Open)
 
 -- the feed of the bytes taken, where reading stopped so
 pub record IsFeedOf (inputs : List InputSpec) (taken : List ℕ) (stop : Stop) (items : List ItemOf) (halt : Halt) (feed : Feed) : Type 0 where
-  pub cut : IsCutOf inputs taken stop items halt
+  pub cut : Cut inputs (is_closed stop) (input_of taken) items halt
   pub lists : feed.items ≡ values_by_stream (length inputs) items
   pub fault : feed.stop ≡ fault_of stop halt
   pub stopped : StopsFor feed.stop stop

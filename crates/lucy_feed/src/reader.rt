@@ -51,10 +51,7 @@ fn no_counts(alloc: Global, streams: usize) -> Result<Vec<u64>, OutOfMemory>
 {
     let mut counts = Vec::with_capacity(alloc, streams)?;
     for _ in 0..streams {
-        match counts.push(0) {
-            Ok(()) => {}
-            Err(_) => return Err(OutOfMemory),
-        }
+        counts.push(0)?;
     }
     Ok(counts)
 }

@@ -5,7 +5,6 @@ use Rattle.std.proofs.lemmas.List.{drop_more, take_more, get_or-drop, length-dro
 use Rattle.std.proofs.lemmas.List.Elements.{All-push}
 use Rattle.std.proofs.lemmas.List.Folds.{drop_split}
 use Rattle.std.proofs.lemmas.List.Splits.{slice_split-cons_yes, slice_split_none, slice_split_at}
-use Rattle.std.proofs.Math.ListN.{drop_of_length-le}
 use Rattle.lucy_fields.specs.Fields.{is_blank, placed, is_field, fields_from}
 use Rattle.lucy_fields.specs.Steps.{BeginsGap, BeginsField, IsFull}
 
@@ -51,14 +50,6 @@ module _ (text : List ℕ) (i : ℕ) (within : i < length text) where
       let grown : take (i + 1 - from) (drop from text) ≡ take (i - from) (drop from text) ++ get_or text i 0 ∷ [] =
       ap (λ n. take n (drop from text)) count ∙ take_more (drop from text) (i - from) 0 left ∙ ap (λ c. take (i - from) (drop from text) ++ c ∷ []) is in
       subst IsFull (sym grown) (All-push (λ c. is_blank c ≡ false) (take (i - from) (drop from text)) (get_or text i 0) full e)
-
--- past the end nothing begins
-pub gap_past : (text : List ℕ) (i : ℕ) → length text ≤ i → BeginsGap (drop i text)
-gap_past text i h = subst BeginsGap (sym (drop_of_length-le text h)) tt
-
--- past the end no field begins
-pub byte_past : (text : List ℕ) (i : ℕ) → length text ≤ i → BeginsField (drop i text)
-byte_past text i h = subst BeginsField (sym (drop_of_length-le text h)) tt
 
 -- a field that isn't empty stands first, and what follows it is left
 pub field_at : (text : List ℕ) (from end : ℕ) → from < end → end ≤ length text → IsFull (take (end - from) (drop from text)) → BeginsGap (drop end text) →

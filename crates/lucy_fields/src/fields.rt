@@ -5,7 +5,8 @@ ghost use Rattle.lucy_fields.specs.Steps.{BeginsGap, BeginsField, IsFull};
 
 use std::marker::Model;
 
-fn is_blank(byte: u8) -> bool
+/// Whether it is a space, a tab, CR or LF.
+pub fn is_blank(byte: u8) -> bool
     ensures { result ≡ is_blank byte }
 {
     byte == b' ' || byte == b'\t' || byte == b'\r' || byte == b'\n'

@@ -6,5 +6,5 @@
 mod fields;
 mod numbers;
 
-pub use fields::Fields;
+pub use fields::{Fields, is_blank};
 pub use numbers::{int, number};

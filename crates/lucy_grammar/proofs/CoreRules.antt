@@ -4,6 +4,7 @@ use Rattle.std.specs.Option.{option_map_or}
 use Rattle.lucy_tree.specs.declared.span.Span.{Span}
 use Rattle.lucy_token.specs.declared.token.Kind.TheVariants as kind
 use Rattle.lucy_token.specs.declared.token.Token.{Token}
+use Rattle.lucy_token.specs.Marks.{op_mark}
 use Rattle.lucy_grammar.specs.Kinds.{is_bound}
 use Rattle.std.proofs.Common.{ℕ, true, ◌≡◌, Bool, List, [], ◌∷◌, ◌++◌, Option, Some, None, map, refl, ap, sym, ◌∙◌, append_assoc}
 use Rattle.std.proofs.lemmas.List.{append-nil}
@@ -25,7 +26,7 @@ use Rattle.lucy_grammar.specs.Symbols.{Rule, Val, Vals, Link, Part, Program, Nod
 use Rattle.lucy_grammar.specs.Meanings.{bytes_of, name_of, number_of, word_of, bound_of, linked, grouped, sampled_by, literal_before, named, held_by}
 use Rattle.lucy_grammar.specs.Grammar.{rules}
 use Rattle.lucy_grammar.specs.Parens.{kept}
-use Rattle.lucy_grammar.specs.Print.{blank, indent, line, after, after_commas, commas, parens, name_token, lit_token, op_mark, when_mark, operand, printed, all_printed, printed_decl, printed_left, printed_def, more_defs, printed_body, printed_node, more_nodes}
+use Rattle.lucy_grammar.specs.Print.{blank, indent, line, after, after_commas, commas, parens, name_token, lit_token, when_mark, operand, printed, all_printed, printed_decl, printed_left, printed_def, more_defs, printed_body, printed_node, more_nodes}
 
 plus : (a : List What) → a ≡ a ++ []
 plus a = sym (append-nil a)

@@ -12,11 +12,12 @@ use Rattle.lucy_token.specs.declared.token.Kind.TheVariants as kind
 use Rattle.lucy_token.specs.declared.token.What.{What}
 use Rattle.lucy_token.specs.declared.token.What.TheVariants as what
 use Rattle.lucy_token.specs.Spelled.{Printed, whats_of}
+use Rattle.lucy_token.specs.Marks.{op_mark}
 use Rattle.lucy_grammar.specs.Kinds.{sort_kind}
 use Rattle.lucy_grammar.specs.Symbols.{Sym, token, part, many, perhaps, Val, Vals, Link, Part, Program, Node, Title, Params, Results, Names, Ident, MoreName, Body, Decls, MoreDecl, Decl, Typing, TypeName, ClockOf, Defs, Def, MoreDef, Lefts, Expr, Or, MoreAnd, And, MoreCmp, Cmp, Compared, CmpOp, Sum, MoreProd, SumOp, Prod, MoreSamp, ProdOp, Samp, Sampling, Pre, Followed, Form, Buffered, Held, Other, Atom, Small, Lit, Pair, Call, Applied, Base, Args, MoreExpr}
 use Rattle.lucy_grammar.specs.Meanings.{bytes_of, number_of, word_of}
 use Rattle.lucy_grammar.specs.Parens.{kept, without_parens}
-use Rattle.lucy_grammar.specs.Print.{blank, the, after, spaced, commas, parens, name_token, lit_token, op_mark, when_mark, operand, printed, all_printed, type_mark, typing, clock, printed_decl, printed_def, more_defs, printed_body, printed_node, printed_program}
+use Rattle.lucy_grammar.specs.Print.{blank, the, after, spaced, commas, parens, name_token, lit_token, when_mark, operand, printed, all_printed, type_mark, typing, clock, printed_decl, printed_def, more_defs, printed_body, printed_node, printed_program}
 
 -- the printed tokens but for parentheses
 abbrev pub core : List Printed → List What

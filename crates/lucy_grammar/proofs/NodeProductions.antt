@@ -138,14 +138,6 @@ pub decl_1 : {ts rest : List Token} → IsOther ts kind.Name rest → Unfit Decl
 unfolding rules follows begins
 decl_1 {ts = ts} u = rule_no 0 refl (others ts 0 refl tt) (tok_bad refl u)
 
-pub decl_2 : {ts m1 rest : List Token} {n : Token} → Begins ts n kind.Name m1 → UnfitOptional Typing m1 rest → Unfit Decl ts rest
-unfolding rules follows begins
-decl_2 {ts = ts} h1 u = rule_no 0 refl (others ts 0 refl tt) (tok_no h1 (maybe_bad refl u))
-
-pub decl_3 : {ts m1 m2 rest : List Token} {n : Token} (t : Option (Val Typing)) → Begins ts n kind.Name m1 → ReadsOptional Typing m1 t m2 → UnfitOptional ClockOf m2 rest → Unfit Decl ts rest
-unfolding rules follows begins
-decl_3 {ts = ts} t h1 h2 u = rule_no 0 refl (others ts 0 refl tt) (tok_no h1 (maybe_no t refl h2 (maybe_bad refl u)))
-
 pub typing : {ts m1 rest : List Token} {o : Token} {t : Val TypeName} → Begins ts o (kind.Mark mark.Colon) m1 → Reads TypeName m1 t rest → Reads Typing ts t rest
 unfolding rules follows begins
 typing {ts = ts} h1 h2 = rule 0 refl (others ts 0 refl tt) (tok h1 (sub refl h2 (end _)))
@@ -225,15 +217,3 @@ lefts_1 {ts = ts} u = rule_no 0 refl (others ts 0 refl tt) (tok_bad refl u)
 pub lefts_2 : {ts m1 rest : List Token} {o : Token} → Begins ts o (kind.Mark mark.Open) m1 → Unfit Decl m1 rest → Unfit Lefts ts rest
 unfolding rules follows begins
 lefts_2 {ts = ts} h1 u = rule_no 0 refl (others ts 0 refl tt) (tok_no h1 (sub_bad refl u))
-
-pub lefts_3 : {ts m1 m2 rest : List Token} {o : Token} {d : Val Decl} → Begins ts o (kind.Mark mark.Open) m1 → Reads Decl m1 d m2 → IsOther m2 (kind.Mark mark.Comma) rest → Unfit Lefts ts rest
-unfolding rules follows begins
-lefts_3 {ts = ts} h1 h2 u = rule_no 0 refl (others ts 0 refl tt) (tok_no h1 (sub_no refl h2 (tok_bad refl u)))
-
-pub lefts_4 : {ts m1 m2 m3 rest : List Token} {o m : Token} {d : Val Decl} → Begins ts o (kind.Mark mark.Open) m1 → Reads Decl m1 d m2 → Begins m2 m (kind.Mark mark.Comma) m3 → Unfit Decls m3 rest → Unfit Lefts ts rest
-unfolding rules follows begins
-lefts_4 {ts = ts} h1 h2 h3 u = rule_no 0 refl (others ts 0 refl tt) (tok_no h1 (sub_no refl h2 (tok_no h3 (sub_bad refl u))))
-
-pub lefts_5 : {ts m1 m2 m3 m4 rest : List Token} {o m : Token} {d : Val Decl} {ds : Val Decls} → Begins ts o (kind.Mark mark.Open) m1 → Reads Decl m1 d m2 → Begins m2 m (kind.Mark mark.Comma) m3 → Reads Decls m3 ds m4 → IsOther m4 (kind.Mark mark.Close) rest → Unfit Lefts ts rest
-unfolding rules follows begins
-lefts_5 {ts = ts} h1 h2 h3 h4 u = rule_no 0 refl (others ts 0 refl tt) (tok_no h1 (sub_no refl h2 (tok_no h3 (sub_no refl h4 (tok_bad refl u)))))

@@ -4,7 +4,6 @@ use Rattle.std.specs.Prelude.{pos}
 use Rattle.std.specs.List.{AllByRecursion}
 use Rattle.lucy_word.specs.Bits.{Bits}
 use Rattle.lucy_host.specs.declared.op.Op.{Op}
-use Rattle.lucy_host.specs.declared.data_type.DataType.{DataType}
 use Rattle.lucy_tree.specs.declared.span.Span.{Span}
 use Rattle.lucy_tree.specs.declared.span.Name.{Name}
 use Rattle.lucy_tree.specs.declared.decl.Decl.{Decl}
@@ -15,8 +14,9 @@ use Rattle.lucy_tree.specs.View.{DefTree, NodeTree}
 use Rattle.lucy_token.specs.declared.mark.Mark.TheVariants as mark
 use Rattle.lucy_token.specs.declared.token.What.TheVariants as what
 use Rattle.lucy_token.specs.Spelled.{Printed, text_of_what}
+use Rattle.lucy_token.specs.Marks.{op_mark}
 use Rattle.lucy_grammar.specs.Meanings.{two}
-use Rattle.lucy_grammar.specs.Print.{blank, indent, line, one, the, after, spaced, words, after_commas, commas, parens, name_token, word_token, lit_token, op_mark, when_mark, operated, called, operand, printed, all_printed, operands, typing, clock, printed_decl, printed_left, printed_def, more_defs, printed_body, printed_node, more_nodes, spaced_text, program_text}
+use Rattle.lucy_grammar.specs.Print.{blank, indent, line, one, the, after, spaced, words, after_commas, commas, parens, name_token, word_token, lit_token, when_mark, operated, called, operand, printed, all_printed, operands, printed_decl, printed_left, printed_def, more_defs, printed_body, printed_node, more_nodes, spaced_text}
 
 pub text-append : (a b : List Printed) → spaced_text (a ++ b) ≡ spaced_text a ++ spaced_text b
 text-append [] b = refl
@@ -125,9 +125,6 @@ pub text_three : (o : Op) (a b c : Tree) (s : Span) → text_of_tree (operator o
     ≡ spaced_text (the (op_mark o)) ++ (32 ∷ (text_of_operand a ++ (32 ∷ (spaced_text (the mark.Then) ++ (32 ∷ (text_of_operand b ++ (32 ∷ (spaced_text (the mark.Else) ++ (32 ∷ (text_of_operand c ++ []))))))))))
 text_three o a b c s = text_words (the (op_mark o)) (operand a (printed a) ∷ the mark.Then ∷ operand b (printed b) ∷ the mark.Else ∷ operand c (printed c) ∷ []) (tight_operand a, (refl, (tight_operand b, (refl, (tight_operand c, tt)))))
 
-pub text_host : (n : Name) (args : Trees) → text_of_tree (host n args) ≡ spaced_text (the mark.Host) ++ (32 ∷ (spaced_text (name_token n) ++ (32 ∷ (spaced_text (parens (commas (all_printed args))) ++ []))))
-text_host n args = text_words (the mark.Host) (name_token n ∷ parens (commas (all_printed args)) ∷ []) (refl, (refl, tt))
-
 pub text_sampled : (flip : Bool) (e : Tree) (w : Bits) → text_of_tree (sampled flip e w) ≡ text_of_operand e ++ (32 ∷ (spaced_text (the (when_mark flip)) ++ (32 ∷ (spaced_text (word_token w) ++ []))))
 text_sampled flip e w = text_words (operand e (printed e)) (the (when_mark flip) ∷ word_token w ∷ []) (refl, (refl, tt))
 
@@ -142,26 +139,6 @@ text_buffered e s = text_words (the mark.Buffer) (operand e (printed e) ∷ []) 
 
 pub text_bounded : (n : ℕ) (e : Tree) (s : Span) → text_of_tree (buffered (Some n) e s) ≡ spaced_text (the mark.Buffer) ++ (32 ∷ (spaced_text (one (what.Number (pos n))) ++ (32 ∷ (spaced_text (parens (printed e)) ++ []))))
 text_bounded n e s = text_words (the mark.Buffer) (one (what.Number (pos n)) ∷ parens (printed e) ∷ []) (refl, (refl, tt))
-
-pub text_called : (n : Name) (args : Trees) → text_of_tree (call n None args) ≡ spaced_text (name_token n) ++ (32 ∷ (spaced_text (parens (commas (all_printed args))) ++ []))
-text_called n args = text_words (name_token n) (parens (commas (all_printed args)) ∷ []) (refl, tt)
-
-pub text_called_at : (n : Name) (w : Bits) (args : Trees) → text_of_tree (call n (Some w) args)
-    ≡ spaced_text (name_token n) ++ (32 ∷ (spaced_text (the mark.At) ++ (32 ∷ (spaced_text (word_token w) ++ (32 ∷ (spaced_text (parens (commas (all_printed args))) ++ []))))))
-text_called_at n w args = text_words (name_token n) (the mark.At ∷ word_token w ∷ parens (commas (all_printed args)) ∷ []) (refl, (refl, (refl, tt)))
-
--- the text of declarations, definitions, nodes and programs
-tight_typing : (t : Option DataType) (w : Option Bits) → AllByRecursion IsTight (typing t ++ clock w)
-tight_typing None None = tt
-tight_typing None (Some w) = (refl, (refl, tt))
-tight_typing (Some t) None = (refl, (refl, tt))
-tight_typing (Some t) (Some w) = (refl, (refl, (refl, (refl, tt))))
-
-pub text_decl : (d : Decl) → spaced_text (printed_decl d) ≡ spaced_text (name_token d.name) ++ blanked (typing d.holds ++ clock d.word)
-text_decl d = text_words (name_token d.name) (typing d.holds ++ clock d.word) (tight_typing d.holds d.word)
-
-pub tight_decl : (d : Decl) → IsTight (printed_decl d)
-tight_decl d = refl
 
 pub tight_decls : (ds : List Decl) → AllByRecursion IsTight (map printed_decl ds)
 tight_decls [] = tt
@@ -206,12 +183,3 @@ text_more_nodes n ns = text-append (after line (printed_node n)) (more_nodes ns)
 abbrev pub ended_nodes : List NodeTree → List ℕ
 ended_nodes [] = []
 ended_nodes (n ∷ ns) = spaced_text (printed_node n) ++ (10 ∷ ended_nodes ns)
-
-further_ended : (ns : List NodeTree) → spaced_text (more_nodes ns) ++ line ≡ 10 ∷ ended_nodes ns
-further_ended [] = refl
-further_ended (n ∷ ns) =
-    ap (λ u. u ++ line) (text_more_nodes n ns) ∙ ap (λ u. 10 ∷ u) (append_assoc (spaced_text (printed_node n)) (spaced_text (more_nodes ns)) line ∙ ap (λ u. spaced_text (printed_node n) ++ u) (further_ended ns))
-
-pub text_program : (n : NodeTree) (ns : List NodeTree) → program_text (n ∷ ns) ≡ ended_nodes (n ∷ ns)
-text_program n ns =
-    ap (λ u. u ++ line) (text-append (printed_node n) (more_nodes ns)) ∙ append_assoc (spaced_text (printed_node n)) (spaced_text (more_nodes ns)) line ∙ ap (λ u. spaced_text (printed_node n) ++ u) (further_ended ns)

@@ -18,7 +18,7 @@ use Rattle.lucy_grammar.specs.Kinds.{ahead, is_bound, bound}
 use Rattle.lucy_grammar.proofs.Sets.{within_cases, within_either, within_subset}
 use Rattle.lucy_grammar.proofs.Numbers.{IsNone, is_in, not_in}
 use Rattle.lucy_grammar.proofs.Rules.{by_first}
-use Rattle.lucy_grammar.proofs.Steps.{end, tok, tok_no, tok_bad, sub, sub_no, sub_bad, maybe, maybe_no, maybe_bad, rule, rule_no, sort_tok, sort_tok_no, led_by, led_sort, others}
+use Rattle.lucy_grammar.proofs.Steps.{end, tok, tok_no, tok_bad, sub, sub_no, sub_bad, maybe, maybe_bad, rule, rule_no, sort_tok, sort_tok_no, led_by, led_sort, others}
 
 pub choice : {ts m1 m2 m3 m4 m5 rest : List Token} {i t l : Token} {c : Val Expr} {a : Val Expr} {b : Val Expr} → Begins ts i (kind.Mark mark.If) m1 → Reads Expr m1 c m2 → Begins m2 t (kind.Mark mark.Then) m3 → Reads Expr m3 a m4 → Begins m4 l (kind.Mark mark.Else) m5 → Reads Expr m5 b rest → Reads Expr ts (operator op.If (more c (two a b)) i.span) rest
 unfolding rules follows begins
@@ -27,22 +27,6 @@ choice h1 h2 h3 h4 h5 h6 = rule 0 refl (led_by 0 refl refl h1) (tok h1 (sub refl
 pub choice_2 : {ts m1 rest : List Token} {i : Token} → Begins ts i (kind.Mark mark.If) m1 → Unfit Expr m1 rest → Unfit Expr ts rest
 unfolding rules follows begins
 choice_2 h1 u = rule_no 0 refl (led_by 0 refl refl h1) (tok_no h1 (sub_bad refl u))
-
-pub choice_3 : {ts m1 m2 rest : List Token} {i : Token} {c : Val Expr} → Begins ts i (kind.Mark mark.If) m1 → Reads Expr m1 c m2 → IsOther m2 (kind.Mark mark.Then) rest → Unfit Expr ts rest
-unfolding rules follows begins
-choice_3 h1 h2 u = rule_no 0 refl (led_by 0 refl refl h1) (tok_no h1 (sub_no refl h2 (tok_bad refl u)))
-
-pub choice_4 : {ts m1 m2 m3 rest : List Token} {i t : Token} {c : Val Expr} → Begins ts i (kind.Mark mark.If) m1 → Reads Expr m1 c m2 → Begins m2 t (kind.Mark mark.Then) m3 → Unfit Expr m3 rest → Unfit Expr ts rest
-unfolding rules follows begins
-choice_4 h1 h2 h3 u = rule_no 0 refl (led_by 0 refl refl h1) (tok_no h1 (sub_no refl h2 (tok_no h3 (sub_bad refl u))))
-
-pub choice_5 : {ts m1 m2 m3 m4 rest : List Token} {i t : Token} {c : Val Expr} {a : Val Expr} → Begins ts i (kind.Mark mark.If) m1 → Reads Expr m1 c m2 → Begins m2 t (kind.Mark mark.Then) m3 → Reads Expr m3 a m4 → IsOther m4 (kind.Mark mark.Else) rest → Unfit Expr ts rest
-unfolding rules follows begins
-choice_5 h1 h2 h3 h4 u = rule_no 0 refl (led_by 0 refl refl h1) (tok_no h1 (sub_no refl h2 (tok_no h3 (sub_no refl h4 (tok_bad refl u)))))
-
-pub choice_6 : {ts m1 m2 m3 m4 m5 rest : List Token} {i t l : Token} {c : Val Expr} {a : Val Expr} → Begins ts i (kind.Mark mark.If) m1 → Reads Expr m1 c m2 → Begins m2 t (kind.Mark mark.Then) m3 → Reads Expr m3 a m4 → Begins m4 l (kind.Mark mark.Else) m5 → Unfit Expr m5 rest → Unfit Expr ts rest
-unfolding rules follows begins
-choice_6 h1 h2 h3 h4 h5 u = rule_no 0 refl (led_by 0 refl refl h1) (tok_no h1 (sub_no refl h2 (tok_no h3 (sub_no refl h4 (tok_no h5 (sub_bad refl u))))))
 
 pub more_and : {ts m1 rest : List Token} {o : Token} {e : Val And} → Begins ts o (kind.Mark mark.Either) m1 → Reads And m1 e rest → Reads MoreAnd ts (record { op = op.Or; span = o.span; right = e }) rest
 unfolding rules follows begins
@@ -255,18 +239,6 @@ applied {ts = ts} w a h1 h2 h3 h4 = rule 0 refl (others ts 0 refl tt) (maybe w r
 pub applied_1 : {ts rest : List Token} → UnfitOptional Base ts rest → Unfit Applied ts rest
 unfolding rules follows begins
 applied_1 {ts = ts} u = rule_no 0 refl (others ts 0 refl tt) (maybe_bad refl u)
-
-pub applied_2 : {ts m1 rest : List Token} (w : Option (Val Base)) → ReadsOptional Base ts w m1 → IsOther m1 (kind.Mark mark.Open) rest → Unfit Applied ts rest
-unfolding rules follows begins
-applied_2 {ts = ts} w h1 u = rule_no 0 refl (others ts 0 refl tt) (maybe_no w refl h1 (tok_bad refl u))
-
-pub applied_3 : {ts m1 m2 rest : List Token} {o : Token} (w : Option (Val Base)) → ReadsOptional Base ts w m1 → Begins m1 o (kind.Mark mark.Open) m2 → UnfitOptional Args m2 rest → Unfit Applied ts rest
-unfolding rules follows begins
-applied_3 {ts = ts} w h1 h2 u = rule_no 0 refl (others ts 0 refl tt) (maybe_no w refl h1 (tok_no h2 (maybe_bad refl u)))
-
-pub applied_4 : {ts m1 m2 m3 rest : List Token} {o : Token} (w : Option (Val Base)) (a : Option (Val Args)) → ReadsOptional Base ts w m1 → Begins m1 o (kind.Mark mark.Open) m2 → ReadsOptional Args m2 a m3 → IsOther m3 (kind.Mark mark.Close) rest → Unfit Applied ts rest
-unfolding rules follows begins
-applied_4 {ts = ts} w a h1 h2 h3 u = rule_no 0 refl (others ts 0 refl tt) (maybe_no w refl h1 (tok_no h2 (maybe_no a refl h3 (tok_bad refl u))))
 
 pub more_expr : {ts m1 rest : List Token} {m : Token} {e : Val Expr} → Begins ts m (kind.Mark mark.Comma) m1 → Reads Expr m1 e rest → Reads MoreExpr ts e rest
 unfolding rules follows begins

@@ -5,7 +5,7 @@ use Rattle.lucy_token.specs.declared.token.Token.{Token}
 use Rattle.lucy_grammar.specs.Symbols.{Part, Sym, many, Val, Vals}
 use Rattle.lucy_grammar.specs.Reading.{Takes, Refuses, Reads, Unfit, IsBegun}
 use Rattle.lucy_grammar.proofs.Table.{good}
-use Rattle.lucy_grammar.proofs.Leads.{lead_taken, lead_then_refused, lead_refused, skip_taken, skip_refused}
+use Rattle.lucy_grammar.proofs.Leads.{lead_taken, lead_then_refused, lead_refused, skip_taken}
 use Rattle.lucy_grammar.proofs.Forms.{with_more, with_none, more_leads, many_skips}
 
 -- what the rest of the repeat gives, and what comes after it, the whole gives
@@ -37,8 +37,3 @@ repeat_ended {X = X} {Y = Y} {syms = syms} {ts = ts} {read = read} {over = over}
     let P : List (Val Y) → Type 0 = λ u. Takes X (many Y ∷ syms) ts (u, vs) rest in
     let none : Takes X (many Y ∷ syms) over ([], vs) rest = skip_taken X (many Y ∷ syms) syms (with_none Y syms) over vs rest (many_skips X Y syms _ g w) r in
     subst P (append-nil read) (s.taken [] vs rest none)
-
-pub repeat_left : {X Y : Part} {syms : List Sym} {ts : List Token} {read : List (Val Y)} {over rest : List Token} →
-    RepeatSoFar X Y syms ts read over → good X (many Y ∷ syms) ≡ true → (IsBegun Y over → ⊥) → Refuses X syms over rest → Refuses X (many Y ∷ syms) ts rest
-repeat_left {X = X} {Y = Y} {syms = syms} {over = over} {rest = rest} s g w r =
-    s.refused rest (skip_refused X (many Y ∷ syms) syms (with_none Y syms) over rest (many_skips X Y syms _ g w) r)

@@ -70,10 +70,12 @@ pub data Class : Type 0 where
   kind_class : Kind → Class
   bound_class : Class
 
+-- the number of what one token ahead tells
 abbrev pub class_number : Class → ℕ
 class_number (kind_class k) = number k
 class_number bound_class = 43
 
+-- what a token tells: its kind, or that it may be a bound
 abbrev pub class_of : What → Class
 class_of w = if is_bound w then bound_class else kind_class (kind_of w)
 
@@ -86,6 +88,7 @@ first_class (t ∷ ts) = class_of t.what
 abbrev pub what_number : What → ℕ
 what_number w = class_number (class_of w)
 
+-- the number of the first token
 abbrev pub ahead : List Token → ℕ
 ahead ts = class_number (first_class ts)
 
@@ -108,6 +111,7 @@ sort_kind (of k) = k
 sort_kind bound = kind.Number
 sort_kind unbound = kind.Number
 
+-- the numbers of tokens that are so
 abbrev pub sort_numbers : Sort → List ℕ
 sort_numbers (of k) = kind_numbers k
 sort_numbers bound = 43 ∷ []

@@ -1,5 +1,5 @@
 -- What callers believe, in the order to read it: sets and kinds of tokens, the symbols of the grammar, what a derivation means, the
--- grammar, programs, how tokens are read by one token ahead, and the printed text of a tree.
+-- grammar, programs, how tokens are read by one token ahead, the printed text of a tree, and laws of all these.
 pub mod Sets
 pub mod Kinds
 pub mod Symbols
@@ -13,6 +13,7 @@ pub mod Spans
 pub mod Printable
 pub mod Parens
 pub mod Texts
+pub mod Laws
 -- what only serves the proofs
 pub mod Deriving
 pub mod Why

@@ -3,7 +3,6 @@ use Rattle.std.specs.Prelude.{ℕ, pos, Bool, true, false, List, [], ◌∷◌, 
 use Rattle.std.specs.Option.{option_map_or}
 use Rattle.lucy_word.specs.Bits.{Bits}
 use Rattle.lucy_host.specs.declared.op.Op.{Op}
-use Rattle.lucy_host.specs.declared.op.Op.TheVariants as op
 use Rattle.lucy_host.specs.declared.data_type.DataType.{DataType}
 use Rattle.lucy_host.specs.declared.data_type.DataType.TheVariants as holds
 use Rattle.lucy_tree.specs.declared.span.Name.{Name}
@@ -16,6 +15,7 @@ use Rattle.lucy_token.specs.declared.mark.Mark.{Mark}
 use Rattle.lucy_token.specs.declared.mark.Mark.TheVariants as mark
 use Rattle.lucy_token.specs.declared.token.What.{What}
 use Rattle.lucy_token.specs.declared.token.What.TheVariants as what
+use Rattle.lucy_token.specs.Marks.{op_mark}
 use Rattle.lucy_token.specs.Spelled.{Printed, in_print, bytes_of}
 
 -- a blank
@@ -78,24 +78,6 @@ abbrev pub lit_token : Lit → List Printed
 lit_token (lit.Int n) = one (what.Number n)
 lit_token (lit.Bool true) = the mark.True
 lit_token (lit.Bool false) = the mark.False
-
--- the mark of an operator
-abbrev pub op_mark : Op → Mark
-op_mark op.Add = mark.Plus
-op_mark op.Sub = mark.Minus
-op_mark op.Mul = mark.Star
-op_mark op.Div = mark.Slash
-op_mark op.Rem = mark.Percent
-op_mark op.Eq = mark.Same
-op_mark op.Ne = mark.Differs
-op_mark op.Lt = mark.Less
-op_mark op.Le = mark.AtMost
-op_mark op.Gt = mark.Greater
-op_mark op.Ge = mark.AtLeast
-op_mark op.And = mark.Both
-op_mark op.Or = mark.Either
-op_mark op.Not = mark.Not
-op_mark op.If = mark.If
 
 -- the keyword of a sampling
 abbrev pub when_mark : Bool → Mark

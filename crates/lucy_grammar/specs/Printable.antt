@@ -28,6 +28,7 @@ use Rattle.lucy_grammar.specs.Print.{when_mark}
 abbrev pub IsNamed : (Kind → What → Type 0) → Name → Type 0
 IsNamed Q name = (k : Kind) × Q k (what.Name name.text)
 
+-- a number may stand somewhere; a truth always may
 abbrev pub IsLit : (Kind → What → Type 0) → Lit → Type 0
 IsLit Q (lit.Int n) = (k : Kind) × Q k (what.Number n)
 IsLit Q (lit.Bool b) = Unit {0}
@@ -43,6 +44,7 @@ IsWordBehind Q m None = Unit {0}
 IsWordBehind Q m (Some w) = Q (kind.Mark m) (what.Word w)
 
 abbrev mutual
+  -- every name, number and word of the tree may stand somewhere, and each operator has as many operands as it takes
   pub IsPrintable : (Kind → What → Type 0) → Tree → Type 0
   IsPrintable Q (literal l span) = IsLit Q l
   IsPrintable Q (variable name) = IsNamed Q name
@@ -54,6 +56,7 @@ abbrev mutual
   IsPrintable Q (buffered most e span) = IsHeld Q most × IsPrintable Q e
   IsPrintable Q (call name at args) = IsNamed Q name × (IsWordBehind Q mark.At at × ArePrintable Q args)
 
+  -- and so of each tree of a list
   pub ArePrintable : (Kind → What → Type 0) → Trees → Type 0
   ArePrintable Q no_more = Unit {0}
   ArePrintable Q (more t ts) = IsPrintable Q t × ArePrintable Q ts
@@ -63,20 +66,24 @@ abbrev pub AllOfSome : {A : Type 0} → (A → Type 0) → List A → Type 0
 AllOfSome P [] = ⊥
 AllOfSome P (x ∷ xs) = P x × AllByRecursion P xs
 
+-- the name may stand somewhere, and its clock behind `::`
 abbrev pub IsPrintableDecl : (Kind → What → Type 0) → Decl → Type 0
 IsPrintableDecl Q d = IsNamed Q d.name × IsWordBehind Q mark.Colons d.word
 
+-- both sides can be printed, and the right one defines as many names as stand left
 pub record IsPrintableDef (Q : Kind → What → Type 0) (d : DefTree) : Type 0 where
   pub left : AllByRecursion (IsPrintableDecl Q) d.left
   pub right : IsPrintable Q d.right
   pub defines : Defines d.left d.right
 
+-- its name, its parameters, its results, of which there is one at least, and its definitions can be printed
 pub record IsPrintableNode (Q : Kind → What → Type 0) (n : NodeTree) : Type 0 where
   pub name : IsNamed Q n.name
   pub params : AllByRecursion (IsPrintableDecl Q) n.params
   pub results : AllOfSome (IsNamed Q) n.results
   pub defs : AllByRecursion (IsPrintableDef Q) n.defs
 
+-- there is a node, and each can be printed
 abbrev pub IsPrintableProgram : (Kind → What → Type 0) → ProgramTree → Type 0
 IsPrintableProgram Q p = AllOfSome (IsPrintableNode Q) p
 
@@ -96,6 +103,7 @@ MayFollow Q before (what.Mark m) = wants_word before ≡ false
 MayFollow Q before (what.Name bytes) = (wants_word before ≡ false) × ((k : Kind) × Q k (what.Name bytes))
 MayFollow Q before (what.Number n) = (wants_word before ≡ false) × ((k : Kind) × Q k (what.Number n))
 
+-- each token may be printed after the one before it, the first one after one of this kind
 abbrev pub AllMayFollow : (Kind → What → Type 0) → Kind → List What → Type 0
 AllMayFollow Q before [] = Unit {0}
 AllMayFollow Q before (w ∷ ws) = MayFollow Q before w × AllMayFollow Q (kind_of w) ws

@@ -27,39 +27,51 @@ operand = numbers (mark.Not ∷ mark.Buffer ∷ mark.Merge ∷ mark.Host ∷ [])
 abbrev pub after_def : List ℕ
 after_def = 0 ∷ numbers (mark.Let ∷ mark.And ∷ [])
 
+-- the kinds that may follow an expression
 abbrev pub after_expr : List ℕ
 after_expr = numbers (mark.Then ∷ mark.Else ∷ mark.Close ∷ mark.Comma ∷ []) ++ after_def
 
+-- those that may follow an operand of `||`
 abbrev pub after_and : List ℕ
 after_and = mark_number mark.Either ∷ after_expr
 
+-- those that may follow an operand of `&&`
 abbrev pub after_cmp : List ℕ
 after_cmp = mark_number mark.Both ∷ after_and
 
+-- the comparisons
 abbrev pub comparisons : List ℕ
 comparisons = numbers (mark.Same ∷ mark.Differs ∷ mark.Less ∷ mark.AtMost ∷ mark.Greater ∷ mark.AtLeast ∷ [])
 
+-- the kinds that may follow an operand of a comparison
 abbrev pub after_sum : List ℕ
 after_sum = comparisons ++ after_cmp
 
+-- `+` and `-`
 abbrev pub sums : List ℕ
 sums = numbers (mark.Plus ∷ mark.Minus ∷ [])
 
+-- the kinds that may follow an operand of these
 abbrev pub after_prod : List ℕ
 after_prod = sums ++ after_sum
 
+-- `*`, `/` and `%`
 abbrev pub products : List ℕ
 products = numbers (mark.Star ∷ mark.Slash ∷ mark.Percent ∷ [])
 
+-- the kinds that may follow an operand of these
 abbrev pub after_samp : List ℕ
 after_samp = products ++ after_prod
 
+-- `when` and `whenot`
 abbrev pub samplings : List ℕ
 samplings = numbers (mark.When ∷ mark.Whenot ∷ [])
 
+-- the kinds that may follow what is sampled
 abbrev pub after_pre : List ℕ
 after_pre = samplings ++ after_samp
 
+-- the kinds that may follow a declaration
 abbrev pub after_decl : List ℕ
 after_decl = numbers (mark.Equals ∷ mark.Comma ∷ mark.Close ∷ [])
 

@@ -11,16 +11,20 @@ use Rattle.lucy_token.specs.declared.token.Token.{Token}
 abbrev pub nowhere : Span
 nowhere = record { from = 0; to = 0 }
 
+-- a token without its place
 abbrev pub unplaced_token : Token → Token
 unplaced_token t = record { what = t.what; span = nowhere }
 
+-- a name without its place
 abbrev pub unplaced_name : Name → Name
 unplaced_name n = record { text = n.text; span = nowhere }
 
+-- a declaration without places
 abbrev pub unplaced_decl : Decl → Decl
 unplaced_decl d = record { name = unplaced_name d.name; holds = d.holds; word = d.word }
 
 abbrev mutual
+  -- a tree without places
   pub unplaced : Tree → Tree
   unplaced (literal l span) = literal l nowhere
   unplaced (variable name) = variable (unplaced_name name)
@@ -32,16 +36,20 @@ abbrev mutual
   unplaced (buffered most e span) = buffered most (unplaced e) nowhere
   unplaced (call name at args) = call (unplaced_name name) at (all_unplaced args)
 
+  -- trees without places
   pub all_unplaced : Trees → Trees
   all_unplaced no_more = no_more
   all_unplaced (more t ts) = more (unplaced t) (all_unplaced ts)
 
+-- a definition without places
 abbrev pub unplaced_def : DefTree → DefTree
 unplaced_def d = record { left = map unplaced_decl d.left; right = unplaced d.right }
 
+-- a node without places
 abbrev pub unplaced_node : NodeTree → NodeTree
 unplaced_node n = record { name = unplaced_name n.name; params = map unplaced_decl n.params; results = map unplaced_name n.results; defs = map unplaced_def n.defs }
 
+-- a program without places
 abbrev pub unplaced_program : ProgramTree → ProgramTree
 unplaced_program p = map unplaced_node p
 

@@ -1,13 +1,10 @@
 -- What is wrapped is a number of 64 bits.
-use Rattle.std.proofs.Common.{ℕ, ℤ, pos, negsuc, ◌+ℤ◌, ◌*◌, ◌%◌, ◌/◌, ◌+◌, ◌-◌, ◌^◌, suc, ap, ◌∙◌, ◌<◌, ◌≡◌, Bool, true, false, cond, FitsSigned, to_z, w64, inl, inr, refl, lit<, arith, mod-lt, div-add-mod'}
+use Rattle.std.proofs.Common.{ℕ, ℤ, pos, negsuc, ◌+ℤ◌, ◌*◌, ◌%◌, ◌/◌, ◌+◌, ◌-◌, ◌^◌, suc, ap, ◌∙◌, ◌<◌, ◌≡◌, Bool, to_z, w64, inl, inr, lit<, arith, mod-lt, div-add-mod'}
 use Rattle.std.proofs.lemmas.Bool.{cases_lt}
 use Rattle.std.proofs.Math.Facts.{to_z-neg}
-use Rattle.std.proofs.lemmas.Int.{ints, SFits-int_wrap}
+use Rattle.std.proofs.lemmas.Int.{ints}
 use Rattle.std.specs.Int.{int_wrap}
 use Rattle.lucy_host.specs.Numbers.{wrapped}
-
-pub wrapped_fits : (z : ℤ) → FitsSigned w64 (wrapped z)
-wrapped_fits z = SFits-int_wrap w64 z
 
 -- the signed reading of 64 bits, which lies one turn below their number or none
 turned : (n : ℕ) → n < 2 ^ 64 → (j : ℕ) × (to_z w64 n +ℤ pos (j * 2 ^ 64) ≡ pos n)
@@ -30,8 +27,3 @@ wrapped_differs (pos n) =
 wrapped_differs (negsuc n) =
     let t = turned (2 ^ 64 - 1 - n % 2 ^ 64) (omega arith) in
     (t.0, n / 2 ^ 64 + 1, omega (arith, ints, t.1, div-add-mod' n (2 ^ 64)))
-
--- of two numbers of 64 bits the one that a test chooses
-pub chosen_fits : (t : Bool) (x y : ℤ) → FitsSigned w64 x → (t ≡ false → FitsSigned w64 y) → FitsSigned w64 (cond t x y)
-chosen_fits true x y f g = f
-chosen_fits false x y f g = g refl

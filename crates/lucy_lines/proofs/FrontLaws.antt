@@ -2,7 +2,7 @@
 use Rattle.std.proofs.Common.{◌≡◌, ℕ, ◌+◌, ◌-◌, ◌<◌, ◌≤◌, ◌==◌, ◌≢◌, Bool, true, false, not, cond, List, ◌++◌, length, get_or, refl, ap, sym, ◌∙◌, inl, inr, arith, length-append}
 use Rattle.std.specs.Prelude.{nat_lt, ◌⊎◌}
 use Rattle.std.proofs.Math.ListN.{get_or-append}
-use Rattle.std.proofs.lemmas.Bool.{cond_both, eqb-true, eqb-false, lt-ltb, le-ltb, ltb-true, ltb-false}
+use Rattle.std.proofs.lemmas.Bool.{cond_both, eqb-false, lt-ltb, le-ltb, ltb-true, ltb-false}
 use Rattle.std.proofs.lemmas.Bool.Decides.{nat_tests}
 use Rattle.std.proofs.lemmas.List.Sums.{prefix_len-le-length}
 use Rattle.std.proofs.lemmas.List.Folds.{prefix_len-append}
@@ -142,11 +142,6 @@ last_of_three true u m c n e = cc
 last_of_three false true m c n e = cc
 last_of_three false false m c n e = (refl, refl, cc, cc)
 
-last_open : (t u : Bool) (m : ℕ) → cond t Open (cond u Long (Line m m)) ≡ Open → t ≡ true
-last_open true u m e = refl
-last_open false true m e = cc
-last_open false false m e = cc
-
 pub content_within : (a : List ℕ) (n : ℕ) → content_of a n ≤ n
 content_within a n = cond_both (get_or a (n - 1) 0 == 13) (n - 1) n (λ m. m ≤ n) (λ e. omega arith) (λ e. omega arith)
 
@@ -189,9 +184,3 @@ open_within closed used a e =
     let m : used + length a ≤ most_bytes = ltb-false most_bytes (used + length a) f.1 in
     let r = reach_range a in
     record { short = omega arith; dark = omega arith; room = m }
-
-pub open_closed : (used : ℕ) (a : List ℕ) → front_of true used a ≡ Open → length a ≡ 0
-unfolding front_of
-open_closed used a e =
-    let f = front_undecided (nat_lt (judge a) (length a)) (nat_lt (used + judge a) most_bytes) (nat_lt most_bytes (used + length a)) true (judged a) (last_line a) (judged_not_open (nat_lt (reach a) (run a)) (content_of a (run a)) (run a + 1)) e in
-    eqb-true (length a) 0 (last_open (length a == 0) (nat_lt 4096 (length a)) (length a) (f.2 refl))

@@ -250,14 +250,6 @@ one_more_stepped lists items before now i w v same has at step steps = record {
 pub all_stepped : (lists : List (List ℤ)) (before now : List WalkState) (i : ℕ) → length before ≤ i → AreSteppedTo lists before now i → AreStepped lists before now
 all_stepped lists before now i le steps = λ k w v was is. steps.stepped k w v (omega (arith, slice_get_within before k w was)) was is
 
--- the line of a value that was walked past
-pub line_is : (w v : WalkState) (items : List ℤ) (name : List ℕ) (holds : DataType) (value : ℤ) → IsStepped items w v → name ≡ v.output.name → holds ≡ v.output.holds →
-    next_value w items ≡ Some value → line_of name holds value ≡ line_with_value w.output (next_value w items)
-line_is w v items name holds value step named typed is =
-    ap (λ n. line_of n holds value) (named ∙ ap (λ o. o.name) step.output)
-    ∙ ap (λ h. line_of w.output.name h value) (typed ∙ ap (λ o. o.holds) step.output)
-    ∙ ap (line_with_value w.output) (sym is)
-
 -- the lines of the outputs before, and the line of one more
 pub one_more_gathered : {K : Type 0} (k l m : K) (s t u : SeenSink) (lines waits : LinesState) (bytes line : List ℕ) (walks : List WalkState) (lists : List (List ℤ)) (i : ℕ) (w : WalkState)
     (items : List ℤ) → slice_get walks i ≡ Some w → slice_get lists i ≡ Some items → line ≡ line_with_value w.output (next_value w items) →

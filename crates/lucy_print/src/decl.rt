@@ -56,7 +56,7 @@ fn separated(alloc: Global, list: &[Decl], out: &mut Vec<u8>) -> Result<(), OutO
 }
 
 /// Declarations in parentheses.
-pub fn decls(alloc: Global, list: &[Decl], out: &mut Vec<u8>) -> Result<(), OutOfMemory>
+pub(crate) fn decls(alloc: Global, list: &[Decl], out: &mut Vec<u8>) -> Result<(), OutOfMemory>
     ensures { OnOk result (out.new.items ≡ out.old.items ++ spaced_text (parens (commas (map printed_decl list.now)))) }
 {
     mark(Mark::Open, out)?;
@@ -65,7 +65,7 @@ pub fn decls(alloc: Global, list: &[Decl], out: &mut Vec<u8>) -> Result<(), OutO
 }
 
 /// The left side of a definition: one declaration alone, several in parentheses.
-pub fn left(alloc: Global, list: &[Decl], out: &mut Vec<u8>) -> Result<(), OutOfMemory>
+pub(crate) fn left(alloc: Global, list: &[Decl], out: &mut Vec<u8>) -> Result<(), OutOfMemory>
     ensures { OnOk result (out.new.items ≡ out.old.items ++ spaced_text (printed_left list.now)) }
 {
     match list {
@@ -90,7 +90,7 @@ fn separated_names(list: &[Name], out: &mut Vec<u8>) -> Result<(), OutOfMemory>
 }
 
 /// Names in parentheses.
-pub fn names(list: &[Name], out: &mut Vec<u8>) -> Result<(), OutOfMemory>
+pub(crate) fn names(list: &[Name], out: &mut Vec<u8>) -> Result<(), OutOfMemory>
     ensures { OnOk result (out.new.items ≡ out.old.items ++ spaced_text (parens (commas (map name_token list.now)))) }
 {
     mark(Mark::Open, out)?;

@@ -5,18 +5,16 @@ ghost use Rattle.lucy_tree.specs.View.{tree_of, all_trees};
 ghost use Rattle.lucy_grammar.specs.Spans.{nowhere};
 ghost use Rattle.lucy_grammar.specs.Print.{spaced_text, printed, operand, parens, operated, operands, commas, all_printed};
 
-use crate::token::{
-    between, blank, bound, comma, leading, lit, mark, name, op_mark, when_mark, word,
-};
+use crate::token::{between, blank, bound, comma, leading, lit, mark, name, when_mark, word};
 use lucy_host::Op;
-use lucy_token::Mark;
+use lucy_token::{Mark, op_mark};
 use lucy_tree::{Expr, Name};
 use lucy_word::{OutOfMemory, Word};
 use std::alloc::Global;
 
 /// An expression, without parentheses round it.
 #[cycle(printed)]
-pub fn expr(alloc: Global, expr: &Expr, out: &mut Vec<u8>) -> Result<(), OutOfMemory>
+pub(crate) fn expr(alloc: Global, expr: &Expr, out: &mut Vec<u8>) -> Result<(), OutOfMemory>
     ensures { OnOk result (out.new.items ≡ out.old.items ++ spaced_text (printed (tree_of expr.now))) }
 {
     match expr {

@@ -19,7 +19,7 @@ fn indent(out: &mut Vec<u8>) -> Result<(), OutOfMemory>
 }
 
 /// The end of a line.
-pub fn line(out: &mut Vec<u8>) -> Result<(), OutOfMemory>
+pub(crate) fn line(out: &mut Vec<u8>) -> Result<(), OutOfMemory>
     ensures { OnOk result (out.new.items ≡ out.old.items ++ line) }
 {
     bytes(b"\n", out)
@@ -86,7 +86,7 @@ fn further_nodes(alloc: Global, list: &[Node], out: &mut Vec<u8>) -> Result<(), 
 }
 
 /// Nodes, without the end of the last line.
-pub fn nodes(alloc: Global, list: &[Node], out: &mut Vec<u8>) -> Result<(), OutOfMemory>
+pub(crate) fn nodes(alloc: Global, list: &[Node], out: &mut Vec<u8>) -> Result<(), OutOfMemory>
     ensures { OnOk result (out.new.items ≡ out.old.items ++ spaced_text (printed_program (map node_tree list.now))) }
 {
     let Some((first, more)) = list.split_first() else {

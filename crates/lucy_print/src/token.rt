@@ -4,14 +4,14 @@ ghost use Rattle.lucy_grammar.specs.Print as spec;
 ghost use Rattle.std.specs.Prelude.{pos};
 ghost use Rattle.lucy_token.specs.declared.token.What.TheVariants as what;
 
-use lucy_host::{DataType, Op};
+use lucy_host::DataType;
 use lucy_token::Mark;
 use lucy_tree::{Lit, Name};
 use lucy_word::{OutOfMemory, Word};
 use std::alloc::Global;
 
 /// These bytes.
-pub fn bytes(bytes: &[u8], out: &mut Vec<u8>) -> Result<(), OutOfMemory>
+pub(crate) fn bytes(bytes: &[u8], out: &mut Vec<u8>) -> Result<(), OutOfMemory>
     ensures { OnOk result (out.new.items ≡ out.old.items ++ bytes.now) }
 {
     out.extend_from_slice(bytes)?;
@@ -19,21 +19,21 @@ pub fn bytes(bytes: &[u8], out: &mut Vec<u8>) -> Result<(), OutOfMemory>
 }
 
 /// A keyword or a sign.
-pub fn mark(mark: Mark, out: &mut Vec<u8>) -> Result<(), OutOfMemory>
+pub(crate) fn mark(mark: Mark, out: &mut Vec<u8>) -> Result<(), OutOfMemory>
     ensures { OnOk result (out.new.items ≡ out.old.items ++ spec.spaced_text (spec.the mark)) }
 {
     bytes(mark.text().as_bytes(), out)
 }
 
 /// A blank.
-pub fn blank(out: &mut Vec<u8>) -> Result<(), OutOfMemory>
+pub(crate) fn blank(out: &mut Vec<u8>) -> Result<(), OutOfMemory>
     ensures { OnOk result (out.new.items ≡ out.old.items ++ spec.blank) }
 {
     bytes(b" ", out)
 }
 
 /// A keyword or a sign, with a blank behind it.
-pub fn leading(sign: Mark, out: &mut Vec<u8>) -> Result<(), OutOfMemory>
+pub(crate) fn leading(sign: Mark, out: &mut Vec<u8>) -> Result<(), OutOfMemory>
     ensures { OnOk result (out.new.items ≡ out.old.items ++ (spec.spaced_text (spec.the sign) ++ spec.blank)) }
 {
     mark(sign, out)?;
@@ -41,7 +41,7 @@ pub fn leading(sign: Mark, out: &mut Vec<u8>) -> Result<(), OutOfMemory>
 }
 
 /// A keyword or a sign, with a blank before it and one behind it.
-pub fn between(sign: Mark, out: &mut Vec<u8>) -> Result<(), OutOfMemory>
+pub(crate) fn between(sign: Mark, out: &mut Vec<u8>) -> Result<(), OutOfMemory>
     ensures { OnOk result (out.new.items ≡ out.old.items ++ (32 ∷ (spec.spaced_text (spec.the sign) ++ spec.blank))) }
 {
     blank(out)?;
@@ -49,28 +49,28 @@ pub fn between(sign: Mark, out: &mut Vec<u8>) -> Result<(), OutOfMemory>
 }
 
 /// `, `
-pub fn comma(out: &mut Vec<u8>) -> Result<(), OutOfMemory>
+pub(crate) fn comma(out: &mut Vec<u8>) -> Result<(), OutOfMemory>
     ensures { OnOk result (out.new.items ≡ out.old.items ++ 44 ∷ spec.blank) }
 {
     bytes(b", ", out)
 }
 
 /// A name.
-pub fn name(name: &Name, out: &mut Vec<u8>) -> Result<(), OutOfMemory>
+pub(crate) fn name(name: &Name, out: &mut Vec<u8>) -> Result<(), OutOfMemory>
     ensures { OnOk result (out.new.items ≡ out.old.items ++ spec.spaced_text (spec.name_token name.now)) }
 {
     bytes(name.text.bytes(), out)
 }
 
 /// A word.
-pub fn word(alloc: Global, word: &Word, out: &mut Vec<u8>) -> Result<(), OutOfMemory>
+pub(crate) fn word(alloc: Global, word: &Word, out: &mut Vec<u8>) -> Result<(), OutOfMemory>
     ensures { OnOk result (out.new.items ≡ out.old.items ++ spec.spaced_text (spec.word_token word.now)) }
 {
     word.print(alloc, out)
 }
 
 /// A literal.
-pub fn lit(alloc: Global, lit: Lit, out: &mut Vec<u8>) -> Result<(), OutOfMemory>
+pub(crate) fn lit(alloc: Global, lit: Lit, out: &mut Vec<u8>) -> Result<(), OutOfMemory>
     ensures { OnOk result (out.new.items ≡ out.old.items ++ spec.spaced_text (spec.lit_token lit)) }
 {
     match lit {
@@ -81,44 +81,21 @@ pub fn lit(alloc: Global, lit: Lit, out: &mut Vec<u8>) -> Result<(), OutOfMemory
 }
 
 /// A written bound.
-pub fn bound(alloc: Global, most: u64, out: &mut Vec<u8>) -> Result<(), OutOfMemory>
+pub(crate) fn bound(alloc: Global, most: u64, out: &mut Vec<u8>) -> Result<(), OutOfMemory>
     ensures { OnOk result (out.new.items ≡ out.old.items ++ spec.spaced_text (spec.one (what.Number (pos most)))) }
 {
     bytes(format!(in alloc; "{most}")?.as_bytes(), out)
 }
 
-/// The sign of an operator, or its first keyword.
-pub fn op_mark(op: Op) -> Mark
-    ensures { result ≡ spec.op_mark op }
-{
-    match op {
-        Op::Add => Mark::Plus,
-        Op::Sub => Mark::Minus,
-        Op::Mul => Mark::Star,
-        Op::Div => Mark::Slash,
-        Op::Rem => Mark::Percent,
-        Op::Eq => Mark::Same,
-        Op::Ne => Mark::Differs,
-        Op::Lt => Mark::Less,
-        Op::Le => Mark::AtMost,
-        Op::Gt => Mark::Greater,
-        Op::Ge => Mark::AtLeast,
-        Op::And => Mark::Both,
-        Op::Or => Mark::Either,
-        Op::Not => Mark::Not,
-        Op::If => Mark::If,
-    }
-}
-
 /// `when`, or with `flip` `whenot`.
-pub fn when_mark(flip: bool) -> Mark
+pub(crate) fn when_mark(flip: bool) -> Mark
     ensures { result ≡ spec.when_mark flip }
 {
     if flip { Mark::Whenot } else { Mark::When }
 }
 
 /// The keyword of a type.
-pub fn type_mark(holds: DataType) -> Mark
+pub(crate) fn type_mark(holds: DataType) -> Mark
     ensures { result ≡ spec.type_mark holds }
 {
     match holds {

@@ -54,12 +54,6 @@ IsFront-get (x ∷ xs) [] i v f h = absurd f
 IsFront-get (x ∷ xs) (y ∷ ys) zero v f h = ap Some (sym f.0) ∙ h
 IsFront-get (x ∷ xs) (y ∷ ys) (suc i) v f h = IsFront-get xs ys i v f.1 h
 
--- a list no longer, with the other list's items, is a front
-pub IsFront-from_items : (xs ys : List ℤ) → length xs ≤ length ys → ((i : ℕ) → i < length xs → item_at xs i ≡ item_at ys i) → IsFront xs ys
-IsFront-from_items [] ys l h = tt
-IsFront-from_items (x ∷ xs) [] l h = absurd (omega arith)
-IsFront-from_items (x ∷ xs) (y ∷ ys) l h = (h 0 (omega arith), IsFront-from_items xs ys (omega arith) (λ i k. h (suc i) (omega arith)))
-
 -- a front with the next item is a front
 pub IsFront-push : (xs ys : List ℤ) (v : ℤ) → IsFront xs ys → length xs < length ys → v ≡ item_at ys (length xs) → IsFront (xs ++ v ∷ []) ys
 IsFront-push [] [] v f l e = absurd (omega arith)

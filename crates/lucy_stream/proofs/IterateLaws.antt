@@ -1,7 +1,6 @@
 -- Laws of the iterates: each list of one is a front of the same list in the next.
-use Rattle.std.proofs.Common.{ℕ, suc, zero, ◌<◌, ◌≤◌, ◌≡◌, List, [], ◌∷◌, map, length, ap, sym, refl, subst, inl, inr, arith}
+use Rattle.std.proofs.Common.{ℕ, suc, zero, ◌<◌, ◌≤◌, ◌≡◌, List, [], ◌∷◌, map, ap, sym, refl, subst, inl, inr, arith}
 use Rattle.std.specs.Prelude.{ℤ, Some, slice_get}
-use Rattle.std.proofs.lemmas.List.{length-map}
 use Rattle.std.proofs.lemmas.Bool.{cases_eq}
 use Rattle.lucy_host.specs.declared.kind.HostKind.{HostKind}
 use Rattle.lucy_stream.specs.Items.{list_at}
@@ -66,11 +65,6 @@ iterate-inputs kinds inputs more places (suc n) h =
     IsFront-trans (form_list kinds inputs n place.form (lists_of fewer place.reads)) (form_list kinds inputs n place.form (lists_of longer place.reads)) (form_list kinds more n place.form (lists_of longer place.reads))
     (form_list-front kinds inputs n n place.form (lists_of fewer place.reads) (lists_of longer place.reads) (omega arith) (lists_of-fronts fewer longer place.reads (iterate-inputs kinds inputs more places n h)))
     (form_list-inputs kinds inputs more n place.form (lists_of longer place.reads) h))
-
--- one list for each place
-pub iterate-length : (kinds : List HostKind) (inputs : List (List ℤ)) (places : List Place) (n : ℕ) → length (iterate kinds inputs places n) ≡ length places
-iterate-length kinds inputs places zero = length-map places (λ place. [])
-iterate-length kinds inputs places (suc n) = length-map places (λ place. form_list kinds inputs n place.form (lists_of (iterate kinds inputs places n) place.reads))
 
 list_at_map : (f : Place → List ℤ) (places : List Place) (i : ℕ) (place : Place) → slice_get places i ≡ Some place → list_at (map f places) i ≡ f place
 list_at_map f [] i place e = cc

@@ -18,7 +18,7 @@ use lucy_word::Word;
 use std::alloc::Global;
 
 /// Whether a literal begins here.
-pub fn at_literal(ts: &[Token]) -> bool
+pub(crate) fn at_literal(ts: &[Token]) -> bool
     ensures { IsTrue result ↔ IsBegun Part.Lit ts.now }
 {
     if at(ts, Kind::Number) {
@@ -46,7 +46,7 @@ fn number<'a, 't>(ts: &'a [Token<'t>]) -> Result<((Lit, Span), &'a [Token<'t>]),
 }
 
 /// A number that a buffer's bound may be: the bound, the literal, and its place.
-pub fn bound<'a, 't>(ts: &'a [Token<'t>]) -> Option<((u64, Lit, Span), &'a [Token<'t>])>
+pub(crate) fn bound<'a, 't>(ts: &'a [Token<'t>]) -> Option<((u64, Lit, Span), &'a [Token<'t>])>
     ensures read { MatchOption result (IsBoundAhead ts.now → ⊥) (λ p. (t : Token) × (ts.now ≡ t ∷ p.1.now) × (is_bound t.what ≡ true) × (p.0.0 ≡ bound_of t.what) × (p.0.1 ≡ number_of t.what) × (p.0.2 ≡ t.span)) }
     ensures shorter { IfSome result (λ p. length p.1.now < length ts.now) }
 {
@@ -73,7 +73,9 @@ fn as_bound(n: i64) -> u64
 }
 
 /// A literal and its place.
-pub fn lit<'a, 't>(ts: &'a [Token<'t>]) -> Result<((Lit, Span), &'a [Token<'t>]), Refusal<'a, 't>>
+pub(crate) fn lit<'a, 't>(
+    ts: &'a [Token<'t>],
+) -> Result<((Lit, Span), &'a [Token<'t>]), Refusal<'a, 't>>
     ensures ok { IfOk result (λ p. Reads Part.Lit ts.now p.0 p.1.now) }
     ensures other { IfOk result (λ p. (IsBoundAhead ts.now → ⊥) → Reads Part.Other ts.now p.0 p.1.now) }
     ensures refused { IfErr result (RefusedBy (Unfit Part.Lit ts.now)) }
@@ -90,7 +92,7 @@ pub fn lit<'a, 't>(ts: &'a [Token<'t>]) -> Result<((Lit, Span), &'a [Token<'t>])
 }
 
 /// Whether a sampling begins here.
-pub fn at_sampling(ts: &[Token]) -> bool
+pub(crate) fn at_sampling(ts: &[Token]) -> bool
     ensures { IsTrue result ↔ IsBegun Part.Sampling ts.now }
 {
     if at(ts, Kind::Mark(Mark::When)) {
@@ -100,7 +102,7 @@ pub fn at_sampling(ts: &[Token]) -> bool
 }
 
 /// `when` and its word, or with true `whenot` and its word.
-pub fn sampling<'a, 't>(
+pub(crate) fn sampling<'a, 't>(
     alloc: Global,
     ts: &'a [Token<'t>],
 ) -> Result<((bool, Word), &'a [Token<'t>]), Refusal<'a, 't>>
@@ -118,7 +120,7 @@ pub fn sampling<'a, 't>(
 }
 
 /// The sign of a comparison at the front.
-pub fn comparison<'a, 't>(ts: &'a [Token<'t>]) -> Option<((Op, Span), &'a [Token<'t>])>
+pub(crate) fn comparison<'a, 't>(ts: &'a [Token<'t>]) -> Option<((Op, Span), &'a [Token<'t>])>
     ensures read { MatchOption result (IsBegun Part.CmpOp ts.now → ⊥) (λ p. IsBegun Part.CmpOp ts.now × Reads Part.CmpOp ts.now p.0 p.1.now) }
     ensures shorter { IfSome result (λ p. length p.1.now < length ts.now) }
 {
@@ -141,7 +143,7 @@ pub fn comparison<'a, 't>(ts: &'a [Token<'t>]) -> Option<((Op, Span), &'a [Token
 }
 
 /// The sign of a sum at the front.
-pub fn sum_sign<'a, 't>(ts: &'a [Token<'t>]) -> Option<((Op, Span), &'a [Token<'t>])>
+pub(crate) fn sum_sign<'a, 't>(ts: &'a [Token<'t>]) -> Option<((Op, Span), &'a [Token<'t>])>
     ensures read { MatchOption result (IsBegun Part.SumOp ts.now → ⊥) (λ p. IsBegun Part.SumOp ts.now × Reads Part.SumOp ts.now p.0 p.1.now) }
     ensures shorter { IfSome result (λ p. length p.1.now < length ts.now) }
 {
@@ -152,7 +154,7 @@ pub fn sum_sign<'a, 't>(ts: &'a [Token<'t>]) -> Option<((Op, Span), &'a [Token<'
 }
 
 /// The sign of a product at the front.
-pub fn product_sign<'a, 't>(ts: &'a [Token<'t>]) -> Option<((Op, Span), &'a [Token<'t>])>
+pub(crate) fn product_sign<'a, 't>(ts: &'a [Token<'t>]) -> Option<((Op, Span), &'a [Token<'t>])>
     ensures read { MatchOption result (IsBegun Part.ProdOp ts.now → ⊥) (λ p. IsBegun Part.ProdOp ts.now × Reads Part.ProdOp ts.now p.0 p.1.now) }
     ensures shorter { IfSome result (λ p. length p.1.now < length ts.now) }
 {
@@ -166,7 +168,7 @@ pub fn product_sign<'a, 't>(ts: &'a [Token<'t>]) -> Option<((Op, Span), &'a [Tok
 }
 
 /// Whether a call's base or arguments begin here.
-pub fn at_applied(ts: &[Token]) -> bool
+pub(crate) fn at_applied(ts: &[Token]) -> bool
     ensures { IsTrue result ↔ IsBegun Part.Applied ts.now }
 {
     if at(ts, Kind::Mark(Mark::At)) {
@@ -176,7 +178,7 @@ pub fn at_applied(ts: &[Token]) -> bool
 }
 
 /// The written base of a call, if one stands here.
-pub fn base<'a, 't>(
+pub(crate) fn base<'a, 't>(
     alloc: Global,
     ts: &'a [Token<'t>],
 ) -> Result<(Option<Word>, &'a [Token<'t>]), Refusal<'a, 't>>
@@ -210,7 +212,7 @@ fn begins_expr(kind: Kind) -> bool
 }
 
 /// Whether an expression begins here.
-pub fn at_expr(ts: &[Token]) -> bool
+pub(crate) fn at_expr(ts: &[Token]) -> bool
     ensures { IsTrue result ↔ IsBegun Part.Args ts.now }
 {
     begins_expr(ahead(ts))

@@ -16,7 +16,7 @@ use lucy_word::Word;
 use std::alloc::Global;
 
 /// The kind of the first token, or the end.
-pub fn ahead(ts: &[Token]) -> Kind
+pub(crate) fn ahead(ts: &[Token]) -> Kind
     ensures { result ≡ first ts.now }
 {
     match ts.first() {
@@ -26,14 +26,14 @@ pub fn ahead(ts: &[Token]) -> Kind
 }
 
 /// Whether a token of this kind is the first.
-pub fn at(ts: &[Token], kind: Kind) -> bool
+pub(crate) fn at(ts: &[Token], kind: Kind) -> bool
     ensures { IsTrue result ↔ first ts.now ≡ kind }
 {
     ahead(ts) == kind
 }
 
 /// The place of a keyword or a sign, and what follows it, where it is the first token.
-pub fn take<'a, 't>(ts: &'a [Token<'t>], mark: Mark) -> Option<(Span, &'a [Token<'t>])>
+pub(crate) fn take<'a, 't>(ts: &'a [Token<'t>], mark: Mark) -> Option<(Span, &'a [Token<'t>])>
     ensures read { MatchOption result (first ts.now ≡ kind.Mark mark → ⊥) (λ p. (t : Token) × Begins ts.now t (kind.Mark mark) p.1.now × (p.0 ≡ t.span)) }
     ensures shorter { IfSome result (λ p. length p.1.now < length ts.now) }
 {
@@ -44,7 +44,7 @@ pub fn take<'a, 't>(ts: &'a [Token<'t>], mark: Mark) -> Option<(Span, &'a [Token
 }
 
 /// An operator's sign with its place, and what follows it, where it is the first token.
-pub fn sign<'a, 't>(
+pub(crate) fn sign<'a, 't>(
     ts: &'a [Token<'t>],
     mark: Mark,
     op: Op,
@@ -57,7 +57,7 @@ pub fn sign<'a, 't>(
 }
 
 /// A keyword or a sign: its place, and what follows it.
-pub fn want<'a, 't>(
+pub(crate) fn want<'a, 't>(
     ts: &'a [Token<'t>],
     mark: Mark,
 ) -> Result<(Span, &'a [Token<'t>]), Refusal<'a, 't>>
@@ -72,7 +72,7 @@ pub fn want<'a, 't>(
 }
 
 /// A name, and what follows it.
-pub fn name<'a, 't>(
+pub(crate) fn name<'a, 't>(
     alloc: Global,
     ts: &'a [Token<'t>],
 ) -> Result<(Name, &'a [Token<'t>]), Refusal<'a, 't>>
@@ -93,7 +93,7 @@ pub fn name<'a, 't>(
 }
 
 /// A word, and what follows it.
-pub fn word<'a, 't>(
+pub(crate) fn word<'a, 't>(
     alloc: Global,
     ts: &'a [Token<'t>],
 ) -> Result<(Word, &'a [Token<'t>]), Refusal<'a, 't>>

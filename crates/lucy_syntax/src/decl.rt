@@ -58,7 +58,7 @@ fn clock<'a, 't>(
 }
 
 /// A declaration.
-pub fn decl<'a, 't>(
+pub(crate) fn decl<'a, 't>(
     alloc: Global,
     ts: &'a [Token<'t>],
 ) -> Result<(Decl, &'a [Token<'t>]), Refusal<'a, 't>>
@@ -86,7 +86,7 @@ fn typing_and_clock<'a, 't>(
 }
 
 /// Declarations with commas between.
-pub fn decls<'a, 't>(
+pub(crate) fn decls<'a, 't>(
     alloc: Global,
     ts: &'a [Token<'t>],
 ) -> Result<(Vec<Decl>, &'a [Token<'t>]), Refusal<'a, 't>>
@@ -105,7 +105,7 @@ pub fn decls<'a, 't>(
 }
 
 /// The parameters of a node.
-pub fn params<'a, 't>(
+pub(crate) fn params<'a, 't>(
     alloc: Global,
     ts: &'a [Token<'t>],
 ) -> Result<(Vec<Decl>, &'a [Token<'t>]), Refusal<'a, 't>>
@@ -166,7 +166,7 @@ fn names<'a, 't>(
 }
 
 /// The results of a node.
-pub fn results<'a, 't>(
+pub(crate) fn results<'a, 't>(
     alloc: Global,
     ts: &'a [Token<'t>],
 ) -> Result<(Vec<Name>, &'a [Token<'t>]), Refusal<'a, 't>>

@@ -23,7 +23,7 @@ use lucy_tree::{Expr, Lit, Name, Span};
 use std::alloc::Global;
 
 /// An expression.
-pub fn expr<'a, 't>(
+pub(crate) fn expr<'a, 't>(
     alloc: Global,
     ts: &'a [Token<'t>],
 ) -> Result<(Expr, &'a [Token<'t>]), Refusal<'a, 't>>
@@ -410,7 +410,7 @@ fn small<'a, 't>(
 }
 
 /// A call.
-pub fn call<'a, 't>(
+pub(crate) fn call<'a, 't>(
     alloc: Global,
     ts: &'a [Token<'t>],
 ) -> Result<(Expr, &'a [Token<'t>]), Refusal<'a, 't>>

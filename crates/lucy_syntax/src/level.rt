@@ -11,7 +11,7 @@ use lucy_tree::Span;
 
 /// What is read with its operators: a sampled operand, and then what binds looser and looser.
 #[derive(Clone, Copy)]
-pub enum Level {
+pub(crate) enum Level {
     Samp,
     Prod,
     Sum,
@@ -35,14 +35,14 @@ impl Level {
     }
 
     /// Whether it binds tighter.
-    pub fn is_below(self, other: Level) -> bool
+    pub(crate) fn is_below(self, other: Level) -> bool
         ensures { IsTrue result ↔ rank self < rank other }
     {
         self.rank() < other.rank()
     }
 
     /// The next level that binds looser.
-    pub fn looser(self) -> Level
+    pub(crate) fn looser(self) -> Level
         ensures { result ≡ spec.looser self }
     {
         match self {
@@ -55,7 +55,7 @@ impl Level {
     }
 
     /// The level after one more operand: the same, but for a comparison, of which there is one alone.
-    pub fn behind(self) -> Level
+    pub(crate) fn behind(self) -> Level
         ensures { result ≡ spec.behind self }
     {
         match self {
@@ -65,7 +65,7 @@ impl Level {
     }
 
     /// The sign at the front between operands of this level.
-    pub fn sign<'a, 't>(self, ts: &'a [Token<'t>]) -> Option<((Op, Span), &'a [Token<'t>])>
+    pub(crate) fn sign<'a, 't>(self, ts: &'a [Token<'t>]) -> Option<((Op, Span), &'a [Token<'t>])>
         ensures read { MatchOption result (NoSignAt self ts.now) (λ p. SignAt self ts.now p.0 p.1.now) }
         ensures shorter { IfSome result (λ p. length p.1.now < length ts.now) }
     {

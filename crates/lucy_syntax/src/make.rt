@@ -12,10 +12,10 @@ use lucy_word::Word;
 use std::alloc::{AllocError, Global};
 
 /// An operator with its place, and the operand to its right.
-pub struct Link {
-    pub op: Op,
-    pub span: Span,
-    pub right: Box<Expr>,
+pub(crate) struct Link {
+    pub(crate) op: Op,
+    pub(crate) span: Span,
+    pub(crate) right: Box<Expr>,
 }
 
 fn boxed(alloc: Global, expr: Expr) -> Result<Box<Expr>, AllocError>
@@ -25,14 +25,14 @@ fn boxed(alloc: Global, expr: Expr) -> Result<Box<Expr>, AllocError>
 }
 
 /// A literal alone.
-pub fn literal(alloc: Global, lit: Lit, span: Span) -> Result<Box<Expr>, AllocError>
+pub(crate) fn literal(alloc: Global, lit: Lit, span: Span) -> Result<Box<Expr>, AllocError>
     ensures { IfOk result (λ e. tree_of e.value ≡ literal lit span) }
 {
     boxed(alloc, Expr::Lit { lit, span })
 }
 
 /// A name alone.
-pub fn variable(alloc: Global, name: Name) -> Result<Box<Expr>, AllocError>
+pub(crate) fn variable(alloc: Global, name: Name) -> Result<Box<Expr>, AllocError>
     ensures { IfOk result (λ e. tree_of e.value ≡ variable name) }
 {
     boxed(alloc, Expr::Var { name })
@@ -47,7 +47,7 @@ fn operator(alloc: Global, op: Op, args: Vec<Expr>, span: Span) -> Result<Box<Ex
 }
 
 /// `left op right`
-pub fn linked(alloc: Global, left: Box<Expr>, link: Link) -> Result<Box<Expr>, AllocError>
+pub(crate) fn linked(alloc: Global, left: Box<Expr>, link: Link) -> Result<Box<Expr>, AllocError>
     ensures { IfOk result (λ e. tree_of e.value ≡ meaning.linked (tree_of left.value) (link_of link)) }
 {
     let Link { op, span, right } = link;
@@ -57,7 +57,7 @@ pub fn linked(alloc: Global, left: Box<Expr>, link: Link) -> Result<Box<Expr>, A
 }
 
 /// `if test then yes else other`
-pub fn choice(
+pub(crate) fn choice(
     alloc: Global,
     test: Box<Expr>,
     then: Box<Expr>,
@@ -73,7 +73,11 @@ pub fn choice(
 }
 
 /// `not operand`
-pub fn negation(alloc: Global, operand: Box<Expr>, span: Span) -> Result<Box<Expr>, AllocError>
+pub(crate) fn negation(
+    alloc: Global,
+    operand: Box<Expr>,
+    span: Span,
+) -> Result<Box<Expr>, AllocError>
     ensures { IfOk result (λ e. tree_of e.value ≡ operator op.Not (more (tree_of operand.value) no_more) span) }
 {
     let args = one_boxed(alloc, operand)?;
@@ -81,7 +85,7 @@ pub fn negation(alloc: Global, operand: Box<Expr>, span: Span) -> Result<Box<Exp
 }
 
 /// `host name (one, two)`
-pub fn hosted(
+pub(crate) fn hosted(
     alloc: Global,
     name: Name,
     one: Box<Expr>,
@@ -96,7 +100,7 @@ pub fn hosted(
 }
 
 /// `operand when word`, or with `flip` `operand whenot word`
-pub fn sampled(
+pub(crate) fn sampled(
     alloc: Global,
     flip: bool,
     operand: Box<Expr>,
@@ -115,7 +119,7 @@ pub fn sampled(
 }
 
 /// `merge word one zero`
-pub fn merged(
+pub(crate) fn merged(
     alloc: Global,
     word: Word,
     one: Box<Expr>,
@@ -136,7 +140,7 @@ pub fn merged(
 }
 
 /// `first fby operand`
-pub fn followed(
+pub(crate) fn followed(
     alloc: Global,
     first: Lit,
     operand: Box<Expr>,
@@ -155,7 +159,7 @@ pub fn followed(
 }
 
 /// `buffer operand`, or with a written bound `buffer most (operand)`
-pub fn buffered(
+pub(crate) fn buffered(
     alloc: Global,
     most: Option<u64>,
     operand: Box<Expr>,
@@ -174,7 +178,7 @@ pub fn buffered(
 }
 
 /// `node at word (args)`
-pub fn called(
+pub(crate) fn called(
     alloc: Global,
     node: Name,
     at: Option<Word>,
@@ -187,7 +191,7 @@ pub fn called(
 }
 
 /// A list of one entry.
-pub fn one<T: Drop>(alloc: Global, entry: T) -> Result<Vec<T>, AllocError>
+pub(crate) fn one<T: Drop>(alloc: Global, entry: T) -> Result<Vec<T>, AllocError>
     ensures { IfOk result (λ list. list.items ≡ entry ∷ []) }
 {
     let mut list = Vec::new(alloc);
@@ -196,7 +200,7 @@ pub fn one<T: Drop>(alloc: Global, entry: T) -> Result<Vec<T>, AllocError>
 }
 
 /// One more entry of a list.
-pub fn push<T: Drop>(list: &mut Vec<T>, next: T) -> Result<(), AllocError>
+pub(crate) fn push<T: Drop>(list: &mut Vec<T>, next: T) -> Result<(), AllocError>
     ensures { OnOk result (list.new.items ≡ list.old.items ++ next ∷ []) }
 {
     list.push(next)?;
@@ -204,14 +208,14 @@ pub fn push<T: Drop>(list: &mut Vec<T>, next: T) -> Result<(), AllocError>
 }
 
 /// A list of one expression.
-pub fn one_boxed(alloc: Global, entry: Box<Expr>) -> Result<Vec<Expr>, AllocError>
+pub(crate) fn one_boxed(alloc: Global, entry: Box<Expr>) -> Result<Vec<Expr>, AllocError>
     ensures { IfOk result (λ list. list.items ≡ entry.value ∷ []) }
 {
     one(alloc, Box::into_inner(entry))
 }
 
 /// One more expression of a list.
-pub fn push_boxed(list: &mut Vec<Expr>, next: Box<Expr>) -> Result<(), AllocError>
+pub(crate) fn push_boxed(list: &mut Vec<Expr>, next: Box<Expr>) -> Result<(), AllocError>
     ensures { OnOk result (list.new.items ≡ list.old.items ++ next.value ∷ []) }
 {
     push(list, Box::into_inner(next))

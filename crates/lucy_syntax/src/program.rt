@@ -153,7 +153,7 @@ fn node<'a, 't>(
 }
 
 /// The nodes of a program.
-pub fn nodes<'a, 't>(
+pub(crate) fn nodes<'a, 't>(
     alloc: Global,
     ts: &'a [Token<'t>],
 ) -> Result<(Vec<Node>, &'a [Token<'t>]), Refusal<'a, 't>>

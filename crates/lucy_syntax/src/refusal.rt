@@ -6,7 +6,7 @@ use lucy_token::Token;
 use std::alloc::AllocError;
 
 /// The first of these tokens doesn't fit, or memory ran out.
-pub enum Refusal<'a, 't> {
+pub(crate) enum Refusal<'a, 't> {
     At(&'a [Token<'t>]),
     OutOfMemory,
 }

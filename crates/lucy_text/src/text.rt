@@ -21,10 +21,8 @@ impl Text {
     pub fn new(alloc: Global, bytes: &[u8]) -> Result<Text, OutOfMemory>
         ensures { IfOk result (λ text. text ≡ bytes.now) }
     {
-        match bytes.to_vec(alloc) {
-            Ok(bytes) => Ok(Text { bytes }),
-            Err(_) => Err(OutOfMemory),
-        }
+        let bytes = bytes.to_vec(alloc)?;
+        Ok(Text { bytes })
     }
 
     /// The bytes.

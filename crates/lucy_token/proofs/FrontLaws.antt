@@ -10,6 +10,8 @@ use Rattle.std.proofs.lemmas.Slice.Eq.{bytes_eq-Decides}
 use Rattle.std.proofs.lemmas.List.{length-take-le}
 use Rattle.std.proofs.lemmas.List.Sums.{prefix_len-le-length}
 use Rattle.std.proofs.lemmas.Str.Parse.{tells_digits}
+use Rattle.lucy_word.specs.Stages.{is_decimal}
+use Rattle.lucy_fields.specs.Fields.{is_blank}
 use Rattle.lucy_token.specs.declared.mark.Mark.{Mark}
 use Rattle.lucy_token.specs.declared.token.Kind.{Kind}
 use Rattle.lucy_token.specs.declared.token.Kind.TheVariants as kind
@@ -17,7 +19,7 @@ use Rattle.lucy_token.specs.declared.front.Front.{Front}
 use Rattle.lucy_token.specs.declared.front.Front.TheVariants.{Gap, Token, Bad}
 use Rattle.lucy_token.specs.Marks.{spelling, keywords, signs}
 use Rattle.lucy_token.specs.Before.{nearest, wants_word, operand_begins}
-use Rattle.lucy_token.specs.Fronts.{head, close_of, begins_gap, gap_of, plain_front, front_of, minus_of, is_letter, is_decimal, is_name_byte, is_blank, sign_in, named_in}
+use Rattle.lucy_token.specs.Fronts.{head, close_of, begins_gap, gap_of, plain_front, front_of, minus_of, is_letter, is_name_byte, sign_in, named_in}
 use Rattle.lucy_token.specs.Scans.{word_front, scanned_front}
 use Rattle.lucy_token.specs.States.{State, begins_operand}
 use Rattle.lucy_token.specs.Steps.{front_in, IsTokenOf}

@@ -6,13 +6,15 @@ use Rattle.std.proofs.lemmas.Bool.{cases_Bool, and_parts, or_cases, or_from, not
 use Rattle.std.proofs.lemmas.Fmt.{decimal_is_IsNumeral}
 use Rattle.lucy_word.specs.Bits.{Bits}
 use Rattle.lucy_word.specs.Spelling.{text_of, Spells}
+use Rattle.lucy_word.specs.Stages.{is_decimal}
+use Rattle.lucy_fields.specs.Fields.{is_blank}
 use Rattle.lucy_token.proofs.WordFronts.{form_head}
 use Rattle.lucy_token.specs.declared.mark.Mark.{Mark}
 use Rattle.lucy_token.specs.declared.mark.Mark.TheVariants as mark
 use Rattle.lucy_token.specs.declared.token.Kind.{Kind}
 use Rattle.lucy_token.specs.declared.token.What.{What}
 use Rattle.lucy_token.specs.declared.token.What.TheVariants as what
-use Rattle.lucy_token.specs.Fronts.{head, is_blank, is_letter, is_decimal, is_name_byte}
+use Rattle.lucy_token.specs.Fronts.{head, is_letter, is_name_byte}
 use Rattle.lucy_token.specs.Written.{IsNameText}
 use Rattle.lucy_token.specs.Spelled.{text_of_what, Printed, bytes_of, all_blank, none_of, is_keyword, mark_ends, ends_before, runs_on, is_minus, apart, apart_from, IsSpelled}
 use Rattle.lucy_token.proofs.PrintFronts.{letter_high, low_no_letter, decimal_range, first_decimal, keyword_end_is, head_spelling}
@@ -55,12 +57,12 @@ low_ends (what.Word w) c h = refl
 
 blank_low : (c : ℕ) → is_blank c ≡ true → c < 40
 blank_low c h =
-    elim (or_cases ((c == 32 || c == 9) || c == 10) (c == 13) h) [
-      | inl a ↦ elim (or_cases (c == 32 || c == 9) (c == 10) a) [
+    elim (or_cases ((c == 32 || c == 9) || c == 13) (c == 10) h) [
+      | inl a ↦ elim (or_cases (c == 32 || c == 9) (c == 13) a) [
         | inl b ↦ elim (or_cases (c == 32) (c == 9) b) [ inl d ↦ omega (arith, eqb-true c 32 d) | inr d ↦ omega (arith, eqb-true c 9 d) ]
-        | inr b ↦ omega (arith, eqb-true c 10 b)
+        | inr b ↦ omega (arith, eqb-true c 13 b)
       ]
-      | inr a ↦ omega (arith, eqb-true c 13 a)
+      | inr a ↦ omega (arith, eqb-true c 10 a)
     ]
 
 pub blanks_end : (w : What) (bytes : List ℕ) → all_blank bytes ≡ true → ends_before w (head bytes) ≡ true

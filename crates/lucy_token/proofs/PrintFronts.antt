@@ -7,12 +7,14 @@ use Rattle.std.proofs.lemmas.Bool.{cases_Bool, cond-true, cond-false, and_right,
 use Rattle.std.proofs.lemmas.List.Elements.{recursion_from_All}
 use Rattle.std.proofs.lemmas.Str.Parse.{tells_digits}
 use Rattle.std.proofs.Math.Seq.{take-append_seam}
+use Rattle.lucy_word.specs.Stages.{is_decimal}
+use Rattle.lucy_fields.specs.Fields.{is_blank}
 use Rattle.lucy_token.specs.declared.mark.Mark.{Mark}
 use Rattle.lucy_token.specs.declared.mark.Mark.TheVariants as mark
 use Rattle.lucy_token.specs.declared.token.Kind.TheVariants as kind
 use Rattle.lucy_token.specs.declared.front.Front.TheVariants.{Token}
 use Rattle.lucy_token.specs.Marks.{spelling, keywords, signs}
-use Rattle.lucy_token.specs.Fronts.{head, is_blank, is_letter, is_decimal, is_name_byte, begins_gap, plain_front, minus_of, sign_in, named_in}
+use Rattle.lucy_token.specs.Fronts.{head, is_letter, is_name_byte, begins_gap, plain_front, minus_of, sign_in, named_in}
 use Rattle.lucy_token.specs.Written.{IsNameText}
 use Rattle.lucy_token.specs.Spelled.{is_keyword, mark_ends}
 
@@ -47,11 +49,11 @@ pub no_gap : (c : ℕ) (rest : List ℕ) → 40 < c → begins_gap (c ∷ rest) 
 no_gap c rest h =
     let a : (c == 32) ≡ false = ne_eqb c 32 (λ e. omega (arith, e)) in
     let b : (c == 9) ≡ false = ne_eqb c 9 (λ e. omega (arith, e)) in
-    let d : (c == 10) ≡ false = ne_eqb c 10 (λ e. omega (arith, e)) in
-    let f : (c == 13) ≡ false = ne_eqb c 13 (λ e. omega (arith, e)) in
+    let d : (c == 13) ≡ false = ne_eqb c 13 (λ e. omega (arith, e)) in
+    let f : (c == 10) ≡ false = ne_eqb c 10 (λ e. omega (arith, e)) in
     let g : (c == 40) ≡ false = ne_eqb c 40 (λ e. omega (arith, e)) in
     or_from (is_blank c) ((c == 40) && (head (drop 1 (c ∷ rest)) == 42))
-    (or_from ((c == 32 || c == 9) || c == 10) (c == 13) (or_from (c == 32 || c == 9) (c == 10) (or_from (c == 32) (c == 9) a b) d) f)
+    (or_from ((c == 32 || c == 9) || c == 13) (c == 10) (or_from (c == 32 || c == 9) (c == 13) (or_from (c == 32) (c == 9) a b) d) f)
     (and_left (c == 40) (head (drop 1 (c ∷ rest)) == 42) g)
 
 -- a name or a keyword

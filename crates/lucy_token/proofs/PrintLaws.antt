@@ -12,6 +12,7 @@ use Rattle.std.proofs.lemmas.List.{append-nil}
 use Rattle.std.proofs.lemmas.Fmt.{decimal_is_IsNumeral}
 use Rattle.std.proofs.lemmas.Str.Parse.{tells_digits}
 use Rattle.lucy_word.specs.Spelling.{spelled, text_of}
+use Rattle.lucy_fields.specs.Fields.{is_blank}
 use Rattle.lucy_token.specs.declared.mark.Mark.{Mark}
 use Rattle.lucy_token.specs.declared.mark.Mark.TheVariants as mark
 use Rattle.lucy_token.specs.declared.token.Kind.{Kind}
@@ -25,7 +26,7 @@ use Rattle.lucy_token.specs.declared.stop.Stop.TheVariants.{End}
 use Rattle.lucy_token.specs.Tokens.{kind_of}
 use Rattle.lucy_token.specs.Marks.{spelling}
 use Rattle.lucy_token.specs.Before.{nearest, wants_word, operand_begins}
-use Rattle.lucy_token.specs.Fronts.{head, is_blank, is_name_byte, begins_gap, gap_of, close_of, plain_front, front_of}
+use Rattle.lucy_token.specs.Fronts.{head, is_name_byte, begins_gap, gap_of, close_of, plain_front, front_of}
 use Rattle.lucy_token.specs.Scans.{word_front, scanned_front, Scans, ends, gap, token}
 use Rattle.lucy_token.specs.Contents.{Contains}
 use Rattle.lucy_token.specs.Cuts.{token_at}

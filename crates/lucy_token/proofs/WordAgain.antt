@@ -7,9 +7,9 @@ use Rattle.lucy_token.specs.declared.token.What.{What}
 use Rattle.lucy_token.specs.declared.token.What.TheVariants as what
 use Rattle.lucy_token.specs.Written.{IsWritten}
 use Rattle.lucy_token.specs.Spelled.{IsSpelled}
-use Rattle.lucy_word.specs.Bits.{Bits, bit_at, ones_in, bit_count, most_written}
+use Rattle.lucy_word.specs.Bits.{Bits, bit_at, ones_in, bit_count}
 use Rattle.lucy_word.specs.Spelling.{text_of}
-use Rattle.lucy_word.specs.Shortest.{Same, IsShortest, IsShortForm}
+use Rattle.lucy_word.specs.Shortest.{Same, IsShortForm}
 use Rattle.lucy_word.specs.Reading.{IsReadable}
 use Rattle.lucy_word.proofs.BitsLaws.{bit_at-prefix, bit_at-period, bit_at-turn}
 use Rattle.lucy_word.proofs.RunLaws.{text_spells}
@@ -116,16 +116,6 @@ readable_again bytes w r =
       one_by_same bits w form.same form.nonempty r.3,
       record { nonempty = form.nonempty; same = λ i h. refl; shortest = form.shortest },
     )
-
--- a word in shortest form that is no longer than a written one may be
-pub readable_short : (w : Bits) → 0 < length w.period → bit_count w ≤ most_written → 0 < ones_in w.period → IsShortest w → IsReadable (text_of w) w
-readable_short w some short one shortest = (
-  w,
-  text_spells w (omega (arith, short)) (omega (arith, short)) some,
-  short,
-  one,
-  record { nonempty = some; same = λ i h. refl; shortest = shortest },
-)
 
 -- what stands in a text can be read again from how it is printed
 pub spelled_again : (before : Kind) (w : What) → IsWritten before w → IsSpelled before w

@@ -6,6 +6,8 @@ use Rattle.std.specs.Str.{bytes_eq}
 use Rattle.std.proofs.lemmas.Bool.{cond_both, or_left}
 use Rattle.std.proofs.lemmas.List.{get_or-take, length-take-le}
 use Rattle.std.proofs.lemmas.List.Sums.{prefix_len-le-length, prefix_len_passes}
+use Rattle.lucy_word.specs.Stages.{is_decimal}
+use Rattle.lucy_fields.specs.Fields.{is_blank}
 use Rattle.lucy_token.specs.declared.mark.Mark.{Mark}
 use Rattle.lucy_token.specs.declared.token.Kind.{Kind}
 use Rattle.lucy_token.specs.declared.token.Kind.TheVariants as kind
@@ -17,7 +19,7 @@ use Rattle.lucy_token.specs.declared.stop.Stop.{Stop}
 use Rattle.lucy_token.specs.declared.stop.Stop.TheVariants.{End}
 use Rattle.lucy_token.specs.Marks.{spelling, keywords, signs}
 use Rattle.lucy_token.specs.Before.{nearest, wants_word, operand_begins}
-use Rattle.lucy_token.specs.Fronts.{head, begins_gap, gap_of, close_of, is_blank, plain_front, front_of, minus_of, is_letter, is_decimal, is_name_byte, sign_in, named_in}
+use Rattle.lucy_token.specs.Fronts.{head, begins_gap, gap_of, close_of, plain_front, front_of, minus_of, is_letter, is_name_byte, sign_in, named_in}
 use Rattle.lucy_token.specs.Scans.{word_front, scanned_front, Scans, ends, gap, bad, passed, past_last, malformed, token}
 use Rattle.lucy_token.specs.Contents.{Contains}
 use Rattle.lucy_token.specs.Written.{IsNameText, IsWritten, AreWritten, InOrder}

@@ -5,6 +5,8 @@ use Rattle.std.specs.List.{prefix_len}
 use Rattle.std.specs.Str.{bytes_eq}
 use Rattle.lucy_word.specs.Items.{Form, form_text, IsForm}
 use Rattle.lucy_word.specs.Forms.{BeginsForm}
+use Rattle.lucy_word.specs.Stages.{is_decimal}
+use Rattle.lucy_fields.specs.Fields.{is_blank}
 use Rattle.lucy_token.specs.declared.mark.Mark.{Mark}
 use Rattle.lucy_token.specs.declared.token.Kind.{Kind}
 use Rattle.lucy_token.specs.declared.token.Kind.TheVariants as kind
@@ -13,17 +15,9 @@ use Rattle.lucy_token.specs.declared.front.Front.TheVariants.{Gap, Token, Bad}
 use Rattle.lucy_token.specs.Marks.{spelling, keywords, signs}
 use Rattle.lucy_token.specs.Before.{nearest, wants_word, operand_begins}
 
--- space, tab, line feed or carriage return
-abbrev pub is_blank : ℕ → Bool
-is_blank c = c == 32 || c == 9 || c == 10 || c == 13
-
 -- a letter or `_`
 abbrev pub is_letter : ℕ → Bool
 is_letter c = (nat_le 97 c && nat_le c 122) || (nat_le 65 c && nat_le c 90) || c == 95
-
--- a digit
-abbrev pub is_decimal : ℕ → Bool
-is_decimal c = nat_le 48 c && nat_le c 57
 
 -- a byte that a name may have behind its first one
 abbrev pub is_name_byte : ℕ → Bool

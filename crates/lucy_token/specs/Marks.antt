@@ -1,5 +1,7 @@
 -- Keywords and signs, and how they are spelled.
 use Rattle.std.specs.Prelude.{ℕ, List, [], ◌∷◌, codes}
+use Rattle.lucy_host.specs.declared.op.Op.{Op}
+use Rattle.lucy_host.specs.declared.op.Op.TheVariants as op
 use Rattle.lucy_token.specs.declared.mark.Mark.{Mark}
 use Rattle.lucy_token.specs.declared.mark.Mark.TheVariants as mark
 
@@ -52,3 +54,21 @@ keywords = mark.Let ∷ mark.Node ∷ mark.Where ∷ mark.Rec ∷ mark.And ∷ m
 -- the signs, those of two bytes before those of one
 abbrev pub signs : List Mark
 signs = mark.Colons ∷ mark.Same ∷ mark.Differs ∷ mark.AtMost ∷ mark.AtLeast ∷ mark.Both ∷ mark.Either ∷ mark.Open ∷ mark.Close ∷ mark.Comma ∷ mark.Colon ∷ mark.Equals ∷ mark.Less ∷ mark.Greater ∷ mark.Plus ∷ mark.Minus ∷ mark.Star ∷ mark.Slash ∷ mark.Percent ∷ []
+
+-- the sign of an operator, or its first keyword
+abbrev pub op_mark : Op → Mark
+op_mark op.Add = mark.Plus
+op_mark op.Sub = mark.Minus
+op_mark op.Mul = mark.Star
+op_mark op.Div = mark.Slash
+op_mark op.Rem = mark.Percent
+op_mark op.Eq = mark.Same
+op_mark op.Ne = mark.Differs
+op_mark op.Lt = mark.Less
+op_mark op.Le = mark.AtMost
+op_mark op.Gt = mark.Greater
+op_mark op.Ge = mark.AtLeast
+op_mark op.And = mark.Both
+op_mark op.Or = mark.Either
+op_mark op.Not = mark.Not
+op_mark op.If = mark.If

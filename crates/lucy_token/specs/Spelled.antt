@@ -4,6 +4,8 @@ use Rattle.std.specs.Fmt.{signed_decimal}
 use Rattle.std.specs.Int.{w64}
 use mir.Val.{SFits as FitsSigned}
 use Rattle.lucy_word.specs.Spelling.{text_of}
+use Rattle.lucy_word.specs.Stages.{is_decimal}
+use Rattle.lucy_fields.specs.Fields.{is_blank}
 use Rattle.lucy_token.specs.declared.mark.Mark.{Mark}
 use Rattle.lucy_token.specs.declared.mark.Mark.TheVariants as mark
 use Rattle.lucy_token.specs.declared.token.Kind.{Kind}
@@ -13,7 +15,7 @@ use Rattle.lucy_token.specs.declared.token.Token.{Token}
 use Rattle.lucy_token.specs.Tokens.{kind_of}
 use Rattle.lucy_token.specs.Marks.{spelling}
 use Rattle.lucy_token.specs.Before.{nearest, wants_word, operand_begins, limit_at, is_entry_past}
-use Rattle.lucy_token.specs.Fronts.{head, is_blank, is_letter, is_decimal, is_name_byte}
+use Rattle.lucy_token.specs.Fronts.{head, is_letter, is_name_byte}
 use Rattle.lucy_token.specs.Contents.{IsWordAfter}
 use Rattle.lucy_token.specs.Written.{IsNameText}
 use Rattle.lucy_token.specs.Cuts.{token_at}
@@ -49,10 +51,12 @@ placed from [] = []
 placed from (p ∷ ps) =
     token_at p.what (from + length p.blanks) (length (text_of_what p.what)) ∷ placed (from + length p.blanks + length (text_of_what p.what)) ps
 
+-- every byte is a blank
 abbrev pub all_blank : List ℕ → Bool
 all_blank [] = true
 all_blank (c ∷ bytes) = is_blank c && all_blank bytes
 
+-- the mark is spelled in letters
 abbrev pub is_keyword : Mark → Bool
 is_keyword m = is_letter (head (spelling m))
 
@@ -79,6 +83,7 @@ runs_on (what.Mark m) = is_keyword m
 runs_on (what.Word w) = false
 runs_on w = true
 
+-- the token is a `-`
 abbrev pub is_minus : What → Bool
 is_minus (what.Mark mark.Minus) = true
 is_minus w = false
@@ -110,10 +115,12 @@ joins [] qs = true
 joins (p ∷ []) qs = apart_from p.what qs
 joins (p ∷ (r ∷ ps)) qs = joins (r ∷ ps) qs
 
+-- the token is a word
 abbrev pub is_word : What → Bool
 is_word (what.Word w) = true
 is_word w = false
 
+-- the token is a number below 0
 abbrev pub is_negative : What → Bool
 is_negative (what.Number (negsuc n)) = true
 is_negative w = false
@@ -138,11 +145,6 @@ pub record Stands (ks : List Kind) (w : What) : Type 0 where
 abbrev pub AllStand : List Kind → List What → Type 0
 AllStand ks [] = Unit {0}
 AllStand ks (w ∷ ws) = Stands ks w × AllStand (kind_of w ∷ ks) ws
-
--- the kinds of these tokens before those before them
-abbrev pub after_all : List Kind → List What → List Kind
-after_all ks [] = ks
-after_all ks (w ∷ ws) = after_all (kind_of w ∷ ks) ws
 
 -- behind tokens of these kinds these may stand so in print
 pub record Follows (ks : List Kind) (ps : List Printed) : Type 0 where

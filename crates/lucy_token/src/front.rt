@@ -1,6 +1,7 @@
 // What stands at the front of a text.
 ghost use Rattle.std.specs.Prelude.{◌≡◌, ◌==◌, ◌&&◌, ◌+◌, ◌<◌, ◌≤◌, length, drop, IfSome};
 ghost use Rattle.std.specs.List.{prefix_len};
+ghost use Rattle.lucy_word.specs.Stages.{is_decimal};
 ghost use Rattle.lucy_token.specs.Steps.{front_in};
 ghost use Rattle.lucy_token.specs.Fronts as spec;
 ghost use Rattle.lucy_token.specs.Scans as scan;
@@ -8,6 +9,7 @@ ghost use Rattle.lucy_token.specs.Scans as scan;
 use crate::mark::{KEYWORDS, Mark, SIGNS};
 use crate::state::{Context, wants_word};
 use crate::token::Kind;
+use lucy_fields::is_blank;
 use lucy_word::Stage;
 
 /// What stands at the front of a text: so many bytes between tokens, a token of a kind and a number of bytes, or, after
@@ -19,12 +21,6 @@ pub enum Front {
     Bad(usize),
 }
 
-fn is_blank(c: u8) -> bool
-    ensures { result ≡ spec.is_blank c }
-{
-    c == b' ' || c == b'\t' || c == b'\n' || c == b'\r'
-}
-
 /// Whether it is a letter or `_`.
 pub(crate) fn is_letter(c: u8) -> bool
     ensures { result ≡ spec.is_letter c }
@@ -33,7 +29,7 @@ pub(crate) fn is_letter(c: u8) -> bool
 }
 
 fn is_decimal(c: u8) -> bool
-    ensures { result ≡ spec.is_decimal c }
+    ensures { result ≡ is_decimal c }
 {
     b'0' <= c && c <= b'9'
 }
@@ -53,7 +49,7 @@ pub(crate) fn name_len(text: &[u8]) -> usize
 }
 
 fn number_len(text: &[u8]) -> usize
-    ensures value { result ≡ prefix_len spec.is_decimal text.now }
+    ensures value { result ≡ prefix_len is_decimal text.now }
     ensures within { result ≤ length text.now }
 {
     text.iter().take_while(|c| is_decimal(**c)).count()

@@ -1,8 +1,9 @@
 //! The tokens of a program text: keywords, signs, names, numbers and words, each with its place, and why they stop.
 //!
-//! It stands on `lucy_word` and `lucy_tree`. Begin with `Token` in `token.rt` and `tokens` in `scan.rt`, and with
-//! `specs/Cuts.antt`, which says what it is to cut a text into tokens. `specs/Written.antt` says what is known of the
-//! tokens of a text without a fault, and `specs/Spelled.antt` how tokens stand in print. `name.rt` tells whether bytes are a name.
+//! It stands on `lucy_word`, `lucy_host` and `lucy_tree`, and on `lucy_fields` for blanks. Begin with `Token` in `token.rt` and
+//! `tokens` in `scan.rt`, and with `specs/Cuts.antt`, which says what it is to cut a text into tokens. `specs/Written.antt` says
+//! what is known of the tokens of a text without a fault, and `specs/Spelled.antt` how tokens stand in print. `name.rt` tells
+//! whether bytes are a name.
 #![tactic(auto)]
 
 mod content;
@@ -17,7 +18,7 @@ mod token;
 
 pub use front::Front;
 pub use laws::{texts_have_one_cut, words_end_with_their_form};
-pub use mark::Mark;
+pub use mark::{Mark, op_mark, sign_of};
 pub use name::is_name;
 pub use scan::tokens;
 pub use state::{Level, Side};

@@ -1,6 +1,8 @@
 ghost use Rattle.std.specs.Prelude.{◌≡◌};
 ghost use Rattle.lucy_token.specs.Marks as spec;
 
+use lucy_host::Op;
+
 /// A keyword or a sign: a token that is always spelled the same.
 #[derive(Clone, Copy, Debug, PartialEq, Eq)]
 pub enum Mark {
@@ -111,6 +113,36 @@ impl Mark {
             Mark::Either => "||",
         }
     }
+}
+
+/// The sign of an operator, or its first keyword.
+pub fn op_mark(op: Op) -> Mark
+    ensures { result ≡ spec.op_mark op }
+{
+    match op {
+        Op::Add => Mark::Plus,
+        Op::Sub => Mark::Minus,
+        Op::Mul => Mark::Star,
+        Op::Div => Mark::Slash,
+        Op::Rem => Mark::Percent,
+        Op::Eq => Mark::Same,
+        Op::Ne => Mark::Differs,
+        Op::Lt => Mark::Less,
+        Op::Le => Mark::AtMost,
+        Op::Gt => Mark::Greater,
+        Op::Ge => Mark::AtLeast,
+        Op::And => Mark::Both,
+        Op::Or => Mark::Either,
+        Op::Not => Mark::Not,
+        Op::If => Mark::If,
+    }
+}
+
+/// The sign of an operator, or its first keyword, as it is spelled.
+pub fn sign_of(op: Op) -> &'static str
+    ensures { result.now ≡ spec.spelling (spec.op_mark op) }
+{
+    op_mark(op).text()
 }
 
 /// The keywords.

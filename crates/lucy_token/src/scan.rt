@@ -14,7 +14,7 @@ use crate::stop::{Stop, SyntaxError};
 use crate::token::{Kind, Piece, Token, Tokens, What};
 use lucy_tree::Span;
 use lucy_word::{Limit, OutOfMemory};
-use std::alloc::{AllocError, Global};
+use std::alloc::Global;
 
 // One step in the cutting of a text: so many bytes between tokens; a token, of a kind and so many bytes, after which it
 // goes on; one after which it stops, and why; or why it stops here.
@@ -69,10 +69,8 @@ fn next_step<'a>(context: &Context, text: &'a [u8], from: usize) -> Step<'a>
 fn add<'a>(list: &mut Vec<Token<'a>>, token: Token<'a>) -> Result<(), OutOfMemory>
     ensures { OnOk result (list.new.items ≡ list.old.items ++ token.entry ∷ []) }
 {
-    match list.push(token) {
-        Ok(()) => Ok(()),
-        Err(e) => Err(AllocError::from(e).into()),
-    }
+    list.push(token)?;
+    Ok(())
 }
 
 /// The tokens of a program text, which has at most 1,048,576 bytes, and why they stop: at the text's end, or at the first

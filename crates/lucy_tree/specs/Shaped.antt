@@ -25,6 +25,7 @@ IsBound None = Unit {0}
 IsBound (Some n) = n ≤ most_bound
 
 abbrev mutual
+  -- each operator in the tree has as many operands as it takes, each word that must have a zero has one, and each bound is one
   pub IsShaped : Tree → Type 0
   IsShaped (literal l span) = Unit {0}
   IsShaped (variable name) = Unit {0}
@@ -36,10 +37,12 @@ abbrev mutual
   IsShaped (buffered most e span) = IsBound most × IsShaped e
   IsShaped (call name at args) = AreShaped args
 
+  -- and so of each tree of a list
   pub AreShaped : Trees → Type 0
   AreShaped no_more = Unit {0}
   AreShaped (more t ts) = IsShaped t × AreShaped ts
 
+-- the tree is a call
 abbrev pub IsCall : Tree → Type 0
 IsCall (call name at args) = Unit {0}
 IsCall _ = ⊥
@@ -50,13 +53,16 @@ Defines [] e = ⊥
 Defines (d ∷ []) e = Unit {0}
 Defines (d ∷ e ∷ ds) right = IsCall right
 
+-- the right side has its shape, and defines as many names as stand left
 pub record IsShapedDef (d : DefTree) : Type 0 where
   pub right : IsShaped d.right
   pub defines : Defines d.left d.right
 
+-- each definition of the node has its shape
 abbrev pub IsShapedNode : NodeTree → Type 0
 IsShapedNode n = AllByRecursion IsShapedDef n.defs
 
+-- each node has its shape, and there is one, but no more than the limit
 pub record IsShapedProgram (p : ProgramTree) : Type 0 where
   pub nodes : AllByRecursion IsShapedNode p
   pub some : 0 < length p

@@ -9,7 +9,6 @@ use Rattle.lucy_word.specs.Shortest.{Same, IsShortest}
 use Rattle.lucy_word.specs.Stored.{IsStored}
 use Rattle.lucy_word.specs.Complement.{IsComplement, turned}
 use Rattle.lucy_word.proofs.BitsLaws.{bit_at-prefix, bit_at-period, ones_to-none, ones_to-more}
-use Rattle.lucy_word.proofs.ShortLaws.{shortest_one}
 
 -- what is no one is one when it is turned
 pub ones_in-turned : (bits : List Bool) → ones_in (map not bits) + ones_in bits ≡ length bits
@@ -52,10 +51,6 @@ turned_back : (w v : Bits) → 0 < length w.period → 0 < length v.period → S
 turned_back w v some_w some_v same i h =
     bit_at-turned v i h some_v ∙ ap not (same i h) ∙ ap not (bit_at-turned w i h some_w) ∙ twice (bit_at w i)
 
--- turned twice, a word has its bits again
-pub turned_twice : (w : Bits) → 0 < length w.period → Same (turned (turned w)) w
-turned_twice w some = turned_back w (turned w) some (omega (arith, length-map w.period not)) (λ i h. refl)
-
 -- what is in shortest form is so when it is turned
 pub shortest_turned : (w : Bits) → 0 < length w.period → IsShortest w → IsShortest (turned w)
 shortest_turned w some short = record {
@@ -78,11 +73,6 @@ turned_stored w zero_there is = record {
   short = omega (arith, is.short, length-map w.prefix not, length-map w.period not);
   shortest = shortest_turned w is.nonempty is.shortest;
 }
-
--- so the complement in shortest form is the word turned
-pub complement_one : (w v : Bits) → 0 < length w.period → 0 < length v.period → IsShortest w → IsShortest v → IsComplement w v → v ≡ turned w
-complement_one w v some_w some_v short_w short_v is =
-    shortest_one v (turned w) short_v (shortest_turned w some_w short_w) some_v (omega (arith, length-map w.period not)) (λ i h. is i h ∙ sym (bit_at-turned w i h some_w))
 
 -- each instant has a one of the word or one of its complement
 pub ones_to-complement : (w v : Bits) (t : ℕ) → IsComplement w v → ones_to v t + ones_to w t ≡ t

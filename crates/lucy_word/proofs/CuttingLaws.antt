@@ -184,9 +184,6 @@ pub record Reading (items rest : List ℕ) (bits : List Bool) (is : List Item) :
   pub left : rest ≡ items_text others
   pub whole : bits ++ items_bits others ≡ items_bits is
 
-pub reading_first : (items : List ℕ) (is : List Item) → AllByRecursion IsItem is → items ≡ items_text is → Reading items items [] is
-reading_first items is h e = record { others = is; are = h; left = e; whole = refl }
-
 length_item : (i : Item) (b : Bool) → item_bits i ≡ replicate (times i) b → length (item_bits i) ≡ times i
 length_item i b e = ap length e ∙ length-replicate (times i) b
 
@@ -243,9 +240,6 @@ pub record Summing (items rest : List ℕ) (bits ones : ℕ) (is : List Item) : 
   pub left : rest ≡ items_text others
   pub bits_are : bits + length (items_bits others) ≡ length (items_bits is)
   pub ones_are : ones + ones_in (items_bits others) ≡ ones_in (items_bits is)
-
-pub summing_first : (items : List ℕ) (is : List Item) → AllByRecursion IsItem is → items ≡ items_text is → Summing items items 0 0 is
-summing_first items is h e = record { others = is; are = h; left = e; bits_are = omega arith; ones_are = omega arith }
 
 ones_run : (n : ℕ) (b : Bool) → ones_in (replicate n b) ≡ cond b n 0
 ones_run zero true = refl

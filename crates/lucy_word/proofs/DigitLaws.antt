@@ -31,13 +31,6 @@ digit_again c h =
           ]
     ]
 
-digit_least : (b : Bool) → 48 ≤ digit_of b
-digit_least true = omega arith
-digit_least false = omega arith
-
-pub least_digit : (c : ℕ) → is_digit c ≡ true → 48 ≤ c
-least_digit c h = omega (arith, digit_again c h, digit_least (eqb c 49))
-
 digit_bit : (b : Bool) (c x : ℕ) → c ≡ digit_of b → x ≡ c - 48 → (x < 2) × (is_set x 0 ≡ b)
 digit_bit true c x e is = let one : x ≡ 1 = is ∙ ap (λ n. n - 48) e in (omega arith, ap (λ n. is_set n 0) one)
 digit_bit false c x e is = let none : x ≡ 0 = is ∙ ap (λ n. n - 48) e in (omega arith, ap (λ n. is_set n 0) none)

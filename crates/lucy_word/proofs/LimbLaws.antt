@@ -147,15 +147,6 @@ pub record Deposited (first next at rest bits kept : ℕ) : Type 0 where
   pub below : kept < 2 ^ at
   pub made : (i : ℕ) → i < at → is_set kept i ≡ deposit_bit first next i
 
-pub Deposited-none : (first next : ℕ) → Deposited first next 0 first next 0
-Deposited-none first next = record {
-  within = omega arith;
-  left = omega arith;
-  read = (let none : next / 2 ^ 0 ≡ next = omega arith in sym none ∙ ap (λ k. next / 2 ^ k) (sym (count_ones-none first)));
-  below = omega arith;
-  made = λ i h. absurd (omega arith);
-}
-
 -- once nothing is left, all is made
 pub Deposited-all : (first next at bits kept : ℕ) → Deposited first next at 0 bits kept → (i : ℕ) → is_set kept i ≡ deposit_bit first next i
 Deposited-all first next at bits kept done i =

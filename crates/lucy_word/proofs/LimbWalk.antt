@@ -28,9 +28,6 @@ bit_at-past_more w n i within h =
           ∙ sym (bit_at-prefix w (i + n) (omega arith))
     ]
 
-pub AreNext-none : (w : Bits) → AreNext w 0 0
-AreNext-none w = record { within = omega arith; bits = λ i h. absurd (omega arith) }
-
 -- the first bits of the prefix
 pub AreNext-prefix : (w : Bits) (n limb : ℕ) → n ≤ length w.prefix → limb < 2 ^ n → ((i : ℕ) → i < n → is_set limb i ≡ get_or w.prefix i false) → AreNext w n limb
 AreNext-prefix w n limb within small are = record {

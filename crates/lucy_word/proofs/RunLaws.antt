@@ -137,18 +137,6 @@ run_counted bit n (suc m) bits at within same =
     run_on true n bits = refl
     run_on false n bits = refl
 
--- another bit begins a run
-pub run_ended : (bit : Bool) (n : ℕ) (bits : List Bool) (at : ℕ) → at < length bits → get_or bits at false ≡ not bit →
-    runs_text bit n (drop at bits) ≡ run_text bit n ++ runs_text (not bit) 1 (drop (at + 1) bits)
-run_ended bit n bits at within other =
-    let here : drop at bits ≡ get_or bits at false ∷ drop (suc at) bits = drop-cons bits at false within in
-    let next : suc at ≡ at + 1 = omega arith in
-    ap (runs_text bit n) (here ∙ ap (λ b. b ∷ drop (suc at) bits) other ∙ ap (λ k. not bit ∷ drop k bits) next) ∙ go bit (drop (at + 1) bits)
-  where
-    go : (bit : Bool) (rest : List Bool) → runs_text bit n (not bit ∷ rest) ≡ run_text bit n ++ runs_text (not bit) 1 rest
-    go true rest = refl
-    go false rest = refl
-
 -- the first bit begins the first run
 pub run_first : (bits : List Bool) → 0 < length bits → runs_text (get_or bits 0 false) 1 (drop 1 bits) ≡ spelled bits
 run_first [] some = absurd (omega arith)

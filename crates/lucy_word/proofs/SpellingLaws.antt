@@ -1,5 +1,5 @@
 -- A text has one answer: the word that it spells, or one refusal.
-use Rattle.std.specs.Prelude.{ℕ, ◌<◌, ◌≤◌, ◌≡◌, ◌↔◌, List, length, Option, Some, None, MatchOption, Result, Ok, Err}
+use Rattle.std.specs.Prelude.{ℕ, ◌<◌, ◌≤◌, ◌≡◌, ◌↔◌, List, length, Some, Result, Ok, Err}
 use Rattle.std.proofs.Common.{ap, sym, refl, ◌∙◌, subst, inl, inr, arith}
 use Rattle.std.proofs.lemmas.List.{take_all}
 use Rattle.lucy_word.specs.Bits.{Bits, ones_in, bit_count, most_written}
@@ -116,12 +116,3 @@ has_zero text w g r = (
 
     some_g : 0 < length (form_bits g.form).period
     some_g = omega (arith, ap (λ (b : Bits). ones_in b.period) (spells_one text r.0 (form_bits g.form) r.1 (good_spells text g)), count_by-le-length (λ b. b) (form_bits g.form).period, r.3)
-
--- what holds of an option, by its case
-pub none_says : {A : Type 0} (N : Type 0) (P : A → Type 0) (o : Option A) → MatchOption o N P → o ≡ None → N
-none_says N P None h e = h
-none_says N P (Some a) h e = absurd cc
-
-pub some_says : {A : Type 0} (N : Type 0) (P : A → Type 0) (a : A) (o : Option A) → MatchOption o N P → o ≡ Some a → P a
-some_says N P a None h e = absurd cc
-some_says N P a (Some b) h e = let same : b ≡ a = cc in subst P same h

@@ -22,11 +22,13 @@ abbrev pub opened : Option (List Item) → List Item → Option Partial
 opened None is = Some (going (Some is) [] item)
 opened (Some ps) is = None
 
+-- its `)` is read behind the items of a period
 abbrev pub shut : Option (List Item) → List Item → Option Partial
 shut None is = None
 shut (Some ps) [] = None
 shut (Some ps) (j ∷ js) = Some (whole ps (j ∷ js))
 
+-- behind whole items, a `(` or a `)` is read
 abbrev pub ends : Option (List Item) → List Item → ℕ → Option Partial
 ends b is c = if c == 40 then opened b is else if c == 41 then shut b is else None
 

@@ -18,9 +18,11 @@ least f (suc more) n = if f n then n else least f more (n + 1)
 abbrev pub comes_again : Bits → ℕ → ℕ → Bool
 comes_again w k p = every (λ i. if nat_le k i then same_bit (bit_at w (i + 1 + p)) (bit_at w (i + 1)) else true) (bit_count w)
 
+-- the least turn with which the bits behind the prefix come again
 abbrev pub turn_of : Bits → ℕ
 turn_of w = least (comes_again w (length w.prefix)) (length w.period) 1
 
+-- the least prefix behind which they come again with this turn
 abbrev pub kept_of : Bits → ℕ
 kept_of w = least (λ k. comes_again w k (turn_of w)) (length w.prefix) 0
 

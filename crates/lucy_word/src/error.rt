@@ -1,6 +1,6 @@
 ghost use Rattle.std.specs.Prelude.{◌≡◌};
 
-use std::alloc::AllocError;
+use std::alloc::{AllocError, AllocFailed};
 
 /// Memory ran out.
 #[derive(Clone, Copy, Debug, PartialEq, Eq)]
@@ -23,6 +23,12 @@ pub enum WordError {
 
 impl From<AllocError> for OutOfMemory {
     fn from(_: AllocError) -> Self {
+        OutOfMemory
+    }
+}
+
+impl<T: Drop> From<AllocFailed<T>> for OutOfMemory {
+    fn from(_: AllocFailed<T>) -> Self {
         OutOfMemory
     }
 }
