@@ -8,7 +8,6 @@ ghost use Rattle.lucy_check.specs.declared.fault.CheckFault.{CheckFault as Fault
 ghost use Rattle.lucy_check.specs.declared.fault.CheckFault.TheVariants as fault;
 
 use crate::fault::CheckFault;
-use crate::grow::push;
 use crate::need::check_need;
 use lucy_need::Needs;
 use lucy_word::Word;
@@ -20,7 +19,7 @@ fn put(sizes: &mut Vec<u64>, size: Option<u64>) -> Result<(), CheckFault>
     ensures refused { IfErr result (λ e. e ≡ fault.OutOfMemory) }
 {
     match size {
-        Some(size) => push(sizes, size),
+        Some(size) => Ok(sizes.push(size)?),
         None => Ok(()),
     }
 }

@@ -7,7 +7,6 @@
 
 mod checking;
 mod fault;
-mod grow;
 mod need;
 
 pub use checking::check;

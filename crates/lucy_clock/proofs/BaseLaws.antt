@@ -1,5 +1,5 @@
 -- The words of a written node, its calls' bases among them.
-use Rattle.std.proofs.Common.{ℕ, zero, suc, ◌+◌, ◌<◌, ◌≤◌, ◌≡◌, List, [], ◌∷◌, ◌++◌, Some, None, length, get_or, take, drop, ap, sym, refl, ◌∙◌, subst, arith, append_assoc, length-append}
+use Rattle.std.proofs.Common.{ℕ, zero, suc, ◌+◌, ◌^◌, ◌<◌, ◌≤◌, ◌≡◌, List, [], ◌∷◌, ◌++◌, Some, None, length, get_or, take, drop, ap, sym, refl, ◌∙◌, subst, arith, append_assoc, length-append}
 use Rattle.std.specs.Prelude.{slice_get}
 use Rattle.std.specs.Option.{option_map_or}
 use Rattle.std.proofs.lemmas.List.{take_more, take_all, drop_all, append-nil, map-append, length-map}
@@ -14,15 +14,15 @@ use Rattle.lucy_need.proofs.AllLaws.{all_join}
 use Rattle.lucy_tree.specs.declared.span.Name.{Name}
 use Rattle.lucy_place.specs.declared.entry.PlaceEntry.{PlaceEntry}
 use Rattle.lucy_place.specs.declared.entry.PlaceKind.{PlaceKind}
-use Rattle.lucy_place.specs.declared.entry.PlaceKind.TheVariants.{Param, Defined}
+use Rattle.lucy_place.specs.declared.entry.PlaceKind.TheVariants.{Param, Defined, Merge}
 use Rattle.lucy_place.specs.declared.entry.CallSite.{CallSite}
 use Rattle.lucy_place.specs.declared.placed.PlacedNode.{PlacedNode}
-use Rattle.lucy_place.specs.Proper.{at_one, IsLabelled, IsProperNode}
+use Rattle.lucy_place.specs.Proper.{at_one, IsLabelled, IsProperKind, IsProperNode}
 use Rattle.lucy_place.specs.WrittenNodes.{IsWritten}
 use Rattle.lucy_need.specs.Meeting.{assigned, word_bits}
 use Rattle.lucy_clock.specs.Clocks.{clocks_of, call_clock}
 use Rattle.lucy_clock.specs.HandedDown.{AreHandedWords, AreWordsOf, Hands}
-use Rattle.lucy_clock.specs.Reading.{AreHandedSoFar, AreLabelled, HaveBases, base_word, base_words}
+use Rattle.lucy_clock.specs.Reading.{AreHandedSoFar, AreLabelled, AreReadersUpto, CanHandDown, HasTurned, HaveBases, base_word, base_words}
 
 -- in a proper node only places with names have words
 label_named : (kind : PlaceKind) (entry : PlaceEntry) (word : Bits) → IsLabelled kind entry → entry.word ≡ Some word → (name : Name) × (entry.name ≡ Some name)
@@ -32,6 +32,23 @@ label_named kind entry word l e = absurd (let f : None ≡ Some word = sym l.2 �
 
 pub labelled : (nodes : List PlacedNode) (n : PlacedNode) → IsProperNode nodes n → AreLabelled n
 labelled nodes n proper p entry word here e = let l = label_named entry.kind entry word (proper.labels p entry here) e in (entry, l.0, here, l.1)
+
+-- so that words can be handed down in it, where it is written
+kind_turned : (n : PlacedNode) (p : ℕ) (kind : PlaceKind) → IsProperKind n p kind → HasTurned kind
+kind_turned n p (Merge word a b) proper = proper.1
+kind_turned n p kind proper = tt
+
+pub can_hand_down : (nodes : List PlacedNode) (n : PlacedNode) (readers : List ℕ) → IsProperNode nodes n → IsWritten n → length n.places < 2 ^ 32 → AreReadersUpto n (length n.places) readers →
+    length readers ≡ length n.places → CanHandDown n readers
+can_hand_down nodes n readers proper is_written few are all = record {
+  few = few;
+  beside = are;
+  all = all;
+  turned = λ p entry here. kind_turned n p entry.kind (proper.kinds p entry here);
+  labels = labelled nodes n proper;
+  written = is_written;
+  once = proper.once;
+}
 
 pub bases_of : (n : PlacedNode) → IsWritten n → HaveBases n.calls
 bases_of n is_written i site e = is_written.bases (suc i) site e
@@ -56,12 +73,6 @@ module _ (sites : List CallSite) (i : ℕ) (site : CallSite) (word : Bits) (l : 
   pub bases_push : (old mid new : List Bits) → mid ≡ old ++ base_words (take i sites) → new ≡ mid ++ word ∷ [] → new ≡ old ++ base_words (take (i + 1) sites)
   bases_push old mid new m e =
       e ∙ ap (λ t. t ++ word ∷ []) m ∙ append_assoc old (base_words (take i sites)) (word ∷ []) ∙ ap (λ t. old ++ t) (sym bases_next)
-
-  pub bases_stored : AllByRecursion IsStored (base_words (take i sites)) → IsStored word → AllByRecursion IsStored (base_words (take (i + 1) sites))
-  bases_stored all stored = subst (AllByRecursion IsStored) (sym bases_next) (all_join IsStored (base_words (take i sites)) (word ∷ []) all (stored, tt))
-
-  pub bases_bits : word_bits (base_words (take (i + 1) sites)) ≡ word_bits (base_words (take i sites)) + bit_count word
-  bases_bits = ap word_bits bases_next ∙ bits_push (base_words (take i sites)) word
 
 -- the words of the bases behind others
 record HasBases (old new : List Bits) (sites : List CallSite) : Type 0 where

@@ -1,17 +1,16 @@
 -- Laws of needs whose words are lent.
-use Rattle.std.proofs.Common.{ℕ, ◌+◌, ◌<◌, ◌≡◌, ◌∷◌, ◌++◌, [], Bool, true, false, List, length, get_or, take, map, ap, sym, refl, ◌∙◌, inl, inr, arith, length-append}
+use Rattle.std.proofs.Common.{ℕ, ◌+◌, ◌<◌, ◌≡◌, ◌∷◌, ◌++◌, [], Bool, true, false, List, length, get_or, take, map, ap, sym, refl, ◌∙◌, arith}
 use Rattle.std.specs.Prelude.{if◌then◌else◌, IfErr, IsErrAnd, Result}
 use Rattle.std.proofs.lemmas.Result.{err_from_is_err_and}
 use Rattle.std.proofs.lemmas.List.{map-append, take_more}
 use Rattle.std.proofs.lemmas.List.Sums.{sum_by-cons, sum_by-append}
 use Rattle.lucy_word.specs.Bits.{bit_count}
 use Rattle.lucy_need.specs.declared.need.Term.{Term}
-use Rattle.lucy_need.specs.declared.need.Need.{Need}
 use Rattle.lucy_need.specs.declared.need.Need.TheVariants.{Equal, Adapt}
 use Rattle.lucy_need.specs.Meeting.{need_bits, all_bits}
 use Rattle.lucy_clock.specs.declared.error.ClockError.{ClockError}
 use Rattle.lucy_clock.specs.declared.side.Draft.{Draft}
-use Rattle.lucy_clock.specs.Drafts.{side_term, seen, IsPast}
+use Rattle.lucy_clock.specs.Drafts.{side_term, seen}
 
 -- the error of a call goes out of the function by `?`
 pub leaves : {T : Type 0} (P Q : ClockError → Type 0) (e : ClockError) (r : Result T ClockError) →
@@ -42,8 +41,3 @@ bits_next xs i x h e =
     let c = sum_by-cons need_bits (seen x) [] in
     let d = seen_bits x in
     omega arith
-
--- needs that are too many stay so with more behind them
-pub past_more : (xs ys : List Need) (e : ClockError) → IsPast xs e → IsPast (xs ++ ys) e
-past_more xs ys e (inl p) = inl p
-past_more xs ys e (inr p) = inr (p.0, let l = length-append xs ys in omega (arith, p.1))

@@ -1,5 +1,5 @@
 -- What a merge hands down to one of its operands, and what others do.
-use Rattle.std.proofs.Common.{ℕ, zero, suc, ◌≡◌, List, [], ◌∷◌, Some, Bool, true, false, not, length, ap, sym, refl, subst, inl, inr, arith}
+use Rattle.std.proofs.Common.{ℕ, zero, suc, ◌≡◌, List, [], ◌∷◌, Some, Bool, true, false, not, length, ap, refl, subst, inl, inr, arith}
 use Rattle.std.specs.Prelude.{slice_get, nat_eq, ◌⊎◌}
 use Rattle.std.proofs.lemmas.Bool.{cases_Bool}
 use Rattle.std.proofs.lemmas.Bool.Decides.{nat_tests}
@@ -8,7 +8,6 @@ use Rattle.std.proofs.lemmas.Option.{same_Some}
 use Rattle.lucy_word.specs.Bits.{Bits, ones_in}
 use Rattle.lucy_word.specs.Index.{IsIndex}
 use Rattle.lucy_word.specs.Multiple.{IsLcm}
-use Rattle.lucy_word.specs.Shortest.{Same}
 use Rattle.lucy_word.specs.Sampling.{IsOn, AreComputedLengths, IsOnTooLong}
 use Rattle.lucy_tree.specs.Shaped.{HasZero}
 use Rattle.lucy_place.specs.declared.entry.PlaceKind.{PlaceKind}
@@ -66,11 +65,6 @@ turned_long own word long =
       of_period = lengths.of_period;
     } in
     (long.0, (long.1.0, long.1.1, are, long.1.3), long.2)
-
--- what is no merge
-pub other_hands : (kind : PlaceKind) (k : ℕ) (own w : Bits) → ((word : Bits) (a b : ℕ) → kind ≡ Merge word a b → ⊥) → w ≡ own → Hands kind k own w
-other_hands (Merge word a b) k own w other e = absurd (other word a b refl)
-other_hands kind k own w other e = subst (λ v. Same v own) (sym e) (λ i h. refl)
 
 pub other_fits : (kind : PlaceKind) (own : Bits) → ((word : Bits) (a b : ℕ) → kind ≡ Merge word a b → ⊥) → HandsTooLong kind own → ⊥
 other_fits (Merge word a b) own other h = other word a b refl

@@ -34,9 +34,6 @@ among_last : (xs : List ℕ) (x : ℕ) → IsAmong (xs ++ x ∷ []) x
 among_last [] x = (0, refl)
 among_last (y ∷ xs) x = let m = among_last xs x in (suc m.0, m.1)
 
-pub marks_none : (place : ℕ) (old : List ℕ) → Marks place [] old old
-marks_none place old = record { len = refl; here = λ q m. absurd (let e = m.1 in cc); other = λ q. inl refl }
-
 pub marks_push : (place : ℕ) (front old mid new : List ℕ) (x : ℕ) → Marks place front old mid → x - 1 < length mid → new ≡ set mid (x - 1) place → Marks place (front ++ x ∷ []) old new
 marks_push place front old mid new x m l e = record {
   len = ap length e ∙ length-set mid (x - 1) place ∙ m.len;

@@ -1,5 +1,5 @@
 -- What is known of the reader of a place without a name.
-use Rattle.std.proofs.Common.{ℕ, zero, suc, ◌-◌, ◌<◌, ◌≤◌, ◌≡◌, List, Some, None, length, get_or, ap, sym, refl, ◌∙◌, subst, inl, inr, arith}
+use Rattle.std.proofs.Common.{ℕ, zero, suc, ◌+◌, ◌-◌, ◌<◌, ◌≤◌, ◌≡◌, List, Some, None, length, get_or, ap, sym, refl, ◌∙◌, subst, inl, inr, arith}
 use Rattle.std.specs.Prelude.{slice_get, slice_index}
 use Rattle.std.proofs.lemmas.Option.{same_Some, slice_get_within, slice_get_read, get_or_from_slice_get}
 use Rattle.lucy_word.specs.Bits.{Bits}
@@ -33,6 +33,11 @@ one_read list xs (suc i) x e low high is =
     let f : suc i - 1 ≡ i = omega arith in
     subst (λ ys. slice_get ys i ≡ Some x) e
     (slice_get_read list (length list) i x refl (let l = ap length e in omega (arith, high)) (is ∙ ap (λ k. get_or list k x) f))
+
+-- the same at a number from 0
+pub index_read : {A : Type 0} (list xs : List A) (i : ℕ) (x : A) → list ≡ xs → i < length xs → x ≡ get_or list i x → at_one xs (i + 1) ≡ Some x
+index_read list xs i x e l is =
+    one_read list xs (i + 1) x e (omega arith) (omega (arith, l)) (is ∙ ap (λ k. get_or list k x) (let f : i ≡ i + 1 - 1 = omega arith in f))
 
 -- the same entry as it is written where it is read
 pub one_at : {A : Type 0} (list xs : List A) (p : ℕ) (x : A) → list ≡ xs → 1 ≤ p → p ≤ length xs → x ≡ get_or list (p - 1) x → at_one xs p ≡ Some (get_or list (p - 1) x)
@@ -85,6 +90,12 @@ module _ (n : PlacedNode) (is_written : IsWritten n) (once : AreReadOnce n) (pla
       let among : slice_get (operands_of entry.kind) k ≡ Some place =
       subst (λ (x : PlaceEntry). slice_get (operands_of x.kind) k ≡ Some place) (same ∙ sym e) (unnamed_among n is_written p k place reads.entry.kind (reads.entry, reads.stands, refl) un reads.reads) in
       subst (λ (x : PlaceEntry). P x.kind k (w p)) (e ∙ sym same) (subst (P entry.kind k) (f ∙ ap w (sym at.0)) (h k among))
+
+  -- and so does what its reader hands down to it
+  pub reader_hands : (w : Assignment) (next : Bits) → Hands one.reads.entry.kind one.operand (w one.reader) next → (p k : ℕ) (reads : Reads n p k place) → Hands reads.entry.kind k (w p) next
+  reader_hands w next hands =
+      reader_all (λ kind k own. Hands kind k own next) w one.reads.entry (w one.reader) refl refl
+      (λ k e. subst (λ m. Hands one.reads.entry.kind m (w one.reader) next) (sym (operand_at one.reads.entry refl k e)) hands)
 
   pub reader_long : (w : Assignment) (entry : PlaceEntry) (own : Bits) → entry ≡ one.reads.entry → own ≡ w one.reader → HandsTooLong entry.kind own → IsTooLongBefore n place w
   reader_long w entry own e f long = record {

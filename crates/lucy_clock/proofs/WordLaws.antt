@@ -14,7 +14,7 @@ use Rattle.lucy_place.specs.declared.placed.PlacedNode.{PlacedNode}
 use Rattle.lucy_place.specs.Proper.{at_one, Reads, IsUnnamed, AreReadOnce}
 use Rattle.lucy_place.specs.WrittenNodes.{IsWritten}
 use Rattle.lucy_need.specs.Meeting.{Assignment, assigned}
-use Rattle.lucy_word.proofs.OnLaws.{same_self, always_word, always_shortest}
+use Rattle.lucy_word.proofs.OnLaws.{always_word, always_shortest}
 use Rattle.lucy_need.proofs.AllLaws.{all_join}
 use Rattle.lucy_clock.specs.HandedDown.{Hands, HandsTooLong, AreHandedDown, IsWordTooLong}
 use Rattle.lucy_clock.specs.Reading.{AreHandedSoFar, IsNextWord, NextHandsTooLong, IsTooLongBefore}
@@ -22,25 +22,6 @@ use Rattle.lucy_clock.proofs.HandLaws.{handed_one}
 
 always_stored : IsStored always
 always_stored = record { word = always_word; nonempty = omega arith; short = lit≤ tt; shortest = always_shortest }
-
-nothing_at : (n : PlacedNode) (p : ℕ) (entry : PlaceEntry) → p ≤ 0 → at_one n.places p ≡ Some entry → ⊥
-nothing_at n zero entry l e = cc
-nothing_at n (suc p) entry l e = omega arith
-
-pub so_far_base : (n : PlacedNode) (words : List Bits) → words ≡ always ∷ [] → AreHandedSoFar n 0 words
-so_far_base n words e = record {
-  count = ap length e;
-  handed = record {
-    base = base;
-    named = λ p entry word l here f. absurd (nothing_at n p entry l here);
-    passed = λ p k q l un reads. absurd (nothing_at n q un.0 l un.1);
-  };
-  stored = subst (AllByRecursion IsStored) (sym e) (always_stored, tt);
-  fits = λ p entry l here h. nothing_at n p entry l here;
-}
-  where
-    base : Same (assigned words 0) always
-    base = subst (λ ws. Same (assigned ws 0) always) (sym e) (same_self always)
 
 -- the word of a clock, of words in shortest form
 pub stored_at : (words : List Bits) (c : ℕ) → AllByRecursion IsStored words → IsStored (assigned words c)

@@ -38,6 +38,7 @@ pub record IsListedSite (above : List Signature) (site : CallSite) (place : ℕ)
   pub arguments : length site.args ≡ length (slice_index_or above site.node no_signature).params
   pub results : place + length (slice_index_or above site.node no_signature).results < 2 ^ 32
 
+-- and of the call of a number, whose first result stands at this place
 pub record IsListedCall (above : List Signature) (n : PlacedNode) (call place : ℕ) : Type 0 where
   pub site : CallSite
   pub stands : at_one n.calls call ≡ Some site

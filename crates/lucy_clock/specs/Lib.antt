@@ -4,6 +4,7 @@ pub mod WellClocked
 pub mod Listing
 pub mod HandedDown
 pub mod NodeClocks
+pub mod Laws
 -- Below this line stands what only serves the proofs of the bodies.
 pub mod Factors
 pub mod Drafts

@@ -1,5 +1,5 @@
 -- How words are handed down place after place.
-use Rattle.std.specs.Prelude.{ℕ, ◌+◌, ◌-◌, ◌<◌, ◌≤◌, ◌≡◌, ◌⊎◌, List, length, map, Some, slice_get, slice_index}
+use Rattle.std.specs.Prelude.{ℕ, ◌+◌, ◌-◌, ◌^◌, ◌<◌, ◌≤◌, ◌≡◌, ◌⊎◌, List, length, map, Some, None, slice_get, slice_index}
 use Rattle.std.specs.Option.{option_map_or}
 use Rattle.std.specs.List.{AllByRecursion}
 use Rattle.lucy_word.specs.Bits.{Bits}
@@ -13,7 +13,8 @@ use Rattle.lucy_place.specs.declared.entry.PlaceKind.TheVariants.{Merge}
 use Rattle.lucy_place.specs.declared.entry.CallSite.{CallSite}
 use Rattle.lucy_place.specs.declared.placed.PlacedNode.{PlacedNode}
 use Rattle.lucy_place.specs.Standing.{at_one, IsPlace, IsNamed, IsUnnamed}
-use Rattle.lucy_place.specs.Reads.{operands_of, Reads}
+use Rattle.lucy_place.specs.Reads.{operands_of, Reads, AreReadOnce}
+use Rattle.lucy_place.specs.WrittenNodes.{IsWritten}
 use Rattle.lucy_need.specs.Meeting.{Assignment, assigned, word_bits}
 use Rattle.lucy_word.specs.Limits.{limit_number}
 use Rattle.lucy_word.specs.declared.limit.Limit.TheVariants as limit
@@ -42,6 +43,7 @@ abbrev pub HasTurned : PlaceKind → Type 0
 HasTurned (Merge word a b) = HasZero word
 HasTurned kind = Unit {0}
 
+-- and those of all merges have one
 abbrev pub HaveTurned : PlacedNode → Type 0
 HaveTurned n = (p : ℕ) (entry : PlaceEntry) → at_one n.places p ≡ Some entry → HasTurned entry.kind
 
@@ -82,20 +84,37 @@ pub record AreFirstWords (n : PlacedNode) (words : List Bits) : Type 0 where
   pub far : AreHandedSoFar n upto words
   pub past : upto < length n.places → limit_number limit.Bits < word_bits words
 
--- beside each place stands the last place without a name that it reads, or a later one
-abbrev pub AreLasts : PlacedNode → List ℕ → Type 0
-AreLasts n lasts = (p k q : ℕ) → IsUnnamed n q → Reads n p k q → q ≤ slice_index lasts (p - 1)
+-- the word of a place of the kind is asked for: by itself, if it is a merge, or by the last place that is handed one down by it
+abbrev pub AsksFor : PlaceKind → ℕ → Type 0
+AsksFor (Merge word a b) last = Unit {0}
+AsksFor kind last = 0 < last
 
--- words that places behind a number are handed down stand in the second list as in the first
-pub record AreKept (n : PlacedNode) (upto : ℕ) (words kept : List Bits) : Type 0 where
+-- the word of the place is asked for, with these last places beside all places
+abbrev pub IsAskedFor : PlacedNode → List ℕ → ℕ → Type 0
+IsAskedFor n lasts q = (entry : PlaceEntry) × (at_one n.places q ≡ Some entry) × AsksFor entry.kind (slice_index lasts (q - 1))
+
+-- beside each place stands the last place without a name that it reads and whose word is asked for, or a later one
+abbrev pub AreLasts : PlacedNode → List ℕ → Type 0
+AreLasts n lasts = (p k q : ℕ) → IsUnnamed n q → IsAskedFor n lasts q → Reads n p k q → q ≤ slice_index lasts (p - 1)
+
+-- a place without a name whose word is asked for is written beside its reader, unless a later one stands there, and before it
+-- nothing else has changed
+pub record MarksLast (entry : PlaceEntry) (reader place : ℕ) (old new : List ℕ) : Type 0 where
+  pub len : length new ≡ length old
+  pub here : entry.name ≡ None → AsksFor entry.kind (slice_index old (place - 1)) → place ≤ slice_index new (reader - 1)
+  pub behind : (j : ℕ) → place ≤ j + 1 → slice_index new j ≡ slice_index old j
+  pub most : (j : ℕ) → slice_index old j ≤ slice_index new j
+
+-- words that are asked for by places behind a number stand in the second list as in the first
+pub record AreKept (n : PlacedNode) (lasts : List ℕ) (upto : ℕ) (words kept : List Bits) : Type 0 where
   pub count : length kept ≡ length words
-  pub waiting : (p k q : ℕ) → upto < q → IsUnnamed n q → Reads n p k q → assigned kept p ≡ assigned words p
+  pub waiting : (p k q : ℕ) → upto < q → IsUnnamed n q → IsAskedFor n lasts q → Reads n p k q → assigned kept p ≡ assigned words p
 
 -- what is kept of the words of the first places, which have together at least so many bits
-pub record AreKeptSoFar (n : PlacedNode) (upto least : ℕ) (kept : List Bits) : Type 0 where
+pub record AreKeptSoFar (n : PlacedNode) (lasts : List ℕ) (upto least : ℕ) (kept : List Bits) : Type 0 where
   pub words : List Bits
   pub far : AreHandedSoFar n upto words
-  pub are : AreKept n upto words kept
+  pub are : AreKept n lasts upto words kept
   pub most : least ≤ word_bits words
 
 -- the words of all places have together at least as many bits as these
@@ -105,6 +124,22 @@ AreContinued n first = (words : List Bits) × AreHandedSoFar n (length n.places)
 -- a place whose word is written has a name
 abbrev pub AreLabelled : PlacedNode → Type 0
 AreLabelled n = (p : ℕ) (entry : PlaceEntry) (word : Bits) → at_one n.places p ≡ Some entry → entry.word ≡ Some word → IsNamed n p
+
+-- the word of a merge is stored
+abbrev pub HasStoredWord : PlaceKind → Type 0
+HasStoredWord (Merge word a b) = IsStored word
+HasStoredWord kind = Unit {0}
+
+-- words can be handed down in the node: it is written, beside each place without a name stands the one place that reads it, and
+-- the word of each merge can be turned
+pub record CanHandDown (n : PlacedNode) (readers : List ℕ) : Type 0 where
+  pub few : length n.places < 2 ^ 32
+  pub beside : AreReadersUpto n (length n.places) readers
+  pub all : length readers ≡ length n.places
+  pub turned : HaveTurned n
+  pub labels : AreLabelled n
+  pub written : IsWritten n
+  pub once : AreReadOnce n
 
 -- each call has the word of its base
 abbrev pub HaveBases : List CallSite → Type 0

@@ -8,7 +8,7 @@
 //!
 //! Needs are first listed with words that are lent (`draft.rt`, `listing.rt`), and copied once they are known to be few. The
 //! words of a written node are made in the order of its places (`words.rt`), each by the place that reads it (`reading.rt`). Once
-//! they have too many bits, only those are kept of them that a further place is handed.
+//! they have too many bits, only those are made that a merge asks for.
 #![tactic(auto)]
 
 mod callers;

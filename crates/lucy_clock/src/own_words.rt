@@ -1,5 +1,6 @@
 // Words of one's own, of words that are lent.
 ghost use Rattle.std.specs.Prelude.{◌≡◌, ◌≤◌, IfOk, IfErr};
+ghost use Rattle.lucy_word.specs.Bits.{bit_count, most_bits};
 ghost use Rattle.lucy_word.specs.Stored.{IsStored};
 ghost use Rattle.lucy_tree.specs.Shaped.{HasZero, most_bound};
 ghost use Rattle.lucy_word.specs.Complement.{turned};
@@ -10,6 +11,15 @@ use crate::error::ClockError;
 use crate::grow::push;
 use lucy_word::{Word, WordError, complement};
 use std::alloc::Global;
+
+/// How many bits a word has.
+pub(crate) fn bit_count(word: &Word) -> u64
+    ensures count { result ≡ bit_count word.now }
+    ensures few { result ≤ most_bits }
+{
+    let (prefix, period) = word.lengths();
+    prefix + period
+}
 
 /// An equal word.
 pub(crate) fn copied(alloc: Global, word: &Word) -> Result<Word, ClockError>

@@ -1,12 +1,12 @@
 // Which place reads another.
-ghost use Rattle.std.specs.Prelude.{ℕ, ◌≡◌, ◌+◌, ◌≤◌, ◌<◌, ◌^◌, length, IfOk, IfErr};
+ghost use Rattle.std.specs.Prelude.{ℕ, ◌≡◌, ◌↔◌, ◌≤◌, ◌<◌, ◌^◌, max, None, length, slice_index, slice_set, IsTrue, IfOk, IfErr};
 ghost use Rattle.lucy_place.specs.Reads.{AreReadOnce, operands_of};
 ghost use Rattle.lucy_place.specs.WrittenNodes.{IsWritten};
 ghost use Rattle.lucy_clock.specs.declared.error.ClockError.TheVariants as err;
-ghost use Rattle.lucy_clock.specs.Reading.{IsAmong, Marks, AreInside, AreReadersUpto, AreLasts};
+ghost use Rattle.lucy_clock.specs.Reading.{IsAmong, Marks, AreInside, AreReadersUpto, AsksFor, MarksLast, AreLasts, CanHandDown};
 
 use crate::error::ClockError;
-use lucy_place::{PlaceKind, PlacedNode};
+use lucy_place::{PlaceEntry, PlaceKind, PlacedNode};
 use std::alloc::Global;
 
 // Writes a place beside each of its operands.
@@ -69,33 +69,67 @@ pub(crate) fn readers(alloc: Global, node: &PlacedNode) -> Result<Vec<u32>, Cloc
     Ok(list)
 }
 
-// Writes each place without a name beside the place that hands down its word.
+/// Whether the word of a place of a kind is asked for: by itself, if it is a merge, or by the last place that is handed one down
+/// by it, if there is one (else it is 0).
+pub(crate) fn asks(kind: &PlaceKind, last: u32) -> bool
+    ensures { IsTrue result ↔ AsksFor kind.now last }
+{
+    if last > 0 {
+        return true;
+    }
+    match kind {
+        PlaceKind::Merge(..) => true,
+        _ => false,
+    }
+}
+
+// The entry at a place is at least this number from now on.
+fn raise(list: &mut [u32], place: usize, number: u32)
+    requires { place < length list.old }
+    ensures { list.new ≡ slice_set list.old place (max (slice_index list.old place) number) }
+{
+    if list[place] < number {
+        list[place] = number;
+    }
+}
+
+// Writes a place without a name whose word is asked for beside its reader, unless a later one stands there.
+fn mark_last(lasts: &mut [u32], entry: &PlaceEntry, reader: u32, place: u32)
+    requires place { (1 ≤ place) × (place ≤ length lasts.old) }
+    requires reader { entry.now.name ≡ None → (1 ≤ reader) × (reader < place) }
+    ensures { MarksLast entry.now reader place lasts.old lasts.new }
+{
+    if entry.name.is_some() {
+        return;
+    }
+    if !asks(&entry.kind, lasts[place as usize - 1]) {
+        return;
+    }
+    raise(lasts, reader as usize - 1, place);
+}
+
+// Writes each place without a name whose word is asked for beside its reader, from the last place to the first.
 fn mark_lasts(lasts: &mut [u32], node: &PlacedNode, readers: &[u32])
-    requires few { length node.now.places < 2 ^ 32 }
     requires size { length lasts.old ≡ length node.now.places }
-    requires readers { AreReadersUpto node.now (length node.now.places) readers.now }
-    requires all { length readers.now ≡ length node.now.places }
+    requires handing { CanHandDown node.now readers.now }
     ensures size { length lasts.new ≡ length node.now.places }
     ensures lasts { AreLasts node.now lasts.new }
 {
     let places = node.places.list();
-    'each: for (i, entry) in places.iter().enumerate() {
-        let reader = readers[i] as usize;
-        if entry.name.is_none() && 1 <= reader && reader <= lasts.len() {
-            lasts[reader - 1] = i as u32 + 1;
-        }
+    let count = places.len();
+    'each: for i in 0..count {
+        let last = count - i - 1;
+        mark_last(lasts, &places[last], readers[last], last as u32 + 1);
     }
 }
 
-/// For each place the last place without a name that it hands down a word to, or 0.
+/// For each place the last place without a name that it hands down a word that is asked for, or 0.
 pub(crate) fn lasts(
     alloc: Global,
     node: &PlacedNode,
     readers: &[u32],
 ) -> Result<Vec<u32>, ClockError>
-    requires few { length node.now.places < 2 ^ 32 }
-    requires readers { AreReadersUpto node.now (length node.now.places) readers.now }
-    requires all { length readers.now ≡ length node.now.places }
+    requires { CanHandDown node.now readers.now }
     ensures all { IfOk result (λ v. length v.items ≡ length node.now.places) }
     ensures lasts { IfOk result (λ v. AreLasts node.now v.items) }
     ensures refused { IfErr result (λ e. e ≡ err.OutOfMemory) }

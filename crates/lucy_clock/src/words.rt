@@ -1,25 +1,23 @@
 // The words that a written node hands down to its places.
-ghost use Rattle.std.specs.Prelude.{ℕ, ◌≡◌, ◌⊎◌, ◌+◌, ◌-◌, ◌≤◌, ◌<◌, ◌^◌, Some, length, slice_get, IfOk, IfErr, OnOk};
+ghost use Rattle.std.specs.Prelude.{ℕ, List, ◌≡◌, ◌⊎◌, ◌+◌, ◌≤◌, ◌<◌, length, IfOk, IfErr, OnOk};
+ghost use Rattle.lucy_word.specs.Bits.{Bits};
 ghost use Rattle.lucy_word.specs.Stored.{IsStored};
-ghost use Rattle.lucy_word.specs.Limits.{limit_number};
 ghost use Rattle.lucy_word.specs.declared.limit.Limit.TheVariants as lim;
-ghost use Rattle.lucy_place.specs.Proper.{AreReadOnce, Reads, IsUnnamed};
+ghost use Rattle.lucy_place.specs.Proper.{Reads, IsUnnamed};
 ghost use Rattle.lucy_place.specs.declared.placed.PlacedNode.{PlacedNode as Node};
-ghost use Rattle.lucy_place.specs.WrittenNodes.{IsWritten};
 ghost use Rattle.lucy_need.specs.Meeting.{assigned};
 ghost use Rattle.lucy_clock.specs.declared.error.ClockError.TheVariants as err;
-ghost use Rattle.lucy_clock.specs.Clocks.{clocks_of};
 ghost use Rattle.lucy_clock.specs.HandedDown.{Hands, IsWordTooLong};
-ghost use Rattle.lucy_clock.specs.Reading.{AreReadersUpto, AreLasts, AreFirstWords, AreKept, AreKeptSoFar, AreContinued, AreLabelled, HaveTurned, IsNextWord, IsTooLongBefore, NextHandsTooLong};
+ghost use Rattle.lucy_clock.specs.Reading.{CanHandDown, IsAskedFor, AreLasts, AreHandedSoFar, AreFirstWords, AreKept, AreKeptSoFar, AreContinued, HasStoredWord, IsNextWord, IsTooLongBefore, NextHandsTooLong};
 
 use crate::error::ClockError;
 use crate::grow::push;
 use crate::handing::{handed, test_handed};
-use crate::own_words::copied;
-use crate::reading::lasts;
+use crate::own_words::{bit_count, copied};
+use crate::reading::{asks, lasts};
 use lucy_need::always;
-use lucy_place::PlacedNode;
-use lucy_word::{Limit, Word};
+use lucy_place::{PlaceKind, PlacedNode};
+use lucy_word::{Limit, Word, words_are_stored};
 use std::alloc::Global;
 
 // The word that the reader of a place without a name hands down to it.
@@ -32,11 +30,7 @@ fn handed_word(
 ) -> Result<Word, ClockError>
     requires unnamed { IsUnnamed node.now place }
     requires count { length words.now ≡ place }
-    requires readers { AreReadersUpto node.now (length node.now.places) readers.now }
-    requires turned { HaveTurned node.now }
-    requires written { IsWritten node.now }
-    requires once { AreReadOnce node.now }
-    requires all { length readers.now ≡ length node.now.places }
+    requires handing { CanHandDown node.now readers.now }
     ensures ok { IfOk result (λ w. (p k : ℕ) (reads : Reads node.now p k place) → Hands reads.entry.kind k (assigned words.now p) w) }
     ensures stored { IfOk result IsStored }
     ensures refused { IfErr result (λ e. (e ≡ err.OutOfMemory) ⊎ ((e ≡ err.Limit lim.Word) × IsTooLongBefore node.now place (assigned words.now))) }
@@ -56,12 +50,7 @@ fn next_word(
 ) -> Result<Word, ClockError>
     requires place { (1 ≤ place) × (place ≤ length node.now.places) }
     requires count { length words.now ≡ place }
-    requires readers { AreReadersUpto node.now (length node.now.places) readers.now }
-    requires all { length readers.now ≡ length node.now.places }
-    requires turned { HaveTurned node.now }
-    requires labels { AreLabelled node.now }
-    requires written { IsWritten node.now }
-    requires once { AreReadOnce node.now }
+    requires handing { CanHandDown node.now readers.now }
     ensures ok { IfOk result (IsNextWord node.now place (assigned words.now)) }
     ensures refused { IfErr result (λ e. (e ≡ err.OutOfMemory) ⊎ ((e ≡ err.Limit lim.Word) × IsTooLongBefore node.now place (assigned words.now))) }
 {
@@ -87,13 +76,7 @@ pub(crate) fn first_words(
     node: &PlacedNode,
     readers: &[u32],
 ) -> Result<Vec<Word>, ClockError>
-    requires few { length node.now.places < 2 ^ 32 }
-    requires readers { AreReadersUpto node.now (length node.now.places) readers.now }
-    requires all { length readers.now ≡ length node.now.places }
-    requires turned { HaveTurned node.now }
-    requires labels { AreLabelled node.now }
-    requires written { IsWritten node.now }
-    requires once { AreReadOnce node.now }
+    requires { CanHandDown node.now readers.now }
     ensures ok { IfOk result (λ v. AreFirstWords node.now v.items) }
     ensures refused { IfErr result (λ e. (e ≡ err.OutOfMemory) ⊎ ((e ≡ err.Limit lim.Word) × IsWordTooLong node.now)) }
 {
@@ -107,14 +90,13 @@ pub(crate) fn first_words(
         }
         let word = next_word(alloc, node, readers, &words, i as u32 + 1)?;
         test_place(node, i as u32 + 1, &word)?;
-        let (prefix, period) = word.lengths();
-        bits += prefix + period;
+        bits += bit_count(&word);
         push(&mut words, word)?;
     }
     Ok(words)
 }
 
-// Lets go of the word of a clock that hands it down to no place behind the first ones: (1) stands for it.
+// Lets go of the word of a clock that is asked for by no place behind the first ones: (1) stands for it.
 fn let_go(
     alloc: Global,
     words: &mut Vec<Word>,
@@ -123,7 +105,7 @@ fn let_go(
     upto: usize,
 ) -> Result<(), ClockError>
     requires { length words.old.items ≤ length lasts.now + 1 }
-    ensures ok { (n : Node) → AreLasts n lasts.now → OnOk result (AreKept n upto words.old.items words.new.items) }
+    ensures ok { (n : Node) → AreLasts n lasts.now → OnOk result (AreKept n lasts.now upto words.old.items words.new.items) }
     ensures refused { IfErr result (λ e. e ≡ err.OutOfMemory) }
 {
     if 1 <= clock && clock < words.len() && lasts[clock - 1] as usize <= upto {
@@ -132,7 +114,7 @@ fn let_go(
     Ok(())
 }
 
-// Tests what the next place hands down, and keeps its word if a place further on is handed it.
+// Tests what the next place hands down, and keeps its word while a place further on asks for it.
 fn test_next(
     alloc: Global,
     node: &PlacedNode,
@@ -142,17 +124,12 @@ fn test_next(
     i: u32,
 ) -> Result<(), ClockError>
     requires within { i < length node.now.places }
-    requires few { length node.now.places < 2 ^ 32 }
-    requires readers { AreReadersUpto node.now (length node.now.places) readers.now }
-    requires all { length readers.now ≡ length node.now.places }
-    requires turned { HaveTurned node.now }
-    requires labels { AreLabelled node.now }
-    requires written { IsWritten node.now }
-    requires once { AreReadOnce node.now }
+    requires handing { CanHandDown node.now readers.now }
     requires size { length lasts.now ≡ length node.now.places }
     requires lasts { AreLasts node.now lasts.now }
-    requires kept { (least : ℕ) × AreKeptSoFar node.now i least words.old.items }
-    ensures ok { (least : ℕ) → AreKeptSoFar node.now i least words.old.items → OnOk result (AreKeptSoFar node.now (i + 1) least words.new.items) }
+    requires kept { (least : ℕ) × AreKeptSoFar node.now lasts.now i least words.old.items }
+    requires asked { IsAskedFor node.now lasts.now (i + 1) }
+    ensures ok { (least : ℕ) → AreKeptSoFar node.now lasts.now i least words.old.items → OnOk result (AreKeptSoFar node.now lasts.now (i + 1) least words.new.items) }
     ensures refused { IfErr result (λ e. (e ≡ err.OutOfMemory) ⊎ ((e ≡ err.Limit lim.Word) × IsWordTooLong node.now)) }
 {
     let word = next_word(alloc, node, readers, words, i + 1)?;
@@ -164,20 +141,86 @@ fn test_next(
     Ok(())
 }
 
-/// Tests what the places behind the first ones hand down, of which no more words are kept than are handed down further on.
+// The word on which a merge stands is a word in memory.
+fn word_is_stored(kind: &PlaceKind)
+    ensures { HasStoredWord kind.now }
+{
+    match kind {
+        PlaceKind::Merge(word, _, _) => words_are_stored(word),
+        _ => {}
+    }
+}
+
+// A place has a word, also where it isn't made: its written one, or that which its reader hands down.
+fn has_word(node: &PlacedNode, readers: &[u32], i: u32)
+    requires within { i < length node.now.places }
+    requires handing { CanHandDown node.now readers.now }
+    ensures { (words : List Bits) → AreHandedSoFar node.now i words → (next : Bits) × IsNextWord node.now (i + 1) (assigned words) next }
+{
+    let places = node.places.list();
+    let entry = &places[i as usize];
+    match &entry.word {
+        Some(word) => words_are_stored(word),
+        None => {
+            let reader = readers[i as usize] as usize;
+            word_is_stored(&places[reader - 1].kind)
+        }
+    }
+}
+
+// Goes past the next place, whose word nothing asks for: it isn't made, and (1) stands for it.
+fn pass_next(
+    alloc: Global,
+    node: &PlacedNode,
+    readers: &[u32],
+    lasts: &[u32],
+    words: &mut Vec<Word>,
+    i: u32,
+) -> Result<(), ClockError>
+    requires within { i < length node.now.places }
+    requires handing { CanHandDown node.now readers.now }
+    requires lasts { AreLasts node.now lasts.now }
+    requires unasked { IsAskedFor node.now lasts.now (i + 1) → ⊥ }
+    ensures ok { (least : ℕ) → AreKeptSoFar node.now lasts.now i least words.old.items → OnOk result (AreKeptSoFar node.now lasts.now (i + 1) least words.new.items) }
+    ensures refused { IfErr result (λ e. e ≡ err.OutOfMemory) }
+{
+    has_word(node, readers, i);
+    push(words, always(alloc)?)?;
+    Ok(())
+}
+
+// Tests what the next place hands down, if it is asked for.
+fn test_asked(
+    alloc: Global,
+    node: &PlacedNode,
+    readers: &[u32],
+    lasts: &[u32],
+    words: &mut Vec<Word>,
+    i: u32,
+) -> Result<(), ClockError>
+    requires within { i < length node.now.places }
+    requires handing { CanHandDown node.now readers.now }
+    requires size { length lasts.now ≡ length node.now.places }
+    requires lasts { AreLasts node.now lasts.now }
+    requires kept { (least : ℕ) × AreKeptSoFar node.now lasts.now i least words.old.items }
+    ensures ok { (least : ℕ) → AreKeptSoFar node.now lasts.now i least words.old.items → OnOk result (AreKeptSoFar node.now lasts.now (i + 1) least words.new.items) }
+    ensures refused { IfErr result (λ e. (e ≡ err.OutOfMemory) ⊎ ((e ≡ err.Limit lim.Word) × IsWordTooLong node.now)) }
+{
+    let entry = &node.places.list()[i as usize];
+    if asks(&entry.kind, lasts[i as usize]) {
+        return test_next(alloc, node, readers, lasts, words, i);
+    }
+    pass_next(alloc, node, readers, lasts, words, i)
+}
+
+/// Tests what the places behind the first ones hand down, of which no more words are made than merges ask for, nor kept for longer.
 pub(crate) fn test_others(
     alloc: Global,
     node: &PlacedNode,
     readers: &[u32],
     first: Vec<Word>,
 ) -> Result<(), ClockError>
-    requires few { length node.now.places < 2 ^ 32 }
-    requires readers { AreReadersUpto node.now (length node.now.places) readers.now }
-    requires all { length readers.now ≡ length node.now.places }
-    requires turned { HaveTurned node.now }
-    requires labels { AreLabelled node.now }
-    requires written { IsWritten node.now }
-    requires once { AreReadOnce node.now }
+    requires handing { CanHandDown node.now readers.now }
     requires first { AreFirstWords node.now first.items }
     ensures ok { OnOk result (AreContinued node.now first.items) }
     ensures refused { IfErr result (λ e. (e ≡ err.OutOfMemory) ⊎ ((e ≡ err.Limit lim.Word) × IsWordTooLong node.now)) }
@@ -186,7 +229,7 @@ pub(crate) fn test_others(
     let mut words = first;
     let count = node.places.list().len();
     'each: for i in words.len() - 1..count {
-        test_next(alloc, node, readers, &lasts, &mut words, i as u32)?;
+        test_asked(alloc, node, readers, &lasts, &mut words, i as u32)?;
     }
     Ok(())
 }

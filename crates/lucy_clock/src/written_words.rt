@@ -1,23 +1,21 @@
 // The words of a written node.
 ghost use Rattle.std.specs.Prelude.{ℕ, List, ◌≡◌, ◌⊎◌, ◌++◌, ◌∷◌, [], ◌+◌, ◌*◌, ◌≤◌, ◌<◌, ◌^◌, Some, length, slice_get, OnOk, IfOk, IfErr};
 ghost use Rattle.std.specs.List.{AllByRecursion};
-ghost use Rattle.lucy_word.specs.Bits.{bit_count};
+ghost use Rattle.lucy_word.specs.Bits.{most_bits};
 ghost use Rattle.lucy_word.specs.Limits.{limit_number};
 ghost use Rattle.lucy_word.specs.Stored.{IsStored};
 ghost use Rattle.lucy_word.specs.declared.limit.Limit.TheVariants as lim;
 ghost use Rattle.lucy_place.specs.declared.placed.PlacedNode.{PlacedNode as Node};
-ghost use Rattle.lucy_place.specs.Proper.{AreReadOnce};
 ghost use Rattle.lucy_place.specs.WrittenNodes.{IsWritten};
-ghost use Rattle.lucy_need.specs.Meeting.{assigned};
 ghost use Rattle.lucy_clock.specs.declared.error.ClockError.TheVariants as err;
 ghost use Rattle.lucy_clock.specs.Clocks.{clocks_of};
 ghost use Rattle.lucy_clock.specs.HandedDown.{AreWordsOf, IsWordTooLong, RefusesWords};
 ghost use Rattle.lucy_need.specs.Meeting.{word_bits};
-ghost use Rattle.lucy_clock.specs.Reading.{HaveBases, base_words, AreReadersUpto, AreFirstWords, AreLabelled, HaveTurned};
+ghost use Rattle.lucy_clock.specs.Reading.{CanHandDown, AreFirstWords, HaveBases, base_words};
 
 use crate::error::ClockError;
 use crate::grow::push;
-use crate::own_words::copied;
+use crate::own_words::{bit_count, copied};
 use crate::reading::readers;
 use crate::words::{first_words, test_others};
 use lucy_place::{CallSite, Placed, PlacedNode};
@@ -52,24 +50,15 @@ fn put_bases(alloc: Global, words: &mut Vec<Word>, sites: &[CallSite]) -> Result
     Ok(())
 }
 
-// How many bits a word has.
-fn bits_of(word: &Word) -> u64
-    ensures is { result ≡ bit_count word.now }
-    ensures few { result ≤ 1048576 }
-{
-    let (prefix, period) = word.lengths();
-    prefix + period
-}
-
 // How many bits the words have together.
 fn bits(words: &[Word]) -> u64
     requires { length words.now < 2 ^ 32 }
     ensures is { result ≡ word_bits words.now }
-    ensures few { result ≤ 1048576 * length words.now }
+    ensures few { result ≤ most_bits * length words.now }
 {
     let mut bits = 0u64;
     'each: for word in words {
-        bits += bits_of(word);
+        bits += bit_count(word);
     }
     bits
 }
@@ -79,25 +68,19 @@ fn base_bits(sites: &[CallSite]) -> u64
     requires bases { HaveBases sites.now }
     requires few { length sites.now < 2 ^ 32 }
     ensures is { result ≡ word_bits (base_words sites.now) }
-    ensures few { result ≤ 1048576 * length sites.now }
+    ensures few { result ≤ most_bits * length sites.now }
     ensures stored { AllByRecursion IsStored (base_words sites.now) }
 {
     let mut bits = 0u64;
     'each: for site in sites {
-        bits += bits_of(base_of(site));
+        bits += bit_count(base_of(site));
     }
     bits
 }
 
 // Why a node has no words whose first words have too many bits: that the bits are too many, unless a word behind them is too long.
 fn past_bits(alloc: Global, node: &PlacedNode, readers: &[u32], first: Vec<Word>) -> ClockError
-    requires few { length node.now.places < 2 ^ 32 }
-    requires readers { AreReadersUpto node.now (length node.now.places) readers.now }
-    requires all { length readers.now ≡ length node.now.places }
-    requires turned { HaveTurned node.now }
-    requires labels { AreLabelled node.now }
-    requires written { IsWritten node.now }
-    requires once { AreReadOnce node.now }
+    requires handing { CanHandDown node.now readers.now }
     requires first { AreFirstWords node.now first.items }
     requires past { length first.items ≤ length node.now.places }
     requires stored { AllByRecursion IsStored (base_words node.now.calls) }

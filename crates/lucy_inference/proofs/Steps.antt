@@ -64,12 +64,6 @@ leaves_match R P e r i h =
     let p = err_from_is_err_and r i in
     rw (p.1, p.2) h
 
--- a shape of needs has positions for each clock but the base
-pub all_used : (needs : Needs) (scale lead : ℕ) (shape : Shape) → IsShapeOf needs scale lead shape → AreAllUsed shape
-all_used needs scale lead shape is clock some within =
-    let inside : clock < needs.clocks = subst (λ n. clock < n) is.wide.clocks within in
-    (within, (is.wide.used clock inside).1 (inside, inl some))
-
 -- (1) is in shortest form
 always_shortest : IsShortest always
 always_shortest = record { period = λ v some same. omega arith; prefix = λ v e same. omega arith }
@@ -141,12 +135,6 @@ checked_in needs shape ws vs e need l are same is (inr refused) = inr (inr (inr 
   need = need;
   refused = subst (λ f. IsFirstRefusal (assigned ws) needs.list f) is (subst (λ w. IsFirstRefusal (assigned w) needs.list e) same refused);
 }))))
-
--- the inequalities are too many
-pub many_in : (needs : Needs) (shape : Shape) (e : RateFault) → (e ≡ fault.OutOfMemory) ⊎ ((e ≡ fault.Limit limit.Inequalities) × (most_inequalities < length (inequalities needs shape))) →
-    OrNoMemory (RefusesIn needs shape) (of_rates e)
-many_in needs shape e (inl none) = inl (ap of_rates none)
-many_in needs shape e (inr many) = subst (λ f. OrNoMemory (RefusesIn needs shape) (of_rates f)) (sym many.0) (inr (inl (refl, many.1)))
 
 -- there is no shape
 pub no_shape : (needs : Needs) (scale lead : ℕ) (e : RateFault) → HasNoShape needs scale lead e → OrNoMemory (RefusesInference needs scale lead) (of_rates e)

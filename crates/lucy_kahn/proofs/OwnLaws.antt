@@ -1,5 +1,5 @@
 -- The lists of places that read in their own instance.
-use Rattle.std.proofs.Common.{ℕ, zero, suc, ◌+◌, ◌-◌, ◌<◌, ◌≤◌, ◌≡◌, List, [], ◌∷◌, ◌++◌, Some, length, map, get_or, set, replicate, take, ap, sym, refl, ◌∙◌, subst, arith}
+use Rattle.std.proofs.Common.{ℕ, zero, suc, ◌+◌, ◌-◌, ◌<◌, ◌≤◌, ◌≡◌, List, [], ◌∷◌, ◌++◌, Some, length, map, get_or, set, replicate, take, ap, sym, refl, ◌∙◌, arith}
 use Rattle.std.specs.Prelude.{ℤ, slice_get, slice_index_or}
 use Rattle.std.specs.List.{AllByRecursion, range_with_len}
 use Rattle.std.proofs.lemmas.Option.{get_or_from_slice_get}
@@ -12,7 +12,7 @@ use Rattle.lucy_stream.specs.Items.{list_at}
 use Rattle.lucy_stream.specs.Forms.{Pointwise}
 use Rattle.lucy_stream.specs.Lists.{item_by_item, form_list}
 use Rattle.lucy_kahn.specs.Outcomes.{most_items}
-use Rattle.lucy_kahn.specs.Turns.{own_at, AreShort, AreThere}
+use Rattle.lucy_kahn.specs.Turns.{own_at, AreShort}
 
 -- the list of a place that is there
 pub at_is : (own : List (List ℤ)) (place : ℕ) (list : List ℤ) → slice_get own (place - 1) ≡ Some list → list ≡ own_at own place
@@ -24,31 +24,6 @@ pub pointwise_law : (kinds : List HostKind) (n : ℕ) (o : Op) (lists : List (Li
 pointwise_law kinds n op.Not lists = refl
 pointwise_law kinds n op.If lists = refl
 pointwise_law kinds n _ lists = refl
-
--- a list that isn't too long
-pub short_list : (own : List (List ℤ)) (place : ℕ) → AreShort own → length (own_at own place) ≤ most_items
-short_list own place all = go own (place - 1) all
-  where
-    go : (xs : List (List ℤ)) (i : ℕ) → AreShort xs → length (slice_index_or xs i []) ≤ most_items
-    go [] i h = omega arith
-    go (x ∷ xs) zero h = h.0
-    go (x ∷ xs) (suc i) h = go xs i h.1
-
--- operands by their numbers
-pub operand_at : (own : List (List ℤ)) (places : List ℕ) (k place : ℕ) (list : List ℤ) → slice_get places k ≡ Some place → slice_get own (place - 1) ≡ Some list → list ≡ list_at (map (own_at own) places) k
-operand_at own [] k place list e f = absurd (cc e)
-operand_at own (p ∷ places) zero place list e f = at_is own place list f ∙ (let same : p ≡ place = cc e in ap (own_at own) (sym same))
-operand_at own (p ∷ places) (suc k) place list e f = operand_at own places k place list e f
-
-pub no_operand : (own : List (List ℤ)) (places : List ℕ) (k : ℕ) → length places ≤ k → [] ≡ list_at (map (own_at own) places) k
-no_operand own [] k l = refl
-no_operand own (p ∷ places) zero l = absurd (omega arith)
-no_operand own (p ∷ places) (suc k) l = no_operand own places k (omega (arith, l))
-
-pub operand_there : (own : List (List ℤ)) (places : List ℕ) (k place : ℕ) → AreThere own places → slice_get places k ≡ Some place → (1 ≤ place) × (place ≤ length own)
-operand_there own [] k place all e = absurd (cc e)
-operand_there own (p ∷ places) zero place all e = let same : p ≡ place = cc e in subst (λ q. (1 ≤ q) × (q ≤ length own)) same all.0
-operand_there own (p ∷ places) (suc k) place all e = operand_there own places k place all.1 e
 
 -- one more list behind others that are short
 pub short_push : (lists : List (List ℤ)) (list : List ℤ) → AreShort lists → length list ≤ most_items → AreShort (lists ++ list ∷ [])

@@ -1,6 +1,6 @@
 -- Turns, one after another.
 use Rattle.std.proofs.Common.{ℕ, suc, ◌+◌, ◌-◌, ◌<◌, ◌≤◌, ◌≡◌, ◌⊎◌, inl, inr, List, [], ◌∷◌, ◌++◌, Some, length, map, get_or, ap, sym, refl, ◌∙◌, subst, arith}
-use Rattle.std.specs.Prelude.{ℤ, slice_get, Result, Err}
+use Rattle.std.specs.Prelude.{ℤ, slice_get, Result}
 use Rattle.std.specs.Result.{IfErr, IsErrAnd}
 use Rattle.std.specs.List.{range_with_len}
 use Rattle.std.proofs.lemmas.Bool.{cases_lt}
@@ -11,26 +11,22 @@ use Rattle.lucy_word.specs.declared.limit.Limit.TheVariants as limit
 use Rattle.lucy_host.specs.declared.kind.HostKind.{HostKind}
 use Rattle.lucy_place.specs.declared.placed.PlacedNode.{PlacedNode}
 use Rattle.lucy_place.specs.declared.entry.PlaceEntry.{PlaceEntry}
-use Rattle.lucy_place.specs.declared.entry.PlaceKind.{PlaceKind}
-use Rattle.lucy_place.specs.Proper.{at_one, Stands, ArePlaces, AreProper}
+use Rattle.lucy_place.specs.Proper.{at_one, ArePlaces, AreProper}
 use Rattle.lucy_meaning.specs.Spots.{at, node_at, main_of, results_in, results_of}
 use Rattle.lucy_meaning.specs.Kahn.{kahn}
 use Rattle.lucy_kahn.specs.declared.error.KahnError.{KahnError}
 use Rattle.lucy_kahn.specs.declared.error.KahnError.TheVariants.{Limit, OutOfMemory}
 use Rattle.lucy_kahn.specs.declared.instances.Instance.{Instance}
-use Rattle.lucy_kahn.specs.Outcomes.{most_items, Overflows}
+use Rattle.lucy_kahn.specs.Outcomes.{most_items}
 use Rattle.lucy_kahn.specs.Instances.{AreInstances}
 use Rattle.lucy_kahn.specs.Turns.{own_at, lists_in, IsIterate, params_in, IsTurn, Refuses, StandsIn, IsPassed, NonePassed, IsRun}
-use Rattle.lucy_kahn.proofs.TurnLaws.{stands_at, lists_are, own_lists, none_long}
+use Rattle.lucy_kahn.proofs.TurnLaws.{lists_are, own_lists, none_long}
 
 -- the exit of a `?`
 pub err_exit : {T : Type 0} (r : Result T KahnError) (e : KahnError) (P : KahnError → Type 0) → IsErrAnd r (λ y. y ≡ e) → P e → IfErr r P
 err_exit r e P i h =
     let p = err_from_is_err_and r i in
     subst (λ x. IfErr x P) (sym p.1) (subst P (sym p.2) h)
-
-pub err_is : {T : Type 0} (r : Result T KahnError) (e : KahnError) → IsErrAnd r (λ y. y ≡ e) → r ≡ Err e
-err_is r e i = let p = err_from_is_err_and r i in p.1 ∙ ap (λ y. Err y) p.2
 
 pub mapped_from : {A : Type 0} (f : ℕ → A) (a i j : ℕ) (old new : List A) (x : A) → a + i ≡ j → old ≡ map f (range_with_len a i) → new ≡ old ++ x ∷ [] → x ≡ f j → new ≡ map f (range_with_len a (i + 1))
 mapped_from f a i j old new x z e n h = n ∙ ap (λ xs. xs ++ x ∷ []) e ∙ ap (λ y. map f (range_with_len a i) ++ y ∷ []) h ∙ sym (map-range_with_len_more f a i j z)
@@ -47,14 +43,6 @@ entry_stands nodes list instance i x n entry e f at y m g h =
     (entry, ap (λ (t : PlacedNode). at_one t.places (i + 1)) (sym node) ∙ at, refl)
 
 module _ (kinds : List HostKind) (inputs : List (List ℤ)) (nodes : List PlacedNode) (list : List Instance) (inner : List ℕ) where
-  -- a list of an instance is too long
-  pub refused_list : (n instance place : ℕ) (x : Instance) (nd : PlacedNode) (kind : PlaceKind) (paths : ℕ → List ℕ) (e : KahnError) → AreInstances nodes list inner paths → slice_get list instance ≡ Some x →
-      slice_get nodes x.node ≡ Some nd → Stands nd place kind → Overflows (kahn kinds inputs nodes (suc n) (at (paths instance) place)) e → Refuses kinds inputs nodes (suc n) e
-  refused_list n instance place x nd kind paths e are is found s (inl none) = inl none
-  refused_list n instance place x nd kind paths e are is found s (inr long) =
-      let node : node_at nodes (paths instance) ≡ Some nd = (are.each instance x is).node ∙ found in
-      inr (long.0, (at (paths instance) place, (kind, stands_at nodes (paths instance) nd place kind node s), long.1))
-
   -- a turn that stands on a run
   pub turn_of : (n : ℕ) (lists : List (List (List ℤ))) → AreProper nodes → params_in (main_of nodes) ≡ length inputs → length inner ≡ length list → (r : IsRun kinds inputs nodes list inner n lists) →
       IsTurn kinds inputs nodes list inner n lists r.paths
@@ -85,13 +73,6 @@ module _ (kinds : List HostKind) (inputs : List (List ℤ)) (nodes : List Placed
   pub passed_of : (n turns : ℕ) (e : KahnError) → n < turns → Refuses kinds inputs nodes (suc n) e → (e ≡ OutOfMemory) ⊎ ((e ≡ Limit limit.KahnItems) × IsPassed kinds inputs nodes turns)
   passed_of n turns e l (inl none) = inl none
   passed_of n turns e l (inr long) = inr (long.0, (suc n, omega (arith, l), long.1))
-
-  pub refused_so : (T : Type 0) (r : Result T KahnError) (n : ℕ) (e : KahnError) → IsErrAnd r (λ y. y ≡ e) → Refuses kinds inputs nodes n e → (r ≡ Err OutOfMemory) ⊎ (r ≡ Err (Limit limit.KahnItems))
-  refused_so T r n e i (inl none) = inl (err_is r e i ∙ ap (λ y. Err y) none)
-  refused_so T r n e i (inr long) = inr (err_is r e i ∙ ap (λ y. Err y) long.0)
-
-  pub never_passed : (turns : ℕ) → NonePassed kinds inputs nodes turns → IsPassed kinds inputs nodes turns → ⊥
-  never_passed turns none p = let short = none p.0 p.2.0 p.1 p.2.1 in let long = p.2.2 in omega arith
 
   -- main's lists
   pub main_lists : (n : ℕ) (lists : List (List (List ℤ))) (own : List (List ℤ)) (main : PlacedNode) (paths : ℕ → List ℕ) → IsTurn kinds inputs nodes list inner n lists paths → slice_get nodes (length nodes - 1) ≡ Some main →

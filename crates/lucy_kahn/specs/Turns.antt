@@ -41,14 +41,16 @@ IsApplied known kind = Unit {0}
 abbrev pub AreThere : List (List ℤ) → List ℕ → Type 0
 AreThere own places = AllByRecursion (λ place. (1 ≤ place) × (place ≤ length own)) places
 
--- the lists of the places of an instance in an iterate
+-- how many places an instance of a node has
 abbrev pub places_in : Option PlacedNode → ℕ
 places_in None = 0
 places_in (Some n) = length n.places
 
+-- the lists of the first so many places of an instance in an iterate
 abbrev pub lists_to : List HostKind → List (List ℤ) → List PlacedNode → ℕ → List ℕ → ℕ → List (List ℤ)
 lists_to kinds inputs nodes n path count = map (λ place. kahn kinds inputs nodes n (at path place)) (range_with_len 1 count)
 
+-- and those of all its places
 abbrev pub lists_in : List HostKind → List (List ℤ) → List PlacedNode → ℕ → List ℕ → List (List ℤ)
 lists_in kinds inputs nodes n path = lists_to kinds inputs nodes n path (places_in (node_at nodes path))
 

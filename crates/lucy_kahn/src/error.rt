@@ -3,7 +3,7 @@ ghost use Rattle.std.specs.Prelude.{◌≡◌};
 ghost use Rattle.lucy_kahn.specs.declared.error.KahnError.TheVariants as error;
 
 use lucy_word::Limit;
-use std::alloc::AllocError;
+use std::alloc::{AllocError, AllocFailed};
 
 /// Why an iterate isn't given.
 #[derive(Clone, Copy, Debug, PartialEq, Eq)]
@@ -17,6 +17,14 @@ impl From<AllocError> for KahnError {
     ghost from_gives = { λ _ e. e ≡ error.OutOfMemory };
 
     fn from(_: AllocError) -> Self {
+        KahnError::OutOfMemory
+    }
+}
+
+impl<T: Drop> From<AllocFailed<T>> for KahnError {
+    ghost from_gives = { λ _ e. e ≡ error.OutOfMemory };
+
+    fn from(_: AllocFailed<T>) -> Self {
         KahnError::OutOfMemory
     }
 }

@@ -5,7 +5,6 @@ ghost use Rattle.lucy_kahn.specs.declared.error.KahnError.TheVariants as error;
 ghost use Rattle.lucy_kahn.specs.Instances.{made, AreInstances, AreAll};
 
 use crate::error::KahnError;
-use crate::grow::push;
 use lucy_place::{CallSite, Placed};
 use std::alloc::Global;
 
@@ -42,13 +41,10 @@ fn put_calls(list: &mut Vec<Instance>, instance: usize, calls: &[CallSite]) -> R
             instance,
             call: i as u32 + 1,
         });
-        push(
-            list,
-            Instance {
-                node: site.node,
-                caller,
-            },
-        )?;
+        list.push(Instance {
+            node: site.node,
+            caller,
+        })?;
     }
     Ok(())
 }
@@ -61,17 +57,14 @@ pub(crate) fn all_instances(alloc: Global, placed: &Placed) -> Result<Instances,
     let nodes = placed.nodes();
     let mut list = Vec::new(alloc);
     let mut inner = Vec::new(alloc);
-    push(
-        &mut list,
-        Instance {
-            node: nodes - 1,
-            caller: None,
-        },
-    )?;
+    list.push(Instance {
+        node: nodes - 1,
+        caller: None,
+    })?;
     'each: while inner.len() < list.len() {
         let instance = inner.len();
         let node = placed.node(list[instance].node);
-        push(&mut inner, list.len())?;
+        inner.push(list.len())?;
         put_calls(&mut list, instance, node.calls.list())?;
     }
     Ok(Instances { list, inner })

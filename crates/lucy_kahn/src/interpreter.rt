@@ -13,7 +13,6 @@ ghost use Rattle.lucy_kahn.specs.Instances.{AreInstances};
 ghost use Rattle.lucy_kahn.specs.Turns.{AreThere, own_at, params_in, IsIterate, IsPassed};
 
 use crate::error::KahnError;
-use crate::grow::push;
 use crate::instances::{Instances, all_instances};
 use crate::iterate::Iterate;
 use crate::streams::Lists;
@@ -43,10 +42,7 @@ fn first(alloc: Global, placed: &Placed, instances: &Instances) -> Result<Vec<Li
 {
     let mut lists = Vec::new(alloc);
     'each: for i in 0..instances.list.len() {
-        push(
-            &mut lists,
-            none_of(alloc, placed.node(instances.list[i].node))?,
-        )?;
+        lists.push(none_of(alloc, placed.node(instances.list[i].node))?)?;
     }
     Ok(lists)
 }

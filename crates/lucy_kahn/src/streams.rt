@@ -3,7 +3,6 @@ ghost use Rattle.std.specs.Prelude.{◌≡◌, ◌≤◌, ◌<◌, ◌-◌, ◌�
 ghost use Rattle.lucy_kahn.specs.declared.error.KahnError.TheVariants as error;
 
 use crate::error::KahnError;
-use crate::grow::push;
 use std::alloc::Global;
 use std::marker::Model;
 
@@ -37,7 +36,8 @@ impl Lists {
         ensures ok { OnOk result (self.new ≡ self.old ++ list.items ∷ []) }
         ensures refused { IfErr result (λ e. e ≡ error.OutOfMemory) }
     {
-        push(&mut self.lists, list)
+        self.lists.push(list)?;
+        Ok(())
     }
 
     /// The list of a place.

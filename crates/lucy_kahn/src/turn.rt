@@ -8,7 +8,6 @@ ghost use Rattle.lucy_kahn.specs.Turns.{IsIterate, AreShort, StandsIn, Refuses, 
 ghost use Rattle.lucy_kahn.specs.Views.{IsBefore, list_after};
 
 use crate::error::KahnError;
-use crate::grow::push;
 use crate::iterate::{Iterate, param, returned};
 use crate::lists::copied;
 use crate::own::own_list;
@@ -86,7 +85,7 @@ pub(crate) fn next<F: Fn(u32, i64, i64) -> i64 + Sync>(
 {
     let mut after = Vec::new(alloc);
     'each: for instance in 0..before.instances.list.len() {
-        push(&mut after, lists_of(alloc, host, before, instance)?)?;
+        after.push(lists_of(alloc, host, before, instance)?)?;
     }
     Ok(after)
 }

@@ -34,6 +34,16 @@ alone clock = term clock always
 abbrev pub term_bit : Assignment → Term → ℕ → Bool
 term_bit w t i = bit_on (w t.clock) t.word i
 
+-- the first term of a need
+abbrev pub first_of : Need → Term
+first_of (Equal s t) = s
+first_of (Adapt s t) = s
+
+-- and the second
+abbrev pub second_of : Need → Term
+second_of (Equal s t) = t
+second_of (Adapt s t) = t
+
 -- the terms have the same bits at every instant
 abbrev pub AreEqual : Assignment → Term → Term → Type 0
 AreEqual w s t = (i : ℕ) → 0 < i → term_bit w s i ≡ term_bit w t i

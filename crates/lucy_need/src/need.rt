@@ -1,6 +1,7 @@
 // Needs and their terms.
 ghost use Rattle.std.specs.Prelude.{◌≡◌};
 ghost use Rattle.std.specs.List.{AllByRecursion};
+ghost use Rattle.lucy_need.specs.Meeting.{first_of, second_of};
 ghost use Rattle.lucy_need.specs.Stored.{HasWords};
 
 use lucy_word::{Word, words_are_stored};
@@ -22,6 +23,19 @@ pub enum Need {
     /// The first is adaptable to the second (Mandel, Plateau and Pouzet 2010): a buffer that is written on the first may be
     /// read on the second.
     Adapt(Term, Term),
+}
+
+impl Need {
+    /// The two terms.
+    pub fn terms(&self) -> (&Term, &Term)
+        ensures first { result.0.now ≡ first_of self.now }
+        ensures second { result.1.now ≡ second_of self.now }
+    {
+        match self {
+            Need::Equal(s, t) => (s, t),
+            Need::Adapt(s, t) => (s, t),
+        }
+    }
 }
 
 // The words of a need are words as they lie in memory.

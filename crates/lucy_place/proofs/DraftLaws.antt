@@ -67,9 +67,6 @@ drawn_step k found more d e f rest start all n inv draws is put =
       next = ap (λ u. past_all u rest) draws.next ∙ inv.next;
     }
 
-pub drawn_numbers : (k : Known) (found : List ℕ) (d start : Draft) (all : Phrases) → AllDrawn k found d none start all → found ≡ numbers k (next_of k start) all
-drawn_numbers k found d start all inv = sym (append-nil found) ∙ inv.numbers
-
 pub drawn_all : (k : Known) (found : List ℕ) (d start : Draft) (all : Phrases) → AllDrawn k found d none start all → DrawsAll k all start d
 drawn_all k found d start all inv = record { places = sym (append-nil d.places.items) ∙ inv.places; calls = sym (append-nil d.calls.items) ∙ inv.calls; next = inv.next }
 

@@ -21,17 +21,9 @@ pub verdict_back : (xs ys : List NameError) → verdict xs ≡ Ok tt → verdict
 verdict_back [] ys h = refl
 verdict_back (x ∷ xs) ys h = cc
 
-pub no_faults : (xs : List NameError) → verdict xs ≡ Ok tt → xs ≡ []
-no_faults [] h = refl
-no_faults (x ∷ xs) h = cc
-
 pub tells_front : (xs ys : List NameError) {e : NameError} → Tells xs e → Tells (xs ++ ys) e
 tells_front xs ys (inl h) = inl h
 tells_front xs ys (inr h) = inr (verdict_front xs ys h)
-
-pub tells_back : (xs ys : List NameError) {e : NameError} → xs ≡ [] → Tells ys e → Tells (xs ++ ys) e
-tells_back [] ys h t = t
-tells_back (x ∷ xs) ys h t = cc
 
 -- the error of a call goes out of the function by `?`
 pub leaves : {T : Type 0} (P Q : NameError → Type 0) (e : NameError) (r : Result T NameError) →

@@ -36,10 +36,6 @@ Draws k results f old new = Gains k (entries k (next_of k old) results f) (sites
 abbrev pub DrawsAll : Known → Phrases → Draft → Draft → Type 0
 DrawsAll k fs old new = Gains k (all_entries k (next_of k old) fs) (all_sites k (next_of k old) fs) (past_all (next_of k old) fs) old new
 
--- the draft with nothing in it
-abbrev pub IsEmpty : Draft → Type 0
-IsEmpty d = (d.places.items ≡ []) × (d.calls.items ≡ []) × (d.buffers ≡ 0)
-
 -- a form that is no call
 abbrev pub IsPlain : Phrase → Type 0
 IsPlain (name n) = ⊥

@@ -23,6 +23,7 @@ abbrev pub own_bounds : Head → List (Option ℕ)
 own_bounds (Buffered most) = most ∷ []
 own_bounds h = []
 
+-- how many calls a form is
 abbrev pub own_calls : Head → ℕ
 own_calls (Called n at) = 1
 own_calls h = 0

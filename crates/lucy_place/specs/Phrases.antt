@@ -58,9 +58,10 @@ abbrev pub count : Phrases → ℕ
 count none = 0
 count (and f fs) = 1 + count fs
 
--- what is seen of an expression, and of a list of them
+-- what is seen of an expression
 abbrev pub expr_phrase : Expr → Phrase
 expr_phrase e = phrase_of (tree_of e)
 
+-- and of a list of them
 abbrev pub expr_phrases : List Expr → Phrases
 expr_phrases es = phrases_of (trees_of (map tree_of es))

@@ -19,6 +19,7 @@ operands_of (Fby l e) = e ∷ []
 operands_of (Buffer k e) = e ∷ []
 operands_of kind = []
 
+-- the places that a call reads
 abbrev pub arguments_of : Option CallSite → List ℕ
 arguments_of None = []
 arguments_of (Some site) = site.args

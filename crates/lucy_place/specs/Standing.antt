@@ -24,6 +24,7 @@ Stands n p kind = (entry : PlaceEntry) × (at_one n.places p ≡ Some entry) × 
 abbrev pub IsPlace : PlacedNode → ℕ → Type 0
 IsPlace n p = (1 ≤ p) × (p ≤ length n.places)
 
+-- there is a place of each number
 abbrev pub ArePlaces : PlacedNode → List ℕ → Type 0
 ArePlaces n ps = AllByRecursion (IsPlace n) ps
 
@@ -31,6 +32,7 @@ ArePlaces n ps = AllByRecursion (IsPlace n) ps
 abbrev pub IsNamed : PlacedNode → ℕ → Type 0
 IsNamed n p = (entry : PlaceEntry) × (name : Name) × (at_one n.places p ≡ Some entry) × (entry.name ≡ Some name)
 
+-- of each number, and each has a name
 abbrev pub AreNamed : PlacedNode → List ℕ → Type 0
 AreNamed n ps = AllByRecursion (IsNamed n) ps
 

@@ -21,6 +21,7 @@ abbrev pub unnamed_span : Phrase → List Span
 unnamed_span (name n) = []
 unnamed_span (headed h span fs) = span ∷ []
 
+-- the spans of those of a list
 abbrev pub unnamed_spans : Phrases → List Span
 unnamed_spans none = []
 unnamed_spans (and f fs) = unnamed_span f ++ unnamed_spans fs

@@ -7,7 +7,6 @@ ghost use Rattle.lucy_place.specs.Numbering.{bounds, all_bounds};
 ghost use Rattle.lucy_place.specs.Nodes.{def_bounds};
 
 use crate::error::NameError;
-use crate::grow::push;
 use lucy_tree::{Def, Expr};
 use std::alloc::Global;
 
@@ -29,7 +28,7 @@ fn expr_bounds(expr: &Expr, list: &mut Vec<Option<u64>>) -> Result<(), NameError
         }
         Expr::Fby { operand, .. } => expr_bounds(operand, list),
         Expr::Buffer { most, operand, .. } => {
-            push(list, *most)?;
+            list.push(*most)?;
             expr_bounds(operand, list)
         }
         Expr::Call { args, .. } => all_bounds(args.list(), list),
@@ -49,7 +48,7 @@ fn all_bounds(exprs: &[Expr], list: &mut Vec<Option<u64>>) -> Result<(), NameErr
 }
 
 /// The bounds of the buffers of right sides, in order of the text.
-pub fn bounds(alloc: Global, defs: &[Def]) -> Result<Vec<Option<u64>>, NameError>
+pub(crate) fn bounds(alloc: Global, defs: &[Def]) -> Result<Vec<Option<u64>>, NameError>
     ensures ok { IfOk result (λ v. v.items ≡ def_bounds (map def_tree defs.now)) }
     ensures refused { IfErr result (λ e. e ≡ error.OutOfMemory) }
 {

@@ -3,7 +3,7 @@ use crate::entry::{CallSite, PlaceEntry};
 
 /// The places of right sides so far, how many of them are buffers, and the calls.
 #[derive(Drop)]
-pub struct Draft {
+pub(crate) struct Draft {
     pub places: Vec<PlaceEntry>,
     pub buffers: u32,
     pub calls: Vec<CallSite>,

@@ -4,7 +4,7 @@ ghost use Rattle.lucy_place.specs.declared.error.NameError.TheVariants as error;
 
 use lucy_tree::Span;
 use lucy_word::Limit;
-use std::alloc::AllocError;
+use std::alloc::{AllocError, AllocFailed};
 
 /// Why a program has no places. A span is that of the name.
 #[derive(Clone, Copy, Debug, PartialEq, Eq)]
@@ -29,6 +29,14 @@ impl From<AllocError> for NameError {
     ghost from_gives = { λ _ e. e ≡ error.OutOfMemory };
 
     fn from(_: AllocError) -> Self {
+        NameError::OutOfMemory
+    }
+}
+
+impl<T: Drop> From<AllocFailed<T>> for NameError {
+    ghost from_gives = { λ _ e. e ≡ error.OutOfMemory };
+
+    fn from(_: AllocFailed<T>) -> Self {
         NameError::OutOfMemory
     }
 }

@@ -80,7 +80,11 @@ fn operator_name(names: &Names<'_, '_>, name: &Name) -> Result<(), NameError>
 /// The names that an expression uses, which has so many results where it is a call.
 #[cycle(names)]
 #[tactic(auto, using(crate::proofs::VerdictLaws::count_phrases))]
-pub fn expr_names(names: &Names<'_, '_>, expr: &Expr, results: usize) -> Result<(), NameError>
+pub(crate) fn expr_names(
+    names: &Names<'_, '_>,
+    expr: &Expr,
+    results: usize,
+) -> Result<(), NameError>
     ensures { result ≡ verdict (phrase_faults (within_of names.now) results (expr_phrase expr.now)) }
 {
     match expr {

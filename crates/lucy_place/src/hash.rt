@@ -6,7 +6,7 @@ use std::hash::{BuildHasher, DefaultHasher, Hasher};
 
 /// Hashes a name behind all names that a program declares: whoever changes one of them, to have names collide, changes the hash of all.
 #[derive(Clone, Copy)]
-pub struct NameHash {
+pub(crate) struct NameHash {
     behind: DefaultHasher,
 }
 

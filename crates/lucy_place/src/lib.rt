@@ -12,7 +12,6 @@ mod draft;
 mod entry;
 mod error;
 mod faults;
-mod grow;
 mod hash;
 mod lists;
 mod literal;

@@ -9,7 +9,7 @@ use lucy_tree::Node;
 
 /// Where names stand: the operators of the host, the nodes of the program, those above a node, and the names of these and of the node's streams.
 #[derive(Drop)]
-pub struct Names<'n, 'p> {
+pub(crate) struct Names<'n, 'p> {
     pub ops: &'n Ops,
     pub all: &'n [Node],
     pub above: &'n [Node],

@@ -17,7 +17,6 @@ use crate::bounds::bounds;
 use crate::draft::Draft;
 use crate::entry::{CallSite, PlaceEntry, PlaceKind};
 use crate::error::NameError;
-use crate::grow::push;
 use crate::lists::{Bounds, Calls, Numbers, Places};
 use crate::names::Names;
 use crate::numbering::expr_places;
@@ -60,7 +59,7 @@ fn params(alloc: Global, decls: &[Decl], named: &mut Vec<PlaceEntry>) -> Result<
     ensures refused { IfErr result (λ e. e ≡ error.OutOfMemory) }
 {
     'each: for decl in decls {
-        push(named, declared_entry(alloc, decl, PlaceKind::Param)?)?;
+        named.push(declared_entry(alloc, decl, PlaceKind::Param)?)?;
     }
     Ok(())
 }
@@ -78,10 +77,7 @@ fn lefts(
 {
     let mut place = right;
     'each: for decl in decls {
-        push(
-            named,
-            declared_entry(alloc, decl, PlaceKind::Defined(place))?,
-        )?;
+        named.push(declared_entry(alloc, decl, PlaceKind::Defined(place))?)?;
         place += 1;
     }
     Ok(())
@@ -140,7 +136,7 @@ fn results(alloc: Global, names: &Names<'_, '_>, list: &[Name]) -> Result<Vec<u3
 {
     let mut found = Vec::new(alloc);
     'each: for name in list {
-        push(&mut found, stream_place(names, name))?;
+        found.push(stream_place(names, name))?;
     }
     Ok(found)
 }
@@ -154,7 +150,7 @@ fn buffers(alloc: Global, places: &[PlaceEntry]) -> Result<Vec<u32>, NameError>
     let mut found = Vec::new(alloc);
     'each: for (i, place) in places.iter().enumerate() {
         if let PlaceKind::Buffer(_, _) = place.kind {
-            push(&mut found, i as u32 + 1)?;
+            found.push(i as u32 + 1)?;
         }
     }
     Ok(found)
@@ -187,7 +183,7 @@ fn entries(
 }
 
 /// The places of a node whose names are good, and which has no more places than it may have.
-pub fn node_places(
+pub(crate) fn node_places(
     alloc: Global,
     names: &Names<'_, '_>,
     node: &Node,

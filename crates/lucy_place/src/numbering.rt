@@ -13,7 +13,6 @@ ghost use Rattle.lucy_place.specs.Views.{known_of};
 use crate::draft::Draft;
 use crate::entry::PlaceKind;
 use crate::error::NameError;
-use crate::grow::push;
 use crate::lists::Numbers;
 use crate::names::Names;
 use crate::steps::{
@@ -26,7 +25,7 @@ use std::alloc::Global;
 
 /// Numbers the places of an expression, which has so many results where it is a call, and answers its number.
 #[cycle(numbering)]
-pub fn expr_places(
+pub(crate) fn expr_places(
     alloc: Global,
     names: &Names<'_, '_>,
     expr: &Expr,
@@ -194,7 +193,7 @@ fn all_places(
     let mut found = Vec::new(alloc);
     'each: for expr in list {
         let number = expr_places(alloc, names, expr, 1, draft)?;
-        push(&mut found, number)?;
+        found.push(number)?;
     }
     Ok(found)
 }

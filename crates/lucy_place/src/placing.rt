@@ -12,7 +12,6 @@ ghost use Rattle.lucy_place.specs.Views.{within_of};
 
 use crate::error::NameError;
 use crate::faults::expr_names;
-use crate::grow::push;
 use crate::hash::NameHash;
 use crate::names::Names;
 use crate::nodes::node_places;
@@ -89,11 +88,8 @@ pub fn place(alloc: Global, program: &Program, ops: &Ops) -> Result<Placed, Name
     let mut list = Vec::new(alloc);
     let mut spans = Vec::new(alloc);
     'each: for (i, node) in nodes.iter().enumerate() {
-        push(
-            &mut list,
-            next_node(alloc, hash, ops, nodes, &nodes[..i], &scope, node)?,
-        )?;
-        push(&mut spans, first_unwritten(node))?;
+        list.push(next_node(alloc, hash, ops, nodes, &nodes[..i], &scope, node)?)?;
+        spans.push(first_unwritten(node))?;
         scope.add(node.name.text.bytes())?;
     }
     Ok(Placed { list, spans })

@@ -10,7 +10,7 @@ use lucy_tree::{Decl, Def, Expr, Node};
 use lucy_word::Limit;
 
 /// How many results a call has that is defined under these names.
-pub fn wanted(left: &[Decl]) -> usize
+pub(crate) fn wanted(left: &[Decl]) -> usize
     ensures { result ≡ wanted left.now }
 {
     if left.is_empty() { 1 } else { left.len() }
@@ -58,7 +58,7 @@ fn behind_defs(left: usize, defs: &[Def]) -> Option<usize>
 }
 
 /// Whether a node with so many streams has no more places than it may have.
-pub fn fits(node: &Node, named: usize) -> bool
+pub(crate) fn fits(node: &Node, named: usize) -> bool
     requires { named ≡ length (streams (node_tree node.now)) }
     ensures { IsTrue result ↔ (node_rooms (node_tree node.now) ≤ most_places) }
 {

@@ -9,7 +9,7 @@ use std::marker::Model;
 
 /// Names in the order in which they were first seen. Contracts see the list of their bytes.
 #[derive(Drop)]
-pub struct Scope<'a> {
+pub(crate) struct Scope<'a> {
     names: IndexSet<&'a [u8], NameHash>,
 }
 

@@ -12,7 +12,6 @@ ghost use Rattle.lucy_place.specs.Views.{known_of};
 use crate::draft::Draft;
 use crate::entry::{CallSite, PlaceEntry, PlaceKind};
 use crate::error::NameError;
-use crate::grow::push;
 use crate::lists::Numbers;
 use crate::names::Names;
 use lucy_tree::{Expr, Name};
@@ -20,7 +19,7 @@ use lucy_word::{Word, WordError, complement};
 use std::alloc::Global;
 
 /// A word, where one is written.
-pub fn copy(alloc: Global, word: &Option<Word>) -> Result<Option<Word>, NameError>
+pub(crate) fn copy(alloc: Global, word: &Option<Word>) -> Result<Option<Word>, NameError>
     ensures ok { IfOk result (λ copy. copy ≡ word.now) }
     ensures refused { IfErr result (λ e. e ≡ error.OutOfMemory) }
 {
@@ -31,7 +30,7 @@ pub fn copy(alloc: Global, word: &Option<Word>) -> Result<Option<Word>, NameErro
 }
 
 /// The word of `when`, or with `flip` the complement of the word of `whenot`.
-pub fn sampling_word(alloc: Global, flip: bool, word: &Word) -> Result<Word, NameError>
+pub(crate) fn sampling_word(alloc: Global, flip: bool, word: &Word) -> Result<Word, NameError>
     requires zero { flip ≡ true → HasZero word.now }
     ensures ok { IfOk result (λ w. w ≡ sampling_word flip word.now) }
     ensures refused { IfErr result (λ e. e ≡ error.OutOfMemory) }
@@ -58,7 +57,7 @@ fn unnamed(kind: PlaceKind) -> PlaceEntry
 }
 
 // The place of a stream.
-pub fn stream_place(names: &Names<'_, '_>, name: &Name) -> u32
+pub(crate) fn stream_place(names: &Names<'_, '_>, name: &Name) -> u32
     requires few { length names.now.streams.now ≤ most_places }
     ensures { result ≡ stream_place (known_of names.now) name.now.text }
 {
@@ -66,14 +65,14 @@ pub fn stream_place(names: &Names<'_, '_>, name: &Name) -> u32
 }
 
 /// The number of an operator of the host.
-pub fn operator_place(names: &Names<'_, '_>, name: &Name) -> u32
+pub(crate) fn operator_place(names: &Names<'_, '_>, name: &Name) -> u32
     ensures { result ≡ operator_place (known_of names.now) name.now.text }
 {
     names.ops.find(name.text.bytes()).unwrap_or(0)
 }
 
 /// The number of the next place.
-pub fn next_place(names: &Names<'_, '_>, draft: &Draft) -> u32
+pub(crate) fn next_place(names: &Names<'_, '_>, draft: &Draft) -> u32
     requires small { (next_of (known_of names.now) draft.now).place ≤ most_places + 1 }
     ensures { result ≡ (next_of (known_of names.now) draft.now).place }
 {
@@ -81,7 +80,7 @@ pub fn next_place(names: &Names<'_, '_>, draft: &Draft) -> u32
 }
 
 /// Keeps a place free for a form, which is so many buffers, and answers how many places stand before it.
-pub fn start(draft: &mut Draft, buffers: u32) -> Result<usize, NameError>
+pub(crate) fn start(draft: &mut Draft, buffers: u32) -> Result<usize, NameError>
     requires few { draft.old.buffers + buffers < 2 ^ 32 }
     ensures at { IfOk result (λ own. own ≡ length draft.old.places.items) }
     ensures places { OnOk result (draft.new.places.items ≡ draft.old.places.items ++ unnamed kind.Param ∷ []) }
@@ -91,12 +90,12 @@ pub fn start(draft: &mut Draft, buffers: u32) -> Result<usize, NameError>
 {
     let own = draft.places.len();
     draft.buffers += buffers;
-    push(&mut draft.places, unnamed(PlaceKind::Param))?;
+    draft.places.push(unnamed(PlaceKind::Param))?;
     Ok(own)
 }
 
 /// Settles what stands at a place that was kept free.
-pub fn settle(draft: &mut Draft, own: usize, kind: PlaceKind)
+pub(crate) fn settle(draft: &mut Draft, own: usize, kind: PlaceKind)
     requires { own < length draft.old.places.items }
     ensures places { draft.new.places.items ≡ slice_set draft.old.places.items own (unnamed kind) }
     ensures calls { draft.new.calls ≡ draft.old.calls }
@@ -114,16 +113,19 @@ fn put_results(draft: &mut Draft, call: u32, results: usize) -> Result<(), NameE
     ensures refused { IfErr result (λ e. e ≡ error.OutOfMemory) }
 {
     'each: for i in 0..results {
-        push(
-            &mut draft.places,
-            unnamed(PlaceKind::Result(call, i as u32)),
-        )?;
+        draft
+            .places
+            .push(unnamed(PlaceKind::Result(call, i as u32)))?;
     }
     Ok(())
 }
 
 /// Keeps a call free behind the places of its results, and answers how many calls stand before it.
-pub fn start_call(alloc: Global, draft: &mut Draft, results: usize) -> Result<usize, NameError>
+pub(crate) fn start_call(
+    alloc: Global,
+    draft: &mut Draft,
+    results: usize,
+) -> Result<usize, NameError>
     requires few { results ≤ most_places + 1 }
     requires calls { length draft.old.calls.items ≤ most_places }
     ensures at { IfOk result (λ site. site ≡ length draft.old.calls.items) }
@@ -134,20 +136,17 @@ pub fn start_call(alloc: Global, draft: &mut Draft, results: usize) -> Result<us
 {
     let site = draft.calls.len();
     put_results(draft, site as u32 + 1, results)?;
-    push(
-        &mut draft.calls,
-        CallSite {
-            node: 0,
-            at: None,
-            first: 0,
-            args: Numbers::new(Vec::new(alloc)),
-        },
-    )?;
+    draft.calls.push(CallSite {
+        node: 0,
+        at: None,
+        first: 0,
+        args: Numbers::new(Vec::new(alloc)),
+    })?;
     Ok(site)
 }
 
 /// Settles a call that was kept free.
-pub fn settle_call(draft: &mut Draft, site: usize, call: CallSite)
+pub(crate) fn settle_call(draft: &mut Draft, site: usize, call: CallSite)
     requires { site < length draft.old.calls.items }
     ensures calls { draft.new.calls.items ≡ slice_set draft.old.calls.items site call }
     ensures places { draft.new.places ≡ draft.old.places }
@@ -157,7 +156,7 @@ pub fn settle_call(draft: &mut Draft, site: usize, call: CallSite)
 }
 
 /// The call of a node whose first result has this place.
-pub fn call_site(
+pub(crate) fn call_site(
     alloc: Global,
     names: &Names<'_, '_>,
     node: &Name,
@@ -179,7 +178,7 @@ pub fn call_site(
 }
 
 /// How many buffers a form itself is.
-pub fn buffers_of(expr: &Expr) -> u32
+pub(crate) fn buffers_of(expr: &Expr) -> u32
     ensures { result ≡ buffers_of (expr_phrase expr.now) }
 {
     match expr {

@@ -46,7 +46,11 @@ fn define<'p>(scope: &mut Scope<'p>, defs: &'p [Def]) -> Result<(), NameError>
 }
 
 /// The names of a node's streams, in order of their places.
-pub fn streams<'p>(alloc: Global, hash: NameHash, node: &'p Node) -> Result<Scope<'p>, NameError>
+pub(crate) fn streams<'p>(
+    alloc: Global,
+    hash: NameHash,
+    node: &'p Node,
+) -> Result<Scope<'p>, NameError>
     ensures ok { IfOk result (λ scope. (repeats [] (streams (node_tree node.now)) ≡ []) × (scope ≡ map text_of (streams (node_tree node.now)))) }
     ensures refused { IfErr result (Tells (repeats [] (streams (node_tree node.now)))) }
 {
@@ -68,7 +72,7 @@ fn result<'p>(streams: &Scope<'_>, before: &mut Scope<'p>, name: &'p Name) -> Re
 }
 
 /// The results of a node with these streams.
-pub fn results(
+pub(crate) fn results(
     alloc: Global,
     hash: NameHash,
     streams: &Scope<'_>,

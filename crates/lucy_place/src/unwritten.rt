@@ -119,7 +119,7 @@ fn defined(first: Option<Span>, def: &Def) -> Option<Span>
 }
 
 /// The first span that keeps a node from being written.
-pub fn first_unwritten(node: &Node) -> Option<Span>
+pub(crate) fn first_unwritten(node: &Node) -> Option<Span>
     ensures { result ≡ first_unwritten (node_tree node.now) }
 {
     let mut found = declared(None, node.params.list());

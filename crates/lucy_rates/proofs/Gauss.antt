@@ -5,7 +5,7 @@ use Rattle.std.proofs.Math.Nat.{le_of_dvd, eq_of_mul-eq-mul_right, dvd-mul_left,
 use Rattle.std.proofs.lemmas.Nat.{mod-mul-add, mul-le}
 use Rattle.std.proofs.lemmas.Nat.Gcd.{dvd_trans, IsGcd-from_zero, IsGcd-from_mod, IsGcd-swap, same_from_IsGcd}
 use Rattle.std.proofs.lemmas.Bool.{cases_lt}
-use Rattle.lucy_rates.specs.Gauss.{LeastLaw, TimesLaw}
+use Rattle.lucy_rates.specs.Gauss.{TimesLaw}
 
 mod_scale : (a b c : ℕ) → 0 < b → (a * c) % (b * c) ≡ a % b * c
 mod_scale a b zero h = let e : a * zero ≡ 0 = omega arith in let f : b * zero ≡ 0 = omega arith in let g : (a * zero) % (b * zero) ≡ 0 % 0 = ap (λ x. x % (b * zero)) e ∙ ap (λ y. 0 % y) f in let k : 0 % 0 ≡ 0 = refl in omega arith
@@ -53,16 +53,6 @@ apart a b g h some =
     let e : r.0 * g ≡ g = same_from_IsGcd a b (r.0 * g) g s h in
     let one : r.0 ≡ 1 = only r.0 g some e in
     subst (λ (x : ℕ). IsGcd (a / g) (b / g) x) one r.1
-
-pub least_law : LeastLaw
-least_law a b g m h some da db =
-    let ea : a / g * g ≡ a = div-mul_cancel g h.0 in
-    let eb : b / g * g ≡ b = div-mul_cancel g h.1 in
-    let em : m / b * b ≡ m = div-mul_cancel b db in
-    let f : m ≡ b / g * (m / b) * g = let x : m / b * (b / g * g) ≡ m / b * b = ap (λ y. m / b * y) eb in omega arith in
-    let d : (a / g * g) ∣ (b / g * (m / b) * g) = subst (λ (x : ℕ). x ∣ (b / g * (m / b) * g)) (sym ea) (subst (λ (x : ℕ). a ∣ x) f da) in
-    let k : (a / g) ∣ (m / b) = gauss (a / g) (b / g) (m / b) (apart a b g h some) (dvd_of_mul-dvd-mul_right (a / g) some d) in
-    subst (λ (x : ℕ). (a / g * b) ∣ x) em (mul-dvd-mul_right (a / g) k b)
 
 pub times_law : TimesLaw
 times_law a b len g t h pb pl k some =

@@ -44,12 +44,6 @@ module _ (b : Bool) (lead : ℕ) (ones prefix : ℕ → ℕ) where
       let g : position_count (next n) ≡ lead * ones n + prefix n + ones n = ap (λ z. position_count (shape_behind (laid n) z lead (ones n) (prefix n))) e in
       omega arith
 
-  pub laid_unused : (n : ℕ) → counts b n ≡ false → variable_count (laid (suc n)) ≡ variable_count (laid n)
-  laid_unused n e =
-      let f = laid_step n in
-      let g : position_count (next n) ≡ 0 = ap (λ z. position_count (shape_behind (laid n) z lead (ones n) (prefix n))) e in
-      omega arith
-
   pub laid_more : (m n : ℕ) → m ≤ n → variable_count (laid m) ≤ variable_count (laid n)
   laid_more m zero l = let e : m ≡ 0 = omega arith in let f : variable_count (laid m) ≡ variable_count (laid 0) = ap (λ z. variable_count (laid z)) e in omega arith
   laid_more m (suc n) l = elim (cases_lt n m) [

@@ -150,17 +150,6 @@ rated_start needs root parents depths rates good num den depth =
       up = λ c r n. absurd (n (own c r));
     }
 
--- the lists once the root is set
-pub deep_start : (roots depths : List ℕ) (root : ℕ) → AreDeep roots depths → get_or roots root 0 ≡ no_number → root < length roots → root < length depths → (root ≡ no_number → ⊥) → AreDeep (set roots root root) (set depths root 0)
-deep_start roots depths root h none l m is_root c =
-    let one = one_fewer roots root root l none is_root in
-    let len = length-set roots root root in
-    let b = h c in
-    elim (cases_eq c root) [
-      | inl e ↦ (let a : get_or (set depths root 0) c 0 ≡ 0 = ap (λ z. get_or (set depths root 0) z 0) e ∙ get_or-set_same depths root 0 0 m in omega arith)
-      | inr n ↦ (let a : get_or (set depths root 0) c 0 ≡ get_or depths c 0 = get_or-set_other depths root c 0 0 (omega arith) in omega arith)
-    ]
-
 -- the trees, one of which is new
 abbrev pub with_tree : (ℕ → List ℕ) → ℕ → List ℕ → ℕ → List ℕ
 with_tree tree root t r = cond (eqb r root) t (tree r)
@@ -307,20 +296,6 @@ planting_of needs clocks root tree t o p d x one n p' d' x' before none size ins
       ];
       own = own;
     }
-
--- a clock that has a root is done
-pub planted_skip : (needs : List Need) (clocks at : ℕ) (tree : ℕ → List ℕ) (roots parents depths : List ℕ) (rates : List Fraction) → ArePlanted needs clocks at tree roots parents depths rates → (get_or roots at 0 ≡ no_number → ⊥) →
-    ArePlanted needs clocks (at + 1) tree roots parents depths rates
-planted_skip needs clocks at tree roots parents depths rates h some = record {
-  done = λ c l e. elim (cases_lt c at) [ inl m ↦ h.done c m e | inr m ↦ (let z : at ≡ c = omega arith in some (ap (λ y. get_or roots y 0) z ∙ e)) ];
-  least = h.least;
-  below = λ c l k. (let m = h.below c l k in omega arith);
-  own = h.own;
-  reached = h.reached;
-  apart = h.apart;
-  is_tree = h.is_tree;
-  rated = h.rated;
-}
 
 -- before the first tree
 pub planted_none : (needs : List Need) (clocks : ℕ) (roots parents depths : List ℕ) (rates : List Fraction) → All (λ r. r ≡ no_number) roots → length roots ≡ clocks → clocks ≤ no_number → All (IsWithin clocks) needs →

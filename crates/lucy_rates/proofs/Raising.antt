@@ -38,10 +38,6 @@ raised list after place number i is l =
 pub raised_size : (list after : List ℕ) (place number : ℕ) → after ≡ slice_set list place (max (slice_index list place) number) → length after ≡ length list
 raised_size list after place number is = ap length is ∙ length-set list place (max (slice_index list place) number)
 
--- tops
-pub tops_none : (roots vector : List ℕ) (n : ℕ) → n ≡ length roots → AreTops roots vector 0 (replicate n 0)
-tops_none roots vector n e = record { size = length-replicate n 0 ∙ e; each = λ root l. get_or-replicate n root 0 0 (omega arith) }
-
 pub tops_raise : (roots vector : List ℕ) (c : ℕ) (before after : List ℕ) → AreTops roots vector c before → after ≡ slice_set before (slice_index roots c) (max (slice_index before (slice_index roots c)) (slice_index vector c)) →
     (c ≡ 0) ⊎ (slice_index roots c ≡ 0 → ⊥) → AreTops roots vector (c + 1) after
 tops_raise roots vector c before after so_far is counting = record {
@@ -137,14 +133,6 @@ common_large b top c clocks period l so_far some e large = λ n positive all.
     let d = (lcm_splits period (top c) m.0 n m.1).1 ((so_far.exact n).1 (λ i k h. all i (omega arith) h), all c l e) in
     let k = le_of_dvd positive d in
     omega arith
-
--- prefixes
-pub longest_none : (needs : List Need) (clocks : ℕ) → AreLongest needs clocks 0 (replicate clocks 0)
-longest_none needs clocks = record {
-  size = length-replicate clocks 0;
-  each = λ c l. get_or-replicate clocks c 0 0 l;
-  few = λ c l. (let e : slice_index (replicate clocks 0) c ≡ 0 = get_or-replicate clocks c 0 0 l in omega arith);
-}
 
 cond_few : (b : Bool) (n m : ℕ) → n ≤ m → cond b n 0 ≤ m
 cond_few true n m l = l

@@ -147,9 +147,6 @@ rated_step needs clocks root tree m roots parents depths rates s t next h at goo
       ];
     }
 
-pub kept_none : (root : ℕ) (roots parents depths : List ℕ) (rates : List Fraction) → AreKept root roots parents depths rates roots parents depths rates
-kept_none root roots parents depths rates = record { root_kept = λ c h. refl; parent_kept = λ c h. refl; depth_kept = λ c h. refl; rate_kept = λ c h. refl; near = λ c h. inl h }
-
 pub kept_step : (root : ℕ) (r0 p0 d0 : List ℕ) (x0 : List Fraction) (r p d : List ℕ) (x : List Fraction) (new m v : ℕ) (next : Fraction) → AreKept root r0 p0 d0 x0 r p d x → get_or r new 0 ≡ no_number → new < length r →
     AreKept root r0 p0 d0 x0 (set r new root) (set p new m) (set d new v) (set x new next)
 kept_step root r0 p0 d0 x0 r p d x new m v next h none l =

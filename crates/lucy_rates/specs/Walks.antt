@@ -4,20 +4,10 @@ use Rattle.std.specs.List.{AllByRecursion}
 use Rattle.lucy_word.specs.Always.{always}
 use Rattle.lucy_word.specs.Bits.{ones_in}
 use Rattle.lucy_need.specs.Meeting.{Assignment, AreWordsIn, IsWithin, MeetsAll}
+pub use Rattle.lucy_need.specs.Meeting.{first_of, second_of}
 use Rattle.lucy_need.specs.Stored.{HasWords}
-use Rattle.lucy_need.specs.declared.need.Term.{Term}
 use Rattle.lucy_need.specs.declared.need.Need.{Need}
-use Rattle.lucy_need.specs.declared.need.Need.TheVariants.{Equal, Adapt}
-
--- the first term of a need
-abbrev pub first_of : Need → Term
-first_of (Equal s t) = s
-first_of (Adapt s t) = s
-
--- the second term of a need
-abbrev pub second_of : Need → Term
-second_of (Equal s t) = t
-second_of (Adapt s t) = t
+use Rattle.lucy_need.specs.declared.need.Need.TheVariants.{Equal}
 
 -- what stands past the end of a list
 abbrev pub no_need : Need

@@ -20,33 +20,22 @@ use lucy_word::Limit;
 use std::alloc::{AllocError, Global};
 
 /// No clock, or no need.
-pub const NONE: u32 = u32::MAX;
+pub(crate) const NONE: u32 = u32::MAX;
 
 /// The trees of all components. For each clock by its number: the root of its component, which is its least clock; the need that
 /// reached it, by its number from 0 (`NONE` for a root); how many needs lead from it to its root along the tree; and its rate,
 /// that of the root being 1.
 #[derive(Drop)]
-pub struct Forest {
+pub(crate) struct Forest {
     pub roots: Vec<u32>,
     pub parents: Vec<u32>,
     pub depths: Vec<u32>,
     pub rates: Vec<Fraction>,
 }
 
-/// The two terms of a need.
-pub fn terms(need: &Need) -> (&Term, &Term)
-    ensures first { result.0.now ≡ first_of need.now }
-    ensures second { result.1.now ≡ second_of need.now }
-{
-    match need {
-        Need::Equal(s, t) => (s, t),
-        Need::Adapt(s, t) => (s, t),
-    }
-}
-
 /// By what a rate is multiplied from the clock of the first term to that of the second: numerator and denominator, not in lowest
 /// terms.
-pub fn factor(first: &Term, second: &Term) -> (u64, u64)
+pub(crate) fn factor(first: &Term, second: &Term) -> (u64, u64)
     ensures over { result.0 ≡ ones_in first.now.word.period * length second.now.word.period }
     ensures under { result.1 ≡ length first.now.word.period * ones_in second.now.word.period }
     ensures some { 0 < result.0 }
@@ -60,7 +49,11 @@ pub fn factor(first: &Term, second: &Term) -> (u64, u64)
 }
 
 /// For each clock the first need that names it, or the number of needs where none does.
-pub fn first_needs(alloc: Global, clocks: u32, needs: &[Need]) -> Result<Vec<u32>, AllocError>
+pub(crate) fn first_needs(
+    alloc: Global,
+    clocks: u32,
+    needs: &[Need],
+) -> Result<Vec<u32>, AllocError>
     requires within { All (IsWithin clocks) needs.now }
     requires few { length needs.now ≤ most_needs }
     ensures { IfOk result (λ firsts. AreFirstNeeds needs.now clocks firsts.items) }
@@ -78,7 +71,7 @@ fn name_all(list: &mut [u32], needs: &[Need])
     ensures { AreFirstSoFar needs.now (length list.old) (length needs.now) list.new }
 {
     for k in 0..needs.len() {
-        let (first, second) = terms(&needs[k]);
+        let (first, second) = needs[k].terms();
         name(list, first.clock as usize, k as u32);
         name(list, second.clock as usize, k as u32);
     }
@@ -100,7 +93,7 @@ fn step<'a>(need: &'a Need, roots: &[u32]) -> Option<(&'a Term, &'a Term)>
     ensures some { IfSome result (λ r. IsStep roots.now need.now r.0.now r.1.now) }
     ensures none { IfNone result ((s t : TheTerm) → IsStep roots.now need.now s t → ⊥) }
 {
-    let (first, second) = terms(need);
+    let (first, second) = need.terms();
     let from = roots[first.clock as usize] != NONE;
     let to = roots[second.clock as usize] != NONE;
     if from && !to {
@@ -234,7 +227,7 @@ fn plant_all(
 
 /// The trees of all components of the clocks below a number, each from its least clock, with the rates that they give.
 /// `Limit(Rate)` comes exactly where the rate of some clock in lowest terms has a number over that limit.
-pub fn grow_all(
+pub(crate) fn grow_all(
     alloc: Global,
     clocks: u32,
     needs: &[Need],

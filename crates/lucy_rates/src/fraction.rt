@@ -6,13 +6,13 @@ use lucy_word::gcd;
 
 /// A fraction in lowest terms, both numbers above 0.
 #[derive(Clone, Copy, Debug, PartialEq, Eq)]
-pub struct Fraction {
+pub(crate) struct Fraction {
     pub num: u64,
     pub den: u64,
 }
 
 /// A fraction times another, which needn't be in lowest terms.
-pub fn times(rate: Fraction, num: u64, den: u64) -> Fraction
+pub(crate) fn times(rate: Fraction, num: u64, den: u64) -> Fraction
     requires some { 0 < rate.num }
     requires over { 0 < rate.den }
     requires by { 0 < num }

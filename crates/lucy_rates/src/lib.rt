@@ -8,7 +8,6 @@
 
 mod forest;
 mod fraction;
-mod grow;
 mod laws;
 mod rating;
 mod shape_laws;

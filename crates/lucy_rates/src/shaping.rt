@@ -12,8 +12,7 @@ ghost use Rattle.lucy_rates.specs.Forests.{IsForest};
 ghost use Rattle.lucy_rates.specs.Vectors.{IsNamed, AreBalanced, IsShapeOf, IsTooWide};
 ghost use Rattle.lucy_rates.specs.Laying.{AreTops, counts, IsPeriodTo, HasLargeCommon, AreLongest, AreOnes, laid_out};
 
-use crate::forest::{Forest, terms};
-use crate::grow::push;
+use crate::forest::Forest;
 use crate::vector::{factors, multiple, vector};
 use lucy_need::{Need, Needs};
 use lucy_shape::{ClockShape, ClockShapes, RateFault, Shape};
@@ -25,7 +24,7 @@ fn is_base_named(needs: &[Need]) -> bool
     ensures { IsTrue result ↔ IsNamed needs.now 0 }
 {
     for need in needs {
-        let (first, second) = terms(need);
+        let (first, second) = need.terms();
         if first.clock == 0 || second.clock == 0 {
             return true;
         }
@@ -129,7 +128,7 @@ fn raise_prefixes(prefixes: &mut [u64], needs: &[Need])
     ensures { AreLongest needs.now (length prefixes.old) (length needs.now) prefixes.new }
 {
     for need in needs {
-        let (first, second) = terms(need);
+        let (first, second) = need.terms();
         let (first_prefix, _) = first.word.lengths();
         let (second_prefix, _) = second.word.lengths();
         raise(prefixes, first.clock as usize, first_prefix);
@@ -167,7 +166,7 @@ fn ones(
     let mut list = Vec::new(alloc);
     for clock in 0..roots.len() {
         let periods = period / tops[roots[clock] as usize];
-        push(&mut list, vector[clock] * periods)?;
+        list.push(vector[clock] * periods)?;
     }
     Ok(list)
 }
@@ -238,14 +237,14 @@ fn shapes(
             first,
         )?;
         first += shape.lead + shape.ones;
-        push(&mut list, shape)?;
+        list.push(shape)?;
     }
     Ok(list)
 }
 
 /// The shape of balanced needs, with a scale and a lead from 1 to 64, from the trees and rates of their clocks.
 /// `Limit(Positions)` comes where it has more positions than that limit allows. It never answers `Unequal`, or another limit.
-pub fn shape_of(
+pub(crate) fn shape_of(
     alloc: Global,
     needs: &Needs,
     forest: &Forest,

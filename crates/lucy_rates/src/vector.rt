@@ -11,9 +11,8 @@ ghost use Rattle.lucy_shape.specs.Fitting.{most_positions};
 ghost use Rattle.lucy_rates.specs.Forests.{rate_at, IsRateFraction, IsForest};
 ghost use Rattle.lucy_rates.specs.Laying.{AreFactors, AreAsked, AsksTooMuch, HasLargeFactor, AreMultiplied};
 
-use crate::forest::{Forest, terms};
+use crate::forest::Forest;
 use crate::fraction::Fraction;
-use crate::grow::push;
 use lucy_need::{Need, Term};
 use lucy_shape::RateFault;
 use lucy_word::{Limit, gcd, lcm};
@@ -23,7 +22,7 @@ use std::alloc::Global;
 /// bits, if it is within the limit too. In each component some clock has as many ones as the period, and the period is a multiple
 /// of each number that is met on the way to it: so one past the limit means that there are too many positions, and none is
 /// computed further.
-pub fn multiple(a: u64, b: u64) -> Result<u64, RateFault>
+pub(crate) fn multiple(a: u64, b: u64) -> Result<u64, RateFault>
     requires left { 0 < a }
     requires few { a ≤ most_positions }
     requires right { 0 < b }
@@ -81,7 +80,7 @@ fn ask_all(factors: &mut [u64], forest: &Forest, needs: &[Need]) -> Result<(), R
     ensures refused { IfErr result (λ e. (e ≡ fault.Limit limit.Positions) × HasLargeFactor needs.now forest.now.roots.items forest.now.rates.items) }
 {
     for need in needs {
-        let (first, second) = terms(need);
+        let (first, second) = need.terms();
         ask(factors, forest, first)?;
         ask(factors, forest, second)?;
     }
@@ -90,7 +89,7 @@ fn ask_all(factors: &mut [u64], forest: &Forest, needs: &[Need]) -> Result<(), R
 
 /// For each root, by its clock's number, the least number by which the rates of its component are multiples of the period lengths
 /// of all words after their clocks; 1 for a clock that is no root. `Limit(Positions)` comes where one is past that limit.
-pub fn factors(alloc: Global, forest: &Forest, needs: &[Need]) -> Result<Vec<u64>, RateFault>
+pub(crate) fn factors(alloc: Global, forest: &Forest, needs: &[Need]) -> Result<Vec<u64>, RateFault>
     requires within { All (IsWithin (length forest.now.roots.items)) needs.now }
     requires forest { IsForest needs.now (length forest.now.roots.items) forest.now.roots.items forest.now.parents.items forest.now.rates.items }
     ensures ok { IfOk result (λ list. AreFactors needs.now forest.now.roots.items forest.now.rates.items (length needs.now) list.items) }
@@ -112,7 +111,7 @@ fn multiplied(rate: Fraction, factor: u64) -> u64
 }
 
 /// For each clock by its number its rate times the factor of its component.
-pub fn vector(alloc: Global, forest: &Forest, factors: &[u64]) -> Result<Vec<u64>, RateFault>
+pub(crate) fn vector(alloc: Global, forest: &Forest, factors: &[u64]) -> Result<Vec<u64>, RateFault>
     requires sizes { (length forest.now.rates.items ≡ length forest.now.roots.items) × (length factors.now ≡ length forest.now.roots.items) }
     requires roots { (c : ℕ) → c < length forest.now.roots.items → slice_index forest.now.roots.items c < length forest.now.roots.items }
     requires rates { (c : ℕ) → c < length forest.now.roots.items → IsRateFraction (rate_at forest.now.rates.items c) }
@@ -123,7 +122,7 @@ pub fn vector(alloc: Global, forest: &Forest, factors: &[u64]) -> Result<Vec<u64
     let mut list = Vec::new(alloc);
     for clock in 0..forest.roots.len() {
         let factor = factors[forest.roots[clock] as usize];
-        push(&mut list, multiplied(forest.rates[clock], factor))?;
+        list.push(multiplied(forest.rates[clock], factor))?;
     }
     Ok(list)
 }

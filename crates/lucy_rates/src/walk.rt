@@ -8,7 +8,7 @@ ghost use Rattle.lucy_rates.specs.Trees.{AreEven, IsBalanced, IsFirstUnequal};
 ghost use Rattle.lucy_rates.specs.Forests.{rate_at, IsForest, IsRateFraction};
 ghost use Rattle.lucy_rates.specs.Growing.{ArePlanted, IsOther, IsWayBack};
 
-use crate::forest::{Forest, factor, terms};
+use crate::forest::{Forest, factor};
 use crate::fraction::{Fraction, times};
 use lucy_need::Need;
 use std::alloc::{AllocError, Global};
@@ -26,14 +26,14 @@ fn is_even(need: &Need, rates: &[Fraction]) -> bool
     requires second { IsRateFraction (rate_at rates.now (second_of need.now).clock) }
     ensures { IsTrue result ↔ AreEven need.now (rate_at rates.now (first_of need.now).clock).num (rate_at rates.now (first_of need.now).clock).den (rate_at rates.now (second_of need.now).clock).num (rate_at rates.now (second_of need.now).clock).den }
 {
-    let (first, second) = terms(need);
+    let (first, second) = need.terms();
     let (num, den) = factor(first, second);
     let expected = times(rates[first.clock as usize], num, den);
     is_same(expected, rates[second.clock as usize])
 }
 
 /// The number, from 0, of the first need that isn't balanced: the rates of its two sides differ.
-pub fn first_unbalanced(needs: &[Need], forest: &Forest) -> Option<u32>
+pub(crate) fn first_unbalanced(needs: &[Need], forest: &Forest) -> Option<u32>
     requires within { All (IsWithin (length forest.now.rates.items)) needs.now }
     requires few { length needs.now ≤ most_needs }
     requires forest { IsForest needs.now (length forest.now.rates.items) forest.now.roots.items forest.now.parents.items forest.now.rates.items }
@@ -56,7 +56,7 @@ fn up_from(needs: &[Need], parents: &[u32], clock: u32) -> (u32, u32)
     ensures other { IsOther needs.now (slice_index parents.now clock) clock result.1 }
 {
     let need = parents[clock as usize];
-    let (first, second) = terms(&needs[need as usize]);
+    let (first, second) = needs[need as usize].terms();
     let next = if first.clock == clock {
         second.clock
     } else {
@@ -124,7 +124,7 @@ fn led_by(alloc: Global, need: u32, rest: &[u32]) -> Result<Vec<u32>, AllocError
 }
 
 /// The walk that shows that a need isn't balanced: along it from its first clock to its second, and back along the tree.
-pub fn walk_of(
+pub(crate) fn walk_of(
     alloc: Global,
     needs: &[Need],
     forest: &Forest,
@@ -141,7 +141,7 @@ pub fn walk_of(
     ensures first { IfOk result (λ walk. IsFirstUnequal needs.now walk.items) }
     ensures unequal { IfOk result (λ walk. IsUnequalWalk needs.now walk.items) }
 {
-    let (first, second) = terms(&needs[need as usize]);
+    let (first, second) = needs[need as usize].terms();
     let back = way_back(alloc, needs, forest, second.clock, first.clock)?;
     led_by(alloc, need, &back)
 }

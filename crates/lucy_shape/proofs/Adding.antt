@@ -15,9 +15,6 @@ append_nil (x ∷ xs) = ap (λ l. x ∷ l) (append_nil xs)
 abbrev with_list : ℕ → List Diff → System
 with_list n l = record { count = n; list = l }
 
-pub added_none : (s : System) → s ≡ with_rows s []
-added_none s = ap (λ l. with_list s.count l) (append_nil s.list)
-
 pub added_more : (old now next : System) (rows more all : List Diff) → now ≡ with_rows old rows → next ≡ with_rows now more → all ≡ rows ++ more → next ≡ with_rows old all
 added_more old now next rows more all e f g =
     f ∙ ap (λ s. with_rows s more) e ∙ ap (λ l. with_list old.count l) (append_assoc old.list rows more ∙ ap (λ l. old.list ++ l) (sym g))

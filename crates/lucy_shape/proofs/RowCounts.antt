@@ -38,6 +38,3 @@ used_count P is_base c used some =
     times : (b : Bool) (n : ℕ) → cond b 2 1 * n + n ≡ cond b 3 2 * n
     times true n = omega arith
     times false n = omega arith
-
-pub unused_count : (P : ℕ) (is_base : Bool) (c : ClockShape) → c.used ≡ false → length (clock_rows P is_base c) ≡ 0
-unused_count P is_base c used = ap (λ b. length (cond b (cond is_base (base_rows c) (bound_rows c) ++ (neighbour_rows c ++ period_row P c ∷ [])) [])) used

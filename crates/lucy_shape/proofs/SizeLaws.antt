@@ -92,17 +92,6 @@ pub spreads_at : (needs : Needs) (shape : Shape) (need : Need) → IsShapeFor ne
     IsNeedSpreadable (variable_count shape.clocks) shape.clocks need
 spreads_at needs shape need is words has = need_spreads shape need is.laid (words_at needs need words has) (carried_at needs shape need is has)
 
--- a position that is so small can be folded
-pub fold_small : (P n m : ℕ) (c : ClockShape) → IsPlaced n c → n ≤ 1 + most_positions → P ≤ most_positions → 0 < m → m ≤ 2097152 → IsFoldable P c m
-fold_small P n m c is few short some less =
-    let a = fold_most m c.lead c.ones m 0 P is.some (omega arith) in
-    let b : (m + 0) * P ≤ 2097152 * 65536 = mul-le (m + 0) P 2097152 65536 (omega arith) short in
-    record {
-      placed = record { some = is.some; first = is.first; within = (let d = is.within in omega arith) };
-      some = some;
-      fits = omega arith;
-    }
-
 module _ (needs : Needs) (shape : Shape) (w : Assignment) (xs : List ℤ) (from to size : ℕ) (is : IsShapeFor needs shape) (fitting : IsFitting shape w) (are : ArePositions shape w xs)
     (carried : AreCarried shape.clocks (alone from) (alone to)) where
   abbrev c : ClockShape

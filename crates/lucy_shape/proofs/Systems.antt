@@ -36,8 +36,3 @@ fits_and_meets needs shape xs is words solves =
 
 abbrev empty : ℕ → System
 empty n = record { count = n; list = [] }
-
-pub system_is : (needs : Needs) (shape : Shape) (n : ℕ) (first mid last : System) → n ≡ variable_count shape.clocks → first ≡ empty n → mid ≡ with_rows first (shape_rows shape) →
-    last ≡ with_rows mid (flat_map (need_rows shape.period shape.clocks) needs.list) → last ≡ system_of needs shape
-system_is needs shape n first mid last e f g h =
-    h ∙ ap (λ s. with_rows s (flat_map (need_rows shape.period shape.clocks) needs.list)) (g ∙ ap (λ s. with_rows s (shape_rows shape)) (f ∙ ap empty e))

@@ -32,9 +32,6 @@ use Rattle.lucy_shape.specs.WordOf.{natural, numbers, word_at, positions_of, wri
 use Rattle.lucy_shape.specs.Writing.{IsWordOf, IsWrittenLong, AreWordsOf, HasLongWord}
 use Rattle.lucy_word.specs.Always.{always}
 
-pub so_far_none : (shape : Shape) (xs : List ℤ) (words : List Bits) → words ≡ [] → AreWordsSoFar shape xs 0 words
-so_far_none shape xs words e = record { size = ap length e; each = λ c l. absurd (omega arith); short = λ c l. absurd (omega arith); stored = λ c l. absurd (omega arith) }
-
 pub so_far_more : (shape : Shape) (xs : List ℤ) (i : ℕ) (words more : List Bits) (word : Bits) → AreWordsSoFar shape xs i words → more ≡ words ++ word ∷ [] → IsStored word →
     IsWordOf shape.period (clock_at shape.clocks i) xs word → ((clock_at shape.clocks i).used ≡ true → IsWrittenLong shape.period (clock_at shape.clocks i) xs → ⊥) → AreWordsSoFar shape xs (i + 1) more
 so_far_more shape xs i words more word h e stored is short = record {

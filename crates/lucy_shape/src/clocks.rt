@@ -141,7 +141,7 @@ fn add_clock(
 }
 
 /// The inequalities of all clocks, one after the other.
-pub fn add_clocks(alloc: Global, diffs: &mut Diffs, shape: &Shape) -> Result<(), RateFault>
+pub(crate) fn add_clocks(alloc: Global, diffs: &mut Diffs, shape: &Shape) -> Result<(), RateFault>
     requires laid { IsLaidOut shape.now }
     requires count { diffs.old.count ≡ variable_count shape.now.clocks }
     ensures ok { OnOk result (diffs.new ≡ with_rows diffs.old (shape_rows shape.now)) }
@@ -155,7 +155,7 @@ pub fn add_clocks(alloc: Global, diffs: &mut Diffs, shape: &Shape) -> Result<(),
 }
 
 /// How many inequalities a clock has.
-pub fn rows_of_clock(clock: &ClockShape, is_base: bool) -> u64
+pub(crate) fn rows_of_clock(clock: &ClockShape, is_base: bool) -> u64
     requires { clock.now.used ≡ true → IsPlaced (1 + most_positions) clock.now }
     ensures { (period : ℕ) → result ≡ length (clock_rows period is_base clock.now) }
 {

@@ -122,7 +122,7 @@ fn add_need(
 }
 
 /// The inequalities of all needs, one after the other.
-pub fn add_needs(
+pub(crate) fn add_needs(
     alloc: Global,
     diffs: &mut Diffs,
     needs: &Needs,
@@ -143,7 +143,7 @@ pub fn add_needs(
 }
 
 /// How many inequalities a need has.
-pub fn rows_of_need(clocks: &[ClockShape], need: &Need) -> u64
+pub(crate) fn rows_of_need(clocks: &[ClockShape], need: &Need) -> u64
     requires { IsNeedSpreadable (1 + most_positions) clocks.now need.now }
     ensures { (period : ℕ) → result ≡ length (need_rows period clocks.now need.now) }
 {

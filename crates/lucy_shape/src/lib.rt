@@ -9,7 +9,6 @@
 #![tactic(auto)]
 
 mod clocks;
-mod grow;
 mod instances;
 mod laws;
 mod marking;

@@ -20,7 +20,12 @@ fn mark(bits: &mut [bool], positions: &[i64], from: u64)
 }
 
 /// So many bits, of which those at the positions are ones. The first bit stands at instant `from`.
-pub fn marks(alloc: Global, len: u64, positions: &[i64], from: u64) -> Result<Vec<bool>, AllocError>
+pub(crate) fn marks(
+    alloc: Global,
+    len: u64,
+    positions: &[i64],
+    from: u64,
+) -> Result<Vec<bool>, AllocError>
     requires { All (IsBetween from len) positions.now }
     ensures size { IfOk result (λ bits. length bits.items ≡ len) }
     ensures marks { IfOk result (λ bits. AreMarks from positions.now bits.items) }
@@ -31,7 +36,7 @@ pub fn marks(alloc: Global, len: u64, positions: &[i64], from: u64) -> Result<Ve
 }
 
 /// So many of the positions from variable `from` on.
-pub fn part<'a>(positions: &'a [i64], from: usize, len: usize) -> &'a [i64]
+pub(crate) fn part<'a>(positions: &'a [i64], from: usize, len: usize) -> &'a [i64]
     requires { from + len ≤ length positions.now }
     ensures size { length result.now ≡ len }
     ensures at { (j : ℕ) → j < len → value result.now j ≡ value positions.now (from + j) }
@@ -40,7 +45,7 @@ pub fn part<'a>(positions: &'a [i64], from: usize, len: usize) -> &'a [i64]
 }
 
 /// The instant of the first of some positions.
-pub fn start_of(positions: &[i64]) -> u64
+pub(crate) fn start_of(positions: &[i64]) -> u64
     requires some { 0 < length positions.now }
     requires at { pos 1 ≤ℤ value positions.now 0 }
     ensures { pos result ≡ value positions.now 0 }

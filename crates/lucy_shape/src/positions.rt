@@ -56,7 +56,7 @@ fn continue_from(list: &mut [u64], word: &Word, known: usize)
 }
 
 /// The positions of its clock at which a term has its first ones, so many of them.
-pub fn positions(alloc: Global, word: &Word, count: u64) -> Result<Vec<u64>, AllocError>
+pub(crate) fn positions(alloc: Global, word: &Word, count: u64) -> Result<Vec<u64>, AllocError>
     requires word { IsWord word.now }
     requires fits { (k : ℕ) → k ≤ count → index_of word.now k < 2 ^ 64 }
     ensures size { IfOk result (λ list. length list.items ≡ count) }

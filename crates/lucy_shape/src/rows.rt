@@ -11,7 +11,7 @@ use lucy_solve::{Diff, Diffs};
 use std::alloc::Global;
 
 /// One more inequality.
-pub fn add(alloc: Global, diffs: &mut Diffs, diff: Diff) -> Result<(), RateFault>
+pub(crate) fn add(alloc: Global, diffs: &mut Diffs, diff: Diff) -> Result<(), RateFault>
     requires { IsProper diffs.old.count diff }
     ensures ok { OnOk result (diffs.new ≡ with_rows diffs.old (diff ∷ [])) }
     ensures refused { IfErr result (λ e. e ≡ fault.OutOfMemory) }
@@ -23,7 +23,12 @@ pub fn add(alloc: Global, diffs: &mut Diffs, diff: Diff) -> Result<(), RateFault
 }
 
 /// Two more inequalities.
-pub fn add_pair(alloc: Global, diffs: &mut Diffs, one: Diff, two: Diff) -> Result<(), RateFault>
+pub(crate) fn add_pair(
+    alloc: Global,
+    diffs: &mut Diffs,
+    one: Diff,
+    two: Diff,
+) -> Result<(), RateFault>
     requires one { IsProper diffs.old.count one }
     requires two { IsProper diffs.old.count two }
     ensures ok { OnOk result (diffs.new ≡ with_rows diffs.old (one ∷ two ∷ [])) }
@@ -56,7 +61,7 @@ fn place(clock: &ClockShape, period: u64, position: u64) -> (u32, u64)
 }
 
 /// A position of a clock stands no later than one of another.
-pub fn instance(
+pub(crate) fn instance(
     period: u64,
     first: &ClockShape,
     position: u64,

@@ -2,7 +2,7 @@
 ghost use Rattle.std.specs.Prelude.{◌≡◌};
 
 use lucy_word::Limit;
-use std::alloc::AllocError;
+use std::alloc::{AllocError, AllocFailed};
 use std::marker::Model;
 
 /// The shape of a clock: past its first `lead` ones, `ones` ones further is one period later. A position is the number of a
@@ -75,6 +75,16 @@ impl From<AllocError> for RateFault {
     ghost from_gives = { λ _ e. e ≡ OutOfMemory };
 
     fn from(_: AllocError) -> Self {
+        RateFault::OutOfMemory
+    }
+}
+
+impl<T: Drop> From<AllocFailed<T>> for RateFault {
+    ghost use Rattle.lucy_shape.specs.declared.shape.RateFault.TheVariants.{OutOfMemory};
+
+    ghost from_gives = { λ _ e. e ≡ OutOfMemory };
+
+    fn from(_: AllocFailed<T>) -> Self {
         RateFault::OutOfMemory
     }
 }

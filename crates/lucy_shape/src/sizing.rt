@@ -14,7 +14,7 @@ use lucy_solve::Diffs;
 use std::alloc::Global;
 
 /// How many inequalities a size has: one for each instance of the need between the two clocks.
-pub fn rows_of_size(clocks: &[ClockShape], from: u32, to: u32) -> u64
+pub(crate) fn rows_of_size(clocks: &[ClockShape], from: u32, to: u32) -> u64
     requires { IsNeedSpreadable (1 + most_positions) clocks.now (Adapt (alone from) (alone to)) }
     ensures count { (period size : ℕ) → result ≡ length (size_rows period clocks.now from to size) }
     ensures few { result ≤ 2 * most_positions }
@@ -25,7 +25,7 @@ pub fn rows_of_size(clocks: &[ClockShape], from: u32, to: u32) -> u64
 }
 
 /// The inequalities by which no more than so many items wait between the two clocks.
-pub fn add_size(
+pub(crate) fn add_size(
     alloc: Global,
     diffs: &mut Diffs,
     period: u64,

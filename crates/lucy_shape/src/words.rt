@@ -12,7 +12,6 @@ ghost use Rattle.lucy_shape.specs.WordOf.{written_word};
 ghost use Rattle.lucy_shape.specs.Writing.{IsWordOf, IsWrittenLong, AreAnswered, AreRefused};
 ghost use Rattle.lucy_shape.specs.Marking.{IsSolved, PassesFirst};
 
-use crate::grow::push;
 use crate::marking::{marks, part, start_of};
 use crate::{ClockShape, RateFault, Shape};
 use lucy_need::always;
@@ -119,7 +118,7 @@ pub fn words_of(alloc: Global, shape: &Shape, positions: &[i64]) -> Result<Vec<W
             return Err(RateFault::Limit(limit_of(shape, positions)));
         }
         left -= prefix + period;
-        push(&mut words, word)?;
+        words.push(word)?;
     }
     Ok(words)
 }

@@ -1,9 +1,8 @@
 -- A graph that is drawn rule by rule says what the rules say.
-use Rattle.std.proofs.Common.{ℕ, ◌≡◌, ◌<◌, ◌++◌, ◌∷◌, [], List, length, replicate, Bool as Truth, true, false, arith, ap, sym, ◌∙◌, subst, set, inl, inr, length-set, get_or-set_same, get_or-set_other}
+use Rattle.std.proofs.Common.{ℕ, ◌≡◌, ◌<◌, ◌++◌, ◌∷◌, [], List, length, Bool as Truth, true, false, arith, ap, sym, ◌∙◌, subst, set, inl, inr, length-set, get_or-set_same, get_or-set_other}
 use Rattle.std.specs.Prelude.{◌⊎◌}
 use Rattle.std.specs.List.{Contains}
-use Rattle.std.proofs.lemmas.Bool.{cases_lt, cases_eq}
-use Rattle.std.proofs.lemmas.List.{get_or-replicate, get_or_past, length-replicate}
+use Rattle.std.proofs.lemmas.Bool.{cases_eq}
 use Rattle.std.proofs.lemmas.List.Elements.{Contains-append_left, Contains-push, Contains-push_cases}
 use Rattle.lucy_host.specs.declared.data_type.DataType.{DataType}
 use Rattle.lucy_host.specs.declared.data_type.DataType.TheVariants.{Int, Bool}
@@ -12,7 +11,6 @@ use Rattle.lucy_types.specs.declared.rule.Rule.{Rule}
 use Rattle.lucy_types.specs.declared.rule.Rule.TheVariants.{Is, Alike}
 use Rattle.lucy_types.specs.Clash.{Touch}
 use Rattle.lucy_types.specs.Graphs.{HasTrue, beside, added, joined, GraphRule, room, Fits, AllFit, IsEven, IsDrawn, Draws, IsGraph}
-use Rattle.lucy_types.proofs.ListLaws.{contains_none}
 use Rattle.lucy_types.proofs.TypingLaws.{touch_weaker}
 
 true_new : (xs : List Truth) (p : ℕ) → p < length xs → HasTrue (set xs p true) p
@@ -191,36 +189,6 @@ even_kept (Is p Int) old new v w = (ap length w.0 ∙ length-set old.ints.items 
 even_kept (Is p Bool) old new v w = (ap length w.0 ∙ v.0 ∙ sym (ap length w.2), ap length w.1 ∙ length-set old.bools.items p true ∙ v.1 ∙ sym (ap length w.2))
 even_kept (Alike p q) old new v w =
     let e = room_kept (Alike p q) old new w in (ap length w.0 ∙ v.0 ∙ sym e, ap length w.1 ∙ v.1 ∙ sym e)
-
-no_true : (n p : ℕ) → HasTrue (replicate n false) p → ⊥
-no_true n p h =
-    elim (cases_lt p n) [
-      | inl l ↦ cc (get_or-replicate n p false false l)
-      | inr l ↦ cc (get_or_past (replicate n false) p false (let e : length (replicate n false) ≡ n = length-replicate n false in omega arith))
-    ]
-
-none_beside : (n p : ℕ) → beside (replicate n []) p ≡ []
-none_beside n p =
-    elim (cases_lt p n) [
-      | inl l ↦ get_or-replicate n p [] [] l
-      | inr l ↦ get_or_past (replicate n []) p [] (let e : length (replicate n (let x : List ℕ = [] in x)) ≡ n = length-replicate n [] in omega arith)
-    ]
-
--- a bare graph says nothing
-pub drawn_none : (n : ℕ) (g : Graph) → g.ints.items ≡ replicate n false → g.bools.items ≡ replicate n false → g.near.items ≡ replicate n [] → IsDrawn [] g
-drawn_none n g i b e = record {
-  says_is = λ p t. is p t;
-  says_alike = λ p q h. absurd (near p q h);
-  all = λ rule c. absurd (contains_none rule c);
-  turned = λ p q h. absurd (near p q h);
-}
-  where
-    near : (p q : ℕ) → GraphRule g (Alike p q) → ⊥
-    near p q h = contains_none q (subst (λ ns. Contains ns q) (ap (λ ns. beside ns p) e ∙ none_beside n p) h)
-
-    is : (p : ℕ) (t : DataType) → GraphRule g (Is p t) → Contains [] (Is p t)
-    is p Int h = absurd (no_true n p (subst (λ xs. HasTrue xs p) i h))
-    is p Bool h = absurd (no_true n p (subst (λ xs. HasTrue xs p) b h))
 
 -- a graph of rules that fit
 pub drawn_graph : (rules : List Rule) (g : Graph) → IsEven g → AllFit (room g) rules → IsDrawn rules g → IsGraph g

@@ -1,8 +1,8 @@
 -- The first port of each open class.
-use Rattle.std.proofs.Common.{◌≡◌, ◌+◌, ◌<◌, ◌≤◌, ◌++◌, ◌∷◌, [], ℕ, List, length, replicate, Some, arith, ap, sym, ◌∙◌, subst, get_or, set, inl, inr, length-set, get_or-set_same, get_or-set_other}
+use Rattle.std.proofs.Common.{◌≡◌, ◌+◌, ◌<◌, ◌≤◌, ◌++◌, ◌∷◌, [], ℕ, List, length, Some, arith, ap, sym, ◌∙◌, subst, set, inl, inr, length-set, get_or-set_same, get_or-set_other}
 use Rattle.std.specs.Prelude.{slice_get, slice_index}
 use Rattle.std.proofs.lemmas.Bool.{cases_lt, cases_eq}
-use Rattle.std.proofs.lemmas.List.{length_push, get_or_push, get_or_append_left, length-replicate, get_or-replicate, get_or_past}
+use Rattle.std.proofs.lemmas.List.{length_push, get_or_push, get_or_append_left}
 use Rattle.std.proofs.lemmas.Option.{same_Some, slice_get_within}
 use Rattle.lucy_types.specs.declared.ty.Ty.{Ty}
 use Rattle.lucy_types.specs.declared.ty.Ty.TheVariants as ty
@@ -15,22 +15,6 @@ pub record HaveSeats (most : ℕ) (ports : List Ty) (i : ℕ) (seats heads : Lis
   pub inside : (j : ℕ) → j < i → slice_index heads j ≤ j
   pub seated : (j k : ℕ) → j < i → slice_get ports j ≡ Some (ty.Open k) → slice_index seats k ≡ slice_index heads j + 1
   pub met : (k s : ℕ) → slice_index seats k ≡ s + 1 → (s < i) × (slice_get ports s ≡ Some (ty.Open k))
-
-pub zeros : (n k : ℕ) → slice_index (replicate n 0) k ≡ 0
-zeros n k =
-    elim (cases_lt k n) [
-      | inl h ↦ get_or-replicate n k 0 0 h
-      | inr h ↦ get_or_past (replicate n 0) k 0 (let e : length (replicate {A = ℕ} n 0) ≡ n = length-replicate n 0 in omega arith)
-    ]
-
-pub seats_none : (most : ℕ) (ports : List Ty) (seats heads : List ℕ) → seats ≡ replicate (most + 1) 0 → heads ≡ [] → HaveSeats most ports 0 seats heads
-seats_none most ports seats heads e h = record {
-  all = ap length e ∙ length-replicate (most + 1) 0;
-  heads_all = ap length h;
-  inside = λ j l. absurd (omega arith);
-  seated = λ j k l f. absurd (omega arith);
-  met = λ k s f. let z : slice_index seats k ≡ 0 = ap (λ xs. get_or xs k 0) e ∙ zeros (most + 1) k in absurd (omega arith);
-}
 
 old_head : (heads : List ℕ) (h i j : ℕ) → length heads ≡ i → j < i → slice_index (heads ++ h ∷ []) j ≡ slice_index heads j
 old_head heads h i j e l = get_or_append_left heads (h ∷ []) 0 j (omega arith)

@@ -2,7 +2,7 @@
 use Rattle.std.proofs.Common.{Vec, Global, ℕ, zero, suc, ◌≡◌, ◌+◌, ◌<◌, ◌≤◌, ◌++◌, ◌∷◌, [], List, Some, length, take, arith, ap, sym, ◌∙◌, subst, inl, inr, refl}
 use Rattle.std.specs.Prelude.{slice_get, ◌⊎◌, Result, Ok, Err, IsOk, IfOk, IfErr}
 use Rattle.std.specs.List.{Contains}
-use Rattle.std.proofs.lemmas.List.{take_more, take-append-le, take_at, take_all, map_push, length_push, length-take-le}
+use Rattle.std.proofs.lemmas.List.{take_more, take-append-le, take_at, map_push, length_push}
 use Rattle.std.proofs.lemmas.Option.{slice_get_within, get_or_from_slice_get}
 use Rattle.lucy_place.specs.declared.placed.PlacedNode.{PlacedNode}
 use Rattle.lucy_place.specs.Proper.{at_one, IsProperNode}
@@ -62,9 +62,6 @@ types_results above n tys h e = subst (λ m. ArePlacesOf m n.results) (sym e) h.
 next_nodes : (nodes : List PlacedNode) (i : ℕ) (n : PlacedNode) → slice_get nodes i ≡ Some n → take (i + 1) nodes ≡ take i nodes ++ n ∷ []
 next_nodes nodes i n e = take_more nodes i n (slice_get_within nodes i n e) ∙ ap (λ m. take i nodes ++ m ∷ []) (get_or_from_slice_get nodes i n n e)
 
-length_nodes : (nodes : List PlacedNode) (i : ℕ) (n : PlacedNode) → slice_get nodes i ≡ Some n → length (take i nodes) ≡ i
-length_nodes nodes i n e = let l : i < length nodes = slice_get_within nodes i n e in length-take-le i nodes (omega arith)
-
 -- the signatures of one node more
 pub signatures_more : (nodes : List PlacedNode) (i : ℕ) (n : PlacedNode) (signatures : List Signature) (s : Signature) → slice_get nodes i ≡ Some n → AreSignatures (take i nodes) signatures
     → IsSignature n s → AreSignatures (take (i + 1) nodes) (signatures ++ s ∷ [])
@@ -115,21 +112,12 @@ pub record AreTyped (nodes : List PlacedNode) (i : ℕ) (signatures : List Signa
   pub signed : AreSignatures (take i nodes) signatures
   pub typed : IsTyped (take i nodes) (tables_of signatures)
 
-pub typed_none : (nodes : List PlacedNode) (signatures : List Signature) → signatures ≡ [] → AreTyped nodes 0 signatures
-typed_none nodes signatures e = record {
-  signed = subst (AreSignatures []) (sym e) record { all = refl; each = λ j m t f g. absurd (none_some m f) };
-  typed = subst (λ ss. IsTyped [] (tables_of ss)) (sym e) record { all = refl; each = λ j m us f g. absurd (none_some m f) };
-}
-
 pub typed_next : (nodes : List PlacedNode) (i : ℕ) (n : PlacedNode) (signatures new : List Signature) (s : Signature) → slice_get nodes i ≡ Some n → AreTyped nodes i signatures
     → AreTypes (IsRule (take i nodes) (tables_of signatures) n) (length n.places) s.tys.items → IsSignature n s → new ≡ signatures ++ s ∷ [] → AreTyped nodes (i + 1) new
 typed_next nodes i n signatures new s e a t h w = record {
   signed = subst (AreSignatures (take (i + 1) nodes)) (sym w) (signatures_more nodes i n signatures s e a.signed h);
   typed = subst (IsTyped (take (i + 1) nodes)) (sym (ap tables_of w ∙ map_push (λ (x : Signature). x.tys.items) signatures s)) (typed_more nodes i n (tables_of signatures) s.tys.items e a.typed t);
 }
-
-pub typed_all : (nodes : List PlacedNode) (i : ℕ) (signatures : List Signature) → length nodes ≤ i → AreTyped nodes i signatures → IsTyped nodes (tables_of signatures)
-typed_all nodes i signatures l a = subst (λ ns. IsTyped ns (tables_of signatures)) (take_all i nodes l) a.typed
 
 -- whatever is answered rightly is the one answer
 pub accepted : (nodes : List PlacedNode) (r : Result (List (List Ty)) TypeError) → IfOk r (IsTyped nodes) → IfErr r (Refuses nodes)

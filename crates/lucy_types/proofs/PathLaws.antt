@@ -7,7 +7,7 @@ use Rattle.lucy_types.specs.declared.graph.Graph.{Graph}
 use Rattle.lucy_types.specs.declared.flood.Flood.{Flood}
 use Rattle.lucy_types.specs.declared.flood.Reached.{Reached}
 use Rattle.lucy_types.specs.Graphs.{GraphRule}
-use Rattle.lucy_types.specs.Flooding.{mark, reached, IsFlood, IsTorn}
+use Rattle.lucy_types.specs.Flooding.{mark, reached, IsFlood}
 use Rattle.lucy_types.specs.Clash.{Touch, EndsInBool, IsClashPath}
 
 -- the path, last place first, goes back to an int place that stands here in the queue
@@ -18,10 +18,6 @@ pub record Trails (g : Graph) (f : Flood) (i : ℕ) (path : List ℕ) : Type 0 w
   pub rest : List ℕ
   pub turned : reverse path ≡ at.place ∷ rest
   pub ends : EndsInBool (GraphRule g) at.place rest
-
--- a torn place is a path
-pub trail_begins : (g : Graph) (f : Flood) (i : ℕ) (r : Reached) (path : List ℕ) → reached f i ≡ Some r → IsTorn g f r.place → path ≡ [] ++ r.place ∷ [] → Trails g f i path
-trail_begins g f i r path e t p = record { at = r; stands = e; int = t.1; rest = []; turned = ap reverse p; ends = t.0 }
 
 -- a place from which another was reached goes before it
 pub trail_more : (g : Graph) (f : Flood) (i : ℕ) (r before : Reached) (path more : List ℕ) → IsFlood g f → Trails g f i path → reached f i ≡ Some r → r.from < i

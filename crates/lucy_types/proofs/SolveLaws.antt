@@ -7,7 +7,7 @@ use Rattle.lucy_types.specs.declared.ty.Ty.{Ty}
 use Rattle.lucy_types.specs.declared.ty.Ty.TheVariants as ty
 use Rattle.lucy_types.specs.declared.graph.Graph.{Graph}
 use Rattle.lucy_types.specs.declared.flood.Flood.{Flood}
-use Rattle.lucy_types.specs.Flooding.{mark, IsFixed, IsNew, IsSettled, IsReached, Settles, HaveOrder, FloodsForced, FloodsAll}
+use Rattle.lucy_types.specs.Flooding.{mark, IsFixed, IsSettled, IsReached, Settles, HaveOrder, FloodsAll}
 use Rattle.lucy_types.proofs.ListLaws.{none_some}
 
 -- of the places before this one, those that must be were reached
@@ -16,9 +16,6 @@ pub record ForcedUpto (g : Graph) (forced : ℕ → Type 0) (t : Ty) (old : Floo
   pub kept : (p : ℕ) (s : Ty) → mark old p ≡ Some s → mark new p ≡ Some s
   pub only : (p : ℕ) (s : Ty) → mark new p ≡ Some s → (mark old p ≡ Some s) ⊎ (s ≡ t)
   pub all : (p : ℕ) → p < upto → forced p → IsReached new p
-
-pub forced_none : (g : Graph) (forced : ℕ → Type 0) (t : Ty) (f : Flood) → IsSettled g f → ForcedUpto g forced t f 0 f
-forced_none g forced t f h = record { settled = h; kept = λ p s e. e; only = λ p s e. inl e; all = λ p l w. absurd (omega arith) }
 
 pub forced_yes : (g : Graph) (forced : ℕ → Type 0) (t : Ty) (old f new : Flood) (p : ℕ) → ForcedUpto g forced t old p f → Settles g t f new → IsReached new p
     → ForcedUpto g forced t old (p + 1) new
@@ -42,10 +39,6 @@ forced_no g forced t old f p u n = record {
     | inr b ↦ absurd (n (subst forced (let e : q ≡ p = omega arith in e) w))
   ];
 }
-
-pub forced_all : (g : Graph) (forced : ℕ → Type 0) (t : Ty) (old new : Flood) (upto : ℕ) → ForcedUpto g forced t old upto new → ((p : ℕ) → forced p → p < upto)
-    → FloodsForced g forced t old new
-forced_all g forced t old new upto u w = record { settled = u.settled; kept = u.kept; only = u.only; all = λ p h. u.all p (w p h) h }
 
 -- the places before this one were reached, the new ones in so many open classes
 pub record OpenUpto (g : Graph) (old : Flood) (next classes : ℕ) (new : Flood) : Type 0 where
@@ -72,10 +65,6 @@ open_none g f s h = record {
   met = λ k l b. absurd (omega arith);
   order = record { from_one = λ p e. not_fixed f h p 0 e; in_order = λ p k e. absurd (not_fixed f h p (suc (suc k)) e) };
 }
-
--- a class that no place has is new
-pub open_new : (g : Graph) (old f : Flood) (next classes : ℕ) → OpenUpto g old next classes f → IsNew f (ty.Open (classes + 1))
-open_new g old f next classes u p e = let b = u.bounds p (classes + 1) e in let l : classes + 1 ≤ classes = b.1 in omega arith
 
 same_open : (k l : ℕ) → ty.Open k ≡ ty.Open l → k ≡ l
 same_open k l e = cc

@@ -13,6 +13,7 @@ abbrev pub HasArity : PlaceKind → Type 0
 HasArity (Op op args) = length args ≡ arity op
 HasArity kind = Unit {0}
 
+-- and each operator of a list of places
 abbrev pub HaveArities : List PlaceEntry → Type 0
 HaveArities places = AllByRecursion (λ entry. HasArity entry.kind) places
 

@@ -1,8 +1,6 @@
-use Rattle.std.proofs.Common.{◌≡◌, ◌≤◌, ◌-◌, ℕ, length}
-use Rattle.std.specs.Prelude.{slice_index}
-use Rattle.lucy_place.specs.Proper.{IsUnnamed, Reads}
+use Rattle.std.proofs.Common.{◌≡◌, ◌-◌, length}
+use Rattle.lucy_clock.proofs.LastLaws.{AreLastsFrom}
 use Rattle.lucy_clock.proofs.reading.mark_lasts.Given as goal
 
 abbrev pub invariant-each : goal.invariant-each
-invariant-each l =
-    (length l.lasts ≡ length l.node.places) × ((p k q : ℕ) → q ≤ l.i → IsUnnamed l.node q → Reads l.node p k q → q ≤ slice_index l.lasts (p - 1))
+invariant-each l = (length l.lasts ≡ length l.node.places) × AreLastsFrom l.node (length l.node.places - l.i) l.lasts

@@ -35,9 +35,8 @@ each-preserved c =
     let more = ap word_bits c.in_ok-push-2.ensures.ok in
     let push = bits_push c.each.words.items c.in_ok-word.word in
     let before = c.each.invariant.1 in
-    let prefix = c.lengths-prefix.ensures.prefix in
-    let period = c.lengths-prefix.ensures.period in
-    let short = c.lengths-prefix.ensures.short in
+    let next = c.bit_count.ensures.count in
+    let short = c.bit_count.ensures.few in
     let few = c.if-bits-number.false in
     let number = c.number.ensures in
     (far, omega arith, omega arith)

@@ -1,4 +1,4 @@
-use Rattle.std.proofs.Common.{◌≡◌, ◌++◌, take, length, ap, sym, refl, ◌∙◌, subst, inr, arith}
+use Rattle.std.proofs.Common.{◌≡◌, ◌≤◌, ◌++◌, take, length, ap, sym, refl, ◌∙◌, subst, inr, arith}
 use Rattle.std.specs.List.{AllByRecursion}
 use Rattle.std.proofs.lemmas.Option.{same_Some}
 use Rattle.std.proofs.lemmas.List.Sums.{sum_by-append}
@@ -6,11 +6,12 @@ use Rattle.lucy_word.specs.Bits.{bit_count}
 use Rattle.lucy_word.specs.Stored.{IsStored}
 use Rattle.lucy_word.specs.declared.limit.Limit.TheVariants as lim
 use Rattle.lucy_place.specs.declared.placed.PlacedNode.{PlacedNode as Node}
+use Rattle.lucy_place.specs.Faults.{most_places}
 use Rattle.lucy_clock.specs.declared.error.ClockError.TheVariants as err
 use Rattle.lucy_need.specs.Meeting.{word_bits}
 use Rattle.lucy_clock.specs.HandedDown.{AreWordsOf, IsWordTooLong, RefusesWords}
 use Rattle.lucy_clock.specs.Reading.{AreReadersUpto, HaveBases, base_words}
-use Rattle.lucy_clock.proofs.BaseLaws.{labelled, bases_of, words_are}
+use Rattle.lucy_clock.proofs.BaseLaws.{can_hand_down, bases_of, words_are}
 use Rattle.lucy_clock.proofs.KeptLaws.{all_first}
 use Rattle.lucy_clock.proofs.WordLaws.{none_long}
 use Rattle.lucy_clock.proofs.written_words.written.Goals as goal
@@ -18,19 +19,23 @@ use Rattle.lucy_clock.proofs.written_words.written.Goals as goal
 pub base_bits-behind-requires-clause-bases : goal.base_bits-behind-requires-clause-bases
 base_bits-behind-requires-clause-bases c = subst HaveBases (sym c.list-sites.ensures) (bases_of c.node-found.result.now (c.requires.written c.node-found.result.now c.node-found.ensures.is))
 
-pub first_words-requires-clause-readers : goal.first_words-requires-clause-readers
-first_words-requires-clause-readers c =
-    subst (AreReadersUpto c.node-found.result.now (length c.node-found.result.now.places)) (sym c.deref.ensures.value) c.in_ok-readers.ensures.readers
+pub first_words-requires : goal.first_words-requires
+first_words-requires c =
+    let found = c.node-found.result.now in
+    let proper = c.node-found.ensures.proper in
+    let few : length found.places ≤ most_places = proper.few in
+    can_hand_down (take c.args.node c.args.placed.now.nodes) found c.deref.result.now proper (c.requires.written found c.node-found.ensures.is) (omega arith)
+    (subst (AreReadersUpto found (length found.places)) (sym c.deref.ensures.value) c.in_ok-readers.ensures.readers)
+    (ap length c.deref.ensures.value ∙ c.in_ok-readers.ensures.all)
 
-pub first_words-requires-clause-labels : goal.first_words-requires-clause-labels
-first_words-requires-clause-labels c = labelled (take c.args.node c.args.placed.now.nodes) c.node-found.result.now c.node-found.ensures.proper
-
-pub past_bits-requires-clause-readers : goal.past_bits-requires-clause-readers
-past_bits-requires-clause-readers c =
-    subst (AreReadersUpto c.node-found.result.now (length c.node-found.result.now.places)) (sym c.deref-then-len-list.ensures.value) c.in_ok-readers.ensures.readers
-
-pub past_bits-requires-clause-labels : goal.past_bits-requires-clause-labels
-past_bits-requires-clause-labels c = labelled (take c.args.node c.args.placed.now.nodes) c.node-found.result.now c.node-found.ensures.proper
+pub past_bits-requires-clause-handing : goal.past_bits-requires-clause-handing
+past_bits-requires-clause-handing c =
+    let found = c.node-found.result.now in
+    let proper = c.node-found.ensures.proper in
+    let few : length found.places ≤ most_places = proper.few in
+    can_hand_down (take c.args.node c.args.placed.now.nodes) found c.deref-then-len-list.result.now proper (c.requires.written found c.node-found.ensures.is) (omega arith)
+    (subst (AreReadersUpto found (length found.places)) (sym c.deref-then-len-list.ensures.value) c.in_ok-readers.ensures.readers)
+    (ap length c.deref-then-len-list.ensures.value ∙ c.in_ok-readers.ensures.all)
 
 pub past_bits-requires-clause-stored : goal.past_bits-requires-clause-stored
 past_bits-requires-clause-stored c = subst (λ sites. AllByRecursion IsStored (base_words sites)) c.list-sites.ensures c.base_bits-behind.ensures.stored

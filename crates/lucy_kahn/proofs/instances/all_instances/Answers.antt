@@ -10,7 +10,7 @@ use Rattle.lucy_kahn.proofs.instances.all_instances.Goals as goal
 pub each-init : goal.each-init
 each-init c =
     let x : Instance = record { node = c.nodes-nodes.result - 1; caller = None } in
-    let list : c.push.new.list.items ≡ x ∷ [] = c.in_ok-push.ensures.ok ∙ ap (λ xs. xs ++ x ∷ []) c.new-list.ensures.items in
+    let list : c.push.new.self.items ≡ x ∷ [] = c.in_ok-push.ensures.items ∙ ap (λ xs. xs ++ x ∷ []) c.new-list.ensures.items in
     let is : x ≡ record { node = length c.args.placed.now.nodes - 1; caller = None } = (let at : ℕ → Instance = λ n. record { node = n - 1; caller = None } in ap at c.nodes-nodes.ensures.count) in (
       λ i. [],
       subst (λ xs. AreInstances c.args.placed.now.nodes xs c.new-inner.result.items (λ i. [])) (sym list)
@@ -31,8 +31,8 @@ each-smaller c =
     let falls = left_falls nodes list q c.index.result.now c.node-node.result.now c.nodes-nodes.ensures.proper e c.node-node.ensures.is in
     let nl : c.put_calls.new.list.items ≡ list ++ made q 1 c.node-node.result.now.calls =
     c.in_ok-put_calls.ensures.ok ∙ ap (λ k. list ++ made k 1 c.list.result.now) at ∙ ap (λ cs. list ++ made q 1 cs) c.list.ensures in
-    let ni : length c.push-in-each.new.list.items ≡ q + 1 = ap (λ (ys : List ℕ). length ys) c.in_ok-push-2.ensures.ok ∙ length-append c.each.inner.items (_ ∷ []) in
-    subst (λ xs. left_from nodes xs (length c.push-in-each.new.list.items) < left_from nodes list q) (sym nl)
+    let ni : length c.push-in-each.new.self.items ≡ q + 1 = ap (λ (ys : List ℕ). length ys) c.in_ok-push-2.ensures.items ∙ length-append c.each.inner.items (_ ∷ []) in
+    subst (λ xs. left_from nodes xs (length c.push-in-each.new.self.items) < left_from nodes list q) (sym nl)
     (subst (λ k. left_from nodes (list ++ made q 1 c.node-node.result.now.calls) k < left_from nodes list q) (sym ni) falls)
 
 pub each-preserved : goal.each-preserved
@@ -48,5 +48,5 @@ each-preserved c =
     let paths : ℕ → List ℕ = paths_with c.each.invariant.0 (length list) q in
     let more = instances_more nodes list inner c.each.invariant.0 c.each.invariant.1 c.index.result.now n l e c.node-node.ensures.is c.nodes-nodes.ensures.proper in
     let nl : c.put_calls.new.list.items ≡ list ++ made q 1 n.calls = c.in_ok-put_calls.ensures.ok ∙ ap (λ k. list ++ made k 1 c.list.result.now) at ∙ ap (λ cs. list ++ made q 1 cs) c.list.ensures in
-    let ni : c.push-in-each.new.list.items ≡ inner ++ length list ∷ [] = c.in_ok-push-2.ensures.ok ∙ ap (λ k. inner ++ k ∷ []) (let z : c.len-in-each-2.result ≡ length list = omega (arith, c.len-in-each-2.ensures) in z) in
-    (paths, subst (λ xs. AreInstances nodes xs c.push-in-each.new.list.items paths) (sym nl) (subst (λ ys. AreInstances nodes (list ++ made q 1 n.calls) ys paths) (sym ni) more))
+    let ni : c.push-in-each.new.self.items ≡ inner ++ length list ∷ [] = c.in_ok-push-2.ensures.items ∙ ap (λ k. inner ++ k ∷ []) (let z : c.len-in-each-2.result ≡ length list = omega (arith, c.len-in-each-2.ensures) in z) in
+    (paths, subst (λ xs. AreInstances nodes xs c.push-in-each.new.self.items paths) (sym nl) (subst (λ ys. AreInstances nodes (list ++ made q 1 n.calls) ys paths) (sym ni) more))

@@ -23,8 +23,8 @@ each-preserved c kinds inputs paths are =
     let made = c.in_ok-none_of.ensures.ok in
     let is : c.in_ok-none_of.field-0 ≡ lists_in kinds inputs nodes 0 (paths c.each.i) = made ∙ ap (λ o. replicate {A = List ℤ} (places_in o) []) (sym node) ∙ none_lists (places_in (node_at nodes (paths c.each.i))) 1 in
     let z : 0 + c.each.i ≡ c.each.i = omega arith in
-    let new = c.in_ok-push.ensures.ok in (
-      mapped_from (λ i. lists_in kinds inputs nodes 0 (paths i)) 0 c.each.i c.each.i c.each.lists.items c.push.new.list.items c.in_ok-none_of.field-0 z old.0 new is,
+    let new = c.in_ok-push.ensures.items in (
+      mapped_from (λ i. lists_in kinds inputs nodes 0 (paths i)) 0 c.each.i c.each.i c.each.lists.items c.push.new.self.items c.in_ok-none_of.field-0 z old.0 new is,
       subst (λ (xs : List (List (List ℤ))). AllByRecursion AreShort xs) (sym new) (all_push c.each.lists.items c.in_ok-none_of.field-0 old.1 (subst AreShort (sym made) (none_short (length c.node.result.now.places)))),
     )
 

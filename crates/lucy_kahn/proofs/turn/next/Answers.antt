@@ -13,9 +13,9 @@ each-preserved g c paths b =
     let it = c.args.before.now in
     let old = c.each.invariant paths b in
     let list = c.in_ok-lists_of.ensures.ok paths b in
-    let new = c.in_ok-push.ensures.ok in
+    let new = c.in_ok-push.ensures.items in
     let z : 0 + c.each.instance ≡ c.each.instance = omega arith in (
-      mapped_from (λ i. lists_in (kinds_of (lent c.args.host.now)) it.inputs.now it.placed.now.nodes (suc it.number) (paths i)) 0 c.each.instance c.each.instance c.each.after.items c.push.new.list.items c.in_ok-lists_of.field-0 z old.0 new list.0,
+      mapped_from (λ i. lists_in (kinds_of (lent c.args.host.now)) it.inputs.now it.placed.now.nodes (suc it.number) (paths i)) 0 c.each.instance c.each.instance c.each.after.items c.push.new.self.items c.in_ok-lists_of.field-0 z old.0 new list.0,
       subst (λ (xs : List (List (List ℤ))). AllByRecursion AreShort xs) (sym new) (all_push c.each.after.items c.in_ok-lists_of.field-0 old.1 list.1),
     )
 

@@ -2,7 +2,7 @@ use Rattle.std.proofs.Common.{◌≡◌, ◌+◌, ◌∷◌, [], ℕ, drop, rule
 use denote.Param.Weighed.{at_most}
 use Rattle.std.proofs.lemmas.Result.{on_ok_weaker, IfOk-weaker}
 use Rattle.lucy_place.specs.Phrases as phrases
-use Rattle.lucy_place.specs.Phrases.{Phrase, Phrases, headed, none, and, expr_phrase, expr_phrases}
+use Rattle.lucy_place.specs.Phrases.{Phrase, Phrases, none, and, expr_phrase, expr_phrases}
 use Rattle.lucy_place.specs.Numbering.{Next, Known, number, past, past_all}
 use Rattle.lucy_place.specs.Drafts.{next_of, IsSmall, DrawsAll, phrase_operands, site_of}
 use Rattle.lucy_place.specs.Views.{known_of}
@@ -45,8 +45,8 @@ all_places-each-preserved t c =
     let e : expr_phrases (drop c.each.expr-index c.args.list.now) ≡ and f rest =
     ap expr_phrases (drop_next c.args.list.now c.each.expr-index c.expr-item.result (omega arith) c.expr-item.is) in
     let before = subst (λ fs. AllDrawn k c.each.found.items c.each.draft fs c.args.draft.now all) e c.each.invariant in
-    drawn_step k c.each.found.items c.push.new.list.items c.each.draft c.expr_places.new.draft f rest c.args.draft.now all c.in_ok-number.number before
-    c.in_ok-number.ensures.draws c.in_ok-number.ensures.number c.in_ok-push.ensures.ok
+    drawn_step k c.each.found.items c.push.new.self.items c.each.draft c.expr_places.new.draft f rest c.args.draft.now all c.in_ok-number.number before
+    c.in_ok-number.ensures.draws c.in_ok-number.ensures.number c.in_ok-push.ensures.items
 
 pub call_places-all_places-requires : goal.call_places-all_places-requires
 call_places-all_places-requires t c =

@@ -51,11 +51,11 @@ each-preserved c =
     let e : map node_tree (drop i nodes) ≡ n ∷ rest = ap (map node_tree) (drop_next nodes i c.index-nodes-i.result (omega arith) c.index-nodes-i.is) in
     let f : map node_tree (take (i + 1) nodes) ≡ map node_tree (take i nodes) ++ n ∷ [] =
     ap (map node_tree) (take_next nodes i c.index-nodes-i.result (omega arith) c.index-nodes-i.is) ∙ map-append node_tree (take i nodes) (c.index-nodes-i.result ∷ []) in
-    placed_step c.args.ops.now (map node_tree nodes) (map node_tree (take i nodes)) rest (map node_tree (take (i + 1) nodes)) n c.each.scope c.add.new.self c.each.list.items c.push.new.list.items c.in_ok-next_node.field-0
-    c.each.spans.items c.push-in-each.new.list.items c.first_unwritten.result
+    placed_step c.args.ops.now (map node_tree nodes) (map node_tree (take i nodes)) rest (map node_tree (take (i + 1) nodes)) n c.each.scope c.add.new.self c.each.list.items c.push.new.self.items c.in_ok-next_node.field-0
+    c.each.spans.items c.push-in-each.new.self.items c.first_unwritten.result
     (subst (λ r. NodesPlaced c.args.ops.now (map node_tree nodes) (map node_tree (take i nodes)) r c.each.scope c.each.list.items c.each.spans.items) e c.each.invariant)
     f c.in_ok-next_node.ensures.ok.0 c.in_ok-next_node.ensures.ok.1 c.first_unwritten.ensures
-    (c.in_ok-add.ensures.names ∙ ap (λ t. if is_in c.each.scope t then c.each.scope else c.each.scope ++ t ∷ []) c.bytes.ensures) c.in_ok-push.ensures.ok c.in_ok-push-2.ensures.ok
+    (c.in_ok-add.ensures.names ∙ ap (λ t. if is_in c.each.scope t then c.each.scope else c.each.scope ++ t ∷ []) c.bytes.ensures) c.in_ok-push.ensures.items c.in_ok-push-2.ensures.items
 
 pub invariant_of-result : goal.invariant_of-result
 invariant_of-result c =

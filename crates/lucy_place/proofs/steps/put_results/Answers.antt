@@ -12,7 +12,7 @@ put_more old new start rest whole all x e f g = ap (λ l. l ++ rest) e ∙ appen
 
 pub each-preserved : goal.each-preserved
 each-preserved c = (
-  put_more c.each.draft.places.items _ c.args.draft.now.places.items _ _ _ (unnamed (kind.Result c.args.call c.each.i)) (c.in_ok-push.ensures.ok ∙ ap (λ x. c.each.draft.places.items ++ x ∷ []) c.unnamed.ensures) c.each.invariant.0 (results_next c.args.call c.each.i c.args.results (omega arith)),
+  put_more c.each.draft.places.items _ c.args.draft.now.places.items _ _ _ (unnamed (kind.Result c.args.call c.each.i)) (c.in_ok-push.ensures.items ∙ ap (λ x. c.each.draft.places.items ++ x ∷ []) c.unnamed.ensures) c.each.invariant.0 (results_next c.args.call c.each.i c.args.results (omega arith)),
   c.each.invariant.1,
   c.each.invariant.2,
 )

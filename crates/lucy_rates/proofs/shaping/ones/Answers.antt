@@ -12,6 +12,6 @@ overflow_mul-vector c =
 
 pub loop-clock-preserved : goal.loop-clock-preserved
 loop-clock-preserved c =
-    subst (AreOnes c.args.roots.now c.args.vector.now c.args.tops.now c.args.period _) (sym c.in_ok-push.ensures.ok)
+    subst (AreOnes c.args.roots.now c.args.vector.now c.args.tops.now c.args.period _) (sym c.in_ok-push.ensures.items)
     (ones_more c.args.roots.now c.args.vector.now c.args.tops.now c.args.period c.loop-clock.clock c.loop-clock.list.items _ c.loop-clock.invariant refl
     (ones_few (slice_index c.args.vector.now c.loop-clock.clock) c.args.period (slice_index c.args.tops.now (slice_index c.args.roots.now c.loop-clock.clock)) (c.requires.few c.loop-clock.clock c.loop-clock-test.true) c.requires.short))

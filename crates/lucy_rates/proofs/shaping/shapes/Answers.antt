@@ -8,7 +8,7 @@ use Rattle.lucy_rates.proofs.shaping.shapes.Goals as goal
 pub loop-clock-preserved : goal.loop-clock-preserved
 loop-clock-preserved c =
     let P : List ClockShape → Type 0 = λ z. AreLaidOut c.args.is_base_used c.args.lead c.args.ones.now c.args.prefixes.now (c.loop-clock.clock + 1) z (c.loop-clock.first + (c.in_ok-shape.shape.lead + c.in_ok-shape.shape.ones)) in
-    subst P (sym c.in_ok-push.ensures.ok)
+    subst P (sym c.in_ok-push.ensures.items)
     (laid_next c.args.is_base_used c.args.lead c.args.ones.now c.args.prefixes.now c.loop-clock.clock c.loop-clock.list.items c.loop-clock.first _ c.in_ok-shape.shape c.loop-clock.invariant
     (λ e. c.in_ok-shape.ensures.used (c.is_used.ensures ∙ e)) (λ e. c.in_ok-shape.ensures.unused (c.is_used.ensures ∙ e)) refl (let f = c.in_ok-shape.ensures.few in omega arith))
 

@@ -47,9 +47,9 @@ loop-clock-preserved c =
     let i = c.loop-clock.clock-index in
     let P : List ClockShape → Type 0 = λ l. IsWordOf c.args.shape.now.period (clock_at l i) c.args.positions.now c.in_ok-word.word in
     let Q : List ClockShape → Type 0 = λ l. (clock_at l i).used ≡ true → IsWrittenLong c.args.shape.now.period (clock_at l i) c.args.positions.now → ⊥ in (
-      so_far_more c.args.shape.now c.args.positions.now i c.loop-clock.words.items c.push.new.list.items c.in_ok-word.word c.loop-clock.invariant.0 c.in_ok-push.ensures.ok c.in_ok-word.ensures.stored
+      so_far_more c.args.shape.now c.args.positions.now i c.loop-clock.words.items c.push.new.self.items c.in_ok-word.word c.loop-clock.invariant.0 c.in_ok-push.ensures.items c.in_ok-word.ensures.stored
           (subst P c.list-clock-items.ensures c.in_ok-word.ensures.ok) (subst Q c.list-clock-items.ensures c.in_ok-word.ensures.short),
-      left_more c.loop-clock.words.items c.push.new.list.items c.in_ok-word.word c.loop-clock.left c.lengths-prefix.result.0 c.lengths-prefix.result.1 c.in_ok-push.ensures.ok
+      left_more c.loop-clock.words.items c.push.new.self.items c.in_ok-word.word c.loop-clock.left c.lengths-prefix.result.0 c.lengths-prefix.result.1 c.in_ok-push.ensures.items
           c.lengths-prefix.ensures.prefix c.lengths-prefix.ensures.period (omega arith) c.loop-clock.invariant.1,
     )
 
