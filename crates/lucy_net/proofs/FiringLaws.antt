@@ -8,7 +8,7 @@ use Rattle.lucy_event.specs.Systems.{RingOp, Takes, Gives}
 use Rattle.lucy_event.specs.Firings.{firing_ops, ops_of}
 use Rattle.lucy_net.specs.States.{operand_at}
 
-two_lengths : (ts gs : List ℕ) → length (map Takes ts ++ map Gives gs) ≡ length ts + length gs
+pub two_lengths : (ts gs : List ℕ) → length (map Takes ts ++ map Gives gs) ≡ length ts + length gs
 two_lengths ts gs = omega (arith, length-append (map Takes ts) (map Gives gs), length-map ts Takes, length-map gs Gives)
 
 -- an actor with rings has an operation in each firing, one without has none

@@ -11,4 +11,5 @@ pub mod OperandLaws
 pub mod StateLaws
 mod CursorLaws
 mod EndLaws
+mod PlainLaws
 mod Rows

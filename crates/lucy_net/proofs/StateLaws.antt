@@ -1,5 +1,5 @@
 -- A state goes on with each operation.
-use Rattle.std.proofs.Common.{ℕ, suc, zero, ◌+◌, ◌-◌, ◌<◌, ◌≤◌, ◌≡◌, Bool, true, false, cond, List, [], ◌∷◌, ◌++◌, length, get_or, ap, sym, refl, ◌∙◌, subst, inl, inr, arith, length-append}
+use Rattle.std.proofs.Common.{ℕ, suc, zero, ◌+◌, ◌-◌, ◌<◌, ◌≤◌, ◌≡◌, ◌^◌, Bool, true, false, cond, List, [], ◌∷◌, ◌++◌, length, get_or, ap, sym, refl, ◌∙◌, subst, inl, inr, arith, length-append}
 use Rattle.std.specs.Prelude.{ℤ, pos, Some, None, slice_get, replicate}
 use Rattle.std.proofs.lemmas.Bool.{cases_lt}
 use Rattle.std.proofs.lemmas.Option.{slice_get_past, slice_get-get_or}
@@ -25,7 +25,7 @@ use Rattle.lucy_net.specs.Plans.{form_of, task_of}
 use Rattle.lucy_net.specs.Moves.{move_of}
 use Rattle.lucy_net.specs.Cursors.{Reads, HasCursor}
 use Rattle.lucy_net.specs.States.{IsUsable, IsActorState, IsOfActor, IsNext, ReadsInput, KnowsOperator, took_more}
-use Rattle.lucy_net.specs.Stepping.{IsSteppedOn}
+use Rattle.lucy_net.specs.Stepping.{IsMovedOn, IsSteppedOn}
 use Rattle.lucy_event.proofs.PlaceLaws.{op_found, fired_in}
 use Rattle.lucy_net.proofs.FiringLaws.{firing_some, firing_few, ops_idle}
 
@@ -93,25 +93,25 @@ numbers_on actor instants n took s t usable is going on =
     let here : s.step < length (firing_ops form actor.takes actor.gives s.fired) = is.inside going in
     elim (cases_lt (s.step + 1) (length (firing_ops form actor.takes actor.gives s.fired))) [
       | inl more ↦
-          let e = on.goes_on more in
+          let e = on.moved.goes_on more in
           let ops : length (ops_of form actor.takes actor.gives t.fired) ≡ length (ops_of form actor.takes actor.gives s.fired) = ap (λ q. length (ops_of form actor.takes actor.gives q)) e.0 in
           let now : length (firing_ops form actor.takes actor.gives t.fired) ≡ length (firing_ops form actor.takes actor.gives s.fired) = ap (λ q. length (firing_ops form actor.takes actor.gives q)) e.0 in
           record {
-            quota = on.quota ∙ is.quota;
-            within = omega (arith, e.0, on.quota);
+            quota = on.moved.quota ∙ is.quota;
+            within = omega (arith, e.0, on.moved.quota);
             done = omega (arith, e.1, is.done);
             inside = λ l. omega (arith, e.1);
-            ended = λ l. absurd (omega (arith, e.0, on.quota));
+            ended = λ l. absurd (omega (arith, e.0, on.moved.quota));
             cursor = λ l. on.cursor;
           }
       | inr last ↦
-          let e = on.next last in
+          let e = on.moved.next last in
           let f : t.fired ≡ suc s.fired = omega (arith, e.0) in
           let ops : length (ops_of form actor.takes actor.gives t.fired) ≡ length (ops_of form actor.takes actor.gives s.fired ++ firing_ops form actor.takes actor.gives s.fired) = ap (λ q. length (ops_of form actor.takes actor.gives q)) f in
           let rings : 0 < length actor.takes + length actor.gives = omega (arith, firing_few form actor.takes actor.gives s.fired usable.arity) in
           record {
-            quota = on.quota ∙ is.quota;
-            within = omega (arith, e.0, on.quota);
+            quota = on.moved.quota ∙ is.quota;
+            within = omega (arith, e.0, on.moved.quota);
             done = omega (arith, e.1, is.done, length-append (ops_of form actor.takes actor.gives s.fired) (firing_ops form actor.takes actor.gives s.fired));
             inside = λ l. omega (arith, e.1, firing_some form actor.takes actor.gives t.fired usable.arity rings);
             ended = λ l. e.1;
@@ -130,10 +130,10 @@ gave_on actor instants n took s t usable is going on =
       ended = m.ended;
       cursor = m.cursor;
       lists = is.lists;
-      a = on.a ∙ is.a;
-      b = on.b ∙ is.b;
-      c = on.c ∙ is.c;
-      kept = on.kept ∙ is.kept;
+      a = on.moved.a ∙ is.a;
+      b = on.moved.b ∙ is.b;
+      c = on.moved.c ∙ is.c;
+      kept = on.moved.kept ∙ is.kept;
     }
 
 newest_push : (items : List ℤ) (value : ℤ) → newest (items ++ value ∷ []) ≡ value
@@ -255,6 +255,14 @@ operands_few (kind.Merge word) = omega arith
 operands_few (kind.Fby first) = omega arith
 operands_few kind.Pass = omega arith
 operands_few (kind.Output output) = omega arith
+
+-- a firing has few operations
+pub firing_short : (actor : Actor) (q : ℕ) → IsUsable actor → length (firing_ops (form_of actor.kind) actor.takes actor.gives q) < 2 ^ 32
+firing_short actor q usable = omega (arith, firing_few (form_of actor.kind) actor.takes actor.gives q usable.arity, operands_few actor.kind, usable.arity, usable.few)
+
+-- one operation more, by how many the firing has
+pub stepped : (actor : Actor) (s t : ActorState) (moves : ℕ) → moves ≡ length (firing_ops (form_of actor.kind) actor.takes actor.gives s.fired) → IsMovedOn moves s t → HasCursor (form_of actor.kind) t.fired t.cursor → IsSteppedOn actor s t
+stepped actor s t moves e on has = record { moved = subst (λ (k : ℕ). IsMovedOn k s t) e on; cursor = has }
 
 -- the value of a firing, by its actor's kind
 pub value_input : (kinds : List HostKind) (inputs : List (List ℤ)) (k : ℕ) (took : List (List ℤ)) (what : ActorKind) (x : ℕ) (items : List ℤ) → what ≡ kind.Input x → ReadsInput what inputs items → fire_value kinds inputs (form_of what) k took ≡ item_at items k

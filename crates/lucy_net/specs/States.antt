@@ -2,7 +2,7 @@
 use Rattle.std.specs.Prelude.{ℕ, suc, zero, ◌+◌, ◌-◌, ◌<◌, ◌≤◌, ◌≡◌, ◌^◌, List, [], ◌∷◌, ◌++◌, ℤ, length, nat_lt, slice_get, slice_set, if◌then◌else◌, Some}
 use Rattle.lucy_word.specs.Bits.{bit_at, ones_to}
 use Rattle.lucy_stream.specs.Items.{newest, list_at}
-use Rattle.lucy_stream.specs.Forms.{Form, Merged, Delayed, operands}
+use Rattle.lucy_stream.specs.Forms.{Form, Kept, Merged, Delayed, operands}
 use Rattle.lucy_event.specs.Systems.{RingOp}
 use Rattle.lucy_event.specs.Firings.{firing_ops, ops_of}
 use Rattle.lucy_net.specs.declared.kind.ActorKind.{ActorKind}
@@ -47,6 +47,13 @@ IsOfActor actor s = (instants : ℕ) × (n : ℕ) × (took : List (List ℤ)) ×
 pub record IsNext (actor : Actor) (s : ActorState) (op : RingOp) : Type 0 where
   pub going : s.fired < s.quota
   pub is : slice_get (firing_ops (form_of actor.kind) actor.takes actor.gives s.fired) s.step ≡ Some op
+
+-- in each firing it takes from all of its rings and then gives to all
+abbrev pub IsPlain : Form → Type 0
+IsPlain (Kept word) = ⊥
+IsPlain (Merged word) = ⊥
+IsPlain (Delayed first) = ⊥
+IsPlain form = Unit {0}
 
 -- the operand from which the operation of this number takes, in the firing after `fired` others
 abbrev pub operand_at : Form → ℕ → ℕ → ℕ

@@ -20,7 +20,8 @@ pub(crate) fn bit_under(kind: &ActorKind, cursor: u64) -> bool
 }
 
 // One bit on.
-fn next_bit(word: &Word, cursor: u64) -> u64
+#[inline(always)]
+pub(crate) fn next_bit(word: &Word, cursor: u64) -> u64
     requires { (fired : ℕ) × IsCursor word.now fired cursor }
     ensures { (fired : ℕ) → IsCursor word.now fired cursor → IsCursor word.now (fired + 1) result }
 {
@@ -29,19 +30,6 @@ fn next_bit(word: &Word, cursor: u64) -> u64
         cursor + 1
     } else {
         prefix + 1
-    }
-}
-
-// The cursor after one firing more.
-#[inline(always)]
-pub(crate) fn cursor_on(kind: &ActorKind, cursor: u64) -> u64
-    requires { (fired : ℕ) × HasCursor (form_of kind.now) fired cursor }
-    ensures { (fired : ℕ) → HasCursor (form_of kind.now) fired cursor → HasCursor (form_of kind.now) (fired + 1) result }
-{
-    match kind {
-        ActorKind::When(word) => next_bit(word, cursor),
-        ActorKind::Merge(word) => next_bit(word, cursor),
-        _ => cursor,
     }
 }
 

@@ -1,9 +1,9 @@
 // On which end of an actor its next operation is.
-ghost use Rattle.std.specs.Prelude.{ℕ, ◌≡◌, ◌↔◌, ◌-◌, ◌<◌, ◌≤◌, nat_lt, slice_get, if◌then◌else◌, Some};
+ghost use Rattle.std.specs.Prelude.{ℕ, ◌≡◌, ◌↔◌, ◌-◌, ◌<◌, ◌≤◌, nat_lt, slice_get, if◌then◌else◌, Some, IsTrue};
 ghost use Rattle.lucy_event.specs.Systems.{Takes, Gives};
 ghost use Rattle.lucy_net.specs.Plans.{form_of};
 ghost use Rattle.lucy_net.specs.Cursors.{HasCursor};
-ghost use Rattle.lucy_net.specs.States.{IsUsable, IsOfActor, IsNext, end_move_at};
+ghost use Rattle.lucy_net.specs.States.{IsUsable, IsOfActor, IsNext, IsPlain, end_move_at};
 
 use crate::cursor::bit_under;
 use crate::kind::ActorKind;
@@ -47,10 +47,14 @@ fn give_then_take(step: u32, gives: u32) -> EndMove
 
 // The next operation of the firing, of an actor of so many takes and gives.
 #[inline(always)]
-fn end_move(actor: &Actor, state: &ActorState, takes: u32, gives: u32) -> EndMove
-    requires { HasCursor (form_of actor.now.kind) state.now.fired state.now.cursor }
+fn end_move(actor: &Actor, state: &ActorState, takes: u32, gives: u32, plain: bool) -> EndMove
+    requires plain { IsTrue plain → IsPlain (form_of actor.now.kind) }
+    requires cursor { HasCursor (form_of actor.now.kind) state.now.fired state.now.cursor }
     ensures { result ≡ end_move_at (form_of actor.now.kind) takes gives state.now.fired state.now.step }
 {
+    if plain {
+        return take_then_give(state.step, takes);
+    }
     match &actor.kind {
         ActorKind::Fby(_) => give_then_take(state.step, gives),
         ActorKind::Merge(_) if state.step > 0 => EndMove::Give(state.step - 1),
@@ -66,9 +70,11 @@ fn end_move(actor: &Actor, state: &ActorState, takes: u32, gives: u32) -> EndMov
     }
 }
 
-/// The actor's next operation, by which of its takes, or of its gives, it is on; `Done` exactly where its quota of firings is done.
+/// The actor's next operation, by which of its takes, or of its gives, it is on; `Done` exactly where its quota of firings is done. Where
+/// `plain` says that the actor is plain its kind isn't looked at.
 #[inline(always)]
-pub fn next_end_move(actor: &Actor, state: &ActorState) -> EndMove
+pub fn next_end_move(actor: &Actor, state: &ActorState, plain: bool) -> EndMove
+    requires plain { IsTrue plain → IsPlain (form_of actor.now.kind) }
     requires usable { IsUsable actor.now }
     requires state { IsOfActor actor.now state.now }
     ensures take { (end : ℕ) → result ≡ EndMove.Take end → (ring : ℕ) × IsNext actor.now state.now (Takes ring) × (slice_get actor.now.takes end ≡ Some ring) }
@@ -78,7 +84,7 @@ pub fn next_end_move(actor: &Actor, state: &ActorState) -> EndMove
     if state.fired < state.quota {
         let takes = actor.takes.list().len() as u32;
         let gives = actor.gives.list().len() as u32;
-        end_move(actor, state, takes, gives)
+        end_move(actor, state, takes, gives, plain)
     } else {
         EndMove::Done
     }

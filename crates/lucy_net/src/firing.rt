@@ -1,11 +1,12 @@
 // The operations of one firing.
-ghost use Rattle.std.specs.Prelude.{ℕ, ◌≡◌, ◌<◌, ◌≤◌, ◌+◌, ◌^◌, length, map, ◌++◌, slice_get};
+ghost use Rattle.std.specs.Prelude.{ℕ, ◌≡◌, ◌↔◌, IsTrue, ◌<◌, ◌≤◌, ◌+◌, ◌^◌, length, map, ◌++◌, slice_get};
 ghost use Rattle.lucy_stream.specs.Forms.{operands};
 ghost use Rattle.lucy_event.specs.Systems.{Takes, Gives};
 ghost use Rattle.lucy_event.specs.Firings.{firing_ops};
 ghost use Rattle.lucy_net.specs.Plans.{form_of};
 ghost use Rattle.lucy_net.specs.Moves.{move_of};
 ghost use Rattle.lucy_net.specs.Cursors.{Reads};
+ghost use Rattle.lucy_net.specs.States.{IsPlain};
 
 use crate::kind::ActorKind;
 use crate::net::Actor;
@@ -101,6 +102,16 @@ pub(crate) fn moves_by(actor: &Actor, bit: bool) -> u64
         ActorKind::When(_) if !bit => takes,
         ActorKind::Merge(_) => 1 + gives,
         _ => takes + gives,
+    }
+}
+
+/// Whether an actor of this kind is plain: in each firing it takes from all of its rings, and then gives to all.
+pub fn is_plain(kind: &ActorKind) -> bool
+    ensures { IsTrue result ↔ IsPlain (form_of kind.now) }
+{
+    match kind {
+        ActorKind::When(_) | ActorKind::Merge(_) | ActorKind::Fby(_) => false,
+        _ => true,
     }
 }
 

@@ -18,7 +18,7 @@ mod value;
 mod words;
 
 pub use ends::{EndMove, next_end_move};
-pub use firing::{Move, firing_move};
+pub use firing::{Move, firing_move, is_plain};
 pub use kind::ActorKind;
 pub use laws::{
     next_operations_are_planned, orders_make_sound_schedules, proper_nets_are_plugged,
@@ -26,6 +26,8 @@ pub use laws::{
 };
 pub use lists::{Actors, Numbers, Rings};
 pub use net::{Actor, Net, RingSpec};
-pub use state::{ActorState, after_give, after_take, first_state, next_move};
+pub use state::{
+    ActorState, after_end_give, after_end_take, after_give, after_take, first_state, next_move,
+};
 pub use value::give_value;
 pub use words::net_words_are_stored;

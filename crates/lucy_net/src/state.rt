@@ -1,19 +1,20 @@
 // An actor's operations one after another, firing by firing.
-ghost use Rattle.std.specs.Prelude.{ℕ, ◌≡◌, ◌↔◌, ◌+◌, ◌<◌, ◌≤◌, ◌^◌, List, [], ◌∷◌, ◌++◌, ℤ, length, replicate, slice_get, Some};
+ghost use Rattle.std.specs.Prelude.{ℕ, ◌≡◌, ◌↔◌, ◌+◌, ◌<◌, ◌≤◌, ◌^◌, List, [], ◌∷◌, ◌++◌, ℤ, length, replicate, slice_get, Some, IsTrue};
 ghost use Rattle.lucy_stream.specs.Forms.{operands};
 ghost use Rattle.lucy_event.specs.Systems.{RingOp, Takes, Gives};
 ghost use Rattle.lucy_event.specs.Firings.{firing_ops};
 ghost use Rattle.lucy_event.specs.Plans.{task_ops};
 ghost use Rattle.lucy_net.specs.Plans.{form_of, task_of};
 ghost use Rattle.lucy_net.specs.Moves.{move_of};
-ghost use Rattle.lucy_net.specs.Cursors.{HasCursor};
-ghost use Rattle.lucy_net.specs.States.{IsUsable, IsActorState, IsOfActor, IsNext, operand_at, took_more};
-ghost use Rattle.lucy_net.specs.Stepping.{IsSteppedOn};
+ghost use Rattle.lucy_net.specs.Cursors.{IsCursor, HasCursor};
+ghost use Rattle.lucy_net.specs.States.{IsUsable, IsActorState, IsOfActor, IsNext, IsPlain, operand_at, took_more};
+ghost use Rattle.lucy_net.specs.Stepping.{IsMovedOn, IsSteppedOn};
 
-use crate::cursor::{bit_under, cursor_on, first_cursor};
+use crate::cursor::{bit_under, first_cursor, next_bit};
 use crate::firing::{Move, move_by, moves_by};
 use crate::kind::ActorKind;
 use crate::net::Actor;
+use lucy_word::Word;
 
 /// Where an actor stands in its list of operations, and what it took last. The calls on it go by a cursor in the word that
 /// the actor reads, so that none of them divides or counts, however many firings there were.
@@ -75,34 +76,82 @@ pub fn next_move(actor: &Actor, state: &ActorState) -> Move
     }
 }
 
-// One operation of the firing more; after its last one the next firing begins.
+// One operation of a firing of so many more, and whether it was the last one: then the next firing begins.
 #[inline(always)]
-fn step_on(actor: &Actor, state: ActorState) -> ActorState
-    requires usable { IsUsable actor.now }
-    requires open { state.fired < state.quota }
-    requires inside { state.step < length (firing_ops (form_of actor.now.kind) actor.now.takes actor.now.gives state.fired) }
-    requires cursor { HasCursor (form_of actor.now.kind) state.fired state.cursor }
-    ensures { IsSteppedOn actor.now state result }
+fn move_on(state: &mut ActorState, moves: u64) -> bool
+    requires open { state.old.fired < state.old.quota }
+    requires inside { state.old.step < moves }
+    requires few { moves < 2 ^ 32 }
+    ensures moved { IsMovedOn moves state.old state.new }
+    ensures cursor { state.new.cursor ≡ state.old.cursor }
+    ensures last { IsTrue result ↔ (moves ≤ state.old.step + 1) }
 {
     let step = state.step + 1;
-    if moves_by(actor, bit_under(&actor.kind, state.cursor)) <= u64::from(step) {
-        ActorState {
-            fired: state.fired + 1,
-            step: 0,
-            cursor: cursor_on(&actor.kind, state.cursor),
-            ..state
-        }
+    if moves <= u64::from(step) {
+        state.fired += 1;
+        state.step = 0;
+        true
     } else {
-        ActorState { step, ..state }
+        state.step = step;
+        false
+    }
+}
+
+// The same of an actor that reads a word: behind the last operation its cursor goes one bit on.
+#[inline(always)]
+fn read_on(state: &mut ActorState, moves: u64, word: &Word)
+    requires open { state.old.fired < state.old.quota }
+    requires inside { state.old.step < moves }
+    requires few { moves < 2 ^ 32 }
+    requires cursor { IsCursor word.now state.old.fired state.old.cursor }
+    ensures moved { IsMovedOn moves state.old state.new }
+    ensures cursor { IsCursor word.now state.new.fired state.new.cursor }
+{
+    if move_on(state, moves) {
+        state.cursor = next_bit(word, state.cursor);
+    }
+}
+
+// One operation of the firing more; after its last one the next firing begins.
+#[inline(always)]
+fn step_on(actor: &Actor, state: &mut ActorState, plain: bool)
+    requires plain { IsTrue plain → IsPlain (form_of actor.now.kind) }
+    requires usable { IsUsable actor.now }
+    requires open { state.old.fired < state.old.quota }
+    requires inside { state.old.step < length (firing_ops (form_of actor.now.kind) actor.now.takes actor.now.gives state.old.fired) }
+    requires cursor { HasCursor (form_of actor.now.kind) state.old.fired state.old.cursor }
+    ensures { IsSteppedOn actor.now state.old state.new }
+{
+    if plain {
+        let moves = actor.takes.list().len() as u64 + actor.gives.list().len() as u64;
+        move_on(state, moves);
+        return;
+    }
+    match &actor.kind {
+        ActorKind::When(word) => {
+            let moves = moves_by(actor, bit_under(&actor.kind, state.cursor));
+            read_on(state, moves, word);
+        }
+        ActorKind::Merge(word) => {
+            let moves = moves_by(actor, bit_under(&actor.kind, state.cursor));
+            read_on(state, moves, word);
+        }
+        _ => {
+            move_on(state, moves_by(actor, false));
+        }
     }
 }
 
 // From which operand the actor takes next.
 #[inline(always)]
-fn operand_of(actor: &Actor, state: &ActorState) -> u32
-    requires { HasCursor (form_of actor.now.kind) state.now.fired state.now.cursor }
+fn operand_of(actor: &Actor, state: &ActorState, plain: bool) -> u32
+    requires plain { IsTrue plain → IsPlain (form_of actor.now.kind) }
+    requires cursor { HasCursor (form_of actor.now.kind) state.now.fired state.now.cursor }
     ensures { result ≡ operand_at (form_of actor.now.kind) state.now.fired state.now.step }
 {
+    if plain {
+        return state.step;
+    }
     match &actor.kind {
         ActorKind::Fby(_) => 0,
         ActorKind::Merge(_) => {
@@ -118,25 +167,52 @@ fn operand_of(actor: &Actor, state: &ActorState) -> u32
 
 // The item that was taken last from this operand, kept.
 #[inline(always)]
-fn keep(state: ActorState, operand: u32, value: i64) -> ActorState
+fn keep(state: &mut ActorState, operand: u32, value: i64)
     requires { operand < 3 }
-    ensures quota { result.quota ≡ state.quota }
-    ensures fired { result.fired ≡ state.fired }
-    ensures step { result.step ≡ state.step }
-    ensures cursor { result.cursor ≡ state.cursor }
-    ensures first { operand ≡ 0 → result ≡ record state { a = value; kept = value } }
-    ensures second { operand ≡ 1 → result ≡ record state { b = value } }
-    ensures third { operand ≡ 2 → result ≡ record state { c = value } }
+    ensures quota { state.new.quota ≡ state.old.quota }
+    ensures fired { state.new.fired ≡ state.old.fired }
+    ensures step { state.new.step ≡ state.old.step }
+    ensures cursor { state.new.cursor ≡ state.old.cursor }
+    ensures first { operand ≡ 0 → state.new ≡ record state.old { a = value; kept = value } }
+    ensures second { operand ≡ 1 → state.new ≡ record state.old { b = value } }
+    ensures third { operand ≡ 2 → state.new ≡ record state.old { c = value } }
 {
     match operand {
-        0 => ActorState {
-            a: value,
-            kept: value,
-            ..state
-        },
-        1 => ActorState { b: value, ..state },
-        _ => ActorState { c: value, ..state },
+        0 => {
+            state.a = value;
+            state.kept = value;
+        }
+        1 => state.b = value,
+        _ => state.c = value,
     }
+}
+
+/// The actor takes this item. Where `plain` says that it is plain its kind isn't looked at.
+#[inline(always)]
+pub fn after_end_take(actor: &Actor, state: &mut ActorState, value: i64, plain: bool)
+    requires plain { IsTrue plain → IsPlain (form_of actor.now.kind) }
+    requires usable { IsUsable actor.now }
+    requires state { IsOfActor actor.now state.old }
+    requires next { (ring : ℕ) × IsNext actor.now state.old (Takes ring) }
+    ensures { (instants n : ℕ) (took : List (List ℤ)) → IsActorState actor.now instants n took state.old →
+        IsActorState actor.now instants (n + 1) (took_more took (operand_at (form_of actor.now.kind) state.old.fired state.old.step) value) state.new }
+{
+    let operand = operand_of(actor, state, plain);
+    keep(state, operand, value);
+    step_on(actor, state, plain);
+}
+
+/// The actor gives an item. Where `plain` says that it is plain its kind isn't looked at.
+#[inline(always)]
+pub fn after_end_give(actor: &Actor, state: &mut ActorState, plain: bool)
+    requires plain { IsTrue plain → IsPlain (form_of actor.now.kind) }
+    requires usable { IsUsable actor.now }
+    requires state { IsOfActor actor.now state.old }
+    requires next { (ring : ℕ) × IsNext actor.now state.old (Gives ring) }
+    ensures { (instants n : ℕ) (took : List (List ℤ)) → IsActorState actor.now instants n took state.old →
+        IsActorState actor.now instants (n + 1) took state.new }
+{
+    step_on(actor, state, plain);
 }
 
 /// The actor takes this item.
@@ -148,7 +224,7 @@ pub fn after_take(actor: &Actor, state: &mut ActorState, value: i64)
     ensures { (instants n : ℕ) (took : List (List ℤ)) → IsActorState actor.now instants n took state.old →
         IsActorState actor.now instants (n + 1) (took_more took (operand_at (form_of actor.now.kind) state.old.fired state.old.step) value) state.new }
 {
-    *state = step_on(actor, keep(*state, operand_of(actor, state), value));
+    after_end_take(actor, state, value, false);
 }
 
 /// The actor gives an item.
@@ -160,5 +236,5 @@ pub fn after_give(actor: &Actor, state: &mut ActorState)
     ensures { (instants n : ℕ) (took : List (List ℤ)) → IsActorState actor.now instants n took state.old →
         IsActorState actor.now instants (n + 1) took state.new }
 {
-    *state = step_on(actor, *state);
+    after_end_give(actor, state, false);
 }

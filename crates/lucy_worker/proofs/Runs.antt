@@ -10,7 +10,8 @@ use Rattle.lucy_stream.proofs.FrontLaws.{IsFront-refl, IsFront-trans}
 use Rattle.lucy_net.specs.declared.kind.ActorKind.{ActorKind}
 use Rattle.lucy_net.specs.declared.kind.ActorKind.TheVariants as kind
 use Rattle.lucy_net.specs.declared.net.Actor.{Actor}
-use Rattle.lucy_net.specs.States.{KnowsOperator}
+use Rattle.lucy_net.specs.Plans.{form_of}
+use Rattle.lucy_net.specs.States.{IsPlain, KnowsOperator}
 use Rattle.lucy_worker.specs.declared.part.Part.{Part}
 use Rattle.lucy_worker.specs.Parts.{done_of, CanMove}
 use Rattle.lucy_worker.specs.Turns.{IsServed, PutsMore, HasRun, HaveRun, HaveMoved, NoneCan, done_by, giver_name, taker_name}
@@ -87,6 +88,9 @@ same_ends kinds p q run =
 
 pub still_served : (kinds : List HostKind) (count : ℕ) (p q : Part) → HasRun kinds p q → IsServed count p → IsServed count q
 still_served kinds count p q run served = subst (λ (x : Actor). KnowsOperator x.kind count) (sym run.actor) served
+
+pub still_plain : (kinds : List HostKind) (p q : Part) → HasRun kinds p q → IsPlain (form_of p.actor.kind) → IsPlain (form_of q.actor.kind)
+still_plain kinds p q run plain = subst (λ (x : Actor). IsPlain (form_of x.kind)) (sym run.actor) plain
 
 pub passed_none : (kinds : List HostKind) (count : ℕ) (ps : List Part) → AreReady ps → All (IsServed count) ps → HaveRunBy kinds count ps ps 0
 passed_none kinds count ps ready served = record {

@@ -4,14 +4,16 @@ ghost use Rattle.lucy_host.specs.declared.kind.HostKind.{HostKind};
 ghost use Rattle.lucy_host.specs.Host.{Serves, lent};
 ghost use Rattle.lucy_host.specs.Operators.{kinds_of};
 ghost use Rattle.lucy_event.specs.Systems.{Takes, Gives};
-ghost use Rattle.lucy_net.specs.States.{IsNext};
+ghost use Rattle.lucy_net.specs.Plans.{form_of};
+ghost use Rattle.lucy_net.specs.States.{IsNext, IsPlain};
 ghost use Rattle.lucy_worker.specs.Parts.{done_of, CanMove};
 ghost use Rattle.lucy_worker.specs.Turns.{HasRun, IsServed};
 ghost use Rattle.lucy_worker.specs.Readiness.{left_of, IsReady, HasSlot, out_after};
 
 use lucy_host::Host;
 use lucy_net::{
-    Actor, ActorKind, ActorState, EndMove, after_give, after_take, give_value, next_end_move,
+    Actor, ActorKind, ActorState, EndMove, after_end_give, after_end_take, give_value, is_plain,
+    next_end_move,
 };
 use lucy_ring::{Giver, Taker};
 
@@ -36,7 +38,6 @@ pub struct Part {
 
 impl Part {
     // Does all moves that are possible in a row, and answers how many.
-    #[tactic(auto, using(crate::proofs::Runs::goes_on, crate::proofs::Runs::stays))]
     pub(crate) fn go_on<F: Fn(u32, i64, i64) -> i64 + Sync>(&mut self, host: &Host<F>) -> u64
         requires ready { IsReady self.old }
         requires serves { Serves F.pre F.post host.now }
@@ -48,15 +49,40 @@ impl Part {
         ensures moved { CanMove self.old → 0 < result }
         ensures rests { CanMove self.new → ⊥ }
     {
+        // the compiler makes two loops of this, in one of which the kind is looked at no more
+        if is_plain(&self.actor.kind) {
+            self.go(host, true)
+        } else {
+            self.go(host, false)
+        }
+    }
+
+    // The same; where `plain` says that the actor is plain its kind tells no moves.
+    #[inline(always)]
+    #[tactic(auto, using(crate::proofs::Runs::goes_on, crate::proofs::Runs::stays))]
+    fn go<F: Fn(u32, i64, i64) -> i64 + Sync>(&mut self, host: &Host<F>, plain: bool) -> u64
+        requires plain { IsTrue plain → IsPlain (form_of self.old.actor.kind) }
+        requires ready { IsReady self.old }
+        requires serves { Serves F.pre F.post host.now }
+        requires served { IsServed (length (lent host.now)) self.old }
+        ensures ready { IsReady self.new }
+        ensures run { HasRun (kinds_of (lent host.now)) self.old self.new }
+        ensures moves { done_of self.new ≡ done_of self.old + result }
+        ensures left { left_of self.new + result ≡ left_of self.old }
+        ensures moved { CanMove self.old → 0 < result }
+        ensures rests { CanMove self.new → ⊥ }
+    {
         let mut moves = 0;
-        while self.step(host) {
+        while self.step(host, plain) {
             moves += 1;
         }
         moves
     }
 
     // Tries the next move.
-    fn step<F: Fn(u32, i64, i64) -> i64 + Sync>(&mut self, host: &Host<F>) -> bool
+    #[inline(always)]
+    fn step<F: Fn(u32, i64, i64) -> i64 + Sync>(&mut self, host: &Host<F>, plain: bool) -> bool
+        requires plain { IsTrue plain → IsPlain (form_of self.old.actor.kind) }
         requires ready { IsReady self.old }
         requires serves { Serves F.pre F.post host.now }
         requires served { IsServed (length (lent host.now)) self.old }
@@ -67,16 +93,17 @@ impl Part {
         ensures rests { IsFalse result → CanMove self.new → ⊥ }
         ensures possible { CanMove self.old → IsTrue result }
     {
-        match next_end_move(&self.actor, &self.state) {
-            EndMove::Take(end) => self.take(end),
-            EndMove::Give(end) => self.give(host, end),
+        match next_end_move(&self.actor, &self.state, plain) {
+            EndMove::Take(end) => self.take(end, plain),
+            EndMove::Give(end) => self.give(host, end, plain),
             EndMove::Done => false,
         }
     }
 
     // Takes from this one of its ends, where an item is found.
     #[inline(always)]
-    fn take(&mut self, end: u32) -> bool
+    fn take(&mut self, end: u32, plain: bool) -> bool
+        requires plain { IsTrue plain → IsPlain (form_of self.old.actor.kind) }
         requires ready { IsReady self.old }
         requires next { (ring : ℕ) × IsNext self.old.actor self.old.state (Takes ring) × (slice_get self.old.actor.takes end ≡ Some ring) }
         ensures ready { IsReady self.new }
@@ -88,7 +115,7 @@ impl Part {
     {
         match self.takers[end as usize].take() {
             Some(value) => {
-                after_take(&self.actor, &mut self.state, value);
+                after_end_take(&self.actor, &mut self.state, value, plain);
                 put_out(&self.actor.kind, &mut self.output, value);
                 true
             }
@@ -98,7 +125,13 @@ impl Part {
 
     // Gives to this one of its ends, where a slot is found.
     #[inline(always)]
-    fn give<F: Fn(u32, i64, i64) -> i64 + Sync>(&mut self, host: &Host<F>, end: u32) -> bool
+    fn give<F: Fn(u32, i64, i64) -> i64 + Sync>(
+        &mut self,
+        host: &Host<F>,
+        end: u32,
+        plain: bool,
+    ) -> bool
+        requires plain { IsTrue plain → IsPlain (form_of self.old.actor.kind) }
         requires ready { IsReady self.old }
         requires next { (ring : ℕ) × IsNext self.old.actor self.old.state (Gives ring) × (slice_get self.old.actor.gives end ≡ Some ring) }
         requires serves { Serves F.pre F.post host.now }
@@ -114,7 +147,7 @@ impl Part {
         if self.givers[end as usize].give(value).is_err() {
             return false;
         }
-        after_give(&self.actor, &mut self.state);
+        after_end_give(&self.actor, &mut self.state, plain);
         true
     }
 }

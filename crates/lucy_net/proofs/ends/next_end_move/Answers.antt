@@ -4,8 +4,8 @@ use Rattle.lucy_net.specs.States.{IsActorState, end_move_at}
 use Rattle.lucy_net.proofs.EndLaws.{is_on}
 use Rattle.lucy_net.proofs.ends.next_end_move.Goals as goal
 
-pub end_move-requires : goal.end_move-requires
-end_move-requires c = (let is : IsActorState c.args.actor.now c.requires.state.0 c.requires.state.1 c.requires.state.2 c.args.state.now = c.requires.state.3 in is.cursor c.if-state.true)
+pub end_move-requires-clause-cursor : goal.end_move-requires-clause-cursor
+end_move-requires-clause-cursor c = (let is : IsActorState c.args.actor.now c.requires.state.0 c.requires.state.1 c.requires.state.2 c.args.state.now = c.requires.state.3 in is.cursor c.if-state.true)
 
 ends : (c : goal.After-end_move) → end_move_at (form_of c.args.actor.now.kind) (length c.list.result.now) (length c.list-then-state.result.now) c.args.state.now.fired c.args.state.now.step
     ≡ end_move_at (form_of c.args.actor.now.kind) (length c.args.actor.now.takes) (length c.args.actor.now.gives) c.args.state.now.fired c.args.state.now.step

@@ -5,7 +5,7 @@ use Rattle.lucy_host.specs.Operators.{kinds_of}
 use Rattle.lucy_net.specs.States.{ReadsInput, HasItem}
 use Rattle.lucy_worker.proofs.GiveLaws.{Gave, give_inside, give_few, item_there, knows_slot, none_known, gave_ready, gave_run, gave_moved, kept_run, kept_ready}
 use Rattle.lucy_worker.proofs.part.Part.give.Goals as goal
-use Rattle.lucy_worker.proofs.part.Part.give.Goals.{After-after_give}
+use Rattle.lucy_worker.proofs.part.Part.give.Goals.{After-after_end_give}
 use Rattle.lucy_worker.proofs.part.Part.give.Given.{Over}
 
 pub index_mut-requires : goal.index_mut-requires
@@ -50,10 +50,10 @@ returns-then-is_err-clause-possible g c can =
     let found = c.give.ensures.succeeds (knows_slot c.args.self.now next.0 c.args.end c.index_mut.result.now c.requires.ready can next.1 next.2 c.index_mut.ensures.value) in
     search rules
 
-given : (g : Over) (c : After-after_give g) → c.give.new.self.given ≡ c.index_mut.result.now.given ++ c.give_value-value.result ∷ []
+given : (g : Over) (c : After-after_end_give g) → c.give.new.self.given ≡ c.index_mut.result.now.given ++ c.give_value-value.result ∷ []
 given g c = search rules
 
-gave : (g : Over) (c : After-after_give g) → Gave (kinds_of (lent c.args.host.now)) c.args.self.now c.after_give.new.state c.requires.next.0 c.args.end c.give_value-value.result c.index_mut.result.now c.give.new.self
+gave : (g : Over) (c : After-after_end_give g) → Gave (kinds_of (lent c.args.host.now)) c.args.self.now c.after_end_give.new.state c.requires.next.0 c.args.end c.give_value-value.result c.index_mut.result.now c.give.new.self
 gave g c = record {
   ready = c.requires.ready;
   next = c.requires.next.1;
@@ -62,7 +62,7 @@ gave g c = record {
   ring = c.give.ensures.ring;
   given = given g c;
   value = λ inputs instants n took is reads. c.give_value-value.ensures inputs instants n took is (subst (λ (xs : List ℤ). ReadsInput c.args.self.now.actor.kind inputs xs) (sym c.deref.ensures.value) reads);
-  after = c.after_give.ensures;
+  after = c.after_end_give.ensures;
 }
 
 pub returns-clause-ready : goal.returns-clause-ready

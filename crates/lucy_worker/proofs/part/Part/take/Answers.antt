@@ -52,7 +52,7 @@ taken c = search rules
 back : (c : After-put_out) → to_z w64 (of_z w64 c.in-Some.value) ≡ c.in-Some.value
 back c = omega (arith, ints)
 
-took : (c : After-put_out) → Took c.args.self.now c.after_take.new.state c.put_out.new.output c.requires.next.0 c.args.end c.in-Some.value c.index_mut.result.now c.take.new.self
+took : (c : After-put_out) → Took c.args.self.now c.after_end_take.new.state c.put_out.new.output c.requires.next.0 c.args.end c.in-Some.value c.index_mut.result.now c.take.new.self
 took c = record {
   ready = c.requires.ready;
   next = c.requires.next.1;
@@ -61,7 +61,7 @@ took c = record {
   ring = c.take.ensures.ring;
   held = c.take.ensures.held;
   taken = taken c;
-  after = λ instants n taken is. subst (λ (x : ℤ). IsActorState c.args.self.now.actor instants (n + 1) (took_more taken (operand_at (form_of c.args.self.now.actor.kind) c.args.self.now.state.fired c.args.self.now.state.step) x) c.after_take.new.state) (back c) (c.after_take.ensures instants n taken is);
+  after = λ instants n taken is. subst (λ (x : ℤ). IsActorState c.args.self.now.actor instants (n + 1) (took_more taken (operand_at (form_of c.args.self.now.actor.kind) c.args.self.now.state.fired c.args.self.now.state.step) x) c.after_end_take.new.state) (back c) (c.after_end_take.ensures instants n taken is);
   kept = (let e = c.put_out.ensures.kept in e ∙ ap (out_after c.args.self.now.actor.kind c.args.self.now.output.items) (back c));
   room = c.put_out.ensures.room;
 }

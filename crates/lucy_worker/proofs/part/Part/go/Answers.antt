@@ -5,12 +5,12 @@ use Rattle.lucy_host.specs.Operators.{kinds_of}
 use Rattle.lucy_worker.specs.Parts.{done_of}
 use Rattle.lucy_worker.specs.News.{ends_of, most_ends}
 use Rattle.lucy_worker.specs.Readiness.{left_of}
-use Rattle.lucy_worker.proofs.Runs.{stays, goes_on, still_served}
+use Rattle.lucy_worker.proofs.Runs.{stays, goes_on, still_served, still_plain}
 use Rattle.lucy_worker.proofs.CountLaws.{left_few}
-use Rattle.lucy_worker.proofs.part.Part.go_on.Goals as goal
+use Rattle.lucy_worker.proofs.part.Part.go.Goals as goal
 
 pub loop-moves-init : goal.loop-moves-init
-loop-moves-init g c = (c.requires.ready, c.requires.served, stays (kinds_of (lent c.args.host.now)) c.args.self.now, omega arith, omega arith, λ z can. can)
+loop-moves-init g c = (c.requires.ready, c.requires.served, stays (kinds_of (lent c.args.host.now)) c.args.self.now, omega arith, omega arith, λ z can. can, c.requires.plain)
 
 pub overflow_add-moves : goal.overflow_add-moves
 overflow_add-moves g c =
@@ -31,6 +31,7 @@ loop-moves-preserved g c =
       omega (arith, m.0),
       omega (arith, m.1),
       λ z. absurd (omega arith),
+      λ t. still_plain kinds c.loop-moves.self c.step.new.self c.step.ensures.run (c.loop-moves.invariant.6 t),
     )
 
 pub returns-clause-run : goal.returns-clause-run
