@@ -2,6 +2,7 @@
 pub mod Lengths
 pub mod Faults
 pub mod Schedules
+pub mod Laws
 -- what only serves the proofs
 pub mod Play
 pub mod Waiting

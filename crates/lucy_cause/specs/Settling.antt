@@ -25,6 +25,7 @@ pub record AreOver (net : Net) (before : ℕ) (firing steps depth : List ℕ) : 
   pub depths : length depth ≡ length net.actors
   pub unmarked : (a : ℕ) → slice_index depth a ≡ 0
 
+-- so of these actors: they are over, or some wait for each other
 abbrev pub AreSettled : Net → ℕ → List ℕ → List ℕ → List ℕ → List ℕ → List ℕ → Settled → Type 0
 AreSettled net before firing events steps held depth Done = IsPlayed net before events steps held × AreOver net before firing steps depth
 AreSettled net before firing events steps held depth (Stuck waits) = IsPlayed net before events steps held × IsKnot net before steps held waits.items

@@ -12,10 +12,11 @@ pub record IsHeldUp (net : Net) (before : ℕ) (steps held : List ℕ) (a r : �
   pub there : r < length net.rings
   pub empty : slice_index held r ≡ 0
 
--- the actor and the ring of a wait
+-- the actor of a wait, and the one that goes on now where there is none
 abbrev pub actor_at : List Wait → ℕ → ℕ → ℕ
 actor_at waits now k = slice_index_or (map (λ w. w.actor) waits) k now
 
+-- the ring of a wait
 abbrev pub ring_at : List Wait → ℕ → ℕ
 ring_at waits k = slice_index (map (λ w. w.ring) waits) k
 

@@ -50,10 +50,7 @@ fn play_rows(
             let items = items_of(alloc, net, instant, &waits)?;
             return Err(CauseFault::Cycle { instant, items });
         }
-        match orders.push(order) {
-            Ok(()) => {}
-            Err(_) => return Err(CauseFault::OutOfMemory),
-        }
+        orders.push(order)?;
     }
     Ok(orders)
 }

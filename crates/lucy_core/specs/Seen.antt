@@ -32,6 +32,7 @@ pub record Seen : Type 0 where
 unfoldable pub machine_on : Net → List (List ℤ) → List HostKind → ℕ → Machine
 machine_on net inputs kinds instants = machine kinds inputs (plan net instants)
 
+-- those of a core up to its horizon, with its inputs and operators
 abbrev pub machine_of : Seen → Machine
 machine_of seen = machine_on seen.net seen.inputs (kinds_of seen.operators) seen.instants
 
@@ -43,6 +44,7 @@ plan_of seen = plan seen.net seen.instants
 unfoldable pub order_on : Timetable → ℕ → List ℕ
 order_on schedule instants = events_to (events_at schedule) instants
 
+-- those of a core, up to its horizon
 abbrev pub order_of : Seen → List ℕ
 order_of seen = order_on seen.schedule seen.instants
 
@@ -54,6 +56,7 @@ done_of done a = slice_index done a
 unfoldable pub state_on : Machine → List ℕ → List ℕ → State
 state_on m order done = state_at m order (done_of done)
 
+-- the state in which a core is
 abbrev pub state_of : Seen → State
 state_of seen = state_on (machine_of seen) (order_of seen) seen.done
 

@@ -14,10 +14,11 @@ use Rattle.lucy_flat.specs.Instances.{word_at}
 abbrev pub main_word : List PlacedNode → List NodeClock → ℕ → Bits
 main_word nodes clocks place = word_at nodes clocks [] place
 
--- the words of main's parameters, which are its first places, and of its results, in order
+-- the words of main's parameters, which are its first places, in order
 abbrev pub param_words : List PlacedNode → List NodeClock → List Bits
 param_words nodes clocks = map (main_word nodes clocks) (range_with_len 1 (params_in (main_of nodes)))
 
+-- those of main's results, in order
 abbrev pub result_words : List PlacedNode → List NodeClock → List Bits
 result_words nodes clocks = map (main_word nodes clocks) (results_in (main_of nodes))
 
@@ -29,10 +30,11 @@ main_stream kinds inputs nodes clocks instants place = stream_to kinds inputs no
 abbrev pub main_streams : List HostKind → List (List ℤ) → List PlacedNode → List NodeClock → ℕ → List (List ℤ)
 main_streams kinds inputs nodes clocks instants = map (main_stream kinds inputs nodes clocks instants) (results_in (main_of nodes))
 
--- what the stream of a place of main has past an earlier horizon, and those of main's results, in order
+-- what the stream of a place of main has past an earlier horizon
 abbrev pub later_stream : List HostKind → List (List ℤ) → List PlacedNode → List NodeClock → (before instants : ℕ) → ℕ → List ℤ
 later_stream kinds inputs nodes clocks before instants place = drop (ones_to (main_word nodes clocks place) before) (main_stream kinds inputs nodes clocks instants place)
 
+-- so of main's results, in order
 abbrev pub later_streams : List HostKind → List (List ℤ) → List PlacedNode → List NodeClock → (before instants : ℕ) → List (List ℤ)
 later_streams kinds inputs nodes clocks before instants = map (later_stream kinds inputs nodes clocks before instants) (results_in (main_of nodes))
 

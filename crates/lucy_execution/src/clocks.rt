@@ -22,7 +22,7 @@ pub fn param_words<'a>(placed: &Placed, clocks: &'a [NodeClock]) -> &'a [Word]
 }
 
 /// The word of the result of main of this number, which counts from 0.
-pub fn result_word<'a>(placed: &Placed, clocks: &'a [NodeClock], number: u32) -> &'a Word
+pub(crate) fn result_word<'a>(placed: &Placed, clocks: &'a [NodeClock], number: u32) -> &'a Word
     requires clocked { AreClocked placed.now.nodes clocks.now }
     requires there { number < length (results_in (main_of placed.now.nodes)) }
     ensures { slice_get (result_words placed.now.nodes clocks.now) number ≡ Some result.now }

@@ -17,7 +17,7 @@ mod running;
 mod taken;
 mod turning;
 
-pub use clocks::{param_words, result_word};
+pub use clocks::param_words;
 pub use instants::{allows_more, horizon};
 pub use interpreting::interpret;
 pub use laws::{

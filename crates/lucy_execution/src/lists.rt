@@ -3,9 +3,27 @@ ghost use Rattle.std.specs.Prelude.{◌≡◌, ◌≤◌, ◌-◌, ◌<◌, ◌^
 ghost use Rattle.lucy_word.specs.Bits.{ones_to};
 ghost use Rattle.lucy_stream.specs.Items.{list_at};
 
-use lucy_host::{Inputs, OutOfMemory};
-use lucy_word::Word;
-use std::alloc::Global;
+use lucy_host::Inputs;
+use lucy_word::{OutOfMemory, Word};
+use std::alloc::{AllocError, Global};
+
+// One more list, under the next number. Its error is that of `Inputs`.
+fn put(
+    alloc: Global,
+    lists: &mut Inputs,
+    number: u32,
+    list: &[i64],
+) -> Result<(), lucy_host::OutOfMemory>
+    requires next { number ≡ length lists.old }
+    requires room { number < 2 ^ 32 - 1 }
+    ensures { OnOk result (lists.new ≡ lists.old ++ list.now ∷ []) }
+{
+    lists.add_list(alloc)?;
+    'each: for item in list {
+        lists.push(alloc, number, *item)?;
+    }
+    Ok(())
+}
 
 /// One more list, under the next number.
 pub(crate) fn add(
@@ -18,11 +36,10 @@ pub(crate) fn add(
     requires room { number < 2 ^ 32 - 1 }
     ensures { OnOk result (lists.new ≡ lists.old ++ list.now ∷ []) }
 {
-    lists.add_list(alloc)?;
-    'each: for item in list {
-        lists.push(alloc, number, *item)?;
+    match put(alloc, lists, number, list) {
+        Ok(()) => Ok(()),
+        Err(_) => Err(OutOfMemory),
     }
-    Ok(())
 }
 
 /// One more list, of the first items of this one: as many as the word has ones in so many instants.
@@ -33,13 +50,13 @@ pub(crate) fn add_front(
     list: &[i64],
     word: &Word,
     instants: u64,
-) -> Result<(), OutOfMemory>
+) -> Result<(), lucy_host::OutOfMemory>
     requires next { number ≡ length lists.old }
     requires room { number < 2 ^ 32 - 1 }
     ensures { OnOk result (lists.new ≡ lists.old ++ take (ones_to word.now instants) list.now ∷ []) }
 {
     let count = word.ones(instants).min(list.len() as u64);
-    add(alloc, lists, number, &list[..count as usize])
+    put(alloc, lists, number, &list[..count as usize])
 }
 
 /// The same lists, of which there are so many, in other memory.
@@ -57,7 +74,7 @@ pub fn copy_lists(alloc: Global, lists: &Inputs, count: usize) -> Result<Inputs,
 }
 
 /// How many items each of so many lists has.
-pub fn lengths(alloc: Global, lists: &Inputs, count: usize) -> Result<Vec<u64>, OutOfMemory>
+pub fn lengths(alloc: Global, lists: &Inputs, count: usize) -> Result<Vec<u64>, AllocError>
     requires lists { length lists.now ≡ count }
     requires few { count < 2 ^ 32 }
     ensures count { IfOk result (λ lengths. length lengths.items ≡ count) }

@@ -5,10 +5,11 @@ use crate::running::{homes_of, outputs, run_core};
 use lucy_cause::Schedule;
 use lucy_clock::NodeClock;
 use lucy_core::Core;
-use lucy_host::{Host, Inputs, OutOfMemory};
+use lucy_host::{Host, Inputs};
 use lucy_net::Net;
 use lucy_place::Placed;
 use lucy_runner::Runner;
+use lucy_word::OutOfMemory;
 use lucy_worker::Gate;
 use std::alloc::Global;
 use std::marker::Model;
@@ -76,23 +77,14 @@ impl<'a> Player<'a> {
             ≡ record { nodes = placed.now.nodes; clocks = clocks.now; kinds = kinds_of (lent host.now); inputs = inputs; instants = instants; before = 0 }) }
     {
         let _ = placed.nodes();
-        let homes = match homes_of(alloc, net.actors.list().len(), workers) {
-            Ok(homes) => homes,
-            Err(_) => return Err(OutOfMemory),
-        };
-        match Core::new(alloc, net, schedule, inputs, host.ops(), instants) {
-            Ok(core) => {
-                let runner = run_core(
-                    rt, alloc, placed, clocks, core, host, gate, workers, &homes,
-                )?;
-                Ok(Player {
-                    placed,
-                    clocks,
-                    runner,
-                })
-            }
-            Err(_) => Err(OutOfMemory),
-        }
+        let homes = homes_of(alloc, net.actors.list().len(), workers)?;
+        let core = Core::new(alloc, net, schedule, inputs, host.ops(), instants)?;
+        let runner = run_core(rt, alloc, placed, clocks, core, host, gate, workers, &homes)?;
+        Ok(Player {
+            placed,
+            clocks,
+            runner,
+        })
     }
 
     /// Runs the program on to a later horizon, of at most 1,048,576 instants, with the items that follow those of each input. The
@@ -116,10 +108,7 @@ impl<'a> Player<'a> {
         ensures refused { OnErr result (self.new ≡ self.old) }
     {
         let _ = self.placed.nodes();
-        match self.runner.more(alloc, added, instants) {
-            Ok(()) => {}
-            Err(_) => return Err(OutOfMemory),
-        }
+        self.runner.more(alloc, added, instants)?;
         self.runner.go(rt, host, gate);
         Ok(())
     }

@@ -22,10 +22,11 @@ use crate::player::Player;
 use lucy_cause::Schedule;
 use lucy_clock::NodeClock;
 use lucy_core::Core;
-use lucy_host::{Host, Inputs, OutOfMemory};
+use lucy_host::{Host, Inputs};
 use lucy_net::Net;
 use lucy_place::Placed;
 use lucy_runner::Runner;
+use lucy_word::OutOfMemory;
 use lucy_worker::Gate;
 use std::alloc::{AllocError, Global};
 use std::thread::Threads;
@@ -89,13 +90,9 @@ pub(crate) fn run_core<R: Threads + Sync, F: Fn(u32, i64, i64) -> i64 + Sync, G:
     ensures is { IfOk result (λ runner. played placed.now.nodes clocks.now runner
         ≡ record { nodes = placed.now.nodes; clocks = clocks.now; kinds = kinds_of core.operators; inputs = core.inputs; instants = core.instants; before = 0 }) }
 {
-    match Runner::new(alloc, core, workers, homes) {
-        Ok(mut runner) => {
-            runner.go(rt, host, gate);
-            Ok(runner)
-        }
-        Err(_) => Err(OutOfMemory),
-    }
+    let mut runner = Runner::new(alloc, core, workers, homes)?;
+    runner.go(rt, host, gate);
+    Ok(runner)
 }
 
 /// The output streams of a program up to a horizon of at most 1,048,576 instants, by its flat net, whose actors are moved by 1 to 64

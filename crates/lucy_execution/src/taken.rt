@@ -8,8 +8,9 @@ ghost use Rattle.lucy_execution.specs.Taking.{taken_lists};
 use crate::lists::add;
 use lucy_clock::NodeClock;
 use lucy_core::Core;
-use lucy_host::{Inputs, OutOfMemory};
+use lucy_host::Inputs;
 use lucy_place::Placed;
+use lucy_word::OutOfMemory;
 use std::alloc::Global;
 
 /// What the outputs of a core of a program's flat net took so far, whether it is finished or not: a list for each result of main, in

@@ -22,10 +22,11 @@ use crate::running::{homes_of, outputs};
 use lucy_cause::Schedule;
 use lucy_clock::NodeClock;
 use lucy_core::Core;
-use lucy_host::{Inputs, Ops, OutOfMemory};
+use lucy_host::{Inputs, Ops};
 use lucy_net::Net;
 use lucy_place::Placed;
 use lucy_runner::{Runner, Seat};
+use lucy_word::OutOfMemory;
 use std::alloc::Global;
 
 // A runner, by so many workers, of a core of a program's flat net without an event so far, once its turns were made.
@@ -58,13 +59,9 @@ fn turn_core<T: FnOnce(&mut [Seat])>(
           before = 0;
         }) }
 {
-    match Runner::new(alloc, core, workers, homes) {
-        Ok(mut runner) => {
-            runner.round_by_turns(turns);
-            Ok(runner)
-        }
-        Err(_) => Err(OutOfMemory),
-    }
+    let mut runner = Runner::new(alloc, core, workers, homes)?;
+    runner.round_by_turns(turns);
+    Ok(runner)
 }
 
 /// The output streams of a program up to a horizon of at most 1,048,576 instants, by its flat net, whose actors are moved by 1 to 64
@@ -95,14 +92,8 @@ pub fn run_net_by_turns<T: FnOnce(&mut [Seat])>(
     ensures { IfOk result (λ lists. lists ≡ main_streams (kinds_of ops.now) inputs placed.now.nodes clocks.now instants) }
 {
     let _ = placed.nodes();
-    let homes = match homes_of(alloc, net.actors.list().len(), workers) {
-        Ok(homes) => homes,
-        Err(_) => return Err(OutOfMemory),
-    };
-    let core = match Core::new(alloc, net, schedule, inputs, ops, instants) {
-        Ok(core) => core,
-        Err(_) => return Err(OutOfMemory),
-    };
+    let homes = homes_of(alloc, net.actors.list().len(), workers)?;
+    let core = Core::new(alloc, net, schedule, inputs, ops, instants)?;
     let runner = turn_core(alloc, placed, clocks, core, workers, &homes, turns)?;
     outputs(alloc, placed, clocks, &runner)
 }

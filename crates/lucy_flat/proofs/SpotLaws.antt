@@ -31,5 +31,5 @@ whole_length nodes proper = ap length (main_spots nodes) ∙ count_spots nodes p
 -- no word or base of an instance is too long
 pub all_fit : (nodes : List PlacedNode) (clocks : List NodeClock) → AreFit nodes clocks [] (last_of nodes) → IsClockTooLong nodes clocks → ⊥
 all_fit nodes clocks fit long =
-    let fits = subst (λ p. IsFit nodes clocks p long.clock) (append-nil long.path) (fit long.path long.inner.node long.clock long.inner.found long.inner.low long.inner.high) in
+    let fits = subst (λ p. IsFit nodes clocks p long.clock) (append-nil long.path) (fit long.path long.node long.clock long.found long.low long.high) in
     fits long.base long.is long.shortest long.too_long

@@ -1,7 +1,7 @@
 -- How the words of an instance place and of what it reads hang together.
 use Rattle.std.proofs.Common.{ℕ, suc, zero, ◌+◌, ◌-◌, ◌<◌, ◌≤◌, ◌≡◌, true, List, [], ◌∷◌, Option, Some, None, length, map, take, drop, ap, sym, refl, ◌∙◌, subst, inl, inr, arith}
 use Rattle.std.specs.Prelude.{slice_get, slice_index_or, option_map, ◌⊎◌}
-use Rattle.std.specs.List.{AllByRecursion, range_with_len}
+use Rattle.std.specs.List.{AllByRecursion}
 use Rattle.std.proofs.lemmas.Option.{same_Some, slice_get_within, slice_get-map, slice_get-get_or}
 use Rattle.lucy_word.specs.Bits.{Bits, IsWord}
 use Rattle.lucy_word.specs.Shortest.{Same}
@@ -55,11 +55,6 @@ take_get [] i j x h e = absurd (cc e)
 take_get (y ∷ xs) zero j x h e = absurd (omega (arith, h))
 take_get (y ∷ xs) (suc i) zero x h e = e
 take_get (y ∷ xs) (suc i) (suc j) x h e = take_get xs i j x (omega (arith, h)) e
-
-pub range_get : {B : Type 0} (f : ℕ → B) (a n i : ℕ) → i < n → slice_get (map f (range_with_len a n)) i ≡ Some (f (a + i))
-range_get f a zero i h = absurd (omega (arith, h))
-range_get f a (suc n) zero h = let e : a ≡ a + 0 = omega arith in ap (λ t. Some (f t)) e
-range_get f a (suc n) (suc i) h = let e : a + 1 + i ≡ a + suc i = omega arith in range_get f (a + 1) n i (omega (arith, h)) ∙ ap (λ t. Some (f t)) e
 
 map_get : {B : Type 0} (f : ℕ → B) (xs : List ℕ) (i : ℕ) → i < length xs → slice_get (map f xs) i ≡ Some (f (slice_index_or xs i 0))
 map_get f xs i h = slice_get-map f xs i ∙ ap (option_map f) (get_some xs i h)

@@ -103,7 +103,10 @@ module _ (nodes : List PlacedNode) (clocks : List NodeClock) (proper : AreProper
             inl (record {
               path = path;
               clock = place;
-              inner = record { node = of.node.now; found = found_at nodes clocks proper path of is; low = low; high = omega (arith, high) };
+              node = of.node.now;
+              found = found_at nodes clocks proper path of is;
+              low = low;
+              high = omega (arith, high);
               base = of.base.now;
               is = is.at.is_base;
               shortest = short;

@@ -20,18 +20,15 @@ use Rattle.lucy_flat.specs.Flat.{IsFlat}
 use Rattle.lucy_clock.specs.Clocks.{clocks_of}
 use Rattle.lucy_flat.specs.Counts.{IsSmall, IsPassed}
 
--- a clock of the node that a path leads to: that of a place or of the base of a call, and not of the node's own base
-pub record IsInner (nodes : List PlacedNode) (path : List ℕ) (clock : ℕ) : Type 0 where
-  pub node : PlacedNode
-  pub found : node_at nodes path ≡ Some node
-  pub low : 0 < clock
-  pub high : clock < clocks_of node
-
--- the word of an instance place, or the base of an instance, has a computed length past the most
+-- the word of an instance place, or the base of an instance, has a computed length past the most: that of a clock of the node that a
+-- path leads to, but not of its own base
 pub record IsClockTooLong (nodes : List PlacedNode) (clocks : List NodeClock) : Type 0 where
   pub path : List ℕ
+  pub node : PlacedNode
+  pub found : node_at nodes path ≡ Some node
   pub clock : ℕ
-  pub inner : IsInner nodes path clock
+  pub low : 0 < clock
+  pub high : clock < clocks_of node
   pub base : Bits
   pub is : IsBase nodes clocks path base
   pub shortest : IsShortest base

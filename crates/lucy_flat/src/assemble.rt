@@ -11,7 +11,6 @@ ghost use Rattle.lucy_flat.specs.Assembly.{reads_count, all_reads, IsReadOn, Rea
 
 use crate::draft::Draft;
 use crate::error::FlatError;
-use crate::grow::push;
 use crate::held::{Held, hold, is_past};
 use crate::words::{copied, sampled, test_sampled, turned};
 use lucy_net::{Actor, ActorKind, Actors, Net, Numbers, RingSpec, Rings};
@@ -147,7 +146,7 @@ fn hand_out(drafts: &mut Vec<Draft>, rings: &[RingSpec]) -> Result<(), FlatError
 {
     let count = rings.len();
     'each: for r in 0..count {
-        push(&mut drafts[rings[r].from as usize].gives, r as u32)?;
+        drafts[rings[r].from as usize].gives.push(r as u32)?;
     }
     Ok(())
 }
@@ -160,7 +159,7 @@ fn numbers(alloc: Global, first: u32, count: usize) -> Result<Vec<u32>, FlatErro
 {
     let mut numbers = Vec::new(alloc);
     'each: for i in 0..count {
-        push(&mut numbers, first + i as u32)?;
+        numbers.push(first + i as u32)?;
     }
     Ok(numbers)
 }
@@ -221,7 +220,7 @@ fn actors(alloc: Global, drafts: Vec<Draft>, rings: &[RingSpec]) -> Result<Vec<A
     'each: for draft in drafts {
         let count = draft.reads.len() as u32;
         let next = finished(alloc, draft, first, rings)?;
-        push(&mut actors, next)?;
+        actors.push(next)?;
         first += count;
     }
     Ok(actors)
@@ -244,7 +243,7 @@ fn joined(alloc: Global, mut drafts: Vec<Draft>, rings: Vec<RingSpec>) -> Result
 
 /// The net of drafts: a ring for each operand, in order. `Limit(Bits)` comes where the words of the rings have together more bits
 /// than are allowed, and no word is too long; no more of these words are kept than are allowed.
-pub fn assemble(alloc: Global, drafts: Vec<Draft>) -> Result<Net, FlatError>
+pub(crate) fn assemble(alloc: Global, drafts: Vec<Draft>) -> Result<Net, FlatError>
     requires { IsReady drafts.items }
     ensures ok { IfOk result (IsAssembled drafts.items) }
     ensures fits { IfOk result (λ net. IsReadTooLong drafts.items → ⊥) }

@@ -100,7 +100,7 @@ fn first_passed(actors: u64, rings: u64, slots: u64) -> Option<Limit>
 }
 
 /// The first limit that the net of a program passes, where the sizes of its nodes are known.
-pub fn passed(placed: &Placed, clocks: &[NodeClock], sizes: &[u64]) -> Option<Limit>
+pub(crate) fn passed(placed: &Placed, clocks: &[NodeClock], sizes: &[u64]) -> Option<Limit>
     requires clocks { length clocks.now ≡ length placed.now.nodes }
     requires room { length placed.now.nodes ≤ length sizes.now }
     requires sizes { AreCapped (size_of placed.now.nodes) (length placed.now.nodes) sizes.now }

@@ -15,7 +15,6 @@ use crate::assemble::assemble;
 use crate::draft::Draft;
 use crate::error::FlatError;
 use crate::extent::passed;
-use crate::grow::push;
 use crate::instance::{Program, put_instance};
 use crate::kept::{Kept, keep};
 use crate::words::{bits, copied};
@@ -50,7 +49,7 @@ fn put_outputs(
         words_are_stored(word);
         let word = copied(alloc, word)?;
         let mut reads = Vec::new(alloc);
-        push(&mut reads, place - 1)?;
+        reads.push(place - 1)?;
         let next = Draft {
             kind: ActorKind::Output(i as u32),
             word,

@@ -7,28 +7,27 @@ ghost use Rattle.lucy_flat.specs.declared.error.FlatError.TheVariants as err;
 ghost use Rattle.lucy_flat.specs.Assembly.{AreHeld};
 
 use crate::error::FlatError;
-use crate::grow::push;
 use crate::words::bits;
 use lucy_net::RingSpec;
 use lucy_word::{Limit, words_are_stored};
 
 /// Of the rings of a net, in order, those that are kept: all, until the words of all have together more bits than are allowed.
 #[derive(Drop)]
-pub struct Held {
+pub(crate) struct Held {
     pub rings: Vec<RingSpec>,
     /// The bits of all rings, those that aren't kept among them, and no more are counted once they are too many.
     pub bits: u64,
 }
 
 /// Whether all rings have together more bits than are allowed.
-pub fn is_past(held: &Held) -> bool
+pub(crate) fn is_past(held: &Held) -> bool
     ensures { IsTrue result ↔ (limit_number lim.Bits < held.now.bits) }
 {
     held.bits > Limit::Bits.number()
 }
 
 /// Keeps one ring more, unless all have with it more bits than are allowed.
-pub fn hold(held: &mut Held, next: RingSpec) -> Result<(), FlatError>
+pub(crate) fn hold(held: &mut Held, next: RingSpec) -> Result<(), FlatError>
     ensures ok { (rings : List Ring) → AreHeld rings held.old → OnOk result (AreHeld (rings ++ next ∷ []) held.new) }
     ensures refused { IfErr result (λ e. e ≡ err.OutOfMemory) }
 {
@@ -39,5 +38,6 @@ pub fn hold(held: &mut Held, next: RingSpec) -> Result<(), FlatError>
     if held.bits > Limit::Bits.number() {
         return Ok(());
     }
-    push(&mut held.rings, next)
+    held.rings.push(next)?;
+    Ok(())
 }

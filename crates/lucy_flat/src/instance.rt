@@ -19,7 +19,6 @@ ghost use Rattle.lucy_place.specs.declared.entry.PlaceKind.{PlaceKind as Kind};
 
 use crate::draft::Draft;
 use crate::error::FlatError;
-use crate::grow::push;
 use crate::kept::{Kept, is_past, keep};
 use crate::words::{copied, sampled, test_place, test_reads};
 use lucy_clock::NodeClock;
@@ -30,7 +29,7 @@ use std::alloc::Global;
 
 /// A program with its words, and the sizes of its nodes.
 #[derive(Clone, Copy)]
-pub struct Program<'a> {
+pub(crate) struct Program<'a> {
     pub placed: &'a Placed,
     pub clocks: &'a [NodeClock],
     pub sizes: &'a [u64],
@@ -38,7 +37,7 @@ pub struct Program<'a> {
 
 /// Where the caller of an instance begins, and the places of the arguments there.
 #[derive(Clone, Copy)]
-pub struct Caller<'a> {
+pub(crate) struct Caller<'a> {
     pub begin: u32,
     pub args: &'a [u32],
 }
@@ -46,7 +45,7 @@ pub struct Caller<'a> {
 /// An instance: its node and the words there, its base, its caller, if it isn't main, its first actor, and those of the
 /// instances of its calls.
 #[derive(Clone, Copy)]
-pub struct Instance<'a> {
+pub(crate) struct Instance<'a> {
     pub node: &'a PlacedNode,
     pub clock: &'a NodeClock,
     pub base: &'a Word,
@@ -86,7 +85,7 @@ fn one(alloc: Global, begin: u32, place: u32) -> Result<Vec<u32>, FlatError>
     ensures refused { IfErr result (λ e. e ≡ err.OutOfMemory) }
 {
     let mut reads = Vec::new(alloc);
-    push(&mut reads, actor(begin, place))?;
+    reads.push(actor(begin, place))?;
     Ok(reads)
 }
 
@@ -97,7 +96,7 @@ fn two(alloc: Global, begin: u32, first: u32, second: u32) -> Result<Vec<u32>, F
     ensures refused { IfErr result (λ e. e ≡ err.OutOfMemory) }
 {
     let mut reads = one(alloc, begin, first)?;
-    push(&mut reads, actor(begin, second))?;
+    reads.push(actor(begin, second))?;
     Ok(reads)
 }
 
@@ -108,7 +107,7 @@ fn all(alloc: Global, begin: u32, places: &[u32]) -> Result<Vec<u32>, FlatError>
 {
     let mut reads = Vec::new(alloc);
     'each: for place in places {
-        push(&mut reads, actor(begin, *place))?;
+        reads.push(actor(begin, *place))?;
     }
     Ok(reads)
 }
@@ -205,7 +204,7 @@ fn begins(
     let mut begins = Vec::new(alloc);
     let mut next = first;
     'each: for site in sites {
-        push(&mut begins, next)?;
+        begins.push(next)?;
         next += sizes[site.node as usize] as u32;
     }
     Ok(begins)
@@ -280,7 +279,7 @@ fn comes_again(kept: &Kept, sites: &[CallSite], words: &[Word], places: usize, c
 }
 
 /// Puts the drafts of the instance of a node that begins there, and of those inside it.
-pub fn put_instance(
+pub(crate) fn put_instance(
     alloc: Global,
     program: Program<'_>,
     node: u32,

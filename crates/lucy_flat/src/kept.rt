@@ -8,27 +8,26 @@ ghost use Rattle.lucy_flat.specs.Drafts.{AreKept};
 
 use crate::draft::Draft;
 use crate::error::FlatError;
-use crate::grow::push;
 use crate::words::bits;
 use lucy_word::{Limit, words_are_stored};
 
 /// Of the drafts of a program, in order, those that are kept: all, until the words of all have together more bits than are allowed.
 #[derive(Drop)]
-pub struct Kept {
+pub(crate) struct Kept {
     pub drafts: Vec<Draft>,
     /// The bits of the words of all drafts, those that aren't kept among them, and no more are counted once they are too many.
     pub bits: u64,
 }
 
 /// Whether the words of all drafts have together more bits than are allowed.
-pub fn is_past(kept: &Kept) -> bool
+pub(crate) fn is_past(kept: &Kept) -> bool
     ensures { IsTrue result ↔ (limit_number lim.Bits < kept.now.bits) }
 {
     kept.bits > Limit::Bits.number()
 }
 
 /// Keeps one draft more, unless the words of all have with its own more bits than are allowed.
-pub fn keep(kept: &mut Kept, next: Draft) -> Result<(), FlatError>
+pub(crate) fn keep(kept: &mut Kept, next: Draft) -> Result<(), FlatError>
     ensures ok { (drafts : List One) → AreKept drafts kept.old → OnOk result (AreKept (drafts ++ next ∷ []) kept.new) }
     ensures refused { IfErr result (λ e. e ≡ err.OutOfMemory) }
 {
@@ -37,5 +36,6 @@ pub fn keep(kept: &mut Kept, next: Draft) -> Result<(), FlatError>
     if kept.bits > Limit::Bits.number() {
         return Ok(());
     }
-    push(&mut kept.drafts, next)
+    kept.drafts.push(next)?;
+    Ok(())
 }

@@ -16,7 +16,6 @@ mod draft;
 mod error;
 mod extent;
 mod flattening;
-mod grow;
 mod held;
 mod instance;
 mod kept;

@@ -5,6 +5,7 @@ ghost use Rattle.lucy_word.specs.Bits.{bit_count};
 ghost use Rattle.lucy_word.specs.Complement.{turned as turned_word};
 ghost use Rattle.lucy_word.specs.Stored.{IsStored};
 ghost use Rattle.lucy_word.specs.Sampling.{IsOn, IsOnTooLong};
+ghost use Rattle.lucy_word.specs.Limits.{limit_number};
 ghost use Rattle.lucy_word.specs.declared.limit.Limit.TheVariants as lim;
 ghost use Rattle.lucy_clock.specs.HandedDown.{HandsTooLong};
 ghost use Rattle.lucy_flat.specs.declared.error.FlatError.TheVariants as err;
@@ -17,7 +18,7 @@ use lucy_word::{Limit, Word, WordError, complement, on};
 use std::alloc::Global;
 
 /// The word as one of its own.
-pub fn copied(alloc: Global, word: &Word) -> Result<Word, FlatError>
+pub(crate) fn copied(alloc: Global, word: &Word) -> Result<Word, FlatError>
     ensures ok { IfOk result (λ w. w ≡ word.now) }
     ensures refused { IfErr result (λ e. e ≡ err.OutOfMemory) }
 {
@@ -25,7 +26,7 @@ pub fn copied(alloc: Global, word: &Word) -> Result<Word, FlatError>
 }
 
 /// A clock on a word.
-pub fn sampled(alloc: Global, own: &Word, word: &Word) -> Result<Word, FlatError>
+pub(crate) fn sampled(alloc: Global, own: &Word, word: &Word) -> Result<Word, FlatError>
     ensures ok { IfOk result (IsOn own.now word.now) }
     ensures fits { IfOk result (λ w. IsOnTooLong own.now word.now → ⊥) }
     ensures stored { IfOk result IsStored }
@@ -40,7 +41,7 @@ pub fn sampled(alloc: Global, own: &Word, word: &Word) -> Result<Word, FlatError
 }
 
 /// A word with every bit turned, where that has a one in its period.
-pub fn turned(alloc: Global, word: &Word) -> Result<Word, FlatError>
+pub(crate) fn turned(alloc: Global, word: &Word) -> Result<Word, FlatError>
     requires { HasZero word.now }
     ensures ok { IfOk result (λ w. w ≡ turned_word word.now) }
     ensures refused { IfErr result (λ e. e ≡ err.OutOfMemory) }
@@ -53,7 +54,7 @@ pub fn turned(alloc: Global, word: &Word) -> Result<Word, FlatError>
 }
 
 /// Tests that no word on which a place of a kind takes is too long, where this is its own; none is made.
-pub fn test_reads(kind: &PlaceKind, own: &Word) -> Result<(), FlatError>
+pub(crate) fn test_reads(kind: &PlaceKind, own: &Word) -> Result<(), FlatError>
     ensures ok { OnOk result (HandsTooLong kind.now own.now → ⊥) }
     ensures refused { IfErr result (λ e. (e ≡ err.Limit lim.Word) × HandsTooLong kind.now own.now) }
 {
@@ -64,7 +65,7 @@ pub fn test_reads(kind: &PlaceKind, own: &Word) -> Result<(), FlatError>
 }
 
 /// Tests that a clock on a word isn't too long; it isn't made.
-pub fn test_sampled(own: &Word, word: &Word) -> Result<(), FlatError>
+pub(crate) fn test_sampled(own: &Word, word: &Word) -> Result<(), FlatError>
     ensures ok { OnOk result (IsOnTooLong own.now word.now → ⊥) }
     ensures refused { IfErr result (λ e. (e ≡ err.Limit lim.Word) × IsOnTooLong own.now word.now) }
 {
@@ -85,7 +86,7 @@ fn test_made(alloc: Global, kind: &PlaceKind, base: &Word, word: &Word) -> Resul
 
 /// Tests that a place of a kind, with this word in its node, has no word that is too long in an instance with this base: its
 /// own, or one on which it takes. Only that of a merge is made, since how long it is in shortest form isn't known before.
-pub fn test_place(
+pub(crate) fn test_place(
     alloc: Global,
     kind: &PlaceKind,
     base: &Word,
@@ -101,9 +102,9 @@ pub fn test_place(
 }
 
 /// How many bits the word has.
-pub fn bits(word: &Word) -> u64
+pub(crate) fn bits(word: &Word) -> u64
     ensures is { result ≡ bit_count word.now }
-    ensures few { result ≤ 1048576 }
+    ensures few { result ≤ limit_number lim.Word }
 {
     let (prefix, period) = word.lengths();
     prefix + period

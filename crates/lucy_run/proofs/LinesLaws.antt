@@ -4,28 +4,17 @@ use Rattle.std.specs.Prelude.{ℤ, slice_get, option_map}
 use Rattle.std.proofs.lemmas.List.{length-map, take-take}
 use Rattle.std.proofs.lemmas.Option.{get_or_from_slice_get, slice_get-map}
 use Rattle.lucy_word.specs.Bits.{ones_to}
-use Rattle.lucy_host.specs.declared.kind.HostKind.{HostKind}
 use Rattle.lucy_stream.specs.Items.{list_at}
-use Rattle.lucy_stream.specs.Fronts.{AreFronts}
 use Rattle.lucy_output.specs.declared.output.OutputSpec.{OutputSpec}
 use Rattle.lucy_output.specs.Outputs.{lines_after}
 use Rattle.lucy_output.specs.Laws.{BeginAlike, FrontsSuffice, AreRests, BlockByBlock}
-use Rattle.lucy_place.specs.declared.placed.PlacedNode.{PlacedNode}
-use Rattle.lucy_place.specs.Proper.{AreProper}
-use Rattle.lucy_clock.specs.declared.node_clock.NodeClock.{NodeClock}
 use Rattle.lucy_meaning.specs.Spots.{main_of, results_in}
-use Rattle.lucy_meaning.specs.Horizons.{Suffice}
 use Rattle.lucy_meaning.proofs.Lists.{mapped}
-use Rattle.lucy_execution.specs.Streams.{main_word, param_words, result_words, main_stream, main_streams, later_stream, later_streams, cut_to}
-use Rattle.lucy_execution.specs.Running.{HasSchedule}
+use Rattle.lucy_execution.specs.Streams.{main_word, result_words, main_stream, main_streams, later_stream, later_streams, cut_to}
+use Rattle.lucy_execution.specs.Laws.{StreamsGoOn}
 use Rattle.lucy_execution.proofs.StreamLaws.{cut_at}
 use Rattle.lucy_run.specs.Courses.{Program, CanRun}
 use Rattle.lucy_run.specs.Played.{LinesAgree, LinesByBlock}
-
--- the streams of more instants, from inputs that go on, begin with those of fewer
-abbrev pub StreamsGoOn : Type 0
-StreamsGoOn = (kinds : List HostKind) (inputs more : List (List ℤ)) (nodes : List PlacedNode) (clocks : List NodeClock) (s t : ℕ) → AreProper nodes → HasSchedule nodes clocks → AreFronts inputs more → s ≤ t →
-    Suffice (param_words nodes clocks) inputs s → cut_to s (result_words nodes clocks) (main_streams kinds more nodes clocks t) ≡ main_streams kinds inputs nodes clocks s
 
 -- what is made of each number of a list
 made_at : {A : Type 0} (f : ℕ → A) (xs : List ℕ) (i x : ℕ) (d : A) → slice_get xs i ≡ Some x → get_or (map f xs) i d ≡ f x

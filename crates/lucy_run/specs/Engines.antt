@@ -10,12 +10,11 @@ use Rattle.lucy_kahn.specs.Turns.{params_in}
 use Rattle.lucy_runner.specs.Views.{most_workers}
 use Rattle.lucy_execution.specs.Streams.{param_words, main_streams}
 use Rattle.lucy_front.specs.declared.accepted.Accepted.{Accepted}
-use Rattle.lucy_front.specs.declared.options.Options.{Options}
-use Rattle.lucy_front.specs.Accepting.{IsAccepted}
+use Rattle.lucy_run.specs.Calls.{WasAccepted}
 
 -- a program that is accepted for these operators can be played on these inputs up to a horizon, by so many workers
 pub record CanBePlayed (operators : List Operator) (a : Accepted) (inputs : List (List ℤ)) (instants workers : ℕ) : Type 0 where
-  pub accepted : (text : List ℕ) × (options : Options) × IsAccepted operators options text a
+  pub accepted : WasAccepted operators a
   pub lists : params_in (main_of a.placed.nodes) ≡ length inputs
   pub suffice : Suffice (param_words a.placed.nodes a.clocks.items) inputs instants
   pub early : instants ≤ limit_number limit.Instants

@@ -6,6 +6,7 @@ pub mod Owes
 pub mod Replays
 pub mod Tracing
 pub mod Ends
+pub mod Calls
 pub mod Engines
 pub mod Laws
 pub mod Courses

@@ -1,7 +1,5 @@
 -- What the trace of a run owes: whose rounds stand on the output, and how it ends.
-use Rattle.std.specs.Prelude.{ℕ, ℤ, ◌≤◌, List, ◌++◌, length, Option, IfSome, Ok, codes}
-use Rattle.lucy_word.specs.Limits.{limit_number}
-use Rattle.lucy_word.specs.declared.limit.Limit.TheVariants as limit
+use Rattle.std.specs.Prelude.{ℕ, ℤ, List, ◌++◌, length, Option, Ok, codes}
 use Rattle.lucy_host.specs.Operators.{Operator, kinds_of}
 use Rattle.lucy_lines.specs.declared.reader.TextFault.{TextFault}
 use Rattle.lucy_feed.specs.Sources.{Stop}
@@ -12,6 +10,7 @@ use Rattle.lucy_front.specs.declared.accepted.Accepted.{Accepted}
 use Rattle.lucy_front.specs.declared.options.Options.{Options}
 use Rattle.lucy_front.specs.Accepting.{IsAccepted}
 use Rattle.lucy_run.specs.declared.ending.Ending.{Ending}
+use Rattle.lucy_run.specs.Paces.{AreInstants}
 use Rattle.lucy_run.specs.Owes.{input_words, heading, EndsFor, IsFed, OwesRun}
 use Rattle.lucy_run.specs.Replays.{tally, OwesReplay}
 
@@ -26,7 +25,7 @@ OwesTrace a given taken stop output end =
 abbrev pub TracesAreReplayed : Type 0
 TracesAreReplayed = (ops : List Operator) (o : Options) (text : List ℕ) (a : Accepted) (given : Option ℕ) (taken : List ℕ) (stop : Stop)
     (output : List ℕ) (end : Ending) →
-    IfSome given (λ n. n ≤ limit_number limit.Instants) → IsAccepted ops o text a → OwesTrace a given taken stop output end →
+    AreInstants given → IsAccepted ops o text a → OwesTrace a given taken stop output end →
     (picks : List ℕ) × (lines : List ℕ) × AreRead (picks_of output) picks
     × OwesRun (kinds_of ops) a given taken stop (heading a ++ lines) end
     × OwesReplay ops a given picks taken stop (tally (length picks) (codes "finished\n") ++ lines) (Ok end)

@@ -91,7 +91,7 @@ impl<'a> Course<'a> {
         let words = param_words(placed, clocks);
         let none = empty_lists(alloc, inputs.len())?;
         let reader = FeedReader::new(alloc, inputs)?;
-        match Player::new(
+        let player = Player::new(
             rt,
             alloc,
             placed,
@@ -103,18 +103,16 @@ impl<'a> Course<'a> {
             none,
             0,
             pace.workers,
-        ) {
-            Ok(player) => Ok(Course {
-                words,
-                reader,
-                player,
-                given: pace.instants,
-                block: pace.block,
-                target: 0,
-                horizon: 0,
-            }),
-            Err(_) => Err(OutOfMemory),
-        }
+        )?;
+        Ok(Course {
+            words,
+            reader,
+            player,
+            given: pace.instants,
+            block: pace.block,
+            target: 0,
+            horizon: 0,
+        })
     }
 
     /// How many instants were run.
@@ -194,18 +192,10 @@ impl<'a> Course<'a> {
         ensures gone { IfOk result (λ lists. HasGoneOn self.old.reader self.old.player self.new.reader self.new.player horizon lists) }
         ensures rest { self.new ≡ record self.old { reader = self.new.reader; player = self.new.player } }
     {
-        match self
-            .player
-            .go_on(rt, alloc, host, gate, self.reader.fresh(), horizon)
-        {
-            Ok(()) => {}
-            Err(_) => return Err(OutOfMemory),
-        }
+        self.player
+            .go_on(rt, alloc, host, gate, self.reader.fresh(), horizon)?;
         self.reader.carry_away(alloc)?;
-        match self.player.outputs(alloc) {
-            Ok(lists) => Ok(lists),
-            Err(_) => Err(OutOfMemory),
-        }
+        self.player.outputs(alloc)
     }
 
     /// Reads the items that the next block needs, or all that there are, and runs the program as far as they allow. What the streams

@@ -32,10 +32,7 @@ pub fn extent_of(
     ensures horizon { IfOk result (λ extent. IsHorizonOf words.now given items.now extent.horizon) }
     ensures ending { IfOk result (λ extent. EndsFor words.now given items.now stop extent.ending) }
 {
-    let counts = match lengths(alloc, items, words.len()) {
-        Ok(counts) => counts,
-        Err(_) => return Err(OutOfMemory),
-    };
+    let counts = lengths(alloc, items, words.len())?;
     let horizon = horizon(words, &counts, most_instants(given));
     let more = allows_more(words, &counts, Limit::Instants.number());
     let ending = ending_for(given, more, stop);

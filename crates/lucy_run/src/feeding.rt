@@ -1,9 +1,7 @@
 // What main is fed.
-ghost use Rattle.std.specs.Prelude.{◌≡◌, ◌<◌, ◌≤◌, ◌^◌, ℕ, List, [], length, IfOk};
-ghost use Rattle.lucy_lines.specs.Fronts.{most_bytes};
-ghost use Rattle.lucy_feed.specs.Sources.{Stop, Read};
-ghost use Rattle.lucy_feed.specs.Feeding.{IsAsked};
+ghost use Rattle.std.specs.Prelude.{◌≡◌, ◌<◌, ◌≤◌, ◌^◌, [], length, IfOk};
 ghost use Rattle.lucy_run.specs.Feeds.{IsMainFeed};
+ghost use Rattle.lucy_run.specs.Calls.{ReadsAndEnds};
 
 use lucy_feed::{Feed, read_feed};
 use lucy_host::Inputs;
@@ -19,8 +17,7 @@ pub fn main_feed<I: Source>(
     source: &mut I,
 ) -> Result<Feed, OutOfMemory>
     requires { length inputs.items < 2 ^ 32 }
-    ensures fed { (taken : List ℕ) × (stop : Stop) × Read most_bytes (I.seen source.old) (I.seen source.new)
-        taken stop × IsAsked inputs.items taken × IsMainFeed inputs.items taken stop result }
+    ensures fed { ReadsAndEnds inputs.items (I.seen source.old) (I.seen source.new) (λ taken stop. IsMainFeed inputs.items taken stop result) }
     ensures lists { IfOk result (λ feed. length feed.items ≡ length inputs.items) }
     ensures unread { inputs.items ≡ [] → source.new ≡ source.old }
     ensures count { (I.seen source.old).faults ≤ (I.seen source.new).faults }

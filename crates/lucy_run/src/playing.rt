@@ -1,36 +1,30 @@
 // The command `run` on an accepted program, by an engine that is handed in.
-ghost use Rattle.std.specs.Prelude.{◌≡◌, ◌≢◌, ◌≤◌, ℕ, List, [], None, length, IfOk, IfSome};
-ghost use Rattle.lucy_word.specs.Limits.{limit_number};
-ghost use Rattle.lucy_word.specs.declared.limit.Limit.TheVariants as limit;
+ghost use Rattle.std.specs.Prelude.{◌≡◌, ◌≢◌, ◌≤◌, [], None, length, IfOk};
 ghost use Rattle.lucy_host.specs.Host.{lent};
 ghost use Rattle.lucy_host.specs.Operators.{kinds_of};
-ghost use Rattle.lucy_lines.specs.Fronts.{most_bytes};
-ghost use Rattle.lucy_feed.specs.Sources.{Stop, Read};
-ghost use Rattle.lucy_feed.specs.Feeding.{IsAsked};
 ghost use Rattle.lucy_meaning.specs.Spots.{main_of};
 ghost use Rattle.lucy_kahn.specs.Turns.{params_in};
 ghost use Rattle.lucy_output.specs.Outputs.{output_text};
-ghost use Rattle.lucy_runner.specs.Views.{most_workers};
-ghost use Rattle.lucy_front.specs.declared.options.Options.{Options};
-ghost use Rattle.lucy_front.specs.Accepting.{IsAccepted};
+ghost use Rattle.lucy_run.specs.Paces.{AreInstants, AreWorkers};
 ghost use Rattle.lucy_run.specs.Feeds.{CountsAs};
 ghost use Rattle.lucy_run.specs.Owes.{OwesRun};
 ghost use Rattle.lucy_run.specs.Ends.{EndsWith};
+ghost use Rattle.lucy_run.specs.Calls.{WasAccepted, ReadsAndEnds};
 ghost use Rattle.lucy_run.specs.Steps.{HasPlayed, LeavesWritten};
 
 use crate::ending::Ending;
 use crate::engine::Engine;
+use crate::extent::extent_of;
 use crate::feeding::main_feed;
-use crate::horizons::{ending_for, most_instants};
 use crate::running::heading;
-use lucy_execution::{allows_more, horizon, lengths, param_words};
+use lucy_execution::param_words;
 use lucy_feed::Feed;
 use lucy_front::{Accepted, accepted_programs_are_clocked};
 use lucy_host::{Host, Inputs};
 use lucy_lines::InputSpec;
 use lucy_output::{OutputError, OutputSpec, write_outputs};
 use lucy_text::{Sink, Source, Text, write_all};
-use lucy_word::{Limit, OutOfMemory};
+use lucy_word::OutOfMemory;
 use std::alloc::Global;
 
 /// What an engine has played: the streams of main's results up to a horizon, and how the run ends once their lines are written.
@@ -77,26 +71,21 @@ fn play_by<N: Engine<F>, F>(
     feed: Feed,
 ) -> Result<Played, OutOfMemory>
     requires plays { N.plays engine.old host.now }
-    requires accepted { (text : List ℕ) × (options : Options) × IsAccepted (lent host.now) options text accepted.now }
+    requires accepted { WasAccepted (lent host.now) accepted.now }
     requires inputs { params_in (main_of accepted.now.placed.nodes) ≡ length feed.items }
-    requires few { IfSome given (λ most. most ≤ limit_number limit.Instants) }
-    requires workers { (1 ≤ workers) × (workers ≤ most_workers) }
+    requires few { AreInstants given }
+    requires workers { AreWorkers workers }
     ensures { IfOk result (λ played. HasPlayed (kinds_of (lent host.now)) accepted.now given feed.items feed.stop played) }
 {
     accepted_programs_are_clocked();
     let Feed { items, stop } = feed;
     let words = param_words(&accepted.placed, &accepted.clocks);
-    let counts = match lengths(alloc, &items, words.len()) {
-        Ok(counts) => counts,
-        Err(_) => return Err(OutOfMemory),
-    };
-    let horizon = horizon(words, &counts, most_instants(given));
-    let more = allows_more(words, &counts, Limit::Instants.number());
-    let streams = engine.play(alloc, accepted, host, items, horizon, workers)?;
+    let extent = extent_of(alloc, words, given, &items, stop)?;
+    let streams = engine.play(alloc, accepted, host, items, extent.horizon, workers)?;
     Ok(Played {
         streams,
-        horizon,
-        ending: ending_for(given, more, stop),
+        horizon: extent.horizon,
+        ending: extent.ending,
     })
 }
 
@@ -140,13 +129,13 @@ pub fn run_by<N: Engine<F>, F, I: Source, O: Sink>(
     out: &mut O,
 ) -> Ending
     requires plays { N.plays engine.old host.now }
-    requires accepted { (text : List ℕ) × (options : Options) × IsAccepted (lent host.now) options text accepted }
-    requires few { IfSome instants (λ given. given ≤ limit_number limit.Instants) }
-    requires workers { (1 ≤ workers) × (workers ≤ most_workers) }
+    requires accepted { WasAccepted (lent host.now) accepted }
+    requires few { AreInstants instants }
+    requires workers { AreWorkers workers }
     requires given { accepted.inputs.items ≡ [] → instants ≢ None }
-    ensures ends { (taken : List ℕ) × (stop : Stop) × Read most_bytes (I.seen source.old) (I.seen source.new) taken stop
-        × IsAsked accepted.inputs.items taken × EndsWith (OwesRun (kinds_of (lent host.now)) accepted instants taken) (CountsAs stop) stop
-        (O.seen out.old) (O.seen out.new) result }
+    ensures ends { ReadsAndEnds accepted.inputs.items (I.seen source.old) (I.seen source.new)
+        (λ taken stop. EndsWith (OwesRun (kinds_of (lent host.now)) accepted instants taken) (CountsAs stop) stop
+        (O.seen out.old) (O.seen out.new) result) }
     ensures unread { accepted.inputs.items ≡ [] → source.new ≡ source.old }
     ensures source_count { (I.seen source.old).faults ≤ (I.seen source.new).faults }
     ensures out_count { (O.seen out.old).faults ≤ (O.seen out.new).faults }

@@ -1,14 +1,9 @@
 // The command `replay` on an accepted program.
-ghost use Rattle.std.specs.Prelude.{◌≡◌, ◌≢◌, ◌≤◌, ℕ, ℤ, List, [], Option, None, length, IfOk, IfSome};
+ghost use Rattle.std.specs.Prelude.{◌≡◌, ◌≢◌, ◌≤◌, ℕ, ℤ, List, [], Option, None, length, IfOk};
 ghost use Rattle.lucy_word.specs.Bits.{Bits};
 ghost use Rattle.lucy_lines.specs.declared.reader.TextFault.{TextFault as Fault};
-ghost use Rattle.lucy_word.specs.Limits.{limit_number};
-ghost use Rattle.lucy_word.specs.declared.limit.Limit.TheVariants as limit;
 ghost use Rattle.lucy_host.specs.Host.{Serves, lent};
 ghost use Rattle.lucy_host.specs.Operators.{kinds_of};
-ghost use Rattle.lucy_lines.specs.Fronts.{most_bytes};
-ghost use Rattle.lucy_feed.specs.Sources.{Stop, Read};
-ghost use Rattle.lucy_feed.specs.Feeding.{IsAsked};
 ghost use Rattle.lucy_place.specs.Proper.{HaveOperators};
 ghost use Rattle.lucy_meaning.specs.Spots.{main_of, results_in};
 ghost use Rattle.lucy_kahn.specs.Turns.{params_in};
@@ -18,11 +13,11 @@ ghost use Rattle.lucy_core.specs.Seen.{IsUnbegun, first_seen};
 ghost use Rattle.lucy_flat.specs.Clocked.{AreClocked};
 ghost use Rattle.lucy_flat.specs.Flat.{IsFlat};
 ghost use Rattle.lucy_execution.specs.Streams.{param_words};
-ghost use Rattle.lucy_front.specs.declared.options.Options.{Options};
-ghost use Rattle.lucy_front.specs.Accepting.{IsAccepted};
+ghost use Rattle.lucy_run.specs.Paces.{AreInstants};
 ghost use Rattle.lucy_run.specs.Owes.{IsHorizonOf, EndsFor};
 ghost use Rattle.lucy_run.specs.Replays.{IsTally, Judges};
 ghost use Rattle.lucy_run.specs.Ends.{EndsReplay};
+ghost use Rattle.lucy_run.specs.Calls.{WasAccepted, ReadsAndEnds};
 ghost use Rattle.lucy_run.specs.Steps.{EndsWhole, IsPrinted, LeavesOwed, LeavesJudged};
 
 use crate::ending::Ending;
@@ -156,7 +151,7 @@ fn replay_feed<F: Fn(u32, i64, i64) -> i64 + Sync, O: Sink>(
     requires serves { Serves F.pre F.post host.now }
     requires known { HaveOperators (length (lent host.now)) placed.now.nodes }
     requires inputs { params_in (main_of placed.now.nodes) ≡ length feed.items }
-    requires few { IfSome given (λ most. most ≤ limit_number limit.Instants) }
+    requires few { AreInstants given }
     ensures left { (horizon : ℕ) × IsHorizonOf (param_words placed.now.nodes clocks.now) given feed.items horizon
         × LeavesJudged (Judges (first_seen net schedule feed.items (lent host.now) horizon) placed.now.nodes outputs.now
         (param_words placed.now.nodes clocks.now) given feed.items feed.stop picks.now) (O.seen out.old) (O.seen out.new) result }
@@ -201,12 +196,12 @@ pub fn replay<F: Fn(u32, i64, i64) -> i64 + Sync, I: Source, O: Sink>(
     out: &mut O,
 ) -> Result<Ending, TraceError>
     requires serves { Serves F.pre F.post host.now }
-    requires accepted { (text : List ℕ) × (options : Options) × IsAccepted (lent host.now) options text accepted }
-    requires few { IfSome instants (λ given. given ≤ limit_number limit.Instants) }
+    requires accepted { WasAccepted (lent host.now) accepted }
+    requires few { AreInstants instants }
     requires given { accepted.inputs.items ≡ [] → instants ≢ None }
-    ensures ends { (taken : List ℕ) × (stop : Stop) × Read most_bytes (I.seen source.old) (I.seen source.new) taken stop
-        × IsAsked accepted.inputs.items taken × EndsReplay (lent host.now) accepted instants picks.now taken stop
-        (O.seen out.old) (O.seen out.new) result }
+    ensures ends { ReadsAndEnds accepted.inputs.items (I.seen source.old) (I.seen source.new)
+        (λ taken stop. EndsReplay (lent host.now) accepted instants picks.now taken stop
+        (O.seen out.old) (O.seen out.new) result) }
     ensures unread { accepted.inputs.items ≡ [] → source.new ≡ source.old }
     ensures source_count { (I.seen source.old).faults ≤ (I.seen source.new).faults }
     ensures out_count { (O.seen out.old).faults ≤ (O.seen out.new).faults }

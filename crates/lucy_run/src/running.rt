@@ -4,12 +4,11 @@ ghost use Rattle.lucy_host.specs.Host.{Serves, lent};
 ghost use Rattle.lucy_host.specs.Operators.{Operator, kinds_of};
 ghost use Rattle.lucy_lines.specs.Fronts.{most_bytes};
 ghost use Rattle.lucy_feed.specs.Sources.{Stop, Read};
-ghost use Rattle.lucy_front.specs.declared.options.Options.{Options};
-ghost use Rattle.lucy_front.specs.Accepting.{IsAccepted};
 ghost use Rattle.lucy_run.specs.Owes as owes;
 ghost use Rattle.lucy_run.specs.Paces.{IsPace};
 ghost use Rattle.lucy_run.specs.Played.{IsWritten, Plays};
 ghost use Rattle.lucy_run.specs.Ends.{EndsRun};
+ghost use Rattle.lucy_run.specs.Calls.{WasAccepted};
 
 use crate::course::Course;
 use crate::ending::Ending;
@@ -27,7 +26,7 @@ use std::thread::Threads;
 
 /// The report and the line `run`.
 pub(crate) fn heading(alloc: Global, accepted: &Accepted) -> Result<Vec<u8>, OutOfMemory>
-    requires { (ops : List Operator) × (text : List ℕ) × (options : Options) × IsAccepted ops options text accepted.now }
+    requires { (ops : List Operator) × WasAccepted ops accepted.now }
     ensures { IfOk result (λ v. v.items ≡ owes.heading accepted.now) }
 {
     let mut text = report(alloc, accepted)?;
@@ -89,7 +88,7 @@ pub fn run<
     out: &mut O,
 ) -> Ending
     requires serves { Serves F.pre F.post host.now }
-    requires accepted { (text : List ℕ) × (options : Options) × IsAccepted (lent host.now) options text accepted }
+    requires accepted { WasAccepted (lent host.now) accepted }
     requires pace { IsPace pace }
     requires given { accepted.inputs.items ≡ [] → pace.instants ≢ None }
     ensures ends { (taken : List ℕ) × (stop : Stop) × Read most_bytes (I.seen source.old) (I.seen source.new) taken stop

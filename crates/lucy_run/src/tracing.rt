@@ -1,12 +1,7 @@
 // The command `trace` on an accepted program.
-ghost use Rattle.std.specs.Prelude.{◌≡◌, ◌≢◌, ◌≤◌, ◌<◌, ◌-◌, ◌^◌, ℕ, ℤ, List, [], None, length, IfOk, IfSome};
-ghost use Rattle.lucy_word.specs.Limits.{limit_number};
-ghost use Rattle.lucy_word.specs.declared.limit.Limit.TheVariants as limit;
+ghost use Rattle.std.specs.Prelude.{◌≡◌, ◌≢◌, ◌≤◌, ◌<◌, ◌-◌, ◌^◌, ℕ, ℤ, [], None, length, IfOk};
 ghost use Rattle.lucy_host.specs.Host.{Serves, lent};
 ghost use Rattle.lucy_host.specs.Operators.{kinds_of};
-ghost use Rattle.lucy_lines.specs.Fronts.{most_bytes};
-ghost use Rattle.lucy_feed.specs.Sources.{Stop, Read};
-ghost use Rattle.lucy_feed.specs.Feeding.{IsAsked};
 ghost use Rattle.lucy_place.specs.Proper.{HaveOperators};
 ghost use Rattle.lucy_meaning.specs.Spots.{main_of};
 ghost use Rattle.lucy_kahn.specs.Turns.{params_in};
@@ -19,11 +14,10 @@ ghost use Rattle.lucy_tracing.specs.Together.{AreTogether};
 ghost use Rattle.lucy_flat.specs.Clocked.{AreClocked};
 ghost use Rattle.lucy_flat.specs.Flat.{IsFlat};
 ghost use Rattle.lucy_execution.specs.Streams.{param_words};
-ghost use Rattle.lucy_front.specs.declared.options.Options.{Options};
-ghost use Rattle.lucy_front.specs.Accepting.{IsAccepted};
-ghost use Rattle.lucy_run.specs.Paces.{AreWorkers};
+ghost use Rattle.lucy_run.specs.Paces.{AreInstants, AreWorkers};
 ghost use Rattle.lucy_run.specs.Owes.{IsHorizonOf, EndsFor};
 ghost use Rattle.lucy_run.specs.Ends.{EndsTrace};
+ghost use Rattle.lucy_run.specs.Calls.{WasAccepted, ReadsAndEnds};
 ghost use Rattle.lucy_run.specs.Steps.{EndsWhole, LeavesFront, OwesTraceOf};
 
 use crate::copying::copy_net;
@@ -59,10 +53,7 @@ fn second_core(
     requires few { count < 2 ^ 32 - 1 }
     ensures { IfOk result (λ core. (schedule : Timetable) × (core ≡ first_seen net.now schedule inputs.now ops.now instants)) }
 {
-    let lists = match copy_lists(alloc, inputs, count) {
-        Ok(lists) => lists,
-        Err(_) => return Err(OutOfMemory),
-    };
+    let lists = copy_lists(alloc, inputs, count)?;
     let copy = copy_net(alloc, net)?;
     // A net that has a schedule is refused for want of memory alone.
     let schedule = match schedule_of(alloc, &copy) {
@@ -86,10 +77,7 @@ fn new_runner(
     requires workers { AreWorkers workers }
     ensures { IfOk result (λ runner. runner ≡ first_runner (first_seen net schedule inputs ops.now instants)) }
 {
-    let homes = match homes_of(alloc, net.actors.list().len(), workers) {
-        Ok(homes) => homes,
-        Err(_) => return Err(OutOfMemory),
-    };
+    let homes = homes_of(alloc, net.actors.list().len(), workers)?;
     let core = Core::new(alloc, net, schedule, inputs, ops, instants)?;
     Runner::new(alloc, core, workers, &homes)
 }
@@ -170,7 +158,7 @@ fn trace_feed<F: Fn(u32, i64, i64) -> i64 + Sync, O: Sink>(
     requires serves { Serves F.pre F.post host.now }
     requires known { HaveOperators (length (lent host.now)) placed.now.nodes }
     requires inputs { params_in (main_of placed.now.nodes) ≡ length feed.items }
-    requires few { IfSome given (λ most. most ≤ limit_number limit.Instants) }
+    requires few { AreInstants given }
     requires workers { AreWorkers workers }
     ensures left { (horizon : ℕ) × IsHorizonOf (param_words placed.now.nodes clocks.now) given feed.items horizon
         × LeavesFront (λ output way. IsTraceText net horizon output
@@ -215,12 +203,13 @@ pub fn trace<F: Fn(u32, i64, i64) -> i64 + Sync, I: Source, O: Sink>(
     out: &mut O,
 ) -> Ending
     requires serves { Serves F.pre F.post host.now }
-    requires accepted { (text : List ℕ) × (options : Options) × IsAccepted (lent host.now) options text accepted }
-    requires few { IfSome instants (λ given. given ≤ limit_number limit.Instants) }
+    requires accepted { WasAccepted (lent host.now) accepted }
+    requires few { AreInstants instants }
     requires workers { AreWorkers workers }
     requires given { accepted.inputs.items ≡ [] → instants ≢ None }
-    ensures ends { (taken : List ℕ) × (stop : Stop) × Read most_bytes (I.seen source.old) (I.seen source.new) taken stop
-        × IsAsked accepted.inputs.items taken × EndsTrace accepted instants taken stop (O.seen out.old) (O.seen out.new) result }
+    ensures ends { ReadsAndEnds accepted.inputs.items (I.seen source.old) (I.seen source.new)
+        (λ taken stop. EndsTrace accepted instants taken stop
+        (O.seen out.old) (O.seen out.new) result) }
     ensures unread { accepted.inputs.items ≡ [] → source.new ≡ source.old }
     ensures source_count { (I.seen source.old).faults ≤ (I.seen source.new).faults }
     ensures out_count { (O.seen out.old).faults ≤ (O.seen out.new).faults }

@@ -8,6 +8,7 @@ use Rattle.lucy_event.specs.Systems.{System}
 use Rattle.lucy_event.specs.Runs.{IsRun, IsFinished}
 use Rattle.lucy_net.specs.Plans.{net_system}
 use Rattle.lucy_core.specs.Seen.{Seen, machine_of, done_of, more_done, CanStep, CanRun, IsOver, after_picks}
+use Rattle.lucy_core.specs.Laws.{EventsGoByTheNet}
 use Rattle.lucy_runner.specs.Rounds.{IsRoundTo}
 use Rattle.lucy_trace.specs.Catching.{IsAhead}
 use Rattle.lucy_tracing.specs.Together.{AreTogether}
@@ -20,11 +21,7 @@ counted_more xs ys i v l is before a m = elim (cases_eq a i) [
   | inr ne ↦ get_or-set_other xs i a v 0 ne ∙ before a (omega (arith, ne))
 ]
 
--- which events are possible is decided by the net and the horizon
-abbrev pub GoByNet : Type 0
-GoByNet = (seen : Seen) → (machine_of seen).sys ≡ net_system seen.net seen.instants
-
-module _ (law : GoByNet) (core runner : Seen) (together : AreTogether core runner) where
+module _ (law : EventsGoByTheNet) (core runner : Seen) (together : AreTogether core runner) where
   same_system : (machine_of runner).sys ≡ (machine_of core).sys
   same_system =
       law runner ∙ ap (λ n. net_system n runner.instants) together.net ∙ ap (net_system core.net) together.instants ∙ sym (law core)
@@ -60,7 +57,7 @@ module _ (core runner next : Seen) (moves : ℕ) (together : AreTogether core ru
       same_number_lists counts next.done (omega (arith, count, all, ap length next_done)) (λ a l. each a l)
 
   -- and the core can be led there
-  pub next_ahead : GoByNet → (counts : List ℕ) → counts ≡ next.done → IsAhead core counts
+  pub next_ahead : EventsGoByTheNet → (counts : List ℕ) → counts ≡ next.done → IsAhead core counts
   next_ahead law counts same = (
     round.picks,
     same_run law core runner together round.picks round.run,

@@ -14,11 +14,11 @@ use Rattle.lucy_event.proofs.TotalLaws.{total-same}
 use Rattle.lucy_text.specs.Outside.{SeenSink, Writes, Fails}
 use Rattle.lucy_output.proofs.SinkLaws.{unwritten, writes_more, fails_behind, fails_longer}
 use Rattle.lucy_core.specs.Seen.{Seen, machine_of, done_of, CanRun, IsOver, IsUnbegun, after_picks}
+use Rattle.lucy_core.specs.Laws.{EventsGoByTheNet}
 use Rattle.lucy_core.proofs.OpenLaws.{joined_picks}
 use Rattle.lucy_runner.specs.Left.{events_left}
 use Rattle.lucy_trace.proofs.CatchingLaws.{HasRuns, total_after}
 use Rattle.lucy_trace.specs.Traces.{round_line, trace_text, IsTraceText}
-use Rattle.lucy_tracing.proofs.RoundLaws.{GoByNet}
 use Rattle.lucy_tracing.specs.Progress.{IsRoundPrinted, AreRoundsPrinted, LeadsToEnd, IsRest}
 
 -- a run, and one from where it leads, are one run
@@ -155,7 +155,7 @@ less_left first now picks law later end run here some =
     (less_there first picks law (subst HasRuns here later) (subst HasEnd here end) run some)
 
 -- rounds that lead a core without an event to its end are a trace of its net
-pub whole_text : (first : Seen) (text : List ℕ) → GoByNet → HasRuns first → IsUnbegun first → IsRest first text → IsTraceText first.net first.instants text
+pub whole_text : (first : Seen) (text : List ℕ) → EventsGoByTheNet → HasRuns first → IsUnbegun first → IsRest first text → IsTraceText first.net first.instants text
 whole_text first text law runs none rest =
     let order : List ℕ = concat rest.0 in
     let sys : System = (machine_of first).sys in
@@ -165,7 +165,7 @@ whole_text first text law runs none rest =
     } in
     (rest.0, record { whole = subst (λ (s : System). IsWhole s order) (law first) whole; some = rest.1.some }, rest.2)
 
-module _ (first : Seen) (was is : SeenSink) (law : GoByNet) (runs : HasRuns first) (none : IsUnbegun first) where
+module _ (first : Seen) (was is : SeenSink) (law : EventsGoByTheNet) (runs : HasRuns first) (none : IsUnbegun first) where
   -- what was written to the end is a trace
   pub whole_written : {T E : Type 0} (r : Result T E) → OnOk r ((text : List ℕ) × IsRest first text × Writes was is text) → OnOk r ((text : List ℕ) × IsTraceText first.net first.instants text × Writes was is text)
   whole_written (Ok v) h = (h.0, whole_text first h.0 law runs none h.1, h.2)

@@ -42,6 +42,6 @@ loop-before-preserved c =
     subst (λ (s : Settled). IsInstantPlayed c.args.net.now c.loop-before.before c.play_instant.new.order.items c.play_instant.new.steps c.play_instant.new.held c.play_instant.new.depth s) c.in_default.is c.in_ok-settled.ensures in
     record {
       ready = done.1;
-      orders = orders_push c.args.net.now c.loop-before.orders.items c.push.new.self.items c.play_instant.new.order c.loop-before.before c.loop-before.invariant.orders c.loop-before.invariant.count c.in-Ok.ensures.items done.0;
-      count = omega (arith, ap length c.in-Ok.ensures.items, length-append c.loop-before.orders.items (c.play_instant.new.order ∷ []), c.loop-before.invariant.count);
+      orders = orders_push c.args.net.now c.loop-before.orders.items c.push.new.self.items c.play_instant.new.order c.loop-before.before c.loop-before.invariant.orders c.loop-before.invariant.count c.in_ok-push.ensures.items done.0;
+      count = omega (arith, ap length c.in_ok-push.ensures.items, length-append c.loop-before.orders.items (c.play_instant.new.order ∷ []), c.loop-before.invariant.count);
     }

@@ -1,12 +1,12 @@
 use Rattle.lucy_execution.proofs.PlayLaws.{played_first, first_is}
 use Rattle.lucy_execution.proofs.running.run_core.Goals as goal
 
-pub returns-in-Ok-clause-played : goal.returns-in-Ok-clause-played
-returns-in-Ok-clause-played g c =
+pub returns-clause-played : goal.returns-clause-played
+returns-clause-played g c =
     let run = c.go.ensures.run in
-    played_first c.args.placed.now.nodes c.args.clocks.now c.args.core c.in-Ok.runner c.go.new.self run.0 c.in-Ok.ensures run.2 c.go.ensures.finished c.requires.flat c.requires.inputs c.requires.params
+    played_first c.args.placed.now.nodes c.args.clocks.now c.args.core c.in_ok-runner.runner c.go.new.self run.0 c.in_ok-runner.ensures run.2 c.go.ensures.finished c.requires.flat c.requires.inputs c.requires.params
 
-pub returns-in-Ok-clause-is : goal.returns-in-Ok-clause-is
-returns-in-Ok-clause-is g c =
+pub returns-clause-is : goal.returns-clause-is
+returns-clause-is g c =
     let run = c.go.ensures.run in
-    first_is c.args.placed.now.nodes c.args.clocks.now c.args.core c.in-Ok.runner c.go.new.self run.0 c.in-Ok.ensures run.2 c.go.ensures.before c.requires.inputs
+    first_is c.args.placed.now.nodes c.args.clocks.now c.args.core c.in_ok-runner.runner c.go.new.self run.0 c.in_ok-runner.ensures run.2 c.go.ensures.before c.requires.inputs

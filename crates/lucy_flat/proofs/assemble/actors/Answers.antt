@@ -19,7 +19,7 @@ each-preserved c =
     let len = c.len-count.ensures in (
       done ++ draft ∷ [],
       all ∙ sym (append_assoc done (draft ∷ []) c.next.new.self.rest.items),
-      subst (AreActorsOf c.args.rings.now (done ++ draft ∷ [])) (sym c.in_ok-push.ensures.ok)
+      subst (AreActorsOf c.args.rings.now (done ++ draft ∷ [])) (sym c.in_ok-push.ensures.items)
           (actors_more c.args.rings.now done c.each.actors.items draft c.in_ok-next.next c.each.invariant.2 (subst (λ n. IsActorOf c.args.rings.now n draft c.in_ok-next.next) first c.in_ok-next.ensures.ok)),
       omega (arith, first, len, reads_more done draft),
     )

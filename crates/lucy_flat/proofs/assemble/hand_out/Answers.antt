@@ -30,6 +30,6 @@ each-preserved c =
     let count = c.each.invariant.count in
     let d = c.index_mut.result.now in
     let got = slice_get_read c.each.drafts.items (length c.each.drafts.items) (get_or rings c.each.r ring).from d refl (omega arith) c.index_mut.ensures.value in
-    let next : Draft = record { kind = d.kind; word = d.word; reads = d.reads; size = d.size; gives = c.push.new.list } in
+    let next : Draft = record { kind = d.kind; word = d.word; reads = d.reads; size = d.size; gives = c.push.new.self } in
     subst (λ n. AreGiven c.args.drafts.now.items rings (c.each.r + 1) (set c.each.drafts.items n next)) same
-    (given_more c.args.drafts.now.items rings c.each.r c.each.drafts.items ring d next c.each.invariant at (ap (slice_get c.each.drafts.items) same ∙ got) refl refl refl c.in_ok-push.ensures.ok)
+    (given_more c.args.drafts.now.items rings c.each.r c.each.drafts.items ring d next c.each.invariant at (ap (slice_get c.each.drafts.items) same ∙ got) refl refl refl c.in_ok-push.ensures.items)

@@ -73,11 +73,11 @@ each-preserved c =
     let spot = result_word nodes clocks proper clocked c.args.main c.node.result.now clock results words c.requires.main c.node.ensures.is at_clock c.list-results.ensures c.list-words.ensures i place w there c.index-words-place.is in
     let before = c.each.invariant in
     let word = c.in_ok-word.ensures.ok in
-    let next : Draft = record { kind = Output i; word = c.in_ok-word.word; reads = c.push.new.list; size = 0; gives = c.new.result } in
+    let next : Draft = record { kind = Output i; word = c.in_ok-word.word; reads = c.push.new.self; size = 0; gives = c.new.result } in
     record {
       drafts = before.drafts ++ next ∷ [];
       are = outputs_more nodes clocks proper i place before.drafts next before.are (ap (λ t. slice_get t i) (sym (main_results nodes clocks proper clocked c.args.main c.node.result.now clock results words c.requires.main c.node.ensures.is at_clock c.list-results.ensures c.list-words.ensures)) ∙ there) refl
-          (c.in_ok-push.ensures.ok ∙ ap (λ t. t ++ (place - 1) ∷ []) c.new-reads.ensures.items ∙ ap (λ t. t ∷ []) (sym z))
+          (c.in_ok-push.ensures.items ∙ ap (λ t. t ++ (place - 1) ∷ []) c.new-reads.ensures.items ∙ ap (λ t. t ∷ []) (sym z))
           (subst (IsSpotWord nodes clocks (at [] place)) (sym word) spot) (subst IsWord (sym word) c.words_are_stored.ensures.word) (subst IsShortest (sym word) c.words_are_stored.ensures.shortest) refl c.new.ensures.items;
       keeps = c.in_ok-keep.ensures.ok before.drafts before.keeps;
     }

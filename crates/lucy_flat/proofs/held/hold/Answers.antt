@@ -1,5 +1,4 @@
 use Rattle.std.proofs.Common.{◌≡◌, ◌+◌, ◌≤◌, refl, arith}
-use Rattle.std.proofs.lemmas.Result.{on_ok_weaker}
 use Rattle.lucy_word.specs.Limits.{limit_number}
 use Rattle.lucy_word.specs.declared.limit.Limit.TheVariants as limit
 use Rattle.lucy_flat.specs.Extents.{ring_bits}
@@ -19,7 +18,7 @@ returns-then-held-number-clause-ok c = λ rings are.
 
 pub returns-clause-ok : goal.returns-clause-ok
 returns-clause-ok c = λ rings are.
-    let new : Held = record { rings = c.push.new.list; bits = c.saturating_add-held.result } in
+    let new : Held = record { rings = c.push.new.self; bits = c.saturating_add-held.result } in
     let write = c.bits.ensures.is in
     let read = c.bits-2.ensures.is in
     let sum = c.saturating_add-held.ensures in
@@ -27,4 +26,4 @@ returns-clause-ok c = λ rings are.
     let number = c.number.ensures in
     let is : new.bits ≡ c.args.held.now.bits + ring_bits c.args.next = omega arith in
     let most : new.bits ≤ limit_number limit.Bits = omega arith in
-    on_ok_weaker c.push.result (λ pushed. held_push rings c.args.held.now new c.args.next are c.words_are_stored.ensures c.words_are_stored-2.ensures is most pushed) c.push.ensures.ok
+    held_push rings c.args.held.now new c.args.next are c.words_are_stored.ensures c.words_are_stored-2.ensures is most c.in_ok-push.ensures.items

@@ -153,7 +153,10 @@ returns-in_err-base-clause-refused t c =
         inl (record {
           path = path;
           clock = length found.places + suc i;
-          inner = record { node = found; found = is.found ∙ at_node; low = omega arith; high = omega arith };
+          node = found;
+          found = is.found ∙ at_node;
+          low = omega arith;
+          high = omega arith;
           base = c.args.base.now;
           is = is.is_base;
           shortest = c.requires.base;

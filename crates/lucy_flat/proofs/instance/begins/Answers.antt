@@ -28,6 +28,6 @@ each-preserved c =
     let at = slice_get_read sites (length sites) c.each.site-index c.site-item.result refl c.each-test.true c.site-item.is in
     let sum = sum_take (λ (s : CallSite). slice_index sizes s.node) sites c.each.site-index c.site-item.result at in
     let now = c.each.invariant.1 in (
-      subst (AreSumsOf sizes sites c.args.first (c.each.site-index + 1)) (sym c.in_ok-push.ensures.ok) (sums_more sizes sites c.args.first c.each.site-index c.each.begins.items c.each.next c.each.invariant.0 now),
+      subst (AreSumsOf sizes sites c.args.first (c.each.site-index + 1)) (sym c.in_ok-push.ensures.items) (sums_more sizes sites c.args.first c.each.site-index c.each.begins.items c.each.next c.each.invariant.0 now),
       omega arith,
     )

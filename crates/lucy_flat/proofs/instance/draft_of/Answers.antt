@@ -36,7 +36,10 @@ returns-in_err-word-clause-refused c =
         inl (record {
           path = path;
           clock = c.args.place;
-          inner = record { node = c.args.of.node.now; found = found_at nodes clocks proper path c.args.of is; low = omega arith; high = omega arith };
+          node = c.args.of.node.now;
+          found = found_at nodes clocks proper path c.args.of is;
+          low = omega arith;
+          high = omega arith;
           base = base;
           is = is.at.is_base;
           shortest = c.requires.base;

@@ -1,5 +1,4 @@
 use Rattle.std.proofs.Common.{◌≡◌, ◌+◌, ◌≤◌, refl, arith}
-use Rattle.std.proofs.lemmas.Result.{on_ok_weaker}
 use Rattle.lucy_word.specs.Limits.{limit_number}
 use Rattle.lucy_word.specs.declared.limit.Limit.TheVariants as limit
 use Rattle.lucy_flat.specs.Drafts.{draft_bits}
@@ -18,11 +17,11 @@ returns-then-kept-number-clause-ok c = λ drafts are.
 
 pub returns-clause-ok : goal.returns-clause-ok
 returns-clause-ok c = λ drafts are.
-    let new : Kept = record { drafts = c.push.new.list; bits = c.saturating_add-kept.result } in
+    let new : Kept = record { drafts = c.push.new.self; bits = c.saturating_add-kept.result } in
     let more = c.bits.ensures.is in
     let sum = c.saturating_add-kept.ensures in
     let few = c.if-kept-number.false in
     let number = c.number.ensures in
     let is : new.bits ≡ c.args.kept.now.bits + draft_bits c.args.next = omega arith in
     let most : new.bits ≤ limit_number limit.Bits = omega arith in
-    on_ok_weaker c.push.result (λ pushed. kept_push drafts c.args.kept.now new c.args.next are c.words_are_stored.ensures is most pushed) c.push.ensures.ok
+    kept_push drafts c.args.kept.now new c.args.next are c.words_are_stored.ensures is most c.in_ok-push.ensures.items

@@ -7,7 +7,7 @@ use Rattle.lucy_meaning.specs.Horizons.{Suffice}
 use Rattle.lucy_execution.specs.Streams.{param_words}
 use Rattle.lucy_execution.proofs.StreamLaws.{params_count}
 use Rattle.lucy_run.specs.Owes.{IsHorizonOf, EndsFor}
-use Rattle.lucy_run.proofs.HorizonLaws.{few_most, horizon_at, more_at}
+use Rattle.lucy_run.proofs.HorizonLaws.{few_most}
 use Rattle.lucy_run.proofs.playing.play_by.Goals as goal
 
 pub param_words-words-requires : goal.param_words-words-requires
@@ -16,8 +16,8 @@ param_words-words-requires g c =
     (c.accepted_programs_are_clocked.ensures.clocked (lent c.args.host.now) c.requires.accepted.1 c.requires.accepted.0 c.args.accepted.now
     c.requires.accepted.2)
 
-pub lengths-requires-clause-lists : goal.lengths-requires-clause-lists
-lengths-requires-clause-lists g c =
+pub extent_of-requires-clause-lists : goal.extent_of-requires-clause-lists
+extent_of-requires-clause-lists g c =
     let a = c.args.accepted.now in
     let same = c.param_words-words.ensures.words ∙ ap (λ (cs : List NodeClock). param_words a.placed.nodes cs) c.deref.ensures.value in
     sym (ap length same ∙ params_count a.placed.nodes a.clocks.items ∙ c.requires.inputs)
@@ -25,14 +25,12 @@ lengths-requires-clause-lists g c =
 pub play-requires-clause-can : goal.play-requires-clause-can
 play-requires-clause-can g c =
     let a = c.args.accepted.now in
-    let words = c.param_words-words.result.now in
     let same = c.param_words-words.ensures.words ∙ ap (λ (cs : List NodeClock). param_words a.placed.nodes cs) c.deref.ensures.value in
-    let is = horizon_at words _ _ c.args.feed.items c.args.given _ c.horizon-horizon.result c.deref-2.ensures.value
-    c.most_instants.ensures c.in-Ok.ensures.each c.horizon-horizon.ensures in
+    let is = c.in_ok-extent.ensures.horizon in
     record {
       accepted = c.requires.accepted;
       lists = c.requires.inputs;
-      suffice = subst (λ (u : List Bits). Suffice u c.args.feed.items c.horizon-horizon.result) same is.suffice;
+      suffice = subst (λ (u : List Bits). Suffice u c.args.feed.items c.in_ok-extent.extent.horizon) same is.suffice;
       early = omega (arith, is.within, few_most c.args.given c.requires.few);
       some_worker = c.requires.workers.0;
       few_workers = c.requires.workers.1;
@@ -41,15 +39,10 @@ play-requires-clause-can g c =
 pub returns : goal.returns
 returns g c =
     let a = c.args.accepted.now in
-    let words = c.param_words-words.result.now in
     let same = c.param_words-words.ensures.words ∙ ap (λ (cs : List NodeClock). param_words a.placed.nodes cs) c.deref.ensures.value in
-    let is = horizon_at words _ _ c.args.feed.items c.args.given _ c.horizon-horizon.result c.deref-2.ensures.value
-    c.most_instants.ensures c.in-Ok.ensures.each c.horizon-horizon.ensures in
-    let more = more_at words _ _ c.args.feed.items _ c.allows_more-more.result c.deref-3.ensures.value c.number.ensures
-    c.in-Ok.ensures.each c.allows_more-more.ensures in
+    let extent = c.in_ok-extent.extent in
     record {
-      horizon_is = subst (λ (u : List Bits). IsHorizonOf u c.args.given c.args.feed.items c.horizon-horizon.result) same is;
+      horizon_is = subst (λ (u : List Bits). IsHorizonOf u c.args.given c.args.feed.items extent.horizon) same c.in_ok-extent.ensures.horizon;
       streams_are = c.in_ok-streams.ensures;
-      ends = subst (λ (u : List Bits). EndsFor u c.args.given c.args.feed.items c.args.feed.stop c.ending_for.result) same
-          (c.ending_for.ensures words c.args.feed.items more);
+      ends = subst (λ (u : List Bits). EndsFor u c.args.given c.args.feed.items c.args.feed.stop extent.ending) same c.in_ok-extent.ensures.ending;
     }

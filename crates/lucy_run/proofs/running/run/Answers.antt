@@ -12,7 +12,7 @@ use Rattle.lucy_run.proofs.RunLaws.{begun_along, no_inputs, written, under_way, 
 use Rattle.lucy_run.proofs.running.run.Goals as goal
 
 pub heading-requires : goal.heading-requires
-heading-requires g c = (lent c.args.host.now, c.requires.accepted.0, c.requires.accepted.1, c.requires.accepted.2)
+heading-requires g c = (lent c.args.host.now, c.requires.accepted)
 
 pub returns-in-Err-clause-ends : goal.returns-in-Err-clause-ends
 returns-in-Err-clause-ends g c = run_unbegun (kinds_of (lent c.args.host.now)) c.args.accepted c.args.pace.instants c.args.pace.block _ _

@@ -11,16 +11,16 @@ schedule_of-requires c = subst IsProper (sym c.in_ok-copy.ensures) c.requires.fi
 
 pub new-requires : goal.new-requires
 new-requires c =
-    fixed_anew c.args.net.now c.in_ok-copy.copy c.requires.fixed.0 c.in-Ok-schedule_of.schedule c.args.inputs.now c.in-Ok.lists
+    fixed_anew c.args.net.now c.in_ok-copy.copy c.requires.fixed.0 c.in-Ok.schedule c.args.inputs.now c.in_ok-lists.lists
     c.args.ops.now
-    c.args.instants c.in_ok-copy.ensures c.in-Ok.ensures c.in-Ok-schedule_of.ensures.ok c.requires.fixed.1
+    c.args.instants c.in_ok-copy.ensures c.in_ok-lists.ensures c.in-Ok.ensures.ok c.requires.fixed.1
 
 pub returns : goal.returns
 returns c =
-    let anew : Timetable = c.in-Ok-schedule_of.schedule in
-    let same = seen_anew c.args.net.now c.in_ok-copy.copy anew c.args.inputs.now c.in-Ok.lists c.args.ops.now c.args.instants
+    let anew : Timetable = c.in-Ok.schedule in
+    let same = seen_anew c.args.net.now c.in_ok-copy.copy anew c.args.inputs.now c.in_ok-lists.lists c.args.ops.now c.args.instants
     c.in_ok-copy.ensures
-    c.in-Ok.ensures in
-    IfOk-weaker c.new.result (λ (core : Seen). core ≡ first_seen c.in_ok-copy.copy anew c.in-Ok.lists c.args.ops.now c.args.instants)
+    c.in_ok-lists.ensures in
+    IfOk-weaker c.new.result (λ (core : Seen). core ≡ first_seen c.in_ok-copy.copy anew c.in_ok-lists.lists c.args.ops.now c.args.instants)
     (λ (core : Seen). (schedule : Timetable) × (core ≡ first_seen c.args.net.now schedule c.args.inputs.now c.args.ops.now c.args.instants))
     (λ core is. (anew, is ∙ same)) c.new.ensures

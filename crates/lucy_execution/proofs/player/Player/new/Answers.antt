@@ -19,17 +19,17 @@ new-requires g c =
 
 pub run_core-requires-clause-unbegun : goal.run_core-requires-clause-unbegun
 run_core-requires-clause-unbegun g c κs within = λ a.
-    ap (λ (s : Seen). done_of s.done a) c.in-Ok-new.ensures ∙ first_unbegun c.args.net c.args.schedule c.args.inputs c.ops.result.now c.args.instants a
+    ap (λ (s : Seen). done_of s.done a) c.in_ok-core.ensures ∙ first_unbegun c.args.net c.args.schedule c.args.inputs c.ops.result.now c.args.instants a
 
 pub run_core-requires-clause-flat : goal.run_core-requires-clause-flat
 run_core-requires-clause-flat g c κs within =
-    subst (λ (s : Seen). IsFlat c.args.placed.now.nodes c.args.clocks.now s.net) (sym c.in-Ok-new.ensures) c.requires.flat
+    subst (λ (s : Seen). IsFlat c.args.placed.now.nodes c.args.clocks.now s.net) (sym c.in_ok-core.ensures) c.requires.flat
 
 pub run_core-requires-clause-inputs : goal.run_core-requires-clause-inputs
 run_core-requires-clause-inputs g c κs within =
-    subst (λ (s : Seen). inputs_for s.net s.inputs ≡ s.inputs) (sym c.in-Ok-new.ensures)
+    subst (λ (s : Seen). inputs_for s.net s.inputs ≡ s.inputs) (sym c.in_ok-core.ensures)
     (inputs_same c.args.placed.now.nodes c.args.clocks.now c.nodes.ensures.proper c.args.net c.requires.flat c.args.inputs c.requires.inputs)
 
 pub run_core-requires-clause-params : goal.run_core-requires-clause-params
 run_core-requires-clause-params g c κs within =
-    subst (λ (s : Seen). params_in (main_of c.args.placed.now.nodes) ≡ length s.inputs) (sym c.in-Ok-new.ensures) c.requires.inputs
+    subst (λ (s : Seen). params_in (main_of c.args.placed.now.nodes) ≡ length s.inputs) (sym c.in_ok-core.ensures) c.requires.inputs

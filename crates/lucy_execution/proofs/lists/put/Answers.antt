@@ -5,7 +5,7 @@ use mir.Val.{SFits}
 use Rattle.std.proofs.lemmas.Int.{to_z-of_z}
 use Rattle.std.proofs.lemmas.List.{take_more}
 use Rattle.lucy_execution.proofs.StreamLaws.{grown_last}
-use Rattle.lucy_execution.proofs.lists.add.Goals as goal
+use Rattle.lucy_execution.proofs.lists.put.Goals as goal
 
 pub each-preserved : goal.each-preserved
 each-preserved c =
