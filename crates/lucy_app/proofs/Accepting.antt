@@ -10,8 +10,8 @@ use Rattle.lucy_front.specs.declared.accepted.Accepted.{Accepted}
 use Rattle.lucy_front.specs.declared.refusal.Refusal.{Refusal as Reason}
 use Rattle.lucy_front.specs.Accepting.{IsAccepted, Refuses}
 use Rattle.lucy_app.specs.Check.{RefusesCheck}
-use Rattle.lucy_app.specs.Running.{NoRun, LacksInstants, OwesEnded, OwesRunning}
-use Rattle.lucy_app.specs.Outcomes.{bytes_of, refusal_answer, fetch_refusal, program_refusal, IsAccepting}
+use Rattle.lucy_app.specs.Running.{LacksInstants, OwesEnded, OwesRunning}
+use Rattle.lucy_app.specs.Outcomes.{bytes_of, refusal_answer, fetch_refusal, program_refusal, IsAccepting, NoRun}
 use Rattle.lucy_app.specs.declared.refusal.Refusal.{Refusal}
 use Rattle.lucy_app.specs.declared.refusal.Refusal.TheVariants.{NoInstants, OutOfMemory}
 use Rattle.lucy_app.proofs.Outcomes.{fetch_owed}

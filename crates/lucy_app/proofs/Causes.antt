@@ -50,41 +50,18 @@ same_first texts u v x y h k = cc
 same_second : (texts : List (List ℕ)) (u v x y : List ℕ) → texts ≡ u ∷ v ∷ [] → texts ≡ x ∷ y ∷ [] → v ≡ y
 same_second texts u v x y h k = cc
 
--- of two fields, a first or second one that is read is not refused
-first_is_read : (texts : List (List ℕ)) (u v : List ℕ) (a : Bits) (x y : List ℕ) (cause : InputCause) → texts ≡ u ∷ v ∷ [] → texts ≡ x ∷ y ∷ [] →
-    IsReadable u a → RefusesWord 1 x cause → ⊥
-first_is_read texts u v a x y cause h k is not =
-    let P : List ℕ → Type 0 = λ t. IsReadable t a in
-    readable_is_not_refused 1 x a cause (subst P (same_first texts _ _ _ _ h k) is) not
-
-second_is_read : (texts : List (List ℕ)) (u v : List ℕ) (b : Bits) (x y : List ℕ) (cause : InputCause) → texts ≡ u ∷ v ∷ [] → texts ≡ x ∷ y ∷ [] →
-    IsReadable v b → RefusesWord 2 y cause → ⊥
-second_is_read texts u v b x y cause h k is not =
-    let P : List ℕ → Type 0 = λ t. IsReadable t b in
-    readable_is_not_refused 2 y b cause (subst P (same_second texts _ _ _ _ h k) is) not
-
 -- fields are refused for one cause
 pub one_cause_of_fields : (texts : List (List ℕ)) (c d : InputCause) → RefusesFields texts c → RefusesFields texts d → c ≡ d
-one_cause_of_fields texts c d (inl h) (inl k) = h.1 ∙ sym k.1
-one_cause_of_fields texts c d (inl h) (inr (inl k)) = absurd (h.0 (ap length k.2))
-one_cause_of_fields texts c d (inl h) (inr (inr (inl k))) = absurd (h.0 (ap length k.3))
-one_cause_of_fields texts c d (inl h) (inr (inr (inr k))) = absurd (h.0 (ap length k.4))
-one_cause_of_fields texts c d (inr (inl h)) (inl k) = absurd (k.0 (ap length h.2))
-one_cause_of_fields texts c d (inr (inl h)) (inr (inl k)) =
-    let P : List ℕ → Type 0 = λ u. RefusesWord 1 u d in
-    one_cause_of_a_word 1 h.0 c d h.3 (subst P (same_first texts _ _ _ _ k.2 h.2) k.3)
-one_cause_of_fields texts c d (inr (inl h)) (inr (inr (inl k))) = absurd (first_is_read texts k.0 k.1 k.2 h.0 h.1 c k.3 h.2 k.4 h.3)
-one_cause_of_fields texts c d (inr (inl h)) (inr (inr (inr k))) = absurd (first_is_read texts k.0 k.1 k.2 h.0 h.1 c k.4 h.2 k.5 h.3)
-one_cause_of_fields texts c d (inr (inr (inl h))) (inl k) = absurd (k.0 (ap length h.3))
-one_cause_of_fields texts c d (inr (inr (inl h))) (inr (inl k)) = absurd (first_is_read texts h.0 h.1 h.2 k.0 k.1 d h.3 k.2 h.4 k.3)
-one_cause_of_fields texts c d (inr (inr (inl h))) (inr (inr (inl k))) =
-    let P : List ℕ → Type 0 = λ u. RefusesWord 2 u d in
-    one_cause_of_a_word 2 h.1 c d h.5 (subst P (same_second texts _ _ _ _ k.3 h.3) k.5)
-one_cause_of_fields texts c d (inr (inr (inl h))) (inr (inr (inr k))) = absurd (second_is_read texts k.0 k.1 k.3 h.0 h.1 c k.4 h.3 k.6 h.5)
-one_cause_of_fields texts c d (inr (inr (inr h))) (inl k) = absurd (k.0 (ap length h.4))
-one_cause_of_fields texts c d (inr (inr (inr h))) (inr (inl k)) = absurd (first_is_read texts h.0 h.1 h.2 k.0 k.1 d h.4 k.2 h.5 k.3)
-one_cause_of_fields texts c d (inr (inr (inr h))) (inr (inr (inl k))) = absurd (second_is_read texts h.0 h.1 h.3 k.0 k.1 d h.4 k.3 h.6 k.5)
-one_cause_of_fields texts c d (inr (inr (inr h))) (inr (inr (inr k))) = h.8 ∙ sym k.8
+one_cause_of_fields [] c d h k = h ∙ sym k
+one_cause_of_fields (u ∷ []) c d h k = h ∙ sym k
+one_cause_of_fields (u ∷ (v ∷ [])) c d (inl h) (inl k) = one_cause_of_a_word 1 u c d h k
+one_cause_of_fields (u ∷ (v ∷ [])) c d (inl h) (inr k) = absurd (readable_is_not_refused 1 u k.0 c k.1 h)
+one_cause_of_fields (u ∷ (v ∷ [])) c d (inr h) (inl k) = absurd (readable_is_not_refused 1 u h.0 d h.1 k)
+one_cause_of_fields (u ∷ (v ∷ [])) c d (inr (a, is, inl h)) (inr (b, also, inl k)) = one_cause_of_a_word 2 v c d h k
+one_cause_of_fields (u ∷ (v ∷ [])) c d (inr (a, is, inl h)) (inr (b, also, inr k)) = absurd (readable_is_not_refused 2 v k.0 c k.1 h)
+one_cause_of_fields (u ∷ (v ∷ [])) c d (inr (a, is, inr h)) (inr (b, also, inl k)) = absurd (readable_is_not_refused 2 v h.0 d h.1 k)
+one_cause_of_fields (u ∷ (v ∷ [])) c d (inr (a, is, inr h)) (inr (b, also, inr k)) = h.3 ∙ sym k.3
+one_cause_of_fields (u ∷ (v ∷ (w ∷ texts))) c d h k = h ∙ sym k
 
 one_bits : (text : List ℕ) (a b : Bits) → IsReadable text a → IsReadable text b → a ≡ b
 one_bits text a b is also = let same : ◌≡◌ {A = Result Bits WordError} (Ok a) (Ok b) = reads_one text (Ok a) (Ok b) is also in cc
@@ -98,16 +75,20 @@ one_pair text a b c d is also =
       one_bits is.1 b d is.4 (subst Q (same_second (fields text) _ _ _ _ also.2 is.2) also.4),
     )
 
--- the fields of a text that is two words, about which not too many instants decide, are not refused
-pub pair_is_not_refused : (text : List ℕ) (a b : Bits) (cause : InputCause) → IsPair text a b → (AreFar a b → ⊥) → RefusesFields (fields text) cause → ⊥
-pair_is_not_refused text a b cause pair near (inl h) = h.0 (ap length pair.2)
-pair_is_not_refused text a b cause pair near (inr (inl h)) = first_is_read (fields text) pair.0 pair.1 a h.0 h.1 cause pair.2 h.2 pair.3 h.3
-pair_is_not_refused text a b cause pair near (inr (inr (inl h))) = second_is_read (fields text) pair.0 pair.1 b h.0 h.1 cause pair.2 h.3 pair.4 h.5
-pair_is_not_refused text a b cause pair near (inr (inr (inr h))) =
-    let same = one_pair text a b h.2 h.3 pair (h.0, h.1, h.4, h.5, h.6) in
-    let P : Bits → Type 0 = λ x. AreFar x h.3 in
+-- two words about which not too many instants decide are not refused
+words_are_not_refused : (u v : List ℕ) (a b : Bits) (cause : InputCause) → IsReadable u a → IsReadable v b → (AreFar a b → ⊥) → RefusesFields (u ∷ (v ∷ [])) cause → ⊥
+words_are_not_refused u v a b cause is also near (inl h) = readable_is_not_refused 1 u a cause is h
+words_are_not_refused u v a b cause is also near (inr (c, read, inl h)) = readable_is_not_refused 2 v b cause also h
+words_are_not_refused u v a b cause is also near (inr (c, read, inr (d, this, far, so))) =
+    let P : Bits → Type 0 = λ x. AreFar x d in
     let Q : Bits → Type 0 = λ x. AreFar a x in
-    near (subst Q (sym same.1) (subst P (sym same.0) h.7))
+    near (subst Q (one_bits v d b this also) (subst P (one_bits u c a read is) far))
+
+-- nor are the fields of a text that is such words
+pub pair_is_not_refused : (text : List ℕ) (a b : Bits) (cause : InputCause) → IsPair text a b → (AreFar a b → ⊥) → RefusesFields (fields text) cause → ⊥
+pair_is_not_refused text a b cause (u, v, two, is, also) near h =
+    let P : List (List ℕ) → Type 0 = λ texts. RefusesFields texts cause in
+    words_are_not_refused u v a b cause is also near (subst P two h)
 
 -- a text has one line of a verdict
 pub one_line : (text line other : List ℕ) → IsVerdictLine text line → IsVerdictLine text other → line ≡ other

@@ -22,8 +22,8 @@ use Rattle.lucy_app.specs.Endings.{ending_told, ended}
 use Rattle.lucy_front.specs.Refusals.{memory_line}
 use Rattle.lucy_app.specs.Ends.{Tells, MayStand, MayFail}
 use Rattle.lucy_app.specs.Owes.{Owes}
-use Rattle.lucy_app.specs.Running.{NoRun, IsRunnable, OwesRunning}
-use Rattle.lucy_app.specs.Outcomes.{IsAccepting, refusal_answer, EndsMake, Prints, TellsEnding, TellsRefusal, made_given}
+use Rattle.lucy_app.specs.Running.{IsRunnable, OwesRunning}
+use Rattle.lucy_app.specs.Outcomes.{IsAccepting, refusal_answer, EndsMake, Prints, TellsEnding, TellsRefusal, made_given, NoRun}
 use Rattle.lucy_app.specs.declared.refusal.Refusal.{Refusal}
 use Rattle.lucy_app.specs.declared.refusal.Refusal.TheVariants as refusal
 use Rattle.lucy_app.proofs.Sinks.{unwritten, ends_refused}

@@ -13,7 +13,7 @@ use Rattle.lucy_feed.specs.Sources.{Ended}
 use Rattle.lucy_front.specs.declared.options.Options.{Options}
 use Rattle.lucy_front.specs.declared.accepted.Accepted.{Accepted}
 use Rattle.lucy_front.specs.declared.refusal.Refusal.{Refusal}
-use Rattle.lucy_front.specs.Accepting.{IsAccepted}
+use Rattle.lucy_front.specs.Accepting.{IsAccepted, RefusesSyntax, RefusesText}
 use Rattle.lucy_front.specs.Report.{report}
 use Rattle.lucy_run.specs.Feeds.{IsInput}
 use Rattle.lucy_run.specs.Owes.{most_instants, input_words, heading, lines_to, stream_lines, IsHorizonOf}
@@ -27,6 +27,7 @@ use Rattle.lucy_net.specs.declared.net.Net.{Net}
 use Rattle.lucy_core.specs.Seen.{first_seen}
 use Rattle.lucy_place.specs.declared.placed.PlacedNode.{PlacedNode}
 use Rattle.lucy_output.specs.declared.output.OutputSpec.{OutputSpec}
+use Rattle.lucy_tight.specs.Laws.{OneTightest}
 use Rattle.lucy_app.proofs.ReplaysOnce.{picks_one}
 use Rattle.lucy_run.proofs.OwesLaws.{OneHorizon}
 use Rattle.lucy_make.specs.Text.{made_text, made_input}
@@ -36,8 +37,8 @@ use Rattle.lucy_command.specs.Commands.{Command, Order, Show, Types, Check, Cloc
 use Rattle.lucy_app.specs.Commands.{written_options, inferring_options, Wanted, program_of, log_of}
 use Rattle.lucy_app.specs.World.{World}
 use Rattle.lucy_app.specs.Order.{IsVerdictLine}
-use Rattle.lucy_app.specs.Show.{IsPrintOf, RefusesSyntax}
-use Rattle.lucy_app.specs.Types.{IsReportOf, RefusesText}
+use Rattle.lucy_app.specs.Show.{IsPrintOf}
+use Rattle.lucy_app.specs.Types.{IsReportOf}
 use Rattle.lucy_app.specs.Check.{IsCheckOf, RefusesCheck}
 use Rattle.lucy_app.specs.Running.{IsRunnable}
 use Rattle.lucy_app.specs.Complete.{Holds, HoldsSuch, MayPrint, MayRun}
@@ -48,7 +49,7 @@ use Rattle.lucy_app.proofs.Checked.{check_verdict}
 use Rattle.lucy_app.proofs.RunsOnce.{AreSame, accepted_same}
 use Rattle.lucy_app.specs.Answers.{Answer, AreOneBut, MayDiffer, printed}
 use Rattle.lucy_app.specs.Tighten.{IsTightOf}
-use Rattle.lucy_app.proofs.TightOnce.{OneTight, prints_alike}
+use Rattle.lucy_app.proofs.TightOnce.{prints_alike}
 use Rattle.lucy_app.proofs.MakesOnce.{whole_feeds, values_same, words_same}
 
 -- a shelf tells one text under a name
@@ -138,7 +139,7 @@ log_one shelf file picks events (text, holds, is) (other, held, also) =
 one_printed : (Differ : Answer → Answer → Type 0) (a b : List ℕ) → a ≡ b → AreOneBut Differ (printed a) (printed b)
 one_printed Differ a b e = inl (ap printed e)
 
-pub output_one : OneCut → OneHorizon → OneTight → (command : Command) (before : World) (a b : List ℕ) → MayPrint command before a →
+pub output_one : OneCut → OneHorizon → OneTightest → (command : Command) (before : World) (a b : List ℕ) → MayPrint command before a →
     MayPrint command before b → AreOneBut (MayDiffer (MayRun before) command) (printed a) (printed b)
 output_one cut horizons tight Order before a b is also = one_printed (MayDiffer (MayRun before) Order) a b (line_one before.source.left a b is also)
 output_one cut horizons tight (Show file) before a b is also =

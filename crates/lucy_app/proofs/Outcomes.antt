@@ -9,17 +9,17 @@ use Rattle.lucy_text.specs.declared.shelf.ShelfError.TheVariants as shelf
 use Rattle.lucy_feed.specs.Sources.{Stop, Unread, Ended, Failed, Passed, Open, IsGathered}
 use Rattle.lucy_feed.specs.declared.read.ReadError.{ReadError}
 use Rattle.lucy_feed.specs.declared.read.ReadError.TheVariants as read
+use Rattle.lucy_front.specs.Accepting.{RefusesText}
 use Rattle.lucy_app.specs.Answers.{Answer, limit_passed}
 use Rattle.lucy_app.specs.Fields.{fields}
 use Rattle.lucy_host.specs.Operators.{Operator}
 use Rattle.lucy_front.specs.declared.options.Options.{Options}
-use Rattle.lucy_app.specs.Types.{IsReportOf, RefusesText}
+use Rattle.lucy_app.specs.Types.{IsReportOf}
 use Rattle.lucy_app.specs.Check.{IsCheckOf, RefusesCheck}
 use Rattle.lucy_app.specs.Order.{IsVerdictLine, RefusesFields}
 use Rattle.lucy_app.specs.Owes.{OwesOrder}
 use Rattle.lucy_app.specs.Programs.{OwesText, OwesPrint}
-use Rattle.lucy_app.specs.Tighten.{OwesNamed}
-use Rattle.lucy_app.specs.Outcomes.{bytes_of, refusal_answer, fetch_refusal, RefusesProgram, RefusesInput, IsOutcome, read_refusal}
+use Rattle.lucy_app.specs.Outcomes.{bytes_of, refusal_answer, fetch_refusal, RefusesProgram, RefusesInput, IsOutcome, read_refusal, OwesNamed}
 use Rattle.lucy_front.specs.declared.refusal.Refusal.{Refusal as Reason}
 use Rattle.lucy_app.specs.declared.refusal.Refusal.{Refusal}
 use Rattle.lucy_app.specs.declared.refusal.Refusal.TheVariants.{OutOfMemory}

@@ -3,13 +3,16 @@ use Rattle.std.proofs.Common.{ℕ, ◌≡◌, List, [], ◌∷◌, None, Result,
 use Rattle.lucy_text.specs.declared.shelf.ShelfError.{ShelfError}
 use Rattle.lucy_text.specs.declared.shelf.ShelfError.TheVariants as shelf
 use Rattle.lucy_command.specs.Commands.{Command, Order, Show, Types, Check, Clocks, Run, Kahn, Make, Tighten, Replay, Trace}
+use Rattle.lucy_front.specs.Accepting.{RefusesSyntax, RefusesText}
+use Rattle.lucy_tight.specs.Laws.{OneTightest}
+use Rattle.lucy_app.specs.Outcomes.{OwesNamed}
 use Rattle.lucy_app.specs.Commands.{written_options, inferring_options}
 use Rattle.lucy_feed.specs.Sources.{Stop, Ended, Failed, Passed}
 use Rattle.lucy_app.specs.World.{Given}
 use Rattle.lucy_app.specs.Answers.{Answer, AreTightAlike, MayDiffer, Alike, printed, program_refused, input_refused}
 use Rattle.lucy_app.specs.Fields.{fields}
-use Rattle.lucy_app.specs.Show.{IsPrintOf, RefusesSyntax}
-use Rattle.lucy_app.specs.Types.{IsReportOf, RefusesText}
+use Rattle.lucy_app.specs.Show.{IsPrintOf}
+use Rattle.lucy_app.specs.Types.{IsReportOf}
 use Rattle.lucy_app.specs.Check.{IsCheckOf, RefusesCheck}
 use Rattle.lucy_app.specs.Owes.{OwesOrder, Owes, HasRun}
 use Rattle.lucy_app.specs.Programs.{OwesRefusal, OwesText, OwesPrint}
@@ -30,8 +33,7 @@ use Rattle.lucy_app.proofs.Causes.{one_line, one_cause_of_fields, pair_is_not_re
 use Rattle.lucy_app.proofs.Verdicts.{show_verdict, one_syntax}
 use Rattle.lucy_app.proofs.Typed.{types_verdict}
 use Rattle.lucy_app.proofs.Checked.{check_verdict}
-use Rattle.lucy_app.specs.Tighten.{OwesNamed}
-use Rattle.lucy_app.proofs.TightOnce.{OneTight, tight_decided}
+use Rattle.lucy_app.proofs.TightOnce.{tight_decided}
 
 pub order_owes_one : (taken : List ℕ) (stop : Stop) (a b : Answer) → OwesOrder taken stop a → OwesOrder taken stop b → a ≡ b
 order_owes_one taken Ended a b (inl is) (inl also) = is.2 ∙ ap printed (one_line taken is.0 also.0 is.1 also.1) ∙ sym also.2
@@ -42,7 +44,7 @@ order_owes_one taken Failed a b is also = is ∙ sym also
 order_owes_one taken Passed a b is also = is ∙ sym also
 order_owes_one taken stop a b is also = absurd is
 
-pub owes_one : OneCut → OneHorizon → OneRun → OneInterpretation → OneReplay → OneTrace → OneTight →
+pub owes_one : OneCut → OneHorizon → OneRun → OneInterpretation → OneReplay → OneTrace → OneTightest →
     (command : Command) (given : Given) (a b : Answer) →
     Owes command given a → Owes command given b → Alike (HasRun given) command a b
 owes_one cut horizon run kahn again trace tight Order given a b is also = inl (inl (order_owes_one given.taken given.stop a b is also))

@@ -26,15 +26,15 @@ use Rattle.lucy_run.specs.declared.ending.Ending.TheVariants as ending
 use Rattle.lucy_run.specs.Replays.{OwesReplay}
 use Rattle.lucy_run.specs.Ends.{IsFrontOf, EndsReplay}
 use Rattle.lucy_command.specs.Commands.{ProgramWords, Replay}
-use Rattle.lucy_app.specs.Commands.{inferring_options, HasText, HasLog, TakesInput}
+use Rattle.lucy_app.specs.Commands.{inferring_options, HasText, TakesInput}
 use Rattle.lucy_app.specs.World.{Given}
 use Rattle.lucy_app.specs.Answers.{Answer, out_of_memory, log_refused}
 use Rattle.lucy_app.specs.Endings.{ended}
-use Rattle.lucy_app.specs.Running.{NoRun, IsRunnable, OwesRunning}
+use Rattle.lucy_app.specs.Running.{IsRunnable, OwesRunning}
 use Rattle.lucy_app.specs.Replaying.{replayed, OwesEvents, OwesLog, OwesLogged}
 use Rattle.lucy_app.specs.Owes.{Owes, OwesOutput}
 use Rattle.lucy_app.specs.Ends.{Tells, EndsBy, MayStand, MayFail}
-use Rattle.lucy_app.specs.Outcomes.{bytes_of, IsAccepting, TellsRefusal, TellsEnding, NoEvents, IsLogRead, ReadsBehind, LogOutputs, EndsLog, refusal_answer, fetch_refusal_within, trace_refusal}
+use Rattle.lucy_app.specs.Outcomes.{bytes_of, IsAccepting, TellsRefusal, TellsEnding, NoEvents, IsLogRead, ReadsBehind, LogOutputs, EndsLog, refusal_answer, fetch_refusal_within, trace_refusal, NoRun}
 use Rattle.lucy_app.specs.declared.refusal.Refusal.{Refusal}
 use Rattle.lucy_app.specs.declared.refusal.Refusal.TheVariants as refusal
 use Rattle.lucy_app.proofs.Sinks.{ends_refused}
@@ -235,6 +235,7 @@ module _ (words : ProgramWords) (name : List ℕ) (ops : List Operator) (file : 
 
     -- and the source was read for it
     pub reads_source : (s t : SeenSource) → ReadsBehind a log s t taken →
-        (t ≡ s) ⊎ (TakesInput ops (inferring_options words.scale words.lead) (file ∷ (log ∷ [])) taken × HasLog (file ∷ (log ∷ [])))
+        (t ≡ s) ⊎ (TakesInput ops (inferring_options words.scale words.lead) (file ∷ (log ∷ [])) taken
+        × IsOkAnd log (λ text. (picks : List ℕ) × AreRead (picks_of text) picks))
     reads_source s t (inl same) = inl same
     reads_source s t (inr (some, asked, read)) = inr (takes file can some asked, read)

@@ -24,8 +24,9 @@ use Rattle.lucy_front.specs.declared.options.Options.{Options}
 use Rattle.lucy_run.specs.declared.ending.Ending.{Ending}
 use Rattle.lucy_run.specs.Replays.{first_core, Judges, OwesReplay}
 use Rattle.lucy_run.specs.Laws.{OneReplay}
+use Rattle.lucy_app.specs.Outcomes.{NoRun}
 use Rattle.lucy_app.specs.Answers.{Answer, AreOneBut, AreRefusedAlike, log_refused}
-use Rattle.lucy_app.specs.Running.{NoRun, OwesRunning}
+use Rattle.lucy_app.specs.Running.{OwesRunning}
 use Rattle.lucy_app.specs.Replaying.{replayed, OwesEvents, OwesLog, OwesLogged}
 use Rattle.lucy_app.proofs.RunsOnce.{AreSame, accepted_same, moves, fed_moves, runs_alike}
 
@@ -80,7 +81,7 @@ module _ (again : OneReplay) (ops : List Operator) (instants : Option ℕ) (take
   log_once a b same (Err shelf.Failed) x y h k = h.0 ∙ sym k.0
   log_once a b same (Err shelf.Missing) x y h k = h.0 ∙ sym k.0
   log_once a b same (Err shelf.TooLong) x y h k = h.0 ∙ sym k.0
-  log_once a b same (Err shelf.OutOfMemory) x y h k = absurd h
+  log_once a b same (Err shelf.OutOfMemory) x y h k = absurd h.0
 
   -- and so is what is owed of both files
   pub logged_alike : (Differ : Answer → Answer → Type 0) (o : Options) (fetched : List (Result (List ℕ) ShelfError)) (x y : Answer) →

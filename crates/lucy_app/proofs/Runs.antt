@@ -14,9 +14,9 @@ use Rattle.lucy_run.specs.Ends.{IsFrontOf, Outputs, EndsWith}
 use Rattle.lucy_app.specs.Answers.{Answer, out_of_memory}
 use Rattle.lucy_app.specs.Endings.{ended}
 use Rattle.lucy_app.specs.Commands.{HasText}
-use Rattle.lucy_app.specs.Running.{NoRun, IsRunnable, OwesEnded, OwesRunning}
+use Rattle.lucy_app.specs.Running.{IsRunnable, OwesEnded, OwesRunning}
 use Rattle.lucy_app.specs.Ends.{Tells}
-use Rattle.lucy_app.specs.Outcomes.{refusal_answer, TellsRefusal, TellsEnding, RunOutputs, EndsRunning}
+use Rattle.lucy_app.specs.Outcomes.{refusal_answer, TellsRefusal, TellsEnding, RunOutputs, EndsRunning, NoRun}
 use Rattle.lucy_app.specs.declared.refusal.Refusal.{Refusal}
 use Rattle.lucy_app.specs.declared.refusal.Refusal.TheVariants as refusal
 use Rattle.lucy_app.proofs.Sinks.{ends_refused}

@@ -6,14 +6,14 @@ use Rattle.lucy_text.proofs.OutsideLaws.{appended-nil}
 use Rattle.lucy_command.specs.Commands.{Command, Order, Show, Types, Check, Clocks, Run, Kahn, Make, Tighten, Replay, Trace}
 use Rattle.lucy_text.specs.Outside.{SeenSink, Writes}
 use Rattle.lucy_app.specs.World.{World, Given, Meets}
-use Rattle.lucy_app.specs.Lines.{read_fault_line, write_fault_line}
+use Rattle.lucy_app.specs.Endings.{write_fault_line}
 use Rattle.lucy_front.specs.Refusals.{memory_line}
-use Rattle.lucy_app.specs.Answers.{Answer, printed, no_command, no_instants, no_buffer, out_of_memory}
+use Rattle.lucy_app.specs.Answers.{Answer, printed, no_command, no_instants, no_buffer, read_fault, out_of_memory}
 use Rattle.lucy_app.specs.Owes.{Owes, MayCount}
-use Rattle.lucy_app.specs.Ends.{Tells, MayAnswer, EndsBy, MayStand, StopsInOrder, MayFail, EndsGiven, Declines, EndsSo, Ends}
+use Rattle.lucy_app.specs.Ends.{Tells, EndsBy, MayStand, StopsInOrder, MayFail, Declines, EndsSo, Ends}
 use Rattle.lucy_run.specs.declared.ending.Ending.{Ending}
 use Rattle.lucy_run.specs.declared.ending.Ending.TheVariants as ending
-use Rattle.lucy_app.specs.Outcomes.{refusal_answer, IsOutcome, TellsRefusal, Delivers, TellsEnding}
+use Rattle.lucy_app.specs.Outcomes.{refusal_answer, IsOutcome, TellsRefusal, Delivers, TellsEnding, EndsGiven}
 use Rattle.lucy_app.specs.declared.refusal.Refusal.{Refusal}
 use Rattle.lucy_app.specs.declared.refusal.Refusal.TheVariants.{Program, Input, NoInstants, NoBuffer, Log, ReadFault, OutOfMemory}
 
@@ -38,9 +38,10 @@ prints_nothing ReadFault = refl
 prints_nothing OutOfMemory = refl
 
 module _ (Owed : Answer → Type 0) (Stands Failing : List ℕ → Type 0) (nothing : Stands []) where
-  may_refuse : (e : Refusal) → (e ≡ OutOfMemory) ⊎ Owed (refusal_answer e) → MayAnswer Owed Stands (refusal_answer e)
+  may_refuse : (e : Refusal) → (e ≡ OutOfMemory) ⊎ Owed (refusal_answer e) →
+      Owed (refusal_answer e) ⊎ ((front : List ℕ) × Stands front × (refusal_answer e ≡ out_of_memory front))
   may_refuse e (inl out) =
-      let P : Refusal → Type 0 = λ r. MayAnswer Owed Stands (refusal_answer r) in
+      let P : Refusal → Type 0 = λ r. Owed (refusal_answer r) ⊎ ((front : List ℕ) × Stands front × (refusal_answer r ≡ out_of_memory front)) in
       subst P (sym out) (inr ([], nothing, refl))
   may_refuse e (inr owed) = inl owed
 
@@ -75,7 +76,7 @@ ends_so command given (Err e) before after status nothing order owed told =
     ends_refused (Owes command given) (MayStand command given) (MayFail command given before.out after.out) nothing e before.out after.out before.err after.err status owed told.0 told.1
 
 -- a read fault was told
-pub tells_fault : (e : Refusal) (err err' : SeenSink) (status : ℕ) → e ≡ ReadFault → Tells 4 read_fault_line err err' status → TellsRefusal e err err' status
+pub tells_fault : (e : Refusal) (err err' : SeenSink) (status : ℕ) → e ≡ ReadFault → Tells 4 read_fault.err err err' status → TellsRefusal e err err' status
 tells_fault e err err' status is told =
     let P : Refusal → Type 0 = λ r. TellsRefusal r err err' status in
     subst P (sym is) (inl told)

@@ -1,38 +1,39 @@
 -- Every status is at most 7.
 use Rattle.lucy_front.specs.declared.options.Options.{Options}
-use Rattle.std.proofs.Common.{ℕ, ◌≤◌, ◌≡◌, List, [], ◌∷◌, Option, Some, None, Result, Ok, Err, inl, inr, ap, arith}
+use Rattle.std.proofs.Common.{ℕ, ◌≤◌, ◌≡◌, ◌⊎◌, List, [], ◌∷◌, Option, Some, None, Result, Ok, Err, inl, inr, ap, arith}
 use Rattle.lucy_text.specs.declared.shelf.ShelfError.{ShelfError}
 use Rattle.lucy_text.specs.declared.shelf.ShelfError.TheVariants as shelf
 use Rattle.lucy_command.specs.Commands.{Command, Order, Show, Types, Check, Clocks, Run, Kahn, Make, Tighten, Replay, Trace}
+use Rattle.lucy_app.specs.Outcomes.{NoRun, OwesNamed, EndsGiven}
 use Rattle.lucy_app.specs.Commands.{written_options, inferring_options, HasText}
 use Rattle.lucy_feed.specs.Sources.{Stop, Ended, Failed, Passed}
 use Rattle.lucy_text.specs.Outside.{SeenSink}
 use Rattle.lucy_app.specs.World.{World, Given}
 use Rattle.lucy_app.specs.ProgramRefusals.{program_status}
 use Rattle.lucy_app.specs.InputRefusals.{input_told}
-use Rattle.lucy_app.specs.Answers.{Answer, no_command}
-use Rattle.lucy_app.specs.Show.{IsPrintOf, RefusesSyntax}
-use Rattle.lucy_app.specs.Types.{IsReportOf, RefusesText}
+use Rattle.lucy_app.specs.Answers.{Answer, no_command, out_of_memory}
+use Rattle.lucy_app.specs.Show.{IsPrintOf}
+use Rattle.lucy_app.specs.Types.{IsReportOf}
 use Rattle.lucy_app.specs.Check.{IsCheckOf, RefusesCheck}
 use Rattle.lucy_app.specs.Owes.{OwesOrder, Owes}
 use Rattle.lucy_app.specs.Programs.{OwesRefusal, OwesText, OwesPrint}
-use Rattle.lucy_app.specs.Tighten.{OwesSize, OwesBuffer, OwesNamed}
+use Rattle.lucy_app.specs.Tighten.{OwesSize, OwesBuffer}
 use Rattle.lucy_app.specs.Endings.{fault_told, ending_told}
-use Rattle.lucy_app.specs.Running.{NoRun, OwesEnded, OwesRunning}
+use Rattle.lucy_app.specs.Running.{OwesEnded, OwesRunning}
 use Rattle.lucy_app.specs.Replaying.{replayed, OwesEvents, OwesLog, OwesLogged}
 use Rattle.lucy_trace.specs.declared.error.TraceError.{TraceError}
 use Rattle.lucy_host.specs.Operators.{Operator, kinds_of}
 use Rattle.lucy_lines.specs.declared.reader.TextFault.{TextFault}
 use Rattle.lucy_lines.specs.declared.reader.TextFault.TheVariants as fault
 use Rattle.lucy_front.specs.declared.accepted.Accepted.{Accepted}
-use Rattle.lucy_front.specs.Accepting.{IsAccepted}
+use Rattle.lucy_front.specs.Accepting.{IsAccepted, RefusesSyntax, RefusesText}
 use Rattle.lucy_run.specs.declared.ending.Ending.{Ending}
 use Rattle.lucy_run.specs.declared.ending.Ending.TheVariants as ending
 use Rattle.lucy_run.specs.Owes.{OwesRun, OwesKahn}
 use Rattle.lucy_run.specs.Tracing.{OwesTrace}
 use Rattle.lucy_make.specs.Text.{made_text}
 use Rattle.lucy_make.specs.Owes.{OwesSummary}
-use Rattle.lucy_app.specs.Ends.{Tells, MayAnswer, MayStand, EndsGiven, Ends}
+use Rattle.lucy_app.specs.Ends.{Tells, MayStand, Ends}
 use Rattle.lucy_front.specs.Refusals.{memory_line}
 use Rattle.lucy_front.specs.declared.refusal.Refusal.{Refusal}
 use Rattle.lucy_front.specs.declared.refusal.Refusal.TheVariants as program
@@ -126,7 +127,7 @@ log_within ops p instants taken stop (Ok text) a (inr (picks, read, (output, res
 log_within ops p instants taken stop (Err shelf.Failed) a is = same_within a _ is.0 (omega arith)
 log_within ops p instants taken stop (Err shelf.Missing) a is = same_within a _ is.0 (omega arith)
 log_within ops p instants taken stop (Err shelf.TooLong) a is = same_within a _ is.0 (omega arith)
-log_within ops p instants taken stop (Err shelf.OutOfMemory) a is = absurd is
+log_within ops p instants taken stop (Err shelf.OutOfMemory) a is = absurd is.0
 
 logged_within : (ops : List Operator) (o : Options) (instants : Option ℕ) (taken : List ℕ) (stop : Stop) (fetched : List (Result (List ℕ) ShelfError)) (a : Answer) →
     OwesLogged ops o instants taken stop fetched a → a.status ≤ 7
@@ -160,7 +161,8 @@ owed_within (Trace words workers) given a is =
     running_within (λ p. OwesTrace p words.instants given.taken given.stop) given.operators (inferring_options words.scale words.lead)
     words.instants given.stop given.fetched a is
 
-answer_within : (command : Command) (given : Given) (a : Answer) → MayAnswer (Owes command given) (MayStand command given) a → a.status ≤ 7
+answer_within : (command : Command) (given : Given) (a : Answer) →
+    Owes command given a ⊎ ((front : List ℕ) × MayStand command given front × (a ≡ out_of_memory front)) → a.status ≤ 7
 answer_within command given a (inl is) = owed_within command given a is
 answer_within command given a (inr is) = same_within a _ is.2 (omega arith)
 

@@ -20,7 +20,7 @@ use Rattle.lucy_feed.specs.Feeding.{is_closed}
 use Rattle.lucy_front.specs.declared.options.Options.{Options}
 use Rattle.lucy_front.specs.declared.accepted.Accepted.{Accepted}
 use Rattle.lucy_front.specs.declared.refusal.Refusal.{Refusal}
-use Rattle.lucy_front.specs.Accepting.{IsAccepted}
+use Rattle.lucy_front.specs.Accepting.{IsAccepted, RefusesSyntax, RefusesText}
 use Rattle.lucy_run.specs.declared.ending.Ending.{Ending}
 use Rattle.lucy_run.specs.declared.ending.Ending.TheVariants as ending
 use Rattle.lucy_run.specs.Feeds.{Feeds, IsInput}
@@ -38,18 +38,20 @@ use Rattle.lucy_make.specs.Text.{made_text, made_input}
 use Rattle.lucy_make.specs.Figures.{figures}
 use Rattle.lucy_make.specs.Owes.{OwesSummary, printed_values, where_done}
 use Rattle.lucy_command.specs.Commands.{ProgramWords, Command, Order, Show, Types, Check, Clocks, Run, Kahn, Make, Tighten, Replay, Trace}
+use Rattle.lucy_tight.specs.Laws.{OneTightest}
+use Rattle.lucy_app.specs.Outcomes.{NoRun, OwesNamed, EndsGiven}
 use Rattle.lucy_app.specs.Commands.{written_options, inferring_options, Wanted, program_of, log_of}
 use Rattle.lucy_app.specs.World.{World, Given, Fetched, Fetches, Meets}
 use Rattle.lucy_app.specs.Answers.{Answer, printed, out_of_memory}
 use Rattle.lucy_app.specs.Order.{IsVerdictLine}
-use Rattle.lucy_app.specs.Show.{IsPrintOf, RefusesSyntax}
-use Rattle.lucy_app.specs.Types.{IsReportOf, RefusesText}
+use Rattle.lucy_app.specs.Show.{IsPrintOf}
+use Rattle.lucy_app.specs.Types.{IsReportOf}
 use Rattle.lucy_app.specs.Check.{IsCheckOf, RefusesCheck}
 use Rattle.lucy_app.specs.Endings.{ended}
 use Rattle.lucy_app.specs.Programs.{OwesText, OwesPrint}
-use Rattle.lucy_app.specs.Running.{NoRun, IsRunnable, LacksInstants, OwesEnded, OwesRunning}
+use Rattle.lucy_app.specs.Running.{IsRunnable, LacksInstants, OwesEnded, OwesRunning}
 use Rattle.lucy_app.specs.Owes.{OwesOrder, Owes}
-use Rattle.lucy_app.specs.Ends.{Answers, EndsGiven, Declines}
+use Rattle.lucy_app.specs.Ends.{Answers, Declines}
 use Rattle.lucy_app.specs.Complete.{IsFaultless, Holds, HoldsSuch, MayPrint, Completes}
 use Rattle.lucy_app.specs.Replaying.{replayed, OwesEvents, OwesLog, OwesLogged}
 use Rattle.lucy_app.proofs.ReplaysOnce.{picks_one, replay_moves}
@@ -57,8 +59,7 @@ use Rattle.lucy_app.proofs.Owed.{order_owes_one}
 use Rattle.lucy_app.proofs.Verdicts.{IsVerdict, show_verdict}
 use Rattle.lucy_app.proofs.Typed.{types_verdict}
 use Rattle.lucy_app.proofs.Checked.{checks_apart, check_verdict}
-use Rattle.lucy_app.specs.Tighten.{OwesNamed}
-use Rattle.lucy_app.proofs.TightOnce.{OneTight, tight_unrefused, tight_printed}
+use Rattle.lucy_app.proofs.TightOnce.{tight_unrefused, tight_printed}
 use Rattle.lucy_app.proofs.RunsOnce.{AreSame, accepted_same, run_moves, kahn_moves, trace_moves}
 use Rattle.lucy_app.proofs.MakesOnce.{whole_feeds, summary_moves}
 
@@ -263,7 +264,7 @@ module _ (again : CompleteReplay) (ops : List Operator) (words : ProgramWords) (
       let calm : Rose between.faults middle.faults → ⊥ = λ rose. well.shelf (subst (λ n. Rose n after.shelf.faults) first.faults (subst (λ (s : SeenShelf). Rose between.faults s.faults) (sym e) rose)) in
       elim (fetched_so between middle (log_of name) log before.shelf.files second first.files logs.0 logs.1 calm next) [
         | inl is ↦ log_done b same answer (subst (λ r. OwesLog (OwesEvents ops b words.instants taken stop) stop r answer) is owed)
-        | inr is ↦ absurd (let none : OwesLog (OwesEvents ops b words.instants taken stop) stop (Err shelf.OutOfMemory) answer = subst (λ r. OwesLog (OwesEvents ops b words.instants taken stop) stop r answer) is owed in none)
+        | inr is ↦ absurd (let none : OwesLog (OwesEvents ops b words.instants taken stop) stop (Err shelf.OutOfMemory) answer = subst (λ r. OwesLog (OwesEvents ops b words.instants taken stop) stop r answer) is owed in none.0)
       ]
 
   first_done : (between : SeenShelf) (first : Result (List ℕ) ShelfError) (answer : Answer) → Fetched (program_of words.file) before.shelf between first → after.shelf ≡ between →
@@ -302,7 +303,7 @@ logged_done again ops words name taken stop before after (a, lists, horizon, (te
     logged_so again ops words name taken stop before after a lists horizon picks text log held can logs reads fed run well source fetched met answer owed
 
 module _ (cut : OneCut) (horizons : OneHorizon) (run : CompleteRun) (kahn : CompleteInterpretation) (again : CompleteReplay)
-    (trace : CompleteTrace) (tight : OneTight)
+    (trace : CompleteTrace) (tight : OneTightest)
     (before after : World) (output : List ℕ) (status : ℕ) (well : IsFaultless before after) where
   carried_out : (command : Command) (given : Given) → Meets command before after given → EndsGiven command given before after status →
       MayWith given.operators command before output → Finishes (MayWith given.operators command before) before after status
@@ -399,7 +400,7 @@ unmet command before ops status after e finishes =
     let P : List Operator → Type 0 = λ os. Finishes (MayWith os command before) before after status in
     subst P e finishes
 
-pub suited_done : OneCut → OneHorizon → CompleteRun → CompleteInterpretation → CompleteReplay → CompleteTrace → OneTight → Completes
+pub suited_done : OneCut → OneHorizon → CompleteRun → CompleteInterpretation → CompleteReplay → CompleteTrace → OneTightest → Completes
 suited_done cut horizons run kahn again trace tight command before after status (inl (given, met, ends)) well (output, may) =
     unmet command before given.operators status after met.operators
     (carried_out cut horizons run kahn again trace tight before after output status well command given met ends

@@ -18,22 +18,14 @@ use Rattle.lucy_tight.specs.declared.answer.TightError.TheVariants.{Fixed, Limit
 use Rattle.lucy_tight.specs.Least.{RefusesTightest}
 use Rattle.lucy_tight.specs.Tightening.{needs_at, TheBuffer, IsTightened, RefusesTight, AreAlike}
 use Rattle.lucy_tight.specs.Report.{tight_lines, fixed_lines}
+use Rattle.lucy_tight.specs.Laws.{OneTightest}
+use Rattle.lucy_app.specs.Outcomes.{OwesNamed}
 use Rattle.lucy_app.specs.Answers.{Answer, AreTightAlike, AreOneBut, printed, limit_passed}
 use Rattle.lucy_app.specs.Check.{RefusesCheck}
-use Rattle.lucy_app.specs.Tighten.{node_named, HasBuffer, IsTightPrint, OwesSize, OwesBuffer, OwesNamed, IsTightOf}
+use Rattle.lucy_app.specs.Tighten.{node_named, HasBuffer, IsTightPrint, OwesSize, OwesBuffer, IsTightOf}
 use Rattle.lucy_app.proofs.Checked.{checks_apart, checks_alike}
 use Rattle.lucy_app.proofs.OwedPrograms.{IsDecided}
 use Rattle.lucy_app.proofs.RunsOnce.{AreSame, accepted_same}
-
--- a buffer has one least size, or one reason why it isn't told
-pub record OneTight : Type 0 where
-  pub alike : (ops : List Operator) (text : List ℕ) (a : Accepted) (o : Options) (node buffer : ℕ) (one two : Least) →
-      IsAccepted ops o text a → IsTightened a o node buffer one →
-      IsTightened a o node buffer two → AreAlike one two
-  pub kept : (a : Accepted) (o : Options) (node buffer : ℕ) (t : Least) (e : TightError) → IsTightened a o node buffer t →
-      RefusesTight a o node buffer e → ⊥
-  pub only : (a : Accepted) (o : Options) (node buffer : ℕ) (e f : TightError) → RefusesTight a o node buffer e →
-      RefusesTight a o node buffer f → e ≡ f
 
 -- what holds of a buffer of one program of a text holds of it in another
 module _ (a b : Accepted) (same : AreSame a b) (o : Options) where
@@ -116,7 +108,7 @@ module _ (a b : Accepted) (same : AreSame a b) (o : Options) where
         (subst (λ (ns : List PlacedNode). OwesSize a o (node_named ns name) buffer answer) same.nodes owes),
   )
 
-module _ (law : OneTight) (ops : List Operator) (text : List ℕ) (a : Accepted) (o : Options) (is : IsAccepted ops o text a) where
+module _ (law : OneTightest) (ops : List Operator) (text : List ℕ) (a : Accepted) (o : Options) (is : IsAccepted ops o text a) where
   -- what is printed of a buffer is alike
   pub print_alike : (node buffer : ℕ) (x y : List ℕ) → IsTightPrint a o node buffer x → IsTightPrint a o node buffer y →
       AreOneBut AreTightAlike (printed x) (printed y)
@@ -159,7 +151,7 @@ module _ (law : OneTight) (ops : List Operator) (text : List ℕ) (a : Accepted)
   buffer_alike name buffer x y (inr (has, owed)) (inr (holds, owes)) = size_alike (node_named a.placed.nodes name) buffer x y owed owes
 
 -- of a text answers are owed that tell the same of a buffer, but for the cycle
-pub tight_decided : OneTight → (ops : List Operator) (o : Options) (name : List ℕ) (buffer : ℕ) →
+pub tight_decided : OneTightest → (ops : List Operator) (o : Options) (name : List ℕ) (buffer : ℕ) →
     IsDecided AreTightAlike (RefusesCheck ops o) (OwesNamed ops o name buffer)
 tight_decided law ops o name buffer = record {
   one = λ text x y h k.
@@ -175,7 +167,7 @@ pub tight_unrefused : (ops : List Operator) (o : Options) (name : List ℕ) (buf
 tight_unrefused ops o name buffer text print r is bad = checks_apart ops o text is.0 r is.1 bad
 
 -- and what is owed of it may be printed
-pub tight_printed : OneTight → (ops : List Operator) (o : Options) (name : List ℕ) (buffer : ℕ) (text print : List ℕ) (answer : Answer) →
+pub tight_printed : OneTightest → (ops : List Operator) (o : Options) (name : List ℕ) (buffer : ℕ) (text print : List ℕ) (answer : Answer) →
     IsTightOf ops o name buffer text print → OwesNamed ops o name buffer text answer →
     (other : List ℕ) × IsTightOf ops o name buffer text other × (answer ≡ printed other)
 tight_printed law ops o name buffer text print answer (a, is, has, prints) (b, also, inl (lacks, told)) =
@@ -188,7 +180,7 @@ tight_printed law ops o name buffer text print answer (a, is, has, prints) (b, a
     (named_moves a b same o name buffer print prints) refused)
 
 -- prints of one text are alike
-pub prints_alike : OneTight → (ops : List Operator) (o : Options) (name : List ℕ) (buffer : ℕ) (text x y : List ℕ) →
+pub prints_alike : OneTightest → (ops : List Operator) (o : Options) (name : List ℕ) (buffer : ℕ) (text x y : List ℕ) →
     IsTightOf ops o name buffer text x → IsTightOf ops o name buffer text y → AreOneBut AreTightAlike (printed x) (printed y)
 prints_alike law ops o name buffer text x y (a, is, has, prints) (b, also, holds, printing) =
     let same = accepted_same ops o text a b is also in

@@ -17,8 +17,8 @@ use Rattle.lucy_tight.specs.Report.{tight_lines, fixed_lines}
 use Rattle.lucy_app.specs.Answers.{printed}
 use Rattle.lucy_app.specs.Check.{RefusesCheck}
 use Rattle.lucy_app.specs.Programs.{OwesText}
-use Rattle.lucy_app.specs.Tighten.{node_named, HasBuffer, OwesSize, OwesBuffer, OwesNamed}
-use Rattle.lucy_app.specs.Outcomes.{refusal_answer, program_refusal, IsOutcome}
+use Rattle.lucy_app.specs.Tighten.{node_named, HasBuffer, OwesSize, OwesBuffer}
+use Rattle.lucy_app.specs.Outcomes.{refusal_answer, program_refusal, IsOutcome, OwesNamed}
 use Rattle.lucy_app.specs.declared.refusal.Refusal.{Refusal}
 use Rattle.lucy_app.specs.declared.refusal.Refusal.TheVariants.{Program}
 use Rattle.lucy_app.proofs.Told.{check_told}

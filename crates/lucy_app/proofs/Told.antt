@@ -14,12 +14,10 @@ use Rattle.lucy_place.specs.Faults.{faults}
 use Rattle.lucy_place.specs.Placing.{Tells}
 use Rattle.lucy_front.specs.declared.refusal.Refusal.{Refusal as Reason}
 use Rattle.lucy_front.specs.declared.refusal.Refusal.TheVariants as front
-use Rattle.lucy_front.specs.Accepting.{Refuses, syntax_refusal, names_refusal}
+use Rattle.lucy_front.specs.Accepting.{Refuses, syntax_refusal, names_refusal, RefusesSyntax, RefusesText}
 use Rattle.lucy_front.specs.Refusals.{IsTellable}
 use Rattle.lucy_front.proofs.TellableLaws.{tellable}
 use Rattle.lucy_app.specs.Commands.{written_options}
-use Rattle.lucy_app.specs.Show.{RefusesSyntax}
-use Rattle.lucy_app.specs.Types.{RefusesText}
 use Rattle.lucy_app.specs.Check.{RefusesCheck}
 use Rattle.lucy_app.specs.Outcomes.{RefusesProgram, RefusesInput, Tellable, fetch_refusal, program_refusal}
 use Rattle.lucy_app.specs.declared.input_refusal.InputCause.{InputCause}
@@ -29,9 +27,9 @@ use Rattle.lucy_app.proofs.Typed.{text_phases}
 -- a refusal of a syntax
 pub syntax_told : (text : List ℕ) (e : SyntaxError) → (e ≡ syntax.OutOfMemory) ⊎ IsRefused text e → RefusesProgram (RefusesSyntax text) (program_refusal (syntax_refusal e))
 syntax_told text e (inl out) = inl (ap (λ x. program_refusal (syntax_refusal x)) out)
-syntax_told text (syntax.Unexpected place) (inr is) = inr (_, (is, tt), refl)
-syntax_told text (syntax.BadNumber place) (inr is) = inr (_, (is, tt), refl)
-syntax_told text (syntax.BadWord place) (inr is) = inr (_, (is, tt), refl)
+syntax_told text (syntax.Unexpected place) (inr is) = inr (_, is, refl)
+syntax_told text (syntax.BadNumber place) (inr is) = inr (_, is, refl)
+syntax_told text (syntax.BadWord place) (inr is) = inr (_, is, refl)
 syntax_told text (syntax.TooLarge l) (inr is) = inr (_, is, refl)
 syntax_told text syntax.OutOfMemory (inr is) = inl refl
 
@@ -47,11 +45,11 @@ text_told ops text e h = elim (syntax_told text e h) [ inl out ↦ inl out | inr
 -- a refusal of names
 pub names_told : (ops : List Operator) (text : List ℕ) (p : ProgramTree) (e : NameError) → HasTree text p → Tells (faults ops p) e → RefusesProgram (RefusesText ops text) (program_refusal (names_refusal e))
 names_told ops text p e tree (inl out) = inl (ap (λ x. program_refusal (names_refusal x)) out)
-names_told ops text p (names.Unknown span) tree (inr is) = inr (_, (p, tree, is, tt), refl)
-names_told ops text p (names.Twice span) tree (inr is) = inr (_, (p, tree, is, tt), refl)
-names_told ops text p (names.NoResult span) tree (inr is) = inr (_, (p, tree, is, tt), refl)
-names_told ops text p (names.Arity span) tree (inr is) = inr (_, (p, tree, is, tt), refl)
-names_told ops text p (names.LaterNode span) tree (inr is) = inr (_, (p, tree, is, tt), refl)
+names_told ops text p (names.Unknown span) tree (inr is) = inr (_, (p, tree, is), refl)
+names_told ops text p (names.Twice span) tree (inr is) = inr (_, (p, tree, is), refl)
+names_told ops text p (names.NoResult span) tree (inr is) = inr (_, (p, tree, is), refl)
+names_told ops text p (names.Arity span) tree (inr is) = inr (_, (p, tree, is), refl)
+names_told ops text p (names.LaterNode span) tree (inr is) = inr (_, (p, tree, is), refl)
 names_told ops text p (names.TooMany l) tree (inr is) = inr (_, inr (p, tree, is), refl)
 names_told ops text p names.OutOfMemory tree (inr is) = inl refl
 

@@ -15,10 +15,11 @@ use Rattle.lucy_types.specs.Programs.{IsTyped, IsClash}
 use Rattle.lucy_types.proofs.ProgramLaws.{typed_unique, clash_untyped}
 use Rattle.lucy_front.specs.declared.refusal.Refusal.{Refusal}
 use Rattle.lucy_front.specs.declared.refusal.Refusal.TheVariants.{Syntax, Names, Types, Limit as LimitPassed}
-use Rattle.lucy_front.specs.Accepting.{IsPlacedText, RefusesPhases}
+use Rattle.lucy_front.specs.Accepting.{IsPlacedText, RefusesPhases, RefusesText}
+use Rattle.lucy_front.proofs.OneAnswer.{syntax_refused, names_refused}
 use Rattle.lucy_app.specs.Commands.{written_options}
 use Rattle.lucy_app.specs.Report.{report}
-use Rattle.lucy_app.specs.Types.{IsReportOf, RefusesText}
+use Rattle.lucy_app.specs.Types.{IsReportOf}
 use Rattle.lucy_app.proofs.Verdicts.{IsVerdict, phases_alike}
 
 -- no first fault without faults
@@ -41,8 +42,8 @@ module _ (ops : List Operator) (text : List ℕ) where
   good_names v p e x read first = no_first (faults ops p) e (subst (λ t. faults ops t ≡ []) (one_program text x.tree p x.read read) x.is_placed.good) first
 
   report_apart : (x : List ℕ) (r : Refusal) → IsReportOf ops text x → RefusesText ops text r → ⊥
-  report_apart x (Syntax e) is bad = tree_or_error text is.2.program.tree e is.2.program.read bad.0
-  report_apart x (Names e) is bad = good_names is.0 bad.0 e is.2.program bad.1 bad.2
+  report_apart x (Syntax e) is bad = tree_or_error text is.2.program.tree e is.2.program.read (syntax_refused text e bad)
+  report_apart x (Names e) is bad = let (p, read, first) = names_refused ops text e bad in good_names is.0 p e is.2.program read first
   report_apart x (Types placed node path) is bad =
       let same : placed.nodes ≡ is.0.nodes = nodes_one placed is.0 bad.0 is.2.program in
       clash_untyped is.0.nodes is.1 node path.items (subst (λ ns. IsClash ns node path.items) same bad.1) is.2.typed
@@ -54,8 +55,7 @@ module _ (ops : List Operator) (text : List ℕ) where
   text_phases (Syntax e) h = h
   text_phases (Names e) h = h
   text_phases (Types placed node path) h = h
-  text_phases (LimitPassed l) (inl h) = inl h
-  text_phases (LimitPassed l) (inr h) = inr (inl h)
+  text_phases (LimitPassed l) h = inl h
   text_phases r h = absurd h
 
 pub types_verdict : (ops : List Operator) → IsVerdict (IsReportOf ops) (RefusesText ops)

@@ -8,11 +8,11 @@ use Rattle.lucy_grammar.specs.Texts.{HasTree}
 use Rattle.lucy_grammar.proofs.TextLaws.{one_program, tree_or_error}
 use Rattle.lucy_front.specs.declared.refusal.Refusal.{Refusal}
 use Rattle.lucy_front.specs.declared.refusal.Refusal.TheVariants.{Syntax, Limit as LimitPassed, OutOfMemory}
-use Rattle.lucy_front.specs.Accepting.{RefusesPhases}
+use Rattle.lucy_front.specs.Accepting.{RefusesPhases, RefusesSyntax}
 use Rattle.lucy_front.specs.OneAnswer.{AreAlike}
-use Rattle.lucy_front.proofs.OneAnswer.{one_refusal}
+use Rattle.lucy_front.proofs.OneAnswer.{one_refusal, syntax_refused}
 use Rattle.lucy_app.specs.Commands.{written_options}
-use Rattle.lucy_app.specs.Show.{IsPrintOf, RefusesSyntax}
+use Rattle.lucy_app.specs.Show.{IsPrintOf}
 
 -- a text has one print, or none and refusals that are alike
 pub record IsVerdict (Prints : List ℕ → List ℕ → Type 0) (Refuses : List ℕ → Refusal → Type 0) : Type 0 where
@@ -32,7 +32,7 @@ phases_alike ops Refuses text r s phases some h k =
 
 syntax_phases : (text : List ℕ) (r : Refusal) → RefusesSyntax text r → RefusesPhases [] written_options text r
 syntax_phases text (Syntax e) h = h
-syntax_phases text (LimitPassed l) h = inl h
+syntax_phases text (LimitPassed l) h = inl (inl h)
 syntax_phases text r h = absurd h
 
 syntax_equal : (text : List ℕ) (r s : Refusal) → RefusesSyntax text r → AreAlike r s → r ≡ s
@@ -46,7 +46,7 @@ one_syntax text r s h k = syntax_equal text r s h (phases_alike [] RefusesSyntax
 
 -- a text that has a tree is not refused
 tree_is_not_refused : (text : List ℕ) (p : ProgramTree) (r : Refusal) → HasTree text p → RefusesSyntax text r → ⊥
-tree_is_not_refused text p (Syntax e) tree h = tree_or_error text p e tree h.0
+tree_is_not_refused text p (Syntax e) tree h = tree_or_error text p e tree (syntax_refused text e h)
 tree_is_not_refused text p (LimitPassed l) tree h = tree_or_error text p (syntax.TooLarge l) tree h
 tree_is_not_refused text p r tree h = absurd h
 

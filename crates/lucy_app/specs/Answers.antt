@@ -1,5 +1,6 @@
 -- The answers of commands.
-use Rattle.std.specs.Prelude.{ℕ, ◌≡◌, ◌⊎◌, List, [], codes}
+use Rattle.std.specs.Prelude.{ℕ, ◌≡◌, ◌⊎◌, List, [], ◌++◌, codes}
+use Rattle.std.specs.Fmt.{decimal}
 use Rattle.lucy_word.specs.declared.limit.Limit.{Limit}
 use Rattle.lucy_front.specs.declared.refusal.Refusal.{Refusal}
 use Rattle.lucy_front.specs.Refusals.{limit_line, memory_line, refusal_text}
@@ -11,8 +12,8 @@ use Rattle.lucy_tight.specs.Report.{tight_lines}
 use Rattle.lucy_net.specs.declared.net.Net.{Net}
 use Rattle.lucy_trace.specs.Traces.{IsTraceText}
 use Rattle.lucy_trace.specs.declared.error.TraceError.{TraceError}
+use Rattle.lucy_trace.specs.declared.error.TraceError.TheVariants.{BadNumber, NotPossible, OutOfMemory}
 use Rattle.lucy_command.specs.Commands.{Command, ProgramWords, Tighten, Trace}
-use Rattle.lucy_app.specs.Lines.{log_line, read_fault_line}
 use Rattle.lucy_app.specs.ProgramRefusals.{program_status}
 use Rattle.lucy_app.specs.InputRefusals.{input_told}
 use Rattle.lucy_app.specs.declared.input_refusal.InputCause.{InputCause}
@@ -45,7 +46,7 @@ no_buffer = refused 2 (codes "lucy: words: no such buffer\n")
 
 -- a fetch or a read failed, or no file has the name
 abbrev pub read_fault : Answer
-read_fault = refused 4 read_fault_line
+read_fault = refused 4 (codes "lucy: read fault\n")
 
 -- a limit is passed
 abbrev pub limit_passed : Limit → Answer
@@ -58,6 +59,12 @@ program_refused refusal = refused (program_status refusal) (refusal_text refusal
 -- the input is refused for this cause
 abbrev pub input_refused : InputCause → Answer
 input_refused cause = refused (input_told cause).0 (input_told cause).1
+
+-- a field of a log is no number of an actor, or an event isn't possible
+abbrev pub log_line : TraceError → List ℕ
+log_line (BadNumber place) = codes "lucy: log: bad number at " ++ (decimal place ++ codes "\n")
+log_line (NotPossible event actor) = codes "lucy: log: event " ++ (decimal event ++ (codes " of actor " ++ (decimal actor ++ codes " is not possible\n")))
+log_line OutOfMemory = memory_line
 
 -- a log is refused so
 abbrev pub log_refused : TraceError → Answer

@@ -1,5 +1,6 @@
 -- What commands work with: how they find the clocks of a program, and what they call.
-use Rattle.std.specs.Prelude.{ℕ, ◌≢◌, false, true, List, [], ◌∷◌, drop, Option, Some, None, Result, IsOkAnd}
+use Rattle.std.specs.Prelude.{ℕ, ◌≢◌, false, true, List, [], ◌∷◌, drop, Option, Some, None, Result, IsSomeAnd, IsOkAnd}
+use Rattle.std.specs.Option.{option_map, option_and_then}
 use Rattle.lucy_word.specs.Limits.{limit_number}
 use Rattle.lucy_word.specs.declared.limit.Limit.TheVariants as limit
 use Rattle.lucy_fields.specs.Readings.{AreRead}
@@ -10,7 +11,8 @@ use Rattle.lucy_feed.specs.Feeding.{IsAsked}
 use Rattle.lucy_front.specs.declared.accepted.Accepted.{Accepted}
 use Rattle.lucy_front.specs.declared.options.Options.{Options}
 use Rattle.lucy_front.specs.Accepting.{IsAccepted}
-use Rattle.lucy_command.specs.Commands.{Command, Order, Show, Types, Check, Clocks, Run, Kahn, Tighten, Replay, Trace}
+use Rattle.lucy_front.specs.Names.{of_one}
+use Rattle.lucy_command.specs.Commands.{ProgramWords, Command, Order, Show, Types, Check, Clocks, Run, Kahn, Tighten, Replay, Trace}
 
 -- each node has to be written
 abbrev pub written_options : Options
@@ -33,27 +35,28 @@ program_of file = record { file = file; most = limit_number limit.Text }
 abbrev pub log_of : (file : List ℕ) → Wanted
 log_of file = record { file = file; most = limit_number limit.Log }
 
+-- what a command works on that runs the program of FILE
+abbrev pub running_words : Command → Option ProgramWords
+running_words (Run words workers block) = Some words
+running_words (Kahn words) = Some words
+running_words (Replay words log) = Some words
+running_words (Trace words workers) = Some words
+running_words command = None
+
 -- what the shelf is asked for in turn, where the words name this command or none
 abbrev pub files_of : Option Command → List Wanted
 files_of (Some (Show file)) = program_of file ∷ []
 files_of (Some (Types file)) = program_of file ∷ []
 files_of (Some (Check file)) = program_of file ∷ []
 files_of (Some (Clocks words)) = program_of words.file ∷ []
-files_of (Some (Run words workers block)) = program_of words.file ∷ []
-files_of (Some (Kahn words)) = program_of words.file ∷ []
 files_of (Some (Tighten words node buffer)) = program_of words.file ∷ []
 files_of (Some (Replay words log)) = program_of words.file ∷ (log_of log ∷ [])
-files_of (Some (Trace words workers)) = program_of words.file ∷ []
-files_of other = []
+files_of found = of_one (λ words. program_of words.file ∷ []) (option_and_then running_words found)
 
 -- how many bytes may be taken from the source, and one more, where the words name a command that may read it
 abbrev pub input_of : Option Command → Option ℕ
 input_of (Some Order) = Some (limit_number limit.OrderInput)
-input_of (Some (Run words workers block)) = Some (limit_number limit.Input)
-input_of (Some (Kahn words)) = Some (limit_number limit.Input)
-input_of (Some (Replay words log)) = Some (limit_number limit.Input)
-input_of (Some (Trace words workers)) = Some (limit_number limit.Input)
-input_of other = None
+input_of found = option_map (λ words. limit_number limit.Input) (option_and_then running_words found)
 
 -- what was fetched first is a text of which this holds
 abbrev pub HasText : List (Result (List ℕ) ShelfError) → (Holds : List ℕ → Type 0) → Type 0
@@ -64,15 +67,12 @@ HasText (fetched ∷ more) Holds = IsOkAnd fetched Holds
 abbrev pub TakesInput : List Operator → Options → (fetched : List (Result (List ℕ) ShelfError)) → (taken : List ℕ) → Type 0
 TakesInput ops o fetched taken = HasText fetched (λ text. (a : Accepted) × IsAccepted ops o text a × (a.inputs.items ≢ []) × IsAsked a.inputs.items taken)
 
--- what was fetched next is a log of numbers of actors
-abbrev pub HasLog : List (Result (List ℕ) ShelfError) → Type 0
-HasLog fetched = HasText (drop 1 fetched) (λ log. (picks : List ℕ) × AreRead (picks_of log) picks)
-
--- a command takes these bytes from the source where the host has these operators and this was fetched
+-- a command takes these bytes from the source where the host has these operators and this was fetched; `replay` where what was fetched
+-- next is a log of numbers of actors
 abbrev pub ReadsSource : Command → List Operator → (fetched : List (Result (List ℕ) ShelfError)) → (taken : List ℕ) → Type 0
 ReadsSource Order ops fetched taken = Unit {0}
-ReadsSource (Run words workers block) ops fetched taken = TakesInput ops (inferring_options words.scale words.lead) fetched taken
-ReadsSource (Kahn words) ops fetched taken = TakesInput ops (inferring_options words.scale words.lead) fetched taken
-ReadsSource (Replay words log) ops fetched taken = TakesInput ops (inferring_options words.scale words.lead) fetched taken × HasLog fetched
-ReadsSource (Trace words workers) ops fetched taken = TakesInput ops (inferring_options words.scale words.lead) fetched taken
-ReadsSource command ops fetched taken = ⊥
+ReadsSource (Replay words log) ops fetched taken =
+    TakesInput ops (inferring_options words.scale words.lead) fetched taken
+    × HasText (drop 1 fetched) (λ text. (picks : List ℕ) × AreRead (picks_of text) picks)
+ReadsSource command ops fetched taken =
+    IsSomeAnd (running_words command) (λ words. TakesInput ops (inferring_options words.scale words.lead) fetched taken)

@@ -7,16 +7,19 @@ use Rattle.lucy_lines.specs.declared.reader.TextFault.TheVariants.{BadLine, Unkn
 use Rattle.lucy_front.specs.Refusals.{limit_line, memory_line}
 use Rattle.lucy_run.specs.declared.ending.Ending.{Ending}
 use Rattle.lucy_run.specs.declared.ending.Ending.TheVariants.{Done, Input, Limit, WriteFault, OutOfMemory}
-use Rattle.lucy_app.specs.Lines.{read_fault_line, write_fault_line}
-use Rattle.lucy_app.specs.Answers.{Answer}
+use Rattle.lucy_app.specs.Answers.{Answer, read_fault}
 
 -- the status of a fault of the input, and its line
 abbrev pub fault_told : TextFault → ℕ × List ℕ
 fault_told (BadLine number) = (3, codes "lucy: input line " ++ (decimal number ++ codes ": not a name and a value\n"))
 fault_told (UnknownStream number) = (3, codes "lucy: input line " ++ (decimal number ++ codes ": unknown stream\n"))
 fault_told (BadValue number) = (3, codes "lucy: input line " ++ (decimal number ++ codes ": bad value\n"))
-fault_told ReadFault = (4, read_fault_line)
+fault_told ReadFault = (4, read_fault.err)
 fault_told TooLong = (6, limit_line limit.Input)
+
+-- a write to the output failed
+abbrev pub write_fault_line : List ℕ
+write_fault_line = codes "lucy: write fault\n"
 
 -- the status of the end of a run, and its lines
 abbrev pub ending_told : Ending → ℕ × List ℕ

@@ -1,5 +1,5 @@
 -- How a command ends: its status, and what it leaves of what it was lent.
-use Rattle.std.specs.Prelude.{ℕ, ◌≡◌, ◌⊎◌, List, [], Option, None, Some}
+use Rattle.std.specs.Prelude.{ℕ, ◌≡◌, ◌⊎◌, List, [], Option, None, Some, MatchOption}
 use Rattle.lucy_text.specs.Outside.{SeenSink, Writes, Fails}
 use Rattle.lucy_host.specs.Operators.{kinds_of}
 use Rattle.lucy_front.specs.declared.accepted.Accepted.{Accepted}
@@ -8,13 +8,12 @@ use Rattle.lucy_front.specs.Refusals.{limit_line, memory_line}
 use Rattle.lucy_run.specs.declared.ending.Ending.{Ending}
 use Rattle.lucy_run.specs.declared.ending.Ending.TheVariants as ending
 use Rattle.lucy_run.specs.Ends.{IsFrontOf, FailsInOrder}
-use Rattle.lucy_command.specs.Commands.{Command, Run, Kahn, Replay, Trace}
+use Rattle.lucy_command.specs.Commands.{Command, Run}
 use Rattle.lucy_command.specs.Named.{block_or_default}
-use Rattle.lucy_app.specs.Commands.{inferring_options, HasText}
+use Rattle.lucy_app.specs.Commands.{inferring_options, running_words, HasText}
 use Rattle.lucy_app.specs.World.{World, Given, Meets}
-use Rattle.lucy_app.specs.Lines.{write_fault_line}
 use Rattle.lucy_app.specs.Answers.{Answer, no_command, out_of_memory}
-use Rattle.lucy_app.specs.Endings.{fault_told, ending_told}
+use Rattle.lucy_app.specs.Endings.{write_fault_line, fault_told, ending_told}
 use Rattle.lucy_app.specs.Owes.{Owes, OwesOutput}
 
 -- the lines were told and the call ends with their status, or they failed
@@ -38,23 +37,16 @@ pub record Breaks (output : List ℕ) (out out' err err' : SeenSink) (status : �
   pub failed : Fails out out' output
   pub told : Tells 5 write_fault_line err err' status
 
--- what is owed may be answered; or memory runs out, when such a front stands there
-abbrev pub MayAnswer : (Owed : Answer → Type 0) (Stands : List ℕ → Type 0) → Answer → Type 0
-MayAnswer Owed Stands answer = Owed answer ⊎ ((front : List ℕ) × Stands front × (answer ≡ out_of_memory front))
-
--- how a command ends that owes such answers, of which such a front may stand, and such an output may fail
+-- how a command ends that owes such answers, and whose output may fail so: an answer that is owed was given, or memory ran out, when such a
+-- front stands there; or its output failed
 abbrev pub EndsBy : (Owed : Answer → Type 0) (Stands MayFail : List ℕ → Type 0) → (out out' err err' : SeenSink) (status : ℕ) → Type 0
 EndsBy Owed Stands MayFail out out' err err' status =
-    ((answer : Answer) × MayAnswer Owed Stands answer × Answers answer out out' err err' status)
+    ((answer : Answer) × (Owed answer ⊎ ((front : List ℕ) × Stands front × (answer ≡ out_of_memory front))) × Answers answer out out' err err' status)
     ⊎ ((output : List ℕ) × MayFail output × Breaks output out out' err err' status)
 
--- where memory runs out a front of an output that is owed stands of `run`, `kahn`, `trace` and `replay`, and nothing of the others
+-- where memory runs out a front of an output that is owed stands of the commands that run FILE, and nothing of the others
 abbrev pub MayStand : Command → Given → (front : List ℕ) → Type 0
-MayStand (Run words workers block) given front = IsFrontOf (OwesOutput (Run words workers block) given) front
-MayStand (Kahn words) given front = IsFrontOf (OwesOutput (Kahn words) given) front
-MayStand (Replay words log) given front = IsFrontOf (OwesOutput (Replay words log) given) front
-MayStand (Trace words workers) given front = IsFrontOf (OwesOutput (Trace words workers) given) front
-MayStand command given front = front ≡ []
+MayStand command given front = MatchOption (running_words command) (front ≡ []) (λ words. IsFrontOf (OwesOutput command given) front)
 
 -- where the output fails nothing more is read: `run` has read nothing behind a report that failed, and no more than its block needs
 -- behind a line that did; the others read before they write
@@ -67,18 +59,15 @@ StopsInOrder command given out out' = Unit {0}
 abbrev pub MayFail : Command → Given → (out out' : SeenSink) → (output : List ℕ) → Type 0
 MayFail command given out out' output = OwesOutput command given output × StopsInOrder command given out out'
 
--- how a command ends, by what it has met
-abbrev pub EndsGiven : Command → Given → (before after : World) (status : ℕ) → Type 0
-EndsGiven command given before after status =
-    EndsBy (Owes command given) (MayStand command given) (MayFail command given before.out after.out) before.out after.out before.err after.err status
-
 -- nothing is called and nothing is printed, and this is answered
 abbrev pub Declines : Answer → (before after : World) (status : ℕ) → Type 0
 Declines answer before after status = (after.shelf ≡ before.shelf) × (after.source ≡ before.source) × Answers answer before.out after.out before.err after.err status
 
--- how the top call ends that carries out a command
+-- how the top call ends that carries out a command, by what it has met
 abbrev pub EndsSo : Command → (before after : World) (status : ℕ) → Type 0
-EndsSo command before after status = (given : Given) × Meets command before after given × EndsGiven command given before after status
+EndsSo command before after status =
+    (given : Given) × Meets command before after given
+    × EndsBy (Owes command given) (MayStand command given) (MayFail command given before.out after.out) before.out after.out before.err after.err status
 
 -- how the top call ends, where the words name this command or none; memory may run out before the command is carried out
 abbrev pub Ends : Option Command → (before after : World) (status : ℕ) → Type 0

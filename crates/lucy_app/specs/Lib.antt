@@ -1,7 +1,6 @@
 -- What callers believe, in the order to read it.
 pub mod Commands
 pub mod World
-pub mod Lines
 pub mod ProgramRefusals
 pub mod InputRefusals
 pub mod Answers
@@ -20,6 +19,7 @@ pub mod Owes
 pub mod Ends
 pub mod Complete
 pub mod Engines
+pub mod Laws
 pub mod Operators
 -- What only serves the proof of the body.
 pub mod Outcomes

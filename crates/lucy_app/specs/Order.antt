@@ -34,11 +34,9 @@ RefusesWord number text (NoOne which) = (which ≡ number) × Refuses text word.
 RefusesWord number text (Limit passed) = (passed ≡ limit.Written) × Refuses text word.TooLong
 RefusesWord number text (Count count) = ⊥
 
--- the fields are refused for this cause: their count, else the first word that is refused, else that too many instants decide
+-- the fields are refused for this cause: of two the first word that is refused, else that too many instants decide; else their count
 abbrev pub RefusesFields : List (List ℕ) → InputCause → Type 0
-RefusesFields texts cause =
-    ((length texts ≡ 2 → ⊥) × (cause ≡ Count (length texts)))
-    ⊎ (((u : List ℕ) × (v : List ℕ) × (texts ≡ u ∷ v ∷ []) × RefusesWord 1 u cause)
-    ⊎ (((u : List ℕ) × (v : List ℕ) × (a : Bits) × (texts ≡ u ∷ v ∷ []) × IsReadable u a × RefusesWord 2 v cause)
-    ⊎ ((u : List ℕ) × (v : List ℕ) × (a : Bits) × (b : Bits) × (texts ≡ u ∷ v ∷ []) × IsReadable u a × IsReadable v b × AreFar a b
-    × (cause ≡ Limit limit.Compare))))
+RefusesFields (u ∷ (v ∷ [])) cause =
+    RefusesWord 1 u cause
+    ⊎ ((a : Bits) × IsReadable u a × (RefusesWord 2 v cause ⊎ ((b : Bits) × IsReadable v b × AreFar a b × (cause ≡ Limit limit.Compare))))
+RefusesFields texts cause = cause ≡ Count (length texts)

@@ -14,7 +14,7 @@ use Rattle.lucy_front.specs.declared.refusal.Refusal.{Refusal as Reason}
 use Rattle.lucy_front.specs.declared.refusal.Refusal.TheVariants as front
 use Rattle.lucy_front.specs.declared.options.Options.{Options}
 use Rattle.lucy_command.specs.declared.words.MakeWords.{MakeWords}
-use Rattle.lucy_command.specs.Commands.{Make}
+use Rattle.lucy_command.specs.Commands.{Command, Make}
 use Rattle.lucy_front.specs.Refusals.{memory_line, IsTellable}
 use Rattle.lucy_feed.specs.declared.read.ReadError.{ReadError}
 use Rattle.lucy_feed.specs.declared.read.ReadError.TheVariants as read
@@ -27,11 +27,12 @@ use Rattle.lucy_run.specs.Ends.{IsFrontOf}
 use Rattle.lucy_run.specs.declared.ending.Ending.{Ending}
 use Rattle.lucy_app.specs.Answers.{Answer, printed, read_fault, no_instants, no_buffer, program_refused, input_refused, log_refused, out_of_memory}
 use Rattle.lucy_app.specs.Commands.{HasText}
-use Rattle.lucy_app.specs.Running.{NoRun, IsRunnable, OwesRunning}
+use Rattle.lucy_app.specs.Running.{IsRunnable, OwesRunning}
 use Rattle.lucy_app.specs.Replaying.{OwesEvents, OwesLog}
 use Rattle.lucy_feed.specs.Sources.{Stop, Unread}
-use Rattle.lucy_app.specs.World.{Given}
+use Rattle.lucy_app.specs.World.{World, Given}
 pub use Rattle.lucy_app.specs.World.{bytes_of}
+use Rattle.lucy_app.specs.Tighten.{OwesBuffer}
 use Rattle.lucy_app.specs.Owes.{Owes}
 use Rattle.lucy_app.specs.Ends.{Tells, Answers, Breaks, EndsBy, MayStand, MayFail}
 pub use Rattle.lucy_app.specs.Ends.{TellsEnding}
@@ -107,6 +108,10 @@ abbrev pub read_refusal : ReadError → Refusal
 read_refusal read.Failed = ReadFault
 read_refusal read.OutOfMemory = OutOfMemory
 
+-- nothing is owed of a run
+abbrev pub NoRun : Accepted → (output : List ℕ) → Ending → Type 0
+NoRun a output end = ⊥
+
 -- what was fetched is a program that can be run, or is refused, but for want of memory
 abbrev pub IsAccepting : List Operator → Options → (instants : Option ℕ) → List (Result (List ℕ) ShelfError) → Result Accepted Refusal → Type 0
 IsAccepting ops o instants fetched accepted =
@@ -162,3 +167,12 @@ LogOutputs ops a instants taken stop log output = (answer : Answer) × OwesLog (
 abbrev pub EndsLog : List Operator → Accepted → (instants : Option ℕ) → (taken : List ℕ) → Stop → (log : Result (List ℕ) ShelfError) → (out out' err err' : SeenSink) (status : ℕ) → Type 0
 EndsLog ops a instants taken stop log out out' err err' status =
     EndsBy (OwesLog (OwesEvents ops a instants taken stop) stop log) (IsFrontOf (LogOutputs ops a instants taken stop log)) (LogOutputs ops a instants taken stop log) out out' err err' status
+
+-- what is owed of a text that is accepted, of the buffer that is named so
+abbrev pub OwesNamed : List Operator → Options → (name : List ℕ) → (buffer : ℕ) → (text : List ℕ) → Answer → Type 0
+OwesNamed ops o name buffer text answer = (a : Accepted) × IsAccepted ops o text a × OwesBuffer a o name buffer answer
+
+-- how a command ends, by what it has met
+abbrev pub EndsGiven : Command → Given → (before after : World) (status : ℕ) → Type 0
+EndsGiven command given before after status =
+    EndsBy (Owes command given) (MayStand command given) (MayFail command given before.out after.out) before.out after.out before.err after.err status

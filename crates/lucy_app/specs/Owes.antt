@@ -6,7 +6,8 @@ use Rattle.lucy_lines.specs.declared.reader.TextFault.{TextFault}
 use Rattle.lucy_feed.specs.Sources.{Stop, Ended, Failed, Passed}
 use Rattle.lucy_net.specs.declared.net.Net.{Net}
 use Rattle.lucy_front.specs.declared.accepted.Accepted.{Accepted}
-use Rattle.lucy_front.specs.Accepting.{IsAccepted}
+use Rattle.lucy_front.specs.Accepting.{IsAccepted, RefusesSyntax, RefusesText}
+use Rattle.lucy_run.specs.declared.ending.Ending.{Ending}
 use Rattle.lucy_run.specs.Feeds.{CountsAs}
 use Rattle.lucy_run.specs.Owes.{IsFed, OwesRun, OwesKahn}
 use Rattle.lucy_run.specs.Tracing.{OwesTrace}
@@ -18,11 +19,11 @@ use Rattle.lucy_app.specs.World.{Given}
 use Rattle.lucy_app.specs.Answers.{Answer, printed, read_fault, limit_passed, input_refused}
 use Rattle.lucy_app.specs.Fields.{fields}
 use Rattle.lucy_app.specs.Order.{IsVerdictLine, RefusesFields}
-use Rattle.lucy_app.specs.Show.{IsPrintOf, RefusesSyntax}
-use Rattle.lucy_app.specs.Types.{IsReportOf, RefusesText}
+use Rattle.lucy_app.specs.Show.{IsPrintOf}
+use Rattle.lucy_app.specs.Types.{IsReportOf}
 use Rattle.lucy_app.specs.Check.{IsCheckOf, RefusesCheck}
 use Rattle.lucy_app.specs.Programs.{OwesText, OwesPrint}
-use Rattle.lucy_app.specs.Tighten.{OwesNamed}
+use Rattle.lucy_app.specs.Tighten.{OwesBuffer}
 use Rattle.lucy_app.specs.Running.{OwesRunning}
 use Rattle.lucy_app.specs.Replaying.{OwesLogged}
 use Rattle.lucy_app.specs.declared.input_refusal.InputCause.{InputCause}
@@ -36,6 +37,12 @@ OwesOrder taken Failed answer = answer ≡ read_fault
 OwesOrder taken Passed answer = answer ≡ limit_passed limit.OrderInput
 OwesOrder taken stop answer = ⊥
 
+-- what a command owes that runs the program of FILE, where a run owes this by the instants, the bytes taken and how reading stopped
+abbrev pub OwesPlay : (Owed : Accepted → Option ℕ → List ℕ → Stop → List ℕ → Ending → Type 0) → ProgramWords → Given → Answer → Type 0
+OwesPlay Owed words given answer =
+    OwesRunning (λ a. Owed a words.instants given.taken given.stop) given.operators (inferring_options words.scale words.lead) words.instants
+    given.stop given.fetched answer
+
 -- a command owes this answer
 abbrev pub Owes : Command → Given → Answer → Type 0
 Owes Order given answer = OwesOrder given.taken given.stop answer
@@ -46,23 +53,18 @@ Owes (Check file) given answer =
 Owes (Clocks words) given answer =
     let o = inferring_options words.scale words.lead in
     OwesText (RefusesCheck given.operators o) (OwesPrint (IsCheckOf given.operators o)) given.stop given.fetched answer
-Owes (Run words workers block) given answer =
-    OwesRunning (λ a. OwesRun (kinds_of given.operators) a words.instants given.taken given.stop) given.operators
-    (inferring_options words.scale words.lead) words.instants given.stop given.fetched answer
-Owes (Kahn words) given answer =
-    OwesRunning (λ a. OwesKahn (kinds_of given.operators) a words.instants given.taken given.stop) given.operators
-    (inferring_options words.scale words.lead) words.instants given.stop given.fetched answer
+Owes (Run words workers block) given answer = OwesPlay (OwesRun (kinds_of given.operators)) words given answer
+Owes (Kahn words) given answer = OwesPlay (OwesKahn (kinds_of given.operators)) words given answer
 Owes (Make words) given answer =
     OwesRunning (OwesSummary words.stages (kinds_of given.operators)) given.operators (inferring_options 1 1) None given.stop
     (Ok (made_text words.stages) ∷ []) answer
 Owes (Tighten words node buffer) given answer =
     let o = inferring_options words.scale words.lead in
-    OwesText (RefusesCheck given.operators o) (OwesNamed given.operators o node buffer) given.stop given.fetched answer
+    OwesText (RefusesCheck given.operators o) (λ text told. (a : Accepted) × IsAccepted given.operators o text a × OwesBuffer a o node buffer told)
+    given.stop given.fetched answer
 Owes (Replay words log) given answer =
     OwesLogged given.operators (inferring_options words.scale words.lead) words.instants given.taken given.stop given.fetched answer
-Owes (Trace words workers) given answer =
-    OwesRunning (λ a. OwesTrace a words.instants given.taken given.stop) given.operators (inferring_options words.scale words.lead)
-    words.instants given.stop given.fetched answer
+Owes (Trace words workers) given answer = OwesPlay OwesTrace words given answer
 
 -- the net and the horizon of the run whose trace `trace` owes, by what it has met
 abbrev pub HasRun : Given → ProgramWords → Net → (horizon : ℕ) → Type 0

@@ -3,7 +3,6 @@ use Rattle.std.specs.Prelude.{ℕ, ◌≡◌, ◌⊎◌, List, [], ◌∷◌, Op
 use Rattle.lucy_word.specs.declared.limit.Limit.TheVariants as limit
 use Rattle.lucy_host.specs.Operators.{Operator}
 use Rattle.lucy_text.specs.declared.shelf.ShelfError.{ShelfError}
-use Rattle.lucy_text.specs.declared.shelf.ShelfError.TheVariants as shelf
 use Rattle.lucy_feed.specs.Sources.{Stop, Unread}
 use Rattle.lucy_fields.specs.Readings.{AreRead, IsFirstBad}
 use Rattle.lucy_trace.specs.Logs.{picks_of}
@@ -13,9 +12,10 @@ use Rattle.lucy_front.specs.declared.accepted.Accepted.{Accepted}
 use Rattle.lucy_front.specs.declared.options.Options.{Options}
 use Rattle.lucy_run.specs.declared.ending.Ending.{Ending}
 use Rattle.lucy_run.specs.Replays.{OwesReplay}
-use Rattle.lucy_app.specs.Answers.{Answer, read_fault, limit_passed, log_refused}
+use Rattle.lucy_app.specs.Answers.{Answer, log_refused}
 use Rattle.lucy_app.specs.Endings.{ended}
-use Rattle.lucy_app.specs.Running.{NoRun, IsRunnable, OwesRunning}
+use Rattle.lucy_app.specs.Programs.{OwesUnfetched}
+use Rattle.lucy_app.specs.Running.{IsRunnable, OwesRunning}
 
 -- the answer of a replay that came to this
 abbrev pub replayed : (output : List ℕ) → Result Ending TraceError → Answer
@@ -32,15 +32,12 @@ abbrev pub OwesLog : (Owed : (picks : List ℕ) → Answer → Type 0) → Stop 
 OwesLog Owed stop (Ok text) answer =
     ((place : ℕ) × IsFirstBad (picks_of text) place × (answer ≡ log_refused (BadNumber place)) × (stop ≡ Unread))
     ⊎ ((picks : List ℕ) × AreRead (picks_of text) picks × Owed picks answer)
-OwesLog Owed stop (Err shelf.Failed) answer = (answer ≡ read_fault) × (stop ≡ Unread)
-OwesLog Owed stop (Err shelf.Missing) answer = (answer ≡ read_fault) × (stop ≡ Unread)
-OwesLog Owed stop (Err shelf.TooLong) answer = (answer ≡ limit_passed limit.Log) × (stop ≡ Unread)
-OwesLog Owed stop (Err shelf.OutOfMemory) answer = ⊥
+OwesLog Owed stop (Err e) answer = OwesUnfetched limit.Log e answer × (stop ≡ Unread)
 
 -- `replay`: where FILE alone was fetched its refusal, or that the instants are missing; where LOG was fetched too the program can be
 -- run, and it is what is owed of LOG
 abbrev pub OwesLogged : List Operator → Options → (instants : Option ℕ) → (taken : List ℕ) → Stop → (fetched : List (Result (List ℕ) ShelfError)) → Answer → Type 0
-OwesLogged ops o instants taken stop (file ∷ []) answer = OwesRunning NoRun ops o instants stop (file ∷ []) answer
+OwesLogged ops o instants taken stop (file ∷ []) answer = OwesRunning (λ a output end. ⊥) ops o instants stop (file ∷ []) answer
 OwesLogged ops o instants taken stop (file ∷ (log ∷ [])) answer =
     IsOkAnd file (λ text. (a : Accepted) × IsRunnable ops o instants text a × OwesLog (OwesEvents ops a instants taken stop) stop log answer)
 OwesLogged ops o instants taken stop fetched answer = ⊥

@@ -20,10 +20,6 @@ LacksInstants a instants = (a.inputs.items ≡ []) × (instants ≡ None)
 abbrev pub IsRunnable : List Operator → Options → (instants : Option ℕ) → (text : List ℕ) → Accepted → Type 0
 IsRunnable ops o instants text a = IsAccepted ops o text a × (LacksInstants a instants → ⊥)
 
--- nothing is owed of a run
-abbrev pub NoRun : Accepted → (output : List ℕ) → Ending → Type 0
-NoRun a output end = ⊥
-
 -- of a program that is run: that its instants are missing, where nothing is read, or the output and the ending that the run owes
 abbrev pub OwesEnded : (Owed : List ℕ → Ending → Type 0) → (instants : Option ℕ) → Stop → Accepted → Answer → Type 0
 OwesEnded Owed instants stop a answer =

@@ -40,10 +40,6 @@ OwesBuffer a o name buffer answer =
     ((HasBuffer a.placed.nodes name buffer → ⊥) × (answer ≡ no_buffer))
     ⊎ (HasBuffer a.placed.nodes name buffer × OwesSize a o (node_named a.placed.nodes name) buffer answer)
 
--- what is owed of a text that is accepted, of the buffer that is named so
-abbrev pub OwesNamed : List Operator → Options → (name : List ℕ) → (buffer : ℕ) → (text : List ℕ) → Answer → Type 0
-OwesNamed ops o name buffer text answer = (a : Accepted) × IsAccepted ops o text a × OwesBuffer a o name buffer answer
-
 -- the text is accepted, and this is printed of the buffer
 abbrev pub IsTightOf : List Operator → Options → (name : List ℕ) → (buffer : ℕ) → (text print : List ℕ) → Type 0
 IsTightOf ops o name buffer text print =

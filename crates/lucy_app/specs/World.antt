@@ -1,5 +1,5 @@
 -- What the top call is lent, as contracts see it, and what a command has met there.
-use Rattle.std.specs.Prelude.{ℕ, ◌≤◌, ◌≡◌, ◌≢◌, ◌↔◌, ◌⊎◌, List, [], ◌∷◌, length, Option, Some, None, IfSome, IfOk, Result, Ok, Err}
+use Rattle.std.specs.Prelude.{ℕ, ◌≤◌, ◌≡◌, ◌≢◌, ◌↔◌, ◌⊎◌, List, [], ◌∷◌, length, Option, Some, IfSome, MatchOption, IfOk, Result, Ok, Err}
 use Rattle.std.specs.Option.{option_map}
 use Rattle.std.specs.declared.alloc.Global.{Global}
 use Rattle.std.specs.declared.vec.Vec.{Vec}
@@ -52,14 +52,11 @@ Fetches wanted before after [] = after ≡ before
 Fetches [] before after (fetched ∷ more) = ⊥
 Fetches (w ∷ wanted) before after (fetched ∷ more) = (between : SeenShelf) × Fetched w before between fetched × Fetches wanted between after more
 
--- the source is called by no command that reads nothing
-abbrev pub MeetsSource : (most : Option ℕ) (before after : SeenSource) (taken : List ℕ) → Stop → Type 0
-MeetsSource None before after taken stop = (taken ≡ []) × (stop ≡ Unread) × (after ≡ before)
-MeetsSource (Some most) before after taken stop = Read most before after taken stop
-
--- this is what a command has met; the source is as it was where the command need not read it, and else no byte more was asked for
+-- this is what a command has met; one that reads nothing doesn't call the source, which is as it was where the command need not read it, and
+-- else no byte more was asked for
 pub record Meets (command : Command) (before after : World) (given : Given) : Type 0 where
   pub shelf : Fetches (files_of (Some command)) before.shelf after.shelf given.fetched
-  pub source : MeetsSource (input_of (Some command)) before.source after.source given.taken given.stop
+  pub source : MatchOption (input_of (Some command)) ((given.taken ≡ []) × (given.stop ≡ Unread) × (after.source ≡ before.source))
+      (λ most. Read most before.source after.source given.taken given.stop)
   pub unread : (after.source ≡ before.source) ⊎ ReadsSource command before.operators given.fetched given.taken
   pub operators : given.operators ≡ before.operators

@@ -1,11 +1,8 @@
 // Laws of what commands owe.
-ghost use Rattle.std.specs.Prelude.{◌≡◌, ℕ, List};
-ghost use Rattle.lucy_command.specs.Commands.{Command, Order, Show};
-ghost use Rattle.lucy_app.specs.World.{World, Given};
-ghost use Rattle.lucy_app.specs.Answers.{Answer, AreOneBut, MayDiffer, Alike, printed};
-ghost use Rattle.lucy_app.specs.Owes.{Owes, HasRun};
-ghost use Rattle.lucy_app.specs.Complete.{MayPrint, MayRun, TracesSuit, Completes};
+ghost use Rattle.lucy_command.specs.Commands.{Order};
+ghost use Rattle.lucy_app.specs.Complete.{TracesSuit, Completes};
 ghost use Rattle.lucy_app.specs.Engines.{PlayingCompletes};
+ghost use Rattle.lucy_app.specs.Laws.{OwesAlike, OwesOne, ShowOwesOne, MayPrintOne};
 
 use lucy_lines::one_cut;
 use lucy_meaning::one_horizon;
@@ -16,9 +13,9 @@ use lucy_tight::one_tightest;
 /// open, such as the path of a clash of types; of `tighten` the cycle that shows a least size; and of `trace` in which order the events
 /// of the one run stand that its input allows, and in which rounds.
 pub fn one_answer()
-    ensures alike { (command : Command) (given : Given) (a b : Answer) → Owes command given a → Owes command given b → Alike (HasRun given) command a b }
-    ensures order { (given : Given) (a b : Answer) → Owes Order given a → Owes Order given b → a ≡ b }
-    ensures show { (file : List ℕ) (given : Given) (a b : Answer) → Owes (Show file) given a → Owes (Show file) given b → a ≡ b }
+    ensures alike { OwesAlike }
+    ensures order { OwesOne Order }
+    ensures show { ShowOwesOne }
 {
     one_cut();
     one_horizon();
@@ -32,8 +29,7 @@ pub fn one_answer()
 /// Of a command that nothing refuses one output may stand; of `tighten` one but for the cycle, and of `trace` the traces of one net up to
 /// the horizon that its input allows.
 pub fn one_output()
-    ensures { (command : Command) (before : World) (a b : List ℕ) → MayPrint command before a → MayPrint command before b →
-        AreOneBut (MayDiffer (MayRun before) command) (printed a) (printed b) }
+    ensures { MayPrintOne }
 {
     one_cut();
     one_horizon();

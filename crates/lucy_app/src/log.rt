@@ -1,6 +1,6 @@
 // A log that was fetched: the events that it names, and the line of a log that is refused.
 ghost use Rattle.std.specs.Prelude.{◌≡◌, IfOk, IfErr};
-ghost use Rattle.lucy_app.specs.Lines as spec;
+ghost use Rattle.lucy_app.specs.Answers as spec;
 ghost use Rattle.lucy_app.specs.Outcomes.{bytes_of, IsLogRead, Tellable};
 
 use crate::refusal::{Refusal, unfetched};

@@ -1,8 +1,9 @@
 // Prints the nodes of a program with the types of their places.
-ghost use Rattle.std.specs.Prelude.{◌≡◌, ◌<◌, ◌≤◌, ◌++◌, IfOk, OnOk, length};
+ghost use Rattle.std.specs.Prelude.{◌≡◌, ◌<◌, ◌≤◌, [], ◌++◌, IfOk, OnOk, length};
 ghost use Rattle.lucy_place.specs.Faults.{most_places};
 ghost use Rattle.lucy_types.specs.Tables.{table_at};
 ghost use Rattle.lucy_types.specs.Programs.{IsTyped};
+ghost use Rattle.lucy_front.specs.Report as lines;
 ghost use Rattle.lucy_app.specs.Report as spec;
 
 use lucy_front::{node_line, type_name};
@@ -20,7 +21,7 @@ fn name_line(
     ty: Ty,
     out: &mut Vec<u8>,
 ) -> Result<(), OutOfMemory>
-    ensures { OnOk result (out.new.items ≡ out.old.items ++ spec.name_line main name.now ty) }
+    ensures { OnOk result (out.new.items ≡ out.old.items ++ lines.name_line main name.now ty []) }
 {
     let Some(name) = name else {
         return Ok(());
@@ -45,7 +46,7 @@ fn name_lines(
     requires node { node < length typed.now }
     requires few { length entries.now ≤ most_places }
     requires all { length (table_at typed.now node) ≡ length entries.now }
-    ensures { OnOk result (out.new.items ≡ out.old.items ++ spec.name_lines main entries.now (table_at typed.now node)) }
+    ensures { OnOk result (out.new.items ≡ out.old.items ++ lines.name_lines main (λ place. []) 1 entries.now (table_at typed.now node)) }
 {
     'each: for (i, entry) in entries.iter().enumerate() {
         let ty = typed.at(node, i as u32 + 1);

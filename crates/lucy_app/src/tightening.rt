@@ -10,8 +10,8 @@ ghost use Rattle.lucy_app.specs.Commands.{inferring_options};
 ghost use Rattle.lucy_app.specs.Check.{RefusesCheck};
 ghost use Rattle.lucy_app.specs.Programs.{OwesText};
 ghost use Rattle.lucy_app.specs.Tighten as spec;
-ghost use Rattle.lucy_app.specs.Tighten.{HasBuffer, OwesSize, OwesBuffer, OwesNamed};
-ghost use Rattle.lucy_app.specs.Outcomes.{bytes_of, IsOutcome, Tellable};
+ghost use Rattle.lucy_app.specs.Tighten.{HasBuffer, OwesSize, OwesBuffer};
+ghost use Rattle.lucy_app.specs.Outcomes.{bytes_of, IsOutcome, Tellable, OwesNamed};
 
 use crate::options::inferring;
 use crate::refusal::Refusal;

@@ -3,7 +3,7 @@ use Rattle.std.specs.Prelude.{ℕ, ◌≤◌, Option, IfSome}
 use Rattle.std.specs.Option.{unwrap_or}
 use Rattle.lucy_command.specs.declared.names.Setting.{Setting}
 use Rattle.lucy_command.specs.declared.names.Setting.TheVariants.{Scale, Instants, Workers, Block}
-use Rattle.lucy_command.specs.Names.{least_of, most_of, most_stages, default_block}
+use Rattle.lucy_command.specs.Names.{least_of, most_of, most_stages}
 use Rattle.lucy_command.specs.Commands as names
 use Rattle.lucy_command.specs.declared.words.ClocksWords.{ClocksWords}
 use Rattle.lucy_command.specs.declared.words.RunWords.{RunWords}
@@ -87,6 +87,6 @@ IsWithin (names.Replay w log) = IsScale w.scale × IsScale w.lead × AreFew w.in
 IsWithin (names.Trace w workers) = IsScale w.scale × IsScale w.lead × AreFew w.instants × AreWorkers workers
 IsWithin command = Unit {0}
 
--- the block that is given, or else the default
+-- the instants of a block that are given, or else 4,096
 abbrev pub block_or_default : Option ℕ → ℕ
-block_or_default given = unwrap_or given default_block
+block_or_default given = unwrap_or given 4096

@@ -64,10 +64,6 @@ most_stages = 256
 abbrev pub most_buffer : ℕ
 most_buffer = 9999999
 
--- the instants of a block, where none are given
-abbrev pub default_block : ℕ
-default_block = 4096
-
 -- the command takes this option
 abbrev pub allows : Name → Setting → Bool
 allows Clocks Scale = true

@@ -31,8 +31,8 @@ use Rattle.lucy_front.specs.declared.fault.NoClocks.TheVariants.{Fault}
 use Rattle.lucy_front.specs.declared.fault.NodeFault.TheVariants.{NotWritten, Check}
 use Rattle.lucy_front.specs.declared.options.Options.{Options}
 use Rattle.lucy_front.specs.Inferring.{IsShut, node_needs}
-use Rattle.lucy_front.specs.Clocked.{AreFewNeeds, AreNodeWords, AreItsClocks, IsClocked, IsTold}
-use Rattle.lucy_front.specs.Clocking.{clock_fault, check_fault, HasNoClocks}
+use Rattle.lucy_front.specs.Clocked.{AreFewNeeds, AreNodeWords, IsClocked, FailsCheck, AreItsNeeds, RefusesNode}
+use Rattle.lucy_front.specs.Clocking.{AreItsClocks, IsTold, clock_fault, check_fault, HasNoClocks}
 use Rattle.lucy_front.specs.Sizes.{buffer_sizes}
 use Rattle.lucy_front.proofs.SizeLaws.{Sized, node_sized, sized_count, sized_at}
 
@@ -89,17 +89,25 @@ needs_are above n needs clocks list =
 
 module _ (o : Options) (placed : PlacedProgram) (node : ℕ) (above : List Signature) (n : PlacedNode) (words : List Bits) (needs : Needs) (is_written : IsWritten n) (are_needs : needs ≡ node_needs above n)
     (few : AreFewNeeds above n) (are : AreNodeWords n words) where
-  told_refused : (e : CheckFault) → IsTold e → OrNoMemory (IsFirstRefusal (assigned words) (needs_of above n)) e → HasNoClocks o placed node above n (Fault (Check needs e))
-  told_refused e told (inl none) = absurd (subst IsTold none told)
-  told_refused e told (inr first) = ((are_needs, few), (is_written, words, are, first), told)
-
   pub check_refused : (e : CheckFault) → OrNoMemory (IsFirstRefusal (assigned words) (needs_of above n)) e → HasNoClocks o placed node above n (check_fault needs e)
   check_refused (fault.Limit need l) (inl none) = absurd (cc none)
   check_refused (fault.Limit need l) (inr first) = inr (few, inr (inl (need, (is_written, words, are, first))))
   check_refused fault.OutOfMemory h = tt
-  check_refused (fault.Differs need at) h = told_refused (fault.Differs need at) tt h
-  check_refused (fault.Rates need) h = told_refused (fault.Rates need) tt h
-  check_refused (fault.Late need at) h = told_refused (fault.Late need at) tt h
+  check_refused (fault.Differs need at) (inl none) = absurd (cc none)
+  check_refused (fault.Differs need at) (inr first) = ((are_needs, few), (is_written, words, are, first))
+  check_refused (fault.Rates need) (inl none) = absurd (cc none)
+  check_refused (fault.Rates need) (inr first) = ((are_needs, few), (is_written, words, are, first))
+  check_refused (fault.Late need at) (inl none) = absurd (cc none)
+  check_refused (fault.Late need at) (inr first) = ((are_needs, few), (is_written, words, are, first))
+
+-- what the checker tells of a node that is refused
+pub check_told : (o : Options) (placed : PlacedProgram) (node : ℕ) (needs : Needs) (e : CheckFault) (above : List Signature) (n : PlacedNode) →
+    RefusesNode o placed node (Check needs e) above n → AreItsNeeds above n needs × FailsCheck above n e × IsTold e
+check_told o placed node needs (fault.Limit need l) above n h = absurd h
+check_told o placed node needs fault.OutOfMemory above n h = absurd h
+check_told o placed node needs (fault.Differs need at) above n h = (h.0, h.1, tt)
+check_told o placed node needs (fault.Rates need) above n h = (h.0, h.1, tt)
+check_told o placed node needs (fault.Late need at) above n h = (h.0, h.1, tt)
 
 -- what is refused for one reason
 pub refused_so : {A : Type 0} (r : Result A NoClocks) (f : NoClocks) (P : NoClocks → Type 0) → IsErrAnd r (λ e. e ≡ f) → P f → IfErr r P

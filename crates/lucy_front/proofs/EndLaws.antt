@@ -19,8 +19,8 @@ use Rattle.lucy_meaning.proofs.Closed.{get_take, place_spot}
 use Rattle.lucy_meaning.specs.Below.{Below}
 use Rattle.lucy_flat.proofs.AssemblyLaws.{get_left, get_last}
 use Rattle.lucy_flat.proofs.ExtentLaws.{got, sum_take, take_whole}
-use Rattle.lucy_front.specs.Names.{place_name}
-use Rattle.lucy_front.specs.Items.{path_text, name_in, IsActorName}
+use Rattle.lucy_front.specs.Names.{of_one, place_name}
+use Rattle.lucy_front.specs.Items.{path_text, IsActorName}
 use Rattle.lucy_front.specs.Ends.{end_of, AreEndsTo, AreAllEnds}
 
 -- one part more
@@ -184,5 +184,5 @@ own_name nodes path n behind place name leads l at is = record {
   spot = at_place path place;
   there = place_spot nodes path n place leads (omega (arith, at), omega (arith, l, at));
   numbered = (omega (arith, at));
-  is = is ∙ ap (λ o. path_text path ++ name_in o place) (sym leads);
+  is = is ∙ ap (λ o. path_text path ++ of_one (λ (m : PlacedNode). place_name m place) o) (sym leads);
 }

@@ -1,7 +1,9 @@
 -- The lines of what shows that no clocks are inferred, one step on.
 use Rattle.std.proofs.Common.{ℕ, zero, suc, ◌+◌, ◌<◌, ◌≡◌, List, [], ◌∷◌, ◌++◌, map, length, drop, get_or, Some, refl, ap, sym, ◌∙◌, arith, append_assoc}
-use Rattle.std.specs.Prelude.{slice_get, sum_by, codes}
+use Rattle.std.specs.Prelude.{slice_get, sum_by, flat_map, codes}
 use Rattle.std.specs.List.{range_with_len}
+use Rattle.std.specs.Option.{unwrap_or}
+use Rattle.std.specs.Fmt.{decimal}
 use Rattle.std.proofs.lemmas.List.{drop_more, length-append}
 use Rattle.std.proofs.lemmas.List.FromFn.{length-map-range_with_len}
 use Rattle.std.proofs.lemmas.List.Sums.{sum_by-cons}
@@ -12,9 +14,17 @@ use Rattle.lucy_shape.specs.declared.shape.ClockShape.{ClockShape}
 use Rattle.lucy_shape.specs.Fitting.{position_count, variable_count}
 use Rattle.lucy_front.specs.Names.{of_one}
 use Rattle.lucy_front.specs.Needs.{clock_name, need_text}
-use Rattle.lucy_front.specs.Evidence.{named, walk_lines, position_name, position_names, variable_names, diff_line, cycle_lines}
+use Rattle.lucy_front.specs.Evidence.{walk_lines, position_names, variable_names, diff_line, cycle_lines}
 use Rattle.lucy_front.specs.Refusals.{AreBelow}
 use Rattle.lucy_front.proofs.ReportLaws.{line_more}
+
+-- places, each on a line of its own behind two blanks
+abbrev pub place_lines : List (List ℕ) → List ℕ
+place_lines names = flat_map (λ name. codes "  " ++ (name ++ codes "\n")) names
+
+-- a position of a clock
+abbrev pub position_name : List ℕ → ℕ → List ℕ
+position_name clock m = clock ++ (codes "[" ++ (decimal m ++ codes "]"))
 
 -- three parts, and six, one put behind the other
 pub three : (s t u a b c d : List ℕ) → b ≡ a ++ s → c ≡ b ++ t → d ≡ c ++ u → d ≡ a ++ (s ++ (t ++ u))
@@ -54,8 +64,8 @@ cycle_more names diffs cycle i d a b all h at more before =
     line_more a b (diff_line names d) rest all more (ap (λ u. a ++ u) (sym step) ∙ before)
 
 -- a name of a variable
-pub named_is : (names : List (List ℕ)) (v : ℕ) (name : List ℕ) → slice_get names v ≡ Some name → named names v ≡ name
-named_is names v name at = ap (of_one (λ x. x)) at
+pub named_is : (names : List (List ℕ)) (v : ℕ) (name : List ℕ) → slice_get names v ≡ Some name → unwrap_or (slice_get names v) [] ≡ name
+named_is names v name at = ap (λ o. unwrap_or o []) at
 
 -- there is one for each variable
 positions_count : (n : PlacedNode) (clock : ℕ) (clocks : List ClockShape) → length (position_names n clock clocks) ≡ sum_by position_count clocks

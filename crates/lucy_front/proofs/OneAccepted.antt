@@ -15,7 +15,7 @@ use Rattle.lucy_front.specs.declared.options.Options.{Options}
 use Rattle.lucy_front.specs.declared.accepted.Accepted.{Accepted}
 use Rattle.lucy_front.specs.declared.refusal.Refusal.{Refusal}
 use Rattle.lucy_front.specs.declared.refusal.Refusal.TheVariants.{Syntax, Names, Types, Node, Cause, Limit as LimitPassed, OutOfMemory}
-use Rattle.lucy_front.specs.Accepting.{IsAccepted, RefusesClocked, Refuses}
+use Rattle.lucy_front.specs.Accepting.{IsAccepted, Refuses}
 use Rattle.lucy_front.specs.Scheduled.{IsNetOf, RefusesNet, inputs_of, outputs_of}
 use Rattle.lucy_front.specs.OneAnswer.{AreAlike}
 use Rattle.lucy_front.proofs.OneAnswer.{text_proper, one_program, never_both, one_refusal}
@@ -72,8 +72,8 @@ module _ (nodes : List PlacedNode) (clocks : List NodeClock) (proper : AreProper
   nets_alike (Cause net names instant items) OutOfMemory h k = inr (inl refl)
 
 -- what is refused for its net has one program
-moved : (ops : List Operator) (o : Options) (text : List ℕ) (nodes : List PlacedNode) (clocks : List NodeClock) (r : Refusal) (x : RefusesClocked ops o text r) → x.0.nodes ≡ nodes → x.2 ≡ clocks → RefusesNet nodes clocks r
-moved ops o text nodes clocks r x e f = subst (λ ns. RefusesNet ns clocks r) e (subst (λ cs. RefusesNet x.0.nodes cs r) f x.4)
+moved : (old nodes : List PlacedNode) (was clocks : List NodeClock) (r : Refusal) → RefusesNet old was r → old ≡ nodes → was ≡ clocks → RefusesNet nodes clocks r
+moved old nodes was clocks r x e f = subst (λ ns. RefusesNet ns clocks r) e (subst (λ cs. RefusesNet old cs r) f x)
 
 -- no text is accepted and refused, unless memory ran out
 pub accepted_kept : (ops : List Operator) (o : Options) (text : List ℕ) (a : Accepted) (r : Refusal) → IsAccepted ops o text a → Refuses ops o text r → r ≡ OutOfMemory
@@ -81,7 +81,7 @@ accepted_kept ops o text a r is (inl h) = never_both ops o text a.placed a.typed
 accepted_kept ops o text a r is (inr h) =
     let same = one_program ops o text h.0 a.placed h.1 a.typed h.2 a.clocks.items h.3 is.clocked in
     net_refused a.placed.nodes a.clocks.items (text_proper ops o text a.placed is.clocked.program.program) a.net a.schedule r is.net is.schedule
-    (moved ops o text a.placed.nodes a.clocks.items r h (ap (λ p. p.nodes) same.0) same.2)
+    (moved h.0.nodes a.placed.nodes h.2 a.clocks.items r h.4 (ap (λ p. p.nodes) same.0) same.2)
 
 -- and a text is refused in one way
 pub refused_alike : (ops : List Operator) (o : Options) (text : List ℕ) (r s : Refusal) → Refuses ops o text r → Refuses ops o text s → (r ≡ OutOfMemory) ⊎ (s ≡ OutOfMemory) ⊎ AreAlike r s
@@ -90,7 +90,7 @@ refused_alike ops o text r s (inl h) (inr k) = inl (never_both ops o text k.0 k.
 refused_alike ops o text r s (inr h) (inl k) = inr (inl (never_both ops o text h.0 h.1 h.2 s h.3 k))
 refused_alike ops o text r s (inr h) (inr k) =
     let same = one_program ops o text h.0 k.0 h.1 k.1 h.2 k.2 h.3 k.3 in
-    nets_alike k.0.nodes k.2 (text_proper ops o text k.0 k.3.program.program) r s (moved ops o text k.0.nodes k.2 r h (ap (λ p. p.nodes) same.0) same.2) k.4
+    nets_alike k.0.nodes k.2 (text_proper ops o text k.0 k.3.program.program) r s (moved h.0.nodes k.0.nodes h.2 k.2 r h.4 (ap (λ p. p.nodes) same.0) same.2) k.4
 
 -- and is accepted as one thing
 pub accepted_once : (ops : List Operator) (o : Options) (text : List ℕ) (a b : Accepted) → IsAccepted ops o text a → IsAccepted ops o text b →

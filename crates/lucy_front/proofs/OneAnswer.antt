@@ -31,7 +31,7 @@ use Rattle.lucy_front.specs.declared.fault.NoClocks.TheVariants as why
 use Rattle.lucy_front.specs.declared.refusal.Refusal.{Refusal}
 use Rattle.lucy_front.specs.declared.refusal.Refusal.TheVariants.{Syntax, Names, Types, Node, Cause, Limit as LimitPassed, OutOfMemory}
 use Rattle.lucy_front.specs.Clocked.{AreClocksOf}
-use Rattle.lucy_front.specs.Accepting.{IsPlacedText, IsTypedText, IsClockedText, RefusesPhases, syntax_refusal, names_refusal}
+use Rattle.lucy_front.specs.Accepting.{IsPlacedText, IsTypedText, IsClockedText, RefusesSyntax, RefusesText, RefusesPhases, syntax_refusal, names_refusal}
 use Rattle.lucy_front.specs.Clocking.{refusal_for}
 use Rattle.lucy_front.specs.OneAnswer.{AreFaultsAlike, AreAlike, HaveOneProgram, AreNotRefused, HaveOneRefusal}
 use Rattle.lucy_front.proofs.OneNode.{AreCausesAlike}
@@ -110,6 +110,23 @@ reasons_alike placed node (why.Fault f) why.OutOfMemory h = absurd (cc h)
 reasons_alike placed node (why.Limit l) g h = reasons_equal placed node (why.Limit l) g h
 reasons_alike placed node why.OutOfMemory g h = reasons_equal placed node why.OutOfMemory g h
 
+-- what refuses a text for its syntax, and for its names
+pub syntax_refused : (text : List ℕ) (e : SyntaxError) → RefusesSyntax text (Syntax e) → IsRefused text e
+syntax_refused text (syntax.Unexpected place) h = h
+syntax_refused text (syntax.BadNumber place) h = h
+syntax_refused text (syntax.BadWord place) h = h
+syntax_refused text (syntax.TooLarge l) h = absurd h
+syntax_refused text syntax.OutOfMemory h = absurd h
+
+pub names_refused : (ops : List Operator) (text : List ℕ) (e : NameError) → RefusesText ops text (Names e) → (p : ProgramTree) × HasTree text p × IsFirst (faults ops p) e
+names_refused ops text (names.Unknown span) h = h
+names_refused ops text (names.Twice span) h = h
+names_refused ops text (names.NoResult span) h = h
+names_refused ops text (names.Arity span) h = h
+names_refused ops text (names.LaterNode span) h = h
+names_refused ops text (names.TooMany l) h = absurd h
+names_refused ops text names.OutOfMemory h = absurd h
+
 module _ (ops : List Operator) (o : Options) (text : List ℕ) where
   of_syntax : (e : SyntaxError) → IsRefused text e → OfPhase ops o text (syntax_refusal e)
   of_syntax e h = inl (record { error = e; refused = h; is = refl })
@@ -123,23 +140,23 @@ module _ (ops : List Operator) (o : Options) (text : List ℕ) where
 
   -- each refusal but want of memory is one of a phase
   phase : (r : Refusal) → RefusesPhases ops o text r → (r ≡ OutOfMemory → ⊥) → OfPhase ops o text r
-  phase (Syntax (syntax.Unexpected place)) h some = of_syntax (syntax.Unexpected place) h.0
-  phase (Syntax (syntax.BadNumber place)) h some = of_syntax (syntax.BadNumber place) h.0
-  phase (Syntax (syntax.BadWord place)) h some = of_syntax (syntax.BadWord place) h.0
-  phase (Syntax (syntax.TooLarge l)) h some = absurd h.1
-  phase (Syntax syntax.OutOfMemory) h some = absurd h.1
+  phase (Syntax (syntax.Unexpected place)) h some = of_syntax (syntax.Unexpected place) h
+  phase (Syntax (syntax.BadNumber place)) h some = of_syntax (syntax.BadNumber place) h
+  phase (Syntax (syntax.BadWord place)) h some = of_syntax (syntax.BadWord place) h
+  phase (Syntax (syntax.TooLarge l)) h some = absurd h
+  phase (Syntax syntax.OutOfMemory) h some = absurd h
   phase (Names (names.Unknown span)) h some = of_names h.0 (names.Unknown span) h.1 h.2
   phase (Names (names.Twice span)) h some = of_names h.0 (names.Twice span) h.1 h.2
   phase (Names (names.NoResult span)) h some = of_names h.0 (names.NoResult span) h.1 h.2
   phase (Names (names.Arity span)) h some = of_names h.0 (names.Arity span) h.1 h.2
   phase (Names (names.LaterNode span)) h some = of_names h.0 (names.LaterNode span) h.1 h.2
-  phase (Names (names.TooMany l)) h some = absurd h.3
-  phase (Names names.OutOfMemory) h some = absurd h.3
+  phase (Names (names.TooMany l)) h some = absurd h
+  phase (Names names.OutOfMemory) h some = absurd h
   phase (Types placed node path) h some = inr (inr (inl (record { placed = placed; node = node; path = path; program = h.0; told = h.1; is = refl })))
   phase (Node placed node fault) h some = of_node placed h.0 node (why.Fault fault) h.1 h.2
-  phase (LimitPassed l) (inl h) some = of_syntax (syntax.TooLarge l) h
-  phase (LimitPassed l) (inr (inl h)) some = of_names h.0 (names.TooMany l) h.1 h.2
-  phase (LimitPassed l) (inr (inr h)) some = of_node h.0 h.1 h.3 (why.Limit l) h.2 h.4
+  phase (LimitPassed l) (inl (inl h)) some = of_syntax (syntax.TooLarge l) h
+  phase (LimitPassed l) (inl (inr h)) some = of_names h.0 (names.TooMany l) h.1 h.2
+  phase (LimitPassed l) (inr h) some = of_node h.0 h.1 h.3 (why.Limit l) h.2 h.4
   phase (Cause net texts instant items) h some = absurd h
   phase OutOfMemory h some = absurd (some refl)
 

@@ -21,7 +21,8 @@ use Rattle.lucy_clock.proofs.HandLaws.{words_agree}
 use Rattle.lucy_clock.specs.NodeClocks.{AreSizes}
 use Rattle.lucy_front.specs.declared.options.Options.{Options}
 use Rattle.lucy_front.specs.Inferring.{node_needs}
-use Rattle.lucy_front.specs.Clocked.{AreItsClocks, IsClocked}
+use Rattle.lucy_front.specs.Clocked.{IsClocked}
+use Rattle.lucy_front.specs.Clocking.{AreItsClocks}
 use Rattle.lucy_inference.proofs.OneAnswer.{inference_one}
 
 -- words in shortest form with the same bits are equal

@@ -15,6 +15,7 @@ use Rattle.lucy_clock.specs.Clocks.{AreSignatures}
 use Rattle.lucy_clock.specs.Listing.{needs_of, RefusesNeeds}
 use Rattle.lucy_clock.specs.HandedDown.{RefusesWords, word_bits}
 use Rattle.lucy_clock.proofs.NeedLaws.{rules_law}
+use Rattle.lucy_need.specs.declared.need.Needs.{Needs}
 use Rattle.lucy_check.specs.declared.fault.CheckFault.{CheckFault}
 use Rattle.lucy_check.specs.declared.fault.CheckFault.TheVariants as fault
 use Rattle.lucy_check.specs.Passing.{IsFirstRefusal}
@@ -28,9 +29,10 @@ use Rattle.lucy_inference.specs.declared.refusal.Uninferred.{Uninferred}
 use Rattle.lucy_inference.specs.declared.refusal.Uninferred.TheVariants as uninferred
 use Rattle.lucy_inference.specs.Refusals.{AreAlike as AreReasonsAlike}
 use Rattle.lucy_front.specs.Inferring.{IsShut, node_needs, IsUninferred}
-use Rattle.lucy_front.specs.Clocked.{AreFewNeeds, AreNodeWords, AreItsClocks, IsClocked, FailsCheck, IsTold, PassesLimit, RefusesNode}
-use Rattle.lucy_front.specs.Clocking.{HasNoClocks}
+use Rattle.lucy_front.specs.Clocked.{AreFewNeeds, AreNodeWords, IsClocked, FailsCheck, AreItsNeeds, PassesLimit, RefusesNode}
+use Rattle.lucy_front.specs.Clocking.{AreItsClocks, IsTold, HasNoClocks}
 use Rattle.lucy_front.specs.OneAnswer.{AreFaultsAlike}
+use Rattle.lucy_front.proofs.ClockedLaws.{check_told}
 use Rattle.lucy_front.proofs.OneClock.{words_one}
 use Rattle.lucy_inference.proofs.OneAnswer.{inference_kept, refusals_alike}
 use Rattle.lucy_front.proofs.InferredLaws.{open_unshut}
@@ -147,35 +149,41 @@ module _ (nodes : List PlacedNode) (above : List Signature) (n : PlacedNode) (pr
   uninferred_limit e l few h (inr (too, inr (inl q))) = absurd (h.0.1 q.1.0)
   uninferred_limit e l few h (inr (too, inr (inr q))) = uninferred_one nodes above n proper ports o e (uninferred.Limit l) few h q
 
+  told : (x : Needs) (e : CheckFault) → RefusesNode o placed node (Check x e) above n → AreItsNeeds above n x × FailsCheck above n e × IsTold e
+  told x e h = check_told o placed node x e above n h
+
   -- a node that is refused passes no limit
   fault_limit : (f : NodeFault) (l : LimitOf) → RefusesNode o placed node f above n → PassesLimit o above n l → ⊥
   fault_limit (NotWritten s) l h k = shut_limit l h.1 k
   fault_limit (Rates x walk) l h k = uninferred_limit (uninferred.Rates walk) l h.0.1 h.1 k
   fault_limit (Clocks x shape diffs cycle) l h k = uninferred_limit (uninferred.Clocks shape diffs cycle) l h.0.1 h.1 k
-  fault_limit (Check x e) l h k = fails_limit nodes above n proper ports o e l h.0.1 h.1 h.2 k
+  fault_limit (Check x e) l h k = let (needs, fails, is) = told x e h in fails_limit nodes above n proper ports o e l needs.1 fails is k
 
   -- and is so in one way
   fault_one : (f g : NodeFault) → RefusesNode o placed node f above n → RefusesNode o placed node g above n → AreFaultsAlike f g
   fault_one (NotWritten s) (NotWritten t) h k = let e : Some (Some s) ≡ Some (Some t) = sym h.0 ∙ k.0 in cc
   fault_one (NotWritten s) (Rates x walk) h k = absurd (open_unshut o n k.1.0 h.1)
   fault_one (NotWritten s) (Clocks x shape diffs cycle) h k = absurd (open_unshut o n k.1.0 h.1)
-  fault_one (NotWritten s) (Check x e) h k = absurd (h.1.1 k.1.0)
+  fault_one (NotWritten s) (Check x e) h k = absurd (h.1.1 (told x e k).1.0)
   fault_one (Rates x walk) (NotWritten t) h k = absurd (open_unshut o n h.1.0 k.1)
   fault_one (Rates x walk) (Rates y way) h k = (h.0.0 ∙ sym k.0.0, uninferred_one nodes above n proper ports o (uninferred.Rates walk) (uninferred.Rates way) h.0.1 h.1 k.1)
   fault_one (Rates x walk) (Clocks y shape diffs cycle) h k =
       absurd (uninferred_one nodes above n proper ports o (uninferred.Rates walk) (uninferred.Clocks shape diffs cycle) h.0.1 h.1 k.1)
-  fault_one (Rates x walk) (Check y f) h k = absurd (h.1.0.1 k.1.0)
+  fault_one (Rates x walk) (Check y f) h k = absurd (h.1.0.1 (told y f k).1.0)
   fault_one (Clocks x shape diffs cycle) (NotWritten t) h k = absurd (open_unshut o n h.1.0 k.1)
   fault_one (Clocks x shape diffs cycle) (Rates y way) h k =
       absurd (uninferred_one nodes above n proper ports o (uninferred.Clocks shape diffs cycle) (uninferred.Rates way) h.0.1 h.1 k.1)
   fault_one (Clocks x shape diffs cycle) (Clocks y like these round) h k =
       let same = uninferred_one nodes above n proper ports o (uninferred.Clocks shape diffs cycle) (uninferred.Clocks like these round) h.0.1 h.1 k.1 in
       (h.0.0 ∙ sym k.0.0, same.0, same.1)
-  fault_one (Clocks x shape diffs cycle) (Check y f) h k = absurd (h.1.0.1 k.1.0)
-  fault_one (Check x e) (NotWritten t) h k = absurd (k.1.1 h.1.0)
-  fault_one (Check x e) (Rates y way) h k = absurd (k.1.0.1 h.1.0)
-  fault_one (Check x e) (Clocks y shape diffs cycle) h k = absurd (k.1.0.1 h.1.0)
-  fault_one (Check x e) (Check y f) h k = ap (λ needs. Check needs e) (h.0.0 ∙ sym k.0.0) ∙ ap (Check y) (fails_one nodes above n proper ports e f h.1 k.1)
+  fault_one (Clocks x shape diffs cycle) (Check y f) h k = absurd (h.1.0.1 (told y f k).1.0)
+  fault_one (Check x e) (NotWritten t) h k = absurd (k.1.1 (told x e h).1.0)
+  fault_one (Check x e) (Rates y way) h k = absurd (k.1.0.1 (told x e h).1.0)
+  fault_one (Check x e) (Clocks y shape diffs cycle) h k = absurd (k.1.0.1 (told x e h).1.0)
+  fault_one (Check x e) (Check y f) h k =
+      let (needs, fails, is) = told x e h in
+      let (those, failed, also) = told y f k in
+      ap (λ r. Check r e) (needs.0 ∙ sym those.0) ∙ ap (Check y) (fails_one nodes above n proper ports e f fails failed)
 
   -- a node has no clocks for one reason
   pub refused_one : (f g : NoClocks) → (f ≡ OutOfMemory → ⊥) → (g ≡ OutOfMemory → ⊥) → HasNoClocks o placed node above n f → HasNoClocks o placed node above n g → AreCausesAlike f g
@@ -196,7 +204,7 @@ module _ (nodes : List PlacedNode) (above : List Signature) (n : PlacedNode) (pr
       shut_its (inr k) = open_unshut o n k.is_open h.1
   fault_kept (Rates x walk) c h clocked = clocked_uninferred nodes above n proper ports o c (uninferred.Rates walk) clocked h.1
   fault_kept (Clocks x shape diffs cycle) c h clocked = clocked_uninferred nodes above n proper ports o c (uninferred.Clocks shape diffs cycle) clocked h.1
-  fault_kept (Check x e) c h clocked = clocked_told nodes above n proper ports o c e clocked h.1
+  fault_kept (Check x e) c h clocked = clocked_told nodes above n proper ports o c e clocked (told x e h).1
 
   pub clocked_kept : (f : NoClocks) (c : NodeClock) → (f ≡ OutOfMemory → ⊥) → HasNoClocks o placed node above n f → IsClocked o above n c → ⊥
   clocked_kept (Fault f) c some h clocked = fault_kept f c h clocked

@@ -15,7 +15,7 @@ use Rattle.lucy_types.specs.Tables.{table_at}
 use Rattle.lucy_need.specs.Meeting.{Assignment}
 use Rattle.lucy_clock.specs.declared.node_clock.NodeClock.{NodeClock}
 use Rattle.lucy_clock.specs.Clocks.{call_clock}
-use Rattle.lucy_front.specs.Report.{name_line, name_lines, buffer_line, buffer_lines, call_line, call_lines, node_lines, is_main, lines_of}
+use Rattle.lucy_front.specs.Report.{name_line, name_lines, buffer_line, buffer_lines, call_line, call_lines, node_lines, lines_of}
 
 -- what is left of a list from an entry on
 pub drop_at : {A : Type 0} (xs : List A) (i : ℕ) (x : A) → slice_get xs i ≡ Some x → drop i xs ≡ x ∷ drop (i + 1) xs
@@ -36,19 +36,19 @@ number_next : (i : ℕ) → 1 + i + 1 ≡ 1 + (i + 1)
 number_next i = omega arith
 
 -- one more place
-pub names_more : (main : Bool) (w : Assignment) (es : List PlaceEntry) (ts : List Ty) (i : ℕ) (e : PlaceEntry) (t : Ty) (a b all : List ℕ) → i < length es → e ≡ get_or es i e → at_one ts (i + 1) ≡ Some t →
-    b ≡ a ++ name_line main e.name t (w (i + 1)) → a ++ name_lines main w (1 + i) (drop i es) (drop i ts) ≡ all → b ++ name_lines main w (1 + (i + 1)) (drop (i + 1) es) (drop (i + 1) ts) ≡ all
-names_more main w es ts i e t a b all h is typed more before =
-    let rest : List ℕ = name_lines main w (1 + (i + 1)) (drop (i + 1) es) (drop (i + 1) ts) in
+pub names_more : (main : Bool) (said : ℕ → List ℕ) (es : List PlaceEntry) (ts : List Ty) (i : ℕ) (e : PlaceEntry) (t : Ty) (a b all : List ℕ) → i < length es → e ≡ get_or es i e → at_one ts (i + 1) ≡ Some t →
+    b ≡ a ++ name_line main e.name t (said (i + 1)) → a ++ name_lines main said (1 + i) (drop i es) (drop i ts) ≡ all → b ++ name_lines main said (1 + (i + 1)) (drop (i + 1) es) (drop (i + 1) ts) ≡ all
+names_more main said es ts i e t a b all h is typed more before =
+    let rest : List ℕ = name_lines main said (1 + (i + 1)) (drop (i + 1) es) (drop (i + 1) ts) in
     let here : drop i es ≡ e ∷ drop (i + 1) es = drop_read es i e h is in
     let P : ℕ → Type 0 = λ n. at_one ts n ≡ Some t in
     let there : drop i ts ≡ t ∷ drop (i + 1) ts = drop_at ts i t (subst P (add-one i) typed) in
     let z : 1 + i ≡ i + 1 = omega arith in
-    let step : name_lines main w (1 + i) (drop i es) (drop i ts) ≡ name_line main e.name t (w (i + 1)) ++ rest =
-    ap (λ l. name_lines main w (1 + i) l (drop i ts)) here ∙ ap (λ l. name_lines main w (1 + i) (e ∷ drop (i + 1) es) l) there
-    ∙ ap (λ k. name_line main e.name t (w k) ++ name_lines main w (1 + i + 1) (drop (i + 1) es) (drop (i + 1) ts)) z
-    ∙ ap (λ k. name_line main e.name t (w (i + 1)) ++ name_lines main w k (drop (i + 1) es) (drop (i + 1) ts)) (number_next i) in
-    line_more a b (name_line main e.name t (w (i + 1))) rest all more (ap (λ u. a ++ u) (sym step) ∙ before)
+    let step : name_lines main said (1 + i) (drop i es) (drop i ts) ≡ name_line main e.name t (said (i + 1)) ++ rest =
+    ap (λ l. name_lines main said (1 + i) l (drop i ts)) here ∙ ap (λ l. name_lines main said (1 + i) (e ∷ drop (i + 1) es) l) there
+    ∙ ap (λ k. name_line main e.name t (said k) ++ name_lines main said (1 + i + 1) (drop (i + 1) es) (drop (i + 1) ts)) z
+    ∙ ap (λ k. name_line main e.name t (said (i + 1)) ++ name_lines main said k (drop (i + 1) es) (drop (i + 1) ts)) (number_next i) in
+    line_more a b (name_line main e.name t (said (i + 1))) rest all more (ap (λ u. a ++ u) (sym step) ∙ before)
 
 -- one more buffer
 pub buffers_more : (n : PlacedNode) (w : Assignment) (ps ss : List ℕ) (i p s : ℕ) (a b all : List ℕ) → i < length ps → p ≡ get_or ps i p → i < length ss → s ≡ get_or ss i s →
@@ -79,9 +79,10 @@ calls_more nodes n w sites i clock site a b all h is at more before =
     line_more a b (call_line nodes (i + 1) site (w clock)) rest all more (ap (λ u. a ++ u) (sym step) ∙ before)
 
 -- a node is main where none is behind it
-pub main_is : (nodes rest : List PlacedNode) (i count : ℕ) → drop (i + 1) nodes ≡ rest → count ≡ length nodes → i < length nodes → nat_eq (i + 1) count ≡ is_main rest
+pub main_is : (nodes rest : List PlacedNode) (i count : ℕ) → drop (i + 1) nodes ≡ rest → count ≡ length nodes → i < length nodes → nat_eq (i + 1) count ≡ nat_eq (length rest) 0
 main_is nodes [] i count is all h = eq-eqb (i + 1) count (omega (arith, length-drop (i + 1) nodes, ap length is))
-main_is nodes (n ∷ ns) i count is all h = ne_eqb (i + 1) count (λ e. omega (arith, length-drop (i + 1) nodes, ap length is, e))
+main_is nodes (n ∷ ns) i count is all h =
+    ne_eqb (i + 1) count (λ e. omega (arith, length-drop (i + 1) nodes, ap length is, e)) ∙ sym (ne_eqb (length (n ∷ ns)) 0 (λ e. omega (arith, e)))
 
 -- one more node
 pub report_more : (all_nodes nodes : List PlacedNode) (tables : List (List Ty)) (clocks : List NodeClock) (i count : ℕ) (n : PlacedNode) (c : NodeClock) (a b all : List ℕ) → slice_get nodes i ≡ Some n → length tables ≡ length nodes →
@@ -95,7 +96,7 @@ report_more all_nodes nodes tables clocks i count n c a b all at same l is count
     let here : drop i nodes ≡ n ∷ drop (i + 1) nodes = drop_at nodes i n at in
     let there : drop i tables ≡ ts ∷ drop (i + 1) tables = drop_at tables i ts (table_found tables i k) in
     let of : drop i clocks ≡ c ∷ drop (i + 1) clocks = drop_read clocks i c l is in
-    let main : Bool = is_main (drop (i + 1) nodes) in
+    let main : Bool = nat_eq (length (drop (i + 1) nodes)) 0 in
     let step : lines_of all_nodes (drop i nodes) (drop i tables) (drop i clocks) ≡ node_lines all_nodes main n ts c ++ rest =
     ap (λ xs. lines_of all_nodes xs (drop i tables) (drop i clocks)) here ∙ ap (λ xs. lines_of all_nodes (n ∷ drop (i + 1) nodes) xs (drop i clocks)) there
     ∙ ap (λ xs. lines_of all_nodes (n ∷ drop (i + 1) nodes) (ts ∷ drop (i + 1) tables) xs) of in

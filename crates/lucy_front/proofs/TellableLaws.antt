@@ -18,11 +18,15 @@ use Rattle.lucy_front.specs.declared.refusal.Refusal.{Refusal}
 use Rattle.lucy_front.specs.declared.refusal.Refusal.TheVariants.{Syntax, Names, Types, Node, Cause, Limit as LimitPassed, OutOfMemory}
 use Rattle.lucy_front.specs.declared.fault.NodeFault.{NodeFault}
 use Rattle.lucy_front.specs.declared.fault.NodeFault.TheVariants.{NotWritten, Rates, Clocks, Check}
+use Rattle.lucy_clock.specs.declared.node_clock.NodeClock.{NodeClock}
 use Rattle.lucy_clock.specs.NodeClocks.{signatures}
-use Rattle.lucy_front.specs.Clocked.{IsTold, RefusesNode}
-use Rattle.lucy_front.specs.Accepting.{IsAccepted, RefusesPhases, RefusesClocked, Refuses}
+use Rattle.lucy_front.specs.Scheduled.{RefusesNet}
+use Rattle.lucy_front.specs.Clocked.{RefusesNode}
+use Rattle.lucy_front.specs.Clocking.{IsTold}
+use Rattle.lucy_front.specs.Accepting.{IsAccepted, RefusesPhases, Refuses}
 use Rattle.lucy_front.specs.Report.{IsReportable}
 use Rattle.lucy_front.specs.Refusals.{NamesNeed, AreBelow, IsShown, IsTellable}
+use Rattle.lucy_front.proofs.ClockedLaws.{check_told}
 use Rattle.lucy_front.proofs.EvidenceLaws.{walk_there, cycle_there}
 
 pub reportable : (ops : List Operator) (o : Options) (text : List ℕ) (a : Accepted) → IsAccepted ops o text a → IsReportable a.placed.nodes a.typed a.clocks.items
@@ -55,7 +59,9 @@ fault_shown o placed node (Rates needs walk) above n h = subst (λ (x : Needs). 
 fault_shown o placed node (Clocks needs shape diffs cycle) above n h =
     let there = cycle_there _ o.scale o.lead shape diffs cycle h.1.1 in
     (there.0 ∙ ap (λ (x : Needs). x.clocks) (sym h.0.0), there.1, there.2)
-fault_shown o placed node (Check needs e) above n h = subst (λ (x : Needs). NamesNeed x.list e) (sym h.0.0) (first_there (assigned h.1.1) _ e h.1.3 h.2)
+fault_shown o placed node (Check needs e) above n h =
+    let (are, (written, words, within, first), told) = check_told o placed node needs e above n h in
+    subst (λ (x : Needs). NamesNeed x.list e) (sym are.0) (first_there (assigned words) _ e first told)
 
 phase_tellable : (ops : List Operator) (o : Options) (text : List ℕ) (e : Refusal) → RefusesPhases ops o text e → IsTellable e
 phase_tellable ops o text (Syntax e) h = tt
@@ -68,15 +74,15 @@ phase_tellable ops o text (LimitPassed l) h = tt
 phase_tellable ops o text OutOfMemory h = tt
 
 -- a refusal for the net is of a limit or of a cycle
-net_tellable : (ops : List Operator) (o : Options) (text : List ℕ) (e : Refusal) → RefusesClocked ops o text e → IsTellable e
-net_tellable ops o text (Syntax e) h = absurd h.4
-net_tellable ops o text (Names e) h = absurd h.4
-net_tellable ops o text (Types placed node path) h = absurd h.4
-net_tellable ops o text (Node placed node fault) h = absurd h.4
-net_tellable ops o text (Cause net names instant items) h = tt
-net_tellable ops o text (LimitPassed l) h = tt
-net_tellable ops o text OutOfMemory h = tt
+net_tellable : (nodes : List PlacedNode) (clocks : List NodeClock) (e : Refusal) → RefusesNet nodes clocks e → IsTellable e
+net_tellable nodes clocks (Syntax e) h = absurd h
+net_tellable nodes clocks (Names e) h = absurd h
+net_tellable nodes clocks (Types placed node path) h = absurd h
+net_tellable nodes clocks (Node placed node fault) h = absurd h
+net_tellable nodes clocks (Cause net names instant items) h = tt
+net_tellable nodes clocks (LimitPassed l) h = tt
+net_tellable nodes clocks OutOfMemory h = tt
 
 pub tellable : (ops : List Operator) (o : Options) (text : List ℕ) (e : Refusal) → Refuses ops o text e → IsTellable e
 tellable ops o text e (inl h) = phase_tellable ops o text e h
-tellable ops o text e (inr h) = net_tellable ops o text e h
+tellable ops o text e (inr h) = net_tellable h.0.nodes h.2 e h.4

@@ -17,7 +17,7 @@ use Rattle.lucy_cause.specs.Schedules.{IsScheduleOf}
 use Rattle.lucy_front.specs.declared.accepted.Accepted.{Accepted}
 use Rattle.lucy_front.specs.declared.options.Options.{Options}
 use Rattle.lucy_front.specs.declared.refusal.Refusal.{Refusal}
-use Rattle.lucy_front.specs.declared.refusal.Refusal.TheVariants.{Syntax, Names, Types, Node, Cause, Limit as LimitPassed, OutOfMemory}
+use Rattle.lucy_front.specs.declared.refusal.Refusal.TheVariants.{Syntax, Names, Types, Node, Limit as LimitPassed, OutOfMemory}
 use Rattle.lucy_front.specs.Clocked.{AreClocksOf, PassesLimit, RefusesNode, IsUnclocked}
 use Rattle.lucy_front.specs.Scheduled.{inputs_of, outputs_of, IsNetOf, RefusesNet}
 
@@ -46,43 +46,41 @@ pub record IsAccepted (ops : List Operator) (o : Options) (text : List ℕ) (a :
   pub inputs : a.inputs.items ≡ inputs_of a.placed.nodes a.typed
   pub outputs : a.outputs.items ≡ outputs_of a.placed.nodes a.typed a.clocks.items
 
--- the refusal of a syntax that is none of a limit
-abbrev pub IsSyntax : SyntaxError → Type 0
-IsSyntax (syntax.TooLarge l) = ⊥
-IsSyntax syntax.OutOfMemory = ⊥
-IsSyntax e = Unit {0}
+-- the text has no tree, and is refused so; a limit and want of memory are told as such
+abbrev pub RefusesSyntax : (text : List ℕ) → Refusal → Type 0
+RefusesSyntax text (Syntax (syntax.TooLarge l)) = ⊥
+RefusesSyntax text (Syntax syntax.OutOfMemory) = ⊥
+RefusesSyntax text (Syntax e) = IsRefused text e
+RefusesSyntax text (LimitPassed l) = IsRefused text (syntax.TooLarge l)
+RefusesSyntax text refusal = ⊥
 
--- the refusal of names that is none of a limit
-abbrev pub IsName : NameError → Type 0
-IsName (names.TooMany l) = ⊥
-IsName names.OutOfMemory = ⊥
-IsName e = Unit {0}
+-- a text is refused: for its syntax, else for its names, else for the types of its nodes
+abbrev pub RefusesText : List Operator → (text : List ℕ) → Refusal → Type 0
+RefusesText ops text (Names (names.TooMany l)) = ⊥
+RefusesText ops text (Names names.OutOfMemory) = ⊥
+RefusesText ops text (Names e) = (p : ProgramTree) × HasTree text p × IsFirst (faults ops p) e
+RefusesText ops text (Types placed node path) = IsPlacedText ops text placed × IsClash placed.nodes node path.items
+RefusesText ops text (LimitPassed l) =
+    RefusesSyntax text (LimitPassed l) ⊎ ((p : ProgramTree) × HasTree text p × IsFirst (faults ops p) (names.TooMany l))
+RefusesText ops text refusal = RefusesSyntax text refusal
 
--- why the phases refuse a text: first for its syntax, then for its names, then for the types of all nodes, and then node by node
--- (of a limit the number alone is told)
+-- why the phases refuse a text: so, and then node by node for its clocks (of a limit the number alone is told)
 abbrev pub RefusesPhases : List Operator → Options → List ℕ → Refusal → Type 0
-RefusesPhases ops o text (Syntax e) = IsRefused text e × IsSyntax e
-RefusesPhases ops o text (Names e) = (p : ProgramTree) × HasTree text p × IsFirst (faults ops p) e × IsName e
-RefusesPhases ops o text (Types placed node path) = IsPlacedText ops text placed × IsClash placed.nodes node path.items
 RefusesPhases ops o text (Node placed node fault) =
     (tables : List (List Ty)) × IsTypedText ops text placed tables × IsUnclocked o placed.nodes node (RefusesNode o placed node fault)
 RefusesPhases ops o text (LimitPassed l) =
-    IsRefused text (syntax.TooLarge l)
-    ⊎ ((p : ProgramTree) × HasTree text p × IsFirst (faults ops p) (names.TooMany l))
+    RefusesText ops text (LimitPassed l)
     ⊎ ((placed : PlacedProgram) × (tables : List (List Ty)) × IsTypedText ops text placed tables
     × (node : ℕ) × IsUnclocked o placed.nodes node (λ above n. PassesLimit o above n l))
 RefusesPhases ops o text OutOfMemory = Unit {0}
-RefusesPhases ops o text (Cause net names instant items) = ⊥
+RefusesPhases ops o text refusal = RefusesText ops text refusal
 
--- the text has places, types and clocks, and the net that is made of them is refused so
-abbrev pub RefusesClocked : List Operator → Options → List ℕ → Refusal → Type 0
-RefusesClocked ops o text e =
-    (placed : PlacedProgram) × (tables : List (List Ty)) × (clocks : List NodeClock) × IsClockedText ops o text placed tables clocks
-    × RefusesNet placed.nodes clocks e
-
--- why a text is refused: by a phase, or after all of them for its net
+-- why a text is refused: by a phase, or, where it has places, types and clocks, for the net that is made of them
 abbrev pub Refuses : List Operator → Options → List ℕ → Refusal → Type 0
-Refuses ops o text e = RefusesPhases ops o text e ⊎ RefusesClocked ops o text e
+Refuses ops o text e =
+    RefusesPhases ops o text e
+    ⊎ ((placed : PlacedProgram) × (tables : List (List Ty)) × (clocks : List NodeClock) × IsClockedText ops o text placed tables clocks
+    × RefusesNet placed.nodes clocks e)
 
 -- the refusal where the syntax is refused so
 abbrev pub syntax_refusal : SyntaxError → Refusal

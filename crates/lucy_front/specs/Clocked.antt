@@ -37,14 +37,10 @@ pub record AreNodeWords (n : PlacedNode) (words : List Bits) : Type 0 where
   pub fit : IsWordTooLong n → ⊥
   pub bits : word_bits words ≤ limit_number limit.Bits
 
--- the clocks of a node: of a written one the words that it hands down, of another one those that are inferred
-abbrev pub AreItsClocks : Options → List Signature → PlacedNode → NodeClock → Type 0
-AreItsClocks o above n c = (IsWritten n × AreNodeWords n c.words) ⊎ IsInferred o above n c
-
 -- the clocks of a node, within all limits: by these words it is well clocked
 pub record IsClocked (o : Options) (above : List Signature) (n : PlacedNode) (c : NodeClock) : Type 0 where
   pub needs : AreFewNeeds above n
-  pub its : AreItsClocks o above n c
+  pub its : (IsWritten n × AreNodeWords n c.words) ⊎ IsInferred o above n c
   pub count : length c.words ≡ clocks_of n
   pub well : IsWellClocked above n (assigned c.words)
   pub within : AllWithinLimits (assigned c.words) (needs_of above n)
@@ -59,12 +55,6 @@ pub record AreClocksOf (o : Options) (nodes : List PlacedNode) (clocks : List No
 -- a node is written, and this is what the checker first refuses of the words that it hands down
 abbrev pub FailsCheck : List Signature → PlacedNode → CheckFault → Type 0
 FailsCheck above n e = IsWritten n × (words : List Bits) × AreNodeWords n words × IsFirstRefusal (assigned words) (needs_of above n) e
-
--- the checker tells of a need that isn't met, and not of a limit
-abbrev pub IsTold : CheckFault → Type 0
-IsTold (fault.Limit need l) = ⊥
-IsTold fault.OutOfMemory = ⊥
-IsTold e = Unit {0}
 
 -- the limit that a node passes, unless it has to be written and isn't: one of its needs, else one of the words that it hands down,
 -- of the checker or of inference
@@ -85,7 +75,9 @@ RefusesNode o placed node (NotWritten span) above n = (slice_get placed.unwritte
 RefusesNode o placed node (Rates needs walk) above n = AreItsNeeds above n needs × IsUninferred o above n (uninferred.Rates walk)
 RefusesNode o placed node (Clocks needs shape diffs cycle) above n =
     AreItsNeeds above n needs × IsUninferred o above n (uninferred.Clocks shape diffs cycle)
-RefusesNode o placed node (Check needs e) above n = AreItsNeeds above n needs × FailsCheck above n e × IsTold e
+RefusesNode o placed node (Check needs (fault.Limit need l)) above n = ⊥
+RefusesNode o placed node (Check needs fault.OutOfMemory) above n = ⊥
+RefusesNode o placed node (Check needs e) above n = AreItsNeeds above n needs × FailsCheck above n e
 
 -- this node is refused so, and those above it have clocks
 pub record IsUnclocked (o : Options) (nodes : List PlacedNode) (node : ℕ) (Refuses : List Signature → PlacedNode → Type 0) : Type 0 where

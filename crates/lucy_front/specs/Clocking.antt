@@ -1,7 +1,9 @@
 -- Why a node has no clocks, as it is told: a fault of it, or a limit or want of memory, of which the node isn't told.
-use Rattle.std.specs.Prelude.{ℕ, List}
+use Rattle.std.specs.Prelude.{ℕ, ◌⊎◌, List}
 use Rattle.lucy_place.specs.declared.placed.PlacedNode.{PlacedNode}
 use Rattle.lucy_place.specs.PlacedProgram.{PlacedProgram}
+use Rattle.lucy_place.specs.WrittenNodes.{IsWritten}
+use Rattle.lucy_clock.specs.declared.node_clock.NodeClock.{NodeClock}
 use Rattle.lucy_clock.specs.declared.signature.Signature.{Signature}
 use Rattle.lucy_clock.specs.declared.error.ClockError.{ClockError}
 use Rattle.lucy_clock.specs.declared.error.ClockError.TheVariants as error
@@ -17,7 +19,8 @@ use Rattle.lucy_front.specs.declared.fault.NoClocks.TheVariants.{Fault, Limit, O
 use Rattle.lucy_front.specs.declared.fault.Unclocked.{Unclocked}
 use Rattle.lucy_front.specs.declared.refusal.Refusal.{Refusal}
 use Rattle.lucy_front.specs.declared.refusal.Refusal.TheVariants as refusal
-use Rattle.lucy_front.specs.Clocked.{PassesLimit, RefusesNode, IsUnclocked}
+use Rattle.lucy_front.specs.Inferring.{IsInferred}
+use Rattle.lucy_front.specs.Clocked.{AreNodeWords, PassesLimit, RefusesNode, IsUnclocked}
 
 -- where a node has no needs, or no words, for this reason
 abbrev pub clock_fault : ClockError → NoClocks
@@ -55,3 +58,13 @@ refusal_for placed node OutOfMemory = refusal.OutOfMemory
 
 abbrev pub clock_refusal : PlacedProgram → Unclocked → Refusal
 clock_refusal placed u = refusal_for placed u.node u.why
+
+-- the clocks of a node: of a written one the words that it hands down, of another one those that are inferred
+abbrev pub AreItsClocks : Options → List Signature → PlacedNode → NodeClock → Type 0
+AreItsClocks o above n c = (IsWritten n × AreNodeWords n c.words) ⊎ IsInferred o above n c
+
+-- the checker tells of a need that isn't met, and not of a limit
+abbrev pub IsTold : CheckFault → Type 0
+IsTold (fault.Limit need l) = ⊥
+IsTold fault.OutOfMemory = ⊥
+IsTold e = Unit {0}

@@ -2,6 +2,7 @@
 -- the positions of its clocks.
 use Rattle.std.specs.Prelude.{ℕ, suc, ◌+◌, ℤ, pos, negsuc, List, [], ◌∷◌, ◌++◌, map, flat_map, slice_get, codes}
 use Rattle.std.specs.List.{range_with_len}
+use Rattle.std.specs.Option.{unwrap_or}
 use Rattle.std.specs.Fmt.{decimal}
 use Rattle.lucy_place.specs.declared.placed.PlacedNode.{PlacedNode}
 use Rattle.lucy_need.specs.declared.need.Need.{Need}
@@ -15,18 +16,11 @@ use Rattle.lucy_front.specs.Needs.{clock_name, need_text}
 abbrev pub walk_lines : PlacedNode → List Need → List ℕ → List ℕ
 walk_lines n needs walk = flat_map (λ k. of_one (λ need. codes "  " ++ (need_text n need ++ codes "\n")) (slice_get needs k)) walk
 
--- a node whose rates don't agree, with the needs of the walk that shows it
-abbrev pub unequal_lines : PlacedNode → List Need → List ℕ → List ℕ
-unequal_lines n needs walk = codes "lucy: rates: node " ++ (n.name.text ++ (codes "\n" ++ walk_lines n needs walk))
-
--- a position of a clock, from 1 on
-abbrev pub position_name : List ℕ → ℕ → List ℕ
-position_name clock m = clock ++ (codes "[" ++ (decimal m ++ codes "]"))
-
--- those of the clocks from a number on, clock by clock
+-- the positions of the clocks from a number on, clock by clock, each from 1 on
 abbrev pub position_names : PlacedNode → ℕ → List ClockShape → List (List ℕ)
 position_names n clock [] = []
-position_names n clock (c ∷ cs) = map (position_name (clock_name n clock)) (range_with_len 1 (position_count c)) ++ position_names n (clock + 1) cs
+position_names n clock (c ∷ cs) =
+    map (λ m. clock_name n clock ++ (codes "[" ++ (decimal m ++ codes "]"))) (range_with_len 1 (position_count c)) ++ position_names n (clock + 1) cs
 
 -- the variables of inequalities, by their numbers: first the origin, and then the positions of the clocks
 abbrev pub variable_names : PlacedNode → List ClockShape → List (List ℕ)
@@ -37,19 +31,12 @@ abbrev pub most_text : ℤ → List ℕ
 most_text (pos k) = codes " + " ++ decimal k
 most_text (negsuc k) = codes " - " ++ decimal (suc k)
 
--- the name of a variable
-abbrev pub named : List (List ℕ) → ℕ → List ℕ
-named names v = of_one (λ name. name) (slice_get names v)
-
 -- an inequality, as left <= right + most, on a line of its own behind two blanks
 abbrev pub diff_line : List (List ℕ) → Diff → List ℕ
-diff_line names d = codes "  " ++ (named names d.left ++ (codes " <= " ++ (named names d.right ++ (most_text d.most ++ codes "\n"))))
+diff_line names d =
+    let named : ℕ → List ℕ = λ v. unwrap_or (slice_get names v) [] in
+    codes "  " ++ (named d.left ++ (codes " <= " ++ (named d.right ++ (most_text d.most ++ codes "\n"))))
 
 -- the inequalities of these numbers, line by line
 abbrev pub cycle_lines : List (List ℕ) → List Diff → List ℕ → List ℕ
 cycle_lines names diffs cycle = flat_map (λ k. of_one (diff_line names) (slice_get diffs k)) cycle
-
--- a node without clocks in a shape of this period, with the inequalities of the cycle that shows it
-abbrev pub unclocked_lines : PlacedNode → (period : ℕ) → List ClockShape → List Diff → List ℕ → List ℕ
-unclocked_lines n period clocks diffs cycle =
-    codes "lucy: clocks: node " ++ (n.name.text ++ (codes ": no clocks of period " ++ (decimal period ++ (codes "\n" ++ cycle_lines (variable_names n clocks) diffs cycle))))

@@ -1,25 +1,20 @@
 -- How items of a program's flat net are named in print.
-use Rattle.std.specs.Prelude.{ℕ, ◌≡◌, List, [], ◌∷◌, ◌++◌, Option, Some, None, length, slice_get, codes}
+use Rattle.std.specs.Prelude.{ℕ, ◌≡◌, List, [], ◌∷◌, ◌++◌, Some, length, slice_get, codes}
 use Rattle.std.specs.Fmt.{decimal}
 use Rattle.lucy_place.specs.declared.placed.PlacedNode.{PlacedNode}
 use Rattle.lucy_meaning.specs.Spots.{Spot, IsSpot, node_at}
 use Rattle.lucy_meaning.specs.Numbers.{number}
 use Rattle.lucy_cause.specs.declared.error.Item.{Item}
-use Rattle.lucy_front.specs.Names.{place_name}
+use Rattle.lucy_front.specs.Names.{of_one, place_name}
 
 -- `callA.callB.` for the calls that lead from main to an instance
 abbrev pub path_text : List ℕ → List ℕ
 path_text [] = []
 path_text (call ∷ path) = path_text path ++ (codes "call" ++ (decimal call ++ codes "."))
 
--- the name of a place of the node, where there is one
-abbrev pub name_in : Option PlacedNode → ℕ → List ℕ
-name_in None place = []
-name_in (Some n) place = place_name n place
-
 -- an instance place: the calls that lead to its instance, then its place's name there
 abbrev pub spot_name : List PlacedNode → Spot → List ℕ
-spot_name nodes spot = path_text spot.path ++ name_in (node_at nodes spot.path) spot.place
+spot_name nodes spot = path_text spot.path ++ of_one (λ n. place_name n spot.place) (node_at nodes spot.path)
 
 -- the name of an actor: that of the instance place with its number
 pub record IsActorName (nodes : List PlacedNode) (actor : ℕ) (name : List ℕ) : Type 0 where

@@ -10,6 +10,7 @@ pub mod Report
 pub mod Needs
 pub mod Evidence
 pub mod Refusals
+pub mod Laws
 -- Below this line stands what only serves the proofs of the bodies.
 pub mod Sizes
 pub mod Clocking

@@ -20,7 +20,7 @@ use Rattle.lucy_front.specs.declared.fault.NodeFault.TheVariants.{NotWritten, Ra
 use Rattle.lucy_shape.specs.Fitting.{variable_count}
 use Rattle.lucy_front.specs.Names.{of_one, place_names}
 use Rattle.lucy_front.specs.Needs.{need_text}
-use Rattle.lucy_front.specs.Evidence.{unequal_lines, unclocked_lines}
+use Rattle.lucy_front.specs.Evidence.{walk_lines, variable_names, cycle_lines}
 
 -- the line where a limit is passed
 abbrev pub limit_line : Limit → List ℕ
@@ -48,14 +48,6 @@ name_fault_line (names.LaterNode span) = codes "lucy: names: later node at " ++ 
 name_fault_line (names.TooMany l) = limit_line l
 name_fault_line names.OutOfMemory = memory_line
 
--- places, each on a line of its own behind two blanks
-abbrev pub place_lines : List (List ℕ) → List ℕ
-place_lines names = flat_map (λ name. codes "  " ++ (name ++ codes "\n")) names
-
--- a clash of types in a node, with the places that show it
-abbrev pub path_lines : PlacedNode → List ℕ → List ℕ
-path_lines n path = codes "lucy: types: node " ++ (n.name.text ++ (codes ": int against bool\n" ++ place_lines (place_names n path)))
-
 -- a need of a node isn't met, and what is wrong stands at the end
 abbrev pub need_line : PlacedNode → (end : List ℕ) → Need → List ℕ
 need_line n end need = codes "lucy: check: node " ++ (n.name.text ++ (codes ": " ++ (need_text n need ++ end)))
@@ -68,12 +60,15 @@ check_line n needs (fault.Late need at) = of_one (need_line n (codes ": late at 
 check_line n needs (fault.Limit need l) = limit_line l
 check_line n needs fault.OutOfMemory = memory_line
 
--- the lines of a fault of a node
+-- the lines of a fault of a node: that it isn't written; that its rates don't agree, with the needs of the walk that shows it; that it has
+-- no clocks in a shape of this period, with the inequalities of the cycle that shows it; or what the checker says
 abbrev pub fault_lines : PlacedNode → NodeFault → List ℕ
 fault_lines n (NotWritten span) =
     codes "lucy: check: node " ++ (n.name.text ++ (codes ": not written at " ++ (decimal span.from ++ codes "\n")))
-fault_lines n (Rates needs walk) = unequal_lines n needs.list walk.items
-fault_lines n (Clocks needs shape diffs cycle) = unclocked_lines n shape.period shape.clocks diffs.list cycle.items
+fault_lines n (Rates needs walk) = codes "lucy: rates: node " ++ (n.name.text ++ (codes "\n" ++ walk_lines n needs.list walk.items))
+fault_lines n (Clocks needs shape diffs cycle) =
+    codes "lucy: clocks: node " ++ (n.name.text ++ (codes ": no clocks of period " ++ (decimal shape.period
+    ++ (codes "\n" ++ cycle_lines (variable_names n shape.clocks) diffs.list cycle.items))))
 fault_lines n (Check needs e) = check_line n needs.list e
 
 -- items that depend on each other, each by the name of its actor and its number, on a line of its own
@@ -81,17 +76,17 @@ abbrev pub item_lines : List (List ℕ) → List Item → List ℕ
 item_lines (name ∷ names) (item ∷ items) = codes "  " ++ (name ++ (codes "[" ++ (decimal item.number ++ (codes "]\n" ++ item_lines names items))))
 item_lines names items = []
 
--- items of one instant that depend on each other
-abbrev pub cause_lines : ℕ → List (List ℕ) → List Item → List ℕ
-cause_lines instant names items = codes "lucy: causality: instant " ++ (decimal instant ++ (codes "\n" ++ item_lines names items))
-
--- the text of a refusal
+-- the text of a refusal: of a clash of types in a node with the places that show it, of items of one instant that depend on each other
+-- with their names
 abbrev pub refusal_text : Refusal → List ℕ
 refusal_text (Syntax e) = syntax_line e
 refusal_text (Names e) = name_fault_line e
-refusal_text (Types placed node path) = of_one (λ n. path_lines n path.items) (slice_get placed.nodes node)
+refusal_text (Types placed node path) =
+    of_one (λ n. codes "lucy: types: node " ++ (n.name.text ++ (codes ": int against bool\n"
+    ++ flat_map (λ name. codes "  " ++ (name ++ codes "\n")) (place_names n path.items)))) (slice_get placed.nodes node)
 refusal_text (Node placed node fault) = of_one (λ n. fault_lines n fault) (slice_get placed.nodes node)
-refusal_text (Cause net names instant items) = cause_lines instant names.items items.items
+refusal_text (Cause net names instant items) =
+    codes "lucy: causality: instant " ++ (decimal instant ++ (codes "\n" ++ item_lines names.items items.items))
 refusal_text (LimitPassed l) = limit_line l
 refusal_text OutOfMemory = memory_line
 

@@ -1,5 +1,5 @@
 -- The report of an accepted program.
-use Rattle.std.specs.Prelude.{ℕ, ◌+◌, ◌≤◌, ◌≡◌, Bool, true, false, List, [], ◌∷◌, ◌++◌, Option, Some, None, length, drop, slice_get, codes, if◌then◌else◌}
+use Rattle.std.specs.Prelude.{ℕ, ◌+◌, ◌≤◌, ◌≡◌, Bool, ◌==◌, List, [], ◌∷◌, ◌++◌, Option, Some, length, slice_get, codes, if◌then◌else◌}
 use Rattle.std.specs.Option.{unwrap_or, option_and_then}
 use Rattle.std.specs.Fmt.{decimal}
 use Rattle.lucy_word.specs.Bits.{Bits}
@@ -13,7 +13,6 @@ use Rattle.lucy_place.specs.Reads.{operands_of}
 use Rattle.lucy_types.specs.declared.ty.Ty.{Ty}
 use Rattle.lucy_types.specs.declared.ty.Ty.TheVariants as ty
 use Rattle.lucy_types.specs.Programs.{IsTyped}
-use Rattle.lucy_types.specs.Tables.{table_at}
 use Rattle.lucy_need.specs.Meeting.{Assignment, assigned}
 use Rattle.lucy_clock.specs.declared.node_clock.NodeClock.{NodeClock}
 use Rattle.lucy_clock.specs.Clocks.{call_clock}
@@ -25,37 +24,28 @@ type_name main ty.Int = codes "int"
 type_name main ty.Bool = codes "bool"
 type_name main (ty.Open class) = if main then codes "int" else (codes "'" ++ decimal class)
 
--- `  NAME : TYPE :: WORD`, for a place that has a name
-abbrev pub name_line : (main : Bool) → Option Name → Ty → Bits → List ℕ
-name_line main name t w =
-    of_one (λ x. codes "  " ++ (x.text ++ (codes " : " ++ (type_name main t ++ (codes " :: " ++ (text_of w ++ codes "\n")))))) name
+-- `  NAME : TYPE`, and this behind it, for a place that has a name
+abbrev pub name_line : (main : Bool) → Option Name → Ty → (rest : List ℕ) → List ℕ
+name_line main name t rest = of_one (λ x. codes "  " ++ (x.text ++ (codes " : " ++ (type_name main t ++ (rest ++ codes "\n"))))) name
 
--- the lines of places from a number on
-abbrev pub name_lines : (main : Bool) → Assignment → ℕ → List PlaceEntry → List Ty → List ℕ
-name_lines main w place (e ∷ es) (t ∷ ts) = name_line main e.name t (w place) ++ name_lines main w (place + 1) es ts
-name_lines main w place es ts = []
+-- the lines of places from a number on, with what is said of each
+abbrev pub name_lines : (main : Bool) → (said : ℕ → List ℕ) → ℕ → List PlaceEntry → List Ty → List ℕ
+name_lines main said place (e ∷ es) (t ∷ ts) = name_line main e.name t (said place) ++ name_lines main said (place + 1) es ts
+name_lines main said place es ts = []
 
 -- the first place that a place reads, if it reads any
 abbrev pub first_operand : PlacedNode → ℕ → Option ℕ
 first_operand n place = option_and_then (λ entry. slice_get (operands_of entry.kind) 0) (at_one n.places place)
 
--- `WORD1 <: WORD2`, with the words of two clocks
-abbrev pub adapted : Assignment → (from to : ℕ) → List ℕ
-adapted w from to = text_of (w from) ++ (codes " <: " ++ text_of (w to))
-
--- ` at most B`, where a bound is written
-abbrev pub bound_part : Option ℕ → List ℕ
-bound_part None = []
-bound_part (Some most) = codes " at most " ++ decimal most
-
--- ` size S`, with its bound
+-- ` size S`, and ` at most B`, where a bound is written
 abbrev pub size_part : ℕ → Option ℕ → List ℕ
-size_part size most = codes " size " ++ (decimal size ++ bound_part most)
+size_part size bound = codes " size " ++ (decimal size ++ of_one (λ most. codes " at most " ++ decimal most) bound)
 
 -- `  buffer N : WORD1 <: WORD2 size S`, with the words of its operand and of its place, and with its bound
 abbrev pub buffer_line : PlacedNode → Assignment → (number place size : ℕ) → List ℕ
 buffer_line n w number place size =
-    codes "  buffer " ++ (decimal number ++ (codes " : " ++ (adapted w (unwrap_or (first_operand n place) 0) place ++ (size_part size (bound_of n number) ++ codes "\n"))))
+    codes "  buffer " ++ (decimal number ++ (codes " : " ++ (text_of (w (unwrap_or (first_operand n place) 0)) ++ (codes " <: " ++ (text_of (w place)
+    ++ (size_part size (bound_of n number) ++ codes "\n"))))))
 
 -- the lines of buffers from a number on
 abbrev pub buffer_lines : PlacedNode → Assignment → ℕ → List ℕ → List ℕ → List ℕ
@@ -71,24 +61,16 @@ abbrev pub call_lines : List PlacedNode → PlacedNode → Assignment → ℕ �
 call_lines nodes n w number [] = []
 call_lines nodes n w number (site ∷ sites) = call_line nodes number site (w (call_clock n number)) ++ call_lines nodes n w (number + 1) sites
 
--- the lines of a node with these types and clocks
+-- the lines of a node, main or another, with these types and clocks
 abbrev pub node_lines : List PlacedNode → (main : Bool) → PlacedNode → List Ty → NodeClock → List ℕ
 node_lines nodes main n ts c =
-    node_line n ++ (name_lines main (assigned c.words) 1 n.places ts ++ (buffer_lines n (assigned c.words) 1 n.buffers c.sizes
-    ++ call_lines nodes n (assigned c.words) 1 n.calls))
+    let w : Assignment = assigned c.words in
+    node_line n ++ (name_lines main (λ place. codes " :: " ++ text_of (w place)) 1 n.places ts
+    ++ (buffer_lines n w 1 n.buffers c.sizes ++ call_lines nodes n w 1 n.calls))
 
--- main is the last node
-abbrev pub is_main : (behind : List PlacedNode) → Bool
-is_main [] = true
-is_main (n ∷ ns) = false
-
--- the lines of the node of this number, at these clocks
-abbrev pub node_report : List PlacedNode → List (List Ty) → (node : ℕ) → PlacedNode → NodeClock → List ℕ
-node_report nodes tables node n c = node_lines nodes (is_main (drop (node + 1) nodes)) n (table_at tables node) c
-
--- the lines of nodes, of all that there are
+-- the lines of nodes, of all that there are; main has none behind it
 abbrev pub lines_of : List PlacedNode → List PlacedNode → List (List Ty) → List NodeClock → List ℕ
-lines_of nodes (n ∷ ns) (ts ∷ tables) (c ∷ clocks) = node_lines nodes (is_main ns) n ts c ++ lines_of nodes ns tables clocks
+lines_of nodes (n ∷ ns) (ts ∷ tables) (c ∷ clocks) = node_lines nodes (length ns == 0) n ts c ++ lines_of nodes ns tables clocks
 lines_of nodes ns tables clocks = []
 
 -- the report of a program

@@ -1,5 +1,6 @@
 // The texts of what shows that no clocks are inferred for a node.
-ghost use Rattle.std.specs.Prelude.{◌≡◌, ◌<◌, ◌++◌, Some, length, map, slice_get, IfOk, OnOk};
+ghost use Rattle.std.specs.Prelude.{◌≡◌, ◌<◌, ◌++◌, Some, codes, length, map, slice_get, IfOk, OnOk};
+ghost use Rattle.std.specs.Fmt.{decimal};
 ghost use Rattle.std.specs.List.{range_with_len};
 ghost use Rattle.lucy_place.specs.declared.placed.PlacedNode.{PlacedNode as Node};
 ghost use Rattle.lucy_clock.specs.Clocks.{clocks_of};
@@ -46,7 +47,8 @@ pub(crate) fn unequal_lines(
     walk: &[u32],
 ) -> Result<Vec<u8>, OutOfMemory>
     requires { AreBelow (length needs.now) walk.now }
-    ensures { IfOk result (λ v. v.items ≡ spec.unequal_lines node.now needs.now walk.now) }
+    ensures { IfOk result (λ v. v.items ≡ codes "lucy: rates: node "
+        ++ (node.now.name.text ++ (codes "\n" ++ spec.walk_lines node.now needs.now walk.now))) }
 {
     let mut lines = Vec::new(alloc);
     bytes(b"lucy: rates: node ", &mut lines)?;
@@ -58,7 +60,7 @@ pub(crate) fn unequal_lines(
 
 // A position of a clock.
 fn position_name(alloc: Global, clock: &[u8], position: u64) -> Result<Text, OutOfMemory>
-    ensures { IfOk result (λ text. text ≡ spec.position_name clock.now position) }
+    ensures { IfOk result (λ text. text ≡ clock.now ++ (codes "[" ++ (decimal position ++ codes "]"))) }
 {
     let mut name = Vec::new(alloc);
     bytes(clock, &mut name)?;
@@ -76,7 +78,7 @@ fn put_positions(
     names: &mut Vec<Text>,
 ) -> Result<(), OutOfMemory>
     requires { count < 18446744073709551615 }
-    ensures { OnOk result (names.new.items ≡ names.old.items ++ map (spec.position_name clock.now) (range_with_len 1 count)) }
+    ensures { OnOk result (names.new.items ≡ names.old.items ++ map (λ m. clock.now ++ (codes "[" ++ (decimal m ++ codes "]"))) (range_with_len 1 count)) }
 {
     'each: for position in 1..count + 1 {
         push(names, position_name(alloc, clock, position)?)?;
@@ -185,7 +187,9 @@ pub(crate) fn unclocked_lines(
     requires clocks { length shape.now.clocks ≡ clocks }
     requires variables { diffs.now.count ≡ variable_count shape.now.clocks }
     requires there { AreBelow (length diffs.now.list) cycle.now }
-    ensures { IfOk result (λ v. v.items ≡ spec.unclocked_lines node.now shape.now.period shape.now.clocks diffs.now.list cycle.now) }
+    ensures { IfOk result (λ v. v.items ≡ codes "lucy: clocks: node "
+        ++ (node.now.name.text ++ (codes ": no clocks of period " ++ (decimal shape.now.period
+        ++ (codes "\n" ++ spec.cycle_lines (spec.variable_names node.now shape.now.clocks) diffs.now.list cycle.now))))) }
 {
     let mut lines = Vec::new(alloc);
     bytes(b"lucy: clocks: node ", &mut lines)?;

@@ -1,6 +1,7 @@
 // Prints the nodes of an accepted program with their types, words and sizes.
-ghost use Rattle.std.specs.Prelude.{◌≡◌, ◌+◌, ◌<◌, ◌≤◌, ◌++◌, ℕ, List, Some, IfOk, OnOk, length, slice_get};
+ghost use Rattle.std.specs.Prelude.{◌≡◌, ◌+◌, ◌<◌, ◌≤◌, ◌==◌, ◌++◌, ℕ, List, Some, IfOk, OnOk, codes, length, slice_get};
 ghost use Rattle.std.specs.List.{AllByRecursion};
+ghost use Rattle.std.specs.Fmt.{decimal};
 ghost use Rattle.lucy_word.specs.Spelling.{text_of};
 ghost use Rattle.lucy_host.specs.Operators.{Operator};
 ghost use Rattle.lucy_place.specs.Faults.{most_places};
@@ -12,6 +13,7 @@ ghost use Rattle.lucy_types.specs.Programs.{IsTyped};
 ghost use Rattle.lucy_front.specs.declared.options.Options.{Options as Choices};
 ghost use Rattle.lucy_front.specs.Accepting.{IsAccepted};
 ghost use Rattle.lucy_front.specs.Report.{IsReportable};
+ghost use Rattle.lucy_front.specs.Names.{of_one};
 ghost use Rattle.lucy_front.specs.Report as spec;
 
 use crate::accepted::Accepted;
@@ -61,7 +63,7 @@ fn name_line(
     place: u32,
     out: &mut Vec<u8>,
 ) -> Result<(), OutOfMemory>
-    ensures { OnOk result (out.new.items ≡ out.old.items ++ spec.name_line main name.now ty (assigned words.now place)) }
+    ensures { OnOk result (out.new.items ≡ out.old.items ++ spec.name_line main name.now ty (codes " :: " ++ text_of (assigned words.now place))) }
 {
     let Some(name) = name else {
         return Ok(());
@@ -88,7 +90,7 @@ fn name_lines(
     requires node { node < length typed.now }
     requires few { length entries.now ≤ most_places }
     requires all { length (table_at typed.now node) ≡ length entries.now }
-    ensures { OnOk result (out.new.items ≡ out.old.items ++ spec.name_lines main (assigned words.now) 1 entries.now (table_at typed.now node)) }
+    ensures { OnOk result (out.new.items ≡ out.old.items ++ spec.name_lines main (λ place. codes " :: " ++ text_of (assigned words.now place)) 1 entries.now (table_at typed.now node)) }
 {
     'each: for (i, entry) in entries.iter().enumerate() {
         let place = i as u32 + 1;
@@ -114,7 +116,7 @@ fn adapted(
     to: u32,
     out: &mut Vec<u8>,
 ) -> Result<(), OutOfMemory>
-    ensures { OnOk result (out.new.items ≡ out.old.items ++ spec.adapted (assigned words.now) from to) }
+    ensures { OnOk result (out.new.items ≡ out.old.items ++ (text_of (assigned words.now from) ++ (codes " <: " ++ text_of (assigned words.now to)))) }
 {
     clock_word(alloc, words, from, out)?;
     bytes(b" <: ", out)?;
@@ -130,7 +132,7 @@ fn bound_of(node: &PlacedNode, buffer: u64) -> Option<u64>
 
 // ` at most B`, where a bound is written.
 fn bound_part(alloc: Global, most: Option<u64>, out: &mut Vec<u8>) -> Result<(), OutOfMemory>
-    ensures { OnOk result (out.new.items ≡ out.old.items ++ spec.bound_part most) }
+    ensures { OnOk result (out.new.items ≡ out.old.items ++ of_one (λ (bound : ℕ). codes " at most " ++ decimal bound) most) }
 {
     let Some(most) = most else {
         return Ok(());
@@ -300,7 +302,8 @@ pub fn report_node(
     requires typed { IsTyped accepted.now.placed.nodes accepted.now.typed }
     requires sizes { (n : Node) → slice_get accepted.now.placed.nodes node ≡ Some n → length clocks.now.sizes ≡ length n.buffers }
     ensures { (n : Node) → slice_get accepted.now.placed.nodes node ≡ Some n →
-        IfOk result (λ v. v.items ≡ spec.node_report accepted.now.placed.nodes accepted.now.typed node n clocks.now) }
+        IfOk result (λ v. v.items ≡ spec.node_lines accepted.now.placed.nodes (node + 1 == length accepted.now.placed.nodes) n
+        (table_at accepted.now.typed node) clocks.now) }
 {
     let mut out = Vec::new(alloc);
     let placed = &accepted.placed;

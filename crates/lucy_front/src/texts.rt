@@ -1,6 +1,8 @@
 // The texts of refusals.
-ghost use Rattle.std.specs.Prelude.{◌≡◌, ◌<◌, ◌++◌, IfOk, OnOk, length};
+ghost use Rattle.std.specs.Prelude.{◌≡◌, ◌<◌, ◌++◌, IfOk, OnOk, codes, flat_map, length};
+ghost use Rattle.std.specs.Fmt.{decimal};
 ghost use Rattle.lucy_front.specs.declared.fault.NodeFault.TheVariants.{NotWritten};
+ghost use Rattle.lucy_front.specs.Names.{place_names};
 ghost use Rattle.lucy_front.specs.Refusals as spec;
 
 use crate::evidence::{unclocked_lines, unequal_lines};
@@ -66,7 +68,7 @@ fn name_line(alloc: Global, error: NameError) -> Result<Vec<u8>, OutOfMemory>
 
 // Puts places last, each on a line of its own.
 fn place_lines(places: &[Text], lines: &mut Vec<u8>) -> Result<(), OutOfMemory>
-    ensures { OnOk result (lines.new.items ≡ lines.old.items ++ spec.place_lines places.now) }
+    ensures { OnOk result (lines.new.items ≡ lines.old.items ++ flat_map (λ name. codes "  " ++ (name ++ codes "\n")) places.now) }
 {
     'each: for place in places {
         bytes(b"  ", lines)?;
@@ -78,7 +80,8 @@ fn place_lines(places: &[Text], lines: &mut Vec<u8>) -> Result<(), OutOfMemory>
 
 // The lines of a clash of types in a node.
 fn path_lines(alloc: Global, node: &PlacedNode, path: &[u32]) -> Result<Vec<u8>, OutOfMemory>
-    ensures { IfOk result (λ v. v.items ≡ spec.path_lines node.now path.now) }
+    ensures { IfOk result (λ v. v.items ≡ codes "lucy: types: node "
+        ++ (node.now.name.text ++ (codes ": int against bool\n" ++ flat_map (λ name. codes "  " ++ (name ++ codes "\n")) (place_names node.now path.now)))) }
 {
     let mut lines = Vec::new(alloc);
     bytes(b"lucy: types: node ", &mut lines)?;
@@ -190,7 +193,8 @@ fn cause_lines(
     names: &[Text],
     items: &[Item],
 ) -> Result<Vec<u8>, OutOfMemory>
-    ensures { IfOk result (λ v. v.items ≡ spec.cause_lines instant names.now items.now) }
+    ensures { IfOk result (λ v. v.items ≡ codes "lucy: causality: instant "
+        ++ (decimal instant ++ (codes "\n" ++ spec.item_lines names.now items.now))) }
 {
     let mut lines = Vec::new(alloc);
     bytes(b"lucy: causality: instant ", &mut lines)?;

@@ -1,7 +1,11 @@
 -- One line more.
 use Rattle.std.proofs.Common.{ℕ, ◌+◌, ◌≡◌, List, [], ◌++◌, suc, codes, refl, ap, sym, ◌∙◌, subst, append_assoc, add-one}
 use Rattle.std.specs.Fmt.{decimal}
-use Rattle.lucy_make.specs.Text.{stage_line, stage_lines, item_line, item_lines, made_input}
+use Rattle.lucy_make.specs.Text.{stage_line, stage_lines, item_lines, made_input}
+
+-- the line of an item
+abbrev pub item_line : (number : ℕ) → List ℕ
+item_line number = codes "x " ++ (decimal number ++ codes "\n")
 
 -- the program with these lines
 abbrev pub text_with : (stages : ℕ) (lines : List ℕ) → List ℕ

@@ -2,10 +2,6 @@
 use Rattle.std.specs.Prelude.{ℕ, zero, suc, ◌-◌, ◌*◌, ◌%◌, ◌==◌, List, [], ◌++◌, codes, if◌then◌else◌}
 use Rattle.std.specs.Fmt.{decimal}
 
--- the stream on which a stage stands: main's input for the first, else that of the stage before
-abbrev pub source_of : (stage : ℕ) → List ℕ
-source_of stage = if stage == 1 then codes "x" else codes "y" ++ decimal (stage - 1)
-
 -- the form of a stage on such a stream, by the remainder of its number: a sum, a sum of neighbours, a swap in pairs, a threshold
 abbrev pub form : (remainder stage : ℕ) (x : List ℕ) → List ℕ
 form remainder stage x =
@@ -14,9 +10,12 @@ form remainder stage x =
     else (if remainder == 3 then codes "merge (01) (buffer (" ++ (x ++ (codes " when (10))) (buffer (" ++ (x ++ codes " when (01)))")))
     else codes "if " ++ (x ++ (codes " < " ++ (decimal (100 * stage) ++ (codes " then " ++ (x ++ (codes " else " ++ (x ++ (codes " - " ++ decimal stage))))))))))
 
--- the line of a stage
+-- the line of a stage, which stands on main's input where it is the first, else on the stream of the stage before
 abbrev pub stage_line : (stage : ℕ) → List ℕ
-stage_line stage = (if stage == 1 then codes "  " else codes "  and ") ++ (codes "y" ++ (decimal stage ++ (codes " = " ++ (form (stage % 4) stage (source_of stage) ++ codes "\n"))))
+stage_line stage =
+    let source : List ℕ = if stage == 1 then codes "x" else codes "y" ++ decimal (stage - 1) in
+    (if stage == 1 then codes "  " else codes "  and ")
+    ++ (codes "y" ++ (decimal stage ++ (codes " = " ++ (form (stage % 4) stage source ++ codes "\n"))))
 
 -- those of the first stages
 abbrev pub stage_lines : (stages : ℕ) → List ℕ
@@ -27,14 +26,10 @@ stage_lines (suc n) = stage_lines n ++ stage_line (suc n)
 abbrev pub made_text : (stages : ℕ) → List ℕ
 made_text stages = codes "let node made x = y" ++ (decimal stages ++ (codes " where rec\n" ++ stage_lines stages))
 
--- the line of an item, whose value is its number
-abbrev pub item_line : (number : ℕ) → List ℕ
-item_line number = codes "x " ++ (decimal number ++ codes "\n")
-
--- those of the first items
+-- the lines of the first items, of which each has its number as its value
 unfoldable pub item_lines : (items : ℕ) → List ℕ
 item_lines zero = []
-item_lines (suc n) = item_lines n ++ item_line (suc n)
+item_lines (suc n) = item_lines n ++ (codes "x " ++ (decimal (suc n) ++ codes "\n"))
 
 -- the input has a thousand items
 unfoldable pub made_input : List ℕ

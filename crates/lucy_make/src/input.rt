@@ -1,5 +1,6 @@
 // The generated input.
-ghost use Rattle.std.specs.Prelude.{◌≡◌, ◌++◌, IfOk, OnOk};
+ghost use Rattle.std.specs.Prelude.{◌≡◌, ◌++◌, IfOk, OnOk, codes};
+ghost use Rattle.std.specs.Fmt.{decimal};
 ghost use Rattle.lucy_make.specs.Text as spec;
 
 use lucy_text::SteadySource;
@@ -11,7 +12,7 @@ const ITEMS: u64 = 1000;
 
 // Adds the line of an item.
 fn add_line(alloc: Global, number: u64, text: &mut Vec<u8>) -> Result<(), OutOfMemory>
-    ensures { OnOk result (text.new.items ≡ text.old.items ++ spec.item_line number) }
+    ensures { OnOk result (text.new.items ≡ text.old.items ++ (codes "x " ++ (decimal number ++ codes "\n"))) }
 {
     let line = format!(in alloc; "x {number}\n")?;
     text.extend_from_slice(line.as_bytes())?;

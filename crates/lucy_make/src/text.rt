@@ -1,5 +1,6 @@
 // The generated program.
-ghost use Rattle.std.specs.Prelude.{◌≡◌, ◌≤◌, ◌%◌, ◌++◌, IfOk, OnOk, string_bytes};
+ghost use Rattle.std.specs.Prelude.{◌≡◌, ◌≤◌, ◌-◌, ◌%◌, ◌==◌, ◌++◌, IfOk, OnOk, codes, string_bytes, if◌then◌else◌};
+ghost use Rattle.std.specs.Fmt.{decimal};
 ghost use Rattle.lucy_make.specs.Text as spec;
 
 use lucy_word::OutOfMemory;
@@ -8,7 +9,7 @@ use std::alloc::{AllocError, Global};
 // The stream on which a stage stands.
 fn source_of(alloc: Global, stage: u64) -> Result<String, AllocError>
     requires { 1 ≤ stage }
-    ensures { IfOk result (λ s. string_bytes s ≡ spec.source_of stage) }
+    ensures { IfOk result (λ s. string_bytes s ≡ (if stage == 1 then codes "x" else codes "y" ++ decimal (stage - 1))) }
 {
     if stage == 1 {
         return Ok(format!(in alloc; "x")?);

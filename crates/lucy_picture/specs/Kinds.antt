@@ -5,8 +5,8 @@ use Rattle.lucy_word.specs.Bits.{Bits}
 use Rattle.lucy_word.specs.Spelling.{text_of}
 use Rattle.lucy_host.specs.declared.op.Op.{Op}
 use Rattle.lucy_tree.specs.Tree.{Tree, host, sampled, call}
-use Rattle.lucy_token.specs.Marks.{spelling}
-use Rattle.lucy_grammar.specs.Print.{op_mark, lit_token, spaced_text}
+use Rattle.lucy_token.specs.Marks.{spelling, op_mark}
+use Rattle.lucy_grammar.specs.Print.{lit_token, spaced_text}
 use Rattle.lucy_place.specs.declared.entry.PlaceEntry.{PlaceEntry}
 use Rattle.lucy_place.specs.declared.entry.PlaceKind.{PlaceKind}
 use Rattle.lucy_place.specs.declared.entry.PlaceKind.TheVariants as kind

@@ -3,8 +3,8 @@ use Rattle.std.specs.Prelude.{ℕ, ℤ, ◌<◌, ◌≡◌, ◌⊎◌, List, [],
 use Rattle.std.specs.Fmt.{decimal}
 use Rattle.lucy_word.specs.declared.limit.Limit.TheVariants as limit
 use Rattle.lucy_text.specs.declared.shelf.ShelfError.{ShelfError}
-use Rattle.lucy_text.specs.declared.shelf.ShelfError.TheVariants as shelf
-use Rattle.lucy_app.specs.Answers.{Answer, refused, no_command, read_fault, limit_passed, out_of_memory}
+use Rattle.lucy_app.specs.Answers.{Answer, refused, no_command, limit_passed, out_of_memory}
+use Rattle.lucy_app.specs.Programs.{OwesUnfetched}
 use Rattle.lucy_tables.specs.Tables.{RefusesTable}
 use Rattle.lucy_tables.specs.Words.{TableWords, AreWhole, most_tables}
 use Rattle.lucy_tables.specs.Loading.{IsFile}
@@ -30,10 +30,7 @@ table_refused name OutOfMemory = out_of_memory []
 -- what was fetched for the table of this name is refused with this answer
 abbrev pub RefusesFile : (name : List ℕ) → (fetched : Result (List ℕ) ShelfError) → Answer → Type 0
 RefusesFile name (Ok text) answer = (e : TableError) × RefusesTable text e × (answer ≡ table_refused name e)
-RefusesFile name (Err shelf.Failed) answer = answer ≡ read_fault
-RefusesFile name (Err shelf.Missing) answer = answer ≡ read_fault
-RefusesFile name (Err shelf.TooLong) answer = answer ≡ limit_passed limit.TableBytes
-RefusesFile name (Err shelf.OutOfMemory) answer = ⊥
+RefusesFile name (Err e) answer = OwesUnfetched limit.TableBytes e answer
 
 -- what was fetched last is refused with this answer, and what was fetched before it are the texts of tables
 abbrev pub RefusesFiles : List TableWords → (fetched : List (Result (List ℕ) ShelfError)) → Answer → Type 0

@@ -1,6 +1,7 @@
 -- What is known of what is told, as it is printed.
 use Rattle.std.proofs.Common.{◌≡◌, ℕ, zero, suc, ◌-◌, ◌<◌, List, [], ◌++◌, length, Some, ap, sym, ◌∙◌, refl, arith, append_assoc}
-use Rattle.std.specs.Prelude.{slice_get}
+use Rattle.std.specs.Prelude.{codes, slice_get}
+use Rattle.std.specs.Fmt.{decimal}
 use Rattle.std.proofs.lemmas.Option.{same_Some}
 use Rattle.lucy_place.specs.declared.placed.PlacedNode.{PlacedNode}
 use Rattle.lucy_clock.specs.Clocks.{clocks_of}
@@ -14,7 +15,11 @@ use Rattle.lucy_front.specs.Refusals.{AreBelow}
 use Rattle.lucy_front.proofs.EvidenceLaws.{all_below}
 use Rattle.lucy_tight.specs.declared.answer.Least.{Least}
 use Rattle.lucy_tight.specs.Tightening.{IsTightened}
-use Rattle.lucy_tight.specs.Report.{too_small, less_lines}
+use Rattle.lucy_tight.specs.Report.{less_lines}
+
+-- that a size is too small
+abbrev pub too_small : (less period : ℕ) → List ℕ
+too_small less period = codes "no size " ++ (decimal less ++ (codes " for period " ++ (decimal period ++ codes "\n")))
 
 module _ (a : Accepted) (o : Options) (node buffer : ℕ) (t : Least) (is : IsTightened a o node buffer t) (n : PlacedNode)
     (at : slice_get a.placed.nodes node ≡ Some n) where

@@ -10,7 +10,7 @@ use Rattle.lucy_shape.specs.declared.shape.RateFault.TheVariants as fault
 use Rattle.lucy_shape.specs.Writing.{AreAnswered, AreRefused}
 use Rattle.lucy_shape.specs.Sized.{sized_inequalities, sized_system}
 use Rattle.lucy_tight.specs.declared.answer.TightError.{TightError}
-use Rattle.lucy_tight.specs.declared.answer.TightError.TheVariants.{Fixed, Limit as LimitPassed, OutOfMemory}
+use Rattle.lucy_tight.specs.declared.answer.TightError.TheVariants.{Limit as LimitPassed}
 
 -- the least size for which the inequalities have a solution
 pub record IsLeast (needs : Needs) (shape : Shape) (from to least : ℕ) : Type 0 where
@@ -40,7 +40,7 @@ pub record IsTightest (needs : Needs) (shape : Shape) (from to least : ℕ) (wor
 -- why nothing is told: the inequalities are too many, else the words of the earliest solution for the least size pass a limit, Word
 -- before Bits
 abbrev pub RefusesTightest : Needs → Shape → (from to : ℕ) → TightError → Type 0
-RefusesTightest needs shape from to OutOfMemory = ⊥
-RefusesTightest needs shape from to (Fixed size) = ⊥
-RefusesTightest needs shape from to (LimitPassed l) = ((l ≡ limit.Inequalities) × HasTooMany needs shape from to)
+RefusesTightest needs shape from to (LimitPassed l) =
+    ((l ≡ limit.Inequalities) × HasTooMany needs shape from to)
     ⊎ ((least : ℕ) × (xs : List ℤ) × IsEarliestAtLeast needs shape from to least xs × AreRefused shape xs (fault.Limit l))
+RefusesTightest needs shape from to e = ⊥

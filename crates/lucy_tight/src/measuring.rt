@@ -50,7 +50,7 @@ fn sizes_at(alloc: Global, node: &PlacedNode, words: &[Word]) -> Result<Vec<u64>
 }
 
 /// Words by which a node is well clocked, with the sizes of its buffers.
-pub fn clocks_at(
+pub(crate) fn clocks_at(
     alloc: Global,
     node: &PlacedNode,
     words: Vec<Word>,

@@ -1,5 +1,5 @@
 // Prints what is told of one buffer.
-ghost use Rattle.std.specs.Prelude.{◌≡◌, ◌<◌, ◌++◌, Some, length, slice_get, IfOk, OnOk};
+ghost use Rattle.std.specs.Prelude.{◌≡◌, ◌<◌, ◌++◌, Some, codes, length, slice_get, IfOk, OnOk};
 ghost use Rattle.std.specs.Fmt.{decimal};
 ghost use Rattle.lucy_place.specs.declared.placed.PlacedNode.{PlacedNode as Node};
 ghost use Rattle.lucy_types.specs.Programs.{IsTyped};
@@ -52,7 +52,7 @@ fn put_size(
 
 // Puts the rest of the line last: the least size.
 fn put_least(alloc: Global, least: u64, out: &mut Vec<u8>) -> Result<(), OutOfMemory>
-    ensures { OnOk result (out.new.items ≡ out.old.items ++ spec.least_size least) }
+    ensures { OnOk result (out.new.items ≡ out.old.items ++ (codes "least " ++ (decimal least ++ codes "\n"))) }
 {
     bytes(b"least ", out)?;
     number(alloc, least, out)?;
@@ -61,7 +61,8 @@ fn put_least(alloc: Global, least: u64, out: &mut Vec<u8>) -> Result<(), OutOfMe
 
 // Puts a size that is too small last, with the period of the clocks.
 fn put_less(alloc: Global, less: u64, period: u64, out: &mut Vec<u8>) -> Result<(), OutOfMemory>
-    ensures { OnOk result (out.new.items ≡ out.old.items ++ spec.too_small less period) }
+    ensures { OnOk result (out.new.items ≡ out.old.items
+        ++ (codes "no size " ++ (decimal less ++ (codes " for period " ++ (decimal period ++ codes "\n"))))) }
 {
     bytes(b"no size ", out)?;
     number(alloc, less, out)?;

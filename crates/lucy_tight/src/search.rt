@@ -42,7 +42,7 @@ fn has_solution(
 }
 
 /// The least size for which the inequalities have a solution, as they have for `printed`.
-pub fn search(
+pub(crate) fn search(
     alloc: Global,
     needs: &Needs,
     shape: &Shape,

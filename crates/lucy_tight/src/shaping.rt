@@ -23,7 +23,7 @@ use std::alloc::Global;
 
 /// Needs with their shape.
 #[derive(Drop)]
-pub struct Shaped {
+pub(crate) struct Shaped {
     pub needs: Needs,
     pub shape: Shape,
 }
@@ -62,7 +62,7 @@ fn shape_of(alloc: Global, needs: &Needs, options: &Options) -> Result<Shape, Ti
 }
 
 /// The needs of a node that isn't written with the printed clocks of the nodes above it, and their shape.
-pub fn shape_node(
+pub(crate) fn shape_node(
     alloc: Global,
     accepted: &Accepted,
     options: &Options,

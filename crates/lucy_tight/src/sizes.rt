@@ -21,7 +21,7 @@ use std::alloc::Global;
 
 /// The inequalities of a size, with their earliest solution or a negative cycle.
 #[derive(Drop)]
-pub struct Trial {
+pub(crate) struct Trial {
     pub diffs: Diffs,
     pub outcome: Outcome,
 }
@@ -53,7 +53,7 @@ fn inequalities(
 }
 
 /// What the inequalities of a size come to.
-pub fn try_size(
+pub(crate) fn try_size(
     alloc: Global,
     needs: &Needs,
     shape: &Shape,

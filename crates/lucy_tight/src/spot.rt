@@ -13,7 +13,7 @@ use lucy_place::PlacedNode;
 
 /// The place that a buffer reads, its own place, and its printed size in items.
 #[derive(Drop)]
-pub struct Spot {
+pub(crate) struct Spot {
     pub from: u32,
     pub to: u32,
     pub printed: u64,
@@ -39,7 +39,7 @@ fn size_of(clocks: &[NodeClock], node: u32, number: usize) -> u64
 }
 
 /// Where a buffer of an accepted program stands, by the number of its node from 0 and its own from 1.
-pub fn spot_of(accepted: &Accepted, node: u32, buffer: u32) -> Spot
+pub(crate) fn spot_of(accepted: &Accepted, node: u32, buffer: u32) -> Spot
     requires accepted { (ops : List Operator) × (o : Choices) × (text : List ℕ) × IsAccepted ops o text accepted.now }
     requires there { (n : Node) × (slice_get accepted.now.placed.nodes node ≡ Some n) × (1 ≤ buffer) × (buffer ≤ length n.buffers) }
     ensures { (of : TheBuffer accepted.now node buffer) × (result.from ≡ of.from) × (result.to ≡ of.to) × (result.printed ≡ of.size) }

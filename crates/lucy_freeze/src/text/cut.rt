@@ -2,6 +2,7 @@
 use crate::text::bases::Walk;
 use crate::text::sheet::Sheet;
 use lucy_host::Op;
+use lucy_token::sign_of;
 use lucy_tree::{Decl, Expr, Node};
 use std::alloc::{AllocError, Global};
 
@@ -95,27 +96,6 @@ impl<'a> Cutter<'a> {
         if let Some(cut) = self.cuts.get_mut(number) {
             cut.text = text;
         }
-    }
-}
-
-// The sign of an operator between its operands, or the keyword before them.
-fn sign_of(op: Op) -> &'static str {
-    match op {
-        Op::Add => "+",
-        Op::Sub => "-",
-        Op::Mul => "*",
-        Op::Div => "/",
-        Op::Rem => "%",
-        Op::Eq => "==",
-        Op::Ne => "!=",
-        Op::Lt => "<",
-        Op::Le => "<=",
-        Op::Gt => ">",
-        Op::Ge => ">=",
-        Op::And => "&&",
-        Op::Or => "||",
-        Op::Not => "not",
-        Op::If => "if",
     }
 }
 

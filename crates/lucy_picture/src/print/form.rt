@@ -2,8 +2,7 @@
 ghost use Rattle.std.specs.Prelude.{◌≡◌, ◌∷◌, ◌++◌, [], OnOk, codes};
 ghost use Rattle.std.specs.Option.{option_map};
 ghost use Rattle.lucy_tree.specs.View.{tree_of};
-ghost use Rattle.lucy_token.specs.Marks.{spelling};
-ghost use Rattle.lucy_grammar.specs.Print.{op_mark, lit_token, spaced_text};
+ghost use Rattle.lucy_grammar.specs.Print.{lit_token, spaced_text};
 ghost use Rattle.lucy_place.specs.Standing.{at_one, bound_of};
 ghost use Rattle.lucy_front.specs.Names.{of_one, name_at, place_name, place_names, listed};
 ghost use Rattle.lucy_picture.specs.Kinds as spec;
@@ -11,32 +10,10 @@ ghost use Rattle.lucy_picture.specs.Kinds as spec;
 use crate::print::columns::put;
 use lucy_host::Op;
 use lucy_place::{CallSite, PlaceEntry, PlaceKind, PlacedNode};
+use lucy_token::sign_of;
 use lucy_tree::{Expr, Lit, Name};
 use lucy_word::{OutOfMemory, Word};
 use std::alloc::{AllocError, Global};
-
-// The sign of an operator, or its first keyword.
-fn sign_of(op: Op) -> &'static str
-    ensures { result.now ≡ spelling (op_mark op) }
-{
-    match op {
-        Op::Add => "+",
-        Op::Sub => "-",
-        Op::Mul => "*",
-        Op::Div => "/",
-        Op::Rem => "%",
-        Op::Eq => "==",
-        Op::Ne => "!=",
-        Op::Lt => "<",
-        Op::Le => "<=",
-        Op::Gt => ">",
-        Op::Ge => ">=",
-        Op::And => "&&",
-        Op::Or => "||",
-        Op::Not => "not",
-        Op::If => "if",
-    }
-}
 
 /// The name of a place, where it has one.
 pub(crate) fn name_at(node: &PlacedNode, place: u32) -> Option<&Name>

@@ -1,11 +1,12 @@
 // A chronogram as text.
-ghost use Rattle.std.specs.Prelude.{ℕ, ◌≡◌, ◌<◌, ◌≤◌, ◌++◌, Some, length, flat_map, slice_get, OnOk};
+ghost use Rattle.std.specs.Prelude.{ℕ, ◌≡◌, ◌<◌, ◌≤◌, ◌++◌, Some, codes, length, flat_map, slice_get, OnOk};
+ghost use Rattle.std.specs.Fmt.{decimal};
 ghost use Rattle.lucy_place.specs.declared.placed.PlacedNode.{PlacedNode as Node};
 ghost use Rattle.lucy_place.specs.Faults.{most_places};
 ghost use Rattle.lucy_place.specs.Standing.{bound_of};
 ghost use Rattle.lucy_flat.specs.Instances.{words_in};
 ghost use Rattle.lucy_front.specs.Names.{of_one, name_at};
-ghost use Rattle.lucy_front.specs.Report.{size_part, bound_part};
+ghost use Rattle.lucy_front.specs.Report.{size_part};
 ghost use Rattle.lucy_picture.specs.Lines as spec;
 
 use crate::chart::Chart;
@@ -143,7 +144,7 @@ fn bound_of(node: &PlacedNode, buffer: u64) -> Option<u64>
 
 // Puts the bound of a buffer last, where one is written.
 fn put_bound(alloc: Global, most: Option<u64>, out: &mut Vec<u8>) -> Result<(), AllocError>
-    ensures { OnOk result (out.new.items ≡ out.old.items ++ bound_part most) }
+    ensures { OnOk result (out.new.items ≡ out.old.items ++ of_one (λ (bound : ℕ). codes " at most " ++ decimal bound) most) }
 {
     match most {
         None => Ok(()),

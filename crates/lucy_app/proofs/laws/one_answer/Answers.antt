@@ -4,7 +4,7 @@ use Rattle.lucy_app.proofs.laws.one_answer.Goals as goal
 pub returns-clause-alike : goal.returns-clause-alike
 returns-clause-alike c = owes_one c.one_cut.ensures c.one_horizon.ensures c.one_run.ensures c.one_interpretation.ensures
     c.one_replay.ensures c.one_trace.ensures
-    (record { alike = c.one_tightest.ensures.alike; kept = c.one_tightest.ensures.kept; only = c.one_tightest.ensures.only })
+    c.one_tightest.ensures
 
 pub returns-clause-order : goal.returns-clause-order
 returns-clause-order c given a b is also = order_owes_one given.taken given.stop a b is also

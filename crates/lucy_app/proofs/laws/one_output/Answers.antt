@@ -4,4 +4,4 @@ use Rattle.lucy_app.proofs.laws.one_output.Goals as goal
 pub returns : goal.returns
 returns c =
     output_one c.one_cut.ensures c.one_horizon.ensures
-    (record { alike = c.one_tightest.ensures.alike; kept = c.one_tightest.ensures.kept; only = c.one_tightest.ensures.only })
+    c.one_tightest.ensures

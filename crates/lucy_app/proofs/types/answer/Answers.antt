@@ -1,4 +1,5 @@
-use Rattle.lucy_app.specs.Types.{IsReportOf, RefusesText}
+use Rattle.lucy_front.specs.Accepting.{RefusesText}
+use Rattle.lucy_app.specs.Types.{IsReportOf}
 use Rattle.lucy_app.proofs.Outcomes.{program_outcome}
 use Rattle.lucy_app.proofs.types.answer.Goals as goal
 

@@ -1,7 +1,7 @@
 use Rattle.std.proofs.Common.{◌≡◌, ◌+◌, ◌-◌, ◌++◌, ◌∷◌, [], map, ap, sym, ◌∙◌, arith, append_assoc}
 use Rattle.std.specs.List.{range_with_len}
 use Rattle.std.proofs.lemmas.List.FromFn.{map-range_with_len_more}
-use Rattle.lucy_front.specs.Evidence.{position_name}
+use Rattle.lucy_front.proofs.LineLaws.{position_name}
 use Rattle.lucy_front.proofs.evidence.put_positions.Goals as goal
 
 pub each-preserved : goal.each-preserved

@@ -1,6 +1,6 @@
 use Rattle.std.proofs.Common.{◌≡◌, ◌-◌, ◌++◌, map}
 use Rattle.std.specs.List.{range_with_len}
-use Rattle.lucy_front.specs.Evidence.{position_name}
+use Rattle.lucy_front.proofs.LineLaws.{position_name}
 use Rattle.lucy_front.proofs.evidence.put_positions.Given as goal
 
 abbrev pub invariant-each : goal.invariant-each

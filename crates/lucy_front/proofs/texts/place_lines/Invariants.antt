@@ -1,5 +1,5 @@
 use Rattle.std.proofs.Common.{◌≡◌, ◌++◌, drop}
-use Rattle.lucy_front.specs.Refusals.{place_lines}
+use Rattle.lucy_front.proofs.LineLaws.{place_lines}
 use Rattle.lucy_front.proofs.texts.place_lines.Given as goal
 
 abbrev pub invariant-each : goal.invariant-each

@@ -1,6 +1,5 @@
 use Rattle.std.proofs.Common.{◌+◌, ◌++◌, ap, sym, ◌∙◌, arith}
-use Rattle.lucy_make.specs.Text.{item_line}
-use Rattle.lucy_make.proofs.Lines.{items_none, item_more, items_all}
+use Rattle.lucy_make.proofs.Lines.{item_line, items_none, item_more, items_all}
 use Rattle.lucy_make.proofs.input.made_input.Goals as goal
 
 pub each-init : goal.each-init

@@ -2,8 +2,7 @@ use Rattle.std.proofs.Common.{◌-◌, ◌++◌, length, ap, sym, ◌∙◌, sub
 use Rattle.std.proofs.lemmas.Result.{on_ok_weaker}
 use Rattle.lucy_front.specs.Evidence.{variable_names, cycle_lines}
 use Rattle.lucy_front.specs.Refusals.{AreBelow}
-use Rattle.lucy_tight.specs.Report.{too_small}
-use Rattle.lucy_tight.proofs.ReportLaws.{none_less, one_less, two}
+use Rattle.lucy_tight.proofs.ReportLaws.{too_small, none_less, one_less, two}
 use Rattle.lucy_tight.proofs.report.put_evidence.Goals as goal
 
 pub returns-then-tight-eq0 : goal.returns-then-tight-eq0
