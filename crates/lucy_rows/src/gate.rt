@@ -1,54 +1,68 @@
-// A gate at which two workers wait for each other, one that tells who came, and one that holds a worker back.
+// A gate at which workers wait for each other, one that tells who came, and one that holds a worker back.
 use lucy_worker::Gate;
 use std::io;
 use std::sync::atomic::{AtomicU64, Ordering};
 
-// How often a worker looks for another one: ten million turns of a hundred looks. That is a second or so, since threads may
+// How often a worker looks for the others: ten million turns of a hundred looks. That is a second or so, since threads may
 // begin late where processors are busy.
 const MOST_LOOKS: u64 = 1_000_000_000;
 
-/// It lets a worker pass once the other one has come to it as often, or after so many looks in vain. Then nobody waits any more.
+/// It lets a worker pass once the first workers, so many of them and four at most, have come to it as often, or after so many looks in
+/// vain. Then nobody waits any more.
 #[derive(Drop)]
-pub(crate) struct Both {
-    first: AtomicU64,
-    second: AtomicU64,
+pub(crate) struct Together {
+    workers: u32,
+    marks: [AtomicU64; 4],
     late: AtomicU64,
 }
 
-impl Both {
-    pub(crate) fn new() -> Both {
-        Both {
-            first: AtomicU64::new(0),
-            second: AtomicU64::new(0),
+impl Together {
+    pub(crate) fn new(workers: u32) -> Together {
+        Together {
+            workers,
+            marks: [
+                AtomicU64::new(0),
+                AtomicU64::new(0),
+                AtomicU64::new(0),
+                AtomicU64::new(0),
+            ],
             late: AtomicU64::new(0),
         }
     }
 
     fn mark(&self, worker: u32) -> &AtomicU64 {
-        if worker == 0 {
-            &self.first
-        } else {
-            &self.second
-        }
+        &self.marks[worker.min(3) as usize]
     }
 
-    /// How often the first worker came, how often the second one did, and whether one looked in vain.
-    pub(crate) fn marks(&self) -> (u64, u64, u64) {
-        (
-            self.first.load(Ordering::SeqCst),
-            self.second.load(Ordering::SeqCst),
-            self.late.load(Ordering::SeqCst),
-        )
+    // Whether each came more than so often.
+    fn have_come(&self, before: u64) -> bool {
+        for worker in 0..self.workers {
+            if self.mark(worker).load(Ordering::SeqCst) <= before {
+                return false;
+            }
+        }
+        true
+    }
+
+    fn is_late(&self) -> bool {
+        self.late.load(Ordering::SeqCst) > 0
+    }
+
+    /// Prints how often each came, and whether one looked in vain.
+    pub(crate) fn print(&self, rt: &impl Print) -> io::Result<()> {
+        print!(rt; "entered")?;
+        for worker in 0..self.workers {
+            print!(rt; " {}", self.mark(worker).load(Ordering::SeqCst))?;
+        }
+        println!(rt; ", late {}", u32::from(self.is_late()))
     }
 }
 
-impl Gate for Both {
+impl Gate for Together {
     fn pass(&self, worker: u32) {
         let before = self.mark(worker).fetch_add(1, Ordering::SeqCst);
         for _ in 0..MOST_LOOKS {
-            if self.mark(1 - worker.min(1)).load(Ordering::SeqCst) > before
-                || self.late.load(Ordering::SeqCst) > 0
-            {
+            if self.have_come(before) || self.is_late() {
                 return;
             }
         }

@@ -1,13 +1,13 @@
-// Runs by workers that come to a gate. Two wait for each other there each time, and neither looks for the other in vain: so `run` goes
-// by workers on threads that are there at the same time, and by blocks, which no contract says. A worker comes exactly where it has
+// Runs by workers that come to a gate. Two wait for each other there each time, or four, and none looks for the others in vain: so `run`
+// goes by workers on threads that are there at the same time, and by blocks, which no contract says. A worker comes exactly where it has
 // an actor: of 64 workers five, and where there are no instants nobody comes, since there is no round.
 //
 // By hand: a round ends once no actor can move, so a block is one round, in which each worker comes once. An instant has ten
-// operations, 410 instants have 4,100, and 40 blocks of these 40 rounds. Of blocks of one instant the first 16 are rounds, and the
-// later ones are too small for threads.
+// operations, 410 instants have 4,100, and 40 blocks of these 40 rounds. Of blocks of one instant, or of 409, which have 4,090
+// operations, the first 16 are rounds, and the later ones are too small for threads.
 ghost use Rattle.lucy_host.specs.Host.{Serves};
 
-use crate::gate::{Both, Came};
+use crate::gate::{Came, Together};
 use crate::row::Row;
 use lucy_host::Host;
 use lucy_worker::Gate;
@@ -24,11 +24,17 @@ const BY_BLOCKS: &str = "words \"run\" \"p\" \"--workers\" \"2\" \"--block\" \"1
 
 const BY_LONG_BLOCKS: &str = "words \"run\" \"p\" \"--workers\" \"2\" \"--block\" \"410\"";
 
+const BY_SHORTER_BLOCKS: &str = "words \"run\" \"p\" \"--workers\" \"2\" \"--block\" \"409\"";
+
 const FORTY_LINES: &str = "input 40 * \"x 1\\n\"";
 
 const LONG_INPUT: &str = "input 16400 * \"x 1\\n\"";
 
+const SHORTER_INPUT: &str = "input 8180 * \"x 1\\n\"";
+
 const LONG_ROOM: &str = "room 131072";
+
+const BY_FOUR: &str = "words \"run\" \"p\" \"--workers\" \"4\" \"--block\" \"1\"";
 
 const BY_THREE: &str = "words \"run\" \"p\" \"--workers\" \"3\"";
 
@@ -55,19 +61,19 @@ pub(crate) fn run<
     Ok(row.run(rt, rt.alloc(), gate, host)?.status)
 }
 
-// Two workers that wait for each other: how often each of them comes, and whether one looks in vain.
-fn show_both<F: Fn(u32, i64, i64) -> i64 + Sync>(
+// So many workers that wait for each other: how often each of them comes, and whether one looks in vain.
+fn show_together<F: Fn(u32, i64, i64) -> i64 + Sync>(
     rt: &(impl Print + AllocGlobal + Threads + Sync),
     host: &Host<F>,
+    workers: u32,
     lines: &[&str],
 ) -> io::Result<()>
     requires { Serves F.pre F.post host.now }
 {
-    let gate = Both::new();
+    let gate = Together::new(workers);
     let status = run(rt, host, lines, &gate)?;
-    let (first, second, late) = gate.marks();
     println!(rt; "status {status}")?;
-    println!(rt; "entered {first} {second}, late {late}")
+    gate.print(rt)
 }
 
 /// Prints what comes of them.
@@ -78,10 +84,22 @@ pub(crate) fn show<F: Fn(u32, i64, i64) -> i64 + Sync>(
     requires { Serves F.pre F.post host.now }
 {
     println!(rt; "= workers that come to a gate")?;
-    show_both(rt, host, &[BY_TWO, PROGRAM, INPUT])?;
-    show_both(rt, host, &[BY_BLOCKS, PROGRAM, INPUT])?;
-    show_both(rt, host, &[BY_LONG_BLOCKS, PROGRAM, LONG_INPUT, LONG_ROOM])?;
-    show_both(rt, host, &[BY_BLOCKS, PROGRAM, FORTY_LINES])?;
+    show_together(rt, host, 2, &[BY_TWO, PROGRAM, INPUT])?;
+    show_together(rt, host, 2, &[BY_BLOCKS, PROGRAM, INPUT])?;
+    show_together(
+        rt,
+        host,
+        2,
+        &[BY_LONG_BLOCKS, PROGRAM, LONG_INPUT, LONG_ROOM],
+    )?;
+    show_together(
+        rt,
+        host,
+        2,
+        &[BY_SHORTER_BLOCKS, PROGRAM, SHORTER_INPUT, LONG_ROOM],
+    )?;
+    show_together(rt, host, 2, &[BY_BLOCKS, PROGRAM, FORTY_LINES])?;
+    show_together(rt, host, 4, &[BY_FOUR, PROGRAM, INPUT])?;
     for words in [BY_THREE, BY_FIVE, BY_64, NO_INSTANTS] {
         let gate = Came::new();
         let status = run(rt, host, &[words, PROGRAM, INPUT], &gate)?;

@@ -11,14 +11,14 @@ use std::thread::Threads;
 /// How the calls of a source or a sink go: each moves at most so many bytes, and the calls with these numbers, from 1,
 /// fail.
 #[derive(Drop)]
-pub struct Calls {
+pub(crate) struct Calls {
     pub most: usize,
     pub fails: Vec<u64>,
 }
 
 /// The text of a row to which a line that begins with a blank adds.
 #[derive(Clone, Copy)]
-pub enum Open {
+pub(crate) enum Open {
     Nothing,
     File,
     Input,
@@ -26,7 +26,7 @@ pub enum Open {
 
 /// One row: the program, the words, the files and the input that are handed in, and how the shelf and the streams behave.
 #[derive(Drop)]
-pub struct Row {
+pub(crate) struct Row {
     /// Whether the words may ask for lookup tables.
     pub tables: bool,
     pub words: Vec<String>,
@@ -47,7 +47,7 @@ pub struct Row {
 
 /// What a run leaves.
 #[derive(Drop)]
-pub struct End {
+pub(crate) struct End {
     pub status: u8,
     pub input: MemSource,
     pub out: MemSink,
