@@ -1,14 +1,14 @@
 -- What is known of the calls of a node, and of the sizes of its buffers.
-use Rattle.std.proofs.Common.{ℕ, ◌+◌, ◌≡◌, ◌<◌, List, Some, length, take, sym, ap, ◌∙◌, subst, arith}
+use Rattle.std.proofs.Common.{ℕ, ◌+◌, ◌-◌, ◌^◌, ◌≡◌, ◌<◌, ◌≤◌, List, Some, length, take, arith}
 use Rattle.std.specs.Prelude.{slice_get}
 use Rattle.std.proofs.lemmas.Option.{slice_get_within}
 use Rattle.lucy_host.specs.Operators.{Operator}
 use Rattle.lucy_place.specs.declared.entry.CallSite.{CallSite}
-use Rattle.lucy_place.specs.declared.entry.PlaceKind.TheVariants.{Result}
 use Rattle.lucy_place.specs.declared.placed.PlacedNode.{PlacedNode}
-use Rattle.lucy_place.specs.Standing.{at_one, Stands}
-use Rattle.lucy_place.specs.Proper.{IsProperNode}
-use Rattle.lucy_types.proofs.ListLaws.{taken}
+use Rattle.lucy_place.specs.Standing.{at_one}
+use Rattle.lucy_place.specs.Faults.{most_places}
+use Rattle.lucy_place.specs.Proper.{IsProperCall, IsProperNode}
+use Rattle.lucy_types.proofs.ListLaws.{taken, at_one_within}
 use Rattle.lucy_clock.specs.declared.node_clock.NodeClock.{NodeClock}
 use Rattle.lucy_clock.specs.Clocks.{call_clock}
 use Rattle.lucy_front.specs.declared.accepted.Accepted.{Accepted}
@@ -29,27 +29,43 @@ module _ (nodes : List PlacedNode) (i : ℕ) (n : PlacedNode) (k : ℕ) (site : 
   pub callee_within : site.node < length nodes
   callee_within = slice_get_within nodes site.node callee found
 
+  -- the call is proper among all nodes, too
+  among : IsProperCall nodes n k site
+  unfolding callee
+  among =
+      let own = proper.calls k site there in record {
+        callee = own.callee;
+        found = found;
+        arguments = own.arguments;
+        places = own.places;
+        some = own.some;
+        results = own.results;
+        only = own.only;
+      }
+
   -- a call by its parts
   pub call_is : (call : DrawnCall) → call.number ≡ k → call.node ≡ site.node → call.base ≡ call_clock n k → call.first ≡ site.first →
       ((m : PlacedNode) → slice_get nodes site.node ≡ Some m → call.results ≡ length m.results) → IsDrawnCall nodes n k call
-  unfolding callee
-  call_is call numbered node base first results =
-      let own = proper.calls k site there in
-      let count : call.results ≡ length own.callee.results = results own.callee found in record {
-        number = numbered;
-        site = site;
-        there = there;
-        node = node;
-        base = base;
-        callee = own.callee;
-        found = ap (slice_get nodes) node ∙ found;
-        count = count;
-        results = λ j h. subst (λ f. Stands n (f + j) (Result k j)) (sym first) (own.results j (omega arith));
-        only = λ p j s.
-            let o = own.only p j s in
-            let here : p ≡ site.first + j = o.0 in
-            let low : j < length own.callee.results = o.1 in (omega arith, omega arith);
-      }
+  unfolding among
+  call_is call numbered node base first results = record {
+    number = numbered;
+    site = site;
+    there = there;
+    node = node;
+    base = base;
+    first = first;
+    proper = among;
+    count = results among.callee among.found;
+  }
+
+-- the numbers of the places of a call's results are small
+pub call_fits : (nodes : List PlacedNode) (n : PlacedNode) (k : ℕ) (call : DrawnCall) → IsDrawnCall nodes n k call → length n.places ≤ most_places → call.first + call.results < 2 ^ 32
+call_fits nodes n k call drawn few =
+    let results = length drawn.proper.callee.results in
+    let last = drawn.proper.results (results - 1) (let h = drawn.proper.some in omega arith) in
+    let within = at_one_within n.places (drawn.site.first + (results - 1)) last.0 last.1 in
+    let some = drawn.proper.some in
+    omega (arith, drawn.first, drawn.count)
 
 -- each buffer of a node of an accepted program has a size
 pub sizes_count : (ops : List Operator) (o : Options) (text : List ℕ) (a : Accepted) → IsAccepted ops o text a → (node : ℕ) (n : PlacedNode) (c : NodeClock) → slice_get a.placed.nodes node ≡ Some n →

@@ -2,3 +2,5 @@ mod ListLaws
 mod EdgeLaws
 mod CallLaws
 mod QuoteLaws
+mod GraphLaws
+mod NetLaws

@@ -1,12 +1,13 @@
 -- What a drawing of a node shows: its places, which place reads which, its buffers and its calls. Places, buffers and calls count from 1,
 -- the operands of a place from 0.
-use Rattle.std.specs.Prelude.{ℕ, ◌+◌, ◌<◌, ◌≡◌, Bool, true, false, List, [], ◌∷◌, Some, length, slice_get}
+use Rattle.std.specs.Prelude.{ℕ, ◌+◌, ◌≡◌, Bool, true, false, List, [], ◌∷◌, Some, length, slice_get}
 use Rattle.lucy_place.specs.declared.entry.PlaceEntry.{PlaceEntry}
 use Rattle.lucy_place.specs.declared.entry.PlaceKind.{PlaceKind}
 use Rattle.lucy_place.specs.declared.entry.PlaceKind.TheVariants as kind
 use Rattle.lucy_place.specs.declared.entry.CallSite.{CallSite}
 use Rattle.lucy_place.specs.declared.placed.PlacedNode.{PlacedNode}
-use Rattle.lucy_place.specs.Standing.{at_one, bound_of, Stands}
+use Rattle.lucy_place.specs.Standing.{at_one, bound_of}
+use Rattle.lucy_place.specs.Proper.{IsProperCall}
 use Rattle.lucy_place.specs.Reads.{Reads}
 use Rattle.lucy_clock.specs.declared.node_clock.NodeClock.{NodeClock}
 use Rattle.lucy_clock.specs.Clocks.{call_clock}
@@ -83,11 +84,9 @@ pub record IsDrawnCall (nodes : List PlacedNode) (n : PlacedNode) (k : ℕ) (cal
   pub there : at_one n.calls k ≡ Some site
   pub node : call.node ≡ site.node
   pub base : call.base ≡ call_clock n k
-  pub callee : PlacedNode
-  pub found : slice_get nodes call.node ≡ Some callee
-  pub count : call.results ≡ length callee.results
-  pub results : (j : ℕ) → j < call.results → Stands n (call.first + j) (kind.Result k j)
-  pub only : (p j : ℕ) → Stands n p (kind.Result k j) → (p ≡ call.first + j) × (j < call.results)
+  pub first : call.first ≡ site.first
+  pub proper : IsProperCall nodes n k site
+  pub count : call.results ≡ length proper.callee.results
 
 -- each call once, in order
 pub record AreDrawnCalls (nodes : List PlacedNode) (n : PlacedNode) (calls : List DrawnCall) : Type 0 where

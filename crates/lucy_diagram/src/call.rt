@@ -21,8 +21,8 @@ pub struct DrawnCall {
     pub results: u32,
 }
 
-// The call of a number from 0.
-fn site_at(node: &PlacedNode, number: usize) -> &CallSite
+/// The call of a number from 0.
+pub(crate) fn site_at(node: &PlacedNode, number: usize) -> &CallSite
     requires { number < length node.now.calls }
     ensures { at_one node.now.calls (number + 1) ≡ Some result.now }
 {
@@ -69,4 +69,12 @@ pub(crate) fn calls(
         push(&mut calls, call_at(placed, node, i))?;
     }
     Ok(calls)
+}
+
+/// The call of a number from 0, of those that are drawn.
+pub(crate) fn drawn_at(calls: &[DrawnCall], number: usize) -> &DrawnCall
+    requires { number < length calls.now }
+    ensures { slice_get calls.now number ≡ Some result.now }
+{
+    &calls[number]
 }

@@ -1,5 +1,5 @@
 // Which place of a node reads which.
-ghost use Rattle.std.specs.Prelude.{◌≡◌, ◌≤◌, ◌∷◌, ◌++◌, [], false, length, IfOk, OnOk};
+ghost use Rattle.std.specs.Prelude.{◌≡◌, ◌<◌, ◌≤◌, ◌∷◌, ◌++◌, [], Some, false, length, slice_get, IfOk, OnOk};
 ghost use Rattle.lucy_place.specs.Faults.{most_places};
 ghost use Rattle.lucy_place.specs.Standing.{at_one};
 ghost use Rattle.lucy_place.specs.Reads.{arguments_of, reads_of};
@@ -115,4 +115,12 @@ pub(crate) fn edges(alloc: Global, node: &PlacedNode) -> Result<Vec<Edge>, OutOf
 {
     let edges = edge_list(alloc, node)?;
     Ok(edges)
+}
+
+/// The edge of a number from 0.
+pub(crate) fn edge_at(edges: &[Edge], number: usize) -> &Edge
+    requires { number < length edges.now }
+    ensures { slice_get edges.now number ≡ Some result.now }
+{
+    &edges[number]
 }

@@ -1,14 +1,16 @@
 // The layers of a drawing, for pages that lay it out themselves.
+ghost use Rattle.std.specs.Prelude.{◌≡◌, length, IfOk, OnOk};
+
 use crate::diagram::Diagram;
 use lucy_word::OutOfMemory;
 use std::alloc::{AllocError, Global};
 
-/// That a place stands at least so many layers behind another. Both count from 0 here.
+/// That a place stands behind another, at least a layer where that is said. Both count from 0 here.
 #[derive(Clone, Copy)]
 struct Way {
     from: usize,
     to: usize,
-    step: u32,
+    is_read: bool,
 }
 
 /// How far the layers are found. Places count from 0 here.
@@ -55,7 +57,7 @@ fn ways_of(alloc: Global, diagram: &Diagram) -> Result<Vec<Way>, AllocError> {
             ways.push(Way {
                 from: from_zero(edge.from),
                 to: from_zero(edge.to),
-                step: 1,
+                is_read: true,
             })?;
         }
     }
@@ -64,7 +66,7 @@ fn ways_of(alloc: Global, diagram: &Diagram) -> Result<Vec<Way>, AllocError> {
             ways.push(Way {
                 from: from_zero(call.first),
                 to: from_zero(call.first.saturating_add(number)),
-                step: 0,
+                is_read: false,
             })?;
         }
     }
@@ -86,9 +88,11 @@ fn chains(alloc: Global, ways: &[Way], count: usize) -> Result<(Vec<u32>, Vec<u3
 }
 
 // So many zeros.
-fn zeros(alloc: Global, count: usize) -> Result<Vec<u32>, AllocError> {
+fn zeros(alloc: Global, count: usize) -> Result<Vec<u32>, AllocError>
+    ensures { IfOk result (λ v. length v.items ≡ count) }
+{
     let mut list = Vec::new(alloc);
-    for _ in 0..count {
+    'zeros: for _ in 0..count {
         list.push(0)?;
     }
     Ok(list)
@@ -96,7 +100,9 @@ fn zeros(alloc: Global, count: usize) -> Result<Vec<u32>, AllocError> {
 
 impl Work {
     // The beginning: no layer is found.
-    fn new(alloc: Global, diagram: &Diagram, ways: &[Way]) -> Result<Work, AllocError> {
+    fn new(alloc: Global, diagram: &Diagram, ways: &[Way]) -> Result<Work, AllocError>
+        ensures { IfOk result (λ work. length work.layers.items ≡ length diagram.now.places.items) }
+    {
         let count = diagram.places.len();
         let mut waits = zeros(alloc, count)?;
         for way in ways {
@@ -123,7 +129,9 @@ impl Work {
     }
 
     // Takes the layer of a place as found.
-    fn finish(&mut self, place: usize) -> Result<(), AllocError> {
+    fn finish(&mut self, place: usize) -> Result<(), AllocError>
+        ensures { OnOk result (length self.new.layers.items ≡ length self.old.layers.items) }
+    {
         if place < self.is_done.len() && !self.is_done[place] {
             self.is_done[place] = true;
             self.order.push(place)?;
@@ -132,8 +140,10 @@ impl Work {
     }
 
     // Finishes the places that stand behind none.
-    fn begin(&mut self) -> Result<(), AllocError> {
-        for place in 0..self.waits.len() {
+    fn begin(&mut self) -> Result<(), AllocError>
+        ensures { OnOk result (length self.new.layers.items ≡ length self.old.layers.items) }
+    {
+        'each: for place in 0..self.waits.len() {
             if at(&self.waits, place) == 0 {
                 self.finish(place)?;
             }
@@ -142,9 +152,11 @@ impl Work {
     }
 
     // Finishes a spare place, where all that are left wait for each other: a buffer, if one is left.
-    fn finish_spare(&mut self) -> Result<(), AllocError> {
+    fn finish_spare(&mut self) -> Result<(), AllocError>
+        ensures { OnOk result (length self.new.layers.items ≡ length self.old.layers.items) }
+    {
         let found = self.order.len();
-        for _ in 0..self.spare.len() {
+        'each: for _ in 0..self.spare.len() {
             if self.order.len() > found {
                 return Ok(());
             }
@@ -158,19 +170,26 @@ impl Work {
         Ok(())
     }
 
+    // Raises the layer of a place to this one, where it is lower.
+    fn raise(&mut self, place: usize, least: u32)
+        ensures { length self.new.layers.items ≡ length self.old.layers.items }
+    {
+        let number = at(&self.layers, place).max(least);
+        set(&mut self.layers, place, number);
+    }
+
     // Goes a way from a place of this layer.
-    fn go(&mut self, way: Way, layer: u32) -> Result<(), AllocError> {
+    fn go(&mut self, way: Way, layer: u32) -> Result<(), AllocError>
+        ensures { OnOk result (length self.new.layers.items ≡ length self.old.layers.items) }
+    {
         let waits = at(&self.waits, way.to).saturating_sub(1);
         set(&mut self.waits, way.to, waits);
         if self.is_done.get(way.to) != Some(&false) {
             return Ok(());
         }
-        let least = layer.saturating_add(way.step);
-        if at(&self.layers, way.to) < least {
-            set(&mut self.layers, way.to, least);
-        }
+        self.raise(way.to, layer.saturating_add(u32::from(way.is_read)));
         if waits == 0 {
-            self.finish(way.to)?;
+            return self.finish(way.to);
         }
         Ok(())
     }
@@ -182,38 +201,57 @@ impl Work {
         ways: &[Way],
         last: &[u32],
         before: &[u32],
-    ) -> Result<(), AllocError> {
+    ) -> Result<(), AllocError>
+        ensures { OnOk result (length self.new.layers.items ≡ length self.old.layers.items) }
+    {
         let layer = at(&self.layers, place);
         let mut number = at(last, place);
-        for _ in 0..ways.len() {
+        'each: for _ in 0..ways.len() {
             let Some(index) = number.checked_sub(1) else {
                 return Ok(());
             };
-            if let Some(way) = ways.get(index as usize) {
-                self.go(*way, layer)?;
-            }
+            let Some(way) = ways.get(index as usize) else {
+                return Ok(());
+            };
+            self.go(*way, layer)?;
             number = at(before, index as usize);
         }
         Ok(())
+    }
+
+    // Goes on with the place that is the next in turn, or where none is with a spare one.
+    fn turn(
+        &mut self,
+        turn: usize,
+        ways: &[Way],
+        last: &[u32],
+        before: &[u32],
+    ) -> Result<(), AllocError>
+        ensures { OnOk result (length self.new.layers.items ≡ length self.old.layers.items) }
+    {
+        if self.order.len() <= turn {
+            self.finish_spare()?;
+        }
+        let Some(place) = self.order.get(turn) else {
+            return Ok(());
+        };
+        let place = *place;
+        self.pass(place, ways, last, before)
     }
 }
 
 /// The layer of each place of a drawing, in order, from 0: greater than those of the places that it reads, but for what is read through
 /// a `fby`, and, where places wait for each other, through a buffer, or else through the first of them. The results of a call stand in
 /// one layer.
-pub fn layers_of(alloc: Global, diagram: &Diagram) -> Result<Vec<u32>, OutOfMemory> {
+pub fn layers_of(alloc: Global, diagram: &Diagram) -> Result<Vec<u32>, OutOfMemory>
+    ensures { IfOk result (λ v. length v.items ≡ length diagram.now.places.items) }
+{
     let ways = ways_of(alloc, diagram)?;
     let (last, before) = chains(alloc, &ways, diagram.places.len())?;
     let mut work = Work::new(alloc, diagram, &ways)?;
     work.begin()?;
-    for turn in 0..diagram.places.len() {
-        if work.order.len() <= turn {
-            work.finish_spare()?;
-        }
-        if let Some(place) = work.order.get(turn) {
-            let place = *place;
-            work.pass(place, &ways, &last, &before)?;
-        }
+    'each: for turn in 0..diagram.places.len() {
+        work.turn(turn, &ways, &last, &before)?;
     }
     Ok(work.layers)
 }

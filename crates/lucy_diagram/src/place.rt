@@ -1,5 +1,5 @@
 // The places of a node as they are drawn.
-ghost use Rattle.std.specs.Prelude.{◌≡◌, ◌≤◌, ◌∷◌, ◌++◌, [], length, IfOk, OnOk};
+ghost use Rattle.std.specs.Prelude.{◌≡◌, ◌<◌, ◌≤◌, ◌∷◌, ◌++◌, [], Some, length, slice_get, IfOk, OnOk};
 ghost use Rattle.lucy_place.specs.Faults.{most_places};
 ghost use Rattle.lucy_diagram.specs.Diagrams.{figure_of, drawn_places};
 
@@ -65,4 +65,12 @@ pub(crate) fn places(alloc: Global, node: &PlacedNode) -> Result<Vec<DrawnPlace>
         push(&mut places, DrawnPlace { place, figure })?;
     }
     Ok(places)
+}
+
+/// The place of a number from 0.
+pub(crate) fn drawn_at(places: &[DrawnPlace], number: usize) -> &DrawnPlace
+    requires { number < length places.now }
+    ensures { slice_get places.now number ≡ Some result.now }
+{
+    &places[number]
 }

@@ -1,129 +1,161 @@
-// The drawing of a whole program's net: its instances, one in another, and its rings.
-ghost use Rattle.std.specs.Prelude.{◌<◌, length};
+// The drawing of a whole program's net: its instances, one in another, its outputs and its rings.
+ghost use Rattle.std.specs.Prelude.{◌≡◌, ◌<◌, ◌≤◌, ◌+◌, ◌-◌, ◌^◌, ◌++◌, List, ℕ, Some, length, slice_get, IfOk, OnOk};
+ghost use Rattle.lucy_host.specs.Operators.{Operator};
+ghost use Rattle.lucy_tree.specs.View.{program_tree};
+ghost use Rattle.lucy_place.specs.declared.placed.PlacedNode.{PlacedNode as Node};
+ghost use Rattle.lucy_place.specs.Faults.{most_places};
+ghost use Rattle.lucy_place.specs.Proper.{AreProper};
+ghost use Rattle.lucy_meaning.specs.Sizes.{size_of, all_places};
+ghost use Rattle.lucy_front.specs.declared.options.Options.{Options as Choices};
+ghost use Rattle.lucy_front.specs.Accepting.{IsAccepted};
+ghost use Rattle.lucy_diagram.specs.Diagrams.{drawn_places};
+ghost use Rattle.lucy_diagram.specs.Nets as spec;
 
-use crate::grow::push;
-use crate::place::places;
+use crate::call::site_at;
+use crate::place::{DrawnPlace, drawn_at, places};
 use crate::print::boxes::put_box;
-use crate::print::label::{label_at, put, put_label, put_name, word_labels};
-use crate::print::node::put_head;
+use crate::print::frames::{path_to, put_frame};
+use crate::print::label::{put, put_head};
 use crate::print::rings::{put_outputs, put_rings};
 use lucy_front::Accepted;
-use lucy_text::Text;
+use lucy_place::PlacedNode;
 use lucy_tree::Program;
 use lucy_word::OutOfMemory;
-use std::alloc::{AllocError, Global};
+use std::alloc::Global;
 
-// Puts the boxes of an instance's own places last; answers the number of the next actor.
-fn put_own(
+// Puts the box of an actor last.
+fn put_actor(
     alloc: Global,
     program: &Program,
     accepted: &Accepted,
     node: u32,
-    begin: u64,
+    found: &PlacedNode,
     path: &[u8],
+    actor: u64,
+    drawn: DrawnPlace,
     out: &mut Vec<u8>,
-) -> Result<u64, OutOfMemory>
-    requires { node < length accepted.now.placed.nodes }
+) -> Result<(), OutOfMemory>
+    ensures { OnOk result (out.new.items ≡ out.old.items
+        ++ spec.actor_text (program_tree program.now) accepted.now node found.now path.now actor drawn) }
 {
-    let mut actor = begin;
-    for drawn in &places(alloc, accepted.placed.node(node))? {
-        put(out, format!(in alloc; "  a{actor}")?.as_bytes())?;
-        put_box(
-            alloc,
-            program,
-            accepted,
-            node,
-            drawn.place,
-            drawn.figure,
-            path,
-            out,
-        )?;
-        actor = actor.saturating_add(1);
-    }
-    Ok(actor)
-}
-
-// Puts the first lines of the cluster of an instance last: its call, by the number from 0, its node, and `at` with the word of its base.
-fn put_instance_head(
-    alloc: Global,
-    accepted: &Accepted,
-    callee: u32,
-    begin: u64,
-    call: usize,
-    word: &[u8],
-    out: &mut Vec<u8>,
-) -> Result<(), AllocError> {
-    let mut label = Vec::new(alloc);
-    let number = call.saturating_add(1);
-    put(&mut label, format!(in alloc; "call {number}: ")?.as_bytes())?;
-    put_name(&accepted.placed, callee, &mut label)?;
-    put(&mut label, b" at ")?;
-    put(&mut label, word)?;
-    put(
+    put(out, format!(in alloc; "  a{actor}")?.as_bytes())?;
+    put_box(
+        alloc,
+        program,
+        accepted,
+        node,
+        found,
+        path,
+        drawn.place,
+        drawn.figure,
         out,
-        format!(in alloc; "  subgraph cluster_{begin} {{\n  ")?.as_bytes(),
-    )?;
-    put_label(&label, out)?;
-    put(out, b";\n")
+    )
 }
 
-// The calls that lead to the instance of a call, by the call's number from 0.
-fn path_of(alloc: Global, path: &[u8], call: usize) -> Result<Vec<u8>, AllocError> {
-    let number = call.saturating_add(1);
-    let mut longer = Vec::new(alloc);
-    put(&mut longer, path)?;
-    put(&mut longer, format!(in alloc; "call{number}.")?.as_bytes())?;
-    Ok(longer)
-}
-
-// The text of the word of a call's base, by the numbers of its node and of its own, each from 0.
-fn base_label<'a>(accepted: &Accepted, labels: &'a [Vec<Text>], node: u32, call: usize) -> &'a [u8]
-    requires { node < length accepted.now.placed.nodes }
+// Puts the boxes of the actors of these places last, from this number on.
+fn put_drawn(
+    alloc: Global,
+    program: &Program,
+    accepted: &Accepted,
+    node: u32,
+    found: &PlacedNode,
+    path: &[u8],
+    begin: u64,
+    drawn: &[DrawnPlace],
+    out: &mut Vec<u8>,
+) -> Result<(), OutOfMemory>
+    requires { begin + length drawn.now < 2 ^ 64 }
+    ensures { OnOk result (out.new.items ≡ out.old.items
+        ++ spec.numbered (spec.actor_text (program_tree program.now) accepted.now node found.now path.now) begin drawn.now) }
 {
-    let places = accepted.placed.node(node).places.list().len();
-    let clock = places.saturating_add(call).saturating_add(1);
-    match (labels.get(node as usize), u32::try_from(clock)) {
-        (Some(labels), Ok(clock)) => label_at(labels, clock),
-        _ => b"",
+    'each: for i in 0..drawn.len() {
+        let actor = begin + i as u64;
+        let place = drawn_at(drawn, i);
+        put_actor(
+            alloc, program, accepted, node, found, path, actor, *place, out,
+        )?;
     }
+    Ok(())
 }
 
-// Puts the boxes of an instance of a node last, and those of its calls' instances, each in a cluster; answers the number of the next
-// actor.
+// Puts the boxes of the actors of an instance's own places last, from this number on.
+fn put_actors(
+    alloc: Global,
+    program: &Program,
+    accepted: &Accepted,
+    node: u32,
+    found: &PlacedNode,
+    path: &[u8],
+    begin: u64,
+    out: &mut Vec<u8>,
+) -> Result<(), OutOfMemory>
+    requires places { length found.now.places ≤ most_places }
+    requires few { begin + length found.now.places < 2 ^ 64 }
+    ensures { OnOk result (out.new.items ≡ out.old.items
+        ++ spec.numbered (spec.actor_text (program_tree program.now) accepted.now node found.now path.now) begin (drawn_places found.now)) }
+{
+    let list = places(alloc, found)?;
+    let drawn = list.as_slice();
+    put_drawn(
+        alloc, program, accepted, node, found, path, begin, drawn, out,
+    )?;
+    Ok(())
+}
+
+// Puts the boxes of an instance of a node last, from the number of its first actor on, and those of its calls' instances, each in a
+// frame; answers the number of the next actor.
 fn put_instance(
     alloc: Global,
     program: &Program,
     accepted: &Accepted,
-    labels: &[Vec<Text>],
     node: u32,
-    begin: u64,
     path: &[u8],
+    begin: u64,
     out: &mut Vec<u8>,
 ) -> Result<u64, OutOfMemory>
-    requires { node < length accepted.now.placed.nodes }
+    requires proper { AreProper accepted.now.placed.nodes }
+    requires node { node < length accepted.now.placed.nodes }
+    requires few { begin + size_of accepted.now.placed.nodes node < 2 ^ 64 }
+    ensures text { OnOk result (out.new.items ≡ out.old.items
+        ++ spec.instance_text (program_tree program.now) accepted.now node path.now begin) }
+    ensures next { IfOk result (λ next. next ≡ begin + size_of accepted.now.placed.nodes node) }
 {
-    let mut next = put_own(alloc, program, accepted, node, begin, path, out)?;
-    let sites = accepted.placed.node(node).calls.list();
-    for (i, site) in sites.iter().enumerate() {
-        let callee = site.node;
-        if callee < node {
-            let inner = path_of(alloc, path, i)?;
-            let word = base_label(accepted, labels, node, i);
-            put_instance_head(alloc, accepted, callee, next, i, word, out)?;
-            next = put_instance(alloc, program, accepted, labels, callee, next, &inner, out)?;
-            put(out, b"  }\n")?;
-        }
+    let found = accepted.placed.node(node);
+    put_actors(alloc, program, accepted, node, found, path, begin, out)?;
+    let mut next = begin + found.places.list().len() as u64;
+    'each: for i in 0..found.calls.list().len() {
+        let site = site_at(found, i);
+        put_frame(alloc, accepted, node, found, site, i + 1, next, out)?;
+        let inner = path_to(alloc, path, i + 1)?;
+        let after = put_instance(alloc, program, accepted, site.node, &inner, next, out)?;
+        put(out, b"  }\n")?;
+        next = after;
     }
     Ok(next)
 }
 
-// The texts of the words of all nodes.
-fn all_labels(alloc: Global, accepted: &Accepted) -> Result<Vec<Vec<Text>>, OutOfMemory> {
-    let mut labels = Vec::new(alloc);
-    for node in 0..accepted.placed.nodes() {
-        push(&mut labels, word_labels(alloc, accepted, node)?)?;
-    }
-    Ok(labels)
+// Puts the drawing of the net last whose main is this node.
+fn put_main(
+    alloc: Global,
+    program: &Program,
+    accepted: &Accepted,
+    main: u32,
+    name: &[u8],
+    out: &mut Vec<u8>,
+) -> Result<(), OutOfMemory>
+    requires proper { AreProper accepted.now.placed.nodes }
+    requires some { 0 < length accepted.now.placed.nodes }
+    requires main { main ≡ length accepted.now.placed.nodes - 1 }
+    requires few { all_places accepted.now.placed.nodes + length accepted.now.outputs.items < 2 ^ 64 }
+    ensures { OnOk result (out.new.items ≡ out.old.items
+        ++ spec.net_text (program_tree program.now) accepted.now name.now) }
+{
+    put_head(name, out)?;
+    let next = put_instance(alloc, program, accepted, main, b"", 0, out)?;
+    put_outputs(alloc, &accepted.outputs, next, out)?;
+    put_rings(alloc, &accepted.net, out)?;
+    put(out, b"}\n")?;
+    Ok(())
 }
 
 /// Puts the drawing of a whole program's net last.
@@ -132,13 +164,13 @@ pub(crate) fn put_program(
     program: &Program,
     accepted: &Accepted,
     out: &mut Vec<u8>,
-) -> Result<(), OutOfMemory> {
+) -> Result<(), OutOfMemory>
+    requires { (ops : List Operator) × (o : Choices) × (text : List ℕ) × IsAccepted ops o text accepted.now }
+    ensures { (n : Node) → slice_get accepted.now.placed.nodes (length accepted.now.placed.nodes - 1) ≡ Some n → OnOk result (out.new.items ≡ out.old.items
+        ++ spec.net_text (program_tree program.now) accepted.now n.name.text) }
+{
     let main = accepted.placed.nodes() - 1;
-    let labels = all_labels(alloc, accepted)?;
-    put_head(accepted.placed.node(main).name.text.bytes(), out)?;
-    let next = put_instance(alloc, program, accepted, &labels, main, 0, b"", out)?;
-    put_outputs(alloc, &accepted.outputs, next, out)?;
-    put_rings(alloc, &accepted.net, out)?;
-    put(out, b"}\n")?;
+    let found = accepted.placed.node(main);
+    put_main(alloc, program, accepted, main, found.name.text.bytes(), out)?;
     Ok(())
 }

@@ -1,50 +1,76 @@
-// The texts in a drawing.
-ghost use Rattle.std.specs.Prelude.{◌<◌, length};
+// The labels of a drawing, and the texts of words in them.
+ghost use Rattle.std.specs.Prelude.{◌≡◌, ◌<◌, ◌++◌, length, take, map, slice_get, codes, OnOk, IfOk};
+ghost use Rattle.std.specs.Option.{option_map};
+ghost use Rattle.lucy_place.specs.Standing.{at_one};
+ghost use Rattle.lucy_flat.specs.Instances.{words_in};
+ghost use Rattle.lucy_diagram.specs.Labels as spec;
+ghost use Rattle.lucy_diagram.specs.Graphs.{label_text, head_text, label_at};
 
 use crate::grow::push;
 use crate::quote::put_quoted;
-use lucy_clock::NodeClock;
 use lucy_front::Accepted;
-use lucy_picture::{form_of, put_kind};
-use lucy_place::{PlaceEntry, PlaceKind, Placed, PlacedNode};
+use lucy_picture::words_at;
+use lucy_place::{PlaceEntry, PlaceKind, PlacedNode};
 use lucy_text::Text;
-use lucy_tree::{Expr, Program};
 use lucy_word::{OutOfMemory, Word};
 use std::alloc::{AllocError, Global};
 
-// How many bytes of the text of a word are shown, where it has more.
+// How many bytes of a text are shown, where it has more.
 const SHOWN: usize = 60;
 
 /// Puts these bytes last.
-pub(crate) fn put(out: &mut Vec<u8>, bytes: &[u8]) -> Result<(), AllocError> {
+pub(crate) fn put(out: &mut Vec<u8>, bytes: &[u8]) -> Result<(), AllocError>
+    ensures { OnOk result (out.new.items ≡ out.old.items ++ bytes.now) }
+{
     out.extend_from_slice(bytes)?;
     Ok(())
 }
 
-// The front of a text that is shown, and what says that there is more.
-fn front_of(alloc: Global, text: &[u8]) -> Result<Vec<u8>, AllocError> {
-    let mut front = Vec::new(alloc);
-    for byte in text.iter().take(SHOWN) {
-        front.push(*byte)?;
-    }
-    put(&mut front, b"..")?;
-    Ok(front)
-}
-
 /// Puts a label last, as an attribute.
-pub(crate) fn put_label(label: &[u8], out: &mut Vec<u8>) -> Result<(), AllocError> {
+pub(crate) fn put_label(label: &[u8], out: &mut Vec<u8>) -> Result<(), AllocError>
+    ensures { OnOk result (out.new.items ≡ out.old.items ++ label_text label.now) }
+{
     put(out, b"label=")?;
     put_quoted(label, out)
 }
 
+/// Puts the first lines of a drawing last.
+pub(crate) fn put_head(name: &[u8], out: &mut Vec<u8>) -> Result<(), AllocError>
+    ensures { OnOk result (out.new.items ≡ out.old.items ++ head_text name.now) }
+{
+    put(out, b"digraph ")?;
+    put_quoted(name, out)?;
+    put(out, b" {\n  graph [labeljust=l];\n  node [shape=box];\n")
+}
+
+// The front of a text that is shown, where it has more.
+fn front_of(alloc: Global, text: &[u8]) -> Result<Vec<u8>, AllocError>
+    requires { 60 < length text.now }
+    ensures { IfOk result (λ front. front.items ≡ take 60 text.now ++ codes "..") }
+{
+    let mut front = Vec::new(alloc);
+    put(&mut front, &text[..SHOWN])?;
+    put(&mut front, b"..")?;
+    Ok(front)
+}
+
+// A text, cut off where it is long.
+fn cut(alloc: Global, text: &[u8]) -> Result<Text, OutOfMemory>
+    ensures { IfOk result (λ t. t ≡ spec.cut_text text.now) }
+{
+    if text.len() <= SHOWN {
+        return Text::new(alloc, text);
+    }
+    Text::new(alloc, &front_of(alloc, text)?)
+}
+
 /// The text of a word, cut off where it is long.
-pub(crate) fn word_label(alloc: Global, word: &Word) -> Result<Text, OutOfMemory> {
+pub(crate) fn word_label(alloc: Global, word: &Word) -> Result<Text, OutOfMemory>
+    ensures { IfOk result (λ text. text ≡ spec.word_label word.now) }
+{
     let mut text = Vec::new(alloc);
     word.print(alloc, &mut text)?;
-    if text.len() <= SHOWN {
-        return Text::new(alloc, &text);
-    }
-    Text::new(alloc, &front_of(alloc, &text)?)
+    cut(alloc, &text)
 }
 
 /// The texts of the words of a node's clocks, by their numbers.
@@ -52,18 +78,21 @@ pub(crate) fn word_labels(
     alloc: Global,
     accepted: &Accepted,
     node: u32,
-) -> Result<Vec<Text>, OutOfMemory> {
+) -> Result<Vec<Text>, OutOfMemory>
+    ensures { IfOk result (λ v. v.items ≡ map spec.word_label (words_in (slice_get accepted.now.clocks.items node))) }
+{
     let mut labels = Vec::new(alloc);
-    if let Some(clock) = accepted.clocks.get(node as usize) {
-        for word in clock.words.list() {
-            push(&mut labels, word_label(alloc, word)?)?;
-        }
+    let words = words_at(&accepted.clocks, node);
+    'each: for word in words {
+        push(&mut labels, word_label(alloc, word)?)?;
     }
     Ok(labels)
 }
 
 /// The text of a clock's word.
-pub(crate) fn label_at(labels: &[Text], clock: u32) -> &[u8] {
+pub(crate) fn label_at(labels: &[Text], clock: u32) -> &[u8]
+    ensures { result.now ≡ label_at labels.now clock }
+{
     match labels.get(clock as usize) {
         Some(label) => label.bytes(),
         None => b"",
@@ -71,90 +100,26 @@ pub(crate) fn label_at(labels: &[Text], clock: u32) -> &[u8] {
 }
 
 /// What is known of a place of a node.
-pub(crate) fn entry_at(node: &PlacedNode, place: u32) -> Option<&PlaceEntry> {
+pub(crate) fn entry_at(node: &PlacedNode, place: u32) -> Option<&PlaceEntry>
+    ensures { option_map (λ entry. entry.now) result ≡ at_one node.now.places place }
+{
     node.places.list().get(place.checked_sub(1)? as usize)
 }
 
-// The form that stands at a place, where its text says more than its kind.
-fn form_at<'a>(program: &'a Program, node: u32, place: u32, kind: &PlaceKind) -> Option<&'a Expr> {
-    match kind {
-        PlaceKind::Host(_, _, _) | PlaceKind::When(_, _) => {
-            form_of(program.nodes.list().get(node as usize)?, place)
-        }
-        _ => None,
-    }
-}
-
-// Puts a result of a call last, by the number of the call, and its own from 0.
-fn put_result(
-    alloc: Global,
-    placed: &Placed,
-    node: &PlacedNode,
-    call: u32,
-    number: u32,
-    out: &mut Vec<u8>,
-) -> Result<(), AllocError> {
-    let result = number.saturating_add(1);
-    put(out, format!(in alloc; "result {result}")?.as_bytes())?;
-    let Some(site) = node.calls.list().get(call.saturating_sub(1) as usize) else {
-        return Ok(());
-    };
-    put(out, b" of ")?;
-    put_name(placed, site.node, out)
-}
-
-/// Puts the name of a node last.
-pub(crate) fn put_name(placed: &Placed, node: u32, out: &mut Vec<u8>) -> Result<(), AllocError> {
-    if node < placed.nodes() {
-        return put(out, placed.node(node).name.text.bytes());
-    }
-    Ok(())
-}
-
-/// Puts what is in the box of a place last, by the numbers of its node, from 0, and of its own, from 1: `#`, the number, and its name,
-/// else the form that stands there.
-pub fn put_text(
-    alloc: Global,
-    program: &Program,
-    placed: &Placed,
-    node: u32,
-    place: u32,
-    out: &mut Vec<u8>,
-) -> Result<(), OutOfMemory>
-    requires { node < length placed.now.nodes }
+/// The call of a result of a call, and which of its results it is, from 0.
+pub(crate) fn result_of(kind: &PlaceKind) -> Option<(u32, u32)>
+    ensures { result ≡ spec.result_of kind.now }
 {
-    let found = placed.node(node);
-    put(out, format!(in alloc; "#{place}: ")?.as_bytes())?;
-    let Some(entry) = entry_at(found, place) else {
-        return Ok(());
-    };
-    if let Some(name) = &entry.name {
-        put(out, name.text.bytes())?;
-        return Ok(());
+    match kind {
+        PlaceKind::Param => None,
+        PlaceKind::Defined(_) => None,
+        PlaceKind::Lit(_) => None,
+        PlaceKind::Op(_, _) => None,
+        PlaceKind::Host(_, _, _) => None,
+        PlaceKind::When(_, _) => None,
+        PlaceKind::Merge(_, _, _) => None,
+        PlaceKind::Fby(_, _) => None,
+        PlaceKind::Buffer(_, _) => None,
+        PlaceKind::Result(call, number) => Some((*call, *number)),
     }
-    if let PlaceKind::Result(call, number) = &entry.kind {
-        put_result(alloc, placed, found, *call, *number, out)?;
-        return Ok(());
-    }
-    let form = form_at(program, node, place, &entry.kind);
-    put_kind(alloc, found, &entry.kind, form, out)
-}
-
-/// Puts the number, the size and the bound of a buffer last, as the report has them.
-pub(crate) fn put_size(
-    alloc: Global,
-    node: &PlacedNode,
-    clock: &NodeClock,
-    number: u32,
-    out: &mut Vec<u8>,
-) -> Result<(), AllocError> {
-    let index = number.saturating_sub(1) as usize;
-    put(out, format!(in alloc; "\nbuffer {number}")?.as_bytes())?;
-    if let Some(size) = clock.sizes.list().get(index) {
-        put(out, format!(in alloc; " size {size}")?.as_bytes())?;
-    }
-    if let Some(Some(most)) = node.bounds.list().get(index) {
-        put(out, format!(in alloc; " at most {most}")?.as_bytes())?;
-    }
-    Ok(())
 }

@@ -1,91 +1,148 @@
 // The drawing of a node.
-ghost use Rattle.std.specs.Prelude.{List, ℕ, ◌<◌, length};
+ghost use Rattle.std.specs.Prelude.{List, ℕ, ◌≡◌, ◌<◌, ◌+◌, ◌^◌, ◌++◌, Some, length, map, flat_map, slice_get, OnOk};
 ghost use Rattle.lucy_host.specs.Operators.{Operator};
+ghost use Rattle.lucy_tree.specs.View.{program_tree};
+ghost use Rattle.lucy_place.specs.declared.placed.PlacedNode.{PlacedNode as Node};
+ghost use Rattle.lucy_flat.specs.Instances.{words_in};
 ghost use Rattle.lucy_front.specs.declared.options.Options.{Options as Choices};
 ghost use Rattle.lucy_front.specs.Accepting.{IsAccepted};
+ghost use Rattle.lucy_diagram.specs.declared.call.DrawnCall.{DrawnCall as Drawn};
+ghost use Rattle.lucy_diagram.specs.Diagrams.{drawn_places};
+ghost use Rattle.lucy_diagram.specs.Labels.{word_label};
+ghost use Rattle.lucy_diagram.specs.Graphs as spec;
 
+use crate::call::DrawnCall;
 use crate::diagram::{Diagram, diagram_of};
 use crate::edge::Edge;
-use crate::place::Figure;
+use crate::place::{DrawnPlace, Figure, drawn_at};
 use crate::print::boxes::put_box;
-use crate::print::calls::put_call;
-use crate::print::label::{entry_at, label_at, put, put_label, word_labels};
-use crate::quote::put_quoted;
+use crate::print::calls::put_calls;
+use crate::print::label::{put, put_head, word_labels};
+use crate::print::lines::put_edges;
 use lucy_front::Accepted;
-use lucy_place::{PlaceKind, PlacedNode};
+use lucy_place::PlacedNode;
 use lucy_text::Text;
 use lucy_tree::Program;
 use lucy_word::OutOfMemory;
-use std::alloc::{AllocError, Global};
+use std::alloc::Global;
 
-/// Puts the first lines of a drawing last.
-pub(crate) fn put_head(name: &[u8], out: &mut Vec<u8>) -> Result<(), AllocError> {
-    put(out, b"digraph ")?;
-    put_quoted(name, out)?;
-    put(out, b" {\n  graph [labeljust=l];\n  node [shape=box];\n")
+// Whether a place's box stands on its own: the results of calls stand with these.
+fn is_own(figure: Figure) -> bool
+    ensures { result ≡ spec.is_own figure }
+{
+    match figure {
+        Figure::Parameter => true,
+        Figure::Name => true,
+        Figure::Literal => true,
+        Figure::Operator => true,
+        Figure::Sampling => true,
+        Figure::Merge => true,
+        Figure::Delay => true,
+        Figure::Buffer => true,
+        Figure::CallResult => false,
+    }
 }
 
-// Puts the boxes of places last, but for the results of calls.
+// Puts the box of a place last, where it stands on its own.
+fn put_own(
+    alloc: Global,
+    program: &Program,
+    accepted: &Accepted,
+    node: u32,
+    found: &PlacedNode,
+    drawn: DrawnPlace,
+    out: &mut Vec<u8>,
+) -> Result<(), OutOfMemory>
+    ensures { OnOk result (out.new.items ≡ out.old.items
+        ++ spec.own_box (program_tree program.now) accepted.now node found.now drawn) }
+{
+    if !is_own(drawn.figure) {
+        return Ok(());
+    }
+    let place = drawn.place;
+    put(out, format!(in alloc; "  p{place}")?.as_bytes())?;
+    put_box(
+        alloc,
+        program,
+        accepted,
+        node,
+        found,
+        b"",
+        place,
+        drawn.figure,
+        out,
+    )
+}
+
+// Puts those of places.
 fn put_boxes(
     alloc: Global,
     program: &Program,
     accepted: &Accepted,
     node: u32,
-    diagram: &Diagram,
+    found: &PlacedNode,
+    places: &[DrawnPlace],
     out: &mut Vec<u8>,
 ) -> Result<(), OutOfMemory>
-    requires { node < length accepted.now.placed.nodes }
+    ensures { OnOk result (out.new.items ≡ out.old.items
+        ++ flat_map (spec.own_box (program_tree program.now) accepted.now node found.now) places.now) }
 {
-    for drawn in &diagram.places {
-        if drawn.figure != Figure::CallResult {
-            let place = drawn.place;
-            put(out, format!(in alloc; "  p{place}")?.as_bytes())?;
-            put_box(
-                alloc,
-                program,
-                accepted,
-                node,
-                place,
-                drawn.figure,
-                b"",
-                out,
-            )?;
-        }
+    'each: for i in 0..places.len() {
+        let drawn = drawn_at(places, i);
+        put_own(alloc, program, accepted, node, found, *drawn, out)?;
     }
     Ok(())
 }
 
-// Puts to what an edge goes last: the box of the place, or of the call whose result it is.
-fn put_end(
+// Puts a drawing of a node last.
+fn put_graph(
     alloc: Global,
-    node: &PlacedNode,
-    place: u32,
+    program: &Program,
+    accepted: &Accepted,
+    node: u32,
+    found: &PlacedNode,
+    labels: &[Text],
+    places: &[DrawnPlace],
+    calls: &[DrawnCall],
+    edges: &[Edge],
     out: &mut Vec<u8>,
-) -> Result<(), AllocError> {
-    if let Some(entry) = entry_at(node, place) {
-        if let PlaceKind::Result(call, _) = &entry.kind {
-            return put(out, format!(in alloc; "c{call}")?.as_bytes());
-        }
-    }
-    put(out, format!(in alloc; "p{place}")?.as_bytes())
+) -> Result<(), OutOfMemory>
+    requires { (i : ℕ) (call : Drawn) → slice_get calls.now i ≡ Some call → call.first + call.results < 2 ^ 32 }
+    ensures { OnOk result (out.new.items ≡ out.old.items
+        ++ spec.graph_text (program_tree program.now) accepted.now node found.now labels.now places.now calls.now edges.now) }
+{
+    put_head(found.name.text.bytes(), out)?;
+    put_boxes(alloc, program, accepted, node, found, places, out)?;
+    put_calls(alloc, program, accepted, node, found, labels, calls, out)?;
+    put_edges(alloc, found, labels, edges, out)?;
+    put(out, b"}\n")?;
+    Ok(())
 }
 
-// Puts an edge last, with the word of the place that it comes from.
-fn put_edge(
+// Puts that of a node whose diagram this is.
+fn put_diagram(
     alloc: Global,
-    node: &PlacedNode,
-    labels: &[Text],
-    edge: &Edge,
+    program: &Program,
+    accepted: &Accepted,
+    node: u32,
+    found: &PlacedNode,
+    diagram: &Diagram,
     out: &mut Vec<u8>,
-) -> Result<(), OutOfMemory> {
-    put(out, format!(in alloc; "  p{} -> ", edge.from)?.as_bytes())?;
-    put_end(alloc, node, edge.to, out)?;
-    put(out, b" [")?;
-    put_label(label_at(labels, edge.from), out)?;
-    if edge.late {
-        put(out, b", style=dashed")?;
-    }
-    put(out, b"];\n")?;
+) -> Result<(), OutOfMemory>
+    requires places { diagram.now.places.items ≡ drawn_places found.now }
+    requires fit { (i : ℕ) (call : Drawn) → slice_get diagram.now.calls.items i ≡ Some call → call.first + call.results < 2 ^ 32 }
+    ensures { OnOk result (out.new.items ≡ out.old.items
+        ++ spec.graph_text (program_tree program.now) accepted.now node found.now
+        (map word_label (words_in (slice_get accepted.now.clocks.items node))) (drawn_places found.now) diagram.now.calls.items diagram.now.edges.items) }
+{
+    let labels = word_labels(alloc, accepted, node)?;
+    let labels = labels.as_slice();
+    let places = diagram.places.as_slice();
+    let calls = diagram.calls.as_slice();
+    let edges = diagram.edges.as_slice();
+    put_graph(
+        alloc, program, accepted, node, found, labels, places, calls, edges, out,
+    )?;
     Ok(())
 }
 
@@ -99,18 +156,11 @@ pub(crate) fn put_node(
 ) -> Result<(), OutOfMemory>
     requires accepted { (ops : List Operator) × (o : Choices) × (text : List ℕ) × IsAccepted ops o text accepted.now }
     requires node { node < length accepted.now.placed.nodes }
+    ensures { (n : Node) → slice_get accepted.now.placed.nodes node ≡ Some n →
+        OnOk result (spec.PutsNode (program_tree program.now) accepted.now node n out.old.items out.new.items) }
 {
     let diagram = diagram_of(alloc, accepted, node)?;
     let found = accepted.placed.node(node);
-    let labels = word_labels(alloc, accepted, node)?;
-    put_head(found.name.text.bytes(), out)?;
-    put_boxes(alloc, program, accepted, node, &diagram, out)?;
-    for call in &diagram.calls {
-        put_call(alloc, program, accepted, node, &labels, call, out)?;
-    }
-    for edge in &diagram.edges {
-        put_edge(alloc, found, &labels, edge, out)?;
-    }
-    put(out, b"}\n")?;
+    put_diagram(alloc, program, accepted, node, found, &diagram, out)?;
     Ok(())
 }
