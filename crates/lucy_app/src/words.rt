@@ -20,11 +20,7 @@ fn words_behind(
 
 /// The words that the program is called with, but for so many first ones, of which the program's name is one; no words where one
 /// is no text, since such a word fits no command. Where there are none, memory ran out.
-pub fn words_of(
-    rt: &(impl Env + AllocGlobal),
-    alloc: Global,
-    first: usize,
-) -> Option<Vec<String>> {
+pub fn words_of(rt: &(impl Env + AllocGlobal), alloc: Global, first: usize) -> Option<Vec<String>> {
     match words_behind(rt, alloc, first) {
         Ok(words) => Some(words),
         Err(error) if error.kind() == ErrorKind::OutOfMemory => None,
