@@ -30,7 +30,6 @@ mod tightening;
 mod top;
 mod tracing;
 mod types;
-mod words;
 
 pub use fetching::fetch;
 pub use input_refusal::InputCause;
@@ -42,4 +41,3 @@ pub use operators::program_operators;
 pub use output::{conclude, explain, tell};
 pub use playing::run_with;
 pub use top::lucy;
-pub use words::{tell_no_memory, words_of};

@@ -36,7 +36,7 @@ use Rattle.lucy_flat.proofs.SpotWords.{base_same, base_word, clock_of}
 use Rattle.lucy_flat.proofs.FlatLaws.{standing}
 use Rattle.lucy_flat.proofs.KeptLaws.{HasStored}
 use Rattle.lucy_flat.proofs.PutLaws.{inner_more, so_far_more}
-use Rattle.lucy_flat.proofs.SampledLaws.{stored_on}
+use Rattle.lucy_clock.proofs.UnmadeLaws.{stored_on}
 use Rattle.lucy_flat.proofs.UnmadePlaces.{reads_few, list_of}
 
 -- what stands behind other drafts

@@ -30,7 +30,7 @@ use Rattle.lucy_flat.specs.Drafts.{HasTooLong, IsMade, IsInstance, AreKept, IsPl
 use Rattle.lucy_flat.proofs.SpotWords.{clock_of, base_word}
 use Rattle.lucy_flat.proofs.InstanceLaws.{found_at, kind_here, kind_is, made_here, fit_here, merge_here}
 use Rattle.lucy_flat.proofs.KeptLaws.{kept_past}
-use Rattle.lucy_flat.proofs.SampledLaws.{stored_on}
+use Rattle.lucy_clock.proofs.UnmadeLaws.{stored_on}
 
 -- a place reads few others
 pub reads_few : (nodes : List PlacedNode) (n : PlacedNode) (path : List ℕ) (place : ℕ) (kind : PlaceKind) → IsProperKind n place kind → length (spot_reads nodes (at path place) kind) ≤ 3

@@ -21,7 +21,7 @@ use Rattle.lucy_flat.specs.declared.held.Held.{Held}
 use Rattle.lucy_flat.specs.Assembly.{ReadsTooLong, IsReadThere, AreHeld, IsRingHeld}
 use Rattle.lucy_flat.proofs.AssemblyLaws.{ring_is}
 use Rattle.lucy_flat.proofs.HeldLaws.{held_past}
-use Rattle.lucy_flat.proofs.SampledLaws.{stored_on}
+use Rattle.lucy_clock.proofs.UnmadeLaws.{stored_on}
 
 -- a clock on a word turned is computed with as many bits as one on the word
 long_turned : (own word : Bits) → IsOnTooLong own word → IsOnTooLong own (turned word)

@@ -17,6 +17,5 @@ mod words;
 
 pub use error::TableError;
 pub use laws::{texts_are_one_table, words_have_one_cut};
-pub use lucy_app::{tell_no_memory, words_of};
 pub use table::read_table;
 pub use top::lucy_table;

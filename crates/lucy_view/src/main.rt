@@ -2,19 +2,40 @@
 //! work.
 #![tactic(auto)]
 
-use lucy_app::{program_operators, tell_no_memory, words_of};
+use lucy_app::program_operators;
 use lucy_host::Host;
 use lucy_text::{RealShelf, RealSink, RealSource};
 use lucy_views::look;
+use std::alloc::Global;
+use std::env::{self, Env};
+use std::io::{self, ErrorKind};
 use std::process::ExitCode;
+
+// The words of the command line, the program's name first.
+fn words_of(rt: &(impl Env + AllocGlobal), alloc: Global) -> io::Result<Vec<String>> {
+    let mut words = Vec::new(alloc);
+    for word in env::args(rt)? {
+        words.push(word)?;
+    }
+    Ok(words)
+}
+
+// Says that memory ran out.
+fn out_of_memory(rt: &impl Eprint) -> ExitCode {
+    let _ = eprintln!(rt; "lucy: out of memory");
+    ExitCode::from(7)
+}
 
 fn main(rt: HostRuntime) -> ExitCode {
     let alloc = rt.alloc();
-    let Some(words) = words_of(&rt, alloc, 0) else {
-        return ExitCode::from(tell_no_memory(&rt));
+    let words = match words_of(&rt, alloc) {
+        Ok(words) => words,
+        Err(error) if error.kind() == ErrorKind::OutOfMemory => return out_of_memory(&rt),
+        // A word that is no text asks for nothing.
+        Err(_) => Vec::new(alloc),
     };
     let (Ok(ops), Ok(kinds)) = (program_operators(alloc), program_operators(alloc)) else {
-        return ExitCode::from(tell_no_memory(&rt));
+        return out_of_memory(&rt);
     };
     let host = Host::new(ops, |op: u32, a: i64, b: i64| kinds.value(op, a, b));
     let status = look(
