@@ -1,7 +1,7 @@
 -- A text is answered, or refused for one cause.
 use Rattle.std.proofs.Common.{ℕ, ◌≡◌, List, [], ◌∷◌, length, Result, Ok, Err, ap, sym, ◌∙◌, subst, inl, inr}
 use Rattle.lucy_word.specs.Bits.{Bits}
-use Rattle.lucy_word.specs.Reading.{IsReadable, Refuses}
+use Rattle.lucy_word.specs.Reading.{IsReadable, RefusesText}
 use Rattle.lucy_word.specs.declared.error.WordError.{WordError}
 use Rattle.lucy_word.specs.declared.error.WordError.TheVariants as word
 use Rattle.lucy_word.specs.declared.limit.Limit.TheVariants as limit
@@ -21,7 +21,7 @@ word_cause number word.NoOne = NoOne number
 word_cause number e = Limit limit.Written
 
 -- a field that is refused is read with an error that gives the cause
-told : (number : ℕ) (text : List ℕ) (cause : InputCause) → RefusesWord number text cause → (e : WordError) × Refuses text e × (cause ≡ word_cause number e)
+told : (number : ℕ) (text : List ℕ) (cause : InputCause) → RefusesWord number text cause → (e : WordError) × RefusesText text e × (cause ≡ word_cause number e)
 unfolding word_cause
 told number text (BadWord which place) is = (word.BadWord place, is.1, ap (λ n. BadWord n place) is.0)
 told number text (NoOne which) is = (word.NoOne, is.1, ap NoOne is.0)
@@ -34,7 +34,7 @@ readable_is_not_refused number text a cause is not =
     let t = told number text cause not in
     let same = reads_one text (Ok a) (Err t.0) is t.1 in cc
 
-one_error : (text : List ℕ) (e f : WordError) → Refuses text e → Refuses text f → e ≡ f
+one_error : (text : List ℕ) (e f : WordError) → RefusesText text e → RefusesText text f → e ≡ f
 one_error text e f is other = let same : ◌≡◌ {A = Result Bits WordError} (Err e) (Err f) = reads_one text (Err e) (Err f) is other in cc
 
 -- a field is refused for one cause

@@ -4,7 +4,7 @@ use Rattle.std.specs.Prelude.{ℤ, ◌≢◌}
 use Rattle.lucy_word.specs.Bits.{Bits}
 use Rattle.lucy_host.specs.Operators.{Operator, kinds_of}
 use Rattle.lucy_lines.specs.declared.reader.TextFault.{TextFault}
-use Rattle.lucy_feed.specs.Sources.{Stop, Unread}
+use Rattle.lucy_text.specs.Sources.{ReadStop, Unread}
 use Rattle.lucy_text.specs.Outside.{SeenSink}
 use Rattle.lucy_front.specs.declared.options.Options.{Options}
 use Rattle.lucy_front.specs.declared.accepted.Accepted.{Accepted}
@@ -36,7 +36,7 @@ no_fault words lists None (inl e) = let x = e.0 in cc x
 no_fault words lists None (inr e) = let x = e.0 in cc x
 
 module _ (words : MakeWords) (lends : List Operator) where
-  abbrev Owed : Stop → Accepted → List ℕ → Ending → Type 0
+  abbrev Owed : ReadStop → Accepted → List ℕ → Ending → Type 0
   Owed stop a = OwesSummary words.stages (kinds_of lends) a
 
   abbrev made : List (Result (List ℕ) ShelfError)

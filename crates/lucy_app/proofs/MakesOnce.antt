@@ -7,7 +7,7 @@ use Rattle.lucy_lines.specs.Cuts.{Stop as Halt, At, Before, Cut, input_of}
 use Rattle.lucy_lines.specs.Laws.{OneCut}
 use Rattle.lucy_lines.specs.declared.input.InputSpec.{InputSpec}
 use Rattle.lucy_lines.specs.declared.reader.TextFault.{TextFault}
-use Rattle.lucy_feed.specs.Sources.{Stop, Unread, Ended, Failed, Passed, Open, Drained}
+use Rattle.lucy_text.specs.Sources.{ReadStop, Unread, Ended, Failed, Passed, Open, Drained}
 use Rattle.lucy_feed.specs.Feeding.{values_by_stream, is_closed, fault_of}
 use Rattle.lucy_execution.specs.Streams.{param_words, main_streams}
 use Rattle.lucy_front.specs.declared.accepted.Accepted.{Accepted}
@@ -20,7 +20,7 @@ use Rattle.lucy_make.specs.Figures.{figures}
 use Rattle.lucy_make.specs.Owes.{printed_values, where_done, OwesSummary}
 use Rattle.lucy_app.proofs.RunsOnce.{AreSame, OwesOnce, fed_moves}
 
-whole_fault : (stop : Stop) (halt : Halt) → IsTrue (is_closed stop) → fault_of stop halt ≡ fault_of Ended halt
+whole_fault : (stop : ReadStop) (halt : Halt) → IsTrue (is_closed stop) → fault_of stop halt ≡ fault_of Ended halt
 whole_fault Ended halt whole = refl
 whole_fault Drained (At fault) whole = refl
 whole_fault Drained (Before held) whole = refl
@@ -30,7 +30,7 @@ whole_fault Passed halt whole = absurd (cc whole)
 whole_fault Open halt whole = absurd (cc whole)
 
 -- an input that was taken whole has one feed, however reading stopped
-pub whole_feeds : OneCut → (inputs : List InputSpec) (taken : List ℕ) (stop other : Stop) (lists others : List (List ℤ)) (fault way : Option TextFault) → IsTrue (is_closed stop) → IsTrue (is_closed other) →
+pub whole_feeds : OneCut → (inputs : List InputSpec) (taken : List ℕ) (stop other : ReadStop) (lists others : List (List ℤ)) (fault way : Option TextFault) → IsTrue (is_closed stop) → IsTrue (is_closed other) →
     Feeds inputs taken stop lists fault → Feeds inputs taken other others way → (lists ≡ others) × (fault ≡ way)
 whole_feeds cut [] taken stop other lists others fault way w v p q = (p.2 ∙ sym q.2, p.3 ∙ sym q.3)
 whole_feeds cut (input ∷ inputs) taken stop other lists others fault way w v p q =
@@ -43,7 +43,7 @@ whole_feeds cut (input ∷ inputs) taken stop other lists others fault way w v p
     )
 
 -- so has a run on the generated input, where all its bytes were taken
-made_one : OneCut → OneHorizon → (a : Accepted) (stop halt : Stop) (lists others : List (List ℤ)) (fault way : Option TextFault) (horizon last : ℕ) (end other : Ending) → IsTrue (is_closed stop) → IsTrue (is_closed halt) →
+made_one : OneCut → OneHorizon → (a : Accepted) (stop halt : ReadStop) (lists others : List (List ℤ)) (fault way : Option TextFault) (horizon last : ℕ) (end other : Ending) → IsTrue (is_closed stop) → IsTrue (is_closed halt) →
     IsFed a None made_input stop lists fault horizon → IsFed a None made_input halt others way last → EndsFor (input_words a) None lists fault end → EndsFor (input_words a) None others way other →
     (lists ≡ others) × (horizon ≡ last) × (end ≡ other)
 made_one cut horizons a stop halt lists others fault way horizon last end other whole all p q ends past =

@@ -6,9 +6,9 @@ use Rattle.std.specs.declared.vec.Vec.{Vec}
 use Rattle.lucy_word.specs.declared.limit.Limit.TheVariants as limit
 use Rattle.lucy_text.specs.declared.shelf.ShelfError.{ShelfError}
 use Rattle.lucy_text.specs.declared.shelf.ShelfError.TheVariants as shelf
-use Rattle.lucy_feed.specs.Sources.{Stop, Unread, Ended, Failed, Passed, Open, IsGathered}
-use Rattle.lucy_feed.specs.declared.read.ReadError.{ReadError}
-use Rattle.lucy_feed.specs.declared.read.ReadError.TheVariants as read
+use Rattle.lucy_text.specs.Sources.{ReadStop, Unread, Ended, Failed, Passed, Open, IsGathered}
+use Rattle.lucy_text.specs.declared.read.ReadError.{ReadError}
+use Rattle.lucy_text.specs.declared.read.ReadError.TheVariants as read
 use Rattle.lucy_front.specs.Accepting.{RefusesText}
 use Rattle.lucy_app.specs.Answers.{Answer, limit_passed}
 use Rattle.lucy_app.specs.Fields.{fields}
@@ -87,32 +87,32 @@ order_owed text (Ok line) is why = inl (line.items, is, refl)
 order_owed text (Err e) is (inl out) = inl out
 order_owed text (Err e) is (inr why) = inr (inr (why.0, why.1, ap refusal_answer why.2))
 
-pub order_outcome : (most : ℕ) (taken bytes : List ℕ) (stop : Stop) (r : Result (Vec ℕ Global) Refusal) → bytes ≡ taken → length bytes ≤ most →
+pub order_outcome : (most : ℕ) (taken bytes : List ℕ) (stop : ReadStop) (r : Result (Vec ℕ Global) Refusal) → bytes ≡ taken → length bytes ≤ most →
     ((length taken ≤ most) × (stop ≡ Ended)) ⊎ ((most < length taken) × (stop ≡ Passed)) →
     IfOk r (λ v. IsVerdictLine bytes v.items) → IfErr r (RefusesInput (RefusesFields (fields bytes))) → IsOutcome (OwesOrder taken stop) r
 order_outcome most taken bytes stop r same short (inl ended) is why =
     let P : List ℕ → Type 0 = λ t. IsOutcome (OwesOrder t stop) r in
-    let Q : Stop → Type 0 = λ s. IsOutcome (OwesOrder bytes s) r in
+    let Q : ReadStop → Type 0 = λ s. IsOutcome (OwesOrder bytes s) r in
     subst P same (subst Q (sym ended.1) (order_owed bytes r is why))
 order_outcome most taken bytes stop r same short (inr passed) is why = absurd (omega (arith, ap length same, passed.0, short))
 
 -- an input that is too long
-pub long_outcome : (most : ℕ) (taken bytes : List ℕ) (stop : Stop) (e : Refusal) → bytes ≡ taken → most < length bytes →
+pub long_outcome : (most : ℕ) (taken bytes : List ℕ) (stop : ReadStop) (e : Refusal) → bytes ≡ taken → most < length bytes →
     ((length taken ≤ most) × (stop ≡ Ended)) ⊎ ((most < length taken) × (stop ≡ Passed)) → refusal_answer e ≡ limit_passed limit.OrderInput → IsOutcome (OwesOrder taken stop) (Err e)
 long_outcome most taken bytes stop e same long (inl ended) is = absurd (omega (arith, ap length same, ended.0, long))
 long_outcome most taken bytes stop e same long (inr passed) is =
-    let Q : Stop → Type 0 = λ s. IsOutcome (OwesOrder taken s) (Err e) in
+    let Q : ReadStop → Type 0 = λ s. IsOutcome (OwesOrder taken s) (Err e) in
     subst Q (sym passed.1) (inr is)
 
-fault_owed : (taken : List ℕ) (stop : Stop) (e : ReadError) → ((e ≡ read.Failed) × (stop ≡ Failed)) ⊎ ((e ≡ read.OutOfMemory) × (stop ≡ Open)) →
+fault_owed : (taken : List ℕ) (stop : ReadStop) (e : ReadError) → ((e ≡ read.Failed) × (stop ≡ Failed)) ⊎ ((e ≡ read.OutOfMemory) × (stop ≡ Open)) →
     (read_refusal e ≡ OutOfMemory) ⊎ OwesOrder taken stop (refusal_answer (read_refusal e))
 fault_owed taken stop e (inl fault) =
-    let P : Stop → Type 0 = λ s. OwesOrder taken s (refusal_answer (read_refusal e)) in
+    let P : ReadStop → Type 0 = λ s. OwesOrder taken s (refusal_answer (read_refusal e)) in
     inr (subst P (sym fault.1) (ap (λ x. refusal_answer (read_refusal x)) fault.0))
 fault_owed taken stop e (inr out) = inl (ap read_refusal out.0)
 
 -- an input that was not read to its end
-pub unread_outcome : (most : ℕ) (taken : List ℕ) (stop : Stop) (gathered : Result (Vec ℕ Global) ReadError) (r : Result (Vec ℕ Global) Refusal) (e : ReadError) (f : Refusal) →
+pub unread_outcome : (most : ℕ) (taken : List ℕ) (stop : ReadStop) (gathered : Result (Vec ℕ Global) ReadError) (r : Result (Vec ℕ Global) Refusal) (e : ReadError) (f : Refusal) →
     IsGathered most taken stop gathered → gathered ≡ Err e → r ≡ Err f → f ≡ read_refusal e → IsOutcome (OwesOrder taken stop) r
 unread_outcome most taken stop gathered r e f how was is same =
     let G : Result (Vec ℕ Global) ReadError → Type 0 = λ g. IsGathered most taken stop g in

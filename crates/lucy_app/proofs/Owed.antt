@@ -7,7 +7,7 @@ use Rattle.lucy_front.specs.Accepting.{RefusesSyntax, RefusesText}
 use Rattle.lucy_tight.specs.Laws.{OneTightest}
 use Rattle.lucy_app.specs.Outcomes.{OwesNamed}
 use Rattle.lucy_app.specs.Commands.{written_options, inferring_options}
-use Rattle.lucy_feed.specs.Sources.{Stop, Ended, Failed, Passed}
+use Rattle.lucy_text.specs.Sources.{ReadStop, Ended, Failed, Passed}
 use Rattle.lucy_app.specs.World.{Given}
 use Rattle.lucy_app.specs.Answers.{Answer, AreTightAlike, MayDiffer, Alike, printed, program_refused, input_refused}
 use Rattle.lucy_app.specs.Fields.{fields}
@@ -35,7 +35,7 @@ use Rattle.lucy_app.proofs.Typed.{types_verdict}
 use Rattle.lucy_app.proofs.Checked.{check_verdict}
 use Rattle.lucy_app.proofs.TightOnce.{tight_decided}
 
-pub order_owes_one : (taken : List ℕ) (stop : Stop) (a b : Answer) → OwesOrder taken stop a → OwesOrder taken stop b → a ≡ b
+pub order_owes_one : (taken : List ℕ) (stop : ReadStop) (a b : Answer) → OwesOrder taken stop a → OwesOrder taken stop b → a ≡ b
 order_owes_one taken Ended a b (inl is) (inl also) = is.2 ∙ ap printed (one_line taken is.0 also.0 is.1 also.1) ∙ sym also.2
 order_owes_one taken Ended a b (inl is) (inr also) = absurd (pair_is_not_refused taken is.1.0 is.1.1 also.0 is.1.3 is.1.6 also.1)
 order_owes_one taken Ended a b (inr is) (inl also) = absurd (pair_is_not_refused taken also.1.0 also.1.1 is.0 also.1.3 also.1.6 is.1)
@@ -113,7 +113,7 @@ show_decided : IsDecided (λ x y. ⊥) RefusesSyntax (OwesPrint IsPrintOf)
 show_decided = print_decided (λ x y. ⊥) IsPrintOf RefusesSyntax show_verdict
 
 -- and owes one answer
-pub show_owes_one : (stop : Stop) (fetched : List (Result (List ℕ) ShelfError)) (a b : Answer) → OwesText RefusesSyntax (OwesPrint IsPrintOf) stop fetched a →
+pub show_owes_one : (stop : ReadStop) (fetched : List (Result (List ℕ) ShelfError)) (a b : Answer) → OwesText RefusesSyntax (OwesPrint IsPrintOf) stop fetched a →
     OwesText RefusesSyntax (OwesPrint IsPrintOf) stop fetched b → a ≡ b
 show_owes_one stop fetched a b (inl is) (inl also) = show_refusal_one fetched a b is.0 also.0
 show_owes_one stop fetched a b (inl is) (inr also) =

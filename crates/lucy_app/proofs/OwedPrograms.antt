@@ -2,7 +2,7 @@
 use Rattle.std.proofs.Common.{ℕ, ◌≡◌, ◌⊎◌, List, [], ◌∷◌, Result, Ok, Err, ap, sym, ◌∙◌, inl, inr}
 use Rattle.lucy_text.specs.declared.shelf.ShelfError.{ShelfError}
 use Rattle.lucy_text.specs.declared.shelf.ShelfError.TheVariants as shelf
-use Rattle.lucy_feed.specs.Sources.{Stop}
+use Rattle.lucy_text.specs.Sources.{ReadStop}
 use Rattle.lucy_front.specs.declared.refusal.Refusal.{Refusal}
 use Rattle.lucy_front.specs.OneAnswer.{AreAlike}
 use Rattle.lucy_app.specs.Commands.{HasText}
@@ -48,7 +48,7 @@ module _ (Differ : Answer → Answer → Type 0) (Refuses : List ℕ → Refusal
   owed_one (Err e ∷ more) a b h k = absurd h
 
   -- so it is of what was fetched, where answers that are owed of it differ otherwise
-  pub text_owes_but : (Other : Answer → Answer → Type 0) (stop : Stop) (fetched : List (Result (List ℕ) ShelfError)) →
+  pub text_owes_but : (Other : Answer → Answer → Type 0) (stop : ReadStop) (fetched : List (Result (List ℕ) ShelfError)) →
       ((a b : Answer) → HasText fetched (λ text. Owed text a) → HasText fetched (λ text. Owed text b) → AreOneBut Other a b) →
       (a b : Answer) → OwesText Refuses Owed stop fetched a → OwesText Refuses Owed stop fetched b → AreOneBut Other a b ⊎ AreRefusedAlike a b
   text_owes_but Other stop fetched one a b (inl h) (inl k) = refusals_alike Other fetched a b h.0 k.0
@@ -56,6 +56,6 @@ module _ (Differ : Answer → Answer → Type 0) (Refuses : List ℕ → Refusal
   text_owes_but Other stop fetched one a b (inr h) (inl k) = absurd (unrefused fetched a b h k.0)
   text_owes_but Other stop fetched one a b (inr h) (inr k) = inl (one a b h k)
 
-  pub text_owes_one : (stop : Stop) (fetched : List (Result (List ℕ) ShelfError)) (a b : Answer) →
+  pub text_owes_one : (stop : ReadStop) (fetched : List (Result (List ℕ) ShelfError)) (a b : Answer) →
       OwesText Refuses Owed stop fetched a → OwesText Refuses Owed stop fetched b → AreOneBut Differ a b ⊎ AreRefusedAlike a b
   text_owes_one stop fetched a b h k = text_owes_but Differ stop fetched (owed_one fetched) a b h k

@@ -12,7 +12,7 @@ use Rattle.lucy_text.specs.declared.shelf.ShelfError.{ShelfError}
 use Rattle.lucy_text.specs.declared.shelf.ShelfError.TheVariants as shelf
 use Rattle.lucy_text.proofs.OutsideLaws.{followed-nil, still_none}
 use Rattle.lucy_lines.specs.declared.input.InputSpec.{InputSpec}
-use Rattle.lucy_feed.specs.Sources.{Stop, Unread, Read}
+use Rattle.lucy_text.specs.Sources.{ReadStop, Unread, Read}
 use Rattle.lucy_feed.specs.Feeding.{IsAsked}
 use Rattle.lucy_fields.specs.Readings.{AreRead, IsFirstBad}
 use Rattle.lucy_trace.specs.Logs.{picks_of}
@@ -80,7 +80,7 @@ module _ (fetched : Result (Vec ℕ Global) ShelfError) where
       subst Q (sym gave) (subst (λ t. AreRead (picks_of t) picks) same read)
 
 -- what is owed of no events is owed of any
-log_more : (A B : (picks : List ℕ) → Answer → Type 0) → ((picks : List ℕ) (x : Answer) → A picks x → B picks x) → (stop : Stop) (log : Result (List ℕ) ShelfError) (x : Answer) → OwesLog A stop log x → OwesLog B stop log x
+log_more : (A B : (picks : List ℕ) → Answer → Type 0) → ((picks : List ℕ) (x : Answer) → A picks x → B picks x) → (stop : ReadStop) (log : Result (List ℕ) ShelfError) (x : Answer) → OwesLog A stop log x → OwesLog B stop log x
 log_more A B more stop (Ok text) x (inl bad) = inl bad
 log_more A B more stop (Ok text) x (inr (picks, read, owed)) = inr (picks, read, more picks x owed)
 log_more A B more stop (Err shelf.Failed) x h = h
@@ -97,7 +97,7 @@ some_or_none [] = inl refl
 some_or_none (input ∷ inputs) = inr (λ e. cc e)
 
 -- of a log that was read these events are owed
-with_picks : (log : Result (List ℕ) ShelfError) (picks : List ℕ) (Owed : List ℕ → Answer → Type 0) (stop : Stop) (x : Answer) → IsOkAnd log (λ text. AreRead (picks_of text) picks) → Owed picks x → OwesLog Owed stop log x
+with_picks : (log : Result (List ℕ) ShelfError) (picks : List ℕ) (Owed : List ℕ → Answer → Type 0) (stop : ReadStop) (x : Answer) → IsOkAnd log (λ text. AreRead (picks_of text) picks) → Owed picks x → OwesLog Owed stop log x
 with_picks (Ok text) picks Owed stop x read owed = inr (picks, read, owed)
 with_picks (Err e) picks Owed stop x read owed = absurd read
 
@@ -108,7 +108,7 @@ some_picks (Err e) picks read = read
 module _ (ops : List Operator) (a : Accepted) (instants : Option ℕ) (log : Result (List ℕ) ShelfError) where
   -- what a call leaves
   abbrev pub Leaves : (before after : SeenSource) (out out' err err' : SeenSink) (status : ℕ) → Type 0
-  Leaves before after out out' err err' status = (taken : List ℕ) × (stop : Stop) × Read (limit_number limit.Input) before after taken stop
+  Leaves before after out out' err err' status = (taken : List ℕ) × (stop : ReadStop) × Read (limit_number limit.Input) before after taken stop
       × ReadsBehind a log before after taken × EndsLog ops a instants taken stop log out out' err err' status
 
   -- the log was refused
@@ -122,7 +122,7 @@ module _ (ops : List Operator) (a : Accepted) (instants : Option ℕ) (log : Res
       ] in
       ([], Unread, read_nothing s, inl refl, ends_refused _ _ _ (inl refl) e out out err err' status owes refl told)
 
-  module _ (picks : List ℕ) (read : IsOkAnd log (λ text. AreRead (picks_of text) picks)) (taken : List ℕ) (stop : Stop) where
+  module _ (picks : List ℕ) (read : IsOkAnd log (λ text. AreRead (picks_of text) picks)) (taken : List ℕ) (stop : ReadStop) where
     owes : (output : List ℕ) (result : Result Ending TraceError) → OwesReplay ops a instants picks taken stop output result →
         OwesLog (OwesEvents ops a instants taken stop) stop log (replayed output result)
     owes output result owed = with_picks log picks (OwesEvents ops a instants taken stop) stop (replayed output result) read (output, result, owed, refl)
@@ -138,7 +138,7 @@ module _ (ops : List Operator) (a : Accepted) (instants : Option ℕ) (log : Res
         let front = inr (output, length output, stands output end owed, sym (take_all (length output) output (omega arith))) in
         inl (out_of_memory output, inr (output, front, refl), record { printed = writes; told = told })
 
-    stands_as : (counted : Stop) (output : List ℕ) (end : Ending) → counted ≡ stop → OwesReplay ops a instants picks taken counted output (Ok end) → LogOutputs ops a instants taken stop log output
+    stands_as : (counted : ReadStop) (output : List ℕ) (end : Ending) → counted ≡ stop → OwesReplay ops a instants picks taken counted output (Ok end) → LogOutputs ops a instants taken stop log output
     stands_as counted output end same owed = stands output end (subst (λ s. OwesReplay ops a instants picks taken s output (Ok end)) same owed)
 
     -- the events were a run
@@ -206,7 +206,7 @@ module _ (words : ProgramWords) (name : List ℕ) (ops : List Operator) (file : 
   unlogged e is out out' err err' status same told =
       ends_refused _ _ _ (inl refl) e out out' err err' status (subst (IsAccepting ops (inferring_options words.scale words.lead) words.instants (file ∷ [])) is accepting) same told
 
-  module _ (a : Accepted) (is : answer ≡ Ok a) (log : Result (List ℕ) ShelfError) (taken : List ℕ) (stop : Stop) where
+  module _ (a : Accepted) (is : answer ≡ Ok a) (log : Result (List ℕ) ShelfError) (taken : List ℕ) (stop : ReadStop) where
     can : IsOkAnd file (λ text. IsRunnable ops (inferring_options words.scale words.lead) words.instants text a)
     can = subst (IsAccepting ops (inferring_options words.scale words.lead) words.instants (file ∷ [])) is accepting
 

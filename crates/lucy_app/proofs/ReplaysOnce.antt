@@ -5,7 +5,7 @@ use Rattle.lucy_host.specs.Operators.{Operator, kinds_of}
 use Rattle.lucy_text.specs.declared.shelf.ShelfError.{ShelfError}
 use Rattle.lucy_text.specs.declared.shelf.ShelfError.TheVariants as shelf
 use Rattle.lucy_lines.specs.declared.reader.TextFault.{TextFault}
-use Rattle.lucy_feed.specs.Sources.{Stop}
+use Rattle.lucy_text.specs.Sources.{ReadStop}
 use Rattle.lucy_fields.specs.Readings.{AreRead}
 use Rattle.lucy_fields.proofs.ReadingLaws.{good, never_both, one_place}
 use Rattle.lucy_trace.specs.Logs.{picks_of}
@@ -48,7 +48,7 @@ judges_any net s t ops lists horizon nodes outputs words given fault picks outpu
 judges_any net s t ops lists horizon nodes outputs words given fault picks output (Err e) h = h
 
 -- what is owed of one program of a text is owed of the other
-pub replay_moves : (ops : List Operator) (a b : Accepted) → AreSame a b → (instants : Option ℕ) (picks taken : List ℕ) (stop : Stop) (output : List ℕ) (result : Result Ending TraceError) →
+pub replay_moves : (ops : List Operator) (a b : Accepted) → AreSame a b → (instants : Option ℕ) (picks taken : List ℕ) (stop : ReadStop) (output : List ℕ) (result : Result Ending TraceError) →
     OwesReplay ops a instants picks taken stop output result → OwesReplay ops b instants picks taken stop output result
 replay_moves ops a b same instants picks taken stop output result (lists, fault, horizon, fed, judged) =
     let kinds = kinds_of ops in
@@ -63,7 +63,7 @@ replay_moves ops a b same instants picks taken stop output result (lists, fault,
           (subst R same.net (subst Q same.outputs (moves kinds a b same instants taken stop P judged))),
     )
 
-module _ (again : OneReplay) (ops : List Operator) (instants : Option ℕ) (taken : List ℕ) (stop : Stop) where
+module _ (again : OneReplay) (ops : List Operator) (instants : Option ℕ) (taken : List ℕ) (stop : ReadStop) where
   events_once : (a b : Accepted) → AreSame a b → (picks : List ℕ) (x y : Answer) → OwesEvents ops a instants taken stop picks x → OwesEvents ops b instants taken stop picks y → x ≡ y
   events_once a b same picks x y (output, result, owed, is) (out, other, owes, also) =
       let one = again ops b instants picks taken stop output out result other (replay_moves ops a b same instants picks taken stop output result owed) owes in

@@ -8,7 +8,7 @@ use Rattle.lucy_host.specs.Operators.{Operator}
 use Rattle.lucy_text.specs.declared.shelf.ShelfError.{ShelfError}
 use Rattle.lucy_text.proofs.OutsideLaws.{followed-nil, still_none}
 use Rattle.lucy_text.specs.Outside.{SeenSource, SeenSink}
-use Rattle.lucy_feed.specs.Sources.{Stop, Unread, Read}
+use Rattle.lucy_text.specs.Sources.{ReadStop, Unread, Read}
 use Rattle.lucy_front.specs.declared.accepted.Accepted.{Accepted}
 use Rattle.lucy_run.specs.declared.ending.Ending.{Ending}
 use Rattle.lucy_run.specs.Ends.{IsFrontOf, EndsWith, FailsInOrder}
@@ -39,7 +39,7 @@ some_or_none (input ∷ inputs) = inr (λ e. cc e)
 abbrev pub ReadsSo : List Operator → Options → List (Result (List ℕ) ShelfError) → (before after : SeenSource) (taken : List ℕ) → Type 0
 ReadsSo ops o fetched before after taken = (after ≡ before) ⊎ TakesInput ops o fetched taken
 
-module _ (Owed : List ℕ → Stop → Accepted → List ℕ → Ending → Type 0) (Counts : Stop → Stop → Type 0) (Order : List ℕ → Stop → Accepted → (out out' : SeenSink) → Type 0) (same_counts : (stop : Stop) → Counts stop stop) (ops lends : List Operator) (found o : Options)
+module _ (Owed : List ℕ → ReadStop → Accepted → List ℕ → Ending → Type 0) (Counts : ReadStop → ReadStop → Type 0) (Order : List ℕ → ReadStop → Accepted → (out out' : SeenSink) → Type 0) (same_counts : (stop : ReadStop) → Counts stop stop) (ops lends : List Operator) (found o : Options)
     (instants : Option ℕ) (fetched : List (Result (List ℕ) ShelfError)) (answer : Result Accepted Refusal) (same : ops ≡ lends) (is_o : found ≡ o) (accepting : IsAccepting ops found instants fetched answer) where
   accepting_so : IsAccepting lends o instants fetched answer
   accepting_so =
@@ -49,7 +49,7 @@ module _ (Owed : List ℕ → Stop → Accepted → List ℕ → Ending → Type
 
   -- the program was not run
   pub unrun : (s : SeenSource) (out err err' : SeenSink) (status : ℕ) (e : Refusal) → answer ≡ Err e → TellsRefusal e err err' status →
-      (taken : List ℕ) × (stop : Stop) × Read (limit_number limit.Input) s s taken stop × ReadsSo lends o fetched s s taken
+      (taken : List ℕ) × (stop : ReadStop) × Read (limit_number limit.Input) s s taken stop × ReadsSo lends o fetched s s taken
       × EndsRunning (Owed taken) (Counts stop) (OfProgram (λ a. Order taken stop a out out) lends o fetched) lends o instants stop fetched out out err err' status
   unrun s out err err' status e is told =
       let P : Result Accepted Refusal → Type 0 = λ r. IsAccepting lends o instants fetched r in (
@@ -62,9 +62,9 @@ module _ (Owed : List ℕ → Stop → Accepted → List ℕ → Ending → Type
 
   -- the program was run
   pub ran : (before after : SeenSource) (out out' err err' : SeenSink) (status : ℕ) (a : Accepted) (end : Ending) → answer ≡ Ok a → (a.inputs.items ≡ [] → after ≡ before) →
-      (taken : List ℕ) (stop : Stop) → Read (limit_number limit.Input) before after taken stop → IsAsked a.inputs.items taken →
+      (taken : List ℕ) (stop : ReadStop) → Read (limit_number limit.Input) before after taken stop → IsAsked a.inputs.items taken →
       EndsWith (λ counted. Owed taken counted a) (Counts stop) stop out out' end → (end ≡ WriteFault → Order taken stop a out out') → TellsEnding end err err' status →
-      (others : List ℕ) × (halt : Stop) × Read (limit_number limit.Input) before after others halt × ReadsSo lends o fetched before after others
+      (others : List ℕ) × (halt : ReadStop) × Read (limit_number limit.Input) before after others halt × ReadsSo lends o fetched before after others
       × EndsRunning (Owed others) (Counts halt) (OfProgram (λ b. Order others halt b out out') lends o fetched) lends o instants halt fetched out out' err err' status
   ran before after out out' err err' status a end is alone taken stop read asked left order told =
       let P : Result Accepted Refusal → Type 0 = λ r. IsAccepting lends o instants fetched r in

@@ -5,7 +5,7 @@ use Rattle.std.specs.Prelude.{IsOkAnd}
 use Rattle.std.proofs.lemmas.List.{take_all}
 use Rattle.lucy_host.specs.Operators.{Operator}
 use Rattle.lucy_text.specs.declared.shelf.ShelfError.{ShelfError}
-use Rattle.lucy_feed.specs.Sources.{Stop, Unread}
+use Rattle.lucy_text.specs.Sources.{ReadStop, Unread}
 use Rattle.lucy_text.specs.Outside.{SeenSink, Writes}
 use Rattle.lucy_front.specs.declared.accepted.Accepted.{Accepted}
 use Rattle.lucy_run.specs.declared.ending.Ending.{Ending}
@@ -30,7 +30,7 @@ pub text_more : (fetched : List (Result (List ℕ) ShelfError)) (P Q : List ℕ 
 text_more [] P Q more h = h
 text_more (r ∷ others) P Q more h = ok_more r P Q more h
 
-module _ (Owed : Stop → Accepted → List ℕ → Ending → Type 0) (Counts : Stop → Type 0) (InOrder : Type 0) (ops : List Operator) (o : Options) (instants : Option ℕ) (fetched : List (Result (List ℕ) ShelfError)) where
+module _ (Owed : ReadStop → Accepted → List ℕ → Ending → Type 0) (Counts : ReadStop → Type 0) (InOrder : Type 0) (ops : List Operator) (o : Options) (instants : Option ℕ) (fetched : List (Result (List ℕ) ShelfError)) where
   lacking_owed : (a : Accepted) (x : Answer) → OwesEnded (NoRun a) instants Unread a x → OwesEnded (Owed Unread a) instants Unread a x
   lacking_owed a x (inl h) = inl h
   lacking_owed a x (inr h) = absurd h.3
@@ -45,8 +45,8 @@ module _ (Owed : Stop → Accepted → List ℕ → Ending → Type 0) (Counts :
   ends_unrun e out out' err err' status (inl is) same told = ends_refused _ _ _ (inl refl) e out out' err err' status (inl is) same told
   ends_unrun e out out' err err' status (inr owed) same told = ends_refused _ _ _ (inl refl) e out out' err err' status (inr (unrun_owed (refusal_answer e) owed)) same told
 
-  module _ (stop : Stop) (counts : Counts stop) (a : Accepted) (runnable : HasText fetched (λ text. IsRunnable ops o instants text a)) where
-    answer_owed : (counted : Stop) (output : List ℕ) (end : Ending) → Owed counted a output end → OwesRunning (Owed counted) ops o instants counted fetched (ended output end)
+  module _ (stop : ReadStop) (counts : Counts stop) (a : Accepted) (runnable : HasText fetched (λ text. IsRunnable ops o instants text a)) where
+    answer_owed : (counted : ReadStop) (output : List ℕ) (end : Ending) → Owed counted a output end → OwesRunning (Owed counted) ops o instants counted fetched (ended output end)
     answer_owed counted output end owed = inr (text_more fetched _ _ (λ text is. (a, is.0, inr (is.1, output, end, owed, refl))) runnable)
 
     output_owed : (output : List ℕ) → Outputs Counts (λ counted. Owed counted a) output → RunOutputs Counts Owed ops o instants fetched output

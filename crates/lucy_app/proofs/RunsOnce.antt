@@ -6,7 +6,7 @@ use Rattle.lucy_host.specs.Operators.{Operator}
 use Rattle.lucy_host.specs.declared.kind.HostKind.{HostKind}
 use Rattle.lucy_text.specs.declared.shelf.ShelfError.{ShelfError}
 use Rattle.lucy_lines.specs.declared.reader.TextFault.{TextFault}
-use Rattle.lucy_feed.specs.Sources.{Stop}
+use Rattle.lucy_text.specs.Sources.{ReadStop}
 use Rattle.lucy_meaning.specs.Horizons.{IsHorizon}
 use Rattle.lucy_place.specs.declared.placed.PlacedNode.{PlacedNode}
 use Rattle.lucy_clock.specs.declared.node_clock.NodeClock.{NodeClock}
@@ -58,7 +58,7 @@ accepted_same ops o text a b is also =
           (subst (λ cs. IsFlatNet b.placed.nodes cs a.net) same.2 (subst (λ p. IsFlatNet p.nodes a.clocks.items a.net) same.0 is.net.flat)) also.net.flat;
     }
 
-module _ (kinds : List HostKind) (a b : Accepted) (same : AreSame a b) (instants : Option ℕ) (taken : List ℕ) (stop : Stop) where
+module _ (kinds : List HostKind) (a b : Accepted) (same : AreSame a b) (instants : Option ℕ) (taken : List ℕ) (stop : ReadStop) where
   -- what the nodes and the words say of one says it of the other
   pub moves : (P : List PlacedNode → List NodeClock → Type 0) → P a.placed.nodes a.clocks.items → P b.placed.nodes b.clocks.items
   moves P h = subst (λ cs. P b.placed.nodes cs) same.clocks (subst (λ ns. P ns a.clocks.items) same.nodes h)
@@ -118,7 +118,7 @@ once_but Differ Owed once a b output other end way same h k =
 
 module _ (Differ : Answer → Answer → Type 0) (Owed : Accepted → List ℕ → Ending → Type 0) (once : OwesOneBut Differ Owed)
     (ops : List Operator)
-    (o : Options) (instants : Option ℕ) (stop : Stop) where
+    (o : Options) (instants : Option ℕ) (stop : ReadStop) where
   -- where main of one program lacks the instants, that of the other does
   lacks_too : (text : List ℕ) (a b : Accepted) → IsAccepted ops o text a → IsAccepted ops o text b → LacksInstants a instants → LacksInstants b instants
   lacks_too text a b is also lacks = (sym (accepted_same ops o text a b is also).inputs ∙ lacks.0, lacks.1)
@@ -149,14 +149,14 @@ module _ (Differ : Answer → Answer → Type 0) (Owed : Accepted → List ℕ �
       run_decided stop fetched x y h k
 
 -- by the laws of one run and one interpretation
-pub run_once : OneRun → (kinds : List HostKind) (instants : Option ℕ) (taken : List ℕ) (stop : Stop) → OwesOnce (λ a. OwesRun kinds a instants taken stop)
+pub run_once : OneRun → (kinds : List HostKind) (instants : Option ℕ) (taken : List ℕ) (stop : ReadStop) → OwesOnce (λ a. OwesRun kinds a instants taken stop)
 run_once law kinds instants taken stop a b output other end way same h k = law kinds b instants taken stop output other end way (run_moves kinds a b same instants taken stop output end h) k
 
-pub kahn_once : OneInterpretation → (kinds : List HostKind) (instants : Option ℕ) (taken : List ℕ) (stop : Stop) → OwesOnce (λ a. OwesKahn kinds a instants taken stop)
+pub kahn_once : OneInterpretation → (kinds : List HostKind) (instants : Option ℕ) (taken : List ℕ) (stop : ReadStop) → OwesOnce (λ a. OwesKahn kinds a instants taken stop)
 kahn_once law kinds instants taken stop a b output other end way same h k = law kinds b instants taken stop output other end way (kahn_moves kinds a b same instants taken stop output end h) k
 
 -- traces of programs of one text end alike
-module _ (law : OneTrace) (ops : List Operator) (o : Options) (instants : Option ℕ) (taken : List ℕ) (stop : Stop) where
+module _ (law : OneTrace) (ops : List Operator) (o : Options) (instants : Option ℕ) (taken : List ℕ) (stop : ReadStop) where
   -- the net and the horizon of the run of what was fetched
   abbrev Runs : List (Result (List ℕ) ShelfError) → Net → (horizon : ℕ) → Type 0
   Runs fetched net horizon = HasText fetched (λ text. (a : Accepted) × IsAccepted ops o text a × (a.net ≡ net)

@@ -6,7 +6,7 @@ use Rattle.lucy_text.specs.declared.shelf.ShelfError.TheVariants as shelf
 use Rattle.lucy_command.specs.Commands.{Command, Order, Show, Types, Check, Clocks, Run, Kahn, Make, Tighten, Replay, Trace}
 use Rattle.lucy_app.specs.Outcomes.{NoRun, OwesNamed, EndsGiven}
 use Rattle.lucy_app.specs.Commands.{written_options, inferring_options, HasText}
-use Rattle.lucy_feed.specs.Sources.{Stop, Ended, Failed, Passed}
+use Rattle.lucy_text.specs.Sources.{ReadStop, Ended, Failed, Passed}
 use Rattle.lucy_text.specs.Outside.{SeenSink}
 use Rattle.lucy_app.specs.World.{World, Given}
 use Rattle.lucy_app.specs.ProgramRefusals.{program_status}
@@ -54,7 +54,7 @@ input_within (input.Limit passed) = omega arith
 same_within : (a b : Answer) → a ≡ b → b.status ≤ 7 → a.status ≤ 7
 same_within a b same h = omega (arith, ap (λ x. x.status) same, h)
 
-order_within : (taken : List ℕ) (stop : Stop) (a : Answer) → OwesOrder taken stop a → a.status ≤ 7
+order_within : (taken : List ℕ) (stop : ReadStop) (a : Answer) → OwesOrder taken stop a → a.status ≤ 7
 order_within taken Ended a (inl is) = same_within a _ is.2 (omega arith)
 order_within taken Ended a (inr is) = same_within a _ is.2 (input_within is.0)
 order_within taken Failed a is = same_within a _ is (omega arith)
@@ -75,12 +75,12 @@ owed_so Owed within [] a is = absurd is
 owed_so Owed within (Ok text ∷ more) a is = within text a is
 owed_so Owed within (Err e ∷ more) a is = absurd is
 
-text_within : (Refuses : List ℕ → Refusal → Type 0) (Owed : List ℕ → Answer → Type 0) → ((text : List ℕ) (a : Answer) → Owed text a → a.status ≤ 7) → (stop : Stop)
+text_within : (Refuses : List ℕ → Refusal → Type 0) (Owed : List ℕ → Answer → Type 0) → ((text : List ℕ) (a : Answer) → Owed text a → a.status ≤ 7) → (stop : ReadStop)
     (fetched : List (Result (List ℕ) ShelfError)) (a : Answer) → OwesText Refuses Owed stop fetched a → a.status ≤ 7
 text_within Refuses Owed within stop fetched a (inl is) = refusal_within Refuses fetched a is.0
 text_within Refuses Owed within stop fetched a (inr is) = owed_so Owed within fetched a is
 
-print_within : (Prints : List ℕ → List ℕ → Type 0) (Refuses : List ℕ → Refusal → Type 0) (stop : Stop) (fetched : List (Result (List ℕ) ShelfError)) (a : Answer) →
+print_within : (Prints : List ℕ → List ℕ → Type 0) (Refuses : List ℕ → Refusal → Type 0) (stop : ReadStop) (fetched : List (Result (List ℕ) ShelfError)) (a : Answer) →
     OwesText Refuses (OwesPrint Prints) stop fetched a → a.status ≤ 7
 print_within Prints Refuses stop fetched a is = text_within Refuses (OwesPrint Prints) (λ text x h. same_within x _ h.2 (omega arith)) stop fetched a is
 
@@ -98,11 +98,11 @@ ending_within (ending.Limit passed) = omega arith
 ending_within ending.WriteFault = omega arith
 ending_within ending.OutOfMemory = omega arith
 
-ended_within : (Owed : List ℕ → Ending → Type 0) (instants : Option ℕ) (stop : Stop) (p : Accepted) (a : Answer) → OwesEnded Owed instants stop p a → a.status ≤ 7
+ended_within : (Owed : List ℕ → Ending → Type 0) (instants : Option ℕ) (stop : ReadStop) (p : Accepted) (a : Answer) → OwesEnded Owed instants stop p a → a.status ≤ 7
 ended_within Owed instants stop p a (inl is) = same_within a _ is.1 (omega arith)
 ended_within Owed instants stop p a (inr is) = same_within a _ is.4 (ending_within is.2)
 
-running_within : (Owed : Accepted → List ℕ → Ending → Type 0) (ops : List Operator) (o : Options) (instants : Option ℕ) (stop : Stop) (fetched : List (Result (List ℕ) ShelfError)) (a : Answer) →
+running_within : (Owed : Accepted → List ℕ → Ending → Type 0) (ops : List Operator) (o : Options) (instants : Option ℕ) (stop : ReadStop) (fetched : List (Result (List ℕ) ShelfError)) (a : Answer) →
     OwesRunning Owed ops o instants stop fetched a → a.status ≤ 7
 running_within Owed ops o instants stop fetched a is =
     text_within (RefusesCheck ops o) (λ text told. (p : Accepted) × IsAccepted ops o text p × OwesEnded (Owed p) instants stop p told)
@@ -120,7 +120,7 @@ replayed_within : (output : List ℕ) (result : Result Ending TraceError) → (r
 replayed_within output (Ok end) = ending_within end
 replayed_within output (Err e) = omega arith
 
-log_within : (ops : List Operator) (p : Accepted) (instants : Option ℕ) (taken : List ℕ) (stop : Stop) (log : Result (List ℕ) ShelfError) (a : Answer) →
+log_within : (ops : List Operator) (p : Accepted) (instants : Option ℕ) (taken : List ℕ) (stop : ReadStop) (log : Result (List ℕ) ShelfError) (a : Answer) →
     OwesLog (OwesEvents ops p instants taken stop) stop log a → a.status ≤ 7
 log_within ops p instants taken stop (Ok text) a (inl (place, bad, is, unread)) = same_within a _ is (omega arith)
 log_within ops p instants taken stop (Ok text) a (inr (picks, read, (output, result, owed, is))) = same_within a _ is (replayed_within output result)
@@ -129,7 +129,7 @@ log_within ops p instants taken stop (Err shelf.Missing) a is = same_within a _ 
 log_within ops p instants taken stop (Err shelf.TooLong) a is = same_within a _ is.0 (omega arith)
 log_within ops p instants taken stop (Err shelf.OutOfMemory) a is = absurd is.0
 
-logged_within : (ops : List Operator) (o : Options) (instants : Option ℕ) (taken : List ℕ) (stop : Stop) (fetched : List (Result (List ℕ) ShelfError)) (a : Answer) →
+logged_within : (ops : List Operator) (o : Options) (instants : Option ℕ) (taken : List ℕ) (stop : ReadStop) (fetched : List (Result (List ℕ) ShelfError)) (a : Answer) →
     OwesLogged ops o instants taken stop fetched a → a.status ≤ 7
 logged_within ops o instants taken stop [] a is = absurd is
 logged_within ops o instants taken stop (file ∷ []) a is = running_within NoRun ops o instants stop (file ∷ []) a is

@@ -15,7 +15,7 @@ use Rattle.lucy_text.specs.declared.shelf.ShelfError.TheVariants as shelf
 use Rattle.lucy_lines.specs.Laws.{OneCut}
 use Rattle.lucy_lines.specs.declared.input.InputSpec.{InputSpec}
 use Rattle.lucy_lines.specs.declared.reader.TextFault.{TextFault}
-use Rattle.lucy_feed.specs.Sources.{Stop, Ended, Failed, Passed, Read, StoppedAt}
+use Rattle.lucy_text.specs.Sources.{ReadStop, Ended, Failed, Passed, Read, StoppedAt}
 use Rattle.lucy_feed.specs.Feeding.{is_closed}
 use Rattle.lucy_front.specs.declared.options.Options.{Options}
 use Rattle.lucy_front.specs.declared.accepted.Accepted.{Accepted}
@@ -102,7 +102,7 @@ declined May before after status well (shelf, source, answers) =
 -- `order` of two words that are told
 module _ (before after : SeenSource) (bytes taken output : List ℕ) (took : Some bytes ≡ followed taken after.left) (well : Rose before.faults after.faults → ⊥)
     (is : IsVerdictLine bytes output) (few : length bytes ≤ limit_number limit.OrderInput) where
-  order_owed : (stop : Stop) → StoppedAt (limit_number limit.OrderInput) before after taken stop → (answer : Answer) → OwesOrder taken stop answer → answer ≡ printed output
+  order_owed : (stop : ReadStop) → StoppedAt (limit_number limit.OrderInput) before after taken stop → (answer : Answer) → OwesOrder taken stop answer → answer ≡ printed output
   order_owed Ended stopped answer owed =
       let all : taken ≡ bytes = taken_all bytes taken after.left took stopped.1.0 in
       order_owes_one bytes Ended answer (printed output) (subst (λ bs. OwesOrder bs Ended answer) all owed) (inl (output, is, refl))
@@ -114,14 +114,14 @@ module _ (before after : SeenSource) (bytes taken output : List ℕ) (took : Som
       absurd (omega (arith, long, past, few))
   order_owed stop stopped answer owed = absurd owed
 
-order_done : (before after : SeenSource) (taken output : List ℕ) (stop : Stop) (left : Option (List ℕ)) → before.left ≡ left → Read (limit_number limit.OrderInput) before after taken stop →
+order_done : (before after : SeenSource) (taken output : List ℕ) (stop : ReadStop) (left : Option (List ℕ)) → before.left ≡ left → Read (limit_number limit.OrderInput) before after taken stop →
     (Rose before.faults after.faults → ⊥) → IsSomeAnd left (λ bytes. IsVerdictLine bytes output × (length bytes ≤ limit_number limit.OrderInput)) →
     (answer : Answer) → OwesOrder taken stop answer → answer ≡ printed output
 order_done before after taken output stop None e read well none answer owed = absurd none
 order_done before after taken output stop (Some bytes) e read well (is, few) answer owed = order_owed before after bytes taken output (sym e ∙ read.took) well is few stop read.stopped answer owed
 
 -- a text that is accepted is run to its end, where what that owes comes to such an answer
-ran_done : (Owed : Accepted → List ℕ → Ending → Type 0) (ops : List Operator) (o : Options) (instants : Option ℕ) (stop : Stop)
+ran_done : (Owed : Accepted → List ℕ → Ending → Type 0) (ops : List Operator) (o : Options) (instants : Option ℕ) (stop : ReadStop)
     (text : List ℕ) (more : List (Result (List ℕ) ShelfError)) (a : Accepted) (Such : Answer → Type 0) →
     IsRunnable ops o instants text a → ((b : Accepted) (out : List ℕ) (end : Ending) → AreSame b a → Owed b out end → Such (ended out end)) →
     (answer : Answer) →
@@ -163,7 +163,7 @@ module _ (before after : SeenShelf) (file : Wanted) (text : List ℕ) where
   fetched_so (Some files) (Err shelf.OutOfMemory) is holds few well f = inr refl
 
   -- what a file that is held owes is such an answer, where its text owes one
-  text_done : (Refuses : List ℕ → Refusal → Type 0) (Owed : List ℕ → Answer → Type 0) (stop : Stop) (Such : Answer → Type 0) →
+  text_done : (Refuses : List ℕ → Refusal → Type 0) (Owed : List ℕ → Answer → Type 0) (stop : ReadStop) (Such : Answer → Type 0) →
       ((more : List (Result (List ℕ) ShelfError)) (answer : Answer) → OwesText Refuses Owed stop (Ok text ∷ more) answer → Such answer) →
       Holds before file text →
       (Rose before.faults after.faults → ⊥) → (fetched : List (Result (List ℕ) ShelfError)) → Fetches (file ∷ []) before after fetched → (answer : Answer) →
@@ -180,7 +180,7 @@ module _ (before after : SeenShelf) (file : Wanted) (text : List ℕ) where
       ]
 
   -- a command that prints the text's program
-  print_done : (Prints : List ℕ → List ℕ → Type 0) (Refuses : List ℕ → Refusal → Type 0) → IsVerdict Prints Refuses → (stop : Stop) (print : List ℕ) → Prints text print → Holds before file text →
+  print_done : (Prints : List ℕ → List ℕ → Type 0) (Refuses : List ℕ → Refusal → Type 0) → IsVerdict Prints Refuses → (stop : ReadStop) (print : List ℕ) → Prints text print → Holds before file text →
       (Rose before.faults after.faults → ⊥) → (fetched : List (Result (List ℕ) ShelfError)) → Fetches (file ∷ []) before after fetched → (answer : Answer) →
       OwesText Refuses (OwesPrint Prints) stop fetched answer → answer ≡ printed print
   print_done Prints Refuses v stop print is holds well fetched met answer owed =
@@ -189,7 +189,7 @@ module _ (before after : SeenShelf) (file : Wanted) (text : List ℕ) where
       holds well fetched met answer owed
 
   -- one that runs it
-  run_done : (Owed : Accepted → List ℕ → Ending → Type 0) (ops : List Operator) (o : Options) (instants : Option ℕ) (stop : Stop)
+  run_done : (Owed : Accepted → List ℕ → Ending → Type 0) (ops : List Operator) (o : Options) (instants : Option ℕ) (stop : ReadStop)
       (a : Accepted) (Such : Answer → Type 0) → IsRunnable ops o instants text a →
       ((b : Accepted) (out : List ℕ) (end : Ending) → AreSame b a → Owed b out end → Such (ended out end)) → Holds before file text →
       (Rose before.faults after.faults → ⊥) →
@@ -201,7 +201,7 @@ module _ (before after : SeenShelf) (file : Wanted) (text : List ℕ) where
       (λ more x h. ran_done Owed ops o instants stop text more a Such is ends x h) holds well fetched met answer owed
 
 -- the input that `make` generates is what it runs on
-made_fed : OneCut → (inputs : List InputSpec) (stop : Stop) (lists others : List (List ℤ)) (fault : Option TextFault) → (inputs ≡ [] → ⊥) → IsTrue (is_closed stop) →
+made_fed : OneCut → (inputs : List InputSpec) (stop : ReadStop) (lists others : List (List ℤ)) (fault : Option TextFault) → (inputs ≡ [] → ⊥) → IsTrue (is_closed stop) →
     IsInput inputs (Some made_input) lists → Feeds inputs made_input stop others fault → (others ≡ lists) × (fault ≡ None)
 made_fed cut [] stop lists others fault some whole is fed = absurd (some refl)
 made_fed cut (input ∷ inputs) stop lists others fault some whole is fed = whole_feeds cut (input ∷ inputs) made_input stop Ended others lists fault None whole refl fed is
@@ -235,7 +235,7 @@ ended_printed : (out output : List ℕ) (end : Ending) → (out ≡ output) × (
 ended_printed out output end (same, over) = ap (λ e. ended out e) over ∙ ap printed same
 
 -- a log of a program that can be run is replayed to its end, where nothing refuses it
-module _ (again : CompleteReplay) (ops : List Operator) (words : ProgramWords) (name : List ℕ) (taken : List ℕ) (stop : Stop) (before after : World) (a : Accepted) (lists : List (List ℤ)) (horizon : ℕ) (picks : List ℕ)
+module _ (again : CompleteReplay) (ops : List Operator) (words : ProgramWords) (name : List ℕ) (taken : List ℕ) (stop : ReadStop) (before after : World) (a : Accepted) (lists : List (List ℤ)) (horizon : ℕ) (picks : List ℕ)
     (text log : List ℕ) (held : Holds before.shelf (program_of words.file) text) (can : IsRunnable ops (inferring_options words.scale words.lead) words.instants text a)
     (logs : Holds before.shelf (log_of name) log) (reads : AreRead (picks_of log) picks) (fed : IsFedWell a words.instants before.source.left lists horizon)
     (run : CanRun (first_core ops a lists horizon) picks) (well : IsFaultless before after) (source : Read (limit_number limit.Input) before.source after.source taken stop) where
@@ -290,7 +290,7 @@ module _ (again : CompleteReplay) (ops : List Operator) (words : ProgramWords) (
   logged_so (Err f ∷ (second ∷ [])) met answer owed = absurd owed
   logged_so (first ∷ (second ∷ (third ∷ more))) met answer owed = absurd owed
 
-logged_done : CompleteReplay → (ops : List Operator) (words : ProgramWords) (name : List ℕ) (taken : List ℕ) (stop : Stop) (before after : World) →
+logged_done : CompleteReplay → (ops : List Operator) (words : ProgramWords) (name : List ℕ) (taken : List ℕ) (stop : ReadStop) (before after : World) →
     (suits : (a : Accepted) × (lists : List (List ℤ)) × (horizon : ℕ)
     × HoldsSuch (λ text. IsRunnable ops (inferring_options words.scale words.lead) words.instants text a) before.shelf (program_of words.file)
     × IsFedWell a words.instants before.source.left lists horizon × (picks : List ℕ)

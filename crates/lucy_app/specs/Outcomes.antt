@@ -16,8 +16,8 @@ use Rattle.lucy_front.specs.declared.options.Options.{Options}
 use Rattle.lucy_command.specs.declared.words.MakeWords.{MakeWords}
 use Rattle.lucy_command.specs.Commands.{Command, Make}
 use Rattle.lucy_front.specs.Refusals.{memory_line, IsTellable}
-use Rattle.lucy_feed.specs.declared.read.ReadError.{ReadError}
-use Rattle.lucy_feed.specs.declared.read.ReadError.TheVariants as read
+use Rattle.lucy_text.specs.declared.read.ReadError.{ReadError}
+use Rattle.lucy_text.specs.declared.read.ReadError.TheVariants as read
 use Rattle.lucy_text.specs.Outside.{SeenSource, SeenSink}
 use Rattle.lucy_feed.specs.Feeding.{IsAsked}
 use Rattle.lucy_host.specs.Operators.{Operator}
@@ -29,7 +29,7 @@ use Rattle.lucy_app.specs.Answers.{Answer, printed, read_fault, no_instants, no_
 use Rattle.lucy_app.specs.Commands.{HasText}
 use Rattle.lucy_app.specs.Running.{IsRunnable, OwesRunning}
 use Rattle.lucy_app.specs.Replaying.{OwesEvents, OwesLog}
-use Rattle.lucy_feed.specs.Sources.{Stop, Unread}
+use Rattle.lucy_text.specs.Sources.{ReadStop, Unread}
 use Rattle.lucy_app.specs.World.{World, Given}
 pub use Rattle.lucy_app.specs.World.{bytes_of}
 use Rattle.lucy_app.specs.Tighten.{OwesBuffer}
@@ -119,13 +119,13 @@ IsAccepting ops o instants fetched accepted =
     (λ e. (e ≡ OutOfMemory) ⊎ OwesRunning NoRun ops o instants Unread fetched (refusal_answer e))
 
 -- an output that a run of what was fetched owes where the bytes taken count as read in one of these ways
-abbrev pub RunOutputs : (Counts : Stop → Type 0) (Owed : Stop → Accepted → List ℕ → Ending → Type 0) → List Operator → Options → (instants : Option ℕ) → List (Result (List ℕ) ShelfError) →
+abbrev pub RunOutputs : (Counts : ReadStop → Type 0) (Owed : ReadStop → Accepted → List ℕ → Ending → Type 0) → List Operator → Options → (instants : Option ℕ) → List (Result (List ℕ) ShelfError) →
     (output : List ℕ) → Type 0
 RunOutputs Counts Owed ops o instants fetched output =
-    (counted : Stop) × (answer : Answer) × Counts counted × OwesRunning (Owed counted) ops o instants counted fetched answer × (output ≡ answer.out)
+    (counted : ReadStop) × (answer : Answer) × Counts counted × OwesRunning (Owed counted) ops o instants counted fetched answer × (output ≡ answer.out)
 
 -- how a command ends that runs what was fetched, where this holds of an output that failed
-abbrev pub EndsRunning : (Owed : Stop → Accepted → List ℕ → Ending → Type 0) (Counts : Stop → Type 0) (InOrder : Type 0) → List Operator → Options → (instants : Option ℕ) → Stop →
+abbrev pub EndsRunning : (Owed : ReadStop → Accepted → List ℕ → Ending → Type 0) (Counts : ReadStop → Type 0) (InOrder : Type 0) → List Operator → Options → (instants : Option ℕ) → ReadStop →
     List (Result (List ℕ) ShelfError) → (out out' err err' : SeenSink) (status : ℕ) → Type 0
 EndsRunning Owed Counts InOrder ops o instants stop fetched out out' err err' status =
     EndsBy (OwesRunning (Owed stop) ops o instants stop fetched) (IsFrontOf (RunOutputs Counts Owed ops o instants fetched))
@@ -160,11 +160,11 @@ ReadsBehind a log before after taken =
     (after ≡ before) ⊎ ((a.inputs.items ≢ []) × IsAsked a.inputs.items taken × IsOkAnd log (λ text. (picks : List ℕ) × AreRead (picks_of text) picks))
 
 -- an output that is owed of a log
-abbrev pub LogOutputs : List Operator → Accepted → (instants : Option ℕ) → (taken : List ℕ) → Stop → (log : Result (List ℕ) ShelfError) → (output : List ℕ) → Type 0
+abbrev pub LogOutputs : List Operator → Accepted → (instants : Option ℕ) → (taken : List ℕ) → ReadStop → (log : Result (List ℕ) ShelfError) → (output : List ℕ) → Type 0
 LogOutputs ops a instants taken stop log output = (answer : Answer) × OwesLog (OwesEvents ops a instants taken stop) stop log answer × (output ≡ answer.out)
 
 -- how a program ends whose log was fetched
-abbrev pub EndsLog : List Operator → Accepted → (instants : Option ℕ) → (taken : List ℕ) → Stop → (log : Result (List ℕ) ShelfError) → (out out' err err' : SeenSink) (status : ℕ) → Type 0
+abbrev pub EndsLog : List Operator → Accepted → (instants : Option ℕ) → (taken : List ℕ) → ReadStop → (log : Result (List ℕ) ShelfError) → (out out' err err' : SeenSink) (status : ℕ) → Type 0
 EndsLog ops a instants taken stop log out out' err err' status =
     EndsBy (OwesLog (OwesEvents ops a instants taken stop) stop log) (IsFrontOf (LogOutputs ops a instants taken stop log)) (LogOutputs ops a instants taken stop log) out out' err err' status
 

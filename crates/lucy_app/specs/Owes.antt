@@ -3,7 +3,7 @@ use Rattle.std.specs.Prelude.{ℕ, ℤ, ◌≡◌, ◌⊎◌, List, [], ◌∷�
 use Rattle.lucy_word.specs.declared.limit.Limit.TheVariants as limit
 use Rattle.lucy_host.specs.Operators.{kinds_of}
 use Rattle.lucy_lines.specs.declared.reader.TextFault.{TextFault}
-use Rattle.lucy_feed.specs.Sources.{Stop, Ended, Failed, Passed}
+use Rattle.lucy_text.specs.Sources.{ReadStop, Ended, Failed, Passed}
 use Rattle.lucy_net.specs.declared.net.Net.{Net}
 use Rattle.lucy_front.specs.declared.accepted.Accepted.{Accepted}
 use Rattle.lucy_front.specs.Accepting.{IsAccepted, RefusesSyntax, RefusesText}
@@ -29,7 +29,7 @@ use Rattle.lucy_app.specs.Replaying.{OwesLogged}
 use Rattle.lucy_app.specs.declared.input_refusal.InputCause.{InputCause}
 
 -- `order`, by the bytes taken and how reading stopped
-abbrev pub OwesOrder : (taken : List ℕ) → Stop → Answer → Type 0
+abbrev pub OwesOrder : (taken : List ℕ) → ReadStop → Answer → Type 0
 OwesOrder taken Ended answer =
     ((line : List ℕ) × IsVerdictLine taken line × (answer ≡ printed line))
     ⊎ ((cause : InputCause) × RefusesFields (fields taken) cause × (answer ≡ input_refused cause))
@@ -38,7 +38,7 @@ OwesOrder taken Passed answer = answer ≡ limit_passed limit.OrderInput
 OwesOrder taken stop answer = ⊥
 
 -- what a command owes that runs the program of FILE, where a run owes this by the instants, the bytes taken and how reading stopped
-abbrev pub OwesPlay : (Owed : Accepted → Option ℕ → List ℕ → Stop → List ℕ → Ending → Type 0) → ProgramWords → Given → Answer → Type 0
+abbrev pub OwesPlay : (Owed : Accepted → Option ℕ → List ℕ → ReadStop → List ℕ → Ending → Type 0) → ProgramWords → Given → Answer → Type 0
 OwesPlay Owed words given answer =
     OwesRunning (λ a. Owed a words.instants given.taken given.stop) given.operators (inferring_options words.scale words.lead) words.instants
     given.stop given.fetched answer
@@ -74,7 +74,7 @@ HasRun given words net horizon =
 
 -- what a command has met may count as this: as it is, or, where `run` gave up reading, as if the bytes taken were all
 abbrev pub MayCount : Command → (given counted : Given) → Type 0
-MayCount (Run words workers block) given counted = (stop : Stop) × CountsAs given.stop stop × (counted ≡ record given { stop = stop })
+MayCount (Run words workers block) given counted = (stop : ReadStop) × CountsAs given.stop stop × (counted ≡ record given { stop = stop })
 MayCount command given counted = counted ≡ given
 
 -- a command owes this output, of which a front may stand where it breaks off

@@ -4,7 +4,7 @@ use Rattle.lucy_word.specs.declared.limit.Limit.{Limit}
 use Rattle.lucy_word.specs.declared.limit.Limit.TheVariants as limit
 use Rattle.lucy_text.specs.declared.shelf.ShelfError.{ShelfError}
 use Rattle.lucy_text.specs.declared.shelf.ShelfError.TheVariants as shelf
-use Rattle.lucy_feed.specs.Sources.{Stop, Unread}
+use Rattle.lucy_text.specs.Sources.{ReadStop, Unread}
 use Rattle.lucy_front.specs.declared.refusal.Refusal.{Refusal}
 use Rattle.lucy_app.specs.Commands.{HasText}
 use Rattle.lucy_app.specs.Answers.{Answer, printed, read_fault, limit_passed, program_refused}
@@ -22,7 +22,7 @@ OwesRefusal Refuses (Err e ∷ more) answer = OwesUnfetched limit.Text e answer
 OwesRefusal Refuses [] answer = ⊥
 
 -- such a refusal, where nothing is read, or what is owed of the text that was fetched
-abbrev pub OwesText : (Refuses : List ℕ → Refusal → Type 0) (Owed : List ℕ → Answer → Type 0) → Stop → (fetched : List (Result (List ℕ) ShelfError)) → Answer → Type 0
+abbrev pub OwesText : (Refuses : List ℕ → Refusal → Type 0) (Owed : List ℕ → Answer → Type 0) → ReadStop → (fetched : List (Result (List ℕ) ShelfError)) → Answer → Type 0
 OwesText Refuses Owed stop fetched answer = (OwesRefusal Refuses fetched answer × (stop ≡ Unread)) ⊎ HasText fetched (λ text. Owed text answer)
 
 -- what is printed so of a text

@@ -3,7 +3,7 @@ use Rattle.std.specs.Prelude.{ℕ, ◌≡◌, ◌⊎◌, List, [], ◌∷◌, Op
 use Rattle.lucy_word.specs.declared.limit.Limit.TheVariants as limit
 use Rattle.lucy_host.specs.Operators.{Operator}
 use Rattle.lucy_text.specs.declared.shelf.ShelfError.{ShelfError}
-use Rattle.lucy_feed.specs.Sources.{Stop, Unread}
+use Rattle.lucy_text.specs.Sources.{ReadStop, Unread}
 use Rattle.lucy_fields.specs.Readings.{AreRead, IsFirstBad}
 use Rattle.lucy_trace.specs.Logs.{picks_of}
 use Rattle.lucy_trace.specs.declared.error.TraceError.{TraceError}
@@ -23,12 +23,12 @@ replayed output (Ok end) = ended output end
 replayed output (Err e) = log_refused e
 
 -- what is owed of the events of a log, over what main is fed
-abbrev pub OwesEvents : List Operator → Accepted → (instants : Option ℕ) → (taken : List ℕ) → Stop → (picks : List ℕ) → Answer → Type 0
+abbrev pub OwesEvents : List Operator → Accepted → (instants : Option ℕ) → (taken : List ℕ) → ReadStop → (picks : List ℕ) → Answer → Type 0
 OwesEvents ops a instants taken stop picks answer =
     (output : List ℕ) × (result : Result Ending TraceError) × OwesReplay ops a instants picks taken stop output result × (answer ≡ replayed output result)
 
 -- what is owed of what the fetch of a log gave: of its events, where all its fields are numbers of actors; else nothing is read
-abbrev pub OwesLog : (Owed : (picks : List ℕ) → Answer → Type 0) → Stop → (log : Result (List ℕ) ShelfError) → Answer → Type 0
+abbrev pub OwesLog : (Owed : (picks : List ℕ) → Answer → Type 0) → ReadStop → (log : Result (List ℕ) ShelfError) → Answer → Type 0
 OwesLog Owed stop (Ok text) answer =
     ((place : ℕ) × IsFirstBad (picks_of text) place × (answer ≡ log_refused (BadNumber place)) × (stop ≡ Unread))
     ⊎ ((picks : List ℕ) × AreRead (picks_of text) picks × Owed picks answer)
@@ -36,7 +36,7 @@ OwesLog Owed stop (Err e) answer = OwesUnfetched limit.Log e answer × (stop ≡
 
 -- `replay`: where FILE alone was fetched its refusal, or that the instants are missing; where LOG was fetched too the program can be
 -- run, and it is what is owed of LOG
-abbrev pub OwesLogged : List Operator → Options → (instants : Option ℕ) → (taken : List ℕ) → Stop → (fetched : List (Result (List ℕ) ShelfError)) → Answer → Type 0
+abbrev pub OwesLogged : List Operator → Options → (instants : Option ℕ) → (taken : List ℕ) → ReadStop → (fetched : List (Result (List ℕ) ShelfError)) → Answer → Type 0
 OwesLogged ops o instants taken stop (file ∷ []) answer = OwesRunning (λ a output end. ⊥) ops o instants stop (file ∷ []) answer
 OwesLogged ops o instants taken stop (file ∷ (log ∷ [])) answer =
     IsOkAnd file (λ text. (a : Accepted) × IsRunnable ops o instants text a × OwesLog (OwesEvents ops a instants taken stop) stop log answer)

@@ -2,7 +2,7 @@
 use Rattle.std.specs.Prelude.{ℕ, ◌≡◌, ◌⊎◌, List, [], Option, None, Result}
 use Rattle.lucy_host.specs.Operators.{Operator}
 use Rattle.lucy_text.specs.declared.shelf.ShelfError.{ShelfError}
-use Rattle.lucy_feed.specs.Sources.{Stop, Unread}
+use Rattle.lucy_text.specs.Sources.{ReadStop, Unread}
 use Rattle.lucy_front.specs.declared.accepted.Accepted.{Accepted}
 use Rattle.lucy_front.specs.declared.options.Options.{Options}
 use Rattle.lucy_front.specs.Accepting.{IsAccepted}
@@ -21,12 +21,12 @@ abbrev pub IsRunnable : List Operator → Options → (instants : Option ℕ) �
 IsRunnable ops o instants text a = IsAccepted ops o text a × (LacksInstants a instants → ⊥)
 
 -- of a program that is run: that its instants are missing, where nothing is read, or the output and the ending that the run owes
-abbrev pub OwesEnded : (Owed : List ℕ → Ending → Type 0) → (instants : Option ℕ) → Stop → Accepted → Answer → Type 0
+abbrev pub OwesEnded : (Owed : List ℕ → Ending → Type 0) → (instants : Option ℕ) → ReadStop → Accepted → Answer → Type 0
 OwesEnded Owed instants stop a answer =
     (LacksInstants a instants × (answer ≡ no_instants) × (stop ≡ Unread))
     ⊎ ((LacksInstants a instants → ⊥) × (output : List ℕ) × (end : Ending) × Owed output end × (answer ≡ ended output end))
 
 -- so it is where the text is accepted, and else it is refused
-abbrev pub OwesRunning : (Owed : Accepted → List ℕ → Ending → Type 0) → List Operator → Options → (instants : Option ℕ) → Stop → (fetched : List (Result (List ℕ) ShelfError)) → Answer → Type 0
+abbrev pub OwesRunning : (Owed : Accepted → List ℕ → Ending → Type 0) → List Operator → Options → (instants : Option ℕ) → ReadStop → (fetched : List (Result (List ℕ) ShelfError)) → Answer → Type 0
 OwesRunning Owed ops o instants stop fetched answer =
     OwesText (RefusesCheck ops o) (λ text told. (a : Accepted) × IsAccepted ops o text a × OwesEnded (Owed a) instants stop a told) stop fetched answer

@@ -8,7 +8,7 @@ use Rattle.lucy_text.specs.Outside.{one_more, SeenSource, SeenSink}
 use Rattle.lucy_text.specs.Shelf.{SeenShelf, IsHeld, Lacks, IsLonger, IsCut, CountsFaults}
 use Rattle.lucy_text.specs.declared.shelf.ShelfError.{ShelfError}
 use Rattle.lucy_text.specs.declared.shelf.ShelfError.TheVariants as shelf
-use Rattle.lucy_feed.specs.Sources.{Stop, Unread, Read}
+use Rattle.lucy_text.specs.Sources.{ReadStop, Unread, Read}
 use Rattle.lucy_command.specs.Commands.{Command}
 use Rattle.lucy_app.specs.Commands.{Wanted, files_of, input_of, ReadsSource}
 
@@ -29,7 +29,7 @@ world shelf source out err operators = record { shelf = shelf; source = source; 
 pub record Given : Type 0 where
   pub fetched : List (Result (List ℕ) ShelfError)
   pub taken : List ℕ
-  pub stop : Stop
+  pub stop : ReadStop
   pub operators : List Operator
 
 -- the bytes that a fetch gave

@@ -1,6 +1,6 @@
 // The commands `check` and `clocks`: the clocks and the sizes of buffers of the program of a file.
 ghost use Rattle.std.specs.Prelude.{◌∷◌, [], IfOk, IfErr};
-ghost use Rattle.lucy_feed.specs.Sources.{Unread};
+ghost use Rattle.lucy_text.specs.Sources.{Unread};
 ghost use Rattle.lucy_front.specs.Inferring.{AreOptions};
 ghost use Rattle.lucy_app.specs.Check.{IsCheckOf, RefusesCheck};
 ghost use Rattle.lucy_app.specs.Programs.{OwesText, OwesPrint};

@@ -5,14 +5,14 @@ ghost use Rattle.lucy_word.specs.Reading.{IsReadable};
 ghost use Rattle.lucy_word.specs.declared.limit.Limit.TheVariants as limit;
 ghost use Rattle.lucy_app.specs.Fields.{fields};
 ghost use Rattle.lucy_app.specs.Order.{IsVerdictLine, RefusesWord, RefusesFields, verdict_line};
-ghost use Rattle.lucy_feed.specs.Sources.{Stop, Read};
+ghost use Rattle.lucy_text.specs.Sources.{ReadStop, Read};
 ghost use Rattle.lucy_app.specs.Owes.{OwesOrder};
 ghost use Rattle.lucy_app.specs.Outcomes.{RefusesInput, IsOutcome, Tellable};
 
 use crate::cut::fields;
 use crate::input_refusal::InputCause;
 use crate::refusal::Refusal;
-use lucy_feed::read_up_to;
+use lucy_text::read_up_to;
 use lucy_order::{Verdict, adapt, horizon_of};
 use lucy_text::Source;
 use lucy_word::{Limit, Word, WordError};
@@ -64,7 +64,7 @@ fn verdict_on(alloc: Global, text: &[u8]) -> Result<Vec<u8>, Refusal>
 
 /// The line on all bytes of the source, read to its end or to one byte past the limit, or why there is none.
 pub(crate) fn answer<I: Source>(alloc: Global, input: &mut I) -> Result<Vec<u8>, Refusal>
-    ensures outcome { (taken : List ℕ) × (stop : Stop) × Read (limit_number limit.OrderInput) (I.seen input.old) (I.seen input.new)
+    ensures outcome { (taken : List ℕ) × (stop : ReadStop) × Read (limit_number limit.OrderInput) (I.seen input.old) (I.seen input.new)
         taken stop × IsOutcome (OwesOrder taken stop) result }
     ensures tellable { IfErr result Tellable }
     ensures count { (I.seen input.old).faults ≤ (I.seen input.new).faults }

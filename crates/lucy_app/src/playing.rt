@@ -5,7 +5,7 @@ ghost use Rattle.lucy_word.specs.Limits.{limit_number};
 ghost use Rattle.lucy_word.specs.declared.limit.Limit.TheVariants as limit;
 ghost use Rattle.lucy_host.specs.Host.{lent};
 ghost use Rattle.lucy_host.specs.Operators.{kinds_of};
-ghost use Rattle.lucy_feed.specs.Sources.{Stop, Read};
+ghost use Rattle.lucy_text.specs.Sources.{ReadStop, Read};
 ghost use Rattle.lucy_run.specs.Feeds.{CountsAs};
 ghost use Rattle.lucy_run.specs.Owes.{OwesRun};
 ghost use Rattle.lucy_command.specs.Commands.{command_of};
@@ -54,7 +54,7 @@ fn play<I: Source, O: Sink, E: Sink, N: Engine<F>, F: Fn(u32, i64, i64) -> i64 +
 ) -> u8
     requires plays { N.plays engine.old host.now }
     requires within { IsWithin (run_named words) }
-    ensures ends { (taken : List ℕ) × (stop : Stop) × Read (limit_number limit.Input) (I.seen input.old) (I.seen input.new) taken stop
+    ensures ends { (taken : List ℕ) × (stop : ReadStop) × Read (limit_number limit.Input) (I.seen input.old) (I.seen input.new) taken stop
         × ((I.seen input.new ≡ I.seen input.old)
         ⊎ TakesInput (lent host.now) (inferring_options words.entry.scale words.entry.lead) (bytes_of fetched ∷ []) taken)
         × EndsRunning (λ counted a. OwesRun (kinds_of (lent host.now)) a words.entry.instants taken counted) (CountsAs stop)

@@ -4,7 +4,7 @@ ghost use Rattle.lucy_word.specs.Limits.{limit_number};
 ghost use Rattle.lucy_word.specs.declared.limit.Limit.TheVariants as limit;
 ghost use Rattle.lucy_host.specs.Host.{Serves, lent};
 ghost use Rattle.lucy_host.specs.Operators.{kinds_of};
-ghost use Rattle.lucy_feed.specs.Sources.{Stop, Read};
+ghost use Rattle.lucy_text.specs.Sources.{ReadStop, Read};
 ghost use Rattle.lucy_front.specs.Inferring.{AreOptions};
 ghost use Rattle.lucy_run.specs.Feeds.{CountsAs};
 ghost use Rattle.lucy_run.specs.Owes.{OwesRun, OwesKahn};
@@ -76,7 +76,7 @@ pub(crate) fn run<
 ) -> u8
     requires serves { Serves F.pre F.post host.now }
     requires within { IsWithin (run_named words) }
-    ensures ends { (taken : List ℕ) × (stop : Stop) × Read (limit_number limit.Input) (I.seen input.old) (I.seen input.new) taken stop
+    ensures ends { (taken : List ℕ) × (stop : ReadStop) × Read (limit_number limit.Input) (I.seen input.old) (I.seen input.new) taken stop
         × ((I.seen input.new ≡ I.seen input.old) ⊎ TakesInput (lent host.now) (inferring_options words.entry.scale words.entry.lead) (bytes_of fetched ∷ []) taken)
         × EndsRunning (λ counted a. OwesRun (kinds_of (lent host.now)) a words.entry.instants taken counted) (CountsAs stop)
         (OfProgram (λ a. FailsInOrder (kinds_of (lent host.now)) a words.entry.instants (block_or_default words.entry.block) taken stop
@@ -115,7 +115,7 @@ pub(crate) fn kahn<I: Source, O: Sink, E: Sink, F: Fn(u32, i64, i64) -> i64 + Sy
 ) -> u8
     requires serves { Serves F.pre F.post host.now }
     requires within { IsWithin (names.Kahn (kahn_named words)) }
-    ensures ends { (taken : List ℕ) × (stop : Stop) × Read (limit_number limit.Input) (I.seen input.old) (I.seen input.new) taken stop
+    ensures ends { (taken : List ℕ) × (stop : ReadStop) × Read (limit_number limit.Input) (I.seen input.old) (I.seen input.new) taken stop
         × ((I.seen input.new ≡ I.seen input.old) ⊎ TakesInput (lent host.now) (inferring_options words.entry.scale words.entry.lead) (bytes_of fetched ∷ []) taken)
         × EndsRunning (λ counted a. OwesKahn (kinds_of (lent host.now)) a words.entry.instants taken counted) (λ counted. counted ≡ stop)
         (OfProgram (λ a. Unit {0}) (lent host.now) (inferring_options words.entry.scale words.entry.lead) (bytes_of fetched ∷ []))

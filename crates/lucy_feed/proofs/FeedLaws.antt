@@ -13,20 +13,20 @@ use Rattle.lucy_lines.specs.declared.reader.TextFault.TheVariants.{BadLine, Unkn
 use Rattle.lucy_lines.specs.Fronts.{most_bytes}
 use Rattle.lucy_lines.specs.Cuts.{Held, bytes_taken, ItemOf, with_more, Stop as Halt, At, Before, Cut, input_of}
 use Rattle.lucy_lines.specs.Nexts.{Answer, Gives, Refuses, Wants, Next, blank, item, refused, long, too_long, wants, first, turn}
-use Rattle.lucy_lines.specs.Reading.{ReaderState, new_reader, Took, Asked, Blames, GoesOn, OfItem, IsLast, most_taken, most_read}
+use Rattle.lucy_lines.specs.Reading.{ReaderState, new_reader, Took, Asked, Blames, KeepsGoing, OfItem, IsLast, most_taken, most_read}
 use Rattle.lucy_lines.proofs.Answered.{refused_line, undecided, cut_of}
 use Rattle.lucy_lines.proofs.CutLaws.{turns_cut}
 use Rattle.lucy_lines.proofs.Exists.{some_cut}
 use Rattle.lucy_lines.proofs.ReaderLaws.{kind_fits}
-use Rattle.lucy_feed.specs.Sources.{Stop, Ended, Failed, Open, Drained}
+use Rattle.lucy_text.specs.Sources.{ReadStop, Ended, Failed, Open, Drained}
 use Rattle.lucy_feed.specs.Feeding.{StopsFor, IsAskedWhile}
-use Rattle.lucy_feed.specs.Going.{Leads, Behind, CanGoOn, CanCount}
+use Rattle.lucy_feed.specs.Going.{ExtendsCut, Behind, CanGoOn, CanCount}
 use Rattle.lucy_feed.specs.Resuming.{AreCounts, AsksWhile, BeginCut, IsOpen, IsStopped}
 use Rattle.lucy_feed.proofs.ListLaws.{counts_more, no_counts}
 
 -- one item on
-lead_on : (inputs : List InputSpec) (items : List ItemOf) (taken bytes : List ℕ) (held next : Held) (was now : Bool) (i : ItemOf) → Leads inputs items taken held was →
-    (was ≡ true → (bytes ≡ []) × (now ≡ true)) → Next inputs now (with_more held bytes) (Gives i next) → Leads inputs (items ++ i ∷ []) (taken ++ bytes) next now
+lead_on : (inputs : List InputSpec) (items : List ItemOf) (taken bytes : List ℕ) (held next : Held) (was now : Bool) (i : ItemOf) → ExtendsCut inputs items taken held was →
+    (was ≡ true → (bytes ≡ []) × (now ≡ true)) → Next inputs now (with_more held bytes) (Gives i next) → ExtendsCut inputs (items ++ i ∷ []) (taken ++ bytes) next now
 lead_on inputs items taken bytes held next was now i leads quiet n shut late others halt after c =
     let P : List ℕ → Type 0 = λ u. Cut inputs shut (with_more held (u ++ late)) (i ∷ others) halt in
     let one : Cut inputs shut (with_more held (bytes ++ late)) (i ∷ others) halt = subst P (append-nil bytes) (turns_cut shut late others halt (turn n quiet first) after c) in
@@ -45,13 +45,13 @@ pub record Called (old new : ReaderState) (before after : SeenSource) (result : 
   pub within : bytes_taken new.held ≤ most_taken result
   pub unread : old.closed ≡ true → after ≡ before
   pub at_end : old.closed ≡ false → new.closed ≡ true → HasEnded after
-  pub goes_on : new.closed ≡ false → GoesOn before.since_stop after.since_stop result
+  pub goes_on : new.closed ≡ false → KeepsGoing before.since_stop after.since_stop result
   pub none_follows : NoneFollows before.since_stop after.since_stop
   pub cause : Blames before.faults after.faults result
 
 pub called : {S : Type 0} (seen : S → SeenSource) (old new : ReaderState) (before after : S) (result : Result line_type.Line TextFault) (bytes : List ℕ) →
     Took old new (seen before) (seen after) result bytes → new.inputs ≡ old.inputs → bytes_taken new.held ≤ most_taken result → (IsTrue old.closed → after ≡ before) →
-    (old.closed ≡ false → new.closed ≡ true → HasEnded (seen after)) → (new.closed ≡ false → GoesOn (seen before).since_stop (seen after).since_stop result) →
+    (old.closed ≡ false → new.closed ≡ true → HasEnded (seen after)) → (new.closed ≡ false → KeepsGoing (seen before).since_stop (seen after).since_stop result) →
     NoneFollows (seen before).since_stop (seen after).since_stop → Blames (seen before).faults (seen after).faults result → Called old new (seen before) (seen after) result bytes
 called seen old new before after result bytes t i w u e g n c = record {
   took = t;
@@ -113,7 +113,7 @@ either true = inl refl
 either false = inr refl
 
 -- bytes were asked for in this call
-asked_now : (inputs : List InputSpec) (items : List ItemOf) (taken bytes : List ℕ) (held : Held) (closed : Bool) → Leads inputs items taken held closed → closed ≡ false →
+asked_now : (inputs : List InputSpec) (items : List ItemOf) (taken bytes : List ℕ) (held : Held) (closed : Bool) → ExtendsCut inputs items taken held closed → closed ≡ false →
     (early late : List ℕ) (h : Held) → bytes ≡ early ++ late → length late ≤ most_read → Next inputs false (with_more held early) (Wants h) →
     IsAskedWhile (λ xs. xs ≡ items) inputs (taken ++ bytes)
 asked_now inputs items taken bytes held closed leads open_yet early late h e few n =
@@ -122,7 +122,7 @@ asked_now inputs items taken bytes held closed leads open_yet early late h e few
 
 -- bytes were asked for in this call, if at all, behind these items
 asks_so : (inputs : List InputSpec) (old new : ReaderState) (before after : SeenSource) (result : Result line_type.Line TextFault) (items : List ItemOf) (taken bytes : List ℕ) → old.inputs ≡ inputs →
-    Leads inputs items taken old.held old.closed → Took old new before after result bytes → (bytes ≡ []) ⊎ Asked old bytes → (old.closed ≡ true) ⊎ (old.closed ≡ false) →
+    ExtendsCut inputs items taken old.held old.closed → Took old new before after result bytes → (bytes ≡ []) ⊎ Asked old bytes → (old.closed ≡ true) ⊎ (old.closed ≡ false) →
     AsksWhile (λ xs. xs ≡ items) inputs taken bytes
 asks_so inputs old new before after result items taken bytes same leads t (inl none) closed = inl none
 asks_so inputs old new before after result items taken bytes same leads t (inr now) (inl shut) = let q = t.quiet shut in inl q.0
@@ -206,7 +206,7 @@ item_read inputs old new counts now before between after items taken bytes strea
 -- how the reading of an input stops behind these items
 abbrev pub Stops : List InputSpec → (before after : SeenSource) → ReaderState → (counts : List ℕ) → Option TextFault → List ItemOf → (taken : List ℕ) → Type 0
 Stops inputs before after reader counts fault items taken =
-    (bytes : List ℕ) × (stop : Stop) × (halt : Halt) × IsStopped inputs before after reader counts fault items (taken ++ bytes) stop halt
+    (bytes : List ℕ) × (stop : ReadStop) × (halt : Halt) × IsStopped inputs before after reader counts fault items (taken ++ bytes) stop halt
     × AsksWhile (λ xs. xs ≡ items) inputs taken bytes
 
 -- the input was read to its end
@@ -268,7 +268,7 @@ failed inputs old new counts before between after items taken bytes o c shut =
 -- a line was refused
 line_refused : (inputs : List InputSpec) (old new : ReaderState) (counts : List ℕ) (before between after : SeenSource) (items : List ItemOf) (taken bytes : List ℕ) (f : TextFault) →
     IsOpen inputs before between old counts items taken → Called old new between after (Err f) bytes → new.ended ≡ true → Next old.inputs new.closed (with_more old.held bytes) (Refuses f) →
-    most_taken (Err f) ≡ most_bytes + 1 → after.faults ≡ between.faults → ((stop : Stop) → (stop ≡ Drained) ⊎ (stop ≡ Open) → StopsFor (Some f) stop) →
+    most_taken (Err f) ≡ most_bytes + 1 → after.faults ≡ between.faults → ((stop : ReadStop) → (stop ≡ Drained) ⊎ (stop ≡ Open) → StopsFor (Some f) stop) →
     (new.closed ≡ true) ⊎ (new.closed ≡ false) → Stops inputs before after new counts (Some f) items taken
 line_refused inputs old new counts before between after items taken bytes f o c ended_now n most calm stops (inl shut) =
     let s = o.goes_on in

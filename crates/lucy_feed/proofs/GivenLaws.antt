@@ -9,13 +9,13 @@ use Rattle.lucy_text.proofs.OutsideLaws.{followed-nil, still_none}
 use Rattle.std.proofs.lemmas.List.FromFn.{length-map-range_with_len}
 use Rattle.lucy_feed.specs.declared.feeds.Feed.{Feed}
 use Rattle.lucy_text.specs.Outside.{SeenSource}
-use Rattle.lucy_feed.specs.Sources.{Stop, Open, Read}
+use Rattle.lucy_text.specs.Sources.{ReadStop, Open, Read}
 use Rattle.lucy_feed.specs.Feeding.{values_of, IsAsked, IsFeed, IsFeedOf}
 use Rattle.lucy_feed.specs.Resuming.{FeedState, HasRead, AreFresh, ReadsMore, GivesUp}
 
 -- what the reading of an input gives
 abbrev pub GivesFeed : List InputSpec → (before after : SeenSource) → Result Feed OutOfMemory → Type 0
-GivesFeed inputs before after result = (taken : List ℕ) × (stop : Stop) × Read most_bytes before after taken stop × IsAsked inputs taken × IsFeed inputs taken stop result
+GivesFeed inputs before after result = (taken : List ℕ) × (stop : ReadStop) × Read most_bytes before after taken stop × IsAsked inputs taken × IsFeed inputs taken stop result
 
 -- memory ran out before anything was read
 pub nothing_read : (inputs : List InputSpec) (source : SeenSource) (result : Result Feed OutOfMemory) → IsErr result → GivesFeed inputs source source result

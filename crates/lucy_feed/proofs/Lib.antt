@@ -1,4 +1,3 @@
-pub mod Gathered
 pub mod ListLaws
 pub mod FeedLaws
 pub mod ResumeLaws

@@ -5,7 +5,7 @@ use Rattle.lucy_lines.specs.declared.input.InputSpec.{InputSpec}
 use Rattle.lucy_lines.specs.Cuts.{ItemOf, Stop as Halt, Cut, input_of}
 use Rattle.lucy_lines.specs.Reading.{ReaderState}
 use Rattle.lucy_text.specs.Outside.{SeenSource}
-use Rattle.lucy_feed.specs.Sources.{Stop}
+use Rattle.lucy_text.specs.Sources.{ReadStop}
 use Rattle.lucy_feed.specs.Resuming.{FeedState, AreCounts, AsksWhile, BeginCut, IsOpen, IsStopped, HasRead, IsGivenUp, AreFresh, ReadsWhile, PassesMore, GivesUp}
 use Rattle.lucy_feed.specs.Feeding.{values_by_stream, IsAskedWhile}
 use Rattle.lucy_feed.proofs.FeedLaws.{asks_as}
@@ -107,7 +107,7 @@ OpensMore before after old new i = (inputs : List InputSpec) (first : SeenSource
 abbrev pub OpensNoMore : (before after : SeenSource) (old new : FeedState) → Type 0
 OpensNoMore before after old new = (inputs : List InputSpec) (first : SeenSource) (items : List ItemOf) (taken : List ℕ) →
     IsOpen inputs first before old.reader old.counts items taken →
-    (bytes : List ℕ) × (stop : Stop) × (halt : Halt) × IsStopped inputs first after new.reader new.counts new.fault items (taken ++ bytes) stop halt
+    (bytes : List ℕ) × (stop : ReadStop) × (halt : Halt) × IsStopped inputs first after new.reader new.counts new.fault items (taken ++ bytes) stop halt
     × AsksWhile (λ xs. xs ≡ items) inputs taken bytes
 
 -- the items behind which bytes were asked for have these counts

@@ -9,8 +9,8 @@ use Rattle.lucy_lines.specs.Reading.{ReaderState}
 use Rattle.lucy_feed.specs.Feeding.{IsAsked}
 
 -- A cut of what is held, with the bytes that are still to be taken, goes on behind these items, for which those bytes were taken.
-abbrev pub Leads : List InputSpec → List ItemOf → (taken : List ℕ) → Held → (closed : Bool) → Type 0
-Leads inputs items taken held closed = (shut : Bool) (late : List ℕ) (others : List ItemOf) (halt : Halt) → (closed ≡ true → (late ≡ []) × (shut ≡ true)) →
+abbrev pub ExtendsCut : List InputSpec → List ItemOf → (taken : List ℕ) → Held → (closed : Bool) → Type 0
+ExtendsCut inputs items taken held closed = (shut : Bool) (late : List ℕ) (others : List ItemOf) (halt : Halt) → (closed ≡ true → (late ≡ []) × (shut ≡ true)) →
     Cut inputs shut (with_more held late) others halt → Cut inputs shut (input_of (taken ++ late)) (items ++ others) halt
 
 -- what holds of the bytes taken so far, whatever was answered
@@ -25,7 +25,7 @@ pub record Behind (inputs : List InputSpec) (reader : ReaderState) (before after
 pub record CanGoOn (inputs : List InputSpec) (reader : ReaderState) (before after : SeenSource) (items : List ItemOf) (taken : List ℕ) : Type 0 where
   pub behind : Behind inputs reader before after taken
   pub kept : reader.inputs ≡ inputs
-  pub leads : Leads inputs items taken reader.held reader.closed
+  pub leads : ExtendsCut inputs items taken reader.held reader.closed
   pub within : bytes_taken reader.held ≤ most_bytes + 1
   pub calm : after.faults ≡ before.faults
   pub going : reader.closed ≡ false → before.since_stop ≡ Some 0 → after.since_stop ≡ Some 0

@@ -7,7 +7,7 @@ use Rattle.lucy_lines.specs.Fronts.{most_bytes}
 use Rattle.lucy_lines.specs.Cuts.{ItemOf, Stop as Halt, Cut, input_of}
 use Rattle.lucy_lines.specs.Reading.{ReaderState}
 use Rattle.lucy_text.specs.Outside.{SeenSource}
-use Rattle.lucy_feed.specs.Sources.{Stop, Open, Read}
+use Rattle.lucy_text.specs.Sources.{ReadStop, Open, Read}
 use Rattle.lucy_feed.specs.Feeding.{values_by_stream, IsAskedWhile, IsAsked, IsFeedOf}
 use Rattle.lucy_feed.specs.Going.{CanGoOn}
 
@@ -51,7 +51,7 @@ pub record IsOpen (inputs : List InputSpec) (first now : SeenSource) (reader : R
 
 -- these bytes were taken and these items read, and reading stopped so: they are the feed of the bytes
 pub record IsStopped (inputs : List InputSpec) (first now : SeenSource) (reader : ReaderState) (counts : List ℕ) (fault : Option TextFault) (items : List ItemOf) (taken : List ℕ)
-    (stop : Stop) (halt : Halt) : Type 0 where
+    (stop : ReadStop) (halt : Halt) : Type 0 where
   pub ended : reader.ended ≡ true
   pub kept : reader.inputs ≡ inputs
   pub counted : AreCounts inputs counts items
@@ -62,7 +62,7 @@ pub record IsStopped (inputs : List InputSpec) (first now : SeenSource) (reader 
 -- since the source was seen first these bytes were taken and these items read, of these inputs
 abbrev pub HasRead : List InputSpec → (first now : SeenSource) → FeedState → List ItemOf → (taken : List ℕ) → Type 0
 HasRead inputs first now s items taken =
-    IsOpen inputs first now s.reader s.counts items taken ⊎ ((stop : Stop) × (halt : Halt) × IsStopped inputs first now s.reader s.counts s.fault items taken stop halt)
+    IsOpen inputs first now s.reader s.counts items taken ⊎ ((stop : ReadStop) × (halt : Halt) × IsStopped inputs first now s.reader s.counts s.fault items taken stop halt)
 
 -- reading was given up, behind these items and perhaps others
 pub record IsGivenUp (inputs : List InputSpec) (first now : SeenSource) (items : List ItemOf) (taken : List ℕ) : Type 0 where

@@ -1,7 +1,7 @@
 // The items of an input, stream by stream.
 ghost use Rattle.std.specs.Prelude.{◌<◌, ◌≤◌, ◌≡◌, ◌^◌, ℕ, List, [], length, IfOk};
 ghost use Rattle.lucy_lines.specs.Fronts.{most_bytes};
-ghost use Rattle.lucy_feed.specs.Sources.{Stop, Read};
+ghost use Rattle.lucy_text.specs.Sources.{ReadStop, Read};
 ghost use Rattle.lucy_feed.specs.Feeding.{values_by_stream, IsFeed, IsAsked};
 
 use crate::reader::FeedReader;
@@ -44,7 +44,7 @@ pub fn read_feed<I: Source>(
     source: &mut I,
 ) -> Result<Feed, OutOfMemory>
     requires { length inputs.items < 2 ^ 32 }
-    ensures fed { (taken : List ℕ) × (stop : Stop) × Read most_bytes (I.seen source.old) (I.seen source.new)
+    ensures fed { (taken : List ℕ) × (stop : ReadStop) × Read most_bytes (I.seen source.old) (I.seen source.new)
         taken stop × IsAsked inputs.items taken × IsFeed inputs.items taken stop result }
     ensures lists { IfOk result (λ feed. length feed.items ≡ length inputs.items) }
     ensures count { (I.seen source.old).faults ≤ (I.seen source.new).faults }

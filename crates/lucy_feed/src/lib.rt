@@ -1,4 +1,4 @@
-//! The reading of an input: its bytes, or its items, stream by stream, up to its end or to why they stop before it, at once or in
+//! The reading of an input: its items, stream by stream, up to its end or to why they stop before it, at once or in
 //! pieces.
 //!
 //! It stands on `lucy_lines` for the items of lines, on `lucy_text` for sources, on `lucy_host` for lists of numbers and on
@@ -8,10 +8,8 @@
 
 mod feeds;
 mod laws;
-mod read;
 mod reader;
 
 pub use feeds::{Feed, empty_lists, read_feed};
 pub use laws::{one_feed, values_in_turn};
-pub use read::{ReadError, read_up_to};
 pub use reader::FeedReader;

@@ -6,7 +6,7 @@ ghost use Rattle.lucy_lines.specs.declared.input.InputSpec.{InputSpec as Spec};
 ghost use Rattle.lucy_lines.specs.Fronts.{most_bytes};
 ghost use Rattle.lucy_lines.specs.Cuts.{ItemOf, Stop as Halt};
 ghost use Rattle.lucy_text.specs.Outside.{SeenSource};
-ghost use Rattle.lucy_feed.specs.Sources.{Stop};
+ghost use Rattle.lucy_text.specs.Sources.{ReadStop};
 ghost use Rattle.lucy_feed.specs.Feeding.{values_by_stream};
 ghost use Rattle.lucy_feed.specs.Resuming.{AreCounts, AreMet, AsksWhile, IsOpen, IsShort, IsStopped, HasRead, AreFresh, ReadsWhile, ReadsMore, PassesMore, GivesUp};
 
@@ -112,7 +112,7 @@ impl FeedReader {
             × AsksWhile (λ xs. xs ≡ items) inputs taken bytes) }
         ensures stop { MatchOption result ((inputs : List Spec) (first : SeenSource) (items : List ItemOf) (taken : List ℕ) → IsOpen inputs first
             (I.seen source.old) self.old.reader self.old.counts items taken →
-            (bytes : List ℕ) × (stop : Stop) × (halt : Halt) × IsStopped inputs first
+            (bytes : List ℕ) × (stop : ReadStop) × (halt : Halt) × IsStopped inputs first
             (I.seen source.new) self.new.reader self.new.counts self.new.fault items (taken ++ bytes) stop halt
             × AsksWhile (λ xs. xs ≡ items) inputs taken bytes) (λ i. Unit {0}) }
         ensures known { IfSome result (λ i. i.0 < length self.old.reader.inputs) }

@@ -23,7 +23,7 @@ use Rattle.lucy_grammar.specs.Printable.{IsPrintableDef, IsPrintableDecl, AllOfS
 use Rattle.lucy_grammar.proofs.PrintableLaws.{Goods}
 use Rattle.lucy_grammar.proofs.Cores.{core, core-append, core-parens, put, put_after, put_operand, put_later, put_parens, first_defs, flat_link, flat, token_of, all_flat, some_flat, flats}
 use Rattle.lucy_grammar.specs.Symbols.{Rule, Val, Vals, Link, Part, Program, Node, Title, Params, Results, Names, Ident, MoreName, Body, Decls, MoreDecl, Decl, Typing, TypeName, ClockOf, Defs, Def, MoreDef, Lefts, Expr, Or, MoreAnd, And, MoreCmp, Cmp, Compared, CmpOp, Sum, MoreProd, SumOp, Prod, MoreSamp, ProdOp, Samp, Sampling, Pre, Followed, Form, Buffered, Held, Other, Atom, Small, Lit, Pair, Call, Applied, Base, Args, MoreExpr}
-use Rattle.lucy_grammar.specs.Meanings.{bytes_of, name_of, number_of, word_of, bound_of, linked, grouped, sampled_by, literal_before, named, held_by}
+use Rattle.lucy_grammar.specs.Meanings.{name_bytes, token_name, token_number, token_word, token_bound, linked, grouped, sampled_by, literal_before, named, held_by}
 use Rattle.lucy_grammar.specs.Grammar.{rules}
 use Rattle.lucy_grammar.specs.Parens.{kept}
 use Rattle.lucy_grammar.specs.Print.{blank, indent, line, after, after_commas, commas, parens, name_token, lit_token, when_mark, operand, printed, all_printed, printed_decl, printed_left, printed_def, more_defs, printed_body, printed_node, more_nodes}
@@ -84,16 +84,16 @@ buffer_rule : (most : Option ℕ) (e : Tree) (s : Span) → core (printed (buffe
 buffer_rule None e s = ap (λ u. what.Mark mark.Buffer ∷ u) (put_later e [] [] refl)
 buffer_rule (Some n) e s = ap (λ u. what.Mark mark.Buffer ∷ what.Number (pos n) ∷ u) (put_parens (printed e) [] [] refl)
 
-bound_token : (w : What) → is_bound w ≡ true → what.Number (pos (bound_of w)) ∷ [] ≡ token_of kind.Number w
+bound_token : (w : What) → is_bound w ≡ true → what.Number (pos (token_bound w)) ∷ [] ≡ token_of kind.Number w
 bound_token (what.Number (pos n)) e = refl
 bound_token (what.Number (negsuc n)) e = absurd cc
 bound_token (what.Mark m) e = absurd cc
 bound_token (what.Name bytes) e = absurd cc
 bound_token (what.Word w) e = absurd cc
 
-held_rule : (n : Token) (o : Option (Val Held)) → is_bound n.what ≡ true → flat Buffered (held_by (bound_of n.what) (number_of n.what, n.span) o) ≡ token_of kind.Number n.what ++ (some_flat (flat Held) o ++ [])
-held_rule n None e = plus (core (lit_token (number_of n.what)))
-held_rule n (Some (Some fby, t)) e = literal_rule (number_of n.what, n.span) (Some (fby, t))
+held_rule : (n : Token) (o : Option (Val Held)) → is_bound n.what ≡ true → flat Buffered (held_by (token_bound n.what) (token_number n.what, n.span) o) ≡ token_of kind.Number n.what ++ (some_flat (flat Held) o ++ [])
+held_rule n None e = plus (core (lit_token (token_number n.what)))
+held_rule n (Some (Some fby, t)) e = literal_rule (token_number n.what, n.span) (Some (fby, t))
 held_rule n (Some (None, t)) e = ap (λ u. u ++ core (printed t)) (bound_token n.what e) ∙ ap (λ u. token_of kind.Number n.what ++ u) (plus (core (printed t)))
 
 call_flat : (n : name.Name) (at : Option Bits) (ts : Trees) → core (printed (call n at ts)) ≡ what.Name n.text ∷ (flat Applied (at, ts) ++ [])
@@ -177,7 +177,7 @@ all_are_flat MoreName = (λ k vs h. refl, tt)
 all_are_flat Body = (λ k vs h. body_rule vs.1.1.0 h.1.1.1.1.0, tt)
 all_are_flat Decls = (λ k vs h. put (printed_decl vs.0) (after_commas (map printed_decl vs.1.0)) _ (decls_flat vs.1.0 ∙ plus (all_flat (flat MoreDecl) vs.1.0)), tt)
 all_are_flat MoreDecl = (λ k vs h. ap (λ u. what.Mark mark.Comma ∷ u) (plus (flat Decl vs.1.0)), tt)
-all_are_flat Decl = (λ k vs h. decl_rule (name_of vs.0) vs.1.0 vs.1.1.0, tt)
+all_are_flat Decl = (λ k vs h. decl_rule (token_name vs.0) vs.1.0 vs.1.1.0, tt)
 all_are_flat Typing = (λ k vs h. refl, tt)
 all_are_flat TypeName = (λ k vs h. refl, (λ k vs h. refl, tt))
 all_are_flat ClockOf = (λ k vs h. refl, tt)
@@ -217,20 +217,20 @@ all_are_flat Form = (
   λ k vs h. ap (λ u. what.Mark mark.Not ∷ u) (put_later vs.1.0 [] [] refl),
   (
     λ k vs h. buffer_rule vs.1.0.0 vs.1.0.1 vs.0.span,
-    (λ k vs h. ap (λ u. what.Mark mark.Merge ∷ what.Word (word_of vs.1.0.what) ∷ u) (put_later vs.1.1.0 _ _ (put_later vs.1.1.1.0 [] [] refl)), (λ k vs h. plus (core (printed vs.0)), tt)),
+    (λ k vs h. ap (λ u. what.Mark mark.Merge ∷ what.Word (token_word vs.1.0.what) ∷ u) (put_later vs.1.1.0 _ _ (put_later vs.1.1.1.0 [] [] refl)), (λ k vs h. plus (core (printed vs.0)), tt)),
   ),
 )
 all_are_flat Buffered = (λ k vs h. held_rule vs.0 vs.1.0 h.0, (λ k vs h. literal_rule vs.0 vs.1.0, (λ k vs h. plus (core (printed vs.0)), tt)))
 all_are_flat Held = (λ k vs h. plus (flat Followed vs.0), (λ k vs h. plus (core (printed vs.1.0)), tt))
-all_are_flat Other = (λ k vs h. plus (core (lit_token (number_of vs.0.what))), (λ k vs h. refl, (λ k vs h. refl, tt)))
+all_are_flat Other = (λ k vs h. plus (core (lit_token (token_number vs.0.what))), (λ k vs h. refl, (λ k vs h. refl, tt)))
 all_are_flat Atom = (
-  λ k vs h. named_rule (name_of vs.0) vs.1.0,
-  (λ k vs h. ap (λ u. what.Mark mark.Host ∷ what.Name (bytes_of vs.1.0.what) ∷ u) (put_parens (commas (all_printed vs.1.1.0)) [] [] refl), (λ k vs h. plus (core (printed vs.1.0)), tt)),
+  λ k vs h. named_rule (token_name vs.0) vs.1.0,
+  (λ k vs h. ap (λ u. what.Mark mark.Host ∷ what.Name (name_bytes vs.1.0.what) ∷ u) (put_parens (commas (all_printed vs.1.1.0)) [] [] refl), (λ k vs h. plus (core (printed vs.1.0)), tt)),
 )
 all_are_flat Small = (λ k vs h. plus (flat Lit vs.0), (λ k vs h. refl, (λ k vs h. plus (core (printed vs.1.0)), tt)))
-all_are_flat Lit = (λ k vs h. plus (core (lit_token (number_of vs.0.what))), (λ k vs h. refl, (λ k vs h. refl, tt)))
+all_are_flat Lit = (λ k vs h. plus (core (lit_token (token_number vs.0.what))), (λ k vs h. refl, (λ k vs h. refl, tt)))
 all_are_flat Pair = (λ k vs h. put (printed vs.1.0) _ _ (ap (λ u. what.Mark mark.Comma ∷ u) (put_after blank (printed vs.1.1.1.0) [] [] refl)), tt)
-all_are_flat Call = (λ k vs h. call_flat (name_of vs.0) vs.1.0.0 vs.1.0.1, tt)
+all_are_flat Call = (λ k vs h. call_flat (token_name vs.0) vs.1.0.0 vs.1.0.1, tt)
 all_are_flat Applied = (λ k vs h. applied_rule vs.0 vs.1.1.0, tt)
 all_are_flat Base = (λ k vs h. refl, tt)
 all_are_flat Args = (λ k vs h. put (printed vs.0) (after_commas (all_printed (trees_of vs.1.0))) _ (exprs_flat vs.1.0 ∙ plus (all_flat (flat MoreExpr) vs.1.0)), tt)

@@ -17,7 +17,7 @@ use Rattle.lucy_token.specs.declared.state.Side.TheVariants as side
 use Rattle.lucy_token.specs.declared.state.Level.{Level}
 use Rattle.lucy_token.specs.Tokens.{kind_of}
 use Rattle.lucy_token.specs.Before.{past}
-use Rattle.lucy_token.specs.States.{State, after, closed, side_after, side_defined, counted_after, nodes_after, past_tokens, limit_passed}
+use Rattle.lucy_token.specs.States.{ScanState, after, closed, side_after, side_defined, counted_after, nodes_after, past_tokens, limit_passed}
 use Rattle.lucy_grammar.specs.Parens.{without_parens}
 use Rattle.lucy_grammar.proofs.CutLimits.{AllPass}
 
@@ -49,7 +49,7 @@ tokens_after false n k = n + 1
 abbrev pub count_on : Count → Kind → Count
 count_on c k = record { in_head = head_after c.in_head k; tokens = tokens_after c.in_head c.tokens k; nodes = nodes_after c.nodes k }
 
-abbrev pub count_of : State → Count
+abbrev pub count_of : ScanState → Count
 count_of s = record { in_head = is_head s.side; tokens = s.counted; nodes = s.nodes }
 
 -- the token may be counted
@@ -92,11 +92,11 @@ same_tokens side.Called n k = refl
 count_eq : (h i : Bool) (a b n : ℕ) → h ≡ i → a ≡ b → ◌≡◌ {A = Count} (record { in_head = h; tokens = a; nodes = n }) (record { in_head = i; tokens = b; nodes = n })
 count_eq h i a b n e f = cc
 
-counted_closed : (s : State) (outer : List Level) → count_of (closed s outer) ≡ count_on (count_of s) (kind.Mark mark.Close)
+counted_closed : (s : ScanState) (outer : List Level) → count_of (closed s outer) ≡ count_on (count_of s) (kind.Mark mark.Close)
 counted_closed s [] = count_eq _ _ _ _ s.nodes (same_head s.side s.before (kind.Mark mark.Close)) refl
 counted_closed s (l ∷ outer) = count_eq _ _ _ _ s.nodes (same_head s.side s.before (kind.Mark mark.Close)) refl
 
-pub counted_on : (s : State) (k : Kind) → count_of (after s k) ≡ count_on (count_of s) k
+pub counted_on : (s : ScanState) (k : Kind) → count_of (after s k) ≡ count_on (count_of s) k
 unfolding after
 counted_on s (kind.Mark mark.Open) = count_eq _ _ _ _ s.nodes (same_head s.side s.before (kind.Mark mark.Open)) refl
 counted_on s (kind.Mark mark.Close) = counted_closed s s.outer
@@ -129,7 +129,7 @@ tokens_none side.Left n e = past_none limit.Tokens n e
 tokens_none side.Right n e = past_none limit.Tokens n e
 tokens_none side.Called n e = past_none limit.Tokens n e
 
-pub may_count : (s : State) (k : Kind) → limit_passed s k ≡ None → counts (count_of s) k ≡ true
+pub may_count : (s : ScanState) (k : Kind) → limit_passed s k ≡ None → counts (count_of s) k ≡ true
 unfolding limit_passed
 may_count s (kind.Mark mark.Open) e = refl
 may_count s (kind.Mark mark.Close) e = refl
@@ -137,7 +137,7 @@ may_count s (kind.Mark mark.And) e = refl
 may_count s (kind.Mark mark.Let) e = none_past limit.Nodes s.nodes e
 may_count s k e = none_tokens s.side s.counted e
 
-pub none_passed : (s : State) (k : Kind) → counts (count_of s) k ≡ true → (k ≡ kind.Mark mark.Open → length s.outer < limit_number limit.Depth) → limit_passed s k ≡ None
+pub none_passed : (s : ScanState) (k : Kind) → counts (count_of s) k ≡ true → (k ≡ kind.Mark mark.Open → length s.outer < limit_number limit.Depth) → limit_passed s k ≡ None
 unfolding limit_passed
 none_passed s (kind.Mark mark.Open) e h = past_none limit.Depth (length s.outer) (not_from_false (nat_le (limit_number limit.Depth) (length s.outer)) (lt-leb (limit_number limit.Depth) (length s.outer) (h refl)))
 none_passed s (kind.Mark mark.Close) e h = refl
@@ -145,7 +145,7 @@ none_passed s (kind.Mark mark.And) e h = refl
 none_passed s (kind.Mark mark.Let) e h = past_none limit.Nodes s.nodes e
 none_passed s k e h = tokens_none s.side s.counted e
 
-pub all_count : (s : State) (ts : List token_type.Token) → AllPass s ts → AllCount (count_of s) (map (λ t. t.what) ts)
+pub all_count : (s : ScanState) (ts : List token_type.Token) → AllPass s ts → AllCount (count_of s) (map (λ t. t.what) ts)
 all_count s [] h = tt
 all_count s (t ∷ ts) h =
     let P : Count → Type 0 = λ c. AllCount c (map (λ u. u.what) ts) in

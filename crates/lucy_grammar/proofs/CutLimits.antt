@@ -6,7 +6,7 @@ use Rattle.lucy_token.specs.declared.stop.Stop.{Stop}
 use Rattle.lucy_token.specs.declared.stop.Stop.TheVariants.{End}
 use Rattle.lucy_token.specs.Tokens.{kind_of}
 use Rattle.lucy_token.specs.Before.{nearest}
-use Rattle.lucy_token.specs.States.{State, after, limit_passed, is_past_last, state_of}
+use Rattle.lucy_token.specs.States.{ScanState, after, limit_passed, is_past_last, state_of}
 use Rattle.lucy_token.specs.Cuts.{Cuts}
 use Rattle.lucy_token.specs.Scans.{Scans, ends, gap, bad, passed, past_last, malformed, token}
 use Rattle.lucy_token.proofs.ScanLaws.{scan_of}
@@ -14,7 +14,7 @@ use Rattle.lucy_token.proofs.ContentLaws.{contains_kind}
 use Rattle.lucy_token.proofs.StateLaws.{limit_same, entry_past_same}
 
 -- each token may stand where it stands, by the limits
-abbrev pub AllPass : State → List token_type.Token → Type 0
+abbrev pub AllPass : ScanState → List token_type.Token → Type 0
 AllPass s [] = Unit {0}
 AllPass s (t ∷ ts) = (limit_passed s (kind_of t.what) ≡ None) × (is_past_last s (kind_of t.what) ≡ false) × AllPass (after s (kind_of t.what)) ts
 

@@ -9,7 +9,7 @@ use Rattle.lucy_token.specs.declared.mark.Mark.TheVariants as mark
 use Rattle.lucy_token.specs.declared.token.Kind.{Kind}
 use Rattle.lucy_token.specs.declared.token.Kind.TheVariants as kind
 use Rattle.lucy_token.specs.declared.state.Side.TheVariants as side
-use Rattle.lucy_token.specs.States.{State, after, side_defined, is_past_last}
+use Rattle.lucy_token.specs.States.{ScanState, after, side_defined, is_past_last}
 use Rattle.lucy_grammar.specs.Kinds.{sort_kind}
 use Rattle.lucy_grammar.specs.Symbols.{Sym, token, part, many, perhaps, Val, Vals, Link, Rule, Part, Program, Node, Title, Params, Results, Names, Ident, MoreName, Body, Decls, MoreDecl, Decl, Typing, TypeName, ClockOf, Defs, Def, MoreDef, Lefts, Expr, Or, MoreAnd, And, MoreCmp, Cmp, Compared, CmpOp, Sum, MoreProd, SumOp, Prod, MoreSamp, ProdOp, Samp, Sampling, Pre, Followed, Form, Buffered, Held, Other, Atom, Small, Lit, Pair, Call, Applied, Base, Args, MoreExpr}
 use Rattle.lucy_grammar.proofs.Levels.{Keeps, IsDue}
@@ -42,53 +42,53 @@ pub record IsFewNode (n : NodeTree) : Type 0 where
   pub defs : AllByRecursion IsFewDef n.defs
 
 -- what a part leaves behind: of an expression, an operator with its right operand, a call, a declaration, one entry more
-pub record ReadsExpr (s : State) (v : Tree) (j : State) : Type 0 where
+pub record ReadsExpr (s : ScanState) (v : Tree) (j : ScanState) : Type 0 where
   pub first : (k : Kind) × (is_past_last s k ≡ false)
   pub keeps : Keeps s j
   pub few : IsFew v
 
-abbrev pub ExprSpec : State → Tree → State → Type 0
+abbrev pub ExprSpec : ScanState → Tree → ScanState → Type 0
 ExprSpec s v j = s.side ≡ side.Right → ReadsExpr s v j
 
-abbrev pub LinkSpec : State → Link → State → Type 0
+abbrev pub LinkSpec : ScanState → Link → ScanState → Type 0
 LinkSpec s l j = s.side ≡ side.Right → Keeps s j × IsFew l.right
 
-pub record ReadsArgs (s : State) (v : Trees) (j : State) : Type 0 where
+pub record ReadsArgs (s : ScanState) (v : Trees) (j : ScanState) : Type 0 where
   pub at : j.side ≡ side.Right
   pub outer : j.outer ≡ s.outer
   pub length : length (list_of v) ≤ most
   pub few : AreFew v
 
-pub record ReadsCall (s : State) (v : Trees) (j : State) : Type 0 where
+pub record ReadsCall (s : ScanState) (v : Trees) (j : ScanState) : Type 0 where
   pub at : j.side ≡ side.Right
   pub outer : j.outer ≡ s.outer
   pub commas : j.level.commas ≡ s.level.commas
   pub length : length (list_of v) ≤ most
   pub few : AreFew v
 
-pub record ReadsDecl (s j : State) : Type 0 where
+pub record ReadsDecl (s j : ScanState) : Type 0 where
   pub first : is_past_last s kind.Name ≡ false
   pub keeps : Keeps s j
   pub named : side_defined j.before ≡ side.Right
 
-pub record ReadsMore (s j : State) : Type 0 where
+pub record ReadsMore (s j : ScanState) : Type 0 where
   pub at : j.side ≡ s.side
   pub outer : j.outer ≡ s.outer
   pub commas : j.level.commas ≡ s.level.commas + 1
   pub few : s.level.commas + 1 < most
 
-pub record ReadsList (s : State) (n : ℕ) (j : State) : Type 0 where
+pub record ReadsList (s : ScanState) (n : ℕ) (j : ScanState) : Type 0 where
   pub at : j.side ≡ s.side
   pub outer : j.outer ≡ s.outer
   pub few : s.level.commas + n ≤ most
 
-pub record ReadsLefts (s : State) (n : ℕ) (j : State) : Type 0 where
+pub record ReadsLefts (s : ScanState) (n : ℕ) (j : ScanState) : Type 0 where
   pub at : j.side ≡ side.Left
   pub before : j.before ≡ kind.Mark mark.Close
   pub few : n ≤ most
 
 -- what is so of a part that goes from one state to another, and of what it stands for
-abbrev pub Spec : (X : Part) → State → Val X → State → Type 0
+abbrev pub Spec : (X : Part) → ScanState → Val X → ScanState → Type 0
 Spec Program s v j = AllByRecursion IsFewNode v
 Spec Node s v j = IsFewNode v
 Spec Title s v j = Unit {0}
@@ -141,25 +141,25 @@ Spec Args s v j = s.side ≡ side.Right → s.level.commas ≡ 0 → ReadsArgs s
 Spec MoreExpr s v j = s.side ≡ side.Right → ReadsMore s j × IsFew v
 
 -- one after the other, and one or none
-abbrev pub Chain : {A : Type 0} → (State → A → State → Type 0) → State → List A → State → Type 0
+abbrev pub Chain : {A : Type 0} → (ScanState → A → ScanState → Type 0) → ScanState → List A → ScanState → Type 0
 Chain R s [] j = j ≡ s
-Chain R s (x ∷ xs) j = (m : State) × R s x m × Chain R m xs j
+Chain R s (x ∷ xs) j = (m : ScanState) × R s x m × Chain R m xs j
 
-abbrev pub Maybe : {A : Type 0} → (State → A → State → Type 0) → State → Option A → State → Type 0
+abbrev pub Maybe : {A : Type 0} → (ScanState → A → ScanState → Type 0) → ScanState → Option A → ScanState → Type 0
 Maybe R s None j = j ≡ s
 Maybe R s (Some x) j = R s x j
 
 -- what holds behind symbols, where each of their parts is so
-abbrev pub Behind : (syms : List Sym) → State → Vals syms → (State → Type 0) → Type 0
+abbrev pub Behind : (syms : List Sym) → ScanState → Vals syms → (ScanState → Type 0) → Type 0
 Behind [] s vs K = K s
 Behind (token k ∷ syms) s vs K = is_past_last s (sort_kind k) ≡ false → Behind syms (after s (sort_kind k)) vs.1 K
-Behind (part X ∷ syms) s vs K = (j : State) → Spec X s vs.0 j → Behind syms j vs.1 K
-Behind (many X ∷ syms) s vs K = (j : State) → Chain (Spec X) s vs.0 j → Behind syms j vs.1 K
-Behind (perhaps X ∷ syms) s vs K = (j : State) → Maybe (Spec X) s vs.0 j → Behind syms j vs.1 K
+Behind (part X ∷ syms) s vs K = (j : ScanState) → Spec X s vs.0 j → Behind syms j vs.1 K
+Behind (many X ∷ syms) s vs K = (j : ScanState) → Chain (Spec X) s vs.0 j → Behind syms j vs.1 K
+Behind (perhaps X ∷ syms) s vs K = (j : ScanState) → Maybe (Spec X) s vs.0 j → Behind syms j vs.1 K
 
 -- a production makes its part so
 abbrev pub Makes : (X : Part) → Rule X → Type 0
-Makes X p = (s : State) (vs : Vals p.syms) → Behind p.syms s vs (λ j. Spec X s (p.meaning vs) j)
+Makes X p = (s : ScanState) (vs : Vals p.syms) → Behind p.syms s vs (λ j. Spec X s (p.meaning vs) j)
 
 abbrev pub AllMake : (X : Part) → List (Rule X) → Type 0
 AllMake X [] = Unit {0}

@@ -6,7 +6,7 @@ use Rattle.std.specs.List.{slice_get}
 use Rattle.lucy_tree.specs.View.{ProgramTree}
 use Rattle.lucy_token.specs.declared.token.Kind.{Kind}
 use Rattle.lucy_token.specs.declared.token.Token.{Token}
-use Rattle.lucy_token.specs.States.{State, after, is_past_last}
+use Rattle.lucy_token.specs.States.{ScanState, after, is_past_last}
 use Rattle.lucy_grammar.specs.Symbols.{Sym, token, part, many, perhaps, Rule, Part, Program}
 use Rattle.lucy_grammar.specs.Grammar.{rules}
 use Rattle.lucy_grammar.specs.Deriving.{Deriv, done, take, by_rule, enough, again, absent, present, spelled, value}
@@ -26,11 +26,11 @@ makes_in X (q ∷ ps) zero p h e =
 makes_in X (q ∷ ps) (suc i) p h e = makes_in X ps i p h.1 e
 
 -- the tokens of a production, and of what follows it
-both : (s : State) (a b rest : List Token) → AllPass s ((a ++ b) ++ rest) → AllPass s (a ++ (b ++ rest))
+both : (s : ScanState) (a b rest : List Token) → AllPass s ((a ++ b) ++ rest) → AllPass s (a ++ (b ++ rest))
 both s a b rest h = subst (AllPass s) (append_assoc a b rest) h
 
 -- a derivation in a text with no fault goes from a state to one behind it
-reads : (syms : List Sym) (d : Deriv syms) (s : State) (rest : List Token) → AllPass s (spelled d ++ rest) → (K : State → Type 0) → Behind syms s (value d) K → (j : State) × K j × AllPass j rest
+reads : (syms : List Sym) (d : Deriv syms) (s : ScanState) (rest : List Token) → AllPass s (spelled d ++ rest) → (K : ScanState → Type 0) → Behind syms s (value d) K → (j : ScanState) × K j × AllPass j rest
 reads [] done s rest h K w = (s, w, h)
 reads (token i ∷ syms) (take t e d) s rest h K w =
     let k : Kind = sort_kind i in
@@ -49,7 +49,7 @@ reads (perhaps X ∷ syms) (present i p m a b) s rest h K w =
     let r = reads p.syms a s (spelled b ++ rest) (both s (spelled a) (spelled b) rest h) (λ j. Spec X s (p.meaning (value a)) j) (makes_in X (rules X) i p (all_make X) m s (value a)) in
     reads syms b r.0 rest r.2 K (w r.0 r.1)
 
-pub few_entries : (s : State) (ts : List Token) (p : ProgramTree) → IsProgram ts p → AllPass s ts → AllByRecursion IsFewNode p
+pub few_entries : (s : ScanState) (ts : List Token) (p : ProgramTree) → IsProgram ts p → AllPass s ts → AllByRecursion IsFewNode p
 few_entries s ts p program h =
     let d = derived program in
     let all : AllPass s (spelled d.0 ++ []) = subst (AllPass s) (sym (append-nil (spelled d.0) ∙ d.1)) h in

@@ -5,7 +5,7 @@ use Rattle.lucy_token.specs.declared.token.Kind.TheVariants as kind
 use Rattle.lucy_token.specs.declared.state.Side.TheVariants as side
 use Rattle.lucy_token.specs.States.{after, side_defined, begins_entry}
 use Rattle.lucy_grammar.specs.Symbols.{Part, Program, Node, Title, Params, Results, Names, Ident, MoreName, Body, Decls, MoreDecl, Decl, Typing, TypeName, ClockOf, Defs, Def, MoreDef, Lefts, Expr, Or, MoreAnd, And, MoreCmp, Cmp, Compared, CmpOp, Sum, MoreProd, SumOp, Prod, MoreSamp, ProdOp, Samp, Sampling, Pre, Followed, Form, Buffered, Held, Other, Atom, Small, Lit, Pair, Call, Applied, Base, Args, MoreExpr}
-use Rattle.lucy_grammar.specs.Meanings.{name_of}
+use Rattle.lucy_grammar.specs.Meanings.{token_name}
 use Rattle.lucy_grammar.specs.Grammar.{rules}
 use Rattle.lucy_grammar.proofs.Levels.{keeps_then, keeps_plain, IsDue, due_called, one_on, rec_left, and_left, defined, begins_name}
 use Rattle.lucy_grammar.proofs.FewEntries.{IsFewDef, IsFewNode, Spec, AllMake}
@@ -92,7 +92,7 @@ all_make Other = (
   (λ s vs p. ((kind.Mark mark.True, p), keeps_plain s (kind.Mark mark.True) refl), (λ s vs p. ((kind.Mark mark.False, p), keeps_plain s (kind.Mark mark.False) refl), tt)),
 )
 all_make Atom = (
-  λ s vs p j c r. named_read s j (name_of vs.0) vs.1.0 r p c,
+  λ s vs p j c r. named_read s j (token_name vs.0) vs.1.0 r p c,
   (
     λ s vs p q j c r.
         let k = keeps_then (keeps_plain s (kind.Mark mark.Host) refl) (keeps_plain (after s (kind.Mark mark.Host)) kind.Name refl) in

@@ -14,7 +14,7 @@ use Rattle.lucy_token.specs.declared.state.Side.{Side}
 use Rattle.lucy_token.specs.declared.state.Side.TheVariants as side
 use Rattle.lucy_token.specs.Tokens.{kind_of}
 use Rattle.lucy_token.specs.Before.{precedes_operand}
-use Rattle.lucy_token.specs.States.{State, served, after, side_defined, begins_operand, is_past_last}
+use Rattle.lucy_token.specs.States.{ScanState, served, after, side_defined, begins_operand, is_past_last}
 use Rattle.lucy_token.specs.Spelled.{is_negative, Printed, in_print, whats_of}
 use Rattle.lucy_token.proofs.StateLaws.{before_after}
 use Rattle.lucy_grammar.specs.Print.{blank, the, after_commas, commas, parens}
@@ -26,41 +26,41 @@ abbrev pub deepest : ℕ
 deepest = limit_number limit.Depth
 
 -- the token may stand here
-pub record Fits (s : State) (w : What) : Type 0 where
+pub record Fits (s : ScanState) (w : What) : Type 0 where
   pub room : kind_of w ≡ kind.Mark mark.Open → length s.outer < deepest
   pub in_list : is_past_last s (kind_of w) ≡ false
   pub operand_here : is_negative w ≡ true → begins_operand s ≡ true
 
-abbrev pub AllFit : State → List What → Type 0
+abbrev pub AllFit : ScanState → List What → Type 0
 AllFit s [] = Unit {0}
 AllFit s (w ∷ ws) = Fits s w × AllFit (after s (kind_of w)) ws
 
 -- a state on a side, where so many parentheses may still be opened, and a list is not yet past its last entry
-pub record IsReady (at : Side) (e : ℕ) (s : State) : Type 0 where
+pub record IsReady (at : Side) (e : ℕ) (s : ScanState) : Type 0 where
   pub here : s.side ≡ at
   pub room : length s.outer + e ≤ deepest
   pub few : s.level.commas < most
 
-pub ready_then : {at : Side} {e : ℕ} {s j : State} → IsReady at e s → Keeps s j → IsReady at e j
+pub ready_then : {at : Side} {e : ℕ} {s j : ScanState} → IsReady at e s → Keeps s j → IsReady at e j
 ready_then r k = record { here = k.at ∙ r.here; room = omega (arith, r.room, ap length k.outer); few = omega (arith, r.few, k.commas) }
 
 -- these tokens may stand, where what follows may stand: anywhere on the side, where an operand begins, as one operand
 pub record IsTail (at : Side) (e : ℕ) (ps : List Printed) : Type 0 where
-  pub fits : (s : State) (ws : List What) → IsReady at e s → ((j : State) → Keeps s j → AllFit j ws) → AllFit s (whats_of ps ++ ws)
+  pub fits : (s : ScanState) (ws : List What) → IsReady at e s → ((j : ScanState) → Keeps s j → AllFit j ws) → AllFit s (whats_of ps ++ ws)
 
 pub record IsOperand (at : Side) (e : ℕ) (ps : List Printed) : Type 0 where
-  pub fits : (s : State) (ws : List What) → IsReady at e s → (at ≡ side.Right → begins_operand s ≡ true) → ((j : State) → Keeps s j → AllFit j ws) → AllFit s (whats_of ps ++ ws)
+  pub fits : (s : ScanState) (ws : List What) → IsReady at e s → (at ≡ side.Right → begins_operand s ≡ true) → ((j : ScanState) → Keeps s j → AllFit j ws) → AllFit s (whats_of ps ++ ws)
 
 pub record IsUnit (e : ℕ) (ps : List Printed) : Type 0 where
-  pub fits : (s : State) (ws : List What) → IsReady side.Right e s → begins_operand s ≡ true → ((j : State) → Keeps s j → j.level.wanted ≡ s.level.wanted - 1 → AllFit j ws) → AllFit s (whats_of ps ++ ws)
+  pub fits : (s : ScanState) (ws : List What) → IsReady side.Right e s → begins_operand s ≡ true → ((j : ScanState) → Keeps s j → j.level.wanted ≡ s.level.wanted - 1 → AllFit j ws) → AllFit s (whats_of ps ++ ws)
 
 -- and up to the end of a call, behind which no other call is due
 pub record IsLast (at : Side) (e : ℕ) (ps : List Printed) : Type 0 where
-  pub fits : (s : State) (ws : List What) → IsReady at e s → ((j : State) → j.side ≡ side.Right → j.outer ≡ s.outer → j.level.commas ≡ s.level.commas → AllFit j ws) → AllFit s (whats_of ps ++ ws)
+  pub fits : (s : ScanState) (ws : List What) → IsReady at e s → ((j : ScanState) → j.side ≡ side.Right → j.outer ≡ s.outer → j.level.commas ≡ s.level.commas → AllFit j ws) → AllFit s (whats_of ps ++ ws)
 
 -- and up to the end of a declaration, behind which an `=` is no call's
 pub record IsDeclared (at : Side) (e : ℕ) (ps : List Printed) : Type 0 where
-  pub fits : (s : State) (ws : List What) → IsReady at e s → ((j : State) → Keeps s j → side_defined j.before ≡ side.Right → AllFit j ws) → AllFit s (whats_of ps ++ ws)
+  pub fits : (s : ScanState) (ws : List What) → IsReady at e s → ((j : ScanState) → Keeps s j → side_defined j.before ≡ side.Right → AllFit j ws) → AllFit s (whats_of ps ++ ws)
 
 -- tokens one after the other
 pub split_whats : (a b : List Printed) (ws : List What) → whats_of (a ++ b) ++ ws ≡ whats_of a ++ (whats_of b ++ ws)
@@ -73,14 +73,14 @@ whats_of-after blanks (t ∷ a) = refl
 no_open : (k : Kind) → is_plain k ≡ true → k ≡ kind.Mark mark.Open → ⊥
 no_open k e f = let g : false ≡ true = sym (ap is_plain f) ∙ e in absurd cc
 
-pub fits_plain : (s : State) (w : What) → s.level.commas < most → is_plain (kind_of w) ≡ true → is_negative w ≡ false → Fits s w
+pub fits_plain : (s : ScanState) (w : What) → s.level.commas < most → is_plain (kind_of w) ≡ true → is_negative w ≡ false → Fits s w
 fits_plain s w h e f = record {
   room = λ o. absurd (no_open (kind_of w) e o);
   in_list = in_list s (kind_of w) h;
   operand_here = λ g. let no : false ≡ true = sym f ∙ g in absurd cc;
 }
 
-pub fits_mark : (s : State) (m : Mark) → s.level.commas < most → (kind.Mark m ≡ kind.Mark mark.Open → ⊥) → Fits s (what.Mark m)
+pub fits_mark : (s : ScanState) (m : Mark) → s.level.commas < most → (kind.Mark m ≡ kind.Mark mark.Open → ⊥) → Fits s (what.Mark m)
 fits_mark s m h e = record { room = λ o. absurd (e o); in_list = in_list s (kind.Mark m) h; operand_here = λ g. absurd cc }
 
 pub tail_none : {at : Side} {e : ℕ} → IsTail at e []
@@ -166,12 +166,12 @@ pub last_more : {at : Side} {e : ℕ} {a : List Printed} (f : ℕ) → e ≤ f �
 last_more f h x = record { fits = λ s ws r k. x.fits s ws (record { here = r.here; room = omega (arith, r.room, h); few = r.few }) k }
 
 -- parentheses
-parens_fit : (x : List Printed) (at : Side) (s : State) (ws : List What) → (after s (kind.Mark mark.Open)).side ≡ at → length s.outer < deepest → s.level.commas < most →
-    ((vs : List What) → ((j : State) → j.side ≡ at → j.outer ≡ s.level ∷ s.outer → j.level.commas < most → AllFit j vs) → AllFit (after s (kind.Mark mark.Open)) (whats_of x ++ vs)) →
-    ((j : State) → j.side ≡ at → j.outer ≡ s.outer → j.level ≡ served s.level → j.before ≡ kind.Mark mark.Close → AllFit j ws) → AllFit s (whats_of (parens x) ++ ws)
+parens_fit : (x : List Printed) (at : Side) (s : ScanState) (ws : List What) → (after s (kind.Mark mark.Open)).side ≡ at → length s.outer < deepest → s.level.commas < most →
+    ((vs : List What) → ((j : ScanState) → j.side ≡ at → j.outer ≡ s.level ∷ s.outer → j.level.commas < most → AllFit j vs) → AllFit (after s (kind.Mark mark.Open)) (whats_of x ++ vs)) →
+    ((j : ScanState) → j.side ≡ at → j.outer ≡ s.outer → j.level ≡ served s.level → j.before ≡ kind.Mark mark.Close → AllFit j ws) → AllFit s (whats_of (parens x) ++ ws)
 parens_fit x at s ws e room few inner k =
-    let q : State = after s (kind.Mark mark.Open) in
-    let close : (j : State) → j.side ≡ at → j.outer ≡ s.level ∷ s.outer → j.level.commas < most → AllFit j (what.Mark mark.Close ∷ ws) = λ j a o f.
+    let q : ScanState = after s (kind.Mark mark.Open) in
+    let close : (j : ScanState) → j.side ≡ at → j.outer ≡ s.level ∷ s.outer → j.level.commas < most → AllFit j (what.Mark mark.Close ∷ ws) = λ j a o f.
     let c = closed_after j s.level s.outer o in
     (fits_mark j mark.Close f (λ g. absurd cc), k (after j (kind.Mark mark.Close)) (c.at ∙ a) c.outer c.level c.before) in
     let whole : AllFit q (whats_of x ++ (what.Mark mark.Close ∷ ws)) = inner (what.Mark mark.Close ∷ ws) close in (
@@ -182,7 +182,7 @@ parens_fit x at s ws e room few inner k =
 pub unit_parens : {e : ℕ} {a : List Printed} → IsOperand side.Right e a → IsUnit (suc e) (parens a)
 unit_parens {e} {a} x = record {
   fits = λ s ws r b k.
-      let q : State = after s (kind.Mark mark.Open) in
+      let q : ScanState = after s (kind.Mark mark.Open) in
       let o = opened s in
       let at : q.side ≡ side.Right = opened_right s (due_right s.side r.here) in
       let ready : IsReady side.Right e q = record { here = at; room = omega (arith, r.room, ap length o.outer); few = omega (arith, no_commas o) } in
@@ -194,7 +194,7 @@ unit_parens {e} {a} x = record {
 pub last_parens : {e : ℕ} {a : List Printed} → IsOperand side.Right e a → IsLast side.Right (suc e) (parens a)
 last_parens {e} {a} x = record {
   fits = λ s ws r k.
-      let q : State = after s (kind.Mark mark.Open) in
+      let q : ScanState = after s (kind.Mark mark.Open) in
       let o = opened s in
       let at : q.side ≡ side.Right = opened_right s (due_right s.side r.here) in
       let ready : IsReady side.Right e q = record { here = at; room = omega (arith, r.room, ap length o.outer); few = omega (arith, no_commas o) } in
@@ -204,32 +204,32 @@ last_parens {e} {a} x = record {
 }
 
 -- lists
-entries_fit : (at : Side) (e : ℕ) (xs : List (List Printed)) → AllByRecursion (IsOperand at e) xs → (s : State) (ws : List What) → s.side ≡ at → length s.outer + e ≤ deepest → s.level.commas + length xs < most →
-    ((j : State) → j.side ≡ at → j.outer ≡ s.outer → j.level.commas < most → AllFit j ws) → AllFit s (whats_of (after_commas xs) ++ ws)
+entries_fit : (at : Side) (e : ℕ) (xs : List (List Printed)) → AllByRecursion (IsOperand at e) xs → (s : ScanState) (ws : List What) → s.side ≡ at → length s.outer + e ≤ deepest → s.level.commas + length xs < most →
+    ((j : ScanState) → j.side ≡ at → j.outer ≡ s.outer → j.level.commas < most → AllFit j ws) → AllFit s (whats_of (after_commas xs) ++ ws)
 entries_fit at e [] h s ws a room few k = k s a refl (omega (arith, few))
 entries_fit at e (x ∷ xs) h s ws a room few k =
-    let q : State = after s (kind.Mark mark.Comma) in
+    let q : ScanState = after s (kind.Mark mark.Comma) in
     let o = one_on s in
     let ready : IsReady at e q = record { here = o.at ∙ a; room = omega (arith, room, ap length o.outer); few = omega (arith, o.commas, few) } in
-    let rest : (j : State) → Keeps q j → AllFit j (whats_of (after_commas xs) ++ ws) = λ j p.
+    let rest : (j : ScanState) → Keeps q j → AllFit j (whats_of (after_commas xs) ++ ws) = λ j p.
     entries_fit at e xs h.1 j ws (p.at ∙ o.at ∙ a) (omega (arith, room, ap length o.outer, ap length p.outer)) (omega (arith, p.commas, o.commas, few)) (λ i b l f. k i b (l ∙ p.outer ∙ o.outer) f) in (
       fits_mark s mark.Comma (omega (arith, few)) (λ g. absurd cc),
       subst (AllFit q) (sym (split_whats (print.after blank x) (after_commas xs) ws))
           ((operand_after blank h.0).fits q (whats_of (after_commas xs) ++ ws) ready (λ g. begins_behind q (o.at ∙ a ∙ g) (ap precedes_operand o.before)) rest),
     )
 
-commas_fit : (at : Side) (e : ℕ) (xs : List (List Printed)) → AllByRecursion (IsOperand at e) xs → length xs ≤ most → (s : State) (ws : List What) → IsReady at e s → s.level.commas ≡ 0 → (at ≡ side.Right → begins_operand s ≡ true) →
-    ((j : State) → j.side ≡ at → j.outer ≡ s.outer → j.level.commas < most → AllFit j ws) → AllFit s (whats_of (commas xs) ++ ws)
+commas_fit : (at : Side) (e : ℕ) (xs : List (List Printed)) → AllByRecursion (IsOperand at e) xs → length xs ≤ most → (s : ScanState) (ws : List What) → IsReady at e s → s.level.commas ≡ 0 → (at ≡ side.Right → begins_operand s ≡ true) →
+    ((j : ScanState) → j.side ≡ at → j.outer ≡ s.outer → j.level.commas < most → AllFit j ws) → AllFit s (whats_of (commas xs) ++ ws)
 commas_fit at e [] h few s ws r z b k = k s r.here refl r.few
 commas_fit at e (x ∷ xs) h few s ws r z b k =
     subst (AllFit s) (sym (split_whats x (after_commas xs) ws))
     (h.0.fits s (whats_of (after_commas xs) ++ ws) r b
     (λ j p. entries_fit at e xs h.1 j ws (p.at ∙ r.here) (omega (arith, r.room, ap length p.outer)) (omega (arith, few, p.commas, z)) (λ i a o f. k i a (o ∙ p.outer) f)))
 
-pub list_fit : (at : Side) (e : ℕ) (xs : List (List Printed)) → AllByRecursion (IsOperand at e) xs → length xs ≤ most → (s : State) (ws : List What) → (after s (kind.Mark mark.Open)).side ≡ at → length s.outer + suc e ≤ deepest → s.level.commas < most →
-    ((j : State) → j.side ≡ at → j.outer ≡ s.outer → j.level ≡ served s.level → j.before ≡ kind.Mark mark.Close → AllFit j ws) → AllFit s (whats_of (parens (commas xs)) ++ ws)
+pub list_fit : (at : Side) (e : ℕ) (xs : List (List Printed)) → AllByRecursion (IsOperand at e) xs → length xs ≤ most → (s : ScanState) (ws : List What) → (after s (kind.Mark mark.Open)).side ≡ at → length s.outer + suc e ≤ deepest → s.level.commas < most →
+    ((j : ScanState) → j.side ≡ at → j.outer ≡ s.outer → j.level ≡ served s.level → j.before ≡ kind.Mark mark.Close → AllFit j ws) → AllFit s (whats_of (parens (commas xs)) ++ ws)
 list_fit at e xs h few s ws a room n k =
-    let q : State = after s (kind.Mark mark.Open) in
+    let q : ScanState = after s (kind.Mark mark.Open) in
     let o = opened s in
     let ready : IsReady at e q = record { here = a; room = omega (arith, room, ap length o.outer); few = omega (arith, no_commas o) } in
     parens_fit (commas xs) at s ws a (omega (arith, room)) n
@@ -245,12 +245,12 @@ list_last e xs due h few = record {
 pub tail_merge : {e : ℕ} {a b : List Printed} (w : What) → kind_of w ≡ kind.Word → is_negative w ≡ false → IsUnit e a → IsUnit e b → IsTail side.Right e (in_print [] (what.Mark mark.Merge) ∷ in_print blank w ∷ (print.after blank a ++ (print.after blank b ++ [])))
 tail_merge {e} {a} {b} w f g x y = record {
   fits = λ s ws r k.
-      let m : State = after s (kind.Mark mark.Merge) in
-      let q : State = after m kind.Word in
+      let m : ScanState = after s (kind.Mark mark.Merge) in
+      let q : ScanState = after m kind.Word in
       let p : Keeps s m = keeps_plain s (kind.Mark mark.Merge) refl in
       let p2 : Keeps s q = keeps_then p (keeps_plain m kind.Word refl) in
       let vs : List What = whats_of (print.after blank b ++ []) ++ ws in
-      let last : (j : State) → Keeps q j → j.level.wanted ≡ q.level.wanted - 1 → AllFit j vs = λ j t n.
+      let last : (j : ScanState) → Keeps q j → j.level.wanted ≡ q.level.wanted - 1 → AllFit j vs = λ j t n.
       (later (operand_unit y)).fits j ws (ready_then r (keeps_then p2 t)) (λ z. begins_wanted j (t.at ∙ p2.at ∙ r.here) (omega (arith, n, wanted_two s))) (λ i u. k i (keeps_then p2 (keeps_then t u))) in
       let whole : AllFit q (whats_of (print.after blank a) ++ vs) = (unit_after blank x).fits q vs (ready_then r p2) (begins_wanted q (p2.at ∙ r.here) (omega (arith, wanted_two s))) last in (
         fits_plain s (what.Mark mark.Merge) r.few refl refl,

@@ -16,7 +16,7 @@ use Rattle.lucy_token.specs.declared.token.What.TheVariants as what
 use Rattle.lucy_token.specs.declared.state.Side.{Side}
 use Rattle.lucy_token.specs.declared.state.Side.TheVariants as side
 use Rattle.lucy_token.specs.Before.{precedes_operand}
-use Rattle.lucy_token.specs.States.{State, start, after, side_defined}
+use Rattle.lucy_token.specs.States.{ScanState, start, after, side_defined}
 use Rattle.lucy_token.specs.Spelled.{Printed, in_print, whats_of}
 use Rattle.lucy_token.proofs.StateLaws.{before_after}
 use Rattle.lucy_tree.specs.Shaped.{IsCall, Defines}
@@ -50,33 +50,33 @@ names_fit at [] = tt
 names_fit at (n ∷ ns) = (operand_of (tail_plain [] (what.Name n.text) refl refl tail_none), names_fit at ns)
 
 -- nothing is open
-record IsTop (s : State) : Type 0 where
+record IsTop (s : ScanState) : Type 0 where
   outer : s.outer ≡ []
   commas : s.level.commas ≡ 0
 
-top_keeps : {s j : State} → IsTop s → Keeps s j → IsTop j
+top_keeps : {s j : ScanState} → IsTop s → Keeps s j → IsTop j
 top_keeps t k = record { outer = k.outer ∙ t.outer; commas = k.commas ∙ t.commas }
 
-top_level : {s j : State} → IsTop s → IsLevel s j → IsTop j
+top_level : {s j : ScanState} → IsTop s → IsLevel s j → IsTop j
 top_level t k = record { outer = k.outer ∙ t.outer; commas = k.commas ∙ t.commas }
 
-few_top : (s : State) → IsTop s → s.level.commas < most
+few_top : (s : ScanState) → IsTop s → s.level.commas < most
 few_top s t = omega (arith, t.commas)
 
-ready_top : {at : Side} {e : ℕ} {s : State} → s.side ≡ at → e ≤ deepest → IsTop s → IsReady at e s
+ready_top : {at : Side} {e : ℕ} {s : ScanState} → s.side ≡ at → e ≤ deepest → IsTop s → IsReady at e s
 ready_top a h t = record { here = a; room = omega (arith, h, ap length t.outer); few = omega (arith, t.commas) }
 
 -- a list where nothing is open
-top_list : (at : Side) (xs : List (List Printed)) → AllByRecursion (IsOperand at 0) xs → length xs ≤ most → IsStill at → (s : State) (ws : List What) → s.side ≡ at → IsTop s →
-    ((j : State) → j.side ≡ at → IsTop j → j.before ≡ kind.Mark mark.Close → AllFit j ws) → AllFit s (whats_of (parens (commas xs)) ++ ws)
+top_list : (at : Side) (xs : List (List Printed)) → AllByRecursion (IsOperand at 0) xs → length xs ≤ most → IsStill at → (s : ScanState) (ws : List What) → s.side ≡ at → IsTop s →
+    ((j : ScanState) → j.side ≡ at → IsTop j → j.before ≡ kind.Mark mark.Close → AllFit j ws) → AllFit s (whats_of (parens (commas xs)) ++ ws)
 top_list at xs h few still s ws a t k =
     list_fit at 0 xs h few s ws (opened_still s (subst IsStill (sym a) still) ∙ a) (omega (arith, ap length t.outer)) (few_top s t) (λ j b o l c. k j b (record { outer = o ∙ t.outer; commas = ap (λ u. u.commas) l ∙ t.commas }) c)
 
 -- the right side of a definition
-right_of : (right : Tree) (j : State) (ws : List What) → weight (printed right) ≤ deepest → IsFew right → j.side ≡ side.Left → side_defined j.before ≡ side.Right → IsTop j → ((i : State) → IsTop i → AllFit i ws) →
+right_of : (right : Tree) (j : ScanState) (ws : List What) → weight (printed right) ≤ deepest → IsFew right → j.side ≡ side.Left → side_defined j.before ≡ side.Right → IsTop j → ((i : ScanState) → IsTop i → AllFit i ws) →
     AllFit j (whats_of (in_print blank (what.Mark mark.Equals) ∷ (print.after blank (printed right) ++ [])) ++ ws)
 right_of right j ws h few a d t k =
-    let q : State = after j (kind.Mark mark.Equals) in
+    let q : ScanState = after j (kind.Mark mark.Equals) in
     let at : q.side ≡ side.Right = defined j a ∙ d in
     let top : IsTop q = top_level t (level_equals j) in (
       fits_mark j mark.Equals (few_top j t) (λ g. absurd cc),
@@ -95,10 +95,10 @@ a_call (merged w a b span) c h = absurd c
 a_call (followed l e span) c h = absurd c
 a_call (buffered most e span) c h = absurd c
 
-called_of : (right : Tree) (j : State) (ws : List What) → weight (printed right) ≤ deepest → IsCall right → IsFew right → j.side ≡ side.Left → j.before ≡ kind.Mark mark.Close → IsTop j → ((i : State) → IsTop i → AllFit i ws) →
+called_of : (right : Tree) (j : ScanState) (ws : List What) → weight (printed right) ≤ deepest → IsCall right → IsFew right → j.side ≡ side.Left → j.before ≡ kind.Mark mark.Close → IsTop j → ((i : ScanState) → IsTop i → AllFit i ws) →
     AllFit j (whats_of (in_print blank (what.Mark mark.Equals) ∷ (print.after blank (printed right) ++ [])) ++ ws)
 called_of right j ws h c few a b t k =
-    let q : State = after j (kind.Mark mark.Equals) in
+    let q : ScanState = after j (kind.Mark mark.Equals) in
     let at : q.side ≡ side.Called = defined j a ∙ ap side_defined b in
     let top : IsTop q = top_level t (level_equals j) in (
       fits_mark j mark.Equals (few_top j t) (λ g. absurd cc),
@@ -111,8 +111,8 @@ weight_right left right =
     let e : weight back ≡ weight (printed right) + 0 = ap length (put_after blank (printed right) [] [] refl) ∙ length-append (core (printed right)) [] in
     omega (arith, weight-append left (in_print blank (what.Mark mark.Equals) ∷ back), e)
 
-def_of : (left : List decl.Decl) (right : Tree) → IsFewDef (record { left = left; right = right }) → Defines left right → IsLight (record { left = left; right = right }) → (s : State) (ws : List What) → s.side ≡ side.Left → IsTop s →
-    ((j : State) → IsTop j → AllFit j ws) → AllFit s (whats_of (printed_def (record { left = left; right = right })) ++ ws)
+def_of : (left : List decl.Decl) (right : Tree) → IsFewDef (record { left = left; right = right }) → Defines left right → IsLight (record { left = left; right = right }) → (s : ScanState) (ws : List What) → s.side ≡ side.Left → IsTop s →
+    ((j : ScanState) → IsTop j → AllFit j ws) → AllFit s (whats_of (printed_def (record { left = left; right = right })) ++ ws)
 def_of [] right few d light s ws a t k = absurd d
 def_of (x ∷ []) right few d light s ws a t k =
     let back : List Printed = in_print blank (what.Mark mark.Equals) ∷ (print.after blank (printed right) ++ []) in
@@ -128,22 +128,22 @@ def_of (x ∷ y ∷ ds) right few d light s ws a t k =
     (top_list side.Left (map printed_decl (x ∷ y ∷ ds)) (decls_fit side.Left (x ∷ y ∷ ds)) (omega (arith, few.0, length-map (x ∷ y ∷ ds) printed_decl)) tt s (whats_of back ++ ws) a t (λ j b u c. called_of right j ws h d few.1 b c u k))
 
 -- a definition behind blanks, and what follows it
-def_fits : (blanks : List ℕ) (d : DefTree) (b : List Printed) → IsFewDef d → IsPrintableDef Anywhere d → IsLight d → (s : State) (ws : List What) → s.side ≡ side.Left → IsTop s → ((j : State) → IsTop j → AllFit j (whats_of b ++ ws)) →
+def_fits : (blanks : List ℕ) (d : DefTree) (b : List Printed) → IsFewDef d → IsPrintableDef Anywhere d → IsLight d → (s : ScanState) (ws : List What) → s.side ≡ side.Left → IsTop s → ((j : ScanState) → IsTop j → AllFit j (whats_of b ++ ws)) →
     AllFit s (whats_of (print.after blanks (printed_def d) ++ b) ++ ws)
 def_fits blanks d b few p light s ws a t k =
     subst (AllFit s) (sym (split_whats (print.after blanks (printed_def d)) b ws ∙ ap (λ u. u ++ (whats_of b ++ ws)) (whats_of-after blanks (printed_def d)))) (def_of d.left d.right few p.defines light s (whats_of b ++ ws) a t k)
 
-defs_fit : (ds : List DefTree) → AllByRecursion IsFewDef ds → AllByRecursion (IsPrintableDef Anywhere) ds → AllByRecursion IsLight ds → (s : State) (ws : List What) → IsTop s → ((j : State) → IsTop j → AllFit j ws) → AllFit s (whats_of (more_defs ds) ++ ws)
+defs_fit : (ds : List DefTree) → AllByRecursion IsFewDef ds → AllByRecursion (IsPrintableDef Anywhere) ds → AllByRecursion IsLight ds → (s : ScanState) (ws : List What) → IsTop s → ((j : ScanState) → IsTop j → AllFit j ws) → AllFit s (whats_of (more_defs ds) ++ ws)
 defs_fit [] few p light s ws t k = k s t
 defs_fit (d ∷ ds) few p light s ws t k = (
   fits_mark s mark.And (few_top s t) (λ g. absurd cc),
   def_fits blank d (more_defs ds) few.0 p.0 light.0 (after s (kind.Mark mark.And)) ws (and_left s) (top_level t (level_and s)) (λ j u. defs_fit ds few.1 p.1 light.1 j ws u k),
 )
 
-body_fits : (ds : List DefTree) → AllByRecursion IsFewDef ds → AllByRecursion (IsPrintableDef Anywhere) ds → AllByRecursion IsLight ds → (s : State) (ws : List What) → IsTop s → ((j : State) → IsTop j → AllFit j ws) → AllFit s (whats_of (printed_body ds) ++ ws)
+body_fits : (ds : List DefTree) → AllByRecursion IsFewDef ds → AllByRecursion (IsPrintableDef Anywhere) ds → AllByRecursion IsLight ds → (s : ScanState) (ws : List What) → IsTop s → ((j : ScanState) → IsTop j → AllFit j ws) → AllFit s (whats_of (printed_body ds) ++ ws)
 body_fits [] few p light s ws t k = k s t
 body_fits (d ∷ ds) few p light s ws t k =
-    let m : State = after s (kind.Mark mark.Where) in
+    let m : ScanState = after s (kind.Mark mark.Where) in
     let u : IsTop m = top_keeps t (keeps_plain s (kind.Mark mark.Where) refl) in (
       fits_plain s (what.Mark mark.Where) (few_top s t) refl refl,
       (
@@ -153,20 +153,20 @@ body_fits (d ∷ ds) few p light s ws t k =
     )
 
 -- nodes
-node_fits : (n : NodeTree) → IsFewNode n → IsPrintableNode Anywhere n → AreLight n → (s : State) (ws : List What) → IsTop s → ((j : State) → IsTop j → AllFit j ws) → AllFit s (whats_of (printed_node n) ++ ws)
+node_fits : (n : NodeTree) → IsFewNode n → IsPrintableNode Anywhere n → AreLight n → (s : ScanState) (ws : List What) → IsTop s → ((j : ScanState) → IsTop j → AllFit j ws) → AllFit s (whats_of (printed_node n) ++ ws)
 node_fits n few p light s ws t k =
     let head : List Printed = parens (commas (map printed_decl n.params)) in
     let tail : List Printed = parens (commas (map name_token n.results)) in
     let back : List Printed = in_print blank (what.Mark mark.Equals) ∷ (print.after blank tail ++ []) in
     let vs : List What = whats_of (printed_body n.defs) ++ ws in
-    let a : State = after s (kind.Mark mark.Let) in
-    let b : State = after a (kind.Mark mark.Node) in
-    let c : State = after b kind.Name in
+    let a : ScanState = after s (kind.Mark mark.Let) in
+    let b : ScanState = after a (kind.Mark mark.Node) in
+    let c : ScanState = after b kind.Name in
     let top_a : IsTop a = top_level t (level_let s) in
     let keeps_b : Keeps a b = keeps_plain a (kind.Mark mark.Node) refl in
     let keeps_c : Keeps a c = keeps_then keeps_b (keeps_plain b kind.Name refl) in
-    let results : (j : State) → j.side ≡ side.Head → IsTop j → j.before ≡ kind.Mark mark.Close → AllFit j (whats_of back ++ vs) = λ j h u e.
-    let q : State = after j (kind.Mark mark.Equals) in (
+    let results : (j : ScanState) → j.side ≡ side.Head → IsTop j → j.before ≡ kind.Mark mark.Close → AllFit j (whats_of back ++ vs) = λ j h u e.
+    let q : ScanState = after j (kind.Mark mark.Equals) in (
       fits_mark j mark.Equals (few_top j u) (λ g. absurd cc),
       subst (λ w. AllFit q (w ++ vs)) (sym (ap whats_of (append-nil (print.after blank tail)) ∙ whats_of-after blank tail))
           (top_list side.Head (map name_token n.results) (names_fit side.Head n.results) (omega (arith, few.results, length-map n.results name_token)) tt q vs (still_head j h) (top_level u (level_equals j)) (λ i h2 v e2. body_fits n.defs few.defs p.defs light i ws v k)),
@@ -182,7 +182,7 @@ node_fits n few p light s ws t k =
       ),
     )
 
-nodes_fit : (ns : List NodeTree) → AllByRecursion IsFewNode ns → AllByRecursion (IsPrintableNode Anywhere) ns → AllByRecursion AreLight ns → (s : State) → IsTop s → AllFit s (whats_of (more_nodes ns) ++ [])
+nodes_fit : (ns : List NodeTree) → AllByRecursion IsFewNode ns → AllByRecursion (IsPrintableNode Anywhere) ns → AllByRecursion AreLight ns → (s : ScanState) → IsTop s → AllFit s (whats_of (more_nodes ns) ++ [])
 nodes_fit [] few p light s t = tt
 nodes_fit (n ∷ ns) few p light s t =
     subst (AllFit s) (sym (split_whats (print.after line (printed_node n)) (more_nodes ns) [] ∙ ap (λ u. u ++ (whats_of (more_nodes ns) ++ [])) (whats_of-after line (printed_node n))))

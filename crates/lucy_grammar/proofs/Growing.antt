@@ -6,7 +6,7 @@ use Rattle.lucy_token.specs.declared.token.Token.{Token}
 use Rattle.lucy_grammar.specs.Symbols.{Part, part, many, Rule, Val, Link, Program, Node, Names, Ident, MoreName, Decls, MoreDecl, Decl, Defs, Def, MoreDef, Expr, Or, MoreAnd, And, MoreCmp, Cmp, Sum, MoreProd, Prod, MoreSamp, Samp, Sampling, Pre, Args, MoreExpr}
 use Rattle.lucy_grammar.specs.Meanings.{linked, grouped, sampled_by}
 use Rattle.lucy_grammar.specs.Grammar.{rules, says}
-use Rattle.lucy_grammar.specs.Reading.{follows, begins, Takes, Refuses, Reads, Unfit, IsBegun}
+use Rattle.lucy_grammar.specs.Reading.{follows, begins, Takes, BreaksAt, Reads, Unfit, IsBegun}
 use Rattle.lucy_grammar.proofs.Table.{good, past_part}
 use Rattle.lucy_grammar.proofs.Repeat.{RepeatSoFar, repeat_begun, repeat_more, repeat_refused, repeat_ended}
 use Rattle.lucy_grammar.proofs.Steps.{end, sole, sole_no, sub, sub_no, sub_bad, as_value}
@@ -51,7 +51,7 @@ by_it {X = X} {Y = Y} {M = M} {whole = whole} {ts = ts} {rest = rest} one read s
     sole {p = p} s.is r
 
 not_by_it : {X Y M : Part} {whole : Val Y → List (Val M) → Val X} {put : Val X → Val M → Val X} {ts rest : List Token} →
-    Repeats X Y M whole put → Refuses X (part Y ∷ many M ∷ []) ts rest → Unfit X ts rest
+    Repeats X Y M whole put → BreaksAt X (part Y ∷ many M ∷ []) ts rest → Unfit X ts rest
 not_by_it {X = X} {Y = Y} {M = M} {whole = whole} {ts = ts} {rest = rest} s r =
     let p : Rule X = says (part Y ∷ many M ∷ []) (λ (one, (read, _)). whole one read) in
     sole_no {p = p} s.is r

@@ -4,7 +4,7 @@ use Rattle.lucy_token.specs.declared.token.Token.{Token}
 use Rattle.lucy_grammar.specs.Kinds.{ahead}
 use Rattle.lucy_grammar.specs.Symbols.{Part, Sym, part, Val, Vals}
 use Rattle.lucy_grammar.specs.Deriving.{Deriv, spelled, value}
-use Rattle.lucy_grammar.specs.Reading.{Follows, Takes, Refuses}
+use Rattle.lucy_grammar.specs.Reading.{Follows, Takes, BreaksAt}
 use Rattle.lucy_grammar.proofs.Ahead.{ahead_append}
 
 -- a derivation of these symbols is one of the part Y, and one of the symbols behind it
@@ -55,7 +55,7 @@ lead_taken X Y all behind both ts v mid vs rest l a b = record {
 
 -- the part is read, and what is behind it refused
 pub lead_then_refused : (X Y : Part) (all behind : List Sym) (both : Val Y → Vals behind → Vals all) (ts : List Token) (v : Val Y) (mid rest : List Token) → Leads X Y all behind both (ahead ts) →
-    Takes Y (part Y ∷ []) ts (v, tt) mid → Refuses X behind mid rest → Refuses X all ts rest
+    Takes Y (part Y ∷ []) ts (v, tt) mid → BreaksAt X behind mid rest → BreaksAt X all ts rest
 lead_then_refused X Y all behind both ts v mid rest l a b = record {
   front = a.front ++ b.front;
   whole = a.whole ∙ ap (λ u. a.front ++ u) b.whole ∙ sym (append_assoc a.front b.front rest);
@@ -73,7 +73,7 @@ lead_then_refused X Y all behind both ts v mid rest l a b = record {
 
 -- the part is refused
 pub lead_refused : (X Y : Part) (all behind : List Sym) (both : Val Y → Vals behind → Vals all) (ts rest : List Token) → Leads X Y all behind both (ahead ts) →
-    Refuses Y (part Y ∷ []) ts rest → Refuses X all ts rest
+    BreaksAt Y (part Y ∷ []) ts rest → BreaksAt X all ts rest
 lead_refused X Y all behind both ts rest l a = record {
   front = a.front;
   whole = a.whole;
@@ -116,7 +116,7 @@ skip_taken X all behind without ts vs rest k r = record {
 }
 
 pub skip_refused : (X : Part) (all behind : List Sym) (without : Vals behind → Vals all) (ts rest : List Token) → Skips X all behind without (ahead ts) →
-    Refuses X behind ts rest → Refuses X all ts rest
+    BreaksAt X behind ts rest → BreaksAt X all ts rest
 skip_refused X all behind without ts rest k r = record {
   front = r.front;
   whole = r.whole;

@@ -9,12 +9,12 @@ use Rattle.lucy_token.specs.declared.token.Token.{Token}
 use Rattle.lucy_token.specs.Tokens.{first}
 use Rattle.lucy_grammar.specs.Symbols.{Val, Node, Title, Params, Results, Names, Ident, MoreName, Body, Decls, MoreDecl, Decl, Typing, TypeName, ClockOf, Defs, Def, MoreDef, Lefts, Expr, Call}
 use Rattle.lucy_grammar.specs.Grammar.{rules}
-use Rattle.lucy_grammar.specs.Meanings.{name_of, word_of}
+use Rattle.lucy_grammar.specs.Meanings.{token_name, token_word}
 use Rattle.lucy_grammar.specs.Reading.{follows, begins, Reads, Unfit, Begins, IsOther, ReadsOptional, UnfitOptional}
 use Rattle.lucy_grammar.proofs.Numbers.{IsNone, not_in}
 use Rattle.lucy_grammar.proofs.Steps.{end, tok, tok_no, tok_bad, sub, sub_no, sub_bad, maybe, maybe_no, maybe_bad, rule, rule_no, led, led_by, others}
 
-pub title : {ts m1 m2 rest : List Token} {l d n : Token} → Begins ts l (kind.Mark mark.Let) m1 → Begins m1 d (kind.Mark mark.Node) m2 → Begins m2 n kind.Name rest → Reads Title ts (name_of n) rest
+pub title : {ts m1 m2 rest : List Token} {l d n : Token} → Begins ts l (kind.Mark mark.Let) m1 → Begins m1 d (kind.Mark mark.Node) m2 → Begins m2 n kind.Name rest → Reads Title ts (token_name n) rest
 unfolding rules follows begins
 title {ts = ts} h1 h2 h3 = rule 0 refl (others ts 0 refl tt) (tok h1 (tok h2 (tok h3 (end _))))
 
@@ -54,7 +54,7 @@ pub node_5 : {ts m1 m2 m3 m4 rest : List Token} {q : Token} {n : Val Title} {ps 
 unfolding rules follows begins
 node_5 {ts = ts} h1 h2 h3 h4 u = rule_no 0 refl (others ts 0 refl tt) (sub_no refl h1 (sub_no refl h2 (tok_no h3 (sub_no refl h4 (maybe_bad refl u)))))
 
-pub param : {ts rest : List Token} {n : Token} → Begins ts n kind.Name rest → Reads Params ts (record { name = name_of n; holds = None; word = None } ∷ []) rest
+pub param : {ts rest : List Token} {n : Token} → Begins ts n kind.Name rest → Reads Params ts (record { name = token_name n; holds = None; word = None } ∷ []) rest
 unfolding rules follows begins
 param h1 = rule 0 refl (led_by 0 refl refl h1) (tok h1 (end _))
 
@@ -74,7 +74,7 @@ pub params_3 : {ts m1 m2 rest : List Token} {o : Token} (ds : Option (Val Decls)
 unfolding rules follows begins
 params_3 ds h1 h2 u = rule_no 1 refl (led_by 1 refl refl h1) (tok_no h1 (maybe_no ds refl h2 (tok_bad refl u)))
 
-pub result : {ts rest : List Token} {n : Token} → Begins ts n kind.Name rest → Reads Results ts (name_of n ∷ []) rest
+pub result : {ts rest : List Token} {n : Token} → Begins ts n kind.Name rest → Reads Results ts (token_name n ∷ []) rest
 unfolding rules follows begins
 result h1 = rule 0 refl (led_by 0 refl refl h1) (tok h1 (end _))
 
@@ -94,7 +94,7 @@ pub results_3 : {ts m1 m2 rest : List Token} {o : Token} {ns : Val Names} → Be
 unfolding rules follows begins
 results_3 h1 h2 u = rule_no 1 refl (led_by 1 refl refl h1) (tok_no h1 (sub_no refl h2 (tok_bad refl u)))
 
-pub ident : {ts rest : List Token} {n : Token} → Begins ts n kind.Name rest → Reads Ident ts (name_of n) rest
+pub ident : {ts rest : List Token} {n : Token} → Begins ts n kind.Name rest → Reads Ident ts (token_name n) rest
 unfolding rules follows begins
 ident {ts = ts} h1 = rule 0 refl (others ts 0 refl tt) (tok h1 (end _))
 
@@ -130,7 +130,7 @@ pub more_decl_2 : {ts m1 rest : List Token} {m : Token} → Begins ts m (kind.Ma
 unfolding rules follows begins
 more_decl_2 {ts = ts} h1 u = rule_no 0 refl (others ts 0 refl tt) (tok_no h1 (sub_bad refl u))
 
-pub decl : {ts m1 rest : List Token} {n : Token} (m2 : List Token) (t : Option (Val Typing)) (w : Option (Val ClockOf)) → Begins ts n kind.Name m1 → ReadsOptional Typing m1 t m2 → ReadsOptional ClockOf m2 w rest → Reads Decl ts (record { name = name_of n; holds = t; word = w }) rest
+pub decl : {ts m1 rest : List Token} {n : Token} (m2 : List Token) (t : Option (Val Typing)) (w : Option (Val ClockOf)) → Begins ts n kind.Name m1 → ReadsOptional Typing m1 t m2 → ReadsOptional ClockOf m2 w rest → Reads Decl ts (record { name = token_name n; holds = t; word = w }) rest
 unfolding rules follows begins
 decl {ts = ts} m2 t w h1 h2 h3 = rule 0 refl (others ts 0 refl tt) (tok h1 (maybe t refl h2 (maybe w refl h3 (end _))))
 
@@ -158,7 +158,7 @@ pub bool_1 : {ts rest : List Token} → (first ts ≡ kind.Mark mark.Int → ⊥
 unfolding rules follows begins
 bool_1 {ts = ts} w u = rule_no 1 refl (others ts 1 refl (not_in ts (kind.Mark mark.Int ∷ []) (w, tt), tt)) (tok_bad refl u)
 
-pub clock : {ts m1 rest : List Token} {o w : Token} → Begins ts o (kind.Mark mark.Colons) m1 → Begins m1 w kind.Word rest → Reads ClockOf ts (word_of w.what) rest
+pub clock : {ts m1 rest : List Token} {o w : Token} → Begins ts o (kind.Mark mark.Colons) m1 → Begins m1 w kind.Word rest → Reads ClockOf ts (token_word w.what) rest
 unfolding rules follows begins
 clock {ts = ts} h1 h2 = rule 0 refl (others ts 0 refl tt) (tok h1 (tok h2 (end _)))
 

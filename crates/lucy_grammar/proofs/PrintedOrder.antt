@@ -24,7 +24,7 @@ use Rattle.lucy_token.specs.Before.{wants_word}
 use Rattle.lucy_token.specs.Spelled.{Printed, in_print, whats_of}
 use Rattle.lucy_token.specs.Marks.{op_mark}
 use Rattle.lucy_grammar.specs.Print.{blank, indent, line, the, after, spaced, words, after_commas, commas, parens, name_token, lit_token, when_mark, operated, called, operand, printed, all_printed, operands, clock, printed_decl, printed_left, printed_def, more_defs, printed_body, printed_node, more_nodes, printed_program}
-use Rattle.lucy_grammar.specs.Printable.{IsNamed, IsLit, IsWordBehind, IsPrintable, ArePrintable, AllOfSome, IsPrintableDecl, IsPrintableDef, IsPrintableNode, IsPrintableProgram, AllMayFollow}
+use Rattle.lucy_grammar.specs.Printable.{MayBeNamed, IsLit, IsWordBehind, IsPrintable, ArePrintable, AllOfSome, IsPrintableDecl, IsPrintableDef, IsPrintableNode, IsPrintableProgram, AllMayFollow}
 
 -- where no word is wanted these tokens may be printed, and behind them no word is wanted
 pub record IsWhole (Q : Kind → What → Type 0) (ps : List Printed) : Type 0 where
@@ -48,7 +48,7 @@ whole_after {a = t ∷ a} blanks x = record { stands = x.stands }
 whole_mark : {Q : Kind → What → Type 0} {a : List Printed} (blanks : List ℕ) (m : Mark) → wants_word (kind.Mark m) ≡ false → IsWhole Q a → IsWhole Q (in_print blanks (what.Mark m) ∷ a)
 whole_mark blanks m e x = record { stands = λ before ws f h. (f, x.stands (kind.Mark m) ws e h) }
 
-whole_name : {Q : Kind → What → Type 0} {a : List Printed} (blanks : List ℕ) (n : name.Name) → IsNamed Q n → IsWhole Q a → IsWhole Q (in_print blanks (what.Name n.text) ∷ a)
+whole_name : {Q : Kind → What → Type 0} {a : List Printed} (blanks : List ℕ) (n : name.Name) → MayBeNamed Q n → IsWhole Q a → IsWhole Q (in_print blanks (what.Name n.text) ∷ a)
 whole_name blanks n q x = record { stands = λ before ws f h. ((f, q), x.stands kind.Name ws refl h) }
 
 whole_word : {Q : Kind → What → Type 0} {a : List Printed} (blanks between : List ℕ) (m : Mark) (w : Bits) → Q (kind.Mark m) (what.Word w) → IsWhole Q a → IsWhole Q (in_print blanks (what.Mark m) ∷ in_print between (what.Word w) ∷ a)
@@ -105,7 +105,7 @@ whole_operand _ x = whole_parens x
 whole_sampling : (Q : Kind → What → Type 0) (flip : Bool) (w : Bits) → IsWordBehind Q (when_mark flip) (Some w) → IsWhole Q (in_print blank (what.Mark (when_mark flip)) ∷ in_print blank (what.Word w) ∷ [])
 whole_sampling Q flip w q = whole_word blank blank (when_mark flip) w q whole_none
 
-whole_called : (Q : Kind → What → Type 0) (n : name.Name) (at : Option Bits) (args : List Printed) → IsNamed Q n → IsWordBehind Q mark.At at → IsWhole Q args → IsWhole Q (called n at args)
+whole_called : (Q : Kind → What → Type 0) (n : name.Name) (at : Option Bits) (args : List Printed) → MayBeNamed Q n → IsWordBehind Q mark.At at → IsWhole Q args → IsWhole Q (called n at args)
 whole_called Q n None args p q x = whole_name [] n p (whole_and (whole_after blank x) whole_none)
 whole_called Q n (Some w) args p q x = whole_name [] n p (whole_word blank blank mark.At w q (whole_and (whole_after blank x) whole_none))
 
@@ -136,7 +136,7 @@ whole_clock : (Q : Kind → What → Type 0) (w : Option Bits) → IsWordBehind 
 whole_clock Q None q = whole_none
 whole_clock Q (Some w) q = whole_word blank blank mark.Colons w q whole_none
 
-whole_decl_of : (Q : Kind → What → Type 0) (n : name.Name) (t : Option DataType) (w : Option Bits) → IsNamed Q n → IsWordBehind Q mark.Colons w → IsWhole Q (printed_decl (record { name = n; holds = t; word = w }))
+whole_decl_of : (Q : Kind → What → Type 0) (n : name.Name) (t : Option DataType) (w : Option Bits) → MayBeNamed Q n → IsWordBehind Q mark.Colons w → IsWhole Q (printed_decl (record { name = n; holds = t; word = w }))
 whole_decl_of Q n None w p q = whole_name [] n p (whole_clock Q w q)
 whole_decl_of Q n (Some holds.Int) w p q = whole_name [] n p (whole_mark blank mark.Colon refl (whole_mark blank mark.Int refl (whole_clock Q w q)))
 whole_decl_of Q n (Some holds.Bool) w p q = whole_name [] n p (whole_mark blank mark.Colon refl (whole_mark blank mark.Bool refl (whole_clock Q w q)))
@@ -148,11 +148,11 @@ whole_decls : (Q : Kind → What → Type 0) (ds : List decl.Decl) → AllByRecu
 whole_decls Q [] h = tt
 whole_decls Q (d ∷ ds) h = (whole_decl Q d h.0, whole_decls Q ds h.1)
 
-whole_names : (Q : Kind → What → Type 0) (ns : List name.Name) → AllByRecursion (IsNamed Q) ns → AllByRecursion (IsWhole Q) (map name_token ns)
+whole_names : (Q : Kind → What → Type 0) (ns : List name.Name) → AllByRecursion (MayBeNamed Q) ns → AllByRecursion (IsWhole Q) (map name_token ns)
 whole_names Q [] h = tt
 whole_names Q (n ∷ ns) h = (whole_name [] n h.0 whole_none, whole_names Q ns h.1)
 
-whole_results : (Q : Kind → What → Type 0) (ns : List name.Name) → AllOfSome (IsNamed Q) ns → AllByRecursion (IsWhole Q) (map name_token ns)
+whole_results : (Q : Kind → What → Type 0) (ns : List name.Name) → AllOfSome (MayBeNamed Q) ns → AllByRecursion (IsWhole Q) (map name_token ns)
 whole_results Q [] h = absurd h
 whole_results Q (n ∷ ns) h = whole_names Q (n ∷ ns) h
 

@@ -23,7 +23,7 @@ use Rattle.lucy_grammar.specs.Programs.{IsProgram}
 use Rattle.lucy_grammar.specs.Print.{blank, indent, line, the, after, after_commas, commas, parens, name_token, printed, type_mark, printed_decl, printed_left, printed_def, more_defs, printed_body, printed_node, more_nodes, printed_program}
 use Rattle.lucy_grammar.specs.Spans.{unplaced_token, unplaced_name, unplaced_decl, unplaced, unplaced_def, unplaced_node, unplaced_program, IsAlike}
 use Rattle.lucy_tree.specs.Shaped.{IsCall, Defines}
-use Rattle.lucy_grammar.specs.Printable.{IsNamed, AllOfSome, IsPrintable, IsPrintableDef, IsPrintableNode, IsPrintableProgram}
+use Rattle.lucy_grammar.specs.Printable.{MayBeNamed, AllOfSome, IsPrintable, IsPrintableDef, IsPrintableNode, IsPrintableProgram}
 use Rattle.lucy_grammar.proofs.Deriving.{of_derivation}
 use Rattle.lucy_grammar.proofs.SpanLaws.{placed}
 use Rattle.lucy_grammar.proofs.Spelling.{plain, plains, Spells, Is, spell_end, spell_token, spell_after, spell_part, spell_again, spell_there, spell_none, spell_out, spell_given, spell_rule}
@@ -142,7 +142,7 @@ a_node_of Q n ps r rs ds h =
 a_node : (Q : Kind → What → Type 0) (n : NodeTree) → IsPrintableNode Q n → Is Node (unplaced_node n) (printed_node n)
 a_node Q n h = go n.results h.results
   where
-    go : (rs : List name.Name) → AllOfSome (IsNamed Q) rs → Is Node (unplaced_node (record { name = n.name; params = n.params; results = rs; defs = n.defs })) (printed_node (record { name = n.name; params = n.params; results = rs; defs = n.defs }))
+    go : (rs : List name.Name) → AllOfSome (MayBeNamed Q) rs → Is Node (unplaced_node (record { name = n.name; params = n.params; results = rs; defs = n.defs })) (printed_node (record { name = n.name; params = n.params; results = rs; defs = n.defs }))
     go [] f = absurd f
     go (r ∷ rs) f = a_node_of Q n.name n.params r rs n.defs h.defs
 

@@ -11,7 +11,7 @@ use Rattle.lucy_token.specs.declared.token.Token.{Token}
 use Rattle.lucy_token.specs.Tokens.{first}
 use Rattle.lucy_grammar.specs.Symbols.{Val, Expr, Or, MoreAnd, And, MoreCmp, Cmp, Compared, CmpOp, Sum, MoreProd, SumOp, Prod, MoreSamp, ProdOp, Samp, Pre, Followed, Form, Buffered, Held, Other, Atom, Small, Lit, Pair, Call, Applied, Base, Args, MoreExpr}
 use Rattle.lucy_grammar.specs.Grammar.{rules}
-use Rattle.lucy_grammar.specs.Meanings.{name_of, word_of, two, literal_before, held_by, named, linked, bound_of, number_of}
+use Rattle.lucy_grammar.specs.Meanings.{token_name, token_word, two, literal_before, held_by, named, linked, token_bound, token_number}
 use Rattle.lucy_grammar.specs.Reading.{follows, begins, IsBoundAhead, Reads, Unfit, IsBegun, Begins, IsOther, ReadsOptional, UnfitOptional}
 use Rattle.lucy_grammar.specs.Sets.{within}
 use Rattle.lucy_grammar.specs.Kinds.{ahead, is_bound, bound}
@@ -96,7 +96,7 @@ pub buffer_2 : {ts m1 rest : List Token} {o : Token} → Begins ts o (kind.Mark 
 unfolding rules follows begins
 buffer_2 h1 u = rule_no 1 refl (led_by 1 refl refl h1) (tok_no h1 (sub_bad refl u))
 
-pub merge : {ts m1 m2 m3 rest : List Token} {o w : Token} {a : Val Small} {b : Val Small} → Begins ts o (kind.Mark mark.Merge) m1 → Begins m1 w kind.Word m2 → Reads Small m2 a m3 → Reads Small m3 b rest → Reads Form ts (merged (word_of w.what) a b o.span) rest
+pub merge : {ts m1 m2 m3 rest : List Token} {o w : Token} {a : Val Small} {b : Val Small} → Begins ts o (kind.Mark mark.Merge) m1 → Begins m1 w kind.Word m2 → Reads Small m2 a m3 → Reads Small m3 b rest → Reads Form ts (merged (token_word w.what) a b o.span) rest
 unfolding rules follows begins
 merge h1 h2 h3 h4 = rule 2 refl (led_by 2 refl refl h1) (tok h1 (tok h2 (sub refl h3 (sub refl h4 (end _)))))
 
@@ -132,7 +132,7 @@ pub follow_2 : {ts m1 rest : List Token} {o : Token} → Begins ts o (kind.Mark 
 unfolding rules follows begins
 follow_2 {ts = ts} h1 u = rule_no 0 refl (others ts 0 refl tt) (tok_no h1 (sub_bad refl u))
 
-pub name : {ts m1 rest : List Token} {n : Token} (a : Option (Val Applied)) → Begins ts n kind.Name m1 → ReadsOptional Applied m1 a rest → Reads Atom ts (named (name_of n) a) rest
+pub name : {ts m1 rest : List Token} {n : Token} (a : Option (Val Applied)) → Begins ts n kind.Name m1 → ReadsOptional Applied m1 a rest → Reads Atom ts (named (token_name n) a) rest
 unfolding rules follows begins
 name a h1 h2 = rule 0 refl (led_by 0 refl refl h1) (tok h1 (maybe a refl h2 (end _)))
 
@@ -140,7 +140,7 @@ pub name_2 : {ts m1 rest : List Token} {n : Token} → Begins ts n kind.Name m1 
 unfolding rules follows begins
 name_2 h1 u = rule_no 0 refl (led_by 0 refl refl h1) (tok_no h1 (maybe_bad refl u))
 
-pub hosted : {ts m1 m2 rest : List Token} {h n : Token} {a : Val Pair} → Begins ts h (kind.Mark mark.Host) m1 → Begins m1 n kind.Name m2 → Reads Pair m2 a rest → Reads Atom ts (host (name_of n) a) rest
+pub hosted : {ts m1 m2 rest : List Token} {h n : Token} {a : Val Pair} → Begins ts h (kind.Mark mark.Host) m1 → Begins m1 n kind.Name m2 → Reads Pair m2 a rest → Reads Atom ts (host (token_name n) a) rest
 unfolding rules follows begins
 hosted h1 h2 h3 = rule 1 refl (led_by 1 refl refl h1) (tok h1 (tok h2 (sub refl h3 (end _))))
 
@@ -200,7 +200,7 @@ pub small_literal_1 : {ts rest : List Token} → IsBegun Lit ts → Unfit Lit ts
 unfolding rules follows begins
 small_literal_1 w u = rule_no 0 refl (by_first Small 0 _ _ refl w) (sub_bad refl u)
 
-pub small_name : {ts rest : List Token} {n : Token} → Begins ts n kind.Name rest → Reads Small ts (variable (name_of n)) rest
+pub small_name : {ts rest : List Token} {n : Token} → Begins ts n kind.Name rest → Reads Small ts (variable (token_name n)) rest
 unfolding rules follows begins
 small_name h1 = rule 1 refl (led_by 1 refl refl h1) (tok h1 (end _))
 
@@ -220,7 +220,7 @@ pub small_parens_3 : {ts m1 m2 rest : List Token} {o : Token} {e : Val Expr} →
 unfolding rules follows begins
 small_parens_3 h1 h2 u = rule_no 2 refl (led_by 2 refl refl h1) (tok_no h1 (sub_no refl h2 (tok_bad refl u)))
 
-pub called : {ts m1 rest : List Token} {n : Token} {a : Val Applied} → Begins ts n kind.Name m1 → Reads Applied m1 a rest → Reads Call ts (call (name_of n) a.0 a.1) rest
+pub called : {ts m1 rest : List Token} {n : Token} {a : Val Applied} → Begins ts n kind.Name m1 → Reads Applied m1 a rest → Reads Call ts (call (token_name n) a.0 a.1) rest
 unfolding rules follows begins
 called {ts = ts} h1 h2 = rule 0 refl (others ts 0 refl tt) (tok h1 (sub refl h2 (end _)))
 
@@ -279,7 +279,7 @@ unfolding rules follows begins
 bare_1 {ts = ts} w u = rule_no 3 refl (others ts 3 refl (not_in ts (kind.Mark mark.Not ∷ []) (w.0, tt), (not_in ts (kind.Mark mark.Buffer ∷ []) (w.1.0, tt), (not_in ts (kind.Mark mark.Merge ∷ []) (w.1.1.0, tt), tt)))) (sub_bad refl u)
 
 -- behind `buffer`: a number that may be a bound, another literal, or neither
-pub held_bound : {ts m1 rest : List Token} {n : Token} (h : Option (Val Held)) → ts ≡ n ∷ m1 → is_bound n.what ≡ true → ReadsOptional Held m1 h rest → Reads Buffered ts (held_by (bound_of n.what) (number_of n.what, n.span) h) rest
+pub held_bound : {ts m1 rest : List Token} {n : Token} (h : Option (Val Held)) → ts ≡ n ∷ m1 → is_bound n.what ≡ true → ReadsOptional Held m1 h rest → Reads Buffered ts (held_by (token_bound n.what) (token_number n.what, n.span) h) rest
 unfolding rules follows begins
 held_bound h e f r = rule 0 refl (led_sort bound 0 refl refl e f) (sort_tok bound e f (maybe h refl r (end _)))
 

@@ -3,7 +3,7 @@ use Rattle.std.proofs.Common.{◌≡◌, true, List, [], ◌∷◌, ◌++◌, sy
 use Rattle.std.proofs.lemmas.List.{append-nil}
 use Rattle.lucy_token.specs.declared.token.Token.{Token}
 use Rattle.lucy_grammar.specs.Symbols.{Part, Sym, many, Val, Vals}
-use Rattle.lucy_grammar.specs.Reading.{Takes, Refuses, Reads, Unfit, IsBegun}
+use Rattle.lucy_grammar.specs.Reading.{Takes, BreaksAt, Reads, Unfit, IsBegun}
 use Rattle.lucy_grammar.proofs.Table.{good}
 use Rattle.lucy_grammar.proofs.Leads.{lead_taken, lead_then_refused, lead_refused, skip_taken}
 use Rattle.lucy_grammar.proofs.Forms.{with_more, with_none, more_leads, many_skips}
@@ -11,7 +11,7 @@ use Rattle.lucy_grammar.proofs.Forms.{with_more, with_none, more_leads, many_ski
 -- what the rest of the repeat gives, and what comes after it, the whole gives
 pub record RepeatSoFar (X Y : Part) (syms : List Sym) (ts : List Token) (read : List (Val Y)) (over : List Token) : Type 0 where
   pub taken : (us : List (Val Y)) (vs : Vals syms) (rest : List Token) → Takes X (many Y ∷ syms) over (us, vs) rest → Takes X (many Y ∷ syms) ts (read ++ us, vs) rest
-  pub refused : (rest : List Token) → Refuses X (many Y ∷ syms) over rest → Refuses X (many Y ∷ syms) ts rest
+  pub refused : (rest : List Token) → BreaksAt X (many Y ∷ syms) over rest → BreaksAt X (many Y ∷ syms) ts rest
 
 pub repeat_begun : {X Y : Part} {syms : List Sym} (ts : List Token) → RepeatSoFar X Y syms ts [] ts
 repeat_begun ts = record { taken = λ us vs rest r. r; refused = λ rest r. r }
@@ -27,7 +27,7 @@ repeat_more {X = X} {Y = Y} {syms = syms} {ts = ts} {read = read} {over = over} 
 }
 
 pub repeat_refused : {X Y : Part} {syms : List Sym} {ts : List Token} {read : List (Val Y)} {over rest : List Token} →
-    RepeatSoFar X Y syms ts read over → good X (many Y ∷ syms) ≡ true → IsBegun Y over → Unfit Y over rest → Refuses X (many Y ∷ syms) ts rest
+    RepeatSoFar X Y syms ts read over → good X (many Y ∷ syms) ≡ true → IsBegun Y over → Unfit Y over rest → BreaksAt X (many Y ∷ syms) ts rest
 repeat_refused {X = X} {Y = Y} {syms = syms} {over = over} {rest = rest} s g w r =
     s.refused rest (lead_refused X Y (many Y ∷ syms) (many Y ∷ syms) (with_more Y syms) over rest (more_leads X Y syms _ g w) r)
 

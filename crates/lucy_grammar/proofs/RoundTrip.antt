@@ -12,7 +12,7 @@ use Rattle.lucy_token.specs.Before.{nearest, wants_word}
 use Rattle.lucy_token.specs.States.{start, state_of}
 use Rattle.lucy_token.specs.Cuts.{Cuts}
 use Rattle.lucy_token.specs.Written.{IsWritten, AreWritten}
-use Rattle.lucy_token.specs.Spelled.{text_of_what, bytes_of, whats_of, placed, is_word, IsSpelled, Stands, AllStand, Follows, Printed}
+use Rattle.lucy_token.specs.Spelled.{text_of_what, bytes_of, whats_of, placed, is_word, IsSpelled, MayStandHere, AllStand, PrintsBehind, Printed}
 use Rattle.lucy_token.proofs.StateLaws.{limit_same, entry_past_same, operand_same}
 use Rattle.lucy_token.proofs.WrittenLaws.{tokens_written}
 use Rattle.lucy_token.proofs.FollowLaws.{placed_whats}
@@ -57,7 +57,7 @@ all_stand_here ks [] order count fit = tt
 all_stand_here ks (w ∷ ws) order count fit =
     let k : Kind = kind_of w in
     let Q : Count → Type 0 = λ c. AllCount c ws in
-    let here : Stands ks w = record {
+    let here : MayStandHere ks w = record {
       passes = sym (limit_same ks k) ∙ none_passed (state_of ks) k count.0 fit.0.room;
       in_list = sym (entry_past_same ks k) ∙ fit.0.in_list;
       word_here = word_here (nearest ks) w order.0;
@@ -88,7 +88,7 @@ pub written_program : (text : List ℕ) (ts : List Token) (n : ℕ) (p : Program
 written_program text ts n p q d = printable IsWritten kind.End ts p d (stand_written kind.End ts (tokens_written q))
 
 -- what is printed of a program that was read may stand so
-print_follows : (text : List ℕ) (ts : List Token) (n : ℕ) (p : ProgramTree) → Cuts 0 [] text ts (End n) → IsProgram ts p → Follows [] (printed_program p)
+print_follows : (text : List ℕ) (ts : List Token) (n : ℕ) (p : ProgramTree) → Cuts 0 [] text ts (End n) → IsProgram ts p → PrintsBehind [] (printed_program p)
 print_follows text ts n p q d =
     let ws : List What = whats_of (printed_program p) in
     let pass : AllPass start ts = tokens_pass q in

@@ -8,7 +8,7 @@ use Rattle.lucy_grammar.specs.Kinds.{ahead}
 use Rattle.lucy_grammar.specs.Symbols.{Part, part, Rule, Vals}
 use Rattle.lucy_grammar.specs.Grammar.{rules}
 use Rattle.lucy_grammar.specs.Deriving.{Deriv, done, by_rule, spelled, value}
-use Rattle.lucy_grammar.specs.Reading.{begins, Follows, Takes, Refuses}
+use Rattle.lucy_grammar.specs.Reading.{begins, Follows, Takes, BreaksAt}
 use Rattle.lucy_grammar.proofs.Sets.{within_subset}
 use Rattle.lucy_grammar.proofs.Table.{look, rule_good, rule_alone}
 use Rattle.lucy_grammar.proofs.Completions.{some_part}
@@ -97,7 +97,7 @@ rule_taken X i p ts vs rest e l r = record {
 }
 
 pub rule_refused : (X : Part) (i : ℕ) (p : Rule X) (ts rest : List Token) → slice_get (rules X) i ≡ Some p → Alone X p (ahead ts) →
-    Refuses X p.syms ts rest → Refuses X (part X ∷ []) ts rest
+    BreaksAt X p.syms ts rest → BreaksAt X (part X ∷ []) ts rest
 rule_refused X i p ts rest e l r = record {
   front = r.front;
   whole = r.whole;
@@ -108,7 +108,7 @@ rule_refused X i p ts rest e l r = record {
 }
 
 -- no production fits the first token
-pub no_rule : (X : Part) (ts : List Token) → (within (ahead ts) (begins X) ≡ true → ⊥) → Refuses X (part X ∷ []) ts ts
+pub no_rule : (X : Part) (ts : List Token) → (within (ahead ts) (begins X) ≡ true → ⊥) → BreaksAt X (part X ∷ []) ts ts
 no_rule X ts unfit = record {
   front = [];
   whole = refl;

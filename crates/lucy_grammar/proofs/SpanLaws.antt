@@ -8,7 +8,7 @@ use Rattle.lucy_tree.specs.Tree.{Tree, Trees, trees_of, more, no_more}
 use Rattle.lucy_token.specs.declared.token.Token.{Token}
 use Rattle.lucy_grammar.specs.Kinds.{Fits}
 use Rattle.lucy_grammar.specs.Symbols.{Part, Sym, token, part, many, perhaps, Rule, Val, Vals, Link, Program, Node, Title, Params, Results, Names, Ident, MoreName, Body, Decls, MoreDecl, Decl, Typing, TypeName, ClockOf, Defs, Def, MoreDef, Lefts, Expr, Or, MoreAnd, And, MoreCmp, Cmp, Compared, CmpOp, Sum, MoreProd, SumOp, Prod, MoreSamp, ProdOp, Samp, Sampling, Pre, Followed, Form, Buffered, Held, Other, Atom, Small, Lit, Pair, Call, Applied, Base, Args, MoreExpr}
-use Rattle.lucy_grammar.specs.Meanings.{linked, grouped, sampled_by, literal_before, named, name_of, held_by, bound_of, number_of}
+use Rattle.lucy_grammar.specs.Meanings.{linked, grouped, sampled_by, literal_before, named, token_name, held_by, token_bound, token_number}
 use Rattle.lucy_grammar.specs.Grammar.{rules}
 use Rattle.lucy_grammar.specs.Deriving.{Deriv, done, take, by_rule, enough, again, absent, present, spelled, value}
 use Rattle.lucy_grammar.proofs.Tokens.{same_pair}
@@ -110,7 +110,7 @@ literal_blind : (l : Val Lit) (f : Option (Val Followed)) → unplaced (literal_
 literal_blind l None = refl
 literal_blind l (Some f) = refl
 
-held_blind : (n : Token) (h : Option (Val Held)) → bare Buffered (held_by (bound_of n.what) (number_of n.what, n.span) h) ≡ held_by (bound_of (unplaced_token n).what) (number_of (unplaced_token n).what, (unplaced_token n).span) (in_option (bare Held) h)
+held_blind : (n : Token) (h : Option (Val Held)) → bare Buffered (held_by (token_bound n.what) (token_number n.what, n.span) h) ≡ held_by (token_bound (unplaced_token n).what) (token_number (unplaced_token n).what, (unplaced_token n).span) (in_option (bare Held) h)
 held_blind n None = refl
 held_blind n (Some (Some fby, e)) = refl
 held_blind n (Some (None, e)) = refl
@@ -156,7 +156,7 @@ rules_blind MoreName = (λ vs. refl, tt)
 rules_blind Body = (λ vs. refl, tt)
 rules_blind Decls = (λ vs. refl, tt)
 rules_blind MoreDecl = (λ vs. refl, tt)
-rules_blind Decl = (λ vs. decl_blind (name_of vs.0) vs.1.0 vs.1.1.0, tt)
+rules_blind Decl = (λ vs. decl_blind (token_name vs.0) vs.1.0 vs.1.1.0, tt)
 rules_blind Typing = (λ vs. refl, tt)
 rules_blind TypeName = (λ vs. refl, (λ vs. refl, tt))
 rules_blind ClockOf = (λ vs. refl, tt)
@@ -186,7 +186,7 @@ rules_blind Form = (λ vs. refl, (λ vs. refl, (λ vs. refl, (λ vs. refl, tt)))
 rules_blind Buffered = (λ vs. held_blind vs.0 vs.1.0, (λ vs. ap (λ (e : Tree). let p : Val Buffered = (None, e) in p) (literal_blind vs.0 vs.1.0), (λ vs. refl, tt)))
 rules_blind Held = (λ vs. refl, (λ vs. refl, tt))
 rules_blind Other = (λ vs. refl, (λ vs. refl, (λ vs. refl, tt)))
-rules_blind Atom = (λ vs. named_blind (name_of vs.0) vs.1.0, (λ vs. refl, (λ vs. refl, tt)))
+rules_blind Atom = (λ vs. named_blind (token_name vs.0) vs.1.0, (λ vs. refl, (λ vs. refl, tt)))
 rules_blind Small = (λ vs. refl, (λ vs. refl, (λ vs. refl, tt)))
 rules_blind Lit = (λ vs. refl, (λ vs. refl, (λ vs. refl, tt)))
 rules_blind Pair = (λ vs. refl, tt)

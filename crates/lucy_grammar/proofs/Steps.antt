@@ -8,7 +8,7 @@ use Rattle.lucy_grammar.specs.Sets.{within, subset}
 use Rattle.lucy_grammar.specs.Kinds.{ahead, kind_numbers, Sort, of, Fits, sort_numbers}
 use Rattle.lucy_grammar.specs.Symbols.{Part, Sym, token, any, part, perhaps, Rule, Val, Vals}
 use Rattle.lucy_grammar.specs.Grammar.{rules}
-use Rattle.lucy_grammar.specs.Reading.{Takes, Refuses, Reads, Unfit, IsBegun, Begins, IsOther, ReadsOptional, UnfitOptional}
+use Rattle.lucy_grammar.specs.Reading.{Takes, BreaksAt, Reads, Unfit, IsBegun, Begins, IsOther, ReadsOptional, UnfitOptional}
 use Rattle.lucy_grammar.proofs.Numbers.{ahead_kind, is_in, fits_number}
 use Rattle.lucy_grammar.proofs.Sets.{within_subset}
 use Rattle.lucy_grammar.proofs.Table.{good, look}
@@ -29,9 +29,9 @@ sort_tok {X = X} s {syms = syms} {t = t} {more = more} {vs = vs} {rest = rest} e
     subst P (sym e) (token_taken X s syms t more vs rest f r)
 
 pub sort_tok_no : {X : Part} (s : Sort) {syms : List Sym} {t : Token} {ts more rest : List Token} →
-    ts ≡ t ∷ more → Fits s t.what → Refuses X syms more rest → Refuses X (token s ∷ syms) ts rest
+    ts ≡ t ∷ more → Fits s t.what → BreaksAt X syms more rest → BreaksAt X (token s ∷ syms) ts rest
 sort_tok_no {X = X} s {syms = syms} {t = t} {more = more} {rest = rest} e f r =
-    let P : List Token → Type 0 = λ u. Refuses X (token s ∷ syms) u rest in
+    let P : List Token → Type 0 = λ u. BreaksAt X (token s ∷ syms) u rest in
     subst P (sym e) (token_then_refused X s syms t more rest f r)
 
 -- a token of a kind: it is there, and what is behind it is read, or refused; or another is there
@@ -40,12 +40,12 @@ pub tok : {X : Part} {k : Kind} {syms : List Sym} {t : Token} {ts more : List To
 tok {k = k} b r = sort_tok (of k) b.0 b.1 r
 
 pub tok_no : {X : Part} {k : Kind} {syms : List Sym} {t : Token} {ts more rest : List Token} →
-    Begins ts t k more → Refuses X syms more rest → Refuses X (any k ∷ syms) ts rest
+    Begins ts t k more → BreaksAt X syms more rest → BreaksAt X (any k ∷ syms) ts rest
 tok_no {k = k} b r = sort_tok_no (of k) b.0 b.1 r
 
-pub tok_bad : {X : Part} {k : Kind} {syms : List Sym} {ts rest : List Token} → good X (any k ∷ syms) ≡ true → IsOther ts k rest → Refuses X (any k ∷ syms) ts rest
+pub tok_bad : {X : Part} {k : Kind} {syms : List Sym} {ts rest : List Token} → good X (any k ∷ syms) ≡ true → IsOther ts k rest → BreaksAt X (any k ∷ syms) ts rest
 tok_bad {X = X} {k = k} {syms = syms} {ts = ts} g h =
-    let P : List Token → Type 0 = λ u. Refuses X (any k ∷ syms) ts u in
+    let P : List Token → Type 0 = λ u. BreaksAt X (any k ∷ syms) ts u in
     subst P (sym h.0) (token_refused X (of k) syms ts g (λ w. h.1 (ahead_kind ts k w)))
 
 -- a part: it is read, and what is behind it is read, or refused; or the part is refused
@@ -55,11 +55,11 @@ sub {X = X} {Y = Y} {syms = syms} {ts = ts} {v = v} {mid = mid} {vs = vs} {rest 
     lead_taken X Y (part Y ∷ syms) syms (with_part Y syms) ts v mid vs rest (part_leads X Y syms _ g) a b
 
 pub sub_no : {X Y : Part} {syms : List Sym} {ts : List Token} {v : Val Y} {mid rest : List Token} → good X (part Y ∷ syms) ≡ true →
-    Reads Y ts v mid → Refuses X syms mid rest → Refuses X (part Y ∷ syms) ts rest
+    Reads Y ts v mid → BreaksAt X syms mid rest → BreaksAt X (part Y ∷ syms) ts rest
 sub_no {X = X} {Y = Y} {syms = syms} {ts = ts} {v = v} {mid = mid} {rest = rest} g a b =
     lead_then_refused X Y (part Y ∷ syms) syms (with_part Y syms) ts v mid rest (part_leads X Y syms _ g) a b
 
-pub sub_bad : {X Y : Part} {syms : List Sym} {ts rest : List Token} → good X (part Y ∷ syms) ≡ true → Unfit Y ts rest → Refuses X (part Y ∷ syms) ts rest
+pub sub_bad : {X Y : Part} {syms : List Sym} {ts rest : List Token} → good X (part Y ∷ syms) ≡ true → Unfit Y ts rest → BreaksAt X (part Y ∷ syms) ts rest
 sub_bad {X = X} {Y = Y} {syms = syms} {ts = ts} {rest = rest} g a =
     lead_refused X Y (part Y ∷ syms) syms (with_part Y syms) ts rest (part_leads X Y syms _ g) a
 
@@ -70,12 +70,12 @@ opt {X = X} {Y = Y} {syms = syms} {ts = ts} {v = v} {mid = mid} {vs = vs} {rest 
     lead_taken X Y (perhaps Y ∷ syms) syms (with_it Y syms) ts v mid vs rest (perhaps_leads X Y syms _ g w) a b
 
 pub opt_no : {X Y : Part} {syms : List Sym} {ts : List Token} {v : Val Y} {mid rest : List Token} → good X (perhaps Y ∷ syms) ≡ true →
-    IsBegun Y ts → Reads Y ts v mid → Refuses X syms mid rest → Refuses X (perhaps Y ∷ syms) ts rest
+    IsBegun Y ts → Reads Y ts v mid → BreaksAt X syms mid rest → BreaksAt X (perhaps Y ∷ syms) ts rest
 opt_no {X = X} {Y = Y} {syms = syms} {ts = ts} {v = v} {mid = mid} {rest = rest} g w a b =
     lead_then_refused X Y (perhaps Y ∷ syms) syms (with_it Y syms) ts v mid rest (perhaps_leads X Y syms _ g w) a b
 
 pub opt_bad : {X Y : Part} {syms : List Sym} {ts rest : List Token} → good X (perhaps Y ∷ syms) ≡ true →
-    IsBegun Y ts → Unfit Y ts rest → Refuses X (perhaps Y ∷ syms) ts rest
+    IsBegun Y ts → Unfit Y ts rest → BreaksAt X (perhaps Y ∷ syms) ts rest
 opt_bad {X = X} {Y = Y} {syms = syms} {ts = ts} {rest = rest} g w a =
     lead_refused X Y (perhaps Y ∷ syms) syms (with_it Y syms) ts rest (perhaps_leads X Y syms _ g w) a
 
@@ -86,7 +86,7 @@ out {X = X} {Y = Y} {syms = syms} {ts = ts} {vs = vs} {rest = rest} g w b =
     skip_taken X (perhaps Y ∷ syms) syms (without_it Y syms) ts vs rest (perhaps_skips X Y syms _ g w) b
 
 pub out_no : {X Y : Part} {syms : List Sym} {ts rest : List Token} → good X (perhaps Y ∷ syms) ≡ true →
-    (IsBegun Y ts → ⊥) → Refuses X syms ts rest → Refuses X (perhaps Y ∷ syms) ts rest
+    (IsBegun Y ts → ⊥) → BreaksAt X syms ts rest → BreaksAt X (perhaps Y ∷ syms) ts rest
 out_no {X = X} {Y = Y} {syms = syms} {ts = ts} {rest = rest} g w b =
     skip_refused X (perhaps Y ∷ syms) syms (without_it Y syms) ts rest (perhaps_skips X Y syms _ g w) b
 
@@ -99,13 +99,13 @@ maybe {X = X} {Y = Y} {syms = syms} {ts = ts} None {vs = vs} {rest = rest} g a b
     out g a.0 (subst P a.1 b)
 
 pub maybe_no : {X Y : Part} {syms : List Sym} {ts : List Token} (v : Option (Val Y)) {mid rest : List Token} → good X (perhaps Y ∷ syms) ≡ true →
-    ReadsOptional Y ts v mid → Refuses X syms mid rest → Refuses X (perhaps Y ∷ syms) ts rest
+    ReadsOptional Y ts v mid → BreaksAt X syms mid rest → BreaksAt X (perhaps Y ∷ syms) ts rest
 maybe_no (Some v) g a b = opt_no g a.0 a.1 b
 maybe_no {X = X} {Y = Y} {syms = syms} {ts = ts} None {rest = rest} g a b =
-    let P : List Token → Type 0 = λ u. Refuses X syms u rest in
+    let P : List Token → Type 0 = λ u. BreaksAt X syms u rest in
     out_no g a.0 (subst P a.1 b)
 
-pub maybe_bad : {X Y : Part} {syms : List Sym} {ts rest : List Token} → good X (perhaps Y ∷ syms) ≡ true → UnfitOptional Y ts rest → Refuses X (perhaps Y ∷ syms) ts rest
+pub maybe_bad : {X Y : Part} {syms : List Sym} {ts rest : List Token} → good X (perhaps Y ∷ syms) ≡ true → UnfitOptional Y ts rest → BreaksAt X (perhaps Y ∷ syms) ts rest
 maybe_bad g a = opt_bad g a.0 a.1
 
 -- a part is read by its production, or refused by it
@@ -114,14 +114,14 @@ pub rule : {X : Part} {p : Rule X} {ts : List Token} {vs : Vals p.syms} {rest : 
 rule i e l r = rule_taken _ i _ _ _ _ e l r
 
 pub rule_no : {X : Part} {p : Rule X} {ts rest : List Token} (i : ℕ) → slice_get (rules X) i ≡ Some p → Alone X p (ahead ts) →
-    Refuses X p.syms ts rest → Unfit X ts rest
+    BreaksAt X p.syms ts rest → Unfit X ts rest
 rule_no i e l r = rule_refused _ i _ _ _ e l r
 
 -- by its only production
 pub sole : {X : Part} {p : Rule X} {ts : List Token} {vs : Vals p.syms} {rest : List Token} → rules X ≡ p ∷ [] → Takes X p.syms ts vs rest → Reads X ts (p.meaning vs) rest
 sole {X = X} {p = p} {ts = ts} e r = rule_taken X 0 p ts _ _ (ap (λ (ps : List (Rule X)). slice_get ps 0) e) (only_one X p (ahead ts) e) r
 
-pub sole_no : {X : Part} {p : Rule X} {ts rest : List Token} → rules X ≡ p ∷ [] → Refuses X p.syms ts rest → Unfit X ts rest
+pub sole_no : {X : Part} {p : Rule X} {ts rest : List Token} → rules X ≡ p ∷ [] → BreaksAt X p.syms ts rest → Unfit X ts rest
 sole_no {X = X} {p = p} {ts = ts} e r = rule_refused X 0 p ts _ (ap (λ (ps : List (Rule X)). slice_get ps 0) e) (only_one X p (ahead ts) e) r
 
 -- no production begins with what is ahead

@@ -16,7 +16,7 @@ use Rattle.lucy_grammar.specs.Symbols.{part, Program, Vals}
 use Rattle.lucy_grammar.specs.Deriving.{value, spelled}
 use Rattle.lucy_grammar.specs.Programs.{IsProgram, BeginsProgram}
 use Rattle.lucy_grammar.specs.Texts.{HasTree, IsUnfitText, IsRefused, error_at}
-use Rattle.lucy_grammar.specs.Why.{IsUnexpected, IsWhole, IsWhy}
+use Rattle.lucy_grammar.specs.Why.{IsUnexpected, IsWholeProgram, IsWhy}
 use Rattle.lucy_grammar.proofs.Deriving.{of_derivation}
 use Rattle.lucy_grammar.proofs.Completions.{some_part}
 use Rattle.lucy_grammar.proofs.Whole.{one_tree, front_begins, Longer, compared}
@@ -25,7 +25,7 @@ pub begins_whole : (ts : List Token) (p : ProgramTree) → IsProgram ts p → Be
 begins_whole ts p h = (p, [], (let P : List Token → Type 0 = λ u. IsProgram u p in subst P (sym (append-nil ts)) h))
 
 -- a text whose tokens are a program has a tree
-pub has_tree : (text : List ℕ) (ts : List Token) (stop : Stop) (p : ProgramTree) → length text ≤ limit_number limit.Text → Cuts 0 [] text ts stop → IsWhole ts stop p → HasTree text p
+pub has_tree : (text : List ℕ) (ts : List Token) (stop : Stop) (p : ProgramTree) → length text ≤ limit_number limit.Text → Cuts 0 [] text ts stop → IsWholeProgram ts stop p → HasTree text p
 has_tree text ts (End n) p short cut h = record { short = short; tokens = ts; end = n; cut = cut; program = h }
 has_tree text ts (Fault e) p short cut h = absurd h
 
@@ -115,7 +115,7 @@ unfit_text text ts stop e short cut (inr s) = record {
   cut = subst (λ u. Cuts 0 [] text u stop) (sym (append-nil ts)) cut;
   fits = s.fits;
   stops = λ t more is b. absurd cc;
-  none = λ p h. s.none p (subst (λ u. IsWhole ts u p) (one_cut h.cut cut).1 (subst (λ u. IsProgram u p) (one_cut h.cut cut).0 h.program));
+  none = λ p h. s.none p (subst (λ u. IsWholeProgram ts u p) (one_cut h.cut cut).1 (subst (λ u. IsProgram u p) (one_cut h.cut cut).0 h.program));
   error = s.error;
 }
 
@@ -154,7 +154,7 @@ first_unfit stop front (t ∷ back) ts is fits all none =
     either (inr h) next = none (Unexpected t.span.from) (inl (record { front = front; at = t; more = back; whole = is; fits = fits; stops = h; error = refl }))
 
 -- tokens that stop here are a program, or are refused
-some_why : (ts : List Token) (stop : Stop) → ((p : ProgramTree) → IsWhole ts stop p → ⊥) → ((e : SyntaxError) → IsWhy ts stop e → ⊥) → ⊥
+some_why : (ts : List Token) (stop : Stop) → ((p : ProgramTree) → IsWholeProgram ts stop p → ⊥) → ((e : SyntaxError) → IsWhy ts stop e → ⊥) → ⊥
 some_why ts stop whole none =
     first_unfit stop [] ts ts refl nothing_begins (λ fits. none (error_at [] stop) (inr (record { fits = fits; none = whole; error = refl }))) none
 

@@ -4,7 +4,7 @@ use Rattle.lucy_token.specs.declared.token.Token.{Token}
 use Rattle.lucy_grammar.specs.Kinds.{ahead, Sort, Fits, sort_numbers}
 use Rattle.lucy_grammar.specs.Symbols.{Part, Sym, token, Vals}
 use Rattle.lucy_grammar.specs.Deriving.{Deriv, done, take, spelled, value}
-use Rattle.lucy_grammar.specs.Reading.{Takes, Refuses}
+use Rattle.lucy_grammar.specs.Reading.{Takes, BreaksAt}
 use Rattle.lucy_grammar.specs.Sets.{within}
 use Rattle.lucy_grammar.proofs.Numbers.{fits_number}
 use Rattle.lucy_grammar.proofs.Table.{good}
@@ -45,7 +45,7 @@ never_token : (k : Sort) (syms : List Sym) (t : Token) (front z : List Token) (d
 never_token k syms t front z (take u h b) tail rest e = let more : front ++ z ≡ spelled b ++ tail = cc in rest b more
 
 pub token_then_refused : (X : Part) (k : Sort) (syms : List Sym) (t : Token) (ts rest : List Token) → Fits k t.what →
-    Refuses X syms ts rest → Refuses X (token k ∷ syms) (t ∷ ts) rest
+    BreaksAt X syms ts rest → BreaksAt X (token k ∷ syms) (t ∷ ts) rest
 token_then_refused X k syms t ts rest e r = record {
   front = t ∷ r.front;
   whole = ap (λ u. t ∷ u) r.whole;
@@ -57,7 +57,7 @@ token_then_refused X k syms t ts rest e r = record {
 never_other : (k : Sort) (syms : List Sym) (z : List Token) (d : Deriv (token k ∷ syms)) (tail : List Token) → z ≡ spelled d ++ tail → within (ahead z) (sort_numbers k) ≡ true
 never_other k syms z (take u h b) tail e = subst (λ (x : List Token). within (ahead x) (sort_numbers k) ≡ true) (sym e) (fits_number k u.what h)
 
-pub token_refused : (X : Part) (k : Sort) (syms : List Sym) (ts : List Token) → good X (token k ∷ syms) ≡ true → (within (ahead ts) (sort_numbers k) ≡ true → ⊥) → Refuses X (token k ∷ syms) ts ts
+pub token_refused : (X : Part) (k : Sort) (syms : List Sym) (ts : List Token) → good X (token k ∷ syms) ≡ true → (within (ahead ts) (sort_numbers k) ≡ true → ⊥) → BreaksAt X (token k ∷ syms) ts ts
 token_refused X k syms ts g other = record {
   front = [];
   whole = refl;

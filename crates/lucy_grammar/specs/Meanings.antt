@@ -13,28 +13,28 @@ use Rattle.lucy_token.specs.declared.token.Token.{Token}
 use Rattle.lucy_grammar.specs.Symbols.{Link}
 
 -- the bytes of a name's token
-abbrev pub bytes_of : What → List ℕ
-bytes_of (what.Name bytes) = bytes
-bytes_of w = []
+abbrev pub name_bytes : What → List ℕ
+name_bytes (what.Name bytes) = bytes
+name_bytes w = []
 
 -- the name that a token is
-abbrev pub name_of : Token → Name
-name_of t = record { text = bytes_of t.what; span = t.span }
+abbrev pub token_name : Token → Name
+token_name t = record { text = name_bytes t.what; span = t.span }
 
 -- the literal that a number's token is
-abbrev pub number_of : What → Lit
-number_of (what.Number n) = lit.Int n
-number_of w = lit.Int (pos 0)
+abbrev pub token_number : What → Lit
+token_number (what.Number n) = lit.Int n
+token_number w = lit.Int (pos 0)
 
 -- the bound that a number's token is
-abbrev pub bound_of : What → ℕ
-bound_of (what.Number (pos n)) = n
-bound_of w = 0
+abbrev pub token_bound : What → ℕ
+token_bound (what.Number (pos n)) = n
+token_bound w = 0
 
 -- the bits that a word's token stands for
-abbrev pub word_of : What → Bits
-word_of (what.Word w) = w
-word_of v = record { prefix = []; period = [] }
+abbrev pub token_word : What → Bits
+token_word (what.Word w) = w
+token_word v = record { prefix = []; period = [] }
 
 -- two operands
 abbrev pub two : Tree → Tree → Trees

@@ -25,8 +25,8 @@ use Rattle.lucy_token.specs.Before.{wants_word}
 use Rattle.lucy_grammar.specs.Print.{when_mark}
 
 -- the name may stand somewhere
-abbrev pub IsNamed : (Kind → What → Type 0) → Name → Type 0
-IsNamed Q name = (k : Kind) × Q k (what.Name name.text)
+abbrev pub MayBeNamed : (Kind → What → Type 0) → Name → Type 0
+MayBeNamed Q name = (k : Kind) × Q k (what.Name name.text)
 
 -- a number may stand somewhere; a truth always may
 abbrev pub IsLit : (Kind → What → Type 0) → Lit → Type 0
@@ -34,9 +34,9 @@ IsLit Q (lit.Int n) = (k : Kind) × Q k (what.Number n)
 IsLit Q (lit.Bool b) = Unit {0}
 
 -- the bound, where one is written, is one and may stand somewhere
-abbrev pub IsHeld : (Kind → What → Type 0) → Option ℕ → Type 0
-IsHeld Q None = Unit {0}
-IsHeld Q (Some n) = (n ≤ most_bound) × IsLit Q (lit.Int (pos n))
+abbrev pub MayBeBound : (Kind → What → Type 0) → Option ℕ → Type 0
+MayBeBound Q None = Unit {0}
+MayBeBound Q (Some n) = (n ≤ most_bound) × IsLit Q (lit.Int (pos n))
 
 -- the word, where one is written, may stand after the mark
 abbrev pub IsWordBehind : (Kind → What → Type 0) → Mark → Option Bits → Type 0
@@ -47,14 +47,14 @@ abbrev mutual
   -- every name, number and word of the tree may stand somewhere, and each operator has as many operands as it takes
   pub IsPrintable : (Kind → What → Type 0) → Tree → Type 0
   IsPrintable Q (literal l span) = IsLit Q l
-  IsPrintable Q (variable name) = IsNamed Q name
+  IsPrintable Q (variable name) = MayBeNamed Q name
   IsPrintable Q (operator o args span) = (length (list_of args) ≡ arity o) × ArePrintable Q args
-  IsPrintable Q (host name args) = IsNamed Q name × ((length (list_of args) ≡ 2) × ArePrintable Q args)
+  IsPrintable Q (host name args) = MayBeNamed Q name × ((length (list_of args) ≡ 2) × ArePrintable Q args)
   IsPrintable Q (sampled flip e w) = IsPrintable Q e × IsWordBehind Q (when_mark flip) (Some w)
   IsPrintable Q (merged w a b span) = IsWordBehind Q mark.Merge (Some w) × (IsPrintable Q a × IsPrintable Q b)
   IsPrintable Q (followed l e span) = IsLit Q l × IsPrintable Q e
-  IsPrintable Q (buffered most e span) = IsHeld Q most × IsPrintable Q e
-  IsPrintable Q (call name at args) = IsNamed Q name × (IsWordBehind Q mark.At at × ArePrintable Q args)
+  IsPrintable Q (buffered most e span) = MayBeBound Q most × IsPrintable Q e
+  IsPrintable Q (call name at args) = MayBeNamed Q name × (IsWordBehind Q mark.At at × ArePrintable Q args)
 
   -- and so of each tree of a list
   pub ArePrintable : (Kind → What → Type 0) → Trees → Type 0
@@ -68,7 +68,7 @@ AllOfSome P (x ∷ xs) = P x × AllByRecursion P xs
 
 -- the name may stand somewhere, and its clock behind `::`
 abbrev pub IsPrintableDecl : (Kind → What → Type 0) → Decl → Type 0
-IsPrintableDecl Q d = IsNamed Q d.name × IsWordBehind Q mark.Colons d.word
+IsPrintableDecl Q d = MayBeNamed Q d.name × IsWordBehind Q mark.Colons d.word
 
 -- both sides can be printed, and the right one defines as many names as stand left
 pub record IsPrintableDef (Q : Kind → What → Type 0) (d : DefTree) : Type 0 where
@@ -78,9 +78,9 @@ pub record IsPrintableDef (Q : Kind → What → Type 0) (d : DefTree) : Type 0 
 
 -- its name, its parameters, its results, of which there is one at least, and its definitions can be printed
 pub record IsPrintableNode (Q : Kind → What → Type 0) (n : NodeTree) : Type 0 where
-  pub name : IsNamed Q n.name
+  pub name : MayBeNamed Q n.name
   pub params : AllByRecursion (IsPrintableDecl Q) n.params
-  pub results : AllOfSome (IsNamed Q) n.results
+  pub results : AllOfSome (MayBeNamed Q) n.results
   pub defs : AllByRecursion (IsPrintableDef Q) n.defs
 
 -- there is a node, and each can be printed

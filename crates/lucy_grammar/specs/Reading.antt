@@ -196,7 +196,7 @@ pub record Takes (X : Part) (syms : List Sym) (ts : List Token) (vs : Vals syms)
   pub only : (z : List Token) → ahead z ≡ ahead rest → (d : Deriv syms) (tail : List Token) → Follows X tail → front ++ z ≡ spelled d ++ tail → (value d ≡ vs) × (tail ≡ z)
 
 -- The tokens before `rest` begin the symbols, and with the first token of `rest` they don't, however they go on.
-pub record Refuses (X : Part) (syms : List Sym) (ts : List Token) (rest : List Token) : Type 0 where
+pub record BreaksAt (X : Part) (syms : List Sym) (ts : List Token) (rest : List Token) : Type 0 where
   pub front : List Token
   pub whole : ts ≡ front ++ rest
   pub completes : (d : Deriv syms) × (after : List Token) × (spelled d ≡ front ++ after)
@@ -208,7 +208,7 @@ Reads X ts v rest = Takes X (part X ∷ []) ts (v, tt) rest
 
 -- no part is read: the first token of `rest` is the first that doesn't fit
 abbrev pub Unfit : Part → List Token → List Token → Type 0
-Unfit X ts rest = Refuses X (part X ∷ []) ts rest
+Unfit X ts rest = BreaksAt X (part X ∷ []) ts rest
 
 -- a part begins here
 abbrev pub IsBegun : Part → List Token → Type 0

@@ -20,14 +20,14 @@ pub record IsUnexpected (ts : List Token) (e : SyntaxError) : Type 0 where
   pub error : e ≡ Unexpected at.span.from
 
 -- the text ends with these tokens, and they are this program
-abbrev pub IsWhole : List Token → Stop → ProgramTree → Type 0
-IsWhole ts (End n) p = IsProgram ts p
-IsWhole ts (Fault e) p = ⊥
+abbrev pub IsWholeProgram : List Token → Stop → ProgramTree → Type 0
+IsWholeProgram ts (End n) p = IsProgram ts p
+IsWholeProgram ts (Fault e) p = ⊥
 
 -- all tokens fit, and no program stops where they stop
 pub record IsStopped (ts : List Token) (stop : Stop) (e : SyntaxError) : Type 0 where
   pub fits : BeginsProgram ts
-  pub none : (p : ProgramTree) → IsWhole ts stop p → ⊥
+  pub none : (p : ProgramTree) → IsWholeProgram ts stop p → ⊥
   pub error : e ≡ error_at [] stop
 
 -- why tokens are refused, that stop here

@@ -20,7 +20,7 @@ use Rattle.lucy_check.specs.Passing.{AllWithinLimits, IsFirstRefusal, OrNoMemory
 use Rattle.lucy_check.specs.declared.fault.CheckFault.{CheckFault}
 use Rattle.lucy_check.specs.declared.fault.CheckFault.TheVariants as check
 use Rattle.lucy_check.proofs.CheckLaws.{passes_all, all_within}
-use Rattle.lucy_solve.specs.System.{System, IsEarliest, IsReady, most_inequalities}
+use Rattle.lucy_solve.specs.System.{System, IsEarliest, IsGrounded, most_inequalities}
 use Rattle.lucy_solve.specs.Outcomes.{IsRefutedBy}
 use Rattle.lucy_shape.specs.declared.shape.Shape.{Shape}
 use Rattle.lucy_shape.specs.declared.shape.RateFault.{RateFault}
@@ -173,9 +173,9 @@ walk_as needs (fault.Limit l) is walk same = absurd (cc)
 walk_as needs fault.OutOfMemory is walk same = absurd (cc)
 
 -- there are no clocks in the shape
-pub no_clocks : (needs : Needs) (shape : Shape) (diffs : System) (cycle : Vec ℕ Global) → AllByRecursion HasWords needs.list → IsShapeFor needs shape → diffs ≡ system_of needs shape → IsReady diffs →
+pub no_clocks : (needs : Needs) (shape : Shape) (diffs : System) (cycle : Vec ℕ Global) → AllByRecursion HasWords needs.list → IsShapeFor needs shape → diffs ≡ system_of needs shape → IsGrounded diffs →
     IsRefutedBy diffs cycle.items → OrNoMemory (RefusesIn needs shape) (Clocks shape diffs cycle)
 no_clocks needs shape diffs cycle words carries same ready refuted =
-    let few : AreFewInequalities needs shape = (subst IsReady same ready).few in
+    let few : AreFewInequalities needs shape = (subst IsGrounded same ready).few in
     let both : IsRefutedBy (system_of needs shape) cycle.items = subst (λ s. IsRefutedBy s cycle.items) same refuted in
     inr (refl, same, record { inequalities = few; shown = both.0; none = no_assignment needs shape words carries both.1 })

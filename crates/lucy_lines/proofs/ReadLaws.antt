@@ -17,8 +17,8 @@ use Rattle.lucy_lines.specs.Fields.{fields}
 use Rattle.lucy_lines.specs.Kinds.{FieldsSay}
 use Rattle.lucy_lines.specs.Cuts.{Held, bytes_taken, with_more, ItemOf, refusal}
 use Rattle.lucy_lines.specs.Nexts.{Answer, Gives, Refuses, Wants, Next, blank, item, refused, long, too_long, wants}
-use Rattle.lucy_lines.specs.Reading.{ReaderState, Answers, Asked, Took, most_taken, OfItem, Blames, IsDecided}
-use Rattle.lucy_lines.specs.Steps.{HeldAnswers, Reads}
+use Rattle.lucy_lines.specs.Reading.{ReaderState, AnswersNext, Asked, Took, most_taken, OfItem, Blames, IsDecided}
+use Rattle.lucy_lines.specs.Steps.{HeldAnswers, IsOneRead}
 use Rattle.lucy_lines.proofs.FrontLaws.{line_within, open_within}
 use Rattle.lucy_lines.proofs.CutLaws.{next_one, next_more}
 
@@ -84,7 +84,7 @@ follows_now inputs was now taken closed a f n =
     subst Q (append-nil taken) (f closed [] a (subst P (sym (append-nil now.rest)) n))
 
 -- the answer of what is held is the answer of the call
-pub answers_now : (r : ReaderState) (was h : Held) (taken : List ℕ) (result : Result line_type.Line TextFault) → Follows r.inputs was taken r.held → HeldAnswers r h (Some result) → Answers r.inputs r.closed (with_more was taken) h result
+pub answers_now : (r : ReaderState) (was h : Held) (taken : List ℕ) (result : Result line_type.Line TextFault) → Follows r.inputs was taken r.held → HeldAnswers r h (Some result) → AnswersNext r.inputs r.closed (with_more was taken) h result
 answers_now r was h taken (Ok (Item s v)) f n = follows_now r.inputs was r.held taken r.closed (Gives (record { stream = s; value = v }) h) f n
 answers_now r was h taken (Ok End) f (e, n) =
     let P : Bool → Type 0 = λ u. Next r.inputs u r.held (Wants h) in
@@ -118,12 +118,12 @@ inputs_kept : (was now : ReaderState) → Kept was now → now.inputs ≡ was.in
 inputs_kept was now k = ap (λ r. r.inputs) k
 
 pub answers_call : (was now new : ReaderState) (taken : List ℕ) (result : Result line_type.Line TextFault) → Kept was now → new ≡ record now { held = new.held } → Follows was.inputs was.held taken now.held →
-    HeldAnswers now new.held (Some result) → Answers was.inputs new.closed (with_more was.held taken) new.held result
+    HeldAnswers now new.held (Some result) → AnswersNext was.inputs new.closed (with_more was.held taken) new.held result
 answers_call was now new taken result k e f h =
     let i = inputs_kept was now k in
     let P : List InputSpec → Type 0 = λ u. Follows u was.held taken now.held in
-    let Q : List InputSpec → Type 0 = λ u. Answers u now.closed (with_more was.held taken) new.held result in
-    let R : Bool → Type 0 = λ u. Answers was.inputs u (with_more was.held taken) new.held result in
+    let Q : List InputSpec → Type 0 = λ u. AnswersNext u now.closed (with_more was.held taken) new.held result in
+    let R : Bool → Type 0 = λ u. AnswersNext was.inputs u (with_more was.held taken) new.held result in
     subst R (sym (ap (λ r. r.closed) e)) (subst Q i (answers_now now was.held new.held taken result (subst P (sym i) f) h))
 
 -- nothing was taken yet, or what was held at the call decided nothing
@@ -183,7 +183,7 @@ may_end true = 0
 may_end false = 1
 
 -- a read uses up what may still be read
-pub read_smaller : (now mid new : ReaderState) (before after : SeenSource) (bytes : List ℕ) → HeldAnswers now mid.held None → Reads mid new before after bytes →
+pub read_smaller : (now mid new : ReaderState) (before after : SeenSource) (bytes : List ℕ) → HeldAnswers now mid.held None → IsOneRead mid new before after bytes →
     most_bytes + 1 - bytes_taken new.held + may_end new.closed < most_bytes + 1 - bytes_taken now.held + may_end now.closed
 read_smaller now mid new before after bytes w r =
     let o = open_within false mid.held.used mid.held.rest (wants_open (Wants mid.held) refl w.1) in
@@ -197,7 +197,7 @@ read_smaller now mid new before after bytes w r =
       | inr p ↦ let q : may_end new.closed ≡ 0 = ap may_end p.0 in omega arith
     ]
 
-pub read_end : (mid new : ReaderState) (before after : SeenSource) (bytes : List ℕ) → Reads mid new before after bytes → new.closed ≡ true → HasEnded after
+pub read_end : (mid new : ReaderState) (before after : SeenSource) (bytes : List ℕ) → IsOneRead mid new before after bytes → new.closed ≡ true → HasEnded after
 read_end mid new before after bytes r e =
     elim r.progress [
       | inl p ↦ let no_more : true ≡ false = sym e ∙ p.0 in cc
@@ -216,7 +216,7 @@ pub nothing_yet : (was : ReaderState) (before : SeenSource) → SoFar was was be
 nothing_yet was before = record { bytes = sym (followed-nil before.left); follows = follows_none was.inputs was.held; quiet = λ e. refl; needed = inl refl; counted = omega arith }
 
 counted_read : (was now mid new : ReaderState) (before after : SeenSource) (taken bytes : List ℕ) → bytes_taken now.held ≡ bytes_taken was.held + length taken →
-    HeldAnswers now mid.held None → Reads mid new before after bytes → bytes_taken new.held ≡ bytes_taken was.held + length (taken ++ bytes)
+    HeldAnswers now mid.held None → IsOneRead mid new before after bytes → bytes_taken new.held ≡ bytes_taken was.held + length (taken ++ bytes)
 counted_read was now mid new before after taken bytes c w r =
     let same : bytes_taken mid.held ≡ bytes_taken now.held = wants_taken (Wants mid.held) refl w.1 in
     let held : bytes_taken new.held ≡ mid.held.used + length (mid.held.rest ++ bytes) = ap (λ u. bytes_taken u.held) r.held in
@@ -226,7 +226,7 @@ counted_read was now mid new before after taken bytes c w r =
 
 -- the bytes of a call so far, one read on
 pub read_on : {S : Type 0} (was now mid new : ReaderState) (source left : S) (before between after : SeenSource) (taken bytes : List ℕ) → Kept was now → Fresh was now source left →
-    SoFar was now before between taken → HeldAnswers now mid.held None → Reads mid new between after bytes → SoFar was new before after (taken ++ bytes)
+    SoFar was now before between taken → HeldAnswers now mid.held None → IsOneRead mid new between after bytes → SoFar was new before after (taken ++ bytes)
 read_on was now mid new source left before between after taken bytes k f s w r =
     let open_call = (asks was now source left mid.held f w).0 in
     record {
@@ -259,7 +259,7 @@ took_fault was now mid new source left before between after taken k f s w e d b 
       answer = fault_answers was now new taken mid.held k s.follows w (d ∙ e);
     }
 
-within_answer : (inputs : List InputSpec) (closed : Bool) (was now : Held) (result : Result line_type.Line TextFault) → Answers inputs closed was now result → bytes_taken now ≤ most_bytes + 1 → bytes_taken now ≤ most_taken result
+within_answer : (inputs : List InputSpec) (closed : Bool) (was now : Held) (result : Result line_type.Line TextFault) → AnswersNext inputs closed was now result → bytes_taken now ≤ most_bytes + 1 → bytes_taken now ≤ most_taken result
 within_answer inputs closed was now (Ok (Item s v)) a w = w
 within_answer inputs closed was now (Ok End) a w = let o = open_within closed now.used now.rest (wants_open (Wants now) refl a.1) in o.room
 within_answer inputs closed was now (Err ReadFault) a w = let o = open_within closed now.used now.rest (wants_open (Wants now) refl a.1) in o.room

@@ -13,7 +13,7 @@ use Rattle.lucy_lines.specs.declared.kind.Kind.TheVariants as kind
 use Rattle.lucy_lines.specs.declared.reader.Step.{Step}
 use Rattle.lucy_lines.specs.declared.reader.Step.TheVariants as step
 use Rattle.lucy_lines.specs.Fronts.{front_of}
-use Rattle.lucy_lines.specs.Values.{Spells}
+use Rattle.lucy_lines.specs.Values.{SpellsValue}
 use Rattle.lucy_lines.specs.Fields.{fields}
 use Rattle.lucy_lines.specs.Kinds.{IsKind, FieldsSay}
 use Rattle.lucy_lines.specs.Cuts.{Held}
@@ -22,7 +22,7 @@ use Rattle.lucy_lines.proofs.FrontLaws.{line_within}
 use Rattle.lucy_lines.specs.Reading.{ReaderState}
 use Rattle.lucy_lines.specs.Steps.{Steps, step_at, behind}
 
-pub spells_fits : (holds : DataType) (bytes : List ℕ) (v : ℤ) → Spells holds bytes v → FitsSigned w64 v
+pub spells_fits : (holds : DataType) (bytes : List ℕ) (v : ℤ) → SpellsValue holds bytes v → FitsSigned w64 v
 spells_fits data_type.Int bytes v h = let P : ℤ → Type 0 = λ u. FitsSigned w64 u in subst P (sym h.2) h.1
 spells_fits data_type.Bool bytes v (inl h) = let P : ℤ → Type 0 = λ u. FitsSigned w64 u in subst P (sym h.1) (sfits_lit tt)
 spells_fits data_type.Bool bytes v (inr h) = let P : ℤ → Type 0 = λ u. FitsSigned w64 u in subst P (sym h.1) (sfits_lit tt)

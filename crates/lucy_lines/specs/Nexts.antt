@@ -31,8 +31,8 @@ pub data Next (inputs : List InputSpec) (closed : Bool) : Held → Answer → Ty
 
 -- Items that came in turn, each from what was held with more bytes, until the end of the bytes was met. All bytes that were taken,
 -- and what is held behind the items.
-pub data Turns (inputs : List InputSpec) : Bool → Held → List ItemOf → List ℕ → Held → Bool → Type 0 where
-  first : {closed : Bool} {h : Held} → Turns inputs closed h [] [] h closed
+pub data CameInTurn (inputs : List InputSpec) : Bool → Held → List ItemOf → List ℕ → Held → Bool → Type 0 where
+  first : {closed : Bool} {h : Held} → CameInTurn inputs closed h [] [] h closed
   turn : {was then now : Bool} {h g k : Held} {bytes taken : List ℕ} {i : ItemOf} {items : List ItemOf} →
       Next inputs then (with_more h bytes) (Gives i g) → (was ≡ true → (bytes ≡ []) × (then ≡ true)) →
-      Turns inputs then g items taken k now → Turns inputs was h (i ∷ items) (bytes ++ taken) k now
+      CameInTurn inputs then g items taken k now → CameInTurn inputs was h (i ∷ items) (bytes ++ taken) k now

@@ -22,14 +22,14 @@ abbrev pub new_reader : List InputSpec → ReaderState
 new_reader inputs = record { inputs = inputs; held = record { lines = 0; used = 0; rest = [] }; closed = false; ended = false }
 
 -- the answer of a call, before which this was held with the bytes that the call took
-abbrev pub Answers : List InputSpec → Bool → Held → Held → Result line_type.Line TextFault → Type 0
-Answers inputs closed was now (Ok (Item s v)) = Next inputs closed was (Gives (record { stream = s; value = v }) now)
-Answers inputs closed was now (Ok End) = (closed ≡ true) × Next inputs closed was (Wants now)
-Answers inputs closed was now (Err ReadFault) = (closed ≡ false) × Next inputs closed was (Wants now)
-Answers inputs closed was now (Err (BadLine n)) = Next inputs closed was (Refuses (BadLine n))
-Answers inputs closed was now (Err (UnknownStream n)) = Next inputs closed was (Refuses (UnknownStream n))
-Answers inputs closed was now (Err (BadValue n)) = Next inputs closed was (Refuses (BadValue n))
-Answers inputs closed was now (Err TooLong) = Next inputs closed was (Refuses TooLong)
+abbrev pub AnswersNext : List InputSpec → Bool → Held → Held → Result line_type.Line TextFault → Type 0
+AnswersNext inputs closed was now (Ok (Item s v)) = Next inputs closed was (Gives (record { stream = s; value = v }) now)
+AnswersNext inputs closed was now (Ok End) = (closed ≡ true) × Next inputs closed was (Wants now)
+AnswersNext inputs closed was now (Err ReadFault) = (closed ≡ false) × Next inputs closed was (Wants now)
+AnswersNext inputs closed was now (Err (BadLine n)) = Next inputs closed was (Refuses (BadLine n))
+AnswersNext inputs closed was now (Err (UnknownStream n)) = Next inputs closed was (Refuses (UnknownStream n))
+AnswersNext inputs closed was now (Err (BadValue n)) = Next inputs closed was (Refuses (BadValue n))
+AnswersNext inputs closed was now (Err TooLong) = Next inputs closed was (Refuses TooLong)
 
 -- the most bytes that one read takes
 abbrev pub most_read : ℕ
@@ -46,7 +46,7 @@ pub record Took (was now : ReaderState) (before after : SeenSource) (result : Re
   pub quiet : was.closed ≡ true → (taken ≡ []) × (now.closed ≡ true)
   pub needed : (taken ≡ []) ⊎ Asked was taken
   pub counted : bytes_taken now.held ≡ bytes_taken was.held + length taken
-  pub answer : Answers was.inputs now.closed (with_more was.held taken) now.held result
+  pub answer : AnswersNext was.inputs now.closed (with_more was.held taken) now.held result
 
 -- How many bytes may have been taken in all where this is answered: as many as an input may have, and one more where a line was
 -- decided.
@@ -76,6 +76,6 @@ Blames before now (Err ReadFault) = Rose before now
 Blames before now r = now ≡ before
 
 -- where no call of the source had stopped, none has; told of every answer but a read fault
-abbrev pub GoesOn : (before now : Option ℕ) → Result line_type.Line TextFault → Type 0
-GoesOn before now (Err ReadFault) = Unit {0}
-GoesOn before now r = before ≡ Some 0 → now ≡ Some 0
+abbrev pub KeepsGoing : (before now : Option ℕ) → Result line_type.Line TextFault → Type 0
+KeepsGoing before now (Err ReadFault) = Unit {0}
+KeepsGoing before now r = before ≡ Some 0 → now ≡ Some 0

@@ -25,7 +25,7 @@ step_at n kind.Unknown = step.Fault (UnknownStream n)
 step_at n kind.NotValue = step.Fault (BadValue n)
 
 -- the line at the front of what is held has so many bytes before its end, so many with it, and says this
-pub record Says (r : ReaderState) (k : kind_type.Kind) (content length : ℕ) : Type 0 where
+pub record LineSays (r : ReaderState) (k : kind_type.Kind) (content length : ℕ) : Type 0 where
   pub line : front_of r.closed r.held.used r.held.rest ≡ front.Line content length
   pub said : IsKind r.inputs (take content r.held.rest) k
 
@@ -35,8 +35,8 @@ behind r length = record r { held = past r.held length }
 
 -- what the line at the front of what is held gives
 abbrev pub Steps : (old new : ReaderState) → step_type.Step → Type 0
-Steps old new step.Blank = (content length : ℕ) × Says old kind.Blank content length × (new ≡ behind old length)
-Steps old new (step.Item s v) = (content length : ℕ) × Says old (kind.Item s v) content length × (new ≡ behind old length)
+Steps old new step.Blank = (content length : ℕ) × LineSays old kind.Blank content length × (new ≡ behind old length)
+Steps old new (step.Item s v) = (content length : ℕ) × LineSays old (kind.Item s v) content length × (new ≡ behind old length)
 Steps old new (step.Fault f) = Next old.inputs old.closed old.held (Refuses f) × (new ≡ record old { held = new.held })
 Steps old new step.Open = (front_of old.closed old.held.used old.held.rest ≡ front.Open) × (new ≡ old)
 
@@ -48,7 +48,7 @@ HeldAnswers r h (Some (Ok End)) = (r.closed ≡ true) × Next r.inputs true r.he
 HeldAnswers r h (Some (Err f)) = Next r.inputs r.closed r.held (Refuses f)
 
 -- One read: it took these bytes behind those that were held, or none at the end, which is noted then.
-pub record Reads (old new : ReaderState) (before after : SeenSource) (taken : List ℕ) : Type 0 where
+pub record IsOneRead (old new : ReaderState) (before after : SeenSource) (taken : List ℕ) : Type 0 where
   pub bytes : GaveBytes before after taken
   pub few : length taken ≤ most_read
   pub held : new ≡ record old { held = with_more old.held taken; closed = new.closed }

@@ -3,8 +3,8 @@ ghost use Rattle.lucy_text.specs.Outside.{HasEnded, HasCause, NoneFollows};
 ghost use Rattle.lucy_lines.specs.Fronts.{most_bytes, run, front_of};
 ghost use Rattle.lucy_lines.specs.Cuts.{Held, bytes_taken, with_more, past};
 ghost use Rattle.lucy_lines.specs.Nexts.{Answer, Next};
-ghost use Rattle.lucy_lines.specs.Reading.{ReaderState, new_reader, Took, Blames, GoesOn, most_taken, OfItem, IsDecided, IsLast};
-ghost use Rattle.lucy_lines.specs.Steps.{step_at, Steps, Says, HeldAnswers, Reads};
+ghost use Rattle.lucy_lines.specs.Reading.{ReaderState, new_reader, Took, Blames, KeepsGoing, most_taken, OfItem, IsDecided, IsLast};
+ghost use Rattle.lucy_lines.specs.Steps.{step_at, Steps, LineSays, HeldAnswers, IsOneRead};
 
 use crate::InputSpec;
 use crate::buffer::{Buffer, READ};
@@ -165,7 +165,7 @@ impl InputReader {
     // Takes bytes by one read.
     fn take<I: Source>(&mut self, source: &mut I) -> Result<(), Failed>
         requires { front_of false self.old.held.used self.old.held.rest ≡ Front.Open }
-        ensures ok { IfOk result (λ _. (taken : List ℕ) × Reads self.old self.new (I.seen source.old) (I.seen source.new) taken) }
+        ensures ok { IfOk result (λ _. (taken : List ℕ) × IsOneRead self.old self.new (I.seen source.old) (I.seen source.new) taken) }
         ensures err { OnErr result ((self.new ≡ self.old) × ((I.seen source.new).left ≡ (I.seen source.old).left)) }
         ensures goes_on { OnOk result (self.new.closed ≡ false → (I.seen source.old).since_stop ≡ Some 0 → (I.seen source.new).since_stop ≡ Some 0) }
         ensures none_follows { NoneFollows (I.seen source.old).since_stop (I.seen source.new).since_stop }
@@ -186,7 +186,7 @@ impl InputReader {
         ensures unread { IsTrue self.old.closed → source.new ≡ source.old }
         ensures needed { (a : Answer) → Next self.old.inputs self.old.closed self.old.held a → IsDecided a → source.new ≡ source.old }
         ensures at_end { self.old.closed ≡ false → self.new.closed ≡ true → HasEnded (I.seen source.new) }
-        ensures goes_on { self.new.closed ≡ false → GoesOn (I.seen source.old).since_stop (I.seen source.new).since_stop result }
+        ensures goes_on { self.new.closed ≡ false → KeepsGoing (I.seen source.old).since_stop (I.seen source.new).since_stop result }
         ensures none_follows { NoneFollows (I.seen source.old).since_stop (I.seen source.new).since_stop }
         ensures cause { Blames (I.seen source.old).faults (I.seen source.new).faults result }
         ensures count { (I.seen source.old).faults ≤ (I.seen source.new).faults }
@@ -220,7 +220,7 @@ impl InputReader {
         ensures unread { IsTrue self.old.closed → source.new ≡ source.old }
         ensures needed { (a : Answer) → Next self.old.inputs self.old.closed self.old.held a → IsDecided a → source.new ≡ source.old }
         ensures at_end { self.old.closed ≡ false → self.new.closed ≡ true → HasEnded (I.seen source.new) }
-        ensures goes_on { self.new.closed ≡ false → GoesOn (I.seen source.old).since_stop (I.seen source.new).since_stop result }
+        ensures goes_on { self.new.closed ≡ false → KeepsGoing (I.seen source.old).since_stop (I.seen source.new).since_stop result }
         ensures none_follows { NoneFollows (I.seen source.old).since_stop (I.seen source.new).since_stop }
         ensures cause { Blames (I.seen source.old).faults (I.seen source.new).faults result }
         ensures count { (I.seen source.old).faults ≤ (I.seen source.new).faults }

@@ -12,13 +12,13 @@ use Rattle.lucy_lines.specs.declared.input.InputSpec.{InputSpec}
 use Rattle.lucy_lines.specs.declared.reader.TextFault.{TextFault}
 use Rattle.lucy_lines.specs.declared.reader.TextFault.TheVariants.{BadLine, UnknownStream, BadValue, ReadFault, TooLong}
 use Rattle.lucy_feed.specs.declared.feeds.Feed.{Feed}
-use Rattle.lucy_feed.specs.Sources.{Stop, Ended, Failed, Open, Drained, StoppedAt, Read}
+use Rattle.lucy_text.specs.Sources.{ReadStop, Ended, Failed, Open, Drained, StoppedAt, Read}
 use Rattle.lucy_feed.specs.Feeding.{is_closed, StopsFor, IsFeedOf, IsFeed}
 use Rattle.lucy_run.specs.Feeds.{Feeds}
 
 -- a feed of all of this input
 abbrev IsWholeFeed : List InputSpec → (input : List ℕ) → Feed → Type 0
-IsWholeFeed inputs input feed = (stop : Stop) × IsTrue (is_closed stop) × IsFeed inputs input stop (Ok feed)
+IsWholeFeed inputs input feed = (stop : ReadStop) × IsTrue (is_closed stop) × IsFeed inputs input stop (Ok feed)
 
 module _ (law : CutInPieces) (inputs : List InputSpec) (input rest taken : List ℕ) (before after : SeenSource) (held : before.left ≡ Some input) (left : after.left ≡ Some rest)
     (steady : before.faults ≡ 0) (still : after.faults ≡ 0) where
@@ -30,9 +30,9 @@ module _ (law : CutInPieces) (inputs : List InputSpec) (input rest taken : List 
       let none : rest ≡ [] = subst AtEnd left end in
       sym (append-nil taken) ∙ ap (λ u. taken ++ u) (sym none) ∙ all_taken took
 
-  moved : (stop other : Stop) (items : List ItemOf) (halt : Halt) (feed : Feed) → stop ≡ other → taken ≡ input → IsFeedOf inputs taken stop items halt feed → IsFeedOf inputs input other items halt feed
+  moved : (stop other : ReadStop) (items : List ItemOf) (halt : Halt) (feed : Feed) → stop ≡ other → taken ≡ input → IsFeedOf inputs taken stop items halt feed → IsFeedOf inputs input other items halt feed
   moved stop other items halt feed e same is =
-      let P : Stop → Type 0 = λ s. IsFeedOf inputs input s items halt feed in
+      let P : ReadStop → Type 0 = λ s. IsFeedOf inputs input s items halt feed in
       let Q : List ℕ → Type 0 = λ t. IsFeedOf inputs t stop items halt feed in
       subst P e (subst Q same is)
 
@@ -49,29 +49,29 @@ module _ (law : CutInPieces) (inputs : List InputSpec) (input rest taken : List 
         stopped = subst Q (sym e) stops;
       }
 
-  refused : (fault : TextFault) (stop : Stop) (items : List ItemOf) (halt : Halt) (feed : Feed) → Read most_bytes before after taken stop → StopsFor (Some fault) Drained → feed.stop ≡ Some fault →
+  refused : (fault : TextFault) (stop : ReadStop) (items : List ItemOf) (halt : Halt) (feed : Feed) → Read most_bytes before after taken stop → StopsFor (Some fault) Drained → feed.stop ≡ Some fault →
       IsFeedOf inputs taken stop items halt feed → (stop ≡ Drained) ⊎ (stop ≡ Open) → IsWholeFeed inputs input feed
   refused fault stop items halt feed read stops e is (inl drained) =
-      let P : Stop → Type 0 = λ s. StoppedAt most_bytes before after taken s in
+      let P : ReadStop → Type 0 = λ s. StoppedAt most_bytes before after taken s in
       let so : StoppedAt most_bytes before after taken Drained = subst P drained read.stopped in
       (Drained, refl, (items, halt, moved stop Drained items halt feed drained (at_end read.took so.1.0) is))
   refused fault stop items halt feed read stops e is (inr given_up) =
-      let P : Stop → Type 0 = λ s. IsFeedOf inputs taken s items halt feed in
+      let P : ReadStop → Type 0 = λ s. IsFeedOf inputs taken s items halt feed in
       (Drained, refl, (items, halt, open_fed fault items halt feed (all_taken read.took) stops e (subst P given_up is)))
 
-  stopped_for : (feed : Feed) (fault : Option TextFault) (stop : Stop) → feed.stop ≡ fault → StopsFor feed.stop stop → StopsFor fault stop
+  stopped_for : (feed : Feed) (fault : Option TextFault) (stop : ReadStop) → feed.stop ≡ fault → StopsFor feed.stop stop → StopsFor fault stop
   stopped_for feed fault stop e h = (let P : Option TextFault → Type 0 = λ o. StopsFor o stop in subst P e h)
 
-  whole_for : (fault : Option TextFault) (stop : Stop) (items : List ItemOf) (halt : Halt) (feed : Feed) → feed.stop ≡ fault → Read most_bytes before after taken stop →
+  whole_for : (fault : Option TextFault) (stop : ReadStop) (items : List ItemOf) (halt : Halt) (feed : Feed) → feed.stop ≡ fault → Read most_bytes before after taken stop →
       IsFeedOf inputs taken stop items halt feed → IsWholeFeed inputs input feed
   whole_for None stop items halt feed e read is =
       let ended : stop ≡ Ended = stopped_for feed None stop e is.stopped in
-      let P : Stop → Type 0 = λ s. StoppedAt most_bytes before after taken s in
+      let P : ReadStop → Type 0 = λ s. StoppedAt most_bytes before after taken s in
       let so : StoppedAt most_bytes before after taken Ended = subst P ended read.stopped in
       (Ended, refl, (items, halt, moved stop Ended items halt feed ended (at_end read.took so.1.0) is))
   whole_for (Some ReadFault) stop items halt feed e read is =
       let failed : stop ≡ Failed = stopped_for feed (Some ReadFault) stop e is.stopped in
-      let P : Stop → Type 0 = λ s. StoppedAt most_bytes before after taken s in
+      let P : ReadStop → Type 0 = λ s. StoppedAt most_bytes before after taken s in
       let so : StoppedAt most_bytes before after taken Failed = subst P failed read.stopped in
       let rose = so.1 in
       absurd (omega (arith, rose, steady, still))
@@ -80,13 +80,13 @@ module _ (law : CutInPieces) (inputs : List InputSpec) (input rest taken : List 
   whole_for (Some (BadValue n)) stop items halt feed e read is = refused (BadValue n) stop items halt feed read (inl refl) e is (stopped_for feed (Some (BadValue n)) stop e is.stopped)
   whole_for (Some TooLong) stop items halt feed e read is = refused TooLong stop items halt feed read (inl refl) e is (stopped_for feed (Some TooLong) stop e is.stopped)
 
-  whole : (stop : Stop) (items : List ItemOf) (halt : Halt) (feed : Feed) → Read most_bytes before after taken stop → IsFeedOf inputs taken stop items halt feed → IsWholeFeed inputs input feed
+  whole : (stop : ReadStop) (items : List ItemOf) (halt : Halt) (feed : Feed) → Read most_bytes before after taken stop → IsFeedOf inputs taken stop items halt feed → IsWholeFeed inputs input feed
   whole stop items halt feed read is = whole_for feed.stop stop items halt feed refl read is
 
 -- what main is fed of the generated input, by a source that held it and never failed
-pub whole_feeds : CutInPieces → (inputs : List InputSpec) (input rest taken : List ℕ) (stop : Stop) (before after : SeenSource) (lists : List (List ℤ)) (fault : Option TextFault) → (inputs ≡ [] → ⊥) →
+pub whole_feeds : CutInPieces → (inputs : List InputSpec) (input rest taken : List ℕ) (stop : ReadStop) (before after : SeenSource) (lists : List (List ℤ)) (fault : Option TextFault) → (inputs ≡ [] → ⊥) →
     before.left ≡ Some input → after.left ≡ Some rest → before.faults ≡ 0 → after.faults ≡ 0 → Read most_bytes before after taken stop → Feeds inputs taken stop lists fault →
-    (other : Stop) × IsTrue (is_closed other) × Feeds inputs input other lists fault
+    (other : ReadStop) × IsTrue (is_closed other) × Feeds inputs input other lists fault
 whole_feeds law [] input rest taken stop before after lists fault some held left steady still read feeds = absurd (some refl)
 whole_feeds law (i ∷ inputs) input rest taken stop before after lists fault some held left steady still read (items, halt, is) =
     let (other, all, (found, at, fed)) = whole law (i ∷ inputs) input rest taken before after held left steady still stop items halt (record { items = lists; stop = fault }) read is in

@@ -6,7 +6,7 @@ use Rattle.lucy_lines.specs.Cuts.{ItemOf}
 use Rattle.lucy_lines.specs.Laws.{CutInPieces}
 use Rattle.lucy_lines.specs.declared.input.InputSpec.{InputSpec}
 use Rattle.lucy_lines.specs.declared.reader.TextFault.{TextFault}
-use Rattle.lucy_feed.specs.Sources.{Stop}
+use Rattle.lucy_text.specs.Sources.{ReadStop}
 use Rattle.lucy_feed.specs.Feeding.{is_closed}
 use Rattle.lucy_text.specs.Outside.{SeenSource}
 use Rattle.lucy_clock.specs.declared.node_clock.NodeClock.{NodeClock}
@@ -77,7 +77,7 @@ module _ (kinds : List HostKind) (a : Accepted) where
             (all, subst (λ g. IsOver made_program source all g last.horizon (steady rest) end) (same ∙ begun_here.0 ∙ endless) (over made_program source all can along stopped), is)
 
         -- the run that `run` owes, and main's first result there
-        made_run : (stop : Stop) × (lists : List (List ℤ)) × (fault : Option TextFault) × IsTrue (is_closed stop) × IsFed a None made_input stop lists fault last.horizon
+        made_run : (stop : ReadStop) × (lists : List (List ℤ)) × (fault : Option TextFault) × IsTrue (is_closed stop) × IsFed a None made_input stop lists fault last.horizon
             × EndsFor (input_words a) None lists fault end × (count ≡ length (printed_values kinds a lists last.horizon)) × (sum ≡ sum_of (printed_values kinds a lists last.horizon))
         made_run =
             let (all, is_over, is) = ended in

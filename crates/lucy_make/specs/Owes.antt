@@ -2,7 +2,7 @@
 use Rattle.std.specs.Prelude.{ℕ, ℤ, ◌≡◌, IsTrue, List, [], Option, None}
 use Rattle.lucy_host.specs.declared.kind.HostKind.{HostKind}
 use Rattle.lucy_lines.specs.declared.reader.TextFault.{TextFault}
-use Rattle.lucy_feed.specs.Sources.{Stop}
+use Rattle.lucy_text.specs.Sources.{ReadStop}
 use Rattle.lucy_feed.specs.Feeding.{is_closed}
 use Rattle.lucy_stream.specs.Items.{list_at}
 use Rattle.lucy_execution.specs.Streams.{main_streams}
@@ -25,6 +25,6 @@ where_done end text = []
 -- `make`: the figures of what `run` does without instants on the generated input, of which all bytes are taken, and its ending
 abbrev pub OwesSummary : (stages : ℕ) → List HostKind → Accepted → (output : List ℕ) → Ending → Type 0
 OwesSummary stages kinds a output end =
-    (stop : Stop) × (lists : List (List ℤ)) × (fault : Option TextFault) × (horizon : ℕ) × IsTrue (is_closed stop)
+    (stop : ReadStop) × (lists : List (List ℤ)) × (fault : Option TextFault) × (horizon : ℕ) × IsTrue (is_closed stop)
     × IsFed a None made_input stop lists fault horizon × EndsFor (input_words a) None lists fault end
     × (output ≡ where_done end (figures stages a.net horizon (printed_values kinds a lists horizon)))

@@ -19,7 +19,7 @@ use crate::rounds::print_rounds;
 use crate::running::{output_of, run_picked};
 use crate::show::{counted, no_memory};
 use lucy_core::Core;
-use lucy_feed::read_up_to;
+use lucy_text::read_up_to;
 use lucy_host::Host;
 use lucy_text::Source;
 use std::alloc::Global;

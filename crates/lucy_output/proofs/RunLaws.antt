@@ -4,7 +4,7 @@ use Rattle.lucy_lines.specs.Written.{LinesState}
 use Rattle.lucy_output.specs.declared.output.OutputSpec.{OutputSpec}
 use Rattle.lucy_output.specs.Outputs.{more_lines}
 use Rattle.lucy_text.specs.Outside.{SeenSink, Fails}
-use Rattle.lucy_output.specs.Walks.{WalkState, next_lines, AreAt, AreWalked, Gathers, Stands}
+use Rattle.lucy_output.specs.Walks.{WalkState, next_lines, AreAt, AreWalked, Gathers, IsBetweenBlocks}
 use Rattle.lucy_output.proofs.OutputLaws.{one_instant_on, more_lines-grow}
 use Rattle.lucy_output.proofs.SinkLaws.{front_empty, back_empty, gathered_empty, fails_longer, gathers_more, gathered_fails}
 use Rattle.lucy_output.proofs.WalkLaws.{next_lines-is}
@@ -55,5 +55,5 @@ nothing_waits k l s t lines outputs lists walks before n more enough left le p e
 
 -- what holds between blocks, where no block was broken off
 pub standing : (broken : Bool) (instants : ℕ) (outputs : List OutputSpec) (walks : List WalkState) (lines : LinesState) → broken ≡ false →
-    (broken ≡ false → Stands instants outputs walks lines) → Stands instants outputs walks lines
+    (broken ≡ false → IsBetweenBlocks instants outputs walks lines) → IsBetweenBlocks instants outputs walks lines
 standing broken instants outputs walks lines whole stands = stands whole

@@ -12,7 +12,7 @@ use Rattle.lucy_lines.specs.Written.{LinesState, value_text, line_of}
 use Rattle.lucy_output.specs.declared.output.OutputSpec.{OutputSpec}
 use Rattle.lucy_output.specs.Outputs.{line_with_value, value_after, instant_after}
 use Rattle.lucy_text.specs.Outside.{SeenSink, Fails}
-use Rattle.lucy_output.specs.Walks.{WalkState, next_value, next_lines, IsStepped, AreStepped, AreSteppedTo, IsAt, AreAt, IsWalked, AreWalked, FitsRoom, FitRoom, Gathers}
+use Rattle.lucy_output.specs.Walks.{WalkState, next_value, next_lines, IsStepped, AreStepped, AreSteppedTo, IsWalkedTo, AreAt, IsWalked, AreWalked, FitsRoom, FitRoom, Gathers}
 use Rattle.lucy_output.proofs.SinkLaws.{front_empty, fails_longer, gathers_more, gathered_fails}
 
 -- items of lists that were changed at one place, or have one more
@@ -57,19 +57,19 @@ get-there (x ∷ xs) (z ∷ ys) zero y same at = (x, refl)
 get-there (x ∷ xs) (z ∷ ys) (suc k) y same at = get-there xs ys k y (omega arith) at
 
 -- before the first instant nothing was walked along
-pub none_walked : (o : OutputSpec) (w : WalkState) → w ≡ record { output = o; bits = o.word; place = 0 } → IsAt 0 o w
+pub none_walked : (o : OutputSpec) (w : WalkState) → w ≡ record { output = o; bits = o.word; place = 0 } → IsWalkedTo 0 o w
 none_walked o w e = record { output = ap (λ v. v.output) e; bits = λ i some. ap (λ v. bit_at v.bits i) e ∙ ap (bit_at o.word) (omega arith) }
 
 -- at the front of lists all of them is left
-all_left : (t : ℕ) (o : OutputSpec) (list : List ℤ) (w : WalkState) → IsAt t o w → w.place ≡ 0 → IsWalked t t o list w
+all_left : (t : ℕ) (o : OutputSpec) (list : List ℤ) (w : WalkState) → IsWalkedTo t o w → w.place ≡ 0 → IsWalked t t o list w
 all_left t o list w at front = record { at = at; rest = ap (λ n. drop n list) (front ∙ (omega arith)) }
 
 -- the next bit
-next_bit : (t : ℕ) (o : OutputSpec) (w : WalkState) → IsAt t o w → bit_at w.bits 1 ≡ bit_at o.word (t + 1)
+next_bit : (t : ℕ) (o : OutputSpec) (w : WalkState) → IsWalkedTo t o w → bit_at w.bits 1 ≡ bit_at o.word (t + 1)
 next_bit t o w at = at.bits 1 (omega arith)
 
 -- one instant later
-pub at_later : (t : ℕ) (o : OutputSpec) (list : List ℤ) (w v : WalkState) → IsAt t o w → IsStepped list w v → IsAt (t + 1) o v
+pub at_later : (t : ℕ) (o : OutputSpec) (list : List ℤ) (w v : WalkState) → IsWalkedTo t o w → IsStepped list w v → IsWalkedTo (t + 1) o v
 at_later t o list w v at step = record {
   output = step.output ∙ at.output;
   bits = λ i some. step.bits i some ∙ at.bits (i + 1) (omega arith) ∙ ap (bit_at o.word) (omega arith);
@@ -143,7 +143,7 @@ lists_begin t outputs lists walks now count at begun = record {
       let was = get-there walks now k v count there in
       let same : Some v ≡ Some (record was.0 { place = 0 }) = sym there ∙ begun k was.0 was.1 in
       let here : v ≡ record was.0 { place = 0 } = cc in
-      let before : IsAt t o was.0 = at.each k o was.0 is was.1 in
+      let before : IsWalkedTo t o was.0 = at.each k o was.0 is was.1 in
       let P : WalkState → Type 0 = λ u. IsWalked t t o (get_or lists k []) u in
       subst P (sym here) (all_left t o (get_or lists k []) (record was.0 { place = 0 }) (record { output = before.output; bits = before.bits }) refl);
 }
@@ -298,7 +298,7 @@ walked_now lists before now i w steps lt = sym (steps.others i (omega arith)) �
 
 -- the first outputs before the first instant
 abbrev pub AreNew : List OutputSpec → List WalkState → Type 0
-AreNew outputs walks = (k : ℕ) (o : OutputSpec) (w : WalkState) → slice_get outputs k ≡ Some o → slice_get walks k ≡ Some w → IsAt 0 o w
+AreNew outputs walks = (k : ℕ) (o : OutputSpec) (w : WalkState) → slice_get outputs k ≡ Some o → slice_get walks k ≡ Some w → IsWalkedTo 0 o w
 
 -- and one more
 pub one_more_new : (outputs : List OutputSpec) (walks : List WalkState) (i : ℕ) (o : OutputSpec) (w : WalkState) → length walks ≡ i →
@@ -309,7 +309,7 @@ one_more_new outputs walks i o w count is new before = λ k p v was at. elim (ge
       let here : k ≡ i = last.0 ∙ count in
       let same : Some o ≡ Some p = sym is ∙ ap (slice_get outputs) (sym here) ∙ was in
       let output : o ≡ p = cc in
-      let Q : OutputSpec → Type 0 = λ q. IsAt 0 q v in
+      let Q : OutputSpec → Type 0 = λ q. IsWalkedTo 0 q v in
       subst Q output (none_walked o v (last.1 ∙ new))
       )
 ]

@@ -41,18 +41,18 @@ abbrev pub FitRoom : List WalkState → (room : ℕ) → Type 0
 FitRoom walks room = (k : ℕ) (w : WalkState) → slice_get walks k ≡ Some w → FitsRoom w.output room
 
 -- an output is walked along so many instants
-pub record IsAt (t : ℕ) (o : OutputSpec) (w : WalkState) : Type 0 where
+pub record IsWalkedTo (t : ℕ) (o : OutputSpec) (w : WalkState) : Type 0 where
   pub output : w.output ≡ o
   pub bits : (i : ℕ) → 0 < i → bit_at w.bits i ≡ bit_at o.word (t + i)
 
 -- all outputs are
 pub record AreAt (t : ℕ) (outputs : List OutputSpec) (walks : List WalkState) : Type 0 where
   pub count : length walks ≡ length outputs
-  pub each : (k : ℕ) (o : OutputSpec) (w : WalkState) → slice_get outputs k ≡ Some o → slice_get walks k ≡ Some w → IsAt t o w
+  pub each : (k : ℕ) (o : OutputSpec) (w : WalkState) → slice_get outputs k ≡ Some o → slice_get walks k ≡ Some w → IsWalkedTo t o w
 
 -- so is one whose list lacks the values of the first instants: what is left of the list
 pub record IsWalked (before t : ℕ) (o : OutputSpec) (list : List ℤ) (w : WalkState) : Type 0 where
-  pub at : IsAt t o w
+  pub at : IsWalkedTo t o w
   pub rest : drop w.place list ≡ drop (ones_to o.word t - ones_to o.word before) list
 
 -- what is left of the lists of all outputs
@@ -73,7 +73,7 @@ pub record AreSteppedTo (lists : List (List ℤ)) (before now : List WalkState) 
   pub others : (k : ℕ) → count ≤ k → slice_get now k ≡ slice_get before k
 
 -- what holds between the writing of one block and the next: the walks stand at the instant, each line fits, and none waits
-pub record Stands (instants : ℕ) (outputs : List OutputSpec) (walks : List WalkState) (lines : LinesState) : Type 0 where
+pub record IsBetweenBlocks (instants : ℕ) (outputs : List OutputSpec) (walks : List WalkState) (lines : LinesState) : Type 0 where
   pub at : AreAt instants outputs walks
   pub fit : FitRoom walks lines.room
   pub none : lines.bytes ≡ []

@@ -60,13 +60,13 @@ pub struct OutputWriter<'a> {
 impl<'a> Model for OutputWriter<'a> {
     ghost use Rattle.std.specs.Prelude.{◌≡◌, ◌<◌, ◌^◌, length, false};
     ghost use Rattle.lucy_output.specs.Writing.{WriterState};
-    ghost use Rattle.lucy_output.specs.Walks.{Stands};
+    ghost use Rattle.lucy_output.specs.Walks.{IsBetweenBlocks};
 
     ghost Value = { WriterState };
 
     ghost view = { λ w. record { outputs = w.outputs.now; instants = w.instants; broken = w.broken } };
 
-    ghost invariant = { λ w. (length w.outputs.now < 2 ^ 32) × (w.broken ≡ false → Stands w.instants w.outputs.now w.walks.items w.lines) };
+    ghost invariant = { λ w. (length w.outputs.now < 2 ^ 32) × (w.broken ≡ false → IsBetweenBlocks w.instants w.outputs.now w.walks.items w.lines) };
 }
 
 impl<'a> OutputWriter<'a> {

@@ -15,7 +15,7 @@ use Rattle.lucy_lines.specs.declared.reader.TextFault.{TextFault}
 use Rattle.lucy_feed.specs.declared.feeds.Feed.{Feed}
 use Rattle.lucy_word.specs.declared.error.OutOfMemory.{OutOfMemory}
 use Rattle.lucy_text.specs.Outside.{SeenSource, SeenSink, Writes, Fails}
-use Rattle.lucy_feed.specs.Sources.{Stop, Unread, Read}
+use Rattle.lucy_text.specs.Sources.{ReadStop, Unread, Read}
 use Rattle.lucy_output.specs.declared.output.OutputSpec.{OutputSpec}
 use Rattle.lucy_output.specs.Outputs.{output_text}
 use Rattle.lucy_output.specs.declared.error.OutputError.TheVariants.{Failed, OutOfMemory as Memory}
@@ -153,7 +153,7 @@ owed_more A B more was now (ending.Input f) (output, owed, w) = (output, more ou
 owed_more A B more was now (ending.Limit l) (output, owed, w) = (output, more output (ending.Limit l) owed, w)
 
 -- and so a call ends, of what is owed as reading stopped
-pub owed_ends : (Owes : Stop → List ℕ → Ending → Type 0) (stop : Stop) (was now : SeenSink) (result : Ending) → LeavesOwed (Owes stop) was now result → EndsWith Owes (λ counted. counted ≡ stop) stop was now result
+pub owed_ends : (Owes : ReadStop → List ℕ → Ending → Type 0) (stop : ReadStop) (was now : SeenSink) (result : Ending) → LeavesOwed (Owes stop) was now result → EndsWith Owes (λ counted. counted ≡ stop) stop was now result
 owed_ends Owes stop was now ending.WriteFault (output, end, owed, f) = (output, (stop, end, refl, owed), f)
 owed_ends Owes stop was now ending.OutOfMemory left = ([], inl refl, subst (λ u. Writes was u []) (sym left) (unwritten was))
 owed_ends Owes stop was now ending.Done left = left
@@ -163,11 +163,11 @@ owed_ends Owes stop was now (ending.Limit l) left = left
 module _ (kinds : List HostKind) (a : Accepted) (given : Option ℕ) where
   -- what a call of `run` leaves
   abbrev pub RunGives : (block : ℕ) (before after : SeenSource) (was now : SeenSink) → Ending → Type 0
-  RunGives block before after was now result = (taken : List ℕ) × (stop : Stop) × Read most_bytes before after taken stop
+  RunGives block before after was now result = (taken : List ℕ) × (stop : ReadStop) × Read most_bytes before after taken stop
       × EndsRun kinds a given block taken stop was now result
 
   abbrev pub KahnGives : (before after : SeenSource) (was now : SeenSink) → Ending → Type 0
-  KahnGives before after was now result = (taken : List ℕ) × (stop : Stop) × Read most_bytes before after taken stop
+  KahnGives before after was now result = (taken : List ℕ) × (stop : ReadStop) × Read most_bytes before after taken stop
       × IsAsked a.inputs.items taken × EndsWith (OwesKahn kinds a given taken) (λ counted. counted ≡ stop) stop was now result
 
   -- memory ran out before anything was done
@@ -321,7 +321,7 @@ module _ (kinds : List HostKind) (a : Accepted) (given : Option ℕ) where
   run_out_of_memory blocks can block before after was between now text most m e w off =
       lines_without_memory (wanting_at program off.aim Memory) blocks can before after off.lists off.horizon (omega (arith, off.within)) off.suffice off.fed block was between now (subst (Writes was between) e w) off.left
 
-  module _ (taken : List ℕ) (stop : Stop) (lists : List (List ℤ)) (fault : Option TextFault) (horizon : ℕ) (feeds : Feeds a.inputs.items taken stop lists fault)
+  module _ (taken : List ℕ) (stop : ReadStop) (lists : List (List ℤ)) (fault : Option TextFault) (horizon : ℕ) (feeds : Feeds a.inputs.items taken stop lists fault)
       (horizon_is : IsHorizonOf (input_words a) given lists horizon) where
     fed : IsFed a given taken stop lists fault horizon
     fed = record { feeds = feeds; horizon_is = horizon_is }
@@ -339,11 +339,11 @@ module _ (kinds : List HostKind) (a : Accepted) (given : Option ℕ) where
     )
 
   -- memory ran out while the input was read
-  pub kahn_given_up : (before after : SeenSource) (taken : List ℕ) (stop : Stop) (o : SeenSink) → Read most_bytes before after taken stop → IsAsked a.inputs.items taken → KahnGives before after o o ending.OutOfMemory
+  pub kahn_given_up : (before after : SeenSource) (taken : List ℕ) (stop : ReadStop) (o : SeenSink) → Read most_bytes before after taken stop → IsAsked a.inputs.items taken → KahnGives before after o o ending.OutOfMemory
   kahn_given_up before after taken stop o read asked = (taken, stop, read, asked, ([], inl refl, unwritten o))
 
   -- main was fed, and the lines were written or not
-  pub kahn_done : (before after : SeenSource) (was now : SeenSink) (result : Ending) (feed : Feed) (answer : Result Feed OutOfMemory) (clocks : List NodeClock) (outputs : List OutputSpec) (taken : List ℕ) (stop : Stop) →
+  pub kahn_done : (before after : SeenSource) (was now : SeenSink) (result : Ending) (feed : Feed) (answer : Result Feed OutOfMemory) (clocks : List NodeClock) (outputs : List OutputSpec) (taken : List ℕ) (stop : ReadStop) →
       Read most_bytes before after taken stop → IsAsked a.inputs.items taken → IsMainFeed a.inputs.items taken stop answer → answer ≡ Ok feed → clocks ≡ a.clocks.items → outputs ≡ a.outputs.items →
       (horizon : ℕ) × IsHorizonOf (param_words a.placed.nodes clocks) given feed.items horizon × LeavesOwed (Interprets kinds a.placed.nodes clocks outputs given feed.items feed.stop horizon) was now result →
       KahnGives before after was now result

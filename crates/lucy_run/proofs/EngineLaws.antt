@@ -10,7 +10,7 @@ use Rattle.lucy_lines.specs.declared.reader.TextFault.{TextFault}
 use Rattle.lucy_lines.proofs.Exists.{some_cut}
 use Rattle.lucy_text.specs.Outside.{SeenSource, SeenSink, Writes, Fails}
 use Rattle.lucy_feed.specs.declared.feeds.Feed.{Feed}
-use Rattle.lucy_feed.specs.Sources.{Stop, Open, Read}
+use Rattle.lucy_text.specs.Sources.{ReadStop, Open, Read}
 use Rattle.lucy_feed.specs.Feeding.{values_by_stream, IsAsked}
 use Rattle.lucy_output.specs.declared.output.OutputSpec.{OutputSpec}
 use Rattle.lucy_output.specs.Outputs.{output_text}
@@ -30,7 +30,7 @@ use Rattle.lucy_run.proofs.HorizonLaws.{some_horizon}
 module _ (kinds : List HostKind) (a : Accepted) (given : Option ℕ) where
   -- what a call leaves
   abbrev pub EngineGives : (before after : SeenSource) (was now : SeenSink) → Ending → Type 0
-  EngineGives before after was now result = (taken : List ℕ) × (stop : Stop) × Read most_bytes before after taken stop
+  EngineGives before after was now result = (taken : List ℕ) × (stop : ReadStop) × Read most_bytes before after taken stop
       × IsAsked a.inputs.items taken × EndsWith (OwesRun kinds a given taken) (CountsAs stop) stop was now result
 
   -- what a call of `run` leaves is such
@@ -40,7 +40,7 @@ module _ (kinds : List HostKind) (a : Accepted) (given : Option ℕ) where
   as_run block before after was now result (taken, stop, read, left) = (taken, stop, read, left.asked, left.output)
 
   -- memory ran out behind the heading, where main would be fed so
-  heading_alone : (taken : List ℕ) (stop counted : Stop) (lists : List (List ℤ)) (fault : Option TextFault) → CountsAs stop counted →
+  heading_alone : (taken : List ℕ) (stop counted : ReadStop) (lists : List (List ℤ)) (fault : Option TextFault) → CountsAs stop counted →
       Feeds a.inputs.items taken counted lists fault →
       (was now : SeenSink) → Writes was now (heading a) →
       EndsWith (OwesRun kinds a given taken) (CountsAs stop) stop was now ending.OutOfMemory
@@ -53,7 +53,7 @@ module _ (kinds : List HostKind) (a : Accepted) (given : Option ℕ) where
       (heading a, inr (heading a ++ lines, length (heading a), owed, take_front (heading a) lines), head)
 
   -- it ran out while the input was read
-  given_up : (inputs : List InputSpec) → a.inputs.items ≡ inputs → (before after : SeenSource) (taken : List ℕ) (stop : Stop) →
+  given_up : (inputs : List InputSpec) → a.inputs.items ≡ inputs → (before after : SeenSource) (taken : List ℕ) (stop : ReadStop) →
       Read most_bytes before after taken stop → IsAsked a.inputs.items taken →
       stop ≡ Open → (a.inputs.items ≡ [] → after ≡ before) → (was now : SeenSink) → Writes was now (heading a) →
       EngineGives before after was now ending.OutOfMemory
@@ -65,7 +65,7 @@ module _ (kinds : List HostKind) (a : Accepted) (given : Option ℕ) where
       let (items, halt, cut) = some_cut (input ∷ inputs) true (input_of taken) in
       let (counted, closed, fault, feeds) = fed_by_all input inputs taken items halt cut in
       let P : List InputSpec → Type 0 = λ u. Feeds u taken counted (values_by_stream (length (input ∷ inputs)) items) fault in
-      let Q : Stop → Type 0 = λ u. CountsAs u counted in
+      let Q : ReadStop → Type 0 = λ u. CountsAs u counted in
       let counts : CountsAs stop counted = subst Q (sym broken) (inr (inr refl, closed)) in (
         taken,
         stop,
@@ -75,14 +75,14 @@ module _ (kinds : List HostKind) (a : Accepted) (given : Option ℕ) where
             (subst P (sym are) feeds) was now head,
       )
 
-  pub engine_unfed : (before after : SeenSource) (was now : SeenSink) (text : List ℕ) (taken : List ℕ) (stop : Stop) →
+  pub engine_unfed : (before after : SeenSource) (was now : SeenSink) (text : List ℕ) (taken : List ℕ) (stop : ReadStop) →
       text ≡ heading a → Writes was now text → Read most_bytes before after taken stop → IsAsked a.inputs.items taken →
       stop ≡ Open → (a.inputs.items ≡ [] → after ≡ before) → EngineGives before after was now ending.OutOfMemory
   engine_unfed before after was now text taken stop e w read asked broken unread =
       given_up a.inputs.items refl before after taken stop read asked broken unread was now (subst (Writes was now) e w)
 
   -- main was fed
-  module _ (before after : SeenSource) (taken : List ℕ) (stop : Stop) (read : Read most_bytes before after taken stop)
+  module _ (before after : SeenSource) (taken : List ℕ) (stop : ReadStop) (read : Read most_bytes before after taken stop)
       (asked : IsAsked a.inputs.items taken) (answer : Result Feed OutOfMemory) (feed : Feed)
       (is : answer ≡ Ok feed) (fed_so : IsMainFeed a.inputs.items taken stop answer) (was between : SeenSink) (text : List ℕ)
       (e : text ≡ heading a) (w : Writes was between text) where

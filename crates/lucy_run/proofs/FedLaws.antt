@@ -12,7 +12,7 @@ use Rattle.lucy_lines.proofs.ReadLaws.{refuses_read}
 use Rattle.lucy_lines.specs.Fronts.{most_bytes}
 use Rattle.lucy_lines.proofs.Exists.{some_cut}
 use Rattle.lucy_text.specs.Outside.{SeenSource}
-use Rattle.lucy_feed.specs.Sources.{Stop, Unread, Ended, Drained, Read}
+use Rattle.lucy_text.specs.Sources.{ReadStop, Unread, Ended, Drained, Read}
 use Rattle.lucy_feed.specs.Feeding.{is_closed, values_by_stream, IsAsked}
 use Rattle.lucy_run.specs.Feeds.{Feeds, CountsAs}
 
@@ -22,7 +22,7 @@ read_nothing s = record { took = sym (followed-nil s.left); stopped = (refl, ref
 
 -- main has no inputs
 pub fed_nothing : (inputs : List InputSpec) (s : SeenSource) (lists : List (List ℤ)) → length inputs ≡ 0 → lists ≡ [] →
-    (taken : List ℕ) × (stop : Stop) × Read most_bytes s s taken stop × IsAsked inputs taken × Feeds inputs taken stop lists None
+    (taken : List ℕ) × (stop : ReadStop) × Read most_bytes s s taken stop × IsAsked inputs taken × Feeds inputs taken stop lists None
 fed_nothing [] s lists none e = ([], Unread, read_nothing s, inl refl, (refl, refl, e, refl))
 fed_nothing (input ∷ inputs) s lists none e = absurd (omega arith)
 
@@ -37,7 +37,7 @@ cut_read halt e c = answered_read halt e (answered c)
 
 -- what main is fed by bytes that are all that there are, where these are their items
 pub fed_by_all : (input : InputSpec) (inputs : List InputSpec) (taken : List ℕ) (items : List ItemOf) (halt : Halt) → Cut (input ∷ inputs) true (input_of taken) items halt →
-    (counted : Stop) × IsTrue (is_closed counted) × (fault : Option TextFault) × Feeds (input ∷ inputs) taken counted (values_by_stream (length (input ∷ inputs)) items) fault
+    (counted : ReadStop) × IsTrue (is_closed counted) × (fault : Option TextFault) × Feeds (input ∷ inputs) taken counted (values_by_stream (length (input ∷ inputs)) items) fault
 fed_by_all input inputs taken items (Before held) cut = (Ended, refl, None, (items, Before held, record { cut = cut; lists = refl; fault = refl; stopped = refl }))
 fed_by_all input inputs taken items (At ReadFault) cut = absurd (cut_read (At ReadFault) refl cut)
 fed_by_all input inputs taken items (At (BadLine n)) cut = (Drained, refl, Some (BadLine n), (items, At (BadLine n), record { cut = cut; lists = refl; fault = refl; stopped = inl refl }))
@@ -46,7 +46,7 @@ fed_by_all input inputs taken items (At (BadValue n)) cut = (Drained, refl, Some
 fed_by_all input inputs taken items (At TooLong) cut = (Drained, refl, Some TooLong, (items, At TooLong, record { cut = cut; lists = refl; fault = refl; stopped = inl refl }))
 
 -- nothing was read yet
-pub fed_not_yet : (inputs : List InputSpec) → (counted : Stop) × CountsAs Unread counted × (lists : List (List ℤ)) × (fault : Option TextFault) × Feeds inputs [] counted lists fault
+pub fed_not_yet : (inputs : List InputSpec) → (counted : ReadStop) × CountsAs Unread counted × (lists : List (List ℤ)) × (fault : Option TextFault) × Feeds inputs [] counted lists fault
 fed_not_yet [] = (Unread, inl refl, [], None, (refl, refl, refl, refl))
 fed_not_yet (input ∷ inputs) =
     let (items, halt, cut) = some_cut (input ∷ inputs) true (input_of []) in

@@ -9,7 +9,7 @@ use Rattle.lucy_lines.specs.Cuts.{ItemOf}
 use Rattle.lucy_lines.specs.Fronts.{most_bytes}
 use Rattle.lucy_lines.specs.declared.input.InputSpec.{InputSpec}
 use Rattle.lucy_text.specs.Outside.{SeenSource}
-use Rattle.lucy_feed.specs.Sources.{Unread, Read}
+use Rattle.lucy_text.specs.Sources.{Unread, Read}
 use Rattle.lucy_feed.specs.Feeding.{values_by_stream, IsAsked}
 use Rattle.lucy_feed.specs.Resuming.{FeedState, HasRead, PassesMore, ValuesInTurn}
 use Rattle.lucy_meaning.specs.Horizons.{Suffice, IsHorizon}

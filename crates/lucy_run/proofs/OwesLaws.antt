@@ -7,7 +7,7 @@ use Rattle.lucy_host.specs.declared.kind.HostKind.{HostKind}
 use Rattle.lucy_lines.specs.declared.input.InputSpec.{InputSpec}
 use Rattle.lucy_lines.specs.declared.reader.TextFault.{TextFault}
 use Rattle.lucy_feed.specs.declared.feeds.Feed.{Feed}
-use Rattle.lucy_feed.specs.Sources.{Stop}
+use Rattle.lucy_text.specs.Sources.{ReadStop}
 use Rattle.lucy_feed.specs.Feeding.{OneFeed}
 use Rattle.lucy_meaning.specs.Horizons.{IsHorizon}
 use Rattle.lucy_execution.specs.Running.{HasManyTurns, HasManyItems}
@@ -21,7 +21,7 @@ use Rattle.lucy_run.specs.Owes.{AllowsMore, most_instants, input_words, lines_to
 abbrev pub OneHorizon : Type 0
 OneHorizon = (words : List Bits) (inputs : List (List ℤ)) (most s t : ℕ) → IsHorizon words inputs most s → IsHorizon words inputs most t → s ≡ t
 
-feeds_once : OneFeed → (inputs : List InputSpec) (taken : List ℕ) (stop : Stop) (lists others : List (List ℤ)) (fault other : Option TextFault) →
+feeds_once : OneFeed → (inputs : List InputSpec) (taken : List ℕ) (stop : ReadStop) (lists others : List (List ℤ)) (fault other : Option TextFault) →
     Feeds inputs taken stop lists fault → Feeds inputs taken stop others other → (lists ≡ others) × (fault ≡ other)
 feeds_once one [] taken stop lists others fault other p q = (p.2 ∙ sym q.2, p.3 ∙ sym q.3)
 feeds_once one (input ∷ inputs) taken stop lists others fault other p q =
@@ -31,7 +31,7 @@ feeds_once one (input ∷ inputs) taken stop lists others fault other p q =
     (ap (λ u. u.items) same, ap (λ u. u.stop) same)
 
 -- what main is fed, and the horizon, are one
-pub fed_once : OneFeed → OneHorizon → (a : Accepted) (given : Option ℕ) (taken : List ℕ) (stop : Stop) (lists others : List (List ℤ)) (fault other : Option TextFault) (horizon last : ℕ) →
+pub fed_once : OneFeed → OneHorizon → (a : Accepted) (given : Option ℕ) (taken : List ℕ) (stop : ReadStop) (lists others : List (List ℤ)) (fault other : Option TextFault) (horizon last : ℕ) →
     IsFed a given taken stop lists fault horizon → IsFed a given taken stop others other last → (lists ≡ others) × (fault ≡ other) × (horizon ≡ last)
 fed_once one horizons a given taken stop lists others fault other horizon last p q =
     let same = feeds_once one a.inputs.items taken stop lists others fault other p.feeds q.feeds in
@@ -57,7 +57,7 @@ carried P lists others fault other horizon last e f g p =
     subst C g (subst B f (subst A e p))
 
 -- `run` owes one output with one ending
-pub run_once : OneFeed → OneHorizon → (kinds : List HostKind) (a : Accepted) (given : Option ℕ) (taken : List ℕ) (stop : Stop) (output out : List ℕ) (end other : Ending) →
+pub run_once : OneFeed → OneHorizon → (kinds : List HostKind) (a : Accepted) (given : Option ℕ) (taken : List ℕ) (stop : ReadStop) (output out : List ℕ) (end other : Ending) →
     OwesRun kinds a given taken stop output end → OwesRun kinds a given taken stop out other → (output ≡ out) × (end ≡ other)
 run_once one horizons kinds a given taken stop output out end other (lists, fault, horizon, fed, text, ends) (others, stops, last, so, printed, past) =
     let same = fed_once one horizons a given taken stop lists others fault stops horizon last fed so in
@@ -66,7 +66,7 @@ run_once one horizons kinds a given taken stop output out end other (lists, faul
     (moved.0 ∙ sym printed, ends_once (input_words a) given others stops end other moved.1 past)
 
 -- `run` and `kahn` print the same lines, unless the interpreter passes a limit of its own
-pub same_lines : OneFeed → OneHorizon → (kinds : List HostKind) (a : Accepted) (given : Option ℕ) (taken : List ℕ) (stop : Stop) (output lines : List ℕ) (end other : Ending) →
+pub same_lines : OneFeed → OneHorizon → (kinds : List HostKind) (a : Accepted) (given : Option ℕ) (taken : List ℕ) (stop : ReadStop) (output lines : List ℕ) (end other : Ending) →
     OwesRun kinds a given taken stop output end → OwesKahn kinds a given taken stop lines other →
     (other ≡ ending.Limit limit.KahnTurns) ⊎ (other ≡ ending.Limit limit.KahnItems) ⊎ ((output ≡ heading a ++ lines) × (end ≡ other))
 same_lines one horizons kinds a given taken stop output lines end other run (others, stops, last, so, inl turns) = inl turns.2
@@ -93,7 +93,7 @@ kahn_for kinds a given lists fault horizon output out end other (inr (inr p)) (i
 kahn_for kinds a given lists fault horizon output out end other (inr (inr p)) (inr (inr q)) =
     (p.2 ∙ sym q.2, ends_once (input_words a) given lists fault end other p.3 q.3)
 
-pub kahn_once : OneFeed → OneHorizon → (kinds : List HostKind) (a : Accepted) (given : Option ℕ) (taken : List ℕ) (stop : Stop) (output out : List ℕ) (end other : Ending) →
+pub kahn_once : OneFeed → OneHorizon → (kinds : List HostKind) (a : Accepted) (given : Option ℕ) (taken : List ℕ) (stop : ReadStop) (output out : List ℕ) (end other : Ending) →
     OwesKahn kinds a given taken stop output end → OwesKahn kinds a given taken stop out other → (output ≡ out) × (end ≡ other)
 kahn_once one horizons kinds a given taken stop output out end other (lists, fault, horizon, fed, p) (others, stops, last, so, q) =
     let same = fed_once one horizons a given taken stop lists others fault stops horizon last fed so in

@@ -12,7 +12,7 @@ use Rattle.lucy_lines.specs.Cuts.{ItemOf}
 use Rattle.lucy_lines.specs.Fronts.{most_bytes}
 use Rattle.lucy_lines.specs.declared.input.InputSpec.{InputSpec}
 use Rattle.lucy_text.specs.Outside.{SeenSource}
-use Rattle.lucy_feed.specs.Sources.{Unread, Open, Read}
+use Rattle.lucy_text.specs.Sources.{Unread, Open, Read}
 use Rattle.lucy_feed.specs.Feeding.{values_of, values_by_stream, IsAskedWhile}
 use Rattle.lucy_feed.specs.Resuming.{FeedState, AreCounts, AreMet, HasRead, IsGivenUp, IsShort, AreFresh, ReadsWhile, GivesUp, ValuesInTurn}
 use Rattle.lucy_feed.proofs.FeedLaws.{asked_as, asks_as, asked_still}

@@ -9,7 +9,7 @@ use Rattle.lucy_host.specs.Operators.{Operator}
 use Rattle.lucy_lines.specs.Laws.{OneCut, CutInPieces}
 use Rattle.lucy_lines.specs.declared.reader.TextFault.{TextFault}
 use Rattle.lucy_feed.specs.declared.feeds.Feed.{Feed}
-use Rattle.lucy_feed.specs.Sources.{Stop}
+use Rattle.lucy_text.specs.Sources.{ReadStop}
 use Rattle.lucy_feed.specs.Feeding.{OneFeed}
 use Rattle.lucy_text.specs.Outside.{SeenSink, Writes, Fails}
 use Rattle.lucy_event.specs.Runs.{IsRun}
@@ -150,7 +150,7 @@ judged_once first nodes outputs words given lists fault picks output out (Err e)
     (none ∙ sym nothing, ap Err (impossible_once first picks e f bad worse))
 
 -- `replay` owes one answer
-pub replay_once : OneFeed → OneHorizon → (ops : List Operator) (a : Accepted) (given : Option ℕ) (picks taken : List ℕ) (stop : Stop) (output out : List ℕ) (result other : Result Ending TraceError) →
+pub replay_once : OneFeed → OneHorizon → (ops : List Operator) (a : Accepted) (given : Option ℕ) (picks taken : List ℕ) (stop : ReadStop) (output out : List ℕ) (result other : Result Ending TraceError) →
     OwesReplay ops a given picks taken stop output result → OwesReplay ops a given picks taken stop out other → (output ≡ out) × (result ≡ other)
 replay_once one horizons ops a given picks taken stop output out result other (lists, fault, horizon, fed, does) (others, stops, last, so, did) =
     let same = fed_once one horizons a given taken stop lists others fault stops horizon last fed so in
@@ -171,7 +171,7 @@ replay_whole cut pieces horizons ops a given before after picks taken stop lists
     judged_done (first_core ops a lists horizon) a.placed.nodes a.outputs.items (input_words a) given lists picks output result (λ end ends. done_for (input_words a) given lists end fed.few ends) run
     (owed_so cut pieces horizons a given before after taken stop lists horizon read well fed P others fault last is does)
 
-module _ (ops : List Operator) (a : Accepted) (given : Option ℕ) (picks taken : List ℕ) (stop : Stop) where
+module _ (ops : List Operator) (a : Accepted) (given : Option ℕ) (picks taken : List ℕ) (stop : ReadStop) where
   judged_ends : (lists : List (List ℤ)) (fault : Option TextFault) (horizon : ℕ) → IsFed a given taken stop lists fault horizon → (was now : SeenSink) (result : Result Ending TraceError) →
       LeavesJudged (Judges (first_core ops a lists horizon) a.placed.nodes a.outputs.items (input_words a) given lists fault picks) was now result → EndsReplay ops a given picks taken stop was now result
   judged_ends lists fault horizon fed was now (Ok end) left =

@@ -7,7 +7,7 @@ use Rattle.lucy_word.specs.declared.error.OutOfMemory.{OutOfMemory}
 use Rattle.lucy_host.specs.Operators.{Operator, kinds_of}
 use Rattle.lucy_lines.specs.declared.reader.TextFault.{TextFault}
 use Rattle.lucy_feed.specs.declared.feeds.Feed.{Feed}
-use Rattle.lucy_feed.specs.Sources.{Stop}
+use Rattle.lucy_text.specs.Sources.{ReadStop}
 use Rattle.lucy_text.specs.Outside.{SeenSink, Writes, Fails}
 use Rattle.lucy_net.specs.declared.net.Net.{Net}
 use Rattle.lucy_cause.specs.Schedules.{Timetable, IsScheduleOf}
@@ -117,7 +117,7 @@ front_more A B more was now (ending.Input f) (output, owed, w) = (output, more o
 front_more A B more was now (ending.Limit l) (output, owed, w) = (output, more output (ending.Limit l) owed, w)
 
 -- and so a call ends, of what is owed as reading stopped
-front_ends : (Owes : Stop → List ℕ → Ending → Type 0) (stop : Stop) (was now : SeenSink) (result : Ending) →
+front_ends : (Owes : ReadStop → List ℕ → Ending → Type 0) (stop : ReadStop) (was now : SeenSink) (result : Ending) →
     LeavesFront (Owes stop) was now result →
     EndsWith Owes (λ counted. counted ≡ stop) stop was now result
 front_ends Owes stop was now ending.WriteFault (output, end, owed, f) = (output, (stop, end, refl, owed), f)
@@ -151,7 +151,7 @@ left_so net words same given feed horizon end was now result e horizon_is ends l
     )
 
 -- main was fed, and its net was traced
-pub trace_done : (a : Accepted) (given : Option ℕ) (taken : List ℕ) (stop : Stop) (was now : SeenSink) (result : Ending) (feed : Feed)
+pub trace_done : (a : Accepted) (given : Option ℕ) (taken : List ℕ) (stop : ReadStop) (was now : SeenSink) (result : Ending) (feed : Feed)
     (answer : Result Feed OutOfMemory)
     (clocks : List NodeClock) → IsMainFeed a.inputs.items taken stop answer → answer ≡ Ok feed → clocks ≡ a.clocks.items →
     Leaves a.net (param_words a.placed.nodes clocks) given feed was now result → EndsTrace a given taken stop was now result
@@ -166,7 +166,7 @@ trace_done a given taken stop was now result feed answer clocks fed_so is e left
     (λ output way so. (feed.items, feed.stop, horizon, record { feeds = feeds; horizon_is = horizon_is }, so.0, so.1)) was now result moved)
 
 -- the replay of a trace, whose events lead to the streams
-pub replayed : (ops : List Operator) (a : Accepted) (given : Option ℕ) (taken : List ℕ) (stop : Stop) (output : List ℕ) (end : Ending)
+pub replayed : (ops : List Operator) (a : Accepted) (given : Option ℕ) (taken : List ℕ) (stop : ReadStop) (output : List ℕ) (end : Ending)
     (lists : List (List ℤ)) (fault : Option TextFault) (horizon : ℕ) (rounds : List (List ℕ)) →
     IsFed a given taken stop lists fault horizon →
     output ≡ trace_text rounds → EndsFor (input_words a) given lists fault end → TracesAreLogs → length a.net.actors ≤ 16384 →

@@ -10,7 +10,7 @@ use Rattle.lucy_lines.specs.Fronts.{most_bytes}
 use Rattle.lucy_lines.specs.declared.input.InputSpec.{InputSpec}
 use Rattle.lucy_lines.specs.declared.reader.TextFault.{TextFault}
 use Rattle.lucy_lines.specs.declared.reader.TextFault.TheVariants as text_fault
-use Rattle.lucy_feed.specs.Sources.{Stop, Unread, Ended, Failed, Passed, Open, Drained, StoppedAt, Read}
+use Rattle.lucy_text.specs.Sources.{ReadStop, Unread, Ended, Failed, Passed, Open, Drained, StoppedAt, Read}
 use Rattle.lucy_feed.specs.Feeding.{values_by_stream, is_closed, fault_of, StopsFor}
 use Rattle.lucy_host.specs.declared.kind.HostKind.{HostKind}
 use Rattle.lucy_execution.specs.Running.{HasManyTurns, HasManyItems}
@@ -39,7 +39,7 @@ unrefused (At f) e = absurd (cc e)
 unrefused (Before held) e = (held, refl)
 
 -- a line is refused where a fault is told, and no read failed
-refused_at : (stop : Stop) (halt : Halt) (f : TextFault) → (stop ≡ Failed → ⊥) → Some f ≡ fault_of stop halt → halt ≡ At f
+refused_at : (stop : ReadStop) (halt : Halt) (f : TextFault) → (stop ≡ Failed → ⊥) → Some f ≡ fault_of stop halt → halt ≡ At f
 refused_at stop (At g) f well e = ap At (cc (sym e))
 refused_at Failed (Before held) f well e = absurd (well refl)
 refused_at Unread (Before held) f well e = absurd (cc e)
@@ -65,7 +65,7 @@ module _ (cut : OneCut) (pieces : CutInPieces) (inputs : List InputSpec) (before
       none_refused others f (subst (λ bs. Cut inputs true (input_of bs) others (At f)) (sym are) longer)
 
   -- and reading did not stop at one
-  unstopped : (stop : Stop) (others : List ItemOf) (halt : Halt) (f : TextFault) → (stop ≡ Drained) ⊎ (stop ≡ Open) → StoppedAt most_bytes before after taken stop →
+  unstopped : (stop : ReadStop) (others : List ItemOf) (halt : Halt) (f : TextFault) → (stop ≡ Drained) ⊎ (stop ≡ Open) → StoppedAt most_bytes before after taken stop →
       Cut inputs (is_closed stop) (input_of taken) others halt → Some f ≡ fault_of stop halt → ⊥
   unstopped Drained others halt f so stopped is told =
       let at : halt ≡ At f = refused_at Drained halt f (λ e. cc e) told in
@@ -80,7 +80,7 @@ module _ (cut : OneCut) (pieces : CutInPieces) (inputs : List InputSpec) (before
   unstopped Passed others halt f so stopped is told = absurd (elim so [ inl e ↦ cc e | inr e ↦ cc e ])
 
   -- it met the end, with the same items
-  ended_so : (fault : Option TextFault) (stop : Stop) (others : List ItemOf) (halt : Halt) → StopsFor fault stop → StoppedAt most_bytes before after taken stop →
+  ended_so : (fault : Option TextFault) (stop : ReadStop) (others : List ItemOf) (halt : Halt) → StopsFor fault stop → StoppedAt most_bytes before after taken stop →
       Cut inputs (is_closed stop) (input_of taken) others halt → fault ≡ fault_of stop halt → (others ≡ items) × (fault ≡ None)
   ended_so None Ended others halt so stopped is told =
       let all : taken ≡ bytes = taken_all bytes taken after.left took stopped.1.0 in
@@ -92,7 +92,7 @@ module _ (cut : OneCut) (pieces : CutInPieces) (inputs : List InputSpec) (before
   ended_so None Open others halt so stopped is told = absurd (cc so)
   ended_so None Drained others halt so stopped is told = absurd (cc so)
   ended_so (Some text_fault.ReadFault) stop others halt so stopped is told =
-      let P : Stop → Type 0 = λ s. StoppedAt most_bytes before after taken s in
+      let P : ReadStop → Type 0 = λ s. StoppedAt most_bytes before after taken s in
       let at : StoppedAt most_bytes before after taken Failed = subst P so stopped in
       absurd (well at.1)
   ended_so (Some (text_fault.BadLine n)) stop others halt so stopped is told = absurd (unstopped stop others halt (text_fault.BadLine n) so stopped is told)
@@ -101,7 +101,7 @@ module _ (cut : OneCut) (pieces : CutInPieces) (inputs : List InputSpec) (before
   ended_so (Some text_fault.TooLong) stop others halt so stopped is told = absurd (unstopped stop others halt text_fault.TooLong so stopped is told)
 
 -- main is fed the whole input, without a fault
-pub feeds_whole : OneCut → CutInPieces → (inputs : List InputSpec) (before after : SeenSource) (taken : List ℕ) (stop : Stop) (lists others : List (List ℤ)) (fault : Option TextFault) →
+pub feeds_whole : OneCut → CutInPieces → (inputs : List InputSpec) (before after : SeenSource) (taken : List ℕ) (stop : ReadStop) (lists others : List (List ℤ)) (fault : Option TextFault) →
     Read most_bytes before after taken stop → (Rose before.faults after.faults → ⊥) → IsInput inputs before.left lists → Feeds inputs taken stop others fault → (others ≡ lists) × (fault ≡ None)
 feeds_whole cut pieces [] before after taken stop lists others fault read well is fed = (fed.2 ∙ sym is, fed.3)
 feeds_whole cut pieces (input ∷ inputs) before after taken stop lists others fault read well is fed = told before.left refl is
@@ -118,7 +118,7 @@ feeds_whole cut pieces (input ∷ inputs) before after taken stop lists others f
         (fed.2.lists ∙ ap (values_by_stream (length ins)) same.0 ∙ sym feed.lists, same.1)
 
 -- what is owed by such an input is owed by these lists, up to this horizon
-module _ (cut : OneCut) (pieces : CutInPieces) (horizons : OneHorizon) (a : Accepted) (given : Option ℕ) (before after : SeenSource) (taken : List ℕ) (stop : Stop) (lists : List (List ℤ)) (horizon : ℕ)
+module _ (cut : OneCut) (pieces : CutInPieces) (horizons : OneHorizon) (a : Accepted) (given : Option ℕ) (before after : SeenSource) (taken : List ℕ) (stop : ReadStop) (lists : List (List ℤ)) (horizon : ℕ)
     (read : Read most_bytes before after taken stop) (well : Rose before.faults after.faults → ⊥) (fed : IsFedWell a given before.left lists horizon) where
   pub owed_so : (P : List (List ℤ) → Option TextFault → ℕ → Type 0) (others : List (List ℤ)) (fault : Option TextFault) (last : ℕ) → IsFed a given taken stop others fault last → P others fault last → P lists None horizon
   owed_so P others fault last is owed =

@@ -4,7 +4,7 @@ use Rattle.lucy_host.specs.Operators.{Operator}
 use Rattle.lucy_text.specs.Outside.{SeenSource}
 use Rattle.lucy_lines.specs.Fronts.{most_bytes}
 use Rattle.lucy_lines.specs.declared.input.InputSpec.{InputSpec}
-use Rattle.lucy_feed.specs.Sources.{Stop, Read}
+use Rattle.lucy_text.specs.Sources.{ReadStop, Read}
 use Rattle.lucy_feed.specs.Feeding.{IsAsked}
 use Rattle.lucy_front.specs.declared.options.Options.{Options}
 use Rattle.lucy_front.specs.declared.accepted.Accepted.{Accepted}
@@ -15,5 +15,5 @@ abbrev pub WasAccepted : List Operator → Accepted → Type 0
 WasAccepted ops a = (text : List ℕ) × (options : Options) × IsAccepted ops options text a
 
 -- bytes of the source were taken, none that the inputs did not ask for; reading stopped, and the call ends as that lets it
-abbrev pub ReadsAndEnds : List InputSpec → (before after : SeenSource) → (Ends : (taken : List ℕ) → Stop → Type 0) → Type 0
-ReadsAndEnds inputs before after Ends = (taken : List ℕ) × (stop : Stop) × Read most_bytes before after taken stop × IsAsked inputs taken × Ends taken stop
+abbrev pub ReadsAndEnds : List InputSpec → (before after : SeenSource) → (Ends : (taken : List ℕ) → ReadStop → Type 0) → Type 0
+ReadsAndEnds inputs before after Ends = (taken : List ℕ) × (stop : ReadStop) × Read most_bytes before after taken stop × IsAsked inputs taken × Ends taken stop

@@ -10,7 +10,7 @@ use Rattle.lucy_lines.specs.Fronts.{most_bytes}
 use Rattle.lucy_lines.specs.declared.input.InputSpec.{InputSpec}
 use Rattle.lucy_lines.specs.declared.reader.TextFault.{TextFault}
 use Rattle.lucy_text.specs.Outside.{SeenSource}
-use Rattle.lucy_feed.specs.Sources.{Stop, Read}
+use Rattle.lucy_text.specs.Sources.{ReadStop, Read}
 use Rattle.lucy_feed.specs.Feeding.{values_by_stream, IsAskedWhile, IsAsked}
 use Rattle.lucy_feed.specs.Resuming.{FeedState, AreCounts, HasRead, AreFresh}
 use Rattle.lucy_output.specs.declared.output.OutputSpec.{OutputSpec}
@@ -73,11 +73,11 @@ HasFed words aim (input ∷ inputs) first now reader items =
 pub record IsFedSoFar (Wanting : List ItemOf → Type 0) (inputs : List InputSpec) (first now : SeenSource) (lists : List (List ℤ)) : Type 0 where
   pub taken : List ℕ
   pub asked : IsAskedWhile Wanting inputs taken
-  pub stop : Stop
+  pub stop : ReadStop
   pub read : Read most_bytes first now taken stop
   pub others : List (List ℤ)
   pub fronts : AreFronts lists others
-  pub counted : Stop
+  pub counted : ReadStop
   pub counts : CountsAs stop counted
   pub fault : Option TextFault
   pub fed : Feeds inputs taken counted others fault
@@ -149,7 +149,7 @@ GivesUpBehind words aim before after old = (inputs : List InputSpec) (first : Se
 -- a course that is over: what main was fed behind the items that were read, the horizon, and how the run ends
 pub record IsOver (p : Program) (first : SeenSource) (items : List ItemOf) (given : Option ℕ) (horizon : ℕ) (now : SeenSource) (end : Ending) : Type 0 where
   pub taken : List ℕ
-  pub stop : Stop
+  pub stop : ReadStop
   pub read : Read most_bytes first now taken stop
   pub asked : IsAsked p.inputs taken
   pub lists : List (List ℤ)

@@ -5,7 +5,7 @@ use Rattle.lucy_word.specs.Limits.{limit_number}
 use Rattle.lucy_word.specs.declared.limit.Limit.TheVariants as limit
 use Rattle.lucy_host.specs.declared.kind.HostKind.{HostKind}
 use Rattle.lucy_lines.specs.declared.reader.TextFault.{TextFault}
-use Rattle.lucy_feed.specs.Sources.{Stop}
+use Rattle.lucy_text.specs.Sources.{ReadStop}
 use Rattle.lucy_output.specs.declared.output.OutputSpec.{OutputSpec}
 use Rattle.lucy_output.specs.Outputs.{output_text}
 use Rattle.lucy_place.specs.declared.placed.PlacedNode.{PlacedNode}
@@ -55,12 +55,12 @@ EndsFor words (Some given) lists None end = end ≡ ending.Done
 EndsFor words None lists None end = ((end ≡ ending.Limit limit.Instants) × AllowsMore words lists) ⊎ ((end ≡ ending.Done) × (AllowsMore words lists → ⊥))
 
 -- what main is fed for, and its horizon
-pub record IsFed (a : Accepted) (given : Option ℕ) (taken : List ℕ) (stop : Stop) (lists : List (List ℤ)) (fault : Option TextFault) (horizon : ℕ) : Type 0 where
+pub record IsFed (a : Accepted) (given : Option ℕ) (taken : List ℕ) (stop : ReadStop) (lists : List (List ℤ)) (fault : Option TextFault) (horizon : ℕ) : Type 0 where
   pub feeds : Feeds a.inputs.items taken stop lists fault
   pub horizon_is : IsHorizonOf (input_words a) given lists horizon
 
 -- `run`: the heading and the lines
-abbrev pub OwesRun : List HostKind → Accepted → (given : Option ℕ) → (taken : List ℕ) → Stop → (output : List ℕ) → Ending → Type 0
+abbrev pub OwesRun : List HostKind → Accepted → (given : Option ℕ) → (taken : List ℕ) → ReadStop → (output : List ℕ) → Ending → Type 0
 OwesRun kinds a given taken stop output end =
     (lists : List (List ℤ)) × (fault : Option TextFault) × (horizon : ℕ) × IsFed a given taken stop lists fault horizon
     × (output ≡ heading a ++ lines_to kinds a lists horizon) × EndsFor (input_words a) given lists fault end
@@ -75,7 +75,7 @@ Interprets kinds nodes clocks outputs given lists fault horizon output end =
     × (output ≡ stream_lines kinds nodes clocks outputs lists horizon) × EndsFor (param_words nodes clocks) given lists fault end)
 
 -- `kahn`: the lines alone
-abbrev pub OwesKahn : List HostKind → Accepted → (given : Option ℕ) → (taken : List ℕ) → Stop → (output : List ℕ) → Ending → Type 0
+abbrev pub OwesKahn : List HostKind → Accepted → (given : Option ℕ) → (taken : List ℕ) → ReadStop → (output : List ℕ) → Ending → Type 0
 OwesKahn kinds a given taken stop output end =
     (lists : List (List ℤ)) × (fault : Option TextFault) × (horizon : ℕ) × IsFed a given taken stop lists fault horizon
     × Interprets kinds a.placed.nodes a.clocks.items a.outputs.items given lists fault horizon output end

@@ -4,7 +4,7 @@ use Rattle.std.specs.Fmt.{decimal}
 use Rattle.lucy_word.specs.Bits.{Bits}
 use Rattle.lucy_host.specs.Operators.{Operator}
 use Rattle.lucy_lines.specs.declared.reader.TextFault.{TextFault}
-use Rattle.lucy_feed.specs.Sources.{Stop}
+use Rattle.lucy_text.specs.Sources.{ReadStop}
 use Rattle.lucy_event.specs.States.{start, events}
 use Rattle.lucy_core.specs.Seen.{Seen, CanRun, IsOver, first_seen, after_picks, machine_of}
 use Rattle.lucy_trace.specs.Logs.{IsFirstImpossible}
@@ -48,7 +48,7 @@ Judges first nodes outputs words given lists fault picks output (Ok end) =
 Judges first nodes outputs words given lists fault picks output (Err e) = IsFirstImpossible first picks e × (output ≡ [])
 
 -- `replay`: what the events of a log come to over what main is fed
-abbrev pub OwesReplay : List Operator → Accepted → (given : Option ℕ) → (picks taken : List ℕ) → Stop → (output : List ℕ) → Result Ending TraceError → Type 0
+abbrev pub OwesReplay : List Operator → Accepted → (given : Option ℕ) → (picks taken : List ℕ) → ReadStop → (output : List ℕ) → Result Ending TraceError → Type 0
 OwesReplay ops a given picks taken stop output result =
     (lists : List (List ℤ)) × (fault : Option TextFault) × (horizon : ℕ) × IsFed a given taken stop lists fault horizon
     × Judges (first_core ops a lists horizon) a.placed.nodes a.outputs.items (input_words a) given lists fault picks output result

@@ -3,7 +3,7 @@ ghost use Rattle.std.specs.Prelude.{◌≡◌, ◌≢◌, ◌≤◌, ℕ, List, 
 ghost use Rattle.lucy_host.specs.Host.{Serves, lent};
 ghost use Rattle.lucy_host.specs.Operators.{Operator, kinds_of};
 ghost use Rattle.lucy_lines.specs.Fronts.{most_bytes};
-ghost use Rattle.lucy_feed.specs.Sources.{Stop, Read};
+ghost use Rattle.lucy_text.specs.Sources.{ReadStop, Read};
 ghost use Rattle.lucy_run.specs.Owes as owes;
 ghost use Rattle.lucy_run.specs.Paces.{IsPace};
 ghost use Rattle.lucy_run.specs.Played.{IsWritten, Plays};
@@ -91,7 +91,7 @@ pub fn run<
     requires accepted { WasAccepted (lent host.now) accepted }
     requires pace { IsPace pace }
     requires given { accepted.inputs.items ≡ [] → pace.instants ≢ None }
-    ensures ends { (taken : List ℕ) × (stop : Stop) × Read most_bytes (I.seen source.old) (I.seen source.new) taken stop
+    ensures ends { (taken : List ℕ) × (stop : ReadStop) × Read most_bytes (I.seen source.old) (I.seen source.new) taken stop
         × EndsRun (kinds_of (lent host.now)) accepted pace.instants pace.block taken stop (O.seen out.old) (O.seen out.new) result }
     ensures unread { accepted.inputs.items ≡ [] → source.new ≡ source.old }
     ensures source_count { (I.seen source.old).faults ≤ (I.seen source.new).faults }

@@ -13,7 +13,7 @@ use Rattle.lucy_need.specs.declared.need.Need.{Need}
 use Rattle.lucy_need.specs.declared.need.Need.TheVariants.{Adapt}
 use Rattle.lucy_need.specs.declared.need.Needs.{Needs}
 use Rattle.lucy_need.proofs.AllLaws.{all_join, all_front, all_back}
-use Rattle.lucy_solve.specs.System.{most_inequalities, System, IsReady, IsBase, Solves, no_diff}
+use Rattle.lucy_solve.specs.System.{most_inequalities, System, IsGrounded, IsBase, Solves, no_diff}
 use Rattle.lucy_shape.specs.declared.shape.ClockShape.{ClockShape}
 use Rattle.lucy_shape.specs.declared.shape.Shape.{Shape}
 use Rattle.lucy_shape.specs.Added.{with_rows, IsPlaced, IsFoldable, IsNeedSpreadable}
@@ -177,7 +177,7 @@ fits_within needs shape xs from to size words is has solves =
     let f = fitting_law shape xs is.laid (solves_front needs shape xs (solves_table needs shape xs from to size solves)) in
     (f.0, f.1, f.2, (sized_law needs shape f.0 xs from to size words is f.1 f.2 has).1 solves)
 
-pub sized_ready : (needs : Needs) (shape : Shape) (from to size : ℕ) → IsShapeFor needs shape → length (sized_inequalities needs shape from to size) ≤ most_inequalities → IsReady (sized_system needs shape from to size)
+pub sized_ready : (needs : Needs) (shape : Shape) (from to size : ℕ) → IsShapeFor needs shape → length (sized_inequalities needs shape from to size) ≤ most_inequalities → IsGrounded (sized_system needs shape from to size)
 sized_ready needs shape from to size is few =
     let a = sized_length needs shape from to size in
     let front = system_ready needs shape is (omega arith) in

@@ -3,7 +3,7 @@ use Rattle.std.proofs.Common.{◌≡◌, ℕ, ◌≤◌, List, [], length, ℤ, 
 use Rattle.std.specs.List.{flat_map, AllByRecursion}
 use Rattle.lucy_need.specs.declared.need.Needs.{Needs}
 use Rattle.lucy_need.proofs.AllLaws.{all_front}
-use Rattle.lucy_solve.specs.System.{most_inequalities, System, IsReady, IsBase, Solves, no_diff}
+use Rattle.lucy_solve.specs.System.{most_inequalities, System, IsGrounded, IsBase, Solves, no_diff}
 use Rattle.lucy_shape.specs.declared.shape.Shape.{Shape}
 use Rattle.lucy_shape.proofs.Bases.{base_of, has_left}
 use Rattle.lucy_shape.proofs.Meeting.{each_from, each_to, meeting_law}
@@ -15,7 +15,7 @@ use Rattle.lucy_shape.specs.Fitting.{variable_count, IsShapeFor, ArePositions, I
 use Rattle.lucy_shape.specs.Inequalities.{shape_rows, need_rows, inequalities, system_of, SolvesShape}
 use Rattle.lucy_shape.specs.Rows.{HoldsIn}
 
-pub system_ready : (needs : Needs) (shape : Shape) → IsShapeFor needs shape → length (inequalities needs shape) ≤ most_inequalities → IsReady (system_of needs shape)
+pub system_ready : (needs : Needs) (shape : Shape) → IsShapeFor needs shape → length (inequalities needs shape) ≤ most_inequalities → IsGrounded (system_of needs shape)
 system_ready needs shape is few = record {
   few = few;
   based = λ v some l. has_left no_diff (IsBase v) (shape_rows shape) (flat_map (need_rows shape.period shape.clocks) needs.list) (base_of shape v is.laid some l);

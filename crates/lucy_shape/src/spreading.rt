@@ -5,7 +5,7 @@ ghost use Rattle.lucy_word.specs.Bits.{most_bits};
 ghost use Rattle.lucy_need.specs.Meeting.{Assignment, MeetsAll, alone};
 ghost use Rattle.lucy_need.specs.Stored.{HasWords};
 ghost use Rattle.lucy_need.specs.declared.need.Need.TheVariants.{Adapt};
-ghost use Rattle.lucy_solve.specs.System.{IsReady, Solves, most_inequalities};
+ghost use Rattle.lucy_solve.specs.System.{IsGrounded, Solves, most_inequalities};
 ghost use Rattle.lucy_word.specs.declared.limit.Limit.TheVariants as limit;
 ghost use Rattle.lucy_shape.specs.declared.shape.RateFault.TheVariants as fault;
 ghost use Rattle.lucy_shape.specs.Fitting.{IsFitting, IsShapeFor, IsLaidOut, ArePositions, variable_count, most_positions};
@@ -108,7 +108,7 @@ fn fill(alloc: Global, needs: &Needs, shape: &Shape) -> Result<Diffs, RateFault>
 pub fn spread(alloc: Global, needs: &Needs, shape: &Shape) -> Result<Diffs, RateFault>
     requires { IsShapeFor needs.now shape.now }
     ensures list { IfOk result (λ diffs. diffs ≡ system_of needs.now shape.now) }
-    ensures ready { IfOk result IsReady }
+    ensures ready { IfOk result IsGrounded }
     ensures limit { most_inequalities < length (inequalities needs.now shape.now) → result ≡ Err (fault.Limit limit.Inequalities) }
     ensures refused { IfErr result (λ e. (e ≡ fault.OutOfMemory) ⊎ ((e ≡ fault.Limit limit.Inequalities) × (most_inequalities < length (inequalities needs.now shape.now)))) }
     ensures exact { IfOk result (λ diffs. (w : Assignment) (xs : List ℤ) → IsFitting shape.now w → ArePositions shape.now w xs → (MeetsAll w needs.now.list ↔ Solves diffs xs)) }
@@ -139,7 +139,7 @@ pub fn spread_sized(
     requires buffer { Contains needs.now.list (Adapt (alone from) (alone to)) }
     requires size { size ≤ most_bits }
     ensures list { IfOk result (λ diffs. diffs ≡ sized_system needs.now shape.now from to size) }
-    ensures ready { IfOk result IsReady }
+    ensures ready { IfOk result IsGrounded }
     ensures limit { most_inequalities < length (sized_inequalities needs.now shape.now from to size) → result ≡ Err (fault.Limit limit.Inequalities) }
     ensures refused { IfErr result (λ e. (e ≡ fault.OutOfMemory) ⊎ ((e ≡ fault.Limit limit.Inequalities) × (most_inequalities < length (sized_inequalities needs.now shape.now from to size)))) }
     ensures exact { IfOk result (λ diffs. (w : Assignment) (xs : List ℤ) → IsFitting shape.now w → ArePositions shape.now w xs → (MeetsWithin needs.now from to size w ↔ Solves diffs xs)) }

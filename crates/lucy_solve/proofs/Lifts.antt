@@ -3,7 +3,7 @@ use Rattle.std.proofs.Common.{◌^◌, neg_ℤ, inl, inr, ◌≡◌, ℕ, ◌+�
 use Rattle.std.proofs.lemmas.Int.{ints}
 use Rattle.std.proofs.lemmas.Bool.{cases_eq}
 use Rattle.std.proofs.lemmas.List.{get_or-set_same, get_or-set_other, length-set, length-replicate}
-use Rattle.lucy_solve.specs.System.{System, diff_at, no_diff, IsProper, IsSystem, value, IsReady}
+use Rattle.lucy_solve.specs.System.{System, diff_at, no_diff, IsProper, IsSystem, value, IsGrounded}
 use Rattle.lucy_solve.specs.Search.{shifted, IsLift, IsReached}
 use Rattle.lucy_solve.proofs.Places.{put, put_same, put_other, at_set, first_at}
 
@@ -83,7 +83,7 @@ lift s x parents i to h p l more e =
     }
 
 -- before the first pass
-pub reached_first : (s : System) (none : ℕ) → IsReady s → length s.list ≤ none → IsReached s (replicate s.count 0) (replicate s.count none)
+pub reached_first : (s : System) (none : ℕ) → IsGrounded s → length s.list ≤ none → IsReached s (replicate s.count 0) (replicate s.count none)
 reached_first s none ready big = record {
   value_count = length-replicate s.count 0;
   parent_count = length-replicate s.count none;

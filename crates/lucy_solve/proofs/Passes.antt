@@ -6,7 +6,7 @@ use Rattle.std.proofs.lemmas.List.Elements.{All-from_get_or}
 use borrow.Author.Count.{below_more}
 use Rattle.lucy_solve.specs.declared.diffs.Diff.{Diff}
 use Rattle.lucy_solve.specs.System.{System, diff_at, IsSystem}
-use Rattle.lucy_solve.specs.Search.{position_at, Holds, IsReached, IsWithin, IsRaised, IsPassed}
+use Rattle.lucy_solve.specs.Search.{position_at, MeetsInequality, IsReached, AreWithin, IsRaised, IsPassed}
 use Rattle.lucy_solve.specs.Parents.{IsForest}
 use Rattle.lucy_solve.proofs.Lifts.{proper}
 use Rattle.lucy_solve.proofs.Raises.{raised_within}
@@ -25,11 +25,11 @@ deep s x parents h f p (suc n) v k m = elim (cases_lt (get_or parents v 0) (leng
   | inr l ↦ let a = h.root v k l in omega arith
 ]
 
-pub within_forest : (s : System) (x parents : List ℕ) → IsReached s x parents → IsForest s parents → IsSystem s → IsWithin x (length s.list)
+pub within_forest : (s : System) (x parents : List ℕ) → IsReached s x parents → IsForest s parents → IsSystem s → AreWithin x (length s.list)
 within_forest s x parents h f p v k = let a = h.value_count in deep s x parents h f p (length s.list) v (omega arith) (f.shallow v)
 
 -- one pass, step by step
-pub passed_none : (list : List Diff) (backwards : Bool) (x : List ℕ) → IsWithin x (length list) → IsPassed list backwards x x 0 false
+pub passed_none : (list : List Diff) (backwards : Bool) (x : List ℕ) → AreWithin x (length list) → IsPassed list backwards x x 0 false
 passed_none list backwards x h = record {
   within = λ v k. let a = h v k in omega arith;
   grown = omega arith;
@@ -37,7 +37,7 @@ passed_none list backwards x h = record {
   risen = λ e. (cc);
 }
 
-pub passed_keep : (list : List Diff) (backwards : Bool) (before x : List ℕ) (i : ℕ) (moved : Bool) → IsPassed list backwards before x i moved → Holds list x (position_at (length list) backwards i) → IsPassed list backwards before x (i + 1) moved
+pub passed_keep : (list : List Diff) (backwards : Bool) (before x : List ℕ) (i : ℕ) (moved : Bool) → IsPassed list backwards before x i moved → MeetsInequality list x (position_at (length list) backwards i) → IsPassed list backwards before x (i + 1) moved
 passed_keep list backwards before x i moved h here = record {
   within = λ v k. let a = h.within v k in omega arith;
   grown = h.grown;
@@ -59,12 +59,12 @@ passed_step list backwards before x x' n i moved true moved' h r e f g =
     }
 passed_step list backwards before x x' n i moved false moved' h r e f g =
     let a = r.still refl in
-    let here : Holds list x (position_at (length list) backwards n) = subst (λ (x : List ℕ). Holds list x (position_at (length list) backwards n)) a.0 (subst (λ (i : ℕ). Holds list x' i) e a.1) in
+    let here : MeetsInequality list x (position_at (length list) backwards n) = subst (λ (x : List ℕ). MeetsInequality list x (position_at (length list) backwards n)) a.0 (subst (λ (i : ℕ). MeetsInequality list x' i) e a.1) in
     subst (λ (x : List ℕ). IsPassed list backwards before x (n + 1) moved') (sym a.0)
     (subst (λ (m : Bool). IsPassed list backwards before x (n + 1) m) (sym (g refl)) (passed_keep list backwards before x n moved h here))
 
 -- the passes end: the sum of the values rises, and is bounded
-pub sum_bounded : (xs : List ℕ) (n : ℕ) → IsWithin xs n → sum xs ≤ length xs * (2 ^ 40 * n)
+pub sum_bounded : (xs : List ℕ) (n : ℕ) → AreWithin xs n → sum xs ≤ length xs * (2 ^ 40 * n)
 sum_bounded xs n h = sum_by-le (λ x. x) (2 ^ 40 * n) xs (All-from_get_or (λ x. x ≤ 2 ^ 40 * n) xs 0 h)
 
 pub room_falls : (s : System) (x x' parents' : List ℕ) → IsReached s x' parents' → IsForest s parents' → IsSystem s → sum x < sum x' →

@@ -6,7 +6,7 @@ use Rattle.std.proofs.lemmas.Bool.{cases_lt}
 use Rattle.std.proofs.lemmas.List.{length-set, get_or_past}
 use Rattle.lucy_solve.specs.declared.diffs.Diff.{Diff}
 use Rattle.lucy_solve.specs.System.{System, diff_at, IsProper, IsSystem}
-use Rattle.lucy_solve.specs.Search.{shifted, IsReached, IsWithin, IsRaised}
+use Rattle.lucy_solve.specs.Search.{shifted, IsReached, AreWithin, IsRaised}
 use Rattle.lucy_solve.proofs.Places.{at_set, sum_set}
 use Rattle.lucy_solve.proofs.Lifts.{lift, proper}
 
@@ -43,7 +43,7 @@ raised_grown list x x' i true r = let a = r.risen refl in omega arith
 raised_grown list x x' i false r = let a = ap sum (r.still refl).0 in omega arith
 
 -- a look lifts no value by more than 2^40 past the highest
-pub raised_within : (list : List Diff) (x x' : List ℕ) (i n : ℕ) (moved : Bool) → IsRaised list x x' i moved → IsWithin x n → IsWithin x' (n + 1)
+pub raised_within : (list : List Diff) (x x' : List ℕ) (i n : ℕ) (moved : Bool) → IsRaised list x x' i moved → AreWithin x n → AreWithin x' (n + 1)
 raised_within list x x' i n moved r w =
     let low : get_or x (diff_at list i).left 0 ≤ 2 ^ 40 * n = elim (cases_lt (diff_at list i).left (length x)) [
       | inl l ↦ w (diff_at list i).left l

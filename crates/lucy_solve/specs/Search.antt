@@ -9,8 +9,8 @@ shifted (pos n) = 2 ^ 40 + n
 shifted (negsuc n) = 2 ^ 40 - 1 - n
 
 -- the values meet inequality i
-abbrev pub Holds : List Diff → List ℕ → ℕ → Type 0
-Holds list values i = slice_index values (diff_at list i).left + 2 ^ 40 ≤ slice_index values (diff_at list i).right + shifted (diff_at list i).most
+abbrev pub MeetsInequality : List Diff → List ℕ → ℕ → Type 0
+MeetsInequality list values i = slice_index values (diff_at list i).left + 2 ^ 40 ≤ slice_index values (diff_at list i).right + shifted (diff_at list i).most
 
 -- inequality i ends at variable v, which stands no higher than i asks for; where it stands just so high, the left variable of i has a lower rank
 pub record IsLift (list : List Diff) (values : List ℕ) (rank : ℕ → ℕ) (v i : ℕ) : Type 0 where
@@ -30,13 +30,13 @@ pub record IsReached (s : System) (values parents : List ℕ) : Type 0 where
   pub lifted : (v : ℕ) → v < s.count → slice_index parents v < length s.list → IsLift s.list values rank v (slice_index parents v)
 
 -- each value is at most n times 2^40
-abbrev pub IsWithin : List ℕ → ℕ → Type 0
-IsWithin values n = (v : ℕ) → v < length values → slice_index values v ≤ 2 ^ 40 * n
+abbrev pub AreWithin : List ℕ → ℕ → Type 0
+AreWithin values n = (v : ℕ) → v < length values → slice_index values v ≤ 2 ^ 40 * n
 
 -- inequality i was looked at: where no value moved, it holds; else the sum of the values has risen, and none by more than 2^40 past that of the left variable
 pub record IsRaised (list : List Diff) (before values : List ℕ) (i : ℕ) (moved : Bool) : Type 0 where
-  pub within : (n : ℕ) → IsWithin before n → slice_index before (diff_at list i).left + 2 ^ 40 ≤ 2 ^ 40 * n → IsWithin values n
-  pub still : moved ≡ false → (values ≡ before) × Holds list values i
+  pub within : (n : ℕ) → AreWithin before n → slice_index before (diff_at list i).left + 2 ^ 40 ≤ 2 ^ 40 * n → AreWithin values n
+  pub still : moved ≡ false → (values ≡ before) × MeetsInequality list values i
   pub risen : moved ≡ true → sum before < sum values
 
 -- the position that a pass over a list comes to after some others
@@ -45,13 +45,13 @@ position_at len backwards steps = cond backwards (len - 1 - steps) steps
 
 -- a pass has come by some positions: where no value moved, the inequalities there hold; else the sum of the values has risen
 pub record IsPassed (list : List Diff) (backwards : Bool) (before values : List ℕ) (steps : ℕ) (moved : Bool) : Type 0 where
-  pub within : IsWithin values (length list + steps)
+  pub within : AreWithin values (length list + steps)
   pub grown : sum before ≤ sum values
-  pub still : moved ≡ false → (values ≡ before) × ((k : ℕ) → k < steps → Holds list values (position_at (length list) backwards k))
+  pub still : moved ≡ false → (values ≡ before) × ((k : ℕ) → k < steps → MeetsInequality list values (position_at (length list) backwards k))
   pub risen : moved ≡ true → sum before < sum values
 
 -- inequalities were looked at whose left variables stood at 2^61 or below
 pub record IsSwept (s : System) (before values parents : List ℕ) : Type 0 where
   pub reached : IsReached s values parents
-  pub within : IsWithin values 2097153
+  pub within : AreWithin values 2097153
   pub grown : sum before ≤ sum values

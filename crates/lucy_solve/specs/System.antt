@@ -72,6 +72,6 @@ pub record IsBase (v : ℕ) (diff : Diff) : Type 0 where
   pub most : diff.most ≤ℤ pos 0
 
 -- no more inequalities than the limit, a base of each variable but the origin among them
-pub record IsReady (s : System) : Type 0 where
+pub record IsGrounded (s : System) : Type 0 where
   pub few : length s.list ≤ most_inequalities
   pub based : (v : ℕ) → 0 < v → v < s.count → (i : ℕ) × (i < length s.list) × IsBase v (diff_at s.list i)

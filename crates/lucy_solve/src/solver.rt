@@ -1,8 +1,8 @@
 ghost use Rattle.std.specs.Prelude.{◌≡◌, ◌<◌, ◌≤◌, ◌^◌, ◌↔◌, length, map, pos, IfOk, MatchOption};
 ghost use Rattle.std.specs.List.{All};
-ghost use Rattle.lucy_solve.specs.System.{IsSystem, IsReady, IsEarliest, HasNoSolution, most_inequalities};
+ghost use Rattle.lucy_solve.specs.System.{IsSystem, IsGrounded, IsEarliest, HasNoSolution, most_inequalities};
 ghost use Rattle.lucy_solve.specs.Outcomes.{IsOutcome, IsCycle, IsRefutedBy};
-ghost use Rattle.lucy_solve.specs.Search.{IsReached, IsWithin};
+ghost use Rattle.lucy_solve.specs.Search.{IsReached, AreWithin};
 
 use crate::cycle::find_cycle;
 use crate::flow::Flow;
@@ -36,11 +36,11 @@ fn settle(
     parents: &mut [u32],
 ) -> Result<Option<Vec<u32>>, OutOfMemory>
     requires reached { IsReached diffs.now values.old parents.old }
-    requires within { IsWithin values.old (length diffs.now.list) }
+    requires within { AreWithin values.old (length diffs.now.list) }
     requires proper { IsSystem diffs.now }
     requires few { length diffs.now.list ≤ most_inequalities }
     ensures settled { IfOk result (λ o. MatchOption o (IsEarliest diffs.now (map pos values.new)) (λ cycle. IsRefutedBy diffs.now cycle.items)) }
-    ensures within { IfOk result (λ _. IsWithin values.new 2097153) }
+    ensures within { IfOk result (λ _. AreWithin values.new 2097153) }
 {
     let mut backwards = false;
     let mut passes = 0u32;
@@ -74,7 +74,7 @@ fn signed(alloc: Global, values: &[u64]) -> Result<Vec<i64>, OutOfMemory>
 /// The earliest solution: each variable has the least value that it has in any. Where there is no solution, a cycle of
 /// inequalities that shows it, which `confirm_cycle` confirms. Want of memory says nothing of the inequalities.
 pub fn solve(alloc: Global, diffs: &Diffs) -> Result<Outcome, OutOfMemory>
-    requires { IsReady diffs.now }
+    requires { IsGrounded diffs.now }
     ensures is { IfOk result (IsOutcome diffs.now) }
     ensures exact { IfOk result (λ outcome. IsCycle outcome ↔ HasNoSolution diffs.now) }
 {

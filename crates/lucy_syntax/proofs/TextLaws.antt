@@ -16,11 +16,11 @@ use Rattle.lucy_token.specs.declared.stop.SyntaxError.TheVariants.{OutOfMemory}
 use Rattle.lucy_token.specs.Cuts.{Cuts}
 use Rattle.lucy_grammar.specs.Programs.{IsProgram, BeginsProgram, IsFirstUnfit}
 use Rattle.lucy_grammar.specs.Texts.{HasTree, IsRefused, error_at}
-use Rattle.lucy_grammar.specs.Why.{IsWhole, IsWhy}
+use Rattle.lucy_grammar.specs.Why.{IsWholeProgram, IsWhy}
 use Rattle.lucy_grammar.proofs.TextLaws.{begins_whole, one_error, tree_or_error, unfit_text}
 
 -- no program stops where no program is
-none_there : (ts : List Token) (stop : Stop) → ((p : ProgramTree) → IsProgram ts p → ⊥) → (p : ProgramTree) → IsWhole ts stop p → ⊥
+none_there : (ts : List Token) (stop : Stop) → ((p : ProgramTree) → IsProgram ts p → ⊥) → (p : ProgramTree) → IsWholeProgram ts stop p → ⊥
 none_there ts (End n) none p h = none p h
 none_there ts (Fault e) none p h = h
 
@@ -44,7 +44,7 @@ refused_at ts (t ∷ more) stop u = inl (record {
 pub refused_behind : (ts : List Token) (stop : Stop) (e : SyntaxError) (p : ProgramTree) → stop ≡ Fault e → IsProgram ts p → IsWhy ts stop e
 refused_behind ts stop e p is h = inr (record {
   fits = begins_whole ts p h;
-  none = λ q k. (let P : Stop → Type 0 = λ s. IsWhole ts s q in subst P is k);
+  none = λ q k. (let P : Stop → Type 0 = λ s. IsWholeProgram ts s q in subst P is k);
   error = sym (ap (λ s. error_at [] s) is);
 })
 

@@ -3,7 +3,7 @@ ghost use Rattle.std.specs.Prelude.{◌≡◌, ◌<◌, ◌↔◌, IfOk, IfErr, 
 ghost use Rattle.lucy_token.specs.Tokens.{first};
 ghost use Rattle.lucy_token.specs.declared.token.Kind.TheVariants as kind;
 ghost use Rattle.lucy_token.specs.declared.token.Token.{Token};
-ghost use Rattle.lucy_grammar.specs.Meanings.{name_of, word_of};
+ghost use Rattle.lucy_grammar.specs.Meanings.{token_name, token_word};
 ghost use Rattle.lucy_grammar.specs.Reading.{Begins, IsOther};
 ghost use Rattle.lucy_syntax.specs.Refusals.{RefusedBy};
 
@@ -76,7 +76,7 @@ pub(crate) fn name<'a, 't>(
     alloc: Global,
     ts: &'a [Token<'t>],
 ) -> Result<(Name, &'a [Token<'t>]), Refusal<'a, 't>>
-    ensures ok { IfOk result (λ p. (t : Token) × Begins ts.now t kind.Name p.1.now × (p.0 ≡ name_of t)) }
+    ensures ok { IfOk result (λ p. (t : Token) × Begins ts.now t kind.Name p.1.now × (p.0 ≡ token_name t)) }
     ensures refused { IfErr result (RefusedBy (IsOther ts.now kind.Name)) }
     ensures shorter { IfOk result (λ p. length p.1.now < length ts.now) }
 {
@@ -97,7 +97,7 @@ pub(crate) fn word<'a, 't>(
     alloc: Global,
     ts: &'a [Token<'t>],
 ) -> Result<(Word, &'a [Token<'t>]), Refusal<'a, 't>>
-    ensures ok { IfOk result (λ p. (t : Token) × Begins ts.now t kind.Word p.1.now × (p.0 ≡ word_of t.what)) }
+    ensures ok { IfOk result (λ p. (t : Token) × Begins ts.now t kind.Word p.1.now × (p.0 ≡ token_word t.what)) }
     ensures refused { IfErr result (RefusedBy (IsOther ts.now kind.Word)) }
     ensures shorter { IfOk result (λ p. length p.1.now < length ts.now) }
 {

@@ -2,7 +2,7 @@
 ghost use Rattle.std.specs.Prelude.{◌≡◌, ◌<◌, ◌≤◌, IfOk, IfErr, List, Option, length, unwrap_or, []};
 ghost use Rattle.lucy_tree.specs.declared.decl.Decl.{Decl};
 ghost use Rattle.lucy_grammar.specs.Symbols.{Part};
-ghost use Rattle.lucy_grammar.specs.Reading.{Takes, Refuses, Reads, Unfit, ReadsOptional, UnfitOptional};
+ghost use Rattle.lucy_grammar.specs.Reading.{Takes, BreaksAt, Reads, Unfit, ReadsOptional, UnfitOptional};
 ghost use Rattle.lucy_syntax.specs.Refusals.{RefusedBy, behind_name};
 
 use crate::cursor::{at, name, take, want, word};
@@ -77,7 +77,7 @@ fn typing_and_clock<'a, 't>(
     ts: &'a [Token<'t>],
 ) -> Result<((Option<DataType>, Option<Word>), &'a [Token<'t>]), Refusal<'a, 't>>
     ensures ok { IfOk result (λ p. Takes Part.Decl behind_name ts.now (p.0.0, (p.0.1, tt)) p.1.now) }
-    ensures refused { IfErr result (RefusedBy (Refuses Part.Decl behind_name ts.now)) }
+    ensures refused { IfErr result (RefusedBy (BreaksAt Part.Decl behind_name ts.now)) }
     ensures shorter { IfOk result (λ p. length p.1.now ≤ length ts.now) }
 {
     let (holds, ts) = typing(ts)?;

@@ -8,7 +8,7 @@ ghost use Rattle.lucy_tree.specs.Tree.{Trees, no_more};
 ghost use Rattle.lucy_tree.specs.View.{tree_of};
 ghost use Rattle.lucy_grammar.specs.Symbols.{Part};
 ghost use Rattle.lucy_grammar.specs.Meanings.{two};
-ghost use Rattle.lucy_grammar.specs.Reading.{Takes, Refuses, Reads, Unfit, ReadsOptional, UnfitOptional, IsBegun};
+ghost use Rattle.lucy_grammar.specs.Reading.{Takes, BreaksAt, Reads, Unfit, ReadsOptional, UnfitOptional, IsBegun};
 ghost use Rattle.lucy_syntax.specs.Levels.{ReadsAt, UnfitAt};
 ghost use Rattle.lucy_syntax.specs.Refusals.{RefusedBy, IsFollowed, IsHeldBy, IsApplied, IsSampled, behind_test, behind_base};
 ghost use Rattle.lucy_syntax.specs.Views.{all_trees};
@@ -80,7 +80,7 @@ fn branches<'a, 't>(
     ts: &'a [Token<'t>],
 ) -> Result<((Box<Expr>, Box<Expr>), &'a [Token<'t>]), Refusal<'a, 't>>
     ensures ok { IfOk result (λ p. (t : Token) × (e : Token) × Takes Part.Expr behind_test ts.now (t, (tree_of p.0.0.value, (e, (tree_of p.0.1.value, tt)))) p.1.now) }
-    ensures refused { IfErr result (RefusedBy (Refuses Part.Expr behind_test ts.now)) }
+    ensures refused { IfErr result (RefusedBy (BreaksAt Part.Expr behind_test ts.now)) }
     ensures shorter { IfOk result (λ p. length p.1.now < length ts.now) }
 {
     let (_, ts) = want(ts, Mark::Then)?;
@@ -446,7 +446,7 @@ fn enclosed<'a, 't>(
     ts: &'a [Token<'t>],
 ) -> Result<(Vec<Expr>, &'a [Token<'t>]), Refusal<'a, 't>>
     ensures ok { IfOk result (λ p. (o : Token) × (given : Option Trees) × (s : Token) × Takes Part.Applied behind_base ts.now (o, (given, (s, tt))) p.1.now × (all_trees p.0.items ≡ unwrap_or given no_more)) }
-    ensures refused { IfErr result (RefusedBy (Refuses Part.Applied behind_base ts.now)) }
+    ensures refused { IfErr result (RefusedBy (BreaksAt Part.Applied behind_base ts.now)) }
     ensures shorter { IfOk result (λ p. length p.1.now < length ts.now) }
 {
     let (_, ts) = want(ts, Mark::Open)?;

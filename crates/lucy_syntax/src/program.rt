@@ -3,7 +3,7 @@ ghost use Rattle.std.specs.Prelude.{◌≡◌, ◌<◌, ◌≤◌, ◌∷◌, If
 ghost use Rattle.lucy_tree.specs.View.{DefTree, tree_of, def_tree, node_tree};
 ghost use Rattle.lucy_token.specs.declared.token.Token.{Token};
 ghost use Rattle.lucy_grammar.specs.Symbols.{Part};
-ghost use Rattle.lucy_grammar.specs.Reading.{Takes, Refuses, Reads, Unfit, ReadsOptional, UnfitOptional};
+ghost use Rattle.lucy_grammar.specs.Reading.{Takes, BreaksAt, Reads, Unfit, ReadsOptional, UnfitOptional};
 ghost use Rattle.lucy_syntax.specs.Refusals.{RefusedBy, behind_first};
 
 use crate::cursor::{at, name, take, want};
@@ -36,7 +36,7 @@ fn other_lefts<'a, 't>(
     ts: &'a [Token<'t>],
 ) -> Result<(Vec<Decl>, &'a [Token<'t>]), Refusal<'a, 't>>
     ensures ok { IfOk result (λ p. (c : Token) × (s : Token) × Takes Part.Lefts behind_first ts.now (c, (p.0.items, (s, tt))) p.1.now) }
-    ensures refused { IfErr result (RefusedBy (Refuses Part.Lefts behind_first ts.now)) }
+    ensures refused { IfErr result (RefusedBy (BreaksAt Part.Lefts behind_first ts.now)) }
     ensures shorter { IfOk result (λ p. length p.1.now < length ts.now) }
 {
     let (_, ts) = want(ts, Mark::Comma)?;

@@ -7,7 +7,7 @@ ghost use Rattle.lucy_tree.specs.View.{ProgramTree, program_tree, node_tree};
 ghost use Rattle.lucy_token.specs.declared.stop.SyntaxError.TheVariants as error;
 ghost use Rattle.lucy_grammar.specs.Texts as spec;
 ghost use Rattle.lucy_grammar.specs.Texts.{HasTree, IsRefused};
-ghost use Rattle.lucy_grammar.specs.Why.{IsUnexpected, IsStopped, IsWhole};
+ghost use Rattle.lucy_grammar.specs.Why.{IsUnexpected, IsStopped, IsWholeProgram};
 
 use crate::program::nodes;
 use crate::refusal::Refusal;
@@ -18,7 +18,7 @@ use std::alloc::Global;
 
 // The nodes of tokens that stop here.
 fn whole(alloc: Global, ts: &[Token], stop: Stop) -> Result<Vec<Node>, SyntaxError>
-    ensures ok { IfOk result (λ list. IsWhole ts.now stop (map node_tree list.items)) }
+    ensures ok { IfOk result (λ list. IsWholeProgram ts.now stop (map node_tree list.items)) }
     ensures refused { IfErr result (λ e. (e ≡ error.OutOfMemory) ⊎ IsUnexpected ts.now e ⊎ IsStopped ts.now stop e) }
 {
     let (list, rest) = match nodes(alloc, ts) {

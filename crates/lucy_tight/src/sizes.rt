@@ -5,7 +5,7 @@ ghost use Rattle.lucy_word.specs.Bits.{most_bits};
 ghost use Rattle.lucy_word.specs.declared.limit.Limit.TheVariants as limit;
 ghost use Rattle.lucy_need.specs.Meeting.{alone};
 ghost use Rattle.lucy_need.specs.declared.need.Need.TheVariants.{Adapt};
-ghost use Rattle.lucy_solve.specs.System.{Solves, IsReady};
+ghost use Rattle.lucy_solve.specs.System.{Solves, IsGrounded};
 ghost use Rattle.lucy_solve.specs.Outcomes.{IsOutcome};
 ghost use Rattle.lucy_shape.specs.Fitting.{IsShapeFor};
 ghost use Rattle.lucy_shape.specs.Inequalities.{SolvesShape};
@@ -39,7 +39,7 @@ fn inequalities(
     requires buffer { Contains needs.now.list (Adapt (alone from) (alone to)) }
     requires size { size ≤ most_bits }
     ensures list { IfOk result (λ diffs. diffs ≡ sized_system needs.now shape.now from to size) }
-    ensures ready { IfOk result IsReady }
+    ensures ready { IfOk result IsGrounded }
     ensures few { IfOk result (λ _. HasTooMany needs.now shape.now from to → ⊥) }
     ensures solved { IfOk result (λ diffs. (xs : List ℤ) → Solves diffs xs → SolvesShape shape.now xs) }
     ensures refused { IfErr result (λ e. (e ≡ error.OutOfMemory) ⊎ ((e ≡ error.Limit limit.Inequalities) × HasTooMany needs.now shape.now from to)) }

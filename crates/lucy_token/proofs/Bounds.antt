@@ -6,7 +6,7 @@ use Rattle.lucy_token.specs.declared.token.Kind.TheVariants as kind
 use Rattle.lucy_token.specs.declared.state.Side.{Side}
 use Rattle.lucy_token.specs.declared.state.Side.TheVariants as side
 use Rattle.lucy_token.specs.declared.state.Level.{Level}
-use Rattle.lucy_token.specs.States.{State, after, closed, moved, counted_after, nodes_after, level_after, merging, HasRoom}
+use Rattle.lucy_token.specs.States.{ScanState, after, closed, moved, counted_after, nodes_after, level_after, merging, HasCountRoom}
 use Rattle.lucy_token.specs.Steps.{FewCommas, IsBounded}
 
 few_more : (n m : ℕ) (ls : List Level) → n ≤ m → FewCommas n ls → FewCommas m ls
@@ -39,7 +39,7 @@ commas_more before l (kind.Mark mark.False) = omega arith
 commas_more before l (kind.Mark mark.Comma) = omega arith
 commas_more before l k = omega arith
 
-closed_bounded : (n : ℕ) (s : State) (outer : List Level) → IsBounded n s → FewCommas n outer → IsBounded (n + 1) (closed s outer)
+closed_bounded : (n : ℕ) (s : ScanState) (outer : List Level) → IsBounded n s → FewCommas n outer → IsBounded (n + 1) (closed s outer)
 closed_bounded n s [] b few = record {
   counted = omega (arith, b.counted, counted_more s.side s.counted (kind.Mark mark.Close));
   nodes = omega (arith, b.nodes, nodes_more s.nodes (kind.Mark mark.Close));
@@ -51,24 +51,24 @@ closed_bounded n s (l ∷ outer) b few = record {
   commas = (omega (arith, few.0), few_more n (n + 1) outer (omega arith) few.1);
 }
 
-moved_bounded : (n : ℕ) (s : State) (k : Kind) (level : Level) (outer : List Level) → IsBounded n s → level.commas ≤ n + 1 → FewCommas (n + 1) outer → IsBounded (n + 1) (moved s k level outer)
+moved_bounded : (n : ℕ) (s : ScanState) (k : Kind) (level : Level) (outer : List Level) → IsBounded n s → level.commas ≤ n + 1 → FewCommas (n + 1) outer → IsBounded (n + 1) (moved s k level outer)
 moved_bounded n s k level outer b h few = record {
   counted = omega (arith, b.counted, counted_more s.side s.counted k);
   nodes = omega (arith, b.nodes, nodes_more s.nodes k);
   commas = (h, few);
 }
 
-level_bounded : (n : ℕ) (s : State) (k : Kind) → IsBounded n s → IsBounded (n + 1) (moved s k (level_after s.before s.level k) s.outer)
+level_bounded : (n : ℕ) (s : ScanState) (k : Kind) → IsBounded n s → IsBounded (n + 1) (moved s k (level_after s.before s.level k) s.outer)
 level_bounded n s k b = moved_bounded n s k (level_after s.before s.level k) s.outer b (omega (arith, b.commas.0, commas_more s.before s.level k)) (few_more n (n + 1) s.outer (omega arith) b.commas.1)
 
-pub after_bounded : (n : ℕ) (s : State) (k : Kind) → IsBounded n s → IsBounded (n + 1) (after s k)
+pub after_bounded : (n : ℕ) (s : ScanState) (k : Kind) → IsBounded n s → IsBounded (n + 1) (after s k)
 unfolding after
 after_bounded n s (kind.Mark mark.Open) b = moved_bounded n s (kind.Mark mark.Open) _ (s.level ∷ s.outer) b (omega arith) (few_more n (n + 1) (s.level ∷ s.outer) (omega arith) b.commas)
 after_bounded n s (kind.Mark mark.Close) b = closed_bounded n s s.outer b b.commas.1
 after_bounded n s k b = level_bounded n s k b
 
-pub bounded_more : (n m : ℕ) (s : State) → n ≤ m → IsBounded n s → IsBounded m s
+pub bounded_more : (n m : ℕ) (s : ScanState) → n ≤ m → IsBounded n s → IsBounded m s
 bounded_more n m s h b = record { counted = omega (arith, b.counted); nodes = omega (arith, b.nodes); commas = few_more n m (s.level ∷ s.outer) h b.commas }
 
-pub has_room : (n : ℕ) (s : State) → n < 4294967295 → IsBounded n s → HasRoom s
+pub has_room : (n : ℕ) (s : ScanState) → n < 4294967295 → IsBounded n s → HasCountRoom s
 has_room n s h b = (omega (arith, b.counted), omega (arith, b.nodes), omega (arith, b.commas.0))

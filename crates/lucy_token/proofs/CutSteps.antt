@@ -13,7 +13,7 @@ use Rattle.lucy_token.specs.Contents.{Contains}
 use Rattle.lucy_token.specs.Scans.{IsMalformed, scanned_front, Scans, ends, gap, malformed, token}
 use Rattle.lucy_token.specs.Cuts.{token_at}
 use Rattle.lucy_token.proofs.FrontLaws.{IsFront, of_front}
-use Rattle.lucy_token.specs.Steps.{IsRead, IsStep, IsContent, CutsSoFar}
+use Rattle.lucy_token.specs.Steps.{IsReadToken, IsScanStep, IsContent, CutsSoFar}
 use Rattle.lucy_token.specs.Cuts.{Cuts}
 use Rattle.lucy_token.proofs.ScanLaws.{cut_of}
 
@@ -24,7 +24,7 @@ passed_gap text ts from ks n so_far some e more stop q =
     so_far more stop (gap some e (subst P (sym (drop-drop n from text)) q))
 
 pub passed_token : (text : List ℕ) (ts new : List token_type.Token) (from : ℕ) (ks : List Kind) (t : token_type.Token) (k : Kind) (n : ℕ) → CutsSoFar text ts from ks (drop from text) → 0 < length (drop from text) →
-    IsRead from ks (drop from text) t k n → new ≡ ts ++ t ∷ [] → CutsSoFar text new (from + n) (k ∷ ks) (drop (from + n) text)
+    IsReadToken from ks (drop from text) t k n → new ≡ ts ++ t ∷ [] → CutsSoFar text new (from + n) (k ∷ ks) (drop (from + n) text)
 passed_token text ts new from ks t k n so_far some r added more stop q =
     let P : List ℕ → Type 0 = λ u. Scans (from + n) (k ∷ ks) u more stop in
     let Q : List token_type.Token → Type 0 = λ u. Scans 0 [] text u stop in
@@ -52,7 +52,7 @@ passed_all text ts from ks so_far all =
 
 -- what a token'ks bytes stand for makes it a step
 pub read_step : (from : ℕ) (ks : List Kind) (text : List ℕ) (k before : Kind) (n : ℕ) (w : What) → scanned_front ks text ≡ Token k n → limit_at ks k ≡ None → is_entry_past ks k ≡ false →
-    before ≡ (nearest ks) → IsContent before k (take n text) from (Ok w) → IsRead from ks text (token_at w from n) k n
+    before ≡ (nearest ks) → IsContent before k (take n text) from (Ok w) → IsReadToken from ks text (token_at w from n) k n
 read_step from ks text k before n w e f g same h =
     let P : Kind → Type 0 = λ b. Contains b k (take n text) w in
     record { front = e; passes = f; in_list = g; stands_for = subst P same h; placed = refl }
@@ -64,10 +64,10 @@ fault_step from ks text k before n fault some e f g same h =
     malformed some e f g (subst P same h)
 
 -- a step at what is left of the text
-pub at_rest : (from : ℕ) (ks : List Kind) (text rest : List ℕ) (taken other : Step) → rest ≡ drop from text → taken ≡ other → IsStep from ks rest taken → IsStep from ks (drop from text) other
+pub at_rest : (from : ℕ) (ks : List Kind) (text rest : List ℕ) (taken other : Step) → rest ≡ drop from text → taken ≡ other → IsScanStep from ks rest taken → IsScanStep from ks (drop from text) other
 at_rest from ks text rest taken other e f h =
-    let P : List ℕ → Type 0 = λ u. IsStep from ks u taken in
-    let Q : Step → Type 0 = λ u. IsStep from ks (drop from text) u in
+    let P : List ℕ → Type 0 = λ u. IsScanStep from ks u taken in
+    let Q : Step → Type 0 = λ u. IsScanStep from ks (drop from text) u in
     subst Q f (subst P e h)
 
 pub rest_some : (text : List ℕ) (from : ℕ) → from < length text → 0 < length (drop from text)

@@ -21,7 +21,7 @@ use Rattle.lucy_token.specs.Marks.{spelling, keywords, signs}
 use Rattle.lucy_token.specs.Before.{nearest, wants_word, operand_begins}
 use Rattle.lucy_token.specs.Fronts.{head, close_of, begins_gap, gap_of, plain_front, front_of, minus_of, is_letter, is_name_byte, sign_in, named_in}
 use Rattle.lucy_token.specs.Scans.{word_front, scanned_front}
-use Rattle.lucy_token.specs.States.{State, begins_operand}
+use Rattle.lucy_token.specs.States.{ScanState, begins_operand}
 use Rattle.lucy_token.specs.Steps.{front_in, IsTokenOf}
 use Rattle.lucy_token.proofs.WordFronts.{IsBetween, front_is}
 
@@ -163,5 +163,5 @@ pub of_front : (ks : List Kind) (text : List ℕ) (f : Front) → 0 < length tex
 of_front ks text f some e = subst (IsFront text) (sym e) (front ks text some)
 
 -- and of what stands there by the scanner's state
-pub of_front_in : (s : State) (text : List ℕ) (f : Front) → 0 < length text → f ≡ front_in s text → IsFront text f
+pub of_front_in : (s : ScanState) (text : List ℕ) (f : Front) → 0 < length text → f ≡ front_in s text → IsFront text f
 of_front_in s text f some e = subst (IsFront text) (sym e) (by_parts (wants_word s.before) (begins_operand s) text some)

@@ -30,7 +30,7 @@ use Rattle.lucy_token.specs.Fronts.{head, is_name_byte, begins_gap, gap_of, clos
 use Rattle.lucy_token.specs.Scans.{word_front, scanned_front, Scans, ends, gap, token}
 use Rattle.lucy_token.specs.Contents.{Contains}
 use Rattle.lucy_token.specs.Cuts.{token_at}
-use Rattle.lucy_token.specs.Spelled.{text_of_what, Printed, bytes_of, whats_of, placed, all_blank, ends_before, are_apart, apart_from, IsSpelled, Stands, AllStand, Follows}
+use Rattle.lucy_token.specs.Spelled.{text_of_what, Printed, bytes_of, whats_of, placed, all_blank, ends_before, are_apart, apart_from, IsSpelled, MayStandHere, AllStand, PrintsBehind}
 use Rattle.lucy_token.proofs.PrintFronts.{no_gap, mark_no_gap, mark_front, digits_front, minus_front, digits_no_gap, name_text_front, name_no_gap}
 use Rattle.lucy_token.proofs.WordFronts.{form_no_gap, form_front}
 use Rattle.lucy_token.proofs.PrintEnds.{next_ends, blanks_end}
@@ -51,7 +51,7 @@ front_word ks text h k =
     ∙ cond-true (wants_word (nearest ks)) (word_front text) (plain_front (operand_begins ks) text) k
 
 -- what a printed token is read as
-front_printed : (ks : List Kind) (w : What) (rest : List ℕ) → Stands ks w → ends_before w (head rest) ≡ true → scanned_front ks (text_of_what w ++ rest) ≡ Token (kind_of w) (length (text_of_what w))
+front_printed : (ks : List Kind) (w : What) (rest : List ℕ) → MayStandHere ks w → ends_before w (head rest) ≡ true → scanned_front ks (text_of_what w ++ rest) ≡ Token (kind_of w) (length (text_of_what w))
 front_printed ks (what.Mark m) rest h e = front_plain ks (spelling m ++ rest) (mark_no_gap m rest e) h.word_here ∙ mark_front (operand_begins ks) m rest e
 front_printed ks (what.Name bytes) rest h e = front_plain ks (bytes ++ rest) (name_no_gap bytes rest h.spelled) h.word_here ∙ name_text_front (operand_begins ks) bytes rest h.spelled (not-true (is_name_byte (head rest)) e)
 front_printed ks (what.Number (pos n)) rest h e =
@@ -117,7 +117,7 @@ printed_some before (what.Number (negsuc n)) h = omega arith
 printed_some before (what.Word w) h = omega (arith, length-append (spelled w.prefix) (40 ∷ (spelled w.period ++ 41 ∷ [])))
 
 -- one token in print
-cut_token : (from : ℕ) (ks : List Kind) (w : What) (text : List ℕ) (ts : List token_type.Token) (stop : Stop) → Stands ks w → ends_before w (head text) ≡ true →
+cut_token : (from : ℕ) (ks : List Kind) (w : What) (text : List ℕ) (ts : List token_type.Token) (stop : Stop) → MayStandHere ks w → ends_before w (head text) ≡ true →
     Scans (from + length (text_of_what w)) (kind_of w ∷ ks) text ts stop → Scans from ks (text_of_what w ++ text) (token_at w from (length (text_of_what w)) ∷ ts) stop
 cut_token from ks w text ts stop h e q =
     let front : scanned_front ks (text_of_what w ++ text) ≡ Token (kind_of w) (length (text_of_what w)) = front_printed ks w text h e in
@@ -148,5 +148,5 @@ cut_from from ks (p ∷ ps) rest stand apart blank =
     (cut_token at ks p.what text _ _ stand.0 (behind (kind_of p.what ∷ ks) p.what ps rest stand.1 b.1 a.1 blank) (cut_from behind_it (kind_of p.what ∷ ks) ps rest stand.1 a.1 blank)))
 
 -- Tokens that may stand so in print are cut into just these tokens, up to the end of the text.
-pub cut_printed : (from : ℕ) (ks : List Kind) (ps : List Printed) (rest : List ℕ) → Follows ks ps → all_blank rest ≡ true → Cuts from ks (bytes_of ps rest) (placed from ps) (End (from + length (bytes_of ps rest)))
+pub cut_printed : (from : ℕ) (ks : List Kind) (ps : List Printed) (rest : List ℕ) → PrintsBehind ks ps → all_blank rest ≡ true → Cuts from ks (bytes_of ps rest) (placed from ps) (End (from + length (bytes_of ps rest)))
 cut_printed from ks ps rest h blank = cut_of (cut_from from ks ps rest h.stand h.apart blank)

@@ -14,7 +14,7 @@ use Rattle.lucy_token.specs.Before.{nearest, limit_at, is_entry_past, wants_word
 use Rattle.lucy_token.specs.Fronts.{is_name_byte}
 use Rattle.lucy_token.specs.Written.{IsNameText}
 use Rattle.lucy_token.specs.Cuts.{Cuts}
-use Rattle.lucy_token.specs.Spelled.{Printed, bytes_of, placed, is_word, is_negative, IsSpelled, Stands, Follows}
+use Rattle.lucy_token.specs.Spelled.{Printed, bytes_of, placed, is_word, is_negative, IsSpelled, MayStandHere, PrintsBehind}
 use Rattle.lucy_token.proofs.PrintLaws.{cut_printed}
 
 spaced : What → Printed
@@ -37,10 +37,10 @@ unfolding row spaced bare
 row_text = rw (decimal_digit 3 (omega arith)) refl
 
 -- a token that is no number below 0
-plain : (ks : List Kind) (w : What) → limit_at ks (kind_of w) ≡ None → is_entry_past ks (kind_of w) ≡ false → wants_word (nearest ks) ≡ is_word w → is_negative w ≡ false → IsSpelled (nearest ks) w → Stands ks w
+plain : (ks : List Kind) (w : What) → limit_at ks (kind_of w) ≡ None → is_entry_past ks (kind_of w) ≡ false → wants_word (nearest ks) ≡ is_word w → is_negative w ≡ false → IsSpelled (nearest ks) w → MayStandHere ks w
 plain ks w l p h n spelled = record { passes = l; in_list = p; word_here = h; operand_here = λ e. absurd (both_ways (is_negative w) n e); spelled = spelled }
 
-row_follows : Follows [] row
+row_follows : PrintsBehind [] row
 unfolding row spaced bare limit_at is_entry_past operand_begins
 row_follows = record {
   stand = (

@@ -18,34 +18,34 @@ use Rattle.lucy_token.specs.Before.{is_one_of, nearest, wants_word, precedes_ope
 use Rattle.lucy_token.specs.Fronts.{begins_gap, gap_of, plain_front, front_of}
 use Rattle.lucy_token.specs.Scans.{word_front, scanned_front}
 use Rattle.lucy_token.specs.Steps.{front_in}
-use Rattle.lucy_token.specs.States.{State, fresh, side_defined, side_after, counted_after, nodes_after, served, merging, level_after, closed, after, is_right, begins_operand, past_tokens, limit_passed, is_comma, begins_entry, is_past_last, state_of}
+use Rattle.lucy_token.specs.States.{ScanState, fresh, side_defined, side_after, counted_after, nodes_after, served, merging, level_after, closed, after, is_right, begins_operand, past_tokens, limit_passed, is_comma, begins_entry, is_past_last, state_of}
 
 -- one token on, field by field
-after_before : (s : State) (outer : List Level) → (closed s outer).before ≡ kind.Mark mark.Close
+after_before : (s : ScanState) (outer : List Level) → (closed s outer).before ≡ kind.Mark mark.Close
 after_before s [] = refl
 after_before s (l ∷ outer) = refl
 
-pub before_after : (s : State) (k : Kind) → (after s k).before ≡ k
+pub before_after : (s : ScanState) (k : Kind) → (after s k).before ≡ k
 unfolding after
 before_after s (kind.Mark mark.Open) = refl
 before_after s (kind.Mark mark.Close) = after_before s s.outer
 before_after s k = refl
 
-closed_nodes : (s : State) (outer : List Level) → (closed s outer).nodes ≡ s.nodes
+closed_nodes : (s : ScanState) (outer : List Level) → (closed s outer).nodes ≡ s.nodes
 closed_nodes s [] = refl
 closed_nodes s (l ∷ outer) = refl
 
-after_nodes : (s : State) (k : Kind) → (after s k).nodes ≡ nodes_after s.nodes k
+after_nodes : (s : ScanState) (k : Kind) → (after s k).nodes ≡ nodes_after s.nodes k
 unfolding after
 after_nodes s (kind.Mark mark.Open) = refl
 after_nodes s (kind.Mark mark.Close) = closed_nodes s s.outer
 after_nodes s k = refl
 
-closed_side : (s : State) (outer : List Level) → ((closed s outer).side ≡ side_after s.side s.before (kind.Mark mark.Close)) × ((closed s outer).counted ≡ counted_after s.side s.counted (kind.Mark mark.Close))
+closed_side : (s : ScanState) (outer : List Level) → ((closed s outer).side ≡ side_after s.side s.before (kind.Mark mark.Close)) × ((closed s outer).counted ≡ counted_after s.side s.counted (kind.Mark mark.Close))
 closed_side s [] = (refl, refl)
 closed_side s (l ∷ outer) = (refl, refl)
 
-after_side : (s : State) (k : Kind) → ((after s k).side ≡ side_after s.side s.before k) × ((after s k).counted ≡ counted_after s.side s.counted k)
+after_side : (s : ScanState) (k : Kind) → ((after s k).side ≡ side_after s.side s.before k) × ((after s k).counted ≡ counted_after s.side s.counted k)
 unfolding after
 after_side s (kind.Mark mark.Open) = (refl, refl)
 after_side s (kind.Mark mark.Close) = closed_side s s.outer
@@ -72,11 +72,11 @@ nodes_are [] = refl
 nodes_are (k ∷ ks) = after_nodes (state_of ks) k ∙ one_node (state_of ks).nodes k ks (nodes_are ks)
 
 -- the open parentheses
-closed_depth : (s : State) (outer : List Level) → length (closed s outer).outer ≡ length outer - 1
+closed_depth : (s : ScanState) (outer : List Level) → length (closed s outer).outer ≡ length outer - 1
 closed_depth s [] = refl
 closed_depth s (l ∷ outer) = omega arith
 
-after_depth : (s : State) (k : Kind) (ks : List Kind) → length s.outer ≡ depth ks → length (after s k).outer ≡ depth (k ∷ ks)
+after_depth : (s : ScanState) (k : Kind) (ks : List Kind) → length s.outer ≡ depth ks → length (after s k).outer ≡ depth (k ∷ ks)
 unfolding after
 after_depth s (kind.Mark mark.Open) ks e = omega (arith, e)
 after_depth s (kind.Mark mark.Close) ks e = closed_depth s s.outer ∙ ap (λ n. n - 1) e
@@ -122,18 +122,18 @@ close_level ks = ap (λ n. level n (wanted ks - 1)) (omega arith)
 abbrev AreLevels : List Level → List Kind → Type 0
 AreLevels ls ks = (n : ℕ) → level_get ls n ≡ level_of (inside n ks)
 
-closed_levels : (n : ℕ) (s : State) (outer : List Level) (ks : List Kind) → AreLevels (s.level ∷ outer) ks →
+closed_levels : (n : ℕ) (s : ScanState) (outer : List Level) (ks : List Kind) → AreLevels (s.level ∷ outer) ks →
     level_get ((closed s outer).level ∷ (closed s outer).outer) n ≡ level_of (inside n (kind.Mark mark.Close ∷ ks))
 closed_levels zero s [] ks h = ap served (h 1) ∙ close_level (inside 1 ks)
 closed_levels (suc n) s [] ks h = h (suc (suc n))
 closed_levels zero s (l ∷ outer) ks h = ap served (h 1) ∙ close_level (inside 1 ks)
 closed_levels (suc n) s (l ∷ outer) ks h = h (suc (suc n))
 
-inner_on : (s : State) (k : Kind) (ks : List Kind) → s.before ≡ nearest ks → AreLevels (s.level ∷ s.outer) ks → is_one_of (mark.Close ∷ []) k ≡ false →
+inner_on : (s : ScanState) (k : Kind) (ks : List Kind) → s.before ≡ nearest ks → AreLevels (s.level ∷ s.outer) ks → is_one_of (mark.Close ∷ []) k ≡ false →
     level_after s.before s.level k ≡ level_of (k ∷ inside zero ks)
 inner_on s k ks e h f = ap (λ b. level_after b s.level k) e ∙ ap (λ l. level_after (nearest ks) l k) (h zero) ∙ inner_level k ks f
 
-levels_on : (n : ℕ) (s : State) (k : Kind) (ks : List Kind) → s.before ≡ nearest ks → AreLevels (s.level ∷ s.outer) ks →
+levels_on : (n : ℕ) (s : ScanState) (k : Kind) (ks : List Kind) → s.before ≡ nearest ks → AreLevels (s.level ∷ s.outer) ks →
     level_get ((after s k).level ∷ (after s k).outer) n ≡ level_of (inside n (k ∷ ks))
 unfolding after
 levels_on zero s (kind.Mark mark.Open) ks e h = refl
@@ -257,7 +257,7 @@ part_step at n before k o e h = inner_part at n before k o refl e h
 part_is : (ks : List Kind) → IsPart (state_of ks).side (state_of ks).counted (definition ks)
 part_is [] = refl
 part_is (k ∷ ks) =
-    let s : State = state_of ks in
+    let s : ScanState = state_of ks in
     let f = after_side s k in
     let step = part_step s.side s.counted s.before k (definition ks) (subst (λ b. IsNear b (definition ks)) (sym (before_is ks)) (near ks)) (part_is ks) in
     subst (λ at. IsPart at (after s k).counted (definition (k ∷ ks))) (sym f.0)
@@ -312,7 +312,7 @@ entry_same side.Called k = refl
 pub entry_past_same : (ks : List Kind) (k : Kind) → is_past_last (state_of ks) k ≡ is_entry_past ks k
 unfolding is_past_last is_entry_past
 entry_past_same ks k =
-    let s : State = state_of ks in
+    let s : ScanState = state_of ks in
     ap (λ b. is_comma b && nat_le (limit_number limit.Names) s.level.commas && begins_entry s.side k) (before_is ks)
     ∙ ap (λ b. b && nat_le (limit_number limit.Names) s.level.commas && begins_entry s.side k) (comma_same (nearest ks))
     ∙ ap (λ (l : Level). is_one_of (mark.Comma ∷ []) (nearest ks) && nat_le (limit_number limit.Names) l.commas && begins_entry s.side k) (levels_are ks zero)
@@ -326,14 +326,14 @@ front_same ks text =
     ∙ ap (λ b. if begins_gap text then gap_of text else if wants_word (nearest ks) then word_front text else plain_front b text) (operand_same ks)
 
 -- the same of a state that is the one behind these kinds
-pub front_at : (s : State) (ks : List Kind) (text : List ℕ) (f : Front) → s ≡ state_of ks → f ≡ front_in s text → scanned_front ks text ≡ f
+pub front_at : (s : ScanState) (ks : List Kind) (text : List ℕ) (f : Front) → s ≡ state_of ks → f ≡ front_in s text → scanned_front ks text ≡ f
 front_at s ks text f e h = sym (h ∙ ap (λ t. front_in t text) e ∙ front_same ks text)
 
-pub limit_there : (s : State) (ks : List Kind) (k : Kind) (o : Option Limit) → s ≡ state_of ks → o ≡ limit_passed s k → limit_at ks k ≡ o
+pub limit_there : (s : ScanState) (ks : List Kind) (k : Kind) (o : Option Limit) → s ≡ state_of ks → o ≡ limit_passed s k → limit_at ks k ≡ o
 limit_there s ks k o e h = sym (h ∙ ap (λ t. limit_passed t k) e ∙ limit_same ks k)
 
-pub entry_there : (s : State) (ks : List Kind) (k : Kind) (b : Bool) → s ≡ state_of ks → b ≡ is_past_last s k → is_entry_past ks k ≡ b
+pub entry_there : (s : ScanState) (ks : List Kind) (k : Kind) (b : Bool) → s ≡ state_of ks → b ≡ is_past_last s k → is_entry_past ks k ≡ b
 entry_there s ks k b e h = sym (h ∙ ap (λ t. is_past_last t k) e ∙ entry_past_same ks k)
 
-pub nearest_there : (s : State) (ks : List Kind) (before : Kind) → s ≡ state_of ks → before ≡ s.before → before ≡ nearest ks
-nearest_there s ks before e h = h ∙ ap (λ (t : State). t.before) e ∙ before_is ks
+pub nearest_there : (s : ScanState) (ks : List Kind) (before : Kind) → s ≡ state_of ks → before ≡ s.before → before ≡ nearest ks
+nearest_there s ks before e h = h ∙ ap (λ (t : ScanState). t.before) e ∙ before_is ks

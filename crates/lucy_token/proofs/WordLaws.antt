@@ -1,7 +1,7 @@
 -- Bytes are read as one word.
 use Rattle.std.proofs.Common.{◌≡◌, ℕ, ◌<◌, true, List, length, Result, Ok, Err, subst}
 use Rattle.lucy_word.specs.Bits.{Bits, ones_in}
-use Rattle.lucy_word.specs.Reading.{IsReadable, Refuses}
+use Rattle.lucy_word.specs.Reading.{IsReadable, RefusesText}
 use Rattle.lucy_word.specs.declared.error.WordError.{WordError}
 use Rattle.lucy_word.proofs.SpellingLaws.{reads_one}
 use Rattle.lucy_token.specs.declared.token.Kind.{Kind}
@@ -14,7 +14,7 @@ readable_one bytes v w h k =
     cc
 
 -- what is refused is no word, nor is one without a zero where a zero is wanted
-pub refused_no_word : (before : Kind) (bytes : List ℕ) (e : WordError) → Refuses bytes e → (v : Bits) → IsWordAfter before bytes v → ⊥
+pub refused_no_word : (before : Kind) (bytes : List ℕ) (e : WordError) → RefusesText bytes e → (v : Bits) → IsWordAfter before bytes v → ⊥
 refused_no_word before bytes e h v k =
     let p : ◌≡◌ {A = Result Bits WordError} (Ok v) (Err e) = reads_one bytes (Ok v) (Err e) k.0 h in
     cc

@@ -134,7 +134,7 @@ IsSpelled before (what.Word w) = IsWordAfter before (text_of w) w
 
 -- the token may stand here: no limit is passed, a word stands just where one must, and a number below 0 only where an
 -- operand begins
-pub record Stands (ks : List Kind) (w : What) : Type 0 where
+pub record MayStandHere (ks : List Kind) (w : What) : Type 0 where
   pub passes : limit_at ks (kind_of w) ≡ None
   pub in_list : is_entry_past ks (kind_of w) ≡ false
   pub word_here : wants_word (nearest ks) ≡ is_word w
@@ -144,9 +144,9 @@ pub record Stands (ks : List Kind) (w : What) : Type 0 where
 -- each of these tokens may stand where it stands
 abbrev pub AllStand : List Kind → List What → Type 0
 AllStand ks [] = Unit {0}
-AllStand ks (w ∷ ws) = Stands ks w × AllStand (kind_of w ∷ ks) ws
+AllStand ks (w ∷ ws) = MayStandHere ks w × AllStand (kind_of w ∷ ks) ws
 
 -- behind tokens of these kinds these may stand so in print
-pub record Follows (ks : List Kind) (ps : List Printed) : Type 0 where
+pub record PrintsBehind (ks : List Kind) (ps : List Printed) : Type 0 where
   pub stand : AllStand ks (whats_of ps)
   pub apart : are_apart ps ≡ true

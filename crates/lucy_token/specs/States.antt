@@ -14,7 +14,7 @@ use Rattle.lucy_token.specs.Before.{precedes_operand, past}
 -- the state before a token: the kind of the token before it; whether it stands in the head of a node, on the left or the
 -- right of a definition's `=`, or where a call of several results is due; the tokens of the definition so far, without parentheses; the nodes so far; what is
 -- known at the innermost open parenthesis, and at each one outside of it
-pub record State : Type 0 where
+pub record ScanState : Type 0 where
   pub before : Kind
   pub side : Side
   pub counted : ℕ
@@ -27,7 +27,7 @@ abbrev pub fresh : Level
 fresh = record { commas = 0; wanted = 0 }
 
 -- before the first token of a text
-abbrev pub start : State
+abbrev pub start : ScanState
 start = record { before = kind.End; side = side.Head; counted = 0; nodes = 0; level = fresh; outer = [] }
 
 -- after the `=` of a definition: where several names stood on its left, only a call may follow, which is no operand
@@ -81,7 +81,7 @@ level_after before l (kind.Mark mark.Comma) = record { commas = l.commas + 1; wa
 level_after before l k = l
 
 -- what is known after a token, but for the parentheses that it opens or closes
-abbrev pub moved : State → Kind → Level → List Level → State
+abbrev pub moved : ScanState → Kind → Level → List Level → ScanState
 moved s k level outer = record {
   before = k;
   side = side_after s.side s.before k;
@@ -92,12 +92,12 @@ moved s k level outer = record {
 }
 
 -- behind a `)` the parenthesis outside is the innermost again, and what was closed is an operand there
-abbrev pub closed : State → List Level → State
+abbrev pub closed : ScanState → List Level → ScanState
 closed s [] = moved s (kind.Mark mark.Close) fresh []
 closed s (l ∷ outer) = moved s (kind.Mark mark.Close) (served l) outer
 
 -- the state after a token of a kind
-unfoldable pub after : State → Kind → State
+unfoldable pub after : ScanState → Kind → ScanState
 after s (kind.Mark mark.Open) = moved s (kind.Mark mark.Open) fresh (s.level ∷ s.outer)
 after s (kind.Mark mark.Close) = closed s s.outer
 after s k = moved s k (level_after s.before s.level k) s.outer
@@ -108,7 +108,7 @@ is_right side.Right = true
 is_right at = false
 
 -- an operand begins here, if anything may: then a `-` directly before a digit belongs to a number
-unfoldable pub begins_operand : State → Bool
+unfoldable pub begins_operand : ScanState → Bool
 begins_operand s = is_right s.side && (precedes_operand s.before || nat_le 1 s.level.wanted)
 
 -- a definition's token, where so many of its tokens stand before it
@@ -117,7 +117,7 @@ past_tokens side.Head n = None
 past_tokens at n = past limit.Tokens n
 
 -- the limit that a token of a kind passes, if one: the open parentheses, the tokens of one definition, the nodes
-unfoldable pub limit_passed : State → Kind → Option Limit
+unfoldable pub limit_passed : ScanState → Kind → Option Limit
 limit_passed s (kind.Mark mark.Open) = past limit.Depth (length s.outer)
 limit_passed s (kind.Mark mark.Close) = None
 limit_passed s (kind.Mark mark.And) = None
@@ -137,14 +137,14 @@ begins_entry at kind.Name = true
 begins_entry at k = false
 
 -- the token is the first of an entry past the last one that a list may have
-unfoldable pub is_past_last : State → Kind → Bool
+unfoldable pub is_past_last : ScanState → Kind → Bool
 is_past_last s k = is_comma s.before && nat_le (limit_number limit.Names) s.level.commas && begins_entry s.side k
 
 -- the state behind tokens of these kinds, the nearest first
-abbrev pub state_of : List Kind → State
+abbrev pub state_of : List Kind → ScanState
 state_of [] = start
 state_of (k ∷ ks) = after (state_of ks) k
 
 -- what is counted may go one up
-abbrev pub HasRoom : State → Type 0
-HasRoom s = (s.counted < 4294967295) × (s.nodes < 4294967295) × (s.level.commas < 4294967295)
+abbrev pub HasCountRoom : ScanState → Type 0
+HasCountRoom s = (s.counted < 4294967295) × (s.nodes < 4294967295) × (s.level.commas < 4294967295)

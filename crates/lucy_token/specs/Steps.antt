@@ -14,14 +14,14 @@ use Rattle.lucy_token.specs.declared.stop.Stop.TheVariants.{Fault}
 use Rattle.lucy_token.specs.declared.stop.SyntaxError.{SyntaxError}
 use Rattle.lucy_token.specs.declared.state.Level.{Level}
 use Rattle.lucy_token.specs.Before.{nearest, wants_word, limit_at, is_entry_past}
-use Rattle.lucy_token.specs.States.{State, begins_operand}
+use Rattle.lucy_token.specs.States.{ScanState, begins_operand}
 use Rattle.lucy_token.specs.Fronts.{begins_gap, gap_of, plain_front}
 use Rattle.lucy_token.specs.Scans.{word_front, scanned_front, IsMalformed, Scans}
 use Rattle.lucy_token.specs.Contents.{Contains}
 use Rattle.lucy_token.specs.Cuts.{token_at}
 
 -- what stands at the front of a text, by the scanner's state
-abbrev pub front_in : State → List ℕ → Front
+abbrev pub front_in : ScanState → List ℕ → Front
 front_in s text = if begins_gap text then gap_of text else if wants_word s.before then word_front text else plain_front (begins_operand s) text
 
 -- bytes that the front of a text can give as a token of the kind
@@ -36,7 +36,7 @@ IsContent before k bytes from (Ok w) = Contains before k bytes w
 IsContent before k bytes from (Err e) = IsMalformed before k bytes from e
 
 -- the front of the text, which begins at an offset behind tokens of these kinds, is this token, which may stand there
-pub record IsRead (from : ℕ) (ks : List Kind) (text : List ℕ) (t : token_type.Token) (k : Kind) (n : ℕ) : Type 0 where
+pub record IsReadToken (from : ℕ) (ks : List Kind) (text : List ℕ) (t : token_type.Token) (k : Kind) (n : ℕ) : Type 0 where
   pub front : scanned_front ks text ≡ front.Token k n
   pub passes : limit_at ks k ≡ None
   pub in_list : is_entry_past ks k ≡ false
@@ -44,11 +44,11 @@ pub record IsRead (from : ℕ) (ks : List Kind) (text : List ℕ) (t : token_typ
   pub placed : t ≡ token_at t.what from n
 
 -- bytes between tokens; a token, after which the cutting goes on; one after which it stops; or why it stops here
-abbrev pub IsStep : ℕ → List Kind → List ℕ → Step → Type 0
-IsStep from ks text (Gap n) = scanned_front ks text ≡ front.Gap n
-IsStep from ks text (Token t k n) = IsRead from ks text t k n
-IsStep from ks text (Last t e) = Scans from ks text (t ∷ []) (Fault e)
-IsStep from ks text (Stopped e) = Scans from ks text [] (Fault e)
+abbrev pub IsScanStep : ℕ → List Kind → List ℕ → Step → Type 0
+IsScanStep from ks text (Gap n) = scanned_front ks text ≡ front.Gap n
+IsScanStep from ks text (Token t k n) = IsReadToken from ks text t k n
+IsScanStep from ks text (Last t e) = Scans from ks text (t ∷ []) (Fault e)
+IsScanStep from ks text (Stopped e) = Scans from ks text [] (Fault e)
 
 -- Bytes that were passed stay passed: what cuts the rest cuts the whole, with these tokens before.
 abbrev pub CutsSoFar : List ℕ → List token_type.Token → ℕ → List Kind → List ℕ → Type 0
@@ -60,7 +60,7 @@ FewCommas n [] = Unit {0}
 FewCommas n (l ∷ ls) = (l.commas ≤ n) × FewCommas n ls
 
 -- nothing is counted further than to so many
-pub record IsBounded (n : ℕ) (s : State) : Type 0 where
+pub record IsBounded (n : ℕ) (s : ScanState) : Type 0 where
   pub counted : s.counted ≤ n
   pub nodes : s.nodes ≤ n
   pub commas : FewCommas n (s.level ∷ s.outer)

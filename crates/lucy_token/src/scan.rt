@@ -5,7 +5,7 @@ ghost use Rattle.lucy_token.specs.Contents as contents;
 ghost use Rattle.lucy_token.specs.declared.token.Kind as kind;
 ghost use Rattle.lucy_token.specs.States.{state_of};
 ghost use Rattle.lucy_token.specs.Cuts.{Cuts};
-ghost use Rattle.lucy_token.specs.Steps.{IsStep};
+ghost use Rattle.lucy_token.specs.Steps.{IsScanStep};
 
 use crate::content::content;
 use crate::front::{Front, at_front, skip};
@@ -40,7 +40,7 @@ fn unread<'a>(kind: Kind, bytes: &'a [u8]) -> What<'a>
 fn next_step<'a>(context: &Context, text: &'a [u8], from: usize) -> Step<'a>
     requires some { 0 < length text.now }
     requires short { from + length text.now ≤ limit_number Limit.Text }
-    ensures { (ks : List kind.Kind) → context.now ≡ state_of ks → IsStep from ks text.now result }
+    ensures { (ks : List kind.Kind) → context.now ≡ state_of ks → IsScanStep from ks text.now result }
 {
     let (kind, n) = match at_front(context, text) {
         Front::Gap(n) => return Step::Gap(n),

@@ -27,7 +27,7 @@ pub struct Level {
     pub wanted: u32,
 }
 
-/// What is known before a token; contracts see the `State`. The innermost of the levels outside is the last.
+/// What is known before a token; contracts see the `ScanState`. The innermost of the levels outside is the last.
 #[derive(Drop)]
 pub(crate) struct Context {
     before: Kind,
@@ -40,9 +40,9 @@ pub(crate) struct Context {
 
 impl Model for Context {
     ghost use Rattle.std.specs.Prelude.{reverse};
-    ghost use Rattle.lucy_token.specs.States.{State};
+    ghost use Rattle.lucy_token.specs.States.{ScanState};
 
-    ghost Value = { State };
+    ghost Value = { ScanState };
 
     ghost view = { λ c. record { before = c.before; side = c.side; counted = c.counted; nodes = c.nodes; level = c.level; outer = reverse c.outer.items } };
 }
@@ -274,7 +274,7 @@ impl Context {
     // Goes on behind a token of this kind.
     #[tactic(auto, unfolding(crate::specs::States::after))]
     pub(crate) fn pass(&mut self, kind: Kind) -> Result<(), AllocError>
-        requires { spec.HasRoom self.old }
+        requires { spec.HasCountRoom self.old }
         ensures { OnOk result (self.new ≡ spec.after self.old kind) }
     {
         match kind {

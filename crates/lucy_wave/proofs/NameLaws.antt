@@ -19,7 +19,7 @@ use Rattle.lucy_token.specs.Cuts.{Cuts}
 use Rattle.lucy_token.specs.Fronts.{is_name_byte}
 use Rattle.lucy_token.specs.Written.{IsWritten, AreWritten}
 use Rattle.lucy_grammar.specs.Texts.{HasTree}
-use Rattle.lucy_grammar.specs.Printable.{IsNamed as IsNamedSo, AllOfSome, IsPrintableDecl, IsPrintableDef, IsPrintableNode, StandAfter}
+use Rattle.lucy_grammar.specs.Printable.{MayBeNamed as IsNamedSo, AllOfSome, IsPrintableDecl, IsPrintableDef, IsPrintableNode, StandAfter}
 use Rattle.lucy_grammar.proofs.PrintableLaws.{printable}
 use Rattle.lucy_place.specs.declared.entry.PlaceEntry.{PlaceEntry}
 use Rattle.lucy_place.specs.declared.entry.PlaceKind.TheVariants as place_kind

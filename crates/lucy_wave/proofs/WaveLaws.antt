@@ -9,7 +9,7 @@ use Rattle.lucy_host.specs.declared.kind.HostKind.{HostKind}
 use Rattle.lucy_lines.specs.Fronts.{most_bytes}
 use Rattle.lucy_lines.specs.declared.reader.TextFault.{TextFault}
 use Rattle.lucy_feed.specs.declared.feeds.Feed.{Feed}
-use Rattle.lucy_feed.specs.Sources.{Stop, Read}
+use Rattle.lucy_text.specs.Sources.{ReadStop, Read}
 use Rattle.lucy_feed.specs.Feeding.{IsAsked}
 use Rattle.lucy_text.specs.Outside.{SeenSource, SeenSink, Writes, Fails}
 use Rattle.lucy_output.specs.declared.output.OutputSpec.{OutputSpec}
@@ -54,15 +54,15 @@ module _ (kinds : List HostKind) (nodes : List PlacedNode) (clocks : List NodeCl
 module _ (kinds : List HostKind) (a : Accepted) (given : Option ℕ) where
   -- what a call of `wave` leaves
   abbrev pub WaveGives : (before after : SeenSource) (was now : SeenSink) → Ending → Type 0
-  WaveGives before after was now result = (taken : List ℕ) × (stop : Stop) × Read most_bytes before after taken stop
+  WaveGives before after was now result = (taken : List ℕ) × (stop : ReadStop) × Read most_bytes before after taken stop
       × IsAsked a.inputs.items taken × EndsWith (OwesWave kinds a given taken) (λ counted. counted ≡ stop) stop was now result
 
   -- memory ran out while the input was read
-  pub wave_given_up : (before after : SeenSource) (taken : List ℕ) (stop : Stop) (o : SeenSink) → Read most_bytes before after taken stop → IsAsked a.inputs.items taken → WaveGives before after o o ending.OutOfMemory
+  pub wave_given_up : (before after : SeenSource) (taken : List ℕ) (stop : ReadStop) (o : SeenSink) → Read most_bytes before after taken stop → IsAsked a.inputs.items taken → WaveGives before after o o ending.OutOfMemory
   wave_given_up before after taken stop o read asked = (taken, stop, read, asked, ([], inl refl, unwritten o))
 
   -- main was fed, and the dump was written or not
-  pub wave_done : (before after : SeenSource) (was now : SeenSink) (result : Ending) (feed : Feed) (answer : Result Feed OutOfMemory) (clocks : List NodeClock) (outputs : List OutputSpec) (taken : List ℕ) (stop : Stop) →
+  pub wave_done : (before after : SeenSource) (was now : SeenSink) (result : Ending) (feed : Feed) (answer : Result Feed OutOfMemory) (clocks : List NodeClock) (outputs : List OutputSpec) (taken : List ℕ) (stop : ReadStop) →
       Read most_bytes before after taken stop → IsAsked a.inputs.items taken → IsMainFeed a.inputs.items taken stop answer → answer ≡ Ok feed → clocks ≡ a.clocks.items → outputs ≡ a.outputs.items →
       (horizon : ℕ) × IsHorizonOf (param_words a.placed.nodes clocks) given feed.items horizon × LeavesOwed (Waves kinds a.placed.nodes clocks a.net outputs given feed.items feed.stop horizon) was now result →
       WaveGives before after was now result

@@ -4,7 +4,7 @@ use Rattle.lucy_word.specs.Limits.{limit_number}
 use Rattle.lucy_word.specs.declared.limit.Limit.TheVariants as limit
 use Rattle.lucy_host.specs.Operators.{Operator}
 use Rattle.lucy_host.specs.declared.kind.HostKind.{HostKind}
-use Rattle.lucy_feed.specs.Sources.{Stop}
+use Rattle.lucy_text.specs.Sources.{ReadStop}
 use Rattle.lucy_output.specs.declared.output.OutputSpec.{OutputSpec}
 use Rattle.lucy_meaning.specs.Spots.{main_of}
 use Rattle.lucy_kahn.specs.Turns.{params_in}
@@ -20,13 +20,13 @@ use Rattle.lucy_wave.specs.Waves.{variables, IsWave, OwesWave}
 
 -- The dump that is owed of an accepted program says, read back, the output lines that `run` owes of the same input, and both end alike.
 abbrev pub WavesAreReadBack : Type 0
-WavesAreReadBack = (ops : List Operator) (o : Options) (text : List ℕ) (kinds : List HostKind) (a : Accepted) (given : Option ℕ) (taken : List ℕ) (stop : Stop) (dump printed : List ℕ) (end other : Ending) →
+WavesAreReadBack = (ops : List Operator) (o : Options) (text : List ℕ) (kinds : List HostKind) (a : Accepted) (given : Option ℕ) (taken : List ℕ) (stop : ReadStop) (dump printed : List ℕ) (end other : Ending) →
     IsAccepted ops o text a → IfSome given (λ most. most ≤ limit_number limit.Instants) → OwesWave kinds a given taken stop dump end → OwesRun kinds a given taken stop printed other →
     (count : ℕ) × (lines : List ℕ) × SaysOutput dump a.outputs.items count lines × (printed ≡ heading a ++ lines) × (end ≡ other)
 
 -- the bytes taken and how reading stopped owe one dump, with one ending
 abbrev pub OneWave : Type 0
-OneWave = (kinds : List HostKind) (a : Accepted) (given : Option ℕ) (taken : List ℕ) (stop : Stop) (output out : List ℕ) (end other : Ending) →
+OneWave = (kinds : List HostKind) (a : Accepted) (given : Option ℕ) (taken : List ℕ) (stop : ReadStop) (output out : List ℕ) (end other : Ending) →
     OwesWave kinds a given taken stop output end → OwesWave kinds a given taken stop out other → (output ≡ out) × (end ≡ other)
 
 -- a variable has one value at a step

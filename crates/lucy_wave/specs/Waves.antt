@@ -7,7 +7,7 @@ use Rattle.std.specs.Option.{unwrap_or, option_map_or}
 use Rattle.lucy_word.specs.Bits.{Bits, bit_at, ones_to, one_if}
 use Rattle.lucy_host.specs.declared.kind.HostKind.{HostKind}
 use Rattle.lucy_lines.specs.declared.reader.TextFault.{TextFault}
-use Rattle.lucy_feed.specs.Sources.{Stop}
+use Rattle.lucy_text.specs.Sources.{ReadStop}
 use Rattle.lucy_output.specs.declared.output.OutputSpec.{OutputSpec}
 use Rattle.lucy_tree.specs.declared.span.Name.{Name}
 use Rattle.lucy_place.specs.declared.entry.PlaceEntry.{PlaceEntry}
@@ -169,7 +169,7 @@ Waves kinds nodes clocks net outputs given lists fault horizon output end =
     × IsWave nodes clocks outputs lists (main_streams kinds lists nodes clocks horizon) inside horizon output × EndsFor (param_words nodes clocks) given lists fault end
 
 -- `wave`: the dump alone
-abbrev pub OwesWave : List HostKind → Accepted → (given : Option ℕ) → (taken : List ℕ) → Stop → (output : List ℕ) → Ending → Type 0
+abbrev pub OwesWave : List HostKind → Accepted → (given : Option ℕ) → (taken : List ℕ) → ReadStop → (output : List ℕ) → Ending → Type 0
 OwesWave kinds a given taken stop output end =
     (lists : List (List ℤ)) × (fault : Option TextFault) × (horizon : ℕ) × IsFed a given taken stop lists fault horizon
     × Waves kinds a.placed.nodes a.clocks.items a.net a.outputs.items given lists fault horizon output end

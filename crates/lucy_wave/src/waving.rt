@@ -5,7 +5,7 @@ ghost use Rattle.lucy_word.specs.declared.limit.Limit.TheVariants as limit;
 ghost use Rattle.lucy_host.specs.Host.{Serves, lent};
 ghost use Rattle.lucy_host.specs.Operators.{kinds_of};
 ghost use Rattle.lucy_lines.specs.Fronts.{most_bytes};
-ghost use Rattle.lucy_feed.specs.Sources.{Stop, Read};
+ghost use Rattle.lucy_text.specs.Sources.{ReadStop, Read};
 ghost use Rattle.lucy_feed.specs.Feeding.{IsAsked};
 ghost use Rattle.lucy_place.specs.Proper.{HaveOperators};
 ghost use Rattle.lucy_meaning.specs.Spots.{main_of, results_in};
@@ -146,7 +146,7 @@ pub fn wave<F: Fn(u32, i64, i64) -> i64 + Sync, I: Source, O: Sink>(
     requires accepted { (text : List ℕ) × (options : Options) × IsAccepted (lent host.now) options text accepted }
     requires few { IfSome instants (λ given. given ≤ limit_number limit.Instants) }
     requires given { accepted.inputs.items ≡ [] → instants ≢ None }
-    ensures ends { (taken : List ℕ) × (stop : Stop) × Read most_bytes (I.seen source.old) (I.seen source.new) taken stop
+    ensures ends { (taken : List ℕ) × (stop : ReadStop) × Read most_bytes (I.seen source.old) (I.seen source.new) taken stop
         × IsAsked accepted.inputs.items taken × EndsWith (OwesWave (kinds_of (lent host.now)) accepted instants taken) (λ counted. counted ≡ stop) stop
         (O.seen out.old) (O.seen out.new) result }
     ensures unread { accepted.inputs.items ≡ [] → source.new ≡ source.old }

@@ -7,7 +7,7 @@ use Prim.Native.Nat.{◌∣◌}
 use Rattle.std.specs.List.{RotatedLeft}
 use Rattle.lucy_word.specs.Bits.{Bits, bit_at}
 use Rattle.lucy_word.specs.Shortest.{Same, IsShortForm}
-use Rattle.lucy_word.specs.Turns.{Repeats, turning, GoesOn, EndsAt}
+use Rattle.lucy_word.specs.Turns.{Repeats, turning, GoesOnAs, EndsAt}
 use Rattle.lucy_word.proofs.BitsLaws.{bit_at-prefix, bit_at-period}
 use Rattle.lucy_word.proofs.Repeats.{repeats_period, repeats_times, repeats_same, repeats_earlier, repeats_later}
 use Rattle.lucy_word.proofs.ShortTurn.{bit_at-turning}
@@ -16,7 +16,7 @@ use Rattle.lucy_word.proofs.ShortTurn.{bit_at-turning}
 abbrev pub IsBefore : (at before p : ℕ) → Type 0
 IsBefore at before p = ((at ≡ 0) × (before + 1 ≡ p)) ⊎ (before + 1 ≡ at)
 
-pub goes_start : (u t : List Bool) → GoesOn (record { prefix = u; period = t }) (length u) t 0
+pub goes_start : (u t : List Bool) → GoesOnAs (record { prefix = u; period = t }) (length u) t 0
 goes_start u t i some =
     bit_at-period (record { prefix = u; period = t }) (length u + i) (omega arith)
     ∙ ap (λ n. get_or t (n % length t) false) (let e : length u + i - length u - 1 ≡ 0 + i - 0 - 1 = omega arith in e)
@@ -31,8 +31,8 @@ after_before t at before i some (inr later) = ap (bit_at (turning t)) (let e : b
 
 -- the last bit that is kept is that of the turn before: one more is left out
 pub goes_back : (u t : List Bool) (k at before : ℕ) → 0 < k → k ≤ length u → before < length t → IsBefore at before (length t) →
-    GoesOn (record { prefix = u; period = t }) k t at → get_or u (k - 1) false ≡ get_or t before false →
-    GoesOn (record { prefix = u; period = t }) (k - 1) t before
+    GoesOnAs (record { prefix = u; period = t }) k t at → get_or u (k - 1) false ≡ get_or t before false →
+    GoesOnAs (record { prefix = u; period = t }) (k - 1) t before
 goes_back u t k at before some within inside is goes same i h =
     let w : Bits = record { prefix = u; period = t } in
     elim (cases_lt 1 i) [
@@ -50,7 +50,7 @@ round t at before some (inr later) = repeats_period (turning t) at (omega arith)
 
 -- it is not: the bits do not come again from before it on
 pub goes_ends : (u t : List Bool) (k at before : ℕ) → 0 < k → k ≤ length u → before < length t → IsBefore at before (length t) →
-    GoesOn (record { prefix = u; period = t }) k t at → (get_or u (k - 1) false ≡ get_or t before false → ⊥) → EndsAt (record { prefix = u; period = t }) k
+    GoesOnAs (record { prefix = u; period = t }) k t at → (get_or u (k - 1) false ≡ get_or t before false → ⊥) → EndsAt (record { prefix = u; period = t }) k
 goes_ends u t k at before some within inside is goes other again same =
     let w : Bits = record { prefix = u; period = t } in
     let p : ℕ = length t in
@@ -88,7 +88,7 @@ same_turn u v p some le again i h =
     ]
 
 -- the prefix cut to what is kept, and the turn begun where the word goes on, leave the bits as they are
-same_kept : (u t turned : List Bool) (k at : ℕ) → k ≤ length u → at < length t → GoesOn (record { prefix = u; period = t }) k t at → length turned ≡ length t →
+same_kept : (u t turned : List Bool) (k at : ℕ) → k ≤ length u → at < length t → GoesOnAs (record { prefix = u; period = t }) k t at → length turned ≡ length t →
     RotatedLeft t turned (length t) at → Same (record { prefix = u; period = t }) (record { prefix = take k u; period = turned })
 same_kept u t turned k at within inside goes len rotated i h =
     let w : Bits = record { prefix = u; period = t } in
@@ -122,7 +122,7 @@ same_kept u t turned k at within inside goes len rotated i h =
 
 -- the shortest form
 pub short_form : (u v turned : List Bool) (p k at : ℕ) → 0 < p → p ≤ length v → Repeats (bit_at (turning v)) 0 p →
-    ((d : ℕ) → Repeats (bit_at (turning v)) 0 d → p ∣ d) → k ≤ length u → at < p → GoesOn (record { prefix = u; period = take p v }) k (take p v) at →
+    ((d : ℕ) → Repeats (bit_at (turning v)) 0 d → p ∣ d) → k ≤ length u → at < p → GoesOnAs (record { prefix = u; period = take p v }) k (take p v) at →
     EndsAt (record { prefix = u; period = take p v }) k → length turned ≡ p → RotatedLeft (take p v) turned p at →
     IsShortForm (record { prefix = u; period = v }) (record { prefix = take k u; period = turned })
 short_form u v turned p k at some le again least within inside goes ends len rotated =

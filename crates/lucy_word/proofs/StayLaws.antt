@@ -9,16 +9,16 @@ use Rattle.lucy_word.specs.Spelling.{is_digit}
 use Rattle.lucy_word.specs.Stages.{next, ended}
 use Rattle.lucy_word.specs.declared.form.Stage as stage_type
 use Rattle.lucy_word.specs.declared.form.Stage.TheVariants as stage
-use Rattle.lucy_word.specs.Cutting.{is_no_open, AreDigits, IsRun, Stays, at_digit}
+use Rattle.lucy_word.specs.Cutting.{is_no_open, AreDigits, IsDigitRun, Stays, at_digit}
 use Rattle.lucy_word.specs.Partials.{item, digit, brace, count, Partial, going, whole}
 use Rattle.lucy_word.proofs.DigitLaws.{digit_again}
 use Rattle.lucy_word.proofs.Checking.{Checked, IsPending, stage_of, checked_more}
 
 -- no digit, one more, and as many more as a limb has bits
-pub run_first : (text : List ℕ) (from : ℕ) → IsRun text from from
+pub run_first : (text : List ℕ) (from : ℕ) → IsDigitRun text from from
 run_first text from = record { ordered = omega arith; within = λ h. h; digits = λ k h less. absurd (omega (arith, h, less)) }
 
-pub run_more : (text : List ℕ) (from i : ℕ) → IsRun text from i → i < length text → is_digit (get_or text i 0) ≡ true → IsRun text from (i + 1)
+pub run_more : (text : List ℕ) (from i : ℕ) → IsDigitRun text from i → i < length text → is_digit (get_or text i 0) ≡ true → IsDigitRun text from (i + 1)
 run_more text from i k here good = record {
   ordered = omega (arith, k.ordered);
   within = λ h. omega (arith, here);
@@ -41,7 +41,7 @@ good_at text i j limb d past less =
     let place : get_or (drop i text) m 0 ≡ get_or text j 0 = get_or-drop i text m 0 ∙ ap (λ n. get_or text n 0) same in
     ap is_digit (sym place ∙ d.digits m here) ∙ digit_good (is_set limb m)
 
-pub run_limb : (text : List ℕ) (from i limb : ℕ) → IsRun text from i → AreDigits (drop i text) 64 limb → IsRun text from (i + 64)
+pub run_limb : (text : List ℕ) (from i limb : ℕ) → IsDigitRun text from i → AreDigits (drop i text) 64 limb → IsDigitRun text from (i + 64)
 run_limb text from i limb k d = record {
   ordered = omega (arith, k.ordered);
   within = λ h. omega (arith, d.within, length-drop i text);
@@ -67,7 +67,7 @@ past_digits (suc n) (c ∷ text) good within =
     let rest : prefix_len is_no_open text ≡ n + prefix_len is_no_open (drop n text) = past_digits n text (λ k h. good (suc k) (omega (arith, h))) (omega (arith, within)) in
     ap (λ t. cond t (1 + prefix_len is_no_open text) 0) (no_open c (good 0 (omega arith))) ∙ omega (arith, rest)
 
-pub past_run : (text : List ℕ) (n : ℕ) → IsRun text 0 n → prefix_len is_no_open text ≡ n + prefix_len is_no_open (drop n text)
+pub past_run : (text : List ℕ) (n : ℕ) → IsDigitRun text 0 n → prefix_len is_no_open text ≡ n + prefix_len is_no_open (drop n text)
 past_run text n run = past_digits n text (λ k h. run.digits k (omega arith) h) (run.within (omega arith))
 
 -- behind a digit no count is read

@@ -70,14 +70,14 @@ at_digit (Digit inside) = true
 at_digit s = false
 
 -- the bytes from one place to another are digits
-pub record IsRun (text : List ℕ) (from to : ℕ) : Type 0 where
+pub record IsDigitRun (text : List ℕ) (from to : ℕ) : Type 0 where
   pub ordered : from ≤ to
   pub within : from ≤ length text → to ≤ length text
   pub digits : (k : ℕ) → from ≤ k → k < to → is_digit (slice_index text k) ≡ true
 
 -- and leave the stage as it is: they stand behind a digit, or are none
 pub record Stays (text : List ℕ) (s : Stage) (from to : ℕ) : Type 0 where
-  pub run : IsRun text from to
+  pub run : IsDigitRun text from to
   pub behind : from < to → at_digit s ≡ true
 
 -- the digits of a count begin with the next byte

@@ -12,17 +12,17 @@ abbrev pub IsReadable : List ℕ → Bits → Type 0
 IsReadable text w = (bits : Bits) × Spells text bits × (bit_count bits ≤ most_written) × (0 < ones_in bits.period) × IsShortForm bits w
 
 -- the text is refused so: for its form, else for its length, else for its period (never for want of memory)
-abbrev pub Refuses : List ℕ → WordError → Type 0
-Refuses text (BadWord place) = IsBadAt text place
-Refuses text TooLong = (w : Bits) × Spells text w × (most_written < bit_count w)
-Refuses text NoOne = (w : Bits) × Spells text w × (bit_count w ≤ most_written) × (ones_in w.period ≡ 0)
-Refuses text OutOfMemory = ⊥
+abbrev pub RefusesText : List ℕ → WordError → Type 0
+RefusesText text (BadWord place) = IsBadAt text place
+RefusesText text TooLong = (w : Bits) × Spells text w × (most_written < bit_count w)
+RefusesText text NoOne = (w : Bits) × Spells text w × (bit_count w ≤ most_written) × (ones_in w.period ≡ 0)
+RefusesText text OutOfMemory = ⊥
 
 -- the text is answered so
-abbrev pub Reads : List ℕ → Result Bits WordError → Type 0
-Reads text (Ok w) = IsReadable text w
-Reads text (Err e) = Refuses text e
+abbrev pub AnswersText : List ℕ → Result Bits WordError → Type 0
+AnswersText text (Ok w) = IsReadable text w
+AnswersText text (Err e) = RefusesText text e
 
 -- the answer is the text's one answer, unless memory ran out
 abbrev pub OnlyAnswer : List ℕ → Result Bits WordError → Type 0
-OnlyAnswer text given = (answer : Result Bits WordError) → Reads text answer → (given ≡ Err OutOfMemory) ⊎ (given ≡ answer)
+OnlyAnswer text given = (answer : Result Bits WordError) → AnswersText text answer → (given ≡ Err OutOfMemory) ⊎ (given ≡ answer)

@@ -11,8 +11,8 @@ abbrev pub turning : List Bool → Bits
 turning period = record { prefix = []; period = period }
 
 -- past instant k the word goes on as the period does past its bit at `from`
-abbrev pub GoesOn : (w : Bits) (k : ℕ) (period : List Bool) (from : ℕ) → Type 0
-GoesOn w k period from = (i : ℕ) → 0 < i → bit_at w (k + i) ≡ bit_at (turning period) (from + i)
+abbrev pub GoesOnAs : (w : Bits) (k : ℕ) (period : List Bool) (from : ℕ) → Type 0
+GoesOnAs w k period from = (i : ℕ) → 0 < i → bit_at w (k + i) ≡ bit_at (turning period) (from + i)
 
 -- the bits do not come again after a period from before instant k on, or k is 0
 abbrev pub EndsAt : (w : Bits) (k : ℕ) → Type 0

@@ -5,7 +5,7 @@ ghost use Rattle.lucy_word.specs.Forms.{IsBadAt};
 ghost use Rattle.lucy_word.specs.Spelling.{Spells};
 ghost use Rattle.lucy_word.specs.Spelling as spelling;
 ghost use Rattle.lucy_word.specs.Stages as spec;
-ghost use Rattle.lucy_word.specs.Cutting.{IsRun, Stays};
+ghost use Rattle.lucy_word.specs.Cutting.{IsDigitRun, Stays};
 ghost use Rattle.lucy_word.specs.Cutting as kept;
 
 use crate::digits::whole;
@@ -150,7 +150,7 @@ fn is_zero(zeros: bool, c: u8) -> bool
 
 // Behind the digits from a place on, as far as they fill limbs.
 pub(crate) fn limbs_end(text: &[u8], from: usize) -> usize
-    ensures { IsRun text.now from result }
+    ensures { IsDigitRun text.now from result }
 {
     let mut i = from;
     'limbs: while let Some(_) = whole(text, i) {
@@ -161,7 +161,7 @@ pub(crate) fn limbs_end(text: &[u8], from: usize) -> usize
 
 // Behind the digits from a place on.
 fn digits_end(text: &[u8], from: usize) -> usize
-    ensures { IsRun text.now from result }
+    ensures { IsDigitRun text.now from result }
 {
     let mut i = limbs_end(text, from);
     'digits: while i < text.len() {

@@ -3,7 +3,7 @@ ghost use Rattle.std.specs.Prelude.{◌≡◌, ◌⊎◌, ◌↔◌, ◌<◌, []
 ghost use Rattle.lucy_word.specs.Bits.{Bits, ones_in};
 ghost use Rattle.lucy_word.specs.Items.{digit_of};
 ghost use Rattle.lucy_word.specs.Spelling.{Spells};
-ghost use Rattle.lucy_word.specs.Reading.{Refuses, IsReadable, OnlyAnswer};
+ghost use Rattle.lucy_word.specs.Reading.{RefusesText, IsReadable, OnlyAnswer};
 ghost use Rattle.lucy_word.specs.Stored.{IsStored};
 
 use crate::{Limit, OutOfMemory, Word, WordError, form, spelling};
@@ -40,7 +40,7 @@ impl<'a> Spelled<'a> {
     /// the text.
     pub fn read(text: &'a [u8]) -> Result<Spelled<'a>, WordError>
         ensures ok { IfOk result (IsReadable text.now) }
-        ensures refused { IfErr result (Refuses text.now) }
+        ensures refused { IfErr result (RefusesText text.now) }
     {
         if let Err(place) = form::check(text) {
             return Err(WordError::BadWord(place));
@@ -83,7 +83,7 @@ impl Word {
     /// The word that the text spells. `OutOfMemory` says nothing of the text; else the answer is that of `Spelled::read`.
     pub fn read(alloc: Global, text: &[u8]) -> Result<Word, WordError>
         ensures ok { IfOk result (IsReadable text.now) }
-        ensures refused { IfErr result (λ e. (e ≡ WordError.OutOfMemory) ⊎ Refuses text.now e) }
+        ensures refused { IfErr result (λ e. (e ≡ WordError.OutOfMemory) ⊎ RefusesText text.now e) }
         ensures only { OnlyAnswer text.now result }
         ensures stored { IfOk result IsStored }
     {

@@ -3,7 +3,7 @@
 ghost use Rattle.std.specs.Prelude.{◌≡◌, ◌⊎◌, ◌↔◌, ℕ, ◌+◌, ◌-◌, ◌<◌, ◌≤◌, length, drop, take, ◌++◌, IsTrue, IfOk};
 ghost use Prim.Native.Nat.{◌∣◌};
 ghost use Rattle.lucy_word.specs.Bits.{Bits, bit_at, bit_count, most_bits};
-ghost use Rattle.lucy_word.specs.Turns.{Repeats, turning, GoesOn, EndsAt};
+ghost use Rattle.lucy_word.specs.Turns.{Repeats, turning, GoesOnAs, EndsAt};
 ghost use Rattle.lucy_word.specs.Shortest.{IsShortForm};
 
 use crate::limbs::{Limbs, WIDTH};
@@ -69,7 +69,7 @@ fn kept(prefix: &Limbs, period: &Limbs, turn: usize) -> (usize, usize)
     requires turn { turn ≤ length period.now }
     ensures within { result.0 ≤ length prefix.now }
     ensures at { result.1 < turn }
-    ensures goes_on { GoesOn (record { prefix = prefix.now; period = take turn period.now }) result.0 (take turn period.now) result.1 }
+    ensures goes_on { GoesOnAs (record { prefix = prefix.now; period = take turn period.now }) result.0 (take turn period.now) result.1 }
     ensures least { EndsAt (record { prefix = prefix.now; period = take turn period.now }) result.0 }
 {
     let mut kept = prefix.len();

@@ -1,5 +1,5 @@
 ghost use Rattle.std.specs.Prelude.{◌<◌, ◌≤◌, length, IfOk, IsTrue};
-ghost use Rattle.lucy_solve.specs.System.{IsReady};
+ghost use Rattle.lucy_solve.specs.System.{IsGrounded};
 
 use lucy_solve::Diffs;
 use lucy_word::Limit;
@@ -7,7 +7,7 @@ use std::alloc::{AllocError, Global};
 
 // Whether the system is what `solve` requires.
 pub(crate) fn is_ready(alloc: Global, diffs: &Diffs) -> Result<bool, AllocError>
-    ensures { IfOk result (λ ready. IsTrue ready → IsReady diffs.now) }
+    ensures { IfOk result (λ ready. IsTrue ready → IsGrounded diffs.now) }
 {
     let list = diffs.list();
     if list.len() as u64 > Limit::Inequalities.number() {

@@ -1,5 +1,5 @@
 use Rattle.std.proofs.Common.{subst, arith}
-use Rattle.lucy_feed.specs.Sources.{Read}
+use Rattle.lucy_text.specs.Sources.{Read}
 use Rattle.lucy_app.proofs.Outcomes.{order_outcome}
 use Rattle.lucy_app.proofs.order.answer.Goals as goal
 

@@ -1,6 +1,6 @@
 use Rattle.std.proofs.Common.{[], ◌∷◌, refl, inl}
 use Rattle.lucy_host.specs.Host.{lent}
-use Rattle.lucy_feed.specs.Sources.{Unread}
+use Rattle.lucy_text.specs.Sources.{Unread}
 use Rattle.lucy_command.specs.Commands.{ProgramWords, Replay}
 use Rattle.lucy_app.specs.Commands.{inferring_options}
 use Rattle.lucy_app.specs.World.{Given}

@@ -4,12 +4,12 @@ use Rattle.lucy_lines.specs.Laws.{OneCut}
 use Rattle.lucy_lines.specs.declared.input.InputSpec.{InputSpec}
 use Rattle.lucy_lines.specs.declared.reader.TextFault.{TextFault}
 use Rattle.lucy_feed.specs.declared.feeds.Feed.{Feed}
-use Rattle.lucy_feed.specs.Sources.{Stop}
+use Rattle.lucy_text.specs.Sources.{ReadStop}
 use Rattle.lucy_feed.specs.Feeding.{values_by_stream, is_closed, fault_of, IsFeed}
 use Rattle.lucy_lines.specs.Cuts.{input_of}
 use Rattle.lucy_feed.proofs.laws.one_feed.Goals as goal
 
-one : OneCut → (inputs : List InputSpec) (taken : List ℕ) (stop : Stop) (feed other : Feed) → IsFeed inputs taken stop (Ok feed) → IsFeed inputs taken stop (Ok other) → feed ≡ other
+one : OneCut → (inputs : List InputSpec) (taken : List ℕ) (stop : ReadStop) (feed other : Feed) → IsFeed inputs taken stop (Ok feed) → IsFeed inputs taken stop (Ok other) → feed ≡ other
 one cuts inputs taken stop feed other (items, halt, is) (others, rest, so) =
     let same = cuts inputs (is_closed stop) (input_of taken) items others halt rest is.cut so.cut in
     let lists : feed.items ≡ other.items = is.lists ∙ ap (values_by_stream (length inputs)) same.0 ∙ sym so.lists in

@@ -1,6 +1,6 @@
 use Rattle.std.proofs.Common.{sym, subst, arith}
 use Rattle.std.proofs.lemmas.Result.{IfOk-weaker}
-use Rattle.lucy_solve.specs.System.{System, IsReady, Solves}
+use Rattle.lucy_solve.specs.System.{System, IsGrounded, Solves}
 use Rattle.lucy_shape.proofs.Systems.{system_ready, fits_and_meets, solves_front}
 use Rattle.lucy_shape.proofs.Meeting.{meeting_law}
 use Rattle.lucy_shape.proofs.spreading.spread.Goals as goal
@@ -8,7 +8,7 @@ use Rattle.lucy_shape.proofs.spreading.spread.Goals as goal
 pub returns-clause-ready : goal.returns-clause-ready
 returns-clause-ready c =
     let few = c.are_few.ensures.0 c.if-not-are_few.false in
-    IfOk-weaker c.fill.result _ _ (λ d e. subst IsReady (sym e) (system_ready c.args.needs.now c.args.shape.now c.requires (omega arith))) c.fill.ensures.list
+    IfOk-weaker c.fill.result _ _ (λ d e. subst IsGrounded (sym e) (system_ready c.args.needs.now c.args.shape.now c.requires (omega arith))) c.fill.ensures.list
 
 pub returns-clause-exact : goal.returns-clause-exact
 returns-clause-exact c = IfOk-weaker c.fill.result _ _ (λ d e w xs fitting are.

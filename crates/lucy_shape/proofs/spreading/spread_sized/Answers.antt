@@ -1,7 +1,7 @@
 use Rattle.std.proofs.Common.{List, ℕ, length, sym, ap, subst, arith}
 use Rattle.lucy_need.specs.Meeting.{alone}
 use Rattle.lucy_need.specs.declared.need.Need.TheVariants.{Adapt}
-use Rattle.lucy_solve.specs.System.{System, IsReady, Solves}
+use Rattle.lucy_solve.specs.System.{System, IsGrounded, Solves}
 use Rattle.lucy_shape.specs.declared.shape.ClockShape.{ClockShape}
 use Rattle.lucy_shape.specs.Added.{IsNeedSpreadable}
 use Rattle.lucy_shape.specs.Fitting.{variable_count}
@@ -36,7 +36,7 @@ returns-clause-ready c =
     let clocks = ap (λ (l : List ClockShape). length (size_rows shape.period l c.args.from c.args.to c.args.size)) c.list-clocks.ensures in
     let sized = sized_length needs shape c.args.from c.args.to c.args.size in
     let rows = size_count shape.period shape.clocks c.args.from c.args.to c.args.size in
-    subst IsReady (sym e) (sized_ready needs shape c.args.from c.args.to c.args.size c.requires.shape (omega arith))
+    subst IsGrounded (sym e) (sized_ready needs shape c.args.from c.args.to c.args.size c.requires.shape (omega arith))
 
 pub returns-clause-exact : goal.returns-clause-exact
 returns-clause-exact c w xs fitting are =

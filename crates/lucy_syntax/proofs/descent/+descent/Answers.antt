@@ -9,8 +9,8 @@ use Rattle.lucy_tree.specs.View.{tree_of}
 use Rattle.lucy_token.specs.declared.mark.Mark.TheVariants as mark
 use Rattle.lucy_token.specs.declared.token.Kind.TheVariants as kind
 use Rattle.lucy_grammar.specs.Symbols.{Part, Val}
-use Rattle.lucy_grammar.specs.Meanings.{word_of, bound_of, held_by, two}
-use Rattle.lucy_grammar.specs.Reading.{Refuses, Unfit, IsOther, UnfitOptional}
+use Rattle.lucy_grammar.specs.Meanings.{token_word, token_bound, held_by, two}
+use Rattle.lucy_grammar.specs.Reading.{BreaksAt, Unfit, IsOther, UnfitOptional}
 use Rattle.lucy_grammar.proofs.Steps.{as_value}
 use Rattle.lucy_grammar.proofs.Growing.{grown_first, grown_more, grown_bad, grown_refused, grown_ended, samps, args}
 use Rattle.lucy_grammar.proofs.LeafProductions.{begun, unbegun, one_expr}
@@ -36,7 +36,7 @@ choice-returns-in_err-test-clause-refused t c =
 
 pub choice-returns-in_err-then-clause-refused : goal.choice-returns-in_err-then-clause-refused
 choice-returns-in_err-then-clause-refused t c =
-    leaves (Refuses Part.Expr behind_test c.in_ok-test.ts.now) _ c.from_residual-in_err-then.result c.from_residual-in_err-then.ensures.1 c.in_err-then.ensures.refused (λ rest u. parts.choice_no c.in_ok-span.ensures.ok.1 c.in_ok-test.ensures.ok u)
+    leaves (BreaksAt Part.Expr behind_test c.in_ok-test.ts.now) _ c.from_residual-in_err-then.result c.from_residual-in_err-then.ensures.1 c.in_err-then.ensures.refused (λ rest u. parts.choice_no c.in_ok-span.ensures.ok.1 c.in_ok-test.ensures.ok u)
 
 pub choice-returns-clause-ok : goal.choice-returns-clause-ok
 choice-returns-clause-ok t c = as_value (c.in_ok-choice.ensures ∙ ap (operator op.If (more (tree_of c.in_ok-test.test.value) (two (tree_of c.in_ok-then.then.value) (tree_of c.in_ok-then.other.value)))) c.in_ok-span.ensures.ok.2) (parts.choice c.in_ok-span.ensures.ok.1 c.in_ok-test.ensures.ok c.in_ok-then.ensures.ok.2)
@@ -127,7 +127,7 @@ pub held-returns-in-Some-clause-ok : goal.held-returns-in-Some-clause-ok
 held-returns-in-Some-clause-ok t c =
     let b = c.in-Some.ensures.read in
     IfOk-weaker c.behind_bound.result _ _
-    (λ p r. as_value (r.2 ∙ ap (λ (n : ℕ). held_by n (c.in-Some.number, c.in-Some.span) r.0) b.3 ∙ ap (λ (l : Val Part.Lit). held_by (bound_of b.0.what) l r.0) (pair_of b.4 b.5)) (by.held_bound r.0 b.1 b.2 r.1)) c.behind_bound.ensures.ok
+    (λ p r. as_value (r.2 ∙ ap (λ (n : ℕ). held_by n (c.in-Some.number, c.in-Some.span) r.0) b.3 ∙ ap (λ (l : Val Part.Lit). held_by (token_bound b.0.what) l r.0) (pair_of b.4 b.5)) (by.held_bound r.0 b.1 b.2 r.1)) c.behind_bound.ensures.ok
 
 pub held-returns-in-Some-clause-refused : goal.held-returns-in-Some-clause-refused
 held-returns-in-Some-clause-refused t c = hands_on c.behind_bound.result c.behind_bound.ensures.refused (λ rest u. by.held_bound_2 c.in-Some.ensures.read.1 c.in-Some.ensures.read.2 u)
@@ -187,7 +187,7 @@ merged-returns-in_err-second-clause-refused t c =
     leaves (Unfit Part.Small c.in_ok-first.ts.now) _ c.from_residual-in_err-second.result c.from_residual-in_err-second.ensures.1 c.in_err-second.ensures.refused (λ rest u. by.merge_4 c.in_ok-span.ensures.ok.1 c.in_ok-word.ensures.ok.1 c.in_ok-first.ensures.ok u)
 
 pub merged-returns-clause-ok : goal.merged-returns-clause-ok
-merged-returns-clause-ok t c = as_value (c.in_ok-merged.ensures ∙ ap (λ (x : Bits). merged x (tree_of c.in_ok-first.first.value) (tree_of c.in_ok-second.second.value) c.in_ok-span.span) c.in_ok-word.ensures.ok.2 ∙ ap (merged (word_of c.in_ok-word.ensures.ok.0.what) (tree_of c.in_ok-first.first.value) (tree_of c.in_ok-second.second.value)) c.in_ok-span.ensures.ok.2) (by.merge c.in_ok-span.ensures.ok.1 c.in_ok-word.ensures.ok.1 c.in_ok-first.ensures.ok c.in_ok-second.ensures.ok)
+merged-returns-clause-ok t c = as_value (c.in_ok-merged.ensures ∙ ap (λ (x : Bits). merged x (tree_of c.in_ok-first.first.value) (tree_of c.in_ok-second.second.value) c.in_ok-span.span) c.in_ok-word.ensures.ok.2 ∙ ap (merged (token_word c.in_ok-word.ensures.ok.0.what) (tree_of c.in_ok-first.first.value) (tree_of c.in_ok-second.second.value)) c.in_ok-span.ensures.ok.2) (by.merge c.in_ok-span.ensures.ok.1 c.in_ok-word.ensures.ok.1 c.in_ok-first.ensures.ok c.in_ok-second.ensures.ok)
 
 pub literal-returns-in_err-lit-clause-refused : goal.literal-returns-in_err-lit-clause-refused
 literal-returns-in_err-lit-clause-refused t c =
@@ -300,7 +300,7 @@ applied-returns-in_err-base-clause-refused t c =
 
 pub applied-returns-in_err-args-clause-refused : goal.applied-returns-in_err-args-clause-refused
 applied-returns-in_err-args-clause-refused t c =
-    leaves (Refuses Part.Applied behind_base c.in_ok-base.ts.now) _ c.from_residual-in_err-args.result c.from_residual-in_err-args.ensures.1 c.in_err-args.ensures.refused (λ rest u. parts.applied_no _ c.in_ok-base.ensures.ok u)
+    leaves (BreaksAt Part.Applied behind_base c.in_ok-base.ts.now) _ c.from_residual-in_err-args.result c.from_residual-in_err-args.ensures.1 c.in_err-args.ensures.refused (λ rest u. parts.applied_no _ c.in_ok-base.ensures.ok u)
 
 pub applied-returns-clause-ok : goal.applied-returns-clause-ok
 applied-returns-clause-ok t c = ((c.in_ok-base.base, unwrap_or c.in_ok-args.ensures.ok.1 no_more), parts.applied _ c.in_ok-base.ensures.ok c.in_ok-args.ensures.ok.3, c.in_ok-called.ensures ∙ ap (call c.args.name c.in_ok-base.base) c.in_ok-args.ensures.ok.4)

@@ -1,5 +1,5 @@
 use Rattle.lucy_grammar.specs.Symbols.{Part}
-use Rattle.lucy_grammar.specs.Reading.{Refuses, Unfit, IsOther}
+use Rattle.lucy_grammar.specs.Reading.{BreaksAt, Unfit, IsOther}
 use Rattle.lucy_grammar.proofs.Steps.{as_value}
 use Rattle.lucy_syntax.specs.Refusals.{behind_first}
 use Rattle.lucy_syntax.proofs.Leaving.{leaves}
@@ -19,7 +19,7 @@ returns-in_err-head-clause-refused c =
 
 pub returns-in_err-others-clause-refused : goal.returns-in_err-others-clause-refused
 returns-in_err-others-clause-refused c =
-    leaves (Refuses Part.Lefts behind_first c.in_ok-head.ts.now) _ c.from_residual-in_err-others.result c.from_residual-in_err-others.ensures.1 c.in_err-others.ensures.refused (λ rest u. parts.lefts_no c.in_ok-ts.ensures.ok.1 c.in_ok-head.ensures.ok u)
+    leaves (BreaksAt Part.Lefts behind_first c.in_ok-head.ts.now) _ c.from_residual-in_err-others.result c.from_residual-in_err-others.ensures.1 c.in_err-others.ensures.refused (λ rest u. parts.lefts_no c.in_ok-ts.ensures.ok.1 c.in_ok-head.ensures.ok u)
 
 pub returns-clause-ok : goal.returns-clause-ok
 returns-clause-ok c = as_value c.in_ok-joined.ensures (parts.lefts c.in_ok-ts.ensures.ok.1 c.in_ok-head.ensures.ok c.in_ok-others.ensures.ok.2)

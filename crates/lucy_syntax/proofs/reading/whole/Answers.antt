@@ -9,7 +9,7 @@ use Rattle.lucy_grammar.proofs.Whole.{is_program, is_followed, is_unfit}
 use Rattle.lucy_syntax.specs.Refusals.{RefusedBy}
 use Rattle.lucy_syntax.specs.declared.refusal.Refusal.{Refusal}
 use Rattle.lucy_syntax.proofs.Facts.{is_none, is_some}
-use Rattle.lucy_grammar.specs.Why.{IsWhole, IsWhy}
+use Rattle.lucy_grammar.specs.Why.{IsWholeProgram, IsWhy}
 use Rattle.lucy_syntax.proofs.TextLaws.{refused_at, refused_behind}
 use Rattle.lucy_syntax.proofs.reading.whole.Goals as goal
 
@@ -32,5 +32,5 @@ returns-in-Fault-clause-refused c =
 pub returns-in-End-clause-ok : goal.returns-in-End-clause-ok
 returns-in-End-clause-ok c =
     let P : List Token → Type 0 = λ rest. Reads Program c.args.ts.now (map node_tree c.in-Ok.read.0.items) rest in
-    let Q : Stop → Type 0 = λ s. IsWhole c.args.ts.now s (map node_tree c.in-Ok.read.0.items) in
+    let Q : Stop → Type 0 = λ s. IsWholeProgram c.args.ts.now s (map node_tree c.in-Ok.read.0.items) in
     subst Q (sym c.in-End.is) (is_program (subst P (is_none _ c.if-not-is_empty.ensures) c.in-Ok.ensures.ok))

@@ -1,7 +1,7 @@
 use Rattle.std.proofs.Common.{◌≡◌, ◌+◌, ◌∷◌, drop, arith, ap, ◌∙◌, sym, subst}
 use Rattle.lucy_token.specs.declared.front.Front.TheVariants.{Gap}
-use Rattle.lucy_token.specs.States.{State, after}
-use Rattle.lucy_token.specs.Steps.{IsRead, IsBounded}
+use Rattle.lucy_token.specs.States.{ScanState, after}
+use Rattle.lucy_token.specs.Steps.{IsReadToken, IsBounded}
 use Rattle.lucy_token.specs.Scans.{scanned_front}
 use Rattle.lucy_token.proofs.CutSteps.{at_rest, rest_some, gap_bounds, token_bounds, passed_gap, passed_token, passed_last, passed_fault, passed_all}
 use Rattle.lucy_token.proofs.Bounds.{after_bounded, bounded_more}
@@ -35,16 +35,16 @@ text-preserved-in-Gap c =
 pub text-smaller : goal.text-smaller
 text-smaller c =
     let k = c.text.invariant.here in
-    let h : IsRead c.text.from k.0 (drop c.text.from c.args.text.now) c.in-Token.token c.in-Token.kind c.in-Token.n = at_rest _ _ _ _ _ _ c.skip.ensures c.in-Token.is (c.next_step.ensures k.0 k.1) in
+    let h : IsReadToken c.text.from k.0 (drop c.text.from c.args.text.now) c.in-Token.token c.in-Token.kind c.in-Token.n = at_rest _ _ _ _ _ _ c.skip.ensures c.in-Token.is (c.next_step.ensures k.0 k.1) in
     let b = token_bounds c.text.from k.0 c.args.text.now c.in-Token.kind c.in-Token.n c.text-test.true h.front in
     omega (arith, b.0, b.1)
 
 pub text-preserved : goal.text-preserved
 text-preserved c =
     let k = c.text.invariant.here in
-    let h : IsRead c.text.from k.0 (drop c.text.from c.args.text.now) c.in-Token.token c.in-Token.kind c.in-Token.n = at_rest _ _ _ _ _ _ c.skip.ensures c.in-Token.is (c.next_step.ensures k.0 k.1) in
+    let h : IsReadToken c.text.from k.0 (drop c.text.from c.args.text.now) c.in-Token.token c.in-Token.kind c.in-Token.n = at_rest _ _ _ _ _ _ c.skip.ensures c.in-Token.is (c.next_step.ensures k.0 k.1) in
     let b = token_bounds c.text.from k.0 c.args.text.now c.in-Token.kind c.in-Token.n c.text-test.true h.front in
-    let Q : State → Type 0 = IsBounded (c.text.from + c.in-Token.n) in
+    let Q : ScanState → Type 0 = IsBounded (c.text.from + c.in-Token.n) in
     record {
       within = b.1;
       here = (

@@ -1,13 +1,13 @@
 use Rattle.std.proofs.Common.{◌≡◌, ◌<◌, ◌≤◌, ◌-◌, ℕ, Bool, true, false, not, List, length, take, get_or, sym, subst, ◌∙◌, refl, inl, inr, arith}
 use mathlib.Core.Bool.{beq}
 use Rattle.std.proofs.lemmas.List.{length-take, get_or-take}
-use Rattle.lucy_word.specs.Turns.{GoesOn, EndsAt}
+use Rattle.lucy_word.specs.Turns.{GoesOnAs, EndsAt}
 use Rattle.lucy_word.proofs.ShortPrefix.{IsBefore, goes_start, goes_back, goes_ends}
 use Rattle.lucy_word.proofs.shortest.kept.Goals as goal
 use Rattle.lucy_word.proofs.shortest.kept.Goals.{then-at-eq0, else-at-eq0}
 
-start : (u v : List Bool) (n : ℕ) → n ≡ length u → GoesOn (record { prefix = u; period = v }) n v 0
-start u v n e = subst (λ k. GoesOn (record { prefix = u; period = v }) k v 0) (sym e) (goes_start u v)
+start : (u v : List Bool) (n : ℕ) → n ≡ length u → GoesOnAs (record { prefix = u; period = v }) n v 0
+start u v n e = subst (λ k. GoesOnAs (record { prefix = u; period = v }) k v 0) (sym e) (goes_start u v)
 
 pub loop-kept-init : goal.loop-kept-init
 loop-kept-init c = record {
@@ -33,8 +33,8 @@ IsTurnBefore : (at before turn : ℕ) → Type 0
 IsTurnBefore at before turn = IsBefore at before turn × (before < turn)
 
 back : (u v : List Bool) (k at before turn : ℕ) (x y : Bool) → turn ≤ length v → 0 < k → k ≤ length u → IsTurnBefore at before turn →
-    GoesOn (record { prefix = u; period = take turn v }) k (take turn v) at → x ≡ get_or u (k - 1) false → y ≡ get_or v before false → x ≡ y →
-    GoesOn (record { prefix = u; period = take turn v }) (k - 1) (take turn v) before
+    GoesOnAs (record { prefix = u; period = take turn v }) k (take turn v) at → x ≡ get_or u (k - 1) false → y ≡ get_or v before false → x ≡ y →
+    GoesOnAs (record { prefix = u; period = take turn v }) (k - 1) (take turn v) before
 unfolding IsTurnBefore
 back u v k at before turn x y turn_within some within is goes is_x is_y same =
     let t : List Bool = take turn v in
@@ -42,7 +42,7 @@ back u v k at before turn x y turn_within some within is goes is_x is_y same =
     goes_back u t k at before some within (omega (arith, is.1, size)) (subst (IsBefore at before) size is.0) goes (sym is_x ∙ same ∙ is_y ∙ sym (get_or-take turn v before false is.1))
 
 ends : (u v : List Bool) (k at before turn : ℕ) (x y : Bool) → turn ≤ length v → 0 < k → k ≤ length u → IsTurnBefore at before turn →
-    GoesOn (record { prefix = u; period = take turn v }) k (take turn v) at → x ≡ get_or u (k - 1) false → y ≡ get_or v before false → (x ≡ y → ⊥) →
+    GoesOnAs (record { prefix = u; period = take turn v }) k (take turn v) at → x ≡ get_or u (k - 1) false → y ≡ get_or v before false → (x ≡ y → ⊥) →
     EndsAt (record { prefix = u; period = take turn v }) k
 unfolding IsTurnBefore
 ends u v k at before turn x y turn_within some within is goes is_x is_y other =

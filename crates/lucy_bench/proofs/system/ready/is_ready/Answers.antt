@@ -2,7 +2,7 @@ use Rattle.std.proofs.Common.{◌≡◌, ℕ, ◌<◌, ◌≤◌, length, List, 
 use borrow.Author.Count.{below_more}
 use Rattle.std.proofs.lemmas.Int.{ints}
 use Rattle.lucy_solve.specs.declared.diffs.Diff.{Diff}
-use Rattle.lucy_solve.specs.System.{System, IsReady, IsBase, diff_at, no_diff}
+use Rattle.lucy_solve.specs.System.{System, IsGrounded, IsBase, diff_at, no_diff}
 use Rattle.lucy_bench.proofs.system.ready.is_ready.Goals as goal
 
 pub loop-variable-preserved : goal.loop-variable-preserved
@@ -18,7 +18,7 @@ loop-variable-preserved c =
       },
     ))
 
-ready : (s : System) (list : List Diff) (n : ℕ) → list ≡ s.list → length list ≤ 1048576 → s.count ≤ n → ((v : ℕ) → v < n → 0 < v → (i : ℕ) × (i < length list) × IsBase v (diff_at list i)) → IsReady s
+ready : (s : System) (list : List Diff) (n : ℕ) → list ≡ s.list → length list ≤ 1048576 → s.count ≤ n → ((v : ℕ) → v < n → 0 < v → (i : ℕ) × (i < length list) × IsBase v (diff_at list i)) → IsGrounded s
 ready s list n e few l h =
     let P : List Diff → Type 0 = λ list. (length list ≤ 1048576) × ((v : ℕ) → v < n → 0 < v → (i : ℕ) × (i < length list) × IsBase v (diff_at list i)) in
     let a : P s.list = subst P e (few, h) in

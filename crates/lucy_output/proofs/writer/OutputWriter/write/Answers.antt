@@ -3,7 +3,7 @@ use Rattle.std.proofs.lemmas.List.{take_at}
 use Rattle.lucy_output.specs.Outputs.{lines_after}
 use Rattle.lucy_text.specs.Outside.{Writes, Fails}
 use Rattle.lucy_output.specs.Writing.{WriterState}
-use Rattle.lucy_output.specs.Walks.{WalkState, AreAt, FitRoom, Stands}
+use Rattle.lucy_output.specs.Walks.{WalkState, AreAt, FitRoom, IsBetweenBlocks}
 use Rattle.lucy_output.proofs.SinkLaws.{on_err}
 use Rattle.lucy_output.proofs.RunLaws.{standing}
 use Rattle.lucy_output.proofs.writer.OutputWriter.write.Goals as goal
@@ -50,5 +50,5 @@ invariant_of-self-2 g c =
     let instants = ap (λ s. s.instants) c.self.view_is in
     let end : c.self.inside.instants + (c.args.instants - c.self.inside.instants) ≡ c.args.instants = omega arith in
     let R : ℕ → Type 0 = λ t. AreAt t c.self.inside.outputs.now c.put_block.new.walks in
-    let S : List WalkState → Type 0 = λ walks. Stands c.args.instants c.self.inside.outputs.now walks c.put_block.new.lines in
+    let S : List WalkState → Type 0 = λ walks. IsBetweenBlocks c.args.instants c.self.inside.outputs.now walks c.put_block.new.lines in
     (c.self.invariant.0, λ none. subst S (sym whole) (record { at = subst R end (e.at c.self.inside.instants c.self.inside.outputs.now at); fit = e.fit; none = e.none }))

@@ -4,13 +4,13 @@ use Rattle.std.specs.Prelude.{IsErrAnd}
 use Rattle.std.specs.declared.alloc.Global.{Global}
 use Rattle.std.specs.declared.vec.Vec.{Vec}
 use Rattle.lucy_text.specs.Outside.{SeenSource, GaveBytes, NoneFollows}
-use Rattle.lucy_feed.specs.Sources.{Stop, Open, Read, IsGathered}
-use Rattle.lucy_feed.specs.declared.read.ReadError.{ReadError}
-use Rattle.lucy_feed.specs.declared.read.ReadError.TheVariants.{OutOfMemory}
+use Rattle.lucy_text.specs.Sources.{ReadStop, Open, Read, IsGathered}
+use Rattle.lucy_text.specs.declared.read.ReadError.{ReadError}
+use Rattle.lucy_text.specs.declared.read.ReadError.TheVariants.{OutOfMemory}
 
 -- what a reading gives, with how it stopped
 abbrev pub Gives : (most : ℕ) (before after : SeenSource) → Result (Vec ℕ Global) ReadError → Type 0
-Gives most before after r = (taken : List ℕ) × (stop : Stop) × Read most before after taken stop × IsGathered most taken stop r
+Gives most before after r = (taken : List ℕ) × (stop : ReadStop) × Read most before after taken stop × IsGathered most taken stop r
 
 -- all that was taken up to now
 pub record Took (before after : SeenSource) (taken : List ℕ) : Type 0 where

@@ -2,8 +2,8 @@ use Rattle.std.proofs.Common.{ℕ, ◌≡◌, ◌≤◌, Some, List, length, tak
 use Rattle.std.proofs.lemmas.List.{length-take}
 use Rattle.lucy_text.proofs.OutsideLaws.{followed_more, goes_on, still_none, some_is_no_stop}
 use Rattle.lucy_text.specs.declared.outside.Failed.{Failed}
-use Rattle.lucy_feed.proofs.Gathered.{ran_out}
-use Rattle.lucy_feed.proofs.read.read_up_to.Goals as goal
+use Rattle.lucy_text.proofs.Gathered.{ran_out}
+use Rattle.lucy_text.proofs.read.read_up_to.Goals as goal
 
 pub returns-in_err-extend_from_slice-clause-read : goal.returns-in_err-extend_from_slice-clause-read
 returns-in_err-extend_from_slice-clause-read g c =

@@ -1,8 +1,8 @@
 // All bytes of a source, up to a limit.
 ghost use Rattle.std.specs.Prelude.{◌+◌, ◌<◌, ◌≤◌, ◌≡◌, ◌^◌, ℕ, List};
-ghost use Rattle.lucy_feed.specs.Sources.{Stop, Read, IsGathered};
+ghost use Rattle.lucy_text.specs.Sources.{ReadStop, Read, IsGathered};
 
-use lucy_text::Source;
+use crate::Source;
 use std::alloc::{AllocError, Global};
 
 /// Why there are no bytes.
@@ -15,7 +15,7 @@ pub enum ReadError {
 }
 
 impl From<AllocError> for ReadError {
-    ghost use Rattle.lucy_feed.specs.declared.read.ReadError.TheVariants.{OutOfMemory};
+    ghost use Rattle.lucy_text.specs.declared.read.ReadError.TheVariants.{OutOfMemory};
 
     ghost from_gives = { λ _ e. e ≡ OutOfMemory };
 
@@ -24,12 +24,12 @@ impl From<AllocError> for ReadError {
     }
 }
 
-impl From<lucy_text::Failed> for ReadError {
-    ghost use Rattle.lucy_feed.specs.declared.read.ReadError.TheVariants.{Failed};
+impl From<crate::Failed> for ReadError {
+    ghost use Rattle.lucy_text.specs.declared.read.ReadError.TheVariants.{Failed};
 
     ghost from_gives = { λ _ e. e ≡ Failed };
 
-    fn from(_: lucy_text::Failed) -> Self {
+    fn from(_: crate::Failed) -> Self {
         ReadError::Failed
     }
 }
@@ -41,7 +41,7 @@ pub fn read_up_to<I: Source>(
     limit: usize,
 ) -> Result<Vec<u8>, ReadError>
     requires { limit < 2 ^ 32 }
-    ensures read { (taken : List ℕ) × (stop : Stop) × Read limit (I.seen input.old) (I.seen input.new)
+    ensures read { (taken : List ℕ) × (stop : ReadStop) × Read limit (I.seen input.old) (I.seen input.new)
         taken stop × IsGathered limit taken stop result }
     ensures count { (I.seen input.old).faults ≤ (I.seen input.new).faults }
 {

@@ -1,6 +1,6 @@
 use Rattle.std.proofs.Common.{◌+◌, ◌-◌, ◌≡◌, ◌≤◌, Some, vec_len}
 use Rattle.lucy_text.specs.Outside.{GaveBytes}
-use Rattle.lucy_feed.proofs.read.read_up_to.Given as goal
+use Rattle.lucy_text.proofs.read.read_up_to.Given as goal
 
 abbrev pub invariant-loop-buffer : goal.invariant-loop-buffer
 invariant-loop-buffer g l = record {
