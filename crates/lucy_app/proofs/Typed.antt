@@ -10,7 +10,7 @@ use Rattle.lucy_place.specs.declared.error.NameError.TheVariants as names
 use Rattle.lucy_place.specs.Faults.{faults, verdict}
 use Rattle.lucy_place.specs.Nodes.{placed_nodes}
 use Rattle.lucy_place.specs.PlacedProgram.{PlacedProgram}
-use Rattle.lucy_place.specs.Placing.{IsFirst}
+use Rattle.lucy_place.specs.Placing.{IsFirstFault}
 use Rattle.lucy_types.specs.Programs.{IsTyped, IsClash}
 use Rattle.lucy_types.proofs.ProgramLaws.{typed_unique, clash_untyped}
 use Rattle.lucy_front.specs.declared.refusal.Refusal.{Refusal}
@@ -23,7 +23,7 @@ use Rattle.lucy_app.specs.Types.{IsReportOf}
 use Rattle.lucy_app.proofs.Verdicts.{IsVerdict, phases_alike}
 
 -- no first fault without faults
-no_first : (fs : List NameError) (e : NameError) → fs ≡ [] → IsFirst fs e → ⊥
+no_first : (fs : List NameError) (e : NameError) → fs ≡ [] → IsFirstFault fs e → ⊥
 no_first fs e none is = let same : verdict [] ≡ Err e = sym (ap verdict none) ∙ is in cc
 
 module _ (ops : List Operator) (text : List ℕ) where
@@ -38,7 +38,7 @@ module _ (ops : List Operator) (text : List ℕ) where
       is.3 ∙ ap (λ ns. report ns is.1) same ∙ ap (report also.0.nodes) (typed_unique also.0.nodes is.1 also.1 typed also.2.typed) ∙ sym also.3
 
   -- the names of a text that has places are good
-  good_names : (v : PlacedProgram) (p : ProgramTree) (e : NameError) → IsPlacedText ops text v → HasTree text p → IsFirst (faults ops p) e → ⊥
+  good_names : (v : PlacedProgram) (p : ProgramTree) (e : NameError) → IsPlacedText ops text v → HasTree text p → IsFirstFault (faults ops p) e → ⊥
   good_names v p e x read first = no_first (faults ops p) e (subst (λ t. faults ops t ≡ []) (one_program text x.tree p x.read read) x.is_placed.good) first
 
   report_apart : (x : List ℕ) (r : Refusal) → IsReportOf ops text x → RefusesText ops text r → ⊥

@@ -19,7 +19,7 @@ use Rattle.lucy_word.proofs.AdaptableLaws.{adaptable_same}
 use Rattle.lucy_word.proofs.Multiples.{lcm_one}
 use Rattle.lucy_order.specs.Horizon.{IsHorizon}
 use Rattle.lucy_check.specs.declared.fault.CheckFault.{CheckFault}
-use Rattle.lucy_check.specs.Passing.{IsTermPassing, AreWithinLimits, OrNoMemory, PassesLimit, Passes, Refuses, PassesAll, IsWithinLimits, AllWithinLimits, IsFirstRefusal, IsBeyond}
+use Rattle.lucy_check.specs.Passing.{IsTermPassing, AreWithinLimits, OrNoMemory, PassesTermLimit, Passes, RefusesNeed, PassesAll, IsWithinLimits, AllWithinLimits, IsFirstRefusal, IsBeyond}
 
 -- the error of a call goes out of the function by `?`
 pub leaves : {T : Type 0} (P Q : CheckFault → Type 0) (e : CheckFault) (r : Result T CheckFault) →
@@ -68,7 +68,7 @@ all_within w [] sizes p = tt
 all_within w (need ∷ needs) sizes p = (passes_within w need p.0 p.2, all_within w needs p.1 p.3)
 
 -- a refusal of a need that is met is one of a limit
-limit_beyond : (w : Assignment) (s t : Term) (number : ℕ) (e : CheckFault) → PassesLimit w s t number e → IsBeyond e
+limit_beyond : (w : Assignment) (s t : Term) (number : ℕ) (e : CheckFault) → PassesTermLimit w s t number e → IsBeyond e
 limit_beyond w s t number e (inl (inl p)) = subst IsBeyond (sym p.0) tt
 limit_beyond w s t number e (inl (inr p)) = subst IsBeyond (sym p.0) tt
 limit_beyond w s t number e (inr p) = subst IsBeyond (sym p.0) tt
@@ -78,7 +78,7 @@ met_adaptable w s t a b within met =
     adaptable_same met.first met.second a b met.of_first.is_word met.of_second.is_word
     (λ i h. met.of_first.on i h ∙ sym (within.first.is.on i h)) (λ i h. met.of_second.on i h ∙ sym (within.second.is.on i h)) met.adaptable
 
-pub refuses_beyond : (w : Assignment) (number : ℕ) (need : Need) (e : CheckFault) → Refuses w number need e → Meets w need → IsBeyond e
+pub refuses_beyond : (w : Assignment) (number : ℕ) (need : Need) (e : CheckFault) → RefusesNeed w number need e → Meets w need → IsBeyond e
 refuses_beyond w number (Equal s t) e (inl p) met = limit_beyond w s t number e p
 refuses_beyond w number (Equal s t) e (inr d) met =
     let at : ℕ = d.3.0 in
@@ -138,7 +138,7 @@ so_far_all w needs i sizes far h =
     subst (PassesAll w needs) (append-nil sizes) (far.rest [] (subst (λ l. PassesAll w l []) (sym none) refl))
 
 pub first_refusal : (w : Assignment) (needs : List Need) (i : ℕ) (sizes : List ℕ) (need : Need) (e : CheckFault) → PassesSoFar w needs i sizes → i < length needs → need ≡ get_or needs i need →
-    OrNoMemory (Refuses w i need) e → OrNoMemory (IsFirstRefusal w needs) e
+    OrNoMemory (RefusesNeed w i need) e → OrNoMemory (IsFirstRefusal w needs) e
 first_refusal w needs i sizes need e far h f (inl p) = inl p
 first_refusal w needs i sizes need e far h f (inr r) = inr (record {
   number = i;

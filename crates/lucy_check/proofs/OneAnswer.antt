@@ -20,7 +20,7 @@ use Rattle.lucy_need.specs.Meeting.{Assignment, Meets, MeetsAll}
 use Rattle.lucy_need.proofs.TermLaws.{one_term}
 use Rattle.lucy_check.specs.declared.fault.CheckFault.{CheckFault}
 use Rattle.lucy_check.specs.declared.fault.CheckFault.TheVariants as fault
-use Rattle.lucy_check.specs.Passing.{IsTermPassing, AreWithinLimits, PassesLimit, Passes, Refuses, PassesAll, IsWithinLimits, AllWithinLimits, IsFirstRefusal}
+use Rattle.lucy_check.specs.Passing.{IsTermPassing, AreWithinLimits, PassesTermLimit, Passes, RefusesNeed, PassesAll, IsWithinLimits, AllWithinLimits, IsFirstRefusal}
 use Rattle.lucy_check.proofs.CheckLaws.{met_adaptable, all_at}
 
 -- a term has one word in shortest form
@@ -33,14 +33,14 @@ module _ (w : Assignment) (s t : Term) where
   carried P a b x y h k p = subst (λ u. P u y) (term_one w s a x h.first k.first) (subst (λ v. P a v) (term_one w t b y h.second k.second) p)
 
   -- no limit is passed where the words are within them
-  within_limit : (a b : Bits) (number : ℕ) (e : CheckFault) → AreWithinLimits w s t a b → PassesLimit w s t number e → ⊥
+  within_limit : (a b : Bits) (number : ℕ) (e : CheckFault) → AreWithinLimits w s t a b → PassesTermLimit w s t number e → ⊥
   within_limit a b number e h (inl (inl p)) = h.first.within p.1
   within_limit a b number e h (inl (inr p)) = h.second.within p.1
   within_limit a b number e h (inr p) =
       let c = p.1 in
       h.near (subst (λ u. AreFar u b) (term_one w s c.a a c.first h.first) (subst (λ v. AreFar c.a v) (term_one w t c.b b c.second h.second) c.far))
 
-  limit_one : (number : ℕ) (e f : CheckFault) → PassesLimit w s t number e → PassesLimit w s t number f → e ≡ f
+  limit_one : (number : ℕ) (e f : CheckFault) → PassesTermLimit w s t number e → PassesTermLimit w s t number f → e ≡ f
   limit_one number e f (inl (inl p)) (inl (inl q)) = p.0 ∙ sym q.0
   limit_one number e f (inl (inl p)) (inl (inr q)) = p.0 ∙ sym q.0
   limit_one number e f (inl (inr p)) (inl (inl q)) = p.0 ∙ sym q.0
@@ -57,7 +57,7 @@ passes_one w (Adapt s t) m n p q =
     let is : IsVerdict q.0 q.1 (verdict.Adaptable p.3) = carried w s t (λ a b. IsVerdict a b (verdict.Adaptable p.3)) p.0 p.1 q.0 q.1 p.2 q.2 p.4 in
     p.5 ∙ ap (λ k. Some k) (one_size q.0 q.1 p.3 q.3 is.1 q.4.1) ∙ sym q.5
 
-pub passes_not : (w : Assignment) (need : Need) (size : Option ℕ) (number : ℕ) (e : CheckFault) → Passes w need size → Refuses w number need e → ⊥
+pub passes_not : (w : Assignment) (need : Need) (size : Option ℕ) (number : ℕ) (e : CheckFault) → Passes w need size → RefusesNeed w number need e → ⊥
 passes_not w (Equal s t) size number e p (inl l) = within_limit w s t p.0 p.1 number e p.2 l
 passes_not w (Equal s t) size number e p (inr d) =
     let same : Same d.0 d.1 = carried w s t Same p.0 p.1 d.0 d.1 p.2 d.2 p.3 in
@@ -78,7 +78,7 @@ adapt_one w s t number e f a b (inl p) (inr q) = absurd (p.1 q.2.0)
 adapt_one w s t number e f a b (inr p) (inl q) = absurd (q.1 p.2.0)
 adapt_one w s t number e f a b (inr p) (inr q) = p.1 ∙ ap (fault.Late number) (one_late a b p.0 q.0 p.2.1 q.2.1) ∙ sym q.1
 
-pub refuses_one : (w : Assignment) (need : Need) (number : ℕ) (e f : CheckFault) → Refuses w number need e → Refuses w number need f → e ≡ f
+pub refuses_one : (w : Assignment) (need : Need) (number : ℕ) (e f : CheckFault) → RefusesNeed w number need e → RefusesNeed w number need f → e ≡ f
 refuses_one w (Equal s t) number e f (inl p) (inl q) = limit_one w s t number e f p q
 refuses_one w (Equal s t) number e f (inl p) (inr q) = absurd (within_limit w s t q.0 q.1 number e q.2 p)
 refuses_one w (Equal s t) number e f (inr p) (inl q) = absurd (within_limit w s t p.0 p.1 number f p.2 q)
@@ -113,13 +113,13 @@ refusal_one w needs e f p q =
     elim (cases_order p.number q.number) [
       | inl same ↦
           let one : p.need ≡ q.need = same_Some p.need q.need (sym p.stands ∙ ap (slice_get needs) same ∙ q.stands) in
-          refuses_one w q.need q.number e f (subst (λ n. Refuses w n q.need e) same (subst (λ x. Refuses w p.number x e) one p.refused)) q.refused
+          refuses_one w q.need q.number e f (subst (λ n. RefusesNeed w n q.need e) same (subst (λ x. RefusesNeed w p.number x e) one p.refused)) q.refused
       | inr (inl less) ↦ (let at = q.before p.number p.need less p.stands in absurd (passes_not w p.need at.0 p.number e at.1 p.refused))
       | inr (inr more) ↦ (let at = p.before q.number q.need more q.stands in absurd (passes_not w q.need at.0 q.number f at.1 q.refused))
     ]
 
 -- where all needs are met within the limits no need is refused
-held_not : (w : Assignment) (need : Need) (number : ℕ) (e : CheckFault) → IsWithinLimits w need → Meets w need → Refuses w number need e → ⊥
+held_not : (w : Assignment) (need : Need) (number : ℕ) (e : CheckFault) → IsWithinLimits w need → Meets w need → RefusesNeed w number need e → ⊥
 held_not w (Equal s t) number e within met (inl l) = within_limit w s t within.0 within.1 number e within.2 l
 held_not w (Equal s t) number e within met (inr d) =
     let here = d.3.2 in

@@ -45,8 +45,8 @@ abbrev pub PassesWord : Assignment → Term → ℕ → CheckFault → Type 0
 PassesWord w t number e = (e ≡ fault.Limit number limit.Word) × IsOnTooLong (w t.clock) t.word
 
 -- the limits that the terms of the need of a number pass, in the order in which they are looked at
-abbrev pub PassesLimit : Assignment → Term → Term → ℕ → CheckFault → Type 0
-PassesLimit w s t number e =
+abbrev pub PassesTermLimit : Assignment → Term → Term → ℕ → CheckFault → Type 0
+PassesTermLimit w s t number e =
     (PassesWord w s number e ⊎ PassesWord w t number e) ⊎ ((e ≡ fault.Limit number limit.Compare) × IsComparedTooLong w s t)
 
 -- the need is met within the limits, with the size of its buffer, where it is one of a buffer
@@ -55,11 +55,11 @@ Passes w (Equal s t) size = (a b : Bits) × AreWithinLimits w s t a b × Same a 
 Passes w (Adapt s t) size = (a b : Bits) × AreWithinLimits w s t a b × (most : ℕ) × IsVerdict a b (verdict.Adaptable most) × (size ≡ Some most)
 
 -- the need of a number is refused so
-abbrev pub Refuses : Assignment → ℕ → Need → CheckFault → Type 0
-Refuses w number (Equal s t) e =
-    PassesLimit w s t number e ⊎ ((a b : Bits) × AreWithinLimits w s t a b × ((at : ℕ) × (e ≡ fault.Differs number at) × IsFirstDifference a b at))
-Refuses w number (Adapt s t) e =
-    PassesLimit w s t number e
+abbrev pub RefusesNeed : Assignment → ℕ → Need → CheckFault → Type 0
+RefusesNeed w number (Equal s t) e =
+    PassesTermLimit w s t number e ⊎ ((a b : Bits) × AreWithinLimits w s t a b × ((at : ℕ) × (e ≡ fault.Differs number at) × IsFirstDifference a b at))
+RefusesNeed w number (Adapt s t) e =
+    PassesTermLimit w s t number e
     ⊎ ((a b : Bits) × AreWithinLimits w s t a b
     × (((e ≡ fault.Rates number) × IsVerdict a b verdict.Rates) ⊎ ((at : ℕ) × (e ≡ fault.Late number at) × IsVerdict a b (verdict.Late at))))
 
@@ -73,7 +73,7 @@ pub record IsFirstRefusal (w : Assignment) (needs : List Need) (e : CheckFault) 
   pub number : ℕ
   pub need : Need
   pub stands : slice_get needs number ≡ Some need
-  pub refused : Refuses w number need e
+  pub refused : RefusesNeed w number need e
   pub before : (k : ℕ) (earlier : Need) → k < number → slice_get needs k ≡ Some earlier → (size : Option ℕ) × Passes w earlier size
 
 -- no limit is passed at a need

@@ -4,7 +4,7 @@ ghost use Rattle.lucy_word.specs.declared.limit.Limit.TheVariants as lim;
 ghost use Rattle.lucy_need.specs.Meeting.{Assignment, assigned, IsTermWord, IsWithin};
 ghost use Rattle.lucy_word.specs.Always.{always};
 ghost use Rattle.lucy_word.specs.Stored.{IsStored};
-ghost use Rattle.lucy_check.specs.Passing.{AreWithinLimits, OrNoMemory, PassesWord, PassesLimit, Passes, Refuses, IsTermPassing};
+ghost use Rattle.lucy_check.specs.Passing.{AreWithinLimits, OrNoMemory, PassesWord, PassesTermLimit, Passes, RefusesNeed, IsTermPassing};
 ghost use Rattle.lucy_check.specs.Lent.{seen, IsKept};
 ghost use Rattle.lucy_check.specs.declared.fault.CheckFault.TheVariants as fault;
 
@@ -129,7 +129,7 @@ fn words_within<'w>(
     requires second { second.now.clock < length words.now }
     requires kept { IsKept (assigned words.now) kept }
     ensures ok { IfOk result (λ p. AreWithinLimits (assigned words.now) first.now second.now (seen p.0) (seen p.1)) }
-    ensures refused { IfErr result (OrNoMemory (PassesLimit (assigned words.now) first.now second.now need)) }
+    ensures refused { IfErr result (OrNoMemory (PassesTermLimit (assigned words.now) first.now second.now need)) }
 {
     let a = word_of(alloc, need, first, words)?;
     let b = word_again(alloc, need, second, words, kept)?;
@@ -155,7 +155,7 @@ pub(crate) fn check_need<'w>(
     requires kept { IsKept (assigned words.now) kept }
     ensures ok { IfOk result (λ p. Passes (assigned words.now) need.now p.0) }
     ensures kept { IfOk result (λ p. IsKept (assigned words.now) p.1) }
-    ensures refused { IfErr result (OrNoMemory (Refuses (assigned words.now) number need.now)) }
+    ensures refused { IfErr result (OrNoMemory (RefusesNeed (assigned words.now) number need.now)) }
 {
     match need {
         Need::Equal(first, second) => {

@@ -35,8 +35,8 @@ abbrev pub AreReadersUpto : PlacedNode → ℕ → List ℕ → Type 0
 AreReadersUpto n upto readers = (p k q : ℕ) → p ≤ upto → IsUnnamed n q → Reads n p k q → slice_index readers (q - 1) ≡ p
 
 -- operands are places
-abbrev pub AreInside : PlacedNode → Type 0
-AreInside n = (p q : ℕ) (entry : PlaceEntry) → at_one n.places p ≡ Some entry → IsAmong (operands_of entry.kind) q → IsPlace n q
+abbrev pub ReadPlacesAlone : PlacedNode → Type 0
+ReadPlacesAlone n = (p q : ℕ) (entry : PlaceEntry) → at_one n.places p ≡ Some entry → IsAmong (operands_of entry.kind) q → IsPlace n q
 
 -- the word of a merge has a complement
 abbrev pub HasTurned : PlaceKind → Type 0
@@ -48,15 +48,15 @@ abbrev pub HaveTurned : PlacedNode → Type 0
 HaveTurned n = (p : ℕ) (entry : PlaceEntry) → at_one n.places p ≡ Some entry → HasTurned entry.kind
 
 -- no place up to a number hands down a word that is too long
-abbrev pub Fit : PlacedNode → ℕ → Assignment → Type 0
-Fit n upto w = (p : ℕ) (entry : PlaceEntry) → p ≤ upto → at_one n.places p ≡ Some entry → HandsTooLong entry.kind (w p) → ⊥
+abbrev pub NoneHandsTooLong : PlacedNode → ℕ → Assignment → Type 0
+NoneHandsTooLong n upto w = (p : ℕ) (entry : PlaceEntry) → p ≤ upto → at_one n.places p ≡ Some entry → HandsTooLong entry.kind (w p) → ⊥
 
 -- the words of the places up to one, in shortest form; none of these hands down one that is too long
 pub record AreHandedSoFar (n : PlacedNode) (upto : ℕ) (words : List Bits) : Type 0 where
   pub count : length words ≡ upto + 1
   pub handed : AreHandedDown n upto (assigned words)
   pub stored : AllByRecursion IsStored words
-  pub fits : Fit n upto (assigned words)
+  pub fits : NoneHandsTooLong n upto (assigned words)
 
 -- the word of the next place, in shortest form, as it is written or handed down
 pub record IsNextWord (n : PlacedNode) (place : ℕ) (w : Assignment) (next : Bits) : Type 0 where

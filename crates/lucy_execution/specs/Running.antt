@@ -10,7 +10,7 @@ use Rattle.lucy_net.specs.Schedules.{IsSound}
 use Rattle.lucy_meaning.specs.Sizes.{all_places}
 use Rattle.lucy_kahn.specs.declared.error.KahnError.{KahnError}
 use Rattle.lucy_kahn.specs.declared.error.KahnError.TheVariants.{Limit, OutOfMemory}
-use Rattle.lucy_kahn.specs.Turns.{IsPassed}
+use Rattle.lucy_kahn.specs.Turns.{IsLongUpto}
 use Rattle.lucy_flat.specs.Flat.{IsFlat}
 use Rattle.lucy_execution.specs.Streams.{cut_inputs}
 
@@ -32,7 +32,7 @@ HasManyTurns nodes instants = limit_number limit.KahnTurns < turns_of nodes inst
 -- it may make them, but from the items of the horizon some list of an iterate on the way has more items than it may have
 pub record HasManyItems (kinds : List HostKind) (inputs : List (List ℤ)) (nodes : List PlacedNode) (clocks : List NodeClock) (instants : ℕ) : Type 0 where
   pub few : turns_of nodes instants ≤ limit_number limit.KahnTurns
-  pub passed : IsPassed kinds (cut_inputs nodes clocks inputs instants) nodes (turns_of nodes instants)
+  pub passed : IsLongUpto kinds (cut_inputs nodes clocks inputs instants) nodes (turns_of nodes instants)
 
 -- memory ran out; or there are too many turns; or else too many items
 abbrev pub Refuses : List HostKind → List (List ℤ) → List PlacedNode → List NodeClock → ℕ → KahnError → Type 0

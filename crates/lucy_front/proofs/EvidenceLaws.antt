@@ -9,13 +9,13 @@ use Rattle.lucy_solve.specs.System.{System}
 use Rattle.lucy_shape.specs.declared.shape.Shape.{Shape}
 use Rattle.lucy_shape.specs.Fitting.{variable_count}
 use Rattle.lucy_shape.specs.Inequalities.{system_of}
-use Rattle.lucy_rates.specs.Walks.{IsWalk}
+use Rattle.lucy_rates.specs.Walks.{IsNeedWalk}
 use Rattle.lucy_inference.specs.declared.refusal.Uninferred.TheVariants as uninferred
 use Rattle.lucy_inference.specs.Refusals.{RefusesInference}
 use Rattle.lucy_front.specs.Refusals.{AreBelow}
 
 -- the needs of a walk are there
-walk_below : (needs : List Need) (walk : List ℕ) (c d num den : ℕ) → IsWalk needs walk c d num den → AreBelow (length needs) walk
+walk_below : (needs : List Need) (walk : List ℕ) (c d num den : ℕ) → IsNeedWalk needs walk c d num den → AreBelow (length needs) walk
 walk_below needs [] c d num den is = tt
 walk_below needs (k ∷ walk) c d num den is = (is.0, walk_below needs walk _ _ _ _ is.1.6)
 

@@ -15,7 +15,7 @@ use Rattle.lucy_place.specs.declared.error.NameError.TheVariants as names
 use Rattle.lucy_place.specs.declared.placed.PlacedNode.{PlacedNode}
 use Rattle.lucy_place.specs.Faults.{faults, verdict}
 use Rattle.lucy_place.specs.PlacedProgram.{PlacedProgram}
-use Rattle.lucy_place.specs.Placing.{IsFirst, IsPlaced}
+use Rattle.lucy_place.specs.Placing.{IsFirstFault, IsPlaced}
 use Rattle.lucy_place.specs.Proper.{AreProper, HaveOperators}
 use Rattle.lucy_place.proofs.OperatorLaws.{operators_below}
 use Rattle.lucy_place.proofs.ProperPrograms.{nodes_proper}
@@ -44,7 +44,7 @@ placed_one ops p v w x y =
     ∙ ap (λ (ss : List (Option Span)). let r : PlacedProgram = record { nodes = w.nodes; unwritten = ss } in r) (x.unwritten ∙ sym y.unwritten)
 
 -- faults have one that is the first
-first_one : (fs : List NameError) (e f : NameError) → IsFirst fs e → IsFirst fs f → e ≡ f
+first_one : (fs : List NameError) (e f : NameError) → IsFirstFault fs e → IsFirstFault fs f → e ≡ f
 first_one fs e f h k = let g : ◌≡◌ {A = Result (Unit {0}) NameError} (Err e) (Err f) = sym h ∙ k in cc
 
 -- why a text is refused, phase by phase
@@ -57,7 +57,7 @@ record OfNames (ops : List Operator) (text : List ℕ) (r : Refusal) : Type 0 wh
   tree : ProgramTree
   error : NameError
   read : HasTree text tree
-  first : IsFirst (faults ops tree) error
+  first : IsFirstFault (faults ops tree) error
   is : r ≡ names_refusal error
 
 record OfTypes (ops : List Operator) (text : List ℕ) (r : Refusal) : Type 0 where
@@ -118,7 +118,7 @@ syntax_refused text (syntax.BadWord place) h = h
 syntax_refused text (syntax.TooLarge l) h = absurd h
 syntax_refused text syntax.OutOfMemory h = absurd h
 
-pub names_refused : (ops : List Operator) (text : List ℕ) (e : NameError) → RefusesText ops text (Names e) → (p : ProgramTree) × HasTree text p × IsFirst (faults ops p) e
+pub names_refused : (ops : List Operator) (text : List ℕ) (e : NameError) → RefusesText ops text (Names e) → (p : ProgramTree) × HasTree text p × IsFirstFault (faults ops p) e
 names_refused ops text (names.Unknown span) h = h
 names_refused ops text (names.Twice span) h = h
 names_refused ops text (names.NoResult span) h = h
@@ -131,7 +131,7 @@ module _ (ops : List Operator) (o : Options) (text : List ℕ) where
   of_syntax : (e : SyntaxError) → IsRefused text e → OfPhase ops o text (syntax_refusal e)
   of_syntax e h = inl (record { error = e; refused = h; is = refl })
 
-  of_names : (p : ProgramTree) (e : NameError) → HasTree text p → IsFirst (faults ops p) e → OfPhase ops o text (names_refusal e)
+  of_names : (p : ProgramTree) (e : NameError) → HasTree text p → IsFirstFault (faults ops p) e → OfPhase ops o text (names_refusal e)
   of_names p e read first = inr (inl (record { tree = p; error = e; read = read; first = first; is = refl }))
 
   of_node : (placed : PlacedProgram) (tables : List (List Ty)) (node : ℕ) (reason : NoClocks) → IsTypedText ops text placed tables → StandsUnclocked o placed placed.nodes node reason →
@@ -218,7 +218,7 @@ module _ (ops : List Operator) (o : Options) (text : List ℕ) where
 
   names_equal : (r s : Refusal) → OfNames ops text r → OfNames ops text s → r ≡ s
   names_equal r s a b =
-      let moved = subst (λ t. IsFirst (faults ops t) a.error) (one_tree text a.tree b.tree a.read b.read) a.first in
+      let moved = subst (λ t. IsFirstFault (faults ops t) a.error) (one_tree text a.tree b.tree a.read b.read) a.first in
       a.is ∙ ap names_refusal (first_one (faults ops b.tree) a.error b.error moved b.first) ∙ sym b.is
 
 -- a refusal tells of memory or not

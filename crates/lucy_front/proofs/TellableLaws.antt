@@ -11,7 +11,7 @@ use Rattle.lucy_need.specs.declared.need.Need.TheVariants.{Equal, Adapt}
 use Rattle.lucy_need.specs.declared.need.Needs.{Needs}
 use Rattle.lucy_need.specs.Meeting.{Assignment, assigned}
 use Rattle.lucy_check.specs.declared.fault.CheckFault.{CheckFault}
-use Rattle.lucy_check.specs.Passing.{PassesLimit, Refuses as RefusesNeed, IsFirstRefusal}
+use Rattle.lucy_check.specs.Passing.{PassesTermLimit, RefusesNeed, IsFirstRefusal}
 use Rattle.lucy_front.specs.declared.options.Options.{Options}
 use Rattle.lucy_front.specs.declared.accepted.Accepted.{Accepted}
 use Rattle.lucy_front.specs.declared.refusal.Refusal.{Refusal}
@@ -37,7 +37,7 @@ reportable ops o text a is = record {
 }
 
 -- a limit isn't told as a fault of the checker
-no_limit : (w : Assignment) (s t : Term) (number : ℕ) (e : CheckFault) → PassesLimit w s t number e → IsTold e → ⊥
+no_limit : (w : Assignment) (s t : Term) (number : ℕ) (e : CheckFault) → PassesTermLimit w s t number e → IsTold e → ⊥
 no_limit w s t number e (inl (inl p)) told = subst IsTold p.0 told
 no_limit w s t number e (inl (inr p)) told = subst IsTold p.0 told
 no_limit w s t number e (inr p) told = subst IsTold p.0 told

@@ -9,7 +9,7 @@ use Rattle.lucy_place.specs.declared.error.NameError.{NameError}
 use Rattle.lucy_place.specs.declared.error.NameError.TheVariants as names
 use Rattle.lucy_place.specs.Faults.{faults}
 use Rattle.lucy_place.specs.PlacedProgram.{PlacedProgram}
-use Rattle.lucy_place.specs.Placing.{IsFirst, IsPlaced}
+use Rattle.lucy_place.specs.Placing.{IsFirstFault, IsPlaced}
 use Rattle.lucy_types.specs.declared.ty.Ty.{Ty}
 use Rattle.lucy_types.specs.Programs.{IsTyped, IsClash}
 use Rattle.lucy_clock.specs.declared.node_clock.NodeClock.{NodeClock}
@@ -58,10 +58,10 @@ RefusesSyntax text refusal = ⊥
 abbrev pub RefusesText : List Operator → (text : List ℕ) → Refusal → Type 0
 RefusesText ops text (Names (names.TooMany l)) = ⊥
 RefusesText ops text (Names names.OutOfMemory) = ⊥
-RefusesText ops text (Names e) = (p : ProgramTree) × HasTree text p × IsFirst (faults ops p) e
+RefusesText ops text (Names e) = (p : ProgramTree) × HasTree text p × IsFirstFault (faults ops p) e
 RefusesText ops text (Types placed node path) = IsPlacedText ops text placed × IsClash placed.nodes node path.items
 RefusesText ops text (LimitPassed l) =
-    RefusesSyntax text (LimitPassed l) ⊎ ((p : ProgramTree) × HasTree text p × IsFirst (faults ops p) (names.TooMany l))
+    RefusesSyntax text (LimitPassed l) ⊎ ((p : ProgramTree) × HasTree text p × IsFirstFault (faults ops p) (names.TooMany l))
 RefusesText ops text refusal = RefusesSyntax text refusal
 
 -- why the phases refuse a text: so, and then node by node for its clocks (of a limit the number alone is told)

@@ -19,7 +19,7 @@ use Rattle.lucy_kahn.specs.declared.error.KahnError.TheVariants.{Limit, OutOfMem
 use Rattle.lucy_kahn.specs.declared.instances.Instance.{Instance}
 use Rattle.lucy_kahn.specs.Outcomes.{most_items}
 use Rattle.lucy_kahn.specs.Instances.{AreInstances}
-use Rattle.lucy_kahn.specs.Turns.{own_at, lists_in, IsIterate, params_in, IsTurn, Refuses, StandsIn, IsPassed, NonePassed, IsRun}
+use Rattle.lucy_kahn.specs.Turns.{own_at, lists_in, IsIterate, params_in, IsTurn, RefusesIterate, StandsIn, IsLongUpto, NonePassed, IsRun}
 use Rattle.lucy_kahn.proofs.TurnLaws.{lists_are, own_lists, none_long}
 
 -- the exit of a `?`
@@ -70,7 +70,7 @@ module _ (kinds : List HostKind) (inputs : List (List ℤ)) (nodes : List Placed
       }
 
   -- a refused turn, among so many
-  pub passed_of : (n turns : ℕ) (e : KahnError) → n < turns → Refuses kinds inputs nodes (suc n) e → (e ≡ OutOfMemory) ⊎ ((e ≡ Limit limit.KahnItems) × IsPassed kinds inputs nodes turns)
+  pub passed_of : (n turns : ℕ) (e : KahnError) → n < turns → RefusesIterate kinds inputs nodes (suc n) e → (e ≡ OutOfMemory) ⊎ ((e ≡ Limit limit.KahnItems) × IsLongUpto kinds inputs nodes turns)
   passed_of n turns e l (inl none) = inl none
   passed_of n turns e l (inr long) = inr (long.0, (suc n, omega (arith, l), long.1))
 

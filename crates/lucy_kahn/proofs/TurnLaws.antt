@@ -22,7 +22,7 @@ use Rattle.lucy_kahn.specs.declared.instances.Caller.{Caller}
 use Rattle.lucy_kahn.specs.declared.instances.Instance.{Instance}
 use Rattle.lucy_kahn.specs.Outcomes.{most_items}
 use Rattle.lucy_kahn.specs.Instances.{IsCalledBy, AreAll}
-use Rattle.lucy_kahn.specs.Turns.{AreShort, own_at, own_list, IsApplied, AreThere, places_in, lists_to, lists_in, params_in, IsTurn, StandsIn}
+use Rattle.lucy_kahn.specs.Turns.{AreShort, own_at, own_list, HasItsOperands, AreThere, places_in, lists_to, lists_in, params_in, IsTurn, StandsIn}
 use Rattle.lucy_kahn.proofs.InstanceLaws.{path_found}
 
 -- the list of an instance place in the next iterate, by what stands there
@@ -247,7 +247,7 @@ module _ (kinds : List HostKind) (inputs : List (List ℤ)) (nodes : List Placed
       }
 
 -- an operator has its operands, and one of the host is known
-pub applied_of : (known i : ℕ) (nodes : List PlacedNode) (nd : PlacedNode) (place : ℕ) (kind : PlaceKind) → HaveOperators known nodes → slice_get nodes i ≡ Some nd → Stands nd place kind → IsProperKind nd place kind → IsApplied known kind
+pub applied_of : (known i : ℕ) (nodes : List PlacedNode) (nd : PlacedNode) (place : ℕ) (kind : PlaceKind) → HaveOperators known nodes → slice_get nodes i ≡ Some nd → Stands nd place kind → IsProperKind nd place kind → HasItsOperands known kind
 applied_of known i nodes nd place Param h e s k = tt
 applied_of known i nodes nd place (Lit l) h e s k = tt
 applied_of known i nodes nd place (Defined x) h e s k = tt

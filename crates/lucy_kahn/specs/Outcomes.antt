@@ -10,8 +10,8 @@ abbrev pub most_items : ℕ
 most_items = limit_number limit.KahnItems
 
 -- the list is the one that is wanted, and is no longer than it may be
-abbrev pub IsWhole : List ℤ → List ℤ → Type 0
-IsWhole wanted list = (list ≡ wanted) × (length wanted ≤ most_items)
+abbrev pub IsWholeList : List ℤ → List ℤ → Type 0
+IsWholeList wanted list = (list ≡ wanted) × (length wanted ≤ most_items)
 
 -- memory ran out, or the list that is wanted is longer than it may be
 abbrev pub Overflows : List ℤ → KahnError → Type 0

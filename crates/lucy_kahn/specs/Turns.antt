@@ -32,10 +32,10 @@ abbrev pub own_list : List HostKind → ℕ → List (List ℤ) → PlaceKind �
 own_list kinds n own kind = form_list kinds [] n (spot_form (at [] 0) kind) (map (own_at own) (operands_of kind))
 
 -- an operator has its operands, and one of the host is among so many
-abbrev pub IsApplied : ℕ → PlaceKind → Type 0
-IsApplied known (Op op args) = length args ≡ arity op
-IsApplied known (Host op a b) = op < known
-IsApplied known kind = Unit {0}
+abbrev pub HasItsOperands : ℕ → PlaceKind → Type 0
+HasItsOperands known (Op op args) = length args ≡ arity op
+HasItsOperands known (Host op a b) = op < known
+HasItsOperands known kind = Unit {0}
 
 -- the lists of the operands are there
 abbrev pub AreThere : List (List ℤ) → List ℕ → Type 0
@@ -81,16 +81,16 @@ abbrev pub IsLong : List HostKind → List (List ℤ) → List PlacedNode → �
 IsLong kinds inputs nodes n = (spot : Spot) × IsSpot nodes spot × (most_items < length (kahn kinds inputs nodes n spot))
 
 -- memory ran out, or some list of the iterate is too long
-abbrev pub Refuses : List HostKind → List (List ℤ) → List PlacedNode → ℕ → KahnError → Type 0
-Refuses kinds inputs nodes n e = (e ≡ OutOfMemory) ⊎ ((e ≡ Limit limit.KahnItems) × IsLong kinds inputs nodes n)
+abbrev pub RefusesIterate : List HostKind → List (List ℤ) → List PlacedNode → ℕ → KahnError → Type 0
+RefusesIterate kinds inputs nodes n e = (e ≡ OutOfMemory) ⊎ ((e ≡ Limit limit.KahnItems) × IsLong kinds inputs nodes n)
 
 -- this stands at a place of an instance
 abbrev pub StandsIn : List PlacedNode → List Instance → ℕ → ℕ → PlaceKind → Type 0
 StandsIn nodes list instance place kind = (x : Instance) (n : PlacedNode) → slice_get list instance ≡ Some x → slice_get nodes x.node ≡ Some n → Stands n place kind
 
 -- some list of an iterate up to this one is too long
-abbrev pub IsPassed : List HostKind → List (List ℤ) → List PlacedNode → ℕ → Type 0
-IsPassed kinds inputs nodes turns = (n : ℕ) × (n ≤ turns) × IsLong kinds inputs nodes n
+abbrev pub IsLongUpto : List HostKind → List (List ℤ) → List PlacedNode → ℕ → Type 0
+IsLongUpto kinds inputs nodes turns = (n : ℕ) × (n ≤ turns) × IsLong kinds inputs nodes n
 
 -- no list of an iterate up to this one is
 abbrev pub NonePassed : List HostKind → List (List ℤ) → List PlacedNode → ℕ → Type 0

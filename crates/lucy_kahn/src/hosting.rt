@@ -4,7 +4,7 @@ ghost use Rattle.lucy_host.specs.Host.{Serves, lent};
 ghost use Rattle.lucy_host.specs.HostValue.{hosted_value};
 ghost use Rattle.lucy_host.specs.Operators.{kinds_of};
 ghost use Rattle.lucy_stream.specs.Lists as spec;
-ghost use Rattle.lucy_kahn.specs.Outcomes.{IsWhole, Overflows};
+ghost use Rattle.lucy_kahn.specs.Outcomes.{IsWholeList, Overflows};
 
 use crate::error::KahnError;
 use crate::grow::put;
@@ -22,7 +22,7 @@ pub(crate) fn hosted<F: Fn(u32, i64, i64) -> i64 + Sync>(
 ) -> Result<Vec<i64>, KahnError>
     requires serves { Serves F.pre F.post host.now }
     requires known { op < length (lent host.now) }
-    ensures ok { IfOk result (λ made. IsWhole (spec.item_by_item 2 (λ x y z. hosted_value (kinds_of (lent host.now)) op x y) (a.now ∷ b.now ∷ [])) made.items) }
+    ensures ok { IfOk result (λ made. IsWholeList (spec.item_by_item 2 (λ x y z. hosted_value (kinds_of (lent host.now)) op x y) (a.now ∷ b.now ∷ [])) made.items) }
     ensures limit { IfErr result (Overflows (spec.item_by_item 2 (λ x y z. hosted_value (kinds_of (lent host.now)) op x y) (a.now ∷ b.now ∷ []))) }
 {
     let mut made = Vec::new(alloc);

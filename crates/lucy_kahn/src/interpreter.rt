@@ -10,7 +10,7 @@ ghost use Rattle.lucy_meaning.specs.Spots.{main_of, results_of};
 ghost use Rattle.lucy_meaning.specs.Kahn as meaning;
 ghost use Rattle.lucy_kahn.specs.declared.error.KahnError.TheVariants as error;
 ghost use Rattle.lucy_kahn.specs.Instances.{AreInstances};
-ghost use Rattle.lucy_kahn.specs.Turns.{AreThere, own_at, params_in, IsIterate, IsPassed};
+ghost use Rattle.lucy_kahn.specs.Turns.{AreThere, own_at, params_in, IsIterate, IsLongUpto};
 
 use crate::error::KahnError;
 use crate::instances::{Instances, all_instances};
@@ -89,8 +89,8 @@ pub fn kahn<F: Fn(u32, i64, i64) -> i64 + Sync>(
     requires known { HaveOperators (length (lent host.now)) placed.now.nodes }
     requires inputs { params_in (main_of placed.now.nodes) ≡ length inputs.now }
     ensures ok { IfOk result (λ lists. lists ≡ map (meaning.kahn (kinds_of (lent host.now)) inputs.now placed.now.nodes turns) (results_of placed.now.nodes)) }
-    ensures limit { IfErr result (λ e. (e ≡ error.OutOfMemory) ⊎ ((e ≡ error.Limit limit.KahnItems) × IsPassed (kinds_of (lent host.now)) inputs.now placed.now.nodes turns)) }
-    ensures passed { IsPassed (kinds_of (lent host.now)) inputs.now placed.now.nodes turns → (result ≡ Err error.OutOfMemory) ⊎ (result ≡ Err (error.Limit limit.KahnItems)) }
+    ensures limit { IfErr result (λ e. (e ≡ error.OutOfMemory) ⊎ ((e ≡ error.Limit limit.KahnItems) × IsLongUpto (kinds_of (lent host.now)) inputs.now placed.now.nodes turns)) }
+    ensures passed { IsLongUpto (kinds_of (lent host.now)) inputs.now placed.now.nodes turns → (result ≡ Err error.OutOfMemory) ⊎ (result ≡ Err (error.Limit limit.KahnItems)) }
 {
     let main = placed.node(placed.nodes() - 1);
     let instances = all_instances(alloc, placed)?;

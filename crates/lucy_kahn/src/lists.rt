@@ -1,7 +1,7 @@
 // The lists of places with one operand or none.
 ghost use Rattle.std.specs.Prelude.{◌≡◌, ◌<◌, ◌^◌, ◌∷◌, length, replicate, IfOk, IfErr};
 ghost use Rattle.lucy_stream.specs.Lists as spec;
-ghost use Rattle.lucy_kahn.specs.Outcomes.{IsWhole, Overflows};
+ghost use Rattle.lucy_kahn.specs.Outcomes.{IsWholeList, Overflows};
 
 use crate::error::KahnError;
 use crate::grow::put;
@@ -10,7 +10,7 @@ use std::alloc::Global;
 
 /// The same list.
 pub(crate) fn copied(alloc: Global, list: &[i64]) -> Result<Vec<i64>, KahnError>
-    ensures ok { IfOk result (λ made. IsWhole list.now made.items) }
+    ensures ok { IfOk result (λ made. IsWholeList list.now made.items) }
     ensures limit { IfErr result (Overflows list.now) }
 {
     let mut made = Vec::new(alloc);
@@ -22,7 +22,7 @@ pub(crate) fn copied(alloc: Global, list: &[i64]) -> Result<Vec<i64>, KahnError>
 
 /// So many copies of a literal.
 pub(crate) fn repeated(alloc: Global, copies: u64, literal: i64) -> Result<Vec<i64>, KahnError>
-    ensures ok { IfOk result (λ made. IsWhole (replicate copies literal) made.items) }
+    ensures ok { IfOk result (λ made. IsWholeList (replicate copies literal) made.items) }
     ensures limit { IfErr result (Overflows (replicate copies literal)) }
 {
     let mut made = Vec::new(alloc);
@@ -34,7 +34,7 @@ pub(crate) fn repeated(alloc: Global, copies: u64, literal: i64) -> Result<Vec<i
 
 /// A literal, and then the items of a list.
 pub(crate) fn delayed(alloc: Global, first: i64, list: &[i64]) -> Result<Vec<i64>, KahnError>
-    ensures ok { IfOk result (λ made. IsWhole (first ∷ list.now) made.items) }
+    ensures ok { IfOk result (λ made. IsWholeList (first ∷ list.now) made.items) }
     ensures limit { IfErr result (Overflows (first ∷ list.now)) }
 {
     let mut made = Vec::new(alloc);
@@ -47,7 +47,7 @@ pub(crate) fn delayed(alloc: Global, first: i64, list: &[i64]) -> Result<Vec<i64
 
 /// The items whose number, counted from 1, has a one in the word.
 pub(crate) fn kept(alloc: Global, word: &Word, list: &[i64]) -> Result<Vec<i64>, KahnError>
-    ensures ok { IfOk result (λ made. IsWhole (spec.kept word.now list.now) made.items) }
+    ensures ok { IfOk result (λ made. IsWholeList (spec.kept word.now list.now) made.items) }
     ensures limit { IfErr result (Overflows (spec.kept word.now list.now)) }
 {
     let mut made = Vec::new(alloc);

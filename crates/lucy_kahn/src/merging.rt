@@ -1,7 +1,7 @@
 // The list of a merge.
 ghost use Rattle.std.specs.Prelude.{◌≡◌, ◌+◌, ◌<◌, ◌^◌, length, slice_get, IfOk, IfErr};
 ghost use Rattle.lucy_stream.specs.Merges as spec;
-ghost use Rattle.lucy_kahn.specs.Outcomes.{most_items, IsWhole, Overflows};
+ghost use Rattle.lucy_kahn.specs.Outcomes.{most_items, IsWholeList, Overflows};
 
 use crate::error::KahnError;
 use crate::grow::put;
@@ -38,7 +38,7 @@ pub(crate) fn merged(
 ) -> Result<Vec<i64>, KahnError>
     requires first { length a.now < 2 ^ 32 }
     requires second { length b.now < 2 ^ 32 }
-    ensures ok { IfOk result (λ made. IsWhole (spec.merged word.now a.now b.now) made.items) }
+    ensures ok { IfOk result (λ made. IsWholeList (spec.merged word.now a.now b.now) made.items) }
     ensures limit { IfErr result (Overflows (spec.merged word.now a.now b.now)) }
 {
     let mut made = Vec::new(alloc);

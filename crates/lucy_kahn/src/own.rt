@@ -4,9 +4,9 @@ ghost use Rattle.lucy_host.specs.Host.{Serves, lent};
 ghost use Rattle.lucy_host.specs.Operators.{kinds_of};
 ghost use Rattle.lucy_stream.specs.Items.{list_at};
 ghost use Rattle.lucy_place.specs.Reads.{operands_of};
-ghost use Rattle.lucy_kahn.specs.Outcomes.{IsWhole, Overflows};
+ghost use Rattle.lucy_kahn.specs.Outcomes.{IsWholeList, Overflows};
 ghost use Rattle.lucy_kahn.specs.Turns as spec;
-ghost use Rattle.lucy_kahn.specs.Turns.{AreShort, AreThere, IsApplied, own_at};
+ghost use Rattle.lucy_kahn.specs.Turns.{AreShort, AreThere, HasItsOperands, own_at};
 
 use crate::error::KahnError;
 use crate::hosting::hosted;
@@ -42,8 +42,8 @@ pub(crate) fn own_list<F: Fn(u32, i64, i64) -> i64 + Sync>(
     requires number { number < 2 ^ 64 - 1 }
     requires short { AreShort own.now }
     requires there { AreThere own.now (operands_of kind.now) }
-    requires applied { IsApplied (length (lent host.now)) kind.now }
-    ensures ok { IfOk result (λ made. IsWhole (spec.own_list (kinds_of (lent host.now)) number own.now kind.now) made.items) }
+    requires applied { HasItsOperands (length (lent host.now)) kind.now }
+    ensures ok { IfOk result (λ made. IsWholeList (spec.own_list (kinds_of (lent host.now)) number own.now kind.now) made.items) }
     ensures limit { IfErr result (Overflows (spec.own_list (kinds_of (lent host.now)) number own.now kind.now)) }
 {
     match kind {

@@ -4,7 +4,7 @@ ghost use Rattle.lucy_host.specs.Arity.{arity};
 ghost use Rattle.lucy_host.specs.OpValue as table;
 ghost use Rattle.lucy_stream.specs.Items.{item_at};
 ghost use Rattle.lucy_stream.specs.Lists as spec;
-ghost use Rattle.lucy_kahn.specs.Outcomes.{IsWhole, Overflows};
+ghost use Rattle.lucy_kahn.specs.Outcomes.{IsWholeList, Overflows};
 
 use crate::error::KahnError;
 use crate::grow::put;
@@ -37,7 +37,7 @@ pub(crate) fn pointwise(
     b: &[i64],
     c: &[i64],
 ) -> Result<Vec<i64>, KahnError>
-    ensures ok { IfOk result (λ made. IsWhole (spec.item_by_item (arity op) (table.op_value op) (a.now ∷ b.now ∷ c.now ∷ [])) made.items) }
+    ensures ok { IfOk result (λ made. IsWholeList (spec.item_by_item (arity op) (table.op_value op) (a.now ∷ b.now ∷ c.now ∷ [])) made.items) }
     ensures limit { IfErr result (Overflows (spec.item_by_item (arity op) (table.op_value op) (a.now ∷ b.now ∷ c.now ∷ []))) }
 {
     let mut made = Vec::new(alloc);

@@ -3,8 +3,8 @@ ghost use Rattle.std.specs.Prelude.{◌≡◌, ◌<◌, ◌-◌, ◌^◌, ℕ, s
 ghost use Rattle.lucy_host.specs.Host.{Serves, lent};
 ghost use Rattle.lucy_host.specs.Operators.{kinds_of};
 ghost use Rattle.lucy_place.specs.Proper.{HaveOperators};
-ghost use Rattle.lucy_kahn.specs.Outcomes.{IsWhole, Overflows};
-ghost use Rattle.lucy_kahn.specs.Turns.{IsIterate, AreShort, StandsIn, Refuses, lists_in};
+ghost use Rattle.lucy_kahn.specs.Outcomes.{IsWholeList, Overflows};
+ghost use Rattle.lucy_kahn.specs.Turns.{IsIterate, AreShort, StandsIn, RefusesIterate, lists_in};
 ghost use Rattle.lucy_kahn.specs.Views.{IsBefore, list_after};
 
 use crate::error::KahnError;
@@ -31,7 +31,7 @@ fn list_of<F: Fn(u32, i64, i64) -> i64 + Sync>(
     requires before { (paths : ℕ → List ℕ) × IsBefore (kinds_of (lent host.now)) before.now paths }
     requires there { instance < length before.now.instances.now.list.items }
     requires stands { StandsIn before.now.placed.now.nodes before.now.instances.now.list.items instance place kind.now }
-    ensures ok { (paths : ℕ → List ℕ) → IsBefore (kinds_of (lent host.now)) before.now paths → IfOk result (λ made. IsWhole (list_after (kinds_of (lent host.now)) before.now (paths instance) place) made.items) }
+    ensures ok { (paths : ℕ → List ℕ) → IsBefore (kinds_of (lent host.now)) before.now paths → IfOk result (λ made. IsWholeList (list_after (kinds_of (lent host.now)) before.now (paths instance) place) made.items) }
     ensures limit { (paths : ℕ → List ℕ) → IsBefore (kinds_of (lent host.now)) before.now paths → IfErr result (Overflows (list_after (kinds_of (lent host.now)) before.now (paths instance) place)) }
 {
     match kind {
@@ -59,7 +59,7 @@ fn lists_of<F: Fn(u32, i64, i64) -> i64 + Sync>(
     requires before { (paths : ℕ → List ℕ) × IsBefore (kinds_of (lent host.now)) before.now paths }
     requires there { instance < length before.now.instances.now.list.items }
     ensures ok { (paths : ℕ → List ℕ) → IsBefore (kinds_of (lent host.now)) before.now paths → IfOk result (λ lists. (lists ≡ lists_in (kinds_of (lent host.now)) before.now.inputs.now before.now.placed.now.nodes (suc before.now.number) (paths instance)) × AreShort lists) }
-    ensures limit { IfErr result (Refuses (kinds_of (lent host.now)) before.now.inputs.now before.now.placed.now.nodes (suc before.now.number)) }
+    ensures limit { IfErr result (RefusesIterate (kinds_of (lent host.now)) before.now.inputs.now before.now.placed.now.nodes (suc before.now.number)) }
 {
     let node = before.placed.node(before.instances.list[instance].node);
     let mut lists = Lists::new(alloc);
@@ -81,7 +81,7 @@ pub(crate) fn next<F: Fn(u32, i64, i64) -> i64 + Sync>(
     requires number { before.now.number < 2 ^ 64 - 1 }
     requires before { (paths : ℕ → List ℕ) × IsBefore (kinds_of (lent host.now)) before.now paths }
     ensures ok { (paths : ℕ → List ℕ) → IsBefore (kinds_of (lent host.now)) before.now paths → IfOk result (λ after. IsIterate (kinds_of (lent host.now)) before.now.inputs.now before.now.placed.now.nodes before.now.instances.now.list.items (suc before.now.number) paths after.items) }
-    ensures limit { IfErr result (Refuses (kinds_of (lent host.now)) before.now.inputs.now before.now.placed.now.nodes (suc before.now.number)) }
+    ensures limit { IfErr result (RefusesIterate (kinds_of (lent host.now)) before.now.inputs.now before.now.placed.now.nodes (suc before.now.number)) }
 {
     let mut after = Vec::new(alloc);
     'each: for instance in 0..before.instances.list.len() {

@@ -16,7 +16,7 @@ use Rattle.lucy_place.specs.declared.placed.PlacedNode.{PlacedNode}
 use Rattle.lucy_place.specs.Proper.{AreProper}
 use Rattle.lucy_meaning.specs.Spots.{Spot, IsSpot, form_at, reads_at}
 use Rattle.lucy_meaning.specs.Kahn.{kahn}
-use Rattle.lucy_meaning.specs.Items.{SpotItem, DependsOn, Leads, IsCausalProgram}
+use Rattle.lucy_meaning.specs.Items.{SpotItem, DependsOn, IsSpotWalk, IsCausalProgram}
 use Rattle.lucy_meaning.specs.Numbers.{number, numbered_place, numbered_places}
 use Rattle.lucy_meaning.proofs.Lists.{mapped}
 use Rattle.lucy_meaning.proofs.Closed.{closed, all_of, each_of}
@@ -71,11 +71,11 @@ module _ (nodes : List PlacedNode) (proper : AreProper nodes) where
     need = d.need;
   }
 
-  walk_of : (x : SpotItem) (walk : List SpotItem) (end : SpotItem) → Leads nodes x walk end → IsWalk (numbered_places nodes) (item_of nodes x) (map (item_of nodes) walk) (item_of nodes end)
+  walk_of : (x : SpotItem) (walk : List SpotItem) (end : SpotItem) → IsSpotWalk nodes x walk end → IsWalk (numbered_places nodes) (item_of nodes x) (map (item_of nodes) walk) (item_of nodes end)
   walk_of x [] end d = needs_of x end d
   walk_of x (y ∷ walk) end d = (needs_of x y d.0, walk_of y walk end d.1)
 
-  there_of : (x : SpotItem) (walk : List SpotItem) (end : SpotItem) → Leads nodes x walk end → IsSpot nodes x.spot
+  there_of : (x : SpotItem) (walk : List SpotItem) (end : SpotItem) → IsSpotWalk nodes x walk end → IsSpot nodes x.spot
   there_of x [] end d = d.there
   there_of x (y ∷ walk) end d = d.0.there
 
@@ -110,7 +110,7 @@ module _ (nodes : List PlacedNode) (proper : AreProper nodes) where
     spot : Spot
     is : IsSpot nodes spot
     place : number nodes spot ≡ end.place
-    leads : Leads nodes (record { spot = s; number = x.number }) walk (record { spot = spot; number = end.number })
+    leads : IsSpotWalk nodes (record { spot = s; number = x.number }) walk (record { spot = spot; number = end.number })
 
   walks_of : (s : Spot) (x : Item) (walk : List Item) (end : Item) → IsSpot nodes s → number nodes s ≡ x.place → IsWalk (numbered_places nodes) x walk end → Walks s x end
   walks_of s x [] end is e need =
@@ -132,7 +132,7 @@ module _ (nodes : List PlacedNode) (proper : AreProper nodes) where
       let w = walks_of s.0 x reaches.0 x s.1 s.2 reaches.1 in
       let same : w.spot ≡ s.0 = number_own nodes proper w.spot s.0 w.is s.1 (w.place ∙ sym s.2) in
       causal (record { spot = s.0; number = x.number }) w.walk low
-      (subst (λ t. Leads nodes (record { spot = s.0; number = x.number }) w.walk (record { spot = t; number = x.number })) same w.leads)
+      (subst (λ t. IsSpotWalk nodes (record { spot = s.0; number = x.number }) w.walk (record { spot = t; number = x.number })) same w.leads)
 
   pub causal_program : IsCausal (numbered_places nodes) → IsCausalProgram nodes
   unfolding item_of
@@ -148,7 +148,7 @@ module _ (nodes : List PlacedNode) (proper : AreProper nodes) where
       subst (λ xs. y.number ≤ length xs) (by_number kinds inputs n y.spot y_is)
       (needs_back kinds inputs (numbered_places nodes) n (item_of nodes x) (item_of nodes y) low (needs_of x y d) mine)
 
-  pub no_cycle_there : (kinds : List HostKind) (inputs : List (List ℤ)) (n : ℕ) (x : SpotItem) (walk : List SpotItem) → 1 ≤ x.number → x.number ≤ length (kahn kinds inputs nodes n x.spot) → Leads nodes x walk x → ⊥
+  pub no_cycle_there : (kinds : List HostKind) (inputs : List (List ℤ)) (n : ℕ) (x : SpotItem) (walk : List SpotItem) → 1 ≤ x.number → x.number ≤ length (kahn kinds inputs nodes n x.spot) → IsSpotWalk nodes x walk x → ⊥
   unfolding item_of
   no_cycle_there kinds inputs n x walk low l leads =
       let is : IsSpot nodes x.spot = there_of x walk x leads in

@@ -20,10 +20,10 @@ pub record DependsOn (nodes : List PlacedNode) (x y : SpotItem) : Type 0 where
   pub need : IsNeed (form_at nodes x.spot) x.number operand y.number
 
 -- each item of the walk depends on the next one, and the last one on `end`
-abbrev pub Leads : List PlacedNode → SpotItem → List SpotItem → SpotItem → Type 0
-Leads nodes x [] end = DependsOn nodes x end
-Leads nodes x (y ∷ walk) end = DependsOn nodes x y × Leads nodes y walk end
+abbrev pub IsSpotWalk : List PlacedNode → SpotItem → List SpotItem → SpotItem → Type 0
+IsSpotWalk nodes x [] end = DependsOn nodes x end
+IsSpotWalk nodes x (y ∷ walk) end = DependsOn nodes x y × IsSpotWalk nodes y walk end
 
 -- no item reaches itself
 abbrev pub IsCausalProgram : List PlacedNode → Type 0
-IsCausalProgram nodes = (x : SpotItem) (walk : List SpotItem) → 1 ≤ x.number → Leads nodes x walk x → ⊥
+IsCausalProgram nodes = (x : SpotItem) (walk : List SpotItem) → 1 ≤ x.number → IsSpotWalk nodes x walk x → ⊥

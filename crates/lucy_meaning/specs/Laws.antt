@@ -11,7 +11,7 @@ use Rattle.lucy_place.specs.Proper.{AreProper}
 use Rattle.lucy_meaning.specs.Spots.{Spot, IsSpot, reads_at}
 use Rattle.lucy_meaning.specs.Sizes.{all_places}
 use Rattle.lucy_meaning.specs.Kahn.{kahn}
-use Rattle.lucy_meaning.specs.Items.{SpotItem, DependsOn, Leads, IsCausalProgram}
+use Rattle.lucy_meaning.specs.Items.{SpotItem, DependsOn, IsSpotWalk, IsCausalProgram}
 use Rattle.lucy_meaning.specs.Horizons.{IsHorizon}
 use Rattle.lucy_meaning.specs.Numbers.{number, numbered_place, numbered_places}
 
@@ -37,7 +37,7 @@ ItemsBeforeLaw = (kinds : List HostKind) (inputs : List (List ℤ)) (nodes : Lis
 -- and doesn't lead to itself
 abbrev pub NoCycleLaw : Type 0
 NoCycleLaw = (kinds : List HostKind) (inputs : List (List ℤ)) (nodes : List PlacedNode) (n : ℕ) (x : SpotItem) (walk : List SpotItem) → AreProper nodes → 1 ≤ x.number →
-    x.number ≤ length (kahn kinds inputs nodes n x.spot) → Leads nodes x walk x → ⊥
+    x.number ≤ length (kahn kinds inputs nodes n x.spot) → IsSpotWalk nodes x walk x → ⊥
 
 -- inputs have one horizon
 abbrev pub OneHorizonLaw : Type 0

@@ -10,12 +10,12 @@ use Rattle.lucy_place.specs.Written.{first_unwritten}
 use Rattle.lucy_place.specs.PlacedProgram.{PlacedProgram}
 
 -- the first of the faults
-abbrev pub IsFirst : List NameError → NameError → Type 0
-IsFirst fs e = verdict fs ≡ Err e
+abbrev pub IsFirstFault : List NameError → NameError → Type 0
+IsFirstFault fs e = verdict fs ≡ Err e
 
 -- the first of the faults, unless memory ran out
-abbrev pub Tells : List NameError → NameError → Type 0
-Tells fs e = (e ≡ OutOfMemory) ⊎ IsFirst fs e
+abbrev pub TellsFirst : List NameError → NameError → Type 0
+TellsFirst fs e = (e ≡ OutOfMemory) ⊎ IsFirstFault fs e
 
 -- the program's names are good, where the host has these operators, and these are its places
 pub record IsPlaced (ops : List Operator) (p : ProgramTree) (v : PlacedProgram) : Type 0 where

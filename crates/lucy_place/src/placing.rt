@@ -6,7 +6,7 @@ ghost use Rattle.lucy_place.specs.declared.error.NameError.TheVariants as error;
 ghost use Rattle.lucy_place.specs.Streams.{text_of, streams, node_names};
 ghost use Rattle.lucy_place.specs.Faults.{verdict, def_faults, node_faults, nodes_faults, faults};
 ghost use Rattle.lucy_place.specs.Nodes.{placed_node, placed_below};
-ghost use Rattle.lucy_place.specs.Placing.{Tells, IsFirst, IsPlaced};
+ghost use Rattle.lucy_place.specs.Placing.{TellsFirst, IsFirstFault, IsPlaced};
 ghost use Rattle.lucy_place.specs.Proper.{HaveOperators};
 ghost use Rattle.lucy_place.specs.Views.{within_of};
 
@@ -49,7 +49,7 @@ fn next_node<'p>(
     requires few { length scope.now < 2 ^ 32 }
     requires shaped { IsShapedNode (node_tree node.now) }
     ensures ok { IfOk result (λ placed. (node_faults ops.now (map node_tree all.now) (map node_tree above.now) (node_tree node.now) ≡ []) × (placed ≡ placed_node ops.now (map node_tree above.now) (node_tree node.now))) }
-    ensures refused { IfErr result (Tells (node_faults ops.now (map node_tree all.now) (map node_tree above.now) (node_tree node.now))) }
+    ensures refused { IfErr result (TellsFirst (node_faults ops.now (map node_tree all.now) (map node_tree above.now) (node_tree node.now))) }
 {
     if scope.find(node.name.text.bytes()).is_some() {
         return Err(NameError::Twice(node.name.span));
@@ -78,9 +78,9 @@ pub fn place(alloc: Global, program: &Program, ops: &Ops) -> Result<Placed, Name
     requires shaped { IsShapedProgram (program_tree program.now) }
     ensures ok { IfOk result (IsPlaced ops.now (program_tree program.now)) }
     ensures operators { IfOk result (λ placed. HaveOperators (length ops.now) placed.nodes) }
-    ensures refused { IfErr result (Tells (faults ops.now (program_tree program.now))) }
+    ensures refused { IfErr result (TellsFirst (faults ops.now (program_tree program.now))) }
     ensures accepted { faults ops.now (program_tree program.now) ≡ [] → (result ≡ Err error.OutOfMemory) ⊎ IsOk result }
-    ensures rejected { (e : NameError) → IsFirst (faults ops.now (program_tree program.now)) e → (result ≡ Err error.OutOfMemory) ⊎ (result ≡ Err e) }
+    ensures rejected { (e : NameError) → IsFirstFault (faults ops.now (program_tree program.now)) e → (result ≡ Err error.OutOfMemory) ⊎ (result ≡ Err e) }
 {
     let nodes = program.nodes.list();
     let hash = NameHash::of(nodes);

@@ -11,7 +11,7 @@ use Rattle.lucy_need.specs.Stored.{HasWords}
 use Rattle.lucy_need.specs.declared.need.Need.{Need}
 use Rattle.lucy_need.specs.declared.need.Need.TheVariants.{Equal, Adapt}
 use Rattle.lucy_rates.specs.declared.fraction.Fraction.{Fraction}
-use Rattle.lucy_rates.specs.Walks.{need_at, no_need, over, under, IsWalk, AreJoined, IsRoot}
+use Rattle.lucy_rates.specs.Walks.{need_at, no_need, over, under, IsNeedWalk, AreJoinedClocks, IsRoot}
 use Rattle.lucy_rates.specs.Trees.{IsTree, IsTreeRate}
 use Rattle.lucy_rates.specs.Forests.{rate_at, IsForest}
 use Rattle.lucy_rates.specs.Growing.{no_number, ArePlanted}
@@ -31,7 +31,7 @@ pub some_factor : (need : Need) → HasWords need → (0 < over need) × (0 < un
 some_factor (Equal s t) h = (some_product _ _ h.0.word.has_one h.1.nonempty, some_product _ _ h.0.nonempty h.1.word.has_one)
 some_factor (Adapt s t) h = (some_product _ _ h.0.word.has_one h.1.nonempty, some_product _ _ h.0.nonempty h.1.word.has_one)
 
-pub some_walk : (needs : List Need) → All HasWords needs → (walk : List ℕ) (c d num den : ℕ) → IsWalk needs walk c d num den → (0 < num) × (0 < den)
+pub some_walk : (needs : List Need) → All HasWords needs → (walk : List ℕ) (c d num den : ℕ) → IsNeedWalk needs walk c d num den → (0 < num) × (0 < den)
 some_walk needs words [] c d num den h = (let a = h.1 in omega arith, let b = h.2 in omega arith)
 some_walk needs words (m ∷ walk) c d num den h =
     let r = h.1 in
@@ -46,7 +46,7 @@ some_walk needs words (m ∷ walk) c d num den h =
     (let e = r.7 in omega arith, let e = r.8 in omega arith)
 
 -- what a walk joins lies below the number of clocks
-pub joined_within : (needs : List Need) (clocks : ℕ) → All (IsWithin clocks) needs → (walk : List ℕ) (c d num den : ℕ) → d < clocks → IsWalk needs walk c d num den → c < clocks
+pub joined_within : (needs : List Need) (clocks : ℕ) → All (IsWithin clocks) needs → (walk : List ℕ) (c d num den : ℕ) → d < clocks → IsNeedWalk needs walk c d num den → c < clocks
 joined_within needs clocks within [] c d num den l h = (let e = h.0 in omega arith)
 joined_within needs clocks within (m ∷ walk) c d num den l h =
     let ends = both_within clocks (need_at needs m) (within m no_need h.0) in
@@ -102,7 +102,7 @@ path_of needs clocks tree roots parents depths rates h c l =
     let own = h.planted.own c l (h.planted.done c l) in
     path_to needs r (tree r) parents depths rates (h.planted.rated r in_r own) (contained needs (tree r) (h.planted.is_tree r in_r own).within) (get_or depths c 0 + 1) c (omega arith) (h.planted.reached c l (h.planted.done c l))
 
-pub one_root : (needs : List Need) (clocks : ℕ) (tree : ℕ → List ℕ) (roots parents depths : List ℕ) (rates : List Fraction) → IsWood needs clocks tree roots parents depths rates → (c d : ℕ) → AreJoined needs c d → get_or roots c 0 ≡ get_or roots d 0
+pub one_root : (needs : List Need) (clocks : ℕ) (tree : ℕ → List ℕ) (roots parents depths : List ℕ) (rates : List Fraction) → IsWood needs clocks tree roots parents depths rates → (c d : ℕ) → AreJoinedClocks needs c d → get_or roots c 0 ≡ get_or roots d 0
 one_root needs clocks tree roots parents depths rates h c d j = same_along needs (λ x. get_or roots x 0) h.planted.apart j.0 c d j.1 j.2 j.3
 
 root_of : (needs : List Need) (clocks : ℕ) (tree : ℕ → List ℕ) (roots parents depths : List ℕ) (rates : List Fraction) → IsWood needs clocks tree roots parents depths rates → (c : ℕ) → c < clocks → IsRoot needs (get_or roots c 0) c
@@ -155,7 +155,7 @@ only_rate needs clocks tree roots parents depths rates h c num den l k =
     let root_same : k.root ≡ r = one_root_of needs c k.root r k.is_root (root_of needs clocks tree roots parents depths rates h c l) in
     let tree_same : k.tree ≡ tree r = one_tree needs r k.tree (tree r) (subst (λ (z : ℕ). IsTree needs z k.tree) root_same k.is_tree) (h.planted.is_tree r in_r own) in
     let in_tree : All (Contains (tree r)) k.walk = subst (λ (z : List ℕ). All (Contains z) k.walk) tree_same k.in_tree in
-    let along : IsWalk needs k.walk r c k.a k.b = subst (λ (z : ℕ). IsWalk needs k.walk z c k.a k.b) root_same k.along in
+    let along : IsNeedWalk needs k.walk r c k.a k.b = subst (λ (z : ℕ). IsNeedWalk needs k.walk z c k.a k.b) root_same k.along in
     let level = level_walk needs rates k.walk r c k.a k.b (level_tree needs r (tree r) parents depths rates rated k.walk in_tree) along in
     let e = from_root rates r c k.a k.b rated.num rated.den level in
     same_rate num den k.a k.b (rate_at rates c).num (rate_at rates c).den k.lowest good.lowest (some_walk needs h.words k.walk r c k.a k.b along).1 good.den k.same e
@@ -169,7 +169,7 @@ forest_of needs clocks tree roots parents depths rates h a b d = record {
   root = λ c l. root_of needs clocks tree roots parents depths rates h c l;
   one = λ c e l m j. one_root needs clocks tree roots parents depths rates h c e j;
   joined = λ c e l m same. joined_on needs c (get_or roots c 0) e (joined_back needs (get_or roots c 0) c (root_of needs clocks tree roots parents depths rates h c l).joined)
-      (subst (λ (z : ℕ). AreJoined needs z e) (sym same) (root_of needs clocks tree roots parents depths rates h e m).joined);
+      (subst (λ (z : ℕ). AreJoinedClocks needs z e) (sym same) (root_of needs clocks tree roots parents depths rates h e m).joined);
   rate = λ c l. (h.planted.rated (get_or roots c 0) (rooted needs clocks tree roots parents depths rates h c l) (h.planted.own c l (h.planted.done c l))).rate c (h.planted.reached c l (h.planted.done c l));
   tree_rate = λ c l. tree_rate_of needs clocks tree roots parents depths rates h c l;
   only = λ c num den l k. only_rate needs clocks tree roots parents depths rates h c num den l k;

@@ -5,7 +5,7 @@ use Rattle.std.proofs.lemmas.List.Elements.{All-nil, All-cons}
 use Rattle.lucy_need.specs.Meeting.{IsWithin}
 use Rattle.lucy_need.specs.declared.need.Need.{Need}
 use Rattle.lucy_rates.specs.declared.fraction.Fraction.{Fraction}
-use Rattle.lucy_rates.specs.Walks.{first_of, second_of, need_at, no_need, IsWalk}
+use Rattle.lucy_rates.specs.Walks.{first_of, second_of, need_at, no_need, IsNeedWalk}
 use Rattle.lucy_rates.specs.Trees.{IsBalanced, AreEven}
 use Rattle.lucy_rates.specs.Forests.{rate_at, IsForest, BalanceLaw}
 use Rattle.lucy_rates.specs.Growing.{IsEvenBy}
@@ -32,7 +32,7 @@ balanced_of needs clocks roots parents rates k within h l even n1 d1 n2 d2 first
     (subst (λ (w : ℕ). P (rate_at rates (first_of need).clock).num (rate_at rates (first_of need).clock).den (rate_at rates (second_of need).clock).num w) (sym b.1) even)))
 
 all_level : (needs : List Need) (clocks : ℕ) (roots parents : List ℕ) (rates : List Fraction) → All (IsWithin clocks) needs → IsForest needs clocks roots parents rates → ((k : ℕ) → k < length needs → IsBalanced needs (need_at needs k)) →
-    (walk : List ℕ) (c d num den : ℕ) → IsWalk needs walk c d num den → All (IsLevel needs rates) walk
+    (walk : List ℕ) (c d num den : ℕ) → IsNeedWalk needs walk c d num den → All (IsLevel needs rates) walk
 all_level needs clocks roots parents rates within h balanced [] c d num den w = All-nil (IsLevel needs rates)
 all_level needs clocks roots parents rates within h balanced (m ∷ walk) c d num den w =
     let ends = both_within clocks (need_at needs m) (within m no_need w.0) in

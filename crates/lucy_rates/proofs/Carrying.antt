@@ -18,17 +18,17 @@ use Rattle.lucy_need.specs.declared.need.Needs.{Needs}
 use Rattle.lucy_shape.specs.declared.shape.Shape.{Shape}
 use Rattle.lucy_shape.specs.Fitting.{unused, clock_at, IsUsed, AreCarried, IsCarried, IsLaidOut, variable_count, position_count}
 use Rattle.lucy_need.specs.Stored.{HasWords}
-use Rattle.lucy_rates.specs.Walks.{first_of, second_of, no_need, need_at, over, under, Leads, IsWalk, AreJoined}
+use Rattle.lucy_rates.specs.Walks.{first_of, second_of, no_need, need_at, over, under, LeadsBetween, IsNeedWalk, AreJoinedClocks}
 use Rattle.lucy_rates.specs.Trees.{IsNamedBy}
 use Rattle.lucy_rates.specs.Vectors.{IsInUse, IsTop, IsWideShape}
 use Rattle.lucy_rates.specs.ShapeLaws.{CarriesLaw}
 
 -- walks one after the other
-pub walk_on : (needs : List Need) (v w : List ℕ) (a b c n m x y : ℕ) → IsWalk needs v a b n m → IsWalk needs w b c x y → IsWalk needs (v ++ w) a c (n * x) (m * y)
+pub walk_on : (needs : List Need) (v w : List ℕ) (a b c n m x y : ℕ) → IsNeedWalk needs v a b n m → IsNeedWalk needs w b c x y → IsNeedWalk needs (v ++ w) a c (n * x) (m * y)
 walk_on needs [] w a b c n m x y h k =
     let e : n * x ≡ x = ap (λ z. z * x) h.1 ∙ omega arith in
     let f : m * y ≡ y = ap (λ z. z * y) h.2 ∙ omega arith in
-    subst (λ (z : ℕ). IsWalk needs w z c (n * x) (m * y)) (sym h.0) (subst (λ (z : ℕ). IsWalk needs w b c z (m * y)) (sym e) (subst (λ (z : ℕ). IsWalk needs w b c x z) (sym f) k))
+    subst (λ (z : ℕ). IsNeedWalk needs w z c (n * x) (m * y)) (sym h.0) (subst (λ (z : ℕ). IsNeedWalk needs w b c z (m * y)) (sym e) (subst (λ (z : ℕ). IsNeedWalk needs w b c x z) (sym f) k))
 walk_on needs (i ∷ v) w a b c n m x y h k =
     let s = h.1 in
     let r = walk_on needs v w s.0 b c s.3 s.4 x y s.6 k in
@@ -37,33 +37,33 @@ walk_on needs (i ∷ v) w a b c n m x y h k =
     (h.0, (s.0, s.1, s.2, s.3 * x, s.4 * y, s.5, r, p, q))
 
 -- one need is a walk
-pub walk_one : (needs : List Need) (k c d n m : ℕ) → k < length needs → Leads (need_at needs k) c d n m → IsWalk needs (k ∷ []) c d n m
+pub walk_one : (needs : List Need) (k c d n m : ℕ) → k < length needs → LeadsBetween (need_at needs k) c d n m → IsNeedWalk needs (k ∷ []) c d n m
 walk_one needs k c d n m l h = (l, (d, n, m, 1, 1, h, (refl, refl, refl), omega arith, omega arith))
 
-pub joined_self : (needs : List Need) (c : ℕ) → AreJoined needs c c
+pub joined_self : (needs : List Need) (c : ℕ) → AreJoinedClocks needs c c
 joined_self needs c = ([], 1, 1, (refl, refl, refl))
 
-pub joined_on : (needs : List Need) (a b c : ℕ) → AreJoined needs a b → AreJoined needs b c → AreJoined needs a c
+pub joined_on : (needs : List Need) (a b c : ℕ) → AreJoinedClocks needs a b → AreJoinedClocks needs b c → AreJoinedClocks needs a c
 joined_on needs a b c h k = (h.0 ++ k.0, h.1 * k.1, h.2 * k.2, walk_on needs h.0 k.0 a b c h.1 h.2 k.1 k.2 h.3 k.3)
 
-pub joined_by : (needs : List Need) (k : ℕ) → k < length needs → AreJoined needs (first_of (need_at needs k)).clock (second_of (need_at needs k)).clock
+pub joined_by : (needs : List Need) (k : ℕ) → k < length needs → AreJoinedClocks needs (first_of (need_at needs k)).clock (second_of (need_at needs k)).clock
 joined_by needs k l = (k ∷ [], over (need_at needs k), under (need_at needs k), walk_one needs k _ _ _ _ l (inl (refl, refl, refl, refl)))
 
-pub joined_back : (needs : List Need) (k : ℕ) → k < length needs → AreJoined needs (second_of (need_at needs k)).clock (first_of (need_at needs k)).clock
+pub joined_back : (needs : List Need) (k : ℕ) → k < length needs → AreJoinedClocks needs (second_of (need_at needs k)).clock (first_of (need_at needs k)).clock
 joined_back needs k l = (k ∷ [], under (need_at needs k), over (need_at needs k), walk_one needs k _ _ _ _ l (inr (refl, refl, refl, refl)))
 
-pub walk_back : (needs : List Need) (v : List ℕ) (a b n m : ℕ) → IsWalk needs v a b n m → AreJoined needs b a
+pub walk_back : (needs : List Need) (v : List ℕ) (a b n m : ℕ) → IsNeedWalk needs v a b n m → AreJoinedClocks needs b a
 walk_back needs [] a b n m h = ([], 1, 1, (sym h.0, refl, refl))
 walk_back needs (k ∷ v) a b n m h =
     let s = h.1 in
     let rest = walk_back needs v s.0 b s.3 s.4 s.6 in
     joined_on needs b s.0 a rest (elim s.5 [
-      | inl w ↦ subst (λ (z : ℕ). AreJoined needs s.0 z) w.0 (subst (λ (z : ℕ). AreJoined needs z (first_of (need_at needs k)).clock) w.1 (joined_back needs k h.0))
-      | inr w ↦ subst (λ (z : ℕ). AreJoined needs s.0 z) w.0 (subst (λ (z : ℕ). AreJoined needs z (second_of (need_at needs k)).clock) w.1 (joined_by needs k h.0))
+      | inl w ↦ subst (λ (z : ℕ). AreJoinedClocks needs s.0 z) w.0 (subst (λ (z : ℕ). AreJoinedClocks needs z (first_of (need_at needs k)).clock) w.1 (joined_back needs k h.0))
+      | inr w ↦ subst (λ (z : ℕ). AreJoinedClocks needs s.0 z) w.0 (subst (λ (z : ℕ). AreJoinedClocks needs z (second_of (need_at needs k)).clock) w.1 (joined_by needs k h.0))
     ])
 
 -- a walk names the clock that it begins at
-pub walk_names : (needs : List Need) (v : List ℕ) (a b n m : ℕ) → IsWalk needs v a b n m → (a ≡ b) ⊎ ((k : ℕ) × (k < length needs) × IsNamedBy a (need_at needs k))
+pub walk_names : (needs : List Need) (v : List ℕ) (a b n m : ℕ) → IsNeedWalk needs v a b n m → (a ≡ b) ⊎ ((k : ℕ) × (k < length needs) × IsNamedBy a (need_at needs k))
 walk_names needs [] a b n m h = inl h.0
 walk_names needs (k ∷ v) a b n m h = elim h.1.5 [ inl w ↦ inr (k, h.0, inl w.0) | inr w ↦ inr (k, h.0, inr w.0) ]
 
@@ -73,12 +73,12 @@ below clocks (Equal s t) c h n = elim n [ inl e ↦ (let a = h.0 in omega arith)
 below clocks (Adapt s t) c h n = elim n [ inl e ↦ (let a = h.0 in omega arith) | inr e ↦ (let a = h.1 in omega arith) ]
 
 -- joined clocks have one top
-pub one_top : (needs : Needs) (r : ℕ → ℕ) (c d s t : ℕ) → AreJoined needs.list c d → AreJoined needs.list d c → IsTop needs r c s → IsTop needs r d t → s ≡ t
+pub one_top : (needs : Needs) (r : ℕ → ℕ) (c d s t : ℕ) → AreJoinedClocks needs.list c d → AreJoinedClocks needs.list d c → IsTop needs r c s → IsTop needs r d t → s ≡ t
 one_top needs r c d s t there back a b = elim (cases_eq s t) [
   | inl e ↦ e
   | inr n ↦
-      let apart : AreJoined needs.list 0 c → ⊥ = λ j. n (a.base j ∙ sym (b.base (joined_on needs.list 0 c d j there))) in
-      let apart' : AreJoined needs.list 0 d → ⊥ = λ j. apart (joined_on needs.list 0 d c j back) in
+      let apart : AreJoinedClocks needs.list 0 c → ⊥ = λ j. n (a.base j ∙ sym (b.base (joined_on needs.list 0 c d j there))) in
+      let apart' : AreJoinedClocks needs.list 0 d → ⊥ = λ j. apart (joined_on needs.list 0 d c j back) in
       let x = a.reached apart in
       let y = b.reached apart' in
       let low = b.passed apart' x.0 (joined_on needs.list x.0 c d x.1 there) in
@@ -135,7 +135,7 @@ module _ (needs : Needs) (scale lead : ℕ) (shape : Shape) (proper : AreProperN
     | inr m ↦
         let is = wide.is_top c u in
         let z : wide.top c ≡ 0 = omega arith in
-        let apart : AreJoined needs.list 0 c → ⊥ = λ j. (let a = is.base j in let b = wide.is_vector.is.some 0 in absurd (omega arith)) in
+        let apart : AreJoinedClocks needs.list 0 c → ⊥ = λ j. (let a = is.base j in let b = wide.is_vector.is.some 0 in absurd (omega arith)) in
         let x = is.reached apart in
         let a = x.2 in
         let b = wide.is_vector.is.some x.0 in
@@ -191,7 +191,7 @@ module _ (needs : Needs) (scale lead : ℕ) (shape : Shape) (proper : AreProperN
   named_use k c l n = named k l c (below needs.clocks (need_at needs.list k) c (within_at k l) n) n
 
   -- a clock that is joined with one in use is in use
-  pub use_from : (d c : ℕ) → AreJoined needs.list d c → IsInUse needs c → IsInUse needs d
+  pub use_from : (d c : ℕ) → AreJoinedClocks needs.list d c → IsInUse needs c → IsInUse needs d
   use_from d c j u = elim (walk_names needs.list j.0 d c j.1 j.2 j.3) [
     | inl e ↦ subst (IsInUse needs) (sym e) u
     | inr w ↦ named_use w.0 d w.1 w.2
@@ -220,7 +220,7 @@ module _ (needs : Needs) (scale lead : ℕ) (shape : Shape) (proper : AreProperN
   short_by c u = elim (cases_lt 65536 shape.period) [
     | inr m ↦ m
     | inl long ↦
-        let apart : AreJoined needs.list 0 c → ⊥ = λ j. (let v = use_from 0 c j u in let a = within_positions 0 v (full_base v) in absurd (omega arith)) in
+        let apart : AreJoinedClocks needs.list 0 c → ⊥ = λ j. (let v = use_from 0 c j u in let a = within_positions 0 v (full_base v) in absurd (omega arith)) in
         let is = wide.is_top c u in
         let x = is.reached apart in
         let d = x.0 in

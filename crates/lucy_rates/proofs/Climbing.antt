@@ -8,8 +8,8 @@ use Rattle.std.proofs.lemmas.List.Elements.{All-nil, All-push, All-append, All-w
 use Rattle.lucy_need.specs.Meeting.{IsWithin}
 use Rattle.lucy_need.specs.declared.need.Need.{Need}
 use Rattle.lucy_rates.specs.declared.fraction.Fraction.{Fraction}
-use Rattle.lucy_rates.specs.Walks.{first_of, second_of, need_at, no_need, over, under, Leads, IsWalk}
-use Rattle.lucy_rates.specs.Trees.{IsReached}
+use Rattle.lucy_rates.specs.Walks.{first_of, second_of, need_at, no_need, over, under, LeadsBetween, IsNeedWalk}
+use Rattle.lucy_rates.specs.Trees.{IsReachedByTree}
 use Rattle.lucy_rates.specs.Growing.{IsUp, IsEvenBy, ArePlanted, IsSimple, IsOther, IsWayBack, AreClimbing}
 use Rattle.lucy_rates.proofs.Growing.{both_within, same_default}
 use Rattle.lucy_rates.proofs.Walking.{walk_append, walk_back, one_walk}
@@ -126,7 +126,7 @@ pub record IsRooted (needs : List Need) (clocks : ℕ) (trees : ℕ → List ℕ
 up_from : (needs : List Need) (clocks : ℕ) (trees : ℕ → List ℕ) (roots parents depths : List ℕ) (rates : List Fraction) (root : ℕ) → IsRooted needs clocks trees roots parents depths rates root →
     (c : ℕ) → c < clocks → get_or roots c 0 ≡ root → (c ≡ root → ⊥) → IsUp needs (trees root) parents depths c
 up_from needs clocks trees roots parents depths rates root h c l e n =
-    (h.planted.rated root h.inside h.own).up c (subst (λ (r : ℕ). IsReached needs r (trees r) c) e (h.planted.reached c l (h.planted.done c l))) n
+    (h.planted.rated root h.inside h.own).up c (subst (λ (r : ℕ). IsReachedByTree needs r (trees r) c) e (h.planted.reached c l (h.planted.done c l))) n
 
 -- the deeper of two clocks of a tree isn't its root
 pub deeper_up : (needs : List Need) (clocks : ℕ) (trees : ℕ → List ℕ) (roots parents depths : List ℕ) (rates : List Fraction) (root : ℕ) → IsRooted needs clocks trees roots parents depths rates root →
@@ -141,7 +141,7 @@ deeper_up needs clocks trees roots parents depths rates root h a b l m e f n dee
 record IsOneUp (needs : List Need) (clocks root : ℕ) (roots depths : List ℕ) (k a e : ℕ) : Type 0 where
   pub num : ℕ
   pub den : ℕ
-  pub leads : Leads (need_at needs k) a e num den
+  pub leads : LeadsBetween (need_at needs k) a e num den
   pub depth : get_or depths e 0 + 1 ≡ get_or depths a 0
   pub within : e < clocks
   pub root_same : get_or roots e 0 ≡ root
@@ -251,6 +251,6 @@ way_back needs clocks trees roots parents depths rates root h from to up down a 
       num = c.up_num * c.down_den;
       den = c.up_den * c.down_num;
       returns = walk_append needs up (reverse down) from a to c.up_num c.up_den c.down_den c.down_num c.up_walk
-          (subst (λ (z : ℕ). IsWalk needs (reverse down) z to c.down_den c.down_num) (sym e) (walk_back needs down to b c.down_num c.down_den c.down_walk));
+          (subst (λ (z : ℕ). IsNeedWalk needs (reverse down) z to c.down_den c.down_num) (sym e) (walk_back needs down to b c.down_num c.down_den c.down_walk));
       simple = simple_append up (reverse down) c.up_simple (simple_reverse down c.down_simple) (λ k i j. c.disjoint k i (contains_reverse down k j));
     }

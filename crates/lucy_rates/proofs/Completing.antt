@@ -10,10 +10,10 @@ use Rattle.lucy_need.specs.Meeting.{IsWithin}
 use Rattle.lucy_need.specs.declared.need.Need.{Need}
 use Rattle.lucy_need.specs.declared.need.Term.{Term}
 use Rattle.lucy_rates.specs.declared.fraction.Fraction.{Fraction}
-use Rattle.lucy_rates.specs.Walks.{first_of, second_of, need_at, Leads}
+use Rattle.lucy_rates.specs.Walks.{first_of, second_of, need_at, LeadsBetween}
 use Rattle.lucy_rates.specs.Trees.{IsTree}
 use Rattle.lucy_rates.specs.Forests.{rate_at}
-use Rattle.lucy_rates.specs.Growing.{no_number, IsStep, IsGrowing, IsRated, IsLargeNext, HasLargeFrom}
+use Rattle.lucy_rates.specs.Growing.{no_number, IsJoiningStep, IsGrowing, IsRated, IsLargeNext, HasLargeFrom}
 use Rattle.lucy_rates.proofs.Growing.{growth_step, growth_done, skip_at, step_at, fewer, same_default}
 use Rattle.lucy_rates.proofs.Walking.{walk_append, one_walk, level_walk}
 use Rattle.lucy_rates.proofs.RatedTree.{path_to, level_tree}
@@ -31,7 +31,7 @@ abbrev pub left : List ℕ → ℕ → ℕ → ℕ
 left roots n at = count_by (λ r. eqb r no_number) roots * (n + 1) + (n - at)
 
 -- a step, where the first of two clocks has a root and the second has none
-decided : (needs : List Need) (clocks : ℕ) (at : ℕ) (roots : List ℕ) → ((s t : Term) → IsStep roots (need_at needs at) s t → ⊥) ⊎ ((s : Term) × (t : Term) × IsStep roots (need_at needs at) s t)
+decided : (needs : List Need) (clocks : ℕ) (at : ℕ) (roots : List ℕ) → ((s t : Term) → IsJoiningStep roots (need_at needs at) s t → ⊥) ⊎ ((s : Term) × (t : Term) × IsJoiningStep roots (need_at needs at) s t)
 decided needs clocks at roots =
     let need = need_at needs at in
     let s = first_of need in
@@ -79,13 +79,13 @@ large_same rn rd a b o u num den some h k =
 
 -- the need leads from the one clock to the other
 leads_by : (need : Need) (s t : Term) → ((s ≡ first_of need) × (t ≡ second_of need)) ⊎ ((s ≡ second_of need) × (t ≡ first_of need)) →
-    Leads need s.clock t.clock (ones_in s.word.period * length t.word.period) (length s.word.period * ones_in t.word.period)
+    LeadsBetween need s.clock t.clock (ones_in s.word.period * length t.word.period) (length s.word.period * ones_in t.word.period)
 leads_by need s t (inl h) =
-    let P : Term → Term → Type 0 = λ x y. Leads need x.clock y.clock (ones_in x.word.period * length y.word.period) (length x.word.period * ones_in y.word.period) in
+    let P : Term → Term → Type 0 = λ x y. LeadsBetween need x.clock y.clock (ones_in x.word.period * length y.word.period) (length x.word.period * ones_in y.word.period) in
     let here : P (first_of need) (second_of need) = inl (refl, refl, refl, refl) in
     subst (λ (y : Term). P s y) (sym h.1) (subst (λ (x : Term). P x (second_of need)) (sym h.0) here)
 leads_by need s t (inr h) =
-    let P : Term → Term → Type 0 = λ x y. Leads need x.clock y.clock (ones_in x.word.period * length y.word.period) (length x.word.period * ones_in y.word.period) in
+    let P : Term → Term → Type 0 = λ x y. LeadsBetween need x.clock y.clock (ones_in x.word.period * length y.word.period) (length x.word.period * ones_in y.word.period) in
     let here : P (second_of need) (first_of need) = inr (refl, refl, omega arith, omega arith) in
     subst (λ (y : Term). P s y) (sym h.1) (subst (λ (x : Term). P x (first_of need)) (sym h.0) here)
 
@@ -94,7 +94,7 @@ contained needs tree h k i = (let e : get_or tree i.0 0 ≡ k = same_default tre
 
 -- at a rate that is too large the tree grows on to one that has it
 pub large_from : (needs : List Need) (clocks root : ℕ) (tree : List ℕ) (m : ℕ) (roots parents depths : List ℕ) (rates : List Fraction) (need : Need) (s t : Term) → IsGrowing needs clocks root tree m roots → IsRated needs root tree parents depths rates →
-    length roots ≡ clocks → (root ≡ no_number → ⊥) → All (IsWithin clocks) needs → m < length needs → need ≡ get_or needs m need → IsStep roots need s t → IsLargeNext (rate_at rates s.clock) s t → HasLargeFrom needs clocks root
+    length roots ≡ clocks → (root ≡ no_number → ⊥) → All (IsWithin clocks) needs → m < length needs → need ≡ get_or needs m need → IsJoiningStep roots need s t → IsLargeNext (rate_at rates s.clock) s t → HasLargeFrom needs clocks root
 large_from needs clocks root tree m roots parents depths rates need s t h rated size is_root within l is step large =
     let a = step_at needs clocks root tree m roots need s t h l is_root within is step in
     let in_roots : t.clock < length roots = (let b = a.second in omega arith) in

@@ -15,7 +15,7 @@ use Rattle.lucy_shape.specs.Fitting.{variable_count, most_positions}
 use Rattle.lucy_rates.specs.declared.fraction.Fraction.{Fraction}
 use Rattle.lucy_rates.specs.Trees.{HasLargeRate}
 use Rattle.lucy_rates.specs.Forests.{IsForest}
-use Rattle.lucy_rates.specs.Vectors.{IsNamed, IsInUse, AreBalanced, IsLeastVector, IsTop, IsWideShape, IsShapeOf, IsTooWide}
+use Rattle.lucy_rates.specs.Vectors.{IsNamedBySome, IsInUse, AreBalanced, IsLeastVector, IsTop, IsWideShape, IsShapeOf, IsTooWide}
 use Rattle.lucy_rates.specs.Laying.{AreFactors, AreMultiplied, top_to, AreTops, IsCommonTo, HasLargeCommon, AreLongest, AreOnes, laid_out}
 use Rattle.lucy_rates.proofs.Factoring.{AreRated, least_vector, root_within}
 use Rattle.lucy_rates.proofs.Topping.{is_top, top_some, top_reached, in_use}
@@ -78,7 +78,7 @@ module _ (needs : Needs) (roots parents : List ℕ) (rates : List Fraction) (rat
         let y = x.3 in
         omega arith
 
-    module _ (b : Bool) (tells : b ≡ true ↔ IsNamed needs.list 0) (scale lead : ℕ) (proper : AreProperNeeds needs) (words : AllByRecursion HasWords needs.list) (low : 0 < scale) (high : scale ≤ 64) where
+    module _ (b : Bool) (tells : b ≡ true ↔ IsNamedBySome needs.list 0) (scale lead : ℕ) (proper : AreProperNeeds needs) (words : AllByRecursion HasWords needs.list) (low : 0 < scale) (high : scale ≤ 64) where
       pub common_refused : HasLargeCommon b (λ c. slice_index tops (slice_index roots c)) (length roots) → IsTooWide needs scale lead
       common_refused large = wide_by_common needs roots parents rates rated scale lead proper words low high r least (λ c. slice_index tops (slice_index roots c)) listed_top listed_some b tells
           (subst (λ (z : ℕ). HasLargeCommon b (λ c. slice_index tops (slice_index roots c)) z) rated.forest.roots_size large)

@@ -18,7 +18,7 @@ use Rattle.lucy_need.specs.declared.need.Need.{Need}
 use Rattle.lucy_need.specs.declared.need.Need.TheVariants.{Equal, Adapt}
 use Rattle.lucy_need.specs.declared.need.Needs.{Needs}
 use Rattle.lucy_rates.specs.declared.fraction.Fraction.{Fraction}
-use Rattle.lucy_rates.specs.Walks.{first_of, second_of, no_need, need_at, over, under, IsWalk, AreJoined}
+use Rattle.lucy_rates.specs.Walks.{first_of, second_of, no_need, need_at, over, under, IsNeedWalk, AreJoinedClocks}
 use Rattle.lucy_rates.specs.Trees.{IsNamedBy}
 use Rattle.lucy_rates.specs.Forests.{rate_at, IsForest}
 use Rattle.lucy_rates.specs.Vectors.{AreBalanced, StandsAfter, IsRateVector, IsLeastVector}
@@ -77,7 +77,7 @@ module _ (needs : Needs) (roots parents : List ℕ) (rates : List Fraction) (rat
   pub named_within : (k c : ℕ) → k < length needs.list → IsNamedBy c (need_at needs.list k) → c < needs.clocks
   named_within k c l n = below needs.clocks (need_at needs.list k) c (within_at k l) n
 
-  pub joined_within : (d c : ℕ) → AreJoined needs.list d c → c < needs.clocks → d < needs.clocks
+  pub joined_within : (d c : ℕ) → AreJoinedClocks needs.list d c → c < needs.clocks → d < needs.clocks
   joined_within d c j l = elim (walk_names needs.list j.0 d c j.1 j.2 j.3) [
     | inl e ↦ omega arith
     | inr w ↦ named_within w.0 d w.1 w.2
@@ -89,7 +89,7 @@ module _ (needs : Needs) (roots parents : List ℕ) (rates : List Fraction) (rat
   under_some : (k : ℕ) → k < length needs.list → 0 < under (need_at needs.list k)
   under_some k l = let w = words_at k l in product_some _ _ w.0.nonempty w.1.word.has_one
 
-  walk_some : (walk : List ℕ) (c d n m : ℕ) → IsWalk needs.list walk c d n m → (0 < n) × (0 < m)
+  walk_some : (walk : List ℕ) (c d n m : ℕ) → IsNeedWalk needs.list walk c d n m → (0 < n) × (0 < m)
   walk_some [] c d n m h = ((let e = h.1 in omega arith), (let e = h.2 in omega arith))
   walk_some (k ∷ walk) c d n m h =
       let s = h.1 in
@@ -116,7 +116,7 @@ module _ (needs : Needs) (roots parents : List ℕ) (rates : List Fraction) (rat
       let low = t.is_root.least c (joined_self needs.list c) in
       let high = (forest.root c l).least t.root t.is_root.joined in
       let own : t.root ≡ c = omega arith in
-      let walk : IsWalk needs.list t.walk c c t.a t.b = subst (λ (z : ℕ). IsWalk needs.list t.walk z c t.a t.b) own t.along in
+      let walk : IsNeedWalk needs.list t.walk c c t.a t.b = subst (λ (z : ℕ). IsNeedWalk needs.list t.walk z c t.a t.b) own t.along in
       let some = walk_some t.walk c c t.a t.b walk in
       let b = walks_balance needs.list needs.clocks roots parents rates rated.within forest rated.balanced t.walk c c t.a t.b l walk in
       let nd = product_some (rate_at rates c).num (rate_at rates c).den f.num f.den in
@@ -195,13 +195,13 @@ module _ (needs : Needs) (roots parents : List ℕ) (rates : List Fraction) (rat
       | inr l ↦ (let e = beyond c l in omega arith)
     ]
 
-    far : (walk : List ℕ) (c d n m : ℕ) → needs.clocks ≤ c → IsWalk needs.list walk c d n m → (c ≡ d) × (n ≡ m)
+    far : (walk : List ℕ) (c d n m : ℕ) → needs.clocks ≤ c → IsNeedWalk needs.list walk c d n m → (c ≡ d) × (n ≡ m)
     far [] c d n m l h = (h.0, h.1 ∙ sym h.2)
     far (k ∷ walk) c d n m l h =
         let within : c < needs.clocks = elim h.1.5 [ inl w ↦ named_within k c h.0 (inl w.0) | inr w ↦ named_within k c h.0 (inr w.0) ] in
         absurd (omega arith)
 
-    near : (walk : List ℕ) (c d n m : ℕ) → c < needs.clocks → IsWalk needs.list walk c d n m → r d * m ≡ r c * n
+    near : (walk : List ℕ) (c d n m : ℕ) → c < needs.clocks → IsNeedWalk needs.list walk c d n m → r d * m ≡ r c * n
     near walk c d n m l h =
         let back = walk_back needs.list walk c d n m h in
         let l' = joined_within d c back l in

@@ -10,7 +10,7 @@ use Rattle.lucy_shape.specs.declared.shape.ClockShape.{ClockShape}
 use Rattle.lucy_shape.specs.Fitting.{variable_count, most_positions}
 use Rattle.lucy_rates.specs.declared.fraction.Fraction.{Fraction}
 use Rattle.lucy_rates.specs.Forests.{IsForest}
-use Rattle.lucy_rates.specs.Vectors.{IsNamed, IsShapeOf, IsTooWide}
+use Rattle.lucy_rates.specs.Vectors.{IsNamedBySome, IsShapeOf, IsTooWide}
 use Rattle.lucy_rates.specs.Laying.{AreFactors, HasLargeFactor, AreMultiplied, AreTops, IsPeriodTo, HasLargeCommon, AreLongest, AreOnes, laid_out}
 use Rattle.lucy_rates.proofs.Asking.{root_below}
 use Rattle.lucy_rates.proofs.Factoring.{AreRated}
@@ -58,9 +58,9 @@ module _ (needs : Needs) (roots parents : List ℕ) (rates : List Fraction) (rat
   tops_few copy copy' e f = subst (λ (y : List ℕ). (c : ℕ) → c < length copy → slice_index y (slice_index copy c) ≤ 2 ^ 32) (sym f) (subst (λ (z : List ℕ). (c : ℕ) → c < length z → slice_index tops (slice_index z c) ≤ 2 ^ 32) (sym e)
       (λ c l. listed_few needs roots parents rates rated factors vector g.found tops g.topped c (let s = rated.forest.roots_size in omega arith)))
 
-  module _ (b : Bool) (list : List Need) (same : list ≡ needs.list) (tells : b ≡ true ↔ IsNamed list 0) (scale lead : ℕ) (proper : AreProperNeeds needs) (words : AllByRecursion HasWords needs.list) (low : 0 < scale) (high : scale ≤ 64) where
-    named : b ≡ true ↔ IsNamed needs.list 0
-    named = subst (λ (z : List Need). (b ≡ true ↔ IsNamed z 0)) same tells
+  module _ (b : Bool) (list : List Need) (same : list ≡ needs.list) (tells : b ≡ true ↔ IsNamedBySome list 0) (scale lead : ℕ) (proper : AreProperNeeds needs) (words : AllByRecursion HasWords needs.list) (low : 0 < scale) (high : scale ≤ 64) where
+    named : b ≡ true ↔ IsNamedBySome needs.list 0
+    named = subst (λ (z : List Need). (b ≡ true ↔ IsNamedBySome z 0)) same tells
 
     pub period_refused : (copy copy' : List ℕ) → copy ≡ roots → copy' ≡ tops → HasLargeCommon b (λ c. slice_index copy' (slice_index copy c)) (length copy) → IsTooWide needs scale lead
     period_refused copy copy' e f large = common_refused needs roots parents rates rated factors vector g.found tops g.topped b named scale lead proper words low high

@@ -11,22 +11,22 @@ use Rattle.lucy_need.specs.declared.need.Need.TheVariants.{Equal, Adapt}
 use Rattle.lucy_need.specs.declared.need.Term.{Term}
 use Rattle.lucy_need.specs.declared.need.Need.{Need}
 use Rattle.lucy_rates.specs.Walks.{first_of, second_of, need_at, no_need}
-use Rattle.lucy_rates.specs.Trees.{IsTree, IsReached, IsNamedBy, JoinsMore}
-use Rattle.lucy_rates.specs.Growing.{no_number, IsStep, IsNear, IsGrowing, set_at, AreFirstSoFar}
+use Rattle.lucy_rates.specs.Trees.{IsTree, IsReachedByTree, IsNamedBy, JoinsMore}
+use Rattle.lucy_rates.specs.Growing.{no_number, IsJoiningStep, IsNear, IsGrowing, set_at, AreFirstSoFar}
 
 -- reached before, or by the need that is added
-pub reached_cases : (needs : List Need) (root : ℕ) (tree : List ℕ) (m x : ℕ) → IsReached needs root (tree ++ m ∷ []) x → IsReached needs root tree x ⊎ IsNamedBy x (need_at needs m)
+pub reached_cases : (needs : List Need) (root : ℕ) (tree : List ℕ) (m x : ℕ) → IsReachedByTree needs root (tree ++ m ∷ []) x → IsReachedByTree needs root tree x ⊎ IsNamedBy x (need_at needs m)
 reached_cases needs root tree m x (inl e) = inl (inl e)
 reached_cases needs root tree m x (inr h) = elim (Contains-push_cases tree m h.0 h.1) [
   | inl old ↦ inl (inr (h.0, old, h.2))
   | inr same ↦ inr (subst (λ (k : ℕ). IsNamedBy x (need_at needs k)) (sym same) h.2)
 ]
 
-pub reached_kept : (needs : List Need) (root : ℕ) (tree : List ℕ) (m x : ℕ) → IsReached needs root tree x → IsReached needs root (tree ++ m ∷ []) x
+pub reached_kept : (needs : List Need) (root : ℕ) (tree : List ℕ) (m x : ℕ) → IsReachedByTree needs root tree x → IsReachedByTree needs root (tree ++ m ∷ []) x
 reached_kept needs root tree m x (inl e) = inl e
 reached_kept needs root tree m x (inr h) = inr (h.0, Contains-append_left tree (m ∷ []) h.0 h.1, h.2)
 
-pub reached_new : (needs : List Need) (root : ℕ) (tree : List ℕ) (m x : ℕ) → IsNamedBy x (need_at needs m) → IsReached needs root (tree ++ m ∷ []) x
+pub reached_new : (needs : List Need) (root : ℕ) (tree : List ℕ) (m x : ℕ) → IsNamedBy x (need_at needs m) → IsReachedByTree needs root (tree ++ m ∷ []) x
 reached_new needs root tree m x h = inr (m, Contains-push tree m, h)
 
 -- no need below the place joins more, nor that at the place: the place moves on
@@ -50,12 +50,12 @@ pub growth_done : (needs : List Need) (clocks root : ℕ) (tree : List ℕ) (at 
 growth_done needs clocks root tree at roots h l = record { within = h.within; joins = h.joins; first = h.first; done = λ k m. h.below k (omega arith) m }
 
 -- what joins the tree that is grown, and names not the clock that is new, joined before
-joins_before : (needs : List Need) (root : ℕ) (tree : List ℕ) (m old new : ℕ) (need : Need) → ((x : ℕ) → IsNamedBy x (need_at needs m) → (x ≡ old) ⊎ (x ≡ new)) → IsReached needs root tree old → (IsNamedBy new need → ⊥) →
+joins_before : (needs : List Need) (root : ℕ) (tree : List ℕ) (m old new : ℕ) (need : Need) → ((x : ℕ) → IsNamedBy x (need_at needs m) → (x ≡ old) ⊎ (x ≡ new)) → IsReachedByTree needs root tree old → (IsNamedBy new need → ⊥) →
     JoinsMore needs root (tree ++ m ∷ []) need → JoinsMore needs root tree need
 joins_before needs root tree m old new need names there apart h =
-    let back : (x : ℕ) → (x ≡ new → ⊥) → IsReached needs root (tree ++ m ∷ []) x → IsReached needs root tree x = λ x n r. elim (reached_cases needs root tree m x r) [
+    let back : (x : ℕ) → (x ≡ new → ⊥) → IsReachedByTree needs root (tree ++ m ∷ []) x → IsReachedByTree needs root tree x = λ x n r. elim (reached_cases needs root tree m x r) [
       | inl a ↦ a
-      | inr a ↦ elim (names x a) [ inl e ↦ subst (IsReached needs root tree) (sym e) there | inr e ↦ absurd (n e) ]
+      | inr a ↦ elim (names x a) [ inl e ↦ subst (IsReachedByTree needs root tree) (sym e) there | inr e ↦ absurd (n e) ]
     ] in
     elim h [
       | inl w ↦ inl (back (first_of need).clock (λ e. apart (inl e)) w.0, λ r. w.1 (reached_kept needs root tree m (second_of need).clock r))
@@ -65,8 +65,8 @@ joins_before needs root tree m old new need names there apart h =
 -- the clocks of a step
 pub record IsJoint (needs : List Need) (root : ℕ) (tree : List ℕ) (m old new : ℕ) : Type 0 where
   pub joins : JoinsMore needs root tree (need_at needs m)
-  pub there : IsReached needs root tree old
-  pub fresh : IsReached needs root tree new → ⊥
+  pub there : IsReachedByTree needs root tree old
+  pub fresh : IsReachedByTree needs root tree new → ⊥
   pub is_named : IsNamedBy new (need_at needs m)
   pub names : (x : ℕ) → IsNamedBy x (need_at needs m) → (x ≡ old) ⊎ (x ≡ new)
 
@@ -117,14 +117,14 @@ growth_step needs clocks root tree m at old new roots h l joint before names fre
   below = λ k a b j. h.below k (omega arith) b (joins_before needs root tree m old new (need_at needs k) joint.names joint.there (names k a) j);
   reached = λ x k. elim (cases_eq x new) [
     | inl e ↦ (
-      λ r. subst (IsReached needs root (tree ++ m ∷ [])) (sym e) (reached_new needs root tree m new joint.is_named),
+      λ r. subst (IsReachedByTree needs root (tree ++ m ∷ [])) (sym e) (reached_new needs root tree m new joint.is_named),
       λ r. ap (λ z. get_or (set roots new root) z 0) e ∙ get_or-set_same roots new root 0 in_roots,
     )
     | inr n ↦
         let kept : get_or (set roots new root) x 0 ≡ get_or roots x 0 = get_or-set_other roots new x root 0 (omega arith) in
         let was = h.reached x k in (
           λ r. reached_kept needs root tree m x (was.0 (sym kept ∙ r)),
-          λ r. kept ∙ was.1 (elim (reached_cases needs root tree m x r) [ inl a ↦ a | inr a ↦ elim (joint.names x a) [ inl e ↦ subst (IsReached needs root tree) (sym e) joint.there | inr e ↦ absurd (n e) ] ]),
+          λ r. kept ∙ was.1 (elim (reached_cases needs root tree m x r) [ inl a ↦ a | inr a ↦ elim (joint.names x a) [ inl e ↦ subst (IsReachedByTree needs root tree) (sym e) joint.there | inr e ↦ absurd (n e) ] ]),
         )
   ];
   apart = λ k b n. near_to roots new root (second_of (need_at needs k)).clock in_roots (h.apart k b (near_from roots new root (first_of (need_at needs k)).clock fresh n));
@@ -137,26 +137,26 @@ pub joint_at : (needs : List Need) (clocks root : ℕ) (tree : List ℕ) (m at :
     (((first_of (need_at needs m)).clock ≡ old) × ((second_of (need_at needs m)).clock ≡ new)) ⊎ (((second_of (need_at needs m)).clock ≡ old) × ((first_of (need_at needs m)).clock ≡ new)) →
     IsJoint needs root tree m old new
 joint_at needs clocks root tree m at roots old new h l is_root in_old in_new some none (inl e) =
-    let there : IsReached needs root tree old = elim (h.apart_too m l (inl (ap (λ z. get_or roots z 0) e.1 ∙ none))) [
+    let there : IsReachedByTree needs root tree old = elim (h.apart_too m l (inl (ap (λ z. get_or roots z 0) e.1 ∙ none))) [
       | inl w ↦ absurd (some (sym (ap (λ z. get_or roots z 0) e.0) ∙ w))
       | inr w ↦ (h.reached old in_old).0 (sym (ap (λ z. get_or roots z 0) e.0) ∙ w)
     ] in
-    let fresh : IsReached needs root tree new → ⊥ = λ r. is_root (sym ((h.reached new in_new).1 r) ∙ none) in
+    let fresh : IsReachedByTree needs root tree new → ⊥ = λ r. is_root (sym ((h.reached new in_new).1 r) ∙ none) in
     record {
-      joins = inl (subst (IsReached needs root tree) (sym e.0) there, λ r. fresh (subst (IsReached needs root tree) e.1 r));
+      joins = inl (subst (IsReachedByTree needs root tree) (sym e.0) there, λ r. fresh (subst (IsReachedByTree needs root tree) e.1 r));
       there = there;
       fresh = fresh;
       is_named = inr e.1;
       names = λ x n. elim n [ inl w ↦ inl (sym w ∙ e.0) | inr w ↦ inr (sym w ∙ e.1) ];
     }
 joint_at needs clocks root tree m at roots old new h l is_root in_old in_new some none (inr e) =
-    let there : IsReached needs root tree old = elim (h.apart m l (inl (ap (λ z. get_or roots z 0) e.1 ∙ none))) [
+    let there : IsReachedByTree needs root tree old = elim (h.apart m l (inl (ap (λ z. get_or roots z 0) e.1 ∙ none))) [
       | inl w ↦ absurd (some (sym (ap (λ z. get_or roots z 0) e.0) ∙ w))
       | inr w ↦ (h.reached old in_old).0 (sym (ap (λ z. get_or roots z 0) e.0) ∙ w)
     ] in
-    let fresh : IsReached needs root tree new → ⊥ = λ r. is_root (sym ((h.reached new in_new).1 r) ∙ none) in
+    let fresh : IsReachedByTree needs root tree new → ⊥ = λ r. is_root (sym ((h.reached new in_new).1 r) ∙ none) in
     record {
-      joins = inr (subst (IsReached needs root tree) (sym e.0) there, λ r. fresh (subst (IsReached needs root tree) e.1 r));
+      joins = inr (subst (IsReachedByTree needs root tree) (sym e.0) there, λ r. fresh (subst (IsReachedByTree needs root tree) e.1 r));
       there = there;
       fresh = fresh;
       is_named = inl e.1;
@@ -165,7 +165,7 @@ joint_at needs clocks root tree m at roots old new h l is_root in_old in_new som
 
 -- without a step nothing is joined
 pub none_joins : (needs : List Need) (clocks root : ℕ) (tree : List ℕ) (at : ℕ) (roots : List ℕ) → IsGrowing needs clocks root tree at roots → at < length needs → (root ≡ no_number → ⊥) →
-    (first_of (need_at needs at)).clock < clocks → (second_of (need_at needs at)).clock < clocks → ((s t : Term) → IsStep roots (need_at needs at) s t → ⊥) → JoinsMore needs root tree (need_at needs at) → ⊥
+    (first_of (need_at needs at)).clock < clocks → (second_of (need_at needs at)).clock < clocks → ((s t : Term) → IsJoiningStep roots (need_at needs at) s t → ⊥) → JoinsMore needs root tree (need_at needs at) → ⊥
 none_joins needs clocks root tree at roots h l is_root a b none (inl w) =
     let r = (h.reached (first_of (need_at needs at)).clock a).1 w.0 in
     elim (h.apart at l (inr r)) [
@@ -192,11 +192,11 @@ pub need_is : (needs : List Need) (at : ℕ) (need : Need) → at < length needs
 need_is needs at need l e = e ∙ same_default needs at need no_need l
 
 pub skip_at : (needs : List Need) (clocks root : ℕ) (tree : List ℕ) (at : ℕ) (roots : List ℕ) (need : Need) → IsGrowing needs clocks root tree at roots → at < length needs → (root ≡ no_number → ⊥) →
-    All (IsWithin clocks) needs → need ≡ get_or needs at need → ((s t : Term) → IsStep roots need s t → ⊥) → IsGrowing needs clocks root tree (at + 1) roots
+    All (IsWithin clocks) needs → need ≡ get_or needs at need → ((s t : Term) → IsJoiningStep roots need s t → ⊥) → IsGrowing needs clocks root tree (at + 1) roots
 skip_at needs clocks root tree at roots need h l is_root within e none =
     let w = both_within clocks (need_at needs at) (within at no_need l) in
     growth_skip needs clocks root tree at roots h (none_joins needs clocks root tree at roots h l is_root w.0 w.1
-    (subst (λ (n : Need). (s t : Term) → IsStep roots n s t → ⊥) (need_is needs at need l e) none))
+    (subst (λ (n : Need). (s t : Term) → IsJoiningStep roots n s t → ⊥) (need_is needs at need l e) none))
 
 pub record IsAt (needs : List Need) (clocks root : ℕ) (tree : List ℕ) (at : ℕ) (roots : List ℕ) (s t : Term) : Type 0 where
   pub joint : IsJoint needs root tree at s.clock t.clock
@@ -206,10 +206,10 @@ pub record IsAt (needs : List Need) (clocks root : ℕ) (tree : List ℕ) (at : 
   pub terms : ((s ≡ first_of (need_at needs at)) × (t ≡ second_of (need_at needs at))) ⊎ ((s ≡ second_of (need_at needs at)) × (t ≡ first_of (need_at needs at)))
 
 pub step_at : (needs : List Need) (clocks root : ℕ) (tree : List ℕ) (at : ℕ) (roots : List ℕ) (need : Need) (s t : Term) → IsGrowing needs clocks root tree at roots → at < length needs → (root ≡ no_number → ⊥) →
-    All (IsWithin clocks) needs → need ≡ get_or needs at need → IsStep roots need s t → IsAt needs clocks root tree at roots s t
+    All (IsWithin clocks) needs → need ≡ get_or needs at need → IsJoiningStep roots need s t → IsAt needs clocks root tree at roots s t
 step_at needs clocks root tree at roots need s t h l is_root within e step =
     let w = both_within clocks (need_at needs at) (within at no_need l) in
-    let is : IsStep roots (need_at needs at) s t = subst (λ (n : Need). IsStep roots n s t) (need_is needs at need l e) step in
+    let is : IsJoiningStep roots (need_at needs at) s t = subst (λ (n : Need). IsJoiningStep roots n s t) (need_is needs at need l e) step in
     elim is.0 [
       | inl k ↦
           let a = ap (λ (z : Term). z.clock) k.0 in

@@ -9,7 +9,7 @@ use Rattle.lucy_shape.specs.declared.shape.Shape.{Shape}
 use Rattle.lucy_shape.specs.declared.shape.ClockShape.{ClockShape}
 use Rattle.lucy_shape.specs.declared.shape.RateFault.TheVariants as fault
 use Rattle.lucy_shape.specs.Fitting.{unused, clock_at, variable_count}
-use Rattle.lucy_rates.specs.Walks.{AreJoined}
+use Rattle.lucy_rates.specs.Walks.{AreJoinedClocks}
 use Rattle.lucy_rates.specs.Vectors.{IsInUse, IsTop, IsWideShape}
 use Rattle.lucy_rates.specs.ShapeLaws.{OneWideShapeLaw, OneShapeLaw, ShapeOrNoneLaw, OneLimitLaw, LimitOrWalkLaw}
 use Rattle.lucy_rates.proofs.Carrying.{joined_self, one_top}
@@ -49,7 +49,7 @@ module _ (needs : Needs) (scale lead : ℕ) (a b : Shape) (h : IsWideShape needs
     | inr n ↦ omega arith
     | inl z ↦
         let is = k.is_top c u in
-        let apart : AreJoined needs.list 0 c → ⊥ = λ j. (let e = is.base j in let s = k.is_vector.is.some 0 in absurd (omega arith)) in
+        let apart : AreJoinedClocks needs.list 0 c → ⊥ = λ j. (let e = is.base j in let s = k.is_vector.is.some 0 in absurd (omega arith)) in
         let x = is.reached apart in
         let e = x.2 in
         let s = k.is_vector.is.some x.0 in

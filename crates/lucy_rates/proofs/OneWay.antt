@@ -5,8 +5,8 @@ use Rattle.std.proofs.lemmas.Bool.{cases_order}
 use Rattle.std.proofs.lemmas.List.{get_or_append_left, take_all, take_more}
 use Rattle.std.proofs.lemmas.List.Elements.{All-nil, All-cons, All-head, All-tail, Contains-push_cases}
 use Rattle.lucy_need.specs.declared.need.Need.{Need}
-use Rattle.lucy_rates.specs.Walks.{first_of, second_of, need_at, Leads, IsWalk, IsRoot}
-use Rattle.lucy_rates.specs.Trees.{IsNamedBy, IsReached, JoinsMore, IsTree, OneWalkLaw}
+use Rattle.lucy_rates.specs.Walks.{first_of, second_of, need_at, LeadsBetween, IsNeedWalk, IsRoot}
+use Rattle.lucy_rates.specs.Trees.{IsNamedBy, IsReachedByTree, JoinsMore, IsTree, OneWalkLaw}
 use Rattle.lucy_rates.specs.Growing.{IsSimple}
 use Rattle.lucy_rates.proofs.Growing.{same_default}
 use Rattle.lucy_rates.proofs.OneTree.{one_tree}
@@ -27,44 +27,44 @@ nothing_in [] all = refl
 nothing_in (x ∷ xs) all = (let i = (All-head (Contains []) x xs all).1 in absurd (omega arith))
 
 module _ (needs : List Need) (root : ℕ) where
-  named : (k c e a b : ℕ) → Leads (need_at needs k) c e a b → IsNamedBy c (need_at needs k) × IsNamedBy e (need_at needs k)
+  named : (k c e a b : ℕ) → LeadsBetween (need_at needs k) c e a b → IsNamedBy c (need_at needs k) × IsNamedBy e (need_at needs k)
   named k c e a b (inl h) = (inl h.0, inr h.1)
   named k c e a b (inr h) = (inr h.0, inl h.1)
 
   -- the need leads from a clock that the tree reaches to one that it doesn't
   pub record IsTwig (tree : List ℕ) (k old new : ℕ) : Type 0 where
-    pub there : IsReached needs root tree old
-    pub fresh : IsReached needs root tree new → ⊥
+    pub there : IsReachedByTree needs root tree old
+    pub fresh : IsReachedByTree needs root tree new → ⊥
     pub ends : (((first_of (need_at needs k)).clock ≡ old) × ((second_of (need_at needs k)).clock ≡ new))
         ⊎ (((first_of (need_at needs k)).clock ≡ new) × ((second_of (need_at needs k)).clock ≡ old))
 
   -- two simple ways between the same clocks along these needs are one
   abbrev IsOneWay : List ℕ → Type 0
   IsOneWay tree = (u v : List ℕ) (c d a b x y : ℕ) → All (Contains tree) u → All (Contains tree) v → IsSimple u → IsSimple v →
-      IsWalk needs u c d a b → IsWalk needs v c d x y → u ≡ v
+      IsNeedWalk needs u c d a b → IsNeedWalk needs v c d x y → u ≡ v
 
   module _ (tree : List ℕ) (k old new : ℕ) (twig : IsTwig tree k old new) where
     apart : new ≡ old → ⊥
-    apart e = twig.fresh (subst (IsReached needs root tree) (sym e) twig.there)
+    apart e = twig.fresh (subst (IsReachedByTree needs root tree) (sym e) twig.there)
 
-    sides : (c e a b : ℕ) → Leads (need_at needs k) c e a b → ((c ≡ old) × (e ≡ new)) ⊎ ((c ≡ new) × (e ≡ old))
+    sides : (c e a b : ℕ) → LeadsBetween (need_at needs k) c e a b → ((c ≡ old) × (e ≡ new)) ⊎ ((c ≡ new) × (e ≡ old))
     sides c e a b (inl h) = elim twig.ends [ inl w ↦ inl (sym h.0 ∙ w.0, sym h.1 ∙ w.1) | inr w ↦ inr (sym h.0 ∙ w.0, sym h.1 ∙ w.1) ]
     sides c e a b (inr h) = elim twig.ends [ inl w ↦ inr (sym h.0 ∙ w.1, sym h.1 ∙ w.0) | inr w ↦ inl (sym h.0 ∙ w.1, sym h.1 ∙ w.0) ]
 
     -- no way along the tree begins or ends at the new clock
-    stuck : (w : List ℕ) (d a b : ℕ) → All (Contains tree) w → IsWalk needs w new d a b → w ≡ []
+    stuck : (w : List ℕ) (d a b : ℕ) → All (Contains tree) w → IsNeedWalk needs w new d a b → w ≡ []
     stuck [] d a b all h = refl
     stuck (x ∷ w) d a b all h =
         let r = h.1 in
         absurd (twig.fresh (inr (x, All-head (Contains tree) x w all, (named x new r.0 r.1 r.2 r.5).0)))
 
-    stuck_back : (w : List ℕ) (c a b : ℕ) → All (Contains tree) w → IsWalk needs w c new a b → w ≡ []
+    stuck_back : (w : List ℕ) (c a b : ℕ) → All (Contains tree) w → IsNeedWalk needs w c new a b → w ≡ []
     stuck_back [] c a b all h = refl
     stuck_back (x ∷ w) c a b all h =
         let r = h.1 in
         let none = stuck_back w r.0 r.3 r.4 (All-tail (Contains tree) x w all) r.6 in
-        let here : r.0 ≡ new = (subst (λ (z : List ℕ). IsWalk needs z r.0 new r.3 r.4) none r.6).0 in
-        absurd (twig.fresh (subst (IsReached needs root tree) here (inr (
+        let here : r.0 ≡ new = (subst (λ (z : List ℕ). IsNeedWalk needs z r.0 new r.3 r.4) none r.6).0 in
+        absurd (twig.fresh (subst (IsReachedByTree needs root tree) here (inr (
           x,
           All-head (Contains tree) x w all,
           (named x c r.0 r.1 r.2 r.5).1,
@@ -77,7 +77,7 @@ module _ (needs : List Need) (root : ℕ) where
       end : d ≡ new
       num : ℕ
       den : ℕ
-      walk : IsWalk needs front c old num den
+      walk : IsNeedWalk needs front c old num den
       inside : All (Contains tree) front
 
     record IsFirst (w : List ℕ) (c d : ℕ) : Type 0 where
@@ -86,7 +86,7 @@ module _ (needs : List Need) (root : ℕ) where
       begin : c ≡ new
       num : ℕ
       den : ℕ
-      walk : IsWalk needs rest old d num den
+      walk : IsNeedWalk needs rest old d num den
       inside : All (Contains tree) rest
 
     abbrev Shape : List ℕ → ℕ → ℕ → Type 0
@@ -99,17 +99,17 @@ module _ (needs : List Need) (root : ℕ) where
           | inr same ↦ absurd (out (i, l, same_default w i k d l ∙ sym same))
         ]
 
-    by_twig : (w : List ℕ) (c d a b : ℕ) → IsWalk needs (k ∷ w) c d a b → All (Contains tree) w → Shape (k ∷ w) c d
+    by_twig : (w : List ℕ) (c d a b : ℕ) → IsNeedWalk needs (k ∷ w) c d a b → All (Contains tree) w → Shape (k ∷ w) c d
     by_twig w c d a b h all =
         let r = h.1 in
         elim (sides c r.0 r.1 r.2 r.5) [
           | inl s ↦
-              let on = subst (λ (z : ℕ). IsWalk needs w z d r.3 r.4) s.1 r.6 in
+              let on = subst (λ (z : ℕ). IsNeedWalk needs w z d r.3 r.4) s.1 r.6 in
               let none = stuck w d r.3 r.4 all on in
               inr (inl (record {
                 front = [];
                 is = ap (λ (z : List ℕ). k ∷ z) none;
-                end = sym (subst (λ (z : List ℕ). IsWalk needs z new d r.3 r.4) none on).0;
+                end = sym (subst (λ (z : List ℕ). IsNeedWalk needs z new d r.3 r.4) none on).0;
                 num = 1;
                 den = 1;
                 walk = (s.0, refl, refl);
@@ -121,12 +121,12 @@ module _ (needs : List Need) (root : ℕ) where
             begin = s.0;
             num = r.3;
             den = r.4;
-            walk = subst (λ (z : ℕ). IsWalk needs w z d r.3 r.4) s.1 r.6;
+            walk = subst (λ (z : ℕ). IsNeedWalk needs w z d r.3 r.4) s.1 r.6;
             inside = all;
           }))
         ]
 
-    longer : (x : ℕ) (w : List ℕ) (c d e a b : ℕ) → x < length needs → Contains tree x → Leads (need_at needs x) c e a b → Shape w e d →
+    longer : (x : ℕ) (w : List ℕ) (c d e a b : ℕ) → x < length needs → Contains tree x → LeadsBetween (need_at needs x) c e a b → Shape w e d →
         Shape (x ∷ w) c d
     longer x w c d e a b l i leads (inl all) = inl (All-cons (Contains tree) x w i all)
     longer x w c d e a b l i leads (inr (inl s)) = inr (inl (record {
@@ -139,9 +139,9 @@ module _ (needs : List Need) (root : ℕ) where
       inside = All-cons (Contains tree) x s.front i s.inside;
     }))
     longer x w c d e a b l i leads (inr (inr s)) =
-        absurd (twig.fresh (subst (IsReached needs root tree) s.begin (inr (x, i, (named x c e a b leads).1))))
+        absurd (twig.fresh (subst (IsReachedByTree needs root tree) s.begin (inr (x, i, (named x c e a b leads).1))))
 
-    shape : (w : List ℕ) (c d a b : ℕ) → All (Contains (tree ++ k ∷ [])) w → IsSimple w → IsWalk needs w c d a b → Shape w c d
+    shape : (w : List ℕ) (c d a b : ℕ) → All (Contains (tree ++ k ∷ [])) w → IsSimple w → IsNeedWalk needs w c d a b → Shape w c d
     shape [] c d a b all simple h = inl (All-nil (Contains tree))
     shape (x ∷ w) c d a b all simple h =
         let r = h.1 in
@@ -150,31 +150,31 @@ module _ (needs : List Need) (root : ℕ) where
           | inl here ↦ longer x w c d r.0 r.1 r.2 h.0 here r.5 (shape w r.0 d r.3 r.4 more (simple_tail x w simple) r.6)
           | inr same ↦
               let once : IsSimple (k ∷ w) = subst (λ (z : ℕ). IsSimple (z ∷ w)) (sym same) simple in
-              let on : IsWalk needs (k ∷ w) c d a b = subst (λ (z : ℕ). IsWalk needs (z ∷ w) c d a b) (sym same) h in
+              let on : IsNeedWalk needs (k ∷ w) c d a b = subst (λ (z : ℕ). IsNeedWalk needs (z ∷ w) c d a b) (sym same) h in
               subst (λ (z : ℕ). Shape (z ∷ w) c d) same (by_twig w c d a b on (inside w more (first_once k w once)))
         ]
 
     module _ (one : IsOneWay tree) where
-      no_last : (u v : List ℕ) (c d a b : ℕ) → All (Contains tree) u → IsWalk needs u c d a b → IsLast v c d → ⊥
+      no_last : (u v : List ℕ) (c d a b : ℕ) → All (Contains tree) u → IsNeedWalk needs u c d a b → IsLast v c d → ⊥
       no_last u v c d a b all h s =
-          let on = subst (λ (z : ℕ). IsWalk needs u c z a b) s.end h in
-          let here : c ≡ new = (subst (λ (z : List ℕ). IsWalk needs z c new a b) (stuck_back u c a b all on) on).0 in
-          let from = subst (λ (z : ℕ). IsWalk needs s.front z old s.num s.den) here s.walk in
-          apart (subst (λ (z : List ℕ). IsWalk needs z new old s.num s.den) (stuck s.front old s.num s.den s.inside from) from).0
+          let on = subst (λ (z : ℕ). IsNeedWalk needs u c z a b) s.end h in
+          let here : c ≡ new = (subst (λ (z : List ℕ). IsNeedWalk needs z c new a b) (stuck_back u c a b all on) on).0 in
+          let from = subst (λ (z : ℕ). IsNeedWalk needs s.front z old s.num s.den) here s.walk in
+          apart (subst (λ (z : List ℕ). IsNeedWalk needs z new old s.num s.den) (stuck s.front old s.num s.den s.inside from) from).0
 
-      no_first : (u v : List ℕ) (c d a b : ℕ) → All (Contains tree) u → IsWalk needs u c d a b → IsFirst v c d → ⊥
+      no_first : (u v : List ℕ) (c d a b : ℕ) → All (Contains tree) u → IsNeedWalk needs u c d a b → IsFirst v c d → ⊥
       no_first u v c d a b all h s =
-          let on = subst (λ (z : ℕ). IsWalk needs u z d a b) s.begin h in
-          let here : new ≡ d = (subst (λ (z : List ℕ). IsWalk needs z new d a b) (stuck u d a b all on) on).0 in
-          let to = subst (λ (z : ℕ). IsWalk needs s.rest old z s.num s.den) (sym here) s.walk in
-          apart (sym (subst (λ (z : List ℕ). IsWalk needs z old new s.num s.den) (stuck_back s.rest old s.num s.den s.inside to) to).0)
+          let on = subst (λ (z : ℕ). IsNeedWalk needs u z d a b) s.begin h in
+          let here : new ≡ d = (subst (λ (z : List ℕ). IsNeedWalk needs z new d a b) (stuck u d a b all on) on).0 in
+          let to = subst (λ (z : ℕ). IsNeedWalk needs s.rest old z s.num s.den) (sym here) s.walk in
+          apart (sym (subst (λ (z : List ℕ). IsNeedWalk needs z old new s.num s.den) (stuck_back s.rest old s.num s.den s.inside to) to).0)
 
       no_both : (u v : List ℕ) (c d : ℕ) → IsLast u c d → IsFirst v c d → ⊥
       no_both u v c d s t =
-          let from = subst (λ (z : ℕ). IsWalk needs s.front z old s.num s.den) t.begin s.walk in
-          apart (subst (λ (z : List ℕ). IsWalk needs z new old s.num s.den) (stuck s.front old s.num s.den s.inside from) from).0
+          let from = subst (λ (z : ℕ). IsNeedWalk needs s.front z old s.num s.den) t.begin s.walk in
+          apart (subst (λ (z : List ℕ). IsNeedWalk needs z new old s.num s.den) (stuck s.front old s.num s.den s.inside from) from).0
 
-      compare : (u v : List ℕ) (c d a b x y : ℕ) → IsSimple u → IsSimple v → IsWalk needs u c d a b → IsWalk needs v c d x y →
+      compare : (u v : List ℕ) (c d a b x y : ℕ) → IsSimple u → IsSimple v → IsNeedWalk needs u c d a b → IsNeedWalk needs v c d x y →
           Shape u c d → Shape v c d → u ≡ v
       compare u v c d a b x y p q g h (inl s) (inl t) = one u v c d a b x y s t p q g h
       compare u v c d a b x y p q g h (inl s) (inr (inl t)) = absurd (no_last u v c d a b s g t)
@@ -245,5 +245,5 @@ one_walk_law needs one two p q =
     let tree : p.tree ≡ q.tree = one_tree needs q.root p.tree q.tree (subst (λ (r : ℕ). IsTree needs r p.tree) root p.is_tree) q.is_tree in
     let back : p.back ≡ q.back = one_way needs q.root q.tree q.is_tree p.back q.back (to q.need) (from q.need) p.num p.den q.num q.den
     (subst (λ (t : List ℕ). All (Contains t) p.back) tree p.in_tree) q.in_tree p.simple q.simple
-    (subst (λ (k : ℕ). IsWalk needs p.back (to k) (from k) p.num p.den) same p.returns) q.returns in
+    (subst (λ (k : ℕ). IsNeedWalk needs p.back (to k) (from k) p.num p.den) same p.returns) q.returns in
     p.is ∙ ap (λ (k : ℕ). k ∷ p.back) same ∙ ap (λ (w : List ℕ). q.need ∷ w) back ∙ sym q.is

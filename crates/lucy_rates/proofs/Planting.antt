@@ -9,8 +9,8 @@ use Rattle.std.proofs.Math.ListN.{get_or-eq_default}
 use Rattle.lucy_need.specs.Meeting.{IsWithin}
 use Rattle.lucy_need.specs.declared.need.Need.{Need}
 use Rattle.lucy_rates.specs.declared.fraction.Fraction.{Fraction}
-use Rattle.lucy_rates.specs.Walks.{first_of, second_of, need_at, no_need, over, under, IsWalk, AreJoined, IsRoot}
-use Rattle.lucy_rates.specs.Trees.{IsTree, IsReached, IsNamedBy, HasLargeRate}
+use Rattle.lucy_rates.specs.Walks.{first_of, second_of, need_at, no_need, over, under, IsNeedWalk, AreJoinedClocks, IsRoot}
+use Rattle.lucy_rates.specs.Trees.{IsTree, IsReachedByTree, IsNamedBy, HasLargeRate}
 use Rattle.lucy_rates.specs.Forests.{rate_at, no_rate, IsRateFraction}
 use Rattle.lucy_rates.specs.Growing.{no_number, IsNear, IsGrowing, IsUp, IsRated, AreKept, ArePlanted, AreDeep, HasLargeFrom}
 use Rattle.lucy_rates.proofs.Growing.{both_within, one_fewer}
@@ -20,7 +20,7 @@ use Rattle.lucy_rates.proofs.Completing.{contained}
 
 -- what is the same at both ends of each need is the same at both ends of a walk
 pub same_along : (needs : List Need) (f : ℕ → ℕ) → ((k : ℕ) → k < length needs → f (first_of (need_at needs k)).clock ≡ f (second_of (need_at needs k)).clock) →
-    (walk : List ℕ) (c d num den : ℕ) → IsWalk needs walk c d num den → f c ≡ f d
+    (walk : List ℕ) (c d num den : ℕ) → IsNeedWalk needs walk c d num den → f c ≡ f d
 same_along needs f apart [] c d num den h = ap f h.0
 same_along needs f apart (m ∷ walk) c d num den h =
     let r = h.1 in
@@ -30,15 +30,15 @@ same_along needs f apart (m ∷ walk) c d num den h =
       | inr w ↦ sym (ap f w.0) ∙ sym (apart m h.0) ∙ ap f w.1 ∙ rest
     ]
 
-pub joined_back : (needs : List Need) (c d : ℕ) → AreJoined needs c d → AreJoined needs d c
+pub joined_back : (needs : List Need) (c d : ℕ) → AreJoinedClocks needs c d → AreJoinedClocks needs d c
 joined_back needs c d h = (_, h.2, h.1, walk_back needs h.0 c d h.1 h.2 h.3)
 
-pub joined_on : (needs : List Need) (c d e : ℕ) → AreJoined needs c d → AreJoined needs d e → AreJoined needs c e
+pub joined_on : (needs : List Need) (c d e : ℕ) → AreJoinedClocks needs c d → AreJoinedClocks needs d e → AreJoinedClocks needs c e
 joined_on needs c d e h k = (_, h.1 * k.1, h.2 * k.2, walk_append needs h.0 k.0 c d e h.1 h.2 k.1 k.2 h.3 k.3)
 
 -- the rates of a tree stay where its clocks keep all
 rated_kept : (needs : List Need) (root : ℕ) (tree p d p' d' : List ℕ) (x x' : List Fraction) → IsRated needs root tree p d x →
-    ((c : ℕ) → IsReached needs root tree c → get_or p' c 0 ≡ get_or p c 0) → ((c : ℕ) → IsReached needs root tree c → get_or d' c 0 ≡ get_or d c 0) → ((c : ℕ) → IsReached needs root tree c → rate_at x' c ≡ rate_at x c) →
+    ((c : ℕ) → IsReachedByTree needs root tree c → get_or p' c 0 ≡ get_or p c 0) → ((c : ℕ) → IsReachedByTree needs root tree c → get_or d' c 0 ≡ get_or d c 0) → ((c : ℕ) → IsReachedByTree needs root tree c → rate_at x' c ≡ rate_at x c) →
     IsRated needs root tree p' d' x'
 rated_kept needs root tree p d p' d' x x' h kp kd kx = record {
   rate = λ c r. subst IsRateFraction (sym (kx c r)) (h.rate c r);
@@ -68,14 +68,14 @@ rated_kept needs root tree p d p' d' x x' h kp kd kx = record {
 
 -- all that a tree reaches has its root
 pub reached_root : (needs : List Need) (clocks at : ℕ) (tree : ℕ → List ℕ) (roots parents depths : List ℕ) (rates : List Fraction) → ArePlanted needs clocks at tree roots parents depths rates →
-    (r : ℕ) → r < clocks → get_or roots r 0 ≡ r → (c : ℕ) → IsReached needs r (tree r) c → get_or roots c 0 ≡ r
+    (r : ℕ) → r < clocks → get_or roots r 0 ≡ r → (c : ℕ) → IsReachedByTree needs r (tree r) c → get_or roots c 0 ≡ r
 reached_root needs clocks at tree roots parents depths rates h r l e c reached =
     let path = path_to needs r (tree r) parents depths rates (h.rated r l e) (contained needs (tree r) (h.is_tree r l e).within) (get_or depths c 0 + 1) c (omega arith) reached in
     sym (same_along needs (λ x. get_or roots x 0) h.apart path.walk r c path.num path.den path.along) ∙ e
 
 -- no clock of the component stands below a clock that has no root while all below it have one
 pub root_least : (needs : List Need) (clocks root : ℕ) (tree : ℕ → List ℕ) (roots parents depths : List ℕ) (rates : List Fraction) → ArePlanted needs clocks root tree roots parents depths rates → get_or roots root 0 ≡ no_number →
-    (d : ℕ) → AreJoined needs d root → root ≤ d
+    (d : ℕ) → AreJoinedClocks needs d root → root ≤ d
 root_least needs clocks root tree roots parents depths rates h none d joined = elim (cases_lt d root) [
   | inl l ↦ absurd (h.done d l (same_along needs (λ x. get_or roots x 0) h.apart joined.0 d root joined.1 joined.2 joined.3 ∙ none))
   | inr l ↦ l
@@ -84,7 +84,7 @@ root_least needs clocks root tree roots parents depths rates h none d joined = e
 pub large_rate : (needs : List Need) (clocks root : ℕ) (tree : ℕ → List ℕ) (roots parents depths : List ℕ) (rates : List Fraction) → ArePlanted needs clocks root tree roots parents depths rates → get_or roots root 0 ≡ no_number →
     HasLargeFrom needs clocks root → HasLargeRate needs clocks
 large_rate needs clocks root tree roots parents depths rates h none large =
-    let to : AreJoined needs root large.clock = (large.walk, large.a, large.b, large.along) in
+    let to : AreJoinedClocks needs root large.clock = (large.walk, large.a, large.b, large.along) in
     let is_root : IsRoot needs root large.clock = record { joined = to; least = λ d j. root_least needs clocks root tree roots parents depths rates h none d (joined_on needs d large.clock root j (joined_back needs root large.clock to)) } in
     (large.clock, large.num, large.den, large.within, record { root = root; tree = large.tree; is_root = is_root; is_tree = large.is_tree; walk = large.walk; a = large.a; b = large.b; along = large.along; in_tree = large.in_tree; same = large.same; lowest = large.lowest }, large.large)
 
@@ -114,7 +114,7 @@ none_near needs clocks root tree roots parents depths rates h none a l near = el
 pub growth_start : (needs : List Need) (clocks root at : ℕ) (tree : ℕ → List ℕ) (roots parents depths : List ℕ) (rates : List Fraction) → ArePlanted needs clocks root tree roots parents depths rates → get_or roots root 0 ≡ no_number →
     All (IsWithin clocks) needs → length roots ≡ clocks → root < clocks → clocks ≤ no_number → ((k : ℕ) → k < at → IsNamedBy root (need_at needs k) → ⊥) → IsGrowing needs clocks root [] at (set roots root root)
 growth_start needs clocks root at tree roots parents depths rates h none within size l few before =
-    let own : (x : ℕ) → IsReached needs root [] x → x ≡ root = λ x r. elim r [ inl e ↦ e | inr w ↦ (let i = w.1.1 in absurd (omega arith)) ] in
+    let own : (x : ℕ) → IsReachedByTree needs root [] x → x ≡ root = λ x r. elim r [ inl e ↦ e | inr w ↦ (let i = w.1.1 in absurd (omega arith)) ] in
     let ends : (k : ℕ) → k < length needs → ((first_of (need_at needs k)).clock < clocks) × ((second_of (need_at needs k)).clock < clocks) = λ k m. both_within clocks (need_at needs k) (within k no_need m) in
     let at_root : get_or (set roots root root) root 0 ≡ root = get_or-set_same roots root root 0 (omega arith) in
     record {
@@ -140,7 +140,7 @@ growth_start needs clocks root at tree roots parents depths rates h none within 
 
 pub rated_start : (needs : List Need) (root : ℕ) (parents depths : List ℕ) (rates : List Fraction) → IsRateFraction (rate_at rates root) → (rate_at rates root).num ≡ 1 → (rate_at rates root).den ≡ 1 → get_or depths root 0 ≡ 0 → IsRated needs root [] parents depths rates
 rated_start needs root parents depths rates good num den depth =
-    let own : (x : ℕ) → IsReached needs root [] x → x ≡ root = λ x r. elim r [ inl e ↦ e | inr w ↦ (let i = w.1.1 in absurd (omega arith)) ] in
+    let own : (x : ℕ) → IsReachedByTree needs root [] x → x ≡ root = λ x r. elim r [ inl e ↦ e | inr w ↦ (let i = w.1.1 in absurd (omega arith)) ] in
     record {
       rate = λ c r. subst (λ (z : ℕ). IsRateFraction (rate_at rates z)) (sym (own c r)) good;
       num = num;
@@ -247,10 +247,10 @@ planted_step needs clocks root tree t o p d x n p' d' x' h within =
         | inr w ↦ ap (λ y. get_or n y 0) w.1 ∙ h.own ∙ sym w.1
       ];
       reached = λ c l some. elim (cases c some) [
-        | inl w ↦ subst (λ (r : ℕ). IsReached needs r (now r) c) (sym w.1)
-            (subst (λ (y : List ℕ). IsReached needs (get_or o c 0) y c) (sym (at_old tree root t (get_or o c 0) (not_root c l w.0))) (h.before.reached c l w.0))
-        | inr w ↦ subst (λ (r : ℕ). IsReached needs r (now r) c) (sym w.1)
-            (subst (λ (y : List ℕ). IsReached needs root y c) (sym (at_new tree root t root refl)) ((h.growing.reached c l).0 w.1))
+        | inl w ↦ subst (λ (r : ℕ). IsReachedByTree needs r (now r) c) (sym w.1)
+            (subst (λ (y : List ℕ). IsReachedByTree needs (get_or o c 0) y c) (sym (at_old tree root t (get_or o c 0) (not_root c l w.0))) (h.before.reached c l w.0))
+        | inr w ↦ subst (λ (r : ℕ). IsReachedByTree needs r (now r) c) (sym w.1)
+            (subst (λ (y : List ℕ). IsReachedByTree needs root y c) (sym (at_new tree root t root refl)) ((h.growing.reached c l).0 w.1))
       ];
       apart = same_ends needs clocks root tree t o p d x n p' d' x' h within;
       is_tree = λ r l e. elim (old_root needs clocks root tree t o p d x n p' d' x' h r l e) [
@@ -260,7 +260,7 @@ planted_step needs clocks root tree t o p d x n p' d' x' h within =
       rated = λ r l e. elim (old_root needs clocks root tree t o p d x n p' d' x' h r l e) [
         | inl z ↦ subst (λ (y : List ℕ). IsRated needs r y p' d' x') (sym (at_new tree root t r z)) (subst (λ (y : ℕ). IsRated needs y t p' d' x') (sym z) h.rated)
         | inr z ↦
-            let some : (c : ℕ) → IsReached needs r (tree r) c → get_or o c 0 ≡ no_number → ⊥ = λ c reached none.
+            let some : (c : ℕ) → IsReachedByTree needs r (tree r) c → get_or o c 0 ≡ no_number → ⊥ = λ c reached none.
             (let y = reached_root needs clocks root tree o p d x h.before r l z.0 c reached in let few = h.few in absurd (omega arith)) in
             subst (λ (y : List ℕ). IsRated needs r y p' d' x') (sym (at_old tree root t r z.1))
             (rated_kept needs r (tree r) p d p' d' x x' (h.before.rated r l z.0) (λ c reached. h.parent_kept c (some c reached)) (λ c reached. h.depth_kept c (some c reached)) (λ c reached. h.rate_kept c (some c reached)))

@@ -8,18 +8,18 @@ use Rattle.lucy_word.specs.Bits.{ones_in}
 use Rattle.lucy_need.specs.declared.need.Need.{Need}
 use Rattle.lucy_need.specs.declared.need.Term.{Term}
 use Rattle.lucy_rates.specs.declared.fraction.Fraction.{Fraction}
-use Rattle.lucy_rates.specs.Walks.{first_of, second_of, need_at, over, under, Leads, IsWalk}
-use Rattle.lucy_rates.specs.Trees.{IsReached, IsNamedBy, AreEven}
+use Rattle.lucy_rates.specs.Walks.{first_of, second_of, need_at, over, under, LeadsBetween, IsNeedWalk}
+use Rattle.lucy_rates.specs.Trees.{IsReachedByTree, IsNamedBy, AreEven}
 use Rattle.lucy_rates.specs.Forests.{rate_at, no_rate, IsRateFraction}
 use Rattle.lucy_rates.specs.Growing.{no_number, IsEvenBy, IsUp, IsRated, AreKept, AreDeep}
 use Rattle.lucy_rates.proofs.Growing.{IsJoint, IsAt, reached_cases, one_fewer}
 use Rattle.lucy_rates.proofs.Walking.{walk_append, one_walk, IsLevel}
 
 -- reached by the tree, or new
-old_or_new : (needs : List Need) (root : ℕ) (tree : List ℕ) (m old new x : ℕ) → IsJoint needs root tree m old new → IsReached needs root (tree ++ m ∷ []) x → (x ≡ new → ⊥) → IsReached needs root tree x
+old_or_new : (needs : List Need) (root : ℕ) (tree : List ℕ) (m old new x : ℕ) → IsJoint needs root tree m old new → IsReachedByTree needs root (tree ++ m ∷ []) x → (x ≡ new → ⊥) → IsReachedByTree needs root tree x
 old_or_new needs root tree m old new x joint r n = elim (reached_cases needs root tree m x r) [
   | inl a ↦ a
-  | inr a ↦ elim (joint.names x a) [ inl e ↦ subst (IsReached needs root tree) (sym e) joint.there | inr e ↦ absurd (n e) ]
+  | inr a ↦ elim (joint.names x a) [ inl e ↦ subst (IsReachedByTree needs root tree) (sym e) joint.there | inr e ↦ absurd (n e) ]
 ]
 
 -- what a list has at a place that isn't set
@@ -38,12 +38,12 @@ even_kept needs rates new rate k a b h =
     subst (λ (z : Fraction). IsEvenFor (need_at needs k) z (rate_at (set rates new rate) (second_of (need_at needs k)).clock)) (sym (kept_rate rates new rate (first_of (need_at needs k)).clock a))
     (subst (λ (z : Fraction). IsEvenFor (need_at needs k) (rate_at rates (first_of (need_at needs k)).clock) z) (sym (kept_rate rates new rate (second_of (need_at needs k)).clock b)) h)
 
-up_kept : (needs : List Need) (root : ℕ) (tree parents depths : List ℕ) (m new v x : ℕ) → (x ≡ new → ⊥) → (IsReached needs root tree new → ⊥) → IsUp needs tree parents depths x → IsUp needs (tree ++ m ∷ []) (set parents new m) (set depths new v) x
+up_kept : (needs : List Need) (root : ℕ) (tree parents depths : List ℕ) (m new v x : ℕ) → (x ≡ new → ⊥) → (IsReachedByTree needs root tree new → ⊥) → IsUp needs tree parents depths x → IsUp needs (tree ++ m ∷ []) (set parents new m) (set depths new v) x
 up_kept needs root tree parents depths m new v x n fresh up =
     let p : get_or parents x 0 ≡ get_or (set parents new m) x 0 = sym (kept parents new m x n) in
     let d : get_or depths x 0 ≡ get_or (set depths new v) x 0 = sym (kept depths new v x n) in
     let k = get_or parents x 0 in
-    let old : (y : ℕ) → IsNamedBy y (need_at needs k) → y ≡ new → ⊥ = λ y b e. fresh (subst (IsReached needs root tree) e (inr (k, up.in_tree, b))) in
+    let old : (y : ℕ) → IsNamedBy y (need_at needs k) → y ≡ new → ⊥ = λ y b e. fresh (subst (IsReachedByTree needs root tree) e (inr (k, up.in_tree, b))) in
     let P : ℕ → Type 0 = λ z. Contains (tree ++ m ∷ []) z × ((((first_of (need_at needs z)).clock ≡ x) × (get_or (set depths new v) (second_of (need_at needs z)).clock 0 + 1 ≡ get_or (set depths new v) x 0))
     ⊎ (((second_of (need_at needs z)).clock ≡ x) × (get_or (set depths new v) (first_of (need_at needs z)).clock 0 + 1 ≡ get_or (set depths new v) x 0))) in
     let here : P k = (
@@ -124,7 +124,7 @@ rated_step needs clocks root tree m roots parents depths rates s t next h at goo
     let new = t.clock in
     let joint = at.joint in
     let root_old : root ≡ new → ⊥ = λ z. joint.fresh (inl (sym z)) in
-    let apart : s.clock ≡ new → ⊥ = λ z. joint.fresh (subst (IsReached needs root tree) z joint.there) in
+    let apart : s.clock ≡ new → ⊥ = λ z. joint.fresh (subst (IsReachedByTree needs root tree) z joint.there) in
     record {
       rate = λ x r. elim (cases_eq x new) [
         | inl z ↦ subst IsRateFraction (sym (ap (λ y. rate_at (set rates new next) y) z ∙ get_or-set_same rates new next no_rate in_rates)) good
@@ -134,8 +134,8 @@ rated_step needs clocks root tree m roots parents depths rates s t next h at goo
       den = ap (λ (z : Fraction). z.den) (kept_rate rates new next root root_old) ∙ h.den;
       even = λ k i. elim (Contains-push_cases tree m k i) [
         | inl old ↦ even_kept needs rates new next k
-            (λ z. joint.fresh (subst (IsReached needs root tree) z (inr (k, old, inl refl))))
-            (λ z. joint.fresh (subst (IsReached needs root tree) z (inr (k, old, inr refl)))) (h.even k old)
+            (λ z. joint.fresh (subst (IsReachedByTree needs root tree) z (inr (k, old, inl refl))))
+            (λ z. joint.fresh (subst (IsReachedByTree needs root tree) z (inr (k, old, inr refl)))) (h.even k old)
         | inr same ↦ subst (IsEvenBy needs (set rates new next)) same (even_at needs m s t rates next apart in_rates at.terms e)
       ];
       top = kept depths new (get_or depths s.clock 0 + 1) root root_old ∙ h.top;
@@ -178,10 +178,10 @@ pub record IsPath (needs : List Need) (root : ℕ) (tree : List ℕ) (c : ℕ) :
   pub walk : List ℕ
   pub num : ℕ
   pub den : ℕ
-  pub along : IsWalk needs walk root c num den
+  pub along : IsNeedWalk needs walk root c num den
   pub in_tree : All (Contains tree) walk
 
-pub path_on : (needs : List Need) (root : ℕ) (tree : List ℕ) (e c k a b : ℕ) → IsPath needs root tree e → k < length needs → Contains tree k → Leads (need_at needs k) e c a b → IsPath needs root tree c
+pub path_on : (needs : List Need) (root : ℕ) (tree : List ℕ) (e c k a b : ℕ) → IsPath needs root tree e → k < length needs → Contains tree k → LeadsBetween (need_at needs k) e c a b → IsPath needs root tree c
 path_on needs root tree e c k a b h l i leads = record {
   walk = h.walk ++ k ∷ [];
   num = h.num * a;
@@ -191,7 +191,7 @@ path_on needs root tree e c k a b h l i leads = record {
 }
 
 path_up : (needs : List Need) (root : ℕ) (tree parents depths : List ℕ) (c : ℕ) → ((k : ℕ) → Contains tree k → k < length needs) →
-    ((e : ℕ) → get_or depths e 0 + 1 ≡ get_or depths c 0 → IsReached needs root tree e → IsPath needs root tree e) → IsUp needs tree parents depths c → IsPath needs root tree c
+    ((e : ℕ) → get_or depths e 0 + 1 ≡ get_or depths c 0 → IsReachedByTree needs root tree e → IsPath needs root tree e) → IsUp needs tree parents depths c → IsPath needs root tree c
 path_up needs root tree parents depths c within above up =
     let k = get_or parents c 0 in
     let s = first_of (need_at needs k) in
@@ -204,7 +204,7 @@ path_up needs root tree parents depths c within above up =
     ]
 
 pub path_to : (needs : List Need) (root : ℕ) (tree parents depths : List ℕ) (rates : List Fraction) → IsRated needs root tree parents depths rates → ((k : ℕ) → Contains tree k → k < length needs) →
-    (n c : ℕ) → get_or depths c 0 < n → IsReached needs root tree c → IsPath needs root tree c
+    (n c : ℕ) → get_or depths c 0 < n → IsReachedByTree needs root tree c → IsPath needs root tree c
 path_to needs root tree parents depths rates h within zero c l r = absurd (omega arith)
 path_to needs root tree parents depths rates h within (suc n) c l r = elim (cases_eq c root) [
   | inl e ↦ subst (IsPath needs root tree) (sym e) (record { walk = []; num = 1; den = 1; along = (refl, refl, refl); in_tree = All-nil (Contains tree) })

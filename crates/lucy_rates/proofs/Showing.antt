@@ -7,7 +7,7 @@ use Rattle.lucy_need.specs.Meeting.{IsWithin}
 use Rattle.lucy_need.specs.Stored.{HasWords}
 use Rattle.lucy_need.specs.declared.need.Need.{Need}
 use Rattle.lucy_rates.specs.declared.fraction.Fraction.{Fraction}
-use Rattle.lucy_rates.specs.Walks.{first_of, second_of, need_at, no_need, over, under, IsWalk, IsUnequalWalk, AreJoined, IsRoot}
+use Rattle.lucy_rates.specs.Walks.{first_of, second_of, need_at, no_need, over, under, IsNeedWalk, IsUnequalWalk, AreJoinedClocks, IsRoot}
 use Rattle.lucy_rates.specs.Trees.{IsBalanced, AreEven, IsFirstUnequal}
 use Rattle.lucy_rates.specs.Forests.{rate_at, IsForest}
 use Rattle.lucy_rates.specs.Growing.{IsEvenBy, IsWayBack}
@@ -27,7 +27,7 @@ pub even_from : (needs : List Need) (k : ℕ) (need : Need) (list rates : List F
 even_from needs k need list rates l e f h = subst (IsEvenIn need) (sym f) (subst (λ (n : Need). IsEvenIn n rates) (sym (need_is needs k need l e)) h)
 
 level_way : (needs : List Need) (clocks : ℕ) (roots parents : List ℕ) (rates : List Fraction) → All (IsWithin clocks) needs → IsForest needs clocks roots parents rates →
-    (walk : List ℕ) (c d num den : ℕ) → IsWalk needs walk c d num den → All (IsEvenBy needs rates) walk → All (IsLevel needs rates) walk
+    (walk : List ℕ) (c d num den : ℕ) → IsNeedWalk needs walk c d num den → All (IsEvenBy needs rates) walk → All (IsLevel needs rates) walk
 level_way needs clocks roots parents rates within h [] c d num den w all = All-nil (IsLevel needs rates)
 level_way needs clocks roots parents rates within h (m ∷ walk) c d num den w all =
     let ends = both_within clocks (need_at needs m) (within m no_need w.0) in
@@ -86,6 +86,6 @@ pub one_root_at : (needs : List Need) (clocks : ℕ) (roots parents : List ℕ) 
 one_root_at needs clocks roots parents rates k within h l =
     let need = need_at needs k in
     let ends = both_within clocks need (within k no_need l) in
-    let joined : AreJoined needs (second_of need).clock (first_of need).clock =
+    let joined : AreJoinedClocks needs (second_of need).clock (first_of need).clock =
     (k ∷ [], under need * 1, over need * 1, (l, ((first_of need).clock, under need, over need, 1, 1, inr (refl, refl, refl, refl), (refl, refl, refl), refl, refl))) in
     h.one (second_of need).clock (first_of need).clock ends.1 ends.0 joined

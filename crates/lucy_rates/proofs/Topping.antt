@@ -9,8 +9,8 @@ use Rattle.lucy_need.specs.declared.need.Term.{Term}
 use Rattle.lucy_need.specs.declared.need.Need.{Need}
 use Rattle.lucy_need.specs.declared.need.Needs.{Needs}
 use Rattle.lucy_rates.specs.declared.fraction.Fraction.{Fraction}
-use Rattle.lucy_rates.specs.Walks.{first_of, second_of, need_at, AreJoined}
-use Rattle.lucy_rates.specs.Vectors.{IsNamed, IsInUse, IsTop, IsCommonPeriod, IsLongestPrefix}
+use Rattle.lucy_rates.specs.Walks.{first_of, second_of, need_at, AreJoinedClocks}
+use Rattle.lucy_rates.specs.Vectors.{IsNamedBySome, IsInUse, IsTop, IsCommonPeriod, IsLongestPrefix}
 use Rattle.lucy_rates.specs.Laying.{counts_for, top_to, counts, IsCommonTo, prefix_of, longest_to}
 use Rattle.lucy_rates.proofs.Dividing.{IsCollected, collected_both, collected_same, collected_free}
 use Rattle.lucy_rates.proofs.Factoring.{AreRated, joined_within, root_within, root_root}
@@ -70,11 +70,11 @@ top_reached roots v root (suc c) h = elim (cases_Bool (counts_for roots root c))
 ]
 
 module _ (needs : Needs) (roots parents : List ℕ) (rates : List Fraction) (rated : AreRated needs roots parents rates) (r v : ℕ → ℕ) (same : (c : ℕ) → c < needs.clocks → v c ≡ r c) (some : (c : ℕ) → 0 < r c) where
-  base_root : (c : ℕ) → c < needs.clocks → AreJoined needs.list 0 c → slice_index roots c ≡ 0
+  base_root : (c : ℕ) → c < needs.clocks → AreJoinedClocks needs.list 0 c → slice_index roots c ≡ 0
   base_root c l j = let a = (rated.forest.root c l).least 0 j in omega arith
 
-  root_base : (c : ℕ) → c < needs.clocks → slice_index roots c ≡ 0 → AreJoined needs.list 0 c
-  root_base c l e = subst (λ (z : ℕ). AreJoined needs.list z c) e (rated.forest.root c l).joined
+  root_base : (c : ℕ) → c < needs.clocks → slice_index roots c ≡ 0 → AreJoinedClocks needs.list 0 c
+  root_base c l e = subst (λ (z : ℕ). AreJoinedClocks needs.list z c) e (rated.forest.root c l).joined
 
   own_counts : (c : ℕ) → c < needs.clocks → counts_for roots (slice_index roots c) (slice_index roots c) ≡ true
   own_counts c l = counts_from roots (slice_index roots c) (slice_index roots c) (root_root needs roots parents rates rated c l) (cases_eq (slice_index roots c) 0)
@@ -109,25 +109,25 @@ counts_use b c = (
   λ h. elim h [ inl l ↦ or_left (not (eqb c 0)) b (ap (λ z. not z) (ne_eqb c 0 (λ e. absurd (omega arith)))) | inr e ↦ or_right (not (eqb c 0)) b e ],
 )
 
-pub in_use : (needs : Needs) (b : Bool) (c : ℕ) → (b ≡ true ↔ IsNamed needs.list 0) → c < needs.clocks → (counts b c ≡ true ↔ IsInUse needs c)
+pub in_use : (needs : Needs) (b : Bool) (c : ℕ) → (b ≡ true ↔ IsNamedBySome needs.list 0) → c < needs.clocks → (counts b c ≡ true ↔ IsInUse needs c)
 in_use needs b c tells l = (
   λ h. elim ((counts_use b c).0 h) [
     | inl m ↦ (l, inl m)
     | inr e ↦ elim (cases_eq c 0) [
-      | inl z ↦ (l, inr (subst (IsNamed needs.list) (sym z) (tells.0 e)))
+      | inl z ↦ (l, inr (subst (IsNamedBySome needs.list) (sym z) (tells.0 e)))
       | inr n ↦ (l, inl (omega arith))
     ]
   ],
   λ u. (counts_use b c).1 (elim u.1 [
     | inl m ↦ inl m
     | inr w ↦ elim (cases_eq c 0) [
-      | inl z ↦ inr (tells.1 (subst (IsNamed needs.list) z w))
+      | inl z ↦ inr (tells.1 (subst (IsNamedBySome needs.list) z w))
       | inr n ↦ inl (omega arith)
     ]
   ]),
 )
 
-pub common_is : (needs : Needs) (b : Bool) (top : ℕ → ℕ) (period : ℕ) → (b ≡ true ↔ IsNamed needs.list 0) → IsCommonTo b top needs.clocks period → IsCommonPeriod needs top period
+pub common_is : (needs : Needs) (b : Bool) (top : ℕ → ℕ) (period : ℕ) → (b ≡ true ↔ IsNamedBySome needs.list 0) → IsCommonTo b top needs.clocks period → IsCommonPeriod needs top period
 common_is needs b top period tells is = record {
   some = is.some;
   of_all = λ c u. (is.exact period).0 (dvd_refl period) c u.0 ((in_use needs b c tells u.0).1 u);

@@ -11,8 +11,8 @@ use Rattle.lucy_need.specs.Meeting.{IsWithin}
 use Rattle.lucy_need.specs.Stored.{HasWords}
 use Rattle.lucy_need.specs.declared.need.Need.{Need}
 use Rattle.lucy_rates.specs.declared.fraction.Fraction.{Fraction}
-use Rattle.lucy_rates.specs.Walks.{first_of, second_of, need_at, no_need, over, under, Leads, IsWalk, IsRoot, AreJoined}
-use Rattle.lucy_rates.specs.Trees.{AreEven, IsNamedBy, IsReached, IsTree, IsTreeRate, TreeRateLaw}
+use Rattle.lucy_rates.specs.Walks.{first_of, second_of, need_at, no_need, over, under, LeadsBetween, IsNeedWalk, IsRoot, AreJoinedClocks}
+use Rattle.lucy_rates.specs.Trees.{AreEven, IsNamedBy, IsReachedByTree, IsTree, IsTreeRate, TreeRateLaw}
 use Rattle.lucy_rates.specs.Growing.{no_number, IsNear, IsGrowing}
 use Rattle.lucy_rates.proofs.Growing.{both_within, reached_cases}
 use Rattle.lucy_rates.proofs.Walking.{IsLevelBy, level_walk_by}
@@ -55,7 +55,7 @@ module _ (needs : List Need) (root : ℕ) where
     ]
   ]
 
-  reached_or : (tree : List ℕ) (c : ℕ) → IsReached needs root tree c ⊎ (IsReached needs root tree c → ⊥)
+  reached_or : (tree : List ℕ) (c : ℕ) → IsReachedByTree needs root tree c ⊎ (IsReachedByTree needs root tree c → ⊥)
   reached_or tree c = elim (cases_eq c root) [
     | inl e ↦ inl (inl e)
     | inr n ↦ elim (among_or tree c) [
@@ -65,8 +65,8 @@ module _ (needs : List Need) (root : ℕ) where
   ]
 
   least : (tree : List ℕ) (n : ℕ) →
-      ((r : ℕ) × (r < n) × IsReached needs root tree r × ((d : ℕ) → d < r → IsReached needs root tree d → ⊥)) ⊎ ((d : ℕ) → d < n →
-      IsReached needs root tree d → ⊥)
+      ((r : ℕ) × (r < n) × IsReachedByTree needs root tree r × ((d : ℕ) → d < r → IsReachedByTree needs root tree d → ⊥)) ⊎ ((d : ℕ) → d < n →
+      IsReachedByTree needs root tree d → ⊥)
   least tree zero = inr (λ d l. absurd (omega arith))
   least tree (suc n) = elim (least tree n) [
     | inl h ↦ inl (h.0, (let l = h.1 in omega arith), h.2, h.3)
@@ -75,38 +75,38 @@ module _ (needs : List Need) (root : ℕ) where
       | inr m ↦ inr (λ d l r. elim (cases_lt d n) [
         | inl low ↦ out d low r
         | inr high ↦
-            m (subst (IsReached needs root tree) (let e : d ≡ n = omega arith in e) r)
+            m (subst (IsReachedByTree needs root tree) (let e : d ≡ n = omega arith in e) r)
       ])
     ]
   ]
 
   module _ (tree : List ℕ) (h : IsTree needs root tree) where
-    reached_on : (k c e a b : ℕ) → k < length needs → Leads (need_at needs k) c e a b → IsReached needs root tree c →
-        IsReached needs root tree e
+    reached_on : (k c e a b : ℕ) → k < length needs → LeadsBetween (need_at needs k) c e a b → IsReachedByTree needs root tree c →
+        IsReachedByTree needs root tree e
     reached_on k c e a b l (inl w) r = elim (reached_or tree e) [
       | inl there ↦ there
       | inr out ↦ absurd (h.done k l (inl (
-        subst (IsReached needs root tree) (sym w.0) r,
-        λ y. out (subst (IsReached needs root tree) w.1 y),
+        subst (IsReachedByTree needs root tree) (sym w.0) r,
+        λ y. out (subst (IsReachedByTree needs root tree) w.1 y),
       )))
     ]
     reached_on k c e a b l (inr w) r = elim (reached_or tree e) [
       | inl there ↦ there
       | inr out ↦ absurd (h.done k l (inr (
-        subst (IsReached needs root tree) (sym w.0) r,
-        λ y. out (subst (IsReached needs root tree) w.1 y),
+        subst (IsReachedByTree needs root tree) (sym w.0) r,
+        λ y. out (subst (IsReachedByTree needs root tree) w.1 y),
       )))
     ]
 
     -- the tree reaches what a walk does
-    walk_reached : (walk : List ℕ) (c d num den : ℕ) → IsReached needs root tree c → IsWalk needs walk c d num den →
-        IsReached needs root tree d
-    walk_reached [] c d num den r w = subst (IsReached needs root tree) w.0 r
+    walk_reached : (walk : List ℕ) (c d num den : ℕ) → IsReachedByTree needs root tree c → IsNeedWalk needs walk c d num den →
+        IsReachedByTree needs root tree d
+    walk_reached [] c d num den r w = subst (IsReachedByTree needs root tree) w.0 r
     walk_reached (k ∷ walk) c d num den r w =
         let s = w.1 in
         walk_reached walk s.0 d s.3 s.4 (reached_on k c s.0 s.1 s.2 w.0 s.5 r) s.6
 
-    joined_reached : (d : ℕ) → AreJoined needs root d → IsReached needs root tree d
+    joined_reached : (d : ℕ) → AreJoinedClocks needs root d → IsReachedByTree needs root tree d
     joined_reached d j = walk_reached j.0 root d j.1 j.2 (inl refl) j.3
 
     twig_path : (front : List ℕ) (k old new c : ℕ) → IsTwig needs root front k old new → k < length needs → Contains tree k →
@@ -121,7 +121,7 @@ module _ (needs : List Need) (root : ℕ) where
     ]
 
     -- and a path leads to all that it reaches
-    path_front : (n : ℕ) → n ≤ length tree → (c : ℕ) → IsReached needs root (take n tree) c → IsPath needs root tree c
+    path_front : (n : ℕ) → n ≤ length tree → (c : ℕ) → IsReachedByTree needs root (take n tree) c → IsPath needs root tree c
     path_front zero l c (inl e) =
         subst (IsPath needs root tree) (sym e) (record {
           walk = [];
@@ -139,7 +139,7 @@ module _ (needs : List Need) (root : ℕ) where
         let t = twig_of needs root front k (h.joins n (omega arith)) in
         let e : suc n ≡ n + 1 = omega arith in
         let grown = ap (λ z. take z tree) e ∙ take_more tree n 0 (omega arith) in
-        elim (reached_cases needs root front k c (subst (λ (z : List ℕ). IsReached needs root z c) grown r)) [
+        elim (reached_cases needs root front k c (subst (λ (z : List ℕ). IsReachedByTree needs root z c) grown r)) [
           | inl before ↦ path_front n (omega arith) c before
           | inr n_by ↦
               let to = path_front n (omega arith) t.0 t.2.there in
@@ -152,8 +152,8 @@ module _ (needs : List Need) (root : ℕ) where
               twig_path front k t.0 t.1 c t.2 inside i to on n_by
         ]
 
-    path_of : (c : ℕ) → IsReached needs root tree c → IsPath needs root tree c
-    path_of c r = path_front (length tree) (omega arith) c (subst (λ (z : List ℕ). IsReached needs root z c) (sym (take_all
+    path_of : (c : ℕ) → IsReachedByTree needs root tree c → IsPath needs root tree c
+    path_of c r = path_front (length tree) (omega arith) c (subst (λ (z : List ℕ). IsReachedByTree needs root z c) (sym (take_all
         (length tree) tree (omega arith))) r)
 
   -- rates of all clocks, by which the needs of the tree are level
@@ -196,7 +196,7 @@ module _ (needs : List Need) (root : ℕ) where
         let r : Fraction = a.rate old in
         let ahead : Fraction = record { num = r.num * over need; den = r.den * under need } in
         let behind : Fraction = record { num = r.num * under need; den = r.den * over need } in
-        let apart : old ≡ new → ⊥ = λ e. twig.fresh (subst (IsReached needs root front) e twig.there) in
+        let apart : old ≡ new → ⊥ = λ e. twig.fresh (subst (IsReachedByTree needs root front) e twig.there) in
         let with_next : (next : Fraction) → ((0 < next.num) × (0 < next.den)) → IsLevelBy needs (with_rate a.rate new next) k →
         AreLevel (front ++ k ∷ []) = λ next some last. (
         let all : (c : ℕ) → (0 < (with_rate a.rate new next c).num) × (0 < (with_rate a.rate new next c).den) = λ c. elim (cases_eq c new) [
@@ -211,8 +211,8 @@ module _ (needs : List Need) (root : ℕ) where
             | inl there ↦
                 let s = (first_of (need_at needs m)).clock in
                 let t = (second_of (need_at needs m)).clock in
-                let out_s : s ≡ new → ⊥ = λ e. twig.fresh (subst (IsReached needs root front) e (inr (m, there, inl refl))) in
-                let out_t : t ≡ new → ⊥ = λ e. twig.fresh (subst (IsReached needs root front) e (inr (m, there, inr refl))) in
+                let out_s : s ≡ new → ⊥ = λ e. twig.fresh (subst (IsReachedByTree needs root front) e (inr (m, there, inl refl))) in
+                let out_t : t ≡ new → ⊥ = λ e. twig.fresh (subst (IsReachedByTree needs root front) e (inr (m, there, inr refl))) in
                 level_from (with_rate a.rate new next) m (a.rate s) (a.rate t) (λ c. (all c).1) (with_old a.rate new next s out_s)
                 (with_old a.rate new next t out_t) (a.level m there).even
             | inr same ↦ subst (λ (z : ℕ). IsLevelBy needs (with_rate a.rate new next) z) same last
@@ -272,7 +272,7 @@ rate_one : (needs : List Need) (c num den n d : ℕ) → All HasWords needs → 
 rate_one needs c num den n d words p q =
     let root : p.root ≡ q.root = one_root needs p.root q.root c p.is_root q.is_root in
     let tree : p.tree ≡ q.tree = one_tree needs q.root p.tree q.tree (subst (λ (r : ℕ). IsTree needs r p.tree) root p.is_tree) q.is_tree in
-    let along : IsWalk needs p.walk q.root c p.a p.b = subst (λ (r : ℕ). IsWalk needs p.walk r c p.a p.b) root p.along in
+    let along : IsNeedWalk needs p.walk q.root c p.a p.b = subst (λ (r : ℕ). IsNeedWalk needs p.walk r c p.a p.b) root p.along in
     let inside : All (Contains q.tree) p.walk = subst (λ (t : List ℕ). All (Contains t) p.walk) tree p.in_tree in
     let a = levels needs q.root words q.tree q.is_tree in
     let level : (walk : List ℕ) → All (Contains q.tree) walk →

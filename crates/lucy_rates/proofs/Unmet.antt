@@ -17,7 +17,7 @@ use Rattle.lucy_need.specs.declared.need.Term.{Term}
 use Rattle.lucy_need.specs.declared.need.Need.{Need}
 use Rattle.lucy_need.specs.declared.need.Need.TheVariants.{Equal, Adapt}
 use Rattle.lucy_rates.specs.declared.fraction.Fraction.{Fraction}
-use Rattle.lucy_rates.specs.Walks.{first_of, second_of, need_at, no_need, IsWalk, UnmetLaw}
+use Rattle.lucy_rates.specs.Walks.{first_of, second_of, need_at, no_need, IsNeedWalk, UnmetLaw}
 use Rattle.lucy_rates.specs.Trees.{AreEven}
 use Rattle.lucy_rates.proofs.Growing.{both_within}
 use Rattle.lucy_rates.proofs.Walking.{IsLevelBy, level_walk_by}
@@ -71,7 +71,7 @@ even_met w (Adapt s t) a b words met =
     even_words w s t met.first met.second a b words.0.word words.1.word met.of_first.is_word met.of_second.is_word met.of_first.on met.of_second.on met.adaptable.0
 
 level_met : (needs : List Need) (clocks : ℕ) (w : Assignment) → All (IsWithin clocks) needs → All HasWords needs → AreWordsIn w clocks → All (Meets w) needs →
-    (walk : List ℕ) (c d num den : ℕ) → IsWalk needs walk c d num den → All (IsLevelBy needs (rate_in w)) walk
+    (walk : List ℕ) (c d num den : ℕ) → IsNeedWalk needs walk c d num den → All (IsLevelBy needs (rate_in w)) walk
 level_met needs clocks w within words assigned met [] c d num den h = All-nil (IsLevelBy needs (rate_in w))
 level_met needs clocks w within words assigned met (m ∷ walk) c d num den h =
     let need = need_at needs m in
@@ -81,7 +81,7 @@ level_met needs clocks w within words assigned met (m ∷ walk) c d num den h =
     let one : IsLevelBy needs (rate_in w) m = record { even = even_met w need first second (words m no_need h.0) (met m no_need h.0); first = period_some _ first; second = period_some _ second } in
     All-cons (IsLevelBy needs (rate_in w)) m walk one (level_met needs clocks w within words assigned met walk h.1.0 d h.1.3 h.1.4 h.1.6)
 
-start_within : (needs : List Need) (clocks : ℕ) → All (IsWithin clocks) needs → (walk : List ℕ) (c d num den : ℕ) → 0 < length walk → IsWalk needs walk c d num den → c < clocks
+start_within : (needs : List Need) (clocks : ℕ) → All (IsWithin clocks) needs → (walk : List ℕ) (c d num den : ℕ) → 0 < length walk → IsNeedWalk needs walk c d num den → c < clocks
 start_within needs clocks within [] c d num den l h = absurd (omega arith)
 start_within needs clocks within (m ∷ walk) c d num den l h =
     let ends = both_within clocks (need_at needs m) (within m no_need h.0) in

@@ -7,20 +7,20 @@ use Rattle.std.proofs.lemmas.List.Elements.{All-head, All-tail}
 use Rattle.std.proofs.Math.Nat.{eq_of_mul-eq-mul_right}
 use Rattle.lucy_need.specs.declared.need.Need.{Need}
 use Rattle.lucy_rates.specs.declared.fraction.Fraction.{Fraction}
-use Rattle.lucy_rates.specs.Walks.{first_of, second_of, need_at, over, under, Leads, IsWalk}
+use Rattle.lucy_rates.specs.Walks.{first_of, second_of, need_at, over, under, LeadsBetween, IsNeedWalk}
 use Rattle.lucy_rates.specs.Forests.{rate_at}
 use Rattle.lucy_rates.specs.Trees.{AreEven}
 
-pub leads_back : (need : Need) (c d a b : ℕ) → Leads need c d a b → Leads need d c b a
+pub leads_back : (need : Need) (c d a b : ℕ) → LeadsBetween need c d a b → LeadsBetween need d c b a
 leads_back need c d a b (inl h) = inr (h.1, h.0, h.3, h.2)
 leads_back need c d a b (inr h) = inl (h.1, h.0, h.3, h.2)
 
-pub walk_append : (needs : List Need) (w v : List ℕ) (c e d a b x y : ℕ) → IsWalk needs w c e a b → IsWalk needs v e d x y → IsWalk needs (w ++ v) c d (a * x) (b * y)
+pub walk_append : (needs : List Need) (w v : List ℕ) (c e d a b x y : ℕ) → IsNeedWalk needs w c e a b → IsNeedWalk needs v e d x y → IsNeedWalk needs (w ++ v) c d (a * x) (b * y)
 walk_append needs [] v c e d a b x y h k =
     let p : a * x ≡ x = ap (λ z. z * x) h.1 ∙ omega arith in
     let q : b * y ≡ y = ap (λ z. z * y) h.2 ∙ omega arith in
-    subst (λ (z : ℕ). IsWalk needs v z d (a * x) (b * y)) (sym h.0)
-    (subst (λ (z : ℕ). IsWalk needs v e d z (b * y)) (sym p) (subst (λ (z : ℕ). IsWalk needs v e d x z) (sym q) k))
+    subst (λ (z : ℕ). IsNeedWalk needs v z d (a * x) (b * y)) (sym h.0)
+    (subst (λ (z : ℕ). IsNeedWalk needs v e d z (b * y)) (sym p) (subst (λ (z : ℕ). IsNeedWalk needs v e d x z) (sym q) k))
 walk_append needs (m ∷ w) v c e d a b x y h k =
     let r = h.1 in (
       h.0,
@@ -37,19 +37,19 @@ walk_append needs (m ∷ w) v c e d a b x y h k =
       ),
     )
 
-pub one_walk : (needs : List Need) (k c d a b : ℕ) → k < length needs → Leads (need_at needs k) c d a b → IsWalk needs (k ∷ []) c d a b
+pub one_walk : (needs : List Need) (k c d a b : ℕ) → k < length needs → LeadsBetween (need_at needs k) c d a b → IsNeedWalk needs (k ∷ []) c d a b
 one_walk needs k c d a b l h = (l, (d, a, b, 1, 1, h, (refl, refl, refl), omega arith, omega arith))
 
-pub walk_back : (needs : List Need) (w : List ℕ) (c d a b : ℕ) → IsWalk needs w c d a b → IsWalk needs (reverse w) d c b a
+pub walk_back : (needs : List Need) (w : List ℕ) (c d a b : ℕ) → IsNeedWalk needs w c d a b → IsNeedWalk needs (reverse w) d c b a
 walk_back needs [] c d a b h = (sym h.0, h.2, h.1)
 walk_back needs (m ∷ w) c d a b h =
     let r = h.1 in
     let back = walk_back needs w r.0 d r.3 r.4 r.6 in
     let last = one_walk needs m r.0 c r.2 r.1 h.0 (leads_back (need_at needs m) c r.0 r.1 r.2 r.5) in
     let whole = walk_append needs (reverse w) (m ∷ []) d r.0 c r.4 r.3 r.2 r.1 back last in
-    subst (λ (z : List ℕ). IsWalk needs z d c b a) (sym (reverse-append (m ∷ []) w))
-    (subst (λ (z : ℕ). IsWalk needs (reverse w ++ m ∷ []) d c b z) (let e : r.3 * r.1 ≡ a = omega arith in e)
-    (subst (λ (z : ℕ). IsWalk needs (reverse w ++ m ∷ []) d c z (r.3 * r.1)) (let e : r.4 * r.2 ≡ b = omega arith in e) whole))
+    subst (λ (z : List ℕ). IsNeedWalk needs z d c b a) (sym (reverse-append (m ∷ []) w))
+    (subst (λ (z : ℕ). IsNeedWalk needs (reverse w ++ m ∷ []) d c b z) (let e : r.3 * r.1 ≡ a = omega arith in e)
+    (subst (λ (z : ℕ). IsNeedWalk needs (reverse w ++ m ∷ []) d c z (r.3 * r.1)) (let e : r.4 * r.2 ≡ b = omega arith in e) whole))
 
 -- the need is even by the rates, which are there
 pub record IsLevelBy (needs : List Need) (rate : ℕ → Fraction) (k : ℕ) : Type 0 where
@@ -62,7 +62,7 @@ abbrev pub IsLevel : List Need → List Fraction → ℕ → Type 0
 IsLevel needs rates k = IsLevelBy needs (λ c. rate_at rates c) k
 
 -- what a level need multiplies a rate by
-level_step : (needs : List Need) (rate : ℕ → Fraction) (k c e a b : ℕ) → IsLevelBy needs rate k → Leads (need_at needs k) c e a b →
+level_step : (needs : List Need) (rate : ℕ → Fraction) (k c e a b : ℕ) → IsLevelBy needs rate k → LeadsBetween (need_at needs k) c e a b →
     ((rate e).num * (rate c).den * b ≡ (rate c).num * (rate e).den * a) × (0 < (rate e).den)
 level_step needs rate k c e a b h (inl l) =
     let P : ℕ → ℕ → Type 0 = λ x y. ((rate y).num * (rate x).den * b ≡ (rate x).num * (rate y).den * a) × (0 < (rate y).den) in
@@ -88,7 +88,7 @@ along_both nc dc ne de nd dd a b x y some h k =
     eq_of_mul-eq-mul_right de some (nd * dc * (b * y)) (nc * dd * (a * x)) r
 
 -- along level needs a walk multiplies the rate of its first clock to that of its last
-pub level_walk_by : (needs : List Need) (rate : ℕ → Fraction) (walk : List ℕ) (c d num den : ℕ) → All (IsLevelBy needs rate) walk → IsWalk needs walk c d num den →
+pub level_walk_by : (needs : List Need) (rate : ℕ → Fraction) (walk : List ℕ) (c d num den : ℕ) → All (IsLevelBy needs rate) walk → IsNeedWalk needs walk c d num den →
     (rate d).num * (rate c).den * den ≡ (rate c).num * (rate d).den * num
 level_walk_by needs rate [] c d num den all h =
     let P : ℕ → Type 0 = λ z. (rate z).num * (rate c).den * den ≡ (rate c).num * (rate z).den * num in
@@ -100,6 +100,6 @@ level_walk_by needs rate (m ∷ w) c d num den all h =
     let both = along_both (rate c).num (rate c).den (rate r.0).num (rate r.0).den (rate d).num (rate d).den r.1 r.2 r.3 r.4 one.1 one.0 rest in
     ap (λ z. (rate d).num * (rate c).den * z) r.8 ∙ both ∙ ap (λ z. (rate c).num * (rate d).den * z) (sym r.7)
 
-pub level_walk : (needs : List Need) (rates : List Fraction) (walk : List ℕ) (c d num den : ℕ) → All (IsLevel needs rates) walk → IsWalk needs walk c d num den →
+pub level_walk : (needs : List Need) (rates : List Fraction) (walk : List ℕ) (c d num den : ℕ) → All (IsLevel needs rates) walk → IsNeedWalk needs walk c d num den →
     (rate_at rates d).num * (rate_at rates c).den * den ≡ (rate_at rates c).num * (rate_at rates d).den * num
 level_walk needs rates walk c d num den all h = level_walk_by needs (λ x. rate_at rates x) walk c d num den all h

@@ -17,10 +17,10 @@ use Rattle.lucy_shape.specs.declared.shape.Shape.{Shape}
 use Rattle.lucy_shape.specs.declared.shape.ClockShape.{ClockShape}
 use Rattle.lucy_shape.specs.Fitting.{unused, clock_at, variable_count, most_positions}
 use Rattle.lucy_rates.specs.declared.fraction.Fraction.{Fraction}
-use Rattle.lucy_rates.specs.Walks.{first_of, second_of, need_at, AreJoined}
+use Rattle.lucy_rates.specs.Walks.{first_of, second_of, need_at, AreJoinedClocks}
 use Rattle.lucy_rates.specs.Trees.{IsNamedBy}
 use Rattle.lucy_rates.specs.Forests.{rate_at, IsRateFraction}
-use Rattle.lucy_rates.specs.Vectors.{IsNamed, IsInUse, IsLeastVector, IsTop, IsLongestPrefix, IsWideShape, IsTooWide}
+use Rattle.lucy_rates.specs.Vectors.{IsNamedBySome, IsInUse, IsLeastVector, IsTop, IsLongestPrefix, IsWideShape, IsTooWide}
 use Rattle.lucy_rates.specs.Laying.{AsksTerm, AsksNeed, AsksUpto, HasLargeFactor, top_to, counts, IsCommonTo, HasLargeCommon, longest_to, shape_behind, laid_out}
 use Rattle.lucy_rates.proofs.Gauss.{times_law, quotient_some}
 use Rattle.lucy_rates.proofs.Carrying.{joined_self, walk_names, short}
@@ -89,7 +89,7 @@ ones_of r top P d = let e = div-mul_cancel top d in let x : r * (P / top * top) 
 
 -- the shape of a vector, its tops and their common period
 module _ (needs : Needs) (scale lead : ℕ) (r : ℕ → ℕ) (least : IsLeastVector needs r) (top : ℕ → ℕ) (tops : (c : ℕ) → c < needs.clocks → IsTop needs r c (top c))
-    (b : Bool) (tells : b ≡ true ↔ IsNamed needs.list 0) (common : ℕ) (is_common : IsCommonTo b top needs.clocks common) (ones prefix : ℕ → ℕ)
+    (b : Bool) (tells : b ≡ true ↔ IsNamedBySome needs.list 0) (common : ℕ) (is_common : IsCommonTo b top needs.clocks common) (ones prefix : ℕ → ℕ)
     (ones_are : (c : ℕ) → IsInUse needs c → ones c * top c ≡ r c * (scale * common)) (prefix_are : (c : ℕ) → c < needs.clocks → prefix c ≡ longest_to needs.list c (length needs.list)) where
   abbrev list : List ClockShape
   list = laid_out b lead ones prefix needs.clocks
@@ -140,7 +140,7 @@ module _ (needs : Needs) (scale lead : ℕ) (r : ℕ → ℕ) (least : IsLeastVe
   }
 
 -- and with the numbers that follow from them
-pub shaped : (needs : Needs) (scale lead : ℕ) (r : ℕ → ℕ) → IsLeastVector needs r → (top : ℕ → ℕ) → ((c : ℕ) → c < needs.clocks → IsTop needs r c (top c)) → (b : Bool) → (b ≡ true ↔ IsNamed needs.list 0) →
+pub shaped : (needs : Needs) (scale lead : ℕ) (r : ℕ → ℕ) → IsLeastVector needs r → (top : ℕ → ℕ) → ((c : ℕ) → c < needs.clocks → IsTop needs r c (top c)) → (b : Bool) → (b ≡ true ↔ IsNamedBySome needs.list 0) →
     (common : ℕ) → IsCommonTo b top needs.clocks common → (shape : Shape) × IsWideShape needs scale lead shape × (shape.period ≡ scale * common)
 shaped needs scale lead r least top tops b tells common is = (
   _,
@@ -205,7 +205,7 @@ module _ (needs : Needs) (roots parents : List ℕ) (rates : List Fraction) (rat
       let s = shaped needs scale lead number number_least (λ c. top_to roots number (slice_index roots c) needs.clocks) tops named.0 named.1 common.number (record { some = common.some; exact = common.exact }) in
       (s.0, s.1)
 
-  use_from : (d c : ℕ) → AreJoined needs.list d c → IsInUse needs c → IsInUse needs d
+  use_from : (d c : ℕ) → AreJoinedClocks needs.list d c → IsInUse needs c → IsInUse needs d
   use_from d c j u = elim (walk_names needs.list j.0 d c j.1 j.2 j.3) [
     | inl e ↦ subst (IsInUse needs) (sym e) u
     | inr w ↦ (named_within needs roots parents rates rated w.0 d w.1 w.2, inr w)
@@ -217,7 +217,7 @@ module _ (needs : Needs) (roots parents : List ℕ) (rates : List Fraction) (rat
     | inr m ↦ m
     | inl m ↦
         let root : ℕ = slice_index roots c in
-        let apart : AreJoined needs.list 0 root → ⊥ = λ j.
+        let apart : AreJoinedClocks needs.list 0 root → ⊥ = λ j.
         let a = (rated.forest.root root (root_within needs roots parents rates rated c l)).least 0 j in
         let b = root_root needs roots parents rates rated c l in
         let e : root ≡ 0 = omega arith in
@@ -242,7 +242,7 @@ module _ (needs : Needs) (roots parents : List ℕ) (rates : List Fraction) (rat
         wide_by_period needs scale lead w.0 proper words low high w.1 (omega arith)
 
     pub wide_by_common : (r : ℕ → ℕ) → IsLeastVector needs r → (top : ℕ → ℕ) → ((c : ℕ) → c < needs.clocks → IsTop needs r c (top c)) → ((c : ℕ) → c < needs.clocks → 0 < top c) →
-        (b : Bool) → (b ≡ true ↔ IsNamed needs.list 0) → HasLargeCommon b top needs.clocks → IsTooWide needs scale lead
+        (b : Bool) → (b ≡ true ↔ IsNamedBySome needs.list 0) → HasLargeCommon b top needs.clocks → IsTooWide needs scale lead
     wide_by_common r least top tops some b tells large =
         let common = common_exists b top needs.clocks some in
         let s = shaped needs scale lead r least top tops b tells common.number (record { some = common.some; exact = common.exact }) in

@@ -5,7 +5,7 @@ use Rattle.std.specs.List.{All}
 use Rattle.lucy_need.specs.Meeting.{IsWithin}
 use Rattle.lucy_need.specs.declared.need.Need.{Need}
 use Rattle.lucy_rates.specs.declared.fraction.Fraction.{Fraction}
-use Rattle.lucy_rates.specs.Walks.{need_at, IsWalk, IsRoot, AreJoined}
+use Rattle.lucy_rates.specs.Walks.{need_at, IsNeedWalk, IsRoot, AreJoinedClocks}
 use Rattle.lucy_rates.specs.Trees.{IsTreeRate, IsBalanced, most_rate}
 
 -- what stands past the end of a list
@@ -30,8 +30,8 @@ pub record IsForest (needs : List Need) (clocks : ℕ) (roots parents : List ℕ
   pub parents_size : length parents ≡ clocks
   pub rates_size : length rates ≡ clocks
   pub root : (c : ℕ) → c < clocks → IsRoot needs (slice_index roots c) c
-  pub one : (c d : ℕ) → c < clocks → d < clocks → AreJoined needs c d → slice_index roots c ≡ slice_index roots d
-  pub joined : (c d : ℕ) → c < clocks → d < clocks → slice_index roots c ≡ slice_index roots d → AreJoined needs c d
+  pub one : (c d : ℕ) → c < clocks → d < clocks → AreJoinedClocks needs c d → slice_index roots c ≡ slice_index roots d
+  pub joined : (c d : ℕ) → c < clocks → d < clocks → slice_index roots c ≡ slice_index roots d → AreJoinedClocks needs c d
   pub rate : (c : ℕ) → c < clocks → IsRateFraction (rate_at rates c)
   pub tree_rate : (c : ℕ) → c < clocks → IsTreeRate needs c (rate_at rates c).num (rate_at rates c).den
   pub only : (c num den : ℕ) → c < clocks → IsTreeRate needs c num den → (num ≡ (rate_at rates c).num) × (den ≡ (rate_at rates c).den)
@@ -40,5 +40,5 @@ pub record IsForest (needs : List Need) (clocks : ℕ) (roots parents : List ℕ
 abbrev pub BalanceLaw : Type 0
 BalanceLaw = (needs : List Need) (clocks : ℕ) (roots parents : List ℕ) (rates : List Fraction) → All (IsWithin clocks) needs → IsForest needs clocks roots parents rates →
     ((k : ℕ) → k < length needs → IsBalanced needs (need_at needs k)) →
-    (walk : List ℕ) (c d num den : ℕ) → c < clocks → IsWalk needs walk c d num den →
+    (walk : List ℕ) (c d num den : ℕ) → c < clocks → IsNeedWalk needs walk c d num den →
     (rate_at rates d).num * (rate_at rates c).den * den ≡ (rate_at rates c).num * (rate_at rates d).den * num

@@ -8,8 +8,8 @@ use Rattle.lucy_need.specs.declared.need.Need.{Need}
 use Rattle.lucy_shape.specs.declared.shape.RateFault.{RateFault}
 use Rattle.lucy_shape.specs.declared.shape.RateFault.TheVariants as fault
 use Rattle.lucy_rates.specs.declared.fraction.Fraction.{Fraction}
-use Rattle.lucy_rates.specs.Walks.{first_of, second_of, need_at, IsWalk, IsUnequalWalk}
-use Rattle.lucy_rates.specs.Trees.{IsTree, IsReached, IsNamedBy, JoinsMore, AreEven, IsFirstUnequal, most_rate}
+use Rattle.lucy_rates.specs.Walks.{first_of, second_of, need_at, IsNeedWalk, IsUnequalWalk}
+use Rattle.lucy_rates.specs.Trees.{IsTree, IsReachedByTree, IsNamedBy, JoinsMore, AreEven, IsFirstUnequal, most_rate}
 use Rattle.lucy_rates.specs.Forests.{rate_at, IsRateFraction}
 
 -- no root yet, or no need
@@ -35,8 +35,8 @@ pub record AreFirstSoFar (needs : List Need) (clocks upto : ℕ) (firsts : List 
   pub named : (c : ℕ) → c < clocks → slice_index firsts c < length needs → IsNamedBy c (need_at needs (slice_index firsts c))
 
 -- the terms of the need, of which the first is that of a clock with a root and the second that of a clock without
-abbrev pub IsStep : List ℕ → Need → Term → Term → Type 0
-IsStep roots need s t = (((s ≡ first_of need) × (t ≡ second_of need)) ⊎ ((s ≡ second_of need) × (t ≡ first_of need)))
+abbrev pub IsJoiningStep : List ℕ → Need → Term → Term → Type 0
+IsJoiningStep roots need s t = (((s ≡ first_of need) × (t ≡ second_of need)) ⊎ ((s ≡ second_of need) × (t ≡ first_of need)))
     × (slice_index roots s.clock ≡ no_number → ⊥) × (slice_index roots t.clock ≡ no_number)
 
 -- the clock has no root yet, or this one
@@ -49,7 +49,7 @@ pub record IsGrowing (needs : List Need) (clocks root : ℕ) (tree : List ℕ) (
   pub joins : (i : ℕ) → i < length tree → JoinsMore needs root (take i tree) (need_at needs (slice_index tree i))
   pub first : (i k : ℕ) → i < length tree → k < slice_index tree i → JoinsMore needs root (take i tree) (need_at needs k) → ⊥
   pub below : (k : ℕ) → k < at → k < length needs → JoinsMore needs root tree (need_at needs k) → ⊥
-  pub reached : (c : ℕ) → c < clocks → (slice_index roots c ≡ root ↔ IsReached needs root tree c)
+  pub reached : (c : ℕ) → c < clocks → (slice_index roots c ≡ root ↔ IsReachedByTree needs root tree c)
   pub apart : (k : ℕ) → k < length needs → IsNear roots root (first_of (need_at needs k)).clock → IsNear roots root (second_of (need_at needs k)).clock
   pub apart_too : (k : ℕ) → k < length needs → IsNear roots root (second_of (need_at needs k)).clock → IsNear roots root (first_of (need_at needs k)).clock
 
@@ -66,12 +66,12 @@ pub record IsUp (needs : List Need) (tree parents depths : List ℕ) (c : ℕ) :
 
 -- the rates and the ways up of the clocks that the tree reaches
 pub record IsRated (needs : List Need) (root : ℕ) (tree parents depths : List ℕ) (rates : List Fraction) : Type 0 where
-  pub rate : (c : ℕ) → IsReached needs root tree c → IsRateFraction (rate_at rates c)
+  pub rate : (c : ℕ) → IsReachedByTree needs root tree c → IsRateFraction (rate_at rates c)
   pub num : (rate_at rates root).num ≡ 1
   pub den : (rate_at rates root).den ≡ 1
   pub even : (k : ℕ) → Contains tree k → IsEvenBy needs rates k
   pub top : slice_index depths root ≡ 0
-  pub up : (c : ℕ) → IsReached needs root tree c → (c ≡ root → ⊥) → IsUp needs tree parents depths c
+  pub up : (c : ℕ) → IsReachedByTree needs root tree c → (c ≡ root → ⊥) → IsUp needs tree parents depths c
 
 -- clocks that had roots keep all, and the others have none or this one
 pub record AreKept (root : ℕ) (old_roots old_parents old_depths : List ℕ) (old_rates : List Fraction) (roots parents depths : List ℕ) (rates : List Fraction) : Type 0 where
@@ -87,7 +87,7 @@ pub record ArePlanted (needs : List Need) (clocks at : ℕ) (tree : ℕ → List
   pub least : (c : ℕ) → c < clocks → (slice_index roots c ≡ no_number → ⊥) → slice_index roots c ≤ c
   pub below : (c : ℕ) → c < clocks → (slice_index roots c ≡ no_number → ⊥) → slice_index roots c < at
   pub own : (c : ℕ) → c < clocks → (slice_index roots c ≡ no_number → ⊥) → slice_index roots (slice_index roots c) ≡ slice_index roots c
-  pub reached : (c : ℕ) → c < clocks → (slice_index roots c ≡ no_number → ⊥) → IsReached needs (slice_index roots c) (tree (slice_index roots c)) c
+  pub reached : (c : ℕ) → c < clocks → (slice_index roots c ≡ no_number → ⊥) → IsReachedByTree needs (slice_index roots c) (tree (slice_index roots c)) c
   pub apart : (k : ℕ) → k < length needs → slice_index roots (first_of (need_at needs k)).clock ≡ slice_index roots (second_of (need_at needs k)).clock
   pub is_tree : (r : ℕ) → r < clocks → slice_index roots r ≡ r → IsTree needs r (tree r)
   pub rated : (r : ℕ) → r < clocks → slice_index roots r ≡ r → IsRated needs r (tree r) parents depths rates
@@ -114,7 +114,7 @@ pub record HasLargeFrom (needs : List Need) (clocks root : ℕ) : Type 0 where
   pub within : clock < clocks
   pub a : ℕ
   pub b : ℕ
-  pub along : IsWalk needs walk root clock a b
+  pub along : IsNeedWalk needs walk root clock a b
   pub num : ℕ
   pub den : ℕ
   pub same : num * b ≡ a * den
@@ -140,7 +140,7 @@ pub record IsWayBack (needs : List Need) (roots : List ℕ) (rates : List Fracti
   pub even : All (IsEvenBy needs rates) way
   pub num : ℕ
   pub den : ℕ
-  pub returns : IsWalk needs way from to num den
+  pub returns : IsNeedWalk needs way from to num den
   pub simple : IsSimple way
 
 -- the needs that lead up from two clocks to those that have been reached, the deeper of which goes on
@@ -151,12 +151,12 @@ pub record AreClimbing (needs : List Need) (clocks : ℕ) (root : ℕ) (tree roo
   pub b_root : slice_index roots b ≡ root
   pub up_num : ℕ
   pub up_den : ℕ
-  pub up_walk : IsWalk needs up from a up_num up_den
+  pub up_walk : IsNeedWalk needs up from a up_num up_den
   pub up_in : All (Contains tree) up
   pub up_simple : IsSimple up
   pub down_num : ℕ
   pub down_den : ℕ
-  pub down_walk : IsWalk needs down to b down_num down_den
+  pub down_walk : IsNeedWalk needs down to b down_num down_den
   pub down_in : All (Contains tree) down
   pub down_simple : IsSimple down
   pub disjoint : (k : ℕ) → Contains up k → Contains down k → ⊥

@@ -9,7 +9,7 @@ use Rattle.lucy_shape.specs.Fitting.{unused, variable_count, most_positions}
 use Rattle.lucy_rates.specs.declared.fraction.Fraction.{Fraction}
 use Rattle.lucy_rates.specs.Walks.{first_of, second_of, need_at}
 use Rattle.lucy_rates.specs.Forests.{rate_at}
-use Rattle.lucy_rates.specs.Vectors.{IsNamed}
+use Rattle.lucy_rates.specs.Vectors.{IsNamedBySome}
 
 -- what the word of a term asks of the number that the rates of a root's component are multiplied by: that the clock's number is
 -- then a multiple of the length of the word's period
@@ -44,7 +44,7 @@ AsksTooMuch roots rates term factors = (n : ℕ) → 0 < n → slice_index facto
 
 -- in the component of a clock that needs name, what they ask leaves no number within the limit
 abbrev pub HasLargeFactor : List Need → List ℕ → List Fraction → Type 0
-HasLargeFactor needs roots rates = (c : ℕ) × IsNamed needs c × ((n : ℕ) → 0 < n → AsksUpto needs roots rates (length needs) (slice_index roots c) n → most_positions < n)
+HasLargeFactor needs roots rates = (c : ℕ) × IsNamedBySome needs c × ((n : ℕ) → 0 < n → AsksUpto needs roots rates (length needs) (slice_index roots c) n → most_positions < n)
 
 -- for each of the first so many clocks its rate times the factor of its root
 pub record AreMultiplied (roots : List ℕ) (rates : List Fraction) (factors : List ℕ) (upto : ℕ) (vector : List ℕ) : Type 0 where

@@ -8,20 +8,20 @@ use Rattle.lucy_need.specs.declared.need.Need.{Need}
 use Rattle.lucy_need.specs.declared.need.Needs.{Needs}
 use Rattle.lucy_need.specs.Meeting.{AreProperNeeds}
 use Rattle.lucy_need.specs.Stored.{HasWords}
-use Rattle.lucy_rates.specs.Walks.{first_of, second_of, need_at, over, under, IsWalk, IsRoot}
+use Rattle.lucy_rates.specs.Walks.{first_of, second_of, need_at, over, under, IsNeedWalk, IsRoot}
 
 -- the need names the clock
 abbrev pub IsNamedBy : ℕ → Need → Type 0
 IsNamedBy c need = ((first_of need).clock ≡ c) ⊎ ((second_of need).clock ≡ c)
 
 -- the root, and the clocks that needs of the tree name
-abbrev pub IsReached : List Need → ℕ → List ℕ → ℕ → Type 0
-IsReached needs root tree c = (c ≡ root) ⊎ ((k : ℕ) × Contains tree k × IsNamedBy c (need_at needs k))
+abbrev pub IsReachedByTree : List Need → ℕ → List ℕ → ℕ → Type 0
+IsReachedByTree needs root tree c = (c ≡ root) ⊎ ((k : ℕ) × Contains tree k × IsNamedBy c (need_at needs k))
 
 -- the need joins a reached clock with one that is not reached
 abbrev pub JoinsMore : List Need → ℕ → List ℕ → Need → Type 0
-JoinsMore needs root tree need = (IsReached needs root tree (first_of need).clock × (IsReached needs root tree (second_of need).clock → ⊥))
-    ⊎ (IsReached needs root tree (second_of need).clock × (IsReached needs root tree (first_of need).clock → ⊥))
+JoinsMore needs root tree need = (IsReachedByTree needs root tree (first_of need).clock × (IsReachedByTree needs root tree (second_of need).clock → ⊥))
+    ⊎ (IsReachedByTree needs root tree (second_of need).clock × (IsReachedByTree needs root tree (first_of need).clock → ⊥))
 
 -- the tree grows from the root: again and again the first need that joins more
 pub record IsTree (needs : List Need) (root : ℕ) (tree : List ℕ) : Type 0 where
@@ -39,7 +39,7 @@ pub record IsTreeRate (needs : List Need) (c num den : ℕ) : Type 0 where
   pub walk : List ℕ
   pub a : ℕ
   pub b : ℕ
-  pub along : IsWalk needs walk root c a b
+  pub along : IsNeedWalk needs walk root c a b
   pub in_tree : All (Contains tree) walk
   pub same : num * b ≡ a * den
   pub lowest : IsGcd num den 1
@@ -76,7 +76,7 @@ pub record IsFirstUnequal (needs : List Need) (walk : List ℕ) : Type 0 where
   pub in_tree : All (Contains tree) back
   pub num : ℕ
   pub den : ℕ
-  pub returns : IsWalk needs back (second_of (need_at needs need)).clock (first_of (need_at needs need)).clock num den
+  pub returns : IsNeedWalk needs back (second_of (need_at needs need)).clock (first_of (need_at needs need)).clock num den
   pub simple : (i j : ℕ) → i < j → j < length back → slice_index back i ≡ slice_index back j → ⊥
 
 -- each clock has a rate by its tree, and no other

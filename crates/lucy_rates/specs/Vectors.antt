@@ -10,16 +10,16 @@ use Rattle.lucy_shape.specs.declared.shape.Shape.{Shape}
 use Rattle.lucy_shape.specs.declared.shape.RateFault.{RateFault}
 use Rattle.lucy_shape.specs.declared.shape.RateFault.TheVariants as fault
 use Rattle.lucy_shape.specs.Fitting.{unused, clock_at, variable_count, most_positions}
-use Rattle.lucy_rates.specs.Walks.{first_of, second_of, need_at, IsWalk, IsUnequalWalk, AreJoined}
+use Rattle.lucy_rates.specs.Walks.{first_of, second_of, need_at, IsNeedWalk, IsUnequalWalk, AreJoinedClocks}
 use Rattle.lucy_rates.specs.Trees.{IsNamedBy, HasLargeRate, IsBalanced, IsFirstUnequal}
 
 -- some need names the clock
-abbrev pub IsNamed : List Need → ℕ → Type 0
-IsNamed needs c = (k : ℕ) × (k < length needs) × IsNamedBy c (need_at needs k)
+abbrev pub IsNamedBySome : List Need → ℕ → Type 0
+IsNamedBySome needs c = (k : ℕ) × (k < length needs) × IsNamedBy c (need_at needs k)
 
 -- the clock has positions: each clock but the base does, and the base where a need names it
 abbrev pub IsInUse : Needs → ℕ → Type 0
-IsInUse needs c = (c < needs.clocks) × ((0 < c) ⊎ IsNamed needs.list c)
+IsInUse needs c = (c < needs.clocks) × ((0 < c) ⊎ IsNamedBySome needs.list c)
 
 -- the word stands after the clock in a need
 abbrev pub StandsAfter : List Need → ℕ → Bits → Type 0
@@ -28,7 +28,7 @@ StandsAfter needs c w = (k : ℕ) × (k < length needs) × ((first_of (need_at n
 -- positive whole numbers in the proportion of the rates, each a multiple of the period length of every word after its clock
 pub record IsRateVector (needs : Needs) (vector : ℕ → ℕ) : Type 0 where
   pub some : (c : ℕ) → 0 < vector c
-  pub proportion : (c d num den : ℕ) (walk : List ℕ) → IsWalk needs.list walk c d num den → vector d * den ≡ vector c * num
+  pub proportion : (c d num den : ℕ) (walk : List ℕ) → IsNeedWalk needs.list walk c d num den → vector d * den ≡ vector c * num
   pub whole : (c : ℕ) (w : Bits) → StandsAfter needs.list c w → length w.period ∣ vector c
 
 -- the least such numbers: 1 for a clock that no need names
@@ -39,9 +39,9 @@ pub record IsLeastVector (needs : Needs) (vector : ℕ → ℕ) : Type 0 where
 -- the number of the clock's component that is to be a one of each instant: that of the base where the base is in it, else the
 -- greatest
 pub record IsTop (needs : Needs) (vector : ℕ → ℕ) (c top : ℕ) : Type 0 where
-  pub base : AreJoined needs.list 0 c → top ≡ vector 0
-  pub reached : (AreJoined needs.list 0 c → ⊥) → (d : ℕ) × AreJoined needs.list d c × (top ≡ vector d)
-  pub passed : (AreJoined needs.list 0 c → ⊥) → (d : ℕ) → AreJoined needs.list d c → vector d ≤ top
+  pub base : AreJoinedClocks needs.list 0 c → top ≡ vector 0
+  pub reached : (AreJoinedClocks needs.list 0 c → ⊥) → (d : ℕ) × AreJoinedClocks needs.list d c × (top ≡ vector d)
+  pub passed : (AreJoinedClocks needs.list 0 c → ⊥) → (d : ℕ) → AreJoinedClocks needs.list d c → vector d ≤ top
 
 -- the least common multiple of the tops of all components: an unused base counts for nothing
 pub record IsCommonPeriod (needs : Needs) (top : ℕ → ℕ) (period : ℕ) : Type 0 where

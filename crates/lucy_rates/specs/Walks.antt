@@ -26,15 +26,15 @@ abbrev pub under : Need → ℕ
 under need = length (first_of need).word.period * ones_in (second_of need).word.period
 
 -- the need leads from one clock to another, either way, and multiplies the rate by num / den
-abbrev pub Leads : Need → ℕ → ℕ → ℕ → ℕ → Type 0
-Leads need c d num den = (((first_of need).clock ≡ c) × ((second_of need).clock ≡ d) × (num ≡ over need) × (den ≡ under need))
+abbrev pub LeadsBetween : Need → ℕ → ℕ → ℕ → ℕ → Type 0
+LeadsBetween need c d num den = (((first_of need).clock ≡ c) × ((second_of need).clock ≡ d) × (num ≡ over need) × (den ≡ under need))
     ⊎ (((second_of need).clock ≡ c) × ((first_of need).clock ≡ d) × (num ≡ under need) × (den ≡ over need))
 
 -- the needs of these numbers lead, one after the other, from one clock to another, and multiply the rate by num / den together
-abbrev pub IsWalk : List Need → List ℕ → ℕ → ℕ → ℕ → ℕ → Type 0
-IsWalk needs [] c d num den = (c ≡ d) × (num ≡ 1) × (den ≡ 1)
-IsWalk needs (k ∷ walk) c d num den = (k < length needs) × ((e : ℕ) × (a : ℕ) × (b : ℕ) × (x : ℕ) × (y : ℕ) ×
-    Leads (need_at needs k) c e a b × IsWalk needs walk e d x y × (num ≡ a * x) × (den ≡ b * y))
+abbrev pub IsNeedWalk : List Need → List ℕ → ℕ → ℕ → ℕ → ℕ → Type 0
+IsNeedWalk needs [] c d num den = (c ≡ d) × (num ≡ 1) × (den ≡ 1)
+IsNeedWalk needs (k ∷ walk) c d num den = (k < length needs) × ((e : ℕ) × (a : ℕ) × (b : ℕ) × (x : ℕ) × (y : ℕ) ×
+    LeadsBetween (need_at needs k) c e a b × IsNeedWalk needs walk e d x y × (num ≡ a * x) × (den ≡ b * y))
 
 -- a walk from a clock back to it that multiplies its rate by another number than 1
 pub record IsUnequalWalk (needs : List Need) (walk : List ℕ) : Type 0 where
@@ -42,7 +42,7 @@ pub record IsUnequalWalk (needs : List Need) (walk : List ℕ) : Type 0 where
   pub clock : ℕ
   pub num : ℕ
   pub den : ℕ
-  pub round : IsWalk needs walk clock clock num den
+  pub round : IsNeedWalk needs walk clock clock num den
   pub unequal : num ≡ den → ⊥
 
 -- a walk shows that no words of the clocks at all meet the needs
@@ -50,10 +50,10 @@ abbrev pub UnmetLaw : Type 0
 UnmetLaw = (needs : List Need) (clocks : ℕ) (w : Assignment) (walk : List ℕ) → AllByRecursion (IsWithin clocks) needs → AllByRecursion HasWords needs → AreWordsIn w clocks → MeetsAll w needs → IsUnequalWalk needs walk → ⊥
 
 -- needs join the clocks, in steps
-abbrev pub AreJoined : List Need → ℕ → ℕ → Type 0
-AreJoined needs c d = (walk : List ℕ) × (num : ℕ) × (den : ℕ) × IsWalk needs walk c d num den
+abbrev pub AreJoinedClocks : List Need → ℕ → ℕ → Type 0
+AreJoinedClocks needs c d = (walk : List ℕ) × (num : ℕ) × (den : ℕ) × IsNeedWalk needs walk c d num den
 
 -- the least clock of its component
 pub record IsRoot (needs : List Need) (root c : ℕ) : Type 0 where
-  pub joined : AreJoined needs root c
-  pub least : (d : ℕ) → AreJoined needs d c → root ≤ d
+  pub joined : AreJoinedClocks needs root c
+  pub least : (d : ℕ) → AreJoinedClocks needs d c → root ≤ d

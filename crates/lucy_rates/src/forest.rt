@@ -11,7 +11,7 @@ ghost use Rattle.lucy_shape.specs.declared.shape.RateFault.TheVariants as fault;
 ghost use Rattle.lucy_rates.specs.Walks.{first_of, second_of, over, under};
 ghost use Rattle.lucy_rates.specs.Trees.{AreEven, IsTree, HasLargeRate};
 ghost use Rattle.lucy_rates.specs.Forests.{rate_at, IsForest, IsRateFraction};
-ghost use Rattle.lucy_rates.specs.Growing.{no_number, IsGrowing, IsRated, AreKept, AreFirstNeeds, AreFirstSoFar, ArePlanted, AreDeep, IsLargeNext, HasLargeFrom, set_at, IsStep};
+ghost use Rattle.lucy_rates.specs.Growing.{no_number, IsGrowing, IsRated, AreKept, AreFirstNeeds, AreFirstSoFar, ArePlanted, AreDeep, IsLargeNext, HasLargeFrom, set_at, IsJoiningStep};
 
 use crate::fraction::{Fraction, times};
 use lucy_need::{Need, Term};
@@ -90,8 +90,8 @@ fn name(list: &mut [u32], clock: usize, need: u32)
 // From a clock that is reached to one that isn't, where the need joins such.
 fn step<'a>(need: &'a Need, roots: &[u32]) -> Option<(&'a Term, &'a Term)>
     requires { IsWithin (length roots.now) need.now }
-    ensures some { IfSome result (λ r. IsStep roots.now need.now r.0.now r.1.now) }
-    ensures none { IfNone result ((s t : TheTerm) → IsStep roots.now need.now s t → ⊥) }
+    ensures some { IfSome result (λ r. IsJoiningStep roots.now need.now r.0.now r.1.now) }
+    ensures none { IfNone result ((s t : TheTerm) → IsJoiningStep roots.now need.now s t → ⊥) }
 {
     let (first, second) = need.terms();
     let from = roots[first.clock as usize] != NONE;

@@ -9,7 +9,7 @@ ghost use Rattle.lucy_need.specs.Stored.{HasWords};
 ghost use Rattle.lucy_shape.specs.declared.shape.RateFault.TheVariants as fault;
 ghost use Rattle.lucy_shape.specs.Fitting.{unused, variable_count, most_positions};
 ghost use Rattle.lucy_rates.specs.Forests.{IsForest};
-ghost use Rattle.lucy_rates.specs.Vectors.{IsNamed, AreBalanced, IsShapeOf, IsTooWide};
+ghost use Rattle.lucy_rates.specs.Vectors.{IsNamedBySome, AreBalanced, IsShapeOf, IsTooWide};
 ghost use Rattle.lucy_rates.specs.Laying.{AreTops, counts, IsPeriodTo, HasLargeCommon, AreLongest, AreOnes, laid_out};
 
 use crate::forest::Forest;
@@ -21,7 +21,7 @@ use std::alloc::Global;
 
 // Whether some need names the base.
 fn is_base_named(needs: &[Need]) -> bool
-    ensures { IsTrue result ↔ IsNamed needs.now 0 }
+    ensures { IsTrue result ↔ IsNamedBySome needs.now 0 }
 {
     for need in needs {
         let (first, second) = need.terms();

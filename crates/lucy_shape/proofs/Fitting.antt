@@ -20,7 +20,7 @@ use Rattle.lucy_shape.proofs.Places.{index_always}
 use Rattle.lucy_shape.proofs.Meeting.{each_to}
 use Rattle.lucy_need.specs.Meeting.{Assignment}
 use Rattle.lucy_shape.specs.Fitting.{variable_of, HasPositions, clock_at, position_count, IsUsed, IsLaidOut}
-use Rattle.lucy_shape.specs.Index.{Fits, index_of}
+use Rattle.lucy_shape.specs.Index.{Recurs, index_of}
 use Rattle.lucy_shape.specs.Inequalities.{bound_rows, base_rows, neighbour_rows, period_row, clock_rows, shape_rows, SolvesShape}
 use Rattle.lucy_shape.specs.Laws.{FittingLaw, PositionsLaw}
 use Rattle.lucy_shape.specs.Rows.{HoldsIn, SolvesClock}
@@ -158,7 +158,7 @@ module _ (shape : Shape) (xs : List ℤ) (laid : IsLaidOut shape) (solves : Solv
             omega (arith, ints);
       }
 
-  base_fits : IsUsed shape.clocks 0 → Fits (index_of always) (clock_at shape.clocks 0).lead (clock_at shape.clocks 0).ones shape.period
+  base_fits : IsUsed shape.clocks 0 → Recurs (index_of always) (clock_at shape.clocks 0).lead (clock_at shape.clocks 0).ones shape.period
   base_fits u m h =
       let s = clock_at shape.clocks 0 in
       let a = index_always always (λ i h. refl) always_word m in
@@ -167,7 +167,7 @@ module _ (shape : Shape) (xs : List ℤ) (laid : IsLaidOut shape) (solves : Solv
       omega arith
 
   abbrev Pick : ℕ → Bits → Type 0
-  Pick c b = IsWord b × (c ≡ 0 → Same b always) × ((u : IsUsed shape.clocks c) → Fits (index_of b) (clock_at shape.clocks c).lead (clock_at shape.clocks c).ones shape.period × HasPositions (clock_at shape.clocks c) (index_of b) xs)
+  Pick c b = IsWord b × (c ≡ 0 → Same b always) × ((u : IsUsed shape.clocks c) → Recurs (index_of b) (clock_at shape.clocks c).lead (clock_at shape.clocks c).ones shape.period × HasPositions (clock_at shape.clocks c) (index_of b) xs)
 
   pick : (c : ℕ) → (b : Bits) × Pick c b
   pick c = elim (cases_eq c 0) [

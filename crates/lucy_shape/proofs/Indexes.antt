@@ -3,7 +3,7 @@ use Rattle.std.proofs.Common.{◌≡◌, ℕ, ◌+◌, ◌-◌, ◌*◌, ◌/◌
 use Rattle.std.proofs.lemmas.Bool.{cases_lt}
 use Rattle.std.proofs.lemmas.Bool.Decides.{nat_tests, leb_tells}
 use Rattle.std.proofs.lemmas.Nat.{mod-mul-add, div-mul-add}
-use Rattle.lucy_shape.specs.Index.{Fits, least}
+use Rattle.lucy_shape.specs.Index.{Recurs, least}
 use Rattle.lucy_shape.specs.Laws.{InstancesLaw}
 use Rattle.lucy_shape.specs.Turning.{IsInverse, Rises, Turns}
 use Rattle.lucy_shape.specs.WordOf.{continued}
@@ -53,7 +53,7 @@ index_turn O I l L R a up t k h =
     ] in
     omega arith
 
-pub many : (f : ℕ → ℕ) (h Q P : ℕ) → Fits f h Q P → (t k : ℕ) → h < k → f (k + t * Q) ≡ f k + t * P
+pub many : (f : ℕ → ℕ) (h Q P : ℕ) → Recurs f h Q P → (t k : ℕ) → h < k → f (k + t * Q) ≡ f k + t * P
 many f h Q P fits zero k l = let e : f (k + zero * Q) ≡ f k = ap f (omega arith) in omega arith
 many f h Q P fits (suc t) k l =
     let a = many f h Q P fits t k l in
@@ -63,7 +63,7 @@ many f h Q P fits (suc t) k l =
     omega arith
 
 -- past where both come again, one Q further is one P later
-pub need_turn : (O I X : ℕ → ℕ) (n l L R q P t : ℕ) → IsInverse O I → Rises O → Turns O l L R → Fits X n q P → q ≡ t * L → Fits (λ k. X (I k)) (O (max n l)) (t * R) P
+pub need_turn : (O I X : ℕ → ℕ) (n l L R q P t : ℕ) → IsInverse O I → Rises O → Turns O l L R → Recurs X n q P → q ≡ t * L → Recurs (λ k. X (I k)) (O (max n l)) (t * R) P
 need_turn O I X n l L R q P t a up turns fits e k h =
     let past : max n l < I k = elim (cases_lt (max n l) (I k)) [ inl m ↦ m | inr m ↦ let b = a.there k (max n l) m in absurd (omega arith) ] in
     let low = up l (max n l) (omega arith) in
@@ -72,15 +72,15 @@ need_turn O I X n l L R q P t a up turns fits e k h =
     let d = fits (I k) (omega arith) in
     omega arith
 
-pub fits_later : (f : ℕ → ℕ) (h H Q P : ℕ) → h ≤ H → Fits f h Q P → Fits f H Q P
+pub fits_later : (f : ℕ → ℕ) (h H Q P : ℕ) → h ≤ H → Recurs f h Q P → Recurs f H Q P
 fits_later f h H Q P l fits m k = fits m (omega arith)
 
 -- indexes that are the same come again alike
-pub fits_same : (f g : ℕ → ℕ) (n q P : ℕ) → ((k : ℕ) → f k ≡ g k) → Fits g n q P → Fits f n q P
+pub fits_same : (f g : ℕ → ℕ) (n q P : ℕ) → ((k : ℕ) → f k ≡ g k) → Recurs g n q P → Recurs f n q P
 fits_same f g n q P e h m l = let a = e (m + q) in let b = e m in let c = h m l in omega arith
 
 -- the instances up to h + Q decide all
-decided_to : (f g : ℕ → ℕ) (h Q P : ℕ) → 0 < Q → Fits f h Q P → Fits g h Q P → ((k : ℕ) → 0 < k → k ≤ h + Q → f k ≤ g k) → (n k : ℕ) → k ≤ n → 0 < k → f k ≤ g k
+decided_to : (f g : ℕ → ℕ) (h Q P : ℕ) → 0 < Q → Recurs f h Q P → Recurs g h Q P → ((k : ℕ) → 0 < k → k ≤ h + Q → f k ≤ g k) → (n k : ℕ) → k ≤ n → 0 < k → f k ≤ g k
 decided_to f g h Q P some a b base zero k l m = absurd (omega arith)
 decided_to f g h Q P some a b base (suc n) k l m = elim (cases_lt (h + Q) k) [
   | inl past ↦ let same : k - Q + Q ≡ k = omega arith in
@@ -97,7 +97,7 @@ pub decided : InstancesLaw
 decided f g h Q P some a b base k m = decided_to f g h Q P some a b base k k (omega arith) m
 
 -- both sides of a need have one rate. `ones` and `length` are of the period of a word with index I
-pub rate : (I : ℕ → ℕ) (h Q P ones length : ℕ) → Fits I h Q P → Fits I h ones length → ones * P ≡ Q * length
+pub rate : (I : ℕ → ℕ) (h Q P ones length : ℕ) → Recurs I h Q P → Recurs I h ones length → ones * P ≡ Q * length
 rate I h Q P ones length a b =
     let c = many I h Q P a ones (h + 1) (omega arith) in
     let d = many I h ones length b Q (h + 1) (omega arith) in
@@ -110,7 +110,7 @@ pub record IsSide (O I X Ox : ℕ → ℕ) (n l L R q P Q t : ℕ) : Type 0 wher
   pub clock : IsInverse Ox X
   pub rises : Rises O
   pub turns : Turns O l L R
-  pub fits : Fits X n q P
+  pub fits : Recurs X n q P
   pub whole : q ≡ t * L
   pub instances : Q ≡ t * R
 
@@ -123,8 +123,8 @@ need_exact O1 I1 X1 Ox1 O2 I2 X2 Ox2 n1 l1 L1 R1 q1 t1 n2 l2 L2 R2 q2 t2 P Q som
     let g = λ (k : ℕ). X2 (I2 k) in
     let c = need_turn O1 I1 X1 n1 l1 L1 R1 q1 P t1 a.index a.rises a.turns a.fits a.whole in
     let d = need_turn O2 I2 X2 n2 l2 L2 R2 q2 P t2 b.index b.rises b.turns b.fits b.whole in
-    let e : Fits f h Q P = subst (λ (x : ℕ). Fits f h x P) (sym a.instances) (fits_later f _ h (t1 * R1) P (omega arith) c) in
-    let i : Fits g h Q P = subst (λ (x : ℕ). Fits g h x P) (sym b.instances) (fits_later g _ h (t2 * R2) P (omega arith) d) in
+    let e : Recurs f h Q P = subst (λ (x : ℕ). Recurs f h x P) (sym a.instances) (fits_later f _ h (t1 * R1) P (omega arith) c) in
+    let i : Recurs g h Q P = subst (λ (x : ℕ). Recurs g h x P) (sym b.instances) (fits_later g _ h (t2 * R2) P (omega arith) d) in
     let all = decided f g h Q P some e i base in
     counts (λ i. O1 (Ox1 i)) f (λ i. O2 (Ox2 i)) g (on_index Ox1 X1 O1 I1 a.clock a.index) (on_index Ox2 X2 O2 I2 b.clock b.index)
     (λ k. elim (cases_lt 0 k) [
@@ -157,7 +157,7 @@ at_turn x n q P m f j l e =
     let h : (m - n - 1) / q * P ≡ f * P = ap (λ k. k * P) d in
     omega arith
 
-pub continued_fits : (x : ℕ → ℕ) (n q P : ℕ) → 0 < q → Fits (continued x n q P) n q P
+pub continued_fits : (x : ℕ → ℕ) (n q P : ℕ) → 0 < q → Recurs (continued x n q P) n q P
 continued_fits x n q P some m h =
     let k = m - n - 1 in
     let j = k % q in

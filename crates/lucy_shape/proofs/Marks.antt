@@ -9,7 +9,7 @@ use Rattle.lucy_solve.specs.System.{value}
 use Rattle.lucy_shape.specs.declared.shape.ClockShape.{ClockShape}
 use Rattle.lucy_shape.proofs.PositionWord.{found, finds, climbs, before}
 use Rattle.lucy_shape.proofs.RowLaws.{AreRising, rising_positions}
-use Rattle.lucy_shape.specs.Marking.{IsBetween, IsAmong, AreMarks}
+use Rattle.lucy_shape.specs.Marking.{IsBetween, IsAmongFirst, AreMarks}
 use Rattle.lucy_shape.specs.Rows.{SolvesClock}
 use Rattle.lucy_shape.specs.WordOf.{at_position, positions_of, written_word}
 
@@ -34,7 +34,7 @@ bool_is false false f g = refl
 -- positions that stand below a number come before it
 module _ (X : ℕ → ℕ) (n q P : ℕ) (none : X 0 ≡ 0) (up : (m : ℕ) → X m < X (m + 1)) (turn : X (n + 1 + q) ≡ X (n + 1) + P) where
   low_bit : (own : List ℤ) (i : ℕ) → length own ≡ n → ((j : ℕ) → j < n → value own j ≡ pos (X (j + 1))) → 0 < i → i < X (n + 1) →
-      (IsAmong own (length own) i ↔ at_position X i i ≡ true)
+      (IsAmongFirst own (length own) i ↔ at_position X i i ≡ true)
   low_bit own i len at some low = (
     λ a. (let b = a.1 in let e : pos (X (a.0 + 1)) ≡ pos i = sym (at a.0 (omega arith)) ∙ a.2 in
         let c = climbs X up 0 (a.0 + 1) in let d : X (0 + (a.0 + 1)) ≡ X (a.0 + 1) = ap X (omega arith) in
@@ -48,7 +48,7 @@ module _ (X : ℕ → ℕ) (n q P : ℕ) (none : X 0 ≡ 0) (up : (m : ℕ) → 
   )
 
   high_bit : (own : List ℤ) (i : ℕ) → length own ≡ q → ((j : ℕ) → j < q → value own j ≡ pos (X (n + 1 + j))) → X (n + 1) ≤ i → i < X (n + 1) + P →
-      (IsAmong own (length own) i ↔ at_position X i i ≡ true)
+      (IsAmongFirst own (length own) i ↔ at_position X i i ≡ true)
   high_bit own i len at some low = (
     λ a. (let b = a.1 in let e : pos (X (n + 1 + a.0)) ≡ pos i = sym (at a.0 (omega arith)) ∙ a.2 in
         let c = climbs X up 0 (n + 1 + a.0) in let d : X (0 + (n + 1 + a.0)) ≡ X (n + 1 + a.0) = ap X (omega arith) in

@@ -28,7 +28,7 @@ use Rattle.lucy_shape.proofs.Places.{index_rises, index_some, index_always, same
 use Rattle.lucy_need.specs.Meeting.{Assignment, Meets, MeetsAll, AreEqual, AreAdaptable}
 use Rattle.lucy_need.specs.Stored.{HasWords}
 use Rattle.lucy_shape.specs.Fitting.{variable_of, clock_at, IsUsed, turn_instances, AreCarried, IsCarried, IsLaidOut, ArePositions, IsFitting}
-use Rattle.lucy_shape.specs.Index.{Fits, index_of}
+use Rattle.lucy_shape.specs.Index.{Recurs, index_of}
 use Rattle.lucy_shape.specs.Inequalities.{lead_instances, bound_rows, base_rows, neighbour_rows, period_row, clock_rows, instances, instance_row, need_rows, shape_rows, inequalities}
 use Rattle.lucy_shape.specs.Laws.{IsSideOf, MeetingLaw}
 use Rattle.lucy_shape.specs.Rows.{HoldsIn}
@@ -54,14 +54,14 @@ side_of clocks t word whole =
 
 -- a term's index, and that it comes again
 term_fits : (shape : Shape) (w : Assignment) (t : Term) → IsWord (w t.clock) → IsWord t.word → length t.word.period ∣ (clock_at shape.clocks t.clock).ones →
-    Fits (index_of (w t.clock)) (clock_at shape.clocks t.clock).lead (clock_at shape.clocks t.clock).ones shape.period →
-    Fits (λ k. index_of (w t.clock) (index_of t.word k)) (lead_instances (clock_at shape.clocks t.clock).lead t.word) (turn_instances shape.clocks t) shape.period
+    Recurs (index_of (w t.clock)) (clock_at shape.clocks t.clock).lead (clock_at shape.clocks t.clock).ones shape.period →
+    Recurs (λ k. index_of (w t.clock) (index_of t.word k)) (lead_instances (clock_at shape.clocks t.clock).lead t.word) (turn_instances shape.clocks t) shape.period
 term_fits shape w t of_clock of_word whole fits =
     let s = side_of shape.clocks t of_word whole in
     let c = clock_at shape.clocks t.clock in
     let f = need_turn (ones_to t.word) (index_of t.word) (index_of (w t.clock)) c.lead (length t.word.prefix) (length t.word.period) (ones_in t.word.period) c.ones shape.period s.times
     (word_index t.word of_word) (word_rises t.word) (word_turns t.word) fits s.whole in
-    subst (λ (n : ℕ). Fits (λ k. index_of (w t.clock) (index_of t.word k)) (lead_instances c.lead t.word) n shape.period) (sym s.some) f
+    subst (λ (n : ℕ). Recurs (λ k. index_of (w t.clock) (index_of t.word k)) (lead_instances c.lead t.word) n shape.period) (sym s.some) f
 
 some_turn : (clocks : List ClockShape) (s : Term) → IsWord s.word → length s.word.period ∣ (clock_at clocks s.clock).ones → 0 < (clock_at clocks s.clock).ones → 0 < turn_instances clocks s
 some_turn clocks s word whole some =
@@ -137,7 +137,7 @@ module _ (shape : Shape) (w : Assignment) (xs : List ℤ) (laid : IsLaidOut shap
       let d = clock_at shape.clocks t.clock in
       let fx = term_fits shape w s (word_of s.clock h.first_used) of_s h.first_whole (fitting.fits s.clock h.first_used) in
       let fy = term_fits shape w t (word_of t.clock h.second_used) of_t h.second_whole (fitting.fits t.clock h.second_used) in
-      let gy = subst (λ (n : ℕ). Fits (λ k. index_of (w t.clock) (index_of t.word k)) (lead_instances d.lead t.word) n P) (sym h.same) fy in
+      let gy = subst (λ (n : ℕ). Recurs (λ k. index_of (w t.clock) (index_of t.word k)) (lead_instances d.lead t.word) n P) (sym h.same) fy in
       let cx : (i : ℕ) → ones_to x.0 i ≡ ones_on (w s.clock) s.word i = λ i. ones_to-on (w s.clock) s.word x.0 i x.1 in
       let cy : (i : ℕ) → ones_to y.0 i ≡ ones_on (w t.clock) t.word i = λ i. ones_to-on (w t.clock) t.word y.0 i y.1 in
       let ix = index_is (w s.clock) s.word x.0 (word_of s.clock h.first_used) of_s x.2 cx in

@@ -11,7 +11,7 @@ use Rattle.lucy_word.proofs.IndexLaws.{ones_to-same}
 use Rattle.lucy_word.proofs.OnLaws.{always_count, count_on}
 use Rattle.lucy_shape.proofs.Indexes.{one_index, index_turn, rate, fits_later}
 use Rattle.lucy_shape.proofs.WordIndex.{word_index, word_rises, word_turns}
-use Rattle.lucy_shape.specs.Index.{Fits, index_of}
+use Rattle.lucy_shape.specs.Index.{Recurs, index_of}
 use Rattle.lucy_shape.specs.Turning.{ones_on}
 use Rattle.lucy_word.specs.Always.{always}
 
@@ -90,9 +90,9 @@ same_counts a u b v same (suc i) =
     omega arith
 
 -- words whose indexes come again after as many ones and as many instants have one rate
-pub one_rate : (x y : Bits) (h l Q P : ℕ) → 0 < P → IsWord x → IsWord y → Fits (index_of x) h Q P → Fits (index_of y) l Q P → SameRate x y
+pub one_rate : (x y : Bits) (h l Q P : ℕ) → 0 < P → IsWord x → IsWord y → Recurs (index_of x) h Q P → Recurs (index_of y) l Q P → SameRate x y
 one_rate x y h l Q P some of_x of_y f g =
-    let turn : (z : Bits) (k : ℕ) → IsWord z → Fits (index_of z) k Q P → ones_in z.period * P ≡ Q * length z.period = λ z k is fits.
+    let turn : (z : Bits) (k : ℕ) → IsWord z → Recurs (index_of z) k Q P → ones_in z.period * P ≡ Q * length z.period = λ z k is fits.
     (let past = index_turn (ones_to z) (index_of z) (length z.prefix) (length z.period) (ones_in z.period) (word_index z is) (word_rises z) (word_turns z) in
     let h = max k (ones_to z (length z.prefix)) in
     rate (index_of z) h Q P (ones_in z.period) (length z.period) (fits_later (index_of z) k h Q P (omega arith) fits)

@@ -2,7 +2,7 @@
 use Rattle.std.proofs.Common.{◌≡◌, ℕ, ◌+◌, ◌-◌, ◌<◌, ◌≤◌, ◌⊎◌, zero, suc, true, false, ◌||◌, inl, inr, sym, ap, ◌∙◌, subst, arith}
 use Rattle.std.proofs.lemmas.Bool.{cases_lt, cases_eq, cases_Bool}
 use Rattle.std.proofs.lemmas.Bool.Decides.{nat_tests, eqb_tells}
-use Rattle.lucy_shape.specs.Index.{Fits}
+use Rattle.lucy_shape.specs.Index.{Recurs}
 use Rattle.lucy_shape.specs.Turning.{IsInverse}
 use Rattle.lucy_shape.specs.WordOf.{at_position}
 
@@ -82,7 +82,7 @@ apart : false ≡ true → ⊥
 apart e = cc
 
 -- whether i is one of the numbers repeats past the lead
-pub position_turn : (X : ℕ → ℕ) (n q P : ℕ) → X 0 ≡ 0 → ((m : ℕ) → X m < X (m + 1)) → Fits X n q P → (i : ℕ) → X (n + 1) ≤ i →
+pub position_turn : (X : ℕ → ℕ) (n q P : ℕ) → X 0 ≡ 0 → ((m : ℕ) → X m < X (m + 1)) → Recurs X n q P → (i : ℕ) → X (n + 1) ≤ i →
     at_position X (i + P) (i + P) ≡ at_position X i i
 position_turn X n q P x up fits i l = elim (cases_Bool (at_position X i i)) [
   | inl t ↦ let m = found X i i t in

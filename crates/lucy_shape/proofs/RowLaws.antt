@@ -9,7 +9,7 @@ use Rattle.lucy_shape.specs.declared.shape.ClockShape.{ClockShape}
 use Rattle.lucy_shape.proofs.Indexes.{fits_same, many, continued_fits, continued_rises, at_turn, below}
 use Rattle.lucy_shape.proofs.WordOf.{word_law}
 use Rattle.lucy_shape.specs.Fitting.{variable_of, HasPositions}
-use Rattle.lucy_shape.specs.Index.{Fits, index_of}
+use Rattle.lucy_shape.specs.Index.{Recurs, index_of}
 use Rattle.lucy_shape.specs.Laws.{FoldLaw, RowLaw, ClockLaw}
 use Rattle.lucy_shape.specs.Rows.{turns_of, folded, SolvesClock}
 use Rattle.lucy_shape.specs.WordOf.{word_at, natural, numbers, continued, positions_of}
@@ -48,7 +48,7 @@ fold_law c m t some =
       ],
     )
 
-pub placed : (P : ℕ) (c : ClockShape) (X : ℕ → ℕ) (xs : List ℤ) (m : ℕ) → 0 < c.ones → Fits X c.lead c.ones P → HasPositions c X xs → 0 < m →
+pub placed : (P : ℕ) (c : ClockShape) (X : ℕ → ℕ) (xs : List ℤ) (m : ℕ) → 0 < c.ones → Recurs X c.lead c.ones P → HasPositions c X xs → 0 < m →
     value xs (variable_of c (folded c m)) +ℤ pos (turns_of c m * P) ≡ pos (X m)
 placed P c X xs m some fits h positive =
     elim (cases_lt c.lead m) [
@@ -103,7 +103,7 @@ up_to x n (suc d) h =
 pub record AreRising (P : ℕ) (c : ClockShape) (xs : List ℤ) : Type 0 where
   pub none : positions_of P c xs 0 ≡ 0
   pub up : (m : ℕ) → positions_of P c xs m < positions_of P c xs (m + 1)
-  pub fits : Fits (positions_of P c xs) c.lead c.ones P
+  pub fits : Recurs (positions_of P c xs) c.lead c.ones P
   pub at : (m : ℕ) → 0 < m → m ≤ c.lead + c.ones → value xs (variable_of c m) ≡ pos (positions_of P c xs m)
 
 pub rising_positions : (P : ℕ) (c : ClockShape) (xs : List ℤ) → 0 < c.ones → 0 < c.first → SolvesClock P c xs → AreRising P c xs

@@ -19,7 +19,7 @@ use Rattle.lucy_shape.specs.declared.shape.Shape.{Shape}
 use Rattle.lucy_shape.specs.Added.{with_rows, IsPlaced, IsFoldable, IsNeedSpreadable}
 use Rattle.lucy_shape.specs.Fitting.{most_positions, variable_count, clock_at, turn_instances, AreCarried, IsCarried, IsShapeFor, IsFitting, ArePositions}
 use Rattle.lucy_need.specs.Stored.{HasWords}
-use Rattle.lucy_shape.specs.Index.{index_of, Fits}
+use Rattle.lucy_shape.specs.Index.{index_of, Recurs}
 use Rattle.lucy_shape.specs.Inequalities.{lead_instances, instances, inequalities, system_of}
 use Rattle.lucy_shape.specs.Rows.{HoldsIn}
 use Rattle.lucy_shape.specs.Sized.{size_row, size_rows, sized_inequalities, sized_system, HasSizeWithin, MeetsWithin, SizedLaw}
@@ -117,7 +117,7 @@ module _ (needs : Needs) (shape : Shape) (w : Assignment) (xs : List ℤ) (from 
       let same : d.ones ≡ c.ones = sym (alone_turn shape.clocks to) ∙ sym carried.same ∙ alone_turn shape.clocks from in
       let count = alone_instances shape.clocks from to in
       let some = is.laid.ones from carried.first_used in
-      let fits = subst (λ (q : ℕ). Fits (index_of (w to)) d.lead q shape.period) same (fitting.fits to carried.second_used) in
+      let fits = subst (λ (q : ℕ). Recurs (index_of (w to)) d.lead q shape.period) same (fitting.fits to carried.second_used) in
       decided (index_of (w to)) (λ k. index_of (w from) (k + size)) n c.ones shape.period some
       (fits_later (index_of (w to)) d.lead n c.ones shape.period (omega arith) fits)
       (λ m l. let a = fitting.fits from carried.first_used (m + size) (omega arith) in

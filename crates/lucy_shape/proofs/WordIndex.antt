@@ -4,7 +4,7 @@ use Rattle.std.proofs.Math.Nat.{mul-le-mul_left}
 use Rattle.lucy_word.specs.Bits.{Bits, ones_to, ones_in, IsWord}
 use Rattle.lucy_word.proofs.BitsLaws.{ones_to-more, ones_to-turn, ones_to-turns}
 use Rattle.lucy_shape.proofs.Indexes.{has_index, indexes, on_index, need_exact, IsSide}
-use Rattle.lucy_shape.specs.Index.{Fits, index_of}
+use Rattle.lucy_shape.specs.Index.{Recurs, index_of}
 use Rattle.lucy_shape.specs.Laws.{IsSideOf, NeedLaw, PlaceLaw}
 use Rattle.lucy_word.specs.Index.{IsIndex}
 use Rattle.lucy_word.proofs.IndexLaws.{IsIndex-some, IsIndex-behind}
@@ -59,7 +59,7 @@ place_law w k is =
 index_none : (w : Bits) → IsWord w → index_of w 0 ≡ 0
 index_none w h = let a = (word_index w h).first 0 0 (omega arith) in omega arith
 
-side : (a u : Bits) (n q P Q : ℕ) → IsWord a → IsWord u → (s : IsSideOf q Q u) → Fits (index_of a) n q P →
+side : (a u : Bits) (n q P Q : ℕ) → IsWord a → IsWord u → (s : IsSideOf q Q u) → Recurs (index_of a) n q P →
     IsSide (ones_to u) (index_of u) (index_of a) (ones_to a) n (length u.prefix) (length u.period) (ones_in u.period) q P Q s.times
 side a u n q P Q h k s f = record {
   index = word_index u k;

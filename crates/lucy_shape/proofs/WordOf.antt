@@ -8,7 +8,7 @@ use Rattle.lucy_word.proofs.BitsLaws.{bit_at-prefix, bit_at-period, ones_to-none
 use Rattle.lucy_shape.proofs.Indexes.{one_index}
 use Rattle.lucy_shape.proofs.WordIndex.{index_with_one}
 use Rattle.lucy_shape.proofs.PositionWord.{found, finds, climbs, position_turn, position_index, CountsAt}
-use Rattle.lucy_shape.specs.Index.{Fits, index_of}
+use Rattle.lucy_shape.specs.Index.{Recurs, index_of}
 use Rattle.lucy_shape.specs.Laws.{WordLaw}
 use Rattle.lucy_shape.specs.declared.shape.ClockShape.{ClockShape}
 use Rattle.lucy_shape.specs.WordOf.{positions_of, written_word, at_position, word_at}
@@ -17,14 +17,14 @@ here : (ℕ → ℕ) → ℕ → Bool
 here X i = at_position X i i
 
 -- the bit at any instant
-turned : (X : ℕ → ℕ) (n q P : ℕ) → X 0 ≡ 0 → ((m : ℕ) → X m < X (m + 1)) → Fits X n q P → (f i : ℕ) → X (n + 1) ≤ i → at_position X (i + f * P) (i + f * P) ≡ at_position X i i
+turned : (X : ℕ → ℕ) (n q P : ℕ) → X 0 ≡ 0 → ((m : ℕ) → X m < X (m + 1)) → Recurs X n q P → (f i : ℕ) → X (n + 1) ≤ i → at_position X (i + f * P) (i + f * P) ≡ at_position X i i
 turned X n q P x up fits zero i l = let e : i + zero * P ≡ i = omega arith in ap (λ k. at_position X k k) e
 turned X n q P x up fits (suc f) i l =
     let a = turned X n q P x up fits f i l in
     let e : i + suc f * P ≡ i + f * P + P = omega arith in
     ap (λ k. at_position X k k) e ∙ position_turn X n q P x up fits (i + f * P) (omega arith) ∙ a
 
-bit_is : (X : ℕ → ℕ) (n q P : ℕ) → 0 < P → X 0 ≡ 0 → ((m : ℕ) → X m < X (m + 1)) → Fits X n q P → (i : ℕ) → 0 < i → bit_at (word_at X n P) i ≡ at_position X i i
+bit_is : (X : ℕ → ℕ) (n q P : ℕ) → 0 < P → X 0 ≡ 0 → ((m : ℕ) → X m < X (m + 1)) → Recurs X n q P → (i : ℕ) → 0 < i → bit_at (word_at X n P) i ≡ at_position X i i
 bit_is X n q P some x up fits i pos' =
     let w = word_at X n P in
     let first : 0 < X (n + 1) = let a = climbs X up 0 (n + 1) in let b : X (0 + (n + 1)) ≡ X (n + 1) = ap X (omega arith) in omega arith in

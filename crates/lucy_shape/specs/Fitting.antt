@@ -15,7 +15,7 @@ use Rattle.lucy_need.specs.declared.need.Needs.{Needs}
 use Rattle.lucy_solve.specs.System.{value}
 use Rattle.lucy_shape.specs.declared.shape.ClockShape.{ClockShape}
 use Rattle.lucy_shape.specs.declared.shape.Shape.{Shape}
-use Rattle.lucy_shape.specs.Index.{index_of, Fits}
+use Rattle.lucy_shape.specs.Index.{index_of, Recurs}
 
 -- what stands past the end of a list of shapes
 abbrev pub unused : ClockShape
@@ -31,7 +31,7 @@ IsUsed clocks c = (c < length clocks) × ((clock_at clocks c).used ≡ true)
 
 -- past its lead, each clock has its ones again a period later
 abbrev pub FitsShape : Assignment → Shape → Type 0
-FitsShape w shape = (c : ℕ) → IsUsed shape.clocks c → Fits (index_of (w c)) (clock_at shape.clocks c).lead (clock_at shape.clocks c).ones shape.period
+FitsShape w shape = (c : ℕ) → IsUsed shape.clocks c → Recurs (index_of (w c)) (clock_at shape.clocks c).lead (clock_at shape.clocks c).ones shape.period
 
 -- an assignment that fits the shape, with words for all clocks and (1) for the base
 pub record IsFitting (shape : Shape) (w : Assignment) : Type 0 where

@@ -13,5 +13,5 @@ abbrev pub index_of : Bits → ℕ → ℕ
 index_of w k = least (ones_to w) k (length w.prefix + k * length w.period)
 
 -- past position n, q positions further is P instants later
-abbrev pub Fits : (ℕ → ℕ) → ℕ → ℕ → ℕ → Type 0
-Fits index n q P = (m : ℕ) → n < m → index (m + q) ≡ index m + P
+abbrev pub Recurs : (ℕ → ℕ) → ℕ → ℕ → ℕ → Type 0
+Recurs index n q P = (m : ℕ) → n < m → index (m + q) ≡ index m + P

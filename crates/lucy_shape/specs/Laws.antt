@@ -10,7 +10,7 @@ use Rattle.lucy_need.specs.declared.need.Needs.{Needs}
 use Rattle.lucy_solve.specs.System.{Solves, value}
 use Rattle.lucy_shape.specs.declared.shape.ClockShape.{ClockShape}
 use Rattle.lucy_shape.specs.declared.shape.Shape.{Shape}
-use Rattle.lucy_shape.specs.Index.{index_of, Fits}
+use Rattle.lucy_shape.specs.Index.{index_of, Recurs}
 use Rattle.lucy_shape.specs.Fitting.{clock_at, IsUsed, IsFitting, IsLaidOut, IsShapeFor, HasPositions, ArePositions}
 use Rattle.lucy_shape.specs.Rows.{turns_of, row, HoldsIn, SolvesClock}
 use Rattle.lucy_shape.specs.Inequalities.{lead_instances, system_of, SolvesShape}
@@ -56,7 +56,7 @@ FoldLaw = (c : ClockShape) (m t : ℕ) → 0 < c.ones → (turns_of c m ≤ t �
 
 -- numbers that come again past h after Q more, P later, stand to each other as the first h + Q of them do
 abbrev pub InstancesLaw : Type 0
-InstancesLaw = (f g : ℕ → ℕ) (h Q P : ℕ) → 0 < Q → Fits f h Q P → Fits g h Q P → ((k : ℕ) → 0 < k → k ≤ h + Q → f k ≤ g k) → (k : ℕ) → 0 < k → f k ≤ g k
+InstancesLaw = (f g : ℕ → ℕ) (h Q P : ℕ) → 0 < Q → Recurs f h Q P → Recurs g h Q P → ((k : ℕ) → 0 < k → k ≤ h + Q → f k ≤ g k) → (k : ℕ) → 0 < k → f k ≤ g k
 
 -- one side of a need: the ones of its clock in a period are whole periods of its word, with so many instances
 pub record IsSideOf (ones instances : ℕ) (w : Bits) : Type 0 where
@@ -67,21 +67,21 @@ pub record IsSideOf (ones instances : ℕ) (w : Bits) : Type 0 where
 -- a on u has had at least as many ones as b on w at every instant exactly where none of its instances comes later
 abbrev pub NeedLaw : Type 0
 NeedLaw = (a u b w : Bits) (n m q r P Q : ℕ) → IsWord a → IsWord u → IsWord b → IsWord w → 0 < Q → IsSideOf q Q u → IsSideOf r Q w →
-    Fits (index_of a) n q P → Fits (index_of b) m r P →
+    Recurs (index_of a) n q P → Recurs (index_of b) m r P →
     (((i : ℕ) → ones_to w (ones_to b i) ≤ ones_to u (ones_to a i)) ↔
     ((k : ℕ) → 0 < k → k ≤ max (lead_instances n u) (lead_instances m w) + Q → index_of a (index_of u k) ≤ index_of b (index_of w k)))
 
 -- an inequality between two positions, both folded, holds of numbers that are positions exactly where it says so
 abbrev pub RowLaw : Type 0
-RowLaw = (P : ℕ) (c d : ClockShape) (X Y : ℕ → ℕ) (xs : List ℤ) (m k : ℕ) → 0 < c.ones → 0 < d.ones → Fits X c.lead c.ones P → Fits Y d.lead d.ones P →
+RowLaw = (P : ℕ) (c d : ClockShape) (X Y : ℕ → ℕ) (xs : List ℤ) (m k : ℕ) → 0 < c.ones → 0 < d.ones → Recurs X c.lead c.ones P → Recurs Y d.lead d.ones P →
     HasPositions c X xs → HasPositions d Y xs → 0 < m → 0 < k → (HoldsIn xs (row P c m d k) ↔ X m ≤ Y k)
 
 -- the word that is written from rising positions has its ones there
 abbrev pub WordLaw : Type 0
-WordLaw = (X : ℕ → ℕ) (n q P : ℕ) → 0 < P → X 0 ≡ 0 → ((m : ℕ) → X m < X (m + 1)) → Fits X n q P →
+WordLaw = (X : ℕ → ℕ) (n q P : ℕ) → 0 < P → X 0 ≡ 0 → ((m : ℕ) → X m < X (m + 1)) → Recurs X n q P →
     (0 < ones_in (word_at X n P).period) × ((k : ℕ) → index_of (word_at X n P) k ≡ X k)
 
 -- numbers that meet a clock's bounds, neighbours and period are the positions of a word that fits
 abbrev pub ClockLaw : Type 0
 ClockLaw = (P : ℕ) (c : ClockShape) (xs : List ℤ) → 0 < c.ones → 0 < c.first → SolvesClock P c xs →
-    (w : Bits) × (0 < ones_in w.period) × Fits (index_of w) c.lead c.ones P × HasPositions c (index_of w) xs
+    (w : Bits) × (0 < ones_in w.period) × Recurs (index_of w) c.lead c.ones P × HasPositions c (index_of w) xs

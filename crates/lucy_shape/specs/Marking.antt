@@ -17,12 +17,12 @@ abbrev pub IsBetween : ℕ → ℕ → ℤ → Type 0
 IsBetween from len x = (pos from ≤ℤ x) × (x <ℤ pos (from + len))
 
 -- one of the first so many numbers is this one
-abbrev pub IsAmong : List ℤ → ℕ → ℕ → Type 0
-IsAmong positions upto i = (j : ℕ) × (j < upto) × (value positions j ≡ pos i)
+abbrev pub IsAmongFirst : List ℤ → ℕ → ℕ → Type 0
+IsAmongFirst positions upto i = (j : ℕ) × (j < upto) × (value positions j ≡ pos i)
 
 -- the bits are ones exactly at the first so many numbers, the first bit standing at `from`
 abbrev pub AreMarked : ℕ → List ℤ → ℕ → List Bool → Type 0
-AreMarked from positions upto bits = (k : ℕ) → k < length bits → (slice_index_or bits k false ≡ true ↔ IsAmong positions upto (from + k))
+AreMarked from positions upto bits = (k : ℕ) → k < length bits → (slice_index_or bits k false ≡ true ↔ IsAmongFirst positions upto (from + k))
 
 -- and at all of them
 abbrev pub AreMarks : ℕ → List ℤ → List Bool → Type 0

@@ -10,7 +10,7 @@ use Rattle.lucy_need.specs.declared.need.Need.TheVariants.{Adapt}
 use Rattle.lucy_need.specs.declared.need.Needs.{Needs}
 use Rattle.lucy_shape.specs.declared.shape.ClockShape.{ClockShape}
 use Rattle.lucy_shape.specs.declared.shape.Shape.{Shape}
-use Rattle.lucy_shape.specs.Index.{index_of, Fits}
+use Rattle.lucy_shape.specs.Index.{index_of, Recurs}
 use Rattle.lucy_shape.specs.Fitting.{clock_at, turn_instances, IsShapeFor, IsFitting}
 use Rattle.lucy_shape.specs.Sized.{HasSizeWithin}
 use Rattle.lucy_shape.proofs.Bases.{placed}
@@ -68,7 +68,7 @@ module _ (needs : Needs) (shape : Shape) (w : Assignment) (from to : ℕ) (is : 
       let of_from = fitting.words from carried.first_used.0 in
       let of_to = fitting.words to carried.second_used.0 in
       let same : d.ones ≡ c.ones = sym (alone_turn shape.clocks to) ∙ sym carried.same ∙ alone_turn shape.clocks from in
-      let fits : Fits J d.lead c.ones P = subst (λ q. Fits J d.lead q P) same (fitting.fits to carried.second_used) in
+      let fits : Recurs J d.lead c.ones P = subst (λ q. Recurs J d.lead q P) same (fitting.fits to carried.second_used) in
       let some = is.laid.ones from carried.first_used in
       let few = is.laid.few in
       let within = (placed shape from is.laid carried.first_used).within in

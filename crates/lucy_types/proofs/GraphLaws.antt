@@ -10,7 +10,7 @@ use Rattle.lucy_types.specs.declared.graph.Graph.{Graph}
 use Rattle.lucy_types.specs.declared.rule.Rule.{Rule}
 use Rattle.lucy_types.specs.declared.rule.Rule.TheVariants.{Is, Alike}
 use Rattle.lucy_types.specs.Clash.{Touch}
-use Rattle.lucy_types.specs.Graphs.{HasTrue, beside, added, joined, GraphRule, room, Fits, AllFit, IsEven, IsDrawn, Draws, IsGraph}
+use Rattle.lucy_types.specs.Graphs.{HasTrue, beside, added, joined, GraphRule, room, IsRuleBelow, AllFit, IsEven, IsDrawn, DrawsRule, IsGraph}
 use Rattle.lucy_types.proofs.TypingLaws.{touch_weaker}
 
 true_new : (xs : List Truth) (p : ℕ) → p < length xs → HasTrue (set xs p true) p
@@ -83,7 +83,7 @@ touch_kept : (rules : List Rule) (rule : Rule) (p q : ℕ) → Touch (Contains r
 touch_kept rules rule p q t = touch_weaker (Contains rules) (Contains (rules ++ rule ∷ [])) (kept rules rule) p q t
 
 -- with one more true
-drawn_int : (rules : List Rule) (old new : Graph) (p : ℕ) → p < length old.ints.items → IsDrawn rules old → Draws (Is p Int) old new → IsDrawn (rules ++ Is p Int ∷ []) new
+drawn_int : (rules : List Rule) (old new : Graph) (p : ℕ) → p < length old.ints.items → IsDrawn rules old → DrawsRule (Is p Int) old new → IsDrawn (rules ++ Is p Int ∷ []) new
 drawn_int rules old new p l d w = record {
   says_is = λ q t. is q t;
   says_alike = λ q r h. touch_kept rules (Is p Int) q r (d.says_alike q r (near q r h));
@@ -109,7 +109,7 @@ drawn_int rules old new p l d w = record {
     up (Is q Bool) h = subst (λ xs. HasTrue xs q) (sym w.1) h
     up (Alike q r) h = subst (λ ns. Contains (beside ns q) r) (sym w.2) h
 
-drawn_bool : (rules : List Rule) (old new : Graph) (p : ℕ) → p < length old.bools.items → IsDrawn rules old → Draws (Is p Bool) old new → IsDrawn (rules ++ Is p Bool ∷ []) new
+drawn_bool : (rules : List Rule) (old new : Graph) (p : ℕ) → p < length old.bools.items → IsDrawn rules old → DrawsRule (Is p Bool) old new → IsDrawn (rules ++ Is p Bool ∷ []) new
 drawn_bool rules old new p l d w = record {
   says_is = λ q t. is q t;
   says_alike = λ q r h. touch_kept rules (Is p Bool) q r (d.says_alike q r (near q r h));
@@ -135,7 +135,7 @@ drawn_bool rules old new p l d w = record {
     up (Is q Bool) h = subst (λ xs. HasTrue xs q) (sym w.1) (true_kept old.bools.items p q l h)
     up (Alike q r) h = subst (λ ns. Contains (beside ns q) r) (sym w.2) h
 
-drawn_alike : (rules : List Rule) (old new : Graph) (p q : ℕ) → p < length old.near.items → q < length old.near.items → IsDrawn rules old → Draws (Alike p q) old new
+drawn_alike : (rules : List Rule) (old new : Graph) (p q : ℕ) → p < length old.near.items → q < length old.near.items → IsDrawn rules old → DrawsRule (Alike p q) old new
     → IsDrawn (rules ++ Alike p q ∷ []) new
 drawn_alike rules old new p q l m d w = record {
   says_is = λ x t. is x t;
@@ -174,17 +174,17 @@ drawn_alike rules old new p q l m d w = record {
     up (Alike x y) h = subst (λ ns. Contains (beside ns x) y) (sym w.2) (joined_kept old.near.items p q x y l m h)
 
 -- one rule more is drawn
-pub drawn_more : (rules : List Rule) (rule : Rule) (old new : Graph) → IsEven old → Fits (room old) rule → IsDrawn rules old → Draws rule old new → IsDrawn (rules ++ rule ∷ []) new
+pub drawn_more : (rules : List Rule) (rule : Rule) (old new : Graph) → IsEven old → IsRuleBelow (room old) rule → IsDrawn rules old → DrawsRule rule old new → IsDrawn (rules ++ rule ∷ []) new
 drawn_more rules (Is p Int) old new v f d w = drawn_int rules old new p (let e : length old.ints.items ≡ length old.near.items = v.0 in let l : p < length old.near.items = f.1 in omega arith) d w
 drawn_more rules (Is p Bool) old new v f d w = drawn_bool rules old new p (let e : length old.bools.items ≡ length old.near.items = v.1 in let l : p < length old.near.items = f.1 in omega arith) d w
 drawn_more rules (Alike p q) old new v f d w = drawn_alike rules old new p q f.0.1 f.1.1 d w
 
-pub room_kept : (rule : Rule) (old new : Graph) → Draws rule old new → room new ≡ room old
+pub room_kept : (rule : Rule) (old new : Graph) → DrawsRule rule old new → room new ≡ room old
 room_kept (Is p Int) old new w = ap length w.2
 room_kept (Is p Bool) old new w = ap length w.2
 room_kept (Alike p q) old new w = ap length w.2 ∙ length_added (added old.near.items p q) q p ∙ length_added old.near.items p q
 
-pub even_kept : (rule : Rule) (old new : Graph) → IsEven old → Draws rule old new → IsEven new
+pub even_kept : (rule : Rule) (old new : Graph) → IsEven old → DrawsRule rule old new → IsEven new
 even_kept (Is p Int) old new v w = (ap length w.0 ∙ length-set old.ints.items p true ∙ v.0 ∙ sym (ap length w.2), ap length w.1 ∙ v.1 ∙ sym (ap length w.2))
 even_kept (Is p Bool) old new v w = (ap length w.0 ∙ v.0 ∙ sym (ap length w.2), ap length w.1 ∙ length-set old.bools.items p true ∙ v.1 ∙ sym (ap length w.2))
 even_kept (Alike p q) old new v w =
@@ -199,7 +199,7 @@ drawn_graph rules g v a d = record {
   turned = d.turned;
 }
   where
-    fit : (rule : Rule) → GraphRule g rule → Fits (room g) rule
+    fit : (rule : Rule) → GraphRule g rule → IsRuleBelow (room g) rule
     fit (Is p t) h = a (Is p t) (d.says_is p t h)
     fit (Alike p q) h = elim (d.says_alike p q h) [
       | inl u ↦ a (Alike p q) u

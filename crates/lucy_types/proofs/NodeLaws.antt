@@ -21,7 +21,7 @@ use Rattle.lucy_types.specs.Clash.{IsClashPath}
 use Rattle.lucy_types.specs.Graphs.{AllFit}
 use Rattle.lucy_types.specs.Ports.{ArePlacesOf, HaveClasses, AreHeads, port_types}
 use Rattle.lucy_types.specs.Nodes.{tables_of, IsSignature, AreSignatures, StandFor, Solves}
-use Rattle.lucy_types.specs.Programs.{IsTyped, HaveTypings, IsClash, Refuses, AnswersTypes, AnswersClash}
+use Rattle.lucy_types.specs.Programs.{IsTyped, HaveTypings, IsClash, RefusesTypes, AnswersTypes, AnswersClash}
 use Rattle.lucy_types.proofs.ListLaws.{none_some, get_there, get_old, get_push}
 use Rattle.lucy_types.proofs.TypingLaws.{same_typings, clash_refutes, clash_weaker, touch_weaker}
 use Rattle.lucy_types.proofs.RuleLaws.{rule_fits}
@@ -120,7 +120,7 @@ typed_next nodes i n signatures new s e a t h w = record {
 }
 
 -- whatever is answered rightly is the one answer
-pub accepted : (nodes : List PlacedNode) (r : Result (List (List Ty)) TypeError) → IfOk r (IsTyped nodes) → IfErr r (Refuses nodes)
+pub accepted : (nodes : List PlacedNode) (r : Result (List (List Ty)) TypeError) → IfOk r (IsTyped nodes) → IfErr r (RefusesTypes nodes)
     → (tables : List (List Ty)) → IsTyped nodes tables → AnswersTypes tables r
 accepted nodes (Ok found) o e tables t = typed_unique nodes found tables o t
 accepted nodes (Err error.OutOfMemory) o e tables t = refl
@@ -136,7 +136,7 @@ has_typings nodes (Ok tables) o h = λ i n e.
     (take i tables, typed_above nodes tables i (omega arith) o, t.typing, t.meets)
 has_typings nodes (Err e) o h = cc
 
-pub typings_suffice : (nodes : List PlacedNode) (r : Result (List (List Ty)) TypeError) → IfErr r (Refuses nodes) → HaveTypings nodes → (r ≡ Err error.OutOfMemory) ⊎ IsOk r
+pub typings_suffice : (nodes : List PlacedNode) (r : Result (List (List Ty)) TypeError) → IfErr r (RefusesTypes nodes) → HaveTypings nodes → (r ≡ Err error.OutOfMemory) ⊎ IsOk r
 typings_suffice nodes (Ok found) e h = inr refl
 typings_suffice nodes (Err error.OutOfMemory) e h = inl refl
 typings_suffice nodes (Err (error.Clash node path)) e h =
@@ -144,7 +144,7 @@ typings_suffice nodes (Err (error.Clash node path)) e h =
     let same : t.0 ≡ e.known = typed_unique (take node nodes) t.0 e.known t.1 e.above in
     absurd (clash_refutes (IsRule (take node nodes) e.known e.n) path.items e.clashes t.2 (subst (λ known. IsTyping (IsRule (take node nodes) known e.n) t.2) same t.3))
 
-pub rejected : (nodes : List PlacedNode) (r : Result (List (List Ty)) TypeError) → IfOk r (IsTyped nodes) → IfErr r (Refuses nodes)
+pub rejected : (nodes : List PlacedNode) (r : Result (List (List Ty)) TypeError) → IfOk r (IsTyped nodes) → IfErr r (RefusesTypes nodes)
     → (node : ℕ) (path : List ℕ) → IsClash nodes node path → AnswersClash node r
 rejected nodes (Ok found) o e node path c = clash_untyped nodes found node path c o
 rejected nodes (Err error.OutOfMemory) o e node path c = inl refl

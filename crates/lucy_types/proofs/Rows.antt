@@ -16,7 +16,7 @@ use Rattle.lucy_types.specs.declared.ty.Ty.{Ty}
 use Rattle.lucy_types.specs.declared.ty.Ty.TheVariants as ty
 use Rattle.lucy_types.specs.declared.rule.Rule.TheVariants.{Is, Alike}
 use Rattle.lucy_types.specs.Rules.{IsRule}
-use Rattle.lucy_types.specs.Typing.{Typing, Meets, IsTyping, Says, AreTypes, as_ty}
+use Rattle.lucy_types.specs.Typing.{Typing, MeetsRule, IsTyping, SaysType, AreTypes, as_ty}
 use Rattle.lucy_types.specs.Gathered.{own_rules}
 use Rattle.lucy_types.specs.Programs.{IsClash}
 use Rattle.lucy_types.proofs.ListLaws.{none_some, contains_at}
@@ -71,7 +71,7 @@ id_alike = inl record { place = 2; entry = bare (kind.Defined 1); stands = refl;
 
 id_meets : (u : DataType) → IsTyping (IsRule [] [] id) (λ p. u)
 unfolding id
-id_meets u rule (inl r) = all_contains (Meets (λ p. u)) (own_rules 1 id.places) rule (refl, tt) (own_complete id rule r)
+id_meets u rule (inl r) = all_contains (MeetsRule (λ p. u)) (own_rules 1 id.places) rule (refl, tt) (own_complete id rule r)
 id_meets u rule (inr r) = absurd (none_some r.callee r.called)
 
 id_open : (p k : ℕ) → at_one id_types p ≡ Some (ty.Open k) → (k ≡ 1) × ((a : Typing) → IsTyping (IsRule [] [] id) a → a p ≡ a 1)
@@ -135,7 +135,7 @@ m_call = inr record {
 }
 
 -- a : bool
-m_bool : Says (IsRule (id ∷ []) (id_types ∷ []) m) 1 Bool
+m_bool : SaysType (IsRule (id ∷ []) (id_types ∷ []) m) 1 Bool
 unfolding m
 m_bool a h =
     h (Alike 1 4) m_call

@@ -22,7 +22,7 @@ use Rattle.lucy_types.specs.declared.rule.Rule.TheVariants.{Is, Alike}
 use Rattle.lucy_types.specs.declared.signature.Signature.{Signature}
 use Rattle.lucy_types.specs.Rules.{all_are, op_rules, kind_rules, written_rules, place_rules, IsPlaceRule, Joins, Carries, IsRule}
 use Rattle.lucy_types.specs.Typing.{Typing, IsTyping}
-use Rattle.lucy_types.specs.Graphs.{Fits}
+use Rattle.lucy_types.specs.Graphs.{IsRuleBelow}
 use Rattle.lucy_types.specs.Gathered.{HasArity, HaveArities, own_rules}
 use Rattle.lucy_types.specs.Ports.{counted, joined_rules, AreHeads}
 use Rattle.lucy_types.specs.Nodes.{tables_of, IsSignature, AreSignatures, StandFor}
@@ -56,7 +56,7 @@ proper_arities above n h = arities_of n.places (λ i entry e. kind_arity n (suc 
 place_fits : (n : PlacedNode) (p : ℕ) → IsPlace n p → (1 ≤ p) × (p < length n.places + 1)
 place_fits n p h = let l : p ≤ length n.places = h.1 in (h.0, omega arith)
 
-places_fit : (n : PlacedNode) (t : DataType) (ps : List ℕ) → ArePlaces n ps → AllByRecursion (Fits (length n.places + 1)) (all_are t ps)
+places_fit : (n : PlacedNode) (t : DataType) (ps : List ℕ) → ArePlaces n ps → AllByRecursion (IsRuleBelow (length n.places + 1)) (all_are t ps)
 places_fit n t [] h = tt
 places_fit n t (p ∷ ps) h = (place_fits n p h.0, places_fit n t ps h.1)
 
@@ -68,20 +68,20 @@ arg_place n (p ∷ ps) (suc i) h l = arg_place n ps i h.1 (omega arith)
 arg_fits : (n : PlacedNode) (ps : List ℕ) (i : ℕ) → ArePlaces n ps → i < length ps → (1 ≤ slice_index ps i) × (slice_index ps i < length n.places + 1)
 arg_fits n ps i h l = place_fits n (slice_index ps i) (arg_place n ps i h l)
 
-uniform_fit : (n : PlacedNode) (t u : DataType) (p : ℕ) (args : List ℕ) → IsPlace n p → ArePlaces n args → AllByRecursion (Fits (length n.places + 1)) (all_are t args ++ Is p u ∷ [])
-uniform_fit n t u p args h a = all_both (Fits (length n.places + 1)) (all_are t args) (Is p u ∷ []) (places_fit n t args a) (place_fits n p h, tt)
+uniform_fit : (n : PlacedNode) (t u : DataType) (p : ℕ) (args : List ℕ) → IsPlace n p → ArePlaces n args → AllByRecursion (IsRuleBelow (length n.places + 1)) (all_are t args ++ Is p u ∷ [])
+uniform_fit n t u p args h a = all_both (IsRuleBelow (length n.places + 1)) (all_are t args) (Is p u ∷ []) (places_fit n t args a) (place_fits n p h, tt)
 
-equal_fit : (n : PlacedNode) (p : ℕ) (args : List ℕ) → IsPlace n p → length args ≡ 2 → ArePlaces n args → AllByRecursion (Fits (length n.places + 1)) (op_rules op.Eq p args)
+equal_fit : (n : PlacedNode) (p : ℕ) (args : List ℕ) → IsPlace n p → length args ≡ 2 → ArePlaces n args → AllByRecursion (IsRuleBelow (length n.places + 1)) (op_rules op.Eq p args)
 equal_fit n p args h l a = ((arg_fits n args 0 a (omega arith), arg_fits n args 1 a (omega arith)), (place_fits n p h, tt))
 
-choice_fit : (n : PlacedNode) (p : ℕ) (args : List ℕ) → IsPlace n p → length args ≡ 3 → ArePlaces n args → AllByRecursion (Fits (length n.places + 1)) (op_rules op.If p args)
+choice_fit : (n : PlacedNode) (p : ℕ) (args : List ℕ) → IsPlace n p → length args ≡ 3 → ArePlaces n args → AllByRecursion (IsRuleBelow (length n.places + 1)) (op_rules op.If p args)
 choice_fit n p args h l a =
     let one = arg_fits n args 1 a (omega arith) in
     let two = arg_fits n args 2 a (omega arith) in
     let own = place_fits n p h in
     (arg_fits n args 0 a (omega arith), ((one, two), ((own, one), ((own, two), tt))))
 
-op_fit : (n : PlacedNode) (o : Op) (p : ℕ) (args : List ℕ) → IsPlace n p → length args ≡ arity o → ArePlaces n args → AllByRecursion (Fits (length n.places + 1)) (op_rules o p args)
+op_fit : (n : PlacedNode) (o : Op) (p : ℕ) (args : List ℕ) → IsPlace n p → length args ≡ arity o → ArePlaces n args → AllByRecursion (IsRuleBelow (length n.places + 1)) (op_rules o p args)
 op_fit n op.Add p args h l a = uniform_fit n Int Int p args h a
 op_fit n op.Sub p args h l a = uniform_fit n Int Int p args h a
 op_fit n op.Mul p args h l a = uniform_fit n Int Int p args h a
@@ -98,7 +98,7 @@ op_fit n op.Or p args h l a = uniform_fit n Bool Bool p args h a
 op_fit n op.Not p args h l a = uniform_fit n Bool Bool p args h a
 op_fit n op.If p args h l a = choice_fit n p args h l a
 
-kind_fit : (n : PlacedNode) (p : ℕ) (kind : PlaceKind) → IsPlace n p → IsProperKind n p kind → AllByRecursion (Fits (length n.places + 1)) (kind_rules p kind)
+kind_fit : (n : PlacedNode) (p : ℕ) (kind : PlaceKind) → IsPlace n p → IsProperKind n p kind → AllByRecursion (IsRuleBelow (length n.places + 1)) (kind_rules p kind)
 kind_fit n p Param h k = tt
 kind_fit n p (Defined e) h k = ((place_fits n p h, place_fits n e k.1), tt)
 kind_fit n p (Lit l) h k = (place_fits n p h, tt)
@@ -110,7 +110,7 @@ kind_fit n p (Fby l e) h k = ((place_fits n p h, place_fits n e k.1), (place_fit
 kind_fit n p (Buffer b e) h k = ((place_fits n p h, place_fits n e k.2), tt)
 kind_fit n p (Result call j) h k = tt
 
-written_fit : (n : PlacedNode) (p : ℕ) (holds : Option DataType) → IsPlace n p → AllByRecursion (Fits (length n.places + 1)) (written_rules p holds)
+written_fit : (n : PlacedNode) (p : ℕ) (holds : Option DataType) → IsPlace n p → AllByRecursion (IsRuleBelow (length n.places + 1)) (written_rules p holds)
 written_fit n p None h = tt
 written_fit n p (Some t) h = (place_fits n p h, tt)
 
@@ -123,15 +123,15 @@ joins_place above callee n call site h a (suc i) outer (inl e) =
 joins_place above callee n call site h a inner outer (inr j) = at_one_within n.places outer j.2.0 j.2.1
 
 carries_fit : (n : PlacedNode) (tys : List Ty) (Joined : ℕ → ℕ → Type 0) → ((inner outer : ℕ) → Joined inner outer → IsPlace n outer) → (rule : Rule) → Carries tys Joined rule
-    → Fits (length n.places + 1) rule
+    → IsRuleBelow (length n.places + 1) rule
 carries_fit n tys Joined h (Is p t) c = place_fits n p (h c.0 p c.1)
 carries_fit n tys Joined h (Alike p q) c = (place_fits n p (h c.0 p c.3), place_fits n q (h c.1 q c.4))
 
-pub rule_fits : (above : List PlacedNode) (known : List (List Ty)) (n : PlacedNode) → IsProperNode above n → (rule : Rule) → IsRule above known n rule → Fits (length n.places + 1) rule
+pub rule_fits : (above : List PlacedNode) (known : List (List Ty)) (n : PlacedNode) → IsProperNode above n → (rule : Rule) → IsRule above known n rule → IsRuleBelow (length n.places + 1) rule
 rule_fits above known n h rule (inl r) =
     let p = at_one_within n.places r.place r.entry r.stands in
-    all_contains (Fits (length n.places + 1)) (place_rules r.place r.entry) rule
-    (all_both (Fits (length n.places + 1)) (written_rules r.place r.entry.holds) (kind_rules r.place r.entry.kind)
+    all_contains (IsRuleBelow (length n.places + 1)) (place_rules r.place r.entry) rule
+    (all_both (IsRuleBelow (length n.places + 1)) (written_rules r.place r.entry.holds) (kind_rules r.place r.entry.kind)
     (written_fit n r.place r.entry.holds p) (kind_fit n r.place r.entry.kind p (h.kinds r.place r.entry r.stands)))
     r.says
 rule_fits above known n h rule (inr r) =

@@ -14,7 +14,7 @@ use Rattle.lucy_types.specs.declared.flood.Flood.{Flood}
 use Rattle.lucy_types.specs.declared.flood.Reached.{Reached}
 use Rattle.lucy_types.specs.declared.rule.Rule.{Rule}
 use Rattle.lucy_types.specs.declared.rule.Rule.TheVariants.{Is, Alike}
-use Rattle.lucy_types.specs.Typing.{Typing, IsTyping, Says, Agree, AreTypes, as_ty}
+use Rattle.lucy_types.specs.Typing.{Typing, IsTyping, SaysType, AgreeOnType, AreTypes, as_ty}
 use Rattle.lucy_types.specs.Clash.{Touch, IsClashPath}
 use Rattle.lucy_types.specs.Graphs.{HasTrue, GraphRule, IsDrawn, IsGraph}
 use Rattle.lucy_types.specs.Flooding.{mark, reached, marked, MayBegin, IsFixed, IsFlood, IsSettled, IsReached, IsTorn, HaveOrder, FloodsForced, FloodsAll}
@@ -59,7 +59,7 @@ record HasRoot (g : Graph) (f : Flood) (p : ℕ) (t : Ty) : Type 0 where
   first : root.from ≡ number
   begins : MayBegin g root.place t
   typed : mark f root.place ≡ Some t
-  agree : Agree (GraphRule g) root.place p
+  agree : AgreeOnType (GraphRule g) root.place p
 
 root_below : (g : Graph) (f : Flood) → IsFlood g f → (m i : ℕ) → i < m → (r : Reached) (t : Ty) → reached f i ≡ Some r → mark f r.place ≡ Some t → HasRoot g f r.place t
 root_below g f h zero i l r t e m = absurd (omega arith)
@@ -85,13 +85,13 @@ root_of g f h p t m =
     let w = h.queued p t m in
     subst (λ z. HasRoot g f z t) w.3 (root_below g f h (suc w.0) w.0 (omega arith) w.1 t w.2 (ap (mark f) w.3 ∙ m))
 
-says_int : (g : Graph) (f : Flood) → IsFlood g f → (p : ℕ) → mark f p ≡ Some ty.Int → Says (GraphRule g) p Int
+says_int : (g : Graph) (f : Flood) → IsFlood g f → (p : ℕ) → mark f p ≡ Some ty.Int → SaysType (GraphRule g) p Int
 says_int g f h p m a w = let r = root_of g f h p ty.Int m in sym (r.agree a w) ∙ w (Is r.root.place Int) r.begins
 
-says_bool : (g : Graph) (f : Flood) → IsFlood g f → (p : ℕ) → mark f p ≡ Some ty.Bool → Says (GraphRule g) p Bool
+says_bool : (g : Graph) (f : Flood) → IsFlood g f → (p : ℕ) → mark f p ≡ Some ty.Bool → SaysType (GraphRule g) p Bool
 says_bool g f h p m a w = let r = root_of g f h p ty.Bool m in sym (r.agree a w) ∙ w (Is r.root.place Bool) r.begins
 
-class_agrees : (g : Graph) (f : Flood) → IsFlood g f → (p q k : ℕ) → mark f p ≡ Some (ty.Open k) → mark f q ≡ Some (ty.Open k) → Agree (GraphRule g) p q
+class_agrees : (g : Graph) (f : Flood) → IsFlood g f → (p q k : ℕ) → mark f p ≡ Some (ty.Open k) → mark f q ≡ Some (ty.Open k) → AgreeOnType (GraphRule g) p q
 class_agrees g f h p q k m n a w =
     let r = root_of g f h p (ty.Open k) m in
     let s = root_of g f h q (ty.Open k) n in
@@ -116,13 +116,13 @@ one_other zero (suc l) e = absurd (int_no_bool (sym e))
 one_other (suc k) zero e = absurd (int_no_bool (sym e))
 one_other (suc k) (suc l) e = ap suc (one_other k l e)
 
-agree_class : (g : Graph) (f : Flood) → IsSolved g f → (p q k l : ℕ) → mark f p ≡ Some (ty.Open k) → mark f q ≡ Some (ty.Open l) → Agree (GraphRule g) p q → k ≡ l
+agree_class : (g : Graph) (f : Flood) → IsSolved g f → (p q k l : ℕ) → mark f p ≡ Some (ty.Open k) → mark f q ≡ Some (ty.Open l) → AgreeOnType (GraphRule g) p q → k ≡ l
 agree_class g f s p q k l m n a =
     let v : ℕ → DataType = one_int k in
     let e : value_of v (mark f p) ≡ value_of v (mark f q) = a (λ z. value_of v (mark f z)) (meets g f s v) in
     one_other k l (sym (ap (value_of v) n) ∙ sym e ∙ ap (value_of v) m ∙ one_itself k)
 
-says_told : (g : Graph) (f : Flood) → IsFlood g f → (p : ℕ) (t : DataType) → mark f p ≡ Some (as_ty t) → Says (GraphRule g) p t
+says_told : (g : Graph) (f : Flood) → IsFlood g f → (p : ℕ) (t : DataType) → mark f p ≡ Some (as_ty t) → SaysType (GraphRule g) p t
 says_told g f s p Int h = says_int g f s p h
 says_told g f s p Bool h = says_bool g f s p h
 

@@ -27,13 +27,13 @@ abbrev pub room : Graph → ℕ
 room g = length g.near.items
 
 -- the places of a rule count from 1, and stand below the number
-abbrev pub Fits : ℕ → Rule → Type 0
-Fits most (Is p t) = (1 ≤ p) × (p < most)
-Fits most (Alike p q) = ((1 ≤ p) × (p < most)) × ((1 ≤ q) × (q < most))
+abbrev pub IsRuleBelow : ℕ → Rule → Type 0
+IsRuleBelow most (Is p t) = (1 ≤ p) × (p < most)
+IsRuleBelow most (Alike p q) = ((1 ≤ p) × (p < most)) × ((1 ≤ q) × (q < most))
 
 -- each of the rules fits
 abbrev pub AllFit : ℕ → List Rule → Type 0
-AllFit most rules = (rule : Rule) → Contains rules rule → Fits most rule
+AllFit most rules = (rule : Rule) → Contains rules rule → IsRuleBelow most rule
 
 -- the graph has as much room for each of its lists
 abbrev pub IsEven : Graph → Type 0
@@ -55,14 +55,14 @@ abbrev pub joined : List (List ℕ) → ℕ → ℕ → List (List ℕ)
 joined near p q = added (added near p q) q p
 
 -- the graph says one rule more
-abbrev pub Draws : Rule → Graph → Graph → Type 0
-Draws (Is p Int) old new = (new.ints.items ≡ slice_set old.ints.items p true) × (new.bools.items ≡ old.bools.items) × (new.near.items ≡ old.near.items)
-Draws (Is p Bool) old new = (new.ints.items ≡ old.ints.items) × (new.bools.items ≡ slice_set old.bools.items p true) × (new.near.items ≡ old.near.items)
-Draws (Alike p q) old new = (new.ints.items ≡ old.ints.items) × (new.bools.items ≡ old.bools.items) × (new.near.items ≡ joined old.near.items p q)
+abbrev pub DrawsRule : Rule → Graph → Graph → Type 0
+DrawsRule (Is p Int) old new = (new.ints.items ≡ slice_set old.ints.items p true) × (new.bools.items ≡ old.bools.items) × (new.near.items ≡ old.near.items)
+DrawsRule (Is p Bool) old new = (new.ints.items ≡ old.ints.items) × (new.bools.items ≡ slice_set old.bools.items p true) × (new.near.items ≡ old.near.items)
+DrawsRule (Alike p q) old new = (new.ints.items ≡ old.ints.items) × (new.bools.items ≡ old.bools.items) × (new.near.items ≡ joined old.near.items p q)
 
 -- what a flood needs of a graph
 pub record IsGraph (g : Graph) : Type 0 where
   pub ints : length g.ints.items ≡ length g.near.items
   pub bools : length g.bools.items ≡ length g.near.items
-  pub fits : (rule : Rule) → GraphRule g rule → Fits (length g.near.items) rule
+  pub fits : (rule : Rule) → GraphRule g rule → IsRuleBelow (length g.near.items) rule
   pub turned : (p q : ℕ) → GraphRule g (Alike p q) → GraphRule g (Alike q p)

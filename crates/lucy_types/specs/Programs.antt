@@ -29,9 +29,9 @@ pub record IsClash (nodes : List PlacedNode) (node : ℕ) (path : List ℕ) : Ty
   pub clashes : IsClashPath (IsRule (take node nodes) known n) path
 
 -- what a refusal says of the nodes
-abbrev pub Refuses : List PlacedNode → TypeError → Type 0
-Refuses nodes (Clash node path) = IsClash nodes node path.items
-Refuses nodes OutOfMemory = Unit {0}
+abbrev pub RefusesTypes : List PlacedNode → TypeError → Type 0
+RefusesTypes nodes (Clash node path) = IsClash nodes node path.items
+RefusesTypes nodes OutOfMemory = Unit {0}
 
 -- the answer is these types, unless memory ran out
 abbrev pub AnswersTypes : List (List Ty) → Result (List (List Ty)) TypeError → Type 0

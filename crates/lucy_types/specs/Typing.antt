@@ -18,25 +18,25 @@ as_ty Int = ty.Int
 as_ty Bool = ty.Bool
 
 -- a typing meets a rule: the place is of the type, or the two places are of one type
-abbrev pub Meets : Typing → Rule → Type 0
-Meets a (Is p t) = a p ≡ t
-Meets a (Alike p q) = a p ≡ a q
+abbrev pub MeetsRule : Typing → Rule → Type 0
+MeetsRule a (Is p t) = a p ≡ t
+MeetsRule a (Alike p q) = a p ≡ a q
 
 -- a typing that meets each of the rules
 abbrev pub IsTyping : (Rule → Type 0) → Typing → Type 0
-IsTyping Rules a = (rule : Rule) → Rules rule → Meets a rule
+IsTyping Rules a = (rule : Rule) → Rules rule → MeetsRule a rule
 
 -- every typing says that the place is of the type
-abbrev pub Says : (Rule → Type 0) → ℕ → DataType → Type 0
-Says Rules p t = (a : Typing) → IsTyping Rules a → a p ≡ t
+abbrev pub SaysType : (Rule → Type 0) → ℕ → DataType → Type 0
+SaysType Rules p t = (a : Typing) → IsTyping Rules a → a p ≡ t
 
 -- some typing says so
 abbrev pub Allows : (Rule → Type 0) → ℕ → DataType → Type 0
 Allows Rules p t = (a : Typing) × IsTyping Rules a × (a p ≡ t)
 
 -- every typing gives the two places one type
-abbrev pub Agree : (Rule → Type 0) → ℕ → ℕ → Type 0
-Agree Rules p q = (a : Typing) → IsTyping Rules a → a p ≡ a q
+abbrev pub AgreeOnType : (Rule → Type 0) → ℕ → ℕ → Type 0
+AgreeOnType Rules p q = (a : Typing) → IsTyping Rules a → a p ≡ a q
 
 -- open classes count from 1, and before the first place of each but the first stands one of the class before it
 pub record AreNumbered (tys : List Ty) : Type 0 where
@@ -49,7 +49,7 @@ pub record AreTypes (Rules : Rule → Type 0) (places : ℕ) (tys : List Ty) : T
   pub typing : Typing
   pub meets : IsTyping Rules typing
   pub all : length tys ≡ places
-  pub told : (p : ℕ) (t : DataType) → at_one tys p ≡ Some (as_ty t) → Says Rules p t
+  pub told : (p : ℕ) (t : DataType) → at_one tys p ≡ Some (as_ty t) → SaysType Rules p t
   pub untold : (p k : ℕ) (t : DataType) → at_one tys p ≡ Some (ty.Open k) → Allows Rules p t
-  pub classes : (p q k l : ℕ) → at_one tys p ≡ Some (ty.Open k) → at_one tys q ≡ Some (ty.Open l) → (k ≡ l) ↔ Agree Rules p q
+  pub classes : (p q k l : ℕ) → at_one tys p ≡ Some (ty.Open k) → at_one tys q ≡ Some (ty.Open l) → (k ≡ l) ↔ AgreeOnType Rules p q
   pub numbered : AreNumbered tys

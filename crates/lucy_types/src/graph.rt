@@ -1,6 +1,6 @@
 // The places of a node, joined by its rules.
 ghost use Rattle.std.specs.Prelude.{◌≡◌, ◌+◌, ◌<◌, ◌^◌, ◌∷◌, ◌++◌, [], length, replicate, false, IfOk, OnOk};
-ghost use Rattle.lucy_types.specs.Graphs.{AllFit, Draws, Fits, IsDrawn, IsEven, IsGraph, joined, room};
+ghost use Rattle.lucy_types.specs.Graphs.{AllFit, DrawsRule, IsRuleBelow, IsDrawn, IsEven, IsGraph, joined, room};
 
 use crate::rule::Rule;
 use lucy_host::DataType;
@@ -82,8 +82,8 @@ fn join(near: &mut [Near], place: u32, other: u32) -> Result<(), AllocError>
 // Draws a rule.
 fn draw(graph: &mut Graph, rule: Rule) -> Result<(), AllocError>
     requires even { IsEven graph.old }
-    requires fits { Fits (room graph.old) rule }
-    ensures { OnOk result (Draws rule graph.old graph.new) }
+    requires fits { IsRuleBelow (room graph.old) rule }
+    ensures { OnOk result (DrawsRule rule graph.old graph.new) }
 {
     match rule {
         Rule::Is(place, DataType::Int) => graph.ints[place as usize] = true,

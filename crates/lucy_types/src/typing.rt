@@ -4,7 +4,7 @@ ghost use Rattle.lucy_place.specs.declared.placed.PlacedNode.{PlacedNode as Node
 ghost use Rattle.lucy_types.specs.declared.error.TypeError.TheVariants as error;
 ghost use Rattle.lucy_types.specs.Rules.{IsRule};
 ghost use Rattle.lucy_types.specs.Nodes.{AreSignatures, Solves, tables_of};
-ghost use Rattle.lucy_types.specs.Programs.{IsTyped, HaveTypings, IsClash, Refuses, AnswersTypes, AnswersClash};
+ghost use Rattle.lucy_types.specs.Programs.{IsTyped, HaveTypings, IsClash, RefusesTypes, AnswersTypes, AnswersClash};
 
 use crate::error::TypeError;
 use crate::rules::node_rules;
@@ -39,7 +39,7 @@ fn node_types(
 // The types of a program's places, or the first node whose rules no typing meets.
 fn found(alloc: Global, placed: &Placed) -> Result<Typed, TypeError>
     ensures ok { IfOk result (λ typed. IsTyped placed.now.nodes typed) }
-    ensures refused { IfErr result (λ e. Refuses placed.now.nodes e) }
+    ensures refused { IfErr result (λ e. RefusesTypes placed.now.nodes e) }
 {
     let mut nodes = Vec::new(alloc);
     'each: for node in 0..placed.nodes() {
@@ -61,7 +61,7 @@ fn found(alloc: Global, placed: &Placed) -> Result<Typed, TypeError>
 /// anew.
 pub fn types(alloc: Global, placed: &Placed) -> Result<Typed, TypeError>
     ensures ok { IfOk result (λ typed. IsTyped placed.now.nodes typed) }
-    ensures refused { IfErr result (λ e. Refuses placed.now.nodes e) }
+    ensures refused { IfErr result (λ e. RefusesTypes placed.now.nodes e) }
     ensures well_typed { IsOk result → HaveTypings placed.now.nodes }
     ensures typable { HaveTypings placed.now.nodes → (result ≡ Err error.OutOfMemory) ⊎ IsOk result }
     ensures accepted { (tables : List (List Ty)) → IsTyped placed.now.nodes tables → AnswersTypes tables result }

@@ -3,7 +3,7 @@ use Rattle.std.specs.Prelude.{IfErr}
 use Rattle.std.specs.List.{AllByRecursion}
 use Rattle.std.proofs.lemmas.Option.{slice_get_read}
 use Rattle.lucy_need.specs.Meeting.{assigned, MeetsAll, IsWithin}
-use Rattle.lucy_check.specs.Passing.{OrNoMemory, IsFirstRefusal, Refuses, PassesAll, AllWithinLimits, IsBeyond}
+use Rattle.lucy_check.specs.Passing.{OrNoMemory, IsFirstRefusal, RefusesNeed, PassesAll, AllWithinLimits, IsBeyond}
 use Rattle.lucy_check.proofs.CheckLaws.{leaves, leaves_match, so_far_none, so_far_more, so_far_all, first_refusal, unmet, passes_all, all_within, all_at}
 use Rattle.lucy_check.proofs.OneAnswer.{all_one, all_not, all_held, refusal_one}
 use Rattle.lucy_check.proofs.checking.check.Goals as goal
@@ -26,7 +26,7 @@ check_need-requires-clause-within c =
 pub returns-in_err-size-clause-refused : goal.returns-in_err-size-clause-refused
 returns-in_err-size-clause-refused c =
     subst (λ l. IfErr c.from_residual.result (OrNoMemory (IsFirstRefusal (assigned c.args.words.now) l))) c.list-list.ensures
-    (leaves (OrNoMemory (Refuses (assigned c.args.words.now) c.each.i c.index-list-i.result)) (OrNoMemory (IsFirstRefusal (assigned c.args.words.now) c.list-list.result.now)) _
+    (leaves (OrNoMemory (RefusesNeed (assigned c.args.words.now) c.each.i c.index-list-i.result)) (OrNoMemory (IsFirstRefusal (assigned c.args.words.now) c.list-list.result.now)) _
     c.from_residual.result c.from_residual.ensures.1 c.in_err-size.ensures.refused
     (λ y r. first_refusal (assigned c.args.words.now) c.list-list.result.now c.each.i c.each.sizes.items c.index-list-i.result y c.each.invariant.0 c.each-test.true c.index-list-i.is r))
 
@@ -34,7 +34,7 @@ pub returns-in_err-size-clause-accepted : goal.returns-in_err-size-clause-accept
 returns-in_err-size-clause-accepted c = λ met within.
     let met_list : MeetsAll (assigned c.args.words.now) c.list-list.result.now = subst (MeetsAll (assigned c.args.words.now)) (sym c.list-list.ensures) met in
     let within_list : AllWithinLimits (assigned c.args.words.now) c.list-list.result.now = subst (AllWithinLimits (assigned c.args.words.now)) (sym c.list-list.ensures) within in
-    leaves (OrNoMemory (Refuses (assigned c.args.words.now) c.each.i c.index-list-i.result)) _ _
+    leaves (OrNoMemory (RefusesNeed (assigned c.args.words.now) c.each.i c.index-list-i.result)) _ _
     c.from_residual.result c.from_residual.ensures.1 c.in_err-size.ensures.refused
     (λ y r. elim (first_refusal (assigned c.args.words.now) c.list-list.result.now c.each.i c.each.sizes.items c.index-list-i.result y c.each.invariant.0 c.each-test.true c.index-list-i.is r) [
       | inl none ↦ none
@@ -50,7 +50,7 @@ returns-clause-within c =
 pub returns-in_err-size-clause-unmet : goal.returns-in_err-size-clause-unmet
 returns-in_err-size-clause-unmet c = λ met.
     let met_list : MeetsAll (assigned c.args.words.now) c.list-list.result.now = subst (MeetsAll (assigned c.args.words.now)) (sym c.list-list.ensures) met in
-    leaves (OrNoMemory (Refuses (assigned c.args.words.now) c.each.i c.index-list-i.result)) IsBeyond _
+    leaves (OrNoMemory (RefusesNeed (assigned c.args.words.now) c.each.i c.index-list-i.result)) IsBeyond _
     c.from_residual.result c.from_residual.ensures.1 c.in_err-size.ensures.refused
     (λ y r.
     unmet (assigned c.args.words.now) c.list-list.result.now y
@@ -70,7 +70,7 @@ returns-clause-met c =
 pub returns-in_err-size-clause-passed : goal.returns-in_err-size-clause-passed
 returns-in_err-size-clause-passed c = λ sizes p.
     let all : PassesAll (assigned c.args.words.now) c.list-list.result.now sizes = subst (λ l. PassesAll (assigned c.args.words.now) l sizes) (sym c.list-list.ensures) p in
-    leaves_match _ (OrNoMemory (Refuses (assigned c.args.words.now) c.each.i c.index-list-i.result)) _ _
+    leaves_match _ (OrNoMemory (RefusesNeed (assigned c.args.words.now) c.each.i c.index-list-i.result)) _ _
     c.from_residual.result c.from_residual.ensures.1 c.in_err-size.ensures.refused
     (λ y r. elim (first_refusal (assigned c.args.words.now) c.list-list.result.now c.each.i c.each.sizes.items c.index-list-i.result y c.each.invariant.0 c.each-test.true c.index-list-i.is r) [
       | inl none ↦ none
@@ -80,7 +80,7 @@ returns-in_err-size-clause-passed c = λ sizes p.
 pub returns-in_err-size-clause-only : goal.returns-in_err-size-clause-only
 returns-in_err-size-clause-only c = λ e p.
     let one : IsFirstRefusal (assigned c.args.words.now) c.list-list.result.now e = subst (λ l. IsFirstRefusal (assigned c.args.words.now) l e) (sym c.list-list.ensures) p in
-    leaves_match _ (OrNoMemory (Refuses (assigned c.args.words.now) c.each.i c.index-list-i.result)) _ _
+    leaves_match _ (OrNoMemory (RefusesNeed (assigned c.args.words.now) c.each.i c.index-list-i.result)) _ _
     c.from_residual.result c.from_residual.ensures.1 c.in_err-size.ensures.refused
     (λ y r. elim (first_refusal (assigned c.args.words.now) c.list-list.result.now c.each.i c.each.sizes.items c.index-list-i.result y c.each.invariant.0 c.each-test.true c.index-list-i.is r) [
       | inl none ↦ inl none

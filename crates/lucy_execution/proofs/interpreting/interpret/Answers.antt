@@ -2,7 +2,7 @@ use Rattle.std.proofs.Common.{◌≡◌, ◌*◌, length, map, ap, sym, ◌∙�
 use Rattle.lucy_host.specs.Host.{lent}
 use Rattle.lucy_host.specs.Operators.{kinds_of}
 use Rattle.lucy_meaning.specs.Sizes.{all_places}
-use Rattle.lucy_kahn.specs.Turns.{IsPassed}
+use Rattle.lucy_kahn.specs.Turns.{IsLongUpto}
 use Rattle.lucy_execution.specs.Streams.{cut_to}
 use Rattle.lucy_execution.proofs.StreamLaws.{params_count, cut_count, lengths, interpreted_by}
 use Rattle.lucy_execution.proofs.OutputLaws.{few_places}
@@ -38,6 +38,6 @@ returns-clause-items g c = λ many.
     let schedule = c.requires.scheduled in
     let places : c.places_of.result ≡ all_places nodes = omega (arith, c.places_of.ensures, few_places nodes c.args.clocks.now schedule.net schedule.flat) in
     let front = c.in_ok-front.ensures ∙ ap (λ ws. cut_to c.args.instants ws c.args.inputs.now) c.param_words.ensures.words in
-    let passed = subst (λ n. IsPassed kinds c.in_ok-front.front nodes (c.args.instants * n)) (sym places) (subst (λ xs. IsPassed kinds xs nodes (c.args.instants * all_places nodes)) (sym front) many.passed) in
+    let passed = subst (λ n. IsLongUpto kinds c.in_ok-front.front nodes (c.args.instants * n)) (sym places) (subst (λ xs. IsLongUpto kinds xs nodes (c.args.instants * all_places nodes)) (sym front) many.passed) in
     let never : ⊥ = elim (c.in_ok-lists.ensures.passed passed) [ inl e ↦ cc | inr e ↦ cc ] in
     absurd never

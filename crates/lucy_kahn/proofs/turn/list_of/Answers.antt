@@ -4,7 +4,7 @@ use Rattle.lucy_host.specs.Host.{lent}
 use Rattle.lucy_host.specs.Operators.{kinds_of}
 use Rattle.lucy_meaning.specs.Spots.{at}
 use Rattle.lucy_meaning.proofs.Lists.{there}
-use Rattle.lucy_kahn.specs.Outcomes.{IsWhole, Overflows}
+use Rattle.lucy_kahn.specs.Outcomes.{IsWholeList, Overflows}
 use Rattle.lucy_kahn.proofs.TurnLaws.{kahn_next, stands_at, lists_from, count_of_iterate, count_of_lists, short_at, node_of, own_law, operands_there, applied_of, proper_kind}
 use Rattle.lucy_kahn.proofs.turn.list_of.Goals as goal
 
@@ -66,7 +66,7 @@ returns-in_default-clause-ok g c paths b =
     let k = proper_kind kinds it.inputs.now nodes list inner it.number it.lists.now paths b x.0.node nd.0 c.args.place c.args.kind.now nd.1 s in
     let e = own_law kinds it.inputs.now nodes list inner it.number it.lists.now paths b c.args.instance nd.0 c.lists_at-own.result.now c.args.place c.args.kind.now node lists k c.in_default.not-Param c.in_default.not-Result
     ∙ sym (kahn_next kinds it.inputs.now nodes it.number (at (paths c.args.instance) c.args.place) c.args.kind.now (stands_at nodes (paths c.args.instance) nd.0 c.args.place c.args.kind.now node s)) in
-    subst (λ xs. IfOk c.own_list.result (λ made. IsWhole xs made.items)) e c.own_list.ensures.ok
+    subst (λ xs. IfOk c.own_list.result (λ made. IsWholeList xs made.items)) e c.own_list.ensures.ok
 
 pub returns-in_default-clause-limit : goal.returns-in_default-clause-limit
 returns-in_default-clause-limit g c paths b =

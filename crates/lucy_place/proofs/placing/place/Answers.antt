@@ -6,7 +6,7 @@ use Rattle.lucy_place.specs.Texts.{is_in}
 use Rattle.lucy_place.specs.Faults.{faults}
 use Rattle.lucy_word.specs.Limits.{limit_number}
 use Rattle.lucy_word.specs.declared.limit.Limit.TheVariants as limit
-use Rattle.lucy_place.specs.Placing.{Tells}
+use Rattle.lucy_place.specs.Placing.{TellsFirst}
 use Rattle.lucy_place.proofs.ListLaws.{drop_next, take_next}
 use Rattle.lucy_place.proofs.VerdictLaws.{leaves, accepted_by, rejected_by, out_of}
 use Rattle.lucy_place.proofs.ProgramLaws.{NodesPlaced, placed_step, placed_length, placed_sound, told_at}
@@ -15,24 +15,24 @@ use Rattle.lucy_place.proofs.placing.place.Goals as goal
 
 pub returns-in_err-next_node-clause-refused : goal.returns-in_err-next_node-clause-refused
 returns-in_err-next_node-clause-refused c =
-    let told : Tells (faults c.args.ops.now (program_tree c.args.program.now)) c.in_err-next_node.field-0.0 =
-    subst (λ ns. Tells (faults c.args.ops.now (map node_tree ns)) c.in_err-next_node.field-0.0) c.list-nodes.ensures
+    let told : TellsFirst (faults c.args.ops.now (program_tree c.args.program.now)) c.in_err-next_node.field-0.0 =
+    subst (λ ns. TellsFirst (faults c.args.ops.now (map node_tree ns)) c.in_err-next_node.field-0.0) c.list-nodes.ensures
     (told_at c.args.ops.now c.list-nodes.result.now c.each.i c.index-nodes-i.result c.each.scope c.each.list.items c.each.spans.items c.in_err-next_node.field-0.0 (omega arith) c.index-nodes-i.is c.each.invariant
     c.in_err-next_node.ensures.refused) in
-    leaves (Tells (faults c.args.ops.now (program_tree c.args.program.now))) _ c.in_err-next_node.field-0.0 c.from_residual.result c.from_residual.ensures.1 told (λ y h. h)
+    leaves (TellsFirst (faults c.args.ops.now (program_tree c.args.program.now))) _ c.in_err-next_node.field-0.0 c.from_residual.result c.from_residual.ensures.1 told (λ y h. h)
 
 pub returns-in_err-next_node-clause-accepted : goal.returns-in_err-next_node-clause-accepted
 returns-in_err-next_node-clause-accepted c =
-    let told : Tells (faults c.args.ops.now (program_tree c.args.program.now)) c.in_err-next_node.field-0.0 =
-    subst (λ ns. Tells (faults c.args.ops.now (map node_tree ns)) c.in_err-next_node.field-0.0) c.list-nodes.ensures
+    let told : TellsFirst (faults c.args.ops.now (program_tree c.args.program.now)) c.in_err-next_node.field-0.0 =
+    subst (λ ns. TellsFirst (faults c.args.ops.now (map node_tree ns)) c.in_err-next_node.field-0.0) c.list-nodes.ensures
     (told_at c.args.ops.now c.list-nodes.result.now c.each.i c.index-nodes-i.result c.each.scope c.each.list.items c.each.spans.items c.in_err-next_node.field-0.0 (omega arith) c.index-nodes-i.is c.each.invariant
     c.in_err-next_node.ensures.refused) in
     accepted_by (faults c.args.ops.now (program_tree c.args.program.now)) c.from_residual.result c.in_err-next_node.field-0.0 (out_of c.from_residual.result _ c.from_residual.ensures.1) told
 
 pub returns-in_err-next_node-clause-rejected : goal.returns-in_err-next_node-clause-rejected
 returns-in_err-next_node-clause-rejected c =
-    let told : Tells (faults c.args.ops.now (program_tree c.args.program.now)) c.in_err-next_node.field-0.0 =
-    subst (λ ns. Tells (faults c.args.ops.now (map node_tree ns)) c.in_err-next_node.field-0.0) c.list-nodes.ensures
+    let told : TellsFirst (faults c.args.ops.now (program_tree c.args.program.now)) c.in_err-next_node.field-0.0 =
+    subst (λ ns. TellsFirst (faults c.args.ops.now (map node_tree ns)) c.in_err-next_node.field-0.0) c.list-nodes.ensures
     (told_at c.args.ops.now c.list-nodes.result.now c.each.i c.index-nodes-i.result c.each.scope c.each.list.items c.each.spans.items c.in_err-next_node.field-0.0 (omega arith) c.index-nodes-i.is c.each.invariant
     c.in_err-next_node.ensures.refused) in
     rejected_by (faults c.args.ops.now (program_tree c.args.program.now)) c.from_residual.result c.in_err-next_node.field-0.0 (out_of c.from_residual.result _ c.from_residual.ensures.1) told

@@ -5,7 +5,7 @@ use Rattle.std.proofs.lemmas.Result.{err_from_is_err_and}
 use Rattle.lucy_need.specs.Meeting.{IsWithin}
 use Rattle.lucy_need.specs.declared.need.Need.{Need}
 use Rattle.lucy_need.specs.declared.need.Term.{Term}
-use Rattle.lucy_rates.specs.Growing.{no_number, IsGrowing, IsStep}
+use Rattle.lucy_rates.specs.Growing.{no_number, IsGrowing, IsJoiningStep}
 use Rattle.lucy_rates.proofs.Growing.{IsAt, skip_at, step_at, fewer, one_fewer, growth_step, growth_done}
 use Rattle.lucy_rates.proofs.RatedTree.{rated_step, kept_step, deep_step}
 use Rattle.lucy_rates.proofs.Completing.{large_from}
@@ -13,12 +13,12 @@ use Rattle.lucy_rates.proofs.forest.grow_from.Goals as goal
 
 -- the step at the place, where the clocks are those of the beginning
 here : (n : ℕ) (needs : List Need) (root : ℕ) (tree : List ℕ) (at : ℕ) (roots : List ℕ) (need : Need) (s t : Term) → length roots ≡ n → All (IsWithin n) needs → IsGrowing needs (length roots) root tree at roots → at < length needs → (root ≡ no_number → ⊥) →
-    need ≡ get_or needs at need → IsStep roots need s t → IsAt needs (length roots) root tree at roots s t
+    need ≡ get_or needs at need → IsJoiningStep roots need s t → IsAt needs (length roots) root tree at roots s t
 here n needs root tree at roots need s t size within h l is_root is step =
     step_at needs (length roots) root tree at roots need s t h l is_root (subst (λ (x : ℕ). All (IsWithin x) needs) (sym size) within) is step
 
 skip : (n : ℕ) (needs : List Need) (root : ℕ) (tree : List ℕ) (at : ℕ) (roots : List ℕ) (need : Need) → length roots ≡ n → All (IsWithin n) needs → IsGrowing needs (length roots) root tree at roots → at < length needs → (root ≡ no_number → ⊥) →
-    need ≡ get_or needs at need → ((s t : Term) → IsStep roots need s t → ⊥) → IsGrowing needs (length roots) root tree (at + 1) roots
+    need ≡ get_or needs at need → ((s t : Term) → IsJoiningStep roots need s t → ⊥) → IsGrowing needs (length roots) root tree (at + 1) roots
 skip n needs root tree at roots need size within h l is_root is none =
     skip_at needs (length roots) root tree at roots need h l is_root (subst (λ (x : ℕ). All (IsWithin x) needs) (sym size) within) is none
 

@@ -4,7 +4,7 @@ use Rattle.std.proofs.lemmas.List.Elements.{Contains-get_or}
 use Rattle.lucy_host.specs.declared.data_type.DataType.TheVariants.{Int}
 use Rattle.lucy_types.specs.declared.rule.Rule.{Rule}
 use Rattle.lucy_types.specs.declared.rule.Rule.TheVariants.{Is}
-use Rattle.lucy_types.specs.Graphs.{IsDrawn, AllFit, Fits}
+use Rattle.lucy_types.specs.Graphs.{IsDrawn, AllFit, IsRuleBelow}
 use Rattle.lucy_types.proofs.GraphLaws.{drawn_more, drawn_graph, room_kept, even_kept}
 use Rattle.lucy_types.proofs.graph.graph_of.Goals as goal
 
@@ -13,7 +13,7 @@ each-preserved c =
     let rule : Rule = get_or c.args.rules.now c.each.rule-index (Is 0 Int) in
     let i = c.each.invariant in
     let draws = c.in_ok-draw.ensures in
-    let fits = subst (λ n. Fits n rule) (sym i.0) (c.requires.fit rule (Contains-get_or c.args.rules.now c.each.rule-index (Is 0 Int) c.each-test.true)) in (
+    let fits = subst (λ n. IsRuleBelow n rule) (sym i.0) (c.requires.fit rule (Contains-get_or c.args.rules.now c.each.rule-index (Is 0 Int) c.each-test.true)) in (
       room_kept rule c.each.graph c.draw.new.graph draws ∙ i.0,
       even_kept rule c.each.graph c.draw.new.graph i.1 draws,
       subst (λ rs. IsDrawn rs c.draw.new.graph) (sym (take_more c.args.rules.now c.each.rule-index (Is 0 Int) c.each-test.true))
