@@ -9,11 +9,11 @@ use Rattle.lucy_lines.specs.declared.input.InputSpec.{InputSpec}
 use Rattle.lucy_lines.specs.declared.reader.TextFault.{TextFault}
 use Rattle.lucy_text.specs.Sources.{ReadStop, Unread, Ended, Failed, Passed, Open, Drained}
 use Rattle.lucy_feed.specs.Feeding.{values_by_stream, is_closed, fault_of}
-use Rattle.lucy_execution.specs.Streams.{param_words, main_streams}
+use Rattle.lucy_results.specs.Streams.{param_words, main_streams}
 use Rattle.lucy_front.specs.declared.accepted.Accepted.{Accepted}
 use Rattle.lucy_run.specs.declared.ending.Ending.{Ending}
 use Rattle.lucy_run.specs.Feeds.{Feeds}
-use Rattle.lucy_run.specs.Owes.{most_instants, input_words, IsHorizonOf, EndsFor, IsFed}
+use Rattle.lucy_run.specs.Owes.{most_instants, input_words, IsHorizonOf, EndsFor, IsMainFed}
 use Rattle.lucy_run.proofs.OwesLaws.{OneHorizon, ends_once}
 use Rattle.lucy_make.specs.Text.{made_input}
 use Rattle.lucy_make.specs.Figures.{figures}
@@ -44,7 +44,7 @@ whole_feeds cut (input ∷ inputs) taken stop other lists others fault way w v p
 
 -- so has a run on the generated input, where all its bytes were taken
 made_one : OneCut → OneHorizon → (a : Accepted) (stop halt : ReadStop) (lists others : List (List ℤ)) (fault way : Option TextFault) (horizon last : ℕ) (end other : Ending) → IsTrue (is_closed stop) → IsTrue (is_closed halt) →
-    IsFed a None made_input stop lists fault horizon → IsFed a None made_input halt others way last → EndsFor (input_words a) None lists fault end → EndsFor (input_words a) None others way other →
+    IsMainFed a None made_input stop lists fault horizon → IsMainFed a None made_input halt others way last → EndsFor (input_words a) None lists fault end → EndsFor (input_words a) None others way other →
     (lists ≡ others) × (horizon ≡ last) × (end ≡ other)
 made_one cut horizons a stop halt lists others fault way horizon last end other whole all p q ends past =
     let words : List Bits = input_words a in

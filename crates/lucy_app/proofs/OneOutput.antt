@@ -15,7 +15,7 @@ use Rattle.lucy_front.specs.declared.accepted.Accepted.{Accepted}
 use Rattle.lucy_front.specs.declared.refusal.Refusal.{Refusal}
 use Rattle.lucy_front.specs.Accepting.{IsAccepted, RefusesSyntax, RefusesText}
 use Rattle.lucy_front.specs.Report.{report}
-use Rattle.lucy_run.specs.Feeds.{IsInput}
+use Rattle.lucy_run.specs.Feeds.{IsMainInput}
 use Rattle.lucy_run.specs.Owes.{most_instants, input_words, heading, lines_to, stream_lines, IsHorizonOf}
 use Rattle.lucy_run.specs.Laws.{IsFedWell}
 use Rattle.lucy_run.specs.Replays.{first_core, IsReplayText}
@@ -79,7 +79,7 @@ line_one None a b is also = absurd is
 line_one (Some bytes) a b is also = one_line bytes a b is.0 also.0
 
 -- an input that is told feeds main one list of lists
-input_one : OneCut → (inputs : List InputSpec) (left : Option (List ℕ)) (lists others : List (List ℤ)) → IsInput inputs left lists → IsInput inputs left others → lists ≡ others
+input_one : OneCut → (inputs : List InputSpec) (left : Option (List ℕ)) (lists others : List (List ℤ)) → IsMainInput inputs left lists → IsMainInput inputs left others → lists ≡ others
 input_one cut [] left lists others is also = is ∙ sym also
 input_one cut (input ∷ inputs) None lists others is also = absurd is
 input_one cut (input ∷ inputs) (Some bytes) lists others is also =
@@ -88,7 +88,7 @@ input_one cut (input ∷ inputs) (Some bytes) lists others is also =
 module _ (cut : OneCut) (horizons : OneHorizon) (kinds : List HostKind) (a b : Accepted) (same : AreSame a b) (given : Option ℕ) (left : Option (List ℕ)) (lists others : List (List ℤ)) (horizon last : ℕ)
     (fed : IsFedWell a given left lists horizon) (also : IsFedWell b given left others last) where
   lists_same : lists ≡ others
-  lists_same = input_one cut b.inputs.items left lists others (subst (λ ins. IsInput ins left lists) same.inputs fed.input) also.input
+  lists_same = input_one cut b.inputs.items left lists others (subst (λ ins. IsMainInput ins left lists) same.inputs fed.input) also.input
 
   horizon_same : horizon ≡ last
   horizon_same =

@@ -18,7 +18,7 @@ use Rattle.lucy_net.specs.declared.net.Net.{Net}
 use Rattle.lucy_cause.specs.Schedules.{Timetable}
 use Rattle.lucy_core.specs.Seen.{first_seen}
 use Rattle.lucy_word.specs.Bits.{Bits}
-use Rattle.lucy_execution.specs.Streams.{param_words}
+use Rattle.lucy_results.specs.Streams.{param_words}
 use Rattle.lucy_front.specs.declared.accepted.Accepted.{Accepted}
 use Rattle.lucy_front.specs.declared.options.Options.{Options}
 use Rattle.lucy_run.specs.declared.ending.Ending.{Ending}

@@ -10,7 +10,7 @@ use Rattle.lucy_text.specs.Sources.{ReadStop}
 use Rattle.lucy_meaning.specs.Horizons.{IsHorizon}
 use Rattle.lucy_place.specs.declared.placed.PlacedNode.{PlacedNode}
 use Rattle.lucy_clock.specs.declared.node_clock.NodeClock.{NodeClock}
-use Rattle.lucy_execution.specs.Streams.{param_words}
+use Rattle.lucy_results.specs.Streams.{param_words}
 use Rattle.lucy_front.specs.declared.accepted.Accepted.{Accepted}
 use Rattle.lucy_front.specs.Accepting.{IsAccepted}
 use Rattle.lucy_front.specs.Report.{report}
@@ -22,7 +22,7 @@ use Rattle.lucy_net.specs.declared.net.Net.{Net}
 use Rattle.lucy_trace.specs.Traces.{IsTraceText}
 use Rattle.lucy_run.specs.declared.ending.Ending.{Ending}
 use Rattle.lucy_run.specs.Feeds.{Feeds}
-use Rattle.lucy_run.specs.Owes.{most_instants, stream_lines, EndsFor, Interprets, IsFed, OwesRun, OwesKahn}
+use Rattle.lucy_run.specs.Owes.{most_instants, stream_lines, EndsFor, Interprets, IsMainFed, OwesRun, OwesKahn}
 use Rattle.lucy_run.specs.Tracing.{OwesTrace}
 use Rattle.lucy_run.specs.Laws.{OneRun, OneInterpretation, OneTrace}
 use Rattle.lucy_app.specs.Commands.{HasText}
@@ -63,7 +63,7 @@ module _ (kinds : List HostKind) (a b : Accepted) (same : AreSame a b) (instants
   pub moves : (P : List PlacedNode → List NodeClock → Type 0) → P a.placed.nodes a.clocks.items → P b.placed.nodes b.clocks.items
   moves P h = subst (λ cs. P b.placed.nodes cs) same.clocks (subst (λ ns. P ns a.clocks.items) same.nodes h)
 
-  pub fed_moves : (lists : List (List _)) (fault : Option _) (horizon : ℕ) → IsFed a instants taken stop lists fault horizon → IsFed b instants taken stop lists fault horizon
+  pub fed_moves : (lists : List (List _)) (fault : Option _) (horizon : ℕ) → IsMainFed a instants taken stop lists fault horizon → IsMainFed b instants taken stop lists fault horizon
   fed_moves lists fault horizon fed = record {
     feeds = subst (λ is. Feeds is taken stop lists fault) same.inputs fed.feeds;
     horizon_is = moves (λ ns cs. IsHorizon (param_words ns cs) lists (most_instants instants) horizon) fed.horizon_is;
@@ -160,7 +160,7 @@ module _ (law : OneTrace) (ops : List Operator) (o : Options) (instants : Option
   -- the net and the horizon of the run of what was fetched
   abbrev Runs : List (Result (List ℕ) ShelfError) → Net → (horizon : ℕ) → Type 0
   Runs fetched net horizon = HasText fetched (λ text. (a : Accepted) × IsAccepted ops o text a × (a.net ≡ net)
-      × (lists : List (List ℤ)) × (fault : Option TextFault) × IsFed a instants taken stop lists fault horizon)
+      × (lists : List (List ℤ)) × (fault : Option TextFault) × IsMainFed a instants taken stop lists fault horizon)
 
   -- what is owed of a text
   abbrev Owed : List ℕ → Answer → Type 0

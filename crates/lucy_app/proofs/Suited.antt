@@ -23,7 +23,7 @@ use Rattle.lucy_front.specs.declared.refusal.Refusal.{Refusal}
 use Rattle.lucy_front.specs.Accepting.{IsAccepted, RefusesSyntax, RefusesText}
 use Rattle.lucy_run.specs.declared.ending.Ending.{Ending}
 use Rattle.lucy_run.specs.declared.ending.Ending.TheVariants as ending
-use Rattle.lucy_run.specs.Feeds.{Feeds, IsInput}
+use Rattle.lucy_run.specs.Feeds.{Feeds, IsMainInput}
 use Rattle.lucy_run.specs.Owes.{most_instants, input_words, heading, lines_to, IsHorizonOf, EndsFor, OwesRun, OwesKahn}
 use Rattle.lucy_run.specs.Tracing.{OwesTrace}
 use Rattle.lucy_run.specs.Laws.{IsFedWell, CompleteRun, CompleteInterpretation, CompleteReplay, CompleteTrace}
@@ -202,7 +202,7 @@ module _ (before after : SeenShelf) (file : Wanted) (text : List ℕ) where
 
 -- the input that `make` generates is what it runs on
 made_fed : OneCut → (inputs : List InputSpec) (stop : ReadStop) (lists others : List (List ℤ)) (fault : Option TextFault) → (inputs ≡ [] → ⊥) → IsTrue (is_closed stop) →
-    IsInput inputs (Some made_input) lists → Feeds inputs made_input stop others fault → (others ≡ lists) × (fault ≡ None)
+    IsMainInput inputs (Some made_input) lists → Feeds inputs made_input stop others fault → (others ≡ lists) × (fault ≡ None)
 made_fed cut [] stop lists others fault some whole is fed = absurd (some refl)
 made_fed cut (input ∷ inputs) stop lists others fault some whole is fed = whole_feeds cut (input ∷ inputs) made_input stop Ended others lists fault None whole refl fed is
 

@@ -6,7 +6,7 @@ use Rattle.lucy_word.specs.declared.limit.Limit.TheVariants as limit
 use Rattle.lucy_host.specs.Operators.{kinds_of}
 use Rattle.lucy_text.specs.Outside.{Rose}
 use Rattle.lucy_net.specs.declared.net.Net.{Net}
-use Rattle.lucy_execution.specs.Running.{HasManyTurns, HasManyItems}
+use Rattle.lucy_results.specs.Running.{HasManyTurns, HasManyItems}
 use Rattle.lucy_front.specs.declared.accepted.Accepted.{Accepted}
 use Rattle.lucy_run.specs.Owes.{heading, lines_to}
 use Rattle.lucy_run.specs.Laws.{IsFedWell}

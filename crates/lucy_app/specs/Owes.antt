@@ -9,7 +9,7 @@ use Rattle.lucy_front.specs.declared.accepted.Accepted.{Accepted}
 use Rattle.lucy_front.specs.Accepting.{IsAccepted, RefusesSyntax, RefusesText}
 use Rattle.lucy_run.specs.declared.ending.Ending.{Ending}
 use Rattle.lucy_run.specs.Feeds.{CountsAs}
-use Rattle.lucy_run.specs.Owes.{IsFed, OwesRun, OwesKahn}
+use Rattle.lucy_run.specs.Owes.{IsMainFed, OwesRun, OwesKahn}
 use Rattle.lucy_run.specs.Tracing.{OwesTrace}
 use Rattle.lucy_make.specs.Text.{made_text}
 use Rattle.lucy_make.specs.Owes.{OwesSummary}
@@ -70,7 +70,7 @@ Owes (Trace words workers) given answer = OwesPlay OwesTrace words given answer
 abbrev pub HasRun : Given → ProgramWords → Net → (horizon : ℕ) → Type 0
 HasRun given words net horizon =
     HasText given.fetched (λ text. (a : Accepted) × IsAccepted given.operators (inferring_options words.scale words.lead) text a × (a.net ≡ net)
-    × (lists : List (List ℤ)) × (fault : Option TextFault) × IsFed a words.instants given.taken given.stop lists fault horizon)
+    × (lists : List (List ℤ)) × (fault : Option TextFault) × IsMainFed a words.instants given.taken given.stop lists fault horizon)
 
 -- what a command has met may count as this: as it is, or, where `run` gave up reading, as if the bytes taken were all
 abbrev pub MayCount : Command → (given counted : Given) → Type 0

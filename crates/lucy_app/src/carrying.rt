@@ -78,11 +78,11 @@ pub(crate) fn carry_out<
         }
         Command::Run(words) => {
             let fetched = fetch(alloc, shelf, words.file, Limit::Text);
-            running::run(rt, alloc, fetched, words, input, out, err, gate, host)
+            accepting::run(rt, alloc, fetched, words, input, out, err, gate, host)
         }
         Command::Kahn(words) => {
             let fetched = fetch(alloc, shelf, words.file, Limit::Text);
-            running::kahn(alloc, fetched, words, input, out, err, host)
+            accepting::kahn(alloc, fetched, words, input, out, err, host)
         }
         Command::Make(words) => making::make(rt, alloc, words, out, err, gate, host),
         Command::Tighten(words) => {

@@ -7,6 +7,7 @@
 //! what it leaves, and `Complete` when it is done.
 #![tactic(auto)]
 
+mod accepting;
 mod carrying;
 mod check;
 mod cut;
@@ -24,7 +25,6 @@ mod playing;
 mod refusal;
 mod replaying;
 mod report;
-mod running;
 mod show;
 mod tightening;
 mod top;

@@ -5,10 +5,10 @@ ghost use Rattle.lucy_command.specs.Commands as names;
 ghost use Rattle.lucy_command.specs.Named.{IsWithin};
 ghost use Rattle.lucy_app.specs.Outcomes.{EndsMake};
 
+use crate::accepting::accepted;
 use crate::options::inferring;
 use crate::output::{conclude, print, refuse};
 use crate::refusal::Refusal;
-use crate::running::accepted;
 use lucy_command::{MakeWords, block_or_default};
 use lucy_host::Host;
 use lucy_make::{made_text, summary};

@@ -15,10 +15,10 @@ ghost use Rattle.lucy_app.specs.World.{world};
 ghost use Rattle.lucy_app.specs.Outcomes.{bytes_of, EndsRunning, OfProgram};
 ghost use Rattle.lucy_app.specs.Engines.{whole_run, EndsPlayed, EndsPlaying};
 
+use crate::accepting::accepted;
 use crate::fetching::fetch;
 use crate::options::inferring;
 use crate::output::{conclude, refuse, tell};
-use crate::running::accepted;
 use lucy_command::{Command, RunWords, read};
 use lucy_host::Host;
 use lucy_run::{Engine, run_by};

@@ -6,9 +6,9 @@ ghost use Rattle.lucy_app.specs.Outcomes.{fetch_refusal, fetch_refusal_within, p
 ghost use Rattle.lucy_app.specs.declared.refusal.Refusal.TheVariants.{OutOfMemory};
 
 use crate::input_refusal::InputCause;
-use lucy_text::ReadError;
 use lucy_place::NameError;
 use lucy_syntax::SyntaxError;
+use lucy_text::ReadError;
 use lucy_text::ShelfError;
 use lucy_trace::TraceError;
 use lucy_word::{Limit, OutOfMemory};

@@ -11,12 +11,12 @@ ghost use Rattle.lucy_app.specs.World.{world};
 ghost use Rattle.lucy_app.specs.Ends.{EndsSo};
 ghost use Rattle.lucy_app.specs.Outcomes.{bytes_of, ReadsBehind, EndsLog};
 
+use crate::accepting::accepted;
 use crate::fetching::fetch;
 use crate::log::picks;
 use crate::options::inferring;
 use crate::output::{conclude, refuse};
 use crate::refusal::Refusal;
-use crate::running::accepted;
 use lucy_command::ReplayWords;
 use lucy_front::Accepted;
 use lucy_host::Host;

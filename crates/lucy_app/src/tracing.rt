@@ -9,9 +9,9 @@ ghost use Rattle.lucy_command.specs.Named.{trace_named, IsWithin};
 ghost use Rattle.lucy_app.specs.Commands.{inferring_options, TakesInput};
 ghost use Rattle.lucy_app.specs.Outcomes.{bytes_of, EndsRunning, OfProgram};
 
+use crate::accepting::accepted;
 use crate::options::inferring;
 use crate::output::{conclude, refuse};
-use crate::running::accepted;
 use lucy_command::TraceWords;
 use lucy_host::Host;
 use lucy_text::{ShelfError, Sink, Source};

@@ -13,8 +13,8 @@ use Rattle.lucy_net.specs.Plans.{net_system, done_by}
 use Rattle.lucy_net.specs.Proper.{numbers_where, IsProper}
 use Rattle.lucy_net.specs.Schedules.{IsOrder}
 use Rattle.lucy_net.specs.Instants.{slot, is_busy}
-use Rattle.lucy_cause.specs.Play.{done_in, IsPlayed, IsReady}
-use Rattle.lucy_cause.specs.Settling.{AreOver}
+use Rattle.lucy_cause.specs.Play.{done_in, IsPlayedSoFar, CanBeginInstant}
+use Rattle.lucy_cause.specs.Settling.{AreFiringsOver}
 use Rattle.lucy_net.proofs.WhereLaws.{times_yes, where_all, operand_of}
 use Rattle.lucy_net.proofs.NetLaws.{given_by_word, taken_by_word, ring_cases}
 use Rattle.lucy_net.proofs.SlotLaws.{done_more, slot_within}
@@ -41,8 +41,8 @@ pub held_ring : (net : Net) (r : ℕ) → r < length net.rings → (ring : RingS
 held_ring net r l = elim (ring_cases net r) [ inl x ↦ x | inr past ↦ absurd (omega arith) ]
 
 -- before an instant nothing is done in it
-pub played_none : (net : Net) (n : ℕ) (order steps held depth : List ℕ) → IsProper net → IsReady net n steps held depth → order ≡ [] → IsPlayed net n order steps held
-played_none net n order steps held depth is ready none = subst (λ (xs : List ℕ). IsPlayed net n xs steps held) (sym none) (record {
+pub played_none : (net : Net) (n : ℕ) (order steps held depth : List ℕ) → IsProper net → CanBeginInstant net n steps held depth → order ≡ [] → IsPlayedSoFar net n order steps held
+played_none net n order steps held depth is ready none = subst (λ (xs : List ℕ). IsPlayedSoFar net n xs steps held) (sym none) (record {
   actors = ready.actors;
   rings = ready.rings;
   run = tt;
@@ -66,22 +66,22 @@ busy_all net n firing P e all a l =
     let o : IsOperand firing at.0 a = at.1 in
     subst P o.is (All-get_or P firing at.0 0 o.there all)
 
-steps_full : (net : Net) (n : ℕ) (firing order steps held depth : List ℕ) → firing ≡ numbers_where (is_busy net n) (length net.actors) → IsPlayed net n order steps held → AreOver net n firing steps depth → (a : ℕ) → slice_index steps a ≡ length (slot net n a)
+steps_full : (net : Net) (n : ℕ) (firing order steps held depth : List ℕ) → firing ≡ numbers_where (is_busy net n) (length net.actors) → IsPlayedSoFar net n order steps held → AreFiringsOver net n firing steps depth → (a : ℕ) → slice_index steps a ≡ length (slot net n a)
 steps_full net n firing order steps held depth e played over a = elim (cases_lt 0 (length (slot net n a))) [
   | inl some ↦ busy_all net n firing (λ b. slice_index steps b ≡ length (slot net n b)) e over.done a some
   | inr none ↦ omega (arith, played.within a)
 ]
 
 -- then the events are an order of the instant
-pub ordered : (net : Net) (n : ℕ) (firing order steps held depth : List ℕ) → firing ≡ numbers_where (is_busy net n) (length net.actors) → IsPlayed net n order steps held → AreOver net n firing steps depth → IsOrder net n order
+pub ordered : (net : Net) (n : ℕ) (firing order steps held depth : List ℕ) → firing ≡ numbers_where (is_busy net n) (length net.actors) → IsPlayedSoFar net n order steps held → AreFiringsOver net n firing steps depth → IsOrder net n order
 ordered net n firing order steps held depth e played over = record {
   run = played.run;
   ends = λ a. omega (arith, played.steps_are a, steps_full net n firing order steps held depth e played over a, done_more net n a);
 }
 
 -- and the next one can begin
-pub ready_again : (net : Net) (n : ℕ) (firing order steps held depth new_steps : List ℕ) → IsProper net → firing ≡ numbers_where (is_busy net n) (length net.actors) → IsPlayed net n order steps held → AreOver net n firing steps depth →
-    length new_steps ≡ length steps → All (λ a. slice_index new_steps a ≡ 0) firing → ((a : ℕ) → slice_index steps a ≡ 0 → slice_index new_steps a ≡ 0) → IsReady net (n + 1) new_steps held depth
+pub ready_again : (net : Net) (n : ℕ) (firing order steps held depth new_steps : List ℕ) → IsProper net → firing ≡ numbers_where (is_busy net n) (length net.actors) → IsPlayedSoFar net n order steps held → AreFiringsOver net n firing steps depth →
+    length new_steps ≡ length steps → All (λ a. slice_index new_steps a ≡ 0) firing → ((a : ℕ) → slice_index steps a ≡ 0 → slice_index new_steps a ≡ 0) → CanBeginInstant net (n + 1) new_steps held depth
 ready_again net n firing order steps held depth new_steps is e played over len cleared kept =
     let order_is : IsOrder net n order = ordered net n firing order steps held depth e played over in
     let sys : System = net_system net (n + 1) in

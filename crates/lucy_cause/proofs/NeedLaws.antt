@@ -27,7 +27,7 @@ use Rattle.lucy_net.specs.Causal.{actor_place, net_places, items_by, IsOfInstant
 use Rattle.lucy_event.proofs.OperationLaws.{take_needed}
 use Rattle.lucy_cause.specs.declared.settle.Wait.{Wait}
 use Rattle.lucy_net.specs.Instants.{slot_of, slot, firing_of}
-use Rattle.lucy_cause.specs.Play.{done_in, IsPlayed}
+use Rattle.lucy_cause.specs.Play.{done_in, IsPlayedSoFar}
 use Rattle.lucy_cause.specs.Waiting.{IsHeldUp, actor_at, ring_at, IsKnot}
 use Rattle.lucy_cause.specs.Faults.{item_now}
 use Rattle.lucy_net.proofs.WhereLaws.{operand_of}
@@ -37,7 +37,7 @@ use Rattle.lucy_cause.proofs.PlayLaws.{waits_now, from_is, op_now}
 use Rattle.lucy_cause.proofs.InstantLaws.{held_ring}
 
 -- the gives of an actor, up to a place in its operations of the instant
-given_at : (net : Net) (n : ℕ) (order steps held : List ℕ) (b g : ℕ) → IsPlayed net n order steps held → giver net g ≡ b →
+given_at : (net : Net) (n : ℕ) (order steps held : List ℕ) (b g : ℕ) → IsPlayedSoFar net n order steps held → giver net g ≡ b →
     given (net_system net (n + 1)) (done_in net n order) g ≡ count_by (is_give g) ((net_system net n).ops b) + count_by (is_give g) (take (slice_index steps b) (slot net n b))
 unfolding done_by
 given_at net n order steps held b g played from =
@@ -90,7 +90,7 @@ record Words (net : Net) (n b r : ℕ) : Type 0 where
   pub same : ones_to ring.read (n + 1) ≡ ones_to ring.write (n + 1)
   pub more : ones_to ring.write (n + 1) ≡ ones_to ring.write n + 1
 
-words_here : (net : Net) (n : ℕ) (order steps held : List ℕ) (b r : ℕ) → IsProper net → IsPlayed net n order steps held → IsHeldUp net n steps held b r → Words net n b r
+words_here : (net : Net) (n : ℕ) (order steps held : List ℕ) (b r : ℕ) → IsProper net → IsPlayedSoFar net n order steps held → IsHeldUp net n steps held b r → Words net n b r
 words_here net n order steps held b r is played up =
     let sys : System = net_system net (n + 1) in
     let d : ℕ → ℕ = done_in net n order in
@@ -120,7 +120,7 @@ giver_items net n r ring is e =
     ap (λ a. items_by (slice_get net.actors a) n) (from_here net r ring e) ∙ ap (λ o. items_by o n) here.gives_here ∙ write_counts (form_of here.giver.kind) here.giver.firing ring.write n here.write
 
 -- one that waits, with an item still to give: it depends on the item that it waits for
-waiting_needs : (net : Net) (n : ℕ) (order steps held : List ℕ) (b r g : ℕ) → IsProper net → IsPlayed net n order steps held → IsHeldUp net n steps held b r → giver net g ≡ b →
+waiting_needs : (net : Net) (n : ℕ) (order steps held : List ℕ) (b r g : ℕ) → IsProper net → IsPlayedSoFar net n order steps held → IsHeldUp net n steps held b r → giver net g ≡ b →
     given (net_system net (n + 1)) (done_in net n order) g < given (net_system net (n + 1)) (done_by net (n + 1)) g →
     Needs (net_places net) (item_now net (n + 1) b) (item_now net (n + 1) (giver net r))
 waiting_needs net n order steps held b r g is played up from later =
@@ -163,7 +163,7 @@ waiting_needs net n order steps held b r g is played up from later =
     }
 
 -- and that item is of this instant
-giver_of_instant : (net : Net) (n : ℕ) (order steps held : List ℕ) (b r : ℕ) → IsProper net → IsPlayed net n order steps held → IsHeldUp net n steps held b r → IsOfInstant net n (item_now net (n + 1) (giver net r))
+giver_of_instant : (net : Net) (n : ℕ) (order steps held : List ℕ) (b r : ℕ) → IsProper net → IsPlayedSoFar net n order steps held → IsHeldUp net n steps held b r → IsOfInstant net n (item_now net (n + 1) (giver net r))
 giver_of_instant net n order steps held b r is played up =
     let words : Words net n b r = words_here net n order steps held b r is played up in
     record {
@@ -186,7 +186,7 @@ instant_items net n item [] h = All-nil (IsOfInstant net n)
 instant_items net n item (w ∷ waits) h = All-cons (IsOfInstant net n) (item w.actor) (map (λ (v : Wait). item v.actor) waits) (h 0 (omega arith)) (instant_items net n item waits (λ k l. h (suc k) (omega arith)))
 
 -- so a knot is a cycle of items of the instant
-pub knot_cycle : (net : Net) (n : ℕ) (order steps held : List ℕ) (waits : List Wait) → IsProper net → IsPlayed net n order steps held → IsKnot net n steps held waits →
+pub knot_cycle : (net : Net) (n : ℕ) (order steps held : List ℕ) (waits : List Wait) → IsProper net → IsPlayedSoFar net n order steps held → IsKnot net n steps held waits →
     IsCycle (net_places net) (map (λ (v : Wait). item_now net (n + 1) v.actor) waits) × All (IsOfInstant net n) (map (λ (v : Wait). item_now net (n + 1) v.actor) waits)
 knot_cycle net n order steps held waits is played knot =
     let sys : System = net_system net (n + 1) in

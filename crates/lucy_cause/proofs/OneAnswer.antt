@@ -13,7 +13,7 @@ use Rattle.lucy_cause.specs.declared.error.CauseFault.{CauseFault}
 use Rattle.lucy_cause.specs.declared.error.CauseFault.TheVariants as fault
 use Rattle.lucy_cause.specs.Lengths.{AreLengths, operations_by}
 use Rattle.lucy_cause.specs.Faults.{item_of, IsFirstCycle, StopsAt}
-use Rattle.lucy_cause.specs.Schedules.{Timetable, IsAllowed, IsScheduleOf, IsTooLong, HasTooMany, Refuses, TellSame}
+use Rattle.lucy_cause.specs.Schedules.{Timetable, IsAllowed, IsScheduleOf, IsTooLong, HasTooManyEvents, RefusesTimetable, TellSame}
 
 pub one_length : (words : List Bits) (prefix period p q : ℕ) → AreLengths words prefix period → AreLengths words p q → (prefix ≡ p) × (period ≡ q)
 one_length words prefix period p q is other = (
@@ -27,13 +27,13 @@ allowed_short net prefix period allowed long =
     let same = one_length (net_words net) prefix period long.0 long.1 allowed.lengths long.2 in
     omega (arith, allowed.short, long.3, same.0, same.1)
 
-allowed_few : (net : Net) (prefix period : ℕ) → IsAllowed net prefix period → HasTooMany net → ⊥
+allowed_few : (net : Net) (prefix period : ℕ) → IsAllowed net prefix period → HasTooManyEvents net → ⊥
 allowed_few net prefix period allowed many =
     let same = one_length (net_words net) prefix period many.0 many.1 allowed.lengths many.2 in
     let total : prefix + period ≡ many.0 + many.1 = omega (arith, same.0, same.1) in
     omega (arith, allowed.few, many.4, ap (operations_by net) total)
 
-long_not_many : (net : Net) → IsTooLong net → HasTooMany net → ⊥
+long_not_many : (net : Net) → IsTooLong net → HasTooManyEvents net → ⊥
 long_not_many net long many =
     let same = one_length (net_words net) many.0 many.1 long.0 long.1 many.2 long.2 in
     omega (arith, many.3, long.3, same.0, same.1)
@@ -48,7 +48,7 @@ turns : (net : Net) (instant : ℕ) (items : List Item) (is : IsFirstCycle net i
 turns net instant [] is = absurd is.cycle
 turns net instant (x ∷ walk) is = record { item = x; of_instant = All-head (IsOfInstant net is.before) x walk is.of_instant; reaches = (walk, is.cycle) }
 
-pub never_both : (net : Net) (s : Timetable) (e : CauseFault) → IsScheduleOf net s → Refuses net e → e ≡ fault.OutOfMemory
+pub never_both : (net : Net) (s : Timetable) (e : CauseFault) → IsScheduleOf net s → RefusesTimetable net e → e ≡ fault.OutOfMemory
 never_both net s (fault.Limit which) is (inl (long, same)) = absurd (allowed_short net s.prefix s.period is.allowed long)
 never_both net s (fault.Limit which) is (inr (many, same)) = absurd (allowed_few net s.prefix s.period is.allowed many)
 never_both net s (fault.Cycle instant items) is why =
@@ -69,7 +69,7 @@ one_instant net instant other items others is also = elim (cases_lt is.before al
   ]
 ]
 
-pub one_refusal : (net : Net) (e f : CauseFault) → Refuses net e → Refuses net f → TellSame e f
+pub one_refusal : (net : Net) (e f : CauseFault) → RefusesTimetable net e → RefusesTimetable net f → TellSame e f
 one_refusal net fault.OutOfMemory f why other = tt
 one_refusal net (fault.Limit which) fault.OutOfMemory why other = tt
 one_refusal net (fault.Cycle instant items) fault.OutOfMemory why other = tt
@@ -84,7 +84,7 @@ one_refusal net (fault.Cycle instant items) (fault.Limit which) ((prefix, period
 one_refusal net (fault.Cycle instant items) (fault.Cycle other others) why also = one_instant net instant other (map item_of items.items) (map item_of others.items) why.1 also.1
 
 -- a play that stops is a refusal
-pub stops : (net : Net) (prefix period instants : ℕ) (e : CauseFault) → IsAllowed net prefix period → instants ≡ prefix + period → StopsAt net instants e → Refuses net e
+pub stops : (net : Net) (prefix period instants : ℕ) (e : CauseFault) → IsAllowed net prefix period → instants ≡ prefix + period → StopsAt net instants e → RefusesTimetable net e
 stops net prefix period instants (fault.Limit which) allowed same why = absurd why
 stops net prefix period instants (fault.Cycle instant items) allowed same why = ((prefix, period, allowed, omega (arith, why.0)), why.1)
 stops net prefix period instants fault.OutOfMemory allowed same why = tt

@@ -21,7 +21,7 @@ use Rattle.lucy_word.specs.Bits.{ones_to}
 use Rattle.lucy_net.specs.Plans.{link_of, net_system, done_by, giver}
 use Rattle.lucy_net.specs.Proper.{IsProper}
 use Rattle.lucy_net.specs.Instants.{slot, firing_of}
-use Rattle.lucy_cause.specs.Play.{IsWithinRings, done_in, IsPlayed}
+use Rattle.lucy_cause.specs.Play.{IsWithinRings, done_in, IsPlayedSoFar}
 use Rattle.lucy_cause.specs.Waiting.{IsHeldUp}
 use Rattle.lucy_cause.proofs.Lists.{sum_to, sum_to-less}
 use Rattle.lucy_net.proofs.NetLaws.{wired, is_instant, within_before, ring_cases, size_is}
@@ -32,18 +32,18 @@ unfoldable pub left_in : Net → ℕ → List ℕ → ℕ
 left_in net n steps = sum_to (length net.actors) (λ a. length (slot net n a) - slice_index steps a)
 
 -- no actor is past its operations of the instant
-done_high : (net : Net) (n : ℕ) (order steps held : List ℕ) → IsPlayed net n order steps held → (a : ℕ) → done_in net n order a ≤ done_by net (n + 1) a
+done_high : (net : Net) (n : ℕ) (order steps held : List ℕ) → IsPlayedSoFar net n order steps held → (a : ℕ) → done_in net n order a ≤ done_by net (n + 1) a
 done_high net n order steps held played a = omega (arith, played.steps_are a, played.within a, done_more net n a)
 
 -- the next operation of an actor
-pub op_now : (net : Net) (n : ℕ) (order steps held : List ℕ) (a : ℕ) (op : RingOp) → IsPlayed net n order steps held → slice_get (slot net n a) (slice_index steps a) ≡ Some op →
+pub op_now : (net : Net) (n : ℕ) (order steps held : List ℕ) (a : ℕ) (op : RingOp) → IsPlayedSoFar net n order steps held → slice_get (slot net n a) (slice_index steps a) ≡ Some op →
     (op_at (net_system net (n + 1)) a (done_in net n order a) ≡ op) × (done_in net n order a < done_by net (n + 1) a)
 op_now net n order steps held a op played e = (
   ap (op_at (net_system net (n + 1)) a) (played.steps_are a) ∙ slot_at net n a (slice_index steps a) op e,
   omega (arith, played.steps_are a, slice_get_within (slot net n a) (slice_index steps a) op e, done_more net n a),
 )
 
-ring_held : (net : Net) (n : ℕ) (order steps held : List ℕ) (r : ℕ) → IsProper net → IsPlayed net n order steps held → slice_index held r ≤ 1048577
+ring_held : (net : Net) (n : ℕ) (order steps held : List ℕ) (r : ℕ) → IsProper net → IsPlayedSoFar net n order steps held → slice_index held r ≤ 1048577
 ring_held net n order steps held r is played = elim (ring_cases net r) [
   | inl x ↦
       let sys : System = net_system net (n + 1) in
@@ -56,7 +56,7 @@ ring_held net n order steps held r is played = elim (ring_cases net r) [
   | inr past ↦ omega (arith, get_or_past held r 0 (omega (arith, played.rings)))
 ]
 
-pub within_rings : (net : Net) (n : ℕ) (order steps held : List ℕ) (now : ℕ) (actor : Actor) → IsProper net → IsPlayed net n order steps held →
+pub within_rings : (net : Net) (n : ℕ) (order steps held : List ℕ) (now : ℕ) (actor : Actor) → IsProper net → IsPlayedSoFar net n order steps held →
     slice_get net.actors now ≡ Some actor → 0 < length (slot net n now) →
     IsWithinRings (slice_get (firing_of actor (ones_to actor.firing n)) (slice_index steps now)) held
 within_rings net n order steps held now actor is played e busy =
@@ -70,7 +70,7 @@ within_rings net n order steps held now actor is played e busy =
     }
 
 -- a give is possible, and so is a take from a ring that holds something
-possible : (net : Net) (n : ℕ) (order steps held : List ℕ) (now : ℕ) (op : RingOp) → IsProper net → IsPlayed net n order steps held →
+possible : (net : Net) (n : ℕ) (order steps held : List ℕ) (now : ℕ) (op : RingOp) → IsProper net → IsPlayedSoFar net n order steps held →
     slice_get (slot net n now) (slice_index steps now) ≡ Some op → ((r : ℕ) → op ≡ Takes r → 0 < slice_index held r) → IsPossible (net_system net (n + 1)) (done_in net n order) now
 possible net n order steps held now op is played e some =
     let sys : System = net_system net (n + 1) in
@@ -95,9 +95,9 @@ record IsHeldBy (op : RingOp) (held new_held : List ℕ) : Type 0 where
   pub others : (q : ℕ) → q < length held → (op ≡ Gives q → ⊥) → (op ≡ Takes q → ⊥) → slice_index new_held q ≡ slice_index held q
 
 -- an operation that is possible is done
-played_by : (net : Net) (n : ℕ) (order steps held new_held : List ℕ) (now : ℕ) (op : RingOp) → IsProper net → IsPlayed net n order steps held →
+played_by : (net : Net) (n : ℕ) (order steps held new_held : List ℕ) (now : ℕ) (op : RingOp) → IsProper net → IsPlayedSoFar net n order steps held →
     slice_get (slot net n now) (slice_index steps now) ≡ Some op → ((r : ℕ) → op ≡ Takes r → 0 < slice_index held r) → IsHeldBy op held new_held →
-    IsPlayed net n (order ++ now ∷ []) (set steps now (slice_index steps now + 1)) new_held
+    IsPlayedSoFar net n (order ++ now ∷ []) (set steps now (slice_index steps now + 1)) new_held
 played_by net n order steps held new_held now op is played e some by =
     let sys : System = net_system net (n + 1) in
     let d : ℕ → ℕ = done_in net n order in
@@ -151,9 +151,9 @@ played_by net n order steps held new_held now op is played e some by =
     }
 
 -- a take keeps what is known
-pub played_took : (net : Net) (n : ℕ) (order steps held : List ℕ) (now r : ℕ) → IsProper net → IsPlayed net n order steps held →
+pub played_took : (net : Net) (n : ℕ) (order steps held : List ℕ) (now r : ℕ) → IsProper net → IsPlayedSoFar net n order steps held →
     slice_get (slot net n now) (slice_index steps now) ≡ Some (Takes r) → 0 < slice_index held r →
-    IsPlayed net n (order ++ now ∷ []) (set steps now (slice_index steps now + 1)) (set held r (slice_index held r - 1))
+    IsPlayedSoFar net n (order ++ now ∷ []) (set steps now (slice_index steps now + 1)) (set held r (slice_index held r - 1))
 played_took net n order steps held now r is played e some =
     played_by net n order steps held (set held r (slice_index held r - 1)) now (Takes r) is played e
     (λ q h. let same : r ≡ q = cc in subst (λ (s : ℕ). 0 < slice_index held s) same some)
@@ -169,9 +169,9 @@ played_took net n order steps held now r is played e some =
     })
 
 -- and so does a give
-pub played_gave : (net : Net) (n : ℕ) (order steps held : List ℕ) (now r : ℕ) → IsProper net → IsPlayed net n order steps held →
+pub played_gave : (net : Net) (n : ℕ) (order steps held : List ℕ) (now r : ℕ) → IsProper net → IsPlayedSoFar net n order steps held →
     slice_get (slot net n now) (slice_index steps now) ≡ Some (Gives r) →
-    IsPlayed net n (order ++ now ∷ []) (set steps now (slice_index steps now + 1)) (set held r (slice_index held r + 1))
+    IsPlayedSoFar net n (order ++ now ∷ []) (set steps now (slice_index steps now + 1)) (set held r (slice_index held r + 1))
 played_gave net n order steps held now r is played e =
     played_by net n order steps held (set held r (slice_index held r + 1)) now (Gives r) is played e
     (λ q h. absurd (cc))
@@ -187,7 +187,7 @@ played_gave net n order steps held now r is played e =
     })
 
 -- the actor that is held up waits, in the sense of the events
-pub waits_now : (net : Net) (n : ℕ) (order steps held : List ℕ) (a r : ℕ) → IsProper net → IsPlayed net n order steps held → IsHeldUp net n steps held a r →
+pub waits_now : (net : Net) (n : ℕ) (order steps held : List ℕ) (a r : ℕ) → IsProper net → IsPlayedSoFar net n order steps held → IsHeldUp net n steps held a r →
     Waits (net_system net (n + 1)) (done_by net (n + 1)) (done_in net n order) a r
 waits_now net n order steps held a r is played up =
     let sys : System = net_system net (n + 1) in
@@ -207,7 +207,7 @@ unfolding net_system
 from_is net n r = refl
 
 -- the giver of an empty ring that is wanted has something left to do
-pub giver_busy : (net : Net) (n : ℕ) (order steps held : List ℕ) (a r : ℕ) → IsProper net → IsPlayed net n order steps held → IsHeldUp net n steps held a r →
+pub giver_busy : (net : Net) (n : ℕ) (order steps held : List ℕ) (a r : ℕ) → IsProper net → IsPlayedSoFar net n order steps held → IsHeldUp net n steps held a r →
     slice_index steps (giver net r) < length (slot net n (giver net r))
 giver_busy net n order steps held a r is played up =
     let g : ℕ = giver net r in

@@ -13,8 +13,8 @@ use Rattle.lucy_stream.specs.Needs.{Item}
 use Rattle.lucy_net.specs.Schedules.{IsOrder}
 use Rattle.lucy_cause.specs.declared.settle.Wait.{Wait}
 use Rattle.lucy_net.specs.Instants.{slot}
-use Rattle.lucy_cause.specs.Play.{IsPlayed, IsReady}
-use Rattle.lucy_cause.specs.Waiting.{actor_at, ring_at, IsKnot, IsTurned}
+use Rattle.lucy_cause.specs.Play.{IsPlayedSoFar, CanBeginInstant}
+use Rattle.lucy_cause.specs.Waiting.{actor_at, ring_at, IsKnot, IsTurnedToLeast}
 use Rattle.lucy_cause.specs.Faults.{item_now, rows_of, AreOrders, IsFirstCycle}
 use Rattle.lucy_net.proofs.SlotLaws.{slot_within}
 use Rattle.lucy_cause.proofs.NeedLaws.{knot_cycle}
@@ -65,14 +65,14 @@ knot_actors net n steps held waits knot k d l =
     subst (λ (a : ℕ). a < length net.actors) same (slot_within net n (actor_at waits 0 k) (omega arith))
 
 -- in another turn too
-pub turned_actors : (net : Net) (waits turned : List Wait) → IsTurned waits turned → All (λ wait. wait.actor < length net.actors) waits → All (λ wait. wait.actor < length net.actors) turned
+pub turned_actors : (net : Net) (waits turned : List Wait) → IsTurnedToLeast waits turned → All (λ wait. wait.actor < length net.actors) waits → All (λ wait. wait.actor < length net.actors) turned
 turned_actors net waits turned turn all =
     let P : Wait → Type 0 = λ w. w.actor < length net.actors in
     subst (All P) (sym turn.turned) (All-append P (drop turn.place waits) (take turn.place waits) (All-drop P turn.place waits all) (All-take P turn.place waits all))
 
 -- a knot in the first instant that has no order
-pub first_cycle : (net : Net) (n : ℕ) (order steps held : List ℕ) (waits turned : List Wait) (rows : List (List ℕ)) (items : List Item) → IsProper net → IsPlayed net n order steps held → IsKnot net n steps held waits →
-    IsTurned waits turned → AreOrders net rows → length rows ≡ n → items ≡ map (λ wait. item_now net (n + 1) wait.actor) turned → IsFirstCycle net (n + 1) items
+pub first_cycle : (net : Net) (n : ℕ) (order steps held : List ℕ) (waits turned : List Wait) (rows : List (List ℕ)) (items : List Item) → IsProper net → IsPlayedSoFar net n order steps held → IsKnot net n steps held waits →
+    IsTurnedToLeast waits turned → AreOrders net rows → length rows ≡ n → items ≡ map (λ wait. item_now net (n + 1) wait.actor) turned → IsFirstCycle net (n + 1) items
 first_cycle net n order steps held waits turned rows items is played knot turn are len e =
     let knot_is = knot_cycle net n order steps held waits is played knot in
     let cycle = turned_cycle net n waits turned turn knot_is.0 knot_is.1 in
@@ -92,7 +92,7 @@ zeros_at n a = elim (cases_lt a n) [
 ]
 
 -- before the first instant
-pub ready_first : (net : Net) (steps held depth : List ℕ) (a r d : ℕ) → a ≡ length net.actors → r ≡ length net.rings → d ≡ length net.actors → steps ≡ replicate a 0 → held ≡ replicate r 0 → depth ≡ replicate d 0 → IsReady net 0 steps held depth
+pub ready_first : (net : Net) (steps held depth : List ℕ) (a r d : ℕ) → a ≡ length net.actors → r ≡ length net.rings → d ≡ length net.actors → steps ≡ replicate a 0 → held ≡ replicate r 0 → depth ≡ replicate d 0 → CanBeginInstant net 0 steps held depth
 ready_first net steps held depth a r d ea er ed es eh edp = record {
   actors = ap length es ∙ length-replicate {A = ℕ} a 0 ∙ ea;
   rings = ap length eh ∙ length-replicate {A = ℕ} r 0 ∙ er;

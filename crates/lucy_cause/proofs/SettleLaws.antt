@@ -13,9 +13,9 @@ use Rattle.lucy_net.specs.Proper.{IsProper}
 use Rattle.lucy_cause.specs.declared.advance.Event.TheVariants as event
 use Rattle.lucy_cause.specs.declared.settle.Wait.{Wait}
 use Rattle.lucy_net.specs.Instants.{slot, firing_of}
-use Rattle.lucy_cause.specs.Play.{IsMoved, IsStill, Becomes, IsPlayed}
+use Rattle.lucy_cause.specs.Play.{IsMoved, IsStill, Becomes, IsPlayedSoFar}
 use Rattle.lucy_cause.specs.Waiting.{IsHeldUp, IsStack, IsKnot, IsResumed}
-use Rattle.lucy_cause.specs.Settling.{IsOver}
+use Rattle.lucy_cause.specs.Settling.{IsFiringOver}
 use Rattle.lucy_net.proofs.NetLaws.{wired}
 use Rattle.lucy_net.proofs.SlotLaws.{done_more, slot_at, slot_is, slot_ring, slot_within}
 use Rattle.lucy_cause.proofs.PlayLaws.{left_in, left_less, played_took, played_gave, giver_busy, from_is}
@@ -32,24 +32,24 @@ same_set : (steps : List ℕ) (now step : ℕ) → step ≡ slice_index steps no
 same_set steps now step e = ap (set steps now) e ∙ set-get_or steps now 0
 
 -- there is nothing left
-pub went_over : (net : Net) (n : ℕ) (order steps held depth : List ℕ) (waits : List Wait) (first now : ℕ) (actor : Actor) (step : ℕ) (new_held : List ℕ) → IsProper net → IsPlayed net n order steps held → IsStack net n steps held depth waits first now →
+pub went_over : (net : Net) (n : ℕ) (order steps held depth : List ℕ) (waits : List Wait) (first now : ℕ) (actor : Actor) (step : ℕ) (new_held : List ℕ) → IsProper net → IsPlayedSoFar net n order steps held → IsStack net n steps held depth waits first now →
     slice_get net.actors now ≡ Some actor → 0 < length (slot net n now) → Becomes (next_of net n steps actor now) (slice_index steps now) step held new_held event.Over →
-    IsPlayed net n order (set steps now step) new_held × IsOver net n first (set steps now step) depth
+    IsPlayedSoFar net n order (set steps now step) new_held × IsFiringOver net n first (set steps now step) depth
 went_over net n order steps held depth waits first now actor step new_held is played stack here busy h =
     let still : IsStill (slice_index steps now) step held new_held = h.1 in
     let s : steps ≡ set steps now step = sym (same_set steps now step still.stepped) in (
-      subst (λ (xs : List ℕ). IsPlayed net n order xs new_held) s (subst (IsPlayed net n order steps) (sym still.now) played),
-      subst (λ (xs : List ℕ). IsOver net n first xs depth) s (stack_over net n order steps held depth waits first now is played stack (in_slot net n steps actor now here busy ∙ h.0)),
+      subst (λ (xs : List ℕ). IsPlayedSoFar net n order xs new_held) s (subst (IsPlayedSoFar net n order steps) (sym still.now) played),
+      subst (λ (xs : List ℕ). IsFiringOver net n first xs depth) s (stack_over net n order steps held depth waits first now is played stack (in_slot net n steps actor now here busy ∙ h.0)),
     )
 
 -- an event is behind
 pub record Went (net : Net) (n : ℕ) (old order steps held depth : List ℕ) (waits : List Wait) (first now : ℕ) : Type 0 where
-  pub played : IsPlayed net n order steps held
+  pub played : IsPlayedSoFar net n order steps held
   pub stack : IsStack net n steps held depth waits first now
   pub busy : 0 < length (slot net n now)
   pub left : left_in net n old ≡ left_in net n steps + 1
 
-pub went_took : (net : Net) (n : ℕ) (order steps held depth : List ℕ) (waits : List Wait) (first now : ℕ) (actor : Actor) (step : ℕ) (new_held new_order : List ℕ) → IsProper net → IsPlayed net n order steps held → IsStack net n steps held depth waits first now →
+pub went_took : (net : Net) (n : ℕ) (order steps held depth : List ℕ) (waits : List Wait) (first now : ℕ) (actor : Actor) (step : ℕ) (new_held new_order : List ℕ) → IsProper net → IsPlayedSoFar net n order steps held → IsStack net n steps held depth waits first now →
     slice_get net.actors now ≡ Some actor → 0 < length (slot net n now) → Becomes (next_of net n steps actor now) (slice_index steps now) step held new_held event.Took → new_order ≡ order ++ now ∷ [] →
     Went net n steps new_order (set steps now step) new_held depth waits first now
 went_took net n order steps held depth waits first now actor step new_held new_order is played stack here busy h pushed =
@@ -59,8 +59,8 @@ went_took net n order steps held depth waits first now actor step new_held new_o
     let s : set steps now (slice_index steps now + 1) ≡ set steps now step = ap (set steps now) (sym moved.stepped) in
     let w : set held r (slice_index held r - 1) ≡ new_held = sym moved.now in
     record {
-      played = subst (λ (xs : List ℕ). IsPlayed net n xs (set steps now step) new_held) (sym pushed) (subst (IsPlayed net n (order ++ now ∷ []) (set steps now step)) w
-          (subst (λ (xs : List ℕ). IsPlayed net n (order ++ now ∷ []) xs (set held r (slice_index held r - 1))) s (played_took net n order steps held now r is played at h.2)));
+      played = subst (λ (xs : List ℕ). IsPlayedSoFar net n xs (set steps now step) new_held) (sym pushed) (subst (IsPlayedSoFar net n (order ++ now ∷ []) (set steps now step)) w
+          (subst (λ (xs : List ℕ). IsPlayedSoFar net n (order ++ now ∷ []) xs (set held r (slice_index held r - 1))) s (played_took net n order steps held now r is played at h.2)));
       stack = subst (λ (xs : List ℕ). IsStack net n (set steps now step) xs depth waits first now) w (stack_took net n steps held depth waits first now step r (slice_index held r - 1) stack h.2);
       busy = busy;
       left = left_less net n steps now played.actors (slice_get_within (slot net n now) (slice_index steps now) (Takes r) at) ∙ ap (λ (xs : List ℕ). left_in net n xs + 1) s;
@@ -77,7 +77,7 @@ gives_own net n a k r is e =
     sym (from_is net (n + 1) r) ∙ (wired net (n + 1) is).giver a (done_by net n a + k) r (ops_within net n a k inside) (slot_at net n a k (Gives r) e)
 
 pub went_gave : (net : Net) (n : ℕ) (order steps held depth : List ℕ) (waits : List Wait) (first now : ℕ) (actor : Actor) (step : ℕ) (new_held new_order : List ℕ) (r : ℕ) (new_waits : List Wait) (new_depth : List ℕ) (next : ℕ) →
-    IsProper net → IsPlayed net n order steps held → IsStack net n steps held depth waits first now →
+    IsProper net → IsPlayedSoFar net n order steps held → IsStack net n steps held depth waits first now →
     slice_get net.actors now ≡ Some actor → 0 < length (slot net n now) → Becomes (next_of net n steps actor now) (slice_index steps now) step held new_held (event.Gave r) → new_order ≡ order ++ now ∷ [] →
     IsResumed waits new_waits depth new_depth now r next →
     Went net n steps new_order (set steps now step) new_held new_depth new_waits first next × (length waits ≤ length new_waits + 1) × (length new_waits ≤ length waits)
@@ -88,8 +88,8 @@ went_gave net n order steps held depth waits first now actor step new_held new_o
     let w : set held r (slice_index held r + 1) ≡ new_held = sym moved.now in
     let gave = stack_gave net n steps held depth waits first now step r (slice_index held r + 1) new_waits new_depth next stack (gives_own net n now (slice_index steps now) r is at) resumed in (
       record {
-        played = subst (λ (xs : List ℕ). IsPlayed net n xs (set steps now step) new_held) (sym pushed) (subst (IsPlayed net n (order ++ now ∷ []) (set steps now step)) w
-            (subst (λ (xs : List ℕ). IsPlayed net n (order ++ now ∷ []) xs (set held r (slice_index held r + 1))) s (played_gave net n order steps held now r is played at)));
+        played = subst (λ (xs : List ℕ). IsPlayedSoFar net n xs (set steps now step) new_held) (sym pushed) (subst (IsPlayedSoFar net n (order ++ now ∷ []) (set steps now step)) w
+            (subst (λ (xs : List ℕ). IsPlayedSoFar net n (order ++ now ∷ []) xs (set held r (slice_index held r + 1))) s (played_gave net n order steps held now r is played at)));
         stack = subst (λ (xs : List ℕ). IsStack net n (set steps now step) xs new_depth new_waits first next) w gave.0;
         busy = elim gave.3 [
           | inl same ↦ subst (λ (b : ℕ). 0 < length (slot net n b)) (sym same) busy
@@ -115,7 +115,7 @@ held_up net n steps held now actor step new_held r is here busy h = record {
 }
 
 -- its giver is an actor that is there
-pub giver_there : (net : Net) (n : ℕ) (order steps held : List ℕ) (now : ℕ) (actor : Actor) (step : ℕ) (new_held : List ℕ) (r : ℕ) → IsProper net → IsPlayed net n order steps held →
+pub giver_there : (net : Net) (n : ℕ) (order steps held : List ℕ) (now : ℕ) (actor : Actor) (step : ℕ) (new_held : List ℕ) (r : ℕ) → IsProper net → IsPlayedSoFar net n order steps held →
     slice_get net.actors now ≡ Some actor → 0 < length (slot net n now) → Becomes (next_of net n steps actor now) (slice_index steps now) step held new_held (event.Waits r) →
     (giver net r < length net.actors) × (0 < length (slot net n (giver net r)))
 giver_there net n order steps held now actor step new_held r is played here busy h =
@@ -123,10 +123,10 @@ giver_there net n order steps held now actor step new_held r is played here busy
     (slot_within net n (giver net r) (omega arith), omega arith)
 
 pub went_waits : (net : Net) (n : ℕ) (order steps held depth : List ℕ) (waits : List Wait) (first now : ℕ) (actor : Actor) (step : ℕ) (new_held : List ℕ) (r : ℕ) (new_waits : List Wait) (wait : Wait) (len next : ℕ) →
-    IsProper net → IsPlayed net n order steps held → IsStack net n steps held depth waits first now →
+    IsProper net → IsPlayedSoFar net n order steps held → IsStack net n steps held depth waits first now →
     slice_get net.actors now ≡ Some actor → 0 < length (slot net n now) → Becomes (next_of net n steps actor now) (slice_index steps now) step held new_held (event.Waits r) →
     new_waits ≡ waits ++ wait ∷ [] → wait.actor ≡ now → wait.ring ≡ r → len ≡ length waits + 1 → next ≡ giver net r → slice_index (set depth now len) next ≡ 0 →
-    IsPlayed net n order (set steps now step) new_held × IsStack net n (set steps now step) new_held (set depth now len) new_waits first next × (0 < length (slot net n next)) × (left_in net n (set steps now step) ≡ left_in net n steps)
+    IsPlayedSoFar net n order (set steps now step) new_held × IsStack net n (set steps now step) new_held (set depth now len) new_waits first next × (0 < length (slot net n next)) × (left_in net n (set steps now step) ≡ left_in net n steps)
 went_waits net n order steps held depth waits first now actor step new_held r new_waits wait len next is played stack here busy h pushed a b e same free =
     let still : IsStill (slice_index steps now) step held new_held = h.2 in
     let s : steps ≡ set steps now step = sym (same_set steps now step still.stepped) in
@@ -134,7 +134,7 @@ went_waits net n order steps held depth waits first now actor step new_held r ne
     let free_now : slice_index (set depth now (length waits + 1)) (giver net r) ≡ 0 = ap (λ (x : ℕ). slice_index (set depth now x) (giver net r)) (sym e) ∙ ap (slice_index (set depth now len)) (sym same) ∙ free in
     let up : IsStack net n steps held (set depth now (length waits + 1)) (waits ++ wait ∷ []) first (giver net r) =
     stack_waits net n steps held depth waits first now r wait stack (held_up net n steps held now actor step new_held r is here busy h) a b there.0 free_now in (
-      subst (λ (xs : List ℕ). IsPlayed net n order xs new_held) s (subst (IsPlayed net n order steps) (sym still.now) played),
+      subst (λ (xs : List ℕ). IsPlayedSoFar net n order xs new_held) s (subst (IsPlayedSoFar net n order steps) (sym still.now) played),
       subst (λ (xs : List ℕ). IsStack net n xs new_held (set depth now len) new_waits first next) s
           (subst (λ (xs : List ℕ). IsStack net n steps xs (set depth now len) new_waits first next) (sym still.now)
           (subst (λ (x : ℕ). IsStack net n steps held (set depth now x) new_waits first next) (sym e)
@@ -145,17 +145,17 @@ went_waits net n order steps held depth waits first now actor step new_held r ne
     )
 
 pub went_knot : (net : Net) (n : ℕ) (order steps held depth : List ℕ) (waits : List Wait) (first now : ℕ) (actor : Actor) (step : ℕ) (new_held : List ℕ) (r : ℕ) (new_waits : List Wait) (wait : Wait) (len next : ℕ) →
-    IsProper net → IsPlayed net n order steps held → IsStack net n steps held depth waits first now →
+    IsProper net → IsPlayedSoFar net n order steps held → IsStack net n steps held depth waits first now →
     slice_get net.actors now ≡ Some actor → 0 < length (slot net n now) → Becomes (next_of net n steps actor now) (slice_index steps now) step held new_held (event.Waits r) →
     new_waits ≡ waits ++ wait ∷ [] → wait.actor ≡ now → wait.ring ≡ r → len ≡ length waits + 1 → next ≡ giver net r → 0 < slice_index (set depth now len) next →
-    IsPlayed net n order (set steps now step) new_held × IsKnot net n (set steps now step) new_held (drop (slice_index (set depth now len) next - 1) new_waits)
+    IsPlayedSoFar net n order (set steps now step) new_held × IsKnot net n (set steps now step) new_held (drop (slice_index (set depth now len) next - 1) new_waits)
 went_knot net n order steps held depth waits first now actor step new_held r new_waits wait len next is played stack here busy h pushed a b e same marked =
     let still : IsStill (slice_index steps now) step held new_held = h.2 in
     let s : steps ≡ set steps now step = sym (same_set steps now step still.stepped) in
     let d : slice_index (set depth now (length waits + 1)) (giver net r) ≡ slice_index (set depth now len) next = ap (λ (x : ℕ). slice_index (set depth now x) (giver net r)) (sym e) ∙ ap (slice_index (set depth now len)) (sym same) in
     let knot : IsKnot net n steps held (drop (slice_index (set depth now (length waits + 1)) (giver net r) - 1) (waits ++ wait ∷ [])) =
     stack_knot net n steps held depth waits first now r wait stack (held_up net n steps held now actor step new_held r is here busy h) a b (omega arith) in (
-      subst (λ (xs : List ℕ). IsPlayed net n order xs new_held) s (subst (IsPlayed net n order steps) (sym still.now) played),
+      subst (λ (xs : List ℕ). IsPlayedSoFar net n order xs new_held) s (subst (IsPlayedSoFar net n order steps) (sym still.now) played),
       subst (λ (xs : List ℕ). IsKnot net n xs new_held (drop (slice_index (set depth now len) next - 1) new_waits)) s
           (subst (λ (xs : List ℕ). IsKnot net n steps xs (drop (slice_index (set depth now len) next - 1) new_waits)) (sym still.now)
           (subst (λ (ws : List Wait). IsKnot net n steps held (drop (slice_index (set depth now len) next - 1) ws)) (sym pushed)

@@ -11,9 +11,9 @@ use Rattle.lucy_net.specs.declared.net.Net.{Net}
 use Rattle.lucy_net.specs.Proper.{IsProper}
 use Rattle.lucy_cause.specs.declared.settle.Wait.{Wait}
 use Rattle.lucy_net.specs.Instants.{slot}
-use Rattle.lucy_cause.specs.Play.{IsPlayed}
+use Rattle.lucy_cause.specs.Play.{IsPlayedSoFar}
 use Rattle.lucy_cause.specs.Waiting.{IsHeldUp, actor_at, ring_at, IsStack, IsKnot, IsResumed}
-use Rattle.lucy_cause.specs.Settling.{IsOver}
+use Rattle.lucy_cause.specs.Settling.{IsFiringOver}
 use Rattle.lucy_cause.proofs.PlayLaws.{giver_busy}
 
 -- reading a stack that grew, shrank or lost its bottom
@@ -335,8 +335,8 @@ stack_knot net n steps held depth waits first now r wait stack up a b mark =
     }
 
 -- or nothing is left for it to do
-pub stack_over : (net : Net) (n : ℕ) (order steps held depth : List ℕ) (waits : List Wait) (first now : ℕ) → IsProper net → IsPlayed net n order steps held → IsStack net n steps held depth waits first now →
-    slice_get (slot net n now) (slice_index steps now) ≡ None → IsOver net n first steps depth
+pub stack_over : (net : Net) (n : ℕ) (order steps held depth : List ℕ) (waits : List Wait) (first now : ℕ) → IsProper net → IsPlayedSoFar net n order steps held → IsStack net n steps held depth waits first now →
+    slice_get (slot net n now) (slice_index steps now) ≡ None → IsFiringOver net n first steps depth
 stack_over net n order steps held depth waits first now is played stack none =
     let past : length (slot net n now) ≤ slice_index steps now = elim (cases_lt (slice_index steps now) (length (slot net n now))) [
       | inl l ↦ absurd (let some : slice_get (slot net n now) (slice_index steps now) ≡ Some (get_or (slot net n now) (slice_index steps now) (Takes 0)) = slice_get-get_or (slot net n now) (slice_index steps now) (Takes 0) l in cc)

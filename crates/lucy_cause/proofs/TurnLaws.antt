@@ -7,7 +7,7 @@ use Rattle.std.proofs.Math.Seq.{drop-append_seam, take-append_seam}
 use Rattle.lucy_net.specs.declared.net.Net.{Net}
 use Rattle.lucy_net.specs.Causal.{net_places, IsOfInstant}
 use Rattle.lucy_cause.specs.declared.settle.Wait.{Wait}
-use Rattle.lucy_cause.specs.Waiting.{actor_at, IsTurned}
+use Rattle.lucy_cause.specs.Waiting.{actor_at, IsTurnedToLeast}
 use Rattle.lucy_cause.specs.Faults.{item_now, BeginsLeast}
 use Rattle.std.proofs.lemmas.List.{take-append-drop, map-append, drop_more, get_or-map}
 use Rattle.lucy_stream.specs.Iterates.{Place}
@@ -58,7 +58,7 @@ all_turned P xs ys h =
     All-append P ys xs (subst (All P) (drop-append_seam xs ys) (All-drop P (length xs) (xs ++ ys) h)) (subst (All P) (take-append_seam xs ys) (All-take P (length xs) (xs ++ ys) h))
 
 -- those that wait, begun at the least
-pub turned_cycle : (net : Net) (n : ℕ) (waits new : List Wait) → IsTurned waits new → IsCycle (net_places net) (map (λ w. item_now net (n + 1) w.actor) waits) → All (IsOfInstant net n) (map (λ w. item_now net (n + 1) w.actor) waits) →
+pub turned_cycle : (net : Net) (n : ℕ) (waits new : List Wait) → IsTurnedToLeast waits new → IsCycle (net_places net) (map (λ w. item_now net (n + 1) w.actor) waits) → All (IsOfInstant net n) (map (λ w. item_now net (n + 1) w.actor) waits) →
     IsCycle (net_places net) (map (λ w. item_now net (n + 1) w.actor) new) × All (IsOfInstant net n) (map (λ w. item_now net (n + 1) w.actor) new)
 turned_cycle net n waits new is cycle all =
     let f : Wait → Item = λ w. item_now net (n + 1) w.actor in
@@ -70,7 +70,7 @@ turned_cycle net n waits new is cycle all =
       subst (All (IsOfInstant net n)) turned (all_turned (IsOfInstant net n) (map f front) (map f rest) (subst (All (IsOfInstant net n)) parts all)),
     )
 
-pub turned_least : (net : Net) (n : ℕ) (waits new : List Wait) → IsTurned waits new → BeginsLeast (map (λ w. item_now net (n + 1) w.actor) new)
+pub turned_least : (net : Net) (n : ℕ) (waits new : List Wait) → IsTurnedToLeast waits new → BeginsLeast (map (λ w. item_now net (n + 1) w.actor) new)
 turned_least net n waits new is =
     let f : Wait → Item = λ w. item_now net (n + 1) w.actor in
     let d : Wait = record { actor = 0; ring = 0 } in

@@ -5,7 +5,7 @@ use Rattle.lucy_net.specs.Words.{net_words}
 use Rattle.lucy_cause.specs.declared.error.CauseFault.{CauseFault}
 use Rattle.lucy_cause.specs.declared.error.CauseFault.TheVariants as fault
 use Rattle.lucy_cause.specs.Lengths.{AreLengths}
-use Rattle.lucy_cause.specs.Schedules.{Timetable, IsScheduleOf, Refuses, TellSame}
+use Rattle.lucy_cause.specs.Schedules.{Timetable, IsScheduleOf, RefusesTimetable, TellSame}
 
 -- the words of a net have one greatest prefix length, and their period lengths one least common multiple
 abbrev pub OneLength : Type 0
@@ -18,8 +18,8 @@ OneSchedule = (net : Net) (s other : Timetable) → IsScheduleOf net s → IsSch
 
 -- a net is refused for one limit, or for cycles of one instant
 abbrev pub OneRefusal : Type 0
-OneRefusal = (net : Net) (e f : CauseFault) → Refuses net e → Refuses net f → TellSame e f
+OneRefusal = (net : Net) (e f : CauseFault) → RefusesTimetable net e → RefusesTimetable net f → TellSame e f
 
 -- a net that has a schedule is refused for want of memory alone
 abbrev pub ScheduledOrRefused : Type 0
-ScheduledOrRefused = (net : Net) (s : Timetable) (e : CauseFault) → IsScheduleOf net s → Refuses net e → e ≡ fault.OutOfMemory
+ScheduledOrRefused = (net : Net) (s : Timetable) (e : CauseFault) → IsScheduleOf net s → RefusesTimetable net e → e ≡ fault.OutOfMemory

@@ -39,7 +39,7 @@ abbrev pub done_in : Net → ℕ → List ℕ → ℕ → ℕ
 done_in net before events = after (done_by net before) events
 
 -- the events of the instant are a run so far; each actor has done so many operations in it, and each ring holds so many items
-pub record IsPlayed (net : Net) (before : ℕ) (events steps held : List ℕ) : Type 0 where
+pub record IsPlayedSoFar (net : Net) (before : ℕ) (events steps held : List ℕ) : Type 0 where
   pub actors : length steps ≡ length net.actors
   pub rings : length held ≡ length net.rings
   pub run : IsRun (net_system net (before + 1)) (done_by net before) events
@@ -49,7 +49,7 @@ pub record IsPlayed (net : Net) (before : ℕ) (events steps held : List ℕ) : 
       given (net_system net (before + 1)) (done_in net before events) r ≡ taken (net_system net (before + 1)) (done_in net before events) r + slice_index held r
 
 -- nothing is done yet in the instant, and each ring holds what its words say
-pub record IsReady (net : Net) (before : ℕ) (steps held depth : List ℕ) : Type 0 where
+pub record CanBeginInstant (net : Net) (before : ℕ) (steps held depth : List ℕ) : Type 0 where
   pub actors : length steps ≡ length net.actors
   pub rings : length held ≡ length net.rings
   pub depths : length depth ≡ length net.actors

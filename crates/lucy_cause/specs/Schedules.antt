@@ -43,15 +43,15 @@ abbrev pub IsTooLong : Net → Type 0
 IsTooLong net = (prefix period : ℕ) × AreLengths (net_words net) prefix period × (limit_number limit.Schedule < prefix + period)
 
 -- or else more events
-abbrev pub HasTooMany : Net → Type 0
-HasTooMany net = (prefix period : ℕ) × AreLengths (net_words net) prefix period
+abbrev pub HasTooManyEvents : Net → Type 0
+HasTooManyEvents net = (prefix period : ℕ) × AreLengths (net_words net) prefix period
     × (prefix + period ≤ limit_number limit.Schedule) × (limit_number limit.Events < operations_by net (prefix + period))
 
 -- there is no schedule so
-abbrev pub Refuses : Net → CauseFault → Type 0
-Refuses net (fault.Limit which) = (IsTooLong net × (which ≡ limit.Schedule)) ⊎ (HasTooMany net × (which ≡ limit.Events))
-Refuses net (fault.Cycle instant items) = ((prefix : ℕ) × (period : ℕ) × IsAllowed net prefix period × (instant ≤ prefix + period)) × IsFirstCycle net instant (map item_of items.items)
-Refuses net fault.OutOfMemory = Unit {0}
+abbrev pub RefusesTimetable : Net → CauseFault → Type 0
+RefusesTimetable net (fault.Limit which) = (IsTooLong net × (which ≡ limit.Schedule)) ⊎ (HasTooManyEvents net × (which ≡ limit.Events))
+RefusesTimetable net (fault.Cycle instant items) = ((prefix : ℕ) × (period : ℕ) × IsAllowed net prefix period × (instant ≤ prefix + period)) × IsFirstCycle net instant (map item_of items.items)
+RefusesTimetable net fault.OutOfMemory = Unit {0}
 
 -- two refusals tell the same: one limit, or cycles of one instant. Want of memory tells nothing
 abbrev pub TellSame : CauseFault → CauseFault → Type 0

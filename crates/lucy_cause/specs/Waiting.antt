@@ -48,7 +48,7 @@ pub record IsResumed (waits new_waits : List Wait) (depth new_depth : List ℕ) 
   pub otherwise : (0 < length waits → ring_at waits (length waits - 1) ≡ ring → ⊥) → (next ≡ now) × (new_waits ≡ waits) × (new_depth ≡ depth)
 
 -- the same ones in turn, from one of the least number on
-pub record IsTurned (waits new_waits : List Wait) : Type 0 where
+pub record IsTurnedToLeast (waits new_waits : List Wait) : Type 0 where
   pub place : ℕ
   pub there : place < length waits
   pub least : (k : ℕ) → k < length waits → actor_at waits 0 place ≤ actor_at waits 0 k

@@ -2,8 +2,8 @@
 ghost use Rattle.std.specs.Prelude.{ℕ, ◌≡◌, ◌<◌, ◌≤◌, ◌^◌, List, [], All, length, slice_index, IfOk};
 ghost use Rattle.lucy_net.specs.Proper.{numbers_where, IsProper};
 ghost use Rattle.lucy_net.specs.Instants.{slot, is_busy};
-ghost use Rattle.lucy_cause.specs.Play.{IsPlayed, IsReady};
-ghost use Rattle.lucy_cause.specs.Settling.{AreSettled, IsInstantPlayed};
+ghost use Rattle.lucy_cause.specs.Play.{IsPlayedSoFar, CanBeginInstant};
+ghost use Rattle.lucy_cause.specs.Settling.{AreFiringsPlayed, IsInstantPlayed};
 
 use crate::settle::{Settled, settle};
 use lucy_net::Net;
@@ -23,10 +23,10 @@ fn settle_all(
     requires proper { IsProper net.now }
     requires early { before < 2 ^ 32 }
     requires firing { All (λ a. 0 < length (slot net.now before a)) firing.now }
-    requires played { IsPlayed net.now before order.old.items steps.old held.old }
+    requires played { IsPlayedSoFar net.now before order.old.items steps.old held.old }
     requires depths { length depth.old ≡ length net.now.actors }
     requires unmarked { (a : ℕ) → slice_index depth.old a ≡ 0 }
-    ensures { IfOk result (AreSettled net.now before firing.now order.new.items steps.new held.new depth.new) }
+    ensures { IfOk result (AreFiringsPlayed net.now before firing.now order.new.items steps.new held.new depth.new) }
 {
     for actor in firing {
         if let Settled::Stuck(waits) = settle(
@@ -65,7 +65,7 @@ pub(crate) fn play_instant(
     requires proper { IsProper net.now }
     requires early { before < 2 ^ 32 }
     requires firing { firing.now ≡ numbers_where (is_busy net.now before) (length net.now.actors) }
-    requires ready { IsReady net.now before steps.old held.old depth.old }
+    requires ready { CanBeginInstant net.now before steps.old held.old depth.old }
     requires fresh { order.old.items ≡ [] }
     ensures { IfOk result (IsInstantPlayed net.now before order.new.items steps.new held.new depth.new) }
 {

@@ -2,7 +2,7 @@
 ghost use Rattle.std.specs.Prelude.{ℕ, ◌≡◌, ◌≤◌, length, IfOk, IfErr};
 ghost use Rattle.lucy_net.specs.Proper.{IsProper};
 ghost use Rattle.lucy_word.specs.Limits.{limit_number};
-ghost use Rattle.lucy_cause.specs.Play.{IsReady};
+ghost use Rattle.lucy_cause.specs.Play.{CanBeginInstant};
 ghost use Rattle.lucy_cause.specs.Faults.{rows_of, AreFirings, AreOrders, StopsAt};
 
 use crate::cycle::{items_of, turn_to_least};
@@ -25,7 +25,7 @@ fn play_rows(
     requires proper { IsProper net.now }
     requires few { length agenda.now ≤ limit_number Limit.Schedule }
     requires agenda { AreFirings net.now (rows_of agenda.now) }
-    requires ready { IsReady net.now 0 steps.old held.old depth.old }
+    requires ready { CanBeginInstant net.now 0 steps.old held.old depth.old }
     ensures ok { IfOk result (λ orders. AreOrders net.now (rows_of orders.items)) }
     ensures all { IfOk result (λ orders. length orders.items ≡ length agenda.now) }
     ensures refused { IfErr result (StopsAt net.now (length agenda.now)) }

@@ -1,7 +1,7 @@
 // The schedule of a net.
 ghost use Rattle.std.specs.Prelude.{◌≡◌, ◌<◌, ◌≤◌, [], length, slice_index_or, IfOk, IfErr, MatchResult};
 ghost use Rattle.lucy_net.specs.Proper.{IsProper};
-ghost use Rattle.lucy_cause.specs.Schedules.{Timetable, row_of, events_at, IsScheduleOf, Refuses, TellSame};
+ghost use Rattle.lucy_cause.specs.Schedules.{Timetable, row_of, events_at, IsScheduleOf, RefusesTimetable, TellSame};
 ghost use Rattle.lucy_cause.specs.declared.error.CauseFault.TheVariants as fault;
 
 use crate::agenda::agenda_of;
@@ -44,9 +44,9 @@ impl Model for Schedule {
 pub fn schedule_of(alloc: Global, net: &Net) -> Result<Schedule, CauseFault>
     requires { IsProper net.now }
     ensures ok { IfOk result (IsScheduleOf net.now) }
-    ensures refused { IfErr result (Refuses net.now) }
+    ensures refused { IfErr result (RefusesTimetable net.now) }
     ensures scheduled { (s : Timetable) → IsScheduleOf net.now s → MatchResult result (λ got. (got.prefix ≡ s.prefix) × (got.period ≡ s.period)) (λ e. e ≡ fault.OutOfMemory) }
-    ensures only { (e : CauseFault) → Refuses net.now e → MatchResult result (λ _. e ≡ fault.OutOfMemory) (TellSame e) }
+    ensures only { (e : CauseFault) → RefusesTimetable net.now e → MatchResult result (λ _. e ≡ fault.OutOfMemory) (TellSame e) }
 {
     net_words_are_stored(net);
     let Some(lengths) = lengths_of(net) else {

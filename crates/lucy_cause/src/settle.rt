@@ -2,9 +2,9 @@
 ghost use Rattle.std.specs.Prelude.{ℕ, ◌≡◌, ◌+◌, ◌<◌, ◌≤◌, ◌^◌, length, slice_index, IfOk};
 ghost use Rattle.lucy_net.specs.Proper.{IsProper};
 ghost use Rattle.lucy_net.specs.Instants.{slot};
-ghost use Rattle.lucy_cause.specs.Play.{IsPlayed};
+ghost use Rattle.lucy_cause.specs.Play.{IsPlayedSoFar};
 ghost use Rattle.lucy_cause.specs.Waiting.{actor_at, IsResumed};
-ghost use Rattle.lucy_cause.specs.Settling.{IsSettled};
+ghost use Rattle.lucy_cause.specs.Settling.{IsFiringPlayed};
 
 use crate::advance::{Event, advance};
 use lucy_net::Net;
@@ -59,11 +59,11 @@ pub(crate) fn settle(
     requires proper { IsProper net.now }
     requires early { before < 2 ^ 32 }
     requires first { first < length net.now.actors }
-    requires played { IsPlayed net.now before order.old.items steps.old held.old }
+    requires played { IsPlayedSoFar net.now before order.old.items steps.old held.old }
     requires depths { length depth.old ≡ length net.now.actors }
     requires unmarked { (a : ℕ) → slice_index depth.old a ≡ 0 }
     requires busy { 0 < length (slot net.now before first) }
-    ensures settled { IfOk result (IsSettled net.now before first order.new.items steps.new held.new depth.new) }
+    ensures settled { IfOk result (IsFiringPlayed net.now before first order.new.items steps.new held.new depth.new) }
     ensures grown { IfOk result (λ _. (a : ℕ) → slice_index steps.old a ≤ slice_index steps.new a) }
 {
     let actors = net.actors.list();

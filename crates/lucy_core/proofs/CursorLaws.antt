@@ -10,7 +10,7 @@ use Rattle.lucy_event.proofs.CountLaws.{step-same, step-other}
 use Rattle.lucy_cause.specs.Schedules.{Timetable, events_at}
 use Rattle.lucy_core.specs.declared.cursor.Cursor.{Cursor}
 use Rattle.lucy_core.specs.Seen.{done_of, one_more, order_on}
-use Rattle.lucy_core.specs.Cursors.{later, row_at, ahead, IsIn, HasPassed}
+use Rattle.lucy_core.specs.Cursors.{later, row_at, ahead, StandsInOrder, HasPassed}
 use Rattle.lucy_core.proofs.ListLaws.{one_more_done}
 
 some_none : true ≡ false → ⊥
@@ -93,7 +93,7 @@ unfolding order_on
 order_is s n = refl
 
 -- before the first instant
-pub first_in : (s : Timetable) (instants n : ℕ) (done : List ℕ) (c : Cursor) → done ≡ replicate n 0 → c.passed.items ≡ replicate n 0 → c.instant ≡ 0 → c.row < length s.orders → c.index ≡ length (row_at s c) → IsIn s instants done c
+pub first_in : (s : Timetable) (instants n : ℕ) (done : List ℕ) (c : Cursor) → done ≡ replicate n 0 → c.passed.items ≡ replicate n 0 → c.instant ≡ 0 → c.row < length s.orders → c.index ≡ length (row_at s c) → StandsInOrder s instants done c
 first_in s instants n done c e f instant row index = record {
   row = row;
   early = omega arith;
@@ -127,7 +127,7 @@ behind_at before after done a b passes l = elim (cases_eq a b) [
 
 -- an event more is passed
 pub passed_in : (s : Timetable) (instants : ℕ) (done : List ℕ) (c e : Cursor) (a : ℕ) → c.index < length (row_at s c) → get_or (row_at s c) c.index 0 ≡ a → HasPassed c.passed.items e.passed.items done a →
-    e.instant ≡ c.instant → e.row ≡ c.row → e.index ≡ c.index + 1 → IsIn s instants done c → IsIn s instants done e
+    e.instant ≡ c.instant → e.row ≡ c.row → e.index ≡ c.index + 1 → StandsInOrder s instants done c → StandsInOrder s instants done e
 passed_in s instants done c e a l actor passes instant row index is = record {
   row = omega (arith, is.row);
   early = omega (arith, is.early);
@@ -148,7 +148,7 @@ passed_in s instants done c e a l actor passes instant row index is = record {
 
 -- the next instant begins
 pub turned_in : (s : Timetable) (instants : ℕ) (done : List ℕ) (c e : Cursor) → c.instant < instants → drop c.index (row_at s c) ≡ [] → e.instant ≡ c.instant + 1 → row_at s e ≡ events_at s e.instant → e.row < length s.orders → e.index ≡ 0 → e.passed.items ≡ c.passed.items →
-    IsIn s instants done c → IsIn s instants done e
+    StandsInOrder s instants done c → StandsInOrder s instants done e
 turned_in s instants done c e l over instant row there index passed is = record {
   row = there;
   early = omega arith;
@@ -167,7 +167,7 @@ turned_in s instants done c e l over instant row there index passed is = record 
 }
 
 -- what else is done
-pub more_in : (s : Timetable) (instants : ℕ) (done later_done : List ℕ) (c : Cursor) → length later_done ≡ length done → ((a : ℕ) → done_of done a ≤ done_of later_done a) → IsIn s instants done c → IsIn s instants later_done c
+pub more_in : (s : Timetable) (instants : ℕ) (done later_done : List ℕ) (c : Cursor) → length later_done ≡ length done → ((a : ℕ) → done_of done a ≤ done_of later_done a) → StandsInOrder s instants done c → StandsInOrder s instants later_done c
 more_in s instants done later_done c same more is = record {
   row = is.row;
   early = is.early;
@@ -176,12 +176,12 @@ more_in s instants done later_done c same more is = record {
   skips = is.skips;
 }
 
-pub step_in : (s : Timetable) (instants : ℕ) (done : List ℕ) (c : Cursor) (a : ℕ) → a < length done → IsIn s instants done c → IsIn s instants (one_more done a) c
+pub step_in : (s : Timetable) (instants : ℕ) (done : List ℕ) (c : Cursor) (a : ℕ) → a < length done → StandsInOrder s instants done c → StandsInOrder s instants (one_more done a) c
 step_in s instants done c a l is =
     more_in s instants done (one_more done a) c (length-set done a _) (λ b. omega (arith, one_more_done done a b l, grows (done_of done) a b)) is
 
 -- the same place
-pub same_in : (s : Timetable) (instants : ℕ) (done : List ℕ) (c e : Cursor) → e.instant ≡ c.instant → e.row ≡ c.row → e.index ≡ c.index → e.passed.items ≡ c.passed.items → IsIn s instants done c → IsIn s instants done e
+pub same_in : (s : Timetable) (instants : ℕ) (done : List ℕ) (c e : Cursor) → e.instant ≡ c.instant → e.row ≡ c.row → e.index ≡ c.index → e.passed.items ≡ c.passed.items → StandsInOrder s instants done c → StandsInOrder s instants done e
 same_in s instants done c e instant row index passed is = record {
   row = omega (arith, is.row);
   early = omega (arith, is.early);
@@ -201,14 +201,14 @@ none_now None b e t = refl
 none_now (Some a) b e t = absurd (some_none (e ∙ ap not t))
 
 -- the event at the cursor isn't done
-pub stops_in : (s : Timetable) (instants : ℕ) (done : List ℕ) (c : Cursor) (a : ℕ) → c.index < length (row_at s c) → get_or (row_at s c) c.index 0 ≡ a → done_of done a ≤ done_of c.passed.items a → IsIn s instants done c →
+pub stops_in : (s : Timetable) (instants : ℕ) (done : List ℕ) (c : Cursor) (a : ℕ) → c.index < length (row_at s c) → get_or (row_at s c) c.index 0 ≡ a → done_of done a ≤ done_of c.passed.items a → StandsInOrder s instants done c →
     first_left (done_of done) (order_on s instants) ≡ Some a
 stops_in s instants done c a l actor least is =
     let now : ahead s instants c ≡ a ∷ (drop (c.index + 1) (row_at s c) ++ later (events_at s) c.instant (instants - c.instant)) = split_one (row_at s c) _ c.index (c.index + 1) a l actor refl in
     is.skips (done_of done) is.behind ∙ ap (first_left_from (done_of done) (done_of c.passed.items)) now ∙ first_left-here (done_of done) (done_of c.passed.items) a _ least
 
 -- there is none behind it
-pub ends_in : (s : Timetable) (instants : ℕ) (done : List ℕ) (c : Cursor) → drop c.index (row_at s c) ≡ [] → instants ≤ c.instant → IsIn s instants done c → first_left (done_of done) (order_on s instants) ≡ None
+pub ends_in : (s : Timetable) (instants : ℕ) (done : List ℕ) (c : Cursor) → drop c.index (row_at s c) ≡ [] → instants ≤ c.instant → StandsInOrder s instants done c → first_left (done_of done) (order_on s instants) ≡ None
 ends_in s instants done c over last is =
     let none : instants - c.instant ≡ 0 = omega arith in
     let now : ahead s instants c ≡ [] = ap (λ xs. xs ++ later (events_at s) c.instant (instants - c.instant)) over ∙ ap (later (events_at s) c.instant) none in

@@ -9,11 +9,11 @@ use Rattle.lucy_event.specs.Firings.{IsOnRings}
 use Rattle.lucy_net.specs.declared.net.Actor.{Actor}
 use Rattle.lucy_net.specs.declared.state.ActorState.{ActorState}
 use Rattle.lucy_net.specs.States.{IsActorState, IsNext}
-use Rattle.lucy_core.specs.Circles.{Held}
+use Rattle.lucy_core.specs.Circles.{HeldItems}
 use Rattle.lucy_core.specs.declared.machine.Core.TheInside.{Inside}
 use Rattle.lucy_core.specs.contracts.machine.Core.{the_invariant, the_view}
-use Rattle.lucy_core.specs.Seen.{Seen, machine_of, machine_on, order_on, done_of, state_on, CanStep, IsFixed}
-use Rattle.lucy_core.specs.Inside.{left_in, going_in, IsKept}
+use Rattle.lucy_core.specs.Seen.{Seen, machine_of, machine_on, order_on, done_of, state_on, CanStep, MakesCore}
+use Rattle.lucy_core.specs.Inside.{left_in, going_in, KeepsState}
 use Rattle.lucy_core.proofs.SeenLaws.{IsMachineOf, machine_is}
 use Rattle.lucy_core.proofs.StepLaws.{actor_inside, ring_inside, actor_read, state_read, circle_read, firing_here, op_there, count_few}
 use Rattle.lucy_core.proofs.CountingLaws.{going_set, going_some}
@@ -28,8 +28,8 @@ sound_of x seen holds is =
 
 -- what is at hand when an operation begins
 pub record IsAtHand (x : Inside) (a : ℕ) (op : RingOp) : Type 0 where
-  pub fixed : IsFixed x.net x.schedule x.inputs x.ops x.instants
-  pub kept : IsKept x.net (machine_on x.net x.inputs (kinds_of x.ops) x.instants) (order_on x.schedule x.instants) x.instants x.done.items x.states.items x.circles.items x.trays.items
+  pub fixed : MakesCore x.net x.schedule x.inputs x.ops x.instants
+  pub kept : KeepsState x.net (machine_on x.net x.inputs (kinds_of x.ops) x.instants) (order_on x.schedule x.instants) x.instants x.done.items x.states.items x.circles.items x.trays.items
   pub machine : IsMachineOf x.net (machine_on x.net x.inputs (kinds_of x.ops) x.instants) (order_on x.schedule x.instants) x.inputs (kinds_of x.ops) x.instants
   pub can : IsPossible (machine_on x.net x.inputs (kinds_of x.ops) x.instants).sys (done_of x.done.items) a
   pub op_now : op_at (machine_on x.net x.inputs (kinds_of x.ops) x.instants).sys a (done_of x.done.items a) ≡ op
@@ -61,7 +61,7 @@ module _ (x : Inside) (a : ℕ) (op : RingOp) (h : IsAtHand x a op) where
   pub state_at : (s : ActorState) → s ≡ get_or x.states.items a s → slice_get x.states.items a ≡ Some s
   state_at s e = state_read x.net _ _ x.inputs (kinds_of x.ops) x.instants _ _ _ _ h.machine h.kept a s h.actor_in e
 
-  pub circle_at : (r : ℕ) (circle : Held) → r < length x.net.rings → circle ≡ get_or x.circles.items r circle → slice_get x.circles.items r ≡ Some circle
+  pub circle_at : (r : ℕ) (circle : HeldItems) → r < length x.net.rings → circle ≡ get_or x.circles.items r circle → slice_get x.circles.items r ≡ Some circle
   circle_at r circle l e = circle_read x.net _ _ x.inputs (kinds_of x.ops) x.instants _ _ _ _ h.machine h.kept r circle l e
 
   pub is_next : (actor : Actor) (s : ActorState) → slice_get x.net.actors a ≡ Some actor → slice_get x.states.items a ≡ Some s → IsNext actor s op

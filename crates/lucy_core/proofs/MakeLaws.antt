@@ -16,9 +16,9 @@ use Rattle.lucy_net.specs.declared.net.Net.{Net}
 use Rattle.lucy_net.specs.declared.state.ActorState.{ActorState}
 use Rattle.lucy_net.specs.Plans.{form_of}
 use Rattle.lucy_net.specs.States.{IsActorState}
-use Rattle.lucy_core.specs.Circles.{Held}
+use Rattle.lucy_core.specs.Circles.{HeldItems}
 use Rattle.lucy_core.specs.Seen.{done_of, state_on, first_ring}
-use Rattle.lucy_core.specs.Inside.{HasTray, IsKept, AreFirst, AreEmpty, HaveTrays, with_tray}
+use Rattle.lucy_core.specs.Inside.{HasTray, KeepsState, AreFirst, AreEmpty, HaveTrays, with_tray}
 use Rattle.lucy_core.proofs.ListLaws.{get_set_same, get_set_other, get_push, some_same}
 use Rattle.lucy_core.proofs.SeenLaws.{IsMachineOf}
 
@@ -33,7 +33,7 @@ first_push actors instants i states more actor s len here e each new a x t f g =
       subst (λ (y : Actor). IsActorState y instants 0 (replicate (operands (form_of y.kind)) []) t) it (subst (λ (u : ActorState). IsActorState actor instants 0 (replicate (operands (form_of actor.kind)) []) u) (sym last.1) new)
 ]
 
-with_length : (what : ActorKind) (room : ℕ) (trays : List Held) → length (with_tray what room trays) ≡ length trays
+with_length : (what : ActorKind) (room : ℕ) (trays : List HeldItems) → length (with_tray what room trays) ≡ length trays
 with_length (Output n) room trays = length-set trays n (record { items = []; room = room })
 with_length (Input n) room trays = refl
 with_length (Lit n) room trays = refl
@@ -44,7 +44,7 @@ with_length (Merge n) room trays = refl
 with_length (Fby n) room trays = refl
 with_length Pass room trays = refl
 
-with_other : (what : ActorKind) (room : ℕ) (trays : List Held) (number : ℕ) → ((n : ℕ) → what ≡ Output n → n ≡ number → ⊥) → slice_get (with_tray what room trays) number ≡ slice_get trays number
+with_other : (what : ActorKind) (room : ℕ) (trays : List HeldItems) (number : ℕ) → ((n : ℕ) → what ≡ Output n → n ≡ number → ⊥) → slice_get (with_tray what room trays) number ≡ slice_get trays number
 with_other (Output n) room trays number ne = get_set_other trays n number (record { items = []; room = room }) (ne n refl)
 with_other (Input n) room trays number ne = refl
 with_other (Lit n) room trays number ne = refl
@@ -56,7 +56,7 @@ with_other (Fby n) room trays number ne = refl
 with_other Pass room trays number ne = refl
 
 -- one output's tray more
-pub trays_more : (actors : List Actor) (instants i : ℕ) (actor : Actor) (trays more : List Held) → slice_get actors i ≡ Some actor → more ≡ with_tray actor.kind (ones_to actor.firing instants) trays →
+pub trays_more : (actors : List Actor) (instants i : ℕ) (actor : Actor) (trays more : List HeldItems) → slice_get actors i ≡ Some actor → more ≡ with_tray actor.kind (ones_to actor.firing instants) trays →
     ((a b n : ℕ) (x y : Actor) → slice_get actors a ≡ Some x → slice_get actors b ≡ Some y → x.kind ≡ Output n → y.kind ≡ Output n → a ≡ b) →
     ((a n : ℕ) (x : Actor) → slice_get actors a ≡ Some x → x.kind ≡ Output n → n < length trays) → HaveTrays actors instants i trays → HaveTrays actors instants (i + 1) more
 trays_more actors instants i actor trays more e same apart room have a number x l f k =
@@ -69,8 +69,8 @@ trays_more actors instants i actor trays more e same apart room have a number x 
           let quota : ones_to x.firing instants ≡ ones_to actor.firing instants = ap (λ (y : Actor). ones_to y.firing instants) it in
           record {
             there = omega (arith, room a number x f k);
-            items_are = λ t g. ap (λ (h : Held). h.items) (get_set_same trays number (record { items = []; room = ones_to actor.firing instants }) t (ap (λ xs. slice_get xs number) (sym list) ∙ g));
-            room = λ t g. omega (arith, quota, ap (λ (h : Held). h.room) (get_set_same trays number (record { items = []; room = ones_to actor.firing instants }) t (ap (λ xs. slice_get xs number) (sym list) ∙ g)));
+            items_are = λ t g. ap (λ (h : HeldItems). h.items) (get_set_same trays number (record { items = []; room = ones_to actor.firing instants }) t (ap (λ xs. slice_get xs number) (sym list) ∙ g));
+            room = λ t g. omega (arith, quota, ap (λ (h : HeldItems). h.room) (get_set_same trays number (record { items = []; room = ones_to actor.firing instants }) t (ap (λ xs. slice_get xs number) (sym list) ∙ g)));
           }
       | inr ne ↦
           let old : HasTray trays number [] (ones_to x.firing instants) = have a number x (omega (arith, ne)) f k in
@@ -83,7 +83,7 @@ trays_more actors instants i actor trays more e same apart room have a number x 
           }
     ]
 
-pub room_more : (actors : List Actor) (instants : ℕ) (actor : Actor) (trays more : List Held) → more ≡ with_tray actor.kind (ones_to actor.firing instants) trays →
+pub room_more : (actors : List Actor) (instants : ℕ) (actor : Actor) (trays more : List HeldItems) → more ≡ with_tray actor.kind (ones_to actor.firing instants) trays →
     ((a n : ℕ) (x : Actor) → slice_get actors a ≡ Some x → x.kind ≡ Output n → n < length trays) → (a n : ℕ) (x : Actor) → slice_get actors a ≡ Some x → x.kind ≡ Output n → n < length more
 room_more actors instants actor trays more same room a n x f k = omega (arith, room a n x f k, ap length same, with_length actor.kind (ones_to actor.firing instants) trays)
 
@@ -104,8 +104,8 @@ same_start : (m : Machine) (order done : List ℕ) (net : Net) (inputs : List (L
 unfolding state_on
 same_start m order done net inputs kinds instants is z = counted_none m order (done_of done) is.wired is.local is.whole z
 
-pub kept_first : (net : Net) (m : Machine) (order : List ℕ) (inputs : List (List ℤ)) (kinds : List HostKind) (instants : ℕ) (states : List ActorState) (circles trays : List Held) → IsMachineOf net m order inputs kinds instants →
-    AreFirst net.actors instants states → AreEmpty net.rings circles → HaveTrays net.actors instants (length net.actors) trays → IsKept net m order instants (replicate (length net.actors) 0) states circles trays
+pub kept_first : (net : Net) (m : Machine) (order : List ℕ) (inputs : List (List ℤ)) (kinds : List HostKind) (instants : ℕ) (states : List ActorState) (circles trays : List HeldItems) → IsMachineOf net m order inputs kinds instants →
+    AreFirst net.actors instants states → AreEmpty net.rings circles → HaveTrays net.actors instants (length net.actors) trays → KeepsState net m order instants (replicate (length net.actors) 0) states circles trays
 kept_first net m order inputs kinds instants states circles trays is first empty have =
     let done : List ℕ = replicate (length net.actors) 0 in
     let zero_there : (b : ℕ) → done_of done b ≡ 0 = λ b. zero_at done (length net.actors) b refl in

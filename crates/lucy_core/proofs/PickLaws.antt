@@ -23,9 +23,9 @@ use Rattle.lucy_net.specs.Plans.{form_of}
 use Rattle.lucy_event.specs.Schedules.{events_to}
 use Rattle.lucy_net.specs.States.{IsActorState}
 use Rattle.lucy_event.proofs.PlaceLaws.{ops_more}
-use Rattle.lucy_core.specs.Circles.{Held}
+use Rattle.lucy_core.specs.Circles.{HeldItems}
 use Rattle.lucy_core.specs.Seen.{done_of, one_more, more_done}
-use Rattle.lucy_core.specs.Inside.{IsKept}
+use Rattle.lucy_core.specs.Inside.{KeepsState}
 use Rattle.lucy_core.proofs.ListLaws.{one_more_done}
 use Rattle.lucy_core.proofs.SeenLaws.{IsMachineOf}
 
@@ -121,8 +121,8 @@ going_at actor instants n took s is going =
     let q : s.fired < ones_to actor.firing instants = omega (arith, is.quota) in
     omega (arith, is.done, is.inside going, ops_more (form_of actor.kind) actor.takes actor.gives s.fired (ones_to actor.firing instants) q)
 
-module _ (net : Net) (m : Machine) (order : List ℕ) (inputs : List (List ℤ)) (kinds : List HostKind) (instants : ℕ) (done : List ℕ) (states : List ActorState) (circles trays : List Held)
-    (is : IsMachineOf net m order inputs kinds instants) (kept : IsKept net m order instants done states circles trays) where
+module _ (net : Net) (m : Machine) (order : List ℕ) (inputs : List (List ℤ)) (kinds : List HostKind) (instants : ℕ) (done : List ℕ) (states : List ActorState) (circles trays : List HeldItems)
+    (is : IsMachineOf net m order inputs kinds instants) (kept : KeepsState net m order instants done states circles trays) where
   over_one : (a : ℕ) (s : ActorState) → slice_get states a ≡ Some s → (o : Option Actor) → slice_get net.actors a ≡ o → s.quota ≤ s.fired → done_of done a ≡ length (m.sys.ops a)
   over_one a s f None e ended = absurd (omega (arith, slice_get_within states a s f, kept.states_count, none_past net.actors a e))
   over_one a s f (Some actor) e ended = over_at actor instants (done_of done a) _ s (kept.actors a actor s e f) ended ∙ sym (ap length (is.ops a actor e))

@@ -35,9 +35,9 @@ use Rattle.lucy_net.proofs.NetLaws.{gives_there, takes_there, ring_cases}
 use Rattle.lucy_net.proofs.OperandLaws.{operand_ring}
 use Rattle.lucy_event.specs.Firings.{IsOnRings}
 use Rattle.lucy_event.proofs.OperationLaws.{firing_rings}
-use Rattle.lucy_core.specs.Circles.{Held}
+use Rattle.lucy_core.specs.Circles.{HeldItems}
 use Rattle.lucy_core.specs.Seen.{done_of, state_on, one_more, first_ring}
-use Rattle.lucy_core.specs.Inside.{no_held, put_out, HasTray, IsKept}
+use Rattle.lucy_core.specs.Inside.{no_held, put_out, HasTray, KeepsState}
 use Rattle.lucy_core.proofs.ListLaws.{get_set_same, get_set_other, some_same, one_more_done, map_same, all_of, map_more}
 use Rattle.lucy_core.proofs.CountingLaws.{done_few}
 use Rattle.lucy_core.proofs.SeenLaws.{IsMachineOf, state_is, state_done, next_within, TookFrom, GaveTo, took_from, gave_to, took_room}
@@ -82,7 +82,7 @@ has_item Pass inputs items quota fired has reads l = tt
 has_item (Output n) inputs items quota fired has reads l = tt
 
 -- another tray than that into which an item is put
-put_other : (what : ActorKind) (trays : List Held) (v : ℤ) (number : ℕ) → ((n : ℕ) → what ≡ Output n → n ≡ number → ⊥) → slice_get (put_out what trays v) number ≡ slice_get trays number
+put_other : (what : ActorKind) (trays : List HeldItems) (v : ℤ) (number : ℕ) → ((n : ℕ) → what ≡ Output n → n ≡ number → ⊥) → slice_get (put_out what trays v) number ≡ slice_get trays number
 put_other (Output n) trays v number ne = get_set_other trays n number (record { items = (get_or trays n no_held).items ++ v ∷ []; room = (get_or trays n no_held).room }) (ne n refl)
 put_other (Input n) trays v number ne = refl
 put_other (Lit n) trays v number ne = refl
@@ -93,7 +93,7 @@ put_other (Merge n) trays v number ne = refl
 put_other (Fby n) trays v number ne = refl
 put_other Pass trays v number ne = refl
 
-put_length : (what : ActorKind) (trays : List Held) (v : ℤ) → length (put_out what trays v) ≡ length trays
+put_length : (what : ActorKind) (trays : List HeldItems) (v : ℤ) → length (put_out what trays v) ≡ length trays
 put_length (Output n) trays v = length-set trays n (record { items = (get_or trays n no_held).items ++ v ∷ []; room = (get_or trays n no_held).room })
 put_length (Input n) trays v = refl
 put_length (Lit n) trays v = refl
@@ -105,22 +105,22 @@ put_length (Fby n) trays v = refl
 put_length Pass trays v = refl
 
 -- a tray with its items and room in other words
-tray_like : (trays others : List Held) (number most : ℕ) (items same : List ℤ) → length others ≡ length trays → slice_get others number ≡ slice_get trays number → items ≡ same → HasTray trays number items most → HasTray others number same most
+tray_like : (trays others : List HeldItems) (number most : ℕ) (items same : List ℤ) → length others ≡ length trays → slice_get others number ≡ slice_get trays number → items ≡ same → HasTray trays number items most → HasTray others number same most
 tray_like trays others number most items same l e f has = record {
   there = omega (arith, has.there);
   items_are = λ t g. has.items_are t (sym e ∙ g) ∙ f;
   room = λ t g. has.room t (sym e ∙ g);
 }
 
-tray_more : (trays : List Held) (number most : ℕ) (items : List ℤ) (v : ℤ) → HasTray trays number items most → HasTray (put_out (Output number) trays v) number (items ++ v ∷ []) most
+tray_more : (trays : List HeldItems) (number most : ℕ) (items : List ℤ) (v : ℤ) → HasTray trays number items most → HasTray (put_out (Output number) trays v) number (items ++ v ∷ []) most
 tray_more trays number most items v has =
-    let old : Held = get_or trays number no_held in
-    let new : Held = record { items = old.items ++ v ∷ []; room = old.room } in
+    let old : HeldItems = get_or trays number no_held in
+    let new : HeldItems = record { items = old.items ++ v ∷ []; room = old.room } in
     let at : slice_get trays number ≡ Some old = slice_get-get_or trays number no_held has.there in
     record {
       there = omega (arith, has.there, length-set trays number new);
-      items_are = λ t g. ap (λ (h : Held). h.items) (get_set_same trays number new t g) ∙ ap (λ xs. xs ++ v ∷ []) (has.items_are old at);
-      room = λ t g. omega (arith, has.room old at, ap (λ (h : Held). h.room) (get_set_same trays number new t g));
+      items_are = λ t g. ap (λ (h : HeldItems). h.items) (get_set_same trays number new t g) ∙ ap (λ xs. xs ++ v ∷ []) (has.items_are old at);
+      room = λ t g. omega (arith, has.room old at, ap (λ (h : HeldItems). h.room) (get_set_same trays number new t g));
     }
 
 same_form : (actor : Actor) (number : ℕ) → actor.kind ≡ Output number → form_of actor.kind ≡ Same
@@ -129,13 +129,13 @@ same_form actor number e = ap form_of e
 pub no_state : ActorState
 no_state = record { quota = 0; fired = 0; step = 0; cursor = 0; a = pos 0; b = pos 0; c = pos 0; kept = pos 0 }
 
-module _ (net : Net) (m : Machine) (order : List ℕ) (inputs : List (List ℤ)) (kinds : List HostKind) (instants : ℕ) (done : List ℕ) (states : List ActorState) (circles trays : List Held)
-    (is : IsMachineOf net m order inputs kinds instants) (kept : IsKept net m order instants done states circles trays) where
+module _ (net : Net) (m : Machine) (order : List ℕ) (inputs : List (List ℤ)) (kinds : List HostKind) (instants : ℕ) (done : List ℕ) (states : List ActorState) (circles trays : List HeldItems)
+    (is : IsMachineOf net m order inputs kinds instants) (kept : KeepsState net m order instants done states circles trays) where
   pub here : IsState m (state_on m order done)
   here = state_is m order done is.wired is.local is.whole kept.within
 
   -- how many slots a circle has
-  pub room_is : (r : ℕ) (circle : Held) → r < length net.rings → slice_get circles r ≡ Some circle → circle.room ≡ m.sys.size r + 1
+  pub room_is : (r : ℕ) (circle : HeldItems) → r < length net.rings → slice_get circles r ≡ Some circle → circle.room ≡ m.sys.size r + 1
   room_is r circle l f = elim (ring_cases net r) [
     | inl at ↦ omega (arith, kept.rooms r at.0 circle at.1 f, is.sizes r at.0 at.1)
     | inr past ↦ absurd (omega arith)
@@ -203,7 +203,7 @@ module _ (net : Net) (m : Machine) (order : List ℕ) (inputs : List (List ℤ))
   pub state_of_actor : (a : ℕ) → a < length net.actors → slice_get states a ≡ Some (get_or states a no_state)
   state_of_actor a l = slice_get-get_or states a no_state (omega (arith, kept.states_count))
 
-  pub circle_read : (r : ℕ) (circle : Held) → r < length net.rings → circle ≡ get_or circles r circle → slice_get circles r ≡ Some circle
+  pub circle_read : (r : ℕ) (circle : HeldItems) → r < length net.rings → circle ≡ get_or circles r circle → slice_get circles r ≡ Some circle
   circle_read r circle l e = slice_get_read circles (length circles) r circle refl (omega (arith, kept.circles_count)) e
 
   -- the ring of an operation is there
@@ -233,7 +233,7 @@ module _ (net : Net) (m : Machine) (order : List ℕ) (inputs : List (List ℤ))
   give_there a r e proper = ring_there a (Gives r) (move_give (slice_get (m.sys.ops a) (done_of done a)) r e) proper
 
   -- the circle says whether the operation is possible
-  pub can_when_some : (a r : ℕ) (circle : Held) (b : Bool) → Take r ≡ move_of (slice_get (m.sys.ops a) (done_of done a)) → slice_get circles r ≡ Some circle →
+  pub can_when_some : (a r : ℕ) (circle : HeldItems) (b : Bool) → Take r ≡ move_of (slice_get (m.sys.ops a) (done_of done a)) → slice_get circles r ≡ Some circle →
       ((IsTrue b → length circle.items ≡ 0) × (length circle.items ≡ 0 → IsTrue b)) → (IsTrue (not b) → IsPossible m.sys (done_of done) a) × (IsPossible m.sys (done_of done) a → IsTrue (not b))
   can_when_some a r circle b e f empty =
       let op : slice_get (m.sys.ops a) (done_of done a) ≡ Some (Takes r) = move_take (slice_get (m.sys.ops a) (done_of done a)) r e in
@@ -242,7 +242,7 @@ module _ (net : Net) (m : Machine) (order : List ℕ) (inputs : List (List ℤ))
         λ can. to_not b (λ t. absurd (omega (arith, empty.0 t, took_some a r (op_is a (Takes r) op) can))),
       )
 
-  pub can_when_room : (a r : ℕ) (circle : Held) (b : Bool) → Give r ≡ move_of (slice_get (m.sys.ops a) (done_of done a)) → r < length net.rings → slice_get circles r ≡ Some circle →
+  pub can_when_room : (a r : ℕ) (circle : HeldItems) (b : Bool) → Give r ≡ move_of (slice_get (m.sys.ops a) (done_of done a)) → r < length net.rings → slice_get circles r ≡ Some circle →
       ((IsTrue b → circle.room ≤ length circle.items) × (circle.room ≤ length circle.items → IsTrue b)) → (IsTrue (not b) → IsPossible m.sys (done_of done) a) × (IsPossible m.sys (done_of done) a → IsTrue (not b))
   can_when_room a r circle b e l f full =
       let op : slice_get (m.sys.ops a) (done_of done a) ≡ Some (Gives r) = move_give (slice_get (m.sys.ops a) (done_of done a)) r e in
@@ -347,10 +347,10 @@ module _ (net : Net) (m : Machine) (order : List ℕ) (inputs : List (List ℤ))
       ]
 
   -- a take keeps all
-  pub kept_took : (a r : ℕ) (actor : Actor) (s t : ActorState) (v : ℤ) (circle rest : Held) → slice_get net.actors a ≡ Some actor → slice_get states a ≡ Some s →
+  pub kept_took : (a r : ℕ) (actor : Actor) (s t : ActorState) (v : ℤ) (circle rest : HeldItems) → slice_get net.actors a ≡ Some actor → slice_get states a ≡ Some s →
       IsPossible m.sys (done_of done) a → op_at m.sys a (done_of done a) ≡ Takes r → slice_get circles r ≡ Some circle → circle.items ≡ v ∷ rest.items → rest.room ≡ circle.room →
       ((i n : ℕ) (took : List (List ℤ)) → IsActorState actor i n took s → IsActorState actor i (n + 1) (took_more took (operand_at (form_of actor.kind) s.fired s.step) v) t) →
-      IsKept net m order instants (one_more done a) (set states a t) (set circles r rest) (put_out actor.kind trays v)
+      KeepsState net m order instants (one_more done a) (set states a t) (set circles r rest) (put_out actor.kind trays v)
   kept_took a r actor s t v circle rest e f can op c items room after =
       let l : a < length done = omega (arith, kept.done_count, slice_get_within net.actors a actor e) in
       let from : TookFrom (state_on m order done) (state_on m order (one_more done a)) r = took_from m order done a r is.wired is.local is.whole kept.within l can op in
@@ -376,22 +376,22 @@ module _ (net : Net) (m : Machine) (order : List ℕ) (inputs : List (List ℤ))
         ];
         circles_count = length-set circles r rest ∙ kept.circles_count;
         circles_hold = λ q h f'. elim (cases_eq r q) [
-          | inl same ↦ ap (λ (x : Held). x.items) (get_set_same circles r rest h (ap (slice_get (set circles r rest)) same ∙ f')) ∙ left ∙ ap (held (state_on m order (one_more done a))) same
+          | inl same ↦ ap (λ (x : HeldItems). x.items) (get_set_same circles r rest h (ap (slice_get (set circles r rest)) same ∙ f')) ∙ left ∙ ap (held (state_on m order (one_more done a))) same
           | inr ne ↦ kept.circles_hold q h (sym (get_set_other circles r q rest ne) ∙ f') ∙ sym (from.others q ne)
         ];
         rooms = λ q ring h e' f'. elim (cases_eq r q) [
-          | inl same ↦ ap (λ (x : Held). x.room) (get_set_same circles r rest h (ap (slice_get (set circles r rest)) same ∙ f')) ∙ room ∙ kept.rooms q ring circle e' (ap (slice_get circles) (sym same) ∙ c)
+          | inl same ↦ ap (λ (x : HeldItems). x.room) (get_set_same circles r rest h (ap (slice_get (set circles r rest)) same ∙ f')) ∙ room ∙ kept.rooms q ring circle e' (ap (slice_get circles) (sym same) ∙ c)
           | inr ne ↦ kept.rooms q ring h e' (sym (get_set_other circles r q rest ne) ∙ f')
         ];
         trays_hold = trays_took a r actor s v e at own from item;
       }
 
   -- a give keeps all
-  pub kept_gave : (a r : ℕ) (actor : Actor) (s t : ActorState) (v : ℤ) (circle more : Held) → slice_get net.actors a ≡ Some actor → slice_get states a ≡ Some s →
+  pub kept_gave : (a r : ℕ) (actor : Actor) (s t : ActorState) (v : ℤ) (circle more : HeldItems) → slice_get net.actors a ≡ Some actor → slice_get states a ≡ Some s →
       IsPossible m.sys (done_of done) a → op_at m.sys a (done_of done a) ≡ Gives r → slice_get circles r ≡ Some circle → more.items ≡ circle.items ++ v ∷ [] → more.room ≡ circle.room →
       v ≡ m.value a (done_of done a) (state_on m order done).took →
       ((i n : ℕ) (took : List (List ℤ)) → IsActorState actor i n took s → IsActorState actor i (n + 1) took t) →
-      IsKept net m order instants (one_more done a) (set states a t) (set circles r more) trays
+      KeepsState net m order instants (one_more done a) (set states a t) (set circles r more) trays
   kept_gave a r actor s t v circle more e f can op c items room value after =
       let l : a < length done = omega (arith, kept.done_count, slice_get_within net.actors a actor e) in
       let to : GaveTo (state_on m order done) (state_on m order (one_more done a)) r (m.value a (done_of done a) (state_on m order done).took) = gave_to m order done a r is.wired is.local is.whole kept.within l can op in
@@ -418,11 +418,11 @@ module _ (net : Net) (m : Machine) (order : List ℕ) (inputs : List (List ℤ))
         ];
         circles_count = length-set circles r more ∙ kept.circles_count;
         circles_hold = λ q h f'. elim (cases_eq r q) [
-          | inl same ↦ ap (λ (x : Held). x.items) (get_set_same circles r more h (ap (slice_get (set circles r more)) same ∙ f')) ∙ all ∙ ap (held (state_on m order (one_more done a))) same
+          | inl same ↦ ap (λ (x : HeldItems). x.items) (get_set_same circles r more h (ap (slice_get (set circles r more)) same ∙ f')) ∙ all ∙ ap (held (state_on m order (one_more done a))) same
           | inr ne ↦ kept.circles_hold q h (sym (get_set_other circles r q more ne) ∙ f') ∙ sym (to.others q ne)
         ];
         rooms = λ q ring h e' f'. elim (cases_eq r q) [
-          | inl same ↦ ap (λ (x : Held). x.room) (get_set_same circles r more h (ap (slice_get (set circles r more)) same ∙ f')) ∙ room ∙ kept.rooms q ring circle e' (ap (slice_get circles) (sym same) ∙ c)
+          | inl same ↦ ap (λ (x : HeldItems). x.room) (get_set_same circles r more h (ap (slice_get (set circles r more)) same ∙ f')) ∙ room ∙ kept.rooms q ring circle e' (ap (slice_get circles) (sym same) ∙ c)
           | inr ne ↦ kept.rooms q ring h e' (sym (get_set_other circles r q more ne) ∙ f')
         ];
         trays_hold = λ b number other e' k. tray_like trays trays number (ones_to other.firing instants) ((state_on m order done).took (first_ring other)) ((state_on m order (one_more done a)).took (first_ring other)) refl refl (sym (to.took (first_ring other))) (kept.trays_hold b number other e' k);

@@ -2,7 +2,7 @@
 use Rattle.std.specs.Prelude.{ℕ, ℤ, List, ◌++◌, take, drop}
 
 -- the items that are held, oldest first, and for how many there is room
-pub record Held : Type 0 where
+pub record HeldItems : Type 0 where
   pub items : List ℤ
   pub room : ℕ
 

@@ -20,7 +20,7 @@ ahead s instants c = drop c.index (row_at s c) ++ later (events_at s) c.instant 
 
 -- the cursor stands in the order, and all events before it are done: whatever else is done, the first event that isn't stands
 -- behind it
-pub record IsIn (s : Timetable) (instants : ℕ) (done : List ℕ) (c : Cursor) : Type 0 where
+pub record StandsInOrder (s : Timetable) (instants : ℕ) (done : List ℕ) (c : Cursor) : Type 0 where
   pub row : c.row < length s.orders
   pub early : c.instant ≤ instants
   pub count : length c.passed.items ≡ length done

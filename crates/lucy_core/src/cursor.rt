@@ -4,7 +4,7 @@ ghost use Rattle.lucy_word.specs.Limits.{limit_number};
 ghost use Rattle.lucy_word.specs.declared.limit.Limit.TheVariants as limit;
 ghost use Rattle.lucy_event.specs.Runs.{first_left};
 ghost use Rattle.lucy_core.specs.Seen.{done_of, one_more, order_on};
-ghost use Rattle.lucy_core.specs.Cursors.{row_at, IsIn, HasPassed};
+ghost use Rattle.lucy_core.specs.Cursors.{row_at, StandsInOrder, HasPassed};
 
 use lucy_cause::Schedule;
 use std::alloc::{AllocError, Global};
@@ -63,7 +63,7 @@ impl Cursor {
     ) -> Result<Cursor, AllocError>
         requires early { instants ≤ limit_number limit.Instants }
         requires none { (n : ℕ) × (done.now ≡ replicate n 0) }
-        ensures within { IfOk result (IsIn schedule.now instants done.now) }
+        ensures within { IfOk result (StandsInOrder schedule.now instants done.now) }
         ensures next { IfOk result (λ c. c.next ≡ first_left (done_of done.now) (order_on schedule.now instants)) }
     {
         let passed = vec![in alloc; 0u64; done.len()]?;
@@ -90,8 +90,8 @@ impl Cursor {
     fn turn(&mut self, schedule: &Schedule)
         requires { self.old.instant < limit_number limit.Instants }
         ensures instant { self.new.instant ≡ self.old.instant + 1 }
-        ensures within { (instants : ℕ) (done : List ℕ) → self.old.instant < instants → drop self.old.index (row_at schedule.now self.old) ≡ [] → IsIn schedule.now instants done self.old →
-            IsIn schedule.now instants done self.new }
+        ensures within { (instants : ℕ) (done : List ℕ) → self.old.instant < instants → drop self.old.index (row_at schedule.now self.old) ≡ [] → StandsInOrder schedule.now instants done self.old →
+            StandsInOrder schedule.now instants done self.new }
     {
         self.instant += 1;
         self.row = schedule.row(self.instant);
@@ -103,8 +103,8 @@ impl Cursor {
         requires row { self.old.row < length schedule.now.orders }
         requires count { length self.old.passed.items ≡ length done.now }
         ensures instant { self.new.instant ≡ self.old.instant }
-        ensures within { (instants : ℕ) → IsIn schedule.now instants done.now self.old → IsIn schedule.now instants done.now self.new }
-        ensures some { (instants : ℕ) → IsIn schedule.now instants done.now self.old → IfSome self.new.next (λ a. first_left (done_of done.now) (order_on schedule.now instants) ≡ Some a) }
+        ensures within { (instants : ℕ) → StandsInOrder schedule.now instants done.now self.old → StandsInOrder schedule.now instants done.now self.new }
+        ensures some { (instants : ℕ) → StandsInOrder schedule.now instants done.now self.old → IfSome self.new.next (λ a. first_left (done_of done.now) (order_on schedule.now instants) ≡ Some a) }
         ensures none { self.new.next ≡ None → drop self.new.index (row_at schedule.now self.new) ≡ [] }
     {
         let events = schedule.events_of(self.row);
@@ -122,8 +122,8 @@ impl Cursor {
     /// Goes over the events that are done.
     pub fn go_on(&mut self, schedule: &Schedule, instants: u64, done: &[u64])
         requires early { instants ≤ limit_number limit.Instants }
-        requires within { IsIn schedule.now instants done.now self.old }
-        ensures within { IsIn schedule.now instants done.now self.new }
+        requires within { StandsInOrder schedule.now instants done.now self.old }
+        ensures within { StandsInOrder schedule.now instants done.now self.new }
         ensures next { self.new.next ≡ first_left (done_of done.now) (order_on schedule.now instants) }
     {
         self.pass_row(schedule, done);

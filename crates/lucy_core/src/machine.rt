@@ -46,18 +46,18 @@ impl Model for Core {
     ghost use Rattle.std.specs.Prelude.{◌≡◌};
     ghost use Rattle.lucy_host.specs.Operators.{kinds_of};
     ghost use Rattle.lucy_event.specs.Runs.{first_left};
-    ghost use Rattle.lucy_core.specs.Seen.{Seen, machine_on, order_on, done_of, IsFixed};
-    ghost use Rattle.lucy_core.specs.Cursors.{IsIn};
-    ghost use Rattle.lucy_core.specs.Inside.{going_in, IsKept};
+    ghost use Rattle.lucy_core.specs.Seen.{Seen, machine_on, order_on, done_of, MakesCore};
+    ghost use Rattle.lucy_core.specs.Cursors.{StandsInOrder};
+    ghost use Rattle.lucy_core.specs.Inside.{going_in, KeepsState};
 
     ghost Value = { Seen };
 
     ghost view = { λ c. record { net = c.net; schedule = c.schedule; inputs = c.inputs; operators = c.ops; instants = c.instants; done = c.done.items } };
 
-    ghost invariant = { λ c. IsFixed c.net c.schedule c.inputs c.ops c.instants
-        × IsKept c.net (machine_on c.net c.inputs (kinds_of c.ops) c.instants) (order_on c.schedule c.instants) c.instants c.done.items c.states.items c.circles.items c.trays.items
+    ghost invariant = { λ c. MakesCore c.net c.schedule c.inputs c.ops c.instants
+        × KeepsState c.net (machine_on c.net c.inputs (kinds_of c.ops) c.instants) (order_on c.schedule c.instants) c.instants c.done.items c.states.items c.circles.items c.trays.items
         × (c.going ≡ going_in c.states.items)
-        × IsIn c.schedule c.instants c.done.items c.cursor
+        × StandsInOrder c.schedule c.instants c.done.items c.cursor
         × (c.cursor.next ≡ first_left (done_of c.done.items) (order_on c.schedule c.instants)) };
 }
 
@@ -78,7 +78,7 @@ impl Core {
     ghost use Rattle.lucy_net.specs.declared.net.RingSpec.{RingSpec};
     ghost use Rattle.lucy_net.specs.Moves.{move_of};
     ghost use Rattle.lucy_cause.specs.Schedules.{events_at};
-    ghost use Rattle.lucy_core.specs.Seen.{Seen, plan_of, machine_of, order_of, state_of, done_of, stepped, after_picks, CanStep, CanRun, IsOver, HasDoneAtMost, CanGoOn, IsFixed, IsUnbegun, IsOutputOf, first_ring, first_seen, stream_of};
+    ghost use Rattle.lucy_core.specs.Seen.{Seen, plan_of, machine_of, order_of, state_of, done_of, stepped, after_picks, CanStep, CanRun, IsOver, HasDoneAtMost, CanGoOn, MakesCore, IsUnbegun, IsOutputOf, first_ring, first_seen, stream_of};
 
     /// A core of a proper net with a sound schedule, without an event so far; the operators are copied. The inputs have an item
     /// for each firing of their actors up to the horizon, which is at most 1,048,576 instants. All memory is made here: no
@@ -91,7 +91,7 @@ impl Core {
         ops: &Ops,
         instants: u64,
     ) -> Result<Core, OutOfMemory>
-        requires { IsFixed net schedule inputs ops.now instants }
+        requires { MakesCore net schedule inputs ops.now instants }
         ensures { IfOk result (λ core. core ≡ first_seen net schedule inputs ops.now instants) }
     {
         let states = first_states(alloc, net.actors.list(), instants)?;
@@ -343,7 +343,7 @@ impl Core {
         ensures inputs { result.inputs ≡ self.inputs }
         ensures ops { result.ops ≡ self.operators }
         ensures instants { result.instants ≡ self.instants }
-        ensures fixed { IsFixed result.net result.schedule result.inputs result.ops result.instants }
+        ensures fixed { MakesCore result.net result.schedule result.inputs result.ops result.instants }
     {
         CoreParts {
             net: self.net,

@@ -30,7 +30,7 @@ use Rattle.lucy_flat.specs.declared.instance.Caller.{Caller}
 use Rattle.lucy_flat.specs.Clocked.{AreClocked}
 use Rattle.lucy_flat.specs.Flat.{actor_of, ring_size}
 use Rattle.lucy_flat.specs.Instances.{index_at, words_in, word_at, IsBase}
-use Rattle.lucy_flat.specs.Drafts.{IsSpotDraft, AreMade, inside, own_spots, calls_spots, instance_spots, IsFit, AreFit, ArePut, IsAt, AreAlike, draft_bits, AreKept, AreKeptSoFar}
+use Rattle.lucy_flat.specs.Drafts.{IsSpotDraft, AreMade, inside, own_spots, calls_spots, instance_spots, IsFit, AreFit, ArePut, IsInstanceAt, AreCallsAlike, draft_bits, AreKept, AreKeptSoFar}
 use Rattle.lucy_flat.proofs.Parts.{called, base_clock}
 use Rattle.lucy_flat.proofs.SpotWords.{base_same, base_word, clock_of}
 use Rattle.lucy_flat.proofs.FlatLaws.{standing}
@@ -189,8 +189,8 @@ module _ (nodes : List PlacedNode) (clocks : List NodeClock) where
 
     -- the same, as the code has them at hand
     pub next_alike : (path : List ℕ) (n : PlacedNode) (node begin : ℕ) (base : Bits) (caller : Option Caller) (i places : ℕ) (sites : List CallSite) (words : List Bits) (clock : NodeClock) (old : List Draft) (kept : Kept) →
-        IsAt nodes clocks path node begin base caller → slice_get nodes node ≡ Some n → slice_get clocks node ≡ Some clock → IsShortest base → sites ≡ n.calls → words ≡ clock.words → places ≡ length n.places → i < length sites →
-        AreAlike sites words places i → limit_number limit.Bits < kept.bits → AreKeptSoFar nodes clocks path n i old kept → AreKeptSoFar nodes clocks path n (i + 1) old kept
+        IsInstanceAt nodes clocks path node begin base caller → slice_get nodes node ≡ Some n → slice_get clocks node ≡ Some clock → IsShortest base → sites ≡ n.calls → words ≡ clock.words → places ≡ length n.places → i < length sites →
+        AreCallsAlike sites words places i → limit_number limit.Bits < kept.bits → AreKeptSoFar nodes clocks path n i old kept → AreKeptSoFar nodes clocks path n (i + 1) old kept
     next_alike path n node begin base caller i places sites words clock old kept is at_node at_clock short sites_are words_are places_are within alike past so =
         let j : ℕ = alike.before in
         let e : i ≡ suc j = alike.next in

@@ -12,11 +12,11 @@ use Rattle.lucy_flat.specs.Counts.{last_of}
 use Rattle.lucy_clock.specs.declared.node_clock.NodeClock.{NodeClock}
 use Rattle.lucy_flat.specs.declared.draft.Draft.{Draft}
 use Rattle.lucy_flat.specs.Refusals.{IsClockTooLong}
-use Rattle.lucy_flat.specs.Drafts.{IsAt, AreFit, ArePut}
+use Rattle.lucy_flat.specs.Drafts.{IsInstanceAt, AreFit, ArePut}
 use Rattle.lucy_flat.proofs.SpotLaws.{all_fit}
 
 -- main's instance
-pub main_at : (nodes : List PlacedNode) (clocks : List NodeClock) (main begin : ℕ) (base : Bits) → main ≡ last_of nodes → begin ≡ 0 → base ≡ always → IsAt nodes clocks [] main begin base None
+pub main_at : (nodes : List PlacedNode) (clocks : List NodeClock) (main begin : ℕ) (base : Bits) → main ≡ last_of nodes → begin ≡ 0 → base ≡ always → IsInstanceAt nodes clocks [] main begin base None
 main_at nodes clocks main begin base m b w = record {
   index = sym m;
   found = ap (slice_get nodes) (sym m);

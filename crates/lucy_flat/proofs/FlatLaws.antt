@@ -26,16 +26,16 @@ use Rattle.lucy_meaning.specs.Sizes.{all_places}
 use Rattle.lucy_meaning.specs.Numbers.{number}
 use Rattle.lucy_flat.specs.Instances.{sizes_in, word_at, index_at, IsSpotWord}
 use Rattle.lucy_flat.specs.Flat.{ring_size, fires_at, IsActorOf, IsOutput}
-use Rattle.lucy_flat.specs.Counts.{IsSmall}
+use Rattle.lucy_flat.specs.Counts.{HasSmallNet}
 use Rattle.lucy_word.proofs.OnLaws.{on_base, on_one}
 use Rattle.lucy_word.proofs.AdaptableLaws.{adaptable_self, size_self}
 use Rattle.lucy_meaning.proofs.Closed.{closed_at, place_spot, place_of}
 use Rattle.lucy_meaning.proofs.Lists.{there}
 use Rattle.lucy_meaning.proofs.Paths.{proper_at}
 use Rattle.lucy_flat.specs.Clocked.{AreClocked}
-use Rattle.lucy_flat.specs.Drafts.{IsMade, IsOutputDraft, AreDrafts}
+use Rattle.lucy_flat.specs.Drafts.{IsDraftMade, IsOutputDraft, AreDrafts}
 use Rattle.lucy_flat.specs.Refusals.{IsMergeTooLong}
-use Rattle.lucy_flat.specs.Assembly.{from_of, HasKind, IsReadOn, ReadsTooLong, IsReady, IsReadTooLong, reads_count, first_ring, all_reads, IsRingOf, IsActorFrom, IsAssembled}
+use Rattle.lucy_flat.specs.Assembly.{from_of, HasKind, IsReadOn, ReadsTooLong, AreReadyDrafts, IsReadTooLong, reads_count, first_ring, all_reads, IsRingOf, IsActorFrom, IsAssembled}
 use Rattle.lucy_flat.proofs.AssemblyLaws.{IsOperandRing, find_ring, present}
 use Rattle.lucy_flat.proofs.SpotWords.{base_same, clock_of, feeds, buffer_size, all_at}
 use Rattle.lucy_net.specs.declared.kind.ActorKind.TheVariants.{Output}
@@ -127,7 +127,7 @@ module _ (nodes : List PlacedNode) (clocks : List NodeClock) (proper : AreProper
     pub kind : PlaceKind
     pub stands : kind_at nodes spot ≡ Some kind
     pub numbered : number nodes spot ≡ a
-    pub made : IsMade nodes clocks spot kind d
+    pub made : IsDraftMade nodes clocks spot kind d
 
   pub record IsResultDraft (a : ℕ) (d : Draft) : Type 0 where
     pub i : ℕ
@@ -146,7 +146,7 @@ module _ (nodes : List PlacedNode) (clocks : List NodeClock) (proper : AreProper
           let spot : Spot = sp.spot in
           let own = are.places spot sp.kind sp.stands in
           let same : own.0 ≡ d = same_Some own.0 d (sym own.1 ∙ ap (slice_get drafts) sp.numbered ∙ e) in
-          inl (record { spot = spot; kind = sp.kind; stands = sp.stands; numbered = sp.numbered; made = subst (IsMade nodes clocks spot sp.kind) same own.2 })
+          inl (record { spot = spot; kind = sp.kind; stands = sp.stands; numbered = sp.numbered; made = subst (IsDraftMade nodes clocks spot sp.kind) same own.2 })
       by_number (inr high) =
           let within = slice_get_within drafts a d e in
           let i : ℕ = a - all_places nodes in
@@ -200,7 +200,7 @@ module _ (nodes : List PlacedNode) (clocks : List NodeClock) (proper : AreProper
             subst (λ t. HasKind t (reads_count d)) (sym kind_is) tt
       ]
 
-  pub ready : IsSmall nodes clocks → IsReady drafts
+  pub ready : HasSmallNet nodes clocks → AreReadyDrafts drafts
   ready small = record {
     reads = ready_reads;
     kinds = ready_kinds;
@@ -285,7 +285,7 @@ module _ (nodes : List PlacedNode) (clocks : List NodeClock) (proper : AreProper
       whole (d ∷ ds) = omega (arith, sum_by-cons reads_count d (take (length ds) ds), sum_by-cons reads_count d ds, whole ds)
 
   -- the word of the operand of a sampling, on its ring
-  pub sampled_word : (spot : Spot) (kind : PlaceKind) (a : ℕ) (d : Draft) → kind_at nodes spot ≡ Some kind → slice_get drafts a ≡ Some d → IsMade nodes clocks spot kind d →
+  pub sampled_word : (spot : Spot) (kind : PlaceKind) (a : ℕ) (d : Draft) → kind_at nodes spot ≡ Some kind → slice_get drafts a ≡ Some d → IsDraftMade nodes clocks spot kind d →
       (q : ℕ) (p : Bits) (ring : RingSpec) → kind ≡ place_kind.When q p → slice_get net.rings (first_ring drafts a) ≡ Some ring → IsSpotWord nodes clocks (at spot.path q) ring.write
   sampled_word spot kind a d e f made q p ring k g =
       let reads : d.reads.items ≡ number nodes (at spot.path q) ∷ [] = made.reads ∙ ap (λ t. map (number nodes) (spot_reads nodes spot t)) k in
@@ -299,7 +299,7 @@ module _ (nodes : List PlacedNode) (clocks : List NodeClock) (proper : AreProper
       subst (λ (t : RingSpec). IsSpotWord nodes clocks (at spot.path q) t.write) same (subst (IsSpotWord nodes clocks (at spot.path q)) (sym r.2.write) word)
 
   -- where a place fires
-  firing_of : (spot : Spot) (kind : PlaceKind) (a : ℕ) (d : Draft) (actor : Actor) → kind_at nodes spot ≡ Some kind → slice_get drafts a ≡ Some d → IsMade nodes clocks spot kind d → IsActorFrom drafts net a d actor →
+  firing_of : (spot : Spot) (kind : PlaceKind) (a : ℕ) (d : Draft) (actor : Actor) → kind_at nodes spot ≡ Some kind → slice_get drafts a ≡ Some d → IsDraftMade nodes clocks spot kind d → IsActorFrom drafts net a d actor →
       IsSpotWord nodes clocks (fires_at spot kind) actor.firing
   firing_of spot kind a d actor e f made from =
       fires (IsSpotWord nodes clocks) spot.path spot.place kind d.word (slice_get net.rings (first_ring drafts a)) actor.firing
@@ -354,7 +354,7 @@ module _ (nodes : List PlacedNode) (clocks : List NodeClock) (proper : AreProper
     pub reads : slice_get (spot_reads nodes spot kind) k ≡ Some read
     pub written : IsSpotWord nodes clocks read ring.write
 
-  spot_ring : (n : PlacedNode) (spot : Spot) (kind : PlaceKind) (k source : ℕ) (d : Draft) (ring : RingSpec) → node_at nodes spot.path ≡ Some n → Stands n spot.place kind → IsMade nodes clocks spot kind d →
+  spot_ring : (n : PlacedNode) (spot : Spot) (kind : PlaceKind) (k source : ℕ) (d : Draft) (ring : RingSpec) → node_at nodes spot.path ≡ Some n → Stands n spot.place kind → IsDraftMade nodes clocks spot kind d →
       slice_get d.reads.items k ≡ Some source → IsRingOf drafts (number nodes spot) k source d ring → IsSpotRing spot kind k d ring
   spot_ring n spot kind k source d ring e stands made got of =
       let kind_is : kind_at nodes spot ≡ Some kind = ap (λ o. kind_in o spot.place) e ∙ ap kind_of stands.1 ∙ ap (λ t. Some t) stands.2 in
@@ -393,7 +393,7 @@ module _ (nodes : List PlacedNode) (clocks : List NodeClock) (proper : AreProper
       there_at sizes buffers (suc i) p l f = (let z : i ≡ suc i - 1 = omega arith in present sizes i (omega (arith, l, slice_get_within buffers i p f)) ∙ ap (λ t. Some (slice_index_or sizes t 0)) z)
 
   -- the ring of an operand of an instance place: with the size of a buffer, and else 0
-  spot_size : (spot : Spot) (kind : PlaceKind) (k source : ℕ) (d : Draft) (ring : RingSpec) → kind_at nodes spot ≡ Some kind → IsMade nodes clocks spot kind d →
+  spot_size : (spot : Spot) (kind : PlaceKind) (k source : ℕ) (d : Draft) (ring : RingSpec) → kind_at nodes spot ≡ Some kind → IsDraftMade nodes clocks spot kind d →
       slice_get d.reads.items k ≡ Some source → IsRingOf drafts (number nodes spot) k source d ring → IsSpotRing spot kind k d ring → IsSize ring.write ring.read ring.size
   spot_size spot kind k source d ring e made got of is_ring =
       elim (buffer_or clocks (index_at nodes spot.path) kind) [
@@ -452,7 +452,7 @@ module _ (nodes : List PlacedNode) (clocks : List NodeClock) (proper : AreProper
           let spot : Spot = sp.spot in
           let at_place = are.places spot sp.kind sp.stands in
           let same : at_place.0 ≡ o.draft = same_Some at_place.0 o.draft (sym at_place.1 ∙ ap (slice_get drafts) sp.numbered ∙ o.there) in
-          let made : IsMade nodes clocks spot sp.kind o.draft = subst (IsMade nodes clocks spot sp.kind) same at_place.2 in
+          let made : IsDraftMade nodes clocks spot sp.kind o.draft = subst (IsDraftMade nodes clocks spot sp.kind) same at_place.2 in
           let own : IsRingOf drafts (number nodes spot) o.k o.source o.draft ring = subst (λ t. IsRingOf drafts t o.k o.source o.draft ring) (sym sp.numbered) of in
           let st = standing nodes spot sp.kind sp.stands in
           let ring_of = spot_ring st.node spot sp.kind o.k o.source o.draft ring st.found st.stands made o.reads own in

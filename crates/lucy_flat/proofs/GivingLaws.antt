@@ -9,7 +9,7 @@ use Rattle.std.proofs.lemmas.Option.{same_Some, slice_get_within}
 use Rattle.lucy_net.specs.declared.net.Actor.{Actor}
 use Rattle.lucy_net.specs.declared.net.RingSpec.{RingSpec}
 use Rattle.lucy_flat.specs.declared.draft.Draft.{Draft}
-use Rattle.lucy_flat.specs.Assembly.{from_of, from_at, given_by, reads_count, first_ring, all_reads, HasKind, IsReady, AreRingsOf, IsGiven, AreGiven, IsFiring, IsActorOf, AreActorsOf, IsActorFrom, IsAssembled, IsReadTooLong}
+use Rattle.lucy_flat.specs.Assembly.{from_of, from_at, given_by, reads_count, first_ring, all_reads, HasKind, AreReadyDrafts, AreRingsOf, IsGiven, AreGiven, IsFiring, IsDraftActor, AreActorsOf, IsActorFrom, IsAssembled, IsReadTooLong}
 use Rattle.lucy_flat.proofs.AssemblyLaws.{get_left, get_last, present, find_ring}
 use Rattle.lucy_meaning.proofs.Lists.{there}
 
@@ -91,24 +91,24 @@ actors_none rings = record { count = refl; each = λ a draft e. absurd (cc e) }
 pub first_front : (done more : List Draft) (a : ℕ) → a ≤ length done → first_ring (done ++ more) a ≡ first_ring done a
 first_front done more a l = ap (sum_by reads_count) (take-append-le a done more l)
 
-pub actors_more : (rings : List RingSpec) (done : List Draft) (actors : List Actor) (draft : Draft) (actor : Actor) → AreActorsOf rings done actors → IsActorOf rings (all_reads done) draft actor → AreActorsOf rings (done ++ draft ∷ []) (actors ++ actor ∷ [])
+pub actors_more : (rings : List RingSpec) (done : List Draft) (actors : List Actor) (draft : Draft) (actor : Actor) → AreActorsOf rings done actors → IsDraftActor rings (all_reads done) draft actor → AreActorsOf rings (done ++ draft ∷ []) (actors ++ actor ∷ [])
 actors_more rings done actors draft actor are is = record {
   count = omega (arith, are.count, length_push actors actor, length_push done draft);
   each = λ a d e. each_at a d e (cases_lt a (length done));
 }
   where
-    each_at : (a : ℕ) (d : Draft) → slice_get (done ++ draft ∷ []) a ≡ Some d → (a < length done) ⊎ (length done ≤ a) → (x : Actor) × (slice_get (actors ++ actor ∷ []) a ≡ Some x) × IsActorOf rings (first_ring (done ++ draft ∷ []) a) d x
+    each_at : (a : ℕ) (d : Draft) → slice_get (done ++ draft ∷ []) a ≡ Some d → (a < length done) ⊎ (length done ≤ a) → (x : Actor) × (slice_get (actors ++ actor ∷ []) a ≡ Some x) × IsDraftActor rings (first_ring (done ++ draft ∷ []) a) d x
     each_at a d e (inl low) =
         let own = there done a low in
         let same : own.0 ≡ d = same_Some own.0 d (sym (get_left done (draft ∷ []) a own.0 own.1) ∙ e) in
         let x = are.each a d (own.1 ∙ ap (λ t. Some t) same) in
-        (x.0, get_left actors (actor ∷ []) a x.0 x.1, subst (λ n. IsActorOf rings n d x.0) (sym (first_front done (draft ∷ []) a (omega (arith, low)))) x.2)
+        (x.0, get_left actors (actor ∷ []) a x.0 x.1, subst (λ n. IsDraftActor rings n d x.0) (sym (first_front done (draft ∷ []) a (omega (arith, low)))) x.2)
     each_at a d e (inr high) =
         let within = slice_get_within (done ++ draft ∷ []) a d e in
         let a_is : length done ≡ a = omega (arith, within, high, length_push done draft) in
         let same : draft ≡ d = same_Some draft d (sym (get_last done a draft a_is) ∙ e) in
         let first : all_reads done ≡ first_ring (done ++ draft ∷ []) a = sym (count_all done) ∙ ap (first_ring done) a_is ∙ sym (first_front done (draft ∷ []) a (omega (arith, a_is))) in
-        (actor, get_last actors a actor (are.count ∙ a_is), subst (λ n. IsActorOf rings n d actor) first (subst (λ t. IsActorOf rings (all_reads done) t actor) same is))
+        (actor, get_last actors a actor (are.count ∙ a_is), subst (λ n. IsDraftActor rings n d actor) first (subst (λ t. IsDraftActor rings (all_reads done) t actor) same is))
 
 pub reads_more : (done : List Draft) (draft : Draft) → all_reads (done ++ draft ∷ []) ≡ all_reads done + reads_count draft
 reads_more done draft = omega (arith, sum_by-append reads_count done (draft ∷ []), sum_by-cons reads_count draft [])
@@ -146,7 +146,7 @@ module _ (old given : List Draft) (rings : List RingSpec) (are : AreGiven old ri
       let own = are.each a d.0 d.1 in
       (d.0, d.1, subst (IsGiven rings (length rings) a d.0) (same_Some own.0 x (sym own.1 ∙ e)) own.2)
 
-  pub given_kinds : IsReady old → (a : ℕ) (x : Draft) → slice_get given a ≡ Some x → HasKind x.kind (reads_count x)
+  pub given_kinds : AreReadyDrafts old → (a : ℕ) (x : Draft) → slice_get given a ≡ Some x → HasKind x.kind (reads_count x)
   given_kinds ready a x e =
       let d = given_from a x e in
       let is = ready.kinds a d.0 d.1 in

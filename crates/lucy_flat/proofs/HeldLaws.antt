@@ -19,7 +19,7 @@ use Rattle.lucy_net.specs.Words.{ring_words, net_words}
 use Rattle.lucy_flat.specs.declared.draft.Draft.{Draft}
 use Rattle.lucy_flat.specs.declared.held.Held.{Held}
 use Rattle.lucy_flat.specs.Extents.{ring_bits}
-use Rattle.lucy_flat.specs.Assembly.{reads_count, first_ring, IsRingOf, AreRingsOf, IsFiring, IsSampling, given_by, IsAssembled, HasKind, IsReady, AreHeld, AreRingsHeld, AreRingsHeldSoFar, IsReadTooLong, IsNetPast}
+use Rattle.lucy_flat.specs.Assembly.{reads_count, first_ring, IsRingOf, AreRingsOf, IsFiring, IsSampling, given_by, IsAssembled, HasKind, AreReadyDrafts, AreHeld, AreRingsHeld, AreRingsHeldSoFar, IsReadTooLong, IsNetPast}
 use Rattle.lucy_flat.proofs.AssemblyLaws.{so_far_none, so_far_more, so_far_all, rings_none, present}
 use Rattle.lucy_flat.proofs.GivingLaws.{rings_fit}
 use Rattle.lucy_flat.proofs.NetLaws.{words_bits}
@@ -153,7 +153,7 @@ module _ (drafts : List Draft) (rings : List RingSpec) where
   pub net_of : Net
   net_of = record { actors = actors_of 0 drafts; rings = rings }
 
-  module _ (ready : IsReady drafts) (are : AreRingsOf drafts (length drafts) rings) where
+  module _ (ready : AreReadyDrafts drafts) (are : AreRingsOf drafts (length drafts) rings) where
     -- a sampling has a ring
     first_there : (a : ℕ) (draft : Draft) → slice_get drafts a ≡ Some draft → IsSampling draft.kind → slice_get rings (first_ring drafts a) ≡ None → ⊥
     first_there a draft e sampling none =
@@ -197,7 +197,7 @@ module _ (drafts : List Draft) (rings : List RingSpec) where
   net_rings = refl
 
 -- more bits than are allowed
-pub net_past : (drafts : List Draft) (held : Held) → IsReady drafts → AreRingsHeld drafts (length drafts) held → limit_number limit.Bits < held.bits → IsNetPast drafts
+pub net_past : (drafts : List Draft) (held : Held) → AreReadyDrafts drafts → AreRingsHeld drafts (length drafts) held → limit_number limit.Bits < held.bits → IsNetPast drafts
 net_past drafts held ready are past =
     let net : Net = net_of drafts are.rings in
     let bits = words_bits net in

@@ -32,7 +32,7 @@ use Rattle.lucy_flat.proofs.SpotWords.{base_same, base_word}
 use Rattle.lucy_clock.specs.declared.node_clock.NodeClock.{NodeClock}
 use Rattle.lucy_flat.specs.declared.instance.Caller.{Caller}
 use Rattle.lucy_flat.specs.declared.instance.Instance.{Instance}
-use Rattle.lucy_flat.specs.Drafts.{IsMade, IsFit, IsCaller, IsInstance}
+use Rattle.lucy_flat.specs.Drafts.{IsDraftMade, IsFit, IsCaller, IsInstance}
 use Rattle.lucy_flat.specs.Refusals.{IsMergeTooLong}
 use Rattle.lucy_flat.proofs.ExtentLaws.{sum_part}
 use Rattle.lucy_flat.proofs.ProperLaws.{IsLongMerge}
@@ -210,7 +210,7 @@ module _ (nodes : List PlacedNode) (clocks : List NodeClock) (proper : AreProper
   pub made_here : (place : ℕ) (entry : PlaceEntry) (kind : PlaceKind) (does : ActorKind) (word : Bits) (reads gives : Vec ℕ Global) (size : ℕ) → kind_at nodes (at path place) ≡ Some kind → at_one of.node.now.places place ≡ Some entry →
       does ≡ actor_of (spot_form (at path place) entry.kind) → IsOn of.base.now (word_at nodes clocks path place) word → IsWord word → IsShortest word →
       reads.items ≡ map (number nodes) (spot_reads nodes (at path place) entry.kind) → size ≡ size_in of.clock.now.sizes entry.kind → gives.items ≡ [] → (HandsTooLong entry.kind word → ⊥) →
-      IsMade nodes clocks (at path place) kind (record { kind = does; word = word; reads = reads; size = size; gives = gives })
+      IsDraftMade nodes clocks (at path place) kind (record { kind = does; word = word; reads = reads; size = size; gives = gives })
   made_here place entry kind does word reads gives size e f does_is on is_word short reads_are size_is none fits =
       let same : entry.kind ≡ kind = same_Some entry.kind kind (sym (kind_is place entry f) ∙ e) in
       record {

@@ -33,7 +33,7 @@ use Rattle.lucy_meaning.specs.Spots.{at, node_at, results_in}
 use Rattle.lucy_meaning.specs.Sizes.{all_places}
 use Rattle.lucy_meaning.specs.Numbers.{number}
 use Rattle.lucy_flat.specs.Flat.{IsFlat}
-use Rattle.lucy_flat.specs.Counts.{IsSmall}
+use Rattle.lucy_flat.specs.Counts.{HasSmallNet}
 use Rattle.lucy_meaning.proofs.Lists.{there}
 use Rattle.lucy_word.specs.Stored.{IsStored}
 use Rattle.lucy_flat.specs.Clocked.{AreClocked}
@@ -233,7 +233,7 @@ module _ (nodes : List PlacedNode) (clocks : List NodeClock) (proper : AreProper
   inputs_numbered None = λ n l. absurd (omega (arith, l))
   inputs_numbered (Some n) = row_numbering n.params
 
-  proper_net : IsSmall nodes clocks → IsProper net
+  proper_net : HasSmallNet nodes clocks → IsProper net
   proper_net small = record {
     few_actors = omega (arith, is.count, are.count, small.0);
     few_rings = omega (arith, is.rings.count, count_whole nodes clocks proper clocked drafts net are is drafts, are.reads, small.1);
@@ -244,7 +244,7 @@ module _ (nodes : List PlacedNode) (clocks : List NodeClock) (proper : AreProper
     rings = proper_ring;
   }
 
-  pub flat_from : IsSmall nodes clocks → IsFlat nodes clocks net
+  pub flat_from : HasSmallNet nodes clocks → IsFlat nodes clocks net
   flat_from small = record {
     count = is.count ∙ are.count;
     actors = actor_of nodes clocks proper clocked drafts net are is;
@@ -255,10 +255,10 @@ module _ (nodes : List PlacedNode) (clocks : List NodeClock) (proper : AreProper
   }
 
   -- the net is no larger than the limits
-  pub actors_few : IsSmall nodes clocks → length net.actors < 4294967296
+  pub actors_few : HasSmallNet nodes clocks → length net.actors < 4294967296
   actors_few small = omega (arith, is.count, are.count, small.0)
 
-  pub rings_few : IsSmall nodes clocks → length net.rings < 4294967296
+  pub rings_few : HasSmallNet nodes clocks → length net.rings < 4294967296
   rings_few small = omega (arith, is.rings.count, count_whole nodes clocks proper clocked drafts net are is drafts, are.reads, small.1)
 
   -- a merge whose operand's word is too long is a draft's
@@ -287,7 +287,7 @@ module _ (nodes : List PlacedNode) (clocks : List NodeClock) (proper : AreProper
         }
       ]
 
-  pub flat_net : All IsStored (net_words net) → IsSmall nodes clocks → (IsClockTooLong nodes clocks → ⊥) → (IsReadTooLong drafts → ⊥) → IsFlatNet nodes clocks net
+  pub flat_net : All IsStored (net_words net) → HasSmallNet nodes clocks → (IsClockTooLong nodes clocks → ⊥) → (IsReadTooLong drafts → ⊥) → IsFlatNet nodes clocks net
   flat_net stored small clock_fits read_fits = record {
     flat = flat_from small;
     stored = stored;

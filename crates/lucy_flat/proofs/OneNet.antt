@@ -28,7 +28,7 @@ use Rattle.lucy_meaning.specs.Sizes.{all_places}
 use Rattle.lucy_meaning.proofs.Lists.{there}
 use Rattle.lucy_meaning.proofs.Numbered.{number_reached}
 use Rattle.lucy_flat.specs.Flat.{fires_at}
-use Rattle.lucy_flat.specs.Counts.{IsSmall, IsPassedBy, IsPassed, actors_of, rings_of, slots_of}
+use Rattle.lucy_flat.specs.Counts.{HasSmallNet, IsPassedBy, NetPasses, actors_of, rings_of, slots_of}
 use Rattle.lucy_flat.specs.Refusals.{IsFlatNet, RefusesFlat, net_bits}
 use Rattle.lucy_flat.specs.declared.error.FlatError.{FlatError}
 use Rattle.lucy_flat.specs.declared.error.FlatError.TheVariants as err
@@ -261,7 +261,7 @@ module _ (nodes : List PlacedNode) (clocks : List NodeClock) (proper : AreProper
   one_net = net_is a b actors (lists_same a.rings b.rings rings_count rings)
 
 -- a program passes one limit first
-small_not_passed : (nodes : List PlacedNode) (clocks : List NodeClock) (l : Limit) → IsSmall nodes clocks → IsPassed nodes clocks l → ⊥
+small_not_passed : (nodes : List PlacedNode) (clocks : List NodeClock) (l : Limit) → HasSmallNet nodes clocks → NetPasses nodes clocks l → ⊥
 small_not_passed nodes clocks l small (inl why) = omega (arith, small.0, why.1)
 small_not_passed nodes clocks l small (inr (inl why)) = omega (arith, small.1, why.2)
 small_not_passed nodes clocks l small (inr (inr why)) = omega (arith, small.2, why.3)

@@ -25,7 +25,7 @@ use Rattle.lucy_meaning.proofs.Lists.{there}
 use Rattle.lucy_meaning.proofs.Closed.{place_of, place_spot}
 use Rattle.lucy_flat.specs.Clocked.{AreClocked}
 use Rattle.lucy_flat.specs.Assembly.{reads_count, all_reads}
-use Rattle.lucy_flat.specs.Drafts.{IsMade, IsDraft, IsOutputDraft, IsOfSpot, instance_spots, input_numbers, output_numbers, inputs_in, draft_slots, ArePut, AreDrafts, AreDraftsSoFar}
+use Rattle.lucy_flat.specs.Drafts.{IsDraftMade, IsDraft, IsOutputDraft, IsOfSpot, instance_spots, input_numbers, output_numbers, inputs_in, draft_slots, ArePut, AreDrafts, AreDraftsSoFar}
 use Rattle.lucy_flat.proofs.AssemblyLaws.{range_more, get_left, get_last, present}
 use Rattle.lucy_flat.proofs.MadeLaws.{made_length, made_at}
 use Rattle.lucy_flat.proofs.SpotLaws.{spot_at, whole_length}
@@ -114,7 +114,7 @@ module _ (nodes : List PlacedNode) (clocks : List NodeClock) (proper : AreProper
   place_draft spot kind e =
       let d = made_at nodes clocks whole put.more put.made (number nodes spot) spot (spot_at nodes proper spot kind e) in
       let same : d.2.kind ≡ kind = same_Some d.2.kind kind (sym d.2.stands ∙ e) in
-      (d.0, ap (λ t. slice_get t (number nodes spot)) put.grown ∙ d.1, subst (λ k. IsMade nodes clocks spot k d.0) same d.2.made)
+      (d.0, ap (λ t. slice_get t (number nodes spot)) put.grown ∙ d.1, subst (λ k. IsDraftMade nodes clocks spot k d.0) same d.2.made)
 
   main_node : (n : PlacedNode) × (main_of nodes ≡ Some n)
   main_node = there nodes (last_of nodes) (omega (arith, some))

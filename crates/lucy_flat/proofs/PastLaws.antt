@@ -33,11 +33,11 @@ use Rattle.lucy_meaning.proofs.Closed.{closed_at}
 use Rattle.lucy_flat.specs.declared.draft.Draft.{Draft}
 use Rattle.lucy_flat.specs.Instances.{IsSpotWord}
 use Rattle.lucy_flat.specs.Clocked.{AreClocked}
-use Rattle.lucy_flat.specs.Counts.{IsSmall}
+use Rattle.lucy_flat.specs.Counts.{HasSmallNet}
 use Rattle.lucy_flat.specs.Extents.{ring_bits}
 use Rattle.lucy_flat.specs.Refusals.{IsMergeTooLong, net_bits}
 use Rattle.lucy_flat.specs.Drafts.{AreDrafts, draft_bits}
-use Rattle.lucy_flat.specs.Assembly.{reads_count, IsReadOn, IsReadTooLong, ReadsTooLong, IsRingOf, AreRingsOf, AreRingsSoFar, IsFiring, IsReady, IsAssembled, IsNetPast}
+use Rattle.lucy_flat.specs.Assembly.{reads_count, IsReadOn, IsReadTooLong, ReadsTooLong, IsRingOf, AreRingsOf, AreRingsSoFar, IsFiring, AreReadyDrafts, IsAssembled, IsNetPast}
 use Rattle.lucy_flat.proofs.AssemblyLaws.{present, ring_is, rings_none, so_far_none, so_far_more, so_far_all}
 use Rattle.lucy_flat.proofs.ExtentLaws.{sum_take}
 use Rattle.lucy_flat.proofs.SpotWords.{Feeds, feeds, spot_same, all_at}
@@ -193,7 +193,7 @@ module _ (nodes : List PlacedNode) (clocks : List NodeClock) (proper : AreProper
         let actors = ap (sum_by (λ (x : Actor). bit_count x.firing)) (take_all (length drafts) net.actors (omega arith)) in
         omega arith
 
-  module _ (small : IsSmall nodes clocks) (stored : All (λ (draft : Draft). IsStored draft.word) drafts) where
+  module _ (small : HasSmallNet nodes clocks) (stored : All (λ (draft : Draft). IsStored draft.word) drafts) where
     -- the word on which a draft takes an operand
     read_there : (a k source : ℕ) (d giver : Draft) → slice_get drafts a ≡ Some d → slice_get d.reads.items k ≡ Some source → slice_get drafts source ≡ Some giver → (read : Bits) × IsReadOn d.kind k d.word giver.word read × IsStored read
     read_there a k source d giver e f g =
@@ -213,7 +213,7 @@ module _ (nodes : List PlacedNode) (clocks : List NodeClock) (proper : AreProper
               (d.word, subst (λ t. IsReadOn t k d.word giver.word d.word) (sym kind_is) refl, stored_at drafts stored a d e)
         ]
 
-    drafts_ready : IsReady drafts
+    drafts_ready : AreReadyDrafts drafts
     drafts_ready = ready nodes clocks proper clocked drafts are small
 
     record IsRingThere (a k : ℕ) : Type 0 where

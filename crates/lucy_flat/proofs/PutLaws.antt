@@ -33,7 +33,7 @@ use Rattle.lucy_meaning.proofs.SizeLaws.{below_more}
 use Rattle.lucy_meaning.proofs.Lists.{there}
 use Rattle.lucy_flat.specs.Clocked.{AreClocked}
 use Rattle.lucy_flat.proofs.InstanceLaws.{word_is}
-use Rattle.lucy_flat.specs.Drafts.{inside, AreMade, own_spots, calls_spots, instance_spots, IsFit, AreFit, ArePut, IsProgram, IsAt, IsInstance, AreBegins, ArePlacesPut, ArePutSoFar}
+use Rattle.lucy_flat.specs.Drafts.{inside, AreMade, own_spots, calls_spots, instance_spots, IsFit, AreFit, ArePut, CanBeFlattened, IsInstanceAt, IsInstance, AreBegins, ArePlacesPut, ArePutSoFar}
 use Rattle.lucy_flat.proofs.ProperLaws.{length_row}
 use Rattle.lucy_flat.proofs.MadeLaws.{made_length, made_append}
 
@@ -198,9 +198,9 @@ module _ (nodes : List PlacedNode) (clocks : List NodeClock) where
       }
 
   -- the instance of a call
-  pub at_call : (path : List ℕ) (n : PlacedNode) (node begin : ℕ) (base inner : Bits) (caller : Option Caller) (i b : ℕ) (site : CallSite) (c : Caller) → IsAt nodes clocks path node begin base caller → slice_get nodes node ≡ Some n → slice_get n.calls i ≡ Some site →
+  pub at_call : (path : List ℕ) (n : PlacedNode) (node begin : ℕ) (base inner : Bits) (caller : Option Caller) (i b : ℕ) (site : CallSite) (c : Caller) → IsInstanceAt nodes clocks path node begin base caller → slice_get nodes node ≡ Some n → slice_get n.calls i ≡ Some site →
       IsWord inner → IsOn base (word_at nodes clocks path (length n.places + suc i)) inner → c.begin ≡ begin → c.args.now ≡ site.args → b ≡ begin + call_offset nodes (Some n) (suc i) →
-      IsAt nodes clocks (suc i ∷ path) site.node b inner (Some c)
+      IsInstanceAt nodes clocks (suc i ∷ path) site.node b inner (Some c)
   at_call path n node begin base inner caller i b site c is e f is_word on begin_is args_is b_is =
       let found : node_at nodes path ≡ Some n = is.found ∙ e in
       let here : site_in (node_at nodes path) (suc i) ≡ Some site = ap (λ o. site_in o (suc i)) found ∙ f in
@@ -222,8 +222,8 @@ module _ (nodes : List PlacedNode) (clocks : List NodeClock) where
       ap length are.grown ∙ length-append old are.more ∙ (omega (arith, count, front, offset))
 
 -- the instance that the code has at hand
-pub instance_is : (nodes : List PlacedNode) (clocks : List NodeClock) (sizes : List ℕ) → IsProgram nodes clocks sizes → (path : List ℕ) (node begin first : ℕ) (of : Instance) (sites : List CallSite) →
-    slice_get nodes node ≡ Some of.node.now → slice_get clocks node ≡ Some of.clock.now → IsAt nodes clocks path node begin of.base.now of.caller → of.begin ≡ begin → begin + size_of nodes node < 4294967296 →
+pub instance_is : (nodes : List PlacedNode) (clocks : List NodeClock) (sizes : List ℕ) → CanBeFlattened nodes clocks sizes → (path : List ℕ) (node begin first : ℕ) (of : Instance) (sites : List CallSite) →
+    slice_get nodes node ≡ Some of.node.now → slice_get clocks node ≡ Some of.clock.now → IsInstanceAt nodes clocks path node begin of.base.now of.caller → of.begin ≡ begin → begin + size_of nodes node < 4294967296 →
     sites ≡ of.node.now.calls → first ≡ of.begin + length of.node.now.places → AreSumsOf sizes sites first (length sites) of.inner.now → IsInstance nodes clocks path of
 instance_is nodes clocks sizes program path node begin first of sites e f is begin_is few sites_are first_is sums =
     let n : PlacedNode = of.node.now in
@@ -232,7 +232,7 @@ instance_is nodes clocks sizes program path node begin first of sites e f is beg
     let whole = total_law own_places nodes node n e below in
     record {
       index = node;
-      at = subst (λ b. IsAt nodes clocks path node b of.base.now of.caller) (sym begin_is) is;
+      at = subst (λ b. IsInstanceAt nodes clocks path node b of.base.now of.caller) (sym begin_is) is;
       node = e;
       clock = f;
       inner = begins_are nodes sizes program.sizes n of.begin first of.inner.now (below_more node (length nodes) n.calls (omega (arith, inside)) below) (omega (arith, whole, few)) first_is
@@ -259,7 +259,7 @@ pub site_at : (n : PlacedNode) (sites : List CallSite) (i : ℕ) (site : CallSit
 site_at n sites i site e l f = ap (λ t. slice_get t i) (sym e) ∙ slice_get_read sites (length sites) i site refl l f
 
 -- where the instances of its calls begin, as the code has them at hand
-pub begins_there : (nodes : List PlacedNode) (clocks : List NodeClock) (sizes : List ℕ) → IsProgram nodes clocks sizes → (node begin first : ℕ) (n : PlacedNode) (sites : List CallSite) (inner : List ℕ) →
+pub begins_there : (nodes : List PlacedNode) (clocks : List NodeClock) (sizes : List ℕ) → CanBeFlattened nodes clocks sizes → (node begin first : ℕ) (n : PlacedNode) (sites : List CallSite) (inner : List ℕ) →
     slice_get nodes node ≡ Some n → begin + size_of nodes node < 4294967296 → sites ≡ n.calls → first ≡ begin + length n.places → AreSumsOf sizes sites first (length sites) inner → AreBegins nodes n begin inner
 begins_there nodes clocks sizes program node begin first n sites inner e few sites_are first_is sums =
     let inside = slice_get_within nodes node n e in

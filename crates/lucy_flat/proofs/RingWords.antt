@@ -16,7 +16,7 @@ use Rattle.lucy_net.specs.Proper.{output_of}
 use Rattle.lucy_meaning.specs.Spots.{Spot, at, spot_form}
 use Rattle.lucy_flat.specs.Flat.{actor_of, fires_at, ring_size}
 use Rattle.lucy_flat.specs.declared.draft.Draft.{Draft}
-use Rattle.lucy_flat.specs.Drafts.{IsMade}
+use Rattle.lucy_flat.specs.Drafts.{IsDraftMade}
 use Rattle.lucy_word.proofs.OnLaws.{on_one, same_self}
 use Rattle.lucy_word.proofs.AdaptableLaws.{adaptable_self, size_self}
 use Rattle.std.specs.Prelude.{◌⊎◌}
@@ -50,10 +50,10 @@ none_out (Delayed v) = refl
 none_out Alike = refl
 
 -- so it is of the draft of an instance place
-pub made_form : {nodes : List PlacedNode} {clocks : List NodeClock} {spot : Spot} {kind : PlaceKind} {d : Draft} → IsMade nodes clocks spot kind d → plans.form_of d.kind ≡ spot_form spot kind
+pub made_form : {nodes : List PlacedNode} {clocks : List NodeClock} {spot : Spot} {kind : PlaceKind} {d : Draft} → IsDraftMade nodes clocks spot kind d → plans.form_of d.kind ≡ spot_form spot kind
 made_form {spot = spot} {kind = kind} made = ap plans.form_of made.does ∙ form_back (spot_form spot kind)
 
-pub made_inner : {nodes : List PlacedNode} {clocks : List NodeClock} {spot : Spot} {kind : PlaceKind} {d : Draft} → IsMade nodes clocks spot kind d → output_of d.kind ≡ []
+pub made_inner : {nodes : List PlacedNode} {clocks : List NodeClock} {spot : Spot} {kind : PlaceKind} {d : Draft} → IsDraftMade nodes clocks spot kind d → output_of d.kind ≡ []
 made_inner {spot = spot} {kind = kind} made = ap output_of made.does ∙ none_out (spot_form spot kind)
 
 -- the word on which a form takes an operand, by its own word and that on which the operand is written

@@ -32,7 +32,7 @@ use Rattle.lucy_meaning.proofs.Lists.{there}
 use Rattle.lucy_meaning.proofs.Numbered.{number_reached}
 use Rattle.lucy_flat.specs.Instances.{index_at, IsSpotWord}
 use Rattle.lucy_flat.specs.Flat.{fires_at, ring_size, IsFlat, WouldBeFlat}
-use Rattle.lucy_flat.specs.Counts.{own_rings, own_sizes, last_of, outputs_of, actors_of, rings_of, slots_of, IsPassedBy, IsPassed}
+use Rattle.lucy_flat.specs.Counts.{own_rings, own_sizes, last_of, outputs_of, actors_of, rings_of, slots_of, IsPassedBy, NetPasses}
 use Rattle.lucy_word.specs.declared.limit.Limit.{Limit}
 use Rattle.lucy_flat.specs.Clocked.{AreClocked}
 use Rattle.lucy_flat.specs.Drafts.{instance_spots}
@@ -235,7 +235,7 @@ module _ (nodes : List PlacedNode) (clocks : List NodeClock) (proper : AreProper
       (λ i x s e f. place_slots i x s (place_actor i x s e f)) (λ i x e. output_slots i x (output_actor i x e)) in
       omega (arith, looked, taken, all, sum_add (reads_at nodes clocks) (size_at nodes clocks) places, total_places, sizes_by nodes clocks proper clocked)
 
-  pub passes : (l : Limit) → IsPassed nodes clocks l → IsPassedBy (length net.actors) (length net.rings) (sum_by (λ ring. ring.size + 1) net.rings) l
+  pub passes : (l : Limit) → NetPasses nodes clocks l → IsPassedBy (length net.actors) (length net.rings) (sum_by (λ ring. ring.size + 1) net.rings) l
   passes l why =
       subst (λ n. IsPassedBy n (length net.rings) (sum_by (λ ring. ring.size + 1) net.rings) l) (sym flat.count)
       (subst (λ n. IsPassedBy (actors_of nodes) n (sum_by (λ ring. ring.size + 1) net.rings) l) (sym rings_count) (subst (λ n. IsPassedBy (actors_of nodes) (rings_of nodes) n l) (sym slots_count) why))

@@ -25,8 +25,8 @@ use Rattle.lucy_flat.specs.Clocked.{AreClocked}
 use Rattle.lucy_flat.specs.Extents.{size_in}
 use Rattle.lucy_flat.specs.Flat.{actor_of}
 use Rattle.lucy_flat.specs.Instances.{word_at}
-use Rattle.lucy_flat.specs.Refusals.{IsWordTooLong}
-use Rattle.lucy_flat.specs.Drafts.{HasTooLong, IsMade, IsInstance, AreKept, IsPlaceKept}
+use Rattle.lucy_flat.specs.Refusals.{NetWordIsTooLong}
+use Rattle.lucy_flat.specs.Drafts.{HasTooLong, IsDraftMade, IsInstance, AreKept, IsPlaceKept}
 use Rattle.lucy_flat.proofs.SpotWords.{clock_of, base_word}
 use Rattle.lucy_flat.proofs.InstanceLaws.{found_at, kind_here, kind_is, made_here, fit_here, merge_here}
 use Rattle.lucy_flat.proofs.KeptLaws.{kept_past}
@@ -85,7 +85,7 @@ module _ (nodes : List PlacedNode) (clocks : List NodeClock) (proper : AreProper
       let size : ℕ = size_in of.clock.now.sizes entry.kind in
       let here : kind_at nodes (at path place) ≡ Some entry.kind = kind_is nodes clocks proper path of is place entry stands in
       let draft : Draft = record { kind = does; word = own.0; reads = reads; size = size; gives = gives } in
-      let made : IsMade nodes clocks (at path place) entry.kind draft =
+      let made : IsDraftMade nodes clocks (at path place) entry.kind draft =
       made_here nodes clocks proper path of is place entry entry.kind does own.0 reads gives size here stands refl on own.2.word own.2.shortest refl refl refl (λ long. fits (inr (own.0, own.1, own.2, long))) in
       record {
         draft = draft;
@@ -96,7 +96,7 @@ module _ (nodes : List PlacedNode) (clocks : List NodeClock) (proper : AreProper
 
   -- one that has a word that is too long is why the program has no net
   pub place_long : IsShortest of.base.now → (place : ℕ) (entry : PlaceEntry) (word : Bits) → 1 ≤ place → place ≤ length of.node.now.places → at_one of.node.now.places place ≡ Some entry →
-      word_at nodes clocks path place ≡ word → HasTooLong entry.kind of.base.now word → IsWordTooLong nodes clocks
+      word_at nodes clocks path place ≡ word → HasTooLong entry.kind of.base.now word → NetWordIsTooLong nodes clocks
   place_long short place entry word low high stands same long =
       elim long [
         | inl l ↦

@@ -86,7 +86,7 @@ abbrev pub IsSampling : ActorKind → Type 0
 IsSampling (When p) = Unit {0}
 IsSampling kind = ⊥
 
-pub record IsActorOf (rings : List RingSpec) (first : ℕ) (draft : Draft) (actor : Actor) : Type 0 where
+pub record IsDraftActor (rings : List RingSpec) (first : ℕ) (draft : Draft) (actor : Actor) : Type 0 where
   pub kind : actor.kind ≡ draft.kind
   pub takes : actor.takes ≡ range_with_len first (reads_count draft)
   pub gives : actor.gives ≡ draft.gives.items
@@ -95,7 +95,7 @@ pub record IsActorOf (rings : List RingSpec) (first : ℕ) (draft : Draft) (acto
 -- the actors of drafts, whose rings follow one another
 pub record AreActorsOf (rings : List RingSpec) (drafts : List Draft) (actors : List Actor) : Type 0 where
   pub count : length actors ≡ length drafts
-  pub each : (a : ℕ) (draft : Draft) → slice_get drafts a ≡ Some draft → (actor : Actor) × (slice_get actors a ≡ Some actor) × IsActorOf rings (first_ring drafts a) draft actor
+  pub each : (a : ℕ) (draft : Draft) → slice_get drafts a ≡ Some draft → (actor : Actor) × (slice_get actors a ≡ Some actor) × IsDraftActor rings (first_ring drafts a) draft actor
 
 -- the rings among the first that come from an actor
 abbrev pub given_by : List RingSpec → ℕ → ℕ → List ℕ
@@ -130,7 +130,7 @@ HasKind (When p) count = 0 < count
 HasKind (Merge p) count = HasZero p
 HasKind kind count = Unit {0}
 
-pub record IsReady (drafts : List Draft) : Type 0 where
+pub record AreReadyDrafts (drafts : List Draft) : Type 0 where
   pub reads : (a k from : ℕ) (draft : Draft) → slice_get drafts a ≡ Some draft → slice_get draft.reads.items k ≡ Some from → from < length drafts
   pub kinds : (a : ℕ) (draft : Draft) → slice_get drafts a ≡ Some draft → HasKind draft.kind (reads_count draft)
   pub gives : (a : ℕ) (draft : Draft) → slice_get drafts a ≡ Some draft → draft.gives.items ≡ []

@@ -50,8 +50,8 @@ abbrev pub IsKeptBy : ℕ → ℕ → ℕ → Type 0
 IsKeptBy actors rings slots = (actors ≤ limit_number limit.Actors) × (rings ≤ limit_number limit.Rings) × (slots ≤ limit_number limit.Slots)
 
 -- the net of the program keeps them
-abbrev pub IsSmall : List PlacedNode → List NodeClock → Type 0
-IsSmall nodes clocks = IsKeptBy (actors_of nodes) (rings_of nodes) (slots_of nodes clocks)
+abbrev pub HasSmallNet : List PlacedNode → List NodeClock → Type 0
+HasSmallNet nodes clocks = IsKeptBy (actors_of nodes) (rings_of nodes) (slots_of nodes clocks)
 
 -- the first of them that is passed
 abbrev pub IsPassedBy : ℕ → ℕ → ℕ → Limit → Type 0
@@ -61,5 +61,5 @@ IsPassedBy actors rings slots l =
     ⊎ ((l ≡ limit.Slots) × (actors ≤ limit_number limit.Actors) × (rings ≤ limit_number limit.Rings) × (limit_number limit.Slots < slots))
 
 -- the first of them that the net of the program passes
-abbrev pub IsPassed : List PlacedNode → List NodeClock → Limit → Type 0
-IsPassed nodes clocks l = IsPassedBy (actors_of nodes) (rings_of nodes) (slots_of nodes clocks) l
+abbrev pub NetPasses : List PlacedNode → List NodeClock → Limit → Type 0
+NetPasses nodes clocks l = IsPassedBy (actors_of nodes) (rings_of nodes) (slots_of nodes clocks) l

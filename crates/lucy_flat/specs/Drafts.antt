@@ -30,11 +30,11 @@ use Rattle.lucy_meaning.specs.Sizes.{AreCapped, size_of, total_of, all_places}
 use Rattle.lucy_meaning.specs.Numbers.{begin_from, call_offset, number, spots_of}
 use Rattle.lucy_flat.specs.Instances.{index_at, word_at, IsBase, IsSpotWord}
 use Rattle.lucy_flat.specs.Flat.{actor_of, ring_size}
-use Rattle.lucy_flat.specs.Refusals.{IsClockTooLong, IsWordTooLong}
+use Rattle.lucy_flat.specs.Refusals.{IsClockTooLong, NetWordIsTooLong}
 use Rattle.lucy_flat.specs.Assembly.{reads_count, all_reads, IsNetPast}
 
 -- a draft made for an instance place
-pub record IsMade (nodes : List PlacedNode) (clocks : List NodeClock) (spot : Spot) (kind : PlaceKind) (draft : Draft) : Type 0 where
+pub record IsDraftMade (nodes : List PlacedNode) (clocks : List NodeClock) (spot : Spot) (kind : PlaceKind) (draft : Draft) : Type 0 where
   pub does : draft.kind ≡ actor_of (spot_form spot kind)
   pub reads : draft.reads.items ≡ map (number nodes) (spot_reads nodes spot kind)
   pub word : IsSpotWord nodes clocks spot draft.word
@@ -53,7 +53,7 @@ HasTooLong kind base word = IsOnTooLong base word ⊎ ((own : Bits) × IsOn base
 pub record IsSpotDraft (nodes : List PlacedNode) (clocks : List NodeClock) (spot : Spot) (draft : Draft) : Type 0 where
   pub kind : PlaceKind
   pub stands : kind_at nodes spot ≡ Some kind
-  pub made : IsMade nodes clocks spot kind draft
+  pub made : IsDraftMade nodes clocks spot kind draft
 
 -- drafts of instance places, one for each in order
 abbrev pub AreMade : List PlacedNode → List NodeClock → List Spot → List Draft → Type 0
@@ -88,7 +88,7 @@ AreFit nodes clocks path node = (inner : List ℕ) (n : PlacedNode) (clock : ℕ
 
 -- the draft of an instance place stands at its number
 abbrev pub IsDraft : List PlacedNode → List NodeClock → List Draft → Spot → PlaceKind → Type 0
-IsDraft nodes clocks drafts spot kind = (draft : Draft) × (slice_get drafts (number nodes spot) ≡ Some draft) × IsMade nodes clocks spot kind draft
+IsDraft nodes clocks drafts spot kind = (draft : Draft) × (slice_get drafts (number nodes spot) ≡ Some draft) × IsDraftMade nodes clocks spot kind draft
 
 -- that of a result of main
 pub record IsOutputDraft (nodes : List PlacedNode) (clocks : List NodeClock) (drafts : List Draft) (i place : ℕ) : Type 0 where
@@ -108,7 +108,7 @@ IsCaller nodes [] caller = caller ≡ None
 IsCaller nodes (call ∷ path) caller = (c : Caller) × (site : CallSite) × (caller ≡ Some c) × (site_in (node_at nodes path) call ≡ Some site) × (c.begin ≡ begin_from nodes (main_of nodes) path) × (c.args.now ≡ site.args)
 
 -- a path leads to an instance of a node with this base, caller and first actor
-pub record IsAt (nodes : List PlacedNode) (clocks : List NodeClock) (path : List ℕ) (node begin : ℕ) (base : Bits) (caller : Option Caller) : Type 0 where
+pub record IsInstanceAt (nodes : List PlacedNode) (clocks : List NodeClock) (path : List ℕ) (node begin : ℕ) (base : Bits) (caller : Option Caller) : Type 0 where
   pub index : index_at nodes path ≡ node
   pub found : node_at nodes path ≡ slice_get nodes node
   pub begins : begin_from nodes (main_of nodes) path ≡ begin
@@ -172,7 +172,7 @@ pub record AreDraftsSoFar (nodes : List PlacedNode) (clocks : List NodeClock) (u
   pub slots : sum_by draft_slots drafts ≡ total_of own_rings nodes (last_of nodes) + upto + total_of (own_sizes clocks) nodes (last_of nodes)
 
 -- what flattening a program rests on
-pub record IsProgram (nodes : List PlacedNode) (clocks : List NodeClock) (counts : List ℕ) : Type 0 where
+pub record CanBeFlattened (nodes : List PlacedNode) (clocks : List NodeClock) (counts : List ℕ) : Type 0 where
   pub proper : AreProper nodes
   pub clocked : AreClocked nodes clocks
   pub room : length nodes ≤ length counts
@@ -186,14 +186,14 @@ pub record AreBegins (nodes : List PlacedNode) (node : PlacedNode) (begin : ℕ)
 -- the instance that a path leads to
 pub record IsInstance (nodes : List PlacedNode) (clocks : List NodeClock) (path : List ℕ) (of : Instance) : Type 0 where
   pub index : ℕ
-  pub at : IsAt nodes clocks path index of.begin of.base.now of.caller
+  pub at : IsInstanceAt nodes clocks path index of.begin of.base.now of.caller
   pub node : slice_get nodes index ≡ Some of.node.now
   pub clock : slice_get clocks index ≡ Some of.clock.now
   pub inner : AreBegins nodes of.node.now of.begin of.inner.now
   pub few : of.begin + size_of nodes index < 2 ^ 32
 
 -- a call is of the node that the call before it calls, and its base has the same word
-pub record AreAlike (sites : List CallSite) (words : List Bits) (places i : ℕ) : Type 0 where
+pub record AreCallsAlike (sites : List CallSite) (words : List Bits) (places i : ℕ) : Type 0 where
   pub before : ℕ
   pub next : i ≡ suc before
   pub one_node : (first second : CallSite) → slice_get sites before ≡ Some first → slice_get sites i ≡ Some second → first.node ≡ second.node
@@ -272,4 +272,4 @@ pub record AreDraftsPast (nodes : List PlacedNode) (clocks : List NodeClock) : T
 -- why there are no drafts
 abbrev pub RefusesDrafts : List PlacedNode → List NodeClock → FlatError → Type 0
 RefusesDrafts nodes clocks e =
-    (e ≡ error.OutOfMemory) ⊎ ((e ≡ error.Limit limit.Word) × IsWordTooLong nodes clocks) ⊎ ((e ≡ error.Limit limit.Bits) × AreDraftsPast nodes clocks)
+    (e ≡ error.OutOfMemory) ⊎ ((e ≡ error.Limit limit.Word) × NetWordIsTooLong nodes clocks) ⊎ ((e ≡ error.Limit limit.Bits) × AreDraftsPast nodes clocks)

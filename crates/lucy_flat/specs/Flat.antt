@@ -73,10 +73,10 @@ abbrev pub IsFlat : List PlacedNode → List NodeClock → Net → Type 0
 IsFlat nodes clocks net = IsFlatAnd IsProper nodes clocks net
 
 -- of a proper net this is left, were there no limits
-pub record IsJoined (net : Net) : Type 0 where
+pub record HasProperParts (net : Net) : Type 0 where
   pub actors : (a : ℕ) (actor : Actor) → slice_get net.actors a ≡ Some actor → IsProperActor net a actor
   pub rings : (r : ℕ) (ring : RingSpec) → slice_get net.rings r ≡ Some ring → IsProperRing net r ring
 
 -- the flat net that a program would have, were there no limits
 abbrev pub WouldBeFlat : List PlacedNode → List NodeClock → Net → Type 0
-WouldBeFlat nodes clocks net = IsFlatAnd IsJoined nodes clocks net
+WouldBeFlat nodes clocks net = IsFlatAnd HasProperParts nodes clocks net

@@ -19,7 +19,7 @@ use Rattle.lucy_meaning.specs.Kahn.{kahn}
 use Rattle.lucy_meaning.specs.Items.{IsCausalProgram}
 use Rattle.lucy_flat.specs.Clocked.{AreClocked}
 use Rattle.lucy_flat.specs.Flat.{IsFlat, WouldBeFlat}
-use Rattle.lucy_flat.specs.Counts.{actors_of, rings_of, slots_of, IsPassedBy, IsPassed}
+use Rattle.lucy_flat.specs.Counts.{actors_of, rings_of, slots_of, IsPassedBy, NetPasses}
 use Rattle.lucy_flat.specs.Refusals.{IsFlatNet, RefusesFlat, net_bits}
 use Rattle.lucy_flat.specs.declared.error.FlatError.TheVariants as error
 
@@ -74,5 +74,5 @@ SlotsCounted = (nodes : List PlacedNode) (clocks : List NodeClock) (net : Net) �
 -- so it passes the limit for which its program is refused
 abbrev pub LimitIsPassed : Type 0
 LimitIsPassed = (nodes : List PlacedNode) (clocks : List NodeClock) (net : Net) (l : Limit) →
-    AreProper nodes → AreClocked nodes clocks → WouldBeFlat nodes clocks net → IsPassed nodes clocks l →
+    AreProper nodes → AreClocked nodes clocks → WouldBeFlat nodes clocks net → NetPasses nodes clocks l →
     IsPassedBy (length net.actors) (length net.rings) (sum_by (λ ring. ring.size + 1) net.rings) l

@@ -18,7 +18,7 @@ use Rattle.lucy_meaning.specs.Spots.{Spot, node_at, kind_at}
 use Rattle.lucy_flat.specs.Instances.{word_at, IsBase, IsSpotWord}
 use Rattle.lucy_flat.specs.Flat.{IsFlat}
 use Rattle.lucy_clock.specs.Clocks.{clocks_of}
-use Rattle.lucy_flat.specs.Counts.{IsSmall, IsPassed}
+use Rattle.lucy_flat.specs.Counts.{HasSmallNet, NetPasses}
 
 -- the word of an instance place, or the base of an instance, has a computed length past the most: that of a clock of the node that a
 -- path leads to, but not of its own base
@@ -48,8 +48,8 @@ pub record IsMergeTooLong (nodes : List PlacedNode) (clocks : List NodeClock) : 
   pub too_long : IsOnTooLong own p ⊎ IsOnTooLong own (turned p)
 
 -- one of these words is too long
-abbrev pub IsWordTooLong : List PlacedNode → List NodeClock → Type 0
-IsWordTooLong nodes clocks = IsClockTooLong nodes clocks ⊎ IsMergeTooLong nodes clocks
+abbrev pub NetWordIsTooLong : List PlacedNode → List NodeClock → Type 0
+NetWordIsTooLong nodes clocks = IsClockTooLong nodes clocks ⊎ IsMergeTooLong nodes clocks
 
 -- how many bits the words of a net have
 abbrev pub net_bits : Net → ℕ
@@ -59,13 +59,13 @@ net_bits net = sum_by bit_count (net_words net)
 pub record IsFlatNet (nodes : List PlacedNode) (clocks : List NodeClock) (net : Net) : Type 0 where
   pub flat : IsFlat nodes clocks net
   pub stored : All IsStored (net_words net)
-  pub small : IsSmall nodes clocks
-  pub words : IsWordTooLong nodes clocks → ⊥
+  pub small : HasSmallNet nodes clocks
+  pub words : NetWordIsTooLong nodes clocks → ⊥
 
 -- memory ran out; or a count passes its limit; or else a word; or else the words of the net together
 abbrev pub RefusesFlat : List PlacedNode → List NodeClock → FlatError → Type 0
 RefusesFlat nodes clocks error.OutOfMemory = Unit {0}
 RefusesFlat nodes clocks (error.Limit l) =
-    IsPassed nodes clocks l
-    ⊎ ((l ≡ limit.Word) × IsSmall nodes clocks × IsWordTooLong nodes clocks)
+    NetPasses nodes clocks l
+    ⊎ ((l ≡ limit.Word) × HasSmallNet nodes clocks × NetWordIsTooLong nodes clocks)
     ⊎ ((l ≡ limit.Bits) × (net : Net) × IsFlatNet nodes clocks net × (limit_number limit.Bits < net_bits net))

@@ -7,7 +7,7 @@ ghost use Rattle.lucy_word.specs.declared.limit.Limit.TheVariants as lim;
 ghost use Rattle.lucy_net.specs.declared.net.RingSpec.{RingSpec as Ring};
 ghost use Rattle.lucy_flat.specs.declared.error.FlatError.TheVariants as err;
 ghost use Rattle.lucy_flat.specs.declared.draft.Draft.{Draft as One};
-ghost use Rattle.lucy_flat.specs.Assembly.{reads_count, all_reads, IsReadOn, ReadsTooLong, IsReadThere, HasKind, IsReady, IsRingOf, AreRingsOf, AreHeld, IsRingHeld, AreRingsHeld, IsAssembled, IsReadTooLong, IsNetPast, AreGiven, IsActorOf, AreActorsOf, IsFiring, IsSampling};
+ghost use Rattle.lucy_flat.specs.Assembly.{reads_count, all_reads, IsReadOn, ReadsTooLong, IsReadThere, HasKind, AreReadyDrafts, IsRingOf, AreRingsOf, AreHeld, IsRingHeld, AreRingsHeld, IsAssembled, IsReadTooLong, IsNetPast, AreGiven, IsDraftActor, AreActorsOf, IsFiring, IsSampling};
 
 use crate::draft::Draft;
 use crate::error::FlatError;
@@ -62,7 +62,7 @@ fn ring_of(
     to: usize,
     operand: usize,
 ) -> Result<RingSpec, FlatError>
-    requires ready { IsReady drafts.now }
+    requires ready { AreReadyDrafts drafts.now }
     requires to { to < length drafts.now }
     requires operand { (draft : One) → slice_get drafts.now to ≡ Some draft → operand < reads_count draft }
     ensures ok { (draft : One) (from : ℕ) → slice_get drafts.now to ≡ Some draft → slice_get draft.reads.items operand ≡ Some from → IfOk result (IsRingOf drafts.now to operand from draft) }
@@ -89,7 +89,7 @@ fn hold_ring(
     operand: usize,
     held: &mut Held,
 ) -> Result<(), FlatError>
-    requires ready { IsReady drafts.now }
+    requires ready { AreReadyDrafts drafts.now }
     requires to { to < length drafts.now }
     requires operand { (draft : One) → slice_get drafts.now to ≡ Some draft → operand < reads_count draft }
     ensures ok { (rings : List Ring) → AreHeld rings held.old → OnOk result (IsRingHeld drafts.now to operand rings held.new) }
@@ -106,7 +106,7 @@ fn hold_ring(
 
 // Holds the rings of an actor's operands.
 fn hold_rings(alloc: Global, drafts: &[Draft], to: usize, held: &mut Held) -> Result<(), FlatError>
-    requires ready { IsReady drafts.now }
+    requires ready { AreReadyDrafts drafts.now }
     requires to { to < length drafts.now }
     requires before { AreRingsHeld drafts.now to held.old }
     ensures ok { OnOk result (AreRingsHeld drafts.now (to + 1) held.new) }
@@ -122,7 +122,7 @@ fn hold_rings(alloc: Global, drafts: &[Draft], to: usize, held: &mut Held) -> Re
 }
 
 fn all_rings(alloc: Global, drafts: &[Draft]) -> Result<Held, FlatError>
-    requires ready { IsReady drafts.now }
+    requires ready { AreReadyDrafts drafts.now }
     ensures ok { IfOk result (AreRingsHeld drafts.now (length drafts.now)) }
     ensures refused { IfErr result (λ e. (e ≡ err.OutOfMemory) ⊎ ((e ≡ err.Limit lim.Word) × IsReadTooLong drafts.now)) }
 {
@@ -139,7 +139,7 @@ fn all_rings(alloc: Global, drafts: &[Draft]) -> Result<Held, FlatError>
 
 // Gives each ring to the draft from which it comes.
 fn hand_out(drafts: &mut Vec<Draft>, rings: &[RingSpec]) -> Result<(), FlatError>
-    requires ready { IsReady drafts.old.items }
+    requires ready { AreReadyDrafts drafts.old.items }
     requires rings { AreRingsOf drafts.old.items (length drafts.old.items) rings.now }
     ensures ok { OnOk result (AreGiven drafts.old.items rings.now (length rings.now) drafts.new.items) }
     ensures refused { IfErr result (λ e. e ≡ err.OutOfMemory) }
@@ -187,7 +187,7 @@ fn finished(alloc: Global, draft: Draft, first: u32, rings: &[RingSpec]) -> Resu
     requires kind { HasKind draft.kind (reads_count draft) }
     requires within { first + reads_count draft ≤ length rings.now }
     requires few { length rings.now < 2 ^ 32 }
-    ensures ok { IfOk result (IsActorOf rings.now first draft) }
+    ensures ok { IfOk result (IsDraftActor rings.now first draft) }
     ensures refused { IfErr result (λ e. e ≡ err.OutOfMemory) }
 {
     let Draft {
@@ -228,7 +228,7 @@ fn actors(alloc: Global, drafts: Vec<Draft>, rings: &[RingSpec]) -> Result<Vec<A
 
 // The net of drafts with their rings.
 fn joined(alloc: Global, mut drafts: Vec<Draft>, rings: Vec<RingSpec>) -> Result<Net, FlatError>
-    requires ready { IsReady drafts.items }
+    requires ready { AreReadyDrafts drafts.items }
     requires rings { AreRingsOf drafts.items (length drafts.items) rings.items }
     ensures ok { IfOk result (IsAssembled drafts.items) }
     ensures refused { IfErr result (λ e. e ≡ err.OutOfMemory) }
@@ -244,7 +244,7 @@ fn joined(alloc: Global, mut drafts: Vec<Draft>, rings: Vec<RingSpec>) -> Result
 /// The net of drafts: a ring for each operand, in order. `Limit(Bits)` comes where the words of the rings have together more bits
 /// than are allowed, and no word is too long; no more of these words are kept than are allowed.
 pub(crate) fn assemble(alloc: Global, drafts: Vec<Draft>) -> Result<Net, FlatError>
-    requires { IsReady drafts.items }
+    requires { AreReadyDrafts drafts.items }
     ensures ok { IfOk result (IsAssembled drafts.items) }
     ensures fits { IfOk result (λ net. IsReadTooLong drafts.items → ⊥) }
     ensures refused { IfErr result (λ e. (e ≡ err.OutOfMemory) ⊎ ((e ≡ err.Limit lim.Word) × IsReadTooLong drafts.items) ⊎ ((e ≡ err.Limit lim.Bits) × IsNetPast drafts.items)) }

@@ -3,7 +3,7 @@ ghost use Rattle.std.specs.Prelude.{◌≡◌, ◌≤◌, Some, None, length, su
 ghost use Rattle.lucy_place.specs.declared.entry.CallSite.{CallSite as Site};
 ghost use Rattle.lucy_word.specs.declared.limit.Limit.{Limit as Named};
 ghost use Rattle.lucy_meaning.specs.Sizes.{capped, AreCapped, size_of, total_of};
-ghost use Rattle.lucy_flat.specs.Counts.{read_count, own_rings, own_sizes, last_of, IsPassedBy, IsKeptBy, IsPassed, IsSmall};
+ghost use Rattle.lucy_flat.specs.Counts.{read_count, own_rings, own_sizes, last_of, IsPassedBy, IsKeptBy, NetPasses, HasSmallNet};
 
 use lucy_clock::NodeClock;
 use lucy_meaning::add_calls;
@@ -104,8 +104,8 @@ pub(crate) fn passed(placed: &Placed, clocks: &[NodeClock], sizes: &[u64]) -> Op
     requires clocks { length clocks.now ≡ length placed.now.nodes }
     requires room { length placed.now.nodes ≤ length sizes.now }
     requires sizes { AreCapped (size_of placed.now.nodes) (length placed.now.nodes) sizes.now }
-    ensures passed { (limit : Named) → result ≡ Some limit → IsPassed placed.now.nodes clocks.now limit }
-    ensures kept { result ≡ None → IsSmall placed.now.nodes clocks.now }
+    ensures passed { (limit : Named) → result ≡ Some limit → NetPasses placed.now.nodes clocks.now limit }
+    ensures kept { result ≡ None → HasSmallNet placed.now.nodes clocks.now }
 {
     let main = placed.nodes() - 1;
     let results = placed.node(main).results.list().len() as u64;

@@ -6,9 +6,9 @@ ghost use Rattle.lucy_net.specs.declared.net.Net.{Net as Flat};
 ghost use Rattle.lucy_word.specs.Limits.{limit_number};
 ghost use Rattle.lucy_place.specs.Proper.{AreProper};
 ghost use Rattle.lucy_flat.specs.declared.error.FlatError.TheVariants as err;
-ghost use Rattle.lucy_flat.specs.Counts.{IsSmall, last_of, outputs_of};
+ghost use Rattle.lucy_flat.specs.Counts.{HasSmallNet, last_of, outputs_of};
 ghost use Rattle.lucy_flat.specs.Clocked.{AreClocked};
-ghost use Rattle.lucy_flat.specs.Drafts.{IsProgram, AreDrafts, IsInstanceKept, AreDraftsKept, RefusesDrafts};
+ghost use Rattle.lucy_flat.specs.Drafts.{CanBeFlattened, AreDrafts, IsInstanceKept, AreDraftsKept, RefusesDrafts};
 ghost use Rattle.lucy_flat.specs.Refusals.{IsClockTooLong, IsFlatNet, RefusesFlat, net_bits};
 
 use crate::assemble::assemble;
@@ -35,7 +35,7 @@ fn put_outputs(
 ) -> Result<(), FlatError>
     requires some { 0 < length program.placed.now.nodes }
     requires main { main ≡ last_of program.placed.now.nodes }
-    requires program { IsProgram program.placed.now.nodes program.clocks.now program.sizes.now }
+    requires program { CanBeFlattened program.placed.now.nodes program.clocks.now program.sizes.now }
     requires put { IsInstanceKept program.placed.now.nodes program.clocks.now [] (last_of program.placed.now.nodes) [] kept.old }
     requires few { outputs_of program.placed.now.nodes < 2 ^ 32 }
     ensures ok { OnOk result (AreDraftsKept program.entry.placed.now.nodes program.entry.clocks.now kept.new) }
@@ -84,10 +84,10 @@ fn all_bits(net: &Net) -> u64
 fn drafts(alloc: Global, program: Program<'_>, main: u32) -> Result<Vec<Draft>, FlatError>
     requires some { 0 < length program.placed.now.nodes }
     requires main { main ≡ last_of program.placed.now.nodes }
-    requires program { IsProgram program.placed.now.nodes program.clocks.now program.sizes.now }
-    requires small { IsSmall program.placed.now.nodes program.clocks.now }
+    requires program { CanBeFlattened program.placed.now.nodes program.clocks.now program.sizes.now }
+    requires small { HasSmallNet program.placed.now.nodes program.clocks.now }
     ensures ok { IfOk result (λ v. AreDrafts program.entry.placed.now.nodes program.entry.clocks.now v.items) }
-    ensures small { IfOk result (λ v. IsSmall program.entry.placed.now.nodes program.entry.clocks.now) }
+    ensures small { IfOk result (λ v. HasSmallNet program.entry.placed.now.nodes program.entry.clocks.now) }
     ensures fits { IfOk result (λ v. IsClockTooLong program.entry.placed.now.nodes program.entry.clocks.now → ⊥) }
     ensures refused { IfErr result (RefusesDrafts program.entry.placed.now.nodes program.entry.clocks.now) }
 {

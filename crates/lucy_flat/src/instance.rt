@@ -12,8 +12,8 @@ ghost use Rattle.lucy_flat.specs.Extents.{actors_in, AreSumsOf, HasSize, size_in
 ghost use Rattle.lucy_meaning.specs.Numbers.{number};
 ghost use Rattle.lucy_meaning.specs.Sizes.{size_of};
 ghost use Rattle.lucy_flat.specs.Flat.{actor_of};
-ghost use Rattle.lucy_flat.specs.Drafts.{IsProgram, IsAt, IsInstance, AreAlike, IsMade, IsFit, AreKept, IsPlaceKept, ArePlacesKept, IsInstanceKept};
-ghost use Rattle.lucy_flat.specs.Refusals.{IsWordTooLong};
+ghost use Rattle.lucy_flat.specs.Drafts.{CanBeFlattened, IsInstanceAt, IsInstance, AreCallsAlike, IsDraftMade, IsFit, AreKept, IsPlaceKept, ArePlacesKept, IsInstanceKept};
+ghost use Rattle.lucy_flat.specs.Refusals.{NetWordIsTooLong};
 ghost use Rattle.lucy_flat.specs.declared.draft.Draft.{Draft as One};
 ghost use Rattle.lucy_place.specs.declared.entry.PlaceKind.{PlaceKind as Kind};
 
@@ -120,7 +120,7 @@ fn reads(
     place: u32,
     kind: &PlaceKind,
 ) -> Result<Vec<u32>, FlatError>
-    requires program { IsProgram program.placed.now.nodes program.clocks.now program.sizes.now }
+    requires program { CanBeFlattened program.placed.now.nodes program.clocks.now program.sizes.now }
     requires of { (path : List ℕ) × IsInstance program.placed.now.nodes program.clocks.now path of }
     requires stands { Stands of.node.now place kind.now }
     ensures ok { (path : List ℕ) → IsInstance program.entry.placed.now.nodes program.entry.clocks.now path of.entry →
@@ -168,14 +168,14 @@ fn draft_of(
     of: Instance<'_>,
     place: u32,
 ) -> Result<Draft, FlatError>
-    requires program { IsProgram program.placed.now.nodes program.clocks.now program.sizes.now }
+    requires program { CanBeFlattened program.placed.now.nodes program.clocks.now program.sizes.now }
     requires of { (path : List ℕ) × IsInstance program.placed.now.nodes program.clocks.now path of }
     requires base { IsShortest of.base.now }
     requires place { (1 ≤ place) × (place ≤ length of.node.now.places) }
     ensures ok { (path : List ℕ) (kind : Kind) → IsInstance program.entry.placed.now.nodes program.entry.clocks.now path of.entry →
-        kind_at program.entry.placed.now.nodes (at path place) ≡ Some kind → IfOk result (IsMade program.entry.placed.now.nodes program.entry.clocks.now (at path place) kind) }
+        kind_at program.entry.placed.now.nodes (at path place) ≡ Some kind → IfOk result (IsDraftMade program.entry.placed.now.nodes program.entry.clocks.now (at path place) kind) }
     ensures fits { (path : List ℕ) → IsInstance program.entry.placed.now.nodes program.entry.clocks.now path of.entry → IfOk result (λ d. IsFit program.entry.placed.now.nodes program.entry.clocks.now path place) }
-    ensures refused { IfErr result (λ e. (e ≡ err.OutOfMemory) ⊎ ((e ≡ err.Limit lim.Word) × IsWordTooLong program.entry.placed.now.nodes program.entry.clocks.now)) }
+    ensures refused { IfErr result (λ e. (e ≡ err.OutOfMemory) ⊎ ((e ≡ err.Limit lim.Word) × NetWordIsTooLong program.entry.placed.now.nodes program.entry.clocks.now)) }
 {
     let entry = &of.node.places.list()[place as usize - 1];
     let word = sampled(alloc, of.base, &of.clock.words.list()[place as usize])?;
@@ -218,13 +218,13 @@ fn put_place(
     place: u32,
     kept: &mut Kept,
 ) -> Result<(), FlatError>
-    requires program { IsProgram program.placed.now.nodes program.clocks.now program.sizes.now }
+    requires program { CanBeFlattened program.placed.now.nodes program.clocks.now program.sizes.now }
     requires of { (path : List ℕ) × IsInstance program.placed.now.nodes program.clocks.now path of }
     requires base { IsShortest of.base.now }
     requires place { (1 ≤ place) × (place ≤ length of.node.now.places) }
     ensures ok { (path : List ℕ) (old : List One) → IsInstance program.entry.placed.now.nodes program.entry.clocks.now path of.entry → AreKept old kept.old →
         OnOk result (IsPlaceKept program.entry.placed.now.nodes program.entry.clocks.now path place old kept.new) }
-    ensures refused { IfErr result (λ e. (e ≡ err.OutOfMemory) ⊎ ((e ≡ err.Limit lim.Word) × IsWordTooLong program.entry.placed.now.nodes program.entry.clocks.now)) }
+    ensures refused { IfErr result (λ e. (e ≡ err.OutOfMemory) ⊎ ((e ≡ err.Limit lim.Word) × NetWordIsTooLong program.entry.placed.now.nodes program.entry.clocks.now)) }
 {
     if is_past(kept) {
         let entry = &of.node.places.list()[place as usize - 1];
@@ -242,12 +242,12 @@ fn put_places(
     of: Instance<'_>,
     kept: &mut Kept,
 ) -> Result<(), FlatError>
-    requires program { IsProgram program.placed.now.nodes program.clocks.now program.sizes.now }
+    requires program { CanBeFlattened program.placed.now.nodes program.clocks.now program.sizes.now }
     requires of { (path : List ℕ) × IsInstance program.placed.now.nodes program.clocks.now path of }
     requires base { IsShortest of.base.now }
     ensures ok { (path : List ℕ) (old : List One) → IsInstance program.entry.placed.now.nodes program.entry.clocks.now path of.entry → AreKept old kept.old →
         OnOk result (ArePlacesKept program.entry.placed.now.nodes program.entry.clocks.now path (length of.entry.node.now.places) old kept.new) }
-    ensures refused { IfErr result (λ e. (e ≡ err.OutOfMemory) ⊎ ((e ≡ err.Limit lim.Word) × IsWordTooLong program.entry.placed.now.nodes program.entry.clocks.now)) }
+    ensures refused { IfErr result (λ e. (e ≡ err.OutOfMemory) ⊎ ((e ≡ err.Limit lim.Word) × NetWordIsTooLong program.entry.placed.now.nodes program.entry.clocks.now)) }
 {
     let count = of.node.places.list().len();
     'each: for i in 0..count {
@@ -262,7 +262,7 @@ fn comes_again(kept: &Kept, sites: &[CallSite], words: &[Word], places: usize, c
     requires call { call < length sites.now }
     requires word { places + 1 + call < length words.now }
     ensures past { IsTrue result → limit_number lim.Bits < kept.now.bits }
-    ensures alike { IsTrue result → AreAlike sites.now words.now places call }
+    ensures alike { IsTrue result → AreCallsAlike sites.now words.now places call }
 {
     if call == 0 {
         return false;
@@ -288,14 +288,14 @@ pub(crate) fn put_instance(
     begin: u32,
     kept: &mut Kept,
 ) -> Result<(), FlatError>
-    requires program { IsProgram program.placed.now.nodes program.clocks.now program.sizes.now }
+    requires program { CanBeFlattened program.placed.now.nodes program.clocks.now program.sizes.now }
     requires node { node < length program.placed.now.nodes }
-    requires at { (path : List ℕ) × IsAt program.placed.now.nodes program.clocks.now path node begin base.now caller }
+    requires at { (path : List ℕ) × IsInstanceAt program.placed.now.nodes program.clocks.now path node begin base.now caller }
     requires base { IsShortest base.now }
     requires few { begin + size_of program.placed.now.nodes node < 2 ^ 32 }
-    ensures ok { (path : List ℕ) (old : List One) → IsAt program.entry.placed.now.nodes program.entry.clocks.now path node begin base.now caller.entry → AreKept old kept.old →
+    ensures ok { (path : List ℕ) (old : List One) → IsInstanceAt program.entry.placed.now.nodes program.entry.clocks.now path node begin base.now caller.entry → AreKept old kept.old →
         OnOk result (IsInstanceKept program.entry.placed.now.nodes program.entry.clocks.now path node old kept.new) }
-    ensures refused { IfErr result (λ e. (e ≡ err.OutOfMemory) ⊎ ((e ≡ err.Limit lim.Word) × IsWordTooLong program.entry.placed.now.nodes program.entry.clocks.now)) }
+    ensures refused { IfErr result (λ e. (e ≡ err.OutOfMemory) ⊎ ((e ≡ err.Limit lim.Word) × NetWordIsTooLong program.entry.placed.now.nodes program.entry.clocks.now)) }
 {
     let found = program.placed.node(node);
     let clock = &program.clocks[node as usize];

@@ -12,8 +12,8 @@ use Rattle.lucy_front.specs.declared.options.Options.{Options}
 use Rattle.lucy_front.specs.Accepting.{IsAccepted}
 use Rattle.lucy_front.proofs.OneAnswer.{text_proper}
 use Rattle.lucy_meaning.specs.Horizons.{Suffice}
-use Rattle.lucy_execution.specs.Streams.{param_words, main_streams}
-use Rattle.lucy_execution.specs.Running.{HasSchedule}
+use Rattle.lucy_results.specs.Streams.{param_words, main_streams}
+use Rattle.lucy_results.specs.Running.{HasSchedule}
 use Rattle.lucy_freeze.specs.Frozen.{AreFrozen}
 use Rattle.lucy_freeze.specs.Freezing.{all_written}
 use Rattle.lucy_freeze.specs.Meaning.{FrozenProgramsMeanTheSame, FrozenProgramsAreWritten}

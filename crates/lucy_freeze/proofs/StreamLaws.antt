@@ -20,9 +20,9 @@ use Rattle.lucy_meaning.proofs.ByNumber.{kahn_later}
 use Rattle.lucy_meaning.proofs.Closed.{each_of}
 use Rattle.lucy_flat.specs.Instances.{words_in}
 use Rattle.lucy_kahn.specs.Turns.{params_in}
-use Rattle.lucy_execution.specs.Streams.{main_word, param_words, main_stream, main_streams}
-use Rattle.lucy_execution.specs.Running.{HasSchedule}
-use Rattle.lucy_execution.proofs.StreamLaws.{long, front_takes, map_same}
+use Rattle.lucy_results.specs.Streams.{main_word, param_words, main_stream, main_streams}
+use Rattle.lucy_results.specs.Running.{HasSchedule}
+use Rattle.lucy_results.proofs.StreamLaws.{long, front_takes, map_same}
 use Rattle.lucy_freeze.specs.Frozen.{pair, IsFrozenAt, AreFrozen}
 use Rattle.lucy_freeze.proofs.Leading.{IsImage, image_spot}
 use Rattle.lucy_freeze.proofs.KahnLaws.{back}

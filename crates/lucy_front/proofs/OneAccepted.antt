@@ -8,7 +8,7 @@ use Rattle.lucy_clock.specs.declared.node_clock.NodeClock.{NodeClock}
 use Rattle.lucy_net.specs.declared.net.Net.{Net}
 use Rattle.lucy_cause.specs.declared.error.CauseFault.{CauseFault}
 use Rattle.lucy_cause.specs.declared.error.CauseFault.TheVariants as cause
-use Rattle.lucy_cause.specs.Schedules.{Timetable, IsScheduleOf, Refuses as RefusesSchedule}
+use Rattle.lucy_cause.specs.Schedules.{Timetable, IsScheduleOf, RefusesTimetable as RefusesSchedule}
 use Rattle.lucy_flat.proofs.OneNet.{one_net, one_limit, never_both as net_kept}
 use Rattle.lucy_cause.proofs.OneAnswer.{never_both as schedule_kept, one_refusal as one_fault}
 use Rattle.lucy_front.specs.declared.options.Options.{Options}

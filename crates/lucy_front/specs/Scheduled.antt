@@ -21,7 +21,7 @@ use Rattle.lucy_flat.specs.declared.error.FlatError.TheVariants as flat
 use Rattle.lucy_flat.specs.Instances.{words_in}
 use Rattle.lucy_flat.specs.Refusals.{IsFlatNet, RefusesFlat, net_bits}
 use Rattle.lucy_cause.specs.declared.error.CauseFault.TheVariants as cause
-use Rattle.lucy_cause.specs.Schedules.{Refuses as RefusesSchedule}
+use Rattle.lucy_cause.specs.Schedules.{RefusesTimetable as RefusesSchedule}
 use Rattle.lucy_front.specs.declared.refusal.Refusal.{Refusal}
 use Rattle.lucy_front.specs.declared.refusal.Refusal.TheVariants.{Cause, Limit as LimitPassed, OutOfMemory}
 use Rattle.lucy_front.specs.Names.{of_one, place_name, param_places}

@@ -2,7 +2,7 @@
 ghost use Rattle.std.specs.Prelude.{ℕ, List, IfOk, IfErr};
 ghost use Rattle.lucy_host.specs.Operators.{Operator};
 ghost use Rattle.lucy_clock.specs.declared.node_clock.NodeClock.{NodeClock as Clock};
-ghost use Rattle.lucy_cause.specs.Schedules.{Refuses as RefusesSchedule};
+ghost use Rattle.lucy_cause.specs.Schedules.{RefusesTimetable as RefusesSchedule};
 ghost use Rattle.lucy_front.specs.declared.options.Options.{Options as Choices};
 ghost use Rattle.lucy_front.specs.Scheduled.{IsNetOf, RefusesNet};
 ghost use Rattle.lucy_front.specs.Accepting.{IsClockedText, IsAccepted};

@@ -49,12 +49,12 @@ use Rattle.lucy_flat.proofs.FlatLaws.{main_spot, only_one}
 use Rattle.lucy_flat.proofs.MeaningLaws.{places_iterate}
 use Rattle.lucy_flat.proofs.RingWords.{buffer_or}
 use Rattle.lucy_flat.proofs.SizeOfNet.{would_be, output_ring_empty}
-use Rattle.lucy_execution.specs.Streams.{param_words}
-use Rattle.lucy_execution.proofs.NetLaws.{runnable, turns_are}
+use Rattle.lucy_results.specs.Streams.{param_words}
+use Rattle.lucy_results.proofs.NetLaws.{runnable, turns_are}
 use Rattle.lucy_front.specs.declared.accepted.Accepted.{Accepted}
 use Rattle.lucy_front.specs.declared.options.Options.{Options}
 use Rattle.lucy_front.specs.Accepting.{IsAccepted}
-use Rattle.lucy_interleaving.specs.Interleavings.{machine_for, IsBuffer, printed_size, stream_for, IsSafe, IsFedText}
+use Rattle.lucy_interleaving.specs.Interleavings.{machine_for, IsBuffer, reported_size, stream_for, IsSafe, IsFedText}
 
 -- what stands at a place of a list
 get_at : (xs : List ℕ) (j r : ℕ) → IsOperand xs j r → slice_get xs j ≡ Some r

@@ -18,8 +18,8 @@ use Rattle.lucy_meaning.specs.Spots.{main_of, results_in}
 use Rattle.lucy_meaning.proofs.Lists.{mapped}
 use Rattle.lucy_flat.specs.Instances.{words_in}
 use Rattle.lucy_cause.specs.Schedules.{events_at}
-use Rattle.lucy_execution.specs.Streams.{main_word, result_words}
-use Rattle.lucy_execution.specs.Running.{HasSchedule}
+use Rattle.lucy_results.specs.Streams.{main_word, result_words}
+use Rattle.lucy_results.specs.Running.{HasSchedule}
 use Rattle.lucy_front.specs.declared.accepted.Accepted.{Accepted}
 use Rattle.lucy_front.specs.declared.options.Options.{Options}
 use Rattle.lucy_front.specs.Names.{of_one}

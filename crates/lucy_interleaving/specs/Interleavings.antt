@@ -14,7 +14,7 @@ use Rattle.lucy_meaning.specs.Numbers.{number}
 use Rattle.lucy_meaning.specs.Kahn.{kahn}
 use Rattle.lucy_meaning.specs.Horizons.{Suffice}
 use Rattle.lucy_flat.specs.Instances.{index_at, sizes_in}
-use Rattle.lucy_execution.specs.Streams.{param_words}
+use Rattle.lucy_results.specs.Streams.{param_words}
 use Rattle.lucy_front.specs.declared.accepted.Accepted.{Accepted}
 use Rattle.lucy_front.specs.declared.options.Options.{Options}
 use Rattle.lucy_front.specs.Accepting.{IsAccepted}
@@ -28,8 +28,8 @@ abbrev pub IsBuffer : Accepted → Spot → (buffer : ℕ) → Type 0
 IsBuffer a spot buffer = (operand : ℕ) × (kind_at a.placed.nodes spot ≡ Some (Buffer buffer operand))
 
 -- the size that the report prints for the buffer of this number in the node of the instance place
-abbrev pub printed_size : Accepted → Spot → (buffer : ℕ) → ℕ
-printed_size a spot buffer = slice_index_or (sizes_in (slice_get a.clocks.items (index_at a.placed.nodes spot.path))) (buffer - 1) 0
+abbrev pub reported_size : Accepted → Spot → (buffer : ℕ) → ℕ
+reported_size a spot buffer = slice_index_or (sizes_in (slice_get a.clocks.items (index_at a.placed.nodes spot.path))) (buffer - 1) 0
 
 -- the instance place's list in the iterate K(T * A), for T instants and A instance places (Kahn 1974)
 abbrev pub stream_for : List HostKind → Accepted → (inputs : List (List ℤ)) → (horizon : ℕ) → Spot → List ℤ
@@ -39,7 +39,7 @@ stream_for kinds a inputs horizon spot = kahn kinds inputs a.placed.nodes (horiz
 -- actor of a place gave, and what an output took, is a front of the place's list; and some event is possible unless all is done
 pub record IsSafe (kinds : List HostKind) (a : Accepted) (inputs : List (List ℤ)) (horizon : ℕ) (s : State) : Type 0 where
   pub buffers : (spot : Spot) (buffer r : ℕ) → IsBuffer a spot buffer → r < length a.net.rings → taker a.net r ≡ number a.placed.nodes spot →
-      length (held s r) ≤ printed_size a spot buffer + 1
+      length (held s r) ≤ reported_size a spot buffer + 1
   pub others : (r : ℕ) → ((spot : Spot) (buffer : ℕ) → IsBuffer a spot buffer → taker a.net r ≡ number a.placed.nodes spot → ⊥) →
       length (held s r) ≤ 1
   pub places : (spot : Spot) (r : ℕ) → IsSpot a.placed.nodes spot → giver a.net r ≡ number a.placed.nodes spot →

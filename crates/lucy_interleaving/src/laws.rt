@@ -3,8 +3,8 @@
 ghost use Rattle.lucy_interleaving.specs.Interleavings.{RunsAreSafe, StatesAreSafe};
 ghost use Rattle.lucy_interleaving.specs.Wholeness.{PlacesAreWhole, NoLineIsMissing};
 
-use lucy_execution::{places_are_whole, streams_are_whole};
 use lucy_front::accepted_programs_are_clocked;
+use lucy_results::{places_are_whole, streams_are_whole};
 
 /// Every list of possible events of an accepted program's net leads to a safe state: each ring holds at most its buffer's printed
 /// size and one item more, what was given and taken are fronts of the program's Kahn streams, and some event is possible unless

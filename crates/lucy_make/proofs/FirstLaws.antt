@@ -17,9 +17,9 @@ use Rattle.lucy_place.specs.Proper.{AreProper}
 use Rattle.lucy_clock.specs.declared.node_clock.NodeClock.{NodeClock}
 use Rattle.lucy_meaning.specs.Spots.{main_of, results_in}
 use Rattle.lucy_meaning.specs.Horizons.{Suffice}
-use Rattle.lucy_execution.specs.Streams.{main_word, param_words, result_words, main_stream, main_streams, cut_to}
-use Rattle.lucy_execution.specs.Running.{HasSchedule}
-use Rattle.lucy_run.specs.Courses.{CourseView, Program, CanRun, values, IsAlong, IsNext}
+use Rattle.lucy_results.specs.Streams.{main_word, param_words, result_words, main_stream, main_streams, cut_to}
+use Rattle.lucy_results.specs.Running.{HasSchedule}
+use Rattle.lucy_run.specs.Courses.{CourseView, Program, CanBeRunInBlocks, values, IsAlong, IsNextBlock}
 use Rattle.lucy_make.specs.Figures.{sum_of}
 use Rattle.lucy_make.specs.Blocks.{first_to, first_after, IsTold, FirstGoesOn, FirstIsShort, FirstAgrees}
 
@@ -68,14 +68,14 @@ none_short : (values : List ℤ) → length values ≤ 0 → values ≡ []
 none_short [] few = refl
 none_short (x ∷ values) few = absurd (omega (arith, few))
 
-pub begin : FirstIsShort → (p : Program) (first now : SeenSource) (c : CourseView) → CanRun p → IsAlong p first [] now c → c.horizon ≡ 0 → IsTold p [] c.horizon 0 (pos 0)
+pub begin : FirstIsShort → (p : Program) (first now : SeenSource) (c : CourseView) → CanBeRunInBlocks p → IsAlong p first [] now c → c.horizon ≡ 0 → IsTold p [] c.horizon 0 (pos 0)
 begin short p first now c can along at =
     let few = short p (values p []) c.horizon can along.suffice in
     let nothing : first_to p (values p []) c.horizon ≡ [] = none_short (first_to p (values p []) c.horizon) (omega (arith, few, at)) in
     record { counted = sym (ap length nothing); summed = no_sum ∙ ap sum_of (sym nothing) }
 
-module _ (goes : FirstGoesOn) (short : FirstIsShort) (p : Program) (can : CanRun p) (first : SeenSource) (items : List ItemOf) (before now : SeenSource) (old new : CourseView)
-    (along : IsAlong p first items before old) (streams : List (List ℤ)) (next : IsNext p first items now old new streams) where
+module _ (goes : FirstGoesOn) (short : FirstIsShort) (p : Program) (can : CanBeRunInBlocks p) (first : SeenSource) (items : List ItemOf) (before now : SeenSource) (old new : CourseView)
+    (along : IsAlong p first items before old) (streams : List (List ℤ)) (next : IsNextBlock p first items now old new streams) where
   module _ (more : List ℤ) (more_are : more ≡ list_at streams 0) where
     all : first_to p (values p items) old.horizon ++ more ≡ first_to p (values p (items ++ next.more)) new.horizon
     all =

@@ -11,12 +11,12 @@ use Rattle.lucy_feed.specs.Feeding.{is_closed}
 use Rattle.lucy_text.specs.Outside.{SeenSource}
 use Rattle.lucy_clock.specs.declared.node_clock.NodeClock.{NodeClock}
 use Rattle.lucy_front.specs.declared.accepted.Accepted.{Accepted}
-use Rattle.lucy_execution.proofs.StreamLaws.{params_count}
+use Rattle.lucy_results.proofs.StreamLaws.{params_count}
 use Rattle.lucy_run.specs.declared.pace.Pace.{Pace}
 use Rattle.lucy_run.specs.declared.ending.Ending.{Ending}
 use Rattle.lucy_run.specs.declared.ending.Ending.TheVariants as ending
-use Rattle.lucy_run.specs.Owes.{input_words, EndsFor, IsFed}
-use Rattle.lucy_run.specs.Courses.{CourseView, Program, CanRun, values, IsBegun, IsAlong, IsUnderWay, HasStopped, IsOver, EndsOver}
+use Rattle.lucy_run.specs.Owes.{input_words, EndsFor, IsMainFed}
+use Rattle.lucy_run.specs.Courses.{CourseView, Program, CanBeRunInBlocks, values, IsCourseBegun, IsAlong, IsCourseUnderWay, HasStopped, IsCourseOver, EndsOver}
 use Rattle.lucy_make.specs.Text.{made_input}
 use Rattle.lucy_make.specs.Figures.{sum_of, slots_of, net_lines, run_lines, figures}
 use Rattle.lucy_make.specs.Owes.{printed_values, where_done, OwesSummary}
@@ -44,10 +44,10 @@ module _ (kinds : List HostKind) (a : Accepted) where
   abbrev pub made_program : Program
   made_program = record { kinds = kinds; nodes = a.placed.nodes; clocks = a.clocks.items; inputs = a.inputs.items; outputs = a.outputs.items }
 
-  module _ (can : CanRun made_program) (clocks : List NodeClock) (e : clocks ≡ a.clocks.items) (pace : Pace) (endless : pace.instants ≡ None) (course : CourseView)
-      (begun : IsBegun kinds a.placed.nodes clocks a.inputs.items pace course) where
-    begun_here : IsBegun kinds a.placed.nodes a.clocks.items a.inputs.items pace course
-    begun_here = subst (λ cs. IsBegun kinds a.placed.nodes cs a.inputs.items pace course) e begun
+  module _ (can : CanBeRunInBlocks made_program) (clocks : List NodeClock) (e : clocks ≡ a.clocks.items) (pace : Pace) (endless : pace.instants ≡ None) (course : CourseView)
+      (begun : IsCourseBegun kinds a.placed.nodes clocks a.inputs.items pace course) where
+    begun_here : IsCourseBegun kinds a.placed.nodes a.clocks.items a.inputs.items pace course
+    begun_here = subst (λ cs. IsCourseBegun kinds a.placed.nodes cs a.inputs.items pace course) e begun
 
     begun_along : (source : SeenSource) → IsAlong made_program source [] source course
     begun_along source = let (given_is, block_is, at, along) = begun_here in along source a.outputs.items
@@ -60,7 +60,7 @@ module _ (kinds : List HostKind) (a : Accepted) where
       told : (all : List ItemOf) × IsAlong made_program source all now last × HasStopped last × IsTold made_program all last.horizon count sum
       told = let (given_is, block_is, at, along) = begun_here in tells made_program source can (begun_along source) at
 
-      pub under_way : IsUnderWay now last
+      pub under_way : IsCourseUnderWay now last
       under_way = let (all, along, stopped, is) = told in (made_program, source, all, can, along)
 
       -- a main with inputs has words of them
@@ -71,13 +71,13 @@ module _ (kinds : List HostKind) (a : Accepted) where
 
       module _ (law : CutInPieces) (agrees : FirstAgrees) (some : a.inputs.items ≡ [] → ⊥) (rest : List ℕ) (end : Ending) (held : source.left ≡ Some made_input) (still : source.faults ≡ 0)
           (over : EndsOver now (steady rest) last end) where
-        ended : (all : List ItemOf) × IsOver made_program source all None last.horizon (steady rest) end × IsTold made_program all last.horizon count sum
+        ended : (all : List ItemOf) × IsCourseOver made_program source all None last.horizon (steady rest) end × IsTold made_program all last.horizon count sum
         ended =
             let (all, along, stopped, is) = told in
-            (all, subst (λ g. IsOver made_program source all g last.horizon (steady rest) end) (same ∙ begun_here.0 ∙ endless) (over made_program source all can along stopped), is)
+            (all, subst (λ g. IsCourseOver made_program source all g last.horizon (steady rest) end) (same ∙ begun_here.0 ∙ endless) (over made_program source all can along stopped), is)
 
         -- the run that `run` owes, and main's first result there
-        made_run : (stop : ReadStop) × (lists : List (List ℤ)) × (fault : Option TextFault) × IsTrue (is_closed stop) × IsFed a None made_input stop lists fault last.horizon
+        made_run : (stop : ReadStop) × (lists : List (List ℤ)) × (fault : Option TextFault) × IsTrue (is_closed stop) × IsMainFed a None made_input stop lists fault last.horizon
             × EndsFor (input_words a) None lists fault end × (count ≡ length (printed_values kinds a lists last.horizon)) × (sum ≡ sum_of (printed_values kinds a lists last.horizon))
         made_run =
             let (all, is_over, is) = ended in

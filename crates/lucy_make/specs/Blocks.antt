@@ -6,8 +6,8 @@ use Rattle.lucy_stream.specs.Fronts.{AreFronts}
 use Rattle.lucy_lines.specs.Cuts.{ItemOf}
 use Rattle.lucy_text.specs.Outside.{SeenSource}
 use Rattle.lucy_meaning.specs.Horizons.{Suffice}
-use Rattle.lucy_execution.specs.Streams.{main_streams, later_streams}
-use Rattle.lucy_run.specs.Courses.{CourseView, Program, CanRun, words_of, values, IsAlong, HasStopped}
+use Rattle.lucy_results.specs.Streams.{main_streams, later_streams}
+use Rattle.lucy_run.specs.Courses.{CourseView, Program, CanBeRunInBlocks, words_of, values, IsAlong, HasStopped}
 use Rattle.lucy_make.specs.Figures.{sum_of}
 
 -- by these lists the values of main's first result up to a horizon
@@ -25,24 +25,24 @@ pub record IsTold (p : Program) (items : List ItemOf) (horizon count : ℕ) (sum
 
 -- a course before its first block, of some program that can be run by operators of these kinds
 abbrev pub IsFirst : List HostKind → (now : SeenSource) → CourseView → Type 0
-IsFirst kinds now c = (p : Program) × (first : SeenSource) × CanRun p × IsAlong p first [] now c × (c.horizon ≡ 0) × (kinds ≡ p.kinds)
+IsFirst kinds now c = (p : Program) × (first : SeenSource) × CanBeRunInBlocks p × IsAlong p first [] now c × (c.horizon ≡ 0) × (kinds ≡ p.kinds)
 
 -- it was run to its last block, and main's first result was told
 abbrev pub Tells : (before now : SeenSource) (old new : CourseView) (count : ℕ) (sum : ℤ) → Type 0
 Tells before now old new count sum =
-    (p : Program) (first : SeenSource) → CanRun p → IsAlong p first [] before old → old.horizon ≡ 0 →
+    (p : Program) (first : SeenSource) → CanBeRunInBlocks p → IsAlong p first [] before old → old.horizon ≡ 0 →
     (all : List ItemOf) × IsAlong p first all now new × HasStopped new × IsTold p all new.horizon count sum
 
 -- the values up to a later horizon are those up to an earlier one, and then those past it, by inputs that go on
 abbrev pub FirstGoesOn : Type 0
-FirstGoesOn = (p : Program) (lists more : List (List ℤ)) (before instants : ℕ) → CanRun p → AreFronts lists more → before ≤ instants → Suffice (words_of p) lists before →
+FirstGoesOn = (p : Program) (lists more : List (List ℤ)) (before instants : ℕ) → CanBeRunInBlocks p → AreFronts lists more → before ≤ instants → Suffice (words_of p) lists before →
     first_to p more instants ≡ first_to p lists before ++ first_after p more before instants
 
 -- there is at most one in an instant
 abbrev pub FirstIsShort : Type 0
-FirstIsShort = (p : Program) (lists : List (List ℤ)) (instants : ℕ) → CanRun p → Suffice (words_of p) lists instants → length (first_to p lists instants) ≤ instants
+FirstIsShort = (p : Program) (lists : List (List ℤ)) (instants : ℕ) → CanBeRunInBlocks p → Suffice (words_of p) lists instants → length (first_to p lists instants) ≤ instants
 
 -- they are the same by inputs that go on past the items that the horizon needs
 abbrev pub FirstAgrees : Type 0
-FirstAgrees = (p : Program) (lists more : List (List ℤ)) (instants : ℕ) → CanRun p → AreFronts lists more → Suffice (words_of p) lists instants →
+FirstAgrees = (p : Program) (lists more : List (List ℤ)) (instants : ℕ) → CanBeRunInBlocks p → AreFronts lists more → Suffice (words_of p) lists instants →
     first_to p more instants ≡ first_to p lists instants

@@ -6,7 +6,7 @@ use Rattle.lucy_text.specs.Sources.{ReadStop}
 use Rattle.lucy_feed.specs.Feeding.{is_closed}
 use Rattle.lucy_front.specs.declared.accepted.Accepted.{Accepted}
 use Rattle.lucy_run.specs.declared.ending.Ending.{Ending}
-use Rattle.lucy_run.specs.Owes.{heading, lines_to, IsFed, OwesRun}
+use Rattle.lucy_run.specs.Owes.{heading, lines_to, IsMainFed, OwesRun}
 use Rattle.lucy_make.specs.Text.{made_input}
 use Rattle.lucy_make.specs.Figures.{figures}
 use Rattle.lucy_make.specs.Owes.{printed_values, where_done, OwesSummary}
@@ -15,6 +15,6 @@ use Rattle.lucy_make.specs.Owes.{printed_values, where_done, OwesSummary}
 -- horizon, and with its ending.
 abbrev pub EndsAsRun : Type 0
 EndsAsRun = (stages : ℕ) (kinds : List HostKind) (a : Accepted) (summary : List ℕ) (end : Ending) → OwesSummary stages kinds a summary end →
-    (stop : ReadStop) × IsTrue (is_closed stop) × (lists : List (List ℤ)) × (fault : Option TextFault) × (horizon : ℕ) × IsFed a None made_input stop lists fault horizon
+    (stop : ReadStop) × IsTrue (is_closed stop) × (lists : List (List ℤ)) × (fault : Option TextFault) × (horizon : ℕ) × IsMainFed a None made_input stop lists fault horizon
     × OwesRun kinds a None made_input stop (heading a ++ lines_to kinds a lists horizon) end
     × (summary ≡ where_done end (figures stages a.net horizon (printed_values kinds a lists horizon)))

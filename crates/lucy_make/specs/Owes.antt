@@ -5,11 +5,11 @@ use Rattle.lucy_lines.specs.declared.reader.TextFault.{TextFault}
 use Rattle.lucy_text.specs.Sources.{ReadStop}
 use Rattle.lucy_feed.specs.Feeding.{is_closed}
 use Rattle.lucy_stream.specs.Items.{list_at}
-use Rattle.lucy_execution.specs.Streams.{main_streams}
+use Rattle.lucy_results.specs.Streams.{main_streams}
 use Rattle.lucy_front.specs.declared.accepted.Accepted.{Accepted}
 use Rattle.lucy_run.specs.declared.ending.Ending.{Ending}
 use Rattle.lucy_run.specs.declared.ending.Ending.TheVariants as ending
-use Rattle.lucy_run.specs.Owes.{input_words, EndsFor, IsFed}
+use Rattle.lucy_run.specs.Owes.{input_words, EndsFor, IsMainFed}
 use Rattle.lucy_make.specs.Text.{made_input}
 use Rattle.lucy_make.specs.Figures.{figures}
 
@@ -26,5 +26,5 @@ where_done end text = []
 abbrev pub OwesSummary : (stages : ℕ) → List HostKind → Accepted → (output : List ℕ) → Ending → Type 0
 OwesSummary stages kinds a output end =
     (stop : ReadStop) × (lists : List (List ℤ)) × (fault : Option TextFault) × (horizon : ℕ) × IsTrue (is_closed stop)
-    × IsFed a None made_input stop lists fault horizon × EndsFor (input_words a) None lists fault end
+    × IsMainFed a None made_input stop lists fault horizon × EndsFor (input_words a) None lists fault end
     × (output ≡ where_done end (figures stages a.net horizon (printed_values kinds a lists horizon)))

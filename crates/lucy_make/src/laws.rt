@@ -2,7 +2,7 @@
 ghost use Rattle.lucy_make.specs.Laws.{EndsAsRun};
 ghost use Rattle.lucy_make.specs.Blocks.{FirstGoesOn, FirstIsShort, FirstAgrees};
 
-use lucy_execution::{streams_agree, streams_are_whole, streams_go_on};
+use lucy_results::{streams_agree, streams_are_whole, streams_go_on};
 
 /// The figures of `make` are those of the run that `run` owes on the generated input, and it ends as that run does.
 pub fn summaries_end_as_runs()

@@ -9,9 +9,9 @@ mod blocks;
 mod figures;
 mod input;
 mod laws;
-mod running;
+mod summing;
 mod text;
 
 pub use laws::summaries_end_as_runs;
-pub use running::summary;
+pub use summing::summary;
 pub use text::made_text;

@@ -13,10 +13,10 @@ use Rattle.lucy_net.specs.Plans.{form_of}
 use Rattle.lucy_net.specs.Proper.{IsProperActor, IsProperRing, IsProper, IsSupplied}
 use Rattle.lucy_net.specs.States.{KnowsOperator}
 use Rattle.lucy_cause.specs.Schedules.{Timetable, IsScheduleOf}
-use Rattle.lucy_core.specs.Seen.{Seen, IsOutputOf, IsFixed, first_seen, after_picks}
+use Rattle.lucy_core.specs.Seen.{Seen, IsOutputOf, MakesCore, first_seen, after_picks}
 use Rattle.lucy_runner.specs.Views.{RunnerView, input_count, inputs_for, first_runner}
 use Rattle.lucy_runner.specs.Blocks.{longer_inputs, grown_seen}
-use Rattle.lucy_net_rows.specs.Echo.{giver, taker, ring, echo, IsReady, IsAt}
+use Rattle.lucy_net_rows.specs.Echo.{giver, taker, ring, echo, IsEchoReady, IsAt}
 use Rattle.lucy_net_rows.proofs.ReadyLaws.{first_unbegun}
 
 giver_proper : (w : Bits) → IsProperActor (echo w) 0 (giver w)
@@ -76,23 +76,23 @@ known w count (suc (suc a)) actor e = absurd (cc)
 
 -- a core can be made of it
 pub echo_fixed : (w : Bits) (net : Net) (schedule : Timetable) (inputs : List (List ℤ)) (operators : List Operator) (items : List ℤ) (instants : ℕ) → net ≡ echo w → IsScheduleOf net schedule → inputs ≡ items ∷ [] → instants ≡ length items → length items ≤ 1048576 →
-    IsFixed net schedule inputs operators instants
+    MakesCore net schedule inputs operators instants
 echo_fixed w net schedule inputs operators items instants same is list all few =
     let at : IsScheduleOf (echo w) schedule = subst (λ (n : Net). IsScheduleOf n schedule) same is in
     let there : length (list_at inputs 0) ≡ length items = ap (λ xs. length (list_at xs 0)) list in
-    let fixed : IsFixed (echo w) schedule inputs operators instants = record { proper = echo_proper w; sound = at.sound; early = omega arith; supplied = supplied w inputs instants (omega arith); known = known w (length operators) } in
-    subst (λ (n : Net). IsFixed n schedule inputs operators instants) (sym same) fixed
+    let fixed : MakesCore (echo w) schedule inputs operators instants = record { proper = echo_proper w; sound = at.sound; early = omega arith; supplied = supplied w inputs instants (omega arith); known = known w (length operators) } in
+    subst (λ (n : Net). MakesCore n schedule inputs operators instants) (sym same) fixed
 
 pub echo_ready : (w : Bits) (net : Net) (schedule : Timetable) (inputs : List (List ℤ)) (operators : List Operator) (items : List ℤ) (instants : ℕ) (core : Seen) → net ≡ echo w → inputs ≡ items ∷ [] → operators ≡ [] → instants ≡ length items →
-    core ≡ first_seen net schedule inputs operators instants → IsReady w items core
+    core ≡ first_seen net schedule inputs operators instants → IsEchoReady w items core
 echo_ready w net schedule inputs operators items instants core same list none all e =
-    subst (IsReady w items) (sym e) (record { net = same; inputs = list; operators = none; instants = all; unbegun = first_unbegun net schedule inputs operators instants })
+    subst (IsEchoReady w items) (sym e) (record { net = same; inputs = list; operators = none; instants = all; unbegun = first_unbegun net schedule inputs operators instants })
 
 -- a runner of the core
 first_list : (w : Bits) (net : Net) (inputs : List (List ℤ)) → net ≡ echo w → list_at (inputs_for net inputs) 0 ≡ list_at inputs 0
 first_list w net inputs e = ap (λ n. list_at (inputs_for n inputs) 0) e
 
-pub echo_at : (w : Bits) (items : List ℤ) (core : Seen) (view : RunnerView) → IsReady w items core → view ≡ first_runner core → IsAt w (length items) view.seen
+pub echo_at : (w : Bits) (items : List ℤ) (core : Seen) (view : RunnerView) → IsEchoReady w items core → view ≡ first_runner core → IsAt w (length items) view.seen
 echo_at w items core view is e =
     subst (λ (v : RunnerView). IsAt w (length items) v.seen) (sym e) (record {
       net = is.net;

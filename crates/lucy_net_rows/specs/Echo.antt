@@ -22,7 +22,7 @@ abbrev pub echo : Bits → Net
 echo word = record { actors = giver word ∷ taker word ∷ []; rings = ring word ∷ [] }
 
 -- a core of this net without an event, with these items for as many instants, and for a host without operators
-pub record IsReady (word : Bits) (items : List ℤ) (core : Seen) : Type 0 where
+pub record IsEchoReady (word : Bits) (items : List ℤ) (core : Seen) : Type 0 where
   pub net : core.net ≡ echo word
   pub inputs : core.inputs ≡ items ∷ []
   pub operators : core.operators ≡ []

@@ -6,11 +6,11 @@ ghost use Rattle.lucy_core.specs.Seen.{IsUnbegun};
 ghost use Rattle.lucy_flat.specs.Flat.{IsFlat};
 ghost use Rattle.lucy_net_rows.specs.Ready.{IsReady};
 
+use crate::picking::{again, output_of, run_picked};
 use crate::programs::{
     HOLD, PLAIN_ACC, PLAIN_FILTER, PLAIN_PAIRS, PLAIN_SUM, PLAIN_TOP, PLAIN_TWICE, SAME, SEVEN, SUM,
 };
 use crate::ready::{Ready, one_input, ready_text};
-use crate::running::{again, output_of, run_picked};
 use crate::show::{counted, no_memory, print_list};
 use lucy_clock::NodeClock;
 use lucy_core::Core;

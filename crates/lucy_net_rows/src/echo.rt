@@ -1,6 +1,6 @@
 // An input whose items are put out.
 ghost use Rattle.std.specs.Prelude.{◌≡◌, ◌+◌, ◌<◌, ◌≤◌, [], ◌∷◌, false, true, length, IfOk};
-ghost use Rattle.lucy_net_rows.specs.Echo.{giver, taker, echo, IsReady, IsAt};
+ghost use Rattle.lucy_net_rows.specs.Echo.{giver, taker, echo, IsEchoReady, IsAt};
 ghost use Rattle.lucy_core.specs.Seen.{IsOver};
 
 use crate::ready::one_input;
@@ -81,7 +81,7 @@ fn net(alloc: Global, word: &Word) -> Result<Net, OutOfMemory>
 // A core of the net, for as many instants as there are items.
 fn core(alloc: Global, word: &Word, items: &[i64]) -> Result<Core, OutOfMemory>
     requires { length items.now ≤ 1048576 }
-    ensures { IfOk result (λ core. IsReady word.now items.now core) }
+    ensures { IfOk result (λ core. IsEchoReady word.now items.now core) }
 {
     let net = net(alloc, word)?;
     let Ok(schedule) = schedule_of(alloc, &net) else {

@@ -11,9 +11,9 @@ use crate::programs::SUM;
 use crate::ready::OPTIONS;
 use crate::rounds::{MOST, events_to};
 use crate::show::{counted, no_memory};
-use lucy_execution::{horizon, lengths, param_words};
 use lucy_front::{Accepted, accept, accepted_programs_are_clocked};
 use lucy_host::{Inputs, Ops};
+use lucy_results::{horizon, lengths, param_words};
 use std::io;
 use std::time::{Clock, Instant};
 

@@ -5,9 +5,9 @@ ghost use Rattle.lucy_place.specs.Proper.{HaveOperators};
 ghost use Rattle.lucy_meaning.specs.Spots.{main_of};
 ghost use Rattle.lucy_kahn.specs.Turns.{params_in};
 
+use crate::picking::main_node;
 use crate::programs::{LATE, LOOP, PAIRS, SAME, SUM, TOP, TWICE, doubling_text};
 use crate::ready::one_input;
-use crate::running::main_node;
 use crate::show::{counted, no_memory, print_list};
 use lucy_host::{Host, Inputs};
 use lucy_kahn::{KahnError, kahn, places_of};

@@ -6,7 +6,7 @@ ghost use Rattle.lucy_net.specs.Schedules.{IsSound};
 ghost use Rattle.lucy_cause.specs.Schedules.{events_at};
 ghost use Rattle.lucy_core.specs.Seen.{first_seen};
 ghost use Rattle.lucy_flat.specs.Flat.{IsFlat};
-ghost use Rattle.lucy_execution.specs.Streams.{param_words};
+ghost use Rattle.lucy_results.specs.Streams.{param_words};
 ghost use Rattle.lucy_front.specs.declared.options.Options.{Options as Clocking};
 ghost use Rattle.lucy_front.specs.Accepting.{IsAccepted};
 ghost use Rattle.lucy_net_rows.specs.Ready.{IsReady};
@@ -14,11 +14,11 @@ ghost use Rattle.lucy_net_rows.specs.Ready.{IsReady};
 use lucy_cause::Schedule;
 use lucy_clock::NodeClock;
 use lucy_core::Core;
-use lucy_execution::{horizon, lengths, nets_can_be_run, param_words};
 use lucy_front::{Accepted, Options, accept, accepted_programs_are_clocked};
 use lucy_host::{Inputs, Ops, OutOfMemory};
 use lucy_net::Net;
 use lucy_place::Placed;
+use lucy_results::{horizon, lengths, nets_can_be_run, param_words};
 use std::alloc::Global;
 
 /// A program with the clocks of its nodes, and a core of its flat net, which has so many actors.

@@ -4,14 +4,14 @@ ghost use Rattle.lucy_host.specs.Host.{Serves, lent};
 ghost use Rattle.lucy_front.specs.declared.options.Options.{Options as Clocking};
 ghost use Rattle.lucy_front.specs.Accepting.{IsAccepted};
 
+use crate::picking::main_node;
 use crate::programs::SUM;
 use crate::ready::OPTIONS;
-use crate::running::main_node;
 use crate::show::{counted, no_memory, print_list};
 use lucy_cause::Schedule;
-use lucy_execution::{horizon, lengths, param_words, run_net};
 use lucy_front::{Accepted, accept, accepted_programs_are_clocked};
 use lucy_host::{Host, Inputs};
+use lucy_results::{horizon, lengths, param_words, run_net};
 use lucy_worker::Gate;
 use std::io;
 use std::sync::atomic::{AtomicU64, Ordering};

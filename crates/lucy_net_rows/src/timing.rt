@@ -13,15 +13,15 @@ ghost use Rattle.lucy_core.specs.Seen.{IsUnbegun};
 ghost use Rattle.lucy_net_rows.specs.Ready.{IsReady};
 
 use crate::floor::print_bare;
+use crate::picking::{output_of, run_picked};
 use crate::programs::{SUM, chain_text};
 use crate::ready::{Ready, ready_text};
 use crate::rounds::print_rounds;
-use crate::running::{output_of, run_picked};
 use crate::show::{counted, no_memory};
 use lucy_core::Core;
-use lucy_text::read_up_to;
 use lucy_host::Host;
 use lucy_text::Source;
+use lucy_text::read_up_to;
 use std::alloc::Global;
 use std::env::{self, Env};
 use std::io;

@@ -16,8 +16,8 @@ use Rattle.lucy_flat.specs.Instances.{words_in}
 use Rattle.lucy_host.specs.declared.kind.HostKind.{HostKind}
 use Rattle.lucy_need.specs.Meeting.{assigned}
 use Rattle.lucy_output.specs.declared.output.OutputSpec.{OutputSpec}
-use Rattle.lucy_execution.specs.Running.{HasSchedule}
-use Rattle.lucy_run.specs.Courses.{CanRun}
+use Rattle.lucy_results.specs.Running.{HasSchedule}
+use Rattle.lucy_run.specs.Courses.{CanBeRunInBlocks}
 use Rattle.lucy_front.specs.declared.accepted.Accepted.{Accepted}
 use Rattle.lucy_front.specs.declared.options.Options.{Options}
 use Rattle.lucy_front.specs.Accepting.{IsAccepted}
@@ -67,7 +67,7 @@ module _ (ops : List Operator) (text : List ℕ) (o : Options) (a : Accepted) (i
   scheduled = record { net = a.net; events = events_at a.schedule; flat = is.net.flat.flat; sound = is.schedule.sound }
 
   -- so it can be run
-  pub can_run : (kinds : List HostKind) → CanRun (record { kinds = kinds; nodes = a.placed.nodes; clocks = a.clocks.items; inputs = a.inputs.items; outputs = a.outputs.items })
+  pub can_run : (kinds : List HostKind) → CanBeRunInBlocks (record { kinds = kinds; nodes = a.placed.nodes; clocks = a.clocks.items; inputs = a.inputs.items; outputs = a.outputs.items })
   can_run kinds = record {
     proper = text_proper ops o text a.placed is.clocked.program.program;
     scheduled = scheduled;

@@ -12,11 +12,11 @@ use Rattle.lucy_text.specs.Outside.{SeenSource}
 use Rattle.lucy_feed.specs.Feeding.{values_by_stream}
 use Rattle.lucy_feed.specs.Resuming.{FeedState, AreMet, HasRead, AreFresh, ValuesInTurn}
 use Rattle.lucy_meaning.specs.Horizons.{Suffice, IsHorizon}
-use Rattle.lucy_execution.specs.Streams.{param_words, later_streams}
-use Rattle.lucy_execution.specs.Playing.{PlayerView, joined}
+use Rattle.lucy_results.specs.Streams.{param_words, later_streams}
+use Rattle.lucy_results.specs.Playing.{PlayerView, joined}
 use Rattle.lucy_run.specs.Owes.{most_instants}
-use Rattle.lucy_run.specs.Courses.{CourseView, Program, words_of, values, HasFed, IsAlong, IsLast, IsRunTo, IsNext}
-use Rattle.lucy_run.specs.Played.{ReadsOn, CountsAllow, CanGoOn, HasGoneOn}
+use Rattle.lucy_run.specs.Courses.{CourseView, Program, words_of, values, HasFed, IsAlong, IsLastRead, IsRunTo, IsNextBlock}
+use Rattle.lucy_run.specs.Played.{ReadsOn, CountsAllow, PlayerCanGoOn, PlayerHasGoneOn}
 use Rattle.lucy_run.specs.Paces.{IsBlock}
 use Rattle.lucy_run.proofs.ReadLaws.{suffice_longer, values_count, values_front, values_joined, fed_counts, fed_carried, fed_none, met_suffices}
 
@@ -73,7 +73,7 @@ module _ (turn : ValuesInTurn) (p : Program) (first : SeenSource) (items : List 
   words_are = ap (λ ns. param_words ns c.player.clocks) along.run.nodes ∙ ap (param_words p.nodes) along.run.clocks
 
   -- the program may go on
-  pub can_go_on : target ≤ most_instants c.given → CanGoOn c.player read.fresh horizon
+  pub can_go_on : target ≤ most_instants c.given → PlayerCanGoOn c.player read.fresh horizon
   can_go_on early = record {
     later = omega (arith, later, along.run.instants);
     early = omega (arith, is_horizon.within, along.few);
@@ -81,7 +81,7 @@ module _ (turn : ValuesInTurn) (p : Program) (first : SeenSource) (items : List 
     suffice = subst (λ ws. Suffice ws (joined c.player.inputs read.fresh) horizon) (sym words_are) (subst (λ xs. Suffice (words_of p) xs horizon) (sym joined_is) is_horizon.suffice);
   }
 
-  module _ (last : FeedState) (on : PlayerView) (lists : List (List ℤ)) (gone : HasGoneOn read c.player last on horizon lists) where
+  module _ (last : FeedState) (on : PlayerView) (lists : List (List ℤ)) (gone : PlayerHasGoneOn read c.player last on horizon lists) where
     streams_are : lists ≡ later_streams p.kinds (values p (items ++ more)) p.nodes p.clocks c.horizon horizon
     streams_are =
         gone.lists_are
@@ -91,7 +91,7 @@ module _ (turn : ValuesInTurn) (p : Program) (first : SeenSource) (items : List 
         ∙ ap (λ cs. later_streams p.kinds (values p (items ++ more)) p.nodes cs c.player.instants horizon) along.run.clocks
         ∙ ap (λ n. later_streams p.kinds (values p (items ++ more)) p.nodes p.clocks n horizon) along.run.instants
 
-    block_last : (read.reader.ended ≡ true) ⊎ AreMet (map (λ word. ones_to word target) c.words) read.counts → IsLast p (items ++ more) target horizon last
+    block_last : (read.reader.ended ≡ true) ⊎ AreMet (map (λ word. ones_to word target) c.words) read.counts → IsLastRead p (items ++ more) target horizon last
     block_last (inl ended) = record {
       within = is_horizon.within;
       last = inr (ap (λ (r : FeedState). r.reader.ended) gone.reader_is ∙ ended, is_horizon.greatest);
@@ -112,7 +112,7 @@ module _ (turn : ValuesInTurn) (p : Program) (first : SeenSource) (items : List 
 
     -- the block was run
     pub next : (read.reader.ended ≡ true) ⊎ AreMet (map (λ word. ones_to word target) c.words) read.counts → target ≤ most_instants c.given → target ≤ c.horizon + c.block →
-        IsNext p first items now c (record c { reader = last; player = on; target = target; horizon = horizon }) lists
+        IsNextBlock p first items now c (record c { reader = last; player = on; target = target; horizon = horizon }) lists
     next enough early near = record {
       more = more;
       fronts = fronts;

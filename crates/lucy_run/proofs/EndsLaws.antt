@@ -23,16 +23,16 @@ use Rattle.lucy_output.proofs.SinkLaws.{unwritten, writes_more, fails_behind, fa
 use Rattle.lucy_meaning.specs.Horizons.{Suffice}
 use Rattle.lucy_place.specs.declared.placed.PlacedNode.{PlacedNode}
 use Rattle.lucy_clock.specs.declared.node_clock.NodeClock.{NodeClock}
-use Rattle.lucy_execution.specs.Running.{HasManyTurns, HasManyItems, Refuses}
-use Rattle.lucy_execution.specs.Streams.{param_words, main_streams}
+use Rattle.lucy_results.specs.Running.{HasManyTurns, HasManyItems, RefusesStreams}
+use Rattle.lucy_results.specs.Streams.{param_words, main_streams}
 use Rattle.lucy_front.specs.declared.accepted.Accepted.{Accepted}
 use Rattle.lucy_run.specs.declared.ending.Ending.{Ending}
 use Rattle.lucy_run.specs.declared.ending.Ending.TheVariants as ending
 use Rattle.lucy_run.specs.Feeds.{Feeds, CountsAs, IsNeededFor, IsMainFeed}
-use Rattle.lucy_run.specs.Owes.{most_instants, input_words, lines_to, heading, EndsFor, IsFed, Interprets, OwesRun, OwesKahn, IsHorizonOf}
+use Rattle.lucy_run.specs.Owes.{most_instants, input_words, lines_to, heading, EndsFor, IsMainFed, Interprets, OwesRun, OwesKahn, IsHorizonOf}
 use Rattle.lucy_lines.specs.Cuts.{ItemOf}
 use Rattle.lucy_output.specs.Writing.{WriterState}
-use Rattle.lucy_run.specs.Courses.{Program, CanRun, values, IsFedSoFar, IsOver}
+use Rattle.lucy_run.specs.Courses.{Program, CanBeRunInBlocks, values, IsFedSoFar, IsCourseOver}
 use Rattle.lucy_run.specs.Played.{HasWritten, FailsBehind, wanting_at, BreaksOff, LinesAgree, LinesByBlock}
 use Rattle.lucy_feed.specs.Feeding.{IsAsked}
 use Rattle.lucy_feed.proofs.FeedLaws.{asked_as}
@@ -68,7 +68,7 @@ owed_written Owes output ending.OutOfMemory before after whole o w = absurd whol
 
 -- the plain interpreter gave no streams
 pub interpreter_refused : (kinds : List HostKind) (nodes : List PlacedNode) (clocks : List NodeClock) (outputs : List OutputSpec) (given : Option ℕ) (lists : List (List ℤ)) (fault : Option TextFault) (horizon : ℕ)
-    (e : KahnError) (s : SeenSink) → Refuses kinds lists nodes clocks horizon e → LeavesOwed (Interprets kinds nodes clocks outputs given lists fault horizon) s s (refusal_ending e)
+    (e : KahnError) (s : SeenSink) → RefusesStreams kinds lists nodes clocks horizon e → LeavesOwed (Interprets kinds nodes clocks outputs given lists fault horizon) s s (refusal_ending e)
 interpreter_refused kinds nodes clocks outputs given lists fault horizon error.OutOfMemory s refused = refl
 interpreter_refused kinds nodes clocks outputs given lists fault horizon (error.Limit l) s (inl none) = cc
 interpreter_refused kinds nodes clocks outputs given lists fault horizon (error.Limit l) s (inr (inl turns)) =
@@ -82,7 +82,7 @@ Leaves kinds nodes clocks outputs given lists fault was now result =
     (horizon : ℕ) × IsHorizonOf (param_words nodes clocks) given lists horizon × LeavesOwed (Interprets kinds nodes clocks outputs given lists fault horizon) was now result
 
 pub refused_ends : (kinds : List HostKind) (nodes : List PlacedNode) (clocks : List NodeClock) (outputs : List OutputSpec) (given : Option ℕ) (lists : List (List ℤ)) (fault : Option TextFault) (horizon : ℕ)
-    (words : List Bits) (e : KahnError) (s : SeenSink) (result : Ending) → words ≡ param_words nodes clocks → IsHorizonOf words given lists horizon → result ≡ refusal_ending e → Refuses kinds lists nodes clocks horizon e →
+    (words : List Bits) (e : KahnError) (s : SeenSink) (result : Ending) → words ≡ param_words nodes clocks → IsHorizonOf words given lists horizon → result ≡ refusal_ending e → RefusesStreams kinds lists nodes clocks horizon e →
     Leaves kinds nodes clocks outputs given lists fault s s result
 refused_ends kinds nodes clocks outputs given lists fault horizon words e s result same horizon_is is refused =
     let P : List Bits → Type 0 = λ u. IsHorizonOf u given lists horizon in
@@ -209,8 +209,8 @@ module _ (kinds : List HostKind) (a : Accepted) (given : Option ℕ) where
   program = record { kinds = kinds; nodes = a.placed.nodes; clocks = a.clocks.items; inputs = a.inputs.items; outputs = a.outputs.items }
 
   -- it was run to its end
-  pub run_whole : LinesAgree → CanRun program → (block : ℕ) (before after : SeenSource) (was between now : SeenSink) (text : List ℕ) (items : List ItemOf) (horizon : ℕ) (writer : WriterState) (result : Ending) → text ≡ heading a → Writes was between text →
-      IsOver program before items given horizon after result → HasWritten program between items horizon now writer → RunGives block before after was now result
+  pub run_whole : LinesAgree → CanBeRunInBlocks program → (block : ℕ) (before after : SeenSource) (was between now : SeenSink) (text : List ℕ) (items : List ItemOf) (horizon : ℕ) (writer : WriterState) (result : Ending) → text ≡ heading a → Writes was between text →
+      IsCourseOver program before items given horizon after result → HasWritten program between items horizon now writer → RunGives block before after was now result
   run_whole agree can block before after was between now text items horizon writer result e w over has = (
     over.taken,
     over.stop,
@@ -240,7 +240,7 @@ module _ (kinds : List HostKind) (a : Accepted) (given : Option ℕ) where
           ends_with (ending.Limit l) whole owes all = (output, owes, all)
 
   -- an output of which the lines so far are a front
-  module _ (Wanting : List ItemOf → Type 0) (blocks : LinesByBlock) (can : CanRun program) (before after : SeenSource) (lists : List (List ℤ)) (horizon : ℕ) (within : horizon ≤ most_instants given) (suffice : Suffice (input_words a) lists horizon)
+  module _ (Wanting : List ItemOf → Type 0) (blocks : LinesByBlock) (can : CanBeRunInBlocks program) (before after : SeenSource) (lists : List (List ℤ)) (horizon : ℕ) (within : horizon ≤ most_instants given) (suffice : Suffice (input_words a) lists horizon)
       (fed : IsFedSoFar Wanting a.inputs.items before after lists) where
     asked_so : IsAsked a.inputs.items fed.taken
     asked_so = asked_as a.inputs.items fed.taken Wanting (λ xs. Unit {0}) (λ xs wanting. tt) fed.asked
@@ -306,7 +306,7 @@ module _ (kinds : List HostKind) (a : Accepted) (given : Option ℕ) where
         )
 
   -- it was broken off
-  pub run_failed : LinesByBlock → LinesAgree → CanRun program → (block : ℕ) (before after : SeenSource) (was between now : SeenSink) (text : List ℕ) (most : ℕ) → most ≡ most_instants given → text ≡ heading a →
+  pub run_failed : LinesByBlock → LinesAgree → CanBeRunInBlocks program → (block : ℕ) (before after : SeenSource) (was between now : SeenSink) (text : List ℕ) (most : ℕ) → most ≡ most_instants given → text ≡ heading a →
       Writes was between text → BreaksOff program before between block most after now Failed → RunGives block before after was now ending.WriteFault
   run_failed blocks agree can block before after was between now text most m e w off =
       let head : Writes was between (heading a) = subst (Writes was between) e w in
@@ -316,14 +316,14 @@ module _ (kinds : List HostKind) (a : Accepted) (given : Option ℕ) where
       broken_lines Wanting blocks can before after off.lists off.horizon within off.suffice off.fed block was between now head fails
       (failed_block Wanting blocks can before after off.lists off.horizon within off.suffice off.fed agree block off.done off.aim off.later off.near off.fed.asked was between now head off.left)
 
-  pub run_out_of_memory : LinesByBlock → CanRun program → (block : ℕ) (before after : SeenSource) (was between now : SeenSink) (text : List ℕ) (most : ℕ) → most ≡ most_instants given → text ≡ heading a →
+  pub run_out_of_memory : LinesByBlock → CanBeRunInBlocks program → (block : ℕ) (before after : SeenSource) (was between now : SeenSink) (text : List ℕ) (most : ℕ) → most ≡ most_instants given → text ≡ heading a →
       Writes was between text → BreaksOff program before between block most after now Memory → RunGives block before after was now ending.OutOfMemory
   run_out_of_memory blocks can block before after was between now text most m e w off =
       lines_without_memory (wanting_at program off.aim Memory) blocks can before after off.lists off.horizon (omega (arith, off.within)) off.suffice off.fed block was between now (subst (Writes was between) e w) off.left
 
   module _ (taken : List ℕ) (stop : ReadStop) (lists : List (List ℤ)) (fault : Option TextFault) (horizon : ℕ) (feeds : Feeds a.inputs.items taken stop lists fault)
       (horizon_is : IsHorizonOf (input_words a) given lists horizon) where
-    fed : IsFed a given taken stop lists fault horizon
+    fed : IsMainFed a given taken stop lists fault horizon
     fed = record { feeds = feeds; horizon_is = horizon_is }
 
     pub kahn_over : (before after : SeenSource) (was now : SeenSink) (result : Ending) → Read most_bytes before after taken stop → IsAsked a.inputs.items taken →

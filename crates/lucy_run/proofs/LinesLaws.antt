@@ -10,17 +10,17 @@ use Rattle.lucy_output.specs.Outputs.{lines_after}
 use Rattle.lucy_output.specs.Laws.{BeginAlike, FrontsSuffice, AreRests, BlockByBlock}
 use Rattle.lucy_meaning.specs.Spots.{main_of, results_in}
 use Rattle.lucy_meaning.proofs.Lists.{mapped}
-use Rattle.lucy_execution.specs.Streams.{main_word, result_words, main_stream, main_streams, later_stream, later_streams, cut_to}
-use Rattle.lucy_execution.specs.Laws.{StreamsGoOn}
-use Rattle.lucy_execution.proofs.StreamLaws.{cut_at}
-use Rattle.lucy_run.specs.Courses.{Program, CanRun}
+use Rattle.lucy_results.specs.Streams.{main_word, result_words, main_stream, main_streams, later_stream, later_streams, cut_to}
+use Rattle.lucy_results.specs.Laws.{StreamsGoOn}
+use Rattle.lucy_results.proofs.StreamLaws.{cut_at}
+use Rattle.lucy_run.specs.Courses.{Program, CanBeRunInBlocks}
 use Rattle.lucy_run.specs.Played.{LinesAgree, LinesByBlock}
 
 -- what is made of each number of a list
 made_at : {A : Type 0} (f : ℕ → A) (xs : List ℕ) (i x : ℕ) (d : A) → slice_get xs i ≡ Some x → get_or (map f xs) i d ≡ f x
 made_at f xs i x d e = get_or_from_slice_get (map f xs) i (f x) d (slice_get-map f xs i ∙ ap (option_map f) e)
 
-module _ (p : Program) (can : CanRun p) where
+module _ (p : Program) (can : CanBeRunInBlocks p) where
   -- the word of a result, among those of the outputs
   word_at : (i : ℕ) (o : OutputSpec) → slice_get p.outputs i ≡ Some o → slice_get (result_words p.nodes p.clocks) i ≡ Some o.word
   word_at i o e = ap (λ xs. slice_get xs i) (sym can.words) ∙ slice_get-map (λ (o : OutputSpec). o.word) p.outputs i ∙ ap (option_map (λ (o : OutputSpec). o.word)) e

@@ -13,12 +13,12 @@ use Rattle.lucy_text.specs.Sources.{Unread, Read}
 use Rattle.lucy_feed.specs.Feeding.{values_by_stream, IsAsked}
 use Rattle.lucy_feed.specs.Resuming.{FeedState, HasRead, PassesMore, ValuesInTurn}
 use Rattle.lucy_meaning.specs.Horizons.{Suffice, IsHorizon}
-use Rattle.lucy_execution.proofs.StreamLaws.{params_count}
+use Rattle.lucy_results.proofs.StreamLaws.{params_count}
 use Rattle.lucy_run.specs.declared.ending.Ending.{Ending}
 use Rattle.lucy_run.specs.declared.ending.Ending.TheVariants as ending
 use Rattle.lucy_run.specs.Feeds.{Feeds}
 use Rattle.lucy_run.specs.Owes.{most_instants, EndsFor}
-use Rattle.lucy_run.specs.Courses.{CourseView, Program, CanRun, words_of, values, HasFed, IsAlong, IsLast, HasStopped, IsOver}
+use Rattle.lucy_run.specs.Courses.{CourseView, Program, CanBeRunInBlocks, words_of, values, HasFed, IsAlong, IsLastRead, HasStopped, IsCourseOver}
 use Rattle.lucy_run.proofs.FedLaws.{read_nothing}
 use Rattle.lucy_run.proofs.ReadLaws.{fronts_same, suffice_longer, suffice_earlier, values_front, read_counts, fed_counts}
 
@@ -27,8 +27,8 @@ suffice_counted : (words : List Bits) (lists others : List (List ℤ)) (t : ℕ)
 suffice_counted words lists others t same suffice i word e = let few = suffice i word e in omega (arith, same i)
 
 -- the last horizon of a block is that of the run, where the block is the last one or the horizon is short of it
-last_for : (p : Program) (items : List ItemOf) (block most horizon : ℕ) (reader : FeedState) → block ≤ most → (horizon < block) ⊎ (block ≡ most) → IsLast p items block horizon reader → IsLast p items most horizon reader
-last_for p items block most horizon reader l (inr e) last = subst (λ n. IsLast p items n horizon reader) e last
+last_for : (p : Program) (items : List ItemOf) (block most horizon : ℕ) (reader : FeedState) → block ≤ most → (horizon < block) ⊎ (block ≡ most) → IsLastRead p items block horizon reader → IsLastRead p items most horizon reader
+last_for p items block most horizon reader l (inr e) last = subst (λ n. IsLastRead p items n horizon reader) e last
 last_for p items block most horizon reader l (inl short) last = record {
   within = omega (arith, last.within);
   last = elim last.last [
@@ -44,14 +44,14 @@ last_for p items block most horizon reader l (inl short) last = record {
 }
 
 -- the last horizon of a course is that of the run
-pub last_of : (p : Program) (first : SeenSource) (items : List ItemOf) (now : SeenSource) (c : CourseView) → IsAlong p first items now c → HasStopped c → IsLast p items (most_instants c.given) c.horizon c.reader
+pub last_of : (p : Program) (first : SeenSource) (items : List ItemOf) (now : SeenSource) (c : CourseView) → IsAlong p first items now c → HasStopped c → IsLastRead p items (most_instants c.given) c.horizon c.reader
 last_of p first items now c along (inl short) =
     last_for p items c.target (most_instants c.given) c.horizon c.reader along.early (inl (omega (arith, along.last.within, short))) along.last
 last_of p first items now c along (inr all) =
     last_for p items c.target (most_instants c.given) c.horizon c.reader along.early (inr (omega (arith, along.early, all))) along.last
 
 -- the horizon of the items that were read
-horizon_is : (p : Program) (items : List ItemOf) (most horizon : ℕ) (reader : FeedState) → IsLast p items most horizon reader → Suffice (words_of p) (values p items) horizon → IsHorizon (words_of p) (values p items) most horizon
+horizon_is : (p : Program) (items : List ItemOf) (most horizon : ℕ) (reader : FeedState) → IsLastRead p items most horizon reader → Suffice (words_of p) (values p items) horizon → IsHorizon (words_of p) (values p items) most horizon
 horizon_is p items most horizon reader last suffice = record {
   within = last.within;
   suffice = suffice;
@@ -63,7 +63,7 @@ ends_done words (Some n) lists some = refl
 ends_done words None lists some = absurd (some refl)
 
 -- there are as many inputs as words of them
-pub words_count : (p : Program) → CanRun p → length p.inputs ≡ length (words_of p)
+pub words_count : (p : Program) → CanBeRunInBlocks p → length p.inputs ≡ length (words_of p)
 words_count p can = can.inputs ∙ sym (params_count p.nodes p.clocks)
 
 pub no_words : (words : List Bits) → length words ≡ 0 → words ≡ []
@@ -71,7 +71,7 @@ no_words [] l = refl
 no_words (w ∷ words) l = absurd (omega arith)
 
 -- counts of passed items are as many as the words
-pub passed_many : (p : Program) → CanRun p → (aim : ℕ) (first before now : SeenSource) (reader new : FeedState) (items : List ItemOf) → HasFed (words_of p) aim p.inputs first before reader items → PassesMore before now reader new → (words_of p ≡ [] → ⊥) →
+pub passed_many : (p : Program) → CanBeRunInBlocks p → (aim : ℕ) (first before now : SeenSource) (reader new : FeedState) (items : List ItemOf) → HasFed (words_of p) aim p.inputs first before reader items → PassesMore before now reader new → (words_of p ≡ [] → ⊥) →
     length new.counts ≡ length (words_of p)
 passed_many p can aim first before now reader new items fed passes some = many_at p.inputs refl
   where
@@ -83,17 +83,17 @@ passed_many p can aim first before now reader new items fed passes some = many_a
         let counts = read_counts (input ∷ inputs) first now new (items ++ others) (has.0 ++ bytes) read in
         counts.many ∙ sym (ap length e) ∙ words_count p can
 
-module _ (p : Program) (can : CanRun p) (first : SeenSource) (items : List ItemOf) (before : SeenSource) (c : CourseView) (along : IsAlong p first items before c) (stopped : HasStopped c) where
-  last : IsLast p items (most_instants c.given) c.horizon c.reader
+module _ (p : Program) (can : CanBeRunInBlocks p) (first : SeenSource) (items : List ItemOf) (before : SeenSource) (c : CourseView) (along : IsAlong p first items before c) (stopped : HasStopped c) where
+  last : IsLastRead p items (most_instants c.given) c.horizon c.reader
   last = last_of p first items before c along stopped
 
   -- a main without inputs is done
-  pub over_unread : words_of p ≡ [] → (c.given ≡ None → ⊥) → IsOver p first items c.given c.horizon before ending.Done
+  pub over_unread : words_of p ≡ [] → (c.given ≡ None → ⊥) → IsCourseOver p first items c.given c.horizon before ending.Done
   over_unread none some =
       let empty : length p.inputs ≡ 0 = words_count p can ∙ ap length none in
       over_at p.inputs refl empty
     where
-      over_at : (inputs : List InputSpec) → p.inputs ≡ inputs → length p.inputs ≡ 0 → IsOver p first items c.given c.horizon before ending.Done
+      over_at : (inputs : List InputSpec) → p.inputs ≡ inputs → length p.inputs ≡ 0 → IsCourseOver p first items c.given c.horizon before ending.Done
       over_at (input ∷ inputs) e empty = let long = ap length e in absurd (omega arith)
       over_at [] e empty =
           let fed = subst (λ xs. HasFed (words_of p) c.target xs first before c.reader items) e along.fed in
@@ -114,7 +114,7 @@ module _ (p : Program) (can : CanRun p) (first : SeenSource) (items : List ItemO
   -- the rest of the input was passed
   module _ (turn : ValuesInTurn) (now : SeenSource) (new : FeedState) (passes : PassesMore before now c.reader new) (ended : new.reader.ended ≡ true) (same : c.reader.reader.ended ≡ true → new ≡ c.reader) (result : Ending)
       (ends : (lists : List (List ℤ)) → ((i : ℕ) → slice_index new.counts i ≡ length (list_at lists i)) → EndsFor (words_of p) c.given lists new.fault result) where
-    over_passed : (input : InputSpec) (inputs : List InputSpec) → p.inputs ≡ input ∷ inputs → (others : List ItemOf) (taken : List ℕ) → HasRead (input ∷ inputs) first now new (items ++ others) taken → IsOver p first items c.given c.horizon now result
+    over_passed : (input : InputSpec) (inputs : List InputSpec) → p.inputs ≡ input ∷ inputs → (others : List ItemOf) (taken : List ℕ) → HasRead (input ∷ inputs) first now new (items ++ others) taken → IsCourseOver p first items c.given c.horizon now result
     over_passed input inputs e others taken (inl going) = absurd (let open_yet : new.reader.ended ≡ false = going.open_yet in cc)
     over_passed input inputs e others taken (inr (stop, halt, over)) =
         let lists : List (List ℤ) = values p (items ++ others) in
@@ -142,10 +142,10 @@ module _ (p : Program) (can : CanRun p) (first : SeenSource) (items : List ItemO
           ends = ends lists counted;
         }
 
-    pub over_read : (words_of p ≡ [] → ⊥) → IsOver p first items c.given c.horizon now result
+    pub over_read : (words_of p ≡ [] → ⊥) → IsCourseOver p first items c.given c.horizon now result
     over_read some = over_at p.inputs refl
       where
-        over_at : (inputs : List InputSpec) → p.inputs ≡ inputs → IsOver p first items c.given c.horizon now result
+        over_at : (inputs : List InputSpec) → p.inputs ≡ inputs → IsCourseOver p first items c.given c.horizon now result
         over_at [] e = absurd (some (no_words (words_of p) (sym (words_count p can) ∙ ap length e)))
         over_at (input ∷ inputs) e =
             let fed = subst (λ xs. HasFed (words_of p) c.target xs first before c.reader items) e along.fed in

@@ -10,12 +10,12 @@ use Rattle.lucy_feed.specs.declared.feeds.Feed.{Feed}
 use Rattle.lucy_text.specs.Sources.{ReadStop}
 use Rattle.lucy_feed.specs.Feeding.{OneFeed}
 use Rattle.lucy_meaning.specs.Horizons.{IsHorizon}
-use Rattle.lucy_execution.specs.Running.{HasManyTurns, HasManyItems}
+use Rattle.lucy_results.specs.Running.{HasManyTurns, HasManyItems}
 use Rattle.lucy_front.specs.declared.accepted.Accepted.{Accepted}
 use Rattle.lucy_run.specs.declared.ending.Ending.{Ending}
 use Rattle.lucy_run.specs.declared.ending.Ending.TheVariants as ending
 use Rattle.lucy_run.specs.Feeds.{Feeds}
-use Rattle.lucy_run.specs.Owes.{AllowsMore, most_instants, input_words, lines_to, heading, EndsFor, IsFed, Interprets, OwesRun, OwesKahn}
+use Rattle.lucy_run.specs.Owes.{AllowsMore, most_instants, input_words, lines_to, heading, EndsFor, IsMainFed, Interprets, OwesRun, OwesKahn}
 
 -- inputs have one horizon
 abbrev pub OneHorizon : Type 0
@@ -32,7 +32,7 @@ feeds_once one (input ∷ inputs) taken stop lists others fault other p q =
 
 -- what main is fed, and the horizon, are one
 pub fed_once : OneFeed → OneHorizon → (a : Accepted) (given : Option ℕ) (taken : List ℕ) (stop : ReadStop) (lists others : List (List ℤ)) (fault other : Option TextFault) (horizon last : ℕ) →
-    IsFed a given taken stop lists fault horizon → IsFed a given taken stop others other last → (lists ≡ others) × (fault ≡ other) × (horizon ≡ last)
+    IsMainFed a given taken stop lists fault horizon → IsMainFed a given taken stop others other last → (lists ≡ others) × (fault ≡ other) × (horizon ≡ last)
 fed_once one horizons a given taken stop lists others fault other horizon last p q =
     let same = feeds_once one a.inputs.items taken stop lists others fault other p.feeds q.feeds in
     let P : List (List ℤ) → Type 0 = λ u. IsHorizon (input_words a) u (most_instants given) horizon in

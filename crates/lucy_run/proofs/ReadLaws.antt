@@ -17,8 +17,8 @@ use Rattle.lucy_feed.specs.Feeding.{values_of, values_by_stream, IsAskedWhile}
 use Rattle.lucy_feed.specs.Resuming.{FeedState, AreCounts, AreMet, HasRead, IsGivenUp, IsShort, AreFresh, ReadsWhile, GivesUp, ValuesInTurn}
 use Rattle.lucy_feed.proofs.FeedLaws.{asked_as, asks_as, asked_still}
 use Rattle.lucy_meaning.specs.Horizons.{Suffice}
-use Rattle.lucy_execution.specs.Playing.{joined}
-use Rattle.lucy_execution.proofs.LaterLaws.{joined_count, joined_at}
+use Rattle.lucy_results.specs.Playing.{joined}
+use Rattle.lucy_results.proofs.LaterLaws.{joined_count, joined_at}
 use Rattle.lucy_run.specs.Courses.{HasFed, IsFedSoFar, GivesUpBehind}
 use Rattle.lucy_run.specs.Played.{ReadsOn}
 use Rattle.lucy_run.specs.Feeds.{IsShortOf}

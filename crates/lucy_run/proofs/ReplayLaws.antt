@@ -27,14 +27,14 @@ use Rattle.lucy_output.proofs.OutputLaws.{lines_from_first}
 use Rattle.lucy_output.proofs.SinkLaws.{writes_more, fails_behind, fails_longer}
 use Rattle.lucy_place.specs.declared.placed.PlacedNode.{PlacedNode}
 use Rattle.lucy_clock.specs.declared.node_clock.NodeClock.{NodeClock}
-use Rattle.lucy_execution.specs.Streams.{param_words}
-use Rattle.lucy_execution.specs.Taking.{taken_lists}
-use Rattle.lucy_execution.proofs.WholeRunLaws.{unbegun_start, taken_same}
+use Rattle.lucy_results.specs.Streams.{param_words}
+use Rattle.lucy_results.specs.Taking.{taken_lists}
+use Rattle.lucy_results.proofs.WholeRunLaws.{unbegun_start, taken_same}
 use Rattle.lucy_front.specs.declared.accepted.Accepted.{Accepted}
 use Rattle.lucy_run.specs.declared.ending.Ending.{Ending}
 use Rattle.lucy_run.specs.declared.ending.Ending.TheVariants as ending
 use Rattle.lucy_run.specs.Feeds.{IsMainFeed}
-use Rattle.lucy_run.specs.Owes.{input_words, IsHorizonOf, EndsFor, IsFed}
+use Rattle.lucy_run.specs.Owes.{input_words, IsHorizonOf, EndsFor, IsMainFed}
 use Rattle.lucy_run.specs.Replays.{first_core, SaysOver, tally, IsTally, IsReplayText, Judges, OwesReplay}
 use Rattle.lucy_run.specs.Ends.{EndsReplay}
 use Rattle.lucy_run.specs.Laws.{CompleteReplay}
@@ -172,7 +172,7 @@ replay_whole cut pieces horizons ops a given before after picks taken stop lists
     (owed_so cut pieces horizons a given before after taken stop lists horizon read well fed P others fault last is does)
 
 module _ (ops : List Operator) (a : Accepted) (given : Option ℕ) (picks taken : List ℕ) (stop : ReadStop) where
-  judged_ends : (lists : List (List ℤ)) (fault : Option TextFault) (horizon : ℕ) → IsFed a given taken stop lists fault horizon → (was now : SeenSink) (result : Result Ending TraceError) →
+  judged_ends : (lists : List (List ℤ)) (fault : Option TextFault) (horizon : ℕ) → IsMainFed a given taken stop lists fault horizon → (was now : SeenSink) (result : Result Ending TraceError) →
       LeavesJudged (Judges (first_core ops a lists horizon) a.placed.nodes a.outputs.items (input_words a) given lists fault picks) was now result → EndsReplay ops a given picks taken stop was now result
   judged_ends lists fault horizon fed was now (Ok end) left =
       owed_ends (λ counted output way. OwesReplay ops a given picks taken counted output (Ok way)) stop was now end

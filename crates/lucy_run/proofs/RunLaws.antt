@@ -13,16 +13,16 @@ use Rattle.lucy_run.specs.declared.pace.Pace.{Pace}
 use Rattle.lucy_run.specs.declared.ending.Ending.{Ending}
 use Rattle.lucy_run.specs.declared.ending.Ending.TheVariants as ending
 use Rattle.lucy_run.specs.Owes.{most_instants, heading}
-use Rattle.lucy_run.specs.Courses.{CourseView, CanRun, IsBegun, IsAlong, IsUnderWay, IsOver, EndsOver}
-use Rattle.lucy_run.specs.Played.{HasWritten, IsWritten, BreaksOff, Plays, LinesAgree, LinesByBlock}
+use Rattle.lucy_run.specs.Courses.{CourseView, CanBeRunInBlocks, IsCourseBegun, IsAlong, IsCourseUnderWay, IsCourseOver, EndsOver}
+use Rattle.lucy_run.specs.Played.{HasWritten, AreBlocksWritten, BreaksOff, Plays, LinesAgree, LinesByBlock}
 use Rattle.lucy_run.proofs.OverLaws.{words_count}
 use Rattle.lucy_run.proofs.WriteLaws.{written_first}
 use Rattle.lucy_run.proofs.EndsLaws.{at_ok, at_err, empty_of, program, RunGives, run_whole, run_failed, run_out_of_memory}
 
-module _ (kinds : List HostKind) (a : Accepted) (pace : Pace) (can : CanRun (program kinds a pace.instants)) (source : SeenSource) (clocks : List NodeClock) (e : clocks ≡ a.clocks.items) (course : CourseView)
-    (begun : IsBegun kinds a.placed.nodes clocks a.inputs.items pace course) where
-  begun_here : IsBegun kinds a.placed.nodes a.clocks.items a.inputs.items pace course
-  begun_here = subst (λ cs. IsBegun kinds a.placed.nodes cs a.inputs.items pace course) e begun
+module _ (kinds : List HostKind) (a : Accepted) (pace : Pace) (can : CanBeRunInBlocks (program kinds a pace.instants)) (source : SeenSource) (clocks : List NodeClock) (e : clocks ≡ a.clocks.items) (course : CourseView)
+    (begun : IsCourseBegun kinds a.placed.nodes clocks a.inputs.items pace course) where
+  begun_here : IsCourseBegun kinds a.placed.nodes a.clocks.items a.inputs.items pace course
+  begun_here = subst (λ cs. IsCourseBegun kinds a.placed.nodes cs a.inputs.items pace course) e begun
 
   pub begun_along : IsAlong (program kinds a pace.instants) source [] source course
   begun_along = let (given_is, block_is, at, along) = begun_here in along source a.outputs.items
@@ -35,12 +35,12 @@ module _ (kinds : List HostKind) (a : Accepted) (pace : Pace) (can : CanRun (pro
     begun_written : HasWritten (program kinds a pace.instants) between [] course.horizon between writer
     begun_written = let (given_is, block_is, at, along) = begun_here in written_first first_text (program kinds a pace.instants) writer course.horizon (new ∙ ap new_writer f) at between
 
-    pub written : IsWritten source between course writer
+    pub written : AreBlocksWritten source between course writer
     written = (program kinds a pace.instants, source, between, [], can, begun_along, begun_written)
 
     module _ (now : SeenSource) (out : SeenSink) (last : CourseView) (end : WriterState) (result : Result (Unit {0}) OutputError) (plays : Plays source now between out course last writer end result) (same : last.given ≡ course.given) where
       -- the course came to its last block
-      pub under_way : result ≡ Ok tt → IsUnderWay now last
+      pub under_way : result ≡ Ok tt → IsCourseUnderWay now last
       under_way is =
           let (items, on, stopped, lines) = at_ok result tt _ _ is (plays (program kinds a pace.instants) source between [] can begun_along begun_written) in
           (program kinds a pace.instants, source, items, can, on)
@@ -59,10 +59,10 @@ module _ (kinds : List HostKind) (a : Accepted) (pace : Pace) (can : CanRun (pro
           some (empty_of a.inputs.items (words_count (program kinds a pace.instants) can ∙ ap length (sym on.words ∙ none))) (sym same_given ∙ absent)
 
       module _ (after : SeenSource) (end_is : Ending) (over : EndsOver now after last end_is) (is : result ≡ Ok tt) where
-        ended : (items : List _) × IsOver (program kinds a pace.instants) source items pace.instants last.horizon after end_is × HasWritten (program kinds a pace.instants) between items last.horizon out end
+        ended : (items : List _) × IsCourseOver (program kinds a pace.instants) source items pace.instants last.horizon after end_is × HasWritten (program kinds a pace.instants) between items last.horizon out end
         ended =
             let (items, on, stopped, lines) = at_ok result tt _ _ is (plays (program kinds a pace.instants) source between [] can begun_along begun_written) in
-            (items, subst (λ g. IsOver (program kinds a pace.instants) source items g last.horizon after end_is) same_given (over (program kinds a pace.instants) source items can on stopped), lines)
+            (items, subst (λ g. IsCourseOver (program kinds a pace.instants) source items g last.horizon after end_is) same_given (over (program kinds a pace.instants) source items can on stopped), lines)
 
         -- it was run to its end
         pub whole : LinesAgree → (was : SeenSink) (text : List ℕ) → text ≡ heading a → Writes was between text → RunGives kinds a pace.instants pace.block source after was out end_is

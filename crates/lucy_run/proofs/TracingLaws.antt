@@ -11,7 +11,7 @@ use Rattle.lucy_text.specs.Sources.{ReadStop}
 use Rattle.lucy_text.specs.Outside.{SeenSink, Writes, Fails}
 use Rattle.lucy_net.specs.declared.net.Net.{Net}
 use Rattle.lucy_cause.specs.Schedules.{Timetable, IsScheduleOf}
-use Rattle.lucy_core.specs.Seen.{Seen, IsFixed, first_seen}
+use Rattle.lucy_core.specs.Seen.{Seen, MakesCore, first_seen}
 use Rattle.lucy_runner.specs.Views.{RunnerView, first_runner}
 use Rattle.lucy_fields.specs.Readings.{AreRead}
 use Rattle.lucy_trace.specs.Logs.{picks_of}
@@ -20,13 +20,13 @@ use Rattle.lucy_tracing.specs.Together.{AreTogether}
 use Rattle.lucy_output.specs.Outputs.{output_text}
 use Rattle.lucy_output.proofs.SinkLaws.{unwritten}
 use Rattle.lucy_clock.specs.declared.node_clock.NodeClock.{NodeClock}
-use Rattle.lucy_execution.specs.Streams.{param_words}
-use Rattle.lucy_execution.specs.Taking.{LeadToStreams}
+use Rattle.lucy_results.specs.Streams.{param_words}
+use Rattle.lucy_results.specs.Taking.{LeadToStreams}
 use Rattle.lucy_front.specs.declared.accepted.Accepted.{Accepted}
 use Rattle.lucy_run.specs.declared.ending.Ending.{Ending}
 use Rattle.lucy_run.specs.declared.ending.Ending.TheVariants as ending
 use Rattle.lucy_run.specs.Feeds.{IsMainFeed}
-use Rattle.lucy_run.specs.Owes.{input_words, lines_to, heading, IsHorizonOf, EndsFor, IsFed, OwesRun}
+use Rattle.lucy_run.specs.Owes.{input_words, lines_to, heading, IsHorizonOf, EndsFor, IsMainFed, OwesRun}
 use Rattle.lucy_run.specs.Replays.{first_core, tally, IsReplayText, OwesReplay}
 use Rattle.lucy_run.specs.Tracing.{OwesTrace}
 use Rattle.lucy_run.specs.Ends.{EndsWith, EndsTrace, IsFrontOf, Outputs}
@@ -35,12 +35,12 @@ use Rattle.lucy_run.proofs.EndsLaws.{take_front}
 
 -- a core can be made of the copies of a net and of inputs, by another schedule of the net
 pub fixed_anew : (net copy : Net) (schedule anew : Timetable) (inputs lists : List (List ℤ)) (ops : List Operator) (instants : ℕ) →
-    copy ≡ net → lists ≡ inputs → IsScheduleOf copy anew → IsFixed net schedule inputs ops instants → IsFixed copy anew lists ops instants
+    copy ≡ net → lists ≡ inputs → IsScheduleOf copy anew → MakesCore net schedule inputs ops instants → MakesCore copy anew lists ops instants
 fixed_anew net copy schedule anew inputs lists ops instants e f is fixed =
     let of_net : IsScheduleOf net anew = subst (λ (n : Net). IsScheduleOf n anew) e is in
-    let same : IsFixed net anew inputs ops instants =
+    let same : MakesCore net anew inputs ops instants =
     record { proper = fixed.proper; sound = of_net.sound; early = fixed.early; supplied = fixed.supplied; known = fixed.known } in
-    subst (λ (n : Net). IsFixed n anew lists ops instants) (sym e) (subst (λ (ls : List (List ℤ)). IsFixed net anew ls ops instants)
+    subst (λ (n : Net). MakesCore n anew lists ops instants) (sym e) (subst (λ (ls : List (List ℤ)). MakesCore net anew ls ops instants)
     (sym f) same)
 
 pub seen_anew : (net copy : Net) (anew : Timetable) (inputs lists : List (List ℤ)) (ops : List Operator) (instants : ℕ) → copy ≡ net →
@@ -168,7 +168,7 @@ trace_done a given taken stop was now result feed answer clocks fed_so is e left
 -- the replay of a trace, whose events lead to the streams
 pub replayed : (ops : List Operator) (a : Accepted) (given : Option ℕ) (taken : List ℕ) (stop : ReadStop) (output : List ℕ) (end : Ending)
     (lists : List (List ℤ)) (fault : Option TextFault) (horizon : ℕ) (rounds : List (List ℕ)) →
-    IsFed a given taken stop lists fault horizon →
+    IsMainFed a given taken stop lists fault horizon →
     output ≡ trace_text rounds → EndsFor (input_words a) given lists fault end → TracesAreLogs → length a.net.actors ≤ 16384 →
     LeadToStreams a.placed.nodes a.clocks.items (first_core ops a lists horizon) (concat rounds) →
     (picks : List ℕ) × (lines : List ℕ) × AreRead (picks_of output) picks × OwesRun (kinds_of ops) a given taken stop

@@ -13,11 +13,11 @@ use Rattle.lucy_lines.specs.declared.reader.TextFault.TheVariants as text_fault
 use Rattle.lucy_text.specs.Sources.{ReadStop, Unread, Ended, Failed, Passed, Open, Drained, StoppedAt, Read}
 use Rattle.lucy_feed.specs.Feeding.{values_by_stream, is_closed, fault_of, StopsFor}
 use Rattle.lucy_host.specs.declared.kind.HostKind.{HostKind}
-use Rattle.lucy_execution.specs.Running.{HasManyTurns, HasManyItems}
+use Rattle.lucy_results.specs.Running.{HasManyTurns, HasManyItems}
 use Rattle.lucy_front.specs.declared.accepted.Accepted.{Accepted}
 use Rattle.lucy_run.specs.declared.ending.Ending.{Ending}
-use Rattle.lucy_run.specs.Feeds.{Feeds, IsInput}
-use Rattle.lucy_run.specs.Owes.{most_instants, input_words, heading, lines_to, IsHorizonOf, EndsFor, IsFed, Interprets}
+use Rattle.lucy_run.specs.Feeds.{Feeds, IsMainInput}
+use Rattle.lucy_run.specs.Owes.{most_instants, input_words, heading, lines_to, IsHorizonOf, EndsFor, IsMainFed, Interprets}
 use Rattle.lucy_run.specs.Laws.{IsFedWell, CompleteRun, CompleteInterpretation}
 use Rattle.lucy_run.proofs.OwesLaws.{OneHorizon, carried, done_for}
 
@@ -102,14 +102,14 @@ module _ (cut : OneCut) (pieces : CutInPieces) (inputs : List InputSpec) (before
 
 -- main is fed the whole input, without a fault
 pub feeds_whole : OneCut → CutInPieces → (inputs : List InputSpec) (before after : SeenSource) (taken : List ℕ) (stop : ReadStop) (lists others : List (List ℤ)) (fault : Option TextFault) →
-    Read most_bytes before after taken stop → (Rose before.faults after.faults → ⊥) → IsInput inputs before.left lists → Feeds inputs taken stop others fault → (others ≡ lists) × (fault ≡ None)
+    Read most_bytes before after taken stop → (Rose before.faults after.faults → ⊥) → IsMainInput inputs before.left lists → Feeds inputs taken stop others fault → (others ≡ lists) × (fault ≡ None)
 feeds_whole cut pieces [] before after taken stop lists others fault read well is fed = (fed.2 ∙ sym is, fed.3)
 feeds_whole cut pieces (input ∷ inputs) before after taken stop lists others fault read well is fed = told before.left refl is
   where
     ins : List InputSpec
     ins = input ∷ inputs
 
-    told : (left : Option (List ℕ)) → before.left ≡ left → IsInput ins left lists → (others ≡ lists) × (fault ≡ None)
+    told : (left : Option (List ℕ)) → before.left ≡ left → IsMainInput ins left lists → (others ≡ lists) × (fault ≡ None)
     told None e none = absurd none
     told (Some bytes) e (items, halt, feed) =
         let (held, at) = unrefused halt feed.fault in
@@ -120,7 +120,7 @@ feeds_whole cut pieces (input ∷ inputs) before after taken stop lists others f
 -- what is owed by such an input is owed by these lists, up to this horizon
 module _ (cut : OneCut) (pieces : CutInPieces) (horizons : OneHorizon) (a : Accepted) (given : Option ℕ) (before after : SeenSource) (taken : List ℕ) (stop : ReadStop) (lists : List (List ℤ)) (horizon : ℕ)
     (read : Read most_bytes before after taken stop) (well : Rose before.faults after.faults → ⊥) (fed : IsFedWell a given before.left lists horizon) where
-  pub owed_so : (P : List (List ℤ) → Option TextFault → ℕ → Type 0) (others : List (List ℤ)) (fault : Option TextFault) (last : ℕ) → IsFed a given taken stop others fault last → P others fault last → P lists None horizon
+  pub owed_so : (P : List (List ℤ) → Option TextFault → ℕ → Type 0) (others : List (List ℤ)) (fault : Option TextFault) (last : ℕ) → IsMainFed a given taken stop others fault last → P others fault last → P lists None horizon
   owed_so P others fault last is owed =
       let (same, none) = feeds_whole cut pieces a.inputs.items before after taken stop lists others fault read well fed.input is.feeds in
       let Q : List (List ℤ) → Type 0 = λ u. IsHorizonOf (input_words a) given u last in

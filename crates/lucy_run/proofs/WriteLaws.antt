@@ -13,9 +13,9 @@ use Rattle.lucy_output.specs.Laws.{InstantByInstant}
 use Rattle.lucy_output.specs.Writing.{WriterState, new_writer}
 use Rattle.lucy_output.proofs.SinkLaws.{unwritten, writes_more}
 use Rattle.lucy_meaning.specs.Spots.{main_of, results_in}
-use Rattle.lucy_execution.specs.Streams.{main_word, main_streams, later_stream}
+use Rattle.lucy_results.specs.Streams.{main_word, main_streams, later_stream}
 use Rattle.lucy_run.specs.Owes.{most_instants}
-use Rattle.lucy_run.specs.Courses.{CourseView, Program, CanRun, words_of, values, IsAlong, IsNext, GivesUpBehind}
+use Rattle.lucy_run.specs.Courses.{CourseView, Program, CanBeRunInBlocks, words_of, values, IsAlong, IsNextBlock, GivesUpBehind}
 use Rattle.lucy_run.specs.Played.{lines_of, HasWritten, BreaksOff, LinesAgree, LinesByBlock}
 use Rattle.lucy_run.proofs.ReadLaws.{fed_feeds}
 
@@ -52,7 +52,7 @@ module _ (p : Program) (first : SeenSource) (was : SeenSink) (items : List ItemO
     left = has.lines;
   }
 
-  module _ (turn : ValuesInTurn) (blocks : LinesByBlock) (can : CanRun p) (now : SeenSource) (new : CourseView) (streams : List (List ℤ)) (next : IsNext p first items now old new streams) where
+  module _ (turn : ValuesInTurn) (blocks : LinesByBlock) (can : CanBeRunInBlocks p) (now : SeenSource) (new : CourseView) (streams : List (List ℤ)) (next : IsNextBlock p first items now old new streams) where
     -- there are lists enough
     pub lists_enough : length writer.outputs ≤ length streams
     lists_enough =

@@ -20,9 +20,9 @@ use Rattle.lucy_clock.specs.declared.node_clock.NodeClock.{NodeClock}
 use Rattle.lucy_meaning.specs.Spots.{main_of}
 use Rattle.lucy_meaning.specs.Horizons.{Suffice}
 use Rattle.lucy_kahn.specs.Turns.{params_in}
-use Rattle.lucy_execution.specs.Streams.{param_words, result_words, later_streams}
-use Rattle.lucy_execution.specs.Running.{HasSchedule}
-use Rattle.lucy_execution.specs.Playing.{PlayerView}
+use Rattle.lucy_results.specs.Streams.{param_words, result_words, later_streams}
+use Rattle.lucy_results.specs.Running.{HasSchedule}
+use Rattle.lucy_results.specs.Playing.{PlayerView}
 use Rattle.lucy_run.specs.declared.ending.Ending.{Ending}
 use Rattle.lucy_run.specs.declared.pace.Pace.{Pace}
 use Rattle.lucy_run.specs.Paces.{IsBlock}
@@ -38,7 +38,7 @@ pub record Program : Type 0 where
   pub outputs : List OutputSpec
 
 -- it can be run: its net has a sound schedule, there is an input for each parameter of main, and its outputs have the results' words
-pub record CanRun (p : Program) : Type 0 where
+pub record CanBeRunInBlocks (p : Program) : Type 0 where
   pub proper : AreProper p.nodes
   pub scheduled : HasSchedule p.nodes p.clocks
   pub inputs : length p.inputs ≡ params_in (main_of p.nodes)
@@ -91,7 +91,7 @@ pub record IsRunTo (p : Program) (lists : List (List ℤ)) (horizon : ℕ) (play
   pub instants : player.instants ≡ horizon
 
 -- the horizon of the items that were read: that of so many instants, or an earlier one, where reading has stopped
-pub record IsLast (p : Program) (items : List ItemOf) (most horizon : ℕ) (reader : FeedState) : Type 0 where
+pub record IsLastRead (p : Program) (items : List ItemOf) (most horizon : ℕ) (reader : FeedState) : Type 0 where
   pub within : horizon ≤ most
   pub last : (horizon ≡ most) ⊎ ((reader.reader.ended ≡ true) × ((t : ℕ) → t ≤ most → Suffice (words_of p) (values p items) t → t ≤ horizon))
 
@@ -104,18 +104,18 @@ pub record IsAlong (p : Program) (first : SeenSource) (items : List ItemOf) (now
   pub words : c.words ≡ words_of p
   pub run : IsRunTo p (values p items) c.horizon c.player
   pub suffice : Suffice (words_of p) (values p items) c.horizon
-  pub last : IsLast p items c.target c.horizon c.reader
+  pub last : IsLastRead p items c.target c.horizon c.reader
   pub early : c.target ≤ most_instants c.given
   pub few : most_instants c.given ≤ limit_number limit.Instants
   pub block : IsBlock c.block
 
 -- a course of some program that can be run
-abbrev pub IsUnderWay : (now : SeenSource) → CourseView → Type 0
-IsUnderWay now c = (p : Program) × (first : SeenSource) × (items : List ItemOf) × CanRun p × IsAlong p first items now c
+abbrev pub IsCourseUnderWay : (now : SeenSource) → CourseView → Type 0
+IsCourseUnderWay now c = (p : Program) × (first : SeenSource) × (items : List ItemOf) × CanBeRunInBlocks p × IsAlong p first items now c
 
 -- a course of this program, at this pace, of which nothing was run
-abbrev pub IsBegun : List HostKind → List PlacedNode → List NodeClock → List InputSpec → Pace → CourseView → Type 0
-IsBegun kinds nodes clocks inputs pace c =
+abbrev pub IsCourseBegun : List HostKind → List PlacedNode → List NodeClock → List InputSpec → Pace → CourseView → Type 0
+IsCourseBegun kinds nodes clocks inputs pace c =
     (c.given ≡ pace.instants) × (c.block ≡ pace.block) × (c.horizon ≡ 0) × ((source : SeenSource) (outputs : List OutputSpec) →
     IsAlong (record { kinds = kinds; nodes = nodes; clocks = clocks; inputs = inputs; outputs = outputs }) source [] source c)
 
@@ -128,7 +128,7 @@ abbrev pub HasStopped : CourseView → Type 0
 HasStopped c = (c.horizon ≢ c.target) ⊎ (most_instants c.given ≤ c.target)
 
 -- it goes on behind the items that were read: more are read, and these are what the streams of main's results have more at the next horizon
-pub record IsNext (p : Program) (first : SeenSource) (items : List ItemOf) (now : SeenSource) (old new : CourseView) (streams : List (List ℤ)) : Type 0 where
+pub record IsNextBlock (p : Program) (first : SeenSource) (items : List ItemOf) (now : SeenSource) (old new : CourseView) (streams : List (List ℤ)) : Type 0 where
   pub more : List ItemOf
   pub fronts : AreFronts (values p items) (values p (items ++ more))
   pub along : IsAlong p first (items ++ more) now new
@@ -137,9 +137,9 @@ pub record IsNext (p : Program) (first : SeenSource) (items : List ItemOf) (now 
   pub streams_are : streams ≡ later_streams p.kinds (values p (items ++ more)) p.nodes p.clocks old.horizon new.horizon
 
 -- so it does behind whatever was read
-abbrev pub GoesOn : (before now : SeenSource) (old new : CourseView) (streams : List (List ℤ)) → Type 0
-GoesOn before now old new streams =
-    (p : Program) (first : SeenSource) (items : List ItemOf) → CanRun p → IsAlong p first items before old → IsNext p first items now old new streams
+abbrev pub CourseGoesOn : (before now : SeenSource) (old new : CourseView) (streams : List (List ℤ)) → Type 0
+CourseGoesOn before now old new streams =
+    (p : Program) (first : SeenSource) (items : List ItemOf) → CanBeRunInBlocks p → IsAlong p first items before old → IsNextBlock p first items now old new streams
 
 -- Reading is given up behind what was read, whatever that is, for so many instants.
 abbrev pub GivesUpBehind : (words : List Bits) (aim : ℕ) → (before after : SeenSource) (old : FeedState) → Type 0
@@ -147,7 +147,7 @@ GivesUpBehind words aim before after old = (inputs : List InputSpec) (first : Se
     AreFresh inputs old [] → old.reader.inputs ≡ inputs → IsFedSoFar (λ xs. Unit {0}) inputs first after (values_by_stream (length inputs) items)
 
 -- a course that is over: what main was fed behind the items that were read, the horizon, and how the run ends
-pub record IsOver (p : Program) (first : SeenSource) (items : List ItemOf) (given : Option ℕ) (horizon : ℕ) (now : SeenSource) (end : Ending) : Type 0 where
+pub record IsCourseOver (p : Program) (first : SeenSource) (items : List ItemOf) (given : Option ℕ) (horizon : ℕ) (now : SeenSource) (end : Ending) : Type 0 where
   pub taken : List ℕ
   pub stop : ReadStop
   pub read : Read most_bytes first now taken stop
@@ -163,4 +163,4 @@ pub record IsOver (p : Program) (first : SeenSource) (items : List ItemOf) (give
 -- it ends behind whatever was read
 abbrev pub EndsOver : (before now : SeenSource) → CourseView → Ending → Type 0
 EndsOver before now c end =
-    (p : Program) (first : SeenSource) (items : List ItemOf) → CanRun p → IsAlong p first items before c → HasStopped c → IsOver p first items c.given c.horizon now end
+    (p : Program) (first : SeenSource) (items : List ItemOf) → CanBeRunInBlocks p → IsAlong p first items before c → HasStopped c → IsCourseOver p first items c.given c.horizon now end

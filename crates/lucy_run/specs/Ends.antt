@@ -13,7 +13,7 @@ use Rattle.lucy_run.specs.Feeds.{CountsAs, IsNeededFor}
 use Rattle.lucy_trace.specs.declared.error.TraceError.{TraceError}
 use Rattle.lucy_run.specs.Replays.{OwesReplay}
 use Rattle.lucy_run.specs.Tracing.{OwesTrace}
-use Rattle.lucy_run.specs.Owes.{IsFed, OwesRun, heading, input_words, lines_to}
+use Rattle.lucy_run.specs.Owes.{IsMainFed, OwesRun, heading, input_words, lines_to}
 
 -- a front of an output that is owed; nothing is one, also where none is owed yet
 abbrev pub IsFrontOf : (OwesOutput : List ℕ → Type 0) → (front : List ℕ) → Type 0
@@ -38,7 +38,7 @@ pub record FailsInBlock (kinds : List HostKind) (a : Accepted) (given : Option �
   pub lists : List (List ℤ)
   pub fault : Option TextFault
   pub horizon : ℕ
-  pub fed : IsFed a given taken counted lists fault horizon
+  pub fed : IsMainFed a given taken counted lists fault horizon
   pub done : ℕ
   pub early : done ≤ horizon
   pub between : SeenSink

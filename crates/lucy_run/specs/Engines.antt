@@ -8,7 +8,7 @@ use Rattle.lucy_meaning.specs.Spots.{main_of}
 use Rattle.lucy_meaning.specs.Horizons.{Suffice}
 use Rattle.lucy_kahn.specs.Turns.{params_in}
 use Rattle.lucy_runner.specs.Views.{most_workers}
-use Rattle.lucy_execution.specs.Streams.{param_words, main_streams}
+use Rattle.lucy_results.specs.Streams.{param_words, main_streams}
 use Rattle.lucy_front.specs.declared.accepted.Accepted.{Accepted}
 use Rattle.lucy_run.specs.Calls.{WasAccepted}
 

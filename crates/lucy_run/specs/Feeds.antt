@@ -25,9 +25,9 @@ abbrev pub IsNeededFor : (words : List Bits) (instants : ℕ) → List InputSpec
 IsNeededFor words instants inputs taken = IsAskedWhile (IsShortOf words instants inputs) inputs taken
 
 -- all bytes of an input are told, and have these items and no fault; where main has no inputs none is asked for
-abbrev pub IsInput : List InputSpec → (left : Option (List ℕ)) → (lists : List (List ℤ)) → Type 0
-IsInput [] left lists = lists ≡ []
-IsInput (input ∷ inputs) left lists = IsSomeAnd left (λ bytes. Feeds (input ∷ inputs) bytes Ended lists None)
+abbrev pub IsMainInput : List InputSpec → (left : Option (List ℕ)) → (lists : List (List ℤ)) → Type 0
+IsMainInput [] left lists = lists ≡ []
+IsMainInput (input ∷ inputs) left lists = IsSomeAnd left (λ bytes. Feeds (input ∷ inputs) bytes Ended lists None)
 
 -- the bytes taken count as read so: as they were, or, where reading was not begun or was given up, as all that there are
 abbrev pub CountsAs : (stop counted : ReadStop) → Type 0

@@ -7,7 +7,7 @@ use Rattle.lucy_text.specs.Outside.{Rose, SeenSource}
 use Rattle.lucy_lines.specs.Fronts.{most_bytes}
 use Rattle.lucy_lines.specs.declared.reader.TextFault.{TextFault}
 use Rattle.lucy_text.specs.Sources.{ReadStop, Read}
-use Rattle.lucy_execution.specs.Running.{HasManyTurns, HasManyItems}
+use Rattle.lucy_results.specs.Running.{HasManyTurns, HasManyItems}
 use Rattle.lucy_front.specs.declared.accepted.Accepted.{Accepted}
 use Rattle.lucy_core.specs.Seen.{CanRun}
 use Rattle.lucy_trace.specs.Traces.{IsTraceText}
@@ -16,8 +16,8 @@ use Rattle.lucy_run.specs.Replays.{first_core, IsReplayText, OwesReplay}
 use Rattle.lucy_run.specs.Tracing.{OwesTrace}
 use Rattle.lucy_run.specs.declared.ending.Ending.{Ending}
 use Rattle.lucy_run.specs.declared.ending.Ending.TheVariants as ending
-use Rattle.lucy_run.specs.Feeds.{IsInput}
-use Rattle.lucy_run.specs.Owes.{input_words, IsHorizonOf, heading, lines_to, AllowsMore, IsFed, OwesRun, OwesKahn}
+use Rattle.lucy_run.specs.Feeds.{IsMainInput}
+use Rattle.lucy_run.specs.Owes.{input_words, IsHorizonOf, heading, lines_to, AllowsMore, IsMainFed, OwesRun, OwesKahn}
 
 -- the bytes taken and how reading stopped owe one output of `run`, with one ending
 abbrev pub OneRun : Type 0
@@ -37,7 +37,7 @@ SameLines = (kinds : List HostKind) (a : Accepted) (given : Option ℕ) (taken :
 
 -- an input that is told and has no fault allows so many instants, and no more than a run may have where none are given
 pub record IsFedWell (a : Accepted) (given : Option ℕ) (left : Option (List ℕ)) (lists : List (List ℤ)) (horizon : ℕ) : Type 0 where
-  pub input : IsInput a.inputs.items left lists
+  pub input : IsMainInput a.inputs.items left lists
   pub horizon_is : IsHorizonOf (input_words a) given lists horizon
   pub few : given ≡ None → AllowsMore (input_words a) lists → ⊥
 
@@ -69,7 +69,7 @@ CompleteReplay = (ops : List Operator) (a : Accepted) (given : Option ℕ) (befo
 abbrev pub OneTrace : Type 0
 OneTrace = (a : Accepted) (given : Option ℕ) (taken : List ℕ) (stop : ReadStop) (output out : List ℕ) (end other : Ending) →
     OwesTrace a given taken stop output end → OwesTrace a given taken stop out other →
-    (end ≡ other) × (lists : List (List ℤ)) × (fault : Option TextFault) × (horizon : ℕ) × IsFed a given taken stop lists fault horizon
+    (end ≡ other) × (lists : List (List ℤ)) × (fault : Option TextFault) × (horizon : ℕ) × IsMainFed a given taken stop lists fault horizon
     × IsTraceText a.net horizon output × IsTraceText a.net horizon out
 
 -- By such an input, where the count of its source did not rise, a run is traced to its end, over all those instants.

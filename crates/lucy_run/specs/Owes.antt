@@ -11,8 +11,8 @@ use Rattle.lucy_output.specs.Outputs.{output_text}
 use Rattle.lucy_place.specs.declared.placed.PlacedNode.{PlacedNode}
 use Rattle.lucy_clock.specs.declared.node_clock.NodeClock.{NodeClock}
 use Rattle.lucy_meaning.specs.Horizons.{Suffice, IsHorizon}
-use Rattle.lucy_execution.specs.Streams.{param_words, main_streams}
-use Rattle.lucy_execution.specs.Running.{HasManyTurns, HasManyItems}
+use Rattle.lucy_results.specs.Streams.{param_words, main_streams}
+use Rattle.lucy_results.specs.Running.{HasManyTurns, HasManyItems}
 use Rattle.lucy_front.specs.declared.accepted.Accepted.{Accepted}
 use Rattle.lucy_front.specs.Report.{report}
 use Rattle.lucy_run.specs.declared.ending.Ending.{Ending}
@@ -55,14 +55,14 @@ EndsFor words (Some given) lists None end = end ≡ ending.Done
 EndsFor words None lists None end = ((end ≡ ending.Limit limit.Instants) × AllowsMore words lists) ⊎ ((end ≡ ending.Done) × (AllowsMore words lists → ⊥))
 
 -- what main is fed for, and its horizon
-pub record IsFed (a : Accepted) (given : Option ℕ) (taken : List ℕ) (stop : ReadStop) (lists : List (List ℤ)) (fault : Option TextFault) (horizon : ℕ) : Type 0 where
+pub record IsMainFed (a : Accepted) (given : Option ℕ) (taken : List ℕ) (stop : ReadStop) (lists : List (List ℤ)) (fault : Option TextFault) (horizon : ℕ) : Type 0 where
   pub feeds : Feeds a.inputs.items taken stop lists fault
   pub horizon_is : IsHorizonOf (input_words a) given lists horizon
 
 -- `run`: the heading and the lines
 abbrev pub OwesRun : List HostKind → Accepted → (given : Option ℕ) → (taken : List ℕ) → ReadStop → (output : List ℕ) → Ending → Type 0
 OwesRun kinds a given taken stop output end =
-    (lists : List (List ℤ)) × (fault : Option TextFault) × (horizon : ℕ) × IsFed a given taken stop lists fault horizon
+    (lists : List (List ℤ)) × (fault : Option TextFault) × (horizon : ℕ) × IsMainFed a given taken stop lists fault horizon
     × (output ≡ heading a ++ lines_to kinds a lists horizon) × EndsFor (input_words a) given lists fault end
 
 -- what the plain interpreter comes to up to the horizon: a limit that it passes, and no line, or the lines
@@ -77,5 +77,5 @@ Interprets kinds nodes clocks outputs given lists fault horizon output end =
 -- `kahn`: the lines alone
 abbrev pub OwesKahn : List HostKind → Accepted → (given : Option ℕ) → (taken : List ℕ) → ReadStop → (output : List ℕ) → Ending → Type 0
 OwesKahn kinds a given taken stop output end =
-    (lists : List (List ℤ)) × (fault : Option TextFault) × (horizon : ℕ) × IsFed a given taken stop lists fault horizon
+    (lists : List (List ℤ)) × (fault : Option TextFault) × (horizon : ℕ) × IsMainFed a given taken stop lists fault horizon
     × Interprets kinds a.placed.nodes a.clocks.items a.outputs.items given lists fault horizon output end

@@ -15,11 +15,11 @@ use Rattle.lucy_output.specs.declared.error.OutputError.TheVariants.{Failed, Out
 use Rattle.lucy_output.specs.Outputs.{lines_after}
 use Rattle.lucy_output.specs.Writing.{WriterState}
 use Rattle.lucy_meaning.specs.Horizons.{Suffice, IsHorizon}
-use Rattle.lucy_execution.specs.Streams.{param_words, later_streams}
-use Rattle.lucy_execution.specs.Playing.{PlayerView, joined}
+use Rattle.lucy_results.specs.Streams.{param_words, later_streams}
+use Rattle.lucy_results.specs.Playing.{PlayerView, joined}
 use Rattle.lucy_run.specs.Feeds.{IsShortOf}
 use Rattle.lucy_run.specs.Owes.{most_instants, stream_lines}
-use Rattle.lucy_run.specs.Courses.{Program, CanRun, CourseView, words_of, values, HasFed, IsFedSoFar, IsAlong, HasStopped}
+use Rattle.lucy_run.specs.Courses.{Program, CanBeRunInBlocks, CourseView, words_of, values, HasFed, IsFedSoFar, IsAlong, HasStopped}
 
 -- the lines that lists allow
 abbrev pub lines_of : Program → List (List ℤ) → ℕ → List ℕ
@@ -33,9 +33,9 @@ pub record HasWritten (p : Program) (was : SeenSink) (items : List ItemOf) (hori
   pub lines : Writes was written (lines_of p (values p items) horizon)
 
 -- a course whose lines were written, of some program that can be run
-abbrev pub IsWritten : (now : SeenSource) (written : SeenSink) → CourseView → WriterState → Type 0
-IsWritten now written c writer =
-    (p : Program) × (first : SeenSource) × (was : SeenSink) × (items : List ItemOf) × CanRun p × IsAlong p first items now c × HasWritten p was items c.horizon written writer
+abbrev pub AreBlocksWritten : (now : SeenSource) (written : SeenSink) → CourseView → WriterState → Type 0
+AreBlocksWritten now written c writer =
+    (p : Program) × (first : SeenSource) × (was : SeenSink) × (items : List ItemOf) × CanBeRunInBlocks p × IsAlong p first items now c × HasWritten p was items c.horizon written writer
 
 -- the lines up to an instant were written, and those after it, up to another, could not be
 pub record FailsBehind (p : Program) (lists : List (List ℤ)) (done horizon : ℕ) (before after : SeenSink) : Type 0 where
@@ -80,14 +80,14 @@ abbrev pub CountsAllow : (words : List Bits) (counts : List ℕ) (most horizon :
 CountsAllow words counts most horizon = (lists : List (List ℤ)) → ((i : ℕ) → slice_index counts i ≡ length (list_at lists i)) → IsHorizon words lists most horizon
 
 -- a program may be run on to the horizon with these items, which follow
-pub record CanGoOn (player : PlayerView) (added : List (List ℤ)) (horizon : ℕ) : Type 0 where
+pub record PlayerCanGoOn (player : PlayerView) (added : List (List ℤ)) (horizon : ℕ) : Type 0 where
   pub later : player.instants ≤ horizon
   pub early : horizon ≤ limit_number limit.Instants
   pub inputs : length added ≡ length player.inputs
   pub suffice : Suffice (param_words player.nodes player.clocks) (joined player.inputs added) horizon
 
 -- it was, the items are carried away, and these are what the streams of main's results have more
-pub record HasGoneOn (reader : FeedState) (player : PlayerView) (last : FeedState) (now : PlayerView) (horizon : ℕ) (lists : List (List ℤ)) : Type 0 where
+pub record PlayerHasGoneOn (reader : FeedState) (player : PlayerView) (last : FeedState) (now : PlayerView) (horizon : ℕ) (lists : List (List ℤ)) : Type 0 where
   pub reader_is : last ≡ record reader { fresh = values_by_stream (length reader.reader.inputs) [] }
   pub player_is : now ≡ record player { inputs = joined player.inputs reader.fresh; instants = horizon; before = player.instants }
   pub lists_are : lists ≡ later_streams player.kinds (joined player.inputs reader.fresh) player.nodes player.clocks player.instants horizon
@@ -95,16 +95,16 @@ pub record HasGoneOn (reader : FeedState) (player : PlayerView) (last : FeedStat
 -- the lines were written up to the last horizon; or it breaks off
 abbrev pub Plays : (before now : SeenSource) (written after : SeenSink) (old new : CourseView) (writer last : WriterState) → Result (Unit {0}) OutputError → Type 0
 Plays before now written after old new writer last result =
-    (p : Program) (first : SeenSource) (was : SeenSink) (items : List ItemOf) → CanRun p → IsAlong p first items before old → HasWritten p was items old.horizon written writer →
+    (p : Program) (first : SeenSource) (was : SeenSink) (items : List ItemOf) → CanBeRunInBlocks p → IsAlong p first items before old → HasWritten p was items old.horizon written writer →
     MatchResult result (λ _. (all : List ItemOf) × IsAlong p first all now new × HasStopped new × HasWritten p was all new.horizon after last)
     (BreaksOff p first was old.block (most_instants old.given) now after)
 
 -- the lines up to a horizon are the same by inputs that go on past the items that it needs
 abbrev pub LinesAgree : Type 0
-LinesAgree = (p : Program) (lists more : List (List ℤ)) (horizon : ℕ) → CanRun p → AreFronts lists more → Suffice (words_of p) lists horizon →
+LinesAgree = (p : Program) (lists more : List (List ℤ)) (horizon : ℕ) → CanBeRunInBlocks p → AreFronts lists more → Suffice (words_of p) lists horizon →
     lines_of p more horizon ≡ lines_of p lists horizon
 
 -- by these inputs the lines up to a later horizon have in front those up to the earlier one, and then those by what the streams have more
 abbrev pub LinesByBlock : Type 0
-LinesByBlock = (p : Program) (lists more : List (List ℤ)) (before horizon : ℕ) → CanRun p → AreFronts lists more → before ≤ horizon → Suffice (words_of p) lists before →
+LinesByBlock = (p : Program) (lists more : List (List ℤ)) (before horizon : ℕ) → CanBeRunInBlocks p → AreFronts lists more → before ≤ horizon → Suffice (words_of p) lists before →
     lines_of p more horizon ≡ lines_of p lists before ++ lines_after p.outputs (later_streams p.kinds more p.nodes p.clocks before horizon) before horizon

@@ -12,10 +12,10 @@ use Rattle.lucy_trace.specs.declared.error.TraceError.{TraceError}
 use Rattle.lucy_output.specs.declared.output.OutputSpec.{OutputSpec}
 use Rattle.lucy_output.specs.Outputs.{output_text}
 use Rattle.lucy_place.specs.declared.placed.PlacedNode.{PlacedNode}
-use Rattle.lucy_execution.specs.Taking.{taken_lists}
+use Rattle.lucy_results.specs.Taking.{taken_lists}
 use Rattle.lucy_front.specs.declared.accepted.Accepted.{Accepted}
 use Rattle.lucy_run.specs.declared.ending.Ending.{Ending}
-use Rattle.lucy_run.specs.Owes.{input_words, EndsFor, IsFed}
+use Rattle.lucy_run.specs.Owes.{input_words, EndsFor, IsMainFed}
 
 -- the core of an accepted program over what main is fed, without an event so far
 abbrev pub first_core : List Operator → Accepted → (lists : List (List ℤ)) → (horizon : ℕ) → Seen
@@ -50,5 +50,5 @@ Judges first nodes outputs words given lists fault picks output (Err e) = IsFirs
 -- `replay`: what the events of a log come to over what main is fed
 abbrev pub OwesReplay : List Operator → Accepted → (given : Option ℕ) → (picks taken : List ℕ) → ReadStop → (output : List ℕ) → Result Ending TraceError → Type 0
 OwesReplay ops a given picks taken stop output result =
-    (lists : List (List ℤ)) × (fault : Option TextFault) × (horizon : ℕ) × IsFed a given taken stop lists fault horizon
+    (lists : List (List ℤ)) × (fault : Option TextFault) × (horizon : ℕ) × IsMainFed a given taken stop lists fault horizon
     × Judges (first_core ops a lists horizon) a.placed.nodes a.outputs.items (input_words a) given lists fault picks output result

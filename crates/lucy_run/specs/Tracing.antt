@@ -11,13 +11,13 @@ use Rattle.lucy_front.specs.declared.options.Options.{Options}
 use Rattle.lucy_front.specs.Accepting.{IsAccepted}
 use Rattle.lucy_run.specs.declared.ending.Ending.{Ending}
 use Rattle.lucy_run.specs.Paces.{AreInstants}
-use Rattle.lucy_run.specs.Owes.{input_words, heading, EndsFor, IsFed, OwesRun}
+use Rattle.lucy_run.specs.Owes.{input_words, heading, EndsFor, IsMainFed, OwesRun}
 use Rattle.lucy_run.specs.Replays.{tally, OwesReplay}
 
 -- `trace`: a trace of the program's net up to the horizon of what main is fed, whichever it is
 abbrev pub OwesTrace : Accepted → (given : Option ℕ) → (taken : List ℕ) → ReadStop → (output : List ℕ) → Ending → Type 0
 OwesTrace a given taken stop output end =
-    (lists : List (List ℤ)) × (fault : Option TextFault) × (horizon : ℕ) × IsFed a given taken stop lists fault horizon
+    (lists : List (List ℤ)) × (fault : Option TextFault) × (horizon : ℕ) × IsMainFed a given taken stop lists fault horizon
     × IsTraceText a.net horizon output × EndsFor (input_words a) given lists fault end
 
 -- A trace that is owed reads as a log. Over the same input the replay of that log is finished, prints the lines that `run` owes, and ends

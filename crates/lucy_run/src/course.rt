@@ -13,20 +13,20 @@ ghost use Rattle.lucy_kahn.specs.Turns.{params_in};
 ghost use Rattle.lucy_feed.specs.Resuming.{AreMet};
 ghost use Rattle.lucy_run.specs.Paces.{IsPace};
 ghost use Rattle.lucy_run.specs.Owes as owes;
-ghost use Rattle.lucy_run.specs.Courses.{IsBegun, IsUnderWay, HasMore, HasStopped, GivesUpBehind, GoesOn, EndsOver};
-ghost use Rattle.lucy_run.specs.Played.{ReadsOn, CountsAllow, CanGoOn, HasGoneOn};
+ghost use Rattle.lucy_run.specs.Courses.{IsCourseBegun, IsCourseUnderWay, HasMore, HasStopped, GivesUpBehind, CourseGoesOn, EndsOver};
+ghost use Rattle.lucy_run.specs.Played.{ReadsOn, CountsAllow, PlayerCanGoOn, PlayerHasGoneOn};
 
 use crate::ending::Ending;
 use crate::horizons::{ending_for, most_instants};
 use crate::pace::Pace;
 use lucy_cause::Schedule;
 use lucy_clock::NodeClock;
-use lucy_execution::{Player, allows_more, horizon, param_words};
 use lucy_feed::{FeedReader, empty_lists, values_in_turn};
 use lucy_host::{Host, Inputs};
 use lucy_lines::InputSpec;
 use lucy_net::Net;
 use lucy_place::Placed;
+use lucy_results::{Player, allows_more, horizon, param_words};
 use lucy_text::Source;
 use lucy_word::{Limit, OutOfMemory, Word};
 use lucy_worker::Gate;
@@ -86,7 +86,7 @@ impl<'a> Course<'a> {
         requires inputs { length inputs.items ≡ params_in (main_of placed.now.nodes) }
         requires few { length inputs.items < 2 ^ 32 }
         requires pace { IsPace pace }
-        ensures begun { IfOk result (IsBegun (kinds_of (lent host.now)) placed.now.nodes clocks.now inputs.items pace) }
+        ensures begun { IfOk result (IsCourseBegun (kinds_of (lent host.now)) placed.now.nodes clocks.now inputs.items pace) }
     {
         let words = param_words(placed, clocks);
         let none = empty_lists(alloc, inputs.len())?;
@@ -188,8 +188,8 @@ impl<'a> Course<'a> {
     ) -> Result<Inputs, OutOfMemory>
         requires serves { Serves F.pre F.post host.now }
         requires kinds { kinds_of (lent host.now) ≡ self.old.player.kinds }
-        requires can { CanGoOn self.old.player self.old.reader.fresh horizon }
-        ensures gone { IfOk result (λ lists. HasGoneOn self.old.reader self.old.player self.new.reader self.new.player horizon lists) }
+        requires can { PlayerCanGoOn self.old.player self.old.reader.fresh horizon }
+        ensures gone { IfOk result (λ lists. PlayerHasGoneOn self.old.reader self.old.player self.new.reader self.new.player horizon lists) }
         ensures rest { self.new ≡ record self.old { reader = self.new.reader; player = self.new.player } }
     {
         self.player
@@ -215,9 +215,9 @@ impl<'a> Course<'a> {
     ) -> Result<Inputs, OutOfMemory>
         requires serves { Serves F.pre F.post host.now }
         requires kinds { kinds_of (lent host.now) ≡ self.old.player.kinds }
-        requires under_way { IsUnderWay (I.seen source.old) self.old }
+        requires under_way { IsCourseUnderWay (I.seen source.old) self.old }
         requires more { HasMore self.old }
-        ensures goes_on { IfOk result (GoesOn (I.seen source.old) (I.seen source.new) self.old self.new) }
+        ensures goes_on { IfOk result (CourseGoesOn (I.seen source.old) (I.seen source.new) self.old self.new) }
         ensures gives_up { OnErr result (GivesUpBehind self.old.words self.old.target (I.seen source.old) (I.seen source.new) self.old.reader) }
         ensures ahead { OnOk result (self.old.target < self.new.target) }
         ensures given { self.new.given ≡ self.old.given }
@@ -236,7 +236,7 @@ impl<'a> Course<'a> {
 
     /// Reads the input on to its stop. How the run ends.
     pub fn finish<I: Source>(mut self, source: &mut I) -> Ending
-        requires under_way { IsUnderWay (I.seen source.old) self }
+        requires under_way { IsCourseUnderWay (I.seen source.old) self }
         requires given { self.words ≡ [] → self.given ≢ None }
         ensures over { EndsOver (I.seen source.old) (I.seen source.new) self.entry result }
         ensures unread { self.entry.words ≡ [] → source.new ≡ source.old }

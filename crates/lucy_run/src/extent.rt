@@ -4,9 +4,9 @@ ghost use Rattle.lucy_run.specs.Owes.{IsHorizonOf, EndsFor};
 
 use crate::ending::Ending;
 use crate::horizons::{ending_for, most_instants};
-use lucy_execution::{allows_more, horizon, lengths};
 use lucy_host::Inputs;
 use lucy_lines::TextFault;
+use lucy_results::{allows_more, horizon, lengths};
 use lucy_word::{Limit, OutOfMemory, Word};
 use std::alloc::Global;
 

@@ -3,12 +3,12 @@ ghost use Rattle.lucy_run.specs.Tracing.{TracesAreReplayed};
 ghost use Rattle.lucy_run.specs.Played.{LinesAgree, LinesByBlock};
 ghost use Rattle.lucy_run.specs.Laws.{OneRun, OneInterpretation, OneReplay, OneTrace, SameLines, CompleteRun, CompleteInterpretation, CompleteReplay, CompleteTrace};
 
-use lucy_execution::{nets_can_be_run, streams_go_on, whole_runs_lead_to_streams};
 use lucy_feed::one_feed;
 use lucy_front::accepted_programs_are_clocked;
 use lucy_lines::{cut_in_pieces, one_cut};
 use lucy_meaning::one_horizon;
 use lucy_output::{block_by_block, fronts_suffice};
+use lucy_results::{nets_can_be_run, streams_go_on, whole_runs_lead_to_streams};
 use lucy_trace::traces_are_logs;
 
 /// The bytes taken, and how reading stopped, owe one output of `run`, with one ending.

@@ -6,7 +6,7 @@ ghost use Rattle.lucy_lines.specs.Fronts.{most_bytes};
 ghost use Rattle.lucy_text.specs.Sources.{ReadStop, Read};
 ghost use Rattle.lucy_run.specs.Owes as owes;
 ghost use Rattle.lucy_run.specs.Paces.{IsPace};
-ghost use Rattle.lucy_run.specs.Played.{IsWritten, Plays};
+ghost use Rattle.lucy_run.specs.Played.{AreBlocksWritten, Plays};
 ghost use Rattle.lucy_run.specs.Ends.{EndsRun};
 ghost use Rattle.lucy_run.specs.Calls.{WasAccepted};
 
@@ -47,7 +47,7 @@ fn play<R: Threads + Sync, F: Fn(u32, i64, i64) -> i64 + Sync, G: Gate + Sync, I
 ) -> Result<(), OutputError>
     requires serves { Serves F.pre F.post host.now }
     requires kinds { kinds_of (lent host.now) ≡ course.old.player.kinds }
-    requires written { IsWritten (I.seen source.old) (O.seen out.old) course.old writer.old }
+    requires written { AreBlocksWritten (I.seen source.old) (O.seen out.old) course.old writer.old }
     ensures plays { Plays (I.seen source.old) (I.seen source.new) (O.seen out.old) (O.seen out.new) course.old course.new writer.old writer.new result }
     ensures given { course.new.given ≡ course.old.given }
     ensures unread { course.old.words ≡ [] → source.new ≡ source.old }

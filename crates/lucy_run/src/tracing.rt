@@ -7,13 +7,13 @@ ghost use Rattle.lucy_meaning.specs.Spots.{main_of};
 ghost use Rattle.lucy_kahn.specs.Turns.{params_in};
 ghost use Rattle.lucy_net.specs.Schedules.{IsSound};
 ghost use Rattle.lucy_cause.specs.Schedules.{Timetable, events_at};
-ghost use Rattle.lucy_core.specs.Seen.{IsFixed, IsUnbegun, first_seen};
+ghost use Rattle.lucy_core.specs.Seen.{MakesCore, IsUnbegun, first_seen};
 ghost use Rattle.lucy_runner.specs.Views.{first_runner};
 ghost use Rattle.lucy_trace.specs.Traces.{IsTraceText};
 ghost use Rattle.lucy_tracing.specs.Together.{AreTogether};
 ghost use Rattle.lucy_flat.specs.Clocked.{AreClocked};
 ghost use Rattle.lucy_flat.specs.Flat.{IsFlat};
-ghost use Rattle.lucy_execution.specs.Streams.{param_words};
+ghost use Rattle.lucy_results.specs.Streams.{param_words};
 ghost use Rattle.lucy_run.specs.Paces.{AreInstants, AreWorkers};
 ghost use Rattle.lucy_run.specs.Owes.{IsHorizonOf, EndsFor};
 ghost use Rattle.lucy_run.specs.Ends.{EndsTrace};
@@ -27,13 +27,13 @@ use crate::feeding::main_feed;
 use lucy_cause::{Schedule, schedule_of};
 use lucy_clock::NodeClock;
 use lucy_core::Core;
-use lucy_execution::{copy_lists, homes_of, nets_can_be_run, param_words};
 use lucy_feed::Feed;
 use lucy_front::{Accepted, accepted_programs_are_clocked};
 use lucy_host::{Host, Inputs, Ops};
 use lucy_net::Net;
 use lucy_output::OutputError;
 use lucy_place::Placed;
+use lucy_results::{copy_lists, homes_of, nets_can_be_run, param_words};
 use lucy_runner::Runner;
 use lucy_text::{Sink, Source};
 use lucy_word::OutOfMemory;
@@ -48,7 +48,7 @@ fn second_core(
     ops: &Ops,
     instants: u64,
 ) -> Result<Core, OutOfMemory>
-    requires fixed { (schedule : Timetable) × IsFixed net.now schedule inputs.now ops.now instants }
+    requires fixed { (schedule : Timetable) × MakesCore net.now schedule inputs.now ops.now instants }
     requires count { length inputs.now ≡ count }
     requires few { count < 2 ^ 32 - 1 }
     ensures { IfOk result (λ core. (schedule : Timetable) × (core ≡ first_seen net.now schedule inputs.now ops.now instants)) }
@@ -73,7 +73,7 @@ fn new_runner(
     instants: u64,
     workers: u32,
 ) -> Result<Runner, OutOfMemory>
-    requires fixed { IsFixed net schedule inputs ops.now instants }
+    requires fixed { MakesCore net schedule inputs ops.now instants }
     requires workers { AreWorkers workers }
     ensures { IfOk result (λ runner. runner ≡ first_runner (first_seen net schedule inputs ops.now instants)) }
 {
@@ -120,7 +120,7 @@ fn trace_net<F: Fn(u32, i64, i64) -> i64 + Sync, O: Sink>(
     out: &mut O,
 ) -> Ending
     requires serves { Serves F.pre F.post host.now }
-    requires fixed { IsFixed net schedule inputs (lent host.now) extent.horizon }
+    requires fixed { MakesCore net schedule inputs (lent host.now) extent.horizon }
     requires count { length inputs ≡ count }
     requires few { count < 2 ^ 32 - 1 }
     requires workers { AreWorkers workers }

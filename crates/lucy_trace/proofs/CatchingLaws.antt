@@ -11,7 +11,7 @@ use Rattle.lucy_event.proofs.TotalLaws.{after-times, total-same, total-step}
 use Rattle.lucy_core.specs.Seen.{Seen, CanStep, CanRun, CanGoOn, HasDoneAtMost, after_picks, done_of, stepped}
 use Rattle.lucy_core.proofs.OpenLaws.{joined_picks}
 use Rattle.lucy_trace.specs.Catching.{IsAhead}
-use Rattle.lucy_trace.specs.Steps.{HasGoneOn, HasRoom, all_of}
+use Rattle.lucy_trace.specs.Steps.{HasBeenLed, HasRoomForEvents, all_of}
 
 -- what a core says of the runs from it
 pub record HasRuns (first : Seen) : Type 0 where
@@ -88,7 +88,7 @@ falls all was now x y moved e sum most more =
     ]
 
 -- while an actor has done fewer than its number, there is room for one event more
-pub room_one : (counts : List ℕ) (now : Seen) (a events room : ℕ) → HasDoneAtMost now counts → a < length now.net.actors → HasRoom counts now events room →
+pub room_one : (counts : List ℕ) (now : Seen) (a events room : ℕ) → HasDoneAtMost now counts → a < length now.net.actors → HasRoomForEvents counts now events room →
     done_of now.done a < done_of counts a → events < room
 room_one counts now a events room most l fits less =
     omega (arith, fits, total_lt (length now.net.actors) (done_of now.done) (done_of counts) a most l less)
@@ -105,10 +105,10 @@ module _ (counts : List ℕ) (first : Seen) where
       )
 
   -- nothing is done
-  pub gone_none : (before : List ℕ) → HasDoneAtMost first counts → HasGoneOn counts first first before before
+  pub gone_none : (before : List ℕ) → HasDoneAtMost first counts → HasBeenLed counts first first before before
   gone_none before most = record { picks = []; put = append_none before; run = tt; is = refl; most = most }
 
-module _ (counts : List ℕ) (first now : Seen) (before behind : List ℕ) (gone : HasGoneOn counts first now before behind) where
+module _ (counts : List ℕ) (first now : Seen) (before behind : List ℕ) (gone : HasBeenLed counts first now before behind) where
   pub gone_actors : length now.net.actors ≡ length first.net.actors
   gone_actors = ap (λ (s : Seen). length s.net.actors) gone.is
 
@@ -131,7 +131,7 @@ module _ (counts : List ℕ) (first now : Seen) (before behind : List ℕ) (gone
         | inr can ↦ absurd (stopped (subst (λ (s : Seen). CanGoOn s counts) (sym gone.is) (subst (CanGoOn (after_picks first gone.picks)) there can)))
       ]
 
-module _ (counts : List ℕ) (first now : Seen) (before behind : List ℕ) (law : HasRuns first) (gone : HasGoneOn counts first now before behind) where
+module _ (counts : List ℕ) (first now : Seen) (before behind : List ℕ) (law : HasRuns first) (gone : HasBeenLed counts first now before behind) where
   pub gone_counts : (b : ℕ) → done_of now.done b ≡ after (done_of first.done) gone.picks b
   gone_counts b = ap (λ (s : Seen). done_of s.done b) gone.is ∙ law.counts gone.picks gone.run b
 
@@ -153,7 +153,7 @@ module _ (counts : List ℕ) (first now : Seen) (before behind : List ℕ) (law 
       ∙ after_joined (done_of first.done) gone.picks (a ∷ []) b
 
   pub gone_one : (next : Seen) (more : List ℕ) (a : ℕ) → CanStep now a → done_of now.done a < done_of counts a → next ≡ stepped now a → more ≡ behind ++ a ∷ [] →
-      HasGoneOn counts first next before more
+      HasBeenLed counts first next before more
   gone_one next more a can less is put = record {
     picks = gone.picks ++ a ∷ [];
     put = put ∙ ap (λ xs. xs ++ a ∷ []) gone.put ∙ append_assoc before gone.picks (a ∷ []);
@@ -169,7 +169,7 @@ module _ (counts : List ℕ) (first now : Seen) (before behind : List ℕ) (law 
   pub gone_step : (next : Seen) (a : ℕ) → CanStep now a → next ≡ stepped now a → done_of next.done a ≡ done_of now.done a + 1
   gone_step next a can is = omega (arith, count_one next a a can is, step-same (after (done_of first.done) gone.picks) a, gone_counts a)
 
-  pub gone_further : (next : Seen) (more : List ℕ) → HasGoneOn counts now next behind more → HasGoneOn counts first next before more
+  pub gone_further : (next : Seen) (more : List ℕ) → HasBeenLed counts now next behind more → HasBeenLed counts first next before more
   gone_further next more on = record {
     picks = gone.picks ++ on.picks;
     put = on.put ∙ ap (λ xs. xs ++ on.picks) gone.put ∙ append_assoc before gone.picks on.picks;
@@ -179,7 +179,7 @@ module _ (counts : List ℕ) (first now : Seen) (before behind : List ℕ) (law 
   }
 
   -- the room for what is left stays
-  pub room_left : (room larger : ℕ) → HasRoom counts first (length before) room → room ≤ larger → HasRoom counts now (length behind) larger
+  pub room_left : (room larger : ℕ) → HasRoomForEvents counts first (length before) room → room ≤ larger → HasRoomForEvents counts now (length behind) larger
   room_left room larger fits more =
       subst (λ n. length behind + total n (done_of counts) ≤ larger + total n (done_of now.done)) (sym (gone_actors counts first now before behind gone))
       (omega (arith, gone_total, gone_length counts first now before behind gone, fits))

@@ -4,7 +4,7 @@ ghost use Rattle.lucy_host.specs.Host.{Serves, lent};
 ghost use Rattle.lucy_host.specs.Operators.{kinds_of};
 ghost use Rattle.lucy_core.specs.Seen.{CanStep, CanRun, CanGoOn, HasDoneAtMost, after_picks, done_of, stepped};
 ghost use Rattle.lucy_trace.specs.Catching.{IsAhead};
-ghost use Rattle.lucy_trace.specs.Steps.{HasGoneOn, HasRoom, all_of};
+ghost use Rattle.lucy_trace.specs.Steps.{HasBeenLed, HasRoomForEvents, all_of};
 
 use lucy_core::Core;
 use lucy_host::Host;
@@ -31,7 +31,7 @@ fn room_until(alloc: Global, core: &Core, counts: &[u64]) -> Result<Vec<u32>, Ou
     requires count { length counts.now ≡ length core.now.net.actors }
     requires most { HasDoneAtMost core.now counts.now }
     ensures none { IfOk result (λ picks. picks.items ≡ []) }
-    ensures room { IfOk result (λ picks. HasRoom counts.now core.now 0 (vec_capacity picks)) }
+    ensures room { IfOk result (λ picks. HasRoomForEvents counts.now core.now 0 (vec_capacity picks)) }
 {
     match left_until(core, counts) {
         Some(left) => Ok(Vec::with_capacity(alloc, left)?),
@@ -79,8 +79,8 @@ fn go_on<F: Fn(u32, i64, i64) -> i64 + Sync>(
     requires count { length counts.now ≡ length core.old.net.actors }
     requires there { actor < length counts.now }
     requires most { HasDoneAtMost core.old counts.now }
-    requires room { HasRoom counts.now core.old (length picks.old.items) (vec_capacity picks.old) }
-    ensures on { HasGoneOn counts.now core.old core.new picks.old.items picks.new.items }
+    requires room { HasRoomForEvents counts.now core.old (length picks.old.items) (vec_capacity picks.old) }
+    ensures on { HasBeenLed counts.now core.old core.new picks.old.items picks.new.items }
     ensures room { vec_capacity picks.old ≤ vec_capacity picks.new }
     ensures stopped { length picks.new.items ≡ length picks.old.items →
         done_of core.old.done actor < done_of counts.now actor → CanStep core.old actor → ⊥ }
@@ -102,8 +102,8 @@ fn pass<F: Fn(u32, i64, i64) -> i64 + Sync>(
     requires kinds { kinds_of (lent host.now) ≡ kinds_of core.old.operators }
     requires count { length counts.now ≡ length core.old.net.actors }
     requires most { HasDoneAtMost core.old counts.now }
-    requires room { HasRoom counts.now core.old (length picks.old.items) (vec_capacity picks.old) }
-    ensures on { HasGoneOn counts.now core.old core.new picks.old.items picks.new.items }
+    requires room { HasRoomForEvents counts.now core.old (length picks.old.items) (vec_capacity picks.old) }
+    ensures on { HasBeenLed counts.now core.old core.new picks.old.items picks.new.items }
     ensures room { vec_capacity picks.old ≤ vec_capacity picks.new }
     ensures stopped { length picks.new.items ≡ length picks.old.items → CanGoOn core.old counts.now → ⊥ }
 {
@@ -126,8 +126,8 @@ fn go_there<F: Fn(u32, i64, i64) -> i64 + Sync>(
     requires kinds { kinds_of (lent host.now) ≡ kinds_of core.old.operators }
     requires count { length counts.now ≡ length core.old.net.actors }
     requires ahead { IsAhead core.old counts.now }
-    requires room { HasRoom counts.now core.old (length picks.old.items) (vec_capacity picks.old) }
-    ensures on { HasGoneOn counts.now core.old core.new picks.old.items picks.new.items }
+    requires room { HasRoomForEvents counts.now core.old (length picks.old.items) (vec_capacity picks.old) }
+    ensures on { HasBeenLed counts.now core.old core.new picks.old.items picks.new.items }
     ensures there { core.new ≡ record core.old { done = counts.now } }
 {
     core.runs_go_on();

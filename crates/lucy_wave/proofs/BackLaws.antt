@@ -22,9 +22,9 @@ use Rattle.lucy_token.specs.Fronts.{is_name_byte}
 use Rattle.lucy_net.specs.declared.net.Net.{Net}
 use Rattle.lucy_meaning.specs.Spots.{main_of}
 use Rattle.lucy_meaning.specs.Horizons.{Suffice}
-use Rattle.lucy_execution.specs.Streams.{main_word, param_words, result_words, main_streams}
-use Rattle.lucy_execution.specs.Running.{HasSchedule}
-use Rattle.lucy_run.specs.Courses.{CanRun}
+use Rattle.lucy_results.specs.Streams.{main_word, param_words, result_words, main_streams}
+use Rattle.lucy_results.specs.Running.{HasSchedule}
+use Rattle.lucy_run.specs.Courses.{CanBeRunInBlocks}
 use Rattle.lucy_run.proofs.AcceptedLaws.{can_run}
 use Rattle.lucy_run.proofs.HorizonLaws.{few_most}
 use Rattle.lucy_run.proofs.OwesLaws.{OneHorizon, fed_once, ends_once, carried}
@@ -335,7 +335,7 @@ module _ (all : StreamsAreWhole) (ops : List Operator) (o : Options) (text : Lis
   early : suc horizon < 2 ^ 64
   early = omega (arith, within)
 
-  can : CanRun (record { kinds = kinds; nodes = a.placed.nodes; clocks = a.clocks.items; inputs = a.inputs.items; outputs = a.outputs.items })
+  can : CanBeRunInBlocks (record { kinds = kinds; nodes = a.placed.nodes; clocks = a.clocks.items; inputs = a.inputs.items; outputs = a.outputs.items })
   can = can_run ops text o a is kinds
 
   lengths : map length streams ≡ map (λ (x : OutputSpec). ones_to x.word horizon) a.outputs.items

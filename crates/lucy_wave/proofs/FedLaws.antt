@@ -24,7 +24,7 @@ use Rattle.lucy_meaning.specs.Spots.{at, IsSpot}
 use Rattle.lucy_meaning.specs.Sizes.{all_places}
 use Rattle.lucy_meaning.specs.Kahn.{kahn}
 use Rattle.lucy_meaning.proofs.Lists.{there, mapped}
-use Rattle.lucy_execution.specs.Streams.{main_word, main_stream}
+use Rattle.lucy_results.specs.Streams.{main_word, main_stream}
 use Rattle.lucy_wave.specs.Watching.{output_on, with_output}
 use Rattle.lucy_wave.specs.Seen.{IsGrown, IsFedBy}
 use Rattle.lucy_wave.proofs.GiveLaws as give

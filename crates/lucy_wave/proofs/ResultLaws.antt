@@ -23,7 +23,7 @@ use Rattle.lucy_place.proofs.ProperPrograms.{node_good}
 use Rattle.lucy_need.specs.Meeting.{Assignment}
 use Rattle.lucy_kahn.specs.Turns.{params_in}
 use Rattle.lucy_flat.specs.Instances.{words_in}
-use Rattle.lucy_execution.specs.Streams.{main_word}
+use Rattle.lucy_results.specs.Streams.{main_word}
 use Rattle.lucy_front.specs.Names.{of_one}
 use Rattle.lucy_front.specs.Scheduled.{output_of}
 use Rattle.lucy_wave.specs.Dumps.{Variable}

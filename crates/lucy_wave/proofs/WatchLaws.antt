@@ -24,7 +24,7 @@ use Rattle.lucy_net.specs.Causal.{net_places}
 use Rattle.lucy_net.specs.Proper.{output_of, numbers_of, IsProper, IsWriteWord, IsSupplied}
 use Rattle.lucy_net.specs.States.{KnowsOperator}
 use Rattle.lucy_cause.specs.Schedules.{Timetable, IsScheduleOf}
-use Rattle.lucy_core.specs.Seen.{IsFixed}
+use Rattle.lucy_core.specs.Seen.{MakesCore}
 use Rattle.lucy_meaning.specs.Spots.{at, main_of, spot_form, results_in, IsSpot}
 use Rattle.lucy_meaning.specs.Sizes.{all_places}
 use Rattle.lucy_meaning.specs.Numbers.{number}
@@ -40,8 +40,8 @@ use Rattle.lucy_flat.proofs.RingWords.{form_back, none_out}
 use Rattle.lucy_flat.proofs.SpotWords.{spot_same, feeds}
 use Rattle.lucy_flat.proofs.FlatLaws.{main_spot}
 use Rattle.lucy_flat.proofs.MeaningLaws.{places_iterate}
-use Rattle.lucy_execution.specs.Streams.{main_word}
-use Rattle.lucy_execution.proofs.NetLaws.{gives_below, main_counts}
+use Rattle.lucy_results.specs.Streams.{main_word}
+use Rattle.lucy_results.proofs.NetLaws.{gives_below, main_counts}
 use Rattle.lucy_wave.specs.Watching.{with_output, with_outputs, HasRoom}
 use Rattle.lucy_wave.specs.Seen.{IsGrown, IsFedBy, AreFed}
 use Rattle.lucy_wave.proofs.GiveLaws as give
@@ -270,6 +270,6 @@ module _ (nodes : List PlacedNode) (clocks : List NodeClock) (inputs : List (Lis
 
 -- a core can be made of a net that is ready
 pub ready_fixed : (nodes : List PlacedNode) (clocks : List NodeClock) (inputs : List (List ℤ)) (t output : ℕ) (operators : List Operator) (net : Net) (schedule : Timetable) → t ≤ limit_number limit.Instants →
-    IsReady nodes clocks inputs t (length operators) output net → IsScheduleOf net schedule → IsFixed net schedule inputs operators t
+    IsReady nodes clocks inputs t (length operators) output net → IsScheduleOf net schedule → MakesCore net schedule inputs operators t
 ready_fixed nodes clocks inputs t output operators net schedule early ready is =
     record { proper = ready.proper; sound = is.sound; early = early; supplied = ready.supplied; known = ready.known }

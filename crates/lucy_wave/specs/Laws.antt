@@ -8,7 +8,7 @@ use Rattle.lucy_text.specs.Sources.{ReadStop}
 use Rattle.lucy_output.specs.declared.output.OutputSpec.{OutputSpec}
 use Rattle.lucy_meaning.specs.Spots.{main_of}
 use Rattle.lucy_kahn.specs.Turns.{params_in}
-use Rattle.lucy_execution.specs.Streams.{main_word}
+use Rattle.lucy_results.specs.Streams.{main_word}
 use Rattle.lucy_front.specs.declared.accepted.Accepted.{Accepted}
 use Rattle.lucy_front.specs.declared.options.Options.{Options}
 use Rattle.lucy_front.specs.Accepting.{IsAccepted}

@@ -15,7 +15,7 @@ use Rattle.lucy_core.specs.Seen.{IsOutputOf, first_ring}
 use Rattle.lucy_meaning.specs.Spots.{at, IsSpot}
 use Rattle.lucy_meaning.specs.Sizes.{all_places}
 use Rattle.lucy_meaning.specs.Kahn.{kahn}
-use Rattle.lucy_execution.specs.Streams.{main_word}
+use Rattle.lucy_results.specs.Streams.{main_word}
 use Rattle.lucy_wave.specs.declared.watching.Draft.{Draft}
 use Rattle.lucy_wave.specs.declared.variable.Variable.{Variable as Shown}
 use Rattle.lucy_wave.specs.declared.variable.Variable.TheVariants as shown

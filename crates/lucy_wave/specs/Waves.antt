@@ -16,13 +16,13 @@ use Rattle.lucy_need.specs.Meeting.{Assignment}
 use Rattle.lucy_clock.specs.declared.node_clock.NodeClock.{NodeClock}
 use Rattle.lucy_net.specs.declared.net.Net.{Net}
 use Rattle.lucy_meaning.specs.Spots.{main_of, results_in}
-use Rattle.lucy_execution.specs.Streams.{main_word, param_words, main_stream, main_streams}
+use Rattle.lucy_results.specs.Streams.{main_word, param_words, main_stream, main_streams}
 use Rattle.lucy_front.specs.declared.accepted.Accepted.{Accepted}
 use Rattle.lucy_front.specs.Names.{name_at}
 use Rattle.lucy_front.specs.Report.{first_operand}
 use Rattle.lucy_picture.specs.Charts.{waiting}
 use Rattle.lucy_run.specs.declared.ending.Ending.{Ending}
-use Rattle.lucy_run.specs.Owes.{EndsFor, IsFed}
+use Rattle.lucy_run.specs.Owes.{EndsFor, IsMainFed}
 use Rattle.lucy_wave.specs.Dumps.{Variable, dump, text_of}
 use Rattle.lucy_wave.specs.Names.{there_name, buffer_name}
 use Rattle.lucy_wave.specs.Watching.{CanWatch}
@@ -171,5 +171,5 @@ Waves kinds nodes clocks net outputs given lists fault horizon output end =
 -- `wave`: the dump alone
 abbrev pub OwesWave : List HostKind → Accepted → (given : Option ℕ) → (taken : List ℕ) → ReadStop → (output : List ℕ) → Ending → Type 0
 OwesWave kinds a given taken stop output end =
-    (lists : List (List ℤ)) × (fault : Option TextFault) × (horizon : ℕ) × IsFed a given taken stop lists fault horizon
+    (lists : List (List ℤ)) × (fault : Option TextFault) × (horizon : ℕ) × IsMainFed a given taken stop lists fault horizon
     × Waves kinds a.placed.nodes a.clocks.items a.net a.outputs.items given lists fault horizon output end

@@ -1,10 +1,10 @@
 // Laws of the dumps of runs, on functions that call the laws of feeds, horizons and streams alone.
 ghost use Rattle.lucy_wave.specs.Laws.{WavesAreReadBack, OneWave, OneReading, OneCount, NamesAreDistinct};
 
-use lucy_execution::streams_are_whole;
 use lucy_feed::one_feed;
 use lucy_front::accepted_programs_are_clocked;
 use lucy_meaning::one_horizon;
+use lucy_results::streams_are_whole;
 use lucy_token::texts_have_one_cut;
 
 /// The dump that is owed of an accepted program says, read back, the output lines that `run` owes of the same input, and both end alike.

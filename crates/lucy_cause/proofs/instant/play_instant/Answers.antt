@@ -1,7 +1,7 @@
 use Rattle.std.proofs.Common.{subst, arith}
 use Rattle.lucy_cause.specs.declared.settle.Settled.{Settled}
-use Rattle.lucy_cause.specs.Play.{IsPlayed}
-use Rattle.lucy_cause.specs.Settling.{AreOver, AreSettled}
+use Rattle.lucy_cause.specs.Play.{IsPlayedSoFar}
+use Rattle.lucy_cause.specs.Settling.{AreFiringsOver, AreFiringsPlayed}
 use Rattle.lucy_cause.proofs.InstantLaws.{played_none, firing_busy, firing_there, ordered, ready_again}
 use Rattle.lucy_cause.proofs.instant.play_instant.Goals as goal
 
@@ -16,8 +16,8 @@ clear-requires c k d l = omega (arith, firing_there c.args.net.now c.args.before
 
 pub returns : goal.returns
 returns c =
-    let over : IsPlayed c.args.net.now c.args.before c.settle_all.new.order.items c.settle_all.new.steps c.settle_all.new.held × AreOver c.args.net.now c.args.before c.args.firing.now c.settle_all.new.steps c.settle_all.new.depth =
-    subst (λ (s : Settled). AreSettled c.args.net.now c.args.before c.args.firing.now c.settle_all.new.order.items c.settle_all.new.steps c.settle_all.new.held c.settle_all.new.depth s) c.in_default.is c.in_ok-waits.ensures in (
+    let over : IsPlayedSoFar c.args.net.now c.args.before c.settle_all.new.order.items c.settle_all.new.steps c.settle_all.new.held × AreFiringsOver c.args.net.now c.args.before c.args.firing.now c.settle_all.new.steps c.settle_all.new.depth =
+    subst (λ (s : Settled). AreFiringsPlayed c.args.net.now c.args.before c.args.firing.now c.settle_all.new.order.items c.settle_all.new.steps c.settle_all.new.held c.settle_all.new.depth s) c.in_default.is c.in_ok-waits.ensures in (
       ordered c.args.net.now c.args.before c.args.firing.now c.settle_all.new.order.items c.settle_all.new.steps c.settle_all.new.held c.settle_all.new.depth c.requires.firing over.0 over.1,
       ready_again c.args.net.now c.args.before c.args.firing.now c.settle_all.new.order.items c.settle_all.new.steps c.settle_all.new.held c.settle_all.new.depth c.clear.new.steps c.requires.proper c.requires.firing over.0 over.1 (omega arith)
           c.clear.ensures.cleared c.clear.ensures.kept,

@@ -1,11 +1,11 @@
 use Rattle.std.proofs.Common.{ℕ, ◌≡◌, ◌<◌, length, slice_index}
 use Rattle.lucy_net.specs.Instants.{slot}
-use Rattle.lucy_cause.specs.Play.{IsPlayed}
+use Rattle.lucy_cause.specs.Play.{IsPlayedSoFar}
 use Rattle.lucy_cause.proofs.instant.settle_all.Given as goal
 
 abbrev pub invariant-loop-actor : goal.invariant-loop-actor
 invariant-loop-actor l = record {
-  played : IsPlayed l.net l.before l.order.items l.steps l.held;
+  played : IsPlayedSoFar l.net l.before l.order.items l.steps l.held;
   depths : length l.depth ≡ length l.net.actors;
   unmarked : (a : ℕ) → slice_index l.depth a ≡ 0;
   done : (k : ℕ) → k < l.actor-index → slice_index l.steps (slice_index l.firing k) ≡ length (slot l.net l.before (slice_index l.firing k));

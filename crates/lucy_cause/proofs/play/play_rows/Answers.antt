@@ -4,7 +4,7 @@ use Rattle.lucy_cause.specs.declared.settle.Settled.{Settled}
 use Rattle.std.specs.Prelude.{All}
 use Rattle.lucy_net.specs.Schedules.{IsOrder}
 use Rattle.lucy_cause.specs.declared.settle.Wait.{Wait}
-use Rattle.lucy_cause.specs.Play.{IsPlayed, IsReady}
+use Rattle.lucy_cause.specs.Play.{IsPlayedSoFar, CanBeginInstant}
 use Rattle.lucy_cause.specs.Waiting.{IsKnot}
 use Rattle.lucy_cause.specs.Settling.{IsInstantPlayed}
 use Rattle.lucy_cause.specs.Faults.{rows_of, item_now}
@@ -16,20 +16,20 @@ play_instant-requires-clause-firing c = c.deref.ensures.value ∙ c.requires.age
 
 pub turn_to_least-requires : goal.turn_to_least-requires
 turn_to_least-requires c =
-    let stuck : IsPlayed c.args.net.now c.loop-before.before c.play_instant.new.order.items c.play_instant.new.steps c.play_instant.new.held × IsKnot c.args.net.now c.loop-before.before c.play_instant.new.steps c.play_instant.new.held c.in-Stuck.waits.items =
+    let stuck : IsPlayedSoFar c.args.net.now c.loop-before.before c.play_instant.new.order.items c.play_instant.new.steps c.play_instant.new.held × IsKnot c.args.net.now c.loop-before.before c.play_instant.new.steps c.play_instant.new.held c.in-Stuck.waits.items =
     subst (λ (s : Settled). IsInstantPlayed c.args.net.now c.loop-before.before c.play_instant.new.order.items c.play_instant.new.steps c.play_instant.new.held c.play_instant.new.depth s) c.in-Stuck.is c.in_ok-settled.ensures in
     stuck.1.some
 
 pub items_of-requires : goal.items_of-requires
 items_of-requires c =
-    let stuck : IsPlayed c.args.net.now c.loop-before.before c.play_instant.new.order.items c.play_instant.new.steps c.play_instant.new.held × IsKnot c.args.net.now c.loop-before.before c.play_instant.new.steps c.play_instant.new.held c.in-Stuck.waits.items =
+    let stuck : IsPlayedSoFar c.args.net.now c.loop-before.before c.play_instant.new.order.items c.play_instant.new.steps c.play_instant.new.held × IsKnot c.args.net.now c.loop-before.before c.play_instant.new.steps c.play_instant.new.held c.in-Stuck.waits.items =
     subst (λ (s : Settled). IsInstantPlayed c.args.net.now c.loop-before.before c.play_instant.new.order.items c.play_instant.new.steps c.play_instant.new.held c.play_instant.new.depth s) c.in-Stuck.is c.in_ok-settled.ensures in
     subst (λ (ws : List Wait). All (λ (w : Wait). w.actor < length c.args.net.now.actors) ws) (sym c.deref-in-Stuck.ensures.value)
     (turned_actors c.args.net.now c.in-Stuck.waits.items c.turn_to_least.new.waits.items c.turn_to_least.ensures (knot_actors c.args.net.now c.loop-before.before c.play_instant.new.steps c.play_instant.new.held c.in-Stuck.waits.items stuck.1))
 
 pub returns-in-Stuck-clause-refused : goal.returns-in-Stuck-clause-refused
 returns-in-Stuck-clause-refused c =
-    let stuck : IsPlayed c.args.net.now c.loop-before.before c.play_instant.new.order.items c.play_instant.new.steps c.play_instant.new.held × IsKnot c.args.net.now c.loop-before.before c.play_instant.new.steps c.play_instant.new.held c.in-Stuck.waits.items =
+    let stuck : IsPlayedSoFar c.args.net.now c.loop-before.before c.play_instant.new.order.items c.play_instant.new.steps c.play_instant.new.held × IsKnot c.args.net.now c.loop-before.before c.play_instant.new.steps c.play_instant.new.held c.in-Stuck.waits.items =
     subst (λ (s : Settled). IsInstantPlayed c.args.net.now c.loop-before.before c.play_instant.new.order.items c.play_instant.new.steps c.play_instant.new.held c.play_instant.new.depth s) c.in-Stuck.is c.in_ok-settled.ensures in (
       omega arith,
       first_cycle c.args.net.now c.loop-before.before c.play_instant.new.order.items c.play_instant.new.steps c.play_instant.new.held c.in-Stuck.waits.items c.turn_to_least.new.waits.items (rows_of c.loop-before.orders.items) (map _ c.in_ok-items.items.items) c.requires.proper stuck.0 stuck.1
@@ -38,7 +38,7 @@ returns-in-Stuck-clause-refused c =
 
 pub loop-before-preserved : goal.loop-before-preserved
 loop-before-preserved c =
-    let done : IsOrder c.args.net.now c.loop-before.before c.play_instant.new.order.items × IsReady c.args.net.now (c.loop-before.before + 1) c.play_instant.new.steps c.play_instant.new.held c.play_instant.new.depth =
+    let done : IsOrder c.args.net.now c.loop-before.before c.play_instant.new.order.items × CanBeginInstant c.args.net.now (c.loop-before.before + 1) c.play_instant.new.steps c.play_instant.new.held c.play_instant.new.depth =
     subst (λ (s : Settled). IsInstantPlayed c.args.net.now c.loop-before.before c.play_instant.new.order.items c.play_instant.new.steps c.play_instant.new.held c.play_instant.new.depth s) c.in_default.is c.in_ok-settled.ensures in
     record {
       ready = done.1;

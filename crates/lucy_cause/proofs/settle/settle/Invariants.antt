@@ -1,13 +1,13 @@
 use Rattle.std.proofs.Common.{ℕ, ◌+◌, ◌-◌, ◌*◌, ◌<◌, ◌≤◌, length, slice_index}
 use Rattle.lucy_net.specs.Instants.{slot}
-use Rattle.lucy_cause.specs.Play.{IsPlayed}
+use Rattle.lucy_cause.specs.Play.{IsPlayedSoFar}
 use Rattle.lucy_cause.specs.Waiting.{IsStack}
 use Rattle.lucy_cause.proofs.PlayLaws.{left_in}
 use Rattle.lucy_cause.proofs.settle.settle.Given as goal
 
 abbrev pub invariant-events : goal.invariant-events
 invariant-events l = record {
-  played : IsPlayed l.net l.before l.order.items l.steps l.held;
+  played : IsPlayedSoFar l.net l.before l.order.items l.steps l.held;
   stack : IsStack l.net l.before l.steps l.held l.depth l.waits.items l.first l.now;
   busy : 0 < length (slot l.net l.before l.now);
   grown : (a : ℕ) → slice_index l.initial.steps a ≤ slice_index l.steps a;

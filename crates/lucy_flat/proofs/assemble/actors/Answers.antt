@@ -1,6 +1,6 @@
 use Rattle.std.proofs.Common.{◌++◌, ◌∷◌, [], ap, sym, ◌∙◌, subst, length, arith, append_assoc}
 use Rattle.std.specs.Prelude.{slice_get}
-use Rattle.lucy_flat.specs.Assembly.{AreActorsOf, IsActorOf}
+use Rattle.lucy_flat.specs.Assembly.{AreActorsOf, IsDraftActor}
 use Rattle.lucy_flat.proofs.GivingLaws.{get_middle, actors_more, reads_more}
 use Rattle.lucy_flat.proofs.assemble.actors.Goals as goal
 
@@ -20,6 +20,6 @@ each-preserved c =
       done ++ draft ∷ [],
       all ∙ sym (append_assoc done (draft ∷ []) c.next.new.self.rest.items),
       subst (AreActorsOf c.args.rings.now (done ++ draft ∷ [])) (sym c.in_ok-push.ensures.items)
-          (actors_more c.args.rings.now done c.each.actors.items draft c.in_ok-next.next c.each.invariant.2 (subst (λ n. IsActorOf c.args.rings.now n draft c.in_ok-next.next) first c.in_ok-next.ensures.ok)),
+          (actors_more c.args.rings.now done c.each.actors.items draft c.in_ok-next.next c.each.invariant.2 (subst (λ n. IsDraftActor c.args.rings.now n draft c.in_ok-next.next) first c.in_ok-next.ensures.ok)),
       omega (arith, first, len, reads_more done draft),
     )

@@ -13,7 +13,7 @@ use Rattle.lucy_meaning.specs.Numbers.{call_offset}
 use Rattle.lucy_meaning.proofs.Tables.{calls_below, total_law}
 use Rattle.lucy_flat.specs.declared.instance.Caller.{Caller}
 use Rattle.lucy_flat.specs.Drafts.{AreKeptSoFar}
-use Rattle.lucy_flat.specs.Refusals.{IsWordTooLong}
+use Rattle.lucy_flat.specs.Refusals.{NetWordIsTooLong}
 use Rattle.lucy_flat.proofs.AssemblyLaws.{leaves}
 use Rattle.lucy_flat.proofs.ExtentLaws.{got, call_above}
 use Rattle.lucy_flat.proofs.InstanceLaws.{places_within, call_within, fit_here}
@@ -144,7 +144,7 @@ returns-in_err-base-clause-refused t c =
     let word = call_word nodes clocks c.requires.program.clocked path c.args.node found (get_or clocks c.args.node c.index-program-node.result) i (length c.list-places.result.now) c.list-words.result.now c.index-words-places.result is.index at_node at_clock c.list-words.ensures
     (ap length c.list-places.ensures) (omega arith) c.index-words-places.is in
     leaves (λ e. (e ≡ err.OutOfMemory) ⊎ ((e ≡ err.Limit lim.Word) × IsOnTooLong c.args.base.now c.index-words-places.result))
-    (λ e. (e ≡ err.OutOfMemory) ⊎ ((e ≡ err.Limit lim.Word) × IsWordTooLong nodes clocks)) _
+    (λ e. (e ≡ err.OutOfMemory) ⊎ ((e ≡ err.Limit lim.Word) × NetWordIsTooLong nodes clocks)) _
     c.from_residual-in_err-base.result c.from_residual-in_err-base.ensures.1 c.in_err-base.ensures.refused
     (λ e why. elim why [
       | inl l ↦ inl l
@@ -270,5 +270,5 @@ returns-clause-ok t c = λ path old is keeps.
 
 pub returns-in_err-put_instance-clause-refused : goal.returns-in_err-put_instance-clause-refused
 returns-in_err-put_instance-clause-refused t c =
-    let Why : FlatError → Type 0 = λ e. (e ≡ err.OutOfMemory) ⊎ ((e ≡ err.Limit lim.Word) × IsWordTooLong c.args.program.placed.now.nodes c.args.program.clocks.now) in
+    let Why : FlatError → Type 0 = λ e. (e ≡ err.OutOfMemory) ⊎ ((e ≡ err.Limit lim.Word) × NetWordIsTooLong c.args.program.placed.now.nodes c.args.program.clocks.now) in
     leaves Why Why _ c.from_residual-in_err-put_instance.result c.from_residual-in_err-put_instance.ensures.1 c.in_err-put_instance.ensures.refused (λ e why. why)

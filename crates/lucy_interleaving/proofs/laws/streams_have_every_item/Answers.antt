@@ -2,7 +2,7 @@ use Rattle.std.specs.Prelude.{slice_get, List, ℤ}
 use Rattle.std.proofs.Common.{ap, sym, ◌∙◌}
 use Rattle.lucy_host.specs.Operators.{kinds_of}
 use Rattle.lucy_stream.specs.Items.{list_at}
-use Rattle.lucy_execution.specs.Streams.{main_streams, result_words}
+use Rattle.lucy_results.specs.Streams.{main_streams, result_words}
 use Rattle.lucy_interleaving.proofs.WholenessLaws.{scheduled, output_word, list_count, value_there}
 use Rattle.lucy_interleaving.proofs.laws.streams_have_every_item.Goals as goal
 

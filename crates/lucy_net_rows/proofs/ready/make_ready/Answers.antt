@@ -1,6 +1,6 @@
 use Rattle.std.proofs.Common.{ap, sym, ◌∙◌, subst}
 use Rattle.lucy_flat.specs.Clocked.{AreClocked}
-use Rattle.lucy_execution.specs.Streams.{param_words}
+use Rattle.lucy_results.specs.Streams.{param_words}
 use Rattle.lucy_net_rows.proofs.ReadyLaws.{few_actors, made_ready, counted_suffice}
 use Rattle.lucy_net_rows.proofs.ready.make_ready.Goals as goal
 

@@ -5,7 +5,7 @@ use Rattle.lucy_host.specs.Host.{lent}
 use Rattle.lucy_flat.specs.Clocked.{AreClocked}
 use Rattle.lucy_meaning.specs.Spots.{main_of}
 use Rattle.lucy_kahn.specs.Turns.{params_in}
-use Rattle.lucy_execution.specs.Streams.{main_word, param_words}
+use Rattle.lucy_results.specs.Streams.{main_word, param_words}
 use Rattle.lucy_net_rows.proofs.ReadyLaws.{counted_suffice}
 use Rattle.lucy_net_rows.proofs.rounds.run_accepted.Goals as goal
 

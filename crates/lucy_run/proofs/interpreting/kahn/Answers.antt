@@ -6,7 +6,7 @@ use Rattle.lucy_feed.specs.declared.feeds.Feed.{Feed}
 use Rattle.lucy_host.specs.Host.{lent}
 use Rattle.lucy_host.specs.Operators.{kinds_of}
 use Rattle.lucy_flat.specs.Clocked.{AreClocked}
-use Rattle.lucy_execution.specs.Running.{HasSchedule}
+use Rattle.lucy_results.specs.Running.{HasSchedule}
 use Rattle.lucy_run.proofs.AcceptedLaws.{few_inputs, inputs_count, scheduled}
 use Rattle.lucy_run.proofs.EndsLaws.{kahn_given_up, kahn_done}
 use Rattle.lucy_run.proofs.interpreting.kahn.Goals as goal

@@ -2,9 +2,9 @@ use Rattle.std.proofs.Common.{ap, sym, refl, ◌∙◌, Err, length}
 use Rattle.std.proofs.lemmas.Result.{IfErr-at_err}
 use Rattle.lucy_host.specs.Host.{lent}
 use Rattle.lucy_host.specs.Operators.{kinds_of}
-use Rattle.lucy_execution.specs.Running.{Refuses}
-use Rattle.lucy_execution.specs.Streams.{param_words}
-use Rattle.lucy_execution.proofs.StreamLaws.{params_count}
+use Rattle.lucy_results.specs.Running.{RefusesStreams}
+use Rattle.lucy_results.specs.Streams.{param_words}
+use Rattle.lucy_results.proofs.StreamLaws.{params_count}
 use Rattle.lucy_run.specs.Owes.{most_instants}
 use Rattle.lucy_run.proofs.HorizonLaws.{some_horizon}
 use Rattle.lucy_run.proofs.EndsLaws.{on_ok, refused_ends, lines_interpreted, interpreted_failed}
@@ -23,7 +23,7 @@ pub returns-in-Err-interpret-clause-ends : goal.returns-in-Err-interpret-clause-
 returns-in-Err-interpret-clause-ends g c =
     let kinds = kinds_of (lent c.args.host.now) in
     let words = c.param_words-words.result.now in
-    let refused = IfErr-at_err (Refuses kinds c.args.feed.items c.args.placed.now.nodes c.args.clocks.now c.in-Ok.extent.horizon) c.in-Err-interpret.is c.interpret.ensures.refused in
+    let refused = IfErr-at_err (RefusesStreams kinds c.args.feed.items c.args.placed.now.nodes c.args.clocks.now c.in-Ok.extent.horizon) c.in-Err-interpret.is c.interpret.ensures.refused in
     let is = c.in-Ok.ensures.horizon in
     refused_ends kinds c.args.placed.now.nodes c.args.clocks.now c.args.outputs.now c.args.given c.args.feed.items c.args.feed.stop c.in-Ok.extent.horizon words c.in-Err-interpret.error _
     c.refused.result c.param_words-words.ensures.words is c.refused.ensures refused

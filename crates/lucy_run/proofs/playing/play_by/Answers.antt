@@ -4,8 +4,8 @@ use Rattle.lucy_host.specs.Host.{lent}
 use Rattle.lucy_clock.specs.declared.node_clock.NodeClock.{NodeClock}
 use Rattle.lucy_flat.specs.Clocked.{AreClocked}
 use Rattle.lucy_meaning.specs.Horizons.{Suffice}
-use Rattle.lucy_execution.specs.Streams.{param_words}
-use Rattle.lucy_execution.proofs.StreamLaws.{params_count}
+use Rattle.lucy_results.specs.Streams.{param_words}
+use Rattle.lucy_results.proofs.StreamLaws.{params_count}
 use Rattle.lucy_run.specs.Owes.{IsHorizonOf, EndsFor}
 use Rattle.lucy_run.proofs.HorizonLaws.{few_most}
 use Rattle.lucy_run.proofs.playing.play_by.Goals as goal

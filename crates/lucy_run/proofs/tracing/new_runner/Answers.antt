@@ -2,7 +2,7 @@ use Rattle.std.proofs.Common.{◌≡◌, ap, ◌∙◌}
 use Rattle.std.proofs.lemmas.Result.{IfOk-weaker}
 use Rattle.lucy_core.specs.Seen.{Seen, first_seen, done_of}
 use Rattle.lucy_runner.specs.Views.{RunnerView, first_runner}
-use Rattle.lucy_execution.proofs.OutputLaws.{first_unbegun}
+use Rattle.lucy_results.proofs.OutputLaws.{first_unbegun}
 use Rattle.lucy_run.proofs.tracing.new_runner.Goals as goal
 
 pub new-requires-2-clause-unbegun : goal.new-requires-2-clause-unbegun

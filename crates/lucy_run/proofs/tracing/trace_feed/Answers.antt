@@ -1,8 +1,8 @@
 use Rattle.std.proofs.Common.{◌≤◌, List, length, ap, sym, ◌∙◌, subst, arith}
 use Rattle.lucy_word.specs.Bits.{Bits}
 use Rattle.lucy_host.specs.Host.{lent}
-use Rattle.lucy_execution.specs.Streams.{param_words}
-use Rattle.lucy_execution.proofs.StreamLaws.{params_count}
+use Rattle.lucy_results.specs.Streams.{param_words}
+use Rattle.lucy_results.proofs.StreamLaws.{params_count}
 use Rattle.lucy_run.specs.Owes.{most_instants, IsHorizonOf}
 use Rattle.lucy_run.proofs.HorizonLaws.{some_horizon, few_most}
 use Rattle.lucy_run.proofs.EndsLaws.{ends_whole}

@@ -1,7 +1,7 @@
 use Rattle.std.proofs.Common.{◌≡◌, length, ap, sym, ◌∙◌, subst, arith}
 use Rattle.std.specs.Prelude.{vec_capacity}
 use Rattle.lucy_core.specs.Seen.{Seen, CanStep, done_of}
-use Rattle.lucy_trace.specs.Steps.{HasRoom}
+use Rattle.lucy_trace.specs.Steps.{HasRoomForEvents}
 use Rattle.lucy_trace.proofs.CatchingLaws.{HasRuns, gone_actors, gone_one, gone_step, gone_still, room_left, room_one}
 use Rattle.lucy_trace.proofs.catching.go_on.Goals as goal
 
@@ -11,7 +11,7 @@ step_to-requires-clause-room g c κs within less =
     let first : Seen = c.args.core.now in
     let law : HasRuns first = record { counts = c.runs_go_on.ensures.counts; actors = c.runs_go_on.ensures.actors; joined = c.runs_go_on.ensures.joined } in
     let on = c.steps.invariant.on in
-    let fits : HasRoom c.args.counts.now c.steps.core (length c.steps.picks.items) (vec_capacity c.steps.picks) =
+    let fits : HasRoomForEvents c.args.counts.now c.steps.core (length c.steps.picks.items) (vec_capacity c.steps.picks) =
     room_left c.args.counts.now first c.steps.core c.args.picks.now.items c.steps.picks.items law on (vec_capacity c.args.picks.now) (vec_capacity c.steps.picks) c.requires.room c.steps.invariant.room in
     room_one c.args.counts.now c.steps.core c.args.actor (length c.steps.picks.items) (vec_capacity c.steps.picks) on.most
     (omega (arith, c.requires.there, c.requires.count, gone_actors c.args.counts.now first c.steps.core c.args.picks.now.items c.steps.picks.items on)) fits less

@@ -1,12 +1,12 @@
 use Rattle.std.proofs.Common.{◌≤◌, ◌-◌}
 use Rattle.std.specs.Prelude.{vec_capacity}
 use Rattle.lucy_core.specs.Seen.{done_of}
-use Rattle.lucy_trace.specs.Steps.{HasGoneOn}
+use Rattle.lucy_trace.specs.Steps.{HasBeenLed}
 use Rattle.lucy_trace.proofs.catching.go_on.Given as goal
 
 abbrev pub invariant-steps : goal.invariant-steps
 invariant-steps g l = record {
-  on : HasGoneOn l.counts l.fn.core l.core l.fn.picks.items l.picks.items;
+  on : HasBeenLed l.counts l.fn.core l.core l.fn.picks.items l.picks.items;
   room : vec_capacity l.fn.picks ≤ vec_capacity l.picks;
 }
 

@@ -2,7 +2,7 @@ use Rattle.std.proofs.Common.{ℕ, ◌≡◌, List, length, subst, arith}
 use Rattle.std.specs.Prelude.{vec_capacity}
 use Rattle.std.proofs.lemmas.Bool.{ltb-false}
 use Rattle.lucy_core.specs.Seen.{Seen, CanGoOn, done_of}
-use Rattle.lucy_trace.specs.Steps.{HasGoneOn, all_of}
+use Rattle.lucy_trace.specs.Steps.{HasBeenLed, all_of}
 use Rattle.lucy_trace.proofs.CatchingLaws.{HasRuns, total_le, falls, ahead_most, gone_none, gone_length, gone_still, arrived, gone_total, gone_further, room_left}
 use Rattle.lucy_trace.proofs.catching.go_there.Goals as goal
 
@@ -30,8 +30,8 @@ loop-moved-smaller g c =
     let xs : List ℕ = c.args.picks.now.items in
     let ys : List ℕ = c.loop-moved.picks.items in
     let zs : List ℕ = c.pass.new.picks.items in
-    let on : HasGoneOn counts first c.loop-moved.core xs ys = c.loop-moved.invariant.on in
-    let further : HasGoneOn counts first c.pass.new.core xs zs = gone_further counts first c.loop-moved.core xs ys law on c.pass.new.core zs c.pass.ensures.on in
+    let on : HasBeenLed counts first c.loop-moved.core xs ys = c.loop-moved.invariant.on in
+    let further : HasBeenLed counts first c.pass.new.core xs zs = gone_further counts first c.loop-moved.core xs ys law on c.pass.new.core zs c.pass.ensures.on in
     let was = gone_total counts first c.loop-moved.core xs ys law on in
     let now = gone_total counts first c.pass.new.core xs zs law further in
     falls (all_of first counts) (all_of first c.loop-moved.core.done) (all_of first c.pass.new.core.done) c.len-before.result c.len.result c.loop-moved.moved c.loop-moved-test.true

@@ -1,12 +1,12 @@
 use Rattle.std.proofs.Common.{◌≤◌, ◌≡◌, ◌+◌, ◌-◌, false, cond}
 use Rattle.std.specs.Prelude.{vec_capacity}
 use Rattle.lucy_core.specs.Seen.{CanGoOn}
-use Rattle.lucy_trace.specs.Steps.{HasGoneOn, all_of}
+use Rattle.lucy_trace.specs.Steps.{HasBeenLed, all_of}
 use Rattle.lucy_trace.proofs.catching.go_there.Given as goal
 
 abbrev pub invariant-loop-moved : goal.invariant-loop-moved
 invariant-loop-moved g l = record {
-  on : HasGoneOn l.counts l.fn.core l.core l.fn.picks.items l.picks.items;
+  on : HasBeenLed l.counts l.fn.core l.core l.fn.picks.items l.picks.items;
   room : vec_capacity l.fn.picks ≤ vec_capacity l.picks;
   stopped : l.moved ≡ false → CanGoOn l.core l.counts → ⊥;
 }

@@ -1,6 +1,6 @@
 use Rattle.std.proofs.Common.{ap, ◌∙◌}
 use Rattle.lucy_core.specs.Seen.{Seen, done_of}
-use Rattle.lucy_execution.proofs.OutputLaws.{first_unbegun}
+use Rattle.lucy_results.proofs.OutputLaws.{first_unbegun}
 use Rattle.lucy_wave.proofs.playing.finished.Goals as goal
 
 pub run_static-requires-clause-unbegun : goal.run_static-requires-clause-unbegun

@@ -1,6 +1,6 @@
 use Rattle.std.proofs.Common.{◌≡◌, map, take}
 use Rattle.lucy_host.specs.Operators.{kinds_of}
-use Rattle.lucy_execution.specs.Streams.{main_stream}
+use Rattle.lucy_results.specs.Streams.{main_stream}
 use Rattle.lucy_wave.proofs.playing.streams_of.Given as goal
 
 -- the streams so far

@@ -5,8 +5,8 @@ use Rattle.lucy_text.specs.Outside.{Writes, Fails}
 use Rattle.lucy_host.specs.Host.{lent}
 use Rattle.lucy_host.specs.Operators.{kinds_of}
 use Rattle.lucy_meaning.specs.Spots.{main_of, results_in}
-use Rattle.lucy_execution.specs.Streams.{param_words, main_stream}
-use Rattle.lucy_execution.proofs.StreamLaws.{params_count}
+use Rattle.lucy_results.specs.Streams.{param_words, main_stream}
+use Rattle.lucy_results.proofs.StreamLaws.{params_count}
 use Rattle.lucy_run.specs.Owes.{most_instants, IsHorizonOf}
 use Rattle.lucy_run.proofs.HorizonLaws.{some_horizon, few_most}
 use Rattle.lucy_run.proofs.EndsLaws.{on_ok, on_err}

@@ -1,6 +1,6 @@
 use Rattle.std.proofs.Common.{◌<◌, ◌-◌, ◌++◌, ◌^◌, length, ap, refl, ◌∙◌, arith}
 use Rattle.std.proofs.lemmas.List.{length-map}
-use Rattle.lucy_execution.proofs.OutputLaws.{main_here}
+use Rattle.lucy_results.proofs.OutputLaws.{main_here}
 use Rattle.lucy_wave.specs.Dumps.{dump, text_of}
 use Rattle.lucy_wave.specs.Waves.{notes}
 use Rattle.lucy_wave.specs.Seen.{seen, all_seen}

@@ -1,4 +1,4 @@
-use Rattle.lucy_core.specs.Cursors.{IsIn}
+use Rattle.lucy_core.specs.Cursors.{StandsInOrder}
 use Rattle.lucy_core.proofs.CursorLaws.{none_now}
 use Rattle.lucy_core.proofs.cursor.Cursor.go_on.Goals as goal
 
@@ -19,7 +19,7 @@ pass_row-requires-in-instants-clause-count c =
 
 pub instants-preserved : goal.instants-preserved
 instants-preserved c =
-    let turned : IsIn c.args.schedule.now c.args.instants c.args.done.now c.turn.new.self =
+    let turned : StandsInOrder c.args.schedule.now c.args.instants c.args.done.now c.turn.new.self =
     c.turn.ensures.within c.args.instants c.args.done.now c.if-self-instants.true (c.instants.invariant.none (none_now c.instants.self.next c.is_none.result c.is_none.ensures c.instants-test.true)) c.instants.invariant.within in
     record {
       within = c.pass_row-in-instants.ensures.within c.args.instants turned;

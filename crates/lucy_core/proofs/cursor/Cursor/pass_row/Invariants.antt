@@ -1,5 +1,5 @@
 use Rattle.std.proofs.Common.{ℕ, ◌≡◌, length}
-use Rattle.lucy_core.specs.Cursors.{IsIn}
+use Rattle.lucy_core.specs.Cursors.{StandsInOrder}
 use Rattle.lucy_core.proofs.cursor.Cursor.pass_row.Given as goal
 
 abbrev pub invariant-each : goal.invariant-each
@@ -8,5 +8,5 @@ invariant-each l = record {
   row : l.self.row ≡ l.initial.self.row;
   instant : l.self.instant ≡ l.initial.self.instant;
   count : length l.self.passed.items ≡ length l.done;
-  within : (instants : ℕ) → IsIn l.schedule instants l.done l.initial.self → IsIn l.schedule instants l.done l.self;
+  within : (instants : ℕ) → StandsInOrder l.schedule instants l.done l.initial.self → StandsInOrder l.schedule instants l.done l.self;
 }

@@ -12,10 +12,10 @@ use Rattle.lucy_event.specs.Firings.{fired_at}
 use Rattle.lucy_net.specs.Plans.{form_of}
 use Rattle.lucy_net.specs.States.{KnowsOperator}
 use Rattle.lucy_net.specs.declared.state.ActorState.{ActorState}
-use Rattle.lucy_core.specs.Circles.{Held}
+use Rattle.lucy_core.specs.Circles.{HeldItems}
 use Rattle.lucy_core.specs.Seen.{Seen, machine_on, order_on, done_of, state_on, stepped}
-use Rattle.lucy_core.specs.Cursors.{IsIn}
-use Rattle.lucy_core.specs.Inside.{left_in, IsKept}
+use Rattle.lucy_core.specs.Cursors.{StandsInOrder}
+use Rattle.lucy_core.specs.Inside.{left_in, KeepsState}
 use Rattle.lucy_event.specs.Runs.{first_left}
 use Rattle.lucy_core.proofs.CursorLaws.{step_in}
 use Rattle.lucy_core.proofs.InsideLaws.{at_hand, actor_at, state_at, circle_at, is_next, of_actor, few_at, some_going, going_after, as_many}
@@ -156,7 +156,7 @@ pub go_on-requires-clause-within : goal.go_on-requires-clause-within
 go_on-requires-clause-within g c =
     let x = c.self.inside in
     let h = at_hand x c.args.self.now c.args.actor (Gives c.args.ring) c.self.invariant c.self.view_is c.requires.can c.requires.op in
-    subst (λ (ds : List ℕ). IsIn x.schedule x.instants ds x.cursor) (sym (c.deref.ensures.value ∙ c.count_event.ensures))
+    subst (λ (ds : List ℕ). StandsInOrder x.schedule x.instants ds x.cursor) (sym (c.deref.ensures.value ∙ c.count_event.ensures))
     (step_in x.schedule x.instants x.done.items x.cursor c.args.actor (omega (arith, h.kept.done_count, h.actor_in)) c.self.invariant.3)
 
 pub invariant_of-self : goal.invariant_of-self
@@ -179,11 +179,11 @@ invariant_of-self g c =
     let order = order_on x.schedule x.instants in
     let new : c.index-2.result.now ≡ c.after_give.new.state = c.index-2.ensures ∙ get_or-set_same x.states.items c.args.actor c.after_give.new.state _ (omega (arith, h.kept.states_count, h.actor_in)) in
     let states : List ActorState = set x.states.items c.args.actor c.after_give.new.state in
-    let circles : List Held = set x.circles.items c.args.ring c.push.new.self in (
+    let circles : List HeldItems = set x.circles.items c.args.ring c.push.new.self in (
       h.fixed,
-      subst (λ (ds : List ℕ). IsKept x.net m order x.instants ds states circles x.trays.items) (sym c.count_event.ensures) now,
+      subst (λ (ds : List ℕ). KeepsState x.net m order x.instants ds states circles x.trays.items) (sym c.count_event.ensures) now,
       going_after x c.args.actor (Gives c.args.ring) h c.index-list-actor.result c.index_mut-2.result.now c.after_give.new.state c.count_ended.new.going there state (c.count_ended.ensures ∙ ap (λ (s : ActorState). x.going + left_in s) new),
-      subst (λ (ds : List ℕ). IsIn x.schedule x.instants ds c.go_on.new.self) c.deref.ensures.value c.go_on.ensures.within,
+      subst (λ (ds : List ℕ). StandsInOrder x.schedule x.instants ds c.go_on.new.self) c.deref.ensures.value c.go_on.ensures.within,
       c.go_on.ensures.next ∙ ap (λ (ds : List ℕ). first_left (done_of ds) (order_on x.schedule x.instants)) c.deref.ensures.value,
     )
 

@@ -6,10 +6,10 @@ use Rattle.lucy_net.specs.declared.kind.ActorKind.TheVariants.{Output}
 use Rattle.lucy_net.specs.declared.net.Actor.{Actor}
 use Rattle.lucy_net.specs.declared.net.RingSpec.{RingSpec}
 use Rattle.lucy_net.specs.States.{IsUsable}
-use Rattle.lucy_core.specs.Seen.{machine_on, order_on, done_of, IsFixed, first_seen}
+use Rattle.lucy_core.specs.Seen.{machine_on, order_on, done_of, MakesCore, first_seen}
 use Rattle.lucy_event.specs.Runs.{first_left}
-use Rattle.lucy_core.specs.Cursors.{IsIn}
-use Rattle.lucy_core.specs.Inside.{going_in, IsKept, AreFirst, AreEmpty, HaveTrays}
+use Rattle.lucy_core.specs.Cursors.{StandsInOrder}
+use Rattle.lucy_core.specs.Inside.{going_in, KeepsState, AreFirst, AreEmpty, HaveTrays}
 use Rattle.lucy_core.proofs.SeenLaws.{machine_is}
 use Rattle.lucy_core.proofs.MakeLaws.{kept_first}
 use Rattle.lucy_core.proofs.machine.Core.new.Goals as goal
@@ -43,15 +43,15 @@ invariant_of-result c =
     let zeros : c.in_ok-done.done.items ≡ replicate (length n.actors) 0 = c.in_ok-done.ensures.items_if_clones_equal (λ y e. e) ∙ ap (λ k. replicate k 0) (omega (arith, c.len.ensures, first.count)) in
     let m = machine_on n c.args.inputs (kinds_of c.args.ops.now) c.args.instants in
     let order = order_on c.args.schedule c.args.instants in
-    let kept = subst (λ (ds : List ℕ). IsKept n m order c.args.instants ds c.in_ok-states.states.items c.in_ok-circles.circles.items c.in_ok-trays.trays.items) (sym zeros)
+    let kept = subst (λ (ds : List ℕ). KeepsState n m order c.args.instants ds c.in_ok-states.states.items c.in_ok-circles.circles.items c.in_ok-trays.trays.items) (sym zeros)
     (kept_first n _ _ c.args.inputs _ c.args.instants c.in_ok-states.states.items c.in_ok-circles.circles.items c.in_ok-trays.trays.items is first empty have) in
-    subst (λ (os : List Operator). IsFixed n c.args.schedule c.args.inputs os c.args.instants × IsKept n (machine_on n c.args.inputs (kinds_of os) c.args.instants) order c.args.instants c.in_ok-done.done.items c.in_ok-states.states.items c.in_ok-circles.circles.items c.in_ok-trays.trays.items × (c.going_count-going.result ≡ going_in c.in_ok-states.states.items)
-    × IsIn c.args.schedule c.args.instants c.in_ok-done.done.items c.in_ok-cursor.cursor × (c.in_ok-cursor.cursor.next ≡ first_left (done_of c.in_ok-done.done.items) order))
+    subst (λ (os : List Operator). MakesCore n c.args.schedule c.args.inputs os c.args.instants × KeepsState n (machine_on n c.args.inputs (kinds_of os) c.args.instants) order c.args.instants c.in_ok-done.done.items c.in_ok-states.states.items c.in_ok-circles.circles.items c.in_ok-trays.trays.items × (c.going_count-going.result ≡ going_in c.in_ok-states.states.items)
+    × StandsInOrder c.args.schedule c.args.instants c.in_ok-done.done.items c.in_ok-cursor.cursor × (c.in_ok-cursor.cursor.next ≡ first_left (done_of c.in_ok-done.done.items) order))
     (sym c.in_ok-ops.ensures) (
       c.requires,
       kept,
       c.going_count-going.ensures ∙ ap going_in c.deref.ensures.value,
-      subst (λ (ds : List ℕ). IsIn c.args.schedule c.args.instants ds c.in_ok-cursor.cursor) c.deref-2.ensures.value c.in_ok-cursor.ensures.within,
+      subst (λ (ds : List ℕ). StandsInOrder c.args.schedule c.args.instants ds c.in_ok-cursor.cursor) c.deref-2.ensures.value c.in_ok-cursor.ensures.within,
       c.in_ok-cursor.ensures.next ∙ ap (λ (ds : List ℕ). first_left (done_of ds) order) c.deref-2.ensures.value,
     )
 

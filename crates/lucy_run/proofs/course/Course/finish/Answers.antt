@@ -7,7 +7,7 @@ use Rattle.lucy_lines.specs.declared.reader.TextFault.{TextFault}
 use Rattle.lucy_meaning.specs.Horizons.{Suffice}
 use Rattle.lucy_run.specs.declared.ending.Ending.TheVariants as ending
 use Rattle.lucy_run.specs.Owes.{EndsFor, AllowsMore}
-use Rattle.lucy_run.specs.Courses.{CourseView, words_of, IsUnderWay, EndsOver}
+use Rattle.lucy_run.specs.Courses.{CourseView, words_of, IsCourseUnderWay, EndsOver}
 use Rattle.lucy_run.proofs.OverLaws.{no_words, passed_many, over_unread, over_read}
 use Rattle.lucy_run.proofs.course.Course.finish.Goals as goal
 
@@ -23,7 +23,7 @@ returns-then-is_empty-clause-over g c =
 pub allows_more-more-requires-clause-counts : goal.allows_more-more-requires-clause-counts
 allows_more-more-requires-clause-counts g c =
     let x = c.self.inside in
-    let (p, first, items, can, along) = subst (λ (w : CourseView). IsUnderWay (g.I.Source.seen c.args.source.now) w) (sym c.self.view_is) c.requires.under_way in
+    let (p, first, items, can, along) = subst (λ (w : CourseView). IsCourseUnderWay (g.I.Source.seen c.args.source.now) w) (sym c.self.view_is) c.requires.under_way in
     let some : words_of p ≡ [] → ⊥ =
     λ (e : words_of p ≡ []). (let empty : length x.words.now ≡ 0 = ap length (along.words ∙ e) in eqb-false _ _ (sym c.is_empty.ensures ∙ c.if-is_empty.false) empty) in
     let many = passed_many p can x.target first (g.I.Source.seen c.args.source.now) (g.I.Source.seen c.pass_rest.new.source) x.reader c.pass_rest.new.self items along.fed c.pass_rest.ensures.reads some in

@@ -1,6 +1,6 @@
 use Rattle.std.proofs.Common.{◌+◌, ◌≤◌, length, ap, sym, ◌∙◌, subst, arith}
-use Rattle.lucy_run.specs.Courses.{CourseView, words_of, IsNext}
-use Rattle.lucy_run.specs.Played.{CountsAllow, CanGoOn, HasGoneOn}
+use Rattle.lucy_run.specs.Courses.{CourseView, words_of, IsNextBlock}
+use Rattle.lucy_run.specs.Played.{CountsAllow, PlayerCanGoOn, PlayerHasGoneOn}
 use Rattle.lucy_run.specs.Owes.{most_instants}
 use Rattle.lucy_output.proofs.SinkLaws.{on_err}
 use Rattle.lucy_run.proofs.ReadLaws.{fed_counts, gives_up_on}
@@ -40,7 +40,7 @@ go_on-requires-clause-can g c κs within =
     let words = ap (λ (x : CourseView). x.words) c.in_ok-read.ensures.rest in
     let allow : CountsAllow c.args.self.now.words c.read.new.self.reader.counts c.next_target-target.result c.allowed-horizon.result =
     subst (λ ws. CountsAllow ws c.read.new.self.reader.counts c.next_target-target.result c.allowed-horizon.result) words c.allowed-horizon.ensures in
-    subst (λ v. CanGoOn v c.read.new.self.reader.fresh c.allowed-horizon.result) (sym (ap (λ (x : CourseView). x.player) c.in_ok-read.ensures.rest))
+    subst (λ v. PlayerCanGoOn v c.read.new.self.reader.fresh c.allowed-horizon.result) (sym (ap (λ (x : CourseView). x.player) c.in_ok-read.ensures.rest))
     (can_go_on c.values_in_turn.ensures p first items (g.I.Source.seen c.args.source.now) c.args.self.now along (g.I.Source.seen c.read.new.source) c.read.new.self.reader more
     c.next_target-target.result fed fresh kept c.allowed-horizon.result ahead allow early)
 
@@ -59,11 +59,11 @@ returns-clause-goes_on g c = λ p first items can along.
     let words = ap (λ (x : CourseView). x.words) c.in_ok-read.ensures.rest in
     let allow : CountsAllow c.args.self.now.words c.read.new.self.reader.counts c.next_target-target.result c.allowed-horizon.result =
     subst (λ ws. CountsAllow ws c.read.new.self.reader.counts c.next_target-target.result c.allowed-horizon.result) words c.allowed-horizon.ensures in
-    let gone : HasGoneOn c.read.new.self.reader c.args.self.now.player c.go_on.new.self.reader c.go_on.new.self.player c.allowed-horizon.result c.in_ok-streams.streams =
-    subst (λ v. HasGoneOn c.read.new.self.reader v c.go_on.new.self.reader c.go_on.new.self.player c.allowed-horizon.result c.in_ok-streams.streams)
+    let gone : PlayerHasGoneOn c.read.new.self.reader c.args.self.now.player c.go_on.new.self.reader c.go_on.new.self.player c.allowed-horizon.result c.in_ok-streams.streams =
+    subst (λ v. PlayerHasGoneOn c.read.new.self.reader v c.go_on.new.self.reader c.go_on.new.self.player c.allowed-horizon.result c.in_ok-streams.streams)
     (ap (λ (x : CourseView). x.player) c.in_ok-read.ensures.rest) c.in_ok-streams.ensures.gone in
     let all = c.in_ok-streams.ensures.rest ∙ ap (λ (x : CourseView). record x { reader = c.go_on.new.self.reader; player = c.go_on.new.self.player }) c.in_ok-read.ensures.rest in
-    subst (λ (x : CourseView). IsNext p first items (g.I.Source.seen c.read.new.source) c.args.self.now x c.in_ok-streams.streams)
+    subst (λ (x : CourseView). IsNextBlock p first items (g.I.Source.seen c.read.new.source) c.args.self.now x c.in_ok-streams.streams)
     (sym (c.stand_at.ensures ∙ ap (λ (x : CourseView). record x { target = c.next_target-target.result; horizon = c.allowed-horizon.result }) all))
     (next c.values_in_turn.ensures p first items (g.I.Source.seen c.args.source.now) c.args.self.now along (g.I.Source.seen c.read.new.source) c.read.new.self.reader more
     c.next_target-target.result fed fresh kept c.allowed-horizon.result ahead allow c.go_on.new.self.reader c.go_on.new.self.player c.in_ok-streams.streams gone c.in_ok-read.ensures.enough early near)

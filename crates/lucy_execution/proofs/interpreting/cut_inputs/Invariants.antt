@@ -1,7 +1,0 @@
-use Rattle.std.proofs.Common.{◌≡◌, take}
-use Rattle.lucy_execution.specs.Streams.{cut_to}
-use Rattle.lucy_execution.proofs.interpreting.cut_inputs.Given as goal
-
--- the lists cut so far
-abbrev pub invariant-each : goal.invariant-each
-invariant-each l = l.cut ≡ take l.i (cut_to l.instants l.words l.lists)

@@ -1,0 +1,131 @@
+// The output streams by the flat net.
+ghost use Rattle.std.specs.Prelude.{◌≡◌, ◌≤◌, ◌<◌, ◌%◌, ℕ, Some, All, length, map, slice_get, IfOk};
+ghost use Rattle.lucy_word.specs.Bits.{ones_to};
+ghost use Rattle.lucy_word.specs.Limits.{limit_number};
+ghost use Rattle.lucy_word.specs.declared.limit.Limit.TheVariants as limit;
+ghost use Rattle.lucy_host.specs.Host.{Serves, lent};
+ghost use Rattle.lucy_host.specs.Operators.{kinds_of};
+ghost use Rattle.lucy_place.specs.Proper.{HaveOperators};
+ghost use Rattle.lucy_meaning.specs.Spots.{main_of};
+ghost use Rattle.lucy_meaning.specs.Horizons.{Suffice};
+ghost use Rattle.lucy_kahn.specs.Turns.{params_in};
+ghost use Rattle.lucy_net.specs.Schedules.{IsSound};
+ghost use Rattle.lucy_cause.specs.Schedules.{events_at};
+ghost use Rattle.lucy_core.specs.Seen.{IsUnbegun, IsOver};
+ghost use Rattle.lucy_flat.specs.Flat.{IsFlat};
+ghost use Rattle.lucy_runner.specs.Views.{inputs_for, most_workers};
+ghost use Rattle.lucy_results.specs.Streams.{param_words, result_words, main_streams, later_streams};
+ghost use Rattle.lucy_results.specs.Playing.{PlayerView, played, IsPlayed};
+
+use crate::lists::add;
+use crate::player::Player;
+use lucy_cause::Schedule;
+use lucy_clock::NodeClock;
+use lucy_core::Core;
+use lucy_host::{Host, Inputs};
+use lucy_net::Net;
+use lucy_place::Placed;
+use lucy_runner::Runner;
+use lucy_word::OutOfMemory;
+use lucy_worker::Gate;
+use std::alloc::{AllocError, Global};
+use std::thread::Threads;
+
+/// What the output streams of a program have past the horizon before, from a finished runner of its flat net, in whatever order its
+/// events were done: a list for each result of main, in order.
+pub(crate) fn outputs(
+    alloc: Global,
+    placed: &Placed,
+    clocks: &[NodeClock],
+    runner: &Runner,
+) -> Result<Inputs, OutOfMemory>
+    requires flat { IsFlat placed.now.nodes clocks.now runner.now.seen.net }
+    requires over { IsOver runner.now.seen }
+    ensures { IfOk result (λ lists. lists ≡ later_streams (kinds_of runner.now.seen.operators) runner.now.seen.inputs placed.now.nodes clocks.now runner.now.before runner.now.seen.instants) }
+{
+    let results = placed.node(placed.nodes() - 1).results.list().len();
+    let mut lists = Inputs::new(alloc);
+    'each: for i in 0..results {
+        add(alloc, &mut lists, i as u32, runner.output(i as u32))?;
+    }
+    Ok(lists)
+}
+
+/// The homes of so many actors: that of actor `a` is worker `a mod workers`.
+pub fn homes_of(alloc: Global, actors: usize, workers: u32) -> Result<Vec<u32>, AllocError>
+    requires { 1 ≤ workers }
+    ensures count { IfOk result (λ homes. length homes.items ≡ actors) }
+    ensures home { IfOk result (λ homes. (a : ℕ) → a < actors → slice_get homes.items a ≡ Some (a % workers)) }
+    ensures each { IfOk result (λ homes. All (λ home. home < workers) homes.items) }
+{
+    let mut homes = Vec::new(alloc);
+    for actor in 0..actors {
+        homes.push((actor % workers as usize) as u32)?;
+    }
+    Ok(homes)
+}
+
+/// A finished runner, by so many workers, of a core of a program's flat net without an event so far.
+pub(crate) fn run_core<R: Threads + Sync, F: Fn(u32, i64, i64) -> i64 + Sync, G: Gate + Sync>(
+    rt: &R,
+    alloc: Global,
+    placed: &Placed,
+    clocks: &[NodeClock],
+    core: Core,
+    host: &Host<F>,
+    gate: &G,
+    workers: u32,
+    homes: &[u32],
+) -> Result<Runner, OutOfMemory>
+    requires flat { IsFlat placed.now.nodes clocks.now core.net }
+    requires serves { Serves F.pre F.post host.now }
+    requires kinds { kinds_of (lent host.now) ≡ kinds_of core.operators }
+    requires unbegun { IsUnbegun core }
+    requires workers { (1 ≤ workers) × (workers ≤ most_workers) }
+    requires homes { length homes.now ≡ length core.net.actors }
+    requires each { All (λ home. home < workers) homes.now }
+    requires inputs { inputs_for core.net core.inputs ≡ core.inputs }
+    requires params { params_in (main_of placed.now.nodes) ≡ length core.inputs }
+    ensures played { IfOk result (λ runner. IsPlayed placed.now.nodes clocks.now runner) }
+    ensures is { IfOk result (λ runner. played placed.now.nodes clocks.now runner
+        ≡ record { nodes = placed.now.nodes; clocks = clocks.now; kinds = kinds_of core.operators; inputs = core.inputs; instants = core.instants; before = 0 }) }
+{
+    let mut runner = Runner::new(alloc, core, workers, homes)?;
+    runner.go(rt, host, gate);
+    Ok(runner)
+}
+
+/// The output streams of a program up to a horizon of at most 1,048,576 instants, by its flat net, whose actors are moved by 1 to 64
+/// workers, each on a thread of its own: a list for each result of main, in order. Actor `a` is in worker `a mod workers`. There is
+/// an input for each parameter of main, with the items of so many instants, and the operators of the host that the program names
+/// are among those of this one.
+pub fn run_net<R: Threads + Sync, F: Fn(u32, i64, i64) -> i64 + Sync, G: Gate + Sync>(
+    rt: &R,
+    alloc: Global,
+    placed: &Placed,
+    clocks: &[NodeClock],
+    net: Net,
+    schedule: Schedule,
+    host: &Host<F>,
+    gate: &G,
+    inputs: Inputs,
+    instants: u64,
+    workers: u32,
+) -> Result<Inputs, OutOfMemory>
+    requires flat { IsFlat placed.now.nodes clocks.now net }
+    requires sound { IsSound net (events_at schedule) }
+    requires serves { Serves F.pre F.post host.now }
+    requires known { HaveOperators (length (lent host.now)) placed.now.nodes }
+    requires inputs { params_in (main_of placed.now.nodes) ≡ length inputs }
+    requires suffice { Suffice (param_words placed.now.nodes clocks.now) inputs instants }
+    requires early { instants ≤ limit_number limit.Instants }
+    requires workers { (1 ≤ workers) × (workers ≤ most_workers) }
+    ensures ok { IfOk result (λ lists. lists ≡ main_streams (kinds_of (lent host.now)) inputs placed.now.nodes clocks.now instants) }
+    ensures counts { IfOk result (λ lists. map length lists ≡ map (λ word. ones_to word instants) (result_words placed.now.nodes clocks.now)) }
+{
+    let _ = placed.nodes();
+    let player = Player::new(
+        rt, alloc, placed, clocks, net, schedule, host, gate, inputs, instants, workers,
+    )?;
+    player.outputs(alloc)
+}
