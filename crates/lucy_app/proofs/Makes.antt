@@ -18,7 +18,7 @@ use Rattle.lucy_command.specs.declared.words.MakeWords.{MakeWords}
 use Rattle.lucy_command.specs.Commands.{Make}
 use Rattle.lucy_app.specs.Commands.{inferring_options}
 use Rattle.lucy_app.specs.Answers.{printed, out_of_memory}
-use Rattle.lucy_app.specs.Endings.{ending_told, ended}
+use Rattle.lucy_app.specs.Endings.{ending_told, ended_answer}
 use Rattle.lucy_front.specs.Refusals.{memory_line}
 use Rattle.lucy_app.specs.Ends.{Tells, MayStand, MayFail}
 use Rattle.lucy_app.specs.Owes.{Owes}
@@ -80,7 +80,7 @@ module _ (words : MakeWords) (lends : List Operator) where
 
       -- nothing was printed, and why was told
       told_so : (end : Ending) (out err err' : SeenSink) (status : ℕ) → Owed Unread a [] end → Tells (ending_told end).0 (ending_told end).1 err err' status → EndsMake words lends out out err err' status
-      told_so end out err err' status owed told = inl (ended [] end, inl (inr (a, runnable.0, inr (runnable.1, [], end, owed, refl))), record { printed = unwritten out; told = told })
+      told_so end out err err' status owed told = inl (ended_answer [] end, inl (inr (a, runnable.0, inr (runnable.1, [], end, owed, refl))), record { printed = unwritten out; told = told })
 
       -- or there was no memory for that
       short_of_memory : (out err err' : SeenSink) (status : ℕ) → Tells 7 memory_line err err' status → EndsMake words lends out out err err' status

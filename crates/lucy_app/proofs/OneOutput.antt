@@ -41,7 +41,7 @@ use Rattle.lucy_app.specs.Show.{IsPrintOf}
 use Rattle.lucy_app.specs.Types.{IsReportOf}
 use Rattle.lucy_app.specs.Check.{IsCheckOf, RefusesCheck}
 use Rattle.lucy_app.specs.Running.{IsRunnable}
-use Rattle.lucy_app.specs.Complete.{Holds, HoldsSuch, MayPrint, MayRun}
+use Rattle.lucy_app.specs.Complete.{HoldsText, HoldsSuch, MayPrint, MayRun}
 use Rattle.lucy_app.proofs.Causes.{one_line}
 use Rattle.lucy_app.proofs.Verdicts.{IsVerdict, show_verdict}
 use Rattle.lucy_app.proofs.Typed.{types_verdict}
@@ -57,7 +57,7 @@ told_one : (files : Option Files) (file text other : List ℕ) → IsSomeAnd fil
 told_one None file text other is also = absurd is
 told_one (Some files) file text other is also = let e : Some text ≡ Some other = sym is ∙ also in cc e
 
-pub held_one : (shelf : SeenShelf) (file : Wanted) (text other : List ℕ) → Holds shelf file text → Holds shelf file other → text ≡ other
+pub held_one : (shelf : SeenShelf) (file : Wanted) (text other : List ℕ) → HoldsText shelf file text → HoldsText shelf file other → text ≡ other
 held_one shelf file text other is also = told_one shelf.files file.file text other is.0 also.0
 
 -- a text has one print

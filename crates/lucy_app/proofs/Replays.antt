@@ -29,7 +29,7 @@ use Rattle.lucy_command.specs.Commands.{ProgramWords, Replay}
 use Rattle.lucy_app.specs.Commands.{inferring_options, HasText, TakesInput}
 use Rattle.lucy_app.specs.World.{Given}
 use Rattle.lucy_app.specs.Answers.{Answer, out_of_memory, log_refused}
-use Rattle.lucy_app.specs.Endings.{ended}
+use Rattle.lucy_app.specs.Endings.{ended_answer}
 use Rattle.lucy_app.specs.Running.{IsRunnable, OwesRunning}
 use Rattle.lucy_app.specs.Replaying.{replayed, OwesEvents, OwesLog, OwesLogged}
 use Rattle.lucy_app.specs.Owes.{Owes, OwesOutput}
@@ -128,12 +128,12 @@ module _ (ops : List Operator) (a : Accepted) (instants : Option ℕ) (log : Res
     owes output result owed = with_picks log picks (OwesEvents ops a instants taken stop) stop (replayed output result) read (output, result, owed, refl)
 
     stands : (output : List ℕ) (end : Ending) → OwesReplay ops a instants picks taken stop output (Ok end) → LogOutputs ops a instants taken stop log output
-    stands output end owed = (ended output end, owes output (Ok end) owed, refl)
+    stands output end owed = (ended_answer output end, owes output (Ok end) owed, refl)
 
-    -- the output stands, and how it ended was told, or memory ran out for that
+    -- the output stands, and how it ended_answer was told, or memory ran out for that
     whole : (output : List ℕ) (end : Ending) (out out' err err' : SeenSink) (status : ℕ) → OwesReplay ops a instants picks taken stop output (Ok end) → Writes out out' output →
-        Tells (ended output end).status (ended output end).err err err' status ⊎ Tells 7 (out_of_memory output).err err err' status → EndsLog ops a instants taken stop log out out' err err' status
-    whole output end out out' err err' status owed writes (inl told) = inl (ended output end, inl (owes output (Ok end) owed), record { printed = writes; told = told })
+        Tells (ended_answer output end).status (ended_answer output end).err err err' status ⊎ Tells 7 (out_of_memory output).err err err' status → EndsLog ops a instants taken stop log out out' err err' status
+    whole output end out out' err err' status owed writes (inl told) = inl (ended_answer output end, inl (owes output (Ok end) owed), record { printed = writes; told = told })
     whole output end out out' err err' status owed writes (inr told) =
         let front = inr (output, length output, stands output end owed, sym (take_all (length output) output (omega arith))) in
         inl (out_of_memory output, inr (output, front, refl), record { printed = writes; told = told })

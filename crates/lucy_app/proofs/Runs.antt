@@ -12,7 +12,7 @@ use Rattle.lucy_run.specs.declared.ending.Ending.{Ending}
 use Rattle.lucy_run.specs.declared.ending.Ending.TheVariants.{Done, Input, Limit, WriteFault, OutOfMemory}
 use Rattle.lucy_run.specs.Ends.{IsFrontOf, Outputs, EndsWith}
 use Rattle.lucy_app.specs.Answers.{Answer, out_of_memory}
-use Rattle.lucy_app.specs.Endings.{ended}
+use Rattle.lucy_app.specs.Endings.{ended_answer}
 use Rattle.lucy_app.specs.Commands.{HasText}
 use Rattle.lucy_app.specs.Running.{IsRunnable, OwesEnded, OwesRunning}
 use Rattle.lucy_app.specs.Ends.{Tells}
@@ -46,20 +46,20 @@ module _ (Owed : ReadStop → Accepted → List ℕ → Ending → Type 0) (Coun
   ends_unrun e out out' err err' status (inr owed) same told = ends_refused _ _ _ (inl refl) e out out' err err' status (inr (unrun_owed (refusal_answer e) owed)) same told
 
   module _ (stop : ReadStop) (counts : Counts stop) (a : Accepted) (runnable : HasText fetched (λ text. IsRunnable ops o instants text a)) where
-    answer_owed : (counted : ReadStop) (output : List ℕ) (end : Ending) → Owed counted a output end → OwesRunning (Owed counted) ops o instants counted fetched (ended output end)
+    answer_owed : (counted : ReadStop) (output : List ℕ) (end : Ending) → Owed counted a output end → OwesRunning (Owed counted) ops o instants counted fetched (ended_answer output end)
     answer_owed counted output end owed = inr (text_more fetched _ _ (λ text is. (a, is.0, inr (is.1, output, end, owed, refl))) runnable)
 
     output_owed : (output : List ℕ) → Outputs Counts (λ counted. Owed counted a) output → RunOutputs Counts Owed ops o instants fetched output
-    output_owed output (counted, end, counting, owed) = (counted, ended output end, counting, answer_owed counted output end owed, refl)
+    output_owed output (counted, end, counting, owed) = (counted, ended_answer output end, counting, answer_owed counted output end owed, refl)
 
     front_owed : (front : List ℕ) → IsFrontOf (Outputs Counts (λ counted. Owed counted a)) front → IsFrontOf (RunOutputs Counts Owed ops o instants fetched) front
     front_owed front (inl none) = inl none
     front_owed front (inr is) = inr (is.0, is.1, output_owed is.0 is.2, is.3)
 
     -- the output stands, and its ending was told
-    whole : (output : List ℕ) (end : Ending) (out out' err err' : SeenSink) (status : ℕ) → Owed stop a output end → Writes out out' output → Tells (ended output end).status (ended output end).err err err' status →
+    whole : (output : List ℕ) (end : Ending) (out out' err err' : SeenSink) (status : ℕ) → Owed stop a output end → Writes out out' output → Tells (ended_answer output end).status (ended_answer output end).err err err' status →
         EndsRunning Owed Counts InOrder ops o instants stop fetched out out' err err' status
-    whole output end out out' err err' status owed writes told = inl (ended output end, inl (answer_owed stop output end owed), record { printed = writes; told = told })
+    whole output end out out' err err' status owed writes told = inl (ended_answer output end, inl (answer_owed stop output end owed), record { printed = writes; told = told })
 
     -- or there was no memory for that
     untold : (output : List ℕ) (end : Ending) (out out' err err' : SeenSink) (status : ℕ) → Owed stop a output end → Writes out out' output → Tells 7 (out_of_memory output).err err err' status →
@@ -68,7 +68,7 @@ module _ (Owed : ReadStop → Accepted → List ℕ → Ending → Type 0) (Coun
         let front = inr (output, length output, output_owed output (stop, end, counts, owed), sym (take_all (length output) output (omega arith))) in
         inl (out_of_memory output, inr (output, front, refl), record { printed = writes; told = told })
 
-    -- the program is run, and how that ended was told
+    -- the program is run, and how that ended_answer was told
     pub ends_run : (end : Ending) (out out' err err' : SeenSink) (status : ℕ) → EndsWith (λ counted. Owed counted a) Counts stop out out' end → (end ≡ WriteFault → InOrder) → TellsEnding end err err' status →
         EndsRunning Owed Counts InOrder ops o instants stop fetched out out' err err' status
     ends_run Done out out' err err' status left order told = whole left.0 Done out out' err err' status left.1 left.2 told

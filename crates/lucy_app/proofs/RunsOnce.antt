@@ -14,7 +14,7 @@ use Rattle.lucy_results.specs.Streams.{param_words}
 use Rattle.lucy_front.specs.declared.accepted.Accepted.{Accepted}
 use Rattle.lucy_front.specs.Accepting.{IsAccepted}
 use Rattle.lucy_front.specs.Report.{report}
-use Rattle.lucy_front.specs.Scheduled.{inputs_of, outputs_of}
+use Rattle.lucy_front.specs.Scheduled.{main_inputs, main_outputs}
 use Rattle.lucy_front.proofs.OneAnswer.{text_proper, one_program}
 use Rattle.lucy_flat.specs.Refusals.{IsFlatNet}
 use Rattle.lucy_flat.proofs.OneNet.{one_net}
@@ -28,7 +28,7 @@ use Rattle.lucy_run.specs.Laws.{OneRun, OneInterpretation, OneTrace}
 use Rattle.lucy_app.specs.Commands.{HasText}
 use Rattle.lucy_app.specs.Answers.{Answer, AreTracedAlike, AreOneBut, AreRefusedAlike}
 use Rattle.lucy_app.specs.Check.{RefusesCheck}
-use Rattle.lucy_app.specs.Endings.{ending_told, ended}
+use Rattle.lucy_app.specs.Endings.{ending_told, ended_answer}
 use Rattle.lucy_app.specs.Running.{LacksInstants, OwesEnded, OwesRunning}
 use Rattle.lucy_app.proofs.Checked.{checks_apart, checks_alike}
 use Rattle.lucy_app.proofs.OwedPrograms.{IsDecided, text_owes_one, text_owes_but}
@@ -49,10 +49,10 @@ accepted_same ops o text a b is also =
       nodes = ap (λ p. p.nodes) same.0;
       typed = same.1;
       clocks = same.2;
-      inputs = is.inputs ∙ ap (λ p. inputs_of p.nodes a.typed) same.0 ∙ ap (inputs_of b.placed.nodes) same.1 ∙ sym also.inputs;
+      inputs = is.inputs ∙ ap (λ p. main_inputs p.nodes a.typed) same.0 ∙ ap (main_inputs b.placed.nodes) same.1 ∙ sym also.inputs;
       outputs =
-          is.outputs ∙ ap (λ p. outputs_of p.nodes a.typed a.clocks.items) same.0 ∙ ap (λ ts. outputs_of b.placed.nodes ts a.clocks.items) same.1
-          ∙ ap (outputs_of b.placed.nodes b.typed) same.2 ∙ sym also.outputs;
+          is.outputs ∙ ap (λ p. main_outputs p.nodes a.typed a.clocks.items) same.0 ∙ ap (λ ts. main_outputs b.placed.nodes ts a.clocks.items) same.1
+          ∙ ap (main_outputs b.placed.nodes b.typed) same.2 ∙ sym also.outputs;
       net =
           one_net b.placed.nodes b.clocks.items (text_proper ops o text b.placed also.clocked.program.program) a.net b.net
           (subst (λ cs. IsFlatNet b.placed.nodes cs a.net) same.2 (subst (λ p. IsFlatNet p.nodes a.clocks.items a.net) same.0 is.net.flat)) also.net.flat;
@@ -109,12 +109,12 @@ OwesOnce Owed = (a b : Accepted) (output other : List ℕ) (end way : Ending) �
 -- it comes to one answer, or to answers that differ so
 abbrev pub OwesOneBut : (Differ : Answer → Answer → Type 0) → (Owed : Accepted → List ℕ → Ending → Type 0) → Type 0
 OwesOneBut Differ Owed = (a b : Accepted) (output other : List ℕ) (end way : Ending) → AreSame a b → Owed a output end → Owed b other way →
-    AreOneBut Differ (ended output end) (ended other way)
+    AreOneBut Differ (ended_answer output end) (ended_answer other way)
 
 pub once_but : (Differ : Answer → Answer → Type 0) (Owed : Accepted → List ℕ → Ending → Type 0) → OwesOnce Owed → OwesOneBut Differ Owed
 once_but Differ Owed once a b output other end way same h k =
     let one = once a b output other end way same h k in
-    inl (ap (λ o. ended o end) one.0 ∙ ap (ended other) one.1)
+    inl (ap (λ o. ended_answer o end) one.0 ∙ ap (ended_answer other) one.1)
 
 module _ (Differ : Answer → Answer → Type 0) (Owed : Accepted → List ℕ → Ending → Type 0) (once : OwesOneBut Differ Owed)
     (ops : List Operator)
@@ -130,7 +130,7 @@ module _ (Differ : Answer → Answer → Type 0) (Owed : Accepted → List ℕ �
   ended_one text a b x y is also (inr h) (inl k) = absurd (h.0 (lacks_too text b a also is k.0))
   ended_one text a b x y is also (inr h) (inr k) =
       let P : Answer → Type 0 = λ u. AreOneBut Differ u y in
-      let Q : Answer → Type 0 = λ u. AreOneBut Differ (ended h.1 h.2) u in
+      let Q : Answer → Type 0 = λ u. AreOneBut Differ (ended_answer h.1 h.2) u in
       subst P (sym h.4) (subst Q (sym k.4) (once a b h.1 k.1 h.2 k.2 (accepted_same ops o text a b is also) h.3 k.3))
 
   run_decided : IsDecided Differ (RefusesCheck ops o)
@@ -176,7 +176,7 @@ module _ (law : OneTrace) (ops : List Operator) (o : Options) (instants : Option
       let (ends, lists, fault, horizon, fed, one, two) = law b instants taken stop h.1 k.1 h.2 k.2
       (trace_moves [] a b (accepted_same ops o text a b is also) instants taken stop h.1 h.2 h.3) k.3 in
       let P : Answer → Type 0 = λ u. AreOneBut (AreTracedAlike (Runs (Ok text ∷ more))) u y in
-      let Q : Answer → Type 0 = λ u. AreOneBut (AreTracedAlike (Runs (Ok text ∷ more))) (ended h.1 h.2) u in
+      let Q : Answer → Type 0 = λ u. AreOneBut (AreTracedAlike (Runs (Ok text ∷ more))) (ended_answer h.1 h.2) u in
       subst P (sym h.4) (subst Q (sym k.4)
       (inr (ap (λ e. (ending_told e).0) ends, ap (λ e. (ending_told e).1) ends, b.net, horizon, (b, also, refl, lists, fault, fed), one, two)))
 

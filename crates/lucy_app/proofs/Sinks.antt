@@ -13,7 +13,7 @@ use Rattle.lucy_app.specs.Owes.{Owes, MayCount}
 use Rattle.lucy_app.specs.Ends.{Tells, EndsBy, MayStand, StopsInOrder, MayFail, Declines, EndsSo, Ends}
 use Rattle.lucy_run.specs.declared.ending.Ending.{Ending}
 use Rattle.lucy_run.specs.declared.ending.Ending.TheVariants as ending
-use Rattle.lucy_app.specs.Outcomes.{refusal_answer, IsOutcome, TellsRefusal, Delivers, TellsEnding, EndsGiven}
+use Rattle.lucy_app.specs.Outcomes.{refusal_answer, IsOwedOutcome, TellsRefusal, Delivers, TellsEnding, EndsGiven}
 use Rattle.lucy_app.specs.declared.refusal.Refusal.{Refusal}
 use Rattle.lucy_app.specs.declared.refusal.Refusal.TheVariants.{Program, Input, NoInstants, NoBuffer, Log, ReadFault, OutOfMemory}
 
@@ -69,7 +69,7 @@ counts_itself (Trace words workers) given = refl
 
 -- a command that came out so, and whose outcome was delivered
 ends_so : (command : Command) (given : Given) (outcome : Result (Vec ℕ Global) Refusal) (before after : World) (status : ℕ) → MayStand command given [] → StopsInOrder command given before.out after.out →
-    IsOutcome (Owes command given) outcome → Delivers outcome before.out after.out before.err after.err status → EndsGiven command given before after status
+    IsOwedOutcome (Owes command given) outcome → Delivers outcome before.out after.out before.err after.err status → EndsGiven command given before after status
 ends_so command given (Ok print) before after status nothing order owed (inl answers) = inl (printed print.items, inl owed, answers)
 ends_so command given (Ok print) before after status nothing order owed (inr breaks) = inr (print.items, ((given, printed print.items, counts_itself command given, owed, refl), order), breaks)
 ends_so command given (Err e) before after status nothing order owed told =
@@ -126,7 +126,7 @@ ends_begun found command before after status is ends =
 
 -- a command that was carried out, and came out so
 pub ends_some : (found command : Command) (given : Given) (outcome : Result (Vec ℕ Global) Refusal) (before after : World) (status : ℕ) → command ≡ found → Meets command before after given →
-    MayStand command given [] → StopsInOrder command given before.out after.out → IsOutcome (Owes command given) outcome → Delivers outcome before.out after.out before.err after.err status → EndsSo found before after status
+    MayStand command given [] → StopsInOrder command given before.out after.out → IsOwedOutcome (Owes command given) outcome → Delivers outcome before.out after.out before.err after.err status → EndsSo found before after status
 ends_some found command given outcome before after status is met nothing order owed told =
     let P : Command → Type 0 = λ c. EndsSo c before after status in
     subst P is (given, met, ends_so command given outcome before after status nothing order owed told)

@@ -47,12 +47,12 @@ use Rattle.lucy_app.specs.Order.{IsVerdictLine}
 use Rattle.lucy_app.specs.Show.{IsPrintOf}
 use Rattle.lucy_app.specs.Types.{IsReportOf}
 use Rattle.lucy_app.specs.Check.{IsCheckOf, RefusesCheck}
-use Rattle.lucy_app.specs.Endings.{ended}
+use Rattle.lucy_app.specs.Endings.{ended_answer}
 use Rattle.lucy_app.specs.Programs.{OwesText, OwesPrint}
 use Rattle.lucy_app.specs.Running.{IsRunnable, LacksInstants, OwesEnded, OwesRunning}
 use Rattle.lucy_app.specs.Owes.{OwesOrder, Owes}
 use Rattle.lucy_app.specs.Ends.{Answers, Declines}
-use Rattle.lucy_app.specs.Complete.{IsFaultless, Holds, HoldsSuch, MayPrint, Completes}
+use Rattle.lucy_app.specs.Complete.{IsFaultless, HoldsText, HoldsSuch, MayPrint, Completes}
 use Rattle.lucy_app.specs.Replaying.{replayed, OwesEvents, OwesLog, OwesLogged}
 use Rattle.lucy_app.proofs.ReplaysOnce.{picks_one, replay_moves}
 use Rattle.lucy_app.proofs.Owed.{order_owes_one}
@@ -123,7 +123,7 @@ order_done before after taken output stop (Some bytes) e read well (is, few) ans
 -- a text that is accepted is run to its end, where what that owes comes to such an answer
 ran_done : (Owed : Accepted → List ℕ → Ending → Type 0) (ops : List Operator) (o : Options) (instants : Option ℕ) (stop : ReadStop)
     (text : List ℕ) (more : List (Result (List ℕ) ShelfError)) (a : Accepted) (Such : Answer → Type 0) →
-    IsRunnable ops o instants text a → ((b : Accepted) (out : List ℕ) (end : Ending) → AreSame b a → Owed b out end → Such (ended out end)) →
+    IsRunnable ops o instants text a → ((b : Accepted) (out : List ℕ) (end : Ending) → AreSame b a → Owed b out end → Such (ended_answer out end)) →
     (answer : Answer) →
     OwesRunning Owed ops o instants stop (Ok text ∷ more) answer → Such answer
 ran_done Owed ops o instants stop text more a Such is ends answer (inl refused) =
@@ -165,7 +165,7 @@ module _ (before after : SeenShelf) (file : Wanted) (text : List ℕ) where
   -- what a file that is held owes is such an answer, where its text owes one
   text_done : (Refuses : List ℕ → Refusal → Type 0) (Owed : List ℕ → Answer → Type 0) (stop : ReadStop) (Such : Answer → Type 0) →
       ((more : List (Result (List ℕ) ShelfError)) (answer : Answer) → OwesText Refuses Owed stop (Ok text ∷ more) answer → Such answer) →
-      Holds before file text →
+      HoldsText before file text →
       (Rose before.faults after.faults → ⊥) → (fetched : List (Result (List ℕ) ShelfError)) → Fetches (file ∷ []) before after fetched → (answer : Answer) →
       OwesText Refuses Owed stop fetched answer → Such answer
   text_done Refuses Owed stop Such same holds well [] met answer (inl owed) = absurd owed.0
@@ -180,7 +180,7 @@ module _ (before after : SeenShelf) (file : Wanted) (text : List ℕ) where
       ]
 
   -- a command that prints the text's program
-  print_done : (Prints : List ℕ → List ℕ → Type 0) (Refuses : List ℕ → Refusal → Type 0) → IsVerdict Prints Refuses → (stop : ReadStop) (print : List ℕ) → Prints text print → Holds before file text →
+  print_done : (Prints : List ℕ → List ℕ → Type 0) (Refuses : List ℕ → Refusal → Type 0) → IsVerdict Prints Refuses → (stop : ReadStop) (print : List ℕ) → Prints text print → HoldsText before file text →
       (Rose before.faults after.faults → ⊥) → (fetched : List (Result (List ℕ) ShelfError)) → Fetches (file ∷ []) before after fetched → (answer : Answer) →
       OwesText Refuses (OwesPrint Prints) stop fetched answer → answer ≡ printed print
   print_done Prints Refuses v stop print is holds well fetched met answer owed =
@@ -191,7 +191,7 @@ module _ (before after : SeenShelf) (file : Wanted) (text : List ℕ) where
   -- one that runs it
   run_done : (Owed : Accepted → List ℕ → Ending → Type 0) (ops : List Operator) (o : Options) (instants : Option ℕ) (stop : ReadStop)
       (a : Accepted) (Such : Answer → Type 0) → IsRunnable ops o instants text a →
-      ((b : Accepted) (out : List ℕ) (end : Ending) → AreSame b a → Owed b out end → Such (ended out end)) → Holds before file text →
+      ((b : Accepted) (out : List ℕ) (end : Ending) → AreSame b a → Owed b out end → Such (ended_answer out end)) → HoldsText before file text →
       (Rose before.faults after.faults → ⊥) →
       (fetched : List (Result (List ℕ) ShelfError)) → Fetches (file ∷ []) before after fetched → (answer : Answer) →
       OwesRunning Owed ops o instants stop fetched answer → Such answer
@@ -207,7 +207,7 @@ made_fed cut [] stop lists others fault some whole is fed = absurd (some refl)
 made_fed cut (input ∷ inputs) stop lists others fault some whole is fed = whole_feeds cut (input ∷ inputs) made_input stop Ended others lists fault None whole refl fed is
 
 made_ends : OneCut → OneHorizon → (stages : ℕ) (kinds : List HostKind) (a : Accepted) (lists : List (List ℤ)) (horizon : ℕ) (output : List ℕ) (end : Ending) → (LacksInstants a None → ⊥) →
-    IsFedWell a None (Some made_input) lists horizon → OwesSummary stages kinds a output end → ended output end ≡ printed (figures stages a.net horizon (printed_values kinds a lists horizon))
+    IsFedWell a None (Some made_input) lists horizon → OwesSummary stages kinds a output end → ended_answer output end ≡ printed (figures stages a.net horizon (printed_values kinds a lists horizon))
 made_ends cut horizons stages kinds a lists horizon output end runs fed (stop, others, fault, other, whole, made, ends, is) =
     let (same, none) = made_fed cut a.inputs.items stop lists others fault (λ e. runs (e, refl)) whole fed.input made.feeds in
     let words : List Bits = input_words a in
@@ -215,7 +215,7 @@ made_ends cut horizons stages kinds a lists horizon output end runs fed (stop, o
     let P : Option TextFault → Type 0 = λ f. EndsFor words None lists f end in
     let Q : List (List ℤ) → Type 0 = λ ls. EndsFor words None ls fault end in
     let over : end ≡ ending.Done = done_for words None lists end fed.few (subst P none (subst Q same ends)) in
-    ap (λ e. ended output e) over
+    ap (λ e. ended_answer output e) over
     ∙ ap printed (is ∙ ap (λ e. where_done e (figures stages a.net other (printed_values kinds a others other))) over
     ∙ ap (λ ls. figures stages a.net other (printed_values kinds a ls other)) same ∙ ap (λ t. figures stages a.net t (printed_values kinds a lists t)) last)
 
@@ -231,13 +231,13 @@ met_suits command before ops output e suits =
     subst P (sym e) suits
 
 -- what is owed with this ending is what is printed
-ended_printed : (out output : List ℕ) (end : Ending) → (out ≡ output) × (end ≡ ending.Done) → ended out end ≡ printed output
-ended_printed out output end (same, over) = ap (λ e. ended out e) over ∙ ap printed same
+ended_printed : (out output : List ℕ) (end : Ending) → (out ≡ output) × (end ≡ ending.Done) → ended_answer out end ≡ printed output
+ended_printed out output end (same, over) = ap (λ e. ended_answer out e) over ∙ ap printed same
 
 -- a log of a program that can be run is replayed to its end, where nothing refuses it
 module _ (again : CompleteReplay) (ops : List Operator) (words : ProgramWords) (name : List ℕ) (taken : List ℕ) (stop : ReadStop) (before after : World) (a : Accepted) (lists : List (List ℤ)) (horizon : ℕ) (picks : List ℕ)
-    (text log : List ℕ) (held : Holds before.shelf (program_of words.file) text) (can : IsRunnable ops (inferring_options words.scale words.lead) words.instants text a)
-    (logs : Holds before.shelf (log_of name) log) (reads : AreRead (picks_of log) picks) (fed : IsFedWell a words.instants before.source.left lists horizon)
+    (text log : List ℕ) (held : HoldsText before.shelf (program_of words.file) text) (can : IsRunnable ops (inferring_options words.scale words.lead) words.instants text a)
+    (logs : HoldsText before.shelf (log_of name) log) (reads : AreRead (picks_of log) picks) (fed : IsFedWell a words.instants before.source.left lists horizon)
     (run : CanRun (first_core ops a lists horizon) picks) (well : IsFaultless before after) (source : Read (limit_number limit.Input) before.source after.source taken stop) where
   -- it prints the text of these events
   abbrev Prints : Answer → Type 0

@@ -1,4 +1,4 @@
--- The report of a text's types is one, and refusals are alike.
+-- The type_report of a text's types is one, and refusals are alike.
 use Rattle.std.proofs.Common.{ℕ, ◌≡◌, List, [], Err, ap, sym, ◌∙◌, subst, inl, inr}
 use Rattle.lucy_host.specs.Operators.{Operator}
 use Rattle.lucy_tree.specs.View.{ProgramTree}
@@ -18,7 +18,7 @@ use Rattle.lucy_front.specs.declared.refusal.Refusal.TheVariants.{Syntax, Names,
 use Rattle.lucy_front.specs.Accepting.{IsPlacedText, RefusesPhases, RefusesText}
 use Rattle.lucy_front.proofs.OneAnswer.{syntax_refused, names_refused}
 use Rattle.lucy_app.specs.Commands.{written_options}
-use Rattle.lucy_app.specs.Report.{report}
+use Rattle.lucy_app.specs.Report.{type_report}
 use Rattle.lucy_app.specs.Types.{IsReportOf}
 use Rattle.lucy_app.proofs.Verdicts.{IsVerdict, phases_alike}
 
@@ -35,7 +35,7 @@ module _ (ops : List Operator) (text : List ℕ) where
   report_one x y is also =
       let same : is.0.nodes ≡ also.0.nodes = nodes_one is.0 also.0 is.2.program also.2.program in
       let typed : IsTyped also.0.nodes is.1 = subst (λ ns. IsTyped ns is.1) same is.2.typed in
-      is.3 ∙ ap (λ ns. report ns is.1) same ∙ ap (report also.0.nodes) (typed_unique also.0.nodes is.1 also.1 typed also.2.typed) ∙ sym also.3
+      is.3 ∙ ap (λ ns. type_report ns is.1) same ∙ ap (type_report also.0.nodes) (typed_unique also.0.nodes is.1 also.1 typed also.2.typed) ∙ sym also.3
 
   -- the names of a text that has places are good
   good_names : (v : PlacedProgram) (p : ProgramTree) (e : NameError) → IsPlacedText ops text v → HasTree text p → IsFirstFault (faults ops p) e → ⊥

@@ -54,9 +54,9 @@ files_of (Some (Replay words log)) = program_of words.file ∷ (log_of log ∷ [
 files_of found = of_one (λ words. program_of words.file ∷ []) (option_and_then running_words found)
 
 -- how many bytes may be taken from the source, and one more, where the words name a command that may read it
-abbrev pub input_of : Option Command → Option ℕ
-input_of (Some Order) = Some (limit_number limit.OrderInput)
-input_of found = option_map (λ words. limit_number limit.Input) (option_and_then running_words found)
+abbrev pub most_input : Option Command → Option ℕ
+most_input (Some Order) = Some (limit_number limit.OrderInput)
+most_input found = option_map (λ words. limit_number limit.Input) (option_and_then running_words found)
 
 -- what was fetched first is a text of which this holds
 abbrev pub HasText : List (Result (List ℕ) ShelfError) → (Holds : List ℕ → Type 0) → Type 0

@@ -39,12 +39,12 @@ pub record IsFaultless (before after : World) : Type 0 where
   pub err : Rose before.err.faults after.err.faults → ⊥
 
 -- the shelf tells this text under the name that is wanted, and it is no longer than it may be
-abbrev pub Holds : SeenShelf → Wanted → (text : List ℕ) → Type 0
-Holds shelf wanted text = IsSomeAnd shelf.files (λ files. files wanted.file ≡ Some text) × (length text ≤ wanted.most)
+abbrev pub HoldsText : SeenShelf → Wanted → (text : List ℕ) → Type 0
+HoldsText shelf wanted text = IsSomeAnd shelf.files (λ files. files wanted.file ≡ Some text) × (length text ≤ wanted.most)
 
 -- it tells one of which this holds
 abbrev pub HoldsSuch : (Such : List ℕ → Type 0) → SeenShelf → Wanted → Type 0
-HoldsSuch Such shelf wanted = (text : List ℕ) × Holds shelf wanted text × Such text
+HoldsSuch Such shelf wanted = (text : List ℕ) × HoldsText shelf wanted text × Such text
 
 -- FILE holds a program that can be run, and its input is told, has no fault and allows such a run
 abbrev pub HoldsRun : ProgramWords → World → (Such : Accepted → (lists : List (List ℤ)) → (horizon : ℕ) → Type 0) → Type 0

@@ -1,4 +1,4 @@
--- How a run that ended so is answered: its status and its lines.
+-- How a run that ended_answer so is answered: its status and its lines.
 use Rattle.std.specs.Prelude.{ℕ, List, [], ◌++◌, codes}
 use Rattle.std.specs.Fmt.{decimal}
 use Rattle.lucy_word.specs.declared.limit.Limit.TheVariants as limit
@@ -29,6 +29,6 @@ ending_told (Limit passed) = (6, limit_line passed)
 ending_told WriteFault = (5, write_fault_line)
 ending_told OutOfMemory = (7, memory_line)
 
--- this stands on the output, and the run ended so
-abbrev pub ended : (output : List ℕ) → Ending → Answer
-ended output end = record { status = (ending_told end).0; out = output; err = (ending_told end).1 }
+-- this stands on the output, and the run ended_answer so
+abbrev pub ended_answer : (output : List ℕ) → Ending → Answer
+ended_answer output end = record { status = (ending_told end).0; out = output; err = (ending_told end).1 }

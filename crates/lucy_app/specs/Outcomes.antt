@@ -64,8 +64,8 @@ Tellable (Program reason) = IsTellable reason
 Tellable e = Unit {0}
 
 -- what is printed is owed, or the refusal, but for want of memory
-abbrev pub IsOutcome : (Owed : Answer → Type 0) → Result (Vec ℕ Global) Refusal → Type 0
-IsOutcome Owed outcome = MatchResult outcome (λ print. Owed (printed print.items)) (λ e. (e ≡ OutOfMemory) ⊎ Owed (refusal_answer e))
+abbrev pub IsOwedOutcome : (Owed : Answer → Type 0) → Result (Vec ℕ Global) Refusal → Type 0
+IsOwedOutcome Owed outcome = MatchResult outcome (λ print. Owed (printed print.items)) (λ e. (e ≡ OutOfMemory) ⊎ Owed (refusal_answer e))
 
 -- why there is no answer was told, or that memory ran out
 abbrev pub TellsRefusal : Refusal → (err err' : SeenSink) (status : ℕ) → Type 0

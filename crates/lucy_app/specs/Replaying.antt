@@ -13,13 +13,13 @@ use Rattle.lucy_front.specs.declared.options.Options.{Options}
 use Rattle.lucy_run.specs.declared.ending.Ending.{Ending}
 use Rattle.lucy_run.specs.Replays.{OwesReplay}
 use Rattle.lucy_app.specs.Answers.{Answer, log_refused}
-use Rattle.lucy_app.specs.Endings.{ended}
+use Rattle.lucy_app.specs.Endings.{ended_answer}
 use Rattle.lucy_app.specs.Programs.{OwesUnfetched}
 use Rattle.lucy_app.specs.Running.{IsRunnable, OwesRunning}
 
 -- the answer of a replay that came to this
 abbrev pub replayed : (output : List ℕ) → Result Ending TraceError → Answer
-replayed output (Ok end) = ended output end
+replayed output (Ok end) = ended_answer output end
 replayed output (Err e) = log_refused e
 
 -- what is owed of the events of a log, over what main is fed

@@ -6,6 +6,6 @@ use Rattle.lucy_front.specs.Names.{node_line}
 use Rattle.lucy_front.specs.Report.{name_lines}
 
 -- the lines of nodes with these types of their places, of which nothing more is said; main has none behind it
-abbrev pub report : List PlacedNode → List (List Ty) → List ℕ
-report (n ∷ ns) (ts ∷ tables) = (node_line n ++ name_lines (length ns == 0) (λ place. []) 1 n.places ts) ++ report ns tables
-report ns tables = []
+abbrev pub type_report : List PlacedNode → List (List Ty) → List ℕ
+type_report (n ∷ ns) (ts ∷ tables) = (node_line n ++ name_lines (length ns == 0) (λ place. []) 1 n.places ts) ++ type_report ns tables
+type_report ns tables = []

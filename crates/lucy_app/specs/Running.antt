@@ -9,7 +9,7 @@ use Rattle.lucy_front.specs.Accepting.{IsAccepted}
 use Rattle.lucy_run.specs.declared.ending.Ending.{Ending}
 use Rattle.lucy_app.specs.Answers.{Answer, no_instants}
 use Rattle.lucy_app.specs.Check.{RefusesCheck}
-use Rattle.lucy_app.specs.Endings.{ended}
+use Rattle.lucy_app.specs.Endings.{ended_answer}
 use Rattle.lucy_app.specs.Programs.{OwesText}
 
 -- main has no inputs, and the words give no instants
@@ -24,7 +24,7 @@ IsRunnable ops o instants text a = IsAccepted ops o text a × (LacksInstants a i
 abbrev pub OwesEnded : (Owed : List ℕ → Ending → Type 0) → (instants : Option ℕ) → ReadStop → Accepted → Answer → Type 0
 OwesEnded Owed instants stop a answer =
     (LacksInstants a instants × (answer ≡ no_instants) × (stop ≡ Unread))
-    ⊎ ((LacksInstants a instants → ⊥) × (output : List ℕ) × (end : Ending) × Owed output end × (answer ≡ ended output end))
+    ⊎ ((LacksInstants a instants → ⊥) × (output : List ℕ) × (end : Ending) × Owed output end × (answer ≡ ended_answer output end))
 
 -- so it is where the text is accepted, and else it is refused
 abbrev pub OwesRunning : (Owed : Accepted → List ℕ → Ending → Type 0) → List Operator → Options → (instants : Option ℕ) → ReadStop → (fetched : List (Result (List ℕ) ShelfError)) → Answer → Type 0

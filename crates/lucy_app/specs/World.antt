@@ -10,7 +10,7 @@ use Rattle.lucy_text.specs.declared.shelf.ShelfError.{ShelfError}
 use Rattle.lucy_text.specs.declared.shelf.ShelfError.TheVariants as shelf
 use Rattle.lucy_text.specs.Sources.{ReadStop, Unread, Read}
 use Rattle.lucy_command.specs.Commands.{Command}
-use Rattle.lucy_app.specs.Commands.{Wanted, files_of, input_of, ReadsSource}
+use Rattle.lucy_app.specs.Commands.{Wanted, files_of, most_input, ReadsSource}
 
 -- all that the top call is lent, with the operators of the host
 pub record World : Type 0 where
@@ -56,7 +56,7 @@ Fetches (w ∷ wanted) before after (fetched ∷ more) = (between : SeenShelf) �
 -- else no byte more was asked for
 pub record Meets (command : Command) (before after : World) (given : Given) : Type 0 where
   pub shelf : Fetches (files_of (Some command)) before.shelf after.shelf given.fetched
-  pub source : MatchOption (input_of (Some command)) ((given.taken ≡ []) × (given.stop ≡ Unread) × (after.source ≡ before.source))
+  pub source : MatchOption (most_input (Some command)) ((given.taken ≡ []) × (given.stop ≡ Unread) × (after.source ≡ before.source))
       (λ most. Read most before.source after.source given.taken given.stop)
   pub unread : (after.source ≡ before.source) ⊎ ReadsSource command before.operators given.fetched given.taken
   pub operators : given.operators ≡ before.operators

@@ -2,7 +2,7 @@
 ghost use Rattle.std.specs.Prelude.{◌≡◌, ◌≤◌, [], None, Some};
 ghost use Rattle.lucy_host.specs.Host.{Serves, lent};
 ghost use Rattle.lucy_command.specs.Named.{named, IsWithin};
-ghost use Rattle.lucy_app.specs.Commands.{files_of, input_of};
+ghost use Rattle.lucy_app.specs.Commands.{files_of, most_input};
 ghost use Rattle.lucy_app.specs.World.{world};
 ghost use Rattle.lucy_app.specs.Ends.{EndsSo};
 
@@ -44,7 +44,7 @@ pub(crate) fn carry_out<
         (world (S.seen shelf.old) (I.seen input.old) (O.seen out.old) (E.seen err.old) (lent host.now))
         (world (S.seen shelf.new) (I.seen input.new) (O.seen out.new) (E.seen err.new) (lent host.now)) result }
     ensures shelf { files_of (Some (named command.entry)) ≡ [] → shelf.new ≡ shelf.old }
-    ensures source { input_of (Some (named command.entry)) ≡ None → input.new ≡ input.old }
+    ensures source { most_input (Some (named command.entry)) ≡ None → input.new ≡ input.old }
     ensures quiet { result ≡ 0 → err.new ≡ err.old }
     ensures shelf_count { (S.seen shelf.old).faults ≤ (S.seen shelf.new).faults }
     ensures source_count { (I.seen input.old).faults ≤ (I.seen input.new).faults }

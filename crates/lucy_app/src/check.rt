@@ -4,7 +4,7 @@ ghost use Rattle.lucy_text.specs.Sources.{Unread};
 ghost use Rattle.lucy_front.specs.Inferring.{AreOptions};
 ghost use Rattle.lucy_app.specs.Check.{IsCheckOf, RefusesCheck};
 ghost use Rattle.lucy_app.specs.Programs.{OwesText, OwesPrint};
-ghost use Rattle.lucy_app.specs.Outcomes.{bytes_of, RefusesProgram, IsOutcome, Tellable};
+ghost use Rattle.lucy_app.specs.Outcomes.{bytes_of, RefusesProgram, IsOwedOutcome, Tellable};
 
 use crate::refusal::Refusal;
 use lucy_front::{Options, accept, report};
@@ -31,7 +31,7 @@ pub(crate) fn answer(
     options: &Options,
 ) -> Result<Vec<u8>, Refusal>
     requires { AreOptions options.now }
-    ensures outcome { IsOutcome (OwesText (RefusesCheck ops.now options.now) (OwesPrint (IsCheckOf ops.now options.now)) Unread (bytes_of fetched ∷ [])) result }
+    ensures outcome { IsOwedOutcome (OwesText (RefusesCheck ops.now options.now) (OwesPrint (IsCheckOf ops.now options.now)) Unread (bytes_of fetched ∷ [])) result }
     ensures tellable { IfErr result Tellable }
 {
     let text = fetched?;

@@ -7,7 +7,7 @@ ghost use Rattle.lucy_app.specs.Fields.{fields};
 ghost use Rattle.lucy_app.specs.Order.{IsVerdictLine, RefusesWord, RefusesFields, verdict_line};
 ghost use Rattle.lucy_text.specs.Sources.{ReadStop, Read};
 ghost use Rattle.lucy_app.specs.Owes.{OwesOrder};
-ghost use Rattle.lucy_app.specs.Outcomes.{RefusesInput, IsOutcome, Tellable};
+ghost use Rattle.lucy_app.specs.Outcomes.{RefusesInput, IsOwedOutcome, Tellable};
 
 use crate::cut::fields;
 use crate::input_refusal::InputCause;
@@ -65,7 +65,7 @@ fn verdict_on(alloc: Global, text: &[u8]) -> Result<Vec<u8>, Refusal>
 /// The line on all bytes of the source, read to its end or to one byte past the limit, or why there is none.
 pub(crate) fn answer<I: Source>(alloc: Global, input: &mut I) -> Result<Vec<u8>, Refusal>
     ensures outcome { (taken : List ℕ) × (stop : ReadStop) × Read (limit_number limit.OrderInput) (I.seen input.old) (I.seen input.new)
-        taken stop × IsOutcome (OwesOrder taken stop) result }
+        taken stop × IsOwedOutcome (OwesOrder taken stop) result }
     ensures tellable { IfErr result Tellable }
     ensures count { (I.seen input.old).faults ≤ (I.seen input.new).faults }
 {

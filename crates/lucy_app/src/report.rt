@@ -58,7 +58,7 @@ fn name_lines(
 /// The lines of each node, in order, of which the last is main.
 pub(crate) fn report(alloc: Global, placed: &Placed, typed: &Typed) -> Result<Vec<u8>, OutOfMemory>
     requires { IsTyped placed.now.nodes typed.now }
-    ensures { IfOk result (λ v. v.items ≡ spec.report placed.now.nodes typed.now) }
+    ensures { IfOk result (λ v. v.items ≡ spec.type_report placed.now.nodes typed.now) }
 {
     let mut out = Vec::new(alloc);
     let nodes = placed.nodes();

@@ -4,7 +4,7 @@ ghost use Rattle.lucy_text.specs.Sources.{Unread};
 ghost use Rattle.lucy_front.specs.Accepting.{RefusesSyntax};
 ghost use Rattle.lucy_app.specs.Show.{IsPrintOf};
 ghost use Rattle.lucy_app.specs.Programs.{OwesText, OwesPrint};
-ghost use Rattle.lucy_app.specs.Outcomes.{bytes_of, RefusesProgram, IsOutcome, Tellable};
+ghost use Rattle.lucy_app.specs.Outcomes.{bytes_of, RefusesProgram, IsOwedOutcome, Tellable};
 
 use crate::refusal::Refusal;
 use lucy_syntax::{parse, print};
@@ -25,7 +25,7 @@ pub(crate) fn answer(
     alloc: Global,
     fetched: Result<Vec<u8>, ShelfError>,
 ) -> Result<Vec<u8>, Refusal>
-    ensures outcome { IsOutcome (OwesText RefusesSyntax (OwesPrint IsPrintOf) Unread (bytes_of fetched ∷ [])) result }
+    ensures outcome { IsOwedOutcome (OwesText RefusesSyntax (OwesPrint IsPrintOf) Unread (bytes_of fetched ∷ [])) result }
     ensures tellable { IfErr result Tellable }
 {
     let text = fetched?;

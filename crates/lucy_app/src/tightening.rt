@@ -11,7 +11,7 @@ ghost use Rattle.lucy_app.specs.Check.{RefusesCheck};
 ghost use Rattle.lucy_app.specs.Programs.{OwesText};
 ghost use Rattle.lucy_app.specs.Tighten as spec;
 ghost use Rattle.lucy_app.specs.Tighten.{HasBuffer, OwesSize, OwesBuffer};
-ghost use Rattle.lucy_app.specs.Outcomes.{bytes_of, IsOutcome, Tellable, OwesNamed};
+ghost use Rattle.lucy_app.specs.Outcomes.{bytes_of, IsOwedOutcome, Tellable, OwesNamed};
 
 use crate::options::inferring;
 use crate::refusal::Refusal;
@@ -66,7 +66,7 @@ fn print_of(
     requires options { AreOptions options.now }
     requires accepted { (ops : List Operator) × (text : List ℕ) × IsAccepted ops options.now text accepted.now }
     requires there { (n : Node) × (slice_get accepted.now.placed.nodes node ≡ Some n) × (1 ≤ buffer) × (buffer ≤ length n.buffers) }
-    ensures outcome { IsOutcome (OwesSize accepted.now options.now node buffer) result }
+    ensures outcome { IsOwedOutcome (OwesSize accepted.now options.now node buffer) result }
     ensures tellable { IfErr result Tellable }
 {
     match tighten(alloc, accepted, options, node, buffer) {
@@ -89,7 +89,7 @@ fn buffer_of(
 ) -> Result<Vec<u8>, Refusal>
     requires options { AreOptions options.now }
     requires accepted { (ops : List Operator) × (text : List ℕ) × IsAccepted ops options.now text accepted.now }
-    ensures outcome { IsOutcome (OwesBuffer accepted.now options.now name.now buffer) result }
+    ensures outcome { IsOwedOutcome (OwesBuffer accepted.now options.now name.now buffer) result }
     ensures tellable { IfErr result Tellable }
 {
     let Some(node) = node_with(&accepted.placed, name, buffer) else {
@@ -108,7 +108,7 @@ fn text_of(
     buffer: u32,
 ) -> Result<Vec<u8>, Refusal>
     requires { AreOptions options.now }
-    ensures outcome { IsOutcome (OwesText (RefusesCheck ops.now options.now)
+    ensures outcome { IsOwedOutcome (OwesText (RefusesCheck ops.now options.now)
         (OwesNamed ops.now options.now name.now buffer) Unread (Ok text.now ∷ [])) result }
     ensures tellable { IfErr result Tellable }
 {
@@ -127,7 +127,7 @@ pub(crate) fn answer(
     words: TightenWords<'_>,
 ) -> Result<Vec<u8>, Refusal>
     requires { IsWithin (tighten_named words) }
-    ensures outcome { IsOutcome (OwesText (RefusesCheck ops.now (inferring_options words.entry.scale words.entry.lead))
+    ensures outcome { IsOwedOutcome (OwesText (RefusesCheck ops.now (inferring_options words.entry.scale words.entry.lead))
         (OwesNamed ops.now (inferring_options words.entry.scale words.entry.lead) words.entry.node.now words.entry.buffer)
         Unread (bytes_of fetched ∷ [])) result }
     ensures tellable { IfErr result Tellable }

@@ -2,7 +2,7 @@
 ghost use Rattle.std.specs.Prelude.{◌≡◌, ◌⊎◌, ◌≤◌, [], None, map, string_bytes};
 ghost use Rattle.lucy_host.specs.Host.{Serves, lent};
 ghost use Rattle.lucy_command.specs.Commands.{command_of};
-ghost use Rattle.lucy_app.specs.Commands.{files_of, input_of};
+ghost use Rattle.lucy_app.specs.Commands.{files_of, most_input};
 ghost use Rattle.lucy_app.specs.World.{world};
 ghost use Rattle.lucy_app.specs.Ends.{Ends};
 
@@ -96,7 +96,7 @@ pub fn lucy<
     // What isn't called is left alone: the shelf where no FILE is fetched, the source where the command reads none. Of commands that need
     // not read it `Ends` says so, by `Meets`.
     ensures shelf { files_of (command_of (map string_bytes words.now)) ≡ [] → shelf.new ≡ shelf.old }
-    ensures source { input_of (command_of (map string_bytes words.now)) ≡ None → input.new ≡ input.old }
+    ensures source { most_input (command_of (map string_bytes words.now)) ≡ None → input.new ≡ input.old }
     ensures quiet { result ≡ 0 → err.new ≡ err.old }
     // No count falls.
     ensures shelf_count { (S.seen shelf.old).faults ≤ (S.seen shelf.new).faults }

@@ -4,7 +4,7 @@ ghost use Rattle.lucy_text.specs.Sources.{Unread};
 ghost use Rattle.lucy_front.specs.Accepting.{RefusesText};
 ghost use Rattle.lucy_app.specs.Types.{IsReportOf};
 ghost use Rattle.lucy_app.specs.Programs.{OwesText, OwesPrint};
-ghost use Rattle.lucy_app.specs.Outcomes.{bytes_of, RefusesProgram, IsOutcome, Tellable};
+ghost use Rattle.lucy_app.specs.Outcomes.{bytes_of, RefusesProgram, IsOwedOutcome, Tellable};
 
 use crate::refusal::Refusal;
 use crate::report::report;
@@ -39,7 +39,7 @@ pub(crate) fn answer(
     fetched: Result<Vec<u8>, ShelfError>,
     ops: &Ops,
 ) -> Result<Vec<u8>, Refusal>
-    ensures outcome { IsOutcome (OwesText (RefusesText ops.now) (OwesPrint (IsReportOf ops.now)) Unread (bytes_of fetched ∷ [])) result }
+    ensures outcome { IsOwedOutcome (OwesText (RefusesText ops.now) (OwesPrint (IsReportOf ops.now)) Unread (bytes_of fetched ∷ [])) result }
     ensures tellable { IfErr result Tellable }
 {
     let text = fetched?;

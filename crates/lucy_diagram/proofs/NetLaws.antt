@@ -17,7 +17,7 @@ use Rattle.lucy_meaning.proofs.Tables.{IsLocal, entry_law, total_law}
 use Rattle.lucy_flat.specs.Instances.{words_in}
 use Rattle.lucy_output.specs.declared.output.OutputSpec.{OutputSpec}
 use Rattle.lucy_front.specs.Names.{of_one}
-use Rattle.lucy_front.specs.Scheduled.{output_of}
+use Rattle.lucy_front.specs.Scheduled.{main_output}
 use Rattle.lucy_front.specs.declared.accepted.Accepted.{Accepted}
 use Rattle.lucy_front.specs.declared.options.Options.{Options}
 use Rattle.lucy_front.specs.Accepting.{IsAccepted}
@@ -130,7 +130,7 @@ pub few_actors : (ops : List Operator) (o : Options) (text : List ℕ) (a : Acce
 few_actors ops o text a is =
     let flat = is.net.flat.flat in
     let last : ℕ = length a.placed.nodes - 1 in
-    let count = ap length is.outputs ∙ outputs_count (λ n. output_of n (table_at a.typed last) (words_in (slice_get a.clocks.items last))) (main_of a.placed.nodes) in
+    let count = ap length is.outputs ∙ outputs_count (λ n. main_output n (table_at a.typed last) (words_in (slice_get a.clocks.items last))) (main_of a.placed.nodes) in
     omega (arith, flat.count, flat.proper.few_actors, count)
 
 -- five pieces of a text

@@ -16,7 +16,7 @@ use Rattle.lucy_front.specs.declared.accepted.Accepted.{Accepted}
 use Rattle.lucy_front.specs.declared.refusal.Refusal.{Refusal}
 use Rattle.lucy_front.specs.declared.refusal.Refusal.TheVariants.{Syntax, Names, Types, Node, Cause, Limit as LimitPassed, OutOfMemory}
 use Rattle.lucy_front.specs.Accepting.{IsAccepted, Refuses}
-use Rattle.lucy_front.specs.Scheduled.{IsNetOf, RefusesNet, inputs_of, outputs_of}
+use Rattle.lucy_front.specs.Scheduled.{IsNetOf, RefusesNet, main_inputs, main_outputs}
 use Rattle.lucy_front.specs.OneAnswer.{AreAlike}
 use Rattle.lucy_front.proofs.OneAnswer.{text_proper, one_program, never_both, one_refusal}
 
@@ -103,6 +103,6 @@ accepted_once ops o text a b x y =
       same.1,
       same.2,
       net_one b.placed.nodes b.clocks.items (text_proper ops o text b.placed y.clocked.program.program) a.net b.net net y.net,
-      x.inputs ∙ ap (λ ns. inputs_of ns a.typed) nodes ∙ ap (inputs_of b.placed.nodes) same.1 ∙ sym y.inputs,
-      x.outputs ∙ ap (λ ns. outputs_of ns a.typed a.clocks.items) nodes ∙ ap (λ ts. outputs_of b.placed.nodes ts a.clocks.items) same.1 ∙ ap (outputs_of b.placed.nodes b.typed) same.2 ∙ sym y.outputs,
+      x.inputs ∙ ap (λ ns. main_inputs ns a.typed) nodes ∙ ap (main_inputs b.placed.nodes) same.1 ∙ sym y.inputs,
+      x.outputs ∙ ap (λ ns. main_outputs ns a.typed a.clocks.items) nodes ∙ ap (λ ts. main_outputs b.placed.nodes ts a.clocks.items) same.1 ∙ ap (main_outputs b.placed.nodes b.typed) same.2 ∙ sym y.outputs,
     )

@@ -29,7 +29,7 @@ use Rattle.lucy_inference.specs.declared.refusal.Uninferred.{Uninferred}
 use Rattle.lucy_inference.specs.declared.refusal.Uninferred.TheVariants as uninferred
 use Rattle.lucy_inference.specs.Refusals.{AreAlike as AreReasonsAlike}
 use Rattle.lucy_front.specs.Inferring.{IsShut, node_needs, IsUninferred}
-use Rattle.lucy_front.specs.Clocked.{AreFewNeeds, AreNodeWords, IsClocked, FailsCheck, AreItsNeeds, PassesLimit, RefusesNode}
+use Rattle.lucy_front.specs.Clocked.{AreFewNeeds, AreNodeWords, IsClocked, FailsCheck, AreItsNeeds, PassesNodeLimit, RefusesNode}
 use Rattle.lucy_front.specs.Clocking.{AreItsClocks, IsTold, HasNoClocks}
 use Rattle.lucy_front.specs.OneAnswer.{AreFaultsAlike}
 use Rattle.lucy_front.proofs.ClockedLaws.{check_told}
@@ -80,7 +80,7 @@ module _ (nodes : List PlacedNode) (above : List Signature) (n : PlacedNode) (pr
   fails_one : (e f : CheckFault) → FailsCheck above n e → FailsCheck above n f → e ≡ f
   fails_one e f p q = told_one p.0 p.1 q.1 e f p.2 q.2 p.3 q.3
 
-  limit_one : (o : Options) (l m : LimitOf) → PassesLimit o above n l → PassesLimit o above n m → l ≡ m
+  limit_one : (o : Options) (l m : LimitOf) → PassesNodeLimit o above n l → PassesNodeLimit o above n m → l ≡ m
   limit_one o l m (inl p) (inl q) = needs_one (needs_of above n) l m p.1 q.1
   limit_one o l m (inl p) (inr q) = absurd (needs_few above n l q.0 p.1)
   limit_one o l m (inr p) (inl q) = absurd (needs_few above n m p.0 q.1)
@@ -95,7 +95,7 @@ module _ (nodes : List PlacedNode) (above : List Signature) (n : PlacedNode) (pr
   limit_one o l m (inr (few, inr (inr p))) (inr (too, inr (inr q))) = uninferred_one o (uninferred.Limit l) (uninferred.Limit m) few p q
 
   -- a node that isn't well clocked passes no limit
-  fails_limit : (o : Options) (e : CheckFault) (l : LimitOf) → AreFewNeeds above n → FailsCheck above n e → IsTold e → PassesLimit o above n l → ⊥
+  fails_limit : (o : Options) (e : CheckFault) (l : LimitOf) → AreFewNeeds above n → FailsCheck above n e → IsTold e → PassesNodeLimit o above n l → ⊥
   fails_limit o e l few p told (inl q) = needs_few above n l few q.1
   fails_limit o e l few p told (inr (too, inl q)) = fails_few e l p q.1
   fails_limit o e l few p told (inr (too, inr (inl q))) = subst IsTold (fails_one e (fault.Limit q.0 l) p q.1) told
@@ -119,7 +119,7 @@ module _ (nodes : List PlacedNode) (above : List Signature) (n : PlacedNode) (pr
       by_kind (inl k) = h.0.1 k.0
       by_kind (inr k) = inference_kept (node_needs above n) o.scale o.lead c.words k.sizes e k.inferred h.1
 
-  clocked_limit : (o : Options) (c : NodeClock) (l : LimitOf) → IsClocked o above n c → PassesLimit o above n l → ⊥
+  clocked_limit : (o : Options) (c : NodeClock) (l : LimitOf) → IsClocked o above n c → PassesNodeLimit o above n l → ⊥
   clocked_limit o c l clocked (inl q) = needs_few above n l clocked.needs q.1
   clocked_limit o c l clocked (inr (few, inl q)) = handed_few clocked.its
     where
@@ -136,14 +136,14 @@ AreCausesAlike f g = f ≡ g
 
 module _ (nodes : List PlacedNode) (above : List Signature) (n : PlacedNode) (proper : IsProperNode nodes n) (ports : AreSignatures nodes above) (o : Options) (placed : PlacedProgram) (node : ℕ) where
   -- a node that has to be written and isn't is refused for nothing else
-  shut_limit : (l : LimitOf) → IsShut o n → PassesLimit o above n l → ⊥
+  shut_limit : (l : LimitOf) → IsShut o n → PassesNodeLimit o above n l → ⊥
   shut_limit l shut (inl q) = q.0 shut
   shut_limit l shut (inr (few, inl q)) = shut.1 q.0
   shut_limit l shut (inr (few, inr (inl q))) = shut.1 q.1.0
   shut_limit l shut (inr (few, inr (inr q))) = open_unshut o n q.0 shut
 
   -- nor is one that is inferred
-  uninferred_limit : (e : Uninferred) (l : LimitOf) → AreFewNeeds above n → IsUninferred o above n e → PassesLimit o above n l → AreReasonsAlike e (uninferred.Limit l)
+  uninferred_limit : (e : Uninferred) (l : LimitOf) → AreFewNeeds above n → IsUninferred o above n e → PassesNodeLimit o above n l → AreReasonsAlike e (uninferred.Limit l)
   uninferred_limit e l few h (inl q) = absurd (needs_few above n l few q.1)
   uninferred_limit e l few h (inr (too, inl q)) = absurd (h.0.1 q.0)
   uninferred_limit e l few h (inr (too, inr (inl q))) = absurd (h.0.1 q.1.0)
@@ -153,7 +153,7 @@ module _ (nodes : List PlacedNode) (above : List Signature) (n : PlacedNode) (pr
   told x e h = check_told o placed node x e above n h
 
   -- a node that is refused passes no limit
-  fault_limit : (f : NodeFault) (l : LimitOf) → RefusesNode o placed node f above n → PassesLimit o above n l → ⊥
+  fault_limit : (f : NodeFault) (l : LimitOf) → RefusesNode o placed node f above n → PassesNodeLimit o above n l → ⊥
   fault_limit (NotWritten s) l h k = shut_limit l h.1 k
   fault_limit (Rates x walk) l h k = uninferred_limit (uninferred.Rates walk) l h.0.1 h.1 k
   fault_limit (Clocks x shape diffs cycle) l h k = uninferred_limit (uninferred.Clocks shape diffs cycle) l h.0.1 h.1 k

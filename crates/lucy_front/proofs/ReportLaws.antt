@@ -15,7 +15,7 @@ use Rattle.lucy_types.specs.Tables.{table_at}
 use Rattle.lucy_need.specs.Meeting.{Assignment}
 use Rattle.lucy_clock.specs.declared.node_clock.NodeClock.{NodeClock}
 use Rattle.lucy_clock.specs.Clocks.{call_clock}
-use Rattle.lucy_front.specs.Report.{name_line, name_lines, buffer_line, buffer_lines, call_line, call_lines, node_lines, lines_of}
+use Rattle.lucy_front.specs.Report.{name_line, name_lines, buffer_line, buffer_lines, call_line, call_lines, node_lines, node_reports}
 
 -- what is left of a list from an entry on
 pub drop_at : {A : Type 0} (xs : List A) (i : ℕ) (x : A) → slice_get xs i ≡ Some x → drop i xs ≡ x ∷ drop (i + 1) xs
@@ -87,19 +87,19 @@ main_is nodes (n ∷ ns) i count is all h =
 -- one more node
 pub report_more : (all_nodes nodes : List PlacedNode) (tables : List (List Ty)) (clocks : List NodeClock) (i count : ℕ) (n : PlacedNode) (c : NodeClock) (a b all : List ℕ) → slice_get nodes i ≡ Some n → length tables ≡ length nodes →
     i < length clocks → c ≡ get_or clocks i c → count ≡ length nodes → b ≡ a ++ node_lines all_nodes (nat_eq (i + 1) count) n (table_at tables i) c →
-    a ++ lines_of all_nodes (drop i nodes) (drop i tables) (drop i clocks) ≡ all → b ++ lines_of all_nodes (drop (i + 1) nodes) (drop (i + 1) tables) (drop (i + 1) clocks) ≡ all
+    a ++ node_reports all_nodes (drop i nodes) (drop i tables) (drop i clocks) ≡ all → b ++ node_reports all_nodes (drop (i + 1) nodes) (drop (i + 1) tables) (drop (i + 1) clocks) ≡ all
 report_more all_nodes nodes tables clocks i count n c a b all at same l is counted more before =
     let h : i < length nodes = slice_get_within nodes i n at in
     let k : i < length tables = omega (arith, h, same) in
     let ts : List Ty = table_at tables i in
-    let rest : List ℕ = lines_of all_nodes (drop (i + 1) nodes) (drop (i + 1) tables) (drop (i + 1) clocks) in
+    let rest : List ℕ = node_reports all_nodes (drop (i + 1) nodes) (drop (i + 1) tables) (drop (i + 1) clocks) in
     let here : drop i nodes ≡ n ∷ drop (i + 1) nodes = drop_at nodes i n at in
     let there : drop i tables ≡ ts ∷ drop (i + 1) tables = drop_at tables i ts (table_found tables i k) in
     let of : drop i clocks ≡ c ∷ drop (i + 1) clocks = drop_read clocks i c l is in
     let main : Bool = nat_eq (length (drop (i + 1) nodes)) 0 in
-    let step : lines_of all_nodes (drop i nodes) (drop i tables) (drop i clocks) ≡ node_lines all_nodes main n ts c ++ rest =
-    ap (λ xs. lines_of all_nodes xs (drop i tables) (drop i clocks)) here ∙ ap (λ xs. lines_of all_nodes (n ∷ drop (i + 1) nodes) xs (drop i clocks)) there
-    ∙ ap (λ xs. lines_of all_nodes (n ∷ drop (i + 1) nodes) (ts ∷ drop (i + 1) tables) xs) of in
+    let step : node_reports all_nodes (drop i nodes) (drop i tables) (drop i clocks) ≡ node_lines all_nodes main n ts c ++ rest =
+    ap (λ xs. node_reports all_nodes xs (drop i tables) (drop i clocks)) here ∙ ap (λ xs. node_reports all_nodes (n ∷ drop (i + 1) nodes) xs (drop i clocks)) there
+    ∙ ap (λ xs. node_reports all_nodes (n ∷ drop (i + 1) nodes) (ts ∷ drop (i + 1) tables) xs) of in
     let line : b ≡ a ++ node_lines all_nodes main n ts c = more ∙ ap (λ m. a ++ node_lines all_nodes m n ts c) (main_is nodes _ i count refl counted h) in
     line_more a b (node_lines all_nodes main n ts c) rest all line (ap (λ u. a ++ u) (sym step) ∙ before)
 

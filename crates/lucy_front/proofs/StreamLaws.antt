@@ -13,7 +13,7 @@ use Rattle.lucy_flat.specs.Instances.{words_in}
 use Rattle.lucy_front.specs.declared.options.Options.{Options}
 use Rattle.lucy_front.specs.Clocked.{AreClocksOf}
 use Rattle.lucy_front.specs.Names.{of_one, param_places}
-use Rattle.lucy_front.specs.Scheduled.{input_of, output_of, inputs_of, outputs_of}
+use Rattle.lucy_front.specs.Scheduled.{main_input, main_output, main_inputs, main_outputs}
 use Rattle.lucy_front.proofs.ReportLaws.{table_found}
 
 -- the parameters are places of their node
@@ -44,17 +44,17 @@ module _ (nodes : List PlacedNode) (tables : List (List Ty)) (last : ℕ) (main 
   table_is : table_at tables (length tables - 1) ≡ table_at tables (length nodes - 1)
   table_is = ap (table_at tables) (same_last ∙ last_is)
 
-  pub inputs_are : (places : List ℕ) → places ≡ param_places main → map (input_of main (table_at tables (length tables - 1))) places ≡ inputs_of nodes tables
+  pub inputs_are : (places : List ℕ) → places ≡ param_places main → map (main_input main (table_at tables (length tables - 1))) places ≡ main_inputs nodes tables
   inputs_are places is =
-      ap (λ t. map (input_of main t) places) table_is ∙ ap (map (input_of main (table_at tables (length nodes - 1)))) is ∙ ap (of_one (λ n. map (input_of n (table_at tables (length nodes - 1))) (param_places n))) (sym main_is)
+      ap (λ t. map (main_input main t) places) table_is ∙ ap (map (main_input main (table_at tables (length nodes - 1)))) is ∙ ap (of_one (λ n. map (main_input n (table_at tables (length nodes - 1))) (param_places n))) (sym main_is)
 
   pub outputs_are : (clocks : List NodeClock) (clock : NodeClock) (places : List ℕ) → slice_get clocks last ≡ Some clock → places ≡ main.results →
-      map (output_of main (table_at tables (length tables - 1)) clock.words) places ≡ outputs_of nodes tables clocks
+      map (main_output main (table_at tables (length tables - 1)) clock.words) places ≡ main_outputs nodes tables clocks
   outputs_are clocks clock places at is =
       let words : words_in (slice_get clocks (length nodes - 1)) ≡ clock.words = ap (λ i. words_in (slice_get clocks i)) (sym last_is) ∙ ap words_in at in
-      ap (λ t. map (output_of main t clock.words) places) table_is ∙ ap (map (output_of main (table_at tables (length nodes - 1)) clock.words)) is
-      ∙ ap (λ w. map (output_of main (table_at tables (length nodes - 1)) w) main.results) (sym words)
-      ∙ ap (of_one (λ n. map (output_of n (table_at tables (length nodes - 1)) (words_in (slice_get clocks (length nodes - 1)))) n.results)) (sym main_is)
+      ap (λ t. map (main_output main t clock.words) places) table_is ∙ ap (map (main_output main (table_at tables (length nodes - 1)) clock.words)) is
+      ∙ ap (λ w. map (main_output main (table_at tables (length nodes - 1)) w) main.results) (sym words)
+      ∙ ap (of_one (λ n. map (main_output n (table_at tables (length nodes - 1)) (words_in (slice_get clocks (length nodes - 1)))) n.results)) (sym main_is)
 
 -- each place of a clocked node has a word
 pub words_past : {o : Options} (nodes : List PlacedNode) (clocks : List NodeClock) (i : ℕ) (n : PlacedNode) (clock : NodeClock) → AreClocksOf o nodes clocks → slice_get nodes i ≡ Some n → slice_get clocks i ≡ Some clock →

@@ -18,8 +18,8 @@ use Rattle.lucy_front.specs.declared.accepted.Accepted.{Accepted}
 use Rattle.lucy_front.specs.declared.options.Options.{Options}
 use Rattle.lucy_front.specs.declared.refusal.Refusal.{Refusal}
 use Rattle.lucy_front.specs.declared.refusal.Refusal.TheVariants.{Syntax, Names, Types, Node, Limit as LimitPassed, OutOfMemory}
-use Rattle.lucy_front.specs.Clocked.{AreClocksOf, PassesLimit, RefusesNode, IsUnclocked}
-use Rattle.lucy_front.specs.Scheduled.{inputs_of, outputs_of, IsNetOf, RefusesNet}
+use Rattle.lucy_front.specs.Clocked.{AreClocksOf, PassesNodeLimit, RefusesNode, IsUnclocked}
+use Rattle.lucy_front.specs.Scheduled.{main_inputs, main_outputs, IsNetOf, RefusesNet}
 
 -- the text has this tree, whose names are good where the host has these operators, and these are its places
 pub record IsPlacedText (ops : List Operator) (text : List ℕ) (placed : PlacedProgram) : Type 0 where
@@ -43,8 +43,8 @@ pub record IsAccepted (ops : List Operator) (o : Options) (text : List ℕ) (a :
   pub clocked : IsClockedText ops o text a.placed a.typed a.clocks.items
   pub net : IsNetOf a.placed.nodes a.clocks.items a.net
   pub schedule : IsScheduleOf a.net a.schedule
-  pub inputs : a.inputs.items ≡ inputs_of a.placed.nodes a.typed
-  pub outputs : a.outputs.items ≡ outputs_of a.placed.nodes a.typed a.clocks.items
+  pub inputs : a.inputs.items ≡ main_inputs a.placed.nodes a.typed
+  pub outputs : a.outputs.items ≡ main_outputs a.placed.nodes a.typed a.clocks.items
 
 -- the text has no tree, and is refused so; a limit and want of memory are told as such
 abbrev pub RefusesSyntax : (text : List ℕ) → Refusal → Type 0
@@ -71,7 +71,7 @@ RefusesPhases ops o text (Node placed node fault) =
 RefusesPhases ops o text (LimitPassed l) =
     RefusesText ops text (LimitPassed l)
     ⊎ ((placed : PlacedProgram) × (tables : List (List Ty)) × IsTypedText ops text placed tables
-    × (node : ℕ) × IsUnclocked o placed.nodes node (λ above n. PassesLimit o above n l))
+    × (node : ℕ) × IsUnclocked o placed.nodes node (λ above n. PassesNodeLimit o above n l))
 RefusesPhases ops o text OutOfMemory = Unit {0}
 RefusesPhases ops o text refusal = RefusesText ops text refusal
 

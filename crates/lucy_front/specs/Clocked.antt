@@ -58,8 +58,8 @@ FailsCheck above n e = IsWritten n × (words : List Bits) × AreNodeWords n word
 
 -- the limit that a node passes, unless it has to be written and isn't: one of its needs, else one of the words that it hands down,
 -- of the checker or of inference
-abbrev pub PassesLimit : Options → List Signature → PlacedNode → Limit → Type 0
-PassesLimit o above n l =
+abbrev pub PassesNodeLimit : Options → List Signature → PlacedNode → Limit → Type 0
+PassesNodeLimit o above n l =
     ((IsShut o n → ⊥) × RefusesNeeds (needs_of above n) (error.Limit l))
     ⊎ (AreFewNeeds above n × ((IsWritten n × RefusesWords n (error.Limit l))
     ⊎ ((need : ℕ) × FailsCheck above n (fault.Limit need l)) ⊎ IsUninferred o above n (uninferred.Limit l)))

@@ -20,7 +20,7 @@ use Rattle.lucy_front.specs.declared.fault.Unclocked.{Unclocked}
 use Rattle.lucy_front.specs.declared.refusal.Refusal.{Refusal}
 use Rattle.lucy_front.specs.declared.refusal.Refusal.TheVariants as refusal
 use Rattle.lucy_front.specs.Inferring.{IsInferred}
-use Rattle.lucy_front.specs.Clocked.{AreNodeWords, PassesLimit, RefusesNode, IsUnclocked}
+use Rattle.lucy_front.specs.Clocked.{AreNodeWords, PassesNodeLimit, RefusesNode, IsUnclocked}
 
 -- where a node has no needs, or no words, for this reason
 abbrev pub clock_fault : ClockError → NoClocks
@@ -43,7 +43,7 @@ check_fault needs e = Fault (Check needs e)
 -- why a node with these signatures above it has no clocks
 abbrev pub HasNoClocks : Options → PlacedProgram → (node : ℕ) → List Signature → PlacedNode → NoClocks → Type 0
 HasNoClocks o placed node above n (Fault fault) = RefusesNode o placed node fault above n
-HasNoClocks o placed node above n (Limit l) = PassesLimit o above n l
+HasNoClocks o placed node above n (Limit l) = PassesNodeLimit o above n l
 HasNoClocks o placed node above n OutOfMemory = Unit {0}
 
 -- the first node that has no clocks

@@ -69,13 +69,13 @@ node_lines nodes main n ts c =
     ++ (buffer_lines n w 1 n.buffers c.sizes ++ call_lines nodes n w 1 n.calls))
 
 -- the lines of nodes, of all that there are; main has none behind it
-abbrev pub lines_of : List PlacedNode → List PlacedNode → List (List Ty) → List NodeClock → List ℕ
-lines_of nodes (n ∷ ns) (ts ∷ tables) (c ∷ clocks) = node_lines nodes (length ns == 0) n ts c ++ lines_of nodes ns tables clocks
-lines_of nodes ns tables clocks = []
+abbrev pub node_reports : List PlacedNode → List PlacedNode → List (List Ty) → List NodeClock → List ℕ
+node_reports nodes (n ∷ ns) (ts ∷ tables) (c ∷ clocks) = node_lines nodes (length ns == 0) n ts c ++ node_reports nodes ns tables clocks
+node_reports nodes ns tables clocks = []
 
 -- the report of a program
 abbrev pub report : List PlacedNode → List (List Ty) → List NodeClock → List ℕ
-report nodes tables clocks = lines_of nodes nodes tables clocks
+report nodes tables clocks = node_reports nodes nodes tables clocks
 
 -- what a report asks of a program: each node has types, and clocks with a size for each buffer
 pub record IsReportable (nodes : List PlacedNode) (tables : List (List Ty)) (clocks : List NodeClock) : Type 0 where

@@ -32,22 +32,22 @@ abbrev pub held_at : List Ty → ℕ → DataType
 held_at types place = held (unwrap_or (at_one types place) ty.Int)
 
 -- an input of main: the place's name and the type of its values
-abbrev pub input_of : PlacedNode → List Ty → ℕ → InputSpec
-input_of main types place = record { name = place_name main place; holds = held_at types place }
+abbrev pub main_input : PlacedNode → List Ty → ℕ → InputSpec
+main_input main types place = record { name = place_name main place; holds = held_at types place }
 
 -- an output of main: the place's name, the type of its values, and its word
-abbrev pub output_of : PlacedNode → List Ty → List Bits → ℕ → OutputSpec
-output_of main types words place = record { name = place_name main place; holds = held_at types place; word = assigned words place }
+abbrev pub main_output : PlacedNode → List Ty → List Bits → ℕ → OutputSpec
+main_output main types words place = record { name = place_name main place; holds = held_at types place; word = assigned words place }
 
 -- the inputs of a program: one for each parameter of main, its last node, in order
-abbrev pub inputs_of : List PlacedNode → List (List Ty) → List InputSpec
-inputs_of nodes tables = of_one (λ main. map (input_of main (table_at tables (length nodes - 1))) (param_places main)) (main_of nodes)
+abbrev pub main_inputs : List PlacedNode → List (List Ty) → List InputSpec
+main_inputs nodes tables = of_one (λ main. map (main_input main (table_at tables (length nodes - 1))) (param_places main)) (main_of nodes)
 
 -- the outputs of a program: one for each result of main, in order
-abbrev pub outputs_of : List PlacedNode → List (List Ty) → List NodeClock → List OutputSpec
-outputs_of nodes tables clocks =
+abbrev pub main_outputs : List PlacedNode → List (List Ty) → List NodeClock → List OutputSpec
+main_outputs nodes tables clocks =
     let last = length nodes - 1 in
-    of_one (λ main. map (output_of main (table_at tables last) (words_in (slice_get clocks last))) main.results) (main_of nodes)
+    of_one (λ main. map (main_output main (table_at tables last) (words_in (slice_get clocks last))) main.results) (main_of nodes)
 
 -- the program's flat net, within its limits
 pub record IsNetOf (nodes : List PlacedNode) (clocks : List NodeClock) (net : Net) : Type 0 where

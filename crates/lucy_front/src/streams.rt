@@ -28,7 +28,7 @@ fn input_at(
     requires main { 0 < length typed.now }
     requires first { 1 ≤ place }
     requires last { place ≤ length (table_at typed.now (length typed.now - 1)) }
-    ensures { IfOk result (λ i. i ≡ spec.input_of main.now (table_at typed.now (length typed.now - 1)) place) }
+    ensures { IfOk result (λ i. i ≡ spec.main_input main.now (table_at typed.now (length typed.now - 1)) place) }
 {
     Ok(InputSpec {
         name: place_name(alloc, main, place)?,
@@ -48,7 +48,7 @@ fn output_at(
     requires first { 1 ≤ place }
     requires last { place ≤ length (table_at typed.now (length typed.now - 1)) }
     requires word { place < length words.now }
-    ensures { IfOk result (λ o. o ≡ spec.output_of main.now (table_at typed.now (length typed.now - 1)) words.now place) }
+    ensures { IfOk result (λ o. o ≡ spec.main_output main.now (table_at typed.now (length typed.now - 1)) words.now place) }
 {
     Ok(OutputSpec {
         name: place_name(alloc, main, place)?,
@@ -67,7 +67,7 @@ fn inputs_at(
     requires main { 0 < length typed.now }
     requires all { length (table_at typed.now (length typed.now - 1)) ≡ length main.now.places }
     requires there { ArePlaces main.now places.now }
-    ensures { IfOk result (λ v. v.items ≡ map (spec.input_of main.now (table_at typed.now (length typed.now - 1))) places.now) }
+    ensures { IfOk result (λ v. v.items ≡ map (spec.main_input main.now (table_at typed.now (length typed.now - 1))) places.now) }
 {
     let mut inputs = Vec::new(alloc);
     'each: for place in places {
@@ -88,7 +88,7 @@ fn outputs_at(
     requires all { length (table_at typed.now (length typed.now - 1)) ≡ length main.now.places }
     requires words { length main.now.places < length words.now }
     requires there { ArePlaces main.now places.now }
-    ensures { IfOk result (λ v. v.items ≡ map (spec.output_of main.now (table_at typed.now (length typed.now - 1)) words.now) places.now) }
+    ensures { IfOk result (λ v. v.items ≡ map (spec.main_output main.now (table_at typed.now (length typed.now - 1)) words.now) places.now) }
 {
     let mut outputs = Vec::new(alloc);
     'each: for place in places {
@@ -104,7 +104,7 @@ pub(crate) fn inputs(
     typed: &Typed,
 ) -> Result<Vec<InputSpec>, OutOfMemory>
     requires { IsTyped placed.now.nodes typed.now }
-    ensures { IfOk result (λ v. v.items ≡ spec.inputs_of placed.now.nodes typed.now) }
+    ensures { IfOk result (λ v. v.items ≡ spec.main_inputs placed.now.nodes typed.now) }
 {
     let main = placed.node(placed.nodes() - 1);
     let places = param_places(alloc, main.params)?;
@@ -120,7 +120,7 @@ pub(crate) fn outputs(
 ) -> Result<Vec<OutputSpec>, OutOfMemory>
     requires typed { IsTyped placed.now.nodes typed.now }
     requires clocks { (o : Choices) × AreClocksOf o placed.now.nodes clocks.now }
-    ensures { IfOk result (λ v. v.items ≡ spec.outputs_of placed.now.nodes typed.now clocks.now) }
+    ensures { IfOk result (λ v. v.items ≡ spec.main_outputs placed.now.nodes typed.now clocks.now) }
 {
     let last = placed.nodes() - 1;
     let main = placed.node(last);

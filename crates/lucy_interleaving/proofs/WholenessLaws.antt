@@ -23,7 +23,7 @@ use Rattle.lucy_results.specs.Running.{HasSchedule}
 use Rattle.lucy_front.specs.declared.accepted.Accepted.{Accepted}
 use Rattle.lucy_front.specs.declared.options.Options.{Options}
 use Rattle.lucy_front.specs.Names.{of_one}
-use Rattle.lucy_front.specs.Scheduled.{output_of, outputs_of}
+use Rattle.lucy_front.specs.Scheduled.{main_output, main_outputs}
 use Rattle.lucy_front.specs.Accepting.{IsAccepted}
 use Rattle.lucy_host.specs.Operators.{Operator}
 
@@ -34,17 +34,17 @@ scheduled ops o text a is = record { net = a.net; events = events_at a.schedule;
 
 -- an output's word is that of its result
 pub output_word : (nodes : List PlacedNode) (tables : List (List Ty)) (clocks : List NodeClock) (i : ℕ) (output : OutputSpec) →
-    slice_get (outputs_of nodes tables clocks) i ≡ Some output →
+    slice_get (main_outputs nodes tables clocks) i ≡ Some output →
     slice_get (result_words nodes clocks) i ≡ Some output.word
 output_word nodes tables clocks i output e = from_main (main_of nodes) e
   where
     from_main : (o : Option PlacedNode) → slice_get (of_one (λ main. map
-        (output_of main (table_at tables (length nodes - 1)) (words_in (slice_get clocks (length nodes - 1)))) main.results) o) i
+        (main_output main (table_at tables (length nodes - 1)) (words_in (slice_get clocks (length nodes - 1)))) main.results) o) i
         ≡ Some output →
         slice_get (map (main_word nodes clocks) (results_in o)) i ≡ Some output.word
     from_main None f = absurd (cc f)
     from_main (Some main) f =
-        let made : ℕ → OutputSpec = output_of main (table_at tables (length nodes - 1)) (words_in (slice_get clocks (length nodes - 1))) in
+        let made : ℕ → OutputSpec = main_output main (table_at tables (length nodes - 1)) (words_in (slice_get clocks (length nodes - 1))) in
         let place = mapped made (slice_get main.results i) output (sym (slice_get-map made main.results i) ∙ f) in
         slice_get-map (main_word nodes clocks) main.results i ∙ ap (option_map (main_word nodes clocks)) place.1
         ∙ ap (λ (x : OutputSpec). Some x.word) place.2

@@ -2,7 +2,7 @@
 use Rattle.std.proofs.Common.{◌≡◌, ℕ, ◌-◌, ◌^◌, pos, negsuc, List, [], ◌∷◌, codes, refl}
 use Rattle.std.specs.Fmt.{digits}
 use Rattle.std.specs.Int.{int_wrap}
-use Rattle.lucy_make.specs.Text.{made_text, item_lines}
+use Rattle.lucy_make.specs.Text.{made_text, made_lines}
 use Rattle.lucy_make.specs.Figures.{sum_of}
 
 four : List ℕ
@@ -13,8 +13,8 @@ made_four : made_text 4 ≡ four
 unfolding digits four
 made_four = refl
 
-two_items : item_lines 2 ≡ codes "x 1\nx 2\n"
-unfolding digits item_lines
+two_items : made_lines 2 ≡ codes "x 1\nx 2\n"
+unfolding digits made_lines
 two_items = refl
 
 -- the greatest number and one more are the least

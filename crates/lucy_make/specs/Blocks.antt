@@ -24,12 +24,12 @@ pub record IsTold (p : Program) (items : List ItemOf) (horizon count : ℕ) (sum
   pub summed : sum ≡ sum_of (first_to p (values p items) horizon)
 
 -- a course before its first block, of some program that can be run by operators of these kinds
-abbrev pub IsFirst : List HostKind → (now : SeenSource) → CourseView → Type 0
-IsFirst kinds now c = (p : Program) × (first : SeenSource) × CanBeRunInBlocks p × IsAlong p first [] now c × (c.horizon ≡ 0) × (kinds ≡ p.kinds)
+abbrev pub IsBeforeFirst : List HostKind → (now : SeenSource) → CourseView → Type 0
+IsBeforeFirst kinds now c = (p : Program) × (first : SeenSource) × CanBeRunInBlocks p × IsAlong p first [] now c × (c.horizon ≡ 0) × (kinds ≡ p.kinds)
 
 -- it was run to its last block, and main's first result was told
-abbrev pub Tells : (before now : SeenSource) (old new : CourseView) (count : ℕ) (sum : ℤ) → Type 0
-Tells before now old new count sum =
+abbrev pub TellsFirst : (before now : SeenSource) (old new : CourseView) (count : ℕ) (sum : ℤ) → Type 0
+TellsFirst before now old new count sum =
     (p : Program) (first : SeenSource) → CanBeRunInBlocks p → IsAlong p first [] before old → old.horizon ≡ 0 →
     (all : List ItemOf) × IsAlong p first all now new × HasStopped new × IsTold p all new.horizon count sum
 

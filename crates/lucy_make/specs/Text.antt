@@ -27,10 +27,10 @@ abbrev pub made_text : (stages : ℕ) → List ℕ
 made_text stages = codes "let node made x = y" ++ (decimal stages ++ (codes " where rec\n" ++ stage_lines stages))
 
 -- the lines of the first items, of which each has its number as its value
-unfoldable pub item_lines : (items : ℕ) → List ℕ
-item_lines zero = []
-item_lines (suc n) = item_lines n ++ (codes "x " ++ (decimal (suc n) ++ codes "\n"))
+unfoldable pub made_lines : (items : ℕ) → List ℕ
+made_lines zero = []
+made_lines (suc n) = made_lines n ++ (codes "x " ++ (decimal (suc n) ++ codes "\n"))
 
 -- the input has a thousand items
 unfoldable pub made_input : List ℕ
-made_input = item_lines 1000
+made_input = made_lines 1000

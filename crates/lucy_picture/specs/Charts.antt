@@ -40,8 +40,8 @@ abbrev pub named_places : PlacedNode → List ℕ
 named_places n = named_from 1 n.places
 
 -- a stream, with the marks of its word
-abbrev pub row_of : Assignment → (shown : ℕ) → ℕ → Row
-row_of w shown p = record { place = p; marks = marks_of (w p) shown }
+abbrev pub chart_row : Assignment → (shown : ℕ) → ℕ → Row
+chart_row w shown p = record { place = p; marks = marks_of (w p) shown }
 
 -- at this instant as many items wait as this size, and at none before
 pub record IsFirstFull (write read : Bits) (size at : ℕ) : Type 0 where

@@ -7,7 +7,7 @@ ghost use Rattle.lucy_need.specs.Meeting.{assigned};
 ghost use Rattle.lucy_clock.specs.declared.node_clock.NodeClock.{NodeClock as Clock};
 ghost use Rattle.lucy_front.specs.declared.options.Options.{Options as Choices};
 ghost use Rattle.lucy_front.specs.Accepting.{IsAccepted};
-ghost use Rattle.lucy_picture.specs.Charts.{row_of, named_places, AreFills};
+ghost use Rattle.lucy_picture.specs.Charts.{chart_row, named_places, AreFills};
 ghost use Rattle.lucy_picture.specs.Drawn.{IsDrawn};
 
 use crate::fill::{Fill, fills};
@@ -36,7 +36,7 @@ fn drawn(
 ) -> Result<Chart, OutOfMemory>
     requires proper { (above : List Node) × IsProperNode above node.now }
     requires drawn { IsDrawn node.now clock.now }
-    ensures rows { IfOk result (λ t. t.rows.items ≡ map (row_of (assigned clock.now.words) shown) (named_places node.now)) }
+    ensures rows { IfOk result (λ t. t.rows.items ≡ map (chart_row (assigned clock.now.words) shown) (named_places node.now)) }
     ensures fills { IfOk result (λ t. AreFills node.now clock.now shown t.fills.items) }
 {
     let places = named_places(alloc, node)?;
@@ -55,7 +55,7 @@ pub fn chart_of(
     requires accepted { (ops : List Operator) × (o : Choices) × (text : List ℕ) × IsAccepted ops o text accepted.now }
     requires node { node < length accepted.now.placed.nodes }
     ensures rows { (n : Node) (c : Clock) → slice_get accepted.now.placed.nodes node ≡ Some n →
-        slice_get accepted.now.clocks.items node ≡ Some c → IfOk result (λ t. t.rows.items ≡ map (row_of (assigned c.words) shown) (named_places n)) }
+        slice_get accepted.now.clocks.items node ≡ Some c → IfOk result (λ t. t.rows.items ≡ map (chart_row (assigned c.words) shown) (named_places n)) }
     ensures fills { (n : Node) (c : Clock) → slice_get accepted.now.placed.nodes node ≡ Some n →
         slice_get accepted.now.clocks.items node ≡ Some c → IfOk result (λ t. AreFills n c shown t.fills.items) }
 {

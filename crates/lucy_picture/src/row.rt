@@ -2,7 +2,7 @@
 ghost use Rattle.std.specs.Prelude.{◌≡◌, ◌<◌, ◌∷◌, ◌++◌, [], length, map, IfOk, OnOk};
 ghost use Rattle.std.specs.List.{AllByRecursion};
 ghost use Rattle.lucy_need.specs.Meeting.{assigned};
-ghost use Rattle.lucy_picture.specs.Charts.{row_of};
+ghost use Rattle.lucy_picture.specs.Charts.{chart_row};
 
 use crate::marks::Marks;
 use crate::words::word_of;
@@ -27,7 +27,7 @@ fn push(rows: &mut Vec<Row>, row: Row) -> Result<(), AllocError>
 // The row of a place.
 fn row_at(alloc: Global, words: &[Word], place: u32, shown: u64) -> Result<Row, OutOfMemory>
     requires { place < length words.now }
-    ensures { IfOk result (λ row. row ≡ row_of (assigned words.now) shown place) }
+    ensures { IfOk result (λ row. row ≡ chart_row (assigned words.now) shown place) }
 {
     let marks = Marks::new(alloc, word_of(words, place), shown)?;
     Ok(Row { place, marks })
@@ -41,7 +41,7 @@ pub(crate) fn rows(
     shown: u64,
 ) -> Result<Vec<Row>, OutOfMemory>
     requires { AllByRecursion (λ p. p < length words.now) places.now }
-    ensures { IfOk result (λ v. v.items ≡ map (row_of (assigned words.now) shown) places.now) }
+    ensures { IfOk result (λ v. v.items ≡ map (chart_row (assigned words.now) shown) places.now) }
 {
     let mut rows = Vec::new(alloc);
     'each: for i in 0..places.len() {

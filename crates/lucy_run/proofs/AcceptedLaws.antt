@@ -22,23 +22,23 @@ use Rattle.lucy_front.specs.declared.accepted.Accepted.{Accepted}
 use Rattle.lucy_front.specs.declared.options.Options.{Options}
 use Rattle.lucy_front.specs.Accepting.{IsAccepted}
 use Rattle.lucy_front.specs.Names.{of_one, param_places}
-use Rattle.lucy_front.specs.Scheduled.{input_of, output_of}
+use Rattle.lucy_front.specs.Scheduled.{main_input, main_output}
 use Rattle.lucy_front.proofs.OneAnswer.{text_proper}
 use Rattle.std.proofs.lemmas.List.FromFn.{length-map-range_with_len}
 
-inputs_counted : (main : Option PlacedNode) (types : List Ty) → length (of_one (λ n. map (input_of n types) (param_places n)) main) ≡ params_in main
+inputs_counted : (main : Option PlacedNode) (types : List Ty) → length (of_one (λ n. map (main_input n types) (param_places n)) main) ≡ params_in main
 inputs_counted None types = refl
-inputs_counted (Some n) types = length-map-range_with_len (input_of n types) 1 n.params
+inputs_counted (Some n) types = length-map-range_with_len (main_input n types) 1 n.params
 
-outputs_counted : (main : Option PlacedNode) (types : List Ty) (words : List Bits) → length (of_one (λ n. map (output_of n types words) n.results) main) ≡ length (results_in main)
+outputs_counted : (main : Option PlacedNode) (types : List Ty) (words : List Bits) → length (of_one (λ n. map (main_output n types words) n.results) main) ≡ length (results_in main)
 outputs_counted None types words = refl
-outputs_counted (Some n) types words = length-map n.results (output_of n types words)
+outputs_counted (Some n) types words = length-map n.results (main_output n types words)
 
 -- of which each has the word of its result
 outputs_words : (main : Option PlacedNode) (types : List Ty) (words : List Bits) →
-    map (λ (o : OutputSpec). o.word) (of_one (λ n. map (output_of n types words) n.results) main) ≡ map (assigned words) (results_in main)
+    map (λ (o : OutputSpec). o.word) (of_one (λ n. map (main_output n types words) n.results) main) ≡ map (assigned words) (results_in main)
 outputs_words None types words = refl
-outputs_words (Some n) types words = map-map (λ (o : OutputSpec). o.word) (output_of n types words) n.results
+outputs_words (Some n) types words = map-map (λ (o : OutputSpec). o.word) (main_output n types words) n.results
 
 few_in : (nodes : List PlacedNode) (main : Option PlacedNode) → AreProper nodes → slice_get nodes (length nodes - 1) ≡ main → params_in main < 2 ^ 32
 few_in nodes None proper e = omega arith

@@ -6,7 +6,7 @@ ghost use Rattle.lucy_need.specs.Meeting.{assigned};
 ghost use Rattle.lucy_clock.specs.declared.node_clock.NodeClock.{NodeClock as Clock};
 ghost use Rattle.lucy_front.specs.declared.options.Options.{Options as Choices};
 ghost use Rattle.lucy_front.specs.Accepting.{IsAccepted};
-ghost use Rattle.lucy_picture.specs.Charts.{row_of, named_places, AreFills};
+ghost use Rattle.lucy_picture.specs.Charts.{chart_row, named_places, AreFills};
 ghost use Rattle.lucy_svg.specs.Flows.{AreFlows};
 
 use crate::flow::{Flow, flows};
@@ -32,7 +32,7 @@ pub fn drawing_of(
     requires accepted { (ops : List Operator) × (o : Choices) × (text : List ℕ) × IsAccepted ops o text accepted.now }
     requires node { node < length accepted.now.placed.nodes }
     ensures rows { (n : Node) (c : Clock) → slice_get accepted.now.placed.nodes node ≡ Some n →
-        slice_get accepted.now.clocks.items node ≡ Some c → IfOk result (λ d. d.chart.rows.items ≡ map (row_of (assigned c.words) shown) (named_places n)) }
+        slice_get accepted.now.clocks.items node ≡ Some c → IfOk result (λ d. d.chart.rows.items ≡ map (chart_row (assigned c.words) shown) (named_places n)) }
     ensures fills { (n : Node) (c : Clock) → slice_get accepted.now.placed.nodes node ≡ Some n →
         slice_get accepted.now.clocks.items node ≡ Some c → IfOk result (λ d. AreFills n c shown d.chart.fills.items) }
     ensures flows { (n : Node) (c : Clock) → slice_get accepted.now.placed.nodes node ≡ Some n →

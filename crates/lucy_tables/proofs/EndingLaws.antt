@@ -11,7 +11,7 @@ use Rattle.lucy_app.specs.Ends.{Tells, Declines, Ends}
 use Rattle.lucy_output.proofs.SinkLaws.{unwritten}
 use Rattle.lucy_tables.specs.Words.{TableWords, IsCut}
 use Rattle.lucy_tables.specs.Ends.{Begins, AreRefused, EndsTabled}
-use Rattle.lucy_tables.specs.Seen.{refusal_answer}
+use Rattle.lucy_tables.specs.Seen.{loading_answer}
 use Rattle.lucy_tables.specs.declared.refusal.Refusal.{Refusal}
 use Rattle.lucy_tables.specs.declared.refusal.Refusal.TheVariants.{Words, ReadFault, BadNumber, Limit, OutOfMemory}
 use Rattle.lucy_tables.proofs.WordLaws.{one_cut, kept_refused, not_both}
@@ -26,7 +26,7 @@ declines answer before after status none shelf source out told =
     (shelf, source, record { printed = printed; told = told })
 
 -- a refusal prints nothing
-refused_nothing : (e : Refusal) → (refusal_answer e).out ≡ []
+refused_nothing : (e : Refusal) → (loading_answer e).out ≡ []
 refused_nothing Words = refl
 refused_nothing ReadFault = refl
 refused_nothing (BadNumber name place) = refl
@@ -35,19 +35,19 @@ refused_nothing OutOfMemory = refl
 
 -- words that are refused
 pub ends_refused : (words : List (List ℕ)) (e : Refusal) (shelf : SeenShelf) (before after : World) (status : ℕ) →
-    Begins before.operators words before.shelf shelf (Err (refusal_answer e)) → after.shelf ≡ shelf → after.source ≡ before.source → after.out ≡ before.out →
-    Tells (refusal_answer e).status (refusal_answer e).err before.err after.err status ⊎ Tells 7 memory_line before.err after.err status →
+    Begins before.operators words before.shelf shelf (Err (loading_answer e)) → after.shelf ≡ shelf → after.source ≡ before.source → after.out ≡ before.out →
+    Tells (loading_answer e).status (loading_answer e).err before.err after.err status ⊎ Tells 7 memory_line before.err after.err status →
     EndsTabled words before after status
 ends_refused words e shelf before after status begins same source out (inl told) = (
   shelf,
-  Err (refusal_answer e),
+  Err (loading_answer e),
   begins,
-  declines (refusal_answer e) (record before { shelf = shelf }) after status (refused_nothing e) same source out told,
+  declines (loading_answer e) (record before { shelf = shelf }) after status (refused_nothing e) same source out told,
 )
 ends_refused words e shelf before after status begins same source out (inr told) = (
   shelf,
   Err (out_of_memory []),
-  or_memory before.operators words before.shelf shelf (Err (refusal_answer e)) begins,
+  or_memory before.operators words before.shelf shelf (Err (loading_answer e)) begins,
   declines (out_of_memory []) (record before { shelf = shelf }) after status refl same source out told,
 )
 

@@ -6,7 +6,7 @@ use Rattle.lucy_text.specs.Shelf.{SeenShelf}
 use Rattle.lucy_app.specs.Operators.{program_operators}
 use Rattle.lucy_app.specs.Answers.{out_of_memory}
 use Rattle.lucy_tables.specs.Ends.{Begun, Begins}
-use Rattle.lucy_tables.specs.Seen.{refusal_answer}
+use Rattle.lucy_tables.specs.Seen.{loading_answer}
 use Rattle.lucy_tables.specs.Lent.{IsLent}
 use Rattle.lucy_tables.specs.declared.refusal.Refusal.{Refusal}
 use Rattle.lucy_tables.specs.declared.refusal.Refusal.TheVariants.{OutOfMemory}
@@ -23,4 +23,4 @@ pub lent_memory : (words : List (List ℕ)) (shelf : SeenShelf) (result : Result
 lent_memory words shelf (Ok lent) h = absurd h
 lent_memory words shelf (Err e) h =
     let cut = some_cut words in
-    subst (λ r. Begins program_operators words shelf shelf (Err (refusal_answer r))) (sym h) (cut.0, cut.1, [], cut.2, refl, inr (inr refl))
+    subst (λ r. Begins program_operators words shelf shelf (Err (loading_answer r))) (sym h) (cut.0, cut.1, [], cut.2, refl, inr (inr refl))

@@ -12,7 +12,7 @@ use Rattle.lucy_app.specs.Answers.{limit_passed}
 use Rattle.lucy_app.specs.Ends.{Tells}
 use Rattle.lucy_tables.specs.Tables.{RefusesTable}
 use Rattle.lucy_tables.specs.Refusals.{RefusesFile}
-use Rattle.lucy_tables.specs.Seen.{refusal_answer}
+use Rattle.lucy_tables.specs.Seen.{loading_answer}
 use Rattle.lucy_tables.specs.declared.error.TableError.TheVariants as table
 use Rattle.lucy_tables.specs.declared.refusal.Refusal.{Refusal}
 use Rattle.lucy_tables.specs.declared.refusal.Refusal.TheVariants.{OutOfMemory}
@@ -26,10 +26,10 @@ explained (Err e) told text err err' status is tells memory = inr memory
 
 -- what was told of a refusal, by what the refusal is
 pub as_refused : (refusal e : Refusal) (err err' : SeenSink) (status : ℕ) → refusal ≡ e →
-    Tells (refusal_answer e).status (refusal_answer e).err err err' status ⊎ Tells 7 memory_line err err' status →
-    Tells (refusal_answer refusal).status (refusal_answer refusal).err err err' status ⊎ Tells 7 memory_line err err' status
+    Tells (loading_answer e).status (loading_answer e).err err err' status ⊎ Tells 7 memory_line err err' status →
+    Tells (loading_answer refusal).status (loading_answer refusal).err err err' status ⊎ Tells 7 memory_line err err' status
 as_refused refusal e err err' status is tells =
-    subst (λ r. Tells (refusal_answer r).status (refusal_answer r).err err err' status ⊎ Tells 7 memory_line err err' status) (sym is) tells
+    subst (λ r. Tells (loading_answer r).status (loading_answer r).err err err' status ⊎ Tells 7 memory_line err err' status) (sym is) tells
 
 -- a text with too many fields
 pub many_refused : (name bytes : List ℕ) (fetched : Result (Vec ℕ Global) ShelfError) (text : Vec ℕ Global) (l : Passed) → fetched ≡ Ok text →

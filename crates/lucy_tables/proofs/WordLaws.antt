@@ -4,7 +4,7 @@ use Rattle.std.specs.Str.{bytes_eq}
 use Rattle.std.proofs.lemmas.Slice.Eq.{bytes_eq-Decides}
 use Rattle.lucy_app.specs.Answers.{Answer}
 use Rattle.lucy_tables.specs.Words.{table_word, TableWords, words_of, BeginsTable, IsCut, AreWhole, most_tables}
-use Rattle.lucy_tables.specs.Refusals.{RefusesWords}
+use Rattle.lucy_tables.specs.Refusals.{RefusesTableWords}
 use Rattle.lucy_tables.specs.Ends.{AreRefused}
 use Rattle.lucy_tables.specs.Named.{tables_named}
 use Rattle.lucy_tables.specs.declared.words.TableWords.{TableWords as Kept}
@@ -60,10 +60,10 @@ none_named (t ∷ tables) e = cc e
 
 -- what is refused of words is refused of their cut
 pub kept_refused : (there words : List (List ℕ)) (tables : List TableWords) (rest : List (List ℕ)) → IsCut words tables rest → AreRefused there words →
-    (answer : Answer) × RefusesWords there tables rest answer
+    (answer : Answer) × RefusesTableWords there tables rest answer
 kept_refused there words tables rest cut refused =
     let same = one_cut words refused.0 tables refused.1 rest refused.3 cut in
-    (refused.2, subst (λ t. RefusesWords there t rest refused.2) same.0 (subst (λ r. RefusesWords there refused.0 r refused.2) same.1 refused.4))
+    (refused.2, subst (λ t. RefusesTableWords there t rest refused.2) same.0 (subst (λ r. RefusesTableWords there refused.0 r refused.2) same.1 refused.4))
 
 -- no tables are kept of words that ask for none
 pub kept_none : (words : List (List ℕ)) (tables : List Kept) (rest behind : List (List ℕ)) → IsCut words (tables_named tables) rest → IsCut words [] behind →
@@ -72,6 +72,6 @@ kept_none words tables rest behind cut none = none_named tables (one_cut words (
 
 -- words that are refused for their tables may not ask for them
 pub not_both : (there : List (List ℕ)) (tables : List TableWords) (rest : List (List ℕ)) (answer : Answer) →
-    AreWhole there tables rest → length tables ≤ most_tables → RefusesWords there tables rest answer → ⊥
+    AreWhole there tables rest → length tables ≤ most_tables → RefusesTableWords there tables rest answer → ⊥
 not_both there tables rest answer whole few (inl h) = h.0 whole
 not_both there tables rest answer whole few (inr h) = absurd (omega (arith, few, h.1))

@@ -9,7 +9,7 @@ use Rattle.lucy_app.specs.Answers.{Answer, out_of_memory}
 use Rattle.lucy_app.specs.Ends.{Declines, Ends}
 use Rattle.lucy_tables.specs.Words.{TableWords, IsCut, AreWhole, most_tables}
 use Rattle.lucy_tables.specs.Loading.{file_of, AreLoaded}
-use Rattle.lucy_tables.specs.Refusals.{RefusesWords, RefusesFiles}
+use Rattle.lucy_tables.specs.Refusals.{RefusesTableWords, RefusesFiles}
 
 -- what words come to for their tables: the operators of these and the words behind them, or the answer where they are refused
 abbrev pub Begun : Type 0
@@ -22,7 +22,7 @@ abbrev pub OwesBegun : (there : List Operator) → List TableWords → (rest : L
 OwesBegun there tables rest fetched (Ok begun) =
     AreWhole (names_of there) tables rest × (length tables ≤ most_tables) × AreLoaded tables fetched begun.0 × (begun.1 ≡ rest)
 OwesBegun there tables rest fetched (Err answer) =
-    (RefusesWords (names_of there) tables rest answer × (fetched ≡ []))
+    (RefusesTableWords (names_of there) tables rest answer × (fetched ≡ []))
     ⊎ (AreWhole (names_of there) tables rest × (length tables ≤ most_tables) × RefusesFiles tables fetched answer)
     ⊎ (answer ≡ out_of_memory [])
 
@@ -36,7 +36,7 @@ Begins there words before after begun =
 abbrev pub AreRefused : (there : List (List ℕ)) → (words : List (List ℕ)) → Type 0
 AreRefused there words =
     (tables : List TableWords) × (rest : List (List ℕ)) × (answer : Answer)
-    × IsCut words tables rest × RefusesWords there tables rest answer
+    × IsCut words tables rest × RefusesTableWords there tables rest answer
 
 -- with these operators behind those that are there
 abbrev pub lending : List Operator → World → World

@@ -12,8 +12,8 @@ use Rattle.lucy_tables.specs.declared.error.TableError.{TableError}
 use Rattle.lucy_tables.specs.declared.error.TableError.TheVariants.{BadNumber, Limit, OutOfMemory}
 
 -- where these names are there, the words are refused for their tables: they aren't whole, or ask for too many
-abbrev pub RefusesWords : (there : List (List ℕ)) → List TableWords → (rest : List (List ℕ)) → Answer → Type 0
-RefusesWords there tables rest answer =
+abbrev pub RefusesTableWords : (there : List (List ℕ)) → List TableWords → (rest : List (List ℕ)) → Answer → Type 0
+RefusesTableWords there tables rest answer =
     ((AreWhole there tables rest → ⊥) × (answer ≡ no_command))
     ⊎ (AreWhole there tables rest × (most_tables < length tables) × (answer ≡ limit_passed limit.Tables))
 

@@ -7,10 +7,10 @@ ghost use Rattle.lucy_app.specs.Answers.{Answer};
 ghost use Rattle.lucy_app.specs.Operators.{program_operators as the_operators};
 ghost use Rattle.lucy_tables.specs.Words.{IsCut, AreWhole, most_tables};
 ghost use Rattle.lucy_tables.specs.Loading.{file_of};
-ghost use Rattle.lucy_tables.specs.Refusals.{RefusesWords};
+ghost use Rattle.lucy_tables.specs.Refusals.{RefusesTableWords};
 ghost use Rattle.lucy_tables.specs.Ends.{AreRefused};
 ghost use Rattle.lucy_tables.specs.Named.{tables_named};
-ghost use Rattle.lucy_tables.specs.Seen.{refusal_answer, IsBegun};
+ghost use Rattle.lucy_tables.specs.Seen.{loading_answer, IsBegun};
 ghost use Rattle.lucy_tables.specs.Lent.{IsLent};
 ghost use Rattle.lucy_tables.specs.declared.refusal.Refusal.TheVariants as refusal;
 
@@ -36,8 +36,8 @@ pub(crate) struct Lent<'a> {
 fn judge<'a>(alloc: Global, front: &Front<'a>, ops: &Ops) -> Result<(), Refusal<'a>>
     ensures ok { OnOk result (AreWhole (names_of ops.now) (tables_named front.now.tables.items) (map string_bytes front.now.rest.now)
         × (length front.now.tables.items ≤ most_tables)) }
-    ensures refused { IfErr result (λ e. (e ≡ refusal.OutOfMemory) ⊎ RefusesWords (names_of ops.now) (tables_named front.now.tables.items)
-        (map string_bytes front.now.rest.now) (refusal_answer e)) }
+    ensures refused { IfErr result (λ e. (e ≡ refusal.OutOfMemory) ⊎ RefusesTableWords (names_of ops.now) (tables_named front.now.tables.items)
+        (map string_bytes front.now.rest.now) (loading_answer e)) }
 {
     if begins_table(front.rest) {
         return Err(Refusal::Words);
@@ -71,7 +71,7 @@ fn operators<'a, S: Shelf>(
         × Fetches (map file_of (tables_named front.now.tables.items)) (S.seen shelf.old) (S.seen shelf.new) fetched
         × IsBegun (tables_named front.now.tables.items) (map string_bytes front.now.rest.now) fetched result }
     ensures refused { (answer : Answer)
-        → RefusesWords (names_of the_operators) (tables_named front.now.tables.items) (map string_bytes front.now.rest.now) answer
+        → RefusesTableWords (names_of the_operators) (tables_named front.now.tables.items) (map string_bytes front.now.rest.now) answer
         → shelf.new ≡ shelf.old }
     ensures none { front.now.tables.items ≡ [] → shelf.new ≡ shelf.old }
     ensures count { (S.seen shelf.old).faults ≤ (S.seen shelf.new).faults }

@@ -4,7 +4,7 @@ ghost use Rattle.lucy_text.specs.declared.shelf.ShelfError.{ShelfError as Fault}
 ghost use Rattle.lucy_app.specs.World.{bytes_of, Fetched};
 ghost use Rattle.lucy_tables.specs.Loading.{file_of, table_operator};
 ghost use Rattle.lucy_tables.specs.Named.{table_named, tables_named};
-ghost use Rattle.lucy_tables.specs.Seen.{refusal_answer, IsRead, Loads};
+ghost use Rattle.lucy_tables.specs.Seen.{loading_answer, IsRead, Loads};
 ghost use Rattle.lucy_tables.specs.declared.refusal.Refusal.TheVariants as refusal;
 
 use crate::error::TableError;

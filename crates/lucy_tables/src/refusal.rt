@@ -3,7 +3,7 @@ ghost use Rattle.std.specs.Prelude.{◌≡◌, ◌≢◌, ◌⊎◌, ◌≤◌, 
 ghost use Rattle.lucy_front.specs.Refusals.{memory_line};
 ghost use Rattle.lucy_app.specs.Ends.{Tells};
 ghost use Rattle.lucy_tables.specs.Refusals.{number_line};
-ghost use Rattle.lucy_tables.specs.Seen.{refusal_answer};
+ghost use Rattle.lucy_tables.specs.Seen.{loading_answer};
 ghost use Rattle.lucy_tables.specs.declared.refusal.Refusal.TheVariants.{OutOfMemory as Memory};
 
 use lucy_app::{explain, tell};
@@ -36,7 +36,7 @@ fn number_line(alloc: Global, name: &str, place: u64) -> Result<Vec<u8>, OutOfMe
 
 /// Says why the words are refused, or where there is no memory for that, that it ran out.
 pub(crate) fn refuse<E: Sink>(alloc: Global, err: &mut E, refusal: Refusal<'_>) -> u8
-    ensures told { let answer = refusal_answer refusal.entry in
+    ensures told { let answer = loading_answer refusal.entry in
         Tells answer.status answer.err (E.seen err.old) (E.seen err.new) result
         ⊎ Tells 7 memory_line (E.seen err.old) (E.seen err.new) result }
     ensures fails { result ≢ 0 }

@@ -2,7 +2,7 @@
 ghost use Rattle.std.specs.Prelude.{ℕ, ◌≡◌, ◌≤◌, [], None, List, map, string_bytes};
 ghost use Rattle.lucy_host.specs.Operators.{names_of};
 ghost use Rattle.lucy_command.specs.Commands.{command_of};
-ghost use Rattle.lucy_app.specs.Commands.{files_of, input_of};
+ghost use Rattle.lucy_app.specs.Commands.{files_of, most_input};
 ghost use Rattle.lucy_app.specs.Operators.{program_operators};
 ghost use Rattle.lucy_tables.specs.Words.{TableWords, IsCut};
 ghost use Rattle.lucy_tables.specs.Ends.{AreRefused, EndsTabled};
@@ -68,7 +68,7 @@ pub fn lucy_table<R: Threads + Sync, S: Shelf, I: Source, O: Sink, E: Sink, G: G
     ensures shelf { (rest : List (List ℕ)) → IsCut (map string_bytes words.now) [] rest → files_of (command_of rest) ≡ []
         → shelf.new ≡ shelf.old }
     ensures source { (tables : List TableWords) (rest : List (List ℕ)) → IsCut (map string_bytes words.now) tables rest
-        → input_of (command_of rest) ≡ None → input.new ≡ input.old }
+        → most_input (command_of rest) ≡ None → input.new ≡ input.old }
     // No count falls.
     ensures shelf_count { (S.seen shelf.old).faults ≤ (S.seen shelf.new).faults }
     ensures source_count { (I.seen input.old).faults ≤ (I.seen input.new).faults }

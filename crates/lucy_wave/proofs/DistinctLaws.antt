@@ -18,7 +18,7 @@ use Rattle.lucy_place.specs.Proper.{IsNamed, AreNamed, AreDistinct as NamesApart
 use Rattle.lucy_types.specs.declared.ty.Ty.{Ty}
 use Rattle.lucy_need.specs.Meeting.{Assignment, assigned}
 use Rattle.lucy_front.specs.Names.{place_name}
-use Rattle.lucy_front.specs.Scheduled.{output_of}
+use Rattle.lucy_front.specs.Scheduled.{main_output}
 use Rattle.lucy_front.specs.Report.{first_operand}
 use Rattle.lucy_meaning.proofs.Closed.{each_of}
 use Rattle.lucy_meaning.proofs.Lists.{there as there_at}
@@ -220,11 +220,11 @@ module _ (n : PlacedNode) (plain : (place : ℕ) → IsPlain (written_name n pla
       by false rest = stream_shows place (written_name n place) (w place) items (input_places (place + 1) (length lists)) (inputs n w (place + 1) lists) refl rest
 
   -- results by their names in print
-  results_show : (types : List Ty) (words : List Bits) (ps : List ℕ) (streams : List (List ℤ)) → AreNamed n ps → Shows ps (results (map (output_of n types words) ps) streams)
+  results_show : (types : List Ty) (words : List Bits) (ps : List ℕ) (streams : List (List ℤ)) → AreNamed n ps → Shows ps (results (map (main_output n types words) ps) streams)
   results_show types words [] streams named = refl
   results_show types words (p ∷ ps) [] named = shows_none (p ∷ ps)
   results_show types words (p ∷ ps) (items ∷ streams) named =
-      stream_shows p (place_name n p) (assigned words p) items ps (results (map (output_of n types words) ps) streams) (named_at n p named.0) (results_show types words ps streams named.1)
+      stream_shows p (place_name n p) (assigned words p) items ps (results (map (main_output n types words) ps) streams) (named_at n p named.0) (results_show types words ps streams named.1)
 
   -- places apart have names apart
   module _ (distinct : NamesApart n) where
@@ -360,19 +360,19 @@ module _ (n : PlacedNode) (plain : (place : ℕ) → IsPlain (written_name n pla
 
   -- no two of all variables have one name
   pub variables_distinct : (above : List PlacedNode) → IsProperNode above n → AreUnlike n.results → (types : List Ty) (words : List Bits) (w : Assignment) (lists streams : List (List ℤ)) (inside : Option (List (List ℤ))) →
-      length lists ≤ n.params → 1 + length n.buffers ≤ 2 ^ 64 → AreDistinct (variables n w (map (output_of n types words) n.results) lists streams inside)
+      length lists ≤ n.params → 1 + length n.buffers ≤ 2 ^ 64 → AreDistinct (variables n w (map (main_output n types words) n.results) lists streams inside)
   variables_distinct above proper unlike types words w lists streams inside few many =
       let ps : List ℕ = n.results ++ (input_places 1 (length lists) ++ inner_of n) in
-      let vs : List Variable = results (map (output_of n types words) n.results) streams ++ (inputs n w 1 lists ++ inner n w inside) in
+      let vs : List Variable = results (map (main_output n types words) n.results) streams ++ (inputs n w 1 lists ++ inner n w inside) in
       let bs : List Variable = buffers n w 1 n.buffers in
       let shown : Shows ps vs =
-      shows_append n.results (input_places 1 (length lists) ++ inner_of n) (results (map (output_of n types words) n.results) streams) (inputs n w 1 lists ++ inner n w inside) (results_show types words n.results streams proper.named)
+      shows_append n.results (input_places 1 (length lists) ++ inner_of n) (results (map (main_output n types words) n.results) streams) (inputs n w 1 lists ++ inner n w inside) (results_show types words n.results streams proper.named)
       (shows_append (input_places 1 (length lists)) (inner_of n) (inputs n w 1 lists) (inner n w inside) (inputs_show w 1 lists) (inner_shows w inside)) in
       let named : AreNamed n ps = all_join (IsNamed n) n.results (input_places 1 (length lists) ++ inner_of n) proper.named
       (all_join (IsNamed n) (input_places 1 (length lists)) (inner_of n) (inputs_named above proper (length lists) few) (inner_named n)) in
       let other = all_other proper.distinct ps named (all_unlike (length lists) few unlike) in
       let apart : AreApart (vs ++ bs) = apart_join vs bs (shows_apart ps vs other shown) (buffers_apart w 1 n.buffers many) (shows_buffers ps vs w 1 n.buffers many shown) in
-      let split : vs ++ bs ≡ variables n w (map (output_of n types words) n.results) lists streams inside =
-      append_assoc (results (map (output_of n types words) n.results) streams) (inputs n w 1 lists ++ inner n w inside) bs
-      ∙ ap (λ xs. results (map (output_of n types words) n.results) streams ++ xs) (append_assoc (inputs n w 1 lists) (inner n w inside) bs) in
-      distinct_of (variables n w (map (output_of n types words) n.results) lists streams inside) (subst AreApart split apart)
+      let split : vs ++ bs ≡ variables n w (map (main_output n types words) n.results) lists streams inside =
+      append_assoc (results (map (main_output n types words) n.results) streams) (inputs n w 1 lists ++ inner n w inside) bs
+      ∙ ap (λ xs. results (map (main_output n types words) n.results) streams ++ xs) (append_assoc (inputs n w 1 lists) (inner n w inside) bs) in
+      distinct_of (variables n w (map (main_output n types words) n.results) lists streams inside) (subst AreApart split apart)

@@ -41,7 +41,7 @@ use Rattle.lucy_front.specs.declared.accepted.Accepted.{Accepted}
 use Rattle.lucy_front.specs.declared.options.Options.{Options}
 use Rattle.lucy_front.specs.Accepting.{IsAccepted}
 use Rattle.lucy_front.specs.Names.{of_one, name_at, place_name}
-use Rattle.lucy_front.specs.Scheduled.{output_of}
+use Rattle.lucy_front.specs.Scheduled.{main_output}
 use Rattle.lucy_wave.specs.Waves.{bytes_of, written_name}
 use Rattle.lucy_wave.proofs.BackLaws.{IsPlain, NamesArePlain}
 
@@ -142,7 +142,7 @@ named_at n place named =
     ap (λ o. unwrap_or (option_map (λ x. x.text) o) (codes "#" ++ decimal place)) is ∙ sym (ap bytes_of is)
 
 outputs_plain : (n : PlacedNode) (types : List Ty) (words : List Bits) (results : List ℕ) → AreNamed n results → ((place : ℕ) → IsPlain (written_name n place)) →
-    AllByRecursion (λ (o : OutputSpec). IsPlain o.name) (map (output_of n types words) results)
+    AllByRecursion (λ (o : OutputSpec). IsPlain o.name) (map (main_output n types words) results)
 outputs_plain n types words [] named plain = tt
 outputs_plain n types words (p ∷ results) named plain = (subst IsPlain (sym (named_at n p named.0)) (plain p), outputs_plain n types words results named.1 plain)
 
@@ -176,8 +176,8 @@ names_plain cut proper ops o text a main is e =
     let last : ℕ = length a.placed.nodes - 1 in
     let main_types : List Ty = table_at a.typed last in
     let words : List Bits = words_in (slice_get a.clocks.items last) in
-    let outputs_are : a.outputs.items ≡ map (output_of main main_types words) main.results =
-    is.outputs ∙ ap (λ m. of_one (λ (n : PlacedNode). map (output_of n main_types words) n.results) m) e in
+    let outputs_are : a.outputs.items ≡ map (main_output main main_types words) main.results =
+    is.outputs ∙ ap (λ m. of_one (λ (n : PlacedNode). map (main_output n main_types words) n.results) m) e in
     record {
       own = subst (λ (n : PlacedNode). IsPlain n.name.text) (sym of.is) (named_plain of.tree.name node.name);
       places = at_plain main entries_are;

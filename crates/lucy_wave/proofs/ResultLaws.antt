@@ -25,7 +25,7 @@ use Rattle.lucy_kahn.specs.Turns.{params_in}
 use Rattle.lucy_flat.specs.Instances.{words_in}
 use Rattle.lucy_results.specs.Streams.{main_word}
 use Rattle.lucy_front.specs.Names.{of_one}
-use Rattle.lucy_front.specs.Scheduled.{output_of}
+use Rattle.lucy_front.specs.Scheduled.{main_output}
 use Rattle.lucy_wave.specs.Dumps.{Variable}
 use Rattle.lucy_wave.specs.Waves.{results, inputs, inner, buffers, variables}
 use Rattle.lucy_wave.specs.Laws.{AreDistinct, NamesAreDistinct}
@@ -119,7 +119,7 @@ names_distinct plain proper ops o text a lists streams inside horizon dump is wa
     let last : ℕ = length a.placed.nodes - 1 in
     let types : List Ty = table_at a.typed last in
     let words : List Bits = words_in (slice_get a.clocks.items last) in
-    let outputs_are : a.outputs.items ≡ map (output_of main types words) main.results = is.outputs ∙ ap (λ m. of_one (λ (n : PlacedNode). map (output_of n types words) n.results) m) wave.main_is in
+    let outputs_are : a.outputs.items ≡ map (main_output main types words) main.results = is.outputs ∙ ap (λ m. of_one (λ (n : PlacedNode). map (main_output n types words) n.results) m) wave.main_is in
     let node_none = node_good ops of.program [] of.program of.index of.tree of.good of.found in
     let apart : AreUnlike main.results = subst (λ (n : PlacedNode). AreUnlike n.results) (sym of.is)
     (unlike (map text_of (streams_in of.tree)) [] of.tree.results (results_good ops of.program ([] ++ take of.index of.program) of.tree node_none)) in

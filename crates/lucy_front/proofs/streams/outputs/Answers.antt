@@ -3,7 +3,7 @@ use Rattle.std.proofs.lemmas.Option.{slice_get_read}
 use Rattle.std.proofs.lemmas.Result.{IfOk-weaker}
 use Rattle.lucy_types.specs.Tables.{table_at}
 use Rattle.lucy_clock.specs.declared.node_clock.NodeClock.{NodeClock}
-use Rattle.lucy_front.specs.Scheduled.{output_of}
+use Rattle.lucy_front.specs.Scheduled.{main_output}
 use Rattle.lucy_front.proofs.StreamLaws.{types_all, words_past, outputs_are}
 use Rattle.lucy_front.proofs.streams.outputs.Goals as goal
 
@@ -39,5 +39,5 @@ returns c =
     let at = slice_get_read clocks (length clocks) (c.nodes-last.result - 1) clock refl (omega arith) c.index-clocks-last.is in
     let words = c.list-words.ensures ∙ sym (ap (λ (x : NodeClock). x.words) c.index-clocks-last.is) in
     IfOk-weaker c.outputs_at.result _ _ (λ v is.
-    is ∙ ap (λ w. map (output_of main (table_at tables (length tables - 1)) w) c.list.result.now) words
+    is ∙ ap (λ w. map (main_output main (table_at tables (length tables - 1)) w) c.list.result.now) words
     ∙ outputs_are nodes tables (c.nodes-last.result - 1) main c.requires.typed (omega arith) c.node-main.ensures.is clocks clock c.list.result.now at c.list.ensures) c.outputs_at.ensures

@@ -1,7 +1,7 @@
 use Rattle.std.proofs.Common.{refl, sym, subst, ◌∙◌, ◌≡◌}
 use Rattle.std.specs.Prelude.{[], None}
 use Rattle.lucy_command.specs.Commands.{command_of}
-use Rattle.lucy_app.specs.Commands.{files_of, input_of}
+use Rattle.lucy_app.specs.Commands.{files_of, most_input}
 use Rattle.lucy_app.specs.Operators.{program_operators}
 use Rattle.lucy_tables.proofs.EndingLaws.{ends_refused, ends_lent, lent_not_refused, lent_rest}
 use Rattle.lucy_tables.proofs.top.lucy_table.Goals as goal
@@ -26,7 +26,7 @@ pub returns-in-Ok-clause-source : goal.returns-in-Ok-clause-source
 returns-in-Ok-clause-source g c =
     let lent = rw c.in-Ok.field-0-is at c.in-Ok.ensures.begins in
     λ tables rest cut none.
-    c.lucy.ensures.source (subst (λ r. input_of (command_of r) ≡ None) (lent_rest program_operators _ _ _ _ _ lent.1 tables rest cut) none)
+    c.lucy.ensures.source (subst (λ r. most_input (command_of r) ≡ None) (lent_rest program_operators _ _ _ _ _ lent.1 tables rest cut) none)
 
 pub returns-in-Err-clause-ends : goal.returns-in-Err-clause-ends
 returns-in-Err-clause-ends g c = ends_refused _ _ _ _ _ _ c.in-Err.ensures.begins refl refl refl c.refuse.ensures.told
