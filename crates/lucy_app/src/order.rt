@@ -13,8 +13,7 @@ use crate::cut::fields;
 use crate::input_refusal::InputCause;
 use crate::refusal::Refusal;
 use lucy_order::{Verdict, adapt, horizon_of};
-use lucy_text::Source;
-use lucy_text::read_up_to;
+use lucy_text::{Source, read_up_to};
 use lucy_word::{Limit, Word, WordError};
 use std::alloc::{AllocError, Global};
 

@@ -8,8 +8,7 @@ ghost use Rattle.lucy_app.specs.declared.refusal.Refusal.TheVariants.{OutOfMemor
 use crate::input_refusal::InputCause;
 use lucy_place::NameError;
 use lucy_syntax::SyntaxError;
-use lucy_text::ReadError;
-use lucy_text::ShelfError;
+use lucy_text::{ReadError, ShelfError};
 use lucy_trace::TraceError;
 use lucy_word::{Limit, OutOfMemory};
 use std::alloc::AllocError;
