@@ -9,7 +9,7 @@ ghost use Rattle.lucy_app.specs.Ends.{EndsSo};
 use crate::fetching::fetch;
 use crate::options::{inferring, written};
 use crate::output::finish;
-use crate::{check, making, order, replaying, running, show, tightening, tracing, types};
+use crate::{accepting, check, making, order, replaying, show, tightening, tracing, types};
 use lucy_command::Command;
 use lucy_host::Host;
 use lucy_text::{Shelf, Sink, Source};
