@@ -5,6 +5,8 @@ use Rattle.std.proofs.lemmas.Bool.{cases_eq}
 use Rattle.std.proofs.lemmas.Option.{slice_get_within, get_or_from_slice_get, slice_get_read}
 use Rattle.std.proofs.lemmas.List.{length-set, get_or-set_same, get_or-set_other, get_or_past, get_or-map}
 use Rattle.std.proofs.lemmas.List.Sums.{get_or-le-sum_by}
+use Rattle.lucy_word.specs.Limits.{limit_number}
+use Rattle.lucy_word.specs.declared.limit.Limit.TheVariants as limit
 use Rattle.lucy_event.specs.Systems.{System, RingOp, Takes, Gives, op_at, given, taken}
 use Rattle.lucy_event.specs.Runs.{IsPossible, step, IsWithin}
 use Rattle.lucy_event.specs.Instants.{Waits}
@@ -43,7 +45,7 @@ op_now net n order steps held a op played e = (
   omega (arith, played.steps_are a, slice_get_within (slot net n a) (slice_index steps a) op e, done_more net n a),
 )
 
-ring_held : (net : Net) (n : ℕ) (order steps held : List ℕ) (r : ℕ) → IsProper net → IsPlayedSoFar net n order steps held → slice_index held r ≤ 1048577
+ring_held : (net : Net) (n : ℕ) (order steps held : List ℕ) (r : ℕ) → IsProper net → IsPlayedSoFar net n order steps held → slice_index held r ≤ limit_number limit.Slots + 1
 ring_held net n order steps held r is played = elim (ring_cases net r) [
   | inl x ↦
       let sys : System = net_system net (n + 1) in

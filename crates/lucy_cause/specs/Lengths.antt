@@ -1,7 +1,9 @@
 -- The lengths of a schedule, and how many operations a net has.
-use Rattle.std.specs.Prelude.{ℕ, ◌<◌, ◌≤◌, List, All, length, sum_by, Some}
+use Rattle.std.specs.Prelude.{ℕ, ◌*◌, ◌^◌, ◌<◌, ◌≤◌, List, All, length, sum_by, Some}
 use Prim.Native.Nat.{◌∣◌}
 use Rattle.lucy_word.specs.Bits.{Bits}
+use Rattle.lucy_word.specs.Limits.{limit_number}
+use Rattle.lucy_word.specs.declared.limit.Limit.TheVariants as limit
 use Rattle.lucy_stream.specs.Forms.{Form, Merged}
 use Rattle.lucy_event.specs.Plans.{task_ops}
 use Rattle.lucy_net.specs.declared.net.Net.{Net}
@@ -19,6 +21,10 @@ pub record AreLengths (words : List Bits) (prefix period : ℕ) : Type 0 where
 abbrev pub takes_each : Form → ℕ → ℕ
 takes_each (Merged word) operands = 1
 takes_each form operands = operands
+
+-- how many operations an actor has at most: each of its firings has fewer than 2^16
+abbrev pub most_operations : ℕ
+most_operations = 2 ^ 16 * limit_number limit.Instants
 
 -- how many operations the actors of a net have in the first instants
 abbrev pub operations_by : Net → ℕ → ℕ

@@ -1,6 +1,8 @@
 -- An instant that is played event by event.
 use Rattle.std.specs.Prelude.{ℕ, ◌+◌, ◌-◌, ◌<◌, ◌≤◌, ◌≡◌, List, length, slice_get, slice_set, slice_index, Option, Some, None}
 use Rattle.lucy_word.specs.Bits.{ones_to}
+use Rattle.lucy_word.specs.Limits.{limit_number}
+use Rattle.lucy_word.specs.declared.limit.Limit.TheVariants as limit
 use Rattle.lucy_event.specs.Systems.{RingOp, Takes, Gives, given, taken}
 use Rattle.lucy_event.specs.Runs.{IsRun, after}
 use Rattle.lucy_net.specs.declared.net.RingSpec.{RingSpec}
@@ -32,7 +34,7 @@ Becomes next step new_step held new_held Over = (next ≡ None) × IsStill step 
 pub record IsWithinRings (next : Option RingOp) (held : List ℕ) : Type 0 where
   pub takes : (r : ℕ) → next ≡ Some (Takes r) → r < length held
   pub gives : (r : ℕ) → next ≡ Some (Gives r) → r < length held
-  pub room : (r : ℕ) → slice_index held r ≤ 1048577
+  pub room : (r : ℕ) → slice_index held r ≤ limit_number limit.Slots + 1
 
 -- how many operations each actor has done after these events of the instant
 abbrev pub done_in : Net → ℕ → List ℕ → ℕ → ℕ

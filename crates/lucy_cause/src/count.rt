@@ -1,12 +1,12 @@
 // How many operations there are.
-ghost use Rattle.std.specs.Prelude.{◌≡◌, ◌+◌, ◌<◌, ◌≤◌, ◌^◌, length, Some};
+ghost use Rattle.std.specs.Prelude.{◌≡◌, ◌+◌, ◌<◌, ◌≤◌, length, Some};
 ghost use Rattle.lucy_stream.specs.Forms.{operands};
 ghost use Rattle.lucy_event.specs.Firings.{ops_of};
 ghost use Rattle.lucy_event.specs.Plans.{task_ops};
 ghost use Rattle.lucy_net.specs.Plans.{form_of, task_of};
 ghost use Rattle.lucy_net.specs.Proper.{IsProper};
 ghost use Rattle.lucy_word.specs.Limits.{limit_number};
-ghost use Rattle.lucy_cause.specs.Lengths.{takes_each, operations_by};
+ghost use Rattle.lucy_cause.specs.Lengths.{takes_each, most_operations, operations_by};
 
 use crate::cycle::gave;
 use lucy_net::{Actor, ActorKind, Net};
@@ -30,7 +30,7 @@ pub fn operations(actor: &Actor, fired: u64) -> u64
     requires gives { length actor.now.gives ≤ limit_number Limit.Rings }
     requires early { fired ≤ limit_number Limit.Instants }
     ensures count { result ≡ length (ops_of (form_of actor.now.kind) actor.now.takes actor.now.gives fired) }
-    ensures few { result ≤ 2 ^ 36 }
+    ensures few { result ≤ most_operations }
 {
     fired * takes_each(actor) + gave(actor, fired) * actor.gives.list().len() as u64
 }
@@ -41,7 +41,7 @@ fn operations_of(actor: &Actor, instants: u64) -> u64
     requires gives { length actor.now.gives ≤ limit_number Limit.Rings }
     requires early { instants ≤ limit_number Limit.Schedule }
     ensures count { result ≡ length (task_ops (Some (task_of instants actor.now))) }
-    ensures few { result ≤ 2 ^ 36 }
+    ensures few { result ≤ most_operations }
 {
     operations(actor, actor.firing.ones(instants))
 }

@@ -233,6 +233,7 @@ impl Core {
         ensures count { result ≡ run_length (machine_of self.old).sys (done_of self.old.done) picks.now }
         ensures done { self.new ≡ after_picks self.old (take result picks.now) }
     {
+        // For the proof: a look inside tells what holds of every core.
         let _ = &self.net;
         for (done, actor) in picks.iter().enumerate() {
             if !self.can(*actor) {
@@ -317,6 +318,7 @@ impl Core {
         ensures converse { (s : State) → IsState (machine_of self.now) s → ((a : ℕ) → done_of self.now.done a ≤ s.done a) →
             Reaches (machine_of self.now) (state_of self.now) (between (state_of self.now).done s.done (order_of self.now)) s }
     {
+        // For the proof: a look inside tells what holds of every core.
         let _ = &self.net;
     }
 
@@ -333,6 +335,7 @@ impl Core {
             (after_picks self.now picks ≡ after_picks self.now other) ⊎ CanGoOn (after_picks self.now picks) (after_picks self.now other).done }
         ensures end { (picks : List ℕ) × CanRun self.now picks × IsOver (after_picks self.now picks) }
     {
+        // For the proof: a look inside tells what holds of every core.
         let _ = &self.net;
     }
 

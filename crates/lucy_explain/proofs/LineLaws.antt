@@ -1,12 +1,12 @@
 -- A line grows by an inequality, and follows from those that it stands for.
-use Rattle.std.proofs.Common.{◌^◌, neg_ℤ, inl, inr, ◌≡◌, ℕ, ◌+◌, ◌-◌, ◌*◌, ◌<◌, ℤ, pos, ◌+ℤ◌, ◌≤ℤ◌, List, [], ◌∷◌, ◌++◌, length, take, drop, get_or, zero, suc, sym, ap, ◌∙◌, subst, refl, arith}
+use Rattle.std.proofs.Common.{neg_ℤ, inl, inr, ◌≡◌, ℕ, ◌+◌, ◌-◌, ◌*◌, ◌<◌, ℤ, pos, ◌+ℤ◌, ◌≤ℤ◌, List, [], ◌∷◌, ◌++◌, length, take, drop, get_or, zero, suc, sym, ap, ◌∙◌, subst, refl, arith}
 use Rattle.std.specs.List.{fold}
 use Rattle.std.proofs.lemmas.Int.{ints}
 use Rattle.std.proofs.lemmas.Bool.{cases_lt}
 use Rattle.std.proofs.lemmas.List.{take-append-drop}
 use Rattle.std.proofs.lemmas.List.Sums.{fold_more, fold-append}
 use Rattle.lucy_solve.specs.declared.diffs.Diff.{Diff}
-use Rattle.lucy_solve.specs.System.{System, diff_at, no_diff, IsProper, IsSystem, value, constants}
+use Rattle.lucy_solve.specs.System.{System, diff_at, no_diff, IsProper, IsSystem, value, constants, most_constant}
 use Rattle.lucy_explain.specs.declared.line.Line.{Line}
 use Rattle.lucy_explain.specs.Folds.{Folds, HoldsBetween, FollowsLaw, SumLaw}
 use Rattle.lucy_explain.specs.Folded.{IsOfOneStream}
@@ -20,8 +20,8 @@ pub record IsFolding (diffs : System) (streams positions : List ℕ) (k : ℕ) (
   pub count : line.count ≡ k
   pub folds : Folds diffs.list positions line
   pub stream : IsOfOneStream streams diffs.list positions line
-  pub low : neg_ℤ (pos (2 ^ 40 * k)) ≤ℤ line.most
-  pub high : line.most ≤ℤ pos (2 ^ 40 * k)
+  pub low : neg_ℤ (pos (most_constant * k)) ≤ℤ line.most
+  pub high : line.most ≤ℤ pos (most_constant * k)
   pub left : line.left < diffs.count
   pub right : line.right < diffs.count
 

@@ -1,7 +1,7 @@
 // Inequalities that follow one another, told as one.
-ghost use Rattle.std.specs.Prelude.{◌≡◌, ◌+◌, ◌*◌, ◌^◌, ◌<◌, ◌≤◌, true, length, slice_index, ℤ, pos, neg_ℤ, ◌+ℤ◌, ◌≤ℤ◌};
+ghost use Rattle.std.specs.Prelude.{◌≡◌, ◌+◌, ◌*◌, ◌<◌, ◌≤◌, true, length, slice_index, ℤ, pos, neg_ℤ, ◌+ℤ◌, ◌≤ℤ◌};
 ghost use Rattle.std.specs.List.{All};
-ghost use Rattle.lucy_solve.specs.System.{diff_at, most_inequalities};
+ghost use Rattle.lucy_solve.specs.System.{diff_at, most_inequalities, most_constant};
 ghost use Rattle.lucy_explain.specs.Folds.{Folds};
 ghost use Rattle.lucy_explain.specs.Folded.{IsOfOneStream, GoesOn, IsLongest};
 
@@ -37,10 +37,10 @@ fn alone(diff: Diff) -> Line
 // The line with an inequality more.
 fn longer(line: Line, next: Diff) -> Line
     requires few { line.count < most_inequalities }
-    requires low { neg_ℤ (pos (2 ^ 40 * line.count)) ≤ℤ line.most }
-    requires high { line.most ≤ℤ pos (2 ^ 40 * line.count) }
-    requires next_low { neg_ℤ (pos (2 ^ 40)) ≤ℤ next.most }
-    requires next_high { next.most ≤ℤ pos (2 ^ 40) }
+    requires low { neg_ℤ (pos (most_constant * line.count)) ≤ℤ line.most }
+    requires high { line.most ≤ℤ pos (most_constant * line.count) }
+    requires next_low { neg_ℤ (pos most_constant) ≤ℤ next.most }
+    requires next_high { next.most ≤ℤ pos most_constant }
     ensures left { result.left ≡ line.left }
     ensures right { result.right ≡ next.right }
     ensures most { result.most ≡ line.most +ℤ next.most }

@@ -1,5 +1,5 @@
 // The streams of the variables of inequalities.
-ghost use Rattle.std.specs.Prelude.{◌≡◌, ◌<◌, ◌++◌, length, replicate, IfOk, OnOk};
+ghost use Rattle.std.specs.Prelude.{◌≡◌, ◌<◌, ◌^◌, ◌++◌, length, replicate, IfOk, OnOk};
 ghost use Rattle.lucy_shape.specs.Fitting.{position_count, variable_count};
 ghost use Rattle.lucy_explain.specs.Streams as spec;
 
@@ -28,7 +28,7 @@ fn put_clock(
     shape: &ClockShape,
     streams: &mut Vec<u32>,
 ) -> Result<(), AllocError>
-    requires { position_count shape.now < 4294967296 }
+    requires { position_count shape.now < 2 ^ 32 }
     ensures { OnOk result (streams.new.items ≡ streams.old.items ++ replicate (position_count shape.now) stream) }
 {
     if shape.used {

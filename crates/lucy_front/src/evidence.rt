@@ -1,5 +1,5 @@
 // The texts of what shows that no clocks are inferred for a node.
-ghost use Rattle.std.specs.Prelude.{◌≡◌, ◌<◌, ◌++◌, Some, codes, length, map, slice_get, IfOk, OnOk};
+ghost use Rattle.std.specs.Prelude.{◌≡◌, ◌+◌, ◌^◌, ◌<◌, ◌++◌, Some, codes, length, map, slice_get, IfOk, OnOk};
 ghost use Rattle.std.specs.Fmt.{decimal};
 ghost use Rattle.std.specs.List.{range_with_len};
 ghost use Rattle.lucy_place.specs.declared.placed.PlacedNode.{PlacedNode as Node};
@@ -77,7 +77,7 @@ fn put_positions(
     count: u64,
     names: &mut Vec<Text>,
 ) -> Result<(), OutOfMemory>
-    requires { count < 18446744073709551615 }
+    requires { count + 1 < 2 ^ 64 }
     ensures { OnOk result (names.new.items ≡ names.old.items ++ map (λ m. clock.now ++ (codes "[" ++ (decimal m ++ codes "]"))) (range_with_len 1 count)) }
 {
     'each: for position in 1..count + 1 {

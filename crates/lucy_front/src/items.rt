@@ -1,5 +1,5 @@
 // The names of the actors of a program's flat net.
-ghost use Rattle.std.specs.Prelude.{ℕ, List, ◌≡◌, ◌+◌, ◌-◌, ◌<◌, ◌≤◌, Some, length, slice_get, slice_index, IfOk, OnOk};
+ghost use Rattle.std.specs.Prelude.{ℕ, List, ◌≡◌, ◌+◌, ◌-◌, ◌^◌, ◌<◌, ◌≤◌, Some, length, slice_get, slice_index, IfOk, OnOk};
 ghost use Rattle.std.specs.List.{AllByRecursion};
 ghost use Rattle.std.specs.List.Sorted.{IsNonDecreasing};
 ghost use Rattle.lucy_place.specs.declared.placed.PlacedNode.{PlacedNode as Node};
@@ -80,7 +80,7 @@ fn put_name(
     requires ends { AreAllEnds placed.now.nodes (length placed.now.nodes) ends.now }
     requires node { node < length placed.now.nodes }
     requires there { behind < size_of placed.now.nodes node }
-    requires few { size_of placed.now.nodes node < 4294967296 }
+    requires few { size_of placed.now.nodes node < 2 ^ 32 }
     ensures { (path : List ℕ) → node_at placed.now.nodes path ≡ slice_get placed.now.nodes node → name.old.items ≡ path_text path →
         OnOk result (IsActorName placed.now.nodes (begin_from placed.now.nodes (main_of placed.now.nodes) path + behind) name.new.items) }
 {
@@ -111,7 +111,7 @@ pub(crate) fn item_names(
     items: &[Item],
 ) -> Result<Vec<Text>, OutOfMemory>
     requires main { main + 1 ≡ length placed.now.nodes }
-    requires few { all_places placed.now.nodes < 4294967296 }
+    requires few { all_places placed.now.nodes < 2 ^ 32 }
     requires there { AllByRecursion (λ item. item.actor < all_places placed.now.nodes) items.now }
     ensures { IfOk result (λ v. AreNamesOf placed.now.nodes items.now v.items) }
 {

@@ -1,7 +1,11 @@
 -- The operators that a host lends, in the order of their numbers, which count from 0.
-use Rattle.std.specs.Prelude.{ℕ, List, map, position, Option}
+use Rattle.std.specs.Prelude.{ℕ, ◌^◌, List, map, position, Option}
 use Rattle.std.specs.Str.{bytes_eq}
 use Rattle.lucy_host.specs.declared.kind.HostKind.{HostKind}
+
+-- how many operators a host may lend
+abbrev pub most_operators : ℕ
+most_operators = 2 ^ 16
 
 -- an operator: its name's bytes, and its kind
 pub record Operator : Type 0 where

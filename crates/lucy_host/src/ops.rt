@@ -1,8 +1,8 @@
-ghost use Rattle.std.specs.Prelude.{◌≡◌, ◌<◌, ◌↔◌, ◌^◌, [], ◌∷◌, ◌++◌, Contains, IfOk, IfSome, OnErr, Some, None, length, position, slice_get};
+ghost use Rattle.std.specs.Prelude.{◌≡◌, ◌<◌, ◌↔◌, [], ◌∷◌, ◌++◌, Contains, IfOk, IfSome, OnErr, Some, None, length, position, slice_get};
 ghost use Rattle.std.specs.Str.{bytes_eq};
 ghost use Rattle.lucy_host.specs.HostValue.{hosted_value};
 ghost use Rattle.lucy_host.specs.Entries.{operator_of};
-ghost use Rattle.lucy_host.specs.Operators.{kinds_of, names_of, operator_number};
+ghost use Rattle.lucy_host.specs.Operators.{most_operators, kinds_of, names_of, operator_number};
 
 use crate::{HostKind, OpsError, OutOfMemory, host_value};
 use std::alloc::Global;
@@ -43,8 +43,8 @@ pub struct Ops {
 }
 
 impl Model for Ops {
-    ghost use Rattle.std.specs.Prelude.{List, length, ◌≤◌, ◌^◌};
-    ghost use Rattle.lucy_host.specs.Operators.{Operator};
+    ghost use Rattle.std.specs.Prelude.{List, length, ◌≤◌};
+    ghost use Rattle.lucy_host.specs.Operators.{most_operators, Operator};
 
     ghost Value = { List Operator };
 
@@ -52,7 +52,7 @@ impl Model for Ops {
 
     ghost view = { λ ops. operators_of ops.list.items };
 
-    ghost invariant = { λ ops. length ops.list.items ≤ 2 ^ 16 };
+    ghost invariant = { λ ops. length ops.list.items ≤ most_operators };
 }
 
 impl Ops {
@@ -67,7 +67,7 @@ impl Ops {
 
     /// One more operator, with the next number. There must be fewer than 65,536.
     pub fn add(&mut self, alloc: Global, name: &str, kind: HostKind) -> Result<(), OpsError>
-        requires { length self.old < 2 ^ 16 }
+        requires { length self.old < most_operators }
         ensures ok { IfOk result (λ _. self.new ≡ self.old ++ record { name = name.now; kind = kind } ∷ []) }
         ensures twice { (result ≡ Err OpsError.Twice) ↔ Contains (names_of self.old) name.now }
         ensures refused { OnErr result (self.new ≡ self.old) }

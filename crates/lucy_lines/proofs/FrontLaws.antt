@@ -8,7 +8,7 @@ use Rattle.std.proofs.lemmas.List.Sums.{prefix_len-le-length}
 use Rattle.std.proofs.lemmas.List.Folds.{prefix_len-append}
 use Rattle.lucy_lines.specs.declared.front.Front.{Front}
 use Rattle.lucy_lines.specs.declared.front.Front.TheVariants.{Line, Long, Past, Open}
-use Rattle.lucy_lines.specs.Fronts.{most_bytes, run, reach, judge, content_of, judged, last_line, front_of}
+use Rattle.lucy_lines.specs.Fronts.{most_bytes, longest_line, run, reach, judge, content_of, judged, last_line, front_of}
 
 abbrev is_other : ℕ → Bool
 is_other c = not (c == 10)
@@ -27,21 +27,21 @@ run_open a b h =
     let w = run_within a in
     grind (arith, nat_tests, e)
 
-pub reach_range : (a : List ℕ) → (4096 ≤ reach a) × (reach a ≤ 4097)
-reach_range a = cond_both (get_or a 4096 0 == 13) 4097 4096 (λ n. (4096 ≤ n) × (n ≤ 4097)) (λ e. (omega arith, omega arith)) (λ e. (omega arith, omega arith))
+pub reach_range : (a : List ℕ) → (longest_line ≤ reach a) × (reach a ≤ longest_line + 1)
+reach_range a = cond_both (get_or a longest_line 0 == 13) (longest_line + 1) longest_line (λ n. (longest_line ≤ n) × (n ≤ longest_line + 1)) (λ e. (omega arith, omega arith)) (λ e. (omega arith, omega arith))
 
-pub reach_more : (a b : List ℕ) → 4096 < length a → reach (a ++ b) ≡ reach a
-reach_more a b h = ap (λ c. cond (c == 13) 4097 4096) (get_or-append a b 0 4096 h)
+pub reach_more : (a b : List ℕ) → longest_line < length a → reach (a ++ b) ≡ reach a
+reach_more a b h = ap (λ c. cond (c == 13) (longest_line + 1) longest_line) (get_or-append a b 0 longest_line h)
 
 pub either : (b : Bool) → (b ≡ true) ⊎ (b ≡ false)
 either true = inl refl
 either false = inr refl
 
 -- reach is the same, or all of a stands before it
-reach_or : (a b : List ℕ) → (reach (a ++ b) ≡ reach a) ⊎ (length a ≤ 4096)
-reach_or a b = elim (either (nat_lt 4096 (length a))) [
-  | inl h ↦ inl (reach_more a b (ltb-true 4096 (length a) h))
-  | inr h ↦ inr (ltb-false 4096 (length a) h)
+reach_or : (a b : List ℕ) → (reach (a ++ b) ≡ reach a) ⊎ (length a ≤ longest_line)
+reach_or a b = elim (either (nat_lt longest_line (length a))) [
+  | inl h ↦ inl (reach_more a b (ltb-true longest_line (length a) h))
+  | inr h ↦ inr (ltb-false longest_line (length a) h)
 ]
 
 -- the line feed is in a and stays, or all of a stands before it
@@ -150,7 +150,7 @@ pub record WithinBytes (bytes : List ℕ) (content n : ℕ) : Type 0 where
   pub some : 1 ≤ n
   pub inner : content ≤ n
   pub whole : n ≤ length bytes
-  pub short : n ≤ 4098
+  pub short : n ≤ longest_line + 2
 
 pub line_within : (closed : Bool) (used : ℕ) (a : List ℕ) (content n : ℕ) → front_of closed used a ≡ Line content n → WithinBytes a content n
 unfolding front_of
@@ -164,15 +164,15 @@ line_within closed used a content n e =
           let w = content_within a (run a) in
           record { some = omega arith; inner = omega arith; whole = omega arith; short = omega arith }
       | inr (t, f) ↦
-          let l = last_of_three (length a == 0) (nat_lt 4096 (length a)) (length a) content n f in
+          let l = last_of_three (length a == 0) (nat_lt longest_line (length a)) (length a) content n f in
           let some : length a ≢ 0 = eqb-false (length a) 0 l.0 in
-          let near : length a ≤ 4096 = ltb-false 4096 (length a) l.1 in
+          let near : length a ≤ longest_line = ltb-false longest_line (length a) l.1 in
           record { some = omega arith; inner = omega arith; whole = omega arith; short = omega arith }
     ]
 
 -- bytes that decide nothing: they are few, and no line feed is among them
 pub record IsOpen (used : ℕ) (a : List ℕ) : Type 0 where
-  pub short : length a ≤ 4097
+  pub short : length a ≤ longest_line + 1
   pub dark : length a ≤ run a
   pub room : used + length a ≤ most_bytes
 

@@ -116,5 +116,6 @@ pub struct Needs {
 pub fn needs_have_words(needs: &Needs)
     ensures { AllByRecursion HasWords needs.now.list }
 {
+    // For the proof: a look inside tells what holds of all needs in memory.
     let _ = &needs.list.list;
 }

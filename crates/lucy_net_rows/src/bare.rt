@@ -1,5 +1,6 @@
 // The rings of a net by themselves: what is given and taken is the only thing that is done.
-ghost use Rattle.std.specs.Prelude.{ℕ, ◌≤◌, ◌<◌, ◌+◌, ◌^◌, All, length, IfOk};
+ghost use Rattle.std.specs.Prelude.{ℕ, ◌≤◌, ◌<◌, ◌+◌, All, length, IfOk};
+ghost use Rattle.lucy_ring.specs.Views.{most_between};
 ghost use Rattle.lucy_net_rows.specs.Bare.{HasMoved};
 
 use crate::moves::Moves;
@@ -35,7 +36,7 @@ impl Ring {
     // Gives an item, and answers how many went: none where the ring has no slot. Before it the ends moved no more than so many.
     #[inline(always)]
     fn give(&mut self, _moved: u64) -> i64
-        requires few { _moved < 2 ^ 40 }
+        requires few { _moved < most_between }
         requires before { HasMoved _moved self.old }
         ensures { HasMoved (_moved + 1) self.new }
     {
@@ -48,7 +49,7 @@ impl Ring {
     // Takes an item, and answers how many went: none where the ring has none. Before it the ends moved no more than so many.
     #[inline(always)]
     fn take(&mut self, _moved: u64) -> i64
-        requires few { _moved < 2 ^ 40 }
+        requires few { _moved < most_between }
         requires before { HasMoved _moved self.old }
         ensures { HasMoved (_moved + 1) self.new }
     {
@@ -106,7 +107,7 @@ impl Bare {
 
 // Makes these moves, one after another, and answers how many of them went. Before them the ends moved no more than so many items.
 fn drive(rings: &mut [Ring], moves: &[Move], moved: u64) -> i64
-    requires few { moved + length moves.now ≤ 2 ^ 40 }
+    requires few { moved + length moves.now ≤ most_between }
     requires before { All (HasMoved moved) rings.old }
     ensures { All (HasMoved (moved + length moves.now)) rings.new }
 {
@@ -123,7 +124,7 @@ fn drive(rings: &mut [Ring], moves: &[Move], moved: u64) -> i64
 #[inline(always)]
 #[tactic(auto, using(crate::proofs::BareLaws::one_on, crate::proofs::BareLaws::all_on))]
 fn make(rings: &mut [Ring], one: Move, moved: u64) -> i64
-    requires few { moved < 2 ^ 40 }
+    requires few { moved < most_between }
     requires before { All (HasMoved moved) rings.old }
     ensures { All (HasMoved (moved + 1)) rings.new }
 {

@@ -1,5 +1,7 @@
 // An input whose items are put out.
 ghost use Rattle.std.specs.Prelude.{◌≡◌, ◌+◌, ◌<◌, ◌≤◌, [], ◌∷◌, false, true, length, IfOk};
+ghost use Rattle.lucy_word.specs.Limits.{limit_number};
+ghost use Rattle.lucy_word.specs.declared.limit.Limit.TheVariants as lim;
 ghost use Rattle.lucy_net_rows.specs.Echo.{giver, taker, echo, IsEchoReady, IsAt};
 ghost use Rattle.lucy_core.specs.Seen.{IsOver};
 
@@ -80,7 +82,7 @@ fn net(alloc: Global, word: &Word) -> Result<Net, OutOfMemory>
 
 // A core of the net, for as many instants as there are items.
 fn core(alloc: Global, word: &Word, items: &[i64]) -> Result<Core, OutOfMemory>
-    requires { length items.now ≤ 1048576 }
+    requires { length items.now ≤ limit_number lim.Instants }
     ensures { IfOk result (λ core. IsEchoReady word.now items.now core) }
 {
     let net = net(alloc, word)?;
@@ -102,7 +104,7 @@ pub(crate) fn runner(
     items: &[i64],
     workers: u32,
 ) -> Result<Runner, OutOfMemory>
-    requires few { length items.now ≤ 1048576 }
+    requires few { length items.now ≤ limit_number lim.Instants }
     requires workers { (1 ≤ workers) × (workers ≤ 64) }
     ensures { IfOk result (λ runner. IsAt word.now (length items.now) runner.seen) }
 {
@@ -121,9 +123,10 @@ pub(crate) fn grow(
 ) -> Result<(), OutOfMemory>
     requires at { IsAt word.now instants runner.old.seen }
     requires over { IsOver runner.old.seen }
-    requires few { instants < 1048576 }
+    requires few { instants < limit_number lim.Instants }
     ensures { IfOk result (λ _. IsAt word.now (instants + 1) runner.new.seen) }
 {
+    // The contract alone speaks of the word.
     let _ = word.lengths();
     let Ok(inputs) = one_input(alloc, &[item]) else {
         return Err(OutOfMemory);

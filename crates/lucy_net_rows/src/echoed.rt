@@ -1,6 +1,8 @@
 // Rows of a runner of a net that is made by hand: its input is put out, by workers on threads. Printed is whether in each round two
 // workers are there at the same time, and what is put out by 1, 2, 3 and 64 workers, in one piece and in blocks of one instant.
 ghost use Rattle.std.specs.Prelude.{◌≡◌, ◌+◌, ◌<◌, ◌≤◌, [], IfOk};
+ghost use Rattle.lucy_word.specs.Limits.{limit_number};
+ghost use Rattle.lucy_word.specs.declared.limit.Limit.TheVariants as lim;
 ghost use Rattle.lucy_host.specs.Host.{Serves, lent};
 ghost use Rattle.lucy_core.specs.Seen.{IsOver};
 ghost use Rattle.lucy_net_rows.specs.Echo.{IsAt};
@@ -25,6 +27,7 @@ const EVENTS: u32 = 6;
 fn print_output(rt: &impl Print, runner: &Runner, word: &Word, instants: u64) -> io::Result<()>
     requires { IsAt word.now instants runner.now.seen }
 {
+    // The contract alone speaks of these two.
     let _ = (word.lengths(), instants);
     for item in runner.output(0) {
         print!(rt; " {item}")?;
@@ -46,6 +49,7 @@ fn make_rounds<R: Threads + Sync, F: Fn(u32, i64, i64) -> i64 + Sync, G: Gate + 
     requires at { IsAt word.now instants runner.old.seen }
     ensures at { IsAt word.now instants runner.new.seen }
 {
+    // The contract alone speaks of these two.
     let _ = (word.lengths(), instants);
     let mut rounds = 0u64;
     'rounds: for _ in 0..EVENTS {
@@ -114,7 +118,7 @@ fn print_next<R: Print + AllocGlobal + Threads + Sync, F: Fn(u32, i64, i64) -> i
     requires none { lent host.now ≡ [] }
     requires at { IsAt word.now instants runner.old.seen }
     requires over { IsOver runner.old.seen }
-    requires few { instants < 1048576 }
+    requires few { instants < limit_number lim.Instants }
     ensures at { IfOk result (λ _. IsAt word.now (instants + 1) runner.new.seen) }
     ensures over { IfOk result (λ _. IsOver runner.new.seen) }
 {

@@ -1,5 +1,7 @@
 // The actors of a net in two lists of parts, those of even numbers and those of odd ones, with the ends of all rings.
 ghost use Rattle.std.specs.Prelude.{◌≡◌, ◌≤◌, ◌∷◌, ◌++◌, [], All, length, IfOk, OnOk};
+ghost use Rattle.lucy_word.specs.Limits.{limit_number};
+ghost use Rattle.lucy_word.specs.declared.limit.Limit.TheVariants as lim;
 ghost use Rattle.lucy_net.specs.States.{IsUsable};
 ghost use Rattle.lucy_net_rows.specs.ByHand.{IsBegun, HasOneMoreGiver, HasOneMoreTaker, HasGainedGiver, HasGainedTaker, HaveGainedGiver, HaveGainedTaker, HaveJoined, AreJoined};
 
@@ -110,7 +112,7 @@ pub(crate) fn first_parts(
     items: &[i64],
     instants: u64,
 ) -> Result<(Vec<Part>, Vec<Part>), OutOfMemory>
-    requires few { length actors.now ≤ 16384 }
+    requires few { length actors.now ≤ limit_number lim.Actors }
     requires usable { All IsUsable actors.now }
     ensures { IfOk result (λ r. All IsBegun r.0.items × All IsBegun r.1.items) }
 {

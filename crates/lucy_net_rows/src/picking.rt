@@ -73,6 +73,7 @@ pub(crate) fn output_of<'a>(
     ensures took { IfSome result (λ list. (a : ℕ) (actor : Actor) → IsOutputOf core.now.net number a actor → list.now ≡ (state_of core.now).took (first_ring actor)) }
     ensures none { (result ≡ None) ↔ (length (results_in (main_of placed.now.nodes)) ≤ number) }
 {
+    // The contract alone speaks of the clocks.
     let _ = clocks.len();
     if (number as usize) < main_node(placed).results.list().len() {
         Some(core.output(number))

@@ -1,5 +1,7 @@
 // Accepted programs, made ready to be run.
 ghost use Rattle.std.specs.Prelude.{ℕ, ◌≡◌, ◌≤◌, ◌∷◌, [], List, length, IfOk, IfSome};
+ghost use Rattle.lucy_word.specs.Limits.{limit_number};
+ghost use Rattle.lucy_word.specs.declared.limit.Limit.TheVariants as lim;
 ghost use Rattle.lucy_place.specs.Proper.{HaveOperators};
 ghost use Rattle.lucy_meaning.specs.Horizons.{Suffice};
 ghost use Rattle.lucy_net.specs.Schedules.{IsSound};
@@ -51,7 +53,7 @@ pub(crate) fn one_input(alloc: Global, list: &[i64]) -> Result<Inputs, OutOfMemo
 
 // How many actors a net has.
 fn count_actors(net: &Net) -> u32
-    requires { length net.now.actors ≤ 16384 }
+    requires { length net.now.actors ≤ limit_number lim.Actors }
     ensures { result ≡ length net.now.actors }
 {
     net.actors.list().len() as u32
@@ -72,9 +74,10 @@ fn core_of(
     requires sound { IsSound net (events_at schedule) }
     requires operators { HaveOperators (length ops.now) placed.now.nodes }
     requires suffice { Suffice (param_words placed.now.nodes clocks.now) inputs instants }
-    requires early { instants ≤ 1048576 }
+    requires early { instants ≤ limit_number lim.Instants }
     ensures { IfOk result (λ core. core ≡ first_seen net schedule inputs ops.now instants) }
 {
+    // For the proof: this call tells that the nodes are proper.
     let _ = placed.nodes();
     nets_can_be_run();
     match Core::new(alloc, net, schedule, inputs, ops, instants) {
@@ -95,7 +98,7 @@ fn make_ready(
 ) -> Option<Ready>
     requires accepted { (text : List ℕ) × (o : Clocking) × IsAccepted ops.now o text accepted }
     requires count { length inputs ≡ count }
-    requires most { most ≤ 1048576 }
+    requires most { most ≤ limit_number lim.Instants }
     ensures { IfSome result (λ r. IsReady ops.now r.placed.nodes r.clocks.items r.core r.actors) }
 {
     let Accepted {
@@ -139,7 +142,7 @@ pub(crate) fn ready_text(
     most: u64,
 ) -> Option<Ready>
     requires count { length inputs ≡ count }
-    requires most { most ≤ 1048576 }
+    requires most { most ≤ limit_number lim.Instants }
     ensures { IfSome result (λ r. IsReady ops.now r.placed.nodes r.clocks.items r.core r.actors) }
 {
     match accept(alloc, text, ops, &OPTIONS) {

@@ -17,7 +17,7 @@ use Rattle.lucy_rates.specs.declared.fraction.Fraction.{Fraction}
 use Rattle.lucy_rates.specs.Walks.{first_of, second_of, no_need, need_at}
 use Rattle.lucy_rates.specs.Forests.{no_rate, rate_at, IsRateFraction, IsForest}
 use Rattle.lucy_rates.proofs.Carrying.{joined_self, below}
-use Rattle.lucy_rates.specs.Laying.{AsksTerm, AsksUpto, AreFactors, AreAsked, AsksTooMuch, HasLargeFactor, AreMultiplied, AreOnes}
+use Rattle.lucy_rates.specs.Laying.{AsksTerm, AsksUpto, AreFactors, AreAsked, AsksTooMuch, HasLargeFactor, AreMultiplied, most_ones, AreOnes}
 use Rattle.lucy_rates.proofs.Dividing.{lcm_splits}
 use Rattle.lucy_rates.proofs.Widening.{asks_more}
 
@@ -131,11 +131,11 @@ multiplied_more roots rates factors c before x so_far is few = record {
 }
 
 pub ones_more : (roots vector tops : List ℕ) (period c : ℕ) (before : List ℕ) (x : ℕ) → AreOnes roots vector tops period c before →
-    x ≡ slice_index vector c * (period / slice_index tops (slice_index roots c)) → x ≤ 2 ^ 54 → AreOnes roots vector tops period (c + 1) (before ++ x ∷ [])
+    x ≡ slice_index vector c * (period / slice_index tops (slice_index roots c)) → x ≤ most_ones → AreOnes roots vector tops period (c + 1) (before ++ x ∷ [])
 ones_more roots vector tops period c before x so_far is few = record {
   size = length_push before x ∙ ap (λ z. z + 1) so_far.size;
   each = pushed (λ i n. n ≡ slice_index vector i * (period / slice_index tops (slice_index roots i))) before c x so_far.size so_far.each is;
-  few = pushed (λ i n. n ≤ 2 ^ 54) before c x so_far.size so_far.few few;
+  few = pushed (λ i n. n ≤ most_ones) before c x so_far.size so_far.few few;
 }
 
 -- the terms of a need that is read

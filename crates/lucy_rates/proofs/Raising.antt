@@ -13,7 +13,7 @@ use Rattle.lucy_need.specs.declared.need.Term.{Term}
 use Rattle.lucy_need.specs.declared.need.Need.{Need}
 use Rattle.lucy_shape.specs.Fitting.{most_positions}
 use Rattle.lucy_rates.specs.Walks.{first_of, second_of, need_at}
-use Rattle.lucy_rates.specs.Laying.{top_to, AreTops, counts, IsCommonTo, IsPeriodTo, HasLargeCommon, prefix_of, longest_to, AreLongest}
+use Rattle.lucy_rates.specs.Laying.{top_to, AreTops, counts, IsCommonTo, IsPeriodTo, HasLargeCommon, prefix_of, longest_to, AreLongest, most_period, most_ones}
 use Rattle.lucy_rates.proofs.Asking.{at_first, at_second}
 use Rattle.lucy_rates.proofs.Dividing.{lcm_splits}
 use Rattle.lucy_rates.proofs.Topping.{counts_from, top_yes, top_no, common_more}
@@ -177,5 +177,5 @@ longest_read needs clocks k need before between after first second p q so_far l 
     (a ∙ ap (λ z. slice_set before first.clock (max (slice_index before first.clock) z)) g) (b ∙ ap (λ z. slice_set between second.clock (max (slice_index between second.clock) z)) h)
     (omega arith) (omega arith)
 
-pub ones_few : (v p t : ℕ) → v ≤ 2 ^ 32 → p ≤ 2 ^ 22 → v * (p / t) ≤ 2 ^ 54
+pub ones_few : (v p t : ℕ) → v ≤ 2 ^ 32 → p ≤ most_period → v * (p / t) ≤ most_ones
 ones_few v p t l m = let d = div-le_self p t in let x : v * (p / t) ≤ 4294967296 * 4194304 = mul-le v (p / t) 4294967296 4194304 (omega arith) (omega arith) in omega arith

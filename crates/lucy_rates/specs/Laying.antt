@@ -99,11 +99,19 @@ pub record AreLongest (needs : List Need) (clocks upto : ℕ) (prefixes : List �
   pub each : (c : ℕ) → c < clocks → slice_index prefixes c ≡ longest_to needs c upto
   pub few : (c : ℕ) → c < clocks → slice_index prefixes c ≤ most_bits
 
+-- how many instants a period has at most: the greatest common one, by the greatest scale
+abbrev pub most_period : ℕ
+most_period = 64 * most_positions
+
+-- how many ones a clock has at most in a period
+abbrev pub most_ones : ℕ
+most_ones = 2 ^ 32 * most_period
+
 -- for each of the first so many clocks the ones of a period
 pub record AreOnes (roots vector tops : List ℕ) (period upto : ℕ) (ones : List ℕ) : Type 0 where
   pub size : length ones ≡ upto
   pub each : (c : ℕ) → c < upto → slice_index ones c ≡ slice_index vector c * (period / slice_index tops (slice_index roots c))
-  pub few : (c : ℕ) → c < upto → slice_index ones c ≤ 2 ^ 54
+  pub few : (c : ℕ) → c < upto → slice_index ones c ≤ most_ones
 
 -- the shape of a clock behind others
 abbrev pub shape_behind : List ClockShape → Bool → ℕ → ℕ → ℕ → ClockShape

@@ -1,9 +1,9 @@
 // Trees of needs, and the rates that they give.
-ghost use Rattle.std.specs.Prelude.{ℕ, List, ◌≡◌, ◌⊎◌, ◌↔◌, ◌+◌, ◌*◌, ◌<◌, ◌≤◌, ◌^◌, length, slice_index, IsTrue, IfSome, IfNone, IfOk, IfErr, [], Vec};
+ghost use Rattle.std.specs.Prelude.{ℕ, List, ◌≡◌, ◌⊎◌, ◌↔◌, ◌+◌, ◌*◌, ◌<◌, ◌≤◌, length, slice_index, IsTrue, IfSome, IfNone, IfOk, IfErr, [], Vec};
 ghost use Rattle.std.specs.Int.{IsGcd};
 ghost use Rattle.std.specs.List.{All, count_by};
 ghost use Rattle.lucy_word.specs.declared.limit.Limit.TheVariants as limit;
-ghost use Rattle.lucy_word.specs.Bits.{ones_in};
+ghost use Rattle.lucy_word.specs.Bits.{most_bits, ones_in};
 ghost use Rattle.lucy_need.specs.declared.need.Term.{Term as TheTerm};
 ghost use Rattle.lucy_need.specs.Meeting.{IsWithin, most_needs};
 ghost use Rattle.lucy_need.specs.Stored.{HasWords};
@@ -40,8 +40,8 @@ pub(crate) fn factor(first: &Term, second: &Term) -> (u64, u64)
     ensures under { result.1 ≡ length first.now.word.period * ones_in second.now.word.period }
     ensures some { 0 < result.0 }
     ensures some_under { 0 < result.1 }
-    ensures few { result.0 ≤ 2 ^ 40 }
-    ensures few_under { result.1 ≤ 2 ^ 40 }
+    ensures few { result.0 ≤ most_bits * most_bits }
+    ensures few_under { result.1 ≤ most_bits * most_bits }
 {
     let (ones, length) = first.word.rate();
     let (second_ones, second_length) = second.word.rate();

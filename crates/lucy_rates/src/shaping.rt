@@ -8,9 +8,10 @@ ghost use Rattle.lucy_need.specs.Meeting.{IsWithin, AreProperNeeds};
 ghost use Rattle.lucy_need.specs.Stored.{HasWords};
 ghost use Rattle.lucy_shape.specs.declared.shape.RateFault.TheVariants as fault;
 ghost use Rattle.lucy_shape.specs.Fitting.{unused, variable_count, most_positions};
+ghost use Rattle.lucy_rates.specs.Trees.{most_rate};
 ghost use Rattle.lucy_rates.specs.Forests.{IsForest};
 ghost use Rattle.lucy_rates.specs.Vectors.{IsNamedBySome, AreBalanced, IsShapeOf, IsTooWide};
-ghost use Rattle.lucy_rates.specs.Laying.{AreTops, counts, IsPeriodTo, HasLargeCommon, AreLongest, AreOnes, laid_out};
+ghost use Rattle.lucy_rates.specs.Laying.{AreTops, counts, IsPeriodTo, HasLargeCommon, AreLongest, most_period, most_ones, AreOnes, laid_out};
 
 use crate::forest::Forest;
 use crate::vector::{factors, multiple, vector};
@@ -92,7 +93,7 @@ fn with_top(period: u64, top: u64, is_counted: bool) -> Result<u64, RateFault>
     requires some { 0 < period }
     requires few { period ≤ most_positions }
     requires top { 0 < top }
-    requires short { top ≤ 2 ^ 36 }
+    requires short { top ≤ most_bits * most_rate }
     ensures least { IfOk result (λ next. is_counted ≡ true → IsLcm period top next) }
     ensures same { IfOk result (λ next. is_counted ≡ false → next ≡ period) }
     ensures few { IfOk result (λ next. next ≤ most_positions) }
@@ -159,7 +160,7 @@ fn ones(
     requires roots { (c : ℕ) → c < length roots.now → slice_index roots.now c < length tops.now }
     requires some { (c : ℕ) → c < length roots.now → 0 < slice_index tops.now (slice_index roots.now c) }
     requires few { (c : ℕ) → c < length roots.now → slice_index vector.now c ≤ 2 ^ 32 }
-    requires short { period ≤ 2 ^ 22 }
+    requires short { period ≤ most_period }
     ensures ok { IfOk result (λ list. AreOnes roots.now vector.now tops.now period (length roots.now) list.items) }
     ensures refused { IfErr result (λ e. e ≡ fault.OutOfMemory) }
 {
@@ -181,7 +182,7 @@ fn clock_shape(
     first: u64,
 ) -> Result<ClockShape, RateFault>
     requires lead { lead ≤ 64 }
-    requires ones { ones ≤ 2 ^ 54 }
+    requires ones { ones ≤ most_ones }
     requires prefix { prefix ≤ most_bits }
     requires first { first ≤ 1 + most_positions }
     ensures used { IfOk result (λ shape. is_used ≡ true → shape ≡ record { used = true; lead = lead * ones + prefix; ones = ones; first = first }) }
@@ -218,7 +219,7 @@ fn shapes(
     is_base_used: bool,
 ) -> Result<Vec<ClockShape>, RateFault>
     requires sizes { length prefixes.now ≡ length ones.now }
-    requires ones { (c : ℕ) → c < length ones.now → slice_index ones.now c ≤ 2 ^ 54 }
+    requires ones { (c : ℕ) → c < length ones.now → slice_index ones.now c ≤ most_ones }
     requires prefixes { (c : ℕ) → c < length ones.now → slice_index prefixes.now c ≤ most_bits }
     requires lead { lead ≤ 64 }
     ensures exact { IfOk result (λ list. list.items ≡ laid_out is_base_used lead (slice_index ones.now) (slice_index prefixes.now) (length ones.now)) }

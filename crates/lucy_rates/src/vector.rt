@@ -8,6 +8,7 @@ ghost use Rattle.lucy_word.specs.declared.limit.Limit.TheVariants as limit;
 ghost use Rattle.lucy_need.specs.Meeting.{IsWithin};
 ghost use Rattle.lucy_shape.specs.declared.shape.RateFault.TheVariants as fault;
 ghost use Rattle.lucy_shape.specs.Fitting.{most_positions};
+ghost use Rattle.lucy_rates.specs.Trees.{most_rate};
 ghost use Rattle.lucy_rates.specs.Forests.{rate_at, IsRateFraction, IsForest};
 ghost use Rattle.lucy_rates.specs.Laying.{AreFactors, AreAsked, AsksTooMuch, HasLargeFactor, AreMultiplied};
 
@@ -26,7 +27,7 @@ pub(crate) fn multiple(a: u64, b: u64) -> Result<u64, RateFault>
     requires left { 0 < a }
     requires few { a ≤ most_positions }
     requires right { 0 < b }
-    requires short { b ≤ 2 ^ 36 }
+    requires short { b ≤ most_bits * most_rate }
     ensures least { IfOk result (IsLcm a b) }
     ensures few { IfOk result (λ m. m ≤ most_positions) }
     ensures refused { IfErr result (λ e. (e ≡ fault.Limit limit.Positions) × ((m : ℕ) → IsLcm a b m → most_positions < m)) }
@@ -46,7 +47,7 @@ fn share(rate: Fraction, length: u64) -> u64
     requires short { length ≤ most_bits }
     ensures exact { (n : ℕ) → ((length * rate.den) ∣ (n * rate.num) ↔ result ∣ n) }
     ensures some { 0 < result }
-    ensures few { result ≤ 2 ^ 36 }
+    ensures few { result ≤ most_bits * most_rate }
 {
     let product = length * rate.den;
     product / gcd(product, rate.num)

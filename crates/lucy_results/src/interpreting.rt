@@ -91,6 +91,7 @@ pub fn interpret<F: Fn(u32, i64, i64) -> i64 + Sync>(
     ensures items { HasManyItems (kinds_of (lent host.now)) inputs.now placed.now.nodes clocks.now instants →
         (result ≡ Err error.OutOfMemory) ⊎ (result ≡ Err (error.Limit limit.KahnItems)) }
 {
+    // For the proof: this call tells that the nodes are proper.
     let _ = placed.nodes();
     let turns = instants * places_of(placed);
     if turns > Limit::KahnTurns.number() {

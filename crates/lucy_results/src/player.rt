@@ -76,6 +76,7 @@ impl<'a> Player<'a> {
         ensures { IfOk result (λ player. player
             ≡ record { nodes = placed.now.nodes; clocks = clocks.now; kinds = kinds_of (lent host.now); inputs = inputs; instants = instants; before = 0 }) }
     {
+        // For the proof: this call tells that the nodes are proper.
         let _ = placed.nodes();
         let homes = homes_of(alloc, net.actors.list().len(), workers)?;
         let core = Core::new(alloc, net, schedule, inputs, host.ops(), instants)?;
@@ -107,6 +108,7 @@ impl<'a> Player<'a> {
         ensures ok { IfOk result (λ _. self.new ≡ record self.old { inputs = joined self.old.inputs added.now; instants = instants; before = self.old.instants }) }
         ensures refused { OnErr result (self.new ≡ self.old) }
     {
+        // For the proof: this call tells that the nodes are proper.
         let _ = self.placed.nodes();
         self.runner.more(alloc, added, instants)?;
         self.runner.go(rt, host, gate);

@@ -91,6 +91,7 @@ pub fn run_net_by_turns<T: FnOnce(&mut [Seat])>(
         × ((none : _) (after : _) → T.post turns seats none after → HaveFinished (kinds_of ops.now) seats.now after.now) }
     ensures { IfOk result (λ lists. lists ≡ main_streams (kinds_of ops.now) inputs placed.now.nodes clocks.now instants) }
 {
+    // For the proof: this call tells that the nodes are proper.
     let _ = placed.nodes();
     let homes = homes_of(alloc, net.actors.list().len(), workers)?;
     let core = Core::new(alloc, net, schedule, inputs, ops, instants)?;

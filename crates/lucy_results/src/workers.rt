@@ -123,6 +123,7 @@ pub fn run_net<R: Threads + Sync, F: Fn(u32, i64, i64) -> i64 + Sync, G: Gate + 
     ensures ok { IfOk result (λ lists. lists ≡ main_streams (kinds_of (lent host.now)) inputs placed.now.nodes clocks.now instants) }
     ensures counts { IfOk result (λ lists. map length lists ≡ map (λ word. ones_to word instants) (result_words placed.now.nodes clocks.now)) }
 {
+    // For the proof: this call tells that the nodes are proper.
     let _ = placed.nodes();
     let player = Player::new(
         rt, alloc, placed, clocks, net, schedule, host, gate, inputs, instants, workers,

@@ -166,6 +166,7 @@ fn trace_feed<F: Fn(u32, i64, i64) -> i64 + Sync, O: Sink>(
         (O.seen out.old) (O.seen out.new) result }
     ensures count { (O.seen out.old).faults ≤ (O.seen out.new).faults }
 {
+    // For the proof: this call tells that the nodes are proper.
     let _ = placed.nodes();
     nets_can_be_run();
     let Feed { items, stop } = feed;

@@ -315,6 +315,7 @@ impl Runner {
         ensures converse { (s : State) → IsState (machine_of self.now.seen) s → ((a : ℕ) → done_of self.now.seen.done a ≤ s.done a) →
             Reaches (machine_of self.now.seen) (state_of self.now.seen) (between (state_of self.now.seen).done s.done (order_of self.now.seen)) s }
     {
+        // For the proof: a look inside tells what holds of every runner.
         let _ = &self.net;
     }
 }

@@ -4,7 +4,7 @@ use Rattle.std.proofs.lemmas.Bool.{cases_eq}
 use Rattle.std.proofs.lemmas.Grind.{get_or_default_zero, get_or-set_at}
 use Rattle.std.proofs.lemmas.List.{length-set, get_or-set_other}
 use Rattle.lucy_word.specs.Bits.{Bits, ones_to, ones_in, IsWord}
-use Rattle.lucy_solve.specs.System.{most_inequalities}
+use Rattle.lucy_solve.specs.System.{most_inequalities, most_constant}
 use Rattle.lucy_shape.specs.declared.shape.ClockShape.{ClockShape}
 use Rattle.lucy_shape.specs.Added.{IsSpreadable, IsFoldable, AreFirsts}
 use Rattle.lucy_shape.specs.Fitting.{most_positions}
@@ -61,7 +61,7 @@ term_fold P N c w n i x is wide few short l at =
     record {
       placed = s.placed;
       some = subst (λ (m : ℕ). 0 < m) (sym at) (index_some w s.word (i + 1) (omega arith));
-      fits = subst (λ (m : ℕ). turns_of c m * P < 2 ^ 40) (sym at) (fold_fits c w (i + 1) P s (omega arith) short);
+      fits = subst (λ (m : ℕ). turns_of c m * P < most_constant) (sym at) (fold_fits c w (i + 1) P s (omega arith) short);
     }
 
 pub row_same : (P : ℕ) (c d : ClockShape) (m k x y : ℕ) → m ≡ x → k ≡ y → row P c m d k ≡ row P c x d y

@@ -6,7 +6,7 @@ use Rattle.std.proofs.lemmas.Nat.{mul-le}
 use Rattle.std.proofs.Math.Nat.{div-mul_cancel, div-add-mod}
 use Rattle.lucy_word.specs.Bits.{Bits, ones_to, ones_in, IsWord}
 use Rattle.lucy_word.proofs.IndexLaws.{ones_to-periods}
-use Rattle.lucy_solve.specs.System.{most_inequalities}
+use Rattle.lucy_solve.specs.System.{most_inequalities, most_constant}
 use Rattle.lucy_shape.specs.declared.shape.ClockShape.{ClockShape}
 use Rattle.lucy_shape.proofs.WordIndex.{word_index}
 use Rattle.lucy_shape.specs.Rows.{turns_of}
@@ -47,7 +47,7 @@ position_fits c u k is few =
     let d : k * c.ones ≤ 1048577 * 65537 = mul-le k c.ones 1048577 65537 few (omega arith) in
     omega arith
 
-pub fold_fits : (c : ClockShape) (u : Bits) (k P : ℕ) → IsSpreadable (1 + most_positions) c u → k ≤ 1 + most_inequalities → P ≤ most_positions → turns_of c (index_of u k) * P < 2 ^ 40
+pub fold_fits : (c : ClockShape) (u : Bits) (k P : ℕ) → IsSpreadable (1 + most_positions) c u → k ≤ 1 + most_inequalities → P ≤ most_positions → turns_of c (index_of u k) * P < most_constant
 fold_fits c u k P is few short =
     let a = index_most u (length u.prefix) c.ones k is.word (omega arith) is.placed.some is.whole in
     let s = is.short in

@@ -1,9 +1,9 @@
 -- Rows that are put behind others, and what the calls that put them rely on.
-use Rattle.std.specs.Prelude.{ℕ, ◌+◌, ◌*◌, ◌^◌, ◌<◌, ◌≤◌, ◌≡◌, ◌++◌, List, length, slice_index}
+use Rattle.std.specs.Prelude.{ℕ, ◌+◌, ◌*◌, ◌<◌, ◌≤◌, ◌≡◌, ◌++◌, List, length, slice_index}
 use Prim.Native.Nat.{◌∣◌}
 use Rattle.lucy_word.specs.Bits.{Bits, IsWord, most_bits}
 use Rattle.lucy_solve.specs.declared.diffs.Diff.{Diff}
-use Rattle.lucy_solve.specs.System.{System}
+use Rattle.lucy_solve.specs.System.{System, most_constant}
 use Rattle.lucy_shape.specs.declared.shape.ClockShape.{ClockShape}
 use Rattle.lucy_shape.specs.Fitting.{most_positions, clock_at}
 use Rattle.lucy_shape.specs.Index.{index_of}
@@ -34,11 +34,11 @@ pub record IsSmall (P count : ℕ) : Type 0 where
   pub short : P ≤ most_positions
   pub few : count ≤ 1 + most_positions
 
--- a position of a clock that can be folded, by no more than 2^40 instants
+-- a position of a clock that can be folded, by fewer instants than the greatest constant
 pub record IsFoldable (P : ℕ) (c : ClockShape) (m : ℕ) : Type 0 where
   pub placed : IsPlaced (1 + most_positions) c
   pub some : 0 < m
-  pub fits : turns_of c m * P < 2 ^ 40
+  pub fits : turns_of c m * P < most_constant
 
 -- at the first so many places of the list stand the positions of the word's first ones
 pub record AreFirsts (w : Bits) (count : ℕ) (list : List ℕ) : Type 0 where

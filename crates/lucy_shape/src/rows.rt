@@ -1,6 +1,6 @@
 // Single inequalities, put behind others.
-ghost use Rattle.std.specs.Prelude.{ℕ, ◌≡◌, ◌+◌, ◌*◌, ◌/◌, ◌<◌, ◌≤◌, ◌∷◌, [], OnOk, IfErr, ◌^◌};
-ghost use Rattle.lucy_solve.specs.System.{IsProper};
+ghost use Rattle.std.specs.Prelude.{ℕ, ◌≡◌, ◌+◌, ◌*◌, ◌/◌, ◌<◌, ◌≤◌, ◌∷◌, [], OnOk, IfErr};
+ghost use Rattle.lucy_solve.specs.System.{most_constant, IsProper};
 ghost use Rattle.lucy_shape.specs.declared.shape.RateFault.TheVariants as fault;
 ghost use Rattle.lucy_shape.specs.Fitting.{variable_of};
 ghost use Rattle.lucy_shape.specs.Rows.{turns_of, folded, row};
@@ -52,7 +52,7 @@ fn place(clock: &ClockShape, period: u64, position: u64) -> (u32, u64)
     ensures var { result.0 ≡ variable_of clock.now (folded clock.now position) }
     ensures add { result.1 ≡ turns_of clock.now position * period }
     ensures within { result.0 < clock.now.first + clock.now.lead + clock.now.ones }
-    ensures few { result.1 < 2 ^ 40 }
+    ensures few { result.1 < most_constant }
 {
     let past = position.saturating_sub(clock.lead).saturating_sub(1);
     let turns = turns(past, clock.ones);

@@ -1,12 +1,12 @@
 -- Chains of inequalities: what a walk along the first positions of a list knows, and why a negative cycle has no solution.
-use Rattle.std.proofs.Common.{◌^◌, neg_ℤ, inl, inr, ◌-◌, ◌≡◌, ℕ, ◌+◌, ◌*◌, ◌<◌, ◌≤◌, ℤ, pos, ◌+ℤ◌, ◌≤ℤ◌, ◌<ℤ◌, List, length, take, get_or, zero, suc, sym, ap, ◌∙◌, subst, refl, arith}
+use Rattle.std.proofs.Common.{neg_ℤ, inl, inr, ◌-◌, ◌≡◌, ℕ, ◌+◌, ◌*◌, ◌<◌, ◌≤◌, ℤ, pos, ◌+ℤ◌, ◌≤ℤ◌, ◌<ℤ◌, List, length, take, get_or, zero, suc, sym, ap, ◌∙◌, subst, refl, arith}
 use Rattle.std.proofs.lemmas.Int.{ints}
 use Rattle.std.proofs.lemmas.Bool.{cases_lt}
 use Rattle.std.proofs.lemmas.List.{take_all}
 use Rattle.std.proofs.lemmas.List.Sums.{fold_more}
 use borrow.Author.Count.{below_more}
 use Rattle.lucy_solve.specs.declared.diffs.Diff.{Diff}
-use Rattle.lucy_solve.specs.System.{System, diff_at, IsProper, Solves, HasNoSolution, value, constants, IsNegativeCycle}
+use Rattle.lucy_solve.specs.System.{System, diff_at, IsProper, Solves, HasNoSolution, value, constants, IsNegativeCycle, most_constant, most_inequalities}
 
 pub constants_more : (list : List Diff) (cycle : List ℕ) (k : ℕ) → k < length cycle → constants list (take (k + 1) cycle) ≡ constants list (take k cycle) +ℤ (diff_at list (get_or cycle k 0)).most
 constants_more list cycle k h = fold_more (λ s i. s +ℤ (diff_at list i).most) (pos 0) cycle k 0 h
@@ -17,8 +17,8 @@ pub record Walked (list : List Diff) (cycle : List ℕ) (k at : ℕ) (sum : ℤ)
   pub last : (j : ℕ) → j + 1 ≡ k → (diff_at list (get_or cycle j 0)).right ≡ at
   pub start : k ≡ 0 → at ≡ (diff_at list (get_or cycle 0 0)).left
   pub is : sum ≡ constants list (take k cycle)
-  pub low : neg_ℤ (pos (2 ^ 40 * k)) ≤ℤ sum
-  pub high : sum ≤ℤ pos (2 ^ 40 * k)
+  pub low : neg_ℤ (pos (most_constant * k)) ≤ℤ sum
+  pub high : sum ≤ℤ pos (most_constant * k)
 
 pub walked_none : (list : List Diff) (cycle : List ℕ) (at : ℕ) → at ≡ (diff_at list (get_or cycle 0 0)).left → Walked list cycle 0 at (pos 0)
 walked_none list cycle at e = record {
@@ -91,7 +91,7 @@ refuted s cycle n ys h =
     absurd (omega (arith, ints))
 
 -- the whole walk, closed, is a cycle exactly as the checker says
-pub is_cycle : (list : List Diff) (cycle : List ℕ) (at : ℕ) (sum : ℤ) → Walked list cycle (length cycle) at sum → 0 < length cycle → length cycle ≤ 1048576 →
+pub is_cycle : (list : List Diff) (cycle : List ℕ) (at : ℕ) (sum : ℤ) → Walked list cycle (length cycle) at sum → 0 < length cycle → length cycle ≤ most_inequalities →
     at ≡ (diff_at list (get_or cycle 0 0)).left → sum <ℤ pos 0 → IsNegativeCycle list cycle
 is_cycle list cycle at sum w some few e h = record {
   some = some;

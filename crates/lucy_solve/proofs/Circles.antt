@@ -2,7 +2,7 @@
 use Rattle.std.proofs.Common.{◌-◌, ◌≡◌, ℕ, ◌+◌, ◌<◌, ◌≤◌, ℤ, pos, negsuc, ◌+ℤ◌, ◌≤ℤ◌, ◌<ℤ◌, List, length, take, get_or, zero, suc, ap, ◌∙◌, subst, refl, arith}
 use Rattle.std.proofs.lemmas.Int.{ints}
 use Rattle.std.proofs.lemmas.List.{take_all}
-use Rattle.lucy_solve.specs.System.{System, diff_at, IsSystem, HasNoSolution, constants, IsNegativeCycle}
+use Rattle.lucy_solve.specs.System.{System, diff_at, IsSystem, HasNoSolution, constants, IsNegativeCycle, most_inequalities}
 use Rattle.lucy_solve.specs.Search.{IsLift, IsReached}
 use Rattle.lucy_solve.proofs.Chains.{constants_more, refuted}
 use Rattle.lucy_solve.specs.Parents.{IsRound, HasTargets}
@@ -49,7 +49,7 @@ falling s x parents cycle h p r (suc j) l =
     let strict = subst (λ (m : ℕ). (pos (get_or x (diff_at s.list (get_or cycle j 0)).right 0) +ℤ constants s.list (take m cycle)) ≡ pos (get_or x (diff_at s.list (get_or cycle 0 0)).left 0) → h.rank (diff_at s.list (get_or cycle 0 0)).left < h.rank (diff_at s.list (get_or cycle j 0)).right) same (falling s x parents cycle h p r j (omega arith)).strict in
     record { most = omega (arith, ints); strict = λ g. let u = strict (omega (arith, ints)) in let w = k.strict (omega (arith, ints)) in omega arith }
 
-pub negative : (s : System) (x parents cycle : List ℕ) → IsReached s x parents → IsSystem s → length s.list ≤ 1048576 → IsRound s parents cycle → IsNegativeCycle s.list cycle
+pub negative : (s : System) (x parents cycle : List ℕ) → IsReached s x parents → IsSystem s → length s.list ≤ most_inequalities → IsRound s parents cycle → IsNegativeCycle s.list cycle
 negative s x parents cycle h p few r =
     let k = length cycle - 1 in
     let some : 0 < length cycle = r.some in
@@ -73,5 +73,5 @@ negative s x parents cycle h p few r =
 pub targets : (s : System) (x parents : List ℕ) → IsReached s x parents → HasTargets s parents
 targets s x parents h v k l = (h.lifted v k l).target
 
-pub refuses : (s : System) (x parents cycle : List ℕ) → IsReached s x parents → IsSystem s → length s.list ≤ 1048576 → IsRound s parents cycle → IsNegativeCycle s.list cycle × HasNoSolution s
+pub refuses : (s : System) (x parents cycle : List ℕ) → IsReached s x parents → IsSystem s → length s.list ≤ most_inequalities → IsRound s parents cycle → IsNegativeCycle s.list cycle × HasNoSolution s
 refuses s x parents cycle h p few r = let a = negative s x parents cycle h p few r in (a, refuted s cycle a)

@@ -1,13 +1,13 @@
 -- One lift of a variable keeps what the search knows.
-use Rattle.std.proofs.Common.{◌^◌, neg_ℤ, inl, inr, ◌≡◌, ℕ, ◌+◌, ◌<◌, ◌≤◌, ℤ, pos, negsuc, ◌+ℤ◌, ◌≤ℤ◌, List, length, get_or, set, replicate, sym, ap, ◌∙◌, subst, refl, arith}
+use Rattle.std.proofs.Common.{neg_ℤ, inl, inr, ◌≡◌, ℕ, ◌+◌, ◌<◌, ◌≤◌, ℤ, pos, negsuc, ◌+ℤ◌, ◌≤ℤ◌, List, length, get_or, set, replicate, sym, ap, ◌∙◌, subst, refl, arith}
 use Rattle.std.proofs.lemmas.Int.{ints}
 use Rattle.std.proofs.lemmas.Bool.{cases_eq}
 use Rattle.std.proofs.lemmas.List.{get_or-set_same, get_or-set_other, length-set, length-replicate}
-use Rattle.lucy_solve.specs.System.{System, diff_at, no_diff, IsProper, IsSystem, value, IsGrounded}
+use Rattle.lucy_solve.specs.System.{System, diff_at, no_diff, IsProper, IsSystem, value, IsGrounded, most_constant}
 use Rattle.lucy_solve.specs.Search.{shifted, IsLift, IsReached}
 use Rattle.lucy_solve.proofs.Places.{put, put_same, put_other, at_set, first_at}
 
-pub shifted_is : (z : ℤ) → neg_ℤ (pos (2 ^ 40)) ≤ℤ z → pos (shifted z) ≡ z +ℤ pos (2 ^ 40)
+pub shifted_is : (z : ℤ) → neg_ℤ (pos most_constant) ≤ℤ z → pos (shifted z) ≡ z +ℤ pos most_constant
 shifted_is (pos n) h = omega (arith, ints)
 shifted_is (negsuc n) h = omega (arith, ints)
 
@@ -15,7 +15,7 @@ pub proper : (s : System) → IsSystem s → (i : ℕ) → i < length s.list →
 proper s h i l = h i no_diff l
 
 lifted_here : (s : System) (x : List ℕ) (i to : ℕ) (rank : ℕ → ℕ) (top : ℕ) → ((v : ℕ) → rank v < top) → (diff_at s.list i).right < length x →
-    get_or x (diff_at s.list i).right 0 < to → to + shifted (diff_at s.list i).most ≡ get_or x (diff_at s.list i).left 0 + 2 ^ 40 →
+    get_or x (diff_at s.list i).right 0 < to → to + shifted (diff_at s.list i).most ≡ get_or x (diff_at s.list i).left 0 + most_constant →
     (v j : ℕ) → v ≡ (diff_at s.list i).right → j ≡ i → IsLift s.list (set x (diff_at s.list i).right to) (put rank (diff_at s.list i).right top) v j
 lifted_here s x i to rank top below in' more e v j f g =
     let r = (diff_at s.list i).right in
@@ -45,7 +45,7 @@ lifted_there s x r to rank top in' more v j n h =
 
 -- variable r of inequality i is lifted to `to`
 pub lift : (s : System) (x parents : List ℕ) (i to : ℕ) → IsReached s x parents → IsSystem s → i < length s.list →
-    get_or x (diff_at s.list i).right 0 < to → to + shifted (diff_at s.list i).most ≡ get_or x (diff_at s.list i).left 0 + 2 ^ 40 →
+    get_or x (diff_at s.list i).right 0 < to → to + shifted (diff_at s.list i).most ≡ get_or x (diff_at s.list i).left 0 + most_constant →
     IsReached s (set x (diff_at s.list i).right to) (set parents (diff_at s.list i).right i)
 lift s x parents i to h p l more e =
     let d = diff_at s.list i in

@@ -1,17 +1,17 @@
 -- One inequality that is looked at.
-use Rattle.std.proofs.Common.{◌^◌, inl, inr, ◌≡◌, ℕ, ◌+◌, ◌*◌, ◌<◌, ◌≤◌, List, length, set, get_or, Bool, true, false, sum, sym, ap, ◌∙◌, subst, refl, arith}
+use Rattle.std.proofs.Common.{inl, inr, ◌≡◌, ℕ, ◌+◌, ◌*◌, ◌<◌, ◌≤◌, List, length, set, get_or, Bool, true, false, sum, sym, ap, ◌∙◌, subst, refl, arith}
 use Rattle.std.proofs.Common.{to_z, of_z, w64}
 use Rattle.std.proofs.lemmas.Int.{ints}
 use Rattle.std.proofs.lemmas.Bool.{cases_lt}
 use Rattle.std.proofs.lemmas.List.{length-set, get_or_past}
 use Rattle.lucy_solve.specs.declared.diffs.Diff.{Diff}
-use Rattle.lucy_solve.specs.System.{System, diff_at, IsProper, IsSystem}
+use Rattle.lucy_solve.specs.System.{System, diff_at, IsProper, IsSystem, most_constant}
 use Rattle.lucy_solve.specs.Search.{shifted, IsReached, AreWithin, IsRaised}
 use Rattle.lucy_solve.proofs.Places.{at_set, sum_set}
 use Rattle.lucy_solve.proofs.Lifts.{lift, proper}
 
 raised_here : (s : System) (x parents : List ℕ) (i to : ℕ) → IsSystem s → IsReached s x parents → i < length s.list →
-    get_or x (diff_at s.list i).right 0 < to → to + shifted (diff_at s.list i).most ≡ get_or x (diff_at s.list i).left 0 + 2 ^ 40 → IsRaised s.list x (set x (diff_at s.list i).right to) i true
+    get_or x (diff_at s.list i).right 0 < to → to + shifted (diff_at s.list i).most ≡ get_or x (diff_at s.list i).left 0 + most_constant → IsRaised s.list x (set x (diff_at s.list i).right to) i true
 raised_here s x parents i to p h l more f =
     let r = (diff_at s.list i).right in
     let a = proper s p i l in let b = a.left in let c = a.right in let v = h.value_count in
@@ -29,10 +29,10 @@ raised_here s x parents i to p h l more f =
 
 -- variable r of inequality i is lifted
 pub raised_step : (s : System) (list : List Diff) (x parents : List ℕ) (i to : ℕ) → list ≡ s.list → IsSystem s → IsReached s x parents → i < length s.list →
-    get_or x (diff_at list i).right 0 < to → to + shifted (diff_at list i).most ≡ get_or x (diff_at list i).left 0 + 2 ^ 40 →
+    get_or x (diff_at list i).right 0 < to → to + shifted (diff_at list i).most ≡ get_or x (diff_at list i).left 0 + most_constant →
     IsReached s (set x (diff_at list i).right to) (set parents (diff_at list i).right i) × IsRaised s.list x (set x (diff_at list i).right to) i true
 raised_step s list x parents i to e p h l more f =
-    let P : List Diff → Type 0 = λ list. get_or x (diff_at list i).right 0 < to → to + shifted (diff_at list i).most ≡ get_or x (diff_at list i).left 0 + 2 ^ 40 →
+    let P : List Diff → Type 0 = λ list. get_or x (diff_at list i).right 0 < to → to + shifted (diff_at list i).most ≡ get_or x (diff_at list i).left 0 + most_constant →
     IsReached s (set x (diff_at list i).right to) (set parents (diff_at list i).right i) × IsRaised s.list x (set x (diff_at list i).right to) i true in
     let here : P s.list = λ more f. (lift s x parents i to h p l more f, raised_here s x parents i to p h l more f) in
     subst P (sym e) here more f
@@ -45,7 +45,7 @@ raised_grown list x x' i false r = let a = ap sum (r.still refl).0 in omega arit
 -- a look lifts no value by more than 2^40 past the highest
 pub raised_within : (list : List Diff) (x x' : List ℕ) (i n : ℕ) (moved : Bool) → IsRaised list x x' i moved → AreWithin x n → AreWithin x' (n + 1)
 raised_within list x x' i n moved r w =
-    let low : get_or x (diff_at list i).left 0 ≤ 2 ^ 40 * n = elim (cases_lt (diff_at list i).left (length x)) [
+    let low : get_or x (diff_at list i).left 0 ≤ most_constant * n = elim (cases_lt (diff_at list i).left (length x)) [
       | inl l ↦ w (diff_at list i).left l
       | inr l ↦ let a = get_or_past x (diff_at list i).left 0 l in omega arith
     ] in

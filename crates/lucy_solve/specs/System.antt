@@ -9,6 +9,10 @@ use Rattle.lucy_solve.specs.declared.diffs.Diff.{Diff}
 abbrev pub most_inequalities : ℕ
 most_inequalities = limit_number limit.Inequalities
 
+-- how far from 0 a constant may be
+abbrev pub most_constant : ℕ
+most_constant = 2 ^ 40
+
 -- how many variables there are, and the inequalities between them
 pub record System : Type 0 where
   pub count : ℕ
@@ -22,12 +26,12 @@ no_diff = record { left = 0; right = 0; most = pos 0 }
 abbrev pub diff_at : List Diff → ℕ → Diff
 diff_at list i = slice_index_or list i no_diff
 
--- an inequality between two of the variables, with a constant from -2^40 to 2^40
+-- an inequality between two of the variables, with a constant that isn't too far from 0
 pub record IsProper (count : ℕ) (diff : Diff) : Type 0 where
   pub left : diff.left < count
   pub right : diff.right < count
-  pub low : neg_ℤ (pos (2 ^ 40)) ≤ℤ diff.most
-  pub high : diff.most ≤ℤ pos (2 ^ 40)
+  pub low : neg_ℤ (pos most_constant) ≤ℤ diff.most
+  pub high : diff.most ≤ℤ pos most_constant
 
 -- each inequality is proper
 abbrev pub IsSystem : System → Type 0

@@ -1,7 +1,7 @@
 // One inequality: its right variable is lifted where the values break it.
-ghost use Rattle.std.specs.Prelude.{◌≡◌, ◌<◌, ◌≤◌, ◌^◌, length, pos, neg_ℤ, ◌≤ℤ◌};
-ghost use Rattle.lucy_solve.specs.System.{most_inequalities};
-ghost use Rattle.lucy_solve.specs.Search.{shifted, IsReached, AreWithin, IsRaised, IsSwept};
+ghost use Rattle.std.specs.Prelude.{◌≡◌, ◌<◌, ◌≤◌, ◌*◌, length, pos, neg_ℤ, ◌≤ℤ◌};
+ghost use Rattle.lucy_solve.specs.System.{most_inequalities, most_constant};
+ghost use Rattle.lucy_solve.specs.Search.{shifted, IsReached, AreWithin, most_lifted, most_swept, IsRaised, IsSwept};
 
 use crate::Diffs;
 
@@ -9,10 +9,10 @@ use crate::Diffs;
 const SHIFT: u64 = 1 << 40;
 
 fn shifted(most: i64) -> u64
-    requires low { neg_ℤ (pos (2 ^ 40)) ≤ℤ most }
-    requires high { most ≤ℤ pos (2 ^ 40) }
+    requires low { neg_ℤ (pos most_constant) ≤ℤ most }
+    requires high { most ≤ℤ pos most_constant }
     ensures is { result ≡ shifted most }
-    ensures fits { result ≤ 2 ^ 41 }
+    ensures fits { result ≤ 2 * most_constant }
 {
     (most + SHIFT as i64) as u64
 }
@@ -20,7 +20,7 @@ fn shifted(most: i64) -> u64
 // Whether the variable was lifted. The parent of a variable is the inequality that lifted it last.
 pub(crate) fn lift(diffs: &Diffs, values: &mut [u64], parents: &mut [u32], position: usize) -> bool
     requires reached { IsReached diffs.now values.old parents.old }
-    requires within { AreWithin values.old 4194304 }
+    requires within { AreWithin values.old most_lifted }
     requires few { length diffs.now.list ≤ most_inequalities }
     requires inside { position < length diffs.now.list }
     ensures reached { IsReached diffs.now values.new parents.new }
@@ -48,7 +48,7 @@ pub(crate) fn lift_from_low(
     position: usize,
 ) -> Option<usize>
     requires reached { IsReached diffs.now values.old parents.old }
-    requires within { AreWithin values.old 2097153 }
+    requires within { AreWithin values.old most_swept }
     requires few { length diffs.now.list ≤ most_inequalities }
     ensures swept { IsSwept diffs.now values.old values.new parents.new }
 {

@@ -2,7 +2,7 @@ ghost use Rattle.std.specs.Prelude.{◌≡◌, ◌<◌, ◌≤◌, ◌^◌, ◌�
 ghost use Rattle.std.specs.List.{All};
 ghost use Rattle.lucy_solve.specs.System.{IsSystem, IsGrounded, IsEarliest, HasNoSolution, most_inequalities};
 ghost use Rattle.lucy_solve.specs.Outcomes.{IsOutcome, IsCycle, IsRefutedBy};
-ghost use Rattle.lucy_solve.specs.Search.{IsReached, AreWithin};
+ghost use Rattle.lucy_solve.specs.Search.{IsReached, AreWithin, most_swept};
 
 use crate::cycle::find_cycle;
 use crate::flow::Flow;
@@ -40,7 +40,7 @@ fn settle(
     requires proper { IsSystem diffs.now }
     requires few { length diffs.now.list ≤ most_inequalities }
     ensures settled { IfOk result (λ o. MatchOption o (IsEarliest diffs.now (map pos values.new)) (λ cycle. IsRefutedBy diffs.now cycle.items)) }
-    ensures within { IfOk result (λ _. AreWithin values.new 2097153) }
+    ensures within { IfOk result (λ _. AreWithin values.new most_swept) }
 {
     let mut backwards = false;
     let mut passes = 0u32;

@@ -1,7 +1,7 @@
 // Visits of variables, each of which tries the inequalities from it. A variable is visited again only where it moved since.
 ghost use Rattle.std.specs.Prelude.{◌≤◌, length, IfOk};
 ghost use Rattle.lucy_solve.specs.System.{most_inequalities};
-ghost use Rattle.lucy_solve.specs.Search.{IsReached, AreWithin, IsSwept};
+ghost use Rattle.lucy_solve.specs.Search.{IsReached, AreWithin, most_swept, IsSwept};
 
 use crate::flow::Flow;
 use crate::lift::lift_from_low;
@@ -22,7 +22,7 @@ fn visit(
     moved: &mut Moved,
 ) -> Result<(), OutOfMemory>
     requires reached { IsReached diffs.now values.old parents.old }
-    requires within { AreWithin values.old 2097153 }
+    requires within { AreWithin values.old most_swept }
     requires few { length diffs.now.list ≤ most_inequalities }
     ensures swept { IfOk result (λ _. IsSwept diffs.now values.old values.new parents.new) }
 {
@@ -44,7 +44,7 @@ fn round(
     moved: &mut Moved,
 ) -> Result<(), OutOfMemory>
     requires reached { IsReached diffs.now values.old parents.old }
-    requires within { AreWithin values.old 2097153 }
+    requires within { AreWithin values.old most_swept }
     requires few { length diffs.now.list ≤ most_inequalities }
     ensures swept { IfOk result (λ _. IsSwept diffs.now values.old values.new parents.new) }
 {
@@ -68,7 +68,7 @@ pub(crate) fn sweep(
     flow: &Flow,
 ) -> Result<(), OutOfMemory>
     requires reached { IsReached diffs.now values.old parents.old }
-    requires within { AreWithin values.old 2097153 }
+    requires within { AreWithin values.old most_swept }
     requires few { length diffs.now.list ≤ most_inequalities }
     ensures swept { IfOk result (λ _. IsSwept diffs.now values.old values.new parents.new) }
 {

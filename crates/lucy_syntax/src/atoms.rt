@@ -57,11 +57,14 @@ pub(crate) fn bound<'a, 't>(ts: &'a [Token<'t>]) -> Option<((u64, Lit, Span), &'
     }
 }
 
+// The greatest bound that a buffer may have, in items.
+const MOST_BOUND: i64 = 4_095;
+
 // Whether the number may be a buffer's bound.
 fn may_bound(n: i64) -> bool
     ensures { result ≡ is_bound (what.Number n) }
 {
-    0 <= n && n <= 4095
+    0 <= n && n <= MOST_BOUND
 }
 
 // The bound that the number is.

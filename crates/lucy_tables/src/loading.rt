@@ -1,6 +1,7 @@
 // The tables of files.
-ghost use Rattle.std.specs.Prelude.{ℕ, ◌≡◌, ◌⊎◌, ◌≤◌, ◌+◌, ◌^◌, ◌∷◌, ◌++◌, [], List, Result, IfOk, IfErr, OnOk, length};
+ghost use Rattle.std.specs.Prelude.{ℕ, ◌≡◌, ◌⊎◌, ◌≤◌, ◌+◌, ◌∷◌, ◌++◌, [], List, Result, IfOk, IfErr, OnOk, length};
 ghost use Rattle.lucy_text.specs.declared.shelf.ShelfError.{ShelfError as Fault};
+ghost use Rattle.lucy_host.specs.Operators.{most_operators};
 ghost use Rattle.lucy_app.specs.World.{bytes_of, Fetched};
 ghost use Rattle.lucy_tables.specs.Loading.{file_of, table_operator};
 ghost use Rattle.lucy_tables.specs.Named.{table_named, tables_named};
@@ -55,7 +56,7 @@ fn table_of<'a, S: Shelf>(
 
 // Puts the operator of a table behind the others, none of which has its name.
 fn add(alloc: Global, ops: &mut Ops, name: &str, table: Table) -> Result<(), AllocError>
-    requires { length ops.old + 1 ≤ 2 ^ 16 }
+    requires { length ops.old + 1 ≤ most_operators }
     ensures { OnOk result (ops.new ≡ ops.old ++ table_operator name.now table ∷ []) }
 {
     match ops.add(alloc, name, HostKind::Table(table)) {
@@ -72,7 +73,7 @@ pub(crate) fn load<'a, S: Shelf>(
     shelf: &mut S,
     ops: &mut Ops,
 ) -> Result<(), Refusal<'a>>
-    requires { length ops.old + length tables.now ≤ 2 ^ 16 }
+    requires { length ops.old + length tables.now ≤ most_operators }
     ensures loads { Loads (tables_named tables.now) (S.seen shelf.old) (S.seen shelf.new) ops.old ops.new result }
     ensures none { tables.now ≡ [] → shelf.new ≡ shelf.old }
     ensures count { (S.seen shelf.old).faults ≤ (S.seen shelf.new).faults }

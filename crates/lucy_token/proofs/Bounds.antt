@@ -6,7 +6,7 @@ use Rattle.lucy_token.specs.declared.token.Kind.TheVariants as kind
 use Rattle.lucy_token.specs.declared.state.Side.{Side}
 use Rattle.lucy_token.specs.declared.state.Side.TheVariants as side
 use Rattle.lucy_token.specs.declared.state.Level.{Level}
-use Rattle.lucy_token.specs.States.{ScanState, after, closed, moved, counted_after, nodes_after, level_after, merging, HasCountRoom}
+use Rattle.lucy_token.specs.States.{ScanState, after, closed, moved, counted_after, nodes_after, level_after, merging}
 use Rattle.lucy_token.specs.Steps.{FewCommas, IsBounded}
 
 few_more : (n m : ℕ) (ls : List Level) → n ≤ m → FewCommas n ls → FewCommas m ls
@@ -69,6 +69,3 @@ after_bounded n s k b = level_bounded n s k b
 
 pub bounded_more : (n m : ℕ) (s : ScanState) → n ≤ m → IsBounded n s → IsBounded m s
 bounded_more n m s h b = record { counted = omega (arith, b.counted); nodes = omega (arith, b.nodes); commas = few_more n m (s.level ∷ s.outer) h b.commas }
-
-pub has_room : (n : ℕ) (s : ScanState) → n < 4294967295 → IsBounded n s → HasCountRoom s
-has_room n s h b = (omega (arith, b.counted), omega (arith, b.nodes), omega (arith, b.commas.0))

@@ -1,5 +1,5 @@
 -- The scanner's state: what it keeps of the tokens before, and how each token changes it.
-use Rattle.std.specs.Prelude.{ℕ, ◌+◌, ◌-◌, ◌<◌, Bool, true, false, List, [], ◌∷◌, length, Option, None, nat_le, ◌&&◌, ◌||◌}
+use Rattle.std.specs.Prelude.{ℕ, ◌+◌, ◌-◌, ◌^◌, ◌<◌, Bool, true, false, List, [], ◌∷◌, length, Option, None, nat_le, ◌&&◌, ◌||◌}
 use Rattle.lucy_word.specs.Limits.{limit_number}
 use Rattle.lucy_word.specs.declared.limit.Limit.{Limit}
 use Rattle.lucy_word.specs.declared.limit.Limit.TheVariants as limit
@@ -147,4 +147,4 @@ state_of (k ∷ ks) = after (state_of ks) k
 
 -- what is counted may go one up
 abbrev pub HasCountRoom : ScanState → Type 0
-HasCountRoom s = (s.counted < 4294967295) × (s.nodes < 4294967295) × (s.level.commas < 4294967295)
+HasCountRoom s = (s.counted + 1 < 2 ^ 32) × (s.nodes + 1 < 2 ^ 32) × (s.level.commas + 1 < 2 ^ 32)

@@ -1,5 +1,5 @@
 // What is known of a text before a token.
-ghost use Rattle.std.specs.Prelude.{◌≡◌, ◌<◌, OnOk};
+ghost use Rattle.std.specs.Prelude.{◌≡◌, ◌+◌, ◌^◌, ◌<◌, OnOk};
 ghost use Rattle.lucy_token.specs.Before as before;
 ghost use Rattle.lucy_token.specs.States as spec;
 
@@ -74,7 +74,7 @@ fn side_after(side: Side, before: Kind, kind: Kind) -> Side
 }
 
 fn counted_after(side: Side, counted: u32, kind: Kind) -> u32
-    requires { counted < 4294967295 }
+    requires { counted + 1 < 2 ^ 32 }
     ensures { result ≡ spec.counted_after side counted kind }
 {
     match (side, kind) {
@@ -86,7 +86,7 @@ fn counted_after(side: Side, counted: u32, kind: Kind) -> u32
 }
 
 fn nodes_after(nodes: u32, kind: Kind) -> u32
-    requires { nodes < 4294967295 }
+    requires { nodes + 1 < 2 ^ 32 }
     ensures { result ≡ spec.nodes_after nodes kind }
 {
     match kind {
@@ -117,7 +117,7 @@ fn merging(before: Kind, level: Level) -> Level
 }
 
 fn level_after(before: Kind, level: Level, kind: Kind) -> Level
-    requires { level.commas < 4294967295 }
+    requires { level.commas + 1 < 2 ^ 32 }
     ensures { result ≡ spec.level_after before level kind }
 {
     match kind {

@@ -47,6 +47,7 @@ fn are_numbers(items: &[i64])
     ensures { Fit items.now }
 {
     'each: for item in items {
+        // For the proof: a number that is read fits its type.
         let _number = *item;
     }
 }

@@ -155,5 +155,6 @@ impl Word {
 pub fn words_are_stored(word: &Word)
     ensures { IsStored word.now }
 {
+    // For the proof: a look inside tells what holds of all words in memory.
     let _ = &word.period;
 }

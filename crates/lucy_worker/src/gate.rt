@@ -1,4 +1,4 @@
-ghost use Rattle.std.specs.Prelude.{ℕ, ◌≡◌, ◌+◌, ◌<◌};
+ghost use Rattle.std.specs.Prelude.{ℕ, ◌≡◌, ◌+◌, ◌^◌, ◌<◌};
 
 /// A gate that workers pass. `Worker::advance` passes it once and then moves its actors.
 pub trait Gate {
@@ -33,7 +33,7 @@ impl Passages {
 
     // Passes the gate once, and counts it.
     pub(crate) fn pass<G: Gate + Sync>(&mut self, gate: &G, worker: u32)
-        requires few { self.old.count < 1024 }
+        requires few { self.old.count + 1 < 2 ^ 32 }
         ensures passed { G.passed gate.now worker }
         ensures counted { self.new.count ≡ self.old.count + 1 }
     {
