@@ -58,27 +58,15 @@ pub fn summary<R: Threads + Sync, F: Fn(u32, i64, i64) -> i64 + Sync, G: Gate + 
         workers,
         block,
     };
-    let mut source = match made_source(alloc) {
-        Ok(source) => source,
-        Err(_) => return Err(Ending::OutOfMemory),
-    };
-    let mut course = match Course::new(
+    let mut source = made_source(alloc)?;
+    let mut course = Course::new(
         rt, alloc, &placed, &clocks, net, schedule, inputs, host, gate, pace,
-    ) {
-        Ok(course) => course,
-        Err(_) => return Err(Ending::OutOfMemory),
-    };
-    let tally = match tell(rt, alloc, host, gate, &mut course, &mut source) {
-        Ok(tally) => tally,
-        Err(_) => return Err(Ending::OutOfMemory),
-    };
+    )?;
+    let tally = tell(rt, alloc, host, gate, &mut course, &mut source)?;
     let instants = course.horizon();
     match course.finish(&mut source) {
         Ending::Done => {}
         end => return Err(end),
     }
-    match print(alloc, stages, counts, instants, tally) {
-        Ok(lines) => Ok(lines),
-        Err(_) => Err(Ending::OutOfMemory),
-    }
+    Ok(print(alloc, stages, counts, instants, tally)?)
 }
