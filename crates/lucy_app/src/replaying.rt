@@ -1,11 +1,11 @@
 // The command `replay`: the events of a log, over a program of a file and its input.
-ghost use Rattle.std.specs.Prelude.{◌≡◌, ◌≢◌, ◌≤◌, ◌⊎◌, ℕ, List, [], None, IfSome};
+ghost use Rattle.std.specs.Prelude.{◌≡◌, ◌≢◌, ◌≤◌, ◌⊎◌, ℕ, List, [], None};
 ghost use Rattle.lucy_word.specs.Limits.{limit_number};
 ghost use Rattle.lucy_word.specs.declared.limit.Limit.TheVariants as limit;
 ghost use Rattle.lucy_host.specs.Host.{Serves, lent};
 ghost use Rattle.lucy_text.specs.Sources.{ReadStop, Read};
-ghost use Rattle.lucy_front.specs.declared.options.Options.{Options};
-ghost use Rattle.lucy_front.specs.Accepting.{IsAccepted};
+ghost use Rattle.lucy_run.specs.Paces.{AreInstants};
+ghost use Rattle.lucy_run.specs.Calls.{WasAccepted};
 ghost use Rattle.lucy_command.specs.Named.{replay_named, IsWithin};
 ghost use Rattle.lucy_app.specs.World.{world};
 ghost use Rattle.lucy_app.specs.Ends.{EndsSo};
@@ -36,8 +36,8 @@ fn replay_log<I: Source, O: Sink, E: Sink, F: Fn(u32, i64, i64) -> i64 + Sync>(
     host: &Host<F>,
 ) -> u8
     requires serves { Serves F.pre F.post host.now }
-    requires accepted { (text : List ℕ) × (options : Options) × IsAccepted (lent host.now) options text accepted }
-    requires few { IfSome instants (λ given. given ≤ limit_number limit.Instants) }
+    requires accepted { WasAccepted (lent host.now) accepted }
+    requires few { AreInstants instants }
     requires given { accepted.inputs.items ≡ [] → instants ≢ None }
     ensures ends { (taken : List ℕ) × (stop : ReadStop) × Read (limit_number limit.Input) (I.seen input.old) (I.seen input.new) taken stop
         × ReadsBehind accepted (bytes_of fetched) (I.seen input.old) (I.seen input.new) taken

@@ -8,7 +8,6 @@ ghost use Rattle.lucy_clock.specs.declared.node_clock.NodeClock.{NodeClock as Cl
 ghost use Rattle.lucy_clock.specs.Clocks.{AreSignatures, clocks_of};
 ghost use Rattle.lucy_clock.specs.NodeClocks.{ports, signatures};
 
-use crate::grow::grow;
 use crate::node_clock::NodeClock;
 use crate::signature::{Signature, Words};
 use lucy_place::{Placed, PlacedNode};
@@ -21,7 +20,7 @@ fn copies(alloc: Global, words: &[Word]) -> Result<Words, OutOfMemory>
 {
     let mut list = Vec::new(alloc);
     'each: for word in words {
-        grow(&mut list, word.copy(alloc)?)?;
+        list.push(word.copy(alloc)?)?;
     }
     Ok(Words::new(list))
 }
@@ -33,7 +32,7 @@ fn copies_at(alloc: Global, words: &[Word], places: &[u32]) -> Result<Words, Out
 {
     let mut list = Vec::new(alloc);
     'each: for place in places {
-        grow(&mut list, words[*place as usize].copy(alloc)?)?;
+        list.push(words[*place as usize].copy(alloc)?)?;
     }
     Ok(Words::new(list))
 }
@@ -68,7 +67,7 @@ pub fn signatures(
     let mut above = Vec::new(alloc);
     'each: for callee in 0..node {
         let clock = &clocks[callee as usize];
-        grow(&mut above, ports(alloc, placed.node(callee), clock)?)?;
+        above.push(ports(alloc, placed.node(callee), clock)?)?;
     }
     Ok(above)
 }

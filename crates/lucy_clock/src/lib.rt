@@ -14,7 +14,6 @@
 mod callers;
 mod draft;
 mod error;
-mod grow;
 mod handing;
 mod laws;
 mod listing;

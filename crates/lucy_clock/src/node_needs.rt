@@ -14,7 +14,6 @@ ghost use Rattle.lucy_clock.specs.Listing.{needs_of, RefusesNeeds};
 ghost use Rattle.lucy_clock.specs.Drafts.{seen, side_term};
 
 use crate::error::ClockError;
-use crate::grow::push;
 use crate::listing::{Listing, list_needs};
 use crate::own_words::{copied, delayed, turned};
 use crate::side::{Draft, Factor, Side};
@@ -72,7 +71,7 @@ fn need_list(alloc: Global, drafts: &[Draft<'_>]) -> Result<Vec<Need>, ClockErro
 {
     let mut list = Vec::new(alloc);
     'each: for draft in drafts {
-        push(&mut list, need(alloc, draft)?)?;
+        list.push(need(alloc, draft)?)?;
     }
     Ok(list)
 }

@@ -8,7 +8,6 @@ ghost use Rattle.lucy_clock.specs.Listing.{delayed};
 ghost use Rattle.lucy_clock.specs.declared.error.ClockError.TheVariants as err;
 
 use crate::error::ClockError;
-use crate::grow::push;
 use lucy_word::{Word, WordError, complement};
 use std::alloc::Global;
 
@@ -53,7 +52,7 @@ pub(crate) fn delayed(alloc: Global, zeros: u64) -> Result<Word, ClockError>
 {
     let mut prefix = Vec::new(alloc);
     'each: for i in 0..zeros {
-        push(&mut prefix, false)?;
+        prefix.push(false)?;
     }
     match Word::from_bits(alloc, &prefix, &[true]) {
         Ok(word) => Ok(word),

@@ -11,7 +11,6 @@ ghost use Rattle.lucy_clock.specs.HandedDown.{Hands, IsWordTooLong};
 ghost use Rattle.lucy_clock.specs.Reading.{CanHandDown, IsAskedFor, AreLasts, AreHandedSoFar, AreFirstWords, AreKept, AreKeptSoFar, AreContinued, HasStoredWord, IsNextWord, IsTooLongBefore, NextHandsTooLong};
 
 use crate::error::ClockError;
-use crate::grow::push;
 use crate::handing::{handed, test_handed};
 use crate::own_words::{bit_count, copied};
 use crate::reading::{asks, lasts};
@@ -81,7 +80,7 @@ pub(crate) fn first_words(
     ensures refused { IfErr result (λ e. (e ≡ err.OutOfMemory) ⊎ ((e ≡ err.Limit lim.Word) × IsWordTooLong node.now)) }
 {
     let mut words = Vec::new(alloc);
-    push(&mut words, always(alloc)?)?;
+    words.push(always(alloc)?)?;
     let mut bits = 1u64;
     let count = node.places.list().len();
     'each: for i in 0..count {
@@ -91,7 +90,7 @@ pub(crate) fn first_words(
         let word = next_word(alloc, node, readers, &words, i as u32 + 1)?;
         test_place(node, i as u32 + 1, &word)?;
         bits += bit_count(&word);
-        push(&mut words, word)?;
+        words.push(word)?;
     }
     Ok(words)
 }
@@ -134,7 +133,7 @@ fn test_next(
 {
     let word = next_word(alloc, node, readers, words, i + 1)?;
     test_place(node, i + 1, &word)?;
-    push(words, word)?;
+    words.push(word)?;
     let place = i as usize + 1;
     let_go(alloc, words, lasts, place, place)?;
     let_go(alloc, words, lasts, readers[i as usize] as usize, place)?;
@@ -185,7 +184,7 @@ fn pass_next(
     ensures refused { IfErr result (λ e. e ≡ err.OutOfMemory) }
 {
     has_word(node, readers, i);
-    push(words, always(alloc)?)?;
+    words.push(always(alloc)?)?;
     Ok(())
 }
 

@@ -14,7 +14,6 @@ ghost use Rattle.lucy_need.specs.Meeting.{word_bits};
 ghost use Rattle.lucy_clock.specs.Reading.{CanHandDown, AreFirstWords, HaveBases, base_words};
 
 use crate::error::ClockError;
-use crate::grow::push;
 use crate::own_words::{bit_count, copied};
 use crate::reading::readers;
 use crate::words::{first_words, test_others};
@@ -45,7 +44,7 @@ fn put_bases(alloc: Global, words: &mut Vec<Word>, sites: &[CallSite]) -> Result
 {
     'each: for site in sites {
         let word = copied(alloc, base_of(site))?;
-        push(words, word)?;
+        words.push(word)?;
     }
     Ok(())
 }

@@ -21,10 +21,8 @@ fn or_empty(text: Option<&str>) -> &str
 fn add(words: &mut Vec<String>, word: String) -> Result<(), OutOfMemory>
     ensures { OnOk result (map string_bytes words.new.items ≡ map string_bytes words.old.items ++ (string_bytes word ∷ [])) }
 {
-    match words.push(word) {
-        Ok(()) => Ok(()),
-        Err(_) => Err(OutOfMemory),
-    }
+    words.push(word)?;
+    Ok(())
 }
 
 /// Spells the texts into a list of words, which is empty before. What isn't there is spelled as an empty text.

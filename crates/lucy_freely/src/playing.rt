@@ -51,7 +51,7 @@ pub(crate) fn play_freely<R: Threads + Wait + Sync, F: Fn(u32, i64, i64) -> i64 
         work_all(rt, seats, parkers, wakers, host);
     };
     let (placed, clocks) = (&accepted.placed, accepted.clocks.as_slice());
-    match run_net_by_turns(
+    run_net_by_turns(
         alloc,
         placed,
         clocks,
@@ -62,8 +62,5 @@ pub(crate) fn play_freely<R: Threads + Wait + Sync, F: Fn(u32, i64, i64) -> i64 
         instants,
         workers,
         turns,
-    ) {
-        Ok(streams) => Ok(streams),
-        Err(_) => Err(OutOfMemory),
-    }
+    )
 }

@@ -1,10 +1,9 @@
 // The run of the generated program.
-ghost use Rattle.std.specs.Prelude.{◌≡◌, ◌≢◌, ◌⊎◌, ℕ, List, [], IfOk, IfErr};
+ghost use Rattle.std.specs.Prelude.{◌≡◌, ◌≢◌, ◌⊎◌, [], IfOk, IfErr};
 ghost use Rattle.lucy_host.specs.Host.{Serves, lent};
 ghost use Rattle.lucy_host.specs.Operators.{kinds_of};
-ghost use Rattle.lucy_front.specs.declared.options.Options.{Options};
-ghost use Rattle.lucy_front.specs.Accepting.{IsAccepted};
 ghost use Rattle.lucy_run.specs.Paces.{AreWorkers, IsBlock};
+ghost use Rattle.lucy_run.specs.Calls.{WasAccepted};
 ghost use Rattle.lucy_run.specs.declared.ending.Ending.TheVariants as ending;
 ghost use Rattle.lucy_make.specs.Owes.{OwesSummary};
 
@@ -35,7 +34,7 @@ pub fn summary<R: Threads + Sync, F: Fn(u32, i64, i64) -> i64 + Sync, G: Gate + 
     block: u64,
 ) -> Result<Vec<u8>, Ending>
     requires serves { Serves F.pre F.post host.now }
-    requires accepted { (text : List ℕ) × (options : Options) × IsAccepted (lent host.now) options text accepted }
+    requires accepted { WasAccepted (lent host.now) accepted }
     requires inputs { accepted.inputs.items ≢ [] }
     requires workers { AreWorkers workers }
     requires block { IsBlock block }
@@ -59,27 +58,15 @@ pub fn summary<R: Threads + Sync, F: Fn(u32, i64, i64) -> i64 + Sync, G: Gate + 
         workers,
         block,
     };
-    let mut source = match made_source(alloc) {
-        Ok(source) => source,
-        Err(_) => return Err(Ending::OutOfMemory),
-    };
-    let mut course = match Course::new(
+    let mut source = made_source(alloc)?;
+    let mut course = Course::new(
         rt, alloc, &placed, &clocks, net, schedule, inputs, host, gate, pace,
-    ) {
-        Ok(course) => course,
-        Err(_) => return Err(Ending::OutOfMemory),
-    };
-    let tally = match tell(rt, alloc, host, gate, &mut course, &mut source) {
-        Ok(tally) => tally,
-        Err(_) => return Err(Ending::OutOfMemory),
-    };
+    )?;
+    let tally = tell(rt, alloc, host, gate, &mut course, &mut source)?;
     let instants = course.horizon();
     match course.finish(&mut source) {
         Ending::Done => {}
         end => return Err(end),
     }
-    match print(alloc, stages, counts, instants, tally) {
-        Ok(lines) => Ok(lines),
-        Err(_) => Err(Ending::OutOfMemory),
-    }
+    Ok(print(alloc, stages, counts, instants, tally)?)
 }

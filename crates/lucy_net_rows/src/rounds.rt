@@ -11,7 +11,7 @@ use crate::show::{counted, no_memory, print_list};
 use lucy_cause::Schedule;
 use lucy_front::{Accepted, accept, accepted_programs_are_clocked};
 use lucy_host::{Host, Inputs};
-use lucy_results::{horizon, lengths, param_words, run_net};
+use lucy_results::{Player, horizon, lengths, param_words};
 use lucy_worker::Gate;
 use std::io;
 use std::sync::atomic::{AtomicU64, Ordering};
@@ -103,7 +103,7 @@ fn run_accepted<
         passed: AtomicU64::new(0),
     };
     let start = Instant::now(rt)?;
-    let streams = run_net(
+    let played = Player::new(
         rt,
         rt.alloc(),
         &placed,
@@ -116,10 +116,13 @@ fn run_accepted<
         instants,
         workers,
     );
-    let time = start.elapsed(rt)?.as_nanos();
-    let Ok(lists) = streams else {
+    let Ok(player) = played else {
         return Err(no_memory());
     };
+    let Ok(lists) = player.outputs(rt.alloc()) else {
+        return Err(no_memory());
+    };
+    let time = start.elapsed(rt)?.as_nanos();
     Ok(Ran {
         lists,
         results,

@@ -8,9 +8,10 @@ use Rattle.lucy_need.specs.declared.need.Need.{Need}
 use Rattle.lucy_shape.specs.declared.shape.RateFault.{RateFault}
 use Rattle.lucy_shape.specs.declared.shape.RateFault.TheVariants as fault
 use Rattle.lucy_rates.specs.declared.fraction.Fraction.{Fraction}
+use Rattle.lucy_rates.specs.declared.forest.Forest.{Forest}
 use Rattle.lucy_rates.specs.Walks.{first_of, second_of, need_at, IsNeedWalk, IsUnequalWalk}
 use Rattle.lucy_rates.specs.Trees.{IsTree, IsReachedByTree, IsNamedBy, JoinsMore, AreEven, IsFirstUnequal, most_rate}
-use Rattle.lucy_rates.specs.Forests.{rate_at, IsRateFraction}
+use Rattle.lucy_rates.specs.Forests.{rate_at, IsRateFraction, IsForest}
 
 -- no root yet, or no need
 abbrev pub no_number : ℕ
@@ -91,6 +92,13 @@ pub record ArePlanted (needs : List Need) (clocks at : ℕ) (tree : ℕ → List
   pub apart : (k : ℕ) → k < length needs → slice_index roots (first_of (need_at needs k)).clock ≡ slice_index roots (second_of (need_at needs k)).clock
   pub is_tree : (r : ℕ) → r < clocks → slice_index roots r ≡ r → IsTree needs r (tree r)
   pub rated : (r : ℕ) → r < clocks → slice_index roots r ≡ r → IsRated needs r (tree r) parents depths rates
+
+-- the forest of the needs' clocks, with the tree of each root
+pub record IsGrown (needs : List Need) (clocks : ℕ) (forest : Forest) : Type 0 where
+  pub is : IsForest needs clocks forest.roots.items forest.parents.items forest.rates.items
+  pub tree : ℕ → List ℕ
+  pub planted : ArePlanted needs clocks clocks tree forest.roots.items forest.parents.items forest.depths.items forest.rates.items
+  pub depths_size : length forest.depths.items ≡ clocks
 
 -- no clock is deeper than there are clocks with a root beside it
 abbrev pub AreDeep : List ℕ → List ℕ → Type 0

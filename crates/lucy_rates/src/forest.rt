@@ -11,7 +11,7 @@ ghost use Rattle.lucy_shape.specs.declared.shape.RateFault.TheVariants as fault;
 ghost use Rattle.lucy_rates.specs.Walks.{first_of, second_of, over, under};
 ghost use Rattle.lucy_rates.specs.Trees.{AreEven, IsTree, HasLargeRate};
 ghost use Rattle.lucy_rates.specs.Forests.{rate_at, IsForest, IsRateFraction};
-ghost use Rattle.lucy_rates.specs.Growing.{no_number, IsGrowing, IsRated, AreKept, AreFirstNeeds, AreFirstSoFar, ArePlanted, AreDeep, IsLargeNext, HasLargeFrom, set_at, IsJoiningStep};
+ghost use Rattle.lucy_rates.specs.Growing.{no_number, IsGrowing, IsRated, AreKept, AreFirstNeeds, AreFirstSoFar, ArePlanted, IsGrown, AreDeep, IsLargeNext, HasLargeFrom, set_at, IsJoiningStep};
 
 use crate::fraction::{Fraction, times};
 use lucy_need::{Need, Term};
@@ -237,9 +237,7 @@ pub(crate) fn grow_all(
     requires few { length needs.now ≤ most_needs }
     requires firsts { AreFirstNeeds needs.now clocks firsts.now }
     requires words { All HasWords needs.now }
-    ensures forest { IfOk result (λ forest. IsForest needs.now clocks forest.roots.items forest.parents.items forest.rates.items) }
-    ensures planted { IfOk result (λ forest. (tree : ℕ → List ℕ) × ArePlanted needs.now clocks clocks tree forest.roots.items forest.parents.items forest.depths.items forest.rates.items) }
-    ensures sizes { IfOk result (λ forest. (length forest.roots.items ≡ clocks) × (length forest.parents.items ≡ clocks) × (length forest.depths.items ≡ clocks) × (length forest.rates.items ≡ clocks)) }
+    ensures grown { IfOk result (IsGrown needs.now clocks) }
     ensures refused { IfErr result (λ e. (e ≡ fault.OutOfMemory) ⊎ ((e ≡ fault.Limit limit.Rate) × HasLargeRate needs.now clocks)) }
 {
     let mut roots = vec![in alloc; NONE; clocks as usize]?;

@@ -1,5 +1,5 @@
 // The shape of the clocks of needs.
-ghost use Rattle.std.specs.Prelude.{ℕ, List, ◌≡◌, ◌⊎◌, ◌≤◌, length, IfOk, IfErr, OnOk, Vec};
+ghost use Rattle.std.specs.Prelude.{ℕ, ◌≡◌, ◌⊎◌, ◌≤◌, IfOk, IfErr, OnOk, Vec};
 ghost use Rattle.std.specs.Global.{Global};
 ghost use Rattle.std.specs.List.{AllByRecursion};
 ghost use Rattle.lucy_word.specs.declared.limit.Limit.TheVariants as limit;
@@ -9,9 +9,8 @@ ghost use Rattle.lucy_shape.specs.declared.shape.RateFault.TheVariants as fault;
 ghost use Rattle.lucy_shape.specs.Fitting.{IsShapeFor};
 ghost use Rattle.lucy_rates.specs.Walks.{IsUnequalWalk};
 ghost use Rattle.lucy_rates.specs.Trees.{HasLargeRate, IsFirstUnequal};
-ghost use Rattle.lucy_rates.specs.Forests.{IsForest};
 ghost use Rattle.lucy_rates.specs.Vectors.{AreBalanced, IsShapeOf, HasNoShape};
-ghost use Rattle.lucy_rates.specs.Growing.{ArePlanted, IsUnequal};
+ghost use Rattle.lucy_rates.specs.Growing.{IsGrown, IsUnequal};
 
 use crate::forest::{Forest, first_needs, grow_all};
 use crate::shaping::shape_of;
@@ -24,9 +23,7 @@ use std::alloc::Global;
 fn grown(alloc: Global, needs: &Needs) -> Result<Forest, RateFault>
     requires proper { AreProperNeeds needs.now }
     requires words { AllByRecursion HasWords needs.now.list }
-    ensures forest { IfOk result (λ forest. IsForest needs.now.list needs.now.clocks forest.roots.items forest.parents.items forest.rates.items) }
-    ensures planted { IfOk result (λ forest. (tree : ℕ → List ℕ) × ArePlanted needs.now.list needs.now.clocks needs.now.clocks tree forest.roots.items forest.parents.items forest.depths.items forest.rates.items) }
-    ensures sizes { IfOk result (λ forest. (length forest.roots.items ≡ needs.now.clocks) × (length forest.parents.items ≡ needs.now.clocks) × (length forest.depths.items ≡ needs.now.clocks) × (length forest.rates.items ≡ needs.now.clocks)) }
+    ensures grown { IfOk result (IsGrown needs.now.list needs.now.clocks) }
     ensures refused { IfErr result (λ e. (e ≡ fault.OutOfMemory) ⊎ ((e ≡ fault.Limit limit.Rate) × HasLargeRate needs.now.list needs.now.clocks)) }
 {
     let list = needs.list.list();
@@ -38,9 +35,7 @@ fn grown(alloc: Global, needs: &Needs) -> Result<Forest, RateFault>
 fn balanced(alloc: Global, needs: &Needs, forest: &Forest) -> Result<(), RateFault>
     requires proper { AreProperNeeds needs.now }
     requires words { AllByRecursion HasWords needs.now.list }
-    requires forest { IsForest needs.now.list needs.now.clocks forest.now.roots.items forest.now.parents.items forest.now.rates.items }
-    requires planted { (tree : ℕ → List ℕ) × ArePlanted needs.now.list needs.now.clocks needs.now.clocks tree forest.now.roots.items forest.now.parents.items forest.now.depths.items forest.now.rates.items }
-    requires sizes { (length forest.now.roots.items ≡ needs.now.clocks) × (length forest.now.parents.items ≡ needs.now.clocks) × (length forest.now.depths.items ≡ needs.now.clocks) × (length forest.now.rates.items ≡ needs.now.clocks) }
+    requires grown { IsGrown needs.now.list needs.now.clocks forest.now }
     ensures balanced { OnOk result (AreBalanced needs.now.list) }
     ensures refused { IfErr result (λ e. (e ≡ fault.OutOfMemory) ⊎ IsUnequal needs.now.list e) }
 {

@@ -6,7 +6,7 @@ ghost use Rattle.lucy_need.specs.Stored.{HasWords};
 ghost use Rattle.lucy_rates.specs.Walks.{first_of, second_of, need_at, IsUnequalWalk};
 ghost use Rattle.lucy_rates.specs.Trees.{AreEven, IsBalanced, IsFirstUnequal};
 ghost use Rattle.lucy_rates.specs.Forests.{rate_at, IsForest, IsRateFraction};
-ghost use Rattle.lucy_rates.specs.Growing.{ArePlanted, IsOther, IsWayBack};
+ghost use Rattle.lucy_rates.specs.Growing.{IsGrown, IsOther, IsWayBack};
 
 use crate::forest::{Forest, factor};
 use crate::fraction::{Fraction, times};
@@ -86,8 +86,7 @@ fn way_back(
     to: u32,
 ) -> Result<Vec<u32>, AllocError>
     requires within { All (IsWithin (length forest.now.roots.items)) needs.now }
-    requires sizes { (length forest.now.parents.items ≡ length forest.now.roots.items) × (length forest.now.depths.items ≡ length forest.now.roots.items) }
-    requires planted { (tree : ℕ → List ℕ) × ArePlanted needs.now (length forest.now.roots.items) (length forest.now.roots.items) tree forest.now.roots.items forest.now.parents.items forest.now.depths.items forest.now.rates.items }
+    requires grown { IsGrown needs.now (length forest.now.roots.items) forest.now }
     requires from { from < length forest.now.roots.items }
     requires to { to < length forest.now.roots.items }
     requires one { slice_index forest.now.roots.items from ≡ slice_index forest.now.roots.items to }
@@ -132,9 +131,7 @@ pub(crate) fn walk_of(
 ) -> Result<Vec<u32>, AllocError>
     requires within { All (IsWithin (length forest.now.roots.items)) needs.now }
     requires words { All HasWords needs.now }
-    requires sizes { (length forest.now.parents.items ≡ length forest.now.roots.items) × (length forest.now.depths.items ≡ length forest.now.roots.items) }
-    requires forest { IsForest needs.now (length forest.now.roots.items) forest.now.roots.items forest.now.parents.items forest.now.rates.items }
-    requires planted { (tree : ℕ → List ℕ) × ArePlanted needs.now (length forest.now.roots.items) (length forest.now.roots.items) tree forest.now.roots.items forest.now.parents.items forest.now.depths.items forest.now.rates.items }
+    requires grown { IsGrown needs.now (length forest.now.roots.items) forest.now }
     requires need { need < length needs.now }
     requires uneven { IsBalanced needs.now (need_at needs.now need) → ⊥ }
     requires before { (k : ℕ) → k < need → IsBalanced needs.now (need_at needs.now k) }

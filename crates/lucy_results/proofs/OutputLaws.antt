@@ -1,6 +1,6 @@
 -- The outputs of a runner of a program's flat net, list by list.
 use Rattle.std.proofs.Common.{ℕ, ◌+◌, ◌-◌, ◌<◌, ◌≤◌, ◌≡◌, List, [], ◌∷◌, ◌++◌, Some, length, map, take, drop, get_or, ap, sym, ◌∙◌, inl, inr, arith}
-use Rattle.std.specs.Prelude.{ℤ, slice_get, slice_index, option_map, replicate, Result, Ok, Err, IfOk}
+use Rattle.std.specs.Prelude.{ℤ, slice_get, slice_index, option_map, replicate}
 use Rattle.std.proofs.lemmas.List.{length-map, length-replicate, get_or-replicate, get_or_past, take_more}
 use Rattle.std.proofs.lemmas.Bool.{cases_lt}
 use Rattle.std.proofs.lemmas.Option.{get_or_from_slice_get, slice_get-map}
@@ -88,8 +88,3 @@ none_of n a = elim (cases_lt a n) [
 pub first_unbegun : (net : Net) (schedule : Timetable) (inputs : List (List ℤ)) (operators : List Operator) (instants : ℕ) → IsUnbegun (first_seen net schedule inputs operators instants)
 unfolding done_of
 first_unbegun net schedule inputs operators instants a = none_of (length net.actors) a
-
--- how long lists are that are known
-pub known_lengths : {E : Type 0} (r : Result (List (List ℤ)) E) (streams : List (List ℤ)) (counts : List ℕ) → IfOk r (λ lists. lists ≡ streams) → map length streams ≡ counts → IfOk r (λ lists. map length lists ≡ counts)
-known_lengths (Ok lists) streams counts e f = ap (map length) e ∙ f
-known_lengths (Err e) streams counts h f = tt

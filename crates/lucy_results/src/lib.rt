@@ -28,4 +28,4 @@ pub use lists::{copy_lists, lengths};
 pub use player::Player;
 pub use taken::outputs_so_far;
 pub use turning::run_net_by_turns;
-pub use workers::{homes_of, run_net};
+pub use workers::homes_of;

@@ -1,29 +1,19 @@
 // The output streams by the flat net.
-ghost use Rattle.std.specs.Prelude.{◌≡◌, ◌≤◌, ◌<◌, ◌%◌, ℕ, Some, All, length, map, slice_get, IfOk};
-ghost use Rattle.lucy_word.specs.Bits.{ones_to};
-ghost use Rattle.lucy_word.specs.Limits.{limit_number};
-ghost use Rattle.lucy_word.specs.declared.limit.Limit.TheVariants as limit;
+ghost use Rattle.std.specs.Prelude.{◌≡◌, ◌≤◌, ◌<◌, ◌%◌, ℕ, Some, All, length, slice_get, IfOk};
 ghost use Rattle.lucy_host.specs.Host.{Serves, lent};
 ghost use Rattle.lucy_host.specs.Operators.{kinds_of};
-ghost use Rattle.lucy_place.specs.Proper.{HaveOperators};
 ghost use Rattle.lucy_meaning.specs.Spots.{main_of};
-ghost use Rattle.lucy_meaning.specs.Horizons.{Suffice};
 ghost use Rattle.lucy_kahn.specs.Turns.{params_in};
-ghost use Rattle.lucy_net.specs.Schedules.{IsSound};
-ghost use Rattle.lucy_cause.specs.Schedules.{events_at};
 ghost use Rattle.lucy_core.specs.Seen.{IsUnbegun, IsOver};
 ghost use Rattle.lucy_flat.specs.Flat.{IsFlat};
 ghost use Rattle.lucy_runner.specs.Views.{inputs_for, most_workers};
-ghost use Rattle.lucy_results.specs.Streams.{param_words, result_words, main_streams, later_streams};
-ghost use Rattle.lucy_results.specs.Playing.{PlayerView, played, IsPlayed};
+ghost use Rattle.lucy_results.specs.Streams.{later_streams};
+ghost use Rattle.lucy_results.specs.Playing.{played, IsPlayed};
 
 use crate::lists::add;
-use crate::player::Player;
-use lucy_cause::Schedule;
 use lucy_clock::NodeClock;
 use lucy_core::Core;
 use lucy_host::{Host, Inputs};
-use lucy_net::Net;
 use lucy_place::Placed;
 use lucy_runner::Runner;
 use lucy_word::OutOfMemory;
@@ -93,40 +83,4 @@ pub(crate) fn run_core<R: Threads + Sync, F: Fn(u32, i64, i64) -> i64 + Sync, G:
     let mut runner = Runner::new(alloc, core, workers, homes)?;
     runner.go(rt, host, gate);
     Ok(runner)
-}
-
-/// The output streams of a program up to a horizon of at most 1,048,576 instants, by its flat net, whose actors are moved by 1 to 64
-/// workers, each on a thread of its own: a list for each result of main, in order. Actor `a` is in worker `a mod workers`. There is
-/// an input for each parameter of main, with the items of so many instants, and the operators of the host that the program names
-/// are among those of this one.
-pub fn run_net<R: Threads + Sync, F: Fn(u32, i64, i64) -> i64 + Sync, G: Gate + Sync>(
-    rt: &R,
-    alloc: Global,
-    placed: &Placed,
-    clocks: &[NodeClock],
-    net: Net,
-    schedule: Schedule,
-    host: &Host<F>,
-    gate: &G,
-    inputs: Inputs,
-    instants: u64,
-    workers: u32,
-) -> Result<Inputs, OutOfMemory>
-    requires flat { IsFlat placed.now.nodes clocks.now net }
-    requires sound { IsSound net (events_at schedule) }
-    requires serves { Serves F.pre F.post host.now }
-    requires known { HaveOperators (length (lent host.now)) placed.now.nodes }
-    requires inputs { params_in (main_of placed.now.nodes) ≡ length inputs }
-    requires suffice { Suffice (param_words placed.now.nodes clocks.now) inputs instants }
-    requires early { instants ≤ limit_number limit.Instants }
-    requires workers { (1 ≤ workers) × (workers ≤ most_workers) }
-    ensures ok { IfOk result (λ lists. lists ≡ main_streams (kinds_of (lent host.now)) inputs placed.now.nodes clocks.now instants) }
-    ensures counts { IfOk result (λ lists. map length lists ≡ map (λ word. ones_to word instants) (result_words placed.now.nodes clocks.now)) }
-{
-    // For the proof: this call tells that the nodes are proper.
-    let _ = placed.nodes();
-    let player = Player::new(
-        rt, alloc, placed, clocks, net, schedule, host, gate, inputs, instants, workers,
-    )?;
-    player.outputs(alloc)
 }

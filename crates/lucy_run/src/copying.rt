@@ -11,10 +11,7 @@ fn copy_actors(alloc: Global, actors: &[Actor]) -> Result<Vec<Actor>, OutOfMemor
 {
     let mut copies = Vec::new(alloc);
     for actor in actors {
-        match copies.push(actor.copy(alloc)?) {
-            Ok(()) => {}
-            Err(_) => return Err(OutOfMemory),
-        }
+        copies.push(actor.copy(alloc)?)?;
     }
     Ok(copies)
 }
@@ -40,10 +37,7 @@ fn copy_rings(alloc: Global, rings: &[RingSpec]) -> Result<Vec<RingSpec>, OutOfM
 {
     let mut copies = Vec::new(alloc);
     for ring in rings {
-        match copies.push(copy_ring(alloc, ring)?) {
-            Ok(()) => {}
-            Err(_) => return Err(OutOfMemory),
-        }
+        copies.push(copy_ring(alloc, ring)?)?;
     }
     Ok(copies)
 }

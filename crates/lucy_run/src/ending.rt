@@ -1,6 +1,9 @@
 // How a run ends.
+ghost use Rattle.std.specs.Prelude.{◌≡◌};
+ghost use Rattle.lucy_run.specs.declared.ending.Ending.TheVariants as ending;
+
 use lucy_lines::TextFault;
-use lucy_word::Limit;
+use lucy_word::{Limit, OutOfMemory};
 
 /// How a run ends.
 #[derive(Drop)]
@@ -16,4 +19,12 @@ pub enum Ending {
     WriteFault,
     /// Memory ran out.
     OutOfMemory,
+}
+
+impl From<OutOfMemory> for Ending {
+    ghost from_gives = { λ _ e. e ≡ ending.OutOfMemory };
+
+    fn from(_: OutOfMemory) -> Self {
+        Ending::OutOfMemory
+    }
 }

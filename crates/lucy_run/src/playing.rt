@@ -52,10 +52,7 @@ fn copies(alloc: Global, inputs: &[InputSpec]) -> Result<Vec<InputSpec>, OutOfMe
 {
     let mut copies = Vec::new(alloc);
     for input in inputs {
-        match copies.push(copied(alloc, input)?) {
-            Ok(()) => {}
-            Err(_) => return Err(OutOfMemory),
-        }
+        copies.push(copied(alloc, input)?)?;
     }
     Ok(copies)
 }

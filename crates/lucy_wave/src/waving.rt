@@ -1,12 +1,9 @@
 // The dump of a run of an accepted program.
-ghost use Rattle.std.specs.Prelude.{◌≡◌, ◌≢◌, ◌≤◌, ◌<◌, ◌-◌, ℕ, List, [], None, length, IfOk, IfSome, slice_get};
+ghost use Rattle.std.specs.Prelude.{◌≡◌, ◌≢◌, ◌≤◌, ◌<◌, ◌-◌, ℕ, [], None, length, IfOk, IfSome, slice_get};
 ghost use Rattle.lucy_word.specs.Limits.{limit_number};
 ghost use Rattle.lucy_word.specs.declared.limit.Limit.TheVariants as limit;
 ghost use Rattle.lucy_host.specs.Host.{Serves, lent};
 ghost use Rattle.lucy_host.specs.Operators.{kinds_of};
-ghost use Rattle.lucy_lines.specs.Fronts.{most_bytes};
-ghost use Rattle.lucy_text.specs.Sources.{ReadStop, Read};
-ghost use Rattle.lucy_feed.specs.Feeding.{IsAsked};
 ghost use Rattle.lucy_place.specs.Proper.{HaveOperators};
 ghost use Rattle.lucy_meaning.specs.Spots.{main_of, results_in};
 ghost use Rattle.lucy_kahn.specs.Turns.{params_in};
@@ -16,10 +13,10 @@ ghost use Rattle.lucy_flat.specs.Clocked.{AreClocked};
 ghost use Rattle.lucy_flat.specs.Flat.{IsFlat};
 ghost use Rattle.lucy_flat.specs.Instances.{words_in};
 ghost use Rattle.lucy_results.specs.Streams.{param_words, result_words};
-ghost use Rattle.lucy_front.specs.declared.options.Options.{Options};
-ghost use Rattle.lucy_front.specs.Accepting.{IsAccepted};
+ghost use Rattle.lucy_run.specs.Paces.{AreInstants};
 ghost use Rattle.lucy_run.specs.Owes.{IsHorizonOf};
 ghost use Rattle.lucy_run.specs.Ends.{EndsWith};
+ghost use Rattle.lucy_run.specs.Calls.{WasAccepted, ReadsAndEnds};
 ghost use Rattle.lucy_run.specs.Steps.{LeavesOwed};
 ghost use Rattle.lucy_wave.specs.Waves.{IsWave, Waves, OwesWave, inner_in};
 
@@ -100,7 +97,7 @@ fn wave_feed<F: Fn(u32, i64, i64) -> i64 + Sync, O: Sink>(
     requires serves { Serves F.pre F.post host.now }
     requires known { HaveOperators (length (lent host.now)) placed.now.nodes }
     requires inputs { params_in (main_of placed.now.nodes) ≡ length feed.items }
-    requires few { IfSome given (λ most. most ≤ limit_number limit.Instants) }
+    requires few { AreInstants given }
     ensures left { (horizon : ℕ) × IsHorizonOf (param_words placed.now.nodes clocks.now) given feed.items horizon
         × LeavesOwed (Waves (kinds_of (lent host.now)) placed.now.nodes clocks.now net outputs.now given feed.items feed.stop horizon)
         (O.seen out.old) (O.seen out.new) result }
@@ -143,12 +140,12 @@ pub fn wave<F: Fn(u32, i64, i64) -> i64 + Sync, I: Source, O: Sink>(
     out: &mut O,
 ) -> Ending
     requires serves { Serves F.pre F.post host.now }
-    requires accepted { (text : List ℕ) × (options : Options) × IsAccepted (lent host.now) options text accepted }
-    requires few { IfSome instants (λ given. given ≤ limit_number limit.Instants) }
+    requires accepted { WasAccepted (lent host.now) accepted }
+    requires few { AreInstants instants }
     requires given { accepted.inputs.items ≡ [] → instants ≢ None }
-    ensures ends { (taken : List ℕ) × (stop : ReadStop) × Read most_bytes (I.seen source.old) (I.seen source.new) taken stop
-        × IsAsked accepted.inputs.items taken × EndsWith (OwesWave (kinds_of (lent host.now)) accepted instants taken) (λ counted. counted ≡ stop) stop
-        (O.seen out.old) (O.seen out.new) result }
+    ensures ends { ReadsAndEnds accepted.inputs.items (I.seen source.old) (I.seen source.new)
+        (λ taken stop. EndsWith (OwesWave (kinds_of (lent host.now)) accepted instants taken) (λ counted. counted ≡ stop) stop
+        (O.seen out.old) (O.seen out.new) result) }
     ensures unread { accepted.inputs.items ≡ [] → source.new ≡ source.old }
     ensures source_count { (I.seen source.old).faults ≤ (I.seen source.new).faults }
     ensures out_count { (O.seen out.old).faults ≤ (O.seen out.new).faults }

@@ -29,7 +29,7 @@ each-preserved c =
     let i = c.each.callee in
     let of = slice_get_read clocks (length clocks) i c.index-clocks-callee.result refl (omega arith) c.index-clocks-callee.is in
     let own = ports c.node.result.now c.index-clocks-callee.result in
-    c.in_ok-grow.ensures.added ∙ ap (λ x. c.each.above.items ++ x ∷ []) c.in_ok-ports.ensures ∙ ap (λ xs. xs ++ own ∷ []) c.each.invariant
+    c.in_ok-push.ensures.items ∙ ap (λ x. c.each.above.items ++ x ∷ []) c.in_ok-ports.ensures ∙ ap (λ xs. xs ++ own ∷ []) c.each.invariant
     ∙ sym (signatures_more nodes clocks i c.node.result.now c.index-clocks-callee.result c.node.ensures.is of)
 
 pub returns-clause-list : goal.returns-clause-list

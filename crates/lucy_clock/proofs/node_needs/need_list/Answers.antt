@@ -12,9 +12,9 @@ each-preserved c =
     let one = c.in_ok-need.ensures.ok ∙ ap seen c.draft-item.is in
     let more = map_more seen c.args.drafts.now c.each.draft-index c.draft-item.result c.each-test.true in
     let all = All-push HasWords c.each.list.items c.in_ok-need.field-0 c.each.invariant.1 c.in_ok-need.ensures.words in (
-      c.in_ok-push.ensures.ok ∙ ap (λ (l : List Need). l ++ c.in_ok-need.field-0 ∷ []) c.each.invariant.0
+      c.in_ok-push.ensures.items ∙ ap (λ (l : List Need). l ++ c.in_ok-need.field-0 ∷ []) c.each.invariant.0
           ∙ ap (λ (n : Need). map seen (take c.each.draft-index c.args.drafts.now) ++ n ∷ []) one ∙ sym more,
-      subst (All HasWords) (sym c.in_ok-push.ensures.ok) all,
+      subst (All HasWords) (sym c.in_ok-push.ensures.items) all,
     )
 
 pub returns-clause-words : goal.returns-clause-words

@@ -30,9 +30,9 @@ returns-in_err-test_place-clause-refused c =
 
 pub each-preserved : goal.each-preserved
 each-preserved c =
-    let far = so_far_push c.args.node.now c.requires.once c.each.i c.each.words.items c.push-in-each.new.list.items c.in_ok-word.word c.each.invariant.0
-    (subst (λ ws. IsNextWord c.args.node.now (c.each.i + 1) (assigned ws) c.in_ok-word.word) c.deref.ensures.value c.in_ok-word.ensures.ok) c.in_ok-push-2.ensures.ok c.in_ok-test_place.ensures.ok in
-    let more = ap word_bits c.in_ok-push-2.ensures.ok in
+    let far = so_far_push c.args.node.now c.requires.once c.each.i c.each.words.items c.push-in-each.new.self.items c.in_ok-word.word c.each.invariant.0
+    (subst (λ ws. IsNextWord c.args.node.now (c.each.i + 1) (assigned ws) c.in_ok-word.word) c.deref.ensures.value c.in_ok-word.ensures.ok) c.in_ok-push-2.ensures.items c.in_ok-test_place.ensures.ok in
+    let more = ap word_bits c.in_ok-push-2.ensures.items in
     let push = bits_push c.each.words.items c.in_ok-word.word in
     let before = c.each.invariant.1 in
     let next = c.bit_count.ensures.count in

@@ -41,5 +41,5 @@ returns-clause-ok c = λ least so.
     let word = c.in_ok-word.word in
     let is = subst (λ ws. IsNextWord n (c.args.i + 1) (assigned ws) word) c.deref.ensures.value c.in_ok-word.ensures.ok in
     kept_more n c.requires.handing.once c.args.lasts.now c.args.i least c.args.words.now.items word so c.requires.asked is
-    c.push.new.list.items c.let_go.new.words.items c.let_go-2.new.words.items c.in_ok-test_place.ensures.ok c.in_ok-push.ensures.ok
+    c.push.new.self.items c.let_go.new.words.items c.let_go-2.new.words.items c.in_ok-test_place.ensures.ok c.in_ok-push.ensures.items
     (c.in_ok-let_go.ensures.ok n c.requires.lasts) (c.in_ok-let_go-2.ensures.ok n c.requires.lasts)

@@ -32,24 +32,24 @@ pub tell-requires-clause-first : goal.tell-requires-clause-first
 tell-requires-clause-first g c κs within =
     let pace : Pace = record { instants = None; workers = c.args.workers; block = c.args.block } in
     let can = can_run _ c.requires.accepted.0 c.requires.accepted.1 c.args.accepted c.requires.accepted.2 (kinds_of (lent c.args.host.now)) in
-    is_first (kinds_of (lent c.args.host.now)) c.args.accepted can c.deref.result.now c.deref.ensures.value pace refl c.in-Ok-new.course c.in-Ok-new.ensures.begun
-    (steady c.in-Ok.source)
+    is_first (kinds_of (lent c.args.host.now)) c.args.accepted can c.deref.result.now c.deref.ensures.value pace refl c.in_ok-course.course c.in_ok-course.ensures.begun
+    (steady c.in_ok-source.source)
 
 pub finish-requires-clause-under_way : goal.finish-requires-clause-under_way
 finish-requires-clause-under_way g c =
     let pace : Pace = record { instants = None; workers = c.args.workers; block = c.args.block } in
     let can = can_run _ c.requires.accepted.0 c.requires.accepted.1 c.args.accepted c.requires.accepted.2 (kinds_of (lent c.args.host.now)) in
-    under_way (kinds_of (lent c.args.host.now)) c.args.accepted can c.deref.result.now c.deref.ensures.value pace refl c.in-Ok-new.course c.in-Ok-new.ensures.begun
-    (steady c.in-Ok.source) (steady c.tell.new.source) c.tell.new.course c.in-Ok-tell.tally.count c.in-Ok-tell.tally.sum
-    c.in-Ok-tell.ensures.tells c.in-Ok-tell.ensures.given
+    under_way (kinds_of (lent c.args.host.now)) c.args.accepted can c.deref.result.now c.deref.ensures.value pace refl c.in_ok-course.course c.in_ok-course.ensures.begun
+    (steady c.in_ok-source.source) (steady c.tell.new.source) c.tell.new.course c.in_ok-tally.tally.count c.in_ok-tally.tally.sum
+    c.in_ok-tally.ensures.tells c.in_ok-tally.ensures.given
 
 pub finish-requires-clause-given : goal.finish-requires-clause-given
 finish-requires-clause-given g c = λ none.
     let pace : Pace = record { instants = None; workers = c.args.workers; block = c.args.block } in
     let can = can_run _ c.requires.accepted.0 c.requires.accepted.1 c.args.accepted c.requires.accepted.2 (kinds_of (lent c.args.host.now)) in
-    absurd (some_words (kinds_of (lent c.args.host.now)) c.args.accepted can c.deref.result.now c.deref.ensures.value pace refl c.in-Ok-new.course c.in-Ok-new.ensures.begun
-    (steady c.in-Ok.source) (steady c.tell.new.source) c.tell.new.course c.in-Ok-tell.tally.count c.in-Ok-tell.tally.sum
-    c.in-Ok-tell.ensures.tells c.in-Ok-tell.ensures.given c.requires.inputs none)
+    absurd (some_words (kinds_of (lent c.args.host.now)) c.args.accepted can c.deref.result.now c.deref.ensures.value pace refl c.in_ok-course.course c.in_ok-course.ensures.begun
+    (steady c.in_ok-source.source) (steady c.tell.new.source) c.tell.new.course c.in_ok-tally.tally.count c.in_ok-tally.tally.sum
+    c.in_ok-tally.ensures.tells c.in_ok-tally.ensures.given c.requires.inputs none)
 
 pub returns-in_default-clause-err : goal.returns-in_default-clause-err
 returns-in_default-clause-err g c =
@@ -57,19 +57,19 @@ returns-in_default-clause-err g c =
     let can = can_run _ c.requires.accepted.0 c.requires.accepted.1 c.args.accepted c.requires.accepted.2 (kinds_of (lent c.args.host.now)) in
     inr (
       c.in_default.not-Done,
-      refused (kinds_of (lent c.args.host.now)) c.args.accepted can c.deref.result.now c.deref.ensures.value pace refl c.in-Ok-new.course c.in-Ok-new.ensures.begun
-          (steady c.in-Ok.source) (steady c.tell.new.source) c.tell.new.course c.in-Ok-tell.tally.count c.in-Ok-tell.tally.sum
-          c.in-Ok-tell.ensures.tells c.in-Ok-tell.ensures.given
-          c.cut_in_pieces.ensures c.first_goes_on.ensures.agrees c.requires.inputs c.finish.new.source c.finish.result (ap (λ s. Some s) c.in-Ok.ensures) refl c.finish.ensures.over c.args.stages c.in_default.not-Done,
+      refused (kinds_of (lent c.args.host.now)) c.args.accepted can c.deref.result.now c.deref.ensures.value pace refl c.in_ok-course.course c.in_ok-course.ensures.begun
+          (steady c.in_ok-source.source) (steady c.tell.new.source) c.tell.new.course c.in_ok-tally.tally.count c.in_ok-tally.tally.sum
+          c.in_ok-tally.ensures.tells c.in_ok-tally.ensures.given
+          c.cut_in_pieces.ensures c.first_goes_on.ensures.agrees c.requires.inputs c.finish.new.source c.finish.result (ap (λ s. Some s) c.in_ok-source.ensures) refl c.finish.ensures.over c.args.stages c.in_default.not-Done,
     )
 
-pub returns-in-Ok-print-clause-ok : goal.returns-in-Ok-print-clause-ok
-returns-in-Ok-print-clause-ok g c =
+pub returns-clause-ok : goal.returns-clause-ok
+returns-clause-ok g c =
     let pace : Pace = record { instants = None; workers = c.args.workers; block = c.args.block } in
     let can = can_run _ c.requires.accepted.0 c.requires.accepted.1 c.args.accepted c.requires.accepted.2 (kinds_of (lent c.args.host.now)) in
-    figured (kinds_of (lent c.args.host.now)) c.args.accepted can c.deref.result.now c.deref.ensures.value pace refl c.in-Ok-new.course c.in-Ok-new.ensures.begun
-    (steady c.in-Ok.source) (steady c.tell.new.source) c.tell.new.course c.in-Ok-tell.tally.count c.in-Ok-tell.tally.sum
-    c.in-Ok-tell.ensures.tells c.in-Ok-tell.ensures.given
-    c.cut_in_pieces.ensures c.first_goes_on.ensures.agrees c.requires.inputs c.finish.new.source c.finish.result (ap (λ s. Some s) c.in-Ok.ensures) refl c.finish.ensures.over
-    c.args.stages c.counts_of-counts.result.actors c.counts_of-counts.result.rings c.counts_of-counts.result.slots c.horizon-instants.result c.in-Ok-print.lines.items c.in-Done.is
-    c.counts_of-counts.ensures.actors c.counts_of-counts.ensures.rings c.counts_of-counts.ensures.slots c.horizon-instants.ensures c.in-Ok-print.ensures
+    figured (kinds_of (lent c.args.host.now)) c.args.accepted can c.deref.result.now c.deref.ensures.value pace refl c.in_ok-course.course c.in_ok-course.ensures.begun
+    (steady c.in_ok-source.source) (steady c.tell.new.source) c.tell.new.course c.in_ok-tally.tally.count c.in_ok-tally.tally.sum
+    c.in_ok-tally.ensures.tells c.in_ok-tally.ensures.given
+    c.cut_in_pieces.ensures c.first_goes_on.ensures.agrees c.requires.inputs c.finish.new.source c.finish.result (ap (λ s. Some s) c.in_ok-source.ensures) refl c.finish.ensures.over
+    c.args.stages c.counts_of-counts.result.actors c.counts_of-counts.result.rings c.counts_of-counts.result.slots c.horizon-instants.result c.in_ok-print.field-0.items c.in-Done.is
+    c.counts_of-counts.ensures.actors c.counts_of-counts.ensures.rings c.counts_of-counts.ensures.slots c.horizon-instants.ensures c.in_ok-print.ensures

@@ -14,8 +14,8 @@ param_words-words-requires g c =
     subst (AreClocked c.args.accepted.placed.nodes) (sym c.deref.ensures.value)
     (c.accepted_programs_are_clocked.ensures.clocked (lent c.args.host.now) c.requires.accepted.1 c.requires.accepted.0 c.args.accepted c.requires.accepted.2)
 
-pub run_net-streams-requires-clause-inputs : goal.run_net-streams-requires-clause-inputs
-run_net-streams-requires-clause-inputs g c κs within =
+pub new-played-requires-clause-inputs : goal.new-played-requires-clause-inputs
+new-played-requires-clause-inputs g c κs within =
     let nodes = c.args.accepted.placed.nodes in
     let clocks = c.deref.result.now in
     let words : c.param_words-words.result.now ≡ param_words nodes clocks = c.param_words-words.ensures.words in
@@ -23,12 +23,12 @@ run_net-streams-requires-clause-inputs g c κs within =
     let counted : length (param_words nodes clocks) ≡ params_in (main_of nodes) = length-map-range_with_len (main_word nodes clocks) 1 (params_in (main_of nodes)) in
     sym counted ∙ sym (ap (λ (ws : List Bits). length ws) words) ∙ one ∙ sym c.requires.count
 
-pub run_net-streams-requires-clause-known : goal.run_net-streams-requires-clause-known
-run_net-streams-requires-clause-known g c κs within =
+pub new-played-requires-clause-known : goal.new-played-requires-clause-known
+new-played-requires-clause-known g c κs within =
     c.accepted_programs_are_clocked.ensures.operators (lent c.args.host.now) c.requires.accepted.1 c.requires.accepted.0 c.args.accepted c.requires.accepted.2
 
-pub run_net-streams-requires-clause-suffice : goal.run_net-streams-requires-clause-suffice
-run_net-streams-requires-clause-suffice g c κs within =
+pub new-played-requires-clause-suffice : goal.new-played-requires-clause-suffice
+new-played-requires-clause-suffice g c κs within =
     let clocks = c.deref.ensures.value ∙ sym c.deref-3.ensures.value in
     let words = c.param_words-words.ensures.words ∙ ap (param_words c.args.accepted.placed.nodes) clocks in
     counted_suffice _ _ _ _ c.args.inputs _ c.horizon-instants.result words c.deref-2.ensures.value c.in-Ok.ensures.each c.horizon-instants.ensures

@@ -1,11 +1,11 @@
-use Rattle.std.proofs.Common.{◌≡◌, ℕ, List, length, subst, sym, ap, ◌∙◌, arith}
+use Rattle.std.proofs.Common.{◌≡◌, ℕ, List, length, subst, sym, ap, arith}
 use Rattle.std.specs.List.{All, AllByRecursion}
 use Rattle.std.proofs.lemmas.List.Elements.{All-from_recursion}
 use Rattle.lucy_need.specs.Meeting.{IsWithin}
 use Rattle.lucy_need.specs.Stored.{HasWords}
 use Rattle.lucy_need.specs.declared.need.Need.{Need}
 use Rattle.lucy_rates.specs.Forests.{IsForest}
-use Rattle.lucy_rates.specs.Growing.{ArePlanted}
+use Rattle.lucy_rates.specs.Growing.{IsGrown}
 use Rattle.lucy_rates.proofs.rating.balanced.Goals as goal
 
 -- the same for a list that is those needs, and a number that is that of the clocks
@@ -16,35 +16,26 @@ pub first_unbalanced-requires : goal.first_unbalanced-requires
 first_unbalanced-requires c =
     let f = c.args.forest.now in
     let e = c.list-list.ensures in
-    let n = c.requires.sizes.3 in
+    let n = c.requires.grown.is.rates_size in
     let size = ap (λ (x : List Need). length x) e in
     let few' = c.requires.proper.few in
     record {
       within = within_as c.list-list.result.now c.args.needs.now.list (length f.rates.items) c.args.needs.now.clocks e n c.requires.proper.within;
       few = omega arith;
       forest = subst (λ (x : List Need). IsForest x (length f.rates.items) f.roots.items f.parents.items f.rates.items) (sym e)
-          (subst (λ (x : ℕ). IsForest c.args.needs.now.list x f.roots.items f.parents.items f.rates.items) (sym n) c.requires.forest);
+          (subst (λ (x : ℕ). IsForest c.args.needs.now.list x f.roots.items f.parents.items f.rates.items) (sym n) c.requires.grown.is);
     }
 
 pub walk_of-requires : goal.walk_of-requires
 walk_of-requires c =
     let f = c.args.forest.now in
     let e = c.list-list.ensures in
-    let sizes = c.requires.sizes in
-    let n = sizes.0 in
+    let n = c.requires.grown.is.roots_size in
     let found = c.in-Some.ensures.found in
-    let p = c.requires.planted in
     record {
       within = within_as c.list-list.result.now c.args.needs.now.list (length f.roots.items) c.args.needs.now.clocks e n c.requires.proper.within;
       words = All-from_recursion HasWords c.list-list.result.now (subst (AllByRecursion HasWords) (sym e) c.requires.words);
-      sizes = (sizes.1 ∙ sym n, sizes.2 ∙ sym n);
-      forest = subst (λ (x : List Need). IsForest x (length f.roots.items) f.roots.items f.parents.items f.rates.items) (sym e)
-          (subst (λ (x : ℕ). IsForest c.args.needs.now.list x f.roots.items f.parents.items f.rates.items) (sym n) c.requires.forest);
-      planted = (
-        p.0,
-        subst (λ (x : List Need). ArePlanted x (length f.roots.items) (length f.roots.items) p.0 f.roots.items f.parents.items f.depths.items f.rates.items) (sym e)
-            (subst (λ (x : ℕ). ArePlanted c.args.needs.now.list x x p.0 f.roots.items f.parents.items f.depths.items f.rates.items) (sym n) p.1),
-      );
+      grown = subst (λ (x : List Need). IsGrown x (length f.roots.items) f) (sym e) (subst (λ (x : ℕ). IsGrown c.args.needs.now.list x f) (sym n) c.requires.grown);
       need = found.0;
       uneven = found.1;
       before = found.2;

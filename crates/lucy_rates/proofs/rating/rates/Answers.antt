@@ -34,7 +34,7 @@ pub returns-in_err-balanced-clause-refused : goal.returns-in_err-balanced-clause
 returns-in_err-balanced-clause-refused c =
     let needs = c.args.needs.now in
     let f = c.in_ok-forest.forest in
-    let small = none_large needs.list needs.clocks f.roots.items f.parents.items f.rates.items c.in_ok-forest.ensures.forest in
+    let small = none_large needs.list needs.clocks f.roots.items f.parents.items f.rates.items c.in_ok-forest.ensures.grown.is in
     let p = err_from_is_err_and c.from_residual-in_err-balanced.result c.from_residual-in_err-balanced.ensures.1 in
     rw (p.1, p.2) (unequal_fault needs c.args.scale c.args.lead c.in_err-balanced.field-0.0 small c.in_err-balanced.ensures.refused)
 
@@ -44,7 +44,7 @@ returns c =
     let scale = c.args.scale in
     let lead = c.args.lead in
     let f = c.in_ok-forest.forest in
-    let small = none_large needs.list needs.clocks f.roots.items f.parents.items f.rates.items c.in_ok-forest.ensures.forest in
+    let small = none_large needs.list needs.clocks f.roots.items f.parents.items f.rates.items c.in_ok-forest.ensures.grown.is in
     record {
       shape = c.shape_of.ensures.shape;
       refused = IfErr-weaker c.shape_of.result _ _ (λ e h. wide_fault needs scale lead e small c.in_ok-balanced.ensures.balanced h) c.shape_of.ensures.refused;

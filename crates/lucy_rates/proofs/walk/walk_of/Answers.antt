@@ -24,11 +24,10 @@ way_back-requires c =
     let ends = both_within n (need_at needs k) (c.requires.within k no_need c.requires.need) in
     let a = first_clock needs k c.index-needs-need.result c.terms.result.0.now c.requires.need c.index-needs-need.is c.terms.ensures.first in
     let b = second_clock needs k c.index-needs-need.result c.terms.result.1.now c.requires.need c.index-needs-need.is c.terms.ensures.second in
-    let one = one_root_at needs n f.roots.items f.parents.items f.rates.items k c.requires.within c.requires.forest c.requires.need in
+    let one = one_root_at needs n f.roots.items f.parents.items f.rates.items k c.requires.within c.requires.grown.is c.requires.need in
     record {
       within = c.requires.within;
-      sizes = c.requires.sizes;
-      planted = c.requires.planted;
+      grown = c.requires.grown;
       from = subst (λ (x : ℕ). x < n) b ends.1;
       to = subst (λ (x : ℕ). x < n) a ends.0;
       one = ap (λ x. get_or f.roots.items x 0) (sym b) ∙ one ∙ ap (λ x. get_or f.roots.items x 0) a;
@@ -47,7 +46,7 @@ returns c =
     (subst (λ (x : ℕ). IsWayBack needs f.roots.items f.rates.items c.terms.result.1.now.clock x c.in_ok-back.back.items) (sym a) c.in_ok-back.ensures) in
     record {
       first = IfOk-weaker c.led_by.result _ _ (λ walk e. subst (λ (x : List ℕ). IsFirstUnequal needs x) (sym (e ∙ ap (λ x. k ∷ x) c.deref.ensures.value))
-          (first_of_all needs n f.roots.items f.parents.items f.rates.items k c.in_ok-back.back.items c.requires.within c.requires.forest c.requires.need c.requires.uneven c.requires.before way)) c.led_by.ensures;
+          (first_of_all needs n f.roots.items f.parents.items f.rates.items k c.in_ok-back.back.items c.requires.within c.requires.grown.is c.requires.need c.requires.uneven c.requires.before way)) c.led_by.ensures;
       unequal = IfOk-weaker c.led_by.result _ _ (λ walk e. subst (λ (x : List ℕ). IsUnequalWalk needs x) (sym (e ∙ ap (λ x. k ∷ x) c.deref.ensures.value))
-          (unequal_of needs n f.roots.items f.parents.items f.rates.items k c.in_ok-back.back.items c.requires.within c.requires.words c.requires.forest c.requires.need c.requires.uneven way)) c.led_by.ensures;
+          (unequal_of needs n f.roots.items f.parents.items f.rates.items k c.in_ok-back.back.items c.requires.within c.requires.words c.requires.grown.is c.requires.need c.requires.uneven way)) c.led_by.ensures;
     }

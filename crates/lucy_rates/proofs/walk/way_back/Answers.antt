@@ -22,16 +22,16 @@ at_zero xs i x l e = e ∙ same_default xs i x 0 l
 
 pub loop-a-init : goal.loop-a-init
 loop-a-init c =
-    let p = c.requires.planted in
+    let p = c.requires.grown in
     let f = c.args.forest.now in
     let n = length f.roots.items in
     let root = get_or f.roots.items c.args.from 0 in
-    let start = climb_start c.args.needs.now n root (p.0 root) f.roots.items f.parents.items f.depths.items c.args.from c.args.to c.requires.from c.requires.to refl (sym c.requires.one) in
+    let start = climb_start c.args.needs.now n root (p.tree root) f.roots.items f.parents.items f.depths.items c.args.from c.args.to c.requires.from c.requires.to refl (sym c.requires.one) in
     record {
-      tree = p.0;
-      planted = p.1;
-      climbing = subst (λ (x : List ℕ). AreClimbing c.args.needs.now n root (p.0 root) f.roots.items f.parents.items f.depths.items c.args.from c.args.to x c.new-down.result.items c.args.from c.args.to) (sym c.new-up.ensures.items)
-          (subst (λ (x : List ℕ). AreClimbing c.args.needs.now n root (p.0 root) f.roots.items f.parents.items f.depths.items c.args.from c.args.to [] x c.args.from c.args.to) (sym c.new-down.ensures.items) start);
+      tree = p.tree;
+      planted = p.planted;
+      climbing = subst (λ (x : List ℕ). AreClimbing c.args.needs.now n root (p.tree root) f.roots.items f.parents.items f.depths.items c.args.from c.args.to x c.new-down.result.items c.args.from c.args.to) (sym c.new-up.ensures.items)
+          (subst (λ (x : List ℕ). AreClimbing c.args.needs.now n root (p.tree root) f.roots.items f.parents.items f.depths.items c.args.from c.args.to [] x c.args.from c.args.to) (sym c.new-down.ensures.items) start);
     }
 
 pub up_from-need-requires : goal.up_from-need-requires
@@ -41,7 +41,8 @@ up_from-need-requires c =
     let n = length f.roots.items in
     let root = get_or f.roots.items c.args.from 0 in
     let h = rooted c.args.needs.now n i.tree f.roots.items f.parents.items f.depths.items f.rates.items i.planted c.requires.within c.args.from c.requires.from in
-    let sizes = c.requires.sizes in
+    let size = c.requires.grown.depths_size in
+    let parents_size = c.requires.grown.is.parents_size in
     let a_in = i.climbing.a_within in
     let b_in = i.climbing.b_within in
     let da = at_zero f.depths.items c.loop-a.a c.index.result.now (omega arith) c.index.ensures in
@@ -59,7 +60,8 @@ loop-a-preserved c =
     let n = length f.roots.items in
     let root = get_or f.roots.items c.args.from 0 in
     let h = rooted c.args.needs.now n i.tree f.roots.items f.parents.items f.depths.items f.rates.items i.planted c.requires.within c.args.from c.requires.from in
-    let sizes = c.requires.sizes in
+    let size = c.requires.grown.depths_size in
+    let parents_size = c.requires.grown.is.parents_size in
     let a_in = i.climbing.a_within in
     let b_in = i.climbing.b_within in
     let da = at_zero f.depths.items c.loop-a.a c.index.result.now (omega arith) c.index.ensures in
@@ -87,7 +89,8 @@ loop-a-smaller c =
     let n = length f.roots.items in
     let root = get_or f.roots.items c.args.from 0 in
     let h = rooted c.args.needs.now n i.tree f.roots.items f.parents.items f.depths.items f.rates.items i.planted c.requires.within c.args.from c.requires.from in
-    let sizes = c.requires.sizes in
+    let size = c.requires.grown.depths_size in
+    let parents_size = c.requires.grown.is.parents_size in
     let a_in = i.climbing.a_within in
     let b_in = i.climbing.b_within in
     let da = at_zero f.depths.items c.loop-a.a c.index.result.now (omega arith) c.index.ensures in
@@ -110,7 +113,8 @@ loop-a-smaller-then-index c =
     let n = length f.roots.items in
     let root = get_or f.roots.items c.args.from 0 in
     let h = rooted c.args.needs.now n i.tree f.roots.items f.parents.items f.depths.items f.rates.items i.planted c.requires.within c.args.from c.requires.from in
-    let sizes = c.requires.sizes in
+    let size = c.requires.grown.depths_size in
+    let parents_size = c.requires.grown.is.parents_size in
     let a_in = i.climbing.a_within in
     let b_in = i.climbing.b_within in
     let da = at_zero f.depths.items c.loop-a.a c.index.result.now (omega arith) c.index.ensures in
@@ -132,7 +136,8 @@ loop-a-preserved-then-index c =
     let n = length f.roots.items in
     let root = get_or f.roots.items c.args.from 0 in
     let h = rooted c.args.needs.now n i.tree f.roots.items f.parents.items f.depths.items f.rates.items i.planted c.requires.within c.args.from c.requires.from in
-    let sizes = c.requires.sizes in
+    let size = c.requires.grown.depths_size in
+    let parents_size = c.requires.grown.is.parents_size in
     let a_in = i.climbing.a_within in
     let b_in = i.climbing.b_within in
     let da = at_zero f.depths.items c.loop-a.a c.index.result.now (omega arith) c.index.ensures in
@@ -158,7 +163,8 @@ up_from-need-requires-else-index-clause-reached c =
     let n = length f.roots.items in
     let root = get_or f.roots.items c.args.from 0 in
     let h = rooted c.args.needs.now n i.tree f.roots.items f.parents.items f.depths.items f.rates.items i.planted c.requires.within c.args.from c.requires.from in
-    let sizes = c.requires.sizes in
+    let size = c.requires.grown.depths_size in
+    let parents_size = c.requires.grown.is.parents_size in
     let a_in = i.climbing.a_within in
     let b_in = i.climbing.b_within in
     let da = at_zero f.depths.items c.loop-a.a c.index.result.now (omega arith) c.index.ensures in
