@@ -18,7 +18,7 @@ mod Runs
 mod RunEnds
 mod ReplaysOnce
 mod Replays
-mod Accepting
+mod Unaccepted
 mod Statuses
 mod Played
 mod Suited

@@ -18,17 +18,14 @@ use Rattle.lucy_front.specs.Report.{report}
 use Rattle.lucy_run.specs.Feeds.{IsMainInput}
 use Rattle.lucy_run.specs.Owes.{most_instants, input_words, heading, lines_to, stream_lines, IsHorizonOf}
 use Rattle.lucy_run.specs.Laws.{IsFedWell}
-use Rattle.lucy_run.specs.Replays.{first_core, IsReplayText}
+use Rattle.lucy_run.specs.Replays.{IsReplayText}
 use Rattle.lucy_run.proofs.ReplayLaws.{text_once}
 use Rattle.lucy_fields.specs.Readings.{AreRead}
 use Rattle.lucy_trace.specs.Logs.{picks_of}
 use Rattle.lucy_trace.specs.Traces.{IsTraceText}
 use Rattle.lucy_net.specs.declared.net.Net.{Net}
-use Rattle.lucy_core.specs.Seen.{first_seen}
-use Rattle.lucy_place.specs.declared.placed.PlacedNode.{PlacedNode}
-use Rattle.lucy_output.specs.declared.output.OutputSpec.{OutputSpec}
 use Rattle.lucy_tight.specs.Laws.{OneTightest}
-use Rattle.lucy_app.proofs.ReplaysOnce.{picks_one}
+use Rattle.lucy_app.proofs.ReplaysOnce.{picks_one, text_moves}
 use Rattle.lucy_run.proofs.OwesLaws.{OneHorizon}
 use Rattle.lucy_make.specs.Text.{made_text, made_input}
 use Rattle.lucy_make.specs.Figures.{figures}
@@ -118,17 +115,14 @@ module _ (cut : OneCut) (horizons : OneHorizon) (kinds : List HostKind) (a b : A
       ∙ ap (λ ls. figures stages b.net horizon (printed_values kinds b ls horizon)) lists_same ∙ ap (λ t. figures stages b.net t (printed_values kinds b others t)) horizon_same
 
   -- and the text of a replay is one
-  replays_same : (ops : List Operator) (picks events output out : List ℕ) → picks ≡ events → IsReplayText (first_core ops a lists horizon) a.placed.nodes a.outputs.items picks output →
-      IsReplayText (first_core ops b others last) b.placed.nodes b.outputs.items events out → output ≡ out
+  replays_same : (ops : List Operator) (picks events output out : List ℕ) → picks ≡ events → IsReplayText (kinds_of ops) a lists horizon picks output →
+      IsReplayText (kinds_of ops) b others last events out → output ≡ out
   replays_same ops picks events output out one text also =
-      let P : Net → Type 0 = λ net. IsReplayText (first_seen net a.schedule lists ops horizon) a.placed.nodes a.outputs.items picks output in
-      let Q : List PlacedNode → Type 0 = λ ns. IsReplayText (first_seen b.net a.schedule lists ops horizon) ns a.outputs.items picks output in
-      let R : List OutputSpec → Type 0 = λ os. IsReplayText (first_seen b.net a.schedule lists ops horizon) b.placed.nodes os picks output in
-      let S : List (List ℤ) → Type 0 = λ ls. IsReplayText (first_seen b.net a.schedule ls ops horizon) b.placed.nodes b.outputs.items picks output in
-      let T : ℕ → Type 0 = λ t. IsReplayText (first_seen b.net a.schedule others ops t) b.placed.nodes b.outputs.items picks output in
-      let U : List ℕ → Type 0 = λ ps. IsReplayText (first_seen b.net a.schedule others ops last) b.placed.nodes b.outputs.items ps output in
-      let moved = subst U one (subst T horizon_same (subst S lists_same (subst R same.outputs (subst Q same.nodes (subst P same.net text))))) in
-      text_once (first_core ops b others last) b.placed.nodes b.outputs.items events output out moved also
+      let P : List (List ℤ) → Type 0 = λ ls. IsReplayText (kinds_of ops) b ls horizon picks output in
+      let Q : ℕ → Type 0 = λ t. IsReplayText (kinds_of ops) b others t picks output in
+      let R : List ℕ → Type 0 = λ ps. IsReplayText (kinds_of ops) b others last ps output in
+      let moved = subst R one (subst Q horizon_same (subst P lists_same (text_moves ops a b same lists horizon picks output text))) in
+      text_once (kinds_of ops) b others last events output out moved also
 
 -- a log that is held names one list of events
 log_one : (shelf : SeenShelf) (file : Wanted) (picks events : List ℕ) → HoldsSuch (λ log. AreRead (picks_of log) picks) shelf file → HoldsSuch (λ log. AreRead (picks_of log) events) shelf file → picks ≡ events

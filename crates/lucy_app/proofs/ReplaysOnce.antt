@@ -1,5 +1,5 @@
 -- What `replay` owes is one answer, but for the evidence of a refusal.
-use Rattle.std.proofs.Common.{ℕ, ◌+◌, ◌≡◌, ◌⊎◌, List, [], ◌∷◌, ◌++◌, map, Option, Result, Ok, Err, refl, ap, sym, ◌∙◌, subst, inl, inr}
+use Rattle.std.proofs.Common.{ℕ, ◌+◌, ◌≡◌, ◌⊎◌, List, [], ◌∷◌, ◌++◌, length, map, Option, Result, Ok, Err, refl, ap, sym, ◌∙◌, subst, inl, inr}
 use Rattle.std.specs.Prelude.{ℤ}
 use Rattle.lucy_host.specs.Operators.{Operator, kinds_of}
 use Rattle.lucy_text.specs.declared.shelf.ShelfError.{ShelfError}
@@ -8,21 +8,24 @@ use Rattle.lucy_lines.specs.declared.reader.TextFault.{TextFault}
 use Rattle.lucy_text.specs.Sources.{ReadStop}
 use Rattle.lucy_fields.specs.Readings.{AreRead}
 use Rattle.lucy_fields.proofs.ReadingLaws.{good, never_both, one_place}
-use Rattle.lucy_trace.specs.Logs.{picks_of}
+use Rattle.lucy_trace.specs.Logs.{picks_of, IsFirstImpossible}
 use Rattle.lucy_trace.specs.declared.error.TraceError.{TraceError}
 use Rattle.lucy_trace.specs.declared.error.TraceError.TheVariants.{BadNumber}
 use Rattle.lucy_place.specs.declared.placed.PlacedNode.{PlacedNode}
 use Rattle.lucy_clock.specs.declared.node_clock.NodeClock.{NodeClock}
 use Rattle.lucy_output.specs.declared.output.OutputSpec.{OutputSpec}
 use Rattle.lucy_net.specs.declared.net.Net.{Net}
-use Rattle.lucy_cause.specs.Schedules.{Timetable}
-use Rattle.lucy_core.specs.Seen.{first_seen}
-use Rattle.lucy_word.specs.Bits.{Bits}
-use Rattle.lucy_results.specs.Streams.{param_words}
+use Rattle.lucy_net.specs.Plans.{net_system}
+use Rattle.lucy_event.specs.Runs.{none_done, after, IsRun}
+use Rattle.lucy_host.specs.declared.kind.HostKind.{HostKind}
+use Rattle.lucy_meaning.specs.Sizes.{all_places}
+use Rattle.lucy_output.specs.Outputs.{output_text}
+use Rattle.lucy_results.specs.Streams.{param_words, main_streams, taken_of}
 use Rattle.lucy_front.specs.declared.accepted.Accepted.{Accepted}
 use Rattle.lucy_front.specs.declared.options.Options.{Options}
 use Rattle.lucy_run.specs.declared.ending.Ending.{Ending}
-use Rattle.lucy_run.specs.Replays.{first_core, Judges, OwesReplay}
+use Rattle.lucy_run.specs.Owes.{EndsFor}
+use Rattle.lucy_run.specs.Replays.{SaysOver, tally, IsReplayText, Judges, OwesReplay}
 use Rattle.lucy_run.specs.Laws.{OneReplay}
 use Rattle.lucy_app.specs.Outcomes.{NoRun}
 use Rattle.lucy_app.specs.Answers.{Answer, AreOneBut, AreRefusedAlike, log_refused}
@@ -40,28 +43,36 @@ good_once (x ∷ xs) (y ∷ ys) e = let rest : good xs ≡ good ys = cc e in let
 pub picks_one : (text : List ℕ) (xs ys : List ℕ) → AreRead (picks_of text) xs → AreRead (picks_of text) ys → xs ≡ ys
 picks_one text xs ys is also = good_once xs ys (sym is ∙ also)
 
--- what events come to says nothing of the schedule
-judges_any : (net : Net) (s t : Timetable) (ops : List Operator) (lists : List (List ℤ)) (horizon : ℕ) (nodes : List PlacedNode) (outputs : List OutputSpec) (words : List Bits) (given : Option ℕ) (fault : Option TextFault)
-    (picks output : List ℕ) (result : Result Ending TraceError) → Judges (first_seen net s lists ops horizon) nodes outputs words given lists fault picks output result →
-    Judges (first_seen net t lists ops horizon) nodes outputs words given lists fault picks output result
-judges_any net s t ops lists horizon nodes outputs words given fault picks output (Ok end) h = h
-judges_any net s t ops lists horizon nodes outputs words given fault picks output (Err e) h = h
+-- the text of a replay, by the parts of the program that it reads
+abbrev pub IsTextBy : List HostKind → Net → List PlacedNode → List NodeClock → List OutputSpec → (lists : List (List ℤ)) → (horizon : ℕ) → (picks output : List ℕ) → Type 0
+IsTextBy kinds net nodes clocks outputs lists horizon picks output =
+    (line : List ℕ) × SaysOver (net_system net horizon) (after none_done picks) line × (output ≡ tally (length picks) line
+    ++ output_text outputs (taken_of (all_places nodes) (after none_done picks) (main_streams kinds lists nodes clocks horizon)) horizon)
 
 -- what is owed of one program of a text is owed of the other
-pub replay_moves : (ops : List Operator) (a b : Accepted) → AreSame a b → (instants : Option ℕ) (picks taken : List ℕ) (stop : ReadStop) (output : List ℕ) (result : Result Ending TraceError) →
-    OwesReplay ops a instants picks taken stop output result → OwesReplay ops b instants picks taken stop output result
-replay_moves ops a b same instants picks taken stop output result (lists, fault, horizon, fed, judged) =
-    let kinds = kinds_of ops in
-    let P : List PlacedNode → List NodeClock → Type 0 = λ ns cs. Judges (first_core ops a lists horizon) ns a.outputs.items (param_words ns cs) instants lists fault picks output result in
-    let Q : List OutputSpec → Type 0 = λ os. Judges (first_core ops a lists horizon) b.placed.nodes os (param_words b.placed.nodes b.clocks.items) instants lists fault picks output result in
-    let R : Net → Type 0 = λ net. Judges (first_seen net a.schedule lists ops horizon) b.placed.nodes b.outputs.items (param_words b.placed.nodes b.clocks.items) instants lists fault picks output result in (
-      lists,
-      fault,
-      horizon,
-      fed_moves kinds a b same instants taken stop lists fault horizon fed,
-      judges_any b.net a.schedule b.schedule ops lists horizon b.placed.nodes b.outputs.items (param_words b.placed.nodes b.clocks.items) instants fault picks output result
-          (subst R same.net (subst Q same.outputs (moves kinds a b same instants taken stop P judged))),
+module _ (ops : List Operator) (a b : Accepted) (same : AreSame a b) where
+  pub text_moves : (lists : List (List ℤ)) (horizon : ℕ) (picks output : List ℕ) → IsReplayText (kinds_of ops) a lists horizon picks output → IsReplayText (kinds_of ops) b lists horizon picks output
+  text_moves lists horizon picks output text =
+      let kinds = kinds_of ops in
+      let P : Net → Type 0 = λ net. IsTextBy kinds net a.placed.nodes a.clocks.items a.outputs.items lists horizon picks output in
+      let Q : List PlacedNode → Type 0 = λ ns. IsTextBy kinds b.net ns a.clocks.items a.outputs.items lists horizon picks output in
+      let R : List NodeClock → Type 0 = λ cs. IsTextBy kinds b.net b.placed.nodes cs a.outputs.items lists horizon picks output in
+      let S : List OutputSpec → Type 0 = λ os. IsTextBy kinds b.net b.placed.nodes b.clocks.items os lists horizon picks output in
+      subst S same.outputs (subst R same.clocks (subst Q same.nodes (subst P same.net text)))
+
+  module _ (instants : Option ℕ) (picks taken : List ℕ) (stop : ReadStop) (output : List ℕ) where
+    judges_move : (lists : List (List ℤ)) (fault : Option TextFault) (horizon : ℕ) (result : Result Ending TraceError) →
+        Judges (kinds_of ops) a instants lists fault horizon picks output result → Judges (kinds_of ops) b instants lists fault horizon picks output result
+    judges_move lists fault horizon (Ok end) (run, text, ends) = (
+      subst (λ net. IsRun (net_system net horizon) none_done picks) same.net run,
+      text_moves lists horizon picks output text,
+      moves (kinds_of ops) a b same instants taken stop (λ ns cs. EndsFor (param_words ns cs) instants lists fault end) ends,
     )
+    judges_move lists fault horizon (Err e) (bad, none) = (subst (λ net. IsFirstImpossible (IsRun (net_system net horizon) none_done) picks e) same.net bad, none)
+
+    pub replay_moves : (result : Result Ending TraceError) → OwesReplay ops a instants picks taken stop output result → OwesReplay ops b instants picks taken stop output result
+    replay_moves result (lists, fault, horizon, fed, judged) =
+        (lists, fault, horizon, fed_moves (kinds_of ops) a b same instants taken stop lists fault horizon fed, judges_move lists fault horizon result judged)
 
 module _ (again : OneReplay) (ops : List Operator) (instants : Option ℕ) (taken : List ℕ) (stop : ReadStop) where
   events_once : (a b : Accepted) → AreSame a b → (picks : List ℕ) (x y : Answer) → OwesEvents ops a instants taken stop picks x → OwesEvents ops b instants taken stop picks y → x ≡ y

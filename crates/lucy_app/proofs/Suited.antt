@@ -27,11 +27,12 @@ use Rattle.lucy_run.specs.Feeds.{Feeds, IsMainInput}
 use Rattle.lucy_run.specs.Owes.{most_instants, input_words, heading, lines_to, IsHorizonOf, EndsFor, OwesRun, OwesKahn}
 use Rattle.lucy_run.specs.Tracing.{OwesTrace}
 use Rattle.lucy_run.specs.Laws.{IsFedWell, CompleteRun, CompleteInterpretation, CompleteReplay, CompleteTrace}
-use Rattle.lucy_run.specs.Replays.{first_core, IsReplayText}
+use Rattle.lucy_run.specs.Replays.{IsReplayText}
 use Rattle.lucy_fields.specs.Readings.{AreRead}
 use Rattle.lucy_fields.proofs.ReadingLaws.{never_both}
 use Rattle.lucy_trace.specs.Logs.{picks_of}
-use Rattle.lucy_core.specs.Seen.{CanRun}
+use Rattle.lucy_event.specs.Runs.{none_done, IsRun}
+use Rattle.lucy_net.specs.Plans.{net_system}
 use Rattle.lucy_run.proofs.OwesLaws.{OneHorizon, done_for}
 use Rattle.lucy_run.proofs.WholeLaws.{taken_front, taken_all}
 use Rattle.lucy_make.specs.Text.{made_text, made_input}
@@ -238,10 +239,10 @@ ended_printed out output end (same, over) = ap (λ e. ended_answer out e) over �
 module _ (again : CompleteReplay) (ops : List Operator) (words : ProgramWords) (name : List ℕ) (taken : List ℕ) (stop : ReadStop) (before after : World) (a : Accepted) (lists : List (List ℤ)) (horizon : ℕ) (picks : List ℕ)
     (text log : List ℕ) (held : HoldsText before.shelf (program_of words.file) text) (can : IsRunnable ops (inferring_options words.scale words.lead) words.instants text a)
     (logs : HoldsText before.shelf (log_of name) log) (reads : AreRead (picks_of log) picks) (fed : IsFedWell a words.instants before.source.left lists horizon)
-    (run : CanRun (first_core ops a lists horizon) picks) (well : IsFaultless before after) (source : Read (limit_number limit.Input) before.source after.source taken stop) where
+    (run : IsRun (net_system a.net horizon) none_done picks) (well : IsFaultless before after) (source : Read (limit_number limit.Input) before.source after.source taken stop) where
   -- it prints the text of these events
   abbrev Prints : Answer → Type 0
-  Prints answer = (output : List ℕ) × IsReplayText (first_core ops a lists horizon) a.placed.nodes a.outputs.items picks output × (answer ≡ printed output)
+  Prints answer = (output : List ℕ) × IsReplayText (kinds_of ops) a lists horizon picks output × (answer ≡ printed output)
 
   events_done : (b : Accepted) → AreSame b a → (answer : Answer) → OwesEvents ops b words.instants taken stop picks answer → Prints answer
   events_done b same answer (output, result, owed, is) =
@@ -294,11 +295,11 @@ logged_done : CompleteReplay → (ops : List Operator) (words : ProgramWords) (n
     (suits : (a : Accepted) × (lists : List (List ℤ)) × (horizon : ℕ)
     × HoldsSuch (λ text. IsRunnable ops (inferring_options words.scale words.lead) words.instants text a) before.shelf (program_of words.file)
     × IsFedWell a words.instants before.source.left lists horizon × (picks : List ℕ)
-    × HoldsSuch (λ log. AreRead (picks_of log) picks) before.shelf (log_of name) × CanRun (first_core ops a lists horizon) picks) →
+    × HoldsSuch (λ log. AreRead (picks_of log) picks) before.shelf (log_of name) × IsRun (net_system a.net horizon) none_done picks) →
     IsFaultless before after → Read (limit_number limit.Input) before.source after.source taken stop → (fetched : List (Result (List ℕ) ShelfError)) →
     Fetches (program_of words.file ∷ (log_of name ∷ [])) before.shelf after.shelf fetched → (answer : Answer) →
     OwesLogged ops (inferring_options words.scale words.lead) words.instants taken stop fetched answer →
-    (output : List ℕ) × IsReplayText (first_core ops suits.0 suits.1 suits.2) suits.0.placed.nodes suits.0.outputs.items suits.5 output × (answer ≡ printed output)
+    (output : List ℕ) × IsReplayText (kinds_of ops) suits.0 suits.1 suits.2 suits.5 output × (answer ≡ printed output)
 logged_done again ops words name taken stop before after (a, lists, horizon, (text, held, can), fed, picks, (log, logs, reads), run) well source fetched met answer owed =
     logged_so again ops words name taken stop before after a lists horizon picks text log held can logs reads fed run well source fetched met answer owed
 

@@ -15,8 +15,7 @@ use Rattle.lucy_front.specs.Inferring.{node_needs}
 use Rattle.lucy_tight.specs.declared.answer.Least.{Least}
 use Rattle.lucy_tight.specs.declared.answer.TightError.{TightError}
 use Rattle.lucy_tight.specs.declared.answer.TightError.TheVariants.{Fixed, Limit as LimitPassed}
-use Rattle.lucy_tight.specs.Least.{RefusesTightest}
-use Rattle.lucy_tight.specs.Tightening.{needs_at, TheBuffer, IsTightened, RefusesTight, AreAlike}
+use Rattle.lucy_tight.specs.Tightening.{needs_at, TheBuffer, IsTightened, RefusesTight, AreAlike, PassesLimit}
 use Rattle.lucy_tight.specs.Report.{tight_lines, fixed_lines}
 use Rattle.lucy_tight.specs.Laws.{OneTightest}
 use Rattle.lucy_app.specs.Outcomes.{OwesNamed}
@@ -71,7 +70,7 @@ module _ (a b : Accepted) (same : AreSame a b) (o : Options) where
     unwritten,
     shape,
     subst (λ (ns : Needs). IsShapeOf ns o.scale o.lead shape) (needs_move node of.n) is_shape,
-    subst (λ (ns : Needs). RefusesTightest ns shape of.from of.to (LimitPassed l)) (needs_move node of.n) why,
+    subst (λ (ns : Needs). PassesLimit ns shape of.from of.to (LimitPassed l)) (needs_move node of.n) why,
   )
 
   lines_move : (node buffer : ℕ) (t : Least) → tight_lines a node buffer t ≡ tight_lines b node buffer t

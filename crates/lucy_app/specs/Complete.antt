@@ -5,16 +5,17 @@ use Rattle.lucy_word.specs.Limits.{limit_number}
 use Rattle.lucy_word.specs.declared.limit.Limit.TheVariants as limit
 use Rattle.lucy_host.specs.Operators.{kinds_of}
 use Rattle.lucy_text.specs.Outside.{Rose}
+use Rattle.lucy_event.specs.Runs.{none_done, IsRun}
 use Rattle.lucy_net.specs.declared.net.Net.{Net}
+use Rattle.lucy_net.specs.Plans.{net_system}
 use Rattle.lucy_results.specs.Running.{HasManyTurns, HasManyItems}
 use Rattle.lucy_front.specs.declared.accepted.Accepted.{Accepted}
 use Rattle.lucy_run.specs.Owes.{heading, lines_to}
 use Rattle.lucy_run.specs.Laws.{IsFedWell}
 use Rattle.lucy_fields.specs.Readings.{AreRead}
-use Rattle.lucy_core.specs.Seen.{CanRun}
 use Rattle.lucy_trace.specs.Logs.{picks_of}
 use Rattle.lucy_trace.specs.Traces.{IsTraceText}
-use Rattle.lucy_run.specs.Replays.{first_core, IsReplayText}
+use Rattle.lucy_run.specs.Replays.{IsReplayText}
 use Rattle.lucy_make.specs.Text.{made_text, made_input}
 use Rattle.lucy_make.specs.Figures.{figures}
 use Rattle.lucy_make.specs.Owes.{printed_values}
@@ -72,8 +73,8 @@ MayPrint (Tighten words node buffer) before output =
     HoldsSuch (λ text. IsTightOf before.operators (inferring_options words.scale words.lead) node buffer text output) before.shelf (program_of words.file)
 MayPrint (Replay words log) before output =
     HoldsRun words before (λ a lists horizon. (picks : List ℕ)
-    × HoldsSuch (λ text. AreRead (picks_of text) picks) before.shelf (log_of log) × CanRun (first_core before.operators a lists horizon) picks
-    × IsReplayText (first_core before.operators a lists horizon) a.placed.nodes a.outputs.items picks output)
+    × HoldsSuch (λ text. AreRead (picks_of text) picks) before.shelf (log_of log) × IsRun (net_system a.net horizon) none_done picks
+    × IsReplayText (kinds_of before.operators) a lists horizon picks output)
 MayPrint (Trace words workers) before output =
     HoldsRun words before (λ a lists horizon. IsTraceText a.net horizon output)
 

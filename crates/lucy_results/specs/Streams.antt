@@ -1,8 +1,9 @@
 -- The output streams of a program whose nodes have clocks, up to a horizon in instants.
-use Rattle.std.specs.Prelude.{ℕ, List, [], ◌∷◌, map, take, drop, ℤ}
+use Rattle.std.specs.Prelude.{ℕ, ◌+◌, List, [], ◌∷◌, length, map, take, drop, ℤ}
 use Rattle.std.specs.List.{range_with_len}
 use Rattle.lucy_word.specs.Bits.{Bits, ones_to}
 use Rattle.lucy_host.specs.declared.kind.HostKind.{HostKind}
+use Rattle.lucy_stream.specs.Items.{list_at}
 use Rattle.lucy_place.specs.declared.placed.PlacedNode.{PlacedNode}
 use Rattle.lucy_clock.specs.declared.node_clock.NodeClock.{NodeClock}
 use Rattle.lucy_meaning.specs.Spots.{at, main_of, results_in}
@@ -37,6 +38,10 @@ later_stream kinds inputs nodes clocks before instants place = drop (ones_to (ma
 -- so of main's results, in order
 abbrev pub later_streams : List HostKind → List (List ℤ) → List PlacedNode → List NodeClock → (before instants : ℕ) → List (List ℤ)
 later_streams kinds inputs nodes clocks before instants = map (later_stream kinds inputs nodes clocks before instants) (results_in (main_of nodes))
+
+-- what outputs have taken of these streams, where each actor has done so many operations, and theirs stand behind so many others
+abbrev pub taken_of : (places : ℕ) → (done : ℕ → ℕ) → (streams : List (List ℤ)) → List (List ℤ)
+taken_of places done streams = map (λ i. take (done (places + i)) (list_at streams i)) (range_with_len 0 (length streams))
 
 -- lists cut at the horizon, each by the word of its number
 abbrev pub cut_to : ℕ → List Bits → List (List ℤ) → List (List ℤ)

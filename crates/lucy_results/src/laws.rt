@@ -1,7 +1,7 @@
 // What holds of the output streams of every program whose flat net has a sound schedule. The contracts are laws, on functions that are
 // empty or call laws of lower crates alone.
 ghost use Rattle.lucy_results.specs.Laws.{NetsCanBeRun, PlacesGive, PlacesHaveWords, PlacesHaveItems, StreamsAreWhole, CutInputsSuffice, CutInputsGive, StreamsGoOn, StreamsAgree, TwoWaysAgree};
-ghost use Rattle.lucy_results.specs.Taking.{WholeRunsLeadToStreams};
+ghost use Rattle.lucy_results.specs.Taking.{WholeRunsLeadToStreams, RunsLeadAlongStreams};
 
 use lucy_core::events_go_by_the_net;
 
@@ -53,3 +53,9 @@ pub fn whole_runs_lead_to_streams()
 {
     events_go_by_the_net();
 }
+
+/// Events that are a run lead it along the output streams: each output then took as many items of its stream, from the first on, as it
+/// has done operations (Kahn 1974).
+pub fn runs_lead_along_streams()
+    ensures { RunsLeadAlongStreams }
+{}

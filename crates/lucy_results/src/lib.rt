@@ -21,8 +21,8 @@ pub use clocks::param_words;
 pub use instants::{allows_more, horizon};
 pub use interpreting::interpret;
 pub use laws::{
-    nets_can_be_run, places_are_whole, streams_agree, streams_are_whole, streams_go_on,
-    streams_need_no_more, two_ways_agree, whole_runs_lead_to_streams,
+    nets_can_be_run, places_are_whole, runs_lead_along_streams, streams_agree, streams_are_whole,
+    streams_go_on, streams_need_no_more, two_ways_agree, whole_runs_lead_to_streams,
 };
 pub use lists::{copy_lists, lengths};
 pub use player::Player;

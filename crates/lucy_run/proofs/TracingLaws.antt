@@ -21,16 +21,18 @@ use Rattle.lucy_output.specs.Outputs.{output_text}
 use Rattle.lucy_output.proofs.SinkLaws.{unwritten}
 use Rattle.lucy_clock.specs.declared.node_clock.NodeClock.{NodeClock}
 use Rattle.lucy_results.specs.Streams.{param_words}
-use Rattle.lucy_results.specs.Taking.{LeadToStreams}
+use Rattle.lucy_event.specs.Runs.{IsWhole}
+use Rattle.lucy_net.specs.Plans.{net_system}
+use Rattle.lucy_results.specs.Taking.{LeadToStreams, LeadAlongStreams}
 use Rattle.lucy_front.specs.declared.accepted.Accepted.{Accepted}
 use Rattle.lucy_run.specs.declared.ending.Ending.{Ending}
 use Rattle.lucy_run.specs.declared.ending.Ending.TheVariants as ending
 use Rattle.lucy_run.specs.Feeds.{IsMainFeed}
 use Rattle.lucy_run.specs.Owes.{input_words, lines_to, heading, IsHorizonOf, EndsFor, IsMainFed, OwesRun}
-use Rattle.lucy_run.specs.Replays.{first_core, tally, IsReplayText, OwesReplay}
+use Rattle.lucy_run.specs.Replays.{tally, IsReplayText, OwesReplay}
 use Rattle.lucy_run.specs.Tracing.{OwesTrace}
 use Rattle.lucy_run.specs.Ends.{EndsWith, EndsTrace, IsFrontOf, Outputs}
-use Rattle.lucy_run.specs.Steps.{EndsWhole, LeavesFront, OwesTraceOf}
+use Rattle.lucy_run.specs.Steps.{first_core, EndsWhole, LeavesFront, OwesTraceOf}
 use Rattle.lucy_run.proofs.EndsLaws.{take_front}
 
 -- a core can be made of the copies of a net and of inputs, by another schedule of the net
@@ -170,24 +172,24 @@ pub replayed : (ops : List Operator) (a : Accepted) (given : Option ℕ) (taken 
     (lists : List (List ℤ)) (fault : Option TextFault) (horizon : ℕ) (rounds : List (List ℕ)) →
     IsMainFed a given taken stop lists fault horizon →
     output ≡ trace_text rounds → EndsFor (input_words a) given lists fault end → TracesAreLogs → length a.net.actors ≤ 16384 →
-    LeadToStreams a.placed.nodes a.clocks.items (first_core ops a lists horizon) (concat rounds) →
+    IsWhole (net_system a.net horizon) (concat rounds) → LeadToStreams a.placed.nodes a.clocks.items (first_core ops a lists horizon) (concat rounds) →
+    LeadAlongStreams a.placed.nodes a.clocks.items (first_core ops a lists horizon) (concat rounds) →
     (picks : List ℕ) × (lines : List ℕ) × AreRead (picks_of output) picks × OwesRun (kinds_of ops) a given taken stop
     (heading a ++ lines) end
     × OwesReplay ops a given picks taken stop (tally (length picks) (codes "finished\n") ++ lines) (Ok end)
-replayed ops a given taken stop output end lists fault horizon rounds fed is ends logs few leads =
+replayed ops a given taken stop output end lists fault horizon rounds fed is ends logs few whole leads along =
     let picks : List ℕ = concat rounds in
     let lines : List ℕ = lines_to (kinds_of ops) a lists horizon in
     let text : List ℕ = tally (length picks) (codes "finished\n") in
     let small : All (λ p. p < 2 ^ 32) picks = λ k d l. omega (arith, leads.actors k d l, few) in
-    let printed : IsReplayText (first_core ops a lists horizon) a.placed.nodes a.outputs.items picks (text ++ lines) = (
-      text,
-      (codes "finished\n", inl (leads.over, refl), refl),
-      ap (λ ls. text ++ output_text a.outputs.items ls horizon)
-          (sym leads.taken),
+    let printed : IsReplayText (kinds_of ops) a lists horizon picks (text ++ lines) = (
+      codes "finished\n",
+      inl (whole.all, refl),
+      ap (λ ls. text ++ output_text a.outputs.items ls horizon) (sym leads.taken ∙ along.taken),
     ) in (
       picks,
       lines,
       subst (λ (t : List ℕ). AreRead (picks_of t) picks) (sym is) (logs rounds small),
       (lists, fault, horizon, fed, refl, ends),
-      (lists, fault, horizon, fed, (leads.run, printed, ends)),
+      (lists, fault, horizon, fed, (whole.run, printed, ends)),
     )

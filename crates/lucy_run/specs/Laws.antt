@@ -2,17 +2,18 @@
 use Rattle.std.specs.Prelude.{ℕ, ℤ, ◌≡◌, ◌⊎◌, List, ◌++◌, Option, None, Result, Ok}
 use Rattle.lucy_word.specs.declared.limit.Limit.TheVariants as limit
 use Rattle.lucy_host.specs.declared.kind.HostKind.{HostKind}
-use Rattle.lucy_host.specs.Operators.{Operator}
+use Rattle.lucy_host.specs.Operators.{Operator, kinds_of}
 use Rattle.lucy_text.specs.Outside.{Rose, SeenSource}
 use Rattle.lucy_lines.specs.Fronts.{most_bytes}
 use Rattle.lucy_lines.specs.declared.reader.TextFault.{TextFault}
 use Rattle.lucy_text.specs.Sources.{ReadStop, Read}
 use Rattle.lucy_results.specs.Running.{HasManyTurns, HasManyItems}
 use Rattle.lucy_front.specs.declared.accepted.Accepted.{Accepted}
-use Rattle.lucy_core.specs.Seen.{CanRun}
+use Rattle.lucy_event.specs.Runs.{none_done, IsRun}
+use Rattle.lucy_net.specs.Plans.{net_system}
 use Rattle.lucy_trace.specs.Traces.{IsTraceText}
 use Rattle.lucy_trace.specs.declared.error.TraceError.{TraceError}
-use Rattle.lucy_run.specs.Replays.{first_core, IsReplayText, OwesReplay}
+use Rattle.lucy_run.specs.Replays.{IsReplayText, OwesReplay}
 use Rattle.lucy_run.specs.Tracing.{OwesTrace}
 use Rattle.lucy_run.specs.declared.ending.Ending.{Ending}
 use Rattle.lucy_run.specs.declared.ending.Ending.TheVariants as ending
@@ -62,8 +63,8 @@ OneReplay = (ops : List Operator) (a : Accepted) (given : Option ℕ) (picks tak
 -- events.
 abbrev pub CompleteReplay : Type 0
 CompleteReplay = (ops : List Operator) (a : Accepted) (given : Option ℕ) (before after : SeenSource) (picks taken : List ℕ) (stop : ReadStop) (lists : List (List ℤ)) (horizon : ℕ) (output : List ℕ) (result : Result Ending TraceError) →
-    Read most_bytes before after taken stop → (Rose before.faults after.faults → ⊥) → IsFedWell a given before.left lists horizon → CanRun (first_core ops a lists horizon) picks →
-    OwesReplay ops a given picks taken stop output result → IsReplayText (first_core ops a lists horizon) a.placed.nodes a.outputs.items picks output × (result ≡ Ok ending.Done)
+    Read most_bytes before after taken stop → (Rose before.faults after.faults → ⊥) → IsFedWell a given before.left lists horizon → IsRun (net_system a.net horizon) none_done picks →
+    OwesReplay ops a given picks taken stop output result → IsReplayText (kinds_of ops) a lists horizon picks output × (result ≡ Ok ending.Done)
 
 -- the bytes taken and how reading stopped owe one ending of `trace`, and traces up to one horizon: that of what main is fed
 abbrev pub OneTrace : Type 0

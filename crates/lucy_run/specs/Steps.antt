@@ -1,21 +1,28 @@
 -- What the parts of a call leave on the sink.
-use Rattle.std.specs.Prelude.{ℕ, ℤ, ◌≡◌, ◌⊎◌, List, Option, [], ◌++◌, Result, Ok, Err}
+use Rattle.std.specs.Prelude.{ℕ, ℤ, ◌≡◌, ◌⊎◌, List, Option, [], ◌++◌, length, Result, Ok, Err}
+use Rattle.lucy_word.specs.Bits.{Bits}
 use Rattle.lucy_host.specs.declared.kind.HostKind.{HostKind}
+use Rattle.lucy_host.specs.Operators.{Operator, kinds_of}
 use Rattle.lucy_lines.specs.declared.reader.TextFault.{TextFault}
 use Rattle.lucy_text.specs.Outside.{SeenSink, Writes, Fails}
 use Rattle.lucy_kahn.specs.declared.error.KahnError.{KahnError}
 use Rattle.lucy_kahn.specs.declared.error.KahnError.TheVariants as error
 use Rattle.lucy_results.specs.Streams.{main_streams}
 use Rattle.lucy_front.specs.declared.accepted.Accepted.{Accepted}
+use Rattle.lucy_front.specs.declared.options.Options.{Options}
+use Rattle.lucy_front.specs.Accepting.{IsAccepted}
+use Rattle.lucy_run.specs.Paces.{AreInstants}
 use Rattle.lucy_place.specs.declared.placed.PlacedNode.{PlacedNode}
 use Rattle.lucy_net.specs.declared.net.Net.{Net}
-use Rattle.lucy_core.specs.Seen.{Seen, state_of}
+use Rattle.lucy_event.specs.States.{start, events}
+use Rattle.lucy_core.specs.Seen.{Seen, CanRun, after_picks, done_of, first_seen, machine_of, state_of}
 use Rattle.lucy_results.specs.Taking.{taken_lists}
 use Rattle.lucy_output.specs.declared.output.OutputSpec.{OutputSpec}
 use Rattle.lucy_output.specs.Outputs.{output_text}
+use Rattle.lucy_trace.specs.Logs.{IsFirstImpossible}
 use Rattle.lucy_trace.specs.declared.error.TraceError.{TraceError}
 use Rattle.lucy_trace.specs.Traces.{IsTraceText}
-use Rattle.lucy_run.specs.Replays.{IsTally}
+use Rattle.lucy_run.specs.Replays.{SaysOver, tally, Judges}
 use Rattle.lucy_run.specs.declared.ending.Ending.{Ending}
 use Rattle.lucy_run.specs.declared.ending.Ending.TheVariants as ending
 use Rattle.lucy_run.specs.declared.playing.Played.{Played}
@@ -61,9 +68,39 @@ LeavesWritten lines end before after result =
     ⊎ ((result ≡ ending.OutOfMemory) × (after ≡ before))
 
 -- what is judged was written; or an event isn't possible, and nothing was written
-abbrev pub LeavesJudged : (Judges : List ℕ → Result Ending TraceError → Type 0) → (before after : SeenSink) → Result Ending TraceError → Type 0
-LeavesJudged Judges before after (Ok end) = LeavesOwed (λ output way. Judges output (Ok way)) before after end
-LeavesJudged Judges before after (Err e) = Judges [] (Err e) × (after ≡ before)
+abbrev pub LeavesJudged : (Judged : List ℕ → Result Ending TraceError → Type 0) → (before after : SeenSink) → Result Ending TraceError → Type 0
+LeavesJudged Judged before after (Ok end) = LeavesOwed (λ output way. Judged output (Ok way)) before after end
+LeavesJudged Judged before after (Err e) = Judged [] (Err e) × (after ≡ before)
+
+-- the core of an accepted program over what main is fed, without an event so far
+abbrev pub first_core : List Operator → Accepted → (lists : List (List ℤ)) → (horizon : ℕ) → Seen
+first_core ops a lists horizon = first_seen a.net a.schedule lists ops horizon
+
+-- the tally of a core that has done so many events: how many, and whether that is all
+abbrev pub IsTally : Seen → (count : ℕ) → (text : List ℕ) → Type 0
+IsTally core count text = (line : List ℕ) × SaysOver (machine_of core).sys (done_of core.done) line × (text ≡ tally count line)
+
+-- what is printed of events from here on: their tally, and the lines of the items that the outputs then took
+abbrev pub IsEventText : Seen → List PlacedNode → List OutputSpec → (picks output : List ℕ) → Type 0
+IsEventText first nodes outputs picks output =
+    (text : List ℕ) × IsTally (after_picks first picks) (length picks) text
+    × (output ≡ text ++ output_text outputs (taken_lists nodes first.net (events (machine_of first) start picks)) first.instants)
+
+-- what events come to from a core without an event so far: where they are a run that text, and the ending of what main is fed, and
+-- else the first that isn't possible, without a text
+abbrev pub JudgesFrom : Seen → List PlacedNode → List OutputSpec → (words : List Bits) → (given : Option ℕ) → (lists : List (List ℤ)) → Option TextFault →
+    (picks output : List ℕ) → Result Ending TraceError → Type 0
+JudgesFrom first nodes outputs words given lists fault picks output (Ok end) =
+    CanRun first picks × IsEventText first nodes outputs picks output × EndsFor words given lists fault end
+JudgesFrom first nodes outputs words given lists fault picks output (Err e) = IsFirstImpossible (CanRun first) picks e × (output ≡ [])
+
+-- what events of an accepted program come to from its core is what they come to by the streams
+abbrev pub ReplaysGoByStreams : Type 0
+ReplaysGoByStreams = (ops : List Operator) (o : Options) (text : List ℕ) (a : Accepted) (given : Option ℕ) (picks : List ℕ) →
+    AreInstants given → IsAccepted ops o text a → (lists : List (List ℤ)) (fault : Option TextFault) (horizon : ℕ) →
+    IsHorizonOf (input_words a) given lists horizon → (output : List ℕ) (result : Result Ending TraceError) →
+    JudgesFrom (first_core ops a lists horizon) a.placed.nodes a.outputs.items (input_words a) given lists fault picks output result →
+    Judges (kinds_of ops) a given lists fault horizon picks output result
 
 -- what a core prints that has done so many events: their tally, and the lines of the items that its outputs took
 abbrev pub IsPrinted : Seen → List PlacedNode → List OutputSpec → (count : ℕ) → (output : List ℕ) → Type 0

@@ -1,14 +1,18 @@
 // Laws of what is owed, on functions that call laws of lower crates alone.
 ghost use Rattle.lucy_run.specs.Tracing.{TracesAreReplayed};
 ghost use Rattle.lucy_run.specs.Played.{LinesAgree, LinesByBlock};
+ghost use Rattle.lucy_run.specs.Steps.{ReplaysGoByStreams};
 ghost use Rattle.lucy_run.specs.Laws.{OneRun, OneInterpretation, OneReplay, OneTrace, SameLines, CompleteRun, CompleteInterpretation, CompleteReplay, CompleteTrace};
 
+use lucy_core::events_go_by_the_net;
 use lucy_feed::one_feed;
 use lucy_front::accepted_programs_are_clocked;
 use lucy_lines::{cut_in_pieces, one_cut};
 use lucy_meaning::one_horizon;
 use lucy_output::{block_by_block, fronts_suffice};
-use lucy_results::{nets_can_be_run, streams_go_on, whole_runs_lead_to_streams};
+use lucy_results::{
+    nets_can_be_run, runs_lead_along_streams, streams_go_on, whole_runs_lead_to_streams,
+};
 use lucy_trace::traces_are_logs;
 
 /// The bytes taken, and how reading stopped, owe one output of `run`, with one ending.
@@ -73,7 +77,18 @@ pub fn traces_are_replayed()
     accepted_programs_are_clocked();
     nets_can_be_run();
     whole_runs_lead_to_streams();
+    runs_lead_along_streams();
     traces_are_logs();
+}
+
+// What events of an accepted program come to from its core is what they come to by the streams.
+pub(crate) fn replays_go_by_streams()
+    ensures { ReplaysGoByStreams }
+{
+    accepted_programs_are_clocked();
+    nets_can_be_run();
+    events_go_by_the_net();
+    runs_lead_along_streams();
 }
 
 // The lines up to an instant are those of fewer items, if they suffice, and then those of the instants after.

@@ -15,14 +15,14 @@ ghost use Rattle.lucy_flat.specs.Flat.{IsFlat};
 ghost use Rattle.lucy_results.specs.Streams.{param_words};
 ghost use Rattle.lucy_run.specs.Paces.{AreInstants};
 ghost use Rattle.lucy_run.specs.Owes.{IsHorizonOf, EndsFor};
-ghost use Rattle.lucy_run.specs.Replays.{IsTally, Judges};
 ghost use Rattle.lucy_run.specs.Ends.{EndsReplay};
 ghost use Rattle.lucy_run.specs.Calls.{WasAccepted, ReadsAndEnds};
-ghost use Rattle.lucy_run.specs.Steps.{EndsWhole, IsPrinted, LeavesOwed, LeavesJudged};
+ghost use Rattle.lucy_run.specs.Steps.{EndsWhole, IsPrinted, IsTally, JudgesFrom, LeavesOwed, LeavesJudged};
 
 use crate::ending::Ending;
 use crate::extent::extent_of;
 use crate::feeding::main_feed;
+use crate::laws::replays_go_by_streams;
 use lucy_cause::Schedule;
 use lucy_clock::NodeClock;
 use lucy_core::Core;
@@ -112,7 +112,7 @@ fn judge<F: Fn(u32, i64, i64) -> i64 + Sync, O: Sink>(
     requires horizon { horizon ≡ core.old.instants }
     requires whole { EndsWhole ending }
     ensures left { (words : List Bits) (given : Option ℕ) (lists : List (List ℤ)) (fault : Option Fault) → EndsFor words given lists fault ending →
-        LeavesJudged (Judges core.old placed.now.nodes outputs.now words given lists fault picks.now) (O.seen out.old) (O.seen out.new) result }
+        LeavesJudged (JudgesFrom core.old placed.now.nodes outputs.now words given lists fault picks.now) (O.seen out.old) (O.seen out.new) result }
     ensures count { (O.seen out.old).faults ≤ (O.seen out.new).faults }
 {
     core.is_reached();
@@ -153,7 +153,7 @@ fn replay_feed<F: Fn(u32, i64, i64) -> i64 + Sync, O: Sink>(
     requires inputs { params_in (main_of placed.now.nodes) ≡ length feed.items }
     requires few { AreInstants given }
     ensures left { (horizon : ℕ) × IsHorizonOf (param_words placed.now.nodes clocks.now) given feed.items horizon
-        × LeavesJudged (Judges (first_seen net schedule feed.items (lent host.now) horizon) placed.now.nodes outputs.now
+        × LeavesJudged (JudgesFrom (first_seen net schedule feed.items (lent host.now) horizon) placed.now.nodes outputs.now
         (param_words placed.now.nodes clocks.now) given feed.items feed.stop picks.now) (O.seen out.old) (O.seen out.new) result }
     ensures count { (O.seen out.old).faults ≤ (O.seen out.new).faults }
 {
@@ -217,6 +217,7 @@ pub fn replay<F: Fn(u32, i64, i64) -> i64 + Sync, I: Source, O: Sink>(
         ..
     } = accepted;
     accepted_programs_are_clocked();
+    replays_go_by_streams();
     let feed = match main_feed(alloc, inputs, source) {
         Ok(feed) => feed,
         Err(_) => return Ok(Ending::OutOfMemory),

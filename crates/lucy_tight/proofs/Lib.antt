@@ -1,6 +1,8 @@
 pub mod OneAnswer
 pub mod Refusing
 pub mod SizeLaws
+mod AtLeast
+mod OneTightest
 mod WorkedRows
 mod Smallness
 mod BufferLaws

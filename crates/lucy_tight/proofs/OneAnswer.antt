@@ -18,7 +18,7 @@ use Rattle.lucy_shape.specs.WordOf.{written_word}
 use Rattle.lucy_shape.specs.Writing.{AreWordsOf, AreAnswered, AreRefused}
 use Rattle.lucy_tight.specs.declared.answer.TightError.{TightError}
 use Rattle.lucy_tight.specs.declared.answer.TightError.TheVariants.{Fixed, Limit as LimitPassed, OutOfMemory}
-use Rattle.lucy_tight.specs.Least.{IsEarliestAtLeast, IsTightest, RefusesTightest}
+use Rattle.lucy_tight.specs.Least.{IsEarliestAtLeast, RefusesTightest}
 use Rattle.lucy_tight.proofs.SizeLaws.{least_one}
 
 -- a system has one earliest solution
@@ -46,15 +46,6 @@ module _ (needs : Needs) (shape : Shape) (from to : ℕ) where
       let e = least_one needs shape from to one two first.is second.is in
       earliest_one (sized_system needs shape from to two) xs ys (subst (λ n. IsEarliest (sized_system needs shape from to n) xs) e first.earliest) second.earliest
 
-  pub alike : (l m : ℕ) (ws vs : List Bits) (d e : System) (xs ys : List ℕ) → IsTightest needs shape from to l ws d xs → IsTightest needs shape from to m vs e ys → (l ≡ m) × (ws ≡ vs) × (d ≡ e)
-  alike l m ws vs d e xs ys first second =
-      let same = least_one needs shape from to l m first.at.is second.at.is in
-      let at = positions_one l m first.positions second.positions first.at second.at in (
-        same,
-        words_one shape second.positions ws vs (subst (λ (zs : List ℤ). AreWordsOf shape zs ws) at first.answered.each) second.answered.each,
-        first.less ∙ ap (λ n. sized_system needs shape from to (n - 1)) same ∙ sym second.less,
-      )
-
   -- words that are answered pass no limit
   answered_kept : (xs : List ℤ) (words : List Bits) (l : Limit) → AreAnswered shape xs words → AreRefused shape xs (fault.Limit l) → ⊥
   answered_kept xs words l answered (inl e) = absurd (cc)
@@ -81,9 +72,6 @@ module _ (needs : Needs) (shape : Shape) (from to : ℕ) where
   answered_or_refused least xs words (LimitPassed l) at answered (inr p) =
       let same = positions_one p.0 least p.1 xs p.2 at in
       answered_kept xs words l answered (subst (λ (ys : List ℤ). AreRefused shape ys (fault.Limit l)) same p.3)
-
-  pub kept : (l : ℕ) (ws : List Bits) (d : System) (xs : List ℕ) (e : TightError) → IsTightest needs shape from to l ws d xs → RefusesTightest needs shape from to e → ⊥
-  kept l ws d xs e is refused = answered_or_refused l is.positions ws e is.at is.answered refused
 
   pub only : (e f : TightError) → RefusesTightest needs shape from to e → RefusesTightest needs shape from to f → e ≡ f
   only OutOfMemory f p q = absurd p

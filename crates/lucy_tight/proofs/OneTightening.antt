@@ -25,10 +25,9 @@ use Rattle.lucy_front.proofs.OneAnswer.{text_proper}
 use Rattle.lucy_tight.specs.declared.answer.Least.{Least}
 use Rattle.lucy_tight.specs.declared.answer.TightError.{TightError}
 use Rattle.lucy_tight.specs.declared.answer.TightError.TheVariants.{Fixed, Limit as LimitPassed, OutOfMemory}
-use Rattle.lucy_tight.specs.Least.{IsTightest, RefusesTightest}
-use Rattle.lucy_tight.specs.Tightening.{needs_at, TheBuffer, IsTightened, RefusesTight, AreAlike}
+use Rattle.lucy_tight.specs.Tightening.{needs_at, TheBuffer, AreTight, PassesLimit, IsTightened, RefusesTight, AreAlike}
 use Rattle.lucy_tight.proofs.BufferLaws.{operand_one}
-use Rattle.lucy_tight.proofs.OneAnswer.{alike, kept, only}
+use Rattle.lucy_tight.proofs.OneTightest.{alike, kept, only}
 
 -- a node has one list of sizes at its words
 sizes_one : (n : PlacedNode) (words : List Bits) (xs ys : List ℕ) → ((k p : ℕ) → at_one n.buffers k ≡ Some p → (e : ℕ) × Stands n p (Buffer k e)) →
@@ -72,16 +71,16 @@ module _ (a : Accepted) (o : Options) (node buffer : ℕ) where
       one_shape two.needs o.scale o.lead one.shape two.shape (subst (λ (x : Needs). IsShapeOf x o.scale o.lead one.shape) (moved one two first second) first.shape) second.shape
 
   tightest : (one two : Least) (first : IsTightened a o node buffer one) (second : IsTightened a o node buffer two) →
-      IsTightest two.needs two.shape second.of.from second.of.to one.least one.clocks.words one.diffs one.cycle.items
+      AreTight two.needs two.shape second.of.from second.of.to one.least one.clocks.words one.diffs one.cycle.items
   tightest one two first second =
-      subst (λ (x : Needs). IsTightest x two.shape second.of.from second.of.to one.least one.clocks.words one.diffs one.cycle.items) (moved one two first second)
-      (subst (λ (s : Shape). IsTightest one.needs s second.of.from second.of.to one.least one.clocks.words one.diffs one.cycle.items) (shapes one two first second)
-      (subst (λ k. IsTightest one.needs one.shape k second.of.to one.least one.clocks.words one.diffs one.cycle.items) (same_operand a node buffer first.of second.of)
-      (subst (λ k. IsTightest one.needs one.shape first.of.from k one.least one.clocks.words one.diffs one.cycle.items) (same_place a node buffer first.of second.of) first.tightest)))
+      subst (λ (x : Needs). AreTight x two.shape second.of.from second.of.to one.least one.clocks.words one.diffs one.cycle.items) (moved one two first second)
+      (subst (λ (s : Shape). AreTight one.needs s second.of.from second.of.to one.least one.clocks.words one.diffs one.cycle.items) (shapes one two first second)
+      (subst (λ k. AreTight one.needs one.shape k second.of.to one.least one.clocks.words one.diffs one.cycle.items) (same_operand a node buffer first.of second.of)
+      (subst (λ k. AreTight one.needs one.shape first.of.from k one.least one.clocks.words one.diffs one.cycle.items) (same_place a node buffer first.of second.of) first.tightest)))
 
   pub tightened_alike : (ops : List Operator) (text : List ℕ) → IsAccepted ops o text a → (one two : Least) → IsTightened a o node buffer one → IsTightened a o node buffer two → AreAlike one two
   tightened_alike ops text accepted one two first second =
-      let same = alike two.needs two.shape second.of.from second.of.to one.least two.least one.clocks.words two.clocks.words one.diffs two.diffs one.cycle.items two.cycle.items (tightest one two first second) second.tightest in
+      let same = alike two.needs two.shape second.of.from second.of.to second.shape.wide.clocks one.least two.least one.clocks.words two.clocks.words one.diffs two.diffs one.cycle.items two.cycle.items (tightest one two first second) second.tightest in
       let proper = text_proper ops o text a.placed accepted.clocked.program.program node second.of.n second.of.stands in
       let sizes : AreSizes second.of.n (record { words = two.clocks.words; sizes = one.clocks.sizes }) =
       subst (λ (ws : List Bits). AreSizes second.of.n (record { words = ws; sizes = one.clocks.sizes })) same.1
@@ -99,14 +98,14 @@ module _ (a : Accepted) (o : Options) (node buffer : ℕ) where
 
   -- a refusal in a shape, by the numbers of another finding of the buffer
   refused_at : (x y : TheBuffer a node buffer) (shape other : Shape) (e : TightError) → IsShapeOf (needs_at a node x.n) o.scale o.lead shape → IsShapeOf (needs_at a node y.n) o.scale o.lead other →
-      RefusesTightest (needs_at a node x.n) shape x.from x.to e → RefusesTightest (needs_at a node y.n) other y.from y.to e
+      PassesLimit (needs_at a node x.n) shape x.from x.to e → PassesLimit (needs_at a node y.n) other y.from y.to e
   refused_at x y shape other e is of refused =
       let here = subst (λ (z : Needs). IsShapeOf z o.scale o.lead shape) (same_needs a node buffer x y) is in
       let same = one_shape (needs_at a node y.n) o.scale o.lead shape other here of in
-      subst (λ (s : Shape). RefusesTightest (needs_at a node y.n) s y.from y.to e) same
-      (subst (λ (z : Needs). RefusesTightest z shape y.from y.to e) (same_needs a node buffer x y)
-      (subst (λ k. RefusesTightest (needs_at a node x.n) shape k y.to e) (same_operand a node buffer x y)
-      (subst (λ k. RefusesTightest (needs_at a node x.n) shape x.from k e) (same_place a node buffer x y) refused)))
+      subst (λ (s : Shape). PassesLimit (needs_at a node y.n) s y.from y.to e) same
+      (subst (λ (z : Needs). PassesLimit z shape y.from y.to e) (same_needs a node buffer x y)
+      (subst (λ k. PassesLimit (needs_at a node x.n) shape k y.to e) (same_operand a node buffer x y)
+      (subst (λ k. PassesLimit (needs_at a node x.n) shape x.from k e) (same_place a node buffer x y) refused)))
 
   pub tightened_kept : (t : Least) (e : TightError) → IsTightened a o node buffer t → RefusesTight a o node buffer e → ⊥
   tightened_kept t (Fixed size) is refused = is.unwritten (subst IsWritten (same_node a node buffer refused.0 is.of) refused.1)
@@ -114,8 +113,8 @@ module _ (a : Accepted) (o : Options) (node buffer : ℕ) where
   tightened_kept t (LimitPassed l) is refused =
       let shape = subst (λ (z : Needs). IsShapeOf z o.scale o.lead t.shape) is.needs is.shape in
       let here = refused_at refused.0 is.of refused.2 t.shape (LimitPassed l) refused.3 shape refused.4 in
-      kept t.needs t.shape is.of.from is.of.to t.least t.clocks.words t.diffs t.cycle.items (LimitPassed l) is.tightest
-      (subst (λ (z : Needs). RefusesTightest z t.shape is.of.from is.of.to (LimitPassed l)) (sym is.needs) here)
+      kept t.needs t.shape is.of.from is.of.to is.shape.wide.clocks t.least t.clocks.words t.diffs t.cycle.items (LimitPassed l) is.tightest
+      (subst (λ (z : Needs). PassesLimit z t.shape is.of.from is.of.to (LimitPassed l)) (sym is.needs) here)
 
   pub refused_only : (e f : TightError) → RefusesTight a o node buffer e → RefusesTight a o node buffer f → e ≡ f
   refused_only OutOfMemory f p q = absurd (p.4)
@@ -125,7 +124,7 @@ module _ (a : Accepted) (o : Options) (node buffer : ℕ) where
   refused_only (LimitPassed l) OutOfMemory p q = absurd (q.4)
   refused_only (LimitPassed l) (Fixed size) p q = absurd (p.1 (subst IsWritten (same_node a node buffer q.0 p.0) q.1))
   refused_only (LimitPassed l) (LimitPassed m) p q =
-      only (needs_at a node q.0.n) q.2 q.0.from q.0.to (LimitPassed l) (LimitPassed m) (refused_at p.0 q.0 p.2 q.2 (LimitPassed l) p.3 q.3 p.4) q.4
+      only (needs_at a node q.0.n) q.2 q.0.from q.0.to q.3.wide.clocks (LimitPassed l) (LimitPassed m) (refused_at p.0 q.0 p.2 q.2 (LimitPassed l) p.3 q.3 p.4) q.4
 
   -- so where it is refused so, no answer but this or want of memory is right
   pub matched : (r : Result Least TightError) → IfOk r (IsTightened a o node buffer) → IfErr r (λ e. (e ≡ OutOfMemory) ⊎ RefusesTight a o node buffer e) → (e : TightError) → RefusesTight a o node buffer e →

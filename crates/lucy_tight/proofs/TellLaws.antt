@@ -11,24 +11,23 @@ use Rattle.lucy_front.specs.declared.options.Options.{Options}
 use Rattle.lucy_tight.specs.declared.answer.Least.{Least}
 use Rattle.lucy_tight.specs.declared.answer.TightError.{TightError}
 use Rattle.lucy_tight.specs.declared.answer.TightError.TheVariants.{Fixed, Limit as LimitPassed, OutOfMemory}
-use Rattle.lucy_tight.specs.Least.{IsTightest, RefusesTightest}
-use Rattle.lucy_tight.specs.Tightening.{needs_at, TheBuffer, IsTightened, RefusesTight}
+use Rattle.lucy_tight.specs.Tightening.{needs_at, TheBuffer, AreTight, PassesLimit, IsTightened, RefusesTight}
 
 module _ (a : Accepted) (o : Options) (node buffer : ℕ) (of : TheBuffer a node buffer) (from to : ℕ) (at_from : from ≡ of.from) (at_to : to ≡ of.to) where
   pub tells : (t : Least) → (IsWritten of.n → ⊥) → t.printed ≡ of.size → t.needs ≡ needs_at a node of.n → IsShapeOf t.needs o.scale o.lead t.shape →
-      IsTightest t.needs t.shape from to t.least t.clocks.words t.diffs t.cycle.items → AreSizes of.n t.clocks → IsTightened a o node buffer t
+      AreTight t.needs t.shape from to t.least t.clocks.words t.diffs t.cycle.items → AreSizes of.n t.clocks → IsTightened a o node buffer t
   tells t unwritten printed needs shape tightest sizes = record {
     of = of;
     unwritten = unwritten;
     printed = printed;
     needs = needs;
     shape = shape;
-    tightest = subst (λ k. IsTightest t.needs t.shape of.from k t.least t.clocks.words t.diffs t.cycle.items) at_to
-        (subst (λ k. IsTightest t.needs t.shape k to t.least t.clocks.words t.diffs t.cycle.items) at_from tightest);
+    tightest = subst (λ k. AreTight t.needs t.shape of.from k t.least t.clocks.words t.diffs t.cycle.items) at_to
+        (subst (λ k. AreTight t.needs t.shape k to t.least t.clocks.words t.diffs t.cycle.items) at_from tightest);
     sizes = sizes;
   }
 
-  pub refuses : (needs : Needs) (shape : Shape) (e : TightError) → (IsWritten of.n → ⊥) → needs ≡ needs_at a node of.n → IsShapeOf needs o.scale o.lead shape → RefusesTightest needs shape from to e → RefusesTight a o node buffer e
+  pub refuses : (needs : Needs) (shape : Shape) (e : TightError) → (IsWritten of.n → ⊥) → needs ≡ needs_at a node of.n → IsShapeOf needs o.scale o.lead shape → PassesLimit needs shape from to e → RefusesTight a o node buffer e
   refuses needs shape (Fixed size) unwritten same is refused = absurd refused
   refuses needs shape OutOfMemory unwritten same is refused = absurd refused
   refuses needs shape (LimitPassed l) unwritten same is refused = (
@@ -36,12 +35,12 @@ module _ (a : Accepted) (o : Options) (node buffer : ℕ) (of : TheBuffer a node
     unwritten,
     shape,
     subst (λ (x : Needs). IsShapeOf x o.scale o.lead shape) same is,
-    subst (λ k. RefusesTightest (needs_at a node of.n) shape of.from k (LimitPassed l)) at_to
-        (subst (λ k. RefusesTightest (needs_at a node of.n) shape k to (LimitPassed l)) at_from (subst (λ (x : Needs). RefusesTightest x shape from to (LimitPassed l)) same refused)),
+    subst (λ k. PassesLimit (needs_at a node of.n) shape of.from k (LimitPassed l)) at_to
+        (subst (λ k. PassesLimit (needs_at a node of.n) shape k to (LimitPassed l)) at_from (subst (λ (x : Needs). PassesLimit x shape from to (LimitPassed l)) same refused)),
   )
 
   -- so a reason or want of memory is
-  pub refuses_so : (needs : Needs) (shape : Shape) (e : TightError) → (IsWritten of.n → ⊥) → needs ≡ needs_at a node of.n → IsShapeOf needs o.scale o.lead shape → (e ≡ OutOfMemory) ⊎ RefusesTightest needs shape from to e →
+  pub refuses_so : (needs : Needs) (shape : Shape) (e : TightError) → (IsWritten of.n → ⊥) → needs ≡ needs_at a node of.n → IsShapeOf needs o.scale o.lead shape → (e ≡ OutOfMemory) ⊎ PassesLimit needs shape from to e →
       (e ≡ OutOfMemory) ⊎ RefusesTight a o node buffer e
   refuses_so needs shape e unwritten same is (inl none) = inl none
   refuses_so needs shape e unwritten same is (inr refused) = inr (refuses needs shape e unwritten same is refused)

@@ -22,6 +22,7 @@ use crate::shaping::shape_node;
 use crate::spot::{Spot, spot_of};
 use crate::{Least, TightError};
 use lucy_front::{Accepted, Options};
+use lucy_need::needs_have_words;
 use std::alloc::Global;
 
 // That of a buffer of a node that isn't written.
@@ -52,6 +53,7 @@ fn tighten_inferred(
         IfOk result (λ t. (k most size : ℕ) → bound_of n k ≡ Some most → at_one t.clocks.sizes k ≡ Some size → size ≤ most) }
 {
     let made = shape_node(alloc, accepted, options, node)?;
+    needs_have_words(&made.needs);
     let found = least_size(alloc, &made.needs, &made.shape, at.from, at.to, at.printed)?;
     let clocks = clocks_at(alloc, accepted.placed.node(node), found.words)?;
     Ok(Least {

@@ -3,7 +3,7 @@ use Rattle.std.specs.Prelude.{ℕ, ◌+◌, ◌-◌, ◌^◌, ◌≡◌, List, t
 use Rattle.lucy_event.specs.Deciding.{run_length}
 use Rattle.lucy_fields.specs.Numbers.{number_of}
 use Rattle.lucy_fields.specs.Readings.{readings}
-use Rattle.lucy_core.specs.Seen.{Seen, CanRun, machine_of, done_of}
+use Rattle.lucy_core.specs.Seen.{Seen, machine_of, done_of}
 use Rattle.lucy_trace.specs.declared.error.TraceError.{TraceError}
 use Rattle.lucy_trace.specs.declared.error.TraceError.TheVariants.{NotPossible}
 
@@ -20,7 +20,7 @@ abbrev pub possible_of : Seen → (picks : List ℕ) → ℕ
 possible_of seen picks = run_length (machine_of seen).sys (done_of seen.done) picks
 
 -- the first event that isn't possible has this number, from 1, and is this actor's: those before it are a run, and with it they are none
-abbrev pub IsFirstImpossible : Seen → (picks : List ℕ) → TraceError → Type 0
-IsFirstImpossible seen picks e =
-    (count actor : ℕ) × CanRun seen (take count picks) × (CanRun seen (take (count + 1) picks) → ⊥) × (slice_get picks count ≡ Some actor)
+abbrev pub IsFirstImpossible : (Runs : List ℕ → Type 0) → (picks : List ℕ) → TraceError → Type 0
+IsFirstImpossible Runs picks e =
+    (count actor : ℕ) × Runs (take count picks) × (Runs (take (count + 1) picks) → ⊥) × (slice_get picks count ≡ Some actor)
     × (e ≡ NotPossible (count + 1) actor)

@@ -21,7 +21,7 @@ pub fn replay<F: Fn(u32, i64, i64) -> i64 + Sync>(
     requires kinds { kinds_of (lent host.now) ≡ kinds_of core.old.operators }
     ensures exact { IsOk result ↔ CanRun core.old picks.now }
     ensures done { core.new ≡ after_picks core.old (take (possible_of core.old picks.now) picks.now) }
-    ensures refused { IfErr result (IsFirstImpossible core.old picks.now) }
+    ensures refused { IfErr result (IsFirstImpossible (CanRun core.old) picks.now) }
 {
     let count = core.run_picks(host, picks);
     match picks.get(count as usize) {

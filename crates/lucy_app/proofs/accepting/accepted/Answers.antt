@@ -5,7 +5,7 @@ use Rattle.std.proofs.lemmas.Bool.{eqb-true}
 use Rattle.std.proofs.lemmas.Result.{IfOk-at_ok, IfErr-at_err}
 use Rattle.lucy_front.specs.Accepting.{IsAccepted, Refuses}
 use Rattle.lucy_lines.specs.declared.input.InputSpec.{InputSpec}
-use Rattle.lucy_app.proofs.Accepting.{unaccepted, lacking}
+use Rattle.lucy_app.proofs.Unaccepted.{unaccepted, lacking}
 use Rattle.lucy_app.proofs.accepting.accepted.Goals as goal
 
 no_inputs : (xs : List InputSpec) → length xs ≡ 0 → xs ≡ []

@@ -15,4 +15,6 @@ returns c = λ ops o text a given taken stop output end few accepted owes.
     accepted.schedule.sound fed.horizon_is.suffice early in
     let leads = c.whole_runs_lead_to_streams.ensures a.placed.nodes a.clocks.items a.net a.schedule lists ops horizon (concat rounds) proper flat fixed
     trace.whole in
-    replayed ops a given taken stop output end lists fault horizon rounds fed is ends c.traces_are_logs.ensures flat.proper.few_actors leads)
+    let along = c.runs_lead_along_streams.ensures a.placed.nodes a.clocks.items a.net a.schedule lists ops horizon (concat rounds) proper flat fixed
+    leads.run in
+    replayed ops a given taken stop output end lists fault horizon rounds fed is ends c.traces_are_logs.ensures flat.proper.few_actors trace.whole leads along)

@@ -32,7 +32,12 @@ replay_feed-requires-clause-inputs g c = λ κs within.
 
 pub returns-clause-ends : goal.returns-clause-ends
 returns-clause-ends g c =
+    let ops = lent c.args.host.now in
+    let a = c.args.accepted in
+    let (text, o, accepted) = c.requires.accepted in
     let (taken, stop, read, asked, fed) = c.main_feed.ensures.fed in
-    let ends = replay_done (lent c.args.host.now) c.args.accepted c.args.instants c.args.picks.now taken stop _ _ c.replay_feed.result c.in-Ok.feed c.main_feed.result c.deref.result.now c.deref-2.result.now fed c.in-Ok.is
+    let by_streams = c.replays_go_by_streams.ensures ops o text a c.args.instants c.args.picks.now c.requires.few accepted in
+    let ends = replay_done ops a c.args.instants c.args.picks.now taken stop by_streams _ _ c.replay_feed.result c.in-Ok.feed c.main_feed.result
+    c.deref.result.now c.deref-2.result.now fed c.in-Ok.is
     c.deref.ensures.value c.deref-2.ensures.value c.replay_feed.ensures.left in
     (taken, stop, read, asked, ends)

@@ -7,8 +7,7 @@ use Rattle.lucy_results.specs.Streams.{param_words}
 use Rattle.lucy_results.proofs.StreamLaws.{params_count}
 use Rattle.lucy_results.proofs.OutputLaws.{first_unbegun}
 use Rattle.lucy_run.specs.Owes.{most_instants, IsHorizonOf}
-use Rattle.lucy_run.specs.Replays.{Judges}
-use Rattle.lucy_run.specs.Steps.{LeavesJudged}
+use Rattle.lucy_run.specs.Steps.{JudgesFrom, LeavesJudged}
 use Rattle.lucy_run.proofs.HorizonLaws.{some_horizon, few_most}
 use Rattle.lucy_run.proofs.EndsLaws.{ends_whole}
 use Rattle.lucy_run.proofs.replaying.replay_feed.Goals as goal
@@ -48,9 +47,9 @@ returns-in-Ok-new-clause-left g c =
     let horizon_is = subst (λ (ws : List Bits). IsHorizonOf ws c.args.given c.args.feed.items horizon) of_words c.in-Ok.ensures.horizon in
     let core_is = c.in-Ok-new.ensures ∙ ap (λ (ops : List Operator). first_seen c.args.net c.args.schedule c.args.feed.items ops horizon) c.ops.ensures in
     let left = c.judge.ensures.left words c.args.given c.args.feed.items c.args.feed.stop c.in-Ok.ensures.ending in
-    let P : Seen → Type 0 = λ s. LeavesJudged (Judges s nodes c.args.outputs.now words c.args.given c.args.feed.items c.args.feed.stop c.args.picks.now)
+    let P : Seen → Type 0 = λ s. LeavesJudged (JudgesFrom s nodes c.args.outputs.now words c.args.given c.args.feed.items c.args.feed.stop c.args.picks.now)
     (g.O.Sink.seen c.args.out.now) (g.O.Sink.seen c.judge.new.out) c.judge.result in
-    let Q : List Bits → Type 0 = λ ws. LeavesJudged (Judges (first_seen c.args.net c.args.schedule c.args.feed.items (lent c.args.host.now) horizon) nodes c.args.outputs.now ws
+    let Q : List Bits → Type 0 = λ ws. LeavesJudged (JudgesFrom (first_seen c.args.net c.args.schedule c.args.feed.items (lent c.args.host.now) horizon) nodes c.args.outputs.now ws
     c.args.given c.args.feed.items c.args.feed.stop c.args.picks.now) (g.O.Sink.seen c.args.out.now) (g.O.Sink.seen c.judge.new.out) c.judge.result in
     (horizon, horizon_is, subst Q of_words (subst P core_is left))
 

@@ -12,8 +12,8 @@ use Rattle.lucy_clock.specs.NodeClocks.{signatures, AreSizes}
 use Rattle.lucy_clock.specs.WellClocked.{IsWellClocked}
 use Rattle.lucy_shape.specs.Fitting.{FitsShape}
 use Rattle.lucy_shape.specs.Sized.{HasSizeWithin}
-use Rattle.lucy_tight.specs.Least.{IsTightest}
-use Rattle.lucy_tight.specs.Tightening.{needs_at, TheBuffer}
+use Rattle.lucy_tight.specs.Tightening.{needs_at, TheBuffer, AreTight}
+use Rattle.lucy_tight.proofs.AtLeast.{all_used, tightest_from, limit_or_memory}
 use Rattle.lucy_tight.proofs.PrintedLaws.{need_at, small_at, kept_at}
 use Rattle.lucy_tight.proofs.BufferLaws.{operand_one}
 use Rattle.lucy_tight.proofs.Refusing.{leaves}
@@ -64,8 +64,11 @@ returns-in_err-found-clause-refused c =
     let made = c.in_ok-made.made in
     let same = c.in_ok-made.ensures.needs of.n of.stands in
     let e = c.in_err-found.field-0.0 in
+    let has = need_at a.0 o a.1 c.args.accepted.now a.2 c.args.node c.args.buffer c.args.at.from c.args.at.to c.args.at.printed of at.1 at.2 at.3 unwritten made.needs same made.shape c.in_ok-made.ensures.shape c.in_ok-made.ensures.carries in
+    let used = all_used made.needs o.scale o.lead made.shape c.in_ok-made.ensures.shape in
+    let passed = limit_or_memory made.needs made.shape c.args.at.from c.args.at.to c.needs_have_words.ensures c.in_ok-made.ensures.carries has used e c.in_err-found.ensures.refused in
     leaves _ e c.from_residual-in_err-found.result c.from_residual-in_err-found.ensures.1
-    (refuses_so c.args.accepted.now o c.args.node c.args.buffer of c.args.at.from c.args.at.to at.1 at.2 made.needs made.shape e unwritten same c.in_ok-made.ensures.shape c.in_err-found.ensures.refused)
+    (refuses_so c.args.accepted.now o c.args.node c.args.buffer of c.args.at.from c.args.at.to at.1 at.2 made.needs made.shape e unwritten same c.in_ok-made.ensures.shape passed)
 
 pub clocks_at-requires-clause-words : goal.clocks_at-requires-clause-words
 clocks_at-requires-clause-words c =
@@ -99,8 +102,12 @@ returns-clause-tightened c =
     let n = c.node.result.now in
     let here = same_Some n of.n (sym c.node.ensures.is ∙ of.stands) in
     let words = sym c.in_ok-clocks.ensures.words in
+    let has = need_at a.0 o a.1 c.args.accepted.now a.2 c.args.node c.args.buffer c.args.at.from c.args.at.to c.args.at.printed of at.1 at.2 at.3 unwritten made.needs same made.shape c.in_ok-made.ensures.shape c.in_ok-made.ensures.carries in
+    let used = all_used made.needs o.scale o.lead made.shape c.in_ok-made.ensures.shape in
+    let tightest = tightest_from made.needs made.shape c.args.at.from c.args.at.to c.needs_have_words.ensures c.in_ok-made.ensures.carries has used found.least found.words.items found.diffs found.cycle.items
+    c.in_ok-found.ensures.tightest in
     tells c.args.accepted.now o c.args.node c.args.buffer of c.args.at.from c.args.at.to at.1 at.2 _ unwritten at.3 same c.in_ok-made.ensures.shape
-    (subst (λ (ws : List Bits). IsTightest made.needs made.shape c.args.at.from c.args.at.to found.least ws found.diffs found.cycle.items) words c.in_ok-found.ensures.tightest)
+    (subst (λ (ws : List Bits). AreTight made.needs made.shape c.args.at.from c.args.at.to found.least ws found.diffs found.cycle.items) words tightest)
     (subst (λ m. AreSizes m c.in_ok-clocks.clocks) here c.in_ok-clocks.ensures.sizes)
 
 pub returns-clause-reached : goal.returns-clause-reached
