@@ -23,6 +23,7 @@ impl Model for Giver {
 
 impl Giver {
     /// Gives an item, or hands it back where no free slot is found. A slot that is not known yet may be found here.
+    #[inline(always)]
     pub fn give(&mut self, item: i64) -> Result<(), i64>
         requires few { length self.old.given < most_between }
         ensures ring { self.new.ring ≡ self.old.ring }

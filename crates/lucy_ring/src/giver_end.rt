@@ -53,6 +53,7 @@ impl GiverEnd {
         }
     }
 
+    #[inline(always)]
     pub(crate) fn give(&mut self, item: i64) -> Result<(), i64>
         requires few { length (given self.old) < most_between }
         ensures ring { ring_of_giver self.new ≡ ring_of_giver self.old }
@@ -74,6 +75,7 @@ impl GiverEnd {
 
     // Takes a number that came back, if there is one. Once an item is in the side list the count grows no more, so that
     // the list has room enough.
+    #[inline(always)]
     #[tactic(auto, using(crate::proofs::Names::giver_keeps))]
     fn fetch(&mut self)
         requires none { known_slots self.old ≡ 0 }
@@ -87,6 +89,7 @@ impl GiverEnd {
         }
     }
 
+    #[inline(always)]
     #[tactic(auto, using(crate::proofs::Names::giver_keeps))]
     fn put(&mut self, item: i64)
         requires some { 0 < known_slots self.old }

@@ -25,6 +25,7 @@ impl Model for Taker {
 impl Taker {
     /// Takes the oldest item, or answers None where none is found. An item that is not known yet may be found here. For an
     /// item that is taken a number goes back, unless no slot for one is found.
+    #[inline(always)]
     pub fn take(&mut self) -> Option<i64>
         requires few { length self.old.taken < most_between }
         ensures ring { self.new.ring ≡ self.old.ring }

@@ -17,27 +17,28 @@ use lucy_net::{
 };
 use lucy_ring::{Giver, Taker};
 
-/// An actor of a net, and all that it moves.
+/// An actor of a net, and all that it moves. What each move reads stands first and close together.
 #[derive(Drop)]
 pub struct Part {
-    /// The number of the actor in the net, from 0.
-    pub number: u32,
-    /// The actor.
-    pub actor: Actor,
     /// Where it stands.
     pub state: ActorState,
-    /// The items of an input, oldest first.
-    pub input: Vec<i64>,
-    /// What an output took, oldest first.
-    pub output: Vec<i64>,
     /// The ends of the rings that it gives to, in order of the actor's `gives`.
     pub givers: Vec<Giver>,
     /// The ends of the rings that it takes from, in order of the actor's `takes`.
     pub takers: Vec<Taker>,
+    /// The actor.
+    pub actor: Actor,
+    /// The items of an input, oldest first.
+    pub input: Vec<i64>,
+    /// What an output took, oldest first.
+    pub output: Vec<i64>,
+    /// The number of the actor in the net, from 0.
+    pub number: u32,
 }
 
 impl Part {
     // Does all moves that are possible in a row, and answers how many.
+    #[inline(always)]
     pub(crate) fn go_on<F: Fn(u32, i64, i64) -> i64 + Sync>(&mut self, host: &Host<F>) -> u64
         requires ready { IsReady self.old }
         requires serves { Serves F.pre F.post host.now }
