@@ -9,7 +9,7 @@ use Rattle.lucy_place.specs.Standing.{at_one}
 use Rattle.lucy_place.specs.Reads.{arguments_of, reads_of}
 use Rattle.lucy_types.proofs.ListLaws.{none_some, get_left, get_right}
 use Rattle.lucy_diagram.specs.declared.edge.Edge.{Edge}
-use Rattle.lucy_diagram.specs.Diagrams.{is_late, IsEdge, HasEdge, AreEdges}
+use Rattle.lucy_diagram.specs.Diagrams.{is_late, IsEdge, HasEdge, IsBefore, AreEdges}
 use Rattle.lucy_diagram.specs.Drawn.{edge_to, edges_at, edges_from, node_edges}
 use Rattle.lucy_diagram.proofs.ListLaws.{in_one}
 
@@ -99,39 +99,40 @@ from_there n p (x ∷ es) (suc k) entry s q h r =
     let z : p + 1 + k ≡ p + suc k = omega arith in
     (length own + more.0, get_right own (edges_from n (p + 1) es) more.0 ∙ more.1 ∙ ap (λ t. Some (edge_to (is_late entry.kind) t s q)) z)
 
--- no operand has two edges
-both_here : (late : Bool) (p : ℕ) (qs : List ℕ) (i j : ℕ) (e f : Edge) → slice_get (edges_at late p 0 qs) i ≡ Some e → slice_get (edges_at late p 0 qs) j ≡ Some f → e.seat ≡ f.seat → i ≡ j
-both_here late p qs i j e f a b same =
+-- edges stand in order
+both_here : (late : Bool) (p : ℕ) (qs : List ℕ) (i j : ℕ) (e f : Edge) → i < j → slice_get (edges_at late p 0 qs) i ≡ Some e → slice_get (edges_at late p 0 qs) j ≡ Some f → IsBefore e f
+both_here late p qs i j e f l a b =
     let u = at_is late p 0 qs i e a in
     let v = at_is late p 0 qs j f b in
+    let to : e.to ≡ p = ap (λ (g : Edge). g.to) u.2 in
+    let same : f.to ≡ p = ap (λ (g : Edge). g.to) v.2 in
     let first : e.seat ≡ 0 + i = ap (λ (g : Edge). g.seat) u.2 in
-    let second : f.seat ≡ 0 + j = ap (λ (g : Edge). g.seat) v.2 in omega arith
+    let second : f.seat ≡ 0 + j = ap (λ (g : Edge). g.seat) v.2 in inr (to ∙ sym same, omega arith)
 
-one_here : (n : PlacedNode) (late : Bool) (p : ℕ) (qs : List ℕ) (es : List PlaceEntry) (i j : ℕ) (e f : Edge) → slice_get (edges_at late p 0 qs) i ≡ Some e → slice_get (edges_from n (p + 1) es) j ≡ Some f → e.to ≡ f.to → ⊥
-one_here n late p qs es i j e f a b same =
+one_here : (n : PlacedNode) (late : Bool) (p : ℕ) (qs : List ℕ) (es : List PlaceEntry) (i j : ℕ) (e f : Edge) → slice_get (edges_at late p 0 qs) i ≡ Some e → slice_get (edges_from n (p + 1) es) j ≡ Some f → IsBefore e f
+one_here n late p qs es i j e f a b =
     let u = at_is late p 0 qs i e a in
     let v = from_is n (p + 1) es j f b in
     let first : e.to ≡ p = ap (λ (g : Edge). g.to) u.2 in
-    let second : f.to ≡ p + 1 + v.k = v.to in omega arith
+    let second : f.to ≡ p + 1 + v.k = v.to in inl (omega arith)
 
-from_once : (n : PlacedNode) (p : ℕ) (es : List PlaceEntry) (i j : ℕ) (e f : Edge) → slice_get (edges_from n p es) i ≡ Some e → slice_get (edges_from n p es) j ≡ Some f → e.to ≡ f.to → e.seat ≡ f.seat → i ≡ j
-from_once n p [] i j e f a b to seat = absurd (none_some e a)
-from_once n p (x ∷ es) i j e f a b to seat =
+from_order : (n : PlacedNode) (p : ℕ) (es : List PlaceEntry) (i j : ℕ) (e f : Edge) → i < j → slice_get (edges_from n p es) i ≡ Some e → slice_get (edges_from n p es) j ≡ Some f → IsBefore e f
+from_order n p [] i j e f l a b = absurd (none_some e a)
+from_order n p (x ∷ es) i j e f l a b =
     let late = is_late x.kind in
     let qs = reads_of n x.kind in
     let own = edges_at late p 0 qs in
     let rest = edges_from n (p + 1) es in
     elim (in_one own rest i e a) [
       | inl u ↦ elim (in_one own rest j f b) [
-        | inl v ↦ both_here late p qs i j e f u.1 v.1 seat
-        | inr v ↦ absurd (one_here n late p qs es i v.0 e f u.1 v.2 to)
+        | inl v ↦ both_here late p qs i j e f l u.1 v.1
+        | inr v ↦ one_here n late p qs es i v.0 e f u.1 v.2
       ]
       | inr u ↦ elim (in_one own rest j f b) [
-        | inl v ↦ absurd (one_here n late p qs es j u.0 f e v.1 u.2 (sym to))
+        | inl v ↦ absurd (let first : i ≡ length own + u.0 = u.1 in let second : j < length own = v.0 in omega arith)
         | inr v ↦
-            let same : u.0 ≡ v.0 = from_once n (p + 1) es u.0 v.0 e f u.2 v.2 to seat in
             let first : i ≡ length own + u.0 = u.1 in
-            let second : j ≡ length own + v.0 = v.1 in omega arith
+            let second : j ≡ length own + v.0 = v.1 in from_order n (p + 1) es u.0 v.0 e f (omega arith) u.2 v.2
       ]
     ]
 
@@ -162,7 +163,7 @@ pub edges_are : (n : PlacedNode) (edges : List Edge) → edges ≡ node_edges n 
 edges_are n edges is = subst (AreEdges n) (sym is) (record {
   are = edge_is n;
   all = λ p k q r. has_edge n p k q r.entry r.stands r.reads;
-  once = from_once n 1 n.places;
+  order = from_order n 1 n.places;
 })
 
 -- the first result of a call reads its arguments, and another one nothing

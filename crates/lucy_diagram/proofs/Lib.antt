@@ -4,3 +4,5 @@ mod CallLaws
 mod QuoteLaws
 mod GraphLaws
 mod NetLaws
+mod LayerLaws
+mod LayeringLaws

@@ -1,6 +1,6 @@
 -- What a drawing of a node shows: its places, which place reads which, its buffers and its calls. Places, buffers and calls count from 1,
 -- the operands of a place from 0.
-use Rattle.std.specs.Prelude.{ℕ, ◌+◌, ◌≡◌, Bool, true, false, List, [], ◌∷◌, Some, length, slice_get}
+use Rattle.std.specs.Prelude.{ℕ, ◌+◌, ◌≡◌, ◌<◌, ◌⊎◌, Bool, true, false, List, [], ◌∷◌, Some, length, slice_get}
 use Rattle.lucy_place.specs.declared.entry.PlaceEntry.{PlaceEntry}
 use Rattle.lucy_place.specs.declared.entry.PlaceKind.{PlaceKind}
 use Rattle.lucy_place.specs.declared.entry.PlaceKind.TheVariants as kind
@@ -59,11 +59,15 @@ pub record HasEdge (edges : List Edge) (p k q : ℕ) : Type 0 where
   pub seat : edge.seat ≡ k
   pub from : edge.from ≡ q
 
--- the edges are exactly what places read: each is one, there is one for all that a place reads, and none is there twice
+-- an edge stands before another: that of an earlier place, or of an earlier operand of the same place
+abbrev pub IsBefore : Edge → Edge → Type 0
+IsBefore edge other = (edge.to < other.to) ⊎ ((edge.to ≡ other.to) × (edge.seat < other.seat))
+
+-- the edges are exactly what places read: each is one, there is one for all that a place reads, and they stand in order, none twice
 pub record AreEdges (n : PlacedNode) (edges : List Edge) : Type 0 where
   pub are : (i : ℕ) (edge : Edge) → slice_get edges i ≡ Some edge → IsEdge n edge
   pub all : (p k q : ℕ) → Reads n p k q → HasEdge edges p k q
-  pub once : (i j : ℕ) (edge other : Edge) → slice_get edges i ≡ Some edge → slice_get edges j ≡ Some other → edge.to ≡ other.to → edge.seat ≡ other.seat → i ≡ j
+  pub order : (i j : ℕ) (edge other : Edge) → i < j → slice_get edges i ≡ Some edge → slice_get edges j ≡ Some other → IsBefore edge other
 
 -- the buffer of a number: its place, its printed size, and its bound, where one is written
 pub record IsDrawnBuffer (n : PlacedNode) (c : NodeClock) (k : ℕ) (buffer : DrawnBuffer) : Type 0 where

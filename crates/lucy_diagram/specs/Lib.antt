@@ -5,5 +5,7 @@ pub mod Quotes
 pub mod Labels
 pub mod Graphs
 pub mod Nets
+pub mod Layers
 -- Below this line stands what only serves the proofs of the bodies.
 pub mod Drawn
+pub mod Layering

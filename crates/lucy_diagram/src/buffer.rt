@@ -3,7 +3,6 @@ ghost use Rattle.std.specs.Prelude.{◌≡◌, ◌<◌, ◌+◌, ◌∷◌, ◌+
 ghost use Rattle.lucy_place.specs.Standing.{at_one};
 ghost use Rattle.lucy_diagram.specs.Diagrams.{IsDrawnBuffer, AreDrawnBuffers};
 
-use crate::grow::push;
 use lucy_clock::NodeClock;
 use lucy_place::PlacedNode;
 use lucy_word::OutOfMemory;
@@ -71,7 +70,7 @@ pub(crate) fn buffers(
 {
     let mut buffers = Vec::new(alloc);
     'each: for i in 0..node.buffers.list().len() {
-        push(&mut buffers, buffer_at(node, clock, i))?;
+        buffers.push(buffer_at(node, clock, i))?;
     }
     Ok(buffers)
 }

@@ -5,7 +5,6 @@ ghost use Rattle.lucy_place.specs.Standing.{at_one};
 ghost use Rattle.lucy_place.specs.Proper.{IsProperNode};
 ghost use Rattle.lucy_diagram.specs.Diagrams.{IsDrawnCall, AreDrawnCalls};
 
-use crate::grow::push;
 use lucy_place::{CallSite, Placed, PlacedNode};
 use lucy_word::OutOfMemory;
 use std::alloc::Global;
@@ -66,7 +65,7 @@ pub(crate) fn calls(
 {
     let mut calls = Vec::new(alloc);
     'each: for i in 0..node.calls.list().len() {
-        push(&mut calls, call_at(placed, node, i))?;
+        calls.push(call_at(placed, node, i))?;
     }
     Ok(calls)
 }

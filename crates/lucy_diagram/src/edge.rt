@@ -6,7 +6,6 @@ ghost use Rattle.lucy_place.specs.Reads.{arguments_of, reads_of};
 ghost use Rattle.lucy_diagram.specs.Diagrams.{is_late, AreEdges};
 ghost use Rattle.lucy_diagram.specs.Drawn.{edges_at, node_edges};
 
-use crate::grow::push;
 use lucy_place::{PlaceKind, PlacedNode};
 use lucy_word::OutOfMemory;
 use std::alloc::{AllocError, Global};
@@ -39,7 +38,7 @@ fn put_operands(
             seat,
             late,
         };
-        push(edges, edge)?;
+        edges.push(edge)?;
     }
     Ok(())
 }

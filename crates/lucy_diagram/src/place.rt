@@ -3,7 +3,6 @@ ghost use Rattle.std.specs.Prelude.{◌≡◌, ◌<◌, ◌≤◌, ◌∷◌, �
 ghost use Rattle.lucy_place.specs.Faults.{most_places};
 ghost use Rattle.lucy_diagram.specs.Diagrams.{figure_of, drawn_places};
 
-use crate::grow::push;
 use lucy_place::{PlaceKind, PlacedNode};
 use lucy_word::OutOfMemory;
 use std::alloc::Global;
@@ -62,7 +61,7 @@ pub(crate) fn places(alloc: Global, node: &PlacedNode) -> Result<Vec<DrawnPlace>
     'each: for (i, entry) in node.places.list().iter().enumerate() {
         let place = i as u32 + 1;
         let figure = figure_of(&entry.kind);
-        push(&mut places, DrawnPlace { place, figure })?;
+        places.push(DrawnPlace { place, figure })?;
     }
     Ok(places)
 }

@@ -3,7 +3,7 @@ ghost use Rattle.std.specs.Prelude.{◌≡◌, ◌<◌, true, length, IfOk, IfSo
 ghost use Rattle.lucy_solve.specs.System.{diff_at, value};
 ghost use Rattle.lucy_explain.specs.Chains.{IsChain, ChainSumLaw, LeastLaw};
 
-use crate::grow::{narrow, push};
+use crate::index::narrow;
 use lucy_solve::{Diff, Diffs};
 use lucy_word::OutOfMemory;
 use std::alloc::Global;
@@ -70,7 +70,7 @@ fn reach(
         };
         if diff.right != 0 && at(parents, diff.right as usize) == NONE && is_tight(values, *diff) {
             put(parents, diff.right as usize, next);
-            push(reached, diff.right)?;
+            reached.push(diff.right)?;
         }
         next = at(&leaving.before, next as usize);
     }
@@ -114,7 +114,7 @@ fn path_of(
             path.reverse();
             return Ok(path);
         };
-        push(&mut path, parent)?;
+        path.push(parent)?;
         variable = diff.left;
     }
     path.reverse();

@@ -8,7 +8,6 @@ ghost use Rattle.lucy_front.specs.Refusals.{IsTellable, refusal_text};
 ghost use Rattle.lucy_explain.specs.Begins.{first_line, BeginsAs};
 ghost use Rattle.lucy_explain.specs.Spans.{AreWithin};
 
-use crate::grow::push;
 use crate::spans::within;
 use crate::tell::told;
 use lucy_front::{Options, Refusal, accept, refusal_text};
@@ -53,7 +52,7 @@ fn joined(alloc: Global, first: &[u8], more: &[u8]) -> Result<Vec<u8>, OutOfMemo
     ensures { IfOk result (λ v. v.items ≡ first.now ++ 10 ∷ more.now) }
 {
     let mut text = first.to_vec(alloc)?;
-    push(&mut text, b'\n')?;
+    text.push(b'\n')?;
     text.extend_from_slice(more)?;
     Ok(text)
 }

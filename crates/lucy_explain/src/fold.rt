@@ -8,7 +8,6 @@ ghost use Rattle.lucy_explain.specs.Streams as spec;
 ghost use Rattle.lucy_explain.specs.Streams.{AreStreams};
 ghost use Rattle.lucy_explain.specs.Folded.{IsTurned, AreOfOneStream, AreLongest, IsFolded};
 
-use crate::grow::push;
 use crate::line::{Line, line_of};
 use crate::streams::clock_streams;
 use crate::variables::variable_streams;
@@ -70,7 +69,7 @@ pub(crate) fn lines_of(
     'each: while !rest.is_empty() {
         let line = line_of(diffs, streams, rest);
         let next = behind(rest, line.count);
-        push(&mut lines, line)?;
+        lines.push(line)?;
         rest = next;
     }
     Ok(lines)

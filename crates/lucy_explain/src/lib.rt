@@ -14,7 +14,7 @@ mod chain;
 mod explaining;
 mod fold;
 mod fullness;
-mod grow;
+mod index;
 mod laws;
 mod line;
 mod reason;

@@ -2,7 +2,6 @@
 ghost use Rattle.std.specs.Prelude.{◌≡◌, true, IfOk, OnOk};
 ghost use Rattle.lucy_explain.specs.Spans.{IsWithin, AreWithin};
 
-use crate::grow::push;
 use lucy_tree::Span;
 use lucy_word::OutOfMemory;
 use std::alloc::{AllocError, Global};
@@ -21,7 +20,7 @@ fn push_within(spans: &mut Vec<Span>, span: Span, bytes: usize) -> Result<(), Al
     if !is_within(span, bytes) {
         return Ok(());
     }
-    push(spans, span)?;
+    spans.push(span)?;
     Ok(())
 }
 

@@ -8,7 +8,6 @@ ghost use Rattle.lucy_need.specs.declared.need.Need.TheVariants.{Equal};
 ghost use Rattle.lucy_explain.specs.Streams.{Ties, AreStreams};
 ghost use Rattle.lucy_explain.specs.Joining.{renamed, AreStreamsOf};
 
-use crate::grow::push;
 use lucy_need::{Need, Needs, Term, always};
 use lucy_word::{OutOfMemory, Word};
 use std::alloc::{AllocError, Global};
@@ -95,7 +94,7 @@ fn numbered(alloc: Global, clocks: u32) -> Result<Vec<u32>, OutOfMemory>
 {
     let mut list = Vec::new(alloc);
     'each: for clock in 0..clocks {
-        push(&mut list, clock)?;
+        list.push(clock)?;
     }
     Ok(list)
 }

@@ -3,7 +3,6 @@ ghost use Rattle.std.specs.Prelude.{◌≡◌, ◌≤◌, length, IfOk, IfSome};
 ghost use Rattle.lucy_picture.specs.Charts.{waiting, IsFirstFull};
 ghost use Rattle.lucy_explain.specs.Waits.{Waits, AreWaits};
 
-use crate::grow::push;
 use lucy_word::{OutOfMemory, Word};
 use std::alloc::Global;
 
@@ -39,7 +38,7 @@ pub fn waits_of(
         let Some(wait) = wait_of(write, read, i + 1) else {
             return Ok(waits);
         };
-        push(&mut waits, wait)?;
+        waits.push(wait)?;
     }
     Ok(waits)
 }

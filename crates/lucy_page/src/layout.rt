@@ -27,12 +27,12 @@ pub(crate) fn spot_at(spots: &[Spot], place: usize) -> Spot {
 }
 
 // The places by their columns.
-fn wishes(alloc: Global, layers: &[u32]) -> Result<Vec<Wish>, AllocError> {
+fn wishes(alloc: Global, layers: &[usize]) -> Result<Vec<Wish>, AllocError> {
     let mut wishes = Vec::new(alloc);
     for (place, layer) in layers.iter().enumerate() {
         wishes.push(Wish {
             place,
-            column: *layer as usize,
+            column: *layer,
             row: 0,
         })?;
     }

@@ -6,7 +6,6 @@ ghost use Rattle.lucy_flat.specs.Instances.{words_in};
 ghost use Rattle.lucy_diagram.specs.Labels as spec;
 ghost use Rattle.lucy_diagram.specs.Graphs.{label_text, head_text, label_at};
 
-use crate::grow::push;
 use crate::quote::put_quoted;
 use lucy_front::Accepted;
 use lucy_picture::words_at;
@@ -84,7 +83,7 @@ pub(crate) fn word_labels(
     let mut labels = Vec::new(alloc);
     let words = words_at(&accepted.clocks, node);
     'each: for word in words {
-        push(&mut labels, word_label(alloc, word)?)?;
+        labels.push(word_label(alloc, word)?)?;
     }
     Ok(labels)
 }

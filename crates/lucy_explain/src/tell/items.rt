@@ -1,5 +1,5 @@
 // Items that depend on each other: the delay that is missing.
-use crate::grow::narrow;
+use crate::index::narrow;
 use crate::tell::page::Page;
 use crate::tell::place::{Scene, put_what};
 use lucy_cause::Item;

@@ -1,5 +1,4 @@
 // What is written, and the spans of which is told.
-use crate::grow::push;
 use lucy_picture::{put_kind, put_place, put_spot, spot_of};
 use lucy_place::{PlaceKind, PlacedNode};
 use lucy_tree::{Expr, Span};
@@ -100,13 +99,13 @@ impl<'a> Page<'a> {
 
     /// Keeps a span of which is told.
     pub(crate) fn keep(&mut self, span: Span) {
-        let good = push(&mut self.spans, span).is_ok();
+        let good = self.spans.push(span).is_ok();
         self.done(good);
     }
 
     /// Keeps a clock that is named.
     pub(crate) fn name(&mut self, clock: u32) {
-        let good = push(&mut self.clocks, clock).is_ok();
+        let good = self.clocks.push(clock).is_ok();
         self.done(good);
     }
 

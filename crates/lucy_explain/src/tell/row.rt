@@ -1,5 +1,5 @@
 // What an inequality of a shape says, by its position in the table: first those of the clocks in turn, and then those of the needs.
-use crate::grow::narrow;
+use crate::index::narrow;
 use lucy_need::{Need, Needs, Term};
 use lucy_shape::{ClockShape, Shape};
 

@@ -1,5 +1,4 @@
 // A text that is no program: where, and what could stand there.
-use crate::grow::push;
 use crate::tell::page::Page;
 use lucy_syntax::{SyntaxError, parse};
 use lucy_word::{Limit, OutOfMemory, Word, WordError};
@@ -18,7 +17,7 @@ const MARKS: &str =
 // Whether a token may follow this front: then what is refused is no earlier than the end.
 fn may_follow(alloc: Global, front: &[u8], token: &[u8]) -> Result<bool, OutOfMemory> {
     let mut text = front.to_vec(alloc)?;
-    push(&mut text, b' ')?;
+    text.push(b' ')?;
     text.extend_from_slice(token)?;
     match parse(alloc, &text) {
         Ok(_) => Ok(true),

@@ -1,5 +1,5 @@
 // A clash of types: both rules at the ends of the path.
-use crate::grow::narrow;
+use crate::index::narrow;
 use crate::tell::page::Page;
 use crate::tell::place::{Scene, put_clock, put_places};
 use lucy_host::{DataType, Op};

@@ -5,4 +5,4 @@ use Rattle.lucy_diagram.proofs.call.calls.Goals as goal
 pub each-preserved : goal.each-preserved
 each-preserved c =
     let l = c.each in
-    each_more (IsDrawnCall c.args.placed.now.nodes c.args.node.now) l.i _ _ _ l.invariant.0 l.invariant.1 c.in_ok-push.ensures c.call_at.ensures
+    each_more (IsDrawnCall c.args.placed.now.nodes c.args.node.now) l.i _ _ _ l.invariant.0 l.invariant.1 c.in_ok-push.ensures.items c.call_at.ensures

@@ -5,4 +5,4 @@ use Rattle.lucy_explain.proofs.spans.push_within.Goals as goal
 
 pub returns : goal.returns
 returns c = λ all.
-    All-same (IsWithin c.args.bytes) _ _ c.in_ok-push.ensures (All-push (IsWithin c.args.bytes) _ c.args.span all (c.is_within.ensures (search rules)))
+    All-same (IsWithin c.args.bytes) _ _ c.in_ok-push.ensures.items (All-push (IsWithin c.args.bytes) _ c.args.span all (c.is_within.ensures (search rules)))
