@@ -3,4 +3,4 @@ use Rattle.lucy_diagram.specs.Diagrams.{drawn_from, drawn_places}
 use Rattle.lucy_diagram.proofs.place.places.Given as goal
 
 abbrev pub invariant-each : goal.invariant-each
-invariant-each l = l.places.items ++ drawn_from (1 + l.i) (drop l.i l.node.places) ≡ drawn_places l.node
+invariant-each l = l.places.items ++ drawn_from (l.i + 1) (drop l.i l.entry-items) ≡ drawn_places l.node

@@ -3,4 +3,4 @@ use Rattle.lucy_picture.specs.Charts.{named_from, named_places}
 use Rattle.lucy_picture.proofs.named.named_places.Given as goal
 
 abbrev pub invariant-each : goal.invariant-each
-invariant-each l = l.places.items ++ named_from (1 + l.i) (drop l.i l.node.places) ≡ named_places l.node
+invariant-each l = l.places.items ++ named_from (l.i + 1) (drop l.i l.entry-items) ≡ named_places l.node
