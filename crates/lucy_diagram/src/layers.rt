@@ -72,8 +72,8 @@ fn found_of(alloc: Global, ways: &[Way], spares: &[usize], count: usize) -> Resu
 }
 
 /// The layer of each place of a drawing, in order, from 0: the least that is greater than those of the places that it reads, but for what
-/// is read through a `fby`, and, where places wait for each other, through a buffer, or else through the first of them. The results of a
-/// call stand in one layer.
+/// is read across an `fby`. Where each place left stands behind another that is left, the first buffer left, or else the first place, stands
+/// behind what is found alone. Results of a call stand no earlier than its first, and in its layer where that alone is read into.
 pub fn layers_of(alloc: Global, diagram: &Diagram) -> Result<Vec<usize>, OutOfMemory>
     ensures count { IfOk result (λ v. length v.items ≡ length diagram.now.places.items) }
     ensures layers { IfOk result (λ v. AreLayers diagram.now v.items) }

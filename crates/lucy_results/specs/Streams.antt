@@ -39,7 +39,8 @@ later_stream kinds inputs nodes clocks before instants place = drop (ones_to (ma
 abbrev pub later_streams : List HostKind → List (List ℤ) → List PlacedNode → List NodeClock → (before instants : ℕ) → List (List ℤ)
 later_streams kinds inputs nodes clocks before instants = map (later_stream kinds inputs nodes clocks before instants) (results_in (main_of nodes))
 
--- what outputs have taken of these streams, where each actor has done so many operations, and theirs stand behind so many others
+-- what outputs have taken of these streams: the first items of each, as many as its output has done operations, whose actors stand behind
+-- so many others
 abbrev pub taken_of : (places : ℕ) → (done : ℕ → ℕ) → (streams : List (List ℤ)) → List (List ℤ)
 taken_of places done streams = map (λ i. take (done (places + i)) (list_at streams i)) (range_with_len 0 (length streams))
 

@@ -80,7 +80,7 @@ first_core ops a lists horizon = first_seen a.net a.schedule lists ops horizon
 abbrev pub IsTally : Seen → (count : ℕ) → (text : List ℕ) → Type 0
 IsTally core count text = (line : List ℕ) × SaysOver (machine_of core).sys (done_of core.done) line × (text ≡ tally count line)
 
--- what is printed of events from here on: their tally, and the lines of the items that the outputs then took
+-- what is printed of events from a core without an event so far: their tally, and the lines of the items that the outputs then took
 abbrev pub IsEventText : Seen → List PlacedNode → List OutputSpec → (picks output : List ℕ) → Type 0
 IsEventText first nodes outputs picks output =
     (text : List ℕ) × IsTally (after_picks first picks) (length picks) text

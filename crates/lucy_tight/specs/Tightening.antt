@@ -63,7 +63,7 @@ pub record AreTightestWords (needs : Needs) (shape : Shape) (from to least : ℕ
   pub shortest : AllByRecursion IsShortest words
   pub tightest : IsTightestAssignment needs shape from to least (assigned words)
 
--- these within all limits, with the inequalities of one less and a negative cycle of them: for size 0 those for 0, and no cycle
+-- the tightest words, within all limits, with the inequalities of one less and a negative cycle of them: for size 0 those for 0, and no cycle
 pub record AreTight (needs : Needs) (shape : Shape) (from to least : ℕ) (words : List Bits) (diffs : System) (cycle : List ℕ) : Type 0 where
   pub few : HasTooMany needs shape from to → ⊥
   pub are : AreTightestWords needs shape from to least words
@@ -73,7 +73,8 @@ pub record AreTight (needs : Needs) (shape : Shape) (from to least : ℕ) (words
   pub shown : 0 < least → IsNegativeCycle diffs.list cycle
   pub none : least ≡ 0 → cycle ≡ []
 
--- why nothing is told of the shape: the inequalities are too many, else a word has too many bits before it is shortened, else all together
+-- why nothing is told of the shape: the inequalities are too many, else a word has too many bits before it is shortened, else
+-- the words in shortest form have too many together
 abbrev pub PassesLimit : Needs → Shape → (from to : ℕ) → TightError → Type 0
 PassesLimit needs shape from to (LimitPassed l) =
     ((l ≡ limit.Inequalities) × HasTooMany needs shape from to)
