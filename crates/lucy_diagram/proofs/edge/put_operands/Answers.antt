@@ -9,5 +9,5 @@ each-preserved c =
     let late = c.args.late in
     let to = c.args.to in
     let further = λ (operands : List ℕ). l.edges.items ++ edges_at late to l.seat operands in
-    ap (λ es. es ++ edges_at late to (l.seat + 1) (drop (l.seat + 1) c.args.operands.now)) c.in_ok-push.ensures ∙ append_assoc l.edges.items _ _
+    ap (λ es. es ++ edges_at late to (l.seat + 1) (drop (l.seat + 1) c.args.operands.now)) c.in_ok-push.ensures.items ∙ append_assoc l.edges.items _ _
     ∙ sym (at_drop_more further c.args.operands.now l.seat 0 c.each-test.true) ∙ l.invariant
