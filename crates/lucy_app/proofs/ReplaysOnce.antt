@@ -25,7 +25,7 @@ use Rattle.lucy_front.specs.declared.accepted.Accepted.{Accepted}
 use Rattle.lucy_front.specs.declared.options.Options.{Options}
 use Rattle.lucy_run.specs.declared.ending.Ending.{Ending}
 use Rattle.lucy_run.specs.Owes.{EndsFor}
-use Rattle.lucy_run.specs.Replays.{SaysOver, tally, IsReplayText, Judges, OwesReplay}
+use Rattle.lucy_run.specs.Replays.{SaysFinished, tally, IsReplayText, Judges, OwesReplay}
 use Rattle.lucy_run.specs.Laws.{OneReplay}
 use Rattle.lucy_app.specs.Outcomes.{NoRun}
 use Rattle.lucy_app.specs.Answers.{Answer, AreOneBut, AreRefusedAlike, log_refused}
@@ -46,7 +46,7 @@ picks_one text xs ys is also = good_once xs ys (sym is ∙ also)
 -- the text of a replay, by the parts of the program that it reads
 abbrev pub IsTextBy : List HostKind → Net → List PlacedNode → List NodeClock → List OutputSpec → (lists : List (List ℤ)) → (horizon : ℕ) → (picks output : List ℕ) → Type 0
 IsTextBy kinds net nodes clocks outputs lists horizon picks output =
-    (line : List ℕ) × SaysOver (net_system net horizon) (after none_done picks) line × (output ≡ tally (length picks) line
+    (line : List ℕ) × SaysFinished (net_system net horizon) (after none_done picks) line × (output ≡ tally (length picks) line
     ++ output_text outputs (taken_of (all_places nodes) (after none_done picks) (main_streams kinds lists nodes clocks horizon)) horizon)
 
 -- what is owed of one program of a text is owed of the other

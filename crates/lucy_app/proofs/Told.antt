@@ -11,7 +11,7 @@ use Rattle.lucy_grammar.specs.Texts.{HasTree, IsRefused}
 use Rattle.lucy_place.specs.declared.error.NameError.{NameError}
 use Rattle.lucy_place.specs.declared.error.NameError.TheVariants as names
 use Rattle.lucy_place.specs.Faults.{faults}
-use Rattle.lucy_place.specs.Placing.{TellsFirst}
+use Rattle.lucy_place.specs.Placing.{TellsFirstFault}
 use Rattle.lucy_front.specs.declared.refusal.Refusal.{Refusal as Reason}
 use Rattle.lucy_front.specs.declared.refusal.Refusal.TheVariants as front
 use Rattle.lucy_front.specs.Accepting.{Refuses, syntax_refusal, names_refusal, RefusesSyntax, RefusesText}
@@ -43,7 +43,7 @@ pub text_told : (ops : List Operator) (text : List ℕ) (e : SyntaxError) → (e
 text_told ops text e h = elim (syntax_told text e h) [ inl out ↦ inl out | inr why ↦ inr (why.0, syntax_of_text ops text why.0 why.1, why.2) ]
 
 -- a refusal of names
-pub names_told : (ops : List Operator) (text : List ℕ) (p : ProgramTree) (e : NameError) → HasTree text p → TellsFirst (faults ops p) e → RefusesProgram (RefusesText ops text) (program_refusal (names_refusal e))
+pub names_told : (ops : List Operator) (text : List ℕ) (p : ProgramTree) (e : NameError) → HasTree text p → TellsFirstFault (faults ops p) e → RefusesProgram (RefusesText ops text) (program_refusal (names_refusal e))
 names_told ops text p e tree (inl out) = inl (ap (λ x. program_refusal (names_refusal x)) out)
 names_told ops text p (names.Unknown span) tree (inr is) = inr (_, (p, tree, is), refl)
 names_told ops text p (names.Twice span) tree (inr is) = inr (_, (p, tree, is), refl)

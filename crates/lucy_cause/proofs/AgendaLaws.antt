@@ -1,8 +1,8 @@
 -- The actors of each instant, entered actor by actor and firing by firing.
-use Rattle.std.proofs.Common.{ℕ, ◌+◌, ◌-◌, ◌<◌, ◌≤◌, ◌≡◌, Bool, true, false, cond, ltb, leb, List, [], ◌∷◌, ◌++◌, length, set, get_or, ap, sym, refl, ◌∙◌, inl, inr, arith}
-use Rattle.std.specs.Prelude.{Some, slice_get, ◌&&◌}
+use Rattle.std.proofs.Common.{ℕ, zero, suc, Vec, ◌+◌, ◌-◌, ◌<◌, ◌≤◌, ◌≡◌, Bool, true, false, cond, ltb, leb, List, [], ◌∷◌, ◌++◌, length, set, get_or, ap, sym, refl, ◌∙◌, inl, inr, arith}
+use Rattle.std.specs.Prelude.{Some, slice_get, slice_index_or, ◌&&◌}
 use Rattle.std.proofs.lemmas.Bool.{cases_Bool, cases_eq, cases_lt, le-leb, lt-leb}
-use Rattle.std.proofs.lemmas.List.{append-nil, length-set, get_or-set_same, get_or-set_other}
+use Rattle.std.proofs.lemmas.List.{append-nil, map-append, length-set, get_or-set_same, get_or-set_other}
 use Rattle.std.proofs.lemmas.Option.{slice_get_within, get_or_from_slice_get}
 use Rattle.lucy_word.specs.Bits.{Bits, bit_at, one_if, ones_to}
 use Rattle.lucy_word.specs.Index.{IsIndex}
@@ -13,10 +13,22 @@ use Rattle.lucy_net.specs.declared.net.Net.{Net}
 use Rattle.lucy_net.specs.Proper.{numbers_where, IsProper}
 use Rattle.lucy_net.specs.Instants.{slot_of, is_busy}
 use Rattle.lucy_cause.specs.Agenda.{AreEntered}
-use Rattle.lucy_cause.specs.Faults.{AreFirings}
+use Rattle.lucy_cause.specs.Faults.{rows_of, AreFirings}
 use Rattle.lucy_net.proofs.WhereLaws.{where_yes, where_no}
 use Rattle.lucy_net.proofs.SlotLaws.{slot_here}
 use Rattle.lucy_cause.proofs.CountLaws.{busy_yes, busy_still, busy_idle}
+
+-- rows without entries, and one more of them
+all_empty : (rows : List (List ℕ)) (row : List ℕ) → row ≡ [] → ((t : ℕ) → get_or rows t [] ≡ []) → (t : ℕ) → get_or (rows ++ row ∷ []) t [] ≡ []
+all_empty [] row e empty zero = e
+all_empty [] row e empty (suc t) = refl
+all_empty (r ∷ rows) row e empty zero = empty zero
+all_empty (r ∷ rows) row e empty (suc t) = all_empty rows row e (λ s. empty (suc s)) t
+
+pub more_empty : {Z : Type 0} (rows more : List (Vec ℕ Z)) (row : Vec ℕ Z) → more ≡ rows ++ row ∷ [] → row.items ≡ [] →
+    ((t : ℕ) → slice_index_or (rows_of rows) t [] ≡ []) → (t : ℕ) → slice_index_or (rows_of more) t [] ≡ []
+more_empty rows more row e none empty t =
+    ap (λ l. get_or (rows_of l) t []) e ∙ ap (λ l. get_or l t []) (map-append (λ v. v.items) rows (row ∷ [])) ∙ all_empty (rows_of rows) row.items none empty t
 
 later : (w : Bits) (i k : ℕ) → i ≤ k → ones_to w i ≤ ones_to w k
 later w i k l = (let e : ones_to w (i + (k - i)) ≡ ones_to w k = ap (ones_to w) (omega arith) in omega (arith, ones_to-later w i (k - i)))

@@ -9,7 +9,7 @@ ghost use Rattle.lucy_cause.specs.Play.{Becomes, IsWithinRings};
 use lucy_net::{Actor, Move, firing_move};
 
 /// What an actor did or waits for. Rings count from 0.
-#[derive(Clone, Copy, Debug, PartialEq, Eq)]
+#[derive(Clone, Copy)]
 pub(crate) enum Event {
     /// It took an item.
     Took,

@@ -10,7 +10,7 @@ use lucy_net::Net;
 use lucy_word::{Limit, Word, lcm};
 
 /// The greatest prefix length of words, and the least common multiple of their period lengths.
-#[derive(Clone, Copy, Debug, PartialEq, Eq)]
+#[derive(Clone, Copy)]
 pub(crate) struct Lengths {
     pub prefix: u64,
     pub period: u64,

@@ -11,7 +11,7 @@ use lucy_net::Net;
 use std::alloc::{AllocError, Global};
 
 /// The actor waits for an item of the ring.
-#[derive(Clone, Copy, Debug, PartialEq, Eq)]
+#[derive(Clone, Copy)]
 pub(crate) struct Wait {
     pub actor: u32,
     pub ring: u32,

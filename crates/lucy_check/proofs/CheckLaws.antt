@@ -12,7 +12,7 @@ use Rattle.lucy_word.specs.Adaptable.{IsAdaptable}
 use Rattle.lucy_need.specs.declared.need.Term.{Term}
 use Rattle.lucy_need.specs.declared.need.Need.{Need}
 use Rattle.lucy_need.specs.declared.need.Need.TheVariants.{Equal, Adapt}
-use Rattle.lucy_need.specs.Meeting.{Assignment, Meets, MeetsAll, assigned}
+use Rattle.lucy_need.specs.Meeting.{Assignment, first_of, second_of, IsWithin, Meets, MeetsAll, assigned}
 use Rattle.lucy_word.specs.Stored.{IsStored}
 use Rattle.lucy_word.specs.Always.{always}
 use Rattle.lucy_word.proofs.AdaptableLaws.{adaptable_same}
@@ -48,6 +48,20 @@ passing w t a word e on stored within = record {
 -- two words have one horizon
 pub horizon_one : (a b : Bits) (m n : ℕ) → IsHorizon a b m → IsHorizon a b n → m ≡ n
 horizon_one a b m n h k = omega (arith, h.2, k.2, lcm_one (length a.period) (length b.period) h.0 k.0 h.1 k.1)
+
+-- the clocks of a need's terms
+pub both_within : (n : ℕ) (need : Need) → IsWithin n need → ((first_of need).clock < n) × ((second_of need).clock < n)
+both_within n (Equal s t) h = h
+both_within n (Adapt s t) h = h
+
+-- what is known of its terms
+pub of_terms : (w : Assignment) (need : Need) (s t : Term) (a b : Bits) → s ≡ first_of need → t ≡ second_of need → AreWithinLimits w s t a b → AreWithinLimits w (first_of need) (second_of need) a b
+of_terms w need s t a b e f h =
+    subst (λ (x : Term). AreWithinLimits w x (second_of need) a b) e (subst (λ (x : Term). AreWithinLimits w s x a b) f h)
+
+pub limit_refuses : (w : Assignment) (number : ℕ) (need : Need) (e : CheckFault) → PassesTermLimit w (first_of need) (second_of need) number e → RefusesNeed w number need e
+limit_refuses w number (Equal s t) e h = inl h
+limit_refuses w number (Adapt s t) e h = inl h
 
 -- a need that is passed is met
 pub passes_meets : (w : Assignment) (need : Need) (size : Option ℕ) → Passes w need size → Meets w need

@@ -5,7 +5,7 @@ use lucy_word::Limit;
 use std::alloc::{AllocError, AllocFailed};
 
 /// Why words are refused, with the number of the first need that refuses them. Needs count from 0, instants from 1.
-#[derive(Clone, Copy, Debug, PartialEq, Eq)]
+#[derive(Clone, Copy)]
 pub enum CheckFault {
     /// The terms of an equation have different bits, at this instant first.
     Differs { need: u32, instant: u64 },

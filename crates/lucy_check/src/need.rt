@@ -1,9 +1,10 @@
 // One need: the words of its terms, and how they stand to each other.
-ghost use Rattle.std.specs.Prelude.{◌≡◌, ◌⊎◌, ◌<◌, ◌≤◌, length, IsTrue, IfOk, IfErr};
+ghost use Rattle.std.specs.Prelude.{◌≡◌, ◌⊎◌, ◌↔◌, ◌<◌, ◌≤◌, length, IsTrue, IfOk, IfErr};
 ghost use Rattle.lucy_word.specs.declared.limit.Limit.TheVariants as lim;
-ghost use Rattle.lucy_need.specs.Meeting.{Assignment, assigned, IsTermWord, IsWithin};
+ghost use Rattle.lucy_need.specs.Meeting.{Assignment, assigned, first_of, second_of, IsTermWord, IsWithin};
 ghost use Rattle.lucy_word.specs.Always.{always};
 ghost use Rattle.lucy_word.specs.Stored.{IsStored};
+ghost use Rattle.lucy_order.specs.Horizon.{AreFar};
 ghost use Rattle.lucy_check.specs.Passing.{AreWithinLimits, OrNoMemory, PassesWord, PassesTermLimit, Passes, RefusesNeed, IsTermPassing};
 ghost use Rattle.lucy_check.specs.Lent.{seen, IsKept};
 ghost use Rattle.lucy_check.specs.declared.fault.CheckFault.TheVariants as fault;
@@ -116,6 +117,13 @@ fn kept_of<'w>(term: &'w Term, word: Sampled<'w>) -> Option<Kept<'w>>
     }
 }
 
+// Whether the instants that decide about two words are too many.
+fn are_far(a: &Sampled<'_>, b: &Sampled<'_>) -> bool
+    ensures { IsTrue result ↔ AreFar (seen a.now) (seen b.now) }
+{
+    horizon_of(a.word(), b.word()) > Limit::Compare.number()
+}
+
 // The words of both terms of the need, where no limit is passed.
 fn words_within<'w>(
     alloc: Global,
@@ -133,13 +141,42 @@ fn words_within<'w>(
 {
     let a = word_of(alloc, need, first, words)?;
     let b = word_again(alloc, need, second, words, kept)?;
-    if horizon_of(a.word(), b.word()) > Limit::Compare.number() {
+    if are_far(&a, &b) {
         return Err(CheckFault::Limit {
             need,
             limit: Limit::Compare,
         });
     }
     Ok((a, b))
+}
+
+// Whether the words of its terms meet the need of a number: the size of the buffer, where it is one of a buffer.
+fn judged(
+    number: u32,
+    need: &Need,
+    a: &Sampled<'_>,
+    b: &Sampled<'_>,
+) -> Result<Option<u64>, CheckFault>
+    ensures ok { IfOk result (λ size. (w : Assignment) → AreWithinLimits w (first_of need.now) (second_of need.now) (seen a.now) (seen b.now) → Passes w need.now size) }
+    ensures refused { IfErr result (λ e. (w : Assignment) → AreWithinLimits w (first_of need.now) (second_of need.now) (seen a.now) (seen b.now) → RefusesNeed w number need.now e) }
+{
+    match need {
+        Need::Equal(_, _) => match first_difference(a.word(), b.word()) {
+            None => Ok(None),
+            Some(instant) => Err(CheckFault::Differs {
+                need: number,
+                instant,
+            }),
+        },
+        Need::Adapt(_, _) => match adapt(a.word(), b.word()) {
+            Verdict::Adaptable(size) => Ok(Some(size)),
+            Verdict::Rates => Err(CheckFault::Rates { need: number }),
+            Verdict::Late(instant) => Err(CheckFault::Late {
+                need: number,
+                instant,
+            }),
+        },
+    }
 }
 
 /// Checks the need of a number: the size of the buffer, where it is one of a buffer, and what is kept of the word of its second
@@ -157,27 +194,8 @@ pub(crate) fn check_need<'w>(
     ensures kept { IfOk result (λ p. IsKept (assigned words.now) p.1) }
     ensures refused { IfErr result (OrNoMemory (RefusesNeed (assigned words.now) number need.now)) }
 {
-    match need {
-        Need::Equal(first, second) => {
-            let (a, b) = words_within(alloc, number, first, second, words, kept)?;
-            match first_difference(a.word(), b.word()) {
-                None => Ok((None, kept_of(second, b))),
-                Some(instant) => Err(CheckFault::Differs {
-                    need: number,
-                    instant,
-                }),
-            }
-        }
-        Need::Adapt(first, second) => {
-            let (a, b) = words_within(alloc, number, first, second, words, kept)?;
-            match adapt(a.word(), b.word()) {
-                Verdict::Adaptable(size) => Ok((Some(size), kept_of(second, b))),
-                Verdict::Rates => Err(CheckFault::Rates { need: number }),
-                Verdict::Late(instant) => Err(CheckFault::Late {
-                    need: number,
-                    instant,
-                }),
-            }
-        }
-    }
+    let (first, second) = need.terms();
+    let (a, b) = words_within(alloc, number, first, second, words, kept)?;
+    let size = judged(number, need, &a, &b)?;
+    Ok((size, kept_of(second, b)))
 }

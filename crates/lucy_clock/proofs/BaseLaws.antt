@@ -4,7 +4,7 @@ use Rattle.std.specs.Prelude.{slice_get}
 use Rattle.std.specs.Option.{option_map_or}
 use Rattle.std.proofs.lemmas.List.{take_more, take_all, drop_all, append-nil, map-append, length-map}
 use Rattle.std.proofs.lemmas.List.Sums.{sum_by-cons, sum_by-append}
-use Rattle.std.proofs.lemmas.Option.{same_Some, slice_get_within, slice_get-get_or, get_or_from_slice_get}
+use Rattle.std.proofs.lemmas.Option.{same_Some, slice_get_read, slice_get_within, slice_get-get_or, get_or_from_slice_get}
 use Rattle.lucy_word.specs.Bits.{Bits, bit_count}
 use Rattle.std.specs.List.{AllByRecursion}
 use Rattle.lucy_word.specs.Shortest.{Same}
@@ -52,6 +52,11 @@ can_hand_down nodes n readers proper is_written few are all = record {
 
 pub bases_of : (n : PlacedNode) → IsWritten n → HaveBases n.calls
 bases_of n is_written i site e = is_written.bases (suc i) site e
+
+-- one of them alone
+pub base_alone : (sites : List CallSite) (k : ℕ) (site : CallSite) → k < length sites → site ≡ get_or sites k site → HaveBases sites → HaveBases (site ∷ [])
+base_alone sites k site l is bases zero s e = bases k s (slice_get_read sites (length sites) k site refl l is ∙ e)
+base_alone sites k site l is bases (suc i) s e = absurd (cc)
 
 -- the bits of one word more
 pub bits_push : (words : List Bits) (next : Bits) → word_bits (words ++ next ∷ []) ≡ word_bits words + bit_count next

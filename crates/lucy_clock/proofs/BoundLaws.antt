@@ -1,5 +1,6 @@
 -- A buffer keeps its written bound exactly where its reader's clock is adaptable to its writer's on so many zeros and then ones.
-use Rattle.std.proofs.Common.{ℕ, zero, suc, ◌+◌, ◌-◌, ◌*◌, ◌/◌, ◌%◌, ◌<◌, ◌≤◌, ◌≡◌, max, true, false, [], ◌∷◌, length, get_or, Option, Some, None, ap, sym, ◌∙◌, subst, inl, inr, arith}
+use Rattle.std.proofs.Common.{ℕ, zero, suc, ◌+◌, ◌-◌, ◌*◌, ◌/◌, ◌%◌, ◌<◌, ◌≤◌, ◌≡◌, max, true, false, [], ◌∷◌, ◌++◌, length, get_or, Option, Some, None, ap, sym, ◌∙◌, refl, subst, inl, inr, arith, add-one}
+use Rattle.std.specs.Prelude.{replicate}
 use Rattle.std.proofs.Math.Nat.{div-add-mod, mod-lt}
 use Rattle.std.proofs.lemmas.Nat.{mul-le}
 use Rattle.std.proofs.lemmas.Bool.{cases_lt}
@@ -20,6 +21,13 @@ use Rattle.lucy_clock.specs.WellClocked.{KeepsBound}
 use Rattle.lucy_clock.specs.Listing.{delayed, bound_needs}
 
 -- zeros, then ones
+pub zeros_more : (n : ℕ) → replicate (n + 1) false ≡ replicate n false ++ false ∷ []
+zeros_more n = ap (λ k. replicate k false) (add-one n) ∙ more n
+  where
+    more : (k : ℕ) → replicate (suc k) false ≡ replicate k false ++ false ∷ []
+    more zero = refl
+    more (suc k) = ap (λ t. false ∷ t) (more k)
+
 delayed_before : (n i : ℕ) → 0 < i → i ≤ n → bit_at (delayed n) i ≡ false
 delayed_before n i some h =
     let l = length-replicate n false in

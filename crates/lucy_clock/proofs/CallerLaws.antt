@@ -1,9 +1,11 @@
 -- What the callers of one node more need of its clocks.
-use Rattle.std.proofs.Common.{ℕ, zero, suc, ◌+◌, ◌<◌, ◌≤◌, ◌≡◌, List, [], ◌∷◌, ◌++◌, length, take, drop, Some, ap, sym, refl, ◌∙◌, subst, arith, length-drop}
+use Rattle.std.proofs.Common.{ℕ, zero, suc, ◌+◌, ◌<◌, ◌≤◌, ◌≡◌, List, [], ◌∷◌, ◌++◌, length, map, take, drop, get_or, Some, ap, sym, refl, ◌∙◌, subst, arith, length-drop, add-one, drop-cons, append_assoc}
 use Rattle.std.specs.Prelude.{slice_get}
 use Rattle.std.specs.List.{AllByRecursion}
 use Rattle.std.proofs.lemmas.List.{take_more, take-take, length-take-le, length-map}
 use Rattle.std.proofs.lemmas.Option.{same_Some, slice_get_within, get_or_from_slice_get}
+use Rattle.lucy_word.specs.Bits.{Bits}
+use Rattle.lucy_need.specs.Meeting.{assigned}
 use Rattle.lucy_place.specs.Standing.{ArePlaces}
 use Rattle.lucy_place.specs.Proper.{IsProperNode, AreProper}
 use Rattle.lucy_place.specs.declared.placed.PlacedNode.{PlacedNode}
@@ -93,3 +95,11 @@ signatures_more nodes clocks i n c at of =
 pub places_within : (n : PlacedNode) (ps : List ℕ) (count : ℕ) → length n.places < count → ArePlaces n ps → AllByRecursion (λ place. place < count) ps
 places_within n [] count l all = tt
 places_within n (p ∷ ps) count l all = ((let h = all.0.1 in omega (arith, l)), places_within n ps count l all.1)
+
+-- one copy more of the words of places
+pub copied_more : (words copied more all : List Bits) (places : List ℕ) (i : ℕ) (word : Bits) → i < length places → word ≡ assigned words (get_or places i 0) → more ≡ copied ++ word ∷ [] →
+    copied ++ map (assigned words) (drop i places) ≡ all → more ++ map (assigned words) (drop (i + 1) places) ≡ all
+copied_more words copied more all places i word l is put before =
+    let rest : List Bits = map (assigned words) (drop (i + 1) places) in
+    let next : drop i places ≡ get_or places i 0 ∷ drop (i + 1) places = drop-cons places i 0 l ∙ ap (λ n. get_or places i 0 ∷ drop n places) (sym (add-one i)) in
+    ap (λ ws. ws ++ rest) (put ∙ ap (λ w. copied ++ w ∷ []) is) ∙ append_assoc copied (assigned words (get_or places i 0) ∷ []) rest ∙ ap (λ ps. copied ++ map (assigned words) ps) (sym next) ∙ before

@@ -1,7 +1,7 @@
 -- What listing asks of a node holds of a proper one.
-use Rattle.std.proofs.Common.{ℕ, zero, suc, ◌+◌, ◌-◌, ◌^◌, ◌<◌, ◌≤◌, ◌≡◌, List, [], ◌∷◌, Option, Some, None, length, sym, refl, ◌∙◌, subst, arith}
+use Rattle.std.proofs.Common.{ℕ, zero, suc, ◌+◌, ◌-◌, ◌^◌, ◌<◌, ◌≤◌, ◌≡◌, List, [], ◌∷◌, Option, Some, None, length, get_or, ap, sym, refl, ◌∙◌, subst, arith}
 use Rattle.std.specs.Prelude.{slice_get, slice_index_or}
-use Rattle.std.proofs.lemmas.Option.{slice_get_within, slice_get-get_or}
+use Rattle.std.proofs.lemmas.Option.{same_Some, slice_get_read, slice_get_within, slice_get-get_or}
 use Rattle.std.specs.List.{AllByRecursion}
 use Rattle.lucy_tree.specs.Shaped.{IsBound}
 use Rattle.lucy_place.specs.declared.entry.PlaceKind.{PlaceKind}
@@ -14,13 +14,21 @@ use Rattle.lucy_clock.specs.Clocks.{AreSignatures, clocks_of}
 use Rattle.lucy_clock.specs.Listing.{no_signature}
 use Rattle.lucy_clock.specs.Drafts.{IsListedCall, IsListedKind, IsListedNode}
 
-one_within : {A : Type 0} (xs : List A) (p : ℕ) (x : A) → at_one xs p ≡ Some x → p ≤ length xs
+pub one_within : {A : Type 0} (xs : List A) (p : ℕ) (x : A) → at_one xs p ≡ Some x → p ≤ length xs
 one_within xs zero x e = omega arith
 one_within xs (suc i) x e = let l = slice_get_within xs i x e in omega arith
 
-one_some : {A : Type 0} (xs : List A) (p : ℕ) (x : A) → at_one xs p ≡ Some x → 0 < p
+pub one_some : {A : Type 0} (xs : List A) (p : ℕ) (x : A) → at_one xs p ≡ Some x → 0 < p
 one_some xs zero x e = absurd (cc)
 one_some xs (suc i) x e = omega arith
+
+-- the call of a number, as it is read from the list of calls
+pub call_here : (calls sites : List CallSite) (call : ℕ) (site found : CallSite) → sites ≡ calls → at_one calls call ≡ Some site → found ≡ get_or sites (call - 1) found → site ≡ found
+call_here calls sites zero site found e at is = absurd (cc)
+call_here calls sites (suc i) site found e at is =
+    let k : suc i - 1 ≡ i = omega arith in
+    let there : slice_get sites i ≡ Some site = ap (λ l. slice_get l i) e ∙ at in
+    same_Some site found (sym there ∙ slice_get_read sites (length sites) i found refl (slice_get_within sites i site there) (is ∙ ap (λ n. get_or sites n found) k))
 
 -- a bound is no greater than it may be
 small_at : (bounds : List (Option ℕ)) (i : ℕ) → AllByRecursion IsBound bounds → IsBound (slice_index_or bounds i None)

@@ -35,8 +35,8 @@ abbrev pub AreReadersUpto : PlacedNode → ℕ → List ℕ → Type 0
 AreReadersUpto n upto readers = (p k q : ℕ) → p ≤ upto → IsUnnamed n q → Reads n p k q → slice_index readers (q - 1) ≡ p
 
 -- operands are places
-abbrev pub ReadPlacesAlone : PlacedNode → Type 0
-ReadPlacesAlone n = (p q : ℕ) (entry : PlaceEntry) → at_one n.places p ≡ Some entry → IsAmong (operands_of entry.kind) q → IsPlace n q
+abbrev pub ReadOnlyPlaces : PlacedNode → Type 0
+ReadOnlyPlaces n = (p q : ℕ) (entry : PlaceEntry) → at_one n.places p ≡ Some entry → IsAmong (operands_of entry.kind) q → IsPlace n q
 
 -- the word of a merge has a complement
 abbrev pub HasTurned : PlaceKind → Type 0

@@ -3,7 +3,7 @@ ghost use Rattle.std.specs.Prelude.{ℕ, ◌≡◌, ◌↔◌, ◌≤◌, ◌<�
 ghost use Rattle.lucy_place.specs.Reads.{AreReadOnce, operands_of};
 ghost use Rattle.lucy_place.specs.WrittenNodes.{IsWritten};
 ghost use Rattle.lucy_clock.specs.declared.error.ClockError.TheVariants as err;
-ghost use Rattle.lucy_clock.specs.Reading.{IsAmong, Marks, ReadPlacesAlone, AreReadersUpto, AsksFor, MarksLast, AreLasts, CanHandDown};
+ghost use Rattle.lucy_clock.specs.Reading.{IsAmong, Marks, ReadOnlyPlaces, AreReadersUpto, AsksFor, MarksLast, AreLasts, CanHandDown};
 
 use crate::error::ClockError;
 use lucy_place::{PlaceEntry, PlaceKind, PlacedNode};
@@ -42,7 +42,7 @@ fn mark_kind(readers: &mut [u32], place: u32, kind: &PlaceKind)
 fn mark_all(readers: &mut [u32], node: &PlacedNode)
     requires few { length node.now.places < 2 ^ 32 }
     requires all { length readers.old ≡ length node.now.places }
-    requires inside { ReadPlacesAlone node.now }
+    requires inside { ReadOnlyPlaces node.now }
     requires written { IsWritten node.now }
     requires once { AreReadOnce node.now }
     ensures all { length readers.new ≡ length node.now.places }
@@ -57,7 +57,7 @@ fn mark_all(readers: &mut [u32], node: &PlacedNode)
 /// For each place without a name the place that hands down its word.
 pub(crate) fn readers(alloc: Global, node: &PlacedNode) -> Result<Vec<u32>, ClockError>
     requires few { length node.now.places < 2 ^ 32 }
-    requires inside { ReadPlacesAlone node.now }
+    requires inside { ReadOnlyPlaces node.now }
     requires written { IsWritten node.now }
     requires once { AreReadOnce node.now }
     ensures all { IfOk result (λ v. length v.items ≡ length node.now.places) }

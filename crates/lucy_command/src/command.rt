@@ -3,7 +3,7 @@ ghost use Rattle.std.specs.Prelude.{◌≡◌, ◌≤◌, IfSome};
 ghost use Rattle.std.specs.Option.{option_map};
 ghost use Rattle.lucy_command.specs.Commands as spec;
 ghost use Rattle.lucy_command.specs.declared.names.Name.TheVariants as Name;
-ghost use Rattle.lucy_command.specs.Named.{named, clocks_named, kahn_named, run_named, tighten_named, replay_named, trace_named, AreStages, IsOf, IsWithin};
+ghost use Rattle.lucy_command.specs.Named.{named, clocks_named, kahn_named, AreStages, IsOf, IsWithin};
 ghost use Rattle.lucy_command.specs.Names.{most_buffer};
 ghost use Rattle.lucy_command.specs.Parts.{halves_at};
 ghost use Rattle.lucy_command.specs.Seen.{seen, seen_text};
@@ -123,12 +123,12 @@ fn clocks_with<'a>(operand: Option<&'a str>, texts: &Texts<'a>) -> Option<Clocks
     Some(ClocksWords { file, scale, lead })
 }
 
-// What `clocks` works on.
-fn clocks_words<'a>(texts: &Texts<'a>) -> Option<ClocksWords<'a>>
-    ensures is { option_map clocks_named result ≡ spec.clocks_words (seen texts.now) }
-    ensures within { IfSome result (λ w. IsOf Setting.Scale w.scale × IsOf Setting.Lead w.lead) }
+// `clocks` of these texts.
+fn clocks_command<'a>(texts: &Texts<'a>) -> Option<Command<'a>>
+    ensures is { option_map named result ≡ spec.command_with Name.Clocks (seen texts.now) }
+    ensures within { IfSome result (λ command. IsWithin (named command)) }
 {
-    clocks_with(operand_of(texts), texts)
+    Some(Command::Clocks(clocks_with(operand_of(texts), texts)?))
 }
 
 // The file, the scale and the lead, and the instants.
@@ -154,10 +154,10 @@ fn kahn_words<'a>(texts: &Texts<'a>) -> Option<KahnWords<'a>>
     program_with(operand_of(texts), texts)
 }
 
-// What `run` works on.
-fn run_words<'a>(texts: &Texts<'a>) -> Option<RunWords<'a>>
-    ensures is { option_map run_named result ≡ spec.run_with (seen texts.now) }
-    ensures within { IfSome result (λ w. IsWithin (run_named w)) }
+// `run` of these texts.
+fn run_command<'a>(texts: &Texts<'a>) -> Option<Command<'a>>
+    ensures is { option_map named result ≡ spec.command_with Name.Run (seen texts.now) }
+    ensures within { IfSome result (λ command. IsWithin (named command)) }
 {
     let KahnWords {
         file,
@@ -166,28 +166,28 @@ fn run_words<'a>(texts: &Texts<'a>) -> Option<RunWords<'a>>
         instants,
     } = kahn_words(texts)?;
     let (workers, block) = playing_of(texts)?;
-    Some(RunWords {
+    Some(Command::Run(RunWords {
         file,
         scale,
         lead,
         instants,
         workers,
         block,
-    })
+    }))
 }
 
-// What `make` works on.
-fn make_words(texts: &Texts<'_>) -> Option<MakeWords>
-    ensures is { result ≡ spec.make_words (seen texts.now) }
-    ensures within { IfSome result (λ w. IsWithin (spec.Make w)) }
+// `make` of these texts.
+fn make_command<'a>(texts: &Texts<'a>) -> Option<Command<'a>>
+    ensures is { option_map named result ≡ spec.command_with Name.Make (seen texts.now) }
+    ensures within { IfSome result (λ command. IsWithin (named command)) }
 {
     let stages = stages_of(operand_of(texts))?;
     let (workers, block) = playing_of(texts)?;
-    Some(MakeWords {
+    Some(Command::Make(MakeWords {
         stages,
         workers,
         block,
-    })
+    }))
 }
 
 // What stands before the first `.` of a text, and behind it.
@@ -210,26 +210,26 @@ fn buffer_of(text: &str) -> Option<(&str, u32)>
     Some((node, buffer))
 }
 
-// What `tighten` works on.
-fn tighten_words<'a>(texts: &Texts<'a>) -> Option<TightenWords<'a>>
-    ensures is { option_map tighten_named result ≡ spec.tighten_with (seen texts.now) }
-    ensures within { IfSome result (λ w. IsWithin (tighten_named w)) }
+// `tighten` of these texts.
+fn tighten_command<'a>(texts: &Texts<'a>) -> Option<Command<'a>>
+    ensures is { option_map named result ≡ spec.command_with Name.Tighten (seen texts.now) }
+    ensures within { IfSome result (λ command. IsWithin (named command)) }
 {
     let ClocksWords { file, scale, lead } = clocks_with(texts.first, texts)?;
     let (node, buffer) = buffer_of(texts.second?)?;
-    Some(TightenWords {
+    Some(Command::Tighten(TightenWords {
         file,
         node,
         buffer,
         scale,
         lead,
-    })
+    }))
 }
 
-// What `replay` works on.
-fn replay_words<'a>(texts: &Texts<'a>) -> Option<ReplayWords<'a>>
-    ensures is { option_map replay_named result ≡ spec.replay_with (seen texts.now) }
-    ensures within { IfSome result (λ w. IsWithin (replay_named w)) }
+// `replay` of these texts.
+fn replay_command<'a>(texts: &Texts<'a>) -> Option<Command<'a>>
+    ensures is { option_map named result ≡ spec.command_with Name.Replay (seen texts.now) }
+    ensures within { IfSome result (λ command. IsWithin (named command)) }
 {
     let KahnWords {
         file,
@@ -238,19 +238,19 @@ fn replay_words<'a>(texts: &Texts<'a>) -> Option<ReplayWords<'a>>
         instants,
     } = program_with(texts.first, texts)?;
     let log = texts.second?;
-    Some(ReplayWords {
+    Some(Command::Replay(ReplayWords {
         file,
         log,
         scale,
         lead,
         instants,
-    })
+    }))
 }
 
-// What `trace` works on.
-fn trace_words<'a>(texts: &Texts<'a>) -> Option<TraceWords<'a>>
-    ensures is { option_map trace_named result ≡ spec.trace_with (seen texts.now) }
-    ensures within { IfSome result (λ w. IsWithin (trace_named w)) }
+// `trace` of these texts.
+fn trace_command<'a>(texts: &Texts<'a>) -> Option<Command<'a>>
+    ensures is { option_map named result ≡ spec.command_with Name.Trace (seen texts.now) }
+    ensures within { IfSome result (λ command. IsWithin (named command)) }
 {
     let KahnWords {
         file,
@@ -259,13 +259,13 @@ fn trace_words<'a>(texts: &Texts<'a>) -> Option<TraceWords<'a>>
         instants,
     } = kahn_words(texts)?;
     let workers = workers_of(texts.workers)?;
-    Some(TraceWords {
+    Some(Command::Trace(TraceWords {
         file,
         scale,
         lead,
         instants,
         workers,
-    })
+    }))
 }
 
 /// The command of this name with these texts, where they fit it.
@@ -281,12 +281,12 @@ pub(crate) fn command_with<'a>(name: Name, texts: &Texts<'a>) -> Option<Command<
         Name::Show => Some(Command::Show(operand_of(texts)?)),
         Name::Types => Some(Command::Types(operand_of(texts)?)),
         Name::Check => Some(Command::Check(operand_of(texts)?)),
-        Name::Clocks => Some(Command::Clocks(clocks_words(texts)?)),
-        Name::Run => Some(Command::Run(run_words(texts)?)),
+        Name::Clocks => clocks_command(texts),
+        Name::Run => run_command(texts),
         Name::Kahn => Some(Command::Kahn(kahn_words(texts)?)),
-        Name::Make => Some(Command::Make(make_words(texts)?)),
-        Name::Tighten => Some(Command::Tighten(tighten_words(texts)?)),
-        Name::Replay => Some(Command::Replay(replay_words(texts)?)),
-        Name::Trace => Some(Command::Trace(trace_words(texts)?)),
+        Name::Make => make_command(texts),
+        Name::Tighten => tighten_command(texts),
+        Name::Replay => replay_command(texts),
+        Name::Trace => trace_command(texts),
     }
 }

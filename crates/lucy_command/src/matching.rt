@@ -25,21 +25,16 @@ fn option<'a>(alloc: Global, name: &'a str) -> Arg<'a>
 fn command_line<'a>(alloc: Global) -> Result<Command<'a>, AllocError>
     ensures { IfOk result (λ command. app_of command ≡ app) }
 {
-    let scale = option(alloc, "scale");
-    let lead = option(alloc, "lead");
-    let instants = option(alloc, "instants");
-    let workers = option(alloc, "workers");
-    let block = option(alloc, "block");
-    let first = Arg::new(alloc, "first");
-    let second = Arg::new(alloc, "second");
-    Command::new(alloc, "lucy")
-        .arg(scale)?
-        .arg(lead)?
-        .arg(instants)?
-        .arg(workers)?
-        .arg(block)?
-        .arg(first)?
-        .arg(second)
+    let all = vec![in alloc;
+        option(alloc, "scale"),
+        option(alloc, "lead"),
+        option(alloc, "instants"),
+        option(alloc, "workers"),
+        option(alloc, "block"),
+        Arg::new(alloc, "first"),
+        Arg::new(alloc, "second"),
+    ]?;
+    Command::new(alloc, "lucy").args(all)
 }
 
 // What `clap` finds: each option has a text, and each operand too.

@@ -34,62 +34,34 @@ pub(crate) enum Setting {
 pub(crate) fn name_of(word: &str) -> Option<Name>
     ensures { result ≡ spec.name_of word.now }
 {
-    if word == "order" {
-        return Some(Name::Order);
+    match word {
+        "order" => Some(Name::Order),
+        "show" => Some(Name::Show),
+        "types" => Some(Name::Types),
+        "check" => Some(Name::Check),
+        "clocks" => Some(Name::Clocks),
+        "run" => Some(Name::Run),
+        "kahn" => Some(Name::Kahn),
+        "make" => Some(Name::Make),
+        "tighten" => Some(Name::Tighten),
+        "replay" => Some(Name::Replay),
+        "trace" => Some(Name::Trace),
+        _ => None,
     }
-    if word == "show" {
-        return Some(Name::Show);
-    }
-    if word == "types" {
-        return Some(Name::Types);
-    }
-    if word == "check" {
-        return Some(Name::Check);
-    }
-    if word == "clocks" {
-        return Some(Name::Clocks);
-    }
-    if word == "run" {
-        return Some(Name::Run);
-    }
-    if word == "kahn" {
-        return Some(Name::Kahn);
-    }
-    if word == "make" {
-        return Some(Name::Make);
-    }
-    if word == "tighten" {
-        return Some(Name::Tighten);
-    }
-    if word == "replay" {
-        return Some(Name::Replay);
-    }
-    if word == "trace" {
-        return Some(Name::Trace);
-    }
-    None
 }
 
 // The option that a word is.
 fn setting_of(word: &str) -> Option<Setting>
     ensures { result ≡ spec.setting_of word.now }
 {
-    if word == "--scale" {
-        return Some(Setting::Scale);
+    match word {
+        "--scale" => Some(Setting::Scale),
+        "--lead" => Some(Setting::Lead),
+        "--instants" => Some(Setting::Instants),
+        "--workers" => Some(Setting::Workers),
+        "--block" => Some(Setting::Block),
+        _ => None,
     }
-    if word == "--lead" {
-        return Some(Setting::Lead);
-    }
-    if word == "--instants" {
-        return Some(Setting::Instants);
-    }
-    if word == "--workers" {
-        return Some(Setting::Workers);
-    }
-    if word == "--block" {
-        return Some(Setting::Block);
-    }
-    None
 }
 
 /// The greatest scale, and the greatest lead.

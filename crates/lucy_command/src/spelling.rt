@@ -17,11 +17,17 @@ fn or_empty(text: Option<&str>) -> &str
     }
 }
 
-// One word more.
-fn add(words: &mut Vec<String>, word: String) -> Result<(), OutOfMemory>
-    ensures { OnOk result (map string_bytes words.new.items ≡ map string_bytes words.old.items ++ (string_bytes word ∷ [])) }
+// One word more: what it begins with, and then the text, where there is one.
+fn add(
+    alloc: Global,
+    words: &mut Vec<String>,
+    front: &str,
+    text: Option<&str>,
+) -> Result<(), OutOfMemory>
+    ensures { OnOk result (map string_bytes words.new.items ≡ map string_bytes words.old.items ++ ((front.now ++ spec.or_empty (seen_text text.entry)) ∷ [])) }
 {
-    words.push(word)?;
+    let text = or_empty(text);
+    words.push(format!(in alloc; "{front}{text}")?)?;
     Ok(())
 }
 
@@ -34,19 +40,13 @@ pub(crate) fn spell(
     requires { words.old.items ≡ [] }
     ensures { OnOk result (map string_bytes words.new.items ≡ spec.canonical (seen texts.now)) }
 {
-    let scale = or_empty(texts.scale);
-    let lead = or_empty(texts.lead);
-    let instants = or_empty(texts.instants);
-    let workers = or_empty(texts.workers);
-    let block = or_empty(texts.block);
-    add(words, format!(in alloc; "lucy")?)?;
-    add(words, format!(in alloc; "--scale={scale}")?)?;
-    add(words, format!(in alloc; "--lead={lead}")?)?;
-    add(words, format!(in alloc; "--instants={instants}")?)?;
-    add(words, format!(in alloc; "--workers={workers}")?)?;
-    add(words, format!(in alloc; "--block={block}")?)?;
-    add(words, format!(in alloc; "--")?)?;
-    add(words, format!(in alloc; "{}", or_empty(texts.first))?)?;
-    add(words, format!(in alloc; "{}", or_empty(texts.second))?)?;
-    Ok(())
+    add(alloc, words, "lucy", None)?;
+    add(alloc, words, "--scale=", texts.scale)?;
+    add(alloc, words, "--lead=", texts.lead)?;
+    add(alloc, words, "--instants=", texts.instants)?;
+    add(alloc, words, "--workers=", texts.workers)?;
+    add(alloc, words, "--block=", texts.block)?;
+    add(alloc, words, "--", None)?;
+    add(alloc, words, "", texts.first)?;
+    add(alloc, words, "", texts.second)
 }

@@ -12,7 +12,7 @@ use Rattle.lucy_net.specs.States.{IsActorState, IsNext}
 use Rattle.lucy_core.specs.Circles.{HeldItems}
 use Rattle.lucy_core.specs.declared.machine.Core.TheInside.{Inside}
 use Rattle.lucy_core.specs.contracts.machine.Core.{the_invariant, the_view}
-use Rattle.lucy_core.specs.Seen.{Seen, machine_of, machine_on, order_on, done_of, state_on, CanStep, MakesCore}
+use Rattle.lucy_core.specs.Seen.{Seen, machine_of, machine_on, order_on, done_of, state_on, CanStep, CanMakeCore}
 use Rattle.lucy_core.specs.Inside.{left_in, going_in, KeepsState}
 use Rattle.lucy_core.proofs.SeenLaws.{IsMachineOf, machine_is}
 use Rattle.lucy_core.proofs.StepLaws.{actor_inside, ring_inside, actor_read, state_read, circle_read, firing_here, op_there, count_few}
@@ -28,7 +28,7 @@ sound_of x seen holds is =
 
 -- what is at hand when an operation begins
 pub record IsAtHand (x : Inside) (a : ℕ) (op : RingOp) : Type 0 where
-  pub fixed : MakesCore x.net x.schedule x.inputs x.ops x.instants
+  pub fixed : CanMakeCore x.net x.schedule x.inputs x.ops x.instants
   pub kept : KeepsState x.net (machine_on x.net x.inputs (kinds_of x.ops) x.instants) (order_on x.schedule x.instants) x.instants x.done.items x.states.items x.circles.items x.trays.items
   pub machine : IsMachineOf x.net (machine_on x.net x.inputs (kinds_of x.ops) x.instants) (order_on x.schedule x.instants) x.inputs (kinds_of x.ops) x.instants
   pub can : IsPossible (machine_on x.net x.inputs (kinds_of x.ops) x.instants).sys (done_of x.done.items) a

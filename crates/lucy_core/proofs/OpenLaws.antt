@@ -20,7 +20,7 @@ use Rattle.lucy_event.specs.Schedules.{events_to}
 use Rattle.lucy_cause.specs.Schedules.{Timetable, events_at}
 use Rattle.lucy_net.proofs.NetLaws.{task_at, plugged}
 use Rattle.lucy_net.proofs.BackLaws.{fed, quotas}
-use Rattle.lucy_core.specs.Seen.{Seen, machine_of, machine_on, order_of, order_on, done_of, state_on, one_more, more_done, stepped, after_picks, CanRun, IsOver, MakesCore, IsOutputOf, first_ring, state_of, plan_of, stream_of}
+use Rattle.lucy_core.specs.Seen.{Seen, machine_of, machine_on, order_of, order_on, done_of, state_on, one_more, more_done, stepped, after_picks, CanRun, IsOver, CanMakeCore, IsOutputOf, first_ring, state_of, plan_of, stream_of}
 use Rattle.lucy_core.proofs.SeenLaws.{IsMachineOf, state_is, state_done}
 use Rattle.lucy_core.proofs.PickLaws.{done_more, more_after, events_front, events_next}
 use Rattle.lucy_event.proofs.CountedLaws.{counted_later}
@@ -31,7 +31,7 @@ use Rattle.lucy_net.specs.declared.net.RingSpec.{RingSpec}
 
 -- what a proof at hand of the whole value needs
 pub record IsSound (seen : Seen) : Type 0 where
-  pub fixed : MakesCore seen.net seen.schedule seen.inputs seen.operators seen.instants
+  pub fixed : CanMakeCore seen.net seen.schedule seen.inputs seen.operators seen.instants
   pub machine : IsMachineOf seen.net (machine_of seen) (order_of seen) seen.inputs (kinds_of seen.operators) seen.instants
   pub within : IsWithin (machine_of seen).sys (done_of seen.done)
   pub count : length seen.done ≡ length seen.net.actors

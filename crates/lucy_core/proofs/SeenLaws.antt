@@ -30,7 +30,7 @@ use Rattle.lucy_net.specs.States.{IsUsable}
 use Rattle.lucy_cause.specs.Schedules.{Timetable}
 use Rattle.lucy_net.proofs.NetLaws.{task_at, link_is, plugged, usable}
 use Rattle.lucy_net.proofs.NumberedLaws.{outputs_apart}
-use Rattle.lucy_core.specs.Seen.{machine_on, order_on, done_of, state_on, one_more, MakesCore}
+use Rattle.lucy_core.specs.Seen.{machine_on, order_on, done_of, state_on, one_more, CanMakeCore}
 use Rattle.lucy_core.proofs.ListLaws.{one_more_done}
 
 -- what the machine of a net is
@@ -49,7 +49,7 @@ pub record IsMachineOf (net : Net) (m : Machine) (order : List ℕ) (inputs : Li
   pub fed : (a : ℕ) (actor : Actor) → slice_get net.actors a ≡ Some actor → HasInput inputs (form_of actor.kind) (ones_to actor.firing instants)
   pub apart : (a b n : ℕ) (x y : Actor) → slice_get net.actors a ≡ Some x → slice_get net.actors b ≡ Some y → x.kind ≡ Output n → y.kind ≡ Output n → a ≡ b
 
-pub machine_is : (net : Net) (schedule : Timetable) (inputs : List (List ℤ)) (operators : List Operator) (instants : ℕ) → MakesCore net schedule inputs operators instants →
+pub machine_is : (net : Net) (schedule : Timetable) (inputs : List (List ℤ)) (operators : List Operator) (instants : ℕ) → CanMakeCore net schedule inputs operators instants →
     IsMachineOf net (machine_on net inputs (kinds_of operators) instants) (order_on schedule instants) inputs (kinds_of operators) instants
 unfolding machine_on order_on net_system
 machine_is net schedule inputs operators instants is = record {

@@ -58,6 +58,13 @@ move_done None e = refl
 move_done (Some (Takes q)) e = cc
 move_done (Some (Gives q)) e = cc
 
+-- the operation of a move
+pub take_at : (ops : List RingOp) (n r : ℕ) → Take r ≡ move_of (slice_get ops n) → get_or ops n (Takes 0) ≡ Takes r
+take_at ops n r e = get_or_from_slice_get ops n (Takes r) (Takes 0) (move_take (slice_get ops n) r e)
+
+pub give_at : (ops : List RingOp) (n r : ℕ) → Give r ≡ move_of (slice_get ops n) → get_or ops n (Takes 0) ≡ Gives r
+give_at ops n r e = get_or_from_slice_get ops n (Gives r) (Takes 0) (move_give (slice_get ops n) r e)
+
 none_some : (o : Option RingOp) (x : RingOp) → o ≡ None → o ≡ Some x → ⊥
 none_some o x e f = cc
 

@@ -2,7 +2,7 @@
 use Rattle.std.specs.Prelude.{ℕ, ◌+◌, ◌<◌, ◌≤◌, ◌≡◌, ℤ, List, [], ◌∷◌, ◌++◌, map, length, nat_lt, replicate, slice_get, slice_set, slice_index_or, sum_by, if◌then◌else◌, Some}
 use Rattle.lucy_word.specs.Bits.{ones_to}
 use Rattle.lucy_stream.specs.Forms.{operands}
-use Rattle.lucy_event.specs.Runs.{IsWithin}
+use Rattle.lucy_event.specs.Runs.{IsWithin, first_left}
 use Rattle.lucy_event.specs.States.{Machine, held}
 use Rattle.lucy_net.specs.declared.kind.ActorKind.{ActorKind}
 use Rattle.lucy_net.specs.declared.kind.ActorKind.TheVariants.{Output}
@@ -12,8 +12,11 @@ use Rattle.lucy_net.specs.declared.net.Net.{Net}
 use Rattle.lucy_net.specs.declared.state.ActorState.{ActorState}
 use Rattle.lucy_net.specs.Plans.{form_of}
 use Rattle.lucy_net.specs.States.{IsActorState}
+use Rattle.lucy_cause.specs.Schedules.{Timetable}
+use Rattle.lucy_core.specs.declared.making.Beginning.{Beginning}
 use Rattle.lucy_core.specs.Circles.{HeldItems}
-use Rattle.lucy_core.specs.Seen.{done_of, state_on, first_ring}
+use Rattle.lucy_core.specs.Cursors.{StandsInOrder}
+use Rattle.lucy_core.specs.Seen.{done_of, order_on, state_on, first_ring}
 
 -- 1 where an actor has a firing left, else 0
 abbrev pub left_in : ActorState → ℕ
@@ -70,3 +73,13 @@ HaveTrays actors instants count trays = (a number : ℕ) (actor : Actor) → a <
 abbrev pub with_tray : ActorKind → ℕ → List HeldItems → List HeldItems
 with_tray (Output output) room trays = slice_set trays output (record { items = []; room = room })
 with_tray kind room trays = trays
+
+-- what is kept where nothing is done
+pub record HasBegun (net : Net) (schedule : Timetable) (instants : ℕ) (b : Beginning) : Type 0 where
+  pub states : AreFirst net.actors instants b.states.items
+  pub done : b.done.items ≡ replicate (length net.actors) 0
+  pub going : b.going ≡ going_in b.states.items
+  pub circles : AreEmpty net.rings b.circles.items
+  pub trays : HaveTrays net.actors instants (length net.actors) b.trays.items
+  pub within : StandsInOrder schedule instants b.done.items b.cursor
+  pub next : b.cursor.next ≡ first_left (done_of b.done.items) (order_on schedule instants)

@@ -101,7 +101,7 @@ pub record CanGoOn (seen : Seen) (counts : List ℕ) : Type 0 where
 
 -- what a core may be made of: a proper net, a schedule that is sound for it, for each input the items that its actor gives up
 -- to the horizon, and operators with the numbers that the net has
-pub record MakesCore (net : Net) (schedule : Timetable) (inputs : List (List ℤ)) (operators : List Operator) (instants : ℕ) : Type 0 where
+pub record CanMakeCore (net : Net) (schedule : Timetable) (inputs : List (List ℤ)) (operators : List Operator) (instants : ℕ) : Type 0 where
   pub proper : IsProper net
   pub sound : IsSound net (events_at schedule)
   pub early : instants ≤ limit_number limit.Instants

@@ -3,7 +3,7 @@ ghost use Rattle.std.specs.Prelude.{ℕ, ◌≡◌, ◌↔◌, ◌≤◌, ◌<�
 use crate::circle::Circle;
 use crate::cursor::Cursor;
 use crate::ends::{input_for, put_out};
-use crate::making::{copy_ops, empty_circles, empty_trays, first_states, going_count};
+use crate::making::{begin, copy_ops};
 use crate::steps::{count_ended, count_event};
 use crate::tray::Tray;
 use lucy_cause::Schedule;
@@ -46,7 +46,7 @@ impl Model for Core {
     ghost use Rattle.std.specs.Prelude.{◌≡◌};
     ghost use Rattle.lucy_host.specs.Operators.{kinds_of};
     ghost use Rattle.lucy_event.specs.Runs.{first_left};
-    ghost use Rattle.lucy_core.specs.Seen.{Seen, machine_on, order_on, done_of, MakesCore};
+    ghost use Rattle.lucy_core.specs.Seen.{Seen, machine_on, order_on, done_of, CanMakeCore};
     ghost use Rattle.lucy_core.specs.Cursors.{StandsInOrder};
     ghost use Rattle.lucy_core.specs.Inside.{going_in, KeepsState};
 
@@ -54,7 +54,7 @@ impl Model for Core {
 
     ghost view = { λ c. record { net = c.net; schedule = c.schedule; inputs = c.inputs; operators = c.ops; instants = c.instants; done = c.done.items } };
 
-    ghost invariant = { λ c. MakesCore c.net c.schedule c.inputs c.ops c.instants
+    ghost invariant = { λ c. CanMakeCore c.net c.schedule c.inputs c.ops c.instants
         × KeepsState c.net (machine_on c.net c.inputs (kinds_of c.ops) c.instants) (order_on c.schedule c.instants) c.instants c.done.items c.states.items c.circles.items c.trays.items
         × (c.going ≡ going_in c.states.items)
         × StandsInOrder c.schedule c.instants c.done.items c.cursor
@@ -78,7 +78,7 @@ impl Core {
     ghost use Rattle.lucy_net.specs.declared.net.RingSpec.{RingSpec};
     ghost use Rattle.lucy_net.specs.Moves.{move_of};
     ghost use Rattle.lucy_cause.specs.Schedules.{events_at};
-    ghost use Rattle.lucy_core.specs.Seen.{Seen, plan_of, machine_of, order_of, state_of, done_of, stepped, after_picks, CanStep, CanRun, IsOver, HasDoneAtMost, CanGoOn, MakesCore, IsUnbegun, IsOutputOf, first_ring, first_seen, stream_of};
+    ghost use Rattle.lucy_core.specs.Seen.{Seen, plan_of, machine_of, order_of, state_of, done_of, stepped, after_picks, CanStep, CanRun, IsOver, HasDoneAtMost, CanGoOn, CanMakeCore, IsUnbegun, IsOutputOf, first_ring, first_seen, stream_of};
 
     /// A core of a proper net with a sound schedule, without an event so far; the operators are copied. The inputs have an item
     /// for each firing of their actors up to the horizon, which is at most 1,048,576 instants. All memory is made here: no
@@ -91,28 +91,23 @@ impl Core {
         ops: &Ops,
         instants: u64,
     ) -> Result<Core, OutOfMemory>
-        requires { MakesCore net schedule inputs ops.now instants }
+        requires { CanMakeCore net schedule inputs ops.now instants }
         ensures { IfOk result (λ core. core ≡ first_seen net schedule inputs ops.now instants) }
     {
-        let states = first_states(alloc, net.actors.list(), instants)?;
-        let done = vec![in alloc; 0u64; states.len()]?;
-        let going = going_count(&states);
-        let circles = empty_circles(alloc, net.rings.list())?;
-        let trays = empty_trays(alloc, net.actors.list(), instants)?;
         let ops = copy_ops(alloc, ops)?;
-        let cursor = Cursor::new(alloc, &schedule, instants, &done)?;
+        let begun = begin(alloc, &net, &schedule, instants)?;
         Ok(Core {
             net,
             schedule,
             inputs,
             ops,
             instants,
-            states,
-            done,
-            going,
-            circles,
-            trays,
-            cursor,
+            states: begun.states,
+            done: begun.done,
+            going: begun.going,
+            circles: begun.circles,
+            trays: begun.trays,
+            cursor: begun.cursor,
         })
     }
 
@@ -346,7 +341,7 @@ impl Core {
         ensures inputs { result.inputs ≡ self.inputs }
         ensures ops { result.ops ≡ self.operators }
         ensures instants { result.instants ≡ self.instants }
-        ensures fixed { MakesCore result.net result.schedule result.inputs result.ops result.instants }
+        ensures fixed { CanMakeCore result.net result.schedule result.inputs result.ops result.instants }
     {
         CoreParts {
             net: self.net,

@@ -6,13 +6,16 @@ ghost use Rattle.lucy_net.specs.declared.net.RingSpec.{RingSpec};
 ghost use Rattle.lucy_word.specs.Limits.{limit_number};
 ghost use Rattle.lucy_word.specs.declared.limit.Limit.TheVariants as limit;
 ghost use Rattle.lucy_word.specs.Bits.{ones_to};
+ghost use Rattle.lucy_net.specs.Proper.{IsProper};
 ghost use Rattle.lucy_net.specs.States.{IsUsable};
-ghost use Rattle.lucy_core.specs.Inside.{going_in, AreFirst, AreEmpty, HaveTrays, with_tray};
+ghost use Rattle.lucy_core.specs.Inside.{going_in, AreFirst, AreEmpty, HaveTrays, HasBegun, with_tray};
 
 use crate::circle::Circle;
+use crate::cursor::Cursor;
 use crate::tray::Tray;
+use lucy_cause::Schedule;
 use lucy_host::Ops;
-use lucy_net::{Actor, ActorKind, ActorState, RingSpec, first_state};
+use lucy_net::{Actor, ActorKind, ActorState, Net, RingSpec, first_state};
 use lucy_word::OutOfMemory;
 use std::alloc::{AllocError, Global};
 
@@ -121,4 +124,42 @@ pub(crate) fn empty_trays(
         make_tray(alloc, actor, instants, &mut trays)?;
     }
     Ok(trays)
+}
+
+/// What a core keeps of its actors, its rings and its outputs.
+#[derive(Drop)]
+pub(crate) struct Beginning {
+    pub states: Vec<ActorState>,
+    pub done: Vec<u64>,
+    pub going: u64,
+    pub circles: Vec<Circle>,
+    pub trays: Vec<Tray>,
+    pub cursor: Cursor,
+}
+
+/// That of a net where nothing is done.
+pub(crate) fn begin(
+    alloc: Global,
+    net: &Net,
+    schedule: &Schedule,
+    instants: u64,
+) -> Result<Beginning, OutOfMemory>
+    requires proper { IsProper net.now }
+    requires early { instants ≤ limit_number limit.Instants }
+    ensures { IfOk result (HasBegun net.now schedule.now instants) }
+{
+    let states = first_states(alloc, net.actors.list(), instants)?;
+    let done = vec![in alloc; 0u64; states.len()]?;
+    let going = going_count(&states);
+    let circles = empty_circles(alloc, net.rings.list())?;
+    let trays = empty_trays(alloc, net.actors.list(), instants)?;
+    let cursor = Cursor::new(alloc, schedule, instants, &done)?;
+    Ok(Beginning {
+        states,
+        done,
+        going,
+        circles,
+        trays,
+        cursor,
+    })
 }

@@ -9,7 +9,7 @@ use lucy_word::OutOfMemory;
 use std::alloc::Global;
 
 /// A buffer: its number and its place, each from 1, and its size and its written bound, each in items.
-#[derive(Clone, Copy, Debug, PartialEq, Eq)]
+#[derive(Clone, Copy)]
 pub struct DrawnBuffer {
     pub number: u64,
     pub place: u32,

@@ -11,7 +11,7 @@ use std::alloc::Global;
 
 /// A call: its number, from 1; the node that it calls, from 0; the clock of its base; the place of its first result, from 1, behind
 /// which the others stand, and how many results it has.
-#[derive(Clone, Copy, Debug, PartialEq, Eq)]
+#[derive(Clone, Copy)]
 pub struct DrawnCall {
     pub number: u32,
     pub node: u32,

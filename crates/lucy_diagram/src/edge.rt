@@ -13,7 +13,7 @@ use std::alloc::{AllocError, Global};
 /// That a place reads another, each by its number from 1: as which of its operands, from 0, and whether an item later, as `fby` does.
 /// What a call reads is read by its first result. The items come at the word of the place that they come from, whose clock has its
 /// number.
-#[derive(Clone, Copy, Debug, PartialEq, Eq)]
+#[derive(Clone, Copy)]
 pub struct Edge {
     pub from: u32,
     pub to: u32,

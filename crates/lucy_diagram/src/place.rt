@@ -8,7 +8,7 @@ use lucy_word::OutOfMemory;
 use std::alloc::Global;
 
 /// As what a place is drawn.
-#[derive(Clone, Copy, Debug, PartialEq, Eq)]
+#[derive(Clone, Copy)]
 pub enum Figure {
     /// A parameter of the node.
     Parameter,
@@ -28,7 +28,7 @@ pub enum Figure {
 }
 
 /// A place, by its number from 1.
-#[derive(Clone, Copy, Debug, PartialEq, Eq)]
+#[derive(Clone, Copy)]
 pub struct DrawnPlace {
     pub place: u32,
     pub figure: Figure,

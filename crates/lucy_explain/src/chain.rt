@@ -122,7 +122,7 @@ fn path_of(
 }
 
 /// Where a chain ends: at which variable, and how much later than the origin.
-#[derive(Clone, Copy, Debug, PartialEq, Eq)]
+#[derive(Clone, Copy)]
 struct End {
     variable: u32,
     later: i64,

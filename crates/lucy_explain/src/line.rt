@@ -10,7 +10,7 @@ use lucy_word::Limit;
 
 /// The inequality `left <= right + most` between two variables, which stands for so many inequalities that follow one another: it
 /// leads from the first left variable to the last right one, and its constant is the sum of theirs.
-#[derive(Clone, Copy, Debug, PartialEq, Eq)]
+#[derive(Clone, Copy)]
 pub struct Line {
     pub left: u32,
     pub right: u32,

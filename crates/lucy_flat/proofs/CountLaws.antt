@@ -1,9 +1,10 @@
 -- How much the drafts of a program read, how large their rings are, and which inputs and outputs there are.
-use Rattle.std.proofs.Common.{ℕ, suc, zero, ◌+◌, ◌-◌, ◌*◌, ◌<◌, ◌≤◌, ◌≡◌, List, [], ◌∷◌, ◌++◌, Option, Some, None, length, map, take, ap, sym, refl, ◌∙◌, subst, arith}
-use Rattle.std.specs.Prelude.{min, sum, sum_by, slice_get}
+use Rattle.std.proofs.Common.{ℕ, suc, zero, ◌+◌, ◌-◌, ◌*◌, ◌<◌, ◌≤◌, ◌≡◌, List, [], ◌∷◌, ◌++◌, Option, Some, None, length, map, take, get_or, set, ap, sym, refl, ◌∙◌, subst, inl, inr, arith}
+use Rattle.std.specs.Prelude.{min, sum, sum_by, slice_get, slice_index}
 use Rattle.std.specs.List.{range_with_len, flat_map}
 use Rattle.std.proofs.lemmas.Grind.{flat_map-append}
-use Rattle.std.proofs.lemmas.List.{append-nil, length-map, take_all}
+use Rattle.std.proofs.lemmas.List.{append-nil, length-map, take_all, get_or-set_same, get_or-set_other}
+use Rattle.std.proofs.lemmas.Bool.{cases_lt}
 use Rattle.std.proofs.lemmas.List.Sums.{sum_by-cons, sum_by-append}
 use Rattle.std.proofs.lemmas.Option.{slice_get_within}
 use Rattle.lucy_place.specs.declared.placed.PlacedNode.{PlacedNode}
@@ -420,3 +421,14 @@ module _ (nodes : List PlacedNode) (clocks : List NodeClock) (proper : AreProper
       ∙ flat_map-append (inputs_at nodes clocks) (own_spots [] n) (calls_spots (instance_spots nodes) [] 1 n.calls)
       ∙ ap (λ t. t ++ flat_map (inputs_at nodes clocks) (calls_spots (instance_spots nodes) [] 1 n.calls)) (own ∙ ap (λ x. range_with_len x (min (length n.places) (n.params + 1 - 1))) a ∙ ap (range_with_len 0) b)
       ∙ ap (λ t. range_with_len 0 n.params ++ t) (none_calls [] 1 n.calls) ∙ append-nil (range_with_len 0 n.params)
+
+-- the count of one node more
+pub counted_more : (nodes : List PlacedNode) (own : ℕ → PlacedNode → ℕ) (counts : List ℕ) (node x : ℕ) → node < length counts → ((n : PlacedNode) → slice_get nodes node ≡ Some n → x ≡ own node n) →
+    ((i : ℕ) (n : PlacedNode) → i < node → slice_get nodes i ≡ Some n → slice_index counts i ≡ own i n) →
+    (i : ℕ) (n : PlacedNode) → i < node + 1 → slice_get nodes i ≡ Some n → slice_index (set counts node x) i ≡ own i n
+counted_more nodes own counts node x within here before i n below is = elim (cases_lt i node) [
+  | inl less ↦ get_or-set_other counts node i x 0 (omega arith) ∙ before i n less is
+  | inr more ↦
+      let same : i ≡ node = omega arith in
+      ap (λ k. get_or (set counts node x) k 0) same ∙ get_or-set_same counts node x 0 within ∙ here n (ap (slice_get nodes) (sym same) ∙ is) ∙ ap (λ k. own k n) (sym same)
+]

@@ -1,6 +1,7 @@
 pub mod Parts
 pub mod ExtentLaws
 pub mod AssemblyLaws
+pub mod KindLaws
 pub mod GivingLaws
 pub mod SpotWords
 pub mod RingWords

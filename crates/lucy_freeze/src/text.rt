@@ -15,7 +15,7 @@ use std::alloc::{AllocError, Global};
 use writer::{Lexeme, Writer};
 
 /// Why no text is made.
-#[derive(Clone, Copy, Debug, PartialEq, Eq)]
+#[derive(Clone, Copy)]
 pub(crate) enum Unwritten {
     /// A word has more bits than a written one may have.
     Word,

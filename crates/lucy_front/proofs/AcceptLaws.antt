@@ -9,7 +9,7 @@ use Rattle.lucy_grammar.specs.Texts.{HasTree, IsRefused}
 use Rattle.lucy_place.specs.declared.error.NameError.{NameError}
 use Rattle.lucy_place.specs.declared.error.NameError.TheVariants as names
 use Rattle.lucy_place.specs.Faults.{faults}
-use Rattle.lucy_place.specs.Placing.{TellsFirst}
+use Rattle.lucy_place.specs.Placing.{TellsFirstFault}
 use Rattle.lucy_place.specs.PlacedProgram.{PlacedProgram}
 use Rattle.lucy_types.specs.declared.ty.Ty.{Ty}
 use Rattle.lucy_front.specs.declared.options.Options.{Options}
@@ -31,7 +31,7 @@ syntax_refuses ops o text (syntax.TooLarge l) (inl f) = absurd (cc f)
 syntax_refuses ops o text (syntax.TooLarge l) (inr h) = inl (inl h)
 syntax_refuses ops o text syntax.OutOfMemory h = tt
 
-pub names_refuse : (ops : List Operator) (o : Options) (text : List ℕ) (p : ProgramTree) (e : NameError) → HasTree text p → TellsFirst (faults ops p) e → RefusesPhases ops o text (names_refusal e)
+pub names_refuse : (ops : List Operator) (o : Options) (text : List ℕ) (p : ProgramTree) (e : NameError) → HasTree text p → TellsFirstFault (faults ops p) e → RefusesPhases ops o text (names_refusal e)
 names_refuse ops o text p (names.Unknown span) read (inl f) = absurd (cc f)
 names_refuse ops o text p (names.Unknown span) read (inr h) = (p, read, h)
 names_refuse ops o text p (names.Twice span) read (inl f) = absurd (cc f)

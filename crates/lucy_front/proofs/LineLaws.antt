@@ -11,7 +11,7 @@ use Rattle.lucy_place.specs.declared.placed.PlacedNode.{PlacedNode}
 use Rattle.lucy_need.specs.declared.need.Need.{Need}
 use Rattle.lucy_solve.specs.declared.diffs.Diff.{Diff}
 use Rattle.lucy_shape.specs.declared.shape.ClockShape.{ClockShape}
-use Rattle.lucy_shape.specs.Fitting.{position_count, variable_count}
+use Rattle.lucy_shape.specs.Fitting.{unused, clock_at, position_count, variable_count}
 use Rattle.lucy_front.specs.Names.{of_one}
 use Rattle.lucy_front.specs.Needs.{clock_name, need_text}
 use Rattle.lucy_front.specs.Evidence.{walk_lines, position_names, variable_names, diff_line, cycle_lines}
@@ -62,6 +62,15 @@ cycle_more names diffs cycle i d a b all h at more before =
     let rest : List ℕ = cycle_lines names diffs (drop (i + 1) cycle) in
     let step : cycle_lines names diffs (drop i cycle) ≡ diff_line names d ++ rest = ap (cycle_lines names diffs) (drop_more cycle i 0 h) ∙ ap (λ o. of_one (diff_line names) o ++ rest) at in
     line_more a b (diff_line names d) rest all more (ap (λ u. a ++ u) (sym step) ∙ before)
+
+-- the positions of one more clock
+pub positions_more : (n : PlacedNode) (clocks : List ClockShape) (i : ℕ) (a b all : List (List ℕ)) → i < length clocks →
+    b ≡ a ++ map (position_name (clock_name n i)) (range_with_len 1 (position_count (clock_at clocks i))) → a ++ position_names n i (drop i clocks) ≡ all → b ++ position_names n (i + 1) (drop (i + 1) clocks) ≡ all
+positions_more n clocks i a b all h more before =
+    let own : List (List ℕ) = map (position_name (clock_name n i)) (range_with_len 1 (position_count (clock_at clocks i))) in
+    let rest : List (List ℕ) = position_names n (i + 1) (drop (i + 1) clocks) in
+    let step : position_names n i (drop i clocks) ≡ own ++ rest = ap (position_names n i) (drop_more clocks i unused h) in
+    ap (λ x. x ++ rest) more ∙ append_assoc a own rest ∙ ap (λ x. a ++ x) (sym step) ∙ before
 
 -- a name of a variable
 pub named_is : (names : List (List ℕ)) (v : ℕ) (name : List ℕ) → slice_get names v ≡ Some name → unwrap_or (slice_get names v) [] ≡ name

@@ -4,7 +4,8 @@ ghost use Rattle.std.specs.Fmt.{decimal};
 ghost use Rattle.std.specs.List.{range_with_len};
 ghost use Rattle.lucy_place.specs.declared.placed.PlacedNode.{PlacedNode as Node};
 ghost use Rattle.lucy_clock.specs.Clocks.{clocks_of};
-ghost use Rattle.lucy_shape.specs.Fitting.{variable_count};
+ghost use Rattle.lucy_shape.specs.Fitting.{position_count, variable_count};
+ghost use Rattle.lucy_front.specs.Needs.{clock_name};
 ghost use Rattle.lucy_front.specs.Refusals.{AreBelow};
 ghost use Rattle.lucy_front.specs.Evidence as spec;
 
@@ -86,6 +87,25 @@ fn put_positions(
     Ok(())
 }
 
+// Puts the names of the positions of a clock in this shape last.
+fn put_clock(
+    alloc: Global,
+    node: &PlacedNode,
+    clock: u32,
+    shape: &ClockShape,
+    names: &mut Vec<Text>,
+) -> Result<(), OutOfMemory>
+    requires { position_count shape.now + 1 < 2 ^ 64 }
+    ensures { OnOk result (names.new.items ≡ names.old.items
+        ++ map (λ m. clock_name node.now clock ++ (codes "[" ++ (decimal m ++ codes "]"))) (range_with_len 1 (position_count shape.now))) }
+{
+    if !shape.used {
+        return Ok(());
+    }
+    let name = clock_name(alloc, node, clock)?;
+    put_positions(alloc, name.bytes(), shape.lead + shape.ones, names)
+}
+
 // The variables of inequalities by their numbers, so many of them: the origin, and the positions of the clocks.
 fn variable_names(
     alloc: Global,
@@ -101,11 +121,7 @@ fn variable_names(
     let mut names = Vec::with_capacity(alloc, count as usize)?;
     push(&mut names, Text::new(alloc, b"0")?)?;
     'each: for clock in 0..clocks {
-        let shape = &shapes[clock as usize];
-        if shape.used {
-            let name = clock_name(alloc, node, clock)?;
-            put_positions(alloc, name.bytes(), shape.lead + shape.ones, &mut names)?;
-        }
+        put_clock(alloc, node, clock, &shapes[clock as usize], &mut names)?;
     }
     Ok(names)
 }

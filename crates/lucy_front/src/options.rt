@@ -1,5 +1,5 @@
 /// How a program's clocks are found.
-#[derive(Clone, Copy, Debug, PartialEq, Eq)]
+#[derive(Clone, Copy)]
 pub struct Options {
     /// How many times longer than necessary the period of inferred clocks is, from 1 to 64.
     pub scale: u64,

@@ -23,7 +23,7 @@ use Rattle.lucy_grammar.specs.Printable.{IsPrintableDef, IsPrintableDecl, AllOfS
 use Rattle.lucy_grammar.proofs.PrintableLaws.{Goods}
 use Rattle.lucy_grammar.proofs.Cores.{core, core-append, core-parens, put, put_after, put_operand, put_later, put_parens, first_defs, flat_link, flat, token_of, all_flat, some_flat, flats}
 use Rattle.lucy_grammar.specs.Symbols.{Rule, Val, Vals, Link, Part, Program, Node, Title, Params, Results, Names, Ident, MoreName, Body, Decls, MoreDecl, Decl, Typing, TypeName, ClockOf, Defs, Def, MoreDef, Lefts, Expr, Or, MoreAnd, And, MoreCmp, Cmp, Compared, CmpOp, Sum, MoreProd, SumOp, Prod, MoreSamp, ProdOp, Samp, Sampling, Pre, Followed, Form, Buffered, Held, Other, Atom, Small, Lit, Pair, Call, Applied, Base, Args, MoreExpr}
-use Rattle.lucy_grammar.specs.Meanings.{name_bytes, token_name, token_number, token_word, token_bound, linked, grouped, sampled_by, literal_before, named, held_by}
+use Rattle.lucy_grammar.specs.Meanings.{name_bytes, token_name, token_literal, token_word, token_bound, linked, grouped, sampled_by, literal_before, named, held_by}
 use Rattle.lucy_grammar.specs.Grammar.{rules}
 use Rattle.lucy_grammar.specs.Parens.{kept}
 use Rattle.lucy_grammar.specs.Print.{blank, indent, line, after, after_commas, commas, parens, name_token, lit_token, when_mark, operand, printed, all_printed, printed_decl, printed_left, printed_def, more_defs, printed_body, printed_node, more_nodes}
@@ -91,9 +91,9 @@ bound_token (what.Mark m) e = absurd cc
 bound_token (what.Name bytes) e = absurd cc
 bound_token (what.Word w) e = absurd cc
 
-held_rule : (n : Token) (o : Option (Val Held)) → is_bound n.what ≡ true → flat Buffered (held_by (token_bound n.what) (token_number n.what, n.span) o) ≡ token_of kind.Number n.what ++ (some_flat (flat Held) o ++ [])
-held_rule n None e = plus (core (lit_token (token_number n.what)))
-held_rule n (Some (Some fby, t)) e = literal_rule (token_number n.what, n.span) (Some (fby, t))
+held_rule : (n : Token) (o : Option (Val Held)) → is_bound n.what ≡ true → flat Buffered (held_by (token_bound n.what) (token_literal n.what, n.span) o) ≡ token_of kind.Number n.what ++ (some_flat (flat Held) o ++ [])
+held_rule n None e = plus (core (lit_token (token_literal n.what)))
+held_rule n (Some (Some fby, t)) e = literal_rule (token_literal n.what, n.span) (Some (fby, t))
 held_rule n (Some (None, t)) e = ap (λ u. u ++ core (printed t)) (bound_token n.what e) ∙ ap (λ u. token_of kind.Number n.what ++ u) (plus (core (printed t)))
 
 call_flat : (n : name.Name) (at : Option Bits) (ts : Trees) → core (printed (call n at ts)) ≡ what.Name n.text ∷ (flat Applied (at, ts) ++ [])
@@ -222,13 +222,13 @@ all_are_flat Form = (
 )
 all_are_flat Buffered = (λ k vs h. held_rule vs.0 vs.1.0 h.0, (λ k vs h. literal_rule vs.0 vs.1.0, (λ k vs h. plus (core (printed vs.0)), tt)))
 all_are_flat Held = (λ k vs h. plus (flat Followed vs.0), (λ k vs h. plus (core (printed vs.1.0)), tt))
-all_are_flat Other = (λ k vs h. plus (core (lit_token (token_number vs.0.what))), (λ k vs h. refl, (λ k vs h. refl, tt)))
+all_are_flat Other = (λ k vs h. plus (core (lit_token (token_literal vs.0.what))), (λ k vs h. refl, (λ k vs h. refl, tt)))
 all_are_flat Atom = (
   λ k vs h. named_rule (token_name vs.0) vs.1.0,
   (λ k vs h. ap (λ u. what.Mark mark.Host ∷ what.Name (name_bytes vs.1.0.what) ∷ u) (put_parens (commas (all_printed vs.1.1.0)) [] [] refl), (λ k vs h. plus (core (printed vs.1.0)), tt)),
 )
 all_are_flat Small = (λ k vs h. plus (flat Lit vs.0), (λ k vs h. refl, (λ k vs h. plus (core (printed vs.1.0)), tt)))
-all_are_flat Lit = (λ k vs h. plus (core (lit_token (token_number vs.0.what))), (λ k vs h. refl, (λ k vs h. refl, tt)))
+all_are_flat Lit = (λ k vs h. plus (core (lit_token (token_literal vs.0.what))), (λ k vs h. refl, (λ k vs h. refl, tt)))
 all_are_flat Pair = (λ k vs h. put (printed vs.1.0) _ _ (ap (λ u. what.Mark mark.Comma ∷ u) (put_after blank (printed vs.1.1.1.0) [] [] refl)), tt)
 all_are_flat Call = (λ k vs h. call_flat (token_name vs.0) vs.1.0.0 vs.1.0.1, tt)
 all_are_flat Applied = (λ k vs h. applied_rule vs.0 vs.1.1.0, tt)

@@ -17,7 +17,7 @@ use Rattle.lucy_token.specs.declared.state.Side.TheVariants as side
 use Rattle.lucy_token.specs.States.{ScanState, after, side_defined, begins_entry, is_past_last}
 use Rattle.lucy_token.proofs.StateLaws.{before_after}
 use Rattle.lucy_grammar.specs.Symbols.{Val, Link, Body, Decls, Typing, ClockOf, Sampling, Followed, Held, Lit, Applied, Base, Args, MoreExpr}
-use Rattle.lucy_grammar.specs.Meanings.{linked, grouped, sampled_by, literal_before, named, held_by, token_bound, token_number}
+use Rattle.lucy_grammar.specs.Meanings.{linked, grouped, sampled_by, literal_before, named, held_by, token_bound, token_literal}
 use Rattle.lucy_grammar.proofs.Levels.{Keeps, keeps_self, keeps_then, keeps_plain, is_plain, IsDue, due_right, opened, no_commas, opened_right, opened_still, IsStill, closed_after, keeps_parens, one_on, few_before}
 use Rattle.lucy_grammar.proofs.FewEntries.{most, IsFew, AreFew, IsFewDef, ReadsExpr, ExprSpec, LinkSpec, ReadsArgs, ReadsCall, ReadsDecl, ReadsMore, ReadsList, ReadsLefts, Spec, Chain, Maybe}
 
@@ -219,7 +219,7 @@ merge_read s m j a b r f g =
     (keeps_then k (keeps_then x.keeps y.keeps), (x.few, y.few))
 
 -- a number behind `buffer`, and what is behind it
-pub held_read : (s j : ScanState) (n : Token) (o : Option (Val Held)) → s.side ≡ side.Right → Maybe (Spec Held) (after s kind.Number) o j → Keeps s j × IsFew (held_by (token_bound n.what) (token_number n.what, n.span) o).1
+pub held_read : (s j : ScanState) (n : Token) (o : Option (Val Held)) → s.side ≡ side.Right → Maybe (Spec Held) (after s kind.Number) o j → Keeps s j × IsFew (held_by (token_bound n.what) (token_literal n.what, n.span) o).1
 held_read s j n None r c = (subst (Keeps s) (sym c) (keeps_plain s kind.Number refl), tt)
 held_read s j n (Some (Some fby, e)) r c = let k = keeps_plain s kind.Number refl in let x = c (k.at ∙ r) in (keeps_then k x.0, x.1)
 held_read s j n (Some (None, e)) r c = let k = keeps_plain s kind.Number refl in let x = c (k.at ∙ r) in (keeps_then k x.0, x.1)

@@ -10,7 +10,7 @@ use Rattle.lucy_grammar.specs.Kinds.{ahead, kind_numbers, is_bound, unbound}
 use Rattle.lucy_grammar.specs.Sets.{within}
 use Rattle.lucy_grammar.specs.Symbols.{Part, Node, Body, MoreName, Decls, MoreDecl, Typing, ClockOf, MoreDef, MoreAnd, MoreCmp, Sampling, Other, Lit, Base, MoreExpr}
 use Rattle.lucy_grammar.specs.Grammar.{rules}
-use Rattle.lucy_grammar.specs.Meanings.{token_number, token_word}
+use Rattle.lucy_grammar.specs.Meanings.{token_literal, token_word}
 use Rattle.lucy_grammar.specs.Reading.{follows, begins, Reads, Unfit, IsBegun, Begins, IsOther}
 use Rattle.lucy_grammar.proofs.Numbers.{IsNone, ahead_kind, first_in, not_in}
 use Rattle.lucy_grammar.proofs.Steps.{end, tok, sort_tok, tok_no, tok_bad, rule, rule_no, led_by, led_sort, others, none}
@@ -48,7 +48,7 @@ pub lit_false : {ts rest : List Token} {t : Token} → Begins ts t (kind.Mark ma
 unfolding rules follows begins
 lit_false h1 = rule 2 refl (led_by 2 refl refl h1) (tok h1 (end _))
 
-pub lit_number : {ts rest : List Token} {n : Token} → Begins ts n kind.Number rest → Reads Lit ts (token_number n.what, n.span) rest
+pub lit_number : {ts rest : List Token} {n : Token} → Begins ts n kind.Number rest → Reads Lit ts (token_literal n.what, n.span) rest
 unfolding rules follows begins
 lit_number h1 = rule 0 refl (led_by 0 refl refl h1) (tok h1 (end _))
 
@@ -61,7 +61,7 @@ pub other_false : {ts rest : List Token} {t : Token} → Begins ts t (kind.Mark 
 unfolding rules follows begins
 other_false h1 = rule 2 refl (led_by 2 refl refl h1) (tok h1 (end _))
 
-pub other_number : {ts rest : List Token} {n : Token} → Begins ts n kind.Number rest → is_bound n.what ≡ false → Reads Other ts (token_number n.what, n.span) rest
+pub other_number : {ts rest : List Token} {n : Token} → Begins ts n kind.Number rest → is_bound n.what ≡ false → Reads Other ts (token_literal n.what, n.span) rest
 unfolding rules follows begins
 other_number h1 f = rule 0 refl (led_sort unbound 0 refl refl h1.0 (h1.1, f)) (sort_tok unbound h1.0 (h1.1, f) (end _))
 

@@ -19,14 +19,14 @@ use Rattle.lucy_token.specs.Tokens.{kind_of}
 use Rattle.lucy_grammar.specs.Kinds.{is_bound, Fits, bound, sort_kind}
 use Rattle.lucy_grammar.proofs.Numbers.{fits_kind}
 use Rattle.lucy_grammar.specs.Symbols.{Sym, token, part, many, perhaps, Rule, Val, Vals, Link, Part, Program, Node, Title, Params, Results, Names, Ident, MoreName, Body, Decls, MoreDecl, Decl, Typing, TypeName, ClockOf, Defs, Def, MoreDef, Lefts, Expr, Or, MoreAnd, And, MoreCmp, Cmp, Compared, CmpOp, Sum, MoreProd, SumOp, Prod, MoreSamp, ProdOp, Samp, Sampling, Pre, Followed, Form, Buffered, Held, Other, Atom, Small, Lit, Pair, Call, Applied, Base, Args, MoreExpr}
-use Rattle.lucy_grammar.specs.Meanings.{name_bytes, token_name, token_number, token_word, token_bound, linked, grouped, sampled_by, literal_before, named, held_by}
+use Rattle.lucy_grammar.specs.Meanings.{name_bytes, token_name, token_literal, token_word, token_bound, linked, grouped, sampled_by, literal_before, named, held_by}
 use Rattle.lucy_grammar.specs.Grammar.{rules}
 use Rattle.lucy_grammar.specs.Deriving.{Deriv, done, take, by_rule, enough, again, absent, present, spelled, value}
 use Rattle.lucy_grammar.specs.Programs.{IsProgram}
 use Rattle.lucy_grammar.specs.Print.{when_mark}
 use Rattle.lucy_host.specs.Arity.{arity}
 use Rattle.lucy_tree.specs.Shaped.{most_bound, IsCall, Defines}
-use Rattle.lucy_grammar.specs.Printable.{MayBeNamed, IsLit, MayBeBound, IsWordBehind, IsPrintable, ArePrintable, AllOfSome, IsPrintableDecl, IsPrintableDef, IsPrintableNode, IsPrintableProgram, StandAfter, Anywhere}
+use Rattle.lucy_grammar.specs.Printable.{MayBeNamed, IsLit, MayHaveBound, IsWordBehind, IsPrintable, ArePrintable, AllOfSome, IsPrintableDecl, IsPrintableDef, IsPrintableNode, IsPrintableProgram, StandAfter, Anywhere}
 use Rattle.lucy_grammar.proofs.Deriving.{derived}
 
 -- an operator and its right operand, a list of two or more, and an entry that may be missing
@@ -82,7 +82,7 @@ Good Q Sampling v = IsWordBehind Q (when_mark v.0) (Some v.1)
 Good Q Pre v = IsPrintable Q v
 Good Q Followed v = IsPrintable Q v.1
 Good Q Form v = IsPrintable Q v
-Good Q Buffered v = MayBeBound Q v.0 × IsPrintable Q v.1
+Good Q Buffered v = MayHaveBound Q v.0 × IsPrintable Q v.1
 Good Q Held v = IsPrintable Q v.1
 Good Q Other v = IsLit Q v.0
 Good Q Atom v = IsPrintable Q v
@@ -118,7 +118,7 @@ named_from Q k (what.Mark m) e q = absurd cc
 named_from Q k (what.Number n) e q = absurd cc
 named_from Q k (what.Word w) e q = absurd cc
 
-lit_from : (Q : Kind → What → Type 0) (k : Kind) (w : What) → kind_of w ≡ kind.Number → Q k w → IsLit Q (token_number w)
+lit_from : (Q : Kind → What → Type 0) (k : Kind) (w : What) → kind_of w ≡ kind.Number → Q k w → IsLit Q (token_literal w)
 lit_from Q k (what.Number n) e q = (k, q)
 lit_from Q k (what.Mark m) e q = absurd cc
 lit_from Q k (what.Name bytes) e q = absurd cc
@@ -171,14 +171,14 @@ literal_good Q l (Some f) g h = (g, h)
 few_enough : (n : ℕ) → nat_le n most_bound ≡ true → n ≤ most_bound
 few_enough n e = grind (arith, nat_tests)
 
-bound_from : (Q : Kind → What → Type 0) (k : Kind) (w : What) → is_bound w ≡ true → Q k w → MayBeBound Q (Some (token_bound w))
+bound_from : (Q : Kind → What → Type 0) (k : Kind) (w : What) → is_bound w ≡ true → Q k w → MayHaveBound Q (Some (token_bound w))
 bound_from Q k (what.Number (pos n)) e q = (few_enough n e, (k, q))
 bound_from Q k (what.Number (negsuc n)) e q = absurd cc
 bound_from Q k (what.Mark m) e q = absurd cc
 bound_from Q k (what.Name bytes) e q = absurd cc
 bound_from Q k (what.Word w) e q = absurd cc
 
-held_good : (Q : Kind → What → Type 0) (k : Kind) (n : Token) (o : Option (Val Held)) → is_bound n.what ≡ true → Q k n.what → InOption (Good Q Held) o → Good Q Buffered (held_by (token_bound n.what) (token_number n.what, n.span) o)
+held_good : (Q : Kind → What → Type 0) (k : Kind) (n : Token) (o : Option (Val Held)) → is_bound n.what ≡ true → Q k n.what → InOption (Good Q Held) o → Good Q Buffered (held_by (token_bound n.what) (token_literal n.what, n.span) o)
 held_good Q k n None e q h = (tt, lit_from Q k n.what (fits_kind bound n.what e) q)
 held_good Q k n (Some (Some fby, t)) e q h = (tt, (lit_from Q k n.what (fits_kind bound n.what e) q, h))
 held_good Q k n (Some (None, t)) e q h = (bound_from Q k n.what e q, h)

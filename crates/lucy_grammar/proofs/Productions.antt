@@ -11,7 +11,7 @@ use Rattle.lucy_token.specs.declared.token.Token.{Token}
 use Rattle.lucy_token.specs.Tokens.{first}
 use Rattle.lucy_grammar.specs.Symbols.{Val, Expr, Or, MoreAnd, And, MoreCmp, Cmp, Compared, CmpOp, Sum, MoreProd, SumOp, Prod, MoreSamp, ProdOp, Samp, Pre, Followed, Form, Buffered, Held, Other, Atom, Small, Lit, Pair, Call, Applied, Base, Args, MoreExpr}
 use Rattle.lucy_grammar.specs.Grammar.{rules}
-use Rattle.lucy_grammar.specs.Meanings.{token_name, token_word, two, literal_before, held_by, named, linked, token_bound, token_number}
+use Rattle.lucy_grammar.specs.Meanings.{token_name, token_word, two, literal_before, held_by, named, linked, token_bound, token_literal}
 use Rattle.lucy_grammar.specs.Reading.{follows, begins, IsBoundAhead, Reads, Unfit, IsBegun, Begins, IsOther, ReadsOptional, UnfitOptional}
 use Rattle.lucy_grammar.specs.Sets.{within}
 use Rattle.lucy_grammar.specs.Kinds.{ahead, is_bound, bound}
@@ -279,7 +279,7 @@ unfolding rules follows begins
 bare_1 {ts = ts} w u = rule_no 3 refl (others ts 3 refl (not_in ts (kind.Mark mark.Not ∷ []) (w.0, tt), (not_in ts (kind.Mark mark.Buffer ∷ []) (w.1.0, tt), (not_in ts (kind.Mark mark.Merge ∷ []) (w.1.1.0, tt), tt)))) (sub_bad refl u)
 
 -- behind `buffer`: a number that may be a bound, another literal, or neither
-pub held_bound : {ts m1 rest : List Token} {n : Token} (h : Option (Val Held)) → ts ≡ n ∷ m1 → is_bound n.what ≡ true → ReadsOptional Held m1 h rest → Reads Buffered ts (held_by (token_bound n.what) (token_number n.what, n.span) h) rest
+pub held_bound : {ts m1 rest : List Token} {n : Token} (h : Option (Val Held)) → ts ≡ n ∷ m1 → is_bound n.what ≡ true → ReadsOptional Held m1 h rest → Reads Buffered ts (held_by (token_bound n.what) (token_literal n.what, n.span) h) rest
 unfolding rules follows begins
 held_bound h e f r = rule 0 refl (led_sort bound 0 refl refl e f) (sort_tok bound e f (maybe h refl r (end _)))
 

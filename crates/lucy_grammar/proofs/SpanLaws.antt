@@ -8,7 +8,7 @@ use Rattle.lucy_tree.specs.Tree.{Tree, Trees, trees_of, more, no_more}
 use Rattle.lucy_token.specs.declared.token.Token.{Token}
 use Rattle.lucy_grammar.specs.Kinds.{Fits}
 use Rattle.lucy_grammar.specs.Symbols.{Part, Sym, token, part, many, perhaps, Rule, Val, Vals, Link, Program, Node, Title, Params, Results, Names, Ident, MoreName, Body, Decls, MoreDecl, Decl, Typing, TypeName, ClockOf, Defs, Def, MoreDef, Lefts, Expr, Or, MoreAnd, And, MoreCmp, Cmp, Compared, CmpOp, Sum, MoreProd, SumOp, Prod, MoreSamp, ProdOp, Samp, Sampling, Pre, Followed, Form, Buffered, Held, Other, Atom, Small, Lit, Pair, Call, Applied, Base, Args, MoreExpr}
-use Rattle.lucy_grammar.specs.Meanings.{linked, grouped, sampled_by, literal_before, named, token_name, held_by, token_bound, token_number}
+use Rattle.lucy_grammar.specs.Meanings.{linked, grouped, sampled_by, literal_before, named, token_name, held_by, token_bound, token_literal}
 use Rattle.lucy_grammar.specs.Grammar.{rules}
 use Rattle.lucy_grammar.specs.Deriving.{Deriv, done, take, by_rule, enough, again, absent, present, spelled, value}
 use Rattle.lucy_grammar.proofs.Tokens.{same_pair}
@@ -110,7 +110,7 @@ literal_blind : (l : Val Lit) (f : Option (Val Followed)) → unplaced (literal_
 literal_blind l None = refl
 literal_blind l (Some f) = refl
 
-held_blind : (n : Token) (h : Option (Val Held)) → bare Buffered (held_by (token_bound n.what) (token_number n.what, n.span) h) ≡ held_by (token_bound (unplaced_token n).what) (token_number (unplaced_token n).what, (unplaced_token n).span) (in_option (bare Held) h)
+held_blind : (n : Token) (h : Option (Val Held)) → bare Buffered (held_by (token_bound n.what) (token_literal n.what, n.span) h) ≡ held_by (token_bound (unplaced_token n).what) (token_literal (unplaced_token n).what, (unplaced_token n).span) (in_option (bare Held) h)
 held_blind n None = refl
 held_blind n (Some (Some fby, e)) = refl
 held_blind n (Some (None, e)) = refl

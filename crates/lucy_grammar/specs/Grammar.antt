@@ -42,7 +42,7 @@ use Rattle.lucy_token.specs.declared.mark.Mark.TheVariants as mark
 use Rattle.lucy_token.specs.declared.token.Kind.TheVariants as kind
 use Rattle.lucy_grammar.specs.Kinds.{bound, unbound}
 use Rattle.lucy_grammar.specs.Symbols.{Part, Sym, token, any, part, many, perhaps, Val, Vals, Rule, Program, Node, Title, Params, Results, Names, Ident, MoreName, Body, Decls, MoreDecl, Decl, Typing, TypeName, ClockOf, Defs, Def, MoreDef, Lefts, Expr, Or, MoreAnd, And, MoreCmp, Cmp, Compared, CmpOp, Sum, MoreProd, SumOp, Prod, MoreSamp, ProdOp, Samp, Sampling, Pre, Followed, Form, Buffered, Held, Other, Atom, Small, Lit, Pair, Call, Applied, Base, Args, MoreExpr}
-use Rattle.lucy_grammar.specs.Meanings.{token_name, token_number, token_word, two, grouped, sampled_by, literal_before, held_by, named, linked, token_bound}
+use Rattle.lucy_grammar.specs.Meanings.{token_name, token_literal, token_word, two, grouped, sampled_by, literal_before, held_by, named, linked, token_bound}
 
 -- a keyword or a sign
 abbrev pub sign : Mark → Sym
@@ -110,12 +110,12 @@ rules Form = says (sign mark.Not ∷ part Pre ∷ []) (λ (o, (e, _)). operator 
     ∷ says (sign mark.Buffer ∷ part Buffered ∷ []) (λ (o, ((most, e), _)). buffered most e o.span)
     ∷ says (sign mark.Merge ∷ any kind.Word ∷ part Small ∷ part Small ∷ []) (λ (o, (w, (a, (b, _)))). merged (token_word w.what) a b o.span)
     ∷ says (part Atom ∷ []) (λ (e, _). e) ∷ []
-rules Buffered = says (token bound ∷ perhaps Held ∷ []) (λ (n, (h, _)). held_by (token_bound n.what) (token_number n.what, n.span) h)
+rules Buffered = says (token bound ∷ perhaps Held ∷ []) (λ (n, (h, _)). held_by (token_bound n.what) (token_literal n.what, n.span) h)
     ∷ says (part Other ∷ perhaps Followed ∷ []) (λ (l, (f, _)). (None, literal_before l f))
     ∷ says (part Form ∷ []) (λ (e, _). (None, e)) ∷ []
 rules Held = says (part Followed ∷ []) (λ ((fby, e), _). (Some fby, e))
     ∷ says (sign mark.Open ∷ part Expr ∷ sign mark.Close ∷ []) (λ (_, (e, _)). (None, e)) ∷ []
-rules Other = says (token unbound ∷ []) (λ (n, _). (token_number n.what, n.span))
+rules Other = says (token unbound ∷ []) (λ (n, _). (token_literal n.what, n.span))
     ∷ says (sign mark.True ∷ []) (λ (t, _). (lit.Bool true, t.span))
     ∷ says (sign mark.False ∷ []) (λ (t, _). (lit.Bool false, t.span)) ∷ []
 rules Atom = says (any kind.Name ∷ perhaps Applied ∷ []) (λ (n, (a, _)). named (token_name n) a)
@@ -124,7 +124,7 @@ rules Atom = says (any kind.Name ∷ perhaps Applied ∷ []) (λ (n, (a, _)). na
 rules Small = says (part Lit ∷ []) (λ ((l, s), _). literal l s)
     ∷ says (any kind.Name ∷ []) (λ (n, _). variable (token_name n))
     ∷ says (sign mark.Open ∷ part Expr ∷ sign mark.Close ∷ []) (λ (_, (e, _)). e) ∷ []
-rules Lit = says (any kind.Number ∷ []) (λ (n, _). (token_number n.what, n.span))
+rules Lit = says (any kind.Number ∷ []) (λ (n, _). (token_literal n.what, n.span))
     ∷ says (sign mark.True ∷ []) (λ (t, _). (lit.Bool true, t.span))
     ∷ says (sign mark.False ∷ []) (λ (t, _). (lit.Bool false, t.span)) ∷ []
 rules Pair = says (sign mark.Open ∷ part Expr ∷ sign mark.Comma ∷ part Expr ∷ sign mark.Close ∷ []) (λ (_, (a, (_, (b, _)))). two a b) ∷ []

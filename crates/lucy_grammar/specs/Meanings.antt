@@ -22,9 +22,9 @@ abbrev pub token_name : Token → Name
 token_name t = record { text = name_bytes t.what; span = t.span }
 
 -- the literal that a number's token is
-abbrev pub token_number : What → Lit
-token_number (what.Number n) = lit.Int n
-token_number w = lit.Int (pos 0)
+abbrev pub token_literal : What → Lit
+token_literal (what.Number n) = lit.Int n
+token_literal w = lit.Int (pos 0)
 
 -- the bound that a number's token is
 abbrev pub token_bound : What → ℕ

@@ -34,9 +34,9 @@ IsLit Q (lit.Int n) = (k : Kind) × Q k (what.Number n)
 IsLit Q (lit.Bool b) = Unit {0}
 
 -- the bound, where one is written, is one and may stand somewhere
-abbrev pub MayBeBound : (Kind → What → Type 0) → Option ℕ → Type 0
-MayBeBound Q None = Unit {0}
-MayBeBound Q (Some n) = (n ≤ most_bound) × IsLit Q (lit.Int (pos n))
+abbrev pub MayHaveBound : (Kind → What → Type 0) → Option ℕ → Type 0
+MayHaveBound Q None = Unit {0}
+MayHaveBound Q (Some n) = (n ≤ most_bound) × IsLit Q (lit.Int (pos n))
 
 -- the word, where one is written, may stand after the mark
 abbrev pub IsWordBehind : (Kind → What → Type 0) → Mark → Option Bits → Type 0
@@ -53,7 +53,7 @@ abbrev mutual
   IsPrintable Q (sampled flip e w) = IsPrintable Q e × IsWordBehind Q (when_mark flip) (Some w)
   IsPrintable Q (merged w a b span) = IsWordBehind Q mark.Merge (Some w) × (IsPrintable Q a × IsPrintable Q b)
   IsPrintable Q (followed l e span) = IsLit Q l × IsPrintable Q e
-  IsPrintable Q (buffered most e span) = MayBeBound Q most × IsPrintable Q e
+  IsPrintable Q (buffered most e span) = MayHaveBound Q most × IsPrintable Q e
   IsPrintable Q (call name at args) = MayBeNamed Q name × (IsWordBehind Q mark.At at × ArePrintable Q args)
 
   -- and so of each tree of a list

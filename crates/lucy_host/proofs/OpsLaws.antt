@@ -1,6 +1,6 @@
 -- Laws of the operators that a host lends, as a list.
-use Rattle.std.proofs.Common.{◌≡◌, ◌<◌, ◌≤◌, ℕ, ◌+◌, Bool, true, false, not, cond, List, [], length, map, get_or, Option, Some, None, Contains, refl, ap, sym, ◌∙◌, arith, slice_get, inl, inr, true≢false}
-use Rattle.std.specs.Prelude.{nat_lt}
+use Rattle.std.proofs.Common.{◌≡◌, ◌<◌, ◌≤◌, ℕ, ◌+◌, Bool, true, false, not, cond, List, [], length, map, get_or, Option, Some, None, Result, Err, Contains, refl, ap, sym, ◌∙◌, arith, slice_get, inl, inr, true≢false}
+use Rattle.std.specs.Prelude.{◌↔◌, nat_lt, is_some, IsErrAnd}
 use Rattle.std.specs.Str.{bytes_eq}
 use Rattle.std.specs.List.{position, position_or_len}
 use Rattle.std.proofs.lemmas.Bool.{cases_lt}
@@ -11,7 +11,10 @@ use Rattle.std.proofs.lemmas.List.Quantifiers.{position-Some}
 use Rattle.std.proofs.lemmas.List.{length-map}
 use Rattle.std.proofs.lemmas.Option.{slice_get-get_or, slice_get-map}
 use Rattle.std.specs.Option.{option_map}
+use Rattle.std.proofs.lemmas.Result.{err_from_is_err_and}
 use Rattle.std.proofs.lemmas.Slice.Eq.{bytes_eq-Decides}
+use Rattle.lucy_host.specs.declared.error.OpsError.{OpsError}
+use Rattle.lucy_host.specs.declared.error.OpsError.TheVariants.{Twice, OutOfMemory}
 use Rattle.lucy_host.specs.declared.kind.HostKind.{HostKind}
 use Rattle.lucy_host.specs.Operators.{Operator, kinds_of, operator_number}
 use Rattle.lucy_host.specs.Entries.{operator_of, operators_of}
@@ -69,6 +72,19 @@ module _ (names : List (List ℕ)) (name : List ℕ) where
   is_there i e =
       let h = position-Some (bytes_eq name) names i name e in
       (i, h.0, sym ((bytes_eq-Decides name (get_or names i name)).0 h.1))
+
+-- what a search for a name tells: it is there where something is found, and isn't where nothing is
+pub is_held : (names : List (List ℕ)) (name : List ℕ) (o : Option ℕ) → o ≡ position (bytes_eq name) names → is_some o ≡ true → Contains names name
+is_held names name None e some = cc
+is_held names name (Some i) e some = is_there names name i (sym e)
+
+pub is_lacking : {P : Type 0} (o : Option ℕ) → (o ≡ None) ↔ (P → ⊥) → is_some o ≡ false → P → ⊥
+is_lacking None told none = told.0 refl
+is_lacking (Some i) told none = cc
+
+-- an error that comes of want of memory tells nothing of names
+pub not_twice : {T : Type 0} (r : Result T OpsError) → IsErrAnd r (λ e. e ≡ OutOfMemory) → r ≡ Err Twice → ⊥
+not_twice r i e = let p = err_from_is_err_and r i in cc
 
 -- what is found among the entries is the operator's number
 pub entry_found : (entries : List Entry) (ops : List Operator) (name : List ℕ) (r : Option ℕ) →

@@ -2,7 +2,7 @@ ghost use Rattle.std.specs.Prelude.{◌≡◌};
 ghost use Rattle.lucy_host.specs.OpValue.{is_true, quotient, remainder, op_value};
 
 /// The operators of the language. All but `Not` and `If` have two operands.
-#[derive(Clone, Copy, Debug, PartialEq, Eq)]
+#[derive(Clone, Copy, PartialEq, Eq)]
 pub enum Op {
     /// The sum `a + b`, wrapped to 64 bits.
     Add,

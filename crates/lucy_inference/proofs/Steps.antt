@@ -1,5 +1,5 @@
 -- What the steps of the inference come to.
-use Rattle.std.proofs.Common.{◌≡◌, ℕ, ◌<◌, ◌≤◌, ◌∷◌, [], length, List, ℤ, Result, Ok, Err, inl, inr, sym, ap, ◌∙◌, subst, refl, arith}
+use Rattle.std.proofs.Common.{◌≡◌, ℕ, ◌≤◌, ◌∷◌, [], length, List, ℤ, Result, Ok, Err, inl, inr, sym, ap, ◌∙◌, subst, refl, arith}
 use Rattle.std.specs.Prelude.{◌⊎◌, IfErr, IfOk, MatchResult, IsErrAnd, Vec}
 use Rattle.std.specs.Global.{Global}
 use Rattle.std.specs.List.{AllByRecursion}
@@ -20,7 +20,7 @@ use Rattle.lucy_check.specs.Passing.{AllWithinLimits, IsFirstRefusal, OrNoMemory
 use Rattle.lucy_check.specs.declared.fault.CheckFault.{CheckFault}
 use Rattle.lucy_check.specs.declared.fault.CheckFault.TheVariants as check
 use Rattle.lucy_check.proofs.CheckLaws.{passes_all, all_within}
-use Rattle.lucy_solve.specs.System.{System, IsEarliest, IsGrounded, most_inequalities}
+use Rattle.lucy_solve.specs.System.{System, IsEarliest, IsGrounded}
 use Rattle.lucy_solve.specs.Outcomes.{IsRefutedBy}
 use Rattle.lucy_shape.specs.declared.shape.Shape.{Shape}
 use Rattle.lucy_shape.specs.declared.shape.RateFault.{RateFault}

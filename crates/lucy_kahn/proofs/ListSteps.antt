@@ -1,9 +1,9 @@
 -- One more item of a list that is made.
-use Rattle.std.proofs.Common.{ℕ, suc, ◌+◌, ◌-◌, ◌<◌, ◌≤◌, ◌≡◌, ◌⊎◌, inl, inr, true, false, cond, List, [], ◌∷◌, ◌++◌, Option, Some, None, length, drop, get_or, map, ap, sym, ◌∙◌, subst, arith, append_assoc, add-one, drop-cons, length-append}
+use Rattle.std.proofs.Common.{ℕ, suc, ◌+◌, ◌-◌, ◌<◌, ◌≤◌, ◌≡◌, ◌⊎◌, inl, inr, true, false, cond, List, [], ◌∷◌, ◌++◌, Option, Some, None, length, take, drop, get_or, map, ap, sym, ◌∙◌, subst, arith, append_assoc, add-one, drop-cons, length-append}
 use Rattle.std.specs.Prelude.{ℤ, pos, Result}
 use Rattle.std.specs.Result.{IfErr, IsErrAnd}
 use Rattle.std.specs.List.{range_with_len}
-use Rattle.std.proofs.lemmas.List.{append-nil}
+use Rattle.std.proofs.lemmas.List.{append-nil, take_all, take_more, length-take-le}
 use Rattle.std.proofs.lemmas.List.FromFn.{map-range_with_len_more}
 use Rattle.std.proofs.lemmas.Result.{err_from_is_err_and}
 use Rattle.std.proofs.Math.ListN.{drop_of_length-le}
@@ -70,6 +70,12 @@ kept_end word list made i l h =
     let none : drop i list ≡ [] = drop_of_length-le list l in
     whole_at_end made (kept word list) (ap (λ t. made ++ kept_past word i t) (sym none) ∙ h)
 
+pub kept_short : (word : Bits) (list made : List ℤ) (i : ℕ) → i < length list → bit_at word (i + 1) ≡ true → made ++ kept_past word i (drop i list) ≡ kept word list → length made < length (kept word list)
+kept_short word list made i l b h =
+    let x : ℤ = get_or list i (pos 0) in
+    let next : drop i list ≡ x ∷ drop (i + 1) list = drop-cons list i (pos 0) l ∙ ap (λ n. x ∷ drop n list) (sym (add-one i)) in
+    longer made (kept_past word (i + 1) (drop (i + 1) list)) (kept word list) x (ap (λ t. made ++ t) (sym (kept_one word list i x next b)) ∙ h)
+
 pub ones_short : (w : Bits) (k : ℕ) → 0 < k → bit_at w k ≡ false → ones_to w k < k
 ones_short w k some b =
     let z : k - 1 + 1 ≡ k = omega arith in
@@ -77,6 +83,19 @@ ones_short w k some b =
     let more : ones_to w (k - 1 + 1) ≡ ones_to w (k - 1) + 0 = ones_to-more w (k - 1) ∙ ap (λ c. ones_to w (k - 1) + one_if c) none in
     let same : ones_to w k ≡ ones_to w (k - 1 + 1) = ap (ones_to w) (sym z) in
     omega (arith, ones_to-le w (k - 1))
+
+-- a list that is copied behind others, so far, at its end, and where an item is refused
+pub copied_more : (front list made new : List ℤ) (i : ℕ) → i < length list → new ≡ made ++ get_or list i (pos 0) ∷ [] → made ≡ front ++ take i list → new ≡ front ++ take (i + 1) list
+copied_more front list made new i l e h =
+    let x : ℤ = get_or list i (pos 0) in
+    e ∙ ap (λ m. m ++ x ∷ []) h ∙ append_assoc front (take i list) (x ∷ []) ∙ ap (λ t. front ++ t) (sym (take_more list i (pos 0) l))
+
+pub copied_end : (front list made : List ℤ) (i : ℕ) → length list ≤ i → made ≡ front ++ take i list → made ≡ front ++ list
+copied_end front list made i l h = h ∙ ap (λ t. front ++ t) (take_all i list l)
+
+pub copied_short : (front list made : List ℤ) (i : ℕ) → i < length list → made ≡ front ++ take i list → length made < length (front ++ list)
+copied_short front list made i l h =
+    omega (arith, ap (λ (xs : List ℤ). length xs) h, length-append front (take i list), length-append front list, length-take-le i list (omega arith))
 
 pub grown : (made new : List ℤ) (item : ℤ) (most : ℕ) → new ≡ made ++ item ∷ [] → length made < most → length new ≤ most
 grown made new item most e l = omega (arith, ap (λ (xs : List ℤ). length xs) e, length-append made (item ∷ []))

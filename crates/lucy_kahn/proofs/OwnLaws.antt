@@ -1,8 +1,8 @@
 -- The lists of places that read in their own instance.
-use Rattle.std.proofs.Common.{ℕ, zero, suc, ◌+◌, ◌-◌, ◌<◌, ◌≤◌, ◌≡◌, List, [], ◌∷◌, ◌++◌, Some, length, map, get_or, set, replicate, take, ap, sym, refl, ◌∙◌, arith}
+use Rattle.std.proofs.Common.{ℕ, zero, suc, ◌+◌, ◌-◌, ◌<◌, ◌≤◌, ◌≡◌, List, [], ◌∷◌, ◌++◌, Some, length, map, get_or, set, replicate, take, ap, sym, refl, ◌∙◌, subst, arith}
 use Rattle.std.specs.Prelude.{ℤ, slice_get, slice_index_or}
 use Rattle.std.specs.List.{AllByRecursion, range_with_len}
-use Rattle.std.proofs.lemmas.Option.{get_or_from_slice_get}
+use Rattle.std.proofs.lemmas.Option.{same_Some, get_or_from_slice_get}
 use Rattle.lucy_host.specs.Arity.{arity}
 use Rattle.lucy_host.specs.OpValue.{op_value}
 use Rattle.lucy_host.specs.declared.op.Op.{Op}
@@ -18,12 +18,30 @@ use Rattle.lucy_kahn.specs.Turns.{own_at, AreShort}
 pub at_is : (own : List (List ℤ)) (place : ℕ) (list : List ℤ) → slice_get own (place - 1) ≡ Some list → list ≡ own_at own place
 at_is own place list e = sym (get_or_from_slice_get own (place - 1) list [] e)
 
+-- what holds of all holds of one
+pub all_at : {A : Type 0} (P : A → Type 0) (xs : List A) (i : ℕ) (x : A) → AllByRecursion P xs → slice_get xs i ≡ Some x → P x
+all_at P [] i x all e = absurd (cc e)
+all_at P (y ∷ xs) zero x all e = subst P (same_Some y x e) all.0
+all_at P (y ∷ xs) (suc i) x all e = all_at P xs i x all.1 e
+
 -- an operator looks at the lists of its operands alone
-pub pointwise_law : (kinds : List HostKind) (n : ℕ) (o : Op) (lists : List (List ℤ)) →
+pointwise_law : (kinds : List HostKind) (n : ℕ) (o : Op) (lists : List (List ℤ)) →
     item_by_item (arity o) (op_value o) (list_at lists 0 ∷ list_at lists 1 ∷ list_at lists 2 ∷ []) ≡ form_list kinds [] n (Pointwise o) lists
 pointwise_law kinds n op.Not lists = refl
 pointwise_law kinds n op.If lists = refl
 pointwise_law kinds n _ lists = refl
+
+pub operands_law : (kinds : List HostKind) (n : ℕ) (o : Op) (lists : List (List ℤ)) (a b c : List ℤ) → a ≡ list_at lists 0 → b ≡ list_at lists 1 → c ≡ list_at lists 2 →
+    item_by_item (arity o) (op_value o) (a ∷ b ∷ c ∷ []) ≡ form_list kinds [] n (Pointwise o) lists
+operands_law kinds n o lists a b c d e f =
+    let made : List (List ℤ) → List ℤ = λ xs. item_by_item (arity o) (op_value o) xs in
+    ap (λ x. made (x ∷ b ∷ c ∷ [])) d ∙ ap (λ x. made (list_at lists 0 ∷ x ∷ c ∷ [])) e ∙ ap (λ x. made (list_at lists 0 ∷ list_at lists 1 ∷ x ∷ [])) f ∙ pointwise_law kinds n o lists
+
+-- a list of those that are short
+pub short_at : (own : List (List ℤ)) (i : ℕ) → AreShort own → length (list_at own i) ≤ most_items
+short_at [] i all = omega arith
+short_at (x ∷ own) zero all = all.0
+short_at (x ∷ own) (suc i) all = short_at own i all.1
 
 -- one more list behind others that are short
 pub short_push : (lists : List (List ℤ)) (list : List ℤ) → AreShort lists → length list ≤ most_items → AreShort (lists ++ list ∷ [])

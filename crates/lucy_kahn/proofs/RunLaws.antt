@@ -1,6 +1,6 @@
 -- Turns, one after another.
 use Rattle.std.proofs.Common.{ℕ, suc, ◌+◌, ◌-◌, ◌<◌, ◌≤◌, ◌≡◌, ◌⊎◌, inl, inr, List, [], ◌∷◌, ◌++◌, Some, length, map, get_or, ap, sym, refl, ◌∙◌, subst, arith}
-use Rattle.std.specs.Prelude.{ℤ, slice_get, Result}
+use Rattle.std.specs.Prelude.{ℤ, slice_get, Result, Err}
 use Rattle.std.specs.Result.{IfErr, IsErrAnd}
 use Rattle.std.specs.List.{range_with_len}
 use Rattle.std.proofs.lemmas.Bool.{cases_lt}
@@ -19,7 +19,7 @@ use Rattle.lucy_kahn.specs.declared.error.KahnError.TheVariants.{Limit, OutOfMem
 use Rattle.lucy_kahn.specs.declared.instances.Instance.{Instance}
 use Rattle.lucy_kahn.specs.Outcomes.{most_items}
 use Rattle.lucy_kahn.specs.Instances.{AreInstances}
-use Rattle.lucy_kahn.specs.Turns.{own_at, lists_in, IsIterate, params_in, IsTurn, RefusesIterate, StandsIn, IsLongUpto, NonePassed, IsRun}
+use Rattle.lucy_kahn.specs.Turns.{own_at, lists_in, IsIterate, params_in, IsTurn, RefusesIterate, StandsIn, IsLong, IsLongUpto, NonePassed, IsRun}
 use Rattle.lucy_kahn.proofs.TurnLaws.{lists_are, own_lists, none_long}
 
 -- the exit of a `?`
@@ -27,6 +27,10 @@ pub err_exit : {T : Type 0} (r : Result T KahnError) (e : KahnError) (P : KahnEr
 err_exit r e P i h =
     let p = err_from_is_err_and r i in
     subst (λ x. IfErr x P) (sym p.1) (subst P (sym p.2) h)
+
+pub err_known : {T P : Type 0} (r : Result T KahnError) (e : KahnError) → IsErrAnd r (λ y. y ≡ e) → (e ≡ OutOfMemory) ⊎ ((e ≡ Limit limit.KahnItems) × P) → (r ≡ Err OutOfMemory) ⊎ (r ≡ Err (Limit limit.KahnItems))
+err_known r e i (inl none) = let p = err_from_is_err_and r i in inl (p.1 ∙ ap Err (p.2 ∙ none))
+err_known r e i (inr full) = let p = err_from_is_err_and r i in inr (p.1 ∙ ap Err (p.2 ∙ full.0))
 
 pub mapped_from : {A : Type 0} (f : ℕ → A) (a i j : ℕ) (old new : List A) (x : A) → a + i ≡ j → old ≡ map f (range_with_len a i) → new ≡ old ++ x ∷ [] → x ≡ f j → new ≡ map f (range_with_len a (i + 1))
 mapped_from f a i j old new x z e n h = n ∙ ap (λ xs. xs ++ x ∷ []) e ∙ ap (λ y. map f (range_with_len a i) ++ y ∷ []) h ∙ sym (map-range_with_len_more f a i j z)
@@ -68,6 +72,12 @@ module _ (kinds : List HostKind) (inputs : List (List ℤ)) (nodes : List Placed
           | inr k ↦ (let e : suc n ≡ m = omega (arith, k, l) in subst (λ j. length (kahn kinds inputs nodes j spot) ≤ most_items) e (none_long kinds inputs nodes list inner (suc n) after r.paths turn spot is))
         ];
       }
+
+  -- where no list was too long, none is
+  pub none_passed : (n turns : ℕ) → n ≡ turns → NonePassed kinds inputs nodes n → IsLongUpto kinds inputs nodes turns → ⊥
+  none_passed n turns z none long =
+      let is : IsLong kinds inputs nodes long.0 = long.2 in
+      omega (arith, is.2, none long.0 is.0 (omega (arith, z, long.1)) is.1)
 
   -- a refused turn, among so many
   pub passed_of : (n turns : ℕ) (e : KahnError) → n < turns → RefusesIterate kinds inputs nodes (suc n) e → (e ≡ OutOfMemory) ⊎ ((e ≡ Limit limit.KahnItems) × IsLongUpto kinds inputs nodes turns)

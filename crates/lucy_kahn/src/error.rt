@@ -6,7 +6,7 @@ use lucy_word::Limit;
 use std::alloc::{AllocError, AllocFailed};
 
 /// Why an iterate isn't given.
-#[derive(Clone, Copy, Debug, PartialEq, Eq)]
+#[derive(Clone, Copy)]
 pub enum KahnError {
     /// A list has more items than `KahnItems` allows: 65,536.
     Limit(Limit),

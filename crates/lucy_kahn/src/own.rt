@@ -1,5 +1,5 @@
 // The lists of places that read in their own instance.
-ghost use Rattle.std.specs.Prelude.{◌≡◌, ◌<◌, ◌^◌, ◌-◌, map, length, IfOk, IfErr};
+ghost use Rattle.std.specs.Prelude.{◌≡◌, ◌<◌, ◌^◌, ◌-◌, ◌∷◌, [], map, length, IfOk, IfErr};
 ghost use Rattle.lucy_host.specs.Host.{Serves, lent};
 ghost use Rattle.lucy_host.specs.Operators.{kinds_of};
 ghost use Rattle.lucy_stream.specs.Items.{list_at};
@@ -29,6 +29,14 @@ fn operand<'a>(own: &'a Lists, places: &[u32], operand: usize) -> &'a [i64]
     }
 }
 
+// The list of a place that is there.
+fn read(own: &Lists, place: u32) -> &[i64]
+    requires { AreThere own.now (place ∷ []) }
+    ensures { result.now ≡ own_at own.now place }
+{
+    own.at(place)
+}
+
 /// The list of a place in the iterate behind this one, made of the lists of its instance in this one. Parameters and results
 /// of calls read elsewhere, and have none here.
 pub(crate) fn own_list<F: Fn(u32, i64, i64) -> i64 + Sync>(
@@ -48,8 +56,8 @@ pub(crate) fn own_list<F: Fn(u32, i64, i64) -> i64 + Sync>(
 {
     match kind {
         PlaceKind::Lit(lit) => repeated(alloc, number + 1, literal_value(*lit)),
-        PlaceKind::Defined(e) => copied(alloc, own.at(*e)),
-        PlaceKind::Buffer(_, e) => copied(alloc, own.at(*e)),
+        PlaceKind::Defined(e) => copied(alloc, read(own, *e)),
+        PlaceKind::Buffer(_, e) => copied(alloc, read(own, *e)),
         PlaceKind::Op(op, args) => {
             let args = args.list();
             let a = operand(own, args, 0);
@@ -57,10 +65,10 @@ pub(crate) fn own_list<F: Fn(u32, i64, i64) -> i64 + Sync>(
             let c = operand(own, args, 2);
             pointwise(alloc, *op, a, b, c)
         }
-        PlaceKind::Host(op, a, b) => hosted(alloc, host, *op, own.at(*a), own.at(*b)),
-        PlaceKind::When(e, word) => kept(alloc, word, own.at(*e)),
-        PlaceKind::Merge(word, a, b) => merged(alloc, word, own.at(*a), own.at(*b)),
-        PlaceKind::Fby(lit, e) => delayed(alloc, literal_value(*lit), own.at(*e)),
+        PlaceKind::Host(op, a, b) => hosted(alloc, host, *op, read(own, *a), read(own, *b)),
+        PlaceKind::When(e, word) => kept(alloc, word, read(own, *e)),
+        PlaceKind::Merge(word, a, b) => merged(alloc, word, read(own, *a), read(own, *b)),
+        PlaceKind::Fby(lit, e) => delayed(alloc, literal_value(*lit), read(own, *e)),
         PlaceKind::Param | PlaceKind::Result(_, _) => Ok(Vec::new(alloc)),
     }
 }

@@ -1,11 +1,11 @@
 -- What comes next of what is held, answer by answer.
-use Rattle.std.specs.Prelude.{ℕ, ℤ, ◌+◌, ◌≡◌, Bool, true, List, [], ◌∷◌, ◌++◌, length, Option, Some, None, drop, take}
+use Rattle.std.specs.Prelude.{ℕ, ℤ, ◌+◌, ◌≡◌, Bool, true, List, [], ◌∷◌, ◌++◌, Some, take}
 use Rattle.lucy_lines.specs.declared.input.InputSpec.{InputSpec}
 use Rattle.lucy_lines.specs.declared.front.Front.TheVariants.{Line, Long, Past, Open}
 use Rattle.lucy_lines.specs.declared.kind.Kind.{Kind}
 use Rattle.lucy_lines.specs.declared.kind.Kind.TheVariants as kind
 use Rattle.lucy_lines.specs.declared.reader.TextFault.{TextFault}
-use Rattle.lucy_lines.specs.declared.reader.TextFault.TheVariants.{BadLine, UnknownStream, BadValue, TooLong}
+use Rattle.lucy_lines.specs.declared.reader.TextFault.TheVariants.{BadLine, TooLong}
 use Rattle.lucy_lines.specs.Fronts.{front_of}
 use Rattle.lucy_lines.specs.Kinds.{IsKind}
 use Rattle.lucy_lines.specs.Cuts.{Held, past, with_more, ItemOf, refusal}

@@ -16,7 +16,7 @@ pub(crate) fn most_bytes() -> u64
 }
 
 /// What the bytes decide of the line at their front. Lengths are in bytes.
-#[derive(Clone, Copy, PartialEq, Eq)]
+#[derive(Clone, Copy)]
 pub(crate) enum Front {
     /// A line: its length before its end, and with it.
     Line { content: usize, length: usize },

@@ -16,7 +16,7 @@ use std::alloc::Global;
 use std::marker::Model;
 
 /// What an input line gives.
-#[derive(Clone, Copy, Debug, PartialEq, Eq)]
+#[derive(Clone, Copy)]
 pub enum Line {
     /// A value of the stream of this number, which counts from 0. A truth is 1 or 0.
     Item { stream: u32, value: i64 },
@@ -25,7 +25,7 @@ pub enum Line {
 }
 
 /// Why an input ends before its end. Lines count from 1.
-#[derive(Clone, Copy, Debug, PartialEq, Eq)]
+#[derive(Clone, Copy)]
 pub enum TextFault {
     /// The line isn't a name and a value, or is longer than 4,096 bytes.
     BadLine(u64),
@@ -40,7 +40,7 @@ pub enum TextFault {
 }
 
 // What the bytes that are held give next.
-#[derive(Clone, Copy, PartialEq, Eq)]
+#[derive(Clone, Copy)]
 enum Step {
     Blank,
     Item { stream: u32, value: i64 },

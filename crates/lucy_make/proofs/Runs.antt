@@ -20,7 +20,7 @@ use Rattle.lucy_run.specs.Courses.{CourseView, Program, CanBeRunInBlocks, values
 use Rattle.lucy_make.specs.Text.{made_input}
 use Rattle.lucy_make.specs.Figures.{sum_of, slots_of, net_lines, run_lines, figures}
 use Rattle.lucy_make.specs.Owes.{printed_values, where_done, OwesSummary}
-use Rattle.lucy_make.specs.Blocks.{first_to, IsTold, IsBeforeFirst, TellsFirst, FirstAgrees}
+use Rattle.lucy_make.specs.Blocks.{first_to, IsTold, IsBeforeFirst, TellsFirstResult, FirstAgrees}
 use Rattle.lucy_make.proofs.Feeds.{whole_feeds}
 
 -- where the run is refused nothing stands
@@ -56,7 +56,7 @@ module _ (kinds : List HostKind) (a : Accepted) where
     pub is_first : (source : SeenSource) → IsBeforeFirst kinds source course
     is_first source = let (given_is, block_is, at, along) = begun_here in (made_program, source, can, begun_along source, at, refl)
 
-    module _ (source now : SeenSource) (last : CourseView) (count : ℕ) (sum : ℤ) (tells : TellsFirst source now course last count sum) (same : last.given ≡ course.given) where
+    module _ (source now : SeenSource) (last : CourseView) (count : ℕ) (sum : ℤ) (tells : TellsFirstResult source now course last count sum) (same : last.given ≡ course.given) where
       told : (all : List ItemOf) × IsAlong made_program source all now last × HasStopped last × IsTold made_program all last.horizon count sum
       told = let (given_is, block_is, at, along) = begun_here in tells made_program source can (begun_along source) at
 

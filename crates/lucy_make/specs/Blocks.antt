@@ -28,8 +28,8 @@ abbrev pub IsBeforeFirst : List HostKind → (now : SeenSource) → CourseView �
 IsBeforeFirst kinds now c = (p : Program) × (first : SeenSource) × CanBeRunInBlocks p × IsAlong p first [] now c × (c.horizon ≡ 0) × (kinds ≡ p.kinds)
 
 -- it was run to its last block, and main's first result was told
-abbrev pub TellsFirst : (before now : SeenSource) (old new : CourseView) (count : ℕ) (sum : ℤ) → Type 0
-TellsFirst before now old new count sum =
+abbrev pub TellsFirstResult : (before now : SeenSource) (old new : CourseView) (count : ℕ) (sum : ℤ) → Type 0
+TellsFirstResult before now old new count sum =
     (p : Program) (first : SeenSource) → CanBeRunInBlocks p → IsAlong p first [] before old → old.horizon ≡ 0 →
     (all : List ItemOf) × IsAlong p first all now new × HasStopped new × IsTold p all new.horizon count sum
 

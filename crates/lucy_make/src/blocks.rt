@@ -2,7 +2,7 @@
 ghost use Rattle.std.specs.Prelude.{◌≡◌, IfOk};
 ghost use Rattle.lucy_host.specs.Host.{Serves, lent};
 ghost use Rattle.lucy_host.specs.Operators.{kinds_of};
-ghost use Rattle.lucy_make.specs.Blocks.{IsBeforeFirst, TellsFirst};
+ghost use Rattle.lucy_make.specs.Blocks.{IsBeforeFirst, TellsFirstResult};
 
 use crate::figures::Tally;
 use crate::laws::first_goes_on;
@@ -30,7 +30,7 @@ pub(crate) fn tell<
 ) -> Result<Tally, OutOfMemory>
     requires serves { Serves F.pre F.post host.now }
     requires first { IsBeforeFirst (kinds_of (lent host.now)) (I.seen source.old) course.old }
-    ensures tells { IfOk result (λ tally. TellsFirst (I.seen source.old) (I.seen source.new) course.old course.new tally.count tally.sum) }
+    ensures tells { IfOk result (λ tally. TellsFirstResult (I.seen source.old) (I.seen source.new) course.old course.new tally.count tally.sum) }
     ensures given { course.new.given ≡ course.old.given }
 {
     first_goes_on();

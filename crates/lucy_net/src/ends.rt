@@ -11,7 +11,7 @@ use crate::net::Actor;
 use crate::state::ActorState;
 
 /// What an actor does next, by the end that it does it on.
-#[derive(Clone, Copy, Debug, PartialEq, Eq)]
+#[derive(Clone, Copy)]
 pub enum EndMove {
     /// It takes from this one of its takes, counted from 0.
     Take(u32),

@@ -12,7 +12,7 @@ use crate::kind::ActorKind;
 use crate::net::Actor;
 
 /// What an actor does next, with the number of the ring.
-#[derive(Clone, Copy, Debug, PartialEq, Eq)]
+#[derive(Clone, Copy, PartialEq, Eq)]
 pub enum Move {
     /// It takes an item.
     Take(u32),

@@ -18,7 +18,7 @@ use lucy_word::Word;
 
 /// Where an actor stands in its list of operations, and what it took last. The calls on it go by a cursor in the word that
 /// the actor reads, so that none of them divides or counts, however many firings there were.
-#[derive(Clone, Copy, Debug, PartialEq, Eq)]
+#[derive(Clone, Copy)]
 pub struct ActorState {
     /// How many firings it has to do.
     pub quota: u64,

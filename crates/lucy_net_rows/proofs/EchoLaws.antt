@@ -13,7 +13,7 @@ use Rattle.lucy_net.specs.Plans.{form_of}
 use Rattle.lucy_net.specs.Proper.{IsProperActor, IsProperRing, IsProper, IsSupplied}
 use Rattle.lucy_net.specs.States.{KnowsOperator}
 use Rattle.lucy_cause.specs.Schedules.{Timetable, IsScheduleOf}
-use Rattle.lucy_core.specs.Seen.{Seen, IsOutputOf, MakesCore, first_seen, after_picks}
+use Rattle.lucy_core.specs.Seen.{Seen, IsOutputOf, CanMakeCore, first_seen, after_picks}
 use Rattle.lucy_runner.specs.Views.{RunnerView, input_count, inputs_for, first_runner}
 use Rattle.lucy_runner.specs.Blocks.{longer_inputs, grown_seen}
 use Rattle.lucy_net_rows.specs.Echo.{giver, taker, ring, echo, IsEchoReady, IsAt}
@@ -76,12 +76,12 @@ known w count (suc (suc a)) actor e = absurd (cc)
 
 -- a core can be made of it
 pub echo_fixed : (w : Bits) (net : Net) (schedule : Timetable) (inputs : List (List ℤ)) (operators : List Operator) (items : List ℤ) (instants : ℕ) → net ≡ echo w → IsScheduleOf net schedule → inputs ≡ items ∷ [] → instants ≡ length items → length items ≤ 1048576 →
-    MakesCore net schedule inputs operators instants
+    CanMakeCore net schedule inputs operators instants
 echo_fixed w net schedule inputs operators items instants same is list all few =
     let at : IsScheduleOf (echo w) schedule = subst (λ (n : Net). IsScheduleOf n schedule) same is in
     let there : length (list_at inputs 0) ≡ length items = ap (λ xs. length (list_at xs 0)) list in
-    let fixed : MakesCore (echo w) schedule inputs operators instants = record { proper = echo_proper w; sound = at.sound; early = omega arith; supplied = supplied w inputs instants (omega arith); known = known w (length operators) } in
-    subst (λ (n : Net). MakesCore n schedule inputs operators instants) (sym same) fixed
+    let fixed : CanMakeCore (echo w) schedule inputs operators instants = record { proper = echo_proper w; sound = at.sound; early = omega arith; supplied = supplied w inputs instants (omega arith); known = known w (length operators) } in
+    subst (λ (n : Net). CanMakeCore n schedule inputs operators instants) (sym same) fixed
 
 pub echo_ready : (w : Bits) (net : Net) (schedule : Timetable) (inputs : List (List ℤ)) (operators : List Operator) (items : List ℤ) (instants : ℕ) (core : Seen) → net ≡ echo w → inputs ≡ items ∷ [] → operators ≡ [] → instants ≡ length items →
     core ≡ first_seen net schedule inputs operators instants → IsEchoReady w items core

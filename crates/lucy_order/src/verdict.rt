@@ -7,7 +7,7 @@ use crate::rate::same_rate;
 use lucy_word::Word;
 
 /// How two words stand to each other.
-#[derive(Clone, Copy, Debug, PartialEq, Eq)]
+#[derive(Clone, Copy)]
 pub enum Verdict {
     /// The first is adaptable to the second. The number is the size of the buffer between them: the most items that wait
     /// in it.

@@ -4,7 +4,7 @@ use lucy_word::OutOfMemory;
 use std::alloc::{AllocError, Global};
 
 /// Where the box of a place stands: its column and its row, from 0.
-#[derive(Clone, Copy, Debug, PartialEq, Eq)]
+#[derive(Clone, Copy)]
 pub(crate) struct Spot {
     pub column: usize,
     pub row: u64,

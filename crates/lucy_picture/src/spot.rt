@@ -4,7 +4,7 @@ ghost use Rattle.lucy_picture.specs.Spots.{line_ends, IsSpot};
 
 /// Where an offset stands: its line, and its column in bytes, both from 1, and the offsets, from 0, at which the line begins and
 /// ends, its line feed left out.
-#[derive(Clone, Copy, Debug, PartialEq, Eq)]
+#[derive(Clone, Copy)]
 pub struct Spot {
     pub line: usize,
     pub column: usize,

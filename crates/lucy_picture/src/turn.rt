@@ -22,7 +22,7 @@ use lucy_word::{Limit, OutOfMemory, Word, lcm};
 use std::alloc::{AllocError, Global};
 
 /// When streams come again together: behind so many instants of a prefix, after each period.
-#[derive(Clone, Copy, Debug, PartialEq, Eq)]
+#[derive(Clone, Copy)]
 pub struct Turn {
     pub prefix: u64,
     pub period: u64,

@@ -14,7 +14,7 @@ use Rattle.lucy_place.specs.Texts.{is_in}
 use Rattle.lucy_place.specs.declared.error.NameError.{NameError}
 use Rattle.lucy_place.proofs.ListLaws.{drop_next}
 use Rattle.lucy_place.proofs.VerdictLaws.{none_front, is_new, tells_front}
-use Rattle.lucy_place.specs.Placing.{TellsFirst}
+use Rattle.lucy_place.specs.Placing.{TellsFirstFault}
 use Rattle.lucy_place.specs.Written.{first_unwritten}
 use Rattle.lucy_place.specs.Proper.{AreProper, HaveOperators}
 use Rattle.lucy_place.specs.WrittenNodes.{TellWritten}
@@ -59,14 +59,19 @@ module _ (ops : List Operator) where
     ap length (sym (append-nil ss) ∙ inv.spans) ∙ length-map all first_unwritten,
   )
 
+  -- with all nodes placed the program is
+  pub placed_is : (all above : ProgramTree) (names : List (List ℕ)) (ps : List PlacedNode) (ss : List (Option Span)) → NodesPlaced all above [] names ps ss →
+      (faults ops all ≡ []) × (ps ≡ placed_nodes ops all) × (ss ≡ map first_unwritten all)
+  placed_is all above names ps ss inv = (sym inv.faults, sym (append-nil ps) ∙ inv.placed, sym (append-nil ss) ∙ inv.spans)
+
   -- what is told of a node is told of the program
   pub told_by : (all above rest : ProgramTree) (n : NodeTree) (names : List (List ℕ)) (ps : List PlacedNode) (ss : List (Option Span)) (e : NameError) →
-      NodesPlaced all above (n ∷ rest) names ps ss → TellsFirst (node_faults ops all above n) e → TellsFirst (nodes_faults ops all [] all) e
-  told_by all above rest n names ps ss e inv t = subst (λ fs. TellsFirst fs e) inv.faults (tells_front (node_faults ops all above n) (nodes_faults ops all (above ++ n ∷ []) rest) t)
+      NodesPlaced all above (n ∷ rest) names ps ss → TellsFirstFault (node_faults ops all above n) e → TellsFirstFault (nodes_faults ops all [] all) e
+  told_by all above rest n names ps ss e inv t = subst (λ fs. TellsFirstFault fs e) inv.faults (tells_front (node_faults ops all above n) (nodes_faults ops all (above ++ n ∷ []) rest) t)
 
   pub told_at : (nodes : List Node) (i : ℕ) (n : Node) (names : List (List ℕ)) (ps : List PlacedNode) (ss : List (Option Span)) (e : NameError) → i < length nodes → n ≡ get_or nodes i n →
       NodesPlaced (map node_tree nodes) (map node_tree (take i nodes)) (map node_tree (drop i nodes)) names ps ss →
-      TellsFirst (node_faults ops (map node_tree nodes) (map node_tree (take i nodes)) (node_tree n)) e → TellsFirst (faults ops (map node_tree nodes)) e
+      TellsFirstFault (node_faults ops (map node_tree nodes) (map node_tree (take i nodes)) (node_tree n)) e → TellsFirstFault (faults ops (map node_tree nodes)) e
   told_at nodes i n names ps ss e h is inv t =
       told_by (map node_tree nodes) (map node_tree (take i nodes)) (map node_tree (drop (i + 1) nodes)) (node_tree n) names ps ss e
       (subst (λ r. NodesPlaced (map node_tree nodes) (map node_tree (take i nodes)) (map node_tree r) names ps ss) (drop_next nodes i n h is) inv) t

@@ -11,7 +11,7 @@ use Rattle.lucy_place.specs.Phrases.{expr_phrases, count}
 use Rattle.lucy_place.specs.Streams.{text_of}
 use Rattle.lucy_place.specs.Faults.{verdict, unless, repeat, repeats}
 use Rattle.lucy_place.specs.declared.error.NameError.TheVariants.{OutOfMemory}
-use Rattle.lucy_place.specs.Placing.{TellsFirst, IsFirstFault}
+use Rattle.lucy_place.specs.Placing.{TellsFirstFault, IsFirstFault}
 
 pub verdict_front : (xs ys : List NameError) {e : NameError} → verdict xs ≡ Err e → verdict (xs ++ ys) ≡ Err e
 verdict_front [] ys h = cc
@@ -21,9 +21,22 @@ pub verdict_back : (xs ys : List NameError) → verdict xs ≡ Ok tt → verdict
 verdict_back [] ys h = refl
 verdict_back (x ∷ xs) ys h = cc
 
-pub tells_front : (xs ys : List NameError) {e : NameError} → TellsFirst xs e → TellsFirst (xs ++ ys) e
+pub tells_front : (xs ys : List NameError) {e : NameError} → TellsFirstFault xs e → TellsFirstFault (xs ++ ys) e
 tells_front xs ys (inl h) = inl h
 tells_front xs ys (inr h) = inr (verdict_front xs ys h)
+
+-- no fault in the first part: the rest tells the first of all
+pub tells_back : (xs ys : List NameError) {e : NameError} → xs ≡ [] → TellsFirstFault ys e → TellsFirstFault (xs ++ ys) e
+tells_back [] ys none h = h
+tells_back (x ∷ xs) ys none h = cc
+
+pub faultless : (xs : List NameError) → verdict xs ≡ Ok tt → xs ≡ []
+faultless [] h = refl
+faultless (x ∷ xs) h = cc
+
+pub all_faultless : (xs ys : List NameError) → xs ≡ [] → ys ≡ [] → xs ++ ys ≡ []
+all_faultless [] ys h g = g
+all_faultless (x ∷ xs) ys h g = cc
 
 -- the error of a call goes out of the function by `?`
 pub leaves : {T : Type 0} (P Q : NameError → Type 0) (e : NameError) (r : Result T NameError) →
@@ -54,11 +67,11 @@ define_more s t xs ys new e = (
 )
 
 -- what is told of a program where an error is one that its faults tell
-pub accepted_by : {T : Type 0} (fs : List NameError) (r : Result T NameError) (e : NameError) → r ≡ Err e → TellsFirst fs e → fs ≡ [] → (r ≡ Err OutOfMemory) ⊎ IsOk r
+pub accepted_by : {T : Type 0} (fs : List NameError) (r : Result T NameError) (e : NameError) → r ≡ Err e → TellsFirstFault fs e → fs ≡ [] → (r ≡ Err OutOfMemory) ⊎ IsOk r
 accepted_by fs r e is (inl out) none = inl (is ∙ ap Err out)
 accepted_by fs r e is (inr first) none = let h : Ok tt ≡ Err e = sym (ap verdict none) ∙ first in cc
 
-pub rejected_by : {T : Type 0} (fs : List NameError) (r : Result T NameError) (e : NameError) → r ≡ Err e → TellsFirst fs e → (y : NameError) → IsFirstFault fs y → (r ≡ Err OutOfMemory) ⊎ (r ≡ Err y)
+pub rejected_by : {T : Type 0} (fs : List NameError) (r : Result T NameError) (e : NameError) → r ≡ Err e → TellsFirstFault fs e → (y : NameError) → IsFirstFault fs y → (r ≡ Err OutOfMemory) ⊎ (r ≡ Err y)
 rejected_by fs r e is (inl out) y first = inl (is ∙ ap Err out)
 rejected_by fs r e is (inr told) y first = inr (is ∙ same (sym told ∙ first))
   where

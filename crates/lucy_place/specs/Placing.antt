@@ -14,8 +14,8 @@ abbrev pub IsFirstFault : List NameError → NameError → Type 0
 IsFirstFault fs e = verdict fs ≡ Err e
 
 -- the first of the faults, unless memory ran out
-abbrev pub TellsFirst : List NameError → NameError → Type 0
-TellsFirst fs e = (e ≡ OutOfMemory) ⊎ IsFirstFault fs e
+abbrev pub TellsFirstFault : List NameError → NameError → Type 0
+TellsFirstFault fs e = (e ≡ OutOfMemory) ⊎ IsFirstFault fs e
 
 -- the program's names are good, where the host has these operators, and these are its places
 pub record IsPlaced (ops : List Operator) (p : ProgramTree) (v : PlacedProgram) : Type 0 where

@@ -7,7 +7,7 @@ use lucy_word::Limit;
 use std::alloc::{AllocError, AllocFailed};
 
 /// Why a program has no places. A span is that of the name.
-#[derive(Clone, Copy, Debug, PartialEq, Eq)]
+#[derive(Clone, Copy)]
 pub enum NameError {
     /// No node has the name that is called, no operator of the host the name that is used, or no stream of the node the
     /// name that is read.

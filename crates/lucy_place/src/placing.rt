@@ -1,14 +1,16 @@
 // The places of a program.
-ghost use Rattle.std.specs.Prelude.{◌≡◌, ◌⊎◌, ◌++◌, ◌∷◌, [], ◌^◌, ◌<◌, ◌≤◌, length, map, IfOk, IfErr, OnOk, IsOk, Ok, Err};
+ghost use Rattle.std.specs.Prelude.{◌≡◌, ◌⊎◌, ◌++◌, ◌∷◌, [], ◌^◌, ◌<◌, ◌≤◌, length, map, IfOk, IfErr, OnOk, IsOk, Ok, Err, if◌then◌else◌};
 ghost use Rattle.lucy_tree.specs.View.{node_tree, def_tree, program_tree};
 ghost use Rattle.lucy_tree.specs.Shaped.{IsShapedNode, IsShapedProgram};
 ghost use Rattle.lucy_place.specs.declared.error.NameError.TheVariants as error;
 ghost use Rattle.lucy_place.specs.Streams.{text_of, streams, node_names};
 ghost use Rattle.lucy_place.specs.Faults.{verdict, def_faults, node_faults, nodes_faults, faults};
 ghost use Rattle.lucy_place.specs.Nodes.{placed_node, placed_below};
-ghost use Rattle.lucy_place.specs.Placing.{TellsFirst, IsFirstFault, IsPlaced};
+ghost use Rattle.lucy_place.specs.Placing.{TellsFirstFault, IsFirstFault, IsPlaced};
 ghost use Rattle.lucy_place.specs.Proper.{HaveOperators};
-ghost use Rattle.lucy_place.specs.Views.{within_of};
+ghost use Rattle.lucy_place.specs.Texts.{is_in};
+ghost use Rattle.lucy_place.specs.Written.{first_unwritten};
+ghost use Rattle.lucy_place.specs.Views.{within_of, inner_faults};
 
 use crate::error::NameError;
 use crate::faults::expr_names;
@@ -21,7 +23,7 @@ use crate::scope::Scope;
 use crate::streams::{results, streams};
 use crate::unwritten::first_unwritten;
 use lucy_host::Ops;
-use lucy_tree::{Def, Node, Program};
+use lucy_tree::{Def, Node, Program, Span};
 use lucy_word::Limit;
 use std::alloc::Global;
 
@@ -33,6 +35,27 @@ fn def_names(names: &Names<'_, '_>, defs: &[Def]) -> Result<(), NameError>
         expr_names(names, &def.right, wanted(def.left.list()))?;
     }
     Ok(())
+}
+
+// The places of a node whose name and streams are good, once the names in it are.
+fn named_node(
+    alloc: Global,
+    hash: NameHash,
+    names: &Names<'_, '_>,
+    node: &Node,
+) -> Result<PlacedNode, NameError>
+    requires few { length names.now.nodes.now < 2 ^ 32 }
+    requires streams { names.now.streams.now ≡ map text_of (streams (node_tree node.now)) }
+    requires shaped { IsShapedNode (node_tree node.now) }
+    ensures ok { IfOk result (λ placed. (inner_faults (within_of names.now) (node_tree node.now) ≡ []) × (placed ≡ placed_node names.now.ops.now (map node_tree names.now.above.now) (node_tree node.now))) }
+    ensures refused { IfErr result (TellsFirstFault (inner_faults (within_of names.now) (node_tree node.now))) }
+{
+    def_names(names, node.defs.list())?;
+    results(alloc, hash, names.streams, node.results.list())?;
+    if !fits(node, names.streams.len()) {
+        return Err(NameError::TooMany(Limit::Places));
+    }
+    node_places(alloc, names, node)
 }
 
 // The places of a node with these nodes above it, once its names are good.
@@ -49,7 +72,7 @@ fn next_node<'p>(
     requires few { length scope.now < 2 ^ 32 }
     requires shaped { IsShapedNode (node_tree node.now) }
     ensures ok { IfOk result (λ placed. (node_faults ops.now (map node_tree all.now) (map node_tree above.now) (node_tree node.now) ≡ []) × (placed ≡ placed_node ops.now (map node_tree above.now) (node_tree node.now))) }
-    ensures refused { IfErr result (TellsFirst (node_faults ops.now (map node_tree all.now) (map node_tree above.now) (node_tree node.now))) }
+    ensures refused { IfErr result (TellsFirstFault (node_faults ops.now (map node_tree all.now) (map node_tree above.now) (node_tree node.now))) }
 {
     if scope.find(node.name.text.bytes()).is_some() {
         return Err(NameError::Twice(node.name.span));
@@ -62,12 +85,26 @@ fn next_node<'p>(
         nodes: scope,
         streams: &known,
     };
-    def_names(&names, node.defs.list())?;
-    results(alloc, hash, &known, node.results.list())?;
-    if !fits(node, known.len()) {
-        return Err(NameError::TooMany(Limit::Places));
-    }
-    node_places(alloc, &names, node)
+    named_node(alloc, hash, &names, node)
+}
+
+// Keeps a node that is placed, with the first span that keeps it from being written, behind those above it.
+fn keep<'p>(
+    scope: &mut Scope<'p>,
+    list: &mut Vec<PlacedNode>,
+    spans: &mut Vec<Option<Span>>,
+    placed: PlacedNode,
+    node: &'p Node,
+) -> Result<(), NameError>
+    ensures names { OnOk result (scope.new ≡ (if is_in scope.old node.now.name.text then scope.old else scope.old ++ node.now.name.text ∷ [])) }
+    ensures list { OnOk result (list.new.items ≡ list.old.items ++ placed ∷ []) }
+    ensures spans { OnOk result (spans.new.items ≡ spans.old.items ++ first_unwritten (node_tree node.now) ∷ []) }
+    ensures refused { IfErr result (λ e. e ≡ error.OutOfMemory) }
+{
+    list.push(placed)?;
+    spans.push(first_unwritten(node))?;
+    scope.add(node.name.text.bytes())?;
+    Ok(())
 }
 
 /// The places of a program, or what is wrong with its names: `OutOfMemory`, or the first fault, node by node. In a node first
@@ -78,7 +115,7 @@ pub fn place(alloc: Global, program: &Program, ops: &Ops) -> Result<Placed, Name
     requires shaped { IsShapedProgram (program_tree program.now) }
     ensures ok { IfOk result (IsPlaced ops.now (program_tree program.now)) }
     ensures operators { IfOk result (λ placed. HaveOperators (length ops.now) placed.nodes) }
-    ensures refused { IfErr result (TellsFirst (faults ops.now (program_tree program.now))) }
+    ensures refused { IfErr result (TellsFirstFault (faults ops.now (program_tree program.now))) }
     ensures accepted { faults ops.now (program_tree program.now) ≡ [] → (result ≡ Err error.OutOfMemory) ⊎ IsOk result }
     ensures rejected { (e : NameError) → IsFirstFault (faults ops.now (program_tree program.now)) e → (result ≡ Err error.OutOfMemory) ⊎ (result ≡ Err e) }
 {
@@ -88,9 +125,8 @@ pub fn place(alloc: Global, program: &Program, ops: &Ops) -> Result<Placed, Name
     let mut list = Vec::new(alloc);
     let mut spans = Vec::new(alloc);
     'each: for (i, node) in nodes.iter().enumerate() {
-        list.push(next_node(alloc, hash, ops, nodes, &nodes[..i], &scope, node)?)?;
-        spans.push(first_unwritten(node))?;
-        scope.add(node.name.text.bytes())?;
+        let placed = next_node(alloc, hash, ops, nodes, &nodes[..i], &scope, node)?;
+        keep(&mut scope, &mut list, &mut spans, placed, node)?;
     }
     Ok(Placed { list, spans })
 }

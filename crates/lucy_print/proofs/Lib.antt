@@ -1,3 +1,4 @@
 mod BoxedForms
+mod Listings
 mod Operands
 mod ReadAgain

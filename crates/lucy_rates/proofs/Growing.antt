@@ -1,7 +1,7 @@
 -- How a tree grows.
-use Rattle.std.proofs.Common.{◌≡◌, ℕ, ◌+◌, ◌-◌, ◌*◌, ◌<◌, ◌≤◌, ◌⊎◌, zero, suc, List, [], ◌∷◌, ◌++◌, length, get_or, set, min, take, cond, eqb, inl, inr, sym, ap, ◌∙◌, subst, refl, arith, length-append}
+use Rattle.std.proofs.Common.{◌≡◌, ℕ, ◌+◌, ◌-◌, ◌*◌, ◌<◌, ◌≤◌, ◌⊎◌, zero, suc, List, [], ◌∷◌, ◌++◌, length, get_or, set, min, take, cond, eqb, inl, inr, sym, ap, ◌∙◌, subst, refl, arith, length-append, replicate}
 use Rattle.std.proofs.lemmas.Bool.{cases_lt, cases_eq}
-use Rattle.std.proofs.lemmas.List.{get_or_append_left, get_or-append-add, take-append-le, take_all, get_or-set_same, get_or-set_other, length-set}
+use Rattle.std.proofs.lemmas.List.{length-replicate, get_or-replicate, get_or_append_left, get_or-append-add, take-append-le, take_all, get_or-set_same, get_or-set_other, length-set}
 use Rattle.std.proofs.lemmas.List.Elements.{Contains-append_left, Contains-push, Contains-push_cases}
 use Rattle.std.specs.List.{All, count_by}
 use Rattle.std.proofs.lemmas.List.Sums.{sum_by-set}
@@ -12,7 +12,7 @@ use Rattle.lucy_need.specs.declared.need.Term.{Term}
 use Rattle.lucy_need.specs.declared.need.Need.{Need}
 use Rattle.lucy_rates.specs.Walks.{first_of, second_of, need_at, no_need}
 use Rattle.lucy_rates.specs.Trees.{IsTree, IsReachedByTree, IsNamedBy, JoinsMore}
-use Rattle.lucy_rates.specs.Growing.{no_number, IsJoiningStep, IsNear, IsGrowing, set_at, AreFirstSoFar}
+use Rattle.lucy_rates.specs.Growing.{no_number, IsJoiningStep, IsNear, IsGrowing, set_at, AreFirstNeeds, AreFirstSoFar}
 
 -- reached before, or by the need that is added
 pub reached_cases : (needs : List Need) (root : ℕ) (tree : List ℕ) (m x : ℕ) → IsReachedByTree needs root (tree ++ m ∷ []) x → IsReachedByTree needs root tree x ⊎ IsNamedBy x (need_at needs m)
@@ -310,3 +310,24 @@ named_step needs clocks k list mid last need s t h within l e f g m n =
     let a : (first_of (need_at needs k)).clock ≡ s.clock = ap (λ (z : Need). (first_of z).clock) (sym is) ∙ ap (λ (z : Term). z.clock) (sym f) in
     let b : (second_of (need_at needs k)).clock ≡ t.clock = ap (λ (z : Need). (second_of z).clock) (sym is) ∙ ap (λ (z : Term). z.clock) (sym g) in
     subst (AreFirstSoFar needs clocks (k + 1)) (sym (n ∙ ap (λ z. set_at z t.clock k) m)) (named_more needs clocks k s.clock t.clock list h (omega (arith, w.0, a)) (omega (arith, w.1, b)) a b)
+
+-- before any need the number of needs stands for each clock
+pub named_none : (needs : List Need) (n m : ℕ) (list : List ℕ) → list ≡ replicate n m → m ≡ length needs → AreFirstSoFar needs (length list) 0 list
+named_none needs n m list e f =
+    let size : length list ≡ n = ap length e ∙ length-replicate n m in
+    let is : (c : ℕ) → c < length list → get_or list c 0 ≡ length needs = λ c l. ap (λ (x : List ℕ). get_or x c 0) e ∙ get_or-replicate n c m 0 (omega arith) ∙ f in
+    record {
+      size = refl;
+      before = λ c k l upto. absurd (omega arith);
+      within = λ c l. (let a = is c l in omega arith);
+      named = λ c l m. (let a = is c l in absurd (omega arith));
+    }
+
+-- after all of them the first ones stand
+pub named_all : (needs : List Need) (n clocks : ℕ) (firsts : List ℕ) → n ≡ clocks → AreFirstSoFar needs n (length needs) firsts → AreFirstNeeds needs clocks firsts
+named_all needs n clocks firsts e h = record {
+  size = h.size ∙ e;
+  before = λ c k l below. (let w = h.within c (omega arith) in h.before c k (omega arith) (omega arith) below);
+  within = λ c l. h.within c (omega arith);
+  named = λ c l below. h.named c (omega arith) below;
+}

@@ -320,3 +320,36 @@ deep_none roots depths zeros c =
       | inl l ↦ (let e = zeros c 0 l in omega arith)
       | inr l ↦ (let e : get_or depths c 0 ≡ 0 = get_or-eq_default depths 0 l in omega arith)
     ]
+
+-- a clock that has a root needs no tree
+pub planted_on : (needs : List Need) (clocks root : ℕ) (tree : ℕ → List ℕ) (roots parents depths : List ℕ) (rates : List Fraction) → ArePlanted needs clocks root tree roots parents depths rates → (get_or roots root 0 ≡ no_number → ⊥) →
+    ArePlanted needs clocks (root + 1) tree roots parents depths rates
+planted_on needs clocks root tree roots parents depths rates h had = record {
+  done = λ c l. elim (cases_eq c root) [
+    | inl e ↦ subst (λ (x : ℕ). get_or roots x 0 ≡ no_number → ⊥) (sym e) had
+    | inr n ↦ h.done c (omega arith)
+  ];
+  least = h.least;
+  below = λ c l some. (let b = h.below c l some in omega arith);
+  own = h.own;
+  reached = h.reached;
+  apart = h.apart;
+  is_tree = h.is_tree;
+  rated = h.rated;
+}
+
+-- nor does it make one deep that it is set to be a root
+pub deep_start : (roots depths : List ℕ) (root : ℕ) → AreDeep roots depths → root < length roots → root < length depths → get_or roots root 0 ≡ no_number → (root ≡ no_number → ⊥) → AreDeep (set roots root root) (set depths root 0)
+deep_start roots depths root deep l inside none is_root c =
+    let one = one_fewer roots root root l none is_root in
+    let size = length-set roots root root in
+    elim (cases_eq c root) [
+      | inl e ↦
+          let d : get_or (set depths root 0) c 0 ≡ 0 = ap (λ x. get_or (set depths root 0) x 0) e ∙ get_or-set_same depths root 0 0 inside in
+          let few = deep root in
+          omega arith
+      | inr n ↦
+          let d : get_or (set depths root 0) c 0 ≡ get_or depths c 0 = get_or-set_other depths root c 0 0 (omega arith) in
+          let few = deep c in
+          omega arith
+    ]

@@ -91,6 +91,7 @@ fn name(list: &mut [u32], clock: usize, need: u32)
 fn step<'a>(need: &'a Need, roots: &[u32]) -> Option<(&'a Term, &'a Term)>
     requires { IsWithin (length roots.now) need.now }
     ensures some { IfSome result (λ r. IsJoiningStep roots.now need.now r.0.now r.1.now) }
+    ensures within { IfSome result (λ r. (r.0.now.clock < length roots.now) × (r.1.now.clock < length roots.now)) }
     ensures none { IfNone result ((s t : TheTerm) → IsJoiningStep roots.now need.now s t → ⊥) }
 {
     let (first, second) = need.terms();

@@ -5,7 +5,7 @@ ghost use Rattle.std.specs.Int.{IsGcd};
 use lucy_word::gcd;
 
 /// A fraction in lowest terms, both numbers above 0.
-#[derive(Clone, Copy, Debug, PartialEq, Eq)]
+#[derive(Clone, Copy)]
 pub(crate) struct Fraction {
     pub num: u64,
     pub den: u64,

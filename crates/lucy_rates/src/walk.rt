@@ -116,9 +116,7 @@ fn led_by(alloc: Global, need: u32, rest: &[u32]) -> Result<Vec<u32>, AllocError
 {
     let mut walk = Vec::new(alloc);
     walk.push(need)?;
-    for k in rest {
-        walk.push(*k)?;
-    }
+    walk.extend_from_slice(rest)?;
     Ok(walk)
 }
 

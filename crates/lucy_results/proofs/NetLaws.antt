@@ -30,7 +30,7 @@ use Rattle.lucy_net.proofs.NetLaws.{plugged}
 use Rattle.lucy_net.proofs.BackLaws.{same_places, quotas, fed}
 use Rattle.lucy_net.specs.Schedules.{IsSound}
 use Rattle.lucy_cause.specs.Schedules.{Timetable, events_at}
-use Rattle.lucy_core.specs.Seen.{MakesCore, IsOutputOf, first_ring}
+use Rattle.lucy_core.specs.Seen.{CanMakeCore, IsOutputOf, first_ring}
 use Rattle.lucy_meaning.specs.Spots.{Spot, at, main_of, node_at, kind_at, spot_form, results_in}
 use Rattle.lucy_meaning.specs.Sizes.{all_places}
 use Rattle.lucy_meaning.specs.Numbers.{number}
@@ -148,7 +148,7 @@ module _ (nodes : List PlacedNode) (clocks : List NodeClock) (proper : AreProper
 
     -- a core can be made of the net
     pub fixed : (schedule : Timetable) (inputs : List (List ℤ)) (operators : List Operator) (t : ℕ) → HaveOperators (length operators) nodes → IsSound net (events_at schedule) →
-        Suffice (param_words nodes clocks) inputs t → t ≤ 1048576 → MakesCore net schedule inputs operators t
+        Suffice (param_words nodes clocks) inputs t → t ≤ 1048576 → CanMakeCore net schedule inputs operators t
     fixed schedule inputs operators t have sound suffice early =
         record { proper = flat.proper; sound = sound; early = early; supplied = supplied inputs t suffice; known = knows (length operators) have }
 

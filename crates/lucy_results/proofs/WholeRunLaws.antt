@@ -31,7 +31,7 @@ use Rattle.lucy_net.specs.declared.net.Net.{Net}
 use Rattle.lucy_net.specs.Plans.{form_of}
 use Rattle.lucy_net.specs.States.{GivesNone}
 use Rattle.lucy_cause.specs.Schedules.{Timetable}
-use Rattle.lucy_core.specs.Seen.{Seen, CanRun, MakesCore, IsOver, IsOutputOf, IsUnbegun, after_picks, done_of, first_ring, first_seen, machine_of, order_of, state_of, state_on, stream_of}
+use Rattle.lucy_core.specs.Seen.{Seen, CanRun, CanMakeCore, IsOver, IsOutputOf, IsUnbegun, after_picks, done_of, first_ring, first_seen, machine_of, order_of, state_of, state_on, stream_of}
 use Rattle.lucy_core.proofs.SeenLaws.{machine_is, state_is, state_done}
 use Rattle.lucy_core.proofs.OpenLaws.{IsSound, took_front, took_all, events_lead}
 use Rattle.lucy_core.proofs.OnwardLaws.{counted_on, counts_on, actors_on}
@@ -139,7 +139,7 @@ took_by_ops seen a number actor all out =
 
 module _ (nodes : List PlacedNode) (clocks : List NodeClock) (net : Net) (schedule : Timetable) (inputs : List (List ℤ))
     (operators : List Operator) (instants : ℕ)
-    (proper : AreProper nodes) (flat : IsFlat nodes clocks net) (fixed : MakesCore net schedule inputs operators instants) where
+    (proper : AreProper nodes) (flat : IsFlat nodes clocks net) (fixed : CanMakeCore net schedule inputs operators instants) where
   abbrev first : Seen
   first = first_seen net schedule inputs operators instants
 

@@ -15,7 +15,7 @@ use Rattle.lucy_net.specs.declared.net.Net.{Net}
 use Rattle.lucy_net.specs.Plans.{plan}
 use Rattle.lucy_net.specs.Schedules.{IsSound}
 use Rattle.lucy_cause.specs.Schedules.{Timetable, events_at}
-use Rattle.lucy_core.specs.Seen.{Seen, MakesCore, IsOutputOf, first_ring, stream_of}
+use Rattle.lucy_core.specs.Seen.{Seen, CanMakeCore, IsOutputOf, first_ring, stream_of}
 use Rattle.lucy_meaning.specs.Spots.{Spot, at, main_of, IsSpot, results_in}
 use Rattle.lucy_meaning.specs.Sizes.{all_places}
 use Rattle.lucy_meaning.specs.Horizons.{Suffice}
@@ -33,7 +33,7 @@ abbrev pub NetsCanBeRun : Type 0
 NetsCanBeRun = (nodes : List PlacedNode) (clocks : List NodeClock) (net : Net) (schedule : Timetable) (inputs : List (List ℤ)) (operators : List Operator) (instants : ℕ) →
     AreProper nodes → HaveOperators (length operators) nodes → IsFlat nodes clocks net → IsSound net (events_at schedule) →
     Suffice (param_words nodes clocks) inputs instants → instants ≤ limit_number limit.Instants →
-    MakesCore net schedule inputs operators instants
+    CanMakeCore net schedule inputs operators instants
 
 -- only the actors of its instance places give
 abbrev pub PlacesGive : Type 0

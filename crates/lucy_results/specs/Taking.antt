@@ -10,7 +10,7 @@ use Rattle.lucy_net.specs.declared.net.Actor.{Actor}
 use Rattle.lucy_net.specs.declared.net.Net.{Net}
 use Rattle.lucy_net.specs.Plans.{net_system}
 use Rattle.lucy_cause.specs.Schedules.{Timetable}
-use Rattle.lucy_core.specs.Seen.{Seen, CanRun, MakesCore, IsOver, after_picks, done_of, first_ring, first_seen, machine_of}
+use Rattle.lucy_core.specs.Seen.{Seen, CanRun, CanMakeCore, IsOver, after_picks, done_of, first_ring, first_seen, machine_of}
 use Rattle.lucy_meaning.specs.Sizes.{all_places}
 use Rattle.lucy_flat.specs.Flat.{IsFlat}
 use Rattle.lucy_results.specs.Streams.{main_streams, taken_of}
@@ -30,7 +30,7 @@ pub record LeadToStreams (nodes : List PlacedNode) (clocks : List NodeClock) (fi
 -- so do all events of a program's flat net up to a horizon, in whatever order they are possible
 abbrev pub WholeRunsLeadToStreams : Type 0
 WholeRunsLeadToStreams = (nodes : List PlacedNode) (clocks : List NodeClock) (net : Net) (schedule : Timetable) (inputs : List (List ℤ)) (operators : List Operator) (instants : ℕ)
-    (picks : List ℕ) → AreProper nodes → IsFlat nodes clocks net → MakesCore net schedule inputs operators instants → IsWhole (net_system net instants) picks →
+    (picks : List ℕ) → AreProper nodes → IsFlat nodes clocks net → CanMakeCore net schedule inputs operators instants → IsWhole (net_system net instants) picks →
     LeadToStreams nodes clocks (first_seen net schedule inputs operators instants) picks
 
 -- these events lead a core without an event so far to these counts, and of each output stream its output then took a front of as many
@@ -43,5 +43,5 @@ pub record LeadAlongStreams (nodes : List PlacedNode) (clocks : List NodeClock) 
 -- so do all events of a program's flat net up to a horizon that are a run
 abbrev pub RunsLeadAlongStreams : Type 0
 RunsLeadAlongStreams = (nodes : List PlacedNode) (clocks : List NodeClock) (net : Net) (schedule : Timetable) (inputs : List (List ℤ)) (operators : List Operator)
-    (instants : ℕ) (picks : List ℕ) → AreProper nodes → IsFlat nodes clocks net → MakesCore net schedule inputs operators instants →
+    (instants : ℕ) (picks : List ℕ) → AreProper nodes → IsFlat nodes clocks net → CanMakeCore net schedule inputs operators instants →
     CanRun (first_seen net schedule inputs operators instants) picks → LeadAlongStreams nodes clocks (first_seen net schedule inputs operators instants) picks

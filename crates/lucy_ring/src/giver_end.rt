@@ -28,7 +28,7 @@ pub(crate) struct GiverEnd {
 }
 
 impl GiverEnd {
-    ghost use Rattle.std.specs.Prelude.{◌≡◌, ◌+◌, ◌<◌, ◌≤◌, [], ◌∷◌, ◌++◌, length, vec_len, vec_capacity, IfErr, OnOk, OnErr, IsOk, IsTrue};
+    ghost use Rattle.std.specs.Prelude.{◌≡◌, ◌+◌, ◌<◌, ◌≤◌, [], ◌∷◌, ◌++◌, length, vec_len, vec_capacity, IfErr, OnOk, OnErr, IsOk, IsTrue, IsFalse};
     ghost use Rattle.rtrb.specs.Ring.{sent, producer_capacity, received, IsPair, SameProducer, SameConsumer};
     ghost use Rattle.lucy_word.specs.Limits.{limit_number};
     ghost use Rattle.lucy_word.specs.declared.limit.Limit.TheVariants as limit;
@@ -90,7 +90,6 @@ impl GiverEnd {
     }
 
     #[inline(always)]
-    #[tactic(auto, using(crate::proofs::Names::giver_keeps))]
     fn put(&mut self, item: i64)
         requires some { 0 < known_slots self.old }
         requires few { length (given self.old) < most_between }
@@ -98,11 +97,39 @@ impl GiverEnd {
         ensures given { given self.new ≡ given self.old ++ item ∷ [] }
         ensures slots { known_slots self.old ≡ known_slots self.new + 1 }
     {
-        if self.side.is_empty() && self.items.push(item).is_ok() {
-            self.pushed += 1;
-            self.free -= 1;
+        if self.side.is_empty() && self.send(item) {
             return;
         }
+        self.keep(item);
+    }
+
+    // Pushes the item, or answers false where no slot is found. The side list is empty, so that the item is the last one.
+    #[inline(always)]
+    fn send(&mut self, item: i64) -> bool
+        requires some { 0 < known_slots self.old }
+        requires few { length (given self.old) < most_between }
+        requires none { self.old.side.items ≡ [] }
+        ensures ring { ring_of_giver self.new ≡ ring_of_giver self.old }
+        ensures given { IsTrue result → given self.new ≡ given self.old ++ item ∷ [] }
+        ensures slots { IsTrue result → known_slots self.old ≡ known_slots self.new + 1 }
+        ensures left { IsFalse result → (given self.new ≡ given self.old) × (known_slots self.new ≡ known_slots self.old) }
+    {
+        if self.items.push(item).is_err() {
+            return false;
+        }
+        self.pushed += 1;
+        self.free -= 1;
+        true
+    }
+
+    // Puts the item into the side list.
+    #[inline(always)]
+    fn keep(&mut self, item: i64)
+        requires some { 0 < known_slots self.old }
+        ensures ring { ring_of_giver self.new ≡ ring_of_giver self.old }
+        ensures given { given self.new ≡ given self.old ++ item ∷ [] }
+        ensures slots { known_slots self.old ≡ known_slots self.new + 1 }
+    {
         match self.side.push(item) {
             Ok(()) => self.free -= 1,
             Err(_) => unreachable!(),

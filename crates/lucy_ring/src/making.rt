@@ -24,7 +24,6 @@ pub fn ring(alloc: Global, capacity: u32) -> Result<(Giver, Taker), OutOfMemory>
     Ok((Giver { end: giver }, Taker { end: taker }))
 }
 
-#[tactic(auto, using(crate::proofs::Names::one_name))]
 fn ends(alloc: Global, capacity: u32) -> Result<(GiverEnd, TakerEnd), OutOfMemory>
     requires within { (1 ≤ capacity) × (capacity ≤ limit_number limit.Slots) }
     ensures ends { IfOk result (λ r. ring_of_giver r.0 ≡ ring_of_taker r.1) }

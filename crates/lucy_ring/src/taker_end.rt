@@ -74,7 +74,6 @@ impl TakerEnd {
     }
 
     #[inline(always)]
-    #[tactic(auto, using(crate::proofs::Names::taker_keeps))]
     fn take_held(&mut self) -> i64
         requires some { self.old.place < vec_len self.old.side }
         ensures ring { ring_of_taker self.new ≡ ring_of_taker self.old }
@@ -91,7 +90,7 @@ impl TakerEnd {
 
     // Takes from `items`, once nothing is left of what was held.
     #[inline(always)]
-    #[tactic(auto, using(crate::proofs::Names::taker_keeps, crate::proofs::Lengths::taken_length))]
+    #[tactic(auto, using(crate::proofs::Lengths::taken_length))]
     fn pop(&mut self) -> Option<i64>
         requires in_turn { self.old.place ≡ vec_len self.old.side }
         requires few { length (taken self.old) < most_between }
@@ -116,7 +115,7 @@ impl TakerEnd {
     // Sends one number back for the item that was just taken. Where it can't be sent it is dropped, and the giver learns of
     // the slot at the next meeting.
     #[inline(always)]
-    #[tactic(auto, using(crate::proofs::Names::taker_keeps, crate::proofs::Lengths::taken_length))]
+    #[tactic(auto, using(crate::proofs::Lengths::taken_length))]
     fn send_back(&mut self)
         requires owed { self.old.returned < self.old.place + self.old.popped }
         requires few { length (taken self.old) ≤ most_between }

@@ -37,7 +37,7 @@ use Rattle.lucy_run.specs.Played.{HasWritten, FailsBehind, wanting_at, BreaksOff
 use Rattle.lucy_feed.specs.Feeding.{IsAsked}
 use Rattle.lucy_feed.proofs.FeedLaws.{asked_as}
 use Rattle.lucy_run.specs.Ends.{EndsWith, EndsRun, Outputs, FailsInBlock}
-use Rattle.lucy_run.specs.Steps.{LeavesOwed, EndsWhole, refusal_ending}
+use Rattle.lucy_run.specs.Steps.{LeavesOwed, EndsWhole, refusal_ending, LeavesUnwritten}
 use Rattle.lucy_run.proofs.FedLaws.{read_nothing, fed_not_yet}
 use Rattle.lucy_run.proofs.HorizonLaws.{some_horizon, suffice_either}
 use Rattle.lucy_run.proofs.ReadLaws.{suffice_longer, suffice_earlier}
@@ -188,6 +188,14 @@ module _ (kinds : List HostKind) (a : Accepted) (given : Option ℕ) where
       let (lines, owed) = output_not_yet in
       let head : Fails was now (heading a) = subst (Fails was now) e f in
       ([], Unread, read_nothing s, record { asked = inl refl; output = (heading a ++ lines, owed, fails_longer was now (heading a) lines head); in_order = λ fault. inl (head, refl) })
+
+  -- the heading was not written
+  pub run_headless : (block : ℕ) (s : SeenSource) (was now : SeenSink) (end : Ending) → LeavesUnwritten (heading a) was now end → RunGives block s s was now end
+  run_headless block s was now ending.WriteFault fails = run_broken block s was now (heading a) refl fails
+  run_headless block s was now ending.OutOfMemory same = subst (λ u. RunGives block s s was u ending.OutOfMemory) (sym same) (run_unbegun block s was)
+  run_headless block s was now ending.Done none = absurd none
+  run_headless block s was now (ending.Input f) none = absurd none
+  run_headless block s was now (ending.Limit l) none = absurd none
 
   -- memory ran out behind the heading, before anything was read
   pub run_unplayed : (block : ℕ) (s : SeenSource) (was now : SeenSink) (text : List ℕ) → text ≡ heading a → Writes was now text → RunGives block s s was now ending.OutOfMemory

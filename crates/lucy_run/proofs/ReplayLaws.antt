@@ -41,7 +41,7 @@ use Rattle.lucy_run.specs.declared.ending.Ending.{Ending}
 use Rattle.lucy_run.specs.declared.ending.Ending.TheVariants as ending
 use Rattle.lucy_run.specs.Feeds.{IsMainFeed}
 use Rattle.lucy_run.specs.Owes.{input_words, IsHorizonOf, EndsFor, IsMainFed}
-use Rattle.lucy_run.specs.Replays.{SaysOver, tally, IsReplayText, Judges, OwesReplay}
+use Rattle.lucy_run.specs.Replays.{SaysFinished, tally, IsReplayText, Judges, OwesReplay}
 use Rattle.lucy_run.specs.Ends.{EndsReplay}
 use Rattle.lucy_run.specs.Laws.{CompleteReplay}
 use Rattle.lucy_run.specs.Steps.{first_core, EndsWhole, IsTally, IsEventText, JudgesFrom, LeavesOwed, LeavesJudged, IsPrinted}
@@ -138,7 +138,7 @@ module _ (ops : List Operator) (a : Accepted) (given : Option ℕ) (picks : List
       IsRun-same (machine_of core).sys none_done (done_of core.done) es (λ b. sym (unbegun b)) (subst (λ (s : System). IsRun s none_done es) (sym go) run)
 
   finished_net : ((b : ℕ) → done_of (after_picks core picks).done b ≡ after none_done picks b) → (line : List ℕ) →
-      SaysOver (machine_of core).sys (done_of (after_picks core picks).done) line → SaysOver (net_system a.net horizon) (after none_done picks) line
+      SaysFinished (machine_of core).sys (done_of (after_picks core picks).done) line → SaysFinished (net_system a.net horizon) (after none_done picks) line
   finished_net counts line (inl (over, is)) = inl (subst (λ (s : System). IsFinished s (after none_done picks)) go (λ b. sym (counts b) ∙ over b), is)
   finished_net counts line (inr (none, is)) =
       inr ((λ over. let all = subst (λ (s : System). IsFinished s (after none_done picks)) (sym go) over in none (λ b. counts b ∙ all b)), is)
@@ -165,7 +165,7 @@ JudgedByStreams ops a given picks = (lists : List (List ℤ)) (fault : Option Te
     JudgesFrom (first_core ops a lists horizon) a.placed.nodes a.outputs.items (input_words a) given lists fault picks output result → Judges (kinds_of ops) a given lists fault horizon picks output result
 
 -- the line that says whether all is done is one
-says_once : (sys : System) (done : ℕ → ℕ) (line other : List ℕ) → SaysOver sys done line → SaysOver sys done other → line ≡ other
+says_once : (sys : System) (done : ℕ → ℕ) (line other : List ℕ) → SaysFinished sys done line → SaysFinished sys done other → line ≡ other
 says_once sys done line other (inl h) (inl k) = h.1 ∙ sym k.1
 says_once sys done line other (inl h) (inr k) = absurd (k.0 h.0)
 says_once sys done line other (inr h) (inl k) = absurd (h.0 k.0)

@@ -11,7 +11,7 @@ use Rattle.lucy_text.specs.Sources.{ReadStop}
 use Rattle.lucy_text.specs.Outside.{SeenSink, Writes, Fails}
 use Rattle.lucy_net.specs.declared.net.Net.{Net}
 use Rattle.lucy_cause.specs.Schedules.{Timetable, IsScheduleOf}
-use Rattle.lucy_core.specs.Seen.{Seen, MakesCore, first_seen}
+use Rattle.lucy_core.specs.Seen.{Seen, CanMakeCore, first_seen}
 use Rattle.lucy_runner.specs.Views.{RunnerView, first_runner}
 use Rattle.lucy_fields.specs.Readings.{AreRead}
 use Rattle.lucy_trace.specs.Logs.{picks_of}
@@ -37,12 +37,12 @@ use Rattle.lucy_run.proofs.EndsLaws.{take_front}
 
 -- a core can be made of the copies of a net and of inputs, by another schedule of the net
 pub fixed_anew : (net copy : Net) (schedule anew : Timetable) (inputs lists : List (List ℤ)) (ops : List Operator) (instants : ℕ) →
-    copy ≡ net → lists ≡ inputs → IsScheduleOf copy anew → MakesCore net schedule inputs ops instants → MakesCore copy anew lists ops instants
+    copy ≡ net → lists ≡ inputs → IsScheduleOf copy anew → CanMakeCore net schedule inputs ops instants → CanMakeCore copy anew lists ops instants
 fixed_anew net copy schedule anew inputs lists ops instants e f is fixed =
     let of_net : IsScheduleOf net anew = subst (λ (n : Net). IsScheduleOf n anew) e is in
-    let same : MakesCore net anew inputs ops instants =
+    let same : CanMakeCore net anew inputs ops instants =
     record { proper = fixed.proper; sound = of_net.sound; early = fixed.early; supplied = fixed.supplied; known = fixed.known } in
-    subst (λ (n : Net). MakesCore n anew lists ops instants) (sym e) (subst (λ (ls : List (List ℤ)). MakesCore net anew ls ops instants)
+    subst (λ (n : Net). CanMakeCore n anew lists ops instants) (sym e) (subst (λ (ls : List (List ℤ)). CanMakeCore net anew ls ops instants)
     (sym f) same)
 
 pub seen_anew : (net copy : Net) (anew : Timetable) (inputs lists : List (List ℤ)) (ops : List Operator) (instants : ℕ) → copy ≡ net →

@@ -11,5 +11,6 @@ pub mod Engines
 pub mod Laws
 pub mod Courses
 -- Below this line stands what only serves the proofs of the bodies.
+pub mod Begun
 pub mod Steps
 pub mod Played

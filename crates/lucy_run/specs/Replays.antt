@@ -18,8 +18,8 @@ use Rattle.lucy_run.specs.declared.ending.Ending.{Ending}
 use Rattle.lucy_run.specs.Owes.{input_words, EndsFor, IsMainFed}
 
 -- the line that says whether every actor has done its list, where they have done so many operations
-abbrev pub SaysOver : System → (done : ℕ → ℕ) → (line : List ℕ) → Type 0
-SaysOver sys done line = (IsFinished sys done × (line ≡ codes "finished\n")) ⊎ ((IsFinished sys done → ⊥) × (line ≡ codes "unfinished\n"))
+abbrev pub SaysFinished : System → (done : ℕ → ℕ) → (line : List ℕ) → Type 0
+SaysFinished sys done line = (IsFinished sys done × (line ≡ codes "finished\n")) ⊎ ((IsFinished sys done → ⊥) × (line ≡ codes "unfinished\n"))
 
 -- the lines that tell of so many events, of which this is the second
 abbrev pub tally : (count : ℕ) (line : List ℕ) → List ℕ
@@ -30,7 +30,7 @@ tally count line = codes "events " ++ (decimal count ++ (codes "\n" ++ line))
 abbrev pub IsReplayText : List HostKind → Accepted → (lists : List (List ℤ)) → (horizon : ℕ) → (picks output : List ℕ) → Type 0
 IsReplayText kinds a lists horizon picks output =
     let streams = main_streams kinds lists a.placed.nodes a.clocks.items horizon in
-    (line : List ℕ) × SaysOver (net_system a.net horizon) (after none_done picks) line × (output ≡ tally (length picks) line
+    (line : List ℕ) × SaysFinished (net_system a.net horizon) (after none_done picks) line × (output ≡ tally (length picks) line
     ++ output_text a.outputs.items (taken_of (all_places a.placed.nodes) (after none_done picks) streams) horizon)
 
 -- what events come to over what main is fed: where they are a run that text, and the ending of a run, and else the first that isn't

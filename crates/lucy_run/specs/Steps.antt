@@ -22,7 +22,7 @@ use Rattle.lucy_output.specs.Outputs.{output_text}
 use Rattle.lucy_trace.specs.Logs.{IsFirstImpossible}
 use Rattle.lucy_trace.specs.declared.error.TraceError.{TraceError}
 use Rattle.lucy_trace.specs.Traces.{IsTraceText}
-use Rattle.lucy_run.specs.Replays.{SaysOver, tally, Judges}
+use Rattle.lucy_run.specs.Replays.{SaysFinished, tally, Judges}
 use Rattle.lucy_run.specs.declared.ending.Ending.{Ending}
 use Rattle.lucy_run.specs.declared.ending.Ending.TheVariants as ending
 use Rattle.lucy_run.specs.declared.playing.Played.{Played}
@@ -42,6 +42,12 @@ LeavesFront Owes before after ending.WriteFault = (output : List ℕ) × (end : 
 LeavesFront Owes before after ending.OutOfMemory =
     (front : List ℕ) × IsFrontOf (λ output. (end : Ending) × Owes output end) front × Writes before after front
 LeavesFront Owes before after result = (output : List ℕ) × Owes output result × Writes before after output
+
+-- a write of the text failed, or memory ran out before one
+abbrev pub LeavesUnwritten : (text : List ℕ) → (before after : SeenSink) → (result : Ending) → Type 0
+LeavesUnwritten text before after ending.WriteFault = Fails before after text
+LeavesUnwritten text before after ending.OutOfMemory = after ≡ before
+LeavesUnwritten text before after result = ⊥
 
 -- the output is whole where a run ends so
 abbrev pub EndsWhole : Ending → Type 0
@@ -78,7 +84,7 @@ first_core ops a lists horizon = first_seen a.net a.schedule lists ops horizon
 
 -- the tally of a core that has done so many events: how many, and whether that is all
 abbrev pub IsTally : Seen → (count : ℕ) → (text : List ℕ) → Type 0
-IsTally core count text = (line : List ℕ) × SaysOver (machine_of core).sys (done_of core.done) line × (text ≡ tally count line)
+IsTally core count text = (line : List ℕ) × SaysFinished (machine_of core).sys (done_of core.done) line × (text ≡ tally count line)
 
 -- what is printed of events from a core without an event so far: their tally, and the lines of the items that the outputs then took
 abbrev pub IsEventText : Seen → List PlacedNode → List OutputSpec → (picks output : List ℕ) → Type 0

@@ -234,12 +234,12 @@ impl<'a> Course<'a> {
         Ok(streams)
     }
 
-    /// Reads the input on to its stop. How the run ends.
-    pub fn finish<I: Source>(mut self, source: &mut I) -> Ending
-        requires under_way { IsCourseUnderWay (I.seen source.old) self }
-        requires given { self.words ≡ [] → self.given ≢ None }
-        ensures over { EndsOver (I.seen source.old) (I.seen source.new) self.entry result }
-        ensures unread { self.entry.words ≡ [] → source.new ≡ source.old }
+    /// Reads the input on to its stop. How the run ends, which then is over.
+    pub(crate) fn end<I: Source>(&mut self, source: &mut I) -> Ending
+        requires under_way { IsCourseUnderWay (I.seen source.old) self.old }
+        requires given { self.old.words ≡ [] → self.old.given ≢ None }
+        ensures over { EndsOver (I.seen source.old) (I.seen source.new) self.old result }
+        ensures unread { self.old.words ≡ [] → source.new ≡ source.old }
         ensures count { (I.seen source.old).faults ≤ (I.seen source.new).faults }
     {
         if self.words.is_empty() {
@@ -249,5 +249,16 @@ impl<'a> Course<'a> {
         self.reader.pass_rest(source);
         let more = allows_more(self.words, self.reader.counts(), Limit::Instants.number());
         ending_for(self.given, more, self.reader.fault())
+    }
+
+    /// Reads the input on to its stop. How the run ends.
+    pub fn finish<I: Source>(mut self, source: &mut I) -> Ending
+        requires under_way { IsCourseUnderWay (I.seen source.old) self }
+        requires given { self.words ≡ [] → self.given ≢ None }
+        ensures over { EndsOver (I.seen source.old) (I.seen source.new) self.entry result }
+        ensures unread { self.entry.words ≡ [] → source.new ≡ source.old }
+        ensures count { (I.seen source.old).faults ≤ (I.seen source.new).faults }
+    {
+        self.end(source)
     }
 }

@@ -16,14 +16,14 @@ use crate::ending::Ending;
 use crate::engine::Engine;
 use crate::extent::extent_of;
 use crate::feeding::main_feed;
-use crate::running::heading;
+use crate::running::write_heading;
 use lucy_feed::Feed;
 use lucy_front::{Accepted, accepted_programs_are_clocked};
 use lucy_host::{Host, Inputs};
 use lucy_lines::InputSpec;
 use lucy_output::{OutputError, OutputSpec, write_outputs};
 use lucy_results::param_words;
-use lucy_text::{Sink, Source, Text, write_all};
+use lucy_text::{Sink, Source, Text};
 use lucy_word::OutOfMemory;
 use std::alloc::Global;
 
@@ -110,6 +110,47 @@ fn write_played<O: Sink>(
     }
 }
 
+// Runs an accepted program by an engine, as `run_by` does.
+fn play_accepted<N: Engine<F>, F, I: Source, O: Sink>(
+    alloc: Global,
+    accepted: &Accepted,
+    host: &Host<F>,
+    instants: Option<u64>,
+    workers: u32,
+    engine: &mut N,
+    source: &mut I,
+    out: &mut O,
+) -> Ending
+    requires plays { N.plays engine.old host.now }
+    requires accepted { WasAccepted (lent host.now) accepted.now }
+    requires few { AreInstants instants }
+    requires workers { AreWorkers workers }
+    requires given { accepted.now.inputs.items ≡ [] → instants ≢ None }
+    ensures ends { ReadsAndEnds accepted.now.inputs.items (I.seen source.old) (I.seen source.new)
+        (λ taken stop. EndsWith (OwesRun (kinds_of (lent host.now)) accepted.now instants taken) (CountsAs stop) stop
+        (O.seen out.old) (O.seen out.new) result) }
+    ensures unread { accepted.now.inputs.items ≡ [] → source.new ≡ source.old }
+    ensures source_count { (I.seen source.old).faults ≤ (I.seen source.new).faults }
+    ensures out_count { (O.seen out.old).faults ≤ (O.seen out.new).faults }
+{
+    let inputs = match copies(alloc, &accepted.inputs) {
+        Ok(inputs) => inputs,
+        Err(_) => return Ending::OutOfMemory,
+    };
+    match write_heading(alloc, accepted, out) {
+        Ok(()) => {}
+        Err(ending) => return ending,
+    }
+    let feed = match main_feed(alloc, inputs, source) {
+        Ok(feed) => feed,
+        Err(_) => return Ending::OutOfMemory,
+    };
+    match play_by(alloc, accepted, host, instants, workers, engine, feed) {
+        Ok(played) => write_played(alloc, &accepted.outputs, played, out),
+        Err(_) => Ending::OutOfMemory,
+    }
+}
+
 /// Runs an accepted program by an engine, as [`run`](crate::run) does, but in one piece: its report and the line `run` are written,
 /// then the input is read to its end or its first fault, then the engine plays the program by so many workers up to the horizon, and
 /// then the lines of its results are written. A main without inputs reads nothing. It returns if the engine does.
@@ -137,24 +178,7 @@ pub fn run_by<N: Engine<F>, F, I: Source, O: Sink>(
     ensures source_count { (I.seen source.old).faults ≤ (I.seen source.new).faults }
     ensures out_count { (O.seen out.old).faults ≤ (O.seen out.new).faults }
 {
-    let text = match heading(alloc, &accepted) {
-        Ok(text) => text,
-        Err(_) => return Ending::OutOfMemory,
-    };
-    let inputs = match copies(alloc, &accepted.inputs) {
-        Ok(inputs) => inputs,
-        Err(_) => return Ending::OutOfMemory,
-    };
-    match write_all(out, &text) {
-        Ok(()) => {}
-        Err(_) => return Ending::WriteFault,
-    }
-    let feed = match main_feed(alloc, inputs, source) {
-        Ok(feed) => feed,
-        Err(_) => return Ending::OutOfMemory,
-    };
-    match play_by(alloc, &accepted, host, instants, workers, engine, feed) {
-        Ok(played) => write_played(alloc, &accepted.outputs, played, out),
-        Err(_) => Ending::OutOfMemory,
-    }
+    play_accepted(
+        alloc, &accepted, host, instants, workers, engine, source, out,
+    )
 }

@@ -1,14 +1,19 @@
 // The command `run` on an accepted program.
-ghost use Rattle.std.specs.Prelude.{◌≡◌, ◌≢◌, ◌≤◌, ℕ, List, [], None, IfOk};
+ghost use Rattle.std.specs.Prelude.{◌≡◌, ◌≢◌, ◌≤◌, ℕ, List, [], None, IfOk, IfErr, OnOk};
 ghost use Rattle.lucy_host.specs.Host.{Serves, lent};
 ghost use Rattle.lucy_host.specs.Operators.{Operator, kinds_of};
 ghost use Rattle.lucy_lines.specs.Fronts.{most_bytes};
+ghost use Rattle.lucy_text.specs.Outside.{SeenSink, Writes};
 ghost use Rattle.lucy_text.specs.Sources.{ReadStop, Read};
+ghost use Rattle.lucy_front.specs.declared.accepted.Accepted.{Accepted};
+ghost use Rattle.lucy_run.specs.declared.pace.Pace.{Pace};
 ghost use Rattle.lucy_run.specs.Owes as owes;
 ghost use Rattle.lucy_run.specs.Paces.{IsPace};
 ghost use Rattle.lucy_run.specs.Played.{AreBlocksWritten, Plays};
 ghost use Rattle.lucy_run.specs.Ends.{EndsRun};
 ghost use Rattle.lucy_run.specs.Calls.{WasAccepted};
+ghost use Rattle.lucy_run.specs.Steps.{LeavesUnwritten};
+ghost use Rattle.lucy_run.specs.Begun.{IsRunBegun};
 
 use crate::course::Course;
 use crate::ending::Ending;
@@ -17,21 +22,42 @@ use crate::pace::Pace;
 use lucy_feed::values_in_turn;
 use lucy_front::{Accepted, accepted_programs_are_clocked, report};
 use lucy_host::Host;
-use lucy_output::{OutputError, OutputWriter, instant_by_instant};
+use lucy_output::{OutputError, OutputSpec, OutputWriter, instant_by_instant};
 use lucy_text::{Sink, Source, write_all};
 use lucy_word::OutOfMemory;
 use lucy_worker::Gate;
 use std::alloc::Global;
 use std::thread::Threads;
 
-/// The report and the line `run`.
-pub(crate) fn heading(alloc: Global, accepted: &Accepted) -> Result<Vec<u8>, OutOfMemory>
+// The report and the line `run`.
+fn heading(alloc: Global, accepted: &Accepted) -> Result<Vec<u8>, OutOfMemory>
     requires { (ops : List Operator) × WasAccepted ops accepted.now }
     ensures { IfOk result (λ v. v.items ≡ owes.heading accepted.now) }
 {
     let mut text = report(alloc, accepted)?;
     text.extend_from_slice(b"run\n")?;
     Ok(text)
+}
+
+/// Writes the report and the line `run`. Where that fails, the run ends so.
+pub(crate) fn write_heading<O: Sink>(
+    alloc: Global,
+    accepted: &Accepted,
+    out: &mut O,
+) -> Result<(), Ending>
+    requires { (ops : List Operator) × WasAccepted ops accepted.now }
+    ensures ok { OnOk result (Writes (O.seen out.old) (O.seen out.new) (owes.heading accepted.now)) }
+    ensures err { IfErr result (LeavesUnwritten (owes.heading accepted.now) (O.seen out.old) (O.seen out.new)) }
+    ensures count { (O.seen out.old).faults ≤ (O.seen out.new).faults }
+{
+    let text = match heading(alloc, accepted) {
+        Ok(text) => text,
+        Err(_) => return Err(Ending::OutOfMemory),
+    };
+    match write_all(out, &text) {
+        Ok(()) => Ok(()),
+        Err(_) => Err(Ending::WriteFault),
+    }
 }
 
 // Runs a course to its last block, and writes the lines of each.
@@ -61,6 +87,47 @@ fn play<R: Threads + Sync, F: Fn(u32, i64, i64) -> i64 + Sync, G: Gate + Sync, I
         writer.write(&streams, course.horizon(), out)?;
     }
     Ok(())
+}
+
+// Plays a course before its first instant, of an accepted program whose heading was written, to its end.
+fn play_course<
+    R: Threads + Sync,
+    F: Fn(u32, i64, i64) -> i64 + Sync,
+    G: Gate + Sync,
+    I: Source,
+    O: Sink,
+>(
+    rt: &R,
+    alloc: Global,
+    host: &Host<F>,
+    gate: &G,
+    course: &mut Course<'_>,
+    outputs: &[OutputSpec],
+    source: &mut I,
+    out: &mut O,
+) -> Ending
+    requires serves { Serves F.pre F.post host.now }
+    requires begun { (a : Accepted) × (pace : Pace) × IsRunBegun (lent host.now) a pace outputs.now course.old }
+    ensures ends { (a : Accepted) (pace : Pace) (was : SeenSink) → IsRunBegun (lent host.now) a pace outputs.now course.old →
+        Writes was (O.seen out.old) (owes.heading a) →
+        (taken : List ℕ) × (stop : ReadStop) × Read most_bytes (I.seen source.old) (I.seen source.new) taken stop
+        × EndsRun (kinds_of (lent host.now)) a pace.instants pace.block taken stop was (O.seen out.new) result }
+    ensures unread { (a : Accepted) (pace : Pace) → IsRunBegun (lent host.now) a pace outputs.now course.old → a.inputs.items ≡ [] →
+        source.new ≡ source.old }
+    ensures source_count { (I.seen source.old).faults ≤ (I.seen source.new).faults }
+    ensures out_count { (O.seen out.old).faults ≤ (O.seen out.new).faults }
+{
+    lines_go_on();
+    instant_by_instant();
+    let mut writer = match OutputWriter::new(alloc, outputs) {
+        Ok(writer) => writer,
+        Err(_) => return Ending::OutOfMemory,
+    };
+    match play(rt, alloc, host, gate, course, &mut writer, source, out) {
+        Ok(()) => course.end(source),
+        Err(OutputError::Failed) => Ending::WriteFault,
+        Err(OutputError::OutOfMemory) => Ending::OutOfMemory,
+    }
 }
 
 /// Runs an accepted program at a pace: its report and the line `run` are written, and then the lines of its results up to the horizon,
@@ -97,13 +164,9 @@ pub fn run<
     ensures source_count { (I.seen source.old).faults ≤ (I.seen source.new).faults }
     ensures out_count { (O.seen out.old).faults ≤ (O.seen out.new).faults }
 {
-    let text = match heading(alloc, &accepted) {
-        Ok(text) => text,
-        Err(_) => return Ending::OutOfMemory,
-    };
-    match write_all(out, &text) {
-        Ok(()) => {}
-        Err(_) => return Ending::WriteFault,
+    match write_heading(alloc, &accepted, out) {
+        Ok(()) => (),
+        Err(ending) => return ending,
     }
     let Accepted {
         placed,
@@ -115,21 +178,10 @@ pub fn run<
         ..
     } = accepted;
     accepted_programs_are_clocked();
-    lines_go_on();
-    instant_by_instant();
-    let mut course = match Course::new(
+    match Course::new(
         rt, alloc, &placed, &clocks, net, schedule, inputs, host, gate, pace,
     ) {
-        Ok(course) => course,
-        Err(_) => return Ending::OutOfMemory,
-    };
-    let mut writer = match OutputWriter::new(alloc, &outputs) {
-        Ok(writer) => writer,
-        Err(_) => return Ending::OutOfMemory,
-    };
-    match play(rt, alloc, host, gate, &mut course, &mut writer, source, out) {
-        Ok(()) => course.finish(source),
-        Err(OutputError::Failed) => Ending::WriteFault,
-        Err(OutputError::OutOfMemory) => Ending::OutOfMemory,
+        Ok(mut course) => play_course(rt, alloc, host, gate, &mut course, &outputs, source, out),
+        Err(_) => Ending::OutOfMemory,
     }
 }

@@ -7,7 +7,7 @@ ghost use Rattle.lucy_meaning.specs.Spots.{main_of};
 ghost use Rattle.lucy_kahn.specs.Turns.{params_in};
 ghost use Rattle.lucy_net.specs.Schedules.{IsSound};
 ghost use Rattle.lucy_cause.specs.Schedules.{Timetable, events_at};
-ghost use Rattle.lucy_core.specs.Seen.{MakesCore, IsUnbegun, first_seen};
+ghost use Rattle.lucy_core.specs.Seen.{CanMakeCore, IsUnbegun, first_seen};
 ghost use Rattle.lucy_runner.specs.Views.{first_runner};
 ghost use Rattle.lucy_trace.specs.Traces.{IsTraceText};
 ghost use Rattle.lucy_tracing.specs.Together.{AreTogether};
@@ -48,7 +48,7 @@ fn second_core(
     ops: &Ops,
     instants: u64,
 ) -> Result<Core, OutOfMemory>
-    requires fixed { (schedule : Timetable) × MakesCore net.now schedule inputs.now ops.now instants }
+    requires fixed { (schedule : Timetable) × CanMakeCore net.now schedule inputs.now ops.now instants }
     requires count { length inputs.now ≡ count }
     requires few { count < 2 ^ 32 - 1 }
     ensures { IfOk result (λ core. (schedule : Timetable) × (core ≡ first_seen net.now schedule inputs.now ops.now instants)) }
@@ -73,7 +73,7 @@ fn new_runner(
     instants: u64,
     workers: u32,
 ) -> Result<Runner, OutOfMemory>
-    requires fixed { MakesCore net schedule inputs ops.now instants }
+    requires fixed { CanMakeCore net schedule inputs ops.now instants }
     requires workers { AreWorkers workers }
     ensures { IfOk result (λ runner. runner ≡ first_runner (first_seen net schedule inputs ops.now instants)) }
 {
@@ -120,7 +120,7 @@ fn trace_net<F: Fn(u32, i64, i64) -> i64 + Sync, O: Sink>(
     out: &mut O,
 ) -> Ending
     requires serves { Serves F.pre F.post host.now }
-    requires fixed { MakesCore net schedule inputs (lent host.now) extent.horizon }
+    requires fixed { CanMakeCore net schedule inputs (lent host.now) extent.horizon }
     requires count { length inputs ≡ count }
     requires few { count < 2 ^ 32 - 1 }
     requires workers { AreWorkers workers }

@@ -12,7 +12,7 @@ use Rattle.lucy_net.specs.declared.net.Actor.{Actor}
 use Rattle.lucy_net.specs.Proper.{IsSupplied}
 use Rattle.lucy_net.specs.States.{IsActorState, ReadsInput}
 use Rattle.lucy_core.specs.Seen as core
-use Rattle.lucy_core.specs.Seen.{Seen, MakesCore, IsOver}
+use Rattle.lucy_core.specs.Seen.{Seen, CanMakeCore, IsOver}
 use Rattle.lucy_stream.specs.Items.{list_at}
 use Rattle.lucy_worker.specs.declared.part.Part.{Part}
 use Rattle.lucy_worker.specs.Parts.{done_of, state_of, IsPartAt}
@@ -50,7 +50,7 @@ pub record Block : Type 0 where
 abbrev pub then : Block → Seen
 then b = grown_seen b.seen b.added b.instants
 
-pub fixed : (b : Block) → MakesCore b.seen.net b.seen.schedule (then b).inputs b.seen.operators b.instants
+pub fixed : (b : Block) → CanMakeCore b.seen.net b.seen.schedule (then b).inputs b.seen.operators b.instants
 fixed b = record { proper = b.standing.fixed.proper; sound = b.standing.fixed.sound; early = b.early; supplied = b.supplied; known = b.standing.fixed.known }
 
 -- what an actor gets

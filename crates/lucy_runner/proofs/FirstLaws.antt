@@ -24,7 +24,7 @@ use Rattle.lucy_net.specs.Proper.{IsProper}
 use Rattle.lucy_net.specs.States.{IsActorState, ReadsInput}
 use Rattle.lucy_net.proofs.NetLaws.{plugged, usable}
 use Rattle.lucy_cause.specs.Schedules.{Timetable}
-use Rattle.lucy_core.specs.Seen.{Seen, machine_on, order_on, done_of, state_on, machine_of, state_of, MakesCore, first_seen}
+use Rattle.lucy_core.specs.Seen.{Seen, machine_on, order_on, done_of, state_on, machine_of, state_of, CanMakeCore, first_seen}
 use Rattle.lucy_core.proofs.SeenLaws.{IsMachineOf, machine_is}
 use Rattle.lucy_ring.specs.Views.{GiverView, TakerView}
 use Rattle.lucy_worker.specs.declared.part.Part.{Part}
@@ -56,7 +56,7 @@ pub record IsFirstState (net : Net) (inputs : List (List ℤ)) (kinds : List Hos
   pub gave : (r : ℕ) → s.gave r ≡ []
   pub took : (r : ℕ) → s.took r ≡ []
 
-first_state_is : (net : Net) (schedule : Timetable) (inputs : List (List ℤ)) (operators : List Operator) (instants : ℕ) (done : List ℕ) → MakesCore net schedule inputs operators instants → ((b : ℕ) → done_of done b ≡ 0) →
+first_state_is : (net : Net) (schedule : Timetable) (inputs : List (List ℤ)) (operators : List Operator) (instants : ℕ) (done : List ℕ) → CanMakeCore net schedule inputs operators instants → ((b : ℕ) → done_of done b ≡ 0) →
     IsFirstState net inputs (kinds_of operators) instants (state_on (machine_on net inputs (kinds_of operators) instants) (order_on schedule instants) done)
 unfolding machine_on state_on
 first_state_is net schedule inputs operators instants done fixed none =
@@ -152,12 +152,12 @@ none_held : (s : State) (r : ℕ) → s.gave r ≡ [] → s.took r ≡ [] → he
 none_held s r g t = ap (λ xs. drop (length xs) (s.gave r)) t ∙ g
 
 -- what was made, seen as the state of a core without an event
-stands_seen : (net : Net) (schedule : Timetable) (inputs : List (List ℤ)) (operators : List Operator) (instants : ℕ) (crew : List (List Part)) (places : List Place) (ends : List Ends) → MakesCore net schedule inputs operators instants →
+stands_seen : (net : Net) (schedule : Timetable) (inputs : List (List ℤ)) (operators : List Operator) (instants : ℕ) (crew : List (List Part)) (places : List Place) (ends : List Ends) → CanMakeCore net schedule inputs operators instants →
     AreMade net inputs instants crew places ends → IsStanding (first_seen net schedule (inputs_for net inputs) operators instants) 0 crew places ends
 stands_seen net schedule inputs operators instants crew places ends fixed made =
     let proper : IsProper net = fixed.proper in
     let seen : Seen = first_seen net schedule (inputs_for net inputs) operators instants in
-    let kept : MakesCore net schedule (inputs_for net inputs) operators instants = fixed_seen net schedule inputs operators instants fixed in
+    let kept : CanMakeCore net schedule (inputs_for net inputs) operators instants = fixed_seen net schedule inputs operators instants fixed in
     let none : (b : ℕ) → done_of (replicate (length net.actors) 0) b ≡ 0 = zero_at (length net.actors) in
     let state : IsFirstState net (inputs_for net inputs) (kinds_of operators) instants (state_of seen) = first_state_is net schedule (inputs_for net inputs) operators instants (replicate (length net.actors) 0) kept none in
     let given : (r : ℕ) (g : GiverView) → slice_get made.joined.givers r ≡ Some g → g.given ≡ [] = λ (r : ℕ) (g : GiverView) (e : slice_get made.joined.givers r ≡ Some g). given_none net.rings made.joined.givers made.joined.takers made.joined.made made.joined.new r g e in
@@ -198,7 +198,7 @@ stands_seen net schedule inputs operators instants crew places ends fixed made =
           };
     }
 
-pub stands_first : (net : Net) (schedule : Timetable) (inputs : List (List ℤ)) (operators : List Operator) (instants : ℕ) (crew : List (List Part)) (places : List Place) (ends : List Ends) → MakesCore net schedule inputs operators instants →
+pub stands_first : (net : Net) (schedule : Timetable) (inputs : List (List ℤ)) (operators : List Operator) (instants : ℕ) (crew : List (List Part)) (places : List Place) (ends : List Ends) → CanMakeCore net schedule inputs operators instants →
     AreMade net inputs instants crew places ends → IsStanding (seen_by net schedule operators instants crew places) 0 crew places ends
 stands_first net schedule inputs operators instants crew places ends fixed made =
     subst (λ (seen : Seen). IsStanding seen 0 crew places ends) (sym (first_is net schedule inputs operators instants crew places ends made fixed.proper))

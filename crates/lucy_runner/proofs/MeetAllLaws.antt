@@ -173,6 +173,13 @@ one_more_met crew now next places ends rings n ring at so_far meets =
 pub all_met : (crew met : List (List Part)) (places : List Place) (ends : List Ends) (rings : List RingSpec) (n : ℕ) → length rings ≤ n → AreMetTo crew met places ends rings n → HaveAllMet crew met places ends rings
 all_met crew met places ends rings n l m = record { rest = m.rest; each = λ r ring e. m.met r ring (omega (arith, slice_get_within rings r ring e)) e }
 
+-- the lists of places and of ends have those of a ring
+pub ends_there : (crew : List (List Part)) (places : List Place) (ends : List Ends) (r : ℕ) (ring : RingSpec) → IsJoined crew places ends r ring → (ring.from < length places) × (ring.to < length places) × (r < length ends)
+ends_there crew places ends r ring j =
+    let x : StandsAt crew places ring.from j.giver = stands_at crew places ring.from j.giver j.giver_is in
+    let y : StandsAt crew places ring.to j.taker = stands_at crew places ring.to j.taker j.taker_is in
+    (slice_get_within places ring.from x.place x.at, slice_get_within places ring.to y.place y.at, slice_get_within ends r j.at j.ends_at)
+
 -- what a meeting asks, read from the lists of places
 pub record CanMeet (now : List (List Part)) (places : List Place) (ring : RingSpec) (p : Place) (at : Ends) : Type 0 where
   pub seats : ((get_or places ring.from p).seat < length now) × ((get_or places ring.to p).seat < length now)

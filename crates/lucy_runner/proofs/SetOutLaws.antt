@@ -15,7 +15,7 @@ use Rattle.lucy_net.specs.Plans.{form_of}
 use Rattle.lucy_net.specs.Proper.{IsProper}
 use Rattle.lucy_net.specs.States.{ReadsInput}
 use Rattle.lucy_cause.specs.Schedules.{Timetable}
-use Rattle.lucy_core.specs.Seen.{MakesCore, first_seen}
+use Rattle.lucy_core.specs.Seen.{CanMakeCore, first_seen}
 use Rattle.lucy_ring.specs.Views.{GiverView, TakerView}
 use Rattle.lucy_worker.specs.declared.part.Part.{Part}
 use Rattle.lucy_runner.specs.declared.place.Place.{Place}
@@ -102,7 +102,7 @@ fed_seen net inputs a quota actor (Fby first) here is fed = tt
 fed_seen net inputs a quota actor Pass here is fed = tt
 fed_seen net inputs a quota actor (Output output) here is fed = tt
 
-pub fixed_seen : (net : Net) (schedule : Timetable) (inputs : List (List ℤ)) (operators : List Operator) (instants : ℕ) → MakesCore net schedule inputs operators instants → MakesCore net schedule (inputs_for net inputs) operators instants
+pub fixed_seen : (net : Net) (schedule : Timetable) (inputs : List (List ℤ)) (operators : List Operator) (instants : ℕ) → CanMakeCore net schedule inputs operators instants → CanMakeCore net schedule (inputs_for net inputs) operators instants
 fixed_seen net schedule inputs operators instants is = record {
   proper = is.proper;
   sound = is.sound;

@@ -8,7 +8,7 @@ use Rattle.lucy_net.specs.declared.kind.ActorKind.{ActorKind}
 use Rattle.lucy_net.specs.declared.kind.ActorKind.TheVariants.{Output}
 use Rattle.lucy_net.specs.declared.net.Actor.{Actor}
 use Rattle.lucy_net.specs.declared.net.RingSpec.{RingSpec}
-use Rattle.lucy_core.specs.Seen.{Seen, machine_of, state_of, done_of, MakesCore}
+use Rattle.lucy_core.specs.Seen.{Seen, machine_of, state_of, done_of, CanMakeCore}
 use Rattle.lucy_ring.specs.Views.{GiverView, TakerView}
 use Rattle.lucy_worker.specs.declared.part.Part.{Part}
 use Rattle.lucy_worker.specs.Parts.{IsPartAt}
@@ -60,7 +60,7 @@ AreCovered crew places = (s k : ℕ) (parts : List Part) (p : Part) → slice_ge
 
 -- the parts and ends of a net are its state of these counts
 pub record IsStanding (seen : Seen) (before : ℕ) (crew : List (List Part)) (places : List Place) (ends : List Ends) : Type 0 where
-  pub fixed : MakesCore seen.net seen.schedule seen.inputs seen.operators seen.instants
+  pub fixed : CanMakeCore seen.net seen.schedule seen.inputs seen.operators seen.instants
   pub within : IsWithin (machine_of seen).sys (done_of seen.done)
   pub early : before ≤ seen.instants
   pub few : length crew ≤ most_workers

@@ -6,49 +6,56 @@ ghost use Rattle.lucy_net.specs.Proper.{IsProper, IsSupplied};
 ghost use Rattle.lucy_runner.specs.Views.{most_workers};
 ghost use Rattle.lucy_runner.specs.Crews.{crew_of};
 ghost use Rattle.lucy_runner.specs.Making.{AreMade};
+ghost use Rattle.lucy_runner.specs.Standing.{AreOutputs};
 
 use crate::beginning::first_parts;
 use crate::joining::join_all;
+use crate::outputs::outputs_of;
 use crate::place::{Ends, Place};
+use crate::route::route_of;
 use crate::seat::Seat;
 use crate::sitting::seat_parts;
-use lucy_host::Inputs;
-use lucy_net::Net;
+use lucy_core::CoreParts;
 use lucy_word::OutOfMemory;
 use std::alloc::Global;
 
-/// The actors of a net in the seats of their homes, and where they and their rings' ends are.
+/// The actors of a net in the seats of their homes, where they, their rings' ends and the outputs are, and a route over all.
 #[derive(Drop)]
 pub(crate) struct Crew {
     pub seats: Vec<Seat>,
     pub places: Vec<Place>,
     pub ends: Vec<Ends>,
+    pub outputs: Vec<u32>,
+    pub route: Vec<Place>,
 }
 
 /// The actors of a net, each in the worker of its home, at their beginning, with empty rings of size plus one slots and the items
 /// of the inputs.
 pub(crate) fn seat_all(
     alloc: Global,
-    net: &Net,
-    inputs: &Inputs,
-    instants: u64,
+    core: &CoreParts,
     workers: u32,
     homes: &[u32],
 ) -> Result<Crew, OutOfMemory>
-    requires proper { IsProper net.now }
-    requires supplied { IsSupplied inputs.now net.now instants }
-    requires early { instants ≤ limit_number limit.Instants }
+    requires proper { IsProper core.now.net }
+    requires supplied { IsSupplied core.now.inputs core.now.net core.now.instants }
+    requires early { core.now.instants ≤ limit_number limit.Instants }
     requires workers { workers ≤ most_workers }
-    requires homes { length homes.now ≡ length net.now.actors }
+    requires homes { length homes.now ≡ length core.now.net.actors }
     requires each { All (λ home. home < workers) homes.now }
-    ensures { IfOk result (λ crew. AreMade net.now inputs.now instants (crew_of crew.seats.items) crew.places.items crew.ends.items) }
+    ensures made { IfOk result (λ crew. AreMade core.now.net core.now.inputs core.now.instants (crew_of crew.seats.items) crew.places.items crew.ends.items) }
+    ensures outputs { IfOk result (λ crew. AreOutputs core.now.net.actors crew.outputs.items) }
 {
-    let mut parts = first_parts(alloc, net.actors.list(), inputs, instants)?;
-    let ends = join_all(alloc, net.rings.list(), parts.as_mut_slice())?;
+    let mut parts = first_parts(alloc, core.net.actors.list(), &core.inputs, core.instants)?;
+    let ends = join_all(alloc, core.net.rings.list(), parts.as_mut_slice())?;
     let (seats, places) = seat_parts(alloc, parts, workers, homes)?;
+    let outputs = outputs_of(alloc, core.net.actors.list())?;
+    let route = route_of(alloc, &core.schedule, &places)?;
     Ok(Crew {
         seats,
         places,
         ends,
+        outputs,
+        route,
     })
 }

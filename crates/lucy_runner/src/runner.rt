@@ -1,14 +1,13 @@
 ghost use Rattle.std.specs.Prelude.{ℕ, ◌≡◌, ◌↔◌, ◌≤◌, ◌<◌, ◌+◌, ◌++◌, List, take, drop, length, slice_get, Some, IsTrue, IfOk, OnErr, All};
 
 use crate::growing::grow_all;
-use crate::making::{Crew, seat_all};
+use crate::making::seat_all;
 use crate::meeting::meet_all;
-use crate::outputs::outputs_of;
 use crate::place::{Ends, Place};
-use crate::route::{FULL_ROUND, passes_along, route_of};
+use crate::route::{FULL_ROUND, passes_along};
 use crate::seat::{Seat, all_done, few_left, operations_done, pass_in_place, turn_apart};
 use lucy_cause::Schedule;
-use lucy_core::{Core, CoreParts};
+use lucy_core::Core;
 use lucy_host::{Host, Inputs, Ops};
 use lucy_net::Net;
 use lucy_word::OutOfMemory;
@@ -54,7 +53,7 @@ impl Model for Runner {
 }
 
 // Who makes the turns of a round.
-#[derive(Clone, Copy, PartialEq, Eq)]
+#[derive(Clone, Copy)]
 enum Threading {
     // Each worker its own, where there are several each in a thread of its own.
     Apart,
@@ -100,31 +99,19 @@ impl Runner {
         requires each { All (λ home. home < workers) homes.now }
         ensures { IfOk result (λ runner. runner ≡ first_runner core) }
     {
-        let CoreParts {
-            net,
-            schedule,
-            inputs,
-            ops,
-            instants,
-        } = core.into_parts();
-        let Crew {
-            seats,
-            places,
-            ends,
-        } = seat_all(alloc, &net, &inputs, instants, workers, homes)?;
-        let outputs = outputs_of(alloc, net.actors.list())?;
-        let route = route_of(alloc, &schedule, &places)?;
+        let parts = core.into_parts();
+        let crew = seat_all(alloc, &parts, workers, homes)?;
         Ok(Runner {
-            net,
-            schedule,
-            ops,
-            instants,
+            net: parts.net,
+            schedule: parts.schedule,
+            ops: parts.ops,
+            instants: parts.instants,
             before: 0,
-            seats,
-            places,
-            ends,
-            outputs,
-            route,
+            seats: crew.seats,
+            places: crew.places,
+            ends: crew.ends,
+            outputs: crew.outputs,
+            route: crew.route,
             blocks: 0,
         })
     }
@@ -204,10 +191,9 @@ impl Runner {
         ensures round { IsRoundTo self.old.seen self.new.seen result }
         ensures before { self.new.before ≡ self.old.before }
     {
-        if threading == Threading::Apart {
-            self.round(rt, host, gate)
-        } else {
-            self.round_in_place(host, FULL_ROUND)
+        match threading {
+            Threading::Apart => self.round(rt, host, gate),
+            Threading::InPlace => self.round_in_place(host, FULL_ROUND),
         }
     }
 

@@ -78,6 +78,25 @@ sized_length needs shape from to size =
     let b = size_count shape.period shape.clocks from to size in
     omega arith
 
+-- the same by the number of rows of the size
+pub sized_count : (needs : Needs) (shape : Shape) (from to size more : ℕ) (clocks : List ClockShape) → clocks ≡ shape.clocks → more ≡ length (size_rows shape.period clocks from to size) →
+    length (sized_inequalities needs shape from to size) ≡ length (inequalities needs shape) + more
+sized_count needs shape from to size more clocks e count =
+    let a = length-append (inequalities needs shape) (size_rows shape.period shape.clocks from to size) in
+    let b = ap (λ (l : List ClockShape). length (size_rows shape.period l from to size)) e in
+    omega arith
+
+-- a position that isn't far away is folded by few instants
+pub near_folds : (P n m : ℕ) (c : ClockShape) → IsPlaced n c → n ≤ 1 + most_positions → 0 < m → m ≤ 2097152 → P ≤ most_positions → IsFoldable P c m
+near_folds P n m c placed wide some near short =
+    let a = fold_most m c.lead c.ones m 0 P placed.some (omega arith) in
+    let b : (m + 0) * P ≤ 2097152 * 65536 = mul-le (m + 0) P 2097152 65536 (omega arith) short in
+    record {
+      placed = record { some = placed.some; first = placed.first; within = (let within = placed.within in omega arith) };
+      some = some;
+      fits = omega arith;
+    }
+
 pub same_length : (needs : Needs) (shape : Shape) (from to size other : ℕ) → length (sized_inequalities needs shape from to size) ≡ length (sized_inequalities needs shape from to other)
 same_length needs shape from to size other = sized_length needs shape from to size ∙ sym (sized_length needs shape from to other)
 

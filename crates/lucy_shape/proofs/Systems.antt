@@ -1,5 +1,5 @@
 -- What the whole list of inequalities says.
-use Rattle.std.proofs.Common.{◌≡◌, ℕ, ◌≤◌, List, [], length, ℤ, ap, ◌∙◌}
+use Rattle.std.proofs.Common.{ℕ, ◌≤◌, List, [], length, ℤ}
 use Rattle.std.specs.List.{flat_map, AllByRecursion}
 use Rattle.lucy_need.specs.declared.need.Needs.{Needs}
 use Rattle.lucy_need.proofs.AllLaws.{all_front}
@@ -10,8 +10,7 @@ use Rattle.lucy_shape.proofs.Meeting.{each_from, each_to, meeting_law}
 use Rattle.lucy_shape.proofs.Fitting.{fitting_law}
 use Rattle.lucy_need.specs.Meeting.{Assignment, MeetsAll}
 use Rattle.lucy_need.specs.Stored.{HasWords}
-use Rattle.lucy_shape.specs.Added.{with_rows}
-use Rattle.lucy_shape.specs.Fitting.{variable_count, IsShapeFor, ArePositions, IsFitting}
+use Rattle.lucy_shape.specs.Fitting.{IsShapeFor, ArePositions, IsFitting}
 use Rattle.lucy_shape.specs.Inequalities.{shape_rows, need_rows, inequalities, system_of, SolvesShape}
 use Rattle.lucy_shape.specs.Rows.{HoldsIn}
 

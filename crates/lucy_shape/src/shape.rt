@@ -7,7 +7,7 @@ use std::marker::Model;
 
 /// The shape of a clock: past its first `lead` ones, `ones` ones further is one period later. A position is the number of a
 /// one of the clock, counted from 1; those up to `lead + ones` have variables. A clock that isn't used has no positions.
-#[derive(Clone, Copy, Debug, PartialEq, Eq)]
+#[derive(Clone, Copy)]
 pub struct ClockShape {
     /// Whether the clock belongs to a place or a call, or is a base that some need names.
     pub used: bool,

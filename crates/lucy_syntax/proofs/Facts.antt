@@ -112,6 +112,12 @@ node_of {n = n} {a = a} {b = b} {r = r} {s = s} {d = d} {e = e} p q u =
     let N : List decl.Decl → List name.Name → List DefTree → NodeTree = λ x y z. record { name = n; params = x; results = y; defs = z } in
     ap (λ x. N x r d) p ∙ ap (λ y. N b y d) q ∙ ap (λ z. N b s z) u
 
+-- and a definition
+pub def_of : {a b : List decl.Decl} {t u : Tree} → a ≡ b → t ≡ u → ◌≡◌ {A = DefTree} (record { left = a; right = t }) (record { left = b; right = u })
+def_of {b = b} {t = t} p q =
+    let D : List decl.Decl → Tree → DefTree = λ x y. record { left = x; right = y } in
+    ap (λ x. D x t) p ∙ ap (λ y. D b y) q
+
 -- a slice that a test found empty, or not
 pub is_none : {A : Type 0} (list : List A) → true ≡ (length list == 0) → list ≡ []
 is_none [] h = refl

@@ -1,17 +1,19 @@
 -- Productions that two functions read, one the first symbols and the other those behind them.
-use Rattle.std.proofs.Common.{◌∷◌, List, Option, refl}
+use Rattle.std.proofs.Common.{◌≡◌, ◌∷◌, List, Option, refl, inl, inr}
 use Rattle.std.specs.Prelude.{unwrap_or}
 use Rattle.lucy_host.specs.declared.op.Op.TheVariants as op
 use Rattle.lucy_tree.specs.Tree.{operator, no_more, more}
 use Rattle.lucy_token.specs.declared.mark.Mark.TheVariants as mark
 use Rattle.lucy_token.specs.declared.token.Kind.TheVariants as kind
 use Rattle.lucy_token.specs.declared.token.Token.{Token}
+use Rattle.lucy_token.specs.Tokens.{first}
 use Rattle.lucy_grammar.specs.Symbols.{Part, Val}
 use Rattle.lucy_grammar.specs.Grammar.{rules}
 use Rattle.lucy_grammar.specs.Meanings.{token_name, two}
-use Rattle.lucy_grammar.specs.Reading.{follows, begins, Takes, BreaksAt, Reads, Unfit, Begins, IsOther, ReadsOptional, UnfitOptional}
+use Rattle.lucy_grammar.specs.Reading.{follows, begins, Takes, BreaksAt, Reads, Unfit, Begins, IsBegun, IsOther, ReadsOptional, UnfitOptional}
 use Rattle.lucy_grammar.proofs.Steps.{end, tok, tok_no, tok_bad, sub, sub_no, sub_bad, maybe, maybe_no, maybe_bad, rule, rule_no, led_by, others}
-use Rattle.lucy_syntax.specs.Refusals.{behind_name, behind_first, behind_test, behind_base}
+use Rattle.lucy_grammar.proofs.Productions as by
+use Rattle.lucy_syntax.specs.Refusals.{UnfitInner, behind_name, behind_first, behind_test, behind_base}
 
 pub decl : {ts m1 rest : List Token} {n : Token} {h : Option (Val Part.Typing)} {w : Option (Val Part.ClockOf)} → Begins ts n kind.Name m1 → Takes Part.Decl behind_name m1 (h, (w, tt)) rest → Reads Part.Decl ts (record { name = token_name n; holds = h; word = w }) rest
 unfolding rules follows begins
@@ -108,3 +110,14 @@ behind_base_2 h1 u = tok_no h1 (maybe_bad refl u)
 pub behind_base_3 : {ts m1 m2 rest : List Token} {o : Token} (args : Option (Val Part.Args)) → Begins ts o (kind.Mark mark.Open) m1 → ReadsOptional Part.Args m1 args m2 → IsOther m2 (kind.Mark mark.Close) rest → BreaksAt Part.Applied behind_base ts rest
 unfolding rules follows begins
 behind_base_3 args h1 h2 u = tok_no h1 (maybe_no args refl h2 (tok_bad refl u))
+
+-- an expression in parentheses that is refused, where it is all of the part
+pub small_inner_no : (ts rest : List Token) → (IsBegun Part.Lit ts → ⊥) → (first ts ≡ kind.Name → ⊥) → UnfitInner ts rest → Unfit Part.Small ts rest
+small_inner_no ts rest l n (inl u) = by.small_parens_1 (l, n) u
+small_inner_no ts rest l n (inr (inl u)) = by.small_parens_2 u.2 u.3
+small_inner_no ts rest l n (inr (inr u)) = by.small_parens_3 u.4 u.5 u.6
+
+pub held_inner_no : (ts rest : List Token) → first ts ≡ kind.Mark mark.Open → UnfitInner ts rest → UnfitOptional Part.Held ts rest
+held_inner_no ts rest o (inl u) = absurd (u.1 o)
+held_inner_no ts rest o (inr (inl u)) = by.held_parens_2 u.2 u.3
+held_inner_no ts rest o (inr (inr u)) = by.held_parens_3 u.4 u.5 u.6

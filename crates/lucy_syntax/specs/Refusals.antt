@@ -1,5 +1,5 @@
 -- What the descent's functions promise of an answer.
-use Rattle.std.specs.Prelude.{ℕ, Bool, true, false, List, [], ◌∷◌, Option, ◌≡◌}
+use Rattle.std.specs.Prelude.{ℕ, Bool, true, false, List, [], ◌∷◌, Option, ◌≡◌, ◌⊎◌}
 use Rattle.lucy_word.specs.Bits.{Bits}
 use Rattle.lucy_tree.specs.declared.span.Name.{Name}
 use Rattle.lucy_tree.specs.declared.span.Span.{Span}
@@ -8,7 +8,7 @@ use Rattle.lucy_tree.specs.Tree.{Tree, Trees, sampled, call}
 use Rattle.lucy_grammar.specs.Symbols.{Part, Sym, part, perhaps}
 use Rattle.lucy_grammar.specs.Grammar.{sign}
 use Rattle.lucy_grammar.specs.Meanings.{literal_before, held_by}
-use Rattle.lucy_grammar.specs.Reading.{Reads, ReadsOptional}
+use Rattle.lucy_grammar.specs.Reading.{Begins, IsOther, Reads, Unfit, ReadsOptional}
 use Rattle.lucy_token.specs.declared.mark.Mark.TheVariants as mark
 use Rattle.lucy_token.specs.declared.token.Kind.{Kind}
 use Rattle.lucy_token.specs.declared.token.Kind.TheVariants as kind
@@ -50,6 +50,16 @@ IsHeldBy n lit span ts b rest = (v : Option (Option Span × Tree)) × ReadsOptio
 -- what stands behind the name of a call is read, and the tree is the call
 abbrev pub IsApplied : Name → List Token → Tree → List Token → Type 0
 IsApplied name ts e rest = (v : Option Bits × Trees) × Reads Part.Applied ts v rest × (e ≡ call name v.0 v.1)
+
+-- an expression in parentheses is read
+abbrev pub ReadsInner : List Token → Tree → List Token → Type 0
+ReadsInner ts e rest = (o : Token) × (s : Token) × (m : List Token) × (n : List Token) × Begins ts o (kind.Mark mark.Open) m × Reads Part.Expr m e n × Begins n s (kind.Mark mark.Close) rest
+
+-- it is refused, at its `(`, inside or at its `)`
+abbrev pub UnfitInner : List Token → List Token → Type 0
+UnfitInner ts rest =
+    IsOther ts (kind.Mark mark.Open) rest ⊎ (((o : Token) × (m : List Token) × Begins ts o (kind.Mark mark.Open) m × Unfit Part.Expr m rest)
+    ⊎ ((o : Token) × (m : List Token) × (e : Tree) × (n : List Token) × Begins ts o (kind.Mark mark.Open) m × Reads Part.Expr m e n × IsOther n (kind.Mark mark.Close) rest))
 
 -- what stands in a declaration behind its name
 abbrev pub behind_name : List Sym

@@ -5,7 +5,7 @@ ghost use Rattle.lucy_token.specs.declared.token.Kind.TheVariants as kind;
 ghost use Rattle.lucy_token.specs.declared.token.Token.{Token};
 ghost use Rattle.lucy_token.specs.declared.token.What.TheVariants as what;
 ghost use Rattle.lucy_grammar.specs.Kinds.{is_bound};
-ghost use Rattle.lucy_grammar.specs.Meanings.{token_number, token_bound};
+ghost use Rattle.lucy_grammar.specs.Meanings.{token_literal, token_bound};
 ghost use Rattle.lucy_grammar.specs.Reading.{Reads, Unfit, IsBoundAhead, IsBegun, Begins, IsOther, ReadsOptional, UnfitOptional};
 ghost use Rattle.lucy_syntax.specs.Refusals.{RefusedBy, begins_expr};
 
@@ -32,7 +32,7 @@ pub(crate) fn at_literal(ts: &[Token]) -> bool
 
 // A number and its place.
 fn number<'a, 't>(ts: &'a [Token<'t>]) -> Result<((Lit, Span), &'a [Token<'t>]), Refusal<'a, 't>>
-    ensures ok { IfOk result (λ p. (t : Token) × Begins ts.now t kind.Number p.1.now × (p.0.0 ≡ token_number t.what) × (p.0.1 ≡ t.span)) }
+    ensures ok { IfOk result (λ p. (t : Token) × Begins ts.now t kind.Number p.1.now × (p.0.0 ≡ token_literal t.what) × (p.0.1 ≡ t.span)) }
     ensures refused { IfErr result (RefusedBy (IsOther ts.now kind.Number)) }
     ensures shorter { IfOk result (λ p. length p.1.now < length ts.now) }
 {
@@ -47,7 +47,7 @@ fn number<'a, 't>(ts: &'a [Token<'t>]) -> Result<((Lit, Span), &'a [Token<'t>]),
 
 /// A number that a buffer's bound may be: the bound, the literal, and its place.
 pub(crate) fn bound<'a, 't>(ts: &'a [Token<'t>]) -> Option<((u64, Lit, Span), &'a [Token<'t>])>
-    ensures read { MatchOption result (IsBoundAhead ts.now → ⊥) (λ p. (t : Token) × (ts.now ≡ t ∷ p.1.now) × (is_bound t.what ≡ true) × (p.0.0 ≡ token_bound t.what) × (p.0.1 ≡ token_number t.what) × (p.0.2 ≡ t.span)) }
+    ensures read { MatchOption result (IsBoundAhead ts.now → ⊥) (λ p. (t : Token) × (ts.now ≡ t ∷ p.1.now) × (is_bound t.what ≡ true) × (p.0.0 ≡ token_bound t.what) × (p.0.1 ≡ token_literal t.what) × (p.0.2 ≡ t.span)) }
     ensures shorter { IfSome result (λ p. length p.1.now < length ts.now) }
 {
     let (t, rest) = ts.split_first()?;

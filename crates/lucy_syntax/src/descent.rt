@@ -10,7 +10,7 @@ ghost use Rattle.lucy_grammar.specs.Symbols.{Part};
 ghost use Rattle.lucy_grammar.specs.Meanings.{two};
 ghost use Rattle.lucy_grammar.specs.Reading.{Takes, BreaksAt, Reads, Unfit, ReadsOptional, UnfitOptional, IsBegun};
 ghost use Rattle.lucy_syntax.specs.Levels.{ReadsAt, UnfitAt};
-ghost use Rattle.lucy_syntax.specs.Refusals.{RefusedBy, IsFollowed, IsHeldBy, IsApplied, IsSampled, behind_test, behind_base};
+ghost use Rattle.lucy_syntax.specs.Refusals.{RefusedBy, IsFollowed, IsHeldBy, IsApplied, IsSampled, ReadsInner, UnfitInner, behind_test, behind_base};
 ghost use Rattle.lucy_syntax.specs.Views.{all_trees};
 
 use crate::atoms::{at_applied, at_expr, at_literal, at_sampling, base, bound, lit, sampling};
@@ -23,25 +23,8 @@ use lucy_tree::{Expr, Lit, Name, Span};
 use std::alloc::Global;
 
 /// An expression.
-pub(crate) fn expr<'a, 't>(
-    alloc: Global,
-    ts: &'a [Token<'t>],
-) -> Result<(Expr, &'a [Token<'t>]), Refusal<'a, 't>>
-    ensures ok { IfOk result (λ p. Reads Part.Expr ts.now (tree_of p.0) p.1.now) }
-    ensures refused { IfErr result (RefusedBy (Unfit Part.Expr ts.now)) }
-    ensures shorter { IfOk result (λ p. length p.1.now < length ts.now) }
-{
-    if at(ts, Kind::Mark(Mark::If)) {
-        let (choice, ts) = choice(alloc, ts)?;
-        return Ok((Box::into_inner(choice), ts));
-    }
-    let (operation, ts) = operation(alloc, ts, Level::Or)?;
-    Ok((Box::into_inner(operation), ts))
-}
-
-// An expression, in a box.
 #[cycle(descent)]
-fn whole<'a, 't>(
+pub(crate) fn whole<'a, 't>(
     alloc: Global,
     ts: &'a [Token<'t>],
 ) -> Result<(Box<Expr>, &'a [Token<'t>]), Refusal<'a, 't>>
@@ -251,10 +234,8 @@ fn behind_bound<'a, 't>(
     ensures shorter { IfOk result (λ p. length p.1.now ≤ length ts.now) }
 {
     if at(ts, Kind::Mark(Mark::Open)) {
-        let (_, ts) = want(ts, Mark::Open)?;
-        let (inner, ts) = whole(alloc, ts)?;
-        let (_, ts) = want(ts, Mark::Close)?;
-        return Ok(((Some(most), inner), ts));
+        let (operand, ts) = inner(alloc, ts)?;
+        return Ok(((Some(most), operand), ts));
     }
     let (operand, ts) = behind_literal(alloc, number, span, ts)?;
     Ok(((None, operand), ts))
@@ -327,6 +308,23 @@ fn atom<'a, 't>(
     if at(ts, Kind::Mark(Mark::Host)) {
         return hosted(alloc, ts);
     }
+    // (as `inner` does, by a function less on the stack for each open parenthesis)
+    let (_, ts) = want(ts, Mark::Open)?;
+    let (inner, ts) = whole(alloc, ts)?;
+    let (_, ts) = want(ts, Mark::Close)?;
+    Ok((inner, ts))
+}
+
+// An expression in parentheses.
+#[cycle(descent)]
+fn inner<'a, 't>(
+    alloc: Global,
+    ts: &'a [Token<'t>],
+) -> Result<(Box<Expr>, &'a [Token<'t>]), Refusal<'a, 't>>
+    ensures ok { IfOk result (λ p. ReadsInner ts.now (tree_of p.0.value) p.1.now) }
+    ensures refused { IfErr result (RefusedBy (UnfitInner ts.now)) }
+    ensures shorter { IfOk result (λ p. length p.1.now < length ts.now) }
+{
     let (_, ts) = want(ts, Mark::Open)?;
     let (inner, ts) = whole(alloc, ts)?;
     let (_, ts) = want(ts, Mark::Close)?;
@@ -403,24 +401,20 @@ fn small<'a, 't>(
         let (name, ts) = name(alloc, ts)?;
         return Ok((make::variable(alloc, name)?, ts));
     }
-    let (_, ts) = want(ts, Mark::Open)?;
-    let (inner, ts) = whole(alloc, ts)?;
-    let (_, ts) = want(ts, Mark::Close)?;
-    Ok((inner, ts))
+    inner(alloc, ts)
 }
 
 /// A call.
 pub(crate) fn call<'a, 't>(
     alloc: Global,
     ts: &'a [Token<'t>],
-) -> Result<(Expr, &'a [Token<'t>]), Refusal<'a, 't>>
-    ensures ok { IfOk result (λ p. Reads Part.Call ts.now (tree_of p.0) p.1.now) }
+) -> Result<(Box<Expr>, &'a [Token<'t>]), Refusal<'a, 't>>
+    ensures ok { IfOk result (λ p. Reads Part.Call ts.now (tree_of p.0.value) p.1.now) }
     ensures refused { IfErr result (RefusedBy (Unfit Part.Call ts.now)) }
     ensures shorter { IfOk result (λ p. length p.1.now < length ts.now) }
 {
     let (name, ts) = name(alloc, ts)?;
-    let (call, ts) = applied(alloc, name, ts)?;
-    Ok((Box::into_inner(call), ts))
+    applied(alloc, name, ts)
 }
 
 // A call by this name: its base, where it is written, and its arguments.

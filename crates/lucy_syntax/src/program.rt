@@ -1,6 +1,9 @@
 // Reads definitions, nodes and programs.
-ghost use Rattle.std.specs.Prelude.{◌≡◌, ◌<◌, ◌≤◌, ◌∷◌, IfOk, IfErr, List, Option, length, map, unwrap_or, []};
+ghost use Rattle.std.specs.Prelude.{◌≡◌, ◌≢◌, ◌<◌, ◌≤◌, ◌∷◌, IfOk, IfErr, List, Option, length, map, unwrap_or, []};
 ghost use Rattle.lucy_tree.specs.View.{DefTree, tree_of, def_tree, node_tree};
+ghost use Rattle.lucy_token.specs.Tokens.{first};
+ghost use Rattle.lucy_token.specs.declared.mark.Mark.TheVariants as mark;
+ghost use Rattle.lucy_token.specs.declared.token.Kind.TheVariants as kind;
 ghost use Rattle.lucy_token.specs.declared.token.Token.{Token};
 ghost use Rattle.lucy_grammar.specs.Symbols.{Part};
 ghost use Rattle.lucy_grammar.specs.Reading.{Takes, BreaksAt, Reads, Unfit, ReadsOptional, UnfitOptional};
@@ -8,7 +11,7 @@ ghost use Rattle.lucy_syntax.specs.Refusals.{RefusedBy, behind_first};
 
 use crate::cursor::{at, name, take, want};
 use crate::decl::{decl, decls, params, results};
-use crate::descent::{call, expr};
+use crate::descent::{call, whole};
 use crate::make::{one, push};
 use crate::refusal::Refusal;
 use lucy_token::{Kind, Mark, Token};
@@ -53,6 +56,42 @@ fn joined(alloc: Global, head: Decl, mut others: Vec<Decl>) -> Result<Vec<Decl>,
     Ok(list)
 }
 
+// A definition of several names.
+fn several<'a, 't>(
+    alloc: Global,
+    ts: &'a [Token<'t>],
+) -> Result<(Def, &'a [Token<'t>]), Refusal<'a, 't>>
+    requires { first ts.now ≡ kind.Mark mark.Open }
+    ensures ok { IfOk result (λ p. Reads Part.Def ts.now (def_tree p.0) p.1.now) }
+    ensures refused { IfErr result (RefusedBy (Unfit Part.Def ts.now)) }
+    ensures shorter { IfOk result (λ p. length p.1.now < length ts.now) }
+{
+    let (left, ts) = lefts(alloc, ts)?;
+    let (_, ts) = want(ts, Mark::Equals)?;
+    let (right, ts) = call(alloc, ts)?;
+    let left = Decls::new(left);
+    let right = Box::into_inner(right);
+    Ok((Def { left, right }, ts))
+}
+
+// A definition of one name.
+fn single<'a, 't>(
+    alloc: Global,
+    ts: &'a [Token<'t>],
+) -> Result<(Def, &'a [Token<'t>]), Refusal<'a, 't>>
+    requires { first ts.now ≢ kind.Mark mark.Open }
+    ensures ok { IfOk result (λ p. Reads Part.Def ts.now (def_tree p.0) p.1.now) }
+    ensures refused { IfErr result (RefusedBy (Unfit Part.Def ts.now)) }
+    ensures shorter { IfOk result (λ p. length p.1.now < length ts.now) }
+{
+    let (left, ts) = decl(alloc, ts)?;
+    let (_, ts) = want(ts, Mark::Equals)?;
+    let (right, ts) = whole(alloc, ts)?;
+    let left = Decls::new(one(alloc, left)?);
+    let right = Box::into_inner(right);
+    Ok((Def { left, right }, ts))
+}
+
 /// A definition.
 fn def<'a, 't>(
     alloc: Global,
@@ -63,22 +102,9 @@ fn def<'a, 't>(
     ensures shorter { IfOk result (λ p. length p.1.now < length ts.now) }
 {
     if at(ts, Kind::Mark(Mark::Open)) {
-        let (left, ts) = lefts(alloc, ts)?;
-        let (_, ts) = want(ts, Mark::Equals)?;
-        let (right, ts) = call(alloc, ts)?;
-        return Ok((
-            Def {
-                left: Decls::new(left),
-                right,
-            },
-            ts,
-        ));
+        return several(alloc, ts);
     }
-    let (left, ts) = decl(alloc, ts)?;
-    let (_, ts) = want(ts, Mark::Equals)?;
-    let (right, ts) = expr(alloc, ts)?;
-    let left = Decls::new(one(alloc, left)?);
-    Ok((Def { left, right }, ts))
+    single(alloc, ts)
 }
 
 // Definitions with `and` between.

@@ -5,7 +5,7 @@ ghost use Rattle.lucy_text.specs.Outside.{SeenSource, SeenSink, appended, GaveBy
 ghost use Rattle.lucy_text.specs.Outside.{gives_nothing, after_call};
 
 /// A read or a write failed, and its source or sink counted a fault.
-#[derive(Clone, Copy, Debug, PartialEq, Eq)]
+#[derive(Clone, Copy)]
 pub struct Failed;
 
 /// Where bytes come from.

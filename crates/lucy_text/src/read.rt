@@ -6,7 +6,7 @@ use crate::Source;
 use std::alloc::{AllocError, Global};
 
 /// Why there are no bytes.
-#[derive(Clone, Copy, Debug, PartialEq, Eq)]
+#[derive(Clone, Copy)]
 pub enum ReadError {
     /// A read failed.
     Failed,

@@ -6,7 +6,7 @@ ghost use Rattle.lucy_text.specs.Shelf.{SeenShelf, IsHeld, Lacks, IsLonger, IsCu
 use std::alloc::{AllocError, Global};
 
 /// Why a shelf gave no file.
-#[derive(Clone, Copy, Debug, PartialEq, Eq)]
+#[derive(Clone, Copy)]
 pub enum ShelfError {
     /// The fetch failed, and the shelf counted a fault. A shelf that doesn't tell its files answers
     /// so where it finds no file of the name too.

@@ -1,6 +1,5 @@
 -- What the earliest solution for the least size says of the assignments.
 use Rattle.std.proofs.Common.{◌≡◌, ℕ, ◌<◌, ◌≤◌, length, List, ℤ, inl, inr, sym, subst, ◌∙◌, arith}
-use Rattle.std.specs.Prelude.{◌⊎◌}
 use Rattle.std.specs.List.{AllByRecursion, Contains}
 use Rattle.std.proofs.lemmas.Bool.{cases_lt}
 use Rattle.std.proofs.lemmas.List.Elements.{recursion_from_All, All-from_get_or}
@@ -109,7 +108,3 @@ module _ (needs : Needs) (shape : Shape) (from to : ℕ) (words : AllByRecursion
       inr (at.few, least, inl (cc long.0, found.0, tightest_at least xs found.0 at.is at.earliest found.1 found.2, long_from shape found.0 xs carries.laid found.2 long.1))
   limit_from (LimitPassed l) (inr (least, xs, at, inr (inr many))) =
       inr (at.few, least, inr (cc many.0, many.2.0, words_at least xs many.2.0 at many.2.1, short_at least xs many.2.0 at many.2.1 many.1, many.2.2))
-
-  pub limit_or_memory : (e : TightError) → (e ≡ OutOfMemory) ⊎ RefusesTightest needs shape from to e → (e ≡ OutOfMemory) ⊎ PassesLimit needs shape from to e
-  limit_or_memory e (inl none) = inl none
-  limit_or_memory e (inr refused) = inr (limit_from e refused)

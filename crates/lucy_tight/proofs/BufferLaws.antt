@@ -65,15 +65,12 @@ operand_read n p k e stands =
 pub read_word : (words : List Bits) (c : ℕ) (w : Bits) → c < length words → w ≡ get_or words c w → assigned words c ≡ w
 read_word words c w l is = get_or_default words c always w l ∙ sym is
 
--- of two words of a list that stand so the first may feed the second
-pub adaptable_read : (words : List Bits) (from to e : ℕ) (a b : Bits) → from ≡ e → assigned words from ≡ a → assigned words to ≡ b → IsAdaptable (assigned words e) (assigned words to) → IsAdaptable a b
-adaptable_read words from to e a b same first second h =
-    subst (λ x. IsAdaptable x b) first (subst (λ x. IsAdaptable (assigned words from) x) second (subst (λ k. IsAdaptable (assigned words k) (assigned words to)) (sym same) h))
+-- of two words of a list
+pub adaptable_read : (words : List Bits) (from to : ℕ) (a b : Bits) → assigned words from ≡ a → assigned words to ≡ b → IsAdaptable (assigned words from) (assigned words to) → IsAdaptable a b
+adaptable_read words from to a b first second h = subst (λ x. IsAdaptable x b) first (subst (λ x. IsAdaptable (assigned words from) x) second h)
 
-pub size_read : (words : List Bits) (from to e : ℕ) (a b : Bits) (size : ℕ) → from ≡ e → assigned words from ≡ a → assigned words to ≡ b → IsSize a b size → IsSize (assigned words e) (assigned words to) size
-size_read words from to e a b size same first second h =
-    subst (λ k. IsSize (assigned words k) (assigned words to) size) same
-    (subst (λ x. IsSize (assigned words from) x size) (sym second) (subst (λ x. IsSize x b size) (sym first) h))
+pub size_read : (words : List Bits) (from to : ℕ) (a b : Bits) (size : ℕ) → assigned words from ≡ a → assigned words to ≡ b → IsSize a b size → IsSize (assigned words from) (assigned words to) size
+size_read words from to a b size first second h = subst (λ x. IsSize (assigned words from) x size) (sym second) (subst (λ x. IsSize x b size) (sym first) h)
 
 -- one of the buffers of a node, in turn
 pub place_here : (n : PlacedNode) (i : ℕ) (list : List ℕ) → list ≡ n.buffers → i < length list → slice_get n.buffers i ≡ Some (get_or list i 0)

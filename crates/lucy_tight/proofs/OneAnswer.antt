@@ -1,5 +1,5 @@
 -- Between two clocks of a shape there is one least size, with one answer but for the cycle, or one reason why it isn't told.
-use Rattle.std.proofs.Common.{◌≡◌, ℕ, ◌-◌, List, ℤ, pos, inl, inr, sym, ap, ◌∙◌, subst, arith}
+use Rattle.std.proofs.Common.{◌≡◌, ℕ, List, ℤ, pos, inl, inr, sym, ap, ◌∙◌, subst, arith}
 use Rattle.std.proofs.lemmas.Int.{ints}
 use Rattle.std.proofs.lemmas.Bool.{cases_Bool}
 use Rattle.std.proofs.lemmas.List.{ext_get_or}

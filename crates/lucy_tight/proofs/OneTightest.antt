@@ -20,16 +20,16 @@ use Rattle.lucy_tight.specs.declared.answer.TightError.{TightError}
 use Rattle.lucy_tight.specs.declared.answer.TightError.TheVariants.{Fixed, Limit as LimitPassed, OutOfMemory}
 use Rattle.lucy_tight.specs.Tightening.{IsTightestAssignment, AreTightestWords, AreTight, PassesLimit}
 
-module _ (needs : Needs) (shape : Shape) (from to : ℕ) (clocks : length shape.clocks ≡ needs.clocks) where
-  -- there is one least size
-  least_once : (one two : ℕ) (v w : Assignment) → IsTightestAssignment needs shape from to one v → IsTightestAssignment needs shape from to two w → one ≡ two
-  least_once one two v w first second = omega (arith, first.smallest two w second.is, second.smallest one v first.is)
+-- there is one least size
+pub least_once : (needs : Needs) (shape : Shape) (from to one two : ℕ) (v w : Assignment) → IsTightestAssignment needs shape from to one v → IsTightestAssignment needs shape from to two w → one ≡ two
+least_once needs shape from to one two v w first second = omega (arith, first.smallest two w second.is, second.smallest one v first.is)
 
+module _ (needs : Needs) (shape : Shape) (from to : ℕ) (clocks : length shape.clocks ≡ needs.clocks) where
   -- at which the earliest have their ones at the same places
   places_once : (one two : ℕ) (v w : Assignment) → IsTightestAssignment needs shape from to one v → IsTightestAssignment needs shape from to two w →
       (clock number : ℕ) → clock < needs.clocks → index_of (v clock) number ≡ index_of (w clock) number
   places_once one two v w first second clock number within =
-      let at : IsTightestAssignment needs shape from to two v = subst (λ n. IsTightestAssignment needs shape from to n v) (least_once one two v w first second) first in
+      let at : IsTightestAssignment needs shape from to two v = subst (λ n. IsTightestAssignment needs shape from to n v) (least_once needs shape from to one two v w first second) first in
       omega (arith, at.earliest w second.is clock number within, second.earliest v at.is clock number within)
 
   -- so one of them has a long word where the other has
@@ -56,7 +56,7 @@ module _ (needs : Needs) (shape : Shape) (from to : ℕ) (clocks : length shape.
   pub alike : (l m : ℕ) (ws vs : List Bits) (d e : System) (xs ys : List ℕ) → AreTight needs shape from to l ws d xs → AreTight needs shape from to m vs e ys →
       (l ≡ m) × (ws ≡ vs) × (d ≡ e)
   alike l m ws vs d e xs ys first second =
-      let same = least_once l m (assigned ws) (assigned vs) first.are.tightest second.are.tightest in
+      let same = least_once needs shape from to l m (assigned ws) (assigned vs) first.are.tightest second.are.tightest in
       (same, words_once l m ws vs first.are second.are, first.less ∙ ap (λ n. sized_system needs shape from to (n - 1)) same ∙ sym second.less)
 
   -- an answer passes no limit

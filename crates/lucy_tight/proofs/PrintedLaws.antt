@@ -1,7 +1,7 @@
 -- What is known of the printed clocks of an accepted program.
 use Rattle.std.proofs.Common.{◌≡◌, ℕ, zero, suc, ◌≤◌, List, length, take, Some, inl, inr, sym, ap, ◌∙◌, subst, refl, arith}
 use Rattle.std.specs.Prelude.{slice_get}
-use Rattle.std.specs.List.{Contains}
+use Rattle.std.specs.List.{AllByRecursion, Contains}
 use Rattle.std.proofs.lemmas.Option.{slice_get_within}
 use Rattle.lucy_host.specs.Operators.{Operator}
 use Rattle.lucy_place.specs.declared.entry.PlaceKind.TheVariants.{Buffer}
@@ -14,6 +14,7 @@ use Rattle.lucy_need.specs.Meeting.{Assignment, alone, assigned}
 use Rattle.lucy_need.specs.declared.need.Need.{Need}
 use Rattle.lucy_need.specs.declared.need.Need.TheVariants.{Adapt}
 use Rattle.lucy_need.specs.declared.need.Needs.{Needs}
+use Rattle.lucy_need.specs.Stored.{HasWords}
 use Rattle.lucy_clock.specs.declared.signature.Signature.{Signature}
 use Rattle.lucy_clock.specs.declared.node_clock.NodeClock.{NodeClock}
 use Rattle.lucy_clock.specs.Clocks.{clocks_of}
@@ -76,35 +77,75 @@ module _ (ops : List Operator) (o : Options) (text : List ℕ) (a : Accepted) (i
         let i = (inferred c of).inferred in
         subst (λ (s : Shape). AreInferredWords (needs_at a node n) s c.words) (one_shape (needs_at a node n) o.scale o.lead i.shape shape i.of_needs here) i.are
 
+-- a buffer of a node that isn't written, the places that it reads and stands at, its printed size, and the needs of its node with their shape
+pub record AtHand (a : Accepted) (o : Options) (node buffer from to size : ℕ) (needs : Needs) (shape : Shape) : Type 0 where
+  pub accepted : (ops : List Operator) × (text : List ℕ) × IsAccepted ops o text a
+  pub of : TheBuffer a node buffer
+  pub from_is : from ≡ of.from
+  pub to_is : to ≡ of.to
+  pub size_is : size ≡ of.size
+  pub unwritten : IsWritten of.n → ⊥
+  pub same : needs ≡ needs_at a node of.n
+  pub shaped : IsShapeOf needs o.scale o.lead shape
+  pub carries : IsShapeFor needs shape
+  pub words : AllByRecursion HasWords needs.list
+
+pub at_hand : {a : Accepted} {o : Options} {node buffer from to size : ℕ} {needs : Needs} {shape : Shape} → (ops : List Operator) × (text : List ℕ) × IsAccepted ops o text a →
+    (of : TheBuffer a node buffer) × (from ≡ of.from) × (to ≡ of.to) × (size ≡ of.size) → ((n : PlacedNode) → slice_get a.placed.nodes node ≡ Some n → IsWritten n → ⊥) →
+    ((n : PlacedNode) → slice_get a.placed.nodes node ≡ Some n → needs ≡ needs_at a node n) → IsShapeOf needs o.scale o.lead shape → IsShapeFor needs shape → AllByRecursion HasWords needs.list →
+    AtHand a o node buffer from to size needs shape
+at_hand accepted at unwritten same shaped carries words = record {
+  accepted = accepted;
+  of = at.0;
+  from_is = at.1;
+  to_is = at.2;
+  size_is = at.3;
+  unwritten = unwritten at.0.n at.0.stands;
+  same = same at.0.n at.0.stands;
+  shaped = shaped;
+  carries = carries;
+  words = words;
+}
+
 -- the printed words keep within the printed size, which is small
-module _ (ops : List Operator) (o : Options) (text : List ℕ) (a : Accepted) (is : IsAccepted ops o text a) (node buffer : ℕ) (of : TheBuffer a node buffer) (unwritten : IsWritten of.n → ⊥)
-    (needs : Needs) (same : needs ≡ needs_at a node of.n) (shape : Shape) (here : IsShapeOf needs o.scale o.lead shape) (carries : IsShapeFor needs shape) where
-  moved : (P : Needs → Type 0) → P needs → P (needs_at a node of.n)
-  moved P h = subst P same h
+module _ {a : Accepted} {o : Options} {node buffer from to size : ℕ} {needs : Needs} {shape : Shape} (h : AtHand a o node buffer from to size needs shape) where
+  printed_words : AreInferredWords needs shape h.of.c.words
+  printed_words =
+      subst (λ (x : Needs). AreInferredWords x shape h.of.c.words) (sym h.same)
+      (words_in h.accepted.0 o h.accepted.1 a h.accepted.2 node h.of.n h.of.stands h.unwritten h.of.c h.of.clocked shape (subst (λ (x : Needs). IsShapeOf x o.scale o.lead shape) h.same h.shaped))
 
-  words : AreInferredWords needs shape of.c.words
-  words =
-      subst (λ (x : Needs). AreInferredWords x shape of.c.words) (sym same)
-      (words_in ops o text a is node of.n of.stands unwritten of.c of.clocked shape (moved (λ x. IsShapeOf x o.scale o.lead shape) here))
-
-  sized : (k : ℕ) → k ≡ buffer → IsSize (assigned of.c.words of.from) (assigned of.c.words of.to) of.size
-  sized zero e = absurd (let h = subst (λ (j : ℕ). at_one of.n.buffers j ≡ Some of.to) (sym e) of.place in cc h)
+  sized : (k : ℕ) → k ≡ buffer → IsSize (assigned h.of.c.words h.of.from) (assigned h.of.c.words h.of.to) h.of.size
+  sized zero e = absurd (let none = subst (λ (j : ℕ). at_one h.of.n.buffers j ≡ Some h.of.to) (sym e) h.of.place in cc none)
   sized (suc i) e =
-      (is.clocked.clocks.each node of.n of.c of.stands of.clocked).sizes.each i of.to buffer of.from of.size
-      (subst (λ (j : ℕ). at_one of.n.buffers j ≡ Some of.to) (sym e) of.place) (subst (λ (j : ℕ). at_one of.c.sizes j ≡ Some of.size) (sym e) of.printed) of.reads
+      (h.accepted.2.clocked.clocks.each node h.of.n h.of.c h.of.stands h.of.clocked).sizes.each i h.of.to buffer h.of.from h.of.size
+      (subst (λ (j : ℕ). at_one h.of.n.buffers j ≡ Some h.of.to) (sym e) h.of.place) (subst (λ (j : ℕ). at_one h.of.c.sizes j ≡ Some h.of.size) (sym e) h.of.printed) h.of.reads
 
-  pub printed_need : Contains needs.list (Adapt (alone of.from) (alone of.to))
-  printed_need =
-      subst (λ (x : Needs). Contains x.list (Adapt (alone of.from) (alone of.to))) (sym same)
-      (buffer_need (signatures (take node a.placed.nodes) (take node a.clocks.items)) of.n of.to buffer of.from of.reads)
+  own_need : Contains needs.list (Adapt (alone h.of.from) (alone h.of.to))
+  own_need =
+      subst (λ (x : Needs). Contains x.list (Adapt (alone h.of.from) (alone h.of.to))) (sym h.same)
+      (buffer_need (signatures (take node a.placed.nodes) (take node a.clocks.items)) h.of.n h.of.to buffer h.of.from h.of.reads)
 
-  pub printed_small : of.size ≤ most_bits
+  pub need_there : Contains needs.list (Adapt (alone from) (alone to))
+  need_there =
+      subst (λ k. Contains needs.list (Adapt (alone k) (alone to))) (sym h.from_is)
+      (subst (λ k. Contains needs.list (Adapt (alone h.of.from) (alone k))) (sym h.to_is) own_need)
+
+  pub printed_small : size ≤ most_bits
   printed_small =
-      small_size (assigned of.c.words of.from) (assigned of.c.words of.to) of.size most_bits
-      (keeps_small needs shape (assigned of.c.words) of.from of.to carries words.earliest.earliest.is.fits printed_need words.short) (sized buffer refl)
+      let small = small_size (assigned h.of.c.words h.of.from) (assigned h.of.c.words h.of.to) h.of.size most_bits
+      (keeps_small needs shape (assigned h.of.c.words) h.of.from h.of.to h.carries printed_words.earliest.earliest.is.fits own_need printed_words.short) (sized buffer refl) in
+      let is = h.size_is in
+      omega arith
 
-  pub printed_kept : (w : Assignment) × IsFitting shape w × MeetsWithin needs of.from of.to of.size w
-  printed_kept = (assigned of.c.words, words.earliest.earliest.is.fits, (words.earliest.earliest.is.meets, (sized buffer refl).passed))
+  pub printed_kept : (w : Assignment) × IsFitting shape w × MeetsWithin needs from to size w
+  printed_kept =
+      let w = assigned h.of.c.words in (
+        w,
+        printed_words.earliest.earliest.is.fits,
+        subst (λ k. MeetsWithin needs k to size w) (sym h.from_is)
+            (subst (λ k. MeetsWithin needs h.of.from k size w) (sym h.to_is)
+            (subst (λ k. MeetsWithin needs h.of.from h.of.to k w) (sym h.size_is) (printed_words.earliest.earliest.is.meets, (sized buffer refl).passed))),
+      )
 
 -- needs are the parts that they have
 pub needs_are : (needs : Needs) (above : List Signature) (n : PlacedNode) → needs.clocks ≡ clocks_of n → needs.list ≡ needs_of above n → needs ≡ node_needs above n
@@ -154,26 +195,6 @@ clocks_there ops o text a is node n at =
     let all = clocks_count ops o text a is in
     let c = get_there a.clocks.items node (omega arith) in
     (c.0, c.1, sizes_count ops o text a is node n c.0 at c.1)
-
--- the same of a buffer by other numbers
-module _ (ops : List Operator) (o : Options) (text : List ℕ) (a : Accepted) (is : IsAccepted ops o text a) (node buffer from to size : ℕ) (of : TheBuffer a node buffer) (at_from : from ≡ of.from) (at_to : to ≡ of.to) (at_size : size ≡ of.size)
-    (unwritten : IsWritten of.n → ⊥) (needs : Needs) (same : needs ≡ needs_at a node of.n) (shape : Shape) (here : IsShapeOf needs o.scale o.lead shape) (carries : IsShapeFor needs shape) where
-  pub need_at : Contains needs.list (Adapt (alone from) (alone to))
-  need_at =
-      subst (λ k. Contains needs.list (Adapt (alone k) (alone to))) (sym at_from)
-      (subst (λ k. Contains needs.list (Adapt (alone of.from) (alone k))) (sym at_to) (printed_need ops o text a is node buffer of unwritten needs same shape here carries))
-
-  pub small_at : size ≤ most_bits
-  small_at = let l = printed_small ops o text a is node buffer of unwritten needs same shape here carries in omega arith
-
-  pub kept_at : (w : Assignment) × IsFitting shape w × MeetsWithin needs from to size w
-  kept_at =
-      let k = printed_kept ops o text a is node buffer of unwritten needs same shape here carries in (
-        k.0,
-        k.1,
-        subst (λ n. MeetsWithin needs n to size k.0) (sym at_from)
-            (subst (λ n. MeetsWithin needs of.from n size k.0) (sym at_to) (subst (λ n. MeetsWithin needs of.from of.to n k.0) (sym at_size) k.2)),
-      )
 
 pub needs_fine : (ops : List Operator) (o : Options) (text : List ℕ) (a : Accepted) → IsAccepted ops o text a → (node : ℕ) (n : PlacedNode) → slice_get a.placed.nodes node ≡ Some n → (above : List Signature) →
     above ≡ signatures (take node a.placed.nodes) (take node a.clocks.items) → (e : ClockError) → RefusesNeeds (needs_of above n) e → e ≡ error.OutOfMemory

@@ -1,7 +1,7 @@
 -- What words that fit a shape of a node's needs and meet them are to the node, beneath the printed clocks of the nodes above it.
 use Rattle.std.proofs.Common.{◌≡◌, ℕ, zero, suc, ◌<◌, ◌≤◌, List, length, take, Some, ap, sym, ◌∙◌, subst, arith}
 use Rattle.std.specs.Prelude.{slice_get}
-use Rattle.std.proofs.lemmas.Option.{slice_get_within}
+use Rattle.std.proofs.lemmas.Option.{same_Some, slice_get_within}
 use Rattle.lucy_host.specs.Operators.{Operator}
 use Rattle.lucy_word.specs.Bits.{Bits}
 use Rattle.lucy_word.specs.Adaptable.{IsSize}
@@ -23,12 +23,14 @@ use Rattle.lucy_clock.proofs.CallerLaws.{above_fit}
 use Rattle.lucy_clock.proofs.NeedLaws.{rules_law}
 use Rattle.lucy_shape.specs.declared.shape.Shape.{Shape}
 use Rattle.lucy_shape.specs.Fitting.{FitsShape, IsFitting}
+use Rattle.lucy_shape.specs.Sized.{HasSizeWithin, MeetsWithin}
 use Rattle.lucy_front.specs.declared.accepted.Accepted.{Accepted}
 use Rattle.lucy_front.specs.declared.options.Options.{Options}
 use Rattle.lucy_front.specs.Accepting.{IsAccepted}
 use Rattle.lucy_tight.specs.Tightening.{needs_at}
 use Rattle.lucy_tight.specs.Measured.{AreAdaptable}
-use Rattle.lucy_tight.proofs.PrintedLaws.{nodes_proper, clocks_count, words_count}
+use Rattle.lucy_tight.proofs.BufferLaws.{operand_one}
+use Rattle.lucy_tight.proofs.PrintedLaws.{AtHand, nodes_proper, clocks_count, words_count}
 
 -- the node is well clocked by them
 module _ (ops : List Operator) (o : Options) (text : List ℕ) (a : Accepted) (is : IsAccepted ops o text a) (node : ℕ) (n : PlacedNode) (at : slice_get a.placed.nodes node ≡ Some n) where
@@ -86,3 +88,53 @@ own_size n c (suc i) from to least sizes at stands is =
     let within = slice_get_within n.buffers i to at in
     let own = get_there c.sizes i (omega (arith, sizes.count)) in
     own.1 ∙ ap Some (one_size (assigned c.words from) (assigned c.words to) own.0 least (sizes.each i to (suc i) from own.0 at own.1 stands) is)
+
+-- the node of a buffer
+module _ {a : Accepted} {o : Options} {node buffer from to size : ℕ} {needs : Needs} {shape : Shape} (h : AtHand a o node buffer from to size needs shape)
+    (n : PlacedNode) (there : slice_get a.placed.nodes node ≡ Some n) where
+  pub node_is : h.of.n ≡ n
+  node_is = same_Some h.of.n n (sym h.of.stands ∙ there)
+
+  needs_same : needs ≡ needs_at a node n
+  needs_same = h.same ∙ ap (λ (m : PlacedNode). needs_at a node m) node_is
+
+  pub found_well : (words : List Bits) → IsFitting shape (assigned words) → MeetsAll (assigned words) needs.list → IsWellClocked (signatures (take node a.placed.nodes) (take node a.clocks.items)) n (assigned words)
+  found_well words = fits_well h.accepted.0 o h.accepted.1 a h.accepted.2 node n there needs shape words needs_same h.carries.clocks
+
+  pub found_adaptable : (words : List Bits) → length words ≡ length shape.clocks → IsFitting shape (assigned words) → MeetsAll (assigned words) needs.list → AreAdaptable n words
+  found_adaptable words count fits meets =
+      well_adaptable (take node a.placed.nodes) (signatures (take node a.placed.nodes) (take node a.clocks.items)) n words (node_proper h.accepted.0 o h.accepted.1 a h.accepted.2 node n there)
+      (count ∙ h.carries.clocks ∙ ap (λ (x : Needs). x.clocks) needs_same) (found_well words fits meets)
+
+  -- other words by which it is well clocked, which fit the shape, and at which the buffer has a size
+  pub well_within : (w : Assignment) (other own most : ℕ) → at_one n.buffers buffer ≡ Some own → Stands n own (Buffer buffer other) → IsWellClocked (signatures (take node a.placed.nodes) (take node a.clocks.items)) n w → FitsShape w shape →
+      IsSize (w other) (w own) most → IsFitting shape w × MeetsWithin needs from to most w
+  well_within w other own most place reads well fits is =
+      let to_is : to ≡ own = h.to_is ∙ same_Some h.of.to own (sym h.of.place ∙ ap (λ (m : PlacedNode). at_one m.buffers buffer) node_is ∙ place) in
+      let stands = subst (λ p. Stands n p (Buffer buffer h.of.from)) (sym h.to_is ∙ to_is) (subst (λ m. Stands m h.of.to (Buffer buffer h.of.from)) node_is h.of.reads) in
+      let from_is : from ≡ other = h.from_is ∙ operand_one n own buffer h.of.from buffer other stands reads in
+      let fit = well_fits h.accepted.0 o h.accepted.1 a h.accepted.2 node n there needs shape w needs_same h.carries.clocks fits well in
+      (fit.0, (fit.1, subst (λ k. HasSizeWithin (w k) (w to) most) (sym from_is) (subst (λ k. HasSizeWithin (w other) (w k) most) (sym to_is) is.passed)))
+
+-- clocks that are found for a buffer
+pub record AreFound (a : Accepted) (o : Options) (node buffer from to size : ℕ) (needs : Needs) (shape : Shape) (least : ℕ) (c : NodeClock) : Type 0 where
+  pub hand : AtHand a o node buffer from to size needs shape
+  pub fits : IsFitting shape (assigned c.words)
+  pub meets : MeetsAll (assigned c.words) needs.list
+  pub is : IsSize (assigned c.words from) (assigned c.words to) least
+  pub sizes : AreSizes hand.of.n c
+
+module _ {a : Accepted} {o : Options} {node buffer from to size : ℕ} {needs : Needs} {shape : Shape} {least : ℕ} {c : NodeClock} (f : AreFound a o node buffer from to size needs shape least c) where
+  pub size_is : at_one c.sizes buffer ≡ Some least
+  size_is =
+      let of = f.hand.of in
+      own_size of.n c buffer of.from of.to least f.sizes of.place of.reads
+      (subst (λ k. IsSize (assigned c.words k) (assigned c.words of.to) least) f.hand.from_is (subst (λ k. IsSize (assigned c.words from) (assigned c.words k) least) f.hand.to_is f.is))
+
+  pub clocks_well : (n : PlacedNode) → slice_get a.placed.nodes node ≡ Some n → IsWellClocked (signatures (take node a.placed.nodes) (take node a.clocks.items)) n (assigned c.words)
+  clocks_well n there = found_well f.hand n there c.words f.fits f.meets
+
+  pub sizes_bounded : (n : PlacedNode) → slice_get a.placed.nodes node ≡ Some n → (k most own : ℕ) → bound_of n k ≡ Some most → at_one c.sizes k ≡ Some own → own ≤ most
+  sizes_bounded n there =
+      well_bounded (take node a.placed.nodes) (signatures (take node a.placed.nodes) (take node a.clocks.items)) n c (node_proper f.hand.accepted.0 o f.hand.accepted.1 a f.hand.accepted.2 node n there) (clocks_well n there)
+      (subst (λ m. AreSizes m c) (node_is f.hand n there) f.sizes)

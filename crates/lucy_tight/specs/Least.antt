@@ -18,12 +18,12 @@ pub record IsLeast (needs : Needs) (shape : Shape) (from to least : ℕ) : Type 
   pub none : (size : ℕ) → size < least → HasNoSolution (sized_system needs shape from to size)
 
 -- the inequalities, as many for every size, are more than a list may have
-abbrev pub HasTooMany : Needs → Shape → (from to : ℕ) → Type 0
-HasTooMany needs shape from to = most_inequalities < length (sized_inequalities needs shape from to 0)
+abbrev pub HasTooManyInequalities : Needs → Shape → (from to : ℕ) → Type 0
+HasTooManyInequalities needs shape from to = most_inequalities < length (sized_inequalities needs shape from to 0)
 
 -- the earliest solution for the least size, where the inequalities are few enough
 pub record IsEarliestAtLeast (needs : Needs) (shape : Shape) (from to least : ℕ) (xs : List ℤ) : Type 0 where
-  pub few : HasTooMany needs shape from to → ⊥
+  pub few : HasTooManyInequalities needs shape from to → ⊥
   pub is : IsLeast needs shape from to least
   pub earliest : IsEarliest (sized_system needs shape from to least) xs
 
@@ -41,6 +41,6 @@ pub record IsTightest (needs : Needs) (shape : Shape) (from to least : ℕ) (wor
 -- before Bits
 abbrev pub RefusesTightest : Needs → Shape → (from to : ℕ) → TightError → Type 0
 RefusesTightest needs shape from to (LimitPassed l) =
-    ((l ≡ limit.Inequalities) × HasTooMany needs shape from to)
+    ((l ≡ limit.Inequalities) × HasTooManyInequalities needs shape from to)
     ⊎ ((least : ℕ) × (xs : List ℤ) × IsEarliestAtLeast needs shape from to least xs × AreRefused shape xs (fault.Limit l))
 RefusesTightest needs shape from to e = ⊥

@@ -26,7 +26,7 @@ use Rattle.lucy_front.specs.Inferring.{node_needs}
 use Rattle.lucy_tight.specs.declared.answer.Least.{Least}
 use Rattle.lucy_tight.specs.declared.answer.TightError.{TightError}
 use Rattle.lucy_tight.specs.declared.answer.TightError.TheVariants.{Fixed, Limit as LimitPassed}
-use Rattle.lucy_tight.specs.Least.{HasTooMany}
+use Rattle.lucy_tight.specs.Least.{HasTooManyInequalities}
 
 -- the needs of a node with the printed clocks of the nodes above it
 abbrev pub needs_at : Accepted → (node : ℕ) → PlacedNode → Needs
@@ -65,7 +65,7 @@ pub record AreTightestWords (needs : Needs) (shape : Shape) (from to least : ℕ
 
 -- the tightest words, within all limits, with the inequalities of one less and a negative cycle of them: for size 0 those for 0, and no cycle
 pub record AreTight (needs : Needs) (shape : Shape) (from to least : ℕ) (words : List Bits) (diffs : System) (cycle : List ℕ) : Type 0 where
-  pub few : HasTooMany needs shape from to → ⊥
+  pub few : HasTooManyInequalities needs shape from to → ⊥
   pub are : AreTightestWords needs shape from to least words
   pub short : HasLongClock shape (assigned words) → ⊥
   pub bits : word_bits words ≤ limit_number limit.Bits
@@ -77,8 +77,8 @@ pub record AreTight (needs : Needs) (shape : Shape) (from to least : ℕ) (words
 -- the words in shortest form have too many together
 abbrev pub PassesLimit : Needs → Shape → (from to : ℕ) → TightError → Type 0
 PassesLimit needs shape from to (LimitPassed l) =
-    ((l ≡ limit.Inequalities) × HasTooMany needs shape from to)
-    ⊎ ((HasTooMany needs shape from to → ⊥) × (least : ℕ)
+    ((l ≡ limit.Inequalities) × HasTooManyInequalities needs shape from to)
+    ⊎ ((HasTooManyInequalities needs shape from to → ⊥) × (least : ℕ)
     × (((l ≡ limit.Word) × (w : Assignment) × IsTightestAssignment needs shape from to least w × HasLongClock shape w)
     ⊎ ((l ≡ limit.Bits) × (words : List Bits) × AreTightestWords needs shape from to least words × (HasLongClock shape (assigned words) → ⊥)
     × (limit_number limit.Bits < word_bits words))))

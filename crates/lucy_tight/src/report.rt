@@ -39,7 +39,7 @@ fn put_size(
     size: u64,
     out: &mut Vec<u8>,
 ) -> Result<(), OutOfMemory>
-    ensures { OnOk result (out.new.items ≡ out.old.items ++ spec.printed_size node.now buffer size) }
+    ensures { OnOk result (out.new.items ≡ out.old.items ++ spec.size_text node.now buffer size) }
 {
     bytes(b"buffer ", out)?;
     number(alloc, u64::from(buffer), out)?;

@@ -9,7 +9,7 @@ ghost use Rattle.lucy_need.specs.declared.need.Need.TheVariants.{Adapt};
 ghost use Rattle.lucy_solve.specs.System.{Solves, HasNoSolution};
 ghost use Rattle.lucy_shape.specs.Fitting.{IsShapeFor};
 ghost use Rattle.lucy_shape.specs.Sized.{sized_system};
-ghost use Rattle.lucy_tight.specs.Least.{HasTooMany, IsLeast};
+ghost use Rattle.lucy_tight.specs.Least.{HasTooManyInequalities, IsLeast};
 ghost use Rattle.lucy_tight.specs.declared.answer.TightError.TheVariants as error;
 
 use crate::TightError;
@@ -33,7 +33,7 @@ fn has_solution(
     requires size { size ≤ most_bits }
     ensures some { IfOk result (λ b. b ≡ true → (xs : List ℤ) × Solves (sized_system needs.now shape.now from to size) xs) }
     ensures none { IfOk result (λ b. b ≡ false → HasNoSolution (sized_system needs.now shape.now from to size)) }
-    ensures refused { IfErr result (λ e. (e ≡ error.OutOfMemory) ⊎ ((e ≡ error.Limit limit.Inequalities) × HasTooMany needs.now shape.now from to)) }
+    ensures refused { IfErr result (λ e. (e ≡ error.OutOfMemory) ⊎ ((e ≡ error.Limit limit.Inequalities) × HasTooManyInequalities needs.now shape.now from to)) }
 {
     match try_size(alloc, needs, shape, from, to, size)?.outcome {
         Outcome::Earliest(_) => Ok(true),
@@ -57,7 +57,7 @@ pub(crate) fn search(
     requires solved { (xs : List ℤ) × Solves (sized_system needs.now shape.now from to printed) xs }
     ensures least { IfOk result (IsLeast needs.now shape.now from to) }
     ensures within { IfOk result (λ least. least ≤ printed) }
-    ensures refused { IfErr result (λ e. (e ≡ error.OutOfMemory) ⊎ ((e ≡ error.Limit limit.Inequalities) × HasTooMany needs.now shape.now from to)) }
+    ensures refused { IfErr result (λ e. (e ≡ error.OutOfMemory) ⊎ ((e ≡ error.Limit limit.Inequalities) × HasTooManyInequalities needs.now shape.now from to)) }
 {
     let mut low = 0u64;
     let mut high = printed;

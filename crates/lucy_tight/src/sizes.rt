@@ -10,7 +10,7 @@ ghost use Rattle.lucy_solve.specs.Outcomes.{IsOutcome};
 ghost use Rattle.lucy_shape.specs.Fitting.{IsShapeFor};
 ghost use Rattle.lucy_shape.specs.Inequalities.{SolvesShape};
 ghost use Rattle.lucy_shape.specs.Sized.{sized_system};
-ghost use Rattle.lucy_tight.specs.Least.{HasTooMany};
+ghost use Rattle.lucy_tight.specs.Least.{HasTooManyInequalities};
 ghost use Rattle.lucy_tight.specs.declared.answer.TightError.TheVariants as error;
 
 use crate::TightError;
@@ -40,9 +40,9 @@ fn inequalities(
     requires size { size ≤ most_bits }
     ensures list { IfOk result (λ diffs. diffs ≡ sized_system needs.now shape.now from to size) }
     ensures ready { IfOk result IsGrounded }
-    ensures few { IfOk result (λ _. HasTooMany needs.now shape.now from to → ⊥) }
+    ensures few { IfOk result (λ _. HasTooManyInequalities needs.now shape.now from to → ⊥) }
     ensures solved { IfOk result (λ diffs. (xs : List ℤ) → Solves diffs xs → SolvesShape shape.now xs) }
-    ensures refused { IfErr result (λ e. (e ≡ error.OutOfMemory) ⊎ ((e ≡ error.Limit limit.Inequalities) × HasTooMany needs.now shape.now from to)) }
+    ensures refused { IfErr result (λ e. (e ≡ error.OutOfMemory) ⊎ ((e ≡ error.Limit limit.Inequalities) × HasTooManyInequalities needs.now shape.now from to)) }
 {
     match spread_sized(alloc, needs, shape, from, to, size) {
         Ok(diffs) => Ok(diffs),
@@ -66,9 +66,9 @@ pub(crate) fn try_size(
     requires size { size ≤ most_bits }
     ensures list { IfOk result (λ t. t.diffs ≡ sized_system needs.now shape.now from to size) }
     ensures outcome { IfOk result (λ t. IsOutcome (sized_system needs.now shape.now from to size) t.outcome) }
-    ensures few { IfOk result (λ _. HasTooMany needs.now shape.now from to → ⊥) }
+    ensures few { IfOk result (λ _. HasTooManyInequalities needs.now shape.now from to → ⊥) }
     ensures solved { IfOk result (λ _. (xs : List ℤ) → Solves (sized_system needs.now shape.now from to size) xs → SolvesShape shape.now xs) }
-    ensures refused { IfErr result (λ e. (e ≡ error.OutOfMemory) ⊎ ((e ≡ error.Limit limit.Inequalities) × HasTooMany needs.now shape.now from to)) }
+    ensures refused { IfErr result (λ e. (e ≡ error.OutOfMemory) ⊎ ((e ≡ error.Limit limit.Inequalities) × HasTooManyInequalities needs.now shape.now from to)) }
 {
     let diffs = inequalities(alloc, needs, shape, from, to, size)?;
     let outcome = solve(alloc, &diffs)?;

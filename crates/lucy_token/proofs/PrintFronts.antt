@@ -1,6 +1,6 @@
 -- What stands at the front of a token in print.
 use Rattle.std.proofs.Common.{◌≡◌, ℕ, suc, ◌+◌, ◌<◌, ◌≤◌, Bool, true, false, List, [], ◌∷◌, ◌++◌, length, drop, take, refl, ap, sym, ◌∙◌, subst, inl, inr, arith}
-use Rattle.std.specs.Prelude.{◌⊎◌, ◌==◌, ◌&&◌, ◌||◌, not, nat_le}
+use Rattle.std.specs.Prelude.{◌⊎◌, ◌==◌, ◌&&◌, ◌||◌, not, nat_le, if◌then◌else◌}
 use Rattle.std.specs.List.{prefix_len, AllByRecursion}
 use Rattle.std.specs.Str.Parse.{AllDigits}
 use Rattle.std.proofs.lemmas.Bool.{cases_Bool, cond-true, cond-false, and_right, and_parts, and_from, and_left, or_cases, or_parts, or_from, not-true, false_from_ne_true, leb-true, le-leb, eqb-true, ne_eqb}
@@ -12,7 +12,7 @@ use Rattle.lucy_fields.specs.Fields.{is_blank}
 use Rattle.lucy_token.specs.declared.mark.Mark.{Mark}
 use Rattle.lucy_token.specs.declared.mark.Mark.TheVariants as mark
 use Rattle.lucy_token.specs.declared.token.Kind.TheVariants as kind
-use Rattle.lucy_token.specs.declared.front.Front.TheVariants.{Token}
+use Rattle.lucy_token.specs.declared.front.Front.TheVariants.{Token, Bad}
 use Rattle.lucy_token.specs.Marks.{spelling, keywords, signs}
 use Rattle.lucy_token.specs.Fronts.{head, is_letter, is_name_byte, begins_gap, plain_front, minus_of, sign_in, named_in}
 use Rattle.lucy_token.specs.Written.{IsNameText}
@@ -67,9 +67,12 @@ name_front operand bytes rest h all next =
     ∙ ap (λ u. Token (named_in keywords u) (length bytes)) (take-append_seam bytes rest)
 
 -- each keyword is spelled as itself, with bytes of names
+named_by : (m : Mark) → named_in keywords (spelling m) ≡ if is_keyword m then kind.Mark m else kind.Name
+named_by mark.Let = refl
+named_by m = refl
+
 keyword_self : (m : Mark) → is_keyword m ≡ true → named_in keywords (spelling m) ≡ kind.Mark m
-keyword_self mark.Let e = refl
-keyword_self m e = cc
+keyword_self m e = named_by m ∙ cond-true (is_keyword m) (kind.Mark m) kind.Name e
 
 abbrev all_name_bytes : List ℕ → Bool
 all_name_bytes [] = true
@@ -111,16 +114,19 @@ no_number operand text h k =
     let e : minus_of operand text ≡ 0 = cond-false ((operand && (head text == 45)) && is_decimal (head (drop 1 text))) 1 0 test in
     ap (λ m. is_decimal (head (drop m text))) e ∙ k
 
+sign_by : (m : Mark) (rest : List ℕ) → mark_ends m (head rest) ≡ true → sign_in signs (spelling m ++ rest) ≡ if is_keyword m then Bad 0 else Token (kind.Mark m) (length (spelling m))
+sign_by mark.Colon [] h = refl
+sign_by mark.Colon (c ∷ rest) h = rw (not-true (c == 58) h) refl
+sign_by mark.Equals [] h = refl
+sign_by mark.Equals (c ∷ rest) h = rw (not-true (c == 61) h) refl
+sign_by mark.Less [] h = refl
+sign_by mark.Less (c ∷ rest) h = rw (not-true (c == 61) h) refl
+sign_by mark.Greater [] h = refl
+sign_by mark.Greater (c ∷ rest) h = rw (not-true (c == 61) h) refl
+sign_by m rest h = refl
+
 sign_found : (m : Mark) (rest : List ℕ) → is_keyword m ≡ false → mark_ends m (head rest) ≡ true → sign_in signs (spelling m ++ rest) ≡ Token (kind.Mark m) (length (spelling m))
-sign_found mark.Colon [] e h = refl
-sign_found mark.Colon (c ∷ rest) e h = rw (not-true (c == 58) h) refl
-sign_found mark.Equals [] e h = refl
-sign_found mark.Equals (c ∷ rest) e h = rw (not-true (c == 61) h) refl
-sign_found mark.Less [] e h = refl
-sign_found mark.Less (c ∷ rest) e h = rw (not-true (c == 61) h) refl
-sign_found mark.Greater [] e h = refl
-sign_found mark.Greater (c ∷ rest) e h = rw (not-true (c == 61) h) refl
-sign_found m rest e h = cc
+sign_found m rest e h = sign_by m rest h ∙ cond-false (is_keyword m) (Bad 0) (Token (kind.Mark m) (length (spelling m))) e
 
 sign_front : (operand : Bool) (m : Mark) (rest : List ℕ) → is_keyword m ≡ false → mark_ends m (head rest) ≡ true → plain_front operand (spelling m ++ rest) ≡ Token (kind.Mark m) (length (spelling m))
 unfolding plain_front
@@ -132,9 +138,12 @@ sign_front operand m rest e h =
     ∙ cond-false (is_decimal (head (drop (minus_of operand text) text))) _ (sign_in signs text) (no_number operand text (subst P (sym first) (minus_apart m rest h)) (ap is_decimal first ∙ no_digit m))
     ∙ sign_found m rest e h
 
+end_by : (m : Mark) (c : ℕ) → mark_ends m c ≡ if is_keyword m then not (is_name_byte c) else mark_ends m c
+end_by mark.Let c = refl
+end_by m c = refl
+
 pub keyword_end_is : (m : Mark) (c : ℕ) → is_keyword m ≡ true → mark_ends m c ≡ not (is_name_byte c)
-keyword_end_is mark.Let c e = refl
-keyword_end_is m c e = cc
+keyword_end_is m c e = end_by m c ∙ cond-true (is_keyword m) (not (is_name_byte c)) (mark_ends m c) e
 
 keyword_ends : (m : Mark) (c : ℕ) → is_keyword m ≡ true → mark_ends m c ≡ true → is_name_byte c ≡ false
 keyword_ends m c e h = not-true (is_name_byte c) (sym (keyword_end_is m c e) ∙ h)

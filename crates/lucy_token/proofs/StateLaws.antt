@@ -103,7 +103,7 @@ word_level [] = refl
 word_level (kind.Mark mark.Merge ∷ ks) = ap (λ n. level n 2) (omega arith)
 word_level (kind.Mark mark.Open ∷ ks) = refl
 word_level (kind.Mark mark.Close ∷ ks) = ap (λ n. level n (wanted (inside 1 ks) - 1)) (omega arith)
-word_level (k ∷ ks) = ap (λ n. level n (wanted (k ∷ inside zero ks))) (omega arith)
+word_level (k ∷ ks) = ap (λ n. level n (wanted (k ∷ inside zero ks))) (sym (count_out (is_one_of (mark.Comma ∷ [])) kind.Word (k ∷ inside zero ks) refl))
 
 inner_level : (k : Kind) (ks : List Kind) → is_one_of (mark.Close ∷ []) k ≡ false →
     level_after (nearest ks) (level_of (inside zero ks)) k ≡ level_of (k ∷ inside zero ks)
@@ -114,7 +114,7 @@ inner_level (kind.Mark mark.True) ks h = ap (λ n. level n (wanted (inside zero 
 inner_level (kind.Mark mark.False) ks h = ap (λ n. level n (wanted (inside zero ks) - 1)) (omega arith)
 inner_level (kind.Mark mark.Close) ks h = absurd cc
 inner_level (kind.Mark mark.Comma) ks h = ap (λ n. level n (wanted (inside zero ks))) (sym (count_in (is_one_of (mark.Comma ∷ [])) (kind.Mark mark.Comma) (inside zero ks) refl))
-inner_level k ks h = ap (λ n. level n (wanted (inside zero ks))) (omega arith)
+inner_level k ks h = ap (λ n. level n (wanted (inside zero ks))) (sym (count_out (is_one_of (mark.Comma ∷ [])) k (inside zero ks) refl))
 
 close_level : (ks : List Kind) → served (level_of ks) ≡ level_of (kind.Mark mark.Close ∷ ks)
 close_level ks = ap (λ n. level n (wanted ks - 1)) (omega arith)

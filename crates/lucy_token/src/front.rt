@@ -14,7 +14,7 @@ use lucy_word::Stage;
 
 /// What stands at the front of a text: so many bytes between tokens, a token of a kind and a number of bytes, or, after
 /// so many bytes, one that can't stand there.
-#[derive(Clone, Copy, Debug)]
+#[derive(Clone, Copy)]
 pub enum Front {
     Gap(usize),
     Token(Kind, usize),

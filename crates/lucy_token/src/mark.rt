@@ -4,7 +4,7 @@ ghost use Rattle.lucy_token.specs.Marks as spec;
 use lucy_host::Op;
 
 /// A keyword or a sign: a token that is always spelled the same.
-#[derive(Clone, Copy, Debug, PartialEq, Eq)]
+#[derive(Clone, Copy, PartialEq, Eq)]
 pub enum Mark {
     Let,
     Node,

@@ -11,7 +11,7 @@ use std::marker::Model;
 
 /// Where in a node a token stands: in its head, on the left or the right of a definition's `=`, or between the `=` of several
 /// names and the `(` of the call that is due there.
-#[derive(Clone, Copy, Debug, PartialEq, Eq)]
+#[derive(Clone, Copy)]
 pub enum Side {
     Head,
     Left,
@@ -21,7 +21,7 @@ pub enum Side {
 
 /// What is known at an open parenthesis: the commas behind it at its own depth, and how many operands a `merge` there
 /// still wants.
-#[derive(Clone, Copy, Debug, PartialEq, Eq)]
+#[derive(Clone, Copy)]
 pub struct Level {
     pub commas: u32,
     pub wanted: u32,

@@ -1,7 +1,7 @@
 use lucy_word::Limit;
 
 /// Why a text is no program. Offsets count bytes from 0.
-#[derive(Clone, Copy, Debug, PartialEq, Eq)]
+#[derive(Clone, Copy)]
 pub enum SyntaxError {
     /// The token, or the byte that is part of no token, at this offset can't follow what stands before it; at the text's
     /// length, more is missing.
@@ -18,7 +18,7 @@ pub enum SyntaxError {
 }
 
 /// Why the tokens of a text stop.
-#[derive(Clone, Copy, Debug, PartialEq, Eq)]
+#[derive(Clone, Copy)]
 pub enum Stop {
     /// The text ends here: its length in bytes.
     End(u64),

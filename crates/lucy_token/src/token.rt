@@ -8,7 +8,7 @@ use lucy_word::Spelled;
 use std::marker::Model;
 
 /// The kinds of tokens, and the end behind the last one.
-#[derive(Clone, Copy, Debug, PartialEq, Eq)]
+#[derive(Clone, Copy, PartialEq, Eq)]
 pub enum Kind {
     End,
     Name,

@@ -5,7 +5,7 @@ ghost use Rattle.lucy_trace.specs.declared.error.TraceError.TheVariants.{OutOfMe
 use std::alloc::{AllocError, AllocFailed};
 
 /// Why a log is refused.
-#[derive(Clone, Copy, Debug, PartialEq, Eq)]
+#[derive(Clone, Copy)]
 pub enum TraceError {
     /// A field is no number of an actor. Its place is the offset of its first byte, from 0.
     BadNumber(u64),

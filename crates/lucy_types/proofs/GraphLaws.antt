@@ -1,8 +1,9 @@
 -- A graph that is drawn rule by rule says what the rules say.
-use Rattle.std.proofs.Common.{ℕ, ◌≡◌, ◌<◌, ◌++◌, ◌∷◌, [], List, length, Bool as Truth, true, false, arith, ap, sym, ◌∙◌, subst, set, inl, inr, length-set, get_or-set_same, get_or-set_other}
+use Rattle.std.proofs.Common.{ℕ, zero, suc, ◌≡◌, ◌<◌, ◌++◌, ◌∷◌, [], List, length, Bool as Truth, true, false, arith, ap, sym, ◌∙◌, subst, set, replicate, inl, inr, length-set, get_or-set_same, get_or-set_other}
 use Rattle.std.specs.Prelude.{◌⊎◌}
 use Rattle.std.specs.List.{Contains}
 use Rattle.std.proofs.lemmas.Bool.{cases_eq}
+use Rattle.std.proofs.lemmas.List.{length-replicate}
 use Rattle.std.proofs.lemmas.List.Elements.{Contains-append_left, Contains-push, Contains-push_cases}
 use Rattle.lucy_host.specs.declared.data_type.DataType.{DataType}
 use Rattle.lucy_host.specs.declared.data_type.DataType.TheVariants.{Int, Bool}
@@ -81,6 +82,37 @@ kept rules rule r c = Contains-append_left rules (rule ∷ []) r c
 
 touch_kept : (rules : List Rule) (rule : Rule) (p q : ℕ) → Touch (Contains rules) p q → Touch (Contains (rules ++ rule ∷ [])) p q
 touch_kept rules rule p q t = touch_weaker (Contains rules) (Contains (rules ++ rule ∷ [])) (kept rules rule) p q t
+
+-- a graph without rules says nothing
+no_true : (n p : ℕ) → HasTrue (replicate n false) p → ⊥
+no_true zero p h = cc
+no_true (suc n) zero h = cc
+no_true (suc n) (suc p) h = no_true n p h
+
+none_beside : (n p q : ℕ) → Contains (beside (replicate n []) p) q → ⊥
+none_beside zero p q h = omega (arith, h.1)
+none_beside (suc n) zero q h = omega (arith, h.1)
+none_beside (suc n) (suc p) q h = none_beside n p q h
+
+pub bare_drawn : (g : Graph) (n : ℕ) → g.ints.items ≡ replicate n false → g.bools.items ≡ replicate n false → g.near.items ≡ replicate n [] → (room g ≡ n) × IsEven g × IsDrawn [] g
+bare_drawn g n i b r =
+    let all = ap length r ∙ length-replicate n [] in (
+      all,
+      (ap length i ∙ length-replicate n false ∙ sym all, ap length b ∙ length-replicate n false ∙ sym all),
+      record {
+        says_is = λ p t h. absurd (none p t h);
+        says_alike = λ p q h. absurd (alike p q h);
+        all = λ rule c. absurd (let l : c.0 < length {A = Rule} [] = c.1 in omega arith);
+        turned = λ p q h. absurd (alike p q h);
+      },
+    )
+  where
+    none : (p : ℕ) (t : DataType) → GraphRule g (Is p t) → ⊥
+    none p Int h = no_true n p (subst (λ xs. HasTrue xs p) i h)
+    none p Bool h = no_true n p (subst (λ xs. HasTrue xs p) b h)
+
+    alike : (p q : ℕ) → GraphRule g (Alike p q) → ⊥
+    alike p q h = none_beside n p q (subst (λ xs. Contains (beside xs p) q) r h)
 
 -- with one more true
 drawn_int : (rules : List Rule) (old new : Graph) (p : ℕ) → p < length old.ints.items → IsDrawn rules old → DrawsRule (Is p Int) old new → IsDrawn (rules ++ Is p Int ∷ []) new

@@ -1,7 +1,7 @@
 -- Elements of lists by their numbers.
-use Rattle.std.proofs.Common.{ℕ, zero, suc, ◌+◌, ◌≡◌, ◌≤◌, ◌<◌, List, [], ◌∷◌, ◌++◌, Some, None, length, map, take, get_or, refl, ap, sym, ◌∙◌, inl, inr, arith, append_assoc}
+use Rattle.std.proofs.Common.{ℕ, zero, suc, ◌+◌, ◌≡◌, ◌≤◌, ◌<◌, List, [], ◌∷◌, ◌++◌, Some, None, length, map, take, get_or, refl, ap, sym, ◌∙◌, subst, inl, inr, arith, append_assoc}
 use Rattle.std.specs.Prelude.{slice_get, ◌⊎◌}
-use Rattle.std.specs.List.{Contains}
+use Rattle.std.specs.List.{Contains, AllByRecursion}
 use Rattle.std.proofs.lemmas.List.{take_more, map-append}
 use Rattle.std.proofs.lemmas.Option.{slice_get_within, slice_get-get_or, get_or_from_slice_get, same_Some}
 use Rattle.lucy_place.specs.Proper.{at_one}
@@ -41,6 +41,12 @@ no_element xs ys p y e h k =
     let w = at_one_within ys p y k in
     let t = at_one_there xs p w.0 (let l : p ≤ length ys = w.1 in omega arith) in
     none_some t.0 (sym h ∙ t.1)
+
+-- what holds of all holds of one
+pub all_at : {A : Type 0} (P : A → Type 0) (xs : List A) (i : ℕ) (x : A) → AllByRecursion P xs → slice_get xs i ≡ Some x → P x
+all_at P [] i x all e = absurd (none_some x e)
+all_at P (y ∷ xs) zero x all e = subst P (same_Some y x e) all.0
+all_at P (y ∷ xs) (suc i) x all e = all_at P xs i x all.1 e
 
 -- an element of a list of which so many are taken
 pub get_take : {A : Type 0} (n : ℕ) (xs : List A) (i : ℕ) → i < n → slice_get (take n xs) i ≡ slice_get xs i

@@ -20,7 +20,7 @@ use Rattle.lucy_types.specs.Typing.{IsTyping, AreNumbered, AreTypes}
 use Rattle.lucy_types.specs.Clash.{IsClashPath}
 use Rattle.lucy_types.specs.Graphs.{AllFit}
 use Rattle.lucy_types.specs.Ports.{ArePlacesOf, HaveClasses, AreHeads, port_types}
-use Rattle.lucy_types.specs.Nodes.{tables_of, IsSignature, AreSignatures, StandFor, Solves}
+use Rattle.lucy_types.specs.Nodes.{tables_of, IsSignature, AreSignatures, AreTyped, StandFor, Solves}
 use Rattle.lucy_types.specs.Programs.{IsTyped, HaveTypings, IsClash, RefusesTypes, AnswersTypes, AnswersClash}
 use Rattle.lucy_types.proofs.ListLaws.{none_some, get_there, get_old, get_push}
 use Rattle.lucy_types.proofs.TypingLaws.{same_typings, clash_refutes, clash_weaker, touch_weaker}
@@ -107,11 +107,7 @@ typed_more nodes i n tables tys e t h =
     above : List PlacedNode
     above = take i nodes
 
--- the nodes up to one have types, and their signatures
-pub record AreTyped (nodes : List PlacedNode) (i : ℕ) (signatures : List Signature) : Type 0 where
-  pub signed : AreSignatures (take i nodes) signatures
-  pub typed : IsTyped (take i nodes) (tables_of signatures)
-
+-- the signatures and the types of one node more
 pub typed_next : (nodes : List PlacedNode) (i : ℕ) (n : PlacedNode) (signatures new : List Signature) (s : Signature) → slice_get nodes i ≡ Some n → AreTyped nodes i signatures
     → AreTypes (IsRule (take i nodes) (tables_of signatures) n) (length n.places) s.tys.items → IsSignature n s → new ≡ signatures ++ s ∷ [] → AreTyped nodes (i + 1) new
 typed_next nodes i n signatures new s e a t h w = record {

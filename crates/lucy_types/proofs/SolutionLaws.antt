@@ -16,8 +16,11 @@ use Rattle.lucy_types.specs.declared.rule.Rule.{Rule}
 use Rattle.lucy_types.specs.declared.rule.Rule.TheVariants.{Is, Alike}
 use Rattle.lucy_types.specs.Typing.{Typing, IsTyping, SaysType, AgreeOnType, AreTypes, as_ty}
 use Rattle.lucy_types.specs.Clash.{Touch, IsClashPath}
-use Rattle.lucy_types.specs.Graphs.{HasTrue, GraphRule, IsDrawn, IsGraph}
-use Rattle.lucy_types.specs.Flooding.{mark, reached, marked, MayBegin, IsFixed, IsFlood, IsSettled, IsReached, IsTorn, HaveOrder, FloodsForced, FloodsAll}
+use Rattle.lucy_types.specs.Graphs.{HasTrue, GraphRule, IsDrawn, IsGraph, room}
+use Rattle.lucy_types.specs.Flooding.{mark, reached, marked, MayBegin, IsFixed, IsFlood, IsSettled, IsReached, IsTorn, HaveOrder, FloodsForced, HasFlooded, Tells}
+use Rattle.lucy_types.specs.declared.solve.Solution.{Solution}
+use Rattle.lucy_types.specs.declared.solve.Solution.TheVariants.{Types, Clash}
+use Rattle.lucy_types.specs.Nodes.{Solves}
 use Rattle.lucy_types.proofs.ListLaws.{none_some}
 use Rattle.lucy_types.proofs.TypingLaws.{int_no_bool, clash_weaker, same_typings}
 
@@ -127,7 +130,7 @@ says_told g f s p Int h = says_int g f s p h
 says_told g f s p Bool h = says_bool g f s p h
 
 -- the types of a flood
-pub types_of_flood : (g : Graph) (f : Flood) (n : ℕ) (tys : List Ty) → IsSolved g f → length tys ≡ n → ((p : ℕ) → at_one tys p ≡ mark f p) → AreTypes (GraphRule g) n tys
+types_of_flood : (g : Graph) (f : Flood) (n : ℕ) (tys : List Ty) → IsSolved g f → length tys ≡ n → ((p : ℕ) → at_one tys p ≡ mark f p) → AreTypes (GraphRule g) n tys
 types_of_flood g f n tys s l e = record {
   typing = λ p. value_of (λ k. Int) (mark f p);
   meets = meets g f s (λ k. Int);
@@ -149,11 +152,11 @@ drawn_typing : (rules : List Rule) (g : Graph) → IsDrawn rules g → (a : Typi
 drawn_typing rules g d a m (Is p t) h = m (Is p t) (d.says_is p t h)
 drawn_typing rules g d a m (Alike p q) h = elim (d.says_alike p q h) [ inl u ↦ m (Alike p q) u | inr u ↦ sym (m (Alike q p) u) ]
 
-pub drawn_types : (rules : List Rule) (g : Graph) (n : ℕ) (tys : List Ty) → IsDrawn rules g → AreTypes (GraphRule g) n tys → AreTypes (Contains rules) n tys
+drawn_types : (rules : List Rule) (g : Graph) (n : ℕ) (tys : List Ty) → IsDrawn rules g → AreTypes (GraphRule g) n tys → AreTypes (Contains rules) n tys
 drawn_types rules g n tys d t =
     same_typings (GraphRule g) (Contains rules) (λ a m rule c. m rule (d.all rule c)) (drawn_typing rules g d) n tys t
 
-pub drawn_path : (rules : List Rule) (g : Graph) (path : List ℕ) → IsDrawn rules g → IsClashPath (GraphRule g) path → IsClashPath (Contains rules) path
+drawn_path : (rules : List Rule) (g : Graph) (path : List ℕ) → IsDrawn rules g → IsClashPath (GraphRule g) path → IsClashPath (Contains rules) path
 drawn_path rules g path d h = clash_weaker (GraphRule g) (Contains rules) d.says_is (drawn_touch rules g d) path h
   where
     drawn_touch : (rules : List Rule) (g : Graph) → IsDrawn rules g → (p q : ℕ) → Touch (GraphRule g) p q → Touch (Contains rules) p q
@@ -190,14 +193,6 @@ dry_settled g f n l q m = record {
   closed = λ i p r b e. absurd (no_reached f q i r e);
 }
 
--- the three floods, one after another
-pub record AreFloods (g : Graph) (f₀ f₁ f₂ f₃ : Flood) : Type 0 where
-  pub graph : IsGraph g
-  pub dry : (p : ℕ) → mark f₀ p ≡ None
-  pub ints : FloodsForced g (HasTrue g.ints.items) ty.Int f₀ f₁
-  pub bools : FloodsForced g (HasTrue g.bools.items) ty.Bool f₁ f₂
-  pub others : FloodsAll g f₂ f₃
-
 int_marks : (g : Graph) (f₀ f₁ : Flood) → ((p : ℕ) → mark f₀ p ≡ None) → FloodsForced g (HasTrue g.ints.items) ty.Int f₀ f₁ → (p : ℕ) (t : Ty) → mark f₁ p ≡ Some t → t ≡ ty.Int
 int_marks g f₀ f₁ d h p t e = elim (h.only p t e) [ inl u ↦ absurd (none_some t (sym (d p) ∙ u)) | inr u ↦ u ]
 
@@ -208,19 +203,19 @@ fixed_marks g f₀ f₁ f₂ d h k p t e =
     elim (k.only p t e) [ inl u ↦ subst IsFixed (sym (int_marks g f₀ f₁ d h p t u)) tt | inr u ↦ subst IsFixed (sym u) tt ]
 
 -- where no place is torn, all is solved
-pub floods_solve : (g : Graph) (f₀ f₁ f₂ f₃ : Flood) → AreFloods g f₀ f₁ f₂ f₃ → ((p : ℕ) → IsTorn g f₃ p → ⊥) → IsSolved g f₃
-floods_solve g f₀ f₁ f₂ f₃ h torn = record {
-  graph = h.graph;
+floods_solve : (g : Graph) (old new : Flood) → IsGraph g → ((p : ℕ) → mark old p ≡ None) → HasFlooded g old new → ((p : ℕ) → IsTorn g new p → ⊥) → IsSolved g new
+floods_solve g old new is dry h torn = record {
+  graph = is;
   settled = h.others.settled;
   all = h.others.all;
   order = h.others.order;
   ints = λ p w.
-      let r = h.ints.all p w in
-      h.others.kept p ty.Int (h.bools.kept p ty.Int (r.1 ∙ ap Some (int_marks g f₀ f₁ h.dry h.ints p r.0 r.1)));
+      let r = h.forced_ints.all p w in
+      h.others.kept p ty.Int (h.forced_bools.kept p ty.Int (r.1 ∙ ap Some (int_marks g old h.ints dry h.forced_ints p r.0 r.1)));
   bools = λ p w.
-      let r = h.bools.all p w in
-      elim (h.bools.only p r.0 r.1) [
-        | inl u ↦ absurd (torn p (w, h.others.kept p ty.Int (r.1 ∙ ap Some (int_marks g f₀ f₁ h.dry h.ints p r.0 u))))
+      let r = h.forced_bools.all p w in
+      elim (h.forced_bools.only p r.0 r.1) [
+        | inl u ↦ absurd (torn p (w, h.others.kept p ty.Int (r.1 ∙ ap Some (int_marks g old h.ints dry h.forced_ints p r.0 u))))
         | inr u ↦ h.others.kept p ty.Bool (r.1 ∙ ap Some u)
       ];
 }
@@ -231,7 +226,7 @@ some_get (x ∷ xs) zero = refl
 some_get (x ∷ xs) (suc i) = some_get xs i
 
 -- the list of the types of a flood
-pub listed_types : (g : Graph) (f : Flood) (tys : List Ty) → IsFlood g f → map Some tys ≡ drop 1 f.marks.items → (p : ℕ) → at_one tys p ≡ mark f p
+listed_types : (g : Graph) (f : Flood) (tys : List Ty) → IsFlood g f → map Some tys ≡ drop 1 f.marks.items → (p : ℕ) → at_one tys p ≡ mark f p
 listed_types g f tys h e zero = sym (no_zero (mark f 0) refl)
   where
     no_zero : (o : Option Ty) → mark f 0 ≡ o → o ≡ None
@@ -245,9 +240,18 @@ listed_types g f tys h e zero = sym (no_zero (mark f 0) refl)
 listed_types g f tys h e (suc i) =
     sym (some_get tys i) ∙ ap (λ ms. get_or ms i None) e ∙ get_or-drop 1 f.marks.items i None ∙ ap (λ m. get_or f.marks.items m None) (let d : 1 + i ≡ suc i = omega arith in d)
 
-pub listed_length : (tys : List Ty) (marks : List (Option Ty)) (n : ℕ) → map Some tys ≡ drop 1 marks → length marks ≡ n + 1 → length tys ≡ n
+listed_length : (tys : List Ty) (marks : List (Option Ty)) (n : ℕ) → map Some tys ≡ drop 1 marks → length marks ≡ n + 1 → length tys ≡ n
 listed_length tys marks n e l =
     let a : length (map Some tys) ≡ length tys = length-map tys Some in
     let b : length (drop 1 marks) ≡ length marks - 1 = length-drop 1 marks in
     let c : length (map Some tys) ≡ length (drop 1 marks) = ap length e in
     omega arith
+
+-- what the floods tell solves the rules
+pub floods_tell : (rules : List Rule) (g : Graph) (old new : Flood) (n : ℕ) → IsDrawn rules g → room g ≡ n + 1 → IsGraph g → ((p : ℕ) → mark old p ≡ None) → HasFlooded g old new
+    → (s : Solution) → Tells g new s → Solves (Contains rules) n s
+floods_tell rules g old new n d r is dry h (Types tys) t =
+    drawn_types rules g n tys.items d
+    (types_of_flood g new n tys.items (floods_solve g old new is dry h t.0) (listed_length tys.items new.marks.items n t.1 (h.others.settled.flood.room ∙ r))
+    (listed_types g new tys.items h.others.settled.flood t.1))
+floods_tell rules g old new n d r is dry h (Clash path) t = drawn_path rules g path.items d t

@@ -79,6 +79,12 @@ closed_end g f next h l c = record { flood = h; closed = λ i q r b e s. c i q r
 abbrev pub AreReached : Flood → List ℕ → ℕ → Ty → Type 0
 AreReached f near upto t = (j : ℕ) → j < upto → mark f (get_or near j 0) ≡ Some t
 
+pub reached_more : (old new : Flood) (near : List ℕ) (upto : ℕ) (t : Ty) → AreReached old near upto t → Grows t old new → mark new (get_or near upto 0) ≡ Some t → AreReached new near (upto + 1) t
+reached_more old new near upto t all grows e j l = elim (cases_lt j upto) [
+  | inl b ↦ grows.kept (get_or near j 0) t (all j b)
+  | inr b ↦ let same : upto ≡ j = omega arith in subst (λ k. mark new (get_or near k 0) ≡ Some t) same e
+]
+
 pub all_reached : (g : Graph) (f : Flood) (p : ℕ) (t : Ty) (near : List ℕ) (upto : ℕ) → near ≡ beside g.near.items p → length near ≤ upto → AreReached f near upto t → HasReached g f p t
 all_reached g f p t near upto e l a q c =
     let d = subst (λ ns. Contains ns q) (sym e) c in

@@ -1,5 +1,5 @@
 -- What holds while types spread over a graph.
-use Rattle.std.specs.Prelude.{ℕ, suc, ◌+◌, ◌≡◌, ◌≤◌, ◌<◌, ◌⊎◌, List, [], ◌∷◌, Option, Some, None, length, slice_get, slice_index_or}
+use Rattle.std.specs.Prelude.{ℕ, suc, ◌+◌, ◌≡◌, ◌≤◌, ◌<◌, ◌⊎◌, List, [], ◌∷◌, Option, Some, None, length, map, drop, slice_get, slice_index_or}
 use Rattle.lucy_host.specs.declared.data_type.DataType.TheVariants.{Int, Bool}
 use Rattle.lucy_types.specs.declared.ty.Ty.{Ty}
 use Rattle.lucy_types.specs.declared.ty.Ty.TheVariants as ty
@@ -7,6 +7,9 @@ use Rattle.lucy_types.specs.declared.graph.Graph.{Graph}
 use Rattle.lucy_types.specs.declared.flood.Flood.{Flood}
 use Rattle.lucy_types.specs.declared.flood.Reached.{Reached}
 use Rattle.lucy_types.specs.declared.rule.Rule.TheVariants.{Is, Alike}
+use Rattle.lucy_types.specs.declared.solve.Solution.{Solution}
+use Rattle.lucy_types.specs.declared.solve.Solution.TheVariants.{Types, Clash}
+use Rattle.lucy_types.specs.Clash.{IsClashPath}
 use Rattle.lucy_types.specs.Graphs.{GraphRule, HasTrue}
 
 -- the type of a place, where it was reached
@@ -134,6 +137,19 @@ pub record FloodsAll (g : Graph) (old new : Flood) : Type 0 where
   pub all : (p : ℕ) → 1 ≤ p → p < length g.near.items → IsReached new p
   pub order : HaveOrder new
 
+-- int and then bool spread from the places that must be so, and then all others were reached
+pub record HasFlooded (g : Graph) (old new : Flood) : Type 0 where
+  pub ints : Flood
+  pub bools : Flood
+  pub forced_ints : FloodsForced g (HasTrue g.ints.items) ty.Int old ints
+  pub forced_bools : FloodsForced g (HasTrue g.bools.items) ty.Bool ints bools
+  pub others : FloodsAll g bools new
+
 -- the place is int, though a rule makes it bool
 abbrev pub IsTorn : Graph → Flood → ℕ → Type 0
 IsTorn g f p = HasTrue g.bools.items p × (mark f p ≡ Some ty.Int)
+
+-- what a flood tells: a clash path, or the types of the places, where none is torn
+abbrev pub Tells : Graph → Flood → Solution → Type 0
+Tells g f (Types tys) = ((p : ℕ) → IsTorn g f p → ⊥) × (map Some tys.items ≡ drop 1 f.marks.items)
+Tells g f (Clash path) = IsClashPath (GraphRule g) path.items

@@ -1,5 +1,5 @@
 -- What is known of the nodes above one.
-use Rattle.std.specs.Prelude.{ℕ, ◌≡◌, ◌≤◌, List, Some, length, map, slice_get}
+use Rattle.std.specs.Prelude.{ℕ, ◌≡◌, ◌≤◌, List, Some, length, map, take, slice_get}
 use Rattle.std.specs.List.{Contains}
 use Rattle.lucy_place.specs.declared.placed.PlacedNode.{PlacedNode}
 use Rattle.lucy_types.specs.declared.ty.Ty.{Ty}
@@ -9,6 +9,7 @@ use Rattle.lucy_types.specs.declared.solve.Solution.{Solution}
 use Rattle.lucy_types.specs.declared.solve.Solution.TheVariants.{Types, Clash}
 use Rattle.lucy_types.specs.Typing.{IsTyping, Typing, AreTypes}
 use Rattle.lucy_types.specs.Clash.{IsClashPath}
+use Rattle.lucy_types.specs.Programs.{IsTyped}
 use Rattle.lucy_types.specs.Ports.{ArePlacesOf, port_types, AreHeads}
 
 -- the types of the places of nodes with these signatures
@@ -27,6 +28,11 @@ pub record IsSignature (n : PlacedNode) (s : Signature) : Type 0 where
 pub record AreSignatures (nodes : List PlacedNode) (signatures : List Signature) : Type 0 where
   pub all : length signatures ≡ length nodes
   pub each : (i : ℕ) (n : PlacedNode) (s : Signature) → slice_get nodes i ≡ Some n → slice_get signatures i ≡ Some s → IsSignature n s
+
+-- the nodes up to one have types, and their signatures
+pub record AreTyped (nodes : List PlacedNode) (i : ℕ) (signatures : List Signature) : Type 0 where
+  pub signed : AreSignatures (take i nodes) signatures
+  pub typed : IsTyped (take i nodes) (tables_of signatures)
 
 -- rules of the list are rules, and the typings that meet those of the list meet all
 pub record StandFor (Rules : Rule → Type 0) (list : List Rule) : Type 0 where

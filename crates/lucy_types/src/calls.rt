@@ -18,10 +18,7 @@ fn call_places(
     requires { first + results < 2 ^ 32 }
     ensures { IfOk result (λ v. v.items ≡ args.now ++ counted first results) }
 {
-    let mut list = Vec::new(alloc);
-    'each: for arg in args {
-        list.push(*arg)?;
-    }
+    let mut list = Vec::from_slice(alloc, args)?;
     'results: for i in 0..results {
         list.push(first + i as u32)?;
     }

@@ -5,7 +5,7 @@ ghost use Rattle.lucy_types.specs.declared.error.TypeError.TheVariants as error;
 use std::alloc::AllocError;
 
 /// Why a program has no types.
-#[derive(Debug, Drop)]
+#[derive(Drop)]
 pub enum TypeError {
     /// The node, which counts from 0, is the first whose rules nothing meets. The path is a list of its places: the first is
     /// int by a rule and the last bool, and neighbours are alike by a rule. It is one place where two rules force that.

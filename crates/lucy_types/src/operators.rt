@@ -5,7 +5,7 @@ ghost use Rattle.lucy_host.specs.declared.op.Op.TheVariants as op;
 ghost use Rattle.lucy_types.specs.Rules.{all_are, op_rules};
 ghost use Rattle.lucy_types.specs.declared.rule.Rule.TheVariants as rule;
 
-use crate::rule::Rule;
+use crate::rule::{Rule, put_rules};
 use lucy_host::{DataType, Op};
 use std::alloc::AllocError;
 
@@ -31,9 +31,13 @@ fn put_equal(rules: &mut Vec<Rule>, args: &[u32], place: u32) -> Result<(), Allo
     requires { length args.now ≡ 2 }
     ensures { OnOk result (rules.new.items ≡ rules.old.items ++ op_rules op.Eq place args.now) }
 {
-    rules.push(Rule::Alike(args[0], args[1]))?;
-    rules.push(Rule::Is(place, DataType::Bool))?;
-    Ok(())
+    put_rules(
+        rules,
+        &[
+            Rule::Alike(args[0], args[1]),
+            Rule::Is(place, DataType::Bool),
+        ],
+    )
 }
 
 // Puts that the first operand is bool and that the other two and the operator's place are alike.
@@ -41,11 +45,15 @@ fn put_choice(rules: &mut Vec<Rule>, args: &[u32], place: u32) -> Result<(), All
     requires { length args.now ≡ 3 }
     ensures { OnOk result (rules.new.items ≡ rules.old.items ++ op_rules op.If place args.now) }
 {
-    rules.push(Rule::Is(args[0], DataType::Bool))?;
-    rules.push(Rule::Alike(args[1], args[2]))?;
-    rules.push(Rule::Alike(place, args[1]))?;
-    rules.push(Rule::Alike(place, args[2]))?;
-    Ok(())
+    put_rules(
+        rules,
+        &[
+            Rule::Is(args[0], DataType::Bool),
+            Rule::Alike(args[1], args[2]),
+            Rule::Alike(place, args[1]),
+            Rule::Alike(place, args[2]),
+        ],
+    )
 }
 
 /// Puts the rules of an operator at a place behind others.
@@ -59,20 +67,16 @@ pub(crate) fn put_op(
     ensures { OnOk result (rules.new.items ≡ rules.old.items ++ op_rules op place args.now) }
 {
     match op {
-        Op::Add => put_uniform(rules, DataType::Int, args, place, DataType::Int),
-        Op::Sub => put_uniform(rules, DataType::Int, args, place, DataType::Int),
-        Op::Mul => put_uniform(rules, DataType::Int, args, place, DataType::Int),
-        Op::Div => put_uniform(rules, DataType::Int, args, place, DataType::Int),
-        Op::Rem => put_uniform(rules, DataType::Int, args, place, DataType::Int),
-        Op::Eq => put_equal(rules, args, place),
-        Op::Ne => put_equal(rules, args, place),
-        Op::Lt => put_uniform(rules, DataType::Int, args, place, DataType::Bool),
-        Op::Le => put_uniform(rules, DataType::Int, args, place, DataType::Bool),
-        Op::Gt => put_uniform(rules, DataType::Int, args, place, DataType::Bool),
-        Op::Ge => put_uniform(rules, DataType::Int, args, place, DataType::Bool),
-        Op::And => put_uniform(rules, DataType::Bool, args, place, DataType::Bool),
-        Op::Or => put_uniform(rules, DataType::Bool, args, place, DataType::Bool),
-        Op::Not => put_uniform(rules, DataType::Bool, args, place, DataType::Bool),
+        Op::Add | Op::Sub | Op::Mul | Op::Div | Op::Rem => {
+            put_uniform(rules, DataType::Int, args, place, DataType::Int)
+        }
+        Op::Eq | Op::Ne => put_equal(rules, args, place),
+        Op::Lt | Op::Le | Op::Gt | Op::Ge => {
+            put_uniform(rules, DataType::Int, args, place, DataType::Bool)
+        }
+        Op::And | Op::Or | Op::Not => {
+            put_uniform(rules, DataType::Bool, args, place, DataType::Bool)
+        }
         Op::If => put_choice(rules, args, place),
     }
 }

@@ -4,7 +4,7 @@ ghost use Rattle.lucy_types.specs.Rules.{lit_type, kind_rules, place_rules, writ
 ghost use Rattle.lucy_types.specs.Gathered.{HasArity, HaveArities, own_rules};
 
 use crate::operators::put_op;
-use crate::rule::Rule;
+use crate::rule::{Rule, put_rules};
 use lucy_host::DataType;
 use lucy_place::{PlaceEntry, PlaceKind};
 use lucy_tree::Lit;
@@ -35,28 +35,33 @@ fn put_kind(rules: &mut Vec<Rule>, place: u32, kind: &PlaceKind) -> Result<(), A
     ensures { OnOk result (rules.new.items ≡ rules.old.items ++ kind_rules place kind.now) }
 {
     match kind {
-        PlaceKind::Param => {}
-        PlaceKind::Defined(right) => rules.push(Rule::Alike(place, *right))?,
-        PlaceKind::Lit(lit) => rules.push(Rule::Is(place, lit_type(*lit)))?,
-        PlaceKind::Op(op, args) => put_op(rules, *op, place, args.list())?,
-        PlaceKind::Host(_, first, second) => {
-            rules.push(Rule::Is(*first, DataType::Int))?;
-            rules.push(Rule::Is(*second, DataType::Int))?;
-            rules.push(Rule::Is(place, DataType::Int))?;
-        }
-        PlaceKind::When(operand, _) => rules.push(Rule::Alike(place, *operand))?,
-        PlaceKind::Merge(_, one, zero) => {
-            rules.push(Rule::Alike(place, *one))?;
-            rules.push(Rule::Alike(place, *zero))?;
-        }
-        PlaceKind::Fby(first, operand) => {
-            rules.push(Rule::Alike(place, *operand))?;
-            rules.push(Rule::Is(place, lit_type(*first)))?;
-        }
-        PlaceKind::Buffer(_, operand) => rules.push(Rule::Alike(place, *operand))?,
-        PlaceKind::Result(_, _) => {}
+        PlaceKind::Param => Ok(()),
+        PlaceKind::Defined(right) => put_rules(rules, &[Rule::Alike(place, *right)]),
+        PlaceKind::Lit(lit) => put_rules(rules, &[Rule::Is(place, lit_type(*lit))]),
+        PlaceKind::Op(op, args) => put_op(rules, *op, place, args.list()),
+        PlaceKind::Host(_, first, second) => put_rules(
+            rules,
+            &[
+                Rule::Is(*first, DataType::Int),
+                Rule::Is(*second, DataType::Int),
+                Rule::Is(place, DataType::Int),
+            ],
+        ),
+        PlaceKind::When(operand, _) => put_rules(rules, &[Rule::Alike(place, *operand)]),
+        PlaceKind::Merge(_, one, zero) => put_rules(
+            rules,
+            &[Rule::Alike(place, *one), Rule::Alike(place, *zero)],
+        ),
+        PlaceKind::Fby(first, operand) => put_rules(
+            rules,
+            &[
+                Rule::Alike(place, *operand),
+                Rule::Is(place, lit_type(*first)),
+            ],
+        ),
+        PlaceKind::Buffer(_, operand) => put_rules(rules, &[Rule::Alike(place, *operand)]),
+        PlaceKind::Result(_, _) => Ok(()),
     }
-    Ok(())
 }
 
 // Puts the rules of a place.

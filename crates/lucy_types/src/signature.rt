@@ -20,10 +20,7 @@ fn ports(alloc: Global, tys: &[Ty], params: u32, results: &[u32]) -> Result<Vec<
     requires results { ArePlacesOf (length tys.now) results.now }
     ensures { IfOk result (λ v. v.items ≡ port_types params results.now tys.now) }
 {
-    let mut list = Vec::new(alloc);
-    'params: for ty in &tys[..params as usize] {
-        list.push(*ty)?;
-    }
+    let mut list = Vec::from_slice(alloc, &tys[..params as usize])?;
     'results: for place in results {
         list.push(tys[*place as usize - 1])?;
     }

@@ -1,11 +1,11 @@
 // The types that rules leave to places.
-ghost use Rattle.std.specs.Prelude.{◌≡◌, ℕ, ◌+◌, ◌≤◌, ◌<◌, ◌^◌, ◌↔◌, Some, length, map, drop, IsTrue, MatchOption, IfOk, OnOk};
+ghost use Rattle.std.specs.Prelude.{◌≡◌, ℕ, ◌+◌, ◌≤◌, ◌<◌, ◌^◌, ◌↔◌, Some, None, length, map, drop, IsTrue, MatchOption, IfOk, OnOk};
 ghost use Rattle.std.specs.List.{Contains};
 ghost use Rattle.lucy_types.specs.declared.ty.Ty.{Ty as PlaceTy};
 ghost use Rattle.lucy_types.specs.declared.ty.Ty.TheVariants as ty;
 ghost use Rattle.lucy_types.specs.declared.flood.Reached.{Reached as Step};
 ghost use Rattle.lucy_types.specs.Graphs.{AllFit, HasTrue, IsGraph};
-ghost use Rattle.lucy_types.specs.Flooding.{mark, reached, MayBegin, IsFixed, IsFlood, IsReached, IsSettled, IsTorn, FloodsForced, FloodsAll};
+ghost use Rattle.lucy_types.specs.Flooding.{mark, reached, MayBegin, IsFixed, IsFlood, IsReached, IsSettled, IsTorn, FloodsForced, FloodsAll, HasFlooded, Tells};
 ghost use Rattle.lucy_types.specs.Nodes.{Solves};
 
 use crate::flood::{Flood, dry, flood_from, flood_unless};
@@ -59,6 +59,19 @@ fn flood_open(flood: &mut Flood, graph: &Graph, places: u32) -> Result<(), Alloc
     Ok(())
 }
 
+// Reaches all places: from those that a rule makes int, then from those that one makes bool, and then the others.
+fn flood_all(flood: &mut Flood, graph: &Graph, places: u32) -> Result<(), AllocError>
+    requires graph { IsGraph graph.now }
+    requires settled { IsSettled graph.now flood.old }
+    requires all { length graph.now.near.items ≡ places + 1 }
+    requires dry { (p : ℕ) → mark flood.old p ≡ None }
+    ensures { OnOk result (HasFlooded graph.now flood.old flood.new) }
+{
+    flood_forced(flood, graph, &graph.ints, Ty::Int)?;
+    flood_forced(flood, graph, &graph.bools, Ty::Bool)?;
+    flood_open(flood, graph, places)
+}
+
 fn is_int(mark: Option<Ty>) -> bool
     ensures { IsTrue result ↔ (mark ≡ Some ty.Int) }
 {
@@ -70,6 +83,16 @@ fn is_int(mark: Option<Ty>) -> bool
     }
 }
 
+// Whether the place is int, though a rule makes it bool.
+fn is_torn(graph: &Graph, flood: &Flood, place: u32) -> bool
+    requires graph { IsGraph graph.now }
+    requires flood { IsFlood graph.now flood.now }
+    requires place { place < length graph.now.near.items }
+    ensures { IsTrue result ↔ IsTorn graph.now flood.now place }
+{
+    graph.bools[place as usize] && is_int(flood.marks[place as usize])
+}
+
 // Where in the queue the first place stands that is int, though a rule makes it bool.
 fn clash_in(graph: &Graph, flood: &Flood) -> Option<usize>
     requires graph { IsGraph graph.now }
@@ -77,11 +100,8 @@ fn clash_in(graph: &Graph, flood: &Flood) -> Option<usize>
     ensures { MatchOption result ((p : ℕ) → IsTorn graph.now flood.now p → ⊥) (λ at. (at < length flood.now.queue.items) × ((r : Step) → reached flood.now at ≡ Some r → IsTorn graph.now flood.now r.place)) }
 {
     'each: for (i, reached) in flood.queue.iter().enumerate() {
-        let place = reached.place as usize;
-        if graph.bools[place] {
-            if is_int(flood.marks[place]) {
-                return Some(i);
-            }
+        if is_torn(graph, flood, reached.place) {
+            return Some(i);
         }
     }
     None
@@ -102,6 +122,20 @@ fn reached_types(alloc: Global, flood: &Flood) -> Result<Vec<Ty>, AllocError>
     Ok(list)
 }
 
+// A clash path, where a place is torn, and else the types of the places, all of which were reached.
+fn told(alloc: Global, graph: &Graph, flood: &Flood) -> Result<Solution, AllocError>
+    requires graph { IsGraph graph.now }
+    requires flood { IsFlood graph.now flood.now }
+    requires some { 1 ≤ length flood.now.marks.items }
+    requires all { (p : ℕ) → 1 ≤ p → p < length flood.now.marks.items → IsReached flood.now p }
+    ensures { IfOk result (λ s. Tells graph.now flood.now s) }
+{
+    match clash_in(graph, flood) {
+        Some(at) => Ok(Solution::Clash(path_to(alloc, graph, flood, at)?)),
+        None => Ok(Solution::Types(reached_types(alloc, flood)?)),
+    }
+}
+
 /// The types that these rules leave to so many places, or a clash path of them.
 pub(crate) fn solve(alloc: Global, rules: &[Rule], places: u32) -> Result<Solution, AllocError>
     requires { AllFit (places + 1) rules.now }
@@ -109,11 +143,6 @@ pub(crate) fn solve(alloc: Global, rules: &[Rule], places: u32) -> Result<Soluti
 {
     let graph = graph_of(alloc, rules, places as usize)?;
     let mut flood = dry(alloc, places as usize)?;
-    flood_forced(&mut flood, &graph, &graph.ints, Ty::Int)?;
-    flood_forced(&mut flood, &graph, &graph.bools, Ty::Bool)?;
-    flood_open(&mut flood, &graph, places)?;
-    match clash_in(&graph, &flood) {
-        Some(at) => Ok(Solution::Clash(path_to(alloc, &graph, &flood, at)?)),
-        None => Ok(Solution::Types(reached_types(alloc, &flood)?)),
-    }
+    flood_all(&mut flood, &graph, places)?;
+    told(alloc, &graph, &flood)
 }

@@ -25,6 +25,16 @@ impl Model for Typed {
 }
 
 impl Typed {
+    // The type of a place.
+    fn type_at(&self, node: usize, place: u32) -> Ty
+        requires node { node < length self.now }
+        requires first { 1 ≤ place }
+        requires last { place ≤ length (table_at self.now node) }
+        ensures { ty_at self.now node place ≡ Some result }
+    {
+        self.nodes[node].tys[place as usize - 1]
+    }
+
     /// The type of a place. Nodes count from 0, places from 1.
     pub fn at(&self, node: u32, place: u32) -> Ty
         requires node { node < length self.now }
@@ -32,7 +42,7 @@ impl Typed {
         requires last { place ≤ length (table_at self.now node) }
         ensures { ty_at self.now node place ≡ Some result }
     {
-        self.nodes[node as usize].tys[place as usize - 1]
+        self.type_at(node as usize, place)
     }
 
     /// The type of the values of a place of the last node, which is main: int where the place is open.
@@ -42,8 +52,7 @@ impl Typed {
         requires last { place ≤ length (table_at self.now (length self.now - 1)) }
         ensures { option_map held (ty_at self.now (length self.now - 1) place) ≡ Some result }
     {
-        let main = self.nodes.len() - 1;
-        match self.nodes[main].tys[place as usize - 1] {
+        match self.type_at(self.nodes.len() - 1, place) {
             Ty::Int => DataType::Int,
             Ty::Bool => DataType::Bool,
             Ty::Open(_) => DataType::Int,

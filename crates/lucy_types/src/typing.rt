@@ -1,9 +1,9 @@
-ghost use Rattle.std.specs.Prelude.{◌≡◌, ◌<◌, ◌∷◌, ◌++◌, ◌⊎◌, [], ℕ, List, Some, Err, length, take, slice_get, IfOk, IfErr, IsOk, OnOk};
+ghost use Rattle.std.specs.Prelude.{◌≡◌, ◌+◌, ◌<◌, ◌∷◌, ◌++◌, ◌⊎◌, [], ℕ, List, Some, Err, length, take, slice_get, IfOk, IfErr, IsOk, OnOk, MatchOption};
 ghost use Rattle.lucy_types.specs.declared.ty.Ty.{Ty};
 ghost use Rattle.lucy_place.specs.declared.placed.PlacedNode.{PlacedNode as Node};
 ghost use Rattle.lucy_types.specs.declared.error.TypeError.TheVariants as error;
 ghost use Rattle.lucy_types.specs.Rules.{IsRule};
-ghost use Rattle.lucy_types.specs.Nodes.{AreSignatures, Solves, tables_of};
+ghost use Rattle.lucy_types.specs.Nodes.{AreSignatures, AreTyped, Solves, tables_of};
 ghost use Rattle.lucy_types.specs.Programs.{IsTyped, HaveTypings, IsClash, RefusesTypes, AnswersTypes, AnswersClash};
 
 use crate::error::TypeError;
@@ -36,6 +36,28 @@ fn node_types(
     solve(alloc, &rules, placed.node(node).places.list().len() as u32)
 }
 
+// Puts the signature of a node behind those of the nodes above it, or gives a clash path of its rules.
+fn put_types(
+    alloc: Global,
+    placed: &Placed,
+    node: u32,
+    nodes: &mut Vec<Signature>,
+) -> Result<Option<Vec<u32>>, AllocError>
+    requires node { node < length placed.now.nodes }
+    requires above { AreTyped placed.now.nodes node nodes.old.items }
+    ensures { IfOk result (λ clash. MatchOption clash (AreTyped placed.now.nodes (node + 1) nodes.new.items) (λ path. IsClash placed.now.nodes node path.items)) }
+{
+    match node_types(alloc, placed, node, nodes.as_slice())? {
+        Solution::Types(tys) => {
+            let place = placed.node(node);
+            let signature = signature_of(alloc, tys, place.params, place.results.list())?;
+            keep(nodes, signature)?;
+            Ok(None)
+        }
+        Solution::Clash(path) => Ok(Some(path)),
+    }
+}
+
 // The types of a program's places, or the first node whose rules no typing meets.
 fn found(alloc: Global, placed: &Placed) -> Result<Typed, TypeError>
     ensures ok { IfOk result (λ typed. IsTyped placed.now.nodes typed) }
@@ -43,13 +65,8 @@ fn found(alloc: Global, placed: &Placed) -> Result<Typed, TypeError>
 {
     let mut nodes = Vec::new(alloc);
     'each: for node in 0..placed.nodes() {
-        match node_types(alloc, placed, node, &nodes)? {
-            Solution::Types(tys) => {
-                let place = placed.node(node);
-                let signature = signature_of(alloc, tys, place.params, place.results.list())?;
-                keep(&mut nodes, signature)?;
-            }
-            Solution::Clash(path) => return Err(TypeError::Clash { node, path }),
+        if let Some(path) = put_types(alloc, placed, node, &mut nodes)? {
+            return Err(TypeError::Clash { node, path });
         }
     }
     Ok(Typed { nodes })

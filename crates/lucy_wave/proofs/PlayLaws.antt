@@ -14,7 +14,7 @@ use Rattle.lucy_clock.specs.declared.node_clock.NodeClock.{NodeClock}
 use Rattle.lucy_net.specs.declared.net.Net.{Net}
 use Rattle.lucy_net.specs.Proper.{output_of, numbers_of, IsProper}
 use Rattle.lucy_cause.specs.Schedules.{Timetable, IsScheduleOf}
-use Rattle.lucy_core.specs.Seen.{MakesCore}
+use Rattle.lucy_core.specs.Seen.{CanMakeCore}
 use Rattle.lucy_meaning.specs.Spots.{at, main_of, results_in, IsSpot}
 use Rattle.lucy_meaning.specs.Sizes.{all_places}
 use Rattle.lucy_meaning.proofs.Closed.{place_spot}
@@ -33,7 +33,7 @@ use Rattle.lucy_wave.proofs.VariableLaws.{inner_named, named_place, named_within
 use Rattle.lucy_wave.proofs.WatchLaws.{IsReady, MayHave, outputs_row, place_below, place_there, flat_grown, flat_fed, may_give, with_outputs_ready, with_outputs_keep, with_outputs_fed, ready_fixed}
 
 module _ (nodes : List PlacedNode) (clocks : List NodeClock) (net : Net) (proper : AreProper nodes) (clocked : AreClocked nodes clocks) (flat : IsFlat nodes clocks net) (lists : List (List ℤ)) (t : ℕ) (operators : List Operator) (schedule : Timetable)
-    (fixed : MakesCore net schedule lists operators t) (main : PlacedNode) (main_is : main_of nodes ≡ Some main) where
+    (fixed : CanMakeCore net schedule lists operators t) (main : PlacedNode) (main_is : main_of nodes ≡ Some main) where
   results_are : results_in (main_of nodes) ≡ main.results
   results_are = ap results_in main_is
 
@@ -78,7 +78,7 @@ module _ (nodes : List PlacedNode) (clocks : List NodeClock) (net : Net) (proper
     pub more_grown : IsGrown nodes more
     more_grown = more_ready.grown
 
-    pub more_fixed : (s : Timetable) → t ≤ limit_number limit.Instants → IsScheduleOf more s → MakesCore more s lists operators t
+    pub more_fixed : (s : Timetable) → t ≤ limit_number limit.Instants → IsScheduleOf more s → CanMakeCore more s lists operators t
     more_fixed s early is = ready_fixed nodes clocks lists t (length main.results + length (inner_of main)) operators more s early more_ready is
 
     pub more_fed : AreFed nodes clocks more 0 main.results

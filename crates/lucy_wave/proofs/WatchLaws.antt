@@ -24,7 +24,7 @@ use Rattle.lucy_net.specs.Causal.{net_places}
 use Rattle.lucy_net.specs.Proper.{output_of, numbers_of, IsProper, IsWriteWord, IsSupplied}
 use Rattle.lucy_net.specs.States.{KnowsOperator}
 use Rattle.lucy_cause.specs.Schedules.{Timetable, IsScheduleOf}
-use Rattle.lucy_core.specs.Seen.{MakesCore}
+use Rattle.lucy_core.specs.Seen.{CanMakeCore}
 use Rattle.lucy_meaning.specs.Spots.{at, main_of, spot_form, results_in, IsSpot}
 use Rattle.lucy_meaning.specs.Sizes.{all_places}
 use Rattle.lucy_meaning.specs.Numbers.{number}
@@ -270,6 +270,6 @@ module _ (nodes : List PlacedNode) (clocks : List NodeClock) (inputs : List (Lis
 
 -- a core can be made of a net that is ready
 pub ready_fixed : (nodes : List PlacedNode) (clocks : List NodeClock) (inputs : List (List ℤ)) (t output : ℕ) (operators : List Operator) (net : Net) (schedule : Timetable) → t ≤ limit_number limit.Instants →
-    IsReady nodes clocks inputs t (length operators) output net → IsScheduleOf net schedule → MakesCore net schedule inputs operators t
+    IsReady nodes clocks inputs t (length operators) output net → IsScheduleOf net schedule → CanMakeCore net schedule inputs operators t
 ready_fixed nodes clocks inputs t output operators net schedule early ready is =
     record { proper = ready.proper; sound = is.sound; early = early; supplied = ready.supplied; known = ready.known }

@@ -10,7 +10,7 @@ ghost use Rattle.lucy_meaning.specs.Horizons.{Suffice};
 ghost use Rattle.lucy_kahn.specs.Turns.{params_in};
 ghost use Rattle.lucy_net.specs.Schedules.{IsSound};
 ghost use Rattle.lucy_cause.specs.Schedules.{events_at};
-ghost use Rattle.lucy_core.specs.Seen.{MakesCore, IsOver};
+ghost use Rattle.lucy_core.specs.Seen.{CanMakeCore, IsOver};
 ghost use Rattle.lucy_flat.specs.Clocked.{AreClocked};
 ghost use Rattle.lucy_flat.specs.Flat.{IsFlat};
 ghost use Rattle.lucy_results.specs.Streams.{param_words, main_stream, main_streams};
@@ -90,7 +90,7 @@ fn finished<F: Fn(u32, i64, i64) -> i64 + Sync>(
     instants: u64,
 ) -> Result<Core, OutOfMemory>
     requires serves { Serves F.pre F.post host.now }
-    requires fixed { MakesCore net schedule lists (lent host.now) instants }
+    requires fixed { CanMakeCore net schedule lists (lent host.now) instants }
     ensures over { IfOk result (λ core. IsOver core) }
     ensures net { IfOk result (λ core. core.net ≡ net) }
     ensures inputs { IfOk result (λ core. core.inputs ≡ lists) }
@@ -115,7 +115,7 @@ fn play_results<F: Fn(u32, i64, i64) -> i64 + Sync>(
     results: &[u32],
 ) -> Result<Played, OutOfMemory>
     requires serves { Serves F.pre F.post host.now }
-    requires fixed { MakesCore net schedule lists (lent host.now) instants }
+    requires fixed { CanMakeCore net schedule lists (lent host.now) instants }
     requires grown { IsGrown placed.now.nodes net }
     requires fed { AreFed placed.now.nodes clocks.now net 0 results.now }
     requires few { length results.now < 2 ^ 31 }
@@ -146,7 +146,7 @@ fn play_all<F: Fn(u32, i64, i64) -> i64 + Sync>(
     places: &[u32],
 ) -> Result<Played, OutOfMemory>
     requires serves { Serves F.pre F.post host.now }
-    requires fixed { MakesCore watched.net watched.schedule lists (lent host.now) instants }
+    requires fixed { CanMakeCore watched.net watched.schedule lists (lent host.now) instants }
     requires grown { IsGrown placed.now.nodes watched.net }
     requires fed { AreFed placed.now.nodes clocks.now watched.net 0 results.now }
     requires fed_too { AreFed placed.now.nodes clocks.now watched.net (length results.now) places.now }

@@ -3,11 +3,11 @@ ghost use Rattle.std.specs.Prelude.{◌≡◌};
 use std::alloc::{AllocError, AllocFailed};
 
 /// Memory ran out.
-#[derive(Clone, Copy, Debug, PartialEq, Eq)]
+#[derive(Clone, Copy)]
 pub struct OutOfMemory;
 
 /// Why there is no word.
-#[derive(Clone, Copy, Debug, PartialEq, Eq)]
+#[derive(Clone, Copy)]
 pub enum WordError {
     /// The text spells no word. The number is an offset in bytes from 0: that of the first byte that doesn't fit, or the
     /// text's length where more bytes are missing, or that of the first digit of a count that is 0, whichever is least.

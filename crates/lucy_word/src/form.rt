@@ -13,7 +13,7 @@ use crate::limbs::WIDTH;
 
 /// How far the text of a word was read: behind whole items or at their beginning, behind a digit, behind a digit's `{`, in the
 /// digits of a count, or behind all. `inside` is whether its `(` was read, and `some` whether an item stands behind it.
-#[derive(Clone, Copy, Debug, PartialEq, Eq)]
+#[derive(Clone, Copy)]
 pub enum Stage {
     Item { inside: bool, some: bool },
     Digit { inside: bool },

@@ -8,7 +8,7 @@ use Rattle.lucy_worker.specs.declared.part.Part.{Part}
 use Rattle.lucy_worker.specs.declared.place.EndPlace.{EndPlace}
 use Rattle.lucy_worker.specs.Meets.{HaveMet, with_giver, with_taker, set_giver, HasGiver, HasTaker, MetWithin}
 use Rattle.lucy_worker.specs.Readiness.{AreReady}
-use Rattle.lucy_worker.proofs.MeetLaws.{giver_set, taker_set, both_set, giver_is, taker_is}
+use Rattle.lucy_worker.proofs.MeetLaws.{read_within, giver_set, taker_set, both_set, giver_is, taker_is}
 
 -- an element of a list beside one that was set, and that one
 pub get_beside : {X : Type 0} (xs : List X) (i j : ℕ) (y : X) → (j ≡ i → ⊥) → slice_get (set xs i y) j ≡ slice_get xs j
@@ -107,7 +107,18 @@ far_right ps l r giver taker d e a b g t ready cut len less m =
     (m.4 ∙ ap (λ (x : Part). with_taker x taker.number m.1) (left_read ps l r taker.part t.part e cut (omega arith) t.part_is))
     (set_two ps l r taker.part giver.part b a cut len less ∙ set_apart ps taker.part giver.part b a (λ same. absurd (omega arith)))
 
--- ends of one part: those that were read of it
+-- ends of one part are among those that were read of it
+pub near_giver : (ps : List Part) (giver : EndPlace) (d : Part) (g : HasGiver ps giver) → giver.number < length (get_or ps giver.part d).givers.items
+near_giver ps giver d g =
+    read_within (get_or ps giver.part d).givers.items g.part.givers.items giver.number g.end
+    (ap (λ (x : Part). x.givers.items) (get_or_from_slice_get ps giver.part g.part d g.part_is)) g.end_is
+
+pub near_taker : (ps : List Part) (k : ℕ) (taker : EndPlace) (d : Part) (t : HasTaker ps taker) → k ≡ taker.part → taker.number < length (get_or ps k d).takers.items
+near_taker ps k taker d t same =
+    read_within (get_or ps k d).takers.items t.part.takers.items taker.number t.end
+    (ap (λ (x : Part). x.takers.items) (get_or_from_slice_get ps k t.part d (ap (slice_get ps) same ∙ t.part_is))) t.end_is
+
+-- those that were read there
 pub near_ends : (ps : List Part) (giver taker : EndPlace) (d : Part) (g0 c : GiverView) (t0 b : TakerView) (g : HasGiver ps giver)
     (t : HasTaker ps taker) → giver.part ≡ taker.part →
     g0 ≡ get_or (get_or ps giver.part d).givers.items giver.number c → t0 ≡ get_or (get_or ps giver.part d).takers.items taker.number b →

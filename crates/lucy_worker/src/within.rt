@@ -9,7 +9,6 @@ use crate::place::EndPlace;
 use lucy_ring::meet;
 
 // Lets a giver and a taker of these parts meet.
-#[tactic(auto, using(crate::proofs::MeetLaws::giver_within, crate::proofs::MeetLaws::taker_within))]
 pub(crate) fn meet_within(parts: &mut [Part], giver: EndPlace, taker: EndPlace)
     requires ready { AreReady parts.old }
     requires giver { HasGiver parts.old giver }

@@ -84,7 +84,7 @@ pub(crate) fn put_check(page: &mut Page<'_>, scene: Scene<'_>, needs: &Needs, fa
 }
 
 /// What has no word.
-#[derive(Clone, Copy, PartialEq, Eq)]
+#[derive(Clone, Copy)]
 enum Lacking {
     Stream,
     Call,

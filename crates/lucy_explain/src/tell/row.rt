@@ -4,14 +4,14 @@ use lucy_need::{Need, Needs, Term};
 use lucy_shape::{ClockShape, Shape};
 
 /// A position of a clock, from 1; the origin has clock and position 0, as the base has clock 0 and positions from 1.
-#[derive(Clone, Copy, PartialEq, Eq)]
+#[derive(Clone, Copy)]
 pub(crate) struct Point {
     pub clock: u32,
     pub position: u64,
 }
 
 /// What an inequality is for.
-#[derive(Clone, Copy, PartialEq, Eq)]
+#[derive(Clone, Copy)]
 pub(crate) enum Row {
     /// A position stands at instant 1 or later, or that of the base at its own instant.
     Start(u32),

@@ -5,6 +5,7 @@ use Rattle.lucy_word.specs.declared.limit.Limit.TheVariants as lim
 use Rattle.lucy_flat.specs.declared.error.FlatError.TheVariants as err
 use Rattle.lucy_flat.specs.Assembly.{IsReadOn, ReadsTooLong}
 use Rattle.lucy_flat.proofs.AssemblyLaws.{ok_map, err_map, read_other, long_other, long_back}
+use Rattle.lucy_flat.proofs.KindLaws.{reads_else, short_else}
 use Rattle.lucy_flat.proofs.assemble.read_word.Goals as goal
 
 pub returns-in_ok-other-in-Merge-2-clause-ok : goal.returns-in_ok-other-in-Merge-2-clause-ok
@@ -31,3 +32,16 @@ returns-in_ok-other-in-Merge-2-clause-refused c =
       | inr r ↦ inr (r.0, long_other c.args.taker.now.kind c.args.operand c.in-Merge-2.word own c.in-Merge-2.is c.if-operand-eq0.false (subst (IsOnTooLong own) c.in_ok-other-in-Merge-2.ensures.ok r.1))
     ])
     c.sampled-in-Merge-2.ensures.refused
+
+pub returns-in_default-clause-ok : goal.returns-in_default-clause-ok
+returns-in_default-clause-ok c =
+    let kind = c.args.taker.now.kind in
+    let own = c.args.taker.now.word in
+    ok_map _ (IsReadOn kind c.args.operand own c.args.write.now) c.copied-in_default.result
+    (λ w e. subst (IsReadOn kind c.args.operand own c.args.write.now) (sym e) (reads_else c.args.operand own kind c.args.write.now c.in_default.not-When c.in_default.not-Merge))
+    c.copied-in_default.ensures.ok
+
+pub returns-in_default-clause-fits : goal.returns-in_default-clause-fits
+returns-in_default-clause-fits c =
+    ok_map _ (λ w. ReadsTooLong c.args.taker.now.kind c.args.operand c.args.taker.now.word → ⊥) c.copied-in_default.result
+    (λ w e. short_else c.args.operand c.args.taker.now.word c.args.taker.now.kind c.in_default.not-Merge) c.copied-in_default.ensures.ok

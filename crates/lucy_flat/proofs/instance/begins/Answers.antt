@@ -1,6 +1,7 @@
-use Rattle.std.proofs.Common.{◌+◌, sym, refl, subst, length, arith}
+use Rattle.std.proofs.Common.{◌+◌, ◌<◌, sym, refl, subst, length, arith}
 use Rattle.std.specs.Prelude.{slice_index}
 use Rattle.std.proofs.lemmas.Option.{slice_get_read}
+use Rattle.std.proofs.lemmas.List.Elements.{All-from_recursion}
 use Rattle.lucy_place.specs.declared.entry.CallSite.{CallSite}
 use Rattle.lucy_flat.specs.Extents.{AreSumsOf}
 use Rattle.lucy_flat.proofs.ExtentLaws.{sum_take, sum_part, sums_more}
@@ -31,3 +32,8 @@ each-preserved c =
       subst (AreSumsOf sizes sites c.args.first (c.each.site-index + 1)) (sym c.in_ok-push.ensures.items) (sums_more sizes sites c.args.first c.each.site-index c.each.begins.items c.each.next c.each.invariant.0 now),
       omega arith,
     )
+
+pub bounds-sizes-site : goal.bounds-sizes-site
+bounds-sizes-site c =
+    let below : CallSite → Type 0 = λ site. site.node < length c.args.sizes.now in
+    subst below (sym c.site-item.is) (All-from_recursion below c.args.sites.now c.requires.below c.each.site-index c.site-item.result c.each-test.true)

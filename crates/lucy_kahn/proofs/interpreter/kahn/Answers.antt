@@ -1,4 +1,4 @@
-use Rattle.std.proofs.Common.{◌≡◌, ◌-◌, Some, length, map, ap, sym, refl, ◌∙◌, subst, arith}
+use Rattle.std.proofs.Common.{◌≡◌, ◌-◌, inl, Some, length, map, ap, sym, refl, ◌∙◌, subst, arith}
 use Rattle.std.specs.Prelude.{slice_get}
 use Rattle.std.specs.Result.{IfOk}
 use Rattle.std.proofs.lemmas.Option.{slice_get_read}
@@ -8,7 +8,7 @@ use Rattle.lucy_meaning.specs.Spots.{results_of}
 use Rattle.lucy_meaning.specs.Kahn.{kahn}
 use Rattle.lucy_kahn.specs.Turns.{AreThere, IsTurn, own_at}
 use Rattle.lucy_kahn.proofs.TurnLaws.{count_of_iterate, count_of_lists, places_there}
-use Rattle.lucy_kahn.proofs.RunLaws.{err_exit, turn_of, run_first, run_more, passed_of, main_lists, main_results}
+use Rattle.lucy_kahn.proofs.RunLaws.{err_exit, err_known, none_passed, turn_of, run_first, run_more, passed_of, main_lists, main_results}
 use Rattle.lucy_kahn.proofs.interpreter.kahn.Goals as goal
 
 pub turns-init : goal.turns-init
@@ -19,6 +19,27 @@ turns-init g c =
 
 pub next-requires-clause-known : goal.next-requires-clause-known
 next-requires-clause-known g c = λ κs h. c.requires.known
+
+pub next-requires-clause-before : goal.next-requires-clause-before
+next-requires-clause-before g c = λ κs h.
+    (let run = c.turns.invariant in
+    let turn = turn_of (kinds_of (lent c.args.host.now)) c.args.inputs.now c.args.placed.now.nodes c.in_ok-instances.instances.list.items c.in_ok-instances.instances.inner.items c.turns.number c.turns.lists.items
+    c.nodes.ensures.proper c.requires.inputs c.in_ok-instances.ensures.ok.all run in
+    (run.paths, subst (λ xs. IsTurn (kinds_of (lent c.args.host.now)) c.args.inputs.now c.args.placed.now.nodes c.in_ok-instances.instances.list.items c.in_ok-instances.instances.inner.items c.turns.number xs c.turns.invariant.paths) (sym c.deref.ensures.value) turn))
+
+pub returns-in_err-instances-clause-passed : goal.returns-in_err-instances-clause-passed
+returns-in_err-instances-clause-passed g c = λ long. err_known {P = ⊥} c.from_residual.result _ c.from_residual.ensures.1 (inl c.in_err-instances.ensures.refused)
+
+pub returns-in_err-lists-clause-passed : goal.returns-in_err-lists-clause-passed
+returns-in_err-lists-clause-passed g c = λ long. err_known {P = ⊥} c.from_residual-in_err-lists.result _ c.from_residual-in_err-lists.ensures.1 (inl c.in_err-lists.ensures.refused)
+
+pub returns-in_err-lists-2-clause-passed : goal.returns-in_err-lists-2-clause-passed
+returns-in_err-lists-2-clause-passed g c = λ long. err_known c.from_residual-in_err-lists-2.result _ c.from_residual-in_err-lists-2.ensures.1 c.in_err-lists-2.ensures.limit
+
+pub returns-clause-passed : goal.returns-clause-passed
+returns-clause-passed g c = λ long.
+    absurd (none_passed (kinds_of (lent c.args.host.now)) c.args.inputs.now c.args.placed.now.nodes c.in_ok-instances.instances.list.items c.in_ok-instances.instances.inner.items c.turns.number c.args.turns (omega arith)
+    c.turns.invariant.none long)
 
 pub returns-in_err-lists-2-clause-limit : goal.returns-in_err-lists-2-clause-limit
 returns-in_err-lists-2-clause-limit g c =

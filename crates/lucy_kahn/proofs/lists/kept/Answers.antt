@@ -6,7 +6,7 @@ use Rattle.std.proofs.lemmas.Int.{to_z-of_z}
 use Rattle.lucy_word.specs.Bits.{bit_at}
 use Rattle.lucy_stream.specs.Lists.{kept_past}
 use Rattle.lucy_kahn.specs.Outcomes.{most_items}
-use Rattle.lucy_kahn.proofs.ListSteps.{kept_put, kept_skip, kept_end, grown}
+use Rattle.lucy_kahn.proofs.ListSteps.{kept_put, kept_skip, kept_short, kept_end, grown, too_long}
 use Rattle.lucy_kahn.proofs.lists.kept.Goals as goal
 use Rattle.lucy_kahn.proofs.lists.kept.Goals.{then-bit+in_ok-put, else-bit}
 
@@ -24,6 +24,12 @@ loop-i-preserved c = elim c.if-bit.branch [
         subst (λ xs. length xs ≤ most_items) (sym same) c.loop-i.invariant.1,
       )
 ]
+
+pub returns-in_err-put-clause-limit : goal.returns-in_err-put-clause-limit
+returns-in_err-put-clause-limit c =
+    let b : bit_at c.args.word.now (c.loop-i.i + 1) ≡ true = sym c.bit.ensures ∙ c.if-bit.true in
+    too_long c.from_residual.result _ c.loop-i.made.items _ c.from_residual.ensures.1 c.in_err-put.ensures.limit
+    (kept_short c.args.word.now c.args.list.now c.loop-i.made.items c.loop-i.i (omega arith) b c.loop-i.invariant.0)
 
 pub returns-clause-ok : goal.returns-clause-ok
 returns-clause-ok c =

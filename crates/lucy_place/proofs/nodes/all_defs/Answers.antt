@@ -1,8 +1,9 @@
-use Rattle.std.proofs.Common.{◌≡◌, ◌+◌, ◌∷◌, List, length, map, drop, ap, sym, ◌∙◌, subst, arith}
+use Rattle.std.proofs.Common.{◌≡◌, ◌+◌, ◌∷◌, ◌++◌, List, length, map, drop, ap, sym, ◌∙◌, subst, arith}
+use Rattle.std.proofs.lemmas.List.{append-nil, drop_all}
 use Rattle.lucy_tree.specs.View.{DefTree, def_tree}
 use Rattle.lucy_place.specs.Streams.{def_names}
 use Rattle.lucy_place.specs.Numbering.{Known}
-use Rattle.lucy_place.specs.Nodes.{past_def, past_defs}
+use Rattle.lucy_place.specs.Nodes.{past_def, past_defs, defined, rights, def_sites}
 use Rattle.lucy_place.specs.Drafts.{next_of, IsSmall}
 use Rattle.lucy_place.specs.Views.{known_of}
 use Rattle.lucy_place.proofs.ListLaws.{drop_next}
@@ -44,3 +45,21 @@ each-preserved c =
     let before = subst (λ ds. DefsDrawn k c.each.named.items c.each.draft ds c.args.named.now.items c.args.draft.now all) e c.each.invariant in
     defs_step k c.each.named.items c.def_places.new.named.items c.each.draft c.def_places.new.draft d rest c.args.named.now.items c.args.draft.now all before
     c.in_ok-def_places.ensures.draws c.in_ok-def_places.ensures.named
+
+pub returns-clause-named : goal.returns-clause-named
+returns-clause-named c =
+    let l = c.each in
+    let k : Known = known_of c.args.names.now in
+    sym (append-nil l.named.items) ∙ ap (λ ds. l.named.items ++ defined k (next_of k l.draft) (map def_tree ds)) (sym (drop_all l.def-index c.args.defs.now c.each-test.false)) ∙ l.invariant.named
+
+pub returns-clause-places : goal.returns-clause-places
+returns-clause-places c =
+    let l = c.each in
+    let k : Known = known_of c.args.names.now in
+    sym (append-nil l.draft.places.items) ∙ ap (λ ds. l.draft.places.items ++ rights k (next_of k l.draft) (map def_tree ds)) (sym (drop_all l.def-index c.args.defs.now c.each-test.false)) ∙ l.invariant.places
+
+pub returns-clause-calls : goal.returns-clause-calls
+returns-clause-calls c =
+    let l = c.each in
+    let k : Known = known_of c.args.names.now in
+    sym (append-nil l.draft.calls.items) ∙ ap (λ ds. l.draft.calls.items ++ def_sites k (next_of k l.draft) (map def_tree ds)) (sym (drop_all l.def-index c.args.defs.now c.each-test.false)) ∙ l.invariant.calls

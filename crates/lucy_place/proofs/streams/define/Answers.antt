@@ -3,7 +3,7 @@ use Rattle.lucy_tree.specs.View.{def_tree}
 use Rattle.lucy_tree.specs.declared.span.Name.{Name}
 use Rattle.lucy_place.specs.Streams.{text_of, declared, def_names}
 use Rattle.lucy_place.specs.Faults.{repeats}
-use Rattle.lucy_place.specs.Placing.{TellsFirst}
+use Rattle.lucy_place.specs.Placing.{TellsFirstFault}
 use Rattle.lucy_place.proofs.ListLaws.{drop_next}
 use Rattle.lucy_place.proofs.VerdictLaws.{leaves, tells_front, repeats_append, define_more}
 use Rattle.lucy_place.proofs.streams.define.Goals as goal
@@ -15,9 +15,9 @@ returns-in_err-declare-clause-refused c =
     let e : def_names (map def_tree (drop c.each.def-index c.args.defs.now)) ≡ l ++ r =
     ap (λ ds. def_names (map def_tree ds)) (drop_next c.args.defs.now c.each.def-index c.def-item.result (omega arith) c.def-item.is)
     ∙ ap (λ ds. declared ds ++ r) (sym c.list.ensures) in
-    leaves (TellsFirst (repeats c.each.scope l)) _ _ c.from_residual.result c.from_residual.ensures.1 c.in_err-declare.ensures.refused
+    leaves (TellsFirstFault (repeats c.each.scope l)) _ _ c.from_residual.result c.from_residual.ensures.1 c.in_err-declare.ensures.refused
     (λ y t.
-    subst (λ fs. TellsFirst fs y) (sym (repeats_append c.each.scope l r) ∙ ap (repeats c.each.scope) (sym e) ∙ c.each.invariant.0)
+    subst (λ fs. TellsFirstFault fs y) (sym (repeats_append c.each.scope l r) ∙ ap (repeats c.each.scope) (sym e) ∙ c.each.invariant.0)
     (tells_front (repeats c.each.scope l) (repeats (c.each.scope ++ map text_of l) r) t))
 
 pub each-preserved : goal.each-preserved

@@ -1,4 +1,4 @@
-use Rattle.std.proofs.Common.{◌≡◌, ◌≤◌, ◌<◌, ◌+◌, ℕ, List, length, get_or, set, ◌++◌, ◌∷◌, [], sym, subst, arith}
+use Rattle.std.proofs.Common.{◌≡◌, ◌≤◌, ◌<◌, ◌+◌, ℕ, List, length, get_or, set, ◌++◌, ◌∷◌, [], inl, refl, sym, ◌∙◌, subst, arith}
 use Rattle.std.specs.List.{All}
 use Rattle.std.proofs.lemmas.List.{length-set}
 use Rattle.std.proofs.lemmas.Result.{err_from_is_err_and}
@@ -6,7 +6,8 @@ use Rattle.lucy_need.specs.Meeting.{IsWithin}
 use Rattle.lucy_need.specs.declared.need.Need.{Need}
 use Rattle.lucy_need.specs.declared.need.Term.{Term}
 use Rattle.lucy_rates.specs.Growing.{no_number, IsGrowing, IsJoiningStep}
-use Rattle.lucy_rates.proofs.Growing.{IsAt, skip_at, step_at, fewer, one_fewer, growth_step, growth_done}
+use Rattle.lucy_rates.specs.Walks.{no_need}
+use Rattle.lucy_rates.proofs.Growing.{need_is, IsAt, skip_at, step_at, fewer, one_fewer, growth_step, growth_done}
 use Rattle.lucy_rates.proofs.RatedTree.{rated_step, kept_step, deep_step}
 use Rattle.lucy_rates.proofs.Completing.{large_from}
 use Rattle.lucy_rates.proofs.forest.grow_from.Goals as goal
@@ -24,6 +25,71 @@ skip n needs root tree at roots need size within h l is_root is none =
 
 is_number : (n root : ℕ) → root < n → n ≤ 4294967295 → root ≡ no_number → ⊥
 is_number n root l m e = absurd (omega arith)
+
+pub loop-at-init : goal.loop-at-init
+loop-at-init c =
+    let sizes = c.requires.sizes in
+    record {
+      tree = [];
+      growing = c.requires.start;
+      rated = c.requires.rated;
+      kept = record { root_kept = λ x h. refl; parent_kept = λ x h. refl; depth_kept = λ x h. refl; rate_kept = λ x h. refl; near = λ x e. inl e };
+      deep = c.requires.deep;
+      size = refl;
+      parents_size = sizes.0;
+      depths_size = sizes.1;
+      rates_size = sizes.2;
+      at_most = c.requires.firsts.within c.args.root c.requires.root;
+    }
+
+pub step-requires : goal.step-requires
+step-requires c =
+    let need = c.index-needs-at.result in
+    subst (λ (x : ℕ). IsWithin x need) (sym c.loop-at.invariant.size)
+    (subst (IsWithin (length c.args.roots.now)) (sym (need_is c.args.needs.now c.loop-at.at need c.loop-at-test.true c.index-needs-at.is)) (c.requires.within c.loop-at.at no_need c.loop-at-test.true))
+
+pub loop-at-smaller-in-None : goal.loop-at-smaller-in-None
+loop-at-smaller-in-None c = let test = c.loop-at-test.true in omega arith
+
+pub bounds-depths-from : goal.bounds-depths-from
+bounds-depths-from c = let within = c.in-Some.ensures.within in let size = c.loop-at.invariant.depths_size in omega arith
+
+pub bounds-depths-clock : goal.bounds-depths-clock
+bounds-depths-clock c = let within = c.in-Some.ensures.within in let size = c.loop-at.invariant.depths_size in omega arith
+
+pub bounds-roots-clock : goal.bounds-roots-clock
+bounds-roots-clock c = let within = c.in-Some.ensures.within in let size = c.loop-at.invariant.size in omega arith
+
+pub bounds-rates-clock : goal.bounds-rates-clock
+bounds-rates-clock c = let within = c.in-Some.ensures.within in let size = c.loop-at.invariant.rates_size in omega arith
+
+pub bounds-parents-clock : goal.bounds-parents-clock
+bounds-parents-clock c = let within = c.in-Some.ensures.within in let size = c.loop-at.invariant.parents_size in omega arith
+
+pub bounds-firsts-clock : goal.bounds-firsts-clock
+bounds-firsts-clock c = let within = c.in-Some.ensures.within in let size = c.loop-at.invariant.size in let firsts = c.requires.firsts.size in omega arith
+
+pub returns-in_err-rate-in-Some-clause-kept : goal.returns-in_err-rate-in-Some-clause-kept
+returns-in_err-rate-in-Some-clause-kept c = c.loop-at.invariant.kept
+
+pub returns-in_err-rate-in-Some-clause-deep : goal.returns-in_err-rate-in-Some-clause-deep
+returns-in_err-rate-in-Some-clause-deep c = c.loop-at.invariant.deep
+
+pub returns-in_err-rate-in-Some-clause-sizes : goal.returns-in_err-rate-in-Some-clause-sizes
+returns-in_err-rate-in-Some-clause-sizes c =
+    let i = c.loop-at.invariant in
+    (i.size, i.parents_size ∙ i.size, i.depths_size ∙ i.size, i.rates_size ∙ i.size)
+
+pub returns-clause-kept : goal.returns-clause-kept
+returns-clause-kept c = c.loop-at.invariant.kept
+
+pub returns-clause-deep : goal.returns-clause-deep
+returns-clause-deep c = c.loop-at.invariant.deep
+
+pub returns-clause-sizes : goal.returns-clause-sizes
+returns-clause-sizes c =
+    let i = c.loop-at.invariant in
+    (i.size, i.parents_size ∙ i.size, i.depths_size ∙ i.size, i.rates_size ∙ i.size)
 
 pub loop-at-preserved-in-None : goal.loop-at-preserved-in-None
 loop-at-preserved-in-None c =

@@ -1,15 +1,35 @@
 use Rattle.std.proofs.Common.{◌≡◌, ℕ, length, get_or, set, [], sym, ap, subst, refl, arith}
+use Rattle.std.specs.List.{All}
 use Rattle.std.proofs.Math.Nat.{dvd-mul_left}
 use Rattle.std.proofs.lemmas.List.{length-set, get_or-set_same}
 use Rattle.std.proofs.lemmas.Result.{IfOk-weaker, IfErr-weaker}
 use Rattle.lucy_rates.specs.declared.fraction.Fraction.{Fraction}
 use Rattle.lucy_rates.specs.Forests.{no_rate, rate_at, IsRateFraction}
-use Rattle.lucy_rates.specs.Growing.{no_number, IsGrowing, HasLargeFrom}
-use Rattle.lucy_rates.proofs.Planting.{growth_start, rated_start, planting_of, planted_step, with_tree, large_rate}
+use Rattle.lucy_need.specs.Meeting.{IsWithin}
+use Rattle.lucy_rates.specs.Growing.{no_number, IsGrowing, AreFirstNeeds, HasLargeFrom}
+use Rattle.lucy_rates.proofs.Planting.{planted_on, deep_start, growth_start, rated_start, planting_of, planted_step, with_tree, large_rate}
 use Rattle.lucy_rates.proofs.forest.plant.Goals as goal
 
 unit_rate : IsRateFraction (record { num = 1; den = 1 })
 unit_rate = record { lowest = (dvd-mul_left 1 1, dvd-mul_left 1 1, λ d a b. a); num = omega arith; den = omega arith; num_few = omega arith; den_few = omega arith }
+
+pub returns-then-roots-clock-clause-planted : goal.returns-then-roots-clock-clause-planted
+returns-then-roots-clock-clause-planted c =
+    let p = c.requires.planted in
+    (p.0, planted_on c.args.needs.now (length c.args.roots.now) c.args.root p.0 c.args.roots.now c.args.parents.now c.args.depths.now c.args.rates.now p.1 c.if-roots-clock.true)
+
+pub grow_from-requires-clause-within : goal.grow_from-requires-clause-within
+grow_from-requires-clause-within c = subst (λ (x : ℕ). All (IsWithin x) c.args.needs.now) (sym (length-set c.args.roots.now c.args.root c.args.root)) c.requires.within
+
+pub grow_from-requires-clause-firsts : goal.grow_from-requires-clause-firsts
+grow_from-requires-clause-firsts c = subst (λ (x : ℕ). AreFirstNeeds c.args.needs.now x c.args.firsts.now) (sym (length-set c.args.roots.now c.args.root c.args.root)) c.requires.firsts
+
+pub grow_from-requires-clause-deep : goal.grow_from-requires-clause-deep
+grow_from-requires-clause-deep c =
+    let sizes = c.requires.sizes in
+    let inside = c.requires.root in
+    let few = c.requires.clocks in
+    deep_start c.args.roots.now c.args.depths.now c.args.root c.requires.deep inside (omega arith) c.if-roots-clock.false (λ e. absurd (omega arith))
 
 pub grow_from-requires-clause-start : goal.grow_from-requires-clause-start
 grow_from-requires-clause-start c =

@@ -1,10 +1,13 @@
-use Rattle.std.proofs.Common.{◌≡◌, ℕ, List, length, subst, sym, ap, arith}
+use Rattle.std.proofs.Common.{◌≡◌, ℕ, List, length, inr, subst, sym, ap, arith}
 use Rattle.std.specs.List.{All, AllByRecursion}
 use Rattle.std.proofs.lemmas.List.Elements.{All-from_recursion}
 use Rattle.lucy_need.specs.Meeting.{IsWithin}
 use Rattle.lucy_need.specs.Stored.{HasWords}
 use Rattle.lucy_need.specs.declared.need.Need.{Need}
 use Rattle.lucy_rates.specs.Forests.{IsForest}
+use Rattle.lucy_rates.specs.Vectors.{AreBalanced}
+use Rattle.lucy_rates.specs.Walks.{IsUnequalWalk}
+use Rattle.lucy_rates.specs.Trees.{IsFirstUnequal}
 use Rattle.lucy_rates.specs.Growing.{IsGrown}
 use Rattle.lucy_rates.proofs.rating.balanced.Goals as goal
 
@@ -40,3 +43,14 @@ walk_of-requires c =
       uneven = found.1;
       before = found.2;
     }
+
+pub returns-in-None-clause-balanced : goal.returns-in-None-clause-balanced
+returns-in-None-clause-balanced c = subst AreBalanced c.list-list.ensures c.in-None.ensures.none
+
+pub returns-in_ok-walk_of-in-Some-clause-refused : goal.returns-in_ok-walk_of-in-Some-clause-refused
+returns-in_ok-walk_of-in-Some-clause-refused c =
+    let walk = c.in_ok-walk_of-in-Some.field-0.items in
+    inr (
+      subst (λ (list : List Need). IsFirstUnequal list walk) c.list-list.ensures c.in_ok-walk_of-in-Some.ensures.first,
+      subst (λ (list : List Need). IsUnequalWalk list walk) c.list-list.ensures c.in_ok-walk_of-in-Some.ensures.unequal,
+    )

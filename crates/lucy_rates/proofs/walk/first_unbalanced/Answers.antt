@@ -1,4 +1,4 @@
-use Rattle.std.proofs.Common.{ℕ, List, length, sym, subst, below_more}
+use Rattle.std.proofs.Common.{ℕ, List, length, sym, subst, below_more, arith}
 use Rattle.lucy_need.specs.Meeting.{IsWithin}
 use Rattle.lucy_need.specs.declared.need.Need.{Need}
 use Rattle.lucy_rates.specs.declared.fraction.Fraction.{Fraction}
@@ -15,6 +15,15 @@ record Asks (n : Need) (rates : List Fraction) : Type 0 where
   within : IsWithin (length rates) n
   first : IsRateFraction (rate_at rates (first_of n).clock)
   second : IsRateFraction (rate_at rates (second_of n).clock)
+
+pub loop-k-init : goal.loop-k-init
+loop-k-init c = λ j l. absurd (omega arith)
+
+pub overflow_cast-result : goal.overflow_cast-result
+overflow_cast-result c = let t = c.loop-k-test.true in let few = c.requires.few in omega arith
+
+pub returns-clause-none : goal.returns-clause-none
+returns-clause-none c = λ j l. c.loop-k.invariant j (let t = c.loop-k-test.false in omega arith)
 
 pub is_even-requires : goal.is_even-requires
 is_even-requires c =

@@ -1,4 +1,4 @@
-use Rattle.std.proofs.Common.{sym, ◌∙◌, subst}
+use Rattle.std.proofs.Common.{ap, sym, ◌∙◌, subst}
 use Rattle.std.proofs.lemmas.Result.{IfOk-at_ok}
 use Rattle.std.specs.Prelude.{◌≡◌, length, List}
 use Rattle.lucy_clock.specs.declared.node_clock.NodeClock.{NodeClock}
@@ -7,7 +7,7 @@ use Rattle.lucy_host.specs.Host.{lent}
 use Rattle.lucy_host.specs.Operators.{kinds_of}
 use Rattle.lucy_flat.specs.Clocked.{AreClocked}
 use Rattle.lucy_results.specs.Running.{HasSchedule}
-use Rattle.lucy_run.proofs.AcceptedLaws.{few_inputs, inputs_count, scheduled}
+use Rattle.lucy_run.proofs.AcceptedLaws.{few_inputs, inputs_count, outputs_count, scheduled}
 use Rattle.lucy_run.proofs.EndsLaws.{kahn_given_up, kahn_done}
 use Rattle.lucy_run.proofs.interpreting.kahn.Goals as goal
 
@@ -32,6 +32,10 @@ pub write_interpreted-requires-clause-scheduled : goal.write_interpreted-require
 write_interpreted-requires-clause-scheduled g c = λ κs within.
     let P : List NodeClock → Type 0 = λ u. HasSchedule c.args.accepted.placed.nodes u in
     subst P (sym c.deref.ensures.value) (scheduled _ c.requires.accepted.0 c.requires.accepted.1 c.args.accepted c.requires.accepted.2)
+
+pub write_interpreted-requires-clause-outputs : goal.write_interpreted-requires-clause-outputs
+write_interpreted-requires-clause-outputs g c = λ κs within.
+    ap length c.deref-2.ensures.value ∙ outputs_count _ c.requires.accepted.0 c.requires.accepted.1 c.args.accepted c.requires.accepted.2
 
 pub write_interpreted-requires-clause-inputs : goal.write_interpreted-requires-clause-inputs
 write_interpreted-requires-clause-inputs g c = λ κs within.

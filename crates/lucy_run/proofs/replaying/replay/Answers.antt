@@ -1,10 +1,10 @@
-use Rattle.std.proofs.Common.{◌≡◌, [], length, sym, refl, inl, ◌∙◌, subst}
+use Rattle.std.proofs.Common.{◌≡◌, [], length, ap, sym, refl, inl, ◌∙◌, subst}
 use Rattle.std.proofs.lemmas.Result.{IfOk-at_ok}
 use Rattle.lucy_host.specs.Host.{lent}
 use Rattle.lucy_output.proofs.SinkLaws.{unwritten}
 use Rattle.lucy_feed.specs.declared.feeds.Feed.{Feed}
 use Rattle.lucy_flat.specs.Clocked.{AreClocked}
-use Rattle.lucy_run.proofs.AcceptedLaws.{few_inputs, inputs_count}
+use Rattle.lucy_run.proofs.AcceptedLaws.{few_inputs, inputs_count, outputs_count}
 use Rattle.lucy_run.proofs.ReplayLaws.{replay_done}
 use Rattle.lucy_run.proofs.replaying.replay.Goals as goal
 
@@ -24,6 +24,10 @@ replay_feed-requires-clause-clocked g c = λ κs within.
 pub replay_feed-requires-clause-known : goal.replay_feed-requires-clause-known
 replay_feed-requires-clause-known g c = λ κs within.
     c.accepted_programs_are_clocked.ensures.operators (lent c.args.host.now) c.requires.accepted.1 c.requires.accepted.0 c.args.accepted c.requires.accepted.2
+
+pub replay_feed-requires-clause-outputs : goal.replay_feed-requires-clause-outputs
+replay_feed-requires-clause-outputs g c = λ κs within.
+    ap length c.deref-2.ensures.value ∙ outputs_count _ c.requires.accepted.0 c.requires.accepted.1 c.args.accepted c.requires.accepted.2
 
 pub replay_feed-requires-clause-inputs : goal.replay_feed-requires-clause-inputs
 replay_feed-requires-clause-inputs g c = λ κs within.

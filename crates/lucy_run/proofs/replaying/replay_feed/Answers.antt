@@ -2,7 +2,7 @@ use Rattle.std.proofs.Common.{◌≤◌, List, length, ap, sym, refl, ◌∙◌,
 use Rattle.lucy_word.specs.Bits.{Bits}
 use Rattle.lucy_host.specs.Host.{lent}
 use Rattle.lucy_host.specs.Operators.{Operator}
-use Rattle.lucy_core.specs.Seen.{Seen, MakesCore, done_of, first_seen}
+use Rattle.lucy_core.specs.Seen.{Seen, CanMakeCore, done_of, first_seen}
 use Rattle.lucy_results.specs.Streams.{param_words}
 use Rattle.lucy_results.proofs.StreamLaws.{params_count}
 use Rattle.lucy_results.proofs.OutputLaws.{first_unbegun}
@@ -28,7 +28,7 @@ new-requires g c =
     let early : c.in-Ok.extent.horizon ≤ 1048576 = omega (arith, horizon_is.within, few_most c.args.given c.requires.few) in
     let fixed = c.nets_can_be_run.ensures.fixed nodes c.args.clocks.now c.args.net c.args.schedule c.args.feed.items (lent c.args.host.now) c.in-Ok.extent.horizon c.nodes.ensures.proper
     c.requires.known c.requires.flat c.requires.sound horizon_is.suffice early in
-    subst (λ (ops : List Operator). MakesCore c.args.net c.args.schedule c.args.feed.items ops c.in-Ok.extent.horizon) (sym c.ops.ensures) fixed
+    subst (λ (ops : List Operator). CanMakeCore c.args.net c.args.schedule c.args.feed.items ops c.in-Ok.extent.horizon) (sym c.ops.ensures) fixed
 
 pub judge-requires-clause-unbegun : goal.judge-requires-clause-unbegun
 judge-requires-clause-unbegun g c κs within = λ a.

@@ -1,6 +1,6 @@
 use Rattle.std.proofs.Common.{List, ap, sym, ◌∙◌, subst}
 use Rattle.lucy_host.specs.Operators.{Operator, kinds_of}
-use Rattle.lucy_core.specs.Seen.{Seen, MakesCore, done_of}
+use Rattle.lucy_core.specs.Seen.{Seen, CanMakeCore, done_of}
 use Rattle.lucy_runner.specs.Views.{RunnerView}
 use Rattle.lucy_results.proofs.OutputLaws.{first_unbegun}
 use Rattle.lucy_run.proofs.TracingLaws.{front_nothing, stand_together, traced_beside}
@@ -9,13 +9,13 @@ use Rattle.lucy_run.proofs.tracing.trace_net.Goals as goal
 pub second_core-requires-clause-fixed : goal.second_core-requires-clause-fixed
 second_core-requires-clause-fixed g c = (
   c.args.schedule,
-  subst (λ (ops : List Operator). MakesCore c.args.net c.args.schedule c.args.inputs ops c.args.extent.horizon) (sym c.ops.ensures)
+  subst (λ (ops : List Operator). CanMakeCore c.args.net c.args.schedule c.args.inputs ops c.args.extent.horizon) (sym c.ops.ensures)
       c.requires.fixed,
 )
 
 pub new_runner-requires-clause-fixed : goal.new_runner-requires-clause-fixed
 new_runner-requires-clause-fixed g c =
-    subst (λ (ops : List Operator). MakesCore c.args.net c.args.schedule c.args.inputs ops c.args.extent.horizon) (sym c.ops-2.ensures)
+    subst (λ (ops : List Operator). CanMakeCore c.args.net c.args.schedule c.args.inputs ops c.args.extent.horizon) (sym c.ops-2.ensures)
     c.requires.fixed
 
 pub trace_pair-requires-clause-kinds : goal.trace_pair-requires-clause-kinds

@@ -4,11 +4,32 @@ use Rattle.std.proofs.lemmas.Option.{slice_get_read}
 use Rattle.std.proofs.lemmas.List.{length-map}
 use Rattle.lucy_net.specs.declared.net.RingSpec.{RingSpec}
 use Rattle.lucy_runner.specs.Crews.{seated, crew_of}
-use Rattle.lucy_runner.proofs.MeetAllLaws.{none_met, next_met, all_met, can_meet, CanMeet}
+use Rattle.lucy_runner.proofs.MeetAllLaws.{none_met, next_met, all_met, ends_there, can_meet, CanMeet}
 use Rattle.lucy_runner.proofs.meeting.meet_all.Goals as goal
 
 pub loop-r-init : goal.loop-r-init
 loop-r-init c = none_met (crew_of c.args.seats.now) c.args.places.now c.args.ends.now c.args.rings.now c.requires.joined
+
+pub bounds-places-ring : goal.bounds-places-ring
+bounds-places-ring c =
+    let n : ℕ = c.loop-r.r in
+    let ring : RingSpec = c.index-rings-r.result in
+    let at : slice_get c.args.rings.now n ≡ Some ring = slice_get_read c.args.rings.now (length c.args.rings.now) n ring refl c.loop-r-test.true c.index-rings-r.is in
+    (ends_there (crew_of c.args.seats.now) c.args.places.now c.args.ends.now n ring (c.requires.joined n ring at)).0
+
+pub bounds-places-ring-in-loop-r : goal.bounds-places-ring-in-loop-r
+bounds-places-ring-in-loop-r c =
+    let n : ℕ = c.loop-r.r in
+    let ring : RingSpec = c.index-rings-r.result in
+    let at : slice_get c.args.rings.now n ≡ Some ring = slice_get_read c.args.rings.now (length c.args.rings.now) n ring refl c.loop-r-test.true c.index-rings-r.is in
+    (ends_there (crew_of c.args.seats.now) c.args.places.now c.args.ends.now n ring (c.requires.joined n ring at)).1
+
+pub bounds-ends-r : goal.bounds-ends-r
+bounds-ends-r c =
+    let n : ℕ = c.loop-r.r in
+    let ring : RingSpec = c.index-rings-r.result in
+    let at : slice_get c.args.rings.now n ≡ Some ring = slice_get_read c.args.rings.now (length c.args.rings.now) n ring refl c.loop-r-test.true c.index-rings-r.is in
+    (ends_there (crew_of c.args.seats.now) c.args.places.now c.args.ends.now n ring (c.requires.joined n ring at)).2
 
 pub meet_at-requires : goal.meet_at-requires
 meet_at-requires c =

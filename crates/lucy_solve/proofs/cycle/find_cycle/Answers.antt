@@ -1,5 +1,5 @@
-use Rattle.std.proofs.Common.{ℕ, ◌-◌, get_or, drop, reverse, List, ap, ◌∙◌, arith}
-use Rattle.lucy_solve.proofs.Climbs.{climb_first}
+use Rattle.std.proofs.Common.{ℕ, ◌-◌, length, get_or, drop, reverse, List, ap, ◌∙◌, arith}
+use Rattle.lucy_solve.proofs.Climbs.{climb_first, climb_few}
 use Rattle.lucy_solve.proofs.Forests.{climb_next, climb_over}
 use Rattle.lucy_solve.proofs.Rounds.{climb_closed}
 use Rattle.lucy_solve.proofs.cycle.find_cycle.Goals as goal
@@ -18,3 +18,21 @@ loop-start-preserved c =
 
 pub returns : goal.returns
 returns c = climb_over _ _ _ _ _ _ _ c.loop-start.invariant.0 c.loop-start.invariant.1 c.requires.targets (let a = c.count-start-end.ensures.count in omega arith)
+
+pub reversed_from-requires : goal.reversed_from-requires
+reversed_from-requires c =
+    let top = c.in_ok-at.ensures.climbed.top c.in_ok-at.at in
+    let path = ap (λ (p : List ℕ). length p) c.deref.ensures.value in
+    omega arith
+
+pub overflow_cast-before : goal.overflow_cast-before
+overflow_cast-before c =
+    let path = climb_few _ _ _ _ _ _ _ c.in_ok-at.ensures.climbed c.requires.targets in
+    let few = c.requires.few in
+    omega arith
+
+pub overflow_add-before : goal.overflow_add-before
+overflow_add-before c =
+    let path = climb_few _ _ _ _ _ _ _ c.in_ok-at.ensures.climbed c.requires.targets in
+    let few = c.requires.few in
+    omega arith

@@ -1,4 +1,4 @@
-use Rattle.std.proofs.Common.{ℕ, Some, None, refl, ap, sym, arith, ◌∙◌}
+use Rattle.std.proofs.Common.{ℕ, Some, None, refl, ap, sym, arith, ◌∙◌, inl, inr}
 use Rattle.std.specs.Prelude.{unwrap_or}
 use Rattle.std.proofs.lemmas.Result.{IfOk-weaker}
 use Rattle.lucy_word.specs.Bits.{Bits}
@@ -16,7 +16,7 @@ use Rattle.lucy_grammar.proofs.Growing.{grown_first, grown_more, grown_bad, grow
 use Rattle.lucy_grammar.proofs.LeafProductions.{begun, unbegun, one_expr}
 use Rattle.lucy_grammar.proofs.Productions as by
 use Rattle.lucy_syntax.specs.Levels.{UnfitAt}
-use Rattle.lucy_syntax.specs.Refusals.{behind_test, behind_base}
+use Rattle.lucy_syntax.specs.Refusals.{UnfitInner, behind_test, behind_base}
 use Rattle.lucy_syntax.specs.Views.{all_trees}
 use Rattle.lucy_syntax.proofs.Leaving.{leaves, hands_on}
 use Rattle.lucy_syntax.proofs.Parts as parts
@@ -153,25 +153,22 @@ held-returns-in_err-operand-2-clause-refused t c =
 pub held-returns-clause-ok : goal.held-returns-clause-ok
 held-returns-clause-ok t c = by.held_form (fails c.at_literal.ensures.1 c.if-at_literal.false) c.in_ok-operand-2.ensures.ok
 
-pub behind_bound-returns-in_err-inner-clause-refused : goal.behind_bound-returns-in_err-inner-clause-refused
-behind_bound-returns-in_err-inner-clause-refused t c =
-    leaves (Unfit Part.Expr c.in_ok-ts.ts.now) _ c.from_residual-in_err-inner.result c.from_residual-in_err-inner.ensures.1 c.in_err-inner.ensures.refused (λ rest u. by.held_parens_2 c.in_ok-ts.ensures.ok.1 u)
-
-pub behind_bound-returns-in_err-ts-2-clause-refused : goal.behind_bound-returns-in_err-ts-2-clause-refused
-behind_bound-returns-in_err-ts-2-clause-refused t c =
-    leaves (IsOther c.in_ok-inner.ts.now (kind.Mark mark.Close)) _ c.from_residual-in_err-ts-2.result c.from_residual-in_err-ts-2.ensures.1 c.in_err-ts-2.ensures.refused (λ rest u. by.held_parens_3 c.in_ok-ts.ensures.ok.1 c.in_ok-inner.ensures.ok u)
+pub behind_bound-returns-in_err-operand-clause-refused : goal.behind_bound-returns-in_err-operand-clause-refused
+behind_bound-returns-in_err-operand-clause-refused t c =
+    leaves (UnfitInner c.args.ts.now) _ c.from_residual.result c.from_residual.ensures.1 c.in_err-operand.ensures.refused (λ rest u. parts.held_inner_no c.args.ts.now rest (c.at.ensures.0 c.if-at.true) u)
 
 pub behind_bound-returns-then-at-clause-ok : goal.behind_bound-returns-then-at-clause-ok
 behind_bound-returns-then-at-clause-ok t c =
-    (Some (None, tree_of c.in_ok-inner.inner.value), by.held_parens c.in_ok-ts.ensures.ok.1 c.in_ok-inner.ensures.ok c.in_ok-ts-2.ensures.ok.1, refl)
+    let r = c.in_ok-operand.ensures.ok in
+    (Some (None, tree_of c.in_ok-operand.operand.value), by.held_parens r.4 r.5 r.6, refl)
 
-pub behind_bound-returns-in_err-operand-clause-refused : goal.behind_bound-returns-in_err-operand-clause-refused
-behind_bound-returns-in_err-operand-clause-refused t c =
-    leaves (UnfitOptional Part.Followed c.args.ts.now) _ c.from_residual-in_err-operand.result c.from_residual-in_err-operand.ensures.1 c.in_err-operand.ensures.refused (λ rest u. by.held_followed_1 u)
+pub behind_bound-returns-in_err-operand-2-clause-refused : goal.behind_bound-returns-in_err-operand-2-clause-refused
+behind_bound-returns-in_err-operand-2-clause-refused t c =
+    leaves (UnfitOptional Part.Followed c.args.ts.now) _ c.from_residual-in_err-operand-2.result c.from_residual-in_err-operand-2.ensures.1 c.in_err-operand-2.ensures.refused (λ rest u. by.held_followed_1 u)
 
 pub behind_bound-returns-clause-ok : goal.behind_bound-returns-clause-ok
 behind_bound-returns-clause-ok t c =
-    let r = c.in_ok-operand.ensures.ok in
+    let r = c.in_ok-operand-2.ensures.ok in
     (by.held_of r.0, by.held_followed _ _ r.0 (fails c.at.ensures.1 c.if-at.false) r.1, pair_of refl r.2 ∙ sym (by.held_before c.args.most (c.args.number, c.args.span) r.0))
 
 pub merged-returns-in_err-word-clause-refused : goal.merged-returns-in_err-word-clause-refused
@@ -226,6 +223,21 @@ atom-returns-in_err-ts-2-clause-refused t c =
 pub atom-returns-clause-ok : goal.atom-returns-clause-ok
 atom-returns-clause-ok t c = by.parens c.in_ok-ts.ensures.ok.1 c.in_ok-inner.ensures.ok c.in_ok-ts-2.ensures.ok.1
 
+pub inner-returns-in_err-ts-clause-refused : goal.inner-returns-in_err-ts-clause-refused
+inner-returns-in_err-ts-clause-refused t c =
+    leaves (IsOther c.args.ts.now (kind.Mark mark.Open)) _ c.from_residual.result c.from_residual.ensures.1 c.in_err-ts.ensures.refused (λ rest u. inl u)
+
+pub inner-returns-in_err-inner-clause-refused : goal.inner-returns-in_err-inner-clause-refused
+inner-returns-in_err-inner-clause-refused t c =
+    leaves (Unfit Part.Expr c.in_ok-ts.ts.now) _ c.from_residual-in_err-inner.result c.from_residual-in_err-inner.ensures.1 c.in_err-inner.ensures.refused (λ rest u. inr (inl (c.in_ok-ts.ensures.ok.0, c.in_ok-ts.ts.now, c.in_ok-ts.ensures.ok.1, u)))
+
+pub inner-returns-in_err-ts-2-clause-refused : goal.inner-returns-in_err-ts-2-clause-refused
+inner-returns-in_err-ts-2-clause-refused t c =
+    leaves (IsOther c.in_ok-inner.ts.now (kind.Mark mark.Close)) _ c.from_residual-in_err-ts-2.result c.from_residual-in_err-ts-2.ensures.1 c.in_err-ts-2.ensures.refused (λ rest u. inr (inr (c.in_ok-ts.ensures.ok.0, c.in_ok-ts.ts.now, tree_of c.in_ok-inner.inner.value, c.in_ok-inner.ts.now, c.in_ok-ts.ensures.ok.1, c.in_ok-inner.ensures.ok, u)))
+
+pub inner-returns-clause-ok : goal.inner-returns-clause-ok
+inner-returns-clause-ok t c = (c.in_ok-ts.ensures.ok.0, c.in_ok-ts-2.ensures.ok.0, c.in_ok-ts.ts.now, c.in_ok-inner.ts.now, c.in_ok-ts.ensures.ok.1, c.in_ok-inner.ensures.ok, c.in_ok-ts-2.ensures.ok.1)
+
 pub named-returns-then-at_applied-clause-ok : goal.named-returns-then-at_applied-clause-ok
 named-returns-then-at_applied-clause-ok t c = IfOk-weaker c.applied.result _ _ (λ p r. as_value (r.2 ∙ ap (λ (x : name.Name). call x r.0.0 r.0.1) c.in_ok-name.ensures.ok.2) (by.name (Some r.0) c.in_ok-name.ensures.ok.1 ((c.at_applied.ensures.0 c.if-at_applied.true), r.1))) c.applied.ensures.ok
 
@@ -279,20 +291,11 @@ small-returns-then-at_literal-clause-ok t c = as_value c.in_ok-literal.ensures (
 pub small-returns-then-at-clause-ok : goal.small-returns-then-at-clause-ok
 small-returns-then-at-clause-ok t c = as_value (c.in_ok-variable.ensures ∙ ap variable c.in_ok-name.ensures.ok.2) (by.small_name c.in_ok-name.ensures.ok.1)
 
-pub small-returns-in_err-ts-clause-refused : goal.small-returns-in_err-ts-clause-refused
-small-returns-in_err-ts-clause-refused t c =
-    leaves (IsOther c.args.ts.now (kind.Mark mark.Open)) _ c.from_residual-in_err-ts.result c.from_residual-in_err-ts.ensures.1 c.in_err-ts.ensures.refused (λ rest u. by.small_parens_1 ((fails c.at_literal.ensures.1 c.if-at_literal.false), (fails c.at.ensures.1 c.if-at.false)) u)
-
-pub small-returns-in_err-inner-clause-refused : goal.small-returns-in_err-inner-clause-refused
-small-returns-in_err-inner-clause-refused t c =
-    leaves (Unfit Part.Expr c.in_ok-ts.ts.now) _ c.from_residual-in_err-inner.result c.from_residual-in_err-inner.ensures.1 c.in_err-inner.ensures.refused (λ rest u. by.small_parens_2 c.in_ok-ts.ensures.ok.1 u)
-
-pub small-returns-in_err-ts-2-clause-refused : goal.small-returns-in_err-ts-2-clause-refused
-small-returns-in_err-ts-2-clause-refused t c =
-    leaves (IsOther c.in_ok-inner.ts.now (kind.Mark mark.Close)) _ c.from_residual-in_err-ts-2.result c.from_residual-in_err-ts-2.ensures.1 c.in_err-ts-2.ensures.refused (λ rest u. by.small_parens_3 c.in_ok-ts.ensures.ok.1 c.in_ok-inner.ensures.ok u)
-
 pub small-returns-clause-ok : goal.small-returns-clause-ok
-small-returns-clause-ok t c = by.small_parens c.in_ok-ts.ensures.ok.1 c.in_ok-inner.ensures.ok c.in_ok-ts-2.ensures.ok.1
+small-returns-clause-ok t c = IfOk-weaker c.inner.result _ _ (λ p r. by.small_parens r.4 r.5 r.6) c.inner.ensures.ok
+
+pub small-returns-clause-refused : goal.small-returns-clause-refused
+small-returns-clause-refused t c = hands_on c.inner.result c.inner.ensures.refused (λ rest u. parts.small_inner_no c.args.ts.now rest (fails c.at_literal.ensures.1 c.if-at_literal.false) (fails c.at.ensures.1 c.if-at.false) u)
 
 pub applied-returns-in_err-base-clause-refused : goal.applied-returns-in_err-base-clause-refused
 applied-returns-in_err-base-clause-refused t c =

@@ -6,7 +6,7 @@ use Rattle.lucy_types.specs.Tables.{table_at}
 use Rattle.lucy_front.specs.Names.{of_one}
 use Rattle.lucy_front.specs.Report.{node_lines}
 use Rattle.lucy_front.proofs.ReportLaws.{four_new}
-use Rattle.lucy_tight.specs.Report.{printed_size, less_lines}
+use Rattle.lucy_tight.specs.Report.{size_text, less_lines}
 use Rattle.lucy_tight.proofs.ReportLaws.{told_sizes, told_clocks, told_variables, told_there}
 use Rattle.lucy_tight.proofs.report.report_tight.Goals as goal
 
@@ -35,9 +35,9 @@ returns c =
     let least : List ℕ = codes "least " ++ (decimal t.least ++ codes "\n") in
     let own : PlacedNode → List ℕ = λ m. node_lines a.placed.nodes (nat_eq (c.args.node + 1) (length a.placed.nodes)) m (table_at a.typed c.args.node) t.clocks in
     let lines = c.deref.ensures.value ∙ c.in_ok-lines.ensures n is in
-    four_new (printed_size n c.args.buffer t.printed) least (own n)
+    four_new (size_text n c.args.buffer t.printed) least (own n)
     (less_lines n t.least t) c.new-out.result.items c.put_size.new.out.items c.put_least.new.out.items c.bytes.new.out.items
     c.put_evidence.new.out.items c.new-out.ensures.items c.in_ok-put_size.ensures c.in_ok-put_least.ensures
     (c.in_ok-bytes.ensures ∙ ap (λ l. c.put_least.new.out.items ++ l) lines) (c.in_ok-put_evidence.ensures n is)
-    ∙ sym (ap (of_one (λ m. printed_size m c.args.buffer t.printed ++ (least
+    ∙ sym (ap (of_one (λ m. size_text m c.args.buffer t.printed ++ (least
     ++ (own m ++ less_lines m t.least t)))) is)

@@ -1,12 +1,31 @@
-use Rattle.std.proofs.Common.{◌<◌, List, ℕ, ap, sym, subst}
-use Rattle.lucy_text.specs.Outside.{Fails}
+use Rattle.std.proofs.Common.{◌<◌, List, ℕ, subst}
+use Rattle.lucy_text.specs.Outside.{Writes, Fails}
 use Rattle.lucy_core.specs.Seen.{Seen}
 use Rattle.lucy_runner.specs.Left.{events_left}
 use Rattle.lucy_trace.specs.Traces.{round_line}
 use Rattle.lucy_trace.proofs.CatchingLaws.{HasRuns}
-use Rattle.lucy_tracing.proofs.RoundLaws.{always_ok}
+use Rattle.lucy_tracing.specs.Together.{AreTogether}
+use Rattle.lucy_tracing.specs.Progress.{IsRoundPrinted}
+use Rattle.lucy_tracing.proofs.RoundLaws.{always_ok, on_ok}
 use Rattle.lucy_tracing.proofs.TracingLaws.{less_left, line_fails}
 use Rattle.lucy_tracing.proofs.tracing.trace_round.Goals as goal
+
+pub returns-clause-printed : goal.returns-clause-printed
+returns-clause-printed g c =
+    let was = g.K.Sink.seen c.args.out.now in
+    let is = g.K.Sink.seen c.print.new.out in
+    let led = c.in_ok-picks.ensures.run in
+    on_ok c.print.result (Writes was is (round_line c.deref.result.now)) (IsRoundPrinted c.args.core.now c.round.new.core was is) c.print.ensures.ok
+    (λ written. record {
+      picks = c.in_ok-picks.picks.items;
+      some = c.in_ok-picks.ensures.some;
+      run = led.0;
+      here = led.1;
+      written = subst (λ (picks : List ℕ). Writes was is (round_line picks)) c.deref.ensures.value written;
+    })
+
+pub returns-clause-together : goal.returns-clause-together
+returns-clause-together g c = always_ok c.print.result (AreTogether c.round.new.core c.round.new.runner.seen) c.in_ok-picks.ensures.together
 
 pub returns-clause-less : goal.returns-clause-less
 returns-clause-less g c =

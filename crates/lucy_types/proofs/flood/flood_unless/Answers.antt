@@ -1,6 +1,9 @@
 use Rattle.std.proofs.Common.{length, ◌≡◌, arith}
-use Rattle.lucy_types.proofs.FloodLaws.{marked_read}
+use Rattle.lucy_types.proofs.FloodLaws.{unmarked_read, marked_read}
 use Rattle.lucy_types.proofs.flood.flood_unless.Goals as goal
+
+pub flood_from-requires-clause-unmarked : goal.flood_from-requires-clause-unmarked
+flood_from-requires-clause-unmarked c = unmarked_read c.args.flood.now c.args.place c.index.result.now c.index.ensures c.if-is_none.ensures
 
 pub returns-else-is_none-clause-reached : goal.returns-else-is_none-clause-reached
 returns-else-is_none-clause-reached c =

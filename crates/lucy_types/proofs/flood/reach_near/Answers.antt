@@ -3,7 +3,8 @@ use Rattle.std.proofs.lemmas.Option.{slice_get_read, same_Some}
 use Rattle.lucy_types.specs.declared.flood.Reached.{Reached as Step}
 use Rattle.lucy_types.specs.declared.rule.Rule.TheVariants.{Alike}
 use Rattle.lucy_types.specs.Flooding.{Floods}
-use Rattle.lucy_types.proofs.SpreadLaws.{near_read, near_alike, may_grow, all_reached}
+use Rattle.lucy_types.proofs.FloodLaws.{grows_on}
+use Rattle.lucy_types.proofs.SpreadLaws.{near_read, near_alike, may_grow, reached_more, all_reached}
 use Rattle.lucy_types.proofs.flood.reach_near.Goals as goal
 
 pub reach_unless-requires-clause-first : goal.reach_unless-requires-clause-first
@@ -43,6 +44,14 @@ reach_unless-requires-clause-may c =
     let list = near_read c.args.graph.now.near.items place c.list-near-items.result.now c.index-2.result.now inside.1 c.list-near-items.ensures c.index-2.ensures in
     let alike = near_alike c.args.graph.now place c.list-near-items.result.now c.each.near-index list c.each-test.true in
     may_grow c.args.graph.now c.args.flood.now c.each.flood place c.args.ty c.each.invariant.1 (c.requires.may c.index.result.now stands) (get_or c.list-near-items.result.now c.each.near-index 0) alike
+
+pub each-preserved : goal.each-preserved
+each-preserved c =
+    let h = c.in_ok-reach_unless.ensures in (
+      h.flood,
+      grows_on c.args.ty c.args.flood.now c.each.flood c.reach_unless.new.flood c.each.invariant.1 h.grows,
+      reached_more c.each.flood c.reach_unless.new.flood c.list-near-items.result.now c.each.near-index c.args.ty c.each.invariant.2 h.grows h.reaches,
+    )
 
 pub returns : goal.returns
 returns c = λ r e.

@@ -22,7 +22,7 @@ bounds-tys-place c =
 pub results-preserved : goal.results-preserved
 results-preserved c =
     mapped_next (λ p. slice_index_or c.args.tys.now (p - 1) ty.Int) (take c.args.params c.args.tys.now) c.results.list.items _ c.args.results.now c.results.place-index 0 c.results-test.true
-    c.in_ok-push-2.ensures.items c.results.invariant
+    c.in_ok-push.ensures.items c.results.invariant
 
 pub returns : goal.returns
 returns c =

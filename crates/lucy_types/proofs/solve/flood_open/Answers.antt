@@ -1,11 +1,17 @@
 use Rattle.std.proofs.Common.{◌≡◌, ◌+◌, length, inl, inr, arith}
-use Rattle.lucy_types.proofs.FloodLaws.{marked_read}
+use Rattle.lucy_types.proofs.FloodLaws.{unmarked_read, marked_read}
 use Rattle.lucy_types.proofs.SolveLaws.{open_none, open_step, open_all}
 use Rattle.lucy_types.proofs.solve.flood_open.Goals as goal
 use Rattle.lucy_types.proofs.solve.flood_open.Goals.{then-is_none+in_ok-flood_from, else-is_none}
 
 pub each-init : goal.each-init
 each-init c = open_none c.args.graph.now c.args.flood.now c.requires.settled c.requires.fixed
+
+pub flood_from-requires-clause-unmarked : goal.flood_from-requires-clause-unmarked
+flood_from-requires-clause-unmarked c = unmarked_read c.each.flood c.each.place c.index.result.now c.index.ensures c.if-is_none.ensures
+
+pub flood_from-requires-clause-fresh : goal.flood_from-requires-clause-fresh
+flood_from-requires-clause-fresh c = λ p e. omega (arith, (c.each.invariant.bounds p (c.each.classes + 1) e).1)
 
 pub each-preserved : goal.each-preserved
 each-preserved c =

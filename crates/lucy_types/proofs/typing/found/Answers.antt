@@ -1,45 +1,10 @@
-use Rattle.std.proofs.Common.{List, length, take, refl, subst, sym, arith}
-use Rattle.lucy_place.specs.declared.placed.PlacedNode.{PlacedNode}
-use Rattle.lucy_types.specs.declared.signature.Signature.{Signature}
-use Rattle.lucy_types.specs.Rules.{IsRule}
-use Rattle.lucy_types.specs.Typing.{AreTypes}
-use Rattle.lucy_types.specs.Clash.{IsClashPath}
+use Rattle.std.proofs.Common.{subst, arith}
+use Rattle.std.proofs.lemmas.List.{take_all}
 use Rattle.lucy_types.specs.Nodes.{tables_of}
-use Rattle.lucy_types.proofs.ListLaws.{get_there}
-use Rattle.lucy_types.proofs.NodeLaws.{types_found, clash_found, types_classes, signature_found, typed_next}
+use Rattle.lucy_types.specs.Programs.{IsTyped}
 use Rattle.lucy_types.proofs.typing.found.Goals as goal
 
-pub signature_of-requires-clause-classes : goal.signature_of-requires-clause-classes
-signature_of-requires-clause-classes c =
-    let n : PlacedNode = c.node-place.result.now in
-    let above : List PlacedNode = take c.each.node c.args.placed.now.nodes in
-    types_classes (IsRule above (tables_of c.deref.result.now) n) (length n.places) c.in-Types.tys.items
-    (types_found (IsRule above (tables_of c.deref.result.now) n) (length n.places) c.in_ok-tys.field-0 c.in-Types.tys.items c.in-Types.tys (c.in_ok-tys.ensures n c.node-place.ensures.is) c.in-Types.is refl)
-
-pub returns-in-Clash-clause-refused : goal.returns-in-Clash-clause-refused
-returns-in-Clash-clause-refused c =
-    let above : List PlacedNode = take c.each.node c.args.placed.now.nodes in
-    let end = c.nodes-node-end.ensures in
-    let n = get_there c.args.placed.now.nodes c.each.node (omega arith) in
-    record {
-      n = n.0;
-      found = n.1;
-      known = tables_of c.each.nodes.items;
-      above = c.each.invariant.typed;
-      clashes = subst (λ ss. IsClashPath (IsRule above (tables_of ss) n.0) c.in-Clash.path.items) c.deref.ensures.value
-          (clash_found (IsRule above (tables_of c.deref.result.now) n.0) (length n.0.places) c.in_ok-tys.field-0 c.in-Clash.path (c.in_ok-tys.ensures n.0 n.1) c.in-Clash.is);
-    }
-
-pub each-preserved : goal.each-preserved
-each-preserved c =
-    let n : PlacedNode = c.node-place.result.now in
-    let s : Signature = c.in_ok-signature-in-Types.signature in
-    let above : List PlacedNode = take c.each.node c.args.placed.now.nodes in
-    let types : AreTypes (IsRule above (tables_of c.deref.result.now) n) (length n.places) c.in-Types.tys.items =
-    types_found (IsRule above (tables_of c.deref.result.now) n) (length n.places) c.in_ok-tys.field-0 c.in-Types.tys.items c.in-Types.tys (c.in_ok-tys.ensures n c.node-place.ensures.is) c.in-Types.is refl in
-    let known = c.in_ok-signature-in-Types.ensures in
-    typed_next c.args.placed.now.nodes c.each.node n c.each.nodes.items c.keep.new.list.items s c.node-place.ensures.is c.each.invariant
-    (subst (λ ss. AreTypes (IsRule above (tables_of ss) n) (length n.places) s.tys.items) c.deref.ensures.value
-    (subst (λ ts. AreTypes (IsRule above (tables_of c.deref.result.now) n) (length n.places) ts) (sym known.tys) types))
-    (signature_found above n c.in-Types.tys.items c.list.result.now s c.node-place.ensures.proper types.all c.list.ensures known.tys known.ports known.heads)
-    c.in_ok-keep-in-Types.ensures
+pub returns-clause-ok : goal.returns-clause-ok
+returns-clause-ok c =
+    let end = c.nodes-node-end.ensures.count in
+    subst (λ ns. IsTyped ns (tables_of c.each.nodes.items)) (take_all c.each.node c.args.placed.now.nodes (omega arith)) c.each.invariant.typed

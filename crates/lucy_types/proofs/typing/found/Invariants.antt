@@ -1,4 +1,4 @@
-use Rattle.lucy_types.proofs.NodeLaws.{AreTyped}
+use Rattle.lucy_types.specs.Nodes.{AreTyped}
 use Rattle.lucy_types.proofs.typing.found.Given as goal
 
 abbrev pub invariant-each : goal.invariant-each

@@ -4,7 +4,7 @@ use Rattle.lucy_host.specs.Operators.{kinds_of}
 use Rattle.lucy_net.specs.declared.net.Net.{Net}
 use Rattle.lucy_net.specs.Proper.{IsProper}
 use Rattle.lucy_cause.specs.Schedules.{IsScheduleOf}
-use Rattle.lucy_core.specs.Seen.{MakesCore}
+use Rattle.lucy_core.specs.Seen.{CanMakeCore}
 use Rattle.lucy_results.specs.Streams.{main_stream}
 use Rattle.lucy_results.proofs.OutputLaws.{main_here}
 use Rattle.lucy_wave.specs.Watching.{HasRoom}
@@ -86,7 +86,7 @@ play_all-requires-clause-fixed g c κs within =
     let room = subst (λ ps. HasRoom c.args.net (length ps)) places_are told.0 in
     let is = told.1 ∙ same_more nodes clocks c.args.net c.nodes.ensures.proper r.clocked r.flat c.args.lists c.args.instants ops c.args.schedule fixed main main_is words (length results) c.deref.result.now c.main_words-words.ensures (ap length c.list-results.ensures) places_are in
     let s = c.in-Some.watched.schedule in
-    subst (λ (n : Net). MakesCore n s c.args.lists ops c.args.instants) (sym is) (more_fixed nodes clocks c.args.net c.nodes.ensures.proper r.clocked r.flat c.args.lists c.args.instants ops c.args.schedule fixed main main_is room s r.early (subst (λ (n : Net). IsScheduleOf n s) is told.2))
+    subst (λ (n : Net). CanMakeCore n s c.args.lists ops c.args.instants) (sym is) (more_fixed nodes clocks c.args.net c.nodes.ensures.proper r.clocked r.flat c.args.lists c.args.instants ops c.args.schedule fixed main main_is room s r.early (subst (λ (n : Net). IsScheduleOf n s) is told.2))
 
 pub play_all-requires-clause-grown : goal.play_all-requires-clause-grown
 play_all-requires-clause-grown g c κs within =

@@ -1,9 +1,31 @@
-use Rattle.std.proofs.Common.{◌≡◌, List, ap, sym, ◌∙◌}
+use Rattle.std.proofs.Common.{◌≡◌, List, ap, sym, ◌∙◌, arith}
 use Rattle.lucy_ring.specs.Views.{GiverView, TakerView}
 use Rattle.lucy_worker.specs.declared.part.Part.{Part}
 use Rattle.lucy_worker.specs.Views.{WorkerView}
-use Rattle.lucy_worker.proofs.MeetLaws.{read_is, read_at, giver_set, taker_set, giver_is, taker_is, given_at, taken_at, have_met}
+use Rattle.lucy_worker.proofs.MeetLaws.{read_is, read_at, read_within, giver_set, taker_set, giver_is, taker_is, given_at, taken_at, have_met}
 use Rattle.lucy_worker.proofs.worker.meet_between.Goals as goal
+
+pub index_mut-part-requires : goal.index_mut-part-requires
+index_mut-part-requires c =
+    let g = c.requires.giver in
+    omega (arith, c.first.inside.parts.ok.0, read_within c.first.inside.parts.items c.args.first.now.parts c.args.giver.part g.part (ap (λ (w : WorkerView). w.parts) c.first.view_is) g.part_is)
+
+pub index_mut-other-requires : goal.index_mut-other-requires
+index_mut-other-requires c =
+    let t = c.requires.taker in
+    omega (arith, c.second.inside.parts.ok.0, read_within c.second.inside.parts.items c.args.second.now.parts c.args.taker.part t.part (ap (λ (w : WorkerView). w.parts) c.second.view_is) t.part_is)
+
+pub index_mut-requires : goal.index_mut-requires
+index_mut-requires c =
+    let g = c.requires.giver in
+    let p = read_is _ c.args.first.now.parts c.args.giver.part g.part c.index_mut-part.result.now _ (ap (λ (w : WorkerView). w.parts) c.first.view_is) g.part_is c.index_mut-part.ensures.value in
+    omega (arith, c.index_mut-part.result.now.givers.ok.0, read_within c.index_mut-part.result.now.givers.items g.part.givers.items c.args.giver.number g.end (ap (λ (x : Part). x.givers.items) p) g.end_is)
+
+pub index_mut-requires-2 : goal.index_mut-requires-2
+index_mut-requires-2 c =
+    let t = c.requires.taker in
+    let q = read_is _ c.args.second.now.parts c.args.taker.part t.part c.index_mut-other.result.now _ (ap (λ (w : WorkerView). w.parts) c.second.view_is) t.part_is c.index_mut-other.ensures.value in
+    omega (arith, c.index_mut-other.result.now.takers.ok.0, read_within c.index_mut-other.result.now.takers.items t.part.takers.items c.args.taker.number t.end (ap (λ (x : Part). x.takers.items) q) t.end_is)
 
 pub meet-requires : goal.meet-requires
 meet-requires c =
@@ -36,6 +58,12 @@ invariant_of-second c =
     c.second.invariant
     (read_at _ c.args.second.now.parts c.args.taker.part t.part c.index_mut-other.result.now _
     (ap (λ (w : WorkerView). w.parts) c.second.view_is) t.part_is c.index_mut-other.ensures.value) c.meet.ensures.anew.1
+
+pub returns-clause-first : goal.returns-clause-first
+returns-clause-first c = ap (λ (w : WorkerView). w.number) c.first.view_is
+
+pub returns-clause-second : goal.returns-clause-second
+returns-clause-second c = ap (λ (w : WorkerView). w.number) c.second.view_is
 
 pub returns-clause-met : goal.returns-clause-met
 returns-clause-met c =

@@ -19,7 +19,7 @@ use Rattle.lucy_core.specs.Inside.{left_in, KeepsState}
 use Rattle.lucy_event.specs.Runs.{first_left}
 use Rattle.lucy_core.proofs.CursorLaws.{step_in}
 use Rattle.lucy_core.proofs.InsideLaws.{at_hand, actor_at, state_at, circle_at, is_next, of_actor, few_at, some_going, going_after, as_many}
-use Rattle.lucy_core.proofs.StepLaws.{no_state, state_of_actor, has_item, gave_room, room_is, kept_gave}
+use Rattle.lucy_core.proofs.StepLaws.{has_item, gave_room, room_is, kept_gave}
 use Rattle.lucy_core.proofs.machine.Core.give.Goals as goal
 
 pub offset_bounds-list-actor : goal.offset_bounds-list-actor

@@ -3,7 +3,7 @@ use Rattle.lucy_host.specs.Host.{lent}
 use Rattle.lucy_host.specs.Operators.{Operator}
 use Rattle.lucy_meaning.specs.Spots.{main_of}
 use Rattle.lucy_kahn.specs.Turns.{params_in}
-use Rattle.lucy_core.specs.Seen.{Seen, MakesCore, done_of}
+use Rattle.lucy_core.specs.Seen.{Seen, CanMakeCore, done_of}
 use Rattle.lucy_flat.specs.Flat.{IsFlat}
 use Rattle.lucy_runner.specs.Views.{inputs_for}
 use Rattle.lucy_results.proofs.NetLaws.{fixed}
@@ -14,7 +14,7 @@ use Rattle.lucy_results.proofs.player.Player.new.Goals as goal
 pub new-requires : goal.new-requires
 new-requires g c =
     let r = c.requires in
-    subst (λ (ops : List Operator). MakesCore c.args.net c.args.schedule c.args.inputs ops c.args.instants) (sym c.ops.ensures)
+    subst (λ (ops : List Operator). CanMakeCore c.args.net c.args.schedule c.args.inputs ops c.args.instants) (sym c.ops.ensures)
     (fixed c.args.placed.now.nodes c.args.clocks.now c.nodes.ensures.proper c.args.net r.flat c.args.schedule c.args.inputs (lent c.args.host.now) c.args.instants r.known r.sound r.suffice r.early)
 
 pub run_core-requires-clause-unbegun : goal.run_core-requires-clause-unbegun

@@ -18,3 +18,6 @@ pub returns-in-Err-clause-unchanged : goal.returns-in-Err-clause-unchanged
 returns-in-Err-clause-unchanged c = same_view _ _
     (taker_keeps _ _ (search rules) (search rules) (search rules) (search rules) (search rules))
     (search rules) (search rules) (ap (λ l. drop c.args.self.now.place c.args.self.now.side.items ++ l) (nothing c)) (search rules) (search rules)
+
+pub returns-in-Err-clause-ring : goal.returns-in-Err-clause-ring
+returns-in-Err-clause-ring c = taker_keeps _ _ (search rules) (search rules) (search rules) (search rules) (search rules)

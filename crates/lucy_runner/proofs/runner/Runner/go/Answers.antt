@@ -1,4 +1,4 @@
-use Rattle.std.proofs.Common.{◌≡◌, ap, sym, ◌∙◌, subst}
+use Rattle.std.proofs.Common.{ap, sym, ◌∙◌, subst}
 use Rattle.std.specs.Prelude.{[]}
 use Rattle.lucy_host.specs.Operators.{kinds_of}
 use Rattle.lucy_core.specs.Seen.{Seen, IsOver}

@@ -1,8 +1,5 @@
-use Rattle.std.proofs.Common.{ℕ, ◌≡◌, ◌<◌, ◌^◌, List, length, ap, sym, ◌∙◌, subst, arith}
+use Rattle.std.proofs.Common.{ℕ, ◌≡◌, ◌<◌, ◌^◌, List, length, ap, sym, refl, ◌∙◌, subst, arith}
 use Rattle.std.proofs.lemmas.List.{length-map}
-use Rattle.std.proofs.lemmas.Result.{IfOk-at_ok}
-use Rattle.std.specs.declared.alloc.Global.{Global}
-use Rattle.std.specs.declared.vec.Vec.{Vec}
 use Rattle.lucy_host.specs.Host.{lent}
 use Rattle.lucy_host.specs.Operators.{kinds_of}
 use Rattle.lucy_lines.specs.declared.input.InputSpec.{InputSpec}
@@ -12,64 +9,57 @@ use Rattle.lucy_run.specs.declared.ending.Ending.TheVariants as ending
 use Rattle.lucy_run.specs.Feeds.{IsMainFeed}
 use Rattle.lucy_run.specs.Owes.{heading}
 use Rattle.lucy_run.proofs.AcceptedLaws.{inputs_count, outputs_count, few_inputs}
-use Rattle.lucy_run.proofs.EndsLaws.{on_ok, on_err, run_unbegun, run_broken}
+use Rattle.lucy_run.proofs.EndsLaws.{on_ok, run_unbegun, run_headless}
 use Rattle.lucy_run.proofs.EngineLaws.{as_run, engine_unfed, engine_unplayed, engine_played}
-use Rattle.lucy_run.proofs.playing.run_by.Goals as goal
+use Rattle.lucy_run.proofs.playing.play_accepted.Goals as goal
 
 pub returns-in-Err-clause-ends : goal.returns-in-Err-clause-ends
 returns-in-Err-clause-ends g c =
     let kinds = kinds_of (lent c.args.host.now) in
-    as_run kinds c.args.accepted c.args.instants 1 _ _ _ _ ending.OutOfMemory (run_unbegun kinds c.args.accepted c.args.instants 1 _ _)
+    as_run kinds c.args.accepted.now c.args.instants 1 _ _ _ _ ending.OutOfMemory (run_unbegun kinds c.args.accepted.now c.args.instants 1 _ _)
 
-pub returns-in-Err-copies-clause-ends : goal.returns-in-Err-copies-clause-ends
-returns-in-Err-copies-clause-ends g c =
+pub returns-in-Err-write_heading-clause-ends : goal.returns-in-Err-write_heading-clause-ends
+returns-in-Err-write_heading-clause-ends g c =
     let kinds = kinds_of (lent c.args.host.now) in
-    as_run kinds c.args.accepted c.args.instants 1 _ _ _ _ ending.OutOfMemory (run_unbegun kinds c.args.accepted c.args.instants 1 _ _)
+    as_run kinds c.args.accepted.now c.args.instants 1 _ _ _ _ _ (run_headless kinds c.args.accepted.now c.args.instants 1 _ _ _ _ c.in-Err-write_heading.ensures.err)
 
-pub returns-in-Err-write_all-clause-ends : goal.returns-in-Err-write_all-clause-ends
-returns-in-Err-write_all-clause-ends g c =
-    let kinds = kinds_of (lent c.args.host.now) in
-    let text = c.deref-2.ensures.value ∙ IfOk-at_ok (λ (v : Vec ℕ Global). v.items ≡ heading c.args.accepted) c.in-Ok.is
-    c.heading.ensures in
-    as_run kinds c.args.accepted c.args.instants 1 _ _ _ _ ending.WriteFault
-    (run_broken kinds c.args.accepted c.args.instants 1 _ _ _ c.deref-2.result.now text (on_err _ _ c.in-Err-write_all.is
-    c.write_all.ensures.failed))
+pub write_heading-requires : goal.write_heading-requires
+write_heading-requires g c = (lent c.args.host.now, c.requires.accepted)
 
 pub main_feed-requires : goal.main_feed-requires
 main_feed-requires g c =
-    let same : c.in-Ok-copies.inputs.items ≡ c.args.accepted.inputs.items = c.in-Ok-copies.ensures ∙ c.deref.ensures.value in
-    let few = few_inputs _ c.requires.accepted.0 c.requires.accepted.1 c.args.accepted c.requires.accepted.2 in
+    let same : c.in-Ok.inputs.items ≡ c.args.accepted.now.inputs.items = c.in-Ok.ensures ∙ c.deref.ensures.value in
+    let few = few_inputs _ c.requires.accepted.0 c.requires.accepted.1 c.args.accepted.now c.requires.accepted.2 in
     subst (λ (u : List InputSpec). length u < 2 ^ 32) (sym same) few
 
 pub returns-in-Err-main_feed-clause-ends : goal.returns-in-Err-main_feed-clause-ends
 returns-in-Err-main_feed-clause-ends g c =
-    let a = c.args.accepted in
-    let same : c.in-Ok-copies.inputs.items ≡ a.inputs.items = c.in-Ok-copies.ensures ∙ c.deref.ensures.value in
-    let text = c.deref-2.ensures.value ∙ IfOk-at_ok (λ (v : Vec ℕ Global). v.items ≡ heading a) c.in-Ok.is c.heading.ensures in
-    let head = on_ok _ _ c.in-Ok-write_all.is c.write_all.ensures.ok in
+    let a = c.args.accepted.now in
+    let same : c.in-Ok.inputs.items ≡ a.inputs.items = c.in-Ok.ensures ∙ c.deref.ensures.value in
+    let head = on_ok _ _ c.in-Ok-write_heading.is c.write_heading.ensures.ok in
     let (taken, stop, read, asked, fed) = c.main_feed.ensures.fed in
     engine_unfed (kinds_of (lent c.args.host.now)) a c.args.instants (g.I.Source.seen c.args.source.now) (g.I.Source.seen
     c.main_feed.new.source)
-    (g.O.Sink.seen c.args.out.now) (g.O.Sink.seen c.write_all.new.sink) c.deref-2.result.now taken stop text head read
+    (g.O.Sink.seen c.args.out.now) (g.O.Sink.seen c.write_heading.new.out) (heading a) taken stop refl head read
     (subst (λ (u : List InputSpec). IsAsked u taken) same asked)
-    (subst (IsMainFeed c.in-Ok-copies.inputs.items taken stop) c.in-Err-main_feed.is fed)
+    (subst (IsMainFeed c.in-Ok.inputs.items taken stop) c.in-Err-main_feed.is fed)
     (λ none. ap g.I.Source.seen (c.main_feed.ensures.unread (same ∙ none)))
 
 pub returns-in-Err-main_feed-clause-unread : goal.returns-in-Err-main_feed-clause-unread
 returns-in-Err-main_feed-clause-unread g c =
-    let same : c.in-Ok-copies.inputs.items ≡ c.args.accepted.inputs.items = c.in-Ok-copies.ensures ∙ c.deref.ensures.value in
+    let same : c.in-Ok.inputs.items ≡ c.args.accepted.now.inputs.items = c.in-Ok.ensures ∙ c.deref.ensures.value in
     λ none. c.main_feed.ensures.unread (same ∙ none)
 
 pub play_by-requires-clause-inputs : goal.play_by-requires-clause-inputs
 play_by-requires-clause-inputs g c =
-    let a = c.args.accepted in
-    let same : c.in-Ok-copies.inputs.items ≡ a.inputs.items = c.in-Ok-copies.ensures ∙ c.deref.ensures.value in
+    let a = c.args.accepted.now in
+    let same : c.in-Ok.inputs.items ≡ a.inputs.items = c.in-Ok.ensures ∙ c.deref.ensures.value in
     sym (c.in-Ok-main_feed.ensures.lists ∙ ap length same ∙ inputs_count _ c.requires.accepted.0 c.requires.accepted.1 a
     c.requires.accepted.2)
 
 pub write_played-requires : goal.write_played-requires
 write_played-requires g c =
-    let a = c.args.accepted in
+    let a = c.args.accepted.now in
     let streams = ap length c.in-Ok-play_by.ensures.streams_are ∙ length-map (results_in (main_of a.placed.nodes)) _ in
     let outputs = ap length c.deref-in-Ok-play_by.ensures.value ∙ outputs_count _ c.requires.accepted.0 c.requires.accepted.1 a
     c.requires.accepted.2 in
@@ -77,35 +67,38 @@ write_played-requires g c =
 
 pub returns-in-Ok-play_by-clause-ends : goal.returns-in-Ok-play_by-clause-ends
 returns-in-Ok-play_by-clause-ends g c =
-    let a = c.args.accepted in
-    let same : c.in-Ok-copies.inputs.items ≡ a.inputs.items = c.in-Ok-copies.ensures ∙ c.deref.ensures.value in
-    let text = c.deref-2.ensures.value ∙ IfOk-at_ok (λ (v : Vec ℕ Global). v.items ≡ heading a) c.in-Ok.is c.heading.ensures in
-    let head = on_ok _ _ c.in-Ok-write_all.is c.write_all.ensures.ok in
+    let a = c.args.accepted.now in
+    let same : c.in-Ok.inputs.items ≡ a.inputs.items = c.in-Ok.ensures ∙ c.deref.ensures.value in
+    let head = on_ok _ _ c.in-Ok-write_heading.is c.write_heading.ensures.ok in
     let (taken, stop, read, asked, fed) = c.main_feed.ensures.fed in
     engine_played (kinds_of (lent c.args.host.now)) a c.args.instants (g.I.Source.seen c.args.source.now) (g.I.Source.seen
     c.main_feed.new.source)
     taken stop read (subst (λ (u : List InputSpec). IsAsked u taken) same asked) c.main_feed.result c.in-Ok-main_feed.feed
     c.in-Ok-main_feed.is
     (subst (λ (u : List InputSpec). IsMainFeed u taken stop c.main_feed.result) same fed)
-    (g.O.Sink.seen c.args.out.now) (g.O.Sink.seen c.write_all.new.sink) c.deref-2.result.now text head
+    (g.O.Sink.seen c.args.out.now) (g.O.Sink.seen c.write_heading.new.out) (heading a) refl head
     c.in-Ok-play_by.played c.in-Ok-play_by.ensures c.deref-in-Ok-play_by.result.now c.deref-in-Ok-play_by.ensures.value
     (g.O.Sink.seen c.write_played.new.out) c.write_played.result c.write_played.ensures.written
 
 pub returns-in-Ok-play_by-clause-unread : goal.returns-in-Ok-play_by-clause-unread
 returns-in-Ok-play_by-clause-unread g c =
-    let same : c.in-Ok-copies.inputs.items ≡ c.args.accepted.inputs.items = c.in-Ok-copies.ensures ∙ c.deref.ensures.value in
+    let same : c.in-Ok.inputs.items ≡ c.args.accepted.now.inputs.items = c.in-Ok.ensures ∙ c.deref.ensures.value in
     λ none. c.main_feed.ensures.unread (same ∙ none)
 
-pub returns-clause-ends : goal.returns-clause-ends
-returns-clause-ends g c =
-    let a = c.args.accepted in
-    let same : c.in-Ok-copies.inputs.items ≡ a.inputs.items = c.in-Ok-copies.ensures ∙ c.deref.ensures.value in
-    let text = c.deref-2.ensures.value ∙ IfOk-at_ok (λ (v : Vec ℕ Global). v.items ≡ heading a) c.in-Ok.is c.heading.ensures in
-    let head = on_ok _ _ c.in-Ok-write_all.is c.write_all.ensures.ok in
+pub returns-in-Err-play_by-clause-ends : goal.returns-in-Err-play_by-clause-ends
+returns-in-Err-play_by-clause-ends g c =
+    let a = c.args.accepted.now in
+    let same : c.in-Ok.inputs.items ≡ a.inputs.items = c.in-Ok.ensures ∙ c.deref.ensures.value in
+    let head = on_ok _ _ c.in-Ok-write_heading.is c.write_heading.ensures.ok in
     let (taken, stop, read, asked, fed) = c.main_feed.ensures.fed in
     engine_unplayed (kinds_of (lent c.args.host.now)) a c.args.instants (g.I.Source.seen c.args.source.now) (g.I.Source.seen
     c.main_feed.new.source)
     taken stop read (subst (λ (u : List InputSpec). IsAsked u taken) same asked) c.main_feed.result c.in-Ok-main_feed.feed
     c.in-Ok-main_feed.is
     (subst (λ (u : List InputSpec). IsMainFeed u taken stop c.main_feed.result) same fed)
-    (g.O.Sink.seen c.args.out.now) (g.O.Sink.seen c.write_all.new.sink) c.deref-2.result.now text head
+    (g.O.Sink.seen c.args.out.now) (g.O.Sink.seen c.write_heading.new.out) (heading a) refl head
+
+pub returns-in-Err-play_by-clause-unread : goal.returns-in-Err-play_by-clause-unread
+returns-in-Err-play_by-clause-unread g c =
+    let same : c.in-Ok.inputs.items ≡ c.args.accepted.now.inputs.items = c.in-Ok.ensures ∙ c.deref.ensures.value in
+    λ none. c.main_feed.ensures.unread (same ∙ none)

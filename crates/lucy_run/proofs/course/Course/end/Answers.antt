@@ -9,7 +9,7 @@ use Rattle.lucy_run.specs.declared.ending.Ending.TheVariants as ending
 use Rattle.lucy_run.specs.Owes.{EndsFor, AllowsMore}
 use Rattle.lucy_run.specs.Courses.{CourseView, words_of, IsCourseUnderWay, EndsOver}
 use Rattle.lucy_run.proofs.OverLaws.{no_words, passed_many, over_unread, over_read}
-use Rattle.lucy_run.proofs.course.Course.finish.Goals as goal
+use Rattle.lucy_run.proofs.course.Course.end.Goals as goal
 
 pub returns-then-is_empty-clause-over : goal.returns-then-is_empty-clause-over
 returns-then-is_empty-clause-over g c =

@@ -1,7 +1,0 @@
-use Rattle.std.proofs.Common.{rules, arith}
-use Rattle.std.proofs.lemmas.Grind.{common_steps}
-use Rattle.lucy_ring.proofs.Names.{giver_keeps}
-use Rattle.lucy_ring.proofs.giver_end.GiverEnd.put.Goals as goal
-
-pub returns-then-is_ok-clause-ring : goal.returns-then-is_ok-clause-ring
-returns-then-is_ok-clause-ring c = giver_keeps _ _ (search rules) (search rules) (grind (arith, common_steps)) (search rules) (search rules)
