@@ -112,6 +112,11 @@ unfolding rules follows begins
 behind_base_3 args h1 h2 u = tok_no h1 (maybe_no args refl h2 (tok_bad refl u))
 
 -- an expression in parentheses that is refused, where it is all of the part
+pub atom_inner_no : (ts rest : List Token) → (first ts ≡ kind.Name → ⊥) → (first ts ≡ kind.Mark mark.Host → ⊥) → UnfitInner ts rest → Unfit Part.Atom ts rest
+atom_inner_no ts rest n h (inl u) = by.parens_1 (n, (h, tt)) u
+atom_inner_no ts rest n h (inr (inl u)) = by.parens_2 u.2 u.3
+atom_inner_no ts rest n h (inr (inr u)) = by.parens_3 u.4 u.5 u.6
+
 pub small_inner_no : (ts rest : List Token) → (IsBegun Part.Lit ts → ⊥) → (first ts ≡ kind.Name → ⊥) → UnfitInner ts rest → Unfit Part.Small ts rest
 small_inner_no ts rest l n (inl u) = by.small_parens_1 (l, n) u
 small_inner_no ts rest l n (inr (inl u)) = by.small_parens_2 u.2 u.3

@@ -22,9 +22,26 @@ use lucy_token::{Kind, Mark, Token};
 use lucy_tree::{Expr, Lit, Name, Span};
 use std::alloc::Global;
 
-/// An expression.
+/// An expression that a definition has. It is read as one within others is: a function with one caller is set into that, which makes the
+/// stack of a deep text half as large again, so what an `if` is read by has two.
+pub(crate) fn expr<'a, 't>(
+    alloc: Global,
+    ts: &'a [Token<'t>],
+) -> Result<(Box<Expr>, &'a [Token<'t>]), Refusal<'a, 't>>
+    ensures ok { IfOk result (λ p. Reads Part.Expr ts.now (tree_of p.0.value) p.1.now) }
+    ensures refused { IfErr result (RefusedBy (Unfit Part.Expr ts.now)) }
+    ensures shorter { IfOk result (λ p. length p.1.now < length ts.now) }
+{
+    if at(ts, Kind::Mark(Mark::If)) {
+        choice(alloc, ts)
+    } else {
+        operation(alloc, ts, Level::Or)
+    }
+}
+
+// An expression within another.
 #[cycle(descent)]
-pub(crate) fn whole<'a, 't>(
+fn whole<'a, 't>(
     alloc: Global,
     ts: &'a [Token<'t>],
 ) -> Result<(Box<Expr>, &'a [Token<'t>]), Refusal<'a, 't>>
@@ -308,11 +325,7 @@ fn atom<'a, 't>(
     if at(ts, Kind::Mark(Mark::Host)) {
         return hosted(alloc, ts);
     }
-    // (as `inner` does, by a function less on the stack for each open parenthesis)
-    let (_, ts) = want(ts, Mark::Open)?;
-    let (inner, ts) = whole(alloc, ts)?;
-    let (_, ts) = want(ts, Mark::Close)?;
-    Ok((inner, ts))
+    inner(alloc, ts)
 }
 
 // An expression in parentheses.

@@ -11,7 +11,7 @@ ghost use Rattle.lucy_syntax.specs.Refusals.{RefusedBy, behind_first};
 
 use crate::cursor::{at, name, take, want};
 use crate::decl::{decl, decls, params, results};
-use crate::descent::{call, whole};
+use crate::descent::{call, expr};
 use crate::make::{one, push};
 use crate::refusal::Refusal;
 use lucy_token::{Kind, Mark, Token};
@@ -86,7 +86,7 @@ fn single<'a, 't>(
 {
     let (left, ts) = decl(alloc, ts)?;
     let (_, ts) = want(ts, Mark::Equals)?;
-    let (right, ts) = whole(alloc, ts)?;
+    let (right, ts) = expr(alloc, ts)?;
     let left = Decls::new(one(alloc, left)?);
     let right = Box::into_inner(right);
     Ok((Def { left, right }, ts))

@@ -208,20 +208,11 @@ behind_literal-returns-in-Some-clause-ok t c =
 pub behind_literal-returns-clause-ok : goal.behind_literal-returns-clause-ok
 behind_literal-returns-clause-ok t c = (None, by.no_fby c.in_default.ensures.read, c.in_ok-literal.ensures)
 
-pub atom-returns-in_err-ts-clause-refused : goal.atom-returns-in_err-ts-clause-refused
-atom-returns-in_err-ts-clause-refused t c =
-    leaves (IsOther c.args.ts.now (kind.Mark mark.Open)) _ c.from_residual.result c.from_residual.ensures.1 c.in_err-ts.ensures.refused (λ rest u. by.parens_1 ((fails c.at.ensures.1 c.if-at.false), ((fails c.at-2.ensures.1 c.if-at-2.false), tt)) u)
-
-pub atom-returns-in_err-inner-clause-refused : goal.atom-returns-in_err-inner-clause-refused
-atom-returns-in_err-inner-clause-refused t c =
-    leaves (Unfit Part.Expr c.in_ok-ts.ts.now) _ c.from_residual-in_err-inner.result c.from_residual-in_err-inner.ensures.1 c.in_err-inner.ensures.refused (λ rest u. by.parens_2 c.in_ok-ts.ensures.ok.1 u)
-
-pub atom-returns-in_err-ts-2-clause-refused : goal.atom-returns-in_err-ts-2-clause-refused
-atom-returns-in_err-ts-2-clause-refused t c =
-    leaves (IsOther c.in_ok-inner.ts.now (kind.Mark mark.Close)) _ c.from_residual-in_err-ts-2.result c.from_residual-in_err-ts-2.ensures.1 c.in_err-ts-2.ensures.refused (λ rest u. by.parens_3 c.in_ok-ts.ensures.ok.1 c.in_ok-inner.ensures.ok u)
-
 pub atom-returns-clause-ok : goal.atom-returns-clause-ok
-atom-returns-clause-ok t c = by.parens c.in_ok-ts.ensures.ok.1 c.in_ok-inner.ensures.ok c.in_ok-ts-2.ensures.ok.1
+atom-returns-clause-ok t c = IfOk-weaker c.inner.result _ _ (λ p r. by.parens r.4 r.5 r.6) c.inner.ensures.ok
+
+pub atom-returns-clause-refused : goal.atom-returns-clause-refused
+atom-returns-clause-refused t c = hands_on c.inner.result c.inner.ensures.refused (λ rest u. parts.atom_inner_no c.args.ts.now rest (fails c.at.ensures.1 c.if-at.false) (fails c.at-2.ensures.1 c.if-at-2.false) u)
 
 pub inner-returns-in_err-ts-clause-refused : goal.inner-returns-in_err-ts-clause-refused
 inner-returns-in_err-ts-clause-refused t c =
