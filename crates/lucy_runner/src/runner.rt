@@ -52,15 +52,6 @@ impl Model for Runner {
         × AreOutputs r.net.actors r.outputs.items };
 }
 
-// Who makes the turns of a round.
-#[derive(Clone, Copy)]
-enum Threading {
-    // Each worker its own, where there are several each in a thread of its own.
-    Apart,
-    // One thread those of all workers, each one pass that passes no gate.
-    InPlace,
-}
-
 // So many blocks have threads, however little they have to do.
 const THREADED_BLOCKS: u32 = 16;
 
@@ -178,25 +169,6 @@ impl Runner {
         meet_all(seats, self.net.rings.list(), places, ends);
     }
 
-    // A round whose turns are made so.
-    fn round_by<R: Threads + Sync, F: Fn(u32, i64, i64) -> i64 + Sync, G: Gate + Sync>(
-        &mut self,
-        rt: &R,
-        host: &Host<F>,
-        gate: &G,
-        threading: Threading,
-    ) -> u64
-        requires serves { Serves F.pre F.post host.now }
-        requires kinds { kinds_of (lent host.now) ≡ kinds_of self.old.seen.operators }
-        ensures round { IsRoundTo self.old.seen self.new.seen result }
-        ensures before { self.new.before ≡ self.old.before }
-    {
-        match threading {
-            Threading::Apart => self.round(rt, host, gate),
-            Threading::InPlace => self.round_in_place(host, FULL_ROUND),
-        }
-    }
-
     /// Makes rounds until every actor has done its list. From the 17th call that finds something to do on they start no thread and pass no
     /// gate where fewer than 4,096 operations can be left, counting one for each ring of an actor in each firing: these take less time
     /// than threads do to start. It takes no memory, and returns if the gate does.
@@ -212,15 +184,15 @@ impl Runner {
         ensures before { self.new.before ≡ self.old.before }
         ensures finished { IsOver self.new.seen }
     {
-        let threading = if self.blocks >= THREADED_BLOCKS && few_left(self.seats.as_slice()) {
-            Threading::InPlace
-        } else {
-            Threading::Apart
-        };
         let seats = self.seats.as_slice();
+        let in_place = self.blocks >= THREADED_BLOCKS && few_left(seats);
         self.blocks = self.blocks.saturating_add(!all_done(seats) as u32);
         while !self.finished() {
-            self.round_by(rt, host, gate, threading);
+            if in_place {
+                self.round_in_place(host, FULL_ROUND);
+            } else {
+                self.round(rt, host, gate);
+            }
         }
     }
 

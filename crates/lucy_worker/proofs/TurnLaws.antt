@@ -23,6 +23,12 @@ more_passes kinds count moves more ps qs rs one two = record {
   rests = two.rests;
 }
 
+-- a pass, by what is known of the parts and of the number of moves behind it
+pub passed_so : (kinds : List HostKind) (count moves more : ℕ) (ps qs rs : List Part) → rs ≡ qs → more ≡ moves → HavePassed kinds count ps qs moves →
+    HavePassed kinds count ps rs more
+passed_so kinds count moves more ps qs rs same as_many passed =
+    subst (λ (n : ℕ). HavePassed kinds count ps rs n) (sym as_many) (subst (λ (xs : List Part). HavePassed kinds count ps xs moves) (sym same) passed)
+
 -- by few moves
 pub few_moves : (kinds : List HostKind) (count moves more : ℕ) (ps inside qs rs : List Part) → inside ≡ ps → AreReady inside → HavePassed
     kinds count ps qs moves → HaveRunBy kinds count qs rs more → moves + more ≤ most_moves

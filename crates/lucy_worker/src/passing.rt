@@ -9,25 +9,7 @@ ghost use Rattle.lucy_worker.specs.Readiness.{AreReady, HavePassed};
 use crate::part::Part;
 use lucy_host::Host;
 
-// All possible moves of each part, from the first part to the last or, if `back`, from the last to the first; how many they are.
-pub(crate) fn pass<F: Fn(u32, i64, i64) -> i64 + Sync>(
-    parts: &mut [Part],
-    host: &Host<F>,
-    back: bool,
-) -> u64
-    requires ready { AreReady parts.old }
-    requires serves { Serves F.pre F.post host.now }
-    requires served { All (IsServed (length (lent host.now))) parts.old }
-    ensures { HavePassed (kinds_of (lent host.now)) (length (lent host.now)) parts.old parts.new result }
-{
-    if back {
-        pass_back(parts, host)
-    } else {
-        pass_on(parts, host)
-    }
-}
-
-// Those from the first part to the last.
+// All possible moves of each part, from the first part to the last; how many they are.
 pub(crate) fn pass_on<F: Fn(u32, i64, i64) -> i64 + Sync>(parts: &mut [Part], host: &Host<F>) -> u64
     requires ready { AreReady parts.old }
     requires serves { Serves F.pre F.post host.now }
@@ -42,7 +24,10 @@ pub(crate) fn pass_on<F: Fn(u32, i64, i64) -> i64 + Sync>(parts: &mut [Part], ho
 }
 
 // Those from the last part to the first.
-fn pass_back<F: Fn(u32, i64, i64) -> i64 + Sync>(parts: &mut [Part], host: &Host<F>) -> u64
+pub(crate) fn pass_back<F: Fn(u32, i64, i64) -> i64 + Sync>(
+    parts: &mut [Part],
+    host: &Host<F>,
+) -> u64
     requires ready { AreReady parts.old }
     requires serves { Serves F.pre F.post host.now }
     requires served { All (IsServed (length (lent host.now))) parts.old }

@@ -12,7 +12,7 @@ ghost use Rattle.lucy_worker.specs.Growing.{HasSpared, HasSpare, CanExtend, IsEx
 use crate::gate::{Gate, Passages};
 use crate::heading::Heading;
 use crate::part::Part;
-use crate::passing::{all_done, pass, pass_on};
+use crate::passing::{all_done, pass_back, pass_on};
 use crate::place::EndPlace;
 use crate::within::meet_within;
 use lucy_host::Host;
@@ -74,11 +74,15 @@ impl Worker {
         let _passages = self.enter(gate);
         let parts = self.parts.as_mut_slice();
         let mut heading = Heading::first();
-        let mut found = pass(parts, host, heading.back);
+        let mut found = pass_back(parts, host);
         let mut moves = found;
         while found > 0 {
             heading = heading.after(found);
-            found = pass(parts, host, heading.back);
+            found = if heading.back {
+                pass_back(parts, host)
+            } else {
+                pass_on(parts, host)
+            };
             moves += found;
         }
         moves
