@@ -87,7 +87,7 @@ fn put_positions(
     Ok(())
 }
 
-// Puts the names of the positions of a clock in this shape last.
+// Puts the names of the positions of a clock in this shape last, of which one that isn't used has none.
 fn put_clock(
     alloc: Global,
     node: &PlacedNode,

@@ -30,7 +30,7 @@ pub(crate) struct Crew {
 }
 
 /// The actors of a net, each in the worker of its home, at their beginning, with empty rings of size plus one slots and the items
-/// of the inputs.
+/// of the inputs; with them the numbers of the outputs, and the route along all.
 pub(crate) fn seat_all(
     alloc: Global,
     core: &CoreParts,
