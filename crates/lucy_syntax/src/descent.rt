@@ -22,8 +22,8 @@ use lucy_token::{Kind, Mark, Token};
 use lucy_tree::{Expr, Lit, Name, Span};
 use std::alloc::Global;
 
-/// An expression that a definition has. It is read as one within others is: a function with one caller is set into that, which makes the
-/// stack of a deep text half as large again, so what an `if` is read by has two.
+/// An expression that a definition has, read as `whole` reads one within others. Rattle's own compiler sets a function into its only
+/// caller, and with `choice` in `whole` a deep text takes half as much stack again; so `choice` has two callers.
 pub(crate) fn expr<'a, 't>(
     alloc: Global,
     ts: &'a [Token<'t>],
