@@ -11,6 +11,7 @@ use Rattle.lucy_feed.specs.Feeding.{is_closed}
 use Rattle.lucy_text.specs.Outside.{SeenSource}
 use Rattle.lucy_clock.specs.declared.node_clock.NodeClock.{NodeClock}
 use Rattle.lucy_front.specs.declared.accepted.Accepted.{Accepted}
+use Rattle.lucy_output.specs.declared.output.OutputSpec.{OutputSpec}
 use Rattle.lucy_results.proofs.StreamLaws.{params_count}
 use Rattle.lucy_run.specs.declared.pace.Pace.{Pace}
 use Rattle.lucy_run.specs.declared.ending.Ending.{Ending}
@@ -44,13 +45,14 @@ module _ (kinds : List HostKind) (a : Accepted) where
   abbrev pub made_program : Program
   made_program = record { kinds = kinds; nodes = a.placed.nodes; clocks = a.clocks.items; inputs = a.inputs.items; outputs = a.outputs.items }
 
-  module _ (can : CanBeRunInBlocks made_program) (clocks : List NodeClock) (e : clocks ≡ a.clocks.items) (pace : Pace) (endless : pace.instants ≡ None) (course : CourseView)
-      (begun : IsCourseBegun kinds a.placed.nodes clocks a.inputs.items pace course) where
-    begun_here : IsCourseBegun kinds a.placed.nodes a.clocks.items a.inputs.items pace course
-    begun_here = subst (λ cs. IsCourseBegun kinds a.placed.nodes cs a.inputs.items pace course) e begun
+  module _ (can : CanBeRunInBlocks made_program) (clocks : List NodeClock) (e : clocks ≡ a.clocks.items) (outputs : List OutputSpec) (f : outputs ≡ a.outputs.items) (pace : Pace) (endless : pace.instants ≡ None) (course : CourseView)
+      (begun : IsCourseBegun kinds a.placed.nodes clocks a.inputs.items outputs pace course) where
+    begun_here : IsCourseBegun kinds a.placed.nodes a.clocks.items a.inputs.items a.outputs.items pace course
+    begun_here = subst (λ os. IsCourseBegun kinds a.placed.nodes a.clocks.items a.inputs.items os pace course) f
+        (subst (λ cs. IsCourseBegun kinds a.placed.nodes cs a.inputs.items outputs pace course) e begun)
 
     begun_along : (source : SeenSource) → IsAlong made_program source [] source course
-    begun_along source = let (given_is, block_is, at, along) = begun_here in along source a.outputs.items
+    begun_along source = let (given_is, block_is, at, along) = begun_here in along source
 
     -- it is before its first block
     pub is_first : (source : SeenSource) → IsBeforeFirst kinds source course

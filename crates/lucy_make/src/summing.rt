@@ -47,6 +47,7 @@ pub fn summary<R: Threads + Sync, F: Fn(u32, i64, i64) -> i64 + Sync, G: Gate + 
         net,
         schedule,
         inputs,
+        outputs,
         ..
     } = accepted;
     accepted_programs_are_clocked();
@@ -60,7 +61,7 @@ pub fn summary<R: Threads + Sync, F: Fn(u32, i64, i64) -> i64 + Sync, G: Gate + 
     };
     let mut source = made_source(alloc)?;
     let mut course = Course::new(
-        rt, alloc, &placed, &clocks, net, schedule, inputs, host, gate, pace,
+        rt, alloc, &placed, &clocks, net, schedule, inputs, &outputs, host, gate, pace,
     )?;
     let tally = tell(rt, alloc, host, gate, &mut course, &mut source)?;
     let instants = course.horizon();

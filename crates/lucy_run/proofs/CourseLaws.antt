@@ -15,20 +15,21 @@ use Rattle.lucy_meaning.specs.Horizons.{Suffice, IsHorizon}
 use Rattle.lucy_results.specs.Streams.{param_words, later_streams}
 use Rattle.lucy_results.specs.Playing.{PlayerView, joined}
 use Rattle.lucy_run.specs.Owes.{most_instants}
-use Rattle.lucy_run.specs.Courses.{CourseView, Program, words_of, values, HasFed, IsAlong, IsLastRead, IsRunTo, IsNextBlock}
+use Rattle.lucy_run.specs.Courses.{CourseView, Program, words_of, values, HasFed, IsAlong, IsLastRead, IsRunTo, IsNextTarget, IsNextBlock}
 use Rattle.lucy_run.specs.Played.{ReadsOn, CountsAllow, PlayerCanGoOn, PlayerHasGoneOn}
 use Rattle.lucy_run.specs.Paces.{IsBlock}
 use Rattle.lucy_run.proofs.ReadLaws.{suffice_longer, values_count, values_front, values_joined, fed_counts, fed_carried, fed_none, met_suffices}
 
 -- a run before its first instant
 pub begin : (p : Program) (c : CourseView) (none : List (List ℤ)) → ((s : SeenSource) → HasRead p.inputs s s c.reader [] []) → c.reader.reader.inputs ≡ p.inputs → AreFresh p.inputs c.reader [] →
-    none ≡ values p [] → c.player ≡ record { nodes = p.nodes; clocks = p.clocks; kinds = p.kinds; inputs = none; instants = 0; before = 0 } → c.words ≡ words_of p → c.target ≡ 0 → c.horizon ≡ 0 →
+    none ≡ values p [] → c.player ≡ record { nodes = p.nodes; clocks = p.clocks; kinds = p.kinds; inputs = none; instants = 0; before = 0 } → c.words ≡ words_of p → c.outputs ≡ p.outputs → c.target ≡ 0 → c.horizon ≡ 0 →
     most_instants c.given ≤ limit_number limit.Instants → IsBlock c.block → (source : SeenSource) → IsAlong p source [] source c
-begin p c none begun kept fresh empty is words target horizon few block source = record {
+begin p c none begun kept fresh empty is words outputs target horizon few block source = record {
   fed = fed_none (words_of p) c.target p.inputs source c.reader begun;
   kept = kept;
   fresh = fresh;
   words = words;
+  outputs = outputs;
   run = record {
     nodes = ap (λ (v : PlayerView). v.nodes) is;
     clocks = ap (λ (v : PlayerView). v.clocks) is;
@@ -111,9 +112,9 @@ module _ (turn : ValuesInTurn) (p : Program) (first : SeenSource) (items : List 
     }
 
     -- the block was run
-    pub next : (read.reader.ended ≡ true) ⊎ AreMet (map (λ word. ones_to word target) c.words) read.counts → target ≤ most_instants c.given → target ≤ c.horizon + c.block →
+    pub next : (read.reader.ended ≡ true) ⊎ AreMet (map (λ word. ones_to word target) c.words) read.counts → target ≤ most_instants c.given → IsNextTarget p.outputs c.block (most_instants c.given) c.horizon target →
         IsNextBlock p first items now c (record c { reader = last; player = on; target = target; horizon = horizon }) lists
-    next enough early near = record {
+    next enough early goes = record {
       more = more;
       fronts = fronts;
       along = record {
@@ -122,6 +123,7 @@ module _ (turn : ValuesInTurn) (p : Program) (first : SeenSource) (items : List 
         kept = ap (λ (r : FeedState). r.reader.inputs) gone.reader_is ∙ kept;
         fresh = ap (λ (r : FeedState). r.fresh) gone.reader_is ∙ ap (λ xs. values_by_stream (length xs) []) kept;
         words = along.words;
+        outputs = along.outputs;
         run = run_on;
         suffice = is_horizon.suffice;
         last = block_last enough;
@@ -130,6 +132,6 @@ module _ (turn : ValuesInTurn) (p : Program) (first : SeenSource) (items : List 
         block = along.block;
       };
       later = later;
-      near = near;
+      goes = goes;
       streams_are = streams_are;
     }

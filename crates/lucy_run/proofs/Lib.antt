@@ -3,8 +3,10 @@ pub mod OwesLaws
 mod FedLaws
 pub mod WholeLaws
 mod LinesLaws
+mod SilentLaws
 mod ReadLaws
 mod CourseLaws
+mod WantingLaws
 mod WriteLaws
 mod OverLaws
 pub mod AcceptedLaws

@@ -20,12 +20,12 @@ use Rattle.lucy_run.proofs.WriteLaws.{written_first}
 use Rattle.lucy_run.proofs.EndsLaws.{at_ok, at_err, empty_of, program, RunGives, run_whole, run_failed, run_out_of_memory}
 
 module _ (kinds : List HostKind) (a : Accepted) (pace : Pace) (can : CanBeRunInBlocks (program kinds a pace.instants)) (source : SeenSource) (clocks : List NodeClock) (e : clocks ≡ a.clocks.items) (course : CourseView)
-    (begun : IsCourseBegun kinds a.placed.nodes clocks a.inputs.items pace course) where
-  begun_here : IsCourseBegun kinds a.placed.nodes a.clocks.items a.inputs.items pace course
-  begun_here = subst (λ cs. IsCourseBegun kinds a.placed.nodes cs a.inputs.items pace course) e begun
+    (begun : IsCourseBegun kinds a.placed.nodes clocks a.inputs.items a.outputs.items pace course) where
+  begun_here : IsCourseBegun kinds a.placed.nodes a.clocks.items a.inputs.items a.outputs.items pace course
+  begun_here = subst (λ cs. IsCourseBegun kinds a.placed.nodes cs a.inputs.items a.outputs.items pace course) e begun
 
   pub begun_along : IsAlong (program kinds a pace.instants) source [] source course
-  begun_along = let (given_is, block_is, at, along) = begun_here in along source a.outputs.items
+  begun_along = let (given_is, block_is, at, along) = begun_here in along source
 
   -- of no inputs there are no words
   pub no_inputs : a.inputs.items ≡ [] → course.words ≡ []

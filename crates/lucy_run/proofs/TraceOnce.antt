@@ -1,5 +1,5 @@
 -- What the trace of a run owes is one ending, and traces up to the horizon of what main is fed.
-use Rattle.std.proofs.Common.{◌≡◌, ℕ, List, Option}
+use Rattle.std.proofs.Common.{ℕ, List, Option}
 use Rattle.std.specs.Prelude.{ℤ}
 use Rattle.lucy_lines.specs.Laws.{OneCut, CutInPieces}
 use Rattle.lucy_lines.specs.declared.reader.TextFault.{TextFault}

@@ -1,8 +1,10 @@
 -- The lines of a course, block by block.
-use Rattle.std.proofs.Common.{ℕ, ◌≤◌, ◌≡◌, List, [], ◌++◌, length, ap, sym, ◌∙◌, subst, arith}
+use Rattle.std.proofs.Common.{ℕ, ◌+◌, ◌≤◌, ◌≡◌, List, [], ◌++◌, length, ap, sym, ◌∙◌, subst, inl, inr, arith}
 use Rattle.std.specs.Prelude.{ℤ, Result, Ok, Err, MatchResult, IsErrAnd}
-use Rattle.std.proofs.lemmas.List.{length-map}
+use Rattle.std.proofs.lemmas.Bool.{cases_lt}
+use Rattle.std.proofs.lemmas.List.{length-map, append-nil}
 use Rattle.lucy_lines.specs.Cuts.{ItemOf}
+use Rattle.lucy_lines.specs.Laws.{OneCut, CutInPieces, SomeCut}
 use Rattle.lucy_text.specs.Outside.{SeenSource, SeenSink, Writes, Fails}
 use Rattle.lucy_feed.specs.Resuming.{ValuesInTurn}
 use Rattle.lucy_output.specs.declared.output.OutputSpec.{OutputSpec}
@@ -12,12 +14,15 @@ use Rattle.lucy_output.specs.Outputs.{lines_after}
 use Rattle.lucy_output.specs.Laws.{InstantByInstant}
 use Rattle.lucy_output.specs.Writing.{WriterState, new_writer}
 use Rattle.lucy_output.proofs.SinkLaws.{unwritten, writes_more}
+use Rattle.lucy_meaning.specs.Horizons.{Suffice}
 use Rattle.lucy_meaning.specs.Spots.{main_of, results_in}
-use Rattle.lucy_results.specs.Streams.{main_word, main_streams, later_stream}
+use Rattle.lucy_results.specs.Streams.{main_word, main_streams, later_stream, later_streams}
 use Rattle.lucy_run.specs.Owes.{most_instants}
-use Rattle.lucy_run.specs.Courses.{CourseView, Program, CanBeRunInBlocks, words_of, values, IsAlong, IsNextBlock, GivesUpBehind}
-use Rattle.lucy_run.specs.Played.{lines_of, HasWritten, BreaksOff, LinesAgree, LinesByBlock}
+use Rattle.lucy_run.specs.Courses.{CourseView, Program, CanBeRunInBlocks, words_of, values, HasFed, AreSilent, IsAlong, IsNextBlock, GivesUpBehind}
+use Rattle.lucy_run.specs.Played.{lines_of, HasWritten, BreaksOff, LinesByBlock}
 use Rattle.lucy_run.proofs.ReadLaws.{fed_feeds}
+use Rattle.lucy_run.proofs.SilentLaws.{silent_earlier, silent_lines}
+use Rattle.lucy_run.proofs.WantingLaws.{fed_for}
 
 -- of an answer that is an error
 pub breaks_so : {T : Type 0} (r : Result T OutputError) (e : OutputError) (A : T → Type 0) (B : OutputError → Type 0) → IsErrAnd r (λ f. f ≡ e) → B e → MatchResult r A B
@@ -79,23 +84,31 @@ module _ (p : Program) (first : SeenSource) (was : SeenSink) (items : List ItemO
         ∙ ap (λ os. lines_of p (values p items) old.horizon ++ lines_after os streams old.horizon new.horizon) (sym has.outputs)
         ∙ ap (λ n. lines_of p (values p items) old.horizon ++ lines_after writer.outputs streams n new.horizon) (sym has.instants)
 
-    -- a write of the lines failed
-    pub writing_broken : LinesAgree → (sink : SeenSink) (block most : ℕ) → old.block ≡ block → most_instants new.given ≡ most → Fails written sink (lines_after writer.outputs streams writer.instants new.horizon) →
+    -- the instants in which no output has an item have no lines
+    lines_at : (t : ℕ) → old.horizon ≤ t → AreSilent p.outputs old.horizon t → lines_of p (values p (items ++ next.more)) t ≡ lines_of p (values p items) old.horizon
+    lines_at t later still =
+        blocks p (values p items) (values p (items ++ next.more)) old.horizon t can next.fronts later along.suffice
+        ∙ ap (λ xs. lines_of p (values p items) old.horizon ++ xs)
+        (silent_lines p.outputs (later_streams p.kinds (values p (items ++ next.more)) p.nodes p.clocks old.horizon t) old.horizon t later still)
+        ∙ append-nil (lines_of p (values p items) old.horizon)
+
+    -- a write of the lines failed behind those of so many instants, for whose block the items were read
+    failed_behind : (sink : SeenSink) (block most done aim : ℕ) → most_instants new.given ≡ most → Fails written sink (lines_after writer.outputs streams writer.instants new.horizon) →
+        done ≤ new.horizon → old.horizon ≤ done → AreSilent p.outputs old.horizon done → aim ≤ done + block → HasFed (words_of p) aim p.inputs first now new.reader (items ++ next.more) →
         BreaksOff p first was block most now sink error.Failed
-    writing_broken agree sink block most paced same fails =
+    failed_behind sink block most done aim same fails within later still near fed =
         let rest : List ℕ = lines_after writer.outputs streams writer.instants new.horizon in
-        let before_it : lines_of p (values p (items ++ next.more)) old.horizon ≡ lines_of p (values p items) old.horizon =
-        agree p (values p items) (values p (items ++ next.more)) old.horizon can next.fronts along.suffice in
+        let before_it = lines_at done later still in
         record {
           lists = values p (items ++ next.more);
-          done = old.horizon;
+          done = done;
           horizon = new.horizon;
-          aim = new.target;
-          later = next.later;
-          near = omega (arith, next.near, paced);
+          aim = aim;
+          later = within;
+          near = near;
           within = omega (arith, next.along.last.within, next.along.early);
           suffice = next.along.suffice;
-          fed = fed_feeds turn (words_of p) new.target p.inputs first now new.reader (items ++ next.more) next.along.fed;
+          fed = fed_feeds turn (words_of p) aim p.inputs first now new.reader (items ++ next.more) fed;
           left = record {
             between = written;
             rest = rest;
@@ -104,6 +117,29 @@ module _ (p : Program) (first : SeenSource) (was : SeenSink) (items : List ItemO
             failed = fails;
           };
         }
+
+    -- a write of the lines failed
+    pub writing_broken : OneCut → SomeCut → CutInPieces → (sink : SeenSink) (block most : ℕ) → old.block ≡ block → most_instants new.given ≡ most →
+        Fails written sink (lines_after writer.outputs streams writer.instants new.horizon) → BreaksOff p first was block most now sink error.Failed
+    writing_broken one some pieces sink block most paced same fails =
+        let (silent, ahead, still, near) = next.goes.near in
+        let fed = next.along.fed in
+        elim (cases_lt new.horizon silent) [
+          | inr late ↦ failed_behind sink block most silent new.target same fails late ahead still (omega (arith, near, paced)) fed
+          | inl early ↦
+              let quiet = silent_earlier p.outputs old.horizon new.horizon silent next.later (omega arith) still in
+              elim (cases_lt new.horizon new.target) [
+                | inr whole ↦ failed_behind sink block most new.horizon new.target same fails (omega arith) next.later quiet (omega arith) fed
+                | inl short ↦ elim next.along.last.last [
+                  | inl all ↦ absurd (omega (arith, all))
+                  | inr cut ↦
+                      let few : Suffice (words_of p) (values p (items ++ next.more)) (new.horizon + 1) → ⊥ =
+                      λ enough. (let reached = cut.1 (new.horizon + 1) (omega arith) enough in absurd (omega (arith, reached))) in
+                      failed_behind sink block most new.horizon (new.horizon + 1) same fails (omega arith) next.later quiet (omega (arith, along.block.0, paced))
+                      (fed_for one some pieces turn (words_of p) (new.horizon + 1) new.target p.inputs first now new.reader (items ++ next.more) cut.0 few fed)
+                ]
+              ]
+        ]
 
     -- they were written
     pub written_on : (sink : SeenSink) (end : WriterState) → end ≡ record writer { instants = new.horizon } → Writes written sink (lines_after writer.outputs streams writer.instants new.horizon) →

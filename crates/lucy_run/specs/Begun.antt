@@ -14,4 +14,4 @@ pub record IsRunBegun (ops : List Operator) (a : Accepted) (pace : Pace) (output
   pub pace_is : IsPace pace
   pub given : a.inputs.items ≡ [] → pace.instants ≢ None
   pub outputs_are : outputs ≡ a.outputs.items
-  pub begun : IsCourseBegun (kinds_of ops) a.placed.nodes a.clocks.items a.inputs.items pace course
+  pub begun : IsCourseBegun (kinds_of ops) a.placed.nodes a.clocks.items a.inputs.items a.outputs.items pace course

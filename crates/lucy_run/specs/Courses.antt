@@ -1,6 +1,6 @@
 -- What is seen of a run between blocks, and how it goes on and ends.
-use Rattle.std.specs.Prelude.{ℕ, ℤ, ◌+◌, ◌<◌, ◌≤◌, ◌≡◌, ◌≢◌, ◌⊎◌, true, List, [], ◌∷◌, ◌++◌, map, length, Option}
-use Rattle.lucy_word.specs.Bits.{Bits}
+use Rattle.std.specs.Prelude.{ℕ, ℤ, ◌+◌, ◌*◌, ◌<◌, ◌≤◌, ◌≡◌, ◌≢◌, ◌⊎◌, true, List, [], ◌∷◌, ◌++◌, map, length, slice_get, Option, Some}
+use Rattle.lucy_word.specs.Bits.{Bits, ones_to}
 use Rattle.lucy_word.specs.Limits.{limit_number}
 use Rattle.lucy_word.specs.declared.limit.Limit.TheVariants as limit
 use Rattle.lucy_host.specs.declared.kind.HostKind.{HostKind}
@@ -44,10 +44,11 @@ pub record CanBeRunInBlocks (p : Program) : Type 0 where
   pub inputs : length p.inputs ≡ params_in (main_of p.nodes)
   pub words : map (λ (o : OutputSpec). o.word) p.outputs ≡ result_words p.nodes p.clocks
 
--- What is seen of a run between blocks: the words of main's inputs, what was read and what was run, how many instants the run is to
+-- What is seen of a run between blocks: the words of main's inputs, its outputs, what was read and what was run, how many instants the run is to
 -- have and how many a block, to which instant the last block was to go, and to which it went.
 pub record CourseView : Type 0 where
   pub words : List Bits
+  pub outputs : List OutputSpec
   pub reader : FeedState
   pub player : PlayerView
   pub given : Option ℕ
@@ -102,6 +103,7 @@ pub record IsAlong (p : Program) (first : SeenSource) (items : List ItemOf) (now
   pub kept : c.reader.reader.inputs ≡ p.inputs
   pub fresh : AreFresh p.inputs c.reader []
   pub words : c.words ≡ words_of p
+  pub outputs : c.outputs ≡ p.outputs
   pub run : IsRunTo p (values p items) c.horizon c.player
   pub suffice : Suffice (words_of p) (values p items) c.horizon
   pub last : IsLastRead p items c.target c.horizon c.reader
@@ -114,9 +116,9 @@ abbrev pub IsCourseUnderWay : (now : SeenSource) → CourseView → Type 0
 IsCourseUnderWay now c = (p : Program) × (first : SeenSource) × (items : List ItemOf) × CanBeRunInBlocks p × IsAlong p first items now c
 
 -- a course of this program, at this pace, of which nothing was run
-abbrev pub IsCourseBegun : List HostKind → List PlacedNode → List NodeClock → List InputSpec → Pace → CourseView → Type 0
-IsCourseBegun kinds nodes clocks inputs pace c =
-    (c.given ≡ pace.instants) × (c.block ≡ pace.block) × (c.horizon ≡ 0) × ((source : SeenSource) (outputs : List OutputSpec) →
+abbrev pub IsCourseBegun : List HostKind → List PlacedNode → List NodeClock → List InputSpec → List OutputSpec → Pace → CourseView → Type 0
+IsCourseBegun kinds nodes clocks inputs outputs pace c =
+    (c.given ≡ pace.instants) × (c.block ≡ pace.block) × (c.horizon ≡ 0) × ((source : SeenSource) →
     IsAlong (record { kinds = kinds; nodes = nodes; clocks = clocks; inputs = inputs; outputs = outputs }) source [] source c)
 
 -- it has a block more: the last one went as far as it was to go, which isn't yet as far as the run is to go
@@ -127,13 +129,29 @@ HasMore c = (c.horizon ≡ c.target) × (c.target < most_instants c.given)
 abbrev pub HasStopped : CourseView → Type 0
 HasStopped c = (c.horizon ≢ c.target) ⊎ (most_instants c.given ≤ c.target)
 
+-- no output has an item behind an instant, up to a later one
+abbrev pub AreSilent : List OutputSpec → (from to : ℕ) → Type 0
+AreSilent outputs from to = (i : ℕ) (o : OutputSpec) → slice_get outputs i ≡ Some o → ones_to o.word to ≡ ones_to o.word from
+
+-- the most instants of several blocks that are run as one
+abbrev pub long_block : ℕ
+long_block = 4096
+
+-- To which instant a run goes behind the last one: by a block more, or by several of which all but the last have no item of an output
+-- and which have no more instants than a long block; by fewer where these are the most.
+pub record IsNextTarget (outputs : List OutputSpec) (block most last target : ℕ) : Type 0 where
+  pub within : target ≤ most
+  pub whole : (target ≡ most) ⊎ ((blocks : ℕ) × (1 ≤ blocks) × (target ≡ last + blocks * block))
+  pub near : (silent : ℕ) × (last ≤ silent) × AreSilent outputs last silent × (target ≤ silent + block)
+  pub short : (target ≤ last + block) ⊎ (target ≤ last + long_block)
+
 -- it goes on behind the items that were read: more are read, and these are what the streams of main's results have more at the next horizon
 pub record IsNextBlock (p : Program) (first : SeenSource) (items : List ItemOf) (now : SeenSource) (old new : CourseView) (streams : List (List ℤ)) : Type 0 where
   pub more : List ItemOf
   pub fronts : AreFronts (values p items) (values p (items ++ more))
   pub along : IsAlong p first (items ++ more) now new
   pub later : old.horizon ≤ new.horizon
-  pub near : new.target ≤ old.horizon + old.block
+  pub goes : IsNextTarget p.outputs old.block (most_instants old.given) old.horizon new.target
   pub streams_are : streams ≡ later_streams p.kinds (values p (items ++ more)) p.nodes p.clocks old.horizon new.horizon
 
 -- so it does behind whatever was read

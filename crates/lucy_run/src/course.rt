@@ -1,6 +1,8 @@
 // A run from block to block.
-ghost use Rattle.std.specs.Prelude.{◌≡◌, ◌≢◌, ◌≤◌, ◌<◌, ◌+◌, ◌^◌, ◌⊎◌, [], None, true, false, map, length, IfOk, OnOk, OnErr};
+ghost use Rattle.std.specs.Prelude.{ℕ, ◌≡◌, ◌≢◌, ◌≤◌, ◌<◌, ◌+◌, ◌^◌, ◌⊎◌, [], None, true, false, map, length, IfOk, OnOk, OnErr};
 ghost use Rattle.lucy_word.specs.Bits.{ones_to};
+ghost use Rattle.lucy_word.specs.Limits.{limit_number};
+ghost use Rattle.lucy_word.specs.declared.limit.Limit.TheVariants as limit;
 ghost use Rattle.lucy_host.specs.Host.{Serves, lent};
 ghost use Rattle.lucy_host.specs.Operators.{kinds_of};
 ghost use Rattle.lucy_place.specs.Proper.{HaveOperators};
@@ -11,9 +13,9 @@ ghost use Rattle.lucy_flat.specs.Flat.{IsFlat};
 ghost use Rattle.lucy_meaning.specs.Spots.{main_of};
 ghost use Rattle.lucy_kahn.specs.Turns.{params_in};
 ghost use Rattle.lucy_feed.specs.Resuming.{AreMet};
-ghost use Rattle.lucy_run.specs.Paces.{IsPace};
+ghost use Rattle.lucy_run.specs.Paces.{IsPace, IsBlock};
 ghost use Rattle.lucy_run.specs.Owes as owes;
-ghost use Rattle.lucy_run.specs.Courses.{IsCourseBegun, IsCourseUnderWay, HasMore, HasStopped, GivesUpBehind, CourseGoesOn, EndsOver};
+ghost use Rattle.lucy_run.specs.Courses.{AreSilent, IsNextTarget, IsCourseBegun, IsCourseUnderWay, HasMore, HasStopped, GivesUpBehind, CourseGoesOn, EndsOver};
 ghost use Rattle.lucy_run.specs.Played.{ReadsOn, CountsAllow, PlayerCanGoOn, PlayerHasGoneOn};
 
 use crate::ending::Ending;
@@ -25,6 +27,7 @@ use lucy_feed::{FeedReader, empty_lists, values_in_turn};
 use lucy_host::{Host, Inputs};
 use lucy_lines::InputSpec;
 use lucy_net::Net;
+use lucy_output::OutputSpec;
 use lucy_place::Placed;
 use lucy_results::{Player, allows_more, horizon, param_words};
 use lucy_text::Source;
@@ -39,6 +42,8 @@ use std::thread::Threads;
 pub struct Course<'a> {
     // of main's inputs
     words: &'a [Word],
+    // of main's results
+    outputs: &'a [OutputSpec],
     reader: FeedReader,
     player: Player<'a>,
     // how many instants the run is to have, and how many a block
@@ -54,7 +59,7 @@ impl<'a> Model for Course<'a> {
 
     ghost Value = { CourseView };
 
-    ghost view = { λ c. record { words = c.words.now; reader = c.reader; player = c.player; given = c.given; block = c.block; target = c.target; horizon = c.horizon } };
+    ghost view = { λ c. record { words = c.words.now; outputs = c.outputs.now; reader = c.reader; player = c.player; given = c.given; block = c.block; target = c.target; horizon = c.horizon } };
 }
 
 // How many items of each input, of these words, so many instants need.
@@ -63,6 +68,41 @@ fn wanted_at(alloc: Global, words: &[Word], instants: u64) -> Result<Vec<u64>, O
 {
     Ok(words.iter().map(|word| word.ones(instants)).collect(alloc)?)
 }
+
+// The last instant, up to the most, to which a word has no more ones than up to an instant.
+fn still_to(word: &Word, from: u64, most: u64) -> u64
+    requires later { from ≤ most }
+    requires few { most ≤ limit_number limit.Instants }
+    ensures from { from ≤ result }
+    ensures most { result ≤ most }
+    ensures still { (t : ℕ) → from ≤ t → t ≤ result → ones_to word.now t ≡ ones_to word.now from }
+{
+    if from == most {
+        return from;
+    }
+    match word.index(word.ones(from) + 1) {
+        Some(place) => most.min(place - 1),
+        None => most,
+    }
+}
+
+// The last instant, up to the most, to which no output has more items than up to an instant.
+fn silent_to(outputs: &[OutputSpec], from: u64, most: u64) -> u64
+    requires later { from ≤ most }
+    requires few { most ≤ limit_number limit.Instants }
+    ensures from { from ≤ result }
+    ensures most { result ≤ most }
+    ensures silent { AreSilent outputs.now from result }
+{
+    let mut last = most;
+    'each: for output in outputs {
+        last = still_to(&output.word, from, last);
+    }
+    last
+}
+
+// The most instants of several blocks that are run as one: as many as the block of a command to which none is given has.
+const LONG_BLOCK: u64 = 4_096;
 
 impl<'a> Course<'a> {
     /// A run before its first instant.
@@ -74,6 +114,7 @@ impl<'a> Course<'a> {
         net: Net,
         schedule: Schedule,
         inputs: Vec<InputSpec>,
+        outputs: &'a [OutputSpec],
         host: &Host<F>,
         gate: &G,
         pace: Pace,
@@ -86,7 +127,7 @@ impl<'a> Course<'a> {
         requires inputs { length inputs.items ≡ params_in (main_of placed.now.nodes) }
         requires few { length inputs.items < 2 ^ 32 }
         requires pace { IsPace pace }
-        ensures begun { IfOk result (IsCourseBegun (kinds_of (lent host.now)) placed.now.nodes clocks.now inputs.items pace) }
+        ensures begun { IfOk result (IsCourseBegun (kinds_of (lent host.now)) placed.now.nodes clocks.now inputs.items outputs.now pace) }
     {
         let words = param_words(placed, clocks);
         let none = empty_lists(alloc, inputs.len())?;
@@ -106,6 +147,7 @@ impl<'a> Course<'a> {
         )?;
         Ok(Course {
             words,
+            outputs,
             reader,
             player,
             given: pace.instants,
@@ -130,14 +172,20 @@ impl<'a> Course<'a> {
         self.horizon == self.target && self.target < most_instants(self.given)
     }
 
-    // To which instant the next block is to go.
+    // To which instant the next block is to go. Those before it in which no output has an item are run with it, as far as all together have
+    // no more instants than a long block.
     fn next_target(&self) -> u64
-        requires { self.now.target + self.now.block < 2 ^ 64 }
-        ensures most { result ≤ owes.most_instants self.now.given }
-        ensures near { result ≤ self.now.target + self.now.block }
-        ensures least { (result ≡ owes.most_instants self.now.given) ⊎ (result ≡ self.now.target + self.now.block) }
+        requires early { self.now.target ≤ owes.most_instants self.now.given }
+        requires few { owes.most_instants self.now.given ≤ limit_number limit.Instants }
+        requires block { IsBlock self.now.block }
+        ensures goes { IsNextTarget self.now.outputs self.now.block (owes.most_instants self.now.given) self.now.target result }
+        ensures ahead { self.now.target < owes.most_instants self.now.given → self.now.target < result }
     {
-        most_instants(self.given).min(self.target + self.block)
+        let most = most_instants(self.given);
+        let spare = LONG_BLOCK.saturating_sub(self.block);
+        let silent = silent_to(self.outputs, self.target, most.min(self.target + spare));
+        let skipped = (silent - self.target) / self.block * self.block;
+        most.min(self.target + skipped + self.block)
     }
 
     // To which instant the items that were read allow, up to this one.

@@ -22,6 +22,7 @@ use crate::pace::Pace;
 use lucy_feed::values_in_turn;
 use lucy_front::{Accepted, accepted_programs_are_clocked, report};
 use lucy_host::Host;
+use lucy_lines::{cut_in_pieces, one_cut, some_cut};
 use lucy_output::{OutputError, OutputSpec, OutputWriter, instant_by_instant};
 use lucy_text::{Sink, Source, write_all};
 use lucy_word::OutOfMemory;
@@ -82,6 +83,9 @@ fn play<R: Threads + Sync, F: Fn(u32, i64, i64) -> i64 + Sync, G: Gate + Sync, I
 {
     lines_go_on();
     values_in_turn();
+    one_cut();
+    some_cut();
+    cut_in_pieces();
     'blocks: while course.goes_on() {
         let streams = course.next_block(rt, alloc, host, gate, source)?;
         writer.write(&streams, course.horizon(), out)?;
@@ -131,9 +135,10 @@ fn play_course<
 }
 
 /// Runs an accepted program at a pace: its report and the line `run` are written, and then the lines of its results up to the horizon,
-/// at most as many instants as are given, or 1,048,576 where none are. It goes by blocks of so many instants: lines of the input are
-/// read until there are the items that the block needs, and then the block is run, and its lines are written. Behind the last
-/// block the input is read on to its end or its first fault. A main without inputs reads nothing, and runs so many instants. No
+/// at most as many instants as are given, or 1,048,576 where none are. It goes by blocks of as many instants
+/// as the pace says: lines of the input are read until there are the items that the block needs, and then the block is run, and its
+/// lines are written. Blocks in which no output has an item are run with the next one, as far as all together have no more than
+/// 4,096 instants. Behind the last block the input is read on to its end or its first fault. A main without inputs reads nothing, and runs so many instants. No
 /// byte of the output depends on the block.
 ///
 /// After a failed write nothing more is written and nothing more is read: where that is a write of the report or of the line
@@ -179,7 +184,7 @@ pub fn run<
     } = accepted;
     accepted_programs_are_clocked();
     match Course::new(
-        rt, alloc, &placed, &clocks, net, schedule, inputs, host, gate, pace,
+        rt, alloc, &placed, &clocks, net, schedule, inputs, &outputs, host, gate, pace,
     ) {
         Ok(mut course) => play_course(rt, alloc, host, gate, &mut course, &outputs, source, out),
         Err(_) => Ending::OutOfMemory,

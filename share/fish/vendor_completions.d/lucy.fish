@@ -16,6 +16,6 @@ complete -c lucy -n '__fish_seen_subcommand_from clocks tighten run kahn trace r
 complete -c lucy -n '__fish_seen_subcommand_from clocks tighten run kahn trace replay' -l lead -x -d 'free periods'
 complete -c lucy -n '__fish_seen_subcommand_from run kahn trace replay' -l instants -x -d 'at most so many'
 complete -c lucy -n '__fish_seen_subcommand_from run trace make' -l workers -x -d 'threads'
-complete -c lucy -n '__fish_seen_subcommand_from run make' -l block -x -d 'instants between two writes'
+complete -c lucy -n '__fish_seen_subcommand_from run make' -l block -x -d 'instants of a block'
 complete -c lucy_table -w lucy
 complete -c lucy_table -n __fish_use_subcommand -l table -x -d 'a lookup table: NAME FILE'

@@ -32,14 +32,14 @@ pub tell-requires-clause-first : goal.tell-requires-clause-first
 tell-requires-clause-first g c κs within =
     let pace : Pace = record { instants = None; workers = c.args.workers; block = c.args.block } in
     let can = can_run _ c.requires.accepted.0 c.requires.accepted.1 c.args.accepted c.requires.accepted.2 (kinds_of (lent c.args.host.now)) in
-    is_first (kinds_of (lent c.args.host.now)) c.args.accepted can c.deref.result.now c.deref.ensures.value pace refl c.in_ok-course.course c.in_ok-course.ensures.begun
+    is_first (kinds_of (lent c.args.host.now)) c.args.accepted can c.deref.result.now c.deref.ensures.value c.deref-2.result.now c.deref-2.ensures.value pace refl c.in_ok-course.course c.in_ok-course.ensures.begun
     (steady c.in_ok-source.source)
 
 pub finish-requires-clause-under_way : goal.finish-requires-clause-under_way
 finish-requires-clause-under_way g c =
     let pace : Pace = record { instants = None; workers = c.args.workers; block = c.args.block } in
     let can = can_run _ c.requires.accepted.0 c.requires.accepted.1 c.args.accepted c.requires.accepted.2 (kinds_of (lent c.args.host.now)) in
-    under_way (kinds_of (lent c.args.host.now)) c.args.accepted can c.deref.result.now c.deref.ensures.value pace refl c.in_ok-course.course c.in_ok-course.ensures.begun
+    under_way (kinds_of (lent c.args.host.now)) c.args.accepted can c.deref.result.now c.deref.ensures.value c.deref-2.result.now c.deref-2.ensures.value pace refl c.in_ok-course.course c.in_ok-course.ensures.begun
     (steady c.in_ok-source.source) (steady c.tell.new.source) c.tell.new.course c.in_ok-tally.tally.count c.in_ok-tally.tally.sum
     c.in_ok-tally.ensures.tells c.in_ok-tally.ensures.given
 
@@ -47,7 +47,7 @@ pub finish-requires-clause-given : goal.finish-requires-clause-given
 finish-requires-clause-given g c = λ none.
     let pace : Pace = record { instants = None; workers = c.args.workers; block = c.args.block } in
     let can = can_run _ c.requires.accepted.0 c.requires.accepted.1 c.args.accepted c.requires.accepted.2 (kinds_of (lent c.args.host.now)) in
-    absurd (some_words (kinds_of (lent c.args.host.now)) c.args.accepted can c.deref.result.now c.deref.ensures.value pace refl c.in_ok-course.course c.in_ok-course.ensures.begun
+    absurd (some_words (kinds_of (lent c.args.host.now)) c.args.accepted can c.deref.result.now c.deref.ensures.value c.deref-2.result.now c.deref-2.ensures.value pace refl c.in_ok-course.course c.in_ok-course.ensures.begun
     (steady c.in_ok-source.source) (steady c.tell.new.source) c.tell.new.course c.in_ok-tally.tally.count c.in_ok-tally.tally.sum
     c.in_ok-tally.ensures.tells c.in_ok-tally.ensures.given c.requires.inputs none)
 
@@ -57,7 +57,7 @@ returns-in_default-clause-err g c =
     let can = can_run _ c.requires.accepted.0 c.requires.accepted.1 c.args.accepted c.requires.accepted.2 (kinds_of (lent c.args.host.now)) in
     inr (
       c.in_default.not-Done,
-      refused (kinds_of (lent c.args.host.now)) c.args.accepted can c.deref.result.now c.deref.ensures.value pace refl c.in_ok-course.course c.in_ok-course.ensures.begun
+      refused (kinds_of (lent c.args.host.now)) c.args.accepted can c.deref.result.now c.deref.ensures.value c.deref-2.result.now c.deref-2.ensures.value pace refl c.in_ok-course.course c.in_ok-course.ensures.begun
           (steady c.in_ok-source.source) (steady c.tell.new.source) c.tell.new.course c.in_ok-tally.tally.count c.in_ok-tally.tally.sum
           c.in_ok-tally.ensures.tells c.in_ok-tally.ensures.given
           c.cut_in_pieces.ensures c.first_goes_on.ensures.agrees c.requires.inputs c.finish.new.source c.finish.result (ap (λ s. Some s) c.in_ok-source.ensures) refl c.finish.ensures.over c.args.stages c.in_default.not-Done,
@@ -67,7 +67,7 @@ pub returns-clause-ok : goal.returns-clause-ok
 returns-clause-ok g c =
     let pace : Pace = record { instants = None; workers = c.args.workers; block = c.args.block } in
     let can = can_run _ c.requires.accepted.0 c.requires.accepted.1 c.args.accepted c.requires.accepted.2 (kinds_of (lent c.args.host.now)) in
-    figured (kinds_of (lent c.args.host.now)) c.args.accepted can c.deref.result.now c.deref.ensures.value pace refl c.in_ok-course.course c.in_ok-course.ensures.begun
+    figured (kinds_of (lent c.args.host.now)) c.args.accepted can c.deref.result.now c.deref.ensures.value c.deref-2.result.now c.deref-2.ensures.value pace refl c.in_ok-course.course c.in_ok-course.ensures.begun
     (steady c.in_ok-source.source) (steady c.tell.new.source) c.tell.new.course c.in_ok-tally.tally.count c.in_ok-tally.tally.sum
     c.in_ok-tally.ensures.tells c.in_ok-tally.ensures.given
     c.cut_in_pieces.ensures c.first_goes_on.ensures.agrees c.requires.inputs c.finish.new.source c.finish.result (ap (λ s. Some s) c.in_ok-source.ensures) refl c.finish.ensures.over

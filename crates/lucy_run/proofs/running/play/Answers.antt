@@ -54,7 +54,7 @@ returns-in_err-write-clause-plays g c = λ p first was items can along has.
     c.in_err-write.ensures.failed in
     breaks_so c.from_residual-in_err-write.result error.Failed _ _ c.from_residual-in_err-write.ensures.1
     (writing_broken p first was all (g.I.Source.seen c.blocks-2.source) c.blocks-2.course now (g.O.Sink.seen c.blocks-2.out) c.blocks-2.writer lines c.values_in_turn.ensures c.lines_go_on.ensures.blocks
-    can (g.I.Source.seen c.next_block.new.source) c.next_block.new.self c.in_ok-streams.streams next c.lines_go_on.ensures.agree (g.O.Sink.seen c.write.new.sink)
+    can (g.I.Source.seen c.next_block.new.source) c.next_block.new.self c.in_ok-streams.streams next c.one_cut.ensures c.some_cut.ensures c.cut_in_pieces.ensures (g.O.Sink.seen c.write.new.sink)
     c.args.course.now.block (most_instants c.args.course.now.given) c.blocks-2.invariant.block (ap most_instants (c.in_ok-streams.ensures.given ∙ c.blocks-2.invariant.given)) fails)
 
 pub returns-clause-plays : goal.returns-clause-plays

@@ -1,4 +1,4 @@
-use Rattle.std.proofs.Common.{Err, ap, sym, refl, ◌∙◌, subst}
+use Rattle.std.proofs.Common.{Err, ap, sym, refl, ◌∙◌}
 use Rattle.lucy_host.specs.Host.{lent}
 use Rattle.lucy_host.specs.Operators.{kinds_of}
 use Rattle.lucy_run.specs.Owes.{heading}

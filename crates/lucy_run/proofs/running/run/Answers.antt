@@ -1,5 +1,6 @@
 use Rattle.std.proofs.Common.{List, sym, refl, subst}
 use Rattle.lucy_clock.specs.declared.node_clock.NodeClock.{NodeClock}
+use Rattle.lucy_output.specs.declared.output.OutputSpec.{OutputSpec}
 use Rattle.lucy_host.specs.Host.{lent}
 use Rattle.lucy_host.specs.Operators.{kinds_of}
 use Rattle.lucy_flat.specs.Clocked.{AreClocked}
@@ -39,19 +40,28 @@ returns-clause-ends g c =
 pub play_course-requires-clause-begun : goal.play_course-requires-clause-begun
 play_course-requires-clause-begun g c κs within =
     let a = c.args.accepted in
-    let begun = subst (λ (cs : List NodeClock). IsCourseBegun (kinds_of (lent c.args.host.now)) a.placed.nodes cs a.inputs.items c.args.pace c.in-Ok-new.course) c.deref.ensures.value c.in-Ok-new.ensures.begun in
+    let by_clocks = subst (λ (cs : List NodeClock). IsCourseBegun (kinds_of (lent c.args.host.now)) a.placed.nodes cs a.inputs.items c.deref-2.result.now c.args.pace c.in-Ok-new.course)
+    c.deref.ensures.value c.in-Ok-new.ensures.begun in
+    let begun = subst (λ (os : List OutputSpec). IsCourseBegun (kinds_of (lent c.args.host.now)) a.placed.nodes a.clocks.items a.inputs.items os c.args.pace c.in-Ok-new.course)
+    c.deref-2.ensures.value by_clocks in
     (a, c.args.pace, record { accepted = c.requires.accepted; pace_is = c.requires.pace; given = c.requires.given; outputs_are = c.deref-in-Ok-new.ensures.value; begun = begun })
 
 pub returns-in-Ok-new-clause-ends : goal.returns-in-Ok-new-clause-ends
 returns-in-Ok-new-clause-ends g c =
     let a = c.args.accepted in
-    let begun = subst (λ (cs : List NodeClock). IsCourseBegun (kinds_of (lent c.args.host.now)) a.placed.nodes cs a.inputs.items c.args.pace c.in-Ok-new.course) c.deref.ensures.value c.in-Ok-new.ensures.begun in
+    let by_clocks = subst (λ (cs : List NodeClock). IsCourseBegun (kinds_of (lent c.args.host.now)) a.placed.nodes cs a.inputs.items c.deref-2.result.now c.args.pace c.in-Ok-new.course)
+    c.deref.ensures.value c.in-Ok-new.ensures.begun in
+    let begun = subst (λ (os : List OutputSpec). IsCourseBegun (kinds_of (lent c.args.host.now)) a.placed.nodes a.clocks.items a.inputs.items os c.args.pace c.in-Ok-new.course)
+    c.deref-2.ensures.value by_clocks in
     c.play_course.ensures.ends a c.args.pace (g.O.Sink.seen c.args.out.now)
     (record { accepted = c.requires.accepted; pace_is = c.requires.pace; given = c.requires.given; outputs_are = c.deref-in-Ok-new.ensures.value; begun = begun }) (on_ok _ _ c.in-Ok.is c.write_heading.ensures.ok)
 
 pub returns-in-Ok-new-clause-unread : goal.returns-in-Ok-new-clause-unread
 returns-in-Ok-new-clause-unread g c none =
     let a = c.args.accepted in
-    let begun = subst (λ (cs : List NodeClock). IsCourseBegun (kinds_of (lent c.args.host.now)) a.placed.nodes cs a.inputs.items c.args.pace c.in-Ok-new.course) c.deref.ensures.value c.in-Ok-new.ensures.begun in
+    let by_clocks = subst (λ (cs : List NodeClock). IsCourseBegun (kinds_of (lent c.args.host.now)) a.placed.nodes cs a.inputs.items c.deref-2.result.now c.args.pace c.in-Ok-new.course)
+    c.deref.ensures.value c.in-Ok-new.ensures.begun in
+    let begun = subst (λ (os : List OutputSpec). IsCourseBegun (kinds_of (lent c.args.host.now)) a.placed.nodes a.clocks.items a.inputs.items os c.args.pace c.in-Ok-new.course)
+    c.deref-2.ensures.value by_clocks in
     c.play_course.ensures.unread a c.args.pace
     (record { accepted = c.requires.accepted; pace_is = c.requires.pace; given = c.requires.given; outputs_are = c.deref-in-Ok-new.ensures.value; begun = begun }) none

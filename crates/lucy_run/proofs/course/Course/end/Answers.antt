@@ -14,7 +14,7 @@ use Rattle.lucy_run.proofs.course.Course.end.Goals as goal
 pub returns-then-is_empty-clause-over : goal.returns-then-is_empty-clause-over
 returns-then-is_empty-clause-over g c =
     let x = c.self.inside in
-    let v : CourseView = record { words = x.words.now; reader = x.reader; player = x.player; given = x.given; block = x.block; target = x.target; horizon = x.horizon } in
+    let v : CourseView = record { words = x.words.now; outputs = x.outputs.now; reader = x.reader; player = x.player; given = x.given; block = x.block; target = x.target; horizon = x.horizon } in
     let given : x.words.now ≡ [] → x.given ≡ None → ⊥ = subst (λ (w : CourseView). w.words ≡ [] → w.given ≡ None → ⊥) (sym c.self.view_is) c.requires.given in
     let none = no_words x.words.now (eqb-true _ _ (sym c.is_empty.ensures ∙ c.if-is_empty.true)) in
     subst (λ (w : CourseView). EndsOver (g.I.Source.seen c.args.source.now) (g.I.Source.seen c.args.source.now) w ending.Done) c.self.view_is
@@ -32,7 +32,7 @@ allows_more-more-requires-clause-counts g c =
 pub returns-clause-over : goal.returns-clause-over
 returns-clause-over g c =
     let x = c.self.inside in
-    let v : CourseView = record { words = x.words.now; reader = x.reader; player = x.player; given = x.given; block = x.block; target = x.target; horizon = x.horizon } in
+    let v : CourseView = record { words = x.words.now; outputs = x.outputs.now; reader = x.reader; player = x.player; given = x.given; block = x.block; target = x.target; horizon = x.horizon } in
     subst (λ (w : CourseView). EndsOver (g.I.Source.seen c.args.source.now) (g.I.Source.seen c.pass_rest.new.source) w c.ending_for.result) c.self.view_is (λ p first items can along stopped.
     let some : words_of p ≡ [] → ⊥ =
     λ (e : words_of p ≡ []). (let empty : length x.words.now ≡ 0 = ap length (along.words ∙ e) in eqb-false _ _ (sym c.is_empty.ensures ∙ c.if-is_empty.false) empty) in

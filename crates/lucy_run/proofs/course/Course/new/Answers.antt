@@ -16,8 +16,8 @@ returns g c =
         refl,
         refl,
         refl,
-        λ source outputs. begin _ _ c.in_ok-none.none c.in_ok-reader.ensures.begun c.in_ok-reader.ensures.inputs c.in_ok-reader.ensures.fresh none c.in_ok-player.ensures
-            c.param_words-words.ensures.words refl refl
+        λ source. begin _ _ c.in_ok-none.none c.in_ok-reader.ensures.begun c.in_ok-reader.ensures.inputs c.in_ok-reader.ensures.fresh none c.in_ok-player.ensures
+            c.param_words-words.ensures.words refl refl refl
             (few_most c.args.pace.instants c.requires.pace.few) c.requires.pace.block source,
       );
     }

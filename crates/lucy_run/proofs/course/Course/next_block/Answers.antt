@@ -1,5 +1,5 @@
-use Rattle.std.proofs.Common.{◌+◌, ◌≤◌, length, ap, sym, ◌∙◌, subst, arith}
-use Rattle.lucy_run.specs.Courses.{CourseView, words_of, IsNextBlock}
+use Rattle.std.proofs.Common.{◌≤◌, length, ap, sym, ◌∙◌, subst, arith}
+use Rattle.lucy_run.specs.Courses.{CourseView, words_of, IsNextTarget, IsNextBlock}
 use Rattle.lucy_run.specs.Played.{CountsAllow, PlayerCanGoOn, PlayerHasGoneOn}
 use Rattle.lucy_run.specs.Owes.{most_instants}
 use Rattle.lucy_output.proofs.SinkLaws.{on_err}
@@ -16,12 +16,12 @@ read-requires g c =
 pub next_target-target-requires : goal.next_target-target-requires
 next_target-target-requires g c =
     let (p, first, items, can, along) = c.requires.under_way in
-    omega (arith, along.early, along.few, along.block.1)
+    record { early = along.early; few = along.few; block = along.block }
 
 pub allowed-horizon-requires : goal.allowed-horizon-requires
 allowed-horizon-requires g c =
     let (p, first, items, can, along) = c.requires.under_way in
-    let ahead : c.args.self.now.target ≤ c.next_target-target.result = omega (arith, c.next_target-target.ensures.least, along.early) in
+    let ahead : c.args.self.now.target ≤ c.next_target-target.result = omega (arith, c.next_target-target.ensures.ahead c.requires.more.1) in
     let (more, fed, fresh, kept) = read_behind p first items (g.I.Source.seen c.args.source.now) c.args.self.now along (g.I.Source.seen c.read.new.source) c.read.new.self.reader
     c.next_target-target.result ahead c.in_ok-read.ensures.reads in
     let many = (fed_counts (words_of p) c.next_target-target.result p.inputs first (g.I.Source.seen c.read.new.source) c.read.new.self.reader _ fed).many in
@@ -33,10 +33,10 @@ go_on-requires-clause-kinds g c κs within = c.requires.kinds ∙ sym (ap (λ (x
 pub go_on-requires-clause-can : goal.go_on-requires-clause-can
 go_on-requires-clause-can g c κs within =
     let (p, first, items, can, along) = c.requires.under_way in
-    let ahead : c.args.self.now.target ≤ c.next_target-target.result = omega (arith, c.next_target-target.ensures.least, along.early) in
+    let ahead : c.args.self.now.target ≤ c.next_target-target.result = omega (arith, c.next_target-target.ensures.ahead c.requires.more.1) in
     let (more, fed, fresh, kept) = read_behind p first items (g.I.Source.seen c.args.source.now) c.args.self.now along (g.I.Source.seen c.read.new.source) c.read.new.self.reader
     c.next_target-target.result ahead c.in_ok-read.ensures.reads in
-    let early : c.next_target-target.result ≤ most_instants c.args.self.now.given = c.next_target-target.ensures.most in
+    let early : c.next_target-target.result ≤ most_instants c.args.self.now.given = c.next_target-target.ensures.goes.within in
     let words = ap (λ (x : CourseView). x.words) c.in_ok-read.ensures.rest in
     let allow : CountsAllow c.args.self.now.words c.read.new.self.reader.counts c.next_target-target.result c.allowed-horizon.result =
     subst (λ ws. CountsAllow ws c.read.new.self.reader.counts c.next_target-target.result c.allowed-horizon.result) words c.allowed-horizon.ensures in
@@ -46,16 +46,18 @@ go_on-requires-clause-can g c κs within =
 
 pub returns-in_err-streams-clause-gives_up : goal.returns-in_err-streams-clause-gives_up
 returns-in_err-streams-clause-gives_up g c =
-    let ahead : c.args.self.now.target ≤ c.next_target-target.result = omega (arith, c.next_target-target.ensures.least, c.requires.more.1) in
+    let ahead : c.args.self.now.target ≤ c.next_target-target.result = omega (arith, c.next_target-target.ensures.ahead c.requires.more.1) in
     on_err _ _ (gives_up_on c.values_in_turn.ensures c.args.self.now.words c.args.self.now.target c.next_target-target.result ahead _ _ c.args.self.now.reader c.read.new.self.reader c.in_ok-read.ensures.reads)
 
 pub returns-clause-goes_on : goal.returns-clause-goes_on
 returns-clause-goes_on g c = λ p first items can along.
-    let ahead : c.args.self.now.target ≤ c.next_target-target.result = omega (arith, c.next_target-target.ensures.least, along.early) in
+    let ahead : c.args.self.now.target ≤ c.next_target-target.result = omega (arith, c.next_target-target.ensures.ahead c.requires.more.1) in
     let (more, fed, fresh, kept) = read_behind p first items (g.I.Source.seen c.args.source.now) c.args.self.now along (g.I.Source.seen c.read.new.source) c.read.new.self.reader
     c.next_target-target.result ahead c.in_ok-read.ensures.reads in
-    let early : c.next_target-target.result ≤ most_instants c.args.self.now.given = c.next_target-target.ensures.most in
-    let near : c.next_target-target.result ≤ c.args.self.now.horizon + c.args.self.now.block = omega (arith, c.next_target-target.ensures.near, c.requires.more.0) in
+    let early : c.next_target-target.result ≤ most_instants c.args.self.now.given = c.next_target-target.ensures.goes.within in
+    let by_outputs = subst (λ os. IsNextTarget os c.args.self.now.block (most_instants c.args.self.now.given) c.args.self.now.target c.next_target-target.result) along.outputs
+    c.next_target-target.ensures.goes in
+    let goes = subst (λ last. IsNextTarget p.outputs c.args.self.now.block (most_instants c.args.self.now.given) last c.next_target-target.result) (sym c.requires.more.0) by_outputs in
     let words = ap (λ (x : CourseView). x.words) c.in_ok-read.ensures.rest in
     let allow : CountsAllow c.args.self.now.words c.read.new.self.reader.counts c.next_target-target.result c.allowed-horizon.result =
     subst (λ ws. CountsAllow ws c.read.new.self.reader.counts c.next_target-target.result c.allowed-horizon.result) words c.allowed-horizon.ensures in
@@ -66,4 +68,4 @@ returns-clause-goes_on g c = λ p first items can along.
     subst (λ (x : CourseView). IsNextBlock p first items (g.I.Source.seen c.read.new.source) c.args.self.now x c.in_ok-streams.streams)
     (sym (c.stand_at.ensures ∙ ap (λ (x : CourseView). record x { target = c.next_target-target.result; horizon = c.allowed-horizon.result }) all))
     (next c.values_in_turn.ensures p first items (g.I.Source.seen c.args.source.now) c.args.self.now along (g.I.Source.seen c.read.new.source) c.read.new.self.reader more
-    c.next_target-target.result fed fresh kept c.allowed-horizon.result ahead allow c.go_on.new.self.reader c.go_on.new.self.player c.in_ok-streams.streams gone c.in_ok-read.ensures.enough early near)
+    c.next_target-target.result fed fresh kept c.allowed-horizon.result ahead allow c.go_on.new.self.reader c.go_on.new.self.player c.in_ok-streams.streams gone c.in_ok-read.ensures.enough early goes)
