@@ -14,8 +14,8 @@ want_lucy() {
 
 # Proves and builds the program of a crate, and leaves it in the variable of that name.
 want_program() {
-  (cd "$top/crates/$1" && rt run </dev/null) >"$place/built" 2>&1 || { cat "$place/built" >&2; exit 1; }
-  printf -v "$1" %s "$top/crates/$1/out/$1"
+  "$top/build" "$1" >&2
+  printf -v "$1" %s "$top/bin/$1"
 }
 
 # Compiles a C file of this folder, with options, and leaves it under its name in $place.
