@@ -1,8 +1,10 @@
 // Why nothing is printed.
 ghost use Rattle.std.specs.Prelude.{◌≡◌};
-ghost use Rattle.lucy_views.specs.Failures.{Tellable};
-ghost use Rattle.lucy_views.specs.declared.failure.Failure.TheVariants.{Program, OutOfMemory};
+ghost use Rattle.lucy_front.specs.Accepting.{syntax_refusal, names_refusal};
+ghost use Rattle.lucy_views.specs.Failures.{fetch_failure, program_failure};
+ghost use Rattle.lucy_views.specs.declared.failure.Failure.TheVariants.{OutOfMemory};
 
+use crate::missing::Missing;
 use lucy_place::NameError;
 use lucy_syntax::SyntaxError;
 use lucy_text::ShelfError;
@@ -15,9 +17,7 @@ pub(crate) enum Failure {
     /// The program is refused.
     Program(lucy_front::Refusal),
     /// What the words ask for isn't there.
-    Words(&'static str),
-    /// A main without inputs is to be run, and the words give no instants.
-    NoInstants,
+    Lacks(Missing),
     /// A fetch failed, or no file has the name.
     ReadFault,
     /// Memory ran out.
@@ -41,7 +41,7 @@ impl From<OutOfMemory> for Failure {
 }
 
 impl From<ShelfError> for Failure {
-    ghost from_gives = { λ _ e. Tellable e };
+    ghost from_gives = { λ error e. e ≡ fetch_failure error };
 
     fn from(error: ShelfError) -> Self {
         match error {
@@ -53,33 +53,28 @@ impl From<ShelfError> for Failure {
 }
 
 impl From<lucy_front::Refusal> for Failure {
-    ghost from_gives = { λ refusal e. e ≡ Program refusal };
+    ghost from_gives = { λ refusal e. e ≡ program_failure refusal };
 
     fn from(refusal: lucy_front::Refusal) -> Self {
-        Failure::Program(refusal)
+        match refusal {
+            lucy_front::Refusal::OutOfMemory => Failure::OutOfMemory,
+            refusal => Failure::Program(refusal),
+        }
     }
 }
 
 impl From<SyntaxError> for Failure {
-    ghost from_gives = { λ _ e. Tellable e };
+    ghost from_gives = { λ error e. e ≡ program_failure (syntax_refusal error) };
 
     fn from(error: SyntaxError) -> Self {
-        match error {
-            SyntaxError::OutOfMemory => Failure::OutOfMemory,
-            SyntaxError::TooLarge(limit) => Failure::Program(lucy_front::Refusal::Limit(limit)),
-            error => Failure::Program(lucy_front::Refusal::Syntax(error)),
-        }
+        Failure::from(lucy_front::Refusal::from(error))
     }
 }
 
 impl From<NameError> for Failure {
-    ghost from_gives = { λ _ e. Tellable e };
+    ghost from_gives = { λ error e. e ≡ program_failure (names_refusal error) };
 
     fn from(error: NameError) -> Self {
-        match error {
-            NameError::OutOfMemory => Failure::OutOfMemory,
-            NameError::TooMany(limit) => Failure::Program(lucy_front::Refusal::Limit(limit)),
-            error => Failure::Program(lucy_front::Refusal::Names(error)),
-        }
+        Failure::from(lucy_front::Refusal::from(error))
     }
 }

@@ -1,33 +1,35 @@
 // The command `freeze`: the program with every clock written out.
-ghost use Rattle.std.specs.Prelude.{IfErr};
-ghost use Rattle.lucy_views.specs.Failures.{Tellable};
+ghost use Rattle.std.specs.Prelude.{Ok, IfErr};
+ghost use Rattle.lucy_front.specs.Inferring.{AreOptions};
+ghost use Rattle.lucy_asking.specs.declared.ask.Picture.TheVariants as picture;
+ghost use Rattle.lucy_asking.specs.Asks.{options_of};
+ghost use Rattle.lucy_views.specs.Owes.{OwesPicture};
+ghost use Rattle.lucy_views.specs.Failures.{ComesOut, Tellable, unread};
 
 use crate::failure::Failure;
-use crate::program::{options, text_of};
-use crate::words::FileWords;
+use crate::missing::Missing;
+use crate::program::options;
+use lucy_asking::FileWords;
 use lucy_freeze::{FreezeError, freeze};
 use lucy_host::Ops;
-use lucy_text::Shelf;
 use std::alloc::Global;
 
-/// What `freeze` prints, or why it prints nothing.
-pub(crate) fn freezes<S: Shelf>(
+/// What `freeze` prints of a text, or why it prints nothing.
+pub(crate) fn freezes(
     alloc: Global,
     words: FileWords<'_>,
     ops: &Ops,
-    shelf: &mut S,
+    text: &[u8],
 ) -> Result<Vec<u8>, Failure>
-    ensures { IfErr result Tellable }
+    requires { AreOptions (options_of words) }
+    ensures outcome { ComesOut (OwesPicture (picture.Freeze words.entry) (unread ops.now (Ok text.now))) result }
+    ensures told { IfErr result Tellable }
 {
-    let text = text_of(alloc, words.file, shelf)?;
-    let options = options(words);
-    match freeze(alloc, &text, ops, &options) {
+    match freeze(alloc, text, ops, &options(words)) {
         Ok(frozen) => Ok(frozen.text),
-        Err(FreezeError::Program(refusal)) => Err(Failure::Program(refusal)),
-        Err(FreezeError::Text(refusal)) => Err(Failure::Program(refusal)),
-        Err(FreezeError::Differs) => Err(Failure::Words(
-            "the program with its clocks written out would be another one",
-        )),
+        Err(FreezeError::Program(reason)) => Err(Failure::from(reason)),
+        Err(FreezeError::Text(reason)) => Err(Failure::from(reason)),
+        Err(FreezeError::Differs) => Err(Failure::Lacks(Missing::Frozen)),
         Err(FreezeError::OutOfMemory) => Err(Failure::OutOfMemory),
     }
 }

@@ -1,32 +1,64 @@
 // The command `net`: what feeds what in a node of a program.
-ghost use Rattle.std.specs.Prelude.{IfErr};
-ghost use Rattle.lucy_views.specs.Failures.{Tellable};
+ghost use Rattle.std.specs.Prelude.{List, ℕ, Ok, IfErr};
+ghost use Rattle.std.specs.Option.{option_map};
+ghost use Rattle.lucy_tree.specs.View.{program_tree};
+ghost use Rattle.lucy_host.specs.Operators.{Operator};
+ghost use Rattle.lucy_front.specs.declared.options.Options.{Options as Choices};
+ghost use Rattle.lucy_front.specs.Accepting.{IsAccepted};
+ghost use Rattle.lucy_front.specs.Inferring.{AreOptions};
+ghost use Rattle.lucy_asking.specs.declared.ask.Picture.TheVariants as picture;
+ghost use Rattle.lucy_asking.specs.Asks.{options_of};
+ghost use Rattle.lucy_views.specs.Owes.{OwesDrawing, OwesPicture};
+ghost use Rattle.lucy_views.specs.Failures.{ComesOut, Tellable, unread};
 
 use crate::failure::Failure;
-use crate::program::{accepted, number_of, text_of};
-use crate::words::NetWords;
+use crate::missing::Missing;
+use crate::program::{node_asked, options};
+use lucy_asking::NetWords;
 use lucy_diagram::put_net;
+use lucy_front::{Accepted, accept};
 use lucy_host::Ops;
 use lucy_syntax::parse;
-use lucy_text::Shelf;
+use lucy_tree::Program;
 use std::alloc::Global;
 
-/// What `net` prints, or why it prints nothing.
-pub(crate) fn nets<S: Shelf>(
+// What is printed of a program with this tree.
+fn netted(
+    alloc: Global,
+    program: &Program,
+    accepted: &Accepted,
+    words: NetWords<'_>,
+) -> Result<Vec<u8>, Failure>
+    requires { (ops : List Operator) × (o : Choices) × (text : List ℕ) × IsAccepted ops o text accepted.now }
+    ensures outcome { ComesOut (OwesDrawing words.entry.flat (option_map (λ s. s.now) words.entry.node) (program_tree program.now) accepted.now) result }
+    ensures told { IfErr result Tellable }
+{
+    let Some(node) = node_asked(&accepted.placed, words.node) else {
+        return Err(Failure::Lacks(Missing::Node));
+    };
+    let mut out = Vec::new(alloc);
+    put_net(alloc, program, accepted, Some(node), words.flat, &mut out)?;
+    Ok(out)
+}
+
+/// What `net` prints of a text, or why it prints nothing.
+pub(crate) fn nets(
     alloc: Global,
     words: NetWords<'_>,
     ops: &Ops,
-    shelf: &mut S,
+    text: &[u8],
 ) -> Result<Vec<u8>, Failure>
-    ensures { IfErr result Tellable }
+    requires { AreOptions (options_of words.program) }
+    ensures outcome { ComesOut (OwesPicture (picture.Net words.entry) (unread ops.now (Ok text.now))) result }
+    ensures told { IfErr result Tellable }
 {
-    let text = text_of(alloc, words.program.file, shelf)?;
-    let program = parse(alloc, &text)?;
-    let accepted = accepted(alloc, &text, words.program, ops)?;
-    let Some(node) = number_of(&accepted.placed, words.node) else {
-        return Err(Failure::Words("no such node"));
+    let program = match parse(alloc, text) {
+        Ok(program) => program,
+        Err(error) => return Err(Failure::from(error)),
     };
-    let mut out = Vec::new(alloc);
-    put_net(alloc, &program, &accepted, Some(node), words.flat, &mut out)?;
-    Ok(out)
+    let accepted = match accept(alloc, text, ops, &options(words.program)) {
+        Ok(accepted) => accepted,
+        Err(reason) => return Err(Failure::from(reason)),
+    };
+    netted(alloc, &program, &accepted, words)
 }

@@ -1,67 +1,62 @@
 // The program that a command works on.
-ghost use Rattle.std.specs.Prelude.{◌<◌, length, IfErr, IfOk, IfSome};
-ghost use Rattle.lucy_front.specs.declared.options.Options.{Options as Choices};
-ghost use Rattle.lucy_front.specs.Accepting.{IsAccepted};
-ghost use Rattle.lucy_front.specs.Inferring.{AreOptions};
-ghost use Rattle.lucy_views.specs.Failures.{Tellable};
+ghost use Rattle.std.specs.Prelude.{◌≡◌, ◌<◌, ◌≤◌, None, length, IfSome};
+ghost use Rattle.std.specs.Option.{option_map};
+ghost use Rattle.lucy_app.specs.Tighten as tighten;
+ghost use Rattle.lucy_asking.specs.Asks as spec;
+ghost use Rattle.lucy_views.specs.Owes as owed;
+ghost use Rattle.lucy_views.specs.Owes.{HasNode};
 
-use crate::failure::Failure;
-use crate::words::FileWords;
-use lucy_front::{Accepted, Options, accept};
-use lucy_host::Ops;
+use lucy_asking::FileWords;
+use lucy_front::Options;
 use lucy_place::Placed;
-use lucy_text::Shelf;
-use lucy_word::Limit;
-use std::alloc::Global;
 
 /// How the clocks of a program are found.
 pub(crate) fn options(words: FileWords<'_>) -> Options
-    ensures { AreOptions result }
+    ensures { result ≡ spec.options_of words.entry }
 {
     Options {
-        scale: words.scale.max(1).min(64),
-        lead: words.lead.max(1).min(64),
+        scale: words.scale,
+        lead: words.lead,
         written_only: false,
     }
 }
 
-/// The text of a file.
-pub(crate) fn text_of<S: Shelf>(
-    alloc: Global,
-    file: &str,
-    shelf: &mut S,
-) -> Result<Vec<u8>, Failure>
-    ensures { IfErr result Tellable }
+// The number of the first node of this name, or of all nodes where none has it.
+fn node_named(placed: &Placed, name: &[u8]) -> u32
+    ensures is { result ≡ tighten.node_named placed.now.nodes name.now }
+    ensures within { result ≤ length placed.now.nodes }
 {
-    Ok(shelf.fetch(alloc, file, Limit::Text.number())?)
-}
-
-/// What the text is accepted as.
-pub(crate) fn accepted(
-    alloc: Global,
-    text: &[u8],
-    words: FileWords<'_>,
-    ops: &Ops,
-) -> Result<Accepted, Failure>
-    ensures accepted { IfOk result (λ a. (o : Choices) × IsAccepted ops.now o text.now a) }
-    ensures told { IfErr result Tellable }
-{
-    let options = options(words);
-    Ok(accept(alloc, text, ops, &options)?)
-}
-
-/// The number of a node by its name, or of main, from 0.
-pub(crate) fn number_of(placed: &Placed, name: Option<&str>) -> Option<u32>
-    ensures { IfSome result (λ node. node < length placed.now.nodes) }
-{
-    let nodes = placed.nodes();
-    let Some(name) = name else {
-        return nodes.checked_sub(1);
-    };
-    'each: for number in 0..nodes {
-        if placed.node(number).name.text.bytes() == name.as_bytes() {
-            return Some(number);
+    let count = placed.nodes();
+    let mut node = 0;
+    'nodes: while node < count {
+        if placed.node(node).name.text.bytes() == name {
+            return node;
         }
+        node += 1;
     }
-    None
+    count
+}
+
+// The number of the node that is asked for, or of all nodes where there is none.
+fn number_of(placed: &Placed, name: Option<&str>) -> u32
+    ensures { result ≡ owed.node_asked placed.now.nodes (option_map (λ s. s.now) name.entry) }
+{
+    match name {
+        Some(name) => node_named(placed, name.as_bytes()),
+        None => placed.nodes() - 1,
+    }
+}
+
+/// The number of the node that is asked for, from 0: of the first of this name, or of main where none is given.
+pub(crate) fn node_asked(placed: &Placed, name: Option<&str>) -> Option<u32>
+    ensures some { IfSome result (λ node. HasNode placed.now.nodes (option_map (λ s. s.now) name.entry)
+        × (node ≡ owed.node_asked placed.now.nodes (option_map (λ s. s.now) name.entry))) }
+    ensures none { result ≡ None → HasNode placed.now.nodes (option_map (λ s. s.now) name.entry) → ⊥ }
+    ensures within { IfSome result (λ node. node < length placed.now.nodes) }
+{
+    let node = number_of(placed, name);
+    if node >= placed.nodes() {
+        return None;
+    }
+    Some(node)
 }

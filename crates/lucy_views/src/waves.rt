@@ -1,67 +1,82 @@
 // The command `wave`: a run as a value change dump.
-ghost use Rattle.std.specs.Prelude.{◌≡◌, ◌≢◌, ◌≤◌, ℕ, List, [], None, IfErr, IfOk, IfSome};
+ghost use Rattle.std.specs.Prelude.{◌≡◌, ◌≢◌, ◌≤◌, ◌⊎◌, ◌∷◌, ℕ, List, [], None, IfErr, IfOk};
 ghost use Rattle.lucy_word.specs.Limits.{limit_number};
 ghost use Rattle.lucy_word.specs.declared.limit.Limit.TheVariants as limit;
 ghost use Rattle.lucy_host.specs.Host.{Serves, lent};
-ghost use Rattle.lucy_front.specs.declared.options.Options.{Options as Choices};
-ghost use Rattle.lucy_front.specs.Accepting.{IsAccepted};
-ghost use Rattle.lucy_views.specs.Failures.{Tellable};
+ghost use Rattle.lucy_text.specs.Sources.{ReadStop, Read};
+ghost use Rattle.lucy_front.specs.Inferring.{AreOptions};
+ghost use Rattle.lucy_app.specs.World.{bytes_of};
+ghost use Rattle.lucy_asking.specs.declared.ask.Ask.TheVariants as asked;
+ghost use Rattle.lucy_asking.specs.Asks.{options_of, IsWithin};
+ghost use Rattle.lucy_views.specs.Meets.{ReadsSource};
+ghost use Rattle.lucy_views.specs.Looks.{EndsGiven};
+ghost use Rattle.lucy_views.specs.Failures.{IsAccepting, Tellable, given_of};
 
 use crate::failure::Failure;
-use crate::program::{accepted, text_of};
+use crate::missing::Missing;
+use crate::program::options;
 use crate::telling::refuse;
-use crate::words::WaveWords;
 use lucy_app::conclude;
-use lucy_front::Accepted;
+use lucy_asking::WaveWords;
+use lucy_front::{Accepted, accept};
 use lucy_host::{Host, Ops};
-use lucy_text::{Shelf, Sink, Source};
-use lucy_word::Limit;
+use lucy_text::{ShelfError, Sink, Source};
 use std::alloc::Global;
 
-// How many instants are given, which the words keep within the limit.
-fn instants(words: WaveWords<'_>) -> Option<u64>
-    ensures { IfSome result (λ given. given ≤ limit_number limit.Instants) }
-{
-    Some(words.instants?.min(Limit::Instants.number()))
-}
-
-// The program, if it can be run for these instants.
-fn runnable<S: Shelf>(
+// The program of what was fetched, if it can be run for these instants.
+fn runnable(
     alloc: Global,
     words: WaveWords<'_>,
     ops: &Ops,
-    shelf: &mut S,
+    fetched: Result<Vec<u8>, ShelfError>,
 ) -> Result<Accepted, Failure>
-    ensures accepted { IfOk result (λ a. (o : Choices) × (text : List ℕ) × IsAccepted ops.now o text a) }
+    requires { AreOptions (options_of words.program) }
+    ensures accepting { IsAccepting ops.now (options_of words.entry.program) words.entry.instants (bytes_of fetched) result }
+    ensures given { IfOk result (λ a. a.inputs.items ≡ [] → words.entry.instants ≢ None) }
     ensures told { IfErr result Tellable }
 {
-    let text = text_of(alloc, words.program.file, shelf)?;
-    let program = accepted(alloc, &text, words.program, ops)?;
+    let text = match fetched {
+        Ok(text) => text,
+        Err(error) => return Err(Failure::from(error)),
+    };
+    let program = match accept(alloc, &text, ops, &options(words.program)) {
+        Ok(program) => program,
+        Err(reason) => return Err(Failure::from(reason)),
+    };
+    let instants = words.instants;
+    if program.inputs.is_empty() && instants.is_none() {
+        return Err(Failure::Lacks(Missing::Instants));
+    }
     Ok(program)
 }
 
-/// Runs a program on its input, and writes its dump. The answer is the status.
-pub(crate) fn wave<S: Shelf, I: Source, O: Sink, E: Sink, F: Fn(u32, i64, i64) -> i64 + Sync>(
+/// Runs the program of what was fetched on its input, and writes its dump. The answer is the status.
+pub(crate) fn wave<I: Source, O: Sink, E: Sink, F: Fn(u32, i64, i64) -> i64 + Sync>(
     alloc: Global,
     words: WaveWords<'_>,
+    fetched: Result<Vec<u8>, ShelfError>,
     host: &Host<F>,
-    shelf: &mut S,
     source: &mut I,
     out: &mut O,
     err: &mut E,
 ) -> u8
-    requires { Serves F.pre F.post host.now }
+    requires serves { Serves F.pre F.post host.now }
+    requires within { IsWithin (asked.Wave words) }
+    ensures ends { (taken : List ℕ) × (stop : ReadStop) × Read (limit_number limit.Input) (I.seen source.old) (I.seen source.new) taken stop
+        × ((I.seen source.new ≡ I.seen source.old) ⊎ ReadsSource (asked.Wave words.entry) (lent host.now) (bytes_of fetched ∷ []) taken)
+        × EndsGiven (asked.Wave words.entry) (given_of (lent host.now) (bytes_of fetched) taken stop)
+        (O.seen out.old) (O.seen out.new) (E.seen err.old) (E.seen err.new) result }
     ensures known { result ≤ 7 }
     ensures quiet { result ≡ 0 → err.new ≡ err.old }
+    ensures source_count { (I.seen source.old).faults ≤ (I.seen source.new).faults }
+    ensures out_count { (O.seen out.old).faults ≤ (O.seen out.new).faults }
+    ensures err_count { (E.seen err.old).faults ≤ (E.seen err.new).faults }
 {
-    let program = match runnable(alloc, words, host.ops(), shelf) {
-        Ok(program) => program,
-        Err(failure) => return refuse(alloc, err, failure),
-    };
-    let instants = instants(words);
-    if program.inputs.is_empty() && instants.is_none() {
-        return refuse(alloc, err, Failure::NoInstants);
+    match runnable(alloc, words, host.ops(), fetched) {
+        Ok(program) => {
+            let ending = lucy_wave::wave(alloc, program, host, words.instants, source, out);
+            conclude(alloc, err, ending)
+        }
+        Err(failure) => refuse(alloc, err, failure),
     }
-    let ending = lucy_wave::wave(alloc, program, host, instants, source, out);
-    conclude(alloc, err, ending)
 }

@@ -1,51 +1,80 @@
 // The command `why`: why a buffer is as full as it is.
-ghost use Rattle.std.specs.Prelude.{IfErr};
-ghost use Rattle.lucy_views.specs.Failures.{Tellable};
+ghost use Rattle.std.specs.Prelude.{List, Ok, Some, IfErr};
+ghost use Rattle.std.specs.Option.{option_map};
+ghost use Rattle.lucy_host.specs.Operators.{Operator};
+ghost use Rattle.lucy_front.specs.Accepting.{IsAccepted};
+ghost use Rattle.lucy_front.specs.Inferring.{AreOptions};
+ghost use Rattle.lucy_asking.specs.declared.ask.Picture.TheVariants as picture;
+ghost use Rattle.lucy_asking.specs.Asks.{options_of};
+ghost use Rattle.lucy_views.specs.Owes.{OwesWhy, OwesPicture};
+ghost use Rattle.lucy_views.specs.Failures.{ComesOut, Tellable, unread};
 
 use crate::failure::Failure;
-use crate::program::{number_of, options, text_of};
-use crate::words::WhyWords;
+use crate::missing::Missing;
+use crate::program::{node_asked, options};
+use lucy_asking::WhyWords;
 use lucy_explain::why;
-use lucy_front::accept;
+use lucy_front::{Accepted, Options, accept};
 use lucy_host::Ops;
-use lucy_text::Shelf;
 use std::alloc::Global;
 
-// The number that one to seven digits spell.
-fn number(digits: &str) -> Option<u32> {
-    let bytes = digits.as_bytes();
-    if bytes.len() > 7 || !bytes.iter().all(|byte| byte.is_ascii_digit()) {
-        return None;
+// What is told of the buffer of a node.
+fn buffer_text(
+    alloc: Global,
+    text: &[u8],
+    accepted: &Accepted,
+    options: &Options,
+    name: &str,
+    buffer: u32,
+) -> Result<Vec<u8>, Failure>
+    requires options { AreOptions options.now }
+    requires accepted { (ops : List Operator) × IsAccepted ops options.now text.now accepted.now }
+    ensures outcome { ComesOut (OwesWhy (Some (name.now, buffer)) accepted.now) result }
+    ensures told { IfErr result Tellable }
+{
+    let Some(node) = node_asked(&accepted.placed, Some(name)) else {
+        return Err(Failure::Lacks(Missing::Buffer));
+    };
+    match why(alloc, text, accepted, options, node, buffer)? {
+        Some(filling) => Ok(filling.text),
+        None => Err(Failure::Lacks(Missing::Buffer)),
     }
-    digits.parse().ok()
 }
 
-// The name of a node and the number of a buffer, as `lucy tighten` takes them.
-fn buffer_named(word: &str) -> Option<(&str, u32)> {
-    let (name, digits) = word.split_once('.')?;
-    Some((name, number(digits)?))
+// What is told of the buffer that the words name.
+fn filled(
+    alloc: Global,
+    text: &[u8],
+    accepted: &Accepted,
+    options: &Options,
+    named: Option<(&str, u32)>,
+) -> Result<Vec<u8>, Failure>
+    requires options { AreOptions options.now }
+    requires accepted { (ops : List Operator) × IsAccepted ops options.now text.now accepted.now }
+    ensures outcome { ComesOut (OwesWhy (option_map (λ b. (b.0.now, b.1)) named.entry) accepted.now) result }
+    ensures told { IfErr result Tellable }
+{
+    match named {
+        Some((name, buffer)) => buffer_text(alloc, text, accepted, options, name, buffer),
+        None => Err(Failure::Lacks(Missing::Buffer)),
+    }
 }
 
-/// What `why` prints, or why it prints nothing.
-pub(crate) fn whys<S: Shelf>(
+/// What `why` prints of a text, or why it prints nothing.
+pub(crate) fn whys(
     alloc: Global,
     words: WhyWords<'_>,
     ops: &Ops,
-    shelf: &mut S,
+    text: &[u8],
 ) -> Result<Vec<u8>, Failure>
-    ensures { IfErr result Tellable }
+    requires { AreOptions (options_of words.program) }
+    ensures outcome { ComesOut (OwesPicture (picture.Why words.entry) (unread ops.now (Ok text.now))) result }
+    ensures told { IfErr result Tellable }
 {
-    let text = text_of(alloc, words.program.file, shelf)?;
     let options = options(words.program);
-    let accepted = accept(alloc, &text, ops, &options)?;
-    let Some((name, buffer)) = buffer_named(words.buffer) else {
-        return Err(Failure::Words("no such buffer"));
+    let accepted = match accept(alloc, text, ops, &options) {
+        Ok(accepted) => accepted,
+        Err(reason) => return Err(Failure::from(reason)),
     };
-    let Some(node) = number_of(&accepted.placed, Some(name)) else {
-        return Err(Failure::Words("no such buffer"));
-    };
-    match why(alloc, &text, &accepted, &options, node, buffer)? {
-        Some(filling) => Ok(filling.text),
-        None => Err(Failure::Words("no such buffer")),
-    }
+    filled(alloc, text, &accepted, &options, words.buffer)
 }

@@ -1,0 +1,11 @@
+use Rattle.std.proofs.Common.{ℕ, List, Result, sym, subst, Option}
+use Rattle.std.specs.Str.Parse.{ParsesUnsigned, ExplainsUnsignedError, HasUnsignedDigitsIfOk}
+use Rattle.lucy_asking.specs.Asks.{Spells}
+use Rattle.lucy_asking.proofs.Rows.{parsed_so}
+use Rattle.lucy_asking.proofs.words.place_number.Goals as goal
+
+pub returns : goal.returns
+returns c =
+    subst (λ (o : Option ℕ). Spells 32 c.args.text.now o) (sym c.ok.ensures.value)
+    (parsed_so 32 (λ (bs : List ℕ) (r : Result ℕ _). ParsesUnsigned 32 10 bs r × ExplainsUnsignedError 10 bs r × HasUnsignedDigitsIfOk bs r) (λ t r h. h.0)
+    c.args.text.now c.parse.result c.parse.ensures.value)

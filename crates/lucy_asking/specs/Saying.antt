@@ -1,0 +1,31 @@
+-- What the parts of the body hand on: of what `clap` is told, and what it found.
+use Rattle.std.specs.Prelude.{◌≡◌, ◌⊎◌, false, List, [], None, codes}
+use Rattle.clap.specs.Walk.{Row, first_of}
+use Rattle.clap.specs.Simple.{App, Shape, app_of}
+use Rattle.clap.specs.declared.builder.command.Command.{Command}
+use Rattle.clap.specs.declared.builder.command.Command.TheViews.{out-Command}
+use Rattle.lucy_asking.specs.declared.name.Name.{Name}
+use Rattle.lucy_asking.specs.declared.name.Name.TheVariants as name
+use Rattle.lucy_asking.specs.declared.ask.Picture.{Picture}
+use Rattle.lucy_asking.specs.Asks.{picture_name, SaysPicture, IsPictureWithin}
+
+-- a command with no command below it
+abbrev pub leaf : Shape → App
+leaf shape = record { top = shape; subs = [] }
+
+-- `clap` is told of a command that takes this, and hands nothing down
+pub record HasShape (shape : Shape) (c : Command) : Type 0 where
+  pub app : app_of c ≡ leaf shape
+  pub local : (out-Command c).has_globals ≡ false
+
+-- a picture that a command of this name asks for, by what stands behind the name
+pub record IsSaid (name : Name) (rows : List Row) (p : Picture) : Type 0 where
+  pub name_is : picture_name p ≡ name
+  pub says : SaysPicture rows p
+  pub within : IsPictureWithin p
+
+-- an operand is missing that a command of this name needs
+abbrev pub IsLacking : Name → List Row → Type 0
+IsLacking name.Where rows = (first_of (codes "FILE") rows ≡ None) ⊎ (first_of (codes "AT") rows ≡ None)
+IsLacking name.Why rows = (first_of (codes "FILE") rows ≡ None) ⊎ (first_of (codes "BUFFER") rows ≡ None)
+IsLacking other rows = first_of (codes "FILE") rows ≡ None

@@ -1,0 +1,9 @@
+mod Named
+mod Told
+mod Outs
+mod PlaceLaws
+mod Texts
+mod PictureLaws
+mod Drawn
+mod Sinks
+mod Runs

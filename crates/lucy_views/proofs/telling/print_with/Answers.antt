@@ -1,0 +1,5 @@
+use Rattle.std.proofs.Common.{inr}
+use Rattle.lucy_views.proofs.telling.print_with.Goals as goal
+
+pub returns-in-Err-clause-prints : goal.returns-in-Err-clause-prints
+returns-in-Err-clause-prints g c = inr (record { failed = c.in-Err.ensures.failed; told = c.tell-in-Err.ensures.told })
