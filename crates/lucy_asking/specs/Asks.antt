@@ -1,5 +1,5 @@
 -- What the words ask for.
-use Rattle.std.specs.Prelude.{ℕ, ◌≡◌, ◌≢◌, ◌⊎◌, min, max, Bool, true, false, List, ◌++◌, Option, Some, None, IsSomeAnd, MatchOption, codes, if◌then◌else◌}
+use Rattle.std.specs.Prelude.{ℕ, ◌≤◌, ◌≡◌, ◌≢◌, ◌⊎◌, min, max, Bool, true, false, List, ◌++◌, Option, Some, None, IfSome, IsSomeAnd, MatchOption, codes, if◌then◌else◌}
 use Rattle.std.specs.Option.{option_map, option_and_then, unwrap_or}
 use Rattle.std.specs.Borrow.{Bor}
 use Rattle.std.specs.Str.{bytes_eq}
@@ -10,9 +10,6 @@ use Rattle.clap.specs.Matches.{ReadsOne}
 use Rattle.lucy_word.specs.Limits.{limit_number}
 use Rattle.lucy_word.specs.declared.limit.Limit.TheVariants as limit
 use Rattle.lucy_fields.specs.Numbers.{number_of}
-use Rattle.lucy_front.specs.declared.options.Options.{Options}
-use Rattle.lucy_front.specs.Inferring.{AreOptions}
-use Rattle.lucy_run.specs.Paces.{AreInstants}
 use Rattle.lucy_command.specs.Names.{most_buffer}
 use Rattle.lucy_command.specs.Parts.{halves_at}
 use Rattle.lucy_asking.specs.declared.name.Name.{Name}
@@ -57,10 +54,6 @@ picture_name (Freeze w) = name.Freeze
 abbrev pub asked_name : Ask → Name
 asked_name (ask.Wave w) = name.Wave
 asked_name (ask.Picture p) = picture_name p
-
--- how the clocks of a program are found
-abbrev pub options_of : FileWords → Options
-options_of w = record { scale = w.scale; lead = w.lead; written_only = false }
 
 -- the number of so many bits that a text spells, as std reads it, where it spells one
 abbrev pub Spells : (bits : ℕ) (text : List ℕ) → (number : Option ℕ) → Type 0
@@ -129,17 +122,24 @@ AsksBy found a = (s : List ℕ × List Row) × (found ≡ Some s) × (name_of s.
 abbrev pub Asks : (words : List (List ℕ)) → Ask → Type 0
 Asks words a = AsksBy (subcommand_of line words) a
 
--- the scale and the lead of a picture's clocks are within their limits
+-- the scale and the lead are from 1 to 64
+pub record AreFactors (w : FileWords) : Type 0 where
+  pub scale : 1 ≤ w.scale
+  pub scale_few : w.scale ≤ 64
+  pub lead : 1 ≤ w.lead
+  pub lead_few : w.lead ≤ 64
+
+-- those of a picture are
 abbrev pub IsPictureWithin : Picture → Type 0
-IsPictureWithin (Time w) = AreOptions (options_of w.program)
-IsPictureWithin (Net w) = AreOptions (options_of w.program)
+IsPictureWithin (Time w) = AreFactors w.program
+IsPictureWithin (Net w) = AreFactors w.program
 IsPictureWithin (Where w) = Unit {0}
-IsPictureWithin (Page w) = AreOptions (options_of w.program)
-IsPictureWithin (Explain w) = AreOptions (options_of w)
-IsPictureWithin (Why w) = AreOptions (options_of w.program)
-IsPictureWithin (Freeze w) = AreOptions (options_of w)
+IsPictureWithin (Page w) = AreFactors w.program
+IsPictureWithin (Explain w) = AreFactors w
+IsPictureWithin (Why w) = AreFactors w.program
+IsPictureWithin (Freeze w) = AreFactors w
 
 -- the numbers of what is asked for are within their limits
 abbrev pub IsWithin : Ask → Type 0
-IsWithin (ask.Wave w) = AreOptions (options_of w.program) × AreInstants w.instants
+IsWithin (ask.Wave w) = AreFactors w.program × IfSome w.instants (λ n. n ≤ limit_number limit.Instants)
 IsWithin (ask.Picture p) = IsPictureWithin p

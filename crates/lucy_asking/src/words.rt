@@ -9,14 +9,14 @@ ghost use Rattle.clap.specs.Simple.{subcommand_rows_of};
 ghost use Rattle.clap.specs.Matches.{found_of};
 ghost use Rattle.clap.specs.Faults.{fault_of};
 ghost use Rattle.clap.specs.Kinds.{HasKind};
-ghost use Rattle.lucy_front.specs.Inferring.{AreOptions};
-ghost use Rattle.lucy_run.specs.Paces.{AreInstants};
+ghost use Rattle.lucy_word.specs.Limits.{limit_number};
+ghost use Rattle.lucy_word.specs.declared.limit.Limit.TheVariants as limit;
 ghost use Rattle.lucy_asking.specs.declared.name.Name.TheVariants as names;
 ghost use Rattle.lucy_asking.specs.declared.ask.Ask.{Ask as Asked};
 ghost use Rattle.lucy_asking.specs.declared.ask.Sought.TheVariants as aim;
 ghost use Rattle.lucy_asking.specs.CommandLine.{line};
 ghost use Rattle.lucy_asking.specs.Asks as spec;
-ghost use Rattle.lucy_asking.specs.Asks.{asked_name, options_of, SaysProgram, Says, AsksBy, Asks, IsWithin};
+ghost use Rattle.lucy_asking.specs.Asks.{asked_name, SaysProgram, Says, AsksBy, Asks, AreFactors, IsWithin};
 ghost use Rattle.lucy_asking.specs.Saying.{IsSaid, IsLacking};
 
 use crate::ask::{
@@ -65,7 +65,7 @@ fn factor(matches: &ArgMatches<'_>, option: &str) -> u64
 // How many instants a run is given, which the words keep within the limit.
 fn instants(matches: &ArgMatches<'_>) -> Option<u64>
     ensures is { spec.HasInstants (rows_of (found_of matches.now)) result }
-    ensures few { AreInstants result }
+    ensures few { IfSome result (λ n. n ≤ limit_number limit.Instants) }
 {
     Some(number(matches, "instants")?.min(Limit::Instants.number()))
 }
@@ -73,7 +73,7 @@ fn instants(matches: &ArgMatches<'_>) -> Option<u64>
 // What the words of a command on a program say.
 fn file_words<'a>(matches: &ArgMatches<'a>) -> Option<FileWords<'a>>
     ensures says { IfSome result (SaysProgram (rows_of (found_of matches.now))) }
-    ensures clocks { IfSome result (λ words. AreOptions (options_of words)) }
+    ensures within { IfSome result AreFactors }
     ensures none { result ≡ None → first_of (codes "FILE") (rows_of (found_of matches.now)) ≡ None }
 {
     Some(FileWords {

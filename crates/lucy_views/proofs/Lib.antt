@@ -7,3 +7,4 @@ mod PictureLaws
 mod Drawn
 mod Sinks
 mod Runs
+mod Fits

@@ -33,7 +33,7 @@ use Rattle.lucy_asking.specs.declared.ask.Ask.TheVariants as ask
 use Rattle.lucy_views.specs.declared.missing.Missing.TheVariants.{Instants}
 use Rattle.lucy_views.specs.declared.failure.Failure.{Failure}
 use Rattle.lucy_views.specs.declared.failure.Failure.TheVariants as failure
-use Rattle.lucy_asking.specs.Asks.{options_of}
+use Rattle.lucy_views.specs.Meets.{options_of}
 use Rattle.lucy_views.specs.Meets.{ReadsSource}
 use Rattle.lucy_views.specs.Owes.{Owes}
 use Rattle.lucy_views.specs.Looks.{OwesOutput, MayStand, EndsGiven}

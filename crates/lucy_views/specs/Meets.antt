@@ -5,13 +5,18 @@ use Rattle.lucy_word.specs.declared.limit.Limit.TheVariants as limit
 use Rattle.lucy_host.specs.Operators.{Operator}
 use Rattle.lucy_text.specs.declared.shelf.ShelfError.{ShelfError}
 use Rattle.lucy_text.specs.Sources.{Unread, Read}
-use Rattle.lucy_app.specs.Commands.{program_of, TakesInput}
+use Rattle.lucy_front.specs.declared.options.Options.{Options}
+use Rattle.lucy_app.specs.Commands.{inferring_options, program_of, TakesInput}
 use Rattle.lucy_app.specs.World.{World, Given, Fetched}
+use Rattle.lucy_asking.specs.declared.ask.FileWords.{FileWords}
 use Rattle.lucy_asking.specs.declared.ask.Picture.{Picture}
 use Rattle.lucy_asking.specs.declared.ask.Picture.TheVariants.{Time, Net, Where, Page, Explain, Why, Freeze}
 use Rattle.lucy_asking.specs.declared.ask.Ask.{Ask}
 use Rattle.lucy_asking.specs.declared.ask.Ask.TheVariants as ask
-use Rattle.lucy_asking.specs.Asks.{options_of}
+
+-- how the clocks of a program are found
+abbrev pub options_of : FileWords → Options
+options_of w = inferring_options w.scale w.lead
 
 -- the file of a picture
 abbrev pub picture_file : Picture → List ℕ

@@ -35,7 +35,7 @@ use Rattle.lucy_asking.specs.declared.ask.Picture.{Picture}
 use Rattle.lucy_asking.specs.declared.ask.Picture.TheVariants as picture
 use Rattle.lucy_asking.specs.declared.ask.Ask.{Ask}
 use Rattle.lucy_asking.specs.declared.ask.Ask.TheVariants as ask
-use Rattle.lucy_asking.specs.Asks.{options_of}
+use Rattle.lucy_views.specs.Meets.{options_of}
 use Rattle.lucy_views.specs.Shown.{PutsTime, PutsTimes, IsTimeSvg, IsNetText, IsPlaceText}
 
 -- the line that says what isn't there

@@ -4,7 +4,7 @@ ghost use Rattle.lucy_front.specs.Inferring.{AreOptions};
 ghost use Rattle.lucy_front.specs.declared.refusal.Refusal.TheVariants as front;
 ghost use Rattle.lucy_views.specs.declared.failure.Failure.TheVariants.{OutOfMemory};
 ghost use Rattle.lucy_asking.specs.declared.ask.Picture.TheVariants as picture;
-ghost use Rattle.lucy_asking.specs.Asks.{options_of};
+ghost use Rattle.lucy_views.specs.Meets.{options_of};
 ghost use Rattle.lucy_views.specs.Owes.{Explains, OwesPicture};
 ghost use Rattle.lucy_views.specs.Failures.{ComesOut, Tellable, unread};
 

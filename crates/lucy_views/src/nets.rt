@@ -7,7 +7,7 @@ ghost use Rattle.lucy_front.specs.declared.options.Options.{Options as Choices};
 ghost use Rattle.lucy_front.specs.Accepting.{IsAccepted};
 ghost use Rattle.lucy_front.specs.Inferring.{AreOptions};
 ghost use Rattle.lucy_asking.specs.declared.ask.Picture.TheVariants as picture;
-ghost use Rattle.lucy_asking.specs.Asks.{options_of};
+ghost use Rattle.lucy_views.specs.Meets.{options_of};
 ghost use Rattle.lucy_views.specs.Owes.{OwesDrawing, OwesPicture};
 ghost use Rattle.lucy_views.specs.Failures.{ComesOut, Tellable, unread};
 

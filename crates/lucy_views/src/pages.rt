@@ -3,7 +3,7 @@ ghost use Rattle.std.specs.Prelude.{Ok, IfOk, IfErr, IfSome};
 ghost use Rattle.lucy_front.specs.Inferring.{AreOptions};
 ghost use Rattle.lucy_app.specs.Answers.{printed};
 ghost use Rattle.lucy_asking.specs.declared.ask.Picture.TheVariants as picture;
-ghost use Rattle.lucy_asking.specs.Asks.{options_of};
+ghost use Rattle.lucy_views.specs.Meets.{options_of};
 ghost use Rattle.lucy_views.specs.Owes.{Explains, OwesAcceptedPage, OwesRefusedPage, OwesPicture};
 ghost use Rattle.lucy_views.specs.Failures.{IsOutcome, IsTold, Tellable, unread};
 

@@ -2,7 +2,7 @@
 ghost use Rattle.std.specs.Prelude.{◌≡◌, ◌<◌, ◌≤◌, None, length, IfSome};
 ghost use Rattle.std.specs.Option.{option_map};
 ghost use Rattle.lucy_app.specs.Tighten as tighten;
-ghost use Rattle.lucy_asking.specs.Asks as spec;
+ghost use Rattle.lucy_views.specs.Meets as spec;
 ghost use Rattle.lucy_views.specs.Owes as owed;
 ghost use Rattle.lucy_views.specs.Owes.{HasNode};
 

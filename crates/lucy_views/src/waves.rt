@@ -7,10 +7,9 @@ ghost use Rattle.lucy_text.specs.Sources.{ReadStop, Read};
 ghost use Rattle.lucy_front.specs.Inferring.{AreOptions};
 ghost use Rattle.lucy_app.specs.World.{bytes_of};
 ghost use Rattle.lucy_asking.specs.declared.ask.Ask.TheVariants as asked;
-ghost use Rattle.lucy_asking.specs.Asks.{options_of, IsWithin};
-ghost use Rattle.lucy_views.specs.Meets.{ReadsSource};
+ghost use Rattle.lucy_views.specs.Meets.{options_of, ReadsSource};
 ghost use Rattle.lucy_views.specs.Looks.{EndsGiven};
-ghost use Rattle.lucy_views.specs.Failures.{IsAccepting, Tellable, given_of};
+ghost use Rattle.lucy_views.specs.Failures.{IsAccepting, IsFit, Tellable, given_of};
 
 use crate::failure::Failure;
 use crate::missing::Missing;
@@ -61,7 +60,7 @@ pub(crate) fn wave<I: Source, O: Sink, E: Sink, F: Fn(u32, i64, i64) -> i64 + Sy
     err: &mut E,
 ) -> u8
     requires serves { Serves F.pre F.post host.now }
-    requires within { IsWithin (asked.Wave words) }
+    requires fit { IsFit (asked.Wave words) }
     ensures ends { (taken : List ℕ) × (stop : ReadStop) × Read (limit_number limit.Input) (I.seen source.old) (I.seen source.new) taken stop
         × ((I.seen source.new ≡ I.seen source.old) ⊎ ReadsSource (asked.Wave words.entry) (lent host.now) (bytes_of fetched ∷ []) taken)
         × EndsGiven (asked.Wave words.entry) (given_of (lent host.now) (bytes_of fetched) taken stop)

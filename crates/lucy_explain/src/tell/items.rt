@@ -125,6 +125,6 @@ pub(crate) fn put_items(
     }
     page.say("no item of an earlier instant is among them: a delay is missing\n");
     page.helps(
-        "`0 fby` on the loop, as in `buffer (0 fby y)`: then the loop begins with 0, and each item waits for an earlier one",
+        "`fby` on the loop, as in `buffer (0 fby y)`, or of truths `buffer (false fby y)`: then the loop begins with that, and each item waits for an earlier one",
     )
 }

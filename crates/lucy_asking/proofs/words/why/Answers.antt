@@ -12,5 +12,5 @@ returns-clause-says c = record {
     of_text _ c.in_ok-text.field-0.now (λ t. option_map (λ b. (b.0.now, b.1)) c.buffer_named.result ≡ buffer_in t) c.in_ok-text.ensures
         c.buffer_named.ensures,
   );
-  within = c.in_ok-file_words.ensures.clocks;
+  within = c.in_ok-file_words.ensures.within;
 }

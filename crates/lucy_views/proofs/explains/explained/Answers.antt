@@ -1,4 +1,4 @@
-use Rattle.lucy_asking.specs.Asks.{options_of}
+use Rattle.lucy_views.specs.Meets.{options_of}
 use Rattle.lucy_views.proofs.Texts.{explained}
 use Rattle.lucy_views.proofs.explains.explained.Goals as goal
 

@@ -1,5 +1,5 @@
 use Rattle.std.proofs.Common.{refl}
-use Rattle.lucy_asking.specs.Asks.{options_of}
+use Rattle.lucy_views.specs.Meets.{options_of}
 use Rattle.lucy_views.proofs.Told.{program_tellable}
 use Rattle.lucy_views.proofs.Texts.{frozen_out, not_accepted_out, not_frozen_out, differs_out}
 use Rattle.lucy_views.proofs.freezes.freezes.Goals as goal

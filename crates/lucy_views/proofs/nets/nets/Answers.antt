@@ -3,7 +3,7 @@ use Rattle.std.specs.Option.{option_map}
 use Rattle.lucy_tree.specs.View.{program_tree}
 use Rattle.std.proofs.lemmas.Result.{IfOk-at_ok, IfErr-at_err}
 use Rattle.lucy_front.specs.Accepting.{IsAccepted, Refuses}
-use Rattle.lucy_asking.specs.Asks.{options_of}
+use Rattle.lucy_views.specs.Meets.{options_of}
 use Rattle.lucy_views.specs.Owes.{OwesNet}
 use Rattle.lucy_views.proofs.Told.{syntax_tellable}
 use Rattle.lucy_views.proofs.Outs.{unread_out, accepted_out, refused_out, drawing_out}

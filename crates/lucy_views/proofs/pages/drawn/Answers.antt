@@ -1,4 +1,4 @@
-use Rattle.lucy_asking.specs.Asks.{options_of}
+use Rattle.lucy_views.specs.Meets.{options_of}
 use Rattle.lucy_views.proofs.Texts.{page_drawn}
 use Rattle.lucy_views.proofs.pages.drawn.Goals as goal
 

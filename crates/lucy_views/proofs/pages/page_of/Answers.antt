@@ -1,6 +1,6 @@
 use Rattle.std.proofs.Common.{ℕ, List, subst}
 use Rattle.lucy_page.specs.Pages.{IsRefusedPage}
-use Rattle.lucy_asking.specs.Asks.{options_of}
+use Rattle.lucy_views.specs.Meets.{options_of}
 use Rattle.lucy_views.proofs.Texts.{page_out, page_told}
 use Rattle.lucy_views.proofs.pages.page_of.Goals as goal
 

@@ -1,5 +1,5 @@
 use Rattle.std.proofs.Common.{inl, inr}
-use Rattle.lucy_asking.specs.Asks.{options_of}
+use Rattle.lucy_views.specs.Meets.{options_of}
 use Rattle.lucy_views.proofs.Texts.{pages_out}
 use Rattle.lucy_views.proofs.pages.pages.Goals as goal
 

@@ -1,4 +1,4 @@
-use Rattle.lucy_asking.specs.Asks.{options_of}
+use Rattle.lucy_views.specs.Meets.{options_of}
 use Rattle.lucy_views.specs.Owes.{OwesRefusedPage}
 use Rattle.lucy_views.proofs.Texts.{short_shown}
 use Rattle.lucy_views.proofs.pages.refused.Goals as goal

@@ -5,7 +5,7 @@ use Rattle.std.proofs.lemmas.Bool.{eqb-true}
 use Rattle.std.proofs.lemmas.Result.{IfOk-at_ok, IfErr-at_err}
 use Rattle.lucy_front.specs.Accepting.{IsAccepted, Refuses}
 use Rattle.lucy_lines.specs.declared.input.InputSpec.{InputSpec}
-use Rattle.lucy_asking.specs.Asks.{options_of}
+use Rattle.lucy_views.specs.Meets.{options_of}
 use Rattle.lucy_views.proofs.Runs.{unaccepted, lacking}
 use Rattle.lucy_views.proofs.waves.runnable.Goals as goal
 
