@@ -13,11 +13,7 @@ use std::process::ExitCode;
 
 // The words after the program's name.
 fn words_of(rt: &(impl Env + AllocGlobal), alloc: Global) -> io::Result<Vec<String>> {
-    let mut words = Vec::new(alloc);
-    for word in env::args(rt)?.skip(1) {
-        words.push(word)?;
-    }
-    Ok(words)
+    Ok(env::args(rt)?.skip(1).collect(alloc)?)
 }
 
 // Says that memory ran out.

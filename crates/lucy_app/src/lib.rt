@@ -38,6 +38,9 @@ pub use laws::{
 };
 pub use lucy_run::{ClosureEngine, Engine};
 pub use operators::program_operators;
-pub use output::{conclude, explain, tell};
+pub use options::inferring;
+pub use output::{conclude, explain, print, tell};
 pub use playing::run_with;
+pub use refusal::program_status;
+pub use tightening::node_named;
 pub use top::lucy;

@@ -18,8 +18,8 @@ pub(crate) fn written() -> Options
     }
 }
 
-/// The clocks of the others are inferred with this scale and this lead.
-pub(crate) fn inferring(scale: u64, lead: u64) -> Options
+/// The clocks of nodes that aren't written are inferred, with this scale and this lead, each from 1 to 64.
+pub fn inferring(scale: u64, lead: u64) -> Options
     requires scale { IsScale scale }
     requires lead { IsScale lead }
     ensures is { result ≡ inferring_options scale lead }

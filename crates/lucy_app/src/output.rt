@@ -63,9 +63,10 @@ pub(crate) fn refuse<E: Sink>(alloc: Global, err: &mut E, refusal: Refusal) -> u
     }
 }
 
-/// Writes what a command prints. Where that fails, the fault is told on `err`, if it can be.
-pub(crate) fn print<O: Sink, E: Sink>(out: &mut O, err: &mut E, text: &[u8]) -> u8
+/// Writes what a command prints. Where that fails, the fault is told on `err`, if it can be. The answer is 0, or the status of a write fault.
+pub fn print<O: Sink, E: Sink>(out: &mut O, err: &mut E, text: &[u8]) -> u8
     ensures prints { Prints text.now (O.seen out.old) (O.seen out.new) (E.seen err.old) (E.seen err.new) result }
+    ensures known { result ≤ 7 }
     ensures quiet { result ≡ 0 → err.new ≡ err.old }
     ensures out_count { (O.seen out.old).faults ≤ (O.seen out.new).faults }
     ensures err_count { (E.seen err.old).faults ≤ (E.seen err.new).faults }

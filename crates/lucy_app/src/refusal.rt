@@ -1,5 +1,5 @@
 // Why a command has no answer.
-ghost use Rattle.std.specs.Prelude.{◌≡◌};
+ghost use Rattle.std.specs.Prelude.{◌≡◌, ◌≢◌, ◌≤◌};
 ghost use Rattle.lucy_front.specs.Accepting.{syntax_refusal, names_refusal};
 ghost use Rattle.lucy_app.specs.ProgramRefusals.{program_status};
 ghost use Rattle.lucy_app.specs.Outcomes.{fetch_refusal, fetch_refusal_within, program_refusal, read_refusal, trace_refusal};
@@ -32,9 +32,11 @@ pub(crate) enum Refusal {
     OutOfMemory,
 }
 
-/// The status that the program ends with where a program is refused so.
-pub(crate) fn program_status(refusal: &lucy_front::Refusal) -> u8
-    ensures { result ≡ program_status refusal.now }
+/// The status that `lucy` ends with where a program is refused so: 1, 6 or 7.
+pub fn program_status(refusal: &lucy_front::Refusal) -> u8
+    ensures is { result ≡ program_status refusal.now }
+    ensures known { result ≤ 7 }
+    ensures fails { result ≢ 0 }
 {
     match refusal {
         lucy_front::Refusal::Syntax(_) => 1,

@@ -23,8 +23,8 @@ use lucy_text::ShelfError;
 use lucy_tight::{TightError, report_fixed, report_tight, tighten};
 use std::alloc::Global;
 
-// The number of the first node of this name, or of all nodes where none has it.
-fn node_named(placed: &Placed, name: &[u8]) -> u32
+/// The number of the first node of this name, from 0, or of all nodes where none has it.
+pub fn node_named(placed: &Placed, name: &[u8]) -> u32
     ensures is { result ≡ spec.node_named placed.now.nodes name.now }
     ensures within { result ≤ length placed.now.nodes }
 {

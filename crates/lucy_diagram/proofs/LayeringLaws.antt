@@ -450,17 +450,23 @@ passed_more W S number p old new there before f here i q l at left = elim (cases
   | inr ne ↦ before i q (omega arith) at (finds_left W S old q f left)
 ]
 
--- a place is taken, and all ways from it are to be gone
+-- a place is taken as found, of this layer, and all ways from it are to be gone
+pub record IsTaken (W : List Way) (F G : List (Option ℕ)) (L C open_ones : List ℕ) (p k : ℕ) : Type 0 where
+  pub counts : Counts W (filter (is_from p) W) k G L C
+  pub free : AreFree G C (length G) open_ones
+  pub low : k + 1 + left_of G ≤ length G
+  pub found : G ≡ with_layer W F p
+
 pub taken_place : (W : List Way) (F G : List (Option ℕ)) (L C open_ones : List ℕ) (p k : ℕ) → Counts W [] 0 F L C → IsLeft F p → k ≡ get_or L p 0 → AreFree (with_layer W F p) C (length F) open_ones → G ≡ set F p (Some k) →
-    Counts W (filter (is_from p) W) k G L C × AreFree G C (length G) open_ones × (k + 1 + left_of G ≤ length G) × (G ≡ with_layer W F p)
+    IsTaken W F G L C open_ones p k
 taken_place W F G L C open_ones p k counts left is are put =
     let same : G ≡ with_layer W F p = put ∙ ap (λ (l : ℕ). set F p (Some l)) (is ∙ least_is W F L C p counts left) in
-    let long : length G ≡ length F = ap length put ∙ length-set F p (Some k) in (
-      subst (λ (H : List (Option ℕ)). Counts W (filter (is_from p) W) k H L C) (sym put) (counts_take W F L C p k counts left),
-      subst (λ (n : ℕ). AreFree G C n open_ones) (sym long) (subst (λ (H : List (Option ℕ)). AreFree H C (length F) open_ones) (sym same) are),
-      subst (λ (H : List (Option ℕ)). k + 1 + left_of H ≤ length H) (sym put) (low_take W F L C p k counts left is),
-      same,
-    )
+    let long : length G ≡ length F = ap length put ∙ length-set F p (Some k) in record {
+      counts = subst (λ (H : List (Option ℕ)). Counts W (filter (is_from p) W) k H L C) (sym put) (counts_take W F L C p k counts left);
+      free = subst (λ (n : ℕ). AreFree G C n open_ones) (sym long) (subst (λ (H : List (Option ℕ)). AreFree H C (length F) open_ones) (sym same) are);
+      low = subst (λ (H : List (Option ℕ)). k + 1 + left_of H ≤ length H) (sym put) (low_take W F L C p k counts left is);
+      found = same;
+    }
 
 some_layer : (o : Option ℕ) (k : ℕ) → (o ≡ None → ⊥) → ((l : ℕ) → o ≡ Some l → k ≡ l) → o ≡ Some k
 some_layer None k some own = absurd (some refl)
