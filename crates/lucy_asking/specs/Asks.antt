@@ -10,6 +10,7 @@ use Rattle.clap.specs.Matches.{ReadsOne}
 use Rattle.lucy_word.specs.Limits.{limit_number}
 use Rattle.lucy_word.specs.declared.limit.Limit.TheVariants as limit
 use Rattle.lucy_fields.specs.Numbers.{number_of}
+use Rattle.lucy_command.specs.Named.{IsScale}
 use Rattle.lucy_command.specs.Names.{most_buffer}
 use Rattle.lucy_command.specs.Parts.{halves_at}
 use Rattle.lucy_asking.specs.declared.name.Name.{Name}
@@ -123,11 +124,8 @@ abbrev pub Asks : (words : List (List ℕ)) → Ask → Type 0
 Asks words a = AsksBy (subcommand_of line words) a
 
 -- the scale and the lead are from 1 to 64
-pub record AreFactors (w : FileWords) : Type 0 where
-  pub scale : 1 ≤ w.scale
-  pub scale_few : w.scale ≤ 64
-  pub lead : 1 ≤ w.lead
-  pub lead_few : w.lead ≤ 64
+abbrev pub AreFactors : FileWords → Type 0
+AreFactors w = IsScale w.scale × IsScale w.lead
 
 -- those of a picture are
 abbrev pub IsPictureWithin : Picture → Type 0

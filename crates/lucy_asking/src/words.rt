@@ -3,6 +3,7 @@ ghost use Rattle.std.specs.Prelude.{◌≡◌, ◌≤◌, ◌⊎◌, [], None, I
 ghost use Rattle.std.specs.Option.{option_map};
 ghost use Rattle.clap.specs.Walk.{rows_of, first_of};
 ghost use Rattle.lucy_fields.specs.Numbers.{number_of};
+ghost use Rattle.lucy_command.specs.Named.{IsScale};
 ghost use Rattle.lucy_command.specs.Names.{most_buffer};
 ghost use Rattle.lucy_command.specs.Parts.{halves_at};
 ghost use Rattle.clap.specs.Simple.{subcommand_rows_of};
@@ -56,8 +57,7 @@ fn flag(matches: &ArgMatches<'_>, flag: &str) -> bool
 // A number from 1 to 64, which is 1 where none is given.
 fn factor(matches: &ArgMatches<'_>, option: &str) -> u64
     ensures is { spec.HasFactor option.now (rows_of (found_of matches.now)) result }
-    ensures least { 1 ≤ result }
-    ensures most { result ≤ 64 }
+    ensures within { IsScale result }
 {
     number(matches, option).unwrap_or(1).max(1u64).min(64u64)
 }

@@ -5,17 +5,17 @@ use Rattle.lucy_place.specs.declared.placed.PlacedNode.{PlacedNode}
 use Rattle.lucy_svg.specs.Escaping.{escaped}
 use Rattle.lucy_page.specs.Reading.{read_html}
 
--- with what the section of the program's text begins
+-- with what the section of the program's text begins; browsers leave out a line feed that comes first in `<pre>`
 abbrev pub program_begin : List ℕ
-program_begin = codes "<section id=\"text\"><h2>Program</h2>\n<pre>"
+program_begin = codes "<section id=\"text\"><h2>Program</h2>\n<pre>\n"
 
 -- with what that of the report begins
 abbrev pub report_begin : List ℕ
-report_begin = codes "<section id=\"report\"><h2>Report</h2>\n<pre>"
+report_begin = codes "<section id=\"report\"><h2>Report</h2>\n<pre>\n"
 
 -- with what that of a refusal begins
 abbrev pub refusal_begin : List ℕ
-refusal_begin = codes "<section id=\"refusal\"><h2>Refusal</h2>\n<pre>"
+refusal_begin = codes "<section id=\"refusal\"><h2>Refusal</h2>\n<pre>\n"
 
 -- with what all of them end
 abbrev pub section_end : List ℕ

@@ -87,7 +87,7 @@ fn put_texts(
     let marks = program_marks(alloc, program, accepted)?;
     put_section(
         alloc,
-        "<section id=\"text\"><h2>Program</h2>\n<pre>",
+        "<section id=\"text\"><h2>Program</h2>\n<pre>\n",
         text,
         &marks,
         out,
@@ -96,7 +96,7 @@ fn put_texts(
     let marks = report_marks(alloc, accepted, &told)?;
     put_section(
         alloc,
-        "<section id=\"report\"><h2>Report</h2>\n<pre>",
+        "<section id=\"report\"><h2>Report</h2>\n<pre>\n",
         &told,
         &marks,
         out,
@@ -141,7 +141,7 @@ pub fn refused_page(
     put_head(name, &mut out)?;
     put_section(
         alloc,
-        "<section id=\"refusal\"><h2>Refusal</h2>\n<pre>",
+        "<section id=\"refusal\"><h2>Refusal</h2>\n<pre>\n",
         told,
         &[],
         &mut out,
@@ -149,7 +149,7 @@ pub fn refused_page(
     let marks = wrong_marks(alloc, spans)?;
     put_section(
         alloc,
-        "<section id=\"text\"><h2>Program</h2>\n<pre>",
+        "<section id=\"text\"><h2>Program</h2>\n<pre>\n",
         text,
         &marks,
         &mut out,

@@ -13,11 +13,7 @@ use std::process::ExitCode;
 
 // The words of the command line, the program's name first.
 fn words_of(rt: &(impl Env + AllocGlobal), alloc: Global) -> io::Result<Vec<String>> {
-    let mut words = Vec::new(alloc);
-    for word in env::args(rt)? {
-        words.push(word)?;
-    }
-    Ok(words)
+    Ok(env::args(rt)?.collect(alloc)?)
 }
 
 // Says that memory ran out.
@@ -26,13 +22,20 @@ fn out_of_memory(rt: &impl Eprint) -> ExitCode {
     ExitCode::from(7)
 }
 
+// Says that a word is no text, which `clap` can't be asked about.
+fn not_text(rt: &impl Eprint) -> ExitCode {
+    match eprintln!(rt; "lucy_view: a word isn't UTF-8") {
+        Ok(()) => ExitCode::from(2),
+        Err(_) => ExitCode::from(5),
+    }
+}
+
 fn main(rt: HostRuntime) -> ExitCode {
     let alloc = rt.alloc();
     let words = match words_of(&rt, alloc) {
         Ok(words) => words,
         Err(error) if error.kind() == ErrorKind::OutOfMemory => return out_of_memory(&rt),
-        // A word that is no text asks for nothing.
-        Err(_) => Vec::new(alloc),
+        Err(_) => return not_text(&rt),
     };
     let (Ok(ops), Ok(kinds)) = (program_operators(alloc), program_operators(alloc)) else {
         return out_of_memory(&rt);

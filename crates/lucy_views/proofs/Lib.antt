@@ -1,4 +1,3 @@
-mod Named
 mod Told
 mod Outs
 mod PlaceLaws
@@ -7,4 +6,3 @@ mod PictureLaws
 mod Drawn
 mod Sinks
 mod Runs
-mod Fits

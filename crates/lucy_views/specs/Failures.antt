@@ -13,8 +13,6 @@ use Rattle.lucy_front.specs.declared.options.Options.{Options}
 use Rattle.lucy_front.specs.declared.refusal.Refusal.{Refusal}
 use Rattle.lucy_front.specs.declared.refusal.Refusal.TheVariants as front
 use Rattle.lucy_front.specs.Refusals.{IsTellable, memory_line}
-use Rattle.lucy_front.specs.Inferring.{AreOptions}
-use Rattle.lucy_run.specs.Paces.{AreInstants}
 use Rattle.lucy_app.specs.Answers.{Answer, printed, read_fault, program_refused, out_of_memory}
 use Rattle.lucy_app.specs.Commands.{HasText}
 use Rattle.lucy_app.specs.Ends.{Tells, Answers, Breaks, EndsBy}
@@ -26,11 +24,6 @@ use Rattle.lucy_views.specs.declared.failure.Failure.{Failure}
 use Rattle.lucy_views.specs.declared.failure.Failure.TheVariants.{Program, Lacks, ReadFault, OutOfMemory}
 use Rattle.lucy_views.specs.declared.shown.Shown.{Shown}
 use Rattle.lucy_asking.specs.declared.ask.Sought.{Sought}
-use Rattle.lucy_asking.specs.declared.ask.Picture.{Picture}
-use Rattle.lucy_asking.specs.declared.ask.Picture.TheVariants as picture
-use Rattle.lucy_asking.specs.declared.ask.Ask.{Ask}
-use Rattle.lucy_asking.specs.declared.ask.Ask.TheVariants as ask
-use Rattle.lucy_views.specs.Meets.{options_of}
 use Rattle.lucy_views.specs.Owes.{missing, shown_refused, RefusesSought, OwesWhere}
 use Rattle.lucy_views.specs.Looks.{OwesSaid, OutputOf}
 
@@ -125,21 +118,6 @@ abbrev pub IsAccepting : List Operator → Options → (instants : Option ℕ) �
 IsAccepting ops o instants fetched accepted =
     MatchResult accepted (λ a. HasText (fetched ∷ []) (λ text. IsRunnable ops o instants text a))
     (λ e. (e ≡ OutOfMemory) ⊎ OwesRunning NoRun ops o instants Unread (fetched ∷ []) (failure_answer e))
-
--- clocks can be looked for with the scale and the lead of a picture
-abbrev pub IsPictureFit : Picture → Type 0
-IsPictureFit (picture.Time w) = AreOptions (options_of w.program)
-IsPictureFit (picture.Net w) = AreOptions (options_of w.program)
-IsPictureFit (picture.Where w) = Unit {0}
-IsPictureFit (picture.Page w) = AreOptions (options_of w.program)
-IsPictureFit (picture.Explain w) = AreOptions (options_of w)
-IsPictureFit (picture.Why w) = AreOptions (options_of w.program)
-IsPictureFit (picture.Freeze w) = AreOptions (options_of w)
-
--- and with those of what is asked for, whose instants can be run
-abbrev pub IsFit : Ask → Type 0
-IsFit (ask.Wave w) = AreOptions (options_of w.program) × AreInstants w.instants
-IsFit (ask.Picture p) = IsPictureFit p
 
 -- a text of `clap` was told or printed, or memory ran out
 abbrev pub EndsSaying : (fault : Bool) → (out out' err err' : SeenSink) (status : ℕ) → Type 0

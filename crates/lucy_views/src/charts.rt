@@ -4,9 +4,8 @@ ghost use Rattle.std.specs.Option.{option_map};
 ghost use Rattle.lucy_host.specs.Operators.{Operator};
 ghost use Rattle.lucy_front.specs.declared.options.Options.{Options as Choices};
 ghost use Rattle.lucy_front.specs.Accepting.{IsAccepted};
-ghost use Rattle.lucy_front.specs.Inferring.{AreOptions};
 ghost use Rattle.lucy_asking.specs.declared.ask.Picture.TheVariants as picture;
-ghost use Rattle.lucy_views.specs.Meets.{options_of};
+ghost use Rattle.lucy_asking.specs.Asks.{AreFactors};
 ghost use Rattle.lucy_views.specs.Shown.{PutsTime, PutsTimes, IsTimeSvg};
 ghost use Rattle.lucy_views.specs.Owes.{OwesTime, OwesPicture};
 ghost use Rattle.lucy_views.specs.Failures.{ComesOut, Tellable, unread};
@@ -162,7 +161,7 @@ pub(crate) fn charts(
     ops: &Ops,
     text: &[u8],
 ) -> Result<Vec<u8>, Failure>
-    requires { AreOptions (options_of words.program) }
+    requires { AreFactors words.program }
     ensures outcome { ComesOut (OwesPicture (picture.Time words.entry) (unread ops.now (Ok text.now))) result }
     ensures told { IfErr result Tellable }
 {

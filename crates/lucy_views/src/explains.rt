@@ -1,16 +1,16 @@
 // The command `explain`: why a program is refused, for people.
 ghost use Rattle.std.specs.Prelude.{◌≡◌, ◌≢◌, false, Ok, Some, IfOk, IfErr, IfSome};
-ghost use Rattle.lucy_front.specs.Inferring.{AreOptions};
 ghost use Rattle.lucy_front.specs.declared.refusal.Refusal.TheVariants as front;
 ghost use Rattle.lucy_views.specs.declared.failure.Failure.TheVariants.{OutOfMemory};
 ghost use Rattle.lucy_asking.specs.declared.ask.Picture.TheVariants as picture;
+ghost use Rattle.lucy_asking.specs.Asks.{AreFactors};
 ghost use Rattle.lucy_views.specs.Meets.{options_of};
 ghost use Rattle.lucy_views.specs.Owes.{Explains, OwesPicture};
 ghost use Rattle.lucy_views.specs.Failures.{ComesOut, Tellable, unread};
 
 use crate::failure::Failure;
 use crate::program::options;
-use crate::telling::status_of;
+use lucy_app::program_status;
 use lucy_asking::FileWords;
 use lucy_explain::{Explained, explain};
 use lucy_front::Refusal;
@@ -22,7 +22,7 @@ fn lacks_memory(refusal: &Option<Refusal>) -> bool
     ensures { result ≡ false → IfSome refusal.now (λ r. r ≢ front.OutOfMemory) }
 {
     match refusal {
-        Some(refusal) => status_of(refusal) == 7,
+        Some(refusal) => program_status(refusal) == 7,
         None => false,
     }
 }
@@ -34,7 +34,7 @@ pub(crate) fn explained(
     ops: &Ops,
     text: &[u8],
 ) -> Result<Explained, Failure>
-    requires { AreOptions (options_of words) }
+    requires { AreFactors words }
     ensures ok { IfOk result (λ e. Explains ops.now (options_of words.entry) text.now e.refusal e.text.items) }
     ensures short { IfErr result (λ e. e ≡ OutOfMemory) }
     ensures told { IfErr result Tellable }
@@ -53,7 +53,7 @@ pub(crate) fn explains(
     ops: &Ops,
     text: &[u8],
 ) -> Result<Vec<u8>, Failure>
-    requires { AreOptions (options_of words) }
+    requires { AreFactors words }
     ensures outcome { ComesOut (OwesPicture (picture.Explain words.entry) (unread ops.now (Ok text.now))) result }
     ensures told { IfErr result Tellable }
 {

@@ -1,8 +1,7 @@
 // The command `freeze`: the program with every clock written out.
 ghost use Rattle.std.specs.Prelude.{Ok, IfErr};
-ghost use Rattle.lucy_front.specs.Inferring.{AreOptions};
 ghost use Rattle.lucy_asking.specs.declared.ask.Picture.TheVariants as picture;
-ghost use Rattle.lucy_views.specs.Meets.{options_of};
+ghost use Rattle.lucy_asking.specs.Asks.{AreFactors};
 ghost use Rattle.lucy_views.specs.Owes.{OwesPicture};
 ghost use Rattle.lucy_views.specs.Failures.{ComesOut, Tellable, unread};
 
@@ -21,7 +20,7 @@ pub(crate) fn freezes(
     ops: &Ops,
     text: &[u8],
 ) -> Result<Vec<u8>, Failure>
-    requires { AreOptions (options_of words) }
+    requires { AreFactors words }
     ensures outcome { ComesOut (OwesPicture (picture.Freeze words.entry) (unread ops.now (Ok text.now))) result }
     ensures told { IfErr result Tellable }
 {

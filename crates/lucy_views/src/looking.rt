@@ -5,10 +5,9 @@ ghost use Rattle.lucy_host.specs.Host.{Serves, lent};
 ghost use Rattle.lucy_app.specs.World.{world};
 ghost use Rattle.lucy_asking.specs.declared.name.Name.TheVariants as name;
 ghost use Rattle.lucy_asking.specs.CommandLine.{line};
-ghost use Rattle.lucy_asking.specs.Asks.{name_in};
+ghost use Rattle.lucy_asking.specs.Asks.{name_in, IsWithin};
 ghost use Rattle.lucy_views.specs.Meets.{most_input};
 ghost use Rattle.lucy_views.specs.Looks.{EndsSo, Looks};
-ghost use Rattle.lucy_views.specs.Failures.{IsFit};
 
 use crate::failure::Failure;
 use crate::missing::Missing;
@@ -33,7 +32,7 @@ fn answer<S: Shelf, I: Source, O: Sink, E: Sink, F: Fn(u32, i64, i64) -> i64 + S
     err: &mut E,
 ) -> u8
     requires serves { Serves F.pre F.post host.now }
-    requires fit { IsFit ask }
+    requires within { IsWithin ask }
     ensures ends { EndsSo ask.entry (world (S.seen shelf.old) (I.seen source.old) (O.seen out.old) (E.seen err.old) (lent host.now))
         (world (S.seen shelf.new) (I.seen source.new) (O.seen out.new) (E.seen err.new) (lent host.now)) result }
     ensures known { result ≤ 7 }

@@ -1,8 +1,8 @@
 // The command `page`: all pictures of a program on one page, or why it is refused.
 ghost use Rattle.std.specs.Prelude.{Ok, IfOk, IfErr, IfSome};
-ghost use Rattle.lucy_front.specs.Inferring.{AreOptions};
 ghost use Rattle.lucy_app.specs.Answers.{printed};
 ghost use Rattle.lucy_asking.specs.declared.ask.Picture.TheVariants as picture;
+ghost use Rattle.lucy_asking.specs.Asks.{AreFactors};
 ghost use Rattle.lucy_views.specs.Meets.{options_of};
 ghost use Rattle.lucy_views.specs.Owes.{Explains, OwesAcceptedPage, OwesRefusedPage, OwesPicture};
 ghost use Rattle.lucy_views.specs.Failures.{IsOutcome, IsTold, Tellable, unread};
@@ -50,7 +50,7 @@ fn page_of(
 
 // The page of a text that wasn't accepted.
 fn refused(alloc: Global, words: PageWords<'_>, ops: &Ops, text: &[u8]) -> Result<Shown, Failure>
-    requires { AreOptions (options_of words.program) }
+    requires { AreFactors words.program }
     ensures outcome { IsOutcome (OwesRefusedPage ops.now (options_of words.entry.program) text.now) result }
     ensures shown { IfOk result IsTold }
     ensures told { IfErr result Tellable }
@@ -61,7 +61,7 @@ fn refused(alloc: Global, words: PageWords<'_>, ops: &Ops, text: &[u8]) -> Resul
 
 // The page of a program that is accepted, if it is and there is memory for that.
 fn drawn(alloc: Global, words: PageWords<'_>, ops: &Ops, text: &[u8]) -> Option<Vec<u8>>
-    requires { AreOptions (options_of words.program) }
+    requires { AreFactors words.program }
     ensures { IfSome result (λ v. OwesAcceptedPage ops.now (options_of words.entry.program) text.now (printed v.items)) }
 {
     let Ok(program) = parse(alloc, text) else {
@@ -84,7 +84,7 @@ pub(crate) fn pages(
     ops: &Ops,
     text: &[u8],
 ) -> Result<Shown, Failure>
-    requires { AreOptions (options_of words.program) }
+    requires { AreFactors words.program }
     ensures outcome { IsOutcome (OwesPicture (picture.Page words.entry) (unread ops.now (Ok text.now))) result }
     ensures shown { IfOk result IsTold }
     ensures told { IfErr result Tellable }

@@ -1,9 +1,10 @@
 // What is shown of a program that isn't run.
 ghost use Rattle.std.specs.Prelude.{◌≡◌, Ok, MatchResult};
 ghost use Rattle.lucy_app.specs.World.{bytes_of};
+ghost use Rattle.lucy_asking.specs.Asks.{IsPictureWithin};
 ghost use Rattle.lucy_views.specs.Meets as spec;
 ghost use Rattle.lucy_views.specs.Owes.{OwesPicture};
-ghost use Rattle.lucy_views.specs.Failures.{IsOutcome, IsPictureFit, IsTold, Tellable, unread};
+ghost use Rattle.lucy_views.specs.Failures.{IsOutcome, IsTold, Tellable, unread};
 
 use crate::charts::charts;
 use crate::explains::explains;
@@ -36,7 +37,7 @@ pub(crate) fn file_of<'a>(picture: Picture<'a>) -> &'a str
 
 // What is shown of a text, or why nothing is.
 fn shown(alloc: Global, picture: Picture<'_>, ops: &Ops, text: &[u8]) -> Result<Shown, Failure>
-    requires { IsPictureFit picture }
+    requires { IsPictureWithin picture }
     ensures outcome { IsOutcome (OwesPicture picture.entry (unread ops.now (Ok text.now))) result }
     ensures told { MatchResult result IsTold Tellable }
 {
@@ -58,7 +59,7 @@ pub(crate) fn outcome_of(
     ops: &Ops,
     fetched: Result<Vec<u8>, ShelfError>,
 ) -> Result<Shown, Failure>
-    requires { IsPictureFit picture }
+    requires { IsPictureWithin picture }
     ensures outcome { IsOutcome (OwesPicture picture.entry (unread ops.now (bytes_of fetched))) result }
     ensures told { MatchResult result IsTold Tellable }
 {

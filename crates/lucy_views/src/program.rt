@@ -1,40 +1,24 @@
 // The program that a command works on.
-ghost use Rattle.std.specs.Prelude.{◌≡◌, ◌<◌, ◌≤◌, None, length, IfSome};
+ghost use Rattle.std.specs.Prelude.{◌≡◌, ◌<◌, None, length, IfSome};
 ghost use Rattle.std.specs.Option.{option_map};
-ghost use Rattle.lucy_app.specs.Tighten as tighten;
+ghost use Rattle.lucy_front.specs.Inferring.{AreOptions};
+ghost use Rattle.lucy_asking.specs.Asks.{AreFactors};
 ghost use Rattle.lucy_views.specs.Meets as spec;
 ghost use Rattle.lucy_views.specs.Owes as owed;
 ghost use Rattle.lucy_views.specs.Owes.{HasNode};
 
+use lucy_app::{inferring, node_named};
 use lucy_asking::FileWords;
 use lucy_front::Options;
 use lucy_place::Placed;
 
 /// How the clocks of a program are found.
 pub(crate) fn options(words: FileWords<'_>) -> Options
-    ensures { result ≡ spec.options_of words.entry }
+    requires { AreFactors words }
+    ensures is { result ≡ spec.options_of words.entry }
+    ensures within { AreOptions result }
 {
-    Options {
-        scale: words.scale,
-        lead: words.lead,
-        written_only: false,
-    }
-}
-
-// The number of the first node of this name, or of all nodes where none has it.
-fn node_named(placed: &Placed, name: &[u8]) -> u32
-    ensures is { result ≡ tighten.node_named placed.now.nodes name.now }
-    ensures within { result ≤ length placed.now.nodes }
-{
-    let count = placed.nodes();
-    let mut node = 0;
-    'nodes: while node < count {
-        if placed.node(node).name.text.bytes() == name {
-            return node;
-        }
-        node += 1;
-    }
-    count
+    inferring(words.scale, words.lead)
 }
 
 // The number of the node that is asked for, or of all nodes where there is none.

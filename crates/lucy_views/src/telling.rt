@@ -3,8 +3,6 @@ ghost use Rattle.std.specs.Prelude.{◌≡◌, ◌≢◌, ◌≤◌, ◌⊎◌, 
 ghost use Rattle.clap.specs.Values.{kind_of};
 ghost use Rattle.clap.specs.declared.error.kind.ErrorKind.TheVariants as kind;
 ghost use Rattle.lucy_front.specs.Refusals.{IsTellable};
-ghost use Rattle.lucy_app.specs.ProgramRefusals.{program_status};
-ghost use Rattle.lucy_app.specs.Answers.{printed};
 ghost use Rattle.lucy_views.specs.Owes.{shown_refused};
 ghost use Rattle.lucy_views.specs.Looks.{is_fault};
 ghost use Rattle.lucy_views.specs.Failures.{shown_answer, IsTold, LacksMemory, Tellable, TellsFailure, Prints, Delivers, EndsSaying};
@@ -13,41 +11,10 @@ use crate::failure::Failure;
 use crate::shown::Shown;
 use clap::Error;
 use clap::error::ErrorKind;
-use lucy_app::{explain, tell};
+use lucy_app::{explain, print, program_status, tell};
 use lucy_front::{Refusal, refusal_text};
 use lucy_text::{Sink, write_all};
 use std::alloc::Global;
-
-// Writes what is printed, of which nothing is told. Where that fails, the fault is told on `err`, if it can be.
-fn print<O: Sink, E: Sink>(out: &mut O, err: &mut E, text: &[u8]) -> u8
-    ensures prints { Prints (printed text.now) (O.seen out.old) (O.seen out.new) (E.seen err.old) (E.seen err.new) result }
-    ensures known { result ≤ 7 }
-    ensures quiet { result ≡ 0 → err.new ≡ err.old }
-    ensures out_count { (O.seen out.old).faults ≤ (O.seen out.new).faults }
-    ensures err_count { (E.seen err.old).faults ≤ (E.seen err.new).faults }
-{
-    match write_all(out, text) {
-        Ok(()) => 0,
-        Err(_) => tell(err, b"lucy: write fault\n", 5),
-    }
-}
-
-/// The status that `lucy` ends with where a program is refused so.
-pub(crate) fn status_of(refusal: &Refusal) -> u8
-    ensures is { result ≡ program_status refusal.now }
-    ensures known { result ≤ 7 }
-    ensures fails { result ≢ 0 }
-{
-    match refusal {
-        Refusal::Syntax(_) => 1,
-        Refusal::Names(_) => 1,
-        Refusal::Types { .. } => 1,
-        Refusal::Node { .. } => 1,
-        Refusal::Cause { .. } => 1,
-        Refusal::Limit(_) => 6,
-        Refusal::OutOfMemory => 7,
-    }
-}
 
 // Writes what is printed, and then the lines that go with a status.
 fn print_with<O: Sink, E: Sink>(
@@ -86,7 +53,7 @@ fn print_refused<O: Sink, E: Sink>(
     ensures err_count { (E.seen err.old).faults ≤ (E.seen err.new).faults }
 {
     match refusal_text(alloc, refusal) {
-        Ok(lines) => print_with(out, err, text, &lines, status_of(refusal)),
+        Ok(lines) => print_with(out, err, text, &lines, program_status(refusal)),
         Err(_) => tell(err, b"lucy: out of memory\n", 7),
     }
 }
@@ -117,7 +84,7 @@ pub(crate) fn refuse<E: Sink>(alloc: Global, err: &mut E, failure: Failure) -> u
 {
     match failure {
         Failure::Program(reason) => {
-            explain(err, refusal_text(alloc, &reason), status_of(&reason))
+            explain(err, refusal_text(alloc, &reason), program_status(&reason))
         }
         Failure::Lacks(missing) => tell(err, missing.line(), 2),
         Failure::ReadFault => tell(err, b"lucy: read fault\n", 4),

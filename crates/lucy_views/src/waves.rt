@@ -4,12 +4,12 @@ ghost use Rattle.lucy_word.specs.Limits.{limit_number};
 ghost use Rattle.lucy_word.specs.declared.limit.Limit.TheVariants as limit;
 ghost use Rattle.lucy_host.specs.Host.{Serves, lent};
 ghost use Rattle.lucy_text.specs.Sources.{ReadStop, Read};
-ghost use Rattle.lucy_front.specs.Inferring.{AreOptions};
 ghost use Rattle.lucy_app.specs.World.{bytes_of};
 ghost use Rattle.lucy_asking.specs.declared.ask.Ask.TheVariants as asked;
+ghost use Rattle.lucy_asking.specs.Asks.{AreFactors, IsWithin};
 ghost use Rattle.lucy_views.specs.Meets.{options_of, ReadsSource};
 ghost use Rattle.lucy_views.specs.Looks.{EndsGiven};
-ghost use Rattle.lucy_views.specs.Failures.{IsAccepting, IsFit, Tellable, given_of};
+ghost use Rattle.lucy_views.specs.Failures.{IsAccepting, Tellable, given_of};
 
 use crate::failure::Failure;
 use crate::missing::Missing;
@@ -29,7 +29,7 @@ fn runnable(
     ops: &Ops,
     fetched: Result<Vec<u8>, ShelfError>,
 ) -> Result<Accepted, Failure>
-    requires { AreOptions (options_of words.program) }
+    requires { AreFactors words.program }
     ensures accepting { IsAccepting ops.now (options_of words.entry.program) words.entry.instants (bytes_of fetched) result }
     ensures given { IfOk result (λ a. a.inputs.items ≡ [] → words.entry.instants ≢ None) }
     ensures told { IfErr result Tellable }
@@ -60,7 +60,7 @@ pub(crate) fn wave<I: Source, O: Sink, E: Sink, F: Fn(u32, i64, i64) -> i64 + Sy
     err: &mut E,
 ) -> u8
     requires serves { Serves F.pre F.post host.now }
-    requires fit { IsFit (asked.Wave words) }
+    requires within { IsWithin (asked.Wave words) }
     ensures ends { (taken : List ℕ) × (stop : ReadStop) × Read (limit_number limit.Input) (I.seen source.old) (I.seen source.new) taken stop
         × ((I.seen source.new ≡ I.seen source.old) ⊎ ReadsSource (asked.Wave words.entry) (lent host.now) (bytes_of fetched ∷ []) taken)
         × EndsGiven (asked.Wave words.entry) (given_of (lent host.now) (bytes_of fetched) taken stop)

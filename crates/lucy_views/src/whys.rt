@@ -5,7 +5,7 @@ ghost use Rattle.lucy_host.specs.Operators.{Operator};
 ghost use Rattle.lucy_front.specs.Accepting.{IsAccepted};
 ghost use Rattle.lucy_front.specs.Inferring.{AreOptions};
 ghost use Rattle.lucy_asking.specs.declared.ask.Picture.TheVariants as picture;
-ghost use Rattle.lucy_views.specs.Meets.{options_of};
+ghost use Rattle.lucy_asking.specs.Asks.{AreFactors};
 ghost use Rattle.lucy_views.specs.Owes.{OwesWhy, OwesPicture};
 ghost use Rattle.lucy_views.specs.Failures.{ComesOut, Tellable, unread};
 
@@ -67,7 +67,7 @@ pub(crate) fn whys(
     ops: &Ops,
     text: &[u8],
 ) -> Result<Vec<u8>, Failure>
-    requires { AreOptions (options_of words.program) }
+    requires { AreFactors words.program }
     ensures outcome { ComesOut (OwesPicture (picture.Why words.entry) (unread ops.now (Ok text.now))) result }
     ensures told { IfErr result Tellable }
 {

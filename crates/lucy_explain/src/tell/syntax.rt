@@ -1,6 +1,7 @@
 // A text that is no program: where, and what could stand there.
 use crate::tell::page::Page;
 use lucy_syntax::{SyntaxError, parse};
+use lucy_tree::Span;
 use lucy_word::{Limit, OutOfMemory, Word, WordError};
 use std::alloc::Global;
 
@@ -13,6 +14,9 @@ const KINDS: [(&str, &str); 3] = [("a name", "z"), ("a number", "7"), ("a word",
 // All other tokens: the keywords and the signs.
 const MARKS: &str =
     "let node where rec and when whenot merge fby buffer at host if then else not true false int bool ( ) , : :: = == != < <= > >= + - * / % && ||";
+
+// The signs of two bytes.
+const SIGNS: [&str; 7] = ["::", "==", "!=", "<=", ">=", "&&", "||"];
 
 // Whether a token may follow this front: then what is refused is no earlier than the end.
 fn may_follow(alloc: Global, front: &[u8], token: &[u8]) -> Result<bool, OutOfMemory> {
@@ -92,13 +96,85 @@ fn put_unexpected(page: &mut Page<'_>, at: usize) {
     put_followers(page, &text[..at.min(text.len())])
 }
 
+// The bytes from here on.
+fn rest_at(text: &[u8], at: usize) -> &[u8] {
+    &text[at.min(text.len())..]
+}
+
 // The bytes from here up to the first parenthesis that closes.
 fn word_at(text: &[u8], at: usize) -> &[u8] {
-    let rest = &text[at.min(text.len())..];
+    let rest = rest_at(text, at);
     match rest.iter().position(|byte| *byte == b')') {
         Some(end) => &rest[..end.saturating_add(1).min(rest.len())],
         None => rest,
     }
+}
+
+// Whether a byte goes on with what begins with another one: letters of several bytes, a number behind its sign, or a name or a number.
+fn goes_on(first: u8, byte: u8) -> bool {
+    if first >= 128 {
+        return byte >= 128;
+    }
+    if first == b'-' {
+        return byte.is_ascii_digit();
+    }
+    byte.is_ascii_alphanumeric() || byte == b'_'
+}
+
+// How many bytes at the front of a text go on with this one.
+fn run_of(first: u8, text: &[u8]) -> usize {
+    'each: for (i, byte) in text.iter().enumerate() {
+        if !goes_on(first, *byte) {
+            return i;
+        }
+    }
+    text.len()
+}
+
+// How many bytes at the front of a text are a sign: two, or else one.
+fn sign_of(text: &[u8]) -> usize {
+    for sign in SIGNS {
+        if text.starts_with(sign.as_bytes()) {
+            return 2;
+        }
+    }
+    1
+}
+
+// How many bytes at the front of a text can't stand there: those of a name, a number, a sign or letters of several bytes, or one; none at the
+// end of a line.
+fn unit_of(text: &[u8]) -> usize {
+    let Some((first, others)) = text.split_first() else {
+        return 0;
+    };
+    match *first {
+        b'\n' | b'\r' => 0,
+        first if first == b'-' || goes_on(first, first) => run_of(first, others).saturating_add(1),
+        _ => sign_of(text),
+    }
+}
+
+// Whether the comment with which a text begins has an end.
+fn has_end(text: &[u8]) -> bool {
+    let mut star = false;
+    'each: for (i, byte) in text.iter().enumerate() {
+        if star && *byte == b')' {
+            return true;
+        }
+        star = i > 1 && *byte == b'*';
+    }
+    false
+}
+
+// Puts the line of an offset last, with a mark below it, and keeps so many bytes from there on as those of which is told, if any.
+fn show_wrong(page: &mut Page<'_>, at: usize, bytes: usize) {
+    let end = at.saturating_add(bytes);
+    if let (Ok(from), Ok(to)) = (u32::try_from(at), u32::try_from(end))
+        && from < to
+    {
+        page.keep(Span { from, to });
+    }
+    page.show(at)
 }
 
 // Puts what is wrong with a word last.
@@ -123,20 +199,29 @@ fn put_word_fault(page: &mut Page<'_>, at: usize) {
     }
 }
 
+// Puts what stands where it can't last: a comment without its end, or a token or a byte.
+fn put_unexpected_at(page: &mut Page<'_>, at: usize) {
+    let rest = rest_at(page.text, at);
+    if rest.starts_with(b"(*") && !has_end(rest) {
+        show_wrong(page, at, 2);
+        page.say("the comment that begins here has no end\n");
+        return page.helps("`*)` where it ends");
+    }
+    show_wrong(page, at, unit_of(rest));
+    put_unexpected(page, at)
+}
+
 /// Puts why a text is no program last.
 pub(crate) fn put_syntax(page: &mut Page<'_>, error: SyntaxError) {
     match error {
-        SyntaxError::Unexpected(at) => {
-            page.show(at as usize);
-            put_unexpected(page, at as usize)
-        }
+        SyntaxError::Unexpected(at) => put_unexpected_at(page, at as usize),
         SyntaxError::BadNumber(at) => {
-            page.show(at as usize);
+            show_wrong(page, at as usize, unit_of(rest_at(page.text, at as usize)));
             page.say("numbers are from -9223372036854775808 to 9223372036854775807\n");
             page.helps("scale the numbers")
         }
         SyntaxError::BadWord(at) => {
-            page.show(at as usize);
+            show_wrong(page, at as usize, word_at(page.text, at as usize).len());
             put_word_fault(page, at as usize)
         }
         SyntaxError::TooLarge(_) | SyntaxError::OutOfMemory => {}

@@ -19,13 +19,13 @@ returns-in-Err-clause-told c = syntax_tellable c.in-Err.error _ c.from.ensures
 
 pub returns-in-Err-accept-clause-outcome : goal.returns-in-Err-accept-clause-outcome
 returns-in-Err-accept-clause-outcome c =
-    refused_out c.args.ops.now c.options.result (options_of c.args.words.program) c.options.ensures c.args.text.now
+    refused_out c.args.ops.now c.options.result (options_of c.args.words.program) c.options.ensures.is c.args.text.now
     (OwesNet c.args.words.flat (option_map (λ s. s.now) c.args.words.node)) c.in-Err-accept.reason _ _
     (IfErr-at_err (Refuses c.args.ops.now c.options.result c.args.text.now) c.in-Err-accept.is c.accept.ensures.refused) refl c.from-in-Err-accept.ensures
 
 pub returns-clause-outcome : goal.returns-clause-outcome
 returns-clause-outcome c =
-    accepted_out c.args.ops.now c.options.result (options_of c.args.words.program) c.options.ensures c.args.text.now
+    accepted_out c.args.ops.now c.options.result (options_of c.args.words.program) c.options.ensures.is c.args.text.now
     (OwesNet c.args.words.flat (option_map (λ s. s.now) c.args.words.node)) c.in-Ok-accept.accepted _
     (IfOk-at_ok (IsAccepted c.args.ops.now c.options.result c.args.text.now) c.in-Ok-accept.is c.accept.ensures.ok)
     (drawing_out c.args.words.flat (option_map (λ s. s.now) c.args.words.node) c.args.text.now (program_tree c.in-Ok.program) c.in-Ok-accept.accepted _ c.in-Ok.ensures.ok

@@ -19,13 +19,13 @@ none_given (Some n) lacks e is = let both : true ≡ false = e ∙ ap not is in 
 
 pub returns-in-Err-accept-clause-accepting : goal.returns-in-Err-accept-clause-accepting
 returns-in-Err-accept-clause-accepting c =
-    unaccepted c.args.ops.now (options_of c.args.words.program) c.args.words.instants c.options.result c.options.ensures c.args.fetched c.in-Ok.text _ c.in-Ok.is
+    unaccepted c.args.ops.now (options_of c.args.words.program) c.args.words.instants c.options.result c.options.ensures.is c.args.fetched c.in-Ok.text _ c.in-Ok.is
     c.deref.ensures.value c.in-Err-accept.reason _ _ (IfErr-at_err (Refuses c.args.ops.now c.options.result c.deref.result.now) c.in-Err-accept.is c.accept.ensures.refused) refl
     c.from-in-Err-accept.ensures
 
 pub returns-then-is_none-clause-accepting : goal.returns-then-is_none-clause-accepting
 returns-then-is_none-clause-accepting c =
     let empty = eqb-true _ _ (sym c.is_empty.ensures ∙ c.if-is_empty.true) in
-    lacking c.args.ops.now (options_of c.args.words.program) c.args.words.instants c.options.result c.options.ensures c.args.fetched c.in-Ok.text _ c.in-Ok.is
+    lacking c.args.ops.now (options_of c.args.words.program) c.args.words.instants c.options.result c.options.ensures.is c.args.fetched c.in-Ok.text _ c.in-Ok.is
     c.deref.ensures.value c.in-Ok-accept.program (IfOk-at_ok (IsAccepted c.args.ops.now c.options.result c.deref.result.now) c.in-Ok-accept.is c.accept.ensures.ok)
     (no_inputs c.in-Ok-accept.program.inputs.items (omega arith)) (none_given c.args.words.instants c.is_none.result c.is_none.ensures c.if-is_none.true)
