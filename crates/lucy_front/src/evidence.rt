@@ -68,7 +68,7 @@ fn position_name(alloc: Global, clock: &[u8], position: u64) -> Result<Text, Out
     bytes(b"[", &mut name)?;
     number(alloc, position, &mut name)?;
     bytes(b"]", &mut name)?;
-    Text::new(alloc, &name)
+    Ok(Text::new(alloc, &name)?)
 }
 
 // Puts the names of the first positions of a clock last.

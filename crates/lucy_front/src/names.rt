@@ -48,8 +48,8 @@ pub(crate) fn place_name(alloc: Global, node: &PlacedNode, place: u32) -> Result
     ensures { IfOk result (λ text. text ≡ spec.place_name node.now place) }
 {
     match name_at(node, place) {
-        Some(name) => Text::new(alloc, name.text.bytes()),
-        None => Text::new(alloc, format!(in alloc; "#{place}")?.as_bytes()),
+        Some(name) => Ok(Text::new(alloc, name.text.bytes())?),
+        None => Ok(Text::new(alloc, format!(in alloc; "#{place}")?.as_bytes())?),
     }
 }
 

@@ -16,12 +16,12 @@ pub(crate) fn clock_name(alloc: Global, node: &PlacedNode, clock: u32) -> Result
 {
     let places = node.places.list().len();
     if clock == 0 {
-        Text::new(alloc, b"base")
+        Ok(Text::new(alloc, b"base")?)
     } else if clock as usize <= places {
         place_name(alloc, node, clock)
     } else {
         let call = clock as usize - places;
-        Text::new(alloc, format!(in alloc; "call{call}")?.as_bytes())
+        Ok(Text::new(alloc, format!(in alloc; "call{call}")?.as_bytes())?)
     }
 }
 

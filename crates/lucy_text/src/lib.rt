@@ -5,7 +5,7 @@
 //! A shelf is where files are kept by their names, and counts its faults likewise; it has forms in
 //! memory and one over the file system. A `Text` is the bytes of a name.
 //!
-//! The crate stands on `lucy_word` for `OutOfMemory`. Begin with the traits of `outside` and `shelf`.
+//! It stands on nothing else. Begin with the traits of `outside` and `shelf`.
 #![tactic(auto)]
 
 mod calls;

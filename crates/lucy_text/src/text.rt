@@ -1,7 +1,6 @@
 ghost use Rattle.std.specs.Prelude.{◌≡◌, ℕ, List, IfOk};
 
-use lucy_word::OutOfMemory;
-use std::alloc::Global;
+use std::alloc::{AllocError, Global};
 use std::marker::Model;
 
 /// The bytes of a name. They need be no UTF-8, and there may be none.
@@ -18,7 +17,7 @@ impl Model for Text {
 
 impl Text {
     /// A copy of the bytes.
-    pub fn new(alloc: Global, bytes: &[u8]) -> Result<Text, OutOfMemory>
+    pub fn new(alloc: Global, bytes: &[u8]) -> Result<Text, AllocError>
         ensures { IfOk result (λ text. text ≡ bytes.now) }
     {
         let bytes = bytes.to_vec(alloc)?;

@@ -58,9 +58,9 @@ fn cut(alloc: Global, text: &[u8]) -> Result<Text, OutOfMemory>
     ensures { IfOk result (λ t. t ≡ spec.cut_text text.now) }
 {
     if text.len() <= SHOWN {
-        return Text::new(alloc, text);
+        return Ok(Text::new(alloc, text)?);
     }
-    Text::new(alloc, &front_of(alloc, text)?)
+    Ok(Text::new(alloc, &front_of(alloc, text)?)?)
 }
 
 /// The text of a word, cut off where it is long.
