@@ -109,6 +109,32 @@ fn put_item(page: &mut Page<'_>, program: &Program, placed: &Placed, name: &[u8]
     page.put(b"\n")
 }
 
+// A name on a loop of actors, in the outermost node that the loop is in, where it is read: only names are read before they are defined.
+fn name_on_loop<'a>(placed: &Placed, names: &'a [Text]) -> Option<&'a [u8]> {
+    let mut found = None;
+    let mut least = usize::MAX;
+    for name in names {
+        let own = inner_of(placed, name.bytes()).name;
+        let before = name.bytes().len().saturating_sub(own.len());
+        if before < least && !own.starts_with(b"#") {
+            least = before;
+            found = Some(own);
+        }
+    }
+    found
+}
+
+// Puts last that a delay helps on a loop, and for which name.
+fn put_delay(page: &mut Page<'_>, name: &[u8]) {
+    page.put(b"what helps: `fby` on the loop, as in `0 fby ");
+    page.put(name);
+    page.put(b"` where it reads ");
+    page.put(name);
+    page.put(b", or of truths `false fby ");
+    page.put(name);
+    page.put(b"`: then the loop begins with that, and each item waits for an earlier one\n")
+}
+
 /// Puts items of one instant last that depend on each other, each with what stands at its place, and what helps.
 pub(crate) fn put_items(
     page: &mut Page<'_>,
@@ -124,7 +150,7 @@ pub(crate) fn put_items(
         }
     }
     page.say("no item of an earlier instant is among them: a delay is missing\n");
-    page.helps(
-        "`fby` on the loop, as in `buffer (0 fby y)`, or of truths `buffer (false fby y)`: then the loop begins with that, and each item waits for an earlier one",
-    )
+    if let Some(name) = name_on_loop(placed, names) {
+        put_delay(page, name)
+    }
 }
