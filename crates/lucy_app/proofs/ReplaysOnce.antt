@@ -16,7 +16,7 @@ use Rattle.lucy_clock.specs.declared.node_clock.NodeClock.{NodeClock}
 use Rattle.lucy_output.specs.declared.output.OutputSpec.{OutputSpec}
 use Rattle.lucy_net.specs.declared.net.Net.{Net}
 use Rattle.lucy_net.specs.Plans.{net_system}
-use Rattle.lucy_event.specs.Runs.{none_done, after, IsRun}
+use Rattle.lucy_stream.specs.Runs.{none_done, after, IsRun}
 use Rattle.lucy_host.specs.declared.kind.HostKind.{HostKind}
 use Rattle.lucy_meaning.specs.Sizes.{all_places}
 use Rattle.lucy_output.specs.Outputs.{output_text}

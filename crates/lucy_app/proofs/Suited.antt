@@ -31,7 +31,7 @@ use Rattle.lucy_run.specs.Replays.{IsReplayText}
 use Rattle.lucy_fields.specs.Readings.{AreRead}
 use Rattle.lucy_fields.proofs.ReadingLaws.{never_both}
 use Rattle.lucy_trace.specs.Logs.{picks_of}
-use Rattle.lucy_event.specs.Runs.{none_done, IsRun}
+use Rattle.lucy_stream.specs.Runs.{none_done, IsRun}
 use Rattle.lucy_net.specs.Plans.{net_system}
 use Rattle.lucy_run.proofs.OwesLaws.{OneHorizon, done_for}
 use Rattle.lucy_run.proofs.WholeLaws.{taken_front, taken_all}

@@ -5,7 +5,7 @@ use Rattle.lucy_word.specs.Limits.{limit_number}
 use Rattle.lucy_word.specs.declared.limit.Limit.TheVariants as limit
 use Rattle.lucy_host.specs.Operators.{kinds_of}
 use Rattle.lucy_text.specs.Outside.{Rose}
-use Rattle.lucy_event.specs.Runs.{none_done, IsRun}
+use Rattle.lucy_stream.specs.Runs.{none_done, IsRun}
 use Rattle.lucy_net.specs.declared.net.Net.{Net}
 use Rattle.lucy_net.specs.Plans.{net_system}
 use Rattle.lucy_results.specs.Running.{HasManyTurns, HasManyItems}

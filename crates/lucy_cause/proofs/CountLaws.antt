@@ -7,8 +7,8 @@ use Rattle.lucy_word.specs.Bits.{bit_at, one_if, ones_to}
 use Rattle.lucy_word.proofs.BitsLaws.{ones_to-more, ones_to-none, ones_to-le}
 use Rattle.lucy_stream.specs.Forms.{Form, Kept, Merged, Delayed, operands}
 use Rattle.lucy_stream.specs.Firings.{gave_in}
-use Rattle.lucy_event.specs.Systems.{RingOp, Takes, Gives}
-use Rattle.lucy_event.specs.Firings.{firing_ops, ops_of}
+use Rattle.lucy_stream.specs.Systems.{RingOp, Takes, Gives}
+use Rattle.lucy_stream.specs.Operations.{firing_ops, ops_of}
 use Rattle.lucy_net.specs.declared.net.Actor.{Actor}
 use Rattle.lucy_net.specs.Plans.{form_of}
 use Rattle.lucy_cause.specs.Lengths.{takes_each}

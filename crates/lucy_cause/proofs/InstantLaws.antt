@@ -5,8 +5,8 @@ use Rattle.std.proofs.lemmas.Bool.{cases_eq, cases_lt, lt-ltb}
 use Rattle.std.proofs.lemmas.List.{length-set, get_or-set_same, get_or-set_other, get_or_past}
 use borrow.Author.Tests.{ltb-true}
 use Rattle.std.proofs.lemmas.List.Elements.{All-get_or, All-cons, All-nil}
-use Rattle.lucy_event.specs.Systems.{System, given, taken}
-use Rattle.lucy_event.specs.Plans.{times, IsOperand}
+use Rattle.lucy_stream.specs.Systems.{System, given, taken}
+use Rattle.lucy_stream.specs.Plans.{times, IsOperand}
 use Rattle.lucy_net.specs.declared.net.RingSpec.{RingSpec}
 use Rattle.lucy_net.specs.declared.net.Net.{Net}
 use Rattle.lucy_net.specs.Plans.{net_system, done_by}
@@ -18,7 +18,7 @@ use Rattle.lucy_cause.specs.Settling.{AreFiringsOver}
 use Rattle.lucy_net.proofs.WhereLaws.{times_yes, where_all, operand_of}
 use Rattle.lucy_net.proofs.NetLaws.{given_by_word, taken_by_word, ring_cases}
 use Rattle.lucy_net.proofs.SlotLaws.{done_more, slot_within}
-use Rattle.lucy_event.proofs.CountLaws.{given-same, taken-same}
+use Rattle.lucy_stream.proofs.CountLaws.{given-same, taken-same}
 use Rattle.std.proofs.lemmas.Option.{slice_get_within}
 
 pub All-of_index : {X : Type 0} (P : X → Type 0) (xs : List X) (d : X) → ((k : ℕ) → k < length xs → P (get_or xs k d)) → All P xs

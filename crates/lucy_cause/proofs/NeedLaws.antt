@@ -10,13 +10,13 @@ use Rattle.lucy_word.specs.Bits.{bit_at, one_if, ones_to}
 use Rattle.lucy_word.proofs.BitsLaws.{ones_to-more}
 use Rattle.lucy_stream.specs.Forms.{Form}
 use Rattle.lucy_stream.specs.Firings.{gave_in, took_in}
-use Rattle.lucy_event.specs.Systems.{RingOp, Takes, System, is_give, given, taken}
-use Rattle.lucy_event.specs.Instants.{Waits}
-use Rattle.lucy_event.specs.Plans.{IsOperand}
-use Rattle.lucy_event.proofs.CountLaws.{given-is, given-le, taken-lt}
-use Rattle.lucy_event.proofs.GiveCounts.{count_append}
-use Rattle.lucy_event.proofs.FiringLaws.{take_past}
-use Rattle.lucy_event.proofs.RunLaws.{after-le}
+use Rattle.lucy_stream.specs.Systems.{RingOp, Takes, System, is_give, given, taken}
+use Rattle.lucy_stream.specs.Instants.{Waits}
+use Rattle.lucy_stream.specs.Plans.{IsOperand}
+use Rattle.lucy_stream.proofs.CountLaws.{given-is, given-le, taken-lt}
+use Rattle.lucy_stream.proofs.GiveCounts.{count_append}
+use Rattle.lucy_stream.proofs.OperatingLaws.{take_past}
+use Rattle.lucy_stream.proofs.RunLaws.{after-le}
 use Rattle.lucy_net.specs.declared.net.Net.{Net}
 use Rattle.lucy_net.specs.declared.net.Actor.{Actor}
 use Rattle.lucy_net.specs.declared.net.RingSpec.{RingSpec}
@@ -24,7 +24,7 @@ use Rattle.lucy_net.specs.Plans.{form_of, net_system, done_by, giver, taker}
 use Rattle.lucy_net.specs.Proper.{IsProper, IsProperActor, IsProperRing}
 use Rattle.lucy_stream.specs.Needs.{IsNeed, Item, Needs, IsWalk, IsCycle}
 use Rattle.lucy_net.specs.Causal.{actor_place, net_places, items_by, IsOfInstant}
-use Rattle.lucy_event.proofs.OperationLaws.{take_needed}
+use Rattle.lucy_stream.proofs.OperationLaws.{take_needed}
 use Rattle.lucy_cause.specs.declared.settle.Wait.{Wait}
 use Rattle.lucy_net.specs.Instants.{slot_of, slot, firing_of}
 use Rattle.lucy_cause.specs.Play.{done_in, IsPlayedSoFar}

@@ -7,15 +7,15 @@ use Rattle.std.proofs.lemmas.List.{length-set, get_or-set_same, get_or-set_other
 use Rattle.std.proofs.lemmas.List.Sums.{get_or-le-sum_by}
 use Rattle.lucy_word.specs.Limits.{limit_number}
 use Rattle.lucy_word.specs.declared.limit.Limit.TheVariants as limit
-use Rattle.lucy_event.specs.Systems.{System, RingOp, Takes, Gives, op_at, given, taken}
-use Rattle.lucy_event.specs.Runs.{IsPossible, step, IsWithin}
-use Rattle.lucy_event.specs.Instants.{Waits}
-use Rattle.lucy_event.specs.Plans.{no_link, Link}
-use Rattle.lucy_event.proofs.CountLaws.{step-same, step-other, given-same, taken-same, gives_next, takes_next}
-use Rattle.lucy_event.proofs.RunLaws.{IsWithin-run, after-le}
-use Rattle.lucy_event.proofs.EventLaws.{}
-use Rattle.lucy_event.proofs.JoinedLaws.{run_joined, after_joined}
-use Rattle.lucy_event.proofs.InstantLaws.{possible_or_waits}
+use Rattle.lucy_stream.specs.Systems.{System, RingOp, Takes, Gives, op_at, given, taken}
+use Rattle.lucy_stream.specs.Runs.{IsPossible, step, IsWithin}
+use Rattle.lucy_stream.specs.Instants.{Waits}
+use Rattle.lucy_stream.specs.Plans.{no_link, Link}
+use Rattle.lucy_stream.proofs.CountLaws.{step-same, step-other, given-same, taken-same, gives_next, takes_next}
+use Rattle.lucy_stream.proofs.RunLaws.{IsWithin-run, after-le}
+use Rattle.lucy_stream.proofs.EventLaws.{}
+use Rattle.lucy_stream.proofs.JoinedLaws.{run_joined, after_joined}
+use Rattle.lucy_stream.proofs.InstantLaws.{possible_or_waits}
 use Rattle.lucy_net.specs.declared.net.Actor.{Actor}
 use Rattle.lucy_net.specs.declared.net.RingSpec.{RingSpec}
 use Rattle.lucy_net.specs.declared.net.Net.{Net}

@@ -5,7 +5,7 @@ use Rattle.std.specs.Option.{option_map}
 use Rattle.std.proofs.lemmas.Bool.{cases_lt}
 use Rattle.std.proofs.lemmas.Option.{slice_get-map, slice_get_read, slice_get_within, slice_get-get_or, get_or_from_slice_get}
 use Rattle.std.proofs.lemmas.List.{length-map, get_or-map, map-append, get_or_append_left, get_or-append-add, get_or_past, length-replicate, get_or-replicate}
-use Rattle.lucy_event.specs.Systems.{Takes}
+use Rattle.lucy_stream.specs.Systems.{Takes}
 use Rattle.lucy_word.proofs.BitsLaws.{ones_to-none}
 use Rattle.lucy_net.specs.declared.net.Net.{Net}
 use Rattle.lucy_net.specs.Proper.{IsProper}

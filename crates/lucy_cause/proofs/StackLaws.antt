@@ -5,7 +5,7 @@ use Rattle.std.proofs.lemmas.Bool.{cases_eq, cases_lt, eq-eqb, ne_eqb}
 use Rattle.std.proofs.lemmas.Option.{slice_get-get_or}
 use Rattle.std.proofs.lemmas.List.{length-set, length-map, length-take, length-take-le, length-drop, get_or-set_same, get_or-set_other, get_or_past, get_or-take, get_or-drop, take-map, drop-map, map-append, get_or_append_left, get_or-append-add, get_or_default}
 use Rattle.std.proofs.lemmas.List.Sums.{sum_by-set, sum_by-cons}
-use Rattle.lucy_event.specs.Systems.{Takes}
+use Rattle.lucy_stream.specs.Systems.{Takes}
 use Rattle.lucy_net.specs.Plans.{giver}
 use Rattle.lucy_net.specs.declared.net.Net.{Net}
 use Rattle.lucy_net.specs.Proper.{IsProper}

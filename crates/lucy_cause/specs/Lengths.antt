@@ -5,7 +5,7 @@ use Rattle.lucy_word.specs.Bits.{Bits}
 use Rattle.lucy_word.specs.Limits.{limit_number}
 use Rattle.lucy_word.specs.declared.limit.Limit.TheVariants as limit
 use Rattle.lucy_stream.specs.Forms.{Form, Merged}
-use Rattle.lucy_event.specs.Plans.{task_ops}
+use Rattle.lucy_stream.specs.Plans.{task_ops}
 use Rattle.lucy_net.specs.declared.net.Net.{Net}
 use Rattle.lucy_net.specs.Plans.{task_of}
 

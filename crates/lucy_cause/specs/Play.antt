@@ -3,8 +3,8 @@ use Rattle.std.specs.Prelude.{ℕ, ◌+◌, ◌-◌, ◌<◌, ◌≤◌, ◌≡�
 use Rattle.lucy_word.specs.Bits.{ones_to}
 use Rattle.lucy_word.specs.Limits.{limit_number}
 use Rattle.lucy_word.specs.declared.limit.Limit.TheVariants as limit
-use Rattle.lucy_event.specs.Systems.{RingOp, Takes, Gives, given, taken}
-use Rattle.lucy_event.specs.Runs.{IsRun, after}
+use Rattle.lucy_stream.specs.Systems.{RingOp, Takes, Gives, given, taken}
+use Rattle.lucy_stream.specs.Runs.{IsRun, after}
 use Rattle.lucy_net.specs.declared.net.RingSpec.{RingSpec}
 use Rattle.lucy_net.specs.declared.net.Net.{Net}
 use Rattle.lucy_net.specs.Plans.{net_system, done_by}

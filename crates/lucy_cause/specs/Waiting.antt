@@ -1,6 +1,6 @@
 -- Actors that wait for each other within an instant.
 use Rattle.std.specs.Prelude.{ℕ, ◌+◌, ◌-◌, ◌<◌, ◌≤◌, ◌≡◌, ◌++◌, List, map, length, nat_eq, count_by, slice_get, slice_set, slice_index, slice_index_or, take, drop, Some}
-use Rattle.lucy_event.specs.Systems.{Takes}
+use Rattle.lucy_stream.specs.Systems.{Takes}
 use Rattle.lucy_net.specs.declared.net.Net.{Net}
 use Rattle.lucy_net.specs.Plans.{giver}
 use Rattle.lucy_cause.specs.declared.settle.Wait.{Wait}

@@ -1,8 +1,8 @@
 // How many operations there are.
 ghost use Rattle.std.specs.Prelude.{◌≡◌, ◌+◌, ◌<◌, ◌≤◌, length, Some};
 ghost use Rattle.lucy_stream.specs.Forms.{operands};
-ghost use Rattle.lucy_event.specs.Firings.{ops_of};
-ghost use Rattle.lucy_event.specs.Plans.{task_ops};
+ghost use Rattle.lucy_stream.specs.Operations.{ops_of};
+ghost use Rattle.lucy_stream.specs.Plans.{task_ops};
 ghost use Rattle.lucy_net.specs.Plans.{form_of, task_of};
 ghost use Rattle.lucy_net.specs.Proper.{IsProper};
 ghost use Rattle.lucy_word.specs.Limits.{limit_number};

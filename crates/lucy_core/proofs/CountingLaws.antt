@@ -8,8 +8,8 @@ use Rattle.std.proofs.lemmas.List.Sums.{sum_by-set, sum_by-cons}
 use Rattle.lucy_word.specs.Bits.{ones_to}
 use Rattle.lucy_word.proofs.BitsLaws.{ones_to-le}
 use Rattle.lucy_stream.specs.Forms.{Form}
-use Rattle.lucy_event.specs.Firings.{ops_of, firing_ops}
-use Rattle.lucy_event.proofs.OperationLaws.{firing_short}
+use Rattle.lucy_stream.specs.Operations.{ops_of, firing_ops}
+use Rattle.lucy_stream.proofs.OperationLaws.{firing_short}
 use Rattle.lucy_net.specs.declared.net.Actor.{Actor}
 use Rattle.lucy_net.specs.declared.state.ActorState.{ActorState}
 use Rattle.lucy_net.specs.Plans.{form_of}

@@ -4,9 +4,9 @@ use Rattle.std.specs.Prelude.{is_some, Option, Some, None, replicate, slice_get,
 use Rattle.std.proofs.lemmas.Bool.{cases_eq, cases_lt, lt-leb, le-leb}
 use Rattle.std.proofs.Math.Seq.{drop-length, drop-cons}
 use Rattle.std.proofs.lemmas.List.{append-nil, length-replicate, length-set, get_or-replicate, get_or_past}
-use Rattle.lucy_event.specs.Runs.{step, none_done, first_left_from, first_left}
-use Rattle.lucy_event.specs.Schedules.{events_to}
-use Rattle.lucy_event.proofs.CountLaws.{step-same, step-other}
+use Rattle.lucy_stream.specs.Runs.{step, none_done, first_left_from, first_left}
+use Rattle.lucy_stream.specs.Schedules.{events_to}
+use Rattle.lucy_stream.proofs.CountLaws.{step-same, step-other}
 use Rattle.lucy_cause.specs.Schedules.{Timetable, events_at}
 use Rattle.lucy_core.specs.declared.cursor.Cursor.{Cursor}
 use Rattle.lucy_core.specs.Seen.{done_of, one_more, order_on}

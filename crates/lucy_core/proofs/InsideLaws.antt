@@ -3,9 +3,9 @@ use Rattle.std.proofs.Common.{ℕ, ◌+◌, ◌<◌, ◌≡◌, List, length, ma
 use Rattle.std.specs.Prelude.{◌^◌, ◌-◌, Some, slice_get, slice_index}
 use Rattle.std.proofs.lemmas.List.{length-map}
 use Rattle.lucy_host.specs.Operators.{Operator, kinds_of}
-use Rattle.lucy_event.specs.Systems.{RingOp, op_at}
-use Rattle.lucy_event.specs.Runs.{IsPossible}
-use Rattle.lucy_event.specs.Firings.{IsOnRings}
+use Rattle.lucy_stream.specs.Systems.{RingOp, op_at}
+use Rattle.lucy_stream.specs.Runs.{IsPossible}
+use Rattle.lucy_stream.specs.Operations.{IsOnRings}
 use Rattle.lucy_net.specs.declared.net.Actor.{Actor}
 use Rattle.lucy_net.specs.declared.state.ActorState.{ActorState}
 use Rattle.lucy_net.specs.States.{IsActorState, IsNext}

@@ -4,10 +4,10 @@ use Rattle.std.specs.Prelude.{ℤ, All, Option, Some, slice_get, slice_index}
 use Rattle.std.proofs.lemmas.Bool.{cases_eq, eq-eqb, ne_eqb}
 use Rattle.std.proofs.lemmas.List.{get_or_default, get_or-set_same, get_or-set_other}
 use Rattle.std.proofs.lemmas.List.Elements.{All-head, All-tail}
-use Rattle.lucy_event.specs.Runs.{step}
-use Rattle.lucy_event.specs.Plans.{times}
-use Rattle.lucy_event.proofs.CountLaws.{step-same, step-other}
-use Rattle.lucy_event.proofs.CoverLaws.{once_at}
+use Rattle.lucy_stream.specs.Runs.{step}
+use Rattle.lucy_stream.specs.Plans.{times}
+use Rattle.lucy_stream.proofs.CountLaws.{step-same, step-other}
+use Rattle.lucy_stream.proofs.CoverLaws.{once_at}
 use Rattle.lucy_net.specs.States.{took_more}
 use Rattle.lucy_net.proofs.OperandLaws.{ring_more, operand_more}
 use Rattle.lucy_core.specs.Seen.{done_of, one_more}

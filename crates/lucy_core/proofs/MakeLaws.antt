@@ -7,8 +7,8 @@ use Rattle.std.proofs.lemmas.List.{length-set, length-replicate}
 use Rattle.lucy_word.specs.Bits.{ones_to}
 use Rattle.lucy_host.specs.declared.kind.HostKind.{HostKind}
 use Rattle.lucy_stream.specs.Forms.{operands}
-use Rattle.lucy_event.specs.States.{Machine, start, IsSame}
-use Rattle.lucy_event.proofs.CountedLaws.{none_within, counted_none}
+use Rattle.lucy_stream.specs.States.{Machine, start, IsSame}
+use Rattle.lucy_stream.proofs.CountedLaws.{none_within, counted_none}
 use Rattle.lucy_net.specs.declared.kind.ActorKind.{ActorKind}
 use Rattle.lucy_net.specs.declared.kind.ActorKind.TheVariants.{Input, Lit, Op, Host, When, Merge, Fby, Pass, Output}
 use Rattle.lucy_net.specs.declared.net.Actor.{Actor}

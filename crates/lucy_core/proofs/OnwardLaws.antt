@@ -3,14 +3,14 @@ use Rattle.std.proofs.Common.{ℕ, ◌<◌, ◌≡◌, ◌⊎◌, List, [], ◌�
 use Rattle.std.specs.Prelude.{All}
 use Rattle.std.proofs.lemmas.Grind.{same_number_lists}
 use Rattle.std.proofs.lemmas.List.Elements.{All-nil, All-cons}
-use Rattle.lucy_event.specs.Systems.{System}
-use Rattle.lucy_event.specs.Runs.{IsPossible, IsRun, step, after, none_done, IsWithin, Leads, between}
-use Rattle.lucy_event.proofs.AlikeLaws.{IsRun-same}
-use Rattle.lucy_event.proofs.CountLaws.{step-same}
-use Rattle.lucy_event.proofs.CountedLaws.{within_later, none_within}
-use Rattle.lucy_event.proofs.ConverseLaws.{converse-counts}
-use Rattle.lucy_event.proofs.JoinedLaws.{run_joined}
-use Rattle.lucy_event.proofs.TotalLaws.{after-times}
+use Rattle.lucy_stream.specs.Systems.{System}
+use Rattle.lucy_stream.specs.Runs.{IsPossible, IsRun, step, after, none_done, IsWithin, Leads, between}
+use Rattle.lucy_stream.proofs.AlikeLaws.{IsRun-same}
+use Rattle.lucy_stream.proofs.CountLaws.{step-same}
+use Rattle.lucy_stream.proofs.CountedLaws.{within_later, none_within}
+use Rattle.lucy_stream.proofs.ConverseLaws.{converse-counts}
+use Rattle.lucy_stream.proofs.JoinedLaws.{run_joined}
+use Rattle.lucy_stream.proofs.TotalLaws.{after-times}
 use Rattle.lucy_core.specs.Seen.{Seen, machine_of, order_of, done_of, more_done, after_picks, CanRun, IsOver, HasDoneAtMost, CanGoOn}
 use Rattle.lucy_core.proofs.PickLaws.{more_after, more_length, possible_in}
 use Rattle.lucy_core.proofs.OpenLaws.{IsSound}

@@ -7,26 +7,26 @@ use Rattle.lucy_word.specs.Bits.{ones_to}
 use Rattle.lucy_stream.specs.Forms.{Form, Same, operands}
 use Rattle.lucy_stream.specs.Fronts.{IsFront}
 use Rattle.lucy_stream.specs.Firings.{took_in}
-use Rattle.lucy_event.specs.Runs.{IsPossible, IsRun, after, none_done, IsWithin, between, first_left}
-use Rattle.lucy_event.proofs.StuckLaws.{first_left-some}
-use Rattle.lucy_event.specs.States.{State, held, events, IsSame, IsState, Reaches}
-use Rattle.lucy_event.specs.Plans.{link_at, GiveBelow, IsOperand, IsRunnable}
-use Rattle.lucy_event.proofs.AlikeLaws.{IsRun-same, after-same}
-use Rattle.lucy_event.proofs.CoverLaws.{once_at}
-use Rattle.lucy_event.proofs.KahnLaws.{kahn_state_took, kahn_finished_took, kahn_state}
+use Rattle.lucy_stream.specs.Runs.{IsPossible, IsRun, after, none_done, IsWithin, between, first_left}
+use Rattle.lucy_stream.proofs.StuckLaws.{first_left-some}
+use Rattle.lucy_stream.specs.States.{State, held, events, IsSame, IsState, Reaches}
+use Rattle.lucy_stream.specs.Plans.{link_at, GiveBelow, IsOperand, IsRunnable}
+use Rattle.lucy_stream.proofs.AlikeLaws.{IsRun-same, after-same}
+use Rattle.lucy_stream.proofs.CoverLaws.{once_at}
+use Rattle.lucy_stream.proofs.KahnLaws.{kahn_state_took, kahn_finished_took, kahn_state}
 use Rattle.lucy_net.specs.declared.net.Actor.{Actor}
 use Rattle.lucy_net.specs.Plans.{form_of, task_of}
-use Rattle.lucy_event.specs.Schedules.{events_to}
+use Rattle.lucy_stream.specs.Schedules.{events_to}
 use Rattle.lucy_cause.specs.Schedules.{Timetable, events_at}
 use Rattle.lucy_net.proofs.NetLaws.{task_at, plugged}
 use Rattle.lucy_net.proofs.BackLaws.{fed, quotas}
 use Rattle.lucy_core.specs.Seen.{Seen, machine_of, machine_on, order_of, order_on, done_of, state_on, one_more, more_done, stepped, after_picks, CanRun, IsOver, CanMakeCore, IsOutputOf, first_ring, state_of, plan_of, stream_of}
 use Rattle.lucy_core.proofs.SeenLaws.{IsMachineOf, state_is, state_done}
 use Rattle.lucy_core.proofs.PickLaws.{done_more, more_after, events_front, events_next}
-use Rattle.lucy_event.proofs.CountedLaws.{counted_later}
-use Rattle.lucy_event.proofs.StateLaws.{held-most}
-use Rattle.lucy_event.proofs.ReachLaws.{converse}
-use Rattle.lucy_event.proofs.ConverseLaws.{converse-counts}
+use Rattle.lucy_stream.proofs.CountedLaws.{counted_later}
+use Rattle.lucy_stream.proofs.StateLaws.{held-most}
+use Rattle.lucy_stream.proofs.ReachLaws.{converse}
+use Rattle.lucy_stream.proofs.ConverseLaws.{converse-counts}
 use Rattle.lucy_net.specs.declared.net.RingSpec.{RingSpec}
 
 -- what a proof at hand of the whole value needs

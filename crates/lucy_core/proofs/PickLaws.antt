@@ -6,23 +6,23 @@ use Rattle.std.proofs.lemmas.Option.{slice_get_within, slice_get_past, slice_get
 use Rattle.std.proofs.lemmas.List.{length-set, take_more}
 use Rattle.lucy_word.specs.Bits.{ones_to}
 use Rattle.lucy_host.specs.declared.kind.HostKind.{HostKind}
-use Rattle.lucy_event.specs.Systems.{System}
-use Rattle.lucy_event.specs.Runs.{IsPossible, IsRun, step, after, IsFinished, first_left}
-use Rattle.lucy_event.specs.States.{Machine}
-use Rattle.lucy_event.specs.Deciding.{is_possible}
-use Rattle.lucy_event.specs.Deciding.{run_length}
-use Rattle.lucy_event.specs.Firings.{ops_of}
-use Rattle.lucy_event.proofs.DecidingLaws.{possible_decides}
-use Rattle.lucy_event.proofs.StuckLaws.{first_left-none, first_left-some}
-use Rattle.lucy_event.proofs.AlikeLaws.{IsRun-same, after-same}
-use Rattle.lucy_event.proofs.JoinedLaws.{run_joined, run_first, run_rest, length_within, length_longest}
+use Rattle.lucy_stream.specs.Systems.{System}
+use Rattle.lucy_stream.specs.Runs.{IsPossible, IsRun, step, after, IsFinished, first_left}
+use Rattle.lucy_stream.specs.States.{Machine}
+use Rattle.lucy_stream.specs.Deciding.{is_possible}
+use Rattle.lucy_stream.specs.Deciding.{run_length}
+use Rattle.lucy_stream.specs.Operations.{ops_of}
+use Rattle.lucy_stream.proofs.DecidingLaws.{possible_decides}
+use Rattle.lucy_stream.proofs.StuckLaws.{first_left-none, first_left-some}
+use Rattle.lucy_stream.proofs.AlikeLaws.{IsRun-same, after-same}
+use Rattle.lucy_stream.proofs.JoinedLaws.{run_joined, run_first, run_rest, length_within, length_longest}
 use Rattle.lucy_net.specs.declared.net.Actor.{Actor}
 use Rattle.lucy_net.specs.declared.net.Net.{Net}
 use Rattle.lucy_net.specs.declared.state.ActorState.{ActorState}
 use Rattle.lucy_net.specs.Plans.{form_of}
-use Rattle.lucy_event.specs.Schedules.{events_to}
+use Rattle.lucy_stream.specs.Schedules.{events_to}
 use Rattle.lucy_net.specs.States.{IsActorState}
-use Rattle.lucy_event.proofs.PlaceLaws.{ops_more}
+use Rattle.lucy_stream.proofs.PlaceLaws.{ops_more}
 use Rattle.lucy_core.specs.Circles.{HeldItems}
 use Rattle.lucy_core.specs.Seen.{done_of, one_more, more_done}
 use Rattle.lucy_core.specs.Inside.{KeepsState}

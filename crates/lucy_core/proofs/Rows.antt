@@ -2,10 +2,10 @@
 use Rattle.std.proofs.Common.{ℕ, ◌≡◌, true, false, List, [], ◌∷◌, refl}
 use Rattle.std.specs.Prelude.{pos}
 use Rattle.lucy_word.specs.Bits.{Bits, bit_at, ones_to}
-use Rattle.lucy_event.specs.Systems.{given, taken}
-use Rattle.lucy_event.specs.Runs.{none_done, after}
-use Rattle.lucy_event.specs.Deciding.{is_possible}
-use Rattle.lucy_event.specs.Deciding.{run_length}
+use Rattle.lucy_stream.specs.Systems.{given, taken}
+use Rattle.lucy_stream.specs.Runs.{none_done, after}
+use Rattle.lucy_stream.specs.Deciding.{is_possible}
+use Rattle.lucy_stream.specs.Deciding.{run_length}
 use Rattle.lucy_net.specs.declared.kind.ActorKind.TheVariants.{Input, Lit, Op, Fby, Pass, Output}
 use Rattle.lucy_host.specs.declared.op.Op.TheVariants.{Add}
 use Rattle.lucy_net.specs.declared.net.RingSpec.{RingSpec}

@@ -10,17 +10,17 @@ use Rattle.lucy_host.specs.Operators.{Operator, kinds_of}
 use Rattle.lucy_stream.specs.Items.{item_at}
 use Rattle.lucy_stream.specs.Forms.{Form, operands}
 use Rattle.lucy_stream.specs.Firings.{fire_value, took_in}
-use Rattle.lucy_event.specs.Systems.{RingOp, Takes, Gives, op_at, IsWired, is_take, takes_before, taken}
-use Rattle.lucy_event.specs.Runs.{IsPossible, IsWhole, IsWithin}
-use Rattle.lucy_event.specs.States.{Machine, IsLocal, State, held, event, IsSame, IsState}
-use Rattle.lucy_event.specs.Firings.{ops_of, fired_at}
-use Rattle.lucy_event.specs.Plans.{Link, task_ops, task_value, times, IsOperand, HasInput}
-use Rattle.lucy_event.proofs.CountLaws.{count_take-lt, eqb-same, taken-is}
-use Rattle.lucy_event.proofs.PlanLaws.{IsWired-plan, IsLocal-plan}
-use Rattle.lucy_event.proofs.TakeCounts.{takes_in_ops}
-use Rattle.lucy_event.proofs.AlikeLaws.{IsRun-same}
-use Rattle.lucy_event.proofs.CountedLaws.{within_later, counted_done, counted_state, counted_later}
-use Rattle.lucy_event.proofs.HoldingLaws.{held_before, took_item, gave_item, held_other, took_other}
+use Rattle.lucy_stream.specs.Systems.{RingOp, Takes, Gives, op_at, IsWired, is_take, takes_before, taken}
+use Rattle.lucy_stream.specs.Runs.{IsPossible, IsWhole, IsWithin}
+use Rattle.lucy_stream.specs.States.{Machine, IsLocal, State, held, event, IsSame, IsState}
+use Rattle.lucy_stream.specs.Operations.{ops_of, fired_at}
+use Rattle.lucy_stream.specs.Plans.{Link, task_ops, task_value, times, IsOperand, HasInput}
+use Rattle.lucy_stream.proofs.CountLaws.{count_take-lt, eqb-same, taken-is}
+use Rattle.lucy_stream.proofs.PlanLaws.{IsWired-plan, IsLocal-plan}
+use Rattle.lucy_stream.proofs.TakeCounts.{takes_in_ops}
+use Rattle.lucy_stream.proofs.AlikeLaws.{IsRun-same}
+use Rattle.lucy_stream.proofs.CountedLaws.{within_later, counted_done, counted_state, counted_later}
+use Rattle.lucy_stream.proofs.HoldingLaws.{held_before, took_item, gave_item, held_other, took_other}
 use Rattle.lucy_net.specs.declared.net.Actor.{Actor}
 use Rattle.lucy_net.specs.declared.net.RingSpec.{RingSpec}
 use Rattle.lucy_net.specs.declared.net.Net.{Net}

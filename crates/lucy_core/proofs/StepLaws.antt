@@ -10,14 +10,14 @@ use Rattle.lucy_host.specs.declared.kind.HostKind.{HostKind}
 use Rattle.lucy_stream.specs.Items.{item_at}
 use Rattle.lucy_stream.specs.Forms.{Form, Same, operands}
 use Rattle.lucy_stream.specs.Firings.{took_in}
-use Rattle.lucy_event.specs.Systems.{RingOp, Takes, Gives, op_at, given, taken}
-use Rattle.lucy_event.specs.Runs.{IsPossible}
-use Rattle.lucy_event.specs.States.{Machine, held, IsState}
-use Rattle.lucy_event.specs.Firings.{firing_ops}
-use Rattle.lucy_event.specs.Plans.{task_ops, IsOperand, HasInput}
-use Rattle.lucy_event.proofs.CountLaws.{step-same, step-other, given-same, taken-same}
-use Rattle.lucy_event.proofs.StateLaws.{held-count}
-use Rattle.lucy_event.proofs.CoverLaws.{once_at}
+use Rattle.lucy_stream.specs.Systems.{RingOp, Takes, Gives, op_at, given, taken}
+use Rattle.lucy_stream.specs.Runs.{IsPossible}
+use Rattle.lucy_stream.specs.States.{Machine, held, IsState}
+use Rattle.lucy_stream.specs.Operations.{firing_ops}
+use Rattle.lucy_stream.specs.Plans.{task_ops, IsOperand, HasInput}
+use Rattle.lucy_stream.proofs.CountLaws.{step-same, step-other, given-same, taken-same}
+use Rattle.lucy_stream.proofs.StateLaws.{held-count}
+use Rattle.lucy_stream.proofs.CoverLaws.{once_at}
 use Rattle.lucy_net.specs.declared.firing.Move.{Move}
 use Rattle.lucy_net.specs.declared.firing.Move.TheVariants.{Take, Give, Done}
 use Rattle.lucy_net.specs.declared.kind.ActorKind.{ActorKind}
@@ -33,8 +33,8 @@ use Rattle.lucy_net.proofs.StateLaws.{planned_is}
 use Rattle.lucy_net.specs.Proper.{IsProper}
 use Rattle.lucy_net.proofs.NetLaws.{gives_there, takes_there, ring_cases}
 use Rattle.lucy_net.proofs.OperandLaws.{operand_ring}
-use Rattle.lucy_event.specs.Firings.{IsOnRings}
-use Rattle.lucy_event.proofs.OperationLaws.{firing_rings}
+use Rattle.lucy_stream.specs.Operations.{IsOnRings}
+use Rattle.lucy_stream.proofs.OperationLaws.{firing_rings}
 use Rattle.lucy_core.specs.Circles.{HeldItems}
 use Rattle.lucy_core.specs.Seen.{done_of, state_on, one_more, first_ring}
 use Rattle.lucy_core.specs.Inside.{no_held, put_out, HasTray, KeepsState}

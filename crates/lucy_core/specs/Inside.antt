@@ -2,8 +2,8 @@
 use Rattle.std.specs.Prelude.{ℕ, ◌+◌, ◌<◌, ◌≤◌, ◌≡◌, ℤ, List, [], ◌∷◌, ◌++◌, map, length, nat_lt, replicate, slice_get, slice_set, slice_index_or, sum_by, if◌then◌else◌, Some}
 use Rattle.lucy_word.specs.Bits.{ones_to}
 use Rattle.lucy_stream.specs.Forms.{operands}
-use Rattle.lucy_event.specs.Runs.{IsWithin, first_left}
-use Rattle.lucy_event.specs.States.{Machine, held}
+use Rattle.lucy_stream.specs.Runs.{IsWithin, first_left}
+use Rattle.lucy_stream.specs.States.{Machine, held}
 use Rattle.lucy_net.specs.declared.kind.ActorKind.{ActorKind}
 use Rattle.lucy_net.specs.declared.kind.ActorKind.TheVariants.{Output}
 use Rattle.lucy_net.specs.declared.net.Actor.{Actor}

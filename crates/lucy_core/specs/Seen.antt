@@ -4,11 +4,11 @@ use Rattle.lucy_word.specs.Limits.{limit_number}
 use Rattle.lucy_word.specs.declared.limit.Limit.TheVariants as limit
 use Rattle.lucy_host.specs.declared.kind.HostKind.{HostKind}
 use Rattle.lucy_host.specs.Operators.{Operator, kinds_of}
-use Rattle.lucy_event.specs.Runs.{IsPossible, IsRun, IsFinished}
-use Rattle.lucy_event.specs.States.{Machine, State}
-use Rattle.lucy_event.specs.Plans.{Plan, machine, kahn_list}
-use Rattle.lucy_event.specs.Counted.{state_at}
-use Rattle.lucy_event.specs.Schedules.{events_to}
+use Rattle.lucy_stream.specs.Runs.{IsPossible, IsRun, IsFinished}
+use Rattle.lucy_stream.specs.States.{Machine, State}
+use Rattle.lucy_stream.specs.Plans.{Plan, machine, kahn_list}
+use Rattle.lucy_stream.specs.Counted.{state_at}
+use Rattle.lucy_stream.specs.Schedules.{events_to}
 use Rattle.lucy_net.specs.declared.kind.ActorKind.TheVariants.{Output}
 use Rattle.lucy_net.specs.declared.net.Actor.{Actor}
 use Rattle.lucy_net.specs.declared.net.Net.{Net}

@@ -2,7 +2,7 @@
 ghost use Rattle.std.specs.Prelude.{ℕ, ◌≡◌, ◌≤◌, ◌<◌, ◌+◌, [], List, Option, Some, None, false, length, drop, replicate, slice_get, slice_index_or, IsTrue, IfOk, IfSome};
 ghost use Rattle.lucy_word.specs.Limits.{limit_number};
 ghost use Rattle.lucy_word.specs.declared.limit.Limit.TheVariants as limit;
-ghost use Rattle.lucy_event.specs.Runs.{first_left};
+ghost use Rattle.lucy_stream.specs.Runs.{first_left};
 ghost use Rattle.lucy_core.specs.Seen.{done_of, one_more, order_on};
 ghost use Rattle.lucy_core.specs.Cursors.{row_at, StandsInOrder, HasPassed};
 

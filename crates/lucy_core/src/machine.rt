@@ -45,7 +45,7 @@ pub struct CoreParts {
 impl Model for Core {
     ghost use Rattle.std.specs.Prelude.{◌≡◌};
     ghost use Rattle.lucy_host.specs.Operators.{kinds_of};
-    ghost use Rattle.lucy_event.specs.Runs.{first_left};
+    ghost use Rattle.lucy_stream.specs.Runs.{first_left};
     ghost use Rattle.lucy_core.specs.Seen.{Seen, machine_on, order_on, done_of, CanMakeCore};
     ghost use Rattle.lucy_core.specs.Cursors.{StandsInOrder};
     ghost use Rattle.lucy_core.specs.Inside.{going_in, KeepsState};
@@ -69,11 +69,11 @@ impl Core {
     ghost use Rattle.lucy_word.specs.Limits.{limit_number};
     ghost use Rattle.lucy_word.specs.declared.limit.Limit.TheVariants as limit;
     ghost use Rattle.lucy_stream.specs.Fronts.{IsFront};
-    ghost use Rattle.lucy_event.specs.Systems.{Takes, Gives, op_at};
-    ghost use Rattle.lucy_event.specs.Deciding.{run_length};
-    ghost use Rattle.lucy_event.specs.Runs.{none_done, after, IsRun, between, first_left};
-    ghost use Rattle.lucy_event.specs.States.{State, held, events, IsSame, IsState, Reaches};
-    ghost use Rattle.lucy_event.specs.Plans.{GiveBelow};
+    ghost use Rattle.lucy_stream.specs.Systems.{Takes, Gives, op_at};
+    ghost use Rattle.lucy_stream.specs.Deciding.{run_length};
+    ghost use Rattle.lucy_stream.specs.Runs.{none_done, after, IsRun, between, first_left};
+    ghost use Rattle.lucy_stream.specs.States.{State, held, events, IsSame, IsState, Reaches};
+    ghost use Rattle.lucy_stream.specs.Plans.{GiveBelow};
     ghost use Rattle.lucy_net.specs.declared.net.Actor.{Actor};
     ghost use Rattle.lucy_net.specs.declared.net.RingSpec.{RingSpec};
     ghost use Rattle.lucy_net.specs.Moves.{move_of};

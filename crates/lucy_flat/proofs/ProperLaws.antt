@@ -16,7 +16,7 @@ use Rattle.lucy_place.specs.Proper.{IsProperKind}
 use Rattle.lucy_place.specs.declared.entry.PlaceKind.{PlaceKind}
 use Rattle.lucy_place.specs.declared.entry.PlaceKind.TheVariants as place_kind
 use Rattle.lucy_stream.specs.Forms.{Form, Merged, operands}
-use Rattle.lucy_event.specs.Plans.{no_link, times}
+use Rattle.lucy_stream.specs.Plans.{no_link, times}
 use Rattle.lucy_net.specs.declared.kind.ActorKind.{ActorKind}
 use Rattle.lucy_net.specs.declared.kind.ActorKind.TheVariants.{Input, Lit, Op, Host, When, Merge, Fby, Pass, Output}
 use Rattle.lucy_net.specs.declared.net.Actor.{Actor}

@@ -43,3 +43,7 @@ mod Fitting
 mod FittingTrees
 mod FittingPrograms
 pub mod RoundTrip
+mod BoxedForms
+mod Listings
+mod Operands
+mod ReadAgain

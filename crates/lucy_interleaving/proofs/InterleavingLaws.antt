@@ -10,14 +10,14 @@ use Rattle.lucy_host.specs.Operators.{Operator, kinds_of}
 use Rattle.lucy_stream.specs.Items.{list_at}
 use Rattle.lucy_stream.specs.Fronts.{IsFront}
 use Rattle.lucy_stream.specs.Iterates.{iterate}
-use Rattle.lucy_event.specs.Runs.{none_done, first_left, IsPossible, IsRun, IsFinished, IsWhole}
-use Rattle.lucy_event.specs.States.{State, start, held, events, IsState}
-use Rattle.lucy_event.specs.Schedules.{events_to}
-use Rattle.lucy_event.specs.Plans.{Link, no_link, link_at, system, machine, kahn_list, IsPlugged, IsOperand, IsRunnable}
-use Rattle.lucy_event.proofs.PlanLaws.{IsWired-plan, IsLocal-plan}
-use Rattle.lucy_event.proofs.StateLaws.{IsState-start, IsState-events, held-most}
-use Rattle.lucy_event.proofs.StuckLaws.{first_left-some, first_left-none}
-use Rattle.lucy_event.proofs.KahnLaws.{kahn_state, kahn_state_took}
+use Rattle.lucy_stream.specs.Runs.{none_done, first_left, IsPossible, IsRun, IsFinished, IsWhole}
+use Rattle.lucy_stream.specs.States.{State, start, held, events, IsState}
+use Rattle.lucy_stream.specs.Schedules.{events_to}
+use Rattle.lucy_stream.specs.Plans.{Link, no_link, link_at, system, machine, kahn_list, IsPlugged, IsOperand, IsRunnable}
+use Rattle.lucy_stream.proofs.PlanLaws.{IsWired-plan, IsLocal-plan}
+use Rattle.lucy_stream.proofs.StateLaws.{IsState-start, IsState-events, held-most}
+use Rattle.lucy_stream.proofs.StuckLaws.{first_left-some, first_left-none}
+use Rattle.lucy_stream.proofs.KahnLaws.{kahn_state, kahn_state_took}
 use Rattle.lucy_place.specs.declared.placed.PlacedNode.{PlacedNode}
 use Rattle.lucy_place.specs.declared.entry.PlaceKind.{PlaceKind}
 use Rattle.lucy_place.specs.declared.entry.PlaceKind.TheVariants.{Buffer}

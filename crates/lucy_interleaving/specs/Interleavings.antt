@@ -3,8 +3,8 @@ use Rattle.std.specs.Prelude.{ℕ, ◌+◌, ◌-◌, ◌*◌, ◌<◌, ◌≤◌
 use Rattle.lucy_host.specs.declared.kind.HostKind.{HostKind}
 use Rattle.lucy_host.specs.Operators.{Operator, kinds_of}
 use Rattle.lucy_stream.specs.Fronts.{IsFront}
-use Rattle.lucy_event.specs.Runs.{none_done, IsPossible, IsRun, IsFinished}
-use Rattle.lucy_event.specs.States.{Machine, State, start, held, events, IsState}
+use Rattle.lucy_stream.specs.Runs.{none_done, IsPossible, IsRun, IsFinished}
+use Rattle.lucy_stream.specs.States.{Machine, State, start, held, events, IsState}
 use Rattle.lucy_place.specs.declared.entry.PlaceKind.TheVariants.{Buffer}
 use Rattle.lucy_net.specs.Plans.{giver, taker}
 use Rattle.lucy_core.specs.Seen.{machine_on}

@@ -10,7 +10,7 @@ use Rattle.lucy_word.proofs.BitsLaws.{ones_to-more, ones_to-turns}
 use Rattle.lucy_word.proofs.SamplingLaws.{bit_at-periods}
 use Rattle.lucy_stream.specs.Forms.{Kept, Merged, operands}
 use Rattle.lucy_stream.specs.Firings.{gave_in, took_in}
-use Rattle.lucy_event.proofs.AlikeLaws.{IsRun-alike, after-count}
+use Rattle.lucy_stream.proofs.AlikeLaws.{IsRun-alike, after-count}
 use Rattle.lucy_net.specs.declared.net.Net.{Net}
 use Rattle.lucy_net.specs.declared.net.Actor.{Actor}
 use Rattle.lucy_net.specs.declared.net.RingSpec.{RingSpec}
@@ -19,7 +19,7 @@ use Rattle.lucy_net.specs.Proper.{IsProper, IsProperActor, IsProperRing}
 use Rattle.lucy_net.specs.Schedules.{IsOrder}
 use Rattle.lucy_net.specs.Instants.{slot_of, slot, firing_of}
 use Rattle.lucy_net.specs.Turning.{IsSteady, Turns, IsTurning}
-use Rattle.lucy_event.proofs.OperationLaws.{firing_alike}
+use Rattle.lucy_stream.proofs.OperationLaws.{firing_alike}
 use Rattle.lucy_net.proofs.NetLaws.{task_at, plugged, wired, ring_cases, from_here, to_here, write_counts, read_counts, given_by_word, taken_by_word, given_past, taken_past, gives_there, takes_there}
 use Rattle.lucy_net.proofs.SlotLaws.{slot_more, done_more}
 

@@ -12,9 +12,9 @@ use Rattle.lucy_stream.specs.Iterates.{Place, iterate}
 use Rattle.lucy_stream.specs.Firings.{gave_in}
 use Rattle.lucy_stream.specs.Needs.{Item, Needs, IsWalk, ReachesItself}
 use Rattle.lucy_stream.proofs.NeedLaws.{no_cycle}
-use Rattle.lucy_event.specs.Runs.{IsWhole}
-use Rattle.lucy_event.specs.Plans.{Task, link_at, times, HasInput, IsFed, QuotasWithin, GiveBelow, IsRunnable, place_of, places_of}
-use Rattle.lucy_event.proofs.KahnLaws.{kahn_whole}
+use Rattle.lucy_stream.specs.Runs.{IsWhole}
+use Rattle.lucy_stream.specs.Plans.{Task, link_at, times, HasInput, IsFed, QuotasWithin, GiveBelow, IsRunnable, place_of, places_of}
+use Rattle.lucy_stream.proofs.KahnLaws.{kahn_whole}
 use Rattle.lucy_net.specs.declared.net.Net.{Net}
 use Rattle.lucy_net.specs.declared.net.Actor.{Actor}
 use Rattle.lucy_net.specs.declared.net.RingSpec.{RingSpec}

@@ -5,8 +5,8 @@ use Rattle.std.proofs.lemmas.Bool.{lt-ltb, le-ltb}
 use Rattle.std.proofs.lemmas.Option.{slice_get-get_or}
 use Rattle.lucy_word.specs.Bits.{bit_at}
 use Rattle.lucy_stream.specs.Forms.{Form, Given, Constant, Pointwise, Hosted, Kept, Merged, Delayed, Same, operands}
-use Rattle.lucy_event.specs.Systems.{RingOp, Takes, Gives}
-use Rattle.lucy_event.specs.Firings.{firing_ops}
+use Rattle.lucy_stream.specs.Systems.{RingOp, Takes, Gives}
+use Rattle.lucy_stream.specs.Operations.{firing_ops}
 use Rattle.lucy_net.specs.declared.net.Actor.{Actor}
 use Rattle.lucy_net.specs.declared.ends.EndMove.{EndMove}
 use Rattle.lucy_net.specs.declared.ends.EndMove.TheVariants.{Take, Give, Done}

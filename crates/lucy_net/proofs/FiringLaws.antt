@@ -4,8 +4,8 @@ use Rattle.std.specs.Prelude.{Some, slice_get}
 use Rattle.std.proofs.lemmas.List.{length-map}
 use Rattle.lucy_word.specs.Bits.{bit_at}
 use Rattle.lucy_stream.specs.Forms.{Form, Given, Constant, Pointwise, Hosted, Kept, Merged, Delayed, Same, operands}
-use Rattle.lucy_event.specs.Systems.{RingOp, Takes, Gives}
-use Rattle.lucy_event.specs.Firings.{firing_ops, ops_of}
+use Rattle.lucy_stream.specs.Systems.{RingOp, Takes, Gives}
+use Rattle.lucy_stream.specs.Operations.{firing_ops, ops_of}
 use Rattle.lucy_net.specs.States.{operand_at}
 
 pub two_lengths : (ts gs : List ℕ) → length (map Takes ts ++ map Gives gs) ≡ length ts + length gs

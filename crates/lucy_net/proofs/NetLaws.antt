@@ -14,23 +14,23 @@ use Rattle.lucy_word.proofs.SamplingLaws.{ones_to-on}
 use Rattle.lucy_word.proofs.ShortLaws.{same_counts, ones_to-later}
 use Rattle.lucy_stream.specs.Forms.{Form, Kept, Merged}
 use Rattle.lucy_stream.specs.Firings.{gave_in, took_in}
-use Rattle.lucy_event.specs.Systems.{RingOp, is_give, is_take, IsWired, given, taken}
-use Rattle.lucy_event.specs.Runs.{IsWithin}
-use Rattle.lucy_event.specs.Firings.{ops_of, IsOnRings}
-use Rattle.lucy_event.specs.Instants.{IsInstant}
-use Rattle.lucy_event.specs.Horizons.{IsLonger, IsLongerTask}
-use Rattle.lucy_event.specs.Plans.{Task, Link, link_at, no_link, task_ops, system, times, IsOperand, IsPluggedAt, IsPlugged}
-use Rattle.lucy_event.proofs.PlanLaws.{IsWired-plan}
-use Rattle.lucy_event.proofs.LongerPlans.{IsLonger-plan}
-use Rattle.lucy_event.proofs.HorizonLaws.{given-longer, taken-longer}
-use Rattle.lucy_event.proofs.GiveCounts.{gives_in_ops}
-use Rattle.lucy_event.proofs.TakeCounts.{takes_in_ops}
-use Rattle.lucy_event.proofs.OperationLaws.{ops_rings, no_gives, no_takes}
+use Rattle.lucy_stream.specs.Systems.{RingOp, is_give, is_take, IsWired, given, taken}
+use Rattle.lucy_stream.specs.Runs.{IsWithin}
+use Rattle.lucy_stream.specs.Operations.{ops_of, IsOnRings}
+use Rattle.lucy_stream.specs.Instants.{IsInstant}
+use Rattle.lucy_stream.specs.Horizons.{IsLonger, IsLongerTask}
+use Rattle.lucy_stream.specs.Plans.{Task, Link, link_at, no_link, task_ops, system, times, IsOperand, IsPluggedAt, IsPlugged}
+use Rattle.lucy_stream.proofs.PlanLaws.{IsWired-plan}
+use Rattle.lucy_stream.proofs.LongerPlans.{IsLonger-plan}
+use Rattle.lucy_stream.proofs.HorizonLaws.{given-longer, taken-longer}
+use Rattle.lucy_stream.proofs.GiveCounts.{gives_in_ops}
+use Rattle.lucy_stream.proofs.TakeCounts.{takes_in_ops}
+use Rattle.lucy_stream.proofs.OperationLaws.{ops_rings, no_gives, no_takes}
 use Rattle.lucy_net.specs.declared.net.Actor.{Actor}
 use Rattle.lucy_net.specs.declared.net.RingSpec.{RingSpec}
 use Rattle.lucy_net.specs.declared.net.Net.{Net}
 use Rattle.lucy_net.specs.Plans.{form_of, task_of, link_of, giver, taker, plan, net_system, done_by}
-use Rattle.lucy_event.specs.Totals.{OnlyFirst}
+use Rattle.lucy_stream.specs.Totals.{OnlyFirst}
 use Rattle.lucy_net.specs.States.{IsUsable}
 use Rattle.lucy_net.specs.Proper.{IsWriteWord, IsReadWord, IsProper, IsProperActor, IsProperRing}
 use Rattle.lucy_net.proofs.WhereLaws.{times_yes, times_le, where_all, where_length, operand_of}

@@ -5,9 +5,9 @@ use Rattle.std.proofs.lemmas.Bool.{cases_eq, eq-eqb, ne_eqb}
 use Rattle.std.proofs.lemmas.List.Sums.{sum_by-cons}
 use Rattle.lucy_word.specs.Bits.{bit_at}
 use Rattle.lucy_stream.specs.Forms.{Form, Given, Constant, Pointwise, Hosted, Kept, Merged, Delayed, Same, operands}
-use Rattle.lucy_event.specs.Systems.{Takes, Gives}
-use Rattle.lucy_event.specs.Firings.{firing_ops}
-use Rattle.lucy_event.specs.Plans.{times}
+use Rattle.lucy_stream.specs.Systems.{Takes, Gives}
+use Rattle.lucy_stream.specs.Operations.{firing_ops}
+use Rattle.lucy_stream.specs.Plans.{times}
 use Rattle.lucy_net.specs.States.{operand_at, took_more}
 
 take_at : (ts gs : List ℕ) (i r : ℕ) → slice_get (map Takes ts ++ map Gives gs) i ≡ Some (Takes r) → get_or ts i 0 ≡ r

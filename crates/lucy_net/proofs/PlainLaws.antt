@@ -2,7 +2,7 @@
 use Rattle.std.proofs.Common.{ℕ, ◌+◌, ◌-◌, ◌≡◌, List, length, refl}
 use Rattle.std.specs.Prelude.{nat_lt, if◌then◌else◌}
 use Rattle.lucy_stream.specs.Forms.{Form, Given, Constant, Pointwise, Hosted, Kept, Merged, Delayed, Same}
-use Rattle.lucy_event.specs.Firings.{firing_ops}
+use Rattle.lucy_stream.specs.Operations.{firing_ops}
 use Rattle.lucy_net.specs.declared.ends.EndMove.{EndMove}
 use Rattle.lucy_net.specs.declared.ends.EndMove.TheVariants.{Take, Give}
 use Rattle.lucy_net.specs.Cursors.{HasCursor}

@@ -2,7 +2,7 @@
 use Rattle.std.proofs.Common.{ℕ, zero, suc, ◌<◌, ◌≡◌, true, [], ◌∷◌, refl, subst, arith}
 use Rattle.std.specs.Prelude.{Some, slice_get}
 use Rattle.lucy_word.specs.Bits.{Bits}
-use Rattle.lucy_event.specs.Plans.{times}
+use Rattle.lucy_stream.specs.Plans.{times}
 use Rattle.lucy_net.specs.declared.kind.ActorKind.TheVariants.{Input, Output}
 use Rattle.lucy_net.specs.declared.net.Actor.{Actor}
 use Rattle.lucy_net.specs.declared.net.RingSpec.{RingSpec}

@@ -8,9 +8,9 @@ use Rattle.std.proofs.lemmas.List.Elements.{All-get_or, All-nil}
 use Rattle.lucy_word.specs.Bits.{bit_at, one_if, ones_to}
 use Rattle.lucy_word.proofs.BitsLaws.{ones_to-more}
 use Rattle.lucy_stream.specs.Forms.{Form}
-use Rattle.lucy_event.specs.Systems.{RingOp, Takes, op_at}
-use Rattle.lucy_event.specs.Firings.{ops_of, IsOnRings}
-use Rattle.lucy_event.proofs.OperationLaws.{firing_rings, firing_short}
+use Rattle.lucy_stream.specs.Systems.{RingOp, Takes, op_at}
+use Rattle.lucy_stream.specs.Operations.{ops_of, IsOnRings}
+use Rattle.lucy_stream.proofs.OperationLaws.{firing_rings, firing_short}
 use Rattle.lucy_net.specs.declared.net.Actor.{Actor}
 use Rattle.lucy_net.specs.declared.net.Net.{Net}
 use Rattle.lucy_net.specs.Plans.{form_of, net_system, done_by}

@@ -6,10 +6,10 @@ use Rattle.lucy_word.specs.Bits.{Bits, IsWord, ones_to, ones_in}
 use Rattle.lucy_word.specs.Stored.{IsStored}
 use Rattle.lucy_word.proofs.BitsLaws.{ones_to-none, ones_to-turns}
 use Rattle.lucy_stream.specs.Needs.{Item, ReachesItself, IsCausal}
-use Rattle.lucy_event.specs.Runs.{Leads, IsWhole}
-use Rattle.lucy_event.specs.Firings.{ops_of}
-use Rattle.lucy_event.specs.Schedules.{all_done, events_to}
-use Rattle.lucy_event.proofs.SoundLaws.{whole_to as whole_up_to}
+use Rattle.lucy_stream.specs.Runs.{Leads, IsWhole}
+use Rattle.lucy_stream.specs.Operations.{ops_of}
+use Rattle.lucy_stream.specs.Schedules.{all_done, events_to}
+use Rattle.lucy_stream.proofs.SoundLaws.{whole_to as whole_up_to}
 use Rattle.lucy_net.specs.declared.net.Net.{Net}
 use Rattle.lucy_net.specs.declared.net.Actor.{Actor}
 use Rattle.lucy_net.specs.Plans.{form_of, net_system, done_by}

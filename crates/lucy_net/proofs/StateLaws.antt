@@ -7,9 +7,9 @@ use Rattle.std.proofs.lemmas.List.{length-set, length-replicate, get_or-replicat
 use Rattle.lucy_word.specs.Bits.{Bits, bit_at, ones_to}
 use Rattle.lucy_stream.specs.Items.{item_at, newest, list_at}
 use Rattle.lucy_stream.specs.Forms.{Form, operands}
-use Rattle.lucy_event.specs.Systems.{RingOp, Takes, Gives}
-use Rattle.lucy_event.specs.Firings.{firing_ops, ops_of, fired_at}
-use Rattle.lucy_event.specs.Plans.{task_ops}
+use Rattle.lucy_stream.specs.Systems.{RingOp, Takes, Gives}
+use Rattle.lucy_stream.specs.Operations.{firing_ops, ops_of, fired_at}
+use Rattle.lucy_stream.specs.Plans.{task_ops}
 use Rattle.lucy_host.specs.Arity.{arity}
 use Rattle.lucy_host.specs.declared.kind.HostKind.{HostKind}
 use Rattle.lucy_host.specs.HostValue.{hosted_value}
@@ -26,7 +26,7 @@ use Rattle.lucy_net.specs.Moves.{move_of}
 use Rattle.lucy_net.specs.Cursors.{Reads, HasCursor}
 use Rattle.lucy_net.specs.States.{IsUsable, IsActorState, IsOfActor, IsNext, ReadsInput, KnowsOperator, took_more}
 use Rattle.lucy_net.specs.Stepping.{IsMovedOn, IsSteppedOn}
-use Rattle.lucy_event.proofs.PlaceLaws.{op_found, fired_in}
+use Rattle.lucy_stream.proofs.PlaceLaws.{op_found, fired_in}
 use Rattle.lucy_net.proofs.FiringLaws.{firing_some, firing_few, ops_idle}
 
 -- the next operation

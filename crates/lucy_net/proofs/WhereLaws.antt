@@ -5,7 +5,7 @@ use Rattle.std.proofs.lemmas.Bool.{cases_Bool, cases_eq, eq-eqb, ne_eqb}
 use Rattle.std.proofs.lemmas.List.{append-nil}
 use Rattle.std.proofs.lemmas.List.Sums.{sum_by-append, sum_by-cons}
 use Rattle.std.proofs.lemmas.List.Elements.{All-append, All-cons, All-nil}
-use Rattle.lucy_event.specs.Plans.{times, IsOperand}
+use Rattle.lucy_stream.specs.Plans.{times, IsOperand}
 use Rattle.lucy_net.specs.Proper.{numbers_where}
 
 abbrev one : Bool → ℕ

@@ -1,8 +1,8 @@
 -- What the actors of a net do in one instant. `before` instants are before it.
 use Rattle.std.specs.Prelude.{ℕ, ◌+◌, Bool, List, [], length, nat_lt, slice_get, if◌then◌else◌, Option, Some, None}
 use Rattle.lucy_word.specs.Bits.{bit_at, ones_to}
-use Rattle.lucy_event.specs.Systems.{RingOp}
-use Rattle.lucy_event.specs.Firings.{firing_ops}
+use Rattle.lucy_stream.specs.Systems.{RingOp}
+use Rattle.lucy_stream.specs.Operations.{firing_ops}
 use Rattle.lucy_net.specs.declared.net.Actor.{Actor}
 use Rattle.lucy_net.specs.declared.net.Net.{Net}
 use Rattle.lucy_net.specs.Plans.{form_of}

@@ -2,9 +2,9 @@
 use Rattle.std.specs.Prelude.{ℕ, map, slice_index_or}
 use Rattle.lucy_word.specs.Bits.{ones_to}
 use Rattle.lucy_stream.specs.Forms.{Form, Given, Constant, Pointwise, Hosted, Kept, Merged, Delayed, Same}
-use Rattle.lucy_event.specs.Systems.{System}
-use Rattle.lucy_event.specs.Plans.{Task, Link, Plan, no_link, system}
-use Rattle.lucy_event.specs.Schedules.{all_done}
+use Rattle.lucy_stream.specs.Systems.{System}
+use Rattle.lucy_stream.specs.Plans.{Task, Link, Plan, no_link, system}
+use Rattle.lucy_stream.specs.Schedules.{all_done}
 use Rattle.lucy_net.specs.declared.kind.ActorKind.{ActorKind}
 use Rattle.lucy_net.specs.declared.kind.ActorKind.TheVariants.{Input, Lit, Op, Host, When, Merge, Fby, Pass, Output}
 use Rattle.lucy_net.specs.declared.net.Actor.{Actor}

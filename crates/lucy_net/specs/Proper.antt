@@ -9,7 +9,7 @@ use Rattle.lucy_word.specs.Adaptable.{IsAdaptable, IsSize}
 use Rattle.lucy_word.specs.Limits.{limit_number}
 use Rattle.lucy_word.specs.declared.limit.Limit.TheVariants as limit
 use Rattle.lucy_stream.specs.Forms.{Form, Kept, Merged, operands}
-use Rattle.lucy_event.specs.Plans.{times, HasInput}
+use Rattle.lucy_stream.specs.Plans.{times, HasInput}
 use Rattle.lucy_net.specs.declared.kind.ActorKind.{ActorKind}
 use Rattle.lucy_net.specs.declared.kind.ActorKind.TheVariants.{Input, Output}
 use Rattle.lucy_net.specs.declared.net.Actor.{Actor}

@@ -1,7 +1,7 @@
 -- Orders of a net's events, instant by instant. Instants count from 1; `before` instants are before the one that is meant.
 use Rattle.std.specs.Prelude.{ℕ, ◌+◌, List}
-use Rattle.lucy_event.specs.Runs.{Leads}
-use Rattle.lucy_event.specs.Schedules.{AreWhole}
+use Rattle.lucy_stream.specs.Runs.{Leads}
+use Rattle.lucy_stream.specs.Schedules.{AreWhole}
 use Rattle.lucy_net.specs.declared.net.Net.{Net}
 use Rattle.lucy_net.specs.Plans.{net_system, done_by}
 

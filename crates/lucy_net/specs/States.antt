@@ -3,8 +3,8 @@ use Rattle.std.specs.Prelude.{ℕ, suc, zero, ◌+◌, ◌-◌, ◌<◌, ◌≤�
 use Rattle.lucy_word.specs.Bits.{bit_at, ones_to}
 use Rattle.lucy_stream.specs.Items.{newest, list_at}
 use Rattle.lucy_stream.specs.Forms.{Form, Kept, Merged, Delayed, operands}
-use Rattle.lucy_event.specs.Systems.{RingOp}
-use Rattle.lucy_event.specs.Firings.{firing_ops, ops_of}
+use Rattle.lucy_stream.specs.Systems.{RingOp}
+use Rattle.lucy_stream.specs.Operations.{firing_ops, ops_of}
 use Rattle.lucy_net.specs.declared.kind.ActorKind.{ActorKind}
 use Rattle.lucy_net.specs.declared.kind.ActorKind.TheVariants.{Input, Host, Output}
 use Rattle.lucy_net.specs.declared.net.Actor.{Actor}

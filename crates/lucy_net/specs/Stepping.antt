@@ -1,6 +1,6 @@
 -- What one operation more makes of a state.
 use Rattle.std.specs.Prelude.{ℕ, ◌+◌, ◌≤◌, ◌<◌, ◌≡◌, length}
-use Rattle.lucy_event.specs.Firings.{firing_ops}
+use Rattle.lucy_stream.specs.Operations.{firing_ops}
 use Rattle.lucy_net.specs.declared.net.Actor.{Actor}
 use Rattle.lucy_net.specs.declared.state.ActorState.{ActorState}
 use Rattle.lucy_net.specs.Plans.{form_of}

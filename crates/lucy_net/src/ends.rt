@@ -1,6 +1,6 @@
 // On which end of an actor its next operation is.
 ghost use Rattle.std.specs.Prelude.{ℕ, ◌≡◌, ◌↔◌, ◌-◌, ◌<◌, ◌≤◌, nat_lt, slice_get, if◌then◌else◌, Some, IsTrue};
-ghost use Rattle.lucy_event.specs.Systems.{Takes, Gives};
+ghost use Rattle.lucy_stream.specs.Systems.{Takes, Gives};
 ghost use Rattle.lucy_net.specs.Plans.{form_of};
 ghost use Rattle.lucy_net.specs.Cursors.{HasCursor};
 ghost use Rattle.lucy_net.specs.States.{IsUsable, IsOfActor, IsNext, IsPlain, end_move_at};

@@ -1,8 +1,8 @@
 // The operations of one firing.
 ghost use Rattle.std.specs.Prelude.{ℕ, ◌≡◌, ◌↔◌, IsTrue, ◌<◌, ◌≤◌, ◌+◌, ◌^◌, length, map, ◌++◌, slice_get};
 ghost use Rattle.lucy_stream.specs.Forms.{operands};
-ghost use Rattle.lucy_event.specs.Systems.{Takes, Gives};
-ghost use Rattle.lucy_event.specs.Firings.{firing_ops};
+ghost use Rattle.lucy_stream.specs.Systems.{Takes, Gives};
+ghost use Rattle.lucy_stream.specs.Operations.{firing_ops};
 ghost use Rattle.lucy_net.specs.Plans.{form_of};
 ghost use Rattle.lucy_net.specs.Moves.{move_of};
 ghost use Rattle.lucy_net.specs.Cursors.{Reads};

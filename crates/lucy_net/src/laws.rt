@@ -3,11 +3,11 @@ ghost use Rattle.std.specs.Prelude.{ℕ, ◌≡◌, ◌↔◌, ◌+◌, ◌*◌,
 ghost use Rattle.lucy_word.specs.Bits.{ones_to};
 ghost use Rattle.lucy_word.specs.Stored.{IsStored};
 ghost use Rattle.lucy_stream.specs.Needs.{Item, ReachesItself, IsCausal};
-ghost use Rattle.lucy_event.specs.Systems.{RingOp, IsWired, given, taken};
-ghost use Rattle.lucy_event.specs.Runs.{IsWhole, IsWithin};
-ghost use Rattle.lucy_event.specs.Plans.{IsPlugged, IsRunnable, task_ops, places_of};
-ghost use Rattle.lucy_event.specs.Instants.{IsInstant};
-ghost use Rattle.lucy_event.specs.Totals.{OnlyFirst};
+ghost use Rattle.lucy_stream.specs.Systems.{RingOp, IsWired, given, taken};
+ghost use Rattle.lucy_stream.specs.Runs.{IsWhole, IsWithin};
+ghost use Rattle.lucy_stream.specs.Plans.{IsPlugged, IsRunnable, task_ops, places_of};
+ghost use Rattle.lucy_stream.specs.Instants.{IsInstant};
+ghost use Rattle.lucy_stream.specs.Totals.{OnlyFirst};
 ghost use Rattle.lucy_net.specs.declared.net.Actor.{Actor};
 ghost use Rattle.lucy_net.specs.declared.net.RingSpec.{RingSpec};
 ghost use Rattle.lucy_net.specs.declared.net.Net.{Net};

@@ -1,9 +1,9 @@
 // An actor's operations one after another, firing by firing.
 ghost use Rattle.std.specs.Prelude.{ℕ, ◌≡◌, ◌↔◌, ◌+◌, ◌<◌, ◌≤◌, ◌^◌, List, [], ◌∷◌, ◌++◌, ℤ, length, replicate, slice_get, Some, IsTrue};
 ghost use Rattle.lucy_stream.specs.Forms.{operands};
-ghost use Rattle.lucy_event.specs.Systems.{RingOp, Takes, Gives};
-ghost use Rattle.lucy_event.specs.Firings.{firing_ops};
-ghost use Rattle.lucy_event.specs.Plans.{task_ops};
+ghost use Rattle.lucy_stream.specs.Systems.{RingOp, Takes, Gives};
+ghost use Rattle.lucy_stream.specs.Operations.{firing_ops};
+ghost use Rattle.lucy_stream.specs.Plans.{task_ops};
 ghost use Rattle.lucy_net.specs.Plans.{form_of, task_of};
 ghost use Rattle.lucy_net.specs.Moves.{move_of};
 ghost use Rattle.lucy_net.specs.Cursors.{IsCursor, HasCursor};

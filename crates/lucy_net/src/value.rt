@@ -3,8 +3,8 @@ ghost use Rattle.std.specs.Prelude.{ℕ, ◌≡◌, ◌<◌, List, ℤ, length, 
 ghost use Rattle.lucy_host.specs.Host.{Serves, lent};
 ghost use Rattle.lucy_host.specs.Operators.{kinds_of};
 ghost use Rattle.lucy_stream.specs.Firings.{fire_value};
-ghost use Rattle.lucy_event.specs.Systems.{Gives};
-ghost use Rattle.lucy_event.specs.Firings.{fired_at};
+ghost use Rattle.lucy_stream.specs.Systems.{Gives};
+ghost use Rattle.lucy_stream.specs.Operations.{fired_at};
 ghost use Rattle.lucy_word.specs.Bits.{ones_to};
 ghost use Rattle.lucy_net.specs.Plans.{form_of};
 ghost use Rattle.lucy_net.specs.States.{IsUsable, IsActorState, IsOfActor, IsNext, HasItem, ReadsInput, KnowsOperator};

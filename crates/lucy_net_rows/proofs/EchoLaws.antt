@@ -5,7 +5,7 @@ use Rattle.lucy_word.specs.Bits.{Bits, ones_to}
 use Rattle.lucy_word.proofs.BitsLaws.{ones_to-le}
 use Rattle.lucy_host.specs.Operators.{Operator}
 use Rattle.lucy_stream.specs.Items.{list_at}
-use Rattle.lucy_event.specs.Plans.{times, HasInput}
+use Rattle.lucy_stream.specs.Plans.{times, HasInput}
 use Rattle.lucy_net.specs.declared.net.Actor.{Actor}
 use Rattle.lucy_net.specs.declared.net.RingSpec.{RingSpec}
 use Rattle.lucy_net.specs.declared.net.Net.{Net}

@@ -13,7 +13,7 @@ use Rattle.lucy_host.specs.declared.kind.HostKind.{HostKind}
 use Rattle.lucy_host.specs.Operators.{Operator}
 use Rattle.lucy_stream.specs.Items.{list_at}
 use Rattle.lucy_stream.specs.Iterates.{iterate}
-use Rattle.lucy_event.specs.Plans.{Task, HasInput, GiveBelow, IsRunnable, kahn_list}
+use Rattle.lucy_stream.specs.Plans.{Task, HasInput, GiveBelow, IsRunnable, kahn_list}
 use Rattle.lucy_place.specs.declared.placed.PlacedNode.{PlacedNode}
 use Rattle.lucy_place.specs.declared.entry.PlaceKind.{PlaceKind}
 use Rattle.lucy_place.specs.declared.entry.PlaceKind.TheVariants as place_kind

@@ -11,7 +11,7 @@ use Rattle.lucy_stream.specs.Items.{list_at}
 use Rattle.lucy_stream.specs.Fronts.{IsFront, AreFronts}
 use Rattle.lucy_stream.proofs.FrontLaws.{IsFront-take}
 use Rattle.lucy_host.specs.Operators.{kinds_of}
-use Rattle.lucy_event.specs.Schedules.{events_to}
+use Rattle.lucy_stream.specs.Schedules.{events_to}
 use Rattle.lucy_place.specs.declared.placed.PlacedNode.{PlacedNode}
 use Rattle.lucy_place.specs.Proper.{AreProper}
 use Rattle.lucy_clock.specs.declared.node_clock.NodeClock.{NodeClock}

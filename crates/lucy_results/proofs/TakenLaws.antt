@@ -6,7 +6,7 @@ use Rattle.std.proofs.lemmas.Option.{get_or_from_slice_get, slice_get-map}
 use Rattle.lucy_place.specs.declared.placed.PlacedNode.{PlacedNode}
 use Rattle.lucy_place.specs.Proper.{AreProper}
 use Rattle.lucy_clock.specs.declared.node_clock.NodeClock.{NodeClock}
-use Rattle.lucy_event.specs.States.{State}
+use Rattle.lucy_stream.specs.States.{State}
 use Rattle.lucy_net.specs.declared.net.Actor.{Actor}
 use Rattle.lucy_net.specs.declared.net.Net.{Net}
 use Rattle.lucy_core.specs.Seen.{IsOutputOf, first_ring}

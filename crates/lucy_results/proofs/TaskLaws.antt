@@ -3,8 +3,8 @@ use Rattle.std.proofs.Common.{ℕ, suc, zero, ◌+◌, ◌*◌, ◌<◌, ◌≤�
 use Rattle.std.proofs.Common.{ap, sym, refl, ◌∙◌, subst, inl, inr, arith}
 use Rattle.std.specs.Prelude.{ℤ, count_by, sum_by, Option, Some, None, slice_get, option_map}
 use Rattle.lucy_word.specs.Bits.{one_if}
-use Rattle.lucy_event.specs.Plans.{Task, Plan, link_at, task_ops, system, machine, times, HasInput, IsOperand, IsPluggedAt}
-use Rattle.lucy_event.specs.Plans.{IsPlugged, place_of, places_of, QuotasWithin, GiveBelow, IsRunnable}
+use Rattle.lucy_stream.specs.Plans.{Task, Plan, link_at, task_ops, system, machine, times, HasInput, IsOperand, IsPluggedAt}
+use Rattle.lucy_stream.specs.Plans.{IsPlugged, place_of, places_of, QuotasWithin, GiveBelow, IsRunnable}
 use Rattle.std.proofs.lemmas.Bool.{cases_Bool, cases_eq, cases_lt, eq-eqb, eqb-true}
 use Rattle.std.proofs.lemmas.List.{length-map, get_or-map, take_all}
 use Rattle.std.proofs.lemmas.List.Sums.{sum_by-cons, sum_by-take-le}
@@ -20,20 +20,20 @@ use Rattle.lucy_stream.specs.Firings.{gave_in, took_in}
 use Rattle.lucy_stream.proofs.FrontLaws.{IsFront-length}
 use Rattle.lucy_stream.proofs.IterateLaws.{iterate-at, iterate-fronts}
 use Rattle.lucy_results.proofs.EnoughLaws.{form_list-enough, gave_in-le}
-use Rattle.lucy_event.specs.Systems.{RingOp, Takes, Gives, is_give, is_take, taken}
-use Rattle.lucy_event.specs.Runs.{none_done, after, IsFinished, IsWhole}
-use Rattle.lucy_event.specs.States.{Machine, State, start, events, IsState}
-use Rattle.lucy_event.proofs.GiveCounts.{gives_in_ops}
-use Rattle.lucy_event.proofs.TakeCounts.{takes_in_ops}
-use Rattle.lucy_event.proofs.CountLaws.{given-none}
-use Rattle.lucy_event.proofs.StateLaws.{IsState-start, IsState-events}
-use Rattle.lucy_event.proofs.EventLaws.{events-done}
-use Rattle.lucy_event.proofs.PlanLaws.{IsWired-plan, IsLocal-plan}
-use Rattle.lucy_event.proofs.TurnLaws.{fresh, items_in, turn_law}
-use Rattle.lucy_event.proofs.TurnCounts.{sum_to, sum_most, items_done, items_in-done}
-use Rattle.lucy_event.proofs.CoverLaws.{once_at, gives_at, KeepsTo-plan}
-use Rattle.lucy_event.proofs.LeadLaws.{first_of, lead_in, lead, IsLead-plan}
-use Rattle.lucy_event.proofs.KahnLaws.{kahn_whole}
+use Rattle.lucy_stream.specs.Systems.{RingOp, Takes, Gives, is_give, is_take, taken}
+use Rattle.lucy_stream.specs.Runs.{none_done, after, IsFinished, IsWhole}
+use Rattle.lucy_stream.specs.States.{Machine, State, start, events, IsState}
+use Rattle.lucy_stream.proofs.GiveCounts.{gives_in_ops}
+use Rattle.lucy_stream.proofs.TakeCounts.{takes_in_ops}
+use Rattle.lucy_stream.proofs.CountLaws.{given-none}
+use Rattle.lucy_stream.proofs.StateLaws.{IsState-start, IsState-events}
+use Rattle.lucy_stream.proofs.EventLaws.{events-done}
+use Rattle.lucy_stream.proofs.PlanLaws.{IsWired-plan, IsLocal-plan}
+use Rattle.lucy_stream.proofs.TurnLaws.{fresh, items_in, turn_law}
+use Rattle.lucy_stream.proofs.TurnCounts.{sum_to, sum_most, items_done, items_in-done}
+use Rattle.lucy_stream.proofs.CoverLaws.{once_at, gives_at, KeepsTo-plan}
+use Rattle.lucy_stream.proofs.LeadLaws.{first_of, lead_in, lead, IsLead-plan}
+use Rattle.lucy_stream.proofs.KahnLaws.{kahn_whole}
 
 -- a sum of which one term is 0
 sum_but : (n a most : ℕ) (f : ℕ → ℕ) → a < n → f a ≡ 0 → ((b : ℕ) → f b ≤ most) → sum_to n f + most ≤ n * most

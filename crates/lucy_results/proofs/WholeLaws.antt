@@ -13,8 +13,8 @@ use Rattle.lucy_stream.specs.Items.{list_at}
 use Rattle.lucy_stream.specs.Iterates.{iterate}
 use Rattle.lucy_stream.specs.Forms.{Same, operands}
 use Rattle.lucy_stream.specs.Firings.{gave_in, took_in}
-use Rattle.lucy_event.specs.Runs.{IsWhole}
-use Rattle.lucy_event.specs.Plans.{link_at, places_of}
+use Rattle.lucy_stream.specs.Runs.{IsWhole}
+use Rattle.lucy_stream.specs.Plans.{link_at, places_of}
 use Rattle.lucy_place.specs.declared.placed.PlacedNode.{PlacedNode}
 use Rattle.lucy_place.specs.declared.entry.PlaceKind.{PlaceKind}
 use Rattle.lucy_place.specs.declared.entry.PlaceKind.TheVariants as place_kind

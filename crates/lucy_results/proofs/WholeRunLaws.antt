@@ -12,17 +12,17 @@ use Rattle.lucy_host.specs.Operators.{Operator, kinds_of}
 use Rattle.lucy_stream.specs.Forms.{Form, Same, operands}
 use Rattle.lucy_stream.specs.Items.{list_at}
 use Rattle.lucy_stream.proofs.FrontLaws.{IsFront-cut}
-use Rattle.lucy_event.specs.Systems.{RingOp, Takes, Gives, is_take}
-use Rattle.lucy_event.specs.Firings.{ops_of}
-use Rattle.lucy_event.specs.Plans.{IsOperand}
-use Rattle.lucy_event.specs.Runs.{step, after, none_done, between_from, IsWhole}
-use Rattle.lucy_event.specs.States.{State, start, events}
-use Rattle.lucy_event.proofs.AlikeLaws.{IsRun-same, after-same}
-use Rattle.lucy_event.proofs.CountLaws.{taken-is}
-use Rattle.lucy_event.proofs.CountedLaws.{within_later, none_within}
-use Rattle.lucy_event.proofs.CoverLaws.{once_at}
-use Rattle.lucy_event.proofs.GiveCounts.{count_append}
-use Rattle.lucy_event.proofs.TakeCounts.{takes_in_ops}
+use Rattle.lucy_stream.specs.Systems.{RingOp, Takes, Gives, is_take}
+use Rattle.lucy_stream.specs.Operations.{ops_of}
+use Rattle.lucy_stream.specs.Plans.{IsOperand}
+use Rattle.lucy_stream.specs.Runs.{step, after, none_done, between_from, IsWhole}
+use Rattle.lucy_stream.specs.States.{State, start, events}
+use Rattle.lucy_stream.proofs.AlikeLaws.{IsRun-same, after-same}
+use Rattle.lucy_stream.proofs.CountLaws.{taken-is}
+use Rattle.lucy_stream.proofs.CountedLaws.{within_later, none_within}
+use Rattle.lucy_stream.proofs.CoverLaws.{once_at}
+use Rattle.lucy_stream.proofs.GiveCounts.{count_append}
+use Rattle.lucy_stream.proofs.TakeCounts.{takes_in_ops}
 use Rattle.lucy_place.specs.declared.placed.PlacedNode.{PlacedNode}
 use Rattle.lucy_place.specs.Proper.{AreProper}
 use Rattle.lucy_clock.specs.declared.node_clock.NodeClock.{NodeClock}

@@ -6,7 +6,7 @@ use Rattle.lucy_word.specs.declared.limit.Limit.TheVariants as limit
 use Rattle.lucy_host.specs.declared.kind.HostKind.{HostKind}
 use Rattle.lucy_host.specs.Operators.{Operator, kinds_of}
 use Rattle.lucy_stream.specs.Fronts.{AreFronts}
-use Rattle.lucy_event.specs.Plans.{GiveBelow}
+use Rattle.lucy_stream.specs.Plans.{GiveBelow}
 use Rattle.lucy_place.specs.declared.placed.PlacedNode.{PlacedNode}
 use Rattle.lucy_place.specs.Proper.{AreProper, HaveOperators}
 use Rattle.lucy_clock.specs.declared.node_clock.NodeClock.{NodeClock}

@@ -4,8 +4,8 @@ use Rattle.lucy_host.specs.Operators.{Operator, kinds_of}
 use Rattle.lucy_place.specs.declared.placed.PlacedNode.{PlacedNode}
 use Rattle.lucy_place.specs.Proper.{AreProper}
 use Rattle.lucy_clock.specs.declared.node_clock.NodeClock.{NodeClock}
-use Rattle.lucy_event.specs.Runs.{none_done, after, IsWhole}
-use Rattle.lucy_event.specs.States.{State, start, events}
+use Rattle.lucy_stream.specs.Runs.{none_done, after, IsWhole}
+use Rattle.lucy_stream.specs.States.{State, start, events}
 use Rattle.lucy_net.specs.declared.net.Actor.{Actor}
 use Rattle.lucy_net.specs.declared.net.Net.{Net}
 use Rattle.lucy_net.specs.Plans.{net_system}

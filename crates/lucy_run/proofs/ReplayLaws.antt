@@ -13,11 +13,11 @@ use Rattle.lucy_feed.specs.declared.feeds.Feed.{Feed}
 use Rattle.lucy_text.specs.Sources.{ReadStop}
 use Rattle.lucy_feed.specs.Feeding.{OneFeed}
 use Rattle.lucy_text.specs.Outside.{SeenSink, Writes, Fails}
-use Rattle.lucy_event.specs.Systems.{System}
-use Rattle.lucy_event.specs.Runs.{none_done, after, IsRun, IsFinished}
-use Rattle.lucy_event.specs.States.{State, IsSame, start, events}
-use Rattle.lucy_event.proofs.AlikeLaws.{IsRun-same}
-use Rattle.lucy_event.proofs.JoinedLaws.{length_longest}
+use Rattle.lucy_stream.specs.Systems.{System}
+use Rattle.lucy_stream.specs.Runs.{none_done, after, IsRun, IsFinished}
+use Rattle.lucy_stream.specs.States.{State, IsSame, start, events}
+use Rattle.lucy_stream.proofs.AlikeLaws.{IsRun-same}
+use Rattle.lucy_stream.proofs.JoinedLaws.{length_longest}
 use Rattle.lucy_net.specs.Plans.{net_system}
 use Rattle.lucy_core.specs.Seen.{Seen, CanRun, IsUnbegun, after_picks, machine_of, done_of, state_of}
 use Rattle.lucy_trace.specs.Logs.{possible_of, IsFirstImpossible}

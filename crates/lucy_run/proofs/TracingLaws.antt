@@ -16,12 +16,12 @@ use Rattle.lucy_runner.specs.Views.{RunnerView, first_runner}
 use Rattle.lucy_fields.specs.Readings.{AreRead}
 use Rattle.lucy_trace.specs.Logs.{picks_of}
 use Rattle.lucy_trace.specs.Traces.{trace_text, IsTraceText, TracesAreLogs}
-use Rattle.lucy_tracing.specs.Together.{AreTogether}
+use Rattle.lucy_trace.specs.Together.{AreTogether}
 use Rattle.lucy_output.specs.Outputs.{output_text}
 use Rattle.lucy_output.proofs.SinkLaws.{unwritten}
 use Rattle.lucy_clock.specs.declared.node_clock.NodeClock.{NodeClock}
 use Rattle.lucy_results.specs.Streams.{param_words}
-use Rattle.lucy_event.specs.Runs.{IsWhole}
+use Rattle.lucy_stream.specs.Runs.{IsWhole}
 use Rattle.lucy_net.specs.Plans.{net_system}
 use Rattle.lucy_results.specs.Taking.{LeadToStreams, LeadAlongStreams}
 use Rattle.lucy_front.specs.declared.accepted.Accepted.{Accepted}

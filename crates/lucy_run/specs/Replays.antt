@@ -5,8 +5,8 @@ use Rattle.lucy_host.specs.declared.kind.HostKind.{HostKind}
 use Rattle.lucy_host.specs.Operators.{Operator, kinds_of}
 use Rattle.lucy_lines.specs.declared.reader.TextFault.{TextFault}
 use Rattle.lucy_text.specs.Sources.{ReadStop}
-use Rattle.lucy_event.specs.Systems.{System}
-use Rattle.lucy_event.specs.Runs.{none_done, after, IsRun, IsFinished}
+use Rattle.lucy_stream.specs.Systems.{System}
+use Rattle.lucy_stream.specs.Runs.{none_done, after, IsRun, IsFinished}
 use Rattle.lucy_net.specs.Plans.{net_system}
 use Rattle.lucy_trace.specs.Logs.{IsFirstImpossible}
 use Rattle.lucy_trace.specs.declared.error.TraceError.{TraceError}

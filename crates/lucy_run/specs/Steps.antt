@@ -14,7 +14,7 @@ use Rattle.lucy_front.specs.Accepting.{IsAccepted}
 use Rattle.lucy_run.specs.Paces.{AreInstants}
 use Rattle.lucy_place.specs.declared.placed.PlacedNode.{PlacedNode}
 use Rattle.lucy_net.specs.declared.net.Net.{Net}
-use Rattle.lucy_event.specs.States.{start, events}
+use Rattle.lucy_stream.specs.States.{start, events}
 use Rattle.lucy_core.specs.Seen.{Seen, CanRun, after_picks, done_of, first_seen, machine_of, state_of}
 use Rattle.lucy_results.specs.Taking.{taken_lists}
 use Rattle.lucy_output.specs.declared.output.OutputSpec.{OutputSpec}

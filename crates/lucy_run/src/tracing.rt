@@ -10,7 +10,7 @@ ghost use Rattle.lucy_cause.specs.Schedules.{Timetable, events_at};
 ghost use Rattle.lucy_core.specs.Seen.{CanMakeCore, IsUnbegun, first_seen};
 ghost use Rattle.lucy_runner.specs.Views.{first_runner};
 ghost use Rattle.lucy_trace.specs.Traces.{IsTraceText};
-ghost use Rattle.lucy_tracing.specs.Together.{AreTogether};
+ghost use Rattle.lucy_trace.specs.Together.{AreTogether};
 ghost use Rattle.lucy_flat.specs.Clocked.{AreClocked};
 ghost use Rattle.lucy_flat.specs.Flat.{IsFlat};
 ghost use Rattle.lucy_results.specs.Streams.{param_words};
@@ -100,7 +100,7 @@ fn trace_pair<F: Fn(u32, i64, i64) -> i64 + Sync, O: Sink>(
     ensures left { LeavesFront (OwesTraceOf core.old.net core.old.instants ending) (O.seen out.old) (O.seen out.new) result }
     ensures count { (O.seen out.old).faults ≤ (O.seen out.new).faults }
 {
-    match lucy_tracing::trace(alloc, runner, core, host, out) {
+    match lucy_trace::trace(alloc, runner, core, host, out) {
         Ok(()) => ending,
         Err(OutputError::Failed) => Ending::WriteFault,
         Err(OutputError::OutOfMemory) => Ending::OutOfMemory,

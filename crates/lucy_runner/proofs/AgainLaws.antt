@@ -6,9 +6,9 @@ use Rattle.std.proofs.lemmas.List.Elements.{All-get_or, All-weaker}
 use Rattle.lucy_word.specs.Bits.{ones_to}
 use Rattle.lucy_host.specs.Operators.{kinds_of}
 use Rattle.lucy_stream.specs.Forms.{operands}
-use Rattle.lucy_event.specs.States.{State}
-use Rattle.lucy_event.specs.Actors.{IsSameAt}
-use Rattle.lucy_event.proofs.ActorLaws.{same_stands}
+use Rattle.lucy_stream.specs.States.{State}
+use Rattle.lucy_stream.specs.Actors.{IsSameAt}
+use Rattle.lucy_stream.proofs.ActorLaws.{same_stands}
 use Rattle.lucy_net.specs.declared.kind.ActorKind.{ActorKind}
 use Rattle.lucy_net.specs.declared.kind.ActorKind.TheVariants as kind
 use Rattle.lucy_net.specs.declared.net.Actor.{Actor}

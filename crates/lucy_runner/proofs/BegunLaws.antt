@@ -7,7 +7,7 @@ use Rattle.lucy_word.proofs.BitsLaws.{ones_to-le}
 use Rattle.lucy_word.specs.Limits.{limit_number}
 use Rattle.lucy_word.specs.declared.limit.Limit.TheVariants as limit
 use Rattle.lucy_stream.specs.Forms.{operands}
-use Rattle.lucy_event.specs.Plans.{HasInput}
+use Rattle.lucy_stream.specs.Plans.{HasInput}
 use Rattle.lucy_net.specs.declared.kind.ActorKind.{ActorKind}
 use Rattle.lucy_net.specs.declared.kind.ActorKind.TheVariants.{Input, Lit, Op, Host, When, Merge, Fby, Pass, Output}
 use Rattle.lucy_net.specs.declared.net.Actor.{Actor}

@@ -5,8 +5,8 @@ use Rattle.std.proofs.lemmas.Option.{slice_get_within}
 use Rattle.lucy_word.specs.Bits.{ones_to}
 use Rattle.lucy_stream.specs.Fronts.{IsFront}
 use Rattle.lucy_stream.proofs.FrontLaws.{IsFront-refl, IsFront-trans, IsFront-append}
-use Rattle.lucy_event.specs.Systems.{RingOp, Takes, Gives, op_at}
-use Rattle.lucy_event.specs.States.{Machine, State, held, took_after, event, events}
+use Rattle.lucy_stream.specs.Systems.{RingOp, Takes, Gives, op_at}
+use Rattle.lucy_stream.specs.States.{Machine, State, held, took_after, event, events}
 use Rattle.lucy_net.specs.declared.net.Actor.{Actor}
 use Rattle.lucy_core.specs.Seen as core
 use Rattle.lucy_core.specs.Seen.{Seen, CanRun, IsOutputOf, first_ring, after_picks}

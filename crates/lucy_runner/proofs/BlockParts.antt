@@ -8,13 +8,13 @@ use Rattle.lucy_host.specs.Operators.{kinds_of}
 use Rattle.lucy_stream.specs.Forms.{Form, Same, operands}
 use Rattle.lucy_stream.specs.Firings.{took_in}
 use Rattle.lucy_stream.specs.Items.{list_at}
-use Rattle.lucy_event.specs.Systems.{is_take, takes_before, taken}
-use Rattle.lucy_event.specs.Actors.{IsSameAt}
-use Rattle.lucy_event.specs.Plans.{IsOperand}
-use Rattle.lucy_event.proofs.ActorLaws.{each_stands, same_stands}
-use Rattle.lucy_event.proofs.CountLaws.{taken-is}
-use Rattle.lucy_event.proofs.CoverLaws.{once_at}
-use Rattle.lucy_event.proofs.TakeCounts.{takes_in_ops}
+use Rattle.lucy_stream.specs.Systems.{is_take, takes_before, taken}
+use Rattle.lucy_stream.specs.Actors.{IsSameAt}
+use Rattle.lucy_stream.specs.Plans.{IsOperand}
+use Rattle.lucy_stream.proofs.ActorLaws.{each_stands, same_stands}
+use Rattle.lucy_stream.proofs.CountLaws.{taken-is}
+use Rattle.lucy_stream.proofs.CoverLaws.{once_at}
+use Rattle.lucy_stream.proofs.TakeCounts.{takes_in_ops}
 use Rattle.lucy_net.specs.declared.kind.ActorKind.{ActorKind}
 use Rattle.lucy_net.specs.declared.kind.ActorKind.TheVariants as kind
 use Rattle.lucy_net.specs.declared.net.Actor.{Actor}

@@ -10,19 +10,19 @@ use Rattle.lucy_host.specs.Operators.{kinds_of}
 use Rattle.lucy_stream.specs.Fronts.{IsFront, AreFronts}
 use Rattle.lucy_stream.specs.Items.{list_at}
 use Rattle.lucy_stream.proofs.FrontLaws.{IsFront-append}
-use Rattle.lucy_event.specs.Systems.{IsWired}
-use Rattle.lucy_event.specs.Runs.{Leads, IsWithin, between}
-use Rattle.lucy_event.specs.States.{Machine, IsLocal, State, events, IsSame, IsState, Reaches}
-use Rattle.lucy_event.specs.Horizons.{IsLongerTask, IsLongerPlan}
-use Rattle.lucy_event.specs.Plans.{machine}
-use Rattle.lucy_event.specs.Totals.{OnlyFirst}
-use Rattle.lucy_event.proofs.CountedLaws.{within_later}
-use Rattle.lucy_event.proofs.EventLaws.{events-done}
-use Rattle.lucy_event.proofs.HorizonLaws.{IsState-longer}
-use Rattle.lucy_event.proofs.LongerPlans.{IsLonger-plan, KeepsValues-plan}
-use Rattle.lucy_event.proofs.PlanLaws.{IsWired-plan, IsLocal-plan}
-use Rattle.lucy_event.proofs.ReachLaws.{converse}
-use Rattle.lucy_event.proofs.TotalLaws.{events_counted, total-same}
+use Rattle.lucy_stream.specs.Systems.{IsWired}
+use Rattle.lucy_stream.specs.Runs.{Leads, IsWithin, between}
+use Rattle.lucy_stream.specs.States.{Machine, IsLocal, State, events, IsSame, IsState, Reaches}
+use Rattle.lucy_stream.specs.Horizons.{IsLongerTask, IsLongerPlan}
+use Rattle.lucy_stream.specs.Plans.{machine}
+use Rattle.lucy_stream.specs.Totals.{OnlyFirst}
+use Rattle.lucy_stream.proofs.CountedLaws.{within_later}
+use Rattle.lucy_stream.proofs.EventLaws.{events-done}
+use Rattle.lucy_stream.proofs.HorizonLaws.{IsState-longer}
+use Rattle.lucy_stream.proofs.LongerPlans.{IsLonger-plan, KeepsValues-plan}
+use Rattle.lucy_stream.proofs.PlanLaws.{IsWired-plan, IsLocal-plan}
+use Rattle.lucy_stream.proofs.ReachLaws.{converse}
+use Rattle.lucy_stream.proofs.TotalLaws.{events_counted, total-same}
 use Rattle.lucy_net.specs.declared.net.Actor.{Actor}
 use Rattle.lucy_net.specs.Plans.{task_of, plan, net_system}
 use Rattle.lucy_net.proofs.BackLaws.{fed}

@@ -4,7 +4,7 @@ use Rattle.std.specs.Prelude.{ℤ, Option, Some, None, sum_by, slice_get}
 use Rattle.std.specs.List.{range_with_len}
 use Rattle.std.proofs.lemmas.Option.{slice_get_within, slice_get-get_or}
 use Rattle.std.proofs.lemmas.List.Sums.{sum_by-cons}
-use Rattle.lucy_event.specs.Totals.{total}
+use Rattle.lucy_stream.specs.Totals.{total}
 use Rattle.lucy_net.specs.declared.net.Actor.{Actor}
 use Rattle.lucy_net.specs.declared.net.Net.{Net}
 use Rattle.lucy_core.specs.Seen.{done_of}

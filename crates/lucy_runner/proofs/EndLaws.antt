@@ -2,7 +2,7 @@
 use Rattle.std.proofs.Common.{ℕ, suc, zero, ◌≤◌, ◌≡◌, cond, List, [], ◌∷◌, ap, refl, ◌∙◌, inl, inr}
 use Rattle.std.specs.Prelude.{ℤ, Some, slice_get}
 use Rattle.std.proofs.lemmas.Bool.{cases_eq, eq-eqb, ne_eqb}
-use Rattle.lucy_event.specs.Plans.{times}
+use Rattle.lucy_stream.specs.Plans.{times}
 use Rattle.lucy_worker.specs.Parts.{list_on}
 use Rattle.lucy_worker.proofs.ListLaws.{not_first, later_once}
 

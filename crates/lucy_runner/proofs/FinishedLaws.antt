@@ -5,13 +5,13 @@ use Rattle.std.proofs.lemmas.Bool.{cases_lt, cases_eq}
 use Rattle.std.proofs.lemmas.List.{length-map}
 use Rattle.std.proofs.lemmas.Option.{slice_get_within, slice_get_past}
 use Rattle.lucy_host.specs.Operators.{Operator, kinds_of}
-use Rattle.lucy_event.specs.Runs.{after}
-use Rattle.lucy_event.specs.Schedules.{all_done}
-use Rattle.lucy_event.specs.Totals.{total}
-use Rattle.lucy_event.proofs.AlikeLaws.{IsRun-same}
-use Rattle.lucy_event.proofs.CountedLaws.{within_later}
-use Rattle.lucy_event.proofs.JoinedLaws.{run_joined}
-use Rattle.lucy_event.proofs.TotalLaws.{events_counted}
+use Rattle.lucy_stream.specs.Runs.{after}
+use Rattle.lucy_stream.specs.Schedules.{all_done}
+use Rattle.lucy_stream.specs.Totals.{total}
+use Rattle.lucy_stream.proofs.AlikeLaws.{IsRun-same}
+use Rattle.lucy_stream.proofs.CountedLaws.{within_later}
+use Rattle.lucy_stream.proofs.JoinedLaws.{run_joined}
+use Rattle.lucy_stream.proofs.TotalLaws.{events_counted}
 use Rattle.lucy_net.specs.declared.net.Net.{Net}
 use Rattle.lucy_net.specs.Plans.{net_system}
 use Rattle.lucy_net.proofs.NetLaws.{only_first}

@@ -8,12 +8,12 @@ use Rattle.lucy_word.proofs.BitsLaws.{ones_to-none}
 use Rattle.lucy_host.specs.declared.kind.HostKind.{HostKind}
 use Rattle.lucy_host.specs.Operators.{Operator, kinds_of}
 use Rattle.lucy_stream.specs.Forms.{operands}
-use Rattle.lucy_event.specs.States.{Machine, State, start, held, IsSame}
-use Rattle.lucy_event.specs.Actors.{StandsAs}
-use Rattle.lucy_event.specs.Plans.{Link, no_link, machine}
-use Rattle.lucy_event.proofs.ActorLaws.{each_stands, same_stands}
-use Rattle.lucy_event.proofs.CountedLaws.{none_within, counted_none}
-use Rattle.lucy_event.proofs.StateLaws.{IsState-start}
+use Rattle.lucy_stream.specs.States.{Machine, State, start, held, IsSame}
+use Rattle.lucy_stream.specs.Actors.{StandsAs}
+use Rattle.lucy_stream.specs.Plans.{Link, no_link, machine}
+use Rattle.lucy_stream.proofs.ActorLaws.{each_stands, same_stands}
+use Rattle.lucy_stream.proofs.CountedLaws.{none_within, counted_none}
+use Rattle.lucy_stream.proofs.StateLaws.{IsState-start}
 use Rattle.lucy_net.specs.declared.kind.ActorKind.{ActorKind}
 use Rattle.lucy_net.specs.declared.kind.ActorKind.TheVariants.{Input, Lit, Op, Host, When, Merge, Fby, Pass, Output}
 use Rattle.lucy_net.specs.declared.net.Actor.{Actor}

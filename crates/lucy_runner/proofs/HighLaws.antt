@@ -6,10 +6,10 @@ use Rattle.std.proofs.lemmas.List.{append-nil, take-append-drop, drop_at}
 use Rattle.lucy_host.specs.Operators.{kinds_of}
 use Rattle.lucy_stream.specs.Fronts.{IsFront}
 use Rattle.lucy_stream.proofs.FrontLaws.{IsFront-cut}
-use Rattle.lucy_event.specs.States.{State, held, IsState}
-use Rattle.lucy_event.specs.Actors.{StandsAs, IsSameAt}
-use Rattle.lucy_event.specs.Plans.{Link}
-use Rattle.lucy_event.proofs.ActorLaws.{all_stand, each_stands, same_stands}
+use Rattle.lucy_stream.specs.States.{State, held, IsState}
+use Rattle.lucy_stream.specs.Actors.{StandsAs, IsSameAt}
+use Rattle.lucy_stream.specs.Plans.{Link}
+use Rattle.lucy_stream.proofs.ActorLaws.{all_stand, each_stands, same_stands}
 use Rattle.lucy_net.specs.declared.net.Actor.{Actor}
 use Rattle.lucy_net.specs.declared.net.RingSpec.{RingSpec}
 use Rattle.lucy_net.specs.Plans.{giver, taker}

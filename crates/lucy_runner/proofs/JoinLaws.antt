@@ -4,7 +4,7 @@ use Rattle.std.specs.Prelude.{ℤ, Some, slice_get}
 use Rattle.std.specs.Option.{option_map}
 use Rattle.std.proofs.lemmas.Option.{slice_get-map}
 use Rattle.lucy_host.specs.declared.kind.HostKind.{HostKind}
-use Rattle.lucy_event.specs.Plans.{times}
+use Rattle.lucy_stream.specs.Plans.{times}
 use Rattle.lucy_net.specs.declared.net.Actor.{Actor}
 use Rattle.lucy_net.specs.declared.net.RingSpec.{RingSpec}
 use Rattle.lucy_ring.specs.Views.{RingName, GiverView, TakerView}

@@ -1,9 +1,9 @@
 -- The state before a round.
 use Rattle.std.proofs.Common.{ℕ, ◌≡◌, ◌∙◌}
 use Rattle.lucy_host.specs.Operators.{kinds_of}
-use Rattle.lucy_event.specs.Systems.{IsWired}
-use Rattle.lucy_event.specs.States.{IsLocal, IsState}
-use Rattle.lucy_event.proofs.PlanLaws.{IsWired-plan, IsLocal-plan}
+use Rattle.lucy_stream.specs.Systems.{IsWired}
+use Rattle.lucy_stream.specs.States.{IsLocal, IsState}
+use Rattle.lucy_stream.proofs.PlanLaws.{IsWired-plan, IsLocal-plan}
 use Rattle.lucy_net.specs.Plans.{plan}
 use Rattle.lucy_net.proofs.NetLaws.{plugged}
 use Rattle.lucy_core.specs.Seen as core

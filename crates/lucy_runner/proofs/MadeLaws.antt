@@ -5,8 +5,8 @@ use Rattle.std.proofs.lemmas.Bool.{cases_eq, eq-eqb, ne_eqb}
 use Rattle.std.proofs.lemmas.Option.{slice_get_within, slice_get-get_or}
 use Rattle.lucy_word.specs.Limits.{limit_number}
 use Rattle.lucy_word.specs.declared.limit.Limit.TheVariants as limit
-use Rattle.lucy_event.specs.Totals.{total}
-use Rattle.lucy_event.specs.Plans.{no_link}
+use Rattle.lucy_stream.specs.Totals.{total}
+use Rattle.lucy_stream.specs.Plans.{no_link}
 use Rattle.lucy_net.specs.declared.net.Actor.{Actor}
 use Rattle.lucy_net.specs.declared.net.RingSpec.{RingSpec}
 use Rattle.lucy_net.specs.declared.net.Net.{Net}

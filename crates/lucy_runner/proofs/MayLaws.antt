@@ -9,8 +9,8 @@ use Rattle.lucy_word.specs.declared.limit.Limit.TheVariants as limit
 use Rattle.lucy_word.proofs.ShortLaws.{ones_to-later}
 use Rattle.lucy_host.specs.Operators.{Operator, kinds_of}
 use Rattle.lucy_stream.specs.Items.{list_at}
-use Rattle.lucy_event.specs.Plans.{HasInput}
-use Rattle.lucy_event.specs.Totals.{total}
+use Rattle.lucy_stream.specs.Plans.{HasInput}
+use Rattle.lucy_stream.specs.Totals.{total}
 use Rattle.lucy_net.specs.declared.kind.ActorKind.{ActorKind}
 use Rattle.lucy_net.specs.declared.kind.ActorKind.TheVariants as kind
 use Rattle.lucy_net.specs.declared.net.Net.{Net}

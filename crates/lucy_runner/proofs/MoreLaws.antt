@@ -3,7 +3,7 @@ use Rattle.std.proofs.Common.{ℕ, ◌≡◌, List, ◌++◌, drop, sym, subst}
 use Rattle.std.specs.Prelude.{ℤ, OnErr, Result, Ok, Err}
 use Rattle.lucy_word.specs.Bits.{ones_to}
 use Rattle.lucy_host.specs.Operators.{Operator}
-use Rattle.lucy_event.specs.States.{IsSame}
+use Rattle.lucy_stream.specs.States.{IsSame}
 use Rattle.lucy_net.specs.declared.net.Actor.{Actor}
 use Rattle.lucy_net.specs.declared.net.Net.{Net}
 use Rattle.lucy_cause.specs.Schedules.{Timetable}

@@ -2,12 +2,12 @@
 use Rattle.std.proofs.Common.{ℕ, ◌+◌, ◌<◌, ◌≡◌, List, [], ◌∷◌, length, ap, sym, refl, ◌∙◌, subst, arith}
 use Rattle.std.specs.Prelude.{◌↔◌, Option, Some, None, slice_get}
 use Rattle.lucy_host.specs.Operators.{kinds_of}
-use Rattle.lucy_event.specs.Systems.{System, given, taken}
-use Rattle.lucy_event.specs.Runs.{IsPossible, IsRun, IsFinished, first_left}
-use Rattle.lucy_event.specs.Plans.{Link}
-use Rattle.lucy_event.proofs.AlikeLaws.{IsRun-same}
-use Rattle.lucy_event.proofs.StateLaws.{held-count}
-use Rattle.lucy_event.proofs.StuckLaws.{first_left-none, first_left-some}
+use Rattle.lucy_stream.specs.Systems.{System, given, taken}
+use Rattle.lucy_stream.specs.Runs.{IsPossible, IsRun, IsFinished, first_left}
+use Rattle.lucy_stream.specs.Plans.{Link}
+use Rattle.lucy_stream.proofs.AlikeLaws.{IsRun-same}
+use Rattle.lucy_stream.proofs.StateLaws.{held-count}
+use Rattle.lucy_stream.proofs.StuckLaws.{first_left-none, first_left-some}
 use Rattle.lucy_net.proofs.NetLaws.{link_is}
 use Rattle.lucy_core.specs.Seen as core
 use Rattle.lucy_core.specs.Seen.{machine_on, done_of}

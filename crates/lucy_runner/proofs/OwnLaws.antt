@@ -3,7 +3,7 @@ use Rattle.std.proofs.Common.{ℕ, ◌<◌, ◌≡◌, List, [], map, length, ap
 use Rattle.std.specs.Prelude.{All, Some, slice_get}
 use Rattle.std.proofs.lemmas.List.Elements.{All-get_or}
 use Rattle.std.proofs.lemmas.Option.{slice_get_within, get_or_from_slice_get}
-use Rattle.lucy_event.specs.Plans.{IsPluggedAt}
+use Rattle.lucy_stream.specs.Plans.{IsPluggedAt}
 use Rattle.lucy_net.specs.declared.net.Actor.{Actor}
 use Rattle.lucy_net.specs.declared.net.RingSpec.{RingSpec}
 use Rattle.lucy_net.specs.declared.net.Net.{Net}

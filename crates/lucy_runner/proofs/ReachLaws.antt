@@ -5,13 +5,13 @@ use Rattle.std.proofs.lemmas.Bool.{cases_lt}
 use Rattle.std.proofs.lemmas.List.{length-map, ext_get_or}
 use Rattle.std.proofs.lemmas.Option.{slice_get_within, get_or_from_slice_get}
 use Rattle.lucy_host.specs.Operators.{kinds_of}
-use Rattle.lucy_event.specs.Runs.{Leads, between}
-use Rattle.lucy_event.specs.States.{Reaches}
-use Rattle.lucy_event.specs.Totals.{total, OnlyFirst}
-use Rattle.lucy_event.proofs.AlikeLaws.{IsRun-same, after-same}
-use Rattle.lucy_event.proofs.EventLaws.{events-done}
-use Rattle.lucy_event.proofs.ReachLaws.{converse}
-use Rattle.lucy_event.proofs.TotalLaws.{events_counted}
+use Rattle.lucy_stream.specs.Runs.{Leads, between}
+use Rattle.lucy_stream.specs.States.{Reaches}
+use Rattle.lucy_stream.specs.Totals.{total, OnlyFirst}
+use Rattle.lucy_stream.proofs.AlikeLaws.{IsRun-same, after-same}
+use Rattle.lucy_stream.proofs.EventLaws.{events-done}
+use Rattle.lucy_stream.proofs.ReachLaws.{converse}
+use Rattle.lucy_stream.proofs.TotalLaws.{events_counted}
 use Rattle.lucy_net.specs.Plans.{net_system}
 use Rattle.lucy_net.proofs.NetLaws.{only_first}
 use Rattle.lucy_core.specs.Seen as core

@@ -4,8 +4,8 @@ use Rattle.std.specs.Prelude.{ℤ, Option, Some, None, slice_get}
 use Rattle.std.proofs.lemmas.Option.{slice_get_within}
 use Rattle.lucy_word.specs.Bits.{ones_to}
 use Rattle.lucy_host.specs.Operators.{kinds_of}
-use Rattle.lucy_event.specs.States.{Machine, State}
-use Rattle.lucy_event.specs.Plans.{machine, times, IsPluggedAt}
+use Rattle.lucy_stream.specs.States.{Machine, State}
+use Rattle.lucy_stream.specs.Plans.{machine, times, IsPluggedAt}
 use Rattle.lucy_net.specs.declared.net.Actor.{Actor}
 use Rattle.lucy_net.specs.declared.net.RingSpec.{RingSpec}
 use Rattle.lucy_net.specs.Plans.{task_of, plan, giver, taker}

@@ -2,9 +2,9 @@
 use Rattle.std.proofs.Common.{ℕ, ◌≤◌, ◌≡◌, List, [], ◌++◌, length, drop, ap, sym, refl, ◌∙◌, subst, arith}
 use Rattle.std.specs.Prelude.{ℤ, Some, slice_get}
 use Rattle.std.proofs.lemmas.List.{append-nil}
-use Rattle.lucy_event.specs.Runs.{IsWithin}
-use Rattle.lucy_event.specs.States.{State, held, events, IsSame}
-use Rattle.lucy_event.proofs.CountedLaws.{within_later}
+use Rattle.lucy_stream.specs.Runs.{IsWithin}
+use Rattle.lucy_stream.specs.States.{State, held, events, IsSame}
+use Rattle.lucy_stream.proofs.CountedLaws.{within_later}
 use Rattle.lucy_net.specs.declared.kind.ActorKind.{ActorKind}
 use Rattle.lucy_net.specs.declared.kind.ActorKind.TheVariants as kind
 use Rattle.lucy_net.specs.Plans.{giver, taker}

@@ -5,7 +5,7 @@ use Rattle.std.proofs.lemmas.Option.{slice_get_within, slice_get-get_or, get_or_
 use Rattle.std.proofs.lemmas.List.{take_all}
 use Rattle.std.proofs.lemmas.List.Sums.{sum_by-cons, sum_by_more, get_or-le-sum_by}
 use Rattle.std.proofs.lemmas.List.Elements.{All-get_or}
-use Rattle.lucy_event.specs.Totals.{total}
+use Rattle.lucy_stream.specs.Totals.{total}
 use Rattle.lucy_core.proofs.ListLaws.{some_same}
 use Rattle.lucy_worker.specs.declared.part.Part.{Part}
 use Rattle.lucy_worker.specs.News.{IsNew, ends_of, ends_by}

@@ -1,7 +1,7 @@
 -- What is left to do: the measure of rounds.
 use Rattle.std.specs.Prelude.{ℕ, ◌-◌, length}
-use Rattle.lucy_event.specs.Schedules.{all_done}
-use Rattle.lucy_event.specs.Totals.{total}
+use Rattle.lucy_stream.specs.Schedules.{all_done}
+use Rattle.lucy_stream.specs.Totals.{total}
 use Rattle.lucy_core.specs.Seen.{Seen, machine_of, done_of}
 
 -- how many operations all actors together have left

@@ -2,8 +2,8 @@
 use Rattle.std.specs.Prelude.{ℕ, ◌+◌, ◌<◌, ◌≤◌, ◌≡◌, List, [], ℤ, length, take, slice_get, slice_index_or, Some}
 use Rattle.lucy_word.specs.Bits.{ones_to}
 use Rattle.lucy_host.specs.Operators.{kinds_of}
-use Rattle.lucy_event.specs.Runs.{IsWithin}
-use Rattle.lucy_event.specs.States.{held}
+use Rattle.lucy_stream.specs.Runs.{IsWithin}
+use Rattle.lucy_stream.specs.States.{held}
 use Rattle.lucy_net.specs.declared.kind.ActorKind.{ActorKind}
 use Rattle.lucy_net.specs.declared.kind.ActorKind.TheVariants.{Output}
 use Rattle.lucy_net.specs.declared.net.Actor.{Actor}

@@ -62,9 +62,9 @@ impl Runner {
     ghost use Rattle.lucy_word.specs.Limits.{limit_number};
     ghost use Rattle.lucy_word.specs.declared.limit.Limit.TheVariants as limit;
     ghost use Rattle.lucy_stream.specs.Fronts.{IsFront};
-    ghost use Rattle.lucy_event.specs.Runs.{none_done, IsRun, between, first_left};
-    ghost use Rattle.lucy_event.specs.States.{State, held, events, IsSame, IsState, Reaches};
-    ghost use Rattle.lucy_event.specs.Plans.{GiveBelow};
+    ghost use Rattle.lucy_stream.specs.Runs.{none_done, IsRun, between, first_left};
+    ghost use Rattle.lucy_stream.specs.States.{State, held, events, IsSame, IsState, Reaches};
+    ghost use Rattle.lucy_stream.specs.Plans.{GiveBelow};
     ghost use Rattle.lucy_net.specs.declared.net.Actor.{Actor};
     ghost use Rattle.lucy_net.specs.declared.net.RingSpec.{RingSpec};
     ghost use Rattle.lucy_net.specs.Proper.{IsSupplied};

@@ -3,11 +3,11 @@ use Rattle.std.proofs.Common.{ℕ, suc, zero, ◌+◌, ◌-◌, ◌<◌, ◌≤�
 use Rattle.std.specs.Prelude.{All}
 use Rattle.std.proofs.lemmas.Bool.{cases_eq, cases_lt, lt-ltb, le-ltb}
 use Rattle.std.proofs.lemmas.List.Elements.{All-head, All-tail}
-use Rattle.lucy_event.specs.Runs.{step, after}
-use Rattle.lucy_event.specs.Totals.{total}
-use Rattle.lucy_event.proofs.CountLaws.{step-same, step-other}
-use Rattle.lucy_event.proofs.JoinedLaws.{after_joined}
-use Rattle.lucy_event.proofs.TotalLaws.{after-times, total-same, total-step}
+use Rattle.lucy_stream.specs.Runs.{step, after}
+use Rattle.lucy_stream.specs.Totals.{total}
+use Rattle.lucy_stream.proofs.CountLaws.{step-same, step-other}
+use Rattle.lucy_stream.proofs.JoinedLaws.{after_joined}
+use Rattle.lucy_stream.proofs.TotalLaws.{after-times, total-same, total-step}
 use Rattle.lucy_core.specs.Seen.{Seen, CanStep, CanRun, CanGoOn, HasDoneAtMost, after_picks, done_of, stepped}
 use Rattle.lucy_core.proofs.OpenLaws.{joined_picks}
 use Rattle.lucy_trace.specs.Catching.{IsAhead}

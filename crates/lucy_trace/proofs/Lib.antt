@@ -1,3 +1,5 @@
 pub mod CatchingLaws
 pub mod RunLaws
 pub mod TraceLaws
+mod RoundLaws
+mod FollowingLaws

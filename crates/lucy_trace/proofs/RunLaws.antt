@@ -2,10 +2,10 @@
 use Rattle.std.proofs.Common.{ℕ, zero, suc, ◌+◌, ◌<◌, ◌≤◌, List, [], ◌∷◌, length, take, inl, inr, sym, subst, arith}
 use Rattle.std.proofs.lemmas.Bool.{cases_lt}
 use Rattle.std.proofs.lemmas.List.{take_all}
-use Rattle.lucy_event.specs.Systems.{System}
-use Rattle.lucy_event.specs.Runs.{IsRun, step}
-use Rattle.lucy_event.specs.Deciding.{run_length}
-use Rattle.lucy_event.proofs.JoinedLaws.{length_run, length_longest}
+use Rattle.lucy_stream.specs.Systems.{System}
+use Rattle.lucy_stream.specs.Runs.{IsRun, step}
+use Rattle.lucy_stream.specs.Deciding.{run_length}
+use Rattle.lucy_stream.proofs.JoinedLaws.{length_run, length_longest}
 
 module _ (sys : System) (done : ℕ → ℕ) (picks : List ℕ) where
   -- where none is left over they are a run

@@ -1,6 +1,6 @@
 -- The events that a log names, and the first that isn't possible.
 use Rattle.std.specs.Prelude.{ℕ, ◌+◌, ◌-◌, ◌^◌, ◌≡◌, List, take, Option, Some, Result, slice_get}
-use Rattle.lucy_event.specs.Deciding.{run_length}
+use Rattle.lucy_stream.specs.Deciding.{run_length}
 use Rattle.lucy_fields.specs.Numbers.{number_of}
 use Rattle.lucy_fields.specs.Readings.{readings}
 use Rattle.lucy_core.specs.Seen.{Seen, machine_of, done_of}

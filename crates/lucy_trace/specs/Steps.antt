@@ -1,6 +1,6 @@
 -- How a core is led to where each actor has done its number of operations.
 use Rattle.std.specs.Prelude.{ℕ, ◌+◌, ◌≤◌, ◌≡◌, List, ◌++◌, length}
-use Rattle.lucy_event.specs.Totals.{total}
+use Rattle.lucy_stream.specs.Totals.{total}
 use Rattle.lucy_core.specs.Seen.{Seen, CanRun, HasDoneAtMost, after_picks, done_of}
 
 -- from the one core to the other, which has done no more than these numbers, led the events that were put behind the others

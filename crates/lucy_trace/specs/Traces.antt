@@ -2,7 +2,7 @@
 use Rattle.std.specs.Prelude.{ℕ, ◌<◌, ◌≡◌, ◌^◌, List, [], ◌∷◌, ◌++◌, All, map, length}
 use Rattle.std.specs.Fmt.{decimal}
 use Rattle.std.specs.List.{concat, join_with_byte}
-use Rattle.lucy_event.specs.Runs.{IsWhole}
+use Rattle.lucy_stream.specs.Runs.{IsWhole}
 use Rattle.lucy_fields.specs.Readings.{AreRead}
 use Rattle.lucy_net.specs.declared.net.Net.{Net}
 use Rattle.lucy_net.specs.Plans.{net_system}

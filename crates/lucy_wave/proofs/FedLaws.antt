@@ -9,7 +9,7 @@ use Rattle.lucy_host.specs.Operators.{kinds_of}
 use Rattle.lucy_stream.specs.Items.{list_at}
 use Rattle.lucy_stream.specs.Iterates.{Place, lists_of, iterate}
 use Rattle.lucy_stream.specs.Lists.{form_list}
-use Rattle.lucy_event.specs.Plans.{Task, GiveBelow}
+use Rattle.lucy_stream.specs.Plans.{Task, GiveBelow}
 use Rattle.lucy_net.specs.declared.net.Actor.{Actor}
 use Rattle.lucy_net.specs.declared.net.Net.{Net}
 use Rattle.lucy_net.specs.Plans.{task_of, giver, taker, plan}

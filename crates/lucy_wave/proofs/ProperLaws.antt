@@ -7,7 +7,7 @@ use Rattle.std.proofs.lemmas.Option.{same_Some, slice_get_within}
 use Rattle.lucy_word.specs.Bits.{Bits, ones_to}
 use Rattle.lucy_word.proofs.OnLaws.{same_self}
 use Rattle.lucy_word.proofs.AdaptableLaws.{adaptable_self, size_self}
-use Rattle.lucy_event.specs.Plans.{HasInput}
+use Rattle.lucy_stream.specs.Plans.{HasInput}
 use Rattle.lucy_net.specs.declared.net.Actor.{Actor}
 use Rattle.lucy_net.specs.declared.net.RingSpec.{RingSpec}
 use Rattle.lucy_net.specs.declared.net.Net.{Net}

@@ -7,8 +7,8 @@ use Rattle.std.proofs.lemmas.List.Elements.{All-nil, All-cons, All-head, All-tai
 use Rattle.std.proofs.lemmas.List.Sums.{sum_by-cons}
 use Rattle.lucy_ring.specs.Views.{GiverView, TakerView}
 use Rattle.lucy_stream.specs.Forms.{Form, Same, operands}
-use Rattle.lucy_event.specs.Firings.{firing_ops, ops_of}
-use Rattle.lucy_event.proofs.PlaceLaws.{ops_more}
+use Rattle.lucy_stream.specs.Operations.{firing_ops, ops_of}
+use Rattle.lucy_stream.proofs.PlaceLaws.{ops_more}
 use Rattle.lucy_net.specs.declared.kind.ActorKind.{ActorKind}
 use Rattle.lucy_net.specs.declared.kind.ActorKind.TheVariants as kind
 use Rattle.lucy_net.specs.declared.net.Actor.{Actor}

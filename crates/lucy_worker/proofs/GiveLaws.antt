@@ -13,14 +13,14 @@ use Rattle.lucy_stream.specs.Items.{list_at}
 use Rattle.lucy_stream.specs.Fronts.{IsFront}
 use Rattle.lucy_stream.specs.Firings.{fire_value}
 use Rattle.lucy_stream.proofs.FrontLaws.{IsFront-refl, IsFront-append}
-use Rattle.lucy_event.specs.Systems.{RingOp, Gives, op_at}
-use Rattle.lucy_event.specs.States.{Machine, State, gave_after, took_after}
-use Rattle.lucy_event.specs.Actors.{StandsAs, moved, IsSameAt}
-use Rattle.lucy_event.specs.Firings.{fired_at}
-use Rattle.lucy_event.specs.Plans.{Task, task_value, machine, IsPluggedAt}
-use Rattle.lucy_event.proofs.CountLaws.{step-same}
-use Rattle.lucy_event.proofs.ActorLaws.{own_moves, same_stands}
-use Rattle.lucy_event.proofs.PlanLaws.{IsWired-plan, IsLocal-plan}
+use Rattle.lucy_stream.specs.Systems.{RingOp, Gives, op_at}
+use Rattle.lucy_stream.specs.States.{Machine, State, gave_after, took_after}
+use Rattle.lucy_stream.specs.Actors.{StandsAs, moved, IsSameAt}
+use Rattle.lucy_stream.specs.Operations.{fired_at}
+use Rattle.lucy_stream.specs.Plans.{Task, task_value, machine, IsPluggedAt}
+use Rattle.lucy_stream.proofs.CountLaws.{step-same}
+use Rattle.lucy_stream.proofs.ActorLaws.{own_moves, same_stands}
+use Rattle.lucy_stream.proofs.PlanLaws.{IsWired-plan, IsLocal-plan}
 use Rattle.lucy_net.specs.declared.net.Net.{Net}
 use Rattle.lucy_net.specs.declared.state.ActorState.{ActorState}
 use Rattle.lucy_net.specs.Plans.{form_of, task_of, plan}

@@ -7,7 +7,7 @@ use Rattle.lucy_word.specs.Bits.{Bits, bit_at, bit_count, ones_to}
 use Rattle.lucy_word.proofs.BitsLaws.{ones_to-le}
 use Rattle.lucy_word.proofs.SamplingLaws.{bit_at-periods}
 use Rattle.lucy_ring.specs.Views.{GiverView, TakerView}
-use Rattle.lucy_event.specs.Firings.{ops_of}
+use Rattle.lucy_stream.specs.Operations.{ops_of}
 use Rattle.lucy_net.specs.declared.kind.ActorKind.{ActorKind}
 use Rattle.lucy_net.specs.declared.kind.ActorKind.TheVariants as kind
 use Rattle.lucy_net.specs.declared.net.Actor.{Actor}

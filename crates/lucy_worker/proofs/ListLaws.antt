@@ -5,7 +5,7 @@ use Rattle.std.proofs.lemmas.Bool.{eq-eqb, ne_eqb, eqb-true}
 use Rattle.std.proofs.lemmas.List.Sums.{sum_by-cons}
 use Rattle.std.proofs.lemmas.Option.{get_or_from_slice_get, slice_get_within}
 use Rattle.lucy_stream.specs.Items.{list_at}
-use Rattle.lucy_event.specs.Plans.{times}
+use Rattle.lucy_stream.specs.Plans.{times}
 use Rattle.lucy_net.proofs.OperandLaws.{there}
 use Rattle.lucy_worker.specs.Parts.{list_on}
 

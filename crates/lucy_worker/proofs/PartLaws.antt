@@ -4,10 +4,10 @@ use Rattle.std.specs.Prelude.{ℤ, Some, slice_get}
 use Rattle.std.proofs.lemmas.Option.{get_or_from_slice_get}
 use Rattle.lucy_host.specs.declared.kind.HostKind.{HostKind}
 use Rattle.lucy_word.specs.Bits.{ones_to}
-use Rattle.lucy_event.specs.Systems.{RingOp, Takes, op_at}
-use Rattle.lucy_event.specs.States.{State}
-use Rattle.lucy_event.specs.Firings.{ops_of}
-use Rattle.lucy_event.specs.Plans.{task_ops, system}
+use Rattle.lucy_stream.specs.Systems.{RingOp, Takes, op_at}
+use Rattle.lucy_stream.specs.States.{State}
+use Rattle.lucy_stream.specs.Operations.{ops_of}
+use Rattle.lucy_stream.specs.Plans.{task_ops, system}
 use Rattle.lucy_net.specs.declared.kind.ActorKind.{ActorKind}
 use Rattle.lucy_net.specs.declared.kind.ActorKind.TheVariants as kind
 use Rattle.lucy_net.specs.declared.net.Actor.{Actor}

@@ -7,14 +7,14 @@ use Rattle.lucy_word.specs.Bits.{ones_to}
 use Rattle.lucy_stream.specs.Fronts.{IsFront}
 use Rattle.lucy_stream.proofs.FrontLaws.{IsFront-append}
 use Rattle.lucy_ring.specs.Views.{RingName, GiverView, TakerView}
-use Rattle.lucy_event.specs.Systems.{RingOp, Takes, Gives, System, op_at}
-use Rattle.lucy_event.specs.Runs.{IsPossible}
-use Rattle.lucy_event.specs.States.{Machine, State}
-use Rattle.lucy_event.specs.Actors.{StandsAs, IsSameAt}
-use Rattle.lucy_event.specs.Firings.{ops_of}
-use Rattle.lucy_event.specs.Plans.{machine, system}
-use Rattle.lucy_event.proofs.ActorLaws.{same_stands}
-use Rattle.lucy_event.proofs.PlanLaws.{IsWired-plan, IsLocal-plan}
+use Rattle.lucy_stream.specs.Systems.{RingOp, Takes, Gives, System, op_at}
+use Rattle.lucy_stream.specs.Runs.{IsPossible}
+use Rattle.lucy_stream.specs.States.{Machine, State}
+use Rattle.lucy_stream.specs.Actors.{StandsAs, IsSameAt}
+use Rattle.lucy_stream.specs.Operations.{ops_of}
+use Rattle.lucy_stream.specs.Plans.{machine, system}
+use Rattle.lucy_stream.proofs.ActorLaws.{same_stands}
+use Rattle.lucy_stream.proofs.PlanLaws.{IsWired-plan, IsLocal-plan}
 use Rattle.lucy_net.specs.declared.net.Net.{Net}
 use Rattle.lucy_net.specs.Plans.{form_of, plan}
 use Rattle.lucy_net.specs.States.{IsActorState, IsNext}

@@ -14,13 +14,13 @@ use Rattle.lucy_stream.specs.Items.{list_at}
 use Rattle.lucy_stream.specs.Forms.{operands}
 use Rattle.lucy_stream.specs.Fronts.{IsFront}
 use Rattle.lucy_stream.proofs.FrontLaws.{IsFront-refl, IsFront-append}
-use Rattle.lucy_event.specs.Systems.{RingOp, Takes, op_at}
-use Rattle.lucy_event.specs.States.{Machine, State, gave_after, took_after}
-use Rattle.lucy_event.specs.Actors.{StandsAs, moved, IsSameAt}
-use Rattle.lucy_event.specs.Plans.{machine, IsPluggedAt, times}
-use Rattle.lucy_event.proofs.CountLaws.{step-same}
-use Rattle.lucy_event.proofs.ActorLaws.{own_moves, same_stands}
-use Rattle.lucy_event.proofs.PlanLaws.{IsWired-plan, IsLocal-plan}
+use Rattle.lucy_stream.specs.Systems.{RingOp, Takes, op_at}
+use Rattle.lucy_stream.specs.States.{Machine, State, gave_after, took_after}
+use Rattle.lucy_stream.specs.Actors.{StandsAs, moved, IsSameAt}
+use Rattle.lucy_stream.specs.Plans.{machine, IsPluggedAt, times}
+use Rattle.lucy_stream.proofs.CountLaws.{step-same}
+use Rattle.lucy_stream.proofs.ActorLaws.{own_moves, same_stands}
+use Rattle.lucy_stream.proofs.PlanLaws.{IsWired-plan, IsLocal-plan}
 use Rattle.lucy_net.specs.declared.kind.ActorKind.{ActorKind}
 use Rattle.lucy_net.specs.declared.kind.ActorKind.TheVariants as kind
 use Rattle.lucy_net.specs.declared.net.Net.{Net}

@@ -2,11 +2,11 @@
 use Rattle.std.specs.Prelude.{ℕ, ◌+◌, ◌<◌, ◌≤◌, ◌≡◌, List, [], ◌∷◌, ◌++◌, ℤ, length, map, slice_get, slice_index_or, nat_eq, if◌then◌else◌, Some}
 use Rattle.lucy_host.specs.declared.kind.HostKind.{HostKind}
 use Rattle.lucy_ring.specs.Views.{GiverView, TakerView}
-use Rattle.lucy_event.specs.Systems.{RingOp, Takes, Gives}
-use Rattle.lucy_event.specs.States.{State}
-use Rattle.lucy_event.specs.Actors.{StandsAs}
-use Rattle.lucy_event.specs.Firings.{ops_of}
-use Rattle.lucy_event.specs.Plans.{machine, IsPlugged}
+use Rattle.lucy_stream.specs.Systems.{RingOp, Takes, Gives}
+use Rattle.lucy_stream.specs.States.{State}
+use Rattle.lucy_stream.specs.Actors.{StandsAs}
+use Rattle.lucy_stream.specs.Operations.{ops_of}
+use Rattle.lucy_stream.specs.Plans.{machine, IsPlugged}
 use Rattle.lucy_net.specs.declared.kind.ActorKind.{ActorKind}
 use Rattle.lucy_net.specs.declared.kind.ActorKind.TheVariants.{Output}
 use Rattle.lucy_net.specs.declared.net.Actor.{Actor}

@@ -1,7 +1,7 @@
 -- How the parts of all workers make a state.
 use Rattle.std.specs.Prelude.{ℕ, ◌+◌, ◌≡◌, ◌++◌, length, slice_get, Some}
-use Rattle.lucy_event.specs.Systems.{System, given, taken}
-use Rattle.lucy_event.specs.States.{State}
+use Rattle.lucy_stream.specs.Systems.{System, given, taken}
+use Rattle.lucy_stream.specs.States.{State}
 use Rattle.lucy_ring.specs.Views.{GiverView, TakerView}
 use Rattle.lucy_worker.specs.declared.part.Part.{Part}
 use Rattle.lucy_worker.specs.Parts.{done_of, given_on, taken_on}

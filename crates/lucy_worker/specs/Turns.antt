@@ -5,7 +5,7 @@ use Rattle.lucy_word.specs.declared.limit.Limit.TheVariants as limit
 use Rattle.lucy_host.specs.declared.kind.HostKind.{HostKind}
 use Rattle.lucy_ring.specs.Views.{RingName, GiverView, TakerView}
 use Rattle.lucy_stream.specs.Fronts.{IsFront}
-use Rattle.lucy_event.specs.States.{State}
+use Rattle.lucy_stream.specs.States.{State}
 use Rattle.lucy_net.specs.declared.kind.ActorKind.{ActorKind}
 use Rattle.lucy_net.specs.declared.kind.ActorKind.TheVariants.{Output}
 use Rattle.lucy_net.specs.declared.net.Net.{Net}

@@ -3,7 +3,7 @@ ghost use Rattle.std.specs.Prelude.{ℕ, ◌≡◌, ◌+◌, ◌<◌, ◌≤◌,
 ghost use Rattle.lucy_host.specs.declared.kind.HostKind.{HostKind};
 ghost use Rattle.lucy_host.specs.Host.{Serves, lent};
 ghost use Rattle.lucy_host.specs.Operators.{kinds_of};
-ghost use Rattle.lucy_event.specs.Systems.{Takes, Gives};
+ghost use Rattle.lucy_stream.specs.Systems.{Takes, Gives};
 ghost use Rattle.lucy_net.specs.Plans.{form_of};
 ghost use Rattle.lucy_net.specs.States.{IsNext, IsPlain};
 ghost use Rattle.lucy_worker.specs.Parts.{done_of, CanMove};

@@ -2,10 +2,10 @@
 ghost use Rattle.std.specs.Prelude.{ℕ, ◌≡◌, ◌+◌, ◌≤◌, ◌++◌, List, ℤ, length};
 ghost use Rattle.lucy_host.specs.declared.kind.HostKind.{HostKind};
 ghost use Rattle.lucy_stream.specs.Fronts.{IsFront};
-ghost use Rattle.lucy_event.specs.Runs.{IsPossible};
-ghost use Rattle.lucy_event.specs.States.{State};
-ghost use Rattle.lucy_event.specs.Actors.{StandsAs};
-ghost use Rattle.lucy_event.specs.Plans.{machine, system};
+ghost use Rattle.lucy_stream.specs.Runs.{IsPossible};
+ghost use Rattle.lucy_stream.specs.States.{State};
+ghost use Rattle.lucy_stream.specs.Actors.{StandsAs};
+ghost use Rattle.lucy_stream.specs.Plans.{machine, system};
 ghost use Rattle.lucy_net.specs.declared.net.Net.{Net};
 ghost use Rattle.lucy_net.specs.Plans.{plan};
 ghost use Rattle.lucy_ring.specs.Views.{GiverView, TakerView};

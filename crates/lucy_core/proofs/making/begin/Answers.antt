@@ -7,7 +7,7 @@ use Rattle.lucy_net.specs.declared.net.RingSpec.{RingSpec}
 use Rattle.lucy_net.specs.States.{IsUsable}
 use Rattle.lucy_net.proofs.NetLaws.{usable}
 use Rattle.lucy_net.proofs.NumberedLaws.{outputs_apart}
-use Rattle.lucy_event.specs.Runs.{first_left}
+use Rattle.lucy_stream.specs.Runs.{first_left}
 use Rattle.lucy_core.specs.Seen.{order_on, done_of}
 use Rattle.lucy_core.specs.Cursors.{StandsInOrder}
 use Rattle.lucy_core.specs.Inside.{going_in, AreFirst, AreEmpty, HaveTrays}

@@ -1,7 +1,7 @@
 use Rattle.std.proofs.Common.{ℕ, ◌<◌, ◌≡◌, length, ap, sym, ◌∙◌, subst, inl, inr, to_z, of_z, w64, arith}
 use Rattle.std.specs.Prelude.{ℤ}
 use Rattle.std.proofs.lemmas.Int.{ints}
-use Rattle.lucy_event.specs.Firings.{firing_ops}
+use Rattle.lucy_stream.specs.Operations.{firing_ops}
 use Rattle.std.proofs.lemmas.Bool.{cases_eq}
 use Rattle.lucy_stream.specs.Forms.{Form, operands}
 use Rattle.lucy_net.specs.Plans.{form_of}

@@ -1,6 +1,6 @@
 use Rattle.std.proofs.Common.{ap, sym, refl, ◌∙◌, arith}
 use Rattle.std.specs.Prelude.{◌≡◌, slice_get}
-use Rattle.lucy_event.specs.Firings.{firing_ops}
+use Rattle.lucy_stream.specs.Operations.{firing_ops}
 use Rattle.lucy_net.specs.Plans.{form_of}
 use Rattle.lucy_net.specs.Moves.{move_of}
 use Rattle.lucy_net.specs.States.{IsActorState}

@@ -7,7 +7,7 @@ use Rattle.lucy_host.specs.Host.{lent}
 use Rattle.lucy_host.specs.Operators.{kinds_of}
 use Rattle.lucy_stream.specs.Items.{newest, list_at}
 use Rattle.lucy_stream.specs.Firings.{fire_value}
-use Rattle.lucy_event.specs.Firings.{fired_at}
+use Rattle.lucy_stream.specs.Operations.{fired_at}
 use Rattle.lucy_net.specs.Plans.{form_of}
 use Rattle.lucy_net.specs.States.{IsActorState}
 use Rattle.lucy_net.proofs.StateLaws.{fired_open, value_input, value_one, value_zero, value_host, op_known, value_begun, value_later}

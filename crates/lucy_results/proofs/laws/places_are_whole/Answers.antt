@@ -1,4 +1,4 @@
-use Rattle.lucy_event.specs.Schedules.{events_to}
+use Rattle.lucy_stream.specs.Schedules.{events_to}
 use Rattle.lucy_results.proofs.WholeLaws.{word_there, place_whole}
 use Rattle.lucy_results.proofs.laws.places_are_whole.Goals as goal
 

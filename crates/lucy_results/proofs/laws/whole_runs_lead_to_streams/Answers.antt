@@ -1,6 +1,6 @@
 use Rattle.std.proofs.Common.{sym, subst}
-use Rattle.lucy_event.specs.Systems.{System}
-use Rattle.lucy_event.specs.Runs.{IsWhole}
+use Rattle.lucy_stream.specs.Systems.{System}
+use Rattle.lucy_stream.specs.Runs.{IsWhole}
 use Rattle.lucy_core.specs.Seen.{first_seen}
 use Rattle.lucy_results.proofs.WholeRunLaws.{whole_run}
 use Rattle.lucy_results.proofs.laws.whole_runs_lead_to_streams.Goals as goal

@@ -1,5 +1,5 @@
 use Rattle.std.proofs.Common.{◌+◌, ◌≡◌}
-use Rattle.lucy_event.specs.Totals.{total}
+use Rattle.lucy_stream.specs.Totals.{total}
 use Rattle.lucy_core.specs.Seen.{done_of}
 use Rattle.lucy_trace.proofs.catching.left_until.Given as goal
 

@@ -3,8 +3,8 @@ use Rattle.std.proofs.lemmas.Bool.{ltb-true}
 use Rattle.std.proofs.lemmas.Option.{slice_get_read}
 use Rattle.lucy_core.specs.Seen.{machine_of, done_of}
 use Rattle.lucy_trace.specs.declared.error.TraceError.TheVariants.{NotPossible}
-use Rattle.lucy_event.specs.Deciding.{run_length}
-use Rattle.lucy_event.proofs.JoinedLaws.{length_run}
+use Rattle.lucy_stream.specs.Deciding.{run_length}
+use Rattle.lucy_stream.proofs.JoinedLaws.{length_run}
 use Rattle.lucy_trace.proofs.RunLaws.{all_run, none_beyond, none_longer_than}
 use Rattle.lucy_trace.proofs.replaying.replay.Goals as goal
 

@@ -1,6 +1,6 @@
 use Rattle.std.proofs.Common.{◌≡◌, ◌-◌, [], drop}
 use Rattle.std.specs.Prelude.{Some, None, IfSome}
-use Rattle.lucy_event.specs.Runs.{first_left}
+use Rattle.lucy_stream.specs.Runs.{first_left}
 use Rattle.lucy_core.specs.Seen.{done_of, order_on}
 use Rattle.lucy_core.specs.Cursors.{row_at, StandsInOrder}
 use Rattle.lucy_core.proofs.cursor.Cursor.go_on.Given as goal

@@ -7,8 +7,8 @@ use Rattle.lucy_host.specs.declared.kind.HostKind.{HostKind}
 use Rattle.lucy_host.specs.Host.{lent}
 use Rattle.lucy_host.specs.Operators.{kinds_of}
 use Rattle.lucy_stream.specs.Firings.{fire_value}
-use Rattle.lucy_event.specs.Systems.{Gives}
-use Rattle.lucy_event.specs.Firings.{fired_at}
+use Rattle.lucy_stream.specs.Systems.{Gives}
+use Rattle.lucy_stream.specs.Operations.{fired_at}
 use Rattle.lucy_net.specs.Plans.{form_of}
 use Rattle.lucy_net.specs.States.{KnowsOperator}
 use Rattle.lucy_net.specs.declared.state.ActorState.{ActorState}
@@ -16,7 +16,7 @@ use Rattle.lucy_core.specs.Circles.{HeldItems}
 use Rattle.lucy_core.specs.Seen.{Seen, machine_on, order_on, done_of, state_on, stepped}
 use Rattle.lucy_core.specs.Cursors.{StandsInOrder}
 use Rattle.lucy_core.specs.Inside.{left_in, KeepsState}
-use Rattle.lucy_event.specs.Runs.{first_left}
+use Rattle.lucy_stream.specs.Runs.{first_left}
 use Rattle.lucy_core.proofs.CursorLaws.{step_in}
 use Rattle.lucy_core.proofs.InsideLaws.{at_hand, actor_at, state_at, circle_at, is_next, of_actor, few_at, some_going, going_after, as_many}
 use Rattle.lucy_core.proofs.StepLaws.{has_item, gave_room, room_is, kept_gave}

@@ -1,6 +1,6 @@
 use Rattle.std.proofs.Common.{ℕ, ◌≡◌, List, ap, subst, sym, ◌∙◌}
 use Rattle.lucy_host.specs.Operators.{Operator, kinds_of}
-use Rattle.lucy_event.specs.Runs.{first_left}
+use Rattle.lucy_stream.specs.Runs.{first_left}
 use Rattle.lucy_core.specs.Seen.{machine_on, order_on, done_of, CanMakeCore, first_seen}
 use Rattle.lucy_core.specs.Cursors.{StandsInOrder}
 use Rattle.lucy_core.specs.Inside.{going_in, KeepsState}

@@ -1,7 +1,7 @@
 use Rattle.std.proofs.Common.{ℕ, ◌≡◌, true, false, List, length, get_or, take, ap, subst, sym, ◌∙◌, arith}
 use Rattle.std.specs.Prelude.{IsTrue}
 use Rattle.lucy_host.specs.Operators.{kinds_of}
-use Rattle.lucy_event.specs.Runs.{IsPossible, IsRun}
+use Rattle.lucy_stream.specs.Runs.{IsPossible, IsRun}
 use Rattle.lucy_core.specs.Seen.{Seen, machine_of, order_of, done_of, more_done, stepped, CanStep}
 use Rattle.lucy_core.proofs.InsideLaws.{sound_of}
 use Rattle.lucy_core.proofs.PickLaws.{run_more, possible_back, stops_at, runs_all}

@@ -1,6 +1,6 @@
 use Rattle.std.proofs.Common.{sym, ◌∙◌}
 use Rattle.std.proofs.lemmas.Option.{slice_get-get_or}
-use Rattle.lucy_event.specs.Systems.{Takes}
+use Rattle.lucy_stream.specs.Systems.{Takes}
 use Rattle.lucy_core.specs.Seen.{machine_of, done_of}
 use Rattle.lucy_core.proofs.StepLaws.{take_at, give_at, move_done}
 use Rattle.lucy_core.proofs.machine.Core.step.Goals as goal

@@ -3,13 +3,13 @@ use Rattle.std.specs.Prelude.{ℤ}
 use Rattle.std.proofs.lemmas.Int.{ints}
 use Rattle.std.proofs.lemmas.List.{length-set, get_or-set_same}
 use Rattle.lucy_host.specs.Operators.{kinds_of}
-use Rattle.lucy_event.specs.Systems.{Takes}
+use Rattle.lucy_stream.specs.Systems.{Takes}
 use Rattle.lucy_net.specs.declared.state.ActorState.{ActorState}
 use Rattle.lucy_core.specs.Circles.{HeldItems}
 use Rattle.lucy_core.specs.Seen.{Seen, machine_on, order_on, done_of, stepped, one_more}
 use Rattle.lucy_core.specs.Cursors.{StandsInOrder}
 use Rattle.lucy_core.specs.Inside.{left_in, KeepsState}
-use Rattle.lucy_event.specs.Runs.{first_left}
+use Rattle.lucy_stream.specs.Runs.{first_left}
 use Rattle.lucy_core.proofs.CursorLaws.{step_in}
 use Rattle.lucy_core.proofs.InsideLaws.{at_hand, actor_at, state_at, circle_at, is_next, of_actor, few_at, some_going, going_after}
 use Rattle.lucy_core.proofs.StepLaws.{took_some, tray_room, kept_took}

@@ -1,7 +1,7 @@
 use Rattle.std.proofs.Common.{◌≡◌, List, ap, sym, ◌∙◌, subst, arith}
 use Rattle.std.specs.Vec.{with_items}
 use Rattle.std.proofs.lemmas.List.{with_items_is}
-use Rattle.lucy_event.specs.States.{IsSame}
+use Rattle.lucy_stream.specs.States.{IsSame}
 use Rattle.lucy_core.specs.Seen.{Seen, state_of}
 use Rattle.lucy_runner.specs.declared.seat.Seat.{Seat}
 use Rattle.lucy_runner.specs.Views.{RunnerView}

@@ -3,7 +3,7 @@ use Rattle.std.specs.Prelude.{ℤ, Some}
 use Rattle.std.proofs.lemmas.Option.{slice_get_within}
 use Rattle.lucy_word.specs.Bits.{ones_to}
 use Rattle.lucy_stream.specs.Fronts.{IsFront}
-use Rattle.lucy_event.specs.Plans.{GiveBelow}
+use Rattle.lucy_stream.specs.Plans.{GiveBelow}
 use Rattle.lucy_net.specs.declared.net.Actor.{Actor}
 use Rattle.lucy_core.specs.Seen.{Seen, IsOutputOf, IsOver, first_ring, plan_of, state_of, stream_of}
 use Rattle.lucy_core.proofs.OpenLaws.{IsSound, took_front}

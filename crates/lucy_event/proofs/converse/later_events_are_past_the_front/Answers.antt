@@ -1,5 +1,0 @@
-use Rattle.lucy_event.proofs.ConverseLaws.{between_rest}
-use Rattle.lucy_event.proofs.converse.later_events_are_past_the_front.Goals as goal
-
-pub returns : goal.returns
-returns c = between_rest

@@ -1,5 +1,0 @@
-use Rattle.lucy_event.proofs.ReachLaws.{converse-start, converse}
-use Rattle.lucy_event.proofs.converse.states_are_reached.Goals as goal
-
-pub returns : goal.returns
-returns c = record { run = converse-start; later = converse }

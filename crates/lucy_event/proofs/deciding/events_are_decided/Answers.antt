@@ -1,5 +1,0 @@
-use Rattle.lucy_event.proofs.DecidingLaws.{possible_decides, run_decides}
-use Rattle.lucy_event.proofs.deciding.events_are_decided.Goals as goal
-
-pub returns : goal.returns
-returns c = record { event = possible_decides; run = run_decides }

@@ -1,5 +1,0 @@
-use Rattle.lucy_event.proofs.OperationLaws.{take_needed}
-use Rattle.lucy_event.proofs.firing.firings_take_what_is_needed.Goals as goal
-
-pub returns : goal.returns
-returns c = take_needed

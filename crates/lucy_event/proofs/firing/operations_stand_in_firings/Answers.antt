@@ -1,5 +1,0 @@
-use Rattle.lucy_event.proofs.PlaceLaws.{op_found, fired_in}
-use Rattle.lucy_event.proofs.firing.operations_stand_in_firings.Goals as goal
-
-pub returns : goal.returns
-returns c = record { op = op_found; number = fired_in }

@@ -1,5 +1,0 @@
-use Rattle.lucy_event.proofs.InstantLaws.{possible_or_waits}
-use Rattle.lucy_event.proofs.instant.actors_go_on_or_wait.Goals as goal
-
-pub returns : goal.returns
-returns c = possible_or_waits

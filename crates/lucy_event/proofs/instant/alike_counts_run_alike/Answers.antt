@@ -1,5 +1,0 @@
-use Rattle.lucy_event.proofs.AlikeLaws.{IsRun-alike, IsAlike-run}
-use Rattle.lucy_event.proofs.instant.alike_counts_run_alike.Goals as goal
-
-pub returns : goal.returns
-returns c = record { run = IsRun-alike; ends = IsAlike-run }

@@ -1,5 +1,0 @@
-use Rattle.lucy_event.proofs.ReachLaws.{counts_decide}
-use Rattle.lucy_event.proofs.states.counts_decide.Goals as goal
-
-pub returns : goal.returns
-returns c = counts_decide

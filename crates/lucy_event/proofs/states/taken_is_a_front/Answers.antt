@@ -1,6 +1,0 @@
-use Rattle.lucy_event.specs.States.{start}
-use Rattle.lucy_event.proofs.EventLaws.{fronts_after}
-use Rattle.lucy_event.proofs.states.taken_is_a_front.Goals as goal
-
-pub returns : goal.returns
-returns c = λ m picks r. fronts_after m start picks (λ q. tt) r

@@ -1,6 +1,0 @@
-ghost use Rattle.lucy_event.specs.Laws.{EventsAreDecided};
-
-/// Whether an event is possible, and whether events are a run, is decided by the counts.
-pub fn events_are_decided()
-    ensures { EventsAreDecided }
-{}

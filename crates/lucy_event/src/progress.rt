@@ -1,7 +1,0 @@
-ghost use Rattle.lucy_event.specs.Laws.{NothingIsStuck};
-
-/// Once some whole run is known, whatever is done: the first of its events that isn't done is possible, none is left exactly
-/// where all is done, and so nothing is stuck.
-pub fn nothing_is_stuck()
-    ensures { NothingIsStuck }
-{}

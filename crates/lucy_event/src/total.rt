@@ -1,6 +1,0 @@
-ghost use Rattle.lucy_event.specs.Laws.{RunsAreCounted};
-
-/// The number of events of a run is what the counts rose by: of one actor, and of all together.
-pub fn runs_are_counted()
-    ensures { RunsAreCounted }
-{}

@@ -1,4 +1,0 @@
-mod BoxedForms
-mod Listings
-mod Operands
-mod ReadAgain

@@ -1,7 +1,0 @@
-use Rattle.std.proofs.Common.{◌≡◌, ◌++◌, drop, map}
-use Rattle.lucy_tree.specs.View.{def_tree}
-use Rattle.lucy_grammar.specs.Print.{spaced_text, more_defs}
-use Rattle.lucy_print.proofs.program.further_defs.Given as goal
-
-abbrev pub invariant-more : goal.invariant-more
-invariant-more l = l.out.items ++ spaced_text (more_defs (map def_tree (drop l.next-index l.list))) ≡ l.initial.out.items ++ spaced_text (more_defs (map def_tree l.list))

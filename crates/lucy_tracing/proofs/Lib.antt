@@ -1,2 +1,0 @@
-mod RoundLaws
-mod TracingLaws
