@@ -1,0 +1,25 @@
+// What holds of an accepted program under every interleaving.
+ghost use Rattle.lucy_interleaving.specs.Interleavings.{RunsAreSafe, StatesAreSafe};
+ghost use Rattle.lucy_interleaving.specs.Wholeness.{PlacesAreWhole, NoLineIsMissing};
+
+/// Pins `lucy_interleaving::every_interleaving_is_safe`.
+pub fn every_interleaving_is_safe()
+    ensures { RunsAreSafe }
+{
+    lucy_interleaving::every_interleaving_is_safe();
+}
+
+/// Pins `lucy_interleaving::every_state_is_safe`.
+pub fn every_state_is_safe()
+    ensures { StatesAreSafe }
+{
+    lucy_interleaving::every_state_is_safe();
+}
+
+/// Pins `lucy_interleaving::streams_have_every_item`.
+pub fn streams_have_every_item()
+    ensures places { PlacesAreWhole }
+    ensures lines { NoLineIsMissing }
+{
+    lucy_interleaving::streams_have_every_item();
+}
