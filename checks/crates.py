@@ -8,14 +8,39 @@ import subprocess
 import time
 
 TOP = os.path.dirname(os.path.dirname(os.path.realpath(__file__)))
+# The lists of crates, each with the folder in which they stand. The second ones are no part of the gate, which wants each .rt and .antt file
+# in a crate of the first list: so these have names that end in .txt there.
+LISTS = {"crates.txt": "crates", "bench/programs.txt": "bench/programs"}
+MARKED = re.compile(r"(\.rt|\.antt)\.txt$")
 # What is not copied of a crate: its wrong bodies, and what the tool makes.
 LEFT_OUT = {"must-fail", "out"}
 
 
+def lines_of(path):
+    try:
+        with open(f"{TOP}/{path}") as it:
+            return it.read().splitlines()
+    except OSError:
+        return []
+
+
+def folder_of(top, crate):
+    """The folder of a crate below a folder."""
+    places = [f"{top}/{it}/{crate}" for it in LISTS.values()]
+    return next((it for it in places if os.path.isdir(f"{it}/src")), places[0])
+
+
+def files_of(top, crate):
+    """The files of a crate below a folder, each with its name as the tool wants it."""
+    here = folder_of(top, crate)
+    for at, folders, names in os.walk(here):
+        folders[:] = [it for it in folders if it not in LEFT_OUT or at != here]
+        yield from ((MARKED.sub(r"\1", f"{crate}{at[len(here):]}/{it}"), f"{at}/{it}") for it in names)
+
+
 def crates_below(tops):
-    """The crates of this repository that some stand on, and these, each with its line of crates.txt."""
-    with open(f"{TOP}/crates.txt") as it:
-        lines = {re.split("[ :]", line)[0]: line for line in it.read().splitlines() if line and not line.startswith("#")}
+    """The crates of this repository that some stand on, and these, each with its line in the lists."""
+    lines = {re.split("[ :]", line)[0]: line for it in LISTS for line in lines_of(it) if line and not line.startswith("#")}
     found, left = {}, list(tops)
     while left:
         crate = left.pop()
@@ -34,8 +59,9 @@ def copy(crates, place):
     if os.path.isfile(f"{TOP}/HANDLES"):
         shutil.copyfile(f"{TOP}/HANDLES", f"{place}/HANDLES")
     for crate in crates:
-        here = f"{TOP}/crates/{crate}"
-        shutil.copytree(here, f"{place}/crates/{crate}", symlinks=True, ignore=lambda at, names, here=here: LEFT_OUT if at == here else ())
+        here = folder_of(TOP, crate)
+        how = {"symlinks": True, "copy_function": lambda file, to: shutil.copy2(file, MARKED.sub(r"\1", to))}
+        shutil.copytree(here, f"{place}/crates/{crate}", ignore=lambda at, names, here=here: LEFT_OUT if at == here else (), **how)
 
 
 def jobs_here():

@@ -1,6 +1,6 @@
 # systems.py SCALE LEAD FOLDER: reads a program as texts.py prints them, without words that are written for streams, and writes for each
 # node in turn the inequalities of its clocks with this scale and this lead to FOLDER/system0, FOLDER/system1 and so on, as the part
-# `system` of crates/lucy_bench reads them: the number of variables, then lines `left right most`. It follows docs/language.md, and shares no
+# `system` of programs/lucy_bench reads them: the number of variables, then lines `left right most`. It follows docs/language.md, and shares no
 # code with lucy: so the solver is timed alone, on the systems that `clocks` solves. It stops before a node with more positions than are
 # allowed. A node that is called has no definitions, so that its words are (1).
 import re
