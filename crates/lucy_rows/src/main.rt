@@ -7,17 +7,19 @@
 //! output behind `> ` and each line of its faults behind `! `. Behind `>|` or `!|` it is said that the last line has no
 //! end. Of a row with a second call the output of the first isn't printed, and behind the rest stands what the second leaves. A line
 //! of a list that isn't read is printed behind `? `, with its list and its number. Behind the lists stand runs whose workers come to a
-//! gate, and where actors are at home.
+//! gate, where actors are at home, and runs of free threads.
 #![tactic(auto)]
 
 ghost use Rattle.lucy_host.specs.Host.{Serves};
 
+mod freed;
 mod gate;
 mod gated;
 mod homes;
 mod piece;
 mod row;
 mod take;
+mod wanting;
 
 use lucy_app::program_operators;
 use lucy_host::Host;
@@ -28,7 +30,7 @@ use std::thread::Threads;
 use std::{env, fs, str};
 
 // Prints each line behind the mark.
-fn print_lines(rt: &impl Print, mark: char, bytes: &[u8]) -> io::Result<()> {
+pub(crate) fn print_lines(rt: &impl Print, mark: char, bytes: &[u8]) -> io::Result<()> {
     let Ok(text) = str::from_utf8(bytes) else {
         println!(rt; "{mark}| not a text")?;
         return Ok(());
@@ -127,5 +129,6 @@ fn main(rt: HostRuntime) -> io::Result<()> {
         }
     }
     gated::show(&rt, &host)?;
-    homes::show(&rt)
+    homes::show(&rt)?;
+    freed::show(&rt, &host)
 }

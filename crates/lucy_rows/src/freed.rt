@@ -1,27 +1,23 @@
-//! Rows of free threads: each is run over a shelf, a source and sinks in memory, and what it leaves is printed: `= NAME`,
-//! `status N`, each line of its output behind `> ` and each line of its faults behind `! `. Behind them stand calls with an engine that
-//! always wants memory.
-#![tactic(auto)]
-
-ghost use Rattle.std.specs.Prelude.{◌≡◌};
+// Runs of free threads, and behind them calls with an engine that always wants memory. Each is run over a shelf, a source and sinks in
+// memory, and what it leaves is printed as that of a row, but for what is left in its source.
 ghost use Rattle.lucy_host.specs.Host.{Serves};
 
-mod wanting;
-
-use lucy_app::{program_operators, run_with};
+use crate::print_lines;
+use crate::wanting::Wanting;
+use lucy_app::run_with;
 use lucy_freely::lucy_free;
 use lucy_host::Host;
 use lucy_text::{MemShelf, MemSink, MemSource};
 use std::alloc::Global;
-use std::io::{self, ErrorKind};
-use std::str;
+use std::io;
 use std::sync::Wait;
 use std::thread::Threads;
-use wanting::Wanting;
 
 const SUM: &str = "let node sum x = o where rec o = x + (0 fby o)";
 
 const SUM_INPUT: &str = "x 1\nx 2\nx 3\n";
+
+const FAULTY_INPUT: &str = "x 1\nx 2\nx maybe\nx 4\n";
 
 const TWICE: &str = "let node twice x = o where rec o = merge (10) x (buffer x)";
 
@@ -74,19 +70,7 @@ fn lend(alloc: Global, row: Row<'_>) -> io::Result<Lent> {
     })
 }
 
-// Prints each line behind the mark.
-fn print_lines(rt: &impl Print, mark: char, bytes: &[u8]) -> io::Result<()> {
-    match str::from_utf8(bytes) {
-        Ok(text) => {
-            for line in text.lines() {
-                println!(rt; "{mark} {line}")?;
-            }
-            Ok(())
-        }
-        Err(_) => println!(rt; "{mark}| not a text"),
-    }
-}
-
+// Prints what a call left.
 fn print_row(rt: &impl Print, row: Row<'_>, status: u8, lent: &Lent) -> io::Result<()> {
     println!(rt; "= {}", row.words)?;
     println!(rt; "status {status}")?;
@@ -155,40 +139,38 @@ fn run_programs<F: Fn(u32, i64, i64) -> i64 + Sync>(
     Ok(())
 }
 
-fn main(rt: HostRuntime) -> io::Result<()> {
-    let alloc = rt.alloc();
-    let (Ok(ops), Ok(kinds)) = (program_operators(alloc), program_operators(alloc)) else {
-        return Err(ErrorKind::OutOfMemory.into());
-    };
-    let host = Host::new(ops, |op: u32, a: i64, b: i64| kinds.value(op, a, b));
+/// Prints what comes of them.
+pub(crate) fn show<F: Fn(u32, i64, i64) -> i64 + Sync>(
+    rt: &(impl Print + AllocGlobal + Threads + Wait + Sync),
+    host: &Host<F>,
+) -> io::Result<()>
+    requires { Serves F.pre F.post host.now }
+{
     for words in [
         "run p --workers 1",
         "run p --workers 2",
         "run --workers 4 p",
         "run p --workers 64",
     ] {
-        run_programs(&rt, &host, words)?;
+        run_programs(rt, host, words)?;
     }
-    let (file, input) = (SUM, SUM_INPUT);
-    for words in [
-        "order",
-        "run p --block 4096",
-        "kahn p",
-        "run",
-        "run q",
-        "run p --instants 2",
+    for (words, file, input) in [
+        ("order", SUM, SUM_INPUT),
+        ("run p --block 4096", SUM, SUM_INPUT),
+        ("kahn p", SUM, SUM_INPUT),
+        ("run", SUM, SUM_INPUT),
+        ("run q", SUM, SUM_INPUT),
+        ("run p --instants 2", SUM, SUM_INPUT),
+        ("run p", SEVEN, ""),
+        ("run p --instants 3", SEVEN, ""),
+        ("run p", SUM, FAULTY_INPUT),
     ] {
-        run_freely(&rt, &host, Row { words, file, input })?;
+        run_freely(rt, host, Row { words, file, input })?;
     }
-    let (words, file, input) = ("run p", SEVEN, "");
-    run_freely(&rt, &host, Row { words, file, input })?;
-    let words = "run p --instants 3";
-    run_freely(&rt, &host, Row { words, file, input })?;
-    let (words, file, input) = ("run p", SUM, "x 1\nx 2\nx maybe\nx 4\n");
-    run_freely(&rt, &host, Row { words, file, input })?;
-    println!(&rt; "= an engine that wants memory")?;
-    let input = SUM_INPUT;
-    run_wanting(&rt, &host, Row { words, file, input })?;
-    let words = "order";
-    run_wanting(&rt, &host, Row { words, file, input })
+    println!(rt; "= an engine that wants memory")?;
+    let (file, input) = (SUM, SUM_INPUT);
+    for words in ["run p", "order"] {
+        run_wanting(rt, host, Row { words, file, input })?;
+    }
+    Ok(())
 }
