@@ -64,45 +64,41 @@ fn make_rounds<R: Threads + Sync, F: Fn(u32, i64, i64) -> i64 + Sync, G: Gate + 
 
 // Prints whether each of two workers that wait for each other comes to the gate once a round, whether one looked for the other in
 // vain, and what is put out.
-fn print_rounds<R: Print + AllocGlobal + Threads + Sync, F: Fn(u32, i64, i64) -> i64 + Sync>(
+fn print_meetings<R: Print + Threads + Sync, F: Fn(u32, i64, i64) -> i64 + Sync>(
     rt: &R,
     host: &Host<F>,
     word: &Word,
+    runner: &mut Runner,
 ) -> io::Result<()>
     requires serves { Serves F.pre F.post host.now }
     requires none { lent host.now ≡ [] }
+    requires at { IsAt word.now 3 runner.old.seen }
 {
-    let Ok(mut runner) = echo::runner(rt.alloc(), word, &ITEMS, 2) else {
-        return Err(no_memory());
-    };
     let gate = Pair::new();
-    let rounds = make_rounds(rt, host, word, &mut runner, &gate, 3);
+    let rounds = make_rounds(rt, host, word, runner, &gate, 3);
     let once = gate.passes(0) == rounds && gate.passes(1) == rounds;
-    println!(rt;
-        "two workers that wait for each other: each once a round {once}, late {}",
+    print!(rt;
+        "two workers that wait for each other: each once a round {once}, late {}\nthen",
         gate.is_late()
     )?;
-    print!(rt; "then")?;
-    print_output(rt, &runner, word, 3)
+    print_output(rt, runner, word, 3)
 }
 
 // Prints what so many workers put out.
-fn print_run<R: Print + AllocGlobal + Threads + Sync, F: Fn(u32, i64, i64) -> i64 + Sync>(
+fn print_whole<R: Print + Threads + Sync, F: Fn(u32, i64, i64) -> i64 + Sync>(
     rt: &R,
     host: &Host<F>,
     word: &Word,
+    runner: &mut Runner,
     workers: u32,
 ) -> io::Result<()>
     requires serves { Serves F.pre F.post host.now }
     requires none { lent host.now ≡ [] }
-    requires workers { (1 ≤ workers) × (workers ≤ 64) }
+    requires at { IsAt word.now 3 runner.old.seen }
 {
-    let Ok(mut runner) = echo::runner(rt.alloc(), word, &ITEMS, workers) else {
-        return Err(no_memory());
-    };
     runner.go(rt, host, &OpenGate);
     print!(rt; "by {workers}:")?;
-    print_output(rt, &runner, word, 3)
+    print_output(rt, runner, word, 3)
 }
 
 // One item and one instant more, where all before is done, and what is put out then.
@@ -132,7 +128,41 @@ fn print_next<R: Print + AllocGlobal + Threads + Sync, F: Fn(u32, i64, i64) -> i
 }
 
 // Prints what so many workers put out, instant by instant.
-fn print_blocks<R: Print + AllocGlobal + Threads + Sync, F: Fn(u32, i64, i64) -> i64 + Sync>(
+fn print_instants<R: Print + AllocGlobal + Threads + Sync, F: Fn(u32, i64, i64) -> i64 + Sync>(
+    rt: &R,
+    host: &Host<F>,
+    word: &Word,
+    runner: &mut Runner,
+    workers: u32,
+) -> io::Result<()>
+    requires serves { Serves F.pre F.post host.now }
+    requires none { lent host.now ≡ [] }
+    requires at { IsAt word.now 1 runner.old.seen }
+{
+    runner.go(rt, host, &OpenGate);
+    print!(rt; "by {workers}, instant 1:")?;
+    print_output(rt, runner, word, 1)?;
+    print_next(rt, host, word, runner, 6, 1)?;
+    print_next(rt, host, word, runner, 7, 2)
+}
+
+// A row of rounds: each moves what it can.
+fn show_rounds<R: Print + AllocGlobal + Threads + Sync, F: Fn(u32, i64, i64) -> i64 + Sync>(
+    rt: &R,
+    host: &Host<F>,
+    word: &Word,
+) -> io::Result<()>
+    requires serves { Serves F.pre F.post host.now }
+    requires none { lent host.now ≡ [] }
+{
+    match echo::runner(rt.alloc(), word, &ITEMS, 2) {
+        Ok(mut runner) => print_meetings(rt, host, word, &mut runner),
+        Err(_) => Err(no_memory()),
+    }
+}
+
+// A row of a whole run.
+fn show_whole<R: Print + AllocGlobal + Threads + Sync, F: Fn(u32, i64, i64) -> i64 + Sync>(
     rt: &R,
     host: &Host<F>,
     word: &Word,
@@ -142,28 +172,52 @@ fn print_blocks<R: Print + AllocGlobal + Threads + Sync, F: Fn(u32, i64, i64) ->
     requires none { lent host.now ≡ [] }
     requires workers { (1 ≤ workers) × (workers ≤ 64) }
 {
-    let Ok(mut runner) = echo::runner(rt.alloc(), word, &[5], workers) else {
-        return Err(no_memory());
-    };
-    runner.go(rt, host, &OpenGate);
-    print!(rt; "by {workers}, instant 1:")?;
-    print_output(rt, &runner, word, 1)?;
-    print_next(rt, host, word, &mut runner, 6, 1)?;
-    print_next(rt, host, word, &mut runner, 7, 2)
+    match echo::runner(rt.alloc(), word, &ITEMS, workers) {
+        Ok(mut runner) => print_whole(rt, host, word, &mut runner, workers),
+        Err(_) => Err(no_memory()),
+    }
+}
+
+// A row of a run that begins with the first instant.
+fn show_instants<R: Print + AllocGlobal + Threads + Sync, F: Fn(u32, i64, i64) -> i64 + Sync>(
+    rt: &R,
+    host: &Host<F>,
+    word: &Word,
+    workers: u32,
+) -> io::Result<()>
+    requires serves { Serves F.pre F.post host.now }
+    requires none { lent host.now ≡ [] }
+    requires workers { (1 ≤ workers) × (workers ≤ 64) }
+{
+    match echo::runner(rt.alloc(), word, &[5], workers) {
+        Ok(mut runner) => print_instants(rt, host, word, &mut runner, workers),
+        Err(_) => Err(no_memory()),
+    }
+}
+
+// The rows, on this word.
+fn show_all<R: Print + AllocGlobal + Threads + Sync, F: Fn(u32, i64, i64) -> i64 + Sync>(
+    rt: &R,
+    host: &Host<F>,
+    word: &Word,
+) -> io::Result<()>
+    requires serves { Serves F.pre F.post host.now }
+    requires none { lent host.now ≡ [] }
+{
+    show_rounds(rt, host, word)?;
+    for workers in [1, 2, 3, 64] {
+        show_whole(rt, host, word, workers)?;
+    }
+    show_instants(rt, host, word, 1)?;
+    show_instants(rt, host, word, 2)
 }
 
 /// Prints them.
-pub(crate) fn print_echoed<R: Print + AllocGlobal + Threads + Sync>(rt: &R) -> io::Result<()> {
-    let alloc = rt.alloc();
-    let Ok(word) = Word::read(alloc, b"(1)") else {
+pub(crate) fn show<R: Print + AllocGlobal + Threads + Sync>(rt: &R) -> io::Result<()> {
+    println!(rt; "= net by hand")?;
+    let Ok(word) = Word::read(rt.alloc(), b"(1)") else {
         return Err(no_memory());
     };
-    let host = Host::new(Ops::new(alloc), |_: u32, a: i64, _: i64| a);
-    println!(rt; "= net by hand")?;
-    print_rounds(rt, &host, &word)?;
-    for workers in [1, 2, 3, 64] {
-        print_run(rt, &host, &word, workers)?;
-    }
-    print_blocks(rt, &host, &word, 1)?;
-    print_blocks(rt, &host, &word, 2)
+    let host = Host::new(Ops::new(rt.alloc()), |_: u32, a: i64, _: i64| a);
+    show_all(rt, &host, &word)
 }

@@ -5,20 +5,18 @@ ghost use Rattle.lucy_host.specs.Host.{Serves, lent};
 ghost use Rattle.lucy_host.specs.Operators.{kinds_of};
 
 use crate::by_hand::{ByHand, Moves};
-use crate::programs::SUM;
 use crate::ready::{Ready, ready_text};
-use crate::rounds::MOST;
-use crate::show::{counted, no_memory, print_list};
+use crate::row::Row;
+use crate::show::{no_memory, print_list};
 use lucy_core::Core;
 use lucy_host::Host;
 use std::alloc::Global;
 use std::io;
 
-// What comes in, one item an instant.
-const ITEMS: [i64; 3] = [1, 2, 3];
+// More rounds than any row has, and more events in one.
+const MOST_ROUNDS: u32 = 1 << 10;
 
-// Three instants have twelve events each, and each round of a run that isn't finished has at least one.
-const MOST_ROUNDS: u32 = 36;
+const MOST_EVENTS: u32 = 1 << 20;
 
 // Does each event of the core that is possible and that its actor did by hand, and answers whether there was one.
 fn follow_once<F: Fn(u32, i64, i64) -> i64 + Sync>(
@@ -56,7 +54,7 @@ fn follow<F: Fn(u32, i64, i64) -> i64 + Sync>(
     ensures net { core.new.net ≡ core.old.net }
     ensures operators { core.new.operators ≡ core.old.operators }
 {
-    'events: for _ in 0..MOST {
+    'events: for _ in 0..MOST_EVENTS {
         if !follow_once(core, host, hand, actors) {
             break;
         }
@@ -136,43 +134,13 @@ fn print_rounds<F: Fn(u32, i64, i64) -> i64 + Sync>(
     print_list(rt, "output 0", hand.output())
 }
 
-// By hand, an item that is given is there for the other worker at once, since one thread makes both turns: `x` gives 1, the sum takes it
-// and waits, `x` gives 2; the delay gives 0 and waits, and `f` hands it on. Each turn behind these moves an item once round the loop.
-/// Prints the row of a running sum, whose rounds are made by hand.
-pub(crate) fn print_by_hand<F: Fn(u32, i64, i64) -> i64 + Sync>(
-    rt: &(impl Print + AllocGlobal),
-    host: &Host<F>,
-) -> io::Result<()>
-    requires { Serves F.pre F.post host.now }
-{
-    let alloc = rt.alloc();
-    let Ok(inputs) = counted(alloc, 3) else {
-        return Err(no_memory());
-    };
-    let Some(Ready { core, actors, .. }) = ready_text(
-        alloc,
-        SUM.as_bytes(),
-        host.ops(),
-        inputs,
-        1,
-        MOST,
-    ) else {
-        return Err(no_memory());
-    };
-    let Some((mut core, mut hand)) = taken_apart(alloc, core) else {
-        return Err(no_memory());
-    };
-    println!(rt; "= sum by two workers, in rounds by hand")?;
-    print_rounds(rt, host, &mut core, &mut hand, actors)
-}
-
-// A core of what this one was made of, and two workers of its net.
-fn taken_apart(alloc: Global, core: Core) -> Option<(Core, ByHand)>
+// A core of what this one was made of, and two workers of its net. The input has these items.
+fn taken_apart(alloc: Global, core: Core, items: &[i64]) -> Option<(Core, ByHand)>
     ensures net { IfSome result (λ r. r.0.net ≡ core.net) }
     ensures operators { IfSome result (λ r. r.0.operators ≡ core.operators) }
 {
     let parts = core.into_parts();
-    let hand = match ByHand::new(alloc, &parts.net, &ITEMS, parts.instants) {
+    let hand = match ByHand::new(alloc, &parts.net, items, parts.instants) {
         Ok(hand) => hand,
         Err(_) => return None,
     };
@@ -186,5 +154,26 @@ fn taken_apart(alloc: Global, core: Core) -> Option<(Core, ByHand)>
     ) {
         Ok(core) => Some((core, hand)),
         Err(_) => None,
+    }
+}
+
+/// Makes the rounds of the program of a row by hand, and prints them.
+pub(crate) fn show<F: Fn(u32, i64, i64) -> i64 + Sync>(
+    rt: &(impl Print + AllocGlobal),
+    host: &Host<F>,
+    row: &Row<'_>,
+) -> io::Result<()>
+    requires { Serves F.pre F.post host.now }
+{
+    let alloc = rt.alloc();
+    let (Some(items), Some(Ready { core, actors, .. })) = (
+        &row.items,
+        ready_text(alloc, &row.text, host.ops(), &row.items),
+    ) else {
+        return println!(rt; "failed");
+    };
+    match taken_apart(alloc, core, items) {
+        Some((mut core, mut hand)) => print_rounds(rt, host, &mut core, &mut hand, actors),
+        None => Err(no_memory()),
     }
 }

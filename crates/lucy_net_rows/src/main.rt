@@ -1,8 +1,10 @@
-//! The worked rows of nets: programs are accepted, and what the public calls of the schedule, the plain interpreter and the core
-//! answer of them is printed.
+//! Rows of nets: programs are accepted, and what the public calls of the schedule, the plain interpreter, cores and runners answer of
+//! them is printed.
 //!
-//! The words name parts of the rows; what each part must print is worked out by hand, in the comments above the rows. After the
-//! word `time` the events of a core are timed, as `timing.rt` says; `bench/core` does so.
+//! The words name lists in `data/`. A line `= NAME` of a list is printed, and any other is a row, as `row.rt` says; an empty line, and
+//! one that begins with `#`, says nothing. `stdout` has what the rows print, by the language's papers or worked out by hand beside
+//! them. The word `echo` stands for the rows of `echoed.rt`. Behind the word `time` each word is a row, and its events are timed;
+//! `bench/` does so.
 #![tactic(auto)]
 
 ghost use Rattle.lucy_host.specs.Host.{Serves};
@@ -17,22 +19,24 @@ mod floor;
 mod handed;
 mod interpreted;
 mod moves;
+mod outputs;
 mod pair;
 mod parity;
-mod picking;
-mod programs;
 mod ready;
 mod rounds;
+mod row;
 mod schedules;
 mod show;
-mod timing;
 
+use cores::Way;
 use lucy_host::{Host, HostKind, Ops, OutOfMemory};
-use lucy_text::RealSource;
+use row::Row;
 use std::alloc::Global;
+use std::env::{self, Env};
+use std::fs::{self, Files};
+use std::io;
 use std::thread::Threads;
 use std::time::Clock;
-use std::{env, io};
 
 // The operators of the rows' host: `max` alone.
 fn operators(alloc: Global) -> Result<Ops, OutOfMemory> {
@@ -43,46 +47,67 @@ fn operators(alloc: Global) -> Result<Ops, OutOfMemory> {
     }
 }
 
-// Prints the rows of a part.
-fn print_part<R: Print + Clock + AllocGlobal + Threads + Sync, F: Fn(u32, i64, i64) -> i64 + Sync>(
+// Prints what a row answers, or times it.
+fn show_row<R: Print + Clock + AllocGlobal + Threads + Sync, F: Fn(u32, i64, i64) -> i64 + Sync>(
     rt: &R,
     host: &Host<F>,
-    part: &str,
+    row: &Row<'_>,
 ) -> io::Result<()>
     requires { Serves F.pre F.post host.now }
 {
-    match part {
-        "schedules" => schedules::print_schedules(rt, host.ops()),
-        "iterates" => interpreted::print_interpreted(rt, host),
-        "cores" => cores::print_cores(rt, host),
-        "workers" => {
-            rounds::print_workers(rt, host)?;
-            handed::print_by_hand(rt, host)?;
-            floor::print_floor(rt, host.ops())
-        }
-        "echo" => echoed::print_echoed(rt),
-        "limits" => {
-            schedules::print_limits(rt, host.ops())?;
-            interpreted::print_limits(rt, host)?;
-            cores::print_longest(rt, host)
-        }
-        _ => println!(rt; "no part {part}"),
+    match row.kind {
+        "schedule" => schedules::show(rt, host.ops(), &row.text),
+        "iterates" => interpreted::show(rt, host, row),
+        "workers" => rounds::show(rt, host, row),
+        "hand" => handed::show(rt, host, row),
+        "rings" => floor::show(rt, host.ops(), row),
+        kind => match Way::read(kind, &row.numbers) {
+            Some(way) => cores::show(rt, host, way, row),
+            None => println!(rt; "no row"),
+        },
     }
 }
 
+// Prints the rows of a list.
+fn show_list<
+    R: Print + Clock + AllocGlobal + Files + Threads + Sync,
+    F: Fn(u32, i64, i64) -> i64 + Sync,
+>(rt: &R, host: &Host<F>, list: &str) -> io::Result<()>
+    requires { Serves F.pre F.post host.now }
+{
+    for line in fs::read_to_string(rt, list)?.lines() {
+        if line.starts_with('=') {
+            println!(rt; "{line}")?;
+        } else if !line.is_empty() && !line.starts_with('#') {
+            show_row(rt, host, &Row::read(rt, line, false)?)?;
+        }
+    }
+    Ok(())
+}
+
+// Prints the rows that the words name, or times them.
+fn show_all<
+    R: Print + Clock + AllocGlobal + Env + Files + Threads + Sync,
+    F: Fn(u32, i64, i64) -> i64 + Sync,
+>(rt: &R, host: &Host<F>) -> io::Result<()>
+    requires { Serves F.pre F.post host.now }
+{
+    let mut timed = false;
+    for word in env::args(rt)?.skip(1) {
+        match word.as_str() {
+            "time" => timed = true,
+            row if timed => show_row(rt, host, &Row::read(rt, row, true)?)?,
+            "echo" => echoed::show(rt)?,
+            list => show_list(rt, host, list)?,
+        }
+    }
+    Ok(())
+}
+
 fn main(rt: HostRuntime) -> io::Result<()> {
-    let Ok(ops) = operators(rt.alloc()) else {
-        return Err(show::no_memory());
-    };
-    let Ok(kinds) = ops.copy(rt.alloc()) else {
+    let (Ok(ops), Ok(kinds)) = (operators(rt.alloc()), operators(rt.alloc())) else {
         return Err(show::no_memory());
     };
     let host = Host::new(ops, |op: u32, a: i64, b: i64| kinds.value(op, a, b));
-    if let Some(job) = timing::asked(&rt)? {
-        return timing::print_time(&rt, &host, job, &mut RealSource::new(rt.stdin()));
-    }
-    for part in env::args(&rt)?.skip(1) {
-        print_part(&rt, &host, part.as_str())?;
-    }
-    Ok(())
+    show_all(&rt, &host)
 }

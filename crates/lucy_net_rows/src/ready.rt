@@ -8,6 +8,7 @@ ghost use Rattle.lucy_net.specs.Schedules.{IsSound};
 ghost use Rattle.lucy_cause.specs.Schedules.{events_at};
 ghost use Rattle.lucy_core.specs.Seen.{first_seen};
 ghost use Rattle.lucy_flat.specs.Flat.{IsFlat};
+ghost use Rattle.lucy_flat.specs.Clocked.{AreClocked};
 ghost use Rattle.lucy_results.specs.Streams.{param_words};
 ghost use Rattle.lucy_front.specs.declared.options.Options.{Options as Clocking};
 ghost use Rattle.lucy_front.specs.Accepting.{IsAccepted};
@@ -21,6 +22,7 @@ use lucy_host::{Inputs, Ops, OutOfMemory};
 use lucy_net::Net;
 use lucy_place::Placed;
 use lucy_results::{horizon, lengths, nets_can_be_run, param_words};
+use lucy_word::Limit;
 use std::alloc::Global;
 
 /// A program with the clocks of its nodes, and a core of its flat net, which has so many actors.
@@ -86,19 +88,42 @@ fn core_of(
     }
 }
 
-// The program, ready to be run for as many instants as the items of these inputs allow, and no more than the most. None, where
-// there isn't an input for each parameter of main, or memory ran out.
+// For how many instants inputs, so many lists, suffice, and no more than the most. None, where there isn't one for each parameter of
+// main, or memory ran out.
+fn instants_of(
+    alloc: Global,
+    placed: &Placed,
+    clocks: &[NodeClock],
+    inputs: &Inputs,
+    count: usize,
+    most: u64,
+) -> Option<u64>
+    requires clocked { AreClocked placed.now.nodes clocks.now }
+    requires count { length inputs.now ≡ count }
+    ensures suffice { IfSome result (λ n. Suffice (param_words placed.now.nodes clocks.now) inputs.now n) }
+    ensures most { IfSome result (λ n. n ≤ most) }
+{
+    let words = param_words(placed, clocks);
+    if words.len() != count {
+        return None;
+    }
+    match lengths(alloc, inputs, count) {
+        Ok(counts) => Some(horizon(words, &counts, most)),
+        Err(_) => None,
+    }
+}
+
+// The program, ready to be run for so many instants.
 fn make_ready(
     alloc: Global,
     accepted: Accepted,
     ops: &Ops,
     inputs: Inputs,
-    count: usize,
-    most: u64,
+    instants: u64,
 ) -> Option<Ready>
     requires accepted { (text : List ℕ) × (o : Clocking) × IsAccepted ops.now o text accepted }
-    requires count { length inputs ≡ count }
-    requires most { most ≤ limit_number lim.Instants }
+    requires suffice { Suffice (param_words accepted.placed.nodes accepted.clocks.items) inputs instants }
+    requires early { instants ≤ limit_number lim.Instants }
     ensures { IfSome result (λ r. IsReady ops.now r.placed.nodes r.clocks.items r.core r.actors) }
 {
     let Accepted {
@@ -110,14 +135,6 @@ fn make_ready(
     } = accepted;
     accepted_programs_are_clocked();
     let actors = count_actors(&net);
-    let words = param_words(&placed, &clocks);
-    if words.len() != count {
-        return None;
-    }
-    let Ok(counts) = lengths(alloc, &inputs, words.len()) else {
-        return None;
-    };
-    let instants = horizon(words, &counts, most);
     match core_of(
         alloc, &placed, &clocks, net, schedule, ops, inputs, instants,
     ) {
@@ -131,9 +148,9 @@ fn make_ready(
     }
 }
 
-/// The program of a text with a core that runs for as many instants as the items of these inputs, so many lists, allow, and no
-/// more than the most. None, where it is refused, there isn't an input for each parameter of main, or memory ran out.
-pub(crate) fn ready_text(
+// The program of a text with a core that runs for as many instants as the items of these inputs, so many lists, allow, and no more
+// than the most. None, where it is refused, there isn't an input for each parameter of main, or memory ran out.
+fn ready_with(
     alloc: Global,
     text: &[u8],
     ops: &Ops,
@@ -145,8 +162,38 @@ pub(crate) fn ready_text(
     requires most { most ≤ limit_number lim.Instants }
     ensures { IfSome result (λ r. IsReady ops.now r.placed.nodes r.clocks.items r.core r.actors) }
 {
-    match accept(alloc, text, ops, &OPTIONS) {
-        Ok(accepted) => make_ready(alloc, accepted, ops, inputs, count, most),
-        Err(_) => None,
+    let Ok(accepted) = accept(alloc, text, ops, &OPTIONS) else {
+        return None;
+    };
+    accepted_programs_are_clocked();
+    match instants_of(
+        alloc,
+        &accepted.placed,
+        &accepted.clocks,
+        &inputs,
+        count,
+        most,
+    ) {
+        Some(instants) => make_ready(alloc, accepted, ops, inputs, instants),
+        None => None,
+    }
+}
+
+/// The program of a text with a core that runs for as many instants as the items of its one input allow, or, where it has none, for
+/// two instants. None, where it is refused, has other inputs, or memory ran out.
+pub(crate) fn ready_text(
+    alloc: Global,
+    text: &[u8],
+    ops: &Ops,
+    items: &Option<Vec<i64>>,
+) -> Option<Ready>
+    ensures { IfSome result (λ r. IsReady ops.now r.placed.nodes r.clocks.items r.core r.actors) }
+{
+    match items {
+        Some(items) => match one_input(alloc, items) {
+            Ok(inputs) => ready_with(alloc, text, ops, inputs, 1, Limit::Instants.number()),
+            Err(_) => None,
+        },
+        None => ready_with(alloc, text, ops, Inputs::new(alloc), 0, 2),
     }
 }

@@ -1,10 +1,7 @@
 // How rows are printed.
-ghost use Rattle.std.specs.Prelude.{◌≡◌, length, IfOk};
 ghost use Rattle.lucy_front.specs.Refusals.{IsTellable};
 
-use crate::ready::one_input;
 use lucy_front::{Refusal, refusal_text};
-use lucy_host::{Inputs, OutOfMemory};
 use std::alloc::Global;
 use std::io::{self, ErrorKind};
 use std::str;
@@ -17,15 +14,13 @@ pub(crate) fn no_memory() -> io::Error {
     ErrorKind::OutOfMemory.into()
 }
 
-/// One input, of the numbers from 1 on, so many.
-pub(crate) fn counted(alloc: Global, count: i64) -> Result<Inputs, OutOfMemory>
-    ensures { IfOk result (λ inputs. length inputs ≡ 1) }
-{
-    let mut list = Vec::new(alloc);
-    for before in 0..count {
-        list.push(before + 1)?;
+/// The sum of items, which wraps.
+pub(crate) fn sum_of(items: &[i64]) -> i64 {
+    let mut sum = 0i64;
+    for item in items {
+        sum = sum.wrapping_add(*item);
     }
-    one_input(alloc, &list)
+    sum
 }
 
 /// Prints numbers behind a label; of many their count and the last one.

@@ -1,7 +1,7 @@
 use Rattle.std.proofs.Common.{◌<◌, length, ap, arith}
 use Rattle.lucy_meaning.specs.Spots.{main_of, results_in}
 use Rattle.lucy_net_rows.proofs.ReadyLaws.{results_here, output_there}
-use Rattle.lucy_net_rows.proofs.picking.output_of.Goals as goal
+use Rattle.lucy_net_rows.proofs.outputs.output_of.Goals as goal
 
 pub output-requires : goal.output-requires
 output-requires c =

@@ -1,5 +1,5 @@
 use Rattle.std.proofs.Common.{◌≡◌}
-use Rattle.lucy_net_rows.proofs.picking.run_picked.Given as goal
+use Rattle.lucy_net_rows.proofs.cores.run_picked.Given as goal
 
 -- the net and the operators stay
 abbrev pub invariant-events : goal.invariant-events
