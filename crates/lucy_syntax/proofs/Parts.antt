@@ -2,7 +2,7 @@
 use Rattle.std.proofs.Common.{◌≡◌, ◌∷◌, List, Option, refl, inl, inr}
 use Rattle.std.specs.Prelude.{unwrap_or}
 use Rattle.lucy_host.specs.declared.op.Op.TheVariants as op
-use Rattle.lucy_tree.specs.Tree.{operator, no_more, more}
+use Rattle.lucy_tree.specs.Tree.{Tree, operator, no_more, more}
 use Rattle.lucy_token.specs.declared.mark.Mark.TheVariants as mark
 use Rattle.lucy_token.specs.declared.token.Kind.TheVariants as kind
 use Rattle.lucy_token.specs.declared.token.Token.{Token}
@@ -13,7 +13,7 @@ use Rattle.lucy_grammar.specs.Meanings.{token_name, two}
 use Rattle.lucy_grammar.specs.Reading.{follows, begins, Takes, BreaksAt, Reads, Unfit, Begins, IsBegun, IsOther, ReadsOptional, UnfitOptional}
 use Rattle.lucy_grammar.proofs.Steps.{end, tok, tok_no, tok_bad, sub, sub_no, sub_bad, maybe, maybe_no, maybe_bad, rule, rule_no, led_by, others}
 use Rattle.lucy_grammar.proofs.Productions as by
-use Rattle.lucy_syntax.specs.Refusals.{UnfitInner, behind_name, behind_first, behind_test, behind_base}
+use Rattle.lucy_syntax.specs.Refusals.{ReadsBehind, UnfitBehind, UnfitClosed, behind_name, behind_first, behind_test, behind_base}
 
 pub decl : {ts m1 rest : List Token} {n : Token} {h : Option (Val Part.Typing)} {w : Option (Val Part.ClockOf)} → Begins ts n kind.Name m1 → Takes Part.Decl behind_name m1 (h, (w, tt)) rest → Reads Part.Decl ts (record { name = token_name n; holds = h; word = w }) rest
 unfolding rules follows begins
@@ -87,6 +87,25 @@ pub behind_test_4 : {ts m1 m2 m3 rest : List Token} {t e : Token} {a : Val Part.
 unfolding rules follows begins
 behind_test_4 h1 h2 h3 u = tok_no h1 (sub_no refl h2 (tok_no h3 (sub_bad refl u)))
 
+-- the branches of a choice, each behind its keyword
+pub then_no : (ts rest : List Token) → UnfitBehind mark.Then ts rest → BreaksAt Part.Expr behind_test ts rest
+then_no ts rest (inl u) = behind_test_1 u
+then_no ts rest (inr u) = behind_test_2 u.2 u.3
+
+pub else_no : (ts m rest : List Token) {a : Tree} → ReadsBehind mark.Then ts a m → UnfitBehind mark.Else m rest → BreaksAt Part.Expr behind_test ts rest
+else_no ts m rest r (inl u) = behind_test_3 r.2 r.3 u
+else_no ts m rest r (inr u) = behind_test_4 r.2 r.3 u.2 u.3
+
+-- a pair, the first one behind `(` and the second one between `,` and `)`
+pub pair_first_no : (ts rest : List Token) → UnfitBehind mark.Open ts rest → Unfit Part.Pair ts rest
+pair_first_no ts rest (inl u) = by.pair_1 u
+pair_first_no ts rest (inr u) = by.pair_2 u.2 u.3
+
+pub pair_second_no : (ts m rest : List Token) {a : Tree} → ReadsBehind mark.Open ts a m → UnfitClosed mark.Comma m rest → Unfit Part.Pair ts rest
+pair_second_no ts m rest r (inl u) = by.pair_3 r.2 r.3 u
+pair_second_no ts m rest r (inr (inl u)) = by.pair_4 r.2 r.3 u.2 u.3
+pair_second_no ts m rest r (inr (inr u)) = by.pair_5 r.2 r.3 u.4 u.5 u.6
+
 pub applied : {ts m1 rest : List Token} {o s : Token} (at : Option (Val Part.Base)) {args : Option (Val Part.Args)} → ReadsOptional Part.Base ts at m1 → Takes Part.Applied behind_base m1 (o, (args, (s, tt))) rest → Reads Part.Applied ts (at, unwrap_or args no_more) rest
 unfolding rules follows begins
 applied {ts = ts} at h1 r = rule 0 refl (others ts 0 refl tt) (maybe at refl h1 r)
@@ -112,17 +131,17 @@ unfolding rules follows begins
 behind_base_3 args h1 h2 u = tok_no h1 (maybe_no args refl h2 (tok_bad refl u))
 
 -- an expression in parentheses that is refused, where it is all of the part
-pub atom_inner_no : (ts rest : List Token) → (first ts ≡ kind.Name → ⊥) → (first ts ≡ kind.Mark mark.Host → ⊥) → UnfitInner ts rest → Unfit Part.Atom ts rest
+pub atom_inner_no : (ts rest : List Token) → (first ts ≡ kind.Name → ⊥) → (first ts ≡ kind.Mark mark.Host → ⊥) → UnfitClosed mark.Open ts rest → Unfit Part.Atom ts rest
 atom_inner_no ts rest n h (inl u) = by.parens_1 (n, (h, tt)) u
 atom_inner_no ts rest n h (inr (inl u)) = by.parens_2 u.2 u.3
 atom_inner_no ts rest n h (inr (inr u)) = by.parens_3 u.4 u.5 u.6
 
-pub small_inner_no : (ts rest : List Token) → (IsBegun Part.Lit ts → ⊥) → (first ts ≡ kind.Name → ⊥) → UnfitInner ts rest → Unfit Part.Small ts rest
+pub small_inner_no : (ts rest : List Token) → (IsBegun Part.Lit ts → ⊥) → (first ts ≡ kind.Name → ⊥) → UnfitClosed mark.Open ts rest → Unfit Part.Small ts rest
 small_inner_no ts rest l n (inl u) = by.small_parens_1 (l, n) u
 small_inner_no ts rest l n (inr (inl u)) = by.small_parens_2 u.2 u.3
 small_inner_no ts rest l n (inr (inr u)) = by.small_parens_3 u.4 u.5 u.6
 
-pub held_inner_no : (ts rest : List Token) → first ts ≡ kind.Mark mark.Open → UnfitInner ts rest → UnfitOptional Part.Held ts rest
+pub held_inner_no : (ts rest : List Token) → first ts ≡ kind.Mark mark.Open → UnfitClosed mark.Open ts rest → UnfitOptional Part.Held ts rest
 held_inner_no ts rest o (inl u) = absurd (u.1 o)
 held_inner_no ts rest o (inr (inl u)) = by.held_parens_2 u.2 u.3
 held_inner_no ts rest o (inr (inr u)) = by.held_parens_3 u.4 u.5 u.6

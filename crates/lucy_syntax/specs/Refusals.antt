@@ -9,6 +9,7 @@ use Rattle.lucy_grammar.specs.Symbols.{Part, Sym, part, perhaps}
 use Rattle.lucy_grammar.specs.Grammar.{sign}
 use Rattle.lucy_grammar.specs.Meanings.{literal_before, held_by}
 use Rattle.lucy_grammar.specs.Reading.{Begins, IsOther, Reads, Unfit, ReadsOptional}
+use Rattle.lucy_token.specs.declared.mark.Mark.{Mark}
 use Rattle.lucy_token.specs.declared.mark.Mark.TheVariants as mark
 use Rattle.lucy_token.specs.declared.token.Kind.{Kind}
 use Rattle.lucy_token.specs.declared.token.Kind.TheVariants as kind
@@ -51,15 +52,23 @@ IsHeldBy n lit span ts b rest = (v : Option (Option Span × Tree)) × ReadsOptio
 abbrev pub IsApplied : Name → List Token → Tree → List Token → Type 0
 IsApplied name ts e rest = (v : Option Bits × Trees) × Reads Part.Applied ts v rest × (e ≡ call name v.0 v.1)
 
--- an expression in parentheses is read
-abbrev pub ReadsInner : List Token → Tree → List Token → Type 0
-ReadsInner ts e rest = (o : Token) × (s : Token) × (m : List Token) × (n : List Token) × Begins ts o (kind.Mark mark.Open) m × Reads Part.Expr m e n × Begins n s (kind.Mark mark.Close) rest
+-- an expression behind a sign is read
+abbrev pub ReadsBehind : Mark → List Token → Tree → List Token → Type 0
+ReadsBehind k ts e rest = (o : Token) × (m : List Token) × Begins ts o (kind.Mark k) m × Reads Part.Expr m e rest
 
--- it is refused, at its `(`, inside or at its `)`
-abbrev pub UnfitInner : List Token → List Token → Type 0
-UnfitInner ts rest =
-    IsOther ts (kind.Mark mark.Open) rest ⊎ (((o : Token) × (m : List Token) × Begins ts o (kind.Mark mark.Open) m × Unfit Part.Expr m rest)
-    ⊎ ((o : Token) × (m : List Token) × (e : Tree) × (n : List Token) × Begins ts o (kind.Mark mark.Open) m × Reads Part.Expr m e n × IsOther n (kind.Mark mark.Close) rest))
+-- it is refused, at the sign or behind it
+abbrev pub UnfitBehind : Mark → List Token → List Token → Type 0
+UnfitBehind k ts rest = IsOther ts (kind.Mark k) rest ⊎ ((o : Token) × (m : List Token) × Begins ts o (kind.Mark k) m × Unfit Part.Expr m rest)
+
+-- an expression between a sign and a `)` is read
+abbrev pub ReadsClosed : Mark → List Token → Tree → List Token → Type 0
+ReadsClosed k ts e rest = (o : Token) × (s : Token) × (m : List Token) × (n : List Token) × Begins ts o (kind.Mark k) m × Reads Part.Expr m e n × Begins n s (kind.Mark mark.Close) rest
+
+-- it is refused, at the sign, inside or at the `)`
+abbrev pub UnfitClosed : Mark → List Token → List Token → Type 0
+UnfitClosed k ts rest =
+    IsOther ts (kind.Mark k) rest ⊎ (((o : Token) × (m : List Token) × Begins ts o (kind.Mark k) m × Unfit Part.Expr m rest)
+    ⊎ ((o : Token) × (m : List Token) × (e : Tree) × (n : List Token) × Begins ts o (kind.Mark k) m × Reads Part.Expr m e n × IsOther n (kind.Mark mark.Close) rest))
 
 -- what stands in a declaration behind its name
 abbrev pub behind_name : List Sym

@@ -1,5 +1,5 @@
 // Reads expressions by descent: a function for each part of the grammar, and one for the operators of all levels.
-ghost use Rattle.std.specs.Prelude.{◌≡◌, ◌<◌, ◌≤◌, IfOk, IfErr, Option, length, unwrap_or};
+ghost use Rattle.std.specs.Prelude.{◌≡◌, ◌<◌, ◌≤◌, IfOk, IfErr, Ok, Option, length, unwrap_or};
 ghost use Rattle.lucy_token.specs.Tokens.{first};
 ghost use Rattle.lucy_token.specs.declared.mark.Mark.TheVariants as mark;
 ghost use Rattle.lucy_token.specs.declared.token.Kind.TheVariants as kind;
@@ -10,8 +10,9 @@ ghost use Rattle.lucy_grammar.specs.Symbols.{Part};
 ghost use Rattle.lucy_grammar.specs.Meanings.{two};
 ghost use Rattle.lucy_grammar.specs.Reading.{Takes, BreaksAt, Reads, Unfit, ReadsOptional, UnfitOptional, IsBegun};
 ghost use Rattle.lucy_syntax.specs.Levels.{ReadsAt, UnfitAt};
-ghost use Rattle.lucy_syntax.specs.Refusals.{RefusedBy, IsFollowed, IsHeldBy, IsApplied, IsSampled, ReadsInner, UnfitInner, behind_test, behind_base};
+ghost use Rattle.lucy_syntax.specs.Refusals.{RefusedBy, IsFollowed, IsHeldBy, IsApplied, IsSampled, ReadsBehind, UnfitBehind, ReadsClosed, UnfitClosed, behind_test, behind_base};
 ghost use Rattle.lucy_syntax.specs.Views.{all_trees};
+ghost use Rattle.lucy_syntax.specs.declared.refusal.Refusal.TheVariants as refusal;
 
 use crate::atoms::{at_applied, at_expr, at_literal, at_sampling, base, bound, lit, sampling};
 use crate::cursor::{at, name, take, want, word};
@@ -20,7 +21,7 @@ use crate::make::{self, Link, one_boxed, push_boxed};
 use crate::refusal::Refusal;
 use lucy_token::{Kind, Mark, Token};
 use lucy_tree::{Expr, Lit, Name, Span};
-use std::alloc::Global;
+use std::alloc::{AllocError, Global};
 
 /// An expression that a definition has, read as `whole` reads one within others. Rattle's own compiler sets a function into its only
 /// caller, and with `choice` in `whole` a deep text takes half as much stack again; so `choice` has two callers.
@@ -56,6 +57,50 @@ fn whole<'a, 't>(
     }
 }
 
+// An expression behind a sign.
+#[cycle(descent)]
+fn behind<'a, 't>(
+    alloc: Global,
+    ts: &'a [Token<'t>],
+    sign: Mark,
+) -> Result<(Box<Expr>, &'a [Token<'t>]), Refusal<'a, 't>>
+    ensures ok { IfOk result (λ p. ReadsBehind sign ts.now (tree_of p.0.value) p.1.now) }
+    ensures refused { IfErr result (RefusedBy (UnfitBehind sign ts.now)) }
+    ensures shorter { IfOk result (λ p. length p.1.now < length ts.now) }
+{
+    let (_, ts) = want(ts, sign)?;
+    whole(alloc, ts)
+}
+
+// An expression between a sign and a closing parenthesis.
+#[cycle(descent)]
+fn closed<'a, 't>(
+    alloc: Global,
+    ts: &'a [Token<'t>],
+    sign: Mark,
+) -> Result<(Box<Expr>, &'a [Token<'t>]), Refusal<'a, 't>>
+    ensures ok { IfOk result (λ p. ReadsClosed sign ts.now (tree_of p.0.value) p.1.now) }
+    ensures refused { IfErr result (RefusedBy (UnfitClosed sign ts.now)) }
+    ensures shorter { IfOk result (λ p. length p.1.now < length ts.now) }
+{
+    let (_, ts) = want(ts, sign)?;
+    let (inner, ts) = whole(alloc, ts)?;
+    let (_, ts) = want(ts, Mark::Close)?;
+    Ok((inner, ts))
+}
+
+// What was made of what was read, with what follows.
+fn made<'a, 't>(
+    expr: Result<Box<Expr>, AllocError>,
+    ts: &'a [Token<'t>],
+) -> Result<(Box<Expr>, &'a [Token<'t>]), Refusal<'a, 't>>
+    ensures ok { IfOk result (λ p. (expr ≡ Ok p.0) × (p.1.now ≡ ts.now)) }
+    ensures refused { IfErr result (λ e. e ≡ refusal.OutOfMemory) }
+    ensures shorter { IfOk result (λ p. length p.1.now ≤ length ts.now) }
+{
+    Ok((expr?, ts))
+}
+
 // `if` and what belongs to it.
 #[cycle(descent)]
 fn choice<'a, 't>(
@@ -70,7 +115,7 @@ fn choice<'a, 't>(
     let (span, ts) = want(ts, Mark::If)?;
     let (test, ts) = whole(alloc, ts)?;
     let ((then, other), ts) = branches(alloc, ts)?;
-    Ok((make::choice(alloc, test, then, other, span)?, ts))
+    made(make::choice(alloc, test, then, other, span), ts)
 }
 
 // What stands in a choice behind its test.
@@ -83,10 +128,8 @@ fn branches<'a, 't>(
     ensures refused { IfErr result (RefusedBy (BreaksAt Part.Expr behind_test ts.now)) }
     ensures shorter { IfOk result (λ p. length p.1.now < length ts.now) }
 {
-    let (_, ts) = want(ts, Mark::Then)?;
-    let (then, ts) = whole(alloc, ts)?;
-    let (_, ts) = want(ts, Mark::Else)?;
-    let (other, ts) = whole(alloc, ts)?;
+    let (then, ts) = behind(alloc, ts, Mark::Then)?;
+    let (other, ts) = behind(alloc, ts, Mark::Else)?;
     Ok(((then, other), ts))
 }
 
@@ -144,7 +187,7 @@ fn sampled<'a, 't>(
     ensures shorter { IfOk result (λ p. length p.1.now < length ts.now) }
 {
     let ((flip, word), ts) = sampling(alloc, ts)?;
-    Ok((make::sampled(alloc, flip, operand, word)?, ts))
+    made(make::sampled(alloc, flip, operand, word), ts)
 }
 
 // An operand with the words before it.
@@ -197,7 +240,7 @@ fn negation<'a, 't>(
 {
     let (span, ts) = want(ts, Mark::Not)?;
     let (operand, ts) = pre(alloc, ts)?;
-    Ok((make::negation(alloc, operand, span)?, ts))
+    made(make::negation(alloc, operand, span), ts)
 }
 
 #[cycle(descent)]
@@ -212,7 +255,7 @@ fn buffered<'a, 't>(
 {
     let (span, ts) = want(ts, Mark::Buffer)?;
     let ((most, operand), ts) = held(alloc, ts)?;
-    Ok((make::buffered(alloc, most, operand, span)?, ts))
+    made(make::buffered(alloc, most, operand, span), ts)
 }
 
 // What stands behind `buffer`: a bound and an expression in parentheses, or an operand.
@@ -251,7 +294,7 @@ fn behind_bound<'a, 't>(
     ensures shorter { IfOk result (λ p. length p.1.now ≤ length ts.now) }
 {
     if at(ts, Kind::Mark(Mark::Open)) {
-        let (operand, ts) = inner(alloc, ts)?;
+        let (operand, ts) = closed(alloc, ts, Mark::Open)?;
         return Ok(((Some(most), operand), ts));
     }
     let (operand, ts) = behind_literal(alloc, number, span, ts)?;
@@ -272,7 +315,7 @@ fn merged<'a, 't>(
     let (word, ts) = word(alloc, ts)?;
     let (first, ts) = small(alloc, ts)?;
     let (second, ts) = small(alloc, ts)?;
-    Ok((make::merged(alloc, word, first, second, span)?, ts))
+    made(make::merged(alloc, word, first, second, span), ts)
 }
 
 // A literal, alone or with `fby` behind it.
@@ -304,9 +347,9 @@ fn behind_literal<'a, 't>(
 {
     if let Some((fby, ts)) = take(ts, Mark::Fby) {
         let (operand, ts) = pre(alloc, ts)?;
-        return Ok((make::followed(alloc, lit, operand, fby)?, ts));
+        return made(make::followed(alloc, lit, operand, fby), ts);
     }
-    Ok((make::literal(alloc, lit, span)?, ts))
+    made(make::literal(alloc, lit, span), ts)
 }
 
 // A name, a call, an operator of the host, or an expression in parentheses.
@@ -325,23 +368,7 @@ fn atom<'a, 't>(
     if at(ts, Kind::Mark(Mark::Host)) {
         return hosted(alloc, ts);
     }
-    inner(alloc, ts)
-}
-
-// An expression in parentheses.
-#[cycle(descent)]
-fn inner<'a, 't>(
-    alloc: Global,
-    ts: &'a [Token<'t>],
-) -> Result<(Box<Expr>, &'a [Token<'t>]), Refusal<'a, 't>>
-    ensures ok { IfOk result (λ p. ReadsInner ts.now (tree_of p.0.value) p.1.now) }
-    ensures refused { IfErr result (RefusedBy (UnfitInner ts.now)) }
-    ensures shorter { IfOk result (λ p. length p.1.now < length ts.now) }
-{
-    let (_, ts) = want(ts, Mark::Open)?;
-    let (inner, ts) = whole(alloc, ts)?;
-    let (_, ts) = want(ts, Mark::Close)?;
-    Ok((inner, ts))
+    closed(alloc, ts, Mark::Open)
 }
 
 // A name, alone or with a call's arguments behind it.
@@ -359,7 +386,7 @@ fn named<'a, 't>(
     if at_applied(ts) {
         return applied(alloc, name, ts);
     }
-    Ok((make::variable(alloc, name)?, ts))
+    made(make::variable(alloc, name), ts)
 }
 
 #[cycle(descent)]
@@ -375,7 +402,7 @@ fn hosted<'a, 't>(
     let (_, ts) = want(ts, Mark::Host)?;
     let (name, ts) = name(alloc, ts)?;
     let ((first, second), ts) = pair(alloc, ts)?;
-    Ok((make::hosted(alloc, name, first, second)?, ts))
+    made(make::hosted(alloc, name, first, second), ts)
 }
 
 // Two expressions in parentheses.
@@ -388,11 +415,8 @@ fn pair<'a, 't>(
     ensures refused { IfErr result (RefusedBy (Unfit Part.Pair ts.now)) }
     ensures shorter { IfOk result (λ p. length p.1.now < length ts.now) }
 {
-    let (_, ts) = want(ts, Mark::Open)?;
-    let (first, ts) = whole(alloc, ts)?;
-    let (_, ts) = want(ts, Mark::Comma)?;
-    let (second, ts) = whole(alloc, ts)?;
-    let (_, ts) = want(ts, Mark::Close)?;
+    let (first, ts) = behind(alloc, ts, Mark::Open)?;
+    let (second, ts) = closed(alloc, ts, Mark::Comma)?;
     Ok(((first, second), ts))
 }
 
@@ -408,13 +432,13 @@ fn small<'a, 't>(
 {
     if at_literal(ts) {
         let ((lit, span), ts) = lit(ts)?;
-        return Ok((make::literal(alloc, lit, span)?, ts));
+        return made(make::literal(alloc, lit, span), ts);
     }
     if at(ts, Kind::Name) {
         let (name, ts) = name(alloc, ts)?;
-        return Ok((make::variable(alloc, name)?, ts));
+        return made(make::variable(alloc, name), ts);
     }
-    inner(alloc, ts)
+    closed(alloc, ts, Mark::Open)
 }
 
 /// A call.
@@ -443,7 +467,7 @@ fn applied<'a, 't>(
 {
     let (base, ts) = base(alloc, ts)?;
     let (args, ts) = enclosed(alloc, ts)?;
-    Ok((make::called(alloc, name, base, args)?, ts))
+    made(make::called(alloc, name, base, args), ts)
 }
 
 // The arguments of a call, in parentheses.

@@ -1,6 +1,6 @@
 use Rattle.std.proofs.Common.{ℕ, Some, None, refl, ap, sym, arith, ◌∙◌, inl, inr}
 use Rattle.std.specs.Prelude.{unwrap_or}
-use Rattle.std.proofs.lemmas.Result.{IfOk-weaker}
+use Rattle.std.proofs.lemmas.Result.{IfOk-weaker, IfOk-at_ok}
 use Rattle.lucy_word.specs.Bits.{Bits}
 use Rattle.lucy_host.specs.declared.op.Op.TheVariants as op
 use Rattle.lucy_tree.specs.declared.span.Name as name
@@ -16,9 +16,9 @@ use Rattle.lucy_grammar.proofs.Growing.{grown_first, grown_more, grown_bad, grow
 use Rattle.lucy_grammar.proofs.LeafProductions.{begun, unbegun, one_expr}
 use Rattle.lucy_grammar.proofs.Productions as by
 use Rattle.lucy_syntax.specs.Levels.{UnfitAt}
-use Rattle.lucy_syntax.specs.Refusals.{UnfitInner, behind_test, behind_base}
+use Rattle.lucy_syntax.specs.Refusals.{UnfitBehind, UnfitClosed, behind_test, behind_base}
 use Rattle.lucy_syntax.specs.Views.{all_trees}
-use Rattle.lucy_syntax.proofs.Leaving.{leaves, hands_on}
+use Rattle.lucy_syntax.proofs.Leaving.{leaves, hands_on, runs_out, reads_on, optional_on}
 use Rattle.lucy_syntax.proofs.Parts as parts
 use Rattle.lucy_syntax.proofs.Facts.{fails, is_first, pair_of, put_trees}
 use Rattle.lucy_syntax.proofs.Climbing.{from_samp, climb_first, climb_up, climb_more, climb_bad, climb_end}
@@ -39,26 +39,24 @@ choice-returns-in_err-then-clause-refused t c =
     leaves (BreaksAt Part.Expr behind_test c.in_ok-test.ts.now) _ c.from_residual-in_err-then.result c.from_residual-in_err-then.ensures.1 c.in_err-then.ensures.refused (λ rest u. parts.choice_no c.in_ok-span.ensures.ok.1 c.in_ok-test.ensures.ok u)
 
 pub choice-returns-clause-ok : goal.choice-returns-clause-ok
-choice-returns-clause-ok t c = as_value (c.in_ok-choice.ensures ∙ ap (operator op.If (more (tree_of c.in_ok-test.test.value) (two (tree_of c.in_ok-then.then.value) (tree_of c.in_ok-then.other.value)))) c.in_ok-span.ensures.ok.2) (parts.choice c.in_ok-span.ensures.ok.1 c.in_ok-test.ensures.ok c.in_ok-then.ensures.ok.2)
+choice-returns-clause-ok t c = IfOk-weaker c.made.result _ _ (λ p h. reads_on (IfOk-at_ok _ h.0 c.choice.ensures ∙ ap (operator op.If (more (tree_of c.in_ok-test.test.value) (two (tree_of c.in_ok-then.then.value) (tree_of c.in_ok-then.other.value)))) c.in_ok-span.ensures.ok.2) h.1 (parts.choice c.in_ok-span.ensures.ok.1 c.in_ok-test.ensures.ok c.in_ok-then.ensures.ok.2)) c.made.ensures.ok
 
-pub branches-returns-in_err-ts-clause-refused : goal.branches-returns-in_err-ts-clause-refused
-branches-returns-in_err-ts-clause-refused t c =
-    leaves (IsOther c.args.ts.now (kind.Mark mark.Then)) _ c.from_residual.result c.from_residual.ensures.1 c.in_err-ts.ensures.refused (λ rest u. parts.behind_test_1 u)
+pub choice-returns-clause-refused : goal.choice-returns-clause-refused
+choice-returns-clause-refused t c = runs_out _ c.made.result c.made.ensures.refused
 
 pub branches-returns-in_err-then-clause-refused : goal.branches-returns-in_err-then-clause-refused
 branches-returns-in_err-then-clause-refused t c =
-    leaves (Unfit Part.Expr c.in_ok-ts.ts.now) _ c.from_residual-in_err-then.result c.from_residual-in_err-then.ensures.1 c.in_err-then.ensures.refused (λ rest u. parts.behind_test_2 c.in_ok-ts.ensures.ok.1 u)
-
-pub branches-returns-in_err-ts-2-clause-refused : goal.branches-returns-in_err-ts-2-clause-refused
-branches-returns-in_err-ts-2-clause-refused t c =
-    leaves (IsOther c.in_ok-then.ts.now (kind.Mark mark.Else)) _ c.from_residual-in_err-ts-2.result c.from_residual-in_err-ts-2.ensures.1 c.in_err-ts-2.ensures.refused (λ rest u. parts.behind_test_3 c.in_ok-ts.ensures.ok.1 c.in_ok-then.ensures.ok u)
+    leaves (UnfitBehind mark.Then c.args.ts.now) _ c.from_residual.result c.from_residual.ensures.1 c.in_err-then.ensures.refused (λ rest u. parts.then_no c.args.ts.now rest u)
 
 pub branches-returns-in_err-other-clause-refused : goal.branches-returns-in_err-other-clause-refused
 branches-returns-in_err-other-clause-refused t c =
-    leaves (Unfit Part.Expr c.in_ok-ts-2.ts.now) _ c.from_residual-in_err-other.result c.from_residual-in_err-other.ensures.1 c.in_err-other.ensures.refused (λ rest u. parts.behind_test_4 c.in_ok-ts.ensures.ok.1 c.in_ok-then.ensures.ok c.in_ok-ts-2.ensures.ok.1 u)
+    leaves (UnfitBehind mark.Else c.in_ok-then.ts.now) _ c.from_residual-in_err-other.result c.from_residual-in_err-other.ensures.1 c.in_err-other.ensures.refused (λ rest u. parts.else_no c.args.ts.now c.in_ok-then.ts.now rest c.in_ok-then.ensures.ok u)
 
 pub branches-returns-clause-ok : goal.branches-returns-clause-ok
-branches-returns-clause-ok t c = (c.in_ok-ts.ensures.ok.0, c.in_ok-ts-2.ensures.ok.0, parts.behind_test_is c.in_ok-ts.ensures.ok.1 c.in_ok-then.ensures.ok c.in_ok-ts-2.ensures.ok.1 c.in_ok-other.ensures.ok)
+branches-returns-clause-ok t c =
+    let a = c.in_ok-then.ensures.ok in
+    let b = c.in_ok-other.ensures.ok in
+    (a.0, b.0, parts.behind_test_is a.2 a.3 b.2 b.3)
 
 pub operation-returns-in_err-left-clause-refused : goal.operation-returns-in_err-left-clause-refused
 operation-returns-in_err-left-clause-refused t c =
@@ -114,14 +112,20 @@ negation-returns-in_err-operand-clause-refused t c =
     leaves (Unfit Part.Pre c.in_ok-span.ts.now) _ c.from_residual-in_err-operand.result c.from_residual-in_err-operand.ensures.1 c.in_err-operand.ensures.refused (λ rest u. by.negation_2 c.in_ok-span.ensures.ok.1 u)
 
 pub negation-returns-clause-ok : goal.negation-returns-clause-ok
-negation-returns-clause-ok t c = as_value (c.in_ok-negation.ensures ∙ ap (operator op.Not (more (tree_of c.in_ok-operand.operand.value) no_more)) c.in_ok-span.ensures.ok.2) (by.negation c.in_ok-span.ensures.ok.1 c.in_ok-operand.ensures.ok)
+negation-returns-clause-ok t c = IfOk-weaker c.made.result _ _ (λ p h. reads_on (IfOk-at_ok _ h.0 c.negation.ensures ∙ ap (operator op.Not (more (tree_of c.in_ok-operand.operand.value) no_more)) c.in_ok-span.ensures.ok.2) h.1 (by.negation c.in_ok-span.ensures.ok.1 c.in_ok-operand.ensures.ok)) c.made.ensures.ok
+
+pub negation-returns-clause-refused : goal.negation-returns-clause-refused
+negation-returns-clause-refused t c = runs_out _ c.made.result c.made.ensures.refused
 
 pub buffered-returns-in_err-most-clause-refused : goal.buffered-returns-in_err-most-clause-refused
 buffered-returns-in_err-most-clause-refused t c =
     leaves (Unfit Part.Buffered c.in_ok-span.ts.now) _ c.from_residual-in_err-most.result c.from_residual-in_err-most.ensures.1 c.in_err-most.ensures.refused (λ rest u. by.buffer_2 c.in_ok-span.ensures.ok.1 u)
 
 pub buffered-returns-clause-ok : goal.buffered-returns-clause-ok
-buffered-returns-clause-ok t c = as_value (c.in_ok-buffered.ensures ∙ ap (buffered c.in_ok-most.most (tree_of c.in_ok-most.operand.value)) c.in_ok-span.ensures.ok.2) (by.buffer c.in_ok-span.ensures.ok.1 c.in_ok-most.ensures.ok)
+buffered-returns-clause-ok t c = IfOk-weaker c.made.result _ _ (λ p h. reads_on (IfOk-at_ok _ h.0 c.buffered.ensures ∙ ap (buffered c.in_ok-most.most (tree_of c.in_ok-most.operand.value)) c.in_ok-span.ensures.ok.2) h.1 (by.buffer c.in_ok-span.ensures.ok.1 c.in_ok-most.ensures.ok)) c.made.ensures.ok
+
+pub buffered-returns-clause-refused : goal.buffered-returns-clause-refused
+buffered-returns-clause-refused t c = runs_out _ c.made.result c.made.ensures.refused
 
 pub held-returns-in-Some-clause-ok : goal.held-returns-in-Some-clause-ok
 held-returns-in-Some-clause-ok t c =
@@ -155,7 +159,7 @@ held-returns-clause-ok t c = by.held_form (fails c.at_literal.ensures.1 c.if-at_
 
 pub behind_bound-returns-in_err-operand-clause-refused : goal.behind_bound-returns-in_err-operand-clause-refused
 behind_bound-returns-in_err-operand-clause-refused t c =
-    leaves (UnfitInner c.args.ts.now) _ c.from_residual.result c.from_residual.ensures.1 c.in_err-operand.ensures.refused (λ rest u. parts.held_inner_no c.args.ts.now rest (c.at.ensures.0 c.if-at.true) u)
+    leaves (UnfitClosed mark.Open c.args.ts.now) _ c.from_residual.result c.from_residual.ensures.1 c.in_err-operand.ensures.refused (λ rest u. parts.held_inner_no c.args.ts.now rest (c.at.ensures.0 c.if-at.true) u)
 
 pub behind_bound-returns-then-at-clause-ok : goal.behind_bound-returns-then-at-clause-ok
 behind_bound-returns-then-at-clause-ok t c =
@@ -184,7 +188,10 @@ merged-returns-in_err-second-clause-refused t c =
     leaves (Unfit Part.Small c.in_ok-first.ts.now) _ c.from_residual-in_err-second.result c.from_residual-in_err-second.ensures.1 c.in_err-second.ensures.refused (λ rest u. by.merge_4 c.in_ok-span.ensures.ok.1 c.in_ok-word.ensures.ok.1 c.in_ok-first.ensures.ok u)
 
 pub merged-returns-clause-ok : goal.merged-returns-clause-ok
-merged-returns-clause-ok t c = as_value (c.in_ok-merged.ensures ∙ ap (λ (x : Bits). merged x (tree_of c.in_ok-first.first.value) (tree_of c.in_ok-second.second.value) c.in_ok-span.span) c.in_ok-word.ensures.ok.2 ∙ ap (merged (token_word c.in_ok-word.ensures.ok.0.what) (tree_of c.in_ok-first.first.value) (tree_of c.in_ok-second.second.value)) c.in_ok-span.ensures.ok.2) (by.merge c.in_ok-span.ensures.ok.1 c.in_ok-word.ensures.ok.1 c.in_ok-first.ensures.ok c.in_ok-second.ensures.ok)
+merged-returns-clause-ok t c = IfOk-weaker c.made.result _ _ (λ p h. reads_on (IfOk-at_ok _ h.0 c.merged.ensures ∙ ap (λ (x : Bits). merged x (tree_of c.in_ok-first.first.value) (tree_of c.in_ok-second.second.value) c.in_ok-span.span) c.in_ok-word.ensures.ok.2 ∙ ap (merged (token_word c.in_ok-word.ensures.ok.0.what) (tree_of c.in_ok-first.first.value) (tree_of c.in_ok-second.second.value)) c.in_ok-span.ensures.ok.2) h.1 (by.merge c.in_ok-span.ensures.ok.1 c.in_ok-word.ensures.ok.1 c.in_ok-first.ensures.ok c.in_ok-second.ensures.ok)) c.made.ensures.ok
+
+pub merged-returns-clause-refused : goal.merged-returns-clause-refused
+merged-returns-clause-refused t c = runs_out _ c.made.result c.made.ensures.refused
 
 pub literal-returns-in_err-lit-clause-refused : goal.literal-returns-in_err-lit-clause-refused
 literal-returns-in_err-lit-clause-refused t c =
@@ -203,31 +210,50 @@ behind_literal-returns-in_err-operand-clause-refused t c =
 pub behind_literal-returns-in-Some-clause-ok : goal.behind_literal-returns-in-Some-clause-ok
 behind_literal-returns-in-Some-clause-ok t c =
     let fby = c.in-Some.ensures.read in
-    (Some (fby.0.span, tree_of c.in_ok-operand.operand.value), by.fby_follows fby.1 c.in_ok-operand.ensures.ok, c.in_ok-followed.ensures ∙ ap (followed c.args.lit (tree_of c.in_ok-operand.operand.value)) fby.2)
+    let read = by.fby_follows fby.1 c.in_ok-operand.ensures.ok in
+    IfOk-weaker c.made.result _ _
+    (λ p h. (Some (fby.0.span, tree_of c.in_ok-operand.operand.value), optional_on Part.Followed c.args.ts.now (Some (fby.0.span, tree_of c.in_ok-operand.operand.value)) h.1 read, IfOk-at_ok _ h.0 c.followed.ensures ∙ ap (followed c.args.lit (tree_of c.in_ok-operand.operand.value)) fby.2)) c.made.ensures.ok
+
+pub behind_literal-returns-in-Some-clause-refused : goal.behind_literal-returns-in-Some-clause-refused
+behind_literal-returns-in-Some-clause-refused t c = runs_out _ c.made.result c.made.ensures.refused
 
 pub behind_literal-returns-clause-ok : goal.behind_literal-returns-clause-ok
-behind_literal-returns-clause-ok t c = (None, by.no_fby c.in_default.ensures.read, c.in_ok-literal.ensures)
+behind_literal-returns-clause-ok t c =
+    IfOk-weaker c.made-2.result _ _ (λ p h. (None, optional_on Part.Followed c.args.ts.now None h.1 (by.no_fby c.in_default.ensures.read), IfOk-at_ok _ h.0 c.literal.ensures)) c.made-2.ensures.ok
+
+pub behind_literal-returns-clause-refused : goal.behind_literal-returns-clause-refused
+behind_literal-returns-clause-refused t c = runs_out _ c.made-2.result c.made-2.ensures.refused
 
 pub atom-returns-clause-ok : goal.atom-returns-clause-ok
-atom-returns-clause-ok t c = IfOk-weaker c.inner.result _ _ (λ p r. by.parens r.4 r.5 r.6) c.inner.ensures.ok
+atom-returns-clause-ok t c = IfOk-weaker c.closed.result _ _ (λ p r. by.parens r.4 r.5 r.6) c.closed.ensures.ok
 
 pub atom-returns-clause-refused : goal.atom-returns-clause-refused
-atom-returns-clause-refused t c = hands_on c.inner.result c.inner.ensures.refused (λ rest u. parts.atom_inner_no c.args.ts.now rest (fails c.at.ensures.1 c.if-at.false) (fails c.at-2.ensures.1 c.if-at-2.false) u)
+atom-returns-clause-refused t c = hands_on c.closed.result c.closed.ensures.refused (λ rest u. parts.atom_inner_no c.args.ts.now rest (fails c.at.ensures.1 c.if-at.false) (fails c.at-2.ensures.1 c.if-at-2.false) u)
 
-pub inner-returns-in_err-ts-clause-refused : goal.inner-returns-in_err-ts-clause-refused
-inner-returns-in_err-ts-clause-refused t c =
-    leaves (IsOther c.args.ts.now (kind.Mark mark.Open)) _ c.from_residual.result c.from_residual.ensures.1 c.in_err-ts.ensures.refused (λ rest u. inl u)
+pub behind-returns-in_err-ts-clause-refused : goal.behind-returns-in_err-ts-clause-refused
+behind-returns-in_err-ts-clause-refused t c =
+    leaves (IsOther c.args.ts.now (kind.Mark c.args.sign)) _ c.from_residual.result c.from_residual.ensures.1 c.in_err-ts.ensures.refused (λ rest u. inl u)
 
-pub inner-returns-in_err-inner-clause-refused : goal.inner-returns-in_err-inner-clause-refused
-inner-returns-in_err-inner-clause-refused t c =
+pub behind-returns-clause-ok : goal.behind-returns-clause-ok
+behind-returns-clause-ok t c = IfOk-weaker c.whole.result _ _ (λ p r. (c.in_ok-ts.ensures.ok.0, c.in_ok-ts.ts.now, c.in_ok-ts.ensures.ok.1, r)) c.whole.ensures.ok
+
+pub behind-returns-clause-refused : goal.behind-returns-clause-refused
+behind-returns-clause-refused t c = hands_on c.whole.result c.whole.ensures.refused (λ rest u. inr (c.in_ok-ts.ensures.ok.0, c.in_ok-ts.ts.now, c.in_ok-ts.ensures.ok.1, u))
+
+pub closed-returns-in_err-ts-clause-refused : goal.closed-returns-in_err-ts-clause-refused
+closed-returns-in_err-ts-clause-refused t c =
+    leaves (IsOther c.args.ts.now (kind.Mark c.args.sign)) _ c.from_residual.result c.from_residual.ensures.1 c.in_err-ts.ensures.refused (λ rest u. inl u)
+
+pub closed-returns-in_err-inner-clause-refused : goal.closed-returns-in_err-inner-clause-refused
+closed-returns-in_err-inner-clause-refused t c =
     leaves (Unfit Part.Expr c.in_ok-ts.ts.now) _ c.from_residual-in_err-inner.result c.from_residual-in_err-inner.ensures.1 c.in_err-inner.ensures.refused (λ rest u. inr (inl (c.in_ok-ts.ensures.ok.0, c.in_ok-ts.ts.now, c.in_ok-ts.ensures.ok.1, u)))
 
-pub inner-returns-in_err-ts-2-clause-refused : goal.inner-returns-in_err-ts-2-clause-refused
-inner-returns-in_err-ts-2-clause-refused t c =
+pub closed-returns-in_err-ts-2-clause-refused : goal.closed-returns-in_err-ts-2-clause-refused
+closed-returns-in_err-ts-2-clause-refused t c =
     leaves (IsOther c.in_ok-inner.ts.now (kind.Mark mark.Close)) _ c.from_residual-in_err-ts-2.result c.from_residual-in_err-ts-2.ensures.1 c.in_err-ts-2.ensures.refused (λ rest u. inr (inr (c.in_ok-ts.ensures.ok.0, c.in_ok-ts.ts.now, tree_of c.in_ok-inner.inner.value, c.in_ok-inner.ts.now, c.in_ok-ts.ensures.ok.1, c.in_ok-inner.ensures.ok, u)))
 
-pub inner-returns-clause-ok : goal.inner-returns-clause-ok
-inner-returns-clause-ok t c = (c.in_ok-ts.ensures.ok.0, c.in_ok-ts-2.ensures.ok.0, c.in_ok-ts.ts.now, c.in_ok-inner.ts.now, c.in_ok-ts.ensures.ok.1, c.in_ok-inner.ensures.ok, c.in_ok-ts-2.ensures.ok.1)
+pub closed-returns-clause-ok : goal.closed-returns-clause-ok
+closed-returns-clause-ok t c = (c.in_ok-ts.ensures.ok.0, c.in_ok-ts-2.ensures.ok.0, c.in_ok-ts.ts.now, c.in_ok-inner.ts.now, c.in_ok-ts.ensures.ok.1, c.in_ok-inner.ensures.ok, c.in_ok-ts-2.ensures.ok.1)
 
 pub named-returns-then-at_applied-clause-ok : goal.named-returns-then-at_applied-clause-ok
 named-returns-then-at_applied-clause-ok t c = IfOk-weaker c.applied.result _ _ (λ p r. as_value (r.2 ∙ ap (λ (x : name.Name). call x r.0.0 r.0.1) c.in_ok-name.ensures.ok.2) (by.name (Some r.0) c.in_ok-name.ensures.ok.1 ((c.at_applied.ensures.0 c.if-at_applied.true), r.1))) c.applied.ensures.ok
@@ -236,7 +262,10 @@ pub named-returns-then-at_applied-clause-refused : goal.named-returns-then-at_ap
 named-returns-then-at_applied-clause-refused t c = hands_on c.applied.result c.applied.ensures.refused (λ rest u. by.name_2 c.in_ok-name.ensures.ok.1 ((c.at_applied.ensures.0 c.if-at_applied.true), u))
 
 pub named-returns-clause-ok : goal.named-returns-clause-ok
-named-returns-clause-ok t c = as_value (c.in_ok-variable.ensures ∙ ap variable c.in_ok-name.ensures.ok.2) (by.name None c.in_ok-name.ensures.ok.1 (fails c.at_applied.ensures.1 c.if-at_applied.false, refl))
+named-returns-clause-ok t c = IfOk-weaker c.made.result _ _ (λ p h. reads_on (IfOk-at_ok _ h.0 c.variable.ensures ∙ ap variable c.in_ok-name.ensures.ok.2) h.1 (by.name None c.in_ok-name.ensures.ok.1 (fails c.at_applied.ensures.1 c.if-at_applied.false, refl))) c.made.ensures.ok
+
+pub named-returns-clause-refused : goal.named-returns-clause-refused
+named-returns-clause-refused t c = runs_out _ c.made.result c.made.ensures.refused
 
 pub hosted-returns-in_err-name-clause-refused : goal.hosted-returns-in_err-name-clause-refused
 hosted-returns-in_err-name-clause-refused t c =
@@ -247,46 +276,46 @@ hosted-returns-in_err-first-clause-refused t c =
     leaves (Unfit Part.Pair c.in_ok-name.ts.now) _ c.from_residual-in_err-first.result c.from_residual-in_err-first.ensures.1 c.in_err-first.ensures.refused (λ rest u. by.hosted_3 c.in_ok-ts.ensures.ok.1 c.in_ok-name.ensures.ok.1 u)
 
 pub hosted-returns-clause-ok : goal.hosted-returns-clause-ok
-hosted-returns-clause-ok t c = as_value (c.in_ok-hosted.ensures ∙ ap (λ (x : name.Name). host x (two (tree_of c.in_ok-first.first.value) (tree_of c.in_ok-first.second.value))) c.in_ok-name.ensures.ok.2) (by.hosted c.in_ok-ts.ensures.ok.1 c.in_ok-name.ensures.ok.1 c.in_ok-first.ensures.ok)
+hosted-returns-clause-ok t c = IfOk-weaker c.made.result _ _ (λ p h. reads_on (IfOk-at_ok _ h.0 c.hosted.ensures ∙ ap (λ (x : name.Name). host x (two (tree_of c.in_ok-first.first.value) (tree_of c.in_ok-first.second.value))) c.in_ok-name.ensures.ok.2) h.1 (by.hosted c.in_ok-ts.ensures.ok.1 c.in_ok-name.ensures.ok.1 c.in_ok-first.ensures.ok)) c.made.ensures.ok
 
-pub pair-returns-in_err-ts-clause-refused : goal.pair-returns-in_err-ts-clause-refused
-pair-returns-in_err-ts-clause-refused t c =
-    leaves (IsOther c.args.ts.now (kind.Mark mark.Open)) _ c.from_residual.result c.from_residual.ensures.1 c.in_err-ts.ensures.refused (λ rest u. by.pair_1 u)
+pub hosted-returns-clause-refused : goal.hosted-returns-clause-refused
+hosted-returns-clause-refused t c = runs_out _ c.made.result c.made.ensures.refused
 
 pub pair-returns-in_err-first-clause-refused : goal.pair-returns-in_err-first-clause-refused
 pair-returns-in_err-first-clause-refused t c =
-    leaves (Unfit Part.Expr c.in_ok-ts.ts.now) _ c.from_residual-in_err-first.result c.from_residual-in_err-first.ensures.1 c.in_err-first.ensures.refused (λ rest u. by.pair_2 c.in_ok-ts.ensures.ok.1 u)
-
-pub pair-returns-in_err-ts-2-clause-refused : goal.pair-returns-in_err-ts-2-clause-refused
-pair-returns-in_err-ts-2-clause-refused t c =
-    leaves (IsOther c.in_ok-first.ts.now (kind.Mark mark.Comma)) _ c.from_residual-in_err-ts-2.result c.from_residual-in_err-ts-2.ensures.1 c.in_err-ts-2.ensures.refused (λ rest u. by.pair_3 c.in_ok-ts.ensures.ok.1 c.in_ok-first.ensures.ok u)
+    leaves (UnfitBehind mark.Open c.args.ts.now) _ c.from_residual.result c.from_residual.ensures.1 c.in_err-first.ensures.refused (λ rest u. parts.pair_first_no c.args.ts.now rest u)
 
 pub pair-returns-in_err-second-clause-refused : goal.pair-returns-in_err-second-clause-refused
 pair-returns-in_err-second-clause-refused t c =
-    leaves (Unfit Part.Expr c.in_ok-ts-2.ts.now) _ c.from_residual-in_err-second.result c.from_residual-in_err-second.ensures.1 c.in_err-second.ensures.refused (λ rest u. by.pair_4 c.in_ok-ts.ensures.ok.1 c.in_ok-first.ensures.ok c.in_ok-ts-2.ensures.ok.1 u)
-
-pub pair-returns-in_err-ts-3-clause-refused : goal.pair-returns-in_err-ts-3-clause-refused
-pair-returns-in_err-ts-3-clause-refused t c =
-    leaves (IsOther c.in_ok-second.ts.now (kind.Mark mark.Close)) _ c.from_residual-in_err-ts-3.result c.from_residual-in_err-ts-3.ensures.1 c.in_err-ts-3.ensures.refused (λ rest u. by.pair_5 c.in_ok-ts.ensures.ok.1 c.in_ok-first.ensures.ok c.in_ok-ts-2.ensures.ok.1 c.in_ok-second.ensures.ok u)
+    leaves (UnfitClosed mark.Comma c.in_ok-first.ts.now) _ c.from_residual-in_err-second.result c.from_residual-in_err-second.ensures.1 c.in_err-second.ensures.refused (λ rest u. parts.pair_second_no c.args.ts.now c.in_ok-first.ts.now rest c.in_ok-first.ensures.ok u)
 
 pub pair-returns-clause-ok : goal.pair-returns-clause-ok
-pair-returns-clause-ok t c = by.pair c.in_ok-ts.ensures.ok.1 c.in_ok-first.ensures.ok c.in_ok-ts-2.ensures.ok.1 c.in_ok-second.ensures.ok c.in_ok-ts-3.ensures.ok.1
+pair-returns-clause-ok t c =
+    let a = c.in_ok-first.ensures.ok in
+    let b = c.in_ok-second.ensures.ok in
+    by.pair a.2 a.3 b.4 b.5 b.6
 
 pub small-returns-in_err-lit-clause-refused : goal.small-returns-in_err-lit-clause-refused
 small-returns-in_err-lit-clause-refused t c =
     leaves (Unfit Part.Lit c.args.ts.now) _ c.from_residual.result c.from_residual.ensures.1 c.in_err-lit.ensures.refused (λ rest u. by.small_literal_1 (c.at_literal.ensures.0 c.if-at_literal.true) u)
 
 pub small-returns-then-at_literal-clause-ok : goal.small-returns-then-at_literal-clause-ok
-small-returns-then-at_literal-clause-ok t c = as_value c.in_ok-literal.ensures (by.small_literal (c.at_literal.ensures.0 c.if-at_literal.true) c.in_ok-lit.ensures.ok)
+small-returns-then-at_literal-clause-ok t c = IfOk-weaker c.made.result _ _ (λ p h. reads_on (IfOk-at_ok _ h.0 c.literal.ensures) h.1 (by.small_literal (c.at_literal.ensures.0 c.if-at_literal.true) c.in_ok-lit.ensures.ok)) c.made.ensures.ok
+
+pub small-returns-then-at_literal-clause-refused : goal.small-returns-then-at_literal-clause-refused
+small-returns-then-at_literal-clause-refused t c = runs_out _ c.made.result c.made.ensures.refused
 
 pub small-returns-then-at-clause-ok : goal.small-returns-then-at-clause-ok
-small-returns-then-at-clause-ok t c = as_value (c.in_ok-variable.ensures ∙ ap variable c.in_ok-name.ensures.ok.2) (by.small_name c.in_ok-name.ensures.ok.1)
+small-returns-then-at-clause-ok t c = IfOk-weaker c.made-then-at.result _ _ (λ p h. reads_on (IfOk-at_ok _ h.0 c.variable.ensures ∙ ap variable c.in_ok-name.ensures.ok.2) h.1 (by.small_name c.in_ok-name.ensures.ok.1)) c.made-then-at.ensures.ok
+
+pub small-returns-then-at-clause-refused : goal.small-returns-then-at-clause-refused
+small-returns-then-at-clause-refused t c = runs_out _ c.made-then-at.result c.made-then-at.ensures.refused
 
 pub small-returns-clause-ok : goal.small-returns-clause-ok
-small-returns-clause-ok t c = IfOk-weaker c.inner.result _ _ (λ p r. by.small_parens r.4 r.5 r.6) c.inner.ensures.ok
+small-returns-clause-ok t c = IfOk-weaker c.closed.result _ _ (λ p r. by.small_parens r.4 r.5 r.6) c.closed.ensures.ok
 
 pub small-returns-clause-refused : goal.small-returns-clause-refused
-small-returns-clause-refused t c = hands_on c.inner.result c.inner.ensures.refused (λ rest u. parts.small_inner_no c.args.ts.now rest (fails c.at_literal.ensures.1 c.if-at_literal.false) (fails c.at.ensures.1 c.if-at.false) u)
+small-returns-clause-refused t c = hands_on c.closed.result c.closed.ensures.refused (λ rest u. parts.small_inner_no c.args.ts.now rest (fails c.at_literal.ensures.1 c.if-at_literal.false) (fails c.at.ensures.1 c.if-at.false) u)
 
 pub applied-returns-in_err-base-clause-refused : goal.applied-returns-in_err-base-clause-refused
 applied-returns-in_err-base-clause-refused t c =
@@ -297,7 +326,14 @@ applied-returns-in_err-args-clause-refused t c =
     leaves (BreaksAt Part.Applied behind_base c.in_ok-base.ts.now) _ c.from_residual-in_err-args.result c.from_residual-in_err-args.ensures.1 c.in_err-args.ensures.refused (λ rest u. parts.applied_no _ c.in_ok-base.ensures.ok u)
 
 pub applied-returns-clause-ok : goal.applied-returns-clause-ok
-applied-returns-clause-ok t c = ((c.in_ok-base.base, unwrap_or c.in_ok-args.ensures.ok.1 no_more), parts.applied _ c.in_ok-base.ensures.ok c.in_ok-args.ensures.ok.3, c.in_ok-called.ensures ∙ ap (call c.args.name c.in_ok-base.base) c.in_ok-args.ensures.ok.4)
+applied-returns-clause-ok t c =
+    let a = c.in_ok-args.ensures.ok in
+    let read = parts.applied _ c.in_ok-base.ensures.ok a.3 in
+    IfOk-weaker c.made.result _ _
+    (λ p h. ((c.in_ok-base.base, unwrap_or a.1 no_more), reads_on refl h.1 read, IfOk-at_ok _ h.0 c.called.ensures ∙ ap (call c.args.name c.in_ok-base.base) a.4)) c.made.ensures.ok
+
+pub applied-returns-clause-refused : goal.applied-returns-clause-refused
+applied-returns-clause-refused t c = runs_out _ c.made.result c.made.ensures.refused
 
 pub enclosed-returns-in_err-ts-clause-refused : goal.enclosed-returns-in_err-ts-clause-refused
 enclosed-returns-in_err-ts-clause-refused t c =

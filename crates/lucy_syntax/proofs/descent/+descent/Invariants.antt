@@ -59,8 +59,11 @@ decreases-literal l = 32 * length l.ts.now + 13
 abbrev pub decreases-atom : goal.decreases-atom
 decreases-atom l = 32 * length l.ts.now + 12
 
-abbrev pub decreases-inner : goal.decreases-inner
-decreases-inner l = 32 * length l.ts.now + 9
+abbrev pub decreases-closed : goal.decreases-closed
+decreases-closed l = 32 * length l.ts.now + 9
+
+abbrev pub decreases-behind : goal.decreases-behind
+decreases-behind l = 32 * length l.ts.now + 9
 
 abbrev pub decreases-named : goal.decreases-named
 decreases-named l = 32 * length l.ts.now + 11
