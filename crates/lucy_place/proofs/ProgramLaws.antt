@@ -52,12 +52,8 @@ module _ (ops : List Operator) where
   length_below above (n ∷ ns) = omega (arith, length_below (above ++ n ∷ []) ns)
 
   -- as many nodes and spans as in the program
-  pub placed_length : (all above : ProgramTree) (names : List (List ℕ)) (ps : List PlacedNode) (ss : List (Option Span)) → NodesPlaced all above [] names ps ss →
-      (length ps ≡ length all) × (length ss ≡ length all)
-  placed_length all above names ps ss inv = (
-    ap length (sym (append-nil ps) ∙ inv.placed) ∙ length_below [] all,
-    ap length (sym (append-nil ss) ∙ inv.spans) ∙ length-map all first_unwritten,
-  )
+  pub placed_length : (all : ProgramTree) (ps : List PlacedNode) (ss : List (Option Span)) → ps ≡ placed_nodes ops all → ss ≡ map first_unwritten all → (length ps ≡ length all) × (length ss ≡ length all)
+  placed_length all ps ss nodes spans = (ap length nodes ∙ length_below [] all, ap length spans ∙ length-map all first_unwritten)
 
   -- with all nodes placed the program is
   pub placed_is : (all above : ProgramTree) (names : List (List ℕ)) (ps : List PlacedNode) (ss : List (Option Span)) → NodesPlaced all above [] names ps ss →
@@ -77,13 +73,10 @@ module _ (ops : List Operator) where
       (subst (λ r. NodesPlaced (map node_tree nodes) (map node_tree (take i nodes)) (map node_tree r) names ps ss) (drop_next nodes i n h is) inv) t
 
   -- the nodes of a program of the right shape are proper, and their spans tell which of them are written
-  pub placed_sound : (all above : ProgramTree) (names : List (List ℕ)) (ps : List PlacedNode) (ss : List (Option Span)) → NodesPlaced all above [] names ps ss → IsShapedProgram all →
+  pub placed_sound : (all : ProgramTree) (ps : List PlacedNode) (ss : List (Option Span)) → faults ops all ≡ [] → ps ≡ placed_nodes ops all → ss ≡ map first_unwritten all → IsShapedProgram all →
       AreProper ps × TellWritten ps ss × HaveOperators (length ops) ps
-  placed_sound all above names ps ss inv shape =
-      let good : faults ops all ≡ [] = sym inv.faults in
-      let placed : placed_nodes ops all ≡ ps = sym (sym (append-nil ps) ∙ inv.placed) in
-      let spans : map first_unwritten all ≡ ss = sym (sym (append-nil ss) ∙ inv.spans) in (
-        subst AreProper placed (nodes_proper ops all shape good),
-        subst (λ ns. TellWritten ns ss) placed (subst (TellWritten (placed_nodes ops all)) spans (nodes_told ops all shape good)),
-        subst (HaveOperators (length ops)) placed (operators_below ops all good),
-      )
+  placed_sound all ps ss good nodes spans shape = (
+    subst AreProper (sym nodes) (nodes_proper ops all shape good),
+    subst (λ ns. TellWritten ns ss) (sym nodes) (subst (TellWritten (placed_nodes ops all)) (sym spans) (nodes_told ops all shape good)),
+    subst (HaveOperators (length ops)) (sym nodes) (operators_below ops all good),
+  )

@@ -5,7 +5,7 @@ ghost use Rattle.lucy_tree.specs.Shaped.{IsShapedNode, IsShapedProgram};
 ghost use Rattle.lucy_place.specs.declared.error.NameError.TheVariants as error;
 ghost use Rattle.lucy_place.specs.Streams.{text_of, streams, node_names};
 ghost use Rattle.lucy_place.specs.Faults.{verdict, def_faults, node_faults, nodes_faults, faults};
-ghost use Rattle.lucy_place.specs.Nodes.{placed_node, placed_below};
+ghost use Rattle.lucy_place.specs.Nodes.{placed_node, placed_nodes};
 ghost use Rattle.lucy_place.specs.Placing.{TellsFirstFault, IsFirstFault, IsPlaced};
 ghost use Rattle.lucy_place.specs.Proper.{HaveOperators};
 ghost use Rattle.lucy_place.specs.Texts.{is_in};
@@ -107,6 +107,32 @@ fn keep<'p>(
     Ok(())
 }
 
+// Places the nodes of a program one after another, each once its names are good.
+fn all_nodes<'p>(
+    alloc: Global,
+    hash: NameHash,
+    ops: &'p Ops,
+    nodes: &'p [Node],
+    scope: &mut Scope<'p>,
+    list: &mut Vec<PlacedNode>,
+    spans: &mut Vec<Option<Span>>,
+) -> Result<(), NameError>
+    requires scope { scope.old ≡ [] }
+    requires list { list.old.items ≡ [] }
+    requires spans { spans.old.items ≡ [] }
+    requires shaped { IsShapedProgram (map node_tree nodes.now) }
+    ensures good { OnOk result (faults ops.now (map node_tree nodes.now) ≡ []) }
+    ensures list { OnOk result (list.new.items ≡ placed_nodes ops.now (map node_tree nodes.now)) }
+    ensures spans { OnOk result (spans.new.items ≡ map first_unwritten (map node_tree nodes.now)) }
+    ensures refused { IfErr result (TellsFirstFault (faults ops.now (map node_tree nodes.now))) }
+{
+    'each: for (i, node) in nodes.iter().enumerate() {
+        let placed = next_node(alloc, hash, ops, nodes, &nodes[..i], scope, node)?;
+        keep(scope, list, spans, placed, node)?;
+    }
+    Ok(())
+}
+
 /// The places of a program, or what is wrong with its names: `OutOfMemory`, or the first fault, node by node. In a node first
 /// its own name is looked at, then its parameters, its defined names, its expressions in the order of the text, its results,
 /// and then the number of its places. `ops` are the operators of the host, which host forms name. The program has the shape
@@ -124,9 +150,6 @@ pub fn place(alloc: Global, program: &Program, ops: &Ops) -> Result<Placed, Name
     let mut scope = Scope::new(alloc, hash);
     let mut list = Vec::new(alloc);
     let mut spans = Vec::new(alloc);
-    'each: for (i, node) in nodes.iter().enumerate() {
-        let placed = next_node(alloc, hash, ops, nodes, &nodes[..i], &scope, node)?;
-        keep(&mut scope, &mut list, &mut spans, placed, node)?;
-    }
+    all_nodes(alloc, hash, ops, nodes, &mut scope, &mut list, &mut spans)?;
     Ok(Placed { list, spans })
 }
