@@ -1,9 +1,9 @@
 // Writes expressions.
-ghost use Rattle.std.specs.Prelude.{◌≡◌, ◌++◌, OnOk};
+ghost use Rattle.std.specs.Prelude.{◌≡◌, ◌∷◌, ◌++◌, OnOk};
 ghost use Rattle.lucy_tree.specs.Tree as tree;
 ghost use Rattle.lucy_tree.specs.View.{tree_of, all_trees};
 ghost use Rattle.lucy_grammar.specs.Spans.{nowhere};
-ghost use Rattle.lucy_grammar.specs.Print.{spaced_text, printed, operand, parens, operated, operands, commas, all_printed};
+ghost use Rattle.lucy_grammar.specs.Print.{spaced_text, the, printed, operand, parens, operated, operands, commas, all_printed};
 
 use crate::token::{between, blank, bound, comma, leading, lit, mark, name, when_mark, word};
 use lucy_host::Op;
@@ -35,10 +35,8 @@ pub(crate) fn expr(alloc: Global, expr: &Expr, out: &mut Vec<u8>) -> Result<(), 
         } => {
             leading(Mark::Merge, out)?;
             word(alloc, by, out)?;
-            blank(out)?;
-            operand(alloc, one, out)?;
-            blank(out)?;
-            operand(alloc, zero, out)
+            further(alloc, one, out)?;
+            further(alloc, zero, out)
         }
         Expr::Fby {
             first,
@@ -46,8 +44,7 @@ pub(crate) fn expr(alloc: Global, expr: &Expr, out: &mut Vec<u8>) -> Result<(), 
             ..
         } => {
             lit(alloc, *first, out)?;
-            between(Mark::Fby, out)?;
-            operand(alloc, later, out)
+            joined(alloc, Mark::Fby, later, out)
         }
         Expr::Buffer {
             most,
@@ -56,6 +53,33 @@ pub(crate) fn expr(alloc: Global, expr: &Expr, out: &mut Vec<u8>) -> Result<(), 
         } => buffered(alloc, *most, inner, out),
         Expr::Call { node, at, args } => called(alloc, node, at, args.list(), out),
     }
+}
+
+// An operand behind a keyword or a sign.
+#[cycle(printed)]
+fn led(alloc: Global, sign: Mark, inner: &Expr, out: &mut Vec<u8>) -> Result<(), OutOfMemory>
+    ensures { OnOk result (out.new.items ≡ out.old.items ++ (spaced_text (the sign) ++ (32 ∷ spaced_text (operand (tree_of inner.now) (printed (tree_of inner.now)))))) }
+{
+    leading(sign, out)?;
+    operand(alloc, inner, out)
+}
+
+// An operand behind a keyword or a sign that stands behind another operand.
+#[cycle(printed)]
+fn joined(alloc: Global, sign: Mark, inner: &Expr, out: &mut Vec<u8>) -> Result<(), OutOfMemory>
+    ensures { OnOk result (out.new.items ≡ out.old.items ++ (32 ∷ (spaced_text (the sign) ++ (32 ∷ spaced_text (operand (tree_of inner.now) (printed (tree_of inner.now))))))) }
+{
+    between(sign, out)?;
+    operand(alloc, inner, out)
+}
+
+// An operand behind a blank.
+#[cycle(printed)]
+fn further(alloc: Global, inner: &Expr, out: &mut Vec<u8>) -> Result<(), OutOfMemory>
+    ensures { OnOk result (out.new.items ≡ out.old.items ++ (32 ∷ spaced_text (operand (tree_of inner.now) (printed (tree_of inner.now))))) }
+{
+    blank(out)?;
+    operand(alloc, inner, out)
 }
 
 // `buffer A`, or with a written bound `buffer B (E)`
@@ -68,10 +92,10 @@ fn buffered(
 ) -> Result<(), OutOfMemory>
     ensures { OnOk result (out.new.items ≡ out.old.items ++ spaced_text (printed (tree.buffered most (tree_of inner.now) nowhere))) }
 {
-    leading(Mark::Buffer, out)?;
     match most {
-        None => operand(alloc, inner, out),
+        None => led(alloc, Mark::Buffer, inner, out),
         Some(most) => {
+            leading(Mark::Buffer, out)?;
             bound(alloc, most, out)?;
             blank(out)?;
             enclosed(alloc, inner, out)
@@ -107,22 +131,15 @@ fn operated(alloc: Global, op: Op, list: &[Expr], out: &mut Vec<u8>) -> Result<(
 {
     match list {
         [] => mark(op_mark(op), out),
-        [a] => {
-            leading(op_mark(op), out)?;
-            operand(alloc, a, out)
-        }
+        [a] => led(alloc, op_mark(op), a, out),
         [a, b] => {
             operand(alloc, a, out)?;
-            between(op_mark(op), out)?;
-            operand(alloc, b, out)
+            joined(alloc, op_mark(op), b, out)
         }
         [a, b, c, ..] => {
-            leading(op_mark(op), out)?;
-            operand(alloc, a, out)?;
-            between(Mark::Then, out)?;
-            operand(alloc, b, out)?;
-            between(Mark::Else, out)?;
-            operand(alloc, c, out)
+            led(alloc, op_mark(op), a, out)?;
+            joined(alloc, Mark::Then, b, out)?;
+            joined(alloc, Mark::Else, c, out)
         }
     }
 }

@@ -19,11 +19,11 @@ enclosed-returns t c = rw (text_parens _) (search (rules, append_assoc))
 pub sampled-returns : goal.sampled-returns
 sampled-returns t c = rw (text_sampled _ _ _) (search (rules, append_assoc))
 
-pub expr-returns-in_ok-blank-in-Merge-2 : goal.expr-returns-in_ok-blank-in-Merge-2
-expr-returns-in_ok-blank-in-Merge-2 t c = rw (c.in-Merge.is, tree_merged _ _ _ _, text_merged _ _ _ _) (search (rules, append_assoc))
+pub expr-returns-in_ok-further-in-Merge : goal.expr-returns-in_ok-further-in-Merge
+expr-returns-in_ok-further-in-Merge t c = rw (c.in-Merge.is, tree_merged _ _ _ _, text_merged _ _ _ _) (search (rules, append_assoc))
 
-pub expr-returns-in_ok-between-in-Fby : goal.expr-returns-in_ok-between-in-Fby
-expr-returns-in_ok-between-in-Fby t c = rw (c.in-Fby.is, tree_followed _ _ _, text_followed _ _ _) (search (rules, append_assoc))
+pub expr-returns-in_ok-lit-in-Fby : goal.expr-returns-in_ok-lit-in-Fby
+expr-returns-in_ok-lit-in-Fby t c = rw (c.in-Fby.is, tree_followed _ _ _, text_followed _ _ _) (search (rules, append_assoc))
 
 pub buffered-returns-in-None : goal.buffered-returns-in-None
 buffered-returns-in-None t c =
@@ -37,12 +37,12 @@ buffered-returns-in_ok-blank-in-Some t c =
     let same = ap (λ (m : Option ℕ). spaced_text (printed (buffered m e nowhere))) c.in-Some.is ∙ text_bounded c.in-Some.most e nowhere in
     rw same (search (rules, append_assoc))
 
-pub operated-returns-in_ok-between-in-len2 : goal.operated-returns-in_ok-between-in-len2
-operated-returns-in_ok-between-in-len2 t c =
+pub operated-returns-in_ok-operand-in-len2 : goal.operated-returns-in_ok-operand-in-len2
+operated-returns-in_ok-operand-in-len2 t c =
     rw (only_two _ _ _ c.in-len2.len_at_least c.in-len2.len_below c.a-item-then-list-lt3.is c.b-item.is, text_two c.args.op (tree_of c.a-item-then-list-lt3.result) (tree_of c.b-item.result) nowhere) (search (rules, append_assoc))
 
-pub operated-returns-in_ok-between-in-len3-up-2 : goal.operated-returns-in_ok-between-in-len3-up-2
-operated-returns-in_ok-between-in-len3-up-2 t c =
+pub operated-returns-in_ok-joined-in-len3-up : goal.operated-returns-in_ok-joined-in-len3-up
+operated-returns-in_ok-joined-in-len3-up t c =
     rw (first_three _ _ _ _ c.in-len3-up.len_at_least c.a-item-2.is c.b-item-2.is c.c-item.is, text_three c.args.op (tree_of c.a-item-2.result) (tree_of c.b-item-2.result) (tree_of c.c-item.result) nowhere) (search (rules, append_assoc))
 
 pub separated-more-preserved : goal.separated-more-preserved
