@@ -1,12 +1,13 @@
 -- What the parts of the body hand on: of what `clap` is told, and what it found.
-use Rattle.std.specs.Prelude.{◌≡◌, ◌⊎◌, false, List, [], None, codes}
+use Rattle.std.specs.Prelude.{◌≡◌, ◌⊎◌, false, List, [], ◌∷◌, None, codes}
 use Rattle.clap.specs.Walk.{Row, first_of}
-use Rattle.clap.specs.Simple.{App, Shape, app_of}
+use Rattle.clap.specs.Simple.{App, Shape, app_of, with_subcommand}
 use Rattle.clap.specs.declared.builder.command.Command.{Command}
 use Rattle.clap.specs.declared.builder.command.Command.TheViews.{out-Command}
 use Rattle.lucy_asking.specs.declared.name.Name.{Name}
 use Rattle.lucy_asking.specs.declared.name.Name.TheVariants as name
 use Rattle.lucy_asking.specs.declared.ask.Picture.{Picture}
+use Rattle.lucy_asking.specs.CommandLine.{command_shape}
 use Rattle.lucy_asking.specs.Asks.{picture_name, SaysPicture, IsPictureWithin}
 
 -- a command with no command below it
@@ -17,6 +18,11 @@ leaf shape = record { top = shape; subs = [] }
 pub record HasShape (shape : Shape) (c : Command) : Type 0 where
   pub app : app_of c ≡ leaf shape
   pub local : (out-Command c).has_globals ≡ false
+
+-- what `clap` is told with the commands of these names, one after the other
+abbrev pub with_commands : App → List Name → App
+with_commands a [] = a
+with_commands a (n ∷ ns) = with_commands (with_subcommand a (command_shape n)) ns
 
 -- a picture that a command of this name asks for, by what stands behind the name
 pub record IsSaid (name : Name) (rows : List Row) (p : Picture) : Type 0 where

@@ -1,12 +1,13 @@
 // The command line as `clap` is told of it.
 ghost use Rattle.std.specs.Prelude.{◌≡◌, [], ◌∷◌, false, codes, IfOk};
 ghost use Rattle.clap.specs.Walk.{rule_of};
-ghost use Rattle.clap.specs.Simple.{app_of, new_rule};
+ghost use Rattle.clap.specs.Simple.{app_of, new_rule, with_subcommand};
 ghost use Rattle.clap.specs.declared.builder.value_parser.ValueParser.TheVariants.{Unsigned};
 ghost use Rattle.lucy_asking.specs.CommandLine as spec;
 ghost use Rattle.lucy_asking.specs.declared.name.Name.TheVariants as names;
-ghost use Rattle.lucy_asking.specs.Saying.{HasShape};
+ghost use Rattle.lucy_asking.specs.Saying.{HasShape, with_commands};
 
+use crate::name::Name;
 use clap::builder::ValueParser;
 use clap::{Arg, ArgAction, Command, value_parser};
 use std::alloc::{AllocError, Global};
@@ -78,13 +79,12 @@ fn flag<'a>(alloc: Global, name: &'a str, help: &'a str) -> Arg<'a>
 fn on_program<'a>(alloc: Global, name: &'a str, about: &'a str) -> Result<Command<'a>, AllocError>
     ensures { IfOk result (HasShape (spec.on_program name.entry.now [])) }
 {
-    let scale = numeral(alloc, "scale", "K", 1, 64, "as that of `lucy clocks`");
-    let lead = numeral(alloc, "lead", "D", 1, 64, "as that of `lucy clocks`");
+    let help = "as that of `lucy clocks`";
     Command::new(alloc, name)
         .about(about)
         .arg(file(alloc))?
-        .arg(scale)?
-        .arg(lead)
+        .arg(numeral(alloc, "scale", "K", 1, 64, help))?
+        .arg(numeral(alloc, "lead", "D", 1, 64, help))
 }
 
 // How many instants are shown.
@@ -107,13 +107,9 @@ fn time<'a>(alloc: Global) -> Result<Command<'a>, AllocError>
     ensures { IfOk result (HasShape (spec.command_shape names.Time)) }
 {
     let about = "Shows when the streams of a node have items, and how many wait in its buffers";
-    let node = operand(
-        alloc,
-        "NODE",
-        "a node of the program; else all of them, or with --svg the last one",
-    );
+    let help = "a node of the program; else all of them, or with --svg the last one";
     on_program(alloc, "time", about)?
-        .arg(node)?
+        .arg(operand(alloc, "NODE", help))?
         .arg(shown_instants(alloc))?
         .arg(flag(alloc, "svg", "draws it as SVG"))
 }
@@ -123,12 +119,11 @@ fn net<'a>(alloc: Global) -> Result<Command<'a>, AllocError>
     ensures { IfOk result (HasShape (spec.command_shape names.Net)) }
 {
     let about = "Shows what feeds what in a node, for Graphviz";
-    let node = operand(alloc, "NODE", "a node of the program; else the last one");
-    on_program(alloc, "net", about)?.arg(node)?.arg(flag(
-        alloc,
-        "flat",
-        "shows the whole program with its calls written out",
-    ))
+    let node = "a node of the program; else the last one";
+    let flat = "shows the whole program with its calls written out";
+    on_program(alloc, "net", about)?
+        .arg(operand(alloc, "NODE", node))?
+        .arg(flag(alloc, "flat", flat))
 }
 
 // `wave`
@@ -136,34 +131,12 @@ fn wave<'a>(alloc: Global) -> Result<Command<'a>, AllocError>
     ensures { IfOk result (HasShape (spec.command_shape names.Wave)) }
 {
     let about = "Runs a program on its input, and shows the run as a value change dump";
-    let instants = numeral(
-        alloc,
-        "instants",
-        "N",
-        0,
-        1_048_576,
-        "as that of `lucy run`",
-    );
-    let workers = numeral(
-        alloc,
-        "workers",
-        "W",
-        1,
-        64,
-        "as that of `lucy run`; changes nothing",
-    );
-    let block = numeral(
-        alloc,
-        "block",
-        "B",
-        1,
-        1_048_576,
-        "as that of `lucy run`; changes nothing",
-    );
+    let same = "as that of `lucy run`";
+    let idle = "as that of `lucy run`; changes nothing";
     on_program(alloc, "wave", about)?
-        .arg(instants)?
-        .arg(workers)?
-        .arg(block)
+        .arg(numeral(alloc, "instants", "N", 0, 1_048_576, same))?
+        .arg(numeral(alloc, "workers", "W", 1, 64, idle))?
+        .arg(numeral(alloc, "block", "B", 1, 1_048_576, idle))
 }
 
 // `page`
@@ -190,17 +163,9 @@ fn explain<'a>(alloc: Global) -> Result<Command<'a>, AllocError>
 fn why<'a>(alloc: Global) -> Result<Command<'a>, AllocError>
     ensures { IfOk result (HasShape (spec.command_shape names.Why)) }
 {
-    let buffer = required(
-        alloc,
-        "BUFFER",
-        "a node and the number of its buffer, as f.1",
-    );
-    on_program(
-        alloc,
-        "why",
-        "Says why a buffer is as full as it is, and how long items wait in it",
-    )?
-    .arg(buffer)
+    let about = "Says why a buffer is as full as it is, and how long items wait in it";
+    let help = "a node and the number of its buffer, as f.1";
+    on_program(alloc, "why", about)?.arg(required(alloc, "BUFFER", help))
 }
 
 // `freeze`
@@ -218,33 +183,73 @@ fn freeze<'a>(alloc: Global) -> Result<Command<'a>, AllocError>
 fn place<'a>(alloc: Global) -> Result<Command<'a>, AllocError>
     ensures { IfOk result (HasShape (spec.command_shape names.Where)) }
 {
-    let at = required(
-        alloc,
-        "AT",
-        "an offset in bytes from 0, or #N, as a refusal tells them",
-    );
-    let node = operand(alloc, "NODE", "the node of the place #N; else the last one");
+    let at = "an offset in bytes from 0, or #N, as a refusal tells them";
+    let node = "the node of the place #N; else the last one";
     Command::new(alloc, "where")
         .about("Shows the line and the column of an offset, or of a place and what stands there")
         .arg(file(alloc))?
-        .arg(at)?
-        .arg(node)
+        .arg(required(alloc, "AT", at))?
+        .arg(operand(alloc, "NODE", node))
+}
+
+// A command.
+fn named<'a>(alloc: Global, name: Name) -> Result<Command<'a>, AllocError>
+    ensures { IfOk result (HasShape (spec.command_shape name)) }
+{
+    match name {
+        Name::Time => time(alloc),
+        Name::Net => net(alloc),
+        Name::Wave => wave(alloc),
+        Name::Where => place(alloc),
+        Name::Page => page(alloc),
+        Name::Explain => explain(alloc),
+        Name::Why => why(alloc),
+        Name::Freeze => freeze(alloc),
+    }
+}
+
+// One more command.
+fn with_command<'a>(alloc: Global, line: Command<'a>, name: Name) -> Result<Command<'a>, AllocError>
+    ensures { IfOk result (λ c. app_of c ≡ with_subcommand (app_of line.entry) (spec.command_shape name)) }
+{
+    line.subcommand(named(alloc, name)?)
+}
+
+// More commands.
+fn with_commands<'a>(
+    alloc: Global,
+    line: Command<'a>,
+    names: &[Name],
+) -> Result<Command<'a>, AllocError>
+    ensures { IfOk result (λ c. app_of c ≡ with_commands (app_of line.entry) names.now) }
+{
+    let mut line = line;
+    'each: for name in names {
+        line = with_command(alloc, line, *name)?;
+    }
+    Ok(line)
 }
 
 /// All commands.
 pub(crate) fn command<'a>(alloc: Global) -> Result<Command<'a>, AllocError>
     ensures { IfOk result (λ c. app_of c ≡ spec.line) }
 {
-    Command::new(alloc, "lucy_view")
+    let line = Command::new(alloc, "lucy_view")
         .version(VERSION)
         .about("Shows programs of lucy")
-        .subcommand_required(true)
-        .subcommand(time(alloc)?)?
-        .subcommand(net(alloc)?)?
-        .subcommand(wave(alloc)?)?
-        .subcommand(place(alloc)?)?
-        .subcommand(page(alloc)?)?
-        .subcommand(explain(alloc)?)?
-        .subcommand(why(alloc)?)?
-        .subcommand(freeze(alloc)?)
+        .subcommand_required(true);
+    with_commands(
+        alloc,
+        line,
+        &[
+            Name::Time,
+            Name::Net,
+            Name::Wave,
+            Name::Where,
+            Name::Page,
+            Name::Explain,
+            Name::Why,
+            Name::Freeze,
+        ],
+    )
 }

@@ -10,5 +10,5 @@ returns c =
     let begun : HasShape (new_shape c.args.name.now) c.about.result =
     record { app = ap app_of_fields c.about.ensures ∙ c.new.ensures.app; local = ap (λ f. f.has_globals) c.about.ensures ∙ c.new.ensures.local } in
     let file = taken _ _ _ _ _ begun c.file.ensures.rule c.file.ensures.local c.in_ok-arg.ensures in
-    let scale = taken _ _ _ _ _ file c.numeral-scale.ensures.rule c.numeral-scale.ensures.local c.in_ok-arg-2.ensures in
-    IfOk-weaker c.arg-3.result _ _ (λ command adds. taken _ _ _ _ _ scale c.numeral-lead.ensures.rule c.numeral-lead.ensures.local adds) c.arg-3.ensures
+    let scale = taken _ _ _ _ _ file c.numeral.ensures.rule c.numeral.ensures.local c.in_ok-arg-2.ensures in
+    IfOk-weaker c.arg-3.result _ _ (λ command adds. taken _ _ _ _ _ scale c.numeral-2.ensures.rule c.numeral-2.ensures.local adds) c.arg-3.ensures

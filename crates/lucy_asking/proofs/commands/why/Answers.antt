@@ -4,4 +4,4 @@ use Rattle.lucy_asking.proofs.commands.why.Goals as goal
 
 pub returns : goal.returns
 returns c =
-    IfOk-weaker c.arg.result _ _ (λ command adds. taken _ _ _ _ _ c.in_ok-on_program.ensures c.required-buffer.ensures.rule c.required-buffer.ensures.local adds) c.arg.ensures
+    IfOk-weaker c.arg.result _ _ (λ command adds. taken _ _ _ _ _ c.in_ok-on_program.ensures c.required.ensures.rule c.required.ensures.local adds) c.arg.ensures

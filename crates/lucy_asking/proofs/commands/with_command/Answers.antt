@@ -1,0 +1,7 @@
+use Rattle.std.proofs.Common.{refl}
+use Rattle.std.proofs.lemmas.Result.{IfOk-weaker}
+use Rattle.lucy_asking.proofs.Shapes.{below}
+use Rattle.lucy_asking.proofs.commands.with_command.Goals as goal
+
+pub returns : goal.returns
+returns c = IfOk-weaker c.subcommand.result _ _ (λ line adds. below _ _ _ _ _ refl c.in_ok-named.ensures adds) c.subcommand.ensures
