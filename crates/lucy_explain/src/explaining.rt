@@ -57,7 +57,33 @@ fn joined(alloc: Global, first: &[u8], more: &[u8]) -> Result<Vec<u8>, OutOfMemo
     Ok(text)
 }
 
-// What is told of a refusal.
+// The text that begins with a refusal's first line, and has more on lines behind it.
+fn headed(alloc: Global, refusal: &Refusal, more: &[u8]) -> Result<Vec<u8>, OutOfMemory>
+    requires { IsTellable refusal.now }
+    ensures { IfOk result (λ v. BeginsAs refusal.now v.items) }
+{
+    let lines = refusal_text(alloc, refusal)?;
+    joined(alloc, first_line(&lines), more)
+}
+
+// What is told of a refusal, and the spans of the text of which is told.
+fn telling(
+    alloc: Global,
+    text: &[u8],
+    ops: &Ops,
+    refusal: &Refusal,
+) -> Result<(Vec<u8>, Vec<Span>), OutOfMemory>
+    requires { IsTellable refusal.now }
+    ensures begins { IfOk result (λ t. BeginsAs refusal.now t.0.items) }
+    ensures spans { IfOk result (λ t. AreWithin (length text.now) t.1.items) }
+{
+    let (more, spans) = told(alloc, text, ops, refusal)?;
+    let spans = within(alloc, &spans, text.len())?;
+    let told = headed(alloc, refusal, &more)?;
+    Ok((told, spans))
+}
+
+// An explanation of a refusal.
 fn refused(
     alloc: Global,
     text: &[u8],
@@ -70,15 +96,14 @@ fn refused(
     ensures begins { IfOk result (λ e. BeginsAs refusal e.text.items) }
     ensures spans { IfOk result (λ e. AreWithin (length text.now) e.spans.items) }
 {
-    let lines = refusal_text(alloc, &refusal)?;
-    let (more, spans) = told(alloc, text, ops, &refusal)?;
-    let spans = within(alloc, &spans, text.len())?;
-    let told = joined(alloc, first_line(&lines), &more)?;
-    Ok(Explained {
-        refusal: Some(refusal),
-        text: told,
-        spans,
-    })
+    match telling(alloc, text, ops, &refusal) {
+        Ok((text, spans)) => Ok(Explained {
+            refusal: Some(refusal),
+            text,
+            spans,
+        }),
+        Err(_) => Err(OutOfMemory),
+    }
 }
 
 // What is told of an accepted program.
@@ -86,9 +111,10 @@ fn accepted(alloc: Global) -> Result<Explained, OutOfMemory>
     ensures none { IfOk result (λ e. IfSome e.refusal (λ r. ⊥)) }
     ensures spans { IfOk result (λ e. (bytes : ℕ) → AreWithin bytes e.spans.items) }
 {
+    let text = b"lucy_view: nothing to explain: the program is accepted\n".to_vec(alloc)?;
     Ok(Explained {
         refusal: None,
-        text: b"lucy_view: nothing to explain: the program is accepted\n".to_vec(alloc)?,
+        text,
         spans: Vec::new(alloc),
     })
 }
