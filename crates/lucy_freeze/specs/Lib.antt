@@ -5,3 +5,4 @@ pub mod Freezing
 pub mod Meaning
 -- Below this line stands what only serves the proofs of the bodies.
 pub mod Images
+pub mod Compared

@@ -5,6 +5,7 @@ ghost use Rattle.lucy_front.specs.Inferring.{AreOptions};
 ghost use Rattle.lucy_front.specs.Refusals.{IsTellable};
 ghost use Rattle.lucy_freeze.specs.Frozen.{AreFrozen};
 ghost use Rattle.lucy_freeze.specs.Freezing.{all_written, IsFrozen, IsUnfrozen};
+ghost use Rattle.lucy_freeze.specs.Compared.{IsNotFrozen};
 
 use crate::error::FreezeError;
 use crate::program::is_frozen;
@@ -54,6 +55,29 @@ fn is_same(alloc: Global, program: &Accepted, frozen: &Accepted) -> Result<bool,
     )
 }
 
+// Finds a program to be another one with its clocks written out.
+fn tested(alloc: Global, program: &Accepted, frozen: &Accepted) -> Result<(), FreezeError>
+    ensures ok { IfOk result (λ u. AreFrozen program.now.placed.nodes program.now.clocks.items frozen.now.placed.nodes frozen.now.clocks.items) }
+    ensures refused { IfErr result (IsNotFrozen program.now) }
+{
+    if is_same(alloc, program, frozen)? {
+        Ok(())
+    } else {
+        Err(FreezeError::Differs)
+    }
+}
+
+// A text with clocks written out, where it is found to be that of the same program.
+fn confirmed(alloc: Global, program: &Accepted, frozen: Frozen) -> Result<Frozen, FreezeError>
+    ensures ok { IfOk result (λ f. (f ≡ frozen) × AreFrozen program.now.placed.nodes program.now.clocks.items frozen.program.placed.nodes frozen.program.clocks.items) }
+    ensures refused { IfErr result (IsNotFrozen program.now) }
+{
+    match tested(alloc, program, &frozen.program) {
+        Ok(()) => Ok(frozen),
+        Err(fault) => Err(fault),
+    }
+}
+
 // A text with clocks written out, accepted again and compared.
 fn compared(
     alloc: Global,
@@ -70,14 +94,11 @@ fn compared(
 {
     match checked(alloc, &written, ops, options) {
         Ok(again) => {
-            if is_same(alloc, program, &again)? {
-                Ok(Frozen {
-                    text: written,
-                    program: again,
-                })
-            } else {
-                Err(FreezeError::Differs)
-            }
+            let frozen = Frozen {
+                text: written,
+                program: again,
+            };
+            confirmed(alloc, program, frozen)
         }
         Err(Refusal::OutOfMemory) => Err(FreezeError::OutOfMemory),
         Err(refusal) => Err(FreezeError::Text(refusal)),

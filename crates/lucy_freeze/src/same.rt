@@ -86,6 +86,26 @@ fn is_same_buffer(both: Both<'_>, buffer: u32, frozen: u32) -> bool
     sizes && bounds
 }
 
+// Whether a form that picks, delays or holds items, or a call's result, says the same as what stands at another place.
+fn is_same_form(images: &Images, both: Both<'_>, kind: &PlaceKind, frozen: &PlaceKind) -> bool
+    ensures { IsTrue result → SaysSame (renumbering_of images.now) (pair_of both.entry) kind.now frozen.now }
+{
+    match (kind, frozen) {
+        (PlaceKind::When(e, word), PlaceKind::When(f, other)) => {
+            is_read(images, both, *e, *f) && word.same(other)
+        }
+        (PlaceKind::Merge(word, a, b), PlaceKind::Merge(other, c, d)) => {
+            word.same(other) && is_read(images, both, *a, *c) && is_read(images, both, *b, *d)
+        }
+        (PlaceKind::Fby(l, e), PlaceKind::Fby(m, f)) => *l == *m && is_read(images, both, *e, *f),
+        (PlaceKind::Buffer(k, e), PlaceKind::Buffer(l, f)) => {
+            is_read(images, both, *e, *f) && is_same_buffer(both, *k, *l)
+        }
+        (PlaceKind::Result(c, j), PlaceKind::Result(d, k)) => *d == images.call(*c) && *k == *j,
+        _ => false,
+    }
+}
+
 // Whether what stands at a place says the same as what stands at another.
 fn says_same(images: &Images, both: Both<'_>, kind: &PlaceKind, frozen: &PlaceKind) -> bool
     ensures { IsTrue result → SaysSame (renumbering_of images.now) (pair_of both.entry) kind.now frozen.now }
@@ -100,18 +120,7 @@ fn says_same(images: &Images, both: Both<'_>, kind: &PlaceKind, frozen: &PlaceKi
         (PlaceKind::Host(op, a, b), PlaceKind::Host(other, c, d)) => {
             *op == *other && is_read(images, both, *a, *c) && is_read(images, both, *b, *d)
         }
-        (PlaceKind::When(e, word), PlaceKind::When(f, other)) => {
-            is_read(images, both, *e, *f) && word.same(other)
-        }
-        (PlaceKind::Merge(word, a, b), PlaceKind::Merge(other, c, d)) => {
-            word.same(other) && is_read(images, both, *a, *c) && is_read(images, both, *b, *d)
-        }
-        (PlaceKind::Fby(l, e), PlaceKind::Fby(m, f)) => *l == *m && is_read(images, both, *e, *f),
-        (PlaceKind::Buffer(k, e), PlaceKind::Buffer(l, f)) => {
-            is_read(images, both, *e, *f) && is_same_buffer(both, *k, *l)
-        }
-        (PlaceKind::Result(c, j), PlaceKind::Result(d, k)) => *d == images.call(*c) && *k == *j,
-        _ => false,
+        _ => is_same_form(images, both, kind, frozen),
     }
 }
 

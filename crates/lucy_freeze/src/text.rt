@@ -1,6 +1,7 @@
 // The text with every clock written out. It is safe: the result is accepted again and compared.
 mod bases;
 mod cut;
+mod forms;
 mod nodes;
 mod sheet;
 mod writer;

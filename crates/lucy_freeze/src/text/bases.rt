@@ -77,47 +77,45 @@ fn are_names(list: &[Expr]) -> bool {
     true
 }
 
-/// Writes the words of the calls of an expression, which has so many results where it is a call itself.
-#[cycle(bases)]
-pub(crate) fn put_bases(writer: &mut Writer<'_>, walk: &mut Walk<'_>, expr: &Expr, results: usize) {
+// Passes an expression, which has so many results where it is a call, and writes the word of a call behind its name.
+fn enter(writer: &mut Writer<'_>, walk: &mut Walk<'_>, expr: &Expr, results: usize) {
     match expr {
-        Expr::Lit { .. } => walk.pass(1),
         Expr::Var { .. } => {}
-        Expr::Op { args, .. } => put_all_bases(writer, walk, args.list(), 1),
-        Expr::Host { args, .. } => put_all_bases(writer, walk, args.list(), 1),
-        Expr::When { operand, .. } => {
-            walk.pass(1);
-            put_bases(writer, walk, operand, 1)
-        }
-        Expr::Merge { one, zero, .. } => {
-            walk.pass(1);
-            put_bases(writer, walk, one, 1);
-            put_bases(writer, walk, zero, 1)
-        }
-        Expr::Fby { operand, .. } => {
-            walk.pass(1);
-            put_bases(writer, walk, operand, 1)
-        }
-        Expr::Buffer { operand, .. } => {
-            walk.pass(1);
-            put_bases(writer, walk, operand, 1)
-        }
-        Expr::Call { node, at, args } => {
+        Expr::Call { node, at, .. } => {
             let word = walk.next_call(results);
             if at.is_none() {
                 writer.copy_to(node.span.to as usize);
                 writer.sheet.say(" at ");
                 writer.sheet.clock(word);
             }
-            put_all_bases(writer, walk, args.list(), 0)
         }
+        _ => walk.pass(1),
     }
 }
 
-// Writes those of operands, behind so many places of what they are operands of.
+/// Writes the words of the calls of an expression, which has so many results where it is a call itself.
 #[cycle(bases)]
-fn put_all_bases(writer: &mut Writer<'_>, walk: &mut Walk<'_>, list: &[Expr], own: usize) {
-    walk.pass(own);
+pub(crate) fn put_bases(writer: &mut Writer<'_>, walk: &mut Walk<'_>, expr: &Expr, results: usize) {
+    enter(writer, walk, expr, results);
+    match expr {
+        Expr::Lit { .. } => {}
+        Expr::Var { .. } => {}
+        Expr::Op { args, .. } => put_all_bases(writer, walk, args.list()),
+        Expr::Host { args, .. } => put_all_bases(writer, walk, args.list()),
+        Expr::When { operand, .. } => put_bases(writer, walk, operand, 1),
+        Expr::Merge { one, zero, .. } => {
+            put_bases(writer, walk, one, 1);
+            put_bases(writer, walk, zero, 1)
+        }
+        Expr::Fby { operand, .. } => put_bases(writer, walk, operand, 1),
+        Expr::Buffer { operand, .. } => put_bases(writer, walk, operand, 1),
+        Expr::Call { args, .. } => put_all_bases(writer, walk, args.list()),
+    }
+}
+
+// Writes those of operands.
+#[cycle(bases)]
+fn put_all_bases(writer: &mut Writer<'_>, walk: &mut Walk<'_>, list: &[Expr]) {
     for expr in list {
         put_bases(writer, walk, expr, 1);
     }

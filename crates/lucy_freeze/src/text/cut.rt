@@ -1,20 +1,22 @@
 // Right sides whose operands get names.
 use crate::text::bases::Walk;
+use crate::text::forms::{
+    ARGUMENTS, LISTED, Part, Row, is_cut, is_enclosed, put_back, put_front, row_of,
+};
 use crate::text::sheet::Sheet;
-use lucy_host::Op;
-use lucy_token::sign_of;
 use lucy_tree::{Decl, Expr, Node};
-use std::alloc::{AllocError, Global};
+use std::alloc::Global;
+use std::mem;
 
 /// An operand that gets a name, with its place, from 1, and its text.
 #[derive(Drop)]
 pub(crate) struct Cut {
-    pub name: Vec<u8>,
+    pub name: Sheet,
     pub place: usize,
     pub text: Sheet,
 }
 
-/// The operands of a right side that get names, made of the name that is defined, and a number.
+/// A right side that is written, and its operands that get names, made of the name that is defined, and a number.
 #[derive(Drop)]
 pub(crate) struct Cutter<'a> {
     pub alloc: Global,
@@ -22,6 +24,7 @@ pub(crate) struct Cutter<'a> {
     pub base: &'a [u8],
     pub tried: u64,
     pub walk: Walk<'a>,
+    pub sheet: Sheet,
     pub cuts: Vec<Cut>,
     pub full: bool,
 }
@@ -49,211 +52,116 @@ fn is_taken(node: &Node, name: &[u8]) -> bool {
     false
 }
 
-// A name made of another and a number.
-fn numbered(alloc: Global, base: &[u8], number: u64) -> Result<Vec<u8>, AllocError> {
-    let mut name = base.to_vec(alloc)?;
-    let number = format!(in alloc; "_{number}")?;
-    name.extend_from_slice(number.as_bytes())?;
-    Ok(name)
-}
-
 // How many numbers are tried for one name: a node has fewer streams.
 const TRIES: u32 = 8_192;
 
 impl<'a> Cutter<'a> {
+    // The name that is defined, and a number.
+    fn numbered(&self) -> Sheet {
+        let mut name = Sheet::new(self.alloc);
+        name.put(self.base);
+        name.say("_");
+        name.number(self.tried);
+        name
+    }
+
     // A name that no stream of the node has.
-    fn fresh(&mut self) -> Result<Vec<u8>, AllocError> {
+    fn fresh(&mut self) -> Sheet {
         for _ in 0..TRIES {
             self.tried = self.tried.saturating_add(1);
-            let name = numbered(self.alloc, self.base, self.tried)?;
-            if !is_taken(self.node, &name) {
-                return Ok(name);
+            let name = self.numbered();
+            if name.full || !is_taken(self.node, &name.bytes) {
+                return name;
             }
         }
-        Ok(Vec::new(self.alloc))
+        Sheet::new(self.alloc)
     }
 
-    // Begins with an operand that gets a name, which is put last, and answers how many do so before.
-    fn begin(&mut self, sheet: &mut Sheet) -> usize {
-        let number = self.cuts.len();
-        match self.fresh() {
-            Ok(name) => {
-                sheet.put(&name);
-                let cut = Cut {
-                    name,
-                    place: self.walk.place,
-                    text: Sheet::new(self.alloc),
-                };
-                self.full = self.cuts.push(cut).is_err() || self.full;
-            }
-            Err(_) => self.full = true,
-        }
-        number
+    // Begins with an operand that gets a name, which is put last, and goes on on another sheet. The one so far is answered.
+    fn begin(&mut self) -> Sheet {
+        let name = self.fresh();
+        self.sheet.add(&name);
+        let cut = Cut {
+            name,
+            place: self.walk.place,
+            text: Sheet::new(self.alloc),
+        };
+        self.full = self.cuts.push(cut).is_err() || self.full;
+        mem::replace(&mut self.sheet, Sheet::new(self.alloc))
     }
 
-    // Settles the text of an operand.
-    fn settle(&mut self, number: usize, text: Sheet) {
+    // Ends with the operand of a number, and goes on on the sheet before.
+    fn end(&mut self, number: usize, before: Sheet) {
+        let text = mem::replace(&mut self.sheet, before);
         if let Some(cut) = self.cuts.get_mut(number) {
             cut.text = text;
         }
+    }
+
+    // Begins with an expression, which has so many results where it is a call: passes it, and puts last what stands before its parts.
+    fn enter(&mut self, expr: &Expr, results: usize) {
+        let word = match expr {
+            Expr::Var { .. } => None,
+            Expr::Call { .. } => self.walk.next_call(results),
+            _ => {
+                self.walk.pass(1);
+                None
+            }
+        };
+        put_front(expr, word, &mut self.sheet)
     }
 }
 
 /// Puts an expression last, which has so many results where it is a call.
 #[cycle(cut)]
-pub(crate) fn put_expr(cutter: &mut Cutter<'_>, expr: &Expr, results: usize, sheet: &mut Sheet) {
+pub(crate) fn put_expr(cutter: &mut Cutter<'_>, expr: &Expr, results: usize) {
+    cutter.enter(expr, results);
     match expr {
-        Expr::Var { name } => sheet.put(name.text.bytes()),
-        Expr::Call { node, at, args } => {
-            let word = cutter.walk.next_call(results);
-            sheet.put(node.text.bytes());
-            sheet.say(" at ");
-            sheet.clock(at.as_ref().or(word));
-            put_arguments(cutter, args.list(), sheet)
-        }
-        _ => {
-            cutter.walk.pass(1);
-            put_form(cutter, expr, sheet)
-        }
+        Expr::Op { op, args, .. } => put_all(cutter, args.list(), row_of(*op)),
+        Expr::Host { args, .. } => put_all(cutter, args.list(), LISTED),
+        Expr::Call { args, .. } => put_all(cutter, args.list(), ARGUMENTS),
+        _ => put_parts(cutter, expr),
     }
+    put_back(expr, &mut cutter.sheet)
 }
 
-// Puts a form last that is neither a name nor a call, and whose place is passed.
+// Puts the parts of a form last that has no row of them.
 #[cycle(cut)]
-fn put_form(cutter: &mut Cutter<'_>, expr: &Expr, sheet: &mut Sheet) {
+fn put_parts(cutter: &mut Cutter<'_>, expr: &Expr) {
     match expr {
-        Expr::Lit { lit, .. } => sheet.literal(*lit),
-        Expr::Op { op, args, .. } => put_operated(cutter, *op, args.list(), sheet),
-        Expr::Host { name, args } => {
-            sheet.say("host ");
-            sheet.put(name.text.bytes());
-            put_listed(cutter, args.list(), sheet)
-        }
-        Expr::When {
-            flip,
-            operand,
-            word,
-        } => {
-            put_named(cutter, operand, sheet);
-            sheet.say(if *flip { " whenot " } else { " when " });
-            sheet.word(word)
-        }
-        Expr::Merge {
-            word,
-            one,
-            zero,
-            ..
-        } => {
-            sheet.say("merge ");
-            sheet.word(word);
-            sheet.say(" ");
-            put_operand(cutter, one, sheet);
-            sheet.say(" ");
-            put_operand(cutter, zero, sheet)
-        }
-        Expr::Fby { first, operand, .. } => {
-            sheet.literal(*first);
-            sheet.say(" fby ");
-            put_operand(cutter, operand, sheet)
-        }
-        Expr::Buffer { most, operand, .. } => put_buffered(cutter, *most, operand, sheet),
-        _ => {}
-    }
-}
-
-// Puts a buffer last, with its bound.
-#[cycle(cut)]
-fn put_buffered(cutter: &mut Cutter<'_>, most: Option<u64>, operand: &Expr, sheet: &mut Sheet) {
-    sheet.say("buffer ");
-    match most {
-        None => put_named(cutter, operand, sheet),
-        Some(most) => {
-            sheet.number(most);
-            sheet.say(" (");
-            put_named(cutter, operand, sheet);
-            sheet.say(")")
-        }
-    }
-}
-
-// Puts an operand last: a literal or a name alone, all else in parentheses.
-#[cycle(cut)]
-fn put_operand(cutter: &mut Cutter<'_>, expr: &Expr, sheet: &mut Sheet) {
-    match expr {
-        Expr::Lit { .. } => put_expr(cutter, expr, 1, sheet),
-        Expr::Var { .. } => put_expr(cutter, expr, 1, sheet),
-        _ => {
-            sheet.say("(");
-            put_expr(cutter, expr, 1, sheet);
-            sheet.say(")")
-        }
-    }
-}
-
-// Puts an operand last that has to be a name: an expression gets one, and is put on a sheet of its own.
-#[cycle(cut)]
-fn put_named(cutter: &mut Cutter<'_>, expr: &Expr, sheet: &mut Sheet) {
-    match expr {
-        Expr::Var { name } => sheet.put(name.text.bytes()),
-        _ => {
-            let number = cutter.begin(sheet);
-            let mut own = Sheet::new(cutter.alloc);
-            put_expr(cutter, expr, 1, &mut own);
-            cutter.settle(number, own)
-        }
-    }
-}
-
-// Puts an operator last, with its operands.
-#[cycle(cut)]
-fn put_operated(cutter: &mut Cutter<'_>, op: Op, args: &[Expr], sheet: &mut Sheet) {
-    match args {
-        [condition, one, zero] => {
-            sheet.say("if ");
-            put_operand(cutter, condition, sheet);
-            sheet.say(" then ");
-            put_operand(cutter, one, sheet);
-            sheet.say(" else ");
-            put_operand(cutter, zero, sheet)
-        }
-        [first, second] => {
-            put_operand(cutter, first, sheet);
-            sheet.say(" ");
-            sheet.say(sign_of(op));
-            sheet.say(" ");
-            put_operand(cutter, second, sheet)
-        }
-        [only] => {
-            sheet.say(sign_of(op));
-            sheet.say(" ");
-            put_operand(cutter, only, sheet)
+        Expr::When { operand, .. } => put_part(cutter, operand, Part::Name),
+        Expr::Buffer { operand, .. } => put_part(cutter, operand, Part::Name),
+        Expr::Fby { operand, .. } => put_part(cutter, operand, Part::Operand),
+        Expr::Merge { one, zero, .. } => {
+            put_part(cutter, one, Part::Operand);
+            cutter.sheet.say(" ");
+            put_part(cutter, zero, Part::Operand)
         }
         _ => {}
     }
 }
 
-// Puts expressions last, in parentheses with commas between.
+// Puts a part of an expression last. One that has to be a name and is none gets one, and is put on a sheet of its own.
 #[cycle(cut)]
-fn put_listed(cutter: &mut Cutter<'_>, list: &[Expr], sheet: &mut Sheet) {
-    sheet.say(" (");
-    for (i, expr) in list.iter().enumerate() {
-        if i > 0 {
-            sheet.say(", ");
-        }
-        put_expr(cutter, expr, 1, sheet);
+fn put_part(cutter: &mut Cutter<'_>, expr: &Expr, part: Part) {
+    if is_cut(expr, part) {
+        let number = cutter.cuts.len();
+        let before = cutter.begin();
+        put_expr(cutter, expr, 1);
+        cutter.end(number, before);
+        return;
     }
-    sheet.say(")")
+    let enclosed = is_enclosed(expr, part);
+    cutter.sheet.say_if(enclosed, "(");
+    put_expr(cutter, expr, 1);
+    cutter.sheet.say_if(enclosed, ")")
 }
 
-// Puts arguments last, which have to be names.
+// Puts parts in a row last.
 #[cycle(cut)]
-fn put_arguments(cutter: &mut Cutter<'_>, list: &[Expr], sheet: &mut Sheet) {
-    sheet.say(" (");
-    for (i, expr) in list.iter().enumerate() {
-        if i > 0 {
-            sheet.say(", ");
-        }
-        put_named(cutter, expr, sheet);
+fn put_all(cutter: &mut Cutter<'_>, list: &[Expr], row: Row) {
+    for (k, expr) in list.iter().enumerate() {
+        row.put_gap(k, &mut cutter.sheet);
+        put_part(cutter, expr, row.part);
     }
-    sheet.say(")")
 }

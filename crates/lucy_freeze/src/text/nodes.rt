@@ -37,7 +37,7 @@ fn put_comment(writer: &mut Writer<'_>, cutter: &Cutter<'_>) {
     writer.sheet.say(" (* rewritten; new names:");
     for (i, cut) in cutter.cuts.iter().enumerate() {
         writer.sheet.say(if i == 0 { " " } else { ", " });
-        writer.sheet.put(&cut.name);
+        writer.sheet.add(&cut.name);
     }
     writer.sheet.say(" *)");
 }
@@ -46,7 +46,7 @@ fn put_comment(writer: &mut Writer<'_>, cutter: &Cutter<'_>) {
 fn put_cuts(writer: &mut Writer<'_>, cutter: &Cutter<'_>, words: &[Word], offset: usize) {
     for cut in &cutter.cuts {
         writer.begin_def(offset);
-        writer.sheet.put(&cut.name);
+        writer.sheet.add(&cut.name);
         writer.sheet.say(" :: ");
         writer.sheet.clock(words.get(cut.place));
         writer.sheet.say(" = ");
@@ -69,13 +69,13 @@ fn rewrite(
         base: first.name.text.bytes(),
         tried: 0,
         walk,
+        sheet: Sheet::new(alloc),
         cuts: Vec::new(alloc),
         full: false,
     };
-    let mut right = Sheet::new(alloc);
-    put_expr(&mut cutter, &def.right, def.left.list().len(), &mut right);
-    right.full = right.full || cutter.full;
-    writer.replace_right(&right);
+    put_expr(&mut cutter, &def.right, def.left.list().len());
+    cutter.sheet.full = cutter.sheet.full || cutter.full;
+    writer.replace_right(&cutter.sheet);
     put_comment(writer, &cutter);
     put_cuts(writer, &cutter, walk.words, first.name.span.from as usize);
     (cutter.walk.place, cutter.walk.call)

@@ -35,6 +35,13 @@ impl Sheet {
         self.put(text.as_bytes());
     }
 
+    /// Puts a text last, or nothing.
+    pub(crate) fn say_if(&mut self, said: bool, text: &str) {
+        if said {
+            self.say(text);
+        }
+    }
+
     /// Puts a number last.
     pub(crate) fn number(&mut self, number: u64) {
         match format!(in self.alloc; "{number}") {
