@@ -8,11 +8,13 @@ ghost use Rattle.lucy_net_rows.specs.ByHand.{IsLinked, AreLinked, AreApart, AreJ
 
 use crate::complete::{are_complete, have_few_ends};
 use crate::parity::{Link, first_parts, join_all};
+use crate::show::print_list;
 use lucy_host::Host;
 use lucy_net::{ActorKind, Net, proper_nets_are_plugged};
 use lucy_word::OutOfMemory;
 use lucy_worker::{OpenGate, Part, Worker, ends_are_kept, meet_between};
 use std::alloc::Global;
+use std::io;
 use std::marker::Model;
 
 /// The two workers, and where the ends of each ring are. Contracts see how many rings there are.
@@ -114,12 +116,10 @@ impl ByHand {
         }
     }
 
-    /// What the output took, oldest first.
-    pub(crate) fn output(&self) -> &[i64] {
-        match output_in(self.even.parts()) {
-            Some(list) => list,
-            None => output_in(self.odd.parts()).unwrap_or(&[]),
-        }
+    /// Prints what the output took, oldest first.
+    pub(crate) fn print_output(&self, rt: &impl Print) -> io::Result<()> {
+        print_output_in(rt, self.even.parts())?;
+        print_output_in(rt, self.odd.parts())
     }
 }
 
@@ -129,14 +129,15 @@ fn operations_done(part: &Part) -> u64 {
     whole.saturating_add(u64::from(part.state.step))
 }
 
-// What the first output among these took.
-fn output_in(parts: &[Part]) -> Option<&[i64]> {
+// Prints what the outputs among these took.
+fn print_output_in(rt: &impl Print, parts: &[Part]) -> io::Result<()> {
     for part in parts {
-        if let ActorKind::Output(_) = part.actor.kind {
-            return Some(part.output.as_slice());
+        if let ActorKind::Output(number) = part.actor.kind {
+            print!(rt; "output {number}")?;
+            print_list(rt, "", &part.output)?;
         }
     }
-    None
+    Ok(())
 }
 
 // Whether an actor's operator is one of the first, so many of them.

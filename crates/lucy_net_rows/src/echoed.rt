@@ -205,9 +205,10 @@ fn show_all<R: Print + AllocGlobal + Threads + Sync, F: Fn(u32, i64, i64) -> i64
     requires none { lent host.now ≡ [] }
 {
     show_rounds(rt, host, word)?;
-    for workers in [1, 2, 3, 64] {
-        show_whole(rt, host, word, workers)?;
-    }
+    show_whole(rt, host, word, 1)?;
+    show_whole(rt, host, word, 2)?;
+    show_whole(rt, host, word, 3)?;
+    show_whole(rt, host, word, 64)?;
     show_instants(rt, host, word, 1)?;
     show_instants(rt, host, word, 2)
 }

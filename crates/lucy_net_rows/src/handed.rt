@@ -7,7 +7,7 @@ ghost use Rattle.lucy_host.specs.Operators.{kinds_of};
 use crate::by_hand::{ByHand, Moves};
 use crate::ready::{Ready, ready_text};
 use crate::row::Row;
-use crate::show::{no_memory, print_list};
+use crate::show::no_memory;
 use lucy_core::Core;
 use lucy_host::Host;
 use std::alloc::Global;
@@ -131,7 +131,7 @@ fn print_rounds<F: Fn(u32, i64, i64) -> i64 + Sync>(
         print_round(rt, host, core, hand, actors, before + 1)?;
     }
     println!(rt; "done {}, by a core {}", hand.done(), core.finished())?;
-    print_list(rt, "output 0", hand.output())
+    hand.print_output(rt)
 }
 
 // A core of what this one was made of, and two workers of its net. The input has these items.

@@ -105,7 +105,10 @@ fn show_all<
 }
 
 fn main(rt: HostRuntime) -> io::Result<()> {
-    let (Ok(ops), Ok(kinds)) = (operators(rt.alloc()), operators(rt.alloc())) else {
+    let Ok(ops) = operators(rt.alloc()) else {
+        return Err(show::no_memory());
+    };
+    let Ok(kinds) = ops.copy(rt.alloc()) else {
         return Err(show::no_memory());
     };
     let host = Host::new(ops, |op: u32, a: i64, b: i64| kinds.value(op, a, b));

@@ -8,21 +8,31 @@ const MOST_LOOKS: u64 = 1_000_000_000;
 /// It lets a worker pass once the other one has come to it as often, or after so many looks in vain. Then nobody waits any more.
 #[derive(Drop)]
 pub(crate) struct Pair {
-    passes: [AtomicU64; 2],
+    first: AtomicU64,
+    second: AtomicU64,
     late: AtomicU64,
 }
 
 impl Pair {
     pub(crate) fn new() -> Pair {
         Pair {
-            passes: [AtomicU64::new(0), AtomicU64::new(0)],
+            first: AtomicU64::new(0),
+            second: AtomicU64::new(0),
             late: AtomicU64::new(0),
+        }
+    }
+
+    fn counter(&self, worker: u32) -> &AtomicU64 {
+        if worker == 0 {
+            &self.first
+        } else {
+            &self.second
         }
     }
 
     /// How often the worker of this number, 0 or else 1, came.
     pub(crate) fn passes(&self, worker: u32) -> u64 {
-        self.passes[worker.min(1) as usize].load(Ordering::SeqCst)
+        self.counter(worker).load(Ordering::SeqCst)
     }
 
     /// Whether one looked in vain.
@@ -33,7 +43,7 @@ impl Pair {
 
 impl Gate for Pair {
     fn pass(&self, worker: u32) {
-        let before = self.passes[worker.min(1) as usize].fetch_add(1, Ordering::SeqCst);
+        let before = self.counter(worker).fetch_add(1, Ordering::SeqCst);
         for _ in 0..MOST_LOOKS {
             if self.passes(1 - worker.min(1)) > before || self.is_late() {
                 return;

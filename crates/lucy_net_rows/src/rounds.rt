@@ -17,6 +17,7 @@ use lucy_results::homes_of;
 use lucy_runner::Runner;
 use lucy_word::OutOfMemory;
 use lucy_worker::Gate;
+use std::alloc::Global;
 use std::io;
 use std::sync::atomic::{AtomicU64, Ordering};
 use std::thread::Threads;
@@ -36,77 +37,68 @@ impl Gate for Rounds {
     }
 }
 
-// How many events a runner did.
-fn events_done(runner: &Runner) -> u64 {
+// How many operations these actors have done, so many from actor 0 on.
+fn events_done(runner: &Runner, actors: u32) -> u64
+    requires { actors ≡ length runner.now.seen.net.actors }
+{
     let mut events = 0u64;
-    for actor in 0..runner.actors() {
-        events = events.saturating_add(runner.done(actor as u32));
+    for actor in 0..actors {
+        events = events.saturating_add(runner.done(actor));
     }
     events
 }
 
-// A finished runner of a core, which has so many actors, by 1 to 64 workers: actor `a` is in worker `a mod workers`.
-fn run<R: AllocGlobal + Threads + Sync, F: Fn(u32, i64, i64) -> i64 + Sync>(
-    rt: &R,
-    host: &Host<F>,
-    gate: &Rounds,
-    core: Core,
-    actors: u32,
-    workers: u32,
-) -> Result<Runner, OutOfMemory>
-    requires serves { Serves F.pre F.post host.now }
-    requires kinds { kinds_of (lent host.now) ≡ kinds_of core.operators }
+// A runner of a core, which has so many actors, by 1 to 64 workers: actor `a` is in worker `a mod workers`.
+fn runner_of(alloc: Global, core: Core, actors: u32, workers: u32) -> Result<Runner, OutOfMemory>
     requires unbegun { IsUnbegun core }
     requires actors { actors ≡ length core.net.actors }
     requires workers { (1 ≤ workers) × (workers ≤ 64) }
-    ensures { IfOk result (λ runner. runner.seen.net ≡ core.net) }
+    ensures net { IfOk result (λ runner. runner.seen.net ≡ core.net) }
+    ensures operators { IfOk result (λ runner. runner.seen.operators ≡ core.operators) }
 {
-    let homes = homes_of(rt.alloc(), actors as usize, workers)?;
-    let mut runner = Runner::new(rt.alloc(), core, workers, &homes)?;
-    runner.go(rt, host, gate);
-    Ok(runner)
+    let homes = homes_of(alloc, actors as usize, workers)?;
+    Runner::new(alloc, core, workers, &homes)
 }
 
-// So, with the nanoseconds that it took.
-fn run_timed<R: Clock + AllocGlobal + Threads + Sync, F: Fn(u32, i64, i64) -> i64 + Sync>(
+// Makes all rounds, and answers how many, and the nanoseconds that they took.
+fn go<R: Clock + Threads + Sync, F: Fn(u32, i64, i64) -> i64 + Sync>(
     rt: &R,
     host: &Host<F>,
-    gate: &Rounds,
-    core: Core,
-    actors: u32,
-    workers: u32,
-) -> io::Result<(Runner, u128)>
+    runner: &mut Runner,
+) -> io::Result<(u64, u128)>
     requires serves { Serves F.pre F.post host.now }
-    requires kinds { kinds_of (lent host.now) ≡ kinds_of core.operators }
-    requires unbegun { IsUnbegun core }
-    requires actors { actors ≡ length core.net.actors }
-    requires workers { (1 ≤ workers) × (workers ≤ 64) }
-    ensures { IfOk result (λ r. r.0.seen.net ≡ core.net) }
+    requires kinds { kinds_of (lent host.now) ≡ kinds_of runner.old.seen.operators }
+    ensures net { runner.new.seen.net ≡ runner.old.seen.net }
 {
-    let start = Instant::now(rt)?;
-    let Ok(runner) = run(rt, host, gate, core, actors, workers) else {
-        return Err(no_memory());
+    let gate = Rounds {
+        passed: AtomicU64::new(0),
     };
+    let start = Instant::now(rt)?;
+    runner.go(rt, host, &gate);
     let time = start.elapsed(rt)?.as_nanos();
-    Ok((runner, time))
+    Ok((gate.passed.load(Ordering::Relaxed), time))
 }
 
 // Prints the events of a runner, and whether it made more rounds than that, and what the first output took. Where it is timed, prints
 // the sum of what the output took, the nanoseconds, and the numbers of events and rounds.
-fn print_run(
-    rt: &impl Print,
-    row: &Row<'_>,
+fn print_run<R: Print + Clock + Threads + Sync, F: Fn(u32, i64, i64) -> i64 + Sync>(
+    rt: &R,
+    host: &Host<F>,
+    timed: bool,
     placed: &Placed,
     clocks: &[NodeClock],
-    runner: &Runner,
-    rounds: u64,
-    time: u128,
+    runner: &mut Runner,
+    actors: u32,
 ) -> io::Result<()>
-    requires flat { IsFlat placed.now.nodes clocks.now runner.now.seen.net }
+    requires serves { Serves F.pre F.post host.now }
+    requires kinds { kinds_of (lent host.now) ≡ kinds_of runner.old.seen.operators }
+    requires flat { IsFlat placed.now.nodes clocks.now runner.old.seen.net }
+    requires actors { actors ≡ length runner.old.seen.net.actors }
 {
-    let events = events_done(runner);
+    let (rounds, time) = go(rt, host, runner)?;
+    let events = events_done(runner, actors);
     let list = output_by(placed, clocks, runner, 0).unwrap_or(&[]);
-    if row.timed {
+    if timed {
         return println!(rt; "{} {time} {events} {rounds}", sum_of(list));
     }
     println!(rt;
@@ -124,9 +116,6 @@ pub(crate) fn show<
     requires { Serves F.pre F.post host.now }
 {
     let workers = row.numbers.first().copied().unwrap_or(1).clamp(1, 64);
-    let gate = Rounds {
-        passed: AtomicU64::new(0),
-    };
     let Some(
         Ready {
             placed,
@@ -138,11 +127,8 @@ pub(crate) fn show<
     else {
         return println!(rt; "failed");
     };
-    match run_timed(rt, host, &gate, core, actors, workers) {
-        Ok((runner, time)) => {
-            let rounds = gate.passed.load(Ordering::Relaxed);
-            print_run(rt, row, &placed, &clocks, &runner, rounds, time)
-        }
-        Err(error) => Err(error),
+    match runner_of(rt.alloc(), core, actors, workers) {
+        Ok(mut runner) => print_run(rt, host, row.timed, &placed, &clocks, &mut runner, actors),
+        Err(_) => Err(no_memory()),
     }
 }
