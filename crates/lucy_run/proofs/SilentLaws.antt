@@ -1,6 +1,6 @@
 -- Instants in which no output has an item.
 use Rattle.std.proofs.Common.{ℕ, suc, zero, ◌≡◌, ◌≤◌, ◌<◌, ◌+◌, ◌-◌, ◌*◌, ◌/◌, min, List, [], ◌∷◌, ◌++◌, true, false, None, inl, inr, if◌then◌else◌, ap, sym, refl, ◌∙◌, subst, arith}
-use Rattle.std.specs.Prelude.{ℤ, Bool, Some, slice_get}
+use Rattle.std.specs.Prelude.{ℤ, Bool, slice_get}
 use Rattle.std.proofs.lemmas.Bool.{cases_lt}
 use Rattle.std.proofs.Math.Nat.{div-mul-le_self, add-mul}
 use Rattle.lucy_word.specs.Bits.{Bits, bit_at, ones_to, one_if}

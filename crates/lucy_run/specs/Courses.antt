@@ -111,6 +111,13 @@ pub record IsAlong (p : Program) (first : SeenSource) (items : List ItemOf) (now
   pub few : most_instants c.given ≤ limit_number limit.Instants
   pub block : IsBlock c.block
 
+-- a reader that has read nothing of these inputs, and a list without an item for each
+pub record IsUnread (inputs : List InputSpec) (reader : FeedState) (none : List (List ℤ)) : Type 0 where
+  pub begun : (source : SeenSource) → HasRead inputs source source reader [] []
+  pub fresh : AreFresh inputs reader []
+  pub kept : reader.reader.inputs ≡ inputs
+  pub empty : none ≡ values_by_stream (length inputs) []
+
 -- a course of some program that can be run
 abbrev pub IsCourseUnderWay : (now : SeenSource) → CourseView → Type 0
 IsCourseUnderWay now c = (p : Program) × (first : SeenSource) × (items : List ItemOf) × CanBeRunInBlocks p × IsAlong p first items now c

@@ -15,7 +15,7 @@ ghost use Rattle.lucy_kahn.specs.Turns.{params_in};
 ghost use Rattle.lucy_feed.specs.Resuming.{AreMet};
 ghost use Rattle.lucy_run.specs.Paces.{IsPace, IsBlock};
 ghost use Rattle.lucy_run.specs.Owes as owes;
-ghost use Rattle.lucy_run.specs.Courses.{AreSilent, IsNextTarget, IsCourseBegun, IsCourseUnderWay, HasMore, HasStopped, GivesUpBehind, CourseGoesOn, EndsOver};
+ghost use Rattle.lucy_run.specs.Courses.{AreSilent, IsUnread, IsNextTarget, IsCourseBegun, IsCourseUnderWay, HasMore, HasStopped, GivesUpBehind, CourseGoesOn, EndsOver};
 ghost use Rattle.lucy_run.specs.Played.{ReadsOn, CountsAllow, PlayerCanGoOn, PlayerHasGoneOn};
 
 use crate::ending::Ending;
@@ -60,6 +60,16 @@ impl<'a> Model for Course<'a> {
     ghost Value = { CourseView };
 
     ghost view = { λ c. record { words = c.words.now; outputs = c.outputs.now; reader = c.reader; player = c.player; given = c.given; block = c.block; target = c.target; horizon = c.horizon } };
+}
+
+// What reads the items of these inputs, and an empty list for each.
+fn unread(alloc: Global, inputs: Vec<InputSpec>) -> Result<(FeedReader, Inputs), OutOfMemory>
+    requires { length inputs.items < 2 ^ 32 }
+    ensures { IfOk result (λ r. IsUnread inputs.items r.0 r.1) }
+{
+    let none = empty_lists(alloc, inputs.len())?;
+    let reader = FeedReader::new(alloc, inputs)?;
+    Ok((reader, none))
 }
 
 // How many items of each input, of these words, so many instants need.
@@ -130,9 +140,8 @@ impl<'a> Course<'a> {
         ensures begun { IfOk result (IsCourseBegun (kinds_of (lent host.now)) placed.now.nodes clocks.now inputs.items outputs.now pace) }
     {
         let words = param_words(placed, clocks);
-        let none = empty_lists(alloc, inputs.len())?;
-        let reader = FeedReader::new(alloc, inputs)?;
-        let player = Player::new(
+        let (reader, none) = unread(alloc, inputs)?;
+        match Player::new(
             rt,
             alloc,
             placed,
@@ -144,17 +153,22 @@ impl<'a> Course<'a> {
             none,
             0,
             pace.workers,
-        )?;
-        Ok(Course {
-            words,
-            outputs,
-            reader,
-            player,
-            given: pace.instants,
-            block: pace.block,
-            target: 0,
-            horizon: 0,
-        })
+        ) {
+            Ok(player) => Ok(Course {
+                words,
+                outputs,
+                reader,
+                player,
+                given: pace.instants,
+                block: pace.block,
+                target: 0,
+                horizon: 0,
+            }),
+            Err(error) => {
+                drop(reader);
+                Err(error)
+            }
+        }
     }
 
     /// How many instants were run.
@@ -307,6 +321,8 @@ impl<'a> Course<'a> {
         ensures unread { self.entry.words ≡ [] → source.new ≡ source.old }
         ensures count { (I.seen source.old).faults ≤ (I.seen source.new).faults }
     {
-        self.end(source)
+        let ending = self.end(source);
+        drop(self);
+        ending
     }
 }

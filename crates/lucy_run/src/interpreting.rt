@@ -110,9 +110,12 @@ pub fn kahn<F: Fn(u32, i64, i64) -> i64 + Sync, I: Source, O: Sink>(
         ..
     } = accepted;
     accepted_programs_are_clocked();
-    let feed = match main_feed(alloc, inputs, source) {
-        Ok(feed) => feed,
-        Err(_) => return Ending::OutOfMemory,
+    // All ways meet here, so that the proof counts once what is let go.
+    let ending = match main_feed(alloc, inputs, source) {
+        Ok(feed) => {
+            write_interpreted(alloc, &placed, &clocks, &outputs, host, instants, feed, out)
+        }
+        Err(_) => Ending::OutOfMemory,
     };
-    write_interpreted(alloc, &placed, &clocks, &outputs, host, instants, feed, out)
+    ending
 }

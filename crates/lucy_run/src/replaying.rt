@@ -81,14 +81,15 @@ fn print<O: Sink>(
         Ok(writer) => writer,
         Err(_) => return Ending::OutOfMemory,
     };
-    match write_all(out, &text) {
-        Ok(()) => {}
-        Err(_) => return Ending::WriteFault,
-    }
-    match writer.write(&lists, horizon, out) {
-        Ok(()) => ending,
+    let ending = match write_all(out, &text) {
+        Ok(()) => match writer.write(&lists, horizon, out) {
+            Ok(()) => ending,
+            Err(_) => Ending::WriteFault,
+        },
         Err(_) => Ending::WriteFault,
-    }
+    };
+    drop(writer);
+    ending
 }
 
 // Does events on a core without an event so far, and writes what they come to.
@@ -167,18 +168,22 @@ fn replay_feed<F: Fn(u32, i64, i64) -> i64 + Sync, O: Sink>(
         Err(_) => return Ok(Ending::OutOfMemory),
     };
     match Core::new(alloc, net, schedule, items, host.ops(), extent.horizon) {
-        Ok(mut core) => judge(
-            alloc,
-            placed,
-            clocks,
-            outputs,
-            &mut core,
-            host,
-            picks,
-            extent.horizon,
-            extent.ending,
-            out,
-        ),
+        Ok(mut core) => {
+            let ending = judge(
+                alloc,
+                placed,
+                clocks,
+                outputs,
+                &mut core,
+                host,
+                picks,
+                extent.horizon,
+                extent.ending,
+                out,
+            );
+            drop(core);
+            ending
+        }
         Err(_) => Ok(Ending::OutOfMemory),
     }
 }
@@ -218,11 +223,12 @@ pub fn replay<F: Fn(u32, i64, i64) -> i64 + Sync, I: Source, O: Sink>(
     } = accepted;
     accepted_programs_are_clocked();
     replays_go_by_streams();
-    let feed = match main_feed(alloc, inputs, source) {
-        Ok(feed) => feed,
-        Err(_) => return Ok(Ending::OutOfMemory),
+    // All ways meet here, so that the proof counts once what is let go.
+    let ending = match main_feed(alloc, inputs, source) {
+        Ok(feed) => replay_feed(
+            alloc, &placed, &clocks, net, schedule, &outputs, host, instants, picks, feed, out,
+        ),
+        Err(_) => Ok(Ending::OutOfMemory),
     };
-    replay_feed(
-        alloc, &placed, &clocks, net, schedule, &outputs, host, instants, picks, feed, out,
-    )
+    ending
 }

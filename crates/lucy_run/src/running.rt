@@ -171,7 +171,10 @@ pub fn run<
 {
     match write_heading(alloc, &accepted, out) {
         Ok(()) => (),
-        Err(ending) => return ending,
+        Err(ending) => {
+            drop(accepted);
+            return ending;
+        }
     }
     let Accepted {
         placed,
@@ -183,10 +186,17 @@ pub fn run<
         ..
     } = accepted;
     accepted_programs_are_clocked();
-    match Course::new(
+    // All ways meet here, so that the proof counts once what is let go; and a call of `drop` is one step, where the end of a scope is one
+    // for each list.
+    let ending = match Course::new(
         rt, alloc, &placed, &clocks, net, schedule, inputs, &outputs, host, gate, pace,
     ) {
-        Ok(mut course) => play_course(rt, alloc, host, gate, &mut course, &outputs, source, out),
+        Ok(mut course) => {
+            let ending = play_course(rt, alloc, host, gate, &mut course, &outputs, source, out);
+            drop(course);
+            ending
+        }
         Err(_) => Ending::OutOfMemory,
-    }
+    };
+    ending
 }

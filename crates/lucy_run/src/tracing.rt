@@ -133,10 +133,17 @@ fn trace_net<F: Fn(u32, i64, i64) -> i64 + Sync, O: Sink>(
         Ok(core) => core,
         Err(_) => return Ending::OutOfMemory,
     };
-    match new_runner(alloc, net, schedule, inputs, host.ops(), horizon, workers) {
-        Ok(mut runner) => trace_pair(alloc, &mut runner, &mut core, host, ending, out),
+    // All ways meet here, and `drop` is one step of the proof, where the end of a scope is one for each list.
+    let ending = match new_runner(alloc, net, schedule, inputs, host.ops(), horizon, workers) {
+        Ok(mut runner) => {
+            let ending = trace_pair(alloc, &mut runner, &mut core, host, ending, out);
+            drop(runner);
+            ending
+        }
         Err(_) => Ending::OutOfMemory,
-    }
+    };
+    drop(core);
+    ending
 }
 
 // Runs a program's net on what main is fed, and writes its trace.
@@ -224,11 +231,12 @@ pub fn trace<F: Fn(u32, i64, i64) -> i64 + Sync, I: Source, O: Sink>(
         ..
     } = accepted;
     accepted_programs_are_clocked();
-    let feed = match main_feed(alloc, inputs, source) {
-        Ok(feed) => feed,
-        Err(_) => return Ending::OutOfMemory,
+    // All ways meet here, so that the proof counts once what is let go.
+    let ending = match main_feed(alloc, inputs, source) {
+        Ok(feed) => trace_feed(
+            alloc, &placed, &clocks, net, schedule, host, instants, workers, feed, out,
+        ),
+        Err(_) => Ending::OutOfMemory,
     };
-    trace_feed(
-        alloc, &placed, &clocks, net, schedule, host, instants, workers, feed, out,
-    )
+    ending
 }

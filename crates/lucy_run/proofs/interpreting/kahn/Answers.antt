@@ -10,40 +10,39 @@ use Rattle.lucy_results.specs.Running.{HasSchedule}
 use Rattle.lucy_run.proofs.AcceptedLaws.{few_inputs, inputs_count, outputs_count, scheduled}
 use Rattle.lucy_run.proofs.EndsLaws.{kahn_given_up, kahn_done}
 use Rattle.lucy_run.proofs.interpreting.kahn.Goals as goal
+use Rattle.lucy_run.proofs.interpreting.kahn.Goals.{in-Ok, in-Err}
 
 pub main_feed-requires : goal.main_feed-requires
 main_feed-requires g c = few_inputs _ c.requires.accepted.0 c.requires.accepted.1 c.args.accepted c.requires.accepted.2
 
-pub returns-in-Err-clause-ends : goal.returns-in-Err-clause-ends
-returns-in-Err-clause-ends g c =
-    let (taken, stop, read, asked, fed) = c.main_feed.ensures.fed in
-    kahn_given_up (kinds_of (lent c.args.host.now)) c.args.accepted c.args.instants _ _ taken stop _ read asked
-
-pub write_interpreted-requires-clause-clocked : goal.write_interpreted-requires-clause-clocked
-write_interpreted-requires-clause-clocked g c = λ κs within.
+pub write_interpreted-ending-requires-clause-clocked : goal.write_interpreted-ending-requires-clause-clocked
+write_interpreted-ending-requires-clause-clocked g c = λ κs within.
     subst (AreClocked c.args.accepted.placed.nodes) (sym c.deref.ensures.value)
     (c.accepted_programs_are_clocked.ensures.clocked (lent c.args.host.now) c.requires.accepted.1 c.requires.accepted.0 c.args.accepted c.requires.accepted.2)
 
-pub write_interpreted-requires-clause-known : goal.write_interpreted-requires-clause-known
-write_interpreted-requires-clause-known g c = λ κs within.
+pub write_interpreted-ending-requires-clause-known : goal.write_interpreted-ending-requires-clause-known
+write_interpreted-ending-requires-clause-known g c = λ κs within.
     c.accepted_programs_are_clocked.ensures.operators (lent c.args.host.now) c.requires.accepted.1 c.requires.accepted.0 c.args.accepted c.requires.accepted.2
 
-pub write_interpreted-requires-clause-scheduled : goal.write_interpreted-requires-clause-scheduled
-write_interpreted-requires-clause-scheduled g c = λ κs within.
+pub write_interpreted-ending-requires-clause-scheduled : goal.write_interpreted-ending-requires-clause-scheduled
+write_interpreted-ending-requires-clause-scheduled g c = λ κs within.
     let P : List NodeClock → Type 0 = λ u. HasSchedule c.args.accepted.placed.nodes u in
     subst P (sym c.deref.ensures.value) (scheduled _ c.requires.accepted.0 c.requires.accepted.1 c.args.accepted c.requires.accepted.2)
 
-pub write_interpreted-requires-clause-outputs : goal.write_interpreted-requires-clause-outputs
-write_interpreted-requires-clause-outputs g c = λ κs within.
-    ap length c.deref-2.ensures.value ∙ outputs_count _ c.requires.accepted.0 c.requires.accepted.1 c.args.accepted c.requires.accepted.2
+pub write_interpreted-ending-requires-clause-outputs : goal.write_interpreted-ending-requires-clause-outputs
+write_interpreted-ending-requires-clause-outputs g c = λ κs within.
+    ap length c.deref-in-Ok.ensures.value ∙ outputs_count _ c.requires.accepted.0 c.requires.accepted.1 c.args.accepted c.requires.accepted.2
 
-pub write_interpreted-requires-clause-inputs : goal.write_interpreted-requires-clause-inputs
-write_interpreted-requires-clause-inputs g c = λ κs within.
+pub write_interpreted-ending-requires-clause-inputs : goal.write_interpreted-ending-requires-clause-inputs
+write_interpreted-ending-requires-clause-inputs g c = λ κs within.
     let lists = IfOk-at_ok (λ (feed : Feed). length feed.items ≡ length c.args.accepted.inputs.items) c.in-Ok.is c.main_feed.ensures.lists in
     sym (lists ∙ inputs_count _ c.requires.accepted.0 c.requires.accepted.1 c.args.accepted c.requires.accepted.2)
 
 pub returns-clause-ends : goal.returns-clause-ends
 returns-clause-ends g c =
     let (taken, stop, read, asked, fed) = c.main_feed.ensures.fed in
-    kahn_done (kinds_of (lent c.args.host.now)) c.args.accepted c.args.instants _ _ _ _ c.write_interpreted.result c.in-Ok.feed c.main_feed.result c.deref.result.now c.deref-2.result.now taken stop read asked fed c.in-Ok.is
-    c.deref.ensures.value c.deref-2.ensures.value c.write_interpreted.ensures.ends
+    elim c.match-main_feed.branch [
+      | in-Ok w ↦ rw w.ending-is (rw w.out-is (kahn_done (kinds_of (lent c.args.host.now)) c.args.accepted c.args.instants _ _ _ _ w.write_interpreted-ending.result w.in-Ok.feed c.main_feed.result w.deref.result.now w.deref-in-Ok.result.now taken stop read asked fed w.in-Ok.is
+          w.deref.ensures.value w.deref-in-Ok.ensures.value w.write_interpreted-ending.ensures.ends))
+      | in-Err w ↦ rw w.ending-is (rw w.out-is (kahn_given_up (kinds_of (lent c.args.host.now)) c.args.accepted c.args.instants _ _ taken stop _ read asked))
+    ]

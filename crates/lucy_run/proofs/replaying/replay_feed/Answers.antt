@@ -30,12 +30,12 @@ new-requires g c =
     c.requires.known c.requires.flat c.requires.sound horizon_is.suffice early in
     subst (λ (ops : List Operator). CanMakeCore c.args.net c.args.schedule c.args.feed.items ops c.in-Ok.extent.horizon) (sym c.ops.ensures) fixed
 
-pub judge-requires-clause-unbegun : goal.judge-requires-clause-unbegun
-judge-requires-clause-unbegun g c κs within = λ a.
+pub judge-ending-requires-clause-unbegun : goal.judge-ending-requires-clause-unbegun
+judge-ending-requires-clause-unbegun g c κs within = λ a.
     ap (λ (s : Seen). done_of s.done a) c.in-Ok-new.ensures ∙ first_unbegun c.args.net c.args.schedule c.args.feed.items c.ops.result.now c.in-Ok.extent.horizon a
 
-pub judge-requires-clause-whole : goal.judge-requires-clause-whole
-judge-requires-clause-whole g c κs within =
+pub judge-ending-requires-clause-whole : goal.judge-ending-requires-clause-whole
+judge-ending-requires-clause-whole g c κs within =
     ends_whole c.param_words-words.result.now c.args.given c.args.feed.items c.args.feed.stop c.in-Ok.extent.ending c.in-Ok.ensures.ending
 
 pub returns-in-Ok-new-clause-left : goal.returns-in-Ok-new-clause-left
@@ -46,11 +46,11 @@ returns-in-Ok-new-clause-left g c =
     let of_words = c.param_words-words.ensures.words in
     let horizon_is = subst (λ (ws : List Bits). IsHorizonOf ws c.args.given c.args.feed.items horizon) of_words c.in-Ok.ensures.horizon in
     let core_is = c.in-Ok-new.ensures ∙ ap (λ (ops : List Operator). first_seen c.args.net c.args.schedule c.args.feed.items ops horizon) c.ops.ensures in
-    let left = c.judge.ensures.left words c.args.given c.args.feed.items c.args.feed.stop c.in-Ok.ensures.ending in
+    let left = c.judge-ending.ensures.left words c.args.given c.args.feed.items c.args.feed.stop c.in-Ok.ensures.ending in
     let P : Seen → Type 0 = λ s. LeavesJudged (JudgesFrom s nodes c.args.outputs.now words c.args.given c.args.feed.items c.args.feed.stop c.args.picks.now)
-    (g.O.Sink.seen c.args.out.now) (g.O.Sink.seen c.judge.new.out) c.judge.result in
+    (g.O.Sink.seen c.args.out.now) (g.O.Sink.seen c.judge-ending.new.out) c.judge-ending.result in
     let Q : List Bits → Type 0 = λ ws. LeavesJudged (JudgesFrom (first_seen c.args.net c.args.schedule c.args.feed.items (lent c.args.host.now) horizon) nodes c.args.outputs.now ws
-    c.args.given c.args.feed.items c.args.feed.stop c.args.picks.now) (g.O.Sink.seen c.args.out.now) (g.O.Sink.seen c.judge.new.out) c.judge.result in
+    c.args.given c.args.feed.items c.args.feed.stop c.args.picks.now) (g.O.Sink.seen c.args.out.now) (g.O.Sink.seen c.judge-ending.new.out) c.judge-ending.result in
     (horizon, horizon_is, subst Q of_words (subst P core_is left))
 
 pub returns-in-Err-new-clause-left : goal.returns-in-Err-new-clause-left
