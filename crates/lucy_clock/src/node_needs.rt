@@ -11,15 +11,16 @@ ghost use Rattle.lucy_clock.specs.declared.error.ClockError.{ClockError as Fault
 ghost use Rattle.lucy_clock.specs.declared.error.ClockError.TheVariants as err;
 ghost use Rattle.lucy_clock.specs.Clocks.{AreSignatures, clocks_of};
 ghost use Rattle.lucy_clock.specs.Listing.{needs_of, RefusesNeeds};
-ghost use Rattle.lucy_clock.specs.Drafts.{seen, side_term};
+ghost use Rattle.lucy_clock.specs.Drafts.{seen, side_term, IsListedNode};
 
+use crate::draft::Drafts;
 use crate::error::ClockError;
 use crate::listing::{Listing, list_needs};
 use crate::own_words::{copied, delayed, turned};
 use crate::side::{Draft, Factor, Side};
 use crate::signature::Signature;
 use lucy_need::{Need, NeedList, Needs, Term, always};
-use lucy_place::Placed;
+use lucy_place::{Placed, PlacedNode};
 use lucy_word::{Limit, Word};
 use std::alloc::Global;
 
@@ -76,6 +77,38 @@ fn need_list(alloc: Global, drafts: &[Draft<'_>]) -> Result<Vec<Need>, ClockErro
     Ok(list)
 }
 
+// The needs that drafts stand for, unless their words have together more bits than are allowed; no word is copied before.
+fn stored_needs(alloc: Global, drafts: &Drafts<'_>) -> Result<NeedList, ClockError>
+    ensures ok { IfOk result (λ list. list ≡ drafts.now) }
+    ensures few { IfOk result (λ _. length drafts.now ≤ most_needs) }
+    ensures bits { IfOk result (λ _. all_bits drafts.now ≤ limit_number lim.Bits) }
+    ensures refused { IfErr result (RefusesNeeds drafts.now) }
+{
+    if drafts.bits() > Limit::Bits.number() {
+        return Err(ClockError::Limit(Limit::Bits));
+    }
+    let list = need_list(alloc, drafts.list())?;
+    Ok(NeedList::of_stored(list))
+}
+
+// The needs of a node below those with these signatures.
+fn listed(alloc: Global, node: &PlacedNode, above: &[Signature]) -> Result<NeedList, ClockError>
+    requires { IsListedNode above.now node.now }
+    ensures ok { IfOk result (λ list. list ≡ needs_of above.now node.now) }
+    ensures few { IfOk result (λ _. length (needs_of above.now node.now) ≤ most_needs) }
+    ensures bits { IfOk result (λ _. all_bits (needs_of above.now node.now) ≤ limit_number lim.Bits) }
+    ensures refused { IfErr result (RefusesNeeds (needs_of above.now node.now)) }
+{
+    let always = always(alloc)?;
+    let listing = Listing {
+        node,
+        above,
+        always: &always,
+    };
+    let drafts = list_needs(alloc, listing)?;
+    stored_needs(alloc, &drafts)
+}
+
 /// The needs of a node, by number from 0, with the signatures of the nodes above it: an assignment of words keeps the node's
 /// clock rules exactly where it meets them (`needs_are_the_rules`). `Limit(Needs)` comes exactly where they are more, else
 /// `Limit(Bits)` exactly where their words have together more bits; no word is copied before.
@@ -92,21 +125,11 @@ pub fn needs(
     ensures refused { (n : Node) → slice_get placed.now.nodes node ≡ Some n → IfErr result (RefusesNeeds (needs_of above.now n)) }
     ensures past { (n : Node) → slice_get placed.now.nodes node ≡ Some n → IfOk result (λ _. (length (needs_of above.now n) ≤ most_needs) × (all_bits (needs_of above.now n) ≤ limit_number lim.Bits)) }
 {
-    let always = always(alloc)?;
     let found = placed.node(node);
-    let listing = Listing {
-        node: found,
-        above,
-        always: &always,
-    };
-    let drafts = list_needs(alloc, listing)?;
-    if drafts.bits() > Limit::Bits.number() {
-        return Err(ClockError::Limit(Limit::Bits));
-    }
+    let list = listed(alloc, found, above)?;
     let clocks = 1 + found.places.list().len() + found.calls.list().len();
-    let list = need_list(alloc, drafts.list())?;
     Ok(Needs {
         clocks: clocks as u32,
-        list: NeedList::of_stored(list),
+        list,
     })
 }
