@@ -4,6 +4,7 @@ use Prim.Native.Nat.{◌∣◌}
 use Rattle.lucy_word.specs.Bits.{most_bits}
 use Rattle.lucy_need.specs.declared.need.Term.{Term}
 use Rattle.lucy_need.specs.declared.need.Need.{Need}
+use Rattle.lucy_need.specs.declared.need.Needs.{Needs}
 use Rattle.lucy_shape.specs.declared.shape.ClockShape.{ClockShape}
 use Rattle.lucy_shape.specs.Fitting.{unused, variable_count, most_positions}
 use Rattle.lucy_rates.specs.declared.fraction.Fraction.{Fraction}
@@ -52,6 +53,12 @@ pub record AreMultiplied (roots : List ℕ) (rates : List Fraction) (factors : L
   pub each : (c : ℕ) → c < upto → slice_index vector c ≡ slice_index factors (slice_index roots c) / (rate_at rates c).den * (rate_at rates c).num
   pub few : (c : ℕ) → c < upto → slice_index vector c ≤ 2 ^ 32
 
+-- the numbers of the clocks, by some factors
+pub record AreNumbers (needs : List Need) (roots : List ℕ) (rates : List Fraction) (vector : List ℕ) : Type 0 where
+  pub factors : List ℕ
+  pub are_factors : AreFactors needs roots rates (length needs) factors
+  pub are_multiplied : AreMultiplied roots rates factors (length roots) vector
+
 -- the clock's number counts for the top of this root's component: in the base's own the base alone does
 abbrev pub counts_for : List ℕ → ℕ → ℕ → Bool
 counts_for roots root c = (slice_index roots c == root) && ((c == 0) || not (root == 0))
@@ -65,6 +72,11 @@ top_to roots vector root (suc c) = if counts_for roots root c then max (top_to r
 pub record AreTops (roots vector : List ℕ) (upto : ℕ) (tops : List ℕ) : Type 0 where
   pub size : length tops ≡ length roots
   pub each : (root : ℕ) → root < length roots → slice_index tops root ≡ top_to roots (slice_index vector) root upto
+
+-- the top of each clock's component has a one, and no more than the number of a clock
+pub record HaveOnes (roots tops : List ℕ) : Type 0 where
+  pub some : (c : ℕ) → c < length roots → 0 < slice_index tops (slice_index roots c)
+  pub few : (c : ℕ) → c < length roots → slice_index tops (slice_index roots c) ≤ 2 ^ 32
 
 -- a clock but the base, or the base where it is used
 abbrev pub counts : Bool → ℕ → Bool
@@ -83,6 +95,10 @@ pub record IsPeriodTo (is_base_used : Bool) (roots tops : List ℕ) (upto period
 -- each common multiple of them is over the limit
 abbrev pub HasLargeCommon : Bool → (ℕ → ℕ) → ℕ → Type 0
 HasLargeCommon is_base_used top clocks = (n : ℕ) → 0 < n → ((c : ℕ) → c < clocks → counts is_base_used c ≡ true → top c ∣ n) → most_positions < n
+
+-- so of the tops that these numbers have
+abbrev pub HaveLargeCommon : Bool → List ℕ → List ℕ → Type 0
+HaveLargeCommon is_base_used roots vector = (tops : List ℕ) × AreTops roots vector (length roots) tops × HasLargeCommon is_base_used (λ c. slice_index tops (slice_index roots c)) (length roots)
 
 -- the length of a term's prefix where the term is of this clock, or 0
 abbrev pub prefix_of : ℕ → Term → ℕ
@@ -113,6 +129,15 @@ pub record AreOnes (roots vector tops : List ℕ) (period upto : ℕ) (ones : Li
   pub each : (c : ℕ) → c < upto → slice_index ones c ≡ slice_index vector c * (period / slice_index tops (slice_index roots c))
   pub few : (c : ℕ) → c < upto → slice_index ones c ≤ most_ones
 
+-- a period, this many times as long as the common one, and for each clock its ones in it
+pub record AreCounted (is_base_used : Bool) (roots vector : List ℕ) (scale period : ℕ) (ones : List ℕ) : Type 0 where
+  pub tops : List ℕ
+  pub are_tops : AreTops roots vector (length roots) tops
+  pub common : ℕ
+  pub is_common : IsPeriodTo is_base_used roots tops (length roots) common
+  pub period_is : period ≡ scale * common
+  pub are_ones : AreOnes roots vector tops (scale * common) (length roots) ones
+
 -- the shape of a clock behind others
 abbrev pub shape_behind : List ClockShape → Bool → ℕ → ℕ → ℕ → ClockShape
 shape_behind before is_used lead ones prefix = if is_used then record { used = true; lead = lead * ones + prefix; ones = ones; first = variable_count before } else unused
@@ -127,3 +152,9 @@ pub record AreLaidOut (is_base_used : Bool) (lead : ℕ) (ones prefixes : List �
   pub are : shapes ≡ laid_out is_base_used lead (slice_index ones) (slice_index prefixes) upto
   pub count : first ≡ variable_count shapes
   pub few : first ≤ 1 + most_positions
+
+-- the shapes of all clocks, each with so many ones and the longest prefix after it
+pub record AreShapes (is_base_used : Bool) (lead : ℕ) (needs : Needs) (ones : List ℕ) (shapes : List ClockShape) : Type 0 where
+  pub prefixes : List ℕ
+  pub are_longest : AreLongest needs.list needs.clocks (length needs.list) prefixes
+  pub are : shapes ≡ laid_out is_base_used lead (slice_index ones) (slice_index prefixes) (length ones)

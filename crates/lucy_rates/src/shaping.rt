@@ -1,5 +1,5 @@
 // The shape that the numbers of clocks give.
-ghost use Rattle.std.specs.Prelude.{ℕ, ◌≡◌, ◌⊎◌, ◌↔◌, ◌+◌, ◌*◌, ◌<◌, ◌≤◌, ◌^◌, max, true, false, length, slice_index, slice_set, IsTrue, IfOk, IfErr};
+ghost use Rattle.std.specs.Prelude.{ℕ, List, ◌≡◌, ◌⊎◌, ◌↔◌, ◌+◌, ◌*◌, ◌<◌, ◌≤◌, ◌^◌, max, true, false, length, slice_index, slice_set, IsTrue, IfOk, IfErr};
 ghost use Rattle.std.specs.List.{All, AllByRecursion};
 ghost use Rattle.lucy_word.specs.Bits.{most_bits};
 ghost use Rattle.lucy_word.specs.Multiple.{IsLcm};
@@ -7,14 +7,15 @@ ghost use Rattle.lucy_word.specs.declared.limit.Limit.TheVariants as limit;
 ghost use Rattle.lucy_need.specs.Meeting.{IsWithin, AreProperNeeds};
 ghost use Rattle.lucy_need.specs.Stored.{HasWords};
 ghost use Rattle.lucy_shape.specs.declared.shape.RateFault.TheVariants as fault;
+ghost use Rattle.lucy_shape.specs.declared.shape.ClockShape.{ClockShape as ClockShapeOf};
 ghost use Rattle.lucy_shape.specs.Fitting.{unused, variable_count, most_positions};
 ghost use Rattle.lucy_rates.specs.Trees.{most_rate};
 ghost use Rattle.lucy_rates.specs.Forests.{IsForest};
 ghost use Rattle.lucy_rates.specs.Vectors.{IsNamedBySome, AreBalanced, IsShapeOf, IsTooWide};
-ghost use Rattle.lucy_rates.specs.Laying.{AreTops, counts, IsPeriodTo, HasLargeCommon, AreLongest, most_period, most_ones, AreOnes, laid_out};
+ghost use Rattle.lucy_rates.specs.Laying.{AreTops, counts, IsPeriodTo, HasLargeCommon, AreLongest, most_period, HaveOnes, HaveLargeCommon, AreCounted, AreShapes, most_ones, AreOnes, laid_out};
 
 use crate::forest::Forest;
-use crate::vector::{factors, multiple, vector};
+use crate::vector::{multiple, numbers};
 use lucy_need::{Need, Needs};
 use lucy_shape::{ClockShape, ClockShapes, RateFault, Shape};
 use lucy_word::Limit;
@@ -243,6 +244,50 @@ fn shapes(
     Ok(list)
 }
 
+// How many instants a period has, `scale` times as many as the common multiple of the tops, and for each clock by its number how
+// many ones it has in one.
+fn counted_ones(
+    alloc: Global,
+    roots: &[u32],
+    vector: &[u64],
+    scale: u64,
+    is_base_used: bool,
+) -> Result<(u64, Vec<u64>), RateFault>
+    requires sizes { length vector.now ≡ length roots.now }
+    requires roots { (c : ℕ) → c < length roots.now → slice_index roots.now c < length roots.now }
+    requires tops { (tops : List ℕ) → AreTops roots.now vector.now (length roots.now) tops → HaveOnes roots.now tops }
+    requires few { (c : ℕ) → c < length roots.now → slice_index vector.now c ≤ 2 ^ 32 }
+    requires scale { scale ≤ 64 }
+    ensures ok { IfOk result (λ r. AreCounted is_base_used roots.now vector.now scale r.0 r.1.items) }
+    ensures refused { IfErr result (λ e. (e ≡ fault.OutOfMemory) ⊎ ((e ≡ fault.Limit limit.Positions) × HaveLargeCommon is_base_used roots.now vector.now)) }
+{
+    let tops = tops(alloc, roots, vector)?;
+    let period = scale * common_period(roots, &tops, is_base_used)?;
+    let ones = ones(alloc, roots, vector, &tops, period)?;
+    Ok((period, ones))
+}
+
+// The shapes of all clocks that have so many ones, each behind the prefixes of the words after it.
+fn all_shapes(
+    alloc: Global,
+    needs: &Needs,
+    ones: &[u64],
+    lead: u64,
+    is_base_used: bool,
+) -> Result<Vec<ClockShape>, RateFault>
+    requires proper { AreProperNeeds needs.now }
+    requires size { length ones.now ≡ needs.now.clocks }
+    requires ones { (c : ℕ) → c < length ones.now → slice_index ones.now c ≤ most_ones }
+    requires lead { lead ≤ 64 }
+    ensures ok { IfOk result (λ list. AreShapes is_base_used lead needs.now ones.now list.items) }
+    ensures few { IfOk result (λ list. variable_count list.items ≤ 1 + most_positions) }
+    ensures refused { IfErr result (λ e. (e ≡ fault.OutOfMemory) ⊎ ((e ≡ fault.Limit limit.Positions)
+        × ((list : List ClockShapeOf) × AreShapes is_base_used lead needs.now ones.now list × (1 + most_positions < variable_count list)))) }
+{
+    let prefixes = prefixes(alloc, needs.clocks as usize, needs.list.list())?;
+    shapes(alloc, ones, &prefixes, lead, is_base_used)
+}
+
 /// The shape of balanced needs, with a scale and a lead from 1 to 64, from the trees and rates of their clocks.
 /// `Limit(Positions)` comes where it has more positions than that limit allows. It never answers `Unequal`, or another limit.
 pub(crate) fn shape_of(
@@ -265,13 +310,9 @@ pub(crate) fn shape_of(
 {
     let list = needs.list.list();
     let is_base_used = is_base_named(list);
-    let factors = factors(alloc, forest, list)?;
-    let vector = vector(alloc, forest, &factors)?;
-    let tops = tops(alloc, &forest.roots, &vector)?;
-    let period = scale * common_period(&forest.roots, &tops, is_base_used)?;
-    let ones = ones(alloc, &forest.roots, &vector, &tops, period)?;
-    let prefixes = prefixes(alloc, needs.clocks as usize, list)?;
-    let clocks = shapes(alloc, &ones, &prefixes, lead, is_base_used)?;
+    let vector = numbers(alloc, forest, list)?;
+    let (period, ones) = counted_ones(alloc, &forest.roots, &vector, scale, is_base_used)?;
+    let clocks = all_shapes(alloc, needs, &ones, lead, is_base_used)?;
     Ok(Shape {
         period,
         clocks: ClockShapes::new(clocks),

@@ -10,7 +10,7 @@ ghost use Rattle.lucy_shape.specs.declared.shape.RateFault.TheVariants as fault;
 ghost use Rattle.lucy_shape.specs.Fitting.{most_positions};
 ghost use Rattle.lucy_rates.specs.Trees.{most_rate};
 ghost use Rattle.lucy_rates.specs.Forests.{rate_at, IsRateFraction, IsForest};
-ghost use Rattle.lucy_rates.specs.Laying.{AreFactors, AreAsked, AsksTooMuch, HasLargeFactor, AreMultiplied};
+ghost use Rattle.lucy_rates.specs.Laying.{AreFactors, AreAsked, AsksTooMuch, HasLargeFactor, AreMultiplied, AreNumbers};
 
 use crate::forest::Forest;
 use crate::fraction::Fraction;
@@ -88,9 +88,9 @@ fn ask_all(factors: &mut [u64], forest: &Forest, needs: &[Need]) -> Result<(), R
     Ok(())
 }
 
-/// For each root, by its clock's number, the least number by which the rates of its component are multiples of the period lengths
-/// of all words after their clocks; 1 for a clock that is no root. `Limit(Positions)` comes where one is past that limit.
-pub(crate) fn factors(alloc: Global, forest: &Forest, needs: &[Need]) -> Result<Vec<u64>, RateFault>
+// For each root, by its clock's number, the least number by which the rates of its component are multiples of the period lengths
+// of all words after their clocks; 1 for a clock that is no root.
+fn factors(alloc: Global, forest: &Forest, needs: &[Need]) -> Result<Vec<u64>, RateFault>
     requires within { All (IsWithin (length forest.now.roots.items)) needs.now }
     requires forest { IsForest needs.now (length forest.now.roots.items) forest.now.roots.items forest.now.parents.items forest.now.rates.items }
     ensures ok { IfOk result (λ list. AreFactors needs.now forest.now.roots.items forest.now.rates.items (length needs.now) list.items) }
@@ -111,8 +111,8 @@ fn multiplied(rate: Fraction, factor: u64) -> u64
     factor / rate.den * rate.num
 }
 
-/// For each clock by its number its rate times the factor of its component.
-pub(crate) fn vector(alloc: Global, forest: &Forest, factors: &[u64]) -> Result<Vec<u64>, RateFault>
+// For each clock by its number its rate times the factor of its component.
+fn vector(alloc: Global, forest: &Forest, factors: &[u64]) -> Result<Vec<u64>, RateFault>
     requires sizes { (length forest.now.rates.items ≡ length forest.now.roots.items) × (length factors.now ≡ length forest.now.roots.items) }
     requires roots { (c : ℕ) → c < length forest.now.roots.items → slice_index forest.now.roots.items c < length forest.now.roots.items }
     requires rates { (c : ℕ) → c < length forest.now.roots.items → IsRateFraction (rate_at forest.now.rates.items c) }
@@ -126,4 +126,16 @@ pub(crate) fn vector(alloc: Global, forest: &Forest, factors: &[u64]) -> Result<
         list.push(multiplied(forest.rates[clock], factor))?;
     }
     Ok(list)
+}
+
+/// For each clock by its number the least whole number in the proportion of the rates, of which the period length of each word
+/// after the clock is a divisor. `Limit(Positions)` comes where a factor of the rates is past that limit.
+pub(crate) fn numbers(alloc: Global, forest: &Forest, needs: &[Need]) -> Result<Vec<u64>, RateFault>
+    requires within { All (IsWithin (length forest.now.roots.items)) needs.now }
+    requires forest { IsForest needs.now (length forest.now.roots.items) forest.now.roots.items forest.now.parents.items forest.now.rates.items }
+    ensures ok { IfOk result (λ list. AreNumbers needs.now forest.now.roots.items forest.now.rates.items list.items) }
+    ensures refused { IfErr result (λ e. (e ≡ fault.OutOfMemory) ⊎ ((e ≡ fault.Limit limit.Positions) × HasLargeFactor needs.now forest.now.roots.items forest.now.rates.items)) }
+{
+    let factors = factors(alloc, forest, needs)?;
+    vector(alloc, forest, &factors)
 }
