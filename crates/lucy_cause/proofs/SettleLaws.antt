@@ -1,5 +1,5 @@
 -- What an event leaves of the play of a firing, in the shape of its goals.
-use Rattle.std.proofs.Common.{ℕ, ◌+◌, ◌-◌, ◌*◌, ◌<◌, ◌≤◌, ◌≡◌, List, [], ◌∷◌, ◌++◌, length, set, drop, ap, sym, ◌∙◌, subst, inl, inr, arith, length-append}
+use Rattle.std.proofs.Common.{ℕ, ◌+◌, ◌-◌, ◌*◌, ◌<◌, ◌≤◌, ◌≡◌, List, [], ◌∷◌, ◌++◌, length, set, drop, ap, sym, ◌∙◌, subst, refl, inl, inr, arith, length-append, length-drop}
 use Rattle.std.specs.Prelude.{Option, Some, slice_get, slice_index}
 use Rattle.std.proofs.lemmas.Bool.{cases_eq, cases_lt}
 use Rattle.std.proofs.lemmas.Option.{slice_get_within}
@@ -14,7 +14,7 @@ use Rattle.lucy_cause.specs.declared.advance.Event.TheVariants as event
 use Rattle.lucy_cause.specs.declared.settle.Wait.{Wait}
 use Rattle.lucy_net.specs.Instants.{slot, firing_of}
 use Rattle.lucy_cause.specs.Play.{IsMoved, IsStill, Becomes, IsPlayedSoFar}
-use Rattle.lucy_cause.specs.Waiting.{IsHeldUp, IsStack, IsKnot, IsResumed}
+use Rattle.lucy_cause.specs.Waiting.{IsHeldUp, IsStack, IsKnot, IsResumed, IsPutToWait}
 use Rattle.lucy_cause.specs.Settling.{IsFiringOver}
 use Rattle.lucy_net.proofs.NetLaws.{wired}
 use Rattle.lucy_net.proofs.SlotLaws.{done_more, slot_at, slot_is, slot_ring, slot_within}
@@ -122,45 +122,51 @@ giver_there net n order steps held now actor step new_held r is played here busy
     let more : slice_index steps (giver net r) < length (slot net n (giver net r)) = giver_busy net n order steps held now r is played (held_up net n steps held now actor step new_held r is here busy h) in
     (slot_within net n (giver net r) (omega arith), omega arith)
 
-pub went_waits : (net : Net) (n : ℕ) (order steps held depth : List ℕ) (waits : List Wait) (first now : ℕ) (actor : Actor) (step : ℕ) (new_held : List ℕ) (r : ℕ) (new_waits : List Wait) (wait : Wait) (len next : ℕ) →
+pub went_waits : (net : Net) (n : ℕ) (order steps held depth : List ℕ) (waits : List Wait) (first now : ℕ) (actor : Actor) (step : ℕ) (new_held : List ℕ) (r : ℕ) (new_waits : List Wait) (new_depth : List ℕ) (next : ℕ) →
     IsProper net → IsPlayedSoFar net n order steps held → IsStack net n steps held depth waits first now →
     slice_get net.actors now ≡ Some actor → 0 < length (slot net n now) → Becomes (next_of net n steps actor now) (slice_index steps now) step held new_held (event.Waits r) →
-    new_waits ≡ waits ++ wait ∷ [] → wait.actor ≡ now → wait.ring ≡ r → len ≡ length waits + 1 → next ≡ giver net r → slice_index (set depth now len) next ≡ 0 →
-    IsPlayedSoFar net n order (set steps now step) new_held × IsStack net n (set steps now step) new_held (set depth now len) new_waits first next × (0 < length (slot net n next)) × (left_in net n (set steps now step) ≡ left_in net n steps)
-went_waits net n order steps held depth waits first now actor step new_held r new_waits wait len next is played stack here busy h pushed a b e same free =
+    IsPutToWait waits new_waits depth new_depth now r → next ≡ giver net r → slice_index new_depth next ≡ 0 →
+    IsPlayedSoFar net n order (set steps now step) new_held × IsStack net n (set steps now step) new_held new_depth new_waits first next × (0 < length (slot net n next)) × (left_in net n (set steps now step) ≡ left_in net n steps)
+went_waits net n order steps held depth waits first now actor step new_held r new_waits new_depth next is played stack here busy h put same free =
     let still : IsStill (slice_index steps now) step held new_held = h.2 in
     let s : steps ≡ set steps now step = sym (same_set steps now step still.stepped) in
     let there = giver_there net n order steps held now actor step new_held r is played here busy h in
-    let free_now : slice_index (set depth now (length waits + 1)) (giver net r) ≡ 0 = ap (λ (x : ℕ). slice_index (set depth now x) (giver net r)) (sym e) ∙ ap (slice_index (set depth now len)) (sym same) ∙ free in
+    let wait : Wait = record { actor = now; ring = r } in
+    let free_now : slice_index (set depth now (length waits + 1)) (giver net r) ≡ 0 = ap (λ (xs : List ℕ). slice_index xs (giver net r)) (sym put.marked) ∙ ap (slice_index new_depth) (sym same) ∙ free in
     let up : IsStack net n steps held (set depth now (length waits + 1)) (waits ++ wait ∷ []) first (giver net r) =
-    stack_waits net n steps held depth waits first now r wait stack (held_up net n steps held now actor step new_held r is here busy h) a b there.0 free_now in (
+    stack_waits net n steps held depth waits first now r wait stack (held_up net n steps held now actor step new_held r is here busy h) refl refl there.0 free_now in (
       subst (λ (xs : List ℕ). IsPlayedSoFar net n order xs new_held) s (subst (IsPlayedSoFar net n order steps) (sym still.now) played),
-      subst (λ (xs : List ℕ). IsStack net n xs new_held (set depth now len) new_waits first next) s
-          (subst (λ (xs : List ℕ). IsStack net n steps xs (set depth now len) new_waits first next) (sym still.now)
-          (subst (λ (x : ℕ). IsStack net n steps held (set depth now x) new_waits first next) (sym e)
-          (subst (λ (ws : List Wait). IsStack net n steps held (set depth now (length waits + 1)) ws first next) (sym pushed)
+      subst (λ (xs : List ℕ). IsStack net n xs new_held new_depth new_waits first next) s
+          (subst (λ (xs : List ℕ). IsStack net n steps xs new_depth new_waits first next) (sym still.now)
+          (subst (λ (xs : List ℕ). IsStack net n steps held xs new_waits first next) (sym put.marked)
+          (subst (λ (ws : List Wait). IsStack net n steps held (set depth now (length waits + 1)) ws first next) (sym put.last)
           (subst (IsStack net n steps held (set depth now (length waits + 1)) (waits ++ wait ∷ []) first) (sym same) up)))),
       subst (λ (x : ℕ). 0 < length (slot net n x)) (sym same) there.1,
       ap (left_in net n) (sym s),
     )
 
-pub went_knot : (net : Net) (n : ℕ) (order steps held depth : List ℕ) (waits : List Wait) (first now : ℕ) (actor : Actor) (step : ℕ) (new_held : List ℕ) (r : ℕ) (new_waits : List Wait) (wait : Wait) (len next : ℕ) →
+pub went_knot : (net : Net) (n : ℕ) (order steps held depth : List ℕ) (waits : List Wait) (first now : ℕ) (actor : Actor) (step : ℕ) (new_held : List ℕ) (r : ℕ) (new_waits : List Wait) (new_depth : List ℕ) (next : ℕ) →
     IsProper net → IsPlayedSoFar net n order steps held → IsStack net n steps held depth waits first now →
     slice_get net.actors now ≡ Some actor → 0 < length (slot net n now) → Becomes (next_of net n steps actor now) (slice_index steps now) step held new_held (event.Waits r) →
-    new_waits ≡ waits ++ wait ∷ [] → wait.actor ≡ now → wait.ring ≡ r → len ≡ length waits + 1 → next ≡ giver net r → 0 < slice_index (set depth now len) next →
-    IsPlayedSoFar net n order (set steps now step) new_held × IsKnot net n (set steps now step) new_held (drop (slice_index (set depth now len) next - 1) new_waits)
-went_knot net n order steps held depth waits first now actor step new_held r new_waits wait len next is played stack here busy h pushed a b e same marked =
+    IsPutToWait waits new_waits depth new_depth now r → next ≡ giver net r → 0 < slice_index new_depth next →
+    IsPlayedSoFar net n order (set steps now step) new_held × IsKnot net n (set steps now step) new_held (drop (slice_index new_depth next - 1) new_waits)
+went_knot net n order steps held depth waits first now actor step new_held r new_waits new_depth next is played stack here busy h put same marked =
     let still : IsStill (slice_index steps now) step held new_held = h.2 in
     let s : steps ≡ set steps now step = sym (same_set steps now step still.stepped) in
-    let d : slice_index (set depth now (length waits + 1)) (giver net r) ≡ slice_index (set depth now len) next = ap (λ (x : ℕ). slice_index (set depth now x) (giver net r)) (sym e) ∙ ap (slice_index (set depth now len)) (sym same) in
+    let wait : Wait = record { actor = now; ring = r } in
+    let d : slice_index (set depth now (length waits + 1)) (giver net r) ≡ slice_index new_depth next = ap (λ (xs : List ℕ). slice_index xs (giver net r)) (sym put.marked) ∙ ap (slice_index new_depth) (sym same) in
     let knot : IsKnot net n steps held (drop (slice_index (set depth now (length waits + 1)) (giver net r) - 1) (waits ++ wait ∷ [])) =
-    stack_knot net n steps held depth waits first now r wait stack (held_up net n steps held now actor step new_held r is here busy h) a b (omega arith) in (
+    stack_knot net n steps held depth waits first now r wait stack (held_up net n steps held now actor step new_held r is here busy h) refl refl (omega arith) in (
       subst (λ (xs : List ℕ). IsPlayedSoFar net n order xs new_held) s (subst (IsPlayedSoFar net n order steps) (sym still.now) played),
-      subst (λ (xs : List ℕ). IsKnot net n xs new_held (drop (slice_index (set depth now len) next - 1) new_waits)) s
-          (subst (λ (xs : List ℕ). IsKnot net n steps xs (drop (slice_index (set depth now len) next - 1) new_waits)) (sym still.now)
-          (subst (λ (ws : List Wait). IsKnot net n steps held (drop (slice_index (set depth now len) next - 1) ws)) (sym pushed)
+      subst (λ (xs : List ℕ). IsKnot net n xs new_held (drop (slice_index new_depth next - 1) new_waits)) s
+          (subst (λ (xs : List ℕ). IsKnot net n steps xs (drop (slice_index new_depth next - 1) new_waits)) (sym still.now)
+          (subst (λ (ws : List Wait). IsKnot net n steps held (drop (slice_index new_depth next - 1) ws)) (sym put.last)
           (subst (λ (x : ℕ). IsKnot net n steps held (drop (x - 1) (waits ++ wait ∷ []))) d knot))),
     )
+
+-- there are that many that wait
+pub knot_there : (net : Net) (n : ℕ) (steps held : List ℕ) (place : ℕ) (waits : List Wait) → IsKnot net n steps held (drop place waits) → place ≤ length waits
+knot_there net n steps held place waits knot = omega (arith, knot.some, length-drop place waits)
 
 grown_at : (start steps : List ℕ) (now step a : ℕ) → a ≡ now → slice_index start a ≤ slice_index steps a → slice_index steps now ≤ step → slice_index start a ≤ slice_index (set steps now step) a
 grown_at start steps now step a same h le = elim (cases_lt now (length steps)) [

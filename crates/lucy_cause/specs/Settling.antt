@@ -1,7 +1,8 @@
 -- How the play of an actor's firing ends.
-use Rattle.std.specs.Prelude.{ℕ, ◌+◌, ◌≡◌, List, All, length, slice_index}
+use Rattle.std.specs.Prelude.{ℕ, ◌+◌, ◌≡◌, List, Option, Some, None, All, length, slice_index, drop}
 use Rattle.lucy_net.specs.declared.net.Net.{Net}
 use Rattle.lucy_cause.specs.declared.settle.Settled.{Settled}
+use Rattle.lucy_cause.specs.declared.settle.Wait.{Wait}
 use Rattle.lucy_cause.specs.declared.settle.Settled.TheVariants.{Done, Stuck}
 use Rattle.lucy_net.specs.Schedules.{IsOrder}
 use Rattle.lucy_net.specs.Instants.{slot}
@@ -14,7 +15,12 @@ pub record IsFiringOver (net : Net) (before first : ℕ) (steps depth : List ℕ
   pub depths : length depth ≡ length net.actors
   pub unmarked : (a : ℕ) → slice_index depth a ≡ 0
 
--- it is over, or actors wait for each other; the events are a run in either case
+-- it is over, or the actors that wait wait for each other from a place on; the events are a run in either case
+abbrev pub IsFiringLeft : Net → ℕ → ℕ → List ℕ → List ℕ → List ℕ → List ℕ → List Wait → Option ℕ → Type 0
+IsFiringLeft net before first events steps held depth waits None = IsPlayedSoFar net before events steps held × IsFiringOver net before first steps depth
+IsFiringLeft net before first events steps held depth waits (Some place) = IsPlayedSoFar net before events steps held × IsKnot net before steps held (drop place waits)
+
+-- so where those that wait for each other are told
 abbrev pub IsFiringPlayed : Net → ℕ → ℕ → List ℕ → List ℕ → List ℕ → List ℕ → Settled → Type 0
 IsFiringPlayed net before first events steps held depth Done = IsPlayedSoFar net before events steps held × IsFiringOver net before first steps depth
 IsFiringPlayed net before first events steps held depth (Stuck waits) = IsPlayedSoFar net before events steps held × IsKnot net before steps held waits.items

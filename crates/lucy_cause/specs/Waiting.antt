@@ -1,5 +1,5 @@
 -- Actors that wait for each other within an instant.
-use Rattle.std.specs.Prelude.{ℕ, ◌+◌, ◌-◌, ◌<◌, ◌≤◌, ◌≡◌, ◌++◌, List, map, length, nat_eq, count_by, slice_get, slice_set, slice_index, slice_index_or, take, drop, Some}
+use Rattle.std.specs.Prelude.{ℕ, ◌+◌, ◌-◌, ◌<◌, ◌≤◌, ◌≡◌, ◌++◌, ◌∷◌, [], List, map, length, nat_eq, count_by, slice_get, slice_set, slice_index, slice_index_or, take, drop, Some}
 use Rattle.lucy_stream.specs.Systems.{Takes}
 use Rattle.lucy_net.specs.declared.net.Net.{Net}
 use Rattle.lucy_net.specs.Plans.{giver}
@@ -46,6 +46,11 @@ pub record IsResumed (waits new_waits : List Wait) (depth new_depth : List ℕ) 
   pub waited : 0 < length waits → ring_at waits (length waits - 1) ≡ ring →
       (next ≡ actor_at waits now (length waits - 1)) × (new_waits ≡ take (length waits - 1) waits) × (new_depth ≡ slice_set depth next 0)
   pub otherwise : (0 < length waits → ring_at waits (length waits - 1) ≡ ring → ⊥) → (next ≡ now) × (new_waits ≡ waits) × (new_depth ≡ depth)
+
+-- the actor waits now too, as the last one, and is marked with its place, counted from 1
+pub record IsPutToWait (waits new_waits : List Wait) (depth new_depth : List ℕ) (actor ring : ℕ) : Type 0 where
+  pub last : new_waits ≡ waits ++ record { actor = actor; ring = ring } ∷ []
+  pub marked : new_depth ≡ slice_set depth actor (length waits + 1)
 
 -- the same ones in turn, from one of the least number on
 pub record IsTurnedToLeast (waits new_waits : List Wait) : Type 0 where

@@ -1,10 +1,10 @@
 // The firings of one instant, played by counts: an actor that finds a ring empty lets the ring's giver go on first.
-ghost use Rattle.std.specs.Prelude.{ℕ, ◌≡◌, ◌+◌, ◌<◌, ◌≤◌, ◌^◌, length, slice_index, IfOk};
+ghost use Rattle.std.specs.Prelude.{ℕ, ◌≡◌, ◌+◌, ◌<◌, ◌≤◌, ◌^◌, [], length, slice_index, IfOk};
 ghost use Rattle.lucy_net.specs.Proper.{IsProper};
 ghost use Rattle.lucy_net.specs.Instants.{slot};
 ghost use Rattle.lucy_cause.specs.Play.{IsPlayedSoFar};
-ghost use Rattle.lucy_cause.specs.Waiting.{actor_at, IsResumed};
-ghost use Rattle.lucy_cause.specs.Settling.{IsFiringPlayed};
+ghost use Rattle.lucy_cause.specs.Waiting.{actor_at, IsResumed, IsPutToWait};
+ghost use Rattle.lucy_cause.specs.Settling.{IsFiringLeft, IsFiringPlayed};
 
 use crate::advance::{Event, advance};
 use lucy_net::Net;
@@ -42,6 +42,67 @@ fn resume(waits: &mut Vec<Wait>, depth: &mut [u32], now: usize, ring: u32) -> us
     }
 }
 
+// The actor waits for an item of the ring, as the last of those that wait, and is marked by how many they are now.
+fn put_wait(
+    waits: &mut Vec<Wait>,
+    depth: &mut [u32],
+    actor: u32,
+    ring: u32,
+) -> Result<(), AllocError>
+    requires actor { actor < length depth.old }
+    requires few { length waits.old.items + 1 < 2 ^ 32 }
+    ensures { IfOk result (λ _. IsPutToWait waits.old.items waits.new.items depth.old depth.new actor ring) }
+{
+    waits.push(Wait { actor, ring })?;
+    depth[actor as usize] = waits.len() as u32;
+    Ok(())
+}
+
+// Plays the firing of one actor, beginning with none that waits. At its end there is nothing; else, the place among those that
+// wait from which on each waits for an item that the next one gives, and the last one for one of the first.
+fn play_firing(
+    net: &Net,
+    before: u64,
+    first: u32,
+    steps: &mut [u32],
+    held: &mut [u64],
+    depth: &mut [u32],
+    order: &mut Vec<u32>,
+    waits: &mut Vec<Wait>,
+) -> Result<Option<usize>, AllocError>
+    requires proper { IsProper net.now }
+    requires early { before < 2 ^ 32 }
+    requires first { first < length net.now.actors }
+    requires played { IsPlayedSoFar net.now before order.old.items steps.old held.old }
+    requires depths { length depth.old ≡ length net.now.actors }
+    requires unmarked { (a : ℕ) → slice_index depth.old a ≡ 0 }
+    requires busy { 0 < length (slot net.now before first) }
+    requires none { waits.old.items ≡ [] }
+    ensures left { IfOk result (IsFiringLeft net.now before first order.new.items steps.new held.new depth.new waits.new.items) }
+    ensures grown { IfOk result (λ _. (a : ℕ) → slice_index steps.old a ≤ slice_index steps.new a) }
+{
+    let actors = net.actors.list();
+    let rings = net.rings.list();
+    let mut now = first as usize;
+    'events: loop {
+        match advance(&actors[now], before, &mut steps[now], held) {
+            Event::Over => return Ok(None),
+            Event::Took => order.push(now as u32)?,
+            Event::Gave(ring) => {
+                order.push(now as u32)?;
+                now = resume(waits, depth, now, ring);
+            }
+            Event::Waits(ring) => {
+                put_wait(waits, depth, now as u32, ring)?;
+                now = rings[ring as usize].from as usize;
+                if depth[now] > 0 {
+                    return Ok(Some((depth[now] - 1) as usize));
+                }
+            }
+        }
+    }
+}
+
 /// Plays the firing of one actor to its end, and before each take that finds nothing the ring's giver up to its give.
 ///
 /// `steps` are the operations that the actors have done in the instant, `held` the rings' items, and `order` the events so
@@ -66,29 +127,10 @@ pub(crate) fn settle(
     ensures settled { IfOk result (IsFiringPlayed net.now before first order.new.items steps.new held.new depth.new) }
     ensures grown { IfOk result (λ _. (a : ℕ) → slice_index steps.old a ≤ slice_index steps.new a) }
 {
-    let actors = net.actors.list();
-    let rings = net.rings.list();
-    let mut waits: Vec<Wait> = Vec::new(alloc);
-    let mut now = first as usize;
-    'events: loop {
-        match advance(&actors[now], before, &mut steps[now], held) {
-            Event::Over => return Ok(Settled::Done),
-            Event::Took => order.push(now as u32)?,
-            Event::Gave(ring) => {
-                order.push(now as u32)?;
-                now = resume(&mut waits, depth, now, ring);
-            }
-            Event::Waits(ring) => {
-                waits.push(Wait {
-                    actor: now as u32,
-                    ring,
-                })?;
-                depth[now] = waits.len() as u32;
-                now = rings[ring as usize].from as usize;
-                if depth[now] > 0 {
-                    return Ok(Settled::Stuck(waits.split_off((depth[now] - 1) as usize)?));
-                }
-            }
-        }
+    let mut waits = Vec::new(alloc);
+    let left = play_firing(net, before, first, steps, held, depth, order, &mut waits)?;
+    match left {
+        None => Ok(Settled::Done),
+        Some(place) => Ok(Settled::Stuck(waits.split_off(place)?)),
     }
 }
