@@ -224,13 +224,13 @@ module _ (nodes : List PlacedNode) (clocks : List NodeClock) where
 -- the instance that the code has at hand
 pub instance_is : (nodes : List PlacedNode) (clocks : List NodeClock) (sizes : List ℕ) → CanBeFlattened nodes clocks sizes → (path : List ℕ) (node begin first : ℕ) (of : Instance) (sites : List CallSite) →
     slice_get nodes node ≡ Some of.node.now → slice_get clocks node ≡ Some of.clock.now → IsInstanceAt nodes clocks path node begin of.base.now of.caller → of.begin ≡ begin → begin + size_of nodes node < 4294967296 →
-    sites ≡ of.node.now.calls → first ≡ of.begin + length of.node.now.places → AreSumsOf sizes sites first (length sites) of.inner.now → IsInstance nodes clocks path of
+    sites ≡ of.node.now.calls → first ≡ of.begin + length of.node.now.places → AreSumsOf sizes sites first (length sites) of.inner.now → (is : IsInstance nodes clocks path of) × (is.index ≡ node)
 instance_is nodes clocks sizes program path node begin first of sites e f is begin_is few sites_are first_is sums =
     let n : PlacedNode = of.node.now in
     let inside = slice_get_within nodes node n e in
     let below = calls_below nodes node n (program.proper node n e) in
     let whole = total_law own_places nodes node n e below in
-    record {
+    let instance : IsInstance nodes clocks path of = record {
       index = node;
       at = subst (λ b. IsInstanceAt nodes clocks path node b of.base.now of.caller) (sym begin_is) is;
       node = e;
@@ -238,7 +238,8 @@ instance_is nodes clocks sizes program path node begin first of sites e f is beg
       inner = begins_are nodes sizes program.sizes n of.begin first of.inner.now (below_more node (length nodes) n.calls (omega (arith, inside)) below) (omega (arith, whole, few)) first_is
           (subst (λ s. AreSumsOf sizes s first (length s) of.inner.now) sites_are sums);
       few = omega (arith, few, begin_is);
-    }
+    } in
+    (instance, refl)
 
 -- the word of a call's base
 pub call_bound : (nodes : List PlacedNode) (clocks : List NodeClock) → AreClocked nodes clocks → (node : ℕ) (n : PlacedNode) (clock : NodeClock) (i places : ℕ) (words : List Bits) → slice_get nodes node ≡ Some n → slice_get clocks node ≡ Some clock →
@@ -257,12 +258,3 @@ call_word nodes clocks clocked path node n clock i places words w index e f word
 -- a call among those of a node
 pub site_at : (n : PlacedNode) (sites : List CallSite) (i : ℕ) (site : CallSite) → sites ≡ n.calls → i < length sites → site ≡ get_or sites i site → slice_get n.calls i ≡ Some site
 site_at n sites i site e l f = ap (λ t. slice_get t i) (sym e) ∙ slice_get_read sites (length sites) i site refl l f
-
--- where the instances of its calls begin, as the code has them at hand
-pub begins_there : (nodes : List PlacedNode) (clocks : List NodeClock) (sizes : List ℕ) → CanBeFlattened nodes clocks sizes → (node begin first : ℕ) (n : PlacedNode) (sites : List CallSite) (inner : List ℕ) →
-    slice_get nodes node ≡ Some n → begin + size_of nodes node < 4294967296 → sites ≡ n.calls → first ≡ begin + length n.places → AreSumsOf sizes sites first (length sites) inner → AreBegins nodes n begin inner
-begins_there nodes clocks sizes program node begin first n sites inner e few sites_are first_is sums =
-    let inside = slice_get_within nodes node n e in
-    let below = calls_below nodes node n (program.proper node n e) in
-    let whole = total_law own_places nodes node n e below in
-    begins_are nodes sizes program.sizes n begin first inner (below_more node (length nodes) n.calls (omega (arith, inside)) below) (omega (arith, whole, few)) first_is (subst (λ s. AreSumsOf sizes s first (length s) inner) sites_are sums)

@@ -14,6 +14,7 @@ use Rattle.lucy_place.specs.declared.entry.CallSite.{CallSite}
 use Rattle.lucy_place.specs.Proper.{AreProper}
 use Rattle.lucy_clock.specs.Clocks.{clocks_of}
 use Rattle.lucy_clock.specs.HandedDown.{HandsTooLong}
+use Rattle.lucy_net.specs.declared.kind.ActorKind.{ActorKind}
 use Rattle.lucy_net.specs.declared.kind.ActorKind.TheVariants.{Output}
 use Rattle.lucy_net.specs.Proper as proper
 use Rattle.lucy_clock.specs.declared.node_clock.NodeClock.{NodeClock}
@@ -32,6 +33,10 @@ use Rattle.lucy_flat.specs.Instances.{index_at, word_at, IsBase, IsSpotWord}
 use Rattle.lucy_flat.specs.Flat.{actor_of, ring_size}
 use Rattle.lucy_flat.specs.Refusals.{IsClockTooLong, NetWordIsTooLong}
 use Rattle.lucy_flat.specs.Assembly.{reads_count, all_reads, IsNetPast}
+
+-- what the actor of an instance place does, and the actors that it reads
+abbrev pub IsWork : List PlacedNode → Spot → PlaceKind → ActorKind → List ℕ → Type 0
+IsWork nodes spot kind does reads = (does ≡ actor_of (spot_form spot kind)) × (reads ≡ map (number nodes) (spot_reads nodes spot kind))
 
 -- a draft made for an instance place
 pub record IsDraftMade (nodes : List PlacedNode) (clocks : List NodeClock) (spot : Spot) (kind : PlaceKind) (draft : Draft) : Type 0 where

@@ -8,8 +8,8 @@ ghost use Rattle.lucy_place.specs.Proper.{AreProper};
 ghost use Rattle.lucy_flat.specs.declared.error.FlatError.TheVariants as err;
 ghost use Rattle.lucy_flat.specs.Counts.{HasSmallNet, last_of, outputs_of};
 ghost use Rattle.lucy_flat.specs.Clocked.{AreClocked};
-ghost use Rattle.lucy_flat.specs.Drafts.{CanBeFlattened, AreDrafts, IsInstanceKept, AreDraftsKept, RefusesDrafts};
-ghost use Rattle.lucy_flat.specs.Refusals.{IsClockTooLong, IsFlatNet, RefusesFlat, net_bits};
+ghost use Rattle.lucy_flat.specs.Drafts.{CanBeFlattened, AreDrafts, AreKept, IsInstanceKept, AreDraftsKept, RefusesDrafts};
+ghost use Rattle.lucy_flat.specs.Refusals.{IsClockTooLong, NetWordIsTooLong, IsFlatNet, RefusesFlat, net_bits};
 
 use crate::assemble::assemble;
 use crate::draft::Draft;
@@ -80,6 +80,22 @@ fn all_bits(net: &Net) -> u64
     all
 }
 
+// Puts the drafts of a program.
+fn put_all(alloc: Global, program: Program<'_>, main: u32, kept: &mut Kept) -> Result<(), FlatError>
+    requires some { 0 < length program.placed.now.nodes }
+    requires main { main ≡ last_of program.placed.now.nodes }
+    requires program { CanBeFlattened program.placed.now.nodes program.clocks.now program.sizes.now }
+    requires small { HasSmallNet program.placed.now.nodes program.clocks.now }
+    requires none { AreKept [] kept.old }
+    ensures ok { OnOk result (AreDraftsKept program.entry.placed.now.nodes program.entry.clocks.now kept.new) }
+    ensures fits { OnOk result (IsClockTooLong program.entry.placed.now.nodes program.entry.clocks.now → ⊥) }
+    ensures refused { IfErr result (λ e. (e ≡ err.OutOfMemory) ⊎ ((e ≡ err.Limit lim.Word) × NetWordIsTooLong program.entry.placed.now.nodes program.entry.clocks.now)) }
+{
+    let base = always(alloc)?;
+    put_instance(alloc, program, main, &base, None, 0, kept)?;
+    put_outputs(alloc, program, main, kept)
+}
+
 // The drafts of a program. No more of their words are kept than are allowed.
 fn drafts(alloc: Global, program: Program<'_>, main: u32) -> Result<Vec<Draft>, FlatError>
     requires some { 0 < length program.placed.now.nodes }
@@ -95,9 +111,7 @@ fn drafts(alloc: Global, program: Program<'_>, main: u32) -> Result<Vec<Draft>, 
         drafts: Vec::new(alloc),
         bits: 0,
     };
-    let base = always(alloc)?;
-    put_instance(alloc, program, main, &base, None, 0, &mut kept)?;
-    put_outputs(alloc, program, main, &mut kept)?;
+    put_all(alloc, program, main, &mut kept)?;
     let Kept { drafts, bits } = kept;
     if bits > Limit::Bits.number() {
         return Err(FlatError::Limit(Limit::Bits));

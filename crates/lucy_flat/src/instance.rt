@@ -12,7 +12,7 @@ ghost use Rattle.lucy_flat.specs.Extents.{actors_in, AreSumsOf, HasSize, size_in
 ghost use Rattle.lucy_meaning.specs.Numbers.{number};
 ghost use Rattle.lucy_meaning.specs.Sizes.{size_of};
 ghost use Rattle.lucy_flat.specs.Flat.{actor_of};
-ghost use Rattle.lucy_flat.specs.Drafts.{CanBeFlattened, IsInstanceAt, IsInstance, AreCallsAlike, IsDraftMade, IsFit, AreKept, IsPlaceKept, ArePlacesKept, IsInstanceKept};
+ghost use Rattle.lucy_flat.specs.Drafts.{CanBeFlattened, IsInstanceAt, IsInstance, AreCallsAlike, IsWork, IsDraftMade, IsFit, AreKept, IsPlaceKept, ArePlacesKept, AreKeptSoFar, IsInstanceKept};
 ghost use Rattle.lucy_flat.specs.Refusals.{NetWordIsTooLong};
 ghost use Rattle.lucy_flat.specs.declared.draft.Draft.{Draft as One};
 ghost use Rattle.lucy_place.specs.declared.entry.PlaceKind.{PlaceKind as Kind};
@@ -20,7 +20,7 @@ ghost use Rattle.lucy_place.specs.declared.entry.PlaceKind.{PlaceKind as Kind};
 use crate::draft::Draft;
 use crate::error::FlatError;
 use crate::kept::{Kept, is_past, keep};
-use crate::words::{copied, sampled, test_place, test_reads};
+use crate::words::{copied, own_word, sampled, test_place};
 use lucy_clock::NodeClock;
 use lucy_net::ActorKind;
 use lucy_place::{CallSite, PlaceKind, Placed, PlacedNode, literal_value};
@@ -162,6 +162,27 @@ fn size(clock: &NodeClock, kind: &PlaceKind) -> u64
     }
 }
 
+// What the actor of a place of an instance does, and the actors that it reads.
+fn work_of(
+    alloc: Global,
+    program: Program<'_>,
+    of: Instance<'_>,
+    place: u32,
+    stands: &PlaceKind,
+) -> Result<(ActorKind, Vec<u32>), FlatError>
+    requires program { CanBeFlattened program.placed.now.nodes program.clocks.now program.sizes.now }
+    requires of { (path : List ℕ) × IsInstance program.placed.now.nodes program.clocks.now path of }
+    requires place { 1 ≤ place }
+    requires stands { Stands of.node.now place stands.now }
+    ensures ok { (path : List ℕ) → IsInstance program.entry.placed.now.nodes program.entry.clocks.now path of.entry →
+        IfOk result (λ work. IsWork program.entry.placed.now.nodes (at path place) stands.now work.0 work.1.items) }
+    ensures refused { IfErr result (λ e. e ≡ err.OutOfMemory) }
+{
+    let reads = reads(alloc, program, of, place, stands)?;
+    let kind = kind(alloc, stands, place, of.caller.is_none())?;
+    Ok((kind, reads))
+}
+
 fn draft_of(
     alloc: Global,
     program: Program<'_>,
@@ -178,12 +199,17 @@ fn draft_of(
     ensures refused { IfErr result (λ e. (e ≡ err.OutOfMemory) ⊎ ((e ≡ err.Limit lim.Word) × NetWordIsTooLong program.entry.placed.now.nodes program.entry.clocks.now)) }
 {
     let entry = &of.node.places.list()[place as usize - 1];
-    let word = sampled(alloc, of.base, &of.clock.words.list()[place as usize])?;
-    test_reads(&entry.kind, &word)?;
+    let word = own_word(
+        alloc,
+        &entry.kind,
+        of.base,
+        &of.clock.words.list()[place as usize],
+    )?;
+    let (kind, reads) = work_of(alloc, program, of, place, &entry.kind)?;
     Ok(Draft {
-        kind: kind(alloc, &entry.kind, place, of.caller.is_none())?,
+        kind,
         word,
-        reads: reads(alloc, program, of, place, &entry.kind)?,
+        reads,
         size: size(of.clock, &entry.kind),
         gives: Vec::new(alloc),
     })
@@ -278,7 +304,74 @@ fn comes_again(kept: &Kept, sites: &[CallSite], words: &[Word], places: usize, c
     words[places + call].same(&words[places + 1 + call])
 }
 
+// Puts the drafts of the instance of a call of an instance, and of those inside it, unless they come again.
+#[cycle(put_instance)]
+fn put_call(
+    alloc: Global,
+    program: Program<'_>,
+    node: u32,
+    of: Instance<'_>,
+    call: usize,
+    kept: &mut Kept,
+) -> Result<(), FlatError>
+    requires program { CanBeFlattened program.placed.now.nodes program.clocks.now program.sizes.now }
+    requires of { (path : List ℕ) × (is : IsInstance program.placed.now.nodes program.clocks.now path of) × (is.index ≡ node) }
+    requires base { IsShortest of.base.now }
+    requires call { call < length of.node.now.calls }
+    ensures ok { (path : List ℕ) (old : List One) (is : IsInstance program.entry.placed.now.nodes program.entry.clocks.now path of.entry) → is.index ≡ node →
+        AreKeptSoFar program.entry.placed.now.nodes program.entry.clocks.now path of.entry.node.now call old kept.old →
+        OnOk result (AreKeptSoFar program.entry.placed.now.nodes program.entry.clocks.now path of.entry.node.now (call + 1) old kept.new) }
+    ensures refused { IfErr result (λ e. (e ≡ err.OutOfMemory) ⊎ ((e ≡ err.Limit lim.Word) × NetWordIsTooLong program.entry.placed.now.nodes program.entry.clocks.now)) }
+{
+    let places = of.node.places.list().len();
+    let sites = of.node.calls.list();
+    let words = of.clock.words.list();
+    if comes_again(kept, sites, words, places, call) {
+        return Ok(());
+    }
+    let site = &sites[call];
+    let base = sampled(alloc, of.base, &words[places + 1 + call])?;
+    let caller = Some(Caller {
+        begin: of.begin,
+        args: site.args.list(),
+    });
+    put_instance(
+        alloc,
+        program,
+        site.node,
+        &base,
+        caller,
+        of.inner[call],
+        kept,
+    )
+}
+
+// Puts the drafts of an instance of the node of a number, and of those inside it.
+#[cycle(put_instance)]
+fn put_inside(
+    alloc: Global,
+    program: Program<'_>,
+    node: u32,
+    of: Instance<'_>,
+    kept: &mut Kept,
+) -> Result<(), FlatError>
+    requires program { CanBeFlattened program.placed.now.nodes program.clocks.now program.sizes.now }
+    requires of { (path : List ℕ) × (is : IsInstance program.placed.now.nodes program.clocks.now path of) × (is.index ≡ node) }
+    requires base { IsShortest of.base.now }
+    ensures ok { (path : List ℕ) (old : List One) (is : IsInstance program.entry.placed.now.nodes program.entry.clocks.now path of.entry) → is.index ≡ node → AreKept old kept.old →
+        OnOk result (IsInstanceKept program.entry.placed.now.nodes program.entry.clocks.now path node old kept.new) }
+    ensures refused { IfErr result (λ e. (e ≡ err.OutOfMemory) ⊎ ((e ≡ err.Limit lim.Word) × NetWordIsTooLong program.entry.placed.now.nodes program.entry.clocks.now)) }
+{
+    put_places(alloc, program, of, kept)?;
+    let count = of.node.calls.list().len();
+    'calls: for call in 0..count {
+        put_call(alloc, program, node, of, call, kept)?;
+    }
+    Ok(())
+}
+
 /// Puts the drafts of the instance of a node that begins there, and of those inside it.
+#[cycle(put_instance)]
 pub(crate) fn put_instance(
     alloc: Global,
     program: Program<'_>,
@@ -310,19 +403,5 @@ pub(crate) fn put_instance(
         begin,
         inner: &inner,
     };
-    put_places(alloc, program, of, kept)?;
-    let words = clock.words.list();
-    'calls: for i in 0..sites.len() {
-        if comes_again(kept, sites, words, places, i) {
-            continue;
-        }
-        let site = &sites[i];
-        let base = sampled(alloc, base, &words[places + 1 + i])?;
-        let caller = Some(Caller {
-            begin,
-            args: site.args.list(),
-        });
-        put_instance(alloc, program, site.node, &base, caller, of.inner[i], kept)?;
-    }
-    Ok(())
+    put_inside(alloc, program, node, of, kept)
 }

@@ -53,8 +53,8 @@ pub(crate) fn turned(alloc: Global, word: &Word) -> Result<Word, FlatError>
     }
 }
 
-/// Tests that no word on which a place of a kind takes is too long, where this is its own; none is made.
-pub(crate) fn test_reads(kind: &PlaceKind, own: &Word) -> Result<(), FlatError>
+// Tests that no word on which a place of a kind takes is too long, where this is its own; none is made.
+fn test_reads(kind: &PlaceKind, own: &Word) -> Result<(), FlatError>
     ensures ok { OnOk result (HandsTooLong kind.now own.now → ⊥) }
     ensures refused { IfErr result (λ e. (e ≡ err.Limit lim.Word) × HandsTooLong kind.now own.now) }
 {
@@ -75,13 +75,32 @@ pub(crate) fn test_sampled(own: &Word, word: &Word) -> Result<(), FlatError>
     Ok(())
 }
 
-// The same of the words on which a place of a kind takes too, for which its own is made.
+/// The word of a place of a kind, with this word in its node, in an instance with this base, unless it or one on which the place
+/// takes is too long.
+pub(crate) fn own_word(
+    alloc: Global,
+    kind: &PlaceKind,
+    base: &Word,
+    word: &Word,
+) -> Result<Word, FlatError>
+    ensures ok { IfOk result (IsOn base.now word.now) }
+    ensures stored { IfOk result IsStored }
+    ensures fits { IfOk result (λ own. IsOnTooLong base.now word.now → ⊥) }
+    ensures reads { IfOk result (λ own. HandsTooLong kind.now own → ⊥) }
+    ensures refused { IfErr result (λ e. (e ≡ err.OutOfMemory) ⊎ ((e ≡ err.Limit lim.Word) × HasTooLong kind.now base.now word.now)) }
+{
+    let own = sampled(alloc, base, word)?;
+    test_reads(kind, &own)?;
+    Ok(own)
+}
+
+// Tests that no word of a place of a kind is too long, for which its own is made.
 fn test_made(alloc: Global, kind: &PlaceKind, base: &Word, word: &Word) -> Result<(), FlatError>
     ensures ok { OnOk result (HasTooLong kind.now base.now word.now → ⊥) }
     ensures refused { IfErr result (λ e. (e ≡ err.OutOfMemory) ⊎ ((e ≡ err.Limit lim.Word) × HasTooLong kind.now base.now word.now)) }
 {
-    let own = sampled(alloc, base, word)?;
-    test_reads(kind, &own)
+    own_word(alloc, kind, base, word)?;
+    Ok(())
 }
 
 /// Tests that a place of a kind, with this word in its node, has no word that is too long in an instance with this base: its

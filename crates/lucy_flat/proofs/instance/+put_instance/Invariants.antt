@@ -1,14 +1,18 @@
-use Rattle.std.proofs.Common.{◌≡◌, ℕ, List, Some}
-use Rattle.std.specs.Prelude.{slice_get}
-use Rattle.lucy_place.specs.declared.placed.PlacedNode.{PlacedNode}
+use Rattle.std.proofs.Common.{◌≡◌, ◌+◌, ◌*◌, ℕ, List}
 use Rattle.lucy_flat.specs.declared.draft.Draft.{Draft}
-use Rattle.lucy_flat.specs.Drafts.{IsInstanceAt, AreKept, AreKeptSoFar}
+use Rattle.lucy_flat.specs.Drafts.{IsInstance, AreKept, AreKeptSoFar}
 use Rattle.lucy_flat.proofs.instance.+put_instance.Given as goal
 
 abbrev pub decreases-put_instance : goal.decreases-put_instance
-decreases-put_instance l = l.node
+decreases-put_instance l = 3 * l.node + 2
 
-abbrev pub invariant-calls : goal.invariant-calls
-invariant-calls l =
-    (path : List ℕ) (n : PlacedNode) (old : List Draft) → IsInstanceAt l.program.placed.now.nodes l.program.clocks.now path l.node l.begin l.base l.caller → slice_get l.program.placed.now.nodes l.node ≡ Some n → AreKept old l.fn.kept →
-    AreKeptSoFar l.program.placed.now.nodes l.program.clocks.now path n l.i old l.kept
+abbrev pub decreases-put_inside : goal.decreases-put_inside
+decreases-put_inside l = 3 * l.node + 1
+
+abbrev pub decreases-put_call : goal.decreases-put_call
+decreases-put_call l = 3 * l.node
+
+abbrev pub invariant-put_inside-calls : goal.invariant-put_inside-calls
+invariant-put_inside-calls l =
+    (path : List ℕ) (old : List Draft) (is : IsInstance l.program.placed.now.nodes l.program.clocks.now path l.of) → is.index ≡ l.node → AreKept old l.fn.kept →
+    AreKeptSoFar l.program.placed.now.nodes l.program.clocks.now path l.of.node.now l.call old l.kept
