@@ -2,10 +2,10 @@
 // input's file. Each line of its output is printed behind `> `, each line of its faults behind `! `, and `status N` where that isn't 0.
 ghost use Rattle.lucy_host.specs.Host.{Serves};
 
+use crate::promised::look;
 use crate::show::{print_lines, sink};
 use lucy_host::Host;
 use lucy_text::{MemSource, RealShelf};
-use lucy_views::look;
 use std::alloc::{AllocError, Global};
 use std::fs::{self, Files};
 use std::io;

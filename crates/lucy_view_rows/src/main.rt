@@ -12,6 +12,7 @@ ghost use Rattle.lucy_host.specs.Host.{Serves};
 
 mod explaining;
 mod looking;
+mod promised;
 mod show;
 mod waving;
 

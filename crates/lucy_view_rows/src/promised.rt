@@ -1,4 +1,4 @@
-// What the program of pictures does with its words.
+// What `lucy_views::look` promises, clause by clause as in its own contract, so that one that says less than before fails here.
 ghost use Rattle.std.specs.Prelude.{◌≡◌, ◌≢◌, ◌≤◌, [], None, Some, map, string_bytes};
 ghost use Rattle.clap.specs.Faults.{fault_of};
 ghost use Rattle.lucy_host.specs.Host.{Serves, lent};
@@ -12,8 +12,8 @@ use lucy_host::Host;
 use lucy_text::{Shelf, Sink, Source};
 use std::alloc::Global;
 
-/// Pins `lucy_views::look`.
-pub fn look<S: Shelf, I: Source, O: Sink, E: Sink, F: Fn(u32, i64, i64) -> i64 + Sync>(
+/// Pins `lucy_views::look`, by which each row of a call goes.
+pub(crate) fn look<S: Shelf, I: Source, O: Sink, E: Sink, F: Fn(u32, i64, i64) -> i64 + Sync>(
     alloc: Global,
     words: &[String],
     host: &Host<F>,
