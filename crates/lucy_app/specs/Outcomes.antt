@@ -2,9 +2,13 @@
 use Rattle.std.specs.Prelude.{ℕ, ◌≡◌, ◌⊎◌, List, [], ◌≢◌, Option, Result, Ok, Err, IsOkAnd, MatchResult}
 use Rattle.std.specs.declared.alloc.Global.{Global}
 use Rattle.std.specs.declared.vec.Vec.{Vec}
+use Rattle.lucy_word.specs.Bits.{Bits}
 use Rattle.lucy_word.specs.declared.limit.Limit.{Limit}
 use Rattle.lucy_word.specs.declared.limit.Limit.TheVariants as limit
 use Rattle.lucy_fields.specs.Readings.{AreRead}
+use Rattle.lucy_order.specs.Horizon.{AreFar}
+use Rattle.lucy_order.specs.Verdicts.{IsVerdict}
+use Rattle.lucy_order.specs.declared.verdict.Verdict.{Verdict}
 use Rattle.lucy_trace.specs.Logs.{picks_of}
 use Rattle.lucy_trace.specs.declared.error.TraceError.{TraceError}
 use Rattle.lucy_trace.specs.declared.error.TraceError.TheVariants as trace
@@ -27,6 +31,7 @@ use Rattle.lucy_run.specs.Ends.{IsFrontOf}
 use Rattle.lucy_run.specs.declared.ending.Ending.{Ending}
 use Rattle.lucy_app.specs.Answers.{Answer, printed, read_fault, no_instants, no_buffer, program_refused, input_refused, log_refused, out_of_memory}
 use Rattle.lucy_app.specs.Commands.{HasText}
+use Rattle.lucy_app.specs.Order.{verdict_line}
 use Rattle.lucy_app.specs.Running.{IsRunnable, OwesRunning}
 use Rattle.lucy_app.specs.Replaying.{OwesEvents, OwesLog}
 use Rattle.lucy_text.specs.Sources.{ReadStop, Unread}
@@ -37,6 +42,8 @@ use Rattle.lucy_app.specs.Owes.{Owes}
 use Rattle.lucy_app.specs.Ends.{Tells, Answers, Breaks, EndsBy, MayStand, MayFail}
 pub use Rattle.lucy_app.specs.Ends.{TellsEnding}
 use Rattle.lucy_app.specs.declared.input_refusal.InputCause.{InputCause}
+use Rattle.lucy_app.specs.declared.order.Unjudged.{Unjudged}
+use Rattle.lucy_app.specs.declared.order.Unjudged.TheVariants as unjudged
 use Rattle.lucy_app.specs.declared.refusal.Refusal.{Refusal}
 use Rattle.lucy_app.specs.declared.refusal.Refusal.TheVariants.{Program, Input, NoInstants, NoBuffer, Log, ReadFault, OutOfMemory}
 
@@ -57,6 +64,20 @@ RefusesProgram Refuses e = (e ≡ OutOfMemory) ⊎ ((reason : Reason) × Refuses
 -- an input is refused so, but for want of memory
 abbrev pub RefusesInput : (Refuses : InputCause → Type 0) → Refusal → Type 0
 RefusesInput Refuses e = (e ≡ OutOfMemory) ⊎ ((cause : InputCause) × Refuses cause × (e ≡ Input cause))
+
+-- two words have no verdict for a cause of which this holds, or for want of memory
+abbrev pub IsUnjudged : (Refuses : InputCause → Type 0) → Unjudged → Type 0
+IsUnjudged Refuses (unjudged.Input cause) = Refuses cause
+IsUnjudged Refuses unjudged.OutOfMemory = Unit {0}
+
+-- and then a command has no answer
+abbrev pub judging_refusal : Unjudged → Refusal
+judging_refusal (unjudged.Input cause) = Input cause
+judging_refusal unjudged.OutOfMemory = OutOfMemory
+
+-- the line is that of the verdict on two words, about which not too many instants decide
+abbrev pub IsLineOn : Bits → Bits → (line : List ℕ) → Type 0
+IsLineOn a b line = (v : Verdict) × IsVerdict a b v × (line ≡ verdict_line v) × (AreFar a b → ⊥)
 
 -- why a program is refused has a text
 abbrev pub Tellable : Refusal → Type 0

@@ -49,6 +49,7 @@ pub(crate) fn accepted(
         Err(reason) => return Err(Refusal::from(reason)),
     };
     if accepted.inputs.is_empty() && instants.is_none() {
+        drop(accepted);
         return Err(Refusal::NoInstants);
     }
     Ok(accepted)

@@ -2,7 +2,7 @@
 ghost use Rattle.std.specs.Prelude.{◌≡◌, IfOk};
 ghost use Rattle.lucy_app.specs.Endings as spec;
 
-use lucy_front::refusal_text;
+use crate::limit::limit_text;
 use lucy_lines::TextFault;
 use lucy_word::{Limit, OutOfMemory};
 use std::alloc::Global;
@@ -34,7 +34,7 @@ pub(crate) fn fault_line(alloc: Global, fault: TextFault) -> Result<Vec<u8>, Out
         TextFault::BadValue(number) => format!(in alloc; "lucy: input line {number}: bad value\n"),
         TextFault::ReadFault => format!(in alloc; "lucy: read fault\n"),
         TextFault::TooLong => {
-            return refusal_text(alloc, &lucy_front::Refusal::Limit(Limit::Input));
+            return limit_text(alloc, Limit::Input);
         }
     };
     Ok(line?.into_bytes())

@@ -2,7 +2,7 @@
 ghost use Rattle.std.specs.Prelude.{◌≡◌, IfOk};
 ghost use Rattle.lucy_app.specs.InputRefusals.{input_told};
 
-use lucy_front::refusal_text;
+use crate::limit::limit_text;
 use lucy_word::{Limit, OutOfMemory};
 use std::alloc::Global;
 
@@ -46,7 +46,7 @@ impl InputCause {
                 format!(in alloc; "lucy: input word {number}: no one in the period\n")
             }
             InputCause::Limit(limit) => {
-                return refusal_text(alloc, &lucy_front::Refusal::Limit(*limit));
+                return limit_text(alloc, *limit);
             }
         };
         Ok(line?.into_bytes())

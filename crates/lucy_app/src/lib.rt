@@ -15,6 +15,7 @@ mod ending;
 mod fetching;
 mod input_refusal;
 mod laws;
+mod limit;
 mod log;
 mod making;
 mod operators;

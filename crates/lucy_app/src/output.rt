@@ -5,6 +5,7 @@ ghost use Rattle.lucy_app.specs.Ends.{Tells, TellsEnding};
 ghost use Rattle.lucy_app.specs.Outcomes.{TellsRefusal, Prints, Delivers, Tellable};
 
 use crate::ending::{fault_line, fault_status};
+use crate::limit::limit_text;
 use crate::log::log_line;
 use crate::refusal::{Refusal, program_status};
 use lucy_front::refusal_text;
@@ -48,7 +49,9 @@ pub(crate) fn refuse<E: Sink>(alloc: Global, err: &mut E, refusal: Refusal) -> u
 {
     match refusal {
         Refusal::Program(reason) => {
-            explain(err, refusal_text(alloc, &reason), program_status(&reason))
+            let status = explain(err, refusal_text(alloc, &reason), program_status(&reason));
+            drop(reason);
+            status
         }
         Refusal::Input(cause) => explain(err, cause.line(alloc), cause.status()),
         Refusal::NoInstants => tell(
@@ -105,13 +108,7 @@ pub fn conclude<E: Sink>(alloc: Global, err: &mut E, ending: Ending) -> u8
     match ending {
         Ending::Done => 0,
         Ending::Input(fault) => explain(err, fault_line(alloc, fault), fault_status(fault)),
-        Ending::Limit(limit) => {
-            explain(
-                err,
-                refusal_text(alloc, &lucy_front::Refusal::Limit(limit)),
-                6,
-            )
-        }
+        Ending::Limit(limit) => explain(err, limit_text(alloc, limit), 6),
         Ending::WriteFault => tell(err, b"lucy: write fault\n", WRITE_FAULT),
         Ending::OutOfMemory => tell(err, b"lucy: out of memory\n", 7),
     }
