@@ -1,0 +1,10 @@
+mod PartsLaws
+mod NodesLaws
+mod NameLaws
+mod LineLaws
+mod MeaningLaws
+mod RunLaws
+mod ClockLaws
+mod RefusedLaws
+mod Rows
+mod LineRows

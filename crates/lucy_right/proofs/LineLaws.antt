@@ -1,0 +1,250 @@
+-- The items of a cut are those that the first lines of an input say.
+use Rattle.std.proofs.Common.{◌≡◌, ◌+◌, ◌-◌, ◌<◌, ◌≤◌, ◌==◌, ◌++◌, ◌⊎◌, ℕ, zero, suc, Bool, true, false, cond, List, [], ◌∷◌, length, take, drop, get_or, refl, ap, sym, ◌∙◌, subst, inl, inr, arith, append-nil, length-append}
+use Rattle.std.specs.Prelude.{nat_lt, Some, None}
+use Rattle.std.specs.List.{slice_split, onto_first, All}
+use Rattle.std.specs.Str.Lines.{lines, lines_of_parts, strip_carriage_return}
+use Rattle.std.proofs.lemmas.Bool.{cases_Bool, ltb-true, ltb-false, eqb-true, cond_both}
+use Rattle.std.proofs.lemmas.List.{length-take-le, get_or-take, take-take, take-append-le, drop-append-le, take_all, drop_all, nil_from_length}
+use Rattle.std.proofs.lemmas.List.Sums.{fails_before_first}
+use Rattle.std.proofs.lemmas.List.Splits.{slice_split_first, slice_split_none}
+use Rattle.lucy_lines.specs.declared.input.InputSpec.{InputSpec}
+use Rattle.lucy_lines.specs.declared.reader.TextFault.{TextFault}
+use Rattle.lucy_lines.specs.declared.reader.TextFault.TheVariants.{BadLine, TooLong}
+use Rattle.lucy_lines.specs.Fronts.{most_bytes, longest_line, run, reach, judge, content_of, front_of}
+use Rattle.lucy_lines.specs.Fields.{fields}
+use Rattle.lucy_lines.specs.Kinds.{FieldsSay, PairSays}
+use Rattle.lucy_lines.specs.Cuts.{Held, past, ItemOf, refusal, Stop, At, Before, Cut, blank, item, refused, long, too_long, undecided}
+use Rattle.lucy_lines.proofs.FrontLaws.{run_more}
+use Rattle.lucy_right.specs.Right.{LineSays, LinesSay}
+
+abbrev is_feed : ℕ → Bool
+is_feed b = b == 10
+
+-- there is a first part
+record Parted (bytes : List ℕ) : Type 0 where
+  first : List ℕ
+  rest : List (List ℕ)
+  is : slice_split is_feed bytes ≡ first ∷ rest
+
+parted_by : (c : ℕ) (b : Bool) (bytes : List ℕ) → is_feed c ≡ b → Parted bytes → Parted (c ∷ bytes)
+parted_by c true bytes e p = record { first = []; rest = slice_split is_feed bytes; is = ap (λ t. cond t ([] ∷ slice_split is_feed bytes) (onto_first c (slice_split is_feed bytes))) e }
+parted_by c false bytes e p = record {
+  first = c ∷ p.first;
+  rest = p.rest;
+  is = ap (λ t. cond t ([] ∷ slice_split is_feed bytes) (onto_first c (slice_split is_feed bytes))) e ∙ ap (onto_first c) p.is;
+}
+
+parted : (bytes : List ℕ) → Parted bytes
+parted [] = record { first = []; rest = []; is = refl }
+parted (c ∷ bytes) = parted_by c (is_feed c) bytes refl (parted bytes)
+
+-- the line before the first line feed
+lines_at : (bytes : List ℕ) → run bytes < length bytes → lines bytes ≡ strip_carriage_return (take (run bytes) bytes) ∷ lines (drop (run bytes + 1) bytes)
+lines_at bytes h =
+    let p = parted (drop (run bytes + 1) bytes) in
+    let front : List ℕ = take (run bytes) bytes in
+    ap lines_of_parts (slice_split_first is_feed bytes 0 h ∙ ap (λ ps. front ∷ ps) p.is)
+    ∙ ap (λ ps. strip_carriage_return front ∷ lines_of_parts ps) (sym p.is)
+
+take_by : (b : Bool) (i j : ℕ) (bytes : List ℕ) → cond b (take i bytes) (take j bytes) ≡ take (cond b i j) bytes
+take_by true i j bytes = refl
+take_by false i j bytes = refl
+
+strip_is : (bytes : List ℕ) (n : ℕ) → n ≤ length bytes → strip_carriage_return (take n bytes) ≡ take (content_of bytes n) bytes
+strip_is bytes zero h = ap (λ m. take m bytes) (sym (cond_both (get_or bytes 0 0 == 13) 0 0 (λ m. m ≡ 0) (λ e. refl) (λ e. refl)))
+strip_is bytes (suc m) h =
+    let n : ℕ = suc m in
+    let kept : List ℕ = take n bytes in
+    let inner : n - 1 < n = omega arith in
+    let below : n - 1 ≤ n = omega arith in
+    ap (λ l. cond (get_or kept (l - 1) 0 == 13) (take (l - 1) kept) kept) (length-take-le n bytes h)
+    ∙ ap (λ c. cond (c == 13) (take (n - 1) kept) kept) (get_or-take n bytes (n - 1) 0 inner)
+    ∙ ap (λ t. cond (get_or bytes (n - 1) 0 == 13) t kept) (take-take (n - 1) n bytes below)
+    ∙ take_by (get_or bytes (n - 1) 0 == 13) (n - 1) n bytes
+
+-- a last line without an end
+one_line : (bytes : List ℕ) → length bytes ≤ run bytes → (length bytes == 0) ≡ false → lines bytes ≡ bytes ∷ []
+one_line bytes h some =
+    let none : All (λ c. is_feed c ≡ false) bytes = λ k d l. fails_before_first is_feed bytes k d (omega (arith, l)) in
+    ap lines_of_parts (slice_split_none is_feed bytes none) ∙ ap (λ t. cond t [] (bytes ∷ [])) some
+
+-- The line at the front of bytes has this length without its end and with it: it ends with a line feed, or it is all that there is.
+abbrev IsFirst : (closed : Bool) (bytes : List ℕ) (content whole : ℕ) → Type 0
+IsFirst closed bytes c n =
+    ((run bytes < length bytes) × (content_of bytes (run bytes) ≡ c) × (run bytes + 1 ≡ n))
+    ⊎ ((closed ≡ true) × (length bytes ≤ run bytes) × ((length bytes == 0) ≡ false) × (length bytes ≡ c) × (length bytes ≡ n))
+
+-- it is the first line, whatever follows
+first_lines : (closed : Bool) (bytes more : List ℕ) (c n : ℕ) → IsFirst closed bytes c n → (closed ≡ true → more ≡ []) → lines (bytes ++ more) ≡ take c bytes ∷ lines (drop n bytes ++ more)
+first_lines closed bytes more c n (inl h) shut =
+    let within : run bytes < length bytes = h.0 in
+    let below : run bytes ≤ length bytes = omega arith in
+    let upto : run bytes + 1 ≤ length bytes = omega arith in
+    let longer : run (bytes ++ more) < length (bytes ++ more) = omega (arith, run_more bytes more within, length-append bytes more) in
+    lines_at (bytes ++ more) longer
+    ∙ ap (λ r. strip_carriage_return (take r (bytes ++ more)) ∷ lines (drop (r + 1) (bytes ++ more))) (run_more bytes more within)
+    ∙ ap (λ l. strip_carriage_return l ∷ lines (drop (run bytes + 1) (bytes ++ more))) (take-append-le (run bytes) bytes more below)
+    ∙ ap (λ l. strip_carriage_return (take (run bytes) bytes) ∷ lines l) (drop-append-le (run bytes + 1) bytes more upto)
+    ∙ ap (λ l. l ∷ lines (drop (run bytes + 1) bytes ++ more)) (strip_is bytes (run bytes) below)
+    ∙ ap (λ m. take m bytes ∷ lines (drop (run bytes + 1) bytes ++ more)) h.1
+    ∙ ap (λ m. take c bytes ∷ lines (drop m bytes ++ more)) h.2
+first_lines closed bytes more c n (inr h) shut =
+    let none : more ≡ [] = shut h.0 in
+    let whole : length bytes ≤ c = omega (arith, h.3) in
+    let past_all : length bytes ≤ n = omega (arith, h.4) in
+    ap (λ m. lines (bytes ++ m)) none ∙ ap lines (append-nil bytes) ∙ one_line bytes h.1 h.2
+    ∙ ap (λ l. l ∷ lines []) (sym (take_all c bytes whole))
+    ∙ ap (λ l. take c bytes ∷ lines (l ++ [])) (sym (drop_all n bytes past_all))
+    ∙ ap (λ m. take c bytes ∷ lines (drop n bytes ++ m)) (sym none)
+
+-- what tests of bytes say of their first line
+first_ended : (closed : Bool) (bytes : List ℕ) (c n : ℕ) → nat_lt (judge bytes) (length bytes) ≡ true → nat_lt (reach bytes) (run bytes) ≡ false → content_of bytes (run bytes) ≡ c → run bytes + 1 ≡ n →
+    IsFirst closed bytes c n
+first_ended closed bytes c n t r p q =
+    let near : run bytes ≤ reach bytes = ltb-false (reach bytes) (run bytes) r in
+    let inside : judge bytes < length bytes = ltb-true (judge bytes) (length bytes) t in
+    inl (omega arith, p, q)
+
+first_whole : (closed : Bool) (bytes : List ℕ) (c n : ℕ) → nat_lt (judge bytes) (length bytes) ≡ false → closed ≡ true → (length bytes == 0) ≡ false → length bytes ≡ c → length bytes ≡ n → IsFirst closed bytes c n
+first_whole closed bytes c n t is_closed s p q =
+    let far : length bytes ≤ judge bytes = ltb-false (judge bytes) (length bytes) t in
+    inr (is_closed, omega arith, s, p, q)
+
+-- What fields say that are not refused: none nothing, and two what a name and a spelled value say.
+told_fields : (inputs : List InputSpec) (fs : List (List ℕ)) (k : _) → FieldsSay inputs fs k → refusal 1 k ≡ None →
+    ((fs ≡ []) × FieldsSay inputs [] k) ⊎ ((name : List ℕ) × (spelled : List ℕ) × (fs ≡ name ∷ spelled ∷ []) × PairSays inputs name spelled k)
+told_fields inputs [] k h r = inl (refl, h)
+told_fields inputs (a ∷ []) k h r = let bad : refusal 1 k ≡ Some (BadLine 1) = ap (refusal 1) h in absurd (cc (sym r ∙ bad))
+told_fields inputs (a ∷ b ∷ []) k h r = inr (a, b, refl, h)
+told_fields inputs (a ∷ b ∷ c ∷ fs) k h r = let bad : refusal 1 k ≡ Some (BadLine 1) = ap (refusal 1) h in absurd (cc (sym r ∙ bad))
+
+-- what the first lines say of what is held and of what follows it, with the stop of its items
+pub record Lined (inputs : List InputSpec) (closed : Bool) (h : Held) (more : List ℕ) (items : List ItemOf) (stop : Stop) : Type 0 where
+  pub many : ℕ
+  pub say : LinesSay inputs (take many (lines (h.rest ++ more))) items
+  pub all : closed ≡ true → (g : Held) → stop ≡ Before g → many ≡ length (lines (h.rest ++ more))
+
+module _ (input : InputSpec) (others : List InputSpec) (closed : Bool) where
+  abbrev inputs : List InputSpec
+  inputs = input ∷ others
+
+  behind_line : (h : Held) (more line : List ℕ) (n : ℕ) (items now : List ItemOf) (stop : Stop) → lines (h.rest ++ more) ≡ line ∷ lines (drop n h.rest ++ more) →
+      (rest : Lined inputs closed (past h n) more items stop) → LinesSay inputs (line ∷ take rest.many (lines (drop n h.rest ++ more))) now → Lined inputs closed h more now stop
+  behind_line h more line n items now stop ls rest say = record {
+    many = suc rest.many;
+    say = subst (λ l. LinesSay inputs (take (suc rest.many) l) now) (sym ls) say;
+    all = λ shut g s. ap suc (rest.all shut g s) ∙ ap length (sym ls);
+  }
+
+  stopped : (h : Held) (more : List ℕ) (f : TextFault) → Lined inputs closed h more [] (At f)
+  stopped h more f = record { many = 0; say = refl; all = λ shut g s. absurd (cc s) }
+
+  pub cut_lines : {h : Held} {items : List ItemOf} {stop : Stop} → Cut inputs closed h items stop → (more : List ℕ) → (closed ≡ true → more ≡ []) → Lined inputs closed h more items stop
+  unfolding front_of
+  cut_lines {h = h} {stop = stop} (blank {content = c} {length = n} {items = items} e said cut) more shut =
+      let rest : Lined inputs closed (past h n) more items stop = cut_lines cut more shut in
+      let first : IsFirst closed h.rest c n = elim (cases_Bool (nat_lt (judge h.rest) (length h.rest))) [
+        | inl t ↦
+            let e1 = rw t at e in
+            elim (cases_Bool (nat_lt (h.used + judge h.rest) most_bytes)) [
+              | inl u ↦
+                  let e2 = rw u at e1 in
+                  elim (cases_Bool (nat_lt (reach h.rest) (run h.rest))) [
+                    | inl r ↦ let e3 = rw r at e2 in absurd (cc e3)
+                    | inr r ↦ let e3 = rw r at e2 in first_ended closed h.rest c n t r (cc e3) (cc e3)
+                  ]
+              | inr u ↦ let e2 = rw u at e1 in absurd (cc e2)
+            ]
+        | inr t ↦
+            let e1 = rw t at e in
+            elim (cases_Bool (nat_lt most_bytes (h.used + length h.rest))) [
+              | inl p ↦ let e2 = rw p at e1 in absurd (cc e2)
+              | inr p ↦
+                  let e2 = rw p at e1 in
+                  elim (cases_Bool closed) [
+                    | inl k ↦
+                        let e3 = rw k at e2 in
+                        elim (cases_Bool (length h.rest == 0)) [
+                          | inl s ↦ let e4 = rw s at e3 in absurd (cc e4)
+                          | inr s ↦
+                              let e4 = rw s at e3 in
+                              elim (cases_Bool (nat_lt longest_line (length h.rest))) [
+                                | inl v ↦ let e5 = rw v at e4 in absurd (cc e5)
+                                | inr v ↦ let e5 = rw v at e4 in first_whole closed h.rest c n t k s (cc e5) (cc e5)
+                              ]
+                        ]
+                    | inr k ↦ let e3 = rw k at e2 in absurd (cc e3)
+                  ]
+            ]
+      ] in
+      let none : fields (take c h.rest) ≡ [] = elim (told_fields inputs (fields (take c h.rest)) _ said refl) [ inl f ↦ f.0 | inr (name, spelled, f, pair) ↦ absurd pair ] in
+      behind_line h more (take c h.rest) n items items stop (first_lines closed h.rest more c n first shut) rest (inl (none, rest.say))
+  cut_lines {h = h} {stop = stop} (item {content = c} {length = n} {stream = number} {value = value} {items = items} e said cut) more shut =
+      let rest : Lined inputs closed (past h n) more items stop = cut_lines cut more shut in
+      let it : ItemOf = record { stream = number; value = value } in
+      let first : IsFirst closed h.rest c n = elim (cases_Bool (nat_lt (judge h.rest) (length h.rest))) [
+        | inl t ↦
+            let e1 = rw t at e in
+            elim (cases_Bool (nat_lt (h.used + judge h.rest) most_bytes)) [
+              | inl u ↦
+                  let e2 = rw u at e1 in
+                  elim (cases_Bool (nat_lt (reach h.rest) (run h.rest))) [
+                    | inl r ↦ let e3 = rw r at e2 in absurd (cc e3)
+                    | inr r ↦ let e3 = rw r at e2 in first_ended closed h.rest c n t r (cc e3) (cc e3)
+                  ]
+              | inr u ↦ let e2 = rw u at e1 in absurd (cc e2)
+            ]
+        | inr t ↦
+            let e1 = rw t at e in
+            elim (cases_Bool (nat_lt most_bytes (h.used + length h.rest))) [
+              | inl p ↦ let e2 = rw p at e1 in absurd (cc e2)
+              | inr p ↦
+                  let e2 = rw p at e1 in
+                  elim (cases_Bool closed) [
+                    | inl k ↦
+                        let e3 = rw k at e2 in
+                        elim (cases_Bool (length h.rest == 0)) [
+                          | inl s ↦ let e4 = rw s at e3 in absurd (cc e4)
+                          | inr s ↦
+                              let e4 = rw s at e3 in
+                              elim (cases_Bool (nat_lt longest_line (length h.rest))) [
+                                | inl v ↦ let e5 = rw v at e4 in absurd (cc e5)
+                                | inr v ↦ let e5 = rw v at e4 in first_whole closed h.rest c n t k s (cc e5) (cc e5)
+                              ]
+                        ]
+                    | inr k ↦ let e3 = rw k at e2 in absurd (cc e3)
+                  ]
+            ]
+      ] in
+      let says : LineSays inputs (take c h.rest) it =
+      elim (told_fields inputs (fields (take c h.rest)) _ said refl) [ inl f ↦ absurd (cc f.1) | inr (name, spelled, f, pair) ↦ (name, spelled, pair.0, f, pair.1, pair.2) ] in
+      behind_line h more (take c h.rest) n items (it ∷ items) stop (first_lines closed h.rest more c n first shut) rest (inr (it, items, says, rest.say, refl))
+  cut_lines {h = h} (refused {f = f} k e is r) more shut = stopped h more f
+  cut_lines {h = h} (long e) more shut = stopped h more (BadLine (h.lines + 1))
+  cut_lines {h = h} (too_long e) more shut = stopped h more TooLong
+  cut_lines {h = h} (undecided e) more shut =
+      let empty : closed ≡ true → h.rest ≡ [] = λ k. elim (cases_Bool (nat_lt (judge h.rest) (length h.rest))) [
+        | inl t ↦
+            let e1 = rw t at e in
+            elim (cases_Bool (nat_lt (h.used + judge h.rest) most_bytes)) [
+              | inl u ↦
+                  let e2 = rw u at e1 in
+                  elim (cases_Bool (nat_lt (reach h.rest) (run h.rest))) [ inl r ↦ let e3 = rw r at e2 in absurd (cc e3) | inr r ↦ let e3 = rw r at e2 in absurd (cc e3) ]
+              | inr u ↦ let e2 = rw u at e1 in absurd (cc e2)
+            ]
+        | inr t ↦
+            let e1 = rw t at e in
+            elim (cases_Bool (nat_lt most_bytes (h.used + length h.rest))) [
+              | inl p ↦ let e2 = rw p at e1 in absurd (cc e2)
+              | inr p ↦
+                  let e2 = rw p at e1 in
+                  let e3 = rw k at e2 in
+                  elim (cases_Bool (length h.rest == 0)) [
+                    | inl s ↦ nil_from_length h.rest (eqb-true (length h.rest) 0 s)
+                    | inr s ↦
+                        let e4 = rw s at e3 in
+                        elim (cases_Bool (nat_lt longest_line (length h.rest))) [ inl v ↦ let e5 = rw v at e4 in absurd (cc e5) | inr v ↦ let e5 = rw v at e4 in absurd (cc e5) ]
+                  ]
+            ]
+      ] in
+      record { many = 0; say = refl; all = λ k g s. ap (λ m. length (lines m)) (sym (ap (λ r. r ++ more) (empty k) ∙ shut k)) }

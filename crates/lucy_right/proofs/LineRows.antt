@@ -1,0 +1,35 @@
+-- What the lines of a short input say.
+use Rattle.std.proofs.Common.{[], ◌∷◌, refl, inl, inr, arith}
+use Rattle.std.specs.Prelude.{codes, pos, negsuc}
+use Rattle.std.specs.Str.Lines.{lines}
+use Rattle.lucy_host.specs.declared.data_type.DataType.TheVariants.{Int}
+use Rattle.lucy_lines.specs.declared.input.InputSpec.{InputSpec}
+use Rattle.lucy_lines.specs.Fields.{fields}
+use Rattle.lucy_lines.specs.Cuts.{ItemOf}
+use Rattle.lucy_right.specs.Right.{LineSays, LinesSay}
+
+abbrev x_input : InputSpec
+x_input = record { name = codes "x"; holds = Int }
+
+abbrev one : ItemOf
+one = record { stream = 0; value = pos 1 }
+
+abbrev minus_two : ItemOf
+minus_two = record { stream = 0; value = negsuc 1 }
+
+first_says : LineSays (x_input ∷ []) (codes "x 1") one
+unfolding fields
+first_says = (codes "x", codes "1", x_input, refl, record { found = refl; there = refl }, (((omega arith, (omega arith, tt)), record { sfits = omega arith }, refl)))
+
+last_says : LineSays (x_input ∷ []) (codes " x\t-2 ") minus_two
+unfolding fields
+last_says = (codes "x", codes "-2", x_input, refl, record { found = refl; there = refl }, (((omega arith, (omega arith, tt)), record { sfits = omega arith }, refl)))
+
+-- three lines, of which one is empty and the last lacks its end, say two items
+three_lines : LinesSay (x_input ∷ []) (lines (codes "x 1\r\n\n x\t-2 ")) (one ∷ minus_two ∷ [])
+unfolding fields
+three_lines = inr (one, minus_two ∷ [], first_says, inl (refl, inr (minus_two, [], last_says, refl, refl)), refl)
+
+-- where main has no inputs they say none
+no_inputs : LinesSay [] (lines (codes "x 1\n")) []
+no_inputs = refl

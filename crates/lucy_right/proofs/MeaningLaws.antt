@@ -1,0 +1,63 @@
+-- What a text is accepted as its program stands for.
+use Rattle.std.proofs.Common.{◌≡◌, ◌<◌, ℕ, zero, suc, List, [], ◌∷◌, length, Some, slice_get, take, refl, ap, ◌∙◌, inl, inr, arith}
+use Rattle.std.specs.List.{AllByRecursion}
+use Rattle.std.proofs.lemmas.Option.{slice_get_within}
+use Rattle.lucy_word.specs.Bits.{Bits}
+use Rattle.lucy_word.specs.Shortest.{IsShortest}
+use Rattle.lucy_word.specs.Stored.{IsStored}
+use Rattle.lucy_place.specs.declared.placed.PlacedNode.{PlacedNode}
+use Rattle.lucy_clock.specs.declared.signature.Signature.{Signature}
+use Rattle.lucy_clock.specs.declared.node_clock.NodeClock.{NodeClock}
+use Rattle.lucy_clock.specs.NodeClocks.{signatures}
+use Rattle.lucy_flat.specs.Laws.{NetsAreCausal}
+use Rattle.lucy_front.specs.declared.options.Options.{Options}
+use Rattle.lucy_front.specs.Clocked.{IsClocked, AreClocksOf}
+use Rattle.lucy_front.specs.Laws.{AcceptedAreProper, AcceptedAreClocked}
+use Rattle.lucy_right.specs.Owed.{AcceptedStand}
+use Rattle.lucy_right.proofs.NodesLaws.{placed_are}
+use Rattle.lucy_right.proofs.NameLaws.{faultless_well}
+
+-- words in memory are in shortest form
+all_shortest : (words : List Bits) → AllByRecursion IsStored words → AllByRecursion IsShortest words
+all_shortest [] h = tt
+all_shortest (w ∷ words) h = (h.0.shortest, all_shortest words h.1)
+
+node_shortest : (o : Options) (above : List Signature) (n : PlacedNode) (c : NodeClock) → IsClocked o above n c → AllByRecursion IsShortest c.words
+node_shortest o above n c is = elim is.its [
+  | inl h ↦ all_shortest c.words h.1.of.stored
+  | inr h ↦ h.inferred.are.earliest.shortest
+]
+
+-- what holds of each entry holds of all
+each_of : {A : Type 0} (P : A → Type 0) (xs : List A) → ((i : ℕ) (x : A) → slice_get xs i ≡ Some x → P x) → AllByRecursion P xs
+each_of P [] h = tt
+each_of P (x ∷ xs) h = (h zero x refl, each_of P xs (λ i y e. h (suc i) y e))
+
+at_place : {A : Type 0} (xs : List A) (i : ℕ) → i < length xs → (x : A) × (slice_get xs i ≡ Some x)
+at_place [] i h = absurd (omega arith)
+at_place (x ∷ xs) zero h = (x, refl)
+at_place (x ∷ xs) (suc i) h = at_place xs i (omega (arith, h))
+
+module _ (o : Options) (nodes : List PlacedNode) (clocks : List NodeClock) (are : AreClocksOf o nodes clocks) where
+  clock_shortest : (i : ℕ) (c : NodeClock) → slice_get clocks i ≡ Some c → AllByRecursion IsShortest c.words
+  clock_shortest i c e =
+      let within : i < length clocks = slice_get_within clocks i c e in
+      let node = at_place nodes i (omega (arith, within, are.all)) in node_shortest o (signatures (take i nodes) (take i clocks)) node.0 c (are.each i node.0 c node.1 e)
+
+  pub clocks_shortest : AllByRecursion (λ (c : NodeClock). AllByRecursion IsShortest c.words) clocks
+  clocks_shortest = each_of (λ (c : NodeClock). AllByRecursion IsShortest c.words) clocks clock_shortest
+
+pub stand : AcceptedAreClocked → AcceptedAreProper → NetsAreCausal → AcceptedStand
+stand clocked proper causal ops o text a is =
+    let placed = is.clocked.program.program in (
+      placed.tree,
+      placed.read,
+      record {
+        named = faultless_well ops placed.tree placed.is_placed.good;
+        placed = λ i. ap (λ nodes. slice_get nodes i) placed.is_placed.nodes ∙ placed_are ops placed.tree i;
+        typed = is.clocked.program.typed;
+        clocked = clocked ops o text a is;
+        shortest = clocks_shortest o a.placed.nodes a.clocks.items is.clocked.clocks;
+        causal = (causal a.placed.nodes a.clocks.items a.net (proper ops o text a is) is.net.flat.flat).1 is.schedule.causal;
+      },
+    )

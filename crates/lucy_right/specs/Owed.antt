@@ -1,0 +1,48 @@
+-- What the laws of runs say: what a text is accepted as its program stands for, and the output that is owed is what `run` prints.
+use Rattle.std.specs.Prelude.{ℕ, ◌≡◌, ◌≢◌, Bool, true, List, [], ◌++◌, Option, length, take}
+use Rattle.std.specs.Str.Lines.{lines}
+use Rattle.lucy_host.specs.Operators.{Operator, kinds_of}
+use Rattle.lucy_lines.specs.Cuts.{ItemOf, Stop, Before, Held, Cut, input_of}
+use Rattle.lucy_text.specs.Sources.{ReadStop}
+use Rattle.lucy_feed.specs.Feeding.{is_closed, values_by_stream}
+use Rattle.lucy_tree.specs.View.{ProgramTree}
+use Rattle.lucy_grammar.specs.Texts.{HasTree}
+use Rattle.lucy_front.specs.declared.accepted.Accepted.{Accepted}
+use Rattle.lucy_front.specs.declared.options.Options.{Options}
+use Rattle.lucy_front.specs.Accepting.{IsAccepted}
+use Rattle.lucy_run.specs.declared.ending.Ending.{Ending}
+use Rattle.lucy_run.specs.declared.ending.Ending.TheVariants as ending
+use Rattle.lucy_run.specs.Owes.{most_instants, input_words, IsHorizonOf, heading, lines_to, OwesRun}
+use Rattle.lucy_right.specs.Right.{Meaning, StandsFor, IsRunOf}
+
+-- what is kept of an accepted program
+abbrev pub meaning_of : Accepted → Meaning
+meaning_of a = record { nodes = a.placed.nodes; types = a.typed; clocks = a.clocks.items }
+
+-- the program that an accepted text is stands for that
+abbrev pub AcceptedStand : Type 0
+AcceptedStand = (ops : List Operator) (o : Options) (text : List ℕ) (a : Accepted) → IsAccepted ops o text a →
+    (program : ProgramTree) × HasTree text program × StandsFor ops program (meaning_of a)
+
+-- the output is what `run` prints of the program of a text and of some first lines of an input, which are all where `Whole` holds
+pub record IsRunOfText (ops : List Operator) (given : Option ℕ) (text input output : List ℕ) (Whole : Type 0) : Type 0 where
+  pub program : ProgramTree
+  pub read : HasTree text program
+  pub many : ℕ
+  pub run : IsRunOf ops (most_instants given) program (take many (lines input)) output
+  pub whole : Whole → many ≡ length (lines input)
+
+-- The items of the bytes taken, of which more may follow unless they count as all, give what `run` prints of the lines that they use up: of all
+-- lines where no line stops the items of all bytes.
+abbrev pub CutsAreRuns : Type 0
+CutsAreRuns = (ops : List Operator) (o : Options) (text : List ℕ) (a : Accepted) (given : Option ℕ) (closed : Bool) (taken more : List ℕ) (items : List ItemOf) (stop : Stop) (horizon : ℕ) →
+    IsAccepted ops o text a → a.inputs.items ≢ [] → (closed ≡ true → more ≡ []) → Cut a.inputs.items closed (input_of taken) items stop →
+    IsHorizonOf (input_words a) given (values_by_stream (length a.inputs.items) items) horizon →
+    IsRunOfText ops given text (taken ++ more) (heading a ++ lines_to (kinds_of ops) a (values_by_stream (length a.inputs.items) items) horizon)
+    ((closed ≡ true) × (held : Held) × (stop ≡ Before held))
+
+-- So is the output that a run owes, by the bytes taken and how reading stopped: it is that of all lines where the run is done.
+abbrev pub OwedAreRuns : Type 0
+OwedAreRuns = (ops : List Operator) (o : Options) (text : List ℕ) (a : Accepted) (given : Option ℕ) (taken more : List ℕ) (stop : ReadStop) (output : List ℕ) (end : Ending) →
+    IsAccepted ops o text a → (is_closed stop ≡ true → more ≡ []) → OwesRun (kinds_of ops) a given taken stop output end →
+    IsRunOfText ops given text (taken ++ more) output (end ≡ ending.Done)

@@ -1,0 +1,82 @@
+-- What `run` prints of a program and of its input.
+use Rattle.std.specs.Prelude.{ℕ, ℤ, ◌≤◌, ◌≡◌, ◌⊎◌, List, [], ◌∷◌, ◌++◌, Some, length, take, slice_get, codes}
+use Rattle.std.specs.List.{AllByRecursion}
+use Rattle.lucy_word.specs.Bits.{Bits, ones_to}
+use Rattle.lucy_word.specs.Shortest.{IsShortest}
+use Rattle.lucy_host.specs.declared.kind.HostKind.{HostKind}
+use Rattle.lucy_host.specs.Operators.{Operator, kinds_of}
+use Rattle.lucy_stream.specs.Items.{list_at}
+use Rattle.lucy_lines.specs.declared.input.InputSpec.{InputSpec}
+use Rattle.lucy_lines.specs.Fields.{fields}
+use Rattle.lucy_lines.specs.Values.{SpellsValue}
+use Rattle.lucy_lines.specs.Kinds.{IsInput}
+use Rattle.lucy_lines.specs.Cuts.{ItemOf}
+use Rattle.lucy_feed.specs.Feeding.{values_by_stream}
+use Rattle.lucy_output.specs.declared.output.OutputSpec.{OutputSpec}
+use Rattle.lucy_output.specs.Outputs.{output_text}
+use Rattle.lucy_tree.specs.View.{ProgramTree}
+use Rattle.lucy_place.specs.declared.placed.PlacedNode.{PlacedNode}
+use Rattle.lucy_types.specs.declared.ty.Ty.{Ty}
+use Rattle.lucy_types.specs.Programs.{IsTyped}
+use Rattle.lucy_clock.specs.declared.node_clock.NodeClock.{NodeClock}
+use Rattle.lucy_meaning.specs.Spots.{at, main_of, results_in}
+use Rattle.lucy_meaning.specs.Kahn.{kahn}
+use Rattle.lucy_meaning.specs.Items.{IsCausalProgram}
+use Rattle.lucy_meaning.specs.Horizons.{IsHorizon}
+use Rattle.lucy_flat.specs.Clocked.{AreClocked}
+use Rattle.lucy_results.specs.Streams.{param_words}
+use Rattle.lucy_front.specs.Scheduled.{main_inputs, main_outputs}
+use Rattle.lucy_front.specs.Report.{report}
+use Rattle.lucy_right.specs.Places.{AreWellNamed, AreNodesOf}
+
+-- what a program stands for: its nodes, of which the last is main, the types of their places, the words of their clocks and the sizes of their buffers
+pub record Meaning : Type 0 where
+  pub nodes : List PlacedNode
+  pub types : List (List Ty)
+  pub clocks : List NodeClock
+
+-- a program stands for this: its names are good, its places have these types, the table of forms holds at every instant between these words, which are
+-- in shortest form, the sizes are those of the buffers between them, and no item depends on itself
+pub record StandsFor (ops : List Operator) (program : ProgramTree) (m : Meaning) : Type 0 where
+  pub named : AreWellNamed ops program
+  pub placed : AreNodesOf ops program m.nodes
+  pub typed : IsTyped m.nodes m.types
+  pub clocked : AreClocked m.nodes m.clocks
+  pub shortest : AllByRecursion (λ c. AllByRecursion IsShortest c.words) m.clocks
+  pub causal : IsCausalProgram m.nodes
+
+-- a line says an item: the name of an input, and a value of its type
+abbrev pub LineSays : List InputSpec → (line : List ℕ) → ItemOf → Type 0
+LineSays inputs line item =
+    (name spelled : List ℕ) × (input : InputSpec) × (fields line ≡ name ∷ spelled ∷ []) × IsInput inputs name item.stream input
+    × SpellsValue input.holds spelled item.value
+
+-- lines say items, in turn: a line of blanks says none, and where main has no inputs nothing is read
+abbrev pub LinesSay : List InputSpec → (lines : List (List ℕ)) → List ItemOf → Type 0
+LinesSay [] lines items = items ≡ []
+LinesSay inputs [] items = items ≡ []
+LinesSay inputs (line ∷ lines) items =
+    ((fields line ≡ []) × LinesSay inputs lines items)
+    ⊎ ((item : ItemOf) × (more : List ItemOf) × LineSays inputs line item × LinesSay inputs lines more × (items ≡ item ∷ more))
+
+-- the first items of the Kahn stream of a place of main: as many as its word has ones up to the horizon, the same in every iterate from some one on
+abbrev pub IsStream : List HostKind → (inputs : List (List ℤ)) → List PlacedNode → (horizon place : ℕ) → Bits → List ℤ → Type 0
+IsStream kinds inputs nodes horizon place word items =
+    (length items ≡ ones_to word horizon) × (n : ℕ) × ((k : ℕ) → n ≤ k → take (length items) (kahn kinds inputs nodes k (at [] place)) ≡ items)
+
+-- what `run` prints of a program and of lines of its input: for something that the program stands for, the report, `run`, and at each instant that the
+-- items of the lines allow, up to the most, the values of main's results
+pub record IsRunOf (ops : List Operator) (most : ℕ) (program : ProgramTree) (lines : List (List ℕ)) (output : List ℕ) : Type 0 where
+  pub m : Meaning
+  pub stands : StandsFor ops program m
+  pub items : List ItemOf
+  pub said : LinesSay (main_inputs m.nodes m.types) lines items
+  pub inputs : List (List ℤ)
+  pub fed : inputs ≡ values_by_stream (length (main_inputs m.nodes m.types)) items
+  pub horizon : ℕ
+  pub greatest : IsHorizon (param_words m.nodes m.clocks) inputs most horizon
+  pub streams : List (List ℤ)
+  pub count : length streams ≡ length (main_outputs m.nodes m.types m.clocks)
+  pub kahn : (i place : ℕ) (o : OutputSpec) → slice_get (results_in (main_of m.nodes)) i ≡ Some place →
+      slice_get (main_outputs m.nodes m.types m.clocks) i ≡ Some o → IsStream (kinds_of ops) inputs m.nodes horizon place o.word (list_at streams i)
+  pub printed : output ≡ report m.nodes m.types m.clocks ++ codes "run\n" ++ output_text (main_outputs m.nodes m.types m.clocks) streams horizon

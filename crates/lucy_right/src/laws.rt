@@ -1,0 +1,53 @@
+// That places and names read off the tree of a program are those that lucy_place tells, that what a run owes is what `run` prints, and that a written
+// program is refused for limits alone where it stands for something.
+ghost use Rattle.lucy_right.specs.Laws.{FaultlessAreWellNamed, NodesArePlaced, PlacedAreNodes, WellNamedHaveNoFault};
+ghost use Rattle.lucy_right.specs.Owed.{AcceptedStand, CutsAreRuns, OwedAreRuns};
+ghost use Rattle.lucy_right.specs.Refused.{WrittenPassLimits};
+
+use lucy_clock::{needs_are_the_rules, written_nodes_have_one};
+use lucy_flat::flat_nets_are_causal_as_programs;
+use lucy_front::accepted_programs_are_clocked;
+use lucy_grammar::texts_have_one_answer;
+use lucy_meaning::programs_grow;
+use lucy_results::streams_are_whole;
+
+/// The nodes of a program, read off its tree, are those that `place` gives.
+pub fn nodes_are_placed()
+    ensures placed { PlacedAreNodes }
+    ensures only { NodesArePlaced }
+{}
+
+/// A program is well named exactly where `place` finds no fault of a name in it, but for the limit on places.
+pub fn names_are_good()
+    ensures faultless { FaultlessAreWellNamed }
+    ensures well { WellNamedHaveNoFault }
+{}
+
+/// The program that an accepted text is stands for its places, their types and its clocks.
+pub fn accepted_programs_stand()
+    ensures { AcceptedStand }
+{
+    accepted_programs_are_clocked();
+    flat_nets_are_causal_as_programs();
+}
+
+/// What a run owes of an accepted program is what `run` prints of it and of the first lines of its input.
+pub fn owed_outputs_are_runs()
+    ensures cuts { CutsAreRuns }
+    ensures owed { OwedAreRuns }
+{
+    accepted_programs_stand();
+    accepted_programs_are_clocked();
+    programs_grow();
+    streams_are_whole();
+}
+
+/// A program that stands for something, all of whose clocks are written, is refused for limits or for want of memory alone.
+pub fn written_programs_pass()
+    ensures { WrittenPassLimits }
+{
+    texts_have_one_answer();
+    needs_are_the_rules();
+    written_nodes_have_one();
+    flat_nets_are_causal_as_programs();
+}

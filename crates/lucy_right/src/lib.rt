@@ -1,0 +1,13 @@
+//! That what `run` prints is right, as one statement to be read from its beginning to its end.
+//!
+//! It stands on what the crates below say of texts, names, types, clocks and streams, and leaves out what they say of limits, refusals and
+//! devices. It has no code: the body of each public function is empty, or calls laws alone, and its contract is a law. Begin with
+//! `specs/Places.antt`, then `specs/Right.antt`.
+#![tactic(auto)]
+
+mod laws;
+
+pub use laws::{
+    accepted_programs_stand, names_are_good, nodes_are_placed, owed_outputs_are_runs,
+    written_programs_pass,
+};
