@@ -1,5 +1,5 @@
 -- A text is answered, or refused for one cause.
-use Rattle.std.proofs.Common.{ℕ, ◌≡◌, List, [], ◌∷◌, length, Result, Ok, Err, ap, sym, ◌∙◌, subst, inl, inr}
+use Rattle.std.proofs.Common.{ℕ, ◌≡◌, List, [], ◌∷◌, Result, Ok, Err, ap, sym, ◌∙◌, subst, inl, inr}
 use Rattle.lucy_word.specs.Bits.{Bits}
 use Rattle.lucy_word.specs.Reading.{IsReadable, RefusesText}
 use Rattle.lucy_word.specs.declared.error.WordError.{WordError}

@@ -4,7 +4,7 @@ use Rattle.std.specs.Prelude.{ℤ, ◌≢◌}
 use Rattle.lucy_word.specs.Bits.{Bits}
 use Rattle.lucy_host.specs.Operators.{Operator, kinds_of}
 use Rattle.lucy_lines.specs.declared.reader.TextFault.{TextFault}
-use Rattle.lucy_text.specs.Sources.{ReadStop, Unread}
+use Rattle.lucy_text.specs.Sources.{Unread}
 use Rattle.lucy_text.specs.Outside.{SeenSink}
 use Rattle.lucy_front.specs.declared.options.Options.{Options}
 use Rattle.lucy_front.specs.declared.accepted.Accepted.{Accepted}
@@ -36,8 +36,8 @@ no_fault words lists None (inl e) = let x = e.0 in cc x
 no_fault words lists None (inr e) = let x = e.0 in cc x
 
 module _ (words : MakeWords) (lends : List Operator) where
-  abbrev Owed : ReadStop → Accepted → List ℕ → Ending → Type 0
-  Owed stop a = OwesSummary words.stages (kinds_of lends) a
+  abbrev Owed : Accepted → List ℕ → Ending → Type 0
+  Owed a = OwesSummary words.stages (kinds_of lends) a
 
   abbrev made : List (Result (List ℕ) ShelfError)
   made = Ok (made_text words.stages) ∷ []
@@ -50,7 +50,7 @@ module _ (words : MakeWords) (lends : List Operator) where
   refusal_owed : (e : Refusal) → (e ≡ refusal.OutOfMemory) ⊎ OwesRunning NoRun lends (inferring_options 1 1) None Unread made (refusal_answer e) →
       (e ≡ refusal.OutOfMemory) ⊎ Owes (Make words) (made_given lends) (refusal_answer e)
   refusal_owed e (inl out) = inl out
-  refusal_owed e (inr owed) = inr (unrun_owed Owed (λ stop. stop ≡ Unread) (Unit {0}) lends (inferring_options 1 1) None made (refusal_answer e) owed)
+  refusal_owed e (inr owed) = inr (unrun_owed Owed (λ a output. Unit {0}) (Unit {0}) lends (inferring_options 1 1) None made (refusal_answer e) owed)
 
   module _ (ops : List Operator) (o : Options) (text : List ℕ) (answer : Result Accepted Refusal) (same : ops ≡ lends) (inferring : o ≡ inferring_options 1 1) (told : text ≡ made_text words.stages)
       (accepting : IsAccepting ops o None (Ok text ∷ []) answer) where
@@ -74,12 +74,12 @@ module _ (words : MakeWords) (lends : List Operator) where
           subst P is accepting_so
 
       -- the figures were printed, as far as they could be
-      pub figured : (print : List ℕ) (out out' err err' : SeenSink) (status : ℕ) → Owed Unread a print ending.Done → Prints print out out' err err' status → EndsMake words lends out out' err err' status
+      pub figured : (print : List ℕ) (out out' err err' : SeenSink) (status : ℕ) → Owed a print ending.Done → Prints print out out' err err' status → EndsMake words lends out out' err err' status
       figured print out out' err err' status owed (inl answers) = inl (printed print, inl (inr (a, runnable.0, inr (runnable.1, print, ending.Done, owed, refl))), answers)
-      figured print out out' err err' status owed (inr breaks) = inr (print, ((made_given lends, printed print, refl, inr (a, runnable.0, inr (runnable.1, print, ending.Done, owed, refl)), refl), tt), breaks)
+      figured print out out' err err' status owed (inr breaks) = inr (print, ((printed print, inr (a, runnable.0, inr (runnable.1, print, ending.Done, owed, refl)), refl), tt), breaks)
 
       -- nothing was printed, and why was told
-      told_so : (end : Ending) (out err err' : SeenSink) (status : ℕ) → Owed Unread a [] end → Tells (ending_told end).0 (ending_told end).1 err err' status → EndsMake words lends out out err err' status
+      told_so : (end : Ending) (out err err' : SeenSink) (status : ℕ) → Owed a [] end → Tells (ending_told end).0 (ending_told end).1 err err' status → EndsMake words lends out out err err' status
       told_so end out err err' status owed told = inl (ended_answer [] end, inl (inr (a, runnable.0, inr (runnable.1, [], end, owed, refl))), record { printed = unwritten out; told = told })
 
       -- or there was no memory for that
@@ -87,7 +87,7 @@ module _ (words : MakeWords) (lends : List Operator) where
       short_of_memory out err err' status told = inl (out_of_memory [], inr ([], refl, refl), record { printed = unwritten out; told = told })
 
       -- the run was refused, or memory ran out
-      pub undone : (end : Ending) (out err err' : SeenSink) (status : ℕ) → (end ≡ ending.OutOfMemory) ⊎ ((end ≢ ending.Done) × Owed Unread a [] end) → TellsEnding end err err' status →
+      pub undone : (end : Ending) (out err err' : SeenSink) (status : ℕ) → (end ≡ ending.OutOfMemory) ⊎ ((end ≢ ending.Done) × Owed a [] end) → TellsEnding end err err' status →
           EndsMake words lends out out err err' status
       undone ending.Done out err err' status (inl e) told = absurd (cc e)
       undone ending.Done out err err' status (inr is) told = absurd (is.0 refl)

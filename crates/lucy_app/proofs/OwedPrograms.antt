@@ -1,5 +1,5 @@
 -- What a command owes of a text is one answer, but for the evidence of a refusal.
-use Rattle.std.proofs.Common.{ℕ, ◌≡◌, ◌⊎◌, List, [], ◌∷◌, Result, Ok, Err, ap, sym, ◌∙◌, inl, inr}
+use Rattle.std.proofs.Common.{ℕ, ◌⊎◌, List, [], ◌∷◌, Result, Ok, Err, ap, sym, ◌∙◌, inl, inr}
 use Rattle.lucy_text.specs.declared.shelf.ShelfError.{ShelfError}
 use Rattle.lucy_text.specs.declared.shelf.ShelfError.TheVariants as shelf
 use Rattle.lucy_text.specs.Sources.{ReadStop}

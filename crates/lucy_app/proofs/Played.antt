@@ -3,8 +3,7 @@ use Rattle.std.proofs.Common.{ℕ, ◌≡◌, List, [], Option, Some, None, refl
 use Rattle.lucy_host.specs.Operators.{kinds_of}
 use Rattle.lucy_text.specs.Outside.{SeenSink}
 use Rattle.lucy_front.specs.Refusals.{memory_line}
-use Rattle.lucy_run.specs.Feeds.{CountsAs}
-use Rattle.lucy_run.specs.Owes.{OwesRun}
+use Rattle.lucy_run.specs.Owes.{OwesRun, LinesAllow}
 use Rattle.lucy_run.specs.Ends.{IsFrontOf}
 use Rattle.lucy_command.specs.Commands.{ProgramWords, Command, Run}
 use Rattle.lucy_app.specs.Commands.{inferring_options}
@@ -15,7 +14,6 @@ use Rattle.lucy_app.specs.Ends.{Tells, EndsBy, MayStand, Ends}
 use Rattle.lucy_app.specs.Complete.{IsFaultless}
 use Rattle.lucy_app.specs.Engines.{EndsPlaying}
 use Rattle.lucy_app.specs.Outcomes.{EndsRunning, OfProgram}
-use Rattle.lucy_app.proofs.RunEnds.{ends_more}
 use Rattle.lucy_app.proofs.Sinks.{declines}
 
 -- where an output may fail in some order, it may fail
@@ -26,17 +24,15 @@ without_order Owed Stands MayFail Order out out' err err' status (inr (output, m
 
 -- a run in one piece that has met this ends so
 pub played_met : (words : ProgramWords) (workers : ℕ) (block : Option ℕ) (given : Given) (out out' err err' : SeenSink) (status : ℕ) →
-    EndsRunning (λ counted a. OwesRun (kinds_of given.operators) a words.instants given.taken counted) (CountsAs given.stop)
+    EndsRunning (λ a. OwesRun (kinds_of given.operators) a words.instants given.taken given.stop)
+    (λ a. LinesAllow (kinds_of given.operators) a words.instants given.taken given.stop)
     (OfProgram (λ a. Unit {0}) given.operators (inferring_options words.scale words.lead) given.fetched)
     given.operators (inferring_options words.scale words.lead) words.instants given.stop given.fetched
     out out' err err' status → EndsBy (Owes (Run words workers block) given) (MayStand (Run words workers block) given) (OwesOutput (Run words workers block) given) out out' err
     err' status
 played_met words workers block given out out' err err' status ends =
-    without_order (Owes (Run words workers block) given) (IsFrontOf (OwesOutput (Run words workers block) given)) (OwesOutput (Run words workers block) given) (Unit {0}) out out'
-    err err' status
-    (ends_more (Owes (Run words workers block) given) _ (OwesOutput (Run words workers block) given) _ (Unit {0})
-    (λ output (counted, answer, counts, owed, is). (record given { stop = counted }, answer, (counted, counts, refl), owed, is)) (λ
-    order. tt) out out' err err' status ends)
+    without_order (Owes (Run words workers block) given) (IsFrontOf (OwesOutput (Run words workers block) given)) (OwesOutput (Run words workers block) given) _ out out'
+    err err' status ends
 
 -- words that name none
 pub plays_none : (found : Option Command) (before after : World) (status : ℕ) → None ≡ found → after.shelf ≡ before.shelf →

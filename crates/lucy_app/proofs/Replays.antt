@@ -20,21 +20,20 @@ use Rattle.lucy_trace.specs.declared.error.TraceError.{TraceError}
 use Rattle.lucy_trace.specs.declared.error.TraceError.TheVariants as trace
 use Rattle.lucy_front.specs.declared.accepted.Accepted.{Accepted}
 use Rattle.lucy_front.specs.declared.options.Options.{Options}
-use Rattle.lucy_front.specs.Accepting.{IsAccepted}
 use Rattle.lucy_run.specs.declared.ending.Ending.{Ending}
 use Rattle.lucy_run.specs.declared.ending.Ending.TheVariants as ending
 use Rattle.lucy_run.specs.Replays.{OwesReplay}
-use Rattle.lucy_run.specs.Ends.{IsFrontOf, EndsReplay}
+use Rattle.lucy_run.specs.Ends.{EndsReplay}
 use Rattle.lucy_command.specs.Commands.{ProgramWords, Replay}
-use Rattle.lucy_app.specs.Commands.{inferring_options, HasText, TakesInput}
+use Rattle.lucy_app.specs.Commands.{inferring_options, TakesInput}
 use Rattle.lucy_app.specs.World.{Given}
-use Rattle.lucy_app.specs.Answers.{Answer, out_of_memory, log_refused}
+use Rattle.lucy_app.specs.Answers.{Answer, out_of_memory}
 use Rattle.lucy_app.specs.Endings.{ended_answer}
-use Rattle.lucy_app.specs.Running.{IsRunnable, OwesRunning}
+use Rattle.lucy_app.specs.Running.{IsRunnable}
 use Rattle.lucy_app.specs.Replaying.{replayed, OwesEvents, OwesLog, OwesLogged}
 use Rattle.lucy_app.specs.Owes.{Owes, OwesOutput}
 use Rattle.lucy_app.specs.Ends.{Tells, EndsBy, MayStand, MayFail}
-use Rattle.lucy_app.specs.Outcomes.{bytes_of, IsAccepting, TellsRefusal, TellsEnding, NoEvents, IsLogRead, ReadsBehind, LogOutputs, EndsLog, refusal_answer, fetch_refusal_within, trace_refusal, NoRun}
+use Rattle.lucy_app.specs.Outcomes.{bytes_of, IsAccepting, TellsRefusal, TellsEnding, NoEvents, IsLogRead, ReadsBehind, LogOutputs, EndsLog, refusal_answer, fetch_refusal_within, trace_refusal}
 use Rattle.lucy_app.specs.declared.refusal.Refusal.{Refusal}
 use Rattle.lucy_app.specs.declared.refusal.Refusal.TheVariants as refusal
 use Rattle.lucy_app.proofs.Sinks.{ends_refused}
@@ -138,20 +137,16 @@ module _ (ops : List Operator) (a : Accepted) (instants : Option ℕ) (log : Res
         let front = inr (output, length output, stands output end owed, sym (take_all (length output) output (omega arith))) in
         inl (out_of_memory output, inr (output, front, refl), record { printed = writes; told = told })
 
-    stands_as : (counted : ReadStop) (output : List ℕ) (end : Ending) → counted ≡ stop → OwesReplay ops a instants picks taken counted output (Ok end) → LogOutputs ops a instants taken stop log output
-    stands_as counted output end same owed = stands output end (subst (λ s. OwesReplay ops a instants picks taken s output (Ok end)) same owed)
-
     -- the events were a run
     pub replay_ended : (end : Ending) (out out' err err' : SeenSink) (status : ℕ) → EndsReplay ops a instants picks taken stop out out' (Ok end) → TellsEnding end err err' status →
         EndsLog ops a instants taken stop log out out' err err' status
     replay_ended ending.Done out out' err err' status left told = whole left.0 ending.Done out out' err err' status left.1 left.2 (inl told)
     replay_ended (ending.Input fault) out out' err err' status left told = whole left.0 (ending.Input fault) out out' err err' status left.1 left.2 told
     replay_ended (ending.Limit passed) out out' err err' status left told = whole left.0 (ending.Limit passed) out out' err err' status left.1 left.2 told
-    replay_ended ending.WriteFault out out' err err' status (output, (counted, end, same, owed), failed) told =
-        inr (output, stands_as counted output end same owed, record { failed = failed; told = told })
+    replay_ended ending.WriteFault out out' err err' status (output, (end, owed), failed) told = inr (output, stands output end owed, record { failed = failed; told = told })
     replay_ended ending.OutOfMemory out out' err err' status (front, inl none, writes) told = inl (out_of_memory front, inr (front, inl none, refl), record { printed = writes; told = told })
-    replay_ended ending.OutOfMemory out out' err err' status (front, inr (output, n, (counted, end, same, owed), is), writes) told =
-        inl (out_of_memory front, inr (front, inr (output, n, stands_as counted output end same owed, is), refl), record { printed = writes; told = told })
+    replay_ended ending.OutOfMemory out out' err err' status (front, inr (output, n, (end, owed), is), writes) told =
+        inl (out_of_memory front, inr (front, inr (output, n, stands output end owed, is), refl), record { printed = writes; told = told })
 
     -- an event isn't possible
     event_refused : (e : TraceError) (out out' err err' : SeenSink) (status : ℕ) → EndsReplay ops a instants picks taken stop out out' (Err e) → TellsRefusal (trace_refusal e) err err' status →
@@ -219,7 +214,7 @@ module _ (words : ProgramWords) (name : List ℕ) (ops : List Operator) (file : 
     met = record { fetched = file ∷ (log ∷ []); taken = taken; stop = stop; operators = ops }
 
     printed_so : (output : List ℕ) → LogOutputs ops a words.instants taken stop log output → OwesOutput (Replay words name) met output
-    printed_so output (x, owed, is) = (met, x, refl, logged file can x owed, is)
+    printed_so output (x, owed, is) = (x, logged file can x owed, is)
 
     -- LOG was fetched
     pub logged_ends : (out out' err err' : SeenSink) (status : ℕ) → EndsLog ops a words.instants taken stop log out out' err err' status → EndsMet met words name out out' err err' status

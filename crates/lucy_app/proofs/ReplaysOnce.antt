@@ -1,5 +1,5 @@
 -- What `replay` owes is one answer, but for the evidence of a refusal.
-use Rattle.std.proofs.Common.{ℕ, ◌+◌, ◌≡◌, ◌⊎◌, List, [], ◌∷◌, ◌++◌, length, map, Option, Result, Ok, Err, refl, ap, sym, ◌∙◌, subst, inl, inr}
+use Rattle.std.proofs.Common.{ℕ, ◌≡◌, ◌⊎◌, List, [], ◌∷◌, ◌++◌, length, Option, Result, Ok, Err, refl, ap, sym, ◌∙◌, subst, inl, inr}
 use Rattle.std.specs.Prelude.{ℤ}
 use Rattle.lucy_host.specs.Operators.{Operator, kinds_of}
 use Rattle.lucy_text.specs.declared.shelf.ShelfError.{ShelfError}
@@ -29,7 +29,6 @@ use Rattle.lucy_run.specs.Replays.{SaysFinished, tally, IsReplayText, Judges, Ow
 use Rattle.lucy_run.specs.Laws.{OneReplay}
 use Rattle.lucy_app.specs.Outcomes.{NoRun}
 use Rattle.lucy_app.specs.Answers.{Answer, AreOneBut, AreRefusedAlike, log_refused}
-use Rattle.lucy_app.specs.Running.{OwesRunning}
 use Rattle.lucy_app.specs.Replaying.{replayed, OwesEvents, OwesLog, OwesLogged}
 use Rattle.lucy_app.proofs.RunsOnce.{AreSame, accepted_same, moves, fed_moves, runs_alike}
 

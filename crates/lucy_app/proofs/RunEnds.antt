@@ -11,20 +11,20 @@ use Rattle.lucy_text.specs.Outside.{SeenSource, SeenSink}
 use Rattle.lucy_text.specs.Sources.{ReadStop, Unread, Read}
 use Rattle.lucy_front.specs.declared.accepted.Accepted.{Accepted}
 use Rattle.lucy_run.specs.declared.ending.Ending.{Ending}
-use Rattle.lucy_run.specs.Ends.{IsFrontOf, EndsWith, FailsInOrder}
+use Rattle.lucy_run.specs.Ends.{IsFrontOf, Outputs, EndsWith, FailsInOrder}
 use Rattle.lucy_lines.specs.declared.input.InputSpec.{InputSpec}
 use Rattle.lucy_host.specs.Operators.{kinds_of}
-use Rattle.lucy_run.specs.Feeds.{CountsAs}
-use Rattle.lucy_run.specs.Owes.{OwesRun, OwesKahn}
+use Rattle.lucy_run.specs.Owes.{OwesRun, OwesKahn, LinesAllow}
 use Rattle.lucy_run.specs.Tracing.{OwesTrace}
 use Rattle.lucy_command.specs.Commands.{ProgramWords, Run, Kahn, Trace}
 use Rattle.lucy_app.specs.Commands.{inferring_options, HasText, TakesInput}
 use Rattle.lucy_app.specs.World.{Given}
-use Rattle.lucy_app.specs.Answers.{Answer}
+use Rattle.lucy_app.specs.Answers.{Answer, OutputOf}
+use Rattle.lucy_app.specs.Endings.{ended_answer}
 use Rattle.lucy_app.specs.Owes.{Owes, OwesOutput}
 use Rattle.lucy_app.specs.Ends.{EndsBy, MayStand, MayFail}
-use Rattle.lucy_app.specs.Running.{IsRunnable}
-use Rattle.lucy_app.specs.Outcomes.{IsAccepting, EndsRunning, OfProgram, TellsEnding, TellsRefusal}
+use Rattle.lucy_app.specs.Running.{IsRunnable, OwesRunning}
+use Rattle.lucy_app.specs.Outcomes.{IsAccepting, RunOutputs, EndsRunning, OfProgram, TellsEnding, TellsRefusal}
 use Rattle.lucy_feed.specs.Feeding.{IsAsked}
 use Rattle.lucy_command.specs.Named.{block_or_default}
 use Rattle.lucy_run.specs.declared.ending.Ending.TheVariants.{WriteFault}
@@ -39,7 +39,8 @@ some_or_none (input ∷ inputs) = inr (λ e. cc e)
 abbrev pub ReadsSo : List Operator → Options → List (Result (List ℕ) ShelfError) → (before after : SeenSource) (taken : List ℕ) → Type 0
 ReadsSo ops o fetched before after taken = (after ≡ before) ⊎ TakesInput ops o fetched taken
 
-module _ (Owed : List ℕ → ReadStop → Accepted → List ℕ → Ending → Type 0) (Counts : ReadStop → ReadStop → Type 0) (Order : List ℕ → ReadStop → Accepted → (out out' : SeenSink) → Type 0) (same_counts : (stop : ReadStop) → Counts stop stop) (ops lends : List Operator) (found o : Options)
+module _ (Owed : List ℕ → ReadStop → Accepted → List ℕ → Ending → Type 0) (MayBreak : List ℕ → ReadStop → Accepted → List ℕ → Type 0) (Order : List ℕ → ReadStop → Accepted → (out out' : SeenSink) → Type 0)
+    (may : (taken : List ℕ) (stop : ReadStop) (a : Accepted) (output : List ℕ) (end : Ending) → Owed taken stop a output end → MayBreak taken stop a output) (ops lends : List Operator) (found o : Options)
     (instants : Option ℕ) (fetched : List (Result (List ℕ) ShelfError)) (answer : Result Accepted Refusal) (same : ops ≡ lends) (is_o : found ≡ o) (accepting : IsAccepting ops found instants fetched answer) where
   accepting_so : IsAccepting lends o instants fetched answer
   accepting_so =
@@ -50,22 +51,22 @@ module _ (Owed : List ℕ → ReadStop → Accepted → List ℕ → Ending → 
   -- the program was not run
   pub unrun : (s : SeenSource) (out err err' : SeenSink) (status : ℕ) (e : Refusal) → answer ≡ Err e → TellsRefusal e err err' status →
       (taken : List ℕ) × (stop : ReadStop) × Read (limit_number limit.Input) s s taken stop × ReadsSo lends o fetched s s taken
-      × EndsRunning (Owed taken) (Counts stop) (OfProgram (λ a. Order taken stop a out out) lends o fetched) lends o instants stop fetched out out err err' status
+      × EndsRunning (Owed taken stop) (MayBreak taken stop) (OfProgram (λ a. Order taken stop a out out) lends o fetched) lends o instants stop fetched out out err err' status
   unrun s out err err' status e is told =
       let P : Result Accepted Refusal → Type 0 = λ r. IsAccepting lends o instants fetched r in (
         [],
         Unread,
         record { took = sym (followed-nil s.left); stopped = (refl, refl); none_follows = still_none s.since_stop },
         inl refl,
-        ends_unrun (Owed []) (Counts Unread) _ lends o instants fetched e out out err err' status (subst P is accepting_so) refl told,
+        ends_unrun (Owed [] Unread) (MayBreak [] Unread) _ lends o instants fetched e out out err err' status (subst P is accepting_so) refl told,
       )
 
   -- the program was run
   pub ran : (before after : SeenSource) (out out' err err' : SeenSink) (status : ℕ) (a : Accepted) (end : Ending) → answer ≡ Ok a → (a.inputs.items ≡ [] → after ≡ before) →
       (taken : List ℕ) (stop : ReadStop) → Read (limit_number limit.Input) before after taken stop → IsAsked a.inputs.items taken →
-      EndsWith (λ counted. Owed taken counted a) (Counts stop) stop out out' end → (end ≡ WriteFault → Order taken stop a out out') → TellsEnding end err err' status →
+      EndsWith (Owed taken stop a) (MayBreak taken stop a) out out' end → (end ≡ WriteFault → Order taken stop a out out') → TellsEnding end err err' status →
       (others : List ℕ) × (halt : ReadStop) × Read (limit_number limit.Input) before after others halt × ReadsSo lends o fetched before after others
-      × EndsRunning (Owed others) (Counts halt) (OfProgram (λ b. Order others halt b out out') lends o fetched) lends o instants halt fetched out out' err err' status
+      × EndsRunning (Owed others halt) (MayBreak others halt) (OfProgram (λ b. Order others halt b out out') lends o fetched) lends o instants halt fetched out out' err err' status
   ran before after out out' err err' status a end is alone taken stop read asked left order told =
       let P : Result Accepted Refusal → Type 0 = λ r. IsAccepting lends o instants fetched r in
       let runnable : HasText fetched (λ text. IsRunnable lends o instants text a) = subst P is accepting_so in
@@ -74,7 +75,7 @@ module _ (Owed : List ℕ → ReadStop → Accepted → List ℕ → Ending → 
         | inr some ↦ inr (text_more fetched _ _ (λ text can. (a, can.0, some, asked)) runnable)
       ] in
       let in_order : end ≡ WriteFault → OfProgram (λ b. Order taken stop b out out') lends o fetched = λ fault. text_more fetched _ _ (λ text can. (a, can.0, order fault)) runnable in
-      (taken, stop, read, reads, ends_run (Owed taken) (Counts stop) _ lends o instants fetched stop (same_counts stop) a runnable end out out' err err' status left in_order told)
+      (taken, stop, read, reads, ends_run (Owed taken stop) (MayBreak taken stop) _ lends o instants fetched stop a runnable (may taken stop a) end out out' err err' status left in_order told)
 
 -- a command that ends so with outputs that are owed ends so with others that are
 pub ends_more : (Owed : Answer → Type 0) (A B : List ℕ → Type 0) (P Q : Type 0) → ((output : List ℕ) → A output → B output) → (P → Q) → (out out' err err' : SeenSink) (status : ℕ) →
@@ -86,35 +87,36 @@ ends_more Owed A B P Q more order out out' err err' status (inr (output, (owed, 
 
 -- `run` that has met this ends so
 pub run_met : (words : ProgramWords) (workers : ℕ) (block : Option ℕ) (given : Given) (out out' err err' : SeenSink) (status : ℕ) →
-    EndsRunning (λ counted a. OwesRun (kinds_of given.operators) a words.instants given.taken counted) (CountsAs given.stop)
+    EndsRunning (λ a. OwesRun (kinds_of given.operators) a words.instants given.taken given.stop) (λ a. LinesAllow (kinds_of given.operators) a words.instants given.taken given.stop)
     (OfProgram (λ a. FailsInOrder (kinds_of given.operators) a words.instants (block_or_default block) given.taken given.stop out out') given.operators (inferring_options words.scale words.lead) given.fetched)
     given.operators (inferring_options words.scale words.lead) words.instants given.stop given.fetched
     out out' err err' status → EndsBy (Owes (Run words workers block) given) (MayStand (Run words workers block) given) (MayFail (Run words workers block) given out out') out out' err err' status
-run_met words workers block given out out' err err' status ends =
-    ends_more (Owes (Run words workers block) given) _ (OwesOutput (Run words workers block) given) _ _
-    (λ output (counted, answer, counts, owed, is). (record given { stop = counted }, answer, (counted, counts, refl), owed, is)) (λ order. order) out out' err err' status ends
+run_met words workers block given out out' err err' status ends = ends
+
+-- an output that is owed is that of an answer
+output_owed : (Owed : Accepted → List ℕ → Ending → Type 0) (ops : List Operator) (o : Options) (instants : Option ℕ) (stop : ReadStop) (fetched : List (Result (List ℕ) ShelfError)) (output : List ℕ) →
+    RunOutputs (λ a. Outputs (Owed a)) ops o instants fetched output → OutputOf (OwesRunning Owed ops o instants stop fetched) output
+output_owed Owed ops o instants stop [] output owed = absurd owed
+output_owed Owed ops o instants stop (Err e ∷ more) output owed = absurd owed
+output_owed Owed ops o instants stop (Ok text ∷ more) output (a, runs, (end, owed)) = (ended_answer output end, inr (a, runs.0, inr (runs.1, output, end, owed, refl)), refl)
 
 -- and `kahn`
 pub kahn_met : (Nothing : Type 0) (words : ProgramWords) (given : Given) (out out' err err' : SeenSink) (status : ℕ) →
-    EndsRunning (λ counted a. OwesKahn (kinds_of given.operators) a words.instants given.taken counted) (λ counted. counted ≡ given.stop) Nothing given.operators (inferring_options words.scale words.lead) words.instants given.stop
+    EndsRunning (λ a. OwesKahn (kinds_of given.operators) a words.instants given.taken given.stop) (λ a. Outputs (OwesKahn (kinds_of given.operators) a words.instants given.taken given.stop)) Nothing
+    given.operators (inferring_options words.scale words.lead) words.instants given.stop
     given.fetched out out' err err' status → EndsBy (Owes (Kahn words) given) (MayStand (Kahn words) given) (MayFail (Kahn words) given out out') out out' err err' status
 kahn_met Nothing words given out out' err err' status ends =
     ends_more (Owes (Kahn words) given) _ (OwesOutput (Kahn words) given) _ _
-    (λ output (counted, answer, same, owed, is). (given, answer, refl, subst (λ s. Owes (Kahn words) (record given { stop = s }) answer) same owed, is)) (λ order. tt) out out' err err' status ends
+    (λ output owed. output_owed (λ a. OwesKahn (kinds_of given.operators) a words.instants given.taken given.stop) given.operators (inferring_options words.scale words.lead) words.instants given.stop
+    given.fetched output owed)
+    (λ order. tt) out out' err err' status ends
 
 -- and `trace`
 pub trace_met : (Nothing : Type 0) (words : ProgramWords) (workers : ℕ) (given : Given) (out out' err err' : SeenSink) (status : ℕ) →
-    EndsRunning (λ counted a. OwesTrace a words.instants given.taken counted) (λ counted. counted ≡ given.stop) Nothing given.operators
+    EndsRunning (λ a. OwesTrace a words.instants given.taken given.stop) (λ a. Outputs (OwesTrace a words.instants given.taken given.stop)) Nothing given.operators
     (inferring_options words.scale words.lead) words.instants given.stop given.fetched out out' err err' status →
     EndsBy (Owes (Trace words workers) given) (MayStand (Trace words workers) given) (MayFail (Trace words workers) given out out') out out' err err' status
 trace_met Nothing words workers given out out' err err' status ends =
     ends_more (Owes (Trace words workers) given) _ (OwesOutput (Trace words workers) given) _ _
-    (λ output (counted, answer, same, owed, is). (
-      given,
-      answer,
-      refl,
-      subst (λ s. Owes (Trace words workers) (record given { stop = s }) answer)
-          same owed,
-      is,
-    ))
+    (λ output owed. output_owed (λ a. OwesTrace a words.instants given.taken given.stop) given.operators (inferring_options words.scale words.lead) words.instants given.stop given.fetched output owed)
     (λ order. tt) out out' err err' status ends

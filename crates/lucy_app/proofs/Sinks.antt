@@ -1,15 +1,18 @@
 -- How a command ends that came out so and was told so.
 use Rattle.std.proofs.Common.{ℕ, ◌≡◌, ◌⊎◌, List, [], Option, Some, None, Result, Ok, Err, refl, sym, subst, inl, inr}
+use Rattle.std.specs.Prelude.{MatchOption}
 use Rattle.std.specs.declared.alloc.Global.{Global}
 use Rattle.std.specs.declared.vec.Vec.{Vec}
 use Rattle.lucy_text.proofs.OutsideLaws.{appended-nil}
-use Rattle.lucy_command.specs.Commands.{Command, Order, Show, Types, Check, Clocks, Run, Kahn, Make, Tighten, Replay, Trace}
+use Rattle.lucy_command.specs.Commands.{ProgramWords, Command, Run}
+use Rattle.lucy_app.specs.Commands.{running_words}
+use Rattle.lucy_run.specs.Ends.{IsFrontOf}
 use Rattle.lucy_text.specs.Outside.{SeenSink, Writes}
 use Rattle.lucy_app.specs.World.{World, Given, Meets}
 use Rattle.lucy_app.specs.Endings.{write_fault_line}
 use Rattle.lucy_front.specs.Refusals.{memory_line}
 use Rattle.lucy_app.specs.Answers.{Answer, printed, no_command, no_instants, no_buffer, read_fault, out_of_memory}
-use Rattle.lucy_app.specs.Owes.{Owes, MayCount}
+use Rattle.lucy_app.specs.Owes.{Owes, OwesOutput}
 use Rattle.lucy_app.specs.Ends.{Tells, EndsBy, MayStand, StopsInOrder, MayFail, Declines, EndsSo, Ends}
 use Rattle.lucy_run.specs.declared.ending.Ending.{Ending}
 use Rattle.lucy_run.specs.declared.ending.Ending.TheVariants as ending
@@ -53,27 +56,26 @@ module _ (Owed : Answer → Type 0) (Stands Failing : List ℕ → Type 0) (noth
   ends_refused e out out' err err' status owed same (inr line) =
       inl (out_of_memory [], inr ([], nothing, refl), record { printed = nothing_written out out' [] same refl; told = line })
 
--- what a command has met counts as it is
-counts_itself : (command : Command) (given : Given) → MayCount command given given
-counts_itself (Run words workers block) given = (given.stop, inl refl, refl)
-counts_itself Order given = refl
-counts_itself (Show file) given = refl
-counts_itself (Types file) given = refl
-counts_itself (Check file) given = refl
-counts_itself (Clocks words) given = refl
-counts_itself (Kahn words) given = refl
-counts_itself (Make words) given = refl
-counts_itself (Tighten words node buffer) given = refl
-counts_itself (Replay words log) given = refl
-counts_itself (Trace words workers) given = refl
+-- a command that runs no program owes what it prints
+prints_owed : (command : Command) (given : Given) (print : List ℕ) → running_words command ≡ None → Owes command given (printed print) → OwesOutput command given print
+prints_owed (Run words workers block) given print none owed = cc
+prints_owed command given print none owed = (printed print, owed, refl)
+
+-- of it nothing may stand
+nothing_stands : (command : Command) (given : Given) → running_words command ≡ None → MayStand command given []
+nothing_stands command given none =
+    let empty : List ℕ = [] in
+    let P : Option ProgramWords → Type 0 = λ o. MatchOption o (empty ≡ []) (λ words. IsFrontOf (OwesOutput command given) empty) in
+    subst P (sym none) refl
 
 -- a command that came out so, and whose outcome was delivered
-ends_so : (command : Command) (given : Given) (outcome : Result (Vec ℕ Global) Refusal) (before after : World) (status : ℕ) → MayStand command given [] → StopsInOrder command given before.out after.out →
+ends_so : (command : Command) (given : Given) (outcome : Result (Vec ℕ Global) Refusal) (before after : World) (status : ℕ) → running_words command ≡ None → StopsInOrder command given before.out after.out →
     IsOwedOutcome (Owes command given) outcome → Delivers outcome before.out after.out before.err after.err status → EndsGiven command given before after status
-ends_so command given (Ok print) before after status nothing order owed (inl answers) = inl (printed print.items, inl owed, answers)
-ends_so command given (Ok print) before after status nothing order owed (inr breaks) = inr (print.items, ((given, printed print.items, counts_itself command given, owed, refl), order), breaks)
-ends_so command given (Err e) before after status nothing order owed told =
-    ends_refused (Owes command given) (MayStand command given) (MayFail command given before.out after.out) nothing e before.out after.out before.err after.err status owed told.0 told.1
+ends_so command given (Ok print) before after status none order owed (inl answers) = inl (printed print.items, inl owed, answers)
+ends_so command given (Ok print) before after status none order owed (inr breaks) = inr (print.items, (prints_owed command given print.items none owed, order), breaks)
+ends_so command given (Err e) before after status none order owed told =
+    ends_refused (Owes command given) (MayStand command given) (MayFail command given before.out after.out) (nothing_stands command given none) e before.out after.out before.err after.err status owed
+    told.0 told.1
 
 -- a read fault was told
 pub tells_fault : (e : Refusal) (err err' : SeenSink) (status : ℕ) → e ≡ ReadFault → Tells 4 read_fault.err err err' status → TellsRefusal e err err' status
@@ -126,10 +128,10 @@ ends_begun found command before after status is ends =
 
 -- a command that was carried out, and came out so
 pub ends_some : (found command : Command) (given : Given) (outcome : Result (Vec ℕ Global) Refusal) (before after : World) (status : ℕ) → command ≡ found → Meets command before after given →
-    MayStand command given [] → StopsInOrder command given before.out after.out → IsOwedOutcome (Owes command given) outcome → Delivers outcome before.out after.out before.err after.err status → EndsSo found before after status
-ends_some found command given outcome before after status is met nothing order owed told =
+    running_words command ≡ None → StopsInOrder command given before.out after.out → IsOwedOutcome (Owes command given) outcome → Delivers outcome before.out after.out before.err after.err status → EndsSo found before after status
+ends_some found command given outcome before after status is met none order owed told =
     let P : Command → Type 0 = λ c. EndsSo c before after status in
-    subst P is (given, met, ends_so command given outcome before after status nothing order owed told)
+    subst P is (given, met, ends_so command given outcome before after status none order owed told)
 
 -- and that ends so
 pub ends_with : (found command : Command) (given : Given) (before after : World) (status : ℕ) → command ≡ found → Meets command before after given → EndsGiven command given before after status →

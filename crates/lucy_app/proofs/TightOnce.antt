@@ -13,9 +13,8 @@ use Rattle.lucy_front.specs.declared.refusal.Refusal.{Refusal}
 use Rattle.lucy_front.specs.Accepting.{IsAccepted}
 use Rattle.lucy_front.specs.Inferring.{node_needs}
 use Rattle.lucy_tight.specs.declared.answer.Least.{Least}
-use Rattle.lucy_tight.specs.declared.answer.TightError.{TightError}
 use Rattle.lucy_tight.specs.declared.answer.TightError.TheVariants.{Fixed, Limit as LimitPassed}
-use Rattle.lucy_tight.specs.Tightening.{needs_at, TheBuffer, IsTightened, RefusesTight, AreAlike, PassesLimit}
+use Rattle.lucy_tight.specs.Tightening.{needs_at, TheBuffer, IsTightened, RefusesTight, PassesLimit}
 use Rattle.lucy_tight.specs.Report.{tight_lines, fixed_lines}
 use Rattle.lucy_tight.specs.Laws.{OneTightest}
 use Rattle.lucy_app.specs.Outcomes.{OwesNamed}

@@ -74,6 +74,10 @@ log_refused e = refused 3 (log_line e)
 abbrev pub out_of_memory : (out : List ℕ) → Answer
 out_of_memory out = record { status = 7; out = out; err = memory_line }
 
+-- the output of an answer that is owed
+abbrev pub OutputOf : (Owed : Answer → Type 0) → (output : List ℕ) → Type 0
+OutputOf Owed output = (answer : Answer) × Owed answer × (output ≡ answer.out)
+
 -- two answers tell of refusals of a program that are alike
 abbrev pub AreRefusedAlike : Answer → Answer → Type 0
 AreRefusedAlike a b =

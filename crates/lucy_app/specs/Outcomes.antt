@@ -29,7 +29,7 @@ use Rattle.lucy_front.specs.declared.accepted.Accepted.{Accepted}
 use Rattle.lucy_front.specs.Accepting.{IsAccepted}
 use Rattle.lucy_run.specs.Ends.{IsFrontOf}
 use Rattle.lucy_run.specs.declared.ending.Ending.{Ending}
-use Rattle.lucy_app.specs.Answers.{Answer, printed, read_fault, no_instants, no_buffer, program_refused, input_refused, log_refused, out_of_memory}
+use Rattle.lucy_app.specs.Answers.{Answer, OutputOf, printed, read_fault, no_instants, no_buffer, program_refused, input_refused, log_refused, out_of_memory}
 use Rattle.lucy_app.specs.Commands.{HasText}
 use Rattle.lucy_app.specs.Order.{verdict_line}
 use Rattle.lucy_app.specs.Running.{IsRunnable, OwesRunning}
@@ -139,18 +139,17 @@ IsAccepting ops o instants fetched accepted =
     MatchResult accepted (λ a. HasText fetched (λ text. IsRunnable ops o instants text a))
     (λ e. (e ≡ OutOfMemory) ⊎ OwesRunning NoRun ops o instants Unread fetched (refusal_answer e))
 
--- an output that a run of what was fetched owes where the bytes taken count as read in one of these ways
-abbrev pub RunOutputs : (Counts : ReadStop → Type 0) (Owed : ReadStop → Accepted → List ℕ → Ending → Type 0) → List Operator → Options → (instants : Option ℕ) → List (Result (List ℕ) ShelfError) →
+-- an output of which this holds of the program that is run of what was fetched
+abbrev pub RunOutputs : (MayBreak : Accepted → List ℕ → Type 0) → List Operator → Options → (instants : Option ℕ) → List (Result (List ℕ) ShelfError) →
     (output : List ℕ) → Type 0
-RunOutputs Counts Owed ops o instants fetched output =
-    (counted : ReadStop) × (answer : Answer) × Counts counted × OwesRunning (Owed counted) ops o instants counted fetched answer × (output ≡ answer.out)
+RunOutputs MayBreak ops o instants fetched output = HasText fetched (λ text. (a : Accepted) × IsRunnable ops o instants text a × MayBreak a output)
 
--- how a command ends that runs what was fetched, where this holds of an output that failed
-abbrev pub EndsRunning : (Owed : ReadStop → Accepted → List ℕ → Ending → Type 0) (Counts : ReadStop → Type 0) (InOrder : Type 0) → List Operator → Options → (instants : Option ℕ) → ReadStop →
+-- how a command ends that runs what was fetched and may break off in these outputs, where this holds of one that failed
+abbrev pub EndsRunning : (Owed : Accepted → List ℕ → Ending → Type 0) (MayBreak : Accepted → List ℕ → Type 0) (InOrder : Type 0) → List Operator → Options → (instants : Option ℕ) → ReadStop →
     List (Result (List ℕ) ShelfError) → (out out' err err' : SeenSink) (status : ℕ) → Type 0
-EndsRunning Owed Counts InOrder ops o instants stop fetched out out' err err' status =
-    EndsBy (OwesRunning (Owed stop) ops o instants stop fetched) (IsFrontOf (RunOutputs Counts Owed ops o instants fetched))
-    (λ output. RunOutputs Counts Owed ops o instants fetched output × InOrder) out out' err err' status
+EndsRunning Owed MayBreak InOrder ops o instants stop fetched out out' err err' status =
+    EndsBy (OwesRunning Owed ops o instants stop fetched) (IsFrontOf (RunOutputs MayBreak ops o instants fetched))
+    (λ output. RunOutputs MayBreak ops o instants fetched output × InOrder) out out' err err' status
 
 -- a program that is run, of which this holds
 abbrev pub OfProgram : (Holds : Accepted → Type 0) → List Operator → Options → List (Result (List ℕ) ShelfError) → Type 0
@@ -182,7 +181,7 @@ ReadsBehind a log before after taken =
 
 -- an output that is owed of a log
 abbrev pub LogOutputs : List Operator → Accepted → (instants : Option ℕ) → (taken : List ℕ) → ReadStop → (log : Result (List ℕ) ShelfError) → (output : List ℕ) → Type 0
-LogOutputs ops a instants taken stop log output = (answer : Answer) × OwesLog (OwesEvents ops a instants taken stop) stop log answer × (output ≡ answer.out)
+LogOutputs ops a instants taken stop log output = OutputOf (OwesLog (OwesEvents ops a instants taken stop) stop log) output
 
 -- how a program ends whose log was fetched
 abbrev pub EndsLog : List Operator → Accepted → (instants : Option ℕ) → (taken : List ℕ) → ReadStop → (log : Result (List ℕ) ShelfError) → (out out' err err' : SeenSink) (status : ℕ) → Type 0

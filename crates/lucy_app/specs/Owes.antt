@@ -8,15 +8,14 @@ use Rattle.lucy_net.specs.declared.net.Net.{Net}
 use Rattle.lucy_front.specs.declared.accepted.Accepted.{Accepted}
 use Rattle.lucy_front.specs.Accepting.{IsAccepted, RefusesSyntax, RefusesText}
 use Rattle.lucy_run.specs.declared.ending.Ending.{Ending}
-use Rattle.lucy_run.specs.Feeds.{CountsAs}
-use Rattle.lucy_run.specs.Owes.{IsMainFed, OwesRun, OwesKahn}
+use Rattle.lucy_run.specs.Owes.{IsMainFed, OwesRun, OwesKahn, LinesAllow}
 use Rattle.lucy_run.specs.Tracing.{OwesTrace}
 use Rattle.lucy_make.specs.Text.{made_text}
 use Rattle.lucy_make.specs.Owes.{OwesSummary}
 use Rattle.lucy_command.specs.Commands.{ProgramWords, Command, Order, Show, Types, Check, Clocks, Run, Kahn, Make, Tighten, Replay, Trace}
 use Rattle.lucy_app.specs.Commands.{written_options, inferring_options, HasText}
 use Rattle.lucy_app.specs.World.{Given}
-use Rattle.lucy_app.specs.Answers.{Answer, printed, read_fault, limit_passed, input_refused}
+use Rattle.lucy_app.specs.Answers.{Answer, OutputOf, printed, read_fault, limit_passed, input_refused}
 use Rattle.lucy_app.specs.Fields.{fields}
 use Rattle.lucy_app.specs.Order.{IsVerdictLine, RefusesFields}
 use Rattle.lucy_app.specs.Show.{IsPrintOf}
@@ -24,7 +23,7 @@ use Rattle.lucy_app.specs.Types.{IsReportOf}
 use Rattle.lucy_app.specs.Check.{IsCheckOf, RefusesCheck}
 use Rattle.lucy_app.specs.Programs.{OwesText, OwesPrint}
 use Rattle.lucy_app.specs.Tighten.{OwesBuffer}
-use Rattle.lucy_app.specs.Running.{OwesRunning}
+use Rattle.lucy_app.specs.Running.{IsRunnable, OwesRunning}
 use Rattle.lucy_app.specs.Replaying.{OwesLogged}
 use Rattle.lucy_app.specs.declared.input_refusal.InputCause.{InputCause}
 
@@ -72,11 +71,10 @@ HasRun given words net horizon =
     HasText given.fetched (λ text. (a : Accepted) × IsAccepted given.operators (inferring_options words.scale words.lead) text a × (a.net ≡ net)
     × (lists : List (List ℤ)) × (fault : Option TextFault) × IsMainFed a words.instants given.taken given.stop lists fault horizon)
 
--- what a command has met may count as this: as it is, or, where `run` gave up reading, as if the bytes taken were all
-abbrev pub MayCount : Command → (given counted : Given) → Type 0
-MayCount (Run words workers block) given counted = (stop : ReadStop) × CountsAs given.stop stop × (counted ≡ record given { stop = stop })
-MayCount command given counted = counted ≡ given
-
--- a command owes this output, of which a front may stand where it breaks off
+-- A command owes this output, of which a front may stand where it breaks off: `run` the heading and the lines that the items of the whole
+-- lines taken allow, the others that of an answer that is owed.
 abbrev pub OwesOutput : Command → Given → (output : List ℕ) → Type 0
-OwesOutput command given output = (counted : Given) × (answer : Answer) × MayCount command given counted × Owes command counted answer × (output ≡ answer.out)
+OwesOutput (Run words workers block) given output =
+    HasText given.fetched (λ text. (a : Accepted) × IsRunnable given.operators (inferring_options words.scale words.lead) words.instants text a
+    × LinesAllow (kinds_of given.operators) a words.instants given.taken given.stop output)
+OwesOutput command given output = OutputOf (Owes command given) output

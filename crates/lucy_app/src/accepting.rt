@@ -6,9 +6,8 @@ ghost use Rattle.lucy_host.specs.Host.{Serves, lent};
 ghost use Rattle.lucy_host.specs.Operators.{kinds_of};
 ghost use Rattle.lucy_text.specs.Sources.{ReadStop, Read};
 ghost use Rattle.lucy_front.specs.Inferring.{AreOptions};
-ghost use Rattle.lucy_run.specs.Feeds.{CountsAs};
-ghost use Rattle.lucy_run.specs.Owes.{OwesRun, OwesKahn};
-ghost use Rattle.lucy_run.specs.Ends.{FailsInOrder};
+ghost use Rattle.lucy_run.specs.Owes.{OwesRun, OwesKahn, LinesAllow};
+ghost use Rattle.lucy_run.specs.Ends.{Outputs, FailsInOrder};
 ghost use Rattle.lucy_command.specs.Commands as names;
 ghost use Rattle.lucy_command.specs.Named.{run_named, kahn_named, IsWithin, block_or_default};
 ghost use Rattle.lucy_app.specs.Commands.{inferring_options, TakesInput};
@@ -79,7 +78,8 @@ pub(crate) fn run<
     requires within { IsWithin (run_named words) }
     ensures ends { (taken : List ℕ) × (stop : ReadStop) × Read (limit_number limit.Input) (I.seen input.old) (I.seen input.new) taken stop
         × ((I.seen input.new ≡ I.seen input.old) ⊎ TakesInput (lent host.now) (inferring_options words.entry.scale words.entry.lead) (bytes_of fetched ∷ []) taken)
-        × EndsRunning (λ counted a. OwesRun (kinds_of (lent host.now)) a words.entry.instants taken counted) (CountsAs stop)
+        × EndsRunning (λ a. OwesRun (kinds_of (lent host.now)) a words.entry.instants taken stop)
+        (λ a. LinesAllow (kinds_of (lent host.now)) a words.entry.instants taken stop)
         (OfProgram (λ a. FailsInOrder (kinds_of (lent host.now)) a words.entry.instants (block_or_default words.entry.block) taken stop
         (O.seen out.old) (O.seen out.new)) (lent host.now) (inferring_options words.entry.scale words.entry.lead) (bytes_of fetched ∷ []))
         (lent host.now) (inferring_options words.entry.scale words.entry.lead) words.entry.instants stop (bytes_of fetched ∷ [])
@@ -118,7 +118,8 @@ pub(crate) fn kahn<I: Source, O: Sink, E: Sink, F: Fn(u32, i64, i64) -> i64 + Sy
     requires within { IsWithin (names.Kahn (kahn_named words)) }
     ensures ends { (taken : List ℕ) × (stop : ReadStop) × Read (limit_number limit.Input) (I.seen input.old) (I.seen input.new) taken stop
         × ((I.seen input.new ≡ I.seen input.old) ⊎ TakesInput (lent host.now) (inferring_options words.entry.scale words.entry.lead) (bytes_of fetched ∷ []) taken)
-        × EndsRunning (λ counted a. OwesKahn (kinds_of (lent host.now)) a words.entry.instants taken counted) (λ counted. counted ≡ stop)
+        × EndsRunning (λ a. OwesKahn (kinds_of (lent host.now)) a words.entry.instants taken stop)
+        (λ a. Outputs (OwesKahn (kinds_of (lent host.now)) a words.entry.instants taken stop))
         (OfProgram (λ a. Unit {0}) (lent host.now) (inferring_options words.entry.scale words.entry.lead) (bytes_of fetched ∷ []))
         (lent host.now) (inferring_options words.entry.scale words.entry.lead) words.entry.instants stop (bytes_of fetched ∷ [])
         (O.seen out.old) (O.seen out.new) (E.seen err.old) (E.seen err.new) result }

@@ -6,8 +6,7 @@ ghost use Rattle.lucy_word.specs.declared.limit.Limit.TheVariants as limit;
 ghost use Rattle.lucy_host.specs.Host.{lent};
 ghost use Rattle.lucy_host.specs.Operators.{kinds_of};
 ghost use Rattle.lucy_text.specs.Sources.{ReadStop, Read};
-ghost use Rattle.lucy_run.specs.Feeds.{CountsAs};
-ghost use Rattle.lucy_run.specs.Owes.{OwesRun};
+ghost use Rattle.lucy_run.specs.Owes.{OwesRun, LinesAllow};
 ghost use Rattle.lucy_command.specs.Commands.{command_of};
 ghost use Rattle.lucy_command.specs.Named.{named, run_named, IsWithin};
 ghost use Rattle.lucy_app.specs.Commands.{inferring_options, TakesInput};
@@ -57,7 +56,8 @@ fn play<I: Source, O: Sink, E: Sink, N: Engine<F>, F: Fn(u32, i64, i64) -> i64 +
     ensures ends { (taken : List ℕ) × (stop : ReadStop) × Read (limit_number limit.Input) (I.seen input.old) (I.seen input.new) taken stop
         × ((I.seen input.new ≡ I.seen input.old)
         ⊎ TakesInput (lent host.now) (inferring_options words.entry.scale words.entry.lead) (bytes_of fetched ∷ []) taken)
-        × EndsRunning (λ counted a. OwesRun (kinds_of (lent host.now)) a words.entry.instants taken counted) (CountsAs stop)
+        × EndsRunning (λ a. OwesRun (kinds_of (lent host.now)) a words.entry.instants taken stop)
+        (λ a. LinesAllow (kinds_of (lent host.now)) a words.entry.instants taken stop)
         (OfProgram (λ a. Unit {0}) (lent host.now) (inferring_options words.entry.scale words.entry.lead) (bytes_of fetched ∷ []))
         (lent host.now) (inferring_options words.entry.scale words.entry.lead) words.entry.instants stop (bytes_of fetched ∷ [])
         (O.seen out.old) (O.seen out.new) (E.seen err.old) (E.seen err.new) result }

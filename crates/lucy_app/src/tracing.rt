@@ -5,6 +5,7 @@ ghost use Rattle.lucy_word.specs.declared.limit.Limit.TheVariants as limit;
 ghost use Rattle.lucy_host.specs.Host.{Serves, lent};
 ghost use Rattle.lucy_text.specs.Sources.{ReadStop, Read};
 ghost use Rattle.lucy_run.specs.Tracing.{OwesTrace};
+ghost use Rattle.lucy_run.specs.Ends.{Outputs};
 ghost use Rattle.lucy_command.specs.Named.{trace_named, IsWithin};
 ghost use Rattle.lucy_app.specs.Commands.{inferring_options, TakesInput};
 ghost use Rattle.lucy_app.specs.Outcomes.{bytes_of, EndsRunning, OfProgram};
@@ -32,7 +33,7 @@ pub(crate) fn trace<I: Source, O: Sink, E: Sink, F: Fn(u32, i64, i64) -> i64 + S
     requires within { IsWithin (trace_named words) }
     ensures ends { (taken : List ℕ) × (stop : ReadStop) × Read (limit_number limit.Input) (I.seen input.old) (I.seen input.new) taken stop
         × ((I.seen input.new ≡ I.seen input.old) ⊎ TakesInput (lent host.now) (inferring_options words.entry.scale words.entry.lead) (bytes_of fetched ∷ []) taken)
-        × EndsRunning (λ counted a. OwesTrace a words.entry.instants taken counted) (λ counted. counted ≡ stop)
+        × EndsRunning (λ a. OwesTrace a words.entry.instants taken stop) (λ a. Outputs (OwesTrace a words.entry.instants taken stop))
         (OfProgram (λ a. Unit {0}) (lent host.now) (inferring_options words.entry.scale words.entry.lead) (bytes_of fetched ∷ []))
         (lent host.now) (inferring_options words.entry.scale words.entry.lead) words.entry.instants stop (bytes_of fetched ∷ [])
         (O.seen out.old) (O.seen out.new) (E.seen err.old) (E.seen err.new) result }

@@ -1,6 +1,6 @@
 -- What items that were taken one by one make of the bytes taken.
 use Rattle.std.proofs.Common.{◌≡◌, ℕ, ◌+◌, ◌<◌, ◌≤◌, Bool, true, false, List, [], ◌∷◌, ◌++◌, length, Option, Some, None, Result, Ok, Err, refl, ap, sym, ◌∙◌, subst, inl, inr, arith, append_assoc, append-nil, length-append}
-use Rattle.std.specs.Prelude.{ℤ, ◌-◌, ◌⊎◌, IsTrue, take, slice_set, slice_index_or}
+use Rattle.std.specs.Prelude.{ℤ, ◌⊎◌, IsTrue, take, slice_set, slice_index_or}
 use Rattle.std.specs.Int.{w64}
 use mir.Val.{SFits as FitsSigned}
 use Rattle.lucy_text.specs.Outside.{SeenSource, HasEnded, Rose, NoneFollows}
@@ -21,7 +21,7 @@ use Rattle.lucy_lines.proofs.ReaderLaws.{kind_fits}
 use Rattle.lucy_text.specs.Sources.{ReadStop, Ended, Failed, Open, Drained}
 use Rattle.lucy_feed.specs.Feeding.{StopsFor, IsAskedWhile}
 use Rattle.lucy_feed.specs.Going.{ExtendsCut, Behind, CanGoOn, CanCount}
-use Rattle.lucy_feed.specs.Resuming.{AreCounts, AsksWhile, BeginCut, IsOpen, IsStopped}
+use Rattle.lucy_feed.specs.Resuming.{AreCounts, AsksWhile, BeginCut, IsGivenUp, IsOpen, IsStopped}
 use Rattle.lucy_feed.proofs.ListLaws.{counts_more, no_counts}
 
 -- one item on
@@ -72,24 +72,46 @@ called_as old new before after result answer bytes e c = let P : Result line_typ
 pub of_item : (Holds : ℕ → Type 0) (result : Result line_type.Line TextFault) (stream : ℕ) (value : ℤ) → result ≡ Ok (Item stream value) → OfItem Holds result → Holds stream
 of_item Holds result stream value e h = let P : Result line_type.Line TextFault → Type 0 = λ r. OfItem Holds r in subst P e h
 
--- what has been read begins what the bytes taken have as a whole input
-begins_cut : (inputs : List InputSpec) (reader : ReaderState) (before after : SeenSource) (items : List ItemOf) (taken : List ℕ) → CanGoOn inputs reader before after items taken → BeginCut inputs taken items
+-- what has been read begins what the bytes taken have
+begins_cut : (inputs : List InputSpec) (reader : ReaderState) (before after : SeenSource) (items : List ItemOf) (taken : List ℕ) → CanGoOn inputs reader before after items taken →
+    BeginCut inputs reader.closed taken items
 begins_cut inputs reader before after items taken g =
-    let rest = some_cut inputs true (with_more reader.held []) in
-    let P : List ℕ → Type 0 = λ u. Cut inputs true (input_of u) (items ++ rest.0) rest.1 in
-    (rest.0, rest.1, subst P (append-nil taken) (g.leads true [] rest.0 rest.1 (λ e. (refl, refl)) rest.2))
+    let rest = some_cut inputs reader.closed (with_more reader.held []) in
+    let P : List ℕ → Type 0 = λ u. Cut inputs reader.closed (input_of u) (items ++ rest.0) rest.1 in
+    (rest.0, rest.1, subst P (append-nil taken) (g.leads reader.closed [] rest.0 rest.1 (λ e. (refl, e)) rest.2))
+
+either : (b : Bool) → (b ≡ true) ⊎ (b ≡ false)
+either true = inl refl
+either false = inr refl
+
+-- reading may be given up behind what has been read
+up_to_here : (inputs : List InputSpec) (reader : ReaderState) (before after : SeenSource) (items : List ItemOf) (taken : List ℕ) → CanGoOn inputs reader before after items taken →
+    IsGivenUp inputs before after items taken
+up_to_here inputs reader before after items taken g =
+    let begin = begins_cut inputs reader before after items taken g in
+    let few : length taken ≤ most_bytes + 1 = omega (arith, g.behind.counted, g.within) in
+    elim (either reader.closed) [
+      | inl shut ↦ record {
+        stop = Drained;
+        early = inl refl;
+        read = record { took = g.behind.took; stopped = (few, g.behind.met_end shut, g.calm); none_follows = g.behind.none_follows };
+        asked = g.behind.asked;
+        begin = subst (λ b. BeginCut inputs b taken items) shut begin;
+      }
+      | inr open_yet ↦ record {
+        stop = Open;
+        early = inr refl;
+        read = record { took = g.behind.took; stopped = (few, g.calm); none_follows = g.behind.none_follows };
+        asked = g.behind.asked;
+        begin = subst (λ b. BeginCut inputs b taken items) open_yet begin;
+      }
+    ]
 
 -- reading goes on
 open_now : (inputs : List InputSpec) (reader : ReaderState) (before after : SeenSource) (counts : List ℕ) (items : List ItemOf) (taken : List ℕ) → reader.ended ≡ false → AreCounts inputs counts items →
     CanGoOn inputs reader before after items taken → IsOpen inputs before after reader counts items taken
-open_now inputs reader before after counts items taken open_yet counted g = record {
-  open_yet = open_yet;
-  counted = counted;
-  read = record { took = g.behind.took; stopped = (omega (arith, g.behind.counted, g.within), g.calm); none_follows = g.behind.none_follows };
-  asked = g.behind.asked;
-  begin = begins_cut inputs reader before after items taken g;
-  goes_on = g;
-}
+open_now inputs reader before after counts items taken open_yet counted g =
+    record { open_yet = open_yet; counted = counted; given_up = up_to_here inputs reader before after items taken g; goes_on = g }
 
 none_taken : (inputs : List InputSpec) (source : SeenSource) → CanGoOn inputs (new_reader inputs) source source [] []
 none_taken inputs source = record {
@@ -107,10 +129,6 @@ pub nothing_yet : (inputs : List InputSpec) (reader : ReaderState) (source : See
 nothing_yet inputs reader source counts new many none =
     let P : ReaderState → Type 0 = λ r. CanGoOn inputs r source source [] [] in
     open_now inputs reader source source counts [] [] (ap (λ r. r.ended) new) (no_counts inputs counts many none) (subst P (sym new) (none_taken inputs source))
-
-either : (b : Bool) → (b ≡ true) ⊎ (b ≡ false)
-either true = inl refl
-either false = inr refl
 
 -- bytes were asked for in this call
 asked_now : (inputs : List InputSpec) (items : List ItemOf) (taken bytes : List ℕ) (held : Held) (closed : Bool) → ExtendsCut inputs items taken held closed → closed ≡ false →

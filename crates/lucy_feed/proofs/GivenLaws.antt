@@ -11,7 +11,7 @@ use Rattle.lucy_feed.specs.declared.feeds.Feed.{Feed}
 use Rattle.lucy_text.specs.Outside.{SeenSource}
 use Rattle.lucy_text.specs.Sources.{ReadStop, Open, Read}
 use Rattle.lucy_feed.specs.Feeding.{values_of, IsAsked, IsFeed, IsFeedOf}
-use Rattle.lucy_feed.specs.Resuming.{FeedState, HasRead, AreFresh, ReadsMore, GivesUp}
+use Rattle.lucy_feed.specs.Resuming.{FeedState, HasRead, IsGivenUp, AreFresh, ReadsMore, GivesUp}
 
 -- what the reading of an input gives
 abbrev pub GivesFeed : List InputSpec → (before after : SeenSource) → Result Feed OutOfMemory → Type 0
@@ -22,11 +22,20 @@ pub nothing_read : (inputs : List InputSpec) (source : SeenSource) (result : Res
 nothing_read inputs source (Ok feed) is = cc
 nothing_read inputs source (Err e) is = ([], Open, record { took = sym (followed-nil source.left); stopped = (omega arith, refl); none_follows = still_none source.since_stop }, inl refl, refl)
 
+-- a reading that was given up ended early, also where it had met the end
+read_early : (inputs : List InputSpec) (first now : SeenSource) (items : List ItemOf) (taken : List ℕ) → IsGivenUp inputs first now items taken → Read most_bytes first now taken Open
+read_early inputs first now items taken g = elim g.early [
+  | inl e ↦
+      let read = subst (λ s. Read most_bytes first now taken s) e g.read in
+      record { took = read.took; stopped = (read.stopped.0, read.stopped.2); none_follows = read.none_follows }
+  | inr e ↦ subst (λ s. Read most_bytes first now taken s) e g.read
+]
+
 -- or later
 pub none_read_on : (inputs : List InputSpec) (first now : SeenSource) (s : FeedState) (result : Result Feed OutOfMemory) → IsErr result → HasRead inputs first first s [] [] → AreFresh inputs s [] →
     GivesUp first now s → GivesFeed inputs first now result
 none_read_on inputs first now s (Ok feed) is begun fresh up = cc
-none_read_on inputs first now s (Err e) is begun fresh up = let (bytes, g) = up inputs first [] [] [] begun fresh in (bytes, Open, g.read, g.asked, refl)
+none_read_on inputs first now s (Err e) is begun fresh up = let (bytes, g) = up inputs first [] [] [] begun fresh in (bytes, Open, read_early inputs first now [] bytes g, g.asked, refl)
 
 as_feed : (inputs : List InputSpec) (first now : SeenSource) (s : FeedState) (feed : Feed) (items : List ItemOf) (taken : List ℕ) → s.reader.ended ≡ true → HasRead inputs first now s items taken →
     AreFresh inputs s items → feed ≡ record { items = s.fresh; stop = s.fault } → GivesFeed inputs first now (Ok feed)

@@ -1,5 +1,5 @@
 -- Laws of a reading that is resumed.
-use Rattle.std.proofs.Common.{◌≡◌, ℕ, Option, Some, None, Result, Ok, Err, OnOk, OnErr, ◌<◌, true, false, List, [], ◌∷◌, ◌++◌, length, refl, ap, sym, ◌∙◌, subst, inl, inr, arith, append_assoc, append-nil}
+use Rattle.std.proofs.Common.{◌≡◌, ℕ, Bool, Option, Some, None, Result, Ok, Err, OnOk, OnErr, ◌<◌, true, false, List, [], ◌∷◌, ◌++◌, length, refl, ap, sym, ◌∙◌, subst, inl, inr, arith, append_assoc, append-nil}
 use Rattle.std.specs.Prelude.{ℤ, ◌⊎◌, slice_set, slice_index_or, IfSome, MatchOption}
 use Rattle.lucy_lines.specs.declared.input.InputSpec.{InputSpec}
 use Rattle.lucy_lines.specs.Cuts.{ItemOf, Stop as Halt, Cut, input_of}
@@ -7,7 +7,7 @@ use Rattle.lucy_lines.specs.Reading.{ReaderState}
 use Rattle.lucy_text.specs.Outside.{SeenSource}
 use Rattle.lucy_text.specs.Sources.{ReadStop}
 use Rattle.lucy_feed.specs.Resuming.{FeedState, AreCounts, AsksWhile, BeginCut, IsOpen, IsStopped, HasRead, IsGivenUp, AreFresh, ReadsWhile, PassesMore, GivesUp}
-use Rattle.lucy_feed.specs.Feeding.{values_by_stream, IsAskedWhile}
+use Rattle.lucy_feed.specs.Feeding.{values_by_stream, is_closed, IsAskedWhile}
 use Rattle.lucy_feed.proofs.FeedLaws.{asks_as}
 use Rattle.lucy_feed.proofs.ListLaws.{item_pushed}
 
@@ -75,13 +75,14 @@ passes_on a b c s t u p q inputs first items taken read =
     (more ++ others, bytes ++ late, subst P (append_assoc items more others) (subst Q (append_assoc taken bytes late) next))
 
 -- what stands in front of items stands in front of what they begin
-begin_before : (inputs : List InputSpec) (taken : List ℕ) (items more : List ItemOf) → BeginCut inputs taken (items ++ more) → BeginCut inputs taken items
-begin_before inputs taken items more (others, halt, cut) =
-    let P : List ItemOf → Type 0 = λ u. Cut inputs true (input_of taken) u halt in
+begin_before : (inputs : List InputSpec) (closed : Bool) (taken : List ℕ) (items more : List ItemOf) → BeginCut inputs closed taken (items ++ more) → BeginCut inputs closed taken items
+begin_before inputs closed taken items more (others, halt, cut) =
+    let P : List ItemOf → Type 0 = λ u. Cut inputs closed (input_of taken) u halt in
     (more ++ others, halt, subst P (append_assoc items more others) cut)
 
 given_up_before : (inputs : List InputSpec) (first now : SeenSource) (items more : List ItemOf) (taken : List ℕ) → IsGivenUp inputs first now (items ++ more) taken → IsGivenUp inputs first now items taken
-given_up_before inputs first now items more taken g = record { read = g.read; asked = g.asked; begin = begin_before inputs taken items more g.begin }
+given_up_before inputs first now items more taken g =
+    record { stop = g.stop; early = g.early; read = g.read; asked = g.asked; begin = begin_before inputs (is_closed g.stop) taken items more g.begin }
 
 -- reading was given up behind what was read
 pub given_up_later : (Wanting : List InputSpec → List ItemOf → Type 0) (a b c : SeenSource) (s t : FeedState) → ReadsWhile Wanting a b s t → GivesUp b c t → GivesUp a c s
@@ -141,7 +142,7 @@ pub item_lost : (before after : SeenSource) (old new : FeedState) (i : ItemOf) �
 item_lost before after old new i open_yet opens inputs first items recent taken read fresh =
     let o = still_open inputs first before old items taken open_yet read in
     let (bytes, is, asks) = opens inputs first items taken o in
-    (bytes, given_up_before inputs first after items (i ∷ []) (taken ++ bytes) (record { read = is.read; asked = is.asked; begin = is.begin }))
+    (bytes, given_up_before inputs first after items (i ∷ []) (taken ++ bytes) is.given_up)
 
 -- reading stopped
 pub stop_passed : (before after : SeenSource) (old new : FeedState) → old.reader.ended ≡ false → OpensNoMore before after old new → PassesMore before after old new

@@ -1,14 +1,14 @@
 -- A reading of an input that stops where there are items enough and goes on from there: what it has come to, by the bytes taken
 -- since its source was seen first.
-use Rattle.std.specs.Prelude.{ℕ, ℤ, ◌<◌, ◌≤◌, ◌≡◌, ◌⊎◌, true, false, List, [], ◌++◌, length, Option, slice_index_or}
+use Rattle.std.specs.Prelude.{ℕ, ℤ, ◌<◌, ◌≤◌, ◌≡◌, ◌⊎◌, Bool, true, false, List, [], ◌++◌, length, Option, slice_index_or}
 use Rattle.lucy_lines.specs.declared.input.InputSpec.{InputSpec}
 use Rattle.lucy_lines.specs.declared.reader.TextFault.{TextFault}
 use Rattle.lucy_lines.specs.Fronts.{most_bytes}
 use Rattle.lucy_lines.specs.Cuts.{ItemOf, Stop as Halt, Cut, input_of}
 use Rattle.lucy_lines.specs.Reading.{ReaderState}
 use Rattle.lucy_text.specs.Outside.{SeenSource}
-use Rattle.lucy_text.specs.Sources.{ReadStop, Open, Read}
-use Rattle.lucy_feed.specs.Feeding.{values_by_stream, IsAskedWhile, IsAsked, IsFeedOf}
+use Rattle.lucy_text.specs.Sources.{ReadStop, Open, Drained, Read}
+use Rattle.lucy_feed.specs.Feeding.{values_by_stream, is_closed, IsAskedWhile, IsAsked, IsFeedOf}
 use Rattle.lucy_feed.specs.Going.{CanGoOn}
 
 -- A reader of an input: what reads its lines, which has ended where reading stopped; the values that were not carried away yet and
@@ -36,17 +36,24 @@ IsShort wanted inputs items = (i : ℕ) × (length (slice_index_or (values_by_st
 abbrev pub AsksWhile : (Wanting : List ItemOf → Type 0) → List InputSpec → (taken bytes : List ℕ) → Type 0
 AsksWhile Wanting inputs taken bytes = (bytes ≡ []) ⊎ IsAskedWhile Wanting inputs (taken ++ bytes)
 
--- these items stand in front of those that the bytes taken have as a whole input
-abbrev pub BeginCut : List InputSpec → (taken : List ℕ) → List ItemOf → Type 0
-BeginCut inputs taken items = (others : List ItemOf) × (halt : Halt) × Cut inputs true (input_of taken) (items ++ others) halt
+-- these items stand in front of those that the bytes taken have, where these are all that there are or not
+abbrev pub BeginCut : List InputSpec → (closed : Bool) → (taken : List ℕ) → List ItemOf → Type 0
+BeginCut inputs closed taken items = (others : List ItemOf) × (halt : Halt) × Cut inputs closed (input_of taken) (items ++ others) halt
 
--- since the source was seen first these bytes were taken and these items read, and reading goes on
+-- Reading was given up, behind these items and perhaps others of the bytes taken. A last line without its line feed has an item only where the
+-- end was met.
+pub record IsGivenUp (inputs : List InputSpec) (first now : SeenSource) (items : List ItemOf) (taken : List ℕ) : Type 0 where
+  pub stop : ReadStop
+  pub early : (stop ≡ Drained) ⊎ (stop ≡ Open)
+  pub read : Read most_bytes first now taken stop
+  pub asked : IsAsked inputs taken
+  pub begin : BeginCut inputs (is_closed stop) taken items
+
+-- since the source was seen first these bytes were taken and these items read, and reading goes on, or is given up here
 pub record IsOpen (inputs : List InputSpec) (first now : SeenSource) (reader : ReaderState) (counts : List ℕ) (items : List ItemOf) (taken : List ℕ) : Type 0 where
   pub open_yet : reader.ended ≡ false
   pub counted : AreCounts inputs counts items
-  pub read : Read most_bytes first now taken Open
-  pub asked : IsAsked inputs taken
-  pub begin : BeginCut inputs taken items
+  pub given_up : IsGivenUp inputs first now items taken
   pub goes_on : CanGoOn inputs reader first now items taken
 
 -- these bytes were taken and these items read, and reading stopped so: they are the feed of the bytes
@@ -63,12 +70,6 @@ pub record IsStopped (inputs : List InputSpec) (first now : SeenSource) (reader 
 abbrev pub HasRead : List InputSpec → (first now : SeenSource) → FeedState → List ItemOf → (taken : List ℕ) → Type 0
 HasRead inputs first now s items taken =
     IsOpen inputs first now s.reader s.counts items taken ⊎ ((stop : ReadStop) × (halt : Halt) × IsStopped inputs first now s.reader s.counts s.fault items taken stop halt)
-
--- reading was given up, behind these items and perhaps others
-pub record IsGivenUp (inputs : List InputSpec) (first now : SeenSource) (items : List ItemOf) (taken : List ℕ) : Type 0 where
-  pub read : Read most_bytes first now taken Open
-  pub asked : IsAsked inputs taken
-  pub begin : BeginCut inputs taken items
 
 -- the values of these items were not carried away yet
 abbrev pub AreFresh : List InputSpec → FeedState → (recent : List ItemOf) → Type 0

@@ -3,7 +3,7 @@ ghost use Rattle.std.specs.Prelude.{◌≡◌, ◌≢◌, ◌≤◌, [], None};
 ghost use Rattle.lucy_host.specs.Host.{Serves, lent};
 ghost use Rattle.lucy_host.specs.Operators.{kinds_of};
 ghost use Rattle.lucy_run.specs.Paces.{AreInstants};
-ghost use Rattle.lucy_run.specs.Ends.{EndsWith};
+ghost use Rattle.lucy_run.specs.Ends.{EndsOwed};
 ghost use Rattle.lucy_run.specs.Calls.{WasAccepted, ReadsAndEnds};
 ghost use Rattle.lucy_wave.specs.Waves.{OwesWave};
 ghost use Rattle.lucy_wave.specs.Laws.{WavesAreReadBack, OneWave, NamesAreDistinct};
@@ -28,8 +28,7 @@ pub fn wave<F: Fn(u32, i64, i64) -> i64 + Sync, I: Source, O: Sink>(
     requires few { AreInstants instants }
     requires given { accepted.inputs.items ≡ [] → instants ≢ None }
     ensures ends { ReadsAndEnds accepted.inputs.items (I.seen source.old) (I.seen source.new)
-        (λ taken stop. EndsWith (OwesWave (kinds_of (lent host.now)) accepted instants taken) (λ counted. counted ≡ stop) stop
-        (O.seen out.old) (O.seen out.new) result) }
+        (λ taken stop. EndsOwed (OwesWave (kinds_of (lent host.now)) accepted instants taken stop) (O.seen out.old) (O.seen out.new) result) }
     ensures unread { accepted.inputs.items ≡ [] → source.new ≡ source.old }
     ensures source_count { (I.seen source.old).faults ≤ (I.seen source.new).faults }
     ensures out_count { (O.seen out.old).faults ≤ (O.seen out.new).faults }

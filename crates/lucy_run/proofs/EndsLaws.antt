@@ -5,7 +5,6 @@ use Rattle.std.proofs.lemmas.List.{take-append-le}
 use Rattle.std.proofs.Math.Seq.{take-length}
 use Rattle.std.proofs.lemmas.Result.{IfOk-at_ok}
 use Rattle.lucy_word.specs.Bits.{Bits}
-use Rattle.lucy_word.specs.Limits.{limit_number}
 use Rattle.lucy_word.specs.declared.limit.Limit.TheVariants as limit
 use Rattle.lucy_host.specs.declared.kind.HostKind.{HostKind}
 use Rattle.lucy_kahn.specs.declared.error.KahnError.{KahnError}
@@ -28,18 +27,18 @@ use Rattle.lucy_results.specs.Streams.{param_words, main_streams}
 use Rattle.lucy_front.specs.declared.accepted.Accepted.{Accepted}
 use Rattle.lucy_run.specs.declared.ending.Ending.{Ending}
 use Rattle.lucy_run.specs.declared.ending.Ending.TheVariants as ending
-use Rattle.lucy_run.specs.Feeds.{Feeds, CountsAs, IsNeededFor, IsMainFeed}
-use Rattle.lucy_run.specs.Owes.{most_instants, input_words, lines_to, heading, EndsFor, IsMainFed, Interprets, OwesRun, OwesKahn, IsHorizonOf}
+use Rattle.lucy_run.specs.Feeds.{Feeds, IsNeededFor, IsMainFeed}
+use Rattle.lucy_run.specs.Owes.{most_instants, input_words, lines_to, heading, EndsFor, IsMainFed, Interprets, OwesRun, OwesKahn, LinesAllow, IsHorizonOf}
 use Rattle.lucy_lines.specs.Cuts.{ItemOf}
 use Rattle.lucy_output.specs.Writing.{WriterState}
 use Rattle.lucy_run.specs.Courses.{Program, CanBeRunInBlocks, values, IsFedSoFar, IsCourseOver}
 use Rattle.lucy_run.specs.Played.{HasWritten, FailsBehind, wanting_at, BreaksOff, LinesAgree, LinesByBlock}
 use Rattle.lucy_feed.specs.Feeding.{IsAsked}
 use Rattle.lucy_feed.proofs.FeedLaws.{asked_as}
-use Rattle.lucy_run.specs.Ends.{EndsWith, EndsRun, Outputs, FailsInBlock}
+use Rattle.lucy_run.specs.Ends.{EndsWith, EndsOwed, EndsRun, FailsInBlock}
 use Rattle.lucy_run.specs.Steps.{LeavesOwed, EndsWhole, refusal_ending, LeavesUnwritten}
-use Rattle.lucy_run.proofs.FedLaws.{read_nothing, fed_not_yet}
-use Rattle.lucy_run.proofs.HorizonLaws.{some_horizon, suffice_either}
+use Rattle.lucy_run.proofs.FedLaws.{read_nothing, some_lines}
+use Rattle.lucy_run.proofs.HorizonLaws.{some_horizon}
 use Rattle.lucy_run.proofs.ReadLaws.{suffice_longer, suffice_earlier}
 
 -- a run that comes to its end so has the whole output
@@ -48,15 +47,6 @@ ends_whole words given lists (Some fault) end e = subst EndsWhole (sym e) tt
 ends_whole words (Some n) lists None end e = subst EndsWhole (sym e) tt
 ends_whole words None lists None end (inl e) = subst EndsWhole (sym e.0) tt
 ends_whole words None lists None end (inr e) = subst EndsWhole (sym e.0) tt
-
--- a run ends in some way
-pub some_ending : (words : List Bits) (given : Option ℕ) (lists : List (List ℤ)) (fault : Option TextFault) → (end : Ending) × EndsFor words given lists fault end
-some_ending words given lists (Some fault) = (ending.Input fault, refl)
-some_ending words (Some n) lists None = (ending.Done, refl)
-some_ending words None lists None = elim (suffice_either words lists (limit_number limit.Instants + 1)) [
-  | inl fits ↦ (ending.Limit limit.Instants, inl (refl, fits))
-  | inr none ↦ (ending.Done, inr (refl, none))
-]
 
 pub owed_written : (Owes : List ℕ → Ending → Type 0) (output : List ℕ) (end : Ending) (before after : SeenSink) → EndsWhole end → Owes output end → Writes before after output →
     LeavesOwed Owes before after end
@@ -152,13 +142,13 @@ owed_more A B more was now ending.Done (output, owed, w) = (output, more output 
 owed_more A B more was now (ending.Input f) (output, owed, w) = (output, more output (ending.Input f) owed, w)
 owed_more A B more was now (ending.Limit l) (output, owed, w) = (output, more output (ending.Limit l) owed, w)
 
--- and so a call ends, of what is owed as reading stopped
-pub owed_ends : (Owes : ReadStop → List ℕ → Ending → Type 0) (stop : ReadStop) (was now : SeenSink) (result : Ending) → LeavesOwed (Owes stop) was now result → EndsWith Owes (λ counted. counted ≡ stop) stop was now result
-owed_ends Owes stop was now ending.WriteFault (output, end, owed, f) = (output, (stop, end, refl, owed), f)
-owed_ends Owes stop was now ending.OutOfMemory left = ([], inl refl, subst (λ u. Writes was u []) (sym left) (unwritten was))
-owed_ends Owes stop was now ending.Done left = left
-owed_ends Owes stop was now (ending.Input f) left = left
-owed_ends Owes stop was now (ending.Limit l) left = left
+-- and so a call ends
+pub owed_ends : (Owes : List ℕ → Ending → Type 0) (was now : SeenSink) (result : Ending) → LeavesOwed Owes was now result → EndsOwed Owes was now result
+owed_ends Owes was now ending.WriteFault (output, end, owed, f) = (output, (end, owed), f)
+owed_ends Owes was now ending.OutOfMemory left = ([], inl refl, subst (λ u. Writes was u []) (sym left) (unwritten was))
+owed_ends Owes was now ending.Done left = left
+owed_ends Owes was now (ending.Input f) left = left
+owed_ends Owes was now (ending.Limit l) left = left
 
 module _ (kinds : List HostKind) (a : Accepted) (given : Option ℕ) where
   -- what a call of `run` leaves
@@ -168,26 +158,25 @@ module _ (kinds : List HostKind) (a : Accepted) (given : Option ℕ) where
 
   abbrev pub KahnGives : (before after : SeenSource) (was now : SeenSink) → Ending → Type 0
   KahnGives before after was now result = (taken : List ℕ) × (stop : ReadStop) × Read most_bytes before after taken stop
-      × IsAsked a.inputs.items taken × EndsWith (OwesKahn kinds a given taken) (λ counted. counted ≡ stop) stop was now result
+      × IsAsked a.inputs.items taken × EndsOwed (OwesKahn kinds a given taken stop) was now result
 
   -- memory ran out before anything was done
   pub run_unbegun : (block : ℕ) (s : SeenSource) (o : SeenSink) → RunGives block s s o o ending.OutOfMemory
   run_unbegun block s o = ([], Unread, read_nothing s, record { asked = inl refl; output = ([], inl refl, unwritten o); in_order = λ fault. cc })
 
   -- an output where nothing was read yet
-  output_not_yet : (lines : List ℕ) × Outputs (CountsAs Unread) (OwesRun kinds a given []) (heading a ++ lines)
-  output_not_yet =
-      let (counted, counts, lists, fault, feeds) = fed_not_yet a.inputs.items in
+  allowed_not_yet : (lines : List ℕ) × LinesAllow kinds a given [] Unread (heading a ++ lines)
+  allowed_not_yet =
+      let (lists, fed) = some_lines a.inputs.items [] Unread (λ failed. cc) in
       let (horizon, is) = some_horizon (input_words a) lists (most_instants given) in
-      let (end, ends) = some_ending (input_words a) given lists fault in
-      (lines_to kinds a lists horizon, (counted, end, counts, (lists, fault, horizon, record { feeds = feeds; horizon_is = is }, refl, ends)))
+      (lines_to kinds a lists horizon, (lists, horizon, fed, is, refl))
 
   -- the heading could not be written
   pub run_broken : (block : ℕ) (s : SeenSource) (was now : SeenSink) (text : List ℕ) → text ≡ heading a → Fails was now text → RunGives block s s was now ending.WriteFault
   run_broken block s was now text e f =
-      let (lines, owed) = output_not_yet in
+      let (lines, allowed) = allowed_not_yet in
       let head : Fails was now (heading a) = subst (Fails was now) e f in
-      ([], Unread, read_nothing s, record { asked = inl refl; output = (heading a ++ lines, owed, fails_longer was now (heading a) lines head); in_order = λ fault. inl (head, refl) })
+      ([], Unread, read_nothing s, record { asked = inl refl; output = (heading a ++ lines, allowed, fails_longer was now (heading a) lines head); in_order = λ fault. inl (head, refl) })
 
   -- the heading was not written
   pub run_headless : (block : ℕ) (s : SeenSource) (was now : SeenSink) (end : Ending) → LeavesUnwritten (heading a) was now end → RunGives block s s was now end
@@ -200,14 +189,14 @@ module _ (kinds : List HostKind) (a : Accepted) (given : Option ℕ) where
   -- memory ran out behind the heading, before anything was read
   pub run_unplayed : (block : ℕ) (s : SeenSource) (was now : SeenSink) (text : List ℕ) → text ≡ heading a → Writes was now text → RunGives block s s was now ending.OutOfMemory
   run_unplayed block s was now text e w =
-      let (lines, owed) = output_not_yet in
+      let (lines, allowed) = allowed_not_yet in
       let head : Writes was now (heading a) = subst (Writes was now) e w in (
         [],
         Unread,
         read_nothing s,
         record {
           asked = inl refl;
-          output = (heading a, inr (heading a ++ lines, length (heading a), owed, take_front (heading a) lines), head);
+          output = (heading a, inr (heading a ++ lines, length (heading a), allowed, take_front (heading a) lines), head);
           in_order = λ fault. cc;
         },
       )
@@ -236,11 +225,13 @@ module _ (kinds : List HostKind) (a : Accepted) (given : Option ℕ) where
       output : List ℕ
       output = heading a ++ lines_to kinds a over.lists horizon
 
-      whole_with : (end : Ending) → EndsFor (input_words a) given over.lists over.fault end → Writes was between (heading a) → EndsWith (OwesRun kinds a given over.taken) (CountsAs over.stop) over.stop was now end
+      whole_with : (end : Ending) → EndsFor (input_words a) given over.lists over.fault end → Writes was between (heading a) →
+          EndsWith (OwesRun kinds a given over.taken over.stop) (LinesAllow kinds a given over.taken over.stop) was now end
       whole_with end ends head = ends_with end (ends_whole (input_words a) given over.lists over.fault end ends)
           (over.lists, over.fault, horizon, record { feeds = over.feeds; horizon_is = over.horizon_is }, refl, ends) (writes_more was between now (heading a) (lines_to kinds a over.lists horizon) head lines)
         where
-          ends_with : (end : Ending) → EndsWhole end → OwesRun kinds a given over.taken over.stop output end → Writes was now output → EndsWith (OwesRun kinds a given over.taken) (CountsAs over.stop) over.stop was now end
+          ends_with : (end : Ending) → EndsWhole end → OwesRun kinds a given over.taken over.stop output end → Writes was now output →
+              EndsWith (OwesRun kinds a given over.taken over.stop) (LinesAllow kinds a given over.taken over.stop) was now end
           ends_with ending.WriteFault whole owes all = absurd whole
           ends_with ending.OutOfMemory whole owes all = absurd whole
           ends_with ending.Done whole owes all = (output, owes, all)
@@ -253,16 +244,14 @@ module _ (kinds : List HostKind) (a : Accepted) (given : Option ℕ) where
     asked_so : IsAsked a.inputs.items fed.taken
     asked_so = asked_as a.inputs.items fed.taken Wanting (λ xs. Unit {0}) (λ xs wanting. tt) fed.asked
 
-    owed_beyond : (output rest : List ℕ) × Outputs (CountsAs fed.stop) (OwesRun kinds a given fed.taken) output × (output ≡ (heading a ++ lines_to kinds a lists horizon) ++ rest)
-    owed_beyond =
+    allowed_beyond : (output rest : List ℕ) × LinesAllow kinds a given fed.taken fed.stop output × (output ≡ (heading a ++ lines_to kinds a lists horizon) ++ rest)
+    allowed_beyond =
         let (last, is) = some_horizon (input_words a) fed.others (most_instants given) in
         let later : horizon ≤ last = is.greatest horizon within (suffice_longer (input_words a) lists fed.others horizon fed.fronts suffice) in
-        let text = blocks program lists fed.others horizon last can fed.fronts later suffice in
-        let lines : List ℕ = lines_to kinds a fed.others last in
-        let (end, ends) = some_ending (input_words a) given fed.others fed.fault in (
-          heading a ++ lines,
+        let text = blocks program lists fed.others horizon last can fed.fronts later suffice in (
+          heading a ++ lines_to kinds a fed.others last,
           _,
-          (fed.counted, end, fed.counts, (fed.others, fed.fault, last, record { feeds = fed.fed; horizon_is = is }, refl, ends)),
+          (fed.others, last, fed.fed, is, refl),
           ap (λ xs. heading a ++ xs) text ∙ sym (append_assoc (heading a) (lines_to kinds a lists horizon) _),
         )
 
@@ -274,12 +263,10 @@ module _ (kinds : List HostKind) (a : Accepted) (given : Option ℕ) where
         let beyond : horizon ≤ last = is.greatest horizon within (suffice_longer (input_words a) lists fed.others horizon fed.fronts suffice) in
         let same : lines_to kinds a fed.others done ≡ lines_to kinds a lists done = agree program lists fed.others done can fed.fronts (suffice_earlier (input_words a) lists done horizon later suffice) in
         record {
-          counted = fed.counted;
-          counts = fed.counts;
           lists = fed.others;
-          fault = fed.fault;
           horizon = last;
-          fed = record { feeds = fed.fed; horizon_is = is };
+          fed = fed.fed;
+          horizon_is = is;
           done = done;
           early = omega arith;
           between = behind.between;
@@ -294,13 +281,13 @@ module _ (kinds : List HostKind) (a : Accepted) (given : Option ℕ) where
     pub broken_lines : (block : ℕ) (was between now : SeenSink) → Writes was between (heading a) → Fails between now (lines_to kinds a lists horizon) → FailsInBlock kinds a given block fed.taken fed.stop was now →
         RunGives block before after was now ending.WriteFault
     broken_lines block was between now w f in_block =
-        let (output, rest, owed, is) = owed_beyond in
+        let (output, rest, allowed, is) = allowed_beyond in
         let failed = subst (Fails was now) (sym is) (fails_longer was now (heading a ++ lines_to kinds a lists horizon) rest (fails_behind was between now (heading a) (lines_to kinds a lists horizon) w f)) in
-        (fed.taken, fed.stop, fed.read, record { asked = asked_so; output = (output, owed, failed); in_order = λ fault. inr in_block })
+        (fed.taken, fed.stop, fed.read, record { asked = asked_so; output = (output, allowed, failed); in_order = λ fault. inr in_block })
 
     pub lines_without_memory : (block : ℕ) (was between now : SeenSink) → Writes was between (heading a) → Writes between now (lines_to kinds a lists horizon) → RunGives block before after was now ending.OutOfMemory
     lines_without_memory block was between now w v =
-        let (output, rest, owed, is) = owed_beyond in
+        let (output, rest, allowed, is) = allowed_beyond in
         let front : List ℕ = heading a ++ lines_to kinds a lists horizon in
         let owes_front : front ≡ take (length front) output = take_front front rest ∙ ap (take (length front)) (sym is) in (
           fed.taken,
@@ -308,7 +295,7 @@ module _ (kinds : List HostKind) (a : Accepted) (given : Option ℕ) where
           fed.read,
           record {
             asked = asked_so;
-            output = (front, inr (output, length front, owed, owes_front), writes_more was between now (heading a) (lines_to kinds a lists horizon) w v);
+            output = (front, inr (output, length front, allowed, owes_front), writes_more was between now (heading a) (lines_to kinds a lists horizon) w v);
             in_order = λ fault. cc;
           },
         )
@@ -341,7 +328,7 @@ module _ (kinds : List HostKind) (a : Accepted) (given : Option ℕ) where
       stop,
       read,
       asked,
-      owed_ends (OwesKahn kinds a given taken) stop was now result
+      owed_ends (OwesKahn kinds a given taken stop) was now result
           (owed_more (Interprets kinds a.placed.nodes a.clocks.items a.outputs.items given lists fault horizon) (OwesKahn kinds a given taken stop)
           (λ output end owed. (lists, fault, horizon, fed, owed)) was now result left),
     )

@@ -45,7 +45,7 @@ suffice_or words inputs t (suc n) = elim (suffice_or words inputs t n) [
 ]
 
 -- the inputs suffice for so many instants, or they don't
-pub suffice_either : (words : List Bits) (inputs : List (List ℤ)) (t : ℕ) → Suffice words inputs t ⊎ (Suffice words inputs t → ⊥)
+suffice_either : (words : List Bits) (inputs : List (List ℤ)) (t : ℕ) → Suffice words inputs t ⊎ (Suffice words inputs t → ⊥)
 suffice_either words inputs t = elim (suffice_or words inputs t (length words)) [
   | inl fits ↦ inl (λ i w e. fits i w (slice_get_within words i w e) e)
   | inr none ↦ inr (λ all. none (λ i w low e. all i w e))

@@ -1,6 +1,6 @@
 pub mod HorizonLaws
 pub mod OwesLaws
-mod FedLaws
+pub mod FedLaws
 pub mod WholeLaws
 mod LinesLaws
 mod SilentLaws

@@ -12,7 +12,7 @@ use Rattle.lucy_lines.specs.Cuts.{ItemOf}
 use Rattle.lucy_lines.specs.Fronts.{most_bytes}
 use Rattle.lucy_lines.specs.declared.input.InputSpec.{InputSpec}
 use Rattle.lucy_text.specs.Outside.{SeenSource}
-use Rattle.lucy_text.specs.Sources.{Unread, Open, Read}
+use Rattle.lucy_text.specs.Sources.{Unread, Read}
 use Rattle.lucy_feed.specs.Feeding.{values_of, values_by_stream, IsAskedWhile}
 use Rattle.lucy_feed.specs.Resuming.{FeedState, AreCounts, AreMet, HasRead, IsGivenUp, IsShort, AreFresh, ReadsWhile, GivesUp, ValuesInTurn}
 use Rattle.lucy_feed.proofs.FeedLaws.{asked_as, asks_as, asked_still}
@@ -22,7 +22,7 @@ use Rattle.lucy_results.proofs.LaterLaws.{joined_count, joined_at}
 use Rattle.lucy_run.specs.Courses.{HasFed, IsFedSoFar, GivesUpBehind}
 use Rattle.lucy_run.specs.Played.{ReadsOn}
 use Rattle.lucy_run.specs.Feeds.{IsShortOf}
-use Rattle.lucy_run.proofs.FedLaws.{read_nothing, fed_by_all}
+use Rattle.lucy_run.proofs.FedLaws.{read_nothing, lines_feed, given_up_lines}
 
 pub fronts_same : (lists : List (List ℤ)) → AreFronts lists lists
 fronts_same lists i = IsFront-refl (list_at lists i)
@@ -54,19 +54,15 @@ module _ (turn : ValuesInTurn) where
   -- what was read feeds main so far
   read_feeds : (Wanting : List ItemOf → Type 0) (input : InputSpec) (inputs : List InputSpec) (first now : SeenSource) (reader : FeedState) (items : List ItemOf) (taken : List ℕ) → HasRead (input ∷ inputs) first now reader items taken →
       IsAskedWhile Wanting (input ∷ inputs) taken → IsFedSoFar Wanting (input ∷ inputs) first now (values_by_stream (length (input ∷ inputs)) items)
-  read_feeds Wanting input inputs first now reader items taken (inl going) asked =
-      let (counted, closed, fault, feeds) = fed_by_all input inputs taken (items ++ going.begin.0) going.begin.1 going.begin.2 in record {
-        taken = taken;
-        asked = asked;
-        stop = Open;
-        read = going.read;
-        others = values_by_stream (length (input ∷ inputs)) (items ++ going.begin.0);
-        fronts = values_front (length (input ∷ inputs)) items going.begin.0;
-        counted = counted;
-        counts = inr (inr refl, closed);
-        fault = fault;
-        fed = feeds;
-      }
+  read_feeds Wanting input inputs first now reader items taken (inl going) asked = record {
+    taken = taken;
+    asked = asked;
+    stop = going.given_up.stop;
+    read = going.given_up.read;
+    others = values_by_stream (length (input ∷ inputs)) (items ++ going.given_up.begin.0);
+    fronts = values_front (length (input ∷ inputs)) items going.given_up.begin.0;
+    fed = given_up_lines (input ∷ inputs) first now items taken going.given_up;
+  }
   read_feeds Wanting input inputs first now reader items taken (inr (stop, halt, stopped)) asked = record {
     taken = taken;
     asked = asked;
@@ -74,10 +70,7 @@ module _ (turn : ValuesInTurn) where
     read = stopped.read;
     others = values_by_stream (length (input ∷ inputs)) items;
     fronts = fronts_same (values_by_stream (length (input ∷ inputs)) items);
-    counted = stop;
-    counts = inl refl;
-    fault = reader.fault;
-    fed = (items, halt, stopped.feed);
+    fed = lines_feed (input ∷ inputs) taken stop (values_by_stream (length (input ∷ inputs)) items) reader.fault (items, halt, stopped.feed);
   }
 
   pub fed_feeds : (words : List Bits) (aim : ℕ) (inputs : List InputSpec) (first now : SeenSource) (reader : FeedState) (items : List ItemOf) → HasFed words aim inputs first now reader items →
@@ -89,28 +82,21 @@ module _ (turn : ValuesInTurn) where
     read = subst (λ u. Read most_bytes first u [] Unread) (sym e) (read_nothing first);
     others = [];
     fronts = λ i. tt;
-    counted = Unread;
-    counts = inl refl;
-    fault = None;
-    fed = (refl, refl, refl, refl);
+    fed = lines_feed [] [] Unread [] None (refl, refl, refl, refl);
   }
   fed_feeds words aim (input ∷ inputs) first now reader items (taken, has, asked) = read_feeds (IsShortOf words aim (input ∷ inputs)) input inputs first now reader items taken has asked
 
   given_up_feeds : (input : InputSpec) (inputs : List InputSpec) (first now : SeenSource) (items : List ItemOf) (taken : List ℕ) → IsGivenUp (input ∷ inputs) first now items taken →
       IsFedSoFar (λ xs. Unit {0}) (input ∷ inputs) first now (values_by_stream (length (input ∷ inputs)) items)
-  given_up_feeds input inputs first now items taken given_up =
-      let (counted, closed, fault, feeds) = fed_by_all input inputs taken (items ++ given_up.begin.0) given_up.begin.1 given_up.begin.2 in record {
-        taken = taken;
-        asked = given_up.asked;
-        stop = Open;
-        read = given_up.read;
-        others = values_by_stream (length (input ∷ inputs)) (items ++ given_up.begin.0);
-        fronts = values_front (length (input ∷ inputs)) items given_up.begin.0;
-        counted = counted;
-        counts = inr (inr refl, closed);
-        fault = fault;
-        fed = feeds;
-      }
+  given_up_feeds input inputs first now items taken given_up = record {
+    taken = taken;
+    asked = given_up.asked;
+    stop = given_up.stop;
+    read = given_up.read;
+    others = values_by_stream (length (input ∷ inputs)) (items ++ given_up.begin.0);
+    fronts = values_front (length (input ∷ inputs)) items given_up.begin.0;
+    fed = given_up_lines (input ∷ inputs) first now items taken given_up;
+  }
 
   -- reading is given up behind what was read
   pub gives_up : (words : List Bits) (aim : ℕ) (before after : SeenSource) (old : FeedState) → (old.reader.inputs ≡ [] → ⊥) → GivesUp before after old → GivesUpBehind words aim before after old
@@ -129,9 +115,6 @@ feeds_less Wanting inputs first now lists more f fed = record {
   read = fed.read;
   others = fed.others;
   fronts = fronts_longer lists more fed.others f fed.fronts;
-  counted = fed.counted;
-  counts = fed.counts;
-  fault = fed.fault;
   fed = fed.fed;
 }
 

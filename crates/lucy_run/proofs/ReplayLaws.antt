@@ -224,7 +224,7 @@ module _ (ops : List Operator) (a : Accepted) (given : Option ℕ) (picks taken 
   judged_ends : (lists : List (List ℤ)) (fault : Option TextFault) (horizon : ℕ) → IsMainFed a given taken stop lists fault horizon → (was now : SeenSink) (result : Result Ending TraceError) →
       LeavesJudged (JudgesFrom (first_core ops a lists horizon) a.placed.nodes a.outputs.items (input_words a) given lists fault picks) was now result → EndsReplay ops a given picks taken stop was now result
   judged_ends lists fault horizon fed was now (Ok end) left =
-      owed_ends (λ counted output way. OwesReplay ops a given picks taken counted output (Ok way)) stop was now end
+      owed_ends (λ output way. OwesReplay ops a given picks taken stop output (Ok way)) was now end
       (owed_more (λ output way. JudgesFrom (first_core ops a lists horizon) a.placed.nodes a.outputs.items (input_words a) given lists fault picks output (Ok way))
       (λ output way. OwesReplay ops a given picks taken stop output (Ok way))
       (λ output way judged. (lists, fault, horizon, fed, by_streams lists fault horizon fed.horizon_is output (Ok way) judged)) was now end left)

@@ -31,8 +31,8 @@ use Rattle.lucy_run.specs.Feeds.{IsMainFeed}
 use Rattle.lucy_run.specs.Owes.{input_words, lines_to, heading, IsHorizonOf, EndsFor, IsMainFed, OwesRun}
 use Rattle.lucy_run.specs.Replays.{tally, IsReplayText, OwesReplay}
 use Rattle.lucy_run.specs.Tracing.{OwesTrace}
-use Rattle.lucy_run.specs.Ends.{EndsWith, EndsTrace, IsFrontOf, Outputs}
-use Rattle.lucy_run.specs.Steps.{first_core, EndsWhole, LeavesFront, OwesTraceOf}
+use Rattle.lucy_run.specs.Ends.{EndsOwed, EndsTrace, IsFrontOf, Outputs}
+use Rattle.lucy_run.specs.Steps.{first_core, EndsWhole, OwesTraceOf}
 use Rattle.lucy_run.proofs.EndsLaws.{take_front}
 
 -- a core can be made of the copies of a net and of inputs, by another schedule of the net
@@ -63,12 +63,12 @@ stand_together core runner net schedule anew inputs ops others instants is stand
 }
 
 -- nothing is a front
-pub front_nothing : (Owes : List ℕ → Ending → Type 0) (s : SeenSink) → LeavesFront Owes s s ending.OutOfMemory
+pub front_nothing : (Owes : List ℕ → Ending → Type 0) (s : SeenSink) → EndsOwed Owes s s ending.OutOfMemory
 front_nothing Owes s = ([], inl refl, unwritten s)
 
 front_written : (Owes : List ℕ → Ending → Type 0) (output : List ℕ) (end : Ending) (was now : SeenSink) → EndsWhole end →
     Owes output end → Writes was now output →
-    LeavesFront Owes was now end
+    EndsOwed Owes was now end
 front_written Owes output ending.Done was now whole owes w = (output, owes, w)
 front_written Owes output (ending.Input f) was now whole owes w = (output, owes, w)
 front_written Owes output (ending.Limit l) was now whole owes w = (output, owes, w)
@@ -78,25 +78,25 @@ front_written Owes output ending.OutOfMemory was now whole owes w = absurd whole
 -- what is left where a net was traced up to a horizon, and the run then ends so
 module _ (net : Net) (horizon : ℕ) (end : Ending) (was now : SeenSink) where
   pub all_traced : EndsWhole end → (text : List ℕ) × IsTraceText net horizon text × Writes was now text →
-      LeavesFront (OwesTraceOf net horizon end) was now end
+      EndsOwed (OwesTraceOf net horizon end) was now end
   all_traced whole (text, trace, w) = front_written (OwesTraceOf net horizon end) text end was now whole (trace, refl) w
 
   pub trace_failed : (text : List ℕ) × IsTraceText net horizon text × Fails was now text →
-      LeavesFront (OwesTraceOf net horizon end) was now ending.WriteFault
-  trace_failed (text, trace, f) = (text, end, (trace, refl), f)
+      EndsOwed (OwesTraceOf net horizon end) was now ending.WriteFault
+  trace_failed (text, trace, f) = (text, (end, (trace, refl)), f)
 
   pub trace_stopped : (front : List ℕ) × (rest : List ℕ) × IsTraceText net horizon (front ++ rest) × Writes was now front →
-      LeavesFront (OwesTraceOf net horizon end) was now ending.OutOfMemory
+      EndsOwed (OwesTraceOf net horizon end) was now ending.OutOfMemory
   trace_stopped (front, rest, trace, w) = (front, inr (front ++ rest, length front, (end, (trace, refl)), take_front front rest), w)
 
 -- the net and the horizon are those of the core beside which it was traced
 pub traced_beside : (net : Net) (anew : Timetable) (inputs : List (List ℤ)) (ops : List Operator) (horizon : ℕ) (core : Seen)
     (end : Ending) (was now : SeenSink)
     (result : Ending) → core ≡ first_seen net anew inputs ops horizon →
-    LeavesFront (OwesTraceOf core.net core.instants end) was now result →
-    LeavesFront (OwesTraceOf net horizon end) was now result
+    EndsOwed (OwesTraceOf core.net core.instants end) was now result →
+    EndsOwed (OwesTraceOf net horizon end) was now result
 traced_beside net anew inputs ops horizon core end was now result is left =
-    subst (λ (s : Seen). LeavesFront (OwesTraceOf s.net s.instants end) was now result) is left
+    subst (λ (s : Seen). EndsOwed (OwesTraceOf s.net s.instants end) was now result) is left
 
 -- a front of an output that is owed is one of an output that is owed so too
 front_of_more : (A B : List ℕ → Type 0) → ((output : List ℕ) → A output → B output) → (front : List ℕ) → IsFrontOf A front →
@@ -106,42 +106,23 @@ front_of_more A B more front (inr (output, n, owed, is)) = inr (output, n, more 
 
 pub front_more : (A B : List ℕ → Ending → Type 0) → ((output : List ℕ) (end : Ending) → A output end → B output end) →
     (was now : SeenSink) (result : Ending) →
-    LeavesFront A was now result → LeavesFront B was now result
-front_more A B more was now ending.WriteFault (output, end, owed, f) = (output, end, more output end owed, f)
-front_more A B more was now ending.OutOfMemory (front, owed, w) = (
-  front,
-  front_of_more (λ output. (end : Ending) × A output end) (λ output. (end : Ending) × B output end)
-      (λ output so. (so.0, more output so.0 so.1)) front owed,
-  w,
-)
+    EndsOwed A was now result → EndsOwed B was now result
+front_more A B more was now ending.WriteFault (output, (end, owed), f) = (output, (end, more output end owed), f)
+front_more A B more was now ending.OutOfMemory (front, owed, w) =
+    (front, front_of_more (Outputs A) (Outputs B) (λ output so. (so.0, more output so.0 so.1)) front owed, w)
 front_more A B more was now ending.Done (output, owed, w) = (output, more output ending.Done owed, w)
 front_more A B more was now (ending.Input f) (output, owed, w) = (output, more output (ending.Input f) owed, w)
 front_more A B more was now (ending.Limit l) (output, owed, w) = (output, more output (ending.Limit l) owed, w)
 
--- and so a call ends, of what is owed as reading stopped
-front_ends : (Owes : ReadStop → List ℕ → Ending → Type 0) (stop : ReadStop) (was now : SeenSink) (result : Ending) →
-    LeavesFront (Owes stop) was now result →
-    EndsWith Owes (λ counted. counted ≡ stop) stop was now result
-front_ends Owes stop was now ending.WriteFault (output, end, owed, f) = (output, (stop, end, refl, owed), f)
-front_ends Owes stop was now ending.OutOfMemory (front, owed, w) = (
-  front,
-  front_of_more (λ output. (end : Ending) × Owes stop output end) (Outputs (λ counted. counted ≡ stop) Owes)
-      (λ output so. (stop, so.0, refl, so.1)) front owed,
-  w,
-)
-front_ends Owes stop was now ending.Done left = left
-front_ends Owes stop was now (ending.Input f) left = left
-front_ends Owes stop was now (ending.Limit l) left = left
-
 -- what is left of a trace up to the horizon of what main is fed
 abbrev pub Leaves : Net → (words : List Bits) → (given : Option ℕ) → Feed → (was now : SeenSink) → Ending → Type 0
 Leaves net words given feed was now result = (horizon : ℕ) × IsHorizonOf words given feed.items horizon
-    × LeavesFront (λ output way. IsTraceText net horizon output × EndsFor words given feed.items feed.stop way) was now result
+    × EndsOwed (λ output way. IsTraceText net horizon output × EndsFor words given feed.items feed.stop way) was now result
 
 pub left_so : (net : Net) (words same : List Bits) (given : Option ℕ) (feed : Feed) (horizon : ℕ) (end : Ending) (was now : SeenSink)
     (result : Ending) →
     words ≡ same → IsHorizonOf words given feed.items horizon → EndsFor words given feed.items feed.stop end →
-    LeavesFront (OwesTraceOf net horizon end) was now result → Leaves net same given feed was now result
+    EndsOwed (OwesTraceOf net horizon end) was now result → Leaves net same given feed was now result
 left_so net words same given feed horizon end was now result e horizon_is ends left =
     let P : List Bits → Type 0 = λ ws. Leaves net ws given feed was now result in
     subst P e (
@@ -162,10 +143,9 @@ trace_done a given taken stop was now result feed answer clocks fed_so is e left
     let (horizon, horizon_is, moved) = subst P e left in
     let feeds = subst (IsMainFeed a.inputs.items taken stop) is fed_so in
     let words : List Bits = param_words a.placed.nodes a.clocks.items in
-    front_ends (OwesTrace a given taken) stop was now result
-    (front_more (λ output way. IsTraceText a.net horizon output × EndsFor words given feed.items feed.stop way)
+    front_more (λ output way. IsTraceText a.net horizon output × EndsFor words given feed.items feed.stop way)
     (OwesTrace a given taken stop)
-    (λ output way so. (feed.items, feed.stop, horizon, record { feeds = feeds; horizon_is = horizon_is }, so.0, so.1)) was now result moved)
+    (λ output way so. (feed.items, feed.stop, horizon, record { feeds = feeds; horizon_is = horizon_is }, so.0, so.1)) was now result moved
 
 -- the replay of a trace, whose events lead to the streams
 pub replayed : (ops : List Operator) (a : Accepted) (given : Option ℕ) (taken : List ℕ) (stop : ReadStop) (output : List ℕ) (end : Ending)

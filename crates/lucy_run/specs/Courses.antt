@@ -26,7 +26,7 @@ use Rattle.lucy_results.specs.Playing.{PlayerView}
 use Rattle.lucy_run.specs.declared.ending.Ending.{Ending}
 use Rattle.lucy_run.specs.declared.pace.Pace.{Pace}
 use Rattle.lucy_run.specs.Paces.{IsBlock}
-use Rattle.lucy_run.specs.Feeds.{Feeds, CountsAs, IsNeededFor}
+use Rattle.lucy_run.specs.Feeds.{Feeds, LinesFeed, IsNeededFor}
 use Rattle.lucy_run.specs.Owes.{most_instants, IsHorizonOf, EndsFor}
 
 -- what is run: the kinds of the host's operators, the nodes with their clocks, and main's inputs and outputs
@@ -70,7 +70,7 @@ HasFed words aim [] first now reader items = (now ≡ first) × AreCounts [] rea
 HasFed words aim (input ∷ inputs) first now reader items =
     (taken : List ℕ) × HasRead (input ∷ inputs) first now reader items taken × IsNeededFor words aim (input ∷ inputs) taken
 
--- these lists are a front of what main is fed by the bytes that were taken, while items were wanting, also where reading was given up
+-- these lists are a front of what the whole lines feed main of the bytes that were taken, while items were wanting, also where reading was given up
 pub record IsFedSoFar (Wanting : List ItemOf → Type 0) (inputs : List InputSpec) (first now : SeenSource) (lists : List (List ℤ)) : Type 0 where
   pub taken : List ℕ
   pub asked : IsAskedWhile Wanting inputs taken
@@ -78,10 +78,7 @@ pub record IsFedSoFar (Wanting : List ItemOf → Type 0) (inputs : List InputSpe
   pub read : Read most_bytes first now taken stop
   pub others : List (List ℤ)
   pub fronts : AreFronts lists others
-  pub counted : ReadStop
-  pub counts : CountsAs stop counted
-  pub fault : Option TextFault
-  pub fed : Feeds inputs taken counted others fault
+  pub fed : LinesFeed inputs taken stop others
 
 -- a program that was run to the horizon on these lists
 pub record IsRunTo (p : Program) (lists : List (List ℤ)) (horizon : ℕ) (player : PlayerView) : Type 0 where

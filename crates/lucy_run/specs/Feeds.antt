@@ -1,13 +1,14 @@
 -- What main is fed by the bytes that were taken from a source.
-use Rattle.std.specs.Prelude.{ℕ, ℤ, ◌≡◌, ◌⊎◌, IsTrue, List, [], ◌∷◌, length, Option, None, Result, Ok, Err, IsSomeAnd}
+use Rattle.std.specs.Prelude.{ℕ, ℤ, ◌≡◌, List, [], ◌∷◌, length, Option, Some, None, Result, Ok, Err, IsSomeAnd}
 use Rattle.lucy_word.specs.Bits.{Bits}
 use Rattle.lucy_word.specs.declared.error.OutOfMemory.{OutOfMemory}
-use Rattle.lucy_lines.specs.Cuts.{ItemOf, Stop as Halt}
+use Rattle.lucy_lines.specs.Cuts.{ItemOf, Stop as Halt, Cut, input_of}
 use Rattle.lucy_lines.specs.declared.input.InputSpec.{InputSpec}
 use Rattle.lucy_lines.specs.declared.reader.TextFault.{TextFault}
+use Rattle.lucy_lines.specs.declared.reader.TextFault.TheVariants.{ReadFault}
 use Rattle.lucy_feed.specs.declared.feeds.Feed.{Feed}
-use Rattle.lucy_text.specs.Sources.{ReadStop, Unread, Ended, Open}
-use Rattle.lucy_feed.specs.Feeding.{is_closed, values_by_stream, IsAskedWhile, IsFeedOf}
+use Rattle.lucy_text.specs.Sources.{ReadStop, Unread, Ended, Failed, Open}
+use Rattle.lucy_feed.specs.Feeding.{is_closed, fault_of, values_by_stream, IsAskedWhile, IsFeedOf}
 use Rattle.lucy_meaning.specs.Horizons.{Suffice}
 
 -- the items of each input, and why they stop before the end of what was to be read; where main has no inputs nothing is read
@@ -29,9 +30,12 @@ abbrev pub IsMainInput : List InputSpec → (left : Option (List ℕ)) → (list
 IsMainInput [] left lists = lists ≡ []
 IsMainInput (input ∷ inputs) left lists = IsSomeAnd left (λ bytes. Feeds (input ∷ inputs) bytes Ended lists None)
 
--- the bytes taken count as read so: as they were, or, where reading was not begun or was given up, as all that there are
-abbrev pub CountsAs : (stop counted : ReadStop) → Type 0
-CountsAs stop counted = (counted ≡ stop) ⊎ (((stop ≡ Unread) ⊎ (stop ≡ Open)) × IsTrue (is_closed counted))
+-- What the whole lines among the bytes taken feed main: the values of their items, up to a line that is refused. A last line without its
+-- line feed is whole where the end was met, and not where reading was given up before that. Before a read that failed no line is refused.
+abbrev pub LinesFeed : List InputSpec → (taken : List ℕ) → ReadStop → (lists : List (List ℤ)) → Type 0
+LinesFeed inputs taken stop lists =
+    (items : List ItemOf) × (halt : Halt) × Cut inputs (is_closed stop) (input_of taken) items halt
+    × (stop ≡ Failed → fault_of stop halt ≡ Some ReadFault) × (lists ≡ values_by_stream (length inputs) items)
 
 -- main was fed so; or memory ran out, and reading was given up
 abbrev pub IsMainFeed : List InputSpec → (taken : List ℕ) → ReadStop → Result Feed OutOfMemory → Type 0

@@ -17,7 +17,7 @@ use Rattle.lucy_front.specs.declared.accepted.Accepted.{Accepted}
 use Rattle.lucy_front.specs.Report.{report}
 use Rattle.lucy_run.specs.declared.ending.Ending.{Ending}
 use Rattle.lucy_run.specs.declared.ending.Ending.TheVariants as ending
-use Rattle.lucy_run.specs.Feeds.{Feeds}
+use Rattle.lucy_run.specs.Feeds.{Feeds, LinesFeed}
 
 -- the instants that are given, or else the most that a run may have
 abbrev pub most_instants : (given : Option ℕ) → ℕ
@@ -64,6 +64,12 @@ abbrev pub OwesRun : List HostKind → Accepted → (given : Option ℕ) → (ta
 OwesRun kinds a given taken stop output end =
     (lists : List (List ℤ)) × (fault : Option TextFault) × (horizon : ℕ) × IsMainFed a given taken stop lists fault horizon
     × (output ≡ heading a ++ lines_to kinds a lists horizon) × EndsFor (input_words a) given lists fault end
+
+-- in what `run` may break off, by the bytes taken and how reading stopped: the heading, and the lines that the items of their whole lines allow
+abbrev pub LinesAllow : List HostKind → Accepted → (given : Option ℕ) → (taken : List ℕ) → ReadStop → (output : List ℕ) → Type 0
+LinesAllow kinds a given taken stop output =
+    (lists : List (List ℤ)) × (horizon : ℕ) × LinesFeed a.inputs.items taken stop lists × IsHorizonOf (input_words a) given lists horizon
+    × (output ≡ heading a ++ lines_to kinds a lists horizon)
 
 -- what the plain interpreter comes to up to the horizon: a limit that it passes, and no line, or the lines
 abbrev pub Interprets : List HostKind → List PlacedNode → List NodeClock → List OutputSpec → (given : Option ℕ) → (lists : List (List ℤ)) → Option TextFault → (horizon : ℕ) →

@@ -27,21 +27,12 @@ use Rattle.lucy_run.specs.declared.ending.Ending.{Ending}
 use Rattle.lucy_run.specs.declared.ending.Ending.TheVariants as ending
 use Rattle.lucy_run.specs.declared.playing.Played.{Played}
 use Rattle.lucy_run.specs.Owes.{input_words, EndsFor, IsHorizonOf}
-use Rattle.lucy_run.specs.Ends.{IsFrontOf}
 
 -- the output that is owed with this ending was written; or a write of an output that is owed failed; or memory ran out before that
 abbrev pub LeavesOwed : (Owes : List ℕ → Ending → Type 0) → (before after : SeenSink) → (result : Ending) → Type 0
 LeavesOwed Owes before after ending.WriteFault = (output : List ℕ) × (end : Ending) × Owes output end × Fails before after output
 LeavesOwed Owes before after ending.OutOfMemory = after ≡ before
 LeavesOwed Owes before after result = (output : List ℕ) × Owes output result × Writes before after output
-
--- the output that is owed with this ending was written; or a write of one that is owed failed; or memory ran out, and a front of one
--- was written
-abbrev pub LeavesFront : (Owes : List ℕ → Ending → Type 0) → (before after : SeenSink) → (result : Ending) → Type 0
-LeavesFront Owes before after ending.WriteFault = (output : List ℕ) × (end : Ending) × Owes output end × Fails before after output
-LeavesFront Owes before after ending.OutOfMemory =
-    (front : List ℕ) × IsFrontOf (λ output. (end : Ending) × Owes output end) front × Writes before after front
-LeavesFront Owes before after result = (output : List ℕ) × Owes output result × Writes before after output
 
 -- a write of the text failed, or memory ran out before one
 abbrev pub LeavesUnwritten : (text : List ℕ) → (before after : SeenSink) → (result : Ending) → Type 0

@@ -10,7 +10,7 @@ ghost use Rattle.lucy_results.specs.Streams.{param_words};
 ghost use Rattle.lucy_results.specs.Running.{HasSchedule};
 ghost use Rattle.lucy_run.specs.Paces.{AreInstants};
 ghost use Rattle.lucy_run.specs.Owes.{IsHorizonOf, Interprets, OwesKahn};
-ghost use Rattle.lucy_run.specs.Ends.{EndsWith};
+ghost use Rattle.lucy_run.specs.Ends.{EndsOwed};
 ghost use Rattle.lucy_run.specs.Calls.{WasAccepted, ReadsAndEnds};
 ghost use Rattle.lucy_run.specs.Steps.{refusal_ending, LeavesOwed};
 
@@ -96,8 +96,7 @@ pub fn kahn<F: Fn(u32, i64, i64) -> i64 + Sync, I: Source, O: Sink>(
     requires few { AreInstants instants }
     requires given { accepted.inputs.items ≡ [] → instants ≢ None }
     ensures ends { ReadsAndEnds accepted.inputs.items (I.seen source.old) (I.seen source.new)
-        (λ taken stop. EndsWith (OwesKahn (kinds_of (lent host.now)) accepted instants taken) (λ counted. counted ≡ stop) stop
-        (O.seen out.old) (O.seen out.new) result) }
+        (λ taken stop. EndsOwed (OwesKahn (kinds_of (lent host.now)) accepted instants taken stop) (O.seen out.old) (O.seen out.new) result) }
     ensures unread { accepted.inputs.items ≡ [] → source.new ≡ source.old }
     ensures source_count { (I.seen source.old).faults ≤ (I.seen source.new).faults }
     ensures out_count { (O.seen out.old).faults ≤ (O.seen out.new).faults }

@@ -6,8 +6,7 @@ ghost use Rattle.lucy_meaning.specs.Spots.{main_of};
 ghost use Rattle.lucy_kahn.specs.Turns.{params_in};
 ghost use Rattle.lucy_output.specs.Outputs.{output_text};
 ghost use Rattle.lucy_run.specs.Paces.{AreInstants, AreWorkers};
-ghost use Rattle.lucy_run.specs.Feeds.{CountsAs};
-ghost use Rattle.lucy_run.specs.Owes.{OwesRun};
+ghost use Rattle.lucy_run.specs.Owes.{OwesRun, LinesAllow};
 ghost use Rattle.lucy_run.specs.Ends.{EndsWith};
 ghost use Rattle.lucy_run.specs.Calls.{WasAccepted, ReadsAndEnds};
 ghost use Rattle.lucy_run.specs.Steps.{HasPlayed, LeavesWritten};
@@ -127,8 +126,8 @@ fn play_accepted<N: Engine<F>, F, I: Source, O: Sink>(
     requires workers { AreWorkers workers }
     requires given { accepted.now.inputs.items ≡ [] → instants ≢ None }
     ensures ends { ReadsAndEnds accepted.now.inputs.items (I.seen source.old) (I.seen source.new)
-        (λ taken stop. EndsWith (OwesRun (kinds_of (lent host.now)) accepted.now instants taken) (CountsAs stop) stop
-        (O.seen out.old) (O.seen out.new) result) }
+        (λ taken stop. EndsWith (OwesRun (kinds_of (lent host.now)) accepted.now instants taken stop)
+        (LinesAllow (kinds_of (lent host.now)) accepted.now instants taken stop) (O.seen out.old) (O.seen out.new) result) }
     ensures unread { accepted.now.inputs.items ≡ [] → source.new ≡ source.old }
     ensures source_count { (I.seen source.old).faults ≤ (I.seen source.new).faults }
     ensures out_count { (O.seen out.old).faults ≤ (O.seen out.new).faults }
@@ -172,8 +171,8 @@ pub fn run_by<N: Engine<F>, F, I: Source, O: Sink>(
     requires workers { AreWorkers workers }
     requires given { accepted.inputs.items ≡ [] → instants ≢ None }
     ensures ends { ReadsAndEnds accepted.inputs.items (I.seen source.old) (I.seen source.new)
-        (λ taken stop. EndsWith (OwesRun (kinds_of (lent host.now)) accepted instants taken) (CountsAs stop) stop
-        (O.seen out.old) (O.seen out.new) result) }
+        (λ taken stop. EndsWith (OwesRun (kinds_of (lent host.now)) accepted instants taken stop)
+        (LinesAllow (kinds_of (lent host.now)) accepted instants taken stop) (O.seen out.old) (O.seen out.new) result) }
     ensures unread { accepted.inputs.items ≡ [] → source.new ≡ source.old }
     ensures source_count { (I.seen source.old).faults ≤ (I.seen source.new).faults }
     ensures out_count { (O.seen out.old).faults ≤ (O.seen out.new).faults }

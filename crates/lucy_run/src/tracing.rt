@@ -16,9 +16,9 @@ ghost use Rattle.lucy_flat.specs.Flat.{IsFlat};
 ghost use Rattle.lucy_results.specs.Streams.{param_words};
 ghost use Rattle.lucy_run.specs.Paces.{AreInstants, AreWorkers};
 ghost use Rattle.lucy_run.specs.Owes.{IsHorizonOf, EndsFor};
-ghost use Rattle.lucy_run.specs.Ends.{EndsTrace};
+ghost use Rattle.lucy_run.specs.Ends.{EndsOwed, EndsTrace};
 ghost use Rattle.lucy_run.specs.Calls.{WasAccepted, ReadsAndEnds};
-ghost use Rattle.lucy_run.specs.Steps.{EndsWhole, LeavesFront, OwesTraceOf};
+ghost use Rattle.lucy_run.specs.Steps.{EndsWhole, OwesTraceOf};
 
 use crate::copying::copy_net;
 use crate::ending::Ending;
@@ -97,7 +97,7 @@ fn trace_pair<F: Fn(u32, i64, i64) -> i64 + Sync, O: Sink>(
     requires unbegun { IsUnbegun core.old }
     requires together { AreTogether core.old runner.old.seen }
     requires whole { EndsWhole ending }
-    ensures left { LeavesFront (OwesTraceOf core.old.net core.old.instants ending) (O.seen out.old) (O.seen out.new) result }
+    ensures left { EndsOwed (OwesTraceOf core.old.net core.old.instants ending) (O.seen out.old) (O.seen out.new) result }
     ensures count { (O.seen out.old).faults ≤ (O.seen out.new).faults }
 {
     match lucy_trace::trace(alloc, runner, core, host, out) {
@@ -125,7 +125,7 @@ fn trace_net<F: Fn(u32, i64, i64) -> i64 + Sync, O: Sink>(
     requires few { count < 2 ^ 32 - 1 }
     requires workers { AreWorkers workers }
     requires whole { EndsWhole extent.ending }
-    ensures left { LeavesFront (OwesTraceOf net extent.horizon extent.ending) (O.seen out.old) (O.seen out.new) result }
+    ensures left { EndsOwed (OwesTraceOf net extent.horizon extent.ending) (O.seen out.old) (O.seen out.new) result }
     ensures count { (O.seen out.old).faults ≤ (O.seen out.new).faults }
 {
     let Extent { horizon, ending } = extent;
@@ -168,7 +168,7 @@ fn trace_feed<F: Fn(u32, i64, i64) -> i64 + Sync, O: Sink>(
     requires few { AreInstants given }
     requires workers { AreWorkers workers }
     ensures left { (horizon : ℕ) × IsHorizonOf (param_words placed.now.nodes clocks.now) given feed.items horizon
-        × LeavesFront (λ output way. IsTraceText net horizon output
+        × EndsOwed (λ output way. IsTraceText net horizon output
         × EndsFor (param_words placed.now.nodes clocks.now) given feed.items feed.stop way)
         (O.seen out.old) (O.seen out.new) result }
     ensures count { (O.seen out.old).faults ≤ (O.seen out.new).faults }

@@ -19,7 +19,7 @@ use Rattle.lucy_front.specs.declared.refusal.Refusal.{Refusal}
 use Rattle.lucy_front.specs.Accepting.{IsAccepted, Refuses}
 use Rattle.lucy_run.specs.declared.ending.Ending.{Ending}
 use Rattle.lucy_run.specs.declared.ending.Ending.TheVariants.{Done, Input, Limit, WriteFault, OutOfMemory}
-use Rattle.lucy_run.specs.Ends.{IsFrontOf, Outputs, EndsWith}
+use Rattle.lucy_run.specs.Ends.{IsFrontOf, Outputs, EndsOwed}
 use Rattle.lucy_wave.specs.Waves.{OwesWave}
 use Rattle.lucy_app.specs.Answers.{Answer, out_of_memory}
 use Rattle.lucy_app.specs.Commands.{HasText}
@@ -138,13 +138,10 @@ module _ (w : WaveWords) (ops lends : List Operator) (lent : ops ≡ lends) (fet
         Owes (ask.Wave w) (given_of lends fetched taken stop) (ended_answer output end)
     answer_owed output end owed = inr (text_more fetched _ _ (λ text is. (a, is.0, inr (is.1, output, end, owed, refl))) can)
 
-    output_owed : (output : List ℕ) → Outputs (λ counted. counted ≡ stop) (OwesWave (kinds_of lends) a w.instants taken) output →
-        OwesOutput (ask.Wave w) (given_of lends fetched taken stop) output
-    output_owed output (counted, end, same, owed) =
-        let P : ReadStop → Type 0 = λ s. OwesWave (kinds_of lends) a w.instants taken s output end in
-        (ended_answer output end, answer_owed output end (subst P same owed), refl)
+    output_owed : (output : List ℕ) → Outputs (OwesWave (kinds_of lends) a w.instants taken stop) output → OwesOutput (ask.Wave w) (given_of lends fetched taken stop) output
+    output_owed output (end, owed) = (ended_answer output end, answer_owed output end owed, refl)
 
-    front_owed : (front : List ℕ) → IsFrontOf (Outputs (λ counted. counted ≡ stop) (OwesWave (kinds_of lends) a w.instants taken)) front →
+    front_owed : (front : List ℕ) → IsFrontOf (Outputs (OwesWave (kinds_of lends) a w.instants taken stop)) front →
         IsFrontOf (OwesOutput (ask.Wave w) (given_of lends fetched taken stop)) front
     front_owed front (inl none) = inl none
     front_owed front (inr is) = inr (is.0, is.1, output_owed is.0 is.2, is.3)
@@ -159,12 +156,12 @@ module _ (w : WaveWords) (ops lends : List Operator) (lent : ops ≡ lends) (fet
     untold : (output : List ℕ) (end : Ending) (out out' err err' : SeenSink) (status : ℕ) → OwesWave (kinds_of lends) a w.instants taken stop output end →
         Writes out out' output → Tells 7 (out_of_memory output).err err err' status → EndsGiven (ask.Wave w) (given_of lends fetched taken stop) out out' err err' status
     untold output end out out' err err' status owed writes told =
-        let front = inr (output, length output, output_owed output (stop, end, refl, owed), sym (take_all (length output) output (omega arith))) in
+        let front = inr (output, length output, output_owed output (end, owed), sym (take_all (length output) output (omega arith))) in
         inl (out_of_memory output, inr (output, front, refl), record { printed = writes; told = told })
 
     -- how it ended_answer was told
     ends_run : (end : Ending) (out out' err err' : SeenSink) (status : ℕ) →
-        EndsWith (OwesWave (kinds_of lends) a w.instants taken) (λ counted. counted ≡ stop) stop out out' end → TellsEnding end err err' status →
+        EndsOwed (OwesWave (kinds_of lends) a w.instants taken stop) out out' end → TellsEnding end err err' status →
         EndsGiven (ask.Wave w) (given_of lends fetched taken stop) out out' err err' status
     ends_run Done out out' err err' status left told = whole left.0 Done out out' err err' status left.1 left.2 told
     ends_run (Input fault) out out' err err' status left (inl told) = whole left.0 (Input fault) out out' err err' status left.1 left.2 told
@@ -178,7 +175,7 @@ module _ (w : WaveWords) (ops lends : List Operator) (lent : ops ≡ lends) (fet
   -- the program was run
   pub ran : (before after : SeenSource) (out out' err err' : SeenSink) (status : ℕ) (a : Accepted) (end : Ending) → answer ≡ Ok a → (a.inputs.items ≡ [] → after ≡ before) →
       (taken : List ℕ) (stop : ReadStop) → Read (limit_number limit.Input) before after taken stop → IsAsked a.inputs.items taken →
-      EndsWith (OwesWave (kinds_of lends) a w.instants taken) (λ counted. counted ≡ stop) stop out out' end → TellsEnding end err err' status →
+      EndsOwed (OwesWave (kinds_of lends) a w.instants taken stop) out out' end → TellsEnding end err err' status →
       (others : List ℕ) × (halt : ReadStop) × Read (limit_number limit.Input) before after others halt × Reads before after others
       × EndsGiven (ask.Wave w) (given_of lends fetched others halt) out out' err err' status
   ran before after out out' err err' status a end is alone taken stop read asked left told =

@@ -17,7 +17,7 @@ use Rattle.lucy_text.specs.Sources.{ReadStop, Read}
 use Rattle.lucy_front.specs.declared.refusal.Refusal.{Refusal}
 use Rattle.lucy_front.specs.Refusals.{memory_line, refusal_text}
 use Rattle.lucy_app.specs.ProgramRefusals.{program_status}
-use Rattle.lucy_app.specs.Answers.{Answer, printed, refused, read_fault, out_of_memory}
+use Rattle.lucy_app.specs.Answers.{Answer, OutputOf, printed, refused, read_fault, out_of_memory}
 use Rattle.lucy_app.specs.Ends.{Tells, EndsBy}
 use Rattle.lucy_app.specs.World.{World, Fetched}
 use Rattle.lucy_app.specs.Commands.{program_of}
@@ -36,7 +36,7 @@ use Rattle.lucy_asking.specs.CommandLine.{line}
 use Rattle.lucy_asking.specs.Asks.{name_of, name_in, asked_name, Asks}
 use Rattle.lucy_views.specs.Meets.{most_input, picture_file, ReadsSource}
 use Rattle.lucy_views.specs.Owes.{missing_line, shown_refused, OwesPicture}
-use Rattle.lucy_views.specs.Looks.{EndsGiven, EndsSo, OutputOf, is_fault, OwesSaid, OwesWords, Looks}
+use Rattle.lucy_views.specs.Looks.{EndsGiven, EndsSo, is_fault, OwesSaid, OwesWords, Looks}
 use Rattle.lucy_views.specs.Failures.{failure_answer, shown_answer, TellsFailure, Prints, IsOutcome, LacksMemory, Delivers, EndsSaying, given_of, unread}
 
 -- a sink that is as it was has no more bytes

@@ -13,7 +13,7 @@ use Rattle.lucy_front.specs.declared.options.Options.{Options}
 use Rattle.lucy_front.specs.declared.refusal.Refusal.{Refusal}
 use Rattle.lucy_front.specs.declared.refusal.Refusal.TheVariants as front
 use Rattle.lucy_front.specs.Refusals.{IsTellable, memory_line}
-use Rattle.lucy_app.specs.Answers.{Answer, printed, read_fault, program_refused, out_of_memory}
+use Rattle.lucy_app.specs.Answers.{Answer, OutputOf, printed, read_fault, program_refused, out_of_memory}
 use Rattle.lucy_app.specs.Commands.{HasText}
 use Rattle.lucy_app.specs.Ends.{Tells, Answers, Breaks, EndsBy}
 use Rattle.lucy_app.specs.Programs.{OwesText}
@@ -25,7 +25,7 @@ use Rattle.lucy_views.specs.declared.failure.Failure.TheVariants.{Program, Lacks
 use Rattle.lucy_views.specs.declared.shown.Shown.{Shown}
 use Rattle.lucy_asking.specs.declared.ask.Sought.{Sought}
 use Rattle.lucy_views.specs.Owes.{missing, shown_refused, RefusesSought, OwesWhere}
-use Rattle.lucy_views.specs.Looks.{OwesSaid, OutputOf}
+use Rattle.lucy_views.specs.Looks.{OwesSaid}
 
 -- a program is refused for a reason that has a text
 abbrev pub Tellable : Failure → Type 0

@@ -6,7 +6,7 @@ use Rattle.clap.specs.declared.error.kind.ErrorKind.{ErrorKind}
 use Rattle.clap.specs.declared.error.kind.ErrorKind.TheVariants as kind
 use Rattle.lucy_text.specs.Outside.{SeenSink}
 use Rattle.lucy_run.specs.Ends.{IsFrontOf}
-use Rattle.lucy_app.specs.Answers.{Answer, printed, refused}
+use Rattle.lucy_app.specs.Answers.{Answer, OutputOf, printed, refused}
 use Rattle.lucy_app.specs.World.{World, Given}
 use Rattle.lucy_app.specs.Ends.{EndsBy}
 use Rattle.lucy_asking.specs.declared.ask.Ask.{Ask}
@@ -16,10 +16,6 @@ use Rattle.lucy_asking.specs.CommandLine.{line}
 use Rattle.lucy_asking.specs.Asks.{Asks}
 use Rattle.lucy_views.specs.Meets.{Meets}
 use Rattle.lucy_views.specs.Owes.{missing, Owes}
-
--- the output of an answer that is owed
-abbrev pub OutputOf : (Owed : Answer → Type 0) → (output : List ℕ) → Type 0
-OutputOf Owed output = (answer : Answer) × Owed answer × (output ≡ answer.out)
 
 -- an output that is owed
 abbrev pub OwesOutput : Ask → Given → (output : List ℕ) → Type 0

@@ -24,7 +24,7 @@ use Rattle.lucy_run.specs.declared.ending.Ending.{Ending}
 use Rattle.lucy_run.specs.declared.ending.Ending.TheVariants as ending
 use Rattle.lucy_run.specs.Feeds.{IsMainFeed}
 use Rattle.lucy_run.specs.Owes.{EndsFor, IsHorizonOf}
-use Rattle.lucy_run.specs.Ends.{EndsWith}
+use Rattle.lucy_run.specs.Ends.{EndsOwed}
 use Rattle.lucy_run.specs.Steps.{LeavesOwed}
 use Rattle.lucy_run.proofs.EndsLaws.{ends_whole, owed_written, owed_more, owed_ends}
 use Rattle.lucy_need.specs.Meeting.{assigned}
@@ -55,7 +55,7 @@ module _ (kinds : List HostKind) (a : Accepted) (given : Option ℕ) where
   -- what a call of `wave` leaves
   abbrev pub WaveGives : (before after : SeenSource) (was now : SeenSink) → Ending → Type 0
   WaveGives before after was now result = (taken : List ℕ) × (stop : ReadStop) × Read most_bytes before after taken stop
-      × IsAsked a.inputs.items taken × EndsWith (OwesWave kinds a given taken) (λ counted. counted ≡ stop) stop was now result
+      × IsAsked a.inputs.items taken × EndsOwed (OwesWave kinds a given taken stop) was now result
 
   -- memory ran out while the input was read
   pub wave_given_up : (before after : SeenSource) (taken : List ℕ) (stop : ReadStop) (o : SeenSink) → Read most_bytes before after taken stop → IsAsked a.inputs.items taken → WaveGives before after o o ending.OutOfMemory
@@ -77,7 +77,7 @@ module _ (kinds : List HostKind) (a : Accepted) (given : Option ℕ) where
         stop,
         read,
         asked,
-        owed_ends (OwesWave kinds a given taken) stop was now result
+        owed_ends (OwesWave kinds a given taken stop) was now result
             (owed_more (Waves kinds a.placed.nodes a.clocks.items a.net a.outputs.items given feed.items feed.stop horizon) (OwesWave kinds a given taken stop)
             (λ output end owed. (feed.items, feed.stop, horizon, record { feeds = feeds; horizon_is = horizon_is }, owed)) was now result moved),
       )

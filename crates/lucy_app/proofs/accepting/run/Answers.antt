@@ -1,9 +1,9 @@
-use Rattle.std.proofs.Common.{refl, ap, subst, inl, ◌∷◌, []}
+use Rattle.std.proofs.Common.{ap, subst, ◌∷◌, []}
 use Rattle.lucy_host.specs.Host.{lent}
 use Rattle.lucy_host.specs.Operators.{kinds_of}
-use Rattle.lucy_run.specs.Feeds.{CountsAs}
-use Rattle.lucy_run.specs.Owes.{OwesRun}
+use Rattle.lucy_run.specs.Owes.{OwesRun, LinesAllow}
 use Rattle.lucy_run.specs.Ends.{FailsInOrder}
+use Rattle.lucy_run.proofs.FedLaws.{owed_allowed}
 use Rattle.lucy_command.specs.Named.{block_or_default}
 use Rattle.lucy_app.specs.Commands.{inferring_options}
 use Rattle.lucy_app.specs.Outcomes.{bytes_of}
@@ -13,15 +13,15 @@ use Rattle.lucy_app.proofs.accepting.run.Goals as goal
 pub returns-in-Ok-clause-ends : goal.returns-in-Ok-clause-ends
 returns-in-Ok-clause-ends g c =
     let (taken, stop, read, left) = c.run-ending.ensures.ends in
-    ran (λ taken stop a. OwesRun (kinds_of (lent c.args.host.now)) a c.args.words.instants taken stop) CountsAs
-    (λ taken stop a out out'. FailsInOrder (kinds_of (lent c.args.host.now)) a c.args.words.instants (block_or_default c.args.words.block) taken stop out out') (λ stop. inl refl) c.ops.result.now (lent c.args.host.now) c.inferring-options.result
+    ran (λ taken stop a. OwesRun (kinds_of (lent c.args.host.now)) a c.args.words.instants taken stop) (λ taken stop a. LinesAllow (kinds_of (lent c.args.host.now)) a c.args.words.instants taken stop)
+    (λ taken stop a out out'. FailsInOrder (kinds_of (lent c.args.host.now)) a c.args.words.instants (block_or_default c.args.words.block) taken stop out out') (λ taken stop a. owed_allowed (kinds_of (lent c.args.host.now)) a c.args.words.instants taken stop) c.ops.result.now (lent c.args.host.now) c.inferring-options.result
     (inferring_options c.args.words.scale c.args.words.lead) c.args.words.instants (bytes_of c.args.fetched ∷ []) c.accepted.result c.ops.ensures c.inferring-options.ensures.is c.accepted.ensures.accepting
     _ _ _ _ _ _ _ c.in-Ok.accepted _ c.in-Ok.is (λ none. ap g.I.Source.seen (c.run-ending.ensures.unread none)) taken stop read left.asked left.output
     (λ fault. subst (λ b. FailsInOrder (kinds_of (lent c.args.host.now)) c.in-Ok.accepted c.args.words.instants b taken stop (g.O.Sink.seen c.args.out.now) (g.O.Sink.seen c.run-ending.new.out)) c.block_or_default.ensures.is (left.in_order fault)) c.conclude.ensures.told
 
 pub returns-in-Err-clause-ends : goal.returns-in-Err-clause-ends
 returns-in-Err-clause-ends g c =
-    unrun (λ taken stop a. OwesRun (kinds_of (lent c.args.host.now)) a c.args.words.instants taken stop) CountsAs
-    (λ taken stop a out out'. FailsInOrder (kinds_of (lent c.args.host.now)) a c.args.words.instants (block_or_default c.args.words.block) taken stop out out') (λ stop. inl refl) c.ops.result.now (lent c.args.host.now) c.inferring-options.result
+    unrun (λ taken stop a. OwesRun (kinds_of (lent c.args.host.now)) a c.args.words.instants taken stop) (λ taken stop a. LinesAllow (kinds_of (lent c.args.host.now)) a c.args.words.instants taken stop)
+    (λ taken stop a out out'. FailsInOrder (kinds_of (lent c.args.host.now)) a c.args.words.instants (block_or_default c.args.words.block) taken stop out out') (λ taken stop a. owed_allowed (kinds_of (lent c.args.host.now)) a c.args.words.instants taken stop) c.ops.result.now (lent c.args.host.now) c.inferring-options.result
     (inferring_options c.args.words.scale c.args.words.lead) c.args.words.instants (bytes_of c.args.fetched ∷ []) c.accepted.result c.ops.ensures c.inferring-options.ensures.is c.accepted.ensures.accepting
     _ _ _ _ _ c.in-Err.refusal c.in-Err.is c.refuse.ensures.told

@@ -1,5 +1,4 @@
-use Rattle.std.proofs.lemmas.Result.{IfOk-at_ok, IfErr-at_err}
-use Rattle.lucy_app.proofs.Replays.{unfetched_read, misread, log_read}
+use Rattle.lucy_app.proofs.Replays.{unfetched_read}
 use Rattle.lucy_app.proofs.log.picks.Goals as goal
 
 pub returns-in-Err-clause-read : goal.returns-in-Err-clause-read

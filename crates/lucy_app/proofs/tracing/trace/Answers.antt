@@ -1,6 +1,7 @@
-use Rattle.std.proofs.Common.{◌≡◌, refl, ap, ◌∷◌, []}
+use Rattle.std.proofs.Common.{ap, ◌∷◌, []}
 use Rattle.lucy_host.specs.Host.{lent}
 use Rattle.lucy_run.specs.Tracing.{OwesTrace}
+use Rattle.lucy_run.specs.Ends.{Outputs}
 use Rattle.lucy_app.specs.Commands.{inferring_options}
 use Rattle.lucy_app.specs.Outcomes.{bytes_of}
 use Rattle.lucy_app.proofs.RunEnds.{unrun, ran}
@@ -9,8 +10,8 @@ use Rattle.lucy_app.proofs.tracing.trace.Goals as goal
 pub returns-in-Ok-clause-ends : goal.returns-in-Ok-clause-ends
 returns-in-Ok-clause-ends g c =
     let (taken, stop, read, asked, left) = c.trace-ending.ensures.ends in
-    ran (λ taken stop a. OwesTrace a c.args.words.instants taken stop) (λ stop counted. counted ≡ stop) (λ taken stop a out out'. Unit {0})
-    (λ stop. refl) c.ops.result.now (lent c.args.host.now) c.inferring-options.result
+    ran (λ taken stop a. OwesTrace a c.args.words.instants taken stop) (λ taken stop a. Outputs (OwesTrace a c.args.words.instants taken stop)) (λ taken stop a out out'. Unit {0})
+    (λ taken stop a output end owed. (end, owed)) c.ops.result.now (lent c.args.host.now) c.inferring-options.result
     (inferring_options c.args.words.scale c.args.words.lead) c.args.words.instants (bytes_of c.args.fetched ∷ []) c.accepted.result
     c.ops.ensures
     c.inferring-options.ensures.is c.accepted.ensures.accepting
@@ -19,9 +20,9 @@ returns-in-Ok-clause-ends g c =
 
 pub returns-in-Err-clause-ends : goal.returns-in-Err-clause-ends
 returns-in-Err-clause-ends g c =
-    unrun (λ taken stop a. OwesTrace a c.args.words.instants taken stop) (λ stop counted. counted ≡ stop)
+    unrun (λ taken stop a. OwesTrace a c.args.words.instants taken stop) (λ taken stop a. Outputs (OwesTrace a c.args.words.instants taken stop))
     (λ taken stop a out out'. Unit {0})
-    (λ stop. refl) c.ops.result.now (lent c.args.host.now) c.inferring-options.result
+    (λ taken stop a output end owed. (end, owed)) c.ops.result.now (lent c.args.host.now) c.inferring-options.result
     (inferring_options c.args.words.scale c.args.words.lead) c.args.words.instants (bytes_of c.args.fetched ∷ []) c.accepted.result
     c.ops.ensures
     c.inferring-options.ensures.is c.accepted.ensures.accepting

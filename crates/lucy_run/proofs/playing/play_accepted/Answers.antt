@@ -40,10 +40,9 @@ returns-in-Err-main_feed-clause-ends g c =
     let (taken, stop, read, asked, fed) = c.main_feed.ensures.fed in
     engine_unfed (kinds_of (lent c.args.host.now)) a c.args.instants (g.I.Source.seen c.args.source.now) (g.I.Source.seen
     c.main_feed.new.source)
-    (g.O.Sink.seen c.args.out.now) (g.O.Sink.seen c.write_heading.new.out) (heading a) taken stop refl head read
+    (g.O.Sink.seen c.args.out.now) (g.O.Sink.seen c.write_heading.new.out) taken stop head read
     (subst (λ (u : List InputSpec). IsAsked u taken) same asked)
     (subst (IsMainFeed c.in-Ok.inputs.items taken stop) c.in-Err-main_feed.is fed)
-    (λ none. ap g.I.Source.seen (c.main_feed.ensures.unread (same ∙ none)))
 
 pub returns-in-Err-main_feed-clause-unread : goal.returns-in-Err-main_feed-clause-unread
 returns-in-Err-main_feed-clause-unread g c =
