@@ -1,5 +1,5 @@
 -- An instant is played when all its firings are.
-use Rattle.std.proofs.Common.{ℕ, suc, ◌+◌, ◌<◌, ◌≡◌, List, [], ◌∷◌, length, set, get_or, ap, sym, ◌∙◌, subst, inl, inr, arith}
+use Rattle.std.proofs.Common.{below_more, ℕ, suc, ◌+◌, ◌<◌, ◌≤◌, ◌≡◌, List, [], ◌∷◌, length, set, get_or, ap, sym, ◌∙◌, subst, inl, inr, arith}
 use Rattle.std.specs.Prelude.{Some, slice_get, slice_index, All}
 use Rattle.std.proofs.lemmas.Bool.{cases_eq, cases_lt, lt-ltb}
 use Rattle.std.proofs.lemmas.List.{length-set, get_or-set_same, get_or-set_other, get_or_past}
@@ -14,6 +14,7 @@ use Rattle.lucy_net.specs.Proper.{numbers_where, IsProper}
 use Rattle.lucy_net.specs.Schedules.{IsOrder}
 use Rattle.lucy_net.specs.Instants.{slot, is_busy}
 use Rattle.lucy_cause.specs.Play.{done_in, IsPlayedSoFar, CanBeginInstant}
+use Rattle.lucy_cause.specs.declared.settle.Wait.{Wait}
 use Rattle.lucy_cause.specs.Settling.{AreFiringsOver}
 use Rattle.lucy_net.proofs.WhereLaws.{times_yes, where_all, operand_of}
 use Rattle.lucy_net.proofs.NetLaws.{given_by_word, taken_by_word, ring_cases}
@@ -66,24 +67,24 @@ busy_all net n firing P e all a l =
     let o : IsOperand firing at.0 a = at.1 in
     subst P o.is (All-get_or P firing at.0 0 o.there all)
 
-steps_full : (net : Net) (n : ℕ) (firing order steps held depth : List ℕ) → firing ≡ numbers_where (is_busy net n) (length net.actors) → IsPlayedSoFar net n order steps held → AreFiringsOver net n firing steps depth → (a : ℕ) → slice_index steps a ≡ length (slot net n a)
-steps_full net n firing order steps held depth e played over a = elim (cases_lt 0 (length (slot net n a))) [
+steps_full : (net : Net) (n : ℕ) (firing order steps held depth : List ℕ) (waits : List Wait) → firing ≡ numbers_where (is_busy net n) (length net.actors) → IsPlayedSoFar net n order steps held → AreFiringsOver net n firing steps depth waits → (a : ℕ) → slice_index steps a ≡ length (slot net n a)
+steps_full net n firing order steps held depth waits e played over a = elim (cases_lt 0 (length (slot net n a))) [
   | inl some ↦ busy_all net n firing (λ b. slice_index steps b ≡ length (slot net n b)) e over.done a some
   | inr none ↦ omega (arith, played.within a)
 ]
 
 -- then the events are an order of the instant
-pub ordered : (net : Net) (n : ℕ) (firing order steps held depth : List ℕ) → firing ≡ numbers_where (is_busy net n) (length net.actors) → IsPlayedSoFar net n order steps held → AreFiringsOver net n firing steps depth → IsOrder net n order
-ordered net n firing order steps held depth e played over = record {
+pub ordered : (net : Net) (n : ℕ) (firing order steps held depth : List ℕ) (waits : List Wait) → firing ≡ numbers_where (is_busy net n) (length net.actors) → IsPlayedSoFar net n order steps held → AreFiringsOver net n firing steps depth waits → IsOrder net n order
+ordered net n firing order steps held depth waits e played over = record {
   run = played.run;
-  ends = λ a. omega (arith, played.steps_are a, steps_full net n firing order steps held depth e played over a, done_more net n a);
+  ends = λ a. omega (arith, played.steps_are a, steps_full net n firing order steps held depth waits e played over a, done_more net n a);
 }
 
 -- and the next one can begin
-pub ready_again : (net : Net) (n : ℕ) (firing order steps held depth new_steps : List ℕ) → IsProper net → firing ≡ numbers_where (is_busy net n) (length net.actors) → IsPlayedSoFar net n order steps held → AreFiringsOver net n firing steps depth →
+pub ready_again : (net : Net) (n : ℕ) (firing order steps held depth new_steps : List ℕ) (waits : List Wait) → IsProper net → firing ≡ numbers_where (is_busy net n) (length net.actors) → IsPlayedSoFar net n order steps held → AreFiringsOver net n firing steps depth waits →
     length new_steps ≡ length steps → All (λ a. slice_index new_steps a ≡ 0) firing → ((a : ℕ) → slice_index steps a ≡ 0 → slice_index new_steps a ≡ 0) → CanBeginInstant net (n + 1) new_steps held depth
-ready_again net n firing order steps held depth new_steps is e played over len cleared kept =
-    let order_is : IsOrder net n order = ordered net n firing order steps held depth e played over in
+ready_again net n firing order steps held depth new_steps waits is e played over len cleared kept =
+    let order_is : IsOrder net n order = ordered net n firing order steps held depth waits e played over in
     let sys : System = net_system net (n + 1) in
     record {
       actors = len ∙ played.actors;
@@ -99,3 +100,12 @@ ready_again net n firing order steps held depth new_steps is e played over len c
           let t : taken sys (done_in net n order) r ≡ taken sys (done_by net (n + 1)) r = taken-same sys (done_in net n order) (done_by net (n + 1)) r order_is.ends in
           omega (arith, played.held_are r (slice_get_within net.rings r ring x), given_by_word net (n + 1) (n + 1) r ring (omega arith) is x, taken_by_word net (n + 1) (n + 1) r ring (omega arith) is x);
     }
+
+-- one more has done its firing, and those before it still have
+pub done_next : (net : Net) (n : ℕ) (firing steps new_steps : List ℕ) (i : ℕ) →
+    ((k : ℕ) → k < i → slice_index steps (slice_index firing k) ≡ length (slot net n (slice_index firing k))) → ((a : ℕ) → slice_index steps a ≤ slice_index new_steps a) →
+    ((a : ℕ) → slice_index new_steps a ≤ length (slot net n a)) → slice_index new_steps (slice_index firing i) ≡ length (slot net n (slice_index firing i)) →
+    (k : ℕ) → k < i + 1 → slice_index new_steps (slice_index firing k) ≡ length (slot net n (slice_index firing k))
+done_next net n firing steps new_steps i done grown within here =
+    below_more (λ k. slice_index new_steps (slice_index firing k) ≡ length (slot net n (slice_index firing k))) i
+    (λ k l. let a : ℕ = slice_index firing k in omega (arith, done k l, grown a, within a)) here

@@ -1,4 +1,5 @@
 pub mod Lists
+pub mod Steps
 pub mod PlayLaws
 pub mod StackLaws
 pub mod SettleLaws

@@ -1,10 +1,10 @@
 -- The instants that are played, one after another.
-use Rattle.std.proofs.Common.{ℕ, suc, zero, ◌+◌, ◌<◌, ◌≡◌, List, [], ◌∷◌, ◌++◌, map, length, get_or, take, drop, ap, sym, refl, ◌∙◌, subst, inl, inr, arith, length-append}
+use Rattle.std.proofs.Common.{ℕ, suc, zero, ◌+◌, ◌-◌, ◌<◌, ◌≤◌, ◌≡◌, List, [], ◌∷◌, ◌++◌, map, length, get_or, take, drop, ap, sym, refl, ◌∙◌, subst, inl, inr, arith, length-append}
 use Rattle.std.specs.Prelude.{Some, slice_get, slice_index, slice_index_or, All, Vec, replicate}
 use Rattle.std.specs.Option.{option_map}
 use Rattle.std.proofs.lemmas.Bool.{cases_lt}
 use Rattle.std.proofs.lemmas.Option.{slice_get-map, slice_get_read, slice_get_within, slice_get-get_or, get_or_from_slice_get}
-use Rattle.std.proofs.lemmas.List.{length-map, get_or-map, map-append, get_or_append_left, get_or-append-add, get_or_past, length-replicate, get_or-replicate}
+use Rattle.std.proofs.lemmas.List.{length-map, get_or-map, map-append, get_or_append_left, get_or-append-add, get_or_past, length-replicate, get_or-replicate, take_all, length-drop}
 use Rattle.lucy_stream.specs.Systems.{Takes}
 use Rattle.lucy_word.proofs.BitsLaws.{ones_to-none}
 use Rattle.lucy_net.specs.declared.net.Net.{Net}
@@ -57,6 +57,13 @@ row_events rows (suc n) = slice_index_or rows n []
 pub row_orders : (net : Net) (rows : List (List ℕ)) → AreOrders net rows → (n : ℕ) → n < length rows → IsOrder net n (row_events rows (suc n))
 row_orders net rows are n l = are n (get_or rows n []) (slice_get-get_or rows n [] l)
 
+-- the last of those that wait, as a program takes them
+pub part_is : (waits : List Wait) (place : ℕ) → take (length waits - place) (drop place waits) ≡ drop place waits
+part_is waits place = take_all (length waits - place) (drop place waits) (omega (arith, length-drop place waits))
+
+pub part_there : (waits : List Wait) (place : ℕ) → 0 < length (drop place waits) → place ≤ length waits
+part_there waits place some = omega (arith, some, length-drop place waits)
+
 -- those that wait are actors that are there
 pub knot_actors : (net : Net) (n : ℕ) (steps held : List ℕ) (waits : List Wait) → IsKnot net n steps held waits → All (λ wait. wait.actor < length net.actors) waits
 knot_actors net n steps held waits knot k d l =
@@ -65,10 +72,11 @@ knot_actors net n steps held waits knot k d l =
     subst (λ (a : ℕ). a < length net.actors) same (slot_within net n (actor_at waits 0 k) (omega arith))
 
 -- in another turn too
-pub turned_actors : (net : Net) (waits turned : List Wait) → IsTurnedToLeast waits turned → All (λ wait. wait.actor < length net.actors) waits → All (λ wait. wait.actor < length net.actors) turned
-turned_actors net waits turned turn all =
+pub turned_actors : (net : Net) (waits copy turned list : List Wait) → copy ≡ waits → IsTurnedToLeast copy turned → list ≡ turned → All (λ wait. wait.actor < length net.actors) waits → All (λ wait. wait.actor < length net.actors) list
+turned_actors net waits copy turned list same turn read all =
     let P : Wait → Type 0 = λ w. w.actor < length net.actors in
-    subst (All P) (sym turn.turned) (All-append P (drop turn.place waits) (take turn.place waits) (All-drop P turn.place waits all) (All-take P turn.place waits all))
+    let there : All P copy = subst (All P) (sym same) all in
+    subst (All P) (sym (read ∙ turn.turned)) (All-append P (drop turn.place copy) (take turn.place copy) (All-drop P turn.place copy there) (All-take P turn.place copy there))
 
 -- a knot in the first instant that has no order
 pub first_cycle : (net : Net) (n : ℕ) (order steps held : List ℕ) (waits turned : List Wait) (rows : List (List ℕ)) (items : List Item) → IsProper net → IsPlayedSoFar net n order steps held → IsKnot net n steps held waits →

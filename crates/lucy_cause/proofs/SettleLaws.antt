@@ -28,18 +28,18 @@ next_of net n steps actor now = slice_get (firing_of actor (ones_to actor.firing
 in_slot : (net : Net) (n : ℕ) (steps : List ℕ) (actor : Actor) (now : ℕ) → slice_get net.actors now ≡ Some actor → 0 < length (slot net n now) → slice_get (slot net n now) (slice_index steps now) ≡ next_of net n steps actor now
 in_slot net n steps actor now here busy = ap (λ xs. slice_get xs (slice_index steps now)) (slot_is net n now actor here busy)
 
-same_set : (steps : List ℕ) (now step : ℕ) → step ≡ slice_index steps now → set steps now step ≡ steps
+pub same_set : (steps : List ℕ) (now step : ℕ) → step ≡ slice_index steps now → set steps now step ≡ steps
 same_set steps now step e = ap (set steps now) e ∙ set-get_or steps now 0
 
 -- there is nothing left
 pub went_over : (net : Net) (n : ℕ) (order steps held depth : List ℕ) (waits : List Wait) (first now : ℕ) (actor : Actor) (step : ℕ) (new_held : List ℕ) → IsProper net → IsPlayedSoFar net n order steps held → IsStack net n steps held depth waits first now →
     slice_get net.actors now ≡ Some actor → 0 < length (slot net n now) → Becomes (next_of net n steps actor now) (slice_index steps now) step held new_held event.Over →
-    IsPlayedSoFar net n order (set steps now step) new_held × IsFiringOver net n first (set steps now step) depth
+    IsPlayedSoFar net n order (set steps now step) new_held × IsFiringOver net n first (set steps now step) depth waits
 went_over net n order steps held depth waits first now actor step new_held is played stack here busy h =
     let still : IsStill (slice_index steps now) step held new_held = h.1 in
     let s : steps ≡ set steps now step = sym (same_set steps now step still.stepped) in (
       subst (λ (xs : List ℕ). IsPlayedSoFar net n order xs new_held) s (subst (IsPlayedSoFar net n order steps) (sym still.now) played),
-      subst (λ (xs : List ℕ). IsFiringOver net n first xs depth) s (stack_over net n order steps held depth waits first now is played stack (in_slot net n steps actor now here busy ∙ h.0)),
+      subst (λ (xs : List ℕ). IsFiringOver net n first xs depth waits) s (stack_over net n order steps held depth waits first now is played stack (in_slot net n steps actor now here busy ∙ h.0)),
     )
 
 -- an event is behind
@@ -164,10 +164,6 @@ went_knot net n order steps held depth waits first now actor step new_held r new
           (subst (λ (x : ℕ). IsKnot net n steps held (drop (x - 1) (waits ++ wait ∷ []))) d knot))),
     )
 
--- there are that many that wait
-pub knot_there : (net : Net) (n : ℕ) (steps held : List ℕ) (place : ℕ) (waits : List Wait) → IsKnot net n steps held (drop place waits) → place ≤ length waits
-knot_there net n steps held place waits knot = omega (arith, knot.some, length-drop place waits)
-
 grown_at : (start steps : List ℕ) (now step a : ℕ) → a ≡ now → slice_index start a ≤ slice_index steps a → slice_index steps now ≤ step → slice_index start a ≤ slice_index (set steps now step) a
 grown_at start steps now step a same h le = elim (cases_lt now (length steps)) [
   | inl l ↦
@@ -187,6 +183,10 @@ grown_set start steps now step h le a = elim (cases_eq a now) [
 -- the measure falls
 pub falls : (left new most len new_len : ℕ) → left ≡ new + 1 → len ≤ new_len + 1 → len < most → new * (most + 1) + (most - new_len) < left * (most + 1) + (most - len)
 falls left new most len new_len e l room = (let x : left * (most + 1) ≡ (new + 1) * (most + 1) = ap (λ t. t * (most + 1)) e in omega arith)
+
+-- or one more waits
+pub falls_waits : (left new most len new_len : ℕ) → new ≡ left → new_len ≡ len + 1 → len < most → new * (most + 1) + (most - new_len) < left * (most + 1) + (most - len)
+falls_waits left new most len new_len e l room = (let x : new * (most + 1) ≡ left * (most + 1) = ap (λ t. t * (most + 1)) e in omega arith)
 
 pub pushed_length : (waits new_waits : List Wait) (wait : Wait) (len : ℕ) → new_waits ≡ waits ++ wait ∷ [] → len ≡ length new_waits → len ≡ length waits + 1
 pushed_length waits new_waits wait len e l = omega (arith, ap length e, length-append waits (wait ∷ []))

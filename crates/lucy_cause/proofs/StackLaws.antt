@@ -1,8 +1,9 @@
 -- How the stack of waiting actors changes.
 use Rattle.std.proofs.Common.{ℕ, suc, ◌+◌, ◌-◌, ◌<◌, ◌≤◌, ◌≡◌, ◌⊎◌, Bool, cond, eqb, List, [], ◌∷◌, ◌++◌, map, length, set, get_or, take, drop, ap, sym, refl, ◌∙◌, subst, inl, inr, arith, length-append}
 use Rattle.std.specs.Prelude.{Some, None, slice_get, slice_index, count_by}
+use Rattle.std.specs.Option.{option_map}
 use Rattle.std.proofs.lemmas.Bool.{cases_eq, cases_lt, eq-eqb, ne_eqb}
-use Rattle.std.proofs.lemmas.Option.{slice_get-get_or}
+use Rattle.std.proofs.lemmas.Option.{slice_get-get_or, slice_get-map, slice_get_within, get_or_from_slice_get}
 use Rattle.std.proofs.lemmas.List.{length-set, length-map, length-take, length-take-le, length-drop, get_or-set_same, get_or-set_other, get_or_past, get_or-take, get_or-drop, take-map, drop-map, map-append, get_or_append_left, get_or-append-add, get_or_default}
 use Rattle.std.proofs.lemmas.List.Sums.{sum_by-set, sum_by-cons}
 use Rattle.lucy_stream.specs.Systems.{Takes}
@@ -154,6 +155,51 @@ zeros_set depth a y l = sum_by-set (λ (d : ℕ). cond (eqb d 0) 1 0) depth a y 
 
 pub marked_within : (depth : List ℕ) (a : ℕ) → 0 < slice_index depth a → a < length depth
 marked_within depth a l = elim (cases_lt a (length depth)) [ inl h ↦ h | inr h ↦ absurd (omega (arith, get_or_past depth a 0 h)) ]
+
+-- the top of the stack, as a program reads it
+top_is : (waits list : List Wait) (now : ℕ) (wait : Wait) → list ≡ waits → Some wait ≡ slice_get list (length list - 1) →
+    (0 < length waits) × (actor_at waits now (length waits - 1) ≡ wait.actor) × (ring_at waits (length waits - 1) ≡ wait.ring)
+top_is waits list now wait same e =
+    let k : ℕ = length waits - 1 in
+    let there : slice_get waits k ≡ Some wait = sym (e ∙ ap (λ (xs : List Wait). slice_get xs (length xs - 1)) same) in (
+      (let l : k < length waits = slice_get_within waits k wait there in omega arith),
+      get_or_from_slice_get (map (λ (w : Wait). w.actor) waits) k wait.actor now (slice_get-map (λ (w : Wait). w.actor) waits k ∙ ap (option_map (λ (w : Wait). w.actor)) there),
+      get_or_from_slice_get (map (λ (w : Wait). w.ring) waits) k wait.ring 0 (slice_get-map (λ (w : Wait). w.ring) waits k ∙ ap (option_map (λ (w : Wait). w.ring)) there),
+    )
+
+pub top_there : (waits list : List Wait) (now bound : ℕ) (wait : Wait) → list ≡ waits → Some wait ≡ slice_get list (length list - 1) → ((k : ℕ) → k < length waits → actor_at waits now k < bound) → wait.actor < bound
+top_there waits list now bound wait same e all =
+    let top = top_is waits list now wait same e in
+    subst (λ (a : ℕ). a < bound) top.1 (all (length waits - 1) (let l = top.0 in omega arith))
+
+-- it goes on where it waited for the ring
+pub resumed_top : (waits list new_waits : List Wait) (depth : List ℕ) (now ring count : ℕ) (wait : Wait) → list ≡ waits → Some wait ≡ slice_get list (length list - 1) → wait.ring ≡ ring →
+    length list ≡ count → new_waits ≡ take (count - 1) waits → IsResumed waits new_waits depth (set depth wait.actor 0) now ring wait.actor
+resumed_top waits list new_waits depth now ring count wait same e is len rest =
+    let top = top_is waits list now wait same e in
+    record {
+      waited = λ l t. (sym top.1, rest ∙ ap (λ (n : ℕ). take (n - 1) waits) (sym len ∙ ap length same), refl);
+      otherwise = λ other. absurd (other top.0 (top.2 ∙ is));
+    }
+
+-- else who gave does
+pub resumed_other : (waits list : List Wait) (depth : List ℕ) (now ring : ℕ) (wait : Wait) → list ≡ waits → Some wait ≡ slice_get list (length list - 1) → (wait.ring ≡ ring → ⊥) → IsResumed waits waits depth depth now ring now
+resumed_other waits list depth now ring wait same e differs = record {
+  waited = λ l t. absurd (differs (sym (top_is waits list now wait same e).2 ∙ t));
+  otherwise = λ other. (refl, refl, refl);
+}
+
+pub resumed_none : (waits list : List Wait) (depth : List ℕ) (now ring : ℕ) → list ≡ waits → None ≡ slice_get list (length list - 1) → IsResumed waits waits depth depth now ring now
+resumed_none waits list depth now ring same e = record {
+  waited = λ l t. absurd (
+      let k : ℕ = length waits - 1 in
+      let wait : Wait = record { actor = 0; ring = 0 } in
+      let some : slice_get waits k ≡ Some (get_or waits k wait) = slice_get-get_or waits k wait (omega arith) in
+      let none : None ≡ slice_get waits k = e ∙ ap (λ (xs : List Wait). slice_get xs (length xs - 1)) same in
+      cc
+      );
+  otherwise = λ other. (refl, refl, refl);
+}
 
 -- it gives the one for which the top waited, which then goes on
 stack_gave_back : (net : Net) (n : ℕ) (steps held depth : List ℕ) (waits : List Wait) (first now step r items m next : ℕ) → IsStack net n steps held depth waits first now → giver net r ≡ now →
@@ -334,9 +380,13 @@ stack_knot net n steps held depth waits first now r wait stack up a b mark =
           ∙ sym found.1 ∙ ap (actor_at all next) (let z : m ≡ m + 0 = omega arith in z) ∙ sym (actor_drop all m 0 next 0 (omega arith));
     }
 
+no_waits : (waits : List Wait) → length waits ≡ 0 → waits ≡ []
+no_waits [] e = refl
+no_waits (w ∷ waits) e = absurd (omega arith)
+
 -- or nothing is left for it to do
 pub stack_over : (net : Net) (n : ℕ) (order steps held depth : List ℕ) (waits : List Wait) (first now : ℕ) → IsProper net → IsPlayedSoFar net n order steps held → IsStack net n steps held depth waits first now →
-    slice_get (slot net n now) (slice_index steps now) ≡ None → IsFiringOver net n first steps depth
+    slice_get (slot net n now) (slice_index steps now) ≡ None → IsFiringOver net n first steps depth waits
 stack_over net n order steps held depth waits first now is played stack none =
     let past : length (slot net n now) ≤ slice_index steps now = elim (cases_lt (slice_index steps now) (length (slot net n now))) [
       | inl l ↦ absurd (let some : slice_get (slot net n now) (slice_index steps now) ≡ Some (get_or (slot net n now) (slice_index steps now) (Takes 0)) = slice_get-get_or (slot net n now) (slice_index steps now) (Takes 0) l in cc)
@@ -356,4 +406,5 @@ stack_over net n order steps held depth waits first now is played stack none =
       done = subst (λ (b : ℕ). slice_index steps b ≡ length (slot net n b)) same full;
       depths = stack.depths;
       unmarked = λ a. elim (cases_lt 0 (slice_index depth a)) [ inl l ↦ absurd (omega (arith, (stack.marked a l).0)) | inr l ↦ omega arith ];
+      none = no_waits waits empty;
     }

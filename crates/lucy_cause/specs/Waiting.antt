@@ -1,9 +1,11 @@
 -- Actors that wait for each other within an instant.
 use Rattle.std.specs.Prelude.{ℕ, ◌+◌, ◌-◌, ◌<◌, ◌≤◌, ◌≡◌, ◌++◌, ◌∷◌, [], List, map, length, nat_eq, count_by, slice_get, slice_set, slice_index, slice_index_or, take, drop, Some}
 use Rattle.lucy_stream.specs.Systems.{Takes}
+use Rattle.lucy_stream.specs.Needs.{Item}
 use Rattle.lucy_net.specs.declared.net.Net.{Net}
 use Rattle.lucy_net.specs.Plans.{giver}
 use Rattle.lucy_cause.specs.declared.settle.Wait.{Wait}
+use Rattle.lucy_cause.specs.Faults.{item_now}
 use Rattle.lucy_net.specs.Instants.{slot}
 
 -- the actor wants an item of the ring, which holds none
@@ -58,3 +60,7 @@ pub record IsTurnedToLeast (waits new_waits : List Wait) : Type 0 where
   pub there : place < length waits
   pub least : (k : ℕ) → k < length waits → actor_at waits 0 place ≤ actor_at waits 0 k
   pub turned : new_waits ≡ drop place waits ++ take place waits
+
+-- the items that they give in an instant, turned so
+abbrev pub AreItemsInTurn : Net → ℕ → List Wait → List Item → Type 0
+AreItemsInTurn net instant waits items = (turned : List Wait) × IsTurnedToLeast waits turned × (items ≡ map (λ wait. item_now net instant wait.actor) turned)

@@ -3,15 +3,15 @@ ghost use Rattle.std.specs.Prelude.{ℕ, ◌≡◌, ◌<◌, ◌≤◌, ◌^◌,
 ghost use Rattle.lucy_net.specs.Proper.{numbers_where, IsProper};
 ghost use Rattle.lucy_net.specs.Instants.{slot, is_busy};
 ghost use Rattle.lucy_cause.specs.Play.{IsPlayedSoFar, CanBeginInstant};
-ghost use Rattle.lucy_cause.specs.Settling.{AreFiringsPlayed, IsInstantPlayed};
+ghost use Rattle.lucy_cause.specs.Settling.{AreFiringsLeft, IsInstantLeft};
 
-use crate::settle::{Settled, settle};
+use crate::settle::{Wait, settle};
 use lucy_net::Net;
-use std::alloc::{AllocError, Global};
+use std::alloc::AllocError;
 
-// Plays the firings of these actors, one after another.
+// Plays the firings of these actors, one after another, up to one in which actors come to wait for each other: those that wait from
+// the place on that is the result.
 fn settle_all(
-    alloc: Global,
     net: &Net,
     before: u64,
     firing: &[u32],
@@ -19,23 +19,24 @@ fn settle_all(
     held: &mut [u64],
     depth: &mut [u32],
     order: &mut Vec<u32>,
-) -> Result<Settled, AllocError>
+    waits: &mut Vec<Wait>,
+) -> Result<Option<usize>, AllocError>
     requires proper { IsProper net.now }
     requires early { before < 2 ^ 32 }
     requires firing { All (λ a. 0 < length (slot net.now before a)) firing.now }
     requires played { IsPlayedSoFar net.now before order.old.items steps.old held.old }
     requires depths { length depth.old ≡ length net.now.actors }
     requires unmarked { (a : ℕ) → slice_index depth.old a ≡ 0 }
-    ensures { IfOk result (AreFiringsPlayed net.now before firing.now order.new.items steps.new held.new depth.new) }
+    requires none { waits.old.items ≡ [] }
+    ensures { IfOk result (AreFiringsLeft net.now before firing.now order.new.items steps.new held.new depth.new waits.new.items) }
 {
     for actor in firing {
-        if let Settled::Stuck(waits) = settle(
-            alloc, net, before, *actor, steps, held, depth, order,
-        )? {
-            return Ok(Settled::Stuck(waits));
+        let settled = settle(net, before, *actor, steps, held, depth, order, waits)?;
+        if let Some(place) = settled {
+            return Ok(Some(place));
         }
     }
-    Ok(Settled::Done)
+    Ok(None)
 }
 
 // Lets these actors have done nothing.
@@ -49,11 +50,12 @@ fn clear(firing: &[u32], steps: &mut [u32])
     }
 }
 
-/// Plays an instant in which these actors fire: gives the order of its events, or the actors that wait for each other.
+/// Plays an instant in which these actors fire: gives the order of its events, or the place among the actors that wait from which on
+/// they wait for each other.
 ///
-/// `steps` and `depth` are 0 for each actor before it, and are so again after `Done`; `held` are the rings' items.
+/// `steps` and `depth` are 0 for each actor before it, and none waits; it is so again where there is no such place. `held` are the
+/// rings' items.
 pub(crate) fn play_instant(
-    alloc: Global,
     net: &Net,
     before: u64,
     firing: &[u32],
@@ -61,19 +63,20 @@ pub(crate) fn play_instant(
     held: &mut [u64],
     depth: &mut [u32],
     order: &mut Vec<u32>,
-) -> Result<Settled, AllocError>
+    waits: &mut Vec<Wait>,
+) -> Result<Option<usize>, AllocError>
     requires proper { IsProper net.now }
     requires early { before < 2 ^ 32 }
     requires firing { firing.now ≡ numbers_where (is_busy net.now before) (length net.now.actors) }
     requires ready { CanBeginInstant net.now before steps.old held.old depth.old }
     requires fresh { order.old.items ≡ [] }
-    ensures { IfOk result (IsInstantPlayed net.now before order.new.items steps.new held.new depth.new) }
+    requires none { waits.old.items ≡ [] }
+    ensures { IfOk result (IsInstantLeft net.now before order.new.items steps.new held.new depth.new waits.new.items) }
 {
-    if let Settled::Stuck(waits) = settle_all(
-        alloc, net, before, firing, steps, held, depth, order,
-    )? {
-        return Ok(Settled::Stuck(waits));
+    let settled = settle_all(net, before, firing, steps, held, depth, order, waits)?;
+    if let Some(place) = settled {
+        return Ok(Some(place));
     }
     clear(firing, steps);
-    Ok(Settled::Done)
+    Ok(None)
 }

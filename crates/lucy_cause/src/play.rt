@@ -1,14 +1,14 @@
 // One instant after another.
-ghost use Rattle.std.specs.Prelude.{ℕ, ◌≡◌, ◌≤◌, length, IfOk, IfErr};
+ghost use Rattle.std.specs.Prelude.{ℕ, ◌≡◌, ◌≤◌, [], length, IfOk, IfErr};
 ghost use Rattle.lucy_net.specs.Proper.{IsProper};
 ghost use Rattle.lucy_word.specs.Limits.{limit_number};
 ghost use Rattle.lucy_cause.specs.Play.{CanBeginInstant};
 ghost use Rattle.lucy_cause.specs.Faults.{rows_of, AreFirings, AreOrders, StopsAt};
 
-use crate::cycle::{items_of, turn_to_least};
+use crate::cycle::items_in_turn;
 use crate::error::CauseFault;
 use crate::instant::play_instant;
-use crate::settle::Settled;
+use crate::settle::Wait;
 use lucy_net::Net;
 use lucy_word::Limit;
 use std::alloc::Global;
@@ -21,11 +21,13 @@ fn play_rows(
     steps: &mut [u32],
     held: &mut [u64],
     depth: &mut [u32],
+    waits: &mut Vec<Wait>,
 ) -> Result<Vec<Vec<u32>>, CauseFault>
     requires proper { IsProper net.now }
     requires few { length agenda.now ≤ limit_number Limit.Schedule }
     requires agenda { AreFirings net.now (rows_of agenda.now) }
     requires ready { CanBeginInstant net.now 0 steps.old held.old depth.old }
+    requires none { waits.old.items ≡ [] }
     ensures ok { IfOk result (λ orders. AreOrders net.now (rows_of orders.items)) }
     ensures all { IfOk result (λ orders. length orders.items ≡ length agenda.now) }
     ensures refused { IfErr result (StopsAt net.now (length agenda.now)) }
@@ -34,7 +36,6 @@ fn play_rows(
     for (before, firing) in agenda.iter().enumerate() {
         let mut order = Vec::new(alloc);
         let settled = play_instant(
-            alloc,
             net,
             before as u64,
             firing,
@@ -42,12 +43,11 @@ fn play_rows(
             held,
             depth,
             &mut order,
+            waits,
         )?;
-        if let Settled::Stuck(waits) = settled {
-            let mut waits = waits;
-            turn_to_least(&mut waits);
+        if let Some(place) = settled {
             let instant = before as u64 + 1;
-            let items = items_of(alloc, net, instant, &waits)?;
+            let items = items_in_turn(alloc, net, instant, waits, place)?;
             return Err(CauseFault::Cycle { instant, items });
         }
         orders.push(order)?;
@@ -72,5 +72,8 @@ pub(crate) fn play_all(
     let mut steps: Vec<u32> = vec![in alloc; 0; actors]?;
     let mut held: Vec<u64> = vec![in alloc; 0; net.rings.list().len()]?;
     let mut depth: Vec<u32> = vec![in alloc; 0; actors]?;
-    play_rows(alloc, net, agenda, &mut steps, &mut held, &mut depth)
+    let mut waits = Vec::new(alloc);
+    play_rows(
+        alloc, net, agenda, &mut steps, &mut held, &mut depth, &mut waits,
+    )
 }

@@ -4,26 +4,17 @@ ghost use Rattle.lucy_net.specs.Proper.{IsProper};
 ghost use Rattle.lucy_net.specs.Instants.{slot};
 ghost use Rattle.lucy_cause.specs.Play.{IsPlayedSoFar};
 ghost use Rattle.lucy_cause.specs.Waiting.{actor_at, IsResumed, IsPutToWait};
-ghost use Rattle.lucy_cause.specs.Settling.{IsFiringLeft, IsFiringPlayed};
+ghost use Rattle.lucy_cause.specs.Settling.{IsFiringLeft};
 
 use crate::advance::{Event, advance};
 use lucy_net::Net;
-use std::alloc::{AllocError, Global};
+use std::alloc::AllocError;
 
 /// The actor waits for an item of the ring.
 #[derive(Clone, Copy)]
 pub(crate) struct Wait {
     pub actor: u32,
     pub ring: u32,
-}
-
-/// How a play ended.
-#[derive(Drop)]
-pub(crate) enum Settled {
-    /// The actor has done its firing.
-    Done,
-    /// Each of these actors waits for an item that the next one gives, and the last one for one of the first.
-    Stuck(Vec<Wait>),
 }
 
 // Who goes on after a give: the one that waited for it, or else the giver.
@@ -58,9 +49,13 @@ fn put_wait(
     Ok(())
 }
 
-// Plays the firing of one actor, beginning with none that waits. At its end there is nothing; else, the place among those that
-// wait from which on each waits for an item that the next one gives, and the last one for one of the first.
-fn play_firing(
+/// Plays the firing of one actor to its end, and before each take that finds nothing the ring's giver up to its give. Before it none
+/// waits, and so at its end; else the result is the place among those that wait from which on each waits for an item that the next
+/// one gives, and the last one for one of the first.
+///
+/// `steps` are the operations that the actors have done in the instant, `held` the rings' items, and `order` the events so
+/// far. `depth` is 0 for each actor and is so again at the end.
+pub(crate) fn settle(
     net: &Net,
     before: u64,
     first: u32,
@@ -100,37 +95,5 @@ fn play_firing(
                 }
             }
         }
-    }
-}
-
-/// Plays the firing of one actor to its end, and before each take that finds nothing the ring's giver up to its give.
-///
-/// `steps` are the operations that the actors have done in the instant, `held` the rings' items, and `order` the events so
-/// far. `depth` is 0 for each actor and is so again at `Done`.
-pub(crate) fn settle(
-    alloc: Global,
-    net: &Net,
-    before: u64,
-    first: u32,
-    steps: &mut [u32],
-    held: &mut [u64],
-    depth: &mut [u32],
-    order: &mut Vec<u32>,
-) -> Result<Settled, AllocError>
-    requires proper { IsProper net.now }
-    requires early { before < 2 ^ 32 }
-    requires first { first < length net.now.actors }
-    requires played { IsPlayedSoFar net.now before order.old.items steps.old held.old }
-    requires depths { length depth.old ≡ length net.now.actors }
-    requires unmarked { (a : ℕ) → slice_index depth.old a ≡ 0 }
-    requires busy { 0 < length (slot net.now before first) }
-    ensures settled { IfOk result (IsFiringPlayed net.now before first order.new.items steps.new held.new depth.new) }
-    ensures grown { IfOk result (λ _. (a : ℕ) → slice_index steps.old a ≤ slice_index steps.new a) }
-{
-    let mut waits = Vec::new(alloc);
-    let left = play_firing(net, before, first, steps, held, depth, order, &mut waits)?;
-    match left {
-        None => Ok(Settled::Done),
-        Some(place) => Ok(Settled::Stuck(waits.split_off(place)?)),
     }
 }

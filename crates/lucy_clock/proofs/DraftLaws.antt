@@ -1,16 +1,17 @@
 -- Laws of needs whose words are lent.
-use Rattle.std.proofs.Common.{ℕ, ◌+◌, ◌<◌, ◌≡◌, ◌∷◌, ◌++◌, [], Bool, true, false, List, length, get_or, take, map, ap, sym, refl, ◌∙◌, arith}
-use Rattle.std.specs.Prelude.{if◌then◌else◌, IfErr, IsErrAnd, Result}
-use Rattle.std.proofs.lemmas.Result.{err_from_is_err_and}
+use Rattle.std.proofs.Common.{ℕ, ◌+◌, ◌<◌, ◌≡◌, ◌∷◌, ◌++◌, [], Bool, true, false, List, length, get_or, take, map, ap, sym, refl, ◌∙◌, append_assoc, length-append, subst, inl, inr, arith}
+use Rattle.std.specs.Prelude.{if◌then◌else◌, IfErr, IsErrAnd, OnOk, Result}
+use Rattle.std.proofs.lemmas.Result.{err_from_is_err_and, on_ok_weaker}
 use Rattle.std.proofs.lemmas.List.{map-append, take_more}
 use Rattle.std.proofs.lemmas.List.Sums.{sum_by-cons, sum_by-append}
 use Rattle.lucy_word.specs.Bits.{bit_count}
 use Rattle.lucy_need.specs.declared.need.Term.{Term}
+use Rattle.lucy_need.specs.declared.need.Need.{Need}
 use Rattle.lucy_need.specs.declared.need.Need.TheVariants.{Equal, Adapt}
 use Rattle.lucy_need.specs.Meeting.{need_bits, all_bits}
 use Rattle.lucy_clock.specs.declared.error.ClockError.{ClockError}
 use Rattle.lucy_clock.specs.declared.side.Draft.{Draft}
-use Rattle.lucy_clock.specs.Drafts.{side_term, seen}
+use Rattle.lucy_clock.specs.Drafts.{side_term, seen, IsPast}
 
 -- the error of a call goes out of the function by `?`
 pub leaves : {T : Type 0} (P Q : ClockError → Type 0) (e : ClockError) (r : Result T ClockError) →
@@ -41,3 +42,15 @@ bits_next xs i x h e =
     let c = sum_by-cons need_bits (seen x) [] in
     let d = seen_bits x in
     omega arith
+
+-- two more needs, put one after the other
+pub merged_ok : {T : Type 0} (drafts mid new : List Need) (a b : Need) (r : Result T ClockError) → mid ≡ drafts ++ a ∷ [] → OnOk r (new ≡ mid ++ b ∷ []) → OnOk r (new ≡ drafts ++ a ∷ b ∷ [])
+merged_ok drafts mid new a b r is = on_ok_weaker r (λ (e : new ≡ mid ++ b ∷ []). e ∙ ap (λ (m : List Need). m ++ b ∷ []) is ∙ append_assoc drafts (a ∷ []) (b ∷ []))
+
+pub merged_refused : {T : Type 0} (drafts mid : List Need) (a b : Need) (r : Result T ClockError) → mid ≡ drafts ++ a ∷ [] → IfErr r (IsPast (mid ++ b ∷ [])) → IfErr r (IsPast (drafts ++ a ∷ b ∷ []))
+merged_refused drafts mid a b r is = subst (λ (l : List Need). IfErr r (IsPast l)) (ap (λ (m : List Need). m ++ b ∷ []) is ∙ append_assoc drafts (a ∷ []) (b ∷ []))
+
+-- where one is too many, two are
+pub past_more : (drafts : List Need) (a b : Need) (e : ClockError) → IsPast (drafts ++ a ∷ []) e → IsPast (drafts ++ a ∷ b ∷ []) e
+past_more drafts a b e (inl h) = inl h
+past_more drafts a b e (inr h) = inr (h.0, omega (arith, h.1, length-append drafts (a ∷ []), length-append drafts (a ∷ b ∷ [])))

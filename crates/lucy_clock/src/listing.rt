@@ -4,40 +4,35 @@ ghost use Rattle.lucy_place.specs.Proper.{at_one, IsProperKind, IsProperNode, Is
 ghost use Rattle.lucy_place.specs.declared.placed.PlacedNode.{PlacedNode as Node};
 ghost use Rattle.lucy_place.specs.declared.entry.PlaceEntry.{PlaceEntry as Entry};
 ghost use Rattle.lucy_place.specs.declared.entry.PlaceKind.TheVariants as kind;
-ghost use Rattle.lucy_word.specs.Always.{always as ticking};
 ghost use Rattle.lucy_clock.specs.Clocks.{AreSignatures, call_clock};
 ghost use Rattle.lucy_clock.specs.Listing.{word_needs, operand_needs, argument_needs, result_needs, call_needs, site_needs, kind_needs, place_needs, needs_of};
 ghost use Rattle.lucy_clock.specs.Drafts.{IsPast, IsListedSite, IsListedCall, IsListedBuffer, IsListedKind, IsListedNode};
 
-use crate::draft::{Drafts, on, on_delayed, on_turned};
+use crate::draft::{Drafts, alone, on_delayed};
 use crate::error::ClockError;
 use crate::signature::Signature;
 use lucy_place::{CallSite, PlaceEntry, PlaceKind, PlacedNode};
 use lucy_word::Word;
 use std::alloc::Global;
 
-/// What the needs of a node are listed from: the node, the signatures of those above it, and the word (1).
+/// What the needs of a node are listed from: the node, and the signatures of those above it.
 #[derive(Clone, Copy)]
 pub(crate) struct Listing<'p> {
     pub node: &'p PlacedNode,
     pub above: &'p [Signature],
-    pub always: &'p Word,
-    ghost ticks: { always.now ≡ ticking },
 }
 
 // Puts that a clock is the base on a word, where it is written.
 fn put_word<'p>(
     drafts: &mut Drafts<'p>,
-    always: &'p Word,
     clock: u32,
     word: &'p Option<Word>,
 ) -> Result<(), ClockError>
-    requires { always.now ≡ ticking }
     ensures ok { OnOk result (drafts.new ≡ drafts.old ++ word_needs clock word.now) }
     ensures refused { IfErr result (IsPast (drafts.old ++ word_needs clock word.now)) }
 {
     match word {
-        Some(word) => drafts.equal(on(clock, always), on(0, word)),
+        Some(word) => drafts.on(clock, 0, word),
         None => Ok(()),
     }
 }
@@ -45,18 +40,16 @@ fn put_word<'p>(
 // Puts that each argument is the base on the word of its parameter.
 fn put_arguments<'p>(
     drafts: &mut Drafts<'p>,
-    always: &'p Word,
     base: u32,
     args: &'p [u32],
     words: &'p [Word],
 ) -> Result<(), ClockError>
-    requires ticks { always.now ≡ ticking }
-    requires each { length args.now ≡ length words.now }
+    requires { length args.now ≡ length words.now }
     ensures ok { OnOk result (drafts.new ≡ drafts.old ++ argument_needs base args.now words.now) }
     ensures refused { IfErr result (IsPast (drafts.old ++ argument_needs base args.now words.now)) }
 {
     'each: for (i, arg) in args.iter().enumerate() {
-        drafts.equal(on(*arg, always), on(base, &words[i]))?;
+        drafts.on(*arg, base, &words[i])?;
     }
     Ok(())
 }
@@ -64,35 +57,27 @@ fn put_arguments<'p>(
 // Puts that each result, from a place on, is the base on its word.
 fn put_results<'p>(
     drafts: &mut Drafts<'p>,
-    always: &'p Word,
     base: u32,
     place: u32,
     words: &'p [Word],
 ) -> Result<(), ClockError>
-    requires ticks { always.now ≡ ticking }
-    requires few { place + length words.now < 2 ^ 32 }
+    requires { place + length words.now < 2 ^ 32 }
     ensures ok { OnOk result (drafts.new ≡ drafts.old ++ result_needs base place words.now) }
     ensures refused { IfErr result (IsPast (drafts.old ++ result_needs base place words.now)) }
 {
     'each: for (i, word) in words.iter().enumerate() {
-        drafts.equal(on(place + i as u32, always), on(base, word))?;
+        drafts.on(place + i as u32, base, word)?;
     }
     Ok(())
 }
 
 // Puts that the place and each of the operands have the same clock.
-fn put_operands<'p>(
-    drafts: &mut Drafts<'p>,
-    always: &'p Word,
-    place: u32,
-    args: &'p [u32],
-) -> Result<(), ClockError>
-    requires { always.now ≡ ticking }
+fn put_operands(drafts: &mut Drafts<'_>, place: u32, args: &[u32]) -> Result<(), ClockError>
     ensures ok { OnOk result (drafts.new ≡ drafts.old ++ operand_needs place args.now) }
     ensures refused { IfErr result (IsPast (drafts.old ++ operand_needs place args.now)) }
 {
     'each: for arg in args {
-        drafts.equal(on(place, always), on(*arg, always))?;
+        drafts.same(place, *arg)?;
     }
     Ok(())
 }
@@ -110,15 +95,9 @@ fn put_site<'p>(
     ensures refused { IfErr result (IsPast (drafts.old ++ site_needs listing.entry.above.now base place (Some site.now))) }
 {
     let callee = &listing.above[site.node as usize];
-    put_word(drafts, listing.always, base, &site.at)?;
-    put_arguments(
-        drafts,
-        listing.always,
-        base,
-        site.args.list(),
-        callee.params.list(),
-    )?;
-    put_results(drafts, listing.always, base, place, callee.results.list())
+    put_word(drafts, base, &site.at)?;
+    put_arguments(drafts, base, site.args.list(), callee.params.list())?;
+    put_results(drafts, base, place, callee.results.list())
 }
 
 // Puts the needs of a call at its first result.
@@ -154,8 +133,8 @@ fn put_buffer<'p>(
     ensures ok { OnOk result (drafts.new ≡ drafts.old ++ kind_needs listing.entry.above.now listing.entry.node.now place (kind.Buffer number operand)) }
     ensures refused { IfErr result (IsPast (drafts.old ++ kind_needs listing.entry.above.now listing.entry.node.now place (kind.Buffer number operand))) }
 {
-    let read = on(place, listing.always);
-    drafts.adapt(on(operand, listing.always), read)?;
+    let read = alone(place);
+    drafts.adapt(alone(operand), read)?;
     match listing.node.bounds.list()[number as usize - 1] {
         Some(most) => drafts.adapt(read, on_delayed(operand, most)),
         None => Ok(()),
@@ -173,23 +152,18 @@ fn put_kind<'p>(
     ensures ok { OnOk result (drafts.new ≡ drafts.old ++ kind_needs listing.entry.above.now listing.entry.node.now place kind.now) }
     ensures refused { IfErr result (IsPast (drafts.old ++ kind_needs listing.entry.above.now listing.entry.node.now place kind.now)) }
 {
-    let always = listing.always;
-    let own = on(place, always);
     match kind {
         PlaceKind::Param => Ok(()),
-        PlaceKind::Defined(right) => drafts.equal(own, on(*right, always)),
+        PlaceKind::Defined(right) => drafts.same(place, *right),
         PlaceKind::Lit(_) => Ok(()),
-        PlaceKind::Op(_, args) => put_operands(drafts, always, place, args.list()),
-        PlaceKind::Host(_, first, second) => {
-            drafts.equal(own, on(*first, always))?;
-            drafts.equal(own, on(*second, always))
-        }
-        PlaceKind::When(operand, word) => drafts.equal(own, on(*operand, word)),
+        PlaceKind::Op(_, args) => put_operands(drafts, place, args.list()),
+        PlaceKind::Host(_, first, second) => put_operands(drafts, place, &[*first, *second]),
+        PlaceKind::When(operand, word) => drafts.on(place, *operand, word),
         PlaceKind::Merge(word, one, zero) => {
-            drafts.equal(on(*one, always), on(place, word))?;
-            drafts.equal(on(*zero, always), on_turned(place, word))
+            drafts.on(*one, place, word)?;
+            drafts.on_turned(*zero, place, word)
         }
-        PlaceKind::Fby(_, operand) => drafts.equal(own, on(*operand, always)),
+        PlaceKind::Fby(_, operand) => drafts.same(place, *operand),
         PlaceKind::Buffer(number, operand) => put_buffer(drafts, listing, place, *number, *operand),
         PlaceKind::Result(call, number) => put_call(drafts, listing, place, *call, *number),
     }
@@ -206,7 +180,7 @@ fn put_place<'p>(
     ensures ok { OnOk result (drafts.new ≡ drafts.old ++ place_needs listing.entry.above.now listing.entry.node.now place entry.now) }
     ensures refused { IfErr result (IsPast (drafts.old ++ place_needs listing.entry.above.now listing.entry.node.now place entry.now)) }
 {
-    put_word(drafts, listing.always, place, &entry.word)?;
+    put_word(drafts, place, &entry.word)?;
     put_kind(drafts, listing, place, &entry.kind)
 }
 

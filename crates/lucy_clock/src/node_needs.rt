@@ -19,7 +19,7 @@ use crate::listing::{Listing, list_needs};
 use crate::own_words::{copied, delayed, turned};
 use crate::side::{Draft, Factor, Side};
 use crate::signature::Signature;
-use lucy_need::{Need, NeedList, Needs, Term, always};
+use lucy_need::{Need, NeedList, Needs, Term};
 use lucy_place::{Placed, PlacedNode};
 use lucy_word::{Limit, Word};
 use std::alloc::Global;
@@ -99,13 +99,7 @@ fn listed(alloc: Global, node: &PlacedNode, above: &[Signature]) -> Result<NeedL
     ensures bits { IfOk result (λ _. all_bits (needs_of above.now node.now) ≤ limit_number lim.Bits) }
     ensures refused { IfErr result (RefusesNeeds (needs_of above.now node.now)) }
 {
-    let always = always(alloc)?;
-    let listing = Listing {
-        node,
-        above,
-        always: &always,
-    };
-    let drafts = list_needs(alloc, listing)?;
+    let drafts = list_needs(alloc, Listing { node, above })?;
     stored_needs(alloc, &drafts)
 }
 

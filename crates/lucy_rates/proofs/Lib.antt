@@ -23,3 +23,4 @@ pub mod Asking
 pub mod Raising
 pub mod Composing
 pub mod Gathering
+pub mod Counting

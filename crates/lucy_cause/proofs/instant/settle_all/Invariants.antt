@@ -1,4 +1,4 @@
-use Rattle.std.proofs.Common.{ℕ, ◌≡◌, ◌<◌, length, slice_index}
+use Rattle.std.proofs.Common.{ℕ, ◌≡◌, ◌<◌, [], length, slice_index}
 use Rattle.lucy_net.specs.Instants.{slot}
 use Rattle.lucy_cause.specs.Play.{IsPlayedSoFar}
 use Rattle.lucy_cause.proofs.instant.settle_all.Given as goal
@@ -8,5 +8,6 @@ invariant-loop-actor l = record {
   played : IsPlayedSoFar l.net l.before l.order.items l.steps l.held;
   depths : length l.depth ≡ length l.net.actors;
   unmarked : (a : ℕ) → slice_index l.depth a ≡ 0;
+  none : l.waits.items ≡ [];
   done : (k : ℕ) → k < l.actor-index → slice_index l.steps (slice_index l.firing k) ≡ length (slot l.net l.before (slice_index l.firing k));
 }

@@ -3,7 +3,7 @@ use Rattle.lucy_net.specs.Instants.{slot}
 use Rattle.lucy_cause.specs.Play.{IsPlayedSoFar}
 use Rattle.lucy_cause.specs.Waiting.{IsStack}
 use Rattle.lucy_cause.proofs.PlayLaws.{left_in}
-use Rattle.lucy_cause.proofs.settle.play_firing.Given as goal
+use Rattle.lucy_cause.proofs.settle.settle.Given as goal
 
 abbrev pub invariant-events : goal.invariant-events
 invariant-events l = record {
