@@ -9,6 +9,7 @@ pub mod NodeLaws
 pub mod ProgramLaws
 mod Rows
 pub mod WrittenLaws
+mod OperandLaws
 mod EachLaws
 mod Spread
 mod BoundLaws

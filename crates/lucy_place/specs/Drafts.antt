@@ -8,7 +8,7 @@ use Rattle.lucy_place.specs.declared.draft.Draft.{Draft}
 use Rattle.lucy_place.specs.declared.entry.PlaceEntry.{PlaceEntry}
 use Rattle.lucy_place.specs.declared.entry.CallSite.{CallSite}
 use Rattle.lucy_place.specs.Texts.{place_in}
-use Rattle.lucy_place.specs.Phrases.{Called, Phrase, Phrases, name, headed, none}
+use Rattle.lucy_place.specs.Phrases.{Sampled, Followed, Buffered, Called, Phrase, Phrases, name, headed, none}
 use Rattle.lucy_place.specs.Faults.{most_places}
 use Rattle.lucy_place.specs.Numbering.{Next, Known, past, past_all, entries, all_entries, sites, all_sites, own_kind, own_bounds}
 
@@ -41,6 +41,13 @@ abbrev pub IsPlain : Phrase → Type 0
 IsPlain (name n) = ⊥
 IsPlain (headed (Called n base) span fs) = ⊥
 IsPlain (headed h span fs) = Unit {0}
+
+-- a form of one operand that is no operator's
+abbrev pub IsSingle : Phrase → Type 0
+IsSingle (headed (Sampled flip w) span fs) = Unit {0}
+IsSingle (headed (Followed l) span fs) = Unit {0}
+IsSingle (headed (Buffered most) span fs) = Unit {0}
+IsSingle f = ⊥
 
 -- the operands of a form
 abbrev pub phrase_operands : Phrase → Phrases

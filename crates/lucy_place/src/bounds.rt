@@ -1,20 +1,18 @@
 // The written bounds of buffers.
-ghost use Rattle.std.specs.Prelude.{◌≡◌, ◌++◌, map, IfOk, IfErr, OnOk};
+ghost use Rattle.std.specs.Prelude.{◌≡◌, ◌++◌, map, IfOk, OnOk};
 ghost use Rattle.lucy_tree.specs.View.{def_tree};
-ghost use Rattle.lucy_place.specs.declared.error.NameError.TheVariants as error;
 ghost use Rattle.lucy_place.specs.Phrases.{expr_phrase, expr_phrases};
 ghost use Rattle.lucy_place.specs.Numbering.{bounds, all_bounds};
 ghost use Rattle.lucy_place.specs.Nodes.{def_bounds};
 
-use crate::error::NameError;
 use lucy_tree::{Def, Expr};
+use lucy_word::OutOfMemory;
 use std::alloc::Global;
 
 // Puts the bounds of an expression's buffers last.
 #[cycle(bounds)]
-fn expr_bounds(expr: &Expr, list: &mut Vec<Option<u64>>) -> Result<(), NameError>
-    ensures ok { OnOk result (list.new.items ≡ list.old.items ++ bounds (expr_phrase expr.now)) }
-    ensures refused { IfErr result (λ e. e ≡ error.OutOfMemory) }
+fn expr_bounds(expr: &Expr, list: &mut Vec<Option<u64>>) -> Result<(), OutOfMemory>
+    ensures { OnOk result (list.new.items ≡ list.old.items ++ bounds (expr_phrase expr.now)) }
 {
     match expr {
         Expr::Lit { .. } => Ok(()),
@@ -37,9 +35,8 @@ fn expr_bounds(expr: &Expr, list: &mut Vec<Option<u64>>) -> Result<(), NameError
 
 // Puts the bounds of the operands' buffers last.
 #[cycle(bounds)]
-fn all_bounds(exprs: &[Expr], list: &mut Vec<Option<u64>>) -> Result<(), NameError>
-    ensures ok { OnOk result (list.new.items ≡ list.old.items ++ all_bounds (expr_phrases exprs.now)) }
-    ensures refused { IfErr result (λ e. e ≡ error.OutOfMemory) }
+fn all_bounds(exprs: &[Expr], list: &mut Vec<Option<u64>>) -> Result<(), OutOfMemory>
+    ensures { OnOk result (list.new.items ≡ list.old.items ++ all_bounds (expr_phrases exprs.now)) }
 {
     'each: for expr in exprs {
         expr_bounds(expr, list)?;
@@ -48,9 +45,8 @@ fn all_bounds(exprs: &[Expr], list: &mut Vec<Option<u64>>) -> Result<(), NameErr
 }
 
 /// The bounds of the buffers of right sides, in order of the text.
-pub(crate) fn bounds(alloc: Global, defs: &[Def]) -> Result<Vec<Option<u64>>, NameError>
-    ensures ok { IfOk result (λ v. v.items ≡ def_bounds (map def_tree defs.now)) }
-    ensures refused { IfErr result (λ e. e ≡ error.OutOfMemory) }
+pub(crate) fn bounds(alloc: Global, defs: &[Def]) -> Result<Vec<Option<u64>>, OutOfMemory>
+    ensures { IfOk result (λ v. v.items ≡ def_bounds (map def_tree defs.now)) }
 {
     let mut list = Vec::new(alloc);
     'each: for def in defs {

@@ -1,9 +1,8 @@
 // The places of a node whose names are good.
-ghost use Rattle.std.specs.Prelude.{◌≡◌, ◌+◌, ◌^◌, ◌<◌, ◌≤◌, ◌++◌, length, map, IfOk, IfErr, OnOk};
+ghost use Rattle.std.specs.Prelude.{◌≡◌, ◌+◌, ◌^◌, ◌<◌, ◌≤◌, ◌++◌, length, map, IfOk, OnOk};
 ghost use Rattle.std.specs.List.{AllByRecursion};
 ghost use Rattle.lucy_tree.specs.View.{tree_of, node_tree, def_tree};
 ghost use Rattle.lucy_tree.specs.Shaped.{IsShaped, IsShapedDef, IsShapedNode};
-ghost use Rattle.lucy_place.specs.declared.error.NameError.TheVariants as error;
 ghost use Rattle.lucy_place.specs.declared.entry.PlaceKind.TheVariants as kind;
 ghost use Rattle.lucy_place.specs.Streams.{text_of, streams, def_names, wanted};
 ghost use Rattle.lucy_place.specs.Phrases.{expr_phrase};
@@ -16,7 +15,6 @@ ghost use Rattle.lucy_place.specs.Views.{known_of};
 use crate::bounds::bounds;
 use crate::draft::Draft;
 use crate::entry::{CallSite, PlaceEntry, PlaceKind};
-use crate::error::NameError;
 use crate::lists::{Bounds, Calls, Numbers, Places};
 use crate::names::Names;
 use crate::numbering::expr_places;
@@ -25,11 +23,11 @@ use crate::room::wanted;
 use crate::steps::{copy, stream_place};
 use lucy_text::Text;
 use lucy_tree::{Decl, Def, Name, Node};
+use lucy_word::OutOfMemory;
 use std::alloc::Global;
 
-fn copy_name(alloc: Global, name: &Name) -> Result<Name, NameError>
-    ensures ok { IfOk result (λ copy. copy ≡ name.now) }
-    ensures refused { IfErr result (λ e. e ≡ error.OutOfMemory) }
+fn copy_name(alloc: Global, name: &Name) -> Result<Name, OutOfMemory>
+    ensures { IfOk result (λ copy. copy ≡ name.now) }
 {
     let text = Text::new(alloc, name.text.bytes())?;
     Ok(Name {
@@ -39,9 +37,8 @@ fn copy_name(alloc: Global, name: &Name) -> Result<Name, NameError>
 }
 
 // The place of a name that is declared.
-fn declared_entry(alloc: Global, decl: &Decl, kind: PlaceKind) -> Result<PlaceEntry, NameError>
-    ensures ok { IfOk result (λ entry. entry ≡ declared_entry kind decl.now) }
-    ensures refused { IfErr result (λ e. e ≡ error.OutOfMemory) }
+fn declared_entry(alloc: Global, decl: &Decl, kind: PlaceKind) -> Result<PlaceEntry, OutOfMemory>
+    ensures { IfOk result (λ entry. entry ≡ declared_entry kind decl.now) }
 {
     let name = copy_name(alloc, &decl.name)?;
     let word = copy(alloc, &decl.word)?;
@@ -54,9 +51,8 @@ fn declared_entry(alloc: Global, decl: &Decl, kind: PlaceKind) -> Result<PlaceEn
 }
 
 // Puts the places of parameters last.
-fn params(alloc: Global, decls: &[Decl], named: &mut Vec<PlaceEntry>) -> Result<(), NameError>
-    ensures ok { OnOk result (named.new.items ≡ named.old.items ++ map (declared_entry kind.Param) decls.now) }
-    ensures refused { IfErr result (λ e. e ≡ error.OutOfMemory) }
+fn params(alloc: Global, decls: &[Decl], named: &mut Vec<PlaceEntry>) -> Result<(), OutOfMemory>
+    ensures { OnOk result (named.new.items ≡ named.old.items ++ map (declared_entry kind.Param) decls.now) }
 {
     'each: for decl in decls {
         named.push(declared_entry(alloc, decl, PlaceKind::Param)?)?;
@@ -70,10 +66,9 @@ fn lefts(
     decls: &[Decl],
     right: u32,
     named: &mut Vec<PlaceEntry>,
-) -> Result<(), NameError>
+) -> Result<(), OutOfMemory>
     requires { right + length decls.now < 2 ^ 32 }
-    ensures ok { OnOk result (named.new.items ≡ named.old.items ++ left_entries right decls.now) }
-    ensures refused { IfErr result (λ e. e ≡ error.OutOfMemory) }
+    ensures { OnOk result (named.new.items ≡ named.old.items ++ left_entries right decls.now) }
 {
     let mut place = right;
     'each: for decl in decls {
@@ -90,7 +85,7 @@ fn def_places(
     def: &Def,
     named: &mut Vec<PlaceEntry>,
     draft: &mut Draft,
-) -> Result<(), NameError>
+) -> Result<(), OutOfMemory>
     requires few { length names.now.streams.now ≤ most_places }
     requires nodes { length names.now.nodes.now < 2 ^ 32 }
     requires lefts { length def.now.left ≤ most_places }
@@ -98,7 +93,6 @@ fn def_places(
     requires room { IsSmall (past_def (next_of (known_of names.now) draft.old) (def_tree def.now)) }
     ensures named { OnOk result (named.new.items ≡ named.old.items ++ left_entries (number (known_of names.now) (next_of (known_of names.now) draft.old) (expr_phrase def.now.right)) def.now.left) }
     ensures draws { OnOk result (Draws (known_of names.now) (wanted def.now.left) (expr_phrase def.now.right) draft.old draft.new) }
-    ensures refused { IfErr result (λ e. e ≡ error.OutOfMemory) }
 {
     let right = expr_places(alloc, names, &def.right, wanted(def.left.list()), draft)?;
     lefts(alloc, def.left.list(), right, named)
@@ -111,7 +105,7 @@ fn all_defs(
     defs: &[Def],
     named: &mut Vec<PlaceEntry>,
     draft: &mut Draft,
-) -> Result<(), NameError>
+) -> Result<(), OutOfMemory>
     requires few { length names.now.streams.now ≤ most_places }
     requires nodes { length names.now.nodes.now < 2 ^ 32 }
     requires lefts { length (def_names (map def_tree defs.now)) ≤ most_places }
@@ -120,7 +114,6 @@ fn all_defs(
     ensures named { OnOk result (named.new.items ≡ named.old.items ++ defined (known_of names.now) (next_of (known_of names.now) draft.old) (map def_tree defs.now)) }
     ensures places { OnOk result (draft.new.places.items ≡ draft.old.places.items ++ rights (known_of names.now) (next_of (known_of names.now) draft.old) (map def_tree defs.now)) }
     ensures calls { OnOk result (draft.new.calls.items ≡ draft.old.calls.items ++ def_sites (known_of names.now) (next_of (known_of names.now) draft.old) (map def_tree defs.now)) }
-    ensures refused { IfErr result (λ e. e ≡ error.OutOfMemory) }
 {
     'each: for def in defs {
         def_places(alloc, names, def, named, draft)?;
@@ -129,10 +122,9 @@ fn all_defs(
 }
 
 // The places of results.
-fn results(alloc: Global, names: &Names<'_, '_>, list: &[Name]) -> Result<Vec<u32>, NameError>
+fn results(alloc: Global, names: &Names<'_, '_>, list: &[Name]) -> Result<Vec<u32>, OutOfMemory>
     requires few { length names.now.streams.now ≤ most_places }
-    ensures ok { IfOk result (λ v. v.items ≡ map (λ r. stream_place (known_of names.now) r.text) list.now) }
-    ensures refused { IfErr result (λ e. e ≡ error.OutOfMemory) }
+    ensures { IfOk result (λ v. v.items ≡ map (λ r. stream_place (known_of names.now) r.text) list.now) }
 {
     let mut found = Vec::new(alloc);
     'each: for name in list {
@@ -142,10 +134,9 @@ fn results(alloc: Global, names: &Names<'_, '_>, list: &[Name]) -> Result<Vec<u3
 }
 
 // The numbers of the buffers among places.
-fn buffers(alloc: Global, places: &[PlaceEntry]) -> Result<Vec<u32>, NameError>
+fn buffers(alloc: Global, places: &[PlaceEntry]) -> Result<Vec<u32>, OutOfMemory>
     requires { length places.now ≤ most_places }
-    ensures ok { IfOk result (λ v. v.items ≡ buffer_places 1 places.now) }
-    ensures refused { IfErr result (λ e. e ≡ error.OutOfMemory) }
+    ensures { IfOk result (λ v. v.items ≡ buffer_places 1 places.now) }
 {
     let mut found = Vec::new(alloc);
     'each: for (i, place) in places.iter().enumerate() {
@@ -161,14 +152,13 @@ fn entries(
     alloc: Global,
     names: &Names<'_, '_>,
     node: &Node,
-) -> Result<(Vec<PlaceEntry>, Vec<CallSite>), NameError>
+) -> Result<(Vec<PlaceEntry>, Vec<CallSite>), OutOfMemory>
     requires nodes { length names.now.nodes.now < 2 ^ 32 }
     requires streams { names.now.streams.now ≡ map text_of (streams (node_tree node.now)) }
     requires shaped { IsShapedNode (node_tree node.now) }
     requires room { node_rooms (node_tree node.now) ≤ most_places }
     ensures places { IfOk result (λ r. r.0.items ≡ node_entries (known_of names.now) (node_tree node.now)) }
     ensures calls { IfOk result (λ r. r.1.items ≡ def_sites (known_of names.now) (first_next (node_tree node.now)) (map def_tree node.now.defs)) }
-    ensures refused { IfErr result (λ e. e ≡ error.OutOfMemory) }
 {
     let mut places = Vec::new(alloc);
     let mut draft = Draft {
@@ -187,13 +177,12 @@ pub(crate) fn node_places(
     alloc: Global,
     names: &Names<'_, '_>,
     node: &Node,
-) -> Result<PlacedNode, NameError>
+) -> Result<PlacedNode, OutOfMemory>
     requires few { length names.now.nodes.now < 2 ^ 32 }
     requires streams { names.now.streams.now ≡ map text_of (streams (node_tree node.now)) }
     requires shaped { IsShapedNode (node_tree node.now) }
     requires room { node_rooms (node_tree node.now) ≤ most_places }
-    ensures ok { IfOk result (λ placed. placed ≡ placed_node names.now.ops.now (map node_tree names.now.above.now) (node_tree node.now)) }
-    ensures refused { IfErr result (λ e. e ≡ error.OutOfMemory) }
+    ensures { IfOk result (λ placed. placed ≡ placed_node names.now.ops.now (map node_tree names.now.above.now) (node_tree node.now)) }
 {
     let (places, calls) = entries(alloc, names, node)?;
     let buffers = buffers(alloc, &places)?;

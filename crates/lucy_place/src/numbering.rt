@@ -1,9 +1,8 @@
 // Numbers the places of expressions in the order of the text, a form before its operands.
-ghost use Rattle.std.specs.Prelude.{◌≡◌, ◌+◌, ◌^◌, ◌<◌, ◌≤◌, length, map, IfOk, IfErr, OnOk};
+ghost use Rattle.std.specs.Prelude.{◌≡◌, ◌+◌, ◌^◌, ◌<◌, ◌≤◌, length, map, IfOk, OnOk};
 ghost use Rattle.lucy_tree.specs.Tree.{trees_of};
 ghost use Rattle.lucy_tree.specs.View.{tree_of};
 ghost use Rattle.lucy_tree.specs.Shaped.{IsShaped, AreShaped};
-ghost use Rattle.lucy_place.specs.declared.error.NameError.TheVariants as error;
 ghost use Rattle.lucy_place.specs.Phrases.{Called, headed, expr_phrase, expr_phrases};
 ghost use Rattle.lucy_place.specs.Faults.{most_places};
 ghost use Rattle.lucy_place.specs.Numbering.{number, numbers, past, past_all};
@@ -12,15 +11,14 @@ ghost use Rattle.lucy_place.specs.Views.{known_of};
 
 use crate::draft::Draft;
 use crate::entry::PlaceKind;
-use crate::error::NameError;
 use crate::lists::Numbers;
 use crate::names::Names;
 use crate::steps::{
-    buffers_of, call_site, next_place, operator_place, sampling_word, settle, settle_call, start,
+    buffers_of, call_site, next_place, operator_place, settle, settle_call, single_kind, start,
     start_call, stream_place,
 };
 use lucy_tree::{Expr, Name};
-use lucy_word::Word;
+use lucy_word::{OutOfMemory, Word};
 use std::alloc::Global;
 
 /// Numbers the places of an expression, which has so many results where it is a call, and answers its number.
@@ -31,14 +29,13 @@ pub(crate) fn expr_places(
     expr: &Expr,
     results: usize,
     draft: &mut Draft,
-) -> Result<u32, NameError>
+) -> Result<u32, OutOfMemory>
     requires few { length names.now.streams.now ≤ most_places }
     requires nodes { length names.now.nodes.now < 2 ^ 32 }
     requires shaped { IsShaped (tree_of expr.now) }
     requires room { IsSmall (past (next_of (known_of names.now) draft.old) results (expr_phrase expr.now)) }
     ensures number { IfOk result (λ n. n ≡ number (known_of names.now) (next_of (known_of names.now) draft.old) (expr_phrase expr.now)) }
     ensures draws { OnOk result (Draws (known_of names.now) results (expr_phrase expr.now) draft.old draft.new) }
-    ensures refused { IfErr result (λ e. e ≡ error.OutOfMemory) }
 {
     match expr {
         Expr::Var { name } => Ok(stream_place(names, name)),
@@ -62,7 +59,7 @@ fn form_places(
     names: &Names<'_, '_>,
     expr: &Expr,
     draft: &mut Draft,
-) -> Result<u32, NameError>
+) -> Result<u32, OutOfMemory>
     requires few { length names.now.streams.now ≤ most_places }
     requires nodes { length names.now.nodes.now < 2 ^ 32 }
     requires plain { IsPlain (expr_phrase expr.now) }
@@ -70,7 +67,6 @@ fn form_places(
     requires room { IsSmall (past (next_of (known_of names.now) draft.old) 1 (expr_phrase expr.now)) }
     ensures number { IfOk result (λ n. n ≡ (next_of (known_of names.now) draft.old).place) }
     ensures draws { OnOk result (Draws (known_of names.now) 1 (expr_phrase expr.now) draft.old draft.new) }
-    ensures refused { IfErr result (λ e. e ≡ error.OutOfMemory) }
 {
     let number = next_place(names, draft);
     let own = start(draft, buffers_of(expr))?;
@@ -86,7 +82,7 @@ fn operand_places(
     names: &Names<'_, '_>,
     expr: &Expr,
     draft: &mut Draft,
-) -> Result<PlaceKind, NameError>
+) -> Result<PlaceKind, OutOfMemory>
     requires few { length names.now.streams.now ≤ most_places }
     requires nodes { length names.now.nodes.now < 2 ^ 32 }
     requires plain { IsPlain (expr_phrase expr.now) }
@@ -94,7 +90,6 @@ fn operand_places(
     requires room { IsSmall (past_all (next_of (known_of names.now) draft.old) (phrase_operands (expr_phrase expr.now))) }
     ensures kind { IfOk result (λ kind. kind ≡ kind_of (known_of names.now) draft.old.buffers (expr_phrase expr.now) (numbers (known_of names.now) (next_of (known_of names.now) draft.old) (phrase_operands (expr_phrase expr.now)))) }
     ensures draws { OnOk result (DrawsAll (known_of names.now) (phrase_operands (expr_phrase expr.now)) draft.old draft.new) }
-    ensures refused { IfErr result (λ e. e ≡ error.OutOfMemory) }
 {
     match expr {
         Expr::Lit { lit, .. } => Ok(PlaceKind::Lit(*lit)),
@@ -110,14 +105,10 @@ fn operand_places(
                 args.get(1).copied().unwrap_or(0),
             ))
         }
-        Expr::When {
-            flip,
-            operand,
-            word,
-        } => {
+        Expr::When { operand, .. } | Expr::Fby { operand, .. } | Expr::Buffer { operand, .. } => {
+            let buffer = draft.buffers;
             let operand = expr_places(alloc, names, operand, 1, draft)?;
-            let word = sampling_word(alloc, *flip, word)?;
-            Ok(PlaceKind::When(operand, word))
+            single_kind(alloc, expr, buffer, operand)
         }
         Expr::Merge {
             word,
@@ -127,17 +118,8 @@ fn operand_places(
         } => {
             let one = expr_places(alloc, names, one, 1, draft)?;
             let zero = expr_places(alloc, names, zero, 1, draft)?;
-            let word = sampling_word(alloc, false, word)?;
+            let word = word.copy(alloc)?;
             Ok(PlaceKind::Merge(word, one, zero))
-        }
-        Expr::Fby { first, operand, .. } => {
-            let operand = expr_places(alloc, names, operand, 1, draft)?;
-            Ok(PlaceKind::Fby(*first, operand))
-        }
-        Expr::Buffer { operand, .. } => {
-            let buffer = draft.buffers;
-            let operand = expr_places(alloc, names, operand, 1, draft)?;
-            Ok(PlaceKind::Buffer(buffer, operand))
         }
         Expr::Var { .. } => Ok(PlaceKind::Param),
         Expr::Call { .. } => Ok(PlaceKind::Param),
@@ -154,14 +136,13 @@ fn call_places(
     list: &[Expr],
     results: usize,
     draft: &mut Draft,
-) -> Result<u32, NameError>
+) -> Result<u32, OutOfMemory>
     requires few { length names.now.streams.now ≤ most_places }
     requires nodes { length names.now.nodes.now < 2 ^ 32 }
     requires shaped { AreShaped (trees_of (map tree_of list.now)) }
     requires room { IsSmall (past (next_of (known_of names.now) draft.old) results (headed (Called node.now at.now) node.now.span (expr_phrases list.now))) }
     ensures number { IfOk result (λ n. n ≡ (next_of (known_of names.now) draft.old).place) }
     ensures draws { OnOk result (Draws (known_of names.now) results (headed (Called node.now at.now) node.now.span (expr_phrases list.now)) draft.old draft.new) }
-    ensures refused { IfErr result (λ e. e ≡ error.OutOfMemory) }
 {
     let number = next_place(names, draft);
     let site = start_call(alloc, draft, results)?;
@@ -181,14 +162,13 @@ fn all_places(
     names: &Names<'_, '_>,
     list: &[Expr],
     draft: &mut Draft,
-) -> Result<Vec<u32>, NameError>
+) -> Result<Vec<u32>, OutOfMemory>
     requires few { length names.now.streams.now ≤ most_places }
     requires nodes { length names.now.nodes.now < 2 ^ 32 }
     requires shaped { AreShaped (trees_of (map tree_of list.now)) }
     requires room { IsSmall (past_all (next_of (known_of names.now) draft.old) (expr_phrases list.now)) }
     ensures numbers { IfOk result (λ v. v.items ≡ numbers (known_of names.now) (next_of (known_of names.now) draft.old) (expr_phrases list.now)) }
     ensures draws { OnOk result (DrawsAll (known_of names.now) (expr_phrases list.now) draft.old draft.new) }
-    ensures refused { IfErr result (λ e. e ≡ error.OutOfMemory) }
 {
     let mut found = Vec::new(alloc);
     'each: for expr in list {

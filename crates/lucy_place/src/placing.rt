@@ -24,7 +24,7 @@ use crate::streams::{results, streams};
 use crate::unwritten::first_unwritten;
 use lucy_host::Ops;
 use lucy_tree::{Def, Node, Program, Span};
-use lucy_word::Limit;
+use lucy_word::{Limit, OutOfMemory};
 use std::alloc::Global;
 
 // The names that right sides of definitions use.
@@ -55,7 +55,7 @@ fn named_node(
     if !fits(node, names.streams.len()) {
         return Err(NameError::TooMany(Limit::Places));
     }
-    node_places(alloc, names, node)
+    Ok(node_places(alloc, names, node)?)
 }
 
 // The places of a node with these nodes above it, once its names are good.
@@ -95,11 +95,10 @@ fn keep<'p>(
     spans: &mut Vec<Option<Span>>,
     placed: PlacedNode,
     node: &'p Node,
-) -> Result<(), NameError>
+) -> Result<(), OutOfMemory>
     ensures names { OnOk result (scope.new ≡ (if is_in scope.old node.now.name.text then scope.old else scope.old ++ node.now.name.text ∷ [])) }
     ensures list { OnOk result (list.new.items ≡ list.old.items ++ placed ∷ []) }
     ensures spans { OnOk result (spans.new.items ≡ spans.old.items ++ first_unwritten (node_tree node.now) ∷ []) }
-    ensures refused { IfErr result (λ e. e ≡ error.OutOfMemory) }
 {
     list.push(placed)?;
     spans.push(first_unwritten(node))?;

@@ -1,27 +1,25 @@
 // The single steps of numbering: a place or a call is kept free for a form, and settled once its operands are numbered.
-ghost use Rattle.std.specs.Prelude.{true, ◌≡◌, ◌+◌, ◌^◌, ◌<◌, ◌≤◌, ◌++◌, ◌∷◌, [], length, IfOk, IfErr, OnOk, slice_set};
-ghost use Rattle.lucy_tree.specs.Shaped.{HasZero};
-ghost use Rattle.lucy_place.specs.declared.error.NameError.TheVariants as error;
+ghost use Rattle.std.specs.Prelude.{true, ◌≡◌, ◌+◌, ◌^◌, ◌<◌, ◌≤◌, ◌++◌, ◌∷◌, [], length, IfOk, OnOk, slice_set};
+ghost use Rattle.lucy_tree.specs.View.{tree_of};
+ghost use Rattle.lucy_tree.specs.Shaped.{HasZero, IsShaped};
 ghost use Rattle.lucy_place.specs.declared.entry.PlaceKind.TheVariants as kind;
 ghost use Rattle.lucy_place.specs.Phrases.{expr_phrase};
 ghost use Rattle.lucy_place.specs.Faults.{most_places};
-ghost use Rattle.lucy_place.specs.Numbering.{sampling_word, unnamed, results_from, operator_place, stream_place};
-ghost use Rattle.lucy_place.specs.Drafts.{free_site, site_of, buffers_of, next_of};
+ghost use Rattle.lucy_place.specs.Numbering.{Known, sampling_word, unnamed, results_from, operator_place, stream_place};
+ghost use Rattle.lucy_place.specs.Drafts.{IsSingle, kind_of, free_site, site_of, buffers_of, next_of};
 ghost use Rattle.lucy_place.specs.Views.{known_of};
 
 use crate::draft::Draft;
 use crate::entry::{CallSite, PlaceEntry, PlaceKind};
-use crate::error::NameError;
 use crate::lists::Numbers;
 use crate::names::Names;
 use lucy_tree::{Expr, Name};
-use lucy_word::{Word, WordError, complement};
+use lucy_word::{OutOfMemory, Word, WordError, complement};
 use std::alloc::Global;
 
 /// A word, where one is written.
-pub(crate) fn copy(alloc: Global, word: &Option<Word>) -> Result<Option<Word>, NameError>
-    ensures ok { IfOk result (λ copy. copy ≡ word.now) }
-    ensures refused { IfErr result (λ e. e ≡ error.OutOfMemory) }
+pub(crate) fn copy(alloc: Global, word: &Option<Word>) -> Result<Option<Word>, OutOfMemory>
+    ensures { IfOk result (λ copy. copy ≡ word.now) }
 {
     match word {
         Some(word) => Ok(Some(word.copy(alloc)?)),
@@ -29,19 +27,40 @@ pub(crate) fn copy(alloc: Global, word: &Option<Word>) -> Result<Option<Word>, N
     }
 }
 
-/// The word of `when`, or with `flip` the complement of the word of `whenot`.
-pub(crate) fn sampling_word(alloc: Global, flip: bool, word: &Word) -> Result<Word, NameError>
+// The word of `when`, or with `flip` the complement of the word of `whenot`.
+fn sampling_word(alloc: Global, flip: bool, word: &Word) -> Result<Word, OutOfMemory>
     requires zero { flip ≡ true → HasZero word.now }
-    ensures ok { IfOk result (λ w. w ≡ sampling_word flip word.now) }
-    ensures refused { IfErr result (λ e. e ≡ error.OutOfMemory) }
+    ensures { IfOk result (λ w. w ≡ sampling_word flip word.now) }
 {
     if !flip {
-        return Ok(word.copy(alloc)?);
+        return word.copy(alloc);
     }
     match complement(alloc, word) {
         Ok(turned) => Ok(turned),
-        Err(WordError::OutOfMemory) => Err(NameError::OutOfMemory),
+        Err(WordError::OutOfMemory) => Err(OutOfMemory),
         Err(_) => unreachable!(),
+    }
+}
+
+/// What stands at the place of a form of one operand that is no operator's, with its number as a buffer and the place of the operand.
+pub(crate) fn single_kind(
+    alloc: Global,
+    expr: &Expr,
+    buffer: u32,
+    operand: u32,
+) -> Result<PlaceKind, OutOfMemory>
+    requires single { IsSingle (expr_phrase expr.now) }
+    requires shaped { IsShaped (tree_of expr.now) }
+    ensures { (k : Known) → IfOk result (λ kind. kind ≡ kind_of k buffer (expr_phrase expr.now) (operand ∷ [])) }
+{
+    match expr {
+        Expr::When { flip, word, .. } => Ok(PlaceKind::When(
+            operand,
+            sampling_word(alloc, *flip, word)?,
+        )),
+        Expr::Fby { first, .. } => Ok(PlaceKind::Fby(*first, operand)),
+        Expr::Buffer { .. } => Ok(PlaceKind::Buffer(buffer, operand)),
+        _ => unreachable!(),
     }
 }
 
@@ -80,13 +99,12 @@ pub(crate) fn next_place(names: &Names<'_, '_>, draft: &Draft) -> u32
 }
 
 /// Keeps a place free for a form, which is so many buffers, and answers how many places stand before it.
-pub(crate) fn start(draft: &mut Draft, buffers: u32) -> Result<usize, NameError>
+pub(crate) fn start(draft: &mut Draft, buffers: u32) -> Result<usize, OutOfMemory>
     requires few { draft.old.buffers + buffers < 2 ^ 32 }
     ensures at { IfOk result (λ own. own ≡ length draft.old.places.items) }
     ensures places { OnOk result (draft.new.places.items ≡ draft.old.places.items ++ unnamed kind.Param ∷ []) }
     ensures calls { draft.new.calls ≡ draft.old.calls }
     ensures buffers { draft.new.buffers ≡ draft.old.buffers + buffers }
-    ensures refused { IfErr result (λ e. e ≡ error.OutOfMemory) }
 {
     let own = draft.places.len();
     draft.buffers += buffers;
@@ -105,12 +123,11 @@ pub(crate) fn settle(draft: &mut Draft, own: usize, kind: PlaceKind)
 }
 
 // Puts the results of a call last.
-fn put_results(draft: &mut Draft, call: u32, results: usize) -> Result<(), NameError>
+fn put_results(draft: &mut Draft, call: u32, results: usize) -> Result<(), OutOfMemory>
     requires few { results ≤ most_places + 1 }
     ensures places { OnOk result (draft.new.places.items ≡ draft.old.places.items ++ results_from call 0 results) }
     ensures calls { draft.new.calls ≡ draft.old.calls }
     ensures buffers { draft.new.buffers ≡ draft.old.buffers }
-    ensures refused { IfErr result (λ e. e ≡ error.OutOfMemory) }
 {
     'each: for i in 0..results {
         draft
@@ -125,14 +142,13 @@ pub(crate) fn start_call(
     alloc: Global,
     draft: &mut Draft,
     results: usize,
-) -> Result<usize, NameError>
+) -> Result<usize, OutOfMemory>
     requires few { results ≤ most_places + 1 }
     requires calls { length draft.old.calls.items ≤ most_places }
     ensures at { IfOk result (λ site. site ≡ length draft.old.calls.items) }
     ensures places { OnOk result (draft.new.places.items ≡ draft.old.places.items ++ results_from (length draft.old.calls.items + 1) 0 results) }
     ensures calls { OnOk result (draft.new.calls.items ≡ draft.old.calls.items ++ free_site ∷ []) }
     ensures buffers { draft.new.buffers ≡ draft.old.buffers }
-    ensures refused { IfErr result (λ e. e ≡ error.OutOfMemory) }
 {
     let site = draft.calls.len();
     put_results(draft, site as u32 + 1, results)?;
@@ -163,10 +179,9 @@ pub(crate) fn call_site(
     at: &Option<Word>,
     first: u32,
     args: Vec<u32>,
-) -> Result<CallSite, NameError>
+) -> Result<CallSite, OutOfMemory>
     requires { length names.now.nodes.now < 2 ^ 32 }
-    ensures ok { IfOk result (λ call. call ≡ site_of (known_of names.now) node.now at.now first args.items) }
-    ensures refused { IfErr result (λ e. e ≡ error.OutOfMemory) }
+    ensures { IfOk result (λ call. call ≡ site_of (known_of names.now) node.now at.now first args.items) }
 {
     let at = copy(alloc, at)?;
     Ok(CallSite {

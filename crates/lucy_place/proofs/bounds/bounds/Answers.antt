@@ -13,5 +13,5 @@ each-preserved c =
     let further : List Def → List (Option ℕ) = λ ds. def_bounds (map def_tree ds) in
     let rest = further (drop (l.def-index + 1) c.args.defs.now) in
     let next = drop_next c.args.defs.now l.def-index c.def-item.result c.each-test.true c.def-item.is in
-    ap (λ bs. bs ++ rest) c.in_ok-expr_bounds.ensures.ok ∙ append_assoc l.list.items (bounds (expr_phrase c.def-item.result.right)) rest
+    ap (λ bs. bs ++ rest) c.in_ok-expr_bounds.ensures ∙ append_assoc l.list.items (bounds (expr_phrase c.def-item.result.right)) rest
     ∙ ap (λ ds. l.list.items ++ further ds) (sym next) ∙ l.invariant

@@ -7,4 +7,4 @@ use Rattle.lucy_place.proofs.nodes.params.Goals as goal
 pub each-preserved : goal.each-preserved
 each-preserved c =
     listed_next (declared_entry Param) c.each.named.items _ _ c.args.decls.now c.each.decl-index c.decl-item.result (omega arith) c.decl-item.is
-    (c.in_ok-push.ensures.items ∙ ap (λ e. c.each.named.items ++ e ∷ []) c.in_ok-declared_entry.ensures.ok) c.each.invariant
+    (c.in_ok-push.ensures.items ∙ ap (λ e. c.each.named.items ++ e ∷ []) c.in_ok-declared_entry.ensures) c.each.invariant

@@ -33,7 +33,7 @@ returns-in_err-placed-clause-refused c =
 
 pub returns-in_err-keep-clause-refused : goal.returns-in_err-keep-clause-refused
 returns-in_err-keep-clause-refused c =
-    leaves (λ e. e ≡ OutOfMemory) _ c.in_err-keep.field-0.0 c.from_residual-in_err-keep.result c.from_residual-in_err-keep.ensures.1 c.in_err-keep.ensures.refused (λ y h. inl h)
+    leaves (λ e. e ≡ OutOfMemory) _ OutOfMemory c.from_residual-in_err-keep.result c.from_residual-in_err-keep.ensures.1 refl (λ y h. inl h)
 
 pub each-preserved : goal.each-preserved
 each-preserved c =

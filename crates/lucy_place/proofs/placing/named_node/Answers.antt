@@ -1,7 +1,7 @@
-use Rattle.std.proofs.Common.{◌↔◌, ◌≡◌, Bool, false, [], map, ap, sym, ◌∙◌, subst, inr, true≢false}
+use Rattle.std.proofs.Common.{◌↔◌, ◌≡◌, Bool, false, [], map, refl, ap, sym, ◌∙◌, subst, inl, inr, true≢false}
 use Rattle.std.specs.Prelude.{IsTrue}
-use Rattle.std.proofs.lemmas.Result.{IfOk-weaker}
 use Rattle.lucy_tree.specs.View.{NodeTree, node_tree, def_tree}
+use Rattle.lucy_place.specs.declared.error.NameError.TheVariants.{OutOfMemory}
 use Rattle.lucy_place.specs.Faults.{Within, verdict, def_faults, result_faults}
 use Rattle.lucy_place.specs.Placing.{TellsFirstFault}
 use Rattle.lucy_place.specs.Views.{within_of}
@@ -36,10 +36,14 @@ returns-then-not-fits-clause-refused c =
     let resulting = ap (result_faults w.streams []) (sym c.list-2.ensures) ∙ c.in_ok-results.ensures.ok in
     tells_rooms w n defined resulting (past_most c.fits.result c.fits.ensures c.if-not-fits.true)
 
+pub returns-in_err-node_places-clause-refused : goal.returns-in_err-node_places-clause-refused
+returns-in_err-node_places-clause-refused c =
+    leaves (λ e. e ≡ OutOfMemory) _ OutOfMemory c.from_residual-in_err-node_places.result c.from_residual-in_err-node_places.ensures.1 refl (λ y h. inl h)
+
 pub returns-clause-ok : goal.returns-clause-ok
 returns-clause-ok c =
     let w : Within = within_of c.args.names.now in
     let n : NodeTree = node_tree c.args.node.now in
     let defined : def_faults w n.defs ≡ [] = faultless (def_faults w n.defs) (ap (λ ds. verdict (def_faults w (map def_tree ds))) (sym c.list.ensures) ∙ sym c.def_names.ensures ∙ c.in_ok-def_names.was) in
     let resulting = ap (result_faults w.streams []) (sym c.list-2.ensures) ∙ c.in_ok-results.ensures.ok in
-    IfOk-weaker c.node_places.result _ _ (λ placed e. (no_inner w n defined resulting (c.fits.ensures.0 c.if-not-fits.false), e)) c.node_places.ensures.ok
+    (no_inner w n defined resulting (c.fits.ensures.0 c.if-not-fits.false), c.in_ok-node_places.ensures)
