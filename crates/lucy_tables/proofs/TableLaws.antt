@@ -1,9 +1,9 @@
 -- Laws of the texts of tables.
-use Rattle.std.proofs.Common.{ℕ, zero, suc, ℤ, ◌≡◌, ◌<◌, ◌≤◌, List, [], ◌∷◌, ◌++◌, length, take, drop, map, Option, None, Result, Ok, Err, refl, ap, sym, ◌∙◌, arith, length-append}
+use Rattle.std.proofs.Common.{ℕ, zero, suc, ℤ, ◌≡◌, ◌<◌, ◌≤◌, List, [], ◌∷◌, ◌++◌, length, take, drop, map, None, Result, Ok, Err, refl, ap, sym, ◌∙◌, arith, length-append}
 use Rattle.std.proofs.lemmas.List.{take_all, take_at, length-map}
 use Rattle.lucy_word.specs.declared.limit.Limit.TheVariants as limit
 use Rattle.lucy_fields.specs.Numbers.{int_of}
-use Rattle.lucy_fields.specs.Readings.{reading, AreRead, IsFirstBad}
+use Rattle.lucy_fields.specs.Readings.{reading}
 use Rattle.lucy_fields.proofs.ReadingLaws.{good, read_bad, read_all, never_both, one_place}
 use Rattle.lucy_tables.specs.Tables.{numbers_of, most_items, IsTableText, RefusesTable}
 use Rattle.lucy_tables.specs.declared.error.TableError.{TableError}

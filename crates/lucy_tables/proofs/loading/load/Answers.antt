@@ -1,4 +1,4 @@
-use Rattle.std.proofs.Common.{◌≡◌, ◌+◌, ◌∷◌, ◌++◌, [], inl, inr, arith}
+use Rattle.std.proofs.Common.{◌∷◌, ◌++◌, [], inl, inr, arith}
 use Rattle.lucy_tables.proofs.LoadingLaws.{next_fetched, next_refused, next_step, next_fits}
 use Rattle.lucy_tables.proofs.RefusalLaws.{memory_answered}
 use Rattle.lucy_tables.proofs.loading.load.Goals as goal

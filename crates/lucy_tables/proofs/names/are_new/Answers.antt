@@ -1,11 +1,9 @@
-use Rattle.std.proofs.Common.{◌≡◌, true, false, refl, sym, ◌∙◌}
-use Rattle.std.specs.Prelude.{◌↔◌, IsTrue, IfOk, map}
+use Rattle.std.specs.Prelude.{◌↔◌, IsTrue}
 use Rattle.std.proofs.lemmas.Result.{IfOk-weaker}
 use Rattle.std.specs.List.{IsDistinct}
 use Rattle.std.specs.Str.{bytes_eq}
 use Rattle.lucy_host.specs.Operators.{names_of}
-use Rattle.lucy_tables.specs.Words.{AreNew}
-use Rattle.lucy_tables.specs.Named.{names_named, tables_named}
+use Rattle.lucy_tables.specs.Named.{names_named}
 use Rattle.lucy_tables.proofs.NameLaws.{new_from_free, free_from_new, once_from_new}
 use Rattle.lucy_tables.proofs.names.are_new.Goals as goal
 

@@ -1,4 +1,4 @@
-use Rattle.std.proofs.Common.{◌≡◌, ◌<◌, length, inr, sym, ap, arith, rules, ◌∙◌}
+use Rattle.std.proofs.Common.{◌≡◌, ◌<◌, length, inr, sym, arith, ◌∙◌}
 use Rattle.lucy_word.specs.declared.limit.Limit.TheVariants as limit
 use Rattle.lucy_tables.specs.Tables.{most_items, RefusesTable, IsTableText}
 use Rattle.lucy_tables.specs.declared.error.TableError.TheVariants.{BadNumber, Limit}

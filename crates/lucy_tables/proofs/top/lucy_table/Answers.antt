@@ -1,4 +1,4 @@
-use Rattle.std.proofs.Common.{refl, sym, subst, ◌∙◌, ◌≡◌}
+use Rattle.std.proofs.Common.{refl, subst, ◌∙◌, ◌≡◌}
 use Rattle.std.specs.Prelude.{[], None}
 use Rattle.lucy_command.specs.Commands.{command_of}
 use Rattle.lucy_app.specs.Commands.{files_of, most_input}
