@@ -25,13 +25,10 @@ use Rattle.lucy_grammar.specs.Grammar.{rules, says, sign}
 use Rattle.lucy_grammar.specs.Reading.{begins, IsBoundAhead, Begins, IsBegun, Reads}
 use Rattle.lucy_grammar.proofs.Numbers.{is_in, same_kind}
 use Rattle.lucy_grammar.proofs.Steps.{end, tok, rule, led_by, as_value}
-use Rattle.lucy_tree.specs.Tree.{Tree, trees_of, list_of}
-use Rattle.lucy_tree.specs.View.{DefTree, NodeTree, tree_of}
+use Rattle.lucy_tree.specs.Tree.{Tree}
+use Rattle.lucy_tree.specs.View.{DefTree, NodeTree}
 use Rattle.lucy_tree.specs.declared.span.Name as name
 use Rattle.lucy_tree.specs.declared.decl.Decl as decl
-use Rattle.lucy_tree.specs.declared.expr.Expr.{Expr}
-use Rattle.lucy_grammar.proofs.Growing.{put_tree, list_of-trees_of}
-use Rattle.lucy_syntax.specs.Views.{all_trees}
 use Rattle.lucy_syntax.specs.Refusals.{begins_expr}
 
 -- a test that failed
@@ -93,14 +90,6 @@ begins_expr_so (t ∷ ts) = go t.what
 pub not_expr : (ts : List Token) {b : Bool} → b ≡ begins_expr (first ts) → (b ≡ true → IsBegun Part.Args ts) × (IsBegun Part.Args ts → b ≡ true)
 not_expr ts e = (λ h. sym (begins_expr_so ts) ∙ sym e ∙ h, λ w. e ∙ begins_expr_so ts ∙ w)
 
-list_of-all : (es : List Expr) → list_of (all_trees es) ≡ map tree_of es
-list_of-all es = list_of-trees_of (map tree_of es)
-
--- one more expression is one more tree
-pub put_trees : (es : List Expr) (e : Expr) {new : List Expr} → new ≡ es ++ e ∷ [] → all_trees new ≡ put_tree (all_trees es) (tree_of e)
-put_trees es e {new = new} p =
-    ap all_trees p ∙ ap trees_of (map-append tree_of es (e ∷ [])) ∙ ap (λ (ts : List Tree). trees_of (ts ++ tree_of e ∷ [])) (sym (list_of-all es))
-
 -- one more entry, as it is seen
 pub put_mapped : {A B : Type 0} (f : A → B) (list : List A) (x : A) {new : List A} → new ≡ list ++ x ∷ [] → map f new ≡ map f list ++ f x ∷ []
 put_mapped f list x p = ap (map f) p ∙ map-append f list (x ∷ [])
@@ -129,11 +118,3 @@ is_none (x ∷ xs) h = absurd (both_ways true (h ∙ zero_not (length xs)) refl)
 pub is_some : {A : Type 0} (list : List A) → false ≡ (length list == 0) → list ≡ [] → ⊥
 is_some [] h e = both_ways true (sym h) refl
 is_some (x ∷ xs) h e = cc
-
--- a first token that is no bound
-pub no_bound : {ts more : List Token} {t : Token} → ts ≡ t ∷ more → (IsBoundAhead ts → ⊥) → is_bound t.what ≡ false
-no_bound {t = t} e n = go (is_bound t.what) refl
-  where
-    go : (b : Bool) → is_bound t.what ≡ b → is_bound t.what ≡ false
-    go false f = f
-    go true f = absurd (n (ap (λ (u : List Token). within (ahead u) (43 ∷ [])) e ∙ ap (λ (b : Bool). within (class_number (if b then bound_class else kind_class (kind_of t.what))) (43 ∷ [])) f))

@@ -1,5 +1,5 @@
 -- What callers believe: what a text is refused for.
 pub mod Refusals
 -- what only serves the proofs
-pub mod Views
+pub mod Piles
 pub mod Levels

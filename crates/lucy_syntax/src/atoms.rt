@@ -1,15 +1,18 @@
 // Reads what needs no expression: literals, samplings, and the signs of operators.
-ghost use Rattle.std.specs.Prelude.{◌≡◌, ◌<◌, ◌≤◌, ◌↔◌, IfOk, IfErr, IfSome, IsTrue, MatchOption, length, ◌∷◌, true};
+ghost use Rattle.std.specs.Prelude.{◌≡◌, ◌<◌, ◌≤◌, ◌↔◌, IfOk, IfErr, IfSome, IsTrue, List, MatchOption, length, ◌∷◌, true, false};
 ghost use Rattle.lucy_grammar.specs.Symbols.{Part};
+ghost use Rattle.lucy_token.specs.Tokens.{first, kind_of};
+ghost use Rattle.lucy_token.specs.declared.mark.Mark.TheVariants as mark;
 ghost use Rattle.lucy_token.specs.declared.token.Kind.TheVariants as kind;
 ghost use Rattle.lucy_token.specs.declared.token.Token.{Token};
 ghost use Rattle.lucy_token.specs.declared.token.What.TheVariants as what;
 ghost use Rattle.lucy_grammar.specs.Kinds.{is_bound};
 ghost use Rattle.lucy_grammar.specs.Meanings.{token_literal, token_bound};
-ghost use Rattle.lucy_grammar.specs.Reading.{Reads, Unfit, IsBoundAhead, IsBegun, Begins, IsOther, ReadsOptional, UnfitOptional};
-ghost use Rattle.lucy_syntax.specs.Refusals.{RefusedBy, begins_expr};
+ghost use Rattle.lucy_grammar.specs.Reading.{Reads, Unfit, IsBegun, Begins, ReadsOptional, UnfitOptional};
+ghost use Rattle.lucy_syntax.specs.Piles.{base_word};
+ghost use Rattle.lucy_syntax.specs.Refusals.{RefusedBy, IsBounded, IsLiteral, begins_expr};
 
-use crate::cursor::{ahead, at, sign, take, want, word};
+use crate::cursor::{ahead, at, sign, take, token, want, word};
 use crate::refusal::Refusal;
 use lucy_host::Op;
 use lucy_token::{Kind, Mark, Token, What};
@@ -17,44 +20,28 @@ use lucy_tree::{Lit, Span};
 use lucy_word::Word;
 use std::alloc::Global;
 
-/// Whether a literal begins here.
-pub(crate) fn at_literal(ts: &[Token]) -> bool
-    ensures { IsTrue result ↔ IsBegun Part.Lit ts.now }
-{
-    if at(ts, Kind::Number) {
-        return true;
-    }
-    if at(ts, Kind::Mark(Mark::True)) {
-        return true;
-    }
-    at(ts, Kind::Mark(Mark::False))
-}
-
-// A number and its place.
-fn number<'a, 't>(ts: &'a [Token<'t>]) -> Result<((Lit, Span), &'a [Token<'t>]), Refusal<'a, 't>>
-    ensures ok { IfOk result (λ p. (t : Token) × Begins ts.now t kind.Number p.1.now × (p.0.0 ≡ token_literal t.what) × (p.0.1 ≡ t.span)) }
-    ensures refused { IfErr result (RefusedBy (IsOther ts.now kind.Number)) }
-    ensures shorter { IfOk result (λ p. length p.1.now < length ts.now) }
-{
-    let Some((t, rest)) = ts.split_first() else {
-        return Err(Refusal::At(ts));
-    };
-    match &t.what {
-        What::Number(n) => Ok(((Lit::Int(*n), t.span), rest)),
-        _ => Err(Refusal::At(ts)),
-    }
-}
-
-/// A number that a buffer's bound may be: the bound, the literal, and its place.
-pub(crate) fn bound<'a, 't>(ts: &'a [Token<'t>]) -> Option<((u64, Lit, Span), &'a [Token<'t>])>
-    ensures read { MatchOption result (IsBoundAhead ts.now → ⊥) (λ p. (t : Token) × (ts.now ≡ t ∷ p.1.now) × (is_bound t.what ≡ true) × (p.0.0 ≡ token_bound t.what) × (p.0.1 ≡ token_literal t.what) × (p.0.2 ≡ t.span)) }
+// A number that a buffer's bound may be.
+fn bound<'a, 't>(ts: &'a [Token<'t>]) -> Option<(u64, &'a [Token<'t>])>
+    ensures read { MatchOption result ((t : Token) (rest : List Token) → ts.now ≡ t ∷ rest → is_bound t.what ≡ false) (λ p. (t : Token) × (ts.now ≡ t ∷ p.1.now) × (is_bound t.what ≡ true) × (p.0 ≡ token_bound t.what)) }
     ensures shorter { IfSome result (λ p. length p.1.now < length ts.now) }
 {
     let (t, rest) = ts.split_first()?;
     match &t.what {
-        What::Number(n) if may_bound(*n) => Some(((as_bound(*n), Lit::Int(*n), t.span), rest)),
+        What::Number(n) if may_bound(*n) => Some((as_bound(*n), rest)),
         _ => None,
     }
+}
+
+/// A buffer's bound before an opening parenthesis, and the tokens from that on.
+pub(crate) fn bounded<'a, 't>(ts: &'a [Token<'t>]) -> Option<(u64, &'a [Token<'t>])>
+    ensures read { MatchOption result (IsBounded ts.now → ⊥) (λ p. (t : Token) × (ts.now ≡ t ∷ p.1.now) × (is_bound t.what ≡ true) × (p.0 ≡ token_bound t.what) × (first p.1.now ≡ kind.Mark mark.Open)) }
+    ensures shorter { IfSome result (λ p. length p.1.now < length ts.now) }
+{
+    let (most, rest) = bound(ts)?;
+    if at(rest, Kind::Mark(Mark::Open)) {
+        return Some((most, rest));
+    }
+    None
 }
 
 // The greatest bound that a buffer may have, in items.
@@ -75,21 +62,28 @@ fn as_bound(n: i64) -> u64
     n as u64
 }
 
-/// A literal and its place.
-pub(crate) fn lit<'a, 't>(
-    ts: &'a [Token<'t>],
-) -> Result<((Lit, Span), &'a [Token<'t>]), Refusal<'a, 't>>
-    ensures ok { IfOk result (λ p. Reads Part.Lit ts.now p.0 p.1.now) }
-    ensures other { IfOk result (λ p. (IsBoundAhead ts.now → ⊥) → Reads Part.Other ts.now p.0 p.1.now) }
-    ensures refused { IfErr result (RefusedBy (Unfit Part.Lit ts.now)) }
-    ensures refused_other { IfErr result (RefusedBy (Unfit Part.Other ts.now)) }
-    ensures shorter { IfOk result (λ p. length p.1.now < length ts.now) }
+// A number and its place.
+fn number<'a, 't>(ts: &'a [Token<'t>]) -> Option<((Lit, Span), &'a [Token<'t>])>
+    ensures read { MatchOption result (first ts.now ≡ kind.Number → ⊥) (λ p. (t : Token) × Begins ts.now t kind.Number p.1.now × (p.0.0 ≡ token_literal t.what) × (p.0.1 ≡ t.span)) }
+    ensures shorter { IfSome result (λ p. length p.1.now < length ts.now) }
 {
-    if let Some((span, ts)) = take(ts, Mark::True) {
-        return Ok(((Lit::Bool(true), span), ts));
+    let (t, rest) = ts.split_first()?;
+    match &t.what {
+        What::Number(n) => Some(((Lit::Int(*n), t.span), rest)),
+        _ => None,
     }
-    if let Some((span, ts)) = take(ts, Mark::False) {
-        return Ok(((Lit::Bool(false), span), ts));
+}
+
+/// A literal and its place, if one begins here.
+pub(crate) fn literal<'a, 't>(ts: &'a [Token<'t>]) -> Option<((Lit, Span), &'a [Token<'t>])>
+    ensures read { MatchOption result (IsBegun Part.Lit ts.now → ⊥) (λ p. IsLiteral ts.now p.0 p.1.now) }
+    ensures shorter { IfSome result (λ p. length p.1.now < length ts.now) }
+{
+    if let Some((span, rest)) = take(ts, Mark::True) {
+        return Some(((Lit::Bool(true), span), rest));
+    }
+    if let Some((span, rest)) = take(ts, Mark::False) {
+        return Some(((Lit::Bool(false), span), rest));
     }
     number(ts)
 }
@@ -182,16 +176,16 @@ pub(crate) fn at_applied(ts: &[Token]) -> bool
 
 /// The written base of a call, if one stands here.
 pub(crate) fn base<'a, 't>(
-    alloc: Global,
     ts: &'a [Token<'t>],
-) -> Result<(Option<Word>, &'a [Token<'t>]), Refusal<'a, 't>>
-    ensures ok { IfOk result (λ p. ReadsOptional Part.Base ts.now p.0 p.1.now) }
+) -> Result<(Option<&'a Token<'t>>, &'a [Token<'t>]), Refusal<'a, 't>>
+    ensures ok { IfOk result (λ p. ReadsOptional Part.Base ts.now (base_word p.0) p.1.now) }
+    ensures word { IfOk result (λ p. IfSome p.0 (λ t. kind_of t.now.what ≡ kind.Word)) }
     ensures refused { IfErr result (RefusedBy (UnfitOptional Part.Base ts.now)) }
     ensures shorter { IfOk result (λ p. length p.1.now ≤ length ts.now) }
 {
-    if let Some((_, ts)) = take(ts, Mark::At) {
-        let (word, ts) = word(alloc, ts)?;
-        return Ok((Some(word), ts));
+    if let Some((_, rest)) = take(ts, Mark::At) {
+        let (word, rest) = token(rest, Kind::Word)?;
+        return Ok((Some(word), rest));
     }
     Ok((None, ts))
 }

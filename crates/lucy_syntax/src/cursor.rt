@@ -1,5 +1,5 @@
 // The token at the front, if it is the one that is wanted.
-ghost use Rattle.std.specs.Prelude.{◌≡◌, ◌<◌, ◌↔◌, IfOk, IfErr, IsTrue, IfSome, MatchOption, length};
+ghost use Rattle.std.specs.Prelude.{◌≡◌, ◌≢◌, ◌<◌, ◌↔◌, IfOk, IfErr, IsTrue, IfSome, MatchOption, length};
 ghost use Rattle.lucy_token.specs.Tokens.{first};
 ghost use Rattle.lucy_token.specs.declared.token.Kind.TheVariants as kind;
 ghost use Rattle.lucy_token.specs.declared.token.Token.{Token};
@@ -7,10 +7,10 @@ ghost use Rattle.lucy_grammar.specs.Meanings.{token_name, token_word};
 ghost use Rattle.lucy_grammar.specs.Reading.{Begins, IsOther};
 ghost use Rattle.lucy_syntax.specs.Refusals.{RefusedBy};
 
+use crate::make::{name_of, word_of};
 use crate::refusal::Refusal;
 use lucy_host::Op;
-use lucy_text::Text;
-use lucy_token::{Kind, Mark, Token, What};
+use lucy_token::{Kind, Mark, Token};
 use lucy_tree::{Name, Span};
 use lucy_word::Word;
 use std::alloc::Global;
@@ -30,6 +30,20 @@ pub(crate) fn at(ts: &[Token], kind: Kind) -> bool
     ensures { IsTrue result ↔ first ts.now ≡ kind }
 {
     ahead(ts) == kind
+}
+
+/// The first token, and what follows it, where it is of the kind; none is of the kind of the end.
+pub(crate) fn next<'a, 't>(
+    ts: &'a [Token<'t>],
+    wanted: Kind,
+) -> Option<(&'a Token<'t>, &'a [Token<'t>])>
+    ensures read { MatchOption result (first ts.now ≡ wanted → wanted ≡ kind.End) (λ p. Begins ts.now p.0.now wanted p.1.now) }
+    ensures shorter { IfSome result (λ p. length p.1.now < length ts.now) }
+{
+    match ts.split_first() {
+        Some((t, rest)) if t.what.kind() == wanted => Some((t, rest)),
+        _ => None,
+    }
 }
 
 /// The place of a keyword or a sign, and what follows it, where it is the first token.
@@ -71,6 +85,22 @@ pub(crate) fn want<'a, 't>(
     }
 }
 
+/// A token of the kind, and what follows it.
+pub(crate) fn token<'a, 't>(
+    ts: &'a [Token<'t>],
+    wanted: Kind,
+) -> Result<(&'a Token<'t>, &'a [Token<'t>]), Refusal<'a, 't>>
+    requires { wanted ≢ kind.End }
+    ensures ok { IfOk result (λ p. Begins ts.now p.0.now wanted p.1.now) }
+    ensures refused { IfErr result (RefusedBy (IsOther ts.now wanted)) }
+    ensures shorter { IfOk result (λ p. length p.1.now < length ts.now) }
+{
+    match next(ts, wanted) {
+        Some(taken) => Ok(taken),
+        None => Err(Refusal::At(ts)),
+    }
+}
+
 /// A name, and what follows it.
 pub(crate) fn name<'a, 't>(
     alloc: Global,
@@ -80,16 +110,8 @@ pub(crate) fn name<'a, 't>(
     ensures refused { IfErr result (RefusedBy (IsOther ts.now kind.Name)) }
     ensures shorter { IfOk result (λ p. length p.1.now < length ts.now) }
 {
-    let Some((t, rest)) = ts.split_first() else {
-        return Err(Refusal::At(ts));
-    };
-    match &t.what {
-        What::Name(bytes) => {
-            let text = Text::new(alloc, bytes.bytes())?;
-            Ok((Name { text, span: t.span }, rest))
-        }
-        _ => Err(Refusal::At(ts)),
-    }
+    let (t, rest) = token(ts, Kind::Name)?;
+    Ok((name_of(alloc, t)?, rest))
 }
 
 /// A word, and what follows it.
@@ -101,11 +123,6 @@ pub(crate) fn word<'a, 't>(
     ensures refused { IfErr result (RefusedBy (IsOther ts.now kind.Word)) }
     ensures shorter { IfOk result (λ p. length p.1.now < length ts.now) }
 {
-    let Some((t, rest)) = ts.split_first() else {
-        return Err(Refusal::At(ts));
-    };
-    match &t.what {
-        What::Word(w) => Ok((w.word(alloc)?, rest)),
-        _ => Err(Refusal::At(ts)),
-    }
+    let (t, rest) = token(ts, Kind::Word)?;
+    Ok((word_of(alloc, t)?, rest))
 }

@@ -70,7 +70,6 @@ fn several<'a, 't>(
     let (_, ts) = want(ts, Mark::Equals)?;
     let (right, ts) = call(alloc, ts)?;
     let left = Decls::new(left);
-    let right = Box::into_inner(right);
     Ok((Def { left, right }, ts))
 }
 
@@ -85,10 +84,10 @@ fn single<'a, 't>(
     ensures shorter { IfOk result (λ p. length p.1.now < length ts.now) }
 {
     let (left, ts) = decl(alloc, ts)?;
+    let left = one(alloc, left)?;
     let (_, ts) = want(ts, Mark::Equals)?;
     let (right, ts) = expr(alloc, ts)?;
-    let left = Decls::new(one(alloc, left)?);
-    let right = Box::into_inner(right);
+    let left = Decls::new(left);
     Ok((Def { left, right }, ts))
 }
 

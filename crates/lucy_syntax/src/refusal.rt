@@ -11,6 +11,9 @@ pub(crate) enum Refusal<'a, 't> {
     OutOfMemory,
 }
 
+/// The tokens behind what was read, or why it wasn't.
+pub(crate) type Read<'a, 't> = Result<&'a [Token<'t>], Refusal<'a, 't>>;
+
 impl<'a, 't> From<AllocError> for Refusal<'a, 't> {
     ghost from_gives = { λ _ e. e ≡ OutOfMemory };
 

@@ -1,377 +1,386 @@
-use Rattle.std.proofs.Common.{ℕ, Some, None, refl, ap, sym, arith, ◌∙◌, inl, inr}
+use Rattle.std.proofs.Common.{ℕ, ◌≡◌, ◌<◌, List, Option, Some, None, [], ◌∷◌, ◌++◌, refl, ap, sym, arith, ◌∙◌, inl, inr, suc, length}
 use Rattle.std.specs.Prelude.{unwrap_or}
-use Rattle.std.proofs.lemmas.Result.{IfOk-weaker, IfOk-at_ok}
-use Rattle.lucy_word.specs.Bits.{Bits}
 use Rattle.lucy_host.specs.declared.op.Op.TheVariants as op
-use Rattle.lucy_tree.specs.declared.span.Name as name
-use Rattle.lucy_tree.specs.Tree.{variable, operator, host, merged, followed, buffered, call, no_more, more}
-use Rattle.lucy_tree.specs.View.{tree_of}
+use Rattle.lucy_tree.specs.Tree.{Tree, variable, literal, operator, host, sampled, merged, followed, buffered, call, no_more, more, trees_of}
 use Rattle.lucy_token.specs.declared.mark.Mark.TheVariants as mark
 use Rattle.lucy_token.specs.declared.token.Kind.TheVariants as kind
+use Rattle.lucy_token.specs.Tokens.{first}
 use Rattle.lucy_grammar.specs.Symbols.{Part, Val}
-use Rattle.lucy_grammar.specs.Meanings.{token_word, token_bound, held_by, two}
-use Rattle.lucy_grammar.specs.Reading.{BreaksAt, Unfit, IsOther, UnfitOptional}
+use Rattle.lucy_grammar.specs.Meanings.{token_name, token_word, token_bound, two}
+use Rattle.lucy_grammar.specs.Reading.{Unfit, IsOther, UnfitOptional}
 use Rattle.lucy_grammar.proofs.Steps.{as_value}
-use Rattle.lucy_grammar.proofs.Growing.{grown_first, grown_more, grown_bad, grown_refused, grown_ended, samps, args}
+use Rattle.lucy_grammar.proofs.Growing.{grown_first, grown_more, grown_bad, grown_refused, grown_ended, samps, args, list_of-trees_of}
 use Rattle.lucy_grammar.proofs.LeafProductions.{begun, unbegun, one_expr}
 use Rattle.lucy_grammar.proofs.Productions as by
 use Rattle.lucy_syntax.specs.Levels.{UnfitAt}
-use Rattle.lucy_syntax.specs.Refusals.{UnfitBehind, UnfitClosed, behind_test, behind_base}
-use Rattle.lucy_syntax.specs.Views.{all_trees}
-use Rattle.lucy_syntax.proofs.Leaving.{leaves, hands_on, runs_out, reads_on, optional_on}
+use Rattle.lucy_syntax.specs.Piles.{base_word}
+use Rattle.lucy_syntax.specs.Refusals.{UnfitEach, UnfitEnclosed, UnfitOperand}
+use Rattle.lucy_syntax.proofs.Leaving.{goes_out, runs_out, hands, hands_only, hands_all, made}
 use Rattle.lucy_syntax.proofs.Parts as parts
-use Rattle.lucy_syntax.proofs.Facts.{fails, is_first, pair_of, put_trees}
+use Rattle.lucy_syntax.proofs.OnPiles.{over, lies_as, higher, some_there, two_there, puts_as, puts_at, puts_all_as, puts_none}
+use Rattle.lucy_syntax.proofs.Facts.{fails, is_first, pair_of}
 use Rattle.lucy_syntax.proofs.Climbing.{from_samp, climb_first, climb_up, climb_more, climb_bad, climb_end}
 use Rattle.lucy_syntax.proofs.descent.+descent.Goals as goal
 
-pub whole-returns-else-at-clause-ok : goal.whole-returns-else-at-clause-ok
-whole-returns-else-at-clause-ok t c = IfOk-weaker c.operation.result _ _ (λ p r. by.expr_or (fails c.at.ensures.1 c.if-at.false) r) c.operation.ensures.ok
+pub whole-returns-in_err-rest : goal.whole-returns-in_err-rest
+whole-returns-in_err-rest t c =
+    goes_out _ (UnfitEach (mark.If ∷ mark.Then ∷ mark.Else ∷ []) c.args.ts.now) _ c.from_residual.result c.from_residual.ensures.1 c.in_err-rest.ensures (λ rest u. parts.choice_no c.args.ts.now rest (is_first c.in-Some.ensures.read.1) u)
 
-pub whole-returns-else-at-clause-refused : goal.whole-returns-else-at-clause-refused
-whole-returns-else-at-clause-refused t c = hands_on c.operation.result c.operation.ensures.refused (λ rest u. by.expr_or_1 (fails c.at.ensures.1 c.if-at.false) u)
+pub whole-returns-in-Some : goal.whole-returns-in-Some
+whole-returns-in-Some t c =
+    let i = c.in-Some.ensures.read in
+    let p = c.in_ok-rest.ensures in
+    made _ c.operator.result c.operator.ensures
+    (λ g. record {
+      tree = operator op.If (trees_of p.list) c.in-Some.span;
+      reads = as_value (ap (operator op.If (trees_of p.list)) i.2) (parts.choice i.1 p.reads);
+      put = g _ p.list (parts.each_length (mark.If ∷ mark.Then ∷ mark.Else ∷ []) _ _ _ p.reads) p.put;
+      shorter = omega (arith, p.shorter);
+    })
 
-pub choice-returns-in_err-test-clause-refused : goal.choice-returns-in_err-test-clause-refused
-choice-returns-in_err-test-clause-refused t c =
-    leaves (Unfit Part.Expr c.in_ok-span.ts.now) _ c.from_residual-in_err-test.result c.from_residual-in_err-test.ensures.1 c.in_err-test.ensures.refused (λ rest u. by.choice_2 c.in_ok-span.ensures.ok.1 u)
+pub whole-returns : goal.whole-returns
+whole-returns t c = hands _ _ c.operation.result c.operation.ensures (omega arith) (λ e rest r. by.expr_or c.in_default.ensures.read r) (λ rest u. by.expr_or_1 c.in_default.ensures.read u)
 
-pub choice-returns-in_err-then-clause-refused : goal.choice-returns-in_err-then-clause-refused
-choice-returns-in_err-then-clause-refused t c =
-    leaves (BreaksAt Part.Expr behind_test c.in_ok-test.ts.now) _ c.from_residual-in_err-then.result c.from_residual-in_err-then.ensures.1 c.in_err-then.ensures.refused (λ rest u. parts.choice_no c.in_ok-span.ensures.ok.1 c.in_ok-test.ensures.ok u)
+pub each-returns-in_default : goal.each-returns-in_default
+each-returns-in_default t c = puts_none (parts.each_none c.args.signs.now c.args.ts.now c.in_default.ensures.cases) (omega (arith, c.in_default.ensures.cases))
 
-pub choice-returns-clause-ok : goal.choice-returns-clause-ok
-choice-returns-clause-ok t c = IfOk-weaker c.made.result _ _ (λ p h. reads_on (IfOk-at_ok _ h.0 c.choice.ensures ∙ ap (operator op.If (more (tree_of c.in_ok-test.test.value) (two (tree_of c.in_ok-then.then.value) (tree_of c.in_ok-then.other.value)))) c.in_ok-span.ensures.ok.2) h.1 (parts.choice c.in_ok-span.ensures.ok.1 c.in_ok-test.ensures.ok c.in_ok-then.ensures.ok.2)) c.made.ensures.ok
+pub each-returns-in_err-rest : goal.each-returns-in_err-rest
+each-returns-in_err-rest t c =
+    goes_out _ (IsOther c.args.ts.now (kind.Mark c.in-Some.sign.now)) _ c.from_residual.result c.from_residual.ensures.1 c.in_err-rest.ensures.refused (λ rest u. parts.each_1 c.in-Some.ensures.cases.0 u)
 
-pub choice-returns-clause-refused : goal.choice-returns-clause-refused
-choice-returns-clause-refused t c = runs_out _ c.made.result c.made.ensures.refused
+pub each-returns-in_err-rest-2 : goal.each-returns-in_err-rest-2
+each-returns-in_err-rest-2 t c =
+    goes_out _ (Unfit Part.Expr c.in_ok-rest.rest.now) _ c.from_residual-in_err-rest-2.result c.from_residual-in_err-rest-2.ensures.1 c.in_err-rest-2.ensures (λ rest u. parts.each_2 c.in-Some.ensures.cases.0 c.in_ok-rest.ensures.ok.1 u)
 
-pub branches-returns-in_err-then-clause-refused : goal.branches-returns-in_err-then-clause-refused
-branches-returns-in_err-then-clause-refused t c =
-    leaves (UnfitBehind mark.Then c.args.ts.now) _ c.from_residual.result c.from_residual.ensures.1 c.in_err-then.ensures.refused (λ rest u. parts.then_no c.args.ts.now rest u)
+pub each-returns : goal.each-returns
+each-returns t c =
+    let p = c.in_ok-rest-2.ensures in
+    hands_all c.each.result c.each.ensures
+    (λ rest q. record {
+      list = p.tree ∷ q.list;
+      reads = parts.each_more q.list rest c.in-Some.ensures.cases.0 c.in_ok-rest.ensures.ok.1 p.reads q.reads;
+      put = over p.put q.put;
+      shorter = omega (arith, q.shorter, p.shorter, c.in_ok-rest.ensures.shorter, ap length c.in-Some.ensures.cases.0);
+    })
+    (λ rest u. parts.each_3 rest c.in-Some.ensures.cases.0 c.in_ok-rest.ensures.ok.1 p.reads u)
 
-pub branches-returns-in_err-other-clause-refused : goal.branches-returns-in_err-other-clause-refused
-branches-returns-in_err-other-clause-refused t c =
-    leaves (UnfitBehind mark.Else c.in_ok-then.ts.now) _ c.from_residual-in_err-other.result c.from_residual-in_err-other.ensures.1 c.in_err-other.ensures.refused (λ rest u. parts.else_no c.args.ts.now c.in_ok-then.ts.now rest c.in_ok-then.ensures.ok u)
+pub enclosed-returns-in_err-rest : goal.enclosed-returns-in_err-rest
+enclosed-returns-in_err-rest t c =
+    goes_out _ (UnfitEach c.args.signs.now c.args.ts.now) _ c.from_residual.result c.from_residual.ensures.1 c.in_err-rest.ensures (λ rest u. inl u)
 
-pub branches-returns-clause-ok : goal.branches-returns-clause-ok
-branches-returns-clause-ok t c =
-    let a = c.in_ok-then.ensures.ok in
-    let b = c.in_ok-other.ensures.ok in
-    (a.0, b.0, parts.behind_test_is a.2 a.3 b.2 b.3)
+pub enclosed-returns-in_err-rest-2 : goal.enclosed-returns-in_err-rest-2
+enclosed-returns-in_err-rest-2 t c =
+    let p = c.in_ok-rest.ensures in
+    goes_out _ (IsOther c.in_ok-rest.rest.now (kind.Mark mark.Close)) _ c.from_residual-in_err-rest-2.result c.from_residual-in_err-rest-2.ensures.1 c.in_err-rest-2.ensures.refused (λ rest u. inr (p.list, c.in_ok-rest.rest.now, p.reads, u))
 
-pub operation-returns-in_err-left-clause-refused : goal.operation-returns-in_err-left-clause-refused
-operation-returns-in_err-left-clause-refused t c =
-    leaves (Unfit Part.Samp c.args.ts.now) _ c.from_residual.result c.from_residual.ensures.1 c.in_err-left.ensures.refused (λ rest u. from_samp c.args.wanted u)
+pub enclosed-returns : goal.enclosed-returns
+enclosed-returns t c =
+    let p = c.in_ok-rest.ensures in
+    let s = c.in_ok-rest-2.ensures in
+    record { list = p.list; reads = (c.in_ok-rest.rest.now, s.ok.0, p.reads, s.ok.1); put = p.put; shorter = omega (arith, p.shorter, s.shorter) }
+
+pub operation-returns-in_err-over : goal.operation-returns-in_err-over
+operation-returns-in_err-over t c =
+    goes_out _ (Unfit Part.Samp c.args.ts.now) _ c.from_residual.result c.from_residual.ensures.1 c.in_err-over.ensures (λ rest u. from_samp c.args.wanted u)
 
 pub operation-up-init : goal.operation-up-init
-operation-up-init t c = climb_first c.args.wanted c.in_ok-left.ensures.ok c.in_ok-left.ensures.shorter
+operation-up-init t c =
+    let p = c.in_ok-over.ensures in
+    puts_as p (omega arith) (λ r. climb_first c.args.wanted r p.shorter)
 
 pub operation-up-preserved-in_default : goal.operation-up-preserved-in_default
-operation-up-preserved-in_default t c = climb_up c.args.wanted c.up.level c.up.invariant (c.is_below.ensures.0 c.up-test.true) c.in_default.ensures.read c.looser-level.ensures
+operation-up-preserved-in_default t c = puts_as c.up.invariant (omega arith) (λ r. climb_up c.args.wanted c.up.level r (c.is_below.ensures.0 c.up-test.true) c.in_default.ensures.read c.looser-level.ensures)
 
-pub operation-returns-in_err-right-clause-refused : goal.operation-returns-in_err-right-clause-refused
-operation-returns-in_err-right-clause-refused t c =
-    leaves (UnfitAt c.up.level c.in-Some.rest.now) _ c.from_residual-in_err-right.result c.from_residual-in_err-right.ensures.1 c.in_err-right.ensures.refused (λ rest u. climb_bad c.args.wanted c.up.level _ rest _ c.up.invariant (c.is_below.ensures.0 c.up-test.true) c.in-Some.ensures.read u)
+pub operation-returns-in_err-rest : goal.operation-returns-in_err-rest
+operation-returns-in_err-rest t c =
+    goes_out _ (UnfitAt c.up.level c.in-Some.rest.now) _ c.from_residual-in_err-rest.result c.from_residual-in_err-rest.ensures.1 c.in_err-rest.ensures
+    (λ rest u. climb_bad c.args.wanted c.up.level _ rest _ c.up.invariant.reads (c.is_below.ensures.0 c.up-test.true) c.in-Some.ensures.read u)
+
+pub operation-returns-in_err-over-2 : goal.operation-returns-in_err-over-2
+operation-returns-in_err-over-2 t c = runs_out _ _ _ c.from_residual-in_err-over-2.result c.from_residual-in_err-over-2.ensures.1 c.in_err-over-2.ensures
 
 pub operation-up-preserved : goal.operation-up-preserved
-operation-up-preserved t c = climb_more c.args.wanted c.up.level _ c.up.invariant (c.is_below.ensures.0 c.up-test.true) c.in-Some.ensures.read c.in_ok-right.ensures.ok (omega (arith, c.in_ok-right.ensures.shorter, c.in-Some.ensures.shorter)) c.in_ok-left-2.ensures c.behind-level.ensures
+operation-up-preserved t c =
+    let i = c.up.invariant in
+    let p = c.in_ok-rest.ensures in
+    let made = c.in_ok-over-2.ensures in
+    let less : length c.in_ok-rest.rest.now < length c.up.over.now = omega (arith, p.shorter, c.in-Some.ensures.shorter) in
+    puts_at made.1
+    (record {
+      tree = operator c.in-Some.op (two i.tree p.tree) c.in-Some.span;
+      reads = climb_more c.args.wanted c.up.level _ i.reads (c.is_below.ensures.0 c.up-test.true) c.in-Some.ensures.read p.reads less refl c.behind-level.ensures;
+      put = made.0 _ (i.tree ∷ p.tree ∷ []) refl (over i.put p.put);
+      shorter = omega (arith, i.shorter, less);
+    })
 
-pub operation-returns-clause-ok : goal.operation-returns-clause-ok
-operation-returns-clause-ok t c = climb_end c.args.wanted c.up.level c.up.invariant (fails c.is_below.ensures.1 c.up-test.false)
+pub operation-returns : goal.operation-returns
+operation-returns t c = puts_as c.up.invariant (omega arith) (λ r. climb_end c.args.wanted c.up.level r (fails c.is_below.ensures.1 c.up-test.false))
 
-pub samp-returns-in_err-left-clause-refused : goal.samp-returns-in_err-left-clause-refused
-samp-returns-in_err-left-clause-refused t c =
-    leaves (Unfit Part.Pre c.args.ts.now) _ c.from_residual.result c.from_residual.ensures.1 c.in_err-left.ensures.refused (λ rest u. grown_bad samps u)
+pub samp-returns-in_err-over : goal.samp-returns-in_err-over
+samp-returns-in_err-over t c =
+    goes_out _ (UnfitOperand c.args.ts.now) _ c.from_residual.result c.from_residual.ensures.1 c.in_err-over.ensures (λ rest u. grown_bad samps u.operand)
 
 pub samp-more-init : goal.samp-more-init
-samp-more-init t c = grown_first samps refl c.in_ok-left.ensures.ok c.in_ok-left.ensures.shorter
+samp-more-init t c =
+    let p = c.in_ok-over.ensures in
+    puts_as p (omega arith) (λ r. grown_first samps refl r.operand p.shorter)
 
-pub samp-returns-in_err-left-2-clause-refused : goal.samp-returns-in_err-left-2-clause-refused
-samp-returns-in_err-left-2-clause-refused t c =
-    leaves (Unfit Part.Sampling c.more.over.now) _ c.from_residual-in_err-left-2.result c.from_residual-in_err-left-2.ensures.1 c.in_err-left-2.ensures.refused (λ rest u. grown_refused samps c.more.invariant (c.at_sampling.ensures.0 c.more-test.true) u)
+pub samp-sampled-requires : goal.samp-sampled-requires
+samp-sampled-requires t c = some_there c.more.invariant.put
+
+pub samp-returns-in_err-over-2 : goal.samp-returns-in_err-over-2
+samp-returns-in_err-over-2 t c =
+    goes_out _ (Unfit Part.Sampling c.more.over.now) _ c.from_residual-in_err-over-2.result c.from_residual-in_err-over-2.ensures.1 c.in_err-over-2.ensures (λ rest u. grown_refused samps c.more.invariant.reads (c.at_sampling.ensures.0 c.more-test.true) u)
 
 pub samp-more-preserved : goal.samp-more-preserved
-samp-more-preserved t c = grown_more samps c.more.invariant c.in_ok-left-2.ensures.ok.2 (c.at_sampling.ensures.0 c.more-test.true) c.in_ok-left-2.ensures.ok.1 c.in_ok-left-2.ensures.shorter
+samp-more-preserved t c =
+    let i = c.more.invariant in
+    let p = c.in_ok-over-2.ensures in
+    record {
+      tree = sampled p.0.0 i.tree p.0.1;
+      reads = grown_more samps i.reads refl (c.at_sampling.ensures.0 c.more-test.true) p.1 p.3;
+      put = p.2 _ i.tree i.put;
+      shorter = omega (arith, i.shorter, p.3);
+    }
 
-pub samp-returns-clause-ok : goal.samp-returns-clause-ok
-samp-returns-clause-ok t c = grown_ended samps c.more.invariant (fails c.at_sampling.ensures.1 c.more-test.false)
+pub samp-returns : goal.samp-returns
+samp-returns t c = puts_as c.more.invariant (omega arith) (λ r. grown_ended samps r (fails c.at_sampling.ensures.1 c.more-test.false))
 
-pub pre-returns-clause-ok : goal.pre-returns-clause-ok
-pre-returns-clause-ok t c = IfOk-weaker c.form.result _ _ (λ p r. by.by_form (fails c.at_literal.ensures.1 c.if-at_literal.false) r) c.form.ensures.ok
+pub pre-returns-in-Some : goal.pre-returns-in-Some
+pre-returns-in-Some t c =
+    let i = c.in-Some.ensures.read in
+    hands _ _ c.behind_literal.result c.behind_literal.ensures (omega (arith, c.in-Some.ensures.shorter))
+    (λ e rest r. record { operand = as_value r.2 (by.by_literal r.0 i.begun i.reads r.1); behind_buffer = λ n. as_value (pair_of refl r.2) (parts.held_literal r.0 i n r.1) })
+    (λ rest u. record { operand = by.by_literal_2 i.begun i.reads u; behind_buffer = λ n. parts.held_literal_no i u })
 
-pub pre-returns-clause-refused : goal.pre-returns-clause-refused
-pre-returns-clause-refused t c = hands_on c.form.result c.form.ensures.refused (λ rest u. by.by_form_1 (fails c.at_literal.ensures.1 c.if-at_literal.false) u)
+pub pre-returns : goal.pre-returns
+pre-returns t c =
+    let n = c.in_default.ensures.read in
+    hands _ _ c.form.result c.form.ensures (omega arith) (λ e rest r. record { operand = by.by_form n r; behind_buffer = λ _. by.held_form n r }) (λ rest u. record { operand = by.by_form_1 n u; behind_buffer = λ _. by.held_form_1 n u })
 
-pub form-returns-clause-ok : goal.form-returns-clause-ok
-form-returns-clause-ok t c = IfOk-weaker c.atom.result _ _ (λ p r. by.bare ((fails c.at.ensures.1 c.if-at.false), ((fails c.at-2.ensures.1 c.if-at-2.false), ((fails c.at-3.ensures.1 c.if-at-3.false), tt))) r) c.atom.ensures.ok
+pub behind_literal-returns-in_err-rest : goal.behind_literal-returns-in_err-rest
+behind_literal-returns-in_err-rest t c =
+    goes_out _ (UnfitOperand c.in-Some.rest.now) _ c.from_residual.result c.from_residual.ensures.1 c.in_err-rest.ensures (λ rest u. by.fby_follows_2 c.in-Some.ensures.read.1 u.operand)
 
-pub form-returns-clause-refused : goal.form-returns-clause-refused
-form-returns-clause-refused t c = hands_on c.atom.result c.atom.ensures.refused (λ rest u. by.bare_1 ((fails c.at.ensures.1 c.if-at.false), ((fails c.at-2.ensures.1 c.if-at-2.false), ((fails c.at-3.ensures.1 c.if-at-3.false), tt))) u)
+pub behind_literal-followed-requires : goal.behind_literal-followed-requires
+behind_literal-followed-requires t c = some_there c.in_ok-rest.ensures.put
 
-pub negation-returns-in_err-operand-clause-refused : goal.negation-returns-in_err-operand-clause-refused
-negation-returns-in_err-operand-clause-refused t c =
-    leaves (Unfit Part.Pre c.in_ok-span.ts.now) _ c.from_residual-in_err-operand.result c.from_residual-in_err-operand.ensures.1 c.in_err-operand.ensures.refused (λ rest u. by.negation_2 c.in_ok-span.ensures.ok.1 u)
-
-pub negation-returns-clause-ok : goal.negation-returns-clause-ok
-negation-returns-clause-ok t c = IfOk-weaker c.made.result _ _ (λ p h. reads_on (IfOk-at_ok _ h.0 c.negation.ensures ∙ ap (operator op.Not (more (tree_of c.in_ok-operand.operand.value) no_more)) c.in_ok-span.ensures.ok.2) h.1 (by.negation c.in_ok-span.ensures.ok.1 c.in_ok-operand.ensures.ok)) c.made.ensures.ok
-
-pub negation-returns-clause-refused : goal.negation-returns-clause-refused
-negation-returns-clause-refused t c = runs_out _ c.made.result c.made.ensures.refused
-
-pub buffered-returns-in_err-most-clause-refused : goal.buffered-returns-in_err-most-clause-refused
-buffered-returns-in_err-most-clause-refused t c =
-    leaves (Unfit Part.Buffered c.in_ok-span.ts.now) _ c.from_residual-in_err-most.result c.from_residual-in_err-most.ensures.1 c.in_err-most.ensures.refused (λ rest u. by.buffer_2 c.in_ok-span.ensures.ok.1 u)
-
-pub buffered-returns-clause-ok : goal.buffered-returns-clause-ok
-buffered-returns-clause-ok t c = IfOk-weaker c.made.result _ _ (λ p h. reads_on (IfOk-at_ok _ h.0 c.buffered.ensures ∙ ap (buffered c.in_ok-most.most (tree_of c.in_ok-most.operand.value)) c.in_ok-span.ensures.ok.2) h.1 (by.buffer c.in_ok-span.ensures.ok.1 c.in_ok-most.ensures.ok)) c.made.ensures.ok
-
-pub buffered-returns-clause-refused : goal.buffered-returns-clause-refused
-buffered-returns-clause-refused t c = runs_out _ c.made.result c.made.ensures.refused
-
-pub held-returns-in-Some-clause-ok : goal.held-returns-in-Some-clause-ok
-held-returns-in-Some-clause-ok t c =
-    let b = c.in-Some.ensures.read in
-    IfOk-weaker c.behind_bound.result _ _
-    (λ p r. as_value (r.2 ∙ ap (λ (n : ℕ). held_by n (c.in-Some.number, c.in-Some.span) r.0) b.3 ∙ ap (λ (l : Val Part.Lit). held_by (token_bound b.0.what) l r.0) (pair_of b.4 b.5)) (by.held_bound r.0 b.1 b.2 r.1)) c.behind_bound.ensures.ok
-
-pub held-returns-in-Some-clause-refused : goal.held-returns-in-Some-clause-refused
-held-returns-in-Some-clause-refused t c = hands_on c.behind_bound.result c.behind_bound.ensures.refused (λ rest u. by.held_bound_2 c.in-Some.ensures.read.1 c.in-Some.ensures.read.2 u)
-
-pub held-returns-in_err-lit-clause-refused : goal.held-returns-in_err-lit-clause-refused
-held-returns-in_err-lit-clause-refused t c =
-    leaves (Unfit Part.Other c.args.ts.now) _ c.from_residual.result c.from_residual.ensures.1 c.in_err-lit.ensures.refused_other (λ rest u. by.held_other_1 (by.other_begun c.args.ts.now (c.at_literal.ensures.0 c.if-at_literal.true) c.in_default.ensures.read) u)
-
-pub held-returns-in_err-operand-clause-refused : goal.held-returns-in_err-operand-clause-refused
-held-returns-in_err-operand-clause-refused t c =
-    leaves (UnfitOptional Part.Followed c.in_ok-lit.ts.now) _ c.from_residual-in_err-operand.result c.from_residual-in_err-operand.ensures.1 c.in_err-operand.ensures.refused
-    (λ rest u. by.held_other_2 (by.other_begun c.args.ts.now (c.at_literal.ensures.0 c.if-at_literal.true) c.in_default.ensures.read) (c.in_ok-lit.ensures.other c.in_default.ensures.read) u)
-
-pub held-returns-then-at_literal-clause-ok : goal.held-returns-then-at_literal-clause-ok
-held-returns-then-at_literal-clause-ok t c =
-    let r = c.in_ok-operand.ensures.ok in
-    as_value (pair_of refl r.2) (by.held_other r.0 (by.other_begun c.args.ts.now (c.at_literal.ensures.0 c.if-at_literal.true) c.in_default.ensures.read) (c.in_ok-lit.ensures.other c.in_default.ensures.read) r.1)
-
-pub held-returns-in_err-operand-2-clause-refused : goal.held-returns-in_err-operand-2-clause-refused
-held-returns-in_err-operand-2-clause-refused t c =
-    leaves (Unfit Part.Form c.args.ts.now) _ c.from_residual-in_err-operand-2.result c.from_residual-in_err-operand-2.ensures.1 c.in_err-operand-2.ensures.refused (λ rest u. by.held_form_1 (fails c.at_literal.ensures.1 c.if-at_literal.false) u)
-
-pub held-returns-clause-ok : goal.held-returns-clause-ok
-held-returns-clause-ok t c = by.held_form (fails c.at_literal.ensures.1 c.if-at_literal.false) c.in_ok-operand-2.ensures.ok
-
-pub behind_bound-returns-in_err-operand-clause-refused : goal.behind_bound-returns-in_err-operand-clause-refused
-behind_bound-returns-in_err-operand-clause-refused t c =
-    leaves (UnfitClosed mark.Open c.args.ts.now) _ c.from_residual.result c.from_residual.ensures.1 c.in_err-operand.ensures.refused (λ rest u. parts.held_inner_no c.args.ts.now rest (c.at.ensures.0 c.if-at.true) u)
-
-pub behind_bound-returns-then-at-clause-ok : goal.behind_bound-returns-then-at-clause-ok
-behind_bound-returns-then-at-clause-ok t c =
-    let r = c.in_ok-operand.ensures.ok in
-    (Some (None, tree_of c.in_ok-operand.operand.value), by.held_parens r.4 r.5 r.6, refl)
-
-pub behind_bound-returns-in_err-operand-2-clause-refused : goal.behind_bound-returns-in_err-operand-2-clause-refused
-behind_bound-returns-in_err-operand-2-clause-refused t c =
-    leaves (UnfitOptional Part.Followed c.args.ts.now) _ c.from_residual-in_err-operand-2.result c.from_residual-in_err-operand-2.ensures.1 c.in_err-operand-2.ensures.refused (λ rest u. by.held_followed_1 u)
-
-pub behind_bound-returns-clause-ok : goal.behind_bound-returns-clause-ok
-behind_bound-returns-clause-ok t c =
-    let r = c.in_ok-operand-2.ensures.ok in
-    (by.held_of r.0, by.held_followed _ _ r.0 (fails c.at.ensures.1 c.if-at.false) r.1, pair_of refl r.2 ∙ sym (by.held_before c.args.most (c.args.number, c.args.span) r.0))
-
-pub merged-returns-in_err-word-clause-refused : goal.merged-returns-in_err-word-clause-refused
-merged-returns-in_err-word-clause-refused t c =
-    leaves (IsOther c.in_ok-span.ts.now kind.Word) _ c.from_residual-in_err-word.result c.from_residual-in_err-word.ensures.1 c.in_err-word.ensures.refused (λ rest u. by.merge_2 c.in_ok-span.ensures.ok.1 u)
-
-pub merged-returns-in_err-first-clause-refused : goal.merged-returns-in_err-first-clause-refused
-merged-returns-in_err-first-clause-refused t c =
-    leaves (Unfit Part.Small c.in_ok-word.ts.now) _ c.from_residual-in_err-first.result c.from_residual-in_err-first.ensures.1 c.in_err-first.ensures.refused (λ rest u. by.merge_3 c.in_ok-span.ensures.ok.1 c.in_ok-word.ensures.ok.1 u)
-
-pub merged-returns-in_err-second-clause-refused : goal.merged-returns-in_err-second-clause-refused
-merged-returns-in_err-second-clause-refused t c =
-    leaves (Unfit Part.Small c.in_ok-first.ts.now) _ c.from_residual-in_err-second.result c.from_residual-in_err-second.ensures.1 c.in_err-second.ensures.refused (λ rest u. by.merge_4 c.in_ok-span.ensures.ok.1 c.in_ok-word.ensures.ok.1 c.in_ok-first.ensures.ok u)
-
-pub merged-returns-clause-ok : goal.merged-returns-clause-ok
-merged-returns-clause-ok t c = IfOk-weaker c.made.result _ _ (λ p h. reads_on (IfOk-at_ok _ h.0 c.merged.ensures ∙ ap (λ (x : Bits). merged x (tree_of c.in_ok-first.first.value) (tree_of c.in_ok-second.second.value) c.in_ok-span.span) c.in_ok-word.ensures.ok.2 ∙ ap (merged (token_word c.in_ok-word.ensures.ok.0.what) (tree_of c.in_ok-first.first.value) (tree_of c.in_ok-second.second.value)) c.in_ok-span.ensures.ok.2) h.1 (by.merge c.in_ok-span.ensures.ok.1 c.in_ok-word.ensures.ok.1 c.in_ok-first.ensures.ok c.in_ok-second.ensures.ok)) c.made.ensures.ok
-
-pub merged-returns-clause-refused : goal.merged-returns-clause-refused
-merged-returns-clause-refused t c = runs_out _ c.made.result c.made.ensures.refused
-
-pub literal-returns-in_err-lit-clause-refused : goal.literal-returns-in_err-lit-clause-refused
-literal-returns-in_err-lit-clause-refused t c =
-    leaves (Unfit Part.Lit c.args.ts.now) _ c.from_residual.result c.from_residual.ensures.1 c.in_err-lit.ensures.refused (λ rest u. by.by_literal_1 c.requires u)
-
-pub literal-returns-clause-ok : goal.literal-returns-clause-ok
-literal-returns-clause-ok t c = IfOk-weaker c.behind_literal.result _ _ (λ p r. as_value r.2 (by.by_literal r.0 c.requires c.in_ok-lit.ensures.ok r.1)) c.behind_literal.ensures.ok
-
-pub literal-returns-clause-refused : goal.literal-returns-clause-refused
-literal-returns-clause-refused t c = hands_on c.behind_literal.result c.behind_literal.ensures.refused (λ rest u. by.by_literal_2 c.requires c.in_ok-lit.ensures.ok u)
-
-pub behind_literal-returns-in_err-operand-clause-refused : goal.behind_literal-returns-in_err-operand-clause-refused
-behind_literal-returns-in_err-operand-clause-refused t c =
-    leaves (Unfit Part.Pre c.in-Some.ts.now) _ c.from_residual.result c.from_residual.ensures.1 c.in_err-operand.ensures.refused (λ rest u. by.fby_follows_2 c.in-Some.ensures.read.1 u)
-
-pub behind_literal-returns-in-Some-clause-ok : goal.behind_literal-returns-in-Some-clause-ok
-behind_literal-returns-in-Some-clause-ok t c =
+pub behind_literal-returns-in-Some : goal.behind_literal-returns-in-Some
+behind_literal-returns-in-Some t c =
     let fby = c.in-Some.ensures.read in
-    let read = by.fby_follows fby.1 c.in_ok-operand.ensures.ok in
-    IfOk-weaker c.made.result _ _
-    (λ p h. (Some (fby.0.span, tree_of c.in_ok-operand.operand.value), optional_on Part.Followed c.args.ts.now (Some (fby.0.span, tree_of c.in_ok-operand.operand.value)) h.1 read, IfOk-at_ok _ h.0 c.followed.ensures ∙ ap (followed c.args.lit (tree_of c.in_ok-operand.operand.value)) fby.2)) c.made.ensures.ok
+    let p = c.in_ok-rest.ensures in
+    made _ c.followed.result c.followed.ensures
+    (λ g. record {
+      tree = followed c.args.lit p.tree c.in-Some.fby;
+      reads = (Some (fby.0.span, p.tree), by.fby_follows fby.1 p.reads.operand, ap (followed c.args.lit p.tree) fby.2);
+      put = g _ p.tree p.put;
+      shorter = omega (arith, p.shorter, c.in-Some.ensures.shorter);
+    })
 
-pub behind_literal-returns-in-Some-clause-refused : goal.behind_literal-returns-in-Some-clause-refused
-behind_literal-returns-in-Some-clause-refused t c = runs_out _ c.made.result c.made.ensures.refused
+pub behind_literal-returns : goal.behind_literal-returns
+behind_literal-returns t c = made _ c.literal.result c.literal.ensures (λ g. record { tree = literal c.args.lit c.args.span; reads = (None, by.no_fby c.in_default.ensures.read, refl); put = g; shorter = omega arith })
 
-pub behind_literal-returns-clause-ok : goal.behind_literal-returns-clause-ok
-behind_literal-returns-clause-ok t c =
-    IfOk-weaker c.made-2.result _ _ (λ p h. (None, optional_on Part.Followed c.args.ts.now None h.1 (by.no_fby c.in_default.ensures.read), IfOk-at_ok _ h.0 c.literal.ensures)) c.made-2.ensures.ok
+pub form-returns-in_err-rest : goal.form-returns-in_err-rest
+form-returns-in_err-rest t c =
+    goes_out _ (UnfitOperand c.in-Some.rest.now) _ c.from_residual.result c.from_residual.ensures.1 c.in_err-rest.ensures (λ rest u. by.negation_2 c.in-Some.ensures.read.1 u.operand)
 
-pub behind_literal-returns-clause-refused : goal.behind_literal-returns-clause-refused
-behind_literal-returns-clause-refused t c = runs_out _ c.made-2.result c.made-2.ensures.refused
+pub form-returns-in-Some : goal.form-returns-in-Some
+form-returns-in-Some t c =
+    let s = c.in-Some.ensures.read in
+    let p = c.in_ok-rest.ensures in
+    made _ c.operator.result c.operator.ensures
+    (λ g. record {
+      tree = operator op.Not (more p.tree no_more) c.in-Some.span;
+      reads = as_value (ap (operator op.Not (more p.tree no_more)) s.2) (by.negation s.1 p.reads.operand);
+      put = g _ (p.tree ∷ []) refl p.put;
+      shorter = omega (arith, p.shorter, c.in-Some.ensures.shorter);
+    })
 
-pub atom-returns-clause-ok : goal.atom-returns-clause-ok
-atom-returns-clause-ok t c = IfOk-weaker c.closed.result _ _ (λ p r. by.parens r.4 r.5 r.6) c.closed.ensures.ok
+pub form-returns-in-Some-take : goal.form-returns-in-Some-take
+form-returns-in-Some-take t c =
+    let s = c.in-Some-take.ensures.read in
+    hands _ _ c.buffered.result c.buffered.ensures (omega (arith, c.in-Some-take.ensures.shorter)) (λ e rest r. as_value (r.2 ∙ ap (buffered r.0.0 r.0.1) s.2) (by.buffer s.1 r.1)) (λ rest u. by.buffer_2 s.1 u)
 
-pub atom-returns-clause-refused : goal.atom-returns-clause-refused
-atom-returns-clause-refused t c = hands_on c.closed.result c.closed.ensures.refused (λ rest u. parts.atom_inner_no c.args.ts.now rest (fails c.at.ensures.1 c.if-at.false) (fails c.at-2.ensures.1 c.if-at-2.false) u)
+pub form-returns-in_err-word : goal.form-returns-in_err-word
+form-returns-in_err-word t c =
+    goes_out _ (IsOther c.in-Some-take-2.rest.now kind.Word) _ c.from_residual-in_err-word.result c.from_residual-in_err-word.ensures.1 c.in_err-word.ensures.refused (λ rest u. by.merge_2 c.in-Some-take-2.ensures.read.1 u)
 
-pub behind-returns-in_err-ts-clause-refused : goal.behind-returns-in_err-ts-clause-refused
-behind-returns-in_err-ts-clause-refused t c =
-    leaves (IsOther c.args.ts.now (kind.Mark c.args.sign)) _ c.from_residual.result c.from_residual.ensures.1 c.in_err-ts.ensures.refused (λ rest u. inl u)
+pub form-returns-in_err-rest-2 : goal.form-returns-in_err-rest-2
+form-returns-in_err-rest-2 t c =
+    goes_out _ (Unfit Part.Small c.in_ok-word.rest.now) _ c.from_residual-in_err-rest-2.result c.from_residual-in_err-rest-2.ensures.1 c.in_err-rest-2.ensures (λ rest u. by.merge_3 c.in-Some-take-2.ensures.read.1 c.in_ok-word.ensures.ok u)
 
-pub behind-returns-clause-ok : goal.behind-returns-clause-ok
-behind-returns-clause-ok t c = IfOk-weaker c.whole.result _ _ (λ p r. (c.in_ok-ts.ensures.ok.0, c.in_ok-ts.ts.now, c.in_ok-ts.ensures.ok.1, r)) c.whole.ensures.ok
+pub form-returns-in_err-rest-3 : goal.form-returns-in_err-rest-3
+form-returns-in_err-rest-3 t c =
+    goes_out _ (Unfit Part.Small c.in_ok-rest-2.rest.now) _ c.from_residual-in_err-rest-3.result c.from_residual-in_err-rest-3.ensures.1 c.in_err-rest-3.ensures
+    (λ rest u. by.merge_4 c.in-Some-take-2.ensures.read.1 c.in_ok-word.ensures.ok c.in_ok-rest-2.ensures.reads u)
 
-pub behind-returns-clause-refused : goal.behind-returns-clause-refused
-behind-returns-clause-refused t c = hands_on c.whole.result c.whole.ensures.refused (λ rest u. inr (c.in_ok-ts.ensures.ok.0, c.in_ok-ts.ts.now, c.in_ok-ts.ensures.ok.1, u))
+pub form-returns-in-Some-take-2 : goal.form-returns-in-Some-take-2
+form-returns-in-Some-take-2 t c =
+    let s = c.in-Some-take-2.ensures.read in
+    let w = c.in_ok-word.ensures in
+    let a = c.in_ok-rest-2.ensures in
+    let b = c.in_ok-rest-3.ensures in
+    let word = token_word c.in_ok-word.word.now.what in
+    made _ c.merged.result c.merged.ensures
+    (λ g. record {
+      tree = merged word a.tree b.tree c.in-Some-take-2.span;
+      reads = as_value (ap (merged word a.tree b.tree) s.2) (by.merge s.1 w.ok a.reads b.reads);
+      put = g _ a.tree b.tree (over a.put b.put);
+      shorter = omega (arith, b.shorter, a.shorter, w.shorter, c.in-Some-take-2.ensures.shorter);
+    })
 
-pub closed-returns-in_err-ts-clause-refused : goal.closed-returns-in_err-ts-clause-refused
-closed-returns-in_err-ts-clause-refused t c =
-    leaves (IsOther c.args.ts.now (kind.Mark c.args.sign)) _ c.from_residual.result c.from_residual.ensures.1 c.in_err-ts.ensures.refused (λ rest u. inl u)
+pub form-returns : goal.form-returns
+form-returns t c =
+    let bare : by.IsBare c.args.ts.now = (c.in_default.ensures.read, (c.in_default-take.ensures.read, (c.in_default-take-2.ensures.read, tt))) in
+    hands _ _ c.atom.result c.atom.ensures (omega arith) (λ e rest r. by.bare bare r) (λ rest u. by.bare_1 bare u)
 
-pub closed-returns-in_err-inner-clause-refused : goal.closed-returns-in_err-inner-clause-refused
-closed-returns-in_err-inner-clause-refused t c =
-    leaves (Unfit Part.Expr c.in_ok-ts.ts.now) _ c.from_residual-in_err-inner.result c.from_residual-in_err-inner.ensures.1 c.in_err-inner.ensures.refused (λ rest u. inr (inl (c.in_ok-ts.ensures.ok.0, c.in_ok-ts.ts.now, c.in_ok-ts.ensures.ok.1, u)))
+pub buffered-returns-in_err-rest : goal.buffered-returns-in_err-rest
+buffered-returns-in_err-rest t c =
+    let b = c.in-Some.ensures.read in
+    goes_out _ (UnfitEnclosed (mark.Open ∷ []) c.in-Some.rest.now) _ c.from_residual.result c.from_residual.ensures.1 c.in_err-rest.ensures (λ rest u. parts.held_no b.1 b.2 b.4 u)
 
-pub closed-returns-in_err-ts-2-clause-refused : goal.closed-returns-in_err-ts-2-clause-refused
-closed-returns-in_err-ts-2-clause-refused t c =
-    leaves (IsOther c.in_ok-inner.ts.now (kind.Mark mark.Close)) _ c.from_residual-in_err-ts-2.result c.from_residual-in_err-ts-2.ensures.1 c.in_err-ts-2.ensures.refused (λ rest u. inr (inr (c.in_ok-ts.ensures.ok.0, c.in_ok-ts.ts.now, tree_of c.in_ok-inner.inner.value, c.in_ok-inner.ts.now, c.in_ok-ts.ensures.ok.1, c.in_ok-inner.ensures.ok, u)))
+pub buffered-returns-in-Some : goal.buffered-returns-in-Some
+buffered-returns-in-Some t c =
+    let b = c.in-Some.ensures.read in
+    let p = c.in_ok-rest.ensures in
+    let h = parts.held b.1 b.2 p.reads in
+    made _ c.buffered.result c.buffered.ensures
+    (λ g. record {
+      tree = buffered (Some c.in-Some.most) h.0 c.args.span;
+      reads = ((Some (token_bound b.0.what), h.0), h.2, ap (λ (n : ℕ). buffered (Some n) h.0 c.args.span) b.3);
+      put = g _ h.0 (lies_as p.put h.1);
+      shorter = omega (arith, p.shorter, c.in-Some.ensures.shorter);
+    })
 
-pub closed-returns-clause-ok : goal.closed-returns-clause-ok
-closed-returns-clause-ok t c = (c.in_ok-ts.ensures.ok.0, c.in_ok-ts-2.ensures.ok.0, c.in_ok-ts.ts.now, c.in_ok-inner.ts.now, c.in_ok-ts.ensures.ok.1, c.in_ok-inner.ensures.ok, c.in_ok-ts-2.ensures.ok.1)
+pub buffered-returns-in_err-rest-2 : goal.buffered-returns-in_err-rest-2
+buffered-returns-in_err-rest-2 t c =
+    goes_out _ (UnfitOperand c.args.ts.now) _ c.from_residual-in_err-rest-2.result c.from_residual-in_err-rest-2.ensures.1 c.in_err-rest-2.ensures (λ rest u. u.behind_buffer c.in_default.ensures.read)
 
-pub named-returns-then-at_applied-clause-ok : goal.named-returns-then-at_applied-clause-ok
-named-returns-then-at_applied-clause-ok t c = IfOk-weaker c.applied.result _ _ (λ p r. as_value (r.2 ∙ ap (λ (x : name.Name). call x r.0.0 r.0.1) c.in_ok-name.ensures.ok.2) (by.name (Some r.0) c.in_ok-name.ensures.ok.1 ((c.at_applied.ensures.0 c.if-at_applied.true), r.1))) c.applied.ensures.ok
+pub buffered-returns : goal.buffered-returns
+buffered-returns t c =
+    let p = c.in_ok-rest-2.ensures in
+    made _ c.buffered-2.result c.buffered-2.ensures
+    (λ g. record { tree = buffered None p.tree c.args.span; reads = ((None, p.tree), p.reads.behind_buffer c.in_default.ensures.read, refl); put = g _ p.tree p.put; shorter = p.shorter })
 
-pub named-returns-then-at_applied-clause-refused : goal.named-returns-then-at_applied-clause-refused
-named-returns-then-at_applied-clause-refused t c = hands_on c.applied.result c.applied.ensures.refused (λ rest u. by.name_2 c.in_ok-name.ensures.ok.1 ((c.at_applied.ensures.0 c.if-at_applied.true), u))
+pub atom-returns-then-at_applied : goal.atom-returns-then-at_applied
+atom-returns-then-at_applied t c =
+    let begun = c.at_applied.ensures.0 c.if-at_applied.true in
+    hands _ _ c.applied.result c.applied.ensures (omega (arith, c.in-Some.ensures.shorter)) (λ e rest r. as_value r.2 (by.name (Some r.0) c.in-Some.ensures.read (begun, r.1))) (λ rest u. by.name_2 c.in-Some.ensures.read (begun, u))
 
-pub named-returns-clause-ok : goal.named-returns-clause-ok
-named-returns-clause-ok t c = IfOk-weaker c.made.result _ _ (λ p h. reads_on (IfOk-at_ok _ h.0 c.variable.ensures ∙ ap variable c.in_ok-name.ensures.ok.2) h.1 (by.name None c.in_ok-name.ensures.ok.1 (fails c.at_applied.ensures.1 c.if-at_applied.false, refl))) c.made.ensures.ok
+pub atom-returns-in-Some : goal.atom-returns-in-Some
+atom-returns-in-Some t c =
+    made _ c.variable.result c.variable.ensures
+    (λ g. record { tree = variable (token_name c.in-Some.name.now); reads = by.name None c.in-Some.ensures.read (fails c.at_applied.ensures.1 c.if-at_applied.false, refl); put = g; shorter = c.in-Some.ensures.shorter })
 
-pub named-returns-clause-refused : goal.named-returns-clause-refused
-named-returns-clause-refused t c = runs_out _ c.made.result c.made.ensures.refused
+pub atom-returns-in_err-name : goal.atom-returns-in_err-name
+atom-returns-in_err-name t c =
+    goes_out _ (IsOther c.in-Some-take.rest.now kind.Name) _ c.from_residual.result c.from_residual.ensures.1 c.in_err-name.ensures.refused (λ rest u. by.hosted_2 c.in-Some-take.ensures.read.1 u)
 
-pub hosted-returns-in_err-name-clause-refused : goal.hosted-returns-in_err-name-clause-refused
-hosted-returns-in_err-name-clause-refused t c =
-    leaves (IsOther c.in_ok-ts.ts.now kind.Name) _ c.from_residual-in_err-name.result c.from_residual-in_err-name.ensures.1 c.in_err-name.ensures.refused (λ rest u. by.hosted_2 c.in_ok-ts.ensures.ok.1 u)
+pub atom-returns-in_err-rest : goal.atom-returns-in_err-rest
+atom-returns-in_err-rest t c =
+    goes_out _ (UnfitEnclosed (mark.Open ∷ mark.Comma ∷ []) c.in_ok-name.rest.now) _ c.from_residual-in_err-rest.result c.from_residual-in_err-rest.ensures.1 c.in_err-rest.ensures
+    (λ rest u. by.hosted_3 c.in-Some-take.ensures.read.1 c.in_ok-name.ensures.ok (parts.pair_no c.in_ok-name.rest.now rest u))
 
-pub hosted-returns-in_err-first-clause-refused : goal.hosted-returns-in_err-first-clause-refused
-hosted-returns-in_err-first-clause-refused t c =
-    leaves (Unfit Part.Pair c.in_ok-name.ts.now) _ c.from_residual-in_err-first.result c.from_residual-in_err-first.ensures.1 c.in_err-first.ensures.refused (λ rest u. by.hosted_3 c.in_ok-ts.ensures.ok.1 c.in_ok-name.ensures.ok.1 u)
+pub atom-returns-in-Some-take : goal.atom-returns-in-Some-take
+atom-returns-in-Some-take t c =
+    let p = c.in_ok-rest.ensures in
+    let two_of = parts.pair p.reads in
+    made _ c.hosted.result c.hosted.ensures
+    (λ g. record {
+      tree = host (token_name c.in_ok-name.name.now) (two two_of.0 two_of.1);
+      reads = by.hosted c.in-Some-take.ensures.read.1 c.in_ok-name.ensures.ok two_of.3;
+      put = g _ two_of.0 two_of.1 (lies_as p.put two_of.2);
+      shorter = omega (arith, p.shorter, c.in_ok-name.ensures.shorter, c.in-Some-take.ensures.shorter);
+    })
 
-pub hosted-returns-clause-ok : goal.hosted-returns-clause-ok
-hosted-returns-clause-ok t c = IfOk-weaker c.made.result _ _ (λ p h. reads_on (IfOk-at_ok _ h.0 c.hosted.ensures ∙ ap (λ (x : name.Name). host x (two (tree_of c.in_ok-first.first.value) (tree_of c.in_ok-first.second.value))) c.in_ok-name.ensures.ok.2) h.1 (by.hosted c.in_ok-ts.ensures.ok.1 c.in_ok-name.ensures.ok.1 c.in_ok-first.ensures.ok)) c.made.ensures.ok
+pub atom-returns : goal.atom-returns
+atom-returns t c =
+    let name : first c.args.ts.now ≡ kind.Name → ⊥ = λ e. let end = c.in_default.ensures.read e in cc in
+    hands_only _ _ _ c.enclosed-2.result c.enclosed-2.ensures
+    (λ es rest r. let i = parts.in_parens r in (i.e, i.is, by.parens i.from i.inner i.to))
+    (λ rest u. parts.atom_inner_no c.args.ts.now rest name c.in_default-take.ensures.read u)
 
-pub hosted-returns-clause-refused : goal.hosted-returns-clause-refused
-hosted-returns-clause-refused t c = runs_out _ c.made.result c.made.ensures.refused
+pub small-returns-in-Some : goal.small-returns-in-Some
+small-returns-in-Some t c =
+    let l = c.in-Some.ensures.read in
+    made _ c.literal-in-Some.result c.literal-in-Some.ensures (λ g. record { tree = literal c.in-Some.lit c.in-Some.span; reads = by.small_literal l.begun l.reads; put = g; shorter = c.in-Some.ensures.shorter })
 
-pub pair-returns-in_err-first-clause-refused : goal.pair-returns-in_err-first-clause-refused
-pair-returns-in_err-first-clause-refused t c =
-    leaves (UnfitBehind mark.Open c.args.ts.now) _ c.from_residual.result c.from_residual.ensures.1 c.in_err-first.ensures.refused (λ rest u. parts.pair_first_no c.args.ts.now rest u)
+pub small-returns-in-Some-next : goal.small-returns-in-Some-next
+small-returns-in-Some-next t c =
+    made _ c.variable.result c.variable.ensures (λ g. record { tree = variable (token_name c.in-Some-next.name.now); reads = by.small_name c.in-Some-next.ensures.read; put = g; shorter = c.in-Some-next.ensures.shorter })
 
-pub pair-returns-in_err-second-clause-refused : goal.pair-returns-in_err-second-clause-refused
-pair-returns-in_err-second-clause-refused t c =
-    leaves (UnfitClosed mark.Comma c.in_ok-first.ts.now) _ c.from_residual-in_err-second.result c.from_residual-in_err-second.ensures.1 c.in_err-second.ensures.refused (λ rest u. parts.pair_second_no c.args.ts.now c.in_ok-first.ts.now rest c.in_ok-first.ensures.ok u)
+pub small-returns : goal.small-returns
+small-returns t c =
+    let name : first c.args.ts.now ≡ kind.Name → ⊥ = λ e. let end = c.in_default-next.ensures.read e in cc in
+    hands_only _ _ _ c.enclosed.result c.enclosed.ensures
+    (λ es rest r. let i = parts.in_parens r in (i.e, i.is, by.small_parens i.from i.inner i.to))
+    (λ rest u. parts.small_inner_no c.args.ts.now rest c.in_default.ensures.read name u)
 
-pub pair-returns-clause-ok : goal.pair-returns-clause-ok
-pair-returns-clause-ok t c =
-    let a = c.in_ok-first.ensures.ok in
-    let b = c.in_ok-second.ensures.ok in
-    by.pair a.2 a.3 b.4 b.5 b.6
+pub applied-returns-in_err-base : goal.applied-returns-in_err-base
+applied-returns-in_err-base t c =
+    goes_out _ (UnfitOptional Part.Base c.args.ts.now) _ c.from_residual.result c.from_residual.ensures.1 c.in_err-base.ensures.refused (λ rest u. by.applied_1 u)
 
-pub small-returns-in_err-lit-clause-refused : goal.small-returns-in_err-lit-clause-refused
-small-returns-in_err-lit-clause-refused t c =
-    leaves (Unfit Part.Lit c.args.ts.now) _ c.from_residual.result c.from_residual.ensures.1 c.in_err-lit.ensures.refused (λ rest u. by.small_literal_1 (c.at_literal.ensures.0 c.if-at_literal.true) u)
+pub applied-returns-in_err-rest : goal.applied-returns-in_err-rest
+applied-returns-in_err-rest t c =
+    goes_out _ (IsOther c.in_ok-base.rest.now (kind.Mark mark.Open)) _ c.from_residual-in_err-rest.result c.from_residual-in_err-rest.ensures.1 c.in_err-rest.ensures.refused (λ rest u. parts.applied_2 _ c.in_ok-base.ensures.ok u)
 
-pub small-returns-then-at_literal-clause-ok : goal.small-returns-then-at_literal-clause-ok
-small-returns-then-at_literal-clause-ok t c = IfOk-weaker c.made.result _ _ (λ p h. reads_on (IfOk-at_ok _ h.0 c.literal.ensures) h.1 (by.small_literal (c.at_literal.ensures.0 c.if-at_literal.true) c.in_ok-lit.ensures.ok)) c.made.ensures.ok
+pub applied-returns-in_err-rest-2 : goal.applied-returns-in_err-rest-2
+applied-returns-in_err-rest-2 t c =
+    goes_out _ (UnfitOptional Part.Args c.in_ok-rest.rest.now) _ c.from_residual-in_err-rest-2.result c.from_residual-in_err-rest-2.ensures.1 c.in_err-rest-2.ensures
+    (λ rest u. parts.applied_3 _ c.in_ok-base.ensures.ok c.in_ok-rest.ensures.ok.1 u)
 
-pub small-returns-then-at_literal-clause-refused : goal.small-returns-then-at_literal-clause-refused
-small-returns-then-at_literal-clause-refused t c = runs_out _ c.made.result c.made.ensures.refused
+pub applied-returns-in_err-rest-3 : goal.applied-returns-in_err-rest-3
+applied-returns-in_err-rest-3 t c =
+    let p = c.in_ok-rest-2.ensures in
+    goes_out _ (IsOther c.in_ok-rest-2.rest.now (kind.Mark mark.Close)) _ c.from_residual-in_err-rest-3.result c.from_residual-in_err-rest-3.ensures.1 c.in_err-rest-3.ensures.refused
+    (λ rest u. parts.applied_4 _ p.reads.0 c.in_ok-base.ensures.ok c.in_ok-rest.ensures.ok.1 p.reads.1 u)
 
-pub small-returns-then-at-clause-ok : goal.small-returns-then-at-clause-ok
-small-returns-then-at-clause-ok t c = IfOk-weaker c.made-then-at.result _ _ (λ p h. reads_on (IfOk-at_ok _ h.0 c.variable.ensures ∙ ap variable c.in_ok-name.ensures.ok.2) h.1 (by.small_name c.in_ok-name.ensures.ok.1)) c.made-then-at.ensures.ok
+pub applied-called-requires-clause-within : goal.applied-called-requires-clause-within
+applied-called-requires-clause-within t c = omega (arith, c.len-from.ensures, higher c.in_ok-rest-2.ensures.put)
 
-pub small-returns-then-at-clause-refused : goal.small-returns-then-at-clause-refused
-small-returns-then-at-clause-refused t c = runs_out _ c.made-then-at.result c.made-then-at.ensures.refused
+pub applied-returns : goal.applied-returns
+applied-returns t c =
+    let p = c.in_ok-rest-2.ensures in
+    let at = base_word c.in_ok-base.base in
+    made _ c.called.result c.called.ensures
+    (λ g. record {
+      tree = call (token_name c.args.name.now) at (trees_of p.list);
+      reads = ((at, unwrap_or p.reads.0 no_more), by.applied at p.reads.0 c.in_ok-base.ensures.ok c.in_ok-rest.ensures.ok.1 p.reads.1 c.in_ok-rest-3.ensures.ok.1, ap (call (token_name c.args.name.now) at) p.reads.2);
+      put = g _ p.list (omega (arith, c.len-from.ensures, higher p.put)) p.put;
+      shorter = omega (arith, c.in_ok-rest-3.ensures.shorter, p.shorter, c.in_ok-rest.ensures.shorter, c.in_ok-base.ensures.shorter);
+    })
 
-pub small-returns-clause-ok : goal.small-returns-clause-ok
-small-returns-clause-ok t c = IfOk-weaker c.closed.result _ _ (λ p r. by.small_parens r.4 r.5 r.6) c.closed.ensures.ok
+pub args-returns-then-not-at_expr : goal.args-returns-then-not-at_expr
+args-returns-then-not-at_expr t c = puts_none (None, (fails c.at_expr.ensures.1 c.if-not-at_expr.true, refl), refl) (omega arith)
 
-pub small-returns-clause-refused : goal.small-returns-clause-refused
-small-returns-clause-refused t c = hands_on c.closed.result c.closed.ensures.refused (λ rest u. parts.small_inner_no c.args.ts.now rest (fails c.at_literal.ensures.1 c.if-at_literal.false) (fails c.at.ensures.1 c.if-at.false) u)
-
-pub applied-returns-in_err-base-clause-refused : goal.applied-returns-in_err-base-clause-refused
-applied-returns-in_err-base-clause-refused t c =
-    leaves (UnfitOptional Part.Base c.args.ts.now) _ c.from_residual.result c.from_residual.ensures.1 c.in_err-base.ensures.refused (λ rest u. by.applied_1 u)
-
-pub applied-returns-in_err-args-clause-refused : goal.applied-returns-in_err-args-clause-refused
-applied-returns-in_err-args-clause-refused t c =
-    leaves (BreaksAt Part.Applied behind_base c.in_ok-base.ts.now) _ c.from_residual-in_err-args.result c.from_residual-in_err-args.ensures.1 c.in_err-args.ensures.refused (λ rest u. parts.applied_no _ c.in_ok-base.ensures.ok u)
-
-pub applied-returns-clause-ok : goal.applied-returns-clause-ok
-applied-returns-clause-ok t c =
-    let a = c.in_ok-args.ensures.ok in
-    let read = parts.applied _ c.in_ok-base.ensures.ok a.3 in
-    IfOk-weaker c.made.result _ _
-    (λ p h. ((c.in_ok-base.base, unwrap_or a.1 no_more), reads_on refl h.1 read, IfOk-at_ok _ h.0 c.called.ensures ∙ ap (call c.args.name c.in_ok-base.base) a.4)) c.made.ensures.ok
-
-pub applied-returns-clause-refused : goal.applied-returns-clause-refused
-applied-returns-clause-refused t c = runs_out _ c.made.result c.made.ensures.refused
-
-pub enclosed-returns-in_err-ts-clause-refused : goal.enclosed-returns-in_err-ts-clause-refused
-enclosed-returns-in_err-ts-clause-refused t c =
-    leaves (IsOther c.args.ts.now (kind.Mark mark.Open)) _ c.from_residual.result c.from_residual.ensures.1 c.in_err-ts.ensures.refused (λ rest u. parts.behind_base_1 u)
-
-pub enclosed-returns-in_err-args-clause-refused : goal.enclosed-returns-in_err-args-clause-refused
-enclosed-returns-in_err-args-clause-refused t c =
-    leaves (UnfitOptional Part.Args c.in_ok-ts.ts.now) _ c.from_residual-in_err-args.result c.from_residual-in_err-args.ensures.1 c.in_err-args.ensures.refused (λ rest u. parts.behind_base_2 c.in_ok-ts.ensures.ok.1 u)
-
-pub enclosed-returns-in_err-ts-2-clause-refused : goal.enclosed-returns-in_err-ts-2-clause-refused
-enclosed-returns-in_err-ts-2-clause-refused t c =
-    leaves (IsOther c.in_ok-args.ts.now (kind.Mark mark.Close)) _ c.from_residual-in_err-ts-2.result c.from_residual-in_err-ts-2.ensures.1 c.in_err-ts-2.ensures.refused (λ rest u. parts.behind_base_3 c.in_ok-args.ensures.ok.0 c.in_ok-ts.ensures.ok.1 c.in_ok-args.ensures.ok.1 u)
-
-pub enclosed-returns-clause-ok : goal.enclosed-returns-clause-ok
-enclosed-returns-clause-ok t c = (c.in_ok-ts.ensures.ok.0, c.in_ok-args.ensures.ok.0, c.in_ok-ts-2.ensures.ok.0, parts.behind_base_is c.in_ok-args.ensures.ok.0 c.in_ok-ts.ensures.ok.1 c.in_ok-args.ensures.ok.1 c.in_ok-ts-2.ensures.ok.1, c.in_ok-args.ensures.ok.2)
-
-pub given-returns-then-at_expr-clause-ok : goal.given-returns-then-at_expr-clause-ok
-given-returns-then-at_expr-clause-ok t c = IfOk-weaker c.args-then-at_expr.result _ _ (λ p r. (Some (all_trees p.0.items), (c.at_expr.ensures.0 c.if-at_expr.true, r), refl)) c.args-then-at_expr.ensures.ok
-
-pub given-returns-then-at_expr-clause-refused : goal.given-returns-then-at_expr-clause-refused
-given-returns-then-at_expr-clause-refused t c = hands_on c.args-then-at_expr.result c.args-then-at_expr.ensures.refused (λ rest u. (c.at_expr.ensures.0 c.if-at_expr.true, u))
-
-pub given-returns-clause-ok : goal.given-returns-clause-ok
-given-returns-clause-ok t c = (None, (fails c.at_expr.ensures.1 c.if-at_expr.false, refl), ap all_trees c.new.ensures.items)
-
-pub args-returns-in_err-head-clause-refused : goal.args-returns-in_err-head-clause-refused
-args-returns-in_err-head-clause-refused t c =
-    leaves (Unfit Part.Expr c.args.ts.now) _ c.from_residual.result c.from_residual.ensures.1 c.in_err-head.ensures.refused (λ rest u. grown_bad args u)
+pub args-returns-in_err-over : goal.args-returns-in_err-over
+args-returns-in_err-over t c =
+    goes_out _ (Unfit Part.Expr c.args.ts.now) _ c.from_residual.result c.from_residual.ensures.1 c.in_err-over.ensures (λ rest u. (c.at_expr.ensures.0 c.if-not-at_expr.false, grown_bad args u))
 
 pub args-more-init : goal.args-more-init
-args-more-init t c = grown_first args (ap all_trees c.in_ok-list.ensures) c.in_ok-head.ensures.ok c.in_ok-head.ensures.shorter
+args-more-init t c =
+    let p = c.in_ok-over.ensures in
+    record { list = p.tree ∷ []; reads = grown_first args refl p.reads p.shorter; put = p.put; shorter = p.shorter }
 
-pub args-returns-in_err-next-clause-refused : goal.args-returns-in_err-next-clause-refused
-args-returns-in_err-next-clause-refused t c =
-    leaves (Unfit Part.Expr c.in-Some.rest.now) _ c.from_residual-in_err-next.result c.from_residual-in_err-next.ensures.1 c.in_err-next.ensures.refused (λ rest u. grown_refused args c.more.invariant (begun c.more.over.now one_expr (is_first c.in-Some.ensures.read.1)) (by.more_expr_2 c.in-Some.ensures.read.1 u))
+pub args-returns-in_err-over-2 : goal.args-returns-in_err-over-2
+args-returns-in_err-over-2 t c =
+    goes_out _ (Unfit Part.Expr c.in-Some.rest.now) _ c.from_residual-in_err-over-2.result c.from_residual-in_err-over-2.ensures.1 c.in_err-over-2.ensures
+    (λ rest u. (c.at_expr.ensures.0 c.if-not-at_expr.false, grown_refused args c.more.invariant.reads (begun c.more.over.now one_expr (is_first c.in-Some.ensures.read.1)) (by.more_expr_2 c.in-Some.ensures.read.1 u)))
 
 pub args-more-preserved : goal.args-more-preserved
-args-more-preserved t c = grown_more args c.more.invariant (put_trees c.more.list.items c.in_ok-next.next.value c.in_ok-push_boxed.ensures) (begun c.more.over.now one_expr (is_first c.in-Some.ensures.read.1)) (by.more_expr c.in-Some.ensures.read.1 c.in_ok-next.ensures.ok) (omega (arith, c.in_ok-next.ensures.shorter, c.in-Some.ensures.shorter))
+args-more-preserved t c =
+    let i = c.more.invariant in
+    let p = c.in_ok-over-2.ensures in
+    let less : length c.in_ok-over-2.over.now < length c.more.over.now = omega (arith, p.shorter, c.in-Some.ensures.shorter) in
+    let same = ap (λ u. trees_of (u ++ p.tree ∷ [])) (sym (list_of-trees_of i.list)) in
+    record {
+      list = i.list ++ p.tree ∷ [];
+      reads = grown_more args i.reads same (begun c.more.over.now one_expr (is_first c.in-Some.ensures.read.1)) (by.more_expr c.in-Some.ensures.read.1 p.reads) less;
+      put = over i.put p.put;
+      shorter = omega (arith, i.shorter, less);
+    }
 
-pub args-returns-clause-ok : goal.args-returns-clause-ok
-args-returns-clause-ok t c = grown_ended args c.more.invariant (unbegun c.more.over.now one_expr c.in_default.ensures.read)
+pub args-returns : goal.args-returns
+args-returns t c =
+    let i = c.more.invariant in
+    puts_all_as i (omega arith) (λ r. (Some (trees_of i.list), (c.at_expr.ensures.0 c.if-not-at_expr.false, grown_ended args r (unbegun c.more.over.now one_expr c.in_default.ensures.read)), refl))

@@ -1,20 +1,25 @@
-use Rattle.std.proofs.Common.{ap, ◌∙◌}
-use Rattle.std.proofs.lemmas.Result.{IfOk-weaker}
-use Rattle.lucy_tree.specs.declared.span.Name as name
-use Rattle.lucy_tree.specs.Tree.{call}
+use Rattle.std.proofs.Common.{◌∙◌, length, ap, arith}
 use Rattle.lucy_token.specs.declared.token.Kind.TheVariants as kind
-use Rattle.lucy_grammar.specs.Reading.{IsOther}
+use Rattle.lucy_grammar.specs.Reading.{IsOther, Unfit}
+use Rattle.lucy_grammar.specs.Symbols.{Part}
 use Rattle.lucy_grammar.proofs.Steps.{as_value}
 use Rattle.lucy_grammar.proofs.Productions as by
-use Rattle.lucy_syntax.proofs.Leaving.{leaves, hands_on}
+use Rattle.lucy_syntax.proofs.Leaving.{leaves}
+use Rattle.lucy_syntax.proofs.OnPiles.{higher, only_put}
 use Rattle.lucy_syntax.proofs.descent.call.Goals as goal
 
 pub returns-in_err-name-clause-refused : goal.returns-in_err-name-clause-refused
 returns-in_err-name-clause-refused c =
     leaves (IsOther c.args.ts.now kind.Name) _ c.from_residual.result c.from_residual.ensures.1 c.in_err-name.ensures.refused (λ rest u. by.called_1 u)
 
-pub returns-clause-ok : goal.returns-clause-ok
-returns-clause-ok c = IfOk-weaker c.applied.result _ _ (λ p r. as_value (r.2 ∙ ap (λ (x : name.Name). call x r.0.0 r.0.1) c.in_ok-name.ensures.ok.2) (by.called c.in_ok-name.ensures.ok.1 r.1)) c.applied.ensures.ok
+pub returns-in_err-rest-clause-refused : goal.returns-in_err-rest-clause-refused
+returns-in_err-rest-clause-refused c =
+    leaves (Unfit Part.Applied c.in_ok-name.rest.now) _ c.from_residual-in_err-rest.result c.from_residual-in_err-rest.ensures.1 c.in_err-rest.ensures (λ rest u. by.called_2 c.in_ok-name.ensures.ok u)
 
-pub returns-clause-refused : goal.returns-clause-refused
-returns-clause-refused c = hands_on c.applied.result c.applied.ensures.refused (λ rest u. by.called_2 c.in_ok-name.ensures.ok.1 u)
+pub only-requires : goal.only-requires
+only-requires c = omega (arith, higher c.in_ok-rest.ensures.put, ap length c.new-pile.ensures.items)
+
+pub returns-clause-ok : goal.returns-clause-ok
+returns-clause-ok c =
+    let p = c.in_ok-rest.ensures in
+    as_value (only_put p.put c.new-pile.ensures.items c.only.ensures ∙ p.reads.2) (by.called c.in_ok-name.ensures.ok p.reads.1)

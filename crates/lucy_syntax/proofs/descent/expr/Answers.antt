@@ -1,11 +1,16 @@
-use Rattle.std.proofs.lemmas.Result.{IfOk-weaker}
-use Rattle.lucy_grammar.proofs.Productions as by
-use Rattle.lucy_syntax.proofs.Leaving.{hands_on}
-use Rattle.lucy_syntax.proofs.Facts.{fails}
+use Rattle.std.proofs.Common.{length, ap, arith}
+use Rattle.lucy_grammar.specs.Reading.{Unfit}
+use Rattle.lucy_grammar.specs.Symbols.{Part}
+use Rattle.lucy_grammar.proofs.Steps.{as_value}
+use Rattle.lucy_syntax.proofs.Leaving.{leaves}
+use Rattle.lucy_syntax.proofs.OnPiles.{higher, only_put}
 use Rattle.lucy_syntax.proofs.descent.expr.Goals as goal
 
-pub returns-else-at-clause-ok : goal.returns-else-at-clause-ok
-returns-else-at-clause-ok c = IfOk-weaker c.operation.result _ _ (λ p r. by.expr_or (fails c.at.ensures.1 c.if-at.false) r) c.operation.ensures.ok
+pub returns-in_err-rest-clause-refused : goal.returns-in_err-rest-clause-refused
+returns-in_err-rest-clause-refused c = leaves (Unfit Part.Expr c.args.ts.now) _ c.from_residual.result c.from_residual.ensures.1 c.in_err-rest.ensures (λ rest u. u)
 
-pub returns-else-at-clause-refused : goal.returns-else-at-clause-refused
-returns-else-at-clause-refused c = hands_on c.operation.result c.operation.ensures.refused (λ rest u. by.expr_or_1 (fails c.at.ensures.1 c.if-at.false) u)
+pub only-requires : goal.only-requires
+only-requires c = omega (arith, higher c.in_ok-rest.ensures.put, ap length c.new-pile.ensures.items)
+
+pub returns-clause-ok : goal.returns-clause-ok
+returns-clause-ok c = as_value (only_put c.in_ok-rest.ensures.put c.new-pile.ensures.items c.only.ensures) c.in_ok-rest.ensures.reads

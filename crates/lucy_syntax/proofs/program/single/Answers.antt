@@ -1,5 +1,4 @@
-use Rattle.std.proofs.Common.{ap, ◌∙◌}
-use Rattle.lucy_tree.specs.View.{tree_of}
+use Rattle.std.proofs.Common.{refl, ◌∙◌}
 use Rattle.lucy_grammar.specs.Symbols.{Part}
 use Rattle.lucy_grammar.specs.Reading.{Unfit, IsOther}
 use Rattle.lucy_grammar.proofs.Steps.{as_value}
@@ -23,4 +22,4 @@ returns-in_err-right-clause-refused c =
     leaves (Unfit Part.Expr c.in_ok-ts.ts.now) _ c.from_residual-in_err-right.result c.from_residual-in_err-right.ensures.1 c.in_err-right.ensures.refused (λ rest u. by.def_3 (c.requires, tt) c.in_ok-left.ensures.ok c.in_ok-ts.ensures.ok.1 u)
 
 pub returns-clause-ok : goal.returns-clause-ok
-returns-clause-ok c = as_value (def_of (c.new-left.ensures ∙ c.in_ok-one.ensures) (ap tree_of c.into_inner-right.ensures)) (by.def (c.requires, tt) c.in_ok-left.ensures.ok c.in_ok-ts.ensures.ok.1 c.in_ok-right.ensures.ok)
+returns-clause-ok c = as_value (def_of (c.new-left.ensures ∙ c.in_ok-left-2.ensures) refl) (by.def (c.requires, tt) c.in_ok-left.ensures.ok c.in_ok-ts.ensures.ok.1 c.in_ok-right.ensures.ok)

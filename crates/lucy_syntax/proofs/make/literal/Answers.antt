@@ -1,0 +1,6 @@
+use Rattle.std.proofs.Common.{ap, [], ◌∷◌}
+use Rattle.lucy_syntax.proofs.OnPiles.{lies_as, makes_as, tree_literal}
+use Rattle.lucy_syntax.proofs.make.literal.Goals as goal
+
+pub returns : goal.returns
+returns c = makes_as _ c.put.result c.put.ensures (λ g. lies_as g (ap (λ t. t ∷ []) (tree_literal c.args.lit c.args.span)))
