@@ -43,6 +43,7 @@ mod Fitting
 mod FittingTrees
 mod FittingPrograms
 pub mod RoundTrip
+pub mod Sheets
 mod BoxedForms
 mod Listings
 mod Operands

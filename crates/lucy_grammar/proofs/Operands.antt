@@ -1,5 +1,11 @@
--- Lists of two operands, and of three or more.
+-- Lists of one operand, of two, and of three or more.
 use Rattle.std.proofs.Common.{◌≡◌, ◌<◌, ◌≤◌, List, [], ◌∷◌, length, drop, get_or, ap, sym, ◌∙◌, arith}
+
+-- a list of one entry
+pub only_one : {A : Type 0} (xs : List A) (a : A) → 1 ≤ length xs → length xs < 2 → a ≡ get_or xs 0 a → xs ≡ a ∷ []
+only_one [] a low high e = absurd (omega (arith, low))
+only_one (x ∷ []) a low high e = ap (λ u. u ∷ []) (sym e)
+only_one (x ∷ y ∷ xs) a low high e = absurd (omega (arith, high))
 
 -- a list of two entries, and one of three or more
 pub only_two : {A : Type 0} (xs : List A) (a b : A) → 2 ≤ length xs → length xs < 3 → a ≡ get_or xs 0 a → b ≡ get_or xs 1 b → xs ≡ a ∷ b ∷ []

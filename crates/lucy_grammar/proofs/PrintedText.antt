@@ -1,5 +1,5 @@
 -- The text of what is printed, form by form.
-use Rattle.std.proofs.Common.{ℕ, ◌≡◌, Bool, true, false, List, [], ◌∷◌, ◌++◌, Option, Some, None, map, refl, ap, sym, ◌∙◌, append_assoc}
+use Rattle.std.proofs.Common.{ℕ, ◌≡◌, Bool, true, false, List, [], ◌∷◌, ◌++◌, Option, Some, None, map, refl, ap, sym, ◌∙◌, append_assoc, append-nil}
 use Rattle.std.specs.Prelude.{pos}
 use Rattle.std.specs.List.{AllByRecursion}
 use Rattle.lucy_word.specs.Bits.{Bits}
@@ -16,6 +16,7 @@ use Rattle.lucy_token.specs.declared.token.What.TheVariants as what
 use Rattle.lucy_token.specs.Spelled.{Printed, text_of_what}
 use Rattle.lucy_token.specs.Marks.{op_mark}
 use Rattle.lucy_grammar.specs.Meanings.{two}
+use Rattle.lucy_grammar.specs.Sheets.{call_front}
 use Rattle.lucy_grammar.specs.Print.{blank, indent, line, one, the, after, spaced, words, after_commas, commas, parens, name_token, word_token, lit_token, when_mark, operated, called, operand, printed, all_printed, operands, printed_decl, printed_left, printed_def, more_defs, printed_body, printed_node, more_nodes, spaced_text}
 
 pub text-append : (a b : List Printed) → spaced_text (a ++ b) ≡ spaced_text a ++ spaced_text b
@@ -124,6 +125,22 @@ text_two o a b s = text_words (operand a (printed a)) (the (op_mark o) ∷ opera
 pub text_three : (o : Op) (a b c : Tree) (s : Span) → text_of_tree (operator o (more a (two b c)) s)
     ≡ spaced_text (the (op_mark o)) ++ (32 ∷ (text_of_operand a ++ (32 ∷ (spaced_text (the mark.Then) ++ (32 ∷ (text_of_operand b ++ (32 ∷ (spaced_text (the mark.Else) ++ (32 ∷ (text_of_operand c ++ []))))))))))
 text_three o a b c s = text_words (the (op_mark o)) (operand a (printed a) ∷ the mark.Then ∷ operand b (printed b) ∷ the mark.Else ∷ operand c (printed c) ∷ []) (tight_operand a, (refl, (tight_operand b, (refl, (tight_operand c, tt)))))
+
+pub text_hosted : (n : Name) (args : Trees) → text_of_tree (host n args) ≡ spaced_text (the mark.Host) ++ (32 ∷ (spaced_text (name_token n) ++ (32 ∷ (spaced_text (parens (commas (all_printed args))) ++ []))))
+text_hosted n args = text_words (the mark.Host) (name_token n ∷ parens (commas (all_printed args)) ∷ []) (refl, (refl, tt))
+
+-- a call, by what stands before its arguments
+pub text_called : (n : Name) (at : Option Bits) (args : Trees) → call_front n at ++ spaced_text (parens (commas (all_printed args))) ≡ text_of_tree (call n at args)
+text_called n None args =
+    let list = spaced_text (parens (commas (all_printed args))) in
+    append_assoc (spaced_text (name_token n)) blank list ∙ ap (λ u. spaced_text (name_token n) ++ (32 ∷ u)) (sym (append-nil list))
+    ∙ sym (text_words (name_token n) (parens (commas (all_printed args)) ∷ []) (refl, tt))
+text_called n (Some w) args =
+    let list = spaced_text (parens (commas (all_printed args))) in
+    let word = spaced_text (word_token w) in
+    append_assoc (spaced_text (name_token n)) (32 ∷ (spaced_text (the mark.At) ++ (32 ∷ (word ++ blank)))) list
+    ∙ ap (λ u. spaced_text (name_token n) ++ (32 ∷ u)) (append_assoc (spaced_text (the mark.At)) (32 ∷ (word ++ blank)) list ∙ ap (λ u. spaced_text (the mark.At) ++ (32 ∷ u)) (append_assoc word blank list ∙ ap (λ u. word ++ (32 ∷ u)) (sym (append-nil list))))
+    ∙ sym (text_words (name_token n) (the mark.At ∷ word_token w ∷ parens (commas (all_printed args)) ∷ []) (refl, (refl, (refl, tt))))
 
 pub text_sampled : (flip : Bool) (e : Tree) (w : Bits) → text_of_tree (sampled flip e w) ≡ text_of_operand e ++ (32 ∷ (spaced_text (the (when_mark flip)) ++ (32 ∷ (spaced_text (word_token w) ++ []))))
 text_sampled flip e w = text_words (operand e (printed e)) (the (when_mark flip) ∷ word_token w ∷ []) (refl, (refl, tt))

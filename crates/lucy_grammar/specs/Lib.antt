@@ -16,4 +16,5 @@ pub mod Texts
 pub mod Laws
 -- what only serves the proofs
 pub mod Deriving
+pub mod Sheets
 pub mod Why

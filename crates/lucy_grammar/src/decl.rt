@@ -1,99 +1,97 @@
 // Writes declarations and names.
-ghost use Rattle.std.specs.Prelude.{◌≡◌, ◌++◌, map, OnOk};
+ghost use Rattle.std.specs.Prelude.{◌≡◌, map};
 ghost use Rattle.lucy_grammar.specs.Print.{spaced_text, spaced, parens, commas, typing, clock, name_token, printed_decl, printed_left};
+ghost use Rattle.lucy_grammar.specs.Sheets.{Adds};
 
-use crate::token::{between, comma, mark, name, type_mark, word};
+use crate::sheet::{Sheet, type_mark};
 use lucy_host::DataType;
 use lucy_token::Mark;
 use lucy_tree::{Decl, Name};
-use lucy_word::{OutOfMemory, Word};
-use std::alloc::Global;
+use lucy_word::Word;
 
 // ` : int` or ` : bool`, where the type is written.
-fn typing(holds: Option<DataType>, out: &mut Vec<u8>) -> Result<(), OutOfMemory>
-    ensures { OnOk result (out.new.items ≡ out.old.items ++ spaced_text (spaced (typing holds))) }
+fn typing(holds: Option<DataType>, out: &mut Sheet)
+    ensures { Adds (spaced_text (spaced (typing holds))) out.old out.new }
 {
     let Some(holds) = holds else {
-        return Ok(());
+        return;
     };
-    between(Mark::Colon, out)?;
-    mark(type_mark(holds), out)
+    out.between(Mark::Colon);
+    out.mark(type_mark(holds));
 }
 
 // ` :: W`, where the word is written.
-fn clock(alloc: Global, base: &Option<Word>, out: &mut Vec<u8>) -> Result<(), OutOfMemory>
-    ensures { OnOk result (out.new.items ≡ out.old.items ++ spaced_text (spaced (clock base.now))) }
+fn clock(base: &Option<Word>, out: &mut Sheet)
+    ensures { Adds (spaced_text (spaced (clock base.now))) out.old out.new }
 {
     let Some(base) = base else {
-        return Ok(());
+        return;
     };
-    between(Mark::Colons, out)?;
-    word(alloc, base, out)
+    out.between(Mark::Colons);
+    out.word(base);
 }
 
 // `NAME`, with its type and with the word of its clock where they are written.
-fn decl(alloc: Global, decl: &Decl, out: &mut Vec<u8>) -> Result<(), OutOfMemory>
-    ensures { OnOk result (out.new.items ≡ out.old.items ++ spaced_text (printed_decl decl.now)) }
+fn decl(decl: &Decl, out: &mut Sheet)
+    ensures { Adds (spaced_text (printed_decl decl.now)) out.old out.new }
 {
-    name(&decl.name, out)?;
-    typing(decl.holds, out)?;
-    clock(alloc, &decl.word, out)
+    out.name(&decl.name);
+    typing(decl.holds, out);
+    clock(&decl.word, out);
 }
 
 // Declarations with commas between.
-fn separated(alloc: Global, list: &[Decl], out: &mut Vec<u8>) -> Result<(), OutOfMemory>
-    ensures { OnOk result (out.new.items ≡ out.old.items ++ spaced_text (commas (map printed_decl list.now))) }
+fn separated(list: &[Decl], out: &mut Sheet)
+    ensures { Adds (spaced_text (commas (map printed_decl list.now))) out.old out.new }
 {
     let Some((first, more)) = list.split_first() else {
-        return Ok(());
+        return;
     };
-    decl(alloc, first, out)?;
+    decl(first, out);
     'more: for next in more {
-        comma(out)?;
-        decl(alloc, next, out)?;
+        out.comma();
+        decl(next, out);
     }
-    Ok(())
 }
 
 /// Declarations in parentheses.
-pub(crate) fn decls(alloc: Global, list: &[Decl], out: &mut Vec<u8>) -> Result<(), OutOfMemory>
-    ensures { OnOk result (out.new.items ≡ out.old.items ++ spaced_text (parens (commas (map printed_decl list.now)))) }
+pub(crate) fn decls(list: &[Decl], out: &mut Sheet)
+    ensures { Adds (spaced_text (parens (commas (map printed_decl list.now)))) out.old out.new }
 {
-    mark(Mark::Open, out)?;
-    separated(alloc, list, out)?;
-    mark(Mark::Close, out)
+    out.mark(Mark::Open);
+    separated(list, out);
+    out.mark(Mark::Close);
 }
 
 /// The left side of a definition: one declaration alone, several in parentheses.
-pub(crate) fn left(alloc: Global, list: &[Decl], out: &mut Vec<u8>) -> Result<(), OutOfMemory>
-    ensures { OnOk result (out.new.items ≡ out.old.items ++ spaced_text (printed_left list.now)) }
+pub(crate) fn left(list: &[Decl], out: &mut Sheet)
+    ensures { Adds (spaced_text (printed_left list.now)) out.old out.new }
 {
     match list {
-        [only] => decl(alloc, only, out),
-        _ => decls(alloc, list, out),
+        [only] => decl(only, out),
+        _ => decls(list, out),
     }
 }
 
 // Names with commas between.
-fn separated_names(list: &[Name], out: &mut Vec<u8>) -> Result<(), OutOfMemory>
-    ensures { OnOk result (out.new.items ≡ out.old.items ++ spaced_text (commas (map name_token list.now))) }
+fn separated_names(list: &[Name], out: &mut Sheet)
+    ensures { Adds (spaced_text (commas (map name_token list.now))) out.old out.new }
 {
     let Some((first, more)) = list.split_first() else {
-        return Ok(());
+        return;
     };
-    name(first, out)?;
+    out.name(first);
     'more: for next in more {
-        comma(out)?;
-        name(next, out)?;
+        out.comma();
+        out.name(next);
     }
-    Ok(())
 }
 
 /// Names in parentheses.
-pub(crate) fn names(list: &[Name], out: &mut Vec<u8>) -> Result<(), OutOfMemory>
-    ensures { OnOk result (out.new.items ≡ out.old.items ++ spaced_text (parens (commas (map name_token list.now)))) }
+pub(crate) fn names(list: &[Name], out: &mut Sheet)
+    ensures { Adds (spaced_text (parens (commas (map name_token list.now)))) out.old out.new }
 {
-    mark(Mark::Open, out)?;
-    separated_names(list, out)?;
-    mark(Mark::Close, out)
+    out.mark(Mark::Open);
+    separated_names(list, out);
+    out.mark(Mark::Close);
 }

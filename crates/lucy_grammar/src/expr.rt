@@ -1,218 +1,172 @@
 // Writes expressions.
-ghost use Rattle.std.specs.Prelude.{◌≡◌, ◌∷◌, ◌++◌, OnOk};
+ghost use Rattle.std.specs.Prelude.{◌≡◌};
 ghost use Rattle.lucy_tree.specs.Tree as tree;
 ghost use Rattle.lucy_tree.specs.View.{tree_of, all_trees};
 ghost use Rattle.lucy_grammar.specs.Spans.{nowhere};
-ghost use Rattle.lucy_grammar.specs.Print.{spaced_text, the, printed, operand, parens, operated, operands, commas, all_printed};
+ghost use Rattle.lucy_grammar.specs.Print.{spaced_text, printed, operand, parens, operated, operands, commas, all_printed};
+ghost use Rattle.lucy_grammar.specs.Sheets.{Adds, call_front};
 
-use crate::token::{between, blank, bound, comma, leading, lit, mark, name, when_mark, word};
+use crate::sheet::{Sheet, when_mark};
 use lucy_host::Op;
 use lucy_token::{Mark, op_mark};
 use lucy_tree::{Expr, Name};
-use lucy_word::{OutOfMemory, Word};
-use std::alloc::Global;
+use lucy_word::Word;
 
 /// An expression, without parentheses round it.
 #[cycle(printed)]
-pub(crate) fn expr(alloc: Global, expr: &Expr, out: &mut Vec<u8>) -> Result<(), OutOfMemory>
-    ensures { OnOk result (out.new.items ≡ out.old.items ++ spaced_text (printed (tree_of expr.now))) }
+pub(crate) fn expr(expr: &Expr, out: &mut Sheet)
+    ensures { Adds (spaced_text (printed (tree_of expr.now))) out.old out.new }
 {
     match expr {
-        Expr::Lit { lit: value, .. } => lit(alloc, *value, out),
-        Expr::Var { name: text } => name(text, out),
-        Expr::Op { op, args, .. } => operated(alloc, *op, args.list(), out),
-        Expr::Host { name, args } => hosted(alloc, name, args.list(), out),
+        Expr::Lit { lit, .. } => out.lit(*lit),
+        Expr::Var { name } => out.name(name),
+        Expr::Op { op, args, .. } => operated(*op, args.list(), out),
+        Expr::Host { name, args } => {
+            out.leading(Mark::Host);
+            out.name(name);
+            out.blank();
+            enclosed_all(args.list(), out);
+        }
         Expr::When {
             flip,
             operand: inner,
-            word: base,
-        } => sampled(alloc, *flip, inner, base, out),
+            word,
+        } => {
+            operand(inner, out);
+            out.between(when_mark(*flip));
+            out.word(word);
+        }
         Expr::Merge {
-            word: by,
+            word,
             one,
             zero,
             ..
         } => {
-            leading(Mark::Merge, out)?;
-            word(alloc, by, out)?;
-            further(alloc, one, out)?;
-            further(alloc, zero, out)
+            out.leading(Mark::Merge);
+            out.word(word);
+            out.blank();
+            operand(one, out);
+            out.blank();
+            operand(zero, out);
         }
         Expr::Fby {
             first,
             operand: later,
             ..
         } => {
-            lit(alloc, *first, out)?;
-            joined(alloc, Mark::Fby, later, out)
+            out.lit(*first);
+            out.between(Mark::Fby);
+            operand(later, out);
         }
         Expr::Buffer {
             most,
             operand: inner,
             ..
-        } => buffered(alloc, *most, inner, out),
-        Expr::Call { node, at, args } => called(alloc, node, at, args.list(), out),
+        } => buffered(*most, inner, out),
+        Expr::Call { node, at, args } => {
+            called(node, at, out);
+            enclosed_all(args.list(), out);
+        }
     }
-}
-
-// An operand behind a keyword or a sign.
-#[cycle(printed)]
-fn led(alloc: Global, sign: Mark, inner: &Expr, out: &mut Vec<u8>) -> Result<(), OutOfMemory>
-    ensures { OnOk result (out.new.items ≡ out.old.items ++ (spaced_text (the sign) ++ (32 ∷ spaced_text (operand (tree_of inner.now) (printed (tree_of inner.now)))))) }
-{
-    leading(sign, out)?;
-    operand(alloc, inner, out)
-}
-
-// An operand behind a keyword or a sign that stands behind another operand.
-#[cycle(printed)]
-fn joined(alloc: Global, sign: Mark, inner: &Expr, out: &mut Vec<u8>) -> Result<(), OutOfMemory>
-    ensures { OnOk result (out.new.items ≡ out.old.items ++ (32 ∷ (spaced_text (the sign) ++ (32 ∷ spaced_text (operand (tree_of inner.now) (printed (tree_of inner.now))))))) }
-{
-    between(sign, out)?;
-    operand(alloc, inner, out)
-}
-
-// An operand behind a blank.
-#[cycle(printed)]
-fn further(alloc: Global, inner: &Expr, out: &mut Vec<u8>) -> Result<(), OutOfMemory>
-    ensures { OnOk result (out.new.items ≡ out.old.items ++ (32 ∷ spaced_text (operand (tree_of inner.now) (printed (tree_of inner.now))))) }
-{
-    blank(out)?;
-    operand(alloc, inner, out)
 }
 
 // `buffer A`, or with a written bound `buffer B (E)`
 #[cycle(printed)]
-fn buffered(
-    alloc: Global,
-    most: Option<u64>,
-    inner: &Expr,
-    out: &mut Vec<u8>,
-) -> Result<(), OutOfMemory>
-    ensures { OnOk result (out.new.items ≡ out.old.items ++ spaced_text (printed (tree.buffered most (tree_of inner.now) nowhere))) }
+fn buffered(most: Option<u64>, inner: &Expr, out: &mut Sheet)
+    ensures { Adds (spaced_text (printed (tree.buffered most (tree_of inner.now) nowhere))) out.old out.new }
 {
+    out.leading(Mark::Buffer);
     match most {
-        None => led(alloc, Mark::Buffer, inner, out),
+        None => operand(inner, out),
         Some(most) => {
-            leading(Mark::Buffer, out)?;
-            bound(alloc, most, out)?;
-            blank(out)?;
-            enclosed(alloc, inner, out)
+            out.bound(most);
+            out.blank();
+            enclosed(inner, out);
         }
     }
 }
 
 // An operand: a literal or a name alone, all else in parentheses.
 #[cycle(printed)]
-fn operand(alloc: Global, inner: &Expr, out: &mut Vec<u8>) -> Result<(), OutOfMemory>
-    ensures { OnOk result (out.new.items ≡ out.old.items ++ spaced_text (operand (tree_of inner.now) (printed (tree_of inner.now)))) }
+fn operand(inner: &Expr, out: &mut Sheet)
+    ensures { Adds (spaced_text (operand (tree_of inner.now) (printed (tree_of inner.now)))) out.old out.new }
 {
     match inner {
-        Expr::Lit { .. } => expr(alloc, inner, out),
-        Expr::Var { .. } => expr(alloc, inner, out),
-        _ => enclosed(alloc, inner, out),
+        Expr::Lit { .. } => expr(inner, out),
+        Expr::Var { .. } => expr(inner, out),
+        _ => enclosed(inner, out),
     }
 }
 
 #[cycle(printed)]
-fn enclosed(alloc: Global, inner: &Expr, out: &mut Vec<u8>) -> Result<(), OutOfMemory>
-    ensures { OnOk result (out.new.items ≡ out.old.items ++ spaced_text (parens (printed (tree_of inner.now)))) }
+fn enclosed(inner: &Expr, out: &mut Sheet)
+    ensures { Adds (spaced_text (parens (printed (tree_of inner.now)))) out.old out.new }
 {
-    mark(Mark::Open, out)?;
-    expr(alloc, inner, out)?;
-    mark(Mark::Close, out)
+    out.mark(Mark::Open);
+    expr(inner, out);
+    out.mark(Mark::Close);
 }
 
 // `not A`, `A + B`, `if A then B else C`, by the number of the operands.
 #[cycle(printed)]
-fn operated(alloc: Global, op: Op, list: &[Expr], out: &mut Vec<u8>) -> Result<(), OutOfMemory>
-    ensures { OnOk result (out.new.items ≡ out.old.items ++ spaced_text (operated op (operands (all_trees list.now)))) }
+fn operated(op: Op, list: &[Expr], out: &mut Sheet)
+    ensures { Adds (spaced_text (operated op (operands (all_trees list.now)))) out.old out.new }
 {
     match list {
-        [] => mark(op_mark(op), out),
-        [a] => led(alloc, op_mark(op), a, out),
+        [] => out.mark(op_mark(op)),
+        [a] => {
+            out.leading(op_mark(op));
+            operand(a, out);
+        }
         [a, b] => {
-            operand(alloc, a, out)?;
-            joined(alloc, op_mark(op), b, out)
+            operand(a, out);
+            out.between(op_mark(op));
+            operand(b, out);
         }
         [a, b, c, ..] => {
-            led(alloc, op_mark(op), a, out)?;
-            joined(alloc, Mark::Then, b, out)?;
-            joined(alloc, Mark::Else, c, out)
+            out.leading(op_mark(op));
+            operand(a, out);
+            out.between(Mark::Then);
+            operand(b, out);
+            out.between(Mark::Else);
+            operand(c, out);
         }
     }
 }
 
-// `A when W`, or with `flip` `A whenot W`
-#[cycle(printed)]
-fn sampled(
-    alloc: Global,
-    flip: bool,
-    inner: &Expr,
-    base: &Word,
-    out: &mut Vec<u8>,
-) -> Result<(), OutOfMemory>
-    ensures { OnOk result (out.new.items ≡ out.old.items ++ spaced_text (printed (tree.sampled flip (tree_of inner.now) base.now))) }
+// What stands in a call before its arguments: `NAME `, or with a written base `NAME at W `
+fn called(node: &Name, at: &Option<Word>, out: &mut Sheet)
+    ensures { Adds (call_front node.now at.now) out.old out.new }
 {
-    operand(alloc, inner, out)?;
-    between(when_mark(flip), out)?;
-    word(alloc, base, out)
-}
-
-// `host NAME (E, E)`
-#[cycle(printed)]
-fn hosted(alloc: Global, host: &Name, list: &[Expr], out: &mut Vec<u8>) -> Result<(), OutOfMemory>
-    ensures { OnOk result (out.new.items ≡ out.old.items ++ spaced_text (printed (tree.host host.now (all_trees list.now)))) }
-{
-    leading(Mark::Host, out)?;
-    name(host, out)?;
-    blank(out)?;
-    args(alloc, list, out)
-}
-
-// `NAME (E, E)`, or with a written base `NAME at W (E, E)`
-#[cycle(printed)]
-fn called(
-    alloc: Global,
-    node: &Name,
-    at: &Option<Word>,
-    list: &[Expr],
-    out: &mut Vec<u8>,
-) -> Result<(), OutOfMemory>
-    ensures { OnOk result (out.new.items ≡ out.old.items ++ spaced_text (printed (tree.call node.now at.now (all_trees list.now)))) }
-{
-    name(node, out)?;
+    out.name(node);
     if let Some(base) = at {
-        between(Mark::At, out)?;
-        word(alloc, base, out)?;
+        out.between(Mark::At);
+        out.word(base);
     }
-    blank(out)?;
-    args(alloc, list, out)
+    out.blank();
 }
 
 // Arguments in parentheses.
 #[cycle(printed)]
-fn args(alloc: Global, list: &[Expr], out: &mut Vec<u8>) -> Result<(), OutOfMemory>
-    ensures { OnOk result (out.new.items ≡ out.old.items ++ spaced_text (parens (commas (all_printed (all_trees list.now))))) }
+fn enclosed_all(list: &[Expr], out: &mut Sheet)
+    ensures { Adds (spaced_text (parens (commas (all_printed (all_trees list.now))))) out.old out.new }
 {
-    mark(Mark::Open, out)?;
-    separated(alloc, list, out)?;
-    mark(Mark::Close, out)
+    out.mark(Mark::Open);
+    separated(list, out);
+    out.mark(Mark::Close);
 }
 
 // Expressions with commas between.
 #[cycle(printed)]
-fn separated(alloc: Global, list: &[Expr], out: &mut Vec<u8>) -> Result<(), OutOfMemory>
-    ensures { OnOk result (out.new.items ≡ out.old.items ++ spaced_text (commas (all_printed (all_trees list.now)))) }
+fn separated(list: &[Expr], out: &mut Sheet)
+    ensures { Adds (spaced_text (commas (all_printed (all_trees list.now)))) out.old out.new }
 {
     let Some((first, more)) = list.split_first() else {
-        return Ok(());
+        return;
     };
-    expr(alloc, first, out)?;
+    expr(first, out);
     'more: for next in more {
-        comma(out)?;
-        expr(alloc, next, out)?;
+        out.comma();
+        expr(next, out);
     }
-    Ok(())
 }

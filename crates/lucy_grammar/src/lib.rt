@@ -11,7 +11,7 @@ mod expr;
 mod laws;
 mod printing;
 mod program;
-mod token;
+mod sheet;
 
 pub use laws::{one_refusal, one_tree, printed_again, read_again, texts_have_one_answer};
 pub use printing::print;

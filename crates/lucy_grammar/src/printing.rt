@@ -8,6 +8,7 @@ ghost use Rattle.lucy_grammar.specs.Spans.{IsAlike};
 ghost use Rattle.lucy_grammar.specs.Texts.{HasTree};
 
 use crate::program::{line, nodes};
+use crate::sheet::Sheet;
 use lucy_tree::Program;
 use lucy_word::OutOfMemory;
 use std::alloc::Global;
@@ -16,10 +17,10 @@ use std::alloc::Global;
 fn written(alloc: Global, program: &Program) -> Result<Vec<u8>, OutOfMemory>
     ensures { IfOk result (λ text. text.items ≡ program_text (program_tree program.now)) }
 {
-    let mut text = Vec::new(alloc);
-    nodes(alloc, program.nodes.list(), &mut text)?;
-    line(&mut text)?;
-    Ok(text)
+    let mut out = Sheet::new(alloc);
+    nodes(program.nodes.list(), &mut out);
+    line(&mut out);
+    out.text()
 }
 
 /// The text of a program: a node after another, each definition on a line of its own, every operand but a literal or a

@@ -1,8 +1,8 @@
-use Rattle.std.proofs.Common.{◌≡◌, ◌+◌, ◌++◌, [], ◌∷◌, map, drop, arith, ap, sym, ◌∙◌}
+use Rattle.std.proofs.Common.{◌≡◌, ◌+◌, [], ◌∷◌, map, drop, arith, ap, sym, ◌∙◌}
 use Rattle.std.proofs.lemmas.List.{drop_all, drop_more}
-use Rattle.lucy_grammar.specs.Print.{blank, spaced_text, commas, name_token}
-use Rattle.lucy_grammar.proofs.PrintedText.{listed, tight_names}
-use Rattle.lucy_grammar.proofs.Listings.{one_more, all_listed}
+use Rattle.lucy_grammar.specs.Print.{spaced_text, commas, name_token}
+use Rattle.lucy_grammar.proofs.PrintedText.{listed, text_commas, tight_names}
+use Rattle.lucy_grammar.proofs.Sheets.{behind, adds_as, nothing}
 use Rattle.lucy_grammar.proofs.decl.separated_names.Goals as goal
 
 pub more-preserved : goal.more-preserved
@@ -11,13 +11,12 @@ more-preserved c =
     let x = c.next-item.result in
     let later = drop (l.next-index + 1) c.in-Some.more.now in
     let here : drop l.next-index c.in-Some.more.now ≡ x ∷ later = drop_more c.in-Some.more.now l.next-index x (omega arith) ∙ ap (λ y. y ∷ later) (sym c.next-item.is) in
-    one_more l.out.items c.comma.new.out.items c.name-in-more.new.out.items (44 ∷ blank) (spaced_text (name_token x)) (listed (map name_token later)) _ c.in_ok-comma.ensures c.in_ok-name-2.ensures
-    (ap (λ xs. l.out.items ++ listed (map name_token xs)) (sym here) ∙ l.invariant)
+    λ end h. l.invariant end (adds_as (behind c.comma.ensures (behind c.name-in-more.ensures h)) (ap (λ xs. listed (map name_token xs)) (sym here)))
 
 pub returns : goal.returns
 returns c =
     let l = c.more in
     let none : drop l.next-index c.in-Some.more.now ≡ [] = drop_all l.next-index c.in-Some.more.now (omega arith) in
-    all_listed c.args.out.now.items c.name.new.out.items l.out.items (name_token c.in-Some.first.now) (map name_token c.in-Some.more.now) (tight_names c.in-Some.more.now) c.in_ok-name.ensures
-    (ap (λ xs. l.out.items ++ listed (map name_token xs)) (sym none) ∙ l.invariant)
-    ∙ ap (λ xs. c.args.out.now.items ++ spaced_text (commas (map name_token xs))) (sym c.in-Some.ensures.cases.0)
+    let others = l.invariant l.out (adds_as (nothing l.out) (ap (λ xs. listed (map name_token xs)) (sym none))) in
+    adds_as (behind c.name.ensures others)
+    (sym (text_commas (name_token c.in-Some.first.now) (map name_token c.in-Some.more.now) (tight_names c.in-Some.more.now)) ∙ ap (λ xs. spaced_text (commas (map name_token xs))) (sym c.in-Some.ensures.cases.0))

@@ -1,8 +1,9 @@
-use Rattle.std.proofs.Common.{◌≡◌, ◌++◌, drop}
-use Rattle.lucy_grammar.specs.Print.{all_printed}
-use Rattle.lucy_grammar.proofs.PrintedText.{listed}
+use Rattle.std.proofs.Common.{ℕ, List, Option, drop}
 use Rattle.lucy_tree.specs.View.{all_trees}
+use Rattle.lucy_grammar.specs.Print.{all_printed}
+use Rattle.lucy_grammar.specs.Sheets.{Adds}
+use Rattle.lucy_grammar.proofs.PrintedText.{listed}
 use Rattle.lucy_grammar.proofs.expr.+printed.Given as goal
 
 abbrev pub invariant-separated-more : goal.invariant-separated-more
-invariant-separated-more l = l.out.items ++ listed (all_printed (all_trees (drop l.next-index l.more))) ≡ l.initial.out.items ++ listed (all_printed (all_trees l.more))
+invariant-separated-more l = (end : Option (List ℕ)) → Adds (listed (all_printed (all_trees (drop l.next-index l.more)))) l.out end → Adds (listed (all_printed (all_trees l.more))) l.initial.out end

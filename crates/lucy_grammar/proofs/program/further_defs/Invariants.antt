@@ -1,7 +1,8 @@
-use Rattle.std.proofs.Common.{◌≡◌, ◌++◌, drop, map}
+use Rattle.std.proofs.Common.{ℕ, List, Option, drop, map}
 use Rattle.lucy_tree.specs.View.{def_tree}
 use Rattle.lucy_grammar.specs.Print.{spaced_text, more_defs}
+use Rattle.lucy_grammar.specs.Sheets.{Adds}
 use Rattle.lucy_grammar.proofs.program.further_defs.Given as goal
 
 abbrev pub invariant-more : goal.invariant-more
-invariant-more l = l.out.items ++ spaced_text (more_defs (map def_tree (drop l.next-index l.list))) ≡ l.initial.out.items ++ spaced_text (more_defs (map def_tree l.list))
+invariant-more l = (end : Option (List ℕ)) → Adds (spaced_text (more_defs (map def_tree (drop l.next-index l.list)))) l.out end → Adds (spaced_text (more_defs (map def_tree l.list))) l.initial.out end
