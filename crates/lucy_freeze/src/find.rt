@@ -26,12 +26,12 @@ fn is_named(entry: &PlaceEntry, name: &[u8]) -> bool {
     }
 }
 
-// The place of a name, of those behind others.
-fn place_of(frozen: &PlacedNode, name: &[u8], behind: u32) -> Option<u32> {
-    let count = u32::try_from(frozen.places.list().len()).unwrap_or(0);
+/// The place of a name, of those behind others.
+pub(crate) fn place_of(node: &PlacedNode, name: &[u8], behind: u32) -> Option<u32> {
+    let count = u32::try_from(node.places.list().len()).unwrap_or(0);
     for place in behind..count {
         let place = place.saturating_add(1);
-        if let Some(entry) = entry_at(frozen, place) {
+        if let Some(entry) = entry_at(node, place) {
             if is_named(entry, name) {
                 return Some(place);
             }

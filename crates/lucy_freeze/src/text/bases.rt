@@ -33,6 +33,18 @@ impl<'a> Walk<'a> {
         self.call = self.call.saturating_add(1);
         word
     }
+
+    /// Passes an expression that has one result, and answers the word of its base where it is a call.
+    pub(crate) fn next(&mut self, expr: &Expr) -> Option<&'a Word> {
+        match expr {
+            Expr::Var { .. } => None,
+            Expr::Call { .. } => self.next_call(1),
+            _ => {
+                self.pass(1);
+                None
+            }
+        }
+    }
 }
 
 /// Whether operands of an expression have to get names.

@@ -1,17 +1,18 @@
 // Right sides whose operands get names.
+use crate::find::place_of;
 use crate::text::bases::Walk;
-use crate::text::forms::{
-    ARGUMENTS, LISTED, Part, Row, is_cut, is_enclosed, put_back, put_front, row_of,
-};
+use crate::text::forms::{Opening, Part, Row, opening_of, put_back, put_front, row_of};
 use crate::text::sheet::Sheet;
-use lucy_tree::{Decl, Expr, Node};
+use lucy_place::PlacedNode;
+use lucy_tree::Expr;
 use std::alloc::Global;
 use std::mem;
 
-/// An operand that gets a name, with its place, from 1, and its text.
+/// An operand that gets a name: the number in that, its place, from 1, and its text. While this is written, the sheet waits there on which the
+/// name stands.
 #[derive(Drop)]
 pub(crate) struct Cut {
-    pub name: Sheet,
+    pub number: u64,
     pub place: usize,
     pub text: Sheet,
 }
@@ -20,7 +21,7 @@ pub(crate) struct Cut {
 #[derive(Drop)]
 pub(crate) struct Cutter<'a> {
     pub alloc: Global,
-    pub node: &'a Node,
+    pub node: &'a PlacedNode,
     pub base: &'a [u8],
     pub tried: u64,
     pub walk: Walk<'a>,
@@ -29,139 +30,119 @@ pub(crate) struct Cutter<'a> {
     pub full: bool,
 }
 
-// Whether one of these has the name.
-fn is_among(decls: &[Decl], name: &[u8]) -> bool {
-    for decl in decls {
-        if decl.name.text.bytes() == name {
-            return true;
-        }
-    }
-    false
-}
-
-// Whether a stream of the node has the name.
-fn is_taken(node: &Node, name: &[u8]) -> bool {
-    if is_among(node.params.list(), name) {
-        return true;
-    }
-    for def in node.defs.list() {
-        if is_among(def.left.list(), name) {
-            return true;
-        }
-    }
-    false
+// How a part goes on: its own parts in a row, the text behind it, and which operand that gets a name it is, if it is one.
+#[derive(Clone, Copy)]
+struct Close {
+    row: Row,
+    text: &'static str,
+    cut: Option<usize>,
 }
 
 // How many numbers are tried for one name: a node has fewer streams.
 const TRIES: u32 = 8_192;
 
 impl<'a> Cutter<'a> {
-    // The name that is defined, and a number.
-    fn numbered(&self) -> Sheet {
+    // Whether no stream of the node has the name that is tried.
+    fn is_free(&mut self) -> bool {
         let mut name = Sheet::new(self.alloc);
-        name.put(self.base);
-        name.say("_");
-        name.number(self.tried);
-        name
+        name.numbered(self.base, self.tried);
+        self.full = self.full || name.full;
+        self.full || place_of(self.node, &name.bytes, 0).is_none()
     }
 
-    // A name that no stream of the node has.
-    fn fresh(&mut self) -> Sheet {
+    // Tries names up to one that no stream of the node has.
+    fn try_names(&mut self) {
         for _ in 0..TRIES {
             self.tried = self.tried.saturating_add(1);
-            let name = self.numbered();
-            if name.full || !is_taken(self.node, &name.bytes) {
-                return name;
+            if self.is_free() {
+                return;
             }
         }
-        Sheet::new(self.alloc)
     }
 
-    // Begins with an operand that gets a name, which is put last, and goes on on another sheet. The one so far is answered.
-    fn begin(&mut self) -> Sheet {
-        let name = self.fresh();
-        self.sheet.add(&name);
+    // Goes on on the sheet of an operand that gets a name, and leaves the one so far there.
+    fn exchange(&mut self, cut: usize) {
+        if let Some(cut) = self.cuts.get_mut(cut) {
+            mem::swap(&mut self.sheet, &mut cut.text);
+        }
+    }
+
+    // Begins with an operand that gets a name, which is put last, and goes on on another sheet. The operand's number is answered.
+    fn begin(&mut self) -> usize {
+        self.try_names();
+        self.sheet.numbered(self.base, self.tried);
+        let number = self.cuts.len();
         let cut = Cut {
-            name,
+            number: self.tried,
             place: self.walk.place,
             text: Sheet::new(self.alloc),
         };
         self.full = self.cuts.push(cut).is_err() || self.full;
-        mem::replace(&mut self.sheet, Sheet::new(self.alloc))
+        self.exchange(number);
+        number
     }
 
-    // Ends with the operand of a number, and goes on on the sheet before.
-    fn end(&mut self, number: usize, before: Sheet) {
-        let text = mem::replace(&mut self.sheet, before);
-        if let Some(cut) = self.cuts.get_mut(number) {
-            cut.text = text;
+    // Puts a part last up to its own parts. One that has to be a name and is none gets one.
+    fn enter(&mut self, expr: &Expr, part: Part) -> Close {
+        let mut close = Close {
+            row: row_of(expr),
+            text: "",
+            cut: None,
+        };
+        match opening_of(expr, part) {
+            Opening::None => {}
+            Opening::Name => close.cut = Some(self.begin()),
+            Opening::Parenthesis => {
+                self.sheet.say("(");
+                close.text = ")";
+            }
+        }
+        let word = self.walk.next(expr);
+        put_front(expr, word, &mut self.sheet);
+        close
+    }
+
+    // Puts last what stands before a part in a row, which counts from 0.
+    fn put_gap(&mut self, k: usize, row: Row) {
+        row.put_gap(k, &mut self.sheet);
+    }
+
+    // Puts last what stands behind the parts of a part.
+    fn leave(&mut self, expr: &Expr, close: Close) {
+        put_back(expr, &mut self.sheet);
+        self.sheet.say(close.text);
+        if let Some(cut) = close.cut {
+            self.exchange(cut);
         }
     }
-
-    // Begins with an expression, which has so many results where it is a call: passes it, and puts last what stands before its parts.
-    fn enter(&mut self, expr: &Expr, results: usize) {
-        let word = match expr {
-            Expr::Var { .. } => None,
-            Expr::Call { .. } => self.walk.next_call(results),
-            _ => {
-                self.walk.pass(1);
-                None
-            }
-        };
-        put_front(expr, word, &mut self.sheet)
-    }
 }
 
-/// Puts an expression last, which has so many results where it is a call.
+/// Puts a part of an expression last.
 #[cycle(cut)]
-pub(crate) fn put_expr(cutter: &mut Cutter<'_>, expr: &Expr, results: usize) {
-    cutter.enter(expr, results);
+pub(crate) fn put_expr(cutter: &mut Cutter<'_>, expr: &Expr, part: Part) {
+    let close = cutter.enter(expr, part);
     match expr {
-        Expr::Op { op, args, .. } => put_all(cutter, args.list(), row_of(*op)),
-        Expr::Host { args, .. } => put_all(cutter, args.list(), LISTED),
-        Expr::Call { args, .. } => put_all(cutter, args.list(), ARGUMENTS),
-        _ => put_parts(cutter, expr),
-    }
-    put_back(expr, &mut cutter.sheet)
-}
-
-// Puts the parts of a form last that has no row of them.
-#[cycle(cut)]
-fn put_parts(cutter: &mut Cutter<'_>, expr: &Expr) {
-    match expr {
-        Expr::When { operand, .. } => put_part(cutter, operand, Part::Name),
-        Expr::Buffer { operand, .. } => put_part(cutter, operand, Part::Name),
-        Expr::Fby { operand, .. } => put_part(cutter, operand, Part::Operand),
+        Expr::Op { args, .. } | Expr::Host { args, .. } | Expr::Call { args, .. } => {
+            put_all(cutter, args.list(), close.row)
+        }
+        Expr::When { operand, .. } | Expr::Fby { operand, .. } | Expr::Buffer { operand, .. } => {
+            put_expr(cutter, operand, close.row.part)
+        }
         Expr::Merge { one, zero, .. } => {
-            put_part(cutter, one, Part::Operand);
-            cutter.sheet.say(" ");
-            put_part(cutter, zero, Part::Operand)
+            put_expr(cutter, one, close.row.part);
+            cutter.put_gap(1, close.row);
+            put_expr(cutter, zero, close.row.part)
         }
         _ => {}
     }
-}
-
-// Puts a part of an expression last. One that has to be a name and is none gets one, and is put on a sheet of its own.
-#[cycle(cut)]
-fn put_part(cutter: &mut Cutter<'_>, expr: &Expr, part: Part) {
-    if is_cut(expr, part) {
-        let number = cutter.cuts.len();
-        let before = cutter.begin();
-        put_expr(cutter, expr, 1);
-        cutter.end(number, before);
-        return;
-    }
-    let enclosed = is_enclosed(expr, part);
-    cutter.sheet.say_if(enclosed, "(");
-    put_expr(cutter, expr, 1);
-    cutter.sheet.say_if(enclosed, ")")
+    cutter.leave(expr, close)
 }
 
 // Puts parts in a row last.
 #[cycle(cut)]
 fn put_all(cutter: &mut Cutter<'_>, list: &[Expr], row: Row) {
     for (k, expr) in list.iter().enumerate() {
-        row.put_gap(k, &mut cutter.sheet);
-        put_part(cutter, expr, row.part);
+        cutter.put_gap(k, row);
+        put_expr(cutter, expr, row.part);
     }
 }

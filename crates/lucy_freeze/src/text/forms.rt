@@ -22,33 +22,48 @@ pub(crate) struct Row {
     pub part: Part,
 }
 
-/// A list for the host.
-pub(crate) const LISTED: Row = Row {
-    first: ", ",
-    later: ", ",
-    side: "",
-    part: Part::Plain,
-};
-
-/// The arguments of a call.
-pub(crate) const ARGUMENTS: Row = Row {
-    first: ", ",
-    later: ", ",
-    side: "",
-    part: Part::Name,
-};
-
-/// The operands of an operator.
-pub(crate) fn row_of(op: Op) -> Row {
-    let (first, later) = match op {
-        Op::If => ("then", "else"),
-        _ => (sign_of(op), sign_of(op)),
-    };
+// Parts with this between them, and how each is written.
+fn parted(side: &'static str, between: &'static str, part: Part) -> Row {
     Row {
-        first,
-        later,
-        side: " ",
-        part: Part::Operand,
+        first: between,
+        later: between,
+        side,
+        part,
+    }
+}
+
+/// The parts of an expression.
+pub(crate) fn row_of(expr: &Expr) -> Row {
+    match expr {
+        Expr::Op { op: Op::If, .. } => Row {
+            first: "then",
+            later: "else",
+            side: " ",
+            part: Part::Operand,
+        },
+        Expr::Op { op, .. } => parted(" ", sign_of(*op), Part::Operand),
+        Expr::Host { .. } => parted("", ", ", Part::Plain),
+        Expr::Merge { .. } | Expr::Fby { .. } => parted("", " ", Part::Operand),
+        _ => parted("", ", ", Part::Name),
+    }
+}
+
+/// How a part begins: as it is, with a name that it gets, or with a parenthesis.
+#[derive(Clone, Copy)]
+pub(crate) enum Opening {
+    None,
+    Name,
+    Parenthesis,
+}
+
+/// How an expression begins that is written as such a part.
+pub(crate) fn opening_of(expr: &Expr, part: Part) -> Opening {
+    match (part, expr) {
+        (Part::Plain, _) => Opening::None,
+        (_, Expr::Var { .. }) => Opening::None,
+        (Part::Operand, Expr::Lit { .. }) => Opening::None,
+        (Part::Operand, _) => Opening::Parenthesis,
+        (Part::Name, _) => Opening::Name,
     }
 }
 
@@ -119,24 +134,5 @@ pub(crate) fn put_back(expr: &Expr, sheet: &mut Sheet) {
             sheet.word(word)
         }
         _ => {}
-    }
-}
-
-/// Whether a part gets a name.
-pub(crate) fn is_cut(expr: &Expr, part: Part) -> bool {
-    match (part, expr) {
-        (Part::Name, Expr::Var { .. }) => false,
-        (Part::Name, _) => true,
-        _ => false,
-    }
-}
-
-/// Whether a part stands in parentheses.
-pub(crate) fn is_enclosed(expr: &Expr, part: Part) -> bool {
-    match (part, expr) {
-        (Part::Operand, Expr::Lit { .. }) => false,
-        (Part::Operand, Expr::Var { .. }) => false,
-        (Part::Operand, _) => true,
-        _ => false,
     }
 }

@@ -1,9 +1,11 @@
 // The nodes of a text, with their clocks written out.
 use crate::text::bases::{Walk, has_cuts, put_bases};
 use crate::text::cut::{Cutter, put_expr};
+use crate::text::forms::Part;
 use crate::text::sheet::Sheet;
 use crate::text::writer::Writer;
 use lucy_front::Accepted;
+use lucy_place::PlacedNode;
 use lucy_token::Mark;
 use lucy_tree::{Decl, Def, Node, Program};
 use lucy_word::Word;
@@ -37,7 +39,7 @@ fn put_comment(writer: &mut Writer<'_>, cutter: &Cutter<'_>) {
     writer.sheet.say(" (* rewritten; new names:");
     for (i, cut) in cutter.cuts.iter().enumerate() {
         writer.sheet.say(if i == 0 { " " } else { ", " });
-        writer.sheet.add(&cut.name);
+        writer.sheet.numbered(cutter.base, cut.number);
     }
     writer.sheet.say(" *)");
 }
@@ -46,7 +48,7 @@ fn put_comment(writer: &mut Writer<'_>, cutter: &Cutter<'_>) {
 fn put_cuts(writer: &mut Writer<'_>, cutter: &Cutter<'_>, words: &[Word], offset: usize) {
     for cut in &cutter.cuts {
         writer.begin_def(offset);
-        writer.sheet.add(&cut.name);
+        writer.sheet.numbered(cutter.base, cut.number);
         writer.sheet.say(" :: ");
         writer.sheet.clock(words.get(cut.place));
         writer.sheet.say(" = ");
@@ -57,12 +59,14 @@ fn put_cuts(writer: &mut Writer<'_>, cutter: &Cutter<'_>, words: &[Word], offset
 // Rewrites a definition whose operands get names: of the first name that it defines, and a number.
 fn rewrite(
     writer: &mut Writer<'_>,
-    node: &Node,
+    node: &PlacedNode,
     def: &Def,
     first: &Decl,
-    walk: Walk<'_>,
+    mut walk: Walk<'_>,
 ) -> (usize, usize) {
     let alloc = writer.alloc();
+    // A call has a place for each name that is defined.
+    walk.pass(def.left.list().len().saturating_sub(1));
     let mut cutter = Cutter {
         alloc,
         node,
@@ -73,7 +77,7 @@ fn rewrite(
         cuts: Vec::new(alloc),
         full: false,
     };
-    put_expr(&mut cutter, &def.right, def.left.list().len());
+    put_expr(&mut cutter, &def.right, Part::Plain);
     cutter.sheet.full = cutter.sheet.full || cutter.full;
     writer.replace_right(&cutter.sheet);
     put_comment(writer, &cutter);
@@ -82,7 +86,7 @@ fn rewrite(
 }
 
 // Writes the words of a definition.
-fn put_def(writer: &mut Writer<'_>, node: &Node, def: &Def, walk: &mut Walk<'_>) {
+fn put_def(writer: &mut Writer<'_>, node: &PlacedNode, def: &Def, walk: &mut Walk<'_>) {
     let left = def.left.list();
     put_decls(writer, left, walk);
     match left.first() {
@@ -104,18 +108,18 @@ fn streams_of(node: &Node) -> usize {
     count
 }
 
-// Writes the words of a node, which has so many places.
-fn put_node(writer: &mut Writer<'_>, node: &Node, places: usize, words: &[Word]) {
+// Writes the words of a node.
+fn put_node(writer: &mut Writer<'_>, node: &Node, placed: &PlacedNode, words: &[Word]) {
     let mut walk = Walk {
         words,
-        places,
+        places: placed.places.list().len(),
         stream: 1,
         place: streams_of(node).saturating_add(1),
         call: 1,
     };
     put_params(writer, node, &mut walk);
     for def in node.defs.list() {
-        put_def(writer, node, def, &mut walk);
+        put_def(writer, placed, def, &mut walk);
     }
 }
 
@@ -126,8 +130,8 @@ pub(crate) fn put_nodes(writer: &mut Writer<'_>, tree: &Program, program: &Accep
         let node = tree.nodes.list().get(number as usize);
         let clock = program.clocks.get(number as usize);
         if let (Some(node), Some(clock)) = (node, clock) {
-            let places = program.placed.node(number).places.list().len();
-            put_node(writer, node, places, clock.words.list());
+            let placed = program.placed.node(number);
+            put_node(writer, node, placed, clock.words.list());
         }
     }
 }

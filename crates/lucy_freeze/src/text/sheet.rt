@@ -35,19 +35,19 @@ impl Sheet {
         self.put(text.as_bytes());
     }
 
-    /// Puts a text last, or nothing.
-    pub(crate) fn say_if(&mut self, said: bool, text: &str) {
-        if said {
-            self.say(text);
-        }
-    }
-
     /// Puts a number last.
     pub(crate) fn number(&mut self, number: u64) {
         match format!(in self.alloc; "{number}") {
             Ok(text) => self.put(text.as_bytes()),
             Err(_) => self.full = true,
         }
+    }
+
+    /// Puts a name last that is made of another and a number.
+    pub(crate) fn numbered(&mut self, base: &[u8], number: u64) {
+        self.put(base);
+        self.say("_");
+        self.number(number);
     }
 
     /// Puts a literal last.
