@@ -7,6 +7,7 @@
 mod ask;
 mod commands;
 mod name;
+mod told;
 mod words;
 
 pub use ask::{
