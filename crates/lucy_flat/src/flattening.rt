@@ -92,8 +92,16 @@ fn put_all(alloc: Global, program: Program<'_>, main: u32, kept: &mut Kept) -> R
     ensures refused { IfErr result (λ e. (e ≡ err.OutOfMemory) ⊎ ((e ≡ err.Limit lim.Word) × NetWordIsTooLong program.entry.placed.now.nodes program.entry.clocks.now)) }
 {
     let base = always(alloc)?;
-    put_instance(alloc, program, main, &base, None, 0, kept)?;
-    put_outputs(alloc, program, main, kept)
+    match put_instance(alloc, program, main, &base, None, 0, kept) {
+        Ok(()) => {
+            drop(base);
+            put_outputs(alloc, program, main, kept)
+        }
+        Err(error) => {
+            drop(base);
+            Err(error)
+        }
+    }
 }
 
 // The drafts of a program. No more of their words are kept than are allowed.

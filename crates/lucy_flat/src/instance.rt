@@ -335,7 +335,7 @@ fn put_call(
         begin: of.begin,
         args: site.args.list(),
     });
-    put_instance(
+    let put = put_instance(
         alloc,
         program,
         site.node,
@@ -343,7 +343,9 @@ fn put_call(
         caller,
         of.inner[call],
         kept,
-    )
+    );
+    drop(base);
+    put
 }
 
 // Puts the drafts of an instance of the node of a number, and of those inside it.

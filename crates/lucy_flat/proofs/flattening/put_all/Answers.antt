@@ -18,25 +18,23 @@ put_outputs-requires-clause-put c =
     let nodes = c.args.program.placed.now.nodes in
     let clocks = c.args.program.clocks.now in
     subst (λ m. IsInstanceKept nodes clocks [] m [] c.put_instance.new.kept) c.requires.main
-    (c.in_ok-put_instance.ensures.ok [] [] (main_at nodes clocks c.args.main 0 c.in_ok-base.base c.requires.main refl c.in_ok-base.ensures.is) c.requires.none)
+    (c.in-Ok.ensures.ok [] [] (main_at nodes clocks c.args.main 0 c.in_ok-base.base c.requires.main refl c.in_ok-base.ensures.is) c.requires.none)
 
 pub put_outputs-requires-clause-few : goal.put_outputs-requires-clause-few
 put_outputs-requires-clause-few c = let small = c.requires.small.0 in omega arith
 
-pub returns-in_err-put_instance-clause-refused : goal.returns-in_err-put_instance-clause-refused
-returns-in_err-put_instance-clause-refused c =
-    let Why : FlatError → Type 0 = λ e. (e ≡ err.OutOfMemory) ⊎ ((e ≡ err.Limit lim.Word) × NetWordIsTooLong c.args.program.placed.now.nodes c.args.program.clocks.now) in
-    leaves Why Why _ c.from_residual-in_err-put_instance.result c.from_residual-in_err-put_instance.ensures.1 c.in_err-put_instance.ensures.refused (λ e why. why)
+pub returns-in-Err-clause-refused : goal.returns-in-Err-clause-refused
+returns-in-Err-clause-refused c = c.in-Err.ensures.refused
 
-pub returns-clause-ok : goal.returns-clause-ok
-returns-clause-ok c = c.put_outputs.ensures.ok
+pub returns-in-Ok-clause-ok : goal.returns-in-Ok-clause-ok
+returns-in-Ok-clause-ok c = c.put_outputs.ensures.ok
 
-pub returns-clause-fits : goal.returns-clause-fits
-returns-clause-fits c =
+pub returns-in-Ok-clause-fits : goal.returns-in-Ok-clause-fits
+returns-in-Ok-clause-fits c =
     let nodes = c.args.program.placed.now.nodes in
     let clocks = c.args.program.clocks.now in
-    let put = c.in_ok-put_instance.ensures.ok [] [] (main_at nodes clocks c.args.main 0 c.in_ok-base.base c.requires.main refl c.in_ok-base.ensures.is) c.requires.none in
+    let put = c.in-Ok.ensures.ok [] [] (main_at nodes clocks c.args.main 0 c.in_ok-base.base c.requires.main refl c.in_ok-base.ensures.is) c.requires.none in
     on_ok_weaker c.put_outputs.result (λ _. main_fits nodes clocks c.args.main [] put.new c.requires.main put.put) c.put_outputs.ensures.ok
 
-pub returns-clause-refused : goal.returns-clause-refused
-returns-clause-refused c = IfErr-weaker c.put_outputs.result _ _ (λ e none. inl none) c.put_outputs.ensures.refused
+pub returns-in-Ok-clause-refused : goal.returns-in-Ok-clause-refused
+returns-in-Ok-clause-refused c = IfErr-weaker c.put_outputs.result _ _ (λ e none. inl none) c.put_outputs.ensures.refused

@@ -203,8 +203,8 @@ put_call-returns-in_err-base-clause-refused t c =
 pub put_call-bounds-of-call : goal.put_call-bounds-of-call
 put_call-bounds-of-call t c = let inner_count = c.requires.of.1.inner.count in let inside = c.requires.call in omega arith
 
-pub put_call-put_instance-requires : goal.put_call-put_instance-requires
-put_call-put_instance-requires t c =
+pub put_call-put_instance-put-requires : goal.put_call-put_instance-put-requires
+put_call-put_instance-put-requires t c =
     let decreases = c.decreases in
     let nodes = c.args.program.placed.now.nodes in
     let clocks = c.args.program.clocks.now in
@@ -264,5 +264,5 @@ put_call-returns-clause-ok t c = λ path old is e so.
     let at_inner = at_call nodes clocks path n is.index c.args.of.begin c.args.of.base.now c.in_ok-base.base c.args.of.caller i (get_or c.args.of.inner.now i 0) site caller is.at is.node at_site c.in_ok-base.ensures.stored.word
     (subst (λ v. IsOn c.args.of.base.now v c.in_ok-base.base) (sym word) c.in_ok-base.ensures.ok) refl c.list.ensures (omega arith) in
     let fits = fit_here nodes clocks proper clocked path (length n.places + suc i) c.args.of.base.now c.index-words-places.result is.at.is_base c.requires.base word c.in_ok-base.ensures.fits in
-    on_ok_weaker c.put_instance.result (λ put. record { new = put.new; put = so_far_more nodes clocks path n i old so.new put.new site so.put at_site put.put fits; keeps = put.keeps })
-    (c.put_instance.ensures.ok (suc i ∷ path) so.new at_inner so.keeps)
+    on_ok_weaker c.put_instance-put.result (λ put. record { new = put.new; put = so_far_more nodes clocks path n i old so.new put.new site so.put at_site put.put fits; keeps = put.keeps })
+    (c.put_instance-put.ensures.ok (suc i ∷ path) so.new at_inner so.keeps)
