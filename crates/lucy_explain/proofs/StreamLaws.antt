@@ -1,12 +1,12 @@
 -- Clocks that are one stream's.
-use Rattle.std.proofs.Common.{◌≡◌, ◌==◌, ℕ, ◌+◌, ◌<◌, ◌≤◌, List, [], ◌∷◌, ◌++◌, Some, Bool, false, cond, length, map, drop, get_or, replicate, zero, suc, sym, ap, ◌∙◌, subst, refl, inl, inr, arith, eq-eqb}
+use Rattle.std.proofs.Common.{below_more, append_assoc, drop-cons, set, ◌^◌, ◌≡◌, ◌==◌, ℕ, ◌+◌, ◌<◌, ◌≤◌, List, [], ◌∷◌, ◌++◌, Some, Bool, false, cond, length, drop, get_or, replicate, zero, suc, sym, ap, ◌∙◌, subst, refl, inl, inr, arith, eq-eqb}
 use Rattle.std.specs.Prelude.{slice_get}
 use Rattle.std.specs.List.{range_with_len, sum_by}
 use Rattle.std.proofs.lemmas.Bool.{cases_eq, cases_lt}
 use Rattle.std.proofs.lemmas.Bool.Decides.{nat_tests}
-use Rattle.std.proofs.lemmas.List.{length-append, length-replicate, length-map, get_or-map, drop_all, append-nil}
+use Rattle.std.proofs.lemmas.List.{length-append, length-replicate, get_or-set_same, get_or-set_other, drop_all, append-nil}
 use Rattle.std.proofs.lemmas.List.FromFn.{length-range_with_len, get_or-range_with_len}
-use Rattle.std.proofs.lemmas.List.Sums.{sum_by-cons}
+use Rattle.std.proofs.lemmas.List.Sums.{sum_by-cons, get_or-le-sum_by}
 use Rattle.lucy_word.specs.Bits.{Bits}
 use Rattle.lucy_word.specs.Always.{always}
 use Rattle.lucy_need.specs.Meeting.{alone}
@@ -72,6 +72,26 @@ renamed_new old new = elim (cases_eq new old) [
 same_need : (needs : List Need) (k j : ℕ) (a b : Need) → k ≡ j → slice_get needs k ≡ Some a → slice_get needs j ≡ Some b → a ≡ b
 same_need needs k j a b e one two = (cc)
 
+-- a number that is renamed in its place, or stays
+pub renamed_here : (old new : ℕ) (now told : List ℕ) (i : ℕ) → told ≡ set now i new → get_or now i 0 ≡ old → (v : ℕ) × (told ≡ set now i v) × (v ≡ renamed old new (get_or now i 0))
+renamed_here old new now told i is e = (new, is, sym (renamed_old old new (get_or now i 0) e))
+
+pub renamed_not : (old new : ℕ) (now told : List ℕ) (i : ℕ) → told ≡ set now i (get_or now i 0) → (get_or now i 0 ≡ old → ⊥) → (v : ℕ) × (told ≡ set now i v) × (v ≡ renamed old new (get_or now i 0))
+renamed_not old new now told i is other = (get_or now i 0, is, sym (renamed_other old new (get_or now i 0) other))
+
+-- so one after the other
+pub rename_next : (old new : ℕ) (start now told : List ℕ) (i v : ℕ) → i < length now → ((k : ℕ) → k < i → get_or now k 0 ≡ renamed old new (get_or start k 0)) → ((k : ℕ) → i ≤ k → get_or now k 0 ≡ get_or start k 0) →
+    told ≡ set now i v → v ≡ renamed old new (get_or now i 0) →
+    ((k : ℕ) → k < i + 1 → get_or told k 0 ≡ renamed old new (get_or start k 0)) × ((k : ℕ) → i + 1 ≤ k → get_or told k 0 ≡ get_or start k 0)
+rename_next old new start now told i v l done rest is e =
+    let at : (k : ℕ) → get_or told k 0 ≡ get_or (set now i v) k 0 = λ k. ap (λ (xs : List ℕ). get_or xs k 0) is in
+    let other : (k : ℕ) → (k ≡ i → ⊥) → get_or told k 0 ≡ get_or now k 0 = λ k ne. at k ∙ get_or-set_other now i k v 0 ne in (
+      below_more (λ (k : ℕ). get_or told k 0 ≡ renamed old new (get_or start k 0)) i
+          (λ k b. other k (λ (same : k ≡ i). absurd (omega arith)) ∙ done k b)
+          (at i ∙ get_or-set_same now i v 0 l ∙ e ∙ ap (renamed old new) (rest i (omega arith))),
+      λ k b. other k (λ (same : k ≡ i). absurd (omega arith)) ∙ rest k (omega arith),
+    )
+
 -- what is tied by the needs before one, or by that one
 tied_by : (needs : List Need) (clocks upto : ℕ) (need : Need) (streams told : List ℕ) (one two : ℕ) → slice_get needs upto ≡ Some need → need ≡ Equal (alone one) (alone two) →
     ((c d k : ℕ) (n : Need) → c < clocks → d < clocks → k < upto → slice_get needs k ≡ Some n → Ties n c d → get_or told c 0 ≡ get_or told d 0) →
@@ -108,19 +128,18 @@ join_same needs clocks upto need streams one two h at is same = record {
 
 -- clocks whose numbers become one
 pub join_more : (needs : List Need) (clocks upto : ℕ) (need : Need) (streams : List ℕ) (one two old new : ℕ) (told : List ℕ) → AreStreamsOf needs clocks upto streams → slice_get needs upto ≡ Some need →
-    need ≡ Equal (alone one) (alone two) → one < length streams → two < length streams → old ≡ get_or streams two 0 → new ≡ get_or streams one 0 → told ≡ map (renamed old new) streams →
+    need ≡ Equal (alone one) (alone two) → one < length streams → two < length streams → old ≡ get_or streams two 0 → new ≡ get_or streams one 0 → length told ≡ length streams →
+    ((c : ℕ) → c < length streams → get_or told c 0 ≡ renamed old new (get_or streams c 0)) →
     AreStreamsOf needs clocks (upto + 1) told
-join_more needs clocks upto need streams one two old new told h at is l m old_is new_is told_is =
+join_more needs clocks upto need streams one two old new told h at is l m old_is new_is size there =
     let within : (c : ℕ) → c < clocks → c < length streams = λ c k. subst (λ (n : ℕ). c < n) (sym h.all) k in
-    let there : (c : ℕ) → c < length streams → get_or told c 0 ≡ renamed old new (get_or streams c 0) =
-    λ c k. ap (λ (xs : List ℕ). get_or xs c 0) told_is ∙ get_or-map (renamed old new) streams c 0 0 k in
     let inside : (c : ℕ) → c < length streams → c < clocks = λ c k. subst (λ (n : ℕ). c < n) h.all k in
     let of_one : AreOne needs one new = subst (λ (x : ℕ). AreOne needs one x) (sym new_is) (h.each one (inside one l)) in
     let of_two : AreOne needs two old = subst (λ (x : ℕ). AreOne needs two x) (sym old_is) (h.each two (inside two m)) in
     let tie : AreTied needs two one = (upto, need, at, inr is) in
     let to_new : AreOne needs old new = one_trans needs old two new (one_sym needs two old of_two) (one_trans needs two one new (one_tied needs two one tie) of_one) in
     record {
-      all = ap length told_is ∙ length-map streams (renamed old new) ∙ h.all;
+      all = size ∙ h.all;
       each = λ c k. elim (cases_eq (get_or streams c 0) old) [
         | inl same ↦
             let e : get_or told c 0 ≡ new = there c (within c k) ∙ renamed_old old new (get_or streams c 0) same in
@@ -214,11 +233,35 @@ position_count_of streams clock (c ∷ cs) =
 pub variables_of : (origin : ℕ) (streams : List ℕ) (clocks : List ClockShape) → length (variable_streams origin streams clocks) ≡ variable_count clocks
 variables_of origin streams clocks = let a = position_count_of streams 0 clocks in omega arith
 
+-- the stream of the origin alone
+pub variables_none : (origin : ℕ) (streams : List ℕ) (shapes : List ClockShape) (found : List ℕ) → found ≡ replicate 1 origin → found ++ position_streams streams 0 (drop 0 shapes) ≡ variable_streams origin streams shapes
+variables_none origin streams shapes found is = ap (λ (xs : List ℕ). xs ++ position_streams streams 0 shapes) is
+
+-- those of one clock more
+pub variables_next : (origin : ℕ) (streams : List ℕ) (shapes : List ClockShape) (found told : List ℕ) (clock : ℕ) (none : ClockShape) → clock < length shapes →
+    found ++ position_streams streams clock (drop clock shapes) ≡ variable_streams origin streams shapes → told ≡ found ++ replicate (position_count (get_or shapes clock none)) (get_or streams clock 0) →
+    told ++ position_streams streams (clock + 1) (drop (clock + 1) shapes) ≡ variable_streams origin streams shapes
+variables_next origin streams shapes found told clock none l before is =
+    let shape : ClockShape = get_or shapes clock none in
+    let rest : List ℕ = position_streams streams (clock + 1) (drop (clock + 1) shapes) in
+    let mine : List ℕ = replicate (position_count shape) (get_or streams clock 0) in
+    let next : drop clock shapes ≡ shape ∷ drop (clock + 1) shapes =
+    drop-cons shapes clock none l ∙ ap (λ (k : ℕ). shape ∷ drop k shapes) (let e : suc clock ≡ clock + 1 = omega arith in e) in
+    ap (λ (xs : List ℕ). xs ++ rest) is ∙ append_assoc found mine rest ∙ ap (λ (cs : List ClockShape). found ++ position_streams streams clock cs) (sym next) ∙ before
+
+pub variables_are : (origin : ℕ) (streams : List ℕ) (shapes : List ClockShape) (found : List ℕ) (clock : ℕ) → length shapes ≤ clock →
+    found ++ position_streams streams clock (drop clock shapes) ≡ variable_streams origin streams shapes → found ≡ variable_streams origin streams shapes
+variables_are origin streams shapes found clock l told =
+    sym (append-nil found) ∙ subst (λ (cs : List ClockShape). found ++ position_streams streams clock cs ≡ variable_streams origin streams shapes) (drop_all clock shapes l) told
+
+-- a clock has no more positions than there are variables
+pub positions_few : (shapes : List ClockShape) (clock count : ℕ) (shape : ClockShape) → clock < length shapes → count ≡ variable_count shapes → count < 2 ^ 32 → position_count (get_or shapes clock shape) < 2 ^ 32
+positions_few shapes clock count shape l is fits = omega (arith, get_or-le-sum_by position_count shapes clock shape l)
+
+pub index_within : (k n i : ℕ) → k < n → n ≤ i → k < i
+index_within k n i l m = omega arith
+
 -- the streams of all variables
 pub variables_all : (origin : ℕ) (streams : List ℕ) (shapes : List ClockShape) (found : List ℕ) (clock count : ℕ) → length shapes ≤ clock →
     found ++ position_streams streams clock (drop clock shapes) ≡ variable_streams origin streams shapes → count ≡ variable_count shapes → length found ≡ count
-variables_all origin streams shapes found clock count l told is =
-    let none : drop clock shapes ≡ [] = drop_all clock shapes l in
-    let all : found ++ [] ≡ variable_streams origin streams shapes =
-    subst (λ (cs : List ClockShape). found ++ position_streams streams clock cs ≡ variable_streams origin streams shapes) none told in
-    ap length (sym (append-nil found) ∙ all) ∙ variables_of origin streams shapes ∙ sym is
+variables_all origin streams shapes found clock count l told is = ap length (variables_are origin streams shapes found clock l told) ∙ variables_of origin streams shapes ∙ sym is

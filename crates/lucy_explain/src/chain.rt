@@ -77,24 +77,39 @@ fn reach(
     Ok(())
 }
 
-// For each variable that is reached from the origin the inequality by which it is, those first that fewer lead to.
-fn parents_of(alloc: Global, diffs: &Diffs, values: &[i64]) -> Result<Vec<u32>, OutOfMemory> {
-    let leaving = leaving_of(alloc, diffs)?;
-    let mut parents = vec![in alloc; NONE; diffs.count() as usize]?;
+// Reaches all variables that can be reached from the origin, those first to which fewer inequalities lead.
+fn reach_all(
+    alloc: Global,
+    diffs: &Diffs,
+    values: &[i64],
+    leaving: &Leaving,
+    parents: &mut [u32],
+) -> Result<(), OutOfMemory> {
     let mut reached = vec![in alloc; 0u32; 1]?;
     for i in 0..diffs.count() as usize {
         let Some(variable) = reached.get(i).copied() else {
-            return Ok(parents);
+            return Ok(());
         };
-        reach(
-            diffs,
-            values,
-            &leaving,
-            variable,
-            &mut parents,
-            &mut reached,
-        )?;
+        reach(diffs, values, leaving, variable, parents, &mut reached)?;
     }
+    Ok(())
+}
+
+// Puts for each variable that is reached from the origin the inequality by which it is, where none stood.
+fn put_parents(
+    alloc: Global,
+    diffs: &Diffs,
+    values: &[i64],
+    parents: &mut [u32],
+) -> Result<(), OutOfMemory> {
+    let leaving = leaving_of(alloc, diffs)?;
+    reach_all(alloc, diffs, values, &leaving, parents)
+}
+
+// For each variable that is reached from the origin the inequality by which it is, those first that fewer lead to.
+fn parents_of(alloc: Global, diffs: &Diffs, values: &[i64]) -> Result<Vec<u32>, OutOfMemory> {
+    let mut parents = vec![in alloc; NONE; diffs.count() as usize]?;
+    put_parents(alloc, diffs, values, &mut parents)?;
     Ok(parents)
 }
 

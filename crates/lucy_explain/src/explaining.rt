@@ -102,7 +102,10 @@ fn refused(
             text,
             spans,
         }),
-        Err(_) => Err(OutOfMemory),
+        Err(_) => {
+            drop(refusal);
+            Err(OutOfMemory)
+        }
     }
 }
 
@@ -135,7 +138,10 @@ pub fn explain(
     ensures spans { IfOk result (λ e. AreWithin (length text.now) e.spans.items) }
 {
     match accept(alloc, text, ops, options) {
-        Ok(_) => accepted(alloc),
+        Ok(program) => {
+            drop(program);
+            accepted(alloc)
+        }
         Err(Refusal::OutOfMemory) => Err(OutOfMemory),
         Err(refusal) => refused(alloc, text, ops, refusal),
     }

@@ -1,5 +1,5 @@
 // Which clocks of a node are one stream's.
-ghost use Rattle.std.specs.Prelude.{ℕ, List, ◌≡◌, ◌↔◌, ◌<◌, ◌+◌, Some, length, map, slice_index, slice_get, IfOk, IsTrue, MatchOption};
+ghost use Rattle.std.specs.Prelude.{ℕ, List, ◌≡◌, ◌↔◌, ◌<◌, ◌+◌, Some, length, slice_index, slice_get, IfOk, IsTrue, MatchOption};
 ghost use Rattle.std.specs.List.{range_with_len};
 ghost use Rattle.lucy_word.specs.Always.{always as ticking};
 ghost use Rattle.lucy_need.specs.Meeting.{alone};
@@ -10,7 +10,7 @@ ghost use Rattle.lucy_explain.specs.Joining.{renamed, AreStreamsOf};
 
 use lucy_need::{Need, Needs, Term, always};
 use lucy_word::{OutOfMemory, Word};
-use std::alloc::{AllocError, Global};
+use std::alloc::Global;
 
 // Whether a term is a clock alone.
 fn is_alone(term: &Term, always: &Word) -> bool
@@ -37,14 +37,15 @@ fn tied_clocks(need: &Need, always: &Word) -> Option<(u32, u32)>
     }
 }
 
-// The streams with one number in place of another.
-fn with_number(alloc: Global, streams: &[u32], old: u32, new: u32) -> Result<Vec<u32>, AllocError>
-    ensures { IfOk result (λ v. v.items ≡ map (renamed old new) streams.now) }
+// Puts one number in place of another.
+fn rename(streams: &mut [u32], old: u32, new: u32)
+    ensures { (k : ℕ) → k < length streams.old → slice_index streams.new k ≡ renamed old new (slice_index streams.old k) }
 {
-    streams
-        .iter()
-        .map(|stream| if *stream == old { new } else { *stream })
-        .collect(alloc)
+    'each: for stream in streams.iter_mut() {
+        if *stream == old {
+            *stream = new;
+        }
+    }
 }
 
 // The numbers of two clocks, the second one's first, where both are there and differ.
@@ -60,31 +61,26 @@ fn apart(streams: &[u32], one: u32, two: u32) -> Option<(u32, u32)>
     Some((streams[two], streams[one]))
 }
 
-// The streams, where two clocks are tied by a need that comes next.
-fn join(alloc: Global, streams: Vec<u32>, one: u32, two: u32) -> Result<Vec<u32>, OutOfMemory>
-    ensures { IfOk result (λ v. (needs : List Wanted) (clocks upto : ℕ) (need : Wanted) → AreStreamsOf needs clocks upto streams.items → slice_get needs upto ≡ Some need →
-        need ≡ Equal (alone one) (alone two) → AreStreamsOf needs clocks (upto + 1) v.items) }
+// Joins two clocks that are tied by a need that comes next.
+fn join(streams: &mut [u32], one: u32, two: u32)
+    ensures { (needs : List Wanted) (clocks upto : ℕ) (need : Wanted) → AreStreamsOf needs clocks upto streams.old → slice_get needs upto ≡ Some need →
+        need ≡ Equal (alone one) (alone two) → AreStreamsOf needs clocks (upto + 1) streams.new }
 {
-    match apart(&streams, one, two) {
-        Some((old, new)) => Ok(with_number(alloc, &streams, old, new)?),
-        None => Ok(streams),
+    match apart(streams, one, two) {
+        Some((old, new)) => rename(streams, old, new),
+        None => (),
     }
 }
 
-// The streams with a need that comes next.
-fn join_need(
-    alloc: Global,
-    streams: Vec<u32>,
-    always: &Word,
-    need: &Need,
-) -> Result<Vec<u32>, OutOfMemory>
+// Joins the clocks that are tied by a need that comes next.
+fn join_need(streams: &mut [u32], always: &Word, need: &Need)
     requires { always.now ≡ ticking }
-    ensures { IfOk result (λ v. (needs : List Wanted) (clocks upto : ℕ) → AreStreamsOf needs clocks upto streams.items → slice_get needs upto ≡ Some need.now →
-        AreStreamsOf needs clocks (upto + 1) v.items) }
+    ensures { (needs : List Wanted) (clocks upto : ℕ) → AreStreamsOf needs clocks upto streams.old → slice_get needs upto ≡ Some need.now →
+        AreStreamsOf needs clocks (upto + 1) streams.new }
 {
     match tied_clocks(need, always) {
-        Some((one, two)) => join(alloc, streams, one, two),
-        None => Ok(streams),
+        Some((one, two)) => join(streams, one, two),
+        None => (),
     }
 }
 
@@ -103,10 +99,11 @@ fn numbered(alloc: Global, clocks: u32) -> Result<Vec<u32>, OutOfMemory>
 pub(crate) fn clock_streams(alloc: Global, needs: &Needs) -> Result<Vec<u32>, OutOfMemory>
     ensures { IfOk result (λ v. AreStreams needs.now.list needs.now.clocks v.items) }
 {
-    let always = always(alloc)?;
     let mut streams = numbered(alloc, needs.clocks)?;
+    let always = always(alloc)?;
     'each: for need in needs.list.list() {
-        streams = join_need(alloc, streams, &always, need)?;
+        join_need(&mut streams, &always, need);
     }
+    drop(always);
     Ok(streams)
 }

@@ -18,6 +18,7 @@ use crate::tell::row::point_of;
 use crate::tell::sizes::put_all_sizes;
 use crate::tell::{scene_of, tree_of};
 use crate::waits::{first_full, waits_of};
+use lucy_clock::NodeClock;
 use lucy_front::{Accepted, Options, first_operand};
 use lucy_need::Needs;
 use lucy_place::PlaceEntry;
@@ -45,6 +46,26 @@ struct FoldedItem {
     turns: u64,
 }
 
+// A buffer, where the clocks of its node have the words of both places and its size.
+fn held_with<'a>(clocks: &'a NodeClock, buffer: u32, from: u32, to: u32) -> Option<Held<'a>> {
+    let words = clocks.words.list();
+    let (Some(write), Some(read), Some(size)) = (
+        words.get(from as usize),
+        words.get(to as usize),
+        clocks.sizes.list().get((buffer as usize).saturating_sub(1)),
+    ) else {
+        return None;
+    };
+    Some(Held {
+        buffer,
+        from,
+        to,
+        write,
+        read,
+        size: *size,
+    })
+}
+
 // A buffer of a node, by its number from 1.
 fn held_of<'a>(
     scene: Scene<'_>,
@@ -56,15 +77,7 @@ fn held_of<'a>(
     let to = scene.node.buffers.list().get(index).copied()?;
     let from = first_operand(scene.node, to)?;
     let clocks = accepted.clocks.get(node as usize)?;
-    let words = clocks.words.list();
-    Some(Held {
-        buffer,
-        from,
-        to,
-        write: words.get(from as usize)?,
-        read: words.get(to as usize)?,
-        size: clocks.sizes.list().get(index).copied()?,
-    })
+    held_with(clocks, buffer, from, to)
 }
 
 // Puts the first lines of a buffer last: its words and its size, and where it stands.
@@ -215,10 +228,10 @@ fn put_chain(
     shape: &Shape,
     held: Held<'_>,
     item: FoldedItem,
-    reason: Reason,
+    reason: &Reason,
 ) -> Result<(), OutOfMemory>
     requires shape { IsShapeFor needs.now shape.now }
-    requires reason { IsReasonFor needs.now shape.now reason }
+    requires reason { IsReasonFor needs.now shape.now reason.now }
 {
     let told = fold_chain(page.alloc, needs, shape, &reason.diffs, &reason.chain)?;
     let about = Evidence {
@@ -260,7 +273,7 @@ fn put_late(
             &shaped.shape,
             held,
             item,
-            reason,
+            &reason,
         ),
         None => Ok(()),
     }
@@ -290,6 +303,21 @@ fn put_filling_helps(page: &mut Page<'_>, scene: Scene<'_>, held: Held<'_>) {
     page.say("` tells the least size that clocks of this shape have\n");
 }
 
+// Puts why an item is read as late as it is last, and what helps.
+fn put_shaped(
+    page: &mut Page<'_>,
+    scene: Scene<'_>,
+    shaped: &Shaped,
+    held: Held<'_>,
+    item: u64,
+) -> Result<(), OutOfMemory>
+    requires { IsShapeFor shaped.now.needs shaped.now.shape }
+{
+    put_late(page, scene, shaped, held, item)?;
+    put_filling_helps(page, scene, held);
+    Ok(())
+}
+
 // Puts what the inequalities of a node say of an item that waits last.
 fn put_shape(
     page: &mut Page<'_>,
@@ -308,11 +336,10 @@ fn put_shape(
         page.say("the clocks of the node are written: its items are read when they say\n");
         return Ok(());
     }
-    if let Some(shaped) = shape_node(page.alloc, accepted, options, node)? {
-        put_late(page, scene, &shaped, held, item)?;
-        put_filling_helps(page, scene, held);
+    match shape_node(page.alloc, accepted, options, node)? {
+        Some(shaped) => put_shaped(page, scene, &shaped, held, item),
+        None => Ok(()),
     }
-    Ok(())
 }
 
 // Puts what is told of a buffer last.

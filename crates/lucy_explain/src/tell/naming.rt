@@ -195,40 +195,57 @@ fn put_first(page: &mut Page<'_>, program: &Program, span: Span) {
     page.helps("another name")
 }
 
+// Puts that a result is no stream of its node last, and which streams there are.
+fn put_result(page: &mut Page<'_>, program: &Program, span: Span) {
+    if let Some(node) = node_at(program, span) {
+        put_streams(page, node);
+    }
+    page.helps("define it behind `where rec`, or name another stream")
+}
+
+// Puts how the node is called last that is named at a span, and what helps.
+fn put_called(page: &mut Page<'_>, program: &Program, span: Span, help: &str) {
+    let name = page.bytes(span);
+    if let Some(callee) = node_of(program, name) {
+        put_callee(page, callee);
+    }
+    page.helps(help)
+}
+
+// Where a name stands that is not good.
+fn span_of(error: NameError) -> Option<Span> {
+    match error {
+        NameError::Unknown(span)
+        | NameError::Twice(span)
+        | NameError::NoResult(span)
+        | NameError::Arity(span)
+        | NameError::LaterNode(span) => Some(span),
+        NameError::TooMany(_) | NameError::OutOfMemory => None,
+    }
+}
+
 /// Puts why a name is not good last.
 pub(crate) fn put_name(page: &mut Page<'_>, program: &Program, ops: &Ops, error: NameError) {
+    let Some(span) = span_of(error) else {
+        return;
+    };
+    page.show_span(span);
     match error {
-        NameError::Unknown(span) => {
-            page.show_span(span);
-            put_unknown(page, program, ops, span)
-        }
-        NameError::Twice(span) => {
-            page.show_span(span);
-            put_first(page, program, span)
-        }
-        NameError::NoResult(span) => {
-            page.show_span(span);
-            if let Some(node) = node_at(program, span) {
-                put_streams(page, node);
-            }
-            page.helps("define it behind `where rec`, or name another stream")
-        }
-        NameError::Arity(span) => {
-            page.show_span(span);
-            let name = page.bytes(span);
-            if let Some(callee) = node_of(program, name) {
-                put_callee(page, callee);
-            }
-            page.helps("as many arguments, and names on the left")
-        }
-        NameError::LaterNode(span) => {
-            page.show_span(span);
-            let name = page.bytes(span);
-            if let Some(callee) = node_of(program, name) {
-                put_callee(page, callee);
-            }
-            page.helps("callees first: a node calls those above it, and not itself")
-        }
+        NameError::Unknown(_) => put_unknown(page, program, ops, span),
+        NameError::Twice(_) => put_first(page, program, span),
+        NameError::NoResult(_) => put_result(page, program, span),
+        NameError::Arity(_) => put_called(
+            page,
+            program,
+            span,
+            "as many arguments, and names on the left",
+        ),
+        NameError::LaterNode(_) => put_called(
+            page,
+            program,
+            span,
+            "callees first: a node calls those above it, and not itself",
+        ),
         NameError::TooMany(_) | NameError::OutOfMemory => {}
     }
 }

@@ -8,7 +8,7 @@ if_none None A a = a
 if_none (Some x) A a = tt
 
 pub returns-in-Ok-clause-accepted : goal.returns-in-Ok-clause-accepted
-returns-in-Ok-clause-accepted c = IfOk-weaker c.accepted.result _ _ (λ e h. if_none e.refusal _ (c.in-Ok.field-0, c.in-Ok.ensures.ok)) c.accepted.ensures.none
+returns-in-Ok-clause-accepted c = IfOk-weaker c.accepted.result _ _ (λ e h. if_none e.refusal _ (c.in-Ok.program, c.in-Ok.ensures.ok)) c.accepted.ensures.none
 
 pub returns-in-Ok-clause-spans : goal.returns-in-Ok-clause-spans
 returns-in-Ok-clause-spans c = IfOk-weaker c.accepted.result _ _ (λ e h. h (length c.args.text.now)) c.accepted.ensures.spans

@@ -12,5 +12,5 @@ fold_chain-requires-clause-variables c = ap (λ (s : System). s.count) c.require
 
 pub fold_chain-requires-clause-there : goal.fold_chain-requires-clause-there
 fold_chain-requires-clause-there c =
-    let r = c.args.reason in
+    let r = c.args.reason.now in
     subst (AreBelow (length r.diffs.list)) (sym c.deref.ensures.value) (chain_below r.diffs.list 0 r.chain.items r.variable r.instant c.requires.reason.chain)
