@@ -1,9 +1,9 @@
 -- The text of a dump, line by line.
-use Rattle.std.proofs.Common.{ℕ, suc, ◌+◌, ◌<◌, ◌≡◌, List, [], ◌∷◌, ◌++◌, length, drop, get_or, ap, sym, ◌∙◌, subst, append_assoc, append-nil, arith, Result, Ok, Err, OnOk}
+use Rattle.std.proofs.Common.{Bool, ℕ, suc, ◌+◌, ◌<◌, ◌≡◌, List, [], ◌∷◌, ◌++◌, length, drop, get_or, ap, sym, ◌∙◌, subst, append_assoc, append-nil, arith, Result, Ok, Err, OnOk}
 use Rattle.std.proofs.lemmas.List.Concat.{flat_map-append}
 use Rattle.std.specs.Prelude.{codes}
 use Rattle.lucy_wave.specs.declared.variable.Variable.{Variable as Shown}
-use Rattle.lucy_wave.specs.Dumps.{Variable, code_of, declaration, declarations, time_line, change, changes, steps, header, dump, text_of}
+use Rattle.lucy_wave.specs.Dumps.{Variable, code_of, kind_of, declaration, declarations, time_line, change, changes, steps, header, dump, text_of}
 use Rattle.lucy_wave.specs.Seen.{seen, all_seen}
 use Rattle.lucy_wave.proofs.PieceLaws.{pieces, mapped_split}
 
@@ -13,6 +13,18 @@ text_append xs ys = flat_map-append (λ (line : List ℕ). line ++ codes "\n") x
 -- the text of one line
 pub text_one : (line : List ℕ) → text_of (line ∷ []) ≡ line ++ codes "\n"
 text_one line = append-nil (line ++ codes "\n")
+
+-- the text of the line that declares a variable
+pub declaration_text : (is_wide : Bool) (code name : List ℕ) →
+    text_of (declaration is_wide code name ∷ []) ≡ codes "$var " ++ (kind_of is_wide ++ ((code ++ codes " ") ++ (name ++ codes " $end\n")))
+declaration_text is_wide code name =
+    let kind : List ℕ = kind_of is_wide in
+    let named : List ℕ = name ++ codes " $end" in
+    text_one (declaration is_wide code name)
+    ∙ ap (λ x. codes "$var " ++ x) (append_assoc kind (code ++ (codes " " ++ named)) (codes "\n")
+    ∙ ap (λ x. kind ++ x) (append_assoc code (codes " " ++ named) (codes "\n")
+    ∙ ap (λ x. code ++ (codes " " ++ x)) (append_assoc name (codes " $end") (codes "\n"))
+    ∙ sym (append_assoc code (codes " ") (name ++ codes " $end\n"))))
 
 -- the changes of one variable more
 pub changes_more : (vs : List Shown) (i t : ℕ) (v : Shown) (old new whole : List ℕ) → i < length vs → v ≡ get_or vs i v → new ≡ old ++ text_of (change i (seen v) t) →

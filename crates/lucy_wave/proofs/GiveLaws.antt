@@ -1,7 +1,7 @@
 -- A net with one output more, over its lists of actors and rings.
 use Rattle.std.proofs.Common.{ℕ, suc, zero, ◌+◌, ◌-◌, ◌<◌, ◌≤◌, ◌≡◌, ◌≢◌, ◌⊎◌, List, [], ◌∷◌, ◌++◌, Some, length, map, take, drop, get_or, set, ap, sym, refl, ◌∙◌, inl, inr, append_assoc, arith}
 use Rattle.std.specs.Prelude.{sum_by, slice_get, slice_index_or}
-use Rattle.std.specs.List.{range_with_len}
+use Rattle.std.specs.List.{AllByRecursion, range_with_len}
 use Rattle.std.proofs.lemmas.List.{append-nil, drop_more, length_push}
 use Rattle.std.proofs.lemmas.List.Sums.{sum_by_push}
 use Rattle.std.proofs.lemmas.Option.{same_Some}
@@ -16,6 +16,7 @@ use Rattle.lucy_net.specs.Proper.{input_of, output_of, numbers_of}
 use Rattle.lucy_flat.proofs.AssemblyLaws.{range_more}
 use Rattle.lucy_flat.proofs.ExtentLaws.{take_whole}
 use Rattle.lucy_need.specs.Meeting.{Assignment}
+use Rattle.lucy_wave.specs.Seen.{IsWithin}
 use Rattle.lucy_wave.specs.Watching.{giving, give_at, output_on, ring_on, with_output, with_outputs}
 
 -- one element more, at the end
@@ -169,6 +170,12 @@ module _ (net : Net) (output place : ℕ) (word : Bits) where
       ap (numbers_of output_of) actors_are ∙ numbers_push output_of (give_at (place - 1) ring net.actors) last
       ∙ ap (λ ns. ns ++ output ∷ []) (give_numbers output_of (place - 1) ring net.actors ∙ e)
       ∙ (let z : output ≡ 0 + output = omega arith in ap (λ n. range_with_len 0 output ++ n ∷ []) z) ∙ sym (range_more 0 output)
+
+-- what holds of each place holds of the one here
+pub place_within : (actors words : ℕ) (places : List ℕ) (i : ℕ) → i < length places → AllByRecursion (IsWithin actors words) places → IsWithin actors words (get_or places i 0)
+place_within actors words [] i h all = absurd (omega arith)
+place_within actors words (p ∷ places) zero h all = all.0
+place_within actors words (p ∷ places) (suc i) h all = place_within actors words places i (omega arith) all.1
 
 -- with the outputs so far and those that are left, one output more
 pub outputs_more : (net next whole : Net) (w : Assignment) (first i place : ℕ) (word : Bits) (places : List ℕ) → i < length places → place ≡ get_or places i 0 → word ≡ w place → next ≡ with_output net (first + i) place word →

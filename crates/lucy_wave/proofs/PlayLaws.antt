@@ -21,7 +21,7 @@ use Rattle.lucy_meaning.proofs.Closed.{place_spot}
 use Rattle.lucy_flat.specs.Clocked.{AreClocked}
 use Rattle.lucy_flat.specs.Instances.{words_in}
 use Rattle.lucy_flat.specs.Flat.{IsFlat}
-use Rattle.lucy_results.specs.Streams.{main_word, main_stream}
+use Rattle.lucy_results.specs.Streams.{main_word, main_stream, main_streams}
 use Rattle.lucy_flat.proofs.InstanceLaws.{places_within}
 use Rattle.lucy_flat.proofs.SpotWords.{clock_of}
 use Rattle.lucy_wave.specs.declared.playing.Played.{Played}
@@ -159,6 +159,13 @@ module _ {nodes : List PlacedNode} {clocks : List NodeClock} {net : Net} {lists 
       let few = places_within nodes (length nodes - 1) main h.proper h.main_is in
       subst (AllByRecursion (IsWithin (length net.actors) (length words))) (sym h.places_are)
       (named_within main (length net.actors) (length words) (inner_of main) (omega (arith, few, h.flat.count)) (omega (arith, known, count)) (inner_named main))
+
+-- the streams of main's results are those of these places
+pub main_played : {E : Type 0} (kinds : List HostKind) (lists : List (List ℤ)) (nodes : List PlacedNode) (clocks : List NodeClock) (t : ℕ) (main : PlacedNode) (results : List ℕ) (r : Result Played E) →
+    IfOk r (λ played. played.streams ≡ map (main_stream kinds lists nodes clocks t) results) → main_of nodes ≡ Some main → results ≡ main.results →
+    IfOk r (λ played. played.streams ≡ main_streams kinds lists nodes clocks t)
+main_played kinds lists nodes clocks t main results (Ok played) is e f = is ∙ ap (map (main_stream kinds lists nodes clocks t)) (f ∙ sym (ap results_in e))
+main_played kinds lists nodes clocks t main results (Err x) is e f = tt
 
 -- what is known of the inner streams
 pub none_inside : {E : Type 0} (kinds : List HostKind) (lists : List (List ℤ)) (nodes : List PlacedNode) (clocks : List NodeClock) (net : Net) (t : ℕ) (r : Result Played E) → IfOk r (λ played. played.inside ≡ None) → (CanShow nodes clocks net → ⊥) →

@@ -1,5 +1,5 @@
 -- How a call that writes the dump of a run ends, from what its parts leave.
-use Rattle.std.proofs.Common.{◌≡◌, ℕ, ◌-◌, ◌<◌, ◌^◌, List, [], ◌++◌, length, map, Option, Some, None, Result, Ok, refl, ap, sym, ◌∙◌, subst, inl}
+use Rattle.std.proofs.Common.{◌≡◌, ℕ, ◌-◌, ◌<◌, ◌^◌, List, [], ◌++◌, length, Option, Some, None, Result, Ok, refl, ap, sym, ◌∙◌, subst, inl}
 use Rattle.std.specs.Prelude.{ℤ, slice_get, IfSome}
 use Rattle.std.proofs.lemmas.List.{length-map}
 use Rattle.std.specs.List.{AllByRecursion}
@@ -31,25 +31,34 @@ use Rattle.lucy_need.specs.Meeting.{assigned}
 use Rattle.lucy_flat.specs.Instances.{words_in}
 use Rattle.lucy_wave.specs.Dumps.{Variable, dump, text_of}
 use Rattle.lucy_wave.specs.Waves.{Fit, FitInside, inner_of, inner_in, notes, variables, IsWave, AreInside, Waves, OwesWave}
+use Rattle.lucy_wave.specs.Seen.{IsDump}
 use Rattle.lucy_wave.proofs.DumpLaws.{text_append}
 
+-- a dump of these lists and streams is that of the run that has them
+pub is_dump : (kinds : List HostKind) (nodes : List PlacedNode) (clocks : List NodeClock) (net : Net) (outputs : List OutputSpec) (lists : List (List ℤ)) (horizon : ℕ) (shown streams : List (List ℤ))
+    (inside : Option (List (List ℤ))) (text : List ℕ) → shown ≡ lists → streams ≡ main_streams kinds lists nodes clocks horizon → AreInside kinds lists nodes clocks net horizon inside →
+    IsWave nodes clocks outputs shown streams inside horizon text → IsDump kinds nodes clocks net outputs lists horizon text
+is_dump kinds nodes clocks net outputs lists horizon shown streams inside text same are within wave = (
+  inside,
+  within,
+  subst (λ xs. IsWave nodes clocks outputs lists xs inside horizon text) are (subst (λ xs. IsWave nodes clocks outputs xs streams inside horizon text) same wave),
+)
+
 module _ (kinds : List HostKind) (nodes : List PlacedNode) (clocks : List NodeClock) (net : Net) (outputs : List OutputSpec) (given : Option ℕ) (lists : List (List ℤ)) (fault : Option TextFault) (horizon : ℕ)
-    (shown streams : List (List ℤ)) (inside : Option (List (List ℤ))) (text : List ℕ) (wave : IsWave nodes clocks outputs shown streams inside horizon text) (same : shown ≡ lists)
-    (are : streams ≡ main_streams kinds lists nodes clocks horizon) (within : AreInside kinds lists nodes clocks net horizon inside) where
-  is_wave : IsWave nodes clocks outputs lists (main_streams kinds lists nodes clocks horizon) inside horizon text
-  is_wave = subst (λ xs. IsWave nodes clocks outputs lists xs inside horizon text) are (subst (λ xs. IsWave nodes clocks outputs xs streams inside horizon text) same wave)
+    (text : List ℕ) (dumped : IsDump kinds nodes clocks net outputs lists horizon text) (end : Ending) (ends : EndsFor (param_words nodes clocks) given lists fault end) (was now : SeenSink) where
+  -- what was to be written
+  owes : Waves kinds nodes clocks net outputs given lists fault horizon text end
+  owes =
+      let (inside, within, wave) = dumped in
+      (inside, within, wave, ends)
 
   -- the dump was written
-  pub wave_written : (words : List Bits) → words ≡ param_words nodes clocks → (end : Ending) → EndsFor words given lists fault end → (was now : SeenSink) → Writes was now text →
-      LeavesOwed (Waves kinds nodes clocks net outputs given lists fault horizon) was now end
-  wave_written words of end ends was now w =
-      owed_written (Waves kinds nodes clocks net outputs given lists fault horizon) text end was now (ends_whole words given lists fault end ends)
-      (inside, within, is_wave, subst (λ ws. EndsFor ws given lists fault end) of ends) w
+  pub wave_written : Writes was now text → LeavesOwed (Waves kinds nodes clocks net outputs given lists fault horizon) was now end
+  wave_written w = owed_written (Waves kinds nodes clocks net outputs given lists fault horizon) text end was now (ends_whole (param_words nodes clocks) given lists fault end ends) owes w
 
   -- it could not be
-  pub wave_failed : (words : List Bits) → words ≡ param_words nodes clocks → (end : Ending) → EndsFor words given lists fault end → (was now : SeenSink) → Fails was now text →
-      LeavesOwed (Waves kinds nodes clocks net outputs given lists fault horizon) was now ending.WriteFault
-  wave_failed words of end ends was now f = (text, end, (inside, within, is_wave, subst (λ ws. EndsFor ws given lists fault end) of ends), f)
+  pub wave_failed : Fails was now text → LeavesOwed (Waves kinds nodes clocks net outputs given lists fault horizon) was now ending.WriteFault
+  wave_failed f = (text, end, owes, f)
 
 module _ (kinds : List HostKind) (a : Accepted) (given : Option ℕ) where
   -- what a call of `wave` leaves
@@ -97,10 +106,10 @@ wave_is nodes clocks outputs lists streams inside horizon main words vs text mai
       text_is = is ∙ sym (text_append (notes inside) (dump main.name.text vs horizon)) ∙ ap (λ us. text_of (notes inside ++ dump main.name.text us horizon)) same;
     }
 
--- the streams of main's results
-pub results_are : (kinds : List HostKind) (lists : List (List ℤ)) (nodes : List PlacedNode) (clocks : List NodeClock) (horizon : ℕ) (main : PlacedNode) (results : List ℕ) → main_of nodes ≡ Some main → results ≡ main.results →
-    map (main_stream kinds lists nodes clocks horizon) results ≡ main_streams kinds lists nodes clocks horizon
-results_are kinds lists nodes clocks horizon main results e f = ap (map (main_stream kinds lists nodes clocks horizon)) (f ∙ sym (ap results_in e))
+-- as many streams as results
+pub streams_count : (kinds : List HostKind) (lists : List (List ℤ)) (nodes : List PlacedNode) (clocks : List NodeClock) (horizon : ℕ) (streams : List (List ℤ)) → streams ≡ main_streams kinds lists nodes clocks horizon →
+    length streams ≡ length (results_in (main_of nodes))
+streams_count kinds lists nodes clocks horizon streams is = ap length is ∙ length-map (results_in (main_of nodes)) (main_stream kinds lists nodes clocks horizon)
 
 -- as many streams as inner places, where they are known
 pub inside_count : (kinds : List HostKind) (lists : List (List ℤ)) (nodes : List PlacedNode) (clocks : List NodeClock) (net : Net) (horizon : ℕ) (inside : Option (List (List ℤ))) → AreInside kinds lists nodes clocks net horizon inside →

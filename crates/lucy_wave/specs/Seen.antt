@@ -1,5 +1,5 @@
 -- What contracts see of the variables, and of a net that is being made, in memory.
-use Rattle.std.specs.Prelude.{ℕ, ◌+◌, ◌-◌, ◌<◌, ◌≤◌, ◌≡◌, [], List, ℤ, Some, length, map, slice_get}
+use Rattle.std.specs.Prelude.{ℕ, ◌+◌, ◌-◌, ◌<◌, ◌≤◌, ◌≡◌, [], List, ℤ, Option, Some, length, map, slice_get}
 use Rattle.lucy_word.specs.Bits.{ones_to}
 use Rattle.lucy_host.specs.declared.kind.HostKind.{HostKind}
 use Rattle.lucy_stream.specs.Items.{list_at}
@@ -15,12 +15,13 @@ use Rattle.lucy_core.specs.Seen.{IsOutputOf, first_ring}
 use Rattle.lucy_meaning.specs.Spots.{at, IsSpot}
 use Rattle.lucy_meaning.specs.Sizes.{all_places}
 use Rattle.lucy_meaning.specs.Kahn.{kahn}
-use Rattle.lucy_results.specs.Streams.{main_word}
+use Rattle.lucy_output.specs.declared.output.OutputSpec.{OutputSpec}
+use Rattle.lucy_results.specs.Streams.{main_word, main_streams}
 use Rattle.lucy_wave.specs.declared.watching.Draft.{Draft}
 use Rattle.lucy_wave.specs.declared.variable.Variable.{Variable as Shown}
 use Rattle.lucy_wave.specs.declared.variable.Variable.TheVariants as shown
 use Rattle.lucy_wave.specs.Dumps.{Variable}
-use Rattle.lucy_wave.specs.Waves.{there, last, waits}
+use Rattle.lucy_wave.specs.Waves.{there, last, waits, IsWave, AreInside}
 
 -- what a variable in memory shows
 abbrev pub seen : Shown → Variable
@@ -59,3 +60,8 @@ pub record IsFedBy (nodes : List PlacedNode) (clocks : List NodeClock) (net : Ne
 -- so do outputs from a number on of places in order
 abbrev pub AreFed : List PlacedNode → List NodeClock → Net → (first : ℕ) → (places : List ℕ) → Type 0
 AreFed nodes clocks net first places = (i place : ℕ) → slice_get places i ≡ Some place → IsFedBy nodes clocks net (first + i) place
+
+-- the text is the dump of a run on these lists up to the horizon
+abbrev pub IsDump : List HostKind → List PlacedNode → List NodeClock → Net → List OutputSpec → (lists : List (List ℤ)) → (horizon : ℕ) → (text : List ℕ) → Type 0
+IsDump kinds nodes clocks net outputs lists horizon text =
+    (inside : Option (List (List ℤ))) × AreInside kinds lists nodes clocks net horizon inside × IsWave nodes clocks outputs lists (main_streams kinds lists nodes clocks horizon) inside horizon text

@@ -1,7 +1,7 @@
 // The text of a dump.
 ghost use Rattle.std.specs.Prelude.{◌≡◌, ◌≤◌, ◌<◌, ◌-◌, ◌^◌, ◌++◌, ◌∷◌, [], suc, OnOk, codes};
 ghost use Rattle.lucy_wave.specs.Dumps as spec;
-ghost use Rattle.lucy_wave.specs.Dumps.{code_of, text_of, dump};
+ghost use Rattle.lucy_wave.specs.Dumps.{code_of, kind_of, text_of, dump};
 ghost use Rattle.lucy_wave.specs.Waves.{notes};
 ghost use Rattle.lucy_wave.specs.Seen.{seen, all_seen};
 
@@ -10,6 +10,24 @@ use crate::variable::Variable;
 use lucy_host::Inputs;
 use lucy_word::OutOfMemory;
 use std::alloc::Global;
+
+// The kind of a variable and its number of bits.
+fn put_kind(is_wide: bool, out: &mut Vec<u8>) -> Result<(), OutOfMemory>
+    ensures { OnOk result (out.new.items ≡ out.old.items ++ kind_of is_wide) }
+{
+    if is_wide {
+        put_bytes(b"integer 64 ", out)
+    } else {
+        put_bytes(b"wire 1 ", out)
+    }
+}
+
+// The code of a variable, by its number from 0, and a blank.
+fn put_code(alloc: Global, number: usize, out: &mut Vec<u8>) -> Result<(), OutOfMemory>
+    ensures { OnOk result (out.new.items ≡ out.old.items ++ (code_of number ++ codes " ")) }
+{
+    put_bytes(format!(in alloc; "v{number} ")?.as_bytes(), out)
+}
 
 // The line that declares a variable.
 fn put_declaration(
@@ -21,12 +39,8 @@ fn put_declaration(
     ensures { OnOk result (out.new.items ≡ out.old.items ++ text_of (spec.declaration (seen variable.now).is_wide (code_of number) (seen variable.now).name ∷ [])) }
 {
     put_bytes(b"$var ", out)?;
-    if variable.is_wide() {
-        put_bytes(b"integer 64 ", out)?;
-    } else {
-        put_bytes(b"wire 1 ", out)?;
-    }
-    put_bytes(format!(in alloc; "v{number} ")?.as_bytes(), out)?;
+    put_kind(variable.is_wide(), out)?;
+    put_code(alloc, number, out)?;
     put_name(alloc, variable, out)?;
     put_bytes(b" $end\n", out)
 }

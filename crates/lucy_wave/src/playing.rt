@@ -102,6 +102,13 @@ fn finished<F: Fn(u32, i64, i64) -> i64 + Sync>(
     Ok(core)
 }
 
+// The lists that a core was given.
+fn inputs_of(core: Core) -> Inputs
+    ensures { result ≡ core.inputs }
+{
+    core.into_parts().inputs
+}
+
 // A run whose net puts out main's results alone.
 fn play_results<F: Fn(u32, i64, i64) -> i64 + Sync>(
     alloc: Global,
@@ -124,13 +131,36 @@ fn play_results<F: Fn(u32, i64, i64) -> i64 + Sync>(
     ensures inside { IfOk result (λ played. played.inside ≡ None) }
 {
     let core = finished(alloc, net, schedule, host, lists, instants)?;
-    let streams = streams_of(alloc, placed, clocks, &core, 0, results)?;
-    let lists = core.into_parts().inputs;
+    let found = streams_of(alloc, placed, clocks, &core, 0, results);
+    let lists = inputs_of(core);
     Ok(Played {
         lists,
-        streams,
+        streams: found?,
         inside: None,
     })
+}
+
+// The streams of main's results, and of these places, whose outputs stand behind those of the results.
+fn all_streams(
+    alloc: Global,
+    placed: &Placed,
+    clocks: &[NodeClock],
+    core: &Core,
+    results: &[u32],
+    places: &[u32],
+) -> Result<(Inputs, Inputs), OutOfMemory>
+    requires fed { AreFed placed.now.nodes clocks.now core.now.net 0 results.now }
+    requires fed_too { AreFed placed.now.nodes clocks.now core.now.net (length results.now) places.now }
+    requires grown { IsGrown placed.now.nodes core.now.net }
+    requires over { IsOver core.now }
+    requires few { length results.now < 2 ^ 31 }
+    requires few_places { length places.now < 2 ^ 30 }
+    ensures streams { IfOk result (λ found. found.0 ≡ map (main_stream (kinds_of core.now.operators) core.now.inputs placed.now.nodes clocks.now core.now.instants) results.now) }
+    ensures inside { IfOk result (λ found. found.1 ≡ map (main_stream (kinds_of core.now.operators) core.now.inputs placed.now.nodes clocks.now core.now.instants) places.now) }
+{
+    let streams = streams_of(alloc, placed, clocks, core, 0, results)?;
+    let inside = streams_of(alloc, placed, clocks, core, results.len() as u32, places)?;
+    Ok((streams, inside))
 }
 
 // One whose net puts out these places too, behind the results.
@@ -158,9 +188,9 @@ fn play_all<F: Fn(u32, i64, i64) -> i64 + Sync>(
 {
     let Watched { net, schedule } = watched;
     let core = finished(alloc, net, schedule, host, lists, instants)?;
-    let streams = streams_of(alloc, placed, clocks, &core, 0, results)?;
-    let inside = streams_of(alloc, placed, clocks, &core, results.len() as u32, places)?;
-    let lists = core.into_parts().inputs;
+    let found = all_streams(alloc, placed, clocks, &core, results, places);
+    let lists = inputs_of(core);
+    let (streams, inside) = found?;
     Ok(Played {
         lists,
         streams,
@@ -201,8 +231,12 @@ pub(crate) fn play<F: Fn(u32, i64, i64) -> i64 + Sync>(
         None => play_results(
             alloc, placed, clocks, net, schedule, host, lists, instants, results,
         ),
-        Some(watched) => play_all(
-            alloc, placed, clocks, watched, host, lists, instants, results, &places,
-        ),
+        Some(watched) => {
+            drop(schedule);
+            drop(net);
+            play_all(
+                alloc, placed, clocks, watched, host, lists, instants, results, &places,
+            )
+        }
     }
 }

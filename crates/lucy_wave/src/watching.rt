@@ -141,6 +141,36 @@ fn give(alloc: Global, actors: &mut [Actor], number: usize, ring: u32) -> Result
     Ok(())
 }
 
+// One more actor: an output that takes from a ring, on this word.
+fn add_actor(
+    alloc: Global,
+    actors: &mut Vec<Actor>,
+    output: u32,
+    ring: u32,
+    word: &Word,
+) -> Result<(), OutOfMemory>
+    ensures { OnOk result (actors.new.items ≡ actors.old.items ++ spec.output_on output ring word.now ∷ []) }
+{
+    let actor = output_on(alloc, output, ring, word)?;
+    push(actors, actor)?;
+    Ok(())
+}
+
+// One more ring, written and read on one word.
+fn add_ring(
+    alloc: Global,
+    rings: &mut Vec<RingSpec>,
+    from: u32,
+    to: u32,
+    word: &Word,
+) -> Result<(), OutOfMemory>
+    ensures { OnOk result (rings.new.items ≡ rings.old.items ++ spec.ring_on from to word.now ∷ []) }
+{
+    let ring = ring_of(alloc, from, to, word, word, 0)?;
+    push(rings, ring)?;
+    Ok(())
+}
+
 // An output more, for a place, which counts from 1.
 fn add_output(
     alloc: Global,
@@ -157,11 +187,9 @@ fn add_output(
 {
     let to = draft.actors.len() as u32;
     let ring = draft.rings.len() as u32;
-    let actor = output_on(alloc, output, ring, word)?;
-    let spec = ring_of(alloc, place - 1, to, word, word, 0)?;
     give(alloc, &mut draft.actors, place as usize - 1, ring)?;
-    push(&mut draft.actors, actor)?;
-    push(&mut draft.rings, spec)?;
+    add_actor(alloc, &mut draft.actors, output, ring, word)?;
+    add_ring(alloc, &mut draft.rings, place - 1, to, word)?;
     Ok(())
 }
 

@@ -6,6 +6,7 @@ ghost use Rattle.lucy_host.specs.Host.{Serves, lent};
 ghost use Rattle.lucy_host.specs.Operators.{kinds_of};
 ghost use Rattle.lucy_place.specs.Proper.{HaveOperators};
 ghost use Rattle.lucy_meaning.specs.Spots.{main_of, results_in};
+ghost use Rattle.lucy_meaning.specs.Horizons.{Suffice};
 ghost use Rattle.lucy_kahn.specs.Turns.{params_in};
 ghost use Rattle.lucy_net.specs.Schedules.{IsSound};
 ghost use Rattle.lucy_cause.specs.Schedules.{events_at};
@@ -19,6 +20,7 @@ ghost use Rattle.lucy_run.specs.Ends.{EndsOwed};
 ghost use Rattle.lucy_run.specs.Calls.{WasAccepted, ReadsAndEnds};
 ghost use Rattle.lucy_run.specs.Steps.{LeavesOwed};
 ghost use Rattle.lucy_wave.specs.Waves.{IsWave, Waves, OwesWave, inner_in};
+ghost use Rattle.lucy_wave.specs.Seen.{IsDump};
 
 use crate::dumping::{put_dump, put_notes};
 use crate::gathering::{main_words, variables};
@@ -27,7 +29,7 @@ use lucy_cause::Schedule;
 use lucy_clock::NodeClock;
 use lucy_feed::Feed;
 use lucy_front::{Accepted, accepted_programs_are_clocked};
-use lucy_host::Host;
+use lucy_host::{Host, Inputs};
 use lucy_net::Net;
 use lucy_output::OutputSpec;
 use lucy_place::Placed;
@@ -77,6 +79,33 @@ fn wave_text(
     Ok(text)
 }
 
+// The text of the dump of what main is fed, up to a horizon.
+fn dumped<F: Fn(u32, i64, i64) -> i64 + Sync>(
+    alloc: Global,
+    placed: &Placed,
+    clocks: &[NodeClock],
+    net: Net,
+    schedule: Schedule,
+    outputs: &[OutputSpec],
+    host: &Host<F>,
+    items: Inputs,
+    horizon: u64,
+) -> Result<Vec<u8>, OutOfMemory>
+    requires clocked { AreClocked placed.now.nodes clocks.now }
+    requires flat { IsFlat placed.now.nodes clocks.now net }
+    requires sound { IsSound net (events_at schedule) }
+    requires outputs { length outputs.now ≡ length (results_in (main_of placed.now.nodes)) }
+    requires serves { Serves F.pre F.post host.now }
+    requires known { HaveOperators (length (lent host.now)) placed.now.nodes }
+    requires inputs { params_in (main_of placed.now.nodes) ≡ length items }
+    requires suffice { Suffice (param_words placed.now.nodes clocks.now) items horizon }
+    requires early { horizon ≤ limit_number limit.Instants }
+    ensures { IfOk result (λ v. IsDump (kinds_of (lent host.now)) placed.now.nodes clocks.now net outputs.now items horizon v.items) }
+{
+    let played = play(alloc, placed, clocks, net, schedule, host, items, horizon)?;
+    wave_text(alloc, placed, clocks, outputs, &played, horizon)
+}
+
 // Writes the dump of what main is fed, where these instants are given.
 fn wave_feed<F: Fn(u32, i64, i64) -> i64 + Sync, O: Sink>(
     alloc: Global,
@@ -107,18 +136,24 @@ fn wave_feed<F: Fn(u32, i64, i64) -> i64 + Sync, O: Sink>(
     let words = param_words(placed, clocks);
     let extent = match extent_of(alloc, words, given, &items, stop) {
         Ok(extent) => extent,
-        Err(_) => return Ending::OutOfMemory,
+        Err(_) => {
+            // A call of `drop` is one step of the proof, where the end of a scope is one for each list.
+            drop(items);
+            drop(schedule);
+            drop(net);
+            return Ending::OutOfMemory;
+        }
     };
     let horizon = extent.horizon;
-    let played = match play(alloc, placed, clocks, net, schedule, host, items, horizon) {
-        Ok(played) => played,
-        Err(_) => return Ending::OutOfMemory,
-    };
-    let text = match wave_text(alloc, placed, clocks, outputs, &played, horizon) {
+    let text = match dumped(
+        alloc, placed, clocks, net, schedule, outputs, host, items, horizon,
+    ) {
         Ok(text) => text,
         Err(_) => return Ending::OutOfMemory,
     };
-    match write_all(out, &text) {
+    let written = write_all(out, &text);
+    drop(text);
+    match written {
         Ok(()) => extent.ending,
         Err(_) => Ending::WriteFault,
     }
@@ -159,11 +194,12 @@ pub fn wave<F: Fn(u32, i64, i64) -> i64 + Sync, I: Source, O: Sink>(
         ..
     } = accepted;
     accepted_programs_are_clocked();
-    let feed = match main_feed(alloc, inputs, source) {
-        Ok(feed) => feed,
-        Err(_) => return Ending::OutOfMemory,
+    // All ways meet here, so that the proof counts once what is let go.
+    let ending = match main_feed(alloc, inputs, source) {
+        Ok(feed) => wave_feed(
+            alloc, &placed, &clocks, net, schedule, &outputs, host, instants, feed, out,
+        ),
+        Err(_) => Ending::OutOfMemory,
     };
-    wave_feed(
-        alloc, &placed, &clocks, net, schedule, &outputs, host, instants, feed, out,
-    )
+    ending
 }

@@ -1,5 +1,5 @@
-use Rattle.std.proofs.Common.{◌-◌, ◌++◌, ◌∷◌, [], ◌≡◌, length, ap, ◌∙◌, arith}
-use Rattle.lucy_wave.specs.Watching.{give_at}
+use Rattle.std.proofs.Common.{◌-◌, ◌++◌, ◌∷◌, [], ◌≡◌, length, refl, ap, ◌∙◌, arith}
+use Rattle.lucy_wave.specs.Watching.{give_at, output_on}
 use Rattle.lucy_wave.specs.Seen.{net_of}
 use Rattle.lucy_wave.proofs.GiveLaws.{give_length, output_made, written_back}
 use Rattle.lucy_wave.proofs.watching.add_output.Goals as goal
@@ -13,7 +13,8 @@ returns c =
     let new = c.give.new.actors in
     let given : new ≡ give_at (c.args.place - 1) c.len-ring.result actors.items = c.in_ok-give.ensures ∙ ap (give_at (c.args.place - 1) c.len-ring.result) c.deref_mut.ensures.value in
     let long : length new ≡ length actors.items = ap length given ∙ give_length (c.args.place - 1) c.len-ring.result actors.items in
-    let pushed : c.push.new.list.items ≡ new ++ c.in_ok-actor.actor ∷ [] =
-    c.in_ok-push.ensures ∙ ap (λ xs. xs ++ c.in_ok-actor.actor ∷ []) (written_back new actors.items actors.len long (omega (arith, actors.ok))) in
-    output_made (net_of draft) c.len-to.result c.len-ring.result c.args.output c.args.place c.args.word.now c.in_ok-actor.actor c.in_ok-spec.spec new c.push.new.list.items c.push-2.new.list.items to ring
-    c.in_ok-actor.ensures c.in_ok-spec.ensures given pushed c.in_ok-push-2.ensures
+    let output = output_on c.args.output c.len-ring.result c.args.word.now in
+    let pushed : c.add_actor.new.actors.items ≡ new ++ output ∷ [] =
+    c.in_ok-add_actor.ensures ∙ ap (λ xs. xs ++ output ∷ []) (written_back new actors.items actors.len long (omega (arith, actors.ok))) in
+    output_made (net_of draft) c.len-to.result c.len-ring.result c.args.output c.args.place c.args.word.now output _ new c.add_actor.new.actors.items c.add_ring.new.rings.items to ring refl refl given pushed
+    c.in_ok-add_ring.ensures

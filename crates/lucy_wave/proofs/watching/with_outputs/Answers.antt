@@ -2,8 +2,19 @@ use Rattle.std.proofs.Common.{◌+◌, length, ap, ap₂, refl, ◌∙◌, arith
 use Rattle.lucy_need.specs.Meeting.{assigned}
 use Rattle.lucy_net.specs.declared.net.Net.{Net}
 use Rattle.lucy_wave.specs.Seen.{net_of}
-use Rattle.lucy_wave.proofs.GiveLaws.{outputs_more, outputs_done, actors_count, rings_count}
+use Rattle.lucy_wave.proofs.GiveLaws.{place_within, outputs_more, outputs_done, actors_count, rings_count}
 use Rattle.lucy_wave.proofs.watching.with_outputs.Goals as goal
+
+pub word_of-word-requires : goal.word_of-word-requires
+word_of-word-requires c = (place_within (length c.args.net.now.actors) (length c.args.words.now) c.args.places.now c.each.i c.each-test.true c.requires.within).2
+
+pub add_output-requires-clause-low : goal.add_output-requires-clause-low
+add_output-requires-clause-low c = (place_within (length c.args.net.now.actors) (length c.args.words.now) c.args.places.now c.each.i c.each-test.true c.requires.within).0
+
+pub add_output-requires-clause-high : goal.add_output-requires-clause-high
+add_output-requires-clause-high c =
+    let within = place_within (length c.args.net.now.actors) (length c.args.words.now) c.args.places.now c.each.i c.each-test.true c.requires.within in
+    omega (arith, within.1, c.each.invariant.1)
 
 pub each-preserved : goal.each-preserved
 each-preserved c =
