@@ -103,11 +103,16 @@ pub fn kahn<F: Fn(u32, i64, i64) -> i64 + Sync, I: Source, O: Sink>(
 {
     let Accepted {
         placed,
+        typed,
         clocks,
+        net,
+        schedule,
         inputs,
         outputs,
-        ..
     } = accepted;
+    drop(typed);
+    drop(net);
+    drop(schedule);
     accepted_programs_are_clocked();
     // All ways meet here, so that the proof counts once what is let go.
     let ending = match main_feed(alloc, inputs, source) {
@@ -116,5 +121,8 @@ pub fn kahn<F: Fn(u32, i64, i64) -> i64 + Sync, I: Source, O: Sink>(
         }
         Err(_) => Ending::OutOfMemory,
     };
+    drop(placed);
+    drop(clocks);
+    drop(outputs);
     ending
 }

@@ -214,13 +214,14 @@ pub fn replay<F: Fn(u32, i64, i64) -> i64 + Sync, I: Source, O: Sink>(
 {
     let Accepted {
         placed,
+        typed,
         clocks,
         net,
         schedule,
         inputs,
         outputs,
-        ..
     } = accepted;
+    drop(typed);
     accepted_programs_are_clocked();
     replays_go_by_streams();
     // All ways meet here, so that the proof counts once what is let go.
@@ -230,5 +231,8 @@ pub fn replay<F: Fn(u32, i64, i64) -> i64 + Sync, I: Source, O: Sink>(
         ),
         Err(_) => Ok(Ending::OutOfMemory),
     };
+    drop(placed);
+    drop(clocks);
+    drop(outputs);
     ending
 }

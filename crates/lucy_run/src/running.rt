@@ -178,13 +178,14 @@ pub fn run<
     }
     let Accepted {
         placed,
+        typed,
         clocks,
         net,
         schedule,
         inputs,
         outputs,
-        ..
     } = accepted;
+    drop(typed);
     accepted_programs_are_clocked();
     // All ways meet here, so that the proof counts once what is let go; and a call of `drop` is one step, where the end of a scope is one
     // for each list.
@@ -198,5 +199,8 @@ pub fn run<
         }
         Err(_) => Ending::OutOfMemory,
     };
+    drop(placed);
+    drop(clocks);
+    drop(outputs);
     ending
 }

@@ -131,7 +131,12 @@ fn trace_net<F: Fn(u32, i64, i64) -> i64 + Sync, O: Sink>(
     let Extent { horizon, ending } = extent;
     let mut core = match second_core(alloc, &net, &inputs, count, host.ops(), horizon) {
         Ok(core) => core,
-        Err(_) => return Ending::OutOfMemory,
+        Err(_) => {
+            drop(net);
+            drop(schedule);
+            drop(inputs);
+            return Ending::OutOfMemory;
+        }
     };
     // All ways meet here, and `drop` is one step of the proof, where the end of a scope is one for each list.
     let ending = match new_runner(alloc, net, schedule, inputs, host.ops(), horizon, workers) {
@@ -224,12 +229,15 @@ pub fn trace<F: Fn(u32, i64, i64) -> i64 + Sync, I: Source, O: Sink>(
 {
     let Accepted {
         placed,
+        typed,
         clocks,
         net,
         schedule,
         inputs,
-        ..
+        outputs,
     } = accepted;
+    drop(typed);
+    drop(outputs);
     accepted_programs_are_clocked();
     // All ways meet here, so that the proof counts once what is let go.
     let ending = match main_feed(alloc, inputs, source) {
@@ -238,5 +246,7 @@ pub fn trace<F: Fn(u32, i64, i64) -> i64 + Sync, I: Source, O: Sink>(
         ),
         Err(_) => Ending::OutOfMemory,
     };
+    drop(placed);
+    drop(clocks);
     ending
 }
