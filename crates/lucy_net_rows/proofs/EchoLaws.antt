@@ -16,7 +16,8 @@ use Rattle.lucy_cause.specs.Schedules.{Timetable, IsScheduleOf}
 use Rattle.lucy_core.specs.Seen.{Seen, IsOutputOf, CanMakeCore, first_seen, after_picks}
 use Rattle.lucy_runner.specs.Views.{RunnerView, input_count, inputs_for, first_runner}
 use Rattle.lucy_runner.specs.Blocks.{longer_inputs, grown_seen}
-use Rattle.lucy_net_rows.specs.Echo.{giver, taker, ring, echo, IsEchoReady, IsAt}
+use Rattle.lucy_net_rows.specs.Ready.{HasOneList}
+use Rattle.lucy_net_rows.specs.Echo.{giver, taker, ring, echo, IsEchoReady, IsEcho}
 use Rattle.lucy_net_rows.proofs.ReadyLaws.{first_unbegun}
 
 giver_proper : (w : Bits) → IsProperActor (echo w) 0 (giver w)
@@ -75,56 +76,55 @@ known w count (suc zero) actor e = (let same : taker w ≡ actor = cc in subst (
 known w count (suc (suc a)) actor e = absurd (cc)
 
 -- a core can be made of it
-pub echo_fixed : (w : Bits) (net : Net) (schedule : Timetable) (inputs : List (List ℤ)) (operators : List Operator) (items : List ℤ) (instants : ℕ) → net ≡ echo w → IsScheduleOf net schedule → inputs ≡ items ∷ [] → instants ≡ length items → length items ≤ 1048576 →
+pub echo_fixed : (w : Bits) (net : Net) (schedule : Timetable) (inputs : List (List ℤ)) (operators : List Operator) (items instants : ℕ) → net ≡ echo w → IsScheduleOf net schedule → HasOneList items inputs → instants ≡ items → items ≤ 1048576 →
     CanMakeCore net schedule inputs operators instants
 echo_fixed w net schedule inputs operators items instants same is list all few =
     let at : IsScheduleOf (echo w) schedule = subst (λ (n : Net). IsScheduleOf n schedule) same is in
-    let there : length (list_at inputs 0) ≡ length items = ap (λ xs. length (list_at xs 0)) list in
+    let there = list.all in
     let fixed : CanMakeCore (echo w) schedule inputs operators instants = record { proper = echo_proper w; sound = at.sound; early = omega arith; supplied = supplied w inputs instants (omega arith); known = known w (length operators) } in
     subst (λ (n : Net). CanMakeCore n schedule inputs operators instants) (sym same) fixed
 
-pub echo_ready : (w : Bits) (net : Net) (schedule : Timetable) (inputs : List (List ℤ)) (operators : List Operator) (items : List ℤ) (instants : ℕ) (core : Seen) → net ≡ echo w → inputs ≡ items ∷ [] → operators ≡ [] → instants ≡ length items →
-    core ≡ first_seen net schedule inputs operators instants → IsEchoReady w items core
-echo_ready w net schedule inputs operators items instants core same list none all e =
-    subst (IsEchoReady w items) (sym e) (record { net = same; inputs = list; operators = none; instants = all; unbegun = first_unbegun net schedule inputs operators instants })
+pub echo_ready : (w : Bits) (net : Net) (schedule : Timetable) (inputs : List (List ℤ)) (operators : List Operator) (items instants : ℕ) (core : Seen) → net ≡ echo w → HasOneList items inputs → instants ≡ items →
+    core ≡ first_seen net schedule inputs operators instants → IsEchoReady w operators items core
+echo_ready w net schedule inputs operators items instants core same list all e =
+    subst (IsEchoReady w operators items) (sym e) (record { net = same; inputs = list; operators_are = refl; instants = all; unbegun = first_unbegun net schedule inputs operators instants })
 
 -- a runner of the core
 first_list : (w : Bits) (net : Net) (inputs : List (List ℤ)) → net ≡ echo w → list_at (inputs_for net inputs) 0 ≡ list_at inputs 0
 first_list w net inputs e = ap (λ n. list_at (inputs_for n inputs) 0) e
 
-pub echo_at : (w : Bits) (items : List ℤ) (core : Seen) (view : RunnerView) → IsEchoReady w items core → view ≡ first_runner core → IsAt w (length items) view.seen
-echo_at w items core view is e =
-    subst (λ (v : RunnerView). IsAt w (length items) v.seen) (sym e) (record {
-      net = is.net;
-      operators = is.operators;
-      horizon = is.instants;
-      items = (let same : length (list_at (inputs_for core.net core.inputs) 0) ≡ length items = ap length (first_list w core.net core.inputs is.net) ∙ ap (λ xs. length (list_at xs 0)) is.inputs in omega arith);
-    })
+pub echo_at : (w : Bits) (operators : List Operator) (items : ℕ) (core : Seen) (view : RunnerView) → IsEchoReady w operators items core → view ≡ first_runner core → IsEcho operators view.seen
+echo_at w operators items core view is e =
+    let there = is.inputs.all in
+    let of = is.instants in
+    let same : length (list_at (inputs_for core.net core.inputs) 0) ≡ length (list_at core.inputs 0) = ap length (first_list w core.net core.inputs is.net) in
+    subst (λ (v : RunnerView). IsEcho operators v.seen) (sym e) (record { word = w; net = is.net; operators_are = is.operators_are; items = omega arith })
 
 -- events leave it so
-pub still_at : (w : Bits) (instants : ℕ) (seen next : Seen) (picks : List ℕ) → IsAt w instants seen → next ≡ after_picks seen picks → IsAt w instants next
-still_at w instants seen next picks is e = subst (IsAt w instants) (sym e) (record { net = is.net; operators = is.operators; horizon = is.horizon; items = is.items })
+pub still_echo : (operators : List Operator) (seen next : Seen) (picks : List ℕ) → IsEcho operators seen → next ≡ after_picks seen picks → IsEcho operators next
+still_echo operators seen next picks is e = subst (IsEcho operators) (sym e) (record { word = is.word; net = is.net; operators_are = is.operators_are; items = is.items })
 
 -- with an item more it is so an instant later
 longer_list : (w : Bits) (net : Net) (held added : List (List ℤ)) → net ≡ echo w → list_at (longer_inputs net held added) 0 ≡ list_at held 0 ++ list_at added 0
 longer_list w net held added e = ap (λ n. list_at (longer_inputs n held added) 0) e
 
-pub longer_supplied : (w : Bits) (instants : ℕ) (seen : Seen) (added : List (List ℤ)) (item : ℤ) → IsAt w instants seen → added ≡ (item ∷ []) ∷ [] → IsSupplied (longer_inputs seen.net seen.inputs added) seen.net (instants + 1)
-longer_supplied w instants seen added item is e =
-    let more : length (list_at (longer_inputs seen.net seen.inputs added) 0) ≡ length (list_at seen.inputs 0) + 1 = ap length (longer_list w seen.net seen.inputs added is.net) ∙ length-append (list_at seen.inputs 0) (list_at added 0) ∙ ap (λ xs. length (list_at seen.inputs 0) + length (list_at xs 0)) e in
-    let enough = is.items in
-    subst (λ (n : Net). IsSupplied (longer_inputs seen.net seen.inputs added) n (instants + 1)) (sym is.net) (supplied w (longer_inputs seen.net seen.inputs added) (instants + 1) (omega (arith, more, enough)))
+more_items : (operators : List Operator) (seen : Seen) (added : List (List ℤ)) → IsEcho operators seen → HasOneList 1 added → length (list_at (longer_inputs seen.net seen.inputs added) 0) ≡ length (list_at seen.inputs 0) + 1
+more_items operators seen added is one =
+    ap length (longer_list is.word seen.net seen.inputs added is.net) ∙ length-append (list_at seen.inputs 0) (list_at added 0) ∙ ap (λ n. length (list_at seen.inputs 0) + n) one.all
 
-pub longer_at : (w : Bits) (instants : ℕ) (seen : Seen) (added : List (List ℤ)) (item : ℤ) (view : RunnerView) (before : ℕ) → IsAt w instants seen → added ≡ (item ∷ []) ∷ [] → view ≡ record { seen = grown_seen seen added (instants + 1); before = before } → IsAt w (instants + 1) view.seen
-longer_at w instants seen added item view before is e f =
-    let more : length (list_at (longer_inputs seen.net seen.inputs added) 0) ≡ length (list_at seen.inputs 0) + 1 = ap length (longer_list w seen.net seen.inputs added is.net) ∙ length-append (list_at seen.inputs 0) (list_at added 0) ∙ ap (λ xs. length (list_at seen.inputs 0) + length (list_at xs 0)) e in
+pub longer_supplied : (operators : List Operator) (seen : Seen) (added : List (List ℤ)) (instants : ℕ) → IsEcho operators seen → seen.instants ≡ instants → HasOneList 1 added → IsSupplied (longer_inputs seen.net seen.inputs added) seen.net (instants + 1)
+longer_supplied operators seen added instants is at one =
+    let more = more_items operators seen added is one in
     let enough = is.items in
-    subst (λ (v : RunnerView). IsAt w (instants + 1) v.seen) (sym f) (record { net = is.net; operators = is.operators; horizon = refl; items = omega (arith, more, enough) })
+    subst (λ (n : Net). IsSupplied (longer_inputs seen.net seen.inputs added) n (instants + 1)) (sym is.net) (supplied is.word (longer_inputs seen.net seen.inputs added) (instants + 1) (omega (arith, more, enough)))
 
--- one list serves it
-pub one_list : (w : Bits) (net : Net) (inputs : List (List ℤ)) (items : List ℤ) → net ≡ echo w → inputs ≡ items ∷ [] → input_count net.actors ≤ length inputs
-one_list w net inputs items e f = (let a : input_count net.actors ≡ 1 = ap (λ (n : Net). input_count n.actors) e in let b : length inputs ≡ 1 = ap length f in omega arith)
+pub longer_echo : (operators : List Operator) (seen : Seen) (added : List (List ℤ)) (view : RunnerView) (instants before : ℕ) → IsEcho operators seen → seen.instants ≡ instants → HasOneList 1 added →
+    view ≡ record { seen = grown_seen seen added (instants + 1); before = before } → IsEcho operators view.seen
+longer_echo operators seen added view instants before is at one f =
+    let more = more_items operators seen added is one in
+    let enough = is.items in
+    subst (λ (v : RunnerView). IsEcho operators v.seen) (sym f) (record { word = is.word; net = is.net; operators_are = is.operators_are; items = omega (arith, more, enough) })
 
 -- its output
-pub echo_output : (w : Bits) (instants : ℕ) (seen : Seen) → IsAt w instants seen → (a : ℕ) × (actor : Actor) × IsOutputOf seen.net 0 a actor
-echo_output w instants seen is = (1, taker w, subst (λ (n : Net). IsOutputOf n 0 1 (taker w)) (sym is.net) (record { there = refl; kind = refl }))
+pub echo_output : (operators : List Operator) (seen : Seen) → IsEcho operators seen → (a : ℕ) × (actor : Actor) × IsOutputOf seen.net 0 a actor
+echo_output operators seen is = (1, taker is.word, subst (λ (n : Net). IsOutputOf n 0 1 (taker is.word)) (sym is.net) (record { there = refl; kind = refl }))

@@ -1,8 +1,8 @@
 -- Ends among the parts of two workers.
-use Rattle.std.proofs.Common.{ℕ, zero, suc, ◌⊎◌, ◌+◌, ◌-◌, ◌<◌, ◌≤◌, ◌≡◌, Bool, true, false, List, [], ◌∷◌, ◌++◌, length, length-append, get_or, set, take, drop, ap, sym, refl, ◌∙◌, subst, inl, inr, arith}
+use Rattle.std.proofs.Common.{ℕ, zero, suc, ◌⊎◌, ◌+◌, ◌-◌, ◌<◌, ◌≤◌, ◌≡◌, Bool, true, false, List, [], ◌∷◌, ◌++◌, length, length-append, get_or, set, take, ap, sym, refl, ◌∙◌, subst, inl, inr, arith}
 use Rattle.std.specs.Prelude.{ℤ, All, Some, slice_get, vec_capacity}
 use Rattle.std.proofs.lemmas.Bool.{cases_eq}
-use Rattle.std.proofs.lemmas.List.{append-nil, take_all, drop_all}
+use Rattle.std.proofs.lemmas.List.Sums.{sum_by_more}
 use Rattle.std.proofs.lemmas.Option.{slice_get-get_or, slice_get_within, get_or_from_slice_get}
 use Rattle.std.proofs.lemmas.List.Elements.{All-set, All-push, All-same, All-weaker}
 use Rattle.lucy_host.specs.declared.kind.HostKind.{HostKind}
@@ -15,7 +15,7 @@ use Rattle.lucy_net.specs.States.{IsUsable}
 use Rattle.lucy_ring.specs.Views.{GiverView, TakerView}
 use Rattle.lucy_worker.specs.declared.part.Part.{Part}
 use Rattle.lucy_worker.specs.declared.place.EndPlace.{EndPlace}
-use Rattle.lucy_worker.specs.News.{HasItems, HasRoom, IsNew, few_moved}
+use Rattle.lucy_worker.specs.News.{HasItems, HasRoom, IsNew, few_moved, ends_of, ends_by}
 use Rattle.lucy_worker.specs.Turns.{HaveRun}
 use Rattle.lucy_worker.specs.Meets.{HasGiver, HasTaker, MetBetween, MetWithin}
 use Rattle.lucy_worker.specs.Laws.{KeepsGiver, KeepsTaker, IsPlace, OthersStay, AreEndsAt, RunsKeepEnds, OwnMeetingsKeepEnds, MeetingsKeepEnds, KeptEndsAreOfOneRing}
@@ -31,10 +31,6 @@ nowhere_end = record { odd = false; place = record { part = 0; number = 0 } }
 
 abbrev pub nowhere : Link
 nowhere = record { giver = nowhere_end; taker = nowhere_end }
-
--- what a slice of a whole list leaves of it
-slice_back : {X : Type 0} (n : ℕ) (now old : List X) → length now ≡ length old → n ≡ length old → take n (now ++ drop (length now) old) ≡ now
-slice_back n now old len all = ap (λ xs. take n (now ++ xs)) (drop_all (length now) old (omega arith)) ∙ ap (take n) (append-nil now) ∙ take_all n now (omega arith)
 
 -- an element of a list that grew
 grown : {X : Type 0} (xs : List X) (y x : X) (k : ℕ) → slice_get xs k ≡ Some x → slice_get (xs ++ y ∷ []) k ≡ Some x
@@ -70,6 +66,10 @@ ends_at ps qs giver taker x y same = record {
   taker = y;
   ring = λ v w. ap (λ (e : GiverView). e.ring) (one_giver ps giver v x) ∙ same ∙ ap (λ (e : TakerView). e.ring) (one_taker qs taker y w);
 }
+
+-- one part more
+pub begun_more : (ps qs : List Part) (p : Part) → qs ≡ ps ++ p ∷ [] → All IsBegun ps → IsBegun p → All IsBegun qs
+begun_more ps qs p e all begun = All-same IsBegun qs (ps ++ p ∷ []) e (All-push IsBegun ps p all begun)
 
 -- a part with one end more
 begun_giver : (p q : Part) (at : ℕ) (g : GiverView) → IsBegun p → g.given ≡ [] → HasOneMoreGiver p at g q → IsBegun q
@@ -311,6 +311,10 @@ new_part p b givers takers quota items = record {
 pub usable_all : (net : Net) (actors : List Actor) → ((a : ℕ) (actor : Actor) → slice_get net.actors a ≡ Some actor → IsUsable actor) → actors ≡ net.actors → All IsUsable actors
 usable_all net actors each e = subst (All IsUsable) (sym e) (λ k d l. each k (get_or net.actors k d) (slice_get-get_or net.actors k d l))
 
+-- the ends of one part more
+pub ends_more : (ps : List Part) (k : ℕ) (p : Part) → k < length ps → p ≡ get_or ps k p → ends_by (take (k + 1) ps) ≡ ends_by (take k ps) + ends_of p
+ends_more ps k p l e = sum_by_more ends_of ps k p l ∙ ap (λ (x : Part). ends_by (take k ps) + ends_of x) (sym e)
+
 -- where the two ends of a ring are by the sides of its actors
 pub ends_in : (even odd : List Part) (link : Link) (a b : Bool) → link.giver.odd ≡ a → link.taker.odd ≡ b → IsLinked even odd link → AreEndsAt (side even odd a) link.giver.place (side even odd b) link.taker.place
 ends_in even odd link a b e f is = subst (λ (x : Bool). AreEndsAt (side even odd x) link.giver.place (side even odd b) link.taker.place) e (subst (λ (x : Bool). AreEndsAt (side even odd link.giver.odd) link.giver.place (side even odd x) link.taker.place) f is)
@@ -379,11 +383,3 @@ met_odd_even even odd even' odd' link between e f met =
     met_by even odd even' odd' link (ends_from even' odd' link true false e f kept.0)
     (wider (λ (p : EndPlace). ⊥) (IsPlace link.taker.place) (GivesHere link false) (TakesHere link false) even even' kept.2 (λ p none. absurd none) (λ p is. (f, is)))
     (wider (IsPlace link.giver.place) (λ (p : EndPlace). ⊥) (GivesHere link true) (TakesHere link true) odd odd' kept.1 (λ p is. (e, is)) (λ p none. absurd none))
-
--- rings that were joined among slices of whole lists
-pub both_back : (n m : ℕ) (even odd even' odd' : List Part) (links : List Link) → length even ≡ length even' → length odd ≡ length odd' → n ≡ length even' → m ≡ length odd' → AreJoined even odd links →
-    AreJoined (take n (even ++ drop (length even) even')) (take m (odd ++ drop (length odd) odd')) links
-both_back n m even odd even' odd' links e f g h are =
-    let back = slice_back n even even' e g in
-    subst (λ (ps : List Part). AreJoined ps (take m (odd ++ drop (length odd) odd')) links) (sym back)
-    (subst (λ (ps : List Part). AreJoined even ps links) (sym (slice_back m odd odd' f h)) are)

@@ -1,4 +1,3 @@
-mod BareLaws
 mod ReadyLaws
 mod EchoLaws
 mod RowLaws

@@ -1,5 +1,4 @@
--- What is known of a program that is ready to be run, of rings that are driven bare, and of a net that is made by hand.
+-- What is known of the input that a program is run on, and of nets that are made or moved by hand.
 pub mod Ready
-pub mod Bare
 pub mod Echo
 pub mod ByHand

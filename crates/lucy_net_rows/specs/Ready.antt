@@ -1,14 +1,8 @@
--- Programs that are ready to be run.
-use Rattle.std.specs.Prelude.{ℕ, ◌≡◌, List, length}
-use Rattle.lucy_host.specs.Operators.{Operator}
-use Rattle.lucy_place.specs.declared.placed.PlacedNode.{PlacedNode}
-use Rattle.lucy_clock.specs.declared.node_clock.NodeClock.{NodeClock}
-use Rattle.lucy_core.specs.Seen.{Seen, IsUnbegun}
-use Rattle.lucy_flat.specs.Flat.{IsFlat}
+-- What a program is run on.
+use Rattle.std.specs.Prelude.{ℕ, ◌≡◌, List, ℤ, length}
+use Rattle.lucy_stream.specs.Items.{list_at}
 
--- a core of a program's flat net, for a host with these operators, without an event so far, and with so many actors
-pub record IsReady (operators : List Operator) (nodes : List PlacedNode) (clocks : List NodeClock) (core : Seen) (actors : ℕ) : Type 0 where
-  pub flat : IsFlat nodes clocks core.net
-  pub operators_are : core.operators ≡ operators
-  pub unbegun : IsUnbegun core
-  pub actors_are : actors ≡ length core.net.actors
+-- one input, with so many items
+pub record HasOneList (items : ℕ) (inputs : List (List ℤ)) : Type 0 where
+  pub one : length inputs ≡ 1
+  pub all : length (list_at inputs 0) ≡ items

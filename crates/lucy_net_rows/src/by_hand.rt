@@ -1,20 +1,19 @@
 // Two workers whose rounds are made by hand: one has the actors of even numbers, the other those of odd ones.
-ghost use Rattle.std.specs.Prelude.{◌≡◌, All, IsTrue, length};
+ghost use Rattle.std.specs.Prelude.{◌≡◌, ◌≤◌, [], All, IsTrue, OnOk, length};
 ghost use Rattle.lucy_host.specs.Host.{Serves, lent};
 ghost use Rattle.lucy_net.specs.Proper.{IsProper};
-ghost use Rattle.lucy_net.specs.States.{KnowsOperator};
 ghost use Rattle.lucy_worker.specs.Turns.{IsServed};
+ghost use Rattle.lucy_worker.specs.News.{IsNew, ends_by, most_ends};
 ghost use Rattle.lucy_net_rows.specs.ByHand.{IsLinked, AreLinked, AreApart, AreJoined, HasMet};
 
-use crate::complete::{are_complete, have_few_ends};
+use crate::complete::are_complete;
+use crate::page::Page;
 use crate::parity::{Link, first_parts, join_all};
-use crate::show::print_list;
 use lucy_host::Host;
 use lucy_net::{ActorKind, Net, proper_nets_are_plugged};
 use lucy_word::OutOfMemory;
 use lucy_worker::{OpenGate, Part, Worker, ends_are_kept, meet_between};
 use std::alloc::Global;
-use std::io;
 use std::marker::Model;
 
 /// The two workers, and where the ends of each ring are. Contracts see how many rings there are.
@@ -36,13 +35,6 @@ impl Model for ByHand {
     ghost invariant = { λ h. AreLinked h.even.parts h.odd.parts h.links.items × AreApart h.links.items };
 }
 
-/// How many moves the two workers made in a round.
-#[derive(Clone, Copy)]
-pub(crate) struct Moves {
-    pub even: u64,
-    pub odd: u64,
-}
-
 impl ByHand {
     /// Two workers of a net's actors, for so many instants. The input has these items.
     pub(crate) fn new(
@@ -53,48 +45,30 @@ impl ByHand {
     ) -> Result<ByHand, OutOfMemory>
         requires { IsProper net.now }
     {
-        proper_nets_are_plugged();
-        let (mut even, mut odd) = first_parts(alloc, net.actors.list(), items, instants)?;
-        let links = join_all(
-            alloc,
-            net.rings.list(),
-            even.as_mut_slice(),
-            odd.as_mut_slice(),
-        )?;
-        ByHand::of(even, odd, links)
+        let mut even = Vec::new(alloc);
+        let mut odd = Vec::new(alloc);
+        let mut links = Vec::new(alloc);
+        match fill(alloc, net, items, instants, &mut even, &mut odd, &mut links) {
+            Ok(()) => Ok(ByHand {
+                even: Worker::new(0, even),
+                odd: Worker::new(1, odd),
+                links,
+            }),
+            Err(_) => Err(OutOfMemory),
+        }
     }
 
-    // Two workers of these parts.
-    fn of(even: Vec<Part>, odd: Vec<Part>, links: Vec<Link>) -> Result<ByHand, OutOfMemory>
-        requires { AreJoined even.items odd.items links.items }
-    {
-        if !are_complete(&even) || !are_complete(&odd) {
-            return Err(OutOfMemory);
-        }
-        if !have_few_ends(&even) || !have_few_ends(&odd) {
-            return Err(OutOfMemory);
-        }
-        Ok(ByHand {
-            even: Worker::new(0, even),
-            odd: Worker::new(1, odd),
-            links,
-        })
-    }
-
-    /// A round: a turn of the worker of even actors, one of that of odd actors, and then a meeting of the two ends of each ring. None,
-    /// where the host lacks an operator.
-    pub(crate) fn round<F: Fn(u32, i64, i64) -> i64 + Sync>(
-        &mut self,
-        host: &Host<F>,
-    ) -> Option<Moves>
+    /// A round: a turn of the worker of even actors, one of that of odd actors, and then a meeting of the two ends of each ring. Answers
+    /// the numbers of moves: none, where the host lacks an operator.
+    pub(crate) fn round<F: Fn(u32, i64, i64) -> i64 + Sync>(&mut self, host: &Host<F>) -> (u64, u64)
         requires { Serves F.pre F.post host.now }
     {
         let count = host.ops().count();
         if !are_served(self.even.parts(), count) || !are_served(self.odd.parts(), count) {
-            return None;
+            return (0, 0);
         }
         let links = self.links.as_slice();
-        Some(make_round(&mut self.even, &mut self.odd, links, host))
+        make_round(&mut self.even, &mut self.odd, links, host)
     }
 
     /// Whether every actor has done its list of operations.
@@ -111,49 +85,69 @@ impl ByHand {
             &self.odd
         };
         match worker.parts().get((actor / 2) as usize) {
-            Some(part) => operations_done(part),
+            Some(part) => {
+                let rings = part.takers.len() as u64 + part.givers.len() as u64;
+                let whole = part.state.fired.saturating_mul(rings);
+                whole.saturating_add(u64::from(part.state.step))
+            }
             None => 0,
         }
     }
 
-    /// Prints what the output took, oldest first.
-    pub(crate) fn print_output(&self, rt: &impl Print) -> io::Result<()> {
-        print_output_in(rt, self.even.parts())?;
-        print_output_in(rt, self.odd.parts())
+    /// Shows what the output took, oldest first.
+    pub(crate) fn show_output(&self, page: &mut Page) {
+        show_output_in(page, self.even.parts());
+        show_output_in(page, self.odd.parts());
     }
 }
 
-fn operations_done(part: &Part) -> u64 {
-    let rings = part.takers.len() as u64 + part.givers.len() as u64;
-    let whole = part.state.fired.saturating_mul(rings);
-    whole.saturating_add(u64::from(part.state.step))
-}
-
-// Prints what the outputs among these took.
-fn print_output_in(rt: &impl Print, parts: &[Part]) -> io::Result<()> {
+// Shows what the outputs among these took.
+fn show_output_in(page: &mut Page, parts: &[Part]) {
     for part in parts {
         if let ActorKind::Output(number) = part.actor.kind {
-            print!(rt; "output {number}")?;
-            print_list(rt, "", &part.output)?;
+            page.put(format_args!("output {number}"));
+            page.put_list(&part.output);
         }
     }
-    Ok(())
 }
 
-// Whether an actor's operator is one of the first, so many of them.
-fn is_served(kind: &ActorKind, count: u32) -> bool
-    ensures { IsTrue result → KnowsOperator kind.now count }
+// Fills empty lists with the parts of two workers, and with where the ends of their rings are.
+fn fill(
+    alloc: Global,
+    net: &Net,
+    items: &[i64],
+    instants: u64,
+    even: &mut Vec<Part>,
+    odd: &mut Vec<Part>,
+    links: &mut Vec<Link>,
+) -> Result<(), OutOfMemory>
+    requires proper { IsProper net.now }
+    requires none { (even.old.items ≡ []) × (odd.old.items ≡ []) × (links.old.items ≡ []) }
+    ensures joined { OnOk result (AreJoined even.new.items odd.new.items links.new.items) }
+    ensures new { OnOk result (All IsNew even.new.items × All IsNew odd.new.items) }
+    ensures few { OnOk result ((ends_by even.new.items ≤ most_ends) × (ends_by odd.new.items ≤ most_ends)) }
 {
-    match kind {
-        ActorKind::Host(op) => *op < count,
-        _ => true,
+    proper_nets_are_plugged();
+    first_parts(alloc, net.actors.list(), items, instants, even, odd)?;
+    join_all(alloc, net.rings.list(), even, odd, links)?;
+    if are_complete(even) && are_complete(odd) {
+        Ok(())
+    } else {
+        Err(OutOfMemory)
     }
 }
 
+// Whether the operators of actors are among the first, so many of them.
 fn are_served(parts: &[Part], count: u32) -> bool
     ensures { IsTrue result → All (IsServed count) parts.now }
 {
-    parts.iter().all(|part| is_served(&part.actor.kind, count))
+    for part in parts {
+        match part.actor.kind {
+            ActorKind::Host(op) if op >= count => return false,
+            _ => {}
+        }
+    }
+    true
 }
 
 // A turn of each of two workers, and then a meeting of the two ends of each ring.
@@ -162,7 +156,7 @@ fn make_round<F: Fn(u32, i64, i64) -> i64 + Sync>(
     odd: &mut Worker,
     links: &[Link],
     host: &Host<F>,
-) -> Moves
+) -> (u64, u64)
     requires serves { Serves F.pre F.post host.now }
     requires served { All (IsServed (length (lent host.now))) even.old.parts × All (IsServed (length (lent host.now))) odd.old.parts }
     requires linked { AreLinked even.old.parts odd.old.parts links.now }
@@ -173,10 +167,7 @@ fn make_round<F: Fn(u32, i64, i64) -> i64 + Sync>(
     let of_even = even.advance(host, &OpenGate);
     let of_odd = odd.advance(host, &OpenGate);
     meet_all(even, odd, links);
-    Moves {
-        even: of_even,
-        odd: of_odd,
-    }
+    (of_even, of_odd)
 }
 
 // Lets the two ends of each ring meet.

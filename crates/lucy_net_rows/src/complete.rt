@@ -3,13 +3,12 @@ ghost use Rattle.std.specs.Prelude.{◌≡◌, ◌≤◌, All, IsTrue, length};
 ghost use Rattle.lucy_worker.specs.News.{HasItems, IsNew, ends_by, most_ends};
 ghost use Rattle.lucy_net_rows.specs.ByHand.{IsBegun};
 
-use crate::parity::MOST_ENDS;
 use lucy_net::ActorKind;
 use lucy_word::Limit;
 use lucy_worker::Part;
 
 // The most ends of all parts of a worker.
-const MOST_ENDS_BY: usize = 65_536;
+const MOST_ENDS: usize = 65_536;
 
 // Whether an input has an item for each firing.
 fn has_items(kind: &ActorKind, quota: u64, items: usize) -> bool
@@ -38,33 +37,20 @@ fn is_complete(part: &Part) -> bool
     has_items(&part.actor.kind, part.state.quota, part.input.len())
 }
 
-/// Whether parts that have done nothing have the ends of their rings and the items of their inputs.
+/// Whether parts that have done nothing have the ends of their rings and the items of their inputs, and so few ends that one worker can
+/// have them all.
 pub(crate) fn are_complete(parts: &[Part]) -> bool
     requires { All IsBegun parts.now }
-    ensures { IsTrue result → All IsNew parts.now }
+    ensures new { IsTrue result → All IsNew parts.now }
+    ensures few { IsTrue result → ends_by parts.now ≤ most_ends }
 {
+    let mut left = MOST_ENDS;
     for part in parts {
-        if !is_complete(part) {
+        let ends = part.givers.len().saturating_add(part.takers.len());
+        if !is_complete(part) || ends > left {
             return false;
         }
-    }
-    true
-}
-
-/// Whether parts have so few ends that one worker can have them all.
-pub(crate) fn have_few_ends(parts: &[Part]) -> bool
-    ensures { IsTrue result → ends_by parts.now ≤ most_ends }
-{
-    let mut ends = 0;
-    for part in parts {
-        let (givers, takers) = (part.givers.len(), part.takers.len());
-        if givers > MOST_ENDS || takers > MOST_ENDS {
-            return false;
-        }
-        ends += givers + takers;
-        if ends > MOST_ENDS_BY {
-            return false;
-        }
+        left -= ends;
     }
     true
 }

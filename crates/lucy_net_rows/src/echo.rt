@@ -1,10 +1,11 @@
 // An input whose items are put out.
-ghost use Rattle.std.specs.Prelude.{◌≡◌, ◌+◌, ◌<◌, ◌≤◌, [], ◌∷◌, false, true, length, IfOk};
+ghost use Rattle.std.specs.Prelude.{◌≡◌, ◌+◌, ◌<◌, ◌≤◌, [], ◌∷◌, false, true, length, IfOk, OnOk};
 ghost use Rattle.lucy_word.specs.Limits.{limit_number};
 ghost use Rattle.lucy_word.specs.declared.limit.Limit.TheVariants as lim;
-ghost use Rattle.lucy_net_rows.specs.Echo.{giver, taker, echo, IsEchoReady, IsAt};
+ghost use Rattle.lucy_net_rows.specs.Echo.{giver, taker, ring, echo, IsEchoReady, IsEcho};
 ghost use Rattle.lucy_core.specs.Seen.{IsOver};
 
+use crate::lists::push;
 use crate::ready::one_input;
 use lucy_cause::schedule_of;
 use lucy_core::Core;
@@ -26,89 +27,103 @@ fn numbers(alloc: Global, zero: bool) -> Result<Numbers, AllocError>
     Ok(Numbers::new(list))
 }
 
-// The actor that gives to ring 0.
-fn input(alloc: Global, word: &Word) -> Result<Actor, OutOfMemory>
-    ensures { IfOk result (λ a. a ≡ giver word.now) }
+// The actor that gives to ring 0, or the one that takes from it.
+fn actor(alloc: Global, word: &Word, is_input: bool) -> Result<Actor, OutOfMemory>
+    ensures input { is_input ≡ true → IfOk result (λ a. a ≡ giver word.now) }
+    ensures output { is_input ≡ false → IfOk result (λ a. a ≡ taker word.now) }
 {
+    let takes = numbers(alloc, !is_input)?;
+    let gives = numbers(alloc, is_input)?;
+    let firing = word.copy(alloc)?;
+    let kind = if is_input {
+        ActorKind::Input(0)
+    } else {
+        ActorKind::Output(0)
+    };
     Ok(Actor {
-        kind: ActorKind::Input(0),
-        firing: word.copy(alloc)?,
-        takes: numbers(alloc, false)?,
-        gives: numbers(alloc, true)?,
+        kind,
+        firing,
+        takes,
+        gives,
     })
 }
 
-// The actor that takes from it.
-fn output(alloc: Global, word: &Word) -> Result<Actor, OutOfMemory>
-    ensures { IfOk result (λ a. a ≡ taker word.now) }
+// The ring between them.
+fn between(alloc: Global, word: &Word) -> Result<RingSpec, OutOfMemory>
+    ensures { IfOk result (λ spec. spec ≡ ring word.now) }
 {
-    Ok(Actor {
-        kind: ActorKind::Output(0),
-        firing: word.copy(alloc)?,
-        takes: numbers(alloc, true)?,
-        gives: numbers(alloc, false)?,
+    let write = word.copy(alloc)?;
+    let read = word.copy(alloc)?;
+    Ok(RingSpec {
+        from: 0,
+        to: 1,
+        write,
+        read,
+        size: 0,
     })
 }
 
-// These two actors and this ring.
-fn net_of(alloc: Global, input: Actor, output: Actor, between: RingSpec) -> Result<Net, AllocError>
-    ensures { IfOk result (λ net. net ≡ record { actors = input ∷ output ∷ []; rings = between ∷ [] }) }
+// Puts both actors and the ring into empty lists.
+fn fill(
+    alloc: Global,
+    word: &Word,
+    actors: &mut Vec<Actor>,
+    rings: &mut Vec<RingSpec>,
+) -> Result<(), OutOfMemory>
+    requires empty { (actors.old.items ≡ []) × (rings.old.items ≡ []) }
+    ensures actors { OnOk result (actors.new.items ≡ giver word.now ∷ taker word.now ∷ []) }
+    ensures rings { OnOk result (rings.new.items ≡ ring word.now ∷ []) }
 {
-    let mut actors = Vec::new(alloc);
-    actors.push(input)?;
-    actors.push(output)?;
-    let mut rings = Vec::new(alloc);
-    rings.push(between)?;
-    Ok(Net {
-        actors: Actors::new(actors),
-        rings: Rings::new(rings),
-    })
+    push(actors, actor(alloc, word, true)?)?;
+    push(actors, actor(alloc, word, false)?)?;
+    push(rings, between(alloc, word)?)
 }
 
 fn net(alloc: Global, word: &Word) -> Result<Net, OutOfMemory>
     ensures { IfOk result (λ net. net ≡ echo word.now) }
 {
-    let from = input(alloc, word)?;
-    let to = output(alloc, word)?;
-    let between = RingSpec {
-        from: 0,
-        to: 1,
-        write: word.copy(alloc)?,
-        read: word.copy(alloc)?,
-        size: 0,
-    };
-    Ok(net_of(alloc, from, to, between)?)
+    let mut actors = Vec::new(alloc);
+    let mut rings = Vec::new(alloc);
+    match fill(alloc, word, &mut actors, &mut rings) {
+        Ok(()) => Ok(Net {
+            actors: Actors::new(actors),
+            rings: Rings::new(rings),
+        }),
+        Err(_) => Err(OutOfMemory),
+    }
 }
 
 // A core of the net, for as many instants as there are items.
-fn core(alloc: Global, word: &Word, items: &[i64]) -> Result<Core, OutOfMemory>
+fn core(alloc: Global, ops: &Ops, word: &Word, items: &[u32]) -> Result<Core, OutOfMemory>
     requires { length items.now ≤ limit_number lim.Instants }
-    ensures { IfOk result (λ core. IsEchoReady word.now items.now core) }
+    ensures { IfOk result (IsEchoReady word.now ops.now (length items.now)) }
 {
+    let inputs = one_input(alloc, items)?;
     let net = net(alloc, word)?;
-    let Ok(schedule) = schedule_of(alloc, &net) else {
-        return Err(OutOfMemory);
-    };
-    let Ok(inputs) = one_input(alloc, items) else {
-        return Err(OutOfMemory);
-    };
-    let instants = items.len() as u64;
-    Core::new(alloc, net, schedule, inputs, &Ops::new(alloc), instants)
+    match schedule_of(alloc, &net) {
+        Ok(schedule) => {
+            let instants = items.len() as u64;
+            Core::new(alloc, net, schedule, inputs, ops, instants)
+        }
+        Err(_) => Err(OutOfMemory),
+    }
 }
 
 /// A runner of the net by so many workers, from 1 to 64, for as many instants as there are items. The input is in worker 0, the
 /// output in worker 1, where there is one.
 pub(crate) fn runner(
     alloc: Global,
+    ops: &Ops,
     word: &Word,
-    items: &[i64],
+    items: &[u32],
     workers: u32,
 ) -> Result<Runner, OutOfMemory>
     requires few { length items.now ≤ limit_number lim.Instants }
     requires workers { (1 ≤ workers) × (workers ≤ 64) }
-    ensures { IfOk result (λ runner. IsAt word.now (length items.now) runner.seen) }
+    ensures echo { IfOk result (λ runner. IsEcho ops.now runner.seen) }
+    ensures instants { IfOk result (λ runner. runner.seen.instants ≡ length items.now) }
 {
-    let core = core(alloc, word, items)?;
+    let core = core(alloc, ops, word, items)?;
     let second = if workers > 1 { 1 } else { 0 };
     Runner::new(alloc, core, workers, &[0, second])
 }
@@ -117,19 +132,19 @@ pub(crate) fn runner(
 pub(crate) fn grow(
     alloc: Global,
     runner: &mut Runner,
-    item: i64,
-    word: &Word,
+    ops: &Ops,
+    item: u32,
     instants: u64,
 ) -> Result<(), OutOfMemory>
-    requires at { IsAt word.now instants runner.old.seen }
+    requires echo { IsEcho ops.now runner.old.seen }
     requires over { IsOver runner.old.seen }
+    requires at { runner.old.seen.instants ≡ instants }
     requires few { instants < limit_number lim.Instants }
-    ensures { IfOk result (λ _. IsAt word.now (instants + 1) runner.new.seen) }
+    ensures echo { IfOk result (λ _. IsEcho ops.now runner.new.seen) }
+    ensures instants { IfOk result (λ _. runner.new.seen.instants ≡ instants + 1) }
 {
-    // The contract alone speaks of the word.
-    let _ = word.lengths();
-    let Ok(inputs) = one_input(alloc, &[item]) else {
-        return Err(OutOfMemory);
-    };
+    // The contract alone speaks of the operators.
+    let _ = ops.count();
+    let inputs = one_input(alloc, &[item])?;
     runner.more(alloc, &inputs, instants + 1)
 }

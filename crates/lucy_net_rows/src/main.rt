@@ -1,116 +1,104 @@
 //! Rows of nets: programs are accepted, and what the public calls of the schedule, the plain interpreter, cores and runners answer of
 //! them is printed.
 //!
-//! The words name lists in `data/`. A line `= NAME` of a list is printed, and any other is a row, as `row.rt` says; an empty line, and
-//! one that begins with `#`, says nothing. `stdout` has what the rows print, by the language's papers or worked out by hand beside
-//! them. The word `echo` stands for the rows of `echoed.rt`. Behind the word `time` each word is a row, and its events are timed;
-//! `bench/` does so.
+//! The lists stand in `data/`. A line `= NAME` of a list is printed, and any other is a row, as `row.rt` says; an empty line, and one
+//! that begins with `#`, says nothing. `stdout` has what the rows print, by the language's papers or worked out by hand beside them.
 #![tactic(auto)]
 
 ghost use Rattle.lucy_host.specs.Host.{Serves};
 
-mod bare;
 mod by_hand;
 mod complete;
 mod cores;
 mod echo;
 mod echoed;
-mod floor;
 mod handed;
 mod interpreted;
-mod moves;
+mod lists;
 mod outputs;
+mod page;
 mod pair;
 mod parity;
 mod ready;
 mod rounds;
 mod row;
+mod running;
 mod schedules;
-mod show;
 
-use cores::Way;
-use lucy_host::{Host, HostKind, Ops, OutOfMemory};
+use lucy_host::{Host, HostKind, Ops};
+use page::Page;
 use row::Row;
-use std::alloc::Global;
-use std::env::{self, Env};
 use std::fs::{self, Files};
 use std::io;
 use std::thread::Threads;
-use std::time::Clock;
 
-// The operators of the rows' host: `max` alone.
-fn operators(alloc: Global) -> Result<Ops, OutOfMemory> {
-    let mut ops = Ops::new(alloc);
-    match ops.add(alloc, "max", HostKind::Max) {
-        Ok(()) => Ok(ops),
-        Err(_) => Err(OutOfMemory),
-    }
-}
+const LISTS: [&str; 5] = ["schedules", "iterates", "cores", "workers", "limits"];
 
-// Prints what a row answers, or times it.
-fn show_row<R: Print + Clock + AllocGlobal + Threads + Sync, F: Fn(u32, i64, i64) -> i64 + Sync>(
+// Shows what a row answers.
+fn show_row<R: AllocGlobal + Files + Threads + Sync, F: Fn(u32, i64, i64) -> i64 + Sync>(
     rt: &R,
+    page: &mut Page,
     host: &Host<F>,
-    row: &Row<'_>,
-) -> io::Result<()>
+    line: &str,
+)
     requires { Serves F.pre F.post host.now }
 {
-    match row.kind {
-        "schedule" => schedules::show(rt, host.ops(), &row.text),
-        "iterates" => interpreted::show(rt, host, row),
-        "workers" => rounds::show(rt, host, row),
-        "hand" => handed::show(rt, host, row),
-        "rings" => floor::show(rt, host.ops(), row),
-        kind => match Way::read(kind, &row.numbers) {
-            Some(way) => cores::show(rt, host, way, row),
-            None => println!(rt; "no row"),
-        },
+    let alloc = rt.alloc();
+    let (kind, rest) = line.split_once('|').unwrap_or((line, ""));
+    let mut row = Row {
+        text: String::new(alloc),
+        numbers: Vec::new(alloc),
+        items: Vec::new(alloc),
+    };
+    let is_read = row.read(rt, rest).is_some();
+    match kind {
+        "echo" => echoed::show(rt, page, host),
+        "iterates" if is_read => interpreted::show(page, alloc, host, &row),
+        _ if is_read => running::show(rt, page, host, kind, &row),
+        _ => page.put("no row\n"),
+    };
+}
+
+// Shows the rows of a list.
+fn show_list<R: AllocGlobal + Files + Threads + Sync, F: Fn(u32, i64, i64) -> i64 + Sync>(
+    rt: &R,
+    page: &mut Page,
+    host: &Host<F>,
+    list: &str,
+)
+    requires { Serves F.pre F.post host.now }
+{
+    match fs::read_to_string(rt, list) {
+        Ok(text) => {
+            for line in text.lines() {
+                if line.starts_with('=') {
+                    page.put(format_args!("{line}\n"));
+                } else if !line.is_empty() && !line.starts_with('#') {
+                    show_row(rt, page, host, line);
+                }
+            }
+        }
+        Err(_) => page.put("no list\n"),
     }
 }
 
-// Prints the rows of a list.
-fn show_list<
-    R: Print + Clock + AllocGlobal + Files + Threads + Sync,
-    F: Fn(u32, i64, i64) -> i64 + Sync,
->(rt: &R, host: &Host<F>, list: &str) -> io::Result<()>
-    requires { Serves F.pre F.post host.now }
-{
-    for line in fs::read_to_string(rt, list)?.lines() {
-        if line.starts_with('=') {
-            println!(rt; "{line}")?;
-        } else if !line.is_empty() && !line.starts_with('#') {
-            show_row(rt, host, &Row::read(rt, line, false)?)?;
+// Shows all rows, by a host whose operator is `max` alone.
+fn show_all<R: AllocGlobal + Files + Threads + Sync>(rt: &R, page: &mut Page) {
+    let mut kinds = Ops::new(rt.alloc());
+    let added = kinds.add(rt.alloc(), "max", HostKind::Max);
+    match kinds.copy(rt.alloc()) {
+        Ok(ops) if added.is_ok() => {
+            let host = Host::new(ops, |op: u32, a: i64, b: i64| kinds.value(op, a, b));
+            for list in &LISTS {
+                show_list(rt, page, &host, list);
+            }
         }
-    }
-    Ok(())
-}
-
-// Prints the rows that the words name, or times them.
-fn show_all<
-    R: Print + Clock + AllocGlobal + Env + Files + Threads + Sync,
-    F: Fn(u32, i64, i64) -> i64 + Sync,
->(rt: &R, host: &Host<F>) -> io::Result<()>
-    requires { Serves F.pre F.post host.now }
-{
-    let mut timed = false;
-    for word in env::args(rt)?.skip(1) {
-        match word.as_str() {
-            "time" => timed = true,
-            row if timed => show_row(rt, host, &Row::read(rt, row, true)?)?,
-            "echo" => echoed::show(rt)?,
-            list => show_list(rt, host, list)?,
-        }
-    }
-    Ok(())
+        _ => page.put("no memory\n"),
+    };
 }
 
 fn main(rt: HostRuntime) -> io::Result<()> {
-    let Ok(ops) = operators(rt.alloc()) else {
-        return Err(show::no_memory());
-    };
-    let Ok(kinds) = ops.copy(rt.alloc()) else {
-        return Err(show::no_memory());
-    };
-    let host = Host::new(ops, |op: u32, a: i64, b: i64| kinds.value(op, a, b));
-    show_all(&rt, &host)
+    let mut page = Page::new(rt.alloc());
+    show_all(&rt, &mut page);
+    page.print(&rt)
 }

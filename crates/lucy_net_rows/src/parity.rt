@@ -3,13 +3,14 @@ ghost use Rattle.std.specs.Prelude.{◌≡◌, ◌≤◌, ◌∷◌, ◌++◌, [
 ghost use Rattle.lucy_word.specs.Limits.{limit_number};
 ghost use Rattle.lucy_word.specs.declared.limit.Limit.TheVariants as lim;
 ghost use Rattle.lucy_net.specs.States.{IsUsable};
-ghost use Rattle.lucy_net_rows.specs.ByHand.{IsBegun, HasOneMoreGiver, HasOneMoreTaker, HasGainedGiver, HasGainedTaker, HaveGainedGiver, HaveGainedTaker, HaveJoined, AreJoined};
+ghost use Rattle.lucy_net_rows.specs.ByHand.{IsBegun, HasGainedGiver, HasGainedTaker, HaveGainedGiver, HaveGainedTaker, HaveJoined, AreJoined};
 
+use crate::lists::push;
 use lucy_net::{Actor, ActorKind, RingSpec, first_state};
 use lucy_ring::{Giver, Taker, ring};
 use lucy_word::{Limit, OutOfMemory};
 use lucy_worker::{EndPlace, Part, ends_are_kept};
-use std::alloc::{AllocError, Global};
+use std::alloc::Global;
 
 /// An end of a ring: whether it is among the parts of odd actors, and its place there.
 #[derive(Clone, Copy)]
@@ -25,23 +26,8 @@ pub(crate) struct Link {
     pub taker: End,
 }
 
-/// No part has more ends.
-pub(crate) const MOST_ENDS: usize = 1_024;
-
-fn put<T: Drop>(list: &mut Vec<T>, next: T) -> Result<(), AllocError>
-    ensures { OnOk result (list.new.items ≡ list.old.items ++ next ∷ []) }
-{
-    list.push(next)?;
-    Ok(())
-}
-
-// One entry more.
-fn push<T: Drop>(list: &mut Vec<T>, next: T) -> Result<(), OutOfMemory>
-    ensures { OnOk result (list.new.items ≡ list.old.items ++ next ∷ []) }
-{
-    put(list, next)?;
-    Ok(())
-}
+// No part has more ends.
+const MOST_ENDS: usize = 1_024;
 
 // The items of an input; no other actor has any.
 fn input_of(alloc: Global, kind: &ActorKind, items: &[i64]) -> Result<Vec<i64>, OutOfMemory> {
@@ -77,52 +63,29 @@ fn first_part(
     })
 }
 
-// One part more that has done nothing.
-fn sit_down(parts: &mut Vec<Part>, part: Part) -> Result<(), OutOfMemory>
-    requires { All IsBegun parts.old.items × IsBegun part }
-    ensures { OnOk result (All IsBegun parts.new.items) }
-{
-    push(parts, part)?;
-    Ok(())
-}
-
-// One more among those of even numbers or among those of odd ones.
-fn sit_apart(
-    even: &mut Vec<Part>,
-    odd: &mut Vec<Part>,
-    is_odd: bool,
-    part: Part,
-) -> Result<(), OutOfMemory>
-    requires begun { All IsBegun even.old.items × All IsBegun odd.old.items }
-    requires part { IsBegun part }
-    ensures { OnOk result (All IsBegun even.new.items × All IsBegun odd.new.items) }
-{
-    if is_odd {
-        sit_down(odd, part)?;
-        return Ok(());
-    }
-    sit_down(even, part)?;
-    Ok(())
-}
-
-/// The parts of these actors, first those of even numbers and then those of odd ones, without ends. The input has these items.
+/// Appends the parts of these actors, those of even numbers and those of odd ones, without ends. The input has these items.
 pub(crate) fn first_parts(
     alloc: Global,
     actors: &[Actor],
     items: &[i64],
     instants: u64,
-) -> Result<(Vec<Part>, Vec<Part>), OutOfMemory>
+    even: &mut Vec<Part>,
+    odd: &mut Vec<Part>,
+) -> Result<(), OutOfMemory>
     requires few { length actors.now ≤ limit_number lim.Actors }
     requires usable { All IsUsable actors.now }
-    ensures { IfOk result (λ r. All IsBegun r.0.items × All IsBegun r.1.items) }
+    requires begun { All IsBegun even.old.items × All IsBegun odd.old.items }
+    ensures { OnOk result (All IsBegun even.new.items × All IsBegun odd.new.items) }
 {
-    let mut even = Vec::new(alloc);
-    let mut odd = Vec::new(alloc);
     for (number, actor) in actors.iter().enumerate() {
         let part = first_part(alloc, number as u32, actor, items, instants)?;
-        sit_apart(&mut even, &mut odd, number % 2 == 1, part)?;
+        if number % 2 == 0 {
+            push(even, part)?;
+        } else {
+            push(odd, part)?;
+        }
     }
-    Ok((even, odd))
+    Ok(())
 }
 
 // The two ends of a new ring of its size and one slot more.
@@ -137,66 +100,48 @@ fn ends_of(alloc: Global, spec: &RingSpec) -> Result<(Giver, Taker), OutOfMemory
     }
 }
 
-// One giver more; it is the one of the number that is answered.
-fn add_giver(part: &mut Part, giver: Giver) -> Result<u32, OutOfMemory>
-    ensures { IfOk result (λ at. HasOneMoreGiver part.old at giver part.new) }
-{
-    let at = part.givers.len();
-    if at >= MOST_ENDS {
-        return Err(OutOfMemory);
-    }
-    push(&mut part.givers, giver)?;
-    Ok(at as u32)
-}
-
-// One taker more; it is the one of the number that is answered.
-fn add_taker(part: &mut Part, taker: Taker) -> Result<u32, OutOfMemory>
-    ensures { IfOk result (λ at. HasOneMoreTaker part.old at taker part.new) }
-{
-    let at = part.takers.len();
-    if at >= MOST_ENDS {
-        return Err(OutOfMemory);
-    }
-    push(&mut part.takers, taker)?;
-    Ok(at as u32)
-}
-
 // Gives the part of this number, where there is one, a giver more.
-fn give_one(parts: &mut [Part], part: u32, giver: Giver) -> Result<EndPlace, OutOfMemory>
-    requires begun { All IsBegun parts.old }
+fn give_one(parts: &mut Vec<Part>, part: u32, giver: Giver) -> Result<EndPlace, OutOfMemory>
+    requires begun { All IsBegun parts.old.items }
     requires new { giver.given ≡ [] }
-    ensures { IfOk result (λ place. HasGainedGiver parts.old place giver parts.new) }
+    ensures { IfOk result (λ place. HasGainedGiver parts.old.items place giver parts.new.items) }
 {
-    if part as usize >= parts.len() {
+    let place = part as usize;
+    if place >= parts.len() || parts[place].givers.len() >= MOST_ENDS {
         return Err(OutOfMemory);
     }
-    let number = add_giver(&mut parts[part as usize], giver)?;
+    let one = &mut parts[place];
+    let number = one.givers.len() as u32;
+    push(&mut one.givers, giver)?;
     Ok(EndPlace { part, number })
 }
 
 // A taker more.
-fn take_one(parts: &mut [Part], part: u32, taker: Taker) -> Result<EndPlace, OutOfMemory>
-    requires begun { All IsBegun parts.old }
+fn take_one(parts: &mut Vec<Part>, part: u32, taker: Taker) -> Result<EndPlace, OutOfMemory>
+    requires begun { All IsBegun parts.old.items }
     requires new { taker.taken ≡ [] }
-    ensures { IfOk result (λ place. HasGainedTaker parts.old place taker parts.new) }
+    ensures { IfOk result (λ place. HasGainedTaker parts.old.items place taker parts.new.items) }
 {
-    if part as usize >= parts.len() {
+    let place = part as usize;
+    if place >= parts.len() || parts[place].takers.len() >= MOST_ENDS {
         return Err(OutOfMemory);
     }
-    let number = add_taker(&mut parts[part as usize], taker)?;
+    let one = &mut parts[place];
+    let number = one.takers.len() as u32;
+    push(&mut one.takers, taker)?;
     Ok(EndPlace { part, number })
 }
 
 // A giver more for this actor.
 fn give_to(
-    even: &mut [Part],
-    odd: &mut [Part],
+    even: &mut Vec<Part>,
+    odd: &mut Vec<Part>,
     actor: u32,
     giver: Giver,
 ) -> Result<End, OutOfMemory>
-    requires begun { All IsBegun even.old × All IsBegun odd.old }
+    requires begun { All IsBegun even.old.items × All IsBegun odd.old.items }
     requires new { giver.given ≡ [] }
-    ensures { IfOk result (λ end. HaveGainedGiver even.old odd.old end giver even.new odd.new) }
+    ensures { IfOk result (λ end. HaveGainedGiver even.old.items odd.old.items end giver even.new.items odd.new.items) }
 {
     if actor % 2 == 0 {
         let place = give_one(even, actor / 2, giver)?;
@@ -209,14 +154,14 @@ fn give_to(
 
 // A taker more for it.
 fn take_to(
-    even: &mut [Part],
-    odd: &mut [Part],
+    even: &mut Vec<Part>,
+    odd: &mut Vec<Part>,
     actor: u32,
     taker: Taker,
 ) -> Result<End, OutOfMemory>
-    requires begun { All IsBegun even.old × All IsBegun odd.old }
+    requires begun { All IsBegun even.old.items × All IsBegun odd.old.items }
     requires new { taker.taken ≡ [] }
-    ensures { IfOk result (λ end. HaveGainedTaker even.old odd.old end taker even.new odd.new) }
+    ensures { IfOk result (λ end. HaveGainedTaker even.old.items odd.old.items end taker even.new.items odd.new.items) }
 {
     if actor % 2 == 0 {
         let place = take_one(even, actor / 2, taker)?;
@@ -231,11 +176,11 @@ fn take_to(
 fn join(
     alloc: Global,
     spec: &RingSpec,
-    even: &mut [Part],
-    odd: &mut [Part],
+    even: &mut Vec<Part>,
+    odd: &mut Vec<Part>,
 ) -> Result<Link, OutOfMemory>
-    requires { All IsBegun even.old × All IsBegun odd.old }
-    ensures { IfOk result (λ link. HaveJoined even.old odd.old link even.new odd.new) }
+    requires { All IsBegun even.old.items × All IsBegun odd.old.items }
+    ensures { IfOk result (λ link. HaveJoined even.old.items odd.old.items link even.new.items odd.new.items) }
 {
     let (one, other) = ends_of(alloc, spec)?;
     let giver = give_to(even, odd, spec.from, one)?;
@@ -243,21 +188,22 @@ fn join(
     Ok(Link { giver, taker })
 }
 
-/// Makes all rings and gives their ends to the parts of their actors; where each ring's ends are.
+/// Makes all rings and gives their ends to the parts of their actors; where each ring's ends are goes into an empty list.
 pub(crate) fn join_all(
     alloc: Global,
     rings: &[RingSpec],
-    even: &mut [Part],
-    odd: &mut [Part],
-) -> Result<Vec<Link>, OutOfMemory>
-    requires { All IsBegun even.old × All IsBegun odd.old }
-    ensures { IfOk result (λ links. AreJoined even.new odd.new links.items) }
+    even: &mut Vec<Part>,
+    odd: &mut Vec<Part>,
+    links: &mut Vec<Link>,
+) -> Result<(), OutOfMemory>
+    requires begun { All IsBegun even.old.items × All IsBegun odd.old.items }
+    requires none { links.old.items ≡ [] }
+    ensures { OnOk result (AreJoined even.new.items odd.new.items links.new.items) }
 {
     ends_are_kept();
-    let mut links = Vec::new(alloc);
     for spec in rings {
         let link = join(alloc, spec, even, odd)?;
-        push(&mut links, link)?;
+        push(links, link)?;
     }
-    Ok(links)
+    Ok(())
 }

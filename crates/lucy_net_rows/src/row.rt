@@ -1,82 +1,43 @@
-// A row is a line `KIND|FILE|NUMBERS|ITEMS`. The file in `data/` has the program, and the items are those of its one input, of which
-// `1..N` stands for the numbers from 1 to N; a program without inputs has none. Numbers and items are parted by blanks, and what stands
-// at the end may be missing. The numbers are
+// A row is a line `KIND|FILE|NUMBERS|ITEMS`. The file in `data/` has the program, and the items are those of its one input; a program
+// without inputs has none. Numbers and items are parted by blanks, `1..N` stands for those from 1 to N, and what stands at the end may
+// be missing. The numbers are
 //
 // - of `iterates` the turns, of `picks` actors, of `chance` a seed, of `workers` how many there are,
-// - and none of `schedule`, `static`, `picked`, `hand` and `rings`.
-use std::alloc::Global;
+// - and none of `schedule`, `static`, `picked` and `hand`.
+//
+// The line `echo` stands for the rows of `echoed.rt`.
 use std::fs::{self, Files};
-use std::io::{self, ErrorKind};
 
-/// A row, with the text of its program.
+/// What stands behind the kind of a row, with the text of its program.
 #[derive(Drop)]
-pub(crate) struct Row<'a> {
-    pub kind: &'a str,
-    pub text: Vec<u8>,
+pub(crate) struct Row {
+    pub text: String,
     pub numbers: Vec<u32>,
-    pub items: Option<Vec<i64>>,
-    /// Whether the events are timed, and nothing else is printed.
-    pub timed: bool,
+    pub items: Vec<u32>,
 }
 
-// Numbers, parted by blanks.
-fn numbers_in(alloc: Global, part: &str) -> Option<Vec<u32>> {
-    let mut numbers = Vec::new(alloc);
+// Appends numbers, as they stand in a part of a row.
+fn put_numbers(numbers: &mut Vec<u32>, part: &str) -> Option<()> {
+    if let Some(count) = part.strip_prefix("1..") {
+        for before in 0..count.parse::<u32>().ok()? {
+            numbers.push(before + 1).ok()?;
+        }
+        return Some(());
+    }
     for word in part.split(' ') {
         if !word.is_empty() {
             numbers.push(word.parse().ok()?).ok()?;
         }
     }
-    Some(numbers)
+    Some(())
 }
 
-// Items, parted by blanks.
-fn items_in(alloc: Global, part: &str) -> Option<Vec<i64>> {
-    let mut items = Vec::new(alloc);
-    for word in part.split(' ') {
-        items.push(word.parse().ok()?).ok()?;
-    }
-    Some(items)
-}
-
-// The numbers from 1 on, so many.
-fn counted(alloc: Global, count: i64) -> Option<Vec<i64>> {
-    let mut items = Vec::new(alloc);
-    for before in 0..count {
-        items.push(before + 1).ok()?;
-    }
-    Some(items)
-}
-
-// The items of an input, unless a part stands for none.
-fn input_in(alloc: Global, part: &str) -> Option<Vec<i64>> {
-    match part.strip_prefix("1..") {
-        Some(count) => counted(alloc, count.parse().ok()?),
-        None => items_in(alloc, part),
-    }
-}
-
-impl<'a> Row<'a> {
-    /// The row of a line.
-    pub(crate) fn read(
-        rt: &(impl AllocGlobal + Files),
-        line: &'a str,
-        timed: bool,
-    ) -> io::Result<Row<'a>> {
-        let mut parts = line.split('|');
-        let kind = parts.next().unwrap_or("");
-        let text = fs::read(rt, parts.next().unwrap_or(""))?;
-        let numbers = numbers_in(rt.alloc(), parts.next().unwrap_or(""));
-        let items = parts.next().and_then(|part| input_in(rt.alloc(), part));
-        match numbers {
-            Some(numbers) => Ok(Row {
-                kind,
-                text,
-                numbers,
-                items,
-                timed,
-            }),
-            None => Err(ErrorKind::InvalidData.into()),
-        }
+impl Row {
+    /// Reads what stands behind the kind into a row that says nothing. None, where it isn't so, or memory ran out.
+    pub(crate) fn read(&mut self, rt: &(impl AllocGlobal + Files), rest: &str) -> Option<()> {
+        let mut parts = rest.split('|');
+        self.text = fs::read_to_string(rt, parts.next()?).ok()?;
+        put_numbers(&mut self.numbers, parts.next().unwrap_or(""))?;
+        put_numbers(&mut self.items, parts.next().unwrap_or(""))
     }
 }

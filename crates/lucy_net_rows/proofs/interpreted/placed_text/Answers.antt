@@ -1,8 +1,8 @@
-use Rattle.std.proofs.Common.{List, length, subst}
-use Rattle.lucy_host.specs.Operators.{Operator}
+use Rattle.std.proofs.Common.{length}
+use Rattle.lucy_place.specs.PlacedProgram.{PlacedProgram}
 use Rattle.lucy_place.specs.Proper.{HaveOperators}
+use Rattle.lucy_net_rows.proofs.ReadyLaws.{ok_part}
 use Rattle.lucy_net_rows.proofs.interpreted.placed_text.Goals as goal
 
-pub returns-in-Ok-place : goal.returns-in-Ok-place
-returns-in-Ok-place g c =
-    subst (λ (ops : List Operator). HaveOperators (length ops) c.in-Ok-place.placed.nodes) c.ops.ensures c.in-Ok-place.ensures.operators
+pub returns-in-Ok : goal.returns-in-Ok
+returns-in-Ok c = ok_part c.place.result c.ok.result (λ (placed : PlacedProgram). HaveOperators (length c.args.ops.now) placed.nodes) c.ok.ensures.value c.place.ensures.operators

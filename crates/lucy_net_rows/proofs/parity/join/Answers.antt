@@ -3,5 +3,5 @@ use Rattle.lucy_net_rows.proofs.parity.join.Goals as goal
 
 pub returns : goal.returns
 returns c =
-    ring_joined c.args.even.now c.args.odd.now c.give_to.new.even c.give_to.new.odd c.take_to.new.even c.take_to.new.odd c.in_ok-giver.giver c.in_ok-taker.taker c.in_ok-one.one c.in_ok-one.other
+    ring_joined c.args.even.now.items c.args.odd.now.items c.give_to.new.even.items c.give_to.new.odd.items c.take_to.new.even.items c.take_to.new.odd.items c.in_ok-giver.giver c.in_ok-taker.taker c.in_ok-one.one c.in_ok-one.other
     c.in_ok-one.ensures.name c.in_ok-giver.ensures c.in_ok-taker.ensures

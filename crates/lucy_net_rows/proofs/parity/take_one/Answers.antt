@@ -1,9 +1,13 @@
-use Rattle.std.proofs.Common.{get_or, arith}
+use Rattle.std.proofs.Common.{◌≡◌, ◌<◌, Some, length, ap, sym, refl, ◌∙◌, arith}
 use Rattle.std.proofs.lemmas.Option.{slice_get-get_or}
+use Rattle.lucy_worker.specs.declared.part.Part.{Part}
 use Rattle.lucy_net_rows.proofs.HandLaws.{taker_gained}
 use Rattle.lucy_net_rows.proofs.parity.take_one.Goals as goal
 
 pub returns : goal.returns
 returns c =
-    taker_gained c.args.parts.now c.args.part c.in_ok-number.number (get_or c.args.parts.now c.args.part c.index-parts-part.result) c.add_taker.new.part c.args.taker
-    c.requires.begun c.requires.new (slice_get-get_or c.args.parts.now c.args.part c.index-parts-part.result (omega arith)) c.in_ok-number.ensures
+    let p : Part = c.index_mut-one.result.now in
+    let there : c.args.part < length c.args.parts.now.items = omega arith in
+    let number : c.len-number.result ≡ length p.takers.items = omega arith in
+    taker_gained c.args.parts.now.items c.args.part c.len-number.result p (record p { takers = c.push.new.list }) c.args.taker c.requires.begun c.requires.new
+    (slice_get-get_or c.args.parts.now.items c.args.part p there ∙ ap Some (sym c.index_mut-one.ensures.value)) (record { rest = refl; on = c.in_ok-push.ensures; number = number })

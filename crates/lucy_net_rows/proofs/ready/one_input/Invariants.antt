@@ -1,6 +1,6 @@
-use Rattle.std.proofs.Common.{◌≡◌, [], ◌∷◌, take}
+use Rattle.lucy_net_rows.specs.Ready.{HasOneList}
 use Rattle.lucy_net_rows.proofs.ready.one_input.Given as goal
 
 -- the items so far
 abbrev pub invariant-items : goal.invariant-items
-invariant-items l = l.inputs ≡ take l.item-index l.list ∷ []
+invariant-items l = HasOneList l.item-index l.inputs

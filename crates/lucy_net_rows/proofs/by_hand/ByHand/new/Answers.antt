@@ -1,11 +1,15 @@
-use Rattle.std.proofs.Common.{length, ap, ◌∙◌}
-use Rattle.lucy_net_rows.proofs.HandLaws.{usable_all, both_back}
+use Rattle.std.proofs.Common.{◌≡◌, List, ap, sym, subst}
+use Rattle.lucy_worker.specs.declared.part.Part.{Part}
+use Rattle.lucy_worker.specs.Views.{WorkerView}
+use Rattle.lucy_net_rows.specs.ByHand.{AreLinked}
 use Rattle.lucy_net_rows.proofs.by_hand.ByHand.new.Goals as goal
 
-pub first_parts-requires-clause-usable : goal.first_parts-requires-clause-usable
-first_parts-requires-clause-usable c = usable_all c.args.net.now c.list.result.now (λ a actor e. c.proper_nets_are_plugged.ensures.usable c.args.net.now a actor c.requires e) c.list.ensures
-
-pub of-requires : goal.of-requires
-of-requires c =
-    both_back c.in_ok-even.even.len c.in_ok-even.odd.len c.join_all.new.even c.join_all.new.odd c.in_ok-even.even.items c.in_ok-even.odd.items c.in_ok-links.links.items
-    (c.join_all.auto.even ∙ ap length c.as_mut_slice.ensures.value) (c.join_all.auto.odd ∙ ap length c.as_mut_slice-2.ensures.value) c.in_ok-even.even.ok.0 c.in_ok-even.odd.ok.0 c.in_ok-links.ensures
+pub invariant_of-result : goal.invariant_of-result
+invariant_of-result c =
+    let filled = c.fill.new in
+    let joined = c.in-Ok.ensures.joined in
+    let even : c.new.result.parts ≡ filled.even.items = ap (λ (w : WorkerView). w.parts) c.new.ensures in
+    let odd : c.new-in-Ok.result.parts ≡ filled.odd.items = ap (λ (w : WorkerView). w.parts) c.new-in-Ok.ensures in (
+      subst (λ (ps : List Part). AreLinked ps c.new-in-Ok.result.parts filled.links.items) (sym even) (subst (λ (ps : List Part). AreLinked filled.even.items ps filled.links.items) (sym odd) joined.linked),
+      joined.apart,
+    )

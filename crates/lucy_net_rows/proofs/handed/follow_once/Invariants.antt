@@ -1,6 +1,0 @@
-use Rattle.std.proofs.Common.{◌≡◌}
-use Rattle.lucy_net_rows.proofs.handed.follow_once.Given as goal
-
--- the net and the operators stay
-abbrev pub invariant-actors : goal.invariant-actors
-invariant-actors g l = (l.core.net ≡ l.fn.core.net) × (l.core.operators ≡ l.fn.core.operators)
