@@ -1,12 +1,12 @@
 -- The report of an accepted text is one, and refusals are alike.
-use Rattle.lucy_front.specs.declared.options.Options.{Options}
+use Rattle.lucy_program.specs.declared.options.Options.{Options}
 use Rattle.std.proofs.Common.{ℕ, ◌≡◌, List, inl, inr, ap, sym, ◌∙◌}
 use Rattle.lucy_host.specs.Operators.{Operator}
-use Rattle.lucy_front.specs.declared.accepted.Accepted.{Accepted}
+use Rattle.lucy_program.specs.declared.accepted.Accepted.{Accepted}
 use Rattle.lucy_front.specs.declared.refusal.Refusal.{Refusal}
-use Rattle.lucy_front.specs.Accepting.{IsAccepted}
+use Rattle.lucy_program.specs.Accepting.{IsAccepted}
 use Rattle.lucy_front.specs.OneAnswer.{AreAlike}
-use Rattle.lucy_front.specs.Report.{report}
+use Rattle.lucy_program.specs.Report.{report}
 use Rattle.lucy_front.proofs.OneAnswer.{one_program}
 use Rattle.lucy_front.proofs.OneAccepted.{accepted_kept, refused_alike}
 use Rattle.lucy_app.specs.Check.{IsCheckOf, RefusesCheck}

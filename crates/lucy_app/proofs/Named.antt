@@ -5,7 +5,7 @@ use Rattle.std.specs.Str.{bytes_eq}
 use Rattle.std.proofs.lemmas.Bool.{cond-true, cond-false}
 use Rattle.lucy_place.specs.declared.placed.PlacedNode.{PlacedNode}
 use Rattle.lucy_app.specs.Tighten.{node_named}
-use Rattle.lucy_front.proofs.ReportLaws.{drop_at}
+use Rattle.lucy_program.proofs.ReportLaws.{drop_at}
 
 module _ (nodes : List PlacedNode) (name : List ℕ) (i : ℕ) (n : PlacedNode) (at : slice_get nodes i ≡ Some n) where
   -- where the node at a number has the name, it is the first of the nodes from there on

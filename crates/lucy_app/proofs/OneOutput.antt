@@ -10,11 +10,12 @@ use Rattle.lucy_text.specs.Shelf.{Files, SeenShelf}
 use Rattle.lucy_lines.specs.Laws.{OneCut}
 use Rattle.lucy_lines.specs.declared.input.InputSpec.{InputSpec}
 use Rattle.lucy_text.specs.Sources.{Ended}
-use Rattle.lucy_front.specs.declared.options.Options.{Options}
-use Rattle.lucy_front.specs.declared.accepted.Accepted.{Accepted}
+use Rattle.lucy_program.specs.declared.options.Options.{Options}
+use Rattle.lucy_program.specs.declared.accepted.Accepted.{Accepted}
 use Rattle.lucy_front.specs.declared.refusal.Refusal.{Refusal}
-use Rattle.lucy_front.specs.Accepting.{IsAccepted, RefusesSyntax, RefusesText}
-use Rattle.lucy_front.specs.Report.{report}
+use Rattle.lucy_program.specs.Accepting.{IsAccepted}
+use Rattle.lucy_front.specs.Refusing.{RefusesSyntax, RefusesText}
+use Rattle.lucy_program.specs.Report.{report}
 use Rattle.lucy_run.specs.Feeds.{IsMainInput}
 use Rattle.lucy_run.specs.Owes.{most_instants, input_words, heading, lines_to, stream_lines, IsHorizonOf}
 use Rattle.lucy_run.specs.Laws.{IsFedWell}

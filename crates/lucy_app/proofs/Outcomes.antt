@@ -9,11 +9,11 @@ use Rattle.lucy_text.specs.declared.shelf.ShelfError.TheVariants as shelf
 use Rattle.lucy_text.specs.Sources.{ReadStop, Unread, Ended, Failed, Passed, Open, IsGathered}
 use Rattle.lucy_text.specs.declared.read.ReadError.{ReadError}
 use Rattle.lucy_text.specs.declared.read.ReadError.TheVariants as read
-use Rattle.lucy_front.specs.Accepting.{RefusesText}
+use Rattle.lucy_front.specs.Refusing.{RefusesText}
 use Rattle.lucy_app.specs.Answers.{Answer, limit_passed}
 use Rattle.lucy_app.specs.Fields.{fields}
 use Rattle.lucy_host.specs.Operators.{Operator}
-use Rattle.lucy_front.specs.declared.options.Options.{Options}
+use Rattle.lucy_program.specs.declared.options.Options.{Options}
 use Rattle.lucy_app.specs.Types.{IsReportOf}
 use Rattle.lucy_app.specs.Check.{IsCheckOf, RefusesCheck}
 use Rattle.lucy_app.specs.Order.{IsVerdictLine, RefusesFields}

@@ -3,7 +3,7 @@ use Rattle.std.proofs.Common.{ℕ, ◌≡◌, List, [], ◌∷◌, None, Result,
 use Rattle.lucy_text.specs.declared.shelf.ShelfError.{ShelfError}
 use Rattle.lucy_text.specs.declared.shelf.ShelfError.TheVariants as shelf
 use Rattle.lucy_command.specs.Commands.{Command, Order, Show, Types, Check, Clocks, Run, Kahn, Make, Tighten, Replay, Trace}
-use Rattle.lucy_front.specs.Accepting.{RefusesSyntax, RefusesText}
+use Rattle.lucy_front.specs.Refusing.{RefusesSyntax, RefusesText}
 use Rattle.lucy_tight.specs.Laws.{OneTightest}
 use Rattle.lucy_app.specs.Outcomes.{OwesNamed}
 use Rattle.lucy_app.specs.Commands.{written_options, inferring_options}
@@ -17,7 +17,7 @@ use Rattle.lucy_app.specs.Check.{IsCheckOf, RefusesCheck}
 use Rattle.lucy_app.specs.Owes.{OwesOrder, Owes, HasRun}
 use Rattle.lucy_app.specs.Programs.{OwesRefusal, OwesText, OwesPrint}
 use Rattle.lucy_host.specs.Operators.{kinds_of}
-use Rattle.lucy_front.specs.declared.accepted.Accepted.{Accepted}
+use Rattle.lucy_program.specs.declared.accepted.Accepted.{Accepted}
 use Rattle.lucy_run.specs.declared.ending.Ending.{Ending}
 use Rattle.lucy_run.specs.Owes.{OwesRun, OwesKahn}
 use Rattle.lucy_run.specs.Laws.{OneRun, OneInterpretation, OneReplay, OneTrace}

@@ -21,8 +21,8 @@ use Rattle.lucy_host.specs.declared.kind.HostKind.{HostKind}
 use Rattle.lucy_meaning.specs.Sizes.{all_places}
 use Rattle.lucy_output.specs.Outputs.{output_text}
 use Rattle.lucy_results.specs.Streams.{param_words, main_streams, taken_of}
-use Rattle.lucy_front.specs.declared.accepted.Accepted.{Accepted}
-use Rattle.lucy_front.specs.declared.options.Options.{Options}
+use Rattle.lucy_program.specs.declared.accepted.Accepted.{Accepted}
+use Rattle.lucy_program.specs.declared.options.Options.{Options}
 use Rattle.lucy_run.specs.declared.ending.Ending.{Ending}
 use Rattle.lucy_run.specs.Owes.{EndsFor}
 use Rattle.lucy_run.specs.Replays.{SaysFinished, tally, IsReplayText, Judges, OwesReplay}

@@ -6,9 +6,9 @@ use Rattle.lucy_place.specs.declared.entry.PlaceEntry.{PlaceEntry}
 use Rattle.lucy_place.specs.declared.placed.PlacedNode.{PlacedNode}
 use Rattle.lucy_types.specs.declared.ty.Ty.{Ty}
 use Rattle.lucy_types.specs.Tables.{table_at}
-use Rattle.lucy_front.specs.Names.{node_line}
-use Rattle.lucy_front.specs.Report.{name_lines}
-use Rattle.lucy_front.proofs.ReportLaws.{drop_at, table_found, main_is}
+use Rattle.lucy_program.specs.Names.{node_line}
+use Rattle.lucy_program.specs.Report.{name_lines}
+use Rattle.lucy_program.proofs.ReportLaws.{drop_at, table_found, main_is}
 use Rattle.lucy_app.specs.Report.{type_report}
 
 -- the lines of the places of a node with these types

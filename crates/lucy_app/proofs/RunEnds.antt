@@ -1,5 +1,5 @@
 -- How a command ends that runs a program, by what has been read.
-use Rattle.lucy_front.specs.declared.options.Options.{Options}
+use Rattle.lucy_program.specs.declared.options.Options.{Options}
 use Rattle.std.proofs.Common.{ℕ, ◌≡◌, ◌⊎◌, List, [], ◌∷◌, Result, Ok, Err, refl, sym, subst, inl, inr}
 use Rattle.std.specs.Prelude.{Option, ◌≢◌}
 use Rattle.lucy_word.specs.Limits.{limit_number}
@@ -9,7 +9,7 @@ use Rattle.lucy_text.specs.declared.shelf.ShelfError.{ShelfError}
 use Rattle.lucy_text.proofs.OutsideLaws.{followed-nil, still_none}
 use Rattle.lucy_text.specs.Outside.{SeenSource, SeenSink}
 use Rattle.lucy_text.specs.Sources.{ReadStop, Unread, Read}
-use Rattle.lucy_front.specs.declared.accepted.Accepted.{Accepted}
+use Rattle.lucy_program.specs.declared.accepted.Accepted.{Accepted}
 use Rattle.lucy_run.specs.declared.ending.Ending.{Ending}
 use Rattle.lucy_run.specs.Ends.{IsFrontOf, Outputs, EndsWith, FailsInOrder}
 use Rattle.lucy_lines.specs.declared.input.InputSpec.{InputSpec}

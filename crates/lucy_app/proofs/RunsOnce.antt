@@ -1,5 +1,5 @@
 -- What a command owes that runs a program is one answer, but for the evidence of a refusal.
-use Rattle.lucy_front.specs.declared.options.Options.{Options}
+use Rattle.lucy_program.specs.declared.options.Options.{Options}
 use Rattle.std.proofs.Common.{ℕ, ◌≡◌, ◌⊎◌, List, [], ◌∷◌, Option, Result, Ok, Err, refl, ap, sym, ◌∙◌, subst, inl, inr}
 use Rattle.std.specs.Prelude.{ℤ, ◌++◌, codes}
 use Rattle.lucy_host.specs.Operators.{Operator}
@@ -11,11 +11,12 @@ use Rattle.lucy_meaning.specs.Horizons.{IsHorizon}
 use Rattle.lucy_place.specs.declared.placed.PlacedNode.{PlacedNode}
 use Rattle.lucy_clock.specs.declared.node_clock.NodeClock.{NodeClock}
 use Rattle.lucy_results.specs.Streams.{param_words}
-use Rattle.lucy_front.specs.declared.accepted.Accepted.{Accepted}
-use Rattle.lucy_front.specs.Accepting.{IsAccepted}
-use Rattle.lucy_front.specs.Report.{report}
-use Rattle.lucy_front.specs.Scheduled.{main_inputs, main_outputs}
-use Rattle.lucy_front.proofs.OneAnswer.{text_proper, one_program}
+use Rattle.lucy_program.specs.declared.accepted.Accepted.{Accepted}
+use Rattle.lucy_program.specs.Accepting.{IsAccepted}
+use Rattle.lucy_program.specs.Report.{report}
+use Rattle.lucy_program.specs.Scheduled.{main_inputs, main_outputs}
+use Rattle.lucy_program.proofs.AcceptedLaws.{text_proper}
+use Rattle.lucy_front.proofs.OneAnswer.{one_program}
 use Rattle.lucy_flat.specs.Refusals.{IsFlatNet}
 use Rattle.lucy_flat.proofs.OneNet.{one_net}
 use Rattle.lucy_net.specs.declared.net.Net.{Net}

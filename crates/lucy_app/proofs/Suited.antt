@@ -17,10 +17,11 @@ use Rattle.lucy_lines.specs.declared.input.InputSpec.{InputSpec}
 use Rattle.lucy_lines.specs.declared.reader.TextFault.{TextFault}
 use Rattle.lucy_text.specs.Sources.{ReadStop, Ended, Failed, Passed, Read, StoppedAt}
 use Rattle.lucy_feed.specs.Feeding.{is_closed}
-use Rattle.lucy_front.specs.declared.options.Options.{Options}
-use Rattle.lucy_front.specs.declared.accepted.Accepted.{Accepted}
+use Rattle.lucy_program.specs.declared.options.Options.{Options}
+use Rattle.lucy_program.specs.declared.accepted.Accepted.{Accepted}
 use Rattle.lucy_front.specs.declared.refusal.Refusal.{Refusal}
-use Rattle.lucy_front.specs.Accepting.{IsAccepted, RefusesSyntax, RefusesText}
+use Rattle.lucy_program.specs.Accepting.{IsAccepted}
+use Rattle.lucy_front.specs.Refusing.{RefusesSyntax, RefusesText}
 use Rattle.lucy_run.specs.declared.ending.Ending.{Ending}
 use Rattle.lucy_run.specs.declared.ending.Ending.TheVariants as ending
 use Rattle.lucy_run.specs.Feeds.{Feeds, IsMainInput}

@@ -7,11 +7,11 @@ use Rattle.lucy_place.specs.declared.placed.PlacedNode.{PlacedNode}
 use Rattle.lucy_clock.specs.declared.node_clock.NodeClock.{NodeClock}
 use Rattle.lucy_clock.specs.NodeClocks.{signatures}
 use Rattle.lucy_rates.specs.Vectors.{IsShapeOf}
-use Rattle.lucy_front.specs.declared.accepted.Accepted.{Accepted}
-use Rattle.lucy_front.specs.declared.options.Options.{Options}
+use Rattle.lucy_program.specs.declared.accepted.Accepted.{Accepted}
+use Rattle.lucy_program.specs.declared.options.Options.{Options}
 use Rattle.lucy_front.specs.declared.refusal.Refusal.{Refusal}
-use Rattle.lucy_front.specs.Accepting.{IsAccepted}
-use Rattle.lucy_front.specs.Inferring.{node_needs}
+use Rattle.lucy_program.specs.Accepting.{IsAccepted}
+use Rattle.lucy_program.specs.Inferring.{node_needs}
 use Rattle.lucy_tight.specs.declared.answer.Least.{Least}
 use Rattle.lucy_tight.specs.declared.answer.TightError.TheVariants.{Fixed, Limit as LimitPassed}
 use Rattle.lucy_tight.specs.Tightening.{needs_at, TheBuffer, IsTightened, RefusesTight, PassesLimit}

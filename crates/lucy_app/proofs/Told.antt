@@ -1,5 +1,5 @@
 -- A refusal by a phase is told as a refusal of the program.
-use Rattle.lucy_front.specs.declared.options.Options.{Options}
+use Rattle.lucy_program.specs.declared.options.Options.{Options}
 use Rattle.std.proofs.Common.{ℕ, ◌≡◌, ◌⊎◌, List, refl, ap, sym, subst, inl, inr}
 use Rattle.lucy_text.specs.declared.shelf.ShelfError.{ShelfError}
 use Rattle.lucy_text.specs.declared.shelf.ShelfError.TheVariants as shelf
@@ -14,7 +14,7 @@ use Rattle.lucy_place.specs.Faults.{faults}
 use Rattle.lucy_place.specs.Placing.{TellsFirstFault}
 use Rattle.lucy_front.specs.declared.refusal.Refusal.{Refusal as Reason}
 use Rattle.lucy_front.specs.declared.refusal.Refusal.TheVariants as front
-use Rattle.lucy_front.specs.Accepting.{Refuses, syntax_refusal, names_refusal, RefusesSyntax, RefusesText}
+use Rattle.lucy_front.specs.Refusing.{Refuses, syntax_refusal, names_refusal, RefusesSyntax, RefusesText}
 use Rattle.lucy_front.specs.Refusals.{IsTellable}
 use Rattle.lucy_front.proofs.TellableLaws.{tellable}
 use Rattle.lucy_app.specs.Commands.{written_options}

@@ -15,7 +15,8 @@ use Rattle.lucy_types.specs.Programs.{IsTyped, IsClash}
 use Rattle.lucy_types.proofs.ProgramLaws.{typed_unique, clash_untyped}
 use Rattle.lucy_front.specs.declared.refusal.Refusal.{Refusal}
 use Rattle.lucy_front.specs.declared.refusal.Refusal.TheVariants.{Syntax, Names, Types, Limit as LimitPassed}
-use Rattle.lucy_front.specs.Accepting.{IsPlacedText, RefusesPhases, RefusesText}
+use Rattle.lucy_program.specs.Accepting.{IsPlacedText}
+use Rattle.lucy_front.specs.Refusing.{RefusesPhases, RefusesText}
 use Rattle.lucy_front.proofs.OneAnswer.{syntax_refused, names_refused}
 use Rattle.lucy_app.specs.Commands.{written_options}
 use Rattle.lucy_app.specs.Report.{type_report}

@@ -1,14 +1,15 @@
 -- Whether what was fetched is a program that can be run.
-use Rattle.lucy_front.specs.declared.options.Options.{Options}
+use Rattle.lucy_program.specs.declared.options.Options.{Options}
 use Rattle.std.proofs.Common.{ℕ, ◌≡◌, ◌⊎◌, List, [], ◌∷◌, Option, None, Result, Ok, Err, refl, ap, sym, ◌∙◌, subst, inl, inr}
 use Rattle.std.specs.declared.alloc.Global.{Global}
 use Rattle.std.specs.declared.vec.Vec.{Vec}
 use Rattle.lucy_host.specs.Operators.{Operator}
 use Rattle.lucy_text.specs.declared.shelf.ShelfError.{ShelfError}
 use Rattle.lucy_text.specs.Sources.{Unread}
-use Rattle.lucy_front.specs.declared.accepted.Accepted.{Accepted}
+use Rattle.lucy_program.specs.declared.accepted.Accepted.{Accepted}
 use Rattle.lucy_front.specs.declared.refusal.Refusal.{Refusal as Reason}
-use Rattle.lucy_front.specs.Accepting.{IsAccepted, Refuses}
+use Rattle.lucy_program.specs.Accepting.{IsAccepted}
+use Rattle.lucy_front.specs.Refusing.{Refuses}
 use Rattle.lucy_app.specs.Check.{RefusesCheck}
 use Rattle.lucy_app.specs.Running.{LacksInstants, OwesEnded, OwesRunning}
 use Rattle.lucy_app.specs.Outcomes.{bytes_of, refusal_answer, fetch_refusal, program_refusal, IsAccepting, NoRun}

@@ -8,7 +8,7 @@ use Rattle.lucy_grammar.specs.Texts.{HasTree}
 use Rattle.lucy_grammar.proofs.TextLaws.{one_program, tree_or_error}
 use Rattle.lucy_front.specs.declared.refusal.Refusal.{Refusal}
 use Rattle.lucy_front.specs.declared.refusal.Refusal.TheVariants.{Syntax, Limit as LimitPassed, OutOfMemory}
-use Rattle.lucy_front.specs.Accepting.{RefusesPhases, RefusesSyntax}
+use Rattle.lucy_front.specs.Refusing.{RefusesPhases, RefusesSyntax}
 use Rattle.lucy_front.specs.OneAnswer.{AreAlike}
 use Rattle.lucy_front.proofs.OneAnswer.{one_refusal, syntax_refused}
 use Rattle.lucy_app.specs.Commands.{written_options}

@@ -5,7 +5,7 @@ use Rattle.lucy_word.specs.declared.limit.Limit.{Limit}
 use Rattle.lucy_front.specs.declared.refusal.Refusal.{Refusal}
 use Rattle.lucy_front.specs.Refusals.{limit_line, memory_line, refusal_text}
 use Rattle.lucy_front.specs.OneAnswer.{AreAlike}
-use Rattle.lucy_front.specs.declared.accepted.Accepted.{Accepted}
+use Rattle.lucy_program.specs.declared.accepted.Accepted.{Accepted}
 use Rattle.lucy_tight.specs.declared.answer.Least.{Least}
 use Rattle.lucy_tight.specs.Tightening as tight
 use Rattle.lucy_tight.specs.Report.{tight_lines}

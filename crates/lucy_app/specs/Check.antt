@@ -1,12 +1,13 @@
 -- What `check` and `clocks` print of a text, with the options that say how its clocks are found, and why they refuse one.
 use Rattle.std.specs.Prelude.{ℕ, ◌≡◌, ◌≢◌, List}
 use Rattle.lucy_host.specs.Operators.{Operator}
-use Rattle.lucy_front.specs.declared.accepted.Accepted.{Accepted}
-use Rattle.lucy_front.specs.declared.options.Options.{Options}
+use Rattle.lucy_program.specs.declared.accepted.Accepted.{Accepted}
+use Rattle.lucy_program.specs.declared.options.Options.{Options}
 use Rattle.lucy_front.specs.declared.refusal.Refusal.{Refusal}
 use Rattle.lucy_front.specs.declared.refusal.Refusal.TheVariants.{OutOfMemory}
-use Rattle.lucy_front.specs.Accepting.{IsAccepted, Refuses}
-use Rattle.lucy_front.specs.Report.{report}
+use Rattle.lucy_program.specs.Accepting.{IsAccepted}
+use Rattle.lucy_front.specs.Refusing.{Refuses}
+use Rattle.lucy_program.specs.Report.{report}
 
 -- the text is accepted, and this is the report
 abbrev pub IsCheckOf : List Operator → Options → (text print : List ℕ) → Type 0

@@ -9,7 +9,7 @@ use Rattle.lucy_stream.specs.Runs.{none_done, IsRun}
 use Rattle.lucy_net.specs.declared.net.Net.{Net}
 use Rattle.lucy_net.specs.Plans.{net_system}
 use Rattle.lucy_results.specs.Running.{HasManyTurns, HasManyItems}
-use Rattle.lucy_front.specs.declared.accepted.Accepted.{Accepted}
+use Rattle.lucy_program.specs.declared.accepted.Accepted.{Accepted}
 use Rattle.lucy_run.specs.Owes.{heading, lines_to}
 use Rattle.lucy_run.specs.Laws.{IsFedWell}
 use Rattle.lucy_fields.specs.Readings.{AreRead}

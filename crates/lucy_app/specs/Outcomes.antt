@@ -16,7 +16,7 @@ use Rattle.lucy_text.specs.declared.shelf.ShelfError.{ShelfError}
 use Rattle.lucy_text.specs.declared.shelf.ShelfError.TheVariants as shelf
 use Rattle.lucy_front.specs.declared.refusal.Refusal.{Refusal as Reason}
 use Rattle.lucy_front.specs.declared.refusal.Refusal.TheVariants as front
-use Rattle.lucy_front.specs.declared.options.Options.{Options}
+use Rattle.lucy_program.specs.declared.options.Options.{Options}
 use Rattle.lucy_command.specs.declared.words.MakeWords.{MakeWords}
 use Rattle.lucy_command.specs.Commands.{Command, Make}
 use Rattle.lucy_front.specs.Refusals.{memory_line, IsTellable}
@@ -25,8 +25,8 @@ use Rattle.lucy_text.specs.declared.read.ReadError.TheVariants as read
 use Rattle.lucy_text.specs.Outside.{SeenSource, SeenSink}
 use Rattle.lucy_feed.specs.Feeding.{IsAsked}
 use Rattle.lucy_host.specs.Operators.{Operator}
-use Rattle.lucy_front.specs.declared.accepted.Accepted.{Accepted}
-use Rattle.lucy_front.specs.Accepting.{IsAccepted}
+use Rattle.lucy_program.specs.declared.accepted.Accepted.{Accepted}
+use Rattle.lucy_program.specs.Accepting.{IsAccepted}
 use Rattle.lucy_run.specs.Ends.{IsFrontOf}
 use Rattle.lucy_run.specs.declared.ending.Ending.{Ending}
 use Rattle.lucy_app.specs.Answers.{Answer, OutputOf, printed, read_fault, no_instants, no_buffer, program_refused, input_refused, log_refused, out_of_memory}

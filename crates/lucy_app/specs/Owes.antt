@@ -5,8 +5,9 @@ use Rattle.lucy_host.specs.Operators.{kinds_of}
 use Rattle.lucy_lines.specs.declared.reader.TextFault.{TextFault}
 use Rattle.lucy_text.specs.Sources.{ReadStop, Ended, Failed, Passed}
 use Rattle.lucy_net.specs.declared.net.Net.{Net}
-use Rattle.lucy_front.specs.declared.accepted.Accepted.{Accepted}
-use Rattle.lucy_front.specs.Accepting.{IsAccepted, RefusesSyntax, RefusesText}
+use Rattle.lucy_program.specs.declared.accepted.Accepted.{Accepted}
+use Rattle.lucy_program.specs.Accepting.{IsAccepted}
+use Rattle.lucy_front.specs.Refusing.{RefusesSyntax, RefusesText}
 use Rattle.lucy_run.specs.declared.ending.Ending.{Ending}
 use Rattle.lucy_run.specs.Owes.{IsMainFed, OwesRun, OwesKahn, LinesAllow}
 use Rattle.lucy_run.specs.Tracing.{OwesTrace}

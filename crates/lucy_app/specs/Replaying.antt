@@ -8,8 +8,8 @@ use Rattle.lucy_fields.specs.Readings.{AreRead, IsFirstBad}
 use Rattle.lucy_trace.specs.Logs.{picks_of}
 use Rattle.lucy_trace.specs.declared.error.TraceError.{TraceError}
 use Rattle.lucy_trace.specs.declared.error.TraceError.TheVariants.{BadNumber}
-use Rattle.lucy_front.specs.declared.accepted.Accepted.{Accepted}
-use Rattle.lucy_front.specs.declared.options.Options.{Options}
+use Rattle.lucy_program.specs.declared.accepted.Accepted.{Accepted}
+use Rattle.lucy_program.specs.declared.options.Options.{Options}
 use Rattle.lucy_run.specs.declared.ending.Ending.{Ending}
 use Rattle.lucy_run.specs.Replays.{OwesReplay}
 use Rattle.lucy_app.specs.Answers.{Answer, log_refused}

@@ -2,8 +2,8 @@
 use Rattle.std.specs.Prelude.{ℕ, ◌==◌, List, [], ◌∷◌, ◌++◌, length}
 use Rattle.lucy_place.specs.declared.placed.PlacedNode.{PlacedNode}
 use Rattle.lucy_types.specs.declared.ty.Ty.{Ty}
-use Rattle.lucy_front.specs.Names.{node_line}
-use Rattle.lucy_front.specs.Report.{name_lines}
+use Rattle.lucy_program.specs.Names.{node_line}
+use Rattle.lucy_program.specs.Report.{name_lines}
 
 -- the lines of nodes with these types of their places, of which nothing more is said; main has none behind it
 abbrev pub type_report : List PlacedNode → List (List Ty) → List ℕ

@@ -3,9 +3,9 @@ use Rattle.std.specs.Prelude.{ℕ, ◌≡◌, ◌⊎◌, List, [], Option, None,
 use Rattle.lucy_host.specs.Operators.{Operator}
 use Rattle.lucy_text.specs.declared.shelf.ShelfError.{ShelfError}
 use Rattle.lucy_text.specs.Sources.{ReadStop, Unread}
-use Rattle.lucy_front.specs.declared.accepted.Accepted.{Accepted}
-use Rattle.lucy_front.specs.declared.options.Options.{Options}
-use Rattle.lucy_front.specs.Accepting.{IsAccepted}
+use Rattle.lucy_program.specs.declared.accepted.Accepted.{Accepted}
+use Rattle.lucy_program.specs.declared.options.Options.{Options}
+use Rattle.lucy_program.specs.Accepting.{IsAccepted}
 use Rattle.lucy_run.specs.declared.ending.Ending.{Ending}
 use Rattle.lucy_app.specs.Answers.{Answer, no_instants}
 use Rattle.lucy_app.specs.Check.{RefusesCheck}

@@ -3,7 +3,7 @@ use Rattle.std.specs.Prelude.{ℕ, ◌≡◌, List}
 use Rattle.lucy_host.specs.Operators.{Operator}
 use Rattle.lucy_place.specs.PlacedProgram.{PlacedProgram}
 use Rattle.lucy_types.specs.declared.ty.Ty.{Ty}
-use Rattle.lucy_front.specs.Accepting.{IsTypedText}
+use Rattle.lucy_program.specs.Accepting.{IsTypedText}
 use Rattle.lucy_app.specs.Report.{type_report}
 
 -- the text has places and types, and this is the type_report of them

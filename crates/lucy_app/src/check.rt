@@ -1,13 +1,14 @@
 // The commands `check` and `clocks`: the clocks and the sizes of buffers of the program of a file.
 ghost use Rattle.std.specs.Prelude.{◌∷◌, [], IfOk, IfErr};
 ghost use Rattle.lucy_text.specs.Sources.{Unread};
-ghost use Rattle.lucy_front.specs.Inferring.{AreOptions};
+ghost use Rattle.lucy_program.specs.Inferring.{AreOptions};
 ghost use Rattle.lucy_app.specs.Check.{IsCheckOf, RefusesCheck};
 ghost use Rattle.lucy_app.specs.Programs.{OwesText, OwesPrint};
 ghost use Rattle.lucy_app.specs.Outcomes.{bytes_of, RefusesProgram, IsOwedOutcome, Tellable};
 
 use crate::refusal::Refusal;
-use lucy_front::{Options, accept, report};
+use lucy_front::accept;
+use lucy_program::{Options, report};
 use lucy_host::Ops;
 use lucy_text::ShelfError;
 use std::alloc::Global;

@@ -1,10 +1,10 @@
 // How the clocks of a program are found.
 ghost use Rattle.std.specs.Prelude.{◌≡◌};
-ghost use Rattle.lucy_front.specs.Inferring.{AreOptions};
+ghost use Rattle.lucy_program.specs.Inferring.{AreOptions};
 ghost use Rattle.lucy_command.specs.Named.{IsScale};
 ghost use Rattle.lucy_app.specs.Commands.{written_options, inferring_options};
 
-use lucy_front::Options;
+use lucy_program::Options;
 
 /// Each node has to be written.
 pub(crate) fn written() -> Options

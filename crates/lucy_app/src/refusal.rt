@@ -1,6 +1,6 @@
 // Why a command has no answer.
 ghost use Rattle.std.specs.Prelude.{◌≡◌, ◌≢◌, ◌≤◌};
-ghost use Rattle.lucy_front.specs.Accepting.{syntax_refusal, names_refusal};
+ghost use Rattle.lucy_front.specs.Refusing.{syntax_refusal, names_refusal};
 ghost use Rattle.lucy_app.specs.ProgramRefusals.{program_status};
 ghost use Rattle.lucy_app.specs.Outcomes.{fetch_refusal, fetch_refusal_within, program_refusal, read_refusal, trace_refusal};
 ghost use Rattle.lucy_app.specs.declared.refusal.Refusal.TheVariants.{OutOfMemory};

@@ -18,7 +18,7 @@ use crate::options::inferring;
 use crate::output::{conclude, refuse};
 use crate::refusal::Refusal;
 use lucy_command::ReplayWords;
-use lucy_front::Accepted;
+use lucy_program::Accepted;
 use lucy_host::Host;
 use lucy_text::{Shelf, ShelfError, Sink, Source};
 use lucy_word::Limit;

@@ -3,10 +3,10 @@ ghost use Rattle.std.specs.Prelude.{◌≡◌, ◌<◌, ◌≤◌, [], ◌++◌,
 ghost use Rattle.lucy_place.specs.Faults.{most_places};
 ghost use Rattle.lucy_types.specs.Tables.{table_at};
 ghost use Rattle.lucy_types.specs.Programs.{IsTyped};
-ghost use Rattle.lucy_front.specs.Report as lines;
+ghost use Rattle.lucy_program.specs.Report as lines;
 ghost use Rattle.lucy_app.specs.Report as spec;
 
-use lucy_front::{node_line, type_name};
+use lucy_program::{node_line, type_name};
 use lucy_place::{PlaceEntry, Placed};
 use lucy_tree::Name;
 use lucy_types::{Ty, Typed};

@@ -1,7 +1,7 @@
 // The command `show`: the program of a file, in print.
 ghost use Rattle.std.specs.Prelude.{◌∷◌, [], IfOk, IfErr};
 ghost use Rattle.lucy_text.specs.Sources.{Unread};
-ghost use Rattle.lucy_front.specs.Accepting.{RefusesSyntax};
+ghost use Rattle.lucy_front.specs.Refusing.{RefusesSyntax};
 ghost use Rattle.lucy_app.specs.Show.{IsPrintOf};
 ghost use Rattle.lucy_app.specs.Programs.{OwesText, OwesPrint};
 ghost use Rattle.lucy_app.specs.Outcomes.{bytes_of, RefusesProgram, IsOwedOutcome, Tellable};

@@ -3,8 +3,8 @@ ghost use Rattle.std.specs.Prelude.{ℕ, List, ◌≡◌, ◌∷◌, [], ◌≤�
 ghost use Rattle.lucy_place.specs.declared.placed.PlacedNode.{PlacedNode as Node};
 ghost use Rattle.lucy_host.specs.Operators.{Operator};
 ghost use Rattle.lucy_text.specs.Sources.{Unread};
-ghost use Rattle.lucy_front.specs.Inferring.{AreOptions};
-ghost use Rattle.lucy_front.specs.Accepting.{IsAccepted};
+ghost use Rattle.lucy_program.specs.Inferring.{AreOptions};
+ghost use Rattle.lucy_program.specs.Accepting.{IsAccepted};
 ghost use Rattle.lucy_command.specs.Named.{tighten_named, IsWithin};
 ghost use Rattle.lucy_app.specs.Commands.{inferring_options};
 ghost use Rattle.lucy_app.specs.Check.{RefusesCheck};
@@ -16,7 +16,8 @@ ghost use Rattle.lucy_app.specs.Outcomes.{bytes_of, IsOwedOutcome, Tellable, Owe
 use crate::options::inferring;
 use crate::refusal::Refusal;
 use lucy_command::TightenWords;
-use lucy_front::{Accepted, Options, accept};
+use lucy_front::accept;
+use lucy_program::{Accepted, Options};
 use lucy_host::Ops;
 use lucy_place::Placed;
 use lucy_text::ShelfError;

@@ -1,7 +1,7 @@
 // The command `types`: the data types of the program of a file.
 ghost use Rattle.std.specs.Prelude.{◌∷◌, [], IfOk, IfErr};
 ghost use Rattle.lucy_text.specs.Sources.{Unread};
-ghost use Rattle.lucy_front.specs.Accepting.{RefusesText};
+ghost use Rattle.lucy_front.specs.Refusing.{RefusesText};
 ghost use Rattle.lucy_app.specs.Types.{IsReportOf};
 ghost use Rattle.lucy_app.specs.Programs.{OwesText, OwesPrint};
 ghost use Rattle.lucy_app.specs.Outcomes.{bytes_of, RefusesProgram, IsOwedOutcome, Tellable};

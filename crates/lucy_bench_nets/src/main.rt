@@ -16,7 +16,8 @@ mod outputs;
 mod ready;
 mod rounds;
 
-use lucy_front::{Options, accept};
+use lucy_front::accept;
+use lucy_program::Options;
 use lucy_host::{Host, HostKind, Ops};
 use ready::{Ready, make_ready};
 use std::alloc::{AllocError, Global};

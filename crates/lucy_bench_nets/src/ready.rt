@@ -6,13 +6,13 @@ ghost use Rattle.lucy_stream.specs.Items.{list_at};
 ghost use Rattle.lucy_meaning.specs.Horizons.{Suffice};
 ghost use Rattle.lucy_flat.specs.Clocked.{AreClocked};
 ghost use Rattle.lucy_results.specs.Streams.{param_words};
-ghost use Rattle.lucy_front.specs.declared.options.Options.{Options as Clocking};
-ghost use Rattle.lucy_front.specs.Accepting.{IsAccepted};
+ghost use Rattle.lucy_program.specs.declared.options.Options.{Options as Clocking};
+ghost use Rattle.lucy_program.specs.Accepting.{IsAccepted};
 ghost use Rattle.lucy_bench_nets.specs.Ready.{IsReady};
 
 use lucy_clock::NodeClock;
 use lucy_core::Core;
-use lucy_front::{Accepted, accepted_programs_are_clocked};
+use lucy_program::{Accepted, accepted_programs_are_clocked};
 use lucy_host::{Inputs, Ops};
 use lucy_net::Net;
 use lucy_place::Placed;

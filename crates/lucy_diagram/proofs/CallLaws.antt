@@ -11,9 +11,9 @@ use Rattle.lucy_place.specs.Proper.{IsProperCall, IsProperNode}
 use Rattle.lucy_types.proofs.ListLaws.{taken, at_one_within}
 use Rattle.lucy_clock.specs.declared.node_clock.NodeClock.{NodeClock}
 use Rattle.lucy_clock.specs.Clocks.{call_clock}
-use Rattle.lucy_front.specs.declared.accepted.Accepted.{Accepted}
-use Rattle.lucy_front.specs.declared.options.Options.{Options}
-use Rattle.lucy_front.specs.Accepting.{IsAccepted}
+use Rattle.lucy_program.specs.declared.accepted.Accepted.{Accepted}
+use Rattle.lucy_program.specs.declared.options.Options.{Options}
+use Rattle.lucy_program.specs.Accepting.{IsAccepted}
 use Rattle.lucy_diagram.specs.declared.call.DrawnCall.{DrawnCall}
 use Rattle.lucy_diagram.specs.Diagrams.{IsDrawnCall}
 

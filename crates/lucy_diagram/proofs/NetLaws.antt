@@ -16,11 +16,11 @@ use Rattle.lucy_meaning.specs.Sizes.{size_of, all_places, own_places}
 use Rattle.lucy_meaning.proofs.Tables.{IsLocal, entry_law, total_law}
 use Rattle.lucy_flat.specs.Instances.{words_in}
 use Rattle.lucy_output.specs.declared.output.OutputSpec.{OutputSpec}
-use Rattle.lucy_front.specs.Names.{of_one}
-use Rattle.lucy_front.specs.Scheduled.{main_output}
-use Rattle.lucy_front.specs.declared.accepted.Accepted.{Accepted}
-use Rattle.lucy_front.specs.declared.options.Options.{Options}
-use Rattle.lucy_front.specs.Accepting.{IsAccepted}
+use Rattle.lucy_program.specs.Names.{of_one}
+use Rattle.lucy_program.specs.Scheduled.{main_output}
+use Rattle.lucy_program.specs.declared.accepted.Accepted.{Accepted}
+use Rattle.lucy_program.specs.declared.options.Options.{Options}
+use Rattle.lucy_program.specs.Accepting.{IsAccepted}
 use Rattle.lucy_picture.proofs.TextLaws.{piece_more, drop_suc, four}
 use Rattle.lucy_diagram.specs.Diagrams.{drawn_from, drawn_places}
 use Rattle.lucy_diagram.specs.Graphs.{head_text}

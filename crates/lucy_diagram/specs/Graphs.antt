@@ -9,8 +9,8 @@ use Rattle.lucy_place.specs.declared.placed.PlacedNode.{PlacedNode}
 use Rattle.lucy_place.specs.Standing.{at_one}
 use Rattle.lucy_clock.specs.declared.node_clock.NodeClock.{NodeClock}
 use Rattle.lucy_flat.specs.Instances.{words_in, sizes_in}
-use Rattle.lucy_front.specs.declared.accepted.Accepted.{Accepted}
-use Rattle.lucy_front.specs.Names.{of_one}
+use Rattle.lucy_program.specs.declared.accepted.Accepted.{Accepted}
+use Rattle.lucy_program.specs.Names.{of_one}
 use Rattle.lucy_diagram.specs.declared.place.Figure.{Figure}
 use Rattle.lucy_diagram.specs.declared.place.Figure.TheVariants as figure
 use Rattle.lucy_diagram.specs.declared.place.DrawnPlace.{DrawnPlace}

@@ -11,7 +11,7 @@ use Rattle.lucy_place.specs.declared.entry.PlaceKind.{PlaceKind}
 use Rattle.lucy_place.specs.declared.entry.PlaceKind.TheVariants as kind
 use Rattle.lucy_place.specs.declared.placed.PlacedNode.{PlacedNode}
 use Rattle.lucy_place.specs.Standing.{at_one, bound_of}
-use Rattle.lucy_front.specs.Names.{of_one}
+use Rattle.lucy_program.specs.Names.{of_one}
 use Rattle.lucy_picture.specs.Forms.{form_at}
 use Rattle.lucy_picture.specs.Kinds.{kind_text}
 

@@ -15,8 +15,8 @@ use Rattle.lucy_net.specs.declared.net.RingSpec.{RingSpec}
 use Rattle.lucy_net.specs.declared.net.Net.{Net}
 use Rattle.lucy_flat.specs.Instances.{words_in}
 use Rattle.lucy_output.specs.declared.output.OutputSpec.{OutputSpec}
-use Rattle.lucy_front.specs.declared.accepted.Accepted.{Accepted}
-use Rattle.lucy_front.specs.Names.{of_one}
+use Rattle.lucy_program.specs.declared.accepted.Accepted.{Accepted}
+use Rattle.lucy_program.specs.Names.{of_one}
 use Rattle.lucy_diagram.specs.declared.place.DrawnPlace.{DrawnPlace}
 use Rattle.lucy_diagram.specs.Diagrams.{drawn_places}
 use Rattle.lucy_diagram.specs.Labels.{word_label, node_name}

@@ -4,8 +4,8 @@ ghost use Rattle.std.specs.Option.{unwrap_or};
 ghost use Rattle.lucy_host.specs.Operators.{Operator};
 ghost use Rattle.lucy_tree.specs.View.{program_tree};
 ghost use Rattle.lucy_place.specs.declared.placed.PlacedNode.{PlacedNode as Node};
-ghost use Rattle.lucy_front.specs.declared.options.Options.{Options as Choices};
-ghost use Rattle.lucy_front.specs.Accepting.{IsAccepted};
+ghost use Rattle.lucy_program.specs.declared.options.Options.{Options as Choices};
+ghost use Rattle.lucy_program.specs.Accepting.{IsAccepted};
 ghost use Rattle.lucy_diagram.specs.Graphs.{PutsNode};
 ghost use Rattle.lucy_diagram.specs.Nets.{net_text};
 
@@ -21,7 +21,7 @@ mod sizes;
 mod text;
 
 use instances::put_program;
-use lucy_front::Accepted;
+use lucy_program::Accepted;
 use lucy_place::Placed;
 use lucy_tree::Program;
 use lucy_word::OutOfMemory;

@@ -1,16 +1,18 @@
 // Why a program is refused, for people.
 ghost use Rattle.std.specs.Prelude.{ℕ, ◌≡◌, ◌≢◌, ◌<◌, ◌≤◌, ◌∷◌, ◌++◌, length, slice_index, IfOk, IfSome, IfNone};
-ghost use Rattle.lucy_front.specs.declared.accepted.Accepted.{Accepted as Program};
+ghost use Rattle.lucy_program.specs.declared.accepted.Accepted.{Accepted as Program};
 ghost use Rattle.lucy_front.specs.declared.refusal.Refusal.{Refusal as Reason};
-ghost use Rattle.lucy_front.specs.Accepting.{IsAccepted, Refuses};
-ghost use Rattle.lucy_front.specs.Inferring.{AreOptions};
+ghost use Rattle.lucy_program.specs.Accepting.{IsAccepted};
+ghost use Rattle.lucy_front.specs.Refusing.{Refuses};
+ghost use Rattle.lucy_program.specs.Inferring.{AreOptions};
 ghost use Rattle.lucy_front.specs.Refusals.{IsTellable, refusal_text};
 ghost use Rattle.lucy_explain.specs.Begins.{first_line, BeginsAs};
 ghost use Rattle.lucy_explain.specs.Spans.{AreWithin};
 
 use crate::spans::within;
 use crate::tell::told;
-use lucy_front::{Options, Refusal, accept, refusal_text};
+use lucy_front::{Refusal, accept, refusal_text};
+use lucy_program::Options;
 use lucy_host::Ops;
 use lucy_tree::Span;
 use lucy_word::OutOfMemory;

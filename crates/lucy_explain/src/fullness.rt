@@ -1,14 +1,14 @@
 // Why a buffer of an accepted program is as full as it is, and how long its items wait.
 ghost use Rattle.std.specs.Prelude.{ℕ, List, ◌≡◌, ◌<◌, true, false, length, IfOk, IfSome, IfNone};
 ghost use Rattle.lucy_host.specs.Operators.{Operator};
-ghost use Rattle.lucy_front.specs.Accepting.{IsAccepted};
-ghost use Rattle.lucy_front.specs.Inferring.{AreOptions};
+ghost use Rattle.lucy_program.specs.Accepting.{IsAccepted};
+ghost use Rattle.lucy_program.specs.Inferring.{AreOptions};
 ghost use Rattle.lucy_explain.specs.Spans.{AreWithin};
 ghost use Rattle.lucy_explain.specs.Waits.{HasBuffer};
 
 use crate::spans::within;
 use crate::tell::filled;
-use lucy_front::{Accepted, Options};
+use lucy_program::{Accepted, Options};
 use lucy_place::Placed;
 use lucy_tree::Span;
 use lucy_word::OutOfMemory;

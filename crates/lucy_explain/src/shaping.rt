@@ -3,12 +3,12 @@ ghost use Rattle.std.specs.Prelude.{ℕ, List, ◌<◌, length, IfOk, IfSome};
 ghost use Rattle.lucy_host.specs.Operators.{Operator};
 ghost use Rattle.lucy_need.specs.Meeting.{AreProperNeeds};
 ghost use Rattle.lucy_shape.specs.Fitting.{IsShapeFor};
-ghost use Rattle.lucy_front.specs.declared.options.Options.{Options as Choices};
-ghost use Rattle.lucy_front.specs.Inferring.{AreOptions};
-ghost use Rattle.lucy_front.specs.Accepting.{IsAccepted};
+ghost use Rattle.lucy_program.specs.declared.options.Options.{Options as Choices};
+ghost use Rattle.lucy_program.specs.Inferring.{AreOptions};
+ghost use Rattle.lucy_program.specs.Accepting.{IsAccepted};
 
 use lucy_clock::{ClockError, needs, signatures};
-use lucy_front::{Accepted, Options, accepted_programs_are_clocked};
+use lucy_program::{Accepted, Options, accepted_programs_are_clocked};
 use lucy_need::Needs;
 use lucy_rates::rates;
 use lucy_shape::{RateFault, Shape};

@@ -1,9 +1,9 @@
 -- What a comparison hands on.
 use Rattle.std.specs.Prelude.{ℕ, List}
 use Rattle.lucy_host.specs.Operators.{Operator}
-use Rattle.lucy_front.specs.declared.accepted.Accepted.{Accepted}
-use Rattle.lucy_front.specs.declared.options.Options.{Options}
-use Rattle.lucy_front.specs.Accepting.{IsAccepted}
+use Rattle.lucy_program.specs.declared.accepted.Accepted.{Accepted}
+use Rattle.lucy_program.specs.declared.options.Options.{Options}
+use Rattle.lucy_program.specs.Accepting.{IsAccepted}
 use Rattle.lucy_freeze.specs.declared.error.FreezeError.{FreezeError}
 use Rattle.lucy_freeze.specs.Freezing.{IsUnfrozen}
 

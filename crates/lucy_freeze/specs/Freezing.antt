@@ -1,9 +1,10 @@
 -- What is answered for a text: the text of the same program with its clocks written out, or why there is none.
 use Rattle.std.specs.Prelude.{ℕ, true, List}
 use Rattle.lucy_host.specs.Operators.{Operator}
-use Rattle.lucy_front.specs.declared.accepted.Accepted.{Accepted}
-use Rattle.lucy_front.specs.declared.options.Options.{Options}
-use Rattle.lucy_front.specs.Accepting.{IsAccepted, Refuses}
+use Rattle.lucy_program.specs.declared.accepted.Accepted.{Accepted}
+use Rattle.lucy_program.specs.declared.options.Options.{Options}
+use Rattle.lucy_program.specs.Accepting.{IsAccepted}
+use Rattle.lucy_front.specs.Refusing.{Refuses}
 use Rattle.lucy_front.specs.Refusals.{IsTellable}
 use Rattle.lucy_freeze.specs.declared.error.FreezeError.{FreezeError}
 use Rattle.lucy_freeze.specs.declared.error.FreezeError.TheVariants.{Program, Text, Differs, OutOfMemory}

@@ -1,7 +1,7 @@
 // The text of a program with its clocks written out.
 ghost use Rattle.std.specs.Prelude.{◌≡◌, IfOk, IfErr, IsTrue};
-ghost use Rattle.lucy_front.specs.Accepting.{IsAccepted};
-ghost use Rattle.lucy_front.specs.Inferring.{AreOptions};
+ghost use Rattle.lucy_program.specs.Accepting.{IsAccepted};
+ghost use Rattle.lucy_program.specs.Inferring.{AreOptions};
 ghost use Rattle.lucy_front.specs.Refusals.{IsTellable};
 ghost use Rattle.lucy_freeze.specs.Frozen.{AreFrozen};
 ghost use Rattle.lucy_freeze.specs.Freezing.{all_written, IsFrozen, IsUnfrozen};
@@ -10,7 +10,8 @@ ghost use Rattle.lucy_freeze.specs.Compared.{IsNotFrozen};
 use crate::error::FreezeError;
 use crate::program::is_frozen;
 use crate::text::{Unwritten, frozen_text};
-use lucy_front::{Accepted, Options, Refusal, accept};
+use lucy_front::{Refusal, accept};
+use lucy_program::{Accepted, Options};
 use lucy_host::Ops;
 use lucy_word::{Limit, OutOfMemory};
 use std::alloc::Global;

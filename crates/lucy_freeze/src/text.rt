@@ -6,7 +6,7 @@ mod nodes;
 mod sheet;
 mod writer;
 
-use lucy_front::Accepted;
+use lucy_program::Accepted;
 use lucy_syntax::parse;
 use lucy_token::{Token, tokens};
 use lucy_word::{Limit, OutOfMemory};

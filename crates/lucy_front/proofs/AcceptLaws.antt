@@ -12,12 +12,13 @@ use Rattle.lucy_place.specs.Faults.{faults}
 use Rattle.lucy_place.specs.Placing.{TellsFirstFault}
 use Rattle.lucy_place.specs.PlacedProgram.{PlacedProgram}
 use Rattle.lucy_types.specs.declared.ty.Ty.{Ty}
-use Rattle.lucy_front.specs.declared.options.Options.{Options}
+use Rattle.lucy_program.specs.declared.options.Options.{Options}
 use Rattle.lucy_front.specs.declared.fault.NoClocks.{NoClocks}
 use Rattle.lucy_front.specs.declared.fault.NoClocks.TheVariants.{Fault, Limit, OutOfMemory}
 use Rattle.lucy_front.specs.declared.fault.Unclocked.{Unclocked}
-use Rattle.lucy_front.specs.Clocked.{IsUnclocked}
-use Rattle.lucy_front.specs.Accepting.{IsTypedText, RefusesPhases, syntax_refusal, names_refusal}
+use Rattle.lucy_front.specs.Unclocked.{IsUnclocked}
+use Rattle.lucy_program.specs.Accepting.{IsTypedText}
+use Rattle.lucy_front.specs.Refusing.{RefusesPhases, syntax_refusal, names_refusal}
 use Rattle.lucy_front.specs.Clocking.{HasNoClocks, IsFirstUnclocked, refusal_for, clock_refusal}
 
 pub syntax_refuses : (ops : List Operator) (o : Options) (text : List ℕ) (e : SyntaxError) → (e ≡ syntax.OutOfMemory) ⊎ IsRefused text e → RefusesPhases ops o text (syntax_refusal e)

@@ -29,9 +29,11 @@ use Rattle.lucy_check.specs.Passing.{OrNoMemory, PassesAll, AllWithinLimits, IsF
 use Rattle.lucy_front.specs.declared.fault.NoClocks.{NoClocks}
 use Rattle.lucy_front.specs.declared.fault.NoClocks.TheVariants.{Fault}
 use Rattle.lucy_front.specs.declared.fault.NodeFault.TheVariants.{NotWritten, Check}
-use Rattle.lucy_front.specs.declared.options.Options.{Options}
-use Rattle.lucy_front.specs.Inferring.{IsShut, node_needs}
-use Rattle.lucy_front.specs.Clocked.{AreFewNeeds, AreNodeWords, IsClocked, FailsCheck, AreItsNeeds, RefusesNode}
+use Rattle.lucy_program.specs.declared.options.Options.{Options}
+use Rattle.lucy_program.specs.Inferring.{node_needs}
+use Rattle.lucy_front.specs.Unclocked.{IsShut}
+use Rattle.lucy_program.specs.Clocked.{AreFewNeeds, AreNodeWords, IsClocked}
+use Rattle.lucy_front.specs.Unclocked.{FailsCheck, AreItsNeeds, RefusesNode}
 use Rattle.lucy_front.specs.Clocking.{AreItsClocks, IsTold, clock_fault, check_fault, HasNoClocks}
 use Rattle.lucy_front.specs.Sizes.{buffer_sizes}
 use Rattle.lucy_front.proofs.SizeLaws.{Sized, node_sized, sized_count, sized_at}
@@ -113,12 +115,6 @@ check_told o placed node needs (fault.Late need at) above n h = (h.0, h.1, tt)
 pub refused_so : {A : Type 0} (r : Result A NoClocks) (f : NoClocks) (P : NoClocks → Type 0) → IsErrAnd r (λ e. e ≡ f) → P f → IfErr r P
 refused_so (Ok a) f P is h = tt
 refused_so (Err e) f P is h = subst P (sym is) h
-
--- the node of a number
-pub there : (nodes : List PlacedNode) (node : ℕ) → node < length nodes → (n : PlacedNode) × (slice_get nodes node ≡ Some n)
-there [] node l = absurd (omega (arith, l))
-there (n ∷ nodes) zero l = (n, refl)
-there (n ∷ nodes) (suc i) l = there nodes i (omega (arith, l))
 
 -- what holds of the node of a number holds of one
 pub few_of : (above : List Signature) (n : PlacedNode) → (length (needs_of above n) ≤ most_needs) × (all_bits (needs_of above n) ≤ limit_number limit.Bits) → AreFewNeeds above n

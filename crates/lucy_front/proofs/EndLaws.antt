@@ -19,7 +19,7 @@ use Rattle.lucy_meaning.proofs.Closed.{get_take, place_spot}
 use Rattle.lucy_meaning.specs.Below.{Below}
 use Rattle.lucy_flat.proofs.AssemblyLaws.{get_left, get_last}
 use Rattle.lucy_flat.proofs.ExtentLaws.{got, sum_take, take_whole}
-use Rattle.lucy_front.specs.Names.{of_one, place_name}
+use Rattle.lucy_program.specs.Names.{of_one, place_name}
 use Rattle.lucy_front.specs.Items.{path_text, IsActorName}
 use Rattle.lucy_front.specs.Ends.{end_of, AreEndsTo, AreAllEnds}
 

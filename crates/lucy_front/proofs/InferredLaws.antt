@@ -20,9 +20,10 @@ use Rattle.lucy_inference.specs.declared.refusal.Uninferred.TheVariants as uninf
 use Rattle.lucy_inference.specs.Earliest.{FitsAndMeets}
 use Rattle.lucy_inference.specs.Inference.{IsInference}
 use Rattle.lucy_inference.specs.Refusals.{OrNoMemory, RefusesInference}
-use Rattle.lucy_front.specs.declared.options.Options.{Options}
-use Rattle.lucy_front.specs.Inferring.{IsShut, node_needs, IsOpen, IsInferred}
-use Rattle.lucy_front.specs.Clocked.{AreFewNeeds, IsClocked}
+use Rattle.lucy_program.specs.declared.options.Options.{Options}
+use Rattle.lucy_program.specs.Inferring.{node_needs, IsOpen, IsInferred}
+use Rattle.lucy_front.specs.Unclocked.{IsShut}
+use Rattle.lucy_program.specs.Clocked.{AreFewNeeds, IsClocked}
 use Rattle.lucy_front.specs.Clocking.{inference_fault, HasNoClocks}
 use Rattle.lucy_front.specs.Sizes.{buffer_sizes}
 use Rattle.lucy_front.proofs.ClockedLaws.{clocked_by}

@@ -4,7 +4,6 @@ mod InferredLaws
 pub mod EvidenceLaws
 mod LineLaws
 mod MoreClocks
-pub mod ReportLaws
 mod ItemLaws
 mod AcceptLaws
 pub mod TellableLaws
@@ -12,7 +11,6 @@ mod OneClock
 mod OneNode
 mod OneUnclocked
 pub mod OneAnswer
-mod BoundedLaws
 pub mod OneAccepted
 mod EndLaws
 mod ItemNames

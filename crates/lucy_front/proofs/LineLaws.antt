@@ -12,11 +12,11 @@ use Rattle.lucy_need.specs.declared.need.Need.{Need}
 use Rattle.lucy_solve.specs.declared.diffs.Diff.{Diff}
 use Rattle.lucy_shape.specs.declared.shape.ClockShape.{ClockShape}
 use Rattle.lucy_shape.specs.Fitting.{unused, clock_at, position_count, variable_count}
-use Rattle.lucy_front.specs.Names.{of_one}
+use Rattle.lucy_program.specs.Names.{of_one}
 use Rattle.lucy_front.specs.Needs.{clock_name, need_text}
 use Rattle.lucy_front.specs.Evidence.{walk_lines, position_names, variable_names, diff_line, cycle_lines}
 use Rattle.lucy_front.specs.Refusals.{AreBelow}
-use Rattle.lucy_front.proofs.ReportLaws.{line_more}
+use Rattle.lucy_program.proofs.ReportLaws.{line_more}
 
 -- places, each on a line of its own behind two blanks
 abbrev pub place_lines : List (List ℕ) → List ℕ

@@ -11,8 +11,8 @@ use Rattle.lucy_clock.specs.declared.node_clock.NodeClock.{NodeClock}
 use Rattle.lucy_clock.specs.Clocks.{AreSignatures}
 use Rattle.lucy_clock.specs.NodeClocks.{ports, signatures}
 use Rattle.lucy_clock.proofs.CallerLaws.{signatures_fit, signatures_join}
-use Rattle.lucy_front.specs.declared.options.Options.{Options}
-use Rattle.lucy_front.specs.Clocked.{IsClocked, AreClocksOf}
+use Rattle.lucy_program.specs.declared.options.Options.{Options}
+use Rattle.lucy_program.specs.Clocked.{IsClocked, AreClocksOf}
 
 -- the signatures are those of the nodes
 pub signatures_are : {o : Options} (nodes : List PlacedNode) (clocks : List NodeClock) → AreProper nodes → AreClocksOf o nodes clocks → AreSignatures nodes (signatures nodes clocks)

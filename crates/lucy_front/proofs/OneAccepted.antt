@@ -11,14 +11,17 @@ use Rattle.lucy_cause.specs.declared.error.CauseFault.TheVariants as cause
 use Rattle.lucy_cause.specs.Schedules.{Timetable, IsScheduleOf, RefusesTimetable as RefusesSchedule}
 use Rattle.lucy_flat.proofs.OneNet.{one_net, one_limit, never_both as net_kept}
 use Rattle.lucy_cause.proofs.OneAnswer.{never_both as schedule_kept, one_refusal as one_fault}
-use Rattle.lucy_front.specs.declared.options.Options.{Options}
-use Rattle.lucy_front.specs.declared.accepted.Accepted.{Accepted}
+use Rattle.lucy_program.specs.declared.options.Options.{Options}
+use Rattle.lucy_program.specs.declared.accepted.Accepted.{Accepted}
 use Rattle.lucy_front.specs.declared.refusal.Refusal.{Refusal}
 use Rattle.lucy_front.specs.declared.refusal.Refusal.TheVariants.{Syntax, Names, Types, Node, Cause, Limit as LimitPassed, OutOfMemory}
-use Rattle.lucy_front.specs.Accepting.{IsAccepted, Refuses}
-use Rattle.lucy_front.specs.Scheduled.{IsNetOf, RefusesNet, main_inputs, main_outputs}
+use Rattle.lucy_program.specs.Accepting.{IsAccepted}
+use Rattle.lucy_front.specs.Refusing.{Refuses}
+use Rattle.lucy_program.specs.Scheduled.{IsNetOf, main_inputs, main_outputs}
+use Rattle.lucy_front.specs.Unscheduled.{RefusesNet}
 use Rattle.lucy_front.specs.OneAnswer.{AreAlike}
-use Rattle.lucy_front.proofs.OneAnswer.{text_proper, one_program, never_both, one_refusal}
+use Rattle.lucy_program.proofs.AcceptedLaws.{text_proper}
+use Rattle.lucy_front.proofs.OneAnswer.{one_program, never_both, one_refusal}
 
 module _ (nodes : List PlacedNode) (clocks : List NodeClock) (proper : AreProper nodes) where
   net_one : (net other : Net) → IsNetOf nodes clocks net → IsNetOf nodes clocks other → net ≡ other

@@ -23,17 +23,19 @@ use Rattle.lucy_types.specs.declared.ty.Ty.{Ty}
 use Rattle.lucy_types.specs.Programs.{IsTyped, IsClash}
 use Rattle.lucy_types.proofs.ProgramLaws.{typed_unique, clash_untyped, clash_unique}
 use Rattle.lucy_clock.specs.declared.node_clock.NodeClock.{NodeClock}
-use Rattle.lucy_front.specs.declared.options.Options.{Options}
+use Rattle.lucy_program.specs.declared.options.Options.{Options}
 use Rattle.lucy_front.specs.declared.fault.NodeFault.{NodeFault}
 use Rattle.lucy_front.specs.declared.fault.NodeFault.TheVariants.{NotWritten, Rates, Clocks, Check}
 use Rattle.lucy_front.specs.declared.fault.NoClocks.{NoClocks}
 use Rattle.lucy_front.specs.declared.fault.NoClocks.TheVariants as why
 use Rattle.lucy_front.specs.declared.refusal.Refusal.{Refusal}
 use Rattle.lucy_front.specs.declared.refusal.Refusal.TheVariants.{Syntax, Names, Types, Node, Cause, Limit as LimitPassed, OutOfMemory}
-use Rattle.lucy_front.specs.Clocked.{AreClocksOf}
-use Rattle.lucy_front.specs.Accepting.{IsPlacedText, IsTypedText, IsClockedText, RefusesSyntax, RefusesText, RefusesPhases, syntax_refusal, names_refusal}
+use Rattle.lucy_program.specs.Clocked.{AreClocksOf}
+use Rattle.lucy_program.specs.Accepting.{IsPlacedText, IsTypedText, IsClockedText}
+use Rattle.lucy_front.specs.Refusing.{RefusesSyntax, RefusesText, RefusesPhases, syntax_refusal, names_refusal}
 use Rattle.lucy_front.specs.Clocking.{refusal_for}
 use Rattle.lucy_front.specs.OneAnswer.{AreFaultsAlike, AreAlike, HaveOneProgram, AreNotRefused, HaveOneRefusal}
+use Rattle.lucy_program.proofs.AcceptedLaws.{text_proper}
 use Rattle.lucy_front.proofs.OneNode.{AreCausesAlike}
 use Rattle.lucy_front.proofs.OneUnclocked.{StandsUnclocked, clocks_one, clocked_all, unclocked_one}
 
@@ -160,16 +162,9 @@ module _ (ops : List Operator) (o : Options) (text : List ℕ) where
   phase (Cause net texts instant items) h some = absurd h
   phase OutOfMemory h some = absurd (some refl)
 
-  -- the places of a text are one program, and its nodes are proper
+  -- the places of a text are one program
   pub text_one : (v w : PlacedProgram) → IsPlacedText ops text v → IsPlacedText ops text w → v ≡ w
   text_one v w x y = placed_one ops y.tree v w (subst (λ t. IsPlaced ops t v) (one_tree text x.tree y.tree x.read y.read) x.is_placed) y.is_placed
-
-  pub text_proper : (v : PlacedProgram) → IsPlacedText ops text v → AreProper v.nodes
-  text_proper v x = subst AreProper (sym x.is_placed.nodes) (nodes_proper ops x.tree (shaped text x.tree x.read) x.is_placed.good)
-
-  -- and name operators of the host alone
-  pub text_operators : (v : PlacedProgram) → IsPlacedText ops text v → HaveOperators (length ops) v.nodes
-  text_operators v x = subst (HaveOperators (length ops)) (sym x.is_placed.nodes) (operators_below ops x.tree x.is_placed.good)
 
   -- no phase before refuses a text that has places
   placed_read : (v : PlacedProgram) (r : Refusal) → IsPlacedText ops text v → OfSyntax text r → ⊥
@@ -198,7 +193,7 @@ module _ (ops : List Operator) (o : Options) (text : List ℕ) where
   clocked_kept v tables clocks r x (inr (inr (inl a))) some = typed_kept v tables r x.program a
   clocked_kept v tables clocks r x (inr (inr (inr a))) some =
       let same : a.placed ≡ v = text_one a.placed v a.program.program x.program.program in
-      clocked_all v v.nodes clocks a.node a.reason (text_proper v x.program.program) (node_told r some a) x.clocks (subst (λ w. StandsUnclocked o w w.nodes a.node a.reason) same a.unclocked)
+      clocked_all v v.nodes clocks a.node a.reason (text_proper ops o text v x.program.program) (node_told r some a) x.clocks (subst (λ w. StandsUnclocked o w w.nodes a.node a.reason) same a.unclocked)
 
   -- refusals of one phase are alike
   types_alike : (r s : Refusal) → OfTypes ops text r → OfTypes ops text s → AreAlike r s
@@ -211,7 +206,7 @@ module _ (ops : List Operator) (o : Options) (text : List ℕ) where
   nodes_alike : (r s : Refusal) → (r ≡ OutOfMemory → ⊥) → (s ≡ OutOfMemory → ⊥) → OfNode ops o text r → OfNode ops o text s → AreAlike r s
   nodes_alike r s some other a b =
       let same : a.placed ≡ b.placed = text_one a.placed b.placed a.program.program b.program.program in
-      let one = unclocked_one b.placed (text_proper b.placed b.program.program) a.node b.node a.reason b.reason (node_told r some a) (node_told s other b)
+      let one = unclocked_one b.placed (text_proper ops o text b.placed b.program.program) a.node b.node a.reason b.reason (node_told r some a) (node_told s other b)
       (subst (λ w. StandsUnclocked o w w.nodes a.node a.reason) same a.unclocked) b.unclocked in
       let here : r ≡ refusal_for b.placed b.node a.reason = a.is ∙ ap (λ w. refusal_for w a.node a.reason) same ∙ ap (λ k. refusal_for b.placed k a.reason) one.0 in
       subst (λ x. AreAlike x s) (sym here) (subst (AreAlike (refusal_for b.placed b.node a.reason)) (sym b.is) (reasons_alike b.placed b.node a.reason b.reason one.1))

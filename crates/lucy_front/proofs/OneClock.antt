@@ -19,9 +19,9 @@ use Rattle.lucy_clock.specs.declared.node_clock.NodeClock.{NodeClock}
 use Rattle.lucy_clock.specs.HandedDown.{AreWordsOf}
 use Rattle.lucy_clock.proofs.HandLaws.{words_agree}
 use Rattle.lucy_clock.specs.NodeClocks.{AreSizes}
-use Rattle.lucy_front.specs.declared.options.Options.{Options}
-use Rattle.lucy_front.specs.Inferring.{node_needs}
-use Rattle.lucy_front.specs.Clocked.{IsClocked}
+use Rattle.lucy_program.specs.declared.options.Options.{Options}
+use Rattle.lucy_program.specs.Inferring.{node_needs}
+use Rattle.lucy_program.specs.Clocked.{IsClocked}
 use Rattle.lucy_front.specs.Clocking.{AreItsClocks}
 use Rattle.lucy_inference.proofs.OneAnswer.{inference_one}
 

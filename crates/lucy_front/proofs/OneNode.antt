@@ -24,12 +24,14 @@ use Rattle.lucy_front.specs.declared.fault.NodeFault.{NodeFault}
 use Rattle.lucy_front.specs.declared.fault.NodeFault.TheVariants.{NotWritten, Rates, Clocks, Check}
 use Rattle.lucy_front.specs.declared.fault.NoClocks.{NoClocks}
 use Rattle.lucy_front.specs.declared.fault.NoClocks.TheVariants.{Fault, Limit, OutOfMemory}
-use Rattle.lucy_front.specs.declared.options.Options.{Options}
+use Rattle.lucy_program.specs.declared.options.Options.{Options}
 use Rattle.lucy_inference.specs.declared.refusal.Uninferred.{Uninferred}
 use Rattle.lucy_inference.specs.declared.refusal.Uninferred.TheVariants as uninferred
 use Rattle.lucy_inference.specs.Refusals.{AreAlike as AreReasonsAlike}
-use Rattle.lucy_front.specs.Inferring.{IsShut, node_needs, IsUninferred}
-use Rattle.lucy_front.specs.Clocked.{AreFewNeeds, AreNodeWords, IsClocked, FailsCheck, AreItsNeeds, PassesNodeLimit, RefusesNode}
+use Rattle.lucy_program.specs.Inferring.{node_needs}
+use Rattle.lucy_front.specs.Unclocked.{IsShut, IsUninferred}
+use Rattle.lucy_program.specs.Clocked.{AreFewNeeds, AreNodeWords, IsClocked}
+use Rattle.lucy_front.specs.Unclocked.{FailsCheck, AreItsNeeds, PassesNodeLimit, RefusesNode}
 use Rattle.lucy_front.specs.Clocking.{AreItsClocks, IsTold, HasNoClocks}
 use Rattle.lucy_front.specs.OneAnswer.{AreFaultsAlike}
 use Rattle.lucy_front.proofs.ClockedLaws.{check_told}

@@ -12,8 +12,9 @@ use Rattle.lucy_clock.specs.declared.node_clock.NodeClock.{NodeClock}
 use Rattle.lucy_front.specs.declared.fault.NoClocks.{NoClocks}
 use Rattle.lucy_front.specs.declared.fault.NoClocks.TheVariants.{OutOfMemory}
 use Rattle.lucy_clock.specs.NodeClocks.{signatures}
-use Rattle.lucy_front.specs.declared.options.Options.{Options}
-use Rattle.lucy_front.specs.Clocked.{IsClocked, AreClocksOf, IsUnclocked}
+use Rattle.lucy_program.specs.declared.options.Options.{Options}
+use Rattle.lucy_program.specs.Clocked.{IsClocked, AreClocksOf}
+use Rattle.lucy_front.specs.Unclocked.{IsUnclocked}
 use Rattle.lucy_front.specs.Clocking.{HasNoClocks}
 use Rattle.lucy_front.proofs.MoreClocks.{signatures_are, proper_take}
 use Rattle.lucy_front.proofs.OneClock.{clock_one}

@@ -8,18 +8,10 @@ use Rattle.lucy_flat.specs.Refusals.{RefusesFlat}
 use Rattle.lucy_flat.specs.declared.error.FlatError.{FlatError}
 use Rattle.lucy_flat.specs.declared.error.FlatError.TheVariants as flat
 use Rattle.lucy_net.specs.declared.net.Net.{Net}
-use Rattle.lucy_front.specs.declared.options.Options.{Options}
-use Rattle.lucy_front.specs.Clocked.{AreClocksOf}
-use Rattle.lucy_front.specs.Scheduled.{IsNetOf, RefusesNet, flat_refusal}
-
--- the clocks of nodes are clocks by which a program is flattened
-pub clocked : {o : Options} (nodes : List PlacedNode) (clocks : List NodeClock) → AreClocksOf o nodes clocks → AreClocked nodes clocks
-clocked nodes clocks are = record {
-  count = are.all;
-  each = λ i n clock at of.
-      let is = are.each i n clock at of in
-      record { count = is.count; well = is.well; sizes = is.sizes };
-}
+use Rattle.lucy_program.specs.declared.options.Options.{Options}
+use Rattle.lucy_program.specs.Clocked.{AreClocksOf}
+use Rattle.lucy_program.specs.Scheduled.{IsNetOf}
+use Rattle.lucy_front.specs.Unscheduled.{RefusesNet, flat_refusal}
 
 pub flat_refuses : (nodes : List PlacedNode) (given clocks : List NodeClock) (e : FlatError) → given ≡ clocks → RefusesFlat nodes given e → RefusesNet nodes clocks (flat_refusal e)
 flat_refuses nodes given clocks (flat.Limit l) same h = inl (subst (λ cs. RefusesFlat nodes cs (flat.Limit l)) same h)

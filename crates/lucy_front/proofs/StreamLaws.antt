@@ -10,11 +10,11 @@ use Rattle.lucy_types.specs.Programs.{IsTyped}
 use Rattle.lucy_clock.specs.declared.node_clock.NodeClock.{NodeClock}
 use Rattle.lucy_meaning.specs.Spots.{main_of}
 use Rattle.lucy_flat.specs.Instances.{words_in}
-use Rattle.lucy_front.specs.declared.options.Options.{Options}
-use Rattle.lucy_front.specs.Clocked.{AreClocksOf}
-use Rattle.lucy_front.specs.Names.{of_one, param_places}
-use Rattle.lucy_front.specs.Scheduled.{main_input, main_output, main_inputs, main_outputs}
-use Rattle.lucy_front.proofs.ReportLaws.{table_found}
+use Rattle.lucy_program.specs.declared.options.Options.{Options}
+use Rattle.lucy_program.specs.Clocked.{AreClocksOf}
+use Rattle.lucy_program.specs.Names.{of_one, param_places}
+use Rattle.lucy_program.specs.Scheduled.{main_input, main_output, main_inputs, main_outputs}
+use Rattle.lucy_program.proofs.ReportLaws.{table_found}
 
 -- the parameters are places of their node
 params_from : (n : PlacedNode) (first count : ℕ) → 1 ≤ first → first + count ≤ length n.places + 1 → ArePlaces n (range_with_len first count)

@@ -12,29 +12,23 @@ use Rattle.lucy_need.specs.declared.need.Needs.{Needs}
 use Rattle.lucy_need.specs.Meeting.{Assignment, assigned}
 use Rattle.lucy_check.specs.declared.fault.CheckFault.{CheckFault}
 use Rattle.lucy_check.specs.Passing.{PassesTermLimit, RefusesNeed, IsFirstRefusal}
-use Rattle.lucy_front.specs.declared.options.Options.{Options}
-use Rattle.lucy_front.specs.declared.accepted.Accepted.{Accepted}
+use Rattle.lucy_program.specs.declared.options.Options.{Options}
+use Rattle.lucy_program.specs.declared.accepted.Accepted.{Accepted}
 use Rattle.lucy_front.specs.declared.refusal.Refusal.{Refusal}
 use Rattle.lucy_front.specs.declared.refusal.Refusal.TheVariants.{Syntax, Names, Types, Node, Cause, Limit as LimitPassed, OutOfMemory}
 use Rattle.lucy_front.specs.declared.fault.NodeFault.{NodeFault}
 use Rattle.lucy_front.specs.declared.fault.NodeFault.TheVariants.{NotWritten, Rates, Clocks, Check}
 use Rattle.lucy_clock.specs.declared.node_clock.NodeClock.{NodeClock}
 use Rattle.lucy_clock.specs.NodeClocks.{signatures}
-use Rattle.lucy_front.specs.Scheduled.{RefusesNet}
-use Rattle.lucy_front.specs.Clocked.{RefusesNode}
+use Rattle.lucy_front.specs.Unscheduled.{RefusesNet}
+use Rattle.lucy_front.specs.Unclocked.{RefusesNode}
 use Rattle.lucy_front.specs.Clocking.{IsTold}
-use Rattle.lucy_front.specs.Accepting.{IsAccepted, RefusesPhases, Refuses}
-use Rattle.lucy_front.specs.Report.{IsReportable}
+use Rattle.lucy_program.specs.Accepting.{IsAccepted}
+use Rattle.lucy_front.specs.Refusing.{RefusesPhases, Refuses}
+use Rattle.lucy_program.specs.Report.{IsReportable}
 use Rattle.lucy_front.specs.Refusals.{NamesNeed, AreBelow, IsShown, IsTellable}
 use Rattle.lucy_front.proofs.ClockedLaws.{check_told}
 use Rattle.lucy_front.proofs.EvidenceLaws.{walk_there, cycle_there}
-
-pub reportable : (ops : List Operator) (o : Options) (text : List ℕ) (a : Accepted) → IsAccepted ops o text a → IsReportable a.placed.nodes a.typed a.clocks.items
-reportable ops o text a is = record {
-  typed = is.clocked.program.typed;
-  all = is.clocked.clocks.all;
-  sizes = λ i n c at of. (is.clocked.clocks.each i n c at of).sizes.count;
-}
 
 -- a limit isn't told as a fault of the checker
 no_limit : (w : Assignment) (s t : Term) (number : ℕ) (e : CheckFault) → PassesTermLimit w s t number e → IsTold e → ⊥

@@ -12,15 +12,16 @@ use Rattle.lucy_check.specs.declared.fault.CheckFault.{CheckFault}
 use Rattle.lucy_check.specs.declared.fault.CheckFault.TheVariants as fault
 use Rattle.lucy_inference.specs.declared.refusal.Uninferred.{Uninferred}
 use Rattle.lucy_inference.specs.declared.refusal.Uninferred.TheVariants as uninferred
-use Rattle.lucy_front.specs.declared.options.Options.{Options}
+use Rattle.lucy_program.specs.declared.options.Options.{Options}
 use Rattle.lucy_front.specs.declared.fault.NodeFault.TheVariants.{Rates, Clocks, Check}
 use Rattle.lucy_front.specs.declared.fault.NoClocks.{NoClocks}
 use Rattle.lucy_front.specs.declared.fault.NoClocks.TheVariants.{Fault, Limit, OutOfMemory}
 use Rattle.lucy_front.specs.declared.fault.Unclocked.{Unclocked}
 use Rattle.lucy_front.specs.declared.refusal.Refusal.{Refusal}
 use Rattle.lucy_front.specs.declared.refusal.Refusal.TheVariants as refusal
-use Rattle.lucy_front.specs.Inferring.{IsInferred}
-use Rattle.lucy_front.specs.Clocked.{AreNodeWords, PassesNodeLimit, RefusesNode, IsUnclocked}
+use Rattle.lucy_program.specs.Inferring.{IsInferred}
+use Rattle.lucy_program.specs.Clocked.{AreNodeWords}
+use Rattle.lucy_front.specs.Unclocked.{PassesNodeLimit, RefusesNode, IsUnclocked}
 
 -- where a node has no needs, or no words, for this reason
 abbrev pub clock_fault : ClockError → NoClocks

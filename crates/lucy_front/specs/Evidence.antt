@@ -9,7 +9,7 @@ use Rattle.lucy_need.specs.declared.need.Need.{Need}
 use Rattle.lucy_solve.specs.declared.diffs.Diff.{Diff}
 use Rattle.lucy_shape.specs.declared.shape.ClockShape.{ClockShape}
 use Rattle.lucy_shape.specs.Fitting.{position_count}
-use Rattle.lucy_front.specs.Names.{of_one}
+use Rattle.lucy_program.specs.Names.{of_one}
 use Rattle.lucy_front.specs.Needs.{clock_name, need_text}
 
 -- the needs of these numbers, each on a line of its own behind two blanks

@@ -5,7 +5,7 @@ use Rattle.lucy_place.specs.declared.placed.PlacedNode.{PlacedNode}
 use Rattle.lucy_meaning.specs.Spots.{Spot, IsSpot, node_at}
 use Rattle.lucy_meaning.specs.Numbers.{number}
 use Rattle.lucy_cause.specs.declared.error.Item.{Item}
-use Rattle.lucy_front.specs.Names.{of_one, place_name}
+use Rattle.lucy_program.specs.Names.{of_one, place_name}
 
 -- `callA.callB.` for the calls that lead from main to an instance
 abbrev pub path_text : List ℕ → List ℕ

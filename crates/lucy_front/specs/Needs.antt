@@ -6,7 +6,7 @@ use Rattle.lucy_place.specs.declared.placed.PlacedNode.{PlacedNode}
 use Rattle.lucy_need.specs.declared.need.Term.{Term}
 use Rattle.lucy_need.specs.declared.need.Need.{Need}
 use Rattle.lucy_need.specs.declared.need.Need.TheVariants.{Equal, Adapt}
-use Rattle.lucy_front.specs.Names.{place_name}
+use Rattle.lucy_program.specs.Names.{place_name}
 
 -- a clock: `base`, a place, or `callN` for the base of call N
 abbrev pub clock_name : PlacedNode → ℕ → List ℕ

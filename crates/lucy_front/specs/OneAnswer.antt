@@ -4,13 +4,14 @@ use Rattle.lucy_host.specs.Operators.{Operator}
 use Rattle.lucy_place.specs.PlacedProgram.{PlacedProgram}
 use Rattle.lucy_types.specs.declared.ty.Ty.{Ty}
 use Rattle.lucy_clock.specs.declared.node_clock.NodeClock.{NodeClock}
-use Rattle.lucy_front.specs.declared.options.Options.{Options}
+use Rattle.lucy_program.specs.declared.options.Options.{Options}
 use Rattle.lucy_front.specs.declared.refusal.Refusal.{Refusal}
 use Rattle.lucy_front.specs.declared.refusal.Refusal.TheVariants.{Types, Node, Cause, OutOfMemory}
 use Rattle.lucy_front.specs.declared.fault.NodeFault.{NodeFault}
 use Rattle.lucy_front.specs.declared.fault.NodeFault.TheVariants.{Rates, Clocks}
-use Rattle.lucy_front.specs.declared.accepted.Accepted.{Accepted}
-use Rattle.lucy_front.specs.Accepting.{IsClockedText, RefusesPhases, IsAccepted, Refuses}
+use Rattle.lucy_program.specs.declared.accepted.Accepted.{Accepted}
+use Rattle.lucy_program.specs.Accepting.{IsClockedText, IsAccepted}
+use Rattle.lucy_front.specs.Refusing.{RefusesPhases, Refuses}
 
 -- the faults tell the same of a node: they are equal, but that other inequalities may show that there are no clocks
 abbrev pub AreFaultsAlike : NodeFault → NodeFault → Type 0

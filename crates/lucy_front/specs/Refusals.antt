@@ -18,7 +18,7 @@ use Rattle.lucy_front.specs.declared.refusal.Refusal.TheVariants.{Syntax, Names,
 use Rattle.lucy_front.specs.declared.fault.NodeFault.{NodeFault}
 use Rattle.lucy_front.specs.declared.fault.NodeFault.TheVariants.{NotWritten, Rates, Clocks, Check}
 use Rattle.lucy_shape.specs.Fitting.{variable_count}
-use Rattle.lucy_front.specs.Names.{of_one, place_names}
+use Rattle.lucy_program.specs.Names.{of_one, place_names}
 use Rattle.lucy_front.specs.Needs.{need_text}
 use Rattle.lucy_front.specs.Evidence.{walk_lines, variable_names, cycle_lines}
 

@@ -1,22 +1,23 @@
 // Acceptance, phase by phase.
 ghost use Rattle.std.specs.Prelude.{◌≡◌, ◌⊎◌, ◌<◌, length, IfOk, IfErr, MatchResult};
-ghost use Rattle.lucy_front.specs.declared.accepted.Accepted.{Accepted as Program};
+ghost use Rattle.lucy_program.specs.declared.accepted.Accepted.{Accepted as Program};
 ghost use Rattle.lucy_front.specs.declared.refusal.Refusal.{Refusal as Reason};
 ghost use Rattle.lucy_front.specs.declared.refusal.Refusal.TheVariants.{OutOfMemory};
-ghost use Rattle.lucy_front.specs.Accepting.{IsClockedText, IsAccepted, RefusesPhases, Refuses};
-ghost use Rattle.lucy_front.specs.Inferring.{AreOptions};
+ghost use Rattle.lucy_program.specs.Accepting.{IsClockedText, IsAccepted};
+ghost use Rattle.lucy_front.specs.Refusing.{RefusesPhases, Refuses};
+ghost use Rattle.lucy_program.specs.Inferring.{AreOptions};
 ghost use Rattle.lucy_front.specs.OneAnswer.{AreAlike};
 ghost use Rattle.lucy_front.specs.Refusals.{IsTellable};
 ghost use Rattle.lucy_front.specs.Clocking.{clock_refusal};
 
-use crate::accepted::{Accepted, Clocked};
+use crate::clocked::Clocked;
 use crate::clocking::node_clocks;
 use crate::fault::{NoClocks, Unclocked};
-use crate::options::Options;
 use crate::refusal::Refusal;
 use crate::scheduling::scheduled;
 use lucy_host::Ops;
 use lucy_place::{Placed, place};
+use lucy_program::{Accepted, Options};
 use lucy_syntax::parse;
 use lucy_types::{TypeError, types};
 use std::alloc::Global;

@@ -6,18 +6,18 @@ ghost use Rattle.lucy_place.specs.Proper.{AreProper};
 ghost use Rattle.lucy_clock.specs.Clocks.{AreSignatures};
 ghost use Rattle.lucy_clock.specs.NodeClocks.{signatures};
 ghost use Rattle.lucy_place.specs.WrittenNodes.{IsWritten};
-ghost use Rattle.lucy_front.specs.declared.options.Options.{Options as Choices};
-ghost use Rattle.lucy_front.specs.Inferring.{AreOptions};
-ghost use Rattle.lucy_front.specs.Clocked.{AreClocksOf, IsClocked};
+ghost use Rattle.lucy_program.specs.declared.options.Options.{Options as Choices};
+ghost use Rattle.lucy_program.specs.Inferring.{AreOptions};
+ghost use Rattle.lucy_program.specs.Clocked.{AreClocksOf, IsClocked};
 ghost use Rattle.lucy_front.specs.Sizes.{need_count, buffer_sizes};
 ghost use Rattle.lucy_front.specs.Clocking.{HasNoClocks, IsFirstUnclocked};
 
 use crate::fault::{NoClocks, NodeFault, Unclocked, check_fault, inference_fault};
-use crate::options::Options;
 use lucy_check::check;
 use lucy_clock::{NodeClock, Numbers64, Signature, Words, needs, ports, written};
 use lucy_inference::infer;
 use lucy_place::{Placed, PlacedNode};
+use lucy_program::Options;
 use lucy_word::{OutOfMemory, Word};
 use std::alloc::{AllocError, Global};
 

@@ -9,12 +9,11 @@ ghost use Rattle.lucy_front.specs.Needs.{clock_name};
 ghost use Rattle.lucy_front.specs.Refusals.{AreBelow};
 ghost use Rattle.lucy_front.specs.Evidence as spec;
 
-use crate::accepted::Accepted;
 use crate::clocking::push;
-use crate::names::{bytes, number};
 use crate::terms::{clock_name, need_text};
 use lucy_need::Need;
 use lucy_place::PlacedNode;
+use lucy_program::{Accepted, bytes, number};
 use lucy_shape::{ClockShape, Shape};
 use lucy_solve::{Diff, Diffs};
 use lucy_text::Text;

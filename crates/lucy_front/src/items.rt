@@ -10,11 +10,11 @@ ghost use Rattle.lucy_front.specs.Items.{path_text, IsActorName, AreNamesOf};
 ghost use Rattle.lucy_front.specs.Ends.{AreEndsTo, AreAllEnds};
 
 use crate::clocking::push;
-use crate::names::{bytes, place_name};
 use lucy_cause::Item;
 use lucy_clock::Numbers64;
 use lucy_meaning::sizes;
 use lucy_place::Placed;
+use lucy_program::{bytes, place_name};
 use lucy_text::Text;
 use lucy_word::OutOfMemory;
 use std::alloc::Global;

@@ -1,8 +1,8 @@
 // Why a program text is refused.
 ghost use Rattle.std.specs.Prelude.{◌≡◌};
 ghost use Rattle.lucy_front.specs.declared.refusal.Refusal.TheVariants.{OutOfMemory as NoMemory};
-ghost use Rattle.lucy_front.specs.Scheduled.{flat_refusal};
-ghost use Rattle.lucy_front.specs.Accepting.{syntax_refusal, names_refusal};
+ghost use Rattle.lucy_front.specs.Unscheduled.{flat_refusal};
+ghost use Rattle.lucy_front.specs.Refusing.{syntax_refusal, names_refusal};
 
 use crate::fault::NodeFault;
 use lucy_cause::Item;

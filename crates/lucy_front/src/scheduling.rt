@@ -3,11 +3,12 @@ ghost use Rattle.std.specs.Prelude.{ℕ, List, IfOk, IfErr};
 ghost use Rattle.lucy_host.specs.Operators.{Operator};
 ghost use Rattle.lucy_clock.specs.declared.node_clock.NodeClock.{NodeClock as Clock};
 ghost use Rattle.lucy_cause.specs.Schedules.{RefusesTimetable as RefusesSchedule};
-ghost use Rattle.lucy_front.specs.declared.options.Options.{Options as Choices};
-ghost use Rattle.lucy_front.specs.Scheduled.{IsNetOf, RefusesNet};
-ghost use Rattle.lucy_front.specs.Accepting.{IsClockedText, IsAccepted};
+ghost use Rattle.lucy_program.specs.declared.options.Options.{Options as Choices};
+ghost use Rattle.lucy_program.specs.Scheduled.{IsNetOf};
+ghost use Rattle.lucy_front.specs.Unscheduled.{RefusesNet};
+ghost use Rattle.lucy_program.specs.Accepting.{IsClockedText, IsAccepted};
 
-use crate::accepted::{Accepted, Clocked};
+use crate::clocked::Clocked;
 use crate::items::item_names;
 use crate::refusal::Refusal;
 use crate::streams::{inputs, outputs};
@@ -15,6 +16,7 @@ use lucy_cause::{CauseFault, schedule_of};
 use lucy_flat::flatten;
 use lucy_net::Net;
 use lucy_place::Placed;
+use lucy_program::Accepted;
 use lucy_word::OutOfMemory;
 use std::alloc::Global;
 

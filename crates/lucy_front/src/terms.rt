@@ -3,9 +3,9 @@ ghost use Rattle.std.specs.Prelude.{◌≡◌, ◌++◌, IfOk, OnOk};
 ghost use Rattle.lucy_word.specs.Spelling.{text_of};
 ghost use Rattle.lucy_front.specs.Needs as spec;
 
-use crate::names::{bytes, place_name};
 use lucy_need::{Need, Term};
 use lucy_place::PlacedNode;
+use lucy_program::{bytes, place_name};
 use lucy_text::Text;
 use lucy_word::{OutOfMemory, Word};
 use std::alloc::Global;

@@ -2,18 +2,18 @@
 ghost use Rattle.std.specs.Prelude.{◌≡◌, ◌<◌, ◌++◌, IfOk, OnOk, codes, flat_map, length};
 ghost use Rattle.std.specs.Fmt.{decimal};
 ghost use Rattle.lucy_front.specs.declared.fault.NodeFault.TheVariants.{NotWritten};
-ghost use Rattle.lucy_front.specs.Names.{place_names};
+ghost use Rattle.lucy_program.specs.Names.{place_names};
 ghost use Rattle.lucy_front.specs.Refusals as spec;
 
 use crate::evidence::{unclocked_lines, unequal_lines};
 use crate::fault::NodeFault;
-use crate::names::{bytes, number, place_names};
 use crate::refusal::Refusal;
 use crate::terms::need_text;
 use lucy_cause::Item;
 use lucy_check::CheckFault;
 use lucy_need::Need;
 use lucy_place::{NameError, PlacedNode};
+use lucy_program::{bytes, number, place_names};
 use lucy_syntax::SyntaxError;
 use lucy_text::Text;
 use lucy_tree::Span;

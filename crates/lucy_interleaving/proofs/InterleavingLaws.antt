@@ -51,9 +51,9 @@ use Rattle.lucy_flat.proofs.RingWords.{buffer_or}
 use Rattle.lucy_flat.proofs.SizeOfNet.{would_be, output_ring_empty}
 use Rattle.lucy_results.specs.Streams.{param_words}
 use Rattle.lucy_results.proofs.NetLaws.{runnable, turns_are}
-use Rattle.lucy_front.specs.declared.accepted.Accepted.{Accepted}
-use Rattle.lucy_front.specs.declared.options.Options.{Options}
-use Rattle.lucy_front.specs.Accepting.{IsAccepted}
+use Rattle.lucy_program.specs.declared.accepted.Accepted.{Accepted}
+use Rattle.lucy_program.specs.declared.options.Options.{Options}
+use Rattle.lucy_program.specs.Accepting.{IsAccepted}
 use Rattle.lucy_interleaving.specs.Interleavings.{machine_for, IsBuffer, reported_size, stream_for, IsSafe, IsFedText}
 
 -- what stands at a place of a list

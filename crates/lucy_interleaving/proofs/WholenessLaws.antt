@@ -20,11 +20,11 @@ use Rattle.lucy_flat.specs.Instances.{words_in}
 use Rattle.lucy_cause.specs.Schedules.{events_at}
 use Rattle.lucy_results.specs.Streams.{main_word, result_words}
 use Rattle.lucy_results.specs.Running.{HasSchedule}
-use Rattle.lucy_front.specs.declared.accepted.Accepted.{Accepted}
-use Rattle.lucy_front.specs.declared.options.Options.{Options}
-use Rattle.lucy_front.specs.Names.{of_one}
-use Rattle.lucy_front.specs.Scheduled.{main_output, main_outputs}
-use Rattle.lucy_front.specs.Accepting.{IsAccepted}
+use Rattle.lucy_program.specs.declared.accepted.Accepted.{Accepted}
+use Rattle.lucy_program.specs.declared.options.Options.{Options}
+use Rattle.lucy_program.specs.Names.{of_one}
+use Rattle.lucy_program.specs.Scheduled.{main_output, main_outputs}
+use Rattle.lucy_program.specs.Accepting.{IsAccepted}
 use Rattle.lucy_host.specs.Operators.{Operator}
 
 -- an accepted program's net has a sound schedule

@@ -15,9 +15,9 @@ use Rattle.lucy_meaning.specs.Kahn.{kahn}
 use Rattle.lucy_meaning.specs.Horizons.{Suffice}
 use Rattle.lucy_flat.specs.Instances.{index_at, sizes_in}
 use Rattle.lucy_results.specs.Streams.{param_words}
-use Rattle.lucy_front.specs.declared.accepted.Accepted.{Accepted}
-use Rattle.lucy_front.specs.declared.options.Options.{Options}
-use Rattle.lucy_front.specs.Accepting.{IsAccepted}
+use Rattle.lucy_program.specs.declared.accepted.Accepted.{Accepted}
+use Rattle.lucy_program.specs.declared.options.Options.{Options}
+use Rattle.lucy_program.specs.Accepting.{IsAccepted}
 
 -- the actors of the program's net up to a horizon, with what each gives, on a host's operators of these kinds and these inputs
 abbrev pub machine_for : List HostKind → Accepted → (inputs : List (List ℤ)) → (horizon : ℕ) → Machine

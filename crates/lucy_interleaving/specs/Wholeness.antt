@@ -8,8 +8,8 @@ use Rattle.lucy_output.specs.Outputs.{value_at}
 use Rattle.lucy_meaning.specs.Spots.{Spot, IsSpot}
 use Rattle.lucy_flat.specs.Instances.{IsSpotWord}
 use Rattle.lucy_results.specs.Streams.{main_streams}
-use Rattle.lucy_front.specs.declared.accepted.Accepted.{Accepted}
-use Rattle.lucy_front.specs.declared.options.Options.{Options}
+use Rattle.lucy_program.specs.declared.accepted.Accepted.{Accepted}
+use Rattle.lucy_program.specs.declared.options.Options.{Options}
 use Rattle.lucy_interleaving.specs.Interleavings.{stream_for, IsFedText}
 
 -- each place of the program with its calls written out has in K(T * A) at least as many items as its word has ones in T instants

@@ -3,7 +3,7 @@
 ghost use Rattle.lucy_interleaving.specs.Interleavings.{RunsAreSafe, StatesAreSafe};
 ghost use Rattle.lucy_interleaving.specs.Wholeness.{PlacesAreWhole, NoLineIsMissing};
 
-use lucy_front::accepted_programs_are_clocked;
+use lucy_program::accepted_programs_are_clocked;
 use lucy_results::{places_are_whole, streams_are_whole};
 
 /// Every list of possible events of an accepted program's net leads to a safe state: each ring holds at most its buffer's printed

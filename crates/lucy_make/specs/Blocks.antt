@@ -10,7 +10,7 @@ use Rattle.lucy_text.specs.Sources.{ReadStop}
 use Rattle.lucy_feed.specs.Feeding.{is_closed}
 use Rattle.lucy_meaning.specs.Horizons.{Suffice}
 use Rattle.lucy_results.specs.Streams.{main_streams, later_streams}
-use Rattle.lucy_front.specs.declared.accepted.Accepted.{Accepted}
+use Rattle.lucy_program.specs.declared.accepted.Accepted.{Accepted}
 use Rattle.lucy_run.specs.declared.ending.Ending.{Ending}
 use Rattle.lucy_run.specs.declared.ending.Ending.TheVariants as ending
 use Rattle.lucy_run.specs.Owes.{input_words, EndsFor, IsMainFed}

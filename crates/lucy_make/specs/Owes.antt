@@ -6,7 +6,7 @@ use Rattle.lucy_text.specs.Sources.{ReadStop}
 use Rattle.lucy_feed.specs.Feeding.{is_closed}
 use Rattle.lucy_stream.specs.Items.{list_at}
 use Rattle.lucy_results.specs.Streams.{main_streams}
-use Rattle.lucy_front.specs.declared.accepted.Accepted.{Accepted}
+use Rattle.lucy_program.specs.declared.accepted.Accepted.{Accepted}
 use Rattle.lucy_run.specs.declared.ending.Ending.{Ending}
 use Rattle.lucy_run.specs.declared.ending.Ending.TheVariants as ending
 use Rattle.lucy_run.specs.Owes.{input_words, EndsFor, IsMainFed}

@@ -13,7 +13,7 @@ use crate::blocks::tell;
 use crate::figures::{Tally, counts_of, print};
 use crate::input::made_source;
 use crate::laws::first_goes_on;
-use lucy_front::{Accepted, accepted_programs_are_clocked};
+use lucy_program::{Accepted, accepted_programs_are_clocked};
 use lucy_host::Host;
 use lucy_lines::cut_in_pieces;
 use lucy_run::{Course, Ending, Pace};

@@ -1,15 +1,16 @@
 // Rows of accepted programs.
 ghost use Rattle.std.specs.Prelude.{List, ℕ};
 ghost use Rattle.lucy_host.specs.Host.{Serves, lent};
-ghost use Rattle.lucy_front.specs.declared.options.Options.{Options as Clocking};
-ghost use Rattle.lucy_front.specs.Accepting.{IsAccepted};
+ghost use Rattle.lucy_program.specs.declared.options.Options.{Options as Clocking};
+ghost use Rattle.lucy_program.specs.Accepting.{IsAccepted};
 ghost use Rattle.lucy_front.specs.Refusals.{IsTellable};
 
 use crate::page::Page;
 use crate::ready::{core_of, count_actors};
 use crate::row::Row;
 use crate::{cores, handed, rounds, schedules};
-use lucy_front::{Accepted, Options, Refusal, accept, accepted_programs_are_clocked, refusal_text};
+use lucy_front::{Refusal, accept, refusal_text};
+use lucy_program::{Accepted, Options, accepted_programs_are_clocked};
 use lucy_host::Host;
 use std::alloc::Global;
 use std::str;

@@ -1,13 +1,13 @@
 // The net of a node, as SVG: a box for each place, in columns by layers, and a line for all that a place reads.
 ghost use Rattle.std.specs.Prelude.{List, ℕ, ◌<◌, length};
 ghost use Rattle.lucy_host.specs.Operators.{Operator};
-ghost use Rattle.lucy_front.specs.declared.options.Options.{Options as Choices};
-ghost use Rattle.lucy_front.specs.Accepting.{IsAccepted};
+ghost use Rattle.lucy_program.specs.declared.options.Options.{Options as Choices};
+ghost use Rattle.lucy_program.specs.Accepting.{IsAccepted};
 
 use crate::layout::{Spot, spot_at, spots};
 use crate::part::{begin_svg, definition};
 use lucy_diagram::{Diagram, Edge, Figure, diagram_of, put_text};
-use lucy_front::Accepted;
+use lucy_program::Accepted;
 use lucy_place::{PlaceEntry, PlaceKind, PlacedNode};
 use lucy_svg::{NAME, SMALL, put, put_label, word_text};
 use lucy_tree::Program;

@@ -1,15 +1,15 @@
 // A node: its net, its chronogram and its buffers.
 ghost use Rattle.std.specs.Prelude.{List, ℕ, ◌≡◌, ◌<◌, ◌++◌, length, slice_get, OnOk};
 ghost use Rattle.lucy_host.specs.Operators.{Operator};
-ghost use Rattle.lucy_front.specs.declared.options.Options.{Options as Choices};
-ghost use Rattle.lucy_front.specs.Accepting.{IsAccepted};
+ghost use Rattle.lucy_program.specs.declared.options.Options.{Options as Choices};
+ghost use Rattle.lucy_program.specs.Accepting.{IsAccepted};
 ghost use Rattle.lucy_page.specs.Pages.{node_begin};
 ghost use Rattle.lucy_page.specs.Puts.{PutsNode};
 
 use crate::buffers::put_buffers;
 use crate::net::put_net;
 use crate::part::{begin_svg, put_link};
-use lucy_front::Accepted;
+use lucy_program::Accepted;
 use lucy_picture::{Turn, turn_of};
 use lucy_svg::{Sheet, drawing_of, put, shown_of, shown_text, turn_text};
 use lucy_tree::Program;

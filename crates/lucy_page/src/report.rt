@@ -1,6 +1,6 @@
 // What is marked in the report of a program.
 use crate::mark::{Kind, Mark};
-use lucy_front::Accepted;
+use lucy_program::Accepted;
 use lucy_place::PlacedNode;
 use std::alloc::{AllocError, Global};
 

@@ -1,9 +1,9 @@
 // A page.
 ghost use Rattle.std.specs.Prelude.{List, ℕ, IfOk, OnOk};
 ghost use Rattle.lucy_host.specs.Operators.{Operator};
-ghost use Rattle.lucy_front.specs.declared.options.Options.{Options as Choices};
-ghost use Rattle.lucy_front.specs.Accepting.{IsAccepted};
-ghost use Rattle.lucy_front.specs.Report.{report};
+ghost use Rattle.lucy_program.specs.declared.options.Options.{Options as Choices};
+ghost use Rattle.lucy_program.specs.Accepting.{IsAccepted};
+ghost use Rattle.lucy_program.specs.Report.{report};
 ghost use Rattle.lucy_page.specs.Pages.{AreSections, IsPage, IsRefusedPage};
 ghost use Rattle.lucy_page.specs.Puts.{PutsTexts};
 
@@ -13,7 +13,7 @@ use crate::part::put_link;
 use crate::report::report_marks;
 use crate::style::PAGE;
 use crate::text::{program_marks, wrong_marks};
-use lucy_front::{Accepted, report};
+use lucy_program::{Accepted, report};
 use lucy_svg::{STYLE, put, put_escaped};
 use lucy_tree::{Program, Span};
 use lucy_word::OutOfMemory;

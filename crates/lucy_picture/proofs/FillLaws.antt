@@ -12,7 +12,7 @@ use Rattle.lucy_place.specs.Proper.{IsProperNode, at_one, Stands}
 use Rattle.lucy_types.proofs.ListLaws.{get_push}
 use Rattle.lucy_need.specs.Meeting.{assigned}
 use Rattle.lucy_clock.specs.declared.node_clock.NodeClock.{NodeClock}
-use Rattle.lucy_front.specs.Report.{first_operand}
+use Rattle.lucy_program.specs.Report.{first_operand}
 use Rattle.lucy_picture.specs.declared.fill.Fill.{Fill}
 use Rattle.lucy_picture.specs.Charts.{instants, marks_of, waiting, TellsFull, IsFill}
 use Rattle.lucy_picture.specs.Drawn.{IsDrawn, IsFirstWith}

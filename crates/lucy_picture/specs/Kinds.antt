@@ -13,7 +13,7 @@ use Rattle.lucy_place.specs.declared.entry.PlaceKind.TheVariants as kind
 use Rattle.lucy_place.specs.declared.entry.CallSite.{CallSite}
 use Rattle.lucy_place.specs.declared.placed.PlacedNode.{PlacedNode}
 use Rattle.lucy_place.specs.Standing.{at_one, bound_of}
-use Rattle.lucy_front.specs.Names.{of_one, place_name, place_names, listed}
+use Rattle.lucy_program.specs.Names.{of_one, place_name, place_names, listed}
 
 -- the written word of a `whenot`, whose place has the complement
 abbrev pub whenot_word : Option Tree → Option Bits

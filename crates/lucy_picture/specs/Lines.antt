@@ -5,8 +5,8 @@ use Rattle.lucy_word.specs.Bits.{Bits}
 use Rattle.lucy_word.specs.Spelling.{text_of}
 use Rattle.lucy_place.specs.declared.placed.PlacedNode.{PlacedNode}
 use Rattle.lucy_place.specs.Standing.{bound_of}
-use Rattle.lucy_front.specs.Names.{of_one, name_at, node_line}
-use Rattle.lucy_front.specs.Report.{size_part}
+use Rattle.lucy_program.specs.Names.{of_one, name_at, node_line}
+use Rattle.lucy_program.specs.Report.{size_part}
 use Rattle.lucy_picture.specs.declared.chart.Chart.{Chart}
 use Rattle.lucy_picture.specs.declared.row.Row.{Row}
 use Rattle.lucy_picture.specs.declared.fill.Fill.{Fill}

@@ -5,8 +5,8 @@ ghost use Rattle.lucy_place.specs.declared.placed.PlacedNode.{PlacedNode as Node
 ghost use Rattle.lucy_place.specs.Proper.{IsProperNode};
 ghost use Rattle.lucy_need.specs.Meeting.{assigned};
 ghost use Rattle.lucy_clock.specs.declared.node_clock.NodeClock.{NodeClock as Clock};
-ghost use Rattle.lucy_front.specs.declared.options.Options.{Options as Choices};
-ghost use Rattle.lucy_front.specs.Accepting.{IsAccepted};
+ghost use Rattle.lucy_program.specs.declared.options.Options.{Options as Choices};
+ghost use Rattle.lucy_program.specs.Accepting.{IsAccepted};
 ghost use Rattle.lucy_picture.specs.Charts.{chart_row, named_places, AreFills};
 ghost use Rattle.lucy_picture.specs.Drawn.{IsDrawn};
 
@@ -15,7 +15,7 @@ use crate::named::named_places;
 use crate::row::{Row, rows};
 use crate::words::clocks_at;
 use lucy_clock::NodeClock;
-use lucy_front::Accepted;
+use lucy_program::Accepted;
 use lucy_place::PlacedNode;
 use lucy_word::OutOfMemory;
 use std::alloc::Global;

@@ -10,13 +10,13 @@ ghost use Rattle.lucy_place.specs.Proper.{IsProperNode};
 ghost use Rattle.lucy_need.specs.Meeting.{assigned};
 ghost use Rattle.lucy_clock.specs.declared.node_clock.NodeClock.{NodeClock as Clock};
 ghost use Rattle.lucy_cause.specs.Lengths.{AreLengths};
-ghost use Rattle.lucy_front.specs.declared.options.Options.{Options as Choices};
-ghost use Rattle.lucy_front.specs.Accepting.{IsAccepted};
+ghost use Rattle.lucy_program.specs.declared.options.Options.{Options as Choices};
+ghost use Rattle.lucy_program.specs.Accepting.{IsAccepted};
 ghost use Rattle.lucy_picture.specs.Turns.{buffer_clocks, shown_clocks, whole, AreTooLong};
 
 use crate::named::{named_places, push};
 use crate::words::{clocks_at, word_of};
-use lucy_front::{Accepted, first_operand};
+use lucy_program::{Accepted, first_operand};
 use lucy_place::PlacedNode;
 use lucy_word::{Limit, OutOfMemory, Word, lcm};
 use std::alloc::{AllocError, Global};

@@ -1,8 +1,9 @@
 // Why a program is refused, and why a buffer is as full as it is.
 ghost use Rattle.std.specs.Prelude.{length, IfOk, IfSome, IfNone, List, ◌<◌, ◌≡◌, ◌≤◌};
-ghost use Rattle.lucy_front.specs.declared.accepted.Accepted.{Accepted as Program};
-ghost use Rattle.lucy_front.specs.Accepting.{IsAccepted, Refuses};
-ghost use Rattle.lucy_front.specs.Inferring.{AreOptions};
+ghost use Rattle.lucy_program.specs.declared.accepted.Accepted.{Accepted as Program};
+ghost use Rattle.lucy_program.specs.Accepting.{IsAccepted};
+ghost use Rattle.lucy_front.specs.Refusing.{Refuses};
+ghost use Rattle.lucy_program.specs.Inferring.{AreOptions};
 ghost use Rattle.lucy_explain.specs.Begins.{BeginsAs};
 ghost use Rattle.lucy_explain.specs.Spans.{AreWithin};
 ghost use Rattle.lucy_host.specs.Operators.{Operator};
@@ -15,7 +16,7 @@ ghost use Rattle.lucy_explain.specs.Folded.{IsFolded};
 ghost use Rattle.lucy_explain.specs.Folds.{FollowsLaw, SumLaw};
 
 use lucy_explain::{Explained, Filling, Folded, Reason};
-use lucy_front::{Accepted, Options};
+use lucy_program::{Accepted, Options};
 use lucy_host::Ops;
 use lucy_need::Needs;
 use lucy_shape::Shape;

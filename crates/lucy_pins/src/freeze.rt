@@ -1,11 +1,11 @@
 // A program with its clocks written out.
 ghost use Rattle.std.specs.Prelude.{IfOk, IfErr};
-ghost use Rattle.lucy_front.specs.Inferring.{AreOptions};
+ghost use Rattle.lucy_program.specs.Inferring.{AreOptions};
 ghost use Rattle.lucy_freeze.specs.Freezing.{IsFrozen, IsUnfrozen};
 ghost use Rattle.lucy_freeze.specs.Meaning.{FrozenProgramsMeanTheSame, FrozenProgramsAreWritten};
 
 use lucy_freeze::{FreezeError, Frozen};
-use lucy_front::Options;
+use lucy_program::Options;
 use lucy_host::Ops;
 use std::alloc::Global;
 

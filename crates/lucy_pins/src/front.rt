@@ -1,10 +1,11 @@
 // What a text is accepted as, or why it is refused, and what is printed of either.
 ghost use Rattle.std.specs.Prelude.{◌≡◌, ◌⊎◌, IfOk, IfErr, MatchResult, ◌<◌, Some, length, slice_get, ◌≤◌, ◌++◌, OnOk, ℕ, List, ◌+◌, ◌==◌};
-ghost use Rattle.lucy_front.specs.declared.accepted.Accepted.{Accepted as Program};
+ghost use Rattle.lucy_program.specs.declared.accepted.Accepted.{Accepted as Program};
 ghost use Rattle.lucy_front.specs.declared.refusal.Refusal.{Refusal as Reason};
 ghost use Rattle.lucy_front.specs.declared.refusal.Refusal.TheVariants as reason;
-ghost use Rattle.lucy_front.specs.Accepting.{IsAccepted, Refuses};
-ghost use Rattle.lucy_front.specs.Inferring.{AreOptions};
+ghost use Rattle.lucy_program.specs.Accepting.{IsAccepted};
+ghost use Rattle.lucy_front.specs.Refusing.{Refuses};
+ghost use Rattle.lucy_program.specs.Inferring.{AreOptions};
 ghost use Rattle.lucy_front.specs.OneAnswer.{AreAlike, HaveOneProgram, AreNotRefused, HaveOneAcceptance, AcceptedAreNotRefused, AreRefusedInOneWay};
 ghost use Rattle.lucy_front.specs.Refusals.{IsTellable, AreBelow};
 ghost use Rattle.lucy_place.specs.declared.placed.PlacedNode.{PlacedNode as Node};
@@ -12,17 +13,18 @@ ghost use Rattle.lucy_clock.specs.Clocks.{clocks_of};
 ghost use Rattle.lucy_shape.specs.Fitting.{variable_count};
 ghost use Rattle.lucy_front.specs.Evidence as evidence;
 ghost use Rattle.lucy_place.specs.Faults.{most_places};
-ghost use Rattle.lucy_front.specs.Names as naming;
-ghost use Rattle.lucy_front.specs.Report as printed;
+ghost use Rattle.lucy_program.specs.Names as naming;
+ghost use Rattle.lucy_program.specs.Report as printed;
 ghost use Rattle.lucy_host.specs.Operators.{Operator};
-ghost use Rattle.lucy_front.specs.declared.options.Options.{Options as Choices};
+ghost use Rattle.lucy_program.specs.declared.options.Options.{Options as Choices};
 ghost use Rattle.lucy_types.specs.Tables.{table_at};
 ghost use Rattle.lucy_types.specs.Programs.{IsTyped};
 ghost use Rattle.lucy_front.specs.Refusals as refusals;
-ghost use Rattle.lucy_front.specs.Laws.{AcceptedAreProper, AcceptedHaveOperators, AcceptedAreClocked, AcceptedAreReportable, AcceptedAreBounded};
+ghost use Rattle.lucy_program.specs.Laws.{AcceptedAreProper, AcceptedHaveOperators, AcceptedAreClocked, AcceptedAreReportable, AcceptedAreBounded};
 
 use lucy_clock::NodeClock;
-use lucy_front::{Accepted, Options, Refusal};
+use lucy_front::Refusal;
+use lucy_program::{Accepted, Options};
 use lucy_host::Ops;
 use lucy_place::PlacedNode;
 use lucy_shape::Shape;
@@ -62,37 +64,37 @@ pub fn cycle_text(
     lucy_front::cycle_text(alloc, accepted, node, shape, diffs, cycle)
 }
 
-/// Pins `lucy_front::node_line`.
+/// Pins `lucy_program::node_line`.
 pub fn node_line(alloc: Global, node: &PlacedNode, out: &mut Vec<u8>) -> Result<(), OutOfMemory>
     requires { node.now.params ≤ most_places }
     ensures { OnOk result (out.new.items ≡ out.old.items ++ naming.node_line node.now) }
 {
-    lucy_front::node_line(alloc, node, out)
+    lucy_program::node_line(alloc, node, out)
 }
 
-/// Pins `lucy_front::type_name`.
+/// Pins `lucy_program::type_name`.
 pub fn type_name(alloc: Global, main: bool, ty: Ty, out: &mut Vec<u8>) -> Result<(), OutOfMemory>
     ensures { OnOk result (out.new.items ≡ out.old.items ++ printed.type_name main ty) }
 {
-    lucy_front::type_name(alloc, main, ty, out)
+    lucy_program::type_name(alloc, main, ty, out)
 }
 
-/// Pins `lucy_front::first_operand`.
+/// Pins `lucy_program::first_operand`.
 pub fn first_operand(node: &PlacedNode, place: u32) -> Option<u32>
     ensures { result ≡ printed.first_operand node.now place }
 {
-    lucy_front::first_operand(node, place)
+    lucy_program::first_operand(node, place)
 }
 
-/// Pins `lucy_front::report`.
+/// Pins `lucy_program::report`.
 pub fn report(alloc: Global, accepted: &Accepted) -> Result<Vec<u8>, OutOfMemory>
     requires { (ops : List Operator) × (text : List ℕ) × (options : Choices) × IsAccepted ops options text accepted.now }
     ensures { IfOk result (λ v. v.items ≡ printed.report accepted.now.placed.nodes accepted.now.typed accepted.now.clocks.items) }
 {
-    lucy_front::report(alloc, accepted)
+    lucy_program::report(alloc, accepted)
 }
 
-/// Pins `lucy_front::report_node`.
+/// Pins `lucy_program::report_node`.
 pub fn report_node(
     alloc: Global,
     accepted: &Accepted,
@@ -106,7 +108,7 @@ pub fn report_node(
         IfOk result (λ v. v.items ≡ printed.node_lines accepted.now.placed.nodes (node + 1 == length accepted.now.placed.nodes) n
         (table_at accepted.now.typed node) clocks.now) }
 {
-    lucy_front::report_node(alloc, accepted, node, clocks)
+    lucy_program::report_node(alloc, accepted, node, clocks)
 }
 
 /// Pins `lucy_front::refusal_text`.
@@ -134,7 +136,7 @@ pub fn texts_have_one_answer()
     lucy_front::texts_have_one_answer();
 }
 
-/// Pins `lucy_front::accepted_programs_are_clocked`.
+/// Pins `lucy_program::accepted_programs_are_clocked`.
 pub fn accepted_programs_are_clocked()
     ensures proper { AcceptedAreProper }
     ensures operators { AcceptedHaveOperators }
@@ -142,5 +144,5 @@ pub fn accepted_programs_are_clocked()
     ensures reportable { AcceptedAreReportable }
     ensures bounded { AcceptedAreBounded }
 {
-    lucy_front::accepted_programs_are_clocked();
+    lucy_program::accepted_programs_are_clocked();
 }

@@ -9,7 +9,7 @@ ghost use Rattle.lucy_run.specs.declared.ending.Ending.TheVariants as ending;
 ghost use Rattle.lucy_make.specs.Owes.{OwesSummary};
 ghost use Rattle.lucy_make.specs.Laws.{EndsAsRun};
 
-use lucy_front::Accepted;
+use lucy_program::Accepted;
 use lucy_host::Host;
 use lucy_run::Ending;
 use lucy_word::OutOfMemory;

@@ -1,12 +1,12 @@
 // Pages of a program.
 ghost use Rattle.std.specs.Prelude.{List, ℕ, IfOk};
 ghost use Rattle.lucy_host.specs.Operators.{Operator};
-ghost use Rattle.lucy_front.specs.declared.options.Options.{Options as Choices};
-ghost use Rattle.lucy_front.specs.Accepting.{IsAccepted};
-ghost use Rattle.lucy_front.specs.Report.{report};
+ghost use Rattle.lucy_program.specs.declared.options.Options.{Options as Choices};
+ghost use Rattle.lucy_program.specs.Accepting.{IsAccepted};
+ghost use Rattle.lucy_program.specs.Report.{report};
 ghost use Rattle.lucy_page.specs.Pages.{IsPage, IsRefusedPage};
 
-use lucy_front::Accepted;
+use lucy_program::Accepted;
 use lucy_tree::{Program, Span};
 use lucy_word::OutOfMemory;
 use std::alloc::{AllocError, Global};

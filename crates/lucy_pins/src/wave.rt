@@ -8,7 +8,7 @@ ghost use Rattle.lucy_run.specs.Calls.{WasAccepted, ReadsAndEnds};
 ghost use Rattle.lucy_wave.specs.Waves.{OwesWave};
 ghost use Rattle.lucy_wave.specs.Laws.{WavesAreReadBack, OneWave, NamesAreDistinct};
 
-use lucy_front::Accepted;
+use lucy_program::Accepted;
 use lucy_host::Host;
 use lucy_run::Ending;
 use lucy_text::{Sink, Source};

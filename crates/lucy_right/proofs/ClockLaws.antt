@@ -23,8 +23,9 @@ use Rattle.lucy_check.specs.declared.fault.CheckFault.{CheckFault}
 use Rattle.lucy_check.specs.Passing.{IsBeyond}
 use Rattle.lucy_check.proofs.CheckLaws.{unmet}
 use Rattle.lucy_flat.specs.Clocked.{IsClock, AreClocked}
-use Rattle.lucy_front.specs.declared.options.Options.{Options}
-use Rattle.lucy_front.specs.Clocked.{AreNodeWords, IsClocked, AreClocksOf, FailsCheck}
+use Rattle.lucy_program.specs.declared.options.Options.{Options}
+use Rattle.lucy_program.specs.Clocked.{AreNodeWords, IsClocked, AreClocksOf}
+use Rattle.lucy_front.specs.Unclocked.{FailsCheck}
 
 -- the words are in shortest form
 abbrev AreShortest : List Bits → Type 0

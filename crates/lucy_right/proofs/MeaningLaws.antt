@@ -10,9 +10,9 @@ use Rattle.lucy_clock.specs.declared.signature.Signature.{Signature}
 use Rattle.lucy_clock.specs.declared.node_clock.NodeClock.{NodeClock}
 use Rattle.lucy_clock.specs.NodeClocks.{signatures}
 use Rattle.lucy_flat.specs.Laws.{NetsAreCausal}
-use Rattle.lucy_front.specs.declared.options.Options.{Options}
-use Rattle.lucy_front.specs.Clocked.{IsClocked, AreClocksOf}
-use Rattle.lucy_front.specs.Laws.{AcceptedAreProper, AcceptedAreClocked}
+use Rattle.lucy_program.specs.declared.options.Options.{Options}
+use Rattle.lucy_program.specs.Clocked.{IsClocked, AreClocksOf}
+use Rattle.lucy_program.specs.Laws.{AcceptedAreProper, AcceptedAreClocked}
 use Rattle.lucy_right.specs.Owed.{AcceptedStand}
 use Rattle.lucy_right.proofs.NodesLaws.{placed_are}
 use Rattle.lucy_right.proofs.NameLaws.{faultless_well}

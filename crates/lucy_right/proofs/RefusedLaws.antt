@@ -31,13 +31,15 @@ use Rattle.lucy_meaning.specs.Items.{IsCausalProgram}
 use Rattle.lucy_flat.specs.Laws.{NetsAreCausal}
 use Rattle.lucy_front.specs.declared.fault.NodeFault.{NodeFault}
 use Rattle.lucy_front.specs.declared.fault.NodeFault.TheVariants.{NotWritten, Rates, Clocks, Check}
-use Rattle.lucy_front.specs.declared.options.Options.{Options}
+use Rattle.lucy_program.specs.declared.options.Options.{Options}
 use Rattle.lucy_front.specs.declared.refusal.Refusal.{Refusal}
 use Rattle.lucy_front.specs.declared.refusal.Refusal.TheVariants.{Syntax, Names, Types, Node, Cause, Limit as LimitPassed, OutOfMemory}
-use Rattle.lucy_front.specs.Accepting.{IsPlacedText, RefusesText, RefusesPhases, Refuses}
-use Rattle.lucy_front.specs.Clocked.{FailsCheck, RefusesNode, IsUnclocked}
-use Rattle.lucy_front.specs.Scheduled.{RefusesNet}
-use Rattle.lucy_front.proofs.OneAnswer.{syntax_refused, names_refused, text_proper}
+use Rattle.lucy_program.specs.Accepting.{IsPlacedText}
+use Rattle.lucy_front.specs.Refusing.{RefusesText, RefusesPhases, Refuses}
+use Rattle.lucy_front.specs.Unclocked.{FailsCheck, RefusesNode, IsUnclocked}
+use Rattle.lucy_front.specs.Unscheduled.{RefusesNet}
+use Rattle.lucy_program.proofs.AcceptedLaws.{text_proper}
+use Rattle.lucy_front.proofs.OneAnswer.{syntax_refused, names_refused}
 use Rattle.lucy_right.specs.Right.{Meaning, StandsFor}
 use Rattle.lucy_right.specs.Refused.{WrittenPassLimits}
 use Rattle.lucy_right.proofs.NodesLaws.{are_placed}

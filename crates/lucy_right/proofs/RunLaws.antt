@@ -33,12 +33,12 @@ use Rattle.lucy_cause.specs.Schedules.{events_at}
 use Rattle.lucy_results.specs.Streams.{main_word, result_words, main_stream, main_streams}
 use Rattle.lucy_results.specs.Running.{HasSchedule}
 use Rattle.lucy_results.specs.Laws.{StreamsAreWhole}
-use Rattle.lucy_front.specs.declared.accepted.Accepted.{Accepted}
-use Rattle.lucy_front.specs.declared.options.Options.{Options}
-use Rattle.lucy_front.specs.Names.{of_one}
-use Rattle.lucy_front.specs.Scheduled.{main_output, main_outputs}
-use Rattle.lucy_front.specs.Accepting.{IsAccepted}
-use Rattle.lucy_front.specs.Laws.{AcceptedAreProper}
+use Rattle.lucy_program.specs.declared.accepted.Accepted.{Accepted}
+use Rattle.lucy_program.specs.declared.options.Options.{Options}
+use Rattle.lucy_program.specs.Names.{of_one}
+use Rattle.lucy_program.specs.Scheduled.{main_output, main_outputs}
+use Rattle.lucy_program.specs.Accepting.{IsAccepted}
+use Rattle.lucy_program.specs.Laws.{AcceptedAreProper}
 use Rattle.lucy_run.specs.declared.ending.Ending.{Ending}
 use Rattle.lucy_run.specs.declared.ending.Ending.TheVariants as ending
 use Rattle.lucy_run.specs.Feeds.{Feeds}

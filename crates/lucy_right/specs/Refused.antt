@@ -6,10 +6,10 @@ use Rattle.lucy_host.specs.Operators.{Operator}
 use Rattle.lucy_tree.specs.View.{ProgramTree}
 use Rattle.lucy_grammar.specs.Texts.{HasTree}
 use Rattle.lucy_place.specs.WrittenNodes.{IsWritten}
-use Rattle.lucy_front.specs.declared.options.Options.{Options}
+use Rattle.lucy_program.specs.declared.options.Options.{Options}
 use Rattle.lucy_front.specs.declared.refusal.Refusal.{Refusal}
 use Rattle.lucy_front.specs.declared.refusal.Refusal.TheVariants.{Limit as LimitPassed, OutOfMemory}
-use Rattle.lucy_front.specs.Accepting.{Refuses}
+use Rattle.lucy_front.specs.Refusing.{Refuses}
 use Rattle.lucy_right.specs.Right.{Meaning, StandsFor}
 
 -- a written program that stands for something is refused for a limit, or for want of memory

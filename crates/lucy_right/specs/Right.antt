@@ -25,8 +25,8 @@ use Rattle.lucy_meaning.specs.Items.{IsCausalProgram}
 use Rattle.lucy_meaning.specs.Horizons.{IsHorizon}
 use Rattle.lucy_flat.specs.Clocked.{AreClocked}
 use Rattle.lucy_results.specs.Streams.{param_words}
-use Rattle.lucy_front.specs.Scheduled.{main_inputs, main_outputs}
-use Rattle.lucy_front.specs.Report.{report}
+use Rattle.lucy_program.specs.Scheduled.{main_inputs, main_outputs}
+use Rattle.lucy_program.specs.Report.{report}
 use Rattle.lucy_right.specs.Places.{AreWellNamed, AreNodesOf}
 
 -- what a program stands for: its nodes, of which the last is main, the types of their places, the words of their clocks and the sizes of their buffers

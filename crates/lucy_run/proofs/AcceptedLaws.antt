@@ -18,12 +18,12 @@ use Rattle.lucy_need.specs.Meeting.{assigned}
 use Rattle.lucy_output.specs.declared.output.OutputSpec.{OutputSpec}
 use Rattle.lucy_results.specs.Running.{HasSchedule}
 use Rattle.lucy_run.specs.Courses.{CanBeRunInBlocks}
-use Rattle.lucy_front.specs.declared.accepted.Accepted.{Accepted}
-use Rattle.lucy_front.specs.declared.options.Options.{Options}
-use Rattle.lucy_front.specs.Accepting.{IsAccepted}
-use Rattle.lucy_front.specs.Names.{of_one, param_places}
-use Rattle.lucy_front.specs.Scheduled.{main_input, main_output}
-use Rattle.lucy_front.proofs.OneAnswer.{text_proper}
+use Rattle.lucy_program.specs.declared.accepted.Accepted.{Accepted}
+use Rattle.lucy_program.specs.declared.options.Options.{Options}
+use Rattle.lucy_program.specs.Accepting.{IsAccepted}
+use Rattle.lucy_program.specs.Names.{of_one, param_places}
+use Rattle.lucy_program.specs.Scheduled.{main_input, main_output}
+use Rattle.lucy_program.proofs.AcceptedLaws.{text_proper}
 use Rattle.std.proofs.lemmas.List.FromFn.{length-map-range_with_len}
 
 inputs_counted : (main : Option PlacedNode) (types : List Ty) → length (of_one (λ n. map (main_input n types) (param_places n)) main) ≡ params_in main

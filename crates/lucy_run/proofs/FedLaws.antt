@@ -13,7 +13,7 @@ use Rattle.lucy_text.specs.Outside.{SeenSource}
 use Rattle.lucy_text.specs.Sources.{ReadStop, Unread, Ended, Failed, Open, Drained, Read}
 use Rattle.lucy_feed.specs.Feeding.{is_closed, values_by_stream, StopsFor, IsAsked}
 use Rattle.lucy_feed.specs.Resuming.{IsGivenUp}
-use Rattle.lucy_front.specs.declared.accepted.Accepted.{Accepted}
+use Rattle.lucy_program.specs.declared.accepted.Accepted.{Accepted}
 use Rattle.lucy_run.specs.declared.ending.Ending.{Ending}
 use Rattle.lucy_run.specs.Feeds.{Feeds, LinesFeed}
 use Rattle.lucy_run.specs.Owes.{OwesRun, LinesAllow}

@@ -36,7 +36,7 @@ use Rattle.lucy_results.specs.Streams.{param_words, main_streams, taken_of}
 use Rattle.lucy_results.specs.Taking.{taken_lists, LeadAlongStreams}
 use Rattle.lucy_results.proofs.OutputLaws.{first_unbegun}
 use Rattle.lucy_results.proofs.WholeRunLaws.{unbegun_start, taken_same}
-use Rattle.lucy_front.specs.declared.accepted.Accepted.{Accepted}
+use Rattle.lucy_program.specs.declared.accepted.Accepted.{Accepted}
 use Rattle.lucy_run.specs.declared.ending.Ending.{Ending}
 use Rattle.lucy_run.specs.declared.ending.Ending.TheVariants as ending
 use Rattle.lucy_run.specs.Feeds.{IsMainFeed}

@@ -8,7 +8,7 @@ use Rattle.lucy_output.specs.declared.error.OutputError.TheVariants as error
 use Rattle.lucy_output.specs.Laws.{InstantByInstant}
 use Rattle.lucy_output.specs.Writing.{WriterState, new_writer}
 use Rattle.lucy_clock.specs.declared.node_clock.NodeClock.{NodeClock}
-use Rattle.lucy_front.specs.declared.accepted.Accepted.{Accepted}
+use Rattle.lucy_program.specs.declared.accepted.Accepted.{Accepted}
 use Rattle.lucy_run.specs.declared.pace.Pace.{Pace}
 use Rattle.lucy_run.specs.declared.ending.Ending.{Ending}
 use Rattle.lucy_run.specs.declared.ending.Ending.TheVariants as ending

@@ -24,7 +24,7 @@ use Rattle.lucy_results.specs.Streams.{param_words}
 use Rattle.lucy_stream.specs.Runs.{IsWhole}
 use Rattle.lucy_net.specs.Plans.{net_system}
 use Rattle.lucy_results.specs.Taking.{LeadToStreams, LeadAlongStreams}
-use Rattle.lucy_front.specs.declared.accepted.Accepted.{Accepted}
+use Rattle.lucy_program.specs.declared.accepted.Accepted.{Accepted}
 use Rattle.lucy_run.specs.declared.ending.Ending.{Ending}
 use Rattle.lucy_run.specs.declared.ending.Ending.TheVariants as ending
 use Rattle.lucy_run.specs.Feeds.{IsMainFeed}

@@ -14,7 +14,7 @@ use Rattle.lucy_text.specs.Sources.{ReadStop, Unread, Ended, Failed, Passed, Ope
 use Rattle.lucy_feed.specs.Feeding.{values_by_stream, is_closed, fault_of, StopsFor}
 use Rattle.lucy_host.specs.declared.kind.HostKind.{HostKind}
 use Rattle.lucy_results.specs.Running.{HasManyTurns, HasManyItems}
-use Rattle.lucy_front.specs.declared.accepted.Accepted.{Accepted}
+use Rattle.lucy_program.specs.declared.accepted.Accepted.{Accepted}
 use Rattle.lucy_run.specs.declared.ending.Ending.{Ending}
 use Rattle.lucy_run.specs.Feeds.{Feeds, IsMainInput}
 use Rattle.lucy_run.specs.Owes.{most_instants, input_words, heading, lines_to, IsHorizonOf, EndsFor, IsMainFed, Interprets}

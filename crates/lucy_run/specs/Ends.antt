@@ -7,7 +7,7 @@ use Rattle.lucy_feed.specs.Feeding.{IsAsked}
 use Rattle.lucy_text.specs.Outside.{SeenSink, Writes, Fails}
 use Rattle.lucy_run.specs.declared.ending.Ending.{Ending}
 use Rattle.lucy_run.specs.declared.ending.Ending.TheVariants as ending
-use Rattle.lucy_front.specs.declared.accepted.Accepted.{Accepted}
+use Rattle.lucy_program.specs.declared.accepted.Accepted.{Accepted}
 use Rattle.lucy_run.specs.Feeds.{LinesFeed, IsNeededFor}
 use Rattle.lucy_trace.specs.declared.error.TraceError.{TraceError}
 use Rattle.lucy_run.specs.Replays.{OwesReplay}

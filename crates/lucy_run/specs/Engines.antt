@@ -9,7 +9,7 @@ use Rattle.lucy_meaning.specs.Horizons.{Suffice}
 use Rattle.lucy_kahn.specs.Turns.{params_in}
 use Rattle.lucy_runner.specs.Views.{most_workers}
 use Rattle.lucy_results.specs.Streams.{param_words, main_streams}
-use Rattle.lucy_front.specs.declared.accepted.Accepted.{Accepted}
+use Rattle.lucy_program.specs.declared.accepted.Accepted.{Accepted}
 use Rattle.lucy_run.specs.Calls.{WasAccepted}
 
 -- a program that is accepted for these operators can be played on these inputs up to a horizon, by so many workers

@@ -8,7 +8,7 @@ use Rattle.lucy_lines.specs.Fronts.{most_bytes}
 use Rattle.lucy_lines.specs.declared.reader.TextFault.{TextFault}
 use Rattle.lucy_text.specs.Sources.{ReadStop, Read}
 use Rattle.lucy_results.specs.Running.{HasManyTurns, HasManyItems}
-use Rattle.lucy_front.specs.declared.accepted.Accepted.{Accepted}
+use Rattle.lucy_program.specs.declared.accepted.Accepted.{Accepted}
 use Rattle.lucy_stream.specs.Runs.{none_done, IsRun}
 use Rattle.lucy_net.specs.Plans.{net_system}
 use Rattle.lucy_trace.specs.Traces.{IsTraceText}

@@ -13,8 +13,8 @@ use Rattle.lucy_clock.specs.declared.node_clock.NodeClock.{NodeClock}
 use Rattle.lucy_meaning.specs.Horizons.{Suffice, IsHorizon}
 use Rattle.lucy_results.specs.Streams.{param_words, main_streams}
 use Rattle.lucy_results.specs.Running.{HasManyTurns, HasManyItems}
-use Rattle.lucy_front.specs.declared.accepted.Accepted.{Accepted}
-use Rattle.lucy_front.specs.Report.{report}
+use Rattle.lucy_program.specs.declared.accepted.Accepted.{Accepted}
+use Rattle.lucy_program.specs.Report.{report}
 use Rattle.lucy_run.specs.declared.ending.Ending.{Ending}
 use Rattle.lucy_run.specs.declared.ending.Ending.TheVariants as ending
 use Rattle.lucy_run.specs.Feeds.{Feeds, LinesFeed}

@@ -13,7 +13,7 @@ use Rattle.lucy_trace.specs.declared.error.TraceError.{TraceError}
 use Rattle.lucy_output.specs.Outputs.{output_text}
 use Rattle.lucy_meaning.specs.Sizes.{all_places}
 use Rattle.lucy_results.specs.Streams.{main_streams, taken_of}
-use Rattle.lucy_front.specs.declared.accepted.Accepted.{Accepted}
+use Rattle.lucy_program.specs.declared.accepted.Accepted.{Accepted}
 use Rattle.lucy_run.specs.declared.ending.Ending.{Ending}
 use Rattle.lucy_run.specs.Owes.{input_words, EndsFor, IsMainFed}
 

@@ -8,9 +8,9 @@ use Rattle.lucy_text.specs.Outside.{SeenSink, Writes, Fails}
 use Rattle.lucy_kahn.specs.declared.error.KahnError.{KahnError}
 use Rattle.lucy_kahn.specs.declared.error.KahnError.TheVariants as error
 use Rattle.lucy_results.specs.Streams.{main_streams}
-use Rattle.lucy_front.specs.declared.accepted.Accepted.{Accepted}
-use Rattle.lucy_front.specs.declared.options.Options.{Options}
-use Rattle.lucy_front.specs.Accepting.{IsAccepted}
+use Rattle.lucy_program.specs.declared.accepted.Accepted.{Accepted}
+use Rattle.lucy_program.specs.declared.options.Options.{Options}
+use Rattle.lucy_program.specs.Accepting.{IsAccepted}
 use Rattle.lucy_run.specs.Paces.{AreInstants}
 use Rattle.lucy_place.specs.declared.placed.PlacedNode.{PlacedNode}
 use Rattle.lucy_net.specs.declared.net.Net.{Net}

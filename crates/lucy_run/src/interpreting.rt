@@ -19,7 +19,7 @@ use crate::extent::extent_of;
 use crate::feeding::main_feed;
 use lucy_clock::NodeClock;
 use lucy_feed::Feed;
-use lucy_front::{Accepted, accepted_programs_are_clocked};
+use lucy_program::{Accepted, accepted_programs_are_clocked};
 use lucy_host::Host;
 use lucy_kahn::KahnError;
 use lucy_output::{OutputError, OutputSpec, write_outputs};

@@ -17,7 +17,7 @@ use crate::extent::extent_of;
 use crate::feeding::main_feed;
 use crate::running::write_heading;
 use lucy_feed::Feed;
-use lucy_front::{Accepted, accepted_programs_are_clocked};
+use lucy_program::{Accepted, accepted_programs_are_clocked};
 use lucy_host::{Host, Inputs};
 use lucy_lines::InputSpec;
 use lucy_output::{OutputError, OutputSpec, write_outputs};

@@ -28,7 +28,7 @@ use lucy_cause::{Schedule, schedule_of};
 use lucy_clock::NodeClock;
 use lucy_core::Core;
 use lucy_feed::Feed;
-use lucy_front::{Accepted, accepted_programs_are_clocked};
+use lucy_program::{Accepted, accepted_programs_are_clocked};
 use lucy_host::{Host, Inputs, Ops};
 use lucy_net::Net;
 use lucy_output::OutputError;

@@ -2,7 +2,7 @@
 use Rattle.std.specs.Prelude.{ℕ, ◌+◌, ◌-◌, ◌*◌, ◌/◌, ◌^◌, ◌≡◌, min, Bool, List, [], ◌∷◌, ◌++◌, Option, map, flat_map, codes, if◌then◌else◌}
 use Rattle.std.specs.Fmt.{decimal}
 use Rattle.lucy_place.specs.declared.placed.PlacedNode.{PlacedNode}
-use Rattle.lucy_front.specs.Names.{place_name}
+use Rattle.lucy_program.specs.Names.{place_name}
 use Rattle.lucy_picture.specs.declared.row.Row.{Row}
 use Rattle.lucy_picture.specs.declared.fill.Fill.{Fill}
 use Rattle.lucy_picture.specs.Holding.{HoldsAll}

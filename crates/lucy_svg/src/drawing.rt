@@ -4,13 +4,13 @@ ghost use Rattle.lucy_host.specs.Operators.{Operator};
 ghost use Rattle.lucy_place.specs.declared.placed.PlacedNode.{PlacedNode as Node};
 ghost use Rattle.lucy_need.specs.Meeting.{assigned};
 ghost use Rattle.lucy_clock.specs.declared.node_clock.NodeClock.{NodeClock as Clock};
-ghost use Rattle.lucy_front.specs.declared.options.Options.{Options as Choices};
-ghost use Rattle.lucy_front.specs.Accepting.{IsAccepted};
+ghost use Rattle.lucy_program.specs.declared.options.Options.{Options as Choices};
+ghost use Rattle.lucy_program.specs.Accepting.{IsAccepted};
 ghost use Rattle.lucy_picture.specs.Charts.{chart_row, named_places, AreFills};
 ghost use Rattle.lucy_svg.specs.Flows.{AreFlows};
 
 use crate::flow::{Flow, flows};
-use lucy_front::Accepted;
+use lucy_program::Accepted;
 use lucy_picture::{Chart, chart_of};
 use lucy_word::OutOfMemory;
 use std::alloc::Global;

@@ -4,7 +4,7 @@ ghost use Rattle.lucy_tree.specs.declared.span.Name.{Name as StreamName};
 ghost use Rattle.lucy_place.specs.declared.entry.PlaceKind.TheVariants.{Defined};
 ghost use Rattle.lucy_place.specs.declared.placed.PlacedNode.{PlacedNode as Node};
 ghost use Rattle.lucy_place.specs.Standing.{at_one};
-ghost use Rattle.lucy_front.specs.Names.{place_name};
+ghost use Rattle.lucy_program.specs.Names.{place_name};
 ghost use Rattle.lucy_svg.specs.Names.{stream_of, told_by, AreTold};
 ghost use Rattle.lucy_svg.specs.Telling.{Tells};
 

@@ -20,7 +20,7 @@ use Rattle.lucy_word.specs.Always.{always}
 use Rattle.lucy_word.specs.Adaptable.{IsAdaptable, IsSize}
 use Rattle.lucy_need.specs.Meeting.{Assignment, alone, assigned}
 use Rattle.lucy_clock.specs.declared.signature.Signature.{Signature}
-use Rattle.lucy_front.specs.Report.{first_operand}
+use Rattle.lucy_program.specs.Report.{first_operand}
 use Rattle.lucy_clock.specs.Listing.{word_needs, kind_needs, place_needs, needs_from, needs_of}
 
 -- what stands at a place is one thing

@@ -31,11 +31,11 @@ use Rattle.lucy_word.specs.declared.limit.Limit.{Limit}
 use Rattle.lucy_rates.specs.Vectors.{IsShapeOf}
 use Rattle.lucy_rates.proofs.OneShape.{one_shape}
 use Rattle.lucy_inference.specs.Inference.{AreInferredWords}
-use Rattle.lucy_front.specs.declared.accepted.Accepted.{Accepted}
-use Rattle.lucy_front.specs.declared.options.Options.{Options}
-use Rattle.lucy_front.specs.Inferring.{node_needs, IsInferred}
-use Rattle.lucy_front.specs.Accepting.{IsAccepted}
-use Rattle.lucy_front.proofs.OneAnswer.{text_proper}
+use Rattle.lucy_program.specs.declared.accepted.Accepted.{Accepted}
+use Rattle.lucy_program.specs.declared.options.Options.{Options}
+use Rattle.lucy_program.specs.Inferring.{node_needs, IsInferred}
+use Rattle.lucy_program.specs.Accepting.{IsAccepted}
+use Rattle.lucy_program.proofs.AcceptedLaws.{text_proper}
 use Rattle.lucy_tight.specs.Tightening.{needs_at, TheBuffer}
 use Rattle.lucy_tight.proofs.BufferLaws.{buffer_need}
 use Rattle.lucy_tight.proofs.Smallness.{keeps_small, small_size}

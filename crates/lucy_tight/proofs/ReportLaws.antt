@@ -8,8 +8,8 @@ use Rattle.lucy_clock.specs.Clocks.{clocks_of}
 use Rattle.lucy_need.specs.declared.need.Needs.{Needs}
 use Rattle.lucy_solve.specs.System.{System}
 use Rattle.lucy_shape.specs.Fitting.{variable_count}
-use Rattle.lucy_front.specs.declared.accepted.Accepted.{Accepted}
-use Rattle.lucy_front.specs.declared.options.Options.{Options}
+use Rattle.lucy_program.specs.declared.accepted.Accepted.{Accepted}
+use Rattle.lucy_program.specs.declared.options.Options.{Options}
 use Rattle.lucy_front.specs.Evidence.{variable_names, cycle_lines}
 use Rattle.lucy_front.specs.Refusals.{AreBelow}
 use Rattle.lucy_front.proofs.EvidenceLaws.{all_below}

@@ -24,9 +24,9 @@ use Rattle.lucy_clock.proofs.NeedLaws.{rules_law}
 use Rattle.lucy_shape.specs.declared.shape.Shape.{Shape}
 use Rattle.lucy_shape.specs.Fitting.{FitsShape, IsFitting}
 use Rattle.lucy_shape.specs.Sized.{HasSizeWithin, MeetsWithin}
-use Rattle.lucy_front.specs.declared.accepted.Accepted.{Accepted}
-use Rattle.lucy_front.specs.declared.options.Options.{Options}
-use Rattle.lucy_front.specs.Accepting.{IsAccepted}
+use Rattle.lucy_program.specs.declared.accepted.Accepted.{Accepted}
+use Rattle.lucy_program.specs.declared.options.Options.{Options}
+use Rattle.lucy_program.specs.Accepting.{IsAccepted}
 use Rattle.lucy_tight.specs.Tightening.{needs_at}
 use Rattle.lucy_tight.specs.Measured.{AreAdaptable}
 use Rattle.lucy_tight.proofs.BufferLaws.{operand_one}

@@ -3,10 +3,10 @@ use Rattle.std.specs.Prelude.{ℕ, zero, suc, ◌+◌, ◌==◌, List, [], ◌++
 use Rattle.std.specs.Fmt.{decimal}
 use Rattle.lucy_place.specs.declared.placed.PlacedNode.{PlacedNode}
 use Rattle.lucy_types.specs.Tables.{table_at}
-use Rattle.lucy_front.specs.declared.accepted.Accepted.{Accepted}
-use Rattle.lucy_front.specs.Names.{of_one}
+use Rattle.lucy_program.specs.declared.accepted.Accepted.{Accepted}
+use Rattle.lucy_program.specs.Names.{of_one}
 use Rattle.lucy_front.specs.Evidence.{variable_names, cycle_lines}
-use Rattle.lucy_front.specs.Report.{node_lines}
+use Rattle.lucy_program.specs.Report.{node_lines}
 use Rattle.lucy_tight.specs.declared.answer.Least.{Least}
 
 -- `buffer N of NODE : size P, `, with the printed size

@@ -20,9 +20,9 @@ use Rattle.lucy_shape.specs.Sized.{HasSizeWithin, sized_system}
 use Rattle.lucy_rates.specs.Vectors.{IsShapeOf}
 use Rattle.lucy_inference.specs.Earliest.{FitsAndMeets}
 use Rattle.lucy_inference.specs.Inference.{HasLongClock}
-use Rattle.lucy_front.specs.declared.accepted.Accepted.{Accepted}
-use Rattle.lucy_front.specs.declared.options.Options.{Options}
-use Rattle.lucy_front.specs.Inferring.{node_needs}
+use Rattle.lucy_program.specs.declared.accepted.Accepted.{Accepted}
+use Rattle.lucy_program.specs.declared.options.Options.{Options}
+use Rattle.lucy_program.specs.Inferring.{node_needs}
 use Rattle.lucy_tight.specs.declared.answer.Least.{Least}
 use Rattle.lucy_tight.specs.declared.answer.TightError.{TightError}
 use Rattle.lucy_tight.specs.declared.answer.TightError.TheVariants.{Fixed, Limit as LimitPassed}

@@ -6,12 +6,13 @@ ghost use Rattle.lucy_types.specs.Programs.{IsTyped};
 ghost use Rattle.lucy_clock.specs.Clocks.{clocks_of};
 ghost use Rattle.lucy_shape.specs.Fitting.{variable_count};
 ghost use Rattle.lucy_front.specs.Refusals.{AreBelow};
-ghost use Rattle.lucy_front.specs.declared.options.Options.{Options as Choices};
+ghost use Rattle.lucy_program.specs.declared.options.Options.{Options as Choices};
 ghost use Rattle.lucy_tight.specs.Tightening.{IsTightened};
 ghost use Rattle.lucy_tight.specs.Report as spec;
 
 use crate::Least;
-use lucy_front::{Accepted, cycle_text, report_node};
+use lucy_front::cycle_text;
+use lucy_program::{Accepted, report_node};
 use lucy_place::PlacedNode;
 use lucy_word::OutOfMemory;
 use std::alloc::Global;

@@ -3,12 +3,12 @@ ghost use Rattle.std.specs.Prelude.{ℕ, List, ◌≡◌, ◌<◌, ◌≤◌, So
 ghost use Rattle.lucy_host.specs.Operators.{Operator};
 ghost use Rattle.lucy_place.specs.declared.placed.PlacedNode.{PlacedNode as Node};
 ghost use Rattle.lucy_clock.specs.declared.node_clock.NodeClock.{NodeClock as Clock};
-ghost use Rattle.lucy_front.specs.declared.options.Options.{Options as Choices};
-ghost use Rattle.lucy_front.specs.Accepting.{IsAccepted};
+ghost use Rattle.lucy_program.specs.declared.options.Options.{Options as Choices};
+ghost use Rattle.lucy_program.specs.Accepting.{IsAccepted};
 ghost use Rattle.lucy_tight.specs.Tightening.{TheBuffer};
 
 use lucy_clock::NodeClock;
-use lucy_front::{Accepted, first_operand};
+use lucy_program::{Accepted, first_operand};
 use lucy_place::PlacedNode;
 
 /// The place that a buffer reads, its own place, and its printed size in items.

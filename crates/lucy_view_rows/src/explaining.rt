@@ -2,7 +2,7 @@
 // printed behind `> `.
 use crate::show::print_lines;
 use lucy_explain::explain;
-use lucy_front::Options;
+use lucy_program::Options;
 use lucy_host::Ops;
 use std::fs::{self, Files};
 use std::io::{self, ErrorKind};

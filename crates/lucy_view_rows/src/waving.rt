@@ -1,10 +1,11 @@
 // A row of a dump names a program and an input, and the instants that are given; `-` stands for none. Each line of the dump is printed
 // behind `> `, and how the run ended where it isn't done.
 ghost use Rattle.lucy_host.specs.Host.{Serves};
-ghost use Rattle.lucy_front.specs.Inferring.{AreOptions};
+ghost use Rattle.lucy_program.specs.Inferring.{AreOptions};
 
 use crate::show::{print_lines, sink};
-use lucy_front::{Options, accept};
+use lucy_front::accept;
+use lucy_program::Options;
 use lucy_host::Host;
 use lucy_run::Ending;
 use lucy_text::MemSource;

@@ -9,10 +9,10 @@ use Rattle.lucy_need.specs.Meeting.{assigned}
 use Rattle.lucy_clock.specs.declared.node_clock.NodeClock.{NodeClock}
 use Rattle.lucy_cause.specs.Lengths.{AreLengths}
 use Rattle.lucy_flat.specs.Instances.{words_in}
-use Rattle.lucy_front.specs.declared.accepted.Accepted.{Accepted}
-use Rattle.lucy_front.specs.declared.options.Options.{Options}
-use Rattle.lucy_front.specs.Accepting.{IsAccepted}
-use Rattle.lucy_front.proofs.ReportLaws.{drop_at}
+use Rattle.lucy_program.specs.declared.accepted.Accepted.{Accepted}
+use Rattle.lucy_program.specs.declared.options.Options.{Options}
+use Rattle.lucy_program.specs.Accepting.{IsAccepted}
+use Rattle.lucy_program.proofs.ReportLaws.{drop_at}
 use Rattle.lucy_picture.specs.declared.chart.Chart.{Chart}
 use Rattle.lucy_picture.specs.declared.turn.Turn.{Turn}
 use Rattle.lucy_picture.specs.Charts.{named_places, chart_row, AreFills}

@@ -21,7 +21,7 @@ use Rattle.lucy_place.specs.declared.error.NameError.{NameError}
 use Rattle.lucy_place.specs.PlacedProgram.{PlacedProgram}
 use Rattle.lucy_place.specs.Faults.{faults}
 use Rattle.lucy_place.specs.Placing.{IsPlaced, TellsFirstFault}
-use Rattle.lucy_front.specs.Accepting.{syntax_refusal, names_refusal}
+use Rattle.lucy_front.specs.Refusing.{syntax_refusal, names_refusal}
 use Rattle.lucy_asking.specs.declared.ask.Sought.{Sought}
 use Rattle.lucy_asking.specs.declared.ask.Sought.TheVariants as sought
 use Rattle.lucy_views.specs.declared.failure.Failure.{Failure}

@@ -5,11 +5,12 @@ use Rattle.std.specs.declared.alloc.Global.{Global}
 use Rattle.std.specs.declared.vec.Vec.{Vec}
 use Rattle.lucy_host.specs.Operators.{Operator}
 use Rattle.lucy_text.specs.Sources.{Unread}
-use Rattle.lucy_front.specs.declared.accepted.Accepted.{Accepted}
-use Rattle.lucy_front.specs.declared.options.Options.{Options}
+use Rattle.lucy_program.specs.declared.accepted.Accepted.{Accepted}
+use Rattle.lucy_program.specs.declared.options.Options.{Options}
 use Rattle.lucy_front.specs.declared.refusal.Refusal.{Refusal}
 use Rattle.lucy_front.specs.declared.refusal.Refusal.TheVariants as front
-use Rattle.lucy_front.specs.Accepting.{IsAccepted, Refuses}
+use Rattle.lucy_program.specs.Accepting.{IsAccepted}
+use Rattle.lucy_front.specs.Refusing.{Refuses}
 use Rattle.lucy_explain.specs.Begins.{BeginsAs}
 use Rattle.lucy_freeze.specs.Freezing.{IsFrozen}
 use Rattle.lucy_app.specs.Answers.{Answer, printed}
@@ -23,7 +24,7 @@ use Rattle.lucy_views.specs.declared.shown.Shown.{Shown}
 use Rattle.lucy_views.specs.Owes.{Explains, OwesFrozen}
 use Rattle.lucy_views.specs.Failures.{failure_answer, program_failure, ComesOut, IsOutcome}
 use Rattle.lucy_views.proofs.Told.{check_told}
-use Rattle.lucy_front.specs.Report.{report}
+use Rattle.lucy_program.specs.Report.{report}
 use Rattle.lucy_front.specs.Refusals.{IsTellable}
 use Rattle.lucy_front.proofs.TellableLaws.{tellable}
 use Rattle.lucy_page.specs.Pages.{IsPage, IsRefusedPage}

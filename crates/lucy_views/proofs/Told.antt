@@ -13,10 +13,10 @@ use Rattle.lucy_place.specs.declared.error.NameError.{NameError}
 use Rattle.lucy_place.specs.declared.error.NameError.TheVariants as names
 use Rattle.lucy_place.specs.Faults.{faults}
 use Rattle.lucy_place.specs.Placing.{TellsFirstFault}
-use Rattle.lucy_front.specs.declared.options.Options.{Options}
+use Rattle.lucy_program.specs.declared.options.Options.{Options}
 use Rattle.lucy_front.specs.declared.refusal.Refusal.{Refusal}
 use Rattle.lucy_front.specs.declared.refusal.Refusal.TheVariants as front
-use Rattle.lucy_front.specs.Accepting.{Refuses, syntax_refusal, names_refusal}
+use Rattle.lucy_front.specs.Refusing.{Refuses, syntax_refusal, names_refusal}
 use Rattle.lucy_front.specs.Refusals.{IsTellable}
 use Rattle.lucy_app.specs.Check.{RefusesCheck}
 use Rattle.lucy_app.specs.Programs.{OwesUnfetched}

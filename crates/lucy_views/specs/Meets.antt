@@ -5,7 +5,7 @@ use Rattle.lucy_word.specs.declared.limit.Limit.TheVariants as limit
 use Rattle.lucy_host.specs.Operators.{Operator}
 use Rattle.lucy_text.specs.declared.shelf.ShelfError.{ShelfError}
 use Rattle.lucy_text.specs.Sources.{Unread, Read}
-use Rattle.lucy_front.specs.declared.options.Options.{Options}
+use Rattle.lucy_program.specs.declared.options.Options.{Options}
 use Rattle.lucy_app.specs.Commands.{inferring_options, program_of, TakesInput}
 use Rattle.lucy_app.specs.World.{World, Given, Fetched}
 use Rattle.lucy_asking.specs.declared.ask.FileWords.{FileWords}

@@ -7,13 +7,14 @@ use Rattle.lucy_grammar.specs.Texts.{HasTree}
 use Rattle.lucy_place.specs.declared.placed.PlacedNode.{PlacedNode}
 use Rattle.lucy_place.specs.PlacedProgram.{PlacedProgram}
 use Rattle.lucy_place.specs.Standing.{at_one}
-use Rattle.lucy_front.specs.declared.accepted.Accepted.{Accepted}
-use Rattle.lucy_front.specs.declared.options.Options.{Options}
+use Rattle.lucy_program.specs.declared.accepted.Accepted.{Accepted}
+use Rattle.lucy_program.specs.declared.options.Options.{Options}
 use Rattle.lucy_front.specs.declared.refusal.Refusal.{Refusal}
 use Rattle.lucy_front.specs.declared.refusal.Refusal.TheVariants as refusal
-use Rattle.lucy_front.specs.Accepting.{IsPlacedText, IsAccepted, RefusesText}
+use Rattle.lucy_program.specs.Accepting.{IsPlacedText, IsAccepted}
+use Rattle.lucy_front.specs.Refusing.{RefusesText}
 use Rattle.lucy_front.specs.Refusals.{IsTellable, refusal_text}
-use Rattle.lucy_front.specs.Report.{report}
+use Rattle.lucy_program.specs.Report.{report}
 use Rattle.lucy_picture.specs.Spots.{PutsSpot}
 use Rattle.lucy_page.specs.Pages.{IsPage, IsRefusedPage}
 use Rattle.lucy_explain.specs.Begins.{BeginsAs}

@@ -8,7 +8,7 @@ use Rattle.lucy_need.specs.Meeting.{assigned}
 use Rattle.lucy_clock.specs.declared.node_clock.NodeClock.{NodeClock}
 use Rattle.lucy_cause.specs.Lengths.{AreLengths}
 use Rattle.lucy_flat.specs.Instances.{words_in}
-use Rattle.lucy_front.specs.declared.accepted.Accepted.{Accepted}
+use Rattle.lucy_program.specs.declared.accepted.Accepted.{Accepted}
 use Rattle.lucy_picture.specs.declared.chart.Chart.{Chart}
 use Rattle.lucy_picture.specs.declared.turn.Turn.{Turn}
 use Rattle.lucy_picture.specs.Charts.{named_places, chart_row, AreFills}

@@ -1,6 +1,6 @@
 // Why nothing is printed.
 ghost use Rattle.std.specs.Prelude.{◌≡◌};
-ghost use Rattle.lucy_front.specs.Accepting.{syntax_refusal, names_refusal};
+ghost use Rattle.lucy_front.specs.Refusing.{syntax_refusal, names_refusal};
 ghost use Rattle.lucy_views.specs.Failures.{fetch_failure, program_failure};
 ghost use Rattle.lucy_views.specs.declared.failure.Failure.TheVariants.{OutOfMemory};
 

@@ -1,7 +1,7 @@
 // The program that a command works on.
 ghost use Rattle.std.specs.Prelude.{◌≡◌, ◌<◌, None, length, IfSome};
 ghost use Rattle.std.specs.Option.{option_map};
-ghost use Rattle.lucy_front.specs.Inferring.{AreOptions};
+ghost use Rattle.lucy_program.specs.Inferring.{AreOptions};
 ghost use Rattle.lucy_asking.specs.Asks.{AreFactors};
 ghost use Rattle.lucy_views.specs.Meets as spec;
 ghost use Rattle.lucy_views.specs.Owes as owed;
@@ -9,7 +9,7 @@ ghost use Rattle.lucy_views.specs.Owes.{HasNode};
 
 use lucy_app::{inferring, node_named};
 use lucy_asking::FileWords;
-use lucy_front::Options;
+use lucy_program::Options;
 use lucy_place::Placed;
 
 /// How the clocks of a program are found.

@@ -2,8 +2,8 @@
 ghost use Rattle.std.specs.Prelude.{List, Ok, Some, IfErr};
 ghost use Rattle.std.specs.Option.{option_map};
 ghost use Rattle.lucy_host.specs.Operators.{Operator};
-ghost use Rattle.lucy_front.specs.Accepting.{IsAccepted};
-ghost use Rattle.lucy_front.specs.Inferring.{AreOptions};
+ghost use Rattle.lucy_program.specs.Accepting.{IsAccepted};
+ghost use Rattle.lucy_program.specs.Inferring.{AreOptions};
 ghost use Rattle.lucy_asking.specs.declared.ask.Picture.TheVariants as picture;
 ghost use Rattle.lucy_asking.specs.Asks.{AreFactors};
 ghost use Rattle.lucy_views.specs.Owes.{OwesWhy, OwesPicture};
@@ -14,7 +14,8 @@ use crate::missing::Missing;
 use crate::program::{node_asked, options};
 use lucy_asking::WhyWords;
 use lucy_explain::why;
-use lucy_front::{Accepted, Options, accept};
+use lucy_front::accept;
+use lucy_program::{Accepted, Options};
 use lucy_host::Ops;
 use std::alloc::Global;
 

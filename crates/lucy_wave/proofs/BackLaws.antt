@@ -33,9 +33,9 @@ use Rattle.lucy_feed.specs.Feeding.{OneFeed}
 use Rattle.lucy_word.specs.Limits.{limit_number}
 use Rattle.lucy_word.specs.declared.limit.Limit.TheVariants as limit
 use Rattle.lucy_host.specs.Operators.{Operator}
-use Rattle.lucy_front.specs.declared.accepted.Accepted.{Accepted}
-use Rattle.lucy_front.specs.declared.options.Options.{Options}
-use Rattle.lucy_front.specs.Accepting.{IsAccepted}
+use Rattle.lucy_program.specs.declared.accepted.Accepted.{Accepted}
+use Rattle.lucy_program.specs.declared.options.Options.{Options}
+use Rattle.lucy_program.specs.Accepting.{IsAccepted}
 use Rattle.lucy_wave.specs.Laws.{WavesAreReadBack, OneWave}
 use Rattle.lucy_wave.specs.Names.{there_name}
 use Rattle.lucy_wave.specs.Dumps.{Variable, code_of, kind_of, declaration, declarations, time_line, change_line, is_changed, change, changes, steps, header, dump, text_of}

@@ -17,9 +17,9 @@ use Rattle.lucy_place.specs.declared.placed.PlacedNode.{PlacedNode}
 use Rattle.lucy_place.specs.Proper.{IsNamed, AreNamed, AreDistinct as NamesApart, IsProperNode, IsProperKind, IsLabelled}
 use Rattle.lucy_types.specs.declared.ty.Ty.{Ty}
 use Rattle.lucy_need.specs.Meeting.{Assignment, assigned}
-use Rattle.lucy_front.specs.Names.{place_name}
-use Rattle.lucy_front.specs.Scheduled.{main_output}
-use Rattle.lucy_front.specs.Report.{first_operand}
+use Rattle.lucy_program.specs.Names.{place_name}
+use Rattle.lucy_program.specs.Scheduled.{main_output}
+use Rattle.lucy_program.specs.Report.{first_operand}
 use Rattle.lucy_meaning.proofs.Closed.{each_of}
 use Rattle.lucy_meaning.proofs.Lists.{there as there_at}
 use Rattle.lucy_wave.specs.Names.{there_name, buffer_name}

@@ -37,11 +37,11 @@ use Rattle.lucy_meaning.specs.Spots.{main_of}
 use Rattle.lucy_meaning.proofs.Closed.{each_of}
 use Rattle.lucy_flat.specs.Instances.{words_in}
 use Rattle.lucy_types.specs.Tables.{table_at}
-use Rattle.lucy_front.specs.declared.accepted.Accepted.{Accepted}
-use Rattle.lucy_front.specs.declared.options.Options.{Options}
-use Rattle.lucy_front.specs.Accepting.{IsAccepted}
-use Rattle.lucy_front.specs.Names.{of_one, name_at, place_name}
-use Rattle.lucy_front.specs.Scheduled.{main_output}
+use Rattle.lucy_program.specs.declared.accepted.Accepted.{Accepted}
+use Rattle.lucy_program.specs.declared.options.Options.{Options}
+use Rattle.lucy_program.specs.Accepting.{IsAccepted}
+use Rattle.lucy_program.specs.Names.{of_one, name_at, place_name}
+use Rattle.lucy_program.specs.Scheduled.{main_output}
 use Rattle.lucy_wave.specs.Waves.{bytes_of, written_name}
 use Rattle.lucy_wave.proofs.BackLaws.{IsPlain, NamesArePlain}
 

@@ -24,8 +24,8 @@ use Rattle.lucy_need.specs.Meeting.{Assignment}
 use Rattle.lucy_kahn.specs.Turns.{params_in}
 use Rattle.lucy_flat.specs.Instances.{words_in}
 use Rattle.lucy_results.specs.Streams.{main_word}
-use Rattle.lucy_front.specs.Names.{of_one}
-use Rattle.lucy_front.specs.Scheduled.{main_output}
+use Rattle.lucy_program.specs.Names.{of_one}
+use Rattle.lucy_program.specs.Scheduled.{main_output}
 use Rattle.lucy_wave.specs.Dumps.{Variable}
 use Rattle.lucy_wave.specs.Waves.{results, inputs, inner, buffers, variables}
 use Rattle.lucy_wave.specs.Laws.{AreDistinct, NamesAreDistinct}

@@ -15,7 +15,7 @@ use Rattle.lucy_place.specs.Proper.{at_one, IsNamed, IsProperNode, IsProperKind,
 use Rattle.lucy_types.proofs.ListLaws.{at_one_within}
 use Rattle.lucy_need.specs.Meeting.{Assignment}
 use Rattle.lucy_clock.specs.Clocks.{clocks_of}
-use Rattle.lucy_front.specs.Report.{first_operand}
+use Rattle.lucy_program.specs.Report.{first_operand}
 use Rattle.lucy_wave.specs.Dumps.{Variable}
 use Rattle.lucy_wave.specs.Waves.{Fit, there, waits, stream, results, input, inputs, written_name, is_outer, inner_place, inner_places, inner_of, there_bits, with_items, buffers}
 use Rattle.lucy_wave.specs.Seen.{IsWithin}

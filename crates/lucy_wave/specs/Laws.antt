@@ -9,9 +9,9 @@ use Rattle.lucy_output.specs.declared.output.OutputSpec.{OutputSpec}
 use Rattle.lucy_meaning.specs.Spots.{main_of}
 use Rattle.lucy_kahn.specs.Turns.{params_in}
 use Rattle.lucy_results.specs.Streams.{main_word}
-use Rattle.lucy_front.specs.declared.accepted.Accepted.{Accepted}
-use Rattle.lucy_front.specs.declared.options.Options.{Options}
-use Rattle.lucy_front.specs.Accepting.{IsAccepted}
+use Rattle.lucy_program.specs.declared.accepted.Accepted.{Accepted}
+use Rattle.lucy_program.specs.declared.options.Options.{Options}
+use Rattle.lucy_program.specs.Accepting.{IsAccepted}
 use Rattle.lucy_run.specs.declared.ending.Ending.{Ending}
 use Rattle.lucy_run.specs.Owes.{heading, OwesRun}
 use Rattle.lucy_wave.specs.Reading.{SaysOutput, ReadsFrom}

@@ -13,7 +13,7 @@ ghost use Rattle.lucy_wave.specs.Seen.{seen, all_seen, IsWithin};
 
 use crate::variable::Variable;
 use lucy_clock::NodeClock;
-use lucy_front::first_operand;
+use lucy_program::first_operand;
 use lucy_host::Inputs;
 use lucy_output::OutputSpec;
 use lucy_place::{Placed, PlacedNode};

@@ -2,7 +2,7 @@
 ghost use Rattle.lucy_wave.specs.Laws.{WavesAreReadBack, OneWave, OneReading, OneCount, NamesAreDistinct};
 
 use lucy_feed::one_feed;
-use lucy_front::accepted_programs_are_clocked;
+use lucy_program::accepted_programs_are_clocked;
 use lucy_meaning::one_horizon;
 use lucy_results::streams_are_whole;
 use lucy_token::texts_have_one_cut;

@@ -28,7 +28,7 @@ use crate::playing::{Played, play};
 use lucy_cause::Schedule;
 use lucy_clock::NodeClock;
 use lucy_feed::Feed;
-use lucy_front::{Accepted, accepted_programs_are_clocked};
+use lucy_program::{Accepted, accepted_programs_are_clocked};
 use lucy_host::{Host, Inputs};
 use lucy_net::Net;
 use lucy_output::OutputSpec;

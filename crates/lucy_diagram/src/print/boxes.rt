@@ -8,7 +8,7 @@ use crate::place::Figure;
 use crate::print::label::{put, put_label};
 use crate::print::sizes::put_size;
 use crate::print::text::put_there;
-use lucy_front::Accepted;
+use lucy_program::Accepted;
 use lucy_place::PlacedNode;
 use lucy_tree::Program;
 use lucy_word::OutOfMemory;

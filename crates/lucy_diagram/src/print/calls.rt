@@ -11,7 +11,7 @@ use crate::place::Figure;
 use crate::print::boxes::put_box;
 use crate::print::label::{label_at, put, put_label};
 use crate::print::text::put_name;
-use lucy_front::Accepted;
+use lucy_program::Accepted;
 use lucy_place::PlacedNode;
 use lucy_text::Text;
 use lucy_tree::Program;

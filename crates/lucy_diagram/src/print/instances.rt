@@ -6,8 +6,8 @@ ghost use Rattle.lucy_place.specs.declared.placed.PlacedNode.{PlacedNode as Node
 ghost use Rattle.lucy_place.specs.Faults.{most_places};
 ghost use Rattle.lucy_place.specs.Proper.{AreProper};
 ghost use Rattle.lucy_meaning.specs.Sizes.{size_of, all_places};
-ghost use Rattle.lucy_front.specs.declared.options.Options.{Options as Choices};
-ghost use Rattle.lucy_front.specs.Accepting.{IsAccepted};
+ghost use Rattle.lucy_program.specs.declared.options.Options.{Options as Choices};
+ghost use Rattle.lucy_program.specs.Accepting.{IsAccepted};
 ghost use Rattle.lucy_diagram.specs.Diagrams.{drawn_places};
 ghost use Rattle.lucy_diagram.specs.Nets as spec;
 
@@ -17,7 +17,7 @@ use crate::print::boxes::put_box;
 use crate::print::frames::{path_to, put_frame};
 use crate::print::label::{put, put_head};
 use crate::print::rings::{put_outputs, put_rings};
-use lucy_front::Accepted;
+use lucy_program::Accepted;
 use lucy_place::PlacedNode;
 use lucy_tree::Program;
 use lucy_word::OutOfMemory;

@@ -3,12 +3,12 @@ ghost use Rattle.std.specs.Prelude.{◌≡◌, ◌++◌, slice_get, codes, OnOk}
 ghost use Rattle.std.specs.Fmt.{decimal};
 ghost use Rattle.lucy_place.specs.Standing.{at_one, bound_of};
 ghost use Rattle.lucy_flat.specs.Instances.{sizes_in};
-ghost use Rattle.lucy_front.specs.Names.{of_one};
+ghost use Rattle.lucy_program.specs.Names.{of_one};
 ghost use Rattle.lucy_diagram.specs.Labels.{buffer_part};
 ghost use Rattle.lucy_diagram.specs.Graphs.{buffer_text};
 
 use crate::print::label::{entry_at, put};
-use lucy_front::Accepted;
+use lucy_program::Accepted;
 use lucy_place::{PlaceKind, PlacedNode};
 use std::alloc::{AllocError, Global};
 

@@ -2,9 +2,9 @@
 ghost use Rattle.std.specs.Prelude.{ℕ, List, ◌<◌, length};
 ghost use Rattle.lucy_host.specs.Operators.{Operator};
 ghost use Rattle.lucy_shape.specs.Fitting.{IsShapeFor};
-ghost use Rattle.lucy_front.specs.declared.options.Options.{Options as Choices};
-ghost use Rattle.lucy_front.specs.Accepting.{IsAccepted};
-ghost use Rattle.lucy_front.specs.Inferring.{AreOptions};
+ghost use Rattle.lucy_program.specs.declared.options.Options.{Options as Choices};
+ghost use Rattle.lucy_program.specs.Accepting.{IsAccepted};
+ghost use Rattle.lucy_program.specs.Inferring.{AreOptions};
 ghost use Rattle.lucy_explain.specs.Chains.{IsReasonFor};
 
 use crate::fold::fold_chain;
@@ -19,7 +19,7 @@ use crate::tell::sizes::put_all_sizes;
 use crate::tell::{scene_of, tree_of};
 use crate::waits::{first_full, waits_of};
 use lucy_clock::NodeClock;
-use lucy_front::{Accepted, Options, first_operand};
+use lucy_program::{Accepted, Options, first_operand};
 use lucy_need::Needs;
 use lucy_place::PlaceEntry;
 use lucy_shape::Shape;

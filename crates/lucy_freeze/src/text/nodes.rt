@@ -4,7 +4,7 @@ use crate::text::cut::{Cutter, put_expr};
 use crate::text::forms::Part;
 use crate::text::sheet::Sheet;
 use crate::text::writer::Writer;
-use lucy_front::Accepted;
+use lucy_program::Accepted;
 use lucy_place::PlacedNode;
 use lucy_token::Mark;
 use lucy_tree::{Decl, Def, Node, Program};

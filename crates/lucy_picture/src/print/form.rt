@@ -4,7 +4,7 @@ ghost use Rattle.std.specs.Option.{option_map};
 ghost use Rattle.lucy_tree.specs.View.{tree_of};
 ghost use Rattle.lucy_grammar.specs.Print.{lit_token, spaced_text};
 ghost use Rattle.lucy_place.specs.Standing.{at_one, bound_of};
-ghost use Rattle.lucy_front.specs.Names.{of_one, name_at, place_name, place_names, listed};
+ghost use Rattle.lucy_program.specs.Names.{of_one, name_at, place_name, place_names, listed};
 ghost use Rattle.lucy_picture.specs.Kinds as spec;
 
 use crate::print::columns::put;

@@ -5,8 +5,8 @@ ghost use Rattle.lucy_place.specs.declared.placed.PlacedNode.{PlacedNode as Node
 ghost use Rattle.lucy_place.specs.Faults.{most_places};
 ghost use Rattle.lucy_place.specs.Standing.{bound_of};
 ghost use Rattle.lucy_flat.specs.Instances.{words_in};
-ghost use Rattle.lucy_front.specs.Names.{of_one, name_at};
-ghost use Rattle.lucy_front.specs.Report.{size_part};
+ghost use Rattle.lucy_program.specs.Names.{of_one, name_at};
+ghost use Rattle.lucy_program.specs.Report.{size_part};
 ghost use Rattle.lucy_picture.specs.Lines as spec;
 
 use crate::chart::Chart;
@@ -16,7 +16,7 @@ use crate::print::form::name_at;
 use crate::row::Row;
 use crate::turn::Turn;
 use crate::words::words_at;
-use lucy_front::{Accepted, node_line};
+use lucy_program::{Accepted, node_line};
 use lucy_place::PlacedNode;
 use lucy_word::{OutOfMemory, Word};
 use std::alloc::{AllocError, Global};

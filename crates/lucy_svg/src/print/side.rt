@@ -1,6 +1,6 @@
 // What stands before the lanes: names and words.
 ghost use Rattle.std.specs.Prelude.{◌≡◌, ◌∷◌, ◌++◌, [], IfOk, OnOk};
-ghost use Rattle.lucy_front.specs.Names.{place_name};
+ghost use Rattle.lucy_program.specs.Names.{place_name};
 ghost use Rattle.lucy_picture.specs.Lines.{word_text};
 ghost use Rattle.lucy_picture.specs.Holding.{Extends, Puts};
 ghost use Rattle.lucy_svg.specs.Names.{told_by};

@@ -1,6 +1,6 @@
 use Rattle.std.proofs.Common.{[]}
 use Rattle.lucy_types.specs.Tables.{table_at}
-use Rattle.lucy_front.proofs.ReportLaws.{names_more}
+use Rattle.lucy_program.proofs.ReportLaws.{names_more}
 use Rattle.lucy_app.proofs.report.name_lines.Goals as goal
 
 pub each-preserved : goal.each-preserved

@@ -1,6 +1,6 @@
 use Rattle.std.proofs.Common.{◌≡◌, ◌+◌, [], ◌++◌, drop}
 use Rattle.lucy_types.specs.Tables.{table_at}
-use Rattle.lucy_front.specs.Report.{name_lines}
+use Rattle.lucy_program.specs.Report.{name_lines}
 use Rattle.lucy_app.proofs.report.name_lines.Given as goal
 
 abbrev pub invariant-each : goal.invariant-each

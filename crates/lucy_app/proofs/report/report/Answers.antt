@@ -1,6 +1,6 @@
 use Rattle.std.proofs.Common.{◌<◌, length, ap, sym, ◌∙◌, arith}
 use Rattle.std.proofs.lemmas.Option.{slice_get_within}
-use Rattle.lucy_front.proofs.ReportLaws.{table_found}
+use Rattle.lucy_program.proofs.ReportLaws.{table_found}
 use Rattle.lucy_app.proofs.Reports.{report_more}
 use Rattle.lucy_app.proofs.report.report.Goals as goal
 

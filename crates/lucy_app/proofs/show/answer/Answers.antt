@@ -1,4 +1,4 @@
-use Rattle.lucy_front.specs.Accepting.{RefusesSyntax}
+use Rattle.lucy_front.specs.Refusing.{RefusesSyntax}
 use Rattle.lucy_app.specs.Show.{IsPrintOf}
 use Rattle.lucy_app.proofs.Outcomes.{program_outcome}
 use Rattle.lucy_app.proofs.show.answer.Goals as goal

@@ -1,4 +1,4 @@
-use Rattle.lucy_front.specs.Accepting.{RefusesText}
+use Rattle.lucy_front.specs.Refusing.{RefusesText}
 use Rattle.lucy_app.specs.Types.{IsReportOf}
 use Rattle.lucy_app.proofs.Outcomes.{program_outcome}
 use Rattle.lucy_app.proofs.types.answer.Goals as goal

@@ -1,6 +1,6 @@
 use Rattle.std.proofs.Common.{ℕ, List, sym, subst}
 use Rattle.std.proofs.lemmas.Result.{IfOk-weaker, IfErr-weaker}
-use Rattle.lucy_front.specs.Accepting.{IsAccepted}
+use Rattle.lucy_program.specs.Accepting.{IsAccepted}
 use Rattle.lucy_freeze.specs.declared.freezing.Frozen.{Frozen}
 use Rattle.lucy_freeze.specs.Freezing.{all_written, IsFrozen}
 use Rattle.lucy_freeze.proofs.freezing.compared.Goals as goal

@@ -1,5 +1,6 @@
 use Rattle.std.proofs.lemmas.Result.{IfErr-weaker}
-use Rattle.lucy_front.specs.Accepting.{IsAccepted, Refuses}
+use Rattle.lucy_program.specs.Accepting.{IsAccepted}
+use Rattle.lucy_front.specs.Refusing.{Refuses}
 use Rattle.lucy_front.proofs.TellableLaws.{tellable}
 use Rattle.lucy_front.proofs.OneAnswer.{only_refusal}
 use Rattle.lucy_front.proofs.OneAccepted.{accepted_kept, refused_alike}

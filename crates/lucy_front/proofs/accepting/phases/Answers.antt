@@ -1,6 +1,6 @@
 use Rattle.std.proofs.Common.{sym, subst}
 use Rattle.lucy_tree.specs.View.{program_tree}
-use Rattle.lucy_front.specs.Accepting.{RefusesPhases}
+use Rattle.lucy_front.specs.Refusing.{RefusesPhases}
 use Rattle.lucy_front.proofs.AcceptLaws.{clocks_refuse}
 use Rattle.lucy_front.proofs.accepting.phases.Goals as goal
 

@@ -5,10 +5,11 @@ use Rattle.std.proofs.lemmas.Option.{same_Some}
 use Rattle.lucy_place.specs.declared.placed.PlacedNode.{PlacedNode}
 use Rattle.lucy_need.specs.Meeting.{assigned, MeetsAll}
 use Rattle.lucy_check.specs.Passing.{OrNoMemory, PassesAll, AllWithinLimits, IsFirstRefusal}
-use Rattle.lucy_front.specs.Clocked.{AreNodeWords}
+use Rattle.lucy_program.specs.Clocked.{AreNodeWords}
 use Rattle.lucy_front.specs.Sizes.{buffer_sizes}
 use Rattle.lucy_front.specs.Clocking.{HasNoClocks}
-use Rattle.lucy_front.proofs.ClockedLaws.{there, few_of, words_of, clocked, check_refused, needs_are, needs_refused, words_refused, unshut, refused_so}
+use Rattle.lucy_meaning.proofs.Lists.{there}
+use Rattle.lucy_front.proofs.ClockedLaws.{few_of, words_of, clocked, check_refused, needs_are, needs_refused, words_refused, unshut, refused_so}
 use Rattle.lucy_front.proofs.clocking.handed_clock.Goals as goal
 
 pub check-requires-clause-words : goal.check-requires-clause-words

@@ -6,7 +6,7 @@ use Rattle.lucy_need.specs.declared.need.Needs.{Needs}
 use Rattle.lucy_inference.specs.Inference.{IsInference}
 use Rattle.lucy_inference.specs.Refusals.{OrNoMemory, RefusesInference}
 use Rattle.lucy_front.specs.Sizes.{buffer_sizes}
-use Rattle.lucy_front.specs.Inferring.{node_needs, IsOpen}
+use Rattle.lucy_program.specs.Inferring.{node_needs, IsOpen}
 use Rattle.lucy_front.specs.Clocking.{HasNoClocks}
 use Rattle.lucy_front.proofs.ClockedLaws.{few_of, needs_are, needs_refused, refused_so}
 use Rattle.lucy_front.proofs.InferredLaws.{inferred, inference_refused, open_unshut}

@@ -1,7 +1,7 @@
 use Rattle.std.proofs.Common.{◌++◌, ◌∷◌, [], length, take, ap, sym, ◌∙◌, subst, arith}
 use Rattle.lucy_clock.specs.Clocks.{AreSignatures}
 use Rattle.lucy_clock.specs.NodeClocks.{signatures}
-use Rattle.lucy_front.specs.Clocked.{IsClocked}
+use Rattle.lucy_program.specs.Clocked.{IsClocked}
 use Rattle.lucy_clock.proofs.CallerLaws.{places_within}
 use Rattle.lucy_front.proofs.MoreClocks.{signatures_are, proper_take, clocked_push, signatures_push}
 use Rattle.lucy_front.proofs.clocking.next_clock.Goals as goal

@@ -1,6 +1,6 @@
 use Rattle.std.proofs.Common.{◌≡◌, take}
 use Rattle.lucy_clock.specs.NodeClocks.{signatures}
-use Rattle.lucy_front.specs.Clocked.{AreClocksOf}
+use Rattle.lucy_program.specs.Clocked.{AreClocksOf}
 use Rattle.lucy_front.proofs.clocking.node_clocks.Given as goal
 
 abbrev pub invariant-each : goal.invariant-each

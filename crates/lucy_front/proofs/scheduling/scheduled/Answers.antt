@@ -1,6 +1,7 @@
 use Rattle.std.proofs.Common.{rules, sym, subst}
 use Rattle.lucy_flat.specs.Clocked.{AreClocked}
-use Rattle.lucy_front.proofs.ScheduledLaws.{clocked, flat_refuses}
+use Rattle.lucy_program.proofs.AcceptedLaws.{clocked}
+use Rattle.lucy_front.proofs.ScheduledLaws.{flat_refuses}
 use Rattle.lucy_front.proofs.scheduling.scheduled.Goals as goal
 
 pub flatten-requires : goal.flatten-requires

@@ -1,6 +1,6 @@
 use Rattle.std.proofs.Common.{◌≡◌, ◌-◌, ◌++◌, length, map, drop}
 use Rattle.lucy_types.specs.Tables.{table_at}
-use Rattle.lucy_front.specs.Scheduled.{main_input}
+use Rattle.lucy_program.specs.Scheduled.{main_input}
 use Rattle.lucy_front.proofs.streams.inputs_at.Given as goal
 
 abbrev pub invariant-each : goal.invariant-each

@@ -3,7 +3,7 @@ use Rattle.std.proofs.lemmas.Option.{slice_get_read}
 use Rattle.std.proofs.lemmas.Result.{IfOk-weaker}
 use Rattle.lucy_types.specs.Tables.{table_at}
 use Rattle.lucy_clock.specs.declared.node_clock.NodeClock.{NodeClock}
-use Rattle.lucy_front.specs.Scheduled.{main_output}
+use Rattle.lucy_program.specs.Scheduled.{main_output}
 use Rattle.lucy_front.proofs.StreamLaws.{types_all, words_past, outputs_are}
 use Rattle.lucy_front.proofs.streams.outputs.Goals as goal
 

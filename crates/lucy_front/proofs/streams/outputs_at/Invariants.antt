@@ -1,6 +1,6 @@
 use Rattle.std.proofs.Common.{◌≡◌, ◌-◌, ◌++◌, length, map, drop}
 use Rattle.lucy_types.specs.Tables.{table_at}
-use Rattle.lucy_front.specs.Scheduled.{main_output}
+use Rattle.lucy_program.specs.Scheduled.{main_output}
 use Rattle.lucy_front.proofs.streams.outputs_at.Given as goal
 
 abbrev pub invariant-each : goal.invariant-each

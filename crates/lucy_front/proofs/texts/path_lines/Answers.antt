@@ -1,6 +1,6 @@
 use Rattle.std.proofs.Common.{◌++◌, ap, ◌∙◌}
 use Rattle.lucy_front.proofs.LineLaws.{place_lines}
-use Rattle.lucy_front.proofs.ReportLaws.{four_new}
+use Rattle.lucy_program.proofs.ReportLaws.{four_new}
 use Rattle.lucy_front.proofs.texts.path_lines.Goals as goal
 
 pub returns : goal.returns

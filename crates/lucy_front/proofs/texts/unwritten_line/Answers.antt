@@ -1,6 +1,6 @@
 use Rattle.std.proofs.Common.{◌++◌, ap, ◌∙◌}
 use Rattle.std.specs.Fmt.{decimal}
-use Rattle.lucy_front.proofs.ReportLaws.{five_new}
+use Rattle.lucy_program.proofs.ReportLaws.{five_new}
 use Rattle.lucy_front.proofs.texts.unwritten_line.Goals as goal
 
 pub returns : goal.returns

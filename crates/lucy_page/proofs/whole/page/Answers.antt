@@ -1,6 +1,6 @@
 use Rattle.std.proofs.Common.{◌++◌, ap, ◌∙◌, append_assoc}
 use Rattle.lucy_page.specs.Pages.{program_begin, report_begin, page_end, AreSections}
-use Rattle.lucy_front.specs.Report.{report}
+use Rattle.lucy_program.specs.Report.{report}
 use Rattle.lucy_page.proofs.PutLaws.{has_both}
 use Rattle.lucy_page.proofs.whole.page.Goals as goal
 

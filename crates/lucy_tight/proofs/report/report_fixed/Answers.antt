@@ -1,6 +1,6 @@
 use Rattle.std.proofs.Common.{◌++◌, ap, sym, ◌∙◌}
 use Rattle.std.specs.Prelude.{codes}
-use Rattle.lucy_front.specs.Names.{of_one}
+use Rattle.lucy_program.specs.Names.{of_one}
 use Rattle.lucy_tight.specs.Report.{size_text}
 use Rattle.lucy_tight.proofs.ReportLaws.{two_new}
 use Rattle.lucy_tight.proofs.report.report_fixed.Goals as goal

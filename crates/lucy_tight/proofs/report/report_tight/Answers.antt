@@ -3,9 +3,9 @@ use Rattle.std.specs.Prelude.{codes}
 use Rattle.std.specs.Fmt.{decimal}
 use Rattle.lucy_place.specs.declared.placed.PlacedNode.{PlacedNode}
 use Rattle.lucy_types.specs.Tables.{table_at}
-use Rattle.lucy_front.specs.Names.{of_one}
-use Rattle.lucy_front.specs.Report.{node_lines}
-use Rattle.lucy_front.proofs.ReportLaws.{four_new}
+use Rattle.lucy_program.specs.Names.{of_one}
+use Rattle.lucy_program.specs.Report.{node_lines}
+use Rattle.lucy_program.proofs.ReportLaws.{four_new}
 use Rattle.lucy_tight.specs.Report.{size_text, less_lines}
 use Rattle.lucy_tight.proofs.ReportLaws.{told_sizes, told_clocks, told_variables, told_there}
 use Rattle.lucy_tight.proofs.report.report_tight.Goals as goal

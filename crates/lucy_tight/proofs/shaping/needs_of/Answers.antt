@@ -3,7 +3,7 @@ use Rattle.std.specs.Prelude.{slice_get}
 use Rattle.lucy_types.proofs.ListLaws.{get_there}
 use Rattle.lucy_clock.specs.Clocks.{AreSignatures}
 use Rattle.lucy_clock.specs.NodeClocks.{signatures}
-use Rattle.lucy_front.specs.Inferring.{node_needs}
+use Rattle.lucy_program.specs.Inferring.{node_needs}
 use Rattle.lucy_tight.proofs.PrintedLaws.{nodes_proper, clocks_count, words_count, needs_fine, needs_are}
 use Rattle.lucy_tight.proofs.shaping.needs_of.Goals as goal
 

@@ -1,7 +1,8 @@
 use Rattle.std.proofs.Common.{refl}
 use Rattle.std.specs.Option.{option_map}
 use Rattle.std.proofs.lemmas.Result.{IfOk-at_ok, IfErr-at_err}
-use Rattle.lucy_front.specs.Accepting.{IsAccepted, Refuses}
+use Rattle.lucy_program.specs.Accepting.{IsAccepted}
+use Rattle.lucy_front.specs.Refusing.{Refuses}
 use Rattle.lucy_views.specs.Meets.{options_of}
 use Rattle.lucy_views.specs.Owes.{OwesTime}
 use Rattle.lucy_views.proofs.Outs.{accepted_out, refused_out}

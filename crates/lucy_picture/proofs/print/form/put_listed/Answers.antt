@@ -1,7 +1,7 @@
 use Rattle.std.proofs.Common.{◌≡◌, ◌++◌, ℕ, List, ap, sym, ◌∙◌, append_assoc, get_or}
 use Rattle.std.specs.Prelude.{flat_map, codes}
 use Rattle.std.proofs.lemmas.List.{at_drop_more}
-use Rattle.lucy_front.specs.Names.{place_name, place_names}
+use Rattle.lucy_program.specs.Names.{place_name, place_names}
 use Rattle.lucy_picture.proofs.TextLaws.{piece_more}
 use Rattle.lucy_picture.proofs.print.form.put_listed.Goals as goal
 

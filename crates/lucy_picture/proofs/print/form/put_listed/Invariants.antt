@@ -1,6 +1,6 @@
 use Rattle.std.proofs.Common.{ℕ, List, ◌≡◌, ◌++◌, drop}
 use Rattle.std.specs.Prelude.{flat_map, codes}
-use Rattle.lucy_front.specs.Names.{place_names}
+use Rattle.lucy_program.specs.Names.{place_names}
 use Rattle.lucy_picture.proofs.print.form.put_listed.Given as goal
 
 abbrev pub invariant-more : goal.invariant-more

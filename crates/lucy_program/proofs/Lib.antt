@@ -1,0 +1,3 @@
+pub mod AcceptedLaws
+mod BoundedLaws
+pub mod ReportLaws
