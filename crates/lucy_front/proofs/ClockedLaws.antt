@@ -1,5 +1,5 @@
 -- What the calls on a node give is what its clocks are, or why it has none.
-use Rattle.std.proofs.Common.{true, Result, Ok, Err, ℕ, zero, suc, [], ◌∷◌, arith, ◌<◌, ◌≤◌, ◌≡◌, List, Some, length, ap, sym, refl, ◌∙◌, subst, inl, inr}
+use Rattle.std.proofs.Common.{true, Result, Ok, Err, ℕ, ◌≤◌, ◌≡◌, List, Some, length, ap, sym, ◌∙◌, subst, inl, inr}
 use Rattle.std.specs.Prelude.{slice_get, IfErr, IsErrAnd}
 use Rattle.lucy_word.specs.Always.{always}
 use Rattle.lucy_word.specs.Shortest.{Same}

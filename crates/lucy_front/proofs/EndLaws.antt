@@ -3,19 +3,18 @@ use Rattle.std.proofs.Common.{ℕ, zero, suc, ◌+◌, ◌-◌, ◌<◌, ◌≤�
 use Rattle.std.specs.Prelude.{◌⊎◌, slice_get, slice_index, sum_by}
 use Rattle.std.specs.List.Sorted.{IsNonDecreasing}
 use Rattle.std.proofs.lemmas.Bool.{cases_lt}
-use Rattle.std.proofs.lemmas.List.{length-take, length_push, get_or_append_left, get_or_push}
+use Rattle.std.proofs.lemmas.List.{length_push, get_or_append_left, get_or_push}
 use Rattle.std.proofs.lemmas.List.Sums.{sum_by-cons}
 use Rattle.std.proofs.lemmas.List.Sorted.{IsNonDecreasingBy-from_default}
 use Rattle.std.proofs.lemmas.Option.{same_Some, slice_get_within}
 use Rattle.lucy_place.specs.declared.placed.PlacedNode.{PlacedNode}
 use Rattle.lucy_place.specs.declared.entry.CallSite.{CallSite}
-use Rattle.lucy_place.specs.Proper.{IsProperNode, AreProper}
 use Rattle.lucy_meaning.specs.Spots.{at as at_place, node_at, main_of, site_in}
 use Rattle.lucy_meaning.proofs.Parts.{callee_in}
 use Rattle.lucy_meaning.specs.Numbers.{begin_from, call_offset}
 use Rattle.lucy_meaning.specs.Sizes.{capped, own_places, size_of}
-use Rattle.lucy_meaning.proofs.Tables.{calls_below, total_law}
-use Rattle.lucy_meaning.proofs.Closed.{get_take, place_spot}
+use Rattle.lucy_meaning.proofs.Tables.{total_law}
+use Rattle.lucy_meaning.proofs.Closed.{place_spot}
 use Rattle.lucy_meaning.specs.Below.{Below}
 use Rattle.lucy_flat.proofs.AssemblyLaws.{get_left, get_last}
 use Rattle.lucy_flat.proofs.ExtentLaws.{got, sum_take, take_whole}

@@ -3,13 +3,10 @@ use Rattle.std.proofs.Common.{◌<◌, ◌≡◌, List, subst, inl, arith}
 use Rattle.lucy_place.specs.declared.placed.PlacedNode.{PlacedNode}
 use Rattle.lucy_clock.specs.declared.node_clock.NodeClock.{NodeClock}
 use Rattle.lucy_meaning.specs.Sizes.{all_places}
-use Rattle.lucy_flat.specs.Clocked.{AreClocked}
 use Rattle.lucy_flat.specs.Refusals.{RefusesFlat}
 use Rattle.lucy_flat.specs.declared.error.FlatError.{FlatError}
 use Rattle.lucy_flat.specs.declared.error.FlatError.TheVariants as flat
 use Rattle.lucy_net.specs.declared.net.Net.{Net}
-use Rattle.lucy_program.specs.declared.options.Options.{Options}
-use Rattle.lucy_program.specs.Clocked.{AreClocksOf}
 use Rattle.lucy_program.specs.Scheduled.{IsNetOf}
 use Rattle.lucy_front.specs.Unscheduled.{RefusesNet, flat_refusal}
 

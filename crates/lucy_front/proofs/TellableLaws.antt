@@ -13,7 +13,6 @@ use Rattle.lucy_need.specs.Meeting.{Assignment, assigned}
 use Rattle.lucy_check.specs.declared.fault.CheckFault.{CheckFault}
 use Rattle.lucy_check.specs.Passing.{PassesTermLimit, RefusesNeed, IsFirstRefusal}
 use Rattle.lucy_program.specs.declared.options.Options.{Options}
-use Rattle.lucy_program.specs.declared.accepted.Accepted.{Accepted}
 use Rattle.lucy_front.specs.declared.refusal.Refusal.{Refusal}
 use Rattle.lucy_front.specs.declared.refusal.Refusal.TheVariants.{Syntax, Names, Types, Node, Cause, Limit as LimitPassed, OutOfMemory}
 use Rattle.lucy_front.specs.declared.fault.NodeFault.{NodeFault}
@@ -23,9 +22,7 @@ use Rattle.lucy_clock.specs.NodeClocks.{signatures}
 use Rattle.lucy_front.specs.Unscheduled.{RefusesNet}
 use Rattle.lucy_front.specs.Unclocked.{RefusesNode}
 use Rattle.lucy_front.specs.Clocking.{IsTold}
-use Rattle.lucy_program.specs.Accepting.{IsAccepted}
 use Rattle.lucy_front.specs.Refusing.{RefusesPhases, Refuses}
-use Rattle.lucy_program.specs.Report.{IsReportable}
 use Rattle.lucy_front.specs.Refusals.{NamesNeed, AreBelow, IsShown, IsTellable}
 use Rattle.lucy_front.proofs.ClockedLaws.{check_told}
 use Rattle.lucy_front.proofs.EvidenceLaws.{walk_there, cycle_there}

@@ -1,5 +1,5 @@
 -- Why a program with clocks has no net, or its net no schedule.
-use Rattle.std.specs.Prelude.{◌-◌, ◌⊎◌, List}
+use Rattle.std.specs.Prelude.{◌⊎◌, List}
 use Rattle.lucy_place.specs.declared.placed.PlacedNode.{PlacedNode}
 use Rattle.lucy_clock.specs.declared.node_clock.NodeClock.{NodeClock}
 use Rattle.lucy_net.specs.declared.net.Net.{Net}

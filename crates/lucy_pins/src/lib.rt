@@ -30,6 +30,7 @@ pub mod output;
 pub mod page;
 pub mod picture;
 pub mod place;
+pub mod program;
 pub mod rates;
 pub mod ring;
 pub mod shape;

@@ -1,5 +1,5 @@
 -- What holds of what a text is accepted as.
-use Rattle.std.proofs.Common.{ℕ, ◌≡◌, [], List, length, sym, subst}
+use Rattle.std.proofs.Common.{ℕ, List, length, sym, subst}
 use Rattle.lucy_host.specs.Operators.{Operator}
 use Rattle.lucy_grammar.proofs.ShapedLaws.{shaped}
 use Rattle.lucy_place.specs.declared.placed.PlacedNode.{PlacedNode}

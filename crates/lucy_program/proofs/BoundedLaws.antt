@@ -1,8 +1,7 @@
 -- The sizes of an accepted program are at most the bounds that are written.
-use Rattle.std.proofs.Common.{ℕ, zero, suc, List, length, subst, arith}
+use Rattle.std.proofs.Common.{ℕ, zero, suc, List, subst, arith}
 use Rattle.std.proofs.lemmas.Option.{slice_get_within}
 use Rattle.lucy_host.specs.Operators.{Operator}
-use Rattle.lucy_place.specs.Standing.{bound_of}
 use Rattle.lucy_types.proofs.ListLaws.{get_there}
 use Rattle.lucy_need.specs.Meeting.{assigned}
 use Rattle.lucy_clock.specs.WellClocked.{KeepsBound}
