@@ -8,8 +8,8 @@ ghost use Rattle.lucy_app.specs.Outcomes.{bytes_of, RefusesProgram, IsOwedOutcom
 
 use crate::refusal::Refusal;
 use lucy_front::accept;
-use lucy_program::{Options, report};
 use lucy_host::Ops;
+use lucy_program::{Options, report};
 use lucy_text::ShelfError;
 use std::alloc::Global;
 

@@ -6,8 +6,8 @@ ghost use Rattle.lucy_types.specs.Programs.{IsTyped};
 ghost use Rattle.lucy_program.specs.Report as lines;
 ghost use Rattle.lucy_app.specs.Report as spec;
 
-use lucy_program::{node_line, type_name};
 use lucy_place::{PlaceEntry, Placed};
+use lucy_program::{node_line, type_name};
 use lucy_tree::Name;
 use lucy_types::{Ty, Typed};
 use lucy_word::OutOfMemory;

@@ -13,8 +13,8 @@ use crate::call::{DrawnCall, calls};
 use crate::edge::{Edge, edges};
 use crate::place::{DrawnPlace, places};
 use lucy_clock::NodeClock;
-use lucy_program::Accepted;
 use lucy_place::{Placed, PlacedNode};
+use lucy_program::Accepted;
 use lucy_word::OutOfMemory;
 use std::alloc::Global;
 

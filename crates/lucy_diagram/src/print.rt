@@ -21,8 +21,8 @@ mod sizes;
 mod text;
 
 use instances::put_program;
-use lucy_program::Accepted;
 use lucy_place::Placed;
+use lucy_program::Accepted;
 use lucy_tree::Program;
 use lucy_word::OutOfMemory;
 use node::put_node;

@@ -8,8 +8,8 @@ ghost use Rattle.lucy_explain.specs.Waits.{HasBuffer};
 
 use crate::spans::within;
 use crate::tell::filled;
-use lucy_program::{Accepted, Options};
 use lucy_place::Placed;
+use lucy_program::{Accepted, Options};
 use lucy_tree::Span;
 use lucy_word::OutOfMemory;
 use std::alloc::Global;

@@ -8,8 +8,8 @@ ghost use Rattle.lucy_program.specs.Inferring.{AreOptions};
 ghost use Rattle.lucy_program.specs.Accepting.{IsAccepted};
 
 use lucy_clock::{ClockError, needs, signatures};
-use lucy_program::{Accepted, Options, accepted_programs_are_clocked};
 use lucy_need::Needs;
+use lucy_program::{Accepted, Options, accepted_programs_are_clocked};
 use lucy_rates::rates;
 use lucy_shape::{RateFault, Shape};
 use lucy_word::OutOfMemory;

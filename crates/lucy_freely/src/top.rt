@@ -8,8 +8,8 @@ ghost use Rattle.lucy_app.specs.Engines.{whole_run, EndsPlaying};
 
 use crate::playing::play_freely;
 use lucy_app::{ClosureEngine, run_with};
-use lucy_program::Accepted;
 use lucy_host::{Host, Inputs};
+use lucy_program::Accepted;
 use lucy_text::{Shelf, Sink, Source};
 use lucy_word::OutOfMemory;
 use std::alloc::Global;

@@ -11,8 +11,8 @@ use crate::error::FreezeError;
 use crate::program::is_frozen;
 use crate::text::{Unwritten, frozen_text};
 use lucy_front::{Refusal, accept};
-use lucy_program::{Accepted, Options};
 use lucy_host::Ops;
+use lucy_program::{Accepted, Options};
 use lucy_word::{Limit, OutOfMemory};
 use std::alloc::Global;
 

@@ -1,7 +1,7 @@
 // What is marked in the report of a program.
 use crate::mark::{Kind, Mark};
-use lucy_program::Accepted;
 use lucy_place::PlacedNode;
+use lucy_program::Accepted;
 use std::alloc::{AllocError, Global};
 
 // Where the line behind the one that begins at an offset begins.

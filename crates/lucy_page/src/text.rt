@@ -1,8 +1,8 @@
 // What is marked in the text of a program.
 use crate::mark::{Kind, Mark};
 use crate::uses::put_uses;
-use lucy_program::Accepted;
 use lucy_place::PlacedNode;
+use lucy_program::Accepted;
 use lucy_tree::{Program, Span};
 use std::alloc::{AllocError, Global};
 

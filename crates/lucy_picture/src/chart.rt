@@ -15,8 +15,8 @@ use crate::named::named_places;
 use crate::row::{Row, rows};
 use crate::words::clocks_at;
 use lucy_clock::NodeClock;
-use lucy_program::Accepted;
 use lucy_place::PlacedNode;
+use lucy_program::Accepted;
 use lucy_word::OutOfMemory;
 use std::alloc::Global;
 

@@ -10,8 +10,8 @@ ghost use Rattle.lucy_picture.specs.Drawn.{IsDrawn, IsFirstWith};
 use crate::marks::Marks;
 use crate::words::word_of;
 use lucy_clock::{NodeClock, Numbers64};
-use lucy_program::first_operand;
 use lucy_place::PlacedNode;
+use lucy_program::first_operand;
 use lucy_word::{OutOfMemory, Word};
 use std::alloc::{AllocError, Global};
 

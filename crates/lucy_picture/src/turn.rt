@@ -16,8 +16,8 @@ ghost use Rattle.lucy_picture.specs.Turns.{buffer_clocks, shown_clocks, whole, A
 
 use crate::named::{named_places, push};
 use crate::words::{clocks_at, word_of};
-use lucy_program::{Accepted, first_operand};
 use lucy_place::PlacedNode;
+use lucy_program::{Accepted, first_operand};
 use lucy_word::{Limit, OutOfMemory, Word, lcm};
 use std::alloc::{AllocError, Global};
 

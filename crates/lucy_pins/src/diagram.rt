@@ -16,8 +16,8 @@ ghost use Rattle.lucy_diagram.specs.Labels as spec;
 ghost use Rattle.lucy_diagram.specs.Quotes.{quoted, in_label, read_quoted};
 
 use lucy_diagram::Diagram;
-use lucy_program::Accepted;
 use lucy_place::Placed;
+use lucy_program::Accepted;
 use lucy_tree::Program;
 use lucy_word::OutOfMemory;
 use std::alloc::{AllocError, Global};

@@ -16,9 +16,9 @@ ghost use Rattle.lucy_explain.specs.Folded.{IsFolded};
 ghost use Rattle.lucy_explain.specs.Folds.{FollowsLaw, SumLaw};
 
 use lucy_explain::{Explained, Filling, Folded, Reason};
-use lucy_program::{Accepted, Options};
 use lucy_host::Ops;
 use lucy_need::Needs;
+use lucy_program::{Accepted, Options};
 use lucy_shape::Shape;
 use lucy_solve::Diffs;
 use lucy_word::{OutOfMemory, Word};

@@ -5,8 +5,8 @@ ghost use Rattle.lucy_freeze.specs.Freezing.{IsFrozen, IsUnfrozen};
 ghost use Rattle.lucy_freeze.specs.Meaning.{FrozenProgramsMeanTheSame, FrozenProgramsAreWritten};
 
 use lucy_freeze::{FreezeError, Frozen};
-use lucy_program::Options;
 use lucy_host::Ops;
+use lucy_program::Options;
 use std::alloc::Global;
 
 /// Pins `lucy_freeze::freeze`.

@@ -9,8 +9,8 @@ ghost use Rattle.lucy_run.specs.declared.ending.Ending.TheVariants as ending;
 ghost use Rattle.lucy_make.specs.Owes.{OwesSummary};
 ghost use Rattle.lucy_make.specs.Laws.{EndsAsRun};
 
-use lucy_program::Accepted;
 use lucy_host::Host;
+use lucy_program::Accepted;
 use lucy_run::Ending;
 use lucy_word::OutOfMemory;
 use lucy_worker::Gate;

@@ -25,9 +25,9 @@ ghost use Rattle.lucy_place.specs.Standing.{at_one};
 ghost use Rattle.lucy_place.specs.Streams.{streams};
 
 use lucy_clock::NodeClock;
-use lucy_program::Accepted;
 use lucy_picture::{Chart, Spot, Turn};
 use lucy_place::{PlaceEntry, PlaceKind, PlacedNode};
+use lucy_program::Accepted;
 use lucy_tree::{Expr, Node, Span};
 use lucy_word::{OutOfMemory, Word};
 use std::alloc::{AllocError, Global};

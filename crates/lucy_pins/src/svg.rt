@@ -17,9 +17,9 @@ ghost use Rattle.lucy_svg.specs.Notes as spec;
 ghost use Rattle.lucy_svg.specs.Sheets.{PutsPicture, IsLaneName, names_of, IsLane, lanes_of};
 ghost use Rattle.lucy_picture.specs.Holding.{Puts};
 
-use lucy_program::Accepted;
 use lucy_picture::Turn;
 use lucy_place::PlacedNode;
+use lucy_program::Accepted;
 use lucy_svg::{Drawing, Font, Sheet, Told};
 use lucy_word::{OutOfMemory, Word};
 use std::alloc::{AllocError, Global};

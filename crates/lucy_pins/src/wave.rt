@@ -8,8 +8,8 @@ ghost use Rattle.lucy_run.specs.Calls.{WasAccepted, ReadsAndEnds};
 ghost use Rattle.lucy_wave.specs.Waves.{OwesWave};
 ghost use Rattle.lucy_wave.specs.Laws.{WavesAreReadBack, OneWave, NamesAreDistinct};
 
-use lucy_program::Accepted;
 use lucy_host::Host;
+use lucy_program::Accepted;
 use lucy_run::Ending;
 use lucy_text::{Sink, Source};
 use std::alloc::Global;

@@ -1,7 +1,7 @@
 // An engine that always wants memory.
 use lucy_app::Engine;
-use lucy_program::Accepted;
 use lucy_host::{Host, Inputs};
+use lucy_program::Accepted;
 use lucy_word::OutOfMemory;
 use std::alloc::Global;
 

@@ -4,8 +4,8 @@ ghost use Rattle.lucy_host.specs.Host.{lent};
 ghost use Rattle.lucy_host.specs.declared.host.Host.{Host};
 ghost use Rattle.lucy_run.specs.Engines.{CanBePlayed, IsPlayedTo};
 
-use lucy_program::Accepted;
 use lucy_host::{Host, Inputs};
+use lucy_program::Accepted;
 use lucy_word::OutOfMemory;
 use std::alloc::Global;
 

@@ -6,10 +6,10 @@ ghost use Rattle.lucy_run.specs.Laws.{OneRun, OneInterpretation, OneReplay, OneT
 
 use lucy_core::events_go_by_the_net;
 use lucy_feed::one_feed;
-use lucy_program::accepted_programs_are_clocked;
 use lucy_lines::{cut_in_pieces, one_cut};
 use lucy_meaning::one_horizon;
 use lucy_output::{block_by_block, fronts_suffice};
+use lucy_program::accepted_programs_are_clocked;
 use lucy_results::{
     nets_can_be_run, runs_lead_along_streams, streams_go_on, whole_runs_lead_to_streams,
 };

@@ -10,8 +10,8 @@ ghost use Rattle.lucy_picture.specs.Charts.{chart_row, named_places, AreFills};
 ghost use Rattle.lucy_svg.specs.Flows.{AreFlows};
 
 use crate::flow::{Flow, flows};
-use lucy_program::Accepted;
 use lucy_picture::{Chart, chart_of};
+use lucy_program::Accepted;
 use lucy_word::OutOfMemory;
 use std::alloc::Global;
 

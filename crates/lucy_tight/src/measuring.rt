@@ -8,9 +8,9 @@ ghost use Rattle.lucy_clock.specs.NodeClocks.{AreSizes};
 ghost use Rattle.lucy_tight.specs.Measured.{AreAdaptable};
 
 use lucy_clock::{NodeClock, Numbers64, Words};
-use lucy_program::first_operand;
 use lucy_order::{Verdict, adapt};
 use lucy_place::PlacedNode;
+use lucy_program::first_operand;
 use lucy_word::{OutOfMemory, Word};
 use std::alloc::{AllocError, Global};
 

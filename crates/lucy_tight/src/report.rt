@@ -12,8 +12,8 @@ ghost use Rattle.lucy_tight.specs.Report as spec;
 
 use crate::Least;
 use lucy_front::cycle_text;
-use lucy_program::{Accepted, report_node};
 use lucy_place::PlacedNode;
+use lucy_program::{Accepted, report_node};
 use lucy_word::OutOfMemory;
 use std::alloc::Global;
 

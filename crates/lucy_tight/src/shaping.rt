@@ -15,8 +15,8 @@ ghost use Rattle.lucy_tight.specs.declared.answer.TightError.TheVariants as erro
 
 use crate::TightError;
 use lucy_clock::{ClockError, needs, signatures};
-use lucy_program::{Accepted, Options};
 use lucy_need::Needs;
+use lucy_program::{Accepted, Options};
 use lucy_rates::rates;
 use lucy_shape::{RateFault, Shape};
 use std::alloc::Global;

@@ -8,8 +8,8 @@ ghost use Rattle.lucy_program.specs.Accepting.{IsAccepted};
 ghost use Rattle.lucy_tight.specs.Tightening.{TheBuffer};
 
 use lucy_clock::NodeClock;
-use lucy_program::{Accepted, first_operand};
 use lucy_place::PlacedNode;
+use lucy_program::{Accepted, first_operand};
 
 /// The place that a buffer reads, its own place, and its printed size in items.
 #[derive(Drop)]

@@ -21,8 +21,8 @@ use crate::measuring::clocks_at;
 use crate::shaping::shape_node;
 use crate::spot::{Spot, spot_of};
 use crate::{Least, TightError};
-use lucy_program::{Accepted, Options};
 use lucy_need::needs_have_words;
+use lucy_program::{Accepted, Options};
 use std::alloc::Global;
 
 // That of a buffer of a node that isn't written.

@@ -2,8 +2,8 @@
 // printed behind `> `.
 use crate::show::print_lines;
 use lucy_explain::explain;
-use lucy_program::Options;
 use lucy_host::Ops;
+use lucy_program::Options;
 use std::fs::{self, Files};
 use std::io::{self, ErrorKind};
 

@@ -5,8 +5,8 @@ ghost use Rattle.lucy_program.specs.Inferring.{AreOptions};
 
 use crate::show::{print_lines, sink};
 use lucy_front::accept;
-use lucy_program::Options;
 use lucy_host::Host;
+use lucy_program::Options;
 use lucy_run::Ending;
 use lucy_text::MemSource;
 use lucy_wave::wave;

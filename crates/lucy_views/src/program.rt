@@ -9,8 +9,8 @@ ghost use Rattle.lucy_views.specs.Owes.{HasNode};
 
 use lucy_app::{inferring, node_named};
 use lucy_asking::FileWords;
-use lucy_program::Options;
 use lucy_place::Placed;
+use lucy_program::Options;
 
 /// How the clocks of a program are found.
 pub(crate) fn options(words: FileWords<'_>) -> Options

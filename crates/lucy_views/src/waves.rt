@@ -18,8 +18,8 @@ use crate::telling::refuse;
 use lucy_app::conclude;
 use lucy_asking::WaveWords;
 use lucy_front::accept;
-use lucy_program::Accepted;
 use lucy_host::{Host, Ops};
+use lucy_program::Accepted;
 use lucy_text::{ShelfError, Sink, Source};
 use std::alloc::Global;
 

@@ -15,8 +15,8 @@ use crate::program::{node_asked, options};
 use lucy_asking::WhyWords;
 use lucy_explain::why;
 use lucy_front::accept;
-use lucy_program::{Accepted, Options};
 use lucy_host::Ops;
+use lucy_program::{Accepted, Options};
 use std::alloc::Global;
 
 // What is told of the buffer of a node.

@@ -2,8 +2,8 @@
 ghost use Rattle.lucy_wave.specs.Laws.{WavesAreReadBack, OneWave, OneReading, OneCount, NamesAreDistinct};
 
 use lucy_feed::one_feed;
-use lucy_program::accepted_programs_are_clocked;
 use lucy_meaning::one_horizon;
+use lucy_program::accepted_programs_are_clocked;
 use lucy_results::streams_are_whole;
 use lucy_token::texts_have_one_cut;
 

@@ -4,9 +4,9 @@ ghost use Rattle.lucy_diagram.specs.Nets as spec;
 
 use crate::print::label::{put, put_label, word_label};
 use crate::print::text::put_name;
-use lucy_program::Accepted;
 use lucy_picture::words_at;
 use lucy_place::{CallSite, PlacedNode};
+use lucy_program::Accepted;
 use lucy_word::OutOfMemory;
 use std::alloc::{AllocError, Global};
 

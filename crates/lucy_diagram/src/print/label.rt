@@ -7,9 +7,9 @@ ghost use Rattle.lucy_diagram.specs.Labels as spec;
 ghost use Rattle.lucy_diagram.specs.Graphs.{label_text, head_text, label_at};
 
 use crate::quote::put_quoted;
-use lucy_program::Accepted;
 use lucy_picture::words_at;
 use lucy_place::{PlaceEntry, PlaceKind, PlacedNode};
+use lucy_program::Accepted;
 use lucy_text::Text;
 use lucy_word::{OutOfMemory, Word};
 use std::alloc::{AllocError, Global};

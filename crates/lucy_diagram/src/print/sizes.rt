@@ -8,8 +8,8 @@ ghost use Rattle.lucy_diagram.specs.Labels.{buffer_part};
 ghost use Rattle.lucy_diagram.specs.Graphs.{buffer_text};
 
 use crate::print::label::{entry_at, put};
-use lucy_program::Accepted;
 use lucy_place::{PlaceKind, PlacedNode};
+use lucy_program::Accepted;
 use std::alloc::{AllocError, Global};
 
 // The sizes of the buffers of the node of a number.

@@ -1,8 +1,8 @@
 // The sizes of all buffers of a program.
 use crate::tell::page::Page;
 use lucy_clock::NodeClock;
-use lucy_program::Accepted;
 use lucy_place::{Placed, PlacedNode};
+use lucy_program::Accepted;
 use lucy_word::OutOfMemory;
 use std::alloc::Global;
 

@@ -16,8 +16,8 @@ use crate::print::form::name_at;
 use crate::row::Row;
 use crate::turn::Turn;
 use crate::words::words_at;
-use lucy_program::{Accepted, node_line};
 use lucy_place::PlacedNode;
+use lucy_program::{Accepted, node_line};
 use lucy_word::{OutOfMemory, Word};
 use std::alloc::{AllocError, Global};
 

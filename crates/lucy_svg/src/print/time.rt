@@ -11,9 +11,9 @@ use crate::escape::put_escaped;
 use crate::print::ink::{HEAD, SMALL, put, put_label};
 use crate::print::sheet::Sheet;
 use crate::print::style::STYLE;
-use lucy_program::{Accepted, node_line};
 use lucy_picture::{Turn, words_at};
 use lucy_place::PlacedNode;
+use lucy_program::{Accepted, node_line};
 use lucy_word::{OutOfMemory, Word};
 use std::alloc::{AllocError, Global};
 
