@@ -82,7 +82,3 @@ laid_many b lead ones prefixes c clocks before first l so_far e many =
     let z = so_far.count in
     let w : variable_count before ≡ variable_count (laid_out b lead (slice_index ones) (slice_index prefixes) c) = ap variable_count so_far.are in
     omega arith
-
-pub laid_all : (b : Bool) (lead : ℕ) (ones prefixes : List ℕ) (upto : ℕ) (shapes : List ClockShape) (first : ℕ) → AreLaidOut b lead ones prefixes upto shapes first → upto ≡ length ones →
-    shapes ≡ laid_out b lead (slice_index ones) (slice_index prefixes) (length ones)
-laid_all b lead ones prefixes upto shapes first are e = are.are ∙ ap (laid_out b lead (slice_index ones) (slice_index prefixes)) e

@@ -23,4 +23,3 @@ pub mod Asking
 pub mod Raising
 pub mod Composing
 pub mod Gathering
-pub mod Counting

@@ -12,7 +12,7 @@ ghost use Rattle.lucy_shape.specs.Fitting.{unused, variable_count, most_position
 ghost use Rattle.lucy_rates.specs.Trees.{most_rate};
 ghost use Rattle.lucy_rates.specs.Forests.{IsForest};
 ghost use Rattle.lucy_rates.specs.Vectors.{IsNamedBySome, AreBalanced, IsShapeOf, IsTooWide};
-ghost use Rattle.lucy_rates.specs.Laying.{AreTops, counts, IsPeriodTo, HasLargeCommon, AreLongest, most_period, HaveOnes, HaveLargeCommon, AreCounted, AreShapes, most_ones, AreOnes};
+ghost use Rattle.lucy_rates.specs.Laying.{AreTops, counts, IsPeriodTo, HasLargeCommon, AreLongest, most_period, HaveOnes, HaveLargeCommon, AreCounted, AreShapes, most_ones, AreOnes, laid_out};
 
 use crate::forest::Forest;
 use crate::vector::{multiple, numbers};
@@ -211,25 +211,23 @@ fn clock_shape(
     })
 }
 
-// The shapes of all clocks that have so many ones, one behind the other and each behind the prefixes of the words after it, if there
-// are no more positions than are allowed.
+// The shapes of all clocks, one behind the other, if there are no more positions than are allowed.
 fn shapes(
     alloc: Global,
-    needs: &Needs,
     ones: &[u64],
+    prefixes: &[u64],
     lead: u64,
     is_base_used: bool,
 ) -> Result<Vec<ClockShape>, RateFault>
-    requires proper { AreProperNeeds needs.now }
-    requires size { length ones.now ≡ needs.now.clocks }
+    requires sizes { length prefixes.now ≡ length ones.now }
     requires ones { (c : ℕ) → c < length ones.now → slice_index ones.now c ≤ most_ones }
+    requires prefixes { (c : ℕ) → c < length ones.now → slice_index prefixes.now c ≤ most_bits }
     requires lead { lead ≤ 64 }
-    ensures ok { IfOk result (λ list. AreShapes is_base_used lead needs.now ones.now list.items) }
+    ensures exact { IfOk result (λ list. list.items ≡ laid_out is_base_used lead (slice_index ones.now) (slice_index prefixes.now) (length ones.now)) }
     ensures few { IfOk result (λ list. variable_count list.items ≤ 1 + most_positions) }
     ensures refused { IfErr result (λ e. (e ≡ fault.OutOfMemory) ⊎ ((e ≡ fault.Limit limit.Positions)
-        × ((list : List ClockShapeOf) × AreShapes is_base_used lead needs.now ones.now list × (1 + most_positions < variable_count list)))) }
+        × (1 + most_positions < variable_count (laid_out is_base_used lead (slice_index ones.now) (slice_index prefixes.now) (length ones.now))))) }
 {
-    let prefixes = prefixes(alloc, needs.clocks as usize, needs.list.list())?;
     let mut list = Vec::new(alloc);
     let mut first = 1;
     for clock in 0..ones.len() {
@@ -269,6 +267,27 @@ fn counted_ones(
     Ok((period, ones))
 }
 
+// The shapes of all clocks that have so many ones, each behind the prefixes of the words after it.
+fn all_shapes(
+    alloc: Global,
+    needs: &Needs,
+    ones: &[u64],
+    lead: u64,
+    is_base_used: bool,
+) -> Result<Vec<ClockShape>, RateFault>
+    requires proper { AreProperNeeds needs.now }
+    requires size { length ones.now ≡ needs.now.clocks }
+    requires ones { (c : ℕ) → c < length ones.now → slice_index ones.now c ≤ most_ones }
+    requires lead { lead ≤ 64 }
+    ensures ok { IfOk result (λ list. AreShapes is_base_used lead needs.now ones.now list.items) }
+    ensures few { IfOk result (λ list. variable_count list.items ≤ 1 + most_positions) }
+    ensures refused { IfErr result (λ e. (e ≡ fault.OutOfMemory) ⊎ ((e ≡ fault.Limit limit.Positions)
+        × ((list : List ClockShapeOf) × AreShapes is_base_used lead needs.now ones.now list × (1 + most_positions < variable_count list)))) }
+{
+    let prefixes = prefixes(alloc, needs.clocks as usize, needs.list.list())?;
+    shapes(alloc, ones, &prefixes, lead, is_base_used)
+}
+
 /// The shape of balanced needs, with a scale and a lead from 1 to 64, from the trees and rates of their clocks.
 /// `Limit(Positions)` comes where it has more positions than that limit allows. It never answers `Unequal`, or another limit.
 pub(crate) fn shape_of(
@@ -293,7 +312,7 @@ pub(crate) fn shape_of(
     let is_base_used = is_base_named(list);
     let vector = numbers(alloc, forest, list)?;
     let (period, ones) = counted_ones(alloc, &forest.roots, &vector, scale, is_base_used)?;
-    let clocks = shapes(alloc, needs, &ones, lead, is_base_used)?;
+    let clocks = all_shapes(alloc, needs, &ones, lead, is_base_used)?;
     Ok(Shape {
         period,
         clocks: ClockShapes::new(clocks),

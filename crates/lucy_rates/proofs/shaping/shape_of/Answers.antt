@@ -1,23 +1,8 @@
-use Rattle.std.proofs.Common.{ℕ, List, inl, inr, sym, subst}
-use Rattle.std.specs.List.{All}
+use Rattle.std.proofs.Common.{inl, inr}
 use Rattle.std.proofs.lemmas.Result.{err_from_is_err_and}
-use Rattle.lucy_need.specs.declared.need.Need.{Need}
-use Rattle.lucy_need.specs.Meeting.{IsWithin}
-use Rattle.lucy_rates.specs.Forests.{IsForest}
 use Rattle.lucy_rates.proofs.Composing.{rated_from}
-use Rattle.lucy_rates.proofs.Counting.{needs_within}
 use Rattle.lucy_rates.proofs.Gathering.{roots_within, factor_refused, sizes, numbers_few, tops_have_ones, period_refused, ones_size, ones_few, shape_found, shapes_refused}
 use Rattle.lucy_rates.proofs.shaping.shape_of.Goals as goal
-
-pub numbers-requires-clause-within : goal.numbers-requires-clause-within
-numbers-requires-clause-within c =
-    subst (λ (n : ℕ). All (IsWithin n) c.list-list.result.now) (sym c.requires.forest.roots_size) (needs_within c.args.needs.now c.list-list.result.now c.list-list.ensures c.requires.proper)
-
-pub numbers-requires-clause-forest : goal.numbers-requires-clause-forest
-numbers-requires-clause-forest c =
-    let f = c.args.forest.now in
-    subst (λ (n : ℕ). IsForest c.list-list.result.now n f.roots.items f.parents.items f.rates.items) (sym c.requires.forest.roots_size)
-    (subst (λ (z : List Need). IsForest z c.args.needs.now.clocks f.roots.items f.parents.items f.rates.items) (sym c.list-list.ensures) c.requires.forest)
 
 pub returns-in_err-vector-clause-refused : goal.returns-in_err-vector-clause-refused
 returns-in_err-vector-clause-refused c =
@@ -68,15 +53,15 @@ returns-in_err-period-clause-refused c =
       | inr w ↦ inr (w.0, period_refused needs f.roots.items f.parents.items f.rates.items rated c.list-list.result.now c.list-list.ensures c.in_ok-vector.vector.items c.in_ok-vector.ensures.ok c.deref.result.now c.deref-2.result.now c.deref.ensures.value c.deref-2.ensures.value c.is_base_named-is_base_used.result c.is_base_named-is_base_used.ensures c.args.scale c.args.lead c.requires.proper c.requires.words c.requires.scale c.requires.scale_few w.1)
     ])
 
-pub shapes-requires-clause-size : goal.shapes-requires-clause-size
-shapes-requires-clause-size c =
+pub all_shapes-requires-clause-size : goal.all_shapes-requires-clause-size
+all_shapes-requires-clause-size c =
     let needs = c.args.needs.now in
     let f = c.args.forest.now in
     let rated = rated_from needs f.roots.items f.parents.items f.rates.items c.requires.proper c.requires.words c.requires.forest c.requires.balanced in
     ones_size needs f.roots.items f.parents.items f.rates.items rated c.list-list.result.now c.list-list.ensures c.in_ok-vector.vector.items c.in_ok-vector.ensures.ok c.deref.result.now c.deref-2.result.now c.deref.ensures.value c.deref-2.ensures.value c.is_base_named-is_base_used.result c.is_base_named-is_base_used.ensures c.args.scale c.args.lead c.requires.proper c.requires.words c.requires.scale c.requires.scale_few c.in_ok-period.period c.in_ok-period.ones.items c.deref-3.result.now c.deref-3.ensures.value c.in_ok-period.ensures.ok
 
-pub shapes-requires-clause-ones : goal.shapes-requires-clause-ones
-shapes-requires-clause-ones c =
+pub all_shapes-requires-clause-ones : goal.all_shapes-requires-clause-ones
+all_shapes-requires-clause-ones c =
     let needs = c.args.needs.now in
     let f = c.args.forest.now in
     let rated = rated_from needs f.roots.items f.parents.items f.rates.items c.requires.proper c.requires.words c.requires.forest c.requires.balanced in
