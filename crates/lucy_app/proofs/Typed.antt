@@ -5,12 +5,12 @@ use Rattle.lucy_tree.specs.View.{ProgramTree}
 use Rattle.lucy_token.specs.declared.stop.SyntaxError.TheVariants as syntax
 use Rattle.lucy_grammar.specs.Texts.{HasTree}
 use Rattle.lucy_grammar.proofs.TextLaws.{one_program, tree_or_error}
-use Rattle.lucy_place.specs.declared.error.NameError.{NameError}
-use Rattle.lucy_place.specs.declared.error.NameError.TheVariants as names
-use Rattle.lucy_place.specs.Faults.{faults, verdict}
-use Rattle.lucy_place.specs.Nodes.{placed_nodes}
+use Rattle.lucy_naming.specs.declared.error.NameError.{NameError}
+use Rattle.lucy_naming.specs.declared.error.NameError.TheVariants as names
+use Rattle.lucy_naming.specs.Faults.{faults, verdict}
+use Rattle.lucy_naming.specs.Nodes.{placed_nodes}
 use Rattle.lucy_place.specs.PlacedProgram.{PlacedProgram}
-use Rattle.lucy_place.specs.Placing.{IsFirstFault}
+use Rattle.lucy_naming.specs.Placing.{IsFirstFault}
 use Rattle.lucy_types.specs.Programs.{IsTyped, IsClash}
 use Rattle.lucy_types.proofs.ProgramLaws.{typed_unique, clash_untyped}
 use Rattle.lucy_front.specs.declared.refusal.Refusal.{Refusal}

@@ -6,7 +6,7 @@ ghost use Rattle.lucy_app.specs.Outcomes.{fetch_refusal, fetch_refusal_within, p
 ghost use Rattle.lucy_app.specs.declared.refusal.Refusal.TheVariants.{OutOfMemory};
 
 use crate::input_refusal::InputCause;
-use lucy_place::NameError;
+use lucy_naming::NameError;
 use lucy_syntax::SyntaxError;
 use lucy_text::{ReadError, ShelfError};
 use lucy_trace::TraceError;

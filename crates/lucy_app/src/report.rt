@@ -1,6 +1,6 @@
 // Prints the nodes of a program with the types of their places.
 ghost use Rattle.std.specs.Prelude.{◌≡◌, ◌<◌, ◌≤◌, [], ◌++◌, IfOk, OnOk, length};
-ghost use Rattle.lucy_place.specs.Faults.{most_places};
+ghost use Rattle.lucy_place.specs.Standing.{most_places};
 ghost use Rattle.lucy_types.specs.Tables.{table_at};
 ghost use Rattle.lucy_types.specs.Programs.{IsTyped};
 ghost use Rattle.lucy_program.specs.Report as lines;

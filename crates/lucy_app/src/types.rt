@@ -9,7 +9,7 @@ ghost use Rattle.lucy_app.specs.Outcomes.{bytes_of, RefusesProgram, IsOwedOutcom
 use crate::refusal::Refusal;
 use crate::report::report;
 use lucy_host::Ops;
-use lucy_place::place;
+use lucy_naming::place;
 use lucy_syntax::parse;
 use lucy_text::ShelfError;
 use lucy_types::{TypeError, types};

@@ -12,7 +12,7 @@ use Rattle.lucy_word.specs.Sampling.{IsOn, AreComputedLengths, IsOnTooLong}
 use Rattle.lucy_tree.specs.Shaped.{HasZero}
 use Rattle.lucy_place.specs.declared.entry.PlaceKind.{PlaceKind}
 use Rattle.lucy_place.specs.declared.entry.PlaceKind.TheVariants.{Merge}
-use Rattle.lucy_place.specs.Numbering.{sampling_word}
+use Rattle.lucy_place.specs.Standing.{sampling_word}
 use Rattle.lucy_word.specs.Complement.{turned}
 use Rattle.lucy_clock.specs.HandedDown.{Hands, HandsTooLong}
 use Rattle.lucy_word.proofs.OnLaws.{on_not_from}

@@ -5,7 +5,7 @@ ghost use Rattle.lucy_word.specs.Stored.{IsStored};
 ghost use Rattle.lucy_word.specs.Bits.{most_bits};
 ghost use Rattle.lucy_word.specs.Sampling.{IsOn, IsOnTooLong};
 ghost use Rattle.lucy_word.specs.declared.limit.Limit.TheVariants as lim;
-ghost use Rattle.lucy_place.specs.Numbering.{sampling_word};
+ghost use Rattle.lucy_place.specs.Standing.{sampling_word};
 ghost use Rattle.lucy_place.specs.Reads.{operands_of};
 ghost use Rattle.lucy_word.specs.Complement.{turned};
 ghost use Rattle.lucy_clock.specs.declared.error.ClockError.TheVariants as err;

@@ -5,8 +5,7 @@ use Rattle.std.proofs.lemmas.Option.{slice_get_within}
 use Rattle.lucy_host.specs.Operators.{Operator}
 use Rattle.lucy_place.specs.declared.entry.CallSite.{CallSite}
 use Rattle.lucy_place.specs.declared.placed.PlacedNode.{PlacedNode}
-use Rattle.lucy_place.specs.Standing.{at_one}
-use Rattle.lucy_place.specs.Faults.{most_places}
+use Rattle.lucy_place.specs.Standing.{at_one, most_places}
 use Rattle.lucy_place.specs.Proper.{IsProperCall, IsProperNode}
 use Rattle.lucy_types.proofs.ListLaws.{taken, at_one_within}
 use Rattle.lucy_clock.specs.declared.node_clock.NodeClock.{NodeClock}

@@ -1,7 +1,6 @@
 // Which place of a node reads which.
 ghost use Rattle.std.specs.Prelude.{◌≡◌, ◌<◌, ◌≤◌, ◌∷◌, ◌++◌, [], Some, false, length, slice_get, IfOk, OnOk};
-ghost use Rattle.lucy_place.specs.Faults.{most_places};
-ghost use Rattle.lucy_place.specs.Standing.{at_one};
+ghost use Rattle.lucy_place.specs.Standing.{most_places, at_one};
 ghost use Rattle.lucy_place.specs.Reads.{arguments_of, reads_of};
 ghost use Rattle.lucy_diagram.specs.Diagrams.{is_late, AreEdges};
 ghost use Rattle.lucy_diagram.specs.Drawn.{edges_at, node_edges};

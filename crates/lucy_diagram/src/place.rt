@@ -1,6 +1,6 @@
 // The places of a node as they are drawn.
 ghost use Rattle.std.specs.Prelude.{◌≡◌, ◌<◌, ◌≤◌, ◌∷◌, ◌++◌, [], Some, length, slice_get, IfOk, OnOk};
-ghost use Rattle.lucy_place.specs.Faults.{most_places};
+ghost use Rattle.lucy_place.specs.Standing.{most_places};
 ghost use Rattle.lucy_diagram.specs.Diagrams.{figure_of, drawn_places};
 
 use lucy_place::{PlaceKind, PlacedNode};

@@ -1,6 +1,6 @@
 // Whether a node is another one with its clocks written out.
 ghost use Rattle.std.specs.Prelude.{◌≡◌, ◌≤◌, ◌+◌, ◌<◌, ◌^◌, ℕ, IsTrue, length, map, slice_get};
-ghost use Rattle.lucy_place.specs.Faults.{most_places};
+ghost use Rattle.lucy_place.specs.Standing.{most_places};
 ghost use Rattle.lucy_place.specs.Proper.{IsPlace};
 ghost use Rattle.lucy_freeze.specs.Frozen.{IsFrozenPlace, IsFrozenCall, IsFrozenNode};
 ghost use Rattle.lucy_freeze.specs.Images.{renumbering_of, pair_of};

@@ -6,10 +6,10 @@ use Rattle.lucy_tree.specs.View.{ProgramTree}
 use Rattle.lucy_token.specs.declared.stop.SyntaxError.{SyntaxError}
 use Rattle.lucy_token.specs.declared.stop.SyntaxError.TheVariants as syntax
 use Rattle.lucy_grammar.specs.Texts.{HasTree, IsRefused}
-use Rattle.lucy_place.specs.declared.error.NameError.{NameError}
-use Rattle.lucy_place.specs.declared.error.NameError.TheVariants as names
-use Rattle.lucy_place.specs.Faults.{faults}
-use Rattle.lucy_place.specs.Placing.{TellsFirstFault}
+use Rattle.lucy_naming.specs.declared.error.NameError.{NameError}
+use Rattle.lucy_naming.specs.declared.error.NameError.TheVariants as names
+use Rattle.lucy_naming.specs.Faults.{faults}
+use Rattle.lucy_naming.specs.Placing.{TellsFirstFault}
 use Rattle.lucy_place.specs.PlacedProgram.{PlacedProgram}
 use Rattle.lucy_types.specs.declared.ty.Ty.{Ty}
 use Rattle.lucy_program.specs.declared.options.Options.{Options}

@@ -9,12 +9,12 @@ use Rattle.lucy_token.specs.declared.stop.SyntaxError.{SyntaxError}
 use Rattle.lucy_token.specs.declared.stop.SyntaxError.TheVariants as syntax
 use Rattle.lucy_grammar.specs.Texts.{HasTree, IsRefused}
 use Rattle.lucy_grammar.proofs.TextLaws.{one_program as one_tree, one_error, tree_or_error}
-use Rattle.lucy_place.specs.declared.error.NameError.{NameError}
-use Rattle.lucy_place.specs.declared.error.NameError.TheVariants as names
+use Rattle.lucy_naming.specs.declared.error.NameError.{NameError}
+use Rattle.lucy_naming.specs.declared.error.NameError.TheVariants as names
 use Rattle.lucy_place.specs.declared.placed.PlacedNode.{PlacedNode}
-use Rattle.lucy_place.specs.Faults.{faults, verdict}
+use Rattle.lucy_naming.specs.Faults.{faults, verdict}
 use Rattle.lucy_place.specs.PlacedProgram.{PlacedProgram}
-use Rattle.lucy_place.specs.Placing.{IsFirstFault, IsPlaced}
+use Rattle.lucy_naming.specs.Placing.{IsFirstFault, IsPlaced}
 use Rattle.lucy_types.specs.declared.ty.Ty.{Ty}
 use Rattle.lucy_types.specs.Programs.{IsTyped, IsClash}
 use Rattle.lucy_types.proofs.ProgramLaws.{typed_unique, clash_untyped, clash_unique}

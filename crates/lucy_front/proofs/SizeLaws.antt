@@ -13,8 +13,7 @@ use Rattle.lucy_place.specs.declared.entry.PlaceKind.{PlaceKind}
 use Rattle.lucy_place.specs.declared.entry.PlaceKind.TheVariants.{Param, Defined, Lit, Op, Host, When, Merge, Fby, Buffer, Result}
 use Rattle.lucy_place.specs.declared.entry.CallSite.{CallSite}
 use Rattle.lucy_place.specs.declared.placed.PlacedNode.{PlacedNode}
-use Rattle.lucy_place.specs.Nodes.{buffer_at, buffer_places}
-use Rattle.lucy_place.specs.Standing.{at_one, bound_of, Stands}
+use Rattle.lucy_place.specs.Standing.{buffer_at, buffer_places, at_one, bound_of, Stands}
 use Rattle.lucy_place.specs.Proper.{IsProperNode}
 use Rattle.lucy_need.specs.declared.need.Term.{Term}
 use Rattle.lucy_need.specs.declared.need.Need.{Need}

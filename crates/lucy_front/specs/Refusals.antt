@@ -6,8 +6,8 @@ use Rattle.lucy_word.specs.declared.limit.Limit.{Limit}
 use Rattle.lucy_word.specs.Limits.{limit_name, limit_number}
 use Rattle.lucy_token.specs.declared.stop.SyntaxError.{SyntaxError}
 use Rattle.lucy_token.specs.declared.stop.SyntaxError.TheVariants as syntax
-use Rattle.lucy_place.specs.declared.error.NameError.{NameError}
-use Rattle.lucy_place.specs.declared.error.NameError.TheVariants as names
+use Rattle.lucy_naming.specs.declared.error.NameError.{NameError}
+use Rattle.lucy_naming.specs.declared.error.NameError.TheVariants as names
 use Rattle.lucy_place.specs.declared.placed.PlacedNode.{PlacedNode}
 use Rattle.lucy_need.specs.declared.need.Need.{Need}
 use Rattle.lucy_check.specs.declared.fault.CheckFault.{CheckFault}

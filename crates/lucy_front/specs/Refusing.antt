@@ -5,11 +5,11 @@ use Rattle.lucy_tree.specs.View.{ProgramTree}
 use Rattle.lucy_token.specs.declared.stop.SyntaxError.{SyntaxError}
 use Rattle.lucy_token.specs.declared.stop.SyntaxError.TheVariants as syntax
 use Rattle.lucy_grammar.specs.Texts.{HasTree, IsRefused}
-use Rattle.lucy_place.specs.declared.error.NameError.{NameError}
-use Rattle.lucy_place.specs.declared.error.NameError.TheVariants as names
-use Rattle.lucy_place.specs.Faults.{faults}
+use Rattle.lucy_naming.specs.declared.error.NameError.{NameError}
+use Rattle.lucy_naming.specs.declared.error.NameError.TheVariants as names
+use Rattle.lucy_naming.specs.Faults.{faults}
 use Rattle.lucy_place.specs.PlacedProgram.{PlacedProgram}
-use Rattle.lucy_place.specs.Placing.{IsFirstFault}
+use Rattle.lucy_naming.specs.Placing.{IsFirstFault}
 use Rattle.lucy_types.specs.declared.ty.Ty.{Ty}
 use Rattle.lucy_types.specs.Programs.{IsClash}
 use Rattle.lucy_clock.specs.declared.node_clock.NodeClock.{NodeClock}

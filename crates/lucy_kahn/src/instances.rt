@@ -1,6 +1,6 @@
 // The instances of a program: main, and one for each call that an instance makes.
 ghost use Rattle.std.specs.Prelude.{◌≡◌, ◌≤◌, ◌<◌, ◌∷◌, ◌++◌, [], ℕ, List, length, slice_get, OnOk, IfOk, IfErr, Some};
-ghost use Rattle.lucy_place.specs.Faults.{most_places};
+ghost use Rattle.lucy_place.specs.Standing.{most_places};
 ghost use Rattle.lucy_kahn.specs.declared.error.KahnError.TheVariants as error;
 ghost use Rattle.lucy_kahn.specs.Instances.{made, AreInstances, AreAll};
 

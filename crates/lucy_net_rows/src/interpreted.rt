@@ -9,7 +9,8 @@ use crate::ready::one_input;
 use crate::row::Row;
 use lucy_host::{Host, Inputs, Ops};
 use lucy_kahn::{KahnError, kahn, places_of};
-use lucy_place::{Placed, place};
+use lucy_naming::place;
+use lucy_place::Placed;
 use lucy_syntax::parse;
 use std::alloc::Global;
 

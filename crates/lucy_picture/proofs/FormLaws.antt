@@ -11,11 +11,11 @@ use Rattle.lucy_tree.specs.Tree.{Tree, Trees, literal, variable, operator, host,
 use Rattle.lucy_tree.specs.View.{DefTree, NodeTree, ProgramTree}
 use Rattle.lucy_place.specs.declared.entry.PlaceEntry.{PlaceEntry}
 use Rattle.lucy_place.specs.declared.entry.PlaceKind.TheVariants.{Param}
-use Rattle.lucy_place.specs.Phrases.{Applied, Host, Sampled, Merged, Followed, Buffered, Called, phrase_of, phrases_of}
-use Rattle.lucy_place.specs.Numbering.{Known, Next, past, inside, entries, all_entries, results_from, number}
-use Rattle.lucy_place.specs.Nodes.{declared_entry, left_entries, past_def, defined, rights, first_next, known_in, node_entries, placed_node}
+use Rattle.lucy_naming.specs.Phrases.{Applied, Host, Sampled, Merged, Followed, Buffered, Called, phrase_of, phrases_of}
+use Rattle.lucy_naming.specs.Numbering.{Known, Next, past, inside, entries, all_entries, results_from, number}
+use Rattle.lucy_naming.specs.Nodes.{declared_entry, left_entries, past_def, defined, rights, first_next, known_in, node_entries, placed_node}
 use Rattle.lucy_place.specs.Standing.{at_one}
-use Rattle.lucy_place.specs.Streams.{streams, wanted, declared, def_names}
+use Rattle.lucy_naming.specs.Streams.{streams, wanted, declared, def_names}
 use Rattle.lucy_meaning.proofs.Lists.{get_right}
 use Rattle.lucy_picture.specs.Forms.{times, forms, all_forms, def_forms, form_at, IsOfForm}
 

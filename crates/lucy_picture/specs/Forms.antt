@@ -4,8 +4,8 @@ use Rattle.lucy_tree.specs.Tree.{Tree, Trees, literal, variable, operator, host,
 use Rattle.lucy_tree.specs.View.{DefTree, NodeTree}
 use Rattle.lucy_place.specs.declared.entry.PlaceKind.{PlaceKind}
 use Rattle.lucy_place.specs.declared.entry.PlaceKind.TheVariants as kind
-use Rattle.lucy_place.specs.Numbering.{sampling_word}
-use Rattle.lucy_place.specs.Streams.{streams, wanted}
+use Rattle.lucy_place.specs.Standing.{sampling_word}
+use Rattle.lucy_naming.specs.Streams.{streams, wanted}
 
 -- a form so many times
 abbrev pub times : ℕ → Tree → List Tree

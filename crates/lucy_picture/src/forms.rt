@@ -5,9 +5,9 @@ ghost use Rattle.lucy_host.specs.Operators.{Operator};
 ghost use Rattle.lucy_tree.specs.Tree.{Tree, trees_of};
 ghost use Rattle.lucy_tree.specs.View.{NodeTree, ProgramTree, tree_of, def_tree, node_tree};
 ghost use Rattle.lucy_place.specs.declared.entry.PlaceEntry.{PlaceEntry as Entry};
-ghost use Rattle.lucy_place.specs.Nodes.{placed_node};
+ghost use Rattle.lucy_naming.specs.Nodes.{placed_node};
 ghost use Rattle.lucy_place.specs.Standing.{at_one};
-ghost use Rattle.lucy_place.specs.Streams.{streams, wanted};
+ghost use Rattle.lucy_naming.specs.Streams.{streams, wanted};
 ghost use Rattle.lucy_picture.specs.Forms.{times, forms, all_forms, def_forms, form_at, IsOfForm};
 ghost use Rattle.lucy_picture.specs.Seeking.{seek, seen};
 

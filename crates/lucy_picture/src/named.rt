@@ -1,6 +1,6 @@
 // The places that a chronogram shows.
 ghost use Rattle.std.specs.Prelude.{◌≡◌, ◌≤◌, ◌∷◌, ◌++◌, [], length, IfOk, OnOk};
-ghost use Rattle.lucy_place.specs.Faults.{most_places};
+ghost use Rattle.lucy_place.specs.Standing.{most_places};
 ghost use Rattle.lucy_picture.specs.Charts.{if_named, named_places};
 
 use lucy_place::PlacedNode;

@@ -20,9 +20,9 @@ ghost use Rattle.lucy_picture.specs.Spots as spots;
 ghost use Rattle.lucy_picture.specs.Lines as lines;
 ghost use Rattle.lucy_tree.specs.Tree.{Tree};
 ghost use Rattle.lucy_place.specs.declared.entry.PlaceEntry.{PlaceEntry as Entry};
-ghost use Rattle.lucy_place.specs.Nodes.{placed_node};
+ghost use Rattle.lucy_naming.specs.Nodes.{placed_node};
 ghost use Rattle.lucy_place.specs.Standing.{at_one};
-ghost use Rattle.lucy_place.specs.Streams.{streams};
+ghost use Rattle.lucy_naming.specs.Streams.{streams};
 
 use lucy_clock::NodeClock;
 use lucy_picture::{Chart, Spot, Turn};

@@ -2,9 +2,9 @@
 ghost use Rattle.std.specs.Prelude.{◌≡◌, ◌⊎◌, [], length, IfOk, IfErr, IsOk, Err, ◌<◌, ◌≤◌, slice_get, take, Some, ◌↔◌, IsTrue, None};
 ghost use Rattle.lucy_tree.specs.View.{program_tree};
 ghost use Rattle.lucy_tree.specs.Shaped.{IsShapedProgram};
-ghost use Rattle.lucy_place.specs.declared.error.NameError.TheVariants as error;
-ghost use Rattle.lucy_place.specs.Faults.{faults};
-ghost use Rattle.lucy_place.specs.Placing.{TellsFirstFault, IsFirstFault, IsPlaced};
+ghost use Rattle.lucy_naming.specs.declared.error.NameError.TheVariants as error;
+ghost use Rattle.lucy_naming.specs.Faults.{faults};
+ghost use Rattle.lucy_naming.specs.Placing.{TellsFirstFault, IsFirstFault, IsPlaced};
 ghost use Rattle.lucy_place.specs.Proper.{HaveOperators, AreProper, IsProperNode};
 ghost use Rattle.lucy_word.specs.Limits.{limit_number};
 ghost use Rattle.lucy_word.specs.declared.limit.Limit.TheVariants as limit;
@@ -13,11 +13,12 @@ ghost use Rattle.lucy_place.specs.Reads.{operands_of};
 ghost use Rattle.lucy_place.specs.Literals as spec;
 
 use lucy_host::Ops;
-use lucy_place::{NameError, PlaceKind, Placed, PlacedNode};
+use lucy_naming::NameError;
+use lucy_place::{PlaceKind, Placed, PlacedNode};
 use lucy_tree::{Lit, Program, Span};
 use std::alloc::Global;
 
-/// Pins `lucy_place::place`.
+/// Pins `lucy_naming::place`.
 pub fn place(alloc: Global, program: &Program, ops: &Ops) -> Result<Placed, NameError>
     requires shaped { IsShapedProgram (program_tree program.now) }
     ensures ok { IfOk result (IsPlaced ops.now (program_tree program.now)) }
@@ -26,7 +27,7 @@ pub fn place(alloc: Global, program: &Program, ops: &Ops) -> Result<Placed, Name
     ensures accepted { faults ops.now (program_tree program.now) ≡ [] → (result ≡ Err error.OutOfMemory) ⊎ IsOk result }
     ensures rejected { (e : NameError) → IsFirstFault (faults ops.now (program_tree program.now)) e → (result ≡ Err error.OutOfMemory) ⊎ (result ≡ Err e) }
 {
-    lucy_place::place(alloc, program, ops)
+    lucy_naming::place(alloc, program, ops)
 }
 
 /// Pins `lucy_place::Placed::nodes`.

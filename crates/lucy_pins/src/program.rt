@@ -4,7 +4,7 @@ ghost use Rattle.std.specs.Fmt.{decimal};
 ghost use Rattle.std.specs.List.{range_with_len};
 ghost use Rattle.lucy_program.specs.Accepting.{IsAccepted};
 ghost use Rattle.lucy_place.specs.declared.placed.PlacedNode.{PlacedNode as Node};
-ghost use Rattle.lucy_place.specs.Faults.{most_places};
+ghost use Rattle.lucy_place.specs.Standing.{most_places};
 ghost use Rattle.lucy_program.specs.Names as naming;
 ghost use Rattle.lucy_program.specs.Report as printed;
 ghost use Rattle.lucy_host.specs.Operators.{Operator};

@@ -1,18 +1,7 @@
 -- what callers believe, in the order to read it
-pub mod Texts
-pub mod Streams
-pub mod Phrases
-pub mod Faults
-pub mod Numbering
-pub mod Nodes
-pub mod Written
 pub mod PlacedProgram
-pub mod Placing
 pub mod Standing
 pub mod Reads
 pub mod Proper
 pub mod WrittenNodes
 pub mod Literals
--- what serves proofs alone
-pub mod Views
-pub mod Drafts

@@ -9,8 +9,7 @@ use Rattle.lucy_place.specs.declared.entry.PlaceKind.{PlaceKind}
 use Rattle.lucy_place.specs.declared.entry.PlaceKind.TheVariants.{Param, Defined, Lit, Op, Host, When, Merge, Fby, Buffer, Result}
 use Rattle.lucy_place.specs.declared.entry.CallSite.{CallSite}
 use Rattle.lucy_place.specs.declared.placed.PlacedNode.{PlacedNode}
-use Rattle.lucy_place.specs.Faults.{most_places}
-use Rattle.lucy_place.specs.Nodes.{buffer_places}
+use Rattle.lucy_place.specs.Standing.{most_places, buffer_places}
 pub use Rattle.lucy_place.specs.Standing.{at_one, bound_of, Stands, IsPlace, ArePlaces, IsNamed, AreNamed, IsUnnamed, AreDistinct}
 pub use Rattle.lucy_place.specs.Reads.{operands_of, arguments_of, reads_of, Reads, IsReadOnce, AreReadOnce}
 

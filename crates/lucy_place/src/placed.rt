@@ -26,8 +26,8 @@ pub struct PlacedNode {
 /// first span that keeps it from being written.
 #[derive(Drop)]
 pub struct Placed {
-    pub(crate) list: Vec<PlacedNode>,
-    pub(crate) spans: Vec<Option<Span>>,
+    list: Vec<PlacedNode>,
+    spans: Vec<Option<Span>>,
 }
 
 impl Model for Placed {
@@ -46,6 +46,19 @@ impl Model for Placed {
 }
 
 impl Placed {
+    /// The program of these nodes, and for each the first span that keeps it from being written.
+    pub fn new(list: Vec<PlacedNode>, spans: Vec<Option<Span>>) -> Placed
+        requires count { length spans.items ≡ length list.items }
+        requires some { 0 < length list.items }
+        requires few { length list.items ≤ limit_number limit.Nodes }
+        requires proper { AreProper list.items }
+        requires written { TellWritten list.items spans.items }
+        ensures nodes { result.nodes ≡ list.items }
+        ensures unwritten { result.unwritten ≡ spans.items }
+    {
+        Placed { list, spans }
+    }
+
     /// How many nodes there are: at least one, and no more than `Limit::Nodes`. What holds of each is said here of all at once.
     pub fn nodes(&self) -> u32
         ensures count { result ≡ length self.now.nodes }

@@ -5,8 +5,8 @@ use Rattle.lucy_grammar.proofs.ShapedLaws.{shaped}
 use Rattle.lucy_place.specs.declared.placed.PlacedNode.{PlacedNode}
 use Rattle.lucy_place.specs.PlacedProgram.{PlacedProgram}
 use Rattle.lucy_place.specs.Proper.{AreProper, HaveOperators}
-use Rattle.lucy_place.proofs.OperatorLaws.{operators_below}
-use Rattle.lucy_place.proofs.ProperPrograms.{nodes_proper}
+use Rattle.lucy_naming.proofs.OperatorLaws.{operators_below}
+use Rattle.lucy_naming.proofs.ProperPrograms.{nodes_proper}
 use Rattle.lucy_clock.specs.declared.node_clock.NodeClock.{NodeClock}
 use Rattle.lucy_flat.specs.Clocked.{AreClocked}
 use Rattle.lucy_program.specs.declared.accepted.Accepted.{Accepted}

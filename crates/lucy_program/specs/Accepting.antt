@@ -4,7 +4,7 @@ use Rattle.lucy_host.specs.Operators.{Operator}
 use Rattle.lucy_tree.specs.View.{ProgramTree}
 use Rattle.lucy_grammar.specs.Texts.{HasTree}
 use Rattle.lucy_place.specs.PlacedProgram.{PlacedProgram}
-use Rattle.lucy_place.specs.Placing.{IsPlaced}
+use Rattle.lucy_naming.specs.Placing.{IsPlaced}
 use Rattle.lucy_types.specs.declared.ty.Ty.{Ty}
 use Rattle.lucy_types.specs.Programs.{IsTyped}
 use Rattle.lucy_clock.specs.declared.node_clock.NodeClock.{NodeClock}

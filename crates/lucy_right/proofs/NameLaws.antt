@@ -10,14 +10,15 @@ use Rattle.lucy_word.specs.declared.limit.Limit.TheVariants as limit
 use Rattle.lucy_host.specs.Operators.{Operator}
 use Rattle.lucy_tree.specs.declared.span.Name.{Name}
 use Rattle.lucy_tree.specs.View.{DefTree, NodeTree, ProgramTree}
-use Rattle.lucy_place.specs.declared.error.NameError.{NameError}
-use Rattle.lucy_place.specs.declared.error.NameError.TheVariants.{Unknown, Twice, NoResult, Arity, TooMany}
-use Rattle.lucy_place.specs.Texts.{is_text, is_in, place_in}
-use Rattle.lucy_place.specs.Streams.{text_of, streams, node_names, wanted}
-use Rattle.lucy_place.specs.Phrases.{Head, Literal, Applied, Host, Sampled, Merged, Followed, Buffered, Called, Phrase, Phrases, name, headed, none, and, count, phrase_of}
-use Rattle.lucy_place.specs.Faults.{Within, unless, repeat, repeats, callee_faults, head_faults, phrase_faults, phrases_faults, def_faults, result_fault, result_faults, most_places, node_faults, nodes_faults, verdict}
-use Rattle.lucy_place.specs.Numbering.{Known, node_rooms}
-use Rattle.lucy_place.proofs.VerdictLaws.{none_front, none_back, all_faultless}
+use Rattle.lucy_naming.specs.declared.error.NameError.{NameError}
+use Rattle.lucy_naming.specs.declared.error.NameError.TheVariants.{Unknown, Twice, NoResult, Arity, TooMany}
+use Rattle.lucy_naming.specs.Texts.{is_text, is_in, place_in}
+use Rattle.lucy_naming.specs.Streams.{text_of, streams, node_names, wanted}
+use Rattle.lucy_naming.specs.Phrases.{Head, Literal, Applied, Host, Sampled, Merged, Followed, Buffered, Called, Phrase, Phrases, name, headed, none, and, count, phrase_of}
+use Rattle.lucy_naming.specs.Faults.{Within, unless, repeat, repeats, callee_faults, head_faults, phrase_faults, phrases_faults, def_faults, result_fault, result_faults, node_faults, nodes_faults, verdict}
+use Rattle.lucy_place.specs.Standing.{most_places}
+use Rattle.lucy_naming.specs.Numbering.{Known, node_rooms}
+use Rattle.lucy_naming.proofs.VerdictLaws.{none_front, none_back, all_faultless}
 use Rattle.lucy_right.specs.Places.{HasOwner, NamesWell, AllNameWell, IsWellNamed}
 use Rattle.lucy_right.specs.Laws.{FaultlessAreWellNamed, WellNamedHaveNoFault}
 use Rattle.lucy_right.proofs.NodesLaws.{above_next}

@@ -3,7 +3,7 @@ use Rattle.std.proofs.Common.{◌≡◌, ℕ, zero, suc, List, [], ◌∷◌, �
 use Rattle.std.specs.Prelude.{option_map}
 use Rattle.lucy_host.specs.Operators.{Operator}
 use Rattle.lucy_tree.specs.View.{NodeTree, ProgramTree}
-use Rattle.lucy_place.specs.Nodes.{placed_below}
+use Rattle.lucy_naming.specs.Nodes.{placed_below}
 use Rattle.lucy_right.specs.Places.{as_placed}
 use Rattle.lucy_right.specs.Laws.{PlacedAreNodes, NodesArePlaced}
 use Rattle.lucy_right.proofs.PartsLaws.{node_same}

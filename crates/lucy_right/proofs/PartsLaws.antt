@@ -7,10 +7,11 @@ use Rattle.lucy_tree.specs.View.{DefTree, NodeTree, ProgramTree}
 use Rattle.lucy_place.specs.declared.entry.PlaceEntry.{PlaceEntry}
 use Rattle.lucy_place.specs.declared.entry.PlaceKind.TheVariants.{Param}
 use Rattle.lucy_place.specs.declared.placed.PlacedNode.{PlacedNode}
-use Rattle.lucy_place.specs.Phrases.{Head, Literal, Applied, Host, Sampled, Merged, Followed, Buffered, Called, Phrase, Phrases, name, headed, none, and, phrase_of}
-use Rattle.lucy_place.specs.Streams.{streams, wanted}
-use Rattle.lucy_place.specs.Numbering.{Next, Known, past, inside, number, numbers, entries, all_entries, own_entries, sites, all_sites, own_sites, rooms, all_rooms, own_rooms, bounds, all_bounds, own_bounds, calls, all_calls, own_calls, results_from, unnamed, stream_place}
-use Rattle.lucy_place.specs.Nodes.{declared_entry, left_entries, buffer_places, past_def, defined, rights, def_sites, def_bounds, first_next, known_in, placed_node}
+use Rattle.lucy_naming.specs.Phrases.{Head, Literal, Applied, Host, Sampled, Merged, Followed, Buffered, Called, Phrase, Phrases, name, headed, none, and, phrase_of}
+use Rattle.lucy_naming.specs.Streams.{streams, wanted}
+use Rattle.lucy_naming.specs.Numbering.{Next, Known, past, inside, number, numbers, entries, all_entries, own_entries, sites, all_sites, own_sites, rooms, all_rooms, own_rooms, bounds, all_bounds, own_bounds, calls, all_calls, own_calls, results_from, unnamed, stream_place}
+use Rattle.lucy_naming.specs.Nodes.{declared_entry, left_entries, past_def, defined, rights, def_sites, def_bounds, first_next, known_in, placed_node}
+use Rattle.lucy_place.specs.Standing.{buffer_places}
 use Rattle.lucy_right.specs.Places.{Parts, no_parts, in_turn, own_parts, parts_of, all_parts, def_parts, as_placed}
 
 -- the numbers that come behind these parts

@@ -11,10 +11,10 @@ use Rattle.lucy_tree.specs.View.{ProgramTree}
 use Rattle.lucy_grammar.specs.Laws.{TextsHaveOneAnswer}
 use Rattle.lucy_grammar.specs.Texts.{HasTree}
 use Rattle.lucy_place.specs.declared.placed.PlacedNode.{PlacedNode}
-use Rattle.lucy_place.specs.Faults.{faults}
-use Rattle.lucy_place.specs.Nodes.{placed_nodes}
+use Rattle.lucy_naming.specs.Faults.{faults}
+use Rattle.lucy_naming.specs.Nodes.{placed_nodes}
 use Rattle.lucy_place.specs.PlacedProgram.{PlacedProgram}
-use Rattle.lucy_place.specs.Placing.{IsFirstFault}
+use Rattle.lucy_naming.specs.Placing.{IsFirstFault}
 use Rattle.lucy_place.specs.Proper.{AreProper}
 use Rattle.lucy_place.specs.WrittenNodes.{IsWritten}
 use Rattle.lucy_types.specs.Programs.{IsClash}

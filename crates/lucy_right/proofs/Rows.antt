@@ -15,7 +15,7 @@ use Rattle.lucy_tree.specs.View.{NodeTree}
 use Rattle.lucy_place.specs.declared.entry.PlaceEntry.{PlaceEntry}
 use Rattle.lucy_place.specs.declared.entry.PlaceKind.{PlaceKind}
 use Rattle.lucy_place.specs.declared.entry.PlaceKind.TheVariants as kind
-use Rattle.lucy_place.specs.Nodes.{placed_node}
+use Rattle.lucy_naming.specs.Nodes.{placed_node}
 use Rattle.lucy_right.specs.Places.{as_placed}
 
 -- a token of so many bytes at an offset

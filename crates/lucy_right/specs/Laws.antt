@@ -3,12 +3,12 @@ use Rattle.std.specs.Prelude.{◌≡◌, List, []}
 use Rattle.lucy_word.specs.declared.limit.Limit.TheVariants as limit
 use Rattle.lucy_host.specs.Operators.{Operator}
 use Rattle.lucy_tree.specs.View.{ProgramTree}
-use Rattle.lucy_place.specs.declared.error.NameError.{NameError}
-use Rattle.lucy_place.specs.declared.error.NameError.TheVariants.{TooMany}
+use Rattle.lucy_naming.specs.declared.error.NameError.{NameError}
+use Rattle.lucy_naming.specs.declared.error.NameError.TheVariants.{TooMany}
 use Rattle.lucy_place.specs.declared.placed.PlacedNode.{PlacedNode}
-use Rattle.lucy_place.specs.Faults.{faults}
-use Rattle.lucy_place.specs.Nodes.{placed_nodes}
-use Rattle.lucy_place.specs.Placing.{IsFirstFault}
+use Rattle.lucy_naming.specs.Faults.{faults}
+use Rattle.lucy_naming.specs.Nodes.{placed_nodes}
+use Rattle.lucy_naming.specs.Placing.{IsFirstFault}
 use Rattle.lucy_right.specs.Places.{AreWellNamed, AreNodesOf}
 
 -- the placed nodes of a program are its nodes

@@ -3,11 +3,12 @@ use Rattle.std.specs.Prelude.{ℕ, ◌+◌, ◌≡◌, ◌≢◌, List, [], ◌�
 use Rattle.std.specs.List.{AllByRecursion}
 use Rattle.lucy_host.specs.Operators.{Operator, operator_number}
 use Rattle.lucy_tree.specs.View.{DefTree, NodeTree, ProgramTree}
-use Rattle.lucy_place.specs.Texts.{place_in}
-use Rattle.lucy_place.specs.Streams.{text_of, streams, node_names, wanted}
-use Rattle.lucy_place.specs.Phrases.{Head, Host, Called, Phrase, Phrases, name, headed, none, and, count, phrase_of}
-use Rattle.lucy_place.specs.Numbering.{Known, stream_place, unnamed, own_kind, own_bounds, results_from}
-use Rattle.lucy_place.specs.Nodes.{declared_entry, left_entries, buffer_places, known_in}
+use Rattle.lucy_naming.specs.Texts.{place_in}
+use Rattle.lucy_naming.specs.Streams.{text_of, streams, node_names, wanted}
+use Rattle.lucy_naming.specs.Phrases.{Head, Host, Called, Phrase, Phrases, name, headed, none, and, count, phrase_of}
+use Rattle.lucy_naming.specs.Numbering.{Known, stream_place, unnamed, own_kind, own_bounds, results_from}
+use Rattle.lucy_naming.specs.Nodes.{declared_entry, left_entries, known_in}
+use Rattle.lucy_place.specs.Standing.{buffer_places}
 use Rattle.lucy_place.specs.declared.entry.PlaceEntry.{PlaceEntry}
 use Rattle.lucy_place.specs.declared.entry.PlaceKind.TheVariants.{Param}
 use Rattle.lucy_place.specs.declared.entry.CallSite.{CallSite}

@@ -17,10 +17,10 @@ use Rattle.lucy_tree.specs.View.{ProgramTree}
 use Rattle.lucy_grammar.specs.Texts.{HasTree, IsRefused}
 use Rattle.lucy_token.specs.declared.stop.SyntaxError.{SyntaxError}
 use Rattle.lucy_token.specs.declared.stop.SyntaxError.TheVariants as syntax
-use Rattle.lucy_place.specs.declared.error.NameError.{NameError}
+use Rattle.lucy_naming.specs.declared.error.NameError.{NameError}
 use Rattle.lucy_place.specs.PlacedProgram.{PlacedProgram}
-use Rattle.lucy_place.specs.Faults.{faults}
-use Rattle.lucy_place.specs.Placing.{IsPlaced, TellsFirstFault}
+use Rattle.lucy_naming.specs.Faults.{faults}
+use Rattle.lucy_naming.specs.Placing.{IsPlaced, TellsFirstFault}
 use Rattle.lucy_front.specs.Refusing.{syntax_refusal, names_refusal}
 use Rattle.lucy_asking.specs.declared.ask.Sought.{Sought}
 use Rattle.lucy_asking.specs.declared.ask.Sought.TheVariants as sought

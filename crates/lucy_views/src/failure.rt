@@ -5,7 +5,7 @@ ghost use Rattle.lucy_views.specs.Failures.{fetch_failure, program_failure};
 ghost use Rattle.lucy_views.specs.declared.failure.Failure.TheVariants.{OutOfMemory};
 
 use crate::missing::Missing;
-use lucy_place::NameError;
+use lucy_naming::NameError;
 use lucy_syntax::SyntaxError;
 use lucy_text::ShelfError;
 use lucy_word::{Limit, OutOfMemory};

@@ -24,14 +24,14 @@ use Rattle.lucy_grammar.proofs.PrintableLaws.{printable}
 use Rattle.lucy_place.specs.declared.entry.PlaceEntry.{PlaceEntry}
 use Rattle.lucy_place.specs.declared.entry.PlaceKind.TheVariants as place_kind
 use Rattle.lucy_place.specs.declared.placed.PlacedNode.{PlacedNode}
-use Rattle.lucy_place.specs.Phrases.{Head, Literal, Applied, Host, Sampled, Merged, Followed, Buffered, Called, Phrase, Phrases, name, headed, none, and, phrase_of}
-use Rattle.lucy_place.specs.Faults.{faults}
-use Rattle.lucy_place.specs.Streams.{wanted}
-use Rattle.lucy_place.specs.Numbering.{Next, Known, past, inside, number, numbers, entries, all_entries, own_entries, results_from}
-use Rattle.lucy_place.specs.Nodes.{past_def, declared_entry, left_entries, defined, rights, first_next, known_in, node_entries, placed_node}
+use Rattle.lucy_naming.specs.Phrases.{Head, Literal, Applied, Host, Sampled, Merged, Followed, Buffered, Called, Phrase, Phrases, name, headed, none, and, phrase_of}
+use Rattle.lucy_naming.specs.Faults.{faults}
+use Rattle.lucy_naming.specs.Streams.{wanted}
+use Rattle.lucy_naming.specs.Numbering.{Next, Known, past, inside, number, numbers, entries, all_entries, own_entries, results_from}
+use Rattle.lucy_naming.specs.Nodes.{past_def, declared_entry, left_entries, defined, rights, first_next, known_in, node_entries, placed_node}
 use Rattle.lucy_place.specs.Standing.{at_one, IsNamed, AreNamed}
 use Rattle.lucy_place.specs.Proper.{AreProper}
-use Rattle.lucy_place.proofs.ProperPrograms.{tree_at}
+use Rattle.lucy_naming.proofs.ProperPrograms.{tree_at}
 use Rattle.lucy_types.specs.declared.ty.Ty.{Ty}
 use Rattle.lucy_meaning.specs.Spots.{main_of}
 use Rattle.lucy_meaning.proofs.Closed.{each_of}

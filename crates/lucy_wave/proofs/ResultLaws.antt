@@ -11,15 +11,16 @@ use Rattle.lucy_tree.specs.declared.span.Name.{Name}
 use Rattle.lucy_tree.specs.View.{NodeTree, ProgramTree}
 use Rattle.lucy_types.specs.declared.ty.Ty.{Ty}
 use Rattle.lucy_types.specs.Tables.{table_at}
-use Rattle.lucy_place.specs.declared.error.NameError.{NameError}
+use Rattle.lucy_naming.specs.declared.error.NameError.{NameError}
 use Rattle.lucy_place.specs.declared.placed.PlacedNode.{PlacedNode}
-use Rattle.lucy_place.specs.Texts.{is_text, is_in, place_in}
-use Rattle.lucy_place.specs.Streams.{text_of, node_names, streams as streams_in}
-use Rattle.lucy_place.specs.Faults.{most_places, unless, repeats, def_faults, result_fault, result_faults, node_faults}
-use Rattle.lucy_place.specs.declared.error.NameError.TheVariants.{Twice, TooMany}
-use Rattle.lucy_place.specs.Numbering.{node_rooms}
-use Rattle.lucy_place.proofs.VerdictLaws.{none_front, none_back}
-use Rattle.lucy_place.proofs.ProperPrograms.{node_good}
+use Rattle.lucy_naming.specs.Texts.{is_text, is_in, place_in}
+use Rattle.lucy_naming.specs.Streams.{text_of, node_names, streams as streams_in}
+use Rattle.lucy_naming.specs.Faults.{unless, repeats, def_faults, result_fault, result_faults, node_faults}
+use Rattle.lucy_place.specs.Standing.{most_places}
+use Rattle.lucy_naming.specs.declared.error.NameError.TheVariants.{Twice, TooMany}
+use Rattle.lucy_naming.specs.Numbering.{node_rooms}
+use Rattle.lucy_naming.proofs.VerdictLaws.{none_front, none_back}
+use Rattle.lucy_naming.proofs.ProperPrograms.{node_good}
 use Rattle.lucy_need.specs.Meeting.{Assignment}
 use Rattle.lucy_kahn.specs.Turns.{params_in}
 use Rattle.lucy_flat.specs.Instances.{words_in}

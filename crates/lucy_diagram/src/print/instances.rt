@@ -3,7 +3,7 @@ ghost use Rattle.std.specs.Prelude.{◌≡◌, ◌<◌, ◌≤◌, ◌+◌, ◌-
 ghost use Rattle.lucy_host.specs.Operators.{Operator};
 ghost use Rattle.lucy_tree.specs.View.{program_tree};
 ghost use Rattle.lucy_place.specs.declared.placed.PlacedNode.{PlacedNode as Node};
-ghost use Rattle.lucy_place.specs.Faults.{most_places};
+ghost use Rattle.lucy_place.specs.Standing.{most_places};
 ghost use Rattle.lucy_place.specs.Proper.{AreProper};
 ghost use Rattle.lucy_meaning.specs.Sizes.{size_of, all_places};
 ghost use Rattle.lucy_program.specs.declared.options.Options.{Options as Choices};

@@ -1,7 +1,7 @@
 // A name that is not good: where, and what there is.
 use crate::tell::page::Page;
 use lucy_host::Ops;
-use lucy_place::NameError;
+use lucy_naming::NameError;
 use lucy_tree::{Decl, Node, Program, Span};
 
 // The operators that hosts are known to lend.

@@ -2,8 +2,7 @@
 ghost use Rattle.std.specs.Prelude.{ℕ, ◌≡◌, ◌<◌, ◌≤◌, ◌++◌, Some, codes, length, flat_map, slice_get, OnOk};
 ghost use Rattle.std.specs.Fmt.{decimal};
 ghost use Rattle.lucy_place.specs.declared.placed.PlacedNode.{PlacedNode as Node};
-ghost use Rattle.lucy_place.specs.Faults.{most_places};
-ghost use Rattle.lucy_place.specs.Standing.{bound_of};
+ghost use Rattle.lucy_place.specs.Standing.{most_places, bound_of};
 ghost use Rattle.lucy_flat.specs.Instances.{words_in};
 ghost use Rattle.lucy_program.specs.Names.{of_one, name_at};
 ghost use Rattle.lucy_program.specs.Report.{size_part};

@@ -1,6 +1,6 @@
 // A chronogram as an SVG of its own.
 ghost use Rattle.std.specs.Prelude.{◌≡◌, ◌<◌, ◌≤◌, Some, length, slice_get, string_bytes, IfOk, OnOk};
-ghost use Rattle.lucy_place.specs.Faults.{most_places};
+ghost use Rattle.lucy_place.specs.Standing.{most_places};
 ghost use Rattle.lucy_place.specs.declared.placed.PlacedNode.{PlacedNode as Node};
 ghost use Rattle.lucy_picture.specs.Holding.{Extends};
 ghost use Rattle.lucy_svg.specs.Sheets.{PutsSvg, PutsPicture};

@@ -2,7 +2,7 @@ use Rattle.std.proofs.Common.{◌≡◌, not, sym, subst}
 use Rattle.std.specs.Prelude.{IfErr, ◌⊎◌}
 use Rattle.lucy_word.specs.Sampling.{IsOnTooLong}
 use Rattle.lucy_word.specs.declared.limit.Limit.TheVariants as lim
-use Rattle.lucy_place.specs.Numbering.{sampling_word}
+use Rattle.lucy_place.specs.Standing.{sampling_word}
 use Rattle.lucy_clock.specs.declared.error.ClockError.TheVariants as err
 use Rattle.lucy_clock.proofs.handing.merged.Goals as goal
 

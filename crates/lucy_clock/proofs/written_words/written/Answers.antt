@@ -6,7 +6,7 @@ use Rattle.lucy_word.specs.Bits.{bit_count}
 use Rattle.lucy_word.specs.Stored.{IsStored}
 use Rattle.lucy_word.specs.declared.limit.Limit.TheVariants as lim
 use Rattle.lucy_place.specs.declared.placed.PlacedNode.{PlacedNode as Node}
-use Rattle.lucy_place.specs.Faults.{most_places}
+use Rattle.lucy_place.specs.Standing.{most_places}
 use Rattle.lucy_clock.specs.declared.error.ClockError.TheVariants as err
 use Rattle.lucy_need.specs.Meeting.{word_bits}
 use Rattle.lucy_clock.specs.HandedDown.{AreWordsOf, IsWordTooLong, RefusesWords}

@@ -1,7 +1,0 @@
-use Rattle.std.proofs.Common.{◌≡◌, ◌++◌, drop, map}
-use Rattle.lucy_place.specs.Numbering.{stream_place}
-use Rattle.lucy_place.specs.Views.{known_of}
-use Rattle.lucy_place.proofs.nodes.results.Given as goal
-
-abbrev pub invariant-each : goal.invariant-each
-invariant-each l = l.found.items ++ map (λ r. stream_place (known_of l.names) r.text) (drop l.name-index l.list) ≡ map (λ r. stream_place (known_of l.names) r.text) l.list

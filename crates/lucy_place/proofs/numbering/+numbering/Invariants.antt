@@ -1,8 +1,0 @@
-use Rattle.std.proofs.Common.{drop}
-use Rattle.lucy_place.specs.Phrases.{expr_phrases}
-use Rattle.lucy_place.specs.Views.{known_of}
-use Rattle.lucy_place.proofs.DraftLaws.{AllDrawn}
-use Rattle.lucy_place.proofs.numbering.+numbering.Given as goal
-
-abbrev pub invariant-all_places-each : goal.invariant-all_places-each
-invariant-all_places-each l = AllDrawn (known_of l.names) l.found.items l.draft (expr_phrases (drop l.expr-index l.list)) l.initial.draft (expr_phrases l.list)

@@ -1,6 +1,0 @@
-use Rattle.std.proofs.Common.{◌≡◌, drop}
-use Rattle.lucy_place.specs.Faults.{result_faults}
-use Rattle.lucy_place.proofs.streams.results.Given as goal
-
-abbrev pub invariant-each : goal.invariant-each
-invariant-each l = result_faults l.streams l.before (drop l.name-index l.list) ≡ result_faults l.streams l.initial.before l.list
