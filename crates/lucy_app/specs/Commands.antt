@@ -43,6 +43,15 @@ running_words (Replay words log) = Some words
 running_words (Trace words workers) = Some words
 running_words command = None
 
+-- a command that looks at one file, and reads and runs nothing
+abbrev pub LooksAtFile : Command → Type 0
+LooksAtFile (Show file) = Unit {0}
+LooksAtFile (Types file) = Unit {0}
+LooksAtFile (Check file) = Unit {0}
+LooksAtFile (Clocks words) = Unit {0}
+LooksAtFile (Tighten words node buffer) = Unit {0}
+LooksAtFile command = ⊥
+
 -- what the shelf is asked for in turn, where the words name this command or none
 abbrev pub files_of : Option Command → List Wanted
 files_of (Some (Show file)) = program_of file ∷ []

@@ -7,9 +7,9 @@ ghost use Rattle.lucy_app.specs.World.{world};
 ghost use Rattle.lucy_app.specs.Ends.{EndsSo};
 
 use crate::fetching::fetch;
-use crate::options::{inferring, written};
+use crate::looking::look;
 use crate::output::finish;
-use crate::{accepting, check, making, order, replaying, show, tightening, tracing, types};
+use crate::{accepting, making, order, replaying, tracing};
 use lucy_command::Command;
 use lucy_host::Host;
 use lucy_text::{Shelf, Sink, Source};
@@ -56,26 +56,11 @@ pub(crate) fn carry_out<
             let outcome = order::answer(alloc, input);
             finish(alloc, out, err, outcome)
         }
-        Command::Show(file) => {
-            let fetched = fetch(alloc, shelf, file, Limit::Text);
-            finish(alloc, out, err, show::answer(alloc, fetched))
-        }
-        Command::Types(file) => {
-            let fetched = fetch(alloc, shelf, file, Limit::Text);
-            let outcome = types::answer(alloc, fetched, host.ops());
-            finish(alloc, out, err, outcome)
-        }
-        Command::Check(file) => {
-            let fetched = fetch(alloc, shelf, file, Limit::Text);
-            let outcome = check::answer(alloc, fetched, host.ops(), &written());
-            finish(alloc, out, err, outcome)
-        }
-        Command::Clocks(words) => {
-            let fetched = fetch(alloc, shelf, words.file, Limit::Text);
-            let options = inferring(words.scale, words.lead);
-            let outcome = check::answer(alloc, fetched, host.ops(), &options);
-            finish(alloc, out, err, outcome)
-        }
+        Command::Show(_)
+        | Command::Types(_)
+        | Command::Check(_)
+        | Command::Clocks(_)
+        | Command::Tighten(_) => look(alloc, command, shelf, out, err, host),
         Command::Run(words) => {
             let fetched = fetch(alloc, shelf, words.file, Limit::Text);
             accepting::run(rt, alloc, fetched, words, input, out, err, gate, host)
@@ -85,11 +70,6 @@ pub(crate) fn carry_out<
             accepting::kahn(alloc, fetched, words, input, out, err, host)
         }
         Command::Make(words) => making::make(rt, alloc, words, out, err, gate, host),
-        Command::Tighten(words) => {
-            let fetched = fetch(alloc, shelf, words.file, Limit::Text);
-            let outcome = tightening::answer(alloc, fetched, host.ops(), words);
-            finish(alloc, out, err, outcome)
-        }
         Command::Replay(words) => { replaying::replay(alloc, words, shelf, input, out, err, host) }
         Command::Trace(words) => {
             let fetched = fetch(alloc, shelf, words.file, Limit::Text);

@@ -17,6 +17,7 @@ mod input_refusal;
 mod laws;
 mod limit;
 mod log;
+mod looking;
 mod making;
 mod operators;
 mod options;
