@@ -1,6 +1,6 @@
--- The items of a cut are those that the first lines of an input say.
+-- The items of a cut are those that the first lines of an input say, and a line that stops them is refused.
 use Rattle.std.proofs.Common.{◌≡◌, ◌+◌, ◌-◌, ◌<◌, ◌≤◌, ◌==◌, ◌++◌, ◌⊎◌, ℕ, zero, suc, Bool, true, false, cond, List, [], ◌∷◌, length, take, drop, get_or, refl, ap, sym, ◌∙◌, subst, inl, inr, arith, append-nil, length-append}
-use Rattle.std.specs.Prelude.{nat_lt, Some, None}
+use Rattle.std.specs.Prelude.{◌≢◌, nat_lt, Some, None, slice_get, IsSomeAnd}
 use Rattle.std.specs.List.{slice_split, onto_first, All}
 use Rattle.std.specs.Str.Lines.{lines, lines_of_parts, strip_carriage_return}
 use Rattle.std.proofs.lemmas.Bool.{cases_Bool, ltb-true, ltb-false, eqb-true, cond_both}
@@ -12,10 +12,12 @@ use Rattle.lucy_lines.specs.declared.reader.TextFault.{TextFault}
 use Rattle.lucy_lines.specs.declared.reader.TextFault.TheVariants.{BadLine, TooLong}
 use Rattle.lucy_lines.specs.Fronts.{most_bytes, longest_line, run, reach, judge, content_of, front_of}
 use Rattle.lucy_lines.specs.Fields.{fields}
-use Rattle.lucy_lines.specs.Kinds.{FieldsSay, PairSays}
-use Rattle.lucy_lines.specs.Cuts.{Held, past, ItemOf, refusal, Stop, At, Before, Cut, blank, item, refused, long, too_long, undecided}
-use Rattle.lucy_lines.proofs.FrontLaws.{run_more}
-use Rattle.lucy_right.specs.Right.{LineSays, LinesSay}
+use Rattle.lucy_lines.specs.Kinds.{FieldsSay, PairSays, IsKind}
+use Rattle.lucy_lines.specs.Cuts.{Held, past, with_more, ItemOf, refusal, Stop, At, Before, Cut, blank, item, refused, long, too_long, undecided}
+use Rattle.lucy_lines.proofs.FrontLaws.{run_more, reach_range, content_within, front_more, WithinBytes, line_within}
+use Rattle.lucy_lines.proofs.CutLaws.{one_cut}
+use Rattle.lucy_lines.proofs.Exists.{some_cut}
+use Rattle.lucy_right.specs.Right.{LineSays, LineFails, LinesSay}
 
 abbrev is_feed : ℕ → Bool
 is_feed b = b == 10
@@ -110,6 +112,176 @@ first_whole closed bytes c n t is_closed s p q =
     let far : length bytes ≤ judge bytes = ltb-false (judge bytes) (length bytes) t in
     inr (is_closed, omega arith, s, p, q)
 
+-- What is decided of a front has no name here: what is told of it has the type that such a step takes.
+abbrev Suits : (A : Type 0) → A → Type 0
+Suits A step = Unit {0}
+
+-- so a line that is decided is the first
+line_first : (closed : Bool) (used : ℕ) (bytes : List ℕ) (c n : ℕ) (e : _) → Suits (WithinBytes bytes c n) (line_within closed used bytes c n e) → IsFirst closed bytes c n
+unfolding front_of
+line_first closed used bytes c n e suits = elim (cases_Bool (nat_lt (judge bytes) (length bytes))) [
+  | inl t ↦
+      let e1 = rw t at e in
+      elim (cases_Bool (nat_lt (used + judge bytes) most_bytes)) [
+        | inl u ↦
+            let e2 = rw u at e1 in
+            elim (cases_Bool (nat_lt (reach bytes) (run bytes))) [
+              | inl r ↦ let e3 = rw r at e2 in absurd (cc e3)
+              | inr r ↦ let e3 = rw r at e2 in first_ended closed bytes c n t r (cc e3) (cc e3)
+            ]
+        | inr u ↦ let e2 = rw u at e1 in absurd (cc e2)
+      ]
+  | inr t ↦
+      let e1 = rw t at e in
+      elim (cases_Bool (nat_lt most_bytes (used + length bytes))) [
+        | inl p ↦ let e2 = rw p at e1 in absurd (cc e2)
+        | inr p ↦
+            let e2 = rw p at e1 in
+            elim (cases_Bool closed) [
+              | inl k ↦
+                  let e3 = rw k at e2 in
+                  elim (cases_Bool (length bytes == 0)) [
+                    | inl s ↦ let e4 = rw s at e3 in absurd (cc e4)
+                    | inr s ↦
+                        let e4 = rw s at e3 in
+                        elim (cases_Bool (nat_lt longest_line (length bytes))) [
+                          | inl v ↦ let e5 = rw v at e4 in absurd (cc e5)
+                          | inr v ↦ let e5 = rw v at e4 in first_whole closed bytes c n t k s (cc e5) (cc e5)
+                        ]
+                  ]
+              | inr k ↦ let e3 = rw k at e2 in absurd (cc e3)
+            ]
+      ]
+]
+
+-- and where none of all bytes is decided there are none
+open_none : (inputs : List InputSpec) (h : Held) (e : _) → Suits (Cut inputs true h [] (Before h)) (undecided e) → h.rest ≡ []
+unfolding front_of
+open_none inputs h e suits = let used : ℕ = h.used in let bytes : List ℕ = h.rest in elim (cases_Bool (nat_lt (judge bytes) (length bytes))) [
+  | inl t ↦
+      let e1 = rw t at e in
+      elim (cases_Bool (nat_lt (used + judge bytes) most_bytes)) [
+        | inl u ↦
+            let e2 = rw u at e1 in
+            elim (cases_Bool (nat_lt (reach bytes) (run bytes))) [ inl r ↦ let e3 = rw r at e2 in absurd (cc e3) | inr r ↦ let e3 = rw r at e2 in absurd (cc e3) ]
+        | inr u ↦ let e2 = rw u at e1 in absurd (cc e2)
+      ]
+  | inr t ↦
+      let e1 = rw t at e in
+      elim (cases_Bool (nat_lt most_bytes (used + length bytes))) [
+        | inl p ↦ let e2 = rw p at e1 in absurd (cc e2)
+        | inr p ↦
+            let e2 = rw p at e1 in
+            elim (cases_Bool (length bytes == 0)) [
+              | inl s ↦ nil_from_length bytes (eqb-true (length bytes) 0 s)
+              | inr s ↦
+                  let e3 = rw s at e2 in
+                  elim (cases_Bool (nat_lt longest_line (length bytes))) [ inl v ↦ let e4 = rw v at e3 in absurd (cc e4) | inr v ↦ let e4 = rw v at e3 in absurd (cc e4) ]
+            ]
+      ]
+]
+
+-- Bytes with more before their first line feed than a line may have, or without one and with more than a line may have.
+abbrev IsLong : List ℕ → Type 0
+IsLong bytes = ((reach bytes < run bytes) × (reach bytes < length bytes)) ⊎ ((length bytes ≤ run bytes) × (longest_line < length bytes))
+
+-- what tests say of them
+long_ended : (bytes : List ℕ) → nat_lt (judge bytes) (length bytes) ≡ true → nat_lt (reach bytes) (run bytes) ≡ true → IsLong bytes
+long_ended bytes t r =
+    let inside : judge bytes < length bytes = ltb-true (judge bytes) (length bytes) t in
+    let far : reach bytes < run bytes = ltb-true (reach bytes) (run bytes) r in
+    inl (far, omega arith)
+
+long_whole : (bytes : List ℕ) → nat_lt (judge bytes) (length bytes) ≡ false → nat_lt longest_line (length bytes) ≡ true → IsLong bytes
+long_whole bytes t v =
+    let far : length bytes ≤ judge bytes = ltb-false (judge bytes) (length bytes) t in
+    inr (omega arith, ltb-true longest_line (length bytes) v)
+
+long_front : (inputs : List InputSpec) (h : Held) (e : _) → Suits (Cut inputs true h [] (At (BadLine (h.lines + 1)))) (long e) → IsLong h.rest
+unfolding front_of
+long_front inputs h e suits = let used : ℕ = h.used in let bytes : List ℕ = h.rest in elim (cases_Bool (nat_lt (judge bytes) (length bytes))) [
+  | inl t ↦
+      let e1 = rw t at e in
+      elim (cases_Bool (nat_lt (used + judge bytes) most_bytes)) [
+        | inl u ↦
+            let e2 = rw u at e1 in
+            elim (cases_Bool (nat_lt (reach bytes) (run bytes))) [ inl r ↦ long_ended bytes t r | inr r ↦ let e3 = rw r at e2 in absurd (cc e3) ]
+        | inr u ↦ let e2 = rw u at e1 in absurd (cc e2)
+      ]
+  | inr t ↦
+      let e1 = rw t at e in
+      elim (cases_Bool (nat_lt most_bytes (used + length bytes))) [
+        | inl p ↦ let e2 = rw p at e1 in absurd (cc e2)
+        | inr p ↦
+            let e2 = rw p at e1 in
+            elim (cases_Bool (length bytes == 0)) [
+              | inl s ↦ let e3 = rw s at e2 in absurd (cc e3)
+              | inr s ↦
+                  let e3 = rw s at e2 in
+                  elim (cases_Bool (nat_lt longest_line (length bytes))) [ inl v ↦ long_whole bytes t v | inr v ↦ let e4 = rw v at e3 in absurd (cc e4) ]
+            ]
+      ]
+]
+
+-- a line that is too long is so whatever follows
+long_more : (inputs : List InputSpec) (closed : Bool) (h : Held) (more : List ℕ) (e : _) → Suits (Cut inputs closed h [] (At (BadLine (h.lines + 1)))) (long e) → (closed ≡ true → more ≡ []) → IsLong (h.rest ++ more)
+long_more inputs true h more e suits shut =
+    long_front inputs (with_more h more) (ap (λ m. front_of true h.used (h.rest ++ m)) (shut refl) ∙ ap (front_of true h.used) (append-nil h.rest) ∙ e) tt
+long_more inputs false h more e suits shut = long_front inputs (with_more h more) (front_more true h.used h.rest more (λ o. cc (sym e ∙ o)) ∙ e) tt
+
+-- it has more bytes than a line may have, also without a carriage return at its end
+long_content : (bytes : List ℕ) → reach bytes < run bytes → longest_line < content_of bytes (run bytes)
+long_content bytes far = elim (cases_Bool (get_or bytes longest_line 0 == 13)) [
+  | inl t ↦
+      let r : reach bytes ≡ longest_line + 1 = ap (λ b. cond b (longest_line + 1) longest_line) t in
+      cond_both (get_or bytes (run bytes - 1) 0 == 13) (run bytes - 1) (run bytes) (λ n. longest_line < n) (λ e. omega arith) (λ e. omega arith)
+  | inr t ↦
+      let r : reach bytes ≡ longest_line = ap (λ b. cond b (longest_line + 1) longest_line) t in
+      elim (cases_Bool (nat_lt (longest_line + 1) (run bytes))) [
+        | inl k ↦
+            let far_off : longest_line + 1 < run bytes = ltb-true (longest_line + 1) (run bytes) k in
+            cond_both (get_or bytes (run bytes - 1) 0 == 13) (run bytes - 1) (run bytes) (λ n. longest_line < n) (λ e. omega arith) (λ e. omega arith)
+        | inr k ↦
+            let near : run bytes ≤ longest_line + 1 = ltb-false (longest_line + 1) (run bytes) k in
+            let last : run bytes - 1 ≡ longest_line = omega arith in
+            let all : content_of bytes (run bytes) ≡ run bytes = ap (λ b. cond b (run bytes - 1) (run bytes)) (ap (λ i. get_or bytes i 0 == 13) last ∙ t) in
+            omega (arith, all)
+      ]
+]
+
+-- the first line of bytes has more bytes than a line may have
+record LongLine (bytes : List ℕ) : Type 0 where
+  line : List ℕ
+  others : List (List ℕ)
+  is : lines bytes ≡ line ∷ others
+  far : longest_line < length line
+
+long_line : (bytes : List ℕ) → IsLong bytes → LongLine bytes
+long_line bytes h = elim (cases_Bool (nat_lt (run bytes) (length bytes))) [
+  | inl w ↦
+      let within : run bytes < length bytes = ltb-true (run bytes) (length bytes) w in
+      let behind : reach bytes < run bytes = elim h [ inl r ↦ r.0 | inr r ↦ absurd (omega (arith, r.0)) ] in
+      let inner = content_within bytes (run bytes) in
+      let all : length (strip_carriage_return (take (run bytes) bytes)) ≡ content_of bytes (run bytes) =
+      ap length (strip_is bytes (run bytes) (omega arith)) ∙ length-take-le (content_of bytes (run bytes)) bytes (omega arith) in
+      let more = long_content bytes behind in
+      record {
+        line = strip_carriage_return (take (run bytes) bytes);
+        others = lines (drop (run bytes + 1) bytes);
+        is = lines_at bytes within;
+        far = omega (arith, all);
+      }
+  | inr w ↦
+      let open_end : length bytes ≤ run bytes = ltb-false (run bytes) (length bytes) w in
+      let range = reach_range bytes in
+      let many : longest_line < length bytes = elim h [ inl r ↦ omega (arith, r.1) | inr r ↦ r.1 ] in
+      let some : (length bytes == 0) ≡ false = elim (cases_Bool (length bytes == 0)) [
+        | inl s ↦ let none : length bytes ≡ 0 = eqb-true (length bytes) 0 s in absurd (omega arith)
+        | inr s ↦ s
+      ] in
+      record { line = bytes; others = []; is = one_line bytes open_end some; far = many }
+]
+
 -- What fields say that are not refused: none nothing, and two what a name and a spelled value say.
 told_fields : (inputs : List InputSpec) (fs : List (List ℕ)) (k : _) → FieldsSay inputs fs k → refusal 1 k ≡ None →
     ((fs ≡ []) × FieldsSay inputs [] k) ⊎ ((name : List ℕ) × (spelled : List ℕ) × (fs ≡ name ∷ spelled ∷ []) × PairSays inputs name spelled k)
@@ -118,11 +290,32 @@ told_fields inputs (a ∷ []) k h r = let bad : refusal 1 k ≡ Some (BadLine 1)
 told_fields inputs (a ∷ b ∷ []) k h r = inr (a, b, refl, h)
 told_fields inputs (a ∷ b ∷ c ∷ fs) k h r = let bad : refusal 1 k ≡ Some (BadLine 1) = ap (refusal 1) h in absurd (cc (sym r ∙ bad))
 
--- what the first lines say of what is held and of what follows it, with the stop of its items
+-- fields that are refused are some
+refused_fields : (inputs : List InputSpec) (fs : List (List ℕ)) (k : _) (n : ℕ) (f : TextFault) → FieldsSay inputs fs k → refusal n k ≡ Some f → fs ≢ []
+refused_fields inputs [] k n f h r = let bad : refusal n k ≡ None = ap (refusal n) h in absurd (cc (sym r ∙ bad))
+refused_fields inputs (a ∷ fs) k n f h r = λ e. cc e
+
+-- what follows where a line says what two fields say, follows of them
+by_fields : (R : Type 0) (inputs : List InputSpec) (line name spelled : List ℕ) (k : _) → (IsKind inputs line k → R) → fields line ≡ name ∷ spelled ∷ [] → PairSays inputs name spelled k → R
+by_fields R inputs line name spelled k step split pair = step (subst (λ fs. FieldsSay inputs fs k) (sym split) pair)
+
+-- and a line that is refused says no item, since its bytes have one cut
+unsaid : (inputs : List InputSpec) (closed : Bool) (h : Held) (c n : ℕ) (k : _) (f : TextFault) (e : _) → Suits (WithinBytes h.rest c n) (line_within closed h.used h.rest c n e) → IsKind inputs (take c h.rest) k →
+    refusal (h.lines + 1) k ≡ Some f → (x : ItemOf) → LineSays inputs (take c h.rest) x → ⊥
+unsaid inputs closed h c n k f e suits is r x (name, spelled, input, split, at, spells) =
+    let rest = some_cut inputs closed (past h n) in
+    let it : ItemOf = record { stream = x.stream; value = x.value } in
+    let R : Type 0 = Cut inputs closed h (it ∷ rest.0) rest.1 in
+    let said : R = by_fields R inputs (take c h.rest) name spelled _ (λ told. item {stream = x.stream} {value = x.value} e told rest.2) split (input, at, spells) in
+    let bad : [] ≡ it ∷ rest.0 = (one_cut (refused k e is r) said).0 in
+    cc bad
+
+-- what the first lines say of what is held and of what follows it, with the stop of its items, where that is a line the next one
 pub record Lined (inputs : List InputSpec) (closed : Bool) (h : Held) (more : List ℕ) (items : List ItemOf) (stop : Stop) : Type 0 where
   pub many : ℕ
   pub say : LinesSay inputs (take many (lines (h.rest ++ more))) items
   pub all : closed ≡ true → (g : Held) → stop ≡ Before g → many ≡ length (lines (h.rest ++ more))
+  pub next : (f : TextFault) → stop ≡ At f → f ≢ TooLong → IsSomeAnd (slice_get (lines (h.rest ++ more)) many) (LineFails inputs)
 
 module _ (input : InputSpec) (others : List InputSpec) (closed : Bool) where
   abbrev inputs : List InputSpec
@@ -134,117 +327,41 @@ module _ (input : InputSpec) (others : List InputSpec) (closed : Bool) where
     many = suc rest.many;
     say = subst (λ l. LinesSay inputs (take (suc rest.many) l) now) (sym ls) say;
     all = λ shut g s. ap suc (rest.all shut g s) ∙ ap length (sym ls);
+    next = λ f s short. subst (λ l. IsSomeAnd (slice_get l (suc rest.many)) (LineFails inputs)) (sym ls) (rest.next f s short);
   }
 
-  stopped : (h : Held) (more : List ℕ) (f : TextFault) → Lined inputs closed h more [] (At f)
-  stopped h more f = record { many = 0; say = refl; all = λ shut g s. absurd (cc s) }
+  stopped : (h : Held) (more : List ℕ) (f : TextFault) → (f ≢ TooLong → IsSomeAnd (slice_get (lines (h.rest ++ more)) 0) (LineFails inputs)) → Lined inputs closed h more [] (At f)
+  stopped h more f fails = record {
+    many = 0;
+    say = refl;
+    all = λ shut g s. absurd (cc s);
+    next = λ g s short. let same : g ≡ f = cc s in fails (λ t. short (same ∙ t));
+  }
+
+  stopped_line : (h : Held) (more line : List ℕ) (others : List (List ℕ)) (f : TextFault) → lines (h.rest ++ more) ≡ line ∷ others → LineFails inputs line → Lined inputs closed h more [] (At f)
+  stopped_line h more line others f ls fails = stopped h more f (λ short. subst (λ l. IsSomeAnd (slice_get l 0) (LineFails inputs)) (sym ls) fails)
 
   pub cut_lines : {h : Held} {items : List ItemOf} {stop : Stop} → Cut inputs closed h items stop → (more : List ℕ) → (closed ≡ true → more ≡ []) → Lined inputs closed h more items stop
-  unfolding front_of
   cut_lines {h = h} {stop = stop} (blank {content = c} {length = n} {items = items} e said cut) more shut =
       let rest : Lined inputs closed (past h n) more items stop = cut_lines cut more shut in
-      let first : IsFirst closed h.rest c n = elim (cases_Bool (nat_lt (judge h.rest) (length h.rest))) [
-        | inl t ↦
-            let e1 = rw t at e in
-            elim (cases_Bool (nat_lt (h.used + judge h.rest) most_bytes)) [
-              | inl u ↦
-                  let e2 = rw u at e1 in
-                  elim (cases_Bool (nat_lt (reach h.rest) (run h.rest))) [
-                    | inl r ↦ let e3 = rw r at e2 in absurd (cc e3)
-                    | inr r ↦ let e3 = rw r at e2 in first_ended closed h.rest c n t r (cc e3) (cc e3)
-                  ]
-              | inr u ↦ let e2 = rw u at e1 in absurd (cc e2)
-            ]
-        | inr t ↦
-            let e1 = rw t at e in
-            elim (cases_Bool (nat_lt most_bytes (h.used + length h.rest))) [
-              | inl p ↦ let e2 = rw p at e1 in absurd (cc e2)
-              | inr p ↦
-                  let e2 = rw p at e1 in
-                  elim (cases_Bool closed) [
-                    | inl k ↦
-                        let e3 = rw k at e2 in
-                        elim (cases_Bool (length h.rest == 0)) [
-                          | inl s ↦ let e4 = rw s at e3 in absurd (cc e4)
-                          | inr s ↦
-                              let e4 = rw s at e3 in
-                              elim (cases_Bool (nat_lt longest_line (length h.rest))) [
-                                | inl v ↦ let e5 = rw v at e4 in absurd (cc e5)
-                                | inr v ↦ let e5 = rw v at e4 in first_whole closed h.rest c n t k s (cc e5) (cc e5)
-                              ]
-                        ]
-                    | inr k ↦ let e3 = rw k at e2 in absurd (cc e3)
-                  ]
-            ]
-      ] in
       let none : fields (take c h.rest) ≡ [] = elim (told_fields inputs (fields (take c h.rest)) _ said refl) [ inl f ↦ f.0 | inr (name, spelled, f, pair) ↦ absurd pair ] in
-      behind_line h more (take c h.rest) n items items stop (first_lines closed h.rest more c n first shut) rest (inl (none, rest.say))
+      behind_line h more (take c h.rest) n items items stop (first_lines closed h.rest more c n (line_first closed h.used h.rest c n e tt) shut) rest (inl (none, rest.say))
   cut_lines {h = h} {stop = stop} (item {content = c} {length = n} {stream = number} {value = value} {items = items} e said cut) more shut =
       let rest : Lined inputs closed (past h n) more items stop = cut_lines cut more shut in
       let it : ItemOf = record { stream = number; value = value } in
-      let first : IsFirst closed h.rest c n = elim (cases_Bool (nat_lt (judge h.rest) (length h.rest))) [
-        | inl t ↦
-            let e1 = rw t at e in
-            elim (cases_Bool (nat_lt (h.used + judge h.rest) most_bytes)) [
-              | inl u ↦
-                  let e2 = rw u at e1 in
-                  elim (cases_Bool (nat_lt (reach h.rest) (run h.rest))) [
-                    | inl r ↦ let e3 = rw r at e2 in absurd (cc e3)
-                    | inr r ↦ let e3 = rw r at e2 in first_ended closed h.rest c n t r (cc e3) (cc e3)
-                  ]
-              | inr u ↦ let e2 = rw u at e1 in absurd (cc e2)
-            ]
-        | inr t ↦
-            let e1 = rw t at e in
-            elim (cases_Bool (nat_lt most_bytes (h.used + length h.rest))) [
-              | inl p ↦ let e2 = rw p at e1 in absurd (cc e2)
-              | inr p ↦
-                  let e2 = rw p at e1 in
-                  elim (cases_Bool closed) [
-                    | inl k ↦
-                        let e3 = rw k at e2 in
-                        elim (cases_Bool (length h.rest == 0)) [
-                          | inl s ↦ let e4 = rw s at e3 in absurd (cc e4)
-                          | inr s ↦
-                              let e4 = rw s at e3 in
-                              elim (cases_Bool (nat_lt longest_line (length h.rest))) [
-                                | inl v ↦ let e5 = rw v at e4 in absurd (cc e5)
-                                | inr v ↦ let e5 = rw v at e4 in first_whole closed h.rest c n t k s (cc e5) (cc e5)
-                              ]
-                        ]
-                    | inr k ↦ let e3 = rw k at e2 in absurd (cc e3)
-                  ]
-            ]
-      ] in
       let says : LineSays inputs (take c h.rest) it =
       elim (told_fields inputs (fields (take c h.rest)) _ said refl) [ inl f ↦ absurd (cc f.1) | inr (name, spelled, f, pair) ↦ (name, spelled, pair.0, f, pair.1, pair.2) ] in
-      behind_line h more (take c h.rest) n items (it ∷ items) stop (first_lines closed h.rest more c n first shut) rest (inr (it, items, says, rest.say, refl))
-  cut_lines {h = h} (refused {f = f} k e is r) more shut = stopped h more f
-  cut_lines {h = h} (long e) more shut = stopped h more (BadLine (h.lines + 1))
-  cut_lines {h = h} (too_long e) more shut = stopped h more TooLong
-  cut_lines {h = h} (undecided e) more shut =
-      let empty : closed ≡ true → h.rest ≡ [] = λ k. elim (cases_Bool (nat_lt (judge h.rest) (length h.rest))) [
-        | inl t ↦
-            let e1 = rw t at e in
-            elim (cases_Bool (nat_lt (h.used + judge h.rest) most_bytes)) [
-              | inl u ↦
-                  let e2 = rw u at e1 in
-                  elim (cases_Bool (nat_lt (reach h.rest) (run h.rest))) [ inl r ↦ let e3 = rw r at e2 in absurd (cc e3) | inr r ↦ let e3 = rw r at e2 in absurd (cc e3) ]
-              | inr u ↦ let e2 = rw u at e1 in absurd (cc e2)
-            ]
-        | inr t ↦
-            let e1 = rw t at e in
-            elim (cases_Bool (nat_lt most_bytes (h.used + length h.rest))) [
-              | inl p ↦ let e2 = rw p at e1 in absurd (cc e2)
-              | inr p ↦
-                  let e2 = rw p at e1 in
-                  let e3 = rw k at e2 in
-                  elim (cases_Bool (length h.rest == 0)) [
-                    | inl s ↦ nil_from_length h.rest (eqb-true (length h.rest) 0 s)
-                    | inr s ↦
-                        let e4 = rw s at e3 in
-                        elim (cases_Bool (nat_lt longest_line (length h.rest))) [ inl v ↦ let e5 = rw v at e4 in absurd (cc e5) | inr v ↦ let e5 = rw v at e4 in absurd (cc e5) ]
-                  ]
-            ]
-      ] in
-      record { many = 0; say = refl; all = λ k g s. ap (λ m. length (lines m)) (sym (ap (λ r. r ++ more) (empty k) ∙ shut k)) }
+      behind_line h more (take c h.rest) n items (it ∷ items) stop (first_lines closed h.rest more c n (line_first closed h.used h.rest c n e tt) shut) rest (inr (it, items, says, rest.say, refl))
+  cut_lines {h = h} (refused {content = c} {length = n} {f = f} k e is r) more shut =
+      stopped_line h more (take c h.rest) (lines (drop n h.rest ++ more)) f (first_lines closed h.rest more c n (line_first closed h.used h.rest c n e tt) shut)
+      (inr (refused_fields inputs (fields (take c h.rest)) k (h.lines + 1) f is r, unsaid inputs closed h c n k f e tt is r))
+  cut_lines {h = h} (long e) more shut =
+      let it = long_line (h.rest ++ more) (long_more inputs closed h more e tt shut) in
+      stopped_line h more it.line it.others (BadLine (h.lines + 1)) it.is (inl it.far)
+  cut_lines {h = h} (too_long e) more shut = stopped h more TooLong (λ short. absurd (short refl))
+  cut_lines {h = h} (undecided e) more shut = record {
+    many = 0;
+    say = refl;
+    all = λ k g s. ap (λ m. length (lines m)) (sym (ap (λ r. r ++ more) (open_none inputs h (ap (λ b. front_of b h.used h.rest) (sym k) ∙ e) tt) ∙ shut k));
+    next = λ f s short. absurd (cc s);
+  }

@@ -1,12 +1,13 @@
 -- What the lines of a short input say.
-use Rattle.std.proofs.Common.{[], ◌∷◌, refl, inl, inr, arith}
+use Rattle.std.proofs.Common.{◌≡◌, [], ◌∷◌, Some, None, refl, ap, ◌∙◌, inl, inr, arith}
 use Rattle.std.specs.Prelude.{codes, pos, negsuc}
 use Rattle.std.specs.Str.Lines.{lines}
 use Rattle.lucy_host.specs.declared.data_type.DataType.TheVariants.{Int}
 use Rattle.lucy_lines.specs.declared.input.InputSpec.{InputSpec}
 use Rattle.lucy_lines.specs.Fields.{fields}
+use Rattle.lucy_lines.specs.Kinds.{stream_named}
 use Rattle.lucy_lines.specs.Cuts.{ItemOf}
-use Rattle.lucy_right.specs.Right.{LineSays, LinesSay}
+use Rattle.lucy_right.specs.Right.{LineSays, LineFails, LinesSay}
 
 abbrev x_input : InputSpec
 x_input = record { name = codes "x"; holds = Int }
@@ -33,3 +34,22 @@ three_lines = inr (one, minus_two ∷ [], first_says, inl (refl, inr (minus_two,
 -- where main has no inputs they say none
 no_inputs : LinesSay [] (lines (codes "x 1\n")) []
 no_inputs = refl
+
+-- a name that no input has, and a name alone, are refused
+unknown_fails : LineFails (x_input ∷ []) (codes "y 1")
+unfolding fields
+unknown_fails = inr (
+  λ e. let split : codes "y" ∷ codes "1" ∷ [] ≡ [] = e in cc split,
+  λ x says.
+      let split : codes "y" ∷ codes "1" ∷ [] ≡ says.0 ∷ says.1 ∷ [] = says.3 in
+      let name : codes "y" ≡ says.0 = cc split in
+      let bad : None ≡ Some x.stream = ap (stream_named (x_input ∷ [])) name ∙ says.4.found in
+      cc bad,
+)
+
+name_fails : LineFails (x_input ∷ []) (codes "x")
+unfolding fields
+name_fails = inr (
+  λ e. let split : codes "x" ∷ [] ≡ [] = e in cc split,
+  λ x says. let split : codes "x" ∷ [] ≡ says.0 ∷ says.1 ∷ [] = says.3 in cc split,
+)

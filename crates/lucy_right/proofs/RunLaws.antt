@@ -1,10 +1,12 @@
 -- The output that a run owes is what `run` prints.
-use Rattle.std.proofs.Common.{◌≡◌, ◌≢◌, ◌-◌, ◌*◌, ◌++◌, ℕ, Bool, true, List, [], ◌∷◌, length, map, take, Option, Some, None, slice_get, refl, ap, sym, ◌∙◌, subst}
-use Rattle.std.specs.Prelude.{ℤ, option_map}
+use Rattle.std.proofs.Common.{◌≡◌, ◌≢◌, ◌-◌, ◌*◌, ◌++◌, ℕ, Bool, true, List, [], ◌∷◌, length, map, take, Option, Some, None, slice_get, refl, ap, sym, ◌∙◌, subst, inl, inr}
+use Rattle.std.specs.Prelude.{ℤ, option_map, unwrap_or, IsSome, IsSomeAnd}
 use Rattle.std.specs.Str.Lines.{lines}
 use Rattle.std.proofs.lemmas.List.{length-map}
 use Rattle.std.proofs.lemmas.Option.{slice_get-map, get_or_from_slice_get}
 use Rattle.lucy_word.specs.Bits.{Bits, ones_to}
+use Rattle.lucy_word.specs.Limits.{limit_number}
+use Rattle.lucy_word.specs.declared.limit.Limit.TheVariants as limit
 use Rattle.lucy_host.specs.declared.kind.HostKind.{HostKind}
 use Rattle.lucy_host.specs.Operators.{Operator, kinds_of}
 use Rattle.lucy_stream.specs.Fronts.{IsFront}
@@ -12,8 +14,9 @@ use Rattle.lucy_stream.specs.Items.{list_at}
 use Rattle.lucy_stream.proofs.FrontLaws.{IsFront-take, IsFront-trans, IsFront-cut}
 use Rattle.lucy_lines.specs.declared.input.InputSpec.{InputSpec}
 use Rattle.lucy_lines.specs.declared.reader.TextFault.{TextFault}
+use Rattle.lucy_lines.specs.declared.reader.TextFault.TheVariants.{ReadFault, TooLong}
 use Rattle.lucy_lines.specs.Cuts.{ItemOf, Stop, At, Before, Held, Cut, input_of}
-use Rattle.lucy_text.specs.Sources.{ReadStop, Ended}
+use Rattle.lucy_text.specs.Sources.{ReadStop, Unread, Ended, Failed, Passed, Open, Drained}
 use Rattle.lucy_feed.specs.Feeding.{is_closed, values_by_stream, fault_of, StopsFor, IsFeedOf}
 use Rattle.lucy_output.specs.declared.output.OutputSpec.{OutputSpec}
 use Rattle.lucy_output.specs.Outputs.{output_text}
@@ -24,6 +27,7 @@ use Rattle.lucy_types.specs.Tables.{table_at}
 use Rattle.lucy_clock.specs.declared.node_clock.NodeClock.{NodeClock}
 use Rattle.lucy_meaning.specs.Spots.{at, main_of, results_in}
 use Rattle.lucy_meaning.specs.Sizes.{all_places}
+use Rattle.lucy_meaning.specs.Horizons.{IsHorizon}
 use Rattle.lucy_meaning.specs.Kahn.{kahn}
 use Rattle.lucy_meaning.specs.Laws.{LaterLaw}
 use Rattle.lucy_meaning.proofs.Lists.{mapped}
@@ -42,8 +46,8 @@ use Rattle.lucy_program.specs.Laws.{AcceptedAreProper}
 use Rattle.lucy_run.specs.declared.ending.Ending.{Ending}
 use Rattle.lucy_run.specs.declared.ending.Ending.TheVariants as ending
 use Rattle.lucy_run.specs.Feeds.{Feeds}
-use Rattle.lucy_run.specs.Owes.{most_instants, input_words, IsHorizonOf, heading, lines_to, EndsFor}
-use Rattle.lucy_right.specs.Right.{Meaning, LinesSay, IsStream, IsRunOf}
+use Rattle.lucy_run.specs.Owes.{most_instants, input_words, IsHorizonOf, heading, lines_to, AllowsMore, EndsFor}
+use Rattle.lucy_right.specs.Right.{Meaning, LineFails, LinesSay, IsStream}
 use Rattle.lucy_right.specs.Owed.{meaning_of, AcceptedStand, IsRunOfText, CutsAreRuns, OwedAreRuns}
 use Rattle.lucy_right.proofs.LineLaws.{Lined, cut_lines}
 
@@ -117,105 +121,146 @@ pub record Laws : Type 0 where
   pub later : LaterLaw
   pub whole : StreamsAreWhole
 
-module _ (laws : Laws) (ops : List Operator) (o : Options) (text : List ℕ) (a : Accepted) (is : IsAccepted ops o text a) (given : Option ℕ) where
+-- a run ends for a refused line
+abbrev EndsAtLine : Ending → Type 0
+EndsAtLine end = (fault : TextFault) × (end ≡ ending.Input fault) × (fault ≢ ReadFault) × (fault ≢ TooLong)
+
+-- a run that is done has met the end of its input, where no line stopped it
+done_ends : (words : List Bits) (given : Option ℕ) (lists : List (List ℤ)) (fault : Option TextFault) (end : Ending) → EndsFor words given lists fault end → end ≡ ending.Done → fault ≡ None
+done_ends words given lists None end e d = refl
+done_ends words given lists (Some f) end e d = cc
+
+-- and without given instants has not passed the most
+ends_within : (words : List Bits) (given : Option ℕ) (lists : List (List ℤ)) (fault : Option TextFault) (end : Ending) → EndsFor words given lists fault end → end ≡ ending.Done → given ≡ None →
+    AllowsMore words lists → ⊥
+ends_within words given lists (Some f) end e d none more = cc
+ends_within words (Some n) lists None end e d none more = cc
+ends_within words None lists None end (inl e) d none more = let bad : ending.Limit limit.Instants ≡ ending.Done = sym e.0 ∙ d in cc bad
+ends_within words None lists None end (inr e) d none more = e.1 more
+
+-- one that ends for a fault has met it
+faulted : (words : List Bits) (given : Option ℕ) (lists : List (List ℤ)) (fault : Option TextFault) (end : Ending) (f : TextFault) → EndsFor words given lists fault end → end ≡ ending.Input f → fault ≡ Some f
+faulted words given lists (Some g) end f e d = let same : g ≡ f = cc (sym e ∙ d) in ap Some same
+faulted words (Some n) lists None end f e d = cc
+faulted words None lists None end f (inl e) d = let bad : ending.Limit limit.Instants ≡ ending.Input f = sym e.0 ∙ d in absurd (cc bad)
+faulted words None lists None end f (inr e) d = let bad : ending.Done ≡ ending.Input f = sym e.0 ∙ d in absurd (cc bad)
+
+-- where that isn't a failed read, it stopped at a line
+stopped_at : (stop : ReadStop) (halt : Stop) (f : TextFault) → fault_of stop halt ≡ Some f → f ≢ ReadFault → halt ≡ At f
+stopped_at stop (At g) f e well = ap At (cc e)
+stopped_at Failed (Before held) f e well = absurd (well (cc (sym e)))
+stopped_at Unread (Before held) f e well = absurd (cc e)
+stopped_at Ended (Before held) f e well = absurd (cc e)
+stopped_at Passed (Before held) f e well = absurd (cc e)
+stopped_at Open (Before held) f e well = absurd (cc e)
+stopped_at Drained (Before held) f e well = absurd (cc e)
+
+stopped_so : (fault : Option TextFault) (stop : ReadStop) → StopsFor fault stop → fault ≡ None → stop ≡ Ended
+stopped_so None stop s e = s
+stopped_so (Some f) stop s e = cc
+
+ended_before : (halt : Stop) → fault_of Ended halt ≡ None → (held : Held) × (halt ≡ Before held)
+ended_before (At f) e = cc
+ended_before (Before held) e = (held, refl)
+
+all_read : (specs : List InputSpec) (taken : List ℕ) (stop : ReadStop) (items : List ItemOf) (halt : Stop) (lists : List (List ℤ)) (fault : Option TextFault) →
+    IsFeedOf specs taken stop items halt (record { items = lists; stop = fault }) → fault ≡ None → (is_closed stop ≡ true) × (held : Held) × (halt ≡ Before held)
+all_read specs taken stop items halt lists fault feed none =
+    let ended : stop ≡ Ended = stopped_so fault stop feed.stopped none in
+    let before = ended_before halt (ap (λ s. fault_of s halt) (sym ended) ∙ sym feed.fault ∙ none) in
+    (ap is_closed ended, before.0, before.1)
+
+-- the most instants of a run, given or not
+most_of : (given : Option ℕ) → most_instants given ≡ unwrap_or given (limit_number limit.Instants)
+most_of None = refl
+most_of (Some n) = refl
+
+module _ (laws : Laws) (ops : List Operator) (o : Options) (text : List ℕ) (a : Accepted) (is : IsAccepted ops o text a) (given : Option ℕ) (bounded : a.inputs.items ≡ [] → IsSome given) where
   abbrev m : Meaning
   m = meaning_of a
 
-  -- what is printed of items that lines say
-  of_items : (ls : List (List ℕ)) (items : List ItemOf) (horizon : ℕ) → LinesSay a.inputs.items ls items →
-      IsHorizonOf (input_words a) given (values_by_stream (length a.inputs.items) items) horizon →
-      IsRunOf ops (most_instants given) (laws.stand ops o text a is).0 ls (heading a ++ lines_to (kinds_of ops) a (values_by_stream (length a.inputs.items) items) horizon)
-  of_items ls items horizon say greatest =
-      let inputs : List (List ℤ) = values_by_stream (length a.inputs.items) items in
+  abbrev lists_of : List ItemOf → List (List ℤ)
+  lists_of items = values_by_stream (length a.inputs.items) items
+
+  abbrev output_of : List (List ℤ) → (horizon : ℕ) → List ℕ
+  output_of lists horizon = heading a ++ lines_to (kinds_of ops) a lists horizon
+
+  -- what is printed of items that the first lines say
+  of_items : (input : List ℕ) (many : ℕ) (items : List ItemOf) (horizon : ℕ) (Done Refused : Type 0) → LinesSay a.inputs.items (take many (lines input)) items →
+      IsHorizonOf (input_words a) given (lists_of items) horizon → (Done → many ≡ length (lines input)) → (Done → given ≡ None → AllowsMore (input_words a) (lists_of items) → ⊥) →
+      (Refused → IsSomeAnd (slice_get (lines input) many) (LineFails a.inputs.items)) → IsRunOfText ops given text input (output_of (lists_of items) horizon) Done Refused
+  of_items input many items horizon Done Refused say greatest all within next =
+      let inputs : List (List ℤ) = lists_of items in
       let proper : AreProper m.nodes = laws.proper ops o text a is in
-      let whole = laws.whole (kinds_of ops) inputs m.nodes m.clocks horizon proper (scheduled ops o text a is) greatest.suffice in
-      record {
-        m = m;
-        stands = (laws.stand ops o text a is).2;
-        items = items;
-        said = subst (λ specs. LinesSay specs ls items) is.inputs say;
-        inputs = inputs;
-        fed = ap (λ (specs : List InputSpec). values_by_stream (length specs) items) is.inputs;
-        horizon = horizon;
-        greatest = greatest;
-        streams = main_streams (kinds_of ops) inputs m.nodes m.clocks horizon;
-        count = length-map (results_in (main_of m.nodes)) (main_stream (kinds_of ops) inputs m.nodes m.clocks horizon) ∙ output_count m.nodes m.types m.clocks;
-        kahn = is_stream m.nodes m.types m.clocks laws.later (kinds_of ops) inputs horizon proper whole;
-        printed = ap (λ specs. heading a ++ output_text specs (main_streams (kinds_of ops) inputs m.nodes m.clocks horizon) horizon) is.outputs;
-      }
+      let whole = laws.whole (kinds_of ops) inputs m.nodes m.clocks horizon proper (scheduled ops o text a is) greatest.suffice in (
+        (laws.stand ops o text a is).0,
+        (laws.stand ops o text a is).1,
+        record {
+          m = m;
+          stands = (laws.stand ops o text a is).2;
+          bounded = λ none. bounded (is.inputs ∙ none);
+          many = many;
+          items = items;
+          said = subst (λ specs. LinesSay specs (take many (lines input)) items) is.inputs say;
+          inputs = inputs;
+          fed = ap (λ (specs : List InputSpec). values_by_stream (length specs) items) is.inputs;
+          horizon = horizon;
+          greatest = subst (λ most. IsHorizon (input_words a) inputs most horizon) (most_of given) greatest;
+          streams = main_streams (kinds_of ops) inputs m.nodes m.clocks horizon;
+          count = length-map (results_in (main_of m.nodes)) (main_stream (kinds_of ops) inputs m.nodes m.clocks horizon) ∙ output_count m.nodes m.types m.clocks;
+          kahn = is_stream m.nodes m.types m.clocks laws.later (kinds_of ops) inputs horizon proper whole;
+          printed = ap (λ specs. heading a ++ output_text specs (main_streams (kinds_of ops) inputs m.nodes m.clocks horizon) horizon) is.outputs;
+          all = all;
+          within = within;
+          next = λ r. subst (λ specs. IsSomeAnd (slice_get (lines input) many) (LineFails specs)) is.inputs (next r);
+        },
+      )
 
   -- with inputs, of a cut
-  cut_runs : (specs : List InputSpec) → a.inputs.items ≡ specs → specs ≢ [] → (closed : Bool) (taken more : List ℕ) (items : List ItemOf) (stop : Stop) (horizon : ℕ) →
-      (closed ≡ true → more ≡ []) → Cut specs closed (input_of taken) items stop → IsHorizonOf (input_words a) given (values_by_stream (length a.inputs.items) items) horizon →
-      IsRunOfText ops given text (taken ++ more) (heading a ++ lines_to (kinds_of ops) a (values_by_stream (length a.inputs.items) items) horizon) ((closed ≡ true) × (held : Held) × (stop ≡ Before held))
-  cut_runs [] e some closed taken more items stop horizon shut cut greatest = absurd (some refl)
-  cut_runs (input ∷ others) e some closed taken more items stop horizon shut cut greatest =
+  of_cut : (specs : List InputSpec) → a.inputs.items ≡ specs → specs ≢ [] → (closed : Bool) (taken more : List ℕ) (items : List ItemOf) (stop : Stop) (horizon : ℕ) (Done Refused : Type 0) →
+      (closed ≡ true → more ≡ []) → Cut specs closed (input_of taken) items stop → IsHorizonOf (input_words a) given (lists_of items) horizon →
+      (Done → (closed ≡ true) × (held : Held) × (stop ≡ Before held)) → (Done → given ≡ None → AllowsMore (input_words a) (lists_of items) → ⊥) →
+      (Refused → (f : TextFault) × (stop ≡ At f) × (f ≢ TooLong)) → IsRunOfText ops given text (taken ++ more) (output_of (lists_of items) horizon) Done Refused
+  of_cut [] e some closed taken more items stop horizon Done Refused shut cut greatest all within next = absurd (some refl)
+  of_cut (input ∷ others) e some closed taken more items stop horizon Done Refused shut cut greatest all within next =
       let lined : Lined (input ∷ others) closed (input_of taken) more items stop = cut_lines input others closed cut more shut in
-      record {
-        program = (laws.stand ops o text a is).0;
-        read = (laws.stand ops o text a is).1;
-        many = lined.many;
-        run = of_items (take lined.many (lines (taken ++ more))) items horizon (subst (λ specs. LinesSay specs (take lined.many (lines (taken ++ more))) items) (sym e) lined.say) greatest;
-        whole = λ all. lined.all all.0 all.1 all.2;
-      }
-
-  -- a run that is done has met the end of its input, where no line stopped it
-  done_ends : (words : List Bits) (lists : List (List ℤ)) (fault : Option TextFault) (end : Ending) → EndsFor words given lists fault end → end ≡ ending.Done → fault ≡ None
-  done_ends words lists None end e d = refl
-  done_ends words lists (Some f) end e d = cc
-
-  stopped_so : (fault : Option TextFault) (stop : ReadStop) → StopsFor fault stop → fault ≡ None → stop ≡ Ended
-  stopped_so None stop s e = s
-  stopped_so (Some f) stop s e = cc
-
-  ended_before : (halt : Stop) → fault_of Ended halt ≡ None → (held : Held) × (halt ≡ Before held)
-  ended_before (At f) e = cc
-  ended_before (Before held) e = (held, refl)
-
-  all_read : (specs : List InputSpec) (taken : List ℕ) (stop : ReadStop) (items : List ItemOf) (halt : Stop) (lists : List (List ℤ)) (fault : Option TextFault) →
-      IsFeedOf specs taken stop items halt (record { items = lists; stop = fault }) → fault ≡ None → (is_closed stop ≡ true) × (held : Held) × (halt ≡ Before held)
-  all_read specs taken stop items halt lists fault feed none =
-      let ended : stop ≡ Ended = stopped_so fault stop feed.stopped none in
-      let before = ended_before halt (ap (λ s. fault_of s halt) (sym ended) ∙ sym feed.fault ∙ none) in
-      (ap is_closed ended, before.0, before.1)
+      of_items (taken ++ more) lined.many items horizon Done Refused (subst (λ specs. LinesSay specs (take lined.many (lines (taken ++ more))) items) (sym e) lined.say) greatest
+      (λ d. let h = all d in lined.all h.0 h.1 h.2) within
+      (λ r. let h = next r in subst (λ specs. IsSomeAnd (slice_get (lines (taken ++ more)) lined.many) (LineFails specs)) (sym e) (lined.next h.0 h.1 h.2))
 
   nothing_said : (specs : List InputSpec) (ls : List (List ℕ)) → specs ≡ [] → LinesSay specs ls []
   nothing_said [] ls e = refl
   nothing_said (input ∷ others) ls e = cc
 
-  owed_runs : (specs : List InputSpec) → a.inputs.items ≡ specs → (taken more : List ℕ) (stop : ReadStop) (lists : List (List ℤ)) (fault : Option TextFault) (horizon : ℕ) (end : Ending) →
+  -- what is owed of what main is fed
+  of_feed : (specs : List InputSpec) → a.inputs.items ≡ specs → (taken more : List ℕ) (stop : ReadStop) (lists : List (List ℤ)) (fault : Option TextFault) (horizon : ℕ) (end : Ending) →
       (is_closed stop ≡ true → more ≡ []) → Feeds specs taken stop lists fault → IsHorizonOf (input_words a) given lists horizon → EndsFor (input_words a) given lists fault end →
-      IsRunOfText ops given text (taken ++ more) (heading a ++ lines_to (kinds_of ops) a lists horizon) (end ≡ ending.Done)
-  owed_runs [] e taken more stop lists fault horizon end shut fed greatest ends =
-      let none : values_by_stream (length a.inputs.items) [] ≡ [] = ap (λ (specs : List InputSpec). values_by_stream (length specs) []) e in
-      let same : lists ≡ values_by_stream (length a.inputs.items) [] = fed.2 ∙ sym none in
-      let run : IsRunOf ops (most_instants given) (laws.stand ops o text a is).0 (take (length (lines (taken ++ more))) (lines (taken ++ more)))
-      (heading a ++ lines_to (kinds_of ops) a (values_by_stream (length a.inputs.items) []) horizon) =
-      of_items (take (length (lines (taken ++ more))) (lines (taken ++ more))) [] horizon (nothing_said a.inputs.items (take (length (lines (taken ++ more))) (lines (taken ++ more))) e)
-      (subst (λ l. IsHorizonOf (input_words a) given l horizon) same greatest) in
-      record {
-        program = (laws.stand ops o text a is).0;
-        read = (laws.stand ops o text a is).1;
-        many = length (lines (taken ++ more));
-        run = subst (λ l. IsRunOf ops (most_instants given) (laws.stand ops o text a is).0 (take (length (lines (taken ++ more))) (lines (taken ++ more))) (heading a ++ lines_to (kinds_of ops) a l horizon)) (sym same) run;
-        whole = λ d. refl;
-      }
-  owed_runs (input ∷ others) e taken more stop lists fault horizon end shut (items, halt, feed) greatest ends =
-      let same : lists ≡ values_by_stream (length a.inputs.items) items = feed.lists ∙ ap (λ (specs : List InputSpec). values_by_stream (length specs) items) (sym e) in
-      let made = cut_runs (input ∷ others) e (λ bad. cc) (is_closed stop) taken more items halt horizon shut feed.cut (subst (λ l. IsHorizonOf (input_words a) given l horizon) same greatest) in
-      record {
-        program = made.program;
-        read = made.read;
-        many = made.many;
-        run = subst (λ l. IsRunOf ops (most_instants given) made.program (take made.many (lines (taken ++ more))) (heading a ++ lines_to (kinds_of ops) a l horizon)) (sym same) made.run;
-        whole = λ d. made.whole (all_read (input ∷ others) taken stop items halt lists fault feed (done_ends (input_words a) lists fault end ends d));
-      }
+      IsRunOfText ops given text (taken ++ more) (output_of lists horizon) (end ≡ ending.Done) (EndsAtLine end)
+  of_feed [] e taken more stop lists fault horizon end shut fed greatest ends =
+      let none : lists_of [] ≡ [] = ap (λ (specs : List InputSpec). values_by_stream (length specs) []) e in
+      let same : lists ≡ lists_of [] = fed.2 ∙ sym none in
+      let input : List ℕ = taken ++ more in
+      let ends_here : EndsFor (input_words a) given lists None end = subst (λ f. EndsFor (input_words a) given lists f end) fed.3 ends in
+      subst (λ l. IsRunOfText ops given text input (output_of l horizon) (end ≡ ending.Done) (EndsAtLine end)) (sym same)
+      (of_items input (length (lines input)) [] horizon (end ≡ ending.Done) (EndsAtLine end) (nothing_said a.inputs.items (take (length (lines input)) (lines input)) e)
+      (subst (λ l. IsHorizonOf (input_words a) given l horizon) same greatest) (λ d. refl)
+      (λ d n. subst (λ l. AllowsMore (input_words a) l → ⊥) same (ends_within (input_words a) given lists fault end ends d n))
+      (λ r. let bad : None ≡ Some r.0 = faulted (input_words a) given lists None end r.0 ends_here r.1 in cc bad))
+  of_feed (input ∷ others) e taken more stop lists fault horizon end shut (items, halt, feed) greatest ends =
+      let same : lists ≡ lists_of items = feed.lists ∙ ap (λ (specs : List InputSpec). values_by_stream (length specs) items) (sym e) in
+      subst (λ l. IsRunOfText ops given text (taken ++ more) (output_of l horizon) (end ≡ ending.Done) (EndsAtLine end)) (sym same)
+      (of_cut (input ∷ others) e (λ bad. cc) (is_closed stop) taken more items halt horizon (end ≡ ending.Done) (EndsAtLine end) shut feed.cut
+      (subst (λ l. IsHorizonOf (input_words a) given l horizon) same greatest)
+      (λ d. all_read (input ∷ others) taken stop items halt lists fault feed (done_ends (input_words a) given lists fault end ends d))
+      (λ d n. subst (λ l. AllowsMore (input_words a) l → ⊥) same (ends_within (input_words a) given lists fault end ends d n))
+      (λ r. (r.0, stopped_at stop halt r.0 (sym feed.fault ∙ faulted (input_words a) given lists fault end r.0 ends r.1) r.2, r.3)))
 
 pub cuts_are_runs : Laws → CutsAreRuns
 cuts_are_runs laws ops o text a given closed taken more items stop horizon is some shut cut greatest =
-    cut_runs laws ops o text a is given a.inputs.items refl some closed taken more items stop horizon shut cut greatest
+    of_cut laws ops o text a is given (λ none. absurd (some none)) a.inputs.items refl some closed taken more items stop horizon _ _ shut cut greatest
+    (λ d. (d.0, d.1, d.2)) (λ d. d.3) (λ r. r)
 
 pub owed_are_runs : Laws → OwedAreRuns
-owed_are_runs laws ops o text a given taken more stop output end is shut (lists, fault, horizon, fed, printed, ends) =
-    subst (λ x. IsRunOfText ops given text (taken ++ more) x (end ≡ ending.Done)) (sym printed)
-    (owed_runs laws ops o text a is given a.inputs.items refl taken more stop lists fault horizon end shut fed.feeds fed.horizon_is ends)
+owed_are_runs laws ops o text a given taken more stop output end is bounded shut (lists, fault, horizon, fed, printed, ends) =
+    subst (λ x. IsRunOfText ops given text (taken ++ more) x (end ≡ ending.Done) (EndsAtLine end)) (sym printed)
+    (of_feed laws ops o text a is given bounded a.inputs.items refl taken more stop lists fault horizon end shut fed.feeds fed.horizon_is ends)

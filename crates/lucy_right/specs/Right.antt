@@ -1,12 +1,16 @@
--- What `run` prints of a program and of its input.
-use Rattle.std.specs.Prelude.{ℕ, ℤ, ◌≤◌, ◌≡◌, ◌⊎◌, List, [], ◌∷◌, ◌++◌, Some, length, take, slice_get, codes}
+-- What `run` prints of a program and of its input, and that this is what stands on its output.
+use Rattle.std.specs.Prelude.{ℕ, ℤ, ◌+◌, ◌<◌, ◌≤◌, ◌≡◌, ◌≢◌, ◌⊎◌, List, [], ◌∷◌, ◌++◌, Option, None, Some, length, take, slice_get, codes, IsSome, IsSomeAnd}
 use Rattle.std.specs.List.{AllByRecursion}
+use Rattle.std.specs.Option.{unwrap_or}
+use Rattle.std.specs.Str.Lines.{lines}
 use Rattle.lucy_word.specs.Bits.{Bits, ones_to}
 use Rattle.lucy_word.specs.Shortest.{IsShortest}
 use Rattle.lucy_host.specs.declared.kind.HostKind.{HostKind}
 use Rattle.lucy_host.specs.Operators.{Operator, kinds_of}
 use Rattle.lucy_stream.specs.Items.{list_at}
+use Rattle.lucy_text.specs.Shelf.{Files}
 use Rattle.lucy_lines.specs.declared.input.InputSpec.{InputSpec}
+use Rattle.lucy_lines.specs.Fronts.{longest_line}
 use Rattle.lucy_lines.specs.Fields.{fields}
 use Rattle.lucy_lines.specs.Values.{SpellsValue}
 use Rattle.lucy_lines.specs.Kinds.{IsInput}
@@ -16,13 +20,14 @@ use Rattle.lucy_output.specs.declared.output.OutputSpec.{OutputSpec}
 use Rattle.lucy_output.specs.Outputs.{output_text}
 use Rattle.lucy_tree.specs.View.{ProgramTree}
 use Rattle.lucy_place.specs.declared.placed.PlacedNode.{PlacedNode}
+use Rattle.lucy_place.specs.WrittenNodes.{IsWritten}
 use Rattle.lucy_types.specs.declared.ty.Ty.{Ty}
 use Rattle.lucy_types.specs.Programs.{IsTyped}
 use Rattle.lucy_clock.specs.declared.node_clock.NodeClock.{NodeClock}
 use Rattle.lucy_meaning.specs.Spots.{at, main_of, results_in}
 use Rattle.lucy_meaning.specs.Kahn.{kahn}
 use Rattle.lucy_meaning.specs.Items.{IsCausalProgram}
-use Rattle.lucy_meaning.specs.Horizons.{IsHorizon}
+use Rattle.lucy_meaning.specs.Horizons.{Suffice, IsHorizon}
 use Rattle.lucy_flat.specs.Clocked.{AreClocked}
 use Rattle.lucy_results.specs.Streams.{param_words}
 use Rattle.lucy_program.specs.Scheduled.{main_inputs, main_outputs}
@@ -51,6 +56,10 @@ LineSays inputs line item =
     (name spelled : List ℕ) × (input : InputSpec) × (fields line ≡ name ∷ spelled ∷ []) × IsInput inputs name item.stream input
     × SpellsValue input.holds spelled item.value
 
+-- a line is refused: it is too long, or it isn't blank and says no item
+abbrev pub LineFails : List InputSpec → (line : List ℕ) → Type 0
+LineFails inputs line = (longest_line < length line) ⊎ ((fields line ≢ []) × ((item : ItemOf) → LineSays inputs line item → ⊥))
+
 -- lines say items, in turn: a line of blanks says none, and where main has no inputs nothing is read
 abbrev pub LinesSay : List InputSpec → (lines : List (List ℕ)) → List ItemOf → Type 0
 LinesSay [] lines items = items ≡ []
@@ -64,19 +73,37 @@ abbrev pub IsStream : List HostKind → (inputs : List (List ℤ)) → List Plac
 IsStream kinds inputs nodes horizon place word items =
     (length items ≡ ones_to word horizon) × (n : ℕ) × ((k : ℕ) → n ≤ k → take (length items) (kahn kinds inputs nodes k (at [] place)) ≡ items)
 
--- what `run` prints of a program and of lines of its input: for something that the program stands for, the report, `run`, and at each instant that the
--- items of the lines allow, up to the most, the values of main's results
-pub record IsRunOf (ops : List Operator) (most : ℕ) (program : ProgramTree) (lines : List (List ℕ)) (output : List ℕ) : Type 0 where
+-- What `run` prints of a program and of an input: for something that the program stands for, the report, `run`, and at each instant that the items of
+-- some first lines allow, up to those given or else the most, the values of main's results; where main has no inputs instants are given. Where it is
+-- done the lines are all, and without given instants they allow no more than the most; where a line is refused it is the next one.
+pub record IsRunOf (ops : List Operator) (most : ℕ) (given : Option ℕ) (program : ProgramTree) (input output : List ℕ) (Done Refused : Type 0) : Type 0 where
   pub m : Meaning
   pub stands : StandsFor ops program m
+  pub bounded : main_inputs m.nodes m.types ≡ [] → IsSome given
+  pub many : ℕ
   pub items : List ItemOf
-  pub said : LinesSay (main_inputs m.nodes m.types) lines items
+  pub said : LinesSay (main_inputs m.nodes m.types) (take many (lines input)) items
   pub inputs : List (List ℤ)
   pub fed : inputs ≡ values_by_stream (length (main_inputs m.nodes m.types)) items
   pub horizon : ℕ
-  pub greatest : IsHorizon (param_words m.nodes m.clocks) inputs most horizon
+  pub greatest : IsHorizon (param_words m.nodes m.clocks) inputs (unwrap_or given most) horizon
   pub streams : List (List ℤ)
   pub count : length streams ≡ length (main_outputs m.nodes m.types m.clocks)
   pub kahn : (i place : ℕ) (o : OutputSpec) → slice_get (results_in (main_of m.nodes)) i ≡ Some place →
       slice_get (main_outputs m.nodes m.types m.clocks) i ≡ Some o → IsStream (kinds_of ops) inputs m.nodes horizon place o.word (list_at streams i)
   pub printed : output ≡ report m.nodes m.types m.clocks ++ codes "run\n" ++ output_text (main_outputs m.nodes m.types m.clocks) streams horizon
+  pub all : Done → many ≡ length (lines input)
+  pub within : Done → given ≡ None → Suffice (param_words m.nodes m.clocks) inputs (most + 1) → ⊥
+  pub next : Refused → IsSomeAnd (slice_get (lines input) many) (LineFails (main_inputs m.nodes m.types))
+
+-- What `run FILE` leaves, where it finds this text of FILE, this input and an empty output, is nothing, but with the statuses 0 and 3, and with 2 where
+-- instants are given; or it is what it prints of the program that the text is, with 5 and 7 a front of that: of a run that is done with 0, and up to a
+-- refused line with 3. With 1, where all clocks are written, the program stands for nothing.
+pub record RunIsRight (Reads : List ℕ → ProgramTree → Type 0) (ops : List Operator) (most : ℕ) (given : Option ℕ) (file : List ℕ)
+    (files : Option Files) (left before after : Option (List ℕ)) (status : ℕ) : Type 0 where
+  pub right : (text input output : List ℕ) → IsSomeAnd files (λ held. held file ≡ Some text) → left ≡ Some input → before ≡ Some [] → after ≡ Some output →
+      ((output ≡ []) × (status ≢ 0) × (status ≢ 3) × (status ≡ 2 → given ≡ None))
+      ⊎ ((program : ProgramTree) × (n : ℕ) × (whole : List ℕ) × Reads text program × IsRunOf ops most given program input whole (status ≡ 0) (status ≡ 3)
+      × (output ≡ take n whole) × (status ≢ 5 → status ≢ 7 → output ≡ whole) × (status ≢ 1) × (status ≢ 2))
+  pub refused : (text : List ℕ) (program : ProgramTree) (m : Meaning) → IsSomeAnd files (λ held. held file ≡ Some text) → Reads text program →
+      StandsFor ops program m → AllByRecursion IsWritten m.nodes → status ≢ 1
