@@ -16,6 +16,7 @@ mod Outcomes
 mod Sinks
 mod Runs
 mod RunEnds
+mod RunRight
 mod ReplaysOnce
 mod Replays
 mod Unaccepted

@@ -31,7 +31,7 @@ use Rattle.lucy_run.specs.declared.ending.Ending.TheVariants.{WriteFault}
 use Rattle.lucy_app.specs.declared.refusal.Refusal.{Refusal}
 use Rattle.lucy_app.proofs.Runs.{text_more, ends_unrun, ends_run}
 
-some_or_none : (inputs : List InputSpec) → (inputs ≡ []) ⊎ (inputs ≢ [])
+pub some_or_none : (inputs : List InputSpec) → (inputs ≡ []) ⊎ (inputs ≢ [])
 some_or_none [] = inl refl
 some_or_none (input ∷ inputs) = inr (λ e. cc e)
 

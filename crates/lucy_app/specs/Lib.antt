@@ -17,6 +17,7 @@ pub mod Running
 pub mod Replaying
 pub mod Owes
 pub mod Ends
+pub mod Right
 pub mod Complete
 pub mod Engines
 pub mod Laws

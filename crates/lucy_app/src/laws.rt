@@ -3,9 +3,11 @@ ghost use Rattle.lucy_command.specs.Commands.{Order};
 ghost use Rattle.lucy_app.specs.Complete.{TracesSuit, Completes};
 ghost use Rattle.lucy_app.specs.Engines.{PlayingCompletes};
 ghost use Rattle.lucy_app.specs.Laws.{OwesAlike, OwesOne, ShowOwesOne, MayPrintOne};
+ghost use Rattle.lucy_app.specs.Right.{RunsAreRight};
 
 use lucy_lines::one_cut;
 use lucy_meaning::one_horizon;
+use lucy_right::{owed_outputs_are_runs, written_programs_pass};
 use lucy_run::{faultless_runs_are_done, one_interpretation, one_replay, one_run, one_trace};
 use lucy_tight::one_tightest;
 
@@ -57,4 +59,13 @@ pub fn suited_plays_are_done()
     ensures { PlayingCompletes }
 {
     suited_commands_are_done();
+}
+
+/// What `run` leaves is right, as `lucy_right` says it: what it prints of the program that the text of FILE is and of its input, or a front of
+/// that, or nothing.
+pub fn runs_are_right()
+    ensures { RunsAreRight }
+{
+    owed_outputs_are_runs();
+    written_programs_pass();
 }

@@ -1,10 +1,10 @@
 //! All that the program does, over a shelf, a source and sinks that are handed in: one call, with a status as its answer.
 //!
 //! It stands on `lucy_word`, `lucy_host`, `lucy_order`, `lucy_text`, `lucy_syntax`, `lucy_place`, `lucy_types`, `lucy_front`,
-//! `lucy_command`, `lucy_feed`, `lucy_trace`, `lucy_run`, `lucy_make` and `lucy_tight`. Begin with `lucy` in `top.rt`. What it promises is in
+//! `lucy_command`, `lucy_feed`, `lucy_trace`, `lucy_run`, `lucy_right`, `lucy_make` and `lucy_tight`. Begin with `lucy` in `top.rt`. What it promises is in
 //! `specs/`: `Commands` says what the commands that `lucy_command` reads call, `World` what a command is lent and meets, `Owes` which
 //! answer it owes by that, with `Order`, `Show`, `Types`, `Check`, `Tighten`, `Running` and `Replaying` for what each prints and refuses, `Ends`
-//! what it leaves, and `Complete` when it is done.
+//! what it leaves, `Right` that what `run` leaves is right, and `Complete` when it is done.
 #![tactic(auto)]
 
 mod accepting;
@@ -36,7 +36,8 @@ mod types;
 pub use fetching::fetch;
 pub use input_refusal::InputCause;
 pub use laws::{
-    one_answer, one_output, suited_commands_are_done, suited_plays_are_done, traces_suit,
+    one_answer, one_output, runs_are_right, suited_commands_are_done, suited_plays_are_done,
+    traces_suit,
 };
 pub use lucy_run::{ClosureEngine, Engine};
 pub use operators::program_operators;

@@ -1,12 +1,17 @@
 // The one call that the program makes.
-ghost use Rattle.std.specs.Prelude.{◌≡◌, ◌⊎◌, ◌≤◌, [], None, map, string_bytes};
+ghost use Rattle.std.specs.Prelude.{ℕ, ◌≡◌, ◌⊎◌, ◌≤◌, [], Option, None, Some, map, string_bytes};
+ghost use Rattle.lucy_word.specs.Limits.{limit_number};
+ghost use Rattle.lucy_word.specs.declared.limit.Limit.TheVariants as limit;
 ghost use Rattle.lucy_host.specs.Host.{Serves, lent};
-ghost use Rattle.lucy_command.specs.Commands.{command_of};
+ghost use Rattle.lucy_grammar.specs.Texts.{HasTree};
+ghost use Rattle.lucy_right.specs.Right.{RunIsRight};
+ghost use Rattle.lucy_command.specs.Commands.{ProgramWords, Run, command_of};
 ghost use Rattle.lucy_app.specs.Commands.{files_of, most_input};
 ghost use Rattle.lucy_app.specs.World.{world};
 ghost use Rattle.lucy_app.specs.Ends.{Ends};
 
 use crate::carrying::carry_out;
+use crate::laws::runs_are_right;
 use crate::output::tell;
 use lucy_command::read;
 use lucy_host::Host;
@@ -61,7 +66,8 @@ use std::thread::Threads;
 /// read, no byte is asked for behind a refused line, and no write to a sink follows one that failed. Nothing is read behind a write to
 /// `out` that failed: behind one of the report nothing was, and behind one of a line no more than its block needs.
 ///
-/// `Ends` says all this, by the command that the words name.
+/// `Ends` says all this, by the command that the words name. Of `run`, `RunIsRight` says what stands on `out` by the text of FILE and the input, where
+/// these are told.
 ///
 /// `run` moves the actors of the program's net by workers, each on a thread of its own where there are several; each passes the gate
 /// before it moves. The call returns if the gate does. `trace` moves them by workers too, all on the thread of the call.
@@ -89,6 +95,10 @@ pub fn lucy<
     ensures ends { Ends (command_of (map string_bytes words.now))
         (world (S.seen shelf.old) (I.seen input.old) (O.seen out.old) (E.seen err.old) (lent host.now))
         (world (S.seen shelf.new) (I.seen input.new) (O.seen out.new) (E.seen err.new) (lent host.now)) result }
+    // Where they name `run`, what it leaves is right: that is read without what `Ends` says of limits, refusals and devices.
+    ensures run { (run : ProgramWords) (workers : ℕ) (block : Option ℕ) → command_of (map string_bytes words.now) ≡ Some (Run run workers block) →
+        RunIsRight HasTree (lent host.now) (limit_number limit.Instants) run.instants run.file
+        (S.seen shelf.old).files (I.seen input.old).left (O.seen out.old).written (O.seen out.new).written result }
     ensures statuses { result ≤ 7 }
     // Words that name no command are refused, and then the output is not touched.
     ensures other_words { command_of (map string_bytes words.now) ≡ None → (result ≡ 2) ⊎ (result ≡ 5) }
@@ -104,6 +114,7 @@ pub fn lucy<
     ensures out_count { (O.seen out.old).faults ≤ (O.seen out.new).faults }
     ensures err_count { (E.seen err.old).faults ≤ (E.seen err.new).faults }
 {
+    runs_are_right();
     let mut spelled = Vec::new(alloc);
     match read(alloc, words, &mut spelled) {
         Ok(Some(command)) => { carry_out(rt, alloc, command, shelf, input, out, err, gate, host) }
