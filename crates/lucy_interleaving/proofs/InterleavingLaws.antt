@@ -66,11 +66,11 @@ get_at xs j r o =
 size_past : (net : Net) (t r : ℕ) → length net.rings ≤ r → (system (plan net t)).size r ≡ 0
 size_past net t r l = ap (λ (k : Link). k.size) (get_or_past (map link_of net.rings) r no_link (omega (arith, l, length-map net.rings link_of)))
 
-size_here : (net : Net) (t r : ℕ) (ring : RingSpec) → slice_get net.rings r ≡ Some ring → (system (plan net t)).size r ≡ ring.size
+pub size_here : (net : Net) (t r : ℕ) (ring : RingSpec) → slice_get net.rings r ≡ Some ring → (system (plan net t)).size r ≡ ring.size
 size_here net t r ring e = ap (λ (k : Link). k.size) (link_is net t r ring e)
 
 -- what a ring holds, where its size is known
-holds : (net : Net) (kinds : List HostKind) (inputs : List (List ℤ)) (t r size : ℕ) (s : State) → IsState (machine kinds inputs (plan net t)) s →
+pub holds : (net : Net) (kinds : List HostKind) (inputs : List (List ℤ)) (t r size : ℕ) (s : State) → IsState (machine kinds inputs (plan net t)) s →
     (system (plan net t)).size r ≡ size → length (held s r) ≤ size + 1
 holds net kinds inputs t r size s state e = subst (λ n. length (held s r) ≤ n + 1) e (held-most (machine kinds inputs (plan net t)) s r state)
 
@@ -82,7 +82,7 @@ module _ (nodes : List PlacedNode) (clocks : List NodeClock) (proper : AreProper
       (o.0, get_at actor.takes o.0 r o.1)
 
   -- the size of the ring from which an instance place takes
-  place_size : (spot : Spot) (kind : PlaceKind) (r : ℕ) (ring : RingSpec) → kind_at nodes spot ≡ Some kind → slice_get net.rings r ≡ Some ring → ring.to ≡ number nodes spot →
+  pub place_size : (spot : Spot) (kind : PlaceKind) (r : ℕ) (ring : RingSpec) → kind_at nodes spot ≡ Some kind → slice_get net.rings r ≡ Some ring → ring.to ≡ number nodes spot →
       ring.size ≡ ring_size clocks (index_at nodes spot.path) kind
   place_size spot kind r ring stands e to =
       let a = flat.actors spot kind stands in
@@ -90,7 +90,7 @@ module _ (nodes : List PlacedNode) (clocks : List NodeClock) (proper : AreProper
       flat.sizes spot kind a.actor o.0 r ring stands a.there o.1 e
 
   -- a ring from which no buffer takes has size 0
-  plain_size : (r : ℕ) (ring : RingSpec) → slice_get net.rings r ≡ Some ring →
+  pub plain_size : (r : ℕ) (ring : RingSpec) → slice_get net.rings r ≡ Some ring →
       ((spot : Spot) (k q : ℕ) → kind_at nodes spot ≡ Some (Buffer k q) → ring.to ≡ number nodes spot → ⊥) → ring.size ≡ 0
   plain_size r ring e none =
       let is = flat.proper.rings r ring e in

@@ -1,2 +1,3 @@
 mod InterleavingLaws
 mod WholenessLaws
+mod RunnerLaws

@@ -1,3 +1,4 @@
 -- What callers believe.
 pub mod Interleavings
 pub mod Wholeness
+pub mod Runners

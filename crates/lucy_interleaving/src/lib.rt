@@ -3,10 +3,12 @@
 //! unfinished is stuck.
 //!
 //! It stands on `lucy_front`, which says what a text is accepted as, and on the theory of events. It has no code: the body of each
-//! public function is empty, or calls laws alone, and its contract is a law. Begin with `specs/Interleavings.antt`; `specs/Wholeness.antt`
-//! says that the streams have every item and that no line is missing.
+//! public function is empty, or calls laws alone, and its contract is a law. Begin with `specs/Interleavings.antt`; `specs/Runners.antt`
+//! says it of a runner and of its rings themselves, and `specs/Wholeness.antt` that the streams have every item and that no line is missing.
 #![tactic(auto)]
 
 mod laws;
 
-pub use laws::{every_interleaving_is_safe, every_state_is_safe, streams_have_every_item};
+pub use laws::{
+    every_interleaving_is_safe, every_state_is_safe, runners_are_safe, streams_have_every_item,
+};

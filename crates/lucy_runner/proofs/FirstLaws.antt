@@ -151,8 +151,15 @@ ring_joined net inputs instants crew places ends made proper r ring here =
 none_held : (s : State) (r : ℕ) → s.gave r ≡ [] → s.took r ≡ [] → held s r ≡ []
 none_held s r g t = ap (λ xs. drop (length xs) (s.gave r)) t ∙ g
 
+-- then nothing is held
+pub first_held : (net : Net) (schedule : Timetable) (inputs : List (List ℤ)) (operators : List Operator) (instants : ℕ) → CanMakeCore net schedule inputs operators instants →
+    (r : ℕ) → held (state_of (first_seen net schedule inputs operators instants)) r ≡ []
+first_held net schedule inputs operators instants fixed r =
+    let state = first_state_is net schedule inputs operators instants (replicate (length net.actors) 0) fixed (zero_at (length net.actors)) in
+    none_held (state_of (first_seen net schedule inputs operators instants)) r (state.gave r) (state.took r)
+
 -- what was made, seen as the state of a core without an event
-stands_seen : (net : Net) (schedule : Timetable) (inputs : List (List ℤ)) (operators : List Operator) (instants : ℕ) (crew : List (List Part)) (places : List Place) (ends : List Ends) → CanMakeCore net schedule inputs operators instants →
+pub stands_seen : (net : Net) (schedule : Timetable) (inputs : List (List ℤ)) (operators : List Operator) (instants : ℕ) (crew : List (List Part)) (places : List Place) (ends : List Ends) → CanMakeCore net schedule inputs operators instants →
     AreMade net inputs instants crew places ends → IsStanding (first_seen net schedule (inputs_for net inputs) operators instants) 0 crew places ends
 stands_seen net schedule inputs operators instants crew places ends fixed made =
     let proper : IsProper net = fixed.proper in

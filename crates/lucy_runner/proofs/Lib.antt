@@ -42,4 +42,5 @@ pub mod GrowLaws
 pub mod SpareLaws
 pub mod BlockOutputs
 pub mod MayLaws
+pub mod RingLaws
 pub mod MoreLaws

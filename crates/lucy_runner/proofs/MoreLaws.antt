@@ -1,9 +1,9 @@
 -- A block more of a runner: room first, and then more to do.
-use Rattle.std.proofs.Common.{ℕ, ◌≡◌, List, ◌++◌, drop, sym, subst}
+use Rattle.std.proofs.Common.{ℕ, ◌≡◌, List, ◌++◌, drop, ap, sym, refl, ◌∙◌, subst}
 use Rattle.std.specs.Prelude.{ℤ, OnErr, Result, Ok, Err}
 use Rattle.lucy_word.specs.Bits.{ones_to}
 use Rattle.lucy_host.specs.Operators.{Operator}
-use Rattle.lucy_stream.specs.States.{IsSame}
+use Rattle.lucy_stream.specs.States.{held, IsSame}
 use Rattle.lucy_net.specs.declared.net.Actor.{Actor}
 use Rattle.lucy_net.specs.declared.net.Net.{Net}
 use Rattle.lucy_cause.specs.Schedules.{Timetable}
@@ -13,8 +13,9 @@ use Rattle.lucy_worker.specs.declared.part.Part.{Part}
 use Rattle.lucy_runner.specs.declared.place.Place.{Place}
 use Rattle.lucy_runner.specs.declared.place.Ends.{Ends}
 use Rattle.lucy_runner.specs.declared.seat.Seat.{Seat}
-use Rattle.lucy_runner.specs.Views.{RunnerView}
+use Rattle.lucy_runner.specs.Views.{RingView}
 use Rattle.lucy_runner.specs.Crews.{crew_of, seen_by}
+use Rattle.lucy_runner.specs.Rings.{rings_of}
 use Rattle.lucy_runner.specs.Standing.{IsStanding}
 use Rattle.lucy_runner.specs.Blocks.{grown_seen}
 use Rattle.lucy_runner.specs.Growths.{HaveGrown, HaveSpared}
@@ -24,6 +25,8 @@ use Rattle.lucy_runner.proofs.BlockLaws.{block_of, block_stands}
 use Rattle.lucy_runner.proofs.BlockOutputs.{block_joins}
 use Rattle.lucy_runner.proofs.FinishedLaws.{sound_of}
 use Rattle.lucy_runner.proofs.MayLaws.{IsAsked}
+use Rattle.lucy_runner.proofs.RingLaws.{with_rings, rings_stand, one_list}
+use Rattle.lucy_runner.proofs.StandLaws.{held_same}
 use Rattle.lucy_runner.proofs.SpareLaws.{Spare, same_seen, spared_stands}
 
 -- what an output takes from now on goes on where it stood
@@ -81,9 +84,34 @@ roomy_here net schedule ops instants before seats entry spared last places ends 
     let x : Spare = record { net = net; schedule = schedule; ops = ops; instants = instants; before = before; crew = crew_of seats; spared = crew_of spared; places = places; ends = ends; standing = standing; spares = spares } in
     subst (λ (xs : List Seat). IsRoomy net schedule ops instants before seats xs places ends) (sym back) (record { stands = spared_stands x; seen = same_seen x })
 
--- what contracts see
-abbrev pub view_of : Seen → ℕ → RunnerView
-view_of seen before = record { seen = seen; before = before }
+-- what contracts see of it is the same
+pub roomy_view : (net : Net) (schedule : Timetable) (ops : List Operator) (instants before : ℕ) (seats later : List Seat) (places : List Place) (ends : List Ends) →
+    IsStanding (seen_by net schedule ops instants (crew_of seats) places) before (crew_of seats) places ends → IsRoomy net schedule ops instants before seats later places ends →
+    with_rings (seen_by net schedule ops instants (crew_of later) places) before (rings_of (crew_of later) places net.rings ends)
+    ≡ with_rings (seen_by net schedule ops instants (crew_of seats) places) before (rings_of (crew_of seats) places net.rings ends)
+roomy_view net schedule ops instants before seats later places ends standing roomy =
+    let was : Seen = seen_by net schedule ops instants (crew_of seats) places in
+    let now : Seen = seen_by net schedule ops instants (crew_of later) places in
+    let old : List RingView = rings_of (crew_of seats) places net.rings ends in
+    let new : List RingView = rings_of (crew_of later) places net.rings ends in
+    let rings : new ≡ old = one_list was now old new (rings_stand was before (crew_of seats) places ends standing) (rings_stand now before (crew_of later) places ends roomy.stands) refl
+    (λ r. ap (λ (s : Seen). held (state_of s) r) roomy.seen) in
+    ap (λ (s : Seen). with_rings s before new) roomy.seen ∙ ap (with_rings was before) rings
+
+-- and of a runner with more to do nothing changes but what is to be done
+pub more_view : (net : Net) (schedule : Timetable) (ops : List Operator) (before old instants : ℕ) (seats later : List Seat) (places : List Place) (ends : List Ends) (added : List (List ℤ)) →
+    IsStanding (seen_by net schedule ops old (crew_of seats) places) before (crew_of seats) places ends →
+    IsMore (seen_by net schedule ops old (crew_of seats) places) (seen_by net schedule ops instants (crew_of later) places) old instants (crew_of later) places ends added →
+    with_rings (seen_by net schedule ops instants (crew_of later) places) old (rings_of (crew_of later) places net.rings ends)
+    ≡ with_rings (grown_seen (seen_by net schedule ops old (crew_of seats) places) added instants) old (rings_of (crew_of seats) places net.rings ends)
+more_view net schedule ops before old instants seats later places ends added standing more =
+    let was : Seen = seen_by net schedule ops old (crew_of seats) places in
+    let now : Seen = seen_by net schedule ops instants (crew_of later) places in
+    let first : List RingView = rings_of (crew_of seats) places net.rings ends in
+    let new : List RingView = rings_of (crew_of later) places net.rings ends in
+    let rings : new ≡ first = one_list was now first new (rings_stand was before (crew_of seats) places ends standing) (rings_stand now old (crew_of later) places ends more.stands) refl
+    (λ r. held_same (state_of now) (state_of was) r more.same) in
+    ap (λ (s : Seen). with_rings s old new) more.seen ∙ ap (with_rings (grown_seen was added instants) old) rings
 
 pub refused_as : {T E : Type 0} (r : Result T E) (P : Type 0) → P → OnErr r P
 refused_as (Ok x) P p = tt

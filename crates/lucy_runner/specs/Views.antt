@@ -1,18 +1,33 @@
 -- What contracts see of a runner. Actors, rings, inputs and outputs count from 0, instants from 1.
-use Rattle.std.specs.Prelude.{ℕ, ◌+◌, ◌||◌, Bool, false, List, [], ◌∷◌, ℤ, map, max, nat_eq, if◌then◌else◌}
+use Rattle.std.specs.Prelude.{ℕ, ◌+◌, ◌≡◌, ◌||◌, Bool, false, List, [], ◌∷◌, ℤ, length, map, max, nat_eq, slice_get, if◌then◌else◌, Some}
 use Rattle.std.specs.List.{range_with_len}
 use Rattle.lucy_stream.specs.Items.{list_at}
+use Rattle.lucy_stream.specs.States.{held}
 use Rattle.lucy_net.specs.declared.kind.ActorKind.{ActorKind}
 use Rattle.lucy_net.specs.declared.kind.ActorKind.TheVariants.{Input}
 use Rattle.lucy_net.specs.declared.net.Actor.{Actor}
+use Rattle.lucy_net.specs.declared.net.RingSpec.{RingSpec}
 use Rattle.lucy_net.specs.declared.net.Net.{Net}
-use Rattle.lucy_core.specs.Seen.{Seen, first_seen}
+use Rattle.lucy_core.specs.Seen.{Seen, state_of, first_seen}
+
+-- a ring: the items that it holds, oldest first, and how many slots it has
+pub record RingView : Type 0 where
+  pub items : List ℤ
+  pub slots : ℕ
 
 -- a runner: its net with schedule, inputs, operators and horizon, and how many operations each actor has done, which decide its
--- state as they decide that of a core; and the horizon up to which its outputs were carried away
+-- state as they decide that of a core; the horizon up to which its outputs were carried away; and its rings, as their ends hold them
 pub record RunnerView : Type 0 where
   pub seen : Seen
   pub before : ℕ
+  pub rings : List RingView
+
+-- the rings are those of the state that the counts decide: each holds what was given to it and not taken, and has its size and one
+-- slot more
+pub record AreRingsOf (seen : Seen) (rings : List RingView) : Type 0 where
+  pub count : length rings ≡ length seen.net.rings
+  pub each : (r : ℕ) (spec : RingSpec) (ring : RingView) → slice_get seen.net.rings r ≡ Some spec → slice_get rings r ≡ Some ring →
+      ring ≡ record { items = held (state_of seen) r; slots = spec.size + 1 }
 
 -- the most workers that move the actors of a net
 abbrev pub most_workers : ℕ
@@ -46,6 +61,14 @@ input_for actors inputs i = if is_read i actors then list_at inputs i else []
 abbrev pub inputs_for : Net → List (List ℤ) → List (List ℤ)
 inputs_for net inputs = map (input_for net.actors inputs) (range_with_len 0 (input_count net.actors))
 
+-- a ring without an item: it has its size and one slot more
+abbrev pub empty_ring : RingSpec → RingView
+empty_ring spec = record { items = []; slots = spec.size + 1 }
+
 -- a runner in the state of a core without an event
 abbrev pub first_runner : Seen → RunnerView
-first_runner core = record { seen = first_seen core.net core.schedule (inputs_for core.net core.inputs) core.operators core.instants; before = 0 }
+first_runner core = record {
+  seen = first_seen core.net core.schedule (inputs_for core.net core.inputs) core.operators core.instants;
+  before = 0;
+  rings = map empty_ring core.net.rings;
+}

@@ -42,11 +42,16 @@ pub struct Runner {
 impl Model for Runner {
     ghost use Rattle.lucy_runner.specs.Views.{RunnerView};
     ghost use Rattle.lucy_runner.specs.Crews.{crew_of, seen_by};
+    ghost use Rattle.lucy_runner.specs.Rings.{rings_of};
     ghost use Rattle.lucy_runner.specs.Standing.{IsStanding, AreOutputs};
 
     ghost Value = { RunnerView };
 
-    ghost view = { λ r. record { seen = seen_by r.net r.schedule r.ops r.instants (crew_of r.seats.items) r.places.items; before = r.before } };
+    ghost view = { λ r. record {
+      seen = seen_by r.net r.schedule r.ops r.instants (crew_of r.seats.items) r.places.items;
+      before = r.before;
+      rings = rings_of (crew_of r.seats.items) r.places.items r.net.rings r.ends.items;
+    } };
 
     ghost invariant = { λ r. IsStanding (seen_by r.net r.schedule r.ops r.instants (crew_of r.seats.items) r.places.items) r.before (crew_of r.seats.items) r.places.items r.ends.items
         × AreOutputs r.net.actors r.outputs.items };
@@ -69,7 +74,7 @@ impl Runner {
     ghost use Rattle.lucy_net.specs.declared.net.RingSpec.{RingSpec};
     ghost use Rattle.lucy_net.specs.Proper.{IsSupplied};
     ghost use Rattle.lucy_core.specs.Seen.{plan_of, machine_of, order_of, state_of, done_of, after_picks, CanStep, CanRun, IsOver, IsUnbegun, IsOutputOf, first_ring, stream_of};
-    ghost use Rattle.lucy_runner.specs.Views.{first_runner, most_workers};
+    ghost use Rattle.lucy_runner.specs.Views.{AreRingsOf, first_runner, most_workers};
     ghost use Rattle.lucy_runner.specs.Blocks.{longer_inputs, grown_seen};
     ghost use Rattle.lucy_runner.specs.Rounds.{IsRoundTo};
     ghost use Rattle.lucy_runner.specs.Crews.{crew_of};
@@ -245,7 +250,7 @@ impl Runner {
         requires later { self.old.seen.instants ≤ instants }
         requires early { instants ≤ limit_number limit.Instants }
         requires supplied { IsSupplied (longer_inputs self.old.seen.net self.old.seen.inputs inputs.now) self.old.seen.net instants }
-        ensures ok { IfOk result (λ _. self.new ≡ record { seen = grown_seen self.old.seen inputs.now instants; before = self.old.seen.instants }) }
+        ensures ok { IfOk result (λ _. self.new ≡ record self.old { seen = grown_seen self.old.seen inputs.now instants; before = self.old.seen.instants }) }
         ensures refused { OnErr result (self.new ≡ self.old) }
         ensures same { IfOk result (λ _. IsSame (state_of self.new.seen) (state_of self.old.seen)) }
         ensures joined { IfOk result (λ _. (number a : ℕ) (actor : Actor) (picks : List ℕ) → IsOutputOf self.old.seen.net number a actor → CanRun self.new.seen picks →
@@ -259,13 +264,15 @@ impl Runner {
     }
 
     /// A runner is always in a state that a run of its net's events reaches, namely the events that are done, in the schedule's
-    /// order. In it each ring holds at most its size and one more, and what was given to it is a front of its giver's stream
+    /// order. Its rings hold, by their two ends, exactly what was given to them and not taken, and have their size and one slot more.
+    /// In it each ring holds at most its size and one more, and what was given to it is a front of its giver's stream
     /// (Kahn 1974). The first event of the schedule's order that isn't done is possible. Events lead from the state of a runner
     /// to that of the runner after them, and every state with no fewer operations done is reached from there.
     pub fn is_reached(&self)
         ensures run { IsRun (machine_of self.now.seen).sys none_done (between none_done (done_of self.now.seen.done) (order_of self.now.seen)) }
         ensures state { IsState (machine_of self.now.seen) (state_of self.now.seen) }
         ensures counts { (a : ℕ) → (state_of self.now.seen).done a ≡ done_of self.now.seen.done a }
+        ensures rings { AreRingsOf self.now.seen self.now.rings }
         ensures most { (r : ℕ) (ring : RingSpec) → slice_get self.now.seen.net.rings r ≡ Some ring → length (held (state_of self.now.seen) r) ≤ ring.size + 1 }
         ensures fronts { (r givers : ℕ) → GiveBelow (plan_of self.now.seen) givers → IsFront ((state_of self.now.seen).gave r) (stream_of self.now.seen givers r) }
         ensures next { (a : ℕ) → first_left (done_of self.now.seen.done) (order_of self.now.seen) ≡ Some a → CanStep self.now.seen a }

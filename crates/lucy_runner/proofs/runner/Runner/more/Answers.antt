@@ -9,7 +9,7 @@ use Rattle.lucy_runner.specs.Crews.{crew_of, seen_by}
 use Rattle.lucy_runner.specs.Blocks.{grown_seen}
 use Rattle.lucy_runner.specs.Growths.{MayGrow, OfEach, AreFew}
 use Rattle.lucy_runner.proofs.MayLaws.{IsAsked, few_parts, may_grow}
-use Rattle.lucy_runner.proofs.MoreLaws.{IsRoomy, IsMore, GoesOn, roomy_here, more_here, view_of, refused_as}
+use Rattle.lucy_runner.proofs.MoreLaws.{IsRoomy, IsMore, GoesOn, roomy_here, more_here, roomy_view, more_view, refused_as}
 use Rattle.lucy_runner.proofs.runner.Runner.more.Goals as goal
 
 pub grow_all-requires-clause-few : goal.grow_all-requires-clause-few
@@ -46,7 +46,8 @@ returns-in_err-grow_all-clause-refused c =
     let back : last ≡ grown = with_items_is x.seats grown (omega (arith, c.grow_all.auto.seats, c.as_mut_slice.ensures.len)) in
     let roomy : IsRoomy x.net x.schedule x.ops x.instants x.before x.seats.items last x.places.items x.ends.items =
     roomy_here x.net x.schedule x.ops x.instants x.before x.seats.items c.as_mut_slice.result.now grown last x.places.items x.ends.items c.self.invariant.0 c.as_mut_slice.ensures.value c.in_err-grow_all.ensures.refused back in
-    refused_as c.from_residual.result _ (ap (λ (s : Seen). view_of s x.before) roomy.seen ∙ c.self.view_is)
+    refused_as c.from_residual.result _
+    (roomy_view x.net x.schedule x.ops x.instants x.before x.seats.items last x.places.items x.ends.items c.self.invariant.0 roomy ∙ c.self.view_is)
 
 pub invariant_of-self-2 : goal.invariant_of-self-2
 invariant_of-self-2 c =
@@ -78,8 +79,8 @@ returns-clause-ok c =
     let over : IsMore was now x.instants c.args.instants (crew_of last) x.places.items x.ends.items c.args.inputs.now =
     more_here x.net x.schedule x.ops x.before x.instants c.args.instants x.seats.items c.as_mut_slice.result.now grown last x.places.items x.ends.items c.args.inputs.now
     c.self.invariant.0 asked c.as_mut_slice.ensures.value c.in_ok-grow_all.ensures.ok back in
-    ap (λ (s : Seen). view_of s x.instants) (over.seen ∙ ap (λ (s : Seen). grown_seen s c.args.inputs.now c.args.instants) view)
-    ∙ ap (λ (s : Seen). view_of (grown_seen c.args.self.now.seen c.args.inputs.now c.args.instants) s.instants) view
+    more_view x.net x.schedule x.ops x.before x.instants c.args.instants x.seats.items last x.places.items x.ends.items c.args.inputs.now c.self.invariant.0 over
+    ∙ ap (λ (v : RunnerView). record v { seen = grown_seen v.seen c.args.inputs.now c.args.instants; before = v.seen.instants }) c.self.view_is
 
 pub returns-clause-same : goal.returns-clause-same
 returns-clause-same c =
