@@ -19,9 +19,11 @@ use Rattle.lucy_net.proofs.NetLaws.{to_here}
 use Rattle.lucy_cause.specs.Schedules.{Timetable}
 use Rattle.lucy_core.specs.Seen.{Seen, machine_on, machine_of, state_of, first_seen, after_picks}
 use Rattle.lucy_runner.specs.Views.{RingView, RunnerView, AreRingsOf, inputs_for, first_runner}
-use Rattle.lucy_meaning.specs.Spots.{Spot}
+use Rattle.lucy_runner.specs.Rounds.{IsRoundTo}
+use Rattle.lucy_meaning.specs.Spots.{Spot, main_of}
 use Rattle.lucy_meaning.specs.Numbers.{number}
 use Rattle.lucy_meaning.proofs.Lists.{there}
+use Rattle.lucy_kahn.specs.Turns.{params_in}
 use Rattle.lucy_flat.specs.Flat.{IsFlat}
 use Rattle.lucy_flat.specs.Clocked.{AreClocked}
 use Rattle.lucy_results.proofs.InputLaws.{inputs_same}
@@ -109,3 +111,29 @@ if_made proper_of runner safe ops o text a inputs horizon fed made =
     subst (λ t. IsSafeRunner (kinds_of ops) a inputs t runner) instants
     (subst (λ xs. IsSafeRunner (kinds_of ops) a xs runner.seen.instants runner) same
     (safe ops o text a fed_here (ap (λ (x : Seen). x.net) is) (ap (λ (x : Seen). kinds_of x.operators) is)))
+
+-- what `Runner::new` makes of what `Core::new` makes is such a runner
+pub made_anew : (ops : List Operator) (a : Accepted) (inputs : List (List ℤ)) (horizon : ℕ) (schedule : Timetable) (core : Seen) (runner : RunnerView) → params_in (main_of a.placed.nodes) ≡ length inputs →
+    core ≡ first_seen a.net schedule inputs ops horizon → runner ≡ first_runner core → IsMadeFor ops a inputs horizon runner
+made_anew ops a inputs horizon schedule core runner params e f = record {
+  schedule = schedule;
+  params = params;
+  rounds = [];
+  moved = ap (λ (v : RunnerView). v.seen) f ∙ ap (λ (s : Seen). (first_runner s).seen) e;
+}
+
+after_last : (seen : Seen) (rounds : List (List ℕ)) (picks : List ℕ) → after_rounds seen (rounds ++ picks ∷ []) ≡ after_picks (after_rounds seen rounds) picks
+after_last seen [] picks = refl
+after_last seen (first ∷ rounds) picks = after_last (after_picks seen first) rounds picks
+
+-- and what a round leaves of one is one
+pub moved_on : (ops : List Operator) (a : Accepted) (inputs : List (List ℤ)) (horizon moves : ℕ) (before after : RunnerView) → IsRoundTo before.seen after.seen moves → IsMadeFor ops a inputs horizon before →
+    IsMadeFor ops a inputs horizon after
+moved_on ops a inputs horizon moves before after round made =
+    let first : Seen = (first_runner (first_seen a.net made.schedule inputs ops horizon)).seen in
+    record {
+      schedule = made.schedule;
+      params = made.params;
+      rounds = made.rounds ++ round.picks ∷ [];
+      moved = round.is ∙ ap (λ (s : Seen). after_picks s round.picks) made.moved ∙ sym (after_last first made.rounds round.picks);
+    }

@@ -14,7 +14,7 @@ use Rattle.lucy_net.specs.Proper.{IsProperActor, IsProperRing, IsProper, IsSuppl
 use Rattle.lucy_net.specs.States.{KnowsOperator}
 use Rattle.lucy_cause.specs.Schedules.{Timetable, IsScheduleOf}
 use Rattle.lucy_core.specs.Seen.{Seen, IsOutputOf, CanMakeCore, first_seen, after_picks}
-use Rattle.lucy_runner.specs.Views.{RunnerView, input_count, inputs_for, first_runner}
+use Rattle.lucy_runner.specs.Views.{RingView, RunnerView, input_count, inputs_for, first_runner}
 use Rattle.lucy_runner.specs.Blocks.{longer_inputs, grown_seen}
 use Rattle.lucy_net_rows.specs.Ready.{HasOneList}
 use Rattle.lucy_net_rows.specs.Echo.{giver, taker, ring, echo, IsEchoReady, IsEcho}
@@ -118,9 +118,9 @@ longer_supplied operators seen added instants is at one =
     let enough = is.items in
     subst (λ (n : Net). IsSupplied (longer_inputs seen.net seen.inputs added) n (instants + 1)) (sym is.net) (supplied is.word (longer_inputs seen.net seen.inputs added) (instants + 1) (omega (arith, more, enough)))
 
-pub longer_echo : (operators : List Operator) (seen : Seen) (added : List (List ℤ)) (view : RunnerView) (instants before : ℕ) → IsEcho operators seen → seen.instants ≡ instants → HasOneList 1 added →
-    view ≡ record { seen = grown_seen seen added (instants + 1); before = before } → IsEcho operators view.seen
-longer_echo operators seen added view instants before is at one f =
+pub longer_echo : (operators : List Operator) (seen : Seen) (added : List (List ℤ)) (view : RunnerView) (instants before : ℕ) (rings : List RingView) → IsEcho operators seen → seen.instants ≡ instants → HasOneList 1 added →
+    view ≡ record { seen = grown_seen seen added (instants + 1); before = before; rings = rings } → IsEcho operators view.seen
+longer_echo operators seen added view instants before rings is at one f =
     let more = more_items operators seen added is one in
     let enough = is.items in
     subst (λ (v : RunnerView). IsEcho operators v.seen) (sym f) (record { word = is.word; net = is.net; operators_are = is.operators_are; items = omega (arith, more, enough) })

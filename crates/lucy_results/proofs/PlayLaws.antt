@@ -43,7 +43,7 @@ module _ (nodes : List PlacedNode) (clocks : List NodeClock) where
       ∙ ap (λ (xs : List (List ℤ)). P (record core { inputs = xs }) 0) inputs
 
   module _ (proper : AreProper nodes) (old grown last : RunnerView) (added : List (List ℤ)) (instants : ℕ) (picks : List ℕ) (is : IsPlayed nodes clocks old) (same : length added ≡ length old.seen.inputs)
-      (more : grown ≡ record { seen = grown_seen old.seen added instants; before = old.seen.instants }) (run : last.seen ≡ after_picks grown.seen picks) where
+      (more : grown ≡ record old { seen = grown_seen old.seen added instants; before = old.seen.instants }) (run : last.seen ≡ after_picks grown.seen picks) where
     seen_on : last.seen ≡ after_picks (grown_seen old.seen added instants) picks
     seen_on = run ∙ ap (λ (v : RunnerView). after_picks v.seen picks) more
 
