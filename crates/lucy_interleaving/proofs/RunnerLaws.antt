@@ -1,5 +1,5 @@
 -- A runner of an accepted program's net is safe, and so are its rings.
-use Rattle.std.proofs.Common.{ℕ, ◌+◌, ◌<◌, ◌≤◌, ◌≡◌, List, [], ◌∷◌, ◌++◌, length, take, drop, ap, sym, refl, ◌∙◌, subst, arith}
+use Rattle.std.proofs.Common.{ℕ, ◌+◌, ◌≡◌, List, [], ◌∷◌, ◌++◌, length, drop, ap, sym, refl, ◌∙◌, subst, arith}
 use Rattle.std.specs.Prelude.{ℤ, Some, slice_get}
 use Rattle.std.proofs.lemmas.List.{take-append-drop}
 use Rattle.std.proofs.lemmas.Option.{slice_get_within}
@@ -14,22 +14,20 @@ use Rattle.lucy_place.specs.Proper.{AreProper}
 use Rattle.lucy_clock.specs.declared.node_clock.NodeClock.{NodeClock}
 use Rattle.lucy_net.specs.declared.net.RingSpec.{RingSpec}
 use Rattle.lucy_net.specs.declared.net.Net.{Net}
-use Rattle.lucy_net.specs.Plans.{taker, plan}
+use Rattle.lucy_net.specs.Plans.{plan}
 use Rattle.lucy_net.proofs.NetLaws.{to_here}
 use Rattle.lucy_cause.specs.Schedules.{Timetable}
 use Rattle.lucy_core.specs.Seen.{Seen, machine_on, machine_of, state_of, first_seen, after_picks}
-use Rattle.lucy_runner.specs.Views.{RingView, RunnerView, AreRingsOf, inputs_for, first_runner}
+use Rattle.lucy_runner.specs.Views.{RingView, RunnerView, AreRingsIn, inputs_for, first_runner}
 use Rattle.lucy_runner.specs.Rounds.{IsRoundTo}
-use Rattle.lucy_meaning.specs.Spots.{Spot, main_of}
-use Rattle.lucy_meaning.specs.Numbers.{number}
+use Rattle.lucy_meaning.specs.Spots.{main_of}
 use Rattle.lucy_meaning.proofs.Lists.{there}
 use Rattle.lucy_kahn.specs.Turns.{params_in}
 use Rattle.lucy_flat.specs.Flat.{IsFlat}
 use Rattle.lucy_flat.specs.Clocked.{AreClocked}
 use Rattle.lucy_results.proofs.InputLaws.{inputs_same}
 use Rattle.lucy_program.specs.declared.accepted.Accepted.{Accepted}
-use Rattle.lucy_program.specs.declared.options.Options.{Options}
-use Rattle.lucy_interleaving.specs.Interleavings.{machine_for, IsBuffer, IsFedText}
+use Rattle.lucy_interleaving.specs.Interleavings.{IsFedText}
 use Rattle.lucy_interleaving.specs.Runners.{HasSafeRings, IsSafeRunner, after_rounds, IsMadeFor, IsSafeIfMade, IsSafeOnItsInputs}
 use Rattle.lucy_interleaving.proofs.InterleavingLaws.{size_here, holds, place_size, plain_size, AreAcceptedProper, AreAcceptedClocked, states_safe}
 
@@ -40,7 +38,7 @@ record IsRingAt (net : Net) (s : State) (r : ℕ) (ring : RingView) : Type 0 whe
   pub items : ring.items ≡ held s r
   pub slots : ring.slots ≡ spec.size + 1
 
-ring_there : (net : Net) (runner : RunnerView) (r : ℕ) (ring : RingView) → runner.seen.net ≡ net → AreRingsOf runner.seen runner.rings → slice_get runner.rings r ≡ Some ring →
+ring_there : (net : Net) (runner : RunnerView) (r : ℕ) (ring : RingView) → runner.seen.net ≡ net → AreRingsIn runner.seen runner.rings → slice_get runner.rings r ≡ Some ring →
     IsRingAt net (state_of runner.seen) r ring
 ring_there net runner r ring same rings e =
     let (spec, here) = there runner.seen.net.rings r (omega (arith, rings.count, slice_get_within runner.rings r ring e)) in
@@ -54,7 +52,7 @@ ring_there net runner r ring same rings e =
 
 -- its rings, in a state of the net
 rings_safe : (a : Accepted) (runner : RunnerView) (kinds : List HostKind) → AreProper a.placed.nodes → AreClocked a.placed.nodes a.clocks.items → IsFlat a.placed.nodes a.clocks.items a.net →
-    runner.seen.net ≡ a.net → IsState (machine kinds runner.seen.inputs (plan a.net runner.seen.instants)) (state_of runner.seen) → AreRingsOf runner.seen runner.rings → HasSafeRings a runner
+    runner.seen.net ≡ a.net → IsState (machine kinds runner.seen.inputs (plan a.net runner.seen.instants)) (state_of runner.seen) → AreRingsIn runner.seen runner.rings → HasSafeRings a runner
 rings_safe a runner kinds proper clocked flat same state rings =
     let nodes : List PlacedNode = a.placed.nodes in
     let clocks : List NodeClock = a.clocks.items in
@@ -78,7 +76,7 @@ rings_safe a runner kinds proper clocked flat same state rings =
     }
 
 -- a runner of a program's net is safe, by the inputs that it has
-pub on_its_inputs : AreAcceptedProper → AreAcceptedClocked → (runner : RunnerView) → IsState (machine_of runner.seen) (state_of runner.seen) → AreRingsOf runner.seen runner.rings → IsSafeOnItsInputs runner
+pub on_its_inputs : AreAcceptedProper → AreAcceptedClocked → (runner : RunnerView) → IsState (machine_of runner.seen) (state_of runner.seen) → AreRingsIn runner.seen runner.rings → IsSafeOnItsInputs runner
 unfolding machine_on
 on_its_inputs proper_of clocked_of runner state rings ops o text a fed net kinds =
     let seen : Seen = runner.seen in

@@ -15,7 +15,7 @@ use Rattle.lucy_runner.specs.declared.place.Ends.{Ends}
 use Rattle.lucy_runner.specs.declared.seat.Seat.{Seat}
 use Rattle.lucy_runner.specs.Views.{RingView}
 use Rattle.lucy_runner.specs.Crews.{crew_of, seen_by}
-use Rattle.lucy_runner.specs.Rings.{rings_of}
+use Rattle.lucy_runner.specs.Rings.{rings_by}
 use Rattle.lucy_runner.specs.Standing.{IsStanding}
 use Rattle.lucy_runner.specs.Blocks.{grown_seen}
 use Rattle.lucy_runner.specs.Growths.{HaveGrown, HaveSpared}
@@ -87,13 +87,13 @@ roomy_here net schedule ops instants before seats entry spared last places ends 
 -- what contracts see of it is the same
 pub roomy_view : (net : Net) (schedule : Timetable) (ops : List Operator) (instants before : ℕ) (seats later : List Seat) (places : List Place) (ends : List Ends) →
     IsStanding (seen_by net schedule ops instants (crew_of seats) places) before (crew_of seats) places ends → IsRoomy net schedule ops instants before seats later places ends →
-    with_rings (seen_by net schedule ops instants (crew_of later) places) before (rings_of (crew_of later) places net.rings ends)
-    ≡ with_rings (seen_by net schedule ops instants (crew_of seats) places) before (rings_of (crew_of seats) places net.rings ends)
+    with_rings (seen_by net schedule ops instants (crew_of later) places) before (rings_by (crew_of later) places net.rings ends)
+    ≡ with_rings (seen_by net schedule ops instants (crew_of seats) places) before (rings_by (crew_of seats) places net.rings ends)
 roomy_view net schedule ops instants before seats later places ends standing roomy =
     let was : Seen = seen_by net schedule ops instants (crew_of seats) places in
     let now : Seen = seen_by net schedule ops instants (crew_of later) places in
-    let old : List RingView = rings_of (crew_of seats) places net.rings ends in
-    let new : List RingView = rings_of (crew_of later) places net.rings ends in
+    let old : List RingView = rings_by (crew_of seats) places net.rings ends in
+    let new : List RingView = rings_by (crew_of later) places net.rings ends in
     let rings : new ≡ old = one_list was now old new (rings_stand was before (crew_of seats) places ends standing) (rings_stand now before (crew_of later) places ends roomy.stands) refl
     (λ r. ap (λ (s : Seen). held (state_of s) r) roomy.seen) in
     ap (λ (s : Seen). with_rings s before new) roomy.seen ∙ ap (with_rings was before) rings
@@ -102,13 +102,13 @@ roomy_view net schedule ops instants before seats later places ends standing roo
 pub more_view : (net : Net) (schedule : Timetable) (ops : List Operator) (before old instants : ℕ) (seats later : List Seat) (places : List Place) (ends : List Ends) (added : List (List ℤ)) →
     IsStanding (seen_by net schedule ops old (crew_of seats) places) before (crew_of seats) places ends →
     IsMore (seen_by net schedule ops old (crew_of seats) places) (seen_by net schedule ops instants (crew_of later) places) old instants (crew_of later) places ends added →
-    with_rings (seen_by net schedule ops instants (crew_of later) places) old (rings_of (crew_of later) places net.rings ends)
-    ≡ with_rings (grown_seen (seen_by net schedule ops old (crew_of seats) places) added instants) old (rings_of (crew_of seats) places net.rings ends)
+    with_rings (seen_by net schedule ops instants (crew_of later) places) old (rings_by (crew_of later) places net.rings ends)
+    ≡ with_rings (grown_seen (seen_by net schedule ops old (crew_of seats) places) added instants) old (rings_by (crew_of seats) places net.rings ends)
 more_view net schedule ops before old instants seats later places ends added standing more =
     let was : Seen = seen_by net schedule ops old (crew_of seats) places in
     let now : Seen = seen_by net schedule ops instants (crew_of later) places in
-    let first : List RingView = rings_of (crew_of seats) places net.rings ends in
-    let new : List RingView = rings_of (crew_of later) places net.rings ends in
+    let first : List RingView = rings_by (crew_of seats) places net.rings ends in
+    let new : List RingView = rings_by (crew_of later) places net.rings ends in
     let rings : new ≡ first = one_list was now first new (rings_stand was before (crew_of seats) places ends standing) (rings_stand now old (crew_of later) places ends more.stands) refl
     (λ r. held_same (state_of now) (state_of was) r more.same) in
     ap (λ (s : Seen). with_rings s old new) more.seen ∙ ap (with_rings (grown_seen was added instants) old) rings

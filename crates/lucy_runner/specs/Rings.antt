@@ -25,11 +25,11 @@ ring_between (Some g) (Some t) = record { items = drop (length t.taken) (t.held 
 ring_between g t = record { items = []; slots = 0 }
 
 -- the ring whose ends are at these places of its two actors
-abbrev pub ring_at : List (List Part) → List Place → RingSpec → Ends → RingView
-ring_at crew places spec at = ring_between (giver_in (part_of crew places spec.from) at.giver) (taker_in (part_of crew places spec.to) at.taker)
+abbrev pub ring_by : List (List Part) → List Place → RingSpec → Ends → RingView
+ring_by crew places spec at = ring_between (giver_in (part_of crew places spec.from) at.giver) (taker_in (part_of crew places spec.to) at.taker)
 
 -- the rings of a net, in order of their numbers
-abbrev pub rings_of : List (List Part) → List Place → List RingSpec → List Ends → List RingView
-rings_of crew places [] ends = []
-rings_of crew places (spec ∷ specs) [] = []
-rings_of crew places (spec ∷ specs) (at ∷ ends) = ring_at crew places spec at ∷ rings_of crew places specs ends
+abbrev pub rings_by : List (List Part) → List Place → List RingSpec → List Ends → List RingView
+rings_by crew places [] ends = []
+rings_by crew places (spec ∷ specs) [] = []
+rings_by crew places (spec ∷ specs) (at ∷ ends) = ring_by crew places spec at ∷ rings_by crew places specs ends

@@ -24,7 +24,7 @@ pub record RunnerView : Type 0 where
 
 -- the rings are those of the state that the counts decide: each holds what was given to it and not taken, and has its size and one
 -- slot more
-pub record AreRingsOf (seen : Seen) (rings : List RingView) : Type 0 where
+pub record AreRingsIn (seen : Seen) (rings : List RingView) : Type 0 where
   pub count : length rings ≡ length seen.net.rings
   pub each : (r : ℕ) (spec : RingSpec) (ring : RingView) → slice_get seen.net.rings r ≡ Some spec → slice_get rings r ≡ Some ring →
       ring ≡ record { items = held (state_of seen) r; slots = spec.size + 1 }

@@ -42,7 +42,7 @@ pub struct Runner {
 impl Model for Runner {
     ghost use Rattle.lucy_runner.specs.Views.{RunnerView};
     ghost use Rattle.lucy_runner.specs.Crews.{crew_of, seen_by};
-    ghost use Rattle.lucy_runner.specs.Rings.{rings_of};
+    ghost use Rattle.lucy_runner.specs.Rings.{rings_by};
     ghost use Rattle.lucy_runner.specs.Standing.{IsStanding, AreOutputs};
 
     ghost Value = { RunnerView };
@@ -50,7 +50,7 @@ impl Model for Runner {
     ghost view = { λ r. record {
       seen = seen_by r.net r.schedule r.ops r.instants (crew_of r.seats.items) r.places.items;
       before = r.before;
-      rings = rings_of (crew_of r.seats.items) r.places.items r.net.rings r.ends.items;
+      rings = rings_by (crew_of r.seats.items) r.places.items r.net.rings r.ends.items;
     } };
 
     ghost invariant = { λ r. IsStanding (seen_by r.net r.schedule r.ops r.instants (crew_of r.seats.items) r.places.items) r.before (crew_of r.seats.items) r.places.items r.ends.items
@@ -74,7 +74,7 @@ impl Runner {
     ghost use Rattle.lucy_net.specs.declared.net.RingSpec.{RingSpec};
     ghost use Rattle.lucy_net.specs.Proper.{IsSupplied};
     ghost use Rattle.lucy_core.specs.Seen.{plan_of, machine_of, order_of, state_of, done_of, after_picks, CanStep, CanRun, IsOver, IsUnbegun, IsOutputOf, first_ring, stream_of};
-    ghost use Rattle.lucy_runner.specs.Views.{AreRingsOf, first_runner, most_workers};
+    ghost use Rattle.lucy_runner.specs.Views.{AreRingsIn, first_runner, most_workers};
     ghost use Rattle.lucy_runner.specs.Blocks.{longer_inputs, grown_seen};
     ghost use Rattle.lucy_runner.specs.Rounds.{IsRoundTo};
     ghost use Rattle.lucy_runner.specs.Crews.{crew_of};
@@ -272,7 +272,7 @@ impl Runner {
         ensures run { IsRun (machine_of self.now.seen).sys none_done (between none_done (done_of self.now.seen.done) (order_of self.now.seen)) }
         ensures state { IsState (machine_of self.now.seen) (state_of self.now.seen) }
         ensures counts { (a : ℕ) → (state_of self.now.seen).done a ≡ done_of self.now.seen.done a }
-        ensures rings { AreRingsOf self.now.seen self.now.rings }
+        ensures rings { AreRingsIn self.now.seen self.now.rings }
         ensures most { (r : ℕ) (ring : RingSpec) → slice_get self.now.seen.net.rings r ≡ Some ring → length (held (state_of self.now.seen) r) ≤ ring.size + 1 }
         ensures fronts { (r givers : ℕ) → GiveBelow (plan_of self.now.seen) givers → IsFront ((state_of self.now.seen).gave r) (stream_of self.now.seen givers r) }
         ensures next { (a : ℕ) → first_left (done_of self.now.seen.done) (order_of self.now.seen) ≡ Some a → CanStep self.now.seen a }

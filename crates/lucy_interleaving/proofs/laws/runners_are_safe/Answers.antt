@@ -1,4 +1,4 @@
-use Rattle.lucy_interleaving.specs.Runners.{IsSafeIfMade, IsSafeOnItsInputs}
+use Rattle.lucy_interleaving.specs.Runners.{IsSafeOnItsInputs}
 use Rattle.lucy_interleaving.proofs.RunnerLaws.{on_its_inputs, if_made}
 use Rattle.lucy_interleaving.proofs.laws.runners_are_safe.Goals as goal
 
