@@ -7,9 +7,9 @@ use Rattle.lucy_word.specs.declared.error.WordError.TheVariants as word
 use Rattle.lucy_word.specs.declared.limit.Limit.TheVariants as limit
 use Rattle.lucy_word.proofs.SpellingLaws.{reads_one}
 use Rattle.lucy_app.specs.Fields.{fields}
-use Rattle.lucy_order.specs.Horizon.{AreFar}
-use Rattle.lucy_order.specs.Verdicts.{IsVerdict}
-use Rattle.lucy_order.proofs.OneVerdict.{one_verdict}
+use Rattle.lucy_check.specs.Horizon.{AreFar}
+use Rattle.lucy_check.specs.Verdicts.{IsVerdict}
+use Rattle.lucy_check.proofs.OneVerdict.{one_verdict}
 use Rattle.lucy_app.specs.Order.{IsPair, IsVerdictLine, verdict_line, RefusesWord, RefusesFields}
 use Rattle.lucy_app.specs.declared.input_refusal.InputCause.{InputCause}
 use Rattle.lucy_app.specs.declared.input_refusal.InputCause.TheVariants.{Count, BadWord, NoOne, Limit}

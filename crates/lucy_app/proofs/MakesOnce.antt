@@ -4,11 +4,11 @@ use Rattle.std.specs.Prelude.{ℤ, IsTrue, slice_index_or}
 use Rattle.lucy_word.specs.Bits.{Bits}
 use Rattle.lucy_host.specs.declared.kind.HostKind.{HostKind}
 use Rattle.lucy_lines.specs.Cuts.{Stop as Halt, At, Before, Cut, input_of}
-use Rattle.lucy_lines.specs.Laws.{OneCut}
+use Rattle.lucy_lines.specs.CutLaws.{OneCut}
 use Rattle.lucy_lines.specs.declared.input.InputSpec.{InputSpec}
 use Rattle.lucy_lines.specs.declared.reader.TextFault.{TextFault}
 use Rattle.lucy_text.specs.Sources.{ReadStop, Unread, Ended, Failed, Passed, Open, Drained}
-use Rattle.lucy_feed.specs.Feeding.{values_by_stream, is_closed, fault_of}
+use Rattle.lucy_lines.specs.Feeding.{values_by_stream, is_closed, fault_of}
 use Rattle.lucy_results.specs.Streams.{param_words, main_streams}
 use Rattle.lucy_program.specs.declared.accepted.Accepted.{Accepted}
 use Rattle.lucy_run.specs.declared.ending.Ending.{Ending}

@@ -7,7 +7,7 @@ use Rattle.lucy_word.specs.declared.limit.Limit.TheVariants as limit
 use Rattle.lucy_host.specs.Operators.{Operator, kinds_of}
 use Rattle.lucy_host.specs.declared.kind.HostKind.{HostKind}
 use Rattle.lucy_text.specs.Shelf.{Files, SeenShelf}
-use Rattle.lucy_lines.specs.Laws.{OneCut}
+use Rattle.lucy_lines.specs.CutLaws.{OneCut}
 use Rattle.lucy_lines.specs.declared.input.InputSpec.{InputSpec}
 use Rattle.lucy_text.specs.Sources.{Ended}
 use Rattle.lucy_program.specs.declared.options.Options.{Options}

@@ -24,7 +24,7 @@ use Rattle.lucy_run.specs.Laws.{OneRun, OneInterpretation, OneReplay, OneTrace}
 use Rattle.lucy_app.proofs.OwedPrograms.{IsDecided, print_decided, unrefused, owed_one, text_owes_one}
 use Rattle.lucy_make.specs.Text.{made_text}
 use Rattle.lucy_make.specs.Owes.{OwesSummary}
-use Rattle.lucy_lines.specs.Laws.{OneCut}
+use Rattle.lucy_lines.specs.CutLaws.{OneCut}
 use Rattle.lucy_run.proofs.OwesLaws.{OneHorizon}
 use Rattle.lucy_app.proofs.RunsOnce.{once_but, runs_alike, run_once, kahn_once, traces_alike}
 use Rattle.lucy_app.proofs.MakesOnce.{summary_once}

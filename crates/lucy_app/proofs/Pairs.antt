@@ -7,7 +7,7 @@ use Rattle.lucy_word.specs.Bits.{Bits}
 use Rattle.lucy_word.specs.Reading.{IsReadable}
 use Rattle.lucy_word.specs.Limits.{limit_number}
 use Rattle.lucy_word.specs.declared.limit.Limit.TheVariants as limit
-use Rattle.lucy_order.specs.Horizon.{IsHorizon, AreFar}
+use Rattle.lucy_check.specs.Horizon.{IsHorizon, AreFar}
 use Rattle.lucy_check.proofs.CheckLaws.{horizon_one}
 use Rattle.lucy_app.specs.Fields.{fields}
 use Rattle.lucy_app.specs.Order.{IsPair, IsVerdictLine, RefusesWord, RefusesFields}

@@ -13,7 +13,7 @@ use Rattle.lucy_text.specs.declared.shelf.ShelfError.TheVariants as shelf
 use Rattle.lucy_text.proofs.OutsideLaws.{followed-nil, still_none}
 use Rattle.lucy_lines.specs.declared.input.InputSpec.{InputSpec}
 use Rattle.lucy_text.specs.Sources.{ReadStop, Unread, Read}
-use Rattle.lucy_feed.specs.Feeding.{IsAsked}
+use Rattle.lucy_lines.specs.Feeding.{IsAsked}
 use Rattle.lucy_fields.specs.Readings.{AreRead, IsFirstBad}
 use Rattle.lucy_trace.specs.Logs.{picks_of}
 use Rattle.lucy_trace.specs.declared.error.TraceError.{TraceError}

@@ -13,13 +13,13 @@ use Rattle.lucy_trace.specs.declared.error.TraceError.{TraceError}
 use Rattle.lucy_trace.specs.declared.error.TraceError.TheVariants.{BadNumber}
 use Rattle.lucy_place.specs.declared.placed.PlacedNode.{PlacedNode}
 use Rattle.lucy_clock.specs.declared.node_clock.NodeClock.{NodeClock}
-use Rattle.lucy_output.specs.declared.output.OutputSpec.{OutputSpec}
+use Rattle.lucy_lines.specs.declared.output.OutputSpec.{OutputSpec}
 use Rattle.lucy_net.specs.declared.net.Net.{Net}
 use Rattle.lucy_net.specs.Plans.{net_system}
 use Rattle.lucy_stream.specs.Runs.{none_done, after, IsRun}
 use Rattle.lucy_host.specs.declared.kind.HostKind.{HostKind}
-use Rattle.lucy_meaning.specs.Sizes.{all_places}
-use Rattle.lucy_output.specs.Outputs.{output_text}
+use Rattle.lucy_kahn.specs.Sizes.{all_places}
+use Rattle.lucy_lines.specs.Outputs.{output_text}
 use Rattle.lucy_results.specs.Streams.{param_words, main_streams, taken_of}
 use Rattle.lucy_program.specs.declared.accepted.Accepted.{Accepted}
 use Rattle.lucy_program.specs.declared.options.Options.{Options}

@@ -25,7 +25,7 @@ use Rattle.lucy_app.specs.Owes.{Owes, OwesOutput}
 use Rattle.lucy_app.specs.Ends.{EndsBy, MayStand, MayFail}
 use Rattle.lucy_app.specs.Running.{IsRunnable, OwesRunning}
 use Rattle.lucy_app.specs.Outcomes.{IsAccepting, RunOutputs, EndsRunning, OfProgram, TellsEnding, TellsRefusal}
-use Rattle.lucy_feed.specs.Feeding.{IsAsked}
+use Rattle.lucy_lines.specs.Feeding.{IsAsked}
 use Rattle.lucy_command.specs.Named.{block_or_default}
 use Rattle.lucy_run.specs.declared.ending.Ending.TheVariants.{WriteFault}
 use Rattle.lucy_app.specs.declared.refusal.Refusal.{Refusal}

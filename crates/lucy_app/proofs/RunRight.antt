@@ -17,7 +17,7 @@ use Rattle.lucy_text.specs.Sources.{ReadStop, Unread, Ended, Drained, StoppedAt,
 use Rattle.lucy_lines.specs.declared.input.InputSpec.{InputSpec}
 use Rattle.lucy_lines.specs.declared.reader.TextFault.{TextFault}
 use Rattle.lucy_lines.specs.declared.reader.TextFault.TheVariants as fault
-use Rattle.lucy_feed.specs.Feeding.{is_closed, values_by_stream}
+use Rattle.lucy_lines.specs.Feeding.{is_closed, values_by_stream}
 use Rattle.lucy_tree.specs.View.{ProgramTree}
 use Rattle.lucy_grammar.specs.Texts.{HasTree}
 use Rattle.lucy_place.specs.WrittenNodes.{IsWritten}

@@ -12,11 +12,11 @@ use Rattle.lucy_text.specs.Outside.{Rose, SeenSource}
 use Rattle.lucy_text.specs.Shelf.{Files, IsHeld, Lacks, IsLonger, IsCut, SeenShelf}
 use Rattle.lucy_text.specs.declared.shelf.ShelfError.{ShelfError}
 use Rattle.lucy_text.specs.declared.shelf.ShelfError.TheVariants as shelf
-use Rattle.lucy_lines.specs.Laws.{OneCut}
+use Rattle.lucy_lines.specs.CutLaws.{OneCut}
 use Rattle.lucy_lines.specs.declared.input.InputSpec.{InputSpec}
 use Rattle.lucy_lines.specs.declared.reader.TextFault.{TextFault}
 use Rattle.lucy_text.specs.Sources.{ReadStop, Ended, Failed, Passed, Read, StoppedAt}
-use Rattle.lucy_feed.specs.Feeding.{is_closed}
+use Rattle.lucy_lines.specs.Feeding.{is_closed}
 use Rattle.lucy_program.specs.declared.options.Options.{Options}
 use Rattle.lucy_program.specs.declared.accepted.Accepted.{Accepted}
 use Rattle.lucy_front.specs.declared.refusal.Refusal.{Refusal}

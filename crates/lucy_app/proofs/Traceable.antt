@@ -8,7 +8,7 @@ use Rattle.lucy_stream.specs.Runs.{IsWhole}
 use Rattle.lucy_stream.specs.Schedules.{events_to}
 use Rattle.lucy_net.specs.declared.net.Net.{Net}
 use Rattle.lucy_net.specs.Plans.{net_system}
-use Rattle.lucy_cause.specs.Schedules.{events_at}
+use Rattle.lucy_net.specs.Schedules.{events_at}
 use Rattle.lucy_trace.specs.Traces.{trace_text, IsTraceText}
 use Rattle.lucy_app.specs.Complete.{TracesSuit}
 

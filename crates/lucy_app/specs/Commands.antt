@@ -7,7 +7,7 @@ use Rattle.lucy_fields.specs.Readings.{AreRead}
 use Rattle.lucy_trace.specs.Logs.{picks_of}
 use Rattle.lucy_host.specs.Operators.{Operator}
 use Rattle.lucy_text.specs.declared.shelf.ShelfError.{ShelfError}
-use Rattle.lucy_feed.specs.Feeding.{IsAsked}
+use Rattle.lucy_lines.specs.Feeding.{IsAsked}
 use Rattle.lucy_program.specs.declared.accepted.Accepted.{Accepted}
 use Rattle.lucy_program.specs.declared.options.Options.{Options}
 use Rattle.lucy_program.specs.Accepting.{IsAccepted}

@@ -5,10 +5,10 @@ use Rattle.lucy_word.specs.Bits.{Bits}
 use Rattle.lucy_word.specs.Reading.{IsReadable, RefusesText}
 use Rattle.lucy_word.specs.declared.error.WordError.TheVariants as word
 use Rattle.lucy_word.specs.declared.limit.Limit.TheVariants as limit
-use Rattle.lucy_order.specs.Horizon.{AreFar}
-use Rattle.lucy_order.specs.Verdicts.{IsVerdict}
-use Rattle.lucy_order.specs.declared.verdict.Verdict.{Verdict}
-use Rattle.lucy_order.specs.declared.verdict.Verdict.TheVariants.{Adaptable, Rates, Late}
+use Rattle.lucy_check.specs.Horizon.{AreFar}
+use Rattle.lucy_check.specs.Verdicts.{IsVerdict}
+use Rattle.lucy_check.specs.declared.verdict.Verdict.{Verdict}
+use Rattle.lucy_check.specs.declared.verdict.Verdict.TheVariants.{Adaptable, Rates, Late}
 use Rattle.lucy_app.specs.Fields.{fields}
 use Rattle.lucy_app.specs.declared.input_refusal.InputCause.{InputCause}
 use Rattle.lucy_app.specs.declared.input_refusal.InputCause.TheVariants.{Count, BadWord, NoOne, Limit}

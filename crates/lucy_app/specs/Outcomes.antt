@@ -6,9 +6,9 @@ use Rattle.lucy_word.specs.Bits.{Bits}
 use Rattle.lucy_word.specs.declared.limit.Limit.{Limit}
 use Rattle.lucy_word.specs.declared.limit.Limit.TheVariants as limit
 use Rattle.lucy_fields.specs.Readings.{AreRead}
-use Rattle.lucy_order.specs.Horizon.{AreFar}
-use Rattle.lucy_order.specs.Verdicts.{IsVerdict}
-use Rattle.lucy_order.specs.declared.verdict.Verdict.{Verdict}
+use Rattle.lucy_check.specs.Horizon.{AreFar}
+use Rattle.lucy_check.specs.Verdicts.{IsVerdict}
+use Rattle.lucy_check.specs.declared.verdict.Verdict.{Verdict}
 use Rattle.lucy_trace.specs.Logs.{picks_of}
 use Rattle.lucy_trace.specs.declared.error.TraceError.{TraceError}
 use Rattle.lucy_trace.specs.declared.error.TraceError.TheVariants as trace
@@ -23,7 +23,7 @@ use Rattle.lucy_front.specs.Refusals.{memory_line, IsTellable}
 use Rattle.lucy_text.specs.declared.read.ReadError.{ReadError}
 use Rattle.lucy_text.specs.declared.read.ReadError.TheVariants as read
 use Rattle.lucy_text.specs.Outside.{SeenSource, SeenSink}
-use Rattle.lucy_feed.specs.Feeding.{IsAsked}
+use Rattle.lucy_lines.specs.Feeding.{IsAsked}
 use Rattle.lucy_host.specs.Operators.{Operator}
 use Rattle.lucy_program.specs.declared.accepted.Accepted.{Accepted}
 use Rattle.lucy_program.specs.Accepting.{IsAccepted}

@@ -5,8 +5,8 @@ ghost use Rattle.lucy_app.specs.Engines.{PlayingCompletes};
 ghost use Rattle.lucy_app.specs.Laws.{OwesAlike, OwesOne, ShowOwesOne, MayPrintOne};
 ghost use Rattle.lucy_app.specs.Right.{RunsAreRight};
 
+use lucy_kahn::one_horizon;
 use lucy_lines::one_cut;
-use lucy_meaning::one_horizon;
 use lucy_right::{owed_outputs_are_runs, written_programs_pass};
 use lucy_run::{faultless_runs_are_done, one_interpretation, one_replay, one_run, one_trace};
 use lucy_tight::one_tightest;

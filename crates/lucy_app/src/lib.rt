@@ -1,7 +1,7 @@
 //! All that the program does, over a shelf, a source and sinks that are handed in: one call, with a status as its answer.
 //!
-//! It stands on `lucy_word`, `lucy_host`, `lucy_order`, `lucy_text`, `lucy_syntax`, `lucy_place`, `lucy_types`, `lucy_front`,
-//! `lucy_command`, `lucy_feed`, `lucy_trace`, `lucy_run`, `lucy_right`, `lucy_make` and `lucy_tight`. Begin with `lucy` in `top.rt`. What it promises is in
+//! It stands on `lucy_word`, `lucy_host`, `lucy_check`, `lucy_text`, `lucy_syntax`, `lucy_place`, `lucy_types`, `lucy_front`,
+//! `lucy_command`, `lucy_lines`, `lucy_trace`, `lucy_run`, `lucy_right`, `lucy_make` and `lucy_tight`. Begin with `lucy` in `top.rt`. What it promises is in
 //! `specs/`: `Commands` says what the commands that `lucy_command` reads call, `World` what a command is lent and meets, `Owes` which
 //! answer it owes by that, with `Order`, `Show`, `Types`, `Check`, `Tighten`, `Running` and `Replaying` for what each prints and refuses, `Ends`
 //! what it leaves, `Right` that what `run` leaves is right, and `Complete` when it is done.

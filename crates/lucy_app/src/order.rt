@@ -5,7 +5,7 @@ ghost use Rattle.lucy_word.specs.Limits.{limit_number};
 ghost use Rattle.lucy_word.specs.Reading.{IsReadable};
 ghost use Rattle.lucy_word.specs.declared.limit.Limit.TheVariants as limit;
 ghost use Rattle.lucy_app.specs.Fields.{fields};
-ghost use Rattle.lucy_order.specs.Horizon.{AreFar};
+ghost use Rattle.lucy_check.specs.Horizon.{AreFar};
 ghost use Rattle.lucy_app.specs.Order.{IsVerdictLine, RefusesWord, RefusesFields, verdict_line};
 ghost use Rattle.lucy_app.specs.declared.order.Unjudged.TheVariants as unjudged;
 ghost use Rattle.lucy_app.specs.declared.input_refusal.InputCause.TheVariants as cause;
@@ -16,7 +16,7 @@ ghost use Rattle.lucy_app.specs.Outcomes.{RefusesInput, IsLineOn, IsUnjudged, ju
 use crate::cut::fields;
 use crate::input_refusal::InputCause;
 use crate::refusal::Refusal;
-use lucy_order::{Verdict, adapt, horizon_of};
+use lucy_check::{Verdict, adapt, horizon_of};
 use lucy_text::{Source, read_up_to};
 use lucy_word::{Limit, Word, WordError};
 use std::alloc::{AllocError, Global};

@@ -2,8 +2,7 @@
 ghost use Rattle.std.specs.Prelude.{◌≡◌, IfOk, length};
 
 use lucy_host::{DataType, Inputs};
-use lucy_lines::value_line;
-use lucy_output::{OutputError, OutputSpec, write_outputs};
+use lucy_lines::{OutputError, OutputSpec, value_line, write_outputs};
 use lucy_text::{MemSink, Text};
 use lucy_word::Word;
 use std::alloc::{AllocError, Global};

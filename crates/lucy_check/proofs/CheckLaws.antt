@@ -17,7 +17,7 @@ use Rattle.lucy_word.specs.Stored.{IsStored}
 use Rattle.lucy_word.specs.Always.{always}
 use Rattle.lucy_word.proofs.AdaptableLaws.{adaptable_same}
 use Rattle.lucy_word.proofs.Multiples.{lcm_one}
-use Rattle.lucy_order.specs.Horizon.{IsHorizon}
+use Rattle.lucy_check.specs.Horizon.{IsHorizon}
 use Rattle.lucy_check.specs.declared.fault.CheckFault.{CheckFault}
 use Rattle.lucy_check.specs.Passing.{IsTermPassing, AreWithinLimits, OrNoMemory, PassesTermLimit, Passes, RefusesNeed, PassesAll, IsWithinLimits, AllWithinLimits, IsFirstRefusal, IsBeyond}
 

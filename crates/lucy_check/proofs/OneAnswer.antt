@@ -8,11 +8,11 @@ use Rattle.lucy_word.specs.Shortest.{Same}
 use Rattle.lucy_word.specs.Adaptable.{IsAdaptable}
 use Rattle.lucy_word.proofs.BitsLaws.{period_some}
 use Rattle.lucy_word.proofs.ShortLaws.{shortest_one}
-use Rattle.lucy_order.specs.Horizon.{AreFar}
-use Rattle.lucy_order.specs.Difference.{IsFirstDifference}
-use Rattle.lucy_order.specs.Verdicts.{IsVerdict}
-use Rattle.lucy_order.proofs.OneVerdict.{one_size, one_late, one_difference}
-use Rattle.lucy_order.specs.declared.verdict.Verdict.TheVariants as verdict
+use Rattle.lucy_check.specs.Horizon.{AreFar}
+use Rattle.lucy_check.specs.Difference.{IsFirstDifference}
+use Rattle.lucy_check.specs.Verdicts.{IsVerdict}
+use Rattle.lucy_check.proofs.OneVerdict.{one_size, one_late, one_difference}
+use Rattle.lucy_check.specs.declared.verdict.Verdict.TheVariants as verdict
 use Rattle.lucy_need.specs.declared.need.Term.{Term}
 use Rattle.lucy_need.specs.declared.need.Need.{Need}
 use Rattle.lucy_need.specs.declared.need.Need.TheVariants.{Equal, Adapt}

@@ -5,10 +5,10 @@ use Rattle.lucy_word.specs.Bits.{Bits}
 use Rattle.lucy_word.specs.declared.limit.Limit.TheVariants as limit
 use Rattle.lucy_word.specs.Shortest.{Same, IsShortest}
 use Rattle.lucy_word.specs.Sampling.{IsOnTooLong}
-use Rattle.lucy_order.specs.Horizon.{AreFar}
-use Rattle.lucy_order.specs.Difference.{IsFirstDifference}
-use Rattle.lucy_order.specs.Verdicts.{IsVerdict}
-use Rattle.lucy_order.specs.declared.verdict.Verdict.TheVariants as verdict
+use Rattle.lucy_check.specs.Horizon.{AreFar}
+use Rattle.lucy_check.specs.Difference.{IsFirstDifference}
+use Rattle.lucy_check.specs.Verdicts.{IsVerdict}
+use Rattle.lucy_check.specs.declared.verdict.Verdict.TheVariants as verdict
 use Rattle.lucy_need.specs.declared.need.Term.{Term}
 use Rattle.lucy_need.specs.declared.need.Need.{Need}
 use Rattle.lucy_need.specs.declared.need.Need.TheVariants.{Equal, Adapt}

@@ -4,14 +4,16 @@ ghost use Rattle.lucy_word.specs.declared.limit.Limit.TheVariants as lim;
 ghost use Rattle.lucy_need.specs.Meeting.{Assignment, assigned, first_of, second_of, IsTermWord, IsWithin};
 ghost use Rattle.lucy_word.specs.Always.{always};
 ghost use Rattle.lucy_word.specs.Stored.{IsStored};
-ghost use Rattle.lucy_order.specs.Horizon.{AreFar};
+ghost use Rattle.lucy_check.specs.Horizon.{AreFar};
 ghost use Rattle.lucy_check.specs.Passing.{AreWithinLimits, OrNoMemory, PassesWord, PassesTermLimit, Passes, RefusesNeed, IsTermPassing};
 ghost use Rattle.lucy_check.specs.Lent.{seen, IsKept};
 ghost use Rattle.lucy_check.specs.declared.fault.CheckFault.TheVariants as fault;
 
+use crate::difference::first_difference;
 use crate::fault::CheckFault;
+use crate::horizon::horizon_of;
+use crate::verdict::{Verdict, adapt};
 use lucy_need::{Need, Term};
-use lucy_order::{Verdict, adapt, first_difference, horizon_of};
 use lucy_word::{Limit, Word, WordError, on};
 use std::alloc::Global;
 

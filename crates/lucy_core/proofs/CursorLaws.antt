@@ -7,7 +7,7 @@ use Rattle.std.proofs.lemmas.List.{append-nil, length-replicate, length-set, get
 use Rattle.lucy_stream.specs.Runs.{step, none_done, first_left_from, first_left}
 use Rattle.lucy_stream.specs.Schedules.{events_to}
 use Rattle.lucy_stream.proofs.CountLaws.{step-same, step-other}
-use Rattle.lucy_cause.specs.Schedules.{Timetable, events_at}
+use Rattle.lucy_net.specs.Schedules.{Timetable, events_at}
 use Rattle.lucy_core.specs.declared.cursor.Cursor.{Cursor}
 use Rattle.lucy_core.specs.Seen.{done_of, one_more, order_on}
 use Rattle.lucy_core.specs.Cursors.{later, row_at, ahead, StandsInOrder, HasPassed}

@@ -17,7 +17,7 @@ use Rattle.lucy_stream.proofs.KahnLaws.{kahn_state_took, kahn_finished_took, kah
 use Rattle.lucy_net.specs.declared.net.Actor.{Actor}
 use Rattle.lucy_net.specs.Plans.{form_of, task_of}
 use Rattle.lucy_stream.specs.Schedules.{events_to}
-use Rattle.lucy_cause.specs.Schedules.{Timetable, events_at}
+use Rattle.lucy_net.specs.Schedules.{Timetable, events_at}
 use Rattle.lucy_net.proofs.NetLaws.{task_at, plugged}
 use Rattle.lucy_net.proofs.BackLaws.{fed, quotas}
 use Rattle.lucy_core.specs.Seen.{Seen, machine_of, machine_on, order_of, order_on, done_of, state_on, one_more, more_done, stepped, after_picks, CanRun, IsOver, CanMakeCore, IsOutputOf, first_ring, state_of, plan_of, stream_of}

@@ -27,7 +27,7 @@ use Rattle.lucy_net.specs.declared.net.Net.{Net}
 use Rattle.lucy_net.specs.declared.kind.ActorKind.TheVariants.{Output}
 use Rattle.lucy_net.specs.Plans.{form_of, task_of, plan, net_system}
 use Rattle.lucy_net.specs.States.{IsUsable}
-use Rattle.lucy_cause.specs.Schedules.{Timetable}
+use Rattle.lucy_net.specs.Schedules.{Timetable}
 use Rattle.lucy_net.proofs.NetLaws.{task_at, link_is, plugged, usable}
 use Rattle.lucy_net.proofs.NumberedLaws.{outputs_apart}
 use Rattle.lucy_core.specs.Seen.{machine_on, order_on, done_of, state_on, one_more, CanMakeCore}

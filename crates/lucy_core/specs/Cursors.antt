@@ -1,7 +1,7 @@
 -- Where a core stands in the schedule's order.
 use Rattle.std.specs.Prelude.{ℕ, suc, zero, ◌+◌, ◌-◌, ◌<◌, ◌≤◌, ◌≡◌, List, [], ◌++◌, drop, length, slice_index_or}
 use Rattle.lucy_stream.specs.Runs.{first_left_from, first_left}
-use Rattle.lucy_cause.specs.Schedules.{Timetable, events_at}
+use Rattle.lucy_net.specs.Schedules.{Timetable, events_at}
 use Rattle.lucy_core.specs.declared.cursor.Cursor.{Cursor}
 use Rattle.lucy_core.specs.Seen.{done_of, one_more, order_on}
 

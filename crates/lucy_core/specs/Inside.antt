@@ -12,7 +12,7 @@ use Rattle.lucy_net.specs.declared.net.Net.{Net}
 use Rattle.lucy_net.specs.declared.state.ActorState.{ActorState}
 use Rattle.lucy_net.specs.Plans.{form_of}
 use Rattle.lucy_net.specs.States.{IsActorState}
-use Rattle.lucy_cause.specs.Schedules.{Timetable}
+use Rattle.lucy_net.specs.Schedules.{Timetable}
 use Rattle.lucy_core.specs.declared.making.Beginning.{Beginning}
 use Rattle.lucy_core.specs.Circles.{HeldItems}
 use Rattle.lucy_core.specs.Cursors.{StandsInOrder}

@@ -15,8 +15,8 @@ use Rattle.lucy_net.specs.declared.net.Net.{Net}
 use Rattle.lucy_net.specs.Plans.{plan}
 use Rattle.lucy_net.specs.Proper.{IsProper, IsSupplied}
 use Rattle.lucy_net.specs.States.{KnowsOperator}
-use Rattle.lucy_net.specs.Schedules.{IsSound}
-use Rattle.lucy_cause.specs.Schedules.{Timetable, events_at}
+use Rattle.lucy_net.specs.Orders.{IsSound}
+use Rattle.lucy_net.specs.Schedules.{Timetable, events_at}
 
 -- a core: the net with its schedule, the inputs' lists, the operators of the host, the horizon, and how many operations each
 -- actor has done, which decide its state

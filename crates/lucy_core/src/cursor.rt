@@ -6,7 +6,7 @@ ghost use Rattle.lucy_stream.specs.Runs.{first_left};
 ghost use Rattle.lucy_core.specs.Seen.{done_of, one_more, order_on};
 ghost use Rattle.lucy_core.specs.Cursors.{row_at, StandsInOrder, HasPassed};
 
-use lucy_cause::Schedule;
+use lucy_net::Schedule;
 use std::alloc::{AllocError, Global};
 
 /// It goes over the schedule's events once, behind those that are done, so that the first one that isn't is at hand.

@@ -1,7 +1,7 @@
 //! The machine of a flat net on one thread: its actors take items from bounded rings and give items to them, one event after
 //! another, in the order of a schedule or in any other that is possible.
 //!
-//! It stands on `lucy_net` and `lucy_cause`. Begin with `Core` in `machine.rt` and with `specs/Seen.antt`, which says what a
+//! It stands on `lucy_net`. Begin with `Core` in `machine.rt` and with `specs/Seen.antt`, which says what a
 //! contract sees of it.
 #![tactic(auto)]
 

@@ -6,9 +6,8 @@ use crate::ends::{input_for, put_out};
 use crate::making::{begin, copy_ops};
 use crate::steps::{count_ended, count_event};
 use crate::tray::Tray;
-use lucy_cause::Schedule;
 use lucy_host::{Host, Inputs, Ops};
-use lucy_net::{ActorState, Move, Net, after_give, after_take, give_value, next_move};
+use lucy_net::{ActorState, Move, Net, Schedule, after_give, after_take, give_value, next_move};
 use lucy_word::OutOfMemory;
 use std::alloc::Global;
 use std::marker::Model;
@@ -77,7 +76,7 @@ impl Core {
     ghost use Rattle.lucy_net.specs.declared.net.Actor.{Actor};
     ghost use Rattle.lucy_net.specs.declared.net.RingSpec.{RingSpec};
     ghost use Rattle.lucy_net.specs.Moves.{move_of};
-    ghost use Rattle.lucy_cause.specs.Schedules.{events_at};
+    ghost use Rattle.lucy_net.specs.Schedules.{events_at};
     ghost use Rattle.lucy_core.specs.Seen.{Seen, plan_of, machine_of, order_of, state_of, done_of, stepped, after_picks, CanStep, CanRun, IsOver, HasDoneAtMost, CanGoOn, CanMakeCore, IsUnbegun, IsOutputOf, first_ring, first_seen, stream_of};
 
     /// A core of a proper net with a sound schedule, without an event so far; the operators are copied. The inputs have an item

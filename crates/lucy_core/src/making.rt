@@ -13,9 +13,8 @@ ghost use Rattle.lucy_core.specs.Inside.{going_in, AreFirst, AreEmpty, HaveTrays
 use crate::circle::Circle;
 use crate::cursor::Cursor;
 use crate::tray::Tray;
-use lucy_cause::Schedule;
 use lucy_host::Ops;
-use lucy_net::{Actor, ActorKind, ActorState, Net, RingSpec, first_state};
+use lucy_net::{Actor, ActorKind, ActorState, Net, RingSpec, Schedule, first_state};
 use lucy_word::OutOfMemory;
 use std::alloc::{AllocError, Global};
 

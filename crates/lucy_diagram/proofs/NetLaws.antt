@@ -10,12 +10,12 @@ use Rattle.lucy_place.specs.declared.entry.CallSite.{CallSite}
 use Rattle.lucy_place.specs.declared.entry.PlaceEntry.{PlaceEntry}
 use Rattle.lucy_place.specs.declared.placed.PlacedNode.{PlacedNode}
 use Rattle.lucy_types.specs.Tables.{table_at}
-use Rattle.lucy_meaning.specs.Below.{Below}
-use Rattle.lucy_meaning.specs.Spots.{main_of, results_in}
-use Rattle.lucy_meaning.specs.Sizes.{size_of, all_places, own_places}
-use Rattle.lucy_meaning.proofs.Tables.{IsLocal, entry_law, total_law}
+use Rattle.lucy_kahn.specs.Below.{Below}
+use Rattle.lucy_kahn.specs.Spots.{main_of, results_in}
+use Rattle.lucy_kahn.specs.Sizes.{size_of, all_places, own_places}
+use Rattle.lucy_kahn.proofs.Tables.{IsLocal, entry_law, total_law}
 use Rattle.lucy_flat.specs.Instances.{words_in}
-use Rattle.lucy_output.specs.declared.output.OutputSpec.{OutputSpec}
+use Rattle.lucy_lines.specs.declared.output.OutputSpec.{OutputSpec}
 use Rattle.lucy_program.specs.Names.{of_one}
 use Rattle.lucy_program.specs.Scheduled.{main_output}
 use Rattle.lucy_program.specs.declared.accepted.Accepted.{Accepted}

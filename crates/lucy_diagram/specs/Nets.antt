@@ -8,13 +8,13 @@ use Rattle.lucy_place.specs.declared.entry.CallSite.{CallSite}
 use Rattle.lucy_place.specs.declared.placed.PlacedNode.{PlacedNode}
 use Rattle.lucy_clock.specs.declared.node_clock.NodeClock.{NodeClock}
 use Rattle.lucy_clock.specs.Clocks.{call_clock}
-use Rattle.lucy_meaning.specs.Sizes.{entry_of, size_of, all_places}
+use Rattle.lucy_kahn.specs.Sizes.{entry_of, size_of, all_places}
 use Rattle.lucy_net.specs.declared.kind.ActorKind.{ActorKind}
 use Rattle.lucy_net.specs.declared.kind.ActorKind.TheVariants as kind
 use Rattle.lucy_net.specs.declared.net.RingSpec.{RingSpec}
 use Rattle.lucy_net.specs.declared.net.Net.{Net}
 use Rattle.lucy_flat.specs.Instances.{words_in}
-use Rattle.lucy_output.specs.declared.output.OutputSpec.{OutputSpec}
+use Rattle.lucy_lines.specs.declared.output.OutputSpec.{OutputSpec}
 use Rattle.lucy_program.specs.declared.accepted.Accepted.{Accepted}
 use Rattle.lucy_program.specs.Names.{of_one}
 use Rattle.lucy_diagram.specs.declared.place.DrawnPlace.{DrawnPlace}

@@ -19,11 +19,11 @@ use Rattle.lucy_place.specs.declared.entry.PlaceKind.{PlaceKind}
 use Rattle.lucy_place.specs.declared.entry.PlaceKind.TheVariants.{Param}
 use Rattle.lucy_place.specs.Proper.{IsProperKind, AreProper}
 use Rattle.lucy_clock.specs.declared.node_clock.NodeClock.{NodeClock}
-use Rattle.lucy_meaning.specs.Spots.{Spot, at, site_in, node_at, kind_at, spot_form, spot_reads}
-use Rattle.lucy_meaning.specs.Numbers.{number, spots_of}
-use Rattle.lucy_meaning.proofs.Parts.{callee_in, kind_in}
-use Rattle.lucy_meaning.proofs.Lists.{there}
-use Rattle.lucy_meaning.proofs.Paths.{proper_at}
+use Rattle.lucy_kahn.specs.Spots.{Spot, at, site_in, node_at, kind_at, spot_form, spot_reads}
+use Rattle.lucy_kahn.specs.Numbers.{number, spots_of}
+use Rattle.lucy_kahn.proofs.Parts.{callee_in, kind_in}
+use Rattle.lucy_kahn.proofs.JoinedLists.{there}
+use Rattle.lucy_kahn.proofs.Paths.{proper_at}
 use Rattle.lucy_flat.specs.declared.draft.Draft.{Draft}
 use Rattle.lucy_flat.specs.declared.kept.Kept.{Kept}
 use Rattle.lucy_flat.specs.declared.instance.Caller.{Caller}

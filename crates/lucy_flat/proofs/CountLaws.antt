@@ -20,18 +20,18 @@ use Rattle.lucy_net.specs.Plans as plans
 use Rattle.lucy_net.specs.Proper.{input_of}
 use Rattle.lucy_clock.specs.declared.node_clock.NodeClock.{NodeClock}
 use Rattle.lucy_flat.specs.declared.draft.Draft.{Draft}
-use Rattle.lucy_meaning.specs.Spots.{Spot, at, node_at, kind_at, spot_form, spot_reads, site_in}
-use Rattle.lucy_meaning.proofs.Parts.{kind_in, kind_of, callee_in}
+use Rattle.lucy_kahn.specs.Spots.{Spot, at, node_at, kind_at, spot_form, spot_reads, site_in}
+use Rattle.lucy_kahn.proofs.Parts.{kind_in, kind_of, callee_in}
 use Rattle.lucy_flat.specs.Extents.{size_in}
-use Rattle.lucy_meaning.specs.Sizes.{total_of}
-use Rattle.lucy_meaning.specs.Numbers.{number}
+use Rattle.lucy_kahn.specs.Sizes.{total_of}
+use Rattle.lucy_kahn.specs.Numbers.{number}
 use Rattle.lucy_flat.specs.Instances.{index_at, sizes_in}
 use Rattle.lucy_flat.proofs.Parts.{called}
 use Rattle.lucy_flat.specs.Flat.{ring_size}
 use Rattle.lucy_flat.specs.Counts.{read_count, own_rings, own_sizes}
-use Rattle.lucy_meaning.proofs.Tables.{calls_below, total_law}
-use Rattle.lucy_meaning.proofs.Lists.{there}
-use Rattle.lucy_meaning.proofs.Closed.{get_take}
+use Rattle.lucy_kahn.proofs.Tables.{calls_below, total_law}
+use Rattle.lucy_kahn.proofs.JoinedLists.{there}
+use Rattle.lucy_kahn.proofs.Closed.{get_take}
 use Rattle.lucy_flat.specs.Clocked.{AreClocked}
 use Rattle.lucy_flat.specs.Assembly.{reads_count, all_reads}
 use Rattle.lucy_flat.specs.Drafts.{AreMade, inside, own_spots, calls_spots, instance_spots, input_numbers, output_numbers, inputs_in, draft_slots, params_in}
@@ -40,7 +40,7 @@ use Rattle.lucy_flat.proofs.InstanceLaws.{size_there}
 use Rattle.lucy_flat.proofs.SpotWords.{all_at}
 use Rattle.lucy_flat.proofs.PutLaws.{instance_law}
 use Rattle.lucy_flat.proofs.RingWords.{made_form, made_inner}
-use Rattle.lucy_meaning.specs.Numbers.{spots_of}
+use Rattle.lucy_kahn.specs.Numbers.{spots_of}
 
 -- the node that a path leads to has the path's number
 index_of : (nodes : List PlacedNode) (path : List ℕ) (n : PlacedNode) → node_at nodes path ≡ Some n → slice_get nodes (index_at nodes path) ≡ Some n

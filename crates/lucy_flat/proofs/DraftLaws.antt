@@ -6,7 +6,7 @@ use Rattle.lucy_word.specs.Always.{always}
 use Rattle.lucy_word.specs.Bits.{Bits, bit_at}
 use Rattle.lucy_word.specs.Sampling.{bit_on}
 use Rattle.lucy_word.proofs.OnLaws.{always_ticks, always_word, always_on, same_self}
-use Rattle.lucy_meaning.specs.Spots.{at}
+use Rattle.lucy_kahn.specs.Spots.{at}
 use Rattle.lucy_flat.specs.Instances.{word_at, IsBase, IsSpotWord}
 use Rattle.lucy_flat.specs.Counts.{last_of}
 use Rattle.lucy_clock.specs.declared.node_clock.NodeClock.{NodeClock}

@@ -20,18 +20,18 @@ use Rattle.lucy_net.specs.Plans as plans
 use Rattle.lucy_clock.specs.declared.node_clock.NodeClock.{NodeClock}
 use Rattle.lucy_flat.specs.declared.draft.Draft.{Draft}
 use Rattle.lucy_net.specs.Plans.{giver}
-use Rattle.lucy_meaning.specs.Spots.{main_of, Spot, at, node_at, kind_at, spot_reads, IsSpot, results_in}
-use Rattle.lucy_meaning.proofs.Parts.{kind_in, kind_of}
-use Rattle.lucy_meaning.specs.Sizes.{all_places}
-use Rattle.lucy_meaning.specs.Numbers.{number}
+use Rattle.lucy_kahn.specs.Spots.{main_of, Spot, at, node_at, kind_at, spot_reads, IsSpot, results_in}
+use Rattle.lucy_kahn.proofs.Parts.{kind_in, kind_of}
+use Rattle.lucy_kahn.specs.Sizes.{all_places}
+use Rattle.lucy_kahn.specs.Numbers.{number}
 use Rattle.lucy_flat.specs.Instances.{sizes_in, word_at, index_at, IsSpotWord}
 use Rattle.lucy_flat.specs.Flat.{ring_size, fires_at, IsActorOf, IsOutput}
 use Rattle.lucy_flat.specs.Counts.{HasSmallNet}
 use Rattle.lucy_word.proofs.OnLaws.{on_base, on_one}
 use Rattle.lucy_word.proofs.AdaptableLaws.{adaptable_self, size_self}
-use Rattle.lucy_meaning.proofs.Closed.{closed_at, place_spot, place_of}
-use Rattle.lucy_meaning.proofs.Lists.{there}
-use Rattle.lucy_meaning.proofs.Paths.{proper_at}
+use Rattle.lucy_kahn.proofs.Closed.{closed_at, place_spot, place_of}
+use Rattle.lucy_kahn.proofs.JoinedLists.{there}
+use Rattle.lucy_kahn.proofs.Paths.{proper_at}
 use Rattle.lucy_flat.specs.Clocked.{AreClocked}
 use Rattle.lucy_flat.specs.Drafts.{IsDraftMade, IsOutputDraft, AreDrafts}
 use Rattle.lucy_flat.specs.Refusals.{IsMergeTooLong}

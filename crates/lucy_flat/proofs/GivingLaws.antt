@@ -11,7 +11,7 @@ use Rattle.lucy_net.specs.declared.net.RingSpec.{RingSpec}
 use Rattle.lucy_flat.specs.declared.draft.Draft.{Draft}
 use Rattle.lucy_flat.specs.Assembly.{from_of, from_at, given_by, reads_count, first_ring, all_reads, HasKind, AreReadyDrafts, AreRingsOf, IsGiven, AreGiven, IsFiring, IsDraftActor, AreActorsOf, IsActorFrom, IsAssembled, IsReadTooLong}
 use Rattle.lucy_flat.proofs.AssemblyLaws.{get_left, get_last, present, find_ring}
-use Rattle.lucy_meaning.proofs.Lists.{there}
+use Rattle.lucy_kahn.proofs.JoinedLists.{there}
 
 pub count_all : (ds : List Draft) → first_ring ds (length ds) ≡ all_reads ds
 count_all [] = refl

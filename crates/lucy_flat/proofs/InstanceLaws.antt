@@ -19,15 +19,15 @@ use Rattle.std.proofs.lemmas.List.{get_or_read}
 use Rattle.lucy_clock.specs.HandedDown.{HandsTooLong}
 use Rattle.lucy_flat.specs.Clocked.{AreClocked}
 use Rattle.lucy_flat.specs.Extents.{HasSize, size_in}
-use Rattle.lucy_meaning.specs.Spots.{main_of, at, site_in, node_at, kind_at, spot_form, result_place, spot_reads}
-use Rattle.lucy_meaning.proofs.Parts.{callee_in, kind_in, kind_of}
-use Rattle.lucy_meaning.specs.Sizes.{own_places, size_of}
-use Rattle.lucy_meaning.specs.Numbers.{begin_from, call_offset, number}
+use Rattle.lucy_kahn.specs.Spots.{main_of, at, site_in, node_at, kind_at, spot_form, result_place, spot_reads}
+use Rattle.lucy_kahn.proofs.Parts.{callee_in, kind_in, kind_of}
+use Rattle.lucy_kahn.specs.Sizes.{own_places, size_of}
+use Rattle.lucy_kahn.specs.Numbers.{begin_from, call_offset, number}
 use Rattle.lucy_flat.specs.Instances.{index_at, words_in, sizes_in, word_at, IsBase}
 use Rattle.lucy_flat.specs.Flat.{actor_of, ring_size}
-use Rattle.lucy_meaning.proofs.Tables.{calls_below, total_law}
-use Rattle.lucy_meaning.proofs.Closed.{get_take, place_of, call_of}
-use Rattle.lucy_meaning.proofs.Paths.{proper_at}
+use Rattle.lucy_kahn.proofs.Tables.{calls_below, total_law}
+use Rattle.lucy_kahn.proofs.Closed.{get_take, place_of, call_of}
+use Rattle.lucy_kahn.proofs.Paths.{proper_at}
 use Rattle.lucy_flat.proofs.SpotWords.{base_same, base_word}
 use Rattle.lucy_clock.specs.declared.node_clock.NodeClock.{NodeClock}
 use Rattle.lucy_flat.specs.declared.instance.Caller.{Caller}

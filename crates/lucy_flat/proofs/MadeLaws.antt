@@ -8,7 +8,7 @@ use Rattle.std.proofs.lemmas.Option.{same_Some}
 use Rattle.lucy_place.specs.declared.placed.PlacedNode.{PlacedNode}
 use Rattle.lucy_clock.specs.declared.node_clock.NodeClock.{NodeClock}
 use Rattle.lucy_flat.specs.declared.draft.Draft.{Draft}
-use Rattle.lucy_meaning.specs.Spots.{Spot, at}
+use Rattle.lucy_kahn.specs.Spots.{Spot, at}
 use Rattle.lucy_flat.specs.Drafts.{IsSpotDraft, AreMade, IsFit, ArePlacesPut}
 use Rattle.lucy_flat.proofs.AssemblyLaws.{range_more}
 

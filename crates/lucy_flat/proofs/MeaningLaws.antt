@@ -18,14 +18,14 @@ use Rattle.lucy_clock.specs.declared.node_clock.NodeClock.{NodeClock}
 use Rattle.lucy_net.specs.declared.net.Net.{Net}
 use Rattle.lucy_net.specs.Plans as plans
 use Rattle.lucy_net.specs.Causal.{actor_place, net_places}
-use Rattle.lucy_meaning.specs.Spots.{Spot, at, main_of, IsSpot, spot_form, form_at, reads_at, results_in}
-use Rattle.lucy_meaning.proofs.Parts.{form_if, reads_if}
-use Rattle.lucy_meaning.specs.Sizes.{all_places}
-use Rattle.lucy_meaning.specs.Numbers.{number, numbered_place, numbered_places}
-use Rattle.lucy_meaning.specs.Kahn.{kahn}
-use Rattle.lucy_meaning.proofs.Lists.{there}
-use Rattle.lucy_meaning.proofs.Closed.{closed, all_of, each_of}
-use Rattle.lucy_meaning.proofs.Numbered.{number_below, number_reached, place_there, count_places}
+use Rattle.lucy_kahn.specs.Spots.{Spot, at, main_of, IsSpot, spot_form, form_at, reads_at, results_in}
+use Rattle.lucy_kahn.proofs.Parts.{form_if, reads_if}
+use Rattle.lucy_kahn.specs.Sizes.{all_places}
+use Rattle.lucy_kahn.specs.Numbers.{number, numbered_place, numbered_places}
+use Rattle.lucy_kahn.specs.Kahn.{kahn}
+use Rattle.lucy_kahn.proofs.JoinedLists.{there}
+use Rattle.lucy_kahn.proofs.Closed.{closed, all_of, each_of}
+use Rattle.lucy_kahn.proofs.Numbered.{number_below, number_reached, place_there, count_places}
 use Rattle.lucy_flat.specs.Flat.{IsFlat}
 use Rattle.lucy_flat.proofs.RingWords.{form_back}
 use Rattle.lucy_flat.proofs.FlatLaws.{map_from, only_one, main_spot}

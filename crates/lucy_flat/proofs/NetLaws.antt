@@ -29,12 +29,12 @@ use Rattle.lucy_net.specs.States.{GivesNone}
 use Rattle.lucy_net.specs.Proper.{numbers_where, IsNumbering, IsWriteWord, IsReadWord, IsProper, IsProperActor, IsProperRing}
 use Rattle.lucy_clock.specs.declared.node_clock.NodeClock.{NodeClock}
 use Rattle.lucy_flat.specs.declared.draft.Draft.{Draft}
-use Rattle.lucy_meaning.specs.Spots.{at, node_at, results_in}
-use Rattle.lucy_meaning.specs.Sizes.{all_places}
-use Rattle.lucy_meaning.specs.Numbers.{number}
+use Rattle.lucy_kahn.specs.Spots.{at, node_at, results_in}
+use Rattle.lucy_kahn.specs.Sizes.{all_places}
+use Rattle.lucy_kahn.specs.Numbers.{number}
 use Rattle.lucy_flat.specs.Flat.{IsFlat}
 use Rattle.lucy_flat.specs.Counts.{HasSmallNet}
-use Rattle.lucy_meaning.proofs.Lists.{there}
+use Rattle.lucy_kahn.proofs.JoinedLists.{there}
 use Rattle.lucy_word.specs.Stored.{IsStored}
 use Rattle.lucy_flat.specs.Clocked.{AreClocked}
 use Rattle.lucy_flat.specs.Drafts.{inputs_in, AreDrafts, draft_slots}

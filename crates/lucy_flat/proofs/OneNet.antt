@@ -23,10 +23,10 @@ use Rattle.lucy_net.specs.Proper.{numbers_where, IsWriteWord, IsReadWord, IsProp
 use Rattle.lucy_net.proofs.WhereLaws.{where_all, operand_of}
 use Rattle.lucy_net.proofs.NetLaws.{from_here, to_here, taken_times}
 use Rattle.lucy_net.proofs.WordLaws.{actor_word, ring_word}
-use Rattle.lucy_meaning.specs.Spots.{at, main_of, results_in}
-use Rattle.lucy_meaning.specs.Sizes.{all_places}
-use Rattle.lucy_meaning.proofs.Lists.{there}
-use Rattle.lucy_meaning.proofs.Numbered.{number_reached}
+use Rattle.lucy_kahn.specs.Spots.{at, main_of, results_in}
+use Rattle.lucy_kahn.specs.Sizes.{all_places}
+use Rattle.lucy_kahn.proofs.JoinedLists.{there}
+use Rattle.lucy_kahn.proofs.Numbered.{number_reached}
 use Rattle.lucy_flat.specs.Flat.{fires_at}
 use Rattle.lucy_flat.specs.Counts.{HasSmallNet, IsPassedBy, NetPasses, actors_of, rings_of, slots_of}
 use Rattle.lucy_flat.specs.Refusals.{IsFlatNet, RefusesFlat, net_bits}

@@ -16,13 +16,13 @@ use Rattle.lucy_net.specs.declared.kind.ActorKind.TheVariants.{Output}
 use Rattle.lucy_net.specs.Proper.{input_of, output_of}
 use Rattle.lucy_clock.specs.declared.node_clock.NodeClock.{NodeClock}
 use Rattle.lucy_flat.specs.declared.draft.Draft.{Draft}
-use Rattle.lucy_meaning.specs.Spots.{Spot, at, kind_at, results_in, main_of}
-use Rattle.lucy_meaning.specs.Sizes.{all_places}
-use Rattle.lucy_meaning.specs.Numbers.{number}
+use Rattle.lucy_kahn.specs.Spots.{Spot, at, kind_at, results_in, main_of}
+use Rattle.lucy_kahn.specs.Sizes.{all_places}
+use Rattle.lucy_kahn.specs.Numbers.{number}
 use Rattle.lucy_flat.specs.Instances.{IsSpotWord}
 use Rattle.lucy_flat.specs.Counts.{last_of}
-use Rattle.lucy_meaning.proofs.Lists.{there}
-use Rattle.lucy_meaning.proofs.Closed.{place_of, place_spot}
+use Rattle.lucy_kahn.proofs.JoinedLists.{there}
+use Rattle.lucy_kahn.proofs.Closed.{place_of, place_spot}
 use Rattle.lucy_flat.specs.Clocked.{AreClocked}
 use Rattle.lucy_flat.specs.Assembly.{reads_count, all_reads}
 use Rattle.lucy_flat.specs.Drafts.{IsDraftMade, IsDraft, IsOutputDraft, IsOfSpot, instance_spots, input_numbers, output_numbers, inputs_in, draft_slots, ArePut, AreDrafts, AreDraftsSoFar}
@@ -31,7 +31,7 @@ use Rattle.lucy_flat.proofs.MadeLaws.{made_length, made_at}
 use Rattle.lucy_flat.proofs.SpotLaws.{spot_at, whole_length}
 use Rattle.lucy_flat.proofs.InstanceLaws.{word_is}
 use Rattle.lucy_flat.proofs.DraftLaws.{main_word}
-use Rattle.lucy_meaning.proofs.Numbered.{number_below, number_reached}
+use Rattle.lucy_kahn.proofs.Numbered.{number_below, number_reached}
 use Rattle.lucy_flat.proofs.CountLaws.{made_reads, made_slots, made_inputs, made_outputs, total_reads, total_sizes, total_inputs}
 
 module _ (nodes : List PlacedNode) (clocks : List NodeClock) (proper : AreProper nodes) where

@@ -26,10 +26,10 @@ use Rattle.lucy_net.specs.declared.net.Net.{Net}
 use Rattle.lucy_net.specs.Plans as plans
 use Rattle.lucy_net.specs.Words.{ring_words}
 use Rattle.lucy_clock.specs.declared.node_clock.NodeClock.{NodeClock}
-use Rattle.lucy_meaning.specs.Spots.{at, spot_form, spot_reads, IsSpot}
-use Rattle.lucy_meaning.specs.Numbers.{number}
-use Rattle.lucy_meaning.proofs.Lists.{there}
-use Rattle.lucy_meaning.proofs.Closed.{closed_at}
+use Rattle.lucy_kahn.specs.Spots.{at, spot_form, spot_reads, IsSpot}
+use Rattle.lucy_kahn.specs.Numbers.{number}
+use Rattle.lucy_kahn.proofs.JoinedLists.{there}
+use Rattle.lucy_kahn.proofs.Closed.{closed_at}
 use Rattle.lucy_flat.specs.declared.draft.Draft.{Draft}
 use Rattle.lucy_flat.specs.Instances.{IsSpotWord}
 use Rattle.lucy_flat.specs.Clocked.{AreClocked}

@@ -26,8 +26,8 @@ use Rattle.lucy_net.specs.Plans as plans
 use Rattle.lucy_net.specs.Proper.{numbers_where, output_of, numbers_of, IsNumbering, IsWriteWord, IsReadWord}
 use Rattle.lucy_net.specs.States.{GivesNone}
 use Rattle.lucy_flat.specs.declared.draft.Draft.{Draft}
-use Rattle.lucy_meaning.specs.Spots.{at, spot_form, spot_reads}
-use Rattle.lucy_meaning.proofs.Lists.{there}
+use Rattle.lucy_kahn.specs.Spots.{at, spot_form, spot_reads}
+use Rattle.lucy_kahn.proofs.JoinedLists.{there}
 use Rattle.lucy_word.proofs.OnLaws.{same_self}
 use Rattle.lucy_flat.specs.Assembly.{from_at, first_ring, reads_count, AreRingsOf, IsReadOn, ReadsTooLong, IsFiring, HasKind}
 use Rattle.lucy_flat.specs.Drafts.{draft_slots}

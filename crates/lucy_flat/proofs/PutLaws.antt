@@ -11,26 +11,26 @@ use Rattle.lucy_word.specs.Sampling.{IsOn}
 use Rattle.lucy_place.specs.declared.placed.PlacedNode.{PlacedNode}
 use Rattle.lucy_place.specs.declared.entry.CallSite.{CallSite}
 use Rattle.lucy_place.specs.Proper.{at_one, AreProper}
-use Rattle.lucy_meaning.specs.Numbers.{within_call, inner_spots, spots_of}
-use Rattle.lucy_meaning.proofs.SpotLists.{spots_law, length_spots}
-use Rattle.lucy_meaning.proofs.Paths.{none_from, node_inside, begins_with}
-use Rattle.lucy_meaning.specs.Spots.{node_from}
+use Rattle.lucy_kahn.specs.Numbers.{within_call, inner_spots, spots_of}
+use Rattle.lucy_kahn.proofs.SpotLists.{spots_law, length_spots}
+use Rattle.lucy_kahn.proofs.Paths.{none_from, node_inside, begins_with}
+use Rattle.lucy_kahn.specs.Spots.{node_from}
 use Rattle.lucy_clock.specs.Clocks.{clocks_of}
 use Rattle.lucy_clock.specs.declared.node_clock.NodeClock.{NodeClock}
 use Rattle.lucy_flat.specs.declared.draft.Draft.{Draft}
 use Rattle.lucy_flat.specs.declared.instance.Caller.{Caller}
 use Rattle.lucy_flat.specs.declared.instance.Instance.{Instance}
-use Rattle.lucy_meaning.specs.Spots.{main_of, Spot, at, site_in, node_at}
-use Rattle.lucy_meaning.proofs.Parts.{callee_in}
-use Rattle.lucy_meaning.specs.Below.{Below}
+use Rattle.lucy_kahn.specs.Spots.{main_of, Spot, at, site_in, node_at}
+use Rattle.lucy_kahn.proofs.Parts.{callee_in}
+use Rattle.lucy_kahn.specs.Below.{Below}
 use Rattle.lucy_flat.specs.Extents.{actors_in, AreSumsOf}
-use Rattle.lucy_meaning.specs.Sizes.{AreCapped, own_places, size_of}
-use Rattle.lucy_meaning.specs.Numbers.{begin_from, call_offset}
+use Rattle.lucy_kahn.specs.Sizes.{AreCapped, own_places, size_of}
+use Rattle.lucy_kahn.specs.Numbers.{begin_from, call_offset}
 use Rattle.lucy_flat.specs.Instances.{index_at, word_at}
 use Rattle.lucy_flat.proofs.Parts.{called, base_clock}
-use Rattle.lucy_meaning.proofs.Tables.{below_take, calls_below, total_law}
-use Rattle.lucy_meaning.proofs.SizeLaws.{below_more}
-use Rattle.lucy_meaning.proofs.Lists.{there}
+use Rattle.lucy_kahn.proofs.Tables.{below_take, calls_below, total_law}
+use Rattle.lucy_kahn.proofs.SizeLaws.{below_more}
+use Rattle.lucy_kahn.proofs.JoinedLists.{there}
 use Rattle.lucy_flat.specs.Clocked.{AreClocked}
 use Rattle.lucy_flat.proofs.InstanceLaws.{word_is}
 use Rattle.lucy_flat.specs.Drafts.{inside, AreMade, own_spots, calls_spots, instance_spots, IsFit, AreFit, ArePut, CanBeFlattened, IsInstanceAt, IsInstance, AreBegins, ArePlacesPut, ArePutSoFar}

@@ -10,12 +10,12 @@ use Rattle.lucy_place.specs.declared.entry.PlaceKind.TheVariants as place_kind
 use Rattle.lucy_place.specs.Proper.{at_one, Stands, IsProperKind, IsLabelled, AreProper, operands_of, arguments_of, reads_of}
 use Rattle.lucy_net.specs.declared.kind.ActorKind.TheVariants.{When, Output}
 use Rattle.lucy_clock.specs.declared.node_clock.NodeClock.{NodeClock}
-use Rattle.lucy_meaning.specs.Spots.{Spot, at, site_in, node_at, kind_at, spot_form, argument, spot_reads}
-use Rattle.lucy_meaning.specs.Numbers.{number}
-use Rattle.lucy_meaning.proofs.Parts.{callee_in, kind_in, kind_of}
-use Rattle.lucy_meaning.proofs.Lists.{there}
-use Rattle.lucy_meaning.proofs.Paths.{proper_at}
-use Rattle.lucy_meaning.proofs.Closed.{get_take}
+use Rattle.lucy_kahn.specs.Spots.{Spot, at, site_in, node_at, kind_at, spot_form, argument, spot_reads}
+use Rattle.lucy_kahn.specs.Numbers.{number}
+use Rattle.lucy_kahn.proofs.Parts.{callee_in, kind_in, kind_of}
+use Rattle.lucy_kahn.proofs.JoinedLists.{there}
+use Rattle.lucy_kahn.proofs.Paths.{proper_at}
+use Rattle.lucy_kahn.proofs.Closed.{get_take}
 use Rattle.lucy_flat.specs.declared.draft.Draft.{Draft}
 use Rattle.lucy_flat.specs.Flat.{actor_of}
 use Rattle.lucy_flat.specs.Clocked.{AreClocked}

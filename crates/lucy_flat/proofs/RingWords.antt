@@ -13,7 +13,7 @@ use Rattle.lucy_net.specs.declared.kind.ActorKind.TheVariants.{Input, Lit, Op, H
 use Rattle.lucy_net.specs.declared.net.RingSpec.{RingSpec}
 use Rattle.lucy_net.specs.Plans as plans
 use Rattle.lucy_net.specs.Proper.{output_of}
-use Rattle.lucy_meaning.specs.Spots.{Spot, at, spot_form}
+use Rattle.lucy_kahn.specs.Spots.{Spot, at, spot_form}
 use Rattle.lucy_flat.specs.Flat.{actor_of, fires_at, ring_size}
 use Rattle.lucy_flat.specs.declared.draft.Draft.{Draft}
 use Rattle.lucy_flat.specs.Drafts.{IsDraftMade}

@@ -8,7 +8,7 @@ use Rattle.lucy_place.specs.declared.entry.PlaceKind.{PlaceKind}
 use Rattle.lucy_place.specs.declared.entry.PlaceKind.TheVariants.{Param, Defined, Lit, Op, Host, When, Merge, Fby, Buffer, Result}
 use Rattle.lucy_place.specs.Proper.{at_one}
 use Rattle.lucy_flat.specs.Extents.{size_in}
-use Rattle.lucy_meaning.proofs.Lists.{there}
+use Rattle.lucy_kahn.proofs.JoinedLists.{there}
 use Rattle.lucy_flat.proofs.ExtentLaws.{sum_take}
 
 -- sums

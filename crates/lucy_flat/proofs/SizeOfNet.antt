@@ -25,11 +25,11 @@ use Rattle.lucy_net.specs.Plans.{form_of, giver, taker}
 use Rattle.lucy_net.specs.Proper.{IsWriteWord, IsReadWord}
 use Rattle.lucy_net.proofs.WhereLaws.{where_all}
 use Rattle.lucy_net.proofs.NetLaws.{from_here, to_here}
-use Rattle.lucy_meaning.specs.Spots.{Spot, at, main_of, kind_at, spot_form, spot_reads, results_in}
-use Rattle.lucy_meaning.specs.Sizes.{total_of, all_places}
-use Rattle.lucy_meaning.specs.Numbers.{number}
-use Rattle.lucy_meaning.proofs.Lists.{there}
-use Rattle.lucy_meaning.proofs.Numbered.{number_reached}
+use Rattle.lucy_kahn.specs.Spots.{Spot, at, main_of, kind_at, spot_form, spot_reads, results_in}
+use Rattle.lucy_kahn.specs.Sizes.{total_of, all_places}
+use Rattle.lucy_kahn.specs.Numbers.{number}
+use Rattle.lucy_kahn.proofs.JoinedLists.{there}
+use Rattle.lucy_kahn.proofs.Numbered.{number_reached}
 use Rattle.lucy_flat.specs.Instances.{index_at, IsSpotWord}
 use Rattle.lucy_flat.specs.Flat.{fires_at, ring_size, IsFlat, WouldBeFlat}
 use Rattle.lucy_flat.specs.Counts.{own_rings, own_sizes, last_of, outputs_of, actors_of, rings_of, slots_of, IsPassedBy, NetPasses}

@@ -6,10 +6,10 @@ use Rattle.lucy_place.specs.declared.placed.PlacedNode.{PlacedNode}
 use Rattle.lucy_place.specs.declared.entry.PlaceKind.{PlaceKind}
 use Rattle.lucy_place.specs.Proper.{AreProper}
 use Rattle.lucy_clock.specs.declared.node_clock.NodeClock.{NodeClock}
-use Rattle.lucy_meaning.specs.Spots.{Spot, at, kind_at}
-use Rattle.lucy_meaning.specs.Sizes.{all_places}
-use Rattle.lucy_meaning.specs.Numbers.{number, spots}
-use Rattle.lucy_meaning.proofs.Numbered.{has_spot, count_spots}
+use Rattle.lucy_kahn.specs.Spots.{Spot, at, kind_at}
+use Rattle.lucy_kahn.specs.Sizes.{all_places}
+use Rattle.lucy_kahn.specs.Numbers.{number, spots}
+use Rattle.lucy_kahn.proofs.Numbered.{has_spot, count_spots}
 use Rattle.lucy_flat.specs.Counts.{last_of}
 use Rattle.lucy_flat.specs.Refusals.{IsClockTooLong}
 use Rattle.lucy_flat.specs.Drafts.{inside, instance_spots, IsFit, AreFit}

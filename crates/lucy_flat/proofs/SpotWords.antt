@@ -19,12 +19,12 @@ use Rattle.lucy_need.specs.Meeting.{Assignment, assigned}
 use Rattle.lucy_clock.specs.Clocks.{call_clock}
 use Rattle.lucy_clock.specs.WellClocked.{KeepsRule}
 use Rattle.lucy_word.proofs.OnLaws.{on_same, same_self, on_on, on_base, on_word, on_one, on_not_to}
-use Rattle.lucy_meaning.specs.Spots.{Spot, at, site_in, node_at, argument, result_place, param_reads, spot_reads}
-use Rattle.lucy_meaning.proofs.Parts.{callee_in}
+use Rattle.lucy_kahn.specs.Spots.{Spot, at, site_in, node_at, argument, result_place, param_reads, spot_reads}
+use Rattle.lucy_kahn.proofs.Parts.{callee_in}
 use Rattle.lucy_flat.specs.Instances.{index_at, words_in, sizes_in, word_at, IsBase, IsSpotWord}
 use Rattle.lucy_flat.proofs.Parts.{called, base_clock}
-use Rattle.lucy_meaning.proofs.Lists.{there}
-use Rattle.lucy_meaning.proofs.Closed.{get_take}
+use Rattle.lucy_kahn.proofs.JoinedLists.{there}
+use Rattle.lucy_kahn.proofs.Closed.{get_take}
 use Rattle.std.proofs.lemmas.List.{length-take}
 use Rattle.lucy_clock.specs.declared.node_clock.NodeClock.{NodeClock}
 use Rattle.lucy_flat.specs.Clocked.{AreClocked, IsClock}

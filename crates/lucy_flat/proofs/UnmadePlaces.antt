@@ -16,8 +16,8 @@ use Rattle.lucy_net.specs.declared.kind.ActorKind.{ActorKind}
 use Rattle.lucy_net.specs.declared.kind.ActorKind.TheVariants as actor_kind
 use Rattle.lucy_net.proofs.StateLaws.{operands_few}
 use Rattle.lucy_clock.specs.declared.node_clock.NodeClock.{NodeClock}
-use Rattle.lucy_meaning.specs.Spots.{Spot, at, kind_at, spot_form, spot_reads}
-use Rattle.lucy_meaning.specs.Numbers.{number}
+use Rattle.lucy_kahn.specs.Spots.{Spot, at, kind_at, spot_form, spot_reads}
+use Rattle.lucy_kahn.specs.Numbers.{number}
 use Rattle.lucy_flat.specs.declared.draft.Draft.{Draft}
 use Rattle.lucy_flat.specs.declared.kept.Kept.{Kept}
 use Rattle.lucy_flat.specs.declared.instance.Instance.{Instance}

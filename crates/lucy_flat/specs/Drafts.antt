@@ -26,9 +26,9 @@ use Rattle.lucy_flat.specs.declared.instance.Caller.{Caller}
 use Rattle.lucy_flat.specs.declared.instance.Instance.{Instance}
 use Rattle.lucy_flat.specs.Clocked.{AreClocked}
 use Rattle.lucy_flat.specs.Counts.{own_rings, own_sizes, last_of, rings_of, slots_of}
-use Rattle.lucy_meaning.specs.Spots.{Spot, at, node_from, main_of, site_in, node_at, kind_at, spot_form, spot_reads, results_in}
-use Rattle.lucy_meaning.specs.Sizes.{AreCapped, size_of, total_of, all_places}
-use Rattle.lucy_meaning.specs.Numbers.{begin_from, call_offset, number, spots_of}
+use Rattle.lucy_kahn.specs.Spots.{Spot, at, node_from, main_of, site_in, node_at, kind_at, spot_form, spot_reads, results_in}
+use Rattle.lucy_kahn.specs.Sizes.{AreCapped, size_of, total_of, all_places}
+use Rattle.lucy_kahn.specs.Numbers.{begin_from, call_offset, number, spots_of}
 use Rattle.lucy_flat.specs.Instances.{index_at, word_at, IsBase, IsSpotWord}
 use Rattle.lucy_flat.specs.Flat.{actor_of, ring_size}
 use Rattle.lucy_flat.specs.Refusals.{IsClockTooLong, NetWordIsTooLong}

@@ -13,9 +13,9 @@ use Rattle.lucy_net.specs.declared.net.RingSpec.{RingSpec}
 use Rattle.lucy_net.specs.declared.net.Net.{Net}
 use Rattle.lucy_net.specs.Plans.{giver}
 use Rattle.lucy_net.specs.Proper.{IsProperActor, IsProperRing, IsProper}
-use Rattle.lucy_meaning.specs.Spots.{Spot, at, main_of, kind_at, spot_form, spot_reads, results_in}
-use Rattle.lucy_meaning.specs.Sizes.{all_places}
-use Rattle.lucy_meaning.specs.Numbers.{number}
+use Rattle.lucy_kahn.specs.Spots.{Spot, at, main_of, kind_at, spot_form, spot_reads, results_in}
+use Rattle.lucy_kahn.specs.Sizes.{all_places}
+use Rattle.lucy_kahn.specs.Numbers.{number}
 use Rattle.lucy_flat.specs.Instances.{index_at, sizes_in, IsSpotWord}
 
 -- the actor of a form: what isn't one of the other kinds passes its items on

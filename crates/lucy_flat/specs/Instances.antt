@@ -7,7 +7,7 @@ use Rattle.lucy_word.specs.Sampling.{IsOn}
 use Rattle.lucy_place.specs.declared.placed.PlacedNode.{PlacedNode}
 use Rattle.lucy_clock.specs.declared.node_clock.NodeClock.{NodeClock}
 use Rattle.lucy_clock.specs.Clocks.{call_clock}
-use Rattle.lucy_meaning.specs.Spots.{Spot, site_in, node_at}
+use Rattle.lucy_kahn.specs.Spots.{Spot, site_in, node_at}
 
 -- the number of the node that a path of calls leads to from main
 abbrev pub index_at : List PlacedNode → List ℕ → ℕ

@@ -12,11 +12,11 @@ use Rattle.lucy_place.specs.Proper.{AreProper}
 use Rattle.lucy_clock.specs.declared.node_clock.NodeClock.{NodeClock}
 use Rattle.lucy_net.specs.declared.net.Net.{Net}
 use Rattle.lucy_net.specs.Causal.{net_places}
-use Rattle.lucy_meaning.specs.Spots.{Spot, at, main_of, IsSpot, results_in}
-use Rattle.lucy_meaning.specs.Sizes.{all_places}
-use Rattle.lucy_meaning.specs.Numbers.{number}
-use Rattle.lucy_meaning.specs.Kahn.{kahn}
-use Rattle.lucy_meaning.specs.Items.{IsCausalProgram}
+use Rattle.lucy_kahn.specs.Spots.{Spot, at, main_of, IsSpot, results_in}
+use Rattle.lucy_kahn.specs.Sizes.{all_places}
+use Rattle.lucy_kahn.specs.Numbers.{number}
+use Rattle.lucy_kahn.specs.Kahn.{kahn}
+use Rattle.lucy_kahn.specs.Items.{IsCausalProgram}
 use Rattle.lucy_flat.specs.Clocked.{AreClocked}
 use Rattle.lucy_flat.specs.Flat.{IsFlat, WouldBeFlat}
 use Rattle.lucy_flat.specs.Counts.{actors_of, rings_of, slots_of, IsPassedBy, NetPasses}

@@ -14,7 +14,7 @@ use Rattle.lucy_net.specs.Words.{net_words}
 use Rattle.lucy_flat.specs.declared.error.FlatError.{FlatError}
 use Rattle.lucy_flat.specs.declared.error.FlatError.TheVariants as error
 use Rattle.lucy_clock.specs.declared.node_clock.NodeClock.{NodeClock}
-use Rattle.lucy_meaning.specs.Spots.{Spot, node_at, kind_at}
+use Rattle.lucy_kahn.specs.Spots.{Spot, node_at, kind_at}
 use Rattle.lucy_flat.specs.Instances.{word_at, IsBase, IsSpotWord}
 use Rattle.lucy_flat.specs.Flat.{IsFlat}
 use Rattle.lucy_clock.specs.Clocks.{clocks_of}

@@ -2,11 +2,11 @@
 ghost use Rattle.std.specs.Prelude.{◌≡◌, ◌≤◌, Some, None, length, sum, sum_by};
 ghost use Rattle.lucy_place.specs.declared.entry.CallSite.{CallSite as Site};
 ghost use Rattle.lucy_word.specs.declared.limit.Limit.{Limit as Named};
-ghost use Rattle.lucy_meaning.specs.Sizes.{capped, AreCapped, size_of, total_of};
+ghost use Rattle.lucy_kahn.specs.Sizes.{capped, AreCapped, size_of, total_of};
 ghost use Rattle.lucy_flat.specs.Counts.{read_count, own_rings, own_sizes, last_of, IsPassedBy, IsKeptBy, NetPasses, HasSmallNet};
 
 use lucy_clock::NodeClock;
-use lucy_meaning::add_calls;
+use lucy_kahn::add_calls;
 use lucy_place::{CallSite, PlaceEntry, PlaceKind, Placed, PlacedNode};
 use lucy_word::Limit;
 

@@ -19,7 +19,7 @@ use crate::instance::{Program, put_instance};
 use crate::kept::{Kept, keep};
 use crate::words::{bits, copied};
 use lucy_clock::NodeClock;
-use lucy_meaning::sizes;
+use lucy_kahn::sizes;
 use lucy_need::always;
 use lucy_net::{ActorKind, Net, net_words_are_stored};
 use lucy_place::Placed;

@@ -1,6 +1,6 @@
 //! Flattening: the flat net of a program, whose nodes have words that keep their clock rules.
 //!
-//! It stands on the placed nodes of `lucy_place`, their clocks of `lucy_clock`, the instance places of `lucy_meaning` and the
+//! It stands on the placed nodes of `lucy_place`, their clocks of `lucy_clock`, the instance places of `lucy_kahn` and the
 //! nets of `lucy_net`. Begin with `specs/Flat.antt`, which says what the flat net of a program is, and with `flatten` in
 //! `flattening.rt`. `laws.rt` has what holds of every flat net: its iterates are the program's, it is causal exactly where the
 //! program is, it is the only one, and it is as large as its program says.

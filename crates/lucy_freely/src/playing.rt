@@ -9,8 +9,8 @@ ghost use Rattle.lucy_run.specs.Engines.{CanBePlayed, IsPlayedTo};
 
 use crate::resting::Beds;
 use crate::working::work_all;
-use lucy_cause::schedule_of;
 use lucy_host::{Host, Inputs};
+use lucy_net::schedule_of;
 use lucy_program::{Accepted, accepted_programs_are_clocked};
 use lucy_results::run_net_by_turns;
 use lucy_run::copy_net;

@@ -10,10 +10,10 @@ use Rattle.lucy_place.specs.declared.placed.PlacedNode.{PlacedNode}
 use Rattle.lucy_place.specs.declared.entry.PlaceKind.TheVariants.{Defined}
 use Rattle.lucy_place.specs.Proper.{Stands, AreProper}
 use Rattle.lucy_clock.specs.declared.node_clock.NodeClock.{NodeClock}
-use Rattle.lucy_meaning.specs.Spots.{Spot, at, kind_at, form_at, reads_at}
-use Rattle.lucy_meaning.specs.Kahn.{kahn}
-use Rattle.lucy_meaning.proofs.Parts.{kind_of, kind_in, form_if, reads_if}
-use Rattle.lucy_meaning.proofs.ByNumber.{kahn_later}
+use Rattle.lucy_kahn.specs.Spots.{Spot, at, kind_at, form_at, reads_at}
+use Rattle.lucy_kahn.specs.Kahn.{kahn}
+use Rattle.lucy_kahn.proofs.Parts.{kind_of, kind_in, form_if, reads_if}
+use Rattle.lucy_kahn.proofs.ByNumber.{kahn_later}
 use Rattle.lucy_freeze.specs.Frozen.{AreFrozen}
 use Rattle.lucy_freeze.proofs.Leading.{IsImage, IsRead, AreRead, image_spot, image_form, image_reads}
 

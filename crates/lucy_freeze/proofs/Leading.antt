@@ -11,11 +11,11 @@ use Rattle.lucy_place.specs.declared.entry.PlaceKind.TheVariants.{Param, Defined
 use Rattle.lucy_place.specs.Literals.{literal_value}
 use Rattle.lucy_place.specs.Proper.{at_one, Stands, IsPlace, ArePlaces, IsProperKind, AreProper}
 use Rattle.lucy_clock.specs.declared.node_clock.NodeClock.{NodeClock}
-use Rattle.lucy_meaning.specs.Spots.{Spot, at, site_in, node_at, kind_at, IsSpot, argument, result_place, param_form, param_reads, spot_form, spot_reads, form_at, reads_at}
-use Rattle.lucy_meaning.proofs.Parts.{callee_in, kind_of, kind_in, form_if, reads_if}
-use Rattle.lucy_meaning.proofs.Lists.{there}
-use Rattle.lucy_meaning.proofs.Paths.{low_of, proper_at}
-use Rattle.lucy_meaning.proofs.Closed.{get_take, place_of, call_of}
+use Rattle.lucy_kahn.specs.Spots.{Spot, at, site_in, node_at, kind_at, IsSpot, argument, result_place, param_form, param_reads, spot_form, spot_reads, form_at, reads_at}
+use Rattle.lucy_kahn.proofs.Parts.{callee_in, kind_of, kind_in, form_if, reads_if}
+use Rattle.lucy_kahn.proofs.JoinedLists.{there}
+use Rattle.lucy_kahn.proofs.Paths.{low_of, proper_at}
+use Rattle.lucy_kahn.proofs.Closed.{get_take, place_of, call_of}
 use Rattle.lucy_freeze.specs.Frozen.{Pair, Renumbering, pair, IsReadFor, SaysSame, IsFrozenPlace, IsFrozenCall, IsFrozenNode, IsFrozenAt, AreFrozen}
 
 -- two paths of calls lead to a node and its frozen one

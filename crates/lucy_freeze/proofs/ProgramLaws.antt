@@ -6,12 +6,12 @@ use Rattle.lucy_host.specs.Operators.{Operator}
 use Rattle.lucy_place.specs.declared.placed.PlacedNode.{PlacedNode}
 use Rattle.lucy_place.specs.Proper.{AreProper}
 use Rattle.lucy_clock.specs.declared.node_clock.NodeClock.{NodeClock}
-use Rattle.lucy_cause.specs.Schedules.{events_at}
+use Rattle.lucy_net.specs.Schedules.{events_at}
 use Rattle.lucy_program.specs.declared.accepted.Accepted.{Accepted}
 use Rattle.lucy_program.specs.declared.options.Options.{Options}
 use Rattle.lucy_program.specs.Accepting.{IsAccepted}
 use Rattle.lucy_program.proofs.AcceptedLaws.{text_proper}
-use Rattle.lucy_meaning.specs.Horizons.{Suffice}
+use Rattle.lucy_kahn.specs.Horizons.{Suffice}
 use Rattle.lucy_results.specs.Streams.{param_words, main_streams}
 use Rattle.lucy_results.specs.Running.{HasSchedule}
 use Rattle.lucy_freeze.specs.Frozen.{AreFrozen}

@@ -4,7 +4,7 @@ use Rattle.lucy_host.specs.declared.kind.HostKind.{HostKind}
 use Rattle.lucy_host.specs.Operators.{Operator}
 use Rattle.lucy_program.specs.declared.accepted.Accepted.{Accepted}
 use Rattle.lucy_program.specs.declared.options.Options.{Options}
-use Rattle.lucy_meaning.specs.Horizons.{Suffice}
+use Rattle.lucy_kahn.specs.Horizons.{Suffice}
 use Rattle.lucy_results.specs.Streams.{param_words, main_streams}
 use Rattle.lucy_place.specs.declared.placed.PlacedNode.{PlacedNode}
 use Rattle.lucy_place.specs.WrittenNodes.{IsWritten}

@@ -14,16 +14,16 @@ use Rattle.lucy_net.specs.declared.net.Actor.{Actor}
 use Rattle.lucy_net.specs.declared.net.Net.{Net}
 use Rattle.lucy_net.specs.Plans.{giver}
 use Rattle.lucy_net.specs.Causal.{actor_place, net_places}
-use Rattle.lucy_meaning.specs.Spots.{Spot, at, main_of, kind_at, spot_reads, results_in, IsSpot}
-use Rattle.lucy_meaning.specs.Sizes.{all_places}
-use Rattle.lucy_meaning.specs.Numbers.{number}
-use Rattle.lucy_meaning.proofs.Lists.{there, mapped}
-use Rattle.lucy_meaning.proofs.Closed.{closed_at, each_of}
-use Rattle.lucy_meaning.proofs.Numbered.{number_below, number_reached}
+use Rattle.lucy_kahn.specs.Spots.{Spot, at, main_of, kind_at, spot_reads, results_in, IsSpot}
+use Rattle.lucy_kahn.specs.Sizes.{all_places}
+use Rattle.lucy_kahn.specs.Numbers.{number}
+use Rattle.lucy_kahn.proofs.JoinedLists.{there, mapped}
+use Rattle.lucy_kahn.proofs.Closed.{closed_at, each_of}
+use Rattle.lucy_kahn.proofs.Numbered.{number_below, number_reached}
 use Rattle.lucy_flat.specs.Flat.{IsFlat}
 use Rattle.lucy_flat.proofs.OutputLaws.{main_result}
-use Rattle.lucy_cause.specs.declared.error.Item.{Item as CodeItem}
-use Rattle.lucy_cause.specs.Faults.{item_of}
+use Rattle.lucy_net.specs.declared.error.Item.{Item as CodeItem}
+use Rattle.lucy_net.specs.Faults.{item_of}
 
 module _ (nodes : List PlacedNode) (clocks : List NodeClock) (net : Net) (proper : AreProper nodes) (flat : IsFlat nodes clocks net) where
   -- what the actor of an instance place reads is one of an instance place

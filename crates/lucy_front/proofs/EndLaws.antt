@@ -9,13 +9,13 @@ use Rattle.std.proofs.lemmas.List.Sorted.{IsNonDecreasingBy-from_default}
 use Rattle.std.proofs.lemmas.Option.{same_Some, slice_get_within}
 use Rattle.lucy_place.specs.declared.placed.PlacedNode.{PlacedNode}
 use Rattle.lucy_place.specs.declared.entry.CallSite.{CallSite}
-use Rattle.lucy_meaning.specs.Spots.{at as at_place, node_at, main_of, site_in}
-use Rattle.lucy_meaning.proofs.Parts.{callee_in}
-use Rattle.lucy_meaning.specs.Numbers.{begin_from, call_offset}
-use Rattle.lucy_meaning.specs.Sizes.{capped, own_places, size_of}
-use Rattle.lucy_meaning.proofs.Tables.{total_law}
-use Rattle.lucy_meaning.proofs.Closed.{place_spot}
-use Rattle.lucy_meaning.specs.Below.{Below}
+use Rattle.lucy_kahn.specs.Spots.{at as at_place, node_at, main_of, site_in}
+use Rattle.lucy_kahn.proofs.Parts.{callee_in}
+use Rattle.lucy_kahn.specs.Numbers.{begin_from, call_offset}
+use Rattle.lucy_kahn.specs.Sizes.{capped, own_places, size_of}
+use Rattle.lucy_kahn.proofs.Tables.{total_law}
+use Rattle.lucy_kahn.proofs.Closed.{place_spot}
+use Rattle.lucy_kahn.specs.Below.{Below}
 use Rattle.lucy_flat.proofs.AssemblyLaws.{get_left, get_last}
 use Rattle.lucy_flat.proofs.ExtentLaws.{got, sum_take, take_whole}
 use Rattle.lucy_program.specs.Names.{of_one, place_name}

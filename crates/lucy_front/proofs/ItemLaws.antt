@@ -1,7 +1,7 @@
 -- The lines of items.
 use Rattle.std.proofs.Common.{ℕ, ◌≡◌, List, [], ◌∷◌, length, refl, inl, inr, arith}
 use Rattle.std.specs.Prelude.{◌⊎◌}
-use Rattle.lucy_cause.specs.declared.error.Item.{Item}
+use Rattle.lucy_net.specs.declared.error.Item.{Item}
 use Rattle.lucy_front.specs.Refusals.{item_lines}
 
 -- none are left without names, or without items

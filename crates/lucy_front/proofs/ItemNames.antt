@@ -4,7 +4,7 @@ use Rattle.std.specs.Prelude.{◌⊎◌, slice_get}
 use Rattle.std.proofs.lemmas.List.{take_more, length_push}
 use Rattle.std.proofs.lemmas.Option.{slice_get_within, get_or_from_slice_get}
 use Rattle.lucy_place.specs.declared.placed.PlacedNode.{PlacedNode}
-use Rattle.lucy_cause.specs.declared.error.Item.{Item}
+use Rattle.lucy_net.specs.declared.error.Item.{Item}
 use Rattle.lucy_front.specs.Items.{IsActorName, AreNamesOf}
 use Rattle.lucy_front.proofs.MoreClocks.{get_back}
 

@@ -6,11 +6,11 @@ use Rattle.lucy_place.specs.declared.placed.PlacedNode.{PlacedNode}
 use Rattle.lucy_place.specs.Proper.{AreProper}
 use Rattle.lucy_clock.specs.declared.node_clock.NodeClock.{NodeClock}
 use Rattle.lucy_net.specs.declared.net.Net.{Net}
-use Rattle.lucy_cause.specs.declared.error.CauseFault.{CauseFault}
-use Rattle.lucy_cause.specs.declared.error.CauseFault.TheVariants as cause
-use Rattle.lucy_cause.specs.Schedules.{Timetable, IsScheduleOf, RefusesTimetable as RefusesSchedule}
+use Rattle.lucy_net.specs.declared.error.CauseFault.{CauseFault}
+use Rattle.lucy_net.specs.declared.error.CauseFault.TheVariants as cause
+use Rattle.lucy_net.specs.Schedules.{Timetable, IsScheduleOf, RefusesTimetable as RefusesSchedule}
 use Rattle.lucy_flat.proofs.OneNet.{one_net, one_limit, never_both as net_kept}
-use Rattle.lucy_cause.proofs.OneAnswer.{never_both as schedule_kept, one_refusal as one_fault}
+use Rattle.lucy_net.proofs.OneAnswer.{never_both as schedule_kept, one_refusal as one_fault}
 use Rattle.lucy_program.specs.declared.options.Options.{Options}
 use Rattle.lucy_program.specs.declared.accepted.Accepted.{Accepted}
 use Rattle.lucy_front.specs.declared.refusal.Refusal.{Refusal}

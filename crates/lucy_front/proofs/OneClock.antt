@@ -8,7 +8,7 @@ use Rattle.lucy_word.specs.Stored.{IsStored}
 use Rattle.lucy_word.specs.Shortest.{Same}
 use Rattle.lucy_word.specs.Adaptable.{IsSize}
 use Rattle.lucy_word.proofs.ShortLaws.{shortest_one}
-use Rattle.lucy_order.proofs.OneVerdict.{one_size}
+use Rattle.lucy_check.proofs.OneVerdict.{one_size}
 use Rattle.lucy_place.specs.declared.placed.PlacedNode.{PlacedNode}
 use Rattle.lucy_place.specs.Proper.{IsProperNode}
 use Rattle.lucy_place.specs.WrittenNodes.{IsWritten}

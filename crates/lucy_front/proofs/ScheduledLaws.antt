@@ -2,7 +2,7 @@
 use Rattle.std.proofs.Common.{◌<◌, ◌≡◌, List, subst, inl, arith}
 use Rattle.lucy_place.specs.declared.placed.PlacedNode.{PlacedNode}
 use Rattle.lucy_clock.specs.declared.node_clock.NodeClock.{NodeClock}
-use Rattle.lucy_meaning.specs.Sizes.{all_places}
+use Rattle.lucy_kahn.specs.Sizes.{all_places}
 use Rattle.lucy_flat.specs.Refusals.{RefusesFlat}
 use Rattle.lucy_flat.specs.declared.error.FlatError.{FlatError}
 use Rattle.lucy_flat.specs.declared.error.FlatError.TheVariants as flat

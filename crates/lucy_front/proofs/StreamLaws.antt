@@ -8,7 +8,7 @@ use Rattle.lucy_types.specs.declared.ty.Ty.{Ty}
 use Rattle.lucy_types.specs.Tables.{table_at}
 use Rattle.lucy_types.specs.Programs.{IsTyped}
 use Rattle.lucy_clock.specs.declared.node_clock.NodeClock.{NodeClock}
-use Rattle.lucy_meaning.specs.Spots.{main_of}
+use Rattle.lucy_kahn.specs.Spots.{main_of}
 use Rattle.lucy_flat.specs.Instances.{words_in}
 use Rattle.lucy_program.specs.declared.options.Options.{Options}
 use Rattle.lucy_program.specs.Clocked.{AreClocksOf}

@@ -1,7 +1,7 @@
 -- How far behind its begin each part of an instance ends: its own places, and then the instance of each of its calls.
 use Rattle.std.specs.Prelude.{ℕ, ◌+◌, ◌≤◌, ◌≡◌, List, Some, length, take, sum_by, slice_get, slice_index}
 use Rattle.lucy_place.specs.declared.placed.PlacedNode.{PlacedNode}
-use Rattle.lucy_meaning.specs.Sizes.{capped, size_of}
+use Rattle.lucy_kahn.specs.Sizes.{capped, size_of}
 
 -- the end of the instances of the first calls
 abbrev pub end_of : List PlacedNode → PlacedNode → ℕ → ℕ

@@ -2,9 +2,9 @@
 use Rattle.std.specs.Prelude.{ℕ, ◌≡◌, List, [], ◌∷◌, ◌++◌, Some, length, slice_get, codes}
 use Rattle.std.specs.Fmt.{decimal}
 use Rattle.lucy_place.specs.declared.placed.PlacedNode.{PlacedNode}
-use Rattle.lucy_meaning.specs.Spots.{Spot, IsSpot, node_at}
-use Rattle.lucy_meaning.specs.Numbers.{number}
-use Rattle.lucy_cause.specs.declared.error.Item.{Item}
+use Rattle.lucy_kahn.specs.Spots.{Spot, IsSpot, node_at}
+use Rattle.lucy_kahn.specs.Numbers.{number}
+use Rattle.lucy_net.specs.declared.error.Item.{Item}
 use Rattle.lucy_program.specs.Names.{of_one, place_name}
 
 -- `callA.callB.` for the calls that lead from main to an instance

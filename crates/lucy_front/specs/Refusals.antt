@@ -12,7 +12,7 @@ use Rattle.lucy_place.specs.declared.placed.PlacedNode.{PlacedNode}
 use Rattle.lucy_need.specs.declared.need.Need.{Need}
 use Rattle.lucy_check.specs.declared.fault.CheckFault.{CheckFault}
 use Rattle.lucy_check.specs.declared.fault.CheckFault.TheVariants as fault
-use Rattle.lucy_cause.specs.declared.error.Item.{Item}
+use Rattle.lucy_net.specs.declared.error.Item.{Item}
 use Rattle.lucy_front.specs.declared.refusal.Refusal.{Refusal}
 use Rattle.lucy_front.specs.declared.refusal.Refusal.TheVariants.{Syntax, Names, Types, Node, Cause, Limit as LimitPassed, OutOfMemory}
 use Rattle.lucy_front.specs.declared.fault.NodeFault.{NodeFault}

@@ -6,8 +6,8 @@ use Rattle.lucy_net.specs.declared.net.Net.{Net}
 use Rattle.lucy_flat.specs.declared.error.FlatError.{FlatError}
 use Rattle.lucy_flat.specs.declared.error.FlatError.TheVariants as flat
 use Rattle.lucy_flat.specs.Refusals.{RefusesFlat}
-use Rattle.lucy_cause.specs.declared.error.CauseFault.TheVariants as cause
-use Rattle.lucy_cause.specs.Schedules.{RefusesTimetable as RefusesSchedule}
+use Rattle.lucy_net.specs.declared.error.CauseFault.TheVariants as cause
+use Rattle.lucy_net.specs.Schedules.{RefusesTimetable as RefusesSchedule}
 use Rattle.lucy_front.specs.declared.refusal.Refusal.{Refusal}
 use Rattle.lucy_front.specs.declared.refusal.Refusal.TheVariants.{Cause, Limit as LimitPassed, OutOfMemory}
 use Rattle.lucy_front.specs.Items.{AreNamesOf}

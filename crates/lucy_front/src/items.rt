@@ -3,16 +3,16 @@ ghost use Rattle.std.specs.Prelude.{ℕ, List, ◌≡◌, ◌+◌, ◌-◌, ◌^
 ghost use Rattle.std.specs.List.{AllByRecursion};
 ghost use Rattle.std.specs.List.Sorted.{IsNonDecreasing};
 ghost use Rattle.lucy_place.specs.declared.placed.PlacedNode.{PlacedNode as Node};
-ghost use Rattle.lucy_meaning.specs.Spots.{node_at, main_of};
-ghost use Rattle.lucy_meaning.specs.Numbers.{begin_from};
-ghost use Rattle.lucy_meaning.specs.Sizes.{AreCapped, size_of, all_places};
+ghost use Rattle.lucy_kahn.specs.Spots.{node_at, main_of};
+ghost use Rattle.lucy_kahn.specs.Numbers.{begin_from};
+ghost use Rattle.lucy_kahn.specs.Sizes.{AreCapped, size_of, all_places};
 ghost use Rattle.lucy_front.specs.Items.{path_text, IsActorName, AreNamesOf};
 ghost use Rattle.lucy_front.specs.Ends.{AreEndsTo, AreAllEnds};
 
 use crate::clocking::push;
-use lucy_cause::Item;
 use lucy_clock::Numbers64;
-use lucy_meaning::sizes;
+use lucy_kahn::sizes;
+use lucy_net::Item;
 use lucy_place::Placed;
 use lucy_program::{bytes, place_name};
 use lucy_text::Text;

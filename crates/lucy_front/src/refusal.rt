@@ -5,10 +5,9 @@ ghost use Rattle.lucy_front.specs.Unscheduled.{flat_refusal};
 ghost use Rattle.lucy_front.specs.Refusing.{syntax_refusal, names_refusal};
 
 use crate::fault::NodeFault;
-use lucy_cause::Item;
 use lucy_flat::FlatError;
-use lucy_net::Net;
 use lucy_naming::NameError;
+use lucy_net::{Item, Net};
 use lucy_place::Placed;
 use lucy_syntax::SyntaxError;
 use lucy_text::Text;

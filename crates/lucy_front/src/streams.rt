@@ -10,8 +10,7 @@ ghost use Rattle.lucy_program.specs.Scheduled as spec;
 
 use crate::clocking::push;
 use lucy_clock::NodeClock;
-use lucy_lines::InputSpec;
-use lucy_output::OutputSpec;
+use lucy_lines::{InputSpec, OutputSpec};
 use lucy_place::{Placed, PlacedNode};
 use lucy_program::{param_places, place_name};
 use lucy_types::Typed;

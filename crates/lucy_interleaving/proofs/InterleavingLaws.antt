@@ -29,19 +29,19 @@ use Rattle.lucy_net.specs.declared.net.Net.{Net}
 use Rattle.lucy_net.specs.Plans.{link_of, giver, taker, plan, net_system}
 use Rattle.lucy_net.specs.Proper.{IsProperRing}
 use Rattle.lucy_net.specs.Causal.{net_places}
-use Rattle.lucy_net.specs.Schedules.{IsSound}
+use Rattle.lucy_net.specs.Orders.{IsSound}
 use Rattle.lucy_net.proofs.WhereLaws.{operand_of}
 use Rattle.lucy_net.proofs.NetLaws.{link_is, plugged, to_here, taken_times, ring_cases}
 use Rattle.lucy_net.proofs.BackLaws.{same_places}
-use Rattle.lucy_cause.specs.Schedules.{events_at}
+use Rattle.lucy_net.specs.Schedules.{events_at}
 use Rattle.lucy_core.specs.Seen.{machine_on}
-use Rattle.lucy_meaning.specs.Spots.{Spot, at, main_of, kind_at, results_in, IsSpot}
-use Rattle.lucy_meaning.specs.Sizes.{all_places}
-use Rattle.lucy_meaning.specs.Numbers.{number}
-use Rattle.lucy_meaning.specs.Kahn.{kahn}
-use Rattle.lucy_meaning.specs.Horizons.{Suffice}
-use Rattle.lucy_meaning.proofs.Lists.{there}
-use Rattle.lucy_meaning.proofs.Numbered.{number_reached}
+use Rattle.lucy_kahn.specs.Spots.{Spot, at, main_of, kind_at, results_in, IsSpot}
+use Rattle.lucy_kahn.specs.Sizes.{all_places}
+use Rattle.lucy_kahn.specs.Numbers.{number}
+use Rattle.lucy_kahn.specs.Kahn.{kahn}
+use Rattle.lucy_kahn.specs.Horizons.{Suffice}
+use Rattle.lucy_kahn.proofs.JoinedLists.{there}
+use Rattle.lucy_kahn.proofs.Numbered.{number_reached}
 use Rattle.lucy_flat.specs.Instances.{index_at}
 use Rattle.lucy_flat.specs.Flat.{ring_size, IsFlat}
 use Rattle.lucy_flat.specs.Clocked.{AreClocked}

@@ -16,12 +16,12 @@ use Rattle.lucy_net.specs.declared.net.RingSpec.{RingSpec}
 use Rattle.lucy_net.specs.declared.net.Net.{Net}
 use Rattle.lucy_net.specs.Plans.{plan}
 use Rattle.lucy_net.proofs.NetLaws.{to_here}
-use Rattle.lucy_cause.specs.Schedules.{Timetable}
+use Rattle.lucy_net.specs.Schedules.{Timetable}
 use Rattle.lucy_core.specs.Seen.{Seen, machine_on, machine_of, state_of, first_seen, after_picks}
 use Rattle.lucy_runner.specs.Views.{RingView, RunnerView, AreRingsIn, inputs_for, first_runner}
 use Rattle.lucy_runner.specs.Rounds.{IsRoundTo}
-use Rattle.lucy_meaning.specs.Spots.{main_of}
-use Rattle.lucy_meaning.proofs.Lists.{there}
+use Rattle.lucy_kahn.specs.Spots.{main_of}
+use Rattle.lucy_kahn.proofs.JoinedLists.{there}
 use Rattle.lucy_kahn.specs.Turns.{params_in}
 use Rattle.lucy_flat.specs.Flat.{IsFlat}
 use Rattle.lucy_flat.specs.Clocked.{AreClocked}

@@ -8,16 +8,16 @@ use Rattle.lucy_word.proofs.BitsLaws.{ones_to-more}
 use Rattle.lucy_word.proofs.IndexLaws.{ones_to-rises}
 use Rattle.lucy_stream.specs.Items.{item_at, list_at}
 use Rattle.lucy_stream.proofs.MergeLaws.{get_some}
-use Rattle.lucy_output.specs.declared.output.OutputSpec.{OutputSpec}
-use Rattle.lucy_output.specs.Outputs.{value_at}
+use Rattle.lucy_lines.specs.declared.output.OutputSpec.{OutputSpec}
+use Rattle.lucy_lines.specs.Outputs.{value_at}
 use Rattle.lucy_place.specs.declared.placed.PlacedNode.{PlacedNode}
 use Rattle.lucy_types.specs.declared.ty.Ty.{Ty}
 use Rattle.lucy_types.specs.Tables.{table_at}
 use Rattle.lucy_clock.specs.declared.node_clock.NodeClock.{NodeClock}
-use Rattle.lucy_meaning.specs.Spots.{main_of, results_in}
-use Rattle.lucy_meaning.proofs.Lists.{mapped}
+use Rattle.lucy_kahn.specs.Spots.{main_of, results_in}
+use Rattle.lucy_kahn.proofs.JoinedLists.{mapped}
 use Rattle.lucy_flat.specs.Instances.{words_in}
-use Rattle.lucy_cause.specs.Schedules.{events_at}
+use Rattle.lucy_net.specs.Schedules.{events_at}
 use Rattle.lucy_results.specs.Streams.{main_word, result_words}
 use Rattle.lucy_results.specs.Running.{HasSchedule}
 use Rattle.lucy_program.specs.declared.accepted.Accepted.{Accepted}

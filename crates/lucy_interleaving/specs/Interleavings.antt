@@ -8,11 +8,11 @@ use Rattle.lucy_stream.specs.States.{Machine, State, start, held, events, IsStat
 use Rattle.lucy_place.specs.declared.entry.PlaceKind.TheVariants.{Buffer}
 use Rattle.lucy_net.specs.Plans.{giver, taker}
 use Rattle.lucy_core.specs.Seen.{machine_on}
-use Rattle.lucy_meaning.specs.Spots.{Spot, at, main_of, kind_at, results_in, IsSpot}
-use Rattle.lucy_meaning.specs.Sizes.{all_places}
-use Rattle.lucy_meaning.specs.Numbers.{number}
-use Rattle.lucy_meaning.specs.Kahn.{kahn}
-use Rattle.lucy_meaning.specs.Horizons.{Suffice}
+use Rattle.lucy_kahn.specs.Spots.{Spot, at, main_of, kind_at, results_in, IsSpot}
+use Rattle.lucy_kahn.specs.Sizes.{all_places}
+use Rattle.lucy_kahn.specs.Numbers.{number}
+use Rattle.lucy_kahn.specs.Kahn.{kahn}
+use Rattle.lucy_kahn.specs.Horizons.{Suffice}
 use Rattle.lucy_flat.specs.Instances.{index_at, sizes_in}
 use Rattle.lucy_results.specs.Streams.{param_words}
 use Rattle.lucy_program.specs.declared.accepted.Accepted.{Accepted}

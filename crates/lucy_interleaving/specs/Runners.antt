@@ -2,12 +2,12 @@
 use Rattle.std.specs.Prelude.{ℕ, ◌+◌, ◌≤◌, ◌≡◌, List, [], ◌∷◌, ◌++◌, length, ℤ, Some, slice_get}
 use Rattle.lucy_host.specs.declared.kind.HostKind.{HostKind}
 use Rattle.lucy_host.specs.Operators.{Operator, kinds_of}
-use Rattle.lucy_cause.specs.Schedules.{Timetable}
+use Rattle.lucy_net.specs.Schedules.{Timetable}
 use Rattle.lucy_net.specs.Plans.{taker}
 use Rattle.lucy_core.specs.Seen.{Seen, state_of, first_seen, after_picks}
 use Rattle.lucy_runner.specs.Views.{RingView, RunnerView, first_runner}
-use Rattle.lucy_meaning.specs.Spots.{Spot, main_of}
-use Rattle.lucy_meaning.specs.Numbers.{number}
+use Rattle.lucy_kahn.specs.Spots.{Spot, main_of}
+use Rattle.lucy_kahn.specs.Numbers.{number}
 use Rattle.lucy_kahn.specs.Turns.{params_in}
 use Rattle.lucy_program.specs.declared.accepted.Accepted.{Accepted}
 use Rattle.lucy_program.specs.declared.options.Options.{Options}

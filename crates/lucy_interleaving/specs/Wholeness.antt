@@ -3,9 +3,9 @@ use Rattle.std.specs.Prelude.{ℕ, ◌≤◌, ◌≡◌, true, List, length, ℤ
 use Rattle.lucy_word.specs.Bits.{Bits, bit_at, ones_to}
 use Rattle.lucy_host.specs.Operators.{Operator, kinds_of}
 use Rattle.lucy_stream.specs.Items.{list_at}
-use Rattle.lucy_output.specs.declared.output.OutputSpec.{OutputSpec}
-use Rattle.lucy_output.specs.Outputs.{value_at}
-use Rattle.lucy_meaning.specs.Spots.{Spot, IsSpot}
+use Rattle.lucy_lines.specs.declared.output.OutputSpec.{OutputSpec}
+use Rattle.lucy_lines.specs.Outputs.{value_at}
+use Rattle.lucy_kahn.specs.Spots.{Spot, IsSpot}
 use Rattle.lucy_flat.specs.Instances.{IsSpotWord}
 use Rattle.lucy_results.specs.Streams.{main_streams}
 use Rattle.lucy_program.specs.declared.accepted.Accepted.{Accepted}

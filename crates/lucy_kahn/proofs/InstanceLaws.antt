@@ -8,13 +8,13 @@ use Rattle.std.proofs.lemmas.Option.{same_Some, slice_get_within, get_or_from_sl
 use Rattle.lucy_place.specs.declared.placed.PlacedNode.{PlacedNode}
 use Rattle.lucy_place.specs.declared.entry.CallSite.{CallSite}
 use Rattle.lucy_place.specs.Proper.{AreProper}
-use Rattle.lucy_meaning.specs.Spots.{node_at, site_in}
-use Rattle.lucy_meaning.proofs.Parts.{callee_in}
-use Rattle.lucy_meaning.specs.Sizes.{total_of}
-use Rattle.lucy_meaning.proofs.Lists.{there, get_left, get_right}
-use Rattle.lucy_meaning.proofs.Tables.{calls_below, total_law}
-use Rattle.lucy_meaning.proofs.Paths.{low_of}
-use Rattle.lucy_meaning.proofs.Closed.{get_take, call_of}
+use Rattle.lucy_kahn.specs.Spots.{node_at, site_in}
+use Rattle.lucy_kahn.proofs.Parts.{callee_in}
+use Rattle.lucy_kahn.specs.Sizes.{total_of}
+use Rattle.lucy_kahn.proofs.JoinedLists.{there, get_left, get_right}
+use Rattle.lucy_kahn.proofs.Tables.{calls_below, total_law}
+use Rattle.lucy_kahn.proofs.Paths.{low_of}
+use Rattle.lucy_kahn.proofs.Closed.{get_take, call_of}
 use Rattle.lucy_kahn.proofs.ListSteps.{next_of}
 use Rattle.lucy_kahn.specs.declared.instances.Caller.{Caller}
 use Rattle.lucy_kahn.specs.declared.instances.Instance.{Instance}

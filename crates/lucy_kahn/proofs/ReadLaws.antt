@@ -7,7 +7,7 @@ use Rattle.lucy_place.specs.declared.placed.PlacedNode.{PlacedNode}
 use Rattle.lucy_place.specs.declared.entry.CallSite.{CallSite}
 use Rattle.lucy_place.specs.declared.entry.PlaceKind.TheVariants.{Param, Result}
 use Rattle.lucy_place.specs.Proper.{IsPlace}
-use Rattle.lucy_meaning.specs.Spots.{node_at}
+use Rattle.lucy_kahn.specs.Spots.{node_at}
 use Rattle.lucy_kahn.specs.declared.instances.Caller.{Caller}
 use Rattle.lucy_kahn.specs.declared.instances.Instance.{Instance}
 use Rattle.lucy_kahn.specs.declared.iterate.Iterate.{Iterate}

@@ -12,8 +12,8 @@ use Rattle.lucy_host.specs.declared.kind.HostKind.{HostKind}
 use Rattle.lucy_place.specs.declared.placed.PlacedNode.{PlacedNode}
 use Rattle.lucy_place.specs.declared.entry.PlaceEntry.{PlaceEntry}
 use Rattle.lucy_place.specs.Proper.{at_one, ArePlaces, AreProper}
-use Rattle.lucy_meaning.specs.Spots.{at, node_at, main_of, results_in, results_of}
-use Rattle.lucy_meaning.specs.Kahn.{kahn}
+use Rattle.lucy_kahn.specs.Spots.{at, node_at, main_of, results_in, results_of}
+use Rattle.lucy_kahn.specs.Kahn.{kahn}
 use Rattle.lucy_kahn.specs.declared.error.KahnError.{KahnError}
 use Rattle.lucy_kahn.specs.declared.error.KahnError.TheVariants.{Limit, OutOfMemory}
 use Rattle.lucy_kahn.specs.declared.instances.Instance.{Instance}

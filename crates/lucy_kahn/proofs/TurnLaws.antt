@@ -12,12 +12,12 @@ use Rattle.lucy_place.specs.declared.entry.PlaceKind.{PlaceKind}
 use Rattle.lucy_place.specs.declared.entry.PlaceKind.TheVariants.{Param, Defined, Lit, Op, Host, When, Merge, Fby, Buffer, Result}
 use Rattle.lucy_place.specs.Proper.{Stands, IsPlace, ArePlaces, IsProperKind, HaveOperators}
 use Rattle.lucy_place.specs.Reads.{operands_of}
-use Rattle.lucy_meaning.specs.Spots.{Spot, at, node_at, main_of, kind_at, IsSpot, spot_form, spot_reads, site_in, argument, result_place}
-use Rattle.lucy_meaning.proofs.Parts.{kind_of, kind_in, form_if, reads_if, callee_in}
-use Rattle.lucy_meaning.specs.Kahn.{kahn}
-use Rattle.lucy_meaning.proofs.Lists.{there, get_range}
-use Rattle.lucy_meaning.proofs.Paths.{low_of, is_at, path_node}
-use Rattle.lucy_meaning.proofs.Closed.{get_take, place_of, call_of, each_of}
+use Rattle.lucy_kahn.specs.Spots.{Spot, at, node_at, main_of, kind_at, IsSpot, spot_form, spot_reads, site_in, argument, result_place}
+use Rattle.lucy_kahn.proofs.Parts.{kind_of, kind_in, form_if, reads_if, callee_in}
+use Rattle.lucy_kahn.specs.Kahn.{kahn}
+use Rattle.lucy_kahn.proofs.JoinedLists.{there, get_range}
+use Rattle.lucy_kahn.proofs.Paths.{low_of, is_at, path_node}
+use Rattle.lucy_kahn.proofs.Closed.{get_take, place_of, call_of, each_of}
 use Rattle.lucy_kahn.specs.declared.instances.Caller.{Caller}
 use Rattle.lucy_kahn.specs.declared.instances.Instance.{Instance}
 use Rattle.lucy_kahn.specs.Outcomes.{most_items}

@@ -4,7 +4,7 @@ use Rattle.lucy_place.specs.declared.placed.PlacedNode.{PlacedNode}
 use Rattle.lucy_place.specs.declared.entry.CallSite.{CallSite}
 use Rattle.lucy_kahn.specs.declared.instances.Caller.{Caller}
 use Rattle.lucy_kahn.specs.declared.instances.Instance.{Instance}
-use Rattle.lucy_meaning.specs.Spots.{node_at}
+use Rattle.lucy_kahn.specs.Spots.{node_at}
 
 -- the instances that calls of an instance make, from a call of this number on
 abbrev pub made : ℕ → ℕ → List CallSite → List Instance

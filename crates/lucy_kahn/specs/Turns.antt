@@ -11,8 +11,8 @@ use Rattle.lucy_place.specs.declared.entry.PlaceKind.{PlaceKind}
 use Rattle.lucy_place.specs.declared.entry.PlaceKind.TheVariants.{Op, Host}
 use Rattle.lucy_place.specs.Proper.{AreProper, Stands}
 use Rattle.lucy_place.specs.Reads.{operands_of}
-use Rattle.lucy_meaning.specs.Spots.{Spot, at, node_at, main_of, spot_form, IsSpot}
-use Rattle.lucy_meaning.specs.Kahn.{kahn}
+use Rattle.lucy_kahn.specs.Spots.{Spot, at, node_at, main_of, spot_form, IsSpot}
+use Rattle.lucy_kahn.specs.Kahn.{kahn}
 use Rattle.lucy_kahn.specs.declared.error.KahnError.{KahnError}
 use Rattle.lucy_kahn.specs.declared.error.KahnError.TheVariants.{Limit, OutOfMemory}
 use Rattle.lucy_kahn.specs.declared.instances.Instance.{Instance}

@@ -1,8 +1,8 @@
 -- What the functions of this crate see of an iterate.
 use Rattle.std.specs.Prelude.{ℕ, suc, List, ℤ}
 use Rattle.lucy_host.specs.declared.kind.HostKind.{HostKind}
-use Rattle.lucy_meaning.specs.Spots.{at}
-use Rattle.lucy_meaning.specs.Kahn.{kahn}
+use Rattle.lucy_kahn.specs.Spots.{at}
+use Rattle.lucy_kahn.specs.Kahn.{kahn}
 use Rattle.lucy_kahn.specs.declared.iterate.Iterate.{Iterate}
 use Rattle.lucy_kahn.specs.Turns.{IsTurn}
 

@@ -1,8 +1,8 @@
 // How many instance places a program has.
 ghost use Rattle.std.specs.Prelude.{◌≡◌};
-ghost use Rattle.lucy_meaning.specs.Sizes.{all_places, capped};
+ghost use Rattle.lucy_kahn.specs.Sizes.{all_places, capped};
 
-use lucy_meaning::sizes;
+use crate::counting::sizes;
 use lucy_place::Placed;
 
 /// How many instance places the program has: the places of main with its calls written out. The greatest 64-bit number,

@@ -2,7 +2,7 @@
 ghost use Rattle.std.specs.Prelude.{◌≡◌, ◌<◌, ℕ, List, Some, length};
 ghost use Rattle.lucy_host.specs.declared.kind.HostKind.{HostKind};
 ghost use Rattle.lucy_place.specs.declared.entry.PlaceKind.TheVariants as kind;
-ghost use Rattle.lucy_meaning.specs.Spots.{node_at};
+ghost use Rattle.lucy_kahn.specs.Spots.{node_at};
 ghost use Rattle.lucy_kahn.specs.Instances.{AreInstances};
 ghost use Rattle.lucy_kahn.specs.Turns.{StandsIn};
 ghost use Rattle.lucy_kahn.specs.Views.{IsBefore, list_after};

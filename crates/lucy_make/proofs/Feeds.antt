@@ -6,14 +6,14 @@ use Rattle.std.proofs.lemmas.Option.{same_Some}
 use Rattle.lucy_text.proofs.OutsideLaws.{followed, AtEnd}
 use Rattle.lucy_text.specs.Outside.{SeenSource}
 use Rattle.lucy_lines.specs.Cuts.{ItemOf, Stop as Halt, At, Before, Cut, input_of}
-use Rattle.lucy_lines.specs.Laws.{CutInPieces}
+use Rattle.lucy_lines.specs.CutLaws.{CutInPieces}
 use Rattle.lucy_lines.specs.Fronts.{most_bytes}
 use Rattle.lucy_lines.specs.declared.input.InputSpec.{InputSpec}
 use Rattle.lucy_lines.specs.declared.reader.TextFault.{TextFault}
 use Rattle.lucy_lines.specs.declared.reader.TextFault.TheVariants.{BadLine, UnknownStream, BadValue, ReadFault, TooLong}
-use Rattle.lucy_feed.specs.declared.feeds.Feed.{Feed}
+use Rattle.lucy_lines.specs.declared.feeds.Feed.{Feed}
 use Rattle.lucy_text.specs.Sources.{ReadStop, Ended, Failed, Open, Drained, StoppedAt, Read}
-use Rattle.lucy_feed.specs.Feeding.{is_closed, StopsFor, IsFeedOf, IsFeed}
+use Rattle.lucy_lines.specs.Feeding.{is_closed, StopsFor, IsFeedOf, IsFeed}
 use Rattle.lucy_run.specs.Feeds.{Feeds}
 
 -- a feed of all of this input

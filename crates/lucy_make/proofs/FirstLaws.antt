@@ -15,8 +15,8 @@ use Rattle.lucy_text.specs.Outside.{SeenSource}
 use Rattle.lucy_place.specs.declared.placed.PlacedNode.{PlacedNode}
 use Rattle.lucy_place.specs.Proper.{AreProper}
 use Rattle.lucy_clock.specs.declared.node_clock.NodeClock.{NodeClock}
-use Rattle.lucy_meaning.specs.Spots.{main_of, results_in}
-use Rattle.lucy_meaning.specs.Horizons.{Suffice}
+use Rattle.lucy_kahn.specs.Spots.{main_of, results_in}
+use Rattle.lucy_kahn.specs.Horizons.{Suffice}
 use Rattle.lucy_results.specs.Streams.{main_word, param_words, result_words, main_stream, main_streams, cut_to}
 use Rattle.lucy_results.specs.Running.{HasSchedule}
 use Rattle.lucy_run.specs.Courses.{CourseView, Program, CanBeRunInBlocks, values, IsAlong, IsNextBlock}

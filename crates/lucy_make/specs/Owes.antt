@@ -3,7 +3,7 @@ use Rattle.std.specs.Prelude.{ℕ, ℤ, ◌≡◌, IsTrue, List, [], Option, Non
 use Rattle.lucy_host.specs.declared.kind.HostKind.{HostKind}
 use Rattle.lucy_lines.specs.declared.reader.TextFault.{TextFault}
 use Rattle.lucy_text.specs.Sources.{ReadStop}
-use Rattle.lucy_feed.specs.Feeding.{is_closed}
+use Rattle.lucy_lines.specs.Feeding.{is_closed}
 use Rattle.lucy_stream.specs.Items.{list_at}
 use Rattle.lucy_results.specs.Streams.{main_streams}
 use Rattle.lucy_program.specs.declared.accepted.Accepted.{Accepted}

@@ -16,7 +16,7 @@ use Rattle.lucy_net.specs.declared.net.Actor.{Actor}
 use Rattle.lucy_net.specs.declared.net.RingSpec.{RingSpec}
 use Rattle.lucy_net.specs.Plans.{form_of, task_of, giver, taker, net_system, done_by}
 use Rattle.lucy_net.specs.Proper.{IsProper, IsProperActor, IsProperRing}
-use Rattle.lucy_net.specs.Schedules.{IsOrder}
+use Rattle.lucy_net.specs.Orders.{IsOrder}
 use Rattle.lucy_net.specs.Instants.{slot_of, slot, firing_of}
 use Rattle.lucy_net.specs.Turning.{IsSteady, Turns, IsTurning}
 use Rattle.lucy_stream.proofs.OperationLaws.{firing_alike}

@@ -13,3 +13,17 @@ mod CursorLaws
 mod EndLaws
 mod PlainLaws
 mod Rows
+pub mod SumLaws
+pub mod Steps
+pub mod PlayLaws
+pub mod StackLaws
+pub mod SettleLaws
+pub mod InstantLaws
+pub mod NeedLaws
+pub mod TurnLaws
+pub mod RowLaws
+pub mod LengthLaws
+pub mod CountLaws
+pub mod AgendaLaws
+pub mod PeriodLaws
+pub mod OneAnswer

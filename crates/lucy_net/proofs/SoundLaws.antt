@@ -15,7 +15,7 @@ use Rattle.lucy_net.specs.declared.net.Actor.{Actor}
 use Rattle.lucy_net.specs.Plans.{form_of, net_system, done_by}
 use Rattle.lucy_net.specs.Proper.{IsProper, IsProperRing}
 use Rattle.lucy_net.specs.Causal.{net_places, items_by, IsOfInstant}
-use Rattle.lucy_net.specs.Schedules.{IsOrder, IsSound}
+use Rattle.lucy_net.specs.Orders.{IsOrder, IsSound}
 use Rattle.lucy_net.specs.Words.{net_words}
 use Rattle.lucy_net.proofs.NetLaws.{actor_ops, done_is, longer, write_counts}
 use Rattle.lucy_net.proofs.WordLaws.{ring_word}

@@ -16,7 +16,7 @@ ghost use Rattle.lucy_net.specs.Plans.{plan, task_of, net_system, done_by};
 ghost use Rattle.lucy_net.specs.Proper.{IsProper, IsSupplied};
 ghost use Rattle.lucy_net.specs.States.{IsUsable, IsActorState, IsNext};
 ghost use Rattle.lucy_net.specs.Causal.{net_places, items_by};
-ghost use Rattle.lucy_net.specs.Schedules.{IsOrder, IsSound};
+ghost use Rattle.lucy_net.specs.Orders.{IsOrder, IsSound};
 ghost use Rattle.lucy_net.specs.Words.{net_words};
 ghost use Rattle.lucy_net.specs.Turning.{IsTurning};
 

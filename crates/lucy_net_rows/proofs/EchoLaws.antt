@@ -12,7 +12,7 @@ use Rattle.lucy_net.specs.declared.net.Net.{Net}
 use Rattle.lucy_net.specs.Plans.{form_of}
 use Rattle.lucy_net.specs.Proper.{IsProperActor, IsProperRing, IsProper, IsSupplied}
 use Rattle.lucy_net.specs.States.{KnowsOperator}
-use Rattle.lucy_cause.specs.Schedules.{Timetable, IsScheduleOf}
+use Rattle.lucy_net.specs.Schedules.{Timetable, IsScheduleOf}
 use Rattle.lucy_core.specs.Seen.{Seen, IsOutputOf, CanMakeCore, first_seen, after_picks}
 use Rattle.lucy_runner.specs.Views.{RingView, RunnerView, input_count, inputs_for, first_runner}
 use Rattle.lucy_runner.specs.Blocks.{longer_inputs, grown_seen}

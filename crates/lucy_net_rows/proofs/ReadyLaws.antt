@@ -13,11 +13,11 @@ use Rattle.lucy_place.specs.declared.placed.PlacedNode.{PlacedNode}
 use Rattle.lucy_clock.specs.declared.node_clock.NodeClock.{NodeClock}
 use Rattle.lucy_net.specs.declared.net.Actor.{Actor}
 use Rattle.lucy_net.specs.declared.net.Net.{Net}
-use Rattle.lucy_cause.specs.Schedules.{Timetable}
+use Rattle.lucy_net.specs.Schedules.{Timetable}
 use Rattle.lucy_core.specs.Seen.{Seen, IsUnbegun, IsOutputOf, done_of, first_seen}
-use Rattle.lucy_meaning.specs.Spots.{main_of, results_in}
-use Rattle.lucy_meaning.specs.Sizes.{all_places}
-use Rattle.lucy_meaning.specs.Horizons.{Suffice, IsHorizon}
+use Rattle.lucy_kahn.specs.Spots.{main_of, results_in}
+use Rattle.lucy_kahn.specs.Sizes.{all_places}
+use Rattle.lucy_kahn.specs.Horizons.{Suffice, IsHorizon}
 use Rattle.lucy_flat.specs.Flat.{IsFlat}
 use Rattle.lucy_net_rows.specs.Ready.{HasOneList}
 

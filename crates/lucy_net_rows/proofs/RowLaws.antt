@@ -2,7 +2,7 @@
 use Rattle.std.proofs.Common.{◌≡◌, List, ℤ, [], Some, length, map, ap, ◌∙◌}
 use Rattle.std.proofs.lemmas.List.{length-map}
 use Rattle.lucy_place.specs.declared.placed.PlacedNode.{PlacedNode}
-use Rattle.lucy_meaning.specs.Spots.{Spot, at, main_of, results_in, results_of}
+use Rattle.lucy_kahn.specs.Spots.{Spot, at, main_of, results_in, results_of}
 
 -- there is a list for each result of main
 pub result_lists : (nodes : List PlacedNode) (node : PlacedNode) (f : Spot → List ℤ) (lists : List (List ℤ)) → lists ≡ map f (results_of nodes) → main_of nodes ≡ Some node → length lists ≡ length node.results

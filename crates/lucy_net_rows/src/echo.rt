@@ -7,10 +7,9 @@ ghost use Rattle.lucy_core.specs.Seen.{IsOver};
 
 use crate::lists::push;
 use crate::ready::one_input;
-use lucy_cause::schedule_of;
 use lucy_core::Core;
 use lucy_host::Ops;
-use lucy_net::{Actor, ActorKind, Actors, Net, Numbers, RingSpec, Rings};
+use lucy_net::{Actor, ActorKind, Actors, Net, Numbers, RingSpec, Rings, schedule_of};
 use lucy_runner::Runner;
 use lucy_word::{OutOfMemory, Word};
 use std::alloc::{AllocError, Global};

@@ -1,6 +1,6 @@
 // What the outputs of main's results have taken.
 ghost use Rattle.std.specs.Prelude.{ℕ, ◌≡◌, List, Some, IsTrue};
-ghost use Rattle.lucy_meaning.specs.Spots.{main_of};
+ghost use Rattle.lucy_kahn.specs.Spots.{main_of};
 ghost use Rattle.lucy_flat.specs.Flat.{IsFlat};
 ghost use Rattle.lucy_clock.specs.declared.node_clock.NodeClock.{NodeClock};
 ghost use Rattle.lucy_net.specs.declared.net.Actor.{Actor};

@@ -3,20 +3,19 @@ ghost use Rattle.std.specs.Prelude.{◌≡◌, ◌≤◌, List, ℤ, length, IfO
 ghost use Rattle.lucy_word.specs.Limits.{limit_number};
 ghost use Rattle.lucy_word.specs.declared.limit.Limit.TheVariants as lim;
 ghost use Rattle.lucy_place.specs.Proper.{HaveOperators};
-ghost use Rattle.lucy_meaning.specs.Horizons.{Suffice};
-ghost use Rattle.lucy_net.specs.Schedules.{IsSound};
-ghost use Rattle.lucy_cause.specs.Schedules.{events_at};
+ghost use Rattle.lucy_kahn.specs.Horizons.{Suffice};
+ghost use Rattle.lucy_net.specs.Orders.{IsSound};
+ghost use Rattle.lucy_net.specs.Schedules.{events_at};
 ghost use Rattle.lucy_core.specs.Seen.{IsUnbegun};
 ghost use Rattle.lucy_flat.specs.Flat.{IsFlat};
 ghost use Rattle.lucy_flat.specs.Clocked.{AreClocked};
 ghost use Rattle.lucy_results.specs.Streams.{param_words};
 ghost use Rattle.lucy_net_rows.specs.Ready.{HasOneList};
 
-use lucy_cause::Schedule;
 use lucy_clock::NodeClock;
 use lucy_core::Core;
 use lucy_host::{Inputs, Ops};
-use lucy_net::Net;
+use lucy_net::{Net, Schedule};
 use lucy_place::Placed;
 use lucy_results::{horizon, nets_can_be_run, param_words};
 use lucy_word::{Limit, OutOfMemory};

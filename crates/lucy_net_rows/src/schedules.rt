@@ -2,8 +2,7 @@
 ghost use Rattle.std.specs.Prelude.{◌≤◌};
 
 use crate::page::Page;
-use lucy_cause::Schedule;
-use lucy_net::Net;
+use lucy_net::{Net, Schedule};
 
 // The instants of longer schedules are not shown, nor are the events of each actor where there are more.
 const MOST_INSTANTS: u64 = 8;

@@ -16,7 +16,7 @@ use Rattle.lucy_naming.specs.Numbering.{Known, Next, past, inside, entries, all_
 use Rattle.lucy_naming.specs.Nodes.{declared_entry, left_entries, past_def, defined, rights, first_next, known_in, node_entries, placed_node}
 use Rattle.lucy_place.specs.Standing.{at_one}
 use Rattle.lucy_naming.specs.Streams.{streams, wanted, declared, def_names}
-use Rattle.lucy_meaning.proofs.Lists.{get_right}
+use Rattle.lucy_kahn.proofs.JoinedLists.{get_right}
 use Rattle.lucy_picture.specs.Forms.{times, forms, all_forms, def_forms, form_at, IsOfForm}
 
 -- each place is that of its form, one after the other

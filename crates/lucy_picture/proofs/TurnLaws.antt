@@ -16,8 +16,8 @@ use Rattle.lucy_place.specs.Reads.{operands_of}
 use Rattle.lucy_types.proofs.ListLaws.{at_one_within}
 use Rattle.lucy_need.specs.Meeting.{assigned}
 use Rattle.lucy_clock.specs.Clocks.{clocks_of}
-use Rattle.lucy_cause.specs.Lengths.{AreLengths}
-use Rattle.lucy_cause.proofs.LengthLaws.{lengths_more, lengths_too_long}
+use Rattle.lucy_net.specs.Lengths.{AreLengths}
+use Rattle.lucy_net.proofs.LengthLaws.{lengths_more, lengths_too_long}
 use Rattle.lucy_program.specs.Report.{first_operand}
 use Rattle.lucy_picture.specs.Charts.{named_places}
 use Rattle.lucy_picture.specs.Turns.{buffer_clocks, shown_clocks, AreTooLong}

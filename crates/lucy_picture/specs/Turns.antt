@@ -5,7 +5,7 @@ use Rattle.lucy_word.specs.Bits.{Bits}
 use Rattle.lucy_word.specs.Limits.{limit_number}
 use Rattle.lucy_word.specs.declared.limit.Limit.TheVariants as limit
 use Rattle.lucy_place.specs.declared.placed.PlacedNode.{PlacedNode}
-use Rattle.lucy_cause.specs.Lengths.{AreLengths}
+use Rattle.lucy_net.specs.Lengths.{AreLengths}
 use Rattle.lucy_program.specs.Report.{first_operand}
 use Rattle.lucy_picture.specs.declared.turn.Turn.{Turn}
 use Rattle.lucy_picture.specs.Charts.{named_places}

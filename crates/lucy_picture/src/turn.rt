@@ -9,7 +9,7 @@ ghost use Rattle.lucy_place.specs.declared.placed.PlacedNode.{PlacedNode as Node
 ghost use Rattle.lucy_place.specs.Proper.{IsProperNode};
 ghost use Rattle.lucy_need.specs.Meeting.{assigned};
 ghost use Rattle.lucy_clock.specs.declared.node_clock.NodeClock.{NodeClock as Clock};
-ghost use Rattle.lucy_cause.specs.Lengths.{AreLengths};
+ghost use Rattle.lucy_net.specs.Lengths.{AreLengths};
 ghost use Rattle.lucy_program.specs.declared.options.Options.{Options as Choices};
 ghost use Rattle.lucy_program.specs.Accepting.{IsAccepted};
 ghost use Rattle.lucy_picture.specs.Turns.{buffer_clocks, shown_clocks, whole, AreTooLong};

@@ -2,17 +2,16 @@
 ghost use Rattle.std.specs.Prelude.{◌<◌, ◌≤◌, ◌≡◌, ◌^◌, ℕ, List, length, IfOk, [], ◌⊎◌, true, OnOk, OnErr, Ok};
 ghost use Rattle.lucy_lines.specs.Fronts.{most_bytes};
 ghost use Rattle.lucy_text.specs.Sources.{ReadStop, Read};
-ghost use Rattle.lucy_feed.specs.Feeding.{IsFeed, IsAsked, values_by_stream, OneFeed};
+ghost use Rattle.lucy_lines.specs.Feeding.{IsFeed, IsAsked, values_by_stream, OneFeed};
 ghost use Rattle.lucy_text.specs.Outside.{SeenSource};
-ghost use Rattle.lucy_feed.specs.Resuming.{HasRead, AreFresh, AreMet, IsShort, ReadsWhile, GivesUp, ReadsMore, PassesMore};
+ghost use Rattle.lucy_lines.specs.Resuming.{HasRead, AreFresh, AreMet, IsShort, ReadsWhile, GivesUp, ReadsMore, PassesMore};
 
-use lucy_feed::{Feed, FeedReader};
-use lucy_lines::InputSpec;
+use lucy_lines::{Feed, FeedReader, InputSpec};
 use lucy_text::Source;
 use lucy_word::OutOfMemory;
 use std::alloc::Global;
 
-/// Pins `lucy_feed::read_feed`.
+/// Pins `lucy_lines::read_feed`.
 pub fn read_feed<I: Source>(
     alloc: Global,
     inputs: Vec<InputSpec>,
@@ -24,10 +23,10 @@ pub fn read_feed<I: Source>(
     ensures lists { IfOk result (λ feed. length feed.items ≡ length inputs.items) }
     ensures count { (I.seen source.old).faults ≤ (I.seen source.new).faults }
 {
-    lucy_feed::read_feed(alloc, inputs, source)
+    lucy_lines::read_feed(alloc, inputs, source)
 }
 
-/// Pins `lucy_feed::FeedReader::new`.
+/// Pins `lucy_lines::FeedReader::new`.
 pub fn reader(alloc: Global, inputs: Vec<InputSpec>) -> Result<FeedReader, OutOfMemory>
     requires { length inputs.items < 2 ^ 32 }
     ensures begun { IfOk result (λ r. (source : SeenSource) → HasRead inputs.items source source r [] []) }
@@ -37,7 +36,7 @@ pub fn reader(alloc: Global, inputs: Vec<InputSpec>) -> Result<FeedReader, OutOf
     FeedReader::new(alloc, inputs)
 }
 
-/// Pins `lucy_feed::FeedReader::read_to`.
+/// Pins `lucy_lines::FeedReader::read_to`.
 pub fn read_to<I: Source>(
     reader: &mut FeedReader,
     alloc: Global,
@@ -56,7 +55,7 @@ pub fn read_to<I: Source>(
     reader.read_to(alloc, wanted, source)
 }
 
-/// Pins `lucy_feed::FeedReader::read_on`.
+/// Pins `lucy_lines::FeedReader::read_on`.
 pub fn read_on<I: Source>(
     reader: &mut FeedReader,
     alloc: Global,
@@ -73,7 +72,7 @@ pub fn read_on<I: Source>(
     reader.read_on(alloc, source)
 }
 
-/// Pins `lucy_feed::FeedReader::pass_rest`.
+/// Pins `lucy_lines::FeedReader::pass_rest`.
 pub fn pass_rest<I: Source>(reader: &mut FeedReader, source: &mut I)
     ensures reads { PassesMore (I.seen source.old) (I.seen source.new) reader.old reader.new }
     ensures stopped { reader.new.reader.ended ≡ true }
@@ -86,7 +85,7 @@ pub fn pass_rest<I: Source>(reader: &mut FeedReader, source: &mut I)
     reader.pass_rest(source);
 }
 
-/// Pins `lucy_feed::FeedReader::carry_away`.
+/// Pins `lucy_lines::FeedReader::carry_away`.
 pub fn carry_away(reader: &mut FeedReader, alloc: Global) -> Result<(), OutOfMemory>
     ensures ok { IfOk result (λ _. reader.new ≡ record reader.old { fresh = values_by_stream (length reader.old.reader.inputs) [] }) }
     ensures refused { OnErr result (reader.new ≡ reader.old) }
@@ -94,16 +93,16 @@ pub fn carry_away(reader: &mut FeedReader, alloc: Global) -> Result<(), OutOfMem
     reader.carry_away(alloc)
 }
 
-/// Pins `lucy_feed::FeedReader::into_feed`.
+/// Pins `lucy_lines::FeedReader::into_feed`.
 pub fn into_feed(reader: FeedReader) -> Feed
     ensures { result ≡ record { items = reader.fresh; stop = reader.fault } }
 {
     reader.into_feed()
 }
 
-/// Pins `lucy_feed::one_feed`.
+/// Pins `lucy_lines::one_feed`.
 pub fn one_feed()
     ensures { OneFeed }
 {
-    lucy_feed::one_feed();
+    lucy_lines::one_feed();
 }

@@ -1,12 +1,12 @@
 // The plain interpreter.
 ghost use Rattle.std.specs.Prelude.{◌≡◌, ◌⊎◌, Err, map, length, IfOk, IfErr};
-ghost use Rattle.lucy_meaning.specs.Sizes.{all_places, capped};
+ghost use Rattle.lucy_kahn.specs.Sizes.{all_places, capped};
 ghost use Rattle.lucy_word.specs.declared.limit.Limit.TheVariants as limit;
 ghost use Rattle.lucy_host.specs.Host.{Serves, lent};
 ghost use Rattle.lucy_host.specs.Operators.{kinds_of};
 ghost use Rattle.lucy_place.specs.Proper.{HaveOperators};
-ghost use Rattle.lucy_meaning.specs.Spots.{main_of, results_of};
-ghost use Rattle.lucy_meaning.specs.Kahn as meaning;
+ghost use Rattle.lucy_kahn.specs.Spots.{main_of, results_of};
+ghost use Rattle.lucy_kahn.specs.Kahn as meaning;
 ghost use Rattle.lucy_kahn.specs.declared.error.KahnError.TheVariants as error;
 ghost use Rattle.lucy_kahn.specs.Turns.{params_in, IsLongUpto};
 

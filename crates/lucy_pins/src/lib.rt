@@ -5,7 +5,7 @@
 //! less than before, since then the clause and its pin weaken alike, and it judges no body: the crate of the call proves that. Where a
 //! contract is meant to change, its pin changes with it.
 //!
-//! Each crate of which the gate tries no wrong bodies has a module here, named as the crate is, and nothing stands on this one; `lucy_views`,
+//! Each crate of which the gate tries no wrong bodies has a module here, named as the crate or as a part of it, and nothing stands on this one; `lucy_views`,
 //! which stands on nearly all, is pinned where its rows are. Clauses that users rest on are pinned; what only gives back what a value holds,
 //! and laws that serve the proofs of other crates alone, aren't.
 #![tactic(auto)]

@@ -5,7 +5,7 @@ ghost use Rattle.lucy_text.specs.Outside.{HasEnded, NoneFollows};
 ghost use Rattle.lucy_lines.specs.Cuts.{bytes_taken};
 ghost use Rattle.lucy_lines.specs.Nexts.{Answer, Next};
 ghost use Rattle.lucy_lines.specs.Written.{line_of};
-ghost use Rattle.lucy_lines.specs.Laws.{OneCut, JudgedFirst};
+ghost use Rattle.lucy_lines.specs.CutLaws.{OneCut, JudgedFirst};
 
 use lucy_host::DataType;
 use lucy_lines::{InputReader, InputSpec, Line, TextFault, ValueLines};

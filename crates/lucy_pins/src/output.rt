@@ -1,16 +1,16 @@
 // The output lines of a run, at once or block by block.
 ghost use Rattle.std.specs.Prelude.{◌≡◌, ◌≤◌, [], length, OnOk, Err, OnErr, IfOk, false};
-ghost use Rattle.lucy_output.specs.Outputs.{output_text, lines_after};
+ghost use Rattle.lucy_lines.specs.Outputs.{output_text, lines_after};
 ghost use Rattle.lucy_text.specs.Outside.{Writes, Fails};
-ghost use Rattle.lucy_output.specs.Writing.{new_writer};
-ghost use Rattle.lucy_output.specs.Laws.{BlockByBlock};
+ghost use Rattle.lucy_lines.specs.Writing.{new_writer};
+ghost use Rattle.lucy_lines.specs.OutputLaws.{BlockByBlock};
 
 use lucy_host::Inputs;
-use lucy_output::{OutputError, OutputSpec, OutputWriter};
+use lucy_lines::{OutputError, OutputSpec, OutputWriter};
 use lucy_text::{Failed, Sink};
 use std::alloc::Global;
 
-/// Pins `lucy_output::write_outputs`.
+/// Pins `lucy_lines::write_outputs`.
 pub fn write_outputs<K: Sink>(
     alloc: Global,
     outputs: &[OutputSpec],
@@ -26,10 +26,10 @@ pub fn write_outputs<K: Sink>(
     ensures count { (K.seen sink.old).faults ≤ (K.seen sink.new).faults }
     ensures untouched { output_text outputs.now lists.now instants ≡ [] → sink.new ≡ sink.old }
 {
-    lucy_output::write_outputs(alloc, outputs, lists, instants, sink)
+    lucy_lines::write_outputs(alloc, outputs, lists, instants, sink)
 }
 
-/// Pins `lucy_output::OutputWriter::new`.
+/// Pins `lucy_lines::OutputWriter::new`.
 pub fn writer<'a>(alloc: Global, outputs: &'a [OutputSpec]) -> Result<OutputWriter<'a>, OutputError>
     ensures new { IfOk result (λ writer. writer ≡ new_writer outputs.now) }
     ensures refused { OnErr result (result ≡ Err OutputError.OutOfMemory) }
@@ -37,7 +37,7 @@ pub fn writer<'a>(alloc: Global, outputs: &'a [OutputSpec]) -> Result<OutputWrit
     OutputWriter::new(alloc, outputs)
 }
 
-/// Pins `lucy_output::OutputWriter::write`.
+/// Pins `lucy_lines::OutputWriter::write`.
 pub fn write_block<'a, K: Sink>(
     writer: &mut OutputWriter<'a>,
     lists: &Inputs,
@@ -59,9 +59,9 @@ pub fn write_block<'a, K: Sink>(
     writer.write(lists, instants, sink)
 }
 
-/// Pins `lucy_output::block_by_block`.
+/// Pins `lucy_lines::block_by_block`.
 pub fn block_by_block()
     ensures { BlockByBlock }
 {
-    lucy_output::block_by_block();
+    lucy_lines::block_by_block();
 }

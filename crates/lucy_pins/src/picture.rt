@@ -7,7 +7,7 @@ ghost use Rattle.lucy_clock.specs.declared.node_clock.NodeClock.{NodeClock as Cl
 ghost use Rattle.lucy_program.specs.declared.options.Options.{Options as Choices};
 ghost use Rattle.lucy_program.specs.Accepting.{IsAccepted};
 ghost use Rattle.lucy_picture.specs.Charts.{chart_row, named_places, AreFills};
-ghost use Rattle.lucy_cause.specs.Lengths.{AreLengths};
+ghost use Rattle.lucy_net.specs.Lengths.{AreLengths};
 ghost use Rattle.lucy_picture.specs.Turns.{shown_clocks, AreTooLong};
 ghost use Rattle.lucy_tree.specs.View.{tree_of, node_tree, NodeTree, ProgramTree};
 ghost use Rattle.lucy_picture.specs.Forms.{form_at, IsOfForm};

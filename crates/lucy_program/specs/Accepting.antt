@@ -8,7 +8,7 @@ use Rattle.lucy_naming.specs.Placing.{IsPlaced}
 use Rattle.lucy_types.specs.declared.ty.Ty.{Ty}
 use Rattle.lucy_types.specs.Programs.{IsTyped}
 use Rattle.lucy_clock.specs.declared.node_clock.NodeClock.{NodeClock}
-use Rattle.lucy_cause.specs.Schedules.{IsScheduleOf}
+use Rattle.lucy_net.specs.Schedules.{IsScheduleOf}
 use Rattle.lucy_program.specs.declared.accepted.Accepted.{Accepted}
 use Rattle.lucy_program.specs.declared.options.Options.{Options}
 use Rattle.lucy_program.specs.Clocked.{AreClocksOf}

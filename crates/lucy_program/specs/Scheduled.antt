@@ -6,7 +6,7 @@ use Rattle.lucy_word.specs.Bits.{Bits}
 use Rattle.lucy_word.specs.Limits.{limit_number}
 use Rattle.lucy_word.specs.declared.limit.Limit.TheVariants as limit
 use Rattle.lucy_lines.specs.declared.input.InputSpec.{InputSpec}
-use Rattle.lucy_output.specs.declared.output.OutputSpec.{OutputSpec}
+use Rattle.lucy_lines.specs.declared.output.OutputSpec.{OutputSpec}
 use Rattle.lucy_place.specs.declared.placed.PlacedNode.{PlacedNode}
 use Rattle.lucy_place.specs.Proper.{at_one}
 use Rattle.lucy_types.specs.declared.ty.Ty.{Ty}
@@ -14,7 +14,7 @@ use Rattle.lucy_types.specs.declared.ty.Ty.TheVariants as ty
 use Rattle.lucy_types.specs.Tables.{table_at, held}
 use Rattle.lucy_need.specs.Meeting.{assigned}
 use Rattle.lucy_clock.specs.declared.node_clock.NodeClock.{NodeClock}
-use Rattle.lucy_meaning.specs.Spots.{main_of}
+use Rattle.lucy_kahn.specs.Spots.{main_of}
 use Rattle.lucy_net.specs.declared.net.Net.{Net}
 use Rattle.lucy_flat.specs.Instances.{words_in}
 use Rattle.lucy_flat.specs.Refusals.{IsFlatNet, net_bits}

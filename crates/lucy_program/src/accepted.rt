@@ -1,9 +1,7 @@
 // What a program text is accepted as.
-use lucy_cause::Schedule;
 use lucy_clock::NodeClock;
-use lucy_lines::InputSpec;
-use lucy_net::Net;
-use lucy_output::OutputSpec;
+use lucy_lines::{InputSpec, OutputSpec};
+use lucy_net::{Net, Schedule};
 use lucy_place::Placed;
 use lucy_types::Typed;
 

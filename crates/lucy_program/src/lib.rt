@@ -1,7 +1,7 @@
 //! What an accepted program is, and its report.
 //!
 //! It stands on what the phases say of a text: `lucy_grammar`, `lucy_place`, `lucy_types`, `lucy_clock`, `lucy_inference`, `lucy_flat`
-//! and `lucy_cause`. `lucy_front` accepts a text, or says why not. Begin with `specs/Inferring.antt`, `specs/Clocked.antt`,
+//! and `lucy_net`. `lucy_front` accepts a text, or says why not. Begin with `specs/Inferring.antt`, `specs/Clocked.antt`,
 //! `specs/Scheduled.antt` and `specs/Accepting.antt`; `laws.rt` has what holds of every accepted program.
 #![tactic(auto)]
 

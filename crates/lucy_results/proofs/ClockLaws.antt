@@ -9,9 +9,9 @@ use Rattle.lucy_place.specs.declared.placed.PlacedNode.{PlacedNode}
 use Rattle.lucy_place.specs.Proper.{AreProper}
 use Rattle.lucy_clock.specs.declared.node_clock.NodeClock.{NodeClock}
 use Rattle.lucy_clock.specs.Clocks.{clocks_of}
-use Rattle.lucy_meaning.specs.Spots.{main_of, results_in}
-use Rattle.lucy_meaning.proofs.Lists.{there}
-use Rattle.lucy_meaning.proofs.Closed.{place_of}
+use Rattle.lucy_kahn.specs.Spots.{main_of, results_in}
+use Rattle.lucy_kahn.proofs.JoinedLists.{there}
+use Rattle.lucy_kahn.proofs.Closed.{place_of}
 use Rattle.lucy_flat.specs.Instances.{words_in}
 use Rattle.lucy_flat.specs.Clocked.{AreClocked}
 use Rattle.lucy_kahn.specs.Turns.{params_in}

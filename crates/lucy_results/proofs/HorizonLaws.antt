@@ -8,7 +8,7 @@ use Rattle.lucy_word.specs.Index.{IsIndex}
 use Rattle.lucy_word.proofs.BitsLaws.{ones_to-le}
 use Rattle.lucy_word.proofs.IndexLaws.{IsIndex-there, IsIndex-before, IsIndex-instant, ones_to-rises}
 use Rattle.lucy_stream.specs.Items.{list_at}
-use Rattle.lucy_meaning.specs.Horizons.{Suffice, IsHorizon}
+use Rattle.lucy_kahn.specs.Horizons.{Suffice, IsHorizon}
 
 -- the last instant with no more ones than items
 pub record IsLast (w : Bits) (items most last : ℕ) : Type 0 where

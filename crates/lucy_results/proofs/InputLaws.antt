@@ -12,9 +12,9 @@ use Rattle.lucy_clock.specs.declared.node_clock.NodeClock.{NodeClock}
 use Rattle.lucy_net.specs.declared.kind.ActorKind.TheVariants as actor_kind
 use Rattle.lucy_net.specs.declared.net.Actor.{Actor}
 use Rattle.lucy_net.specs.declared.net.Net.{Net}
-use Rattle.lucy_meaning.specs.Spots.{Spot, at, main_of, kind_at, spot_form}
-use Rattle.lucy_meaning.proofs.Parts.{kind_in}
-use Rattle.lucy_meaning.proofs.Paths.{is_at, kind_there, proper_at}
+use Rattle.lucy_kahn.specs.Spots.{Spot, at, main_of, kind_at, spot_form}
+use Rattle.lucy_kahn.proofs.Parts.{kind_in}
+use Rattle.lucy_kahn.proofs.Paths.{is_at, kind_there, proper_at}
 use Rattle.lucy_kahn.specs.Turns.{params_in}
 use Rattle.lucy_flat.specs.Flat.{actor_of, IsFlat}
 use Rattle.lucy_runner.specs.Views.{after_input, input_count, input_for, inputs_for}

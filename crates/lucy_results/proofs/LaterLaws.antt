@@ -15,11 +15,11 @@ use Rattle.lucy_place.specs.declared.placed.PlacedNode.{PlacedNode}
 use Rattle.lucy_place.specs.Proper.{AreProper}
 use Rattle.lucy_clock.specs.declared.node_clock.NodeClock.{NodeClock}
 use Rattle.lucy_net.specs.declared.net.Net.{Net}
-use Rattle.lucy_meaning.specs.Spots.{Spot, at, main_of, results_in}
-use Rattle.lucy_meaning.specs.Sizes.{all_places}
-use Rattle.lucy_meaning.specs.Kahn.{kahn}
-use Rattle.lucy_meaning.specs.Horizons.{Suffice}
-use Rattle.lucy_meaning.proofs.ByNumber.{kahn_inputs, kahn_later}
+use Rattle.lucy_kahn.specs.Spots.{Spot, at, main_of, results_in}
+use Rattle.lucy_kahn.specs.Sizes.{all_places}
+use Rattle.lucy_kahn.specs.Kahn.{kahn}
+use Rattle.lucy_kahn.specs.Horizons.{Suffice}
+use Rattle.lucy_kahn.proofs.ByNumber.{kahn_inputs, kahn_later}
 use Rattle.lucy_kahn.specs.Turns.{params_in}
 use Rattle.lucy_flat.specs.Flat.{IsFlat}
 use Rattle.lucy_flat.proofs.FlatLaws.{main_spot}

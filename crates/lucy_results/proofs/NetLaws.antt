@@ -28,17 +28,17 @@ use Rattle.lucy_net.specs.States.{GivesNone, KnowsOperator}
 use Rattle.lucy_net.specs.Causal.{net_places}
 use Rattle.lucy_net.proofs.NetLaws.{plugged}
 use Rattle.lucy_net.proofs.BackLaws.{same_places, quotas, fed}
-use Rattle.lucy_net.specs.Schedules.{IsSound}
-use Rattle.lucy_cause.specs.Schedules.{Timetable, events_at}
+use Rattle.lucy_net.specs.Orders.{IsSound}
+use Rattle.lucy_net.specs.Schedules.{Timetable, events_at}
 use Rattle.lucy_core.specs.Seen.{CanMakeCore, IsOutputOf, first_ring}
-use Rattle.lucy_meaning.specs.Spots.{Spot, at, main_of, node_at, kind_at, spot_form, results_in}
-use Rattle.lucy_meaning.specs.Sizes.{all_places}
-use Rattle.lucy_meaning.specs.Numbers.{number}
-use Rattle.lucy_meaning.specs.Kahn.{kahn}
-use Rattle.lucy_meaning.specs.Horizons.{Suffice}
-use Rattle.lucy_meaning.proofs.Lists.{there, get_range, mapped}
-use Rattle.lucy_meaning.proofs.Paths.{low_of, is_at, path_node, proper_at}
-use Rattle.lucy_meaning.proofs.Numbered.{number_reached}
+use Rattle.lucy_kahn.specs.Spots.{Spot, at, main_of, node_at, kind_at, spot_form, results_in}
+use Rattle.lucy_kahn.specs.Sizes.{all_places}
+use Rattle.lucy_kahn.specs.Numbers.{number}
+use Rattle.lucy_kahn.specs.Kahn.{kahn}
+use Rattle.lucy_kahn.specs.Horizons.{Suffice}
+use Rattle.lucy_kahn.proofs.JoinedLists.{there, get_range, mapped}
+use Rattle.lucy_kahn.proofs.Paths.{low_of, is_at, path_node, proper_at}
+use Rattle.lucy_kahn.proofs.Numbered.{number_reached}
 use Rattle.lucy_kahn.specs.Turns.{params_in}
 use Rattle.lucy_flat.specs.Instances.{IsSpotWord}
 use Rattle.lucy_flat.specs.Flat.{actor_of, fires_at, IsFlat}

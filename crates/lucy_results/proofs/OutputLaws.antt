@@ -13,12 +13,12 @@ use Rattle.lucy_place.specs.Proper.{AreProper}
 use Rattle.lucy_clock.specs.declared.node_clock.NodeClock.{NodeClock}
 use Rattle.lucy_net.specs.declared.net.Actor.{Actor}
 use Rattle.lucy_net.specs.declared.net.Net.{Net}
-use Rattle.lucy_cause.specs.Schedules.{Timetable}
+use Rattle.lucy_net.specs.Schedules.{Timetable}
 use Rattle.lucy_core.specs.Seen.{Seen, IsOver, IsUnbegun, IsOutputOf, first_ring, first_seen, done_of, stream_of, plan_of}
 use Rattle.lucy_runner.specs.Views.{RunnerView}
-use Rattle.lucy_meaning.specs.Spots.{main_of, results_in}
-use Rattle.lucy_meaning.specs.Sizes.{all_places}
-use Rattle.lucy_meaning.proofs.Lists.{there}
+use Rattle.lucy_kahn.specs.Spots.{main_of, results_in}
+use Rattle.lucy_kahn.specs.Sizes.{all_places}
+use Rattle.lucy_kahn.proofs.JoinedLists.{there}
 use Rattle.lucy_flat.specs.Flat.{IsFlat}
 use Rattle.lucy_results.specs.Streams.{main_stream, later_stream, later_streams, cut_to}
 use Rattle.lucy_results.proofs.NetLaws.{main_counts, output_of, output_stream, gives_below}

@@ -6,11 +6,11 @@ use Rattle.lucy_place.specs.declared.placed.PlacedNode.{PlacedNode}
 use Rattle.lucy_place.specs.Proper.{AreProper}
 use Rattle.lucy_clock.specs.declared.node_clock.NodeClock.{NodeClock}
 use Rattle.lucy_host.specs.Operators.{kinds_of}
-use Rattle.lucy_meaning.specs.Spots.{main_of}
+use Rattle.lucy_kahn.specs.Spots.{main_of}
 use Rattle.lucy_kahn.specs.Turns.{params_in}
 use Rattle.lucy_net.specs.declared.net.Net.{Net}
 use Rattle.lucy_net.specs.Proper.{IsSupplied}
-use Rattle.lucy_meaning.specs.Horizons.{Suffice}
+use Rattle.lucy_kahn.specs.Horizons.{Suffice}
 use Rattle.lucy_flat.specs.Flat.{IsFlat}
 use Rattle.lucy_core.specs.Seen.{Seen, IsOver, after_picks}
 use Rattle.lucy_runner.specs.Views.{RunnerView, first_runner, inputs_for}

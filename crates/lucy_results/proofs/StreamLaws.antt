@@ -15,16 +15,16 @@ use Rattle.lucy_stream.specs.Schedules.{events_to}
 use Rattle.lucy_place.specs.declared.placed.PlacedNode.{PlacedNode}
 use Rattle.lucy_place.specs.Proper.{AreProper}
 use Rattle.lucy_clock.specs.declared.node_clock.NodeClock.{NodeClock}
-use Rattle.lucy_meaning.specs.Spots.{Spot, at, main_of, results_in, results_of}
-use Rattle.lucy_meaning.specs.Sizes.{all_places}
-use Rattle.lucy_meaning.specs.Kahn.{kahn}
-use Rattle.lucy_meaning.specs.Horizons.{Suffice}
-use Rattle.lucy_meaning.proofs.ByNumber.{kahn_inputs}
+use Rattle.lucy_kahn.specs.Spots.{Spot, at, main_of, results_in, results_of}
+use Rattle.lucy_kahn.specs.Sizes.{all_places}
+use Rattle.lucy_kahn.specs.Kahn.{kahn}
+use Rattle.lucy_kahn.specs.Horizons.{Suffice}
+use Rattle.lucy_kahn.proofs.ByNumber.{kahn_inputs}
 use Rattle.lucy_kahn.specs.Turns.{params_in}
 use Rattle.lucy_net.specs.declared.net.Actor.{Actor}
-use Rattle.lucy_net.specs.Schedules.{IsSound}
+use Rattle.lucy_net.specs.Orders.{IsSound}
 use Rattle.lucy_net.proofs.NumberedLaws.{outputs_apart}
-use Rattle.lucy_cause.specs.Schedules.{events_at}
+use Rattle.lucy_net.specs.Schedules.{events_at}
 use Rattle.lucy_core.specs.Seen.{Seen, IsOutputOf, first_ring, stream_of}
 use Rattle.lucy_flat.specs.Flat.{IsFlat}
 use Rattle.lucy_flat.proofs.FlatLaws.{main_spot}

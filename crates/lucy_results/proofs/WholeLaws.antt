@@ -27,14 +27,14 @@ use Rattle.lucy_net.specs.Proper.{IsProperRing, IsReadWord}
 use Rattle.lucy_net.proofs.NetLaws.{task_at, plugged, write_counts, read_counts, from_here, to_here, takes_there}
 use Rattle.lucy_net.proofs.BackLaws.{same_places}
 use Rattle.lucy_core.specs.Seen.{first_ring}
-use Rattle.lucy_meaning.specs.Spots.{Spot, at, main_of, node_at, kind_at, IsSpot, spot_form, results_in}
-use Rattle.lucy_meaning.specs.Sizes.{all_places}
-use Rattle.lucy_meaning.specs.Numbers.{number}
-use Rattle.lucy_meaning.specs.Kahn.{kahn}
-use Rattle.lucy_meaning.specs.Horizons.{Suffice}
-use Rattle.lucy_meaning.proofs.Lists.{there}
-use Rattle.lucy_meaning.proofs.Paths.{low_of, is_at}
-use Rattle.lucy_meaning.proofs.Numbered.{number_below}
+use Rattle.lucy_kahn.specs.Spots.{Spot, at, main_of, node_at, kind_at, IsSpot, spot_form, results_in}
+use Rattle.lucy_kahn.specs.Sizes.{all_places}
+use Rattle.lucy_kahn.specs.Numbers.{number}
+use Rattle.lucy_kahn.specs.Kahn.{kahn}
+use Rattle.lucy_kahn.specs.Horizons.{Suffice}
+use Rattle.lucy_kahn.proofs.JoinedLists.{there}
+use Rattle.lucy_kahn.proofs.Paths.{low_of, is_at}
+use Rattle.lucy_kahn.proofs.Numbered.{number_below}
 use Rattle.lucy_flat.specs.Clocked.{AreClocked}
 use Rattle.lucy_flat.specs.Instances.{word_at, IsBase, IsSpotWord}
 use Rattle.lucy_flat.specs.Flat.{fires_at, IsFlat}

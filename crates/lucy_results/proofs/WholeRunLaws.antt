@@ -30,14 +30,14 @@ use Rattle.lucy_net.specs.declared.net.Actor.{Actor}
 use Rattle.lucy_net.specs.declared.net.Net.{Net}
 use Rattle.lucy_net.specs.Plans.{form_of}
 use Rattle.lucy_net.specs.States.{GivesNone}
-use Rattle.lucy_cause.specs.Schedules.{Timetable}
+use Rattle.lucy_net.specs.Schedules.{Timetable}
 use Rattle.lucy_core.specs.Seen.{Seen, CanRun, CanMakeCore, IsOver, IsOutputOf, IsUnbegun, after_picks, done_of, first_ring, first_seen, machine_of, order_of, state_of, state_on, stream_of}
 use Rattle.lucy_core.proofs.SeenLaws.{machine_is, state_is, state_done}
 use Rattle.lucy_core.proofs.OpenLaws.{IsSound, took_front, took_all, events_lead}
 use Rattle.lucy_core.proofs.OnwardLaws.{counted_on, counts_on, actors_on}
-use Rattle.lucy_meaning.specs.Spots.{main_of, results_in}
-use Rattle.lucy_meaning.specs.Sizes.{all_places}
-use Rattle.lucy_meaning.proofs.Lists.{there}
+use Rattle.lucy_kahn.specs.Spots.{main_of, results_in}
+use Rattle.lucy_kahn.specs.Sizes.{all_places}
+use Rattle.lucy_kahn.proofs.JoinedLists.{there}
 use Rattle.lucy_flat.specs.Flat.{IsFlat}
 use Rattle.lucy_results.specs.Streams.{main_stream, main_streams, taken_of}
 use Rattle.lucy_results.specs.Taking.{taken_lists, LeadToStreams, LeadAlongStreams}

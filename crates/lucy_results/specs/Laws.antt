@@ -13,13 +13,13 @@ use Rattle.lucy_clock.specs.declared.node_clock.NodeClock.{NodeClock}
 use Rattle.lucy_net.specs.declared.net.Actor.{Actor}
 use Rattle.lucy_net.specs.declared.net.Net.{Net}
 use Rattle.lucy_net.specs.Plans.{plan}
-use Rattle.lucy_net.specs.Schedules.{IsSound}
-use Rattle.lucy_cause.specs.Schedules.{Timetable, events_at}
+use Rattle.lucy_net.specs.Orders.{IsSound}
+use Rattle.lucy_net.specs.Schedules.{Timetable, events_at}
 use Rattle.lucy_core.specs.Seen.{Seen, CanMakeCore, IsOutputOf, first_ring, stream_of}
-use Rattle.lucy_meaning.specs.Spots.{Spot, at, main_of, IsSpot, results_in}
-use Rattle.lucy_meaning.specs.Sizes.{all_places}
-use Rattle.lucy_meaning.specs.Horizons.{Suffice}
-use Rattle.lucy_meaning.specs.Kahn.{kahn}
+use Rattle.lucy_kahn.specs.Spots.{Spot, at, main_of, IsSpot, results_in}
+use Rattle.lucy_kahn.specs.Sizes.{all_places}
+use Rattle.lucy_kahn.specs.Horizons.{Suffice}
+use Rattle.lucy_kahn.specs.Kahn.{kahn}
 use Rattle.lucy_kahn.specs.Turns.{params_in}
 use Rattle.lucy_flat.specs.Clocked.{AreClocked}
 use Rattle.lucy_flat.specs.Instances.{IsSpotWord}

@@ -6,8 +6,8 @@ use Rattle.lucy_host.specs.declared.kind.HostKind.{HostKind}
 use Rattle.lucy_stream.specs.Items.{list_at}
 use Rattle.lucy_place.specs.declared.placed.PlacedNode.{PlacedNode}
 use Rattle.lucy_clock.specs.declared.node_clock.NodeClock.{NodeClock}
-use Rattle.lucy_meaning.specs.Spots.{at, main_of, results_in}
-use Rattle.lucy_meaning.specs.Kahn.{stream_to}
+use Rattle.lucy_kahn.specs.Spots.{at, main_of, results_in}
+use Rattle.lucy_kahn.specs.Kahn.{stream_to}
 use Rattle.lucy_kahn.specs.Turns.{params_in}
 use Rattle.lucy_flat.specs.Instances.{word_at}
 

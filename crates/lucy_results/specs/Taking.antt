@@ -9,9 +9,9 @@ use Rattle.lucy_stream.specs.States.{State, start, events}
 use Rattle.lucy_net.specs.declared.net.Actor.{Actor}
 use Rattle.lucy_net.specs.declared.net.Net.{Net}
 use Rattle.lucy_net.specs.Plans.{net_system}
-use Rattle.lucy_cause.specs.Schedules.{Timetable}
+use Rattle.lucy_net.specs.Schedules.{Timetable}
 use Rattle.lucy_core.specs.Seen.{Seen, CanRun, CanMakeCore, IsOver, after_picks, done_of, first_ring, first_seen, machine_of}
-use Rattle.lucy_meaning.specs.Sizes.{all_places}
+use Rattle.lucy_kahn.specs.Sizes.{all_places}
 use Rattle.lucy_flat.specs.Flat.{IsFlat}
 use Rattle.lucy_results.specs.Streams.{main_streams, taken_of}
 

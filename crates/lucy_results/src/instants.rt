@@ -2,7 +2,7 @@
 ghost use Rattle.std.specs.Prelude.{◌≡◌, ◌≤◌, ◌<◌, ◌+◌, ◌^◌, ◌↔◌, ℕ, ℤ, List, length, slice_index, IsTrue};
 ghost use Rattle.lucy_word.specs.Bits.{ones_to};
 ghost use Rattle.lucy_stream.specs.Items.{list_at};
-ghost use Rattle.lucy_meaning.specs.Horizons.{Suffice, IsHorizon};
+ghost use Rattle.lucy_kahn.specs.Horizons.{Suffice, IsHorizon};
 
 use lucy_word::Word;
 

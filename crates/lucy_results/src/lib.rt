@@ -1,6 +1,6 @@
 //! Results: the output streams of a program whose nodes have clocks, up to a horizon, in two ways.
 //!
-//! Begin with `specs/Streams.antt`, which says what the output streams are, by `lucy_meaning` and the nodes' clocks alone. The
+//! Begin with `specs/Streams.antt`, which says what the output streams are, by the meaning in `lucy_kahn` and the nodes' clocks alone. The
 //! horizon that the items of the inputs allow is in `instants.rt`. `player.rt` runs the flat net of `lucy_flat` on the runner of
 //! `lucy_runner`, from horizon to horizon, `turning.rt` once with the turns that a caller makes; `interpreting.rt` goes by the plain
 //! interpreter of `lucy_kahn`. All answer what the one definition says. `taken.rt` asks what the outputs of a core took so far, and

@@ -2,11 +2,10 @@
 ghost use Rattle.std.specs.Prelude.{◌≡◌, ◌≤◌, length, IfOk, OnErr};
 
 use crate::workers::{homes_of, outputs, run_core};
-use lucy_cause::Schedule;
 use lucy_clock::NodeClock;
 use lucy_core::Core;
 use lucy_host::{Host, Inputs};
-use lucy_net::Net;
+use lucy_net::{Net, Schedule};
 use lucy_place::Placed;
 use lucy_runner::Runner;
 use lucy_word::OutOfMemory;
@@ -39,11 +38,11 @@ impl<'a> Player<'a> {
     ghost use Rattle.lucy_host.specs.Host.{Serves, lent};
     ghost use Rattle.lucy_host.specs.Operators.{kinds_of};
     ghost use Rattle.lucy_place.specs.Proper.{HaveOperators};
-    ghost use Rattle.lucy_meaning.specs.Spots.{main_of};
-    ghost use Rattle.lucy_meaning.specs.Horizons.{Suffice};
+    ghost use Rattle.lucy_kahn.specs.Spots.{main_of};
+    ghost use Rattle.lucy_kahn.specs.Horizons.{Suffice};
     ghost use Rattle.lucy_kahn.specs.Turns.{params_in};
-    ghost use Rattle.lucy_net.specs.Schedules.{IsSound};
-    ghost use Rattle.lucy_cause.specs.Schedules.{events_at};
+    ghost use Rattle.lucy_net.specs.Orders.{IsSound};
+    ghost use Rattle.lucy_net.specs.Schedules.{events_at};
     ghost use Rattle.lucy_flat.specs.Flat.{IsFlat};
     ghost use Rattle.lucy_results.specs.Streams.{param_words, later_streams};
     ghost use Rattle.lucy_runner.specs.Views.{most_workers};

@@ -1,7 +1,7 @@
 // What the outputs of a core of a program's flat net took.
 ghost use Rattle.std.specs.Prelude.{◌≡◌, length, IfOk};
 ghost use Rattle.lucy_core.specs.Seen.{state_of};
-ghost use Rattle.lucy_meaning.specs.Spots.{main_of, results_in};
+ghost use Rattle.lucy_kahn.specs.Spots.{main_of, results_in};
 ghost use Rattle.lucy_flat.specs.Flat.{IsFlat};
 ghost use Rattle.lucy_results.specs.Taking.{taken_lists};
 

@@ -2,7 +2,7 @@
 ghost use Rattle.std.specs.Prelude.{◌≡◌, ◌≤◌, ◌<◌, ◌%◌, ℕ, Some, All, length, slice_get, IfOk};
 ghost use Rattle.lucy_host.specs.Host.{Serves, lent};
 ghost use Rattle.lucy_host.specs.Operators.{kinds_of};
-ghost use Rattle.lucy_meaning.specs.Spots.{main_of};
+ghost use Rattle.lucy_kahn.specs.Spots.{main_of};
 ghost use Rattle.lucy_kahn.specs.Turns.{params_in};
 ghost use Rattle.lucy_core.specs.Seen.{IsUnbegun, IsOver};
 ghost use Rattle.lucy_flat.specs.Flat.{IsFlat};

@@ -26,8 +26,8 @@ use Rattle.lucy_clock.specs.Laws.{RulesLaw, HandedLaw}
 use Rattle.lucy_check.specs.declared.fault.CheckFault.{CheckFault}
 use Rattle.lucy_check.specs.declared.fault.CheckFault.TheVariants as fault
 use Rattle.lucy_check.specs.Passing.{IsBeyond}
-use Rattle.lucy_cause.specs.Faults.{item_of}
-use Rattle.lucy_meaning.specs.Items.{IsCausalProgram}
+use Rattle.lucy_net.specs.Faults.{item_of}
+use Rattle.lucy_kahn.specs.Items.{IsCausalProgram}
 use Rattle.lucy_flat.specs.Laws.{NetsAreCausal}
 use Rattle.lucy_front.specs.declared.fault.NodeFault.{NodeFault}
 use Rattle.lucy_front.specs.declared.fault.NodeFault.TheVariants.{NotWritten, Rates, Clocks, Check}

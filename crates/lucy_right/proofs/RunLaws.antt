@@ -17,23 +17,23 @@ use Rattle.lucy_lines.specs.declared.reader.TextFault.{TextFault}
 use Rattle.lucy_lines.specs.declared.reader.TextFault.TheVariants.{ReadFault, TooLong}
 use Rattle.lucy_lines.specs.Cuts.{ItemOf, Stop, At, Before, Held, Cut, input_of}
 use Rattle.lucy_text.specs.Sources.{ReadStop, Unread, Ended, Failed, Passed, Open, Drained}
-use Rattle.lucy_feed.specs.Feeding.{is_closed, values_by_stream, fault_of, StopsFor, IsFeedOf}
-use Rattle.lucy_output.specs.declared.output.OutputSpec.{OutputSpec}
-use Rattle.lucy_output.specs.Outputs.{output_text}
+use Rattle.lucy_lines.specs.Feeding.{is_closed, values_by_stream, fault_of, StopsFor, IsFeedOf}
+use Rattle.lucy_lines.specs.declared.output.OutputSpec.{OutputSpec}
+use Rattle.lucy_lines.specs.Outputs.{output_text}
 use Rattle.lucy_place.specs.declared.placed.PlacedNode.{PlacedNode}
 use Rattle.lucy_place.specs.Proper.{AreProper}
 use Rattle.lucy_types.specs.declared.ty.Ty.{Ty}
 use Rattle.lucy_types.specs.Tables.{table_at}
 use Rattle.lucy_clock.specs.declared.node_clock.NodeClock.{NodeClock}
-use Rattle.lucy_meaning.specs.Spots.{at, main_of, results_in}
-use Rattle.lucy_meaning.specs.Sizes.{all_places}
-use Rattle.lucy_meaning.specs.Horizons.{IsHorizon}
-use Rattle.lucy_meaning.specs.Kahn.{kahn}
-use Rattle.lucy_meaning.specs.Laws.{LaterLaw}
-use Rattle.lucy_meaning.proofs.Lists.{mapped}
+use Rattle.lucy_kahn.specs.Spots.{at, main_of, results_in}
+use Rattle.lucy_kahn.specs.Sizes.{all_places}
+use Rattle.lucy_kahn.specs.Horizons.{IsHorizon}
+use Rattle.lucy_kahn.specs.Kahn.{kahn}
+use Rattle.lucy_kahn.specs.Laws.{LaterLaw}
+use Rattle.lucy_kahn.proofs.JoinedLists.{mapped}
 use Rattle.lucy_flat.specs.Instances.{words_in}
 use Rattle.lucy_flat.proofs.FlatLaws.{main_spot}
-use Rattle.lucy_cause.specs.Schedules.{events_at}
+use Rattle.lucy_net.specs.Schedules.{events_at}
 use Rattle.lucy_results.specs.Streams.{main_word, result_words, main_stream, main_streams}
 use Rattle.lucy_results.specs.Running.{HasSchedule}
 use Rattle.lucy_results.specs.Laws.{StreamsAreWhole}

@@ -7,7 +7,7 @@ use Rattle.lucy_lines.specs.Cuts.{ItemOf, Stop, At, Before, Held, Cut, input_of}
 use Rattle.lucy_lines.specs.declared.reader.TextFault.{TextFault}
 use Rattle.lucy_lines.specs.declared.reader.TextFault.TheVariants.{ReadFault, TooLong}
 use Rattle.lucy_text.specs.Sources.{ReadStop}
-use Rattle.lucy_feed.specs.Feeding.{is_closed, values_by_stream}
+use Rattle.lucy_lines.specs.Feeding.{is_closed, values_by_stream}
 use Rattle.lucy_tree.specs.View.{ProgramTree}
 use Rattle.lucy_grammar.specs.Texts.{HasTree}
 use Rattle.lucy_program.specs.declared.accepted.Accepted.{Accepted}

@@ -15,19 +15,19 @@ use Rattle.lucy_lines.specs.Fields.{fields}
 use Rattle.lucy_lines.specs.Values.{SpellsValue}
 use Rattle.lucy_lines.specs.Kinds.{IsInput}
 use Rattle.lucy_lines.specs.Cuts.{ItemOf}
-use Rattle.lucy_feed.specs.Feeding.{values_by_stream}
-use Rattle.lucy_output.specs.declared.output.OutputSpec.{OutputSpec}
-use Rattle.lucy_output.specs.Outputs.{output_text}
+use Rattle.lucy_lines.specs.Feeding.{values_by_stream}
+use Rattle.lucy_lines.specs.declared.output.OutputSpec.{OutputSpec}
+use Rattle.lucy_lines.specs.Outputs.{output_text}
 use Rattle.lucy_tree.specs.View.{ProgramTree}
 use Rattle.lucy_place.specs.declared.placed.PlacedNode.{PlacedNode}
 use Rattle.lucy_place.specs.WrittenNodes.{IsWritten}
 use Rattle.lucy_types.specs.declared.ty.Ty.{Ty}
 use Rattle.lucy_types.specs.Programs.{IsTyped}
 use Rattle.lucy_clock.specs.declared.node_clock.NodeClock.{NodeClock}
-use Rattle.lucy_meaning.specs.Spots.{at, main_of, results_in}
-use Rattle.lucy_meaning.specs.Kahn.{kahn}
-use Rattle.lucy_meaning.specs.Items.{IsCausalProgram}
-use Rattle.lucy_meaning.specs.Horizons.{Suffice, IsHorizon}
+use Rattle.lucy_kahn.specs.Spots.{at, main_of, results_in}
+use Rattle.lucy_kahn.specs.Kahn.{kahn}
+use Rattle.lucy_kahn.specs.Items.{IsCausalProgram}
+use Rattle.lucy_kahn.specs.Horizons.{Suffice, IsHorizon}
 use Rattle.lucy_flat.specs.Clocked.{AreClocked}
 use Rattle.lucy_results.specs.Streams.{param_words}
 use Rattle.lucy_program.specs.Scheduled.{main_inputs, main_outputs}

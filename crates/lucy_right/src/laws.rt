@@ -7,7 +7,7 @@ ghost use Rattle.lucy_right.specs.Refused.{WrittenPassLimits};
 use lucy_clock::{needs_are_the_rules, written_nodes_have_one};
 use lucy_flat::flat_nets_are_causal_as_programs;
 use lucy_grammar::texts_have_one_answer;
-use lucy_meaning::programs_grow;
+use lucy_kahn::programs_grow;
 use lucy_program::accepted_programs_are_clocked;
 use lucy_results::streams_are_whole;
 

@@ -9,13 +9,13 @@ use Rattle.lucy_place.specs.Proper.{AreProper}
 use Rattle.lucy_types.specs.declared.ty.Ty.{Ty}
 use Rattle.lucy_types.specs.Tables.{table_at}
 use Rattle.lucy_word.specs.Bits.{Bits}
-use Rattle.lucy_meaning.specs.Spots.{main_of, results_in}
+use Rattle.lucy_kahn.specs.Spots.{main_of, results_in}
 use Rattle.lucy_kahn.specs.Turns.{params_in}
-use Rattle.lucy_cause.specs.Schedules.{events_at}
+use Rattle.lucy_net.specs.Schedules.{events_at}
 use Rattle.lucy_flat.specs.Instances.{words_in}
 use Rattle.lucy_host.specs.declared.kind.HostKind.{HostKind}
 use Rattle.lucy_need.specs.Meeting.{assigned}
-use Rattle.lucy_output.specs.declared.output.OutputSpec.{OutputSpec}
+use Rattle.lucy_lines.specs.declared.output.OutputSpec.{OutputSpec}
 use Rattle.lucy_results.specs.Running.{HasSchedule}
 use Rattle.lucy_run.specs.Courses.{CanBeRunInBlocks}
 use Rattle.lucy_program.specs.declared.accepted.Accepted.{Accepted}

@@ -9,9 +9,9 @@ use Rattle.lucy_stream.specs.Items.{list_at}
 use Rattle.lucy_stream.specs.Fronts.{AreFronts}
 use Rattle.lucy_lines.specs.Cuts.{ItemOf}
 use Rattle.lucy_text.specs.Outside.{SeenSource}
-use Rattle.lucy_feed.specs.Feeding.{values_by_stream}
-use Rattle.lucy_feed.specs.Resuming.{FeedState, AreMet, HasRead, AreFresh, ValuesInTurn}
-use Rattle.lucy_meaning.specs.Horizons.{Suffice, IsHorizon}
+use Rattle.lucy_lines.specs.Feeding.{values_by_stream}
+use Rattle.lucy_lines.specs.Resuming.{FeedState, AreMet, HasRead, AreFresh, ValuesInTurn}
+use Rattle.lucy_kahn.specs.Horizons.{Suffice, IsHorizon}
 use Rattle.lucy_results.specs.Streams.{param_words, later_streams}
 use Rattle.lucy_results.specs.Playing.{PlayerView, joined}
 use Rattle.lucy_run.specs.Owes.{most_instants}

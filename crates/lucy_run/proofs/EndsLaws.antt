@@ -11,15 +11,15 @@ use Rattle.lucy_kahn.specs.declared.error.KahnError.{KahnError}
 use Rattle.lucy_kahn.specs.declared.error.KahnError.TheVariants as error
 use Rattle.lucy_lines.specs.Fronts.{most_bytes}
 use Rattle.lucy_lines.specs.declared.reader.TextFault.{TextFault}
-use Rattle.lucy_feed.specs.declared.feeds.Feed.{Feed}
+use Rattle.lucy_lines.specs.declared.feeds.Feed.{Feed}
 use Rattle.lucy_word.specs.declared.error.OutOfMemory.{OutOfMemory}
 use Rattle.lucy_text.specs.Outside.{SeenSource, SeenSink, Writes, Fails}
 use Rattle.lucy_text.specs.Sources.{ReadStop, Unread, Read}
-use Rattle.lucy_output.specs.declared.output.OutputSpec.{OutputSpec}
-use Rattle.lucy_output.specs.Outputs.{output_text}
-use Rattle.lucy_output.specs.declared.error.OutputError.TheVariants.{Failed, OutOfMemory as Memory}
-use Rattle.lucy_output.proofs.SinkLaws.{unwritten, writes_more, fails_behind, fails_longer}
-use Rattle.lucy_meaning.specs.Horizons.{Suffice}
+use Rattle.lucy_lines.specs.declared.output.OutputSpec.{OutputSpec}
+use Rattle.lucy_lines.specs.Outputs.{output_text}
+use Rattle.lucy_lines.specs.declared.error.OutputError.TheVariants.{Failed, OutOfMemory as Memory}
+use Rattle.lucy_lines.proofs.SinkLaws.{unwritten, writes_more, fails_behind, fails_longer}
+use Rattle.lucy_kahn.specs.Horizons.{Suffice}
 use Rattle.lucy_place.specs.declared.placed.PlacedNode.{PlacedNode}
 use Rattle.lucy_clock.specs.declared.node_clock.NodeClock.{NodeClock}
 use Rattle.lucy_results.specs.Running.{HasManyTurns, HasManyItems, RefusesStreams}
@@ -30,11 +30,11 @@ use Rattle.lucy_run.specs.declared.ending.Ending.TheVariants as ending
 use Rattle.lucy_run.specs.Feeds.{Feeds, IsNeededFor, IsMainFeed}
 use Rattle.lucy_run.specs.Owes.{most_instants, input_words, lines_to, heading, EndsFor, IsMainFed, Interprets, OwesRun, OwesKahn, LinesAllow, IsHorizonOf}
 use Rattle.lucy_lines.specs.Cuts.{ItemOf}
-use Rattle.lucy_output.specs.Writing.{WriterState}
+use Rattle.lucy_lines.specs.Writing.{WriterState}
 use Rattle.lucy_run.specs.Courses.{Program, CanBeRunInBlocks, values, IsFedSoFar, IsCourseOver}
 use Rattle.lucy_run.specs.Played.{HasWritten, FailsBehind, wanting_at, BreaksOff, LinesAgree, LinesByBlock}
-use Rattle.lucy_feed.specs.Feeding.{IsAsked}
-use Rattle.lucy_feed.proofs.FeedLaws.{asked_as}
+use Rattle.lucy_lines.specs.Feeding.{IsAsked}
+use Rattle.lucy_lines.proofs.FeedLaws.{asked_as}
 use Rattle.lucy_run.specs.Ends.{EndsWith, EndsOwed, EndsRun, FailsInBlock}
 use Rattle.lucy_run.specs.Steps.{LeavesOwed, EndsWhole, refusal_ending, LeavesUnwritten}
 use Rattle.lucy_run.proofs.FedLaws.{read_nothing, some_lines}

@@ -11,8 +11,8 @@ use Rattle.lucy_lines.specs.Fronts.{most_bytes}
 use Rattle.lucy_lines.proofs.Exists.{some_cut}
 use Rattle.lucy_text.specs.Outside.{SeenSource}
 use Rattle.lucy_text.specs.Sources.{ReadStop, Unread, Ended, Failed, Open, Drained, Read}
-use Rattle.lucy_feed.specs.Feeding.{is_closed, values_by_stream, StopsFor, IsAsked}
-use Rattle.lucy_feed.specs.Resuming.{IsGivenUp}
+use Rattle.lucy_lines.specs.Feeding.{is_closed, values_by_stream, StopsFor, IsAsked}
+use Rattle.lucy_lines.specs.Resuming.{IsGivenUp}
 use Rattle.lucy_program.specs.declared.accepted.Accepted.{Accepted}
 use Rattle.lucy_run.specs.declared.ending.Ending.{Ending}
 use Rattle.lucy_run.specs.Feeds.{Feeds, LinesFeed}

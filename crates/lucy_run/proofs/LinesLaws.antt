@@ -5,11 +5,11 @@ use Rattle.std.proofs.lemmas.List.{length-map, take-take}
 use Rattle.std.proofs.lemmas.Option.{get_or_from_slice_get, slice_get-map}
 use Rattle.lucy_word.specs.Bits.{ones_to}
 use Rattle.lucy_stream.specs.Items.{list_at}
-use Rattle.lucy_output.specs.declared.output.OutputSpec.{OutputSpec}
-use Rattle.lucy_output.specs.Outputs.{lines_after}
-use Rattle.lucy_output.specs.Laws.{BeginAlike, FrontsSuffice, AreRests, BlockByBlock}
-use Rattle.lucy_meaning.specs.Spots.{main_of, results_in}
-use Rattle.lucy_meaning.proofs.Lists.{mapped}
+use Rattle.lucy_lines.specs.declared.output.OutputSpec.{OutputSpec}
+use Rattle.lucy_lines.specs.Outputs.{lines_after}
+use Rattle.lucy_lines.specs.OutputLaws.{BeginAlike, FrontsSuffice, AreRests, BlockByBlock}
+use Rattle.lucy_kahn.specs.Spots.{main_of, results_in}
+use Rattle.lucy_kahn.proofs.JoinedLists.{mapped}
 use Rattle.lucy_results.specs.Streams.{main_word, result_words, main_stream, main_streams, later_stream, later_streams, cut_to}
 use Rattle.lucy_results.specs.Laws.{StreamsGoOn}
 use Rattle.lucy_results.proofs.StreamLaws.{cut_at}

@@ -10,9 +10,9 @@ use Rattle.lucy_lines.specs.Fronts.{most_bytes}
 use Rattle.lucy_lines.specs.declared.input.InputSpec.{InputSpec}
 use Rattle.lucy_text.specs.Outside.{SeenSource}
 use Rattle.lucy_text.specs.Sources.{Unread, Read}
-use Rattle.lucy_feed.specs.Feeding.{values_by_stream, IsAsked}
-use Rattle.lucy_feed.specs.Resuming.{FeedState, HasRead, PassesMore, ValuesInTurn}
-use Rattle.lucy_meaning.specs.Horizons.{Suffice, IsHorizon}
+use Rattle.lucy_lines.specs.Feeding.{values_by_stream, IsAsked}
+use Rattle.lucy_lines.specs.Resuming.{FeedState, HasRead, PassesMore, ValuesInTurn}
+use Rattle.lucy_kahn.specs.Horizons.{Suffice, IsHorizon}
 use Rattle.lucy_results.proofs.StreamLaws.{params_count}
 use Rattle.lucy_run.specs.declared.ending.Ending.{Ending}
 use Rattle.lucy_run.specs.declared.ending.Ending.TheVariants as ending

@@ -13,10 +13,10 @@ use Rattle.lucy_lines.specs.Fronts.{most_bytes}
 use Rattle.lucy_lines.specs.declared.input.InputSpec.{InputSpec}
 use Rattle.lucy_text.specs.Outside.{SeenSource}
 use Rattle.lucy_text.specs.Sources.{Unread, Read}
-use Rattle.lucy_feed.specs.Feeding.{values_of, values_by_stream, IsAskedWhile}
-use Rattle.lucy_feed.specs.Resuming.{FeedState, AreCounts, AreMet, HasRead, IsGivenUp, IsShort, AreFresh, ReadsWhile, GivesUp, ValuesInTurn}
-use Rattle.lucy_feed.proofs.FeedLaws.{asked_as, asks_as, asked_still}
-use Rattle.lucy_meaning.specs.Horizons.{Suffice}
+use Rattle.lucy_lines.specs.Feeding.{values_of, values_by_stream, IsAskedWhile}
+use Rattle.lucy_lines.specs.Resuming.{FeedState, AreCounts, AreMet, HasRead, IsGivenUp, IsShort, AreFresh, ReadsWhile, GivesUp, ValuesInTurn}
+use Rattle.lucy_lines.proofs.FeedLaws.{asked_as, asks_as, asked_still}
+use Rattle.lucy_kahn.specs.Horizons.{Suffice}
 use Rattle.lucy_results.specs.Playing.{joined}
 use Rattle.lucy_results.proofs.LaterLaws.{joined_count, joined_at}
 use Rattle.lucy_run.specs.Courses.{HasFed, IsFedSoFar, GivesUpBehind}

@@ -7,11 +7,11 @@ use Rattle.lucy_word.specs.Bits.{Bits}
 use Rattle.lucy_word.specs.declared.error.OutOfMemory.{OutOfMemory}
 use Rattle.lucy_host.specs.declared.kind.HostKind.{HostKind}
 use Rattle.lucy_host.specs.Operators.{Operator, kinds_of}
-use Rattle.lucy_lines.specs.Laws.{OneCut, CutInPieces}
+use Rattle.lucy_lines.specs.CutLaws.{OneCut, CutInPieces}
 use Rattle.lucy_lines.specs.declared.reader.TextFault.{TextFault}
-use Rattle.lucy_feed.specs.declared.feeds.Feed.{Feed}
+use Rattle.lucy_lines.specs.declared.feeds.Feed.{Feed}
 use Rattle.lucy_text.specs.Sources.{ReadStop}
-use Rattle.lucy_feed.specs.Feeding.{OneFeed}
+use Rattle.lucy_lines.specs.Feeding.{OneFeed}
 use Rattle.lucy_text.specs.Outside.{SeenSink, Writes, Fails}
 use Rattle.lucy_stream.specs.Systems.{System}
 use Rattle.lucy_stream.specs.Runs.{none_done, after, IsRun, IsFinished}
@@ -24,14 +24,14 @@ use Rattle.lucy_trace.specs.Logs.{possible_of, IsFirstImpossible}
 use Rattle.lucy_trace.specs.declared.error.TraceError.{TraceError}
 use Rattle.lucy_trace.specs.declared.error.TraceError.TheVariants.{NotPossible}
 use Rattle.lucy_trace.proofs.RunLaws.{none_longer}
-use Rattle.lucy_output.specs.declared.output.OutputSpec.{OutputSpec}
-use Rattle.lucy_output.specs.Outputs.{output_text, lines_after}
-use Rattle.lucy_output.specs.Writing.{WriterState, new_writer}
-use Rattle.lucy_output.proofs.OutputLaws.{lines_from_first}
-use Rattle.lucy_output.proofs.SinkLaws.{writes_more, fails_behind, fails_longer}
+use Rattle.lucy_lines.specs.declared.output.OutputSpec.{OutputSpec}
+use Rattle.lucy_lines.specs.Outputs.{output_text, lines_after}
+use Rattle.lucy_lines.specs.Writing.{WriterState, new_writer}
+use Rattle.lucy_lines.proofs.OutputLaws.{lines_from_first}
+use Rattle.lucy_lines.proofs.SinkLaws.{writes_more, fails_behind, fails_longer}
 use Rattle.lucy_place.specs.declared.placed.PlacedNode.{PlacedNode}
 use Rattle.lucy_clock.specs.declared.node_clock.NodeClock.{NodeClock}
-use Rattle.lucy_meaning.specs.Sizes.{all_places}
+use Rattle.lucy_kahn.specs.Sizes.{all_places}
 use Rattle.lucy_results.specs.Streams.{param_words, main_streams, taken_of}
 use Rattle.lucy_results.specs.Taking.{taken_lists, LeadAlongStreams}
 use Rattle.lucy_results.proofs.OutputLaws.{first_unbegun}

@@ -2,11 +2,11 @@
 use Rattle.std.proofs.Common.{ℕ, ◌≡◌, List, [], None, Result, Ok, Err, length, ap, sym, refl, ◌∙◌, subst}
 use Rattle.lucy_host.specs.declared.kind.HostKind.{HostKind}
 use Rattle.lucy_text.specs.Outside.{SeenSource, SeenSink, Writes}
-use Rattle.lucy_output.specs.declared.output.OutputSpec.{OutputSpec}
-use Rattle.lucy_output.specs.declared.error.OutputError.{OutputError}
-use Rattle.lucy_output.specs.declared.error.OutputError.TheVariants as error
-use Rattle.lucy_output.specs.Laws.{InstantByInstant}
-use Rattle.lucy_output.specs.Writing.{WriterState, new_writer}
+use Rattle.lucy_lines.specs.declared.output.OutputSpec.{OutputSpec}
+use Rattle.lucy_lines.specs.declared.error.OutputError.{OutputError}
+use Rattle.lucy_lines.specs.declared.error.OutputError.TheVariants as error
+use Rattle.lucy_lines.specs.OutputLaws.{InstantByInstant}
+use Rattle.lucy_lines.specs.Writing.{WriterState, new_writer}
 use Rattle.lucy_clock.specs.declared.node_clock.NodeClock.{NodeClock}
 use Rattle.lucy_program.specs.declared.accepted.Accepted.{Accepted}
 use Rattle.lucy_run.specs.declared.pace.Pace.{Pace}

@@ -7,9 +7,9 @@ use Rattle.lucy_word.specs.Bits.{Bits, bit_at, ones_to, one_if}
 use Rattle.lucy_word.specs.Index.{IsIndex}
 use Rattle.lucy_word.proofs.BitsLaws.{ones_to-more}
 use Rattle.lucy_word.proofs.IndexLaws.{ones_to-rises, IsIndex-before}
-use Rattle.lucy_output.specs.declared.output.OutputSpec.{OutputSpec}
-use Rattle.lucy_output.specs.Outputs.{line_with_value, instant_after, more_lines, lines_after}
-use Rattle.lucy_output.proofs.OutputLaws.{no_more_lines, one_instant_on}
+use Rattle.lucy_lines.specs.declared.output.OutputSpec.{OutputSpec}
+use Rattle.lucy_lines.specs.Outputs.{line_with_value, instant_after, more_lines, lines_after}
+use Rattle.lucy_lines.proofs.OutputLaws.{no_more_lines, one_instant_on}
 use Rattle.lucy_run.specs.Courses.{AreSilent, long_block, IsNextTarget}
 
 -- the next one of a word stands behind the instant

@@ -1,9 +1,9 @@
 -- What the trace of a run owes is one ending, and traces up to the horizon of what main is fed.
 use Rattle.std.proofs.Common.{ℕ, List, Option}
 use Rattle.std.specs.Prelude.{ℤ}
-use Rattle.lucy_lines.specs.Laws.{OneCut, CutInPieces}
+use Rattle.lucy_lines.specs.CutLaws.{OneCut, CutInPieces}
 use Rattle.lucy_lines.specs.declared.reader.TextFault.{TextFault}
-use Rattle.lucy_feed.specs.Feeding.{OneFeed}
+use Rattle.lucy_lines.specs.Feeding.{OneFeed}
 use Rattle.lucy_trace.specs.Traces.{IsTraceText}
 use Rattle.lucy_run.specs.Owes.{input_words, EndsFor}
 use Rattle.lucy_run.specs.Laws.{OneTrace, CompleteTrace}

@@ -6,19 +6,19 @@ use Rattle.lucy_word.specs.Bits.{Bits}
 use Rattle.lucy_word.specs.declared.error.OutOfMemory.{OutOfMemory}
 use Rattle.lucy_host.specs.Operators.{Operator, kinds_of}
 use Rattle.lucy_lines.specs.declared.reader.TextFault.{TextFault}
-use Rattle.lucy_feed.specs.declared.feeds.Feed.{Feed}
+use Rattle.lucy_lines.specs.declared.feeds.Feed.{Feed}
 use Rattle.lucy_text.specs.Sources.{ReadStop}
 use Rattle.lucy_text.specs.Outside.{SeenSink, Writes, Fails}
 use Rattle.lucy_net.specs.declared.net.Net.{Net}
-use Rattle.lucy_cause.specs.Schedules.{Timetable, IsScheduleOf}
+use Rattle.lucy_net.specs.Schedules.{Timetable, IsScheduleOf}
 use Rattle.lucy_core.specs.Seen.{Seen, CanMakeCore, first_seen}
 use Rattle.lucy_runner.specs.Views.{RunnerView, first_runner}
 use Rattle.lucy_fields.specs.Readings.{AreRead}
 use Rattle.lucy_trace.specs.Logs.{picks_of}
 use Rattle.lucy_trace.specs.Traces.{trace_text, IsTraceText, TracesAreLogs}
 use Rattle.lucy_trace.specs.Together.{AreTogether}
-use Rattle.lucy_output.specs.Outputs.{output_text}
-use Rattle.lucy_output.proofs.SinkLaws.{unwritten}
+use Rattle.lucy_lines.specs.Outputs.{output_text}
+use Rattle.lucy_lines.proofs.SinkLaws.{unwritten}
 use Rattle.lucy_clock.specs.declared.node_clock.NodeClock.{NodeClock}
 use Rattle.lucy_results.specs.Streams.{param_words}
 use Rattle.lucy_stream.specs.Runs.{IsWhole}

@@ -3,11 +3,11 @@ use Rattle.std.proofs.Common.{ℕ, ◌≡◌, List, [], ◌∷◌, ◌++◌, tru
 use Rattle.lucy_word.specs.Bits.{Bits}
 use Rattle.lucy_text.specs.Outside.{SeenSource}
 use Rattle.lucy_lines.specs.Cuts.{ItemOf, Stop as Halt, with_more, Cut, input_of}
-use Rattle.lucy_lines.specs.Laws.{OneCut, CutInPieces, SomeCut}
+use Rattle.lucy_lines.specs.CutLaws.{OneCut, CutInPieces, SomeCut}
 use Rattle.lucy_lines.specs.declared.input.InputSpec.{InputSpec}
-use Rattle.lucy_feed.specs.Feeding.{values_by_stream, is_closed}
-use Rattle.lucy_feed.specs.Resuming.{FeedState, ValuesInTurn}
-use Rattle.lucy_meaning.specs.Horizons.{Suffice}
+use Rattle.lucy_lines.specs.Feeding.{values_by_stream, is_closed}
+use Rattle.lucy_lines.specs.Resuming.{FeedState, ValuesInTurn}
+use Rattle.lucy_kahn.specs.Horizons.{Suffice}
 use Rattle.lucy_run.specs.Feeds.{IsNeededFor}
 use Rattle.lucy_run.specs.Courses.{HasFed}
 use Rattle.lucy_run.proofs.ReadLaws.{suffice_longer, values_front}

@@ -5,13 +5,13 @@ use Rattle.std.proofs.lemmas.List.{append-nil}
 use Rattle.lucy_text.proofs.OutsideLaws.{followed, AtEnd}
 use Rattle.lucy_text.specs.Outside.{Rose, SeenSource}
 use Rattle.lucy_lines.specs.Cuts.{ItemOf, Held, Stop as Halt, At, Before, Cut, input_of}
-use Rattle.lucy_lines.specs.Laws.{OneCut, CutInPieces}
+use Rattle.lucy_lines.specs.CutLaws.{OneCut, CutInPieces}
 use Rattle.lucy_lines.specs.Fronts.{most_bytes}
 use Rattle.lucy_lines.specs.declared.input.InputSpec.{InputSpec}
 use Rattle.lucy_lines.specs.declared.reader.TextFault.{TextFault}
 use Rattle.lucy_lines.specs.declared.reader.TextFault.TheVariants as text_fault
 use Rattle.lucy_text.specs.Sources.{ReadStop, Unread, Ended, Failed, Passed, Open, Drained, StoppedAt, Read}
-use Rattle.lucy_feed.specs.Feeding.{values_by_stream, is_closed, fault_of, StopsFor}
+use Rattle.lucy_lines.specs.Feeding.{values_by_stream, is_closed, fault_of, StopsFor}
 use Rattle.lucy_host.specs.declared.kind.HostKind.{HostKind}
 use Rattle.lucy_results.specs.Running.{HasManyTurns, HasManyItems}
 use Rattle.lucy_program.specs.declared.accepted.Accepted.{Accepted}

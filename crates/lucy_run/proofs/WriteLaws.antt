@@ -4,18 +4,18 @@ use Rattle.std.specs.Prelude.{ℤ, Result, Ok, Err, MatchResult, IsErrAnd}
 use Rattle.std.proofs.lemmas.Bool.{cases_lt}
 use Rattle.std.proofs.lemmas.List.{length-map, append-nil}
 use Rattle.lucy_lines.specs.Cuts.{ItemOf}
-use Rattle.lucy_lines.specs.Laws.{OneCut, CutInPieces, SomeCut}
+use Rattle.lucy_lines.specs.CutLaws.{OneCut, CutInPieces, SomeCut}
 use Rattle.lucy_text.specs.Outside.{SeenSource, SeenSink, Writes, Fails}
-use Rattle.lucy_feed.specs.Resuming.{ValuesInTurn}
-use Rattle.lucy_output.specs.declared.output.OutputSpec.{OutputSpec}
-use Rattle.lucy_output.specs.declared.error.OutputError.{OutputError}
-use Rattle.lucy_output.specs.declared.error.OutputError.TheVariants as error
-use Rattle.lucy_output.specs.Outputs.{lines_after}
-use Rattle.lucy_output.specs.Laws.{InstantByInstant}
-use Rattle.lucy_output.specs.Writing.{WriterState, new_writer}
-use Rattle.lucy_output.proofs.SinkLaws.{unwritten, writes_more}
-use Rattle.lucy_meaning.specs.Horizons.{Suffice}
-use Rattle.lucy_meaning.specs.Spots.{main_of, results_in}
+use Rattle.lucy_lines.specs.Resuming.{ValuesInTurn}
+use Rattle.lucy_lines.specs.declared.output.OutputSpec.{OutputSpec}
+use Rattle.lucy_lines.specs.declared.error.OutputError.{OutputError}
+use Rattle.lucy_lines.specs.declared.error.OutputError.TheVariants as error
+use Rattle.lucy_lines.specs.Outputs.{lines_after}
+use Rattle.lucy_lines.specs.OutputLaws.{InstantByInstant}
+use Rattle.lucy_lines.specs.Writing.{WriterState, new_writer}
+use Rattle.lucy_lines.proofs.SinkLaws.{unwritten, writes_more}
+use Rattle.lucy_kahn.specs.Horizons.{Suffice}
+use Rattle.lucy_kahn.specs.Spots.{main_of, results_in}
 use Rattle.lucy_results.specs.Streams.{main_word, main_streams, later_stream, later_streams}
 use Rattle.lucy_run.specs.Owes.{most_instants}
 use Rattle.lucy_run.specs.Courses.{CourseView, Program, CanBeRunInBlocks, words_of, values, HasFed, AreSilent, IsAlong, IsNextBlock, GivesUpBehind}

@@ -2,7 +2,7 @@
 use Rattle.std.specs.Prelude.{◌≡◌, ◌≢◌, List, [], None}
 use Rattle.lucy_host.specs.Operators.{Operator, kinds_of}
 use Rattle.lucy_program.specs.declared.accepted.Accepted.{Accepted}
-use Rattle.lucy_output.specs.declared.output.OutputSpec.{OutputSpec}
+use Rattle.lucy_lines.specs.declared.output.OutputSpec.{OutputSpec}
 use Rattle.lucy_run.specs.declared.pace.Pace.{Pace}
 use Rattle.lucy_run.specs.Paces.{IsPace}
 use Rattle.lucy_run.specs.Calls.{WasAccepted}

@@ -11,14 +11,14 @@ use Rattle.lucy_lines.specs.declared.input.InputSpec.{InputSpec}
 use Rattle.lucy_lines.specs.declared.reader.TextFault.{TextFault}
 use Rattle.lucy_text.specs.Outside.{SeenSource}
 use Rattle.lucy_text.specs.Sources.{ReadStop, Read}
-use Rattle.lucy_feed.specs.Feeding.{values_by_stream, IsAskedWhile, IsAsked}
-use Rattle.lucy_feed.specs.Resuming.{FeedState, AreCounts, HasRead, AreFresh}
-use Rattle.lucy_output.specs.declared.output.OutputSpec.{OutputSpec}
+use Rattle.lucy_lines.specs.Feeding.{values_by_stream, IsAskedWhile, IsAsked}
+use Rattle.lucy_lines.specs.Resuming.{FeedState, AreCounts, HasRead, AreFresh}
+use Rattle.lucy_lines.specs.declared.output.OutputSpec.{OutputSpec}
 use Rattle.lucy_place.specs.declared.placed.PlacedNode.{PlacedNode}
 use Rattle.lucy_place.specs.Proper.{AreProper}
 use Rattle.lucy_clock.specs.declared.node_clock.NodeClock.{NodeClock}
-use Rattle.lucy_meaning.specs.Spots.{main_of}
-use Rattle.lucy_meaning.specs.Horizons.{Suffice}
+use Rattle.lucy_kahn.specs.Spots.{main_of}
+use Rattle.lucy_kahn.specs.Horizons.{Suffice}
 use Rattle.lucy_kahn.specs.Turns.{params_in}
 use Rattle.lucy_results.specs.Streams.{param_words, result_words, later_streams}
 use Rattle.lucy_results.specs.Running.{HasSchedule}

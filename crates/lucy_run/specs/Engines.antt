@@ -4,8 +4,8 @@ use Rattle.lucy_word.specs.Limits.{limit_number}
 use Rattle.lucy_word.specs.declared.error.OutOfMemory.{OutOfMemory}
 use Rattle.lucy_word.specs.declared.limit.Limit.TheVariants as limit
 use Rattle.lucy_host.specs.Operators.{Operator, kinds_of}
-use Rattle.lucy_meaning.specs.Spots.{main_of}
-use Rattle.lucy_meaning.specs.Horizons.{Suffice}
+use Rattle.lucy_kahn.specs.Spots.{main_of}
+use Rattle.lucy_kahn.specs.Horizons.{Suffice}
 use Rattle.lucy_kahn.specs.Turns.{params_in}
 use Rattle.lucy_runner.specs.Views.{most_workers}
 use Rattle.lucy_results.specs.Streams.{param_words, main_streams}

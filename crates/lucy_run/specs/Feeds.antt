@@ -6,10 +6,10 @@ use Rattle.lucy_lines.specs.Cuts.{ItemOf, Stop as Halt, Cut, input_of}
 use Rattle.lucy_lines.specs.declared.input.InputSpec.{InputSpec}
 use Rattle.lucy_lines.specs.declared.reader.TextFault.{TextFault}
 use Rattle.lucy_lines.specs.declared.reader.TextFault.TheVariants.{ReadFault}
-use Rattle.lucy_feed.specs.declared.feeds.Feed.{Feed}
+use Rattle.lucy_lines.specs.declared.feeds.Feed.{Feed}
 use Rattle.lucy_text.specs.Sources.{ReadStop, Unread, Ended, Failed, Open}
-use Rattle.lucy_feed.specs.Feeding.{is_closed, fault_of, values_by_stream, IsAskedWhile, IsFeedOf}
-use Rattle.lucy_meaning.specs.Horizons.{Suffice}
+use Rattle.lucy_lines.specs.Feeding.{is_closed, fault_of, values_by_stream, IsAskedWhile, IsFeedOf}
+use Rattle.lucy_kahn.specs.Horizons.{Suffice}
 
 -- the items of each input, and why they stop before the end of what was to be read; where main has no inputs nothing is read
 abbrev pub Feeds : List InputSpec → (taken : List ℕ) → ReadStop → (lists : List (List ℤ)) → Option TextFault → Type 0

@@ -6,11 +6,11 @@ use Rattle.lucy_word.specs.declared.limit.Limit.TheVariants as limit
 use Rattle.lucy_host.specs.declared.kind.HostKind.{HostKind}
 use Rattle.lucy_lines.specs.declared.reader.TextFault.{TextFault}
 use Rattle.lucy_text.specs.Sources.{ReadStop}
-use Rattle.lucy_output.specs.declared.output.OutputSpec.{OutputSpec}
-use Rattle.lucy_output.specs.Outputs.{output_text}
+use Rattle.lucy_lines.specs.declared.output.OutputSpec.{OutputSpec}
+use Rattle.lucy_lines.specs.Outputs.{output_text}
 use Rattle.lucy_place.specs.declared.placed.PlacedNode.{PlacedNode}
 use Rattle.lucy_clock.specs.declared.node_clock.NodeClock.{NodeClock}
-use Rattle.lucy_meaning.specs.Horizons.{Suffice, IsHorizon}
+use Rattle.lucy_kahn.specs.Horizons.{Suffice, IsHorizon}
 use Rattle.lucy_results.specs.Streams.{param_words, main_streams}
 use Rattle.lucy_results.specs.Running.{HasManyTurns, HasManyItems}
 use Rattle.lucy_program.specs.declared.accepted.Accepted.{Accepted}

@@ -8,13 +8,13 @@ use Rattle.lucy_stream.specs.Fronts.{AreFronts}
 use Rattle.lucy_lines.specs.Cuts.{ItemOf}
 use Rattle.lucy_lines.specs.declared.input.InputSpec.{InputSpec}
 use Rattle.lucy_text.specs.Outside.{SeenSource, SeenSink, Writes, Fails}
-use Rattle.lucy_feed.specs.Feeding.{values_by_stream}
-use Rattle.lucy_feed.specs.Resuming.{FeedState, AreFresh}
-use Rattle.lucy_output.specs.declared.error.OutputError.{OutputError}
-use Rattle.lucy_output.specs.declared.error.OutputError.TheVariants.{Failed, OutOfMemory}
-use Rattle.lucy_output.specs.Outputs.{lines_after}
-use Rattle.lucy_output.specs.Writing.{WriterState}
-use Rattle.lucy_meaning.specs.Horizons.{Suffice, IsHorizon}
+use Rattle.lucy_lines.specs.Feeding.{values_by_stream}
+use Rattle.lucy_lines.specs.Resuming.{FeedState, AreFresh}
+use Rattle.lucy_lines.specs.declared.error.OutputError.{OutputError}
+use Rattle.lucy_lines.specs.declared.error.OutputError.TheVariants.{Failed, OutOfMemory}
+use Rattle.lucy_lines.specs.Outputs.{lines_after}
+use Rattle.lucy_lines.specs.Writing.{WriterState}
+use Rattle.lucy_kahn.specs.Horizons.{Suffice, IsHorizon}
 use Rattle.lucy_results.specs.Streams.{param_words, later_streams}
 use Rattle.lucy_results.specs.Playing.{PlayerView, joined}
 use Rattle.lucy_run.specs.Feeds.{IsShortOf}

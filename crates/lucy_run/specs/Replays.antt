@@ -10,8 +10,8 @@ use Rattle.lucy_stream.specs.Runs.{none_done, after, IsRun, IsFinished}
 use Rattle.lucy_net.specs.Plans.{net_system}
 use Rattle.lucy_trace.specs.Logs.{IsFirstImpossible}
 use Rattle.lucy_trace.specs.declared.error.TraceError.{TraceError}
-use Rattle.lucy_output.specs.Outputs.{output_text}
-use Rattle.lucy_meaning.specs.Sizes.{all_places}
+use Rattle.lucy_lines.specs.Outputs.{output_text}
+use Rattle.lucy_kahn.specs.Sizes.{all_places}
 use Rattle.lucy_results.specs.Streams.{main_streams, taken_of}
 use Rattle.lucy_program.specs.declared.accepted.Accepted.{Accepted}
 use Rattle.lucy_run.specs.declared.ending.Ending.{Ending}

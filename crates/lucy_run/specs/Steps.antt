@@ -17,8 +17,8 @@ use Rattle.lucy_net.specs.declared.net.Net.{Net}
 use Rattle.lucy_stream.specs.States.{start, events}
 use Rattle.lucy_core.specs.Seen.{Seen, CanRun, after_picks, done_of, first_seen, machine_of, state_of}
 use Rattle.lucy_results.specs.Taking.{taken_lists}
-use Rattle.lucy_output.specs.declared.output.OutputSpec.{OutputSpec}
-use Rattle.lucy_output.specs.Outputs.{output_text}
+use Rattle.lucy_lines.specs.declared.output.OutputSpec.{OutputSpec}
+use Rattle.lucy_lines.specs.Outputs.{output_text}
 use Rattle.lucy_trace.specs.Logs.{IsFirstImpossible}
 use Rattle.lucy_trace.specs.declared.error.TraceError.{TraceError}
 use Rattle.lucy_trace.specs.Traces.{IsTraceText}

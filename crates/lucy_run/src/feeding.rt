@@ -3,9 +3,8 @@ ghost use Rattle.std.specs.Prelude.{◌≡◌, ◌<◌, ◌≤◌, ◌^◌, [], 
 ghost use Rattle.lucy_run.specs.Feeds.{IsMainFeed};
 ghost use Rattle.lucy_run.specs.Calls.{ReadsAndEnds};
 
-use lucy_feed::{Feed, read_feed};
 use lucy_host::Inputs;
-use lucy_lines::InputSpec;
+use lucy_lines::{Feed, InputSpec, read_feed};
 use lucy_text::Source;
 use lucy_word::OutOfMemory;
 use std::alloc::Global;

@@ -5,10 +5,8 @@ ghost use Rattle.lucy_run.specs.Steps.{ReplaysGoByStreams};
 ghost use Rattle.lucy_run.specs.Laws.{OneRun, OneInterpretation, OneReplay, OneTrace, SameLines, CompleteRun, CompleteInterpretation, CompleteReplay, CompleteTrace};
 
 use lucy_core::events_go_by_the_net;
-use lucy_feed::one_feed;
-use lucy_lines::{cut_in_pieces, one_cut};
-use lucy_meaning::one_horizon;
-use lucy_output::{block_by_block, fronts_suffice};
+use lucy_kahn::one_horizon;
+use lucy_lines::{block_by_block, cut_in_pieces, fronts_suffice, one_cut, one_feed};
 use lucy_program::accepted_programs_are_clocked;
 use lucy_results::{
     nets_can_be_run, runs_lead_along_streams, streams_go_on, whole_runs_lead_to_streams,

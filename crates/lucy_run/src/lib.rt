@@ -1,8 +1,8 @@
 //! A program run from its input to its output lines: what the commands `run`, `kahn`, `trace` and `replay` do with an accepted program, a
 //! source and a sink.
 //!
-//! It stands on `lucy_front` for accepted programs and their report, on `lucy_feed` for the items of the input, on `lucy_results`
-//! for the streams of the results, on `lucy_output` for their lines and on `lucy_trace` for those of a trace. `course.rt` takes the
+//! It stands on `lucy_front` for accepted programs and their report, on `lucy_lines` for the items of the input and the lines of the
+//! results, on `lucy_results` for the streams of the results and on `lucy_trace` for the lines of a trace. `course.rt` takes the
 //! input and the program through the blocks of a run, whatever becomes of the results. Begin with `specs/Owes.antt`, which says what
 //! stands on the output and how a run ends, and with `run` in `running.rt`.
 #![tactic(auto)]

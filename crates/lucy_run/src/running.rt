@@ -19,10 +19,11 @@ use crate::course::Course;
 use crate::ending::Ending;
 use crate::laws::lines_go_on;
 use crate::pace::Pace;
-use lucy_feed::values_in_turn;
 use lucy_host::Host;
-use lucy_lines::{cut_in_pieces, one_cut, some_cut};
-use lucy_output::{OutputError, OutputSpec, OutputWriter, instant_by_instant};
+use lucy_lines::{
+    OutputError, OutputSpec, OutputWriter, cut_in_pieces, instant_by_instant, one_cut, some_cut,
+    values_in_turn,
+};
 use lucy_program::{Accepted, accepted_programs_are_clocked, report};
 use lucy_text::{Sink, Source, write_all};
 use lucy_word::OutOfMemory;

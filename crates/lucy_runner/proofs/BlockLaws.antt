@@ -9,7 +9,7 @@ use Rattle.lucy_host.specs.Operators.{Operator}
 use Rattle.lucy_net.specs.declared.net.Net.{Net}
 use Rattle.lucy_net.specs.declared.net.RingSpec.{RingSpec}
 use Rattle.lucy_net.specs.Proper.{IsProperRing, IsSupplied}
-use Rattle.lucy_cause.specs.Schedules.{Timetable}
+use Rattle.lucy_net.specs.Schedules.{Timetable}
 use Rattle.lucy_core.specs.Seen.{Seen, IsOver}
 use Rattle.lucy_core.proofs.ListLaws.{map_same}
 use Rattle.lucy_worker.specs.declared.part.Part.{Part}

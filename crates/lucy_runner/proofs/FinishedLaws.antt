@@ -15,7 +15,7 @@ use Rattle.lucy_stream.proofs.TotalLaws.{events_counted}
 use Rattle.lucy_net.specs.declared.net.Net.{Net}
 use Rattle.lucy_net.specs.Plans.{net_system}
 use Rattle.lucy_net.proofs.NetLaws.{only_first}
-use Rattle.lucy_cause.specs.Schedules.{Timetable}
+use Rattle.lucy_net.specs.Schedules.{Timetable}
 use Rattle.lucy_core.specs.Seen as core
 use Rattle.lucy_core.specs.Seen.{Seen, CanRun, IsOver, after_picks, machine_on}
 use Rattle.lucy_core.proofs.OpenLaws.{IsSound, joined_picks}

@@ -23,7 +23,7 @@ use Rattle.lucy_net.specs.Plans.{form_of, link_of, plan}
 use Rattle.lucy_net.specs.Proper.{IsProper}
 use Rattle.lucy_net.specs.States.{IsActorState, ReadsInput}
 use Rattle.lucy_net.proofs.NetLaws.{plugged, usable}
-use Rattle.lucy_cause.specs.Schedules.{Timetable}
+use Rattle.lucy_net.specs.Schedules.{Timetable}
 use Rattle.lucy_core.specs.Seen.{Seen, machine_on, order_on, done_of, state_on, machine_of, state_of, CanMakeCore, first_seen}
 use Rattle.lucy_core.proofs.SeenLaws.{IsMachineOf, machine_is}
 use Rattle.lucy_ring.specs.Views.{GiverView, TakerView}

@@ -6,7 +6,7 @@ use Rattle.lucy_host.specs.Operators.{Operator}
 use Rattle.lucy_stream.specs.States.{held, IsSame}
 use Rattle.lucy_net.specs.declared.net.Actor.{Actor}
 use Rattle.lucy_net.specs.declared.net.Net.{Net}
-use Rattle.lucy_cause.specs.Schedules.{Timetable}
+use Rattle.lucy_net.specs.Schedules.{Timetable}
 use Rattle.lucy_core.specs.Seen.{Seen, state_of, CanRun, IsOutputOf, first_ring, after_picks}
 use Rattle.lucy_core.proofs.OpenLaws.{IsSound}
 use Rattle.lucy_worker.specs.declared.part.Part.{Part}

@@ -10,7 +10,7 @@ use Rattle.lucy_net.specs.declared.net.Actor.{Actor}
 use Rattle.lucy_net.specs.declared.net.Net.{Net}
 use Rattle.lucy_net.specs.declared.kind.ActorKind.{ActorKind}
 use Rattle.lucy_net.specs.declared.kind.ActorKind.TheVariants.{Output}
-use Rattle.lucy_cause.specs.Schedules.{Timetable}
+use Rattle.lucy_net.specs.Schedules.{Timetable}
 use Rattle.lucy_core.specs.Seen.{Seen, state_of, plan_of, stream_of, first_ring, IsOver, IsOutputOf}
 use Rattle.lucy_core.proofs.OpenLaws.{took_all}
 use Rattle.lucy_worker.specs.declared.part.Part.{Part}

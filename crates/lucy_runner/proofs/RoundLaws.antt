@@ -6,7 +6,7 @@ use Rattle.std.proofs.lemmas.List.{length-map}
 use Rattle.lucy_host.specs.Operators.{Operator, kinds_of}
 use Rattle.lucy_host.specs.declared.kind.HostKind.{HostKind}
 use Rattle.lucy_net.specs.declared.net.Net.{Net}
-use Rattle.lucy_cause.specs.Schedules.{Timetable}
+use Rattle.lucy_net.specs.Schedules.{Timetable}
 use Rattle.lucy_core.specs.Seen.{Seen, done_of}
 use Rattle.lucy_worker.specs.declared.part.Part.{Part}
 use Rattle.lucy_runner.specs.declared.place.Place.{Place}

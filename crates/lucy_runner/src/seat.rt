@@ -13,8 +13,8 @@ ghost use Rattle.lucy_runner.specs.Crews.{crew_of};
 ghost use Rattle.lucy_runner.specs.Turns.{HaveTurned};
 ghost use Rattle.lucy_runner.specs.Seats.{IsTurned, moves_of, most_turned};
 
-use lucy_cause::operations;
 use lucy_host::Host;
+use lucy_net::operations;
 use lucy_worker::{Gate, Part, Worker};
 use std::thread;
 use std::thread::Threads;

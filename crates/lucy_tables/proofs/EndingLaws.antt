@@ -8,7 +8,7 @@ use Rattle.lucy_command.specs.Commands.{command_of}
 use Rattle.lucy_app.specs.World.{World}
 use Rattle.lucy_app.specs.Answers.{Answer, out_of_memory}
 use Rattle.lucy_app.specs.Ends.{Tells, Declines, Ends}
-use Rattle.lucy_output.proofs.SinkLaws.{unwritten}
+use Rattle.lucy_lines.proofs.SinkLaws.{unwritten}
 use Rattle.lucy_tables.specs.Words.{TableWords, IsCut}
 use Rattle.lucy_tables.specs.Ends.{Begins, AreRefused, EndsTabled}
 use Rattle.lucy_tables.specs.Seen.{loading_answer}

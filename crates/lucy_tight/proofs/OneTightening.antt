@@ -12,7 +12,7 @@ use Rattle.lucy_place.specs.WrittenNodes.{IsWritten}
 use Rattle.lucy_types.proofs.ListLaws.{get_there}
 use Rattle.lucy_need.specs.Meeting.{assigned}
 use Rattle.lucy_need.specs.declared.need.Needs.{Needs}
-use Rattle.lucy_order.proofs.OneVerdict.{one_size}
+use Rattle.lucy_check.proofs.OneVerdict.{one_size}
 use Rattle.lucy_clock.specs.declared.node_clock.NodeClock.{NodeClock}
 use Rattle.lucy_clock.specs.NodeClocks.{AreSizes}
 use Rattle.lucy_shape.specs.declared.shape.Shape.{Shape}

@@ -12,7 +12,7 @@ use Rattle.lucy_place.specs.Proper.{IsProperNode, IsProperKind}
 use Rattle.lucy_types.proofs.ListLaws.{at_one_within, get_there}
 use Rattle.lucy_need.specs.Meeting.{Assignment, MeetsAll, assigned}
 use Rattle.lucy_need.specs.declared.need.Needs.{Needs}
-use Rattle.lucy_order.proofs.OneVerdict.{one_size}
+use Rattle.lucy_check.proofs.OneVerdict.{one_size}
 use Rattle.lucy_clock.specs.declared.signature.Signature.{Signature}
 use Rattle.lucy_clock.specs.declared.node_clock.NodeClock.{NodeClock}
 use Rattle.lucy_clock.specs.Clocks.{AreSignatures, clocks_of}

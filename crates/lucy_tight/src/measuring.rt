@@ -7,8 +7,8 @@ ghost use Rattle.lucy_need.specs.Meeting.{assigned};
 ghost use Rattle.lucy_clock.specs.NodeClocks.{AreSizes};
 ghost use Rattle.lucy_tight.specs.Measured.{AreAdaptable};
 
+use lucy_check::{Verdict, adapt};
 use lucy_clock::{NodeClock, Numbers64, Words};
-use lucy_order::{Verdict, adapt};
 use lucy_place::PlacedNode;
 use lucy_program::first_operand;
 use lucy_word::{OutOfMemory, Word};

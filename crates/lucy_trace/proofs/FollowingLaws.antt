@@ -12,7 +12,7 @@ use Rattle.lucy_stream.specs.Totals.{total}
 use Rattle.lucy_stream.proofs.AlikeLaws.{IsRun-same, after-same}
 use Rattle.lucy_stream.proofs.TotalLaws.{total-same}
 use Rattle.lucy_text.specs.Outside.{SeenSink, Writes, Fails}
-use Rattle.lucy_output.proofs.SinkLaws.{unwritten, writes_more, fails_behind, fails_longer}
+use Rattle.lucy_lines.proofs.SinkLaws.{unwritten, writes_more, fails_behind, fails_longer}
 use Rattle.lucy_core.specs.Seen.{Seen, machine_of, done_of, CanRun, IsOver, IsUnbegun, after_picks}
 use Rattle.lucy_core.specs.Laws.{EventsGoByTheNet}
 use Rattle.lucy_core.proofs.OpenLaws.{joined_picks}

@@ -12,7 +12,7 @@ ghost use Rattle.lucy_trace.specs.Progress.{IsRoundPrinted, IsRest};
 use crate::rounds::{print, round};
 use lucy_core::{Core, events_go_by_the_net};
 use lucy_host::Host;
-use lucy_output::OutputError;
+use lucy_lines::OutputError;
 use lucy_runner::Runner;
 use lucy_text::Sink;
 use std::alloc::Global;

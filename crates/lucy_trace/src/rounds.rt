@@ -10,7 +10,7 @@ ghost use Rattle.lucy_trace.specs.Together.{AreTogether};
 use crate::{catch_up, line_of};
 use lucy_core::{Core, events_go_by_the_net};
 use lucy_host::Host;
-use lucy_output::OutputError;
+use lucy_lines::OutputError;
 use lucy_runner::Runner;
 use lucy_text::{Sink, write_all};
 use lucy_word::OutOfMemory;

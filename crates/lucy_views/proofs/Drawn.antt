@@ -7,7 +7,7 @@ use Rattle.lucy_tree.specs.View.{ProgramTree}
 use Rattle.lucy_place.specs.declared.placed.PlacedNode.{PlacedNode}
 use Rattle.lucy_need.specs.Meeting.{assigned}
 use Rattle.lucy_clock.specs.declared.node_clock.NodeClock.{NodeClock}
-use Rattle.lucy_cause.specs.Lengths.{AreLengths}
+use Rattle.lucy_net.specs.Lengths.{AreLengths}
 use Rattle.lucy_flat.specs.Instances.{words_in}
 use Rattle.lucy_program.specs.declared.accepted.Accepted.{Accepted}
 use Rattle.lucy_program.specs.declared.options.Options.{Options}

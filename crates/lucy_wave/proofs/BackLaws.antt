@@ -11,8 +11,8 @@ use Rattle.std.proofs.lemmas.Bool.{eqb-false}
 use Rattle.std.proofs.lemmas.Simd.{map-map}
 use Rattle.lucy_word.specs.Bits.{Bits, bit_at, ones_to, one_if}
 use Rattle.lucy_word.proofs.IndexLaws.{ones_to-rises, ones_to-one}
-use Rattle.lucy_output.specs.declared.output.OutputSpec.{OutputSpec}
-use Rattle.lucy_output.specs.Outputs.{value_at, instant_text, output_text}
+use Rattle.lucy_lines.specs.declared.output.OutputSpec.{OutputSpec}
+use Rattle.lucy_lines.specs.Outputs.{value_at, instant_text, output_text}
 use Rattle.lucy_host.specs.declared.kind.HostKind.{HostKind}
 use Rattle.lucy_place.specs.declared.placed.PlacedNode.{PlacedNode}
 use Rattle.lucy_place.specs.Proper.{AreProper}
@@ -20,8 +20,8 @@ use Rattle.lucy_need.specs.Meeting.{Assignment}
 use Rattle.lucy_clock.specs.declared.node_clock.NodeClock.{NodeClock}
 use Rattle.lucy_token.specs.Fronts.{is_name_byte}
 use Rattle.lucy_net.specs.declared.net.Net.{Net}
-use Rattle.lucy_meaning.specs.Spots.{main_of}
-use Rattle.lucy_meaning.specs.Horizons.{Suffice}
+use Rattle.lucy_kahn.specs.Spots.{main_of}
+use Rattle.lucy_kahn.specs.Horizons.{Suffice}
 use Rattle.lucy_results.specs.Streams.{main_word, param_words, result_words, main_streams}
 use Rattle.lucy_results.specs.Running.{HasSchedule}
 use Rattle.lucy_run.specs.Courses.{CanBeRunInBlocks}
@@ -29,7 +29,7 @@ use Rattle.lucy_run.proofs.AcceptedLaws.{can_run}
 use Rattle.lucy_run.proofs.HorizonLaws.{few_most}
 use Rattle.lucy_run.proofs.OwesLaws.{OneHorizon, fed_once, ends_once, carried}
 use Rattle.lucy_run.specs.Owes.{input_words, heading, lines_to, EndsFor}
-use Rattle.lucy_feed.specs.Feeding.{OneFeed}
+use Rattle.lucy_lines.specs.Feeding.{OneFeed}
 use Rattle.lucy_word.specs.Limits.{limit_number}
 use Rattle.lucy_word.specs.declared.limit.Limit.TheVariants as limit
 use Rattle.lucy_host.specs.Operators.{Operator}

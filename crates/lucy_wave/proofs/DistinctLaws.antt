@@ -20,8 +20,8 @@ use Rattle.lucy_need.specs.Meeting.{Assignment, assigned}
 use Rattle.lucy_program.specs.Names.{place_name}
 use Rattle.lucy_program.specs.Scheduled.{main_output}
 use Rattle.lucy_program.specs.Report.{first_operand}
-use Rattle.lucy_meaning.proofs.Closed.{each_of}
-use Rattle.lucy_meaning.proofs.Lists.{there as there_at}
+use Rattle.lucy_kahn.proofs.Closed.{each_of}
+use Rattle.lucy_kahn.proofs.JoinedLists.{there as there_at}
 use Rattle.lucy_wave.specs.Names.{there_name, buffer_name}
 use Rattle.lucy_wave.specs.Dumps.{Variable}
 use Rattle.lucy_wave.specs.Laws.{AreDistinct}

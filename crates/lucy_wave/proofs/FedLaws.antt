@@ -20,10 +20,10 @@ use Rattle.lucy_net.proofs.WhereLaws.{where_all}
 use Rattle.lucy_core.specs.Seen.{Seen, IsOver, IsOutputOf, first_ring, plan_of, stream_of}
 use Rattle.lucy_place.specs.declared.placed.PlacedNode.{PlacedNode}
 use Rattle.lucy_clock.specs.declared.node_clock.NodeClock.{NodeClock}
-use Rattle.lucy_meaning.specs.Spots.{at, IsSpot}
-use Rattle.lucy_meaning.specs.Sizes.{all_places}
-use Rattle.lucy_meaning.specs.Kahn.{kahn}
-use Rattle.lucy_meaning.proofs.Lists.{there, mapped}
+use Rattle.lucy_kahn.specs.Spots.{at, IsSpot}
+use Rattle.lucy_kahn.specs.Sizes.{all_places}
+use Rattle.lucy_kahn.specs.Kahn.{kahn}
+use Rattle.lucy_kahn.proofs.JoinedLists.{there, mapped}
 use Rattle.lucy_results.specs.Streams.{main_word, main_stream}
 use Rattle.lucy_wave.specs.Watching.{output_on, with_output}
 use Rattle.lucy_wave.specs.Seen.{IsGrown, IsFedBy}

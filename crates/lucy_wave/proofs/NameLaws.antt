@@ -6,7 +6,7 @@ use Rattle.std.specs.List.{AllByRecursion, AllPass}
 use Rattle.std.specs.Fmt.{decimal}
 use Rattle.lucy_word.specs.Bits.{Bits}
 use Rattle.lucy_host.specs.Operators.{Operator}
-use Rattle.lucy_output.specs.declared.output.OutputSpec.{OutputSpec}
+use Rattle.lucy_lines.specs.declared.output.OutputSpec.{OutputSpec}
 use Rattle.lucy_tree.specs.declared.span.Name.{Name}
 use Rattle.lucy_tree.specs.declared.decl.Decl.{Decl}
 use Rattle.lucy_tree.specs.View.{DefTree, NodeTree, ProgramTree}
@@ -33,8 +33,8 @@ use Rattle.lucy_place.specs.Standing.{at_one, IsNamed, AreNamed}
 use Rattle.lucy_place.specs.Proper.{AreProper}
 use Rattle.lucy_naming.proofs.ProperPrograms.{tree_at}
 use Rattle.lucy_types.specs.declared.ty.Ty.{Ty}
-use Rattle.lucy_meaning.specs.Spots.{main_of}
-use Rattle.lucy_meaning.proofs.Closed.{each_of}
+use Rattle.lucy_kahn.specs.Spots.{main_of}
+use Rattle.lucy_kahn.proofs.Closed.{each_of}
 use Rattle.lucy_flat.specs.Instances.{words_in}
 use Rattle.lucy_types.specs.Tables.{table_at}
 use Rattle.lucy_program.specs.declared.accepted.Accepted.{Accepted}

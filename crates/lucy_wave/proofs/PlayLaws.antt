@@ -13,11 +13,11 @@ use Rattle.lucy_place.specs.Proper.{IsNamed, AreProper}
 use Rattle.lucy_clock.specs.declared.node_clock.NodeClock.{NodeClock}
 use Rattle.lucy_net.specs.declared.net.Net.{Net}
 use Rattle.lucy_net.specs.Proper.{output_of, numbers_of, IsProper}
-use Rattle.lucy_cause.specs.Schedules.{Timetable, IsScheduleOf}
+use Rattle.lucy_net.specs.Schedules.{Timetable, IsScheduleOf}
 use Rattle.lucy_core.specs.Seen.{CanMakeCore}
-use Rattle.lucy_meaning.specs.Spots.{at, main_of, results_in, IsSpot}
-use Rattle.lucy_meaning.specs.Sizes.{all_places}
-use Rattle.lucy_meaning.proofs.Closed.{place_spot}
+use Rattle.lucy_kahn.specs.Spots.{at, main_of, results_in, IsSpot}
+use Rattle.lucy_kahn.specs.Sizes.{all_places}
+use Rattle.lucy_kahn.proofs.Closed.{place_spot}
 use Rattle.lucy_flat.specs.Clocked.{AreClocked}
 use Rattle.lucy_flat.specs.Instances.{words_in}
 use Rattle.lucy_flat.specs.Flat.{IsFlat}

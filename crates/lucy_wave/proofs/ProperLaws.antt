@@ -17,7 +17,7 @@ use Rattle.lucy_net.specs.States.{KnowsOperator}
 use Rattle.lucy_net.proofs.WhereLaws.{where_yes, where_no}
 use Rattle.lucy_flat.proofs.ProperLaws.{link_from, link_to, where_same, where_none, none_inner, row_numbering}
 use Rattle.lucy_flat.specs.Assembly.{from_at}
-use Rattle.lucy_meaning.proofs.Lists.{there}
+use Rattle.lucy_kahn.proofs.JoinedLists.{there}
 use Rattle.lucy_wave.specs.Watching.{output_on, ring_on, with_output, HasRoom}
 use Rattle.lucy_wave.proofs.GiveLaws as give
 use Rattle.lucy_wave.proofs.GiveLaws.{IsGiving}

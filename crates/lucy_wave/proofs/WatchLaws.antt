@@ -23,15 +23,15 @@ use Rattle.lucy_net.specs.Plans.{form_of, giver}
 use Rattle.lucy_net.specs.Causal.{net_places}
 use Rattle.lucy_net.specs.Proper.{output_of, numbers_of, IsProper, IsWriteWord, IsSupplied}
 use Rattle.lucy_net.specs.States.{KnowsOperator}
-use Rattle.lucy_cause.specs.Schedules.{Timetable, IsScheduleOf}
+use Rattle.lucy_net.specs.Schedules.{Timetable, IsScheduleOf}
 use Rattle.lucy_core.specs.Seen.{CanMakeCore}
-use Rattle.lucy_meaning.specs.Spots.{at, main_of, spot_form, results_in, IsSpot}
-use Rattle.lucy_meaning.specs.Sizes.{all_places}
-use Rattle.lucy_meaning.specs.Numbers.{number}
-use Rattle.lucy_meaning.proofs.Lists.{there}
-use Rattle.lucy_meaning.proofs.Closed.{place_spot}
-use Rattle.lucy_meaning.proofs.Paths.{is_at}
-use Rattle.lucy_meaning.proofs.Numbered.{number_below, number_reached}
+use Rattle.lucy_kahn.specs.Spots.{at, main_of, spot_form, results_in, IsSpot}
+use Rattle.lucy_kahn.specs.Sizes.{all_places}
+use Rattle.lucy_kahn.specs.Numbers.{number}
+use Rattle.lucy_kahn.proofs.JoinedLists.{there}
+use Rattle.lucy_kahn.proofs.Closed.{place_spot}
+use Rattle.lucy_kahn.proofs.Paths.{is_at}
+use Rattle.lucy_kahn.proofs.Numbered.{number_below, number_reached}
 use Rattle.lucy_flat.specs.Clocked.{AreClocked}
 use Rattle.lucy_flat.specs.Instances.{IsSpotWord}
 use Rattle.lucy_flat.specs.Flat.{IsFlat, fires_at}

@@ -8,16 +8,16 @@ use Rattle.lucy_word.specs.declared.error.OutOfMemory.{OutOfMemory}
 use Rattle.lucy_host.specs.declared.kind.HostKind.{HostKind}
 use Rattle.lucy_lines.specs.Fronts.{most_bytes}
 use Rattle.lucy_lines.specs.declared.reader.TextFault.{TextFault}
-use Rattle.lucy_feed.specs.declared.feeds.Feed.{Feed}
+use Rattle.lucy_lines.specs.declared.feeds.Feed.{Feed}
 use Rattle.lucy_text.specs.Sources.{ReadStop, Read}
-use Rattle.lucy_feed.specs.Feeding.{IsAsked}
+use Rattle.lucy_lines.specs.Feeding.{IsAsked}
 use Rattle.lucy_text.specs.Outside.{SeenSource, SeenSink, Writes, Fails}
-use Rattle.lucy_output.specs.declared.output.OutputSpec.{OutputSpec}
-use Rattle.lucy_output.proofs.SinkLaws.{unwritten}
+use Rattle.lucy_lines.specs.declared.output.OutputSpec.{OutputSpec}
+use Rattle.lucy_lines.proofs.SinkLaws.{unwritten}
 use Rattle.lucy_place.specs.declared.placed.PlacedNode.{PlacedNode}
 use Rattle.lucy_clock.specs.declared.node_clock.NodeClock.{NodeClock}
 use Rattle.lucy_net.specs.declared.net.Net.{Net}
-use Rattle.lucy_meaning.specs.Spots.{main_of, results_in}
+use Rattle.lucy_kahn.specs.Spots.{main_of, results_in}
 use Rattle.lucy_results.specs.Streams.{main_word, param_words, main_stream, main_streams}
 use Rattle.lucy_program.specs.declared.accepted.Accepted.{Accepted}
 use Rattle.lucy_run.specs.declared.ending.Ending.{Ending}

@@ -5,8 +5,8 @@ use Rattle.lucy_word.specs.declared.limit.Limit.TheVariants as limit
 use Rattle.lucy_host.specs.Operators.{Operator}
 use Rattle.lucy_host.specs.declared.kind.HostKind.{HostKind}
 use Rattle.lucy_text.specs.Sources.{ReadStop}
-use Rattle.lucy_output.specs.declared.output.OutputSpec.{OutputSpec}
-use Rattle.lucy_meaning.specs.Spots.{main_of}
+use Rattle.lucy_lines.specs.declared.output.OutputSpec.{OutputSpec}
+use Rattle.lucy_kahn.specs.Spots.{main_of}
 use Rattle.lucy_kahn.specs.Turns.{params_in}
 use Rattle.lucy_results.specs.Streams.{main_word}
 use Rattle.lucy_program.specs.declared.accepted.Accepted.{Accepted}

@@ -12,10 +12,10 @@ use Rattle.lucy_net.specs.declared.net.Net.{Net}
 use Rattle.lucy_net.specs.Plans.{plan, giver}
 use Rattle.lucy_net.specs.Causal.{net_places}
 use Rattle.lucy_core.specs.Seen.{IsOutputOf, first_ring}
-use Rattle.lucy_meaning.specs.Spots.{at, IsSpot}
-use Rattle.lucy_meaning.specs.Sizes.{all_places}
-use Rattle.lucy_meaning.specs.Kahn.{kahn}
-use Rattle.lucy_output.specs.declared.output.OutputSpec.{OutputSpec}
+use Rattle.lucy_kahn.specs.Spots.{at, IsSpot}
+use Rattle.lucy_kahn.specs.Sizes.{all_places}
+use Rattle.lucy_kahn.specs.Kahn.{kahn}
+use Rattle.lucy_lines.specs.declared.output.OutputSpec.{OutputSpec}
 use Rattle.lucy_results.specs.Streams.{main_word, main_streams}
 use Rattle.lucy_wave.specs.declared.watching.Draft.{Draft}
 use Rattle.lucy_wave.specs.declared.variable.Variable.{Variable as Shown}

@@ -14,7 +14,7 @@ ghost use Rattle.lucy_wave.specs.Seen.{seen, all_seen, IsWithin};
 use crate::variable::Variable;
 use lucy_clock::NodeClock;
 use lucy_host::Inputs;
-use lucy_output::OutputSpec;
+use lucy_lines::OutputSpec;
 use lucy_place::{Placed, PlacedNode};
 use lucy_program::first_operand;
 use lucy_tree::Name;

@@ -1,8 +1,8 @@
 // Laws of the dumps of runs, on functions that call the laws of feeds, horizons and streams alone.
 ghost use Rattle.lucy_wave.specs.Laws.{WavesAreReadBack, OneWave, OneReading, OneCount, NamesAreDistinct};
 
-use lucy_feed::one_feed;
-use lucy_meaning::one_horizon;
+use lucy_kahn::one_horizon;
+use lucy_lines::one_feed;
 use lucy_program::accepted_programs_are_clocked;
 use lucy_results::streams_are_whole;
 use lucy_token::texts_have_one_cut;

@@ -3,15 +3,17 @@ ghost use Rattle.std.specs.Prelude.{◌≡◌, ◌≤◌, ◌<◌, ◌+◌, ◌-
 ghost use Rattle.std.specs.List.{AllByRecursion};
 ghost use Rattle.lucy_need.specs.Meeting.{assigned};
 ghost use Rattle.lucy_net.specs.Proper.{IsProper};
-ghost use Rattle.lucy_cause.specs.Schedules.{IsScheduleOf};
+ghost use Rattle.lucy_net.specs.Schedules.{IsScheduleOf};
 ghost use Rattle.lucy_flat.specs.Counts.{IsKeptBy};
 ghost use Rattle.lucy_wave.specs.Watching as spec;
 ghost use Rattle.lucy_wave.specs.Watching.{give_at, with_output, with_outputs, HasRoom, CanWatch};
 ghost use Rattle.lucy_wave.specs.Seen.{net_of, IsWithin};
 
 use crate::gathering::word_of;
-use lucy_cause::{CauseFault, Schedule, nets_have_one_answer, schedule_of};
-use lucy_net::{Actor, ActorKind, Actors, Net, Numbers, RingSpec, Rings};
+use lucy_net::{
+    Actor, ActorKind, Actors, CauseFault, Net, Numbers, RingSpec, Rings, Schedule,
+    nets_have_one_answer, schedule_of,
+};
 use lucy_word::{Limit, OutOfMemory, Word};
 use std::alloc::{AllocError, Global};
 

@@ -5,7 +5,7 @@ ghost use Rattle.lucy_tree.specs.View.{program_tree};
 ghost use Rattle.lucy_place.specs.declared.placed.PlacedNode.{PlacedNode as Node};
 ghost use Rattle.lucy_place.specs.Standing.{most_places};
 ghost use Rattle.lucy_place.specs.Proper.{AreProper};
-ghost use Rattle.lucy_meaning.specs.Sizes.{size_of, all_places};
+ghost use Rattle.lucy_kahn.specs.Sizes.{size_of, all_places};
 ghost use Rattle.lucy_program.specs.declared.options.Options.{Options as Choices};
 ghost use Rattle.lucy_program.specs.Accepting.{IsAccepted};
 ghost use Rattle.lucy_diagram.specs.Diagrams.{drawn_places};

@@ -5,8 +5,8 @@ ghost use Rattle.lucy_diagram.specs.Nets as spec;
 
 use crate::print::label::{put, put_label, word_label};
 use crate::print::lines::put_line;
+use lucy_lines::OutputSpec;
 use lucy_net::{ActorKind, Net, RingSpec};
-use lucy_output::OutputSpec;
 use lucy_word::OutOfMemory;
 use std::alloc::{AllocError, Global};
 

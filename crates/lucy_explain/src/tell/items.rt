@@ -2,7 +2,7 @@
 use crate::index::narrow;
 use crate::tell::page::Page;
 use crate::tell::place::{Scene, put_what};
-use lucy_cause::Item;
+use lucy_net::Item;
 use lucy_place::{Placed, PlacedNode};
 use lucy_text::Text;
 use lucy_tree::Program;

@@ -2,7 +2,7 @@ use Rattle.std.proofs.Common.{ℕ, ◌<◌, nat_lt, subst, arith}
 use Rattle.std.specs.Prelude.{IsTrue}
 use Rattle.std.proofs.lemmas.Bool.Decides.{nat_tests}
 use Rattle.lucy_word.specs.Bits.{Bits}
-use Rattle.lucy_order.specs.Horizon.{IsHorizon}
+use Rattle.lucy_check.specs.Horizon.{IsHorizon}
 use Rattle.lucy_check.specs.Lent.{seen}
 use Rattle.lucy_check.proofs.CheckLaws.{horizon_one}
 use Rattle.lucy_check.proofs.need.are_far.Goals as goal

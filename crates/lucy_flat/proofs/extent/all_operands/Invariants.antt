@@ -1,6 +1,6 @@
 use Rattle.std.proofs.Common.{◌≡◌, take}
 use Rattle.std.specs.Prelude.{sum_by}
-use Rattle.lucy_meaning.specs.Sizes.{capped}
+use Rattle.lucy_kahn.specs.Sizes.{capped}
 use Rattle.lucy_flat.specs.Counts.{read_count}
 use Rattle.lucy_flat.proofs.extent.all_operands.Given as goal
 

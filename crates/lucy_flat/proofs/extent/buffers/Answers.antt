@@ -3,7 +3,7 @@ use Rattle.std.specs.Prelude.{slice_index, sum}
 use Rattle.std.proofs.lemmas.List.{length-set}
 use Rattle.std.proofs.lemmas.Option.{slice_get_read, slice_get_within}
 use Rattle.lucy_clock.specs.declared.node_clock.NodeClock.{NodeClock}
-use Rattle.lucy_meaning.specs.Sizes.{capped}
+use Rattle.lucy_kahn.specs.Sizes.{capped}
 use Rattle.lucy_flat.specs.Instances.{sizes_in}
 use Rattle.lucy_flat.specs.Counts.{own_sizes, last_of}
 use Rattle.lucy_flat.proofs.CountLaws.{counted_more}

@@ -1,7 +1,7 @@
 use Rattle.std.proofs.Common.{ℕ, ◌≡◌, ◌<◌, length}
 use Rattle.std.specs.Prelude.{slice_index, slice_get, Some}
 use Rattle.lucy_place.specs.declared.placed.PlacedNode.{PlacedNode}
-use Rattle.lucy_meaning.specs.Sizes.{capped}
+use Rattle.lucy_kahn.specs.Sizes.{capped}
 use Rattle.lucy_flat.specs.Counts.{own_rings}
 use Rattle.lucy_flat.proofs.extent.rings.Given as goal
 

@@ -3,8 +3,8 @@ use Rattle.std.specs.Prelude.{slice_get}
 use Rattle.std.proofs.lemmas.Option.{slice_get_within}
 use Rattle.lucy_word.specs.Bits.{IsWord}
 use Rattle.lucy_word.specs.Shortest.{IsShortest}
-use Rattle.lucy_meaning.specs.Spots.{at}
-use Rattle.lucy_meaning.specs.Numbers.{number}
+use Rattle.lucy_kahn.specs.Spots.{at}
+use Rattle.lucy_kahn.specs.Numbers.{number}
 use Rattle.lucy_net.specs.declared.kind.ActorKind.TheVariants.{Output}
 use Rattle.lucy_flat.specs.Instances.{IsSpotWord}
 use Rattle.lucy_flat.specs.declared.draft.Draft.{Draft}

@@ -7,17 +7,17 @@ use Rattle.lucy_word.specs.declared.limit.Limit.TheVariants as lim
 use Rattle.lucy_place.specs.declared.placed.PlacedNode.{PlacedNode}
 use Rattle.lucy_flat.specs.declared.error.FlatError.{FlatError}
 use Rattle.lucy_flat.specs.declared.error.FlatError.TheVariants as err
-use Rattle.lucy_meaning.specs.Below.{Below}
+use Rattle.lucy_kahn.specs.Below.{Below}
 use Rattle.lucy_flat.specs.Extents.{actors_in, AreSumsOf}
-use Rattle.lucy_meaning.specs.Sizes.{own_places}
-use Rattle.lucy_meaning.specs.Numbers.{call_offset}
-use Rattle.lucy_meaning.proofs.Tables.{calls_below, total_law}
+use Rattle.lucy_kahn.specs.Sizes.{own_places}
+use Rattle.lucy_kahn.specs.Numbers.{call_offset}
+use Rattle.lucy_kahn.proofs.Tables.{calls_below, total_law}
 use Rattle.lucy_flat.specs.declared.instance.Caller.{Caller}
 use Rattle.lucy_flat.specs.Refusals.{NetWordIsTooLong}
 use Rattle.lucy_flat.proofs.AssemblyLaws.{leaves}
 use Rattle.lucy_flat.proofs.ExtentLaws.{got, call_above}
 use Rattle.lucy_flat.proofs.InstanceLaws.{places_within, call_within, fit_here}
-use Rattle.lucy_meaning.proofs.SizeLaws.{below_more}
+use Rattle.lucy_kahn.proofs.SizeLaws.{below_more}
 use Rattle.lucy_flat.proofs.AlikeLaws.{next_alike}
 use Rattle.lucy_flat.proofs.PutLaws.{actors_exact, so_far_first, so_far_more, so_far_whole, at_call, instance_is, call_bound, call_word, site_at}
 use Rattle.lucy_flat.proofs.instance.+put_instance.Goals as goal

@@ -1,6 +1,6 @@
 use Rattle.std.proofs.Common.{length, ap, inl, inr, arith}
 use Rattle.std.proofs.lemmas.Result.{on_ok_weaker, IfErr-weaker}
-use Rattle.lucy_meaning.proofs.Closed.{place_spot}
+use Rattle.lucy_kahn.proofs.Closed.{place_spot}
 use Rattle.lucy_flat.proofs.InstanceLaws.{found_at, word_here, entry_here}
 use Rattle.lucy_flat.proofs.UnmadePlaces.{place_kept, place_long}
 use Rattle.lucy_flat.proofs.instance.put_place.Goals as goal

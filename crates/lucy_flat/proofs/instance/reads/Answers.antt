@@ -6,8 +6,8 @@ use Rattle.lucy_place.specs.declared.entry.CallSite.{CallSite}
 use Rattle.lucy_place.specs.declared.entry.PlaceKind.TheVariants as place_kind
 use Rattle.lucy_place.specs.Proper.{Stands, ArePlaces}
 use Rattle.lucy_flat.proofs.AssemblyLaws.{ok_map}
-use Rattle.lucy_meaning.specs.Spots.{at, spot_reads}
-use Rattle.lucy_meaning.specs.Numbers.{number}
+use Rattle.lucy_kahn.specs.Spots.{at, spot_reads}
+use Rattle.lucy_kahn.specs.Numbers.{number}
 use Rattle.lucy_flat.proofs.InstanceLaws.{callee_same, kind_here, place_fits, places_fit, own_reads, result_here, result_reads, argument_here}
 use Rattle.lucy_flat.proofs.instance.reads.Goals as goal
 

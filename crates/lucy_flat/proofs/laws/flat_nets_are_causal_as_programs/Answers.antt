@@ -1,4 +1,4 @@
-use Rattle.lucy_meaning.proofs.ByNumber.{causal_places, causal_program}
+use Rattle.lucy_kahn.proofs.ByNumber.{causal_places, causal_program}
 use Rattle.lucy_flat.proofs.MeaningLaws.{causal_net, causal_numbered}
 use Rattle.lucy_flat.proofs.laws.flat_nets_are_causal_as_programs.Goals as goal
 

@@ -8,7 +8,7 @@ use Rattle.lucy_check.specs.Passing.{OrNoMemory, PassesAll, AllWithinLimits, IsF
 use Rattle.lucy_program.specs.Clocked.{AreNodeWords}
 use Rattle.lucy_front.specs.Sizes.{buffer_sizes}
 use Rattle.lucy_front.specs.Clocking.{HasNoClocks}
-use Rattle.lucy_meaning.proofs.Lists.{there}
+use Rattle.lucy_kahn.proofs.JoinedLists.{there}
 use Rattle.lucy_front.proofs.ClockedLaws.{few_of, words_of, clocked, check_refused, needs_are, needs_refused, words_refused, unshut, refused_so}
 use Rattle.lucy_front.proofs.clocking.handed_clock.Goals as goal
 

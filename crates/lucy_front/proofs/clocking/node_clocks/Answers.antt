@@ -1,6 +1,6 @@
 use Rattle.std.proofs.Common.{subst, arith}
 use Rattle.lucy_front.specs.Clocking.{HasNoClocks}
-use Rattle.lucy_meaning.proofs.Lists.{there}
+use Rattle.lucy_kahn.proofs.JoinedLists.{there}
 use Rattle.lucy_front.proofs.clocking.node_clocks.Goals as goal
 
 pub returns-in-Err-clause-refused : goal.returns-in-Err-clause-refused

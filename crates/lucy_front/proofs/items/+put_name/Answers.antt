@@ -2,7 +2,7 @@ use Rattle.std.proofs.Common.{◌-◌, ◌++◌, ◌∷◌, length, ap, ◌∙�
 use Rattle.std.specs.Prelude.{IfOk}
 use Rattle.std.proofs.lemmas.Result.{IfOk-weaker}
 use Rattle.lucy_place.specs.declared.placed.PlacedNode.{PlacedNode}
-use Rattle.lucy_meaning.proofs.Tables.{calls_below}
+use Rattle.lucy_kahn.proofs.Tables.{calls_below}
 use Rattle.lucy_front.specs.Items.{path_text, IsActorName}
 use Rattle.lucy_flat.proofs.ExtentLaws.{call_above}
 use Rattle.lucy_front.proofs.EndLaws.{ends_at, ends_rise, site_at, own_place, own_name, within, inner_there, inner_few, inner_leads, inner_begin}

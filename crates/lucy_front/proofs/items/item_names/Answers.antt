@@ -1,9 +1,9 @@
 use Rattle.std.proofs.Common.{◌≡◌, ◌+◌, ◌-◌, [], length, get_or, ap, sym, ◌∙◌, subst, arith}
 use Rattle.std.specs.Prelude.{slice_get}
 use Rattle.lucy_flat.proofs.ExtentLaws.{got}
-use Rattle.lucy_meaning.specs.Spots.{main_of}
-use Rattle.lucy_meaning.specs.Numbers.{begin_from}
-use Rattle.lucy_cause.specs.declared.error.Item.{Item}
+use Rattle.lucy_kahn.specs.Spots.{main_of}
+use Rattle.lucy_kahn.specs.Numbers.{begin_from}
+use Rattle.lucy_net.specs.declared.error.Item.{Item}
 use Rattle.lucy_front.specs.Items.{IsActorName}
 use Rattle.lucy_front.proofs.ItemNames.{names_more}
 use Rattle.lucy_front.proofs.items.item_names.Goals as goal

@@ -1,8 +1,8 @@
 use Rattle.std.proofs.Common.{◌<◌, sym, subst}
 use Rattle.std.specs.List.{AllByRecursion}
-use Rattle.lucy_cause.specs.declared.error.Item.{Item}
-use Rattle.lucy_cause.specs.Schedules.{RefusesTimetable as RefusesSchedule}
-use Rattle.lucy_meaning.specs.Sizes.{all_places}
+use Rattle.lucy_net.specs.declared.error.Item.{Item}
+use Rattle.lucy_net.specs.Schedules.{RefusesTimetable as RefusesSchedule}
+use Rattle.lucy_kahn.specs.Sizes.{all_places}
 use Rattle.lucy_front.proofs.CauseLaws.{items_below}
 use Rattle.lucy_front.proofs.scheduling.refusal.Goals as goal
 

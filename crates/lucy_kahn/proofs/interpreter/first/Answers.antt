@@ -2,7 +2,7 @@ use Rattle.std.proofs.Common.{◌≡◌, ◌+◌, List, [], Some, length, replic
 use Rattle.std.specs.Prelude.{ℤ}
 use Rattle.std.specs.List.{AllByRecursion}
 use Rattle.std.proofs.lemmas.Option.{slice_get_read}
-use Rattle.lucy_meaning.specs.Spots.{node_at}
+use Rattle.lucy_kahn.specs.Spots.{node_at}
 use Rattle.lucy_kahn.specs.Turns.{AreShort, iterate_to, lists_in, places_in}
 use Rattle.lucy_kahn.proofs.OwnLaws.{all_push, none_lists, none_short}
 use Rattle.lucy_kahn.proofs.RunLaws.{mapped_from}

@@ -4,8 +4,8 @@ use Rattle.std.specs.Result.{IfOk}
 use Rattle.std.proofs.lemmas.Option.{slice_get_read}
 use Rattle.lucy_host.specs.Host.{lent}
 use Rattle.lucy_host.specs.Operators.{kinds_of}
-use Rattle.lucy_meaning.specs.Spots.{results_of}
-use Rattle.lucy_meaning.specs.Kahn.{kahn}
+use Rattle.lucy_kahn.specs.Spots.{results_of}
+use Rattle.lucy_kahn.specs.Kahn.{kahn}
 use Rattle.lucy_kahn.specs.Turns.{AreThere, IsTurn, own_at}
 use Rattle.lucy_kahn.proofs.TurnLaws.{count_of_iterate, count_of_lists, places_there}
 use Rattle.lucy_kahn.proofs.RunLaws.{err_exit, err_known, none_passed, turn_of, run_first, run_more, passed_of, main_lists, main_results}

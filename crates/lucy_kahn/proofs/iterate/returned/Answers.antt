@@ -1,7 +1,7 @@
 use Rattle.std.proofs.Common.{◌≡◌, ◌+◌, ◌-◌, ◌<◌, ◌≤◌, Some, length, get_or, ap, sym, refl, ◌∙◌, subst, arith}
 use Rattle.std.specs.Prelude.{slice_get, slice_index_or}
 use Rattle.std.proofs.lemmas.Option.{slice_get_read, get_or_from_slice_get}
-use Rattle.lucy_meaning.proofs.Lists.{there}
+use Rattle.lucy_kahn.proofs.JoinedLists.{there}
 use Rattle.lucy_kahn.specs.Turns.{lists_in}
 use Rattle.lucy_kahn.proofs.TurnLaws.{list_is}
 use Rattle.lucy_kahn.proofs.ReadLaws.{results_at, read_at, place_within, other_there}

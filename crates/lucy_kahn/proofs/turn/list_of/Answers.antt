@@ -2,8 +2,8 @@ use Rattle.std.proofs.Common.{length, sym, ◌∙◌, subst, arith}
 use Rattle.std.specs.Result.{IfOk, IfErr}
 use Rattle.lucy_host.specs.Host.{lent}
 use Rattle.lucy_host.specs.Operators.{kinds_of}
-use Rattle.lucy_meaning.specs.Spots.{at}
-use Rattle.lucy_meaning.proofs.Lists.{there}
+use Rattle.lucy_kahn.specs.Spots.{at}
+use Rattle.lucy_kahn.proofs.JoinedLists.{there}
 use Rattle.lucy_kahn.specs.Outcomes.{IsWholeList, Overflows}
 use Rattle.lucy_kahn.proofs.TurnLaws.{kahn_next, stands_at, lists_from, count_of_iterate, count_of_lists, short_at, node_of, own_law, operands_there, applied_of, proper_kind}
 use Rattle.lucy_kahn.proofs.turn.list_of.Goals as goal

@@ -4,8 +4,8 @@ use Rattle.std.proofs.lemmas.Option.{slice_get_read}
 use Rattle.lucy_host.specs.Host.{lent}
 use Rattle.lucy_host.specs.Operators.{kinds_of}
 use Rattle.lucy_place.specs.Proper.{at_one}
-use Rattle.lucy_meaning.specs.Spots.{at, node_at}
-use Rattle.lucy_meaning.specs.Kahn.{kahn}
+use Rattle.lucy_kahn.specs.Spots.{at, node_at}
+use Rattle.lucy_kahn.specs.Kahn.{kahn}
 use Rattle.lucy_kahn.specs.Outcomes.{most_items}
 use Rattle.lucy_kahn.specs.Turns.{AreShort, lists_to, places_in}
 use Rattle.lucy_kahn.proofs.OwnLaws.{short_push}

@@ -1,7 +1,7 @@
 use Rattle.std.proofs.Common.{map, get_or, refl, arith}
 use Rattle.lucy_need.specs.Meeting.{assigned}
-use Rattle.lucy_cause.proofs.LengthLaws.{lengths_none}
-use Rattle.lucy_cause.proofs.WordLaws.{if_none}
+use Rattle.lucy_net.proofs.LengthLaws.{lengths_none}
+use Rattle.lucy_net.proofs.PeriodLaws.{if_none}
 use Rattle.lucy_picture.specs.Turns.{AreTooLong}
 use Rattle.lucy_picture.proofs.TurnLaws.{turn_more, turn_too_long}
 use Rattle.lucy_picture.proofs.turn.common_turn.Goals as goal

@@ -2,7 +2,7 @@ use Rattle.std.proofs.Common.{◌+◌, ◌≤◌, map, take}
 use Rattle.lucy_word.specs.Limits.{limit_number}
 use Rattle.lucy_word.specs.declared.limit.Limit.TheVariants as limit
 use Rattle.lucy_need.specs.Meeting.{assigned}
-use Rattle.lucy_cause.specs.Lengths.{AreLengths}
+use Rattle.lucy_net.specs.Lengths.{AreLengths}
 use Rattle.lucy_picture.proofs.turn.common_turn.Given as goal
 
 abbrev pub invariant-each : goal.invariant-each

@@ -1,5 +1,5 @@
 use Rattle.std.proofs.Common.{arith}
-use Rattle.lucy_meaning.proofs.Lists.{there}
+use Rattle.lucy_kahn.proofs.JoinedLists.{there}
 use Rattle.lucy_program.proofs.ReportLaws.{report_more}
 use Rattle.lucy_program.proofs.printing.all_lines.Goals as goal
 

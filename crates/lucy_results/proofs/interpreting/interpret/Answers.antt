@@ -1,7 +1,7 @@
 use Rattle.std.proofs.Common.{◌≡◌, ◌*◌, length, map, ap, sym, ◌∙◌, subst, inl, inr, arith}
 use Rattle.lucy_host.specs.Host.{lent}
 use Rattle.lucy_host.specs.Operators.{kinds_of}
-use Rattle.lucy_meaning.specs.Sizes.{all_places}
+use Rattle.lucy_kahn.specs.Sizes.{all_places}
 use Rattle.lucy_kahn.specs.Turns.{IsLongUpto}
 use Rattle.lucy_results.specs.Streams.{cut_to}
 use Rattle.lucy_results.proofs.StreamLaws.{params_count, cut_count, lengths, interpreted_by}

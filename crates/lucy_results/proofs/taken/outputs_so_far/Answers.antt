@@ -1,6 +1,6 @@
 use Rattle.std.proofs.Common.{◌<◌, ◌-◌, ◌++◌, ◌∷◌, [], length, ap, refl, ◌∙◌, arith}
 use Rattle.lucy_core.specs.Seen.{state_of}
-use Rattle.lucy_meaning.specs.Spots.{main_of, results_in}
+use Rattle.lucy_kahn.specs.Spots.{main_of, results_in}
 use Rattle.lucy_results.proofs.OutputLaws.{main_here, results_here, output_there}
 use Rattle.lucy_results.proofs.TakenLaws.{next_taken}
 use Rattle.lucy_results.proofs.taken.outputs_so_far.Goals as goal

@@ -1,5 +1,5 @@
 use Rattle.std.proofs.Common.{◌<◌, ◌-◌, ◌++◌, ◌∷◌, [], length, ap, refl, ◌∙◌, arith}
-use Rattle.lucy_meaning.specs.Spots.{main_of, results_in}
+use Rattle.lucy_kahn.specs.Spots.{main_of, results_in}
 use Rattle.lucy_results.proofs.OutputLaws.{main_here, results_here, output_there, next_output}
 use Rattle.lucy_results.proofs.workers.outputs.Goals as goal
 

@@ -1,5 +1,5 @@
 use Rattle.std.proofs.Common.{◌≡◌, length, ap, ◌∙◌, [], arith}
-use Rattle.lucy_feed.specs.Feeding.{values_by_stream}
+use Rattle.lucy_lines.specs.Feeding.{values_by_stream}
 use Rattle.lucy_run.proofs.course.unread.Goals as goal
 
 pub returns : goal.returns

@@ -3,8 +3,8 @@ use Rattle.std.proofs.lemmas.List.{length-map}
 use Rattle.lucy_host.specs.Host.{lent}
 use Rattle.lucy_host.specs.Operators.{kinds_of}
 use Rattle.lucy_lines.specs.declared.input.InputSpec.{InputSpec}
-use Rattle.lucy_feed.specs.Feeding.{IsAsked}
-use Rattle.lucy_meaning.specs.Spots.{main_of, results_in}
+use Rattle.lucy_lines.specs.Feeding.{IsAsked}
+use Rattle.lucy_kahn.specs.Spots.{main_of, results_in}
 use Rattle.lucy_run.specs.declared.ending.Ending.TheVariants as ending
 use Rattle.lucy_run.specs.Feeds.{IsMainFeed}
 use Rattle.lucy_run.specs.Owes.{heading}

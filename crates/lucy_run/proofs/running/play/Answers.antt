@@ -1,7 +1,7 @@
 use Rattle.std.proofs.Common.{◌++◌, refl, ap, sym, ◌∙◌, subst, arith}
 use Rattle.lucy_text.specs.Outside.{Writes, Fails}
-use Rattle.lucy_output.specs.declared.error.OutputError.TheVariants as error
-use Rattle.lucy_output.specs.Outputs.{lines_after}
+use Rattle.lucy_lines.specs.declared.error.OutputError.TheVariants as error
+use Rattle.lucy_lines.specs.Outputs.{lines_after}
 use Rattle.lucy_run.specs.Owes.{most_instants}
 use Rattle.lucy_run.proofs.WriteLaws.{breaks_so, broken_off, lists_enough, writing_broken, written_on}
 use Rattle.lucy_run.proofs.running.play.Goals as goal

@@ -1,6 +1,6 @@
 use Rattle.std.proofs.Common.{List, sym, refl, ◌∙◌, subst}
 use Rattle.lucy_clock.specs.declared.node_clock.NodeClock.{NodeClock}
-use Rattle.lucy_output.specs.declared.output.OutputSpec.{OutputSpec}
+use Rattle.lucy_lines.specs.declared.output.OutputSpec.{OutputSpec}
 use Rattle.lucy_host.specs.Host.{lent}
 use Rattle.lucy_host.specs.Operators.{kinds_of}
 use Rattle.lucy_flat.specs.Clocked.{AreClocked}

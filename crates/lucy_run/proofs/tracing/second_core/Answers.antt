@@ -1,7 +1,7 @@
 use Rattle.std.proofs.Common.{◌≡◌, sym, ◌∙◌, subst}
 use Rattle.std.proofs.lemmas.Result.{IfOk-weaker}
 use Rattle.lucy_net.specs.Proper.{IsProper}
-use Rattle.lucy_cause.specs.Schedules.{Timetable}
+use Rattle.lucy_net.specs.Schedules.{Timetable}
 use Rattle.lucy_core.specs.Seen.{Seen, first_seen}
 use Rattle.lucy_run.proofs.TracingLaws.{fixed_anew, seen_anew}
 use Rattle.lucy_run.proofs.tracing.second_core.Goals as goal

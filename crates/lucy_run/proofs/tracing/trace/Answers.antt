@@ -1,8 +1,8 @@
 use Rattle.std.proofs.Common.{◌≡◌, length, [], sym, refl, inl, ◌∙◌, subst}
 use Rattle.std.proofs.lemmas.Result.{IfOk-at_ok}
 use Rattle.lucy_host.specs.Host.{lent}
-use Rattle.lucy_output.proofs.SinkLaws.{unwritten}
-use Rattle.lucy_feed.specs.declared.feeds.Feed.{Feed}
+use Rattle.lucy_lines.proofs.SinkLaws.{unwritten}
+use Rattle.lucy_lines.specs.declared.feeds.Feed.{Feed}
 use Rattle.lucy_flat.specs.Clocked.{AreClocked}
 use Rattle.lucy_run.proofs.AcceptedLaws.{few_inputs, inputs_count}
 use Rattle.lucy_run.proofs.TracingLaws.{trace_done}

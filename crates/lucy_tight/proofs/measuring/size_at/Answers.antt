@@ -2,7 +2,7 @@ use Rattle.std.proofs.Common.{◌≡◌, ap, sym, ◌∙◌, subst, arith}
 use Rattle.std.specs.Option.{unwrap_or}
 use Rattle.lucy_word.specs.Adaptable.{IsAdaptable, IsSize}
 use Rattle.lucy_need.specs.Meeting.{assigned}
-use Rattle.lucy_order.specs.Verdicts.{IsVerdict}
+use Rattle.lucy_check.specs.Verdicts.{IsVerdict}
 use Rattle.lucy_tight.proofs.BufferLaws.{operand_read, operand_one, read_word, adaptable_read, size_read}
 use Rattle.lucy_tight.proofs.measuring.size_at.Goals.{After-adapt}
 use Rattle.lucy_tight.proofs.measuring.size_at.Goals as goal

@@ -1,6 +1,6 @@
 use Rattle.std.proofs.Common.{◌+◌, ◌++◌, ◌∷◌, [], ap, ◌∙◌}
 use Rattle.lucy_host.specs.Operators.{kinds_of}
-use Rattle.lucy_meaning.proofs.Lists.{there}
+use Rattle.lucy_kahn.proofs.JoinedLists.{there}
 use Rattle.lucy_results.specs.Streams.{main_stream}
 use Rattle.lucy_wave.proofs.FedLaws.{stream_taken, streams_more}
 use Rattle.lucy_wave.proofs.playing.streams_of.Goals as goal

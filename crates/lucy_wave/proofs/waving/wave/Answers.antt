@@ -2,7 +2,7 @@ use Rattle.std.proofs.Common.{◌≡◌, List, length, ap, sym, ◌∙◌, subst
 use Rattle.std.proofs.lemmas.Result.{IfOk-at_ok}
 use Rattle.lucy_host.specs.Host.{lent}
 use Rattle.lucy_host.specs.Operators.{kinds_of}
-use Rattle.lucy_feed.specs.declared.feeds.Feed.{Feed}
+use Rattle.lucy_lines.specs.declared.feeds.Feed.{Feed}
 use Rattle.lucy_clock.specs.declared.node_clock.NodeClock.{NodeClock}
 use Rattle.lucy_flat.specs.Clocked.{AreClocked}
 use Rattle.lucy_flat.specs.Flat.{IsFlat}

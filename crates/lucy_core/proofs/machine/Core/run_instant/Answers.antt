@@ -1,7 +1,7 @@
 use Rattle.std.proofs.Common.{ℕ, ◌+◌, ◌<◌, ◌≡◌, length, get_or, ap, subst, sym, ◌∙◌, arith}
 use Rattle.std.specs.Prelude.{[], slice_index, slice_index_or}
 use Rattle.lucy_host.specs.Operators.{kinds_of}
-use Rattle.lucy_cause.specs.Schedules.{row_of, events_at}
+use Rattle.lucy_net.specs.Schedules.{row_of, events_at}
 use Rattle.lucy_core.specs.declared.machine.Core.TheInside.{Inside}
 use Rattle.lucy_core.specs.contracts.machine.Core.{the_view}
 use Rattle.lucy_core.specs.Seen.{Seen, machine_of, order_of, done_of, stepped, CanStep}

@@ -1,5 +1,5 @@
 use Rattle.std.proofs.Common.{◌≡◌, take}
-use Rattle.lucy_cause.specs.Schedules.{events_at}
+use Rattle.lucy_net.specs.Schedules.{events_at}
 use Rattle.lucy_core.specs.Seen.{after_picks}
 use Rattle.lucy_core.proofs.machine.Core.run_instant.Given as goal
 

@@ -1,7 +1,7 @@
 use Rattle.std.proofs.Common.{◌+◌, ◌<◌, ◌≡◌, ap, subst, sym, ◌∙◌, arith}
 use Rattle.lucy_host.specs.Operators.{kinds_of}
 use Rattle.lucy_stream.specs.Schedules.{events_to}
-use Rattle.lucy_cause.specs.Schedules.{events_at}
+use Rattle.lucy_net.specs.Schedules.{events_at}
 use Rattle.lucy_core.specs.Seen.{Seen, after_picks, CanRun, IsOver}
 use Rattle.lucy_core.proofs.InsideLaws.{sound_of}
 use Rattle.lucy_core.proofs.OpenLaws.{IsSound, static_next, static_joined, static_order, static_over}

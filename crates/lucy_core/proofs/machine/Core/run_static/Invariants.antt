@@ -1,6 +1,6 @@
 use Rattle.std.proofs.Common.{◌≡◌}
 use Rattle.lucy_stream.specs.Schedules.{events_to}
-use Rattle.lucy_cause.specs.Schedules.{events_at}
+use Rattle.lucy_net.specs.Schedules.{events_at}
 use Rattle.lucy_core.specs.Seen.{after_picks}
 use Rattle.lucy_core.proofs.machine.Core.run_static.Given as goal
 

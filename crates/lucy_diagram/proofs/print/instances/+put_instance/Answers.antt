@@ -5,7 +5,7 @@ use Rattle.lucy_place.specs.declared.entry.CallSite.{CallSite}
 use Rattle.lucy_place.specs.declared.placed.PlacedNode.{PlacedNode}
 use Rattle.lucy_place.specs.Standing.{at_one}
 use Rattle.lucy_types.proofs.ListLaws.{taken}
-use Rattle.lucy_meaning.proofs.Tables.{calls_below}
+use Rattle.lucy_kahn.proofs.Tables.{calls_below}
 use Rattle.lucy_diagram.specs.Nets.{frames_text, instance_text}
 use Rattle.lucy_diagram.proofs.NetLaws.{size_is, size_more, size_none, frame_more, instance_whole}
 use Rattle.lucy_diagram.proofs.print.instances.+put_instance.Goals as goal

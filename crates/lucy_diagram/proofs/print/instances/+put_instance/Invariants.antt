@@ -1,6 +1,6 @@
 use Rattle.std.proofs.Common.{◌≡◌, ◌+◌, ◌++◌, drop}
 use Rattle.lucy_tree.specs.View.{program_tree}
-use Rattle.lucy_meaning.specs.Sizes.{size_of}
+use Rattle.lucy_kahn.specs.Sizes.{size_of}
 use Rattle.lucy_diagram.specs.Nets.{frames_text, instance_text}
 use Rattle.lucy_diagram.proofs.NetLaws.{size_from}
 use Rattle.lucy_diagram.proofs.print.instances.+put_instance.Given as goal

@@ -1,5 +1,5 @@
 use Rattle.std.proofs.Common.{length, ap, sym, ◌∙◌, subst}
-use Rattle.lucy_meaning.specs.Horizons.{Suffice}
+use Rattle.lucy_kahn.specs.Horizons.{Suffice}
 use Rattle.lucy_results.specs.Streams.{param_words}
 use Rattle.lucy_results.specs.Playing.{PlayerView, joined}
 use Rattle.lucy_results.proofs.PlayLaws.{supplied_on, played_on, on_is}

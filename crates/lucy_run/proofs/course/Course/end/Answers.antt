@@ -4,7 +4,7 @@ use Rattle.std.proofs.lemmas.Bool.{eqb-true, eqb-false}
 use Rattle.lucy_word.specs.Bits.{Bits}
 use Rattle.lucy_stream.specs.Items.{list_at}
 use Rattle.lucy_lines.specs.declared.reader.TextFault.{TextFault}
-use Rattle.lucy_meaning.specs.Horizons.{Suffice}
+use Rattle.lucy_kahn.specs.Horizons.{Suffice}
 use Rattle.lucy_run.specs.declared.ending.Ending.TheVariants as ending
 use Rattle.lucy_run.specs.Owes.{EndsFor, AllowsMore}
 use Rattle.lucy_run.specs.Courses.{CourseView, words_of, IsCourseUnderWay, EndsOver}

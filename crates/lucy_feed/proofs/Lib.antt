@@ -1,5 +1,0 @@
-pub mod ListLaws
-pub mod FeedLaws
-pub mod ResumeLaws
-pub mod WantedLaws
-pub mod GivenLaws

@@ -1,0 +1,18 @@
+use Rattle.std.proofs.Common.{◌≡◌, ◌<◌, ◌≤◌, true, [], length}
+use Rattle.std.specs.Prelude.{◌⊎◌, slice_index_or}
+use Rattle.lucy_lines.specs.Feeding.{values_by_stream}
+use Rattle.lucy_lines.specs.Resuming.{AreMet, ReadsWhile}
+use Rattle.lucy_lines.proofs.WantedLaws.{lines_left}
+use Rattle.lucy_lines.proofs.feed_reader.FeedReader.read_until.Given as goal
+
+abbrev pub invariant-lines : goal.invariant-lines
+invariant-lines g l = record {
+  reads : ReadsWhile (λ inputs items. length (slice_index_or (values_by_stream (length inputs) items) l.stream []) < l.least) (g.I.Source.seen l.initial.source) (g.I.Source.seen l.source) l.initial.self l.self;
+  unread : (l.initial.self.reader.ended ≡ true) ⊎ (l.least ≤ slice_index_or l.initial.self.counts l.stream 0) → (l.source ≡ l.initial.source) × (l.self ≡ l.initial.self);
+  risen : AreMet l.initial.self.counts l.self.counts;
+  inputs : l.self.reader.inputs ≡ l.initial.self.reader.inputs;
+  count : (g.I.Source.seen l.initial.source).faults ≤ (g.I.Source.seen l.source).faults;
+}
+
+abbrev pub decreases-lines : goal.decreases-lines
+decreases-lines g l = lines_left l.self.reader

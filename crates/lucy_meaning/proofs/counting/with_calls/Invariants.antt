@@ -1,7 +1,0 @@
-use Rattle.std.proofs.Common.{◌≡◌, ◌+◌, take}
-use Rattle.std.specs.Prelude.{sum_by, slice_index}
-use Rattle.lucy_meaning.specs.Sizes.{capped}
-use Rattle.lucy_meaning.proofs.counting.with_calls.Given as goal
-
-abbrev pub invariant-each : goal.invariant-each
-invariant-each l = l.all ≡ capped (l.own + sum_by (λ site. slice_index l.counts site.node) (take l.site-index l.sites))

@@ -1,4 +1,0 @@
-pub mod OutputLaws
-pub mod SinkLaws
-mod WalkLaws
-mod RunLaws

@@ -1,5 +1,0 @@
-use Rattle.lucy_output.proofs.OutputLaws.{block_by_block}
-use Rattle.lucy_output.proofs.laws.block_by_block.Goals as goal
-
-pub returns : goal.returns
-returns c = block_by_block

@@ -1,5 +1,0 @@
-use Rattle.lucy_output.proofs.OutputLaws.{no_text, one_instant_more}
-use Rattle.lucy_output.proofs.laws.instant_by_instant.Goals as goal
-
-pub returns : goal.returns
-returns c = λ outputs lists. (no_text outputs lists, one_instant_more outputs lists)
