@@ -4,3 +4,4 @@ pub mod Right
 pub mod Laws
 pub mod Owed
 pub mod Refused
+pub mod Earliest

@@ -1,5 +1,6 @@
 // That places and names read off the tree of a program are those that lucy_place tells, that what a run owes is what `run` prints, and that a written
 // program is refused for limits alone where it stands for something.
+ghost use Rattle.lucy_right.specs.Earliest.{FoundAreEarliest};
 ghost use Rattle.lucy_right.specs.Laws.{FaultlessAreWellNamed, NodesArePlaced, PlacedAreNodes, WellNamedHaveNoFault};
 ghost use Rattle.lucy_right.specs.Owed.{AcceptedStand, CutsAreRuns, OwedAreRuns};
 ghost use Rattle.lucy_right.specs.Refused.{WrittenPassLimits};
@@ -51,3 +52,8 @@ pub fn written_programs_pass()
     written_nodes_have_one();
     flat_nets_are_causal_as_programs();
 }
+
+/// The clocks of an accepted program's nodes that aren't written are the earliest of the shape of their needs.
+pub fn found_clocks_are_earliest()
+    ensures { FoundAreEarliest }
+{}
