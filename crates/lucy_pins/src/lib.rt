@@ -32,6 +32,7 @@ pub mod picture;
 pub mod place;
 pub mod program;
 pub mod rates;
+pub mod right;
 pub mod ring;
 pub mod shape;
 pub mod stream;

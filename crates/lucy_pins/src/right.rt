@@ -1,0 +1,42 @@
+// That what `run` prints is right.
+ghost use Rattle.lucy_right.specs.Laws.{FaultlessAreWellNamed, NodesArePlaced, PlacedAreNodes, WellNamedHaveNoFault};
+ghost use Rattle.lucy_right.specs.Owed.{AcceptedStand, CutsAreRuns, OwedAreRuns};
+ghost use Rattle.lucy_right.specs.Refused.{WrittenPassLimits};
+
+/// Pins `lucy_right::nodes_are_placed`.
+pub fn nodes_are_placed()
+    ensures placed { PlacedAreNodes }
+    ensures only { NodesArePlaced }
+{
+    lucy_right::nodes_are_placed();
+}
+
+/// Pins `lucy_right::names_are_good`.
+pub fn names_are_good()
+    ensures faultless { FaultlessAreWellNamed }
+    ensures well { WellNamedHaveNoFault }
+{
+    lucy_right::names_are_good();
+}
+
+/// Pins `lucy_right::accepted_programs_stand`.
+pub fn accepted_programs_stand()
+    ensures { AcceptedStand }
+{
+    lucy_right::accepted_programs_stand();
+}
+
+/// Pins `lucy_right::owed_outputs_are_runs`.
+pub fn owed_outputs_are_runs()
+    ensures cuts { CutsAreRuns }
+    ensures owed { OwedAreRuns }
+{
+    lucy_right::owed_outputs_are_runs();
+}
+
+/// Pins `lucy_right::written_programs_pass`.
+pub fn written_programs_pass()
+    ensures { WrittenPassLimits }
+{
+    lucy_right::written_programs_pass();
+}
