@@ -1,4 +1,5 @@
 // That what `run` prints is right.
+ghost use Rattle.lucy_right.specs.Earliest.{FoundAreEarliest};
 ghost use Rattle.lucy_right.specs.Laws.{FaultlessAreWellNamed, NodesArePlaced, PlacedAreNodes, WellNamedHaveNoFault};
 ghost use Rattle.lucy_right.specs.Owed.{AcceptedStand, CutsAreRuns, OwedAreRuns};
 ghost use Rattle.lucy_right.specs.Refused.{WrittenPassLimits};
@@ -39,4 +40,11 @@ pub fn written_programs_pass()
     ensures { WrittenPassLimits }
 {
     lucy_right::written_programs_pass();
+}
+
+/// Pins `lucy_right::found_clocks_are_earliest`.
+pub fn found_clocks_are_earliest()
+    ensures { FoundAreEarliest }
+{
+    lucy_right::found_clocks_are_earliest();
 }
