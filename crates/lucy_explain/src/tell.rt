@@ -63,7 +63,7 @@ pub(crate) fn scene_of<'a>(placed: &'a Placed, program: &'a Option<Program>, nod
 }
 
 // Puts what is told of the fault of a node last.
-fn put_fault(page: &mut Page<'_>, scene: Scene<'_>, fault: &NodeFault) -> Result<(), OutOfMemory>
+fn put_fault(page: &mut Page<'_>, scene: Scene<'_>, fault: &NodeFault)
     requires { IsShown fault.now }
 {
     match fault {
@@ -81,21 +81,31 @@ fn put_fault(page: &mut Page<'_>, scene: Scene<'_>, fault: &NodeFault) -> Result
                 shape,
                 diffs,
             };
-            return put_cycle(page, about, cycle);
+            put_cycle(page, about, cycle)
         }
         NodeFault::Check { needs, fault } => put_check(page, scene, needs, *fault),
     }
-    Ok(())
+}
+
+// Puts what is told of a cycle of causality in a program last.
+fn put_cause_in(page: &mut Page<'_>, ops: &Ops, program: &Program, names: &[Text], items: &[Item]) {
+    match place(page.alloc, program, ops) {
+        Ok(placed) => put_items(page, program, &placed, names, items),
+        Err(_) => page.full = true,
+    }
 }
 
 // Puts what is told of a cycle of causality last.
-fn put_cause(page: &mut Page<'_>, ops: &Ops, names: &[Text], items: &[Item]) {
-    match parse(page.alloc, page.text) {
-        Ok(program) => match place(page.alloc, &program, ops) {
-            Ok(placed) => put_items(page, &program, &placed, names, items),
-            Err(_) => page.full = true,
-        },
-        Err(_) => page.full = true,
+fn put_cause(
+    page: &mut Page<'_>,
+    ops: &Ops,
+    program: &Option<Program>,
+    names: &[Text],
+    items: &[Item],
+) {
+    match program {
+        Some(program) => put_cause_in(page, ops, program, names, items),
+        None => page.full = true,
     }
 }
 
@@ -107,12 +117,7 @@ fn put_naming(page: &mut Page<'_>, ops: &Ops, program: &Option<Program>, error: 
 }
 
 // Puts what is told of a refusal behind its first line last.
-fn put_refusal(
-    page: &mut Page<'_>,
-    ops: &Ops,
-    program: &Option<Program>,
-    refusal: &Refusal,
-) -> Result<(), OutOfMemory>
+fn put_refusal(page: &mut Page<'_>, ops: &Ops, program: &Option<Program>, refusal: &Refusal)
     requires { IsTellable refusal.now }
 {
     match refusal {
@@ -125,12 +130,11 @@ fn put_refusal(
             placed,
             node,
             fault,
-        } => return put_fault(page, scene_of(placed, program, *node), fault),
-        Refusal::Cause { names, items, .. } => put_cause(page, ops, names, items),
+        } => put_fault(page, scene_of(placed, program, *node), fault),
+        Refusal::Cause { names, items, .. } => put_cause(page, ops, program, names, items),
         Refusal::Limit(limit) => put_limit(page, *limit),
         Refusal::OutOfMemory => {}
     }
-    Ok(())
 }
 
 /// What is told of a refusal of a text behind its first line, and the spans of which is told.
@@ -144,6 +148,6 @@ pub(crate) fn told(
 {
     let program = tree_of(alloc, text)?;
     let mut page = Page::new(alloc, text);
-    put_refusal(&mut page, ops, &program, refusal)?;
+    put_refusal(&mut page, ops, &program, refusal);
     page.told()
 }
