@@ -1,6 +1,7 @@
 // Printing: what pictures show, as text.
 mod columns;
 mod form;
+mod pieces;
 mod place;
 mod time;
 

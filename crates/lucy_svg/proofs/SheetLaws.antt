@@ -1,7 +1,7 @@
 -- How the parts of a picture are put one behind another.
 use Rattle.std.proofs.Common.{ℕ, zero, suc, ◌+◌, ◌≡◌, Bool, true, false, List, [], ◌∷◌, ◌++◌, Some, length, take, min, refl, ap, sym, ◌∙◌, subst, append_assoc, append-nil, add-one, arith}
 use Rattle.std.proofs.lemmas.Bool.Decides.{nat_tests}
-use Rattle.std.specs.Prelude.{slice_get, codes, nat_eq, if◌then◌else◌}
+use Rattle.std.specs.Prelude.{slice_get, codes, nat_eq, if◌then◌else◌, Result, Ok, Err, OnOk}
 use Rattle.lucy_picture.specs.declared.fill.Fill.{Fill}
 use Rattle.lucy_picture.specs.Holding.{Puts}
 use Rattle.lucy_picture.proofs.HoldLaws.{puts_more, puts_one, puts_part}
@@ -68,6 +68,11 @@ module _ {A : Type 0} (P : A → List ℕ → Type 0) where
   pub puts_fills : (of : Fill → Flow → List A) (fills : List Fill) (flows : List Flow) (i : ℕ) (a b : List ℕ) → i ≡ min (length fills) (length flows) →
       Puts P (both of (take i fills) (take i flows)) a b → Puts P (both of fills flows) a b
   puts_fills of fills flows i a b end m = subst (λ l. Puts P l a b) (both_end of fills flows i end) m
+
+-- what follows from what is known where there was memory
+pub on_ok : {T E : Type 0} (r : Result T E) (P Q : Type 0) → OnOk r P → (P → Q) → OnOk r Q
+on_ok (Ok x) P Q p f = f p
+on_ok (Err e) P Q p f = tt
 
 -- three pieces
 pub three : (a b c d p q r : List ℕ) → b ≡ a ++ p → c ≡ b ++ q → d ≡ c ++ r → d ≡ a ++ (p ++ (q ++ r))

@@ -4,6 +4,7 @@ ghost use Rattle.std.specs.Fmt.{decimal};
 ghost use Rattle.lucy_picture.specs.Lines as spec;
 ghost use Rattle.lucy_picture.specs.Holding.{Extends};
 
+use crate::print::pieces::{put, put_number};
 use crate::turn::Turn;
 use std::alloc::{AllocError, Global};
 
@@ -18,14 +19,6 @@ pub(crate) struct Columns {
     pub cell: usize,
     /// How wide the names before the cells are.
     pub margin: usize,
-}
-
-/// Puts these bytes last.
-pub(crate) fn put(out: &mut Vec<u8>, bytes: &[u8]) -> Result<(), AllocError>
-    ensures { OnOk result (out.new.items ≡ out.old.items ++ bytes.now) }
-{
-    out.extend_from_slice(bytes)?;
-    Ok(())
 }
 
 // Puts so many blanks last.
@@ -154,11 +147,11 @@ impl Columns {
         if instant % 10 != 1 {
             return Ok(written);
         }
-        let text = format!(in alloc; "{instant}")?;
         let before = column.saturating_sub(1);
         put_blanks(out, before.saturating_sub(written))?;
-        put(out, text.as_bytes())?;
-        Ok(before.saturating_add(text.len()))
+        let begin = out.len();
+        put_number(alloc, instant, out)?;
+        Ok(before.saturating_add(out.len().saturating_sub(begin)))
     }
 
     /// Puts the numbers of every tenth instant last, from the first on, each over the end of its cell.

@@ -1,5 +1,6 @@
 // What stands at a place of a node, as text: by its operands, each by its name, else as `#` and its number.
 ghost use Rattle.std.specs.Prelude.{◌≡◌, ◌∷◌, ◌++◌, [], OnOk, codes};
+ghost use Rattle.std.specs.Fmt.{decimal};
 ghost use Rattle.std.specs.Option.{option_map};
 ghost use Rattle.lucy_tree.specs.View.{tree_of};
 ghost use Rattle.lucy_grammar.specs.Print.{lit_token, spaced_text};
@@ -7,7 +8,7 @@ ghost use Rattle.lucy_place.specs.Standing.{at_one, bound_of};
 ghost use Rattle.lucy_program.specs.Names.{of_one, name_at, place_name, place_names, listed};
 ghost use Rattle.lucy_picture.specs.Kinds as spec;
 
-use crate::print::columns::put;
+use crate::print::pieces::{put, put_bits, put_both, put_made};
 use lucy_host::Op;
 use lucy_place::{CallSite, PlaceEntry, PlaceKind, PlacedNode};
 use lucy_token::sign_of;
@@ -34,7 +35,7 @@ pub fn put_place(
 {
     match name_at(node, place) {
         Some(name) => put(out, name.text.bytes()),
-        None => put(out, format!(in alloc; "#{place}")?.as_bytes()),
+        None => put_made(out, format!(in alloc; "#{place}")),
     }
 }
 
@@ -83,6 +84,36 @@ fn put_literal(alloc: Global, literal: Lit, out: &mut Vec<u8>) -> Result<(), All
     }
 }
 
+// Puts a place last behind a text.
+fn put_behind(
+    alloc: Global,
+    node: &PlacedNode,
+    text: &[u8],
+    place: u32,
+    out: &mut Vec<u8>,
+) -> Result<(), AllocError>
+    ensures { OnOk result (out.new.items ≡ out.old.items ++ (text.now ++ place_name node.now place)) }
+{
+    put(out, text)?;
+    put_place(alloc, node, place, out)
+}
+
+// Puts a sign last between two operands.
+fn put_between(
+    alloc: Global,
+    node: &PlacedNode,
+    sign: &[u8],
+    operands: (u32, u32),
+    out: &mut Vec<u8>,
+) -> Result<(), AllocError>
+    ensures { OnOk result (out.new.items ≡ out.old.items ++ (place_name node.now operands.0 ++ (codes " " ++ (sign.now ++ (codes " " ++ place_name node.now operands.1))))) }
+{
+    let (first, second) = operands;
+    put_place(alloc, node, first, out)?;
+    put_both(out, b" ", sign)?;
+    put_behind(alloc, node, b" ", second, out)
+}
+
 // Puts an operator last, with its operands.
 fn put_operator(
     alloc: Global,
@@ -93,28 +124,19 @@ fn put_operator(
 ) -> Result<(), AllocError>
     ensures { OnOk result (out.new.items ≡ out.old.items ++ spec.operator_text node.now op operands.now) }
 {
+    let sign = sign_of(op).as_bytes();
     match operands {
-        [] => put(out, sign_of(op).as_bytes()),
+        [] => put(out, sign),
         [only] => {
-            put(out, sign_of(op).as_bytes())?;
-            put(out, b" ")?;
-            put_place(alloc, node, *only, out)
+            put(out, sign)?;
+            put_behind(alloc, node, b" ", *only, out)
         }
-        [first, second] => {
-            put_place(alloc, node, *first, out)?;
-            put(out, b" ")?;
-            put(out, sign_of(op).as_bytes())?;
-            put(out, b" ")?;
-            put_place(alloc, node, *second, out)
-        }
+        [first, second] => put_between(alloc, node, sign, (*first, *second), out),
         [condition, one, zero, ..] => {
-            put(out, sign_of(op).as_bytes())?;
-            put(out, b" ")?;
-            put_place(alloc, node, *condition, out)?;
-            put(out, b" then ")?;
-            put_place(alloc, node, *one, out)?;
-            put(out, b" else ")?;
-            put_place(alloc, node, *zero, out)
+            put(out, sign)?;
+            put_behind(alloc, node, b" ", *condition, out)?;
+            put_behind(alloc, node, b" then ", *one, out)?;
+            put_behind(alloc, node, b" else ", *zero, out)
         }
     }
 }
@@ -182,17 +204,17 @@ fn put_sampling(
     word: &Word,
     written: Option<&Word>,
     out: &mut Vec<u8>,
-) -> Result<(), OutOfMemory>
+) -> Result<(), AllocError>
     ensures { OnOk result (out.new.items ≡ out.old.items ++ spec.sampling_text word.now (option_map (λ w. w.now) written.entry)) }
 {
     match written {
         None => {
             put(out, b" when ")?;
-            word.print(alloc, out)
+            put_bits(alloc, word, out)
         }
         Some(written) => {
             put(out, b" whenot ")?;
-            written.print(alloc, out)
+            put_bits(alloc, written, out)
         }
     }
 }
@@ -205,23 +227,27 @@ fn put_merge(
     one: u32,
     zero: u32,
     out: &mut Vec<u8>,
-) -> Result<(), OutOfMemory>
+) -> Result<(), AllocError>
     ensures { OnOk result (out.new.items ≡ out.old.items ++ spec.kind_text node.now (PlaceKind.Merge word.now one zero) None) }
 {
     put(out, b"merge ")?;
-    word.print(alloc, out)?;
-    put(out, b" ")?;
-    put_place(alloc, node, one, out)?;
-    put(out, b" ")?;
-    put_place(alloc, node, zero, out)?;
-    Ok(())
+    put_bits(alloc, word, out)?;
+    put_behind(alloc, node, b" ", one, out)?;
+    put_behind(alloc, node, b" ", zero, out)
 }
 
-// The bound of the buffer of a number, where one is written.
-fn bound_of(node: &PlacedNode, buffer: u32) -> Option<u64>
+/// The bound of the buffer of a number, where one is written.
+pub(crate) fn bound_of(node: &PlacedNode, buffer: u64) -> Option<u64>
     ensures { result ≡ bound_of node.now buffer }
 {
     *node.bounds.list().get(buffer.checked_sub(1)? as usize)?
+}
+
+// Puts the bound of a buffer last.
+fn put_bound(alloc: Global, most: u64, out: &mut Vec<u8>) -> Result<(), AllocError>
+    ensures { OnOk result (out.new.items ≡ out.old.items ++ (codes "buffer " ++ (decimal most ++ codes " ("))) }
+{
+    put_made(out, format!(in alloc; "buffer {most} ("))
 }
 
 // Puts a buffer last, with its bound where one is written.
@@ -234,11 +260,10 @@ fn put_buffer(
 ) -> Result<(), AllocError>
     ensures { OnOk result (out.new.items ≡ out.old.items ++ spec.buffer_text most (place_name node.now operand)) }
 {
-    put(out, b"buffer ")?;
     match most {
-        None => put_place(alloc, node, operand, out),
+        None => put_behind(alloc, node, b"buffer ", operand, out),
         Some(most) => {
-            put(out, format!(in alloc; "{most} (")?.as_bytes())?;
+            put_bound(alloc, most, out)?;
             put_place(alloc, node, operand, out)?;
             put(out, b")")
         }
@@ -253,7 +278,7 @@ fn put_nth(alloc: Global, nth: u32, out: &mut Vec<u8>) -> Result<(), AllocError>
         return Ok(());
     }
     let number = u64::from(nth) + 1;
-    put(out, format!(in alloc; "result {number} of ")?.as_bytes())
+    put_made(out, format!(in alloc; "result {number} of "))
 }
 
 // The call of a number.
@@ -264,14 +289,14 @@ fn site_of(node: &PlacedNode, call: u32) -> Option<&CallSite>
 }
 
 // Puts the word of a call's base last, where it is written.
-fn put_base(alloc: Global, base: &Option<Word>, out: &mut Vec<u8>) -> Result<(), OutOfMemory>
+fn put_base(alloc: Global, base: &Option<Word>, out: &mut Vec<u8>) -> Result<(), AllocError>
     ensures { OnOk result (out.new.items ≡ out.old.items ++ spec.at_text base.now) }
 {
     let Some(base) = base else {
         return Ok(());
     };
     put(out, b" at ")?;
-    base.print(alloc, out)
+    put_bits(alloc, base, out)
 }
 
 // Puts a result of a call last, by the number of the call and its own.
@@ -282,7 +307,7 @@ fn put_result(
     nth: u32,
     name: &[u8],
     out: &mut Vec<u8>,
-) -> Result<(), OutOfMemory>
+) -> Result<(), AllocError>
     ensures { OnOk result (out.new.items ≡ out.old.items ++ (spec.nth_text nth ++ of_one (spec.call_text node.now name.now) (at_one node.now.calls call))) }
 {
     put_nth(alloc, nth, out)?;
@@ -291,8 +316,7 @@ fn put_result(
     };
     put(out, name)?;
     put_base(alloc, &site.at, out)?;
-    put_in_parens(alloc, node, site.args.list(), out)?;
-    Ok(())
+    put_in_parens(alloc, node, site.args.list(), out)
 }
 
 // Puts an operator of the host last.
@@ -305,9 +329,56 @@ fn put_host(
 ) -> Result<(), AllocError>
     ensures { OnOk result (out.new.items ≡ out.old.items ++ (codes "host " ++ (name.now ++ spec.in_parens node.now places.now))) }
 {
-    put(out, b"host ")?;
-    put(out, name)?;
+    put_both(out, b"host ", name)?;
     put_in_parens(alloc, node, places, out)
+}
+
+// Puts a literal last, and the place behind it.
+fn put_fby(
+    alloc: Global,
+    node: &PlacedNode,
+    first: Lit,
+    operand: u32,
+    out: &mut Vec<u8>,
+) -> Result<(), AllocError>
+    ensures { OnOk result (out.new.items ≡ out.old.items ++ (spaced_text (lit_token first) ++ (codes " fby " ++ place_name node.now operand))) }
+{
+    put_literal(alloc, first, out)?;
+    put_behind(alloc, node, b" fby ", operand, out)
+}
+
+// Puts what stands at a place last.
+fn put_what(
+    alloc: Global,
+    node: &PlacedNode,
+    kind: &PlaceKind,
+    form: Option<&Expr>,
+    out: &mut Vec<u8>,
+) -> Result<(), AllocError>
+    ensures { OnOk result (out.new.items ≡ out.old.items ++ spec.kind_text node.now kind.now (option_map (λ e. tree_of e.now) form.entry)) }
+{
+    match kind {
+        PlaceKind::Param => Ok(()),
+        PlaceKind::Defined(right) => put_place(alloc, node, *right, out),
+        PlaceKind::Lit(literal) => put_literal(alloc, *literal, out),
+        PlaceKind::Op(op, operands) => put_operator(alloc, node, *op, operands.list(), out),
+        PlaceKind::Host(_, first, second) => {
+            put_host(alloc, node, &[*first, *second], host_name(form), out)
+        }
+        PlaceKind::When(operand, word) => {
+            put_place(alloc, node, *operand, out)?;
+            put_sampling(alloc, word, whenot_word(form), out)
+        }
+        PlaceKind::Merge(word, one, zero) => put_merge(alloc, node, word, *one, *zero, out),
+        PlaceKind::Fby(first, operand) => put_fby(alloc, node, *first, *operand, out),
+        PlaceKind::Buffer(number, operand) => {
+            let most = bound_of(node, u64::from(*number));
+            put_buffer(alloc, node, most, *operand, out)
+        }
+        PlaceKind::Result(call, nth) => {
+            put_result(alloc, node, *call, *nth, called_name(form), out)
+        }
+    }
 }
 
 /// Puts what stands at a place last, which is this form where it is none of the streams: nothing for a parameter, and for a defined name
@@ -321,33 +392,7 @@ pub fn put_kind(
 ) -> Result<(), OutOfMemory>
     ensures { OnOk result (out.new.items ≡ out.old.items ++ spec.kind_text node.now kind.now (option_map (λ e. tree_of e.now) form.entry)) }
 {
-    match kind {
-        PlaceKind::Param => Ok(()),
-        PlaceKind::Defined(right) => Ok(put_place(alloc, node, *right, out)?),
-        PlaceKind::Lit(literal) => Ok(put_literal(alloc, *literal, out)?),
-        PlaceKind::Op(op, operands) => Ok(put_operator(alloc, node, *op, operands.list(), out)?),
-        PlaceKind::Host(_, first, second) => {
-            let places = [*first, *second];
-            Ok(put_host(alloc, node, &places, host_name(form), out)?)
-        }
-        PlaceKind::When(operand, word) => {
-            put_place(alloc, node, *operand, out)?;
-            put_sampling(alloc, word, whenot_word(form), out)
-        }
-        PlaceKind::Merge(word, one, zero) => put_merge(alloc, node, word, *one, *zero, out),
-        PlaceKind::Fby(first, operand) => {
-            put_literal(alloc, *first, out)?;
-            put(out, b" fby ")?;
-            Ok(put_place(alloc, node, *operand, out)?)
-        }
-        PlaceKind::Buffer(number, operand) => {
-            let most = bound_of(node, *number);
-            Ok(put_buffer(alloc, node, most, *operand, out)?)
-        }
-        PlaceKind::Result(call, nth) => {
-            put_result(alloc, node, *call, *nth, called_name(form), out)
-        }
-    }
+    Ok(put_what(alloc, node, kind, form, out)?)
 }
 
 // What stands between a name and what it is defined as.
@@ -375,8 +420,27 @@ fn put_own_name(entry: &PlaceEntry, out: &mut Vec<u8>) -> Result<(), AllocError>
     let Some(name) = &entry.name else {
         return Ok(());
     };
-    put(out, name.text.bytes())?;
-    put(out, equals_text(&entry.kind).as_bytes())
+    put_both(out, name.text.bytes(), equals_text(&entry.kind).as_bytes())
+}
+
+// Puts the number of a place last.
+fn put_number(alloc: Global, place: u32, out: &mut Vec<u8>) -> Result<(), AllocError>
+    ensures { OnOk result (out.new.items ≡ out.old.items ++ (codes "#" ++ (decimal place ++ codes " of "))) }
+{
+    put_made(out, format!(in alloc; "#{place} of "))
+}
+
+// Puts the number of a place last, and its node.
+fn put_number_of(
+    alloc: Global,
+    node: &PlacedNode,
+    place: u32,
+    out: &mut Vec<u8>,
+) -> Result<(), AllocError>
+    ensures { OnOk result (out.new.items ≡ out.old.items ++ (codes "#" ++ (decimal place ++ (codes " of " ++ (node.now.name.text ++ codes ": "))))) }
+{
+    put_number(alloc, place, out)?;
+    put_both(out, node.name.text.bytes(), b": ")
 }
 
 /// Puts the first line of a place last: its number and its node, its name where it has one, and what stands there.
@@ -390,11 +454,8 @@ pub fn put_entry(
 ) -> Result<(), OutOfMemory>
     ensures { OnOk result (out.new.items ≡ out.old.items ++ spec.entry_text node.now place entry.now (option_map (λ e. tree_of e.now) form.entry)) }
 {
-    put(out, format!(in alloc; "#{place} of ")?.as_bytes())?;
-    put(out, node.name.text.bytes())?;
-    put(out, b": ")?;
+    put_number_of(alloc, node, place, out)?;
     put_own_name(entry, out)?;
-    put_kind(alloc, node, &entry.kind, form, out)?;
-    put(out, b"\n")?;
-    Ok(())
+    put_what(alloc, node, &entry.kind, form, out)?;
+    Ok(put(out, b"\n")?)
 }

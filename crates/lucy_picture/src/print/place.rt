@@ -1,9 +1,10 @@
 // Where an offset stands, as text.
 ghost use Rattle.std.specs.Prelude.{◌≡◌, ◌≤◌, ◌++◌, length, map, flat_map, codes, OnOk};
+ghost use Rattle.std.specs.Fmt.{decimal};
 ghost use Rattle.lucy_picture.specs.Spots as spec;
 
-use crate::print::columns::put;
-use crate::spot::spot_of;
+use crate::print::pieces::{put, put_made};
+use crate::spot::{Spot, spot_of};
 use std::alloc::{AllocError, Global};
 
 // The byte as it is printed: `?` where it may move the cursor.
@@ -65,6 +66,14 @@ fn put_caret(out: &mut Vec<u8>, front: &[u8]) -> Result<(), AllocError>
     put(out, b"^\n")
 }
 
+// Puts line and column last.
+fn put_head(alloc: Global, spot: Spot, out: &mut Vec<u8>) -> Result<(), AllocError>
+    ensures { OnOk result (out.new.items ≡ out.old.items ++ (codes "line " ++ (decimal spot.line ++ (codes ", column " ++ (decimal spot.column ++ codes "\n"))))) }
+{
+    let Spot { line, column, .. } = spot;
+    put_made(out, format!(in alloc; "line {line}, column {column}\n"))
+}
+
 /// Puts last where an offset stands in a text: its line and column, the line itself, and a caret below it.
 pub fn put_spot(
     alloc: Global,
@@ -76,8 +85,7 @@ pub fn put_spot(
     ensures { OnOk result (spec.PutsSpot text.now offset out.old.items out.new.items) }
 {
     let spot = spot_of(text, offset);
-    let head = format!(in alloc; "line {}, column {}\n", spot.line, spot.column)?;
-    put(out, head.as_bytes())?;
+    put_head(alloc, spot, out)?;
     put_visible(out, without_return(&text[spot.begin..spot.end]))?;
     put(out, b"\n")?;
     put_caret(out, &text[spot.begin..offset])

@@ -10,8 +10,9 @@ ghost use Rattle.lucy_picture.specs.Lines as spec;
 
 use crate::chart::Chart;
 use crate::fill::Fill;
-use crate::print::columns::{Columns, put};
-use crate::print::form::name_at;
+use crate::print::columns::Columns;
+use crate::print::form::{bound_of, name_at};
+use crate::print::pieces::{put, put_bits, put_made};
 use crate::row::Row;
 use crate::turn::Turn;
 use crate::words::words_at;
@@ -31,17 +32,15 @@ fn name_of(node: &PlacedNode, place: u32) -> &[u8]
 }
 
 // How wide a cell is, for the greatest number in it, and a blank where that has several digits.
-fn cell_width(alloc: Global, chart: &Chart) -> Result<usize, AllocError> {
+fn cell_width(chart: &Chart) -> usize {
     let mut most = 0;
     for fill in &chart.fills {
         most = fill.size.max(most);
     }
-    let digits = format!(in alloc; "{most}")?.len();
-    Ok(if digits < 2 {
-        1
-    } else {
-        digits.saturating_add(1)
-    })
+    match most.checked_ilog10() {
+        None | Some(0) => 1,
+        Some(more) => (more as usize).saturating_add(2),
+    }
 }
 
 // How wide the names are, with the blanks on both sides.
@@ -60,7 +59,14 @@ fn put_instants(alloc: Global, count: u64, out: &mut Vec<u8>) -> Result<(), Allo
     if count == 1 {
         return put(out, b"1 instant");
     }
-    put(out, format!(in alloc; "{count} instants")?.as_bytes())
+    put_made(out, format!(in alloc; "{count} instants"))
+}
+
+// Puts after how many instants all comes again, behind a prefix.
+fn put_then(alloc: Global, period: u64, out: &mut Vec<u8>) -> Result<(), AllocError>
+    ensures { OnOk result (out.new.items ≡ out.old.items ++ (codes ", then " ++ (decimal period ++ codes " again and again\n"))) }
+{
+    put_made(out, format!(in alloc; ", then {period} again and again\n"))
 }
 
 // Puts how many instants there are until all comes again.
@@ -70,17 +76,29 @@ fn put_turn(alloc: Global, turn: Option<Turn>, out: &mut Vec<u8>) -> Result<(), 
     let Some(turn) = turn else {
         return put(out, b"  no period within the limit Schedule\n");
     };
+    let Turn { prefix, period } = turn;
     put(out, b"  ")?;
-    if turn.prefix == 0 {
-        put_instants(alloc, turn.period, out)?;
+    if prefix == 0 {
+        put_instants(alloc, period, out)?;
         return put(out, b" again and again\n");
     }
-    put_instants(alloc, turn.prefix, out)?;
-    let period = turn.period;
-    put(
-        out,
-        format!(in alloc; ", then {period} again and again\n")?.as_bytes(),
-    )
+    put_instants(alloc, prefix, out)?;
+    put_then(alloc, period, out)
+}
+
+// Puts the word of a place last, where there is one.
+fn put_word_at(
+    alloc: Global,
+    words: &[Word],
+    place: u32,
+    out: &mut Vec<u8>,
+) -> Result<(), AllocError>
+    ensures { OnOk result (out.new.items ≡ out.old.items ++ spec.word_text words.now place) }
+{
+    match words.get(place as usize) {
+        Some(word) => put_bits(alloc, word, out),
+        None => Ok(()),
+    }
 }
 
 /// Puts the word of a place last, where there is one.
@@ -92,10 +110,7 @@ pub fn put_word(
 ) -> Result<(), OutOfMemory>
     ensures { OnOk result (out.new.items ≡ out.old.items ++ spec.word_text words.now place) }
 {
-    match words.get(place as usize) {
-        Some(word) => word.print(alloc, out),
-        None => Ok(()),
-    }
+    Ok(put_word_at(alloc, words, place, out)?)
 }
 
 // Puts the line of a stream.
@@ -106,15 +121,14 @@ fn put_row(
     words: &[Word],
     row: &Row,
     out: &mut Vec<u8>,
-) -> Result<(), OutOfMemory>
+) -> Result<(), AllocError>
     ensures { OnOk result (out.new.items ≡ out.old.items ++ spec.row_text node.now words.now columns.now.turn columns.now.cell columns.now.margin row.now) }
 {
     columns.put_name(out, 2, name_of(node, row.place))?;
     columns.put_marks(out, row.marks.list())?;
     put(out, b"  ")?;
-    put_word(alloc, words, row.place, out)?;
-    put(out, b"\n")?;
-    Ok(())
+    put_word_at(alloc, words, row.place, out)?;
+    put(out, b"\n")
 }
 
 // Puts those of streams.
@@ -125,7 +139,7 @@ fn put_rows(
     words: &[Word],
     rows: &[Row],
     out: &mut Vec<u8>,
-) -> Result<(), OutOfMemory>
+) -> Result<(), AllocError>
     ensures { OnOk result (out.new.items ≡ out.old.items ++ flat_map (spec.row_text node.now words.now columns.now.turn columns.now.cell columns.now.margin) rows.now) }
 {
     'each: for row in rows {
@@ -134,11 +148,11 @@ fn put_rows(
     Ok(())
 }
 
-// The bound of the buffer of a number, where one is written.
-fn bound_of(node: &PlacedNode, buffer: u64) -> Option<u64>
-    ensures { result ≡ bound_of node.now buffer }
+// Puts the size of a buffer last.
+fn put_most(alloc: Global, size: u64, out: &mut Vec<u8>) -> Result<(), AllocError>
+    ensures { OnOk result (out.new.items ≡ out.old.items ++ (codes " size " ++ decimal size)) }
 {
-    *node.bounds.list().get(buffer.checked_sub(1)? as usize)?
+    put_made(out, format!(in alloc; " size {size}"))
 }
 
 // Puts the bound of a buffer last, where one is written.
@@ -147,7 +161,7 @@ fn put_bound(alloc: Global, most: Option<u64>, out: &mut Vec<u8>) -> Result<(), 
 {
     match most {
         None => Ok(()),
-        Some(most) => put(out, format!(in alloc; " at most {most}")?.as_bytes()),
+        Some(most) => put_made(out, format!(in alloc; " at most {most}")),
     }
 }
 
@@ -156,7 +170,7 @@ fn put_full(alloc: Global, full: Option<u64>, out: &mut Vec<u8>) -> Result<(), A
     ensures { OnOk result (out.new.items ≡ out.old.items ++ spec.full_text full) }
 {
     match full {
-        Some(at) => put(out, format!(in alloc; ", first at {at}\n")?.as_bytes()),
+        Some(at) => put_made(out, format!(in alloc; ", first at {at}\n")),
         None => put(out, b", not reached at these instants\n"),
     }
 }
@@ -170,9 +184,16 @@ fn put_size(
 ) -> Result<(), AllocError>
     ensures { OnOk result (out.new.items ≡ out.old.items ++ (size_part fill.now.size (bound_of node.now fill.now.buffer) ++ spec.full_text fill.now.full)) }
 {
-    put(out, format!(in alloc; " size {}", fill.size)?.as_bytes())?;
+    put_most(alloc, fill.size, out)?;
     put_bound(alloc, bound_of(node, fill.buffer), out)?;
     put_full(alloc, fill.full, out)
+}
+
+// Puts the number of a buffer.
+fn put_number(alloc: Global, buffer: u64, out: &mut Vec<u8>) -> Result<(), AllocError>
+    ensures { OnOk result (out.new.items ≡ out.old.items ++ (codes "  buffer " ++ (decimal buffer ++ codes " : "))) }
+{
+    put_made(out, format!(in alloc; "  buffer {buffer} : "))
 }
 
 // Puts the first line of a buffer.
@@ -182,16 +203,14 @@ fn put_head(
     words: &[Word],
     fill: &Fill,
     out: &mut Vec<u8>,
-) -> Result<(), OutOfMemory>
+) -> Result<(), AllocError>
     ensures { OnOk result (out.new.items ≡ out.old.items ++ spec.buffer_head node.now words.now fill.now) }
 {
-    let buffer = fill.buffer;
-    put(out, format!(in alloc; "  buffer {buffer} : ")?.as_bytes())?;
-    put_word(alloc, words, fill.operand, out)?;
+    put_number(alloc, fill.buffer, out)?;
+    put_word_at(alloc, words, fill.operand, out)?;
     put(out, b" <: ")?;
-    put_word(alloc, words, fill.place, out)?;
-    put_size(alloc, node, fill, out)?;
-    Ok(())
+    put_word_at(alloc, words, fill.place, out)?;
+    put_size(alloc, node, fill, out)
 }
 
 // Puts a line of marks of a buffer.
@@ -223,32 +242,6 @@ fn put_numbers(
     put(out, b"\n")
 }
 
-// Puts the line of what goes into a buffer.
-fn put_written(columns: &Columns, fill: &Fill, out: &mut Vec<u8>) -> Result<(), AllocError>
-    ensures { OnOk result (out.new.items ≡ out.old.items ++ spec.written_line columns.now.turn columns.now.cell columns.now.margin fill.now) }
-{
-    put_marks(columns, b"in", fill.written.list(), out)
-}
-
-// Puts that of what comes out of it.
-fn put_read(columns: &Columns, fill: &Fill, out: &mut Vec<u8>) -> Result<(), AllocError>
-    ensures { OnOk result (out.new.items ≡ out.old.items ++ spec.read_line columns.now.turn columns.now.cell columns.now.margin fill.now) }
-{
-    put_marks(columns, b"out", fill.read.list(), out)
-}
-
-// Puts that of how many items wait.
-fn put_waits(
-    alloc: Global,
-    columns: &Columns,
-    fill: &Fill,
-    out: &mut Vec<u8>,
-) -> Result<(), AllocError>
-    ensures { OnOk result (out.new.items ≡ out.old.items ++ spec.waits_line columns.now.turn columns.now.cell columns.now.margin fill.now) }
-{
-    put_numbers(alloc, columns, b"waiting", fill.waits.list(), out)
-}
-
 // Puts the lines of a buffer.
 fn put_fill(
     alloc: Global,
@@ -257,14 +250,13 @@ fn put_fill(
     words: &[Word],
     fill: &Fill,
     out: &mut Vec<u8>,
-) -> Result<(), OutOfMemory>
+) -> Result<(), AllocError>
     ensures { OnOk result (out.new.items ≡ out.old.items ++ spec.fill_text node.now words.now columns.now.turn columns.now.cell columns.now.margin fill.now) }
 {
     put_head(alloc, node, words, fill, out)?;
-    put_written(columns, fill, out)?;
-    put_read(columns, fill, out)?;
-    put_waits(alloc, columns, fill, out)?;
-    Ok(())
+    put_marks(columns, b"in", fill.written.list(), out)?;
+    put_marks(columns, b"out", fill.read.list(), out)?;
+    put_numbers(alloc, columns, b"waiting", fill.waits.list(), out)
 }
 
 // The buffer of a number, from 0.
@@ -283,7 +275,7 @@ fn put_fills(
     words: &[Word],
     fills: &[Fill],
     out: &mut Vec<u8>,
-) -> Result<(), OutOfMemory>
+) -> Result<(), AllocError>
     ensures { OnOk result (out.new.items ≡ out.old.items ++ flat_map (spec.fill_text node.now words.now columns.now.turn columns.now.cell columns.now.margin) fills.now) }
 {
     'each: for i in 0..fills.len() {
@@ -302,16 +294,13 @@ fn put_more(
     ensures { OnOk result (out.new.items ≡ out.old.items ++ spec.more_text turn shown) }
 {
     let Some(turn) = turn else {
-        return put(
-            out,
-            format!(in alloc; "  the first {shown} instants\n")?.as_bytes(),
-        );
+        return put_made(out, format!(in alloc; "  the first {shown} instants\n"));
     };
     let all = turn.whole();
     if shown < all {
-        return put(
+        return put_made(
             out,
-            format!(in alloc; "  the first {shown} of {all} instants\n")?.as_bytes(),
+            format!(in alloc; "  the first {shown} of {all} instants\n"),
         );
     }
     Ok(())
@@ -357,7 +346,7 @@ pub fn put_time(
     let columns = Columns {
         turn,
         shown,
-        cell: cell_width(alloc, chart)?,
+        cell: cell_width(chart),
         margin: margin(found, chart),
     };
     put_chart(

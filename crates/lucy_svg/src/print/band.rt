@@ -2,7 +2,7 @@
 ghost use Rattle.std.specs.Prelude.{OnOk};
 ghost use Rattle.lucy_picture.specs.Holding.{Extends};
 
-use crate::print::ink::put;
+use crate::print::ink::put_made;
 use crate::print::lane::Lanes;
 use std::alloc::{AllocError, Global};
 
@@ -54,8 +54,7 @@ impl Band {
         let y = self.height_of(number);
         let whole = y / 10;
         let tenths = y % 10;
-        put(out, &format!(in alloc; "H{x}V{whole}.{tenths}")?)?;
-        Ok(())
+        put_made(out, format!(in alloc; "H{x}V{whole}.{tenths}"))
     }
 
     // Puts the steps last.
@@ -73,21 +72,25 @@ impl Band {
             self.put_step(alloc, lanes.end(i as u64), last, *number, out)?;
             last = *number;
         }
-        put(out, &format!(in alloc; "H{}", lanes.width())?)?;
         Ok(())
     }
 
-    // Puts the ends of stairs last, on the ground where it is said.
-    fn put_end(&self, alloc: Global, closed: bool, out: &mut Vec<u8>) -> Result<(), AllocError>
+    // Puts the ends of stairs last, behind the last instant, on the ground where it is said.
+    fn put_end(
+        &self,
+        alloc: Global,
+        lanes: &Lanes,
+        closed: bool,
+        out: &mut Vec<u8>,
+    ) -> Result<(), AllocError>
         ensures { OnOk result (Extends out.old.items out.new.items) }
     {
+        let end = lanes.width();
         if closed {
             let ground = self.bottom();
-            put(out, &format!(in alloc; "V{ground}H0z\"/>")?)?;
-            return Ok(());
+            return put_made(out, format!(in alloc; "H{end}V{ground}H0z\"/>"));
         }
-        put(out, "\"/>")?;
-        Ok(())
+        put_made(out, format!(in alloc; "H{end}\"/>"))
     }
 
     /// Puts the stairs of numbers last, of this class, which begin on the ground and where it is said end there.
@@ -103,10 +106,11 @@ impl Band {
         ensures { OnOk result (Extends out.old.items out.new.items) }
     {
         let ground = self.bottom();
-        let begin = format!(in alloc; "<path class=\"{class}\" d=\"M0 {ground}")?;
-        put(out, &begin)?;
+        put_made(
+            out,
+            format!(in alloc; "<path class=\"{class}\" d=\"M0 {ground}"),
+        )?;
         self.put_steps(alloc, lanes, numbers, out)?;
-        self.put_end(alloc, closed, out)?;
-        Ok(())
+        self.put_end(alloc, lanes, closed, out)
     }
 }

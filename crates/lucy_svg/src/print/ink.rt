@@ -1,5 +1,6 @@
 // Texts and marks, as SVG. Lengths are in pixels.
-ghost use Rattle.std.specs.Prelude.{◌≡◌, ◌++◌, OnOk};
+ghost use Rattle.std.specs.Prelude.{List, ℕ, ◌≡◌, ◌++◌, string_bytes, IfOk, OnOk};
+ghost use Rattle.lucy_picture.specs.Holding.{Extends};
 ghost use Rattle.lucy_svg.specs.Labels.{width_of, front_of, label_begin, element_text, label_text, count_text, line_text};
 
 use crate::escape::put_escaped;
@@ -51,6 +52,18 @@ pub fn put(out: &mut Vec<u8>, text: &str) -> Result<(), AllocError>
     Ok(())
 }
 
+/// Puts a text last that was made, where there was memory for it.
+pub(crate) fn put_made(
+    out: &mut Vec<u8>,
+    made: Result<String, AllocError>,
+) -> Result<(), AllocError>
+    ensures is { (text : List ℕ) → IfOk made (λ s. string_bytes s ≡ text) → OnOk result (out.new.items ≡ out.old.items ++ text) }
+    ensures more { OnOk result (Extends out.old.items out.new.items) }
+{
+    out.extend_from_slice(made?.as_bytes())?;
+    Ok(())
+}
+
 // Puts so many letters of a text last, where it has more the last two as dots.
 fn put_front(text: &[u8], most: usize, out: &mut Vec<u8>) -> Result<(), AllocError>
     ensures { OnOk result (out.new.items ≡ out.old.items ++ front_of most text.now) }
@@ -76,8 +89,8 @@ fn put_begin(
     let class = font.class;
     let begin = format!(in alloc;
         "<text class=\"{class}\" x=\"{x}\" y=\"{y}\" textLength=\"{wide}\" lengthAdjust=\"spacingAndGlyphs\">"
-    )?;
-    put(out, &begin)
+    );
+    put_made(out, begin)
 }
 
 // Puts the element of a text last.
@@ -94,8 +107,7 @@ fn put_element(
     let wide = font.width(letters);
     put_begin(alloc, font, at, wide, out)?;
     put_front(text, font.most, out)?;
-    put(out, "</text>")?;
-    Ok(())
+    put(out, "</text>")
 }
 
 /// Puts a text last that begins at a point.
@@ -115,6 +127,20 @@ pub fn put_label(
     Ok(())
 }
 
+/// Puts a text last that begins at a point and was made, where there was memory for it.
+pub(crate) fn put_made_label(
+    alloc: Global,
+    font: &Font,
+    at: (u64, u64),
+    made: Result<String, AllocError>,
+    out: &mut Vec<u8>,
+) -> Result<(), AllocError>
+    ensures { OnOk result (Extends out.old.items out.new.items) }
+{
+    put_label(alloc, font, at, made?.as_bytes(), out)?;
+    Ok(())
+}
+
 /// Puts a number last whose middle is above or below a point.
 pub(crate) fn put_count(
     alloc: Global,
@@ -125,8 +151,8 @@ pub(crate) fn put_count(
 ) -> Result<(), AllocError>
     ensures { OnOk result (out.new.items ≡ out.old.items ++ count_text x y number) }
 {
-    let text = format!(in alloc; "<text class=\"count\" x=\"{x}\" y=\"{y}\">{number}</text>")?;
-    put(out, &text)
+    let text = format!(in alloc; "<text class=\"count\" x=\"{x}\" y=\"{y}\">{number}</text>");
+    put_made(out, text)
 }
 
 /// Puts a line last.
@@ -141,6 +167,6 @@ pub(crate) fn put_line(
 {
     let (x, y) = from;
     let (right, down) = to;
-    let text = format!(in alloc; "<path class=\"{class}\" d=\"M{x} {y}L{right} {down}\"/>")?;
-    put(out, &text)
+    let text = format!(in alloc; "<path class=\"{class}\" d=\"M{x} {y}L{right} {down}\"/>");
+    put_made(out, text)
 }

@@ -5,7 +5,7 @@ ghost use Rattle.lucy_svg.specs.Sheets.{IsLane, of_marks, of_items};
 ghost use Rattle.lucy_svg.specs.Sheets as spec;
 
 use crate::join::Join;
-use crate::print::ink::{put, put_count, put_line};
+use crate::print::ink::{put, put_count, put_line, put_made};
 use lucy_picture::Turn;
 use std::alloc::{AllocError, Global};
 
@@ -120,7 +120,7 @@ impl Lanes {
     {
         if mark {
             let x = self.middle(instant);
-            put(out, &format!(in alloc; "M{x} {y}h0")?)
+            put_made(out, format!(in alloc; "M{x} {y}h0"))
         } else {
             Ok(())
         }
@@ -154,7 +154,7 @@ impl Lanes {
         ensures { OnOk result (Puts (IsLane self.now.cell) (of_marks marks.now ∷ []) out.old.items out.new.items) }
     {
         put_line(alloc, "rail", (0, y), (self.width(), y), out)?;
-        put(out, &format!(in alloc; "<path class=\"{class}\" d=\"")?)?;
+        put_made(out, format!(in alloc; "<path class=\"{class}\" d=\""))?;
         self.put_points(alloc, marks, y, out)?;
         put(out, "\"/>")?;
         Ok(())
@@ -173,7 +173,7 @@ impl Lanes {
     {
         let from = self.middle(join.written);
         let to = self.middle(join.read);
-        put(out, &format!(in alloc; "M{from} {top}L{to} {bottom}")?)
+        put_made(out, format!(in alloc; "M{from} {top}L{to} {bottom}"))
     }
 
     // Puts those of items last.
@@ -245,9 +245,8 @@ impl Lanes {
         let cell = self.cell;
         let frame = format!(in alloc;
             "<rect class=\"full\" x=\"{x}\" y=\"{top}\" width=\"{cell}\" height=\"{height}\" rx=\"3\"/>"
-        )?;
-        put(out, &frame)?;
-        Ok(())
+        );
+        put_made(out, frame)
     }
 }
 

@@ -44,13 +44,13 @@ pub struct Sheet<'a> {
 }
 
 // How wide an instant is, for the greatest number in it.
-fn cell_of(alloc: Global, fills: &[Fill]) -> Result<u64, AllocError> {
+fn cell_of(fills: &[Fill]) -> u64 {
     let mut most = 0;
     for fill in fills {
         most = fill.size.max(most);
     }
-    let digits = format!(in alloc; "{most}")?.len() as u64;
-    Ok(digits.saturating_mul(6).saturating_add(6).max(16))
+    let more = u64::from(most.checked_ilog10().unwrap_or(0));
+    more.saturating_mul(6).saturating_add(12).max(16)
 }
 
 // Where the lanes of a buffer end, for the top of its head.
@@ -110,14 +110,14 @@ impl<'a> Sheet<'a> {
         ensures drawing { IfOk result (λ s. s.drawing.now ≡ drawing.now) }
         ensures width { IfOk result (λ s. s.width ≡ min (shown * s.lanes.cell) (2 ^ 64 - 1)) }
     {
+        let cell = cell_of(&drawing.chart.fills);
+        let lanes = Lanes { shown, cell };
         let side = Side {
             node,
             words,
             linked,
             told: Told::new(alloc, node)?,
         };
-        let cell = cell_of(alloc, &drawing.chart.fills)?;
-        let lanes = Lanes { shown, cell };
         let names = side.width(alloc, &drawing.chart.rows, &drawing.chart.fills)?;
         Ok(Sheet {
             side,
@@ -195,8 +195,7 @@ impl<'a> Sheet<'a> {
         ensures { OnOk result (Puts (IsLaneName self.now.side.node.now self.now.side.told) (names_of self.now.drawing.now) out.old.items out.new.items) }
     {
         let begin = self.put_row_names(alloc, out)?;
-        self.put_buffer_names(alloc, begin, out)?;
-        Ok(())
+        self.put_buffer_names(alloc, begin, out)
     }
 
     // Puts what goes into a buffer last.
@@ -210,8 +209,7 @@ impl<'a> Sheet<'a> {
         ensures { OnOk result (Puts (IsLane self.now.lanes.cell) (of_marks fill.now.written ∷ []) out.old.items out.new.items) }
     {
         let marks = fill.written.list();
-        self.lanes.put_marks(alloc, "item in", marks, y, out)?;
-        Ok(())
+        self.lanes.put_marks(alloc, "item in", marks, y, out)
     }
 
     // Puts what comes out of it last.
@@ -225,8 +223,7 @@ impl<'a> Sheet<'a> {
         ensures { OnOk result (Puts (IsLane self.now.lanes.cell) (of_marks fill.now.read ∷ []) out.old.items out.new.items) }
     {
         let marks = fill.read.list();
-        self.lanes.put_marks(alloc, "item out", marks, y, out)?;
-        Ok(())
+        self.lanes.put_marks(alloc, "item out", marks, y, out)
     }
 
     // Puts its items last.
@@ -241,8 +238,7 @@ impl<'a> Sheet<'a> {
         ensures { OnOk result (Puts (IsLane self.now.lanes.cell) (of_items flow.now.joins ∷ []) out.old.items out.new.items) }
     {
         let joins = flow.joins.list();
-        self.lanes.put_joins(alloc, joins, from, to, out)?;
-        Ok(())
+        self.lanes.put_joins(alloc, joins, from, to, out)
     }
 
     // Puts what goes in and out last, and a line for each item.
@@ -261,8 +257,7 @@ impl<'a> Sheet<'a> {
         self.put_written(alloc, fill, upper, out)?;
         self.put_read(alloc, fill, lower, out)?;
         let from = upper.saturating_add(6);
-        self.put_joins(alloc, flow, from, lower.saturating_sub(6), out)?;
-        Ok(())
+        self.put_joins(alloc, flow, from, lower.saturating_sub(6), out)
     }
 
     // Puts the stairs of a buffer last: how many have gone in and come out, and below how many wait.
@@ -285,8 +280,7 @@ impl<'a> Sheet<'a> {
         counts.put_stairs(alloc, lanes, "stairs out", flow.read.list(), false, out)?;
         waits.put_stairs(alloc, lanes, "waits", fill.waits.list(), true, out)?;
         lanes.put_numbers(alloc, fill.waits.list(), below, out)?;
-        lanes.put_frame(alloc, fill.full, waits.top, height, out)?;
-        Ok(())
+        lanes.put_frame(alloc, fill.full, waits.top, height, out)
     }
 
     // Puts the lanes of a buffer last, and its stairs.
@@ -302,8 +296,7 @@ impl<'a> Sheet<'a> {
     {
         put_line(alloc, "rail", (0, top), (self.width, top), out)?;
         self.put_items(alloc, fill, flow, top, out)?;
-        self.put_bands(alloc, fill, flow, top, out)?;
-        Ok(())
+        self.put_bands(alloc, fill, flow, top, out)
     }
 
     // Puts a stream last.
@@ -318,8 +311,7 @@ impl<'a> Sheet<'a> {
     {
         let marks = row.marks.list();
         self.lanes
-            .put_marks(alloc, "item", marks, top.saturating_add(14), out)?;
-        Ok(())
+            .put_marks(alloc, "item", marks, top.saturating_add(14), out)
     }
 
     // Puts the streams last; answers where they end.

@@ -6,7 +6,7 @@ ghost use Rattle.lucy_picture.specs.Holding.{Extends, Puts};
 ghost use Rattle.lucy_svg.specs.Names.{told_by};
 ghost use Rattle.lucy_svg.specs.Sheets.{IsLaneName, lane_name};
 
-use crate::print::ink::{HEAD, NAME, SMALL, put, put_label};
+use crate::print::ink::{HEAD, NAME, SMALL, put, put_label, put_made, put_made_label};
 use crate::told::Told;
 use lucy_picture::{Fill, Row, put_place, put_word};
 use lucy_place::PlacedNode;
@@ -53,13 +53,17 @@ fn buffer_text(alloc: Global, node: &PlacedNode, fill: &Fill) -> Result<String, 
     }
 }
 
+// The end of a link, where there is one.
+fn link_end(linked: bool) -> &'static str {
+    if linked { "</a>" } else { "" }
+}
+
 impl<'a> Side<'a> {
     // How wide the name and the word of a place are.
     fn width_of(&self, alloc: Global, place: u32) -> Result<u64, OutOfMemory> {
-        let name = self.told.text(alloc, self.node, place)?;
-        let word = word_text(alloc, self.words, place)?;
-        let name = NAME.width(name.len().saturating_add(4));
-        Ok(name.max(SMALL.width(word.len())))
+        let name = self.told.text(alloc, self.node, place)?.len();
+        let word = word_text(alloc, self.words, place)?.len();
+        Ok(NAME.width(name.saturating_add(4)).max(SMALL.width(word)))
     }
 
     /// How wide they are, those of rows and of buffers.
@@ -74,10 +78,8 @@ impl<'a> Side<'a> {
             most = self.width_of(alloc, row.place)?.max(most);
         }
         for fill in fills {
-            let both = self
-                .width_of(alloc, fill.operand)?
-                .max(self.width_of(alloc, fill.place)?);
-            most = both.max(most);
+            most = self.width_of(alloc, fill.operand)?.max(most);
+            most = self.width_of(alloc, fill.place)?.max(most);
         }
         Ok(most.saturating_add(EDGE).saturating_add(EDGE))
     }
@@ -92,7 +94,7 @@ impl<'a> Side<'a> {
         let Some(stream) = self.told.of(place) else {
             return Ok(false);
         };
-        put(out, &format!(in alloc; "<a href=\"#d{number}-{stream}\">")?)?;
+        put_made(out, format!(in alloc; "<a href=\"#d{number}-{stream}\">"))?;
         Ok(true)
     }
 
@@ -156,9 +158,8 @@ impl<'a> Side<'a> {
     {
         let linked = self.put_link(alloc, place, out)?;
         self.put_place(alloc, before, place, top, out)?;
-        put(out, if linked { "</a>" } else { "" })?;
-        self.put_word(alloc, place, top, out)?;
-        Ok(())
+        put(out, link_end(linked))?;
+        self.put_word(alloc, place, top, out)
     }
 
     /// Puts what is told of a buffer last.
@@ -171,12 +172,11 @@ impl<'a> Side<'a> {
     ) -> Result<(), AllocError>
         ensures { OnOk result (Extends out.old.items out.new.items) }
     {
-        let name = buffer_text(alloc, self.node, fill)?;
-        let size = size_text(alloc, fill)?;
         let (upper, lower) = (top.saturating_add(16), top.saturating_add(28));
-        put_label(alloc, &HEAD, (EDGE, upper), name.as_bytes(), out)?;
-        put_label(alloc, &SMALL, (EDGE, lower), size.as_bytes(), out)?;
-        Ok(())
+        let name = buffer_text(alloc, self.node, fill);
+        put_made_label(alloc, &HEAD, (EDGE, upper), name, out)?;
+        let size = size_text(alloc, fill);
+        put_made_label(alloc, &SMALL, (EDGE, lower), size, out)
     }
 
     /// Puts what a band shows last.

@@ -8,7 +8,7 @@ ghost use Rattle.lucy_svg.specs.Notes as spec;
 
 use crate::drawing::Drawing;
 use crate::escape::put_escaped;
-use crate::print::ink::{HEAD, SMALL, put, put_label};
+use crate::print::ink::{HEAD, SMALL, put, put_label, put_made, put_made_label};
 use crate::print::sheet::Sheet;
 use crate::print::style::STYLE;
 use lucy_picture::{Turn, words_at};
@@ -85,16 +85,13 @@ fn put_frame(
 {
     let size = format!(in alloc;
         "class=\"lucy\" width=\"{width}\" height=\"{height}\" viewBox=\"0 0 {width} {height}\" role=\"img\" aria-label=\""
-    )?;
-    put(out, &size)?;
+    );
+    put_made(out, size)?;
     put_escaped(name, out)?;
-    put(out, "\">\n<style>\n")?;
-    put(out, STYLE)?;
     let paper = format!(in alloc;
-        "</style>\n<rect class=\"paper\" width=\"{width}\" height=\"{height}\"/>\n"
-    )?;
-    put(out, &paper)?;
-    Ok(())
+        "\">\n<style>\n{STYLE}</style>\n<rect class=\"paper\" width=\"{width}\" height=\"{height}\"/>\n"
+    );
+    put_made(out, paper)
 }
 
 // The first line of a node, without its line feed.
@@ -126,20 +123,14 @@ fn put_above(
     ensures { OnOk result (Extends out.old.items out.new.items) }
 {
     let head = head_of(alloc, node)?;
+    let width = width_of(sheet, &head);
     let height = sheet.height.saturating_add(ABOVE + BELOW);
-    let again = turn_text(alloc, turn)?;
-    put_frame(
-        alloc,
-        node.name.text.bytes(),
-        width_of(sheet, &head),
-        height,
-        out,
-    )?;
+    put_frame(alloc, node.name.text.bytes(), width, height, out)?;
     put_label(alloc, &HEAD, (8, 18), &head, out)?;
-    put_label(alloc, &SMALL, (8, 34), again.as_bytes(), out)?;
-    put(
+    put_made_label(alloc, &SMALL, (8, 34), turn_text(alloc, turn), out)?;
+    put_made(
         out,
-        &format!(in alloc; "\n<g transform=\"translate(0 {ABOVE})\">")?,
+        format!(in alloc; "\n<g transform=\"translate(0 {ABOVE})\">"),
     )?;
     Ok(())
 }
@@ -155,9 +146,14 @@ fn put_below(
     ensures { OnOk result (Extends out.old.items out.new.items) }
 {
     let below = sheet.height.saturating_add(ABOVE + BELOW - 10);
-    let text = shown_text(alloc, turn, shown)?;
     put(out, "</g>\n")?;
-    put_label(alloc, &SMALL, (8, below), text.as_bytes(), out)?;
+    put_made_label(
+        alloc,
+        &SMALL,
+        (8, below),
+        shown_text(alloc, turn, shown),
+        out,
+    )?;
     Ok(())
 }
 
@@ -177,9 +173,9 @@ fn put_svg(
     put(out, "<svg xmlns=\"http://www.w3.org/2000/svg\" ")?;
     put_above(alloc, node, sheet, turn, out)?;
     sheet.put_names(alloc, out)?;
-    put(
+    put_made(
         out,
-        &format!(in alloc; "</g>\n<g transform=\"translate({names} {ABOVE})\">")?,
+        format!(in alloc; "</g>\n<g transform=\"translate({names} {ABOVE})\">"),
     )?;
     sheet.put_lanes(alloc, out)?;
     put_below(alloc, sheet, turn, shown, out)?;

@@ -16,8 +16,8 @@ returns c =
       names = names.more ++ _;
       lanes = lanes.more ++ c.in_ok-put_below.ensures.more;
       puts =
-          svg_text c.args.out.now.items c.put.new.out.items c.put_above.new.out.items c.put_names.new.out.items c.put-2.new.out.items c.put_lanes.new.out.items c.put_below.new.out.items c.put-3.new.out.items _ _ _ _ _ _ _
-          c.in_ok-put.ensures c.in_ok-put_above.ensures.puts names.puts c.in_ok-put-2.ensures lanes.puts c.in_ok-put_below.ensures.puts c.in_ok-put-3.ensures;
+          svg_text c.args.out.now.items c.put.new.out.items c.put_above.new.out.items c.put_names.new.out.items c.put_made.new.out.items c.put_lanes.new.out.items c.put_below.new.out.items c.put-2.new.out.items _ _ _ _ _ _ _
+          c.in_ok-put.ensures c.in_ok-put_above.ensures.puts names.puts c.in_ok-put_made.ensures.more.puts lanes.puts c.in_ok-put_below.ensures.puts c.in_ok-put-2.ensures;
       are_names = holds_before N (names_of sheet.drawing.now) names.more _ names.holds;
       are_lanes = holds_before L (lanes_of sheet.drawing.now) lanes.more c.in_ok-put_below.ensures.more lanes.holds;
     }

@@ -1,4 +1,4 @@
-use Rattle.lucy_picture.proofs.TextLaws.{extends_same, extends_by, extends_more}
+use Rattle.lucy_picture.proofs.TextLaws.{extends_same, extends_more}
 use Rattle.lucy_svg.proofs.print.band.Band.put_steps.Goals as goal
 
 pub each-init : goal.each-init
@@ -8,4 +8,4 @@ pub each-preserved : goal.each-preserved
 each-preserved c = extends_more _ _ _ c.each.invariant c.in_ok-put_step.ensures
 
 pub returns : goal.returns
-returns c = extends_more _ _ _ c.each.invariant (extends_by _ _ _ c.in_ok-put.ensures)
+returns c = c.each.invariant
