@@ -1,13 +1,13 @@
 -- What is known of the calls of a node, and of the sizes of its buffers.
-use Rattle.std.proofs.Common.{ℕ, ◌+◌, ◌-◌, ◌^◌, ◌≡◌, ◌<◌, ◌≤◌, List, Some, length, take, arith}
+use Rattle.std.proofs.Common.{ℕ, ◌≡◌, ◌<◌, List, Some, length, take}
 use Rattle.std.specs.Prelude.{slice_get}
 use Rattle.std.proofs.lemmas.Option.{slice_get_within}
 use Rattle.lucy_host.specs.Operators.{Operator}
 use Rattle.lucy_place.specs.declared.entry.CallSite.{CallSite}
 use Rattle.lucy_place.specs.declared.placed.PlacedNode.{PlacedNode}
-use Rattle.lucy_place.specs.Standing.{at_one, most_places}
+use Rattle.lucy_place.specs.Standing.{at_one}
 use Rattle.lucy_place.specs.Proper.{IsProperCall, IsProperNode}
-use Rattle.lucy_types.proofs.ListLaws.{taken, at_one_within}
+use Rattle.lucy_types.proofs.ListLaws.{taken}
 use Rattle.lucy_clock.specs.declared.node_clock.NodeClock.{NodeClock}
 use Rattle.lucy_clock.specs.Clocks.{call_clock}
 use Rattle.lucy_program.specs.declared.accepted.Accepted.{Accepted}
@@ -56,15 +56,6 @@ module _ (nodes : List PlacedNode) (i : ℕ) (n : PlacedNode) (k : ℕ) (site : 
     proper = among;
     count = results among.callee among.found;
   }
-
--- the numbers of the places of a call's results are small
-pub call_fits : (nodes : List PlacedNode) (n : PlacedNode) (k : ℕ) (call : DrawnCall) → IsDrawnCall nodes n k call → length n.places ≤ most_places → call.first + call.results < 2 ^ 32
-call_fits nodes n k call drawn few =
-    let results = length drawn.proper.callee.results in
-    let last = drawn.proper.results (results - 1) (let h = drawn.proper.some in omega arith) in
-    let within = at_one_within n.places (drawn.site.first + (results - 1)) last.0 last.1 in
-    let some = drawn.proper.some in
-    omega (arith, drawn.first, drawn.count)
 
 -- each buffer of a node of an accepted program has a size
 pub sizes_count : (ops : List Operator) (o : Options) (text : List ℕ) (a : Accepted) → IsAccepted ops o text a → (node : ℕ) (n : PlacedNode) (c : NodeClock) → slice_get a.placed.nodes node ≡ Some n →

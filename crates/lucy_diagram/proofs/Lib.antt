@@ -1,8 +1,6 @@
 mod ListLaws
 mod EdgeLaws
 mod CallLaws
-mod QuoteLaws
-mod GraphLaws
-mod NetLaws
+mod TextLaws
 mod LayerLaws
 mod LayeringLaws

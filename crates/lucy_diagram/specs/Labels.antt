@@ -1,27 +1,17 @@
--- What stands in the boxes of a drawing.
-use Rattle.std.specs.Prelude.{ℕ, ◌+◌, nat_le, List, [], ◌++◌, Option, Some, None, length, take, slice_get, codes, if◌then◌else◌}
+-- What stands at a place, as text.
+use Rattle.std.specs.Prelude.{ℕ, ◌+◌, List, ◌++◌, Option, Some, None, slice_get, codes}
 use Rattle.std.specs.Option.{option_map_or, option_and_then}
 use Rattle.std.specs.Fmt.{decimal}
-use Rattle.lucy_word.specs.Bits.{Bits}
-use Rattle.lucy_word.specs.Spelling.{text_of}
 use Rattle.lucy_tree.specs.Tree.{Tree}
 use Rattle.lucy_tree.specs.View.{ProgramTree}
 use Rattle.lucy_place.specs.declared.entry.PlaceEntry.{PlaceEntry}
 use Rattle.lucy_place.specs.declared.entry.PlaceKind.{PlaceKind}
 use Rattle.lucy_place.specs.declared.entry.PlaceKind.TheVariants as kind
 use Rattle.lucy_place.specs.declared.placed.PlacedNode.{PlacedNode}
-use Rattle.lucy_place.specs.Standing.{at_one, bound_of}
+use Rattle.lucy_place.specs.Standing.{at_one}
 use Rattle.lucy_program.specs.Names.{of_one}
 use Rattle.lucy_picture.specs.Forms.{form_at}
 use Rattle.lucy_picture.specs.Kinds.{kind_text}
-
--- a text, cut off behind 60 bytes
-abbrev pub cut_text : List ℕ → List ℕ
-cut_text text = if nat_le (length text) 60 then text else (take 60 text ++ codes "..")
-
--- the text of a word
-abbrev pub word_label : Bits → List ℕ
-word_label w = cut_text (text_of w)
 
 -- the name of the node of a number
 abbrev pub node_name : List PlacedNode → ℕ → List ℕ
@@ -56,10 +46,3 @@ form_there program node place = option_and_then (λ t. form_at t place) (slice_g
 abbrev pub place_text : ProgramTree → List PlacedNode → (node : ℕ) → PlacedNode → (place : ℕ) → List ℕ
 place_text program nodes node n place =
     codes "#" ++ (decimal place ++ (codes ": " ++ of_one (λ entry. entry_text nodes n entry (form_there program node place)) (at_one n.places place)))
-
--- a line of a buffer behind that: its number, its size and its bound, as in the report; nothing of any other place
-abbrev pub buffer_part : PlacedNode → (sizes : List ℕ) → PlaceKind → List ℕ
-buffer_part n sizes (kind.Buffer k e) =
-    codes "\nbuffer " ++ (decimal k ++ (of_one (λ size. codes " size " ++ decimal size) (at_one sizes k)
-    ++ of_one (λ most. codes " at most " ++ decimal most) (bound_of n k)))
-buffer_part n sizes k = []

@@ -20,8 +20,8 @@ pub struct DrawnCall {
     pub results: u32,
 }
 
-/// The call of a number from 0.
-pub(crate) fn site_at(node: &PlacedNode, number: usize) -> &CallSite
+// The call of a number from 0.
+fn site_at(node: &PlacedNode, number: usize) -> &CallSite
     requires { number < length node.now.calls }
     ensures { at_one node.now.calls (number + 1) ≡ Some result.now }
 {

@@ -53,7 +53,7 @@ fn figure_of(kind: &PlaceKind) -> Figure
 }
 
 /// The places of a node, in order.
-pub(crate) fn places(alloc: Global, node: &PlacedNode) -> Result<Vec<DrawnPlace>, OutOfMemory>
+pub fn places(alloc: Global, node: &PlacedNode) -> Result<Vec<DrawnPlace>, OutOfMemory>
     requires { length node.now.places ≤ most_places }
     ensures { IfOk result (λ v. v.items ≡ drawn_places node.now) }
 {
@@ -64,12 +64,4 @@ pub(crate) fn places(alloc: Global, node: &PlacedNode) -> Result<Vec<DrawnPlace>
         places.push(DrawnPlace { place, figure })?;
     }
     Ok(places)
-}
-
-/// The place of a number from 0.
-pub(crate) fn drawn_at(places: &[DrawnPlace], number: usize) -> &DrawnPlace
-    requires { number < length places.now }
-    ensures { slice_get places.now number ≡ Some result.now }
-{
-    &places[number]
 }

@@ -1,5 +1,5 @@
 // The buffers of a node, as a table.
-use crate::part::{definition, put_link};
+use crate::part::{definition, put_made, put_made_link};
 use lucy_picture::Fill;
 use lucy_place::PlacedNode;
 use lucy_svg::{Told, put, put_escaped};
@@ -17,7 +17,7 @@ fn put_place(
     let text = told.text(alloc, node, place)?;
     put(out, "<td>")?;
     match told.of(place) {
-        Some(stream) => put_link(&definition(alloc, number, stream)?, &text, out)?,
+        Some(stream) => put_made_link(definition(alloc, number, stream), &text, out)?,
         None => put_escaped(&text, out)?,
     }
     put(out, "</td>")
@@ -32,7 +32,7 @@ fn put_bound(
 ) -> Result<(), AllocError> {
     let index = fill.buffer.saturating_sub(1);
     match node.bounds.list().get(index as usize) {
-        Some(Some(most)) => put(out, &format!(in alloc; "<td>{most}</td>")?),
+        Some(Some(most)) => put_made(out, format!(in alloc; "<td>{most}</td>")),
         _ => put(out, "<td></td>"),
     }
 }
@@ -46,13 +46,13 @@ fn put_buffer(
     fill: &Fill,
     out: &mut Vec<u8>,
 ) -> Result<(), AllocError> {
-    put(out, &format!(in alloc; "<tr><td>{}</td>", fill.buffer)?)?;
+    put_made(out, format!(in alloc; "<tr><td>{}</td>", fill.buffer))?;
     put_place(alloc, number, node, told, fill.operand, out)?;
     put_place(alloc, number, node, told, fill.place, out)?;
-    put(out, &format!(in alloc; "<td>{}</td>", fill.size)?)?;
+    put_made(out, format!(in alloc; "<td>{}</td>", fill.size))?;
     put_bound(alloc, node, fill, out)?;
     match fill.full {
-        Some(at) => put(out, &format!(in alloc; "<td>{at}</td></tr>\n")?),
+        Some(at) => put_made(out, format!(in alloc; "<td>{at}</td></tr>\n")),
         None => put(out, "<td>at none of these</td></tr>\n"),
     }
 }

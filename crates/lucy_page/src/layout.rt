@@ -135,12 +135,14 @@ fn corners(alloc: Global, count: usize) -> Result<Vec<Spot>, AllocError> {
     Ok(spots)
 }
 
-/// Where the box of each place of a net stands, in order: in the column of its layer, and in a row of its own there.
-pub(crate) fn spots(alloc: Global, diagram: &Diagram) -> Result<Vec<Spot>, OutOfMemory> {
-    let layers = layers_of(alloc, diagram)?;
-    let firsts = first_edges(alloc, diagram)?;
-    let wishes = wishes(alloc, &layers)?;
-    let mut spots = corners(alloc, wishes.len())?;
+// Sets places down, which are in the order of their columns.
+fn set_all(
+    alloc: Global,
+    diagram: &Diagram,
+    firsts: &[usize],
+    wishes: &[Wish],
+    spots: &mut [Spot],
+) -> Result<(), AllocError> {
     let mut at = 0;
     for _ in 0..wishes.len() {
         if at >= wishes.len() {
@@ -148,9 +150,24 @@ pub(crate) fn spots(alloc: Global, diagram: &Diagram) -> Result<Vec<Spot>, OutOf
         }
         let run = run_of(&wishes[at..]);
         let end = at.saturating_add(run).min(wishes.len());
-        let column = near(alloc, diagram, &firsts, &spots, &wishes[at..end])?;
-        set_down(&column, &mut spots);
+        let column = near(alloc, diagram, firsts, spots, &wishes[at..end])?;
+        set_down(&column, spots);
         at = end;
     }
+    Ok(())
+}
+
+// Where those places stand, in order.
+fn spots_by(alloc: Global, diagram: &Diagram, wishes: &[Wish]) -> Result<Vec<Spot>, AllocError> {
+    let firsts = first_edges(alloc, diagram)?;
+    let mut spots = corners(alloc, wishes.len())?;
+    set_all(alloc, diagram, &firsts, wishes, &mut spots)?;
     Ok(spots)
+}
+
+/// Where the box of each place of a net stands, in order: in the column of its layer, and in a row of its own there.
+pub(crate) fn spots(alloc: Global, diagram: &Diagram) -> Result<Vec<Spot>, OutOfMemory> {
+    let layers = layers_of(alloc, diagram)?;
+    let wishes = wishes(alloc, &layers)?;
+    Ok(spots_by(alloc, diagram, &wishes)?)
 }

@@ -70,28 +70,38 @@ fn put_wrong(out: &mut Vec<u8>) -> Result<(), AllocError>
     put(out, "<mark>")
 }
 
+// Puts the begin of a link last to a place whose name is made for that.
+fn put_made_link(place: Result<String, AllocError>, out: &mut Vec<u8>) -> Result<(), AllocError>
+    ensures { OnOk result (PutsTag out.old.items out.new.items) }
+{
+    put_link(&place?, out)
+}
+
+// Puts the begin of such a place last.
+fn put_made_place(id: Result<String, AllocError>, out: &mut Vec<u8>) -> Result<(), AllocError>
+    ensures { OnOk result (PutsTag out.old.items out.new.items) }
+{
+    put_place(&id?, out)
+}
+
+// Puts the begin of the name of a node last, by its number from 0.
+fn put_named(alloc: Global, node: u32, out: &mut Vec<u8>) -> Result<(), AllocError>
+    ensures { OnOk result (PutsTag out.old.items out.new.items) }
+{
+    let id = format!(in alloc; "t{node}")?;
+    let place = format!(in alloc; "n{node}")?;
+    put_node(&id, &place, out)
+}
+
 // Puts the tag last with which a mark begins.
 fn put_begin(alloc: Global, kind: Kind, out: &mut Vec<u8>) -> Result<(), AllocError>
     ensures { OnOk result (PutsTag out.old.items out.new.items) }
 {
     match kind {
-        Kind::Node(node) => {
-            let id = format!(in alloc; "t{node}")?;
-            let place = format!(in alloc; "n{node}")?;
-            put_node(&id, &place, out)
-        }
-        Kind::Section(node) => {
-            let place = format!(in alloc; "n{node}")?;
-            put_link(&place, out)
-        }
-        Kind::Definition(node, place) => {
-            let id = definition(alloc, node, place)?;
-            put_place(&id, out)
-        }
-        Kind::Use(node, place) => {
-            let place = definition(alloc, node, place)?;
-            put_link(&place, out)
-        }
+        Kind::Node(node) => put_named(alloc, node, out),
+        Kind::Section(node) => put_made_link(format!(in alloc; "n{node}"), out),
+        Kind::Definition(node, place) => put_made_place(definition(alloc, node, place), out),
+        Kind::Use(node, place) => put_made_link(definition(alloc, node, place), out),
         Kind::Wrong => put_wrong(out),
     }
 }

@@ -5,8 +5,8 @@ ghost use Rattle.lucy_program.specs.declared.options.Options.{Options as Choices
 ghost use Rattle.lucy_program.specs.Accepting.{IsAccepted};
 
 use crate::layout::{Spot, spot_at, spots};
-use crate::part::{begin_svg, definition};
-use lucy_diagram::{Diagram, Edge, Figure, diagram_of, put_text};
+use crate::part::{begin_svg, definition, put_made};
+use lucy_diagram::{Diagram, DrawnPlace, Edge, Figure, diagram_of, put_text};
 use lucy_place::{PlaceEntry, PlaceKind, PlacedNode};
 use lucy_program::Accepted;
 use lucy_svg::{NAME, SMALL, put, put_label, word_text};
@@ -64,7 +64,7 @@ fn put_size(
         let number = number.saturating_sub(1) as usize;
         if let Some(buffer) = diagram.buffers.get(number) {
             let size = buffer.size;
-            return put(text, &format!(in alloc; " size {size}")?);
+            return put_made(text, format!(in alloc; " size {size}"));
         }
     }
     Ok(())
@@ -128,8 +128,8 @@ fn width_of(label: &Label) -> u64 {
     text.max(SMALL.width(label.word.len())).saturating_add(16)
 }
 
-// How wide the boxes of each column are, where these stand.
-fn widths(alloc: Global, labels: &[Label], spots: &[Spot]) -> Result<Vec<u64>, AllocError> {
+// As many columns as boxes stand in, each without a width.
+fn narrow(alloc: Global, spots: &[Spot]) -> Result<Vec<u64>, AllocError> {
     let mut count = 0usize;
     for spot in spots {
         count = spot.column.saturating_add(1).max(count);
@@ -138,11 +138,22 @@ fn widths(alloc: Global, labels: &[Label], spots: &[Spot]) -> Result<Vec<u64>, A
     for _ in 0..count.min(spots.len()) {
         widths.push(0u64)?;
     }
+    Ok(widths)
+}
+
+// Makes columns as wide as the boxes in them.
+fn widen(labels: &[Label], spots: &[Spot], widths: &mut [u64]) {
     for (label, spot) in labels.iter().zip(spots.iter()) {
         if spot.column < widths.len() {
             widths[spot.column] = width_of(label).max(widths[spot.column]);
         }
     }
+}
+
+// How wide the boxes of each column are, where these stand.
+fn widths(alloc: Global, labels: &[Label], spots: &[Spot]) -> Result<Vec<u64>, AllocError> {
+    let mut widths = narrow(alloc, spots)?;
+    widen(labels, spots, &mut widths);
     Ok(widths)
 }
 
@@ -169,9 +180,28 @@ fn put_tip(
 ) -> Result<(), AllocError> {
     let (x, y) = begin;
     let (above, below) = (y.saturating_sub(4), y.saturating_add(4));
-    put(
+    put_made(
         out,
-        &format!(in alloc; "<path class=\"tip\" d=\"M{x} {above}L{end} {y}L{x} {below}\"/>")?,
+        format!(in alloc; "<path class=\"tip\" d=\"M{x} {above}L{end} {y}L{x} {below}\"/>"),
+    )
+}
+
+// Puts a curve last from a point to another, which is drawn to one and then another between them.
+fn put_curve(
+    alloc: Global,
+    class: &str,
+    from: (u64, u64),
+    first: (u64, u64),
+    second: (u64, u64),
+    to: (u64, u64),
+    out: &mut Vec<u8>,
+) -> Result<(), AllocError> {
+    let ((x, y), (a, b), (c, d), (right, down)) = (from, first, second, to);
+    put_made(
+        out,
+        format!(in alloc;
+            "<path class=\"{class}\" d=\"M{x} {y}C{a} {b} {c} {d} {right} {down}\"/>"
+        ),
     )
 }
 
@@ -248,12 +278,8 @@ impl Net {
         let (y, down) = (self.middle(from), self.middle(to));
         let (bend, turn) = (x.saturating_add(GAP / 2), right.saturating_sub(GAP / 2));
         let (low, deep) = (y.saturating_add(dip), down.saturating_add(dip));
-        put(
-            out,
-            &format!(in alloc;
-                "<path class=\"{class}\" d=\"M{x} {y}C{bend} {low} {turn} {deep} {right} {down}\"/>"
-            )?,
-        )?;
+        let (first, second) = ((bend, low), (turn, deep));
+        put_curve(alloc, class, (x, y), first, second, (right, down), out)?;
         put_tip(alloc, (right.saturating_sub(6), down), right, out)
     }
 
@@ -271,12 +297,8 @@ impl Net {
         let bend = x.saturating_add(GAP / 2);
         let y = self.middle(from).saturating_sub(8);
         let down = self.middle(to).saturating_add(8);
-        put(
-            out,
-            &format!(in alloc;
-                "<path class=\"{class}\" d=\"M{x} {y}C{bend} {y} {bend} {down} {x} {down}\"/>"
-            )?,
-        )?;
+        let (first, second) = ((bend, y), (bend, down));
+        put_curve(alloc, class, (x, y), first, second, (x, down), out)?;
         put_tip(alloc, (x.saturating_add(6), down), x, out)
     }
 
@@ -309,11 +331,11 @@ impl Net {
         let top = self.top(spot);
         let class = class_of(figure);
         let round = if is_round(figure) { HIGH / 2 } else { 3 };
-        put(
+        put_made(
             out,
-            &format!(in alloc;
+            format!(in alloc;
                 "<rect class=\"{class}\" x=\"{left}\" y=\"{top}\" width=\"{width}\" height=\"{HIGH}\" rx=\"{round}\"/>"
-            )?,
+            ),
         )
     }
 
@@ -346,6 +368,25 @@ impl Net {
         )
     }
 
+    // Puts the box of a place last, that of a stream linked to where it is defined.
+    fn put_linked(
+        &self,
+        alloc: Global,
+        number: u32,
+        drawn: DrawnPlace,
+        place: usize,
+        label: &Label,
+        out: &mut Vec<u8>,
+    ) -> Result<(), AllocError> {
+        if !is_round(drawn.figure) {
+            self.put_box(alloc, drawn.figure, place, label, out)?;
+            return put(out, "\n");
+        }
+        begin_link(definition(alloc, number, drawn.place), out)?;
+        self.put_box(alloc, drawn.figure, place, label, out)?;
+        put(out, "</a>\n")
+    }
+
     // Puts the boxes last, those of streams linked to where these are defined.
     fn put_boxes(
         &self,
@@ -356,15 +397,25 @@ impl Net {
     ) -> Result<(), AllocError> {
         let boxes = diagram.places.iter().zip(self.labels.iter());
         for (i, (drawn, label)) in boxes.enumerate() {
-            let linked = is_round(drawn.figure);
-            if linked {
-                let id = definition(alloc, number, drawn.place)?;
-                put(out, &format!(in alloc; "<a href=\"#{id}\">")?)?;
-            }
-            self.put_box(alloc, drawn.figure, i, label, out)?;
-            put(out, if linked { "</a>\n" } else { "\n" })?;
+            self.put_linked(alloc, number, *drawn, i, label, out)?;
         }
         Ok(())
+    }
+
+    // Puts the picture last.
+    fn put_svg(
+        &self,
+        alloc: Global,
+        number: u32,
+        diagram: &Diagram,
+        out: &mut Vec<u8>,
+    ) -> Result<(), AllocError> {
+        begin_svg(alloc, self.width(), self.height(), out)?;
+        for edge in &diagram.edges {
+            self.put_edge(alloc, edge, out)?;
+        }
+        self.put_boxes(alloc, number, diagram, out)?;
+        put(out, "</svg></div>\n")
     }
 }
 
@@ -386,6 +437,28 @@ fn class_of(figure: Figure) -> &'static str {
     }
 }
 
+// Puts the begin of a link last to where a stream is defined.
+fn begin_link(place: Result<String, AllocError>, out: &mut Vec<u8>) -> Result<(), AllocError> {
+    put(out, "<a href=\"#")?;
+    put_made(out, place)?;
+    put(out, "\">")
+}
+
+// Puts the net of a node last whose diagram this is.
+fn put_diagram(
+    alloc: Global,
+    program: &Program,
+    accepted: &Accepted,
+    number: u32,
+    diagram: &Diagram,
+    out: &mut Vec<u8>,
+) -> Result<(), OutOfMemory>
+    requires { number < length accepted.now.placed.nodes }
+{
+    let net = Net::new(alloc, program, accepted, number, diagram)?;
+    Ok(net.put_svg(alloc, number, diagram, out)?)
+}
+
 /// Puts the net of a node of an accepted program last, by its number from 0. The tree is that of the program's text.
 pub(crate) fn put_net(
     alloc: Global,
@@ -397,14 +470,7 @@ pub(crate) fn put_net(
     requires accepted { (ops : List Operator) × (o : Choices) × (text : List ℕ) × IsAccepted ops o text accepted.now }
     requires node { number < length accepted.now.placed.nodes }
 {
-    let diagram = diagram_of(alloc, accepted, number)?;
-    let net = Net::new(alloc, program, accepted, number, &diagram)?;
     put(out, "<h3>Net</h3>\n<div class=\"across\">")?;
-    begin_svg(alloc, net.width(), net.height(), out)?;
-    for edge in &diagram.edges {
-        net.put_edge(alloc, edge, out)?;
-    }
-    net.put_boxes(alloc, number, &diagram, out)?;
-    put(out, "</svg></div>\n")?;
-    Ok(())
+    let diagram = diagram_of(alloc, accepted, number)?;
+    put_diagram(alloc, program, accepted, number, &diagram, out)
 }

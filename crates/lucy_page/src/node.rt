@@ -8,10 +8,10 @@ ghost use Rattle.lucy_page.specs.Puts.{PutsNode};
 
 use crate::buffers::put_buffers;
 use crate::net::put_net;
-use crate::part::{begin_svg, put_link};
+use crate::part::{begin_svg, put_link, put_made};
 use lucy_picture::{Turn, turn_of};
 use lucy_program::Accepted;
-use lucy_svg::{Sheet, drawing_of, put, shown_of, shown_text, turn_text};
+use lucy_svg::{Drawing, Sheet, drawing_of, put, shown_of, shown_text, turn_text};
 use lucy_tree::Program;
 use lucy_word::OutOfMemory;
 use std::alloc::{AllocError, Global};
@@ -37,13 +37,71 @@ fn put_turn(
 ) -> Result<(), AllocError> {
     let again = turn_text(alloc, turn)?;
     let text = shown_text(alloc, turn, shown)?;
-    put(
+    put_made(
         out,
-        &format!(in alloc; "<h3>Chronogram</h3>\n<p>{again}; {text}</p>\n")?,
+        format!(in alloc; "<h3>Chronogram</h3>\n<p>{again}; {text}</p>\n"),
     )
 }
 
-// What stands of a node behind its name: its net, its chronogram and its buffers.
+// Puts the chronogram and the buffers of a node last that are drawn so.
+fn put_drawing(
+    alloc: Global,
+    accepted: &Accepted,
+    number: u32,
+    turn: Option<Turn>,
+    shown: u64,
+    drawing: &Drawing,
+    out: &mut Vec<u8>,
+) -> Result<(), OutOfMemory>
+    requires { number < length accepted.now.placed.nodes }
+{
+    let node = accepted.placed.node(number);
+    let words = match accepted.clocks.get(number as usize) {
+        Some(clock) => clock.words.list(),
+        None => &[],
+    };
+    let sheet = Sheet::new(alloc, node, words, Some(number), turn, shown, drawing)?;
+    put_sheet(alloc, &sheet, out)?;
+    Ok(put_buffers(alloc, number, node, &drawing.chart.fills, out)?)
+}
+
+// Puts them last, at so many instants.
+fn put_chart(
+    alloc: Global,
+    accepted: &Accepted,
+    number: u32,
+    turn: Option<Turn>,
+    shown: u64,
+    out: &mut Vec<u8>,
+) -> Result<(), OutOfMemory>
+    requires accepted { (ops : List Operator) × (o : Choices) × (text : List ℕ) × IsAccepted ops o text accepted.now }
+    requires node { number < length accepted.now.placed.nodes }
+{
+    put_turn(alloc, turn, shown, out)?;
+    let drawing = drawing_of(alloc, accepted, number, shown)?;
+    put_drawing(alloc, accepted, number, turn, shown, &drawing, out)
+}
+
+// Puts what stands of a node behind its name last: its net, its chronogram and its buffers.
+fn put_body(
+    alloc: Global,
+    program: &Program,
+    accepted: &Accepted,
+    number: u32,
+    instants: Option<u64>,
+    out: &mut Vec<u8>,
+) -> Result<(), OutOfMemory>
+    requires accepted { (ops : List Operator) × (o : Choices) × (text : List ℕ) × IsAccepted ops o text accepted.now }
+    requires node { number < length accepted.now.placed.nodes }
+{
+    put_net(alloc, program, accepted, number, out)?;
+    let turn = turn_of(alloc, accepted, number)?;
+    put_chart(alloc, accepted, number, turn, shown_of(turn, instants), out)?;
+    put(out, "</section>\n")?;
+    Ok(())
+}
+
+// The same as a text of its own.
 fn body_of(
     alloc: Global,
     program: &Program,
@@ -54,21 +112,8 @@ fn body_of(
     requires accepted { (ops : List Operator) × (o : Choices) × (text : List ℕ) × IsAccepted ops o text accepted.now }
     requires node { number < length accepted.now.placed.nodes }
 {
-    let turn = turn_of(alloc, accepted, number)?;
-    let shown = shown_of(turn, instants);
-    let drawing = drawing_of(alloc, accepted, number, shown)?;
-    let node = accepted.placed.node(number);
-    let words = match accepted.clocks.get(number as usize) {
-        Some(clock) => clock.words.list(),
-        None => &[],
-    };
     let mut out = Vec::new(alloc);
-    put_net(alloc, program, accepted, number, &mut out)?;
-    put_turn(alloc, turn, shown, &mut out)?;
-    let sheet = Sheet::new(alloc, node, words, Some(number), turn, shown, &drawing)?;
-    put_sheet(alloc, &sheet, &mut out)?;
-    put_buffers(alloc, number, node, &drawing.chart.fills, &mut out)?;
-    put(&mut out, "</section>\n")?;
+    put_body(alloc, program, accepted, number, instants, &mut out)?;
     Ok(out)
 }
 

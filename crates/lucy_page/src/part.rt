@@ -16,6 +16,23 @@ pub(crate) fn put_link(place: &str, text: &[u8], out: &mut Vec<u8>) -> Result<()
     put(out, "</a>")
 }
 
+/// Puts a text last that is made for that.
+pub(crate) fn put_made(
+    out: &mut Vec<u8>,
+    made: Result<String, AllocError>,
+) -> Result<(), AllocError> {
+    put(out, &made?)
+}
+
+/// Puts a text last that is linked to a place in the page, whose name is made for that.
+pub(crate) fn put_made_link(
+    place: Result<String, AllocError>,
+    text: &[u8],
+    out: &mut Vec<u8>,
+) -> Result<(), AllocError> {
+    put_link(&place?, text, out)
+}
+
 /// Puts the begin of an SVG of this size last, in pixels.
 pub(crate) fn begin_svg(
     alloc: Global,
@@ -23,11 +40,11 @@ pub(crate) fn begin_svg(
     height: u64,
     out: &mut Vec<u8>,
 ) -> Result<(), AllocError> {
-    put(
+    put_made(
         out,
-        &format!(in alloc;
+        format!(in alloc;
             "<svg class=\"lucy\" width=\"{width}\" height=\"{height}\" viewBox=\"0 0 {width} {height}\">"
-        )?,
+        ),
     )
 }
 

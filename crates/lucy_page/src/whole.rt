@@ -9,7 +9,7 @@ ghost use Rattle.lucy_page.specs.Puts.{PutsTexts};
 
 use crate::mark::put_section;
 use crate::node::put_node;
-use crate::part::put_link;
+use crate::part::{put_link, put_made_link};
 use crate::report::report_marks;
 use crate::style::PAGE;
 use crate::text::{program_marks, wrong_marks};
@@ -41,9 +41,9 @@ fn put_parts(alloc: Global, accepted: &Accepted, out: &mut Vec<u8>) -> Result<()
     put(out, " ")?;
     put_link("report", b"Report", out)?;
     for number in 0..accepted.placed.nodes() {
-        put(out, " ")?;
         let name = accepted.placed.node(number).name.text.bytes();
-        put_link(&format!(in alloc; "n{number}")?, name, out)?;
+        put(out, " ")?;
+        put_made_link(format!(in alloc; "n{number}"), name, out)?;
     }
     put(out, "</nav>\n")
 }

@@ -1,7 +1,5 @@
-// What drawings of a node and of a net show.
-ghost use Rattle.std.specs.Prelude.{List, ℕ, ◌≡◌, ◌<◌, Some, length, slice_get, IfOk, ◌-◌, ◌++◌, false, true, IfSome, OnOk, ◌≢◌, ◌∷◌};
-ghost use Rattle.std.specs.Option.{unwrap_or};
-ghost use Rattle.std.specs.List.{AllByRecursion};
+// What drawings of a node show.
+ghost use Rattle.std.specs.Prelude.{List, ℕ, ◌≡◌, ◌<◌, Some, length, slice_get, IfOk, ◌++◌, OnOk};
 ghost use Rattle.lucy_host.specs.Operators.{Operator};
 ghost use Rattle.lucy_place.specs.declared.placed.PlacedNode.{PlacedNode as Node};
 ghost use Rattle.lucy_clock.specs.declared.node_clock.NodeClock.{NodeClock as Clock};
@@ -10,17 +8,14 @@ ghost use Rattle.lucy_program.specs.Accepting.{IsAccepted};
 ghost use Rattle.lucy_diagram.specs.Diagrams.{drawn_places, AreEdges, AreDrawnBuffers, AreDrawnCalls};
 ghost use Rattle.lucy_diagram.specs.Layers.{AreLayers, OneLayering};
 ghost use Rattle.lucy_tree.specs.View.{program_tree};
-ghost use Rattle.lucy_diagram.specs.Graphs.{PutsNode};
-ghost use Rattle.lucy_diagram.specs.Nets.{net_text};
 ghost use Rattle.lucy_diagram.specs.Labels as spec;
-ghost use Rattle.lucy_diagram.specs.Quotes.{quoted, in_label, read_quoted};
 
 use lucy_diagram::Diagram;
 use lucy_place::Placed;
 use lucy_program::Accepted;
 use lucy_tree::Program;
 use lucy_word::OutOfMemory;
-use std::alloc::{AllocError, Global};
+use std::alloc::Global;
 
 /// Pins `lucy_diagram::diagram_of`.
 pub fn diagram_of(alloc: Global, accepted: &Accepted, node: u32) -> Result<Diagram, OutOfMemory>
@@ -51,27 +46,6 @@ pub fn layers_are_determined()
     lucy_diagram::layers_are_determined();
 }
 
-/// Pins `lucy_diagram::put_net`.
-pub fn put_net(
-    alloc: Global,
-    program: &Program,
-    accepted: &Accepted,
-    node: Option<u32>,
-    flat: bool,
-    out: &mut Vec<u8>,
-) -> Result<(), OutOfMemory>
-    requires accepted { (ops : List Operator) × (o : Choices) × (text : List ℕ) × IsAccepted ops o text accepted.now }
-    requires node { IfSome node (λ n. n < length accepted.now.placed.nodes) }
-    ensures node { (n : Node) → flat ≡ false → slice_get accepted.now.placed.nodes (unwrap_or node (length accepted.now.placed.nodes - 1)) ≡ Some n →
-        OnOk result (PutsNode (program_tree program.now) accepted.now (unwrap_or node (length accepted.now.placed.nodes - 1)) n
-        out.old.items out.new.items) }
-    ensures flat { (n : Node) → flat ≡ true → slice_get accepted.now.placed.nodes (length accepted.now.placed.nodes - 1) ≡ Some n →
-        OnOk result (out.new.items ≡ out.old.items
-        ++ net_text (program_tree program.now) accepted.now n.name.text) }
-{
-    lucy_diagram::put_net(alloc, program, accepted, node, flat, out)
-}
-
 /// Pins `lucy_diagram::put_text`.
 pub fn put_text(
     alloc: Global,
@@ -86,19 +60,4 @@ pub fn put_text(
         OnOk result (out.new.items ≡ out.old.items ++ spec.place_text (program_tree program.now) placed.now.nodes node n place) }
 {
     lucy_diagram::put_text(alloc, program, placed, node, place, out)
-}
-
-/// Pins `lucy_diagram::put_quoted`.
-pub fn put_quoted(text: &[u8], out: &mut Vec<u8>) -> Result<(), AllocError>
-    ensures { OnOk result (out.new.items ≡ out.old.items ++ quoted text.now) }
-{
-    lucy_diagram::put_quoted(text, out)
-}
-
-/// Pins `lucy_diagram::quoted_texts_read_back`.
-pub fn quoted_texts_read_back()
-    ensures reads { (text rest : List ℕ) → read_quoted false (in_label text ++ 34 ∷ rest) ≡ Some (record { text = text; rest = rest }) }
-    ensures line_feeds { (text : List ℕ) → AllByRecursion (λ byte. byte ≢ 10) (in_label text) }
-{
-    lucy_diagram::quoted_texts_read_back();
 }

@@ -20,6 +20,7 @@ pub mod flat;
 pub mod freeze;
 pub mod front;
 pub mod grammar;
+pub mod graphviz;
 pub mod interleaving;
 pub mod kahn;
 pub mod lines;

@@ -25,7 +25,7 @@ use Rattle.lucy_views.specs.declared.failure.Failure.{Failure}
 use Rattle.lucy_views.specs.declared.failure.Failure.TheVariants.{OutOfMemory}
 use Rattle.lucy_views.specs.Owes.{IsPrinted, node_asked, HasNode, OwesNode, OwesDrawing, OwesNet}
 use Rattle.lucy_views.specs.Failures.{failure_answer, program_failure, RefusesProgram, ComesOut}
-use Rattle.lucy_views.proofs.Told.{syntax_told, check_told}
+use Rattle.lucy_views.proofs.Told.{syntax_told}
 
 -- what comes out so comes out where all that is owed so is owed
 pub out_more : (Owed More : Answer → Type 0) → ((x : Answer) → Owed x → More x) → (r : Result (Vec ℕ Global) Failure) → ComesOut Owed r → ComesOut More r
@@ -50,7 +50,7 @@ failed_out Owed r e f is so h =
     let Q : Result (Vec ℕ Global) Failure → Type 0 = λ x. ComesOut Owed x in
     subst Q (sym (is ∙ ap Err so)) h
 
-module _ (ops : List Operator) (found o : Options) (same : found ≡ o) (text : List ℕ) (Owed : (text : List ℕ) → Accepted → Answer → Type 0) where
+module _ (ops : List Operator) (o : Options) (text : List ℕ) (Owed : (text : List ℕ) → Accepted → Answer → Type 0) where
   -- what is owed of a text that is accepted
   abbrev pub OwesIt : (text : List ℕ) → Answer → Type 0
   OwesIt t told = (a : Accepted) × IsAccepted ops o t a × Owed t a told
@@ -60,21 +60,18 @@ module _ (ops : List Operator) (found o : Options) (same : found ≡ o) (text : 
   OwesOf answer = OwesText (RefusesCheck ops o) OwesIt Unread (Ok text ∷ []) answer
 
   -- so it comes out of a text that is accepted
-  pub accepted_out : (a : Accepted) (r : Result (Vec ℕ Global) Failure) → IsAccepted ops found text a → ComesOut (Owed text a) r → ComesOut OwesOf r
-  accepted_out a r is out = out_more (Owed text a) OwesOf (λ x h. inr (a, subst (λ u. IsAccepted ops u text a) same is, h)) r out
+  pub accepted_out : (a : Accepted) (r : Result (Vec ℕ Global) Failure) → IsAccepted ops o text a → ComesOut (Owed text a) r → ComesOut OwesOf r
+  accepted_out a r is out = out_more (Owed text a) OwesOf (λ x h. inr (a, is, h)) r out
 
   -- of one that is refused
-  pub refused_out : (reason : Refusal) (r : Result (Vec ℕ Global) Failure) (e : Failure) → Refuses ops found text reason → r ≡ Err e →
-      e ≡ program_failure reason → ComesOut OwesOf r
-  refused_out reason r e h is so =
-      failed_out OwesOf r e (program_failure reason) is so
-      (told_out (RefusesCheck ops o) OwesIt text (program_failure reason) (check_told ops o text reason (subst (λ u. Refuses ops u text reason) same h)))
+  pub refused_out : (e : Failure) → RefusesProgram (RefusesCheck ops o text) e → ComesOut OwesOf (Err e)
+  refused_out e h = told_out (RefusesCheck ops o) OwesIt text e h
 
   -- and of one that has no tree
-  pub unread_out : (why : SyntaxError) (r : Result (Vec ℕ Global) Failure) (e : Failure) → (why ≡ syntax.OutOfMemory) ⊎ IsRefused text why → r ≡ Err e →
-      e ≡ program_failure (syntax_refusal why) → ComesOut OwesOf r
-  unread_out why r e h is so =
-      failed_out OwesOf r e (program_failure (syntax_refusal why)) is so
+  pub unread_out : (why : SyntaxError) (e : Failure) → (why ≡ syntax.OutOfMemory) ⊎ IsRefused text why → e ≡ program_failure (syntax_refusal why) →
+      ComesOut OwesOf (Err e)
+  unread_out why e h so =
+      failed_out OwesOf (Err e) e (program_failure (syntax_refusal why)) refl so
       (told_out (RefusesCheck ops o) OwesIt text (program_failure (syntax_refusal why)) (syntax_told ops o text why h))
 
 module _ (nodes : List PlacedNode) (name : Option (List ℕ)) where

@@ -1,6 +1,6 @@
 -- How a picture comes out, whichever it is.
 use Rattle.std.proofs.Common.{ℕ, ◌≡◌, ◌⊎◌, List, Result, Ok, Err, ap, sym, ◌∙◌, subst}
-use Rattle.std.specs.Prelude.{IfOk, IfErr, MatchResult}
+use Rattle.std.specs.Prelude.{IfErr, MatchResult}
 use Rattle.std.specs.declared.alloc.Global.{Global}
 use Rattle.std.specs.declared.vec.Vec.{Vec}
 use Rattle.lucy_host.specs.Operators.{Operator}
@@ -24,11 +24,6 @@ alone_out Owed (Err e) out = out
 pub alone_told : (r : Result (Vec ℕ Global) Failure) → IfErr r Tellable → MatchResult (shown_alone r) IsTold Tellable
 alone_told (Ok v) h = tt
 alone_told (Err e) h = h
-
--- one that may be told of is told as it is
-pub shown_told : (r : Result Shown Failure) → IfOk r IsTold → IfErr r Tellable → MatchResult r IsTold Tellable
-shown_told (Ok shown) is told = is
-shown_told (Err e) is told = told
 
 -- the picture is this
 pub picture_out : (ops : List Operator) (text : List ℕ) (p q : Picture) (r s : Result Shown Failure) → p ≡ q → r ≡ s →

@@ -1,6 +1,6 @@
 -- How a run ends that was asked for.
-use Rattle.std.proofs.Common.{ℕ, ◌≡◌, ◌≢◌, ◌⊎◌, List, [], ◌∷◌, length, Option, None, Result, Ok, Err, refl, ap, sym, ◌∙◌, subst, inl, inr, arith}
-use Rattle.std.specs.Prelude.{IsOkAnd}
+use Rattle.std.proofs.Common.{ℕ, ◌≡◌, ◌≢◌, ◌⊎◌, List, [], ◌∷◌, length, Option, None, Result, Ok, Err, refl, ap, sym, subst, inl, inr, arith}
+use Rattle.std.specs.Prelude.{IfOk, IfErr, IsOkAnd}
 use Rattle.std.specs.declared.alloc.Global.{Global}
 use Rattle.std.specs.declared.vec.Vec.{Vec}
 use Rattle.std.proofs.lemmas.List.{take_all}
@@ -15,18 +15,17 @@ use Rattle.lucy_lines.specs.Feeding.{IsAsked}
 use Rattle.lucy_text.specs.Sources.{ReadStop, Unread, Read}
 use Rattle.lucy_program.specs.declared.accepted.Accepted.{Accepted}
 use Rattle.lucy_program.specs.declared.options.Options.{Options}
-use Rattle.lucy_front.specs.declared.refusal.Refusal.{Refusal}
 use Rattle.lucy_program.specs.Accepting.{IsAccepted}
-use Rattle.lucy_front.specs.Refusing.{Refuses}
 use Rattle.lucy_run.specs.declared.ending.Ending.{Ending}
 use Rattle.lucy_run.specs.declared.ending.Ending.TheVariants.{Done, Input, Limit, WriteFault, OutOfMemory}
 use Rattle.lucy_run.specs.Ends.{IsFrontOf, Outputs, EndsOwed}
 use Rattle.lucy_wave.specs.Waves.{OwesWave}
 use Rattle.lucy_app.specs.Answers.{Answer, out_of_memory}
+use Rattle.lucy_app.specs.Check.{RefusesCheck}
 use Rattle.lucy_app.specs.Commands.{HasText}
 use Rattle.lucy_app.specs.Endings.{ended_answer}
 use Rattle.lucy_app.specs.Ends.{Tells, TellsEnding}
-use Rattle.lucy_app.specs.Running.{LacksInstants, IsRunnable, OwesEnded, OwesRunning}
+use Rattle.lucy_app.specs.Running.{IsRunnable, OwesEnded, OwesRunning}
 use Rattle.lucy_app.specs.Outcomes.{NoRun}
 use Rattle.lucy_app.specs.World.{bytes_of}
 use Rattle.lucy_asking.specs.declared.ask.WaveWords.{WaveWords}
@@ -38,8 +37,8 @@ use Rattle.lucy_views.specs.Meets.{options_of}
 use Rattle.lucy_views.specs.Meets.{ReadsSource}
 use Rattle.lucy_views.specs.Owes.{Owes}
 use Rattle.lucy_views.specs.Looks.{OwesOutput, MayStand, EndsGiven}
-use Rattle.lucy_views.specs.Failures.{failure_answer, fetch_failure, program_failure, TellsFailure, IsAccepting, given_of}
-use Rattle.lucy_views.proofs.Told.{fetch_owed, check_told}
+use Rattle.lucy_views.specs.Failures.{failure_answer, fetch_failure, RefusesProgram, TellsFailure, IsAccepting, given_of}
+use Rattle.lucy_views.proofs.Told.{fetch_owed}
 use Rattle.lucy_views.proofs.Sinks.{ends_failed}
 
 ok_more : {T E : Type 0} (r : Result T E) (P Q : T → Type 0) → ((x : T) → P x → Q x) → IsOkAnd r P → IsOkAnd r Q
@@ -57,43 +56,33 @@ some_or_none (input ∷ inputs) = inr (λ e. cc e)
 
 module _ (ops : List Operator) (o : Options) (instants : Option ℕ) where
   -- a fetch gave no text
-  pub unfetched : (fetched : Result (Vec ℕ Global) ShelfError) (e : ShelfError) (r : Result Accepted Failure) (f : Failure) → fetched ≡ Err e → r ≡ Err f →
-      f ≡ fetch_failure e → IsAccepting ops o instants (bytes_of fetched) r
-  unfetched fetched e r f gave is so =
+  pub unfetched : (fetched : Result (Vec ℕ Global) ShelfError) (e : ShelfError) (f : Failure) → fetched ≡ Err e → f ≡ fetch_failure e →
+      IsAccepting ops o instants (bytes_of fetched) (Err f)
+  unfetched fetched e f gave so =
+      let P : Result (Vec ℕ Global) ShelfError → Type 0 = λ x. IsAccepting ops o instants (bytes_of x) (Err f) in
+      let Q : Failure → Type 0 = λ x. IsAccepting ops o instants (Err e) (Err x) in
+      subst P (sym gave) (subst Q (sym so) (fetch_owed e))
+
+  -- it gave this one
+  pub fetched_so : (fetched : Result (Vec ℕ Global) ShelfError) (text : Vec ℕ Global) (bytes : List ℕ) → fetched ≡ Ok text → bytes ≡ text.items →
+      (r : Result Accepted Failure) → IsAccepting ops o instants (Ok bytes) r → IsAccepting ops o instants (bytes_of fetched) r
+  fetched_so fetched text bytes gave are r h =
       let P : Result (Vec ℕ Global) ShelfError → Type 0 = λ x. IsAccepting ops o instants (bytes_of x) r in
-      let Q : Result Accepted Failure → Type 0 = λ x. IsAccepting ops o instants (Err e) x in
-      subst P (sym gave) (subst Q (sym (is ∙ ap Err so)) (fetch_owed e))
+      let Q : List ℕ → Type 0 = λ x. IsAccepting ops o instants (Ok x) r in
+      subst P (sym gave) (subst Q are h)
 
-  refused_so : (text : List ℕ) (reason : Refusal) → Refuses ops o text reason →
-      (program_failure reason ≡ failure.OutOfMemory) ⊎ OwesRunning NoRun ops o instants Unread (Ok text ∷ []) (failure_answer (program_failure reason))
-  refused_so text reason h = elim (check_told ops o text reason h) [ inl out ↦ inl out | inr why ↦ inr (inl ((why.0, why.1, ap failure_answer why.2), refl)) ]
+  -- the text is refused
+  pub unaccepted : (text : List ℕ) (e : Failure) → RefusesProgram (RefusesCheck ops o text) e → IsAccepting ops o instants (Ok text) (Err e)
+  unaccepted text e (inl out) = inl out
+  unaccepted text e (inr why) = inr (inl ((why.0, why.1, ap failure_answer why.2), refl))
 
-  module _ (found : Options) (same : found ≡ o) (fetched : Result (Vec ℕ Global) ShelfError) (text : Vec ℕ Global) (bytes : List ℕ) (gave : fetched ≡ Ok text)
-      (are : bytes ≡ text.items) where
-    moved : (r : Result Accepted Failure) → IsAccepting ops o instants (Ok bytes) r → IsAccepting ops o instants (bytes_of fetched) r
-    moved r h =
-        let P : Result (Vec ℕ Global) ShelfError → Type 0 = λ x. IsAccepting ops o instants (bytes_of x) r in
-        let Q : List ℕ → Type 0 = λ x. IsAccepting ops o instants (Ok x) r in
-        subst P (sym gave) (subst Q are h)
-
-    -- the text is refused
-    pub unaccepted : (reason : Refusal) (r : Result Accepted Failure) (f : Failure) → Refuses ops found bytes reason → r ≡ Err f → f ≡ program_failure reason →
-        IsAccepting ops o instants (bytes_of fetched) r
-    unaccepted reason r f h is so =
-        let Q : Result Accepted Failure → Type 0 = λ x. IsAccepting ops o instants (Ok bytes) x in
-        moved r (subst Q (sym (is ∙ ap Err so)) (refused_so bytes reason (subst (λ u. Refuses ops u bytes reason) same h)))
-
-    accepted_so : (a : Accepted) → IsAccepted ops found bytes a → IsAccepted ops o bytes a
-    accepted_so a is = subst (λ u. IsAccepted ops u bytes a) same is
-
-    -- its main lacks the instants
-    pub lacking : (a : Accepted) → IsAccepted ops found bytes a → a.inputs.items ≡ [] → instants ≡ None →
-        IsAccepting ops o instants (bytes_of fetched) (Err (failure.Lacks Instants))
-    lacking a is none lacks = moved (Err (failure.Lacks Instants)) (inr (inr (a, accepted_so a is, inl ((none, lacks), refl, refl))))
-
-    -- it can be run
-    pub runnable : (a : Accepted) → IsAccepted ops found bytes a → (LacksInstants a instants → ⊥) → IsAccepting ops o instants (bytes_of fetched) (Ok a)
-    runnable a is given = moved (Ok a) (accepted_so a is, given)
+  -- its program can be run, or its main lacks the instants
+  pub given_so : (text : List ℕ) (a : Accepted) (r : Result Accepted Failure) → IsAccepted ops o text a → IfOk r (λ x. (x ≡ a) × (x.inputs.items ≡ [] → instants ≢ None)) →
+      IfErr r (λ e. (e ≡ failure.Lacks Instants) × (a.inputs.items ≡ []) × (instants ≡ None)) → IsAccepting ops o instants (Ok text) r
+  given_so text a (Ok x) is (same, given) lacks = (subst (IsAccepted ops o text) (sym same) is, λ l. given l.0 l.1)
+  given_so text a (Err e) is ok (so, none, lacks) =
+      let P : Failure → Type 0 = λ x. IsAccepting ops o instants (Ok text) (Err x) in
+      subst P (sym so) (inr (inr (a, is, inl ((none, lacks), refl, refl))))
 
 module _ (w : WaveWords) (ops lends : List Operator) (lent : ops ≡ lends) (fetched : Result (List ℕ) ShelfError) (answer : Result Accepted Failure)
     (accepting : IsAccepting ops (options_of w.program) w.instants fetched answer) where

@@ -1,8 +1,9 @@
 -- How explanations, pages and frozen programs come out.
 use Rattle.std.proofs.Common.{Bool, true, false, ◌∙◌, ℕ, ◌≡◌, ◌≢◌, ◌⊎◌, List, [], ◌∷◌, Option, Some, None, Result, Ok, Err, refl, ap, sym, subst, inl, inr}
-use Rattle.std.specs.Prelude.{nat_eq, IfSome, IfNone, IsErrAnd}
+use Rattle.std.specs.Prelude.{nat_eq, IfOk, IfSome, IfNone, MatchResult}
 use Rattle.std.specs.declared.alloc.Global.{Global}
 use Rattle.std.specs.declared.vec.Vec.{Vec}
+use Rattle.std.specs.declared.alloc.AllocError.{AllocError}
 use Rattle.lucy_host.specs.Operators.{Operator}
 use Rattle.lucy_text.specs.Sources.{Unread}
 use Rattle.lucy_program.specs.declared.accepted.Accepted.{Accepted}
@@ -22,13 +23,13 @@ use Rattle.lucy_views.specs.declared.failure.Failure.{Failure}
 use Rattle.lucy_views.specs.declared.failure.Failure.TheVariants.{Program, Lacks, OutOfMemory}
 use Rattle.lucy_views.specs.declared.shown.Shown.{Shown}
 use Rattle.lucy_views.specs.Owes.{Explains, OwesFrozen}
-use Rattle.lucy_views.specs.Failures.{failure_answer, program_failure, ComesOut, IsOutcome}
+use Rattle.lucy_views.specs.Failures.{failure_answer, program_failure, shown_refusal, ComesOut, IsOutcome, IsTold, Tellable}
 use Rattle.lucy_views.proofs.Told.{check_told}
 use Rattle.lucy_program.specs.Report.{report}
 use Rattle.lucy_front.specs.Refusals.{IsTellable}
 use Rattle.lucy_front.proofs.TellableLaws.{tellable}
 use Rattle.lucy_page.specs.Pages.{IsPage, IsRefusedPage}
-use Rattle.lucy_views.specs.Owes.{shown_refused, NoRefusal, OwesPage, OwesRefusedPage, OwesAcceptedPage}
+use Rattle.lucy_views.specs.Owes.{NoRefusal, OwesPage, OwesRefusedPage, OwesAcceptedPage}
 use Rattle.lucy_views.proofs.Outs.{told_out, failed_out}
 
 -- why nothing is printed of a refusal: memory ran out, or it is told
@@ -90,30 +91,24 @@ lacks_so found r s short is status test other =
     let P : Option Refusal → Type 0 = λ f. IfSome f (λ x. x ≢ front.OutOfMemory) in
     subst P (sym is) (memory_status r (λ seven. let both : true ≡ false = ap (λ k. nat_eq k 7) (sym (status ∙ seven)) ∙ sym test ∙ other in cc))
 
--- want of memory comes out where it is handed on
-pub short_shown : (Owed : Answer → Type 0) (r : Result Shown Failure) (e : Failure) → IsErrAnd r (λ x. x ≡ e) → e ≡ OutOfMemory → IsOutcome Owed r
-short_shown Owed (Ok shown) e is out = absurd is
-short_shown Owed (Err x) e is out = inl (is ∙ out)
+-- the page of a text that is refused, and what is told behind it
+pub refusal_out : (ops : List Operator) (o : Options) (text told : List ℕ) (print : Result (Vec ℕ Global) AllocError) (found : Option Refusal) → Explains ops o text found told →
+    IfOk print (λ v. IsRefusedPage told text v.items) → IsOutcome (OwesRefusedPage ops o text) (shown_refusal print found)
+refusal_out ops o text told (Ok print) None h page = inl refl
+refusal_out ops o text told (Ok print) (Some reason) h page = (reason, told, print.items, h, page, refl)
+refusal_out ops o text told (Err e) found h page = inl refl
 
--- the page of a text that is refused
-pub page_out : (ops : List Operator) (o : Options) (text : List ℕ) (reason : Refusal) (found : Option Refusal) (told print : List ℕ) → Explains ops o text found told →
-    found ≡ Some reason → IsRefusedPage told text print → OwesRefusedPage ops o text (shown_refused reason print)
-page_out ops o text reason found told print h is page =
-    let P : Option Refusal → Type 0 = λ f. Explains ops o text f told in
-    (reason, told, print, subst P is h, page, refl)
-
--- has a refusal with a text
-pub page_told : (ops : List Operator) (o : Options) (text : List ℕ) (reason : Refusal) (found : Option Refusal) (told : List ℕ) → Explains ops o text found told →
-    found ≡ Some reason → IsTellable reason
-page_told ops o text reason found told h is =
-    let P : Option Refusal → Type 0 = λ f. Explains ops o text f told in
-    let why : Explains ops o text (Some reason) told = subst P is h in
-    tellable ops o text reason why.0.0
+pub refusal_told : (ops : List Operator) (o : Options) (text told : List ℕ) (print : Result (Vec ℕ Global) AllocError) (found : Option Refusal) → Explains ops o text found told →
+    MatchResult (shown_refusal print found) IsTold Tellable
+refusal_told ops o text told (Ok print) None h = tt
+refusal_told ops o text told (Ok print) (Some reason) h = tellable ops o text reason h.0.0
+refusal_told ops o text told (Err e) found h = tt
 
 -- the page of one that is accepted
-pub page_drawn : (ops : List Operator) (found o : Options) (text : List ℕ) (a : Accepted) (print : List ℕ) → found ≡ o → IsAccepted ops found text a →
-    IsPage a.placed.nodes text (report a.placed.nodes a.typed a.clocks.items) print → OwesAcceptedPage ops o text (printed print)
-page_drawn ops found o text a print same is page = (a, subst (λ u. IsAccepted ops u text a) same is, (print, page, refl))
+pub page_drawn : (ops : List Operator) (o : Options) (text : List ℕ) (a : Accepted) (print : Option (Vec ℕ Global)) → IsAccepted ops o text a →
+    IfSome print (λ v. IsPage a.placed.nodes text (report a.placed.nodes a.typed a.clocks.items) v.items) → IfSome print (λ v. OwesAcceptedPage ops o text (printed v.items))
+page_drawn ops o text a None is page = tt
+page_drawn ops o text a (Some print) is page = (a, is, (print.items, page, refl))
 
 -- what comes out of a text that wasn't accepted
 pub pages_out : (ops : List Operator) (o : Options) (text : List ℕ) (r : Result Shown Failure) → IsOutcome (OwesRefusedPage ops o text) r →

@@ -2,6 +2,7 @@
 use Rattle.std.specs.Prelude.{ℕ, ◌≡◌, ◌⊎◌, Bool, List, [], ◌∷◌, Option, Some, None, Result, Ok, Err, IfSome, MatchResult}
 use Rattle.std.specs.declared.alloc.Global.{Global}
 use Rattle.std.specs.declared.vec.Vec.{Vec}
+use Rattle.std.specs.declared.alloc.AllocError.{AllocError}
 use Rattle.lucy_word.specs.declared.limit.Limit.TheVariants as limit
 use Rattle.lucy_host.specs.Operators.{Operator}
 use Rattle.lucy_text.specs.Outside.{SeenSink}
@@ -80,6 +81,16 @@ IsOutcome Owed result = MatchResult result (λ shown. Owed (shown_answer shown))
 abbrev pub shown_alone : Result (Vec ℕ Global) Failure → Result Shown Failure
 shown_alone (Ok print) = Ok (record { print = print; refusal = None })
 shown_alone (Err e) = Err e
+
+-- a page and the refusal that is told behind it; without one the text wasn't accepted for want of memory alone
+abbrev pub page_with : Vec ℕ Global → Option Refusal → Result Shown Failure
+page_with print None = Err OutOfMemory
+page_with print (Some reason) = Ok (record { print = print; refusal = Some reason })
+
+-- the same, where there was memory for the page
+abbrev pub shown_refusal : Result (Vec ℕ Global) AllocError → Option Refusal → Result Shown Failure
+shown_refusal (Ok print) refusal = page_with print refusal
+shown_refusal (Err e) refusal = Err OutOfMemory
 
 -- what was met where this was fetched, and these bytes were taken
 abbrev pub given_of : List Operator → (fetched : Result (List ℕ) ShelfError) → (taken : List ℕ) → ReadStop → Given

@@ -18,8 +18,8 @@ use Rattle.lucy_picture.specs.Spots.{PutsSpot}
 use Rattle.lucy_picture.specs.Kinds.{entry_text}
 use Rattle.lucy_picture.specs.Lines.{PutsChart}
 use Rattle.lucy_diagram.specs.Labels.{form_there}
-use Rattle.lucy_diagram.specs.Graphs.{PutsNode}
-use Rattle.lucy_diagram.specs.Nets.{net_text}
+use Rattle.lucy_graphviz.specs.Graphs.{PutsNode}
+use Rattle.lucy_graphviz.specs.Nets.{net_text}
 use Rattle.lucy_svg.specs.declared.drawing.Drawing.{Drawing}
 use Rattle.lucy_svg.specs.Flows.{AreFlows}
 use Rattle.lucy_svg.specs.Notes.{shown_of}

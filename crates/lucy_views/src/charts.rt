@@ -12,9 +12,8 @@ ghost use Rattle.lucy_views.specs.Failures.{ComesOut, Tellable, unread};
 
 use crate::failure::Failure;
 use crate::missing::Missing;
-use crate::program::{node_asked, options};
+use crate::program::{accepted, node_asked};
 use lucy_asking::TimeWords;
-use lucy_front::accept;
 use lucy_host::Ops;
 use lucy_picture::{chart_of, put_time, turn_of};
 use lucy_program::Accepted;
@@ -166,9 +165,8 @@ pub(crate) fn charts(
     ensures outcome { ComesOut (OwesPicture (picture.Time words.entry) (unread ops.now (Ok text.now))) result }
     ensures told { IfErr result Tellable }
 {
-    let accepted = match accept(alloc, text, ops, &options(words.program)) {
-        Ok(accepted) => accepted,
-        Err(reason) => return Err(Failure::from(reason)),
-    };
-    timed(alloc, &accepted, words)
+    match accepted(alloc, words.program, ops, text) {
+        Ok(accepted) => timed(alloc, &accepted, words),
+        Err(failure) => Err(failure),
+    }
 }

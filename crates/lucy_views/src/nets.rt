@@ -2,6 +2,7 @@
 ghost use Rattle.std.specs.Prelude.{List, ℕ, Ok, IfErr};
 ghost use Rattle.std.specs.Option.{option_map};
 ghost use Rattle.lucy_tree.specs.View.{program_tree};
+ghost use Rattle.lucy_grammar.specs.Texts.{HasTree};
 ghost use Rattle.lucy_host.specs.Operators.{Operator};
 ghost use Rattle.lucy_program.specs.declared.options.Options.{Options as Choices};
 ghost use Rattle.lucy_program.specs.Accepting.{IsAccepted};
@@ -12,10 +13,9 @@ ghost use Rattle.lucy_views.specs.Failures.{ComesOut, Tellable, unread};
 
 use crate::failure::Failure;
 use crate::missing::Missing;
-use crate::program::{node_asked, options};
+use crate::program::{accepted, node_asked};
 use lucy_asking::NetWords;
-use lucy_diagram::put_net;
-use lucy_front::accept;
+use lucy_graphviz::put_net;
 use lucy_host::Ops;
 use lucy_program::Accepted;
 use lucy_syntax::parse;
@@ -41,6 +41,25 @@ fn netted(
     Ok(out)
 }
 
+// What is printed of a text with this tree.
+fn netted_by(
+    alloc: Global,
+    words: NetWords<'_>,
+    ops: &Ops,
+    text: &[u8],
+    program: &Program,
+) -> Result<Vec<u8>, Failure>
+    requires factors { AreFactors words.program }
+    requires tree { HasTree text.now (program_tree program.now) }
+    ensures outcome { ComesOut (OwesPicture (picture.Net words.entry) (unread ops.now (Ok text.now))) result }
+    ensures told { IfErr result Tellable }
+{
+    match accepted(alloc, words.program, ops, text) {
+        Ok(accepted) => netted(alloc, program, &accepted, words),
+        Err(failure) => Err(failure),
+    }
+}
+
 /// What `net` prints of a text, or why it prints nothing.
 pub(crate) fn nets(
     alloc: Global,
@@ -52,13 +71,8 @@ pub(crate) fn nets(
     ensures outcome { ComesOut (OwesPicture (picture.Net words.entry) (unread ops.now (Ok text.now))) result }
     ensures told { IfErr result Tellable }
 {
-    let program = match parse(alloc, text) {
-        Ok(program) => program,
-        Err(error) => return Err(Failure::from(error)),
-    };
-    let accepted = match accept(alloc, text, ops, &options(words.program)) {
-        Ok(accepted) => accepted,
-        Err(reason) => return Err(Failure::from(reason)),
-    };
-    netted(alloc, &program, &accepted, words)
+    match parse(alloc, text) {
+        Ok(program) => netted_by(alloc, words, ops, text, &program),
+        Err(error) => Err(Failure::from(error)),
+    }
 }

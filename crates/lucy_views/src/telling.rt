@@ -74,6 +74,17 @@ fn show<O: Sink, E: Sink>(alloc: Global, out: &mut O, err: &mut E, shown: &Shown
     }
 }
 
+// Says why a program is refused or, where there is no memory for that, that it ran out.
+fn refuse_program<E: Sink>(alloc: Global, err: &mut E, reason: &Refusal) -> u8
+    requires { IsTellable reason.now }
+    ensures told { TellsFailure (Failure.Program reason.now) (E.seen err.old) (E.seen err.new) result }
+    ensures known { result ≤ 7 }
+    ensures fails { result ≢ 0 }
+    ensures count { (E.seen err.old).faults ≤ (E.seen err.new).faults }
+{
+    explain(err, refusal_text(alloc, reason), program_status(reason))
+}
+
 /// Says why nothing is printed or, where there is no memory for that, that it ran out.
 pub(crate) fn refuse<E: Sink>(alloc: Global, err: &mut E, failure: Failure) -> u8
     requires { Tellable failure }
@@ -83,9 +94,7 @@ pub(crate) fn refuse<E: Sink>(alloc: Global, err: &mut E, failure: Failure) -> u
     ensures count { (E.seen err.old).faults ≤ (E.seen err.new).faults }
 {
     match failure {
-        Failure::Program(reason) => {
-            explain(err, refusal_text(alloc, &reason), program_status(&reason))
-        }
+        Failure::Program(reason) => refuse_program(alloc, err, &reason),
         Failure::Lacks(missing) => tell(err, missing.line(), 2),
         Failure::ReadFault => tell(err, b"lucy: read fault\n", 4),
         Failure::OutOfMemory => tell(err, b"lucy: out of memory\n", 7),

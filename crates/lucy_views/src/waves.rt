@@ -1,5 +1,5 @@
 // The command `wave`: a run as a value change dump.
-ghost use Rattle.std.specs.Prelude.{◌≡◌, ◌≢◌, ◌≤◌, ◌⊎◌, ◌∷◌, ℕ, List, [], None, IfErr, IfOk};
+ghost use Rattle.std.specs.Prelude.{◌≡◌, ◌≢◌, ◌≤◌, ◌⊎◌, ◌∷◌, ℕ, List, [], None, Ok, IfErr, IfOk};
 ghost use Rattle.lucy_word.specs.Limits.{limit_number};
 ghost use Rattle.lucy_word.specs.declared.limit.Limit.TheVariants as limit;
 ghost use Rattle.lucy_host.specs.Host.{Serves, lent};
@@ -13,15 +13,43 @@ ghost use Rattle.lucy_views.specs.Failures.{IsAccepting, Tellable, given_of};
 
 use crate::failure::Failure;
 use crate::missing::Missing;
-use crate::program::options;
+use crate::program::accepted;
 use crate::telling::refuse;
 use lucy_app::conclude;
 use lucy_asking::WaveWords;
-use lucy_front::accept;
 use lucy_host::{Host, Ops};
 use lucy_program::Accepted;
 use lucy_text::{ShelfError, Sink, Source};
 use std::alloc::Global;
+
+// A program, if it can be run for these instants.
+fn given(instants: Option<u64>, program: Accepted) -> Result<Accepted, Failure>
+    ensures ok { IfOk result (λ a. (a ≡ program) × (a.inputs.items ≡ [] → instants ≢ None)) }
+    ensures lacks { IfErr result (λ e. (e ≡ Failure.Lacks Missing.Instants) × (program.inputs.items ≡ []) × (instants ≡ None)) }
+{
+    if program.inputs.is_empty() && instants.is_none() {
+        return Err(Failure::Lacks(Missing::Instants));
+    }
+    Ok(program)
+}
+
+// The program of a text, if it can be run for the instants that the words ask for.
+fn runnable_text(
+    alloc: Global,
+    words: WaveWords<'_>,
+    ops: &Ops,
+    text: &[u8],
+) -> Result<Accepted, Failure>
+    requires { AreFactors words.program }
+    ensures accepting { IsAccepting ops.now (options_of words.entry.program) words.entry.instants (Ok text.now) result }
+    ensures given { IfOk result (λ a. a.inputs.items ≡ [] → words.entry.instants ≢ None) }
+    ensures told { IfErr result Tellable }
+{
+    match accepted(alloc, words.program, ops, text) {
+        Ok(program) => given(words.instants, program),
+        Err(failure) => Err(failure),
+    }
+}
 
 // The program of what was fetched, if it can be run for these instants.
 fn runnable(
@@ -35,19 +63,10 @@ fn runnable(
     ensures given { IfOk result (λ a. a.inputs.items ≡ [] → words.entry.instants ≢ None) }
     ensures told { IfErr result Tellable }
 {
-    let text = match fetched {
-        Ok(text) => text,
-        Err(error) => return Err(Failure::from(error)),
-    };
-    let program = match accept(alloc, &text, ops, &options(words.program)) {
-        Ok(program) => program,
-        Err(reason) => return Err(Failure::from(reason)),
-    };
-    let instants = words.instants;
-    if program.inputs.is_empty() && instants.is_none() {
-        return Err(Failure::Lacks(Missing::Instants));
+    match fetched {
+        Ok(text) => runnable_text(alloc, words, ops, &text),
+        Err(error) => Err(Failure::from(error)),
     }
-    Ok(program)
 }
 
 /// Runs the program of what was fetched on its input, and writes its dump. The answer is the status.

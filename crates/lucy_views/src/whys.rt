@@ -11,10 +11,9 @@ ghost use Rattle.lucy_views.specs.Failures.{ComesOut, Tellable, unread};
 
 use crate::failure::Failure;
 use crate::missing::Missing;
-use crate::program::{node_asked, options};
+use crate::program::{accepted, node_asked, options};
 use lucy_asking::WhyWords;
 use lucy_explain::why;
-use lucy_front::accept;
 use lucy_host::Ops;
 use lucy_program::{Accepted, Options};
 use std::alloc::Global;
@@ -73,9 +72,8 @@ pub(crate) fn whys(
     ensures told { IfErr result Tellable }
 {
     let options = options(words.program);
-    let accepted = match accept(alloc, text, ops, &options) {
-        Ok(accepted) => accepted,
-        Err(reason) => return Err(Failure::from(reason)),
-    };
-    filled(alloc, text, &accepted, &options, words.buffer)
+    match accepted(alloc, words.program, ops, text) {
+        Ok(accepted) => filled(alloc, text, &accepted, &options, words.buffer),
+        Err(failure) => Err(failure),
+    }
 }

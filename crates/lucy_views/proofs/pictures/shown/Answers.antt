@@ -2,7 +2,7 @@ use Rattle.std.proofs.Common.{Ok, refl}
 use Rattle.lucy_asking.specs.declared.ask.Picture.TheVariants as picture
 use Rattle.lucy_views.specs.Owes.{OwesPicture}
 use Rattle.lucy_views.specs.Failures.{unread}
-use Rattle.lucy_views.proofs.PictureLaws.{alone_out, alone_told, shown_told, picture_out, picture_told}
+use Rattle.lucy_views.proofs.PictureLaws.{alone_out, alone_told, picture_out, picture_told}
 use Rattle.lucy_views.proofs.pictures.shown.Goals as goal
 
 pub returns-in-Time-clause-outcome : goal.returns-in-Time-clause-outcome
@@ -34,7 +34,7 @@ returns-in-Page-clause-outcome c =
     picture_out c.args.ops.now c.args.text.now c.args.picture (picture.Page c.in-Page.words) _ _ c.in-Page.is refl c.pages.ensures.outcome
 
 pub returns-in-Page-clause-told : goal.returns-in-Page-clause-told
-returns-in-Page-clause-told c = shown_told c.pages.result c.pages.ensures.shown c.pages.ensures.told
+returns-in-Page-clause-told c = c.pages.ensures.told
 
 pub returns-in-Explain-clause-outcome : goal.returns-in-Explain-clause-outcome
 returns-in-Explain-clause-outcome c =

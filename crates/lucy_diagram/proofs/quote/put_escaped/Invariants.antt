@@ -1,6 +1,0 @@
-use Rattle.std.proofs.Common.{◌≡◌, ◌++◌, drop}
-use Rattle.lucy_diagram.specs.Quotes.{in_label}
-use Rattle.lucy_diagram.proofs.quote.put_escaped.Given as goal
-
-abbrev pub invariant-each : goal.invariant-each
-invariant-each l = l.out.items ++ in_label (drop l.byte-index l.text) ≡ l.initial.out.items ++ in_label l.text

@@ -1,8 +1,0 @@
-use Rattle.lucy_diagram.proofs.QuoteLaws.{reads, no_line}
-use Rattle.lucy_diagram.proofs.quote.quoted_texts_read_back.Goals as goal
-
-pub returns : goal.returns
-returns c = record {
-  reads = λ text rest. reads text rest;
-  line_feeds = λ text. no_line text;
-}

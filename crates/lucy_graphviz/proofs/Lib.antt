@@ -1,0 +1,3 @@
+mod QuoteLaws
+mod GraphLaws
+mod NetLaws
