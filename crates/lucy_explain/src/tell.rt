@@ -87,25 +87,14 @@ fn put_fault(page: &mut Page<'_>, scene: Scene<'_>, fault: &NodeFault)
     }
 }
 
-// Puts what is told of a cycle of causality in a program last.
-fn put_cause_in(page: &mut Page<'_>, ops: &Ops, program: &Program, names: &[Text], items: &[Item]) {
-    match place(page.alloc, program, ops) {
-        Ok(placed) => put_items(page, program, &placed, names, items),
-        Err(_) => page.full = true,
-    }
-}
-
 // Puts what is told of a cycle of causality last.
-fn put_cause(
-    page: &mut Page<'_>,
-    ops: &Ops,
-    program: &Option<Program>,
-    names: &[Text],
-    items: &[Item],
-) {
-    match program {
-        Some(program) => put_cause_in(page, ops, program, names, items),
-        None => page.full = true,
+fn put_cause(page: &mut Page<'_>, ops: &Ops, names: &[Text], items: &[Item]) {
+    match parse(page.alloc, page.text) {
+        Ok(program) => match place(page.alloc, &program, ops) {
+            Ok(placed) => put_items(page, &program, &placed, names, items),
+            Err(_) => page.full = true,
+        },
+        Err(_) => page.full = true,
     }
 }
 
@@ -131,7 +120,7 @@ fn put_refusal(page: &mut Page<'_>, ops: &Ops, program: &Option<Program>, refusa
             node,
             fault,
         } => put_fault(page, scene_of(placed, program, *node), fault),
-        Refusal::Cause { names, items, .. } => put_cause(page, ops, program, names, items),
+        Refusal::Cause { names, items, .. } => put_cause(page, ops, names, items),
         Refusal::Limit(limit) => put_limit(page, *limit),
         Refusal::OutOfMemory => {}
     }
