@@ -73,7 +73,7 @@ module _ (handed : HandedLaw) where
         (all_at (λ (c : NodeClock). AreShortest c.words) cs i c short of) are
 
     -- so the first ones have the same words, and the same signatures, in both
-    same_words : (i : ℕ) (c d : NodeClock) → slice_get (take node cs) i ≡ Some c → slice_get ds i ≡ Some d → c.words ≡ d.words
+    pub same_words : (i : ℕ) (c d : NodeClock) → slice_get (take node cs) i ≡ Some c → slice_get ds i ≡ Some d → c.words ≡ d.words
     same_words i c d of is =
         let n = get_there (take node nodes) i (omega (arith, slice_get_within ds i d is, above.all)) in
         let at = (taken node nodes i n.0 n.1).1 in

@@ -6,5 +6,6 @@ mod MeaningLaws
 mod RunLaws
 mod ClockLaws
 mod RefusedLaws
+mod OneLaws
 mod Rows
 mod LineRows

@@ -1,11 +1,13 @@
 -- What a text is accepted as its program stands for.
-use Rattle.std.proofs.Common.{◌≡◌, ◌<◌, ℕ, zero, suc, List, [], ◌∷◌, length, Some, slice_get, take, refl, ap, ◌∙◌, inl, inr, arith}
+use Rattle.std.proofs.Common.{◌≡◌, ◌<◌, ℕ, zero, suc, List, [], ◌∷◌, length, Some, slice_get, take, refl, ap, sym, ◌∙◌, inl, inr, arith}
+use Rattle.std.specs.Prelude.{true, false}
 use Rattle.std.specs.List.{AllByRecursion}
 use Rattle.std.proofs.lemmas.Option.{slice_get_within}
 use Rattle.lucy_word.specs.Bits.{Bits}
 use Rattle.lucy_word.specs.Shortest.{IsShortest}
 use Rattle.lucy_word.specs.Stored.{IsStored}
 use Rattle.lucy_place.specs.declared.placed.PlacedNode.{PlacedNode}
+use Rattle.lucy_place.specs.WrittenNodes.{IsWritten}
 use Rattle.lucy_clock.specs.declared.signature.Signature.{Signature}
 use Rattle.lucy_clock.specs.declared.node_clock.NodeClock.{NodeClock}
 use Rattle.lucy_clock.specs.NodeClocks.{signatures}
@@ -14,6 +16,7 @@ use Rattle.lucy_program.specs.declared.options.Options.{Options}
 use Rattle.lucy_program.specs.Clocked.{IsClocked, AreClocksOf}
 use Rattle.lucy_program.specs.Laws.{AcceptedAreProper, AcceptedAreClocked}
 use Rattle.lucy_right.specs.Owed.{AcceptedStand}
+use Rattle.lucy_right.specs.Accepted.{AcceptedAreWritten}
 use Rattle.lucy_right.proofs.NodesLaws.{placed_are}
 use Rattle.lucy_right.proofs.NameLaws.{faultless_well}
 
@@ -46,6 +49,23 @@ module _ (o : Options) (nodes : List PlacedNode) (clocks : List NodeClock) (are 
 
   pub clocks_shortest : AllByRecursion (λ (c : NodeClock). AllByRecursion IsShortest c.words) clocks
   clocks_shortest = each_of (λ (c : NodeClock). AllByRecursion IsShortest c.words) clocks clock_shortest
+
+-- where all nodes have to be written, each is
+module _ (o : Options) (only : o.written_only ≡ true) (nodes : List PlacedNode) (clocks : List NodeClock) (are : AreClocksOf o nodes clocks) where
+  node_written : (i : ℕ) (n : PlacedNode) → slice_get nodes i ≡ Some n → IsWritten n
+  node_written i n e =
+      let within : i < length nodes = slice_get_within nodes i n e in
+      let clock = at_place clocks i (omega (arith, within, are.all)) in
+      elim (are.each i n clock.0 e clock.1).its [
+        | inl h ↦ h.0
+        | inr h ↦ let bad : true ≡ false = sym only ∙ h.is_open.0 in absurd (cc bad)
+      ]
+
+  nodes_written : AllByRecursion IsWritten nodes
+  nodes_written = each_of IsWritten nodes node_written
+
+pub are_written : AcceptedAreWritten
+are_written ops o text a is only = nodes_written o only a.placed.nodes a.clocks.items is.clocked.clocks
 
 pub stand : AcceptedAreClocked → AcceptedAreProper → NetsAreCausal → AcceptedStand
 stand clocked proper causal ops o text a is =

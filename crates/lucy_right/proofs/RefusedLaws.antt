@@ -82,6 +82,12 @@ net_limit nets nodes clocks (Names e) proper causal h = absurd h
 net_limit nets nodes clocks (Types placed node path) proper causal h = absurd h
 net_limit nets nodes clocks (Node placed node f) proper causal h = absurd h
 
+-- a text that stands for something has the nodes of that
+pub text_nodes : TextsHaveOneAnswer → (ops : List Operator) (text : List ℕ) (program : ProgramTree) (m : Meaning) → HasTree text program → StandsFor ops program m →
+    (placed : PlacedProgram) → IsPlacedText ops text placed → placed.nodes ≡ m.nodes
+text_nodes texts ops text program m read stands placed x =
+    x.is_placed.nodes ∙ ap (placed_nodes ops) (texts.one_tree text x.tree program x.read read) ∙ sym (are_placed ops program m.nodes stands.placed)
+
 -- the laws below that are called
 pub record Laws : Type 0 where
   pub texts : TextsHaveOneAnswer
@@ -93,7 +99,7 @@ module _ (laws : Laws) (ops : List Operator) (o : Options) (text : List ℕ) (pr
     (written : AllByRecursion IsWritten m.nodes) where
   -- the text has the nodes of what it stands for, which are proper
   nodes_same : (placed : PlacedProgram) → IsPlacedText ops text placed → placed.nodes ≡ m.nodes
-  nodes_same placed x = x.is_placed.nodes ∙ ap (placed_nodes ops) (laws.texts.one_tree text x.tree program x.read read) ∙ sym (are_placed ops program m.nodes stands.placed)
+  nodes_same = text_nodes laws.texts ops text program m read stands
 
   proper : (placed : PlacedProgram) → IsPlacedText ops text placed → AreProper m.nodes
   proper placed x = subst AreProper (nodes_same placed x) (text_proper ops o text placed x)
@@ -127,4 +133,4 @@ module _ (laws : Laws) (ops : List Operator) (o : Options) (text : List ℕ) (pr
       net_limit laws.nets m.nodes clocks r (proper placed at) stands.causal (subst (λ ns. RefusesNet ns clocks r) (nodes_same placed at) h)
 
 pub written_pass : Laws → WrittenPassLimits
-written_pass laws ops o text program m r _ read stands written h = limit_alone laws ops o text program m read stands written r h
+written_pass laws ops o text program m r read stands written h = limit_alone laws ops o text program m read stands written r h

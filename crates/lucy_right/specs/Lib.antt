@@ -5,3 +5,4 @@ pub mod Laws
 pub mod Owed
 pub mod Refused
 pub mod Earliest
+pub mod Accepted

@@ -1,5 +1,5 @@
 -- What the law of refusals says: a program that stands for something, all of whose clocks are written, is refused for limits alone.
-use Rattle.std.specs.Prelude.{ℕ, ◌≡◌, ◌⊎◌, false, List}
+use Rattle.std.specs.Prelude.{ℕ, ◌≡◌, ◌⊎◌, List}
 use Rattle.std.specs.List.{AllByRecursion}
 use Rattle.lucy_word.specs.declared.limit.Limit.{Limit}
 use Rattle.lucy_host.specs.Operators.{Operator}
@@ -14,5 +14,5 @@ use Rattle.lucy_right.specs.Right.{Meaning, StandsFor}
 
 -- a written program that stands for something is refused for a limit, or for want of memory
 abbrev pub WrittenPassLimits : Type 0
-WrittenPassLimits = (ops : List Operator) (o : Options) (text : List ℕ) (program : ProgramTree) (m : Meaning) (refusal : Refusal) → o.written_only ≡ false → HasTree text program →
-    StandsFor ops program m → AllByRecursion IsWritten m.nodes → Refuses ops o text refusal → ((l : Limit) × (refusal ≡ LimitPassed l)) ⊎ (refusal ≡ OutOfMemory)
+WrittenPassLimits = (ops : List Operator) (o : Options) (text : List ℕ) (program : ProgramTree) (m : Meaning) (refusal : Refusal) → HasTree text program → StandsFor ops program m →
+    AllByRecursion IsWritten m.nodes → Refuses ops o text refusal → ((l : Limit) × (refusal ≡ LimitPassed l)) ⊎ (refusal ≡ OutOfMemory)

@@ -4,6 +4,7 @@ ghost use Rattle.lucy_right.specs.Earliest.{FoundAreEarliest};
 ghost use Rattle.lucy_right.specs.Laws.{FaultlessAreWellNamed, NodesArePlaced, PlacedAreNodes, WellNamedHaveNoFault};
 ghost use Rattle.lucy_right.specs.Owed.{AcceptedStand, CutsAreRuns, OwedAreRuns};
 ghost use Rattle.lucy_right.specs.Refused.{WrittenPassLimits};
+ghost use Rattle.lucy_right.specs.Accepted.{AcceptedAreWritten, WrittenStandForOne};
 
 use lucy_clock::{needs_are_the_rules, written_nodes_have_one};
 use lucy_flat::flat_nets_are_causal_as_programs;
@@ -56,4 +57,18 @@ pub fn written_programs_pass()
 /// The clocks of an accepted program's nodes that aren't written are the earliest of the shape of their needs.
 pub fn found_clocks_are_earliest()
     ensures { FoundAreEarliest }
+{}
+
+/// A program that stands for something, all of whose clocks are written, stands for what it is accepted as, and for nothing else.
+pub fn written_programs_stand_for_one()
+    ensures { WrittenStandForOne }
+{
+    texts_have_one_answer();
+    written_nodes_have_one();
+    accepted_programs_stand();
+}
+
+/// What is accepted where all nodes have to be written has all of its clocks written.
+pub fn accepted_nodes_are_written()
+    ensures { AcceptedAreWritten }
 {}
