@@ -17,6 +17,7 @@ mod Sinks
 mod Runs
 mod RunEnds
 mod RunRight
+mod CheckRight
 mod ReplaysOnce
 mod Replays
 mod Unaccepted

@@ -1,6 +1,6 @@
 -- How `run` ends is right.
 use Rattle.std.proofs.Common.{ℕ, ◌≡◌, ◌≢◌, ◌≤◌, ◌⊎◌, ◌++◌, List, [], ◌∷◌, length, take, Option, None, Some, Ok, Err, Result, true, refl, ap, sym, ◌∙◌, subst, inl, inr, arith}
-use Rattle.std.specs.Prelude.{ℤ, false, IsSome, IsSomeAnd, IfSome}
+use Rattle.std.specs.Prelude.{ℤ, IsSome, IsSomeAnd, IfSome}
 use Rattle.std.specs.Option.{option_map}
 use Rattle.std.specs.List.{AllByRecursion}
 use Rattle.std.proofs.lemmas.List.{take_all}
@@ -70,7 +70,7 @@ follows most before after taken stop input read told = of_left after.left refl
         record { more = more; is = sym (cc same); none = λ closed. closed_none most before after taken stop more read.stopped closed e }
 
 -- what was fetched of a file that is told is its text
-held_once : (files : Option Files) (file text other : List ℕ) → IsSomeAnd files (λ held. held file ≡ Some text) → IsHeld files file other → other ≡ text
+pub held_once : (files : Option Files) (file text other : List ℕ) → IsSomeAnd files (λ held. held file ≡ Some text) → IsHeld files file other → other ≡ text
 held_once None file text other told held = absurd told
 held_once (Some files) file text other told held = let same : Some other ≡ Some text = sym held ∙ told in cc same
 
@@ -81,7 +81,7 @@ fetched_text file text before after (Err e ∷ more) Holds told fetches h = absu
 fetched_text file text before after (Ok other ∷ more) Holds told fetches h = subst Holds (held_once before.files file text other told fetches.1.held.0) h
 
 -- what was written on an empty sink stands there
-stands_so : (before after : SeenSink) (bytes output : List ℕ) → after.written ≡ appended before.written bytes → before.written ≡ Some [] → after.written ≡ Some output → output ≡ bytes
+pub stands_so : (before after : SeenSink) (bytes output : List ℕ) → after.written ≡ appended before.written bytes → before.written ≡ Some [] → after.written ≡ Some output → output ≡ bytes
 stands_so before after bytes output wrote empty stands =
     let same : Some output ≡ Some bytes = sym stands ∙ wrote ∙ ap (λ w. appended w bytes) empty in cc same
 
@@ -101,7 +101,7 @@ apart : (told status k : ℕ) → IsTold told status → told ≢ k → 5 ≢ k 
 apart told status k is other five s = other (is_told told status k is five s)
 
 -- the statuses of refusals and of the ends of runs
-refusal_apart : (r : Refusal) → (program_status r ≢ 0) × (program_status r ≢ 2) × (program_status r ≢ 3)
+pub refusal_apart : (r : Refusal) → (program_status r ≢ 0) × (program_status r ≢ 2) × (program_status r ≢ 3)
 refusal_apart (refusal.Limit l) = (λ e. omega arith, λ e. omega arith, λ e. omega arith)
 refusal_apart refusal.OutOfMemory = (λ e. omega arith, λ e. omega arith, λ e. omega arith)
 refusal_apart r = (λ e. omega arith, λ e. omega arith, λ e. omega arith)
@@ -319,13 +319,13 @@ module _ (laws : Laws) (ops : List Operator) (o : Options) (instants : Option �
   answered answer output status (inr (inr ran)) is out = ended answer output status ran is out
 
 -- with 1 the program is refused, and where its clocks are written stands for nothing
-unrefused : (pass : WrittenPassLimits) (ops : List Operator) (o : Options) (instants : Option ℕ) (text taken : List ℕ) (stop : ReadStop) (answer : Answer) (status : ℕ) → o.written_only ≡ false →
+unrefused : (pass : WrittenPassLimits) (ops : List Operator) (o : Options) (instants : Option ℕ) (text taken : List ℕ) (stop : ReadStop) (answer : Answer) (status : ℕ) →
     Came ops o instants taken stop text answer → IsTold answer.status status →
     (program : ProgramTree) (m : Meaning) → HasTree text program → StandsFor ops program m → AllByRecursion IsWritten m.nodes → status ≢ 1
-unrefused pass ops o instants text taken stop answer status free (inl (r, refuses, e)) is program m read stands written one =
-    limit_apart r (pass ops o text program m r free read stands written refuses) (is_told (program_status r) status 1 (subst (λ (x : Answer). IsTold x.status status) e is) (λ e. omega arith) one)
-unrefused pass ops o instants text taken stop answer status free (inr (inl q)) is program m read stands written one = q.2 (is_told answer.status status 1 is (λ e. omega arith) one)
-unrefused pass ops o instants text taken stop answer status free (inr (inr ran)) is program m read stands written one =
+unrefused pass ops o instants text taken stop answer status (inl (r, refuses, e)) is program m read stands written one =
+    limit_apart r (pass ops o text program m r read stands written refuses) (is_told (program_status r) status 1 (subst (λ (x : Answer). IsTold x.status status) e is) (λ e. omega arith) one)
+unrefused pass ops o instants text taken stop answer status (inr (inl q)) is program m read stands written one = q.2 (is_told answer.status status 1 is (λ e. omega arith) one)
+unrefused pass ops o instants text taken stop answer status (inr (inr ran)) is program m read stands written one =
     ending_apart ran.end 1 (omega arith) (omega arith) (is_told (ending_told ran.end).0 status 1 (subst (λ (x : Answer). IsTold x.status status) ran.is is) (λ e. omega arith) one)
 
 module _ (laws : Laws) (words : ProgramWords) (workers : ℕ) (block : Option ℕ) (before after : World) (status : ℕ) where
@@ -385,7 +385,7 @@ module _ (laws : Laws) (words : ProgramWords) (workers : ℕ) (block : Option �
     met_unrefused : (given : Given) → Meets (Run words workers block) before after given → EndsMet given →
         (program : ProgramTree) (m : Meaning) → HasTree text program → StandsFor given.operators program m → AllByRecursion IsWritten m.nodes → status ≢ 1
     met_unrefused given met (inl (answer, inl owed, answers)) program m read stands written one =
-        unrefused laws.pass given.operators found words.instants text given.taken given.stop answer status refl (came_so given met answer owed)
+        unrefused laws.pass given.operators found words.instants text given.taken given.stop answer status (came_so given met answer owed)
         (told_so answer.status answer.err before.err after.err status answers.told) program m read stands written one
     met_unrefused given met (inl (answer, inr (front, stands_there, is), answers)) program m read stands written one =
         apart 7 status 1 (subst (λ (x : Answer). IsTold x.status status) is (told_so answer.status answer.err before.err after.err status answers.told)) (λ e. omega arith) (λ e. omega arith) one

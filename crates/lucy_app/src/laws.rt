@@ -3,11 +3,14 @@ ghost use Rattle.lucy_command.specs.Commands.{Order};
 ghost use Rattle.lucy_app.specs.Complete.{TracesSuit, Completes};
 ghost use Rattle.lucy_app.specs.Engines.{PlayingCompletes};
 ghost use Rattle.lucy_app.specs.Laws.{OwesAlike, OwesOne, ShowOwesOne, MayPrintOne};
-ghost use Rattle.lucy_app.specs.Right.{RunsAreRight};
+ghost use Rattle.lucy_app.specs.Right.{ChecksAreRight, RunsAreRight};
 
 use lucy_kahn::one_horizon;
 use lucy_lines::one_cut;
-use lucy_right::{owed_outputs_are_runs, written_programs_pass};
+use lucy_right::{
+    accepted_nodes_are_written, accepted_programs_stand, owed_outputs_are_runs,
+    written_programs_pass, written_programs_stand_for_one,
+};
 use lucy_run::{faultless_runs_are_done, one_interpretation, one_replay, one_run, one_trace};
 use lucy_tight::one_tightest;
 
@@ -68,4 +71,16 @@ pub fn runs_are_right()
 {
     owed_outputs_are_runs();
     written_programs_pass();
+}
+
+/// What `check` and `clocks` leave is right, as `lucy_right` says it: with 0 the report of what the text of FILE stands for, which passes no limit.
+/// One that stands for something, all of whose clocks are written, ends so, but for a limit, for a fetch or a write that failed, and for want of
+/// memory.
+pub fn checks_are_right()
+    ensures { ChecksAreRight }
+{
+    accepted_programs_stand();
+    accepted_nodes_are_written();
+    written_programs_pass();
+    written_programs_stand_for_one();
 }

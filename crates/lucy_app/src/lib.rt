@@ -4,7 +4,7 @@
 //! `lucy_command`, `lucy_lines`, `lucy_trace`, `lucy_run`, `lucy_right`, `lucy_make` and `lucy_tight`. Begin with `lucy` in `top.rt`. What it promises is in
 //! `specs/`: `Commands` says what the commands that `lucy_command` reads call, `World` what a command is lent and meets, `Owes` which
 //! answer it owes by that, with `Order`, `Show`, `Types`, `Check`, `Tighten`, `Running` and `Replaying` for what each prints and refuses, `Ends`
-//! what it leaves, `Right` that what `run` leaves is right, and `Complete` when it is done.
+//! what it leaves, `Right` that what `run`, `check` and `clocks` leave is right, and `Complete` when it is done.
 #![tactic(auto)]
 
 mod accepting;
@@ -36,8 +36,8 @@ mod types;
 pub use fetching::fetch;
 pub use input_refusal::InputCause;
 pub use laws::{
-    one_answer, one_output, runs_are_right, suited_commands_are_done, suited_plays_are_done,
-    traces_suit,
+    checks_are_right, one_answer, one_output, runs_are_right, suited_commands_are_done,
+    suited_plays_are_done, traces_suit,
 };
 pub use lucy_run::{ClosureEngine, Engine};
 pub use operators::program_operators;

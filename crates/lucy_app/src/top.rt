@@ -1,17 +1,20 @@
 // The one call that the program makes.
-ghost use Rattle.std.specs.Prelude.{ℕ, ◌≡◌, ◌⊎◌, ◌≤◌, [], Option, None, Some, map, string_bytes};
+ghost use Rattle.std.specs.Prelude.{ℕ, ◌≡◌, ◌⊎◌, ◌≤◌, List, [], Option, None, Some, map, string_bytes};
 ghost use Rattle.lucy_word.specs.Limits.{limit_number};
 ghost use Rattle.lucy_word.specs.declared.limit.Limit.TheVariants as limit;
 ghost use Rattle.lucy_host.specs.Host.{Serves, lent};
 ghost use Rattle.lucy_grammar.specs.Texts.{HasTree};
+ghost use Rattle.lucy_program.specs.declared.options.Options.{Options};
 ghost use Rattle.lucy_right.specs.Right.{RunIsRight};
+ghost use Rattle.lucy_right.specs.Accepted.{CheckIsRight};
 ghost use Rattle.lucy_command.specs.Commands.{ProgramWords, Run, command_of};
 ghost use Rattle.lucy_app.specs.Commands.{files_of, most_input};
 ghost use Rattle.lucy_app.specs.World.{world};
 ghost use Rattle.lucy_app.specs.Ends.{Ends};
+ghost use Rattle.lucy_app.specs.Right.{Checks};
 
 use crate::carrying::carry_out;
-use crate::laws::runs_are_right;
+use crate::laws::{checks_are_right, runs_are_right};
 use crate::output::tell;
 use lucy_command::read;
 use lucy_host::Host;
@@ -67,7 +70,7 @@ use std::thread::Threads;
 /// `out` that failed: behind one of the report nothing was, and behind one of a line no more than its block needs.
 ///
 /// `Ends` says all this, by the command that the words name. Of `run`, `RunIsRight` says what stands on `out` by the text of FILE and the input, where
-/// these are told.
+/// these are told. Of `check` and `clocks`, `CheckIsRight` says what is accepted, and what stands on `out`, by the text of FILE.
 ///
 /// `run` moves the actors of the program's net by workers, each on a thread of its own where there are several; each passes the gate
 /// before it moves. The call returns if the gate does. `trace` moves them by workers too, all on the thread of the call.
@@ -99,6 +102,9 @@ pub fn lucy<
     ensures run { (run : ProgramWords) (workers : ℕ) (block : Option ℕ) → command_of (map string_bytes words.now) ≡ Some (Run run workers block) →
         RunIsRight HasTree (lent host.now) (limit_number limit.Instants) run.instants run.file
         (S.seen shelf.old).files (I.seen input.old).left (O.seen out.old).written (O.seen out.new).written result }
+    // Where they name `check` or `clocks`, so is what that leaves: exactly what is accepted is told.
+    ensures accepts { (file : List ℕ) (o : Options) → Checks (command_of (map string_bytes words.now)) file o →
+        CheckIsRight (lent host.now) o file (S.seen shelf.old) (S.seen shelf.new) (O.seen out.old) (O.seen out.new) (E.seen err.old) (E.seen err.new) result }
     ensures statuses { result ≤ 7 }
     // Words that name no command are refused, and then the output is not touched.
     ensures other_words { command_of (map string_bytes words.now) ≡ None → (result ≡ 2) ⊎ (result ≡ 5) }
@@ -115,6 +121,7 @@ pub fn lucy<
     ensures err_count { (E.seen err.old).faults ≤ (E.seen err.new).faults }
 {
     runs_are_right();
+    checks_are_right();
     let mut spelled = Vec::new(alloc);
     match read(alloc, words, &mut spelled) {
         Ok(Some(command)) => { carry_out(rt, alloc, command, shelf, input, out, err, gate, host) }

@@ -1,4 +1,5 @@
 // That what `run` prints is right.
+ghost use Rattle.lucy_right.specs.Accepted.{AcceptedAreWritten, WrittenStandForOne};
 ghost use Rattle.lucy_right.specs.Earliest.{FoundAreEarliest};
 ghost use Rattle.lucy_right.specs.Laws.{FaultlessAreWellNamed, NodesArePlaced, PlacedAreNodes, WellNamedHaveNoFault};
 ghost use Rattle.lucy_right.specs.Owed.{AcceptedStand, CutsAreRuns, OwedAreRuns};
@@ -47,4 +48,18 @@ pub fn found_clocks_are_earliest()
     ensures { FoundAreEarliest }
 {
     lucy_right::found_clocks_are_earliest();
+}
+
+/// Pins `lucy_right::written_programs_stand_for_one`.
+pub fn written_programs_stand_for_one()
+    ensures { WrittenStandForOne }
+{
+    lucy_right::written_programs_stand_for_one();
+}
+
+/// Pins `lucy_right::accepted_nodes_are_written`.
+pub fn accepted_nodes_are_written()
+    ensures { AcceptedAreWritten }
+{
+    lucy_right::accepted_nodes_are_written();
 }

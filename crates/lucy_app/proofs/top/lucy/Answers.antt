@@ -34,3 +34,24 @@ returns-clause-run g c =
     (world (g.S.Shelf.seen c.args.shelf.now) (g.I.Source.seen c.args.input.now) (g.O.Sink.seen c.args.out.now) (g.E.Sink.seen c.args.err.now) (lent c.args.host.now))
     (world (g.S.Shelf.seen c.args.shelf.now) (g.I.Source.seen c.args.input.now) (g.O.Sink.seen c.args.out.now) (g.E.Sink.seen c.tell-in-Err.new.err) (lent c.args.host.now))
     _ (returns-clause-ends g c)
+
+pub returns-in-Ok-Some-clause-accepts : goal.returns-in-Ok-Some-clause-accepts
+returns-in-Ok-Some-clause-accepts g c file o named =
+    c.checks_are_right.ensures _ file o
+    (world (g.S.Shelf.seen c.args.shelf.now) (g.I.Source.seen c.args.input.now) (g.O.Sink.seen c.args.out.now) (g.E.Sink.seen c.args.err.now) (lent c.args.host.now))
+    (world (g.S.Shelf.seen c.carry_out.new.shelf) (g.I.Source.seen c.carry_out.new.input) (g.O.Sink.seen c.carry_out.new.out) (g.E.Sink.seen c.carry_out.new.err) (lent c.args.host.now))
+    _ named (returns-in-Ok-Some-clause-ends g c)
+
+pub returns-in-Ok-None-clause-accepts : goal.returns-in-Ok-None-clause-accepts
+returns-in-Ok-None-clause-accepts g c file o named =
+    c.checks_are_right.ensures _ file o
+    (world (g.S.Shelf.seen c.args.shelf.now) (g.I.Source.seen c.args.input.now) (g.O.Sink.seen c.args.out.now) (g.E.Sink.seen c.args.err.now) (lent c.args.host.now))
+    (world (g.S.Shelf.seen c.args.shelf.now) (g.I.Source.seen c.args.input.now) (g.O.Sink.seen c.args.out.now) (g.E.Sink.seen c.tell.new.err) (lent c.args.host.now))
+    _ named (returns-in-Ok-None-clause-ends g c)
+
+pub returns-clause-accepts : goal.returns-clause-accepts
+returns-clause-accepts g c file o named =
+    c.checks_are_right.ensures _ file o
+    (world (g.S.Shelf.seen c.args.shelf.now) (g.I.Source.seen c.args.input.now) (g.O.Sink.seen c.args.out.now) (g.E.Sink.seen c.args.err.now) (lent c.args.host.now))
+    (world (g.S.Shelf.seen c.args.shelf.now) (g.I.Source.seen c.args.input.now) (g.O.Sink.seen c.args.out.now) (g.E.Sink.seen c.tell-in-Err.new.err) (lent c.args.host.now))
+    _ named (returns-clause-ends g c)
