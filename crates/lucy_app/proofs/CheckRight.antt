@@ -143,7 +143,7 @@ module _ (ops : List Operator) (o : Options) (before after : World) (text : List
         | inr h ↦ absurd (h.1 (sym same ∙ zero))
       ]
       taken (inr (inl (seven, wrote))) zero = absurd (omega (arith, seven, zero))
-      taken (inr (inr (five, rest))) zero = absurd (omega (arith, five, zero))
+      taken (inr (inr h)) zero = let five : status ≡ 5 = h.0 in absurd (omega (arith, five, zero))
 
       nothing : Ended status → status ≢ 0 → status ≢ 5 → output ≡ []
       nothing (inl (answer, is, same, wrote)) zero five = elim (quiet answer is) [
@@ -151,7 +151,7 @@ module _ (ops : List Operator) (o : Options) (before after : World) (text : List
         | inr h ↦ stood answer.out wrote ∙ h.0
       ]
       nothing (inr (inl (seven, wrote))) zero five = stood [] wrote
-      nothing (inr (inr (is, rest))) zero five = absurd (five is)
+      nothing (inr (inr h)) zero five = absurd (five h.0)
 
       -- a front of a report, or nothing
       abbrev IsFront : List ℕ → Type 0
@@ -159,7 +159,7 @@ module _ (ops : List Operator) (o : Options) (before after : World) (text : List
 
       front_of : (answer : Answer) (n : ℕ) → Came answer → IsFront (take n answer.out)
       front_of answer n is = elim (quiet answer is) [
-        | inl h ↦ let (m, text_stands, same, rest) = h.0 in inr (m, n, text_stands, ap (take n) same)
+        | inl h ↦ let (m, text_stands, same, only, passed) = h.0 in inr (m, n, text_stands, ap (take n) same)
         | inr h ↦ inl (ap (take n) h.0 ∙ take_none n)
       ]
 
@@ -187,7 +187,7 @@ module _ (ops : List Operator) (o : Options) (before after : World) (text : List
       ]
 
       ends_written : Ended status → EndsWritten
-      ends_written (inl (answer, inl (few, print, (a, is, same), told), ends, wrote)) = inl (
+      ends_written (inl (answer, inl (few, (print, (a, is, same), told)), ends, wrote)) = inl (
         ends ∙ ap (λ (x : Answer). x.status) told,
         λ output empty stands.
             stands_so before.out after.out answer.out output wrote empty stands ∙ ap (λ (x : Answer). x.out) told ∙ same ∙ sym (ap report_of (laws.one ops o text a m is text_stands written)),
@@ -196,7 +196,7 @@ module _ (ops : List Operator) (o : Options) (before after : World) (text : List
       ends_written (inl (answer, inr (inr (inl (long, e))), ends, wrote)) = inr (inr (inr (inl (ends ∙ ap (λ (x : Answer). x.status) e, inl long))))
       ends_written (inl (answer, inr (inr (inr (rose, e))), ends, wrote)) = inr (inl (ends ∙ ap (λ (x : Answer). x.status) e, rose))
       ends_written (inr (inl (seven, wrote))) = inr (inr (inr (inr seven)))
-      ends_written (inr (inr (five, failed, rest))) = inr (inr (inl (five, failed)))
+      ends_written (inr (inr h)) = inr (inr (inl (h.0, h.1)))
 
 module _ (o : Options) (file : List ℕ) (before after : World) (status : ℕ) where
   -- what is owed by what was met
