@@ -16,6 +16,7 @@ mod Outcomes
 mod Sinks
 mod Runs
 mod RunEnds
+mod RunInputs
 mod RunRight
 mod CheckRight
 mod ReplaysOnce

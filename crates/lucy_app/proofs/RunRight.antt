@@ -12,7 +12,7 @@ use Rattle.lucy_host.specs.Operators.{Operator, kinds_of}
 use Rattle.lucy_text.specs.declared.shelf.ShelfError.{ShelfError}
 use Rattle.lucy_text.specs.declared.shelf.ShelfError.TheVariants as shelf
 use Rattle.lucy_text.specs.Outside.{SeenSource, SeenSink, appended}
-use Rattle.lucy_text.specs.Shelf.{Files, SeenShelf, IsHeld}
+use Rattle.lucy_text.specs.Shelf.{Files, SeenShelf, IsHeld, Lacks}
 use Rattle.lucy_text.specs.Sources.{ReadStop, Unread, Ended, Drained, StoppedAt, Read}
 use Rattle.lucy_lines.specs.declared.input.InputSpec.{InputSpec}
 use Rattle.lucy_lines.specs.declared.reader.TextFault.{TextFault}
@@ -20,6 +20,7 @@ use Rattle.lucy_lines.specs.declared.reader.TextFault.TheVariants as fault
 use Rattle.lucy_lines.specs.Feeding.{is_closed, values_by_stream}
 use Rattle.lucy_tree.specs.View.{ProgramTree}
 use Rattle.lucy_grammar.specs.Texts.{HasTree}
+use Rattle.lucy_grammar.specs.Laws.{TextsHaveOneAnswer}
 use Rattle.lucy_place.specs.WrittenNodes.{IsWritten}
 use Rattle.lucy_program.specs.declared.accepted.Accepted.{Accepted}
 use Rattle.lucy_program.specs.declared.options.Options.{Options}
@@ -32,21 +33,25 @@ use Rattle.lucy_run.specs.declared.ending.Ending.{Ending}
 use Rattle.lucy_run.specs.declared.ending.Ending.TheVariants as ending
 use Rattle.lucy_run.specs.Feeds.{Feeds}
 use Rattle.lucy_run.specs.Owes.{input_words, IsHorizonOf, heading, lines_to, EndsFor, OwesRun, LinesAllow}
+use Rattle.lucy_program.specs.Scheduled.{main_inputs}
+use Rattle.lucy_right.specs.Laws.{NodesArePlaced}
 use Rattle.lucy_right.specs.Right.{Meaning, StandsFor, IsRunOf, RunIsRight}
+use Rattle.lucy_right.specs.Earliest.{AreChosen}
 use Rattle.lucy_right.specs.Owed.{IsRunOfText, CutsAreRuns, OwedAreRuns}
 use Rattle.lucy_right.specs.Refused.{WrittenPassLimits}
 use Rattle.lucy_command.specs.Commands.{ProgramWords, Command, Run}
 use Rattle.lucy_app.specs.ProgramRefusals.{program_status}
 use Rattle.lucy_app.specs.Answers.{Answer, refused, program_refused, read_fault, limit_passed, no_instants}
 use Rattle.lucy_app.specs.Commands.{program_of, inferring_options, HasText}
-use Rattle.lucy_app.specs.World.{World, Given, Fetches, Meets}
+use Rattle.lucy_app.specs.World.{World, Given, Fetched, Fetches, Meets}
 use Rattle.lucy_app.specs.Endings.{write_fault_line, fault_told, ending_told, ended_answer}
 use Rattle.lucy_app.specs.Programs.{OwesUnfetched}
 use Rattle.lucy_app.specs.Running.{LacksInstants, IsRunnable, OwesEnded, OwesRunning}
 use Rattle.lucy_app.specs.Owes.{Owes, OwesOutput}
-use Rattle.lucy_app.specs.Ends.{Tells, EndsBy, MayStand, MayFail, Ends}
+use Rattle.lucy_app.specs.Ends.{Tells, Answers, EndsBy, MayStand, MayFail, Ends}
 use Rattle.lucy_app.specs.Right.{RunsAreRight}
 use Rattle.lucy_app.proofs.RunEnds.{some_or_none}
+use Rattle.lucy_app.proofs.RunInputs.{inputless}
 
 -- what follows the bytes taken of an input that is told, which is nothing where they count as all
 record Follows (input taken : List ℕ) (stop : ReadStop) : Type 0 where
@@ -79,6 +84,45 @@ fetched_text : (file text : List ℕ) (before after : SeenShelf) (fetched : List
 fetched_text file text before after [] Holds told fetches h = absurd h
 fetched_text file text before after (Err e ∷ more) Holds told fetches h = absurd h
 fetched_text file text before after (Ok other ∷ more) Holds told fetches h = subst Holds (held_once before.files file text other told fetches.1.held.0) h
+
+-- what the shelf holds under FILE, or that it holds nothing there
+told_text : (files : Option Files) (file text : List ℕ) → option_map (λ (held : Files). held file) files ≡ Some (Some text) → IsSomeAnd files (λ held. held file ≡ Some text)
+told_text None file text e = absurd (cc e)
+told_text (Some files) file text e = cc e
+
+told_none : (files : Option Files) (file : List ℕ) → option_map (λ (held : Files). held file) files ≡ Some None → Lacks files file
+told_none None file e = absurd (cc e)
+told_none (Some files) file e = cc e
+
+-- no text is fetched of a file that isn't there
+none_held : (files : Option Files) (file other : List ℕ) → Lacks files file → IsHeld files file other → ⊥
+none_held None file other lacks held = lacks
+none_held (Some files) file other lacks held = let bad : Some other ≡ None = sym held ∙ lacks in cc bad
+
+none_fetched : (file : List ℕ) (before after : SeenShelf) (fetched : List (Result (List ℕ) ShelfError)) (Holds : List ℕ → Type 0) → Lacks before.files file →
+    Fetches (program_of file ∷ []) before after fetched → HasText fetched Holds → ⊥
+none_fetched file before after [] Holds lacks fetches h = h
+none_fetched file before after (Err e ∷ more) Holds lacks fetches h = h
+none_fetched file before after (Ok other ∷ more) Holds lacks fetches h = none_held before.files file other lacks fetches.1.held.0
+
+-- nothing is printed, as FILE wasn't read or memory ran out
+abbrev IsUnread : Answer → Type 0
+IsUnread answer = (answer.out ≡ []) × ((answer.status ≡ 4) ⊎ (answer.status ≡ 7))
+
+missed : (e : ShelfError) (file : List ℕ) (before after : SeenShelf) (answer : Answer) → Lacks before.files file → Fetched (program_of file) before after (Err e) → OwesUnfetched limit.Text e answer → IsUnread answer
+missed shelf.TooLong file before after answer lacks fetched is =
+    let bad : Err shelf.TooLong ≡ Err shelf.Missing = fetched.missing.1 (lacks, λ e. cc e) in absurd (cc bad)
+missed shelf.OutOfMemory file before after answer lacks fetched is = absurd is
+missed shelf.Failed file before after answer lacks fetched is = subst IsUnread (sym is) (refl, inl refl)
+missed shelf.Missing file before after answer lacks fetched is = subst IsUnread (sym is) (refl, inl refl)
+
+unread_owed : (ops : List Operator) (o : Options) (instants : Option ℕ) (taken : List ℕ) (stop : ReadStop) (file : List ℕ) (before after : SeenShelf) (fetched : List (Result (List ℕ) ShelfError)) (answer : Answer) →
+    Lacks before.files file → Fetches (program_of file ∷ []) before after fetched → OwesRunning (λ a. OwesRun (kinds_of ops) a instants taken stop) ops o instants stop fetched answer → IsUnread answer
+unread_owed ops o instants taken stop file before after [] answer lacks fetches (inl h) = absurd h.0
+unread_owed ops o instants taken stop file before after (Err e ∷ more) answer lacks fetches (inl h) = missed e file before fetches.0 answer lacks fetches.1 h.0
+unread_owed ops o instants taken stop file before after (Ok other ∷ more) answer lacks fetches (inl h) = absurd (none_held before.files file other lacks fetches.1.held.0)
+unread_owed ops o instants taken stop file before after fetched answer lacks fetches (inr h) =
+    absurd (none_fetched file before after fetched (λ text. (a : Accepted) × IsAccepted ops o text a × OwesEnded (OwesRun (kinds_of ops) a instants taken stop) instants stop a answer) lacks fetches h)
 
 -- what was written on an empty sink stands there
 pub stands_so : (before after : SeenSink) (bytes output : List ℕ) → after.written ≡ appended before.written bytes → before.written ≡ Some [] → after.written ≡ Some output → output ≡ bytes
@@ -150,22 +194,22 @@ given_done : (words : List Bits) (given : Option ℕ) (lists : List (List ℤ)) 
 given_done words None lists some = cc
 given_done words (Some n) lists some = refl
 
--- nothing is printed, and not because the program is refused; with 2 because the words give no instants
-abbrev IsQuiet : (instants : Option ℕ) → Answer → Type 0
-IsQuiet instants answer = (answer.out ≡ []) × (answer.status ≢ 0) × (answer.status ≢ 1) × (answer.status ≢ 3) × (answer.status ≡ 2 → instants ≡ None)
+-- nothing is printed, and not because the program is refused; with 2 because it lacks instants
+abbrev IsQuiet : (Lacking : Type 0) → Answer → Type 0
+IsQuiet Lacking answer = (answer.out ≡ []) × (answer.status ≢ 0) × (answer.status ≢ 1) × (answer.status ≢ 3) × (answer.status ≡ 2 → Lacking)
 
-quiet : (instants : Option ℕ) (status : ℕ) (lines : List ℕ) (answer : Answer) → answer ≡ refused status lines → 4 ≤ status → IsQuiet instants answer
-quiet instants status lines answer is high =
-    subst (IsQuiet instants) (sym is) (refl, λ e. omega arith, λ e. omega arith, λ e. omega arith, λ e. absurd (omega arith))
+quiet : (Lacking : Type 0) (status : ℕ) (lines : List ℕ) (answer : Answer) → answer ≡ refused status lines → 4 ≤ status → IsQuiet Lacking answer
+quiet Lacking status lines answer is high =
+    subst (IsQuiet Lacking) (sym is) (refl, λ e. omega arith, λ e. omega arith, λ e. omega arith, λ e. absurd (omega arith))
 
-lacking : (instants : Option ℕ) (answer : Answer) → answer ≡ no_instants → instants ≡ None → IsQuiet instants answer
-lacking instants answer is none = subst (IsQuiet instants) (sym is) (refl, λ e. omega arith, λ e. omega arith, λ e. omega arith, λ e. none)
+lacking : (Lacking : Type 0) (answer : Answer) → answer ≡ no_instants → Lacking → IsQuiet Lacking answer
+lacking Lacking answer is lacks = subst (IsQuiet Lacking) (sym is) (refl, λ e. omega arith, λ e. omega arith, λ e. omega arith, λ e. lacks)
 
-unfetched : (instants : Option ℕ) (e : ShelfError) (answer : Answer) → OwesUnfetched limit.Text e answer → IsQuiet instants answer
-unfetched instants shelf.TooLong answer is = quiet instants 6 (limit_passed limit.Text).err answer is (omega arith)
-unfetched instants shelf.OutOfMemory answer is = absurd is
-unfetched instants shelf.Failed answer is = quiet instants 4 read_fault.err answer is (omega arith)
-unfetched instants shelf.Missing answer is = quiet instants 4 read_fault.err answer is (omega arith)
+unfetched : (Lacking : Type 0) (e : ShelfError) (answer : Answer) → OwesUnfetched limit.Text e answer → IsQuiet Lacking answer
+unfetched Lacking shelf.TooLong answer is = quiet Lacking 6 (limit_passed limit.Text).err answer is (omega arith)
+unfetched Lacking shelf.OutOfMemory answer is = absurd is
+unfetched Lacking shelf.Failed answer is = quiet Lacking 4 read_fault.err answer is (omega arith)
+unfetched Lacking shelf.Missing answer is = quiet Lacking 4 read_fault.err answer is (omega arith)
 
 -- the answer is what the run of a text that is accepted comes to
 record RanSo (ops : List Operator) (o : Options) (instants : Option ℕ) (taken : List ℕ) (stop : ReadStop) (text : List ℕ) (answer : Answer) : Type 0 where
@@ -182,29 +226,36 @@ module _ (ops : List Operator) (o : Options) (instants : Option ℕ) (taken : Li
   abbrev OwesOf : Answer → (text : List ℕ) → Type 0
   OwesOf answer text = (a : Accepted) × IsAccepted ops o text a × OwesEnded (OwesRun (kinds_of ops) a instants taken stop) instants stop a answer
 
+  -- a text is accepted as a program that lacks instants
+  record Lacking (text : List ℕ) : Type 0 where
+    a : Accepted
+    accepted : IsAccepted ops o text a
+    lacks : LacksInstants a instants
+
   -- an answer that is owed of a text: its refusal, nothing for something else, or what its run comes to
   abbrev Came : (text : List ℕ) → Answer → Type 0
-  Came text answer = ((r : Refusal) × Refuses ops o text r × (answer ≡ program_refused r)) ⊎ (IsQuiet instants answer ⊎ RanSo ops o instants taken stop text answer)
+  Came text answer = ((r : Refusal) × Refuses ops o text r × (answer ≡ program_refused r)) ⊎ (IsQuiet (Lacking text) answer ⊎ RanSo ops o instants taken stop text answer)
 
   came_of : (text : List ℕ) (answer : Answer) → OwesOf answer text → Came text answer
-  came_of text answer (a, is, inl (lacks, missing, unread)) = inr (inl (lacking instants answer missing lacks.1))
+  came_of text answer (a, is, inl (lacks, missing, unread)) = inr (inl (lacking (Lacking text) answer missing (record { a = a; accepted = is; lacks = lacks })))
   came_of text answer (a, is, inr (has, output, end, owed, told)) =
       inr (inr (record { a = a; accepted = is; bounded = some_given a instants has; output = output; end = end; owed = owed; is = told }))
 
   came : (file text : List ℕ) (before after : SeenShelf) (fetched : List (Result (List ℕ) ShelfError)) (answer : Answer) → IsSomeAnd before.files (λ held. held file ≡ Some text) →
       Fetches (program_of file ∷ []) before after fetched → OwesRunning (λ a. OwesRun (kinds_of ops) a instants taken stop) ops o instants stop fetched answer → Came text answer
   came file text before after [] answer told fetches (inl h) = absurd h.0
-  came file text before after (Err e ∷ more) answer told fetches (inl h) = inr (inl (unfetched instants e answer h.0))
+  came file text before after (Err e ∷ more) answer told fetches (inl h) = inr (inl (unfetched (Lacking text) e answer h.0))
   came file text before after (Ok other ∷ more) answer told fetches (inl ((r, refuses, is), unread)) =
       inl (r, subst (λ t. Refuses ops o t r) (held_once before.files file text other told fetches.1.held.0) refuses.0, is)
   came file text before after fetched answer told fetches (inr h) = came_of text answer (fetched_text file text before after fetched (OwesOf answer) told fetches h)
 
 -- a run of which less is known
-known_less : {ops : List Operator} {most : ℕ} {given : Option ℕ} {program : ProgramTree} {input other : List ℕ} {D R : Type 0} (output : List ℕ) (Done Refused : Type 0) → other ≡ output →
-    (Done → D) → (Refused → R) → IsRunOf ops most given program input other D R → IsRunOf ops most given program input output Done Refused
+known_less : {Chosen : Meaning → Type 0} {ops : List Operator} {most : ℕ} {given : Option ℕ} {program : ProgramTree} {input other : List ℕ} {D R : Type 0} (output : List ℕ) (Done Refused : Type 0) → other ≡ output →
+    (Done → D) → (Refused → R) → IsRunOf Chosen ops most given program input other D R → IsRunOf Chosen ops most given program input output Done Refused
 known_less output Done Refused same done stopped run = record {
   m = run.m;
   stands = run.stands;
+  chosen = run.chosen;
   bounded = run.bounded;
   many = run.many;
   items = run.items;
@@ -227,19 +278,21 @@ pub record Laws : Type 0 where
   pub cuts : CutsAreRuns
   pub owed : OwedAreRuns
   pub pass : WrittenPassLimits
+  pub texts : TextsHaveOneAnswer
+  pub placed : NodesArePlaced
 
 -- what stands on the output
-abbrev Leaves : (ops : List Operator) (instants : Option ℕ) (text input output : List ℕ) (status : ℕ) → Type 0
-Leaves ops instants text input output status =
+abbrev Leaves : (ops : List Operator) (o : Options) (instants : Option ℕ) (text input output : List ℕ) (status : ℕ) → Type 0
+Leaves ops o instants text input output status =
     ((output ≡ []) × (status ≢ 0) × (status ≢ 3) × (status ≡ 2 → instants ≡ None))
     ⊎ ((program : ProgramTree) × (n : ℕ) × (whole : List ℕ) × HasTree text program
-    × IsRunOf ops (limit_number limit.Instants) instants program input whole (status ≡ 0) (status ≡ 3)
+    × IsRunOf (AreChosen o.scale o.lead) ops (limit_number limit.Instants) instants program input whole (status ≡ 0) (status ≡ 3)
     × (output ≡ take n whole) × (status ≢ 5 → status ≢ 7 → output ≡ whole) × (status ≢ 1) × (status ≢ 2))
 
 -- nothing
-nothing : (ops : List Operator) (instants : Option ℕ) (text input output : List ℕ) (told status : ℕ) → IsTold told status → output ≡ [] → told ≢ 0 → told ≢ 3 → (told ≡ 2 → instants ≡ None) →
-    Leaves ops instants text input output status
-nothing ops instants text input output told status is none zero three two = inl (
+nothing : (ops : List Operator) (o : Options) (instants : Option ℕ) (text input output : List ℕ) (told status : ℕ) → IsTold told status → output ≡ [] → told ≢ 0 → told ≢ 3 → (told ≡ 2 → instants ≡ None) →
+    Leaves ops o instants text input output status
+nothing ops o instants text input output told status is none zero three two = inl (
   none,
   apart told status 0 is zero (λ e. omega arith),
   apart told status 3 is three (λ e. omega arith),
@@ -254,7 +307,7 @@ limit_apart r (inr e) one = let told : program_status r ≡ 7 = ap program_statu
 module _ (laws : Laws) (ops : List Operator) (o : Options) (instants : Option ℕ) (text taken more : List ℕ) (stop : ReadStop) (shut : is_closed stop ≡ true → more ≡ []) where
   -- the lines that the items of the whole lines allow are printed by a run
   allowed : (a : Accepted) (output : List ℕ) → IsRunnable ops o instants text a → LinesAllow (kinds_of ops) a instants taken stop output → (Done Refused : Type 0) → (Done → ⊥) → (Refused → ⊥) →
-      IsRunOfText ops instants text (taken ++ more) output Done Refused
+      IsRunOfText ops o instants text (taken ++ more) output Done Refused
   allowed a output can (lists, horizon, (items, halt, cut, failed, fed), greatest, printed) Done Refused undone unrefused = elim (some_or_none a.inputs.items) [
     | inl none ↦
         let some : IsSome instants = some_given a instants can.1 none in
@@ -273,7 +326,7 @@ module _ (laws : Laws) (ops : List Operator) (o : Options) (instants : Option �
 
   -- a front of such lines, where memory ran out or a write failed
   broken : (a : Accepted) (whole output : List ℕ) (n status : ℕ) → IsRunnable ops o instants text a → LinesAllow (kinds_of ops) a instants taken stop whole → IsTold 7 status → output ≡ take n whole →
-      Leaves ops instants text (taken ++ more) output status
+      Leaves ops o instants text (taken ++ more) output status
   broken a whole output n status can allow is front =
       let done : status ≢ 0 = apart 7 status 0 is (λ e. omega arith) (λ e. omega arith) in
       let stopped : status ≢ 3 = apart 7 status 3 is (λ e. omega arith) (λ e. omega arith) in
@@ -292,7 +345,7 @@ module _ (laws : Laws) (ops : List Operator) (o : Options) (instants : Option �
 
   -- the whole output of a run, however its end was told
   ended : (answer : Answer) (output : List ℕ) (status : ℕ) → RanSo ops o instants taken stop text answer → IsTold answer.status status → output ≡ answer.out →
-      Leaves ops instants text (taken ++ more) output status
+      Leaves ops o instants text (taken ++ more) output status
   ended answer output status ran is out =
       let told : IsTold (ending_told ran.end).0 status = subst (λ (x : Answer). IsTold x.status status) ran.is is in
       let whole : output ≡ ran.output = out ∙ ap (λ (x : Answer). x.out) ran.is in
@@ -311,22 +364,35 @@ module _ (laws : Laws) (ops : List Operator) (o : Options) (instants : Option �
       )
 
   -- an answer that is owed
-  answered : (answer : Answer) (output : List ℕ) (status : ℕ) → Came ops o instants taken stop text answer → IsTold answer.status status → output ≡ answer.out → Leaves ops instants text (taken ++ more) output status
+  answered : (answer : Answer) (output : List ℕ) (status : ℕ) → Came ops o instants taken stop text answer → IsTold answer.status status → output ≡ answer.out → Leaves ops o instants text (taken ++ more) output status
   answered answer output status (inl (r, refuses, e)) is out =
       let other = refusal_apart r in
-      nothing ops instants text (taken ++ more) output (program_status r) status (subst (λ (x : Answer). IsTold x.status status) e is) (out ∙ ap (λ (x : Answer). x.out) e) other.0 other.2 (λ two. absurd (other.1 two))
-  answered answer output status (inr (inl q)) is out = nothing ops instants text (taken ++ more) output answer.status status is (out ∙ q.0) q.1 q.3 q.4
+      nothing ops o instants text (taken ++ more) output (program_status r) status (subst (λ (x : Answer). IsTold x.status status) e is) (out ∙ ap (λ (x : Answer). x.out) e) other.0 other.2 (λ two. absurd (other.1 two))
+  answered answer output status (inr (inl q)) is out = nothing ops o instants text (taken ++ more) output answer.status status is (out ∙ q.0) q.1 q.3 (λ two. (q.4 two).lacks.1)
   answered answer output status (inr (inr ran)) is out = ended answer output status ran is out
 
+-- What it stands for isn't all written where the status is 1, and has no inputs where it is 2.
+abbrev IsSuited : (status : ℕ) → Meaning → Type 0
+IsSuited status m = (AllByRecursion IsWritten m.nodes → status ≢ 1) × (status ≡ 2 → main_inputs m.nodes m.types ≡ [])
+
+suited_apart : (told status : ℕ) (m : Meaning) → IsTold told status → told ≢ 1 → told ≢ 2 → IsSuited status m
+suited_apart told status m is one two = (λ written. apart told status 1 is one (λ e. omega arith), λ e. absurd (apart told status 2 is two (λ f. omega arith) e))
+
 -- with 1 the program is refused, and where its clocks are written stands for nothing
-unrefused : (pass : WrittenPassLimits) (ops : List Operator) (o : Options) (instants : Option ℕ) (text taken : List ℕ) (stop : ReadStop) (answer : Answer) (status : ℕ) →
+unrefused : Laws → (ops : List Operator) (o : Options) (instants : Option ℕ) (text taken : List ℕ) (stop : ReadStop) (answer : Answer) (status : ℕ) →
     Came ops o instants taken stop text answer → IsTold answer.status status →
-    (program : ProgramTree) (m : Meaning) → HasTree text program → StandsFor ops program m → AllByRecursion IsWritten m.nodes → status ≢ 1
-unrefused pass ops o instants text taken stop answer status (inl (r, refuses, e)) is program m read stands written one =
-    limit_apart r (pass ops o text program m r read stands written refuses) (is_told (program_status r) status 1 (subst (λ (x : Answer). IsTold x.status status) e is) (λ e. omega arith) one)
-unrefused pass ops o instants text taken stop answer status (inr (inl q)) is program m read stands written one = q.2 (is_told answer.status status 1 is (λ e. omega arith) one)
-unrefused pass ops o instants text taken stop answer status (inr (inr ran)) is program m read stands written one =
-    ending_apart ran.end 1 (omega arith) (omega arith) (is_told (ending_told ran.end).0 status 1 (subst (λ (x : Answer). IsTold x.status status) ran.is is) (λ e. omega arith) one)
+    (program : ProgramTree) (m : Meaning) → HasTree text program → StandsFor ops program m → IsSuited status m
+unrefused laws ops o instants text taken stop answer status (inl (r, refuses, e)) is program m read stands =
+    let told : IsTold (program_status r) status = subst (λ (x : Answer). IsTold x.status status) e is in (
+      λ written. apart (program_status r) status 1 told (limit_apart r (laws.pass ops o text program m r read stands written refuses)) (λ e. omega arith),
+      λ two. absurd (apart (program_status r) status 2 told (refusal_apart r).1 (λ e. omega arith) two),
+    )
+unrefused laws ops o instants text taken stop answer status (inr (inl q)) is program m read stands = (
+  λ written. apart answer.status status 1 is q.2 (λ e. omega arith),
+  λ two. let it = q.4 (is_told answer.status status 2 is (λ e. omega arith) two) in inputless laws.texts laws.placed ops o text it.a program m it.accepted read stands it.lacks.0,
+)
+unrefused laws ops o instants text taken stop answer status (inr (inr ran)) is program m read stands =
+    suited_apart (ending_told ran.end).0 status m (subst (λ (x : Answer). IsTold x.status status) ran.is is) (ending_apart ran.end 1 (omega arith) (omega arith)) (ending_apart ran.end 2 (omega arith) (omega arith))
 
 module _ (laws : Laws) (words : ProgramWords) (workers : ℕ) (block : Option ℕ) (before after : World) (status : ℕ) where
   abbrev found : Options
@@ -351,13 +417,13 @@ module _ (laws : Laws) (words : ProgramWords) (workers : ℕ) (block : Option �
     may_print given met whole owed = fetched_text words.file text before.shelf after.shelf given.fetched (MayPrint given whole) told met.shelf owed
 
     met_leaves : (given : Given) → Meets (Run words workers block) before after given → (more output : List ℕ) → (is_closed given.stop ≡ true → more ≡ []) →
-        before.out.written ≡ Some [] → after.out.written ≡ Some output → EndsMet given → Leaves given.operators words.instants text (given.taken ++ more) output status
+        before.out.written ≡ Some [] → after.out.written ≡ Some output → EndsMet given → Leaves given.operators found words.instants text (given.taken ++ more) output status
     met_leaves given met more output shut empty stands (inl (answer, inl owed, answers)) =
         answered laws given.operators found words.instants text given.taken more given.stop shut answer output status (came_so given met answer owed)
         (told_so answer.status answer.err before.err after.err status answers.told) (stands_so before.out after.out answer.out output answers.printed.written empty stands)
     met_leaves given met more output shut empty stands (inl (answer, inr (front, inl none, is), answers)) =
         let seven : IsTold 7 status = subst (λ (x : Answer). IsTold x.status status) is (told_so answer.status answer.err before.err after.err status answers.told) in
-        nothing given.operators words.instants text (given.taken ++ more) output 7 status seven
+        nothing given.operators found words.instants text (given.taken ++ more) output 7 status seven
         (stands_so before.out after.out answer.out output answers.printed.written empty stands ∙ ap (λ (x : Answer). x.out) is ∙ none) (λ e. omega arith) (λ e. omega arith) (λ e. absurd (omega arith))
     met_leaves given met more output shut empty stands (inl (answer, inr (front, inr (whole, n, owed, e), is), answers)) =
         let seven : IsTold 7 status = subst (λ (x : Answer). IsTold x.status status) is (told_so answer.status answer.err before.err after.err status answers.told) in
@@ -372,41 +438,72 @@ module _ (laws : Laws) (words : ProgramWords) (workers : ℕ) (block : Option �
         (stands_so before.out after.out (take front.0 whole) output front.2 empty stands)
 
     right : Ends (Some (Run words workers block)) before after status → (input output : List ℕ) → before.source.left ≡ Some input → before.out.written ≡ Some [] → after.out.written ≡ Some output →
-        Leaves before.operators words.instants text input output status
+        Leaves before.operators found words.instants text input output status
     right (inl (given, met, ends)) input output left empty stands =
         let rest = follows (limit_number limit.Input) before.source after.source given.taken given.stop input met.source left in
-        subst (λ ops. Leaves ops words.instants text input output status) met.operators
-        (subst (λ bytes. Leaves given.operators words.instants text bytes output status) rest.is (met_leaves given met rest.more output rest.none empty stands ends))
+        subst (λ ops. Leaves ops found words.instants text input output status) met.operators
+        (subst (λ bytes. Leaves given.operators found words.instants text bytes output status) rest.is (met_leaves given met rest.more output rest.none empty stands ends))
     right (inr (same, alone, answers)) input output left empty stands =
-        nothing before.operators words.instants text input output 7 status (told_so 7 memory_line before.err after.err status answers.told)
+        nothing before.operators found words.instants text input output 7 status (told_so 7 memory_line before.err after.err status answers.told)
         (stands_so before.out after.out [] output answers.printed.written empty stands) (λ e. omega arith) (λ e. omega arith) (λ e. absurd (omega arith))
 
-    -- no status 1 where a written program stands for something
+    -- no status 1 where a written program stands for something, and no 2 where it has inputs
     met_unrefused : (given : Given) → Meets (Run words workers block) before after given → EndsMet given →
-        (program : ProgramTree) (m : Meaning) → HasTree text program → StandsFor given.operators program m → AllByRecursion IsWritten m.nodes → status ≢ 1
-    met_unrefused given met (inl (answer, inl owed, answers)) program m read stands written one =
-        unrefused laws.pass given.operators found words.instants text given.taken given.stop answer status (came_so given met answer owed)
-        (told_so answer.status answer.err before.err after.err status answers.told) program m read stands written one
-    met_unrefused given met (inl (answer, inr (front, stands_there, is), answers)) program m read stands written one =
-        apart 7 status 1 (subst (λ (x : Answer). IsTold x.status status) is (told_so answer.status answer.err before.err after.err status answers.told)) (λ e. omega arith) (λ e. omega arith) one
-    met_unrefused given met (inr (whole, may, breaks)) program m read stands written one =
-        apart 5 status 1 (told_so 5 write_fault_line before.err after.err status breaks.told) (λ e. omega arith) (λ e. omega arith) one
+        (program : ProgramTree) (m : Meaning) → HasTree text program → StandsFor given.operators program m → IsSuited status m
+    met_unrefused given met (inl (answer, inl owed, answers)) program m read stands =
+        unrefused laws given.operators found words.instants text given.taken given.stop answer status (came_so given met answer owed)
+        (told_so answer.status answer.err before.err after.err status answers.told) program m read stands
+    met_unrefused given met (inl (answer, inr (front, stands_there, is), answers)) program m read stands =
+        suited_apart 7 status m (subst (λ (x : Answer). IsTold x.status status) is (told_so answer.status answer.err before.err after.err status answers.told)) (λ e. omega arith) (λ e. omega arith)
+    met_unrefused given met (inr (whole, may, breaks)) program m read stands =
+        suited_apart 5 status m (told_so 5 write_fault_line before.err after.err status breaks.told) (λ e. omega arith) (λ e. omega arith)
 
     written_unrefused : Ends (Some (Run words workers block)) before after status →
-        (program : ProgramTree) (m : Meaning) → HasTree text program → StandsFor before.operators program m → AllByRecursion IsWritten m.nodes → status ≢ 1
-    written_unrefused (inl (given, met, ends)) program m read stands written one =
-        met_unrefused given met ends program m read (subst (λ ops. StandsFor ops program m) (sym met.operators) stands) written one
-    written_unrefused (inr (same, alone, answers)) program m read stands written one =
-        apart 7 status 1 (told_so 7 memory_line before.err after.err status answers.told) (λ e. omega arith) (λ e. omega arith) one
+        (program : ProgramTree) (m : Meaning) → HasTree text program → StandsFor before.operators program m → IsSuited status m
+    written_unrefused (inl (given, met, ends)) program m read stands =
+        met_unrefused given met ends program m read (subst (λ ops. StandsFor ops program m) (sym met.operators) stands)
+    written_unrefused (inr (same, alone, answers)) program m read stands =
+        suited_apart 7 status m (told_so 7 memory_line before.err after.err status answers.told) (λ e. omega arith) (λ e. omega arith)
+
+module _ (words : ProgramWords) (workers : ℕ) (block : Option ℕ) (before after : World) (status : ℕ) (lacks : Lacks before.shelf.files words.file) where
+  abbrev called : Command
+  called = Run words workers block
+
+  -- where the shelf has no FILE nothing is written
+  abbrev IsAbsent : Type 0
+  IsAbsent = (after.out.written ≡ before.out.written) × (4 ≤ status) × (status ≢ 6)
+
+  unread_left : (answer : Answer) → IsUnread answer → Answers answer before.out after.out before.err after.err status → IsAbsent
+  unread_left answer (none, is) answers =
+      let told = told_so answer.status answer.err before.err after.err status answers.told in (
+        ap (λ (s : SeenSink). s.written) (answers.printed.untouched none),
+        elim told [ inl e ↦ elim is [ inl f ↦ omega (arith, e, f) | inr f ↦ omega (arith, e, f) ] | inr e ↦ omega (arith, e) ],
+        λ six. elim told [ inl e ↦ elim is [ inl f ↦ omega (arith, e, f) | inr f ↦ omega (arith, e, f) ] | inr e ↦ omega (arith, e) ],
+      )
+
+  absent_met : (given : Given) → Meets called before after given →
+      EndsBy (Owes called given) (MayStand called given) (MayFail called given before.out after.out) before.out after.out before.err after.err status → IsAbsent
+  absent_met given met (inl (answer, inl owed, answers)) =
+      unread_left answer (unread_owed given.operators (inferring_options words.scale words.lead) words.instants given.taken given.stop words.file before.shelf after.shelf given.fetched answer lacks met.shelf owed) answers
+  absent_met given met (inl (answer, inr (front, inl none, is), answers)) =
+      unread_left answer (subst IsUnread (sym is) (none, inr refl)) answers
+  absent_met given met (inl (answer, inr (front, inr (whole, n, owed, e), is), answers)) =
+      absurd (none_fetched words.file before.shelf after.shelf given.fetched _ lacks met.shelf owed)
+  absent_met given met (inr (whole, (owed, order), breaks)) = absurd (none_fetched words.file before.shelf after.shelf given.fetched _ lacks met.shelf owed)
+
+  absent : Ends (Some called) before after status → IsAbsent
+  absent (inl (given, met, ends)) = absent_met given met ends
+  absent (inr (same, alone, answers)) = unread_left _ (refl, inr refl) answers
 
 pub runs_right : Laws → RunsAreRight
 runs_right laws words workers block before after status ends = record {
-  right = λ text input output told left empty stands. right laws words workers block before after status text told ends input output left empty stands;
-  refused = λ text program m told read stands written. written_unrefused laws words workers block before after status text told ends program m read stands written;
+  right = λ text input output told left empty stands. right laws words workers block before after status text (told_text before.shelf.files words.file text told) ends input output left empty stands;
+  refused = λ text program m told read stands. written_unrefused laws words workers block before after status text (told_text before.shelf.files words.file text told) ends program m read stands;
+  absent = λ none. absent words workers block before after status (told_none before.shelf.files words.file none) ends;
 }
 
 -- so it is where the words name it
 pub run_right : RunsAreRight → (command : Option Command) (before after : World) (status : ℕ) → Ends command before after status →
     (words : ProgramWords) (workers : ℕ) (block : Option ℕ) → command ≡ Some (Run words workers block) →
-    RunIsRight HasTree before.operators (limit_number limit.Instants) words.instants words.file before.shelf.files before.source.left before.out.written after.out.written status
+    RunIsRight HasTree (AreChosen words.scale words.lead) before.operators (limit_number limit.Instants) words.instants (option_map (λ (files : Files). files words.file) before.shelf.files) before.source.left before.out.written after.out.written status
 run_right law command before after status ends words workers block is = law words workers block before after status (subst (λ c. Ends c before after status) is ends)

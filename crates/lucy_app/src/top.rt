@@ -1,5 +1,5 @@
 // The one call that the program makes.
-ghost use Rattle.std.specs.Prelude.{ℕ, ◌≡◌, ◌⊎◌, ◌≤◌, List, [], Option, None, Some, map, string_bytes};
+ghost use Rattle.std.specs.Prelude.{ℕ, ◌≡◌, ◌⊎◌, ◌≤◌, List, [], Option, None, Some, map, option_map, string_bytes};
 ghost use Rattle.lucy_word.specs.Limits.{limit_number};
 ghost use Rattle.lucy_word.specs.declared.limit.Limit.TheVariants as limit;
 ghost use Rattle.lucy_host.specs.Host.{Serves, lent};
@@ -7,6 +7,7 @@ ghost use Rattle.lucy_grammar.specs.Texts.{HasTree};
 ghost use Rattle.lucy_program.specs.declared.options.Options.{Options};
 ghost use Rattle.lucy_right.specs.Right.{RunIsRight};
 ghost use Rattle.lucy_right.specs.Accepted.{CheckIsRight};
+ghost use Rattle.lucy_right.specs.Earliest.{AreChosen};
 ghost use Rattle.lucy_command.specs.Commands.{ProgramWords, Run, command_of};
 ghost use Rattle.lucy_app.specs.Commands.{files_of, most_input};
 ghost use Rattle.lucy_app.specs.World.{world};
@@ -100,8 +101,8 @@ pub fn lucy<
         (world (S.seen shelf.new) (I.seen input.new) (O.seen out.new) (E.seen err.new) (lent host.now)) result }
     // Where they name `run`, what it leaves is right: that is read without what `Ends` says of limits, refusals and devices.
     ensures run { (run : ProgramWords) (workers : ℕ) (block : Option ℕ) → command_of (map string_bytes words.now) ≡ Some (Run run workers block) →
-        RunIsRight HasTree (lent host.now) (limit_number limit.Instants) run.instants run.file
-        (S.seen shelf.old).files (I.seen input.old).left (O.seen out.old).written (O.seen out.new).written result }
+        RunIsRight HasTree (AreChosen run.scale run.lead) (lent host.now) (limit_number limit.Instants) run.instants
+        (option_map (λ files. files run.file) (S.seen shelf.old).files) (I.seen input.old).left (O.seen out.old).written (O.seen out.new).written result }
     // Where they name `check` or `clocks`, so is what that leaves: exactly what is accepted is told.
     ensures accepts { (file : List ℕ) (o : Options) → Checks (command_of (map string_bytes words.now)) file o →
         CheckIsRight (lent host.now) o file (S.seen shelf.old) (S.seen shelf.new) (O.seen out.old) (O.seen out.new) (E.seen err.old) (E.seen err.new) result }

@@ -70,11 +70,44 @@ one_line bytes h some =
     let none : All (λ c. is_feed c ≡ false) bytes = λ k d l. fails_before_first is_feed bytes k d (omega (arith, l)) in
     ap lines_of_parts (slice_split_none is_feed bytes none) ∙ ap (λ t. cond t [] (bytes ∷ [])) some
 
--- The line at the front of bytes has this length without its end and with it: it ends with a line feed, or it is all that there is.
+-- The line at the front of bytes has this length without its end and with it, and isn't too long: it ends with a line feed, or it is all that there is.
 abbrev IsFirst : (closed : Bool) (bytes : List ℕ) (content whole : ℕ) → Type 0
 IsFirst closed bytes c n =
-    ((run bytes < length bytes) × (content_of bytes (run bytes) ≡ c) × (run bytes + 1 ≡ n))
-    ⊎ ((closed ≡ true) × (length bytes ≤ run bytes) × ((length bytes == 0) ≡ false) × (length bytes ≡ c) × (length bytes ≡ n))
+    ((run bytes < length bytes) × (content_of bytes (run bytes) ≡ c) × (run bytes + 1 ≡ n) × (run bytes ≤ reach bytes))
+    ⊎ ((closed ≡ true) × (length bytes ≤ run bytes) × ((length bytes == 0) ≡ false) × (length bytes ≡ c) × (length bytes ≡ n) × (length bytes ≤ longest_line))
+
+-- a line that ends where it may has no more bytes than a line may have, without a carriage return at its end
+content_short : (bytes : List ℕ) → run bytes ≤ reach bytes → content_of bytes (run bytes) ≤ longest_line
+content_short bytes near = elim (cases_Bool (get_or bytes longest_line 0 == 13)) [
+  | inl t ↦
+      let r : reach bytes ≡ longest_line + 1 = ap (λ b. cond b (longest_line + 1) longest_line) t in
+      elim (cases_Bool (nat_lt longest_line (run bytes))) [
+        | inl k ↦
+            let far : longest_line < run bytes = ltb-true longest_line (run bytes) k in
+            let last : run bytes - 1 ≡ longest_line = omega arith in
+            let cut : content_of bytes (run bytes) ≡ run bytes - 1 = ap (λ b. cond b (run bytes - 1) (run bytes)) (ap (λ i. get_or bytes i 0 == 13) last ∙ t) in
+            omega (arith, cut)
+        | inr k ↦
+            let within : run bytes ≤ longest_line = ltb-false longest_line (run bytes) k in
+            let inner = content_within bytes (run bytes) in
+            omega arith
+      ]
+  | inr t ↦
+      let r : reach bytes ≡ longest_line = ap (λ b. cond b (longest_line + 1) longest_line) t in
+      let inner = content_within bytes (run bytes) in
+      omega arith
+]
+
+first_short : (closed : Bool) (bytes : List ℕ) (c n : ℕ) → IsFirst closed bytes c n → length (take c bytes) ≤ longest_line
+first_short closed bytes c n (inl h) =
+    let range = reach_range bytes in
+    let inner = content_within bytes (run bytes) in
+    let short = content_short bytes h.3 in
+    let all = length-take-le c bytes (omega (arith, h.0, h.1)) in
+    omega (arith, h.1, all)
+first_short closed bytes c n (inr h) =
+    let all = length-take-le c bytes (omega (arith, h.3)) in
+    omega (arith, h.3, h.5, all)
 
 -- it is the first line, whatever follows
 first_lines : (closed : Bool) (bytes more : List ℕ) (c n : ℕ) → IsFirst closed bytes c n → (closed ≡ true → more ≡ []) → lines (bytes ++ more) ≡ take c bytes ∷ lines (drop n bytes ++ more)
@@ -105,12 +138,14 @@ first_ended : (closed : Bool) (bytes : List ℕ) (c n : ℕ) → nat_lt (judge b
 first_ended closed bytes c n t r p q =
     let near : run bytes ≤ reach bytes = ltb-false (reach bytes) (run bytes) r in
     let inside : judge bytes < length bytes = ltb-true (judge bytes) (length bytes) t in
-    inl (omega arith, p, q)
+    inl (omega arith, p, q, near)
 
-first_whole : (closed : Bool) (bytes : List ℕ) (c n : ℕ) → nat_lt (judge bytes) (length bytes) ≡ false → closed ≡ true → (length bytes == 0) ≡ false → length bytes ≡ c → length bytes ≡ n → IsFirst closed bytes c n
-first_whole closed bytes c n t is_closed s p q =
+first_whole : (closed : Bool) (bytes : List ℕ) (c n : ℕ) → nat_lt (judge bytes) (length bytes) ≡ false → closed ≡ true → (length bytes == 0) ≡ false → nat_lt longest_line (length bytes) ≡ false →
+    length bytes ≡ c → length bytes ≡ n → IsFirst closed bytes c n
+first_whole closed bytes c n t is_closed s v p q =
     let far : length bytes ≤ judge bytes = ltb-false (judge bytes) (length bytes) t in
-    inr (is_closed, omega arith, s, p, q)
+    let short : length bytes ≤ longest_line = ltb-false longest_line (length bytes) v in
+    inr (is_closed, omega arith, s, p, q, short)
 
 -- What is decided of a front has no name here: what is told of it has the type that such a step takes.
 abbrev Suits : (A : Type 0) → A → Type 0
@@ -146,7 +181,7 @@ line_first closed used bytes c n e suits = elim (cases_Bool (nat_lt (judge bytes
                         let e4 = rw s at e3 in
                         elim (cases_Bool (nat_lt longest_line (length bytes))) [
                           | inl v ↦ let e5 = rw v at e4 in absurd (cc e5)
-                          | inr v ↦ let e5 = rw v at e4 in first_whole closed bytes c n t k s (cc e5) (cc e5)
+                          | inr v ↦ let e5 = rw v at e4 in first_whole closed bytes c n t k s v (cc e5) (cc e5)
                         ]
                   ]
               | inr k ↦ let e3 = rw k at e2 in absurd (cc e3)
@@ -345,19 +380,21 @@ module _ (input : InputSpec) (others : List InputSpec) (closed : Bool) where
   cut_lines {h = h} {stop = stop} (blank {content = c} {length = n} {items = items} e said cut) more shut =
       let rest : Lined inputs closed (past h n) more items stop = cut_lines cut more shut in
       let none : fields (take c h.rest) ≡ [] = elim (told_fields inputs (fields (take c h.rest)) _ said refl) [ inl f ↦ f.0 | inr (name, spelled, f, pair) ↦ absurd pair ] in
-      behind_line h more (take c h.rest) n items items stop (first_lines closed h.rest more c n (line_first closed h.used h.rest c n e tt) shut) rest (inl (none, rest.say))
+      let first = line_first closed h.used h.rest c n e tt in
+      behind_line h more (take c h.rest) n items items stop (first_lines closed h.rest more c n first shut) rest (first_short closed h.rest c n first, inl (none, rest.say))
   cut_lines {h = h} {stop = stop} (item {content = c} {length = n} {stream = number} {value = value} {items = items} e said cut) more shut =
       let rest : Lined inputs closed (past h n) more items stop = cut_lines cut more shut in
       let it : ItemOf = record { stream = number; value = value } in
       let says : LineSays inputs (take c h.rest) it =
       elim (told_fields inputs (fields (take c h.rest)) _ said refl) [ inl f ↦ absurd (cc f.1) | inr (name, spelled, f, pair) ↦ (name, spelled, pair.0, f, pair.1, pair.2) ] in
-      behind_line h more (take c h.rest) n items (it ∷ items) stop (first_lines closed h.rest more c n (line_first closed h.used h.rest c n e tt) shut) rest (inr (it, items, says, rest.say, refl))
+      let first = line_first closed h.used h.rest c n e tt in
+      behind_line h more (take c h.rest) n items (it ∷ items) stop (first_lines closed h.rest more c n first shut) rest (first_short closed h.rest c n first, inr (it, items, says, rest.say, refl))
   cut_lines {h = h} (refused {content = c} {length = n} {f = f} k e is r) more shut =
       stopped_line h more (take c h.rest) (lines (drop n h.rest ++ more)) f (first_lines closed h.rest more c n (line_first closed h.used h.rest c n e tt) shut)
-      (inr (refused_fields inputs (fields (take c h.rest)) k (h.lines + 1) f is r, unsaid inputs closed h c n k f e tt is r))
+      (λ none. cc none, inr (refused_fields inputs (fields (take c h.rest)) k (h.lines + 1) f is r, unsaid inputs closed h c n k f e tt is r))
   cut_lines {h = h} (long e) more shut =
       let it = long_line (h.rest ++ more) (long_more inputs closed h more e tt shut) in
-      stopped_line h more it.line it.others (BadLine (h.lines + 1)) it.is (inl it.far)
+      stopped_line h more it.line it.others (BadLine (h.lines + 1)) it.is (λ none. cc none, inl it.far)
   cut_lines {h = h} (too_long e) more shut = stopped h more TooLong (λ short. absurd (short refl))
   cut_lines {h = h} (undecided e) more shut = record {
     many = 0;

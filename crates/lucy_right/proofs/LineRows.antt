@@ -1,5 +1,5 @@
 -- What the lines of a short input say.
-use Rattle.std.proofs.Common.{◌≡◌, [], ◌∷◌, Some, None, refl, ap, ◌∙◌, inl, inr, arith}
+use Rattle.std.proofs.Common.{ℕ, ◌≡◌, List, [], ◌∷◌, Some, None, refl, ap, ◌∙◌, inl, inr, arith}
 use Rattle.std.specs.Prelude.{codes, pos, negsuc}
 use Rattle.std.specs.Str.Lines.{lines}
 use Rattle.lucy_host.specs.declared.data_type.DataType.TheVariants.{Int}
@@ -29,7 +29,7 @@ last_says = (codes "x", codes "-2", x_input, refl, record { found = refl; there 
 -- three lines, of which one is empty and the last lacks its end, say two items
 three_lines : LinesSay (x_input ∷ []) (lines (codes "x 1\r\n\n x\t-2 ")) (one ∷ minus_two ∷ [])
 unfolding fields
-three_lines = inr (one, minus_two ∷ [], first_says, inl (refl, inr (minus_two, [], last_says, refl, refl)), refl)
+three_lines = (omega arith, inr (one, minus_two ∷ [], first_says, (omega arith, inl (refl, (omega arith, inr (minus_two, [], last_says, refl, refl)))), refl))
 
 -- where main has no inputs they say none
 no_inputs : LinesSay [] (lines (codes "x 1\n")) []
@@ -38,18 +38,28 @@ no_inputs = refl
 -- a name that no input has, and a name alone, are refused
 unknown_fails : LineFails (x_input ∷ []) (codes "y 1")
 unfolding fields
-unknown_fails = inr (
-  λ e. let split : codes "y" ∷ codes "1" ∷ [] ≡ [] = e in cc split,
-  λ x says.
-      let split : codes "y" ∷ codes "1" ∷ [] ≡ says.0 ∷ says.1 ∷ [] = says.3 in
-      let name : codes "y" ≡ says.0 = cc split in
-      let bad : None ≡ Some x.stream = ap (stream_named (x_input ∷ [])) name ∙ says.4.found in
-      cc bad,
+unknown_fails = (
+  λ none. cc none,
+  inr (
+    λ e. let split : codes "y" ∷ codes "1" ∷ [] ≡ [] = e in cc split,
+    λ x says.
+        let split : codes "y" ∷ codes "1" ∷ [] ≡ says.0 ∷ says.1 ∷ [] = says.3 in
+        let name : codes "y" ≡ says.0 = cc split in
+        let bad : None ≡ Some x.stream = ap (stream_named (x_input ∷ [])) name ∙ says.4.found in
+        cc bad,
+  ),
 )
 
 name_fails : LineFails (x_input ∷ []) (codes "x")
 unfolding fields
-name_fails = inr (
-  λ e. let split : codes "x" ∷ [] ≡ [] = e in cc split,
-  λ x says. let split : codes "x" ∷ [] ≡ says.0 ∷ says.1 ∷ [] = says.3 in cc split,
+name_fails = (
+  λ none. cc none,
+  inr (
+    λ e. let split : codes "x" ∷ [] ≡ [] = e in cc split,
+    λ x says. let split : codes "x" ∷ [] ≡ says.0 ∷ says.1 ∷ [] = says.3 in cc split,
+  ),
 )
+
+-- and none is where main has no inputs
+none_fails : (line : List ℕ) → LineFails [] line → ⊥
+none_fails line fails = fails.0 refl

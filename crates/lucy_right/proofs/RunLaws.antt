@@ -48,6 +48,7 @@ use Rattle.lucy_run.specs.declared.ending.Ending.TheVariants as ending
 use Rattle.lucy_run.specs.Feeds.{Feeds}
 use Rattle.lucy_run.specs.Owes.{most_instants, input_words, IsHorizonOf, heading, lines_to, AllowsMore, EndsFor}
 use Rattle.lucy_right.specs.Right.{Meaning, LineFails, LinesSay, IsStream}
+use Rattle.lucy_right.specs.Earliest.{FoundAreEarliest}
 use Rattle.lucy_right.specs.Owed.{meaning_of, AcceptedStand, IsRunOfText, CutsAreRuns, OwedAreRuns}
 use Rattle.lucy_right.proofs.LineLaws.{Lined, cut_lines}
 
@@ -117,6 +118,7 @@ module _ (nodes : List PlacedNode) (tables : List (List Ty)) (clocks : List Node
 -- the laws below that are called
 pub record Laws : Type 0 where
   pub stand : AcceptedStand
+  pub found : FoundAreEarliest
   pub proper : AcceptedAreProper
   pub later : LaterLaw
   pub whole : StreamsAreWhole
@@ -188,7 +190,7 @@ module _ (laws : Laws) (ops : List Operator) (o : Options) (text : List ℕ) (a 
   -- what is printed of items that the first lines say
   of_items : (input : List ℕ) (many : ℕ) (items : List ItemOf) (horizon : ℕ) (Done Refused : Type 0) → LinesSay a.inputs.items (take many (lines input)) items →
       IsHorizonOf (input_words a) given (lists_of items) horizon → (Done → many ≡ length (lines input)) → (Done → given ≡ None → AllowsMore (input_words a) (lists_of items) → ⊥) →
-      (Refused → IsSomeAnd (slice_get (lines input) many) (LineFails a.inputs.items)) → IsRunOfText ops given text input (output_of (lists_of items) horizon) Done Refused
+      (Refused → IsSomeAnd (slice_get (lines input) many) (LineFails a.inputs.items)) → IsRunOfText ops o given text input (output_of (lists_of items) horizon) Done Refused
   of_items input many items horizon Done Refused say greatest all within next =
       let inputs : List (List ℤ) = lists_of items in
       let proper : AreProper m.nodes = laws.proper ops o text a is in
@@ -198,6 +200,7 @@ module _ (laws : Laws) (ops : List Operator) (o : Options) (text : List ℕ) (a 
         record {
           m = m;
           stands = (laws.stand ops o text a is).2;
+          chosen = laws.found ops o text a is;
           bounded = λ none. bounded (is.inputs ∙ none);
           many = many;
           items = items;
@@ -220,7 +223,7 @@ module _ (laws : Laws) (ops : List Operator) (o : Options) (text : List ℕ) (a 
   of_cut : (specs : List InputSpec) → a.inputs.items ≡ specs → specs ≢ [] → (closed : Bool) (taken more : List ℕ) (items : List ItemOf) (stop : Stop) (horizon : ℕ) (Done Refused : Type 0) →
       (closed ≡ true → more ≡ []) → Cut specs closed (input_of taken) items stop → IsHorizonOf (input_words a) given (lists_of items) horizon →
       (Done → (closed ≡ true) × (held : Held) × (stop ≡ Before held)) → (Done → given ≡ None → AllowsMore (input_words a) (lists_of items) → ⊥) →
-      (Refused → (f : TextFault) × (stop ≡ At f) × (f ≢ TooLong)) → IsRunOfText ops given text (taken ++ more) (output_of (lists_of items) horizon) Done Refused
+      (Refused → (f : TextFault) × (stop ≡ At f) × (f ≢ TooLong)) → IsRunOfText ops o given text (taken ++ more) (output_of (lists_of items) horizon) Done Refused
   of_cut [] e some closed taken more items stop horizon Done Refused shut cut greatest all within next = absurd (some refl)
   of_cut (input ∷ others) e some closed taken more items stop horizon Done Refused shut cut greatest all within next =
       let lined : Lined (input ∷ others) closed (input_of taken) more items stop = cut_lines input others closed cut more shut in
@@ -235,20 +238,20 @@ module _ (laws : Laws) (ops : List Operator) (o : Options) (text : List ℕ) (a 
   -- what is owed of what main is fed
   of_feed : (specs : List InputSpec) → a.inputs.items ≡ specs → (taken more : List ℕ) (stop : ReadStop) (lists : List (List ℤ)) (fault : Option TextFault) (horizon : ℕ) (end : Ending) →
       (is_closed stop ≡ true → more ≡ []) → Feeds specs taken stop lists fault → IsHorizonOf (input_words a) given lists horizon → EndsFor (input_words a) given lists fault end →
-      IsRunOfText ops given text (taken ++ more) (output_of lists horizon) (end ≡ ending.Done) (EndsAtLine end)
+      IsRunOfText ops o given text (taken ++ more) (output_of lists horizon) (end ≡ ending.Done) (EndsAtLine end)
   of_feed [] e taken more stop lists fault horizon end shut fed greatest ends =
       let none : lists_of [] ≡ [] = ap (λ (specs : List InputSpec). values_by_stream (length specs) []) e in
       let same : lists ≡ lists_of [] = fed.2 ∙ sym none in
       let input : List ℕ = taken ++ more in
       let ends_here : EndsFor (input_words a) given lists None end = subst (λ f. EndsFor (input_words a) given lists f end) fed.3 ends in
-      subst (λ l. IsRunOfText ops given text input (output_of l horizon) (end ≡ ending.Done) (EndsAtLine end)) (sym same)
+      subst (λ l. IsRunOfText ops o given text input (output_of l horizon) (end ≡ ending.Done) (EndsAtLine end)) (sym same)
       (of_items input (length (lines input)) [] horizon (end ≡ ending.Done) (EndsAtLine end) (nothing_said a.inputs.items (take (length (lines input)) (lines input)) e)
       (subst (λ l. IsHorizonOf (input_words a) given l horizon) same greatest) (λ d. refl)
       (λ d n. subst (λ l. AllowsMore (input_words a) l → ⊥) same (ends_within (input_words a) given lists fault end ends d n))
       (λ r. let bad : None ≡ Some r.0 = faulted (input_words a) given lists None end r.0 ends_here r.1 in cc bad))
   of_feed (input ∷ others) e taken more stop lists fault horizon end shut (items, halt, feed) greatest ends =
       let same : lists ≡ lists_of items = feed.lists ∙ ap (λ (specs : List InputSpec). values_by_stream (length specs) items) (sym e) in
-      subst (λ l. IsRunOfText ops given text (taken ++ more) (output_of l horizon) (end ≡ ending.Done) (EndsAtLine end)) (sym same)
+      subst (λ l. IsRunOfText ops o given text (taken ++ more) (output_of l horizon) (end ≡ ending.Done) (EndsAtLine end)) (sym same)
       (of_cut (input ∷ others) e (λ bad. cc) (is_closed stop) taken more items halt horizon (end ≡ ending.Done) (EndsAtLine end) shut feed.cut
       (subst (λ l. IsHorizonOf (input_words a) given l horizon) same greatest)
       (λ d. all_read (input ∷ others) taken stop items halt lists fault feed (done_ends (input_words a) given lists fault end ends d))
@@ -262,5 +265,5 @@ cuts_are_runs laws ops o text a given closed taken more items stop horizon is so
 
 pub owed_are_runs : Laws → OwedAreRuns
 owed_are_runs laws ops o text a given taken more stop output end is bounded shut (lists, fault, horizon, fed, printed, ends) =
-    subst (λ x. IsRunOfText ops given text (taken ++ more) x (end ≡ ending.Done) (EndsAtLine end)) (sym printed)
+    subst (λ x. IsRunOfText ops o given text (taken ++ more) x (end ≡ ending.Done) (EndsAtLine end)) (sym printed)
     (of_feed laws ops o text a is given bounded a.inputs.items refl taken more stop lists fault horizon end shut fed.feeds fed.horizon_is ends)

@@ -19,6 +19,7 @@ use Rattle.lucy_program.specs.declared.accepted.Accepted.{Accepted}
 use Rattle.lucy_program.specs.declared.options.Options.{Options}
 use Rattle.lucy_program.specs.Inferring.{node_needs}
 use Rattle.lucy_program.specs.Accepting.{IsAccepted}
+use Rattle.lucy_right.specs.Right.{Meaning}
 
 -- the words of a node are the earliest of the shape that its needs have with a scale and a lead: by them the table of forms holds at every instant, and
 -- of all words by which it does and which fit the shape no other ones have any one of any clock earlier
@@ -29,6 +30,11 @@ pub record AreEarliest (above : List Signature) (n : PlacedNode) (scale lead : �
   pub well : IsWellClocked above n (assigned words)
   pub earliest : (other : Assignment) → IsWellClocked above n other → FitsShape other shape →
       (clock number : ℕ) → clock < clocks_of n → index_of (assigned words clock) number ≤ index_of (other clock) number
+
+-- the clocks of what a program stands for are chosen so: each node is written, or its clocks are the earliest, by the clocks of the nodes above it
+abbrev pub AreChosen : (scale lead : ℕ) → Meaning → Type 0
+AreChosen scale lead m = (i : ℕ) (n : PlacedNode) (c : NodeClock) → slice_get m.nodes i ≡ Some n → slice_get m.clocks i ≡ Some c →
+    IsWritten n ⊎ AreEarliest (signatures (take i m.nodes) (take i m.clocks)) n scale lead c.words
 
 -- a node of an accepted text is written, or its clocks are the earliest, by the clocks of the nodes above it
 abbrev pub FoundAreEarliest : Type 0

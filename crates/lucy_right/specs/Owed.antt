@@ -17,6 +17,7 @@ use Rattle.lucy_run.specs.declared.ending.Ending.{Ending}
 use Rattle.lucy_run.specs.declared.ending.Ending.TheVariants as ending
 use Rattle.lucy_run.specs.Owes.{input_words, IsHorizonOf, heading, lines_to, AllowsMore, OwesRun}
 use Rattle.lucy_right.specs.Right.{Meaning, StandsFor, IsRunOf}
+use Rattle.lucy_right.specs.Earliest.{AreChosen}
 
 -- what is kept of an accepted program
 abbrev pub meaning_of : Accepted → Meaning
@@ -27,10 +28,10 @@ abbrev pub AcceptedStand : Type 0
 AcceptedStand = (ops : List Operator) (o : Options) (text : List ℕ) (a : Accepted) → IsAccepted ops o text a →
     (program : ProgramTree) × HasTree text program × StandsFor ops program (meaning_of a)
 
--- the output is what `run` prints of the program that a text is and of an input
-abbrev pub IsRunOfText : List Operator → (given : Option ℕ) → (text input output : List ℕ) → (Done Refused : Type 0) → Type 0
-IsRunOfText ops given text input output Done Refused =
-    (program : ProgramTree) × HasTree text program × IsRunOf ops (limit_number limit.Instants) given program input output Done Refused
+-- the output is what `run` prints of the program that a text is, with the clocks that are found by these options, and of an input
+abbrev pub IsRunOfText : List Operator → Options → (given : Option ℕ) → (text input output : List ℕ) → (Done Refused : Type 0) → Type 0
+IsRunOfText ops o given text input output Done Refused =
+    (program : ProgramTree) × HasTree text program × IsRunOf (AreChosen o.scale o.lead) ops (limit_number limit.Instants) given program input output Done Refused
 
 -- The items of the bytes taken, of which more may follow unless they count as all, give what `run` prints of the lines that they use up: of all
 -- lines where no line stops the items of all bytes, and of those before the line that does.
@@ -38,7 +39,7 @@ abbrev pub CutsAreRuns : Type 0
 CutsAreRuns = (ops : List Operator) (o : Options) (text : List ℕ) (a : Accepted) (given : Option ℕ) (closed : Bool) (taken more : List ℕ) (items : List ItemOf) (stop : Stop) (horizon : ℕ) →
     IsAccepted ops o text a → a.inputs.items ≢ [] → (closed ≡ true → more ≡ []) → Cut a.inputs.items closed (input_of taken) items stop →
     IsHorizonOf (input_words a) given (values_by_stream (length a.inputs.items) items) horizon →
-    IsRunOfText ops given text (taken ++ more) (heading a ++ lines_to (kinds_of ops) a (values_by_stream (length a.inputs.items) items) horizon)
+    IsRunOfText ops o given text (taken ++ more) (heading a ++ lines_to (kinds_of ops) a (values_by_stream (length a.inputs.items) items) horizon)
     ((closed ≡ true) × (held : Held) × (stop ≡ Before held) × (given ≡ None → AllowsMore (input_words a) (values_by_stream (length a.inputs.items) items) → ⊥))
     ((fault : TextFault) × (stop ≡ At fault) × (fault ≢ TooLong))
 
@@ -47,4 +48,4 @@ CutsAreRuns = (ops : List Operator) (o : Options) (text : List ℕ) (a : Accepte
 abbrev pub OwedAreRuns : Type 0
 OwedAreRuns = (ops : List Operator) (o : Options) (text : List ℕ) (a : Accepted) (given : Option ℕ) (taken more : List ℕ) (stop : ReadStop) (output : List ℕ) (end : Ending) →
     IsAccepted ops o text a → (a.inputs.items ≡ [] → IsSome given) → (is_closed stop ≡ true → more ≡ []) → OwesRun (kinds_of ops) a given taken stop output end →
-    IsRunOfText ops given text (taken ++ more) output (end ≡ ending.Done) ((fault : TextFault) × (end ≡ ending.Input fault) × (fault ≢ ReadFault) × (fault ≢ TooLong))
+    IsRunOfText ops o given text (taken ++ more) output (end ≡ ending.Done) ((fault : TextFault) × (end ≡ ending.Input fault) × (fault ≢ ReadFault) × (fault ≢ TooLong))

@@ -29,7 +29,7 @@ abbrev pub in_turn : Parts → Parts → Parts
 in_turn a b = record { places = a.places ++ b.places; bounds = a.bounds ++ b.bounds; calls = a.calls ++ b.calls }
 
 -- the parts that a form with these operands is by itself, behind others: a call has a place for each of its results, any other form one
-abbrev pub own_parts : Known → (at : Parts) → (results : ℕ) → Head → (args : List ℕ) → Parts
+abbrev pub own_parts : Known → Parts → ℕ → Head → List ℕ → Parts
 own_parts k at results (Called n base) args = record {
   places = results_from (length at.calls + 1) 0 results;
   bounds = [];
@@ -40,18 +40,18 @@ own_parts k at results h args = record { places = unnamed (own_kind k (length at
 -- the place of an expression, and the parts that it adds behind others: of a name its stream's place, and no part; of a form the next place, its
 -- own parts, and those of its operands from left to right
 abbrev mutual
-  pub parts_of : Known → (at : Parts) → (results : ℕ) → Phrase → ℕ × Parts
+  pub parts_of : Known → Parts → ℕ → Phrase → ℕ × Parts
   parts_of k at results (name n) = (stream_place k n.text, no_parts)
   parts_of k at results (headed h span fs) =
       let more = all_parts k (in_turn at (own_parts k at results h [])) fs in (length at.places + 1, in_turn (own_parts k at results h more.0) more.1)
 
-  pub all_parts : Known → (at : Parts) → Phrases → List ℕ × Parts
+  pub all_parts : Known → Parts → Phrases → List ℕ × Parts
   all_parts k at none = ([], no_parts)
   all_parts k at (and f fs) =
       let first = parts_of k at 1 f in let more = all_parts k (in_turn at first.1) fs in (first.0 ∷ more.0, in_turn first.1 more.1)
 
 -- the places of defined names, and the parts that their right sides add behind others
-abbrev pub def_parts : Known → (at : Parts) → List DefTree → List PlaceEntry × Parts
+abbrev pub def_parts : Known → Parts → List DefTree → List PlaceEntry × Parts
 def_parts k at [] = ([], no_parts)
 def_parts k at (d ∷ ds) =
     let right = parts_of k at (wanted d.left) (phrase_of d.right) in
@@ -74,7 +74,7 @@ as_placed ops above n =
     }
 
 -- a form names an operator of the host, or a node above that has so many parameters and results, where it names any
-abbrev pub HasOwner : Known → (above : ProgramTree) → (results args : ℕ) → Head → Type 0
+abbrev pub HasOwner : Known → ProgramTree → ℕ → ℕ → Head → Type 0
 HasOwner k above results args (Host n) = IsSome (operator_number k.operators n.text)
 HasOwner k above results args (Called n base) =
     IsSomeAnd (slice_get above (place_in k.nodes n.text)) (λ f. (length f.params ≡ args) × (length f.results ≡ results))
@@ -82,11 +82,11 @@ HasOwner k above results args h = Unit {0}
 
 -- so does each form of an expression, and its names are streams
 abbrev mutual
-  pub NamesWell : Known → (above : ProgramTree) → (results : ℕ) → Phrase → Type 0
+  pub NamesWell : Known → ProgramTree → ℕ → Phrase → Type 0
   NamesWell k above results (name n) = Contains k.streams n.text
   NamesWell k above results (headed h span fs) = HasOwner k above results (count fs) h × AllNameWell k above fs
 
-  pub AllNameWell : Known → (above : ProgramTree) → Phrases → Type 0
+  pub AllNameWell : Known → ProgramTree → Phrases → Type 0
   AllNameWell k above none = Unit {0}
   AllNameWell k above (and f fs) = NamesWell k above 1 f × AllNameWell k above fs
 

@@ -8,7 +8,6 @@ use Rattle.lucy_word.specs.Shortest.{IsShortest}
 use Rattle.lucy_host.specs.declared.kind.HostKind.{HostKind}
 use Rattle.lucy_host.specs.Operators.{Operator, kinds_of}
 use Rattle.lucy_stream.specs.Items.{list_at}
-use Rattle.lucy_text.specs.Shelf.{Files}
 use Rattle.lucy_lines.specs.declared.input.InputSpec.{InputSpec}
 use Rattle.lucy_lines.specs.Fronts.{longest_line}
 use Rattle.lucy_lines.specs.Fields.{fields}
@@ -51,34 +50,37 @@ pub record StandsFor (ops : List Operator) (program : ProgramTree) (m : Meaning)
   pub causal : IsCausalProgram m.nodes
 
 -- a line says an item: the name of an input, and a value of its type
-abbrev pub LineSays : List InputSpec → (line : List ℕ) → ItemOf → Type 0
+abbrev pub LineSays : List InputSpec → List ℕ → ItemOf → Type 0
 LineSays inputs line item =
     (name spelled : List ℕ) × (input : InputSpec) × (fields line ≡ name ∷ spelled ∷ []) × IsInput inputs name item.stream input
     × SpellsValue input.holds spelled item.value
 
--- a line is refused: it is too long, or it isn't blank and says no item
-abbrev pub LineFails : List InputSpec → (line : List ℕ) → Type 0
-LineFails inputs line = (longest_line < length line) ⊎ ((fields line ≢ []) × ((item : ItemOf) → LineSays inputs line item → ⊥))
+-- a line is refused where main has inputs: it is too long, or it isn't blank and says no item
+abbrev pub LineFails : List InputSpec → List ℕ → Type 0
+LineFails inputs line = (inputs ≢ []) × ((longest_line < length line) ⊎ ((fields line ≢ []) × ((item : ItemOf) → LineSays inputs line item → ⊥)))
 
--- lines say items, in turn: a line of blanks says none, and where main has no inputs nothing is read
-abbrev pub LinesSay : List InputSpec → (lines : List (List ℕ)) → List ItemOf → Type 0
+-- lines say items, in turn: none is too long, a line of blanks says none, and where main has no inputs nothing is read
+abbrev pub LinesSay : List InputSpec → List (List ℕ) → List ItemOf → Type 0
 LinesSay [] lines items = items ≡ []
 LinesSay inputs [] items = items ≡ []
 LinesSay inputs (line ∷ lines) items =
-    ((fields line ≡ []) × LinesSay inputs lines items)
-    ⊎ ((item : ItemOf) × (more : List ItemOf) × LineSays inputs line item × LinesSay inputs lines more × (items ≡ item ∷ more))
+    (length line ≤ longest_line) × (((fields line ≡ []) × LinesSay inputs lines items)
+    ⊎ ((item : ItemOf) × (more : List ItemOf) × LineSays inputs line item × LinesSay inputs lines more × (items ≡ item ∷ more)))
 
 -- the first items of the Kahn stream of a place of main: as many as its word has ones up to the horizon, the same in every iterate from some one on
 abbrev pub IsStream : List HostKind → (inputs : List (List ℤ)) → List PlacedNode → (horizon place : ℕ) → Bits → List ℤ → Type 0
 IsStream kinds inputs nodes horizon place word items =
     (length items ≡ ones_to word horizon) × (n : ℕ) × ((k : ℕ) → n ≤ k → take (length items) (kahn kinds inputs nodes k (at [] place)) ≡ items)
 
--- What `run` prints of a program and of an input: for something that the program stands for, the report, `run`, and at each instant that the items of
--- some first lines allow, up to those given or else the most, the values of main's results; where main has no inputs instants are given. Where it is
--- done the lines are all, and without given instants they allow no more than the most; where a line is refused it is the next one.
-pub record IsRunOf (ops : List Operator) (most : ℕ) (given : Option ℕ) (program : ProgramTree) (input output : List ℕ) (Done Refused : Type 0) : Type 0 where
+-- What `run` prints of a program and of an input: for something that the program stands for, with clocks that may be chosen, the report, `run`, and at
+-- each instant that the items of some first lines allow, up to those given or else the most, the values of main's results; where main has no inputs
+-- instants are given. Where it is done the lines are all, and without given instants they allow no more than the most; where a line is refused it is
+-- the next one.
+pub record IsRunOf (Chosen : Meaning → Type 0) (ops : List Operator) (most : ℕ) (given : Option ℕ) (program : ProgramTree) (input output : List ℕ)
+    (Done Refused : Type 0) : Type 0 where
   pub m : Meaning
   pub stands : StandsFor ops program m
+  pub chosen : Chosen m
   pub bounded : main_inputs m.nodes m.types ≡ [] → IsSome given
   pub many : ℕ
   pub items : List ItemOf
@@ -98,12 +100,14 @@ pub record IsRunOf (ops : List Operator) (most : ℕ) (given : Option ℕ) (prog
 
 -- What `run FILE` leaves, where it finds this text of FILE, this input and an empty output, is nothing, but with the statuses 0 and 3, and with 2 where
 -- instants are given; or it is what it prints of the program that the text is, with 5 and 7 a front of that: of a run that is done with 0, and up to a
--- refused line with 3. With 1, where all clocks are written, the program stands for nothing.
-pub record RunIsRight (Reads : List ℕ → ProgramTree → Type 0) (ops : List Operator) (most : ℕ) (given : Option ℕ) (file : List ℕ)
-    (files : Option Files) (left before after : Option (List ℕ)) (status : ℕ) : Type 0 where
-  pub right : (text input output : List ℕ) → IsSomeAnd files (λ held. held file ≡ Some text) → left ≡ Some input → before ≡ Some [] → after ≡ Some output →
+-- refused line with 3. With 1, where all clocks are written, the program stands for nothing, and with 2 for nothing that has inputs. Where the shelf
+-- tells that it has no FILE nothing is written, and the status is 4 or more, but not 6.
+pub record RunIsRight (Reads : List ℕ → ProgramTree → Type 0) (Chosen : Meaning → Type 0) (ops : List Operator) (most : ℕ) (given : Option ℕ)
+    (held : Option (Option (List ℕ))) (left before after : Option (List ℕ)) (status : ℕ) : Type 0 where
+  pub right : (text input output : List ℕ) → held ≡ Some (Some text) → left ≡ Some input → before ≡ Some [] → after ≡ Some output →
       ((output ≡ []) × (status ≢ 0) × (status ≢ 3) × (status ≡ 2 → given ≡ None))
-      ⊎ ((program : ProgramTree) × (n : ℕ) × (whole : List ℕ) × Reads text program × IsRunOf ops most given program input whole (status ≡ 0) (status ≡ 3)
+      ⊎ ((program : ProgramTree) × (n : ℕ) × (whole : List ℕ) × Reads text program × IsRunOf Chosen ops most given program input whole (status ≡ 0) (status ≡ 3)
       × (output ≡ take n whole) × (status ≢ 5 → status ≢ 7 → output ≡ whole) × (status ≢ 1) × (status ≢ 2))
-  pub refused : (text : List ℕ) (program : ProgramTree) (m : Meaning) → IsSomeAnd files (λ held. held file ≡ Some text) → Reads text program →
-      StandsFor ops program m → AllByRecursion IsWritten m.nodes → status ≢ 1
+  pub refused : (text : List ℕ) (program : ProgramTree) (m : Meaning) → held ≡ Some (Some text) → Reads text program →
+      StandsFor ops program m → (AllByRecursion IsWritten m.nodes → status ≢ 1) × (status ≡ 2 → main_inputs m.nodes m.types ≡ [])
+  pub absent : held ≡ Some None → (after ≡ before) × (4 ≤ status) × (status ≢ 6)

@@ -39,6 +39,7 @@ pub fn owed_outputs_are_runs()
     ensures owed { OwedAreRuns }
 {
     accepted_programs_stand();
+    found_clocks_are_earliest();
     accepted_programs_are_clocked();
     programs_grow();
     streams_are_whole();

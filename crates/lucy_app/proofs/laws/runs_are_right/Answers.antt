@@ -1,5 +1,13 @@
-use Rattle.lucy_app.proofs.RunRight.{runs_right}
+use Rattle.lucy_app.proofs.RunRight.{Laws, runs_right}
 use Rattle.lucy_app.proofs.laws.runs_are_right.Goals as goal
 
 pub returns : goal.returns
-returns c = runs_right (record { cuts = c.owed_outputs_are_runs.ensures.cuts; owed = c.owed_outputs_are_runs.ensures.owed; pass = c.written_programs_pass.ensures })
+returns c =
+    let laws : Laws = record {
+      cuts = c.owed_outputs_are_runs.ensures.cuts;
+      owed = c.owed_outputs_are_runs.ensures.owed;
+      pass = c.written_programs_pass.ensures;
+      texts = c.texts_have_one_answer.ensures;
+      placed = c.nodes_are_placed.ensures.only;
+    } in
+    runs_right laws
