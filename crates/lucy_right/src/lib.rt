@@ -1,8 +1,8 @@
-//! That what `run` prints is right, as one statement to be read from its beginning to its end.
+//! That what `run` prints is right, as one statement to be read from its beginning to its end; and what `check` and `clocks` accept.
 //!
 //! It stands on what the crates below say of texts, names, types, clocks and streams, and leaves out what they say of limits, refusals and
 //! devices. It has no code: the body of each public function is empty, or calls laws alone, and its contract is a law. Begin with
-//! `specs/Places.antt`, then `specs/Right.antt`.
+//! `specs/Places.antt`, then `specs/Right.antt`; `specs/Accepted.antt` says what is accepted.
 #![tactic(auto)]
 
 mod laws;
