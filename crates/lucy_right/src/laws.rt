@@ -1,5 +1,6 @@
-// That places and names read off the tree of a program are those that lucy_place tells, that what a run owes is what `run` prints, and that a written
+// That places and names read off the tree of a program are those that lucy_naming tells, that what a run owes is what `run` prints, and that a written
 // program that stands for something is refused for limits alone, and stands for that alone where it is accepted.
+ghost use Rattle.lucy_right.specs.Earliest.{FoundAreEarliest};
 ghost use Rattle.lucy_right.specs.Laws.{FaultlessAreWellNamed, NodesArePlaced, PlacedAreNodes, WellNamedHaveNoFault};
 ghost use Rattle.lucy_right.specs.Owed.{AcceptedStand, CutsAreRuns, OwedAreRuns};
 ghost use Rattle.lucy_right.specs.Refused.{WrittenPassLimits};
