@@ -60,6 +60,12 @@ name_fails = (
   ),
 )
 
--- and none is where main has no inputs
+-- no line that fails is passed over
+fails_unsaid : (input : InputSpec) (others : List InputSpec) (line : List ℕ) (lines : List (List ℕ)) (items : List ItemOf) → LineFails (input ∷ others) line → LinesSay (input ∷ others) (line ∷ lines) items → ⊥
+fails_unsaid input others line lines items (some, inl far) (short, rest) = omega (arith, far, short)
+fails_unsaid input others line lines items (some, inr (full, unsaid)) (short, inl (blank, say)) = full blank
+fails_unsaid input others line lines items (some, inr (full, unsaid)) (short, inr (item, more, says, say, is)) = unsaid item says
+
+-- and none fails where main has no inputs
 none_fails : (line : List ℕ) → LineFails [] line → ⊥
 none_fails line fails = fails.0 refl
