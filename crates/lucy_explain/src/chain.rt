@@ -13,11 +13,7 @@ const NONE: u32 = u32::MAX;
 
 // The number at a place, or none.
 fn at(list: &[u32], place: usize) -> u32 {
-    if place < list.len() {
-        list[place]
-    } else {
-        NONE
-    }
+    list.get(place).copied().unwrap_or(NONE)
 }
 
 // Puts a number at a place, where there is this one.
@@ -34,106 +30,107 @@ struct Leaving {
     before: Vec<u32>,
 }
 
-// Enters inequalities, one after the other.
-fn enter(list: &[Diff], last: &mut [u32], before: &mut [u32]) {
-    for i in 0..list.len() {
-        let left = list[i].left as usize;
-        put(before, i, at(last, left));
-        put(last, left, narrow(i));
-    }
-}
-
 // Those of a table.
 fn leaving_of(alloc: Global, diffs: &Diffs) -> Result<Leaving, OutOfMemory> {
     let list = diffs.list();
     let mut last = vec![in alloc; NONE; diffs.count() as usize]?;
     let mut before = vec![in alloc; NONE; list.len()]?;
-    enter(list, &mut last, &mut before);
+    for (i, diff) in list.iter().enumerate() {
+        put(&mut before, i, at(&last, diff.left as usize));
+        put(&mut last, diff.left as usize, narrow(i));
+    }
     Ok(Leaving { last, before })
 }
 
 // Whether the values meet an inequality with nothing to spare.
 fn is_tight(values: &[i64], diff: Diff) -> bool {
-    let (left, right) = (diff.left as usize, diff.right as usize);
-    left < values.len()
-        && right < values.len()
-        && values[right].checked_add(diff.most) == Some(values[left])
+    let (Some(left), Some(right)) = (
+        values.get(diff.left as usize),
+        values.get(diff.right as usize),
+    ) else {
+        return false;
+    };
+    right.checked_add(diff.most) == Some(*left)
 }
 
-// Whether an inequality is tight and leads to a variable that none has reached.
-fn is_next(values: &[i64], parents: &[u32], diff: Diff) -> bool {
-    diff.right != 0 && at(parents, diff.right as usize) == NONE && is_tight(values, diff)
-}
-
-// Reaches from a variable those behind inequalities that are tight, where so many are reached, and answers how many then are. Each
-// keeps the inequality by which it is reached.
+// Reaches from a variable those behind inequalities that are tight. Each keeps the inequality by which it is reached.
 fn reach(
-    list: &[Diff],
+    diffs: &Diffs,
     values: &[i64],
     leaving: &Leaving,
     variable: u32,
     parents: &mut [u32],
-    reached: &mut [u32],
-    count: usize,
-) -> usize {
-    let mut count = count;
+    reached: &mut Vec<u32>,
+) -> Result<(), OutOfMemory> {
+    let list = diffs.list();
     let mut next = at(&leaving.last, variable as usize);
     for _ in 0..list.len() {
-        if next as usize >= list.len() {
-            return count;
-        }
-        let diff = list[next as usize];
-        if is_next(values, parents, diff) {
+        let Some(diff) = list.get(next as usize) else {
+            return Ok(());
+        };
+        if diff.right != 0 && at(parents, diff.right as usize) == NONE && is_tight(values, *diff) {
             put(parents, diff.right as usize, next);
-            put(reached, count, diff.right);
-            count = count.saturating_add(1);
+            reached.push(diff.right)?;
         }
         next = at(&leaving.before, next as usize);
     }
-    count
+    Ok(())
 }
 
-// Reaches all variables that can be reached from the origin, the first in a list of them, those first to which fewer inequalities lead.
+// Reaches all variables that can be reached from the origin, those first to which fewer inequalities lead.
 fn reach_all(
-    list: &[Diff],
+    alloc: Global,
+    diffs: &Diffs,
     values: &[i64],
     leaving: &Leaving,
     parents: &mut [u32],
-    reached: &mut [u32],
-) {
-    let mut count = 1usize;
-    for i in 0..reached.len() {
-        if i < count && i < reached.len() {
-            let variable = reached[i];
-            count = reach(list, values, leaving, variable, parents, reached, count);
-        }
+) -> Result<(), OutOfMemory> {
+    let mut reached = vec![in alloc; 0u32; 1]?;
+    for i in 0..diffs.count() as usize {
+        let Some(variable) = reached.get(i).copied() else {
+            return Ok(());
+        };
+        reach(diffs, values, leaving, variable, parents, &mut reached)?;
     }
+    Ok(())
+}
+
+// Puts for each variable that is reached from the origin the inequality by which it is, where none stood.
+fn put_parents(
+    alloc: Global,
+    diffs: &Diffs,
+    values: &[i64],
+    parents: &mut [u32],
+) -> Result<(), OutOfMemory> {
+    let leaving = leaving_of(alloc, diffs)?;
+    reach_all(alloc, diffs, values, &leaving, parents)
 }
 
 // For each variable that is reached from the origin the inequality by which it is, those first that fewer lead to.
 fn parents_of(alloc: Global, diffs: &Diffs, values: &[i64]) -> Result<Vec<u32>, OutOfMemory> {
-    let leaving = leaving_of(alloc, diffs)?;
     let mut parents = vec![in alloc; NONE; diffs.count() as usize]?;
-    let mut reached = vec![in alloc; 0u32; diffs.count() as usize]?;
-    reach_all(diffs.list(), values, &leaving, &mut parents, &mut reached);
+    put_parents(alloc, diffs, values, &mut parents)?;
     Ok(parents)
 }
 
 // The inequalities by which a variable is reached, from the origin on.
 fn path_of(
     alloc: Global,
-    list: &[Diff],
+    diffs: &Diffs,
     parents: &[u32],
     variable: u32,
 ) -> Result<Vec<u32>, OutOfMemory> {
+    let list = diffs.list();
     let mut path = Vec::new(alloc);
     let mut variable = variable;
     for _ in 0..parents.len() {
         let parent = at(parents, variable as usize);
-        if (parent as usize) < list.len() {
-            path.push(parent)?;
-            variable = list[parent as usize].left;
-        }
+        let Some(diff) = list.get(parent as usize) else {
+            path.reverse();
+            return Ok(path);
+        };
+        path.push(parent)?;
+        variable = diff.left;
     }
     path.reverse();
     Ok(path)
@@ -212,8 +209,8 @@ pub fn chain_to(
         later: values[variable as usize],
     };
     let parents = parents_of(alloc, diffs, values)?;
+    let chain = path_of(alloc, diffs, &parents, variable)?;
     let list = diffs.list();
-    let chain = path_of(alloc, list, &parents, variable)?;
     if confirms(list, &chain, wanted) {
         Ok(Some(chain))
     } else {

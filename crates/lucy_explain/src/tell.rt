@@ -63,7 +63,7 @@ pub(crate) fn scene_of<'a>(placed: &'a Placed, program: &'a Option<Program>, nod
 }
 
 // Puts what is told of the fault of a node last.
-fn put_fault(page: &mut Page<'_>, scene: Scene<'_>, fault: &NodeFault)
+fn put_fault(page: &mut Page<'_>, scene: Scene<'_>, fault: &NodeFault) -> Result<(), OutOfMemory>
     requires { IsShown fault.now }
 {
     match fault {
@@ -81,10 +81,11 @@ fn put_fault(page: &mut Page<'_>, scene: Scene<'_>, fault: &NodeFault)
                 shape,
                 diffs,
             };
-            put_cycle(page, about, cycle)
+            return put_cycle(page, about, cycle);
         }
         NodeFault::Check { needs, fault } => put_check(page, scene, needs, *fault),
     }
+    Ok(())
 }
 
 // Puts what is told of a cycle of causality last.
@@ -106,7 +107,12 @@ fn put_naming(page: &mut Page<'_>, ops: &Ops, program: &Option<Program>, error: 
 }
 
 // Puts what is told of a refusal behind its first line last.
-fn put_refusal(page: &mut Page<'_>, ops: &Ops, program: &Option<Program>, refusal: &Refusal)
+fn put_refusal(
+    page: &mut Page<'_>,
+    ops: &Ops,
+    program: &Option<Program>,
+    refusal: &Refusal,
+) -> Result<(), OutOfMemory>
     requires { IsTellable refusal.now }
 {
     match refusal {
@@ -119,11 +125,12 @@ fn put_refusal(page: &mut Page<'_>, ops: &Ops, program: &Option<Program>, refusa
             placed,
             node,
             fault,
-        } => put_fault(page, scene_of(placed, program, *node), fault),
+        } => return put_fault(page, scene_of(placed, program, *node), fault),
         Refusal::Cause { names, items, .. } => put_cause(page, ops, names, items),
         Refusal::Limit(limit) => put_limit(page, *limit),
         Refusal::OutOfMemory => {}
     }
+    Ok(())
 }
 
 /// What is told of a refusal of a text behind its first line, and the spans of which is told.
@@ -137,6 +144,6 @@ pub(crate) fn told(
 {
     let program = tree_of(alloc, text)?;
     let mut page = Page::new(alloc, text);
-    put_refusal(&mut page, ops, &program, refusal);
+    put_refusal(&mut page, ops, &program, refusal)?;
     page.told()
 }

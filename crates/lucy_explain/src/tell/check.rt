@@ -24,55 +24,63 @@ fn is_bound(need: &Need) -> bool {
     }
 }
 
-// Tells what it is that isn't met, where the need is that of a bound or isn't.
-fn put_fault(page: &mut Page<'_>, bound: bool, fault: CheckFault) {
+// Puts what it is that isn't met.
+fn put_fault(page: &mut Page<'_>, need: &Need, fault: CheckFault) {
     match fault {
         CheckFault::Differs { instant, .. } => {
-            page.say(
-                "  at instant {} one of them has an item and the other hasn't, and before it they agree\n",
-            ).number(instant);
+            page.say("  at instant ");
+            page.number(instant);
+            page.say(" one of them has an item and the other hasn't, and before it they agree\n")
         }
         CheckFault::Rates { .. } => {
-            page.say("  in the long run more items go in than come out, or fewer\n");
+            page.say("  in the long run more items go in than come out, or fewer\n")
         }
         CheckFault::Late { instant, .. } => {
-            page.say(if bound {
-                "  at instant {} more items wait than the bound allows\n"
+            page.say("  at instant ");
+            page.number(instant);
+            page.say(if is_bound(need) {
+                " more items wait than the bound allows\n"
             } else {
-                "  at instant {} more items are read than have come\n"
+                " more items are read than have come\n"
             })
-            .number(instant);
         }
         CheckFault::Limit { .. } | CheckFault::OutOfMemory => {}
     }
 }
 
-// What helps against it, where the need is that of a bound or isn't.
-fn help_of(bound: bool, fault: CheckFault) -> &'static str {
+// Puts what helps against it.
+fn put_check_helps(page: &mut Page<'_>, need: &Need, fault: CheckFault) {
     match fault {
-        CheckFault::Differs { .. } =>
-            "change one of the two words; `lucy clocks` finds a word that isn't written",
-        CheckFault::Rates { .. } => "as many ones in the words of both sides, period by period",
-        _ if bound => "a greater bound, or a reader that begins earlier",
-        _ => "read later: `0(..)` in front of the reader's word",
+        CheckFault::Differs { .. } => {
+            page.helps("change one of the two words; `lucy clocks` finds a word that isn't written")
+        }
+        CheckFault::Rates { .. } => page.helps(
+            "as many ones in the words of both sides, period by period",
+        ),
+        CheckFault::Late { .. } => {
+            if is_bound(need) {
+                page.helps("a greater bound, or a reader that begins earlier")
+            } else {
+                page.helps("read later: `0(..)` in front of the reader's word")
+            }
+        }
+        CheckFault::Limit { .. } | CheckFault::OutOfMemory => {}
     }
 }
 
-/// Tells what the checker says of the words of a node: what isn't met, where its clocks stand, and what helps.
+/// Puts what the checker says of the words of a node last: what isn't met, where its clocks stand, and what helps.
 pub(crate) fn put_check(page: &mut Page<'_>, scene: Scene<'_>, needs: &Needs, fault: CheckFault) {
     let Some(need) = need_of(needs, fault) else {
         return;
     };
-    let bound = is_bound(need);
-    put_fault(page, bound, fault);
-    match need {
-        Need::Equal(first, second) | Need::Adapt(first, second) => {
-            page.name(first.clock);
-            page.name(second.clock)
-        }
-    }
+    put_fault(page, need, fault);
+    let (first, second) = match need {
+        Need::Equal(first, second) | Need::Adapt(first, second) => (first, second),
+    };
+    page.name(first.clock);
+    page.name(second.clock);
     put_places(page, scene);
-    page.helps(help_of(bound, fault))
+    put_check_helps(page, need, fault)
 }
 
 /// What has no word.
@@ -122,34 +130,36 @@ fn lacking_at(node: &Node, span: Span) -> Lacking {
     Lacking::Operand
 }
 
-// What is said where a stream, a call or an operand has no word.
-fn lack_of(lacking: Lacking) -> &'static str {
-    match lacking {
-        Lacking::Stream =>
-            "`{}` has no word\nwhat helps: `{} :: (..)` with the word of its clock; `lucy clocks` finds it\n",
-        Lacking::Call =>
-            "the call has no word of its base\nwhat helps: `{} at (..)` with the word of its base; `lucy clocks` finds it\n",
-        Lacking::Operand =>
-            "here stands a call without the word of its base, or an expression where a name is wanted:\nan operand of `when`, `whenot` or `buffer`, or an argument of a call\nwhat helps: define it under a name with its word, or `at (..)` behind the callee's name; `lucy clocks` finds words\n",
-    }
-}
-
-/// Tells what a node lacks that has to be written.
+/// Puts what a node lacks last that has to be written.
 pub(crate) fn put_unwritten(page: &mut Page<'_>, tree: Option<&Node>, span: Span) {
     page.show_span(span);
     let lacking = match tree {
         Some(tree) => lacking_at(tree, span),
         None => Lacking::Operand,
     };
-    let name = page.at_span(span);
-    page.say(lack_of(lacking));
+    let name = page.bytes(span);
     match lacking {
         Lacking::Stream => {
-            page.bytes(name).bytes(name);
+            page.quote(name);
+            page.say(" has no word\n");
+            page.put(b"what helps: `");
+            page.put(name);
+            page.say(" :: (..)` with the word of its clock; `lucy clocks` finds it\n")
         }
         Lacking::Call => {
-            page.bytes(name);
+            page.say("the call has no word of its base\n");
+            page.put(b"what helps: `");
+            page.put(name);
+            page.say(" at (..)` with the word of its base; `lucy clocks` finds it\n")
         }
-        Lacking::Operand => {}
+        Lacking::Operand => {
+            page.say(
+                "here stands a call without the word of its base, or an expression where a name is wanted:\n",
+            );
+            page.say("an operand of `when`, `whenot` or `buffer`, or an argument of a call\n");
+            page.helps(
+                "define it under a name with its word, or `at (..)` behind the callee's name; `lucy clocks` finds words",
+            )
+        }
     }
 }

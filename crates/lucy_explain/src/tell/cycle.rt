@@ -12,6 +12,7 @@ use crate::tell::row::{Point, Row, point_of, row_at};
 use lucy_need::Needs;
 use lucy_shape::Shape;
 use lucy_solve::Diffs;
+use lucy_word::OutOfMemory;
 
 /// What the evidence of a node without clocks is about.
 #[derive(Clone, Copy)]
@@ -29,117 +30,89 @@ pub(crate) fn put_point(page: &mut Page<'_>, scene: Scene<'_>, point: Point) {
     }
     put_clock(page, scene, point.clock);
     page.put(b"[");
-    page.put_number(point.position);
+    page.number(point.position);
     page.put(b"]")
 }
 
-impl<'a> Page<'a> {
-    /// A position as a piece, or the beginning.
-    pub(crate) fn point(&mut self, scene: Scene<'_>, point: Point) -> &mut Page<'a> {
-        self.go_on();
-        put_point(self, scene, point);
-        self
-    }
-
-    /// A number of instants as a piece.
-    pub(crate) fn instants(&mut self, count: u64) -> &mut Page<'a> {
-        self.number(count);
-        self.put(if count == 1 {
-            b" instant"
-        } else {
-            b" instants"
-        });
-        self
-    }
+/// Puts a number of instants last.
+pub(crate) fn put_instants(page: &mut Page<'_>, count: u64) {
+    page.number(count);
+    page.say(if count == 1 { " instant" } else { " instants" })
 }
 
-// Tells how two positions of a stream stand to each other.
-fn tell_distance(page: &mut Page<'_>, most: i64, left: Point, right: Point) {
+// Puts how two positions of a stream stand to each other.
+fn put_distance(page: &mut Page<'_>, most: i64, left: Point, right: Point) {
+    if most < 0 {
+        put_instants(page, most.unsigned_abs());
+        return page.put(b" apart");
+    }
+    if most == 0 && left.position == right.position {
+        return page.put(b"at one instant");
+    }
     if most == 0 {
-        let at_one = left.position == right.position;
-        page.say(if at_one { "at one instant" } else { "no later" });
-    } else {
-        page.say(if most < 0 {
-            "{} apart"
-        } else {
-            "at most {} later"
-        })
-        .instants(most.unsigned_abs());
+        return page.put(b"no later");
     }
+    page.put(b"at most ");
+    put_instants(page, most.unsigned_abs());
+    page.put(b" later")
 }
 
-// Why several inequalities of one stream hold.
-fn reason_of(line: Line, left: Point, right: Point) -> &'static str {
+// Puts the line of several inequalities of one stream last.
+fn put_several(page: &mut Page<'_>, about: Evidence<'_>, line: Line, left: Point, right: Point) {
+    page.put(b"  ");
+    put_point(page, about.scene, left);
+    page.put(b" .. ");
+    put_point(page, about.scene, right);
+    page.put(b": ");
+    put_distance(page, line.most, left, right);
     if left.clock == right.clock {
-        ", since items of one stream follow each other ({} lines)\n"
+        page.put(b", since items of one stream follow each other");
     } else if line.most == 0 {
-        ", since they have one clock ({} lines)\n"
+        page.put(b", since they have one clock");
     } else {
-        ", since they have one clock, and items of one stream follow each other ({} lines)\n"
+        page.put(b", since they have one clock, and items of one stream follow each other");
     }
+    page.put(b" (");
+    page.number(line.count as u64);
+    page.put(b" lines)\n")
 }
 
-// Tells the line of several inequalities of one stream.
-fn tell_several(page: &mut Page<'_>, scene: Scene<'_>, line: Line, left: Point, right: Point) {
-    page.say("  {} .. {}: ")
-        .point(scene, left)
-        .point(scene, right);
-    tell_distance(page, line.most, left, right);
-    page.say(reason_of(line, left, right))
-        .number(line.count as u64);
-}
-
-// Tells a need.
-fn tell_need(page: &mut Page<'_>, about: &Evidence<'_>, number: usize) {
-    if let Some(need) = about.needs.list.list().get(number) {
-        page.end();
-        put_need(page, about.scene, need)
-    }
-}
-
-// Tells why an inequality holds.
-fn tell_why(page: &mut Page<'_>, about: &Evidence<'_>, row: Option<Row>) {
+// Puts why an inequality holds last.
+fn put_why(page: &mut Page<'_>, about: Evidence<'_>, row: Option<Row>) {
     match row {
-        Some(Row::Need(number)) => tell_need(page, about, number),
+        Some(Row::Start(0)) => page.put(b"the base has an item at each instant"),
+        Some(Row::Start(_)) => page.put(b"the first instant is 1"),
+        Some(Row::Follow(_)) => page.put(b"items of one stream follow each other"),
         Some(Row::Turn(_)) => {
-            page.say("all comes again after ")
-                .instants(about.shape.period);
+            page.put(b"all comes again after ");
+            put_instants(page, about.shape.period)
         }
-        Some(row) => {
-            page.say(law_of(row));
-        }
+        Some(Row::Need(number)) => match about.needs.list.list().get(number) {
+            Some(need) => put_need(page, about.scene, need),
+            None => {}
+        },
         None => {}
     }
 }
 
-// What the law of a stream or the beginning says.
-fn law_of(row: Row) -> &'static str {
-    match row {
-        Row::Start(0) => "the base has an item at each instant",
-        Row::Start(_) => "the first instant is 1",
-        _ => "items of one stream follow each other",
-    }
-}
-
-// Tells the line of one inequality.
-fn tell_single(
+// Puts the line of one inequality last.
+fn put_single(
     page: &mut Page<'_>,
-    about: &Evidence<'_>,
+    about: Evidence<'_>,
     line: Line,
     position: u32,
     left: Point,
     right: Point,
 ) {
-    page.say(if line.most < 0 {
-        "  {} <= {} - {}: "
-    } else {
-        "  {} <= {} + {}: "
-    })
-    .point(about.scene, left)
-    .point(about.scene, right)
-    .number(line.most.unsigned_abs());
-    tell_why(page, about, row_at(about.needs, about.shape, position));
-    page.say("\n");
+    page.put(b"  ");
+    put_point(page, about.scene, left);
+    page.put(b" <= ");
+    put_point(page, about.scene, right);
+    page.say(if line.most < 0 { " - " } else { " + " });
+    page.number(line.most.unsigned_abs());
+    page.put(b": ");
+    put_why(page, about, row_at(about.needs, about.shape, position));
+    page.put(b"\n")
 }
 
 // Keeps the clock of a position.
@@ -149,79 +122,69 @@ fn name_point(page: &mut Page<'_>, point: Point) {
     }
 }
 
-// Tells a folded line, which names its clocks, by the position of its first inequality.
-fn tell_line(page: &mut Page<'_>, about: &Evidence<'_>, line: Line, position: u32) {
-    let left = point_of(about.shape, line.left);
-    let right = point_of(about.shape, line.right);
-    if line.count == 1 {
-        tell_single(page, about, line, position, left, right);
-    } else {
-        tell_several(page, about.scene, line, left, right);
-    }
-    name_point(page, left);
-    name_point(page, right)
-}
-
-/// Tells folded lines, which name their clocks.
-pub(crate) fn tell_lines(page: &mut Page<'_>, about: &Evidence<'_>, told: &Folded) {
+/// Puts folded lines last, which name their clocks.
+pub(crate) fn put_lines(page: &mut Page<'_>, about: Evidence<'_>, told: &Folded) {
     let mut at = 0usize;
     for line in &told.lines {
-        let position = if at < told.cycle.len() {
-            told.cycle[at]
+        let left = point_of(about.shape, line.left);
+        let right = point_of(about.shape, line.right);
+        if line.count == 1 {
+            let position = told.cycle.get(at).copied().unwrap_or(0);
+            put_single(page, about, *line, position, left, right);
         } else {
-            0
-        };
-        tell_line(page, about, *line, position);
+            put_several(page, about, *line, left, right);
+        }
+        name_point(page, left);
+        name_point(page, right);
         at = at.saturating_add(line.count);
     }
 }
 
-// The sum of the constants of lines.
-fn sum_of(lines: &[Line]) -> i64 {
+// Puts what the lines say together.
+fn put_sum(page: &mut Page<'_>, about: Evidence<'_>, told: &Folded) {
     let mut sum = 0i64;
-    for line in lines {
+    for line in &told.lines {
         sum = sum.saturating_add(line.most);
     }
-    sum
-}
-
-// Tells what lines say together.
-fn tell_sum(page: &mut Page<'_>, about: &Evidence<'_>, lines: &[Line]) {
-    if lines.is_empty() {
+    let Some(first) = told.lines.first() else {
         return;
-    }
-    let start = point_of(about.shape, lines[0].left);
-    page.say("  so ");
+    };
+    let start = point_of(about.shape, first.left);
+    page.put(b"  so ");
     if start.position == 0 {
-        page.say("the beginning");
+        page.put(b"the beginning");
     } else {
-        page.point(about.scene, start);
+        put_point(page, about.scene, start);
     }
-    page.say(" would come {} before itself\n")
-        .instants(sum_of(lines).unsigned_abs());
+    page.put(b" would come ");
+    put_instants(page, sum.unsigned_abs());
+    page.put(b" before itself\n")
 }
 
 // Puts a folded cycle last.
-fn put_folded(page: &mut Page<'_>, about: &Evidence<'_>, told: &Folded) {
-    tell_lines(page, about, told);
-    tell_sum(page, about, &told.lines);
+fn put_folded(page: &mut Page<'_>, about: Evidence<'_>, told: &Folded) {
+    put_lines(page, about, told);
+    put_sum(page, about, told);
     let passed = passed_by(about, &told.cycle);
     if let Some((place, operand)) = passed.joined {
         page.name(place);
         page.name(operand);
     }
     put_places(page, about.scene);
-    put_loop_helps(page, about.scene, &passed);
+    put_loop_helps(page, about.scene, passed);
 }
 
 /// Puts a cycle of inequalities last: its lines, folded, what they say together, where their clocks stand, and what helps.
-pub(crate) fn put_cycle(page: &mut Page<'_>, about: Evidence<'_>, cycle: &[u32])
+pub(crate) fn put_cycle(
+    page: &mut Page<'_>,
+    about: Evidence<'_>,
+    cycle: &[u32],
+) -> Result<(), OutOfMemory>
     requires clocks { length about.shape.now.clocks ≡ about.needs.now.clocks }
     requires variables { about.diffs.now.count ≡ variable_count about.shape.now.clocks }
     requires there { AreBelow (length about.diffs.now.list) cycle.now }
 {
-    match fold_evidence(page.alloc, about.needs, about.shape, about.diffs, cycle) {
-        Ok(told) => put_folded(page, &about, &told),
-        Err(_) => page.full = true,
-    }
+    let told = fold_evidence(page.alloc, about.needs, about.shape, about.diffs, cycle)?;
+    put_folded(page, about, &told);
+    Ok(())
 }

@@ -1,9 +1,9 @@
 // Items that depend on each other: the delay that is missing.
 use crate::index::narrow;
 use crate::tell::page::Page;
-use crate::tell::place::{Scene, tell_place};
+use crate::tell::place::{Scene, put_what};
 use lucy_net::Item;
-use lucy_place::{PlaceEntry, Placed, PlacedNode};
+use lucy_place::{Placed, PlacedNode};
 use lucy_text::Text;
 use lucy_tree::Program;
 
@@ -14,19 +14,21 @@ struct Within<'a> {
     name: &'a [u8],
 }
 
-// The number that digits spell, where it has 32 bits and there are any.
+// The number that digits spell.
 fn number_of(digits: &[u8]) -> Option<u32> {
-    let mut number = 0u64;
+    let mut number = 0u32;
     for digit in digits {
-        if !digit.is_ascii_digit() || number > u64::from(u32::MAX) {
+        if !digit.is_ascii_digit() {
             return None;
         }
-        number = number * 10 + u64::from(*digit - b'0');
+        number = number
+            .checked_mul(10)?
+            .checked_add(u32::from(*digit - b'0'))?;
     }
-    if digits.is_empty() || number > u64::from(u32::MAX) {
+    if digits.is_empty() {
         None
     } else {
-        Some(number as u32)
+        Some(number)
     }
 }
 
@@ -36,46 +38,19 @@ fn callee_of(placed: &Placed, node: u32, call: u32) -> Option<u32> {
         return None;
     }
     let calls = placed.node(node).calls.list();
-    let index = (call as usize).wrapping_sub(1);
-    if index < calls.len() {
-        Some(calls[index].node)
-    } else {
-        None
-    }
-}
-
-// How many bytes stand before the first point of a text.
-fn point_at(text: &[u8]) -> usize {
-    for i in 0..text.len() {
-        if text[i] == b'.' {
-            return i;
-        }
-    }
-    text.len()
-}
-
-// The node that is called by a name that begins with this call, and what is left of the name.
-fn entered_by<'a>(placed: &Placed, node: u32, rest: &'a [u8]) -> Option<Within<'a>> {
-    let point = point_at(rest);
-    if point >= rest.len() {
-        return None;
-    }
-    let call = number_of(&rest[..point])?;
-    match callee_of(placed, node, call) {
-        Some(node) => Some(Within {
-            node,
-            name: &rest[point + 1..],
-        }),
-        None => None,
-    }
+    let site = calls.get(call.checked_sub(1)? as usize)?;
+    Some(site.node)
 }
 
 // One call further into a name, where it begins with one.
 fn entered<'a>(placed: &Placed, at: Within<'a>) -> Option<Within<'a>> {
-    match at.name.strip_prefix(b"call") {
-        Some(rest) => entered_by(placed, at.node, rest),
-        None => None,
-    }
+    let rest = at.name.strip_prefix(b"call")?;
+    let dot = rest.iter().position(|byte| *byte == b'.')?;
+    let call = number_of(&rest[..dot])?;
+    Some(Within {
+        node: callee_of(placed, at.node, call)?,
+        name: &rest[dot + 1..],
+    })
 }
 
 // The node in which an actor is a place, and its name there.
@@ -93,51 +68,45 @@ fn inner_of<'a>(placed: &Placed, name: &'a [u8]) -> Within<'a> {
     at
 }
 
-// Whether a place has this name.
-fn has_name(entry: &PlaceEntry, name: &[u8]) -> bool {
-    match &entry.name {
-        Some(known) => known.text.bytes() == name,
-        None => false,
+// The place of a node that has a name in print.
+fn place_of(node: &PlacedNode, name: &[u8]) -> Option<u32> {
+    if let Some(digits) = name.strip_prefix(b"#") {
+        return number_of(digits);
     }
-}
-
-// The place that has a name.
-fn named_place(places: &[PlaceEntry], name: &[u8]) -> Option<u32> {
-    for index in 0..places.len() {
-        if has_name(&places[index], name) {
-            return Some(narrow(index).saturating_add(1));
+    for (index, entry) in node.places.list().iter().enumerate() {
+        if let Some(known) = &entry.name {
+            if known.text.bytes() == name {
+                return Some(narrow(index).saturating_add(1));
+            }
         }
     }
     None
 }
 
-// The place of a node that has a name in print.
-fn place_of(node: &PlacedNode, name: &[u8]) -> Option<u32> {
-    match name.strip_prefix(b"#") {
-        Some(digits) => number_of(digits),
-        None => named_place(node.places.list(), name),
-    }
-}
-
-// Tells what stands where an actor is.
-fn put_within(page: &mut Page<'_>, program: &Program, placed: &Placed, at: Within<'_>) {
+// Puts the line of an item last.
+fn put_item(page: &mut Page<'_>, program: &Program, placed: &Placed, name: &[u8], item: &Item) {
+    page.put(b"  ");
+    page.put(name);
+    page.put(b"[");
+    page.number(item.number);
+    page.put(b"]: ");
+    let at = inner_of(placed, name);
     if at.node >= placed.nodes() {
-        return;
+        return page.put(b"\n");
     }
     let scene = Scene {
         node: placed.node(at.node),
         tree: program.nodes.list().get(at.node as usize),
     };
     if let Some(place) = place_of(scene.node, at.name) {
-        tell_place(page, scene, place)
+        if let Some(span) = scene.span(place) {
+            page.keep(span);
+            page.at(span.from as usize);
+            page.put(b": ");
+        }
+        put_what(page, scene, place);
     }
-}
-
-// Tells the line of an item.
-fn put_item(page: &mut Page<'_>, program: &Program, placed: &Placed, name: &[u8], item: &Item) {
-    page.say("  {}[{}]: ").bytes(name).number(item.number);
-    put_within(page, program, placed, inner_of(placed, name));
-    page.say("\n");
+    page.put(b"\n")
 }
 
 // A name on a loop of actors, in the outermost node that the loop is in, where it is read: only names are read before they are defined.
@@ -155,16 +124,18 @@ fn name_on_loop<'a>(placed: &Placed, names: &'a [Text]) -> Option<&'a [u8]> {
     found
 }
 
-// Tells that a delay helps on a loop, and for which name.
+// Puts last that a delay helps on a loop, and for which name.
 fn put_delay(page: &mut Page<'_>, name: &[u8]) {
-    page.say(
-        "what helps: `fby` on the loop, as in `0 fby {}` where it reads {}, or of truths `false fby {}`: then the loop begins with that, and each item waits for an earlier one\n",
-    ).bytes(name)
-        .bytes(name)
-        .bytes(name);
+    page.put(b"what helps: `fby` on the loop, as in `0 fby ");
+    page.put(name);
+    page.put(b"` where it reads ");
+    page.put(name);
+    page.put(b", or of truths `false fby ");
+    page.put(name);
+    page.put(b"`: then the loop begins with that, and each item waits for an earlier one\n")
 }
 
-/// Tells items of one instant that depend on each other, each with what stands at its place, and what helps.
+/// Puts items of one instant last that depend on each other, each with what stands at its place, and what helps.
 pub(crate) fn put_items(
     page: &mut Page<'_>,
     program: &Program,
@@ -173,8 +144,10 @@ pub(crate) fn put_items(
     items: &[Item],
 ) {
     page.say("each item waits for the next one, and the last for the first:\n");
-    for i in 0..items.len().min(names.len()) {
-        put_item(page, program, placed, names[i].bytes(), &items[i]);
+    for (i, item) in items.iter().enumerate() {
+        if let Some(name) = names.get(i) {
+            put_item(page, program, placed, name.bytes(), item);
+        }
     }
     page.say("no item of an earlier instant is among them: a delay is missing\n");
     if let Some(name) = name_on_loop(placed, names) {

@@ -73,29 +73,30 @@ fn longest_name(text: &[u8]) -> (usize, usize) {
     (longest, begin)
 }
 
-// Tells a number that is known, and by how much it passes the limit.
+// Puts a number that is known last, and by how much it passes the limit.
 fn put_passed(page: &mut Page<'_>, limit: Limit, number: u64) {
-    page.say("here they are {}, {} more\n")
-        .number(number)
-        .number(number.saturating_sub(limit.number()));
+    page.say("here they are ");
+    page.number(number);
+    page.say(", ");
+    page.number(number.saturating_sub(limit.number()));
+    page.say(" more\n")
 }
 
-// Tells the longest name.
-fn put_longest(page: &mut Page<'_>) {
-    let (longest, begin) = longest_name(page.text);
-    page.say("{}: ").at(begin);
-    put_passed(page, Limit::Name, longest as u64)
-}
-
-/// Tells what a limit counts that is passed, by how much where that is known, and what helps.
+/// Puts what a limit counts last that is passed, by how much where that is known, and what helps.
 pub(crate) fn put_limit(page: &mut Page<'_>, limit: Limit) {
-    page.say("at most {} {}\n")
-        .number(limit.number())
-        .bytes(counts(limit).as_bytes());
-    match limit {
-        Limit::Text => put_passed(page, limit, page.text.len() as u64),
-        Limit::Name => put_longest(page),
-        _ => {}
+    page.say("at most ");
+    page.number(limit.number());
+    page.say(" ");
+    page.say(counts(limit));
+    page.say("\n");
+    if limit == Limit::Text {
+        put_passed(page, limit, page.text.len() as u64);
+    }
+    if limit == Limit::Name {
+        let (longest, begin) = longest_name(page.text);
+        page.at(begin);
+        page.put(b": ");
+        put_passed(page, limit, longest as u64);
     }
     page.helps(remedy(limit))
 }

@@ -5,16 +5,24 @@ use lucy_naming::NameError;
 use lucy_tree::{Decl, Node, Program, Span};
 
 // The operators that hosts are known to lend.
-const OPERATORS: &str = "min max absdiff satadd satsub shift";
+const OPERATORS: [&str; 6] = ["min", "max", "absdiff", "satadd", "satsub", "shift"];
 
 // What stands before an offset, but for blanks.
 fn before(text: &[u8], offset: usize) -> &[u8] {
-    text[..offset.min(text.len())].trim_ascii_end()
+    let front = &text[..offset.min(text.len())];
+    match front.iter().rposition(|byte| !byte.is_ascii_whitespace()) {
+        Some(last) => &front[..last.saturating_add(1).min(front.len())],
+        None => b"",
+    }
 }
 
 // What stands behind an offset, but for blanks.
 fn behind(text: &[u8], offset: usize) -> &[u8] {
-    text[offset.min(text.len())..].trim_ascii_start()
+    let rest = &text[offset.min(text.len())..];
+    match rest.iter().position(|byte| !byte.is_ascii_whitespace()) {
+        Some(first) => &rest[first.min(rest.len())..],
+        None => b"",
+    }
 }
 
 // The node in which a span stands: the last one whose name begins no later.
@@ -38,39 +46,38 @@ fn node_of<'a>(program: &'a Program, name: &[u8]) -> Option<&'a Node> {
     None
 }
 
-// Tells names, parted by commas.
+// Puts names last, parted by commas.
 fn put_names(page: &mut Page<'_>, decls: &[Decl], begun: bool) -> bool {
     let mut begun = begun;
     for decl in decls {
-        page.say(if begun { ", {}" } else { "{}" })
-            .bytes(decl.name.text.bytes());
+        if begun {
+            page.put(b", ");
+        }
+        page.put(decl.name.text.bytes());
         begun = true;
     }
     begun
 }
 
-// Tells the streams of a node.
+// Puts the streams of a node last.
 fn put_streams(page: &mut Page<'_>, node: &Node) {
-    page.say("the streams of {} are ")
-        .bytes(node.name.text.bytes());
+    page.say("the streams of ");
+    page.put(node.name.text.bytes());
+    page.say(" are ");
     let mut begun = put_names(page, node.params.list(), false);
     for def in node.defs.list() {
         begun = put_names(page, def.left.list(), begun);
     }
-    page.say(if begun { "\n" } else { "none\n" });
+    page.say(if begun { "\n" } else { "none\n" })
 }
 
-// Tells the nodes above an offset.
+// Puts the nodes above an offset last.
 fn put_nodes(page: &mut Page<'_>, program: &Program, span: Span) {
     let mut begun = false;
     for node in program.nodes.list() {
         if node.name.span.to <= span.from {
-            page.say(if begun {
-                ", {}"
-            } else {
-                "the nodes above are {}"
-            })
-            .bytes(node.name.text.bytes());
+            page.say(if begun { ", " } else { "the nodes above are " });
+            page.put(node.name.text.bytes());
             begun = true;
         }
     }
@@ -78,20 +85,20 @@ fn put_nodes(page: &mut Page<'_>, program: &Program, span: Span) {
         "\n"
     } else {
         "no node stands above\n"
-    });
+    })
 }
 
-// Tells the operators of the host.
+// Puts the operators of the host last.
 fn put_operators(page: &mut Page<'_>, ops: &Ops) {
     let mut begun = false;
-    for name in OPERATORS.split(' ') {
+    for name in OPERATORS {
         if ops.find(name.as_bytes()).is_some() {
             page.say(if begun {
-                ", {}"
+                ", "
             } else {
-                "the host's operators are {}"
-            })
-            .bytes(name.as_bytes());
+                "the host's operators are "
+            });
+            page.say(name);
             begun = true;
         }
     }
@@ -99,39 +106,39 @@ fn put_operators(page: &mut Page<'_>, ops: &Ops) {
         "\n"
     } else {
         "the host lends none of the usual operators\n"
-    });
+    })
 }
 
-// Tells what a stream could be that is unknown.
-fn put_unknown_stream(page: &mut Page<'_>, program: &Program, span: Span, help: &'static str) {
+// Puts what a name could be that is unknown last.
+fn put_unknown(page: &mut Page<'_>, program: &Program, ops: &Ops, span: Span) {
+    let text = page.text;
+    let front = before(text, span.from as usize);
+    let rest = behind(text, span.to as usize);
+    if front.ends_with(b"host") {
+        put_operators(page, ops);
+        return page.helps("mend the name of the operator");
+    }
+    if rest.starts_with(b"(") || rest.starts_with(b"at ") {
+        put_nodes(page, program, span);
+        return page.helps("mend the name, or write the node above this one");
+    }
     if let Some(node) = node_at(program, span) {
         put_streams(page, node);
     }
-    page.helps(help)
+    page.helps("define it, or mend its spelling")
 }
 
-// Tells what a name could be that is unknown.
-fn put_unknown(page: &mut Page<'_>, program: &Program, ops: &Ops, span: Span) {
-    let rest = behind(page.text, span.to as usize);
-    if before(page.text, span.from as usize).ends_with(b"host") {
-        put_operators(page, ops);
-        page.helps("mend the name of the operator")
-    } else if rest.starts_with(b"(") || rest.starts_with(b"at ") {
-        put_nodes(page, program, span);
-        page.helps("mend the name, or write the node above this one")
-    } else {
-        put_unknown_stream(page, program, span, "define it, or mend its spelling")
-    }
-}
-
-// Tells how a node is called.
+// Puts how a node is called last.
 fn put_callee(page: &mut Page<'_>, callee: &Node) {
-    page.say("{} takes {} and gives {}: {}\n")
-        .bytes(callee.name.text.bytes())
-        .number(callee.params.list().len() as u64)
-        .number(callee.results.list().len() as u64)
-        .at(callee.name.span.from as usize);
-    page.keep(callee.name.span)
+    page.put(callee.name.text.bytes());
+    page.say(" takes ");
+    page.number(callee.params.list().len() as u64);
+    page.say(" and gives ");
+    page.number(callee.results.list().len() as u64);
+    page.say(": ");
+    page.at(callee.name.span.from as usize);
+    page.put(b"\n");
+    page.keep(callee.name.span);
 }
 
 // Where one of these names is spelled so, before a span.
@@ -164,38 +171,41 @@ fn named_before(program: &Program, name: &[u8], span: Span) -> Option<Span> {
     None
 }
 
-// Where a stream of a node stands first that is named so, before a span.
-fn stream_before(node: &Node, name: &[u8], span: Span) -> Option<Span> {
-    match declared_before(node.params.list(), name, span) {
-        Some(first) => Some(first),
-        None => defined_before(node, name, span),
-    }
-}
-
 // Where a stream or a node stands first that is named as one at a span.
 fn first_of(program: &Program, name: &[u8], span: Span) -> Option<Span> {
-    let first = match node_at(program, span) {
-        Some(node) => stream_before(node, name, span),
-        None => None,
-    };
-    match first {
-        Some(first) => Some(first),
-        None => named_before(program, name, span),
+    if let Some(node) = node_at(program, span) {
+        if let Some(first) = declared_before(node.params.list(), name, span) {
+            return Some(first);
+        }
+        if let Some(first) = defined_before(node, name, span) {
+            return Some(first);
+        }
     }
+    named_before(program, name, span)
 }
 
-// Tells where a name stands first.
+// Puts where a name stands first last.
 fn put_first(page: &mut Page<'_>, program: &Program, span: Span) {
-    if let Some(first) = first_of(program, page.at_span(span), span) {
-        page.say("the first one: {}\n").at(first.from as usize);
+    if let Some(first) = first_of(program, page.bytes(span), span) {
+        page.say("the first one: ");
+        page.at(first.from as usize);
+        page.put(b"\n");
         page.keep(first);
     }
     page.helps("another name")
 }
 
-// Tells how the node is called that is named at a span, and what helps.
-fn put_called(page: &mut Page<'_>, program: &Program, span: Span, help: &'static str) {
-    let name = page.at_span(span);
+// Puts that a result is no stream of its node last, and which streams there are.
+fn put_result(page: &mut Page<'_>, program: &Program, span: Span) {
+    if let Some(node) = node_at(program, span) {
+        put_streams(page, node);
+    }
+    page.helps("define it behind `where rec`, or name another stream")
+}
+
+// Puts how the node is called last that is named at a span, and what helps.
+fn put_called(page: &mut Page<'_>, program: &Program, span: Span, help: &str) {
+    let name = page.bytes(span);
     if let Some(callee) = node_of(program, name) {
         put_callee(page, callee);
     }
@@ -223,12 +233,7 @@ pub(crate) fn put_name(page: &mut Page<'_>, program: &Program, ops: &Ops, error:
     match error {
         NameError::Unknown(_) => put_unknown(page, program, ops, span),
         NameError::Twice(_) => put_first(page, program, span),
-        NameError::NoResult(_) => put_unknown_stream(
-            page,
-            program,
-            span,
-            "define it behind `where rec`, or name another stream",
-        ),
+        NameError::NoResult(_) => put_result(page, program, span),
         NameError::Arity(_) => put_called(
             page,
             program,

@@ -16,10 +16,7 @@ pub(crate) struct Scene<'a> {
 impl<'a> Scene<'a> {
     /// What is known of a place, which counts from 1.
     pub(crate) fn entry(&self, place: u32) -> Option<&'a PlaceEntry> {
-        self.node
-            .places
-            .list()
-            .get((place as usize).wrapping_sub(1))
+        self.node.places.list().get(place.checked_sub(1)? as usize)
     }
 
     /// The form that stands there, where it is none of the streams.
@@ -50,17 +47,15 @@ impl<'a> Scene<'a> {
     /// The place of a clock: its own, or for the base of a call that of the call's first result. The base has none.
     pub(crate) fn place_of(&self, clock: u32) -> Option<u32> {
         let places = self.node.places.list().len();
-        let calls = self.node.calls.list();
-        let number = clock as usize;
-        if number == 0 {
-            None
-        } else if number <= places {
-            Some(clock)
-        } else if number - places <= calls.len() {
-            Some(calls[number - places - 1].first)
-        } else {
-            None
+        let clock_number = clock as usize;
+        if clock_number == 0 {
+            return None;
         }
+        if clock_number <= places {
+            return Some(clock);
+        }
+        let site = self.node.calls.list().get(clock_number - places - 1)?;
+        Some(site.first)
     }
 }
 
@@ -69,29 +64,13 @@ pub(crate) fn put_clock(page: &mut Page<'_>, scene: Scene<'_>, clock: u32) {
     let places = scene.node.places.list().len();
     let number = clock as usize;
     if number == 0 {
-        page.put(b"base")
-    } else if number <= places {
-        page.put_place(scene.node, clock)
-    } else {
-        page.put(b"call");
-        page.put_number((number - places) as u64)
+        return page.put(b"base");
     }
-}
-
-impl<'a> Page<'a> {
-    /// The name of a clock as a piece.
-    pub(crate) fn clock(&mut self, scene: Scene<'_>, clock: u32) -> &mut Page<'a> {
-        self.go_on();
-        put_clock(self, scene, clock);
-        self
+    if number <= places {
+        return page.place(scene.node, clock);
     }
-
-    /// A need as a piece.
-    pub(crate) fn need(&mut self, scene: Scene<'_>, need: &Need) -> &mut Page<'a> {
-        self.go_on();
-        put_need(self, scene, need);
-        self
-    }
+    page.say("call");
+    page.number((number - places) as u64)
 }
 
 /// Whether the word is (1).
@@ -103,94 +82,82 @@ pub(crate) fn is_always(word: &Word) -> bool {
 // Puts a term last.
 fn put_term(page: &mut Page<'_>, scene: Scene<'_>, term: &Term) {
     put_clock(page, scene, term.clock);
-    if !is_always(&term.word) {
-        page.put(b" on ");
-        page.put_word(&term.word)
+    if is_always(&term.word) {
+        return;
     }
-}
-
-// Puts two terms last, with what stands between them.
-fn put_terms(page: &mut Page<'_>, scene: Scene<'_>, first: &Term, sign: &[u8], second: &Term) {
-    put_term(page, scene, first);
-    page.put(sign);
-    put_term(page, scene, second)
+    page.put(b" on ");
+    page.word(&term.word);
 }
 
 /// Puts a need last.
 pub(crate) fn put_need(page: &mut Page<'_>, scene: Scene<'_>, need: &Need) {
     match need {
-        Need::Equal(first, second) => put_terms(page, scene, first, b" = ", second),
-        Need::Adapt(first, second) => put_terms(page, scene, first, b" <: ", second),
-    }
-}
-
-// What is said before what stands at a place.
-fn front_of(kind: &PlaceKind) -> &'static str {
-    match kind {
-        PlaceKind::Param => "a parameter",
-        PlaceKind::Defined(_) => "defined as ",
-        _ => "",
-    }
-}
-
-// Tells what stands at a place of which this is known.
-fn tell_entry(page: &mut Page<'_>, scene: Scene<'_>, entry: &PlaceEntry, place: u32) {
-    page.say(front_of(&entry.kind)).end();
-    page.put_kind(scene.node, &entry.kind, scene.form(place));
-    if let Some(word) = &entry.word {
-        page.say(", :: ").word(word);
-    }
-}
-
-/// Tells what stands at a place.
-pub(crate) fn tell_what(page: &mut Page<'_>, scene: Scene<'_>, place: u32) {
-    if let Some(entry) = scene.entry(place) {
-        tell_entry(page, scene, entry, place)
-    }
-}
-
-/// Tells where a place stands, and what stands there.
-pub(crate) fn tell_place(page: &mut Page<'_>, scene: Scene<'_>, place: u32) {
-    if let Some(span) = scene.span(place) {
-        page.keep(span);
-        page.say("{}: ").at(span.from as usize);
-    }
-    tell_what(page, scene, place)
-}
-
-// Tells the line of a clock: its name, where it stands, and what stands there.
-fn tell_clock(page: &mut Page<'_>, scene: Scene<'_>, clock: u32) {
-    page.say("  {}: ").clock(scene, clock);
-    match scene.place_of(clock) {
-        Some(place) => tell_place(page, scene, place),
-        None => {
-            page.say("the clock of the node's own base");
+        Need::Equal(first, second) => {
+            put_term(page, scene, first);
+            page.put(b" = ");
+            put_term(page, scene, second)
+        }
+        Need::Adapt(first, second) => {
+            put_term(page, scene, first);
+            page.put(b" <: ");
+            put_term(page, scene, second)
         }
     }
-    page.say("\n");
 }
 
-// Whether the clock at a place of a list is not named before it.
-fn is_first(clocks: &[u32], place: usize) -> bool {
-    place < clocks.len() && !clocks[..place].contains(&clocks[place])
-}
-
-// The clock at a place of a list.
-fn clock_at(clocks: &[u32], place: usize) -> u32 {
-    if place < clocks.len() {
-        clocks[place]
-    } else {
-        0
+/// Puts what stands at a place last.
+pub(crate) fn put_what(page: &mut Page<'_>, scene: Scene<'_>, place: u32) {
+    let Some(entry) = scene.entry(place) else {
+        return;
+    };
+    if let PlaceKind::Param = &entry.kind {
+        page.put(b"a parameter");
+    }
+    if let PlaceKind::Defined(_) = &entry.kind {
+        page.put(b"defined as ");
+    }
+    let form = scene.form(place);
+    page.kind(scene.node, &entry.kind, form);
+    if let Some(word) = &entry.word {
+        page.put(b", :: ");
+        page.word(word);
     }
 }
 
-/// Tells the lines of the clocks that are named, each once.
+// Puts the line of a clock last: its name, where it stands, and what stands there.
+fn put_line(page: &mut Page<'_>, scene: Scene<'_>, clock: u32) {
+    page.put(b"  ");
+    put_clock(page, scene, clock);
+    page.put(b": ");
+    let Some(place) = scene.place_of(clock) else {
+        return page.put(b"the clock of the node's own base\n");
+    };
+    if let Some(span) = scene.span(place) {
+        page.keep(span);
+        page.at(span.from as usize);
+        page.put(b": ");
+    }
+    put_what(page, scene, place);
+    page.put(b"\n")
+}
+
+// The clock that is named at a place of a list, where it is not named before it.
+fn first_named(clocks: &[u32], place: usize) -> Option<u32> {
+    let clock = clocks.get(place).copied()?;
+    let place = place.min(clocks.len());
+    if clocks[..place].contains(&clock) {
+        None
+    } else {
+        Some(clock)
+    }
+}
+
+/// Puts the lines of the clocks last that are named, each once.
 pub(crate) fn put_places(page: &mut Page<'_>, scene: Scene<'_>) {
     page.say("where:\n");
     for place in 0..page.clocks.len() {
-        let clock = clock_at(&page.clocks, place);
-        if is_first(&page.clocks, place) {
-            tell_clock(page, scene, clock);
+        if let Some(clock) = first_named(&page.clocks, place) {
+            put_line(page, scene, clock);
         }
     }
 }

@@ -1,8 +1,8 @@
 // Rates that don't agree: the product along the walk.
 use crate::tell::page::Page;
-use crate::tell::place::{Scene, is_always, put_places};
+use crate::tell::place::{Scene, is_always, put_clock, put_need, put_places};
 use lucy_need::{Need, Term};
-use lucy_place::{PlaceEntry, PlaceKind};
+use lucy_place::PlaceKind;
 use lucy_word::gcd;
 
 /// For so many items of one clock come so many of another.
@@ -72,47 +72,42 @@ fn begin_of(needs: &[Need], walk: &[u32]) -> u32 {
     }
 }
 
-// Tells how many items of a clock there are for those of another.
+// Puts how many items of a clock there are for those of another.
 fn put_rate(page: &mut Page<'_>, scene: Scene<'_>, rate: Option<Rate>, clock: u32, start: u32) {
-    match rate {
-        Some(rate) => {
-            page.say("{} of {} for {} of {}\n")
-                .number(rate.of)
-                .clock(scene, clock)
-                .number(rate.per)
-                .clock(scene, start);
-        }
-        None => {
-            page.say("more items than are told\n");
-        }
-    }
+    let Some(rate) = rate else {
+        return page.put(b"more items than are told");
+    };
+    page.number(rate.of);
+    page.put(b" of ");
+    put_clock(page, scene, clock);
+    page.put(b" for ");
+    page.number(rate.per);
+    page.put(b" of ");
+    put_clock(page, scene, start)
 }
 
-// The rate behind a need that comes next.
-fn after(rate: Option<Rate>, next: Rate) -> Option<Rate> {
-    match rate {
-        Some(rate) => rate.times(next),
-        None => None,
-    }
-}
-
-// Tells the needs of a walk, each with the product up to it.
+// Puts the needs of a walk last, each with the product up to it.
 fn put_walk(page: &mut Page<'_>, scene: Scene<'_>, needs: &[Need], walk: &[u32]) {
     let start = begin_of(needs, walk);
     let mut at = start;
     let mut rate = Some(Rate { of: 1, per: 1 });
     page.name(start);
     for number in walk {
-        if *number as usize >= needs.len() {
+        let Some(need) = needs.get(*number as usize) else {
             return;
-        }
-        let need = &needs[*number as usize];
+        };
         let (next, by) = step(need, at);
         at = next;
-        rate = after(rate, by);
+        rate = match rate {
+            Some(rate) => rate.times(by),
+            None => None,
+        };
         page.name(at);
-        page.say("  {}: ").need(scene, need);
+        page.put(b"  ");
+        put_need(page, scene, need);
+        page.put(b": ");
         put_rate(page, scene, rate, at, start);
+        page.put(b"\n");
     }
 }
 
@@ -125,38 +120,30 @@ fn samples(need: &Need) -> bool {
     }
 }
 
-// Tells the clocks that a need samples, where it does.
+// Puts the clocks last that a need samples, where it does.
 fn put_sampled(page: &mut Page<'_>, scene: Scene<'_>, need: &Need, begun: bool) -> bool {
-    let found = samples(need);
-    if found {
-        page.say(if begun {
-            ", or `{}`"
-        } else {
-            "what helps: another word in `{}`"
-        })
-        .need(scene, need);
+    if !samples(need) {
+        return begun;
     }
-    begun || found
+    page.say(if begun {
+        ", or "
+    } else {
+        "what helps: another word in "
+    });
+    page.put(b"`");
+    put_need(page, scene, need);
+    page.put(b"`");
+    true
 }
 
 // Whether the clock is that of a `merge`.
 fn merges(scene: Scene<'_>, clock: u32) -> bool {
     match scene.entry(clock) {
-        Some(
-            PlaceEntry {
-                kind: PlaceKind::Merge(_, _, _),
-                ..
-            },
-        ) => true,
-        _ => false,
-    }
-}
-
-// Whether a need is that of a buffer.
-fn buffers(need: &Need) -> bool {
-    match need {
-        Need::Adapt(_, _) => true,
-        Need::Equal(_, _) => false,
+        Some(entry) => match &entry.kind {
+            PlaceKind::Merge(_, _, _) => true,
+            _ => false,
+        },
+        None => false,
     }
 }
 
@@ -165,14 +152,15 @@ fn put_words(page: &mut Page<'_>, scene: Scene<'_>, needs: &[Need], walk: &[u32]
     let mut begun = false;
     let mut buffered = false;
     for number in walk {
-        if (*number as usize) < needs.len() {
-            let need = &needs[*number as usize];
+        if let Some(need) = needs.get(*number as usize) {
             begun = put_sampled(page, scene, need, begun);
-            buffered = buffers(need) || buffered;
+            if let Need::Adapt(_, _) = need {
+                buffered = true;
+            }
         }
     }
     if begun {
-        page.say("\n");
+        page.put(b"\n");
     }
     buffered
 }

@@ -43,19 +43,17 @@ fn own_sizes(clock: &NodeClock) -> u64 {
 // The sum of all sizes, each as often as its node is there.
 fn all_sizes(counts: &[u64], clocks: &[NodeClock]) -> u64 {
     let mut sum = 0u64;
-    for i in 0..counts.len().min(clocks.len()) {
-        sum = sum.saturating_add(own_sizes(&clocks[i]).saturating_mul(counts[i]));
+    for (count, clock) in counts.iter().zip(clocks.iter()) {
+        sum = sum.saturating_add(own_sizes(clock).saturating_mul(*count));
     }
     sum
 }
 
-/// Tells the sum of the sizes of all buffers, with calls written out.
-pub(crate) fn put_all_sizes(page: &mut Page<'_>, accepted: &Accepted) {
-    match instances(page.alloc, &accepted.placed) {
-        Ok(counts) => {
-            page.say("all buffers of the program together, with its calls written out: size {}\n")
-                .number(all_sizes(&counts, &accepted.clocks));
-        }
-        Err(_) => page.full = true,
-    }
+/// Puts the sum of the sizes of all buffers last, with calls written out.
+pub(crate) fn put_all_sizes(page: &mut Page<'_>, accepted: &Accepted) -> Result<(), OutOfMemory> {
+    let counts = instances(page.alloc, &accepted.placed)?;
+    page.say("all buffers of the program together, with its calls written out: size ");
+    page.number(all_sizes(&counts, &accepted.clocks));
+    page.say("\n");
+    Ok(())
 }

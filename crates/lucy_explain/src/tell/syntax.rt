@@ -8,18 +8,15 @@ use std::alloc::Global;
 // Fronts of more bytes aren't tried with what could follow.
 const TRIED: usize = 65_536;
 
-// Kinds of tokens that have many spellings.
-const KINDS: [&str; 3] = ["a name", "a number", "a word"];
-
-// One token of each kind that can be of no other one.
-const SPELLINGS: [&str; 3] = ["z", "7", "0{2}(1)"];
+/// Tokens of a kind that have many spellings, with one that can be no other token.
+const KINDS: [(&str, &str); 3] = [("a name", "z"), ("a number", "7"), ("a word", "0{2}(1)")];
 
 // All other tokens: the keywords and the signs.
 const MARKS: &str =
     "let node where rec and when whenot merge fby buffer at host if then else not true false int bool ( ) , : :: = == != < <= > >= + - * / % && ||";
 
 // The signs of two bytes.
-const SIGNS: &str = ":: == != <= >= && ||";
+const SIGNS: [&str; 7] = ["::", "==", "!=", "<=", ">=", "&&", "||"];
 
 // Whether a token may follow this front: then what is refused is no earlier than the end.
 fn may_follow(alloc: Global, front: &[u8], token: &[u8]) -> Result<bool, OutOfMemory> {
@@ -45,34 +42,34 @@ fn follows(page: &mut Page<'_>, front: &[u8], token: &[u8]) -> bool {
     }
 }
 
-// Tells the kinds of many spellings that may follow a front, and answers whether there are any.
+// Puts one that could stand here last.
+fn put_one(page: &mut Page<'_>, begun: bool, text: &str, quoted: bool) {
+    page.say(if begun { ", " } else { "here could stand: " });
+    if quoted {
+        page.quote(text.as_bytes())
+    } else {
+        page.say(text)
+    }
+}
+
+// Puts those of many spellings last that may follow a front, and answers whether there are any.
 fn put_kinds(page: &mut Page<'_>, front: &[u8]) -> bool {
     let mut begun = false;
-    for i in 0..3usize {
-        if follows(page, front, SPELLINGS[i].as_bytes()) {
-            page.say(if begun {
-                ", {}"
-            } else {
-                "here could stand: {}"
-            })
-            .bytes(KINDS[i].as_bytes());
+    for (name, spelling) in KINDS {
+        if follows(page, front, spelling.as_bytes()) {
+            put_one(page, begun, name, false);
             begun = true;
         }
     }
     begun
 }
 
-// Tells the other tokens that may, and answers whether there are any by now.
+// Puts the other tokens last that may, and answers whether there are any by now.
 fn put_marks(page: &mut Page<'_>, front: &[u8], begun: bool) -> bool {
     let mut begun = begun;
     for mark in MARKS.split(' ') {
         if follows(page, front, mark.as_bytes()) {
-            page.say(if begun {
-                ", `{}`"
-            } else {
-                "here could stand: `{}`"
-            })
-            .bytes(mark.as_bytes());
+            put_one(page, begun, mark, true);
             begun = true;
         }
     }
@@ -83,7 +80,7 @@ fn put_marks(page: &mut Page<'_>, front: &[u8], begun: bool) -> bool {
 fn put_followers(page: &mut Page<'_>, front: &[u8]) {
     let begun = put_kinds(page, front);
     if put_marks(page, front, begun) {
-        page.say("\n");
+        page.put(b"\n");
     }
 }
 
@@ -94,10 +91,9 @@ fn put_unexpected(page: &mut Page<'_>, at: usize) {
         page.say("the text ends here, and more is missing\n");
     }
     if at > TRIED {
-        page.say("what could stand here is not tried so far behind the begin of a text\n");
-    } else {
-        put_followers(page, &text[..at.min(text.len())])
+        return page.say("what could stand here is not tried so far behind the begin of a text\n");
     }
+    put_followers(page, &text[..at.min(text.len())])
 }
 
 // The bytes from here on.
@@ -108,12 +104,10 @@ fn rest_at(text: &[u8], at: usize) -> &[u8] {
 // The bytes from here up to the first parenthesis that closes.
 fn word_at(text: &[u8], at: usize) -> &[u8] {
     let rest = rest_at(text, at);
-    for i in 0..rest.len() {
-        if rest[i] == b')' {
-            return &rest[..i + 1];
-        }
+    match rest.iter().position(|byte| *byte == b')') {
+        Some(end) => &rest[..end.saturating_add(1).min(rest.len())],
+        None => rest,
     }
-    rest
 }
 
 // Whether a byte goes on with what begins with another one: letters of several bytes, a number behind its sign, or a name or a number.
@@ -139,7 +133,7 @@ fn run_of(first: u8, text: &[u8]) -> usize {
 
 // How many bytes at the front of a text are a sign: two, or else one.
 fn sign_of(text: &[u8]) -> usize {
-    for sign in SIGNS.split(' ') {
+    for sign in SIGNS {
         if text.starts_with(sign.as_bytes()) {
             return 2;
         }
@@ -183,32 +177,25 @@ fn show_wrong(page: &mut Page<'_>, at: usize, bytes: usize) {
     page.show(at)
 }
 
-// What is said of an error of a word.
-fn word_fault(error: WordError) -> &'static str {
-    match error {
-        WordError::NoOne =>
-            "the period has no one: nothing would ever come\nwhat helps: a stream that ends isn't a program here: give each period a one\n",
-        WordError::BadWord(_) => "a count is 0\n",
-        _ =>
-            "the word has more bits than {}, the most that is written\nwhat helps: clocks of lines, and not of frames, or `when` behind `when`\n",
-    }
-}
-
-// Tells what is wrong with a word.
+// Puts what is wrong with a word last.
 fn put_word_fault(page: &mut Page<'_>, at: usize) {
-    let word = word_at(page.text, at);
-    match Word::read(page.alloc, word) {
-        Err(WordError::OutOfMemory) => page.full = true,
+    let text = page.text;
+    match Word::read(page.alloc, word_at(text, at)) {
+        Ok(_) => page.say(
+            "the period has no zero, and `whenot` and `merge` take what comes at zeros\n",
+        ),
+        Err(WordError::NoOne) => {
+            page.say("the period has no one: nothing would ever come\n");
+            page.helps("a stream that ends isn't a program here: give each period a one")
+        }
         Err(WordError::TooLong) => {
-            page.say(word_fault(WordError::TooLong))
-                .number(Limit::Written.number());
+            page.say("the word has more bits than ");
+            page.number(Limit::Written.number());
+            page.say(", the most that is written\n");
+            page.helps("clocks of lines, and not of frames, or `when` behind `when`")
         }
-        Err(error) => {
-            page.say(word_fault(error));
-        }
-        Ok(_) => {
-            page.say("the period has no zero, and `whenot` and `merge` take what comes at zeros\n");
-        }
+        Err(WordError::BadWord(_)) => page.say("a count is 0\n"),
+        Err(WordError::OutOfMemory) => page.full = true,
     }
 }
 
@@ -217,11 +204,11 @@ fn put_unexpected_at(page: &mut Page<'_>, at: usize) {
     let rest = rest_at(page.text, at);
     if rest.starts_with(b"(*") && !has_end(rest) {
         show_wrong(page, at, 2);
-        page.say("the comment that begins here has no end\nwhat helps: `*)` where it ends\n");
-    } else {
-        show_wrong(page, at, unit_of(rest));
-        put_unexpected(page, at)
+        page.say("the comment that begins here has no end\n");
+        return page.helps("`*)` where it ends");
     }
+    show_wrong(page, at, unit_of(rest));
+    put_unexpected(page, at)
 }
 
 /// Puts why a text is no program last.

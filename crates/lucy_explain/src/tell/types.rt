@@ -1,9 +1,9 @@
 // A clash of types: both rules at the ends of the path.
 use crate::index::narrow;
 use crate::tell::page::Page;
-use crate::tell::place::{Scene, put_places};
+use crate::tell::place::{Scene, put_clock, put_places};
 use lucy_host::{DataType, Op};
-use lucy_place::{PlaceEntry, PlaceKind};
+use lucy_place::PlaceKind;
 use lucy_tree::Lit;
 
 // What an operator's operands hold, where it says so of this one, which counts from 0.
@@ -26,120 +26,107 @@ fn gives(op: Op) -> Option<DataType> {
     }
 }
 
-// The type of a literal.
-fn type_of(literal: &Lit) -> DataType {
-    match literal {
-        Lit::Int(_) => DataType::Int,
-        Lit::Bool(_) => DataType::Bool,
-    }
-}
-
-// The type that a place has by what stands there, where it says so, and why.
-fn own_type(kind: &PlaceKind) -> (Option<DataType>, &'static str) {
-    match kind {
-        PlaceKind::Lit(literal) => (Some(type_of(literal)), "it is a literal\n"),
-        PlaceKind::Fby(literal, _) => (Some(type_of(literal)), "its first item is a literal\n"),
-        PlaceKind::Host(_, _, _) => (Some(DataType::Int), "operators of the host give numbers\n"),
-        PlaceKind::Op(op, _) => (gives(*op), "its operator gives one\n"),
-        _ => (None, ""),
-    }
-}
-
-// Why a place is of a type by what stands there.
+// Whether a place is of a type by what stands there.
 fn is_of(scene: Scene<'_>, place: u32, holds: DataType) -> Option<&'static str> {
-    let Some(entry) = scene.entry(place) else {
-        return None;
-    };
-    let (own, why) = own_type(&entry.kind);
+    let entry = scene.entry(place)?;
     if entry.holds == Some(holds) {
-        Some("its type is written\n")
-    } else if own == Some(holds) {
-        Some(why)
-    } else {
-        None
+        return Some("its type is written");
+    }
+    let own = match &entry.kind {
+        PlaceKind::Lit(Lit::Int(_)) => Some(DataType::Int),
+        PlaceKind::Lit(Lit::Bool(_)) => Some(DataType::Bool),
+        PlaceKind::Fby(Lit::Int(_), _) => Some(DataType::Int),
+        PlaceKind::Fby(Lit::Bool(_), _) => Some(DataType::Bool),
+        PlaceKind::Host(_, _, _) => Some(DataType::Int),
+        PlaceKind::Op(op, _) => gives(*op),
+        _ => None,
+    };
+    if own != Some(holds) {
+        return None;
+    }
+    match &entry.kind {
+        PlaceKind::Lit(_) => Some("it is a literal"),
+        PlaceKind::Fby(_, _) => Some("its first item is a literal"),
+        PlaceKind::Host(_, _, _) => Some("operators of the host give numbers"),
+        _ => Some("its operator gives one"),
     }
 }
 
-// Whether an operator with these operands reads a place as this type.
-fn reads_as(op: Op, operands: &[u32], place: u32, holds: DataType) -> bool {
-    for number in 0..operands.len() {
-        if operands[number] == place && operand_holds(op, number) == Some(holds) {
-            return true;
+// Whether a place is of a type because this one reads it.
+fn is_read_as(scene: Scene<'_>, reader: u32, place: u32, holds: DataType) -> bool {
+    let Some(entry) = scene.entry(reader) else {
+        return false;
+    };
+    match &entry.kind {
+        PlaceKind::Op(op, operands) => {
+            for (number, operand) in operands.list().iter().enumerate() {
+                if *operand == place && operand_holds(*op, number) == Some(holds) {
+                    return true;
+                }
+            }
+            false
         }
-    }
-    false
-}
-
-// Whether a place is of a type because what stands at another one reads it.
-fn kind_reads_as(kind: &PlaceKind, place: u32, holds: DataType) -> bool {
-    match kind {
-        PlaceKind::Op(op, operands) => reads_as(*op, operands.list(), place, holds),
         PlaceKind::Host(_, first, second) => {
             holds == DataType::Int && (*first == place || *second == place)
         }
-        PlaceKind::Fby(literal, operand) => *operand == place && holds == type_of(literal),
+        PlaceKind::Fby(Lit::Int(_), operand) => { holds == DataType::Int && *operand == place }
+        PlaceKind::Fby(Lit::Bool(_), operand) => { holds == DataType::Bool && *operand == place }
         _ => false,
     }
 }
 
 // The first place that reads one as this type.
-fn reader_of(places: &[PlaceEntry], place: u32, holds: DataType) -> Option<u32> {
-    for index in 0..places.len() {
-        if kind_reads_as(&places[index].kind, place, holds) {
-            return Some(narrow(index).saturating_add(1));
+fn reader_of(scene: Scene<'_>, place: u32, holds: DataType) -> Option<u32> {
+    for index in 0..scene.node.places.list().len() {
+        let reader = narrow(index).saturating_add(1);
+        if is_read_as(scene, reader, place, holds) {
+            return Some(reader);
         }
     }
     None
 }
 
-// Tells that a place is of a type because of another one.
-fn put_reader(page: &mut Page<'_>, scene: Scene<'_>, place: u32, holds: DataType) {
-    match reader_of(scene.node.places.list(), place, holds) {
-        Some(reader) => {
-            page.say("{} takes it as one\n").clock(scene, reader);
-            page.name(reader)
-        }
-        None => {
-            page.say("a call takes or gives it as one\n");
-        }
-    }
-}
-
-// Tells why a place is of a type.
+// Puts why a place is of a type last.
 fn put_end(page: &mut Page<'_>, scene: Scene<'_>, place: u32, holds: DataType) {
-    page.say(if holds == DataType::Int {
-        "  {} is a number: "
-    } else {
-        "  {} is a truth: "
-    })
-    .clock(scene, place);
+    page.put(b"  ");
+    put_clock(page, scene, place);
+    page.say(match holds {
+        DataType::Int => " is a number: ",
+        DataType::Bool => " is a truth: ",
+    });
     page.name(place);
-    match is_of(scene, place, holds) {
-        Some(why) => {
-            page.say(why);
-        }
-        None => put_reader(page, scene, place, holds),
+    if let Some(why) = is_of(scene, place, holds) {
+        page.say(why);
+        return page.put(b"\n");
     }
+    if let Some(reader) = reader_of(scene, place, holds) {
+        put_clock(page, scene, reader);
+        page.name(reader);
+        return page.put(b" takes it as one\n");
+    }
+    page.put(b"a call takes or gives it as one\n")
 }
 
-// Tells the steps of the path between its ends.
+// Puts the steps of the path between its ends last.
 fn put_steps(page: &mut Page<'_>, scene: Scene<'_>, path: &[u32]) {
     for i in 1..path.len() {
-        page.say("  {} and {} are of one type\n")
-            .clock(scene, path[i - 1])
-            .clock(scene, path[i]);
+        page.put(b"  ");
+        put_clock(page, scene, path[i - 1]);
+        page.put(b" and ");
+        put_clock(page, scene, path[i]);
+        page.put(b" are of one type\n");
         page.name(path[i]);
     }
 }
 
-/// Tells a clash of types in a node: the rules at both ends of the path, the path, where its places stand, and what helps.
+/// Puts a clash of types in a node last: the rules at both ends of the path, the path, where its places stand, and what helps.
 pub(crate) fn put_clash(page: &mut Page<'_>, scene: Scene<'_>, path: &[u32]) {
-    if path.is_empty() {
+    let (Some(first), Some(last)) = (path.first(), path.last()) else {
         return;
-    }
-    put_end(page, scene, path[0], DataType::Int);
+    };
+    put_end(page, scene, *first, DataType::Int);
     put_steps(page, scene, path);
-    put_end(page, scene, path[path.len() - 1], DataType::Bool);
+    put_end(page, scene, *last, DataType::Bool);
     put_places(page, scene);
     page.helps("`if c then 1 else 0` makes a number of a truth, `n != 0` a truth of a number")
 }
