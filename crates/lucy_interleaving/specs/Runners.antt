@@ -1,4 +1,4 @@
--- What holds of a runner of an accepted program's net, and what its rings really hold. Rings count from 0, places and buffers from 1.
+-- What holds of a runner of an accepted program's net between its calls, and what its rings hold, by their two ends. Rings count from 0, places and buffers from 1.
 use Rattle.std.specs.Prelude.{ℕ, ◌+◌, ◌≤◌, ◌≡◌, List, [], ◌∷◌, ◌++◌, length, ℤ, Some, slice_get}
 use Rattle.lucy_host.specs.declared.kind.HostKind.{HostKind}
 use Rattle.lucy_host.specs.Operators.{Operator, kinds_of}
@@ -25,7 +25,7 @@ pub record HasSafeRings (a : Accepted) (runner : RunnerView) : Type 0 where
   pub holds : (r : ℕ) (ring : RingView) → slice_get runner.rings r ≡ Some ring →
       (state_of runner.seen).gave r ≡ (state_of runner.seen).took r ++ ring.items
 
--- so its rings are, and the state in which it stands is safe: all values are fronts of the program's Kahn streams, and nothing
+-- so its rings are, and the state in which it stands between its calls is safe: all values are fronts of the program's Kahn streams, and nothing
 -- unfinished is stuck
 pub record IsSafeRunner (kinds : List HostKind) (a : Accepted) (inputs : List (List ℤ)) (horizon : ℕ) (runner : RunnerView) : Type 0 where
   pub rings : HasSafeRings a runner
@@ -36,8 +36,8 @@ abbrev pub after_rounds : Seen → List (List ℕ) → Seen
 after_rounds seen [] = seen
 after_rounds seen (picks ∷ rounds) = after_rounds (after_picks seen picks) rounds
 
--- a runner that was made of a core of the program's net, by some schedule and with a list for each parameter of main, and was moved
--- by rounds
+-- a runner with the counts of one that was made of a core of the program's net, by some schedule and with a list for each parameter
+-- of main, and was moved by rounds of these events
 pub record IsMadeFor (ops : List Operator) (a : Accepted) (inputs : List (List ℤ)) (horizon : ℕ) (runner : RunnerView) : Type 0 where
   pub schedule : Timetable
   pub params : params_in (main_of a.placed.nodes) ≡ length inputs

@@ -19,7 +19,7 @@ taker_in None k = None
 taker_in (Some p) k = slice_get p.takers.items k
 
 -- a ring by its two ends: it holds what the taker held when they met last, and then what the giver gave since, without what the
--- taker took since; and it has the slots of the ring beneath
+-- taker took since, wherever that lies, in the ring beneath or beside it at an end; and it has the slots of the ring beneath
 abbrev pub ring_between : Option GiverView → Option TakerView → RingView
 ring_between (Some g) (Some t) = record { items = drop (length t.taken) (t.held ++ g.given); slots = g.ring.capacity }
 ring_between g t = record { items = []; slots = 0 }
