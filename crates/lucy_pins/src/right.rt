@@ -1,5 +1,6 @@
 // That what `run` prints is right.
 ghost use Rattle.lucy_right.specs.Accepted.{AcceptedAreWritten, WrittenStandForOne};
+ghost use Rattle.lucy_right.specs.Chosen.{ChosenAreOne};
 ghost use Rattle.lucy_right.specs.Earliest.{FoundAreEarliest};
 ghost use Rattle.lucy_right.specs.Laws.{FaultlessAreWellNamed, NodesArePlaced, PlacedAreNodes, WellNamedHaveNoFault};
 ghost use Rattle.lucy_right.specs.Owed.{AcceptedStand, CutsAreRuns, OwedAreRuns};
@@ -62,4 +63,11 @@ pub fn accepted_nodes_are_written()
     ensures { AcceptedAreWritten }
 {
     lucy_right::accepted_nodes_are_written();
+}
+
+/// Pins `lucy_right::chosen_clocks_are_one`.
+pub fn chosen_clocks_are_one()
+    ensures { ChosenAreOne }
+{
+    lucy_right::chosen_clocks_are_one();
 }

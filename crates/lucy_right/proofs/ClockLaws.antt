@@ -42,7 +42,7 @@ words_same (u ∷ xs) (v ∷ ys) count short stored words agree =
     ap (λ w. w ∷ xs) first ∙ ap (λ ws. v ∷ ws) rest
 
 -- clocks of the same words have the same signatures
-signatures_same : (nodes : List PlacedNode) (cs ds : List NodeClock) → length cs ≡ length nodes → length ds ≡ length nodes →
+pub signatures_same : (nodes : List PlacedNode) (cs ds : List NodeClock) → length cs ≡ length nodes → length ds ≡ length nodes →
     ((i : ℕ) (c d : NodeClock) → slice_get cs i ≡ Some c → slice_get ds i ≡ Some d → c.words ≡ d.words) → signatures nodes cs ≡ signatures nodes ds
 signatures_same [] cs ds count other same = refl
 signatures_same (n ∷ nodes) [] ds count other same = absurd (omega (arith, count))

@@ -5,6 +5,7 @@ mod LineLaws
 mod MeaningLaws
 mod RunLaws
 mod ClockLaws
+mod ChosenLaws
 mod RefusedLaws
 mod OneLaws
 mod Rows

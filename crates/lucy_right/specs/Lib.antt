@@ -6,3 +6,4 @@ pub mod Laws
 pub mod Owed
 pub mod Refused
 pub mod Accepted
+pub mod Chosen

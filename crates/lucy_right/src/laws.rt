@@ -1,5 +1,6 @@
 // That places and names read off the tree of a program are those that lucy_naming tells, that what a run owes is what `run` prints, and that a written
 // program that stands for something is refused for limits alone, and stands for that alone where it is accepted.
+ghost use Rattle.lucy_right.specs.Chosen.{ChosenAreOne};
 ghost use Rattle.lucy_right.specs.Earliest.{FoundAreEarliest};
 ghost use Rattle.lucy_right.specs.Laws.{FaultlessAreWellNamed, NodesArePlaced, PlacedAreNodes, WellNamedHaveNoFault};
 ghost use Rattle.lucy_right.specs.Owed.{AcceptedStand, CutsAreRuns, OwedAreRuns};
@@ -11,6 +12,7 @@ use lucy_flat::flat_nets_are_causal_as_programs;
 use lucy_grammar::texts_have_one_answer;
 use lucy_kahn::programs_grow;
 use lucy_program::accepted_programs_are_clocked;
+use lucy_rates::one_shape;
 use lucy_results::streams_are_whole;
 
 /// The nodes of a program, read off its tree, are those that `place` gives.
@@ -73,3 +75,12 @@ pub fn written_programs_stand_for_one()
 pub fn accepted_nodes_are_written()
     ensures { AcceptedAreWritten }
 {}
+
+/// A program with proper nodes stands for one thing whose clocks are chosen so.
+pub fn chosen_clocks_are_one()
+    ensures { ChosenAreOne }
+{
+    one_shape();
+    written_nodes_have_one();
+    nodes_are_placed();
+}

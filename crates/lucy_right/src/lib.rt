@@ -8,6 +8,7 @@
 mod laws;
 
 pub use laws::{
-    accepted_nodes_are_written, accepted_programs_stand, found_clocks_are_earliest, names_are_good,
-    nodes_are_placed, owed_outputs_are_runs, written_programs_pass, written_programs_stand_for_one,
+    accepted_nodes_are_written, accepted_programs_stand, chosen_clocks_are_one,
+    found_clocks_are_earliest, names_are_good, nodes_are_placed, owed_outputs_are_runs,
+    written_programs_pass, written_programs_stand_for_one,
 };
